@@ -1,0 +1,114 @@
+-- The first line of a list of bytes, and what it holds.
+use Rattle.std.proofs.Common.{zero, suc, ◌≡◌, ℕ, ◌+◌, ◌-◌, ◌<◌, ◌≤◌, cond, eqb, Bool, true, false, List, [], ◌∷◌, length, get_or, take, drop, refl, sym, ap, ◌∙◌, arith}
+use Rattle.std.proofs.lemmas.List.{at_drop_more, take-take, drop-drop, length-drop}
+use Rattle.std.specs.List.{onto_first}
+use Rattle.std.proofs.lemmas.Bool.Decides.{nat_tests}
+use Rattle.sm_text.specs.Lines.{first_line, without_last, content, lines, IsLineAt}
+use Rattle.sm_text.specs.declared.lines.LineSpan.{LineSpan}
+
+-- one more byte
+pub first_line_drop : (bytes : List ℕ) (i : ℕ) → i < length bytes
+    → first_line (drop i bytes) ≡ cond (eqb (get_or bytes i 0) 10) (get_or bytes i 0 ∷ []) (get_or bytes i 0 ∷ first_line (drop (i + 1) bytes))
+first_line_drop bytes i h = at_drop_more first_line bytes i 0 h
+
+pub first_line_taken : (bytes : List ℕ) → take (length (first_line bytes)) bytes ≡ first_line bytes
+first_line_taken [] = refl
+first_line_taken (b ∷ bytes) = elim (eqb b 10) as (λ t. take (length (cond t (b ∷ []) (b ∷ first_line bytes))) (b ∷ bytes) ≡ cond t (b ∷ []) (b ∷ first_line bytes)) [ true ↦ refl | false ↦ ap (λ t. b ∷ t) (first_line_taken bytes) ]
+
+pub length-first_line-le : (bytes : List ℕ) → length (first_line bytes) ≤ length bytes
+length-first_line-le [] = omega arith
+length-first_line-le (b ∷ bytes) = elim (eqb b 10) as (λ t. length (cond t (b ∷ []) (b ∷ first_line bytes)) ≤ length (b ∷ bytes)) [ true ↦ omega arith | false ↦ omega (arith, length-first_line-le bytes) ]
+
+-- in front of a list that is chosen
+front_cond : (t : Bool) (b : ℕ) (u v : List ℕ) → b ∷ cond t u v ≡ cond t (b ∷ u) (b ∷ v)
+front_cond true b u v = refl
+front_cond false b u v = refl
+
+-- the last byte decides
+pub without_last_at : (x : ℕ) (line : List ℕ) (n : ℕ) → length line ≡ suc n → without_last x line ≡ cond (eqb (get_or line n 0) x) (take n line) line
+without_last_at x [] n e = absurd (omega arith)
+without_last_at x (b ∷ []) zero e = refl
+without_last_at x (b ∷ []) (suc n) e = absurd (omega arith)
+without_last_at x (b ∷ c ∷ rest) zero e = absurd (omega arith)
+without_last_at x (b ∷ c ∷ rest) (suc n) e =
+    ap (λ t. b ∷ t) (without_last_at x (c ∷ rest) n (omega arith)) ∙ front_cond (eqb (get_or (c ∷ rest) n 0) x) b (take n (c ∷ rest)) (c ∷ rest)
+
+pub without_last_taken : (x : ℕ) (line : List ℕ) → take (length (without_last x line)) line ≡ without_last x line
+without_last_taken x [] = refl
+without_last_taken x (b ∷ []) = elim (eqb b x) as (λ t. take (length (cond t [] (b ∷ []))) (b ∷ []) ≡ cond t [] (b ∷ [])) [ true ↦ refl | false ↦ refl ]
+without_last_taken x (b ∷ c ∷ rest) = ap (λ t. b ∷ t) (without_last_taken x (c ∷ rest))
+
+pub length-first_line-pos : (bytes : List ℕ) → 0 < length bytes → 0 < length (first_line bytes)
+length-first_line-pos [] h = absurd (omega arith)
+length-first_line-pos (b ∷ bytes) h = elim (eqb b 10) as (λ t. 0 < length (cond t (b ∷ []) (b ∷ first_line bytes))) [ true ↦ omega arith | false ↦ omega arith ]
+
+-- a front of a front is a front
+take_of_front : (a b whole : List ℕ) → take (length a) b ≡ a → take (length b) whole ≡ b → length a ≤ length b → take (length a) whole ≡ a
+take_of_front a b whole h k short = sym (take-take (length a) (length b) whole short) ∙ ap (λ t. take (length a) t) k ∙ h
+
+pub length-without_last-le : (x : ℕ) (line : List ℕ) → length (without_last x line) ≤ length line
+length-without_last-le x [] = omega arith
+length-without_last-le x (b ∷ []) = elim (eqb b x) as (λ t. length (cond t [] (b ∷ [])) ≤ 1) [ true ↦ omega arith | false ↦ omega arith ]
+length-without_last-le x (b ∷ c ∷ rest) = omega (arith, length-without_last-le x (c ∷ rest))
+
+pub length-content-le : (line : List ℕ) → length (content line) ≤ length line
+length-content-le line = omega (arith, length-without_last-le 13 (without_last 10 line), length-without_last-le 10 line)
+
+-- another last byte stays
+pub without_last_kept : (x : ℕ) (line : List ℕ) → 1 ≤ length line → (get_or line (length line - 1) 0 ≡ x → ⊥) → line ≡ without_last x line
+without_last_kept x line h other =
+    let last = without_last_at x line (length line - 1) (omega arith) in
+    grind (arith, nat_tests)
+
+pub content_taken : (line : List ℕ) → take (length (content line)) line ≡ content line
+content_taken line =
+    let inner = without_last 10 line in
+    let short = length-without_last-le 13 inner in
+    let front = take_of_front (without_last 13 inner) inner line (without_last_taken 13 inner) (without_last_taken 10 line) short in
+    front
+
+-- what a line holds is a front of the line, which is a front of the text
+pub line_text : (bytes : List ℕ) (from : ℕ) (span : LineSpan) → IsLineAt bytes from span
+    → take (span.stop - span.start) (drop span.start bytes) ≡ content (first_line (drop from bytes))
+line_text bytes from span h =
+    let rest = drop from bytes in
+    let line = first_line rest in
+    let count : span.stop - span.start ≡ length (content line) = omega (arith, h.start, h.stop) in
+    ap (λ n. take (span.stop - span.start) (drop n bytes)) h.start
+    ∙ ap (λ n. take n rest) count
+    ∙ take_of_front (content line) line rest (content_taken line) (first_line_taken rest) (length-content-le line)
+
+-- the places of a line, in their order
+pub line_places : (bytes : List ℕ) (from : ℕ) (span : LineSpan) → IsLineAt bytes from span
+    → (span.start ≤ span.stop) × (span.stop ≤ span.next) × (from < span.next) × (span.next ≤ length bytes)
+line_places bytes from span h =
+    let rest = drop from bytes in
+    let line = first_line rest in
+    let count = length-drop from bytes in
+    let some = length-first_line-pos rest (omega (arith, h.within)) in (
+      omega (arith, h.start, h.stop),
+      omega (arith, h.stop, h.next, length-content-le line),
+      omega (arith, h.next, some),
+      omega (arith, h.next, h.within, length-first_line-le rest),
+    )
+
+-- the first line, and the lines behind it
+pub lines_first : (bytes : List ℕ) → 0 < length bytes → lines bytes ≡ first_line bytes ∷ lines (drop (length (first_line bytes)) bytes)
+lines_first [] h = absurd (omega arith)
+lines_first (b ∷ []) h = elim (eqb b 10) as (λ t.
+    cond t ((b ∷ []) ∷ []) (onto_first b [])
+    ≡ cond t (b ∷ []) (b ∷ []) ∷ lines (drop (length (cond t (b ∷ []) (b ∷ []))) (b ∷ []))) [ true ↦ refl | false ↦ refl ]
+lines_first (b ∷ c ∷ rest) h =
+    let behind : lines (c ∷ rest) ≡ first_line (c ∷ rest) ∷ lines (drop (length (first_line (c ∷ rest))) (c ∷ rest)) = lines_first (c ∷ rest) (omega arith) in
+    elim (eqb b 10) as (λ t.
+    cond t ((b ∷ []) ∷ lines (c ∷ rest)) (onto_first b (lines (c ∷ rest)))
+    ≡ cond t (b ∷ []) (b ∷ first_line (c ∷ rest)) ∷ lines (drop (length (cond t (b ∷ []) (b ∷ first_line (c ∷ rest)))) (b ∷ c ∷ rest)))
+    [ true ↦ refl | false ↦ ap (onto_first b) behind ]
+
+-- the line at a place, and the lines from the next place on
+pub lines_at : (bytes : List ℕ) (from : ℕ) (span : LineSpan) → IsLineAt bytes from span
+    → lines (drop from bytes) ≡ first_line (drop from bytes) ∷ lines (drop span.next bytes)
+lines_at bytes from span h =
+    let rest = drop from bytes in
+    lines_first rest (omega (arith, length-drop from bytes, h.within))
+    ∙ ap (λ t. first_line rest ∷ lines t) (drop-drop (length (first_line rest)) from bytes ∙ ap (λ n. drop n bytes) (sym h.next))

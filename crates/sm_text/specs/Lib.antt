@@ -1,0 +1,4 @@
+pub mod Lines
+pub mod Name
+pub mod Writer
+pub mod Refusal

@@ -1,0 +1,18 @@
+//! Lines, names and numbers of texts, and a writer of lines.
+//!
+//! A text is bytes. A line ends at LF, or at the end of the text where its last byte isn't LF; one CR directly before the
+//! LF, or as the last byte of the text, belongs to the line's end.
+#![tactic(auto)]
+
+mod lines;
+mod names;
+mod refusal;
+mod writer;
+
+pub use lines::{LineSpan, line_at};
+pub use names::is_name;
+pub use refusal::RefusalKind;
+pub use writer::LineWriter;
+
+#[cfg(test)]
+mod tests;

@@ -1,0 +1,63 @@
+ghost use Rattle.std.specs.Prelude.{◌≡◌, ◌≤◌, ◌<◌, ◌+◌, length, drop, MatchOption};
+ghost use Rattle.sm_text.specs.Lines.{IsLineAt, first_line, content, without_last};
+
+/// Where a line stands in a text: its bytes are `start..stop`, its end is `stop..next`, and the line after it, if there is
+/// one, begins at `next`. Places are counted from 0.
+#[derive(Clone, Copy, Debug, PartialEq, Eq)]
+pub struct LineSpan {
+    pub start: usize,
+    pub stop: usize,
+    pub next: usize,
+}
+
+const LF: u8 = b'\n';
+
+const CR: u8 = b'\r';
+
+/// The line that begins at the place `from` of a text, and `None` exactly where `from` is at or past the text's end.
+///
+/// It takes time in the length of the line, and no memory.
+pub fn line_at(bytes: &[u8], from: usize) -> Option<LineSpan>
+    ensures { MatchOption result (length bytes.now ≤ from) (λ span. IsLineAt bytes.now from span) }
+{
+    if from >= bytes.len() {
+        return None;
+    }
+    let line = first_line(&bytes[from..]);
+    Some(LineSpan {
+        start: from,
+        stop: from + content(line).len(),
+        next: from + line.len(),
+    })
+}
+
+// The first line, with its end.
+#[tactic(auto, using(crate::proofs::LineLemmas::first_line_drop, crate::proofs::LineLemmas::first_line_taken))]
+fn first_line(bytes: &[u8]) -> &[u8]
+    ensures { result.now ≡ first_line bytes.now }
+{
+    for (i, b) in bytes.iter().enumerate() {
+        if *b == LF {
+            return &bytes[..i + 1];
+        }
+    }
+    bytes
+}
+
+// What a line holds: the line without its end.
+fn content(line: &[u8]) -> &[u8]
+    ensures { result.now ≡ content line.now }
+{
+    without_last(CR, without_last(LF, line))
+}
+
+// The bytes without the last one, where that is b.
+#[tactic(auto, using(crate::proofs::LineLemmas::without_last_at))]
+fn without_last(b: u8, bytes: &[u8]) -> &[u8]
+    ensures { result.now ≡ without_last b bytes.now }
+{
+    match bytes {
+        [front @ .., last] if *last == b => front,
+        _ => bytes,
+    }
+}

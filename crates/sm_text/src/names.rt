@@ -1,0 +1,38 @@
+ghost use Rattle.std.specs.Prelude.{◌≡◌};
+ghost use Rattle.std.specs.List.{list_all};
+ghost use Rattle.sm_text.specs.Name.{is_name as is_a_name, is_name_byte, begins_name};
+
+/// The greatest number of bytes in a name.
+const LONGEST: usize = 64;
+
+/// Is this a name: 1 to 64 bytes, each a letter, a digit, `_`, `.` or `-`, of which the first is a letter, a digit or `_`?
+///
+/// It takes time in the length, and no memory.
+pub fn is_name(run: &[u8]) -> bool
+    ensures { result ≡ is_a_name run.now }
+{
+    !run.is_empty() && run.len() <= LONGEST && begins_name(run[0]) && are_name_bytes(run)
+}
+
+// May a name hold each of these bytes?
+fn are_name_bytes(run: &[u8]) -> bool
+    ensures { result ≡ list_all is_name_byte run.now }
+{
+    run.iter().all(|b| is_name_byte(*b))
+}
+
+// May a name begin with this byte?
+#[tactic(auto, unfolding(crate::specs::Name::begins_name))]
+fn begins_name(b: u8) -> bool
+    ensures { result ≡ begins_name b }
+{
+    matches!(b, b'A'..=b'Z' | b'a'..=b'z' | b'0'..=b'9' | b'_')
+}
+
+// May a name hold this byte?
+#[tactic(auto, unfolding(crate::specs::Name::begins_name, crate::specs::Name::is_name_byte))]
+fn is_name_byte(b: u8) -> bool
+    ensures { result ≡ is_name_byte b }
+{
+    begins_name(b) || b == b'.' || b == b'-'
+}

@@ -1,0 +1,88 @@
+ghost use Rattle.std.specs.Prelude.{◌≡◌, ◌≤◌, ◌<◌, ◌++◌, [], length, drop, decimal, IfOk};
+
+use std::alloc::{AllocError, Global};
+use std::marker::Model;
+
+/// Holds the bytes of a line while it is put together.
+///
+/// Its room is how many bytes it can hold without asking for more memory.
+#[derive(Drop)]
+pub struct LineWriter {
+    bytes: Vec<u8>,
+}
+
+impl Model for LineWriter {
+    ghost use Rattle.std.specs.Prelude.{vec_capacity};
+    ghost use Rattle.sm_text.specs.Writer.{Written};
+
+    ghost Value = { Written };
+
+    ghost view = { λ w. record { bytes = w.bytes.items; room = vec_capacity w.bytes } };
+}
+
+impl LineWriter {
+    ghost use Rattle.sm_text.specs.Writer.{Puts};
+
+    /// An empty writer with room for `room` bytes.
+    pub fn new(alloc: Global, room: usize) -> Result<LineWriter, AllocError>
+        ensures empty { IfOk result (λ w. w.bytes ≡ []) }
+        ensures room { IfOk result (λ w. room ≤ w.room) }
+    {
+        Ok(LineWriter {
+            bytes: Vec::with_capacity(alloc, room)?,
+        })
+    }
+
+    /// What it holds.
+    pub fn bytes(&self) -> &[u8]
+        ensures { result.now ≡ self.now.bytes }
+    {
+        self.bytes.as_slice()
+    }
+
+    /// Empties it. It keeps its room.
+    pub fn clear(&mut self)
+        ensures empty { self.new.bytes ≡ [] }
+        ensures room { self.new.room ≡ self.old.room }
+    {
+        self.bytes.clear();
+    }
+
+    /// Puts bytes behind what it holds. Where they fit the room that is left it can't fail; where it fails it holds what
+    /// it held.
+    pub fn put_bytes(&mut self, piece: &[u8]) -> Result<(), AllocError>
+        ensures { Puts self.old self.new piece.now result }
+    {
+        self.bytes.extend_from_slice(piece)
+    }
+
+    /// Puts a number in decimal behind what it holds. Where it fits the room that is left it can't fail; where it fails it
+    /// holds what it held.
+    pub fn put_number(&mut self, value: u64) -> Result<(), AllocError>
+        ensures { Puts self.old self.new (decimal value) result }
+    {
+        let mut digits = [0u8; MOST_DIGITS];
+        let start = write_digits(value, &mut digits);
+        self.put_bytes(&digits[start..])
+    }
+}
+
+// How many digits the greatest `u64` has.
+const MOST_DIGITS: usize = 20;
+
+// Writes a number in decimal to the end of `digits`, and answers where it begins.
+fn write_digits(value: u64, digits: &mut [u8]) -> usize
+    requires { length digits.old ≡ MOST_DIGITS }
+    ensures within { result < MOST_DIGITS }
+    ensures written { drop result digits.new ≡ decimal value }
+{
+    let mut rest = value;
+    let mut start = MOST_DIGITS - 1;
+    digits[start] = b'0' + (rest % 10) as u8;
+    while rest >= 10 {
+        rest /= 10;
+        start -= 1;
+        digits[start] = b'0' + (rest % 10) as u8;
+    }
+    start
+}
