@@ -1,0 +1,131 @@
+-- From the definitions over lists to the functions of Core, and back.
+use Rattle.std.proofs.Common.{◌≡◌, ℕ, ◌<◌, ◌≤◌, ◌⊎◌, ◌==◌, inl, inr, arith, refl, sym, ap, ◌∙◌, List, [], length, Option, None, Some, eqb-true, eq-eqb, ne_eqb}
+use Rattle.std.proofs.lemmas.List.{get_or_past}
+use Rattle.std.proofs.lemmas.List.Sums.{position_or_len_is, passes_at_first}
+use Rattle.sm_market.specs.Lists.{Lists, row, entry, place_of, reversed_lists, AreMutual, IsMarket}
+use Rattle.sm_market.specs.Matching.{Places, held, standing, reversed, AreHeldInTurn, IsMatching}
+use Rattle.sm_market.specs.Stable.{Blocks, IsStable}
+use Rattle.sm_market.proofs.Core.{Half, Sides, Stand, Kept, Fit, Stable}
+
+pub list_len : List (List ℕ) → ℕ → ℕ
+list_len rows a = length (row rows a)
+
+pub entry_place : {rows others : List (List ℕ)} → AreMutual rows others → (a i : ℕ) → i < length (row rows a) → place_of rows a (entry rows a i) ≡ i
+entry_place {rows} h a i on = position_or_len_is (λ x. x == entry rows a i) (row rows a) i 0 (omega arith)
+    (λ k less. ne_eqb _ _ (λ e. h.distinct a k i less on e))
+    (λ _. eq-eqb _ _ refl)
+
+pub place_entry : (rows : List (List ℕ)) (a b : ℕ) → place_of rows a b < length (row rows a) → entry rows a (place_of rows a b) ≡ b
+place_entry rows a b on = eqb-true _ _ (passes_at_first (λ x. x == b) (row rows a) 0 on)
+
+pub place_back : {rows others : List (List ℕ)} → AreMutual rows others → (a b : ℕ) → place_of rows a b < length (row rows a) → place_of others b a < length (row others b)
+place_back {rows} {others} h a b on = rw (place_entry rows a b on) at (h.returned a (place_of rows a b) on)
+
+pub half_of : {rows others : List (List ℕ)} → AreMutual rows others → Half (length rows) (λ a. length (row rows a)) (place_of rows) (entry rows) (λ a. length (row others a)) (place_of others)
+half_of {rows} {others} h = record {
+  few = λ p past. ap length (get_or_past rows p [] past);
+  place_at = entry_place h;
+  at_place = place_entry rows;
+  back = place_back h;
+}
+
+abbrev pub sides_of : (l : Lists) → IsMarket l → Sides
+sides_of l h = record {
+  bound = length l.proposers;
+  len = λ p. length (row l.proposers p);
+  place = place_of l.proposers;
+  at = entry l.proposers;
+  bound' = length l.reviewers;
+  len' = λ r. length (row l.reviewers r);
+  rank = place_of l.reviewers;
+  at' = entry l.reviewers;
+  left = half_of h.proposers;
+  right = half_of h.reviewers;
+}
+
+abbrev pub stand_of : Lists → Places → Stand
+stand_of l m = record { a = standing l.proposers m.proposers; b = standing l.reviewers m.reviewers }
+
+abbrev pub IsMarket-reversed : {l : Lists} → IsMarket l → IsMarket (reversed_lists l)
+IsMarket-reversed h = record { proposers = h.reviewers; reviewers = h.proposers }
+
+abbrev pub IsMatching-reversed : {l : Lists} {m : Places} → IsMatching l m → IsMatching (reversed_lists l) (reversed m)
+IsMatching-reversed h = record { proposers = h.reviewers; reviewers = h.proposers }
+
+-- an agent is unmatched, or holds a place
+pub record HoldsPlace (rows : List (List ℕ)) (places : List (Option ℕ)) (a : ℕ) : Type 0 where
+  pub place : ℕ
+  pub held_is : held places a ≡ Some place
+  pub standing_is : standing rows places a ≡ place
+
+pub record HoldsNone (rows : List (List ℕ)) (places : List (Option ℕ)) (a : ℕ) : Type 0 where
+  pub held_is : held places a ≡ None
+  pub standing_is : standing rows places a ≡ length (row rows a)
+
+pub held_cases : (rows : List (List ℕ)) (places : List (Option ℕ)) (a : ℕ) → HoldsNone rows places a ⊎ HoldsPlace rows places a
+held_cases rows places a = go (held places a) refl
+  where
+    go : (o : Option ℕ) → held places a ≡ o → HoldsNone rows places a ⊎ HoldsPlace rows places a
+    go None e = inl (record { held_is = e; standing_is = rw e })
+    go (Some i) e = inr (record { place = i; held_is = e; standing_is = rw e })
+
+pub standing-some : (rows : List (List ℕ)) (places : List (Option ℕ)) (a i : ℕ) → held places a ≡ Some i → standing rows places a ≡ i
+standing-some rows places a i e = rw e
+
+pub standing-none : (rows : List (List ℕ)) (places : List (Option ℕ)) (a : ℕ) → held places a ≡ None → standing rows places a ≡ length (row rows a)
+standing-none rows places a e = rw e
+
+-- who stands on its list holds the place at which it stands
+pub held_at : (rows : List (List ℕ)) (places : List (Option ℕ)) (a : ℕ) → standing rows places a < length (row rows a) → held places a ≡ Some (standing rows places a)
+held_at rows places a h = elim (held_cases rows places a) [
+  | inl w ↦ absurd (omega (arith, w.standing_is))
+  | inr w ↦ w.held_is ∙ ap Some (sym w.standing_is)
+]
+
+pub held_none : {rows others : List (List ℕ)} {places theirs : List (Option ℕ)} → AreHeldInTurn rows others places theirs → (a : ℕ) → length (row rows a) ≤ standing rows places a → held places a ≡ None
+held_none {rows} {others} {places} h a past = elim (held_cases rows places a) [
+  | inl w ↦ w.held_is
+  | inr w ↦ absurd (omega (arith, w.standing_is, h.on_list a w.place w.held_is))
+]
+
+pub kept_of : {rows others : List (List ℕ)} {places theirs : List (Option ℕ)} → AreHeldInTurn rows others places theirs → Kept (λ a. length (row rows a)) (place_of rows) (place_of others) (standing rows places) (standing others theirs)
+kept_of {rows} {others} {places} {theirs} h = record {
+  within = λ p. elim (held_cases rows places p) [ inl w ↦ omega (arith, w.standing_is) | inr w ↦ omega (arith, w.standing_is, h.on_list p w.place w.held_is) ];
+  kept = λ p r on e.
+      let i = place_of rows p r in
+      let held_is : held places p ≡ Some i = held_at rows places p on ∙ ap Some (sym e) in
+      let turn : held theirs r ≡ Some (place_of others r p) = rw (place_entry rows p r (omega arith)) at (h.in_turn p i held_is) in
+      sym (standing-some others theirs r _ turn);
+}
+
+pub fit_of : {l : Lists} (h : IsMarket l) {m : Places} → IsMatching l m → Fit (sides_of l h) (stand_of l m)
+fit_of h f = record { left = kept_of f.proposers; right = kept_of f.reviewers }
+
+pub stable_of : {l : Lists} (h : IsMarket l) {m : Places} → IsStable l m → Stable (sides_of l h) (stand_of l m)
+stable_of {l} h {m} f = record {
+  fit = fit_of h f.matching;
+  unblocked = λ p r on better gains.
+      let e = place_entry l.proposers p r on in
+      f.unblocked p (place_of l.proposers p r) (record { on_list = on; proposer_gains = better; reviewer_gains = rw e gains });
+}
+
+-- back: a matching from its standings
+pub held_in_turn_of : {rows others : List (List ℕ)} {places theirs : List (Option ℕ)} → AreMutual rows others → length places ≡ length rows
+    → ((a i : ℕ) → held places a ≡ Some i → i < length (row rows a))
+    → Kept (λ a. length (row rows a)) (place_of rows) (place_of others) (standing rows places) (standing others theirs)
+    → AreHeldInTurn rows others places theirs
+held_in_turn_of {rows} {others} {places} {theirs} lists one on k = record {
+  one_each = one;
+  on_list = on;
+  in_turn = λ a i e.
+      let at = standing-some rows places a i e in
+      let here = entry_place lists a i (on a i e) in
+      let theirs_is = k.kept a (entry rows a i) (omega (arith, on a i e, at)) (here ∙ sym at) in
+      let back = place_back lists a (entry rows a i) (omega (arith, here, on a i e)) in
+      held_at others theirs (entry rows a i) (omega (arith, theirs_is, back)) ∙ ap Some (sym theirs_is);
+}
+
+pub unblocked_of : {l : Lists} (h : IsMarket l) {m : Places} → Stable (sides_of l h) (stand_of l m) → (p i : ℕ) → ¬ Blocks l m p i
+unblocked_of {l} h {m} s p i b =
+    let e = entry_place h.proposers p i b.on_list in
+    s.unblocked p (entry l.proposers p i) (omega (arith, e, b.on_list)) (omega (arith, e, b.proposer_gains)) b.reviewer_gains

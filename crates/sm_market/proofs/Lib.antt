@@ -1,0 +1,16 @@
+pub mod PlaceLemmas
+pub mod ListLemmas
+pub mod NamingLemmas
+pub mod AddingLemmas
+pub mod WalkLemmas
+pub mod CrossLemmas
+pub mod BuildLemmas
+pub mod SeatLemmas
+pub mod PairingLemmas
+pub mod CheckLemmas
+pub mod Witnesses
+pub mod Counting
+pub mod Core
+pub mod CoreLaws
+pub mod Bridge
+pub mod LawsProved

@@ -1,0 +1,13 @@
+pub mod Lists
+pub mod Matching
+pub mod Stable
+pub mod Pairing
+pub mod Laws
+pub mod Vectors
+pub mod Limits
+pub mod Crosses
+pub mod Namings
+pub mod Entries
+pub mod MarketFaults
+pub mod PairingFaults
+pub mod Blocking

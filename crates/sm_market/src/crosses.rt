@@ -1,0 +1,191 @@
+//! Cross positions, and the faults that stand in their way.
+//!
+//! The lists of the other side are turned over first, into who names each agent and where. The namings of an agent
+//! form a chain, newest first. Then each agent's list is walked with its namings noted by who names it.
+
+ghost use Rattle.std.specs.Prelude.{◌≡◌, ◌≢◌, ℕ, ◌+◌, ◌<◌, ◌≤◌, ◌^◌, length, IfOk, IfErr, OnOk, MatchOption, slice_index};
+ghost use Rattle.sm_market.specs.Lists.{row, entry, place_of};
+ghost use Rattle.sm_market.specs.Vectors.{rows_of};
+ghost use Rattle.sm_market.specs.Limits.{AreWithinLimits};
+ghost use Rattle.sm_market.specs.Crosses.{AreCrosses};
+ghost use Rattle.sm_market.specs.Entries.{IsSound, AreSound};
+ghost use Rattle.sm_market.specs.MarketFaults.{IsFirstFaultOf};
+ghost use Rattle.sm_market.specs.Namings.{IsAdded, AreNamings, AreNoted, AreCrossesOf, note_of};
+
+use crate::faults::{MarketFault, Side};
+use crate::rows::list_at;
+use std::alloc::{AllocError, Global};
+
+/// That an agent of the other side names a certain agent, at a place of its list; and the naming of that agent before.
+#[derive(Clone, Copy, Debug)]
+struct Naming {
+    by: u32,
+    place: u32,
+    older: Option<u32>,
+}
+
+/// All namings in the order of the lists, and the newest one of each agent.
+#[derive(Debug, Drop)]
+struct Namings {
+    all: Vec<Naming>,
+    newest: Vec<Option<u32>>,
+}
+
+/// The first place at which an agent of the other side names the agent whose turn it is; of an earlier turn where the
+/// stamp differs. Turns count from 1.
+#[derive(Clone, Copy, Debug)]
+struct Note {
+    stamp: u32,
+    place: u32,
+}
+
+impl Note {
+    /// The place, if it was noted in the turn with this stamp.
+    fn place_in(self, stamp: u32) -> Option<u32>
+        ensures { MatchOption result
+            (self.stamp ≢ stamp)
+            (λ place. (self.stamp ≡ stamp) × (place ≡ self.place)) }
+    {
+        (self.stamp == stamp).then_some(self.place)
+    }
+}
+
+/// The cross positions of one side, or the first faulty entry of its lists, which are named as those of `side`.
+pub(crate) fn crosses(
+    alloc: Global,
+    side: Side,
+    rows: &[Vec<u32>],
+    others: &[Vec<u32>],
+) -> Result<Vec<Vec<u32>>, MarketFault>
+    requires rows { AreWithinLimits (rows_of rows.now) }
+    requires others { AreWithinLimits (rows_of others.now) }
+    ensures crosses { IfOk result (λ c. AreCrosses (rows_of rows.now) (rows_of others.now) (rows_of c.items)) }
+    ensures sound { OnOk result (AreSound (rows_of rows.now) (rows_of others.now)) }
+    ensures fault { IfErr result (λ f. IsFirstFaultOf side (rows_of rows.now) (rows_of others.now) f) }
+{
+    let namings = namings_of(alloc, rows.len() as u32, others)?;
+    let mut notes = vec![in alloc; Note { stamp: 0, place: 0 }; others.len()]?;
+    let mut met = vec![in alloc; 0; others.len()]?;
+    let mut crosses = Vec::with_capacity(alloc, rows.len())?;
+    let notes = notes.as_mut_slice();
+    let met = met.as_mut_slice();
+    for a in 0..rows.len() as u32 {
+        note_chain(&namings, a, others, notes);
+        crosses.push(crosses_of(alloc, side, a, rows, others, notes, met)?)?;
+    }
+    Ok(crosses)
+}
+
+/// Who names each of the agents of one side, by the lists of the other side.
+fn namings_of(alloc: Global, agents: u32, others: &[Vec<u32>]) -> Result<Namings, AllocError>
+    requires limits { AreWithinLimits (rows_of others.now) }
+    ensures { IfOk result (λ n. AreNamings agents (rows_of others.now) (length (rows_of others.now)) 0
+        n.newest.items n.all.items) }
+{
+    let entries = others.iter().map(|list| list.len()).sum();
+    let mut namings = Namings {
+        all: Vec::with_capacity(alloc, entries)?,
+        newest: vec![in alloc; None; agents as usize]?,
+    };
+    for by in 0..others.len() as u32 {
+        add_namings(&mut namings, by, others)?;
+    }
+    Ok(namings)
+}
+
+/// Adds the namings of one list.
+fn add_namings(namings: &mut Namings, by: u32, others: &[Vec<u32>]) -> Result<(), AllocError>
+    requires limits { AreWithinLimits (rows_of others.now) }
+    requires in_range { by < length others.now }
+    requires before { AreNamings (length namings.old.newest.items) (rows_of others.now) by 0
+        namings.old.newest.items namings.old.all.items }
+    ensures after { OnOk result (AreNamings (length namings.old.newest.items) (rows_of others.now) (by + 1) 0
+        namings.new.newest.items namings.new.all.items) }
+{
+    let list = list_at(others, by);
+    for place in 0..list.len() as u32 {
+        let named = list[place as usize];
+        if (named as usize) < namings.newest.len() {
+            add(namings, named, by, place)?;
+        }
+    }
+    Ok(())
+}
+
+/// Adds one naming.
+fn add(namings: &mut Namings, named: u32, by: u32, place: u32) -> Result<(), AllocError>
+    requires in_range { named < length namings.old.newest.items }
+    requires few { length namings.old.all.items < 2 ^ 24 }
+    ensures { OnOk result (IsAdded namings.old.newest.items namings.old.all.items
+        namings.new.newest.items namings.new.all.items named by place) }
+{
+    let older = namings.newest[named as usize];
+    let number = namings.all.len() as u32;
+    namings.all.push(Naming { by, place, older })?;
+    namings.newest[named as usize] = Some(number);
+    Ok(())
+}
+
+/// Notes the first place at which each agent of the other side names `a`.
+fn note_chain(namings: &Namings, a: u32, others: &[Vec<u32>], notes: &mut [Note])
+    requires in_range { a < length namings.now.newest.items }
+    requires small { a < 2 ^ 24 }
+    requires namings { AreNamings (length namings.now.newest.items) (rows_of others.now) (length (rows_of others.now)) 0
+        namings.now.newest.items namings.now.all.items }
+    requires one_each { length notes.old ≡ length (rows_of others.now) }
+    requires earlier { (b : ℕ) → (note_of notes.old b).stamp ≤ a }
+    ensures { AreNoted (rows_of others.now) a notes.new }
+{
+    let mut next = namings.newest[a as usize];
+    while let Some(number) = next {
+        let naming = namings.all[number as usize];
+        notes[naming.by as usize] = Note {
+            stamp: a + 1,
+            place: naming.place,
+        };
+        next = naming.older;
+    }
+}
+
+/// The cross positions of one list, or its first faulty entry.
+fn crosses_of(
+    alloc: Global,
+    side: Side,
+    a: u32,
+    rows: &[Vec<u32>],
+    others: &[Vec<u32>],
+    notes: &[Note],
+    met: &mut [u32],
+) -> Result<Vec<u32>, MarketFault>
+    requires in_range { a < length rows.now }
+    requires limits { AreWithinLimits (rows_of rows.now) }
+    requires earlier_agents { (c j : ℕ) → c < a → j < length (row (rows_of rows.now) c)
+        → IsSound (rows_of rows.now) (rows_of others.now) c j }
+    requires noted { AreNoted (rows_of others.now) a notes.now }
+    requires one_each { length met.old ≡ length (rows_of others.now) }
+    requires met { (b : ℕ) → slice_index met.old b ≤ a }
+    ensures met { OnOk result ((b : ℕ) → slice_index met.new b ≤ a + 1) }
+    ensures crosses { IfOk result (λ v. AreCrossesOf (rows_of rows.now) (rows_of others.now) a v.items) }
+    ensures sound { OnOk result ((i : ℕ) → i < length (row (rows_of rows.now) a)
+        → IsSound (rows_of rows.now) (rows_of others.now) a i) }
+    ensures fault { IfErr result (λ f. IsFirstFaultOf side (rows_of rows.now) (rows_of others.now) f) }
+{
+    let stamp = a + 1;
+    let list = list_at(rows, a);
+    let mut crosses = Vec::with_capacity(alloc, list.len())?;
+    for i in 0..list.len() as u32 {
+        let b = list[i as usize] as usize;
+        if b >= others.len() {
+            return Err(MarketFault::OutOfRange(side, a, i));
+        }
+        if met[b] == stamp {
+            return Err(MarketFault::Repeated(side, a, i));
+        }
+        let Some(place) = notes[b].place_in(stamp) else {
+            return Err(MarketFault::NotMutual(side, a, i));
+        };
+        met[b] = stamp;
+        crosses.push(place)?;
+    }
+    Ok(crosses)
+}

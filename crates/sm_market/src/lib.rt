@@ -1,0 +1,24 @@
+//! One-to-one markets with mutual lists, and matchings of them.
+//!
+//! A market has two sides, proposers and reviewers. Each agent lists agents of the other side, best first, and is
+//! listed by each of them (Gale and Shapley 1962; Gusfield and Irving 1989, section 1.1; Manlove 2013, section 2.2).
+//! Agents are numbered from 0 on each side, and places on a list from 0.
+//!
+//! [`Market::build`] makes a market of lists, or names the first entry that stands in the way. [`Pairing::of`] makes
+//! a matching of a market, of the place that each proposer holds. [`Market::first_blocking`] tells whether a matching
+//! is stable, and which pair blocks it where it isn't. [`laws`] states what holds of all stable matchings.
+#![tactic(auto)]
+
+mod blocking;
+mod crosses;
+mod faults;
+pub mod laws;
+mod lists;
+mod pairs;
+mod rows;
+#[cfg(test)]
+mod tests;
+
+pub use faults::{MarketFault, PairingFault, Side};
+pub use lists::Market;
+pub use pairs::Pairing;
