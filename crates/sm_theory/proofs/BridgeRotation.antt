@@ -1,0 +1,141 @@
+-- Rotations and their elimination, between the definitions over lists and the functions of Core.
+use Rattle.std.proofs.Common.{◌≡◌, ℕ, ◌<◌, ◌⊎◌, ◌==◌, inl, inr, arith, refl, sym, ap, ◌∙◌, List, length, map, Option, None, Some, unwrap_or, eq-eqb, ne_eqb, lt-ltb, le-ltb}
+use Rattle.std.proofs.lemmas.List.Sums.{position_or_len_is}
+use Rattle.std.proofs.lemmas.List.FromFn.{length-map-range_with_len}
+use Rattle.sm_market.specs.Lists.{Lists, row, entry, place_of, IsMarket}
+use Rattle.sm_market.specs.Matching.{Places, held, standing, IsMatching}
+use Rattle.sm_market.specs.Stable.{IsStable}
+use Rattle.sm_market.proofs.Counting.{lt_or_le, less_same_more}
+use Rattle.sm_market.proofs.Core.{pair_at}
+use Rattle.sm_market.proofs.Bridge.{sides_of, stand_of, fit_of, stable_of, held_cases, held_at, standing-some, entry_place, place_entry}
+use Rattle.sm_theory.specs.Lattice.{agents}
+use Rattle.sm_theory.specs.Rotations.{IsSuccessor, proposer_at, reviewer_at, target_at, IsExposed, pair_of, place_after, eliminated}
+use Rattle.sm_theory.proofs.CoreCycle.{Cycle, Succ, Exposed, Moves, moves_or_not}
+use Rattle.sm_theory.proofs.CoreRotation.{Elim, elim_stable}
+use Rattle.sm_theory.proofs.BridgePlaces.{held_map, held_map_past, standing_map, standing_map_past, row_past, seats_with, stable_with}
+
+abbrev pub cycle_of : List (ℕ × ℕ) → Cycle
+cycle_of rotation = record { size = length rotation; who = proposer_at rotation; has = reviewer_at rotation }
+
+none_some : {x : ℕ} → ◌≡◌ {A = Option ℕ} None (Some x) → ⊥
+none_some e = grind arith
+
+some_same : {x y : ℕ} → Some x ≡ Some y → x ≡ y
+some_same e = cc
+
+module _ {l : Lists} (h : IsMarket l) {m : Places} where
+  -- successors
+  pub succ_of : IsMatching l m → (p i : ℕ) → IsSuccessor l m p i → Succ (sides_of l h) (stand_of l m) p (entry l.proposers p i)
+  succ_of f p i x = record {
+    on = omega (arith, here, x.on_list);
+    behind = omega (arith, here, x.behind);
+    takes = x.takes;
+    first = λ q a b. elim (lt_or_le (place_of l.reviewers q p) (standing l.reviewers m.reviewers q)) [
+      | inr k ↦ k
+      | inl k ↦ absurd (x.first (place_of l.proposers p q) a (omega (arith, here, b)) (rw (place_entry l.proposers p q (omega (arith, here, b, x.on_list))) k))
+    ];
+    matched = elim (held_cases l.reviewers m.reviewers (entry l.proposers p i)) [
+      | inl w ↦ absurd (grind (arith, w.held_is, x.matched))
+      | inr w ↦ omega (arith, w.standing_is, f.reviewers.on_list (entry l.proposers p i) w.place w.held_is)
+    ];
+  }
+    where
+      here : place_of l.proposers p (entry l.proposers p i) ≡ i
+      here = entry_place h.proposers p i x.on_list
+
+  pub succ_back : (p r : ℕ) → Succ (sides_of l h) (stand_of l m) p r → IsSuccessor l m p (place_of l.proposers p r)
+  succ_back p r x = record {
+    on_list = x.on;
+    behind = x.behind;
+    takes = rw here x.takes;
+    first = λ j a b w.
+        let at = entry_place h.proposers p j (omega (arith, x.on, b)) in
+        omega (arith, w, x.first (entry l.proposers p j) (omega (arith, at, a)) (omega (arith, at, b)));
+    matched = rw (here, held_at l.reviewers m.reviewers r x.matched) refl;
+  }
+    where
+      here : entry l.proposers p (place_of l.proposers p r) ≡ r
+      here = place_entry l.proposers p r x.on
+
+  pub exposed_of : IsMatching l m → {rotation : List (ℕ × ℕ)} → IsExposed l m rotation → Exposed (sides_of l h) (stand_of l m) (cycle_of rotation)
+  exposed_of f {rotation} x = record {
+    some = x.not_empty;
+    distinct = λ i j a b e. elim (less_same_more i j) [
+      | inl k ↦ absurd (x.distinct i j k b e)
+      | inr d ↦ elim d [ inl k ↦ k | inr k ↦ absurd (x.distinct j i k a (sym e)) ]
+    ];
+    paired = λ i a.
+        let p : ℕ = proposer_at rotation i in
+        let r : ℕ = reviewer_at rotation i in
+        let at = standing-some l.proposers m.proposers p (place_of l.proposers p r) (x.paired i a) in
+        let on = f.proposers.on_list p (place_of l.proposers p r) (x.paired i a) in
+        pair_at p r (fit_of h f) (omega arith) (sym at);
+    next = λ i a.
+        let p : ℕ = proposer_at rotation i in
+        rw (place_entry l.proposers p (target_at rotation i) (x.next i a).on_list) at (succ_of f p (place_of l.proposers p (target_at rotation i)) (x.next i a));
+  }
+
+  pub exposed_back : (rotation : List (ℕ × ℕ)) → Exposed (sides_of l h) (stand_of l m) (cycle_of rotation) → IsExposed l m rotation
+  exposed_back rotation x = record {
+    not_empty = x.some;
+    distinct = λ i j a b e. omega (arith, x.distinct i j (omega arith) b e);
+    paired = λ i a.
+        let w = x.paired i a in
+        held_at l.proposers m.proposers (proposer_at rotation i) w.matched ∙ ap Some (sym w.place_is);
+    next = λ i a. succ_back (proposer_at rotation i) (target_at rotation i) (x.next i a);
+  }
+
+  -- elimination
+  module _ (f : IsMatching l m) {rotation : List (ℕ × ℕ)} (x : IsExposed l m rotation) where
+    pub pair_at_is : (i : ℕ) → i < length rotation → pair_of rotation (proposer_at rotation i) ≡ i
+    pair_at_is i a = position_or_len_is (λ pair. pair.0 == proposer_at rotation i) rotation i (0, 0) (omega arith)
+        (λ k less. ne_eqb _ _ (λ e. x.distinct k i less a e))
+        (λ _. eq-eqb _ _ refl)
+
+    pub no_pair : (p : ℕ) → ((i : ℕ) → i < length rotation → proposer_at rotation i ≡ p → ⊥) → pair_of rotation p ≡ length rotation
+    no_pair p none = position_or_len_is (λ pair. pair.0 == p) rotation (length rotation) (0, 0) (omega arith)
+        (λ k less. ne_eqb _ _ (none k less))
+        (λ less. absurd (omega arith))
+
+    pub after_in : (i : ℕ) → i < length rotation → place_after l m.proposers rotation (proposer_at rotation i) ≡ Some (place_of l.proposers (proposer_at rotation i) (target_at rotation i))
+    after_in i a = rw (pair_at_is i a, lt-ltb i (length rotation) a) refl
+
+    pub after_out : (p : ℕ) → ((i : ℕ) → i < length rotation → proposer_at rotation i ≡ p → ⊥) → place_after l m.proposers rotation p ≡ held m.proposers p
+    after_out p none = rw (no_pair p none, le-ltb (length rotation) (length rotation) (omega arith)) refl
+
+    core : Exposed (sides_of l h) (stand_of l m) (cycle_of rotation)
+    core = exposed_of f x
+
+    in_range : (i : ℕ) → i < length rotation → proposer_at rotation i < length l.proposers
+    in_range i a = elim (lt_or_le (proposer_at rotation i) (length l.proposers)) [
+      | inl k ↦ k
+      | inr k ↦ absurd (omega (arith, row_past l.proposers (proposer_at rotation i) k, (core.paired i a).matched))
+    ]
+
+    pub elim_of : Elim (sides_of l h) (stand_of l m) (cycle_of rotation) (stand_of l (eliminated l m rotation))
+    elim_of = record {
+      moved = λ i a. standing_map l.proposers (place_after l m.proposers rotation) (proposer_at rotation i) (in_range i a) ∙ ap (λ o. unwrap_or o (length (row l.proposers (proposer_at rotation i)))) (after_in i a);
+      still = λ p none. elim (lt_or_le p (length l.proposers)) [
+        | inl k ↦ standing_map l.proposers (place_after l m.proposers rotation) p k ∙ ap (λ o. unwrap_or o (length (row l.proposers p))) (after_out p none)
+        | inr k ↦ omega (arith, standing_map_past l.proposers (place_after l m.proposers rotation) p k, row_past l.proposers p k, (fit_of h f).left.within p)
+      ];
+      seats = seats_with h (map (place_after l m.proposers rotation) (agents l.proposers));
+    }
+
+  pub eliminated_stable : (s : IsStable l m) {rotation : List (ℕ × ℕ)} → IsExposed l m rotation → IsStable l (eliminated l m rotation)
+  eliminated_stable s {rotation} x = stable_with h (map (place_after l m.proposers rotation) (agents l.proposers)) (length-map-range_with_len _ 0 (length l.proposers)) on
+      (elim_stable (stable_of h s) (exposed_of s.matching x) (elim_of s.matching x))
+    where
+      on : (p i : ℕ) → held (map (place_after l m.proposers rotation) (agents l.proposers)) p ≡ Some i → i < length (row l.proposers p)
+      on p i e = elim (lt_or_le p (length l.proposers)) [
+        | inr k ↦ absurd (none_some (sym (held_map_past l.proposers (place_after l m.proposers rotation) p k) ∙ e))
+        | inl k ↦ after (sym (held_map l.proposers (place_after l m.proposers rotation) p k) ∙ e) (moves_or_not (cycle_of rotation) p)
+      ]
+        where
+          after : place_after l m.proposers rotation p ≡ Some i → Moves (cycle_of rotation) p ⊎ ((j : ℕ) → j < length rotation → proposer_at rotation j ≡ p → ⊥) → i < length (row l.proposers p)
+          after e (inl w) =
+              let there : place_after l m.proposers rotation p ≡ Some (place_of l.proposers p (target_at rotation w.at)) = rw w.holds at (after_in s.matching x w.at w.below) in
+              let same : place_of l.proposers p (target_at rotation w.at) ≡ i = some_same (sym there ∙ e) in
+              let listed : place_of l.proposers p (target_at rotation w.at) < length (row l.proposers p) = rw w.holds at (x.next w.at w.below).on_list in
+              omega arith
+          after e (inr none) = s.matching.proposers.on_list p i (sym (after_out s.matching x p none) ∙ e)

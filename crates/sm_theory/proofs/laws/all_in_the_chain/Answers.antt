@@ -1,0 +1,5 @@
+use Rattle.sm_theory.proofs.LawsRotations.{all_in_the_chain}
+use Rattle.sm_theory.proofs.laws.all_in_the_chain.Goals as goal
+
+pub returns : goal.returns
+returns c = all_in_the_chain

@@ -1,0 +1,5 @@
+use Rattle.sm_theory.proofs.LawsRotations.{best_is_unique}
+use Rattle.sm_theory.proofs.laws.best_is_unique.Goals as goal
+
+pub returns : goal.returns
+returns c = best_is_unique

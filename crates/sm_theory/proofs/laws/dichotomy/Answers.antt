@@ -1,0 +1,5 @@
+use Rattle.sm_theory.proofs.LawsRotations.{dichotomy_law}
+use Rattle.sm_theory.proofs.laws.dichotomy.Goals as goal
+
+pub returns : goal.returns
+returns c = dichotomy_law

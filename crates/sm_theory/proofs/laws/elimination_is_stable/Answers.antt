@@ -1,0 +1,5 @@
+use Rattle.sm_theory.proofs.LawsRotations.{elimination_is_stable}
+use Rattle.sm_theory.proofs.laws.elimination_is_stable.Goals as goal
+
+pub returns : goal.returns
+returns c = elimination_is_stable

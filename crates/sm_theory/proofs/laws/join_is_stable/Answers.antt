@@ -1,0 +1,5 @@
+use Rattle.sm_theory.proofs.LawsLattice.{join_is_stable}
+use Rattle.sm_theory.proofs.laws.join_is_stable.Goals as goal
+
+pub returns : goal.returns
+returns c = join_is_stable

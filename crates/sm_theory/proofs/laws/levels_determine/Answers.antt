@@ -1,0 +1,5 @@
+use Rattle.sm_theory.proofs.LawsLattice.{levels_determine}
+use Rattle.sm_theory.proofs.laws.levels_determine.Goals as goal
+
+pub returns : goal.returns
+returns c = levels_determine

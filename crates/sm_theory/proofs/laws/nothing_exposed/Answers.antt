@@ -1,0 +1,5 @@
+use Rattle.sm_theory.proofs.LawsRotations.{nothing_exposed}
+use Rattle.sm_theory.proofs.laws.nothing_exposed.Goals as goal
+
+pub returns : goal.returns
+returns c = nothing_exposed

@@ -1,0 +1,5 @@
+use Rattle.sm_theory.proofs.LawsRotations.{nothing_exposed_back}
+use Rattle.sm_theory.proofs.laws.nothing_exposed_back.Goals as goal
+
+pub returns : goal.returns
+returns c = nothing_exposed_back

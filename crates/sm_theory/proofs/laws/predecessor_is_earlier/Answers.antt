@@ -1,0 +1,5 @@
+use Rattle.sm_theory.proofs.LawsRotations.{predecessor_is_earlier}
+use Rattle.sm_theory.proofs.laws.predecessor_is_earlier.Goals as goal
+
+pub returns : goal.returns
+returns c = predecessor_is_earlier

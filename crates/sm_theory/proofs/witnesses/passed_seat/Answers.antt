@@ -1,0 +1,5 @@
+use Rattle.sm_theory.proofs.WitnessMarkets.{passed_seat_is}
+use Rattle.sm_theory.proofs.witnesses.passed_seat.Goals as goal
+
+pub returns : goal.returns
+returns c = passed_seat_is

@@ -1,0 +1,5 @@
+use Rattle.sm_theory.proofs.WitnessMarkets.{three_cycle_is}
+use Rattle.sm_theory.proofs.witnesses.three_cycle.Goals as goal
+
+pub returns : goal.returns
+returns c = three_cycle_is

@@ -1,0 +1,36 @@
+-- The meet and the join of two matchings.
+use Rattle.std.specs.Prelude.{ℕ, ◌==◌, List, Option, None, Some, map, length, min, max}
+use Rattle.std.specs.List.{position, range_with_len}
+use Rattle.sm_market.specs.Lists.{Lists, row, place_of}
+use Rattle.sm_market.specs.Matching.{Places, held, standing}
+
+-- the agents of the side that has these lists
+abbrev pub agents : List (List ℕ) → List ℕ
+agents rows = range_with_len 0 (length rows)
+
+-- the places of both sides where the proposers hold these: a reviewer holds the place of the first proposer on its
+-- list that has it
+abbrev pub with_proposers : Lists → List (Option ℕ) → Places
+with_proposers l places = record {
+  proposers = places;
+  reviewers = map (λ r. position (λ p. standing l.proposers places p == place_of l.proposers p r) (row l.reviewers r)) (agents l.reviewers);
+}
+
+-- of two places on one list the better, and the worse; being unmatched is worse than every place
+abbrev pub better : Option ℕ → Option ℕ → Option ℕ
+better None o = o
+better (Some i) None = Some i
+better (Some i) (Some k) = Some (min i k)
+
+abbrev pub worse : Option ℕ → Option ℕ → Option ℕ
+worse None o = None
+worse (Some i) None = None
+worse (Some i) (Some k) = Some (max i k)
+
+-- each proposer gets the better of its two partners (Gusfield and Irving 1989, section 1.3.1)
+abbrev pub meet_of : Lists → Places → Places → Places
+meet_of l m n = with_proposers l (map (λ p. better (held m.proposers p) (held n.proposers p)) (agents l.proposers))
+
+-- each proposer gets the worse of its two partners
+abbrev pub join_of : Lists → Places → Places → Places
+join_of l m n = with_proposers l (map (λ p. worse (held m.proposers p) (held n.proposers p)) (agents l.proposers))

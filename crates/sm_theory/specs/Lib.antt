@@ -1,0 +1,10 @@
+pub mod Market
+pub mod Lattice
+pub mod Rotations
+pub mod Chains
+pub mod ClosedSets
+pub mod Vectors
+pub mod Weights
+pub mod Laws
+pub mod Witnesses
+pub mod Values

@@ -1,0 +1,4 @@
+-- The definitions on markets and matchings, passed on under their names. Declares nothing.
+pub use Rattle.sm_market.specs.Lists.{Lists, reversed_lists, row, entry, place_of, IsMarket}
+pub use Rattle.sm_market.specs.Matching.{Places, reversed, held, standing, IsMatching}
+pub use Rattle.sm_market.specs.Stable.{Blocks, IsStable, IsProposersBest, IsReviewersBest}

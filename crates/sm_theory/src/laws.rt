@@ -1,0 +1,94 @@
+//! The laws of the lattice of stable matchings, of rotations and of closed sets. Each function does nothing: its contract
+//! is the law, a statement over the definitions alone, for all markets and all matchings.
+
+ghost use Rattle.sm_market.specs.Laws.{SameAgents};
+ghost use Rattle.sm_theory.specs.Laws.{MeetIsStable, JoinIsStable, PairIsDivided, Dichotomy, EliminationIsStable, NothingExposed, NothingExposedBack, BestIsUnique, PredecessorIsEarlier, SetsAreMatchings, ExposedWhereReady, AllInTheChain, MeetKeepsBounds, WeightIsSumOfGains, LevelsDetermine};
+
+/// The meet of two stable matchings is stable, and each proposer stands in it as in the better of the two
+/// (Gusfield and Irving 1989, theorem 1.3.2).
+pub fn meet_is_stable()
+    ensures { MeetIsStable }
+{}
+
+/// The join of two stable matchings is stable, and each proposer stands in it as in the worse of the two
+/// (Gusfield and Irving 1989, theorem 1.3.2).
+pub fn join_is_stable()
+    ensures { JoinIsStable }
+{}
+
+/// Of a pair in one stable matching and not in another, one agent prefers the first matching and the other the second
+/// (Gusfield and Irving 1989, theorem 1.3.1).
+pub fn pair_is_divided()
+    ensures { PairIsDivided }
+{}
+
+/// The same agents are matched in all stable matchings (Gusfield and Irving 1989, theorem 1.4.2).
+pub fn same_agents()
+    ensures { SameAgents }
+{}
+
+/// For a rotation exposed at one stable matching and any stable matching, either all proposers of the rotation have their
+/// reviewer or better in it, or all have the next reviewer or worse (Gusfield and Irving 1989, section 2.5).
+pub fn dichotomy()
+    ensures { Dichotomy }
+{}
+
+/// Eliminating an exposed rotation leaves a stable matching (Gusfield and Irving 1989, section 2.5).
+pub fn elimination_is_stable()
+    ensures { EliminationIsStable }
+{}
+
+/// A stable matching at which no rotation is exposed is the reviewers' best: each proposer stands in it as badly, and each
+/// reviewer as well, as in any stable matching.
+pub fn nothing_exposed()
+    ensures { NothingExposed }
+{}
+
+/// A stable matching at which no rotation is exposed once the sides are exchanged is the proposers' best.
+pub fn nothing_exposed_back()
+    ensures { NothingExposedBack }
+{}
+
+/// There is no more than one proposers' best matching, and no more than one reviewers' best.
+pub fn best_is_unique()
+    ensures { BestIsUnique }
+{}
+
+/// A predecessor of a rotation of a complete chain stands earlier in the chain.
+pub fn predecessor_is_earlier()
+    ensures { PredecessorIsEarlier }
+{}
+
+/// The closed sets of a complete chain and the stable matchings correspond one to one, whichever exposed rotation each
+/// turn of the chain takes (Irving and Leather 1986; Gusfield and Irving 1989, theorem 2.5.7).
+pub fn sets_are_matchings()
+    ensures { SetsAreMatchings }
+{}
+
+/// At the matching of a closed set, a rotation of the chain is exposed exactly where it is outside the set and all its
+/// predecessors are inside.
+pub fn exposed_where_ready()
+    ensures { ExposedWhereReady }
+{}
+
+/// Each rotation that is exposed at some stable matching is one of any complete chain.
+pub fn all_in_the_chain()
+    ensures { AllInTheChain }
+{}
+
+/// The stable matchings within bounds on levels and under conditions are closed under meet.
+pub fn meet_keeps_bounds()
+    ensures { MeetKeepsBounds }
+{}
+
+/// The weight of a closed set's matching is that of the first matching of the chain and the gains of the members
+/// (Irving, Leather and Gusfield 1987).
+pub fn weight_is_sum_of_gains()
+    ensures { WeightIsSumOfGains }
+{}
+
+/// Where the places of one level on a proposer's list name reviewers with equal lists, as the seats of one hospital, a
+/// level vector determines its stable matching.
+pub fn levels_determine()
+    ensures { LevelsDetermine }
+{}

@@ -1,0 +1,15 @@
+//! The theory of the lattice of stable matchings: rotations, closed sets and the laws that tie them.
+//!
+//! [`laws`] states what holds of all markets, by functions that do nothing. [`successor`] and [`is_exposed`] tell of a
+//! given matching what the laws speak of (Gusfield and Irving 1989, chapters 1 to 3).
+#![tactic(auto)]
+
+pub mod laws;
+mod rotations;
+mod sets;
+#[cfg(test)]
+mod tests;
+pub mod witnesses;
+
+pub use rotations::{Rotation, is_exposed, successor};
+pub use sets::{Chain, ClosedSet};

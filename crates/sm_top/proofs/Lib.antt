@@ -1,0 +1,9 @@
+pub mod InputLemmas
+pub mod PlainLemmas
+pub mod NameLemmas
+pub mod WrittenLemmas
+pub mod CountLemmas
+pub mod WritingLemmas
+pub mod RunLemmas
+pub mod AcceptSteps
+pub mod AcceptEnds

@@ -1,0 +1,43 @@
+-- The lines of a plain text.
+use Rattle.std.proofs.Common.{◌≡◌, ℕ, suc, ◌+◌, ◌-◌, ◌<◌, ◌≤◌, List, [], ◌∷◌, ◌++◌, length, take, drop, map, Option, None, Some, refl, sym, ap, ◌∙◌, append_assoc, length-append, arith}
+use Rattle.std.proofs.lemmas.List.{drop-drop, map_push}
+use Rattle.std.specs.Option.{option_map_or}
+use Rattle.sm_text.specs.Lines.{content, first_line, lines, IsLineAt}
+use Rattle.sm_text.specs.declared.lines.LineSpan.{LineSpan}
+use Rattle.sm_text.proofs.LineLemmas.{line_text, lines_at}
+use Rattle.sm_top.specs.declared.plain.Agent.{Agent}
+use Rattle.sm_top.specs.Plain.{Declared, declared}
+use Rattle.sm_top.specs.Reading.{agent_of, contents_from, declared_first}
+
+-- the line at a place and those behind it
+pub contents_first : (bytes : List ℕ) (from : ℕ) (span : LineSpan) → IsLineAt bytes from span
+    → contents_from bytes from ≡ take (span.stop - span.start) (drop span.start bytes) ∷ contents_from bytes span.next
+contents_first bytes from span h =
+    ap (map content) (lines_at bytes from span h)
+    ∙ ap (λ t. t ∷ map content (lines (drop span.next bytes))) (sym (line_text bytes from span h))
+
+-- one more agent
+pub declared_first_more : (letter : ℕ) (line : List ℕ) (rest : List (List ℕ)) (agent : Declared) → declared letter line ≡ Some agent
+    → declared_first letter (line ∷ rest) ≡ agent ∷ declared_first letter rest
+declared_first_more letter line rest agent h = ap (λ o. option_map_or (λ a. a ∷ declared_first letter rest) o []) h
+
+-- no more agents
+pub declared_first_none : (letter : ℕ) (line : List ℕ) (rest : List (List ℕ)) → declared letter line ≡ None
+    → declared_first letter (line ∷ rest) ≡ []
+declared_first_none letter line rest h = ap (λ o. option_map_or (λ a. a ∷ declared_first letter rest) o []) h
+
+pub side_more : (letter : ℕ) (all here next : List (List ℕ)) (line : List ℕ) (side : List Agent) (agent : Agent)
+    → map agent_of side ++ declared_first letter here ≡ declared_first letter all
+    → here ≡ line ∷ next → declared letter line ≡ Some (agent_of agent)
+    → map agent_of (side ++ agent ∷ []) ++ declared_first letter next ≡ declared_first letter all
+side_more letter all here next line side agent told first known =
+    ap (λ t. t ++ declared_first letter next) (map_push agent_of side agent)
+    ∙ append_assoc (map agent_of side) (agent_of agent ∷ []) (declared_first letter next)
+    ∙ ap (λ t. map agent_of side ++ t) (sym (ap (declared_first letter) first ∙ declared_first_more letter line next (agent_of agent) known))
+    ∙ told
+
+pub rest_more : (all here next : List (List ℕ)) (line : List ℕ) (side : List Agent) (agent : Agent)
+    → here ≡ drop (length side) all → here ≡ line ∷ next → next ≡ drop (length (side ++ agent ∷ [])) all
+rest_more all here next line side agent rest first =
+    let count : length side + 1 ≡ length (side ++ agent ∷ []) = omega (arith, length-append side (agent ∷ [])) in
+    ap (drop 1) (sym first ∙ rest) ∙ drop-drop 1 (length side) all ∙ ap (λ n. drop n all) count

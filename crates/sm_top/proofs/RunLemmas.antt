@@ -1,0 +1,189 @@
+-- From what was read and written to what a run promises.
+use Rattle.std.proofs.Common.{◌≡◌, ◌≢◌, ℕ, ◌+◌, ◌<◌, ◌≤◌, List, [], ◌++◌, length, take, drop, Option, None, Some, Result, Ok, Err, inl, inr, refl, sym, ap, ◌∙◌, subst, length-append, append-nil, arith, IsOk}
+use Rattle.std.proofs.Math.ListN.{take-append-drop}
+use Rattle.std.specs.Io.KnownBytes.{Consumes, IsAtEnd}
+use Rattle.sm_io.specs.Faults.{Rose}
+use Rattle.sm_io.specs.Source.{Agrees}
+use Rattle.sm_io.specs.Sink.{Grows, IsPart}
+use Rattle.sm_io.proofs.SinkLemmas.{Grows-nil}
+use Rattle.sm_text.specs.declared.refusal.RefusalKind.{RefusalKind}
+use Rattle.sm_text.specs.declared.refusal.RefusalKind.TheVariants.{TooLong, NotBuilt}
+use Rattle.sm_top.specs.declared.status.Status.{Status}
+use Rattle.sm_top.specs.declared.status.Status.TheVariants.{Done, Refused, Usage, OutOfMemory, ReadFault, WriteFault}
+use Rattle.sm_top.specs.declared.words.Job.{Job}
+use Rattle.sm_top.specs.declared.answer.Unwritten.{Unwritten}
+use Rattle.sm_top.specs.declared.answer.Unwritten.TheVariants.{SinkFailed, NoMemory}
+use Rattle.sm_top.specs.declared.TheConstants.{MOST_BYTES}
+use Rattle.sm_top.specs.Words.{words_meaning}
+use Rattle.sm_top.specs.Input.{IsReadWhole, GaveTooMany}
+use Rattle.sm_top.specs.declared.words.Job.TheVariants.{Solve}
+use Rattle.sm_top.specs.Outcome.{Outcome, IsRefused, faulty_words, refused, answered, too_long, not_plain}
+use Rattle.std.proofs.lemmas.Bool.{false≢true}
+use Rattle.sm_top.specs.Running.{IsFront, IsBeingRead, IsCutShort, Answers, Ends}
+use Rattle.sm_top.specs.Writing.{Writes, Wrote, WroteFor, status_of}
+
+-- a front of the text of an outcome
+front_of : (words : List (List ℕ)) (bytes text : List ℕ) (status : Status) (n : ℕ) → Outcome words bytes status text → IsFront words bytes (take n text)
+front_of words bytes text status n outcome = record {
+  status = status;
+  rest = drop n text;
+  outcome = subst (Outcome words bytes status) (sym (take-append-drop n text)) outcome;
+}
+
+-- the text of an outcome was to be written
+pub wrote_ended : (words : List (List ℕ)) (bytes : List ℕ) (a b : Option (List ℕ)) (f g : ℕ) (text : List ℕ) (status : Status) (r : Result (Unit {0}) Unwritten)
+    → Outcome words bytes status text → WroteFor words bytes text f g status → Writes a b f g text r → Wrote words bytes a b f g (status_of status r)
+wrote_ended words bytes a b f g text status (Ok done) outcome for whole = record { text = text; written = whole; for_status = for }
+wrote_ended words bytes a b f g text status (Err SinkFailed) outcome for part = record {
+  text = take part.0.count text;
+  written = part.0.grows;
+  for_status = (front_of words bytes text status part.0.count outcome, part.1);
+}
+wrote_ended words bytes a b f g text status (Err NoMemory) outcome for part = record {
+  text = take part.count text;
+  written = part.grows;
+  for_status = inr (front_of words bytes text status part.count outcome);
+}
+
+-- nothing was written, for want of memory
+pub wrote_nothing : (words : List (List ℕ)) (bytes : List ℕ) (a : Option (List ℕ)) (f : ℕ) → Wrote words bytes a a f f OutOfMemory
+wrote_nothing words bytes a f = record { text = []; written = Grows-nil a; for_status = inl refl }
+
+-- a fault of the sink is one that was counted
+pub ended_fault : (a b : Option (List ℕ)) (f g : ℕ) (text : List ℕ) (status : Status) (r : Result (Unit {0}) Unwritten) → Writes a b f g text r → status ≢ WriteFault
+    → status_of status r ≡ WriteFault → Rose f g
+ended_fault a b f g text status (Ok done) w other e = absurd (other e)
+ended_fault a b f g text status (Err SinkFailed) w other e = w.1
+ended_fault a b f g text status (Err NoMemory) w other e = absurd (cc)
+
+-- writing comes to no fault of the source
+pub ended_no_read_fault : (status : Status) (r : Result (Unit {0}) Unwritten) → status ≢ ReadFault → status_of status r ≢ ReadFault
+ended_no_read_fault status (Ok done) other e = other e
+ended_no_read_fault status (Err SinkFailed) other e = cc
+ended_no_read_fault status (Err NoMemory) other e = cc
+
+-- a source that was read whole isn't being read
+not_being_read : (before after : Option (List ℕ)) → IsReadWhole before after → IsBeingRead before after → ⊥
+not_being_read None after end reading = reading
+not_being_read (Some all) None end reading = reading
+not_being_read (Some all) (Some rest) end reading = reading.0 end
+
+whole_agrees : (before after : Option (List ℕ)) (bytes : List ℕ) → Consumes before after bytes → IsReadWhole before after → Agrees before bytes
+whole_agrees None after bytes given end = tt
+whole_agrees (Some all) None bytes given end = absurd given
+whole_agrees (Some all) (Some rest) bytes given end = given ∙ ap (λ t. bytes ++ t) end ∙ append-nil bytes
+
+-- sound words come to no usage
+no_usage : (words : List (List ℕ)) (bytes text : List ℕ) (word : ℕ) (job : Job) → words_meaning words ≡ Ok job → Outcome words bytes (Usage word) text → ⊥
+no_usage words bytes text word job sound (faulty_words n faulty status is) = cc
+no_usage words bytes text word job sound (refused other kind at meaning why status is) = cc
+no_usage words bytes text word job sound (answered Solve agents meaning accepted answer) = let status = answer.0 in cc
+
+-- too many bytes come to no answer
+not_done : (words : List (List ℕ)) (bytes text : List ℕ) → MOST_BYTES < length bytes → Outcome words bytes Done text → ⊥
+not_done words bytes text long (faulty_words n faulty status is) = cc
+not_done words bytes text long (refused other kind at meaning why status is) = cc
+not_done words bytes text long (answered Solve agents meaning accepted answer) = let short = accepted.short in omega (arith, short, long)
+
+-- too many bytes are refused as that
+refused_kind : (words : List (List ℕ)) (bytes text : List ℕ) (kind : RefusalKind) (at : ℕ) → MOST_BYTES < length bytes → Outcome words bytes (Refused kind at) text → kind ≡ TooLong
+refused_kind words bytes text kind at long (faulty_words n faulty status is) = absurd (cc)
+refused_kind words bytes text kind at long (refused other k n meaning why status is) = by_reason why status where
+  by_reason : {k : RefusalKind} {n : ℕ} → IsRefused bytes k n → Refused kind at ≡ Refused k n → kind ≡ TooLong
+  by_reason (too_long h) e = cc
+  by_reason (not_plain short none) e = absurd (omega (arith, short, long))
+refused_kind words bytes text kind at long (answered Solve agents meaning accepted answer) = let status = answer.0 in absurd (cc)
+
+-- faulty words come to nothing but a usage
+not_done_faulty : (words : List (List ℕ)) (bytes text : List ℕ) (word : ℕ) → words_meaning words ≡ Err word → Outcome words bytes Done text → ⊥
+not_done_faulty words bytes text word wrong (faulty_words n faulty status is) = cc
+not_done_faulty words bytes text word wrong (refused other kind at meaning why status is) = cc
+not_done_faulty words bytes text word wrong (answered job agents meaning accepted answer) = cc
+
+not_refused_faulty : (words : List (List ℕ)) (bytes text : List ℕ) (word : ℕ) (k : RefusalKind) (n : ℕ) → words_meaning words ≡ Err word → Outcome words bytes (Refused k n) text → ⊥
+not_refused_faulty words bytes text word k n wrong (faulty_words m faulty status is) = cc
+not_refused_faulty words bytes text word k n wrong (refused other kind at meaning why status is) = cc
+not_refused_faulty words bytes text word k n wrong (answered job agents meaning accepted answer) = cc
+
+-- the input was read whole, and a text was written
+pub answers_whole : (words : List (List ℕ)) (bytes : List ℕ) (left_before left_after a b : Option (List ℕ)) (f g : ℕ) (status : Status)
+    → (job : Job) → words_meaning words ≡ Ok job → Consumes left_before left_after bytes → IsReadWhole left_before left_after → Wrote words bytes a b f g status → Answers words left_before left_after a b status
+answers_whole words bytes before after a b f g status job sound given end w =
+    record { bytes = bytes; text = w.text; read = whole_agrees before after bytes given end; written = w.written; ends = ends status w.for_status } where
+      ends : (status : Status) → WroteFor words bytes w.text f g status → Ends words bytes w.text before after status
+      ends Done h = (h, end)
+      ends (Refused kind at) h = (h, λ _. end)
+      ends (Usage word) h = absurd (no_usage words bytes w.text word job sound h)
+      ends OutOfMemory h = record { front = h; early = λ _ reading. absurd (not_being_read before after end reading) }
+      ends ReadFault h = absurd h
+      ends WriteFault h = h.0
+
+-- the bytes that a source had, of which it gave too many
+pub record HadTooMany (left : Option (List ℕ)) : Type 0 where
+  pub bytes : List ℕ
+  pub agrees : Agrees left bytes
+  pub long : MOST_BYTES < length bytes
+
+pub had_too_many : (before after : Option (List ℕ)) → GaveTooMany before after → HadTooMany before
+had_too_many None after h = record { bytes = h.given; agrees = tt; long = h.long }
+had_too_many (Some all) None h = absurd h.consumed
+had_too_many (Some all) (Some rest) h = record {
+  bytes = all;
+  agrees = refl;
+  long = omega (arith, h.long, length-append h.given rest, ap length h.consumed);
+}
+
+-- a source that gave too many bytes has lost more than are taken
+not_read_yet : (before after : Option (List ℕ)) → GaveTooMany before after → IsBeingRead before after → ⊥
+not_read_yet None after h reading = reading
+not_read_yet (Some all) None h reading = reading
+not_read_yet (Some all) (Some rest) h reading = omega (arith, h.long, length-append h.given rest, ap length h.consumed, reading.1)
+
+-- the source gave too many bytes, and a text was written
+pub answers_too_long : (words : List (List ℕ)) (left_before left_after a b : Option (List ℕ)) (f g : ℕ) (status : Status)
+    → (h : GaveTooMany left_before left_after) → (job : Job) → words_meaning words ≡ Ok job
+    → Wrote words (had_too_many left_before left_after h).bytes a b f g status → Answers words left_before left_after a b status
+answers_too_long words before after a b f g status gave job sound w =
+    let had = had_too_many before after gave in
+    record { bytes = had.bytes; text = w.text; read = had.agrees; written = w.written; ends = ends status w.for_status } where
+      ends : (status : Status) → WroteFor words (had_too_many before after gave).bytes w.text f g status → Ends words (had_too_many before after gave).bytes w.text before after status
+      ends Done h = absurd (not_done words (had_too_many before after gave).bytes w.text (had_too_many before after gave).long h)
+      ends (Refused kind at) h = (h, λ other. absurd (other (refused_kind words (had_too_many before after gave).bytes w.text kind at (had_too_many before after gave).long h)))
+      ends (Usage word) h = absurd (no_usage words (had_too_many before after gave).bytes w.text word job sound h)
+      ends OutOfMemory h = record { front = h; early = λ _ reading. absurd (not_read_yet before after gave reading) }
+      ends ReadFault h = absurd h
+      ends WriteFault h = h.0
+
+-- all bytes that a source tells
+abbrev pub bytes_of : Option (List ℕ) → List ℕ
+bytes_of None = []
+bytes_of (Some bytes) = bytes
+
+agrees_of : (left : Option (List ℕ)) → Agrees left (bytes_of left)
+agrees_of None = tt
+agrees_of (Some bytes) = refl
+
+-- the source failed
+pub answers_read_fault : (words : List (List ℕ)) (left_before left_after a : Option (List ℕ)) (job : Job) → words_meaning words ≡ Ok job → Answers words left_before left_after a a ReadFault
+answers_read_fault words before after a job sound =
+    record { bytes = bytes_of before; text = []; read = agrees_of before; written = Grows-nil a; ends = (subst IsOk (sym sound) refl, refl) }
+
+-- there was no memory to read the input
+pub answers_no_memory : (words : List (List ℕ)) (left_before left_after a : Option (List ℕ)) → Answers words left_before left_after a a OutOfMemory
+answers_no_memory words before after a =
+    record { bytes = bytes_of before; text = []; read = agrees_of before; written = Grows-nil a; ends = record { front = inl refl; early = λ _ _. refl } }
+
+-- faulty words
+pub answers_usage : (words : List (List ℕ)) (left a b : Option (List ℕ)) (f g : ℕ) (status : Status) (word : ℕ) → words_meaning words ≡ Err word
+    → ((bytes : List ℕ) → Wrote words bytes a b f g status) → Answers words left left a b status
+answers_usage words left a b f g status word faulty wrote =
+    let bytes = bytes_of left in
+    let w = wrote bytes in
+    record { bytes = bytes; text = w.text; read = agrees_of left; written = w.written; ends = ends w.text status w.for_status } where
+      ends : (text : List ℕ) (status : Status) → WroteFor words (bytes_of left) text f g status → Ends words (bytes_of left) text left left status
+      ends text Done h = absurd (not_done_faulty words (bytes_of left) text word faulty h)
+      ends text (Refused kind at) h = absurd (not_refused_faulty words (bytes_of left) text word kind at faulty h)
+      ends text (Usage n) h = (h, refl)
+      ends text OutOfMemory h = record { front = h; early = λ sound _. absurd (false≢true (subst IsOk faulty sound)) }
+      ends text ReadFault h = absurd h
+      ends text WriteFault h = h.0

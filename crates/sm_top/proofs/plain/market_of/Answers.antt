@@ -1,0 +1,12 @@
+use Rattle.std.proofs.Common.{refl, sym, subst}
+use Rattle.sm_market.specs.Limits.{IsWithinLimits as IsFewEnough}
+use Rattle.sm_top.specs.Reading.{agents_in}
+use Rattle.sm_top.proofs.CountLemmas.{within_limits, same_lists}
+use Rattle.sm_top.proofs.plain.market_of.Goals as goal
+
+pub build-requires : goal.build-requires
+build-requires c =
+    let a = agents_in c.args.proposers.now c.args.reviewers.now in
+    let ps = rw c.in-Some.is at c.in_ok-proposer_lists.ensures in
+    let rs = rw c.in-Some-2.is at c.in_ok-reviewer_lists.ensures in
+    subst IsFewEnough (sym (same_lists a c.in-Some.proposer_lists.items c.in-Some-2.reviewer_lists.items ps.1 rs.1)) (within_limits a (c.if-not-is_within_limits.ensures.0 refl))

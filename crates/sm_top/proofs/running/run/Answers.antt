@@ -1,0 +1,14 @@
+use Rattle.std.proofs.Common.{sym}
+use Rattle.sm_top.specs.Words.{texts}
+use Rattle.sm_top.proofs.RunLemmas.{answers_usage}
+use Rattle.sm_top.proofs.running.run.Goals as goal
+
+pub returns-in-Err-clause-answer : goal.returns-in-Err-clause-answer
+returns-in-Err-clause-answer g c =
+    let held = g.K.Sink.held in
+    let faults = g.K.Sink.faults in
+    let words = texts c.args.words.now in
+    let word = c.in-Err.word in
+    let faulty = sym c.in-Err.ensures in
+    answers_usage words (g.S.Source.left c.args.source.now) (held c.args.sink.now) (held c.complain.new.sink) (faults c.args.sink.now) (faults c.complain.new.sink)
+    c.complain.result word faulty (λ bytes. c.complain.ensures.wrote words bytes faulty)

@@ -1,0 +1,10 @@
+pub mod Words
+pub mod Plain
+pub mod Answer
+pub mod Outcome
+pub mod Running
+pub mod Input
+pub mod Reading
+pub mod Writing
+pub mod Statuses
+pub mod Accepting

@@ -1,0 +1,124 @@
+//! Deferred acceptance with proposers proposing.
+//!
+//! Each proposer goes down its list, and each reviewer holds the best of those who proposed to it. Whoever is turned
+//! down proposes to the next on its list (Gale and Shapley 1962; Gusfield and Irving 1989, section 1.2).
+
+ghost use Rattle.std.specs.Prelude.{◌≡◌, ℕ, ◌+◌, ◌<◌, ◌≤◌, ◌⊎◌, length, slice_index, IfOk, MatchOption};
+ghost use Rattle.sm_market.specs.Lists.{row, entry, IsMarket};
+ghost use Rattle.sm_market.specs.Limits.{IsWithinLimits};
+ghost use Rattle.sm_market.specs.Stable.{IsProposersBest};
+ghost use Rattle.sm_market.specs.Pairing.{IsPairingOf};
+ghost use Rattle.sm_top.specs.Accepting.{AreFree, IsProgress, IsTakenIn, IsTakenFor, IsRefused, AreEnds, AreBestPlaces};
+
+use sm_market::{Market, Pairing, PairingFault};
+use std::alloc::{AllocError, Global};
+
+/// The stable matching in which every proposer has the best partner that it has in any stable matching, by deferred
+/// acceptance with proposers proposing (Gale and Shapley 1962; Gusfield and Irving 1989, section 1.2).
+///
+/// Takes time in proportion to the agents and entries, and memory in proportion to the agents, none of it while
+/// proposals are made.
+///
+/// # Errors
+///
+/// `AllocError` where memory ran out, and only then.
+pub(crate) fn proposers_best(alloc: Global, market: &Market) -> Result<Pairing, AllocError>
+    ensures pairing { IfOk result (λ m. IsPairingOf market.now m) }
+    ensures best { IfOk result (λ m. IsProposersBest market.now m.places) }
+{
+    let places = best_places(alloc, market)?;
+    match Pairing::of(alloc, market, &places) {
+        Ok(pairing) => Ok(pairing),
+        Err(PairingFault::OutOfMemory) => Err(AllocError),
+        Err(PairingFault::WrongLength) => unreachable!(),
+        Err(PairingFault::OutOfRange(_)) => unreachable!(),
+        Err(PairingFault::Taken(_)) => unreachable!(),
+    }
+}
+
+/// The place of each proposer in the proposers' best stable matching.
+fn best_places(alloc: Global, market: &Market) -> Result<Vec<Option<u32>>, AllocError>
+    ensures { IfOk result (λ places. AreBestPlaces market.now places.items) }
+{
+    let mut next = vec![in alloc; 0; market.proposers() as usize]?;
+    let mut standings = free_standings(alloc, market)?;
+    let next = next.as_mut_slice();
+    let standings = standings.as_mut_slice();
+    for p in 0..market.proposers() {
+        let_go(market, p, next, standings);
+    }
+    places_at(alloc, market, next)
+}
+
+/// Every reviewer free, each one past its list.
+fn free_standings(alloc: Global, market: &Market) -> Result<Vec<u32>, AllocError>
+    ensures { IfOk result (λ standings. AreFree market.now standings.items) }
+{
+    let mut standings = Vec::with_capacity(alloc, market.reviewers() as usize)?;
+    for r in 0..market.reviewers() {
+        standings.push(market.reviewer_len(r))?;
+    }
+    Ok(standings)
+}
+
+/// Lets one more proposer propose, and in turn each one that is turned down, until a free reviewer takes one or one is
+/// at the end of its list.
+fn let_go(market: &Market, p: u32, next: &mut [u32], standings: &mut [u32])
+    requires in_range { p < length market.now.proposers }
+    requires market { IsMarket market.now }
+    requires limits { IsWithinLimits market.now }
+    requires before { IsProgress market.now p p next.old standings.old }
+    ensures { IsProgress market.now (p + 1) (p + 1) next.new standings.new }
+{
+    let mut away = p;
+    'proposals: while next[away as usize] < market.proposer_len(away) {
+        let Some(turned_down) = propose(market, away, next[away as usize], standings) else {
+            return;
+        };
+        next[turned_down as usize] += 1;
+        away = turned_down;
+    }
+}
+
+/// Lets `p` propose to the reviewer at a place of its list, who holds the better of `p` and the one that it held.
+/// Returns whom it turns down, `None` where it was free.
+fn propose(market: &Market, p: u32, place: u32, standings: &mut [u32]) -> Option<u32>
+    requires in_range { p < length market.now.proposers }
+    requires on_list { place < length (row market.now.proposers p) }
+    requires one_each { length standings.old ≡ length market.now.reviewers }
+    requires standing_on_list { (r : ℕ) → slice_index standings.old r ≤ length (row market.now.reviewers r) }
+    ensures { let r = entry market.now.proposers p place in MatchOption result
+        (IsTakenIn market.now p r standings.old standings.new)
+        (λ q. IsTakenFor market.now p r q standings.old standings.new
+        ⊎ IsRefused market.now p r q standings.old standings.new) }
+{
+    let r = market.reviewer_at(p, place);
+    let offered = market.cross(p, place);
+    let standing = standings[r as usize];
+    if offered >= standing {
+        return Some(p);
+    }
+    standings[r as usize] = offered;
+    if standing < market.reviewer_len(r) {
+        Some(market.proposer_at(r, standing))
+    } else {
+        None
+    }
+}
+
+/// The places at which the proposers end, `None` for those at the end of their lists.
+fn places_at(alloc: Global, market: &Market, next: &[u32]) -> Result<Vec<Option<u32>>, AllocError>
+    requires { length next.now ≡ length market.now.proposers }
+    ensures { IfOk result (λ places. AreEnds market.now next.now places.items) }
+{
+    let mut places = Vec::with_capacity(alloc, next.len())?;
+    for p in 0..market.proposers() {
+        let place = next[p as usize];
+        let on_list = place < market.proposer_len(p);
+        places.push(if on_list { Some(place) } else { None })?;
+    }
+    Ok(places)
+}
+
+#[cfg(test)]
+mod tests;
