@@ -17,9 +17,10 @@ use Rattle.sm_top.specs.declared.TheConstants.{MOST_BYTES}
 use Rattle.sm_top.specs.Words.{words_meaning}
 use Rattle.sm_top.specs.Input.{IsReadWhole, GaveTooMany}
 use Rattle.sm_top.specs.declared.words.Job.TheVariants.{Solve}
-use Rattle.sm_top.specs.Outcome.{Outcome, IsRefused, faulty_words, refused, answered, too_long, not_plain}
+use Rattle.sm_top.specs.Outcome.{Outcome, IsRefused, IsAccepted, faulty_words, refused, answered, too_long, not_plain}
 use Rattle.std.proofs.lemmas.Bool.{false≢true}
-use Rattle.sm_top.specs.Running.{IsFront, IsBeingRead, IsCutShort, Answers, Ends}
+use Rattle.sm_top.specs.Plain.{Agents}
+use Rattle.sm_top.specs.Running.{IsFront, IsBeingRead, IsCutShort, Answers, Ends, IsFaultless, IsDoneUnlessNoMemory, AnswersAccepted}
 use Rattle.sm_top.specs.Writing.{Writes, Wrote, WroteFor, status_of}
 
 -- a front of the text of an outcome
@@ -187,3 +188,39 @@ answers_usage words left a b f g status word faulty wrote =
       ends text OutOfMemory h = record { front = h; early = λ sound _. absurd (false≢true (subst IsOk faulty sound)) }
       ends text ReadFault h = absurd h
       ends text WriteFault h = h.0
+
+-- without faults
+pub faultless : (status : Status) (R K : Type 0) → (status ≡ ReadFault → R) → (status ≡ WriteFault → K) → ¬ R → ¬ K → IsFaultless status
+faultless Done R K read write r k = tt
+faultless (Refused kind at) R K read write r k = tt
+faultless (Usage word) R K read write r k = tt
+faultless OutOfMemory R K read write r k = tt
+faultless ReadFault R K read write r k = r (read refl)
+faultless WriteFault R K read write r k = k (write refl)
+
+-- an accepted input isn't refused
+not_refused : (words : List (List ℕ)) (bytes text : List ℕ) (a : Agents) (kind : RefusalKind) (at : ℕ) → IsAccepted bytes a → IsOk (words_meaning words)
+    → Outcome words bytes (Refused kind at) text → ⊥
+not_refused words bytes text a kind at accepted sound (faulty_words n faulty status is) = cc
+not_refused words bytes text a kind at accepted sound (refused job k n meaning (too_long long) status is) = let short = accepted.short in omega (arith, short, long)
+not_refused words bytes text a kind at accepted sound (refused job k n meaning (not_plain short none) status is) = none a accepted.plain
+not_refused words bytes text a kind at accepted sound (answered Solve agents meaning other answer) = let status = answer.0 in cc
+
+not_usage : (words : List (List ℕ)) (bytes text : List ℕ) (word : ℕ) → IsOk (words_meaning words) → Outcome words bytes (Usage word) text → ⊥
+not_usage words bytes text word sound (faulty_words n faulty status is) = false≢true (subst IsOk faulty sound)
+not_usage words bytes text word sound (refused job k n meaning why status is) = cc
+not_usage words bytes text word sound (answered Solve agents meaning other answer) = let status = answer.0 in cc
+
+-- a run on accepted bytes
+pub answers_accepted : (words : List (List ℕ)) (left_before left_after a b : Option (List ℕ)) (status : Status)
+    → Answers words left_before left_after a b status → AnswersAccepted words left_before status
+answers_accepted words before after a b status answers bytes agents sound told accepted fine =
+    let same : bytes ≡ answers.bytes = subst (λ left. Agrees left answers.bytes) told answers.read in
+    by_status status (subst (λ t. IsAccepted t agents) same accepted) answers.ends fine where
+      by_status : (status : Status) → IsAccepted answers.bytes agents → Ends words answers.bytes answers.text before after status → IsFaultless status → IsDoneUnlessNoMemory status
+      by_status Done ok ends fine = tt
+      by_status (Refused kind at) ok ends fine = not_refused words answers.bytes answers.text agents kind at ok sound ends.0
+      by_status (Usage word) ok ends fine = not_usage words answers.bytes answers.text word sound ends.0
+      by_status OutOfMemory ok ends fine = tt
+      by_status ReadFault ok ends fine = fine
+      by_status WriteFault ok ends fine = fine

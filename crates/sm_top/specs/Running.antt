@@ -1,5 +1,5 @@
 -- What a run does to its source and its sink.
-use Rattle.std.specs.Prelude.{◌≡◌, ◌≢◌, ◌≤◌, ◌+◌, ◌⊎◌, ℕ, List, [], ◌++◌, length, Option, IsSomeAnd, IsOk}
+use Rattle.std.specs.Prelude.{◌≡◌, ◌≢◌, ◌≤◌, ◌+◌, ◌⊎◌, ℕ, List, [], ◌++◌, length, Option, Some, IsSomeAnd, IsOk}
 use Rattle.sm_io.specs.Source.{Agrees}
 use Rattle.sm_io.specs.Sink.{Grows}
 use Rattle.sm_text.specs.declared.refusal.RefusalKind.{RefusalKind}
@@ -9,7 +9,8 @@ use Rattle.sm_top.specs.declared.status.Status.TheVariants.{Done, Refused, Usage
 use Rattle.sm_top.specs.declared.TheConstants.{MOST_BYTES}
 use Rattle.sm_top.specs.Words.{words_meaning}
 use Rattle.sm_top.specs.Input.{IsReadWhole}
-use Rattle.sm_top.specs.Outcome.{Outcome}
+use Rattle.sm_top.specs.Plain.{Agents}
+use Rattle.sm_top.specs.Outcome.{Outcome, IsAccepted}
 
 -- a front of the text of an outcome
 pub record IsFront (words : List (List ℕ)) (bytes text : List ℕ) : Type 0 where
@@ -44,3 +45,20 @@ pub record Answers (words : List (List ℕ)) (left_before left_after held_before
   pub read : Agrees left_before bytes
   pub written : Grows held_before held_after text
   pub ends : Ends words bytes text left_before left_after status
+
+-- there was no fault
+abbrev pub IsFaultless : Status → Type 0
+IsFaultless ReadFault = ⊥
+IsFaultless WriteFault = ⊥
+IsFaultless status = Unit {0}
+
+-- the whole answer was written, or there was no memory
+abbrev pub IsDoneUnlessNoMemory : Status → Type 0
+IsDoneUnlessNoMemory Done = Unit {0}
+IsDoneUnlessNoMemory OutOfMemory = Unit {0}
+IsDoneUnlessNoMemory status = ⊥
+
+-- where words ask for a job and the source tells bytes that are accepted, a run without faults comes to the answer
+abbrev pub AnswersAccepted : List (List ℕ) → Option (List ℕ) → Status → Type 0
+AnswersAccepted words left status =
+    (bytes : List ℕ) (a : Agents) → IsOk (words_meaning words) → left ≡ Some bytes → IsAccepted bytes a → IsFaultless status → IsDoneUnlessNoMemory status

@@ -4,7 +4,7 @@ ghost use Rattle.std.specs.Prelude.{◌≡◌, ◌≢◌, ◌≤◌, ◌<◌, le
 ghost use Rattle.sm_io.specs.Faults.{Rose};
 ghost use Rattle.sm_top.specs.Words.{texts, words_meaning};
 ghost use Rattle.sm_top.specs.Outcome.{Outcome, IsRefused};
-ghost use Rattle.sm_top.specs.Running.{Answers};
+ghost use Rattle.sm_top.specs.Running.{Answers, AnswersAccepted, IsFaultless};
 ghost use Rattle.sm_top.specs.Writing.{Wrote, status_of};
 
 use crate::MOST_BYTES;
@@ -39,6 +39,8 @@ pub fn run<S: Source, K: Sink>(
     sink: &mut K,
 ) -> Status
     ensures answer { Answers (texts words.now) (S.left source.old) (S.left source.new) (K.held sink.old) (K.held sink.new) result }
+    ensures accepted { AnswersAccepted (texts words.now) (S.left source.old) result }
+    ensures faultless { (¬ Rose (S.faults source.old) (S.faults source.new)) → (¬ Rose (K.faults sink.old) (K.faults sink.new)) → IsFaultless result }
     ensures read_fault { result ≡ Status.ReadFault → Rose (S.faults source.old) (S.faults source.new) }
     ensures write_fault { result ≡ Status.WriteFault → Rose (K.faults sink.old) (K.faults sink.new) }
     ensures source_later { S.faults source.old ≤ S.faults source.new }
