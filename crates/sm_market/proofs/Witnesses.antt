@@ -5,6 +5,7 @@ use Rattle.std.proofs.lemmas.List.{ext_get_or}
 use Rattle.sm_market.specs.Lists.{Lists, row, entry, place_of, IsMarket}
 use Rattle.sm_market.specs.Matching.{Places, held, standing, IsMatching}
 use Rattle.sm_market.specs.Stable.{IsStable, IsProposersBest, IsReviewersBest}
+use Rattle.sm_market.specs.Reduced.{reduced_lists_of}
 use Rattle.sm_market.proofs.CheckLemmas.{market_from_test, matching_from_test, stable_from_test}
 use Rattle.sm_market.proofs.PairingLemmas.{reviewers_same, one_partner}
 use Rattle.sm_market.proofs.SeatLemmas.{option_cases}
@@ -127,3 +128,11 @@ two_for_one_market = market_from_test two_for_one refl refl
 
 pub one_pair_stable : IsStable two_for_one one_pair
 one_pair_stable = stable_from_test two_for_one one_pair (matching_from_test two_for_one one_pair refl refl) refl
+
+-- every pair of the first market is in its reduced lists
+pub nothing_reduced : reduced_lists_of two_by_two first_choices second_choices ≡ two_by_two
+nothing_reduced = refl
+
+-- and of the second only the one pair that is matched
+pub one_pair_left : reduced_lists_of two_for_one one_pair one_pair ≡ record { proposers = (0 ∷ []) ∷ [] ∷ []; reviewers = (0 ∷ []) ∷ [] ∷ [] }
+one_pair_left = refl

@@ -1,6 +1,7 @@
 pub mod Lists
 pub mod Matching
 pub mod Stable
+pub mod Reduced
 pub mod Pairing
 pub mod Laws
 pub mod Vectors
