@@ -1,6 +1,9 @@
 -- Digits that are written from the last one on.
-use Rattle.std.proofs.Common.{zero, suc, ◌*◌, ◌≡◌, ℕ, ◌+◌, ◌-◌, ◌<◌, ◌≤◌, ◌^◌, ◌/◌, ◌%◌, cond, ltb, List, [], ◌∷◌, ◌++◌, length, drop, sym, ap, subst, ◌∙◌, arith, append_assoc, inl, inr, slice_set, decimal}
-use Rattle.std.proofs.lemmas.List.{drop-set}
+use Rattle.std.proofs.Common.{zero, suc, ◌*◌, ◌≡◌, ℕ, ◌+◌, ◌-◌, ◌<◌, ◌≤◌, ◌^◌, ◌/◌, ◌%◌, cond, ltb, true, false, List, [], ◌∷◌, ◌++◌, length, take, drop, refl, sym, ap, subst, ◌∙◌, arith, append_assoc, inl, inr, slice_set, decimal, ℤ, pos, negsuc, add-one}
+use Rattle.std.proofs.lemmas.List.{drop-set, length-append, length-drop, append-nil, take_all}
+use Rattle.std.specs.Fmt.{signed_decimal}
+use Rattle.std.specs.Int.RustNames.{unsigned_abs}
+use lib.Signed.{le_z}
 use Rattle.std.proofs.lemmas.Bool.Decides.{nat_tests}
 use Rattle.std.proofs.lemmas.Bool.{cases_lt}
 use Rattle.std.proofs.lemmas.Grind.{common_steps}
@@ -59,3 +62,25 @@ room_left rest zero large small = absurd (omega arith)
 room_left rest (suc s) large small =
     let step : 10 ^ (suc s + 1) ≡ 10 ^ (s + 1) * 10 = ap (λ n. 10 ^ n) (one_more_power s) ∙ pow-suc 10 (s + 1) in
     (omega arith, ap_lt (rest / 10) (one_less_power s) (omega arith))
+
+-- `-` in front of the digits
+pub signed_text : (ds text : List ℕ) (start : ℕ) → length ds ≡ 20 → start < 20 → drop start ds ≡ text
+    → take (21 - start) (drop start (slice_set (0 ∷ (ds ++ [])) start 45)) ≡ 45 ∷ text
+signed_text ds text start room inside written =
+    let none : List ℕ = [] in
+    let all : List ℕ = 0 ∷ (ds ++ []) in
+    let same : ds ++ [] ≡ ds = append-nil ds in
+    let put : drop start (slice_set all start 45) ≡ 45 ∷ text = drop-set all start 45 (omega (arith, length-append ds none)) ∙ ap (λ t. 45 ∷ t) (rw same (drop_behind start ds ∙ written)) in
+    let count : length (45 ∷ text) ≡ 21 - start = omega (arith, length-drop start ds, ap length written) in
+    ap (take (21 - start)) put ∙ take_all (21 - start) (45 ∷ text) (omega arith)
+  where
+    drop_behind : (n : ℕ) (xs : List ℕ) → drop (n + 1) (0 ∷ xs) ≡ drop n xs
+    drop_behind n xs = ap (λ k. drop k (0 ∷ xs)) (add-one n)
+
+pub signed_below : (z : ℤ) → le_z (pos 0) z ≡ false → 45 ∷ decimal (unsigned_abs z) ≡ signed_decimal z
+signed_below (pos n) h = absurd (grind (arith, nat_tests))
+signed_below (negsuc n) h = refl
+
+pub signed_above : (z : ℤ) → le_z (pos 0) z ≡ true → decimal (unsigned_abs z) ≡ signed_decimal z
+signed_above (pos n) h = refl
+signed_above (negsuc n) h = cc

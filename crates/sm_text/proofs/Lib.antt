@@ -1,2 +1,4 @@
 pub mod LineLemmas
 pub mod DigitLemmas
+pub mod TokenLemmas
+pub mod NumberLemmas

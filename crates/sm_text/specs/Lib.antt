@@ -1,4 +1,6 @@
 pub mod Lines
 pub mod Name
+pub mod Numbers
+pub mod Tokens
 pub mod Writer
 pub mod Refusal

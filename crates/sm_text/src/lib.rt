@@ -6,12 +6,16 @@
 
 mod lines;
 mod names;
+mod numbers;
 mod refusal;
+mod tokens;
 mod writer;
 
-pub use lines::{LineSpan, line_at};
+pub use lines::{LineSpan, line_at, line_count};
 pub use names::is_name;
+pub use numbers::{number, signed};
 pub use refusal::RefusalKind;
+pub use tokens::{TokenAt, token_at};
 pub use writer::LineWriter;
 
 #[cfg(test)]

@@ -1,5 +1,5 @@
 ghost use Rattle.std.specs.Prelude.{◌≡◌, ◌≤◌, ◌<◌, ◌+◌, length, drop, MatchOption};
-ghost use Rattle.sm_text.specs.Lines.{IsLineAt, first_line, content, without_last};
+ghost use Rattle.sm_text.specs.Lines.{IsLineAt, first_line, content, without_last, lines};
 
 /// Where a line stands in a text: its bytes are `start..stop`, its end is `stop..next`, and the line after it, if there is
 /// one, begins at `next`. Places are counted from 0.
@@ -29,6 +29,25 @@ pub fn line_at(bytes: &[u8], from: usize) -> Option<LineSpan>
         stop: from + content(line).len(),
         next: from + line.len(),
     })
+}
+
+/// The greatest number of bytes whose lines are counted: one more than an input may have.
+const MOST_BYTES: usize = 16_777_217;
+
+/// How many lines a text has, of at most 16,777,217 bytes.
+///
+/// It takes time in the length of the text, and no memory.
+pub fn line_count(bytes: &[u8]) -> u32
+    requires { length bytes.now ≤ MOST_BYTES }
+    ensures { result ≡ length (lines bytes.now) }
+{
+    let mut count = 0;
+    let mut from = 0;
+    while let Some(line) = line_at(bytes, from) {
+        count += 1;
+        from = line.next;
+    }
+    count
 }
 
 // The first line, with its end.

@@ -31,7 +31,7 @@ fn begins_name(b: u8) -> bool
 
 // May a name hold this byte?
 #[tactic(auto, unfolding(crate::specs::Name::begins_name, crate::specs::Name::is_name_byte))]
-fn is_name_byte(b: u8) -> bool
+pub(crate) fn is_name_byte(b: u8) -> bool
     ensures { result ≡ is_name_byte b }
 {
     begins_name(b) || b == b'.' || b == b'-'

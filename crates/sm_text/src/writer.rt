@@ -21,6 +21,7 @@ impl Model for LineWriter {
 }
 
 impl LineWriter {
+    ghost use Rattle.std.specs.Fmt.{signed_decimal};
     ghost use Rattle.sm_text.specs.Writer.{Puts};
 
     /// An empty writer with room for `room` bytes.
@@ -64,6 +65,20 @@ impl LineWriter {
         let mut digits = [0u8; MOST_DIGITS];
         let start = write_digits(value, &mut digits);
         self.put_bytes(&digits[start..])
+    }
+
+    /// Puts a signed number in decimal behind what it holds, with `-` before it where it is below 0. Where it fits the
+    /// room that is left it can't fail; where it fails it holds what it held.
+    pub fn put_signed(&mut self, value: i64) -> Result<(), AllocError>
+        ensures { Puts self.old self.new (signed_decimal value) result }
+    {
+        let mut text = [0u8; MOST_DIGITS + 1];
+        let start = write_digits(value.unsigned_abs(), &mut text[1..]);
+        if value >= 0 {
+            return self.put_bytes(&text[start + 1..]);
+        }
+        text[start] = b'-';
+        self.put_bytes(&text[start..])
     }
 }
 
