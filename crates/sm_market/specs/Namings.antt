@@ -1,52 +1,56 @@
--- Who names an agent, and where: the lists of one side turned over, in chains, and what is noted of one agent's chain.
-use Rattle.std.specs.Prelude.{◌≡◌, ◌≢◌, ℕ, ◌+◌, ◌<◌, ◌≤◌, List, Option, Some, None, length, take, slice_index, slice_index_or, slice_set, ◌++◌, ◌∷◌, []}
-use Rattle.std.specs.List.{sum_by}
+-- Who names an agent, and where: the lists of one side turned over, and what is noted of one agent's namings.
+use Rattle.std.specs.Prelude.{◌≡◌, ◌≢◌, ℕ, ◌+◌, ◌<◌, ◌≤◌, List, length, map, slice_index, slice_index_or, [], Vec}
+use Rattle.std.specs.declared.alloc.Global.{Global}
 use Rattle.sm_market.specs.Lists.{row, entry, place_of}
 use Rattle.sm_market.specs.declared.crosses.Naming.{Naming}
 use Rattle.sm_market.specs.declared.crosses.Note.{Note}
 
+-- what each of the vectors holds
+abbrev pub namings_in : List (Vec Naming Global) → List (List Naming)
+namings_in vectors = map (λ v. v.items) vectors
+
+-- the namings of an agent; none where there is no such agent
+abbrev pub namings_of : List (List Naming) → ℕ → List Naming
+namings_of lists a = slice_index_or lists a []
+
 -- what stands for a naming past the last
 abbrev pub no_naming : Naming
-no_naming = record { by = 0; place = 0; older = None }
+no_naming = record { by = 0; place = 0 }
 
 -- the naming with a number
 abbrev pub naming_at : List Naming → ℕ → Naming
-naming_at all e = slice_index_or all e no_naming
-
--- whom the naming with a number names
-abbrev pub named_at : List (List ℕ) → List Naming → ℕ → ℕ
-named_at others all e = entry others (naming_at all e).by (naming_at all e).place
-
--- the newest naming of a among those with a number below top, if there is one
-abbrev pub IsNewest : List (List ℕ) → List Naming → ℕ → ℕ → Option ℕ → Type 0
-IsNewest others all a top None = (e : ℕ) → e < top → named_at others all e ≢ a
-IsNewest others all a top (Some f) = (f < top) × (named_at others all f ≡ a) × ((e : ℕ) → f < e → e < top → named_at others all e ≢ a)
+naming_at namings e = slice_index_or namings e no_naming
 
 -- there is a naming by c at place j
-pub record IsNamed (all : List Naming) (c j : ℕ) : Type 0 where
+pub record IsNamed (namings : List Naming) (c j : ℕ) : Type 0 where
   pub at : ℕ
-  pub there : at < length all
-  pub by : (naming_at all at).by ≡ c
-  pub place : (naming_at all at).place ≡ j
+  pub there : at < length namings
+  pub by : (naming_at namings at).by ≡ c
+  pub place : (naming_at namings at).place ≡ j
 
--- the namings of agents below a number, by all lists before b's and by the first k places of b's, in this order
-pub record AreNamings (agents : ℕ) (others : List (List ℕ)) (b k : ℕ) (newest : List (Option ℕ)) (all : List Naming) : Type 0 where
-  pub one_each : length newest ≡ agents
-  pub few : length all ≤ sum_by (λ list. length list) (take b others) + k
-  pub on_list : (e : ℕ) → e < length all → (naming_at all e).place < length (row others (naming_at all e).by)
-  pub earlier : (e : ℕ) → e < length all → (naming_at all e).by ≤ b
-  pub here : (e : ℕ) → e < length all → (naming_at all e).by ≡ b → (naming_at all e).place < k
-  pub ordered : (e f : ℕ) → e < f → f < length all → (naming_at all e).by ≡ (naming_at all f).by
-      → (naming_at all e).place < (naming_at all f).place
-  pub listed_earlier : (c j : ℕ) → c < b → j < length (row others c) → entry others c j < agents → IsNamed all c j
-  pub listed_here : (j : ℕ) → j < k → j < length (row others b) → entry others b j < agents → IsNamed all b j
-  pub newest_of : (a : ℕ) → a < agents → IsNewest others all a (length all) (slice_index_or newest a None)
-  pub older_of : (e : ℕ) → e < length all → IsNewest others all (named_at others all e) e (naming_at all e).older
+-- the namings of a by all lists before b's and by the first k places of b's, the places of a list in rising order
+pub record AreNamingsOf (others : List (List ℕ)) (b k a : ℕ) (namings : List Naming) : Type 0 where
+  pub on_list : (e : ℕ) → e < length namings → (naming_at namings e).place < length (row others (naming_at namings e).by)
+  pub named : (e : ℕ) → e < length namings → entry others (naming_at namings e).by (naming_at namings e).place ≡ a
+  pub earlier : (e : ℕ) → e < length namings → (naming_at namings e).by ≤ b
+  pub here : (e : ℕ) → e < length namings → (naming_at namings e).by ≡ b → (naming_at namings e).place < k
+  pub ordered : (e f : ℕ) → e < f → f < length namings → (naming_at namings e).by ≡ (naming_at namings f).by
+      → (naming_at namings e).place < (naming_at namings f).place
+  pub listed_earlier : (c j : ℕ) → c < b → j < length (row others c) → entry others c j ≡ a → IsNamed namings c j
+  pub listed_here : (j : ℕ) → j < k → j < length (row others b) → entry others b j ≡ a → IsNamed namings b j
 
--- what one more naming makes of the namings
-pub record IsAdded (newest : List (Option ℕ)) (all : List Naming) (newest' : List (Option ℕ)) (all' : List Naming) (named by place : ℕ) : Type 0 where
-  pub newest_is : newest' ≡ slice_set newest named (Some (length all))
-  pub all_is : all' ≡ all ++ record { by = by; place = place; older = slice_index_or newest named None } ∷ []
+-- the same of each agent below a number
+pub record AreNamings (agents : ℕ) (others : List (List ℕ)) (b k : ℕ) (lists : List (List Naming)) : Type 0 where
+  pub one_each : length lists ≡ agents
+  pub of : (a : ℕ) → a < agents → AreNamingsOf others b k a (namings_of lists a)
+
+-- the first naming by c is at place j
+pub record IsFirstNaming (namings : List Naming) (c j : ℕ) : Type 0 where
+  pub at : ℕ
+  pub there : at < length namings
+  pub by : (naming_at namings at).by ≡ c
+  pub place : (naming_at namings at).place ≡ j
+  pub before : (e : ℕ) → e < at → (naming_at namings e).by ≢ c
 
 -- what stands for a note past the last
 abbrev pub no_note : Note
@@ -55,6 +59,13 @@ no_note = record { stamp = 0; place = 0 }
 -- the note of b
 abbrev pub note_of : List Note → ℕ → Note
 note_of notes b = slice_index_or notes b no_note
+
+-- whoever makes one of the first n namings is noted in a's turn with the place of the first, and nobody else is noted in
+-- that turn, or in a later one
+pub record AreNotesOf (namings : List Naming) (n a : ℕ) (notes : List Note) : Type 0 where
+  pub latest : (b : ℕ) → (note_of notes b).stamp ≤ a + 1
+  pub noted : (e : ℕ) → e < n → (note_of notes (naming_at namings e).by).stamp ≡ a + 1
+  pub first : (b : ℕ) → (note_of notes b).stamp ≡ a + 1 → IsFirstNaming namings b (note_of notes b).place
 
 -- each agent of the other side that names a is noted in a's turn with the first place, and no other agent is noted in
 -- that turn, or in a later one

@@ -1,34 +1,26 @@
 //! Cross positions, and the faults that stand in their way.
 //!
-//! The lists of the other side are turned over first, into who names each agent and where. The namings of an agent
-//! form a chain, newest first. Then each agent's list is walked with its namings noted by who names it.
+//! The lists of the other side are turned over first, into one vector for each agent of who names it and where. Then
+//! each agent's list is walked with its namings noted by who names it.
 
-ghost use Rattle.std.specs.Prelude.{◌≡◌, ◌≢◌, ℕ, ◌+◌, ◌<◌, ◌≤◌, ◌^◌, length, IfOk, IfErr, OnOk, MatchOption, slice_index};
+ghost use Rattle.std.specs.Prelude.{◌≡◌, ◌≢◌, ℕ, ◌+◌, ◌<◌, ◌≤◌, ◌^◌, length, IfOk, IfErr, OnOk, MatchOption, replicate, [], slice_index};
 ghost use Rattle.sm_market.specs.Lists.{row, entry, place_of};
 ghost use Rattle.sm_market.specs.Vectors.{rows_of};
 ghost use Rattle.sm_market.specs.Limits.{AreWithinLimits};
 ghost use Rattle.sm_market.specs.Crosses.{AreCrosses};
 ghost use Rattle.sm_market.specs.Entries.{IsSound, AreSound};
 ghost use Rattle.sm_market.specs.MarketFaults.{IsFirstFaultOf};
-ghost use Rattle.sm_market.specs.Namings.{IsAdded, AreNamings, AreNoted, AreCrossesOf, note_of};
+ghost use Rattle.sm_market.specs.Namings.{namings_in, naming_at, AreNamings, AreNotesOf, AreNoted, AreCrossesOf, note_of};
 
 use crate::faults::{MarketFault, Side};
 use crate::rows::list_at;
 use std::alloc::{AllocError, Global};
 
-/// That an agent of the other side names a certain agent, at a place of its list; and the naming of that agent before.
+/// That an agent of the other side names a certain agent, at a place of its list.
 #[derive(Clone, Copy, Debug)]
 struct Naming {
     by: u32,
     place: u32,
-    older: Option<u32>,
-}
-
-/// All namings in the order of the lists, and the newest one of each agent.
-#[derive(Debug, Drop)]
-struct Namings {
-    all: Vec<Naming>,
-    newest: Vec<Option<u32>>,
 }
 
 /// The first place at which an agent of the other side names the agent whose turn it is; of an earlier turn where the
@@ -63,87 +55,82 @@ pub(crate) fn crosses(
     ensures sound { OnOk result (AreSound (rows_of rows.now) (rows_of others.now)) }
     ensures fault { IfErr result (λ f. IsFirstFaultOf side (rows_of rows.now) (rows_of others.now) f) }
 {
-    let namings = namings_of(alloc, rows.len() as u32, others)?;
+    let namings = namings_of(alloc, rows, others)?;
     let mut notes = vec![in alloc; Note { stamp: 0, place: 0 }; others.len()]?;
     let mut met = vec![in alloc; 0; others.len()]?;
     let mut crosses = Vec::with_capacity(alloc, rows.len())?;
     let notes = notes.as_mut_slice();
     let met = met.as_mut_slice();
     for a in 0..rows.len() as u32 {
-        note_chain(&namings, a, others, notes);
+        note_namings(&namings[a as usize], a, notes);
         crosses.push(crosses_of(alloc, side, a, rows, others, notes, met)?)?;
     }
     Ok(crosses)
 }
 
-/// Who names each of the agents of one side, by the lists of the other side.
-fn namings_of(alloc: Global, agents: u32, others: &[Vec<u32>]) -> Result<Namings, AllocError>
+/// Who names each agent that has one of the lists in `rows`, and where, by the lists of the other side.
+fn namings_of(
+    alloc: Global,
+    rows: &[Vec<u32>],
+    others: &[Vec<u32>],
+) -> Result<Vec<Vec<Naming>>, AllocError>
     requires limits { AreWithinLimits (rows_of others.now) }
-    ensures { IfOk result (λ n. AreNamings agents (rows_of others.now) (length (rows_of others.now)) 0
-        n.newest.items n.all.items) }
+    ensures { IfOk result (λ n. AreNamings (length rows.now) (rows_of others.now) (length (rows_of others.now)) 0
+        (namings_in n.items)) }
 {
-    let entries = others.iter().map(|list| list.len()).sum();
-    let mut namings = Namings {
-        all: Vec::with_capacity(alloc, entries)?,
-        newest: vec![in alloc; None; agents as usize]?,
-    };
+    let mut namings = room_for(alloc, rows)?;
     for by in 0..others.len() as u32 {
         add_namings(&mut namings, by, others)?;
     }
     Ok(namings)
 }
 
+/// No namings yet, with room for as many of each agent as its list is long, which is how often a market names it.
+fn room_for(alloc: Global, rows: &[Vec<u32>]) -> Result<Vec<Vec<Naming>>, AllocError>
+    ensures { IfOk result (λ n. namings_in n.items ≡ replicate (length rows.now) []) }
+{
+    let mut namings = Vec::with_capacity(alloc, rows.len())?;
+    for row in rows {
+        namings.push(Vec::with_capacity(alloc, row.len())?)?;
+    }
+    Ok(namings)
+}
+
 /// Adds the namings of one list.
-fn add_namings(namings: &mut Namings, by: u32, others: &[Vec<u32>]) -> Result<(), AllocError>
+fn add_namings(namings: &mut [Vec<Naming>], by: u32, others: &[Vec<u32>]) -> Result<(), AllocError>
     requires limits { AreWithinLimits (rows_of others.now) }
     requires in_range { by < length others.now }
-    requires before { AreNamings (length namings.old.newest.items) (rows_of others.now) by 0
-        namings.old.newest.items namings.old.all.items }
-    ensures after { OnOk result (AreNamings (length namings.old.newest.items) (rows_of others.now) (by + 1) 0
-        namings.new.newest.items namings.new.all.items) }
+    requires before { AreNamings (length namings.old) (rows_of others.now) by 0 (namings_in namings.old) }
+    ensures after { OnOk result (AreNamings (length namings.old) (rows_of others.now) (by + 1) 0
+        (namings_in namings.new)) }
 {
     let list = list_at(others, by);
     for place in 0..list.len() as u32 {
-        let named = list[place as usize];
-        if (named as usize) < namings.newest.len() {
-            add(namings, named, by, place)?;
+        let named = list[place as usize] as usize;
+        if named < namings.len() {
+            namings[named].push(Naming { by, place })?;
         }
     }
     Ok(())
 }
 
-/// Adds one naming.
-fn add(namings: &mut Namings, named: u32, by: u32, place: u32) -> Result<(), AllocError>
-    requires in_range { named < length namings.old.newest.items }
-    requires few { length namings.old.all.items < 2 ^ 24 }
-    ensures { OnOk result (IsAdded namings.old.newest.items namings.old.all.items
-        namings.new.newest.items namings.new.all.items named by place) }
-{
-    let older = namings.newest[named as usize];
-    let number = namings.all.len() as u32;
-    namings.all.push(Naming { by, place, older })?;
-    namings.newest[named as usize] = Some(number);
-    Ok(())
-}
-
-/// Notes the first place at which each agent of the other side names `a`.
-fn note_chain(namings: &Namings, a: u32, others: &[Vec<u32>], notes: &mut [Note])
-    requires in_range { a < length namings.now.newest.items }
+/// Notes, in the turn of `a`, whoever makes one of the namings of `a`, with the place of its first naming.
+fn note_namings(namings: &[Naming], a: u32, notes: &mut [Note])
     requires small { a < 2 ^ 24 }
-    requires namings { AreNamings (length namings.now.newest.items) (rows_of others.now) (length (rows_of others.now)) 0
-        namings.now.newest.items namings.now.all.items }
-    requires one_each { length notes.old ≡ length (rows_of others.now) }
+    requires in_range { (e : ℕ) → e < length namings.now → (naming_at namings.now e).by < length notes.old }
     requires earlier { (b : ℕ) → (note_of notes.old b).stamp ≤ a }
-    ensures { AreNoted (rows_of others.now) a notes.new }
+    ensures one_each { length notes.new ≡ length notes.old }
+    ensures noted { AreNotesOf namings.now (length namings.now) a notes.new }
 {
-    let mut next = namings.newest[a as usize];
-    while let Some(number) = next {
-        let naming = namings.all[number as usize];
-        notes[naming.by as usize] = Note {
-            stamp: a + 1,
-            place: naming.place,
-        };
-        next = naming.older;
+    let stamp = a + 1;
+    for naming in namings {
+        let by = naming.by as usize;
+        if notes[by].stamp != stamp {
+            notes[by] = Note {
+                stamp,
+                place: naming.place,
+            };
+        }
     }
 }
 
