@@ -13,22 +13,22 @@ abbrev pub all_below : ℕ → (ℕ → Bool) → Bool
 all_below zero f = true
 all_below (suc n) f = all_below n f && f n
 
-and_left : (a b : Bool) → (a && b) ≡ true → a ≡ true
+pub and_left : (a b : Bool) → (a && b) ≡ true → a ≡ true
 and_left true b e = refl
 and_left false b e = e
 
-and_right : (a b : Bool) → (a && b) ≡ true → b ≡ true
+pub and_right : (a b : Bool) → (a && b) ≡ true → b ≡ true
 and_right true b e = e
 and_right false b e = grind arith
 
-passes : (n : ℕ) (f : ℕ → Bool) → all_below n f ≡ true → (i : ℕ) → i < n → f i ≡ true
+pub passes : (n : ℕ) (f : ℕ → Bool) → all_below n f ≡ true → (i : ℕ) → i < n → f i ≡ true
 passes zero f e i h = absurd (omega arith)
 passes (suc n) f e i h = elim (eq_or_ne i n) [
   | inl x ↦ ap f x ∙ and_right (all_below n f) (f n) e
   | inr x ↦ passes n f (and_left (all_below n f) (f n) e) i (omega arith)
 ]
 
-not_true : (b : Bool) → not b ≡ true → b ≡ true → ⊥
+pub not_true : (b : Bool) → not b ≡ true → b ≡ true → ⊥
 not_true true e x = grind arith
 not_true false e x = grind arith
 
@@ -61,7 +61,7 @@ abbrev pub is_at : Option ℕ → ℕ → Bool
 is_at None i = false
 is_at (Some k) i = eqb k i
 
-is_at_pass : (o : Option ℕ) (i : ℕ) → is_at o i ≡ true → o ≡ Some i
+pub is_at_pass : (o : Option ℕ) (i : ℕ) → is_at o i ≡ true → o ≡ Some i
 is_at_pass None i e = grind arith
 is_at_pass (Some k) i e = ap Some (eqb-true k i e)
 
@@ -72,7 +72,7 @@ place_test rows others theirs a (Some i) = nat_lt i (length (row rows a)) && is_
 abbrev pub places_test : List (List ℕ) → List (List ℕ) → List (Option ℕ) → List (Option ℕ) → Bool
 places_test rows others places theirs = eqb (length places) (length rows) && all_below (length rows) (λ a. place_test rows others theirs a (held places a))
 
-none_some : {x : ℕ} → ◌≡◌ {A = Option ℕ} None (Some x) → ⊥
+pub none_some : {x : ℕ} → ◌≡◌ {A = Option ℕ} None (Some x) → ⊥
 none_some e = grind arith
 
 places_pass : (rows others : List (List ℕ)) (places theirs : List (Option ℕ)) → places_test rows others places theirs ≡ true → AreHeldInTurn rows others places theirs
@@ -118,7 +118,7 @@ abbrev successor_test : Lists → Places → ℕ → ℕ → Bool
 successor_test l m p i = nat_lt i (length (row l.proposers p)) && (nat_lt (standing l.proposers m.proposers p) i && (takes_test l m p i
     && (all_below i (λ j. not (nat_lt (standing l.proposers m.proposers p) j && takes_test l m p j)) && is_some (held m.reviewers (entry l.proposers p i)))))
 
-both : (a b : Bool) → a ≡ true → b ≡ true → (a && b) ≡ true
+pub both : (a b : Bool) → a ≡ true → b ≡ true → (a && b) ≡ true
 both true true x y = refl
 both true false x y = y
 both false b x y = x

@@ -6,5 +6,14 @@ pub mod ClosedSets
 pub mod Vectors
 pub mod Weights
 pub mod Laws
+pub mod Rooms
+pub mod Partitions
+pub mod LawsRooms
+pub mod Net
+pub mod Flows
+pub mod Conditions
+pub mod LawsFlows
 pub mod Witnesses
+pub mod WitnessesFlows
+pub mod WitnessesRooms
 pub mod Values

@@ -1,7 +1,10 @@
-//! The laws of the lattice of stable matchings, of rotations and of closed sets. Each function does nothing: its contract
-//! is the law, a statement over the definitions alone, for all markets and all matchings.
+//! The laws of the lattice of stable matchings, of rotations and of closed sets, of flows and the lightest matching, and of
+//! roommates. Each function does nothing: its contract is the law, a statement over the definitions alone, for all markets
+//! and all matchings.
 
 ghost use Rattle.sm_market.specs.Laws.{SameAgents};
+ghost use Rattle.sm_theory.specs.LawsFlows.{NoFlowAboveCut, ReachIsLeastCut, CutsAreAllowed, LeastCutIsLightest, ReachIsBestLightest, PathWhereNothing};
+ghost use Rattle.sm_theory.specs.LawsRooms.{OddPartyExcludes, SameOddParties, SamePersons, PartiesPair, EvenPartiesPair, RestIsStable};
 ghost use Rattle.sm_theory.specs.Laws.{MeetIsStable, JoinIsStable, PairIsDivided, Dichotomy, EliminationIsStable, NothingExposed, NothingExposedBack, BestIsUnique, PredecessorIsEarlier, SetsAreMatchings, ExposedWhereReady, AllInTheChain, MeetKeepsBounds, WeightIsSumOfGains, LevelsDetermine};
 
 /// The meet of two stable matchings is stable, and each proposer stands in it as in the better of the two
@@ -91,4 +94,69 @@ pub fn weight_is_sum_of_gains()
 /// level vector determines its stable matching.
 pub fn levels_determine()
     ensures { LevelsDetermine }
+{}
+
+/// No flow is greater than a cut (Ford and Fulkerson 1956).
+pub fn no_flow_above_cut()
+    ensures { NoFlowAboveCut }
+{}
+
+/// Where no residual step leaves the reach of a flow, the reach is a least cut, its cut is the flow's value, and it lies
+/// inside every least cut (Ford and Fulkerson 1956).
+pub fn reach_is_least_cut()
+    ensures { ReachIsLeastCut }
+{}
+
+/// In the net of gains, predecessors and conditions, the sets that no unbounded edge leaves are exactly the closed sets
+/// whose matching is allowed (Gusfield and Irving 1989, chapter 3).
+pub fn cuts_are_allowed()
+    ensures { CutsAreAllowed }
+{}
+
+/// In that net a closed set is a least cut exactly where its matching is allowed and none that is allowed is lighter
+/// (Irving, Leather and Gusfield 1987).
+pub fn least_cut_is_lightest()
+    ensures { LeastCutIsLightest }
+{}
+
+/// In that net, where no residual step leaves the reach of a flow, the matching of the reach is a lightest allowed one, and
+/// no proposer does better in another.
+pub fn reach_is_best_lightest()
+    ensures { ReachIsBestLightest }
+{}
+
+/// In that net a path of unbounded edges leads from the source to the sink exactly where no stable matching is allowed.
+pub fn path_where_nothing()
+    ensures { PathWhereNothing }
+{}
+
+/// Persons who have a stable partition with an odd party of three or more have no stable matching (Tan 1991).
+pub fn odd_party_excludes()
+    ensures { OddPartyExcludes }
+{}
+
+/// Two stable partitions have the same odd parties (Tan 1991).
+pub fn same_odd_parties()
+    ensures { SameOddParties }
+{}
+
+/// The same persons are matched in all stable matchings of roommates (Gusfield and Irving 1989, section 4.5).
+pub fn same_persons()
+    ensures { SamePersons }
+{}
+
+/// The persons of each party of a stable partition can be paired alternately, with the lowest of each odd party left out.
+pub fn parties_pair()
+    ensures { PartiesPair }
+{}
+
+/// Where no party of a stable partition is odd, pairing each party alternately gives a stable matching (Tan 1991).
+pub fn even_parties_pair()
+    ensures { EvenPartiesPair }
+{}
+
+/// With the lowest of each odd party left out, pairing the others alternately gives a matching that no pair of those who
+/// stay blocks (Tan 1991).
+pub fn rest_is_stable()
+    ensures { RestIsStable }
 {}

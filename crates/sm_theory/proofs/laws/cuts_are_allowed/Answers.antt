@@ -1,0 +1,5 @@
+use Rattle.sm_theory.proofs.NetCuts.{cuts_are_allowed}
+use Rattle.sm_theory.proofs.laws.cuts_are_allowed.Goals as goal
+
+pub returns : goal.returns
+returns c = cuts_are_allowed

@@ -1,0 +1,5 @@
+use Rattle.sm_theory.proofs.LawsRoommates.{even_parties_pair}
+use Rattle.sm_theory.proofs.laws.even_parties_pair.Goals as goal
+
+pub returns : goal.returns
+returns c = even_parties_pair

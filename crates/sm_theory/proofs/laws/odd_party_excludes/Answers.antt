@@ -1,0 +1,5 @@
+use Rattle.sm_theory.proofs.LawsRoommates.{odd_party_excludes}
+use Rattle.sm_theory.proofs.laws.odd_party_excludes.Goals as goal
+
+pub returns : goal.returns
+returns c = odd_party_excludes

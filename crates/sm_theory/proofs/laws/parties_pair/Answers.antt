@@ -1,0 +1,5 @@
+use Rattle.sm_theory.proofs.RoomPairing.{parties_pair}
+use Rattle.sm_theory.proofs.laws.parties_pair.Goals as goal
+
+pub returns : goal.returns
+returns c = parties_pair

@@ -1,0 +1,5 @@
+use Rattle.sm_theory.proofs.LawsWeighing.{path_where_nothing}
+use Rattle.sm_theory.proofs.laws.path_where_nothing.Goals as goal
+
+pub returns : goal.returns
+returns c = path_where_nothing

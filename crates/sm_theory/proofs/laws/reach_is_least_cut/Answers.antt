@@ -1,0 +1,5 @@
+use Rattle.sm_theory.proofs.FlowCuts.{reach_is_least_cut}
+use Rattle.sm_theory.proofs.laws.reach_is_least_cut.Goals as goal
+
+pub returns : goal.returns
+returns c = reach_is_least_cut

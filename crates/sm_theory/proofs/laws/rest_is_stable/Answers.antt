@@ -1,0 +1,5 @@
+use Rattle.sm_theory.proofs.LawsRoommates.{rest_is_stable}
+use Rattle.sm_theory.proofs.laws.rest_is_stable.Goals as goal
+
+pub returns : goal.returns
+returns c = rest_is_stable

@@ -1,0 +1,5 @@
+use Rattle.sm_theory.proofs.LawsRoommates.{same_odd_parties}
+use Rattle.sm_theory.proofs.laws.same_odd_parties.Goals as goal
+
+pub returns : goal.returns
+returns c = same_odd_parties

@@ -1,0 +1,5 @@
+use Rattle.sm_theory.proofs.LawsRoommates.{same_persons}
+use Rattle.sm_theory.proofs.laws.same_persons.Goals as goal
+
+pub returns : goal.returns
+returns c = same_persons

@@ -1,0 +1,5 @@
+use Rattle.sm_theory.proofs.FlowWitness.{barred_net_is}
+use Rattle.sm_theory.proofs.witnesses.barred_net.Goals as goal
+
+pub returns : goal.returns
+returns c = barred_net_is

@@ -1,0 +1,46 @@
+-- A net that is written out, and what is known of its flows and cuts.
+use Rattle.std.specs.Prelude.{◌≡◌, ℕ, zero, suc, true, List, [], ◌∷◌, ℤ, pos, negsuc}
+use Rattle.sm_theory.specs.ClosedSets.{matching_of}
+use Rattle.sm_theory.specs.Weights.{weight_of}
+use Rattle.sm_theory.specs.Witnesses.{three_cycle, three_cycle_first, three_cycle_chain}
+use Rattle.sm_theory.specs.Net.{Net, sink_of, IsUnbounded, NoneLeaves, cut_of, IsReachable}
+use Rattle.sm_theory.specs.Flows.{IsFlow, flow_value, IsResidualStep, IsResidualReach}
+use Rattle.sm_theory.specs.Conditions.{net_of, IsNetGround}
+
+-- the places of the three proposers and being unmatched, as ranks
+abbrev pub three_cycle_levels : List (List ℕ)
+three_cycle_levels = (1 ∷ 2 ∷ 3 ∷ 4 ∷ []) ∷ (1 ∷ 2 ∷ 3 ∷ 4 ∷ []) ∷ (1 ∷ 2 ∷ 3 ∷ 4 ∷ []) ∷ []
+
+-- proposer 0 weighs 4 at its second place and -10 at its third
+abbrev pub three_cycle_weights : List (List ℤ)
+three_cycle_weights = (pos 0 ∷ pos 4 ∷ negsuc 9 ∷ []) ∷ (pos 0 ∷ pos 0 ∷ pos 0 ∷ []) ∷ (pos 0 ∷ pos 0 ∷ pos 0 ∷ []) ∷ []
+
+abbrev pub three_cycle_needs : List (List ℕ)
+three_cycle_needs = [] ∷ (0 ∷ []) ∷ []
+
+abbrev pub three_cycle_net : Net
+three_cycle_net = net_of three_cycle three_cycle_levels three_cycle_weights [] [] three_cycle_first three_cycle_chain three_cycle_needs
+
+-- 4 from the source by the second rotation and the first to the sink
+abbrev pub three_cycle_flow : ℕ → ℕ → ℕ
+three_cycle_flow zero (suc (suc zero)) = 4
+three_cycle_flow (suc (suc zero)) (suc zero) = 4
+three_cycle_flow (suc zero) (suc (suc (suc zero))) = 4
+three_cycle_flow i j = 0
+
+-- its value and the cut of its reach are 4, the reach has both rotations, and the matching weighs -10
+abbrev pub WorkedNet : Type 0
+WorkedNet = IsNetGround three_cycle three_cycle_levels three_cycle_first three_cycle_chain three_cycle_needs
+    × IsFlow three_cycle_net three_cycle_flow
+    × (flow_value three_cycle_net three_cycle_flow ≡ 4)
+    × IsResidualReach three_cycle_net three_cycle_flow (true ∷ true ∷ [])
+    × NoneLeaves three_cycle_net (IsResidualStep three_cycle_net three_cycle_flow) (true ∷ true ∷ [])
+    × (cut_of three_cycle_net (true ∷ true ∷ []) ≡ 4)
+    × (weight_of three_cycle three_cycle_weights (matching_of three_cycle three_cycle_first three_cycle_chain (true ∷ true ∷ [])) ≡ negsuc 9)
+
+-- where proposer 0 may have none of its three levels, unbounded edges lead from the source to the sink
+abbrev pub barred_net : Net
+barred_net = net_of three_cycle three_cycle_levels three_cycle_weights [] ((0, 1) ∷ (0, 2) ∷ (0, 3) ∷ []) three_cycle_first three_cycle_chain three_cycle_needs
+
+abbrev pub BarredNet : Type 0
+BarredNet = IsReachable (IsUnbounded barred_net) 0 (sink_of barred_net)
