@@ -1,13 +1,19 @@
 -- The lines of a plain text.
 use Rattle.std.proofs.Common.{◌≡◌, ℕ, suc, ◌+◌, ◌-◌, ◌<◌, ◌≤◌, List, [], ◌∷◌, ◌++◌, length, take, drop, map, Option, None, Some, refl, sym, ap, ◌∙◌, append_assoc, length-append, arith}
 use Rattle.std.proofs.lemmas.List.{drop-drop, map_push}
+use Rattle.std.proofs.lemmas.Iterator.{YieldsList}
+use Rattle.std.proofs.lemmas.Iterator.Adapters.{fact_from_extend}
+use Rattle.std.proofs.lemmas.Iterator.Consumers.{YieldsList-at}
+use Rattle.std.specs.Borrow.{Bor}
+use Rattle.std.specs.Iterator.{Drains, Yields}
+use Rattle.std.specs.Prelude.{Result, MatchResult, OnOk}
 use Rattle.std.specs.Option.{option_map_or}
 use Rattle.sm_text.specs.Lines.{content, first_line, lines, IsLineAt}
 use Rattle.sm_text.specs.declared.lines.LineSpan.{LineSpan}
 use Rattle.sm_text.proofs.LineLemmas.{line_text, lines_at}
 use Rattle.sm_top.specs.declared.plain.Agent.{Agent}
 use Rattle.sm_top.specs.Plain.{Declared, declared}
-use Rattle.sm_top.specs.Reading.{agent_of, contents_from, declared_first}
+use Rattle.sm_top.specs.Reading.{agent_of, contents_from, declared_first, texts_of}
 
 -- the line at a place and those behind it
 pub contents_first : (bytes : List ℕ) (from : ℕ) (span : LineSpan) → IsLineAt bytes from span
@@ -41,3 +47,11 @@ pub rest_more : (all here next : List (List ℕ)) (line : List ℕ) (side : List
 rest_more all here next line side agent rest first =
     let count : length side + 1 ≡ length (side ++ agent ∷ []) = omega (arith, length-append side (agent ∷ [])) in
     ap (drop 1) (sym first ∙ rest) ∙ drop-drop 1 (length side) all ∙ ap (λ n. drop n all) count
+
+-- what a vector holds that held nothing, once the slices that a source gives were put behind it
+pub extended_texts : {S E : Type 0} {steps : S → Option (Bor (List ℕ)) → S → Type 0} {s : S} {all : List (List ℕ)} {old new : List (Bor (List ℕ))} {Room Size : List (Bor (List ℕ)) → Type 0}
+    (r : Result (Unit {0}) E) → old ≡ []
+    → ((it : S) × (xs : List (Bor (List ℕ))) × (it ≡ s) × ((new ≡ old ++ xs) × Size xs × Room xs) × MatchResult r (λ _. Drains steps it xs) (λ _. (t : S) × Yields steps it xs t))
+    → YieldsList steps (λ x. x.now) s all → OnOk r (texts_of new ≡ all)
+extended_texts r none ran road =
+    fact_from_extend (λ x. x.now) r ran (λ it b. YieldsList-at b road) (λ xs e h. ap texts_of (h.0 ∙ ap (λ t. t ++ xs) none) ∙ e)

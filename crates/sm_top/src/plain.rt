@@ -1,6 +1,6 @@
 //! Plain texts: a header, a line for each proposer, a line for each reviewer, and `end`, with no comment and no blank line.
 
-ghost use Rattle.std.specs.Prelude.{◌≡◌, ◌≢◌, ◌-◌, ◌^◌, min, ◌↔◌, ◌<◌, ◌∷◌, [], codes, IsTrue, length, drop, map, IfOk, MatchOption};
+ghost use Rattle.std.specs.Prelude.{◌≡◌, ◌≢◌, ◌-◌, ◌^◌, min, ◌↔◌, ◌<◌, ◌∷◌, [], codes, IsTrue, length, drop, map, IfOk, OnOk, MatchOption};
 ghost use Rattle.std.specs.List.{slice_split, list_all};
 ghost use Rattle.std.specs.Option.{option_map};
 ghost use Rattle.std.specs.Prelude.{◌==◌};
@@ -182,11 +182,12 @@ fn line_from<'a>(bytes: &'a [u8], from: usize) -> Option<(&'a [u8], usize)>
     Some((&bytes[start..stop], next))
 }
 
-// The fields of a line, cut at each blank.
-fn fields<'a>(alloc: Global, line: &'a [u8]) -> Result<Vec<&'a [u8]>, AllocError>
-    ensures { IfOk result (λ v. texts_of v.items ≡ slice_split (λ b. b == 32) line.now) }
+// The fields of a line, cut at each blank, instead of what the vector holds.
+fn cut<'a>(line: &'a [u8], fields: &mut Vec<&'a [u8]>) -> Result<(), AllocError>
+    ensures { OnOk result (texts_of fields.new.items ≡ slice_split (λ b. b == 32) line.now) }
 {
-    line.split(|b| *b == b' ').collect(alloc)
+    fields.clear();
+    fields.extend(line.split(|b| *b == b' '))
 }
 
 // Are these all names?
@@ -211,11 +212,16 @@ fn declared_name<'a>(field: &'a [u8]) -> Option<&'a [u8]>
     }
 }
 
-// The agent that a line declares behind its letter.
-fn declare<'a>(alloc: Global, letter: u8, line: &'a [u8]) -> Result<Option<Agent<'a>>, AllocError>
+// The agent that a line declares behind its letter. Its fields are cut into a vector that serves one line after the other.
+fn declare<'a>(
+    alloc: Global,
+    letter: u8,
+    line: &'a [u8],
+    fields: &mut Vec<&'a [u8]>,
+) -> Result<Option<Agent<'a>>, AllocError>
     ensures { IfOk result (λ agent. option_map agent_of agent ≡ declared letter line.now) }
 {
-    let fields = fields(alloc, line)?;
+    cut(line, fields)?;
     match fields.as_slice() {
         [first, second, entries @ ..] if *first == [letter].as_slice() && are_names(entries) => {
             match declared_name(second) {
@@ -241,9 +247,10 @@ fn declare_side<'a>(
     ensures rest { IfOk result (λ r. contents_from bytes.now r.1 ≡ drop (length r.0.items) (contents_from bytes.now from)) }
 {
     let mut side = Vec::new(alloc);
+    let mut fields = Vec::new(alloc);
     let mut at = from;
     'lines: while let Some((line, next)) = line_from(bytes, at) {
-        let Some(agent) = declare(alloc, letter, line)? else {
+        let Some(agent) = declare(alloc, letter, line, &mut fields)? else {
             break
         };
         side.push(agent)?;
