@@ -1,7 +1,7 @@
 -- Names, their numbers, and whether they differ.
-use Rattle.std.proofs.Common.{◌≡◌, ◌≢◌, ℕ, suc, ◌+◌, ◌-◌, ◌<◌, ◌≤◌, ◌||◌, Bool, true, false, not, cond, ltb, List, [], ◌∷◌, ◌++◌, length, get_or, take, drop, map, Option, None, Some, refl, sym, ap, ◌∙◌, subst, arith, rules, AllPairs, inl, inr, Vec}
+use Rattle.std.proofs.Common.{◌≡◌, ◌≢◌, ℕ, ◌+◌, ◌<◌, ◌≤◌, ◌||◌, Bool, true, false, not, cond, List, [], ◌∷◌, ◌++◌, length, get_or, take, map, None, Some, refl, sym, ap, ◌∙◌, subst, arith, AllPairs, inl, inr, Vec}
 use Rattle.std.specs.Borrow.{Bor}
-use Rattle.std.specs.List.{list_any, position, position_or_len, prefix_len}
+use Rattle.std.specs.List.{list_any, position, position_or_len}
 use Rattle.std.specs.Str.{bytes_eq}
 use Rattle.std.proofs.lemmas.Slice.Eq.{bytes_eq-Decides}
 use Rattle.std.proofs.lemmas.List.{get_or-take, get_or_default, length-take, length-map, get_or-map, map_push, take_more}
@@ -9,11 +9,10 @@ use Rattle.std.proofs.lemmas.List.Folds.{list_any_at, Any-from_list_any}
 use Rattle.std.proofs.lemmas.List.Quantifiers.{all_pairs_push}
 use Rattle.std.proofs.lemmas.Bool.{false≢true, cases_lt}
 use Rattle.std.proofs.lemmas.Bool.Decides.{nat_tests}
-use Rattle.std.proofs.lemmas.Grind.{common_steps}
 use Rattle.sm_top.specs.declared.plain.Agent.{Agent}
 use Rattle.sm_top.specs.Plain.{Declared, names_of, number_of, numbered}
 use Rattle.sm_market.specs.Vectors.{rows_of}
-use Rattle.sm_top.specs.Reading.{texts_of, agent_of, HasUnknown, HasUnknownName}
+use Rattle.sm_top.specs.Reading.{texts_of, list_of, agent_of, HasUnknown, HasUnknownName}
 use Rattle.std.specs.declared.alloc.Global.{Global}
 
 -- among slices, as among their texts
@@ -56,6 +55,10 @@ not_distinct names i name below here among distinct =
     let before : k < i = omega (arith, found.2, length-take i names) in
     let there : get_or names k [] ≡ x = get_or_default names k [] x (omega arith) ∙ sym (get_or-take i names k x before) ∙ found.3 in
     distinct k i [] before below (there ∙ sym ((bytes_eq-Decides name x).0 found.4) ∙ sym here)
+
+-- what stands for an agent past the last
+abbrev pub no_agent : Agent
+no_agent = let none : Bor (List ℕ) = record { ref_ptr = (0, 0); now = [] } in record { name = none; line = none }
 
 -- the name of the agent at a place
 pub name_here : (side : List Agent) (i : ℕ) (agent : Agent) → i < length side → agent ≡ get_or side i agent → get_or (names_of (map agent_of side)) i [] ≡ agent.name.now
@@ -125,17 +128,17 @@ numbers_more names entries i entry list n below here told known =
 
 -- the numbered list of the agent at a place
 pub list_here : (names : List (List ℕ)) (side : List Agent) (i : ℕ) (agent : Agent) (d : List ℕ) → i < length side → agent ≡ get_or side i agent
-    → get_or (numbered (map agent_of side) names) i d ≡ map (number_of names) (texts_of agent.entries.items)
+    → get_or (numbered (map agent_of side) names) i d ≡ map (number_of names) (list_of agent)
 list_here names side i agent d below here =
     get_or-map (λ (a : Declared). map (number_of names) a.entries) (map agent_of side) i (agent_of agent) d (omega (arith, length-map side agent_of))
     ∙ ap (λ (a : Declared). map (number_of names) a.entries) (get_or-map agent_of side i agent (agent_of agent) below)
-    ∙ ap (λ (a : Agent). map (number_of names) (texts_of a.entries.items)) (sym here)
+    ∙ ap (λ (a : Agent). map (number_of names) (list_of a)) (sym here)
 
 pub length-numbered : (names : List (List ℕ)) (side : List Agent) → length (numbered (map agent_of side) names) ≡ length side
 length-numbered names side = length-map (map agent_of side) (λ (a : Declared). map (number_of names) a.entries) ∙ length-map side agent_of
 
 pub unknown_name_here : (names : List (List ℕ)) (side : List Agent) (i : ℕ) (agent : Agent) (count : ℕ) → i < length side → agent ≡ get_or side i agent
-    → HasUnknown (map (number_of names) (texts_of agent.entries.items)) count → HasUnknownName (numbered (map agent_of side) names) count
+    → HasUnknown (map (number_of names) (list_of agent)) count → HasUnknownName (numbered (map agent_of side) names) count
 unknown_name_here names side i agent count below here unknown = record {
   agent = i;
   of_agent = subst (λ t. HasUnknown t count) (sym (list_here names side i agent [] below here)) unknown;
@@ -143,7 +146,7 @@ unknown_name_here names side i agent count below here unknown = record {
 
 -- one more list
 pub lists_more : (names : List (List ℕ)) (side : List Agent) (i : ℕ) (agent : Agent) (lists : List (Vec ℕ Global)) (list : Vec ℕ Global) → i < length side → agent ≡ get_or side i agent
-    → rows_of lists ≡ take i (numbered (map agent_of side) names) → list.items ≡ map (number_of names) (texts_of agent.entries.items)
+    → rows_of lists ≡ take i (numbered (map agent_of side) names) → list.items ≡ map (number_of names) (list_of agent)
     → rows_of (lists ++ list ∷ []) ≡ take (i + 1) (numbered (map agent_of side) names)
 lists_more names side i agent lists list below here told known =
     let all = numbered (map agent_of side) names in

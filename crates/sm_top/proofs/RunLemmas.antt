@@ -1,13 +1,12 @@
 -- From what was read and written to what a run promises.
-use Rattle.std.proofs.Common.{◌≡◌, ◌≢◌, ℕ, ◌+◌, ◌<◌, ◌≤◌, List, [], ◌++◌, length, take, drop, Option, None, Some, Result, Ok, Err, inl, inr, refl, sym, ap, ◌∙◌, subst, length-append, append-nil, arith, IsOk}
+use Rattle.std.proofs.Common.{◌≡◌, ◌≢◌, ℕ, ◌<◌, List, [], ◌++◌, length, take, drop, Option, None, Some, Result, Ok, Err, inl, inr, refl, sym, ap, ◌∙◌, subst, length-append, append-nil, arith, IsOk}
 use Rattle.std.proofs.Math.ListN.{take-append-drop}
-use Rattle.std.specs.Io.KnownBytes.{Consumes, IsAtEnd}
+use Rattle.std.specs.Io.KnownBytes.{Consumes}
 use Rattle.sm_io.specs.Faults.{Rose}
 use Rattle.sm_io.specs.Source.{Agrees}
-use Rattle.sm_io.specs.Sink.{Grows, IsPart}
 use Rattle.sm_io.proofs.SinkLemmas.{Grows-nil}
 use Rattle.sm_text.specs.declared.refusal.RefusalKind.{RefusalKind}
-use Rattle.sm_text.specs.declared.refusal.RefusalKind.TheVariants.{TooLong, NotBuilt}
+use Rattle.sm_text.specs.declared.refusal.RefusalKind.TheVariants.{TooLong}
 use Rattle.sm_top.specs.declared.status.Status.{Status}
 use Rattle.sm_top.specs.declared.status.Status.TheVariants.{Done, Refused, Usage, OutOfMemory, ReadFault, WriteFault}
 use Rattle.sm_top.specs.declared.words.Job.{Job}
@@ -20,7 +19,7 @@ use Rattle.sm_top.specs.declared.words.Job.TheVariants.{Solve}
 use Rattle.sm_top.specs.Outcome.{Outcome, IsRefused, IsAccepted, faulty_words, refused, answered, too_long, not_plain}
 use Rattle.std.proofs.lemmas.Bool.{false≢true}
 use Rattle.sm_top.specs.Plain.{Agents}
-use Rattle.sm_top.specs.Running.{IsFront, IsBeingRead, IsCutShort, Answers, Ends, IsFaultless, IsDoneUnlessNoMemory, AnswersAccepted}
+use Rattle.sm_top.specs.Running.{IsFront, IsBeingRead, Answers, Ends, IsFaultless, IsDoneUnlessNoMemory, AnswersAccepted}
 use Rattle.sm_top.specs.Writing.{Writes, Wrote, WroteFor, status_of}
 
 -- a front of the text of an outcome

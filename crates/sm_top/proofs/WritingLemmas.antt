@@ -1,5 +1,5 @@
 -- What is written piece by piece.
-use Rattle.std.proofs.Common.{◌≡◌, ℕ, zero, suc, inl, inr, Some, append-nil, codes, codes, ◌+◌, ◌<◌, ◌≤◌, List, [], ◌∷◌, ◌++◌, length, get_or, take, drop, Option, Result, Ok, Err, refl, sym, ap, ◌∙◌, subst, append_assoc, arith}
+use Rattle.std.proofs.Common.{◌≡◌, ℕ, zero, suc, inl, inr, Some, append-nil, codes, codes, ◌+◌, ◌<◌, ◌≤◌, List, [], ◌∷◌, ◌++◌, Option, Result, Ok, Err, sym, ap, ◌∙◌, subst, append_assoc, arith}
 use Rattle.std.specs.List.{flat_map, range_with_len}
 use Rattle.std.specs.Option.{option_map_or}
 use Rattle.std.proofs.lemmas.List.Concat.{flat_map-append}
@@ -8,8 +8,7 @@ use Rattle.sm_market.specs.Lists.{entry}
 use Rattle.sm_market.specs.Matching.{Places, held}
 use Rattle.sm_top.specs.Plain.{Agents, names_of, lists_of}
 use Rattle.sm_top.specs.Answer.{name_at, line_of, line_of_pair, pair_text}
-use Rattle.sm_io.specs.Faults.{Rose}
-use Rattle.sm_io.specs.Sink.{Grows, IsPart}
+use Rattle.sm_io.specs.Sink.{Grows}
 use Rattle.sm_io.proofs.FaultLemmas.{Rose-sooner}
 use Rattle.sm_io.proofs.SinkLemmas.{Grows-trans, IsPart-after, IsPart-more}
 use Rattle.sm_top.specs.declared.answer.Unwritten.{Unwritten}

@@ -1,14 +1,12 @@
 -- The lines of a plain text are read back as the agents that they declare.
-use Rattle.std.proofs.Common.{◌≡◌, ℕ, suc, ◌+◌, ◌<◌, ◌≤◌, ◌&&◌, Bool, true, false, cond, List, [], ◌∷◌, ◌++◌, length, take, drop, map, Option, None, Some, refl, sym, ap, ◌∙◌, subst, codes, ◌⊎◌, inl, inr, arith}
-use Rattle.std.specs.List.{list_all, slice_split}
+use Rattle.std.proofs.Common.{◌≡◌, ℕ, cond, List, [], ◌∷◌, ◌++◌, length, take, drop, map, Option, None, Some, refl, sym, ap, ◌∙◌, codes, inl, inr}
 use Rattle.std.specs.Option.{option_map, option_map_or}
 use Rattle.std.specs.Str.{bytes_eq}
 use Rattle.std.proofs.lemmas.Bool.{cases_Bool}
 use Rattle.std.proofs.Math.ListN.{take-append-drop}
 use Rattle.std.proofs.lemmas.Slice.Eq.{bytes_eq-Decides}
 use Rattle.sm_text.specs.Lines.{content, lines}
-use Rattle.sm_text.specs.Name.{is_name}
-use Rattle.sm_top.specs.Plain.{Declared, Agents, IsWritten, declared, from_fields, name_of_field, PROPOSER, REVIEWER}
+use Rattle.sm_top.specs.Plain.{Declared, Agents, IsWritten, fields_of, declared, from_fields, name_of_field, PROPOSER, REVIEWER}
 use Rattle.std.proofs.lemmas.List.{length-map}
 use Rattle.sm_top.specs.declared.plain.Agent.{Agent}
 use Rattle.sm_top.specs.Reading.{agent_of, declared_first}
@@ -22,14 +20,14 @@ other_fields (x ∷ y ∷ entries) agent h =
     elim (cases_Bool (bytes_eq x (REVIEWER ∷ []))) [
       | inl same ↦
           let first : x ≡ REVIEWER ∷ [] = (bytes_eq-Decides x (REVIEWER ∷ [])).0 same in
-          ap (λ t. cond (bytes_eq t (PROPOSER ∷ []) && list_all is_name entries) made None) first
+          ap (λ t. cond (bytes_eq t (PROPOSER ∷ [])) made None) first
       | inr other ↦
-          let none : from_fields REVIEWER (x ∷ y ∷ entries) ≡ None = ap (λ b. cond (b && list_all is_name entries) made None) other in
+          let none : from_fields REVIEWER (x ∷ y ∷ entries) ≡ None = ap (λ b. cond b made None) other in
           absurd (cc)
     ]
 
 pub declares_no_proposer : (line : List ℕ) (agent : Declared) → declared REVIEWER line ≡ Some agent → declared PROPOSER line ≡ None
-declares_no_proposer line agent h = other_fields (slice_split (λ b. Rattle.std.specs.Prelude.◌==◌ b 32) line) agent h
+declares_no_proposer line agent h = other_fields (fields_of line) agent h
 
 -- lines that declare agents, and then a line that declares none
 pub declared_before : (letter : ℕ) (lines behind : List (List ℕ)) (agents : List Declared) → map (declared letter) lines ≡ map Some agents → declared_first letter behind ≡ []

@@ -1,6 +1,6 @@
 -- What a plain text means.
-use Rattle.std.specs.Prelude.{◌≡◌, ◌≢◌, ◌≤◌, ◌+◌, ◌==◌, ◌&&◌, ◌++◌, ℕ, List, [], ◌∷◌, Bool, length, map, codes, take, slice_index, ◌-◌, if◌then◌else◌, Option, Some, None, AllPairs}
-use Rattle.std.specs.List.{slice_split, list_all, position_or_len, sum_by}
+use Rattle.std.specs.Prelude.{◌≡◌, ◌≢◌, ◌≤◌, ◌+◌, ◌==◌, ◌&&◌, ◌++◌, ℕ, List, [], ◌∷◌, length, map, codes, take, slice_index, ◌-◌, if◌then◌else◌, Option, Some, None, AllPairs}
+use Rattle.std.specs.List.{slice_split, position_or_len, sum_by}
 use Rattle.std.specs.Option.{option_map}
 use Rattle.std.specs.Str.{bytes_eq}
 use Rattle.sm_text.specs.Lines.{lines, content}
@@ -37,18 +37,22 @@ name_of_field field =
     let name = take (length field - 1) field in
     if slice_index field (length field - 1) == COLON && is_name name then Some name else None
 
--- the agent that the fields of a line declare: they are the letter, a name with a colon behind it, and names
+-- the agent that the fields of a line declare: they are the letter, a name with a colon behind it, and the list
 abbrev pub from_fields : ℕ → List (List ℕ) → Option Declared
 from_fields letter [] = None
 from_fields letter (first ∷ []) = None
 from_fields letter (first ∷ second ∷ entries) =
-    if bytes_eq first (letter ∷ []) && list_all is_name entries
+    if bytes_eq first (letter ∷ [])
     then option_map (λ name. record { name = name; entries = entries }) (name_of_field second)
     else None
 
--- the agent that a line declares, whose fields are cut at each blank
+-- the fields of a text, which is cut at each blank
+abbrev pub fields_of : List ℕ → List (List ℕ)
+fields_of text = slice_split (λ b. b == BLANK) text
+
+-- the agent that a line declares
 abbrev pub declared : ℕ → List ℕ → Option Declared
-declared letter line = from_fields letter (slice_split (λ b. b == BLANK) line)
+declared letter line = from_fields letter (fields_of line)
 
 -- the lines of a text are the header, a line for each proposer, a line for each reviewer, and `end`
 pub record IsWritten (bytes : List ℕ) (a : Agents) : Type 0 where
@@ -74,9 +78,9 @@ numbered side names = map (λ agent. map (number_of names) agent.entries) side
 abbrev pub lists_of : Agents → Lists
 lists_of a = record { proposers = numbered a.proposers (names_of a.reviewers); reviewers = numbered a.reviewers (names_of a.proposers) }
 
--- how many entries the lists of a side have together
-abbrev pub entry_count : List Declared → ℕ
-entry_count side = sum_by (λ agent. length agent.entries) side
+-- how many entries lists have together
+abbrev pub entries_on : List (List ℕ) → ℕ
+entries_on rows = sum_by (λ list. length list) rows
 
 -- no name is declared twice on a side
 abbrev pub HasDistinctNames : List Declared → Type 0
@@ -86,10 +90,10 @@ HasDistinctNames side = AllPairs ◌≢◌ (names_of side)
 pub record IsWithinLimits (a : Agents) : Type 0 where
   pub proposers : length a.proposers ≤ MOST_AGENTS
   pub reviewers : length a.reviewers ≤ MOST_AGENTS
-  pub entries : entry_count a.proposers + entry_count a.reviewers ≤ MOST_ENTRIES
+  pub entries : entries_on (lists_of a).proposers + entries_on (lists_of a).reviewers ≤ MOST_ENTRIES
 
--- The agents make an instance: on each side names differ, each entry names an agent of the other side that lists the agent
--- back, and no list has a name twice.
+-- The agents make an instance: on each side names differ, each entry is the name of an agent of the other side that lists
+-- the agent back, and no list has a name twice.
 pub record IsInstance (a : Agents) : Type 0 where
   pub limits : IsWithinLimits a
   pub proposers : HasDistinctNames a.proposers

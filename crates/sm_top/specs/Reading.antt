@@ -1,5 +1,5 @@
 -- How a plain text is read: what its vectors hold, as plain data, and the parts of the reading.
-use Rattle.std.specs.Prelude.{◌≡◌, ◌<◌, ◌≤◌, slice_index, ℕ, List, [], ◌∷◌, length, map, drop, Option, None, Some}
+use Rattle.std.specs.Prelude.{◌≡◌, ◌<◌, ◌≤◌, slice_index, ℕ, List, [], ◌∷◌, length, map, drop}
 use Rattle.std.specs.Option.{option_map_or}
 use Rattle.std.specs.Borrow.{Bor}
 use Rattle.sm_text.specs.Lines.{lines, content}
@@ -7,15 +7,19 @@ use Rattle.sm_market.specs.Lists.{row}
 use Rattle.sm_top.specs.declared.plain.Agent.{Agent}
 use Rattle.sm_top.specs.declared.plain.Agents.{Agents as Found}
 use Rattle.sm_top.specs.declared.plain.PlainText.{PlainText}
-use Rattle.sm_top.specs.Plain.{Declared, Agents, IsPlain, declared, lists_of}
+use Rattle.sm_top.specs.Plain.{Declared, Agents, IsPlain, fields_of, declared, lists_of}
 
 -- what slices hold
 abbrev pub texts_of : List (Bor (List ℕ)) → List (List ℕ)
 texts_of slices = map (λ x. x.now) slices
 
+-- the fields of an agent's line that are its list
+abbrev pub list_of : Agent → List (List ℕ)
+list_of agent = drop 2 (fields_of agent.line.now)
+
 -- an agent as plain data
 abbrev pub agent_of : Agent → Declared
-agent_of agent = record { name = agent.name.now; entries = texts_of agent.entries.items }
+agent_of agent = record { name = agent.name.now; entries = list_of agent }
 
 -- the agents of both sides
 abbrev pub agents_in : List Agent → List Agent → Agents

@@ -2,7 +2,6 @@
 use Rattle.std.specs.Prelude.{◌≡◌, ◌≢◌, ◌≤◌, ◌+◌, ◌⊎◌, ℕ, List, [], ◌++◌, length, Option, Some, IsSomeAnd, IsOk}
 use Rattle.sm_io.specs.Source.{Agrees}
 use Rattle.sm_io.specs.Sink.{Grows}
-use Rattle.sm_text.specs.declared.refusal.RefusalKind.{RefusalKind}
 use Rattle.sm_text.specs.declared.refusal.RefusalKind.TheVariants.{TooLong}
 use Rattle.sm_top.specs.declared.status.Status.{Status}
 use Rattle.sm_top.specs.declared.status.Status.TheVariants.{Done, Refused, Usage, OutOfMemory, ReadFault, WriteFault}

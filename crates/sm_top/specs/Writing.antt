@@ -1,8 +1,7 @@
 -- What came of writing a text.
-use Rattle.std.specs.Prelude.{◌≡◌, ◌⊎◌, ℕ, List, [], ◌++◌, Option, Result, Ok, Err}
+use Rattle.std.specs.Prelude.{◌≡◌, ◌⊎◌, ℕ, List, [], Option, Result, Ok, Err}
 use Rattle.sm_io.specs.Faults.{Rose}
 use Rattle.sm_io.specs.Sink.{Grows, IsPart}
-use Rattle.sm_text.specs.declared.refusal.RefusalKind.{RefusalKind}
 use Rattle.sm_top.specs.declared.status.Status.{Status}
 use Rattle.sm_top.specs.declared.status.Status.TheVariants.{Done, Refused, Usage, OutOfMemory, ReadFault, WriteFault}
 use Rattle.sm_top.specs.declared.answer.Unwritten.{Unwritten}

@@ -1,8 +1,8 @@
 //! Names and their numbers.
 
-ghost use Rattle.std.specs.Prelude.{◌≡◌, ◌<◌, ◌≤◌, ◌^◌, length, map, IfOk, MatchOption};
+ghost use Rattle.std.specs.Prelude.{◌≡◌, ◌<◌, ◌≤◌, ◌^◌, length, map, drop, IfOk, OnOk, MatchOption};
 ghost use Rattle.indexmap.specs.IndexSet.{keys};
-ghost use Rattle.sm_top.specs.Plain.{HasDistinctNames, names_of, number_of, numbered};
+ghost use Rattle.sm_top.specs.Plain.{fields_of, HasDistinctNames, names_of, number_of, numbered};
 ghost use Rattle.sm_top.specs.Reading.{texts_of, agent_of, HasUnknown, HasUnknownName};
 ghost use Rattle.sm_market.specs.Vectors.{rows_of};
 
@@ -12,10 +12,10 @@ use std::alloc::{AllocError, Global};
 
 /// The lists of a side with numbers for the names of the other side, and `None` exactly where a name stands twice on the
 /// other side or a list has a name that isn't there.
-pub(crate) fn number_lists(
+pub(crate) fn number_lists<'a>(
     alloc: Global,
-    side: &[Agent<'_>],
-    others: &[Agent<'_>],
+    side: &[Agent<'a>],
+    others: &[Agent<'a>],
 ) -> Result<Option<Vec<Vec<u32>>>, AllocError>
     requires { length others.now < 2 ^ 32 }
     ensures { IfOk result (λ r. MatchOption r
@@ -60,14 +60,34 @@ fn number_all<'a>(
         (HasUnknownName (numbered (map agent_of side.now) (texts_of (keys names.now))) (length (keys names.now)))
         (λ lists. rows_of lists.items ≡ numbered (map agent_of side.now) (texts_of (keys names.now)))) }
 {
-    let mut lists = Vec::new(alloc);
+    let mut lists = Vec::with_capacity(alloc, side.len())?;
+    let mut fields = Vec::new(alloc);
     'side: for agent in side {
-        let Some(list) = number_list(alloc, &agent.entries, names)? else {
+        cut(agent.line, &mut fields)?;
+        let Some(list) = number_list(alloc, list_in(&fields), names)? else {
             return Ok(None);
         };
         lists.push(list)?;
     }
     Ok(Some(lists))
+}
+
+// The fields of a line, cut at each blank, instead of what the vector holds.
+fn cut<'a>(line: &'a [u8], fields: &mut Vec<&'a [u8]>) -> Result<(), AllocError>
+    ensures { OnOk result (texts_of fields.new.items ≡ fields_of line.now) }
+{
+    fields.clear();
+    fields.extend(line.split(|b| *b == b' '))
+}
+
+// The fields of a line that are the agent's list: those behind the first two.
+fn list_in<'a, 'b>(fields: &'b [&'a [u8]]) -> &'b [&'a [u8]]
+    ensures { texts_of result.now ≡ drop 2 (texts_of fields.now) }
+{
+    match fields {
+        [_, _, list @ ..] => list,
+        _ => &[],
+    }
 }
 
 // The numbers of the names on a list.

@@ -1,26 +1,24 @@
 //! Plain texts: a header, a line for each proposer, a line for each reviewer, and `end`, with no comment and no blank line.
 
-ghost use Rattle.std.specs.Prelude.{◌≡◌, ◌≢◌, ◌-◌, ◌^◌, min, ◌↔◌, ◌<◌, ◌∷◌, [], codes, IsTrue, length, drop, map, IfOk, OnOk, MatchOption};
-ghost use Rattle.std.specs.List.{slice_split, list_all};
+ghost use Rattle.std.specs.Prelude.{◌+◌, ◌≤◌, ◌≡◌, ◌≢◌, ◌-◌, ◌^◌, min, ◌↔◌, ◌<◌, ◌∷◌, [], codes, IsTrue, length, drop, map, IfOk, OnOk, MatchOption};
 ghost use Rattle.std.specs.Option.{option_map};
-ghost use Rattle.std.specs.Prelude.{◌==◌};
-ghost use Rattle.sm_text.specs.Name.{is_name as is_a_name};
 ghost use Rattle.sm_market.specs.Limits.{IsWithinLimits as IsFewEnough};
 ghost use Rattle.sm_market.specs.Lists.{IsMarket};
-ghost use Rattle.sm_market.specs.Vectors.{lists_of as given_lists};
-ghost use Rattle.sm_top.specs.Plain.{declared, name_of_field, IsWritten, IsPlain, IsInstance, IsWithinLimits, lists_of, entry_count};
-ghost use Rattle.sm_top.specs.Reading.{IsReadFrom, texts_of, agent_of, agents_in, agents_of, contents_from, declared_first};
+ghost use Rattle.sm_market.specs.Vectors.{rows_of, lists_of as given_lists};
+ghost use Rattle.sm_top.specs.Plain.{fields_of, declared, name_of_field, entries_on, IsWritten, IsPlain, IsInstance, lists_of};
+ghost use Rattle.sm_top.specs.Reading.{IsReadFrom, agent_of, agents_in, agents_of, contents_from, declared_first};
 
 use crate::names::number_lists;
 use sm_market::{Market, MarketFault};
 use sm_text::{LineSpan, is_name, line_at};
 use std::alloc::{AllocError, Global};
 
-/// An agent as its line declares it: its name, and the names on its list, best first.
+/// An agent as its line declares it: its name, and the line, whose fields behind the first two are the names on its list,
+/// best first.
 #[derive(Drop)]
 pub(crate) struct Agent<'a> {
     pub(crate) name: &'a [u8],
-    pub(crate) entries: Vec<&'a [u8]>,
+    pub(crate) line: &'a [u8],
 }
 
 /// The agents of both sides, in the order of their lines.
@@ -60,16 +58,16 @@ pub(crate) fn read_plain<'a>(
 }
 
 // The market of the agents' lists, and `None` exactly where the agents make no instance.
-fn market_of(
+fn market_of<'a>(
     alloc: Global,
-    proposers: &[Agent<'_>],
-    reviewers: &[Agent<'_>],
+    proposers: &[Agent<'a>],
+    reviewers: &[Agent<'a>],
 ) -> Result<Option<Market>, AllocError>
     ensures { IfOk result (λ r. MatchOption r
         (¬ IsInstance (agents_in proposers.now reviewers.now))
         (λ market. IsInstance (agents_in proposers.now reviewers.now) × (market ≡ lists_of (agents_in proposers.now reviewers.now)))) }
 {
-    if !is_within_limits(proposers, reviewers) {
+    if proposers.len() > MOST_AGENTS || reviewers.len() > MOST_AGENTS {
         return Ok(None);
     }
     let Some(proposer_lists) = number_lists(alloc, proposers, reviewers)? else {
@@ -78,6 +76,9 @@ fn market_of(
     let Some(reviewer_lists) = number_lists(alloc, reviewers, proposers)? else {
         return Ok(None);
     };
+    if !are_few(&proposer_lists, &reviewer_lists) {
+        return Ok(None);
+    }
     build(alloc, proposer_lists, reviewer_lists)
 }
 
@@ -99,22 +100,20 @@ fn build(
     }
 }
 
-// Are there at most as many agents and entries as are taken?
-fn is_within_limits(proposers: &[Agent<'_>], reviewers: &[Agent<'_>]) -> bool
-    ensures { IsTrue result ↔ IsWithinLimits (agents_in proposers.now reviewers.now) }
+// Are there at most as many entries as are taken?
+fn are_few(proposer_lists: &[Vec<u32>], reviewer_lists: &[Vec<u32>]) -> bool
+    ensures { IsTrue result ↔ (entries_on (rows_of proposer_lists.now) + entries_on (rows_of reviewer_lists.now) ≤ MOST_ENTRIES) }
 {
-    proposers.len() <= MOST_AGENTS
-        && reviewers.len() <= MOST_AGENTS
-        && entry_count(proposers).saturating_add(entry_count(reviewers)) <= MOST_ENTRIES
+    entry_count(proposer_lists).saturating_add(entry_count(reviewer_lists)) <= MOST_ENTRIES
 }
 
-// How many entries the lists of a side have together, and the greatest `usize` where they have more.
-fn entry_count(side: &[Agent<'_>]) -> usize
-    ensures { result ≡ min (entry_count (map agent_of side.now)) (2 ^ 64 - 1) }
+// How many entries the lists have together, and the greatest `usize` where they have more.
+fn entry_count(lists: &[Vec<u32>]) -> usize
+    ensures { result ≡ min (entries_on (rows_of lists.now)) (2 ^ 64 - 1) }
 {
     let mut count: usize = 0;
-    for agent in side {
-        count = count.saturating_add(agent.entries.len());
+    for list in lists {
+        count = count.saturating_add(list.len());
     }
     count
 }
@@ -182,26 +181,6 @@ fn line_from<'a>(bytes: &'a [u8], from: usize) -> Option<(&'a [u8], usize)>
     Some((&bytes[start..stop], next))
 }
 
-// The fields of a line, cut at each blank, instead of what the vector holds.
-fn cut<'a>(line: &'a [u8], fields: &mut Vec<&'a [u8]>) -> Result<(), AllocError>
-    ensures { OnOk result (texts_of fields.new.items ≡ slice_split (λ b. b == 32) line.now) }
-{
-    fields.clear();
-    fields.extend(line.split(|b| *b == b' '))
-}
-
-// Are these all names?
-fn are_names(entries: &[&[u8]]) -> bool
-    ensures { result ≡ list_all is_a_name (texts_of entries.now) }
-{
-    for entry in entries {
-        if !is_name(entry) {
-            return false;
-        }
-    }
-    true
-}
-
 // The name that a field holds with a colon behind it.
 fn declared_name<'a>(field: &'a [u8]) -> Option<&'a [u8]>
     ensures { option_map (λ x. x.now) result ≡ name_of_field field.now }
@@ -212,28 +191,34 @@ fn declared_name<'a>(field: &'a [u8]) -> Option<&'a [u8]>
     }
 }
 
-// The agent that a line declares behind its letter. Its fields are cut into a vector that serves one line after the other.
-fn declare<'a>(
-    alloc: Global,
-    letter: u8,
-    line: &'a [u8],
-    fields: &mut Vec<&'a [u8]>,
-) -> Result<Option<Agent<'a>>, AllocError>
-    ensures { IfOk result (λ agent. option_map agent_of agent ≡ declared letter line.now) }
+// The agent that a line declares behind its letter.
+fn declare<'a>(letter: u8, line: &'a [u8]) -> Option<Agent<'a>>
+    ensures { option_map agent_of result ≡ declared letter line.now }
 {
-    cut(line, fields)?;
-    match fields.as_slice() {
-        [first, second, entries @ ..] if *first == [letter].as_slice() && are_names(entries) => {
-            match declared_name(second) {
-                Some(name) => Ok(Some(Agent {
-                    name,
-                    entries: Vec::from_slice(alloc, entries)?,
-                })),
-                None => Ok(None),
-            }
-        }
-        _ => Ok(None),
+    let (first, rest) = first_field(line)?;
+    if first != [letter].as_slice() {
+        return None;
     }
+    let second = match first_field(rest) {
+        Some((second, _)) => second,
+        None => rest,
+    };
+    let name = declared_name(second)?;
+    Some(Agent { name, line })
+}
+
+// The bytes before the first blank of a text, and those behind it, if it has a blank.
+fn first_field<'a>(text: &'a [u8]) -> Option<(&'a [u8], &'a [u8])>
+    ensures { MatchOption result
+        (fields_of text.now ≡ text.now ∷ [])
+        (λ r. fields_of text.now ≡ r.0.now ∷ fields_of r.1.now) }
+{
+    for (i, b) in text.iter().enumerate() {
+        if *b == b' ' {
+            return Some((&text[..i], &text[i + 1..]));
+        }
+    }
+    None
 }
 
 // The agents that the lines from a place on declare behind a letter, up to the first line that declares none, and the place of that line.
@@ -247,10 +232,9 @@ fn declare_side<'a>(
     ensures rest { IfOk result (λ r. contents_from bytes.now r.1 ≡ drop (length r.0.items) (contents_from bytes.now from)) }
 {
     let mut side = Vec::new(alloc);
-    let mut fields = Vec::new(alloc);
     let mut at = from;
     'lines: while let Some((line, next)) = line_from(bytes, at) {
-        let Some(agent) = declare(alloc, letter, line, &mut fields)? else {
+        let Some(agent) = declare(letter, line) else {
             break
         };
         side.push(agent)?;

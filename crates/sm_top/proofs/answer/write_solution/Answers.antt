@@ -1,9 +1,8 @@
-use Rattle.std.proofs.Common.{◌≤◌, ◌++◌, arith}
+use Rattle.std.proofs.Common.{arith}
 use Rattle.std.proofs.lemmas.Result.{err_from_is_err_and}
-use Rattle.sm_io.proofs.SinkLemmas.{Grows-trans}
 use Rattle.sm_top.specs.Reading.{agents_of}
 use Rattle.sm_top.specs.Answer.{pairs_text}
-use Rattle.sm_top.proofs.WritingLemmas.{HEAD, END, head_unwritten, pairs_unwritten, solution_written}
+use Rattle.sm_top.proofs.WritingLemmas.{head_unwritten, pairs_unwritten, solution_written}
 use Rattle.sm_top.proofs.answer.write_solution.Goals as goal
 
 pub returns-in_err-write_line-clause-written : goal.returns-in_err-write_line-clause-written

@@ -1,4 +1,4 @@
-use Rattle.std.proofs.Common.{◌<◌, ◌≤◌, length, arith}
+use Rattle.std.proofs.Common.{◌<◌, length, arith}
 use Rattle.sm_top.proofs.InputLemmas.{consumes_end}
 use Rattle.sm_top.proofs.input.read_all.Goals as goal
 

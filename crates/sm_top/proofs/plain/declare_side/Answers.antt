@@ -1,6 +1,6 @@
-use Rattle.std.proofs.Common.{◌≡◌, ap, ◌∙◌, sym, map, ◌++◌, drop, length, subst, Some, ◌∷◌}
+use Rattle.std.proofs.Common.{◌≡◌, ap, ◌∙◌, sym, map, ◌++◌, drop, length, Some, ◌∷◌}
 use Rattle.std.specs.Option.{option_map}
-use Rattle.sm_top.specs.Plain.{declared, Declared}
+use Rattle.sm_top.specs.Plain.{declared}
 use Rattle.sm_top.specs.Reading.{agent_of, contents_from, declared_first}
 use Rattle.sm_top.proofs.PlainLemmas.{side_more, rest_more}
 use Rattle.sm_top.proofs.plain.declare_side.Goals as goal
@@ -13,9 +13,9 @@ lines-preserved c =
     let next = contents_from bytes c.in-Some.next in
     let line = c.in-Some.line.now in
     let side = c.lines.side.items in
-    let agent = c.in-Some-2.agent in
+    let agent = c.in-Some-declare.agent in
     let first : here ≡ line ∷ next = cc c.in-Some.ensures.line in
-    let known : declared c.args.letter line ≡ Some (agent_of agent) = sym c.in_ok-agent.ensures ∙ ap (option_map agent_of) c.in-Some-2.is in
+    let known : declared c.args.letter line ≡ Some (agent_of agent) = sym c.declare.ensures ∙ ap (option_map agent_of) c.in-Some-declare.is in
     let pushed = c.in_ok-push.ensures.items in
     record {
       told = ap (λ t. map agent_of t ++ declared_first c.args.letter next) pushed ∙ side_more c.args.letter all here next line side agent c.lines.invariant.told first known;

@@ -1,8 +1,8 @@
-use Rattle.std.proofs.Common.{◌≡◌, ◌-◌, ◌^◌, min, map, take}
-use Rattle.sm_top.specs.Plain.{entry_count}
-use Rattle.sm_top.specs.Reading.{agent_of}
+use Rattle.std.proofs.Common.{◌≡◌, ◌-◌, ◌^◌, min, take}
+use Rattle.sm_market.specs.Vectors.{rows_of}
+use Rattle.sm_top.specs.Plain.{entries_on}
 use Rattle.sm_top.proofs.plain.entry_count.Given as goal
 
 -- the entries so far
-abbrev pub invariant-loop-agent : goal.invariant-loop-agent
-invariant-loop-agent l = l.count ≡ min (entry_count (map agent_of (take l.agent-index l.side))) (2 ^ 64 - 1)
+abbrev pub invariant-loop-list : goal.invariant-loop-list
+invariant-loop-list l = l.count ≡ min (entries_on (rows_of (take l.list-index l.lists))) (2 ^ 64 - 1)

@@ -1,7 +1,7 @@
 use Rattle.std.proofs.Common.{eqb, rules, tests}
 use Rattle.std.proofs.lemmas.Iterator.Splits.{YieldsList-from_slice_split}
 use Rattle.sm_top.proofs.PlainLemmas.{extended_texts}
-use Rattle.sm_top.proofs.plain.cut.Goals as goal
+use Rattle.sm_top.proofs.names.cut.Goals as goal
 
 pub returns : goal.returns
 returns c = extended_texts c.extend.result c.clear.ensures.items c.extend.ensures.ran
