@@ -1,0 +1,82 @@
+-- Cross places, and who is acceptable to whom.
+use Rattle.std.proofs.Common.{◌≡◌, ℕ, ◌<◌, ◌≤◌, ltb, cond, Bool, true, false, List, length, Option, Some, None, IfSome, IsTrue, refl, sym, ap, ◌∙◌, arith, ⊎_elim}
+use Rattle.std.proofs.lemmas.Bool.{cases_lt}
+use Rattle.std.proofs.lemmas.Bool.Decides.{nat_tests}
+use Rattle.std.specs.Option.{is_some}
+use Rattle.sm_instance.specs.Written.{Written, AgentData, row, entry, place_of, IsAcceptable}
+use Rattle.sm_instance.specs.Sound.{IsInstance}
+use Rattle.sm_instance.specs.Matching.{held, IsAssignment}
+use Rattle.sm_instance.specs.Kept.{cross_place}
+use Rattle.sm_instance.proofs.ListLemmas.{length-row-le}
+use Rattle.sm_instance.proofs.PlaceLemmas.{entry-place_of, place_of-lt}
+
+-- no list is longer than all entries together
+pub proposer_row_fits : {w : Written} → IsInstance w → (p : ℕ) → length (row w.proposers p) ≤ 524288
+proposer_row_fits {w} i p = let le = length-row-le w.proposers p in let all = i.limits.entries in omega arith
+
+pub reviewer_row_fits : {w : Written} → IsInstance w → (r : ℕ) → length (row w.reviewers r) ≤ 524288
+reviewer_row_fits {w} i r = let le = length-row-le w.reviewers r in let all = i.limits.entries in omega arith
+
+some_pick : (b : Bool) (n i : ℕ) → (let none : Option ℕ = None in cond b (Some n) none ≡ Some i) → (b ≡ true) × (n ≡ i)
+some_pick true n i h = (refl, cc)
+some_pick false n i h = cc
+
+-- a cross place is the place, on the list
+pub cross_some : (agents : List AgentData) (a b i : ℕ) → cross_place agents a b ≡ Some i → (place_of agents a b ≡ i) × (place_of agents a b < length (row agents a))
+cross_some agents a b i h =
+    let x = some_pick (ltb (place_of agents a b) (length (row agents a))) (place_of agents a b) i h in
+    (x.1, grind (arith, nat_tests, x.0))
+
+pub cross_none : (agents : List AgentData) (a b : ℕ) → (let none : Option ℕ = None in cross_place agents a b ≡ none) → length (row agents a) ≤ place_of agents a b
+cross_none agents a b h = ⊎_elim (λ l. absurd (let on : ltb (place_of agents a b) (length (row agents a)) ≡ true = grind (arith, nat_tests) in let e = ap (λ t. cond t (Some (place_of agents a b)) None) on in cc)) (λ g. g) (cases_lt (place_of agents a b) (length (row agents a)))
+
+pub cross_is : (agents : List AgentData) (a b : ℕ) → place_of agents a b < length (row agents a) → cross_place agents a b ≡ Some (place_of agents a b)
+cross_is agents a b l = grind (arith, nat_tests)
+
+pub cross_fits : {w : Written} → IsInstance w → (r p : ℕ) (o : Option ℕ) → o ≡ cross_place w.reviewers r p → IfSome o (λ back. back < 524288)
+cross_fits {w} i r p None h = tt
+cross_fits {w} i r p (Some k) h = let x = cross_some w.reviewers r p k (sym h) in let on = x.1 in let fits = reviewer_row_fits i r in let e = x.0 in omega arith
+
+-- the test of acceptability, where the place of r on p's list is known
+pub acceptable_at : (w : Written) (p r i : ℕ) → Some i ≡ cross_place w.proposers p r → (o : Option ℕ) → o ≡ cross_place w.reviewers (entry w.proposers p i) p → (b : Bool) → b ≡ is_some o
+    → (IsTrue b → IsAcceptable w p r) × (IsAcceptable w p r → IsTrue b)
+acceptable_at w p r i h o cross b test =
+    let x = cross_some w.proposers p r i (sym h) in
+    let there : entry w.proposers p i ≡ r = ap (entry w.proposers p) (sym x.0) ∙ entry-place_of w.proposers p r x.1 in
+    let cross' : o ≡ cross_place w.reviewers r p = cross ∙ ap (λ s. cross_place w.reviewers s p) there in
+    by_cross o cross' test
+  where
+    by_cross : (o : Option ℕ) → o ≡ cross_place w.reviewers r p → b ≡ is_some o → (IsTrue b → IsAcceptable w p r) × (IsAcceptable w p r → IsTrue b)
+    by_cross None c t = (λ e. cc, λ a. let le = cross_none w.reviewers r p (sym c) in let lt = a.reviewer_lists in absurd (omega arith))
+    by_cross (Some k) c t = (λ e. record { proposer_lists = (cross_some w.proposers p r i (sym h)).1; reviewer_lists = (cross_some w.reviewers r p k (sym c)).1 }, λ a. t)
+
+-- where r isn't on p's list
+pub unlisted : (w : Written) (p r : ℕ) → (let none : Option ℕ = None in none ≡ cross_place w.proposers p r) → IsAcceptable w p r → ⊥
+unlisted w p r h a = let le = cross_none w.proposers p r (sym h) in let lt = a.proposer_lists in omega arith
+
+-- the reviewer at place i lists p, or doesn't
+pub accepts_at : {w : Written} → IsInstance w → (p i k : ℕ) → i < length (row w.proposers p) → Some k ≡ cross_place w.reviewers (entry w.proposers p i) p → IsAcceptable w p (entry w.proposers p i)
+accepts_at {w} inst p i k on c =
+    record { proposer_lists = place_of-lt w.proposers p (entry w.proposers p i) i on refl; reviewer_lists = (cross_some w.reviewers (entry w.proposers p i) p k (sym c)).1 }
+
+pub one_sided_at : (w : Written) (p i : ℕ) → (let none : Option ℕ = None in none ≡ cross_place w.reviewers (entry w.proposers p i) p) → IsAcceptable w p (entry w.proposers p i) → ⊥
+one_sided_at w p i c a = let le = cross_none w.reviewers (entry w.proposers p i) p (sym c) in let lt = a.reviewer_lists in omega arith
+
+-- a held place is on its list
+pub held_on : {w : Written} {places : List (Option ℕ)} → IsAssignment w places → (p : ℕ) (o : Option ℕ) → o ≡ held places p → IfSome o (λ place. place < length (row w.proposers p))
+held_on assigned p None h = tt
+held_on assigned p (Some i) h = assigned.on_lists p i (sym h)
+
+pub is_none_not : (o : Option ℕ) → is_some o ≡ true → (k : ℕ) × (o ≡ Some k)
+is_none_not None h = cc
+is_none_not (Some k) h = (k, refl)
+
+pub lt_true : (a b : ℕ) → a < b → ltb a b ≡ true
+lt_true a b l = grind (arith, nat_tests)
+
+pub true_lt : (a b : ℕ) → ltb a b ≡ true → a < b
+true_lt a b h = grind (arith, nat_tests, h)
+
+-- who stands at the place that is found
+pub entry_cross : (agents : List AgentData) (a b i : ℕ) → Some i ≡ cross_place agents a b → entry agents a i ≡ b
+entry_cross agents a b i h = let x = cross_some agents a b i (sym h) in ap (entry agents a) (sym x.0) ∙ entry-place_of agents a b x.1

@@ -1,0 +1,12 @@
+pub mod ListLemmas
+pub mod PlaceLemmas
+pub mod NameLemmas
+pub mod AgentLemmas
+pub mod NamingLemmas
+pub mod LoadLemmas
+pub mod ItemLemmas
+pub mod FaultLemmas
+pub mod AcceptLemmas
+pub mod BreachLemmas
+pub mod BlockLemmas
+pub mod RankLemmas

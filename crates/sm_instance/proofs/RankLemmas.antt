@@ -1,0 +1,15 @@
+-- Ranks, regrets and weights, one proposer after another.
+use Rattle.std.proofs.Common.{◌≡◌, ℕ, ◌+◌, ◌∷◌, [], map, fold, ap, ◌∙◌, arith, max, nat_cmp}
+use Rattle.std.proofs.lemmas.List.FromFn.{map-range_with_len_more}
+use Rattle.std.proofs.lemmas.List.Sums.{fold-append}
+use Rattle.std.specs.List.{range_with_len}
+use Rattle.std.specs.Ordering.{ord_max}
+use Rattle.std.proofs.lemmas.Bool.Decides.{nat_tests}
+
+-- a fold over the numbers below k, and over one more
+pub fold_below_more : {X Y : Type 0} (g : Y → X → Y) (start : Y) (f : ℕ → X) (k : ℕ) → fold g start (map f (range_with_len 0 (k + 1))) ≡ g (fold g start (map f (range_with_len 0 k))) (f k)
+fold_below_more g start f k = ap (fold g start) (map-range_with_len_more f 0 k k (omega arith)) ∙ fold-append g start (map f (range_with_len 0 k)) (f k ∷ [])
+
+-- the greater of two numbers
+pub ord_max-is : (a b : ℕ) → ord_max nat_cmp a b ≡ max a b
+ord_max-is a b = grind (arith, nat_tests)

@@ -1,0 +1,8 @@
+use Rattle.std.proofs.Common.{ℕ, ◌<◌, IsTrue}
+use Rattle.sm_instance.specs.Sound.{pair_at}
+use Rattle.sm_instance.specs.Matching.{is_at}
+use Rattle.sm_instance.proofs.instance.Instance.holds_forced.Given as goal
+
+-- the pairs so far
+abbrev pub invariant-loop-n : goal.invariant-loop-n
+invariant-loop-n l = (k : ℕ) → k < l.n → IsTrue (is_at l.self l.a.places.items (pair_at l.forced k).0 (pair_at l.forced k).1)

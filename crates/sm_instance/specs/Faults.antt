@@ -1,0 +1,63 @@
+-- What an `InstanceFault` says of what was to be an instance.
+use Rattle.std.specs.Prelude.{◌≡◌, ℕ, ◌<◌, Bool, true, List, [], length, ℤ}
+use Rattle.sm_instance.specs.Written.{AgentData, Written, row}
+use Rattle.sm_instance.specs.Sound.{IsWithinLimits, IsSoundAgent, AreSoundAgents, IsSoundEntry, AreSoundEntries, items_of, IsSoundItem, is_single}
+use Rattle.sm_instance.specs.declared.kinds.Side.{Side}
+use Rattle.sm_instance.specs.declared.kinds.Side.TheVariants.{Proposers, Reviewers}
+use Rattle.sm_instance.specs.declared.faults.InstanceFault.{InstanceFault}
+use Rattle.sm_instance.specs.declared.faults.InstanceFault.TheVariants.{TooMany, BadAgent, BadEntry, BadPair, OutOfMemory}
+
+-- a is the first agent of its side that isn't sound
+pub record IsFirstBadAgent (agents : List AgentData) (single : Bool) (a : ℕ) : Type 0 where
+  pub there : a < length agents
+  pub bad : ¬ IsSoundAgent agents single a
+  pub earlier : (b : ℕ) → b < a → IsSoundAgent agents single b
+
+-- place i of a's list has the first entry of its side that isn't sound
+pub record IsFirstBadEntry (agents : List AgentData) (others : ℕ) (a i : ℕ) : Type 0 where
+  pub there : i < length (row agents a)
+  pub bad : ¬ IsSoundEntry agents others a i
+  pub earlier_agents : (b j : ℕ) → b < a → j < length (row agents b) → IsSoundEntry agents others b j
+  pub earlier_places : (j : ℕ) → j < i → IsSoundEntry agents others a j
+
+-- the n-th item is the first that isn't sound
+pub record IsFirstBadItem (proposers reviewers : ℕ) (weights : List (ℕ × ℕ × ℤ)) (items : List (ℕ × ℕ)) (n : ℕ) : Type 0 where
+  pub there : n < length items
+  pub bad : ¬ IsSoundItem proposers reviewers weights items n
+  pub earlier : (k : ℕ) → k < n → IsSoundItem proposers reviewers weights items k
+
+-- the first agent of both sides that isn't sound: a reviewer where all proposers are
+abbrev pub IsBadAgent : Written → Side → ℕ → Type 0
+IsBadAgent w Proposers a = IsFirstBadAgent w.proposers true a
+IsBadAgent w Reviewers a = AreSoundAgents w.proposers true × IsFirstBadAgent w.reviewers (is_single w.kind) a
+
+-- the first entry of both sides that isn't sound
+abbrev pub IsBadEntry : Written → Side → ℕ → ℕ → Type 0
+IsBadEntry w Proposers a i = IsFirstBadEntry w.proposers (length w.reviewers) a i
+IsBadEntry w Reviewers a i = AreSoundEntries w.proposers (length w.reviewers) × IsFirstBadEntry w.reviewers (length w.proposers) a i
+
+-- all agents are sound, and within their limits; all entries are
+pub record HasSoundAgents (w : Written) : Type 0 where
+  pub limits : IsWithinLimits w.proposers w.reviewers
+  pub proposers : AreSoundAgents w.proposers true
+  pub reviewers : AreSoundAgents w.reviewers (is_single w.kind)
+
+pub record HasSoundEntries (w : Written) : Type 0 where
+  pub proposers : AreSoundEntries w.proposers (length w.reviewers)
+  pub reviewers : AreSoundEntries w.reviewers (length w.proposers)
+
+-- what each fault says of an instance; want of memory says nothing
+abbrev pub IsFault : Written → InstanceFault → Type 0
+IsFault w TooMany = ¬ IsWithinLimits w.proposers w.reviewers
+IsFault w (BadAgent side a) = IsWithinLimits w.proposers w.reviewers × IsBadAgent w side a
+IsFault w (BadEntry side a i) = HasSoundAgents w × IsBadEntry w side a i
+IsFault w (BadPair n) = HasSoundAgents w × HasSoundEntries w × IsFirstBadItem (length w.proposers) (length w.reviewers) w.weights (items_of w.weights w.forced w.forbidden) n
+IsFault w OutOfMemory = Unit {0}
+
+-- the same of persons, who are named as proposers
+abbrev pub IsPersonsFault : List AgentData → InstanceFault → Type 0
+IsPersonsFault persons TooMany = ¬ IsWithinLimits persons []
+IsPersonsFault persons (BadAgent side a) = (side ≡ Proposers) × IsWithinLimits persons [] × IsFirstBadAgent persons true a
+IsPersonsFault persons (BadEntry side a i) = (side ≡ Proposers) × IsWithinLimits persons [] × AreSoundAgents persons true × IsFirstBadEntry persons (length persons) a i
+IsPersonsFault persons (BadPair n) = ⊥
+IsPersonsFault persons OutOfMemory = Unit {0}

@@ -1,0 +1,20 @@
+-- What an `Input` is.
+use Rattle.std.specs.Prelude.{List}
+use Rattle.sm_instance.specs.Written.{AgentData}
+use Rattle.sm_instance.specs.declared.kinds.Kind.{Kind}
+use Rattle.sm_instance.specs.declared.kinds.Kind.TheVariants.{Roommates}
+use Rattle.sm_instance.specs.declared.inputs.Input.{Input}
+use Rattle.sm_instance.specs.declared.inputs.Input.TheVariants.{Two, Room}
+
+abbrev pub kind_of : Input → Kind
+kind_of (Two w) = w.kind
+kind_of (Room _) = Roommates
+
+-- the agents of the left and of the right: in roommates both are the persons
+abbrev pub left_of : Input → List AgentData
+left_of (Two w) = w.proposers
+left_of (Room persons) = persons
+
+abbrev pub right_of : Input → List AgentData
+right_of (Two w) = w.reviewers
+right_of (Room persons) = persons

@@ -1,0 +1,62 @@
+-- What is kept beside an instance, so that the calls on it take no memory.
+use Rattle.std.specs.Prelude.{◌≡◌, ℕ, ◌<◌, ◌≤◌, List, [], length, map, slice_index_or, Option, Some, None, if◌then◌else◌, nat_lt}
+use Rattle.sm_instance.specs.Written.{AgentData, Written, row, entry, place_of, names_of, weighed}
+use Rattle.sm_instance.specs.Sound.{IsInstance, ArePersons}
+use Rattle.sm_instance.specs.declared.namings.Naming.{Naming}
+
+-- the place of b on a's list, if it is on it
+abbrev pub cross_place : List AgentData → ℕ → ℕ → Option ℕ
+cross_place agents a b = if nat_lt (place_of agents a b) (length (row agents a)) then Some (place_of agents a b) else None
+
+-- for each place of a's list, the place of a on the list of whom it finds there
+pub record AreCrossPlacesOf (agents others : List AgentData) (a : ℕ) (crosses : List (Option ℕ)) : Type 0 where
+  pub as_long : length crosses ≡ length (row agents a)
+  pub places : (i : ℕ) → i < length (row agents a) → slice_index_or crosses i None ≡ cross_place others (entry agents a i) a
+
+-- the same for each list of a side
+pub record AreCrossPlaces (agents others : List AgentData) (crosses : List (List (Option ℕ))) : Type 0 where
+  pub one_each : length crosses ≡ length agents
+  pub of : (a : ℕ) → a < length agents → AreCrossPlacesOf agents others a (slice_index_or crosses a [])
+
+-- what stands for a naming past the last
+abbrev pub no_naming : Naming
+no_naming = record { by = 0; place = 0 }
+
+abbrev pub naming_at : List Naming → ℕ → Naming
+naming_at namings e = slice_index_or namings e no_naming
+
+-- among these namings is the one by p at place i
+pub record IsNamed (namings : List Naming) (p i : ℕ) : Type 0 where
+  pub at : ℕ
+  pub there : at < length namings
+  pub by : (naming_at namings at).by ≡ p
+  pub place : (naming_at namings at).place ≡ i
+
+-- who names r, of the agents before p and of the first k places of p, by number and with the place
+pub record AreNamingsOf (agents : List AgentData) (p k r : ℕ) (namings : List Naming) : Type 0 where
+  pub on_list : (e : ℕ) → e < length namings → (naming_at namings e).place < length (row agents (naming_at namings e).by)
+  pub names : (e : ℕ) → e < length namings → entry agents (naming_at namings e).by (naming_at namings e).place ≡ r
+  pub reached : (e : ℕ) → e < length namings → (naming_at namings e).by ≤ p
+  pub here : (e : ℕ) → e < length namings → (naming_at namings e).by ≡ p → (naming_at namings e).place < k
+  pub rising : (e f : ℕ) → e < f → f < length namings → (naming_at namings e).by < (naming_at namings f).by
+  pub earlier_named : (q i : ℕ) → q < p → i < length (row agents q) → entry agents q i ≡ r → IsNamed namings q i
+  pub here_named : (i : ℕ) → i < k → i < length (row agents p) → entry agents p i ≡ r → IsNamed namings p i
+
+-- the same for each agent of the other side
+pub record AreNamings (agents : List AgentData) (others p k : ℕ) (namings : List (List Naming)) : Type 0 where
+  pub one_each : length namings ≡ others
+  pub of : (r : ℕ) → r < others → AreNamingsOf agents p k r (slice_index_or namings r [])
+
+-- what is kept beside an instance: the cross places, who names each reviewer, the names of both sides and the pairs with
+-- a weight
+pub record IsKept (w : Written) (crosses : List (List (Option ℕ))) (namings : List (List Naming)) (left right : List (List ℕ)) (pairs : List (ℕ × ℕ)) : Type 0 where
+  pub instance : IsInstance w
+  pub crossed : AreCrossPlaces w.proposers w.reviewers crosses
+  pub named : AreNamings w.proposers (length w.reviewers) (length w.proposers) 0 namings
+  pub lefts : left ≡ names_of w.proposers
+  pub rights : right ≡ names_of w.reviewers
+  pub weighed_pairs : pairs ≡ map weighed w.weights
+
+pub record ArePersonsKept (persons : List AgentData) (names : List (List ℕ)) : Type 0 where
+  pub sound : ArePersons persons
+  pub named : names ≡ names_of persons

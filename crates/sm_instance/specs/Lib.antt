@@ -1,0 +1,12 @@
+pub mod Written
+pub mod Matching
+pub mod Stable
+pub mod Ranks
+pub mod Allowed
+pub mod Sound
+pub mod Faults
+pub mod Checks
+pub mod Vectors
+pub mod Kept
+pub mod Inputs
+pub mod Loads

@@ -1,0 +1,75 @@
+-- What an instance has to meet: its limits, its agents, its entries and its pairs.
+use Rattle.std.specs.Prelude.{◌≡◌, ◌≢◌, ℕ, ◌+◌, ◌<◌, ◌≤◌, Bool, true, false, IsTrue, List, [], length, map, ◌++◌, slice_index_or, ℤ, pos}
+use Rattle.std.specs.List.{sum_by}
+use Rattle.std.specs.Int.RustNames.{unsigned_abs}
+use Rattle.sm_text.specs.Name.{is_name}
+use Rattle.sm_instance.specs.Written.{AgentData, Written, agent_at, row, entry, weighed}
+use Rattle.sm_instance.specs.declared.kinds.Kind.{Kind}
+use Rattle.sm_instance.specs.declared.kinds.Kind.TheVariants.{Marriage, Hospitals, Roommates}
+
+abbrev pub entries_of : List AgentData → ℕ
+entries_of agents = sum_by (λ agent. length agent.entries) agents
+
+-- at most 4,096 agents on each side, and at most 524,288 entries on all lists
+pub record IsWithinLimits (left right : List AgentData) : Type 0 where
+  pub proposers : length left ≤ 4096
+  pub reviewers : length right ≤ 4096
+  pub entries : entries_of left + entries_of right ≤ 524288
+
+-- an agent has a name, which no earlier agent of its side has, and a capacity of at most 4,096, which is 1 where every
+-- agent of the side has a single place
+pub record IsSoundAgent (agents : List AgentData) (single : Bool) (a : ℕ) : Type 0 where
+  pub name : IsTrue (is_name (agent_at agents a).name)
+  pub fresh : (b : ℕ) → b < a → (agent_at agents b).name ≢ (agent_at agents a).name
+  pub capacity : (agent_at agents a).capacity ≤ 4096
+  pub one : IsTrue single → (agent_at agents a).capacity ≡ 1
+
+pub record AreSoundAgents (agents : List AgentData) (single : Bool) : Type 0 where
+  pub sound : (a : ℕ) → a < length agents → IsSoundAgent agents single a
+
+-- an entry names an agent of the other side, of so many, that isn't named earlier on its list
+pub record IsSoundEntry (agents : List AgentData) (others : ℕ) (a i : ℕ) : Type 0 where
+  pub in_range : entry agents a i < others
+  pub fresh : (j : ℕ) → j < i → entry agents a j ≢ entry agents a i
+
+pub record AreSoundEntries (agents : List AgentData) (others : ℕ) : Type 0 where
+  pub sound : (a i : ℕ) → i < length (row agents a) → IsSoundEntry agents others a i
+
+-- a pair of one of so many proposers and one of so many reviewers
+pub record IsPairOf (proposers reviewers : ℕ) (pair : ℕ × ℕ) : Type 0 where
+  pub proposer : pair.0 < proposers
+  pub reviewer : pair.1 < reviewers
+
+abbrev pub pair_at : List (ℕ × ℕ) → ℕ → ℕ × ℕ
+pair_at pairs n = slice_index_or pairs n (0, 0)
+
+-- the pairs that are weighed, forced and forbidden, in this order
+abbrev pub items_of : List (ℕ × ℕ × ℤ) → List (ℕ × ℕ) → List (ℕ × ℕ) → List (ℕ × ℕ)
+items_of weights forced forbidden = map weighed weights ++ forced ++ forbidden
+
+-- an item names two agents; a weight is of a size of at most 1,000,000,000, and of a pair that isn't weighed earlier
+pub record IsSoundItem (proposers reviewers : ℕ) (weights : List (ℕ × ℕ × ℤ)) (items : List (ℕ × ℕ)) (n : ℕ) : Type 0 where
+  pub pair : IsPairOf proposers reviewers (pair_at items n)
+  pub size : n < length weights → unsigned_abs (slice_index_or weights n (0, 0, pos 0)).2 ≤ 1000000000
+  pub fresh : n < length weights → (k : ℕ) → k < n → pair_at items k ≢ pair_at items n
+
+-- whether every reviewer has a single place
+abbrev pub is_single : Kind → Bool
+is_single Marriage = true
+is_single Hospitals = false
+is_single Roommates = true
+
+-- an instance with two sides
+pub record IsInstance (w : Written) : Type 0 where
+  pub limits : IsWithinLimits w.proposers w.reviewers
+  pub proposers : AreSoundAgents w.proposers true
+  pub reviewers : AreSoundAgents w.reviewers (is_single w.kind)
+  pub proposer_entries : AreSoundEntries w.proposers (length w.reviewers)
+  pub reviewer_entries : AreSoundEntries w.reviewers (length w.proposers)
+  pub items : let items = items_of w.weights w.forced w.forbidden in (n : ℕ) → n < length items → IsSoundItem (length w.proposers) (length w.reviewers) w.weights items n
+
+-- an instance of roommates: persons who list each other
+pub record ArePersons (persons : List AgentData) : Type 0 where
+  pub limits : IsWithinLimits persons []
+  pub agents : AreSoundAgents persons true
+  pub entries : AreSoundEntries persons (length persons)

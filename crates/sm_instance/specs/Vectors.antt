@@ -1,0 +1,28 @@
+-- Agents and lists that are held in vectors, as plain data.
+use Rattle.std.specs.Prelude.{ℕ, List, map, Vec, Option, ℤ}
+use Rattle.std.specs.declared.alloc.Global.{Global}
+use Rattle.sm_instance.specs.Written.{AgentData, Written}
+use Rattle.sm_instance.specs.declared.kinds.Kind.{Kind}
+use Rattle.sm_instance.specs.declared.agents.Agent.{Agent}
+use Rattle.sm_instance.specs.declared.namings.Naming.{Naming}
+
+abbrev pub agent_of : Agent → AgentData
+agent_of agent = record { name = agent.name.items; capacity = agent.capacity; line = agent.line; entries = agent.entries.items }
+
+abbrev pub agents_of : List Agent → List AgentData
+agents_of agents = map agent_of agents
+
+abbrev pub crosses_of : List (Vec (Option ℕ) Global) → List (List (Option ℕ))
+crosses_of vectors = map (λ v. v.items) vectors
+
+abbrev pub namings_of : List (Vec Naming Global) → List (List Naming)
+namings_of vectors = map (λ v. v.items) vectors
+
+-- texts that are held in vectors
+abbrev pub texts_of : List (Vec ℕ Global) → List (List ℕ)
+texts_of texts = map (λ v. v.items) texts
+
+-- an instance of these parts
+abbrev pub written_of : Kind → List Agent → List Agent → List (ℕ × ℕ × ℤ) → List (ℕ × ℕ) → List (ℕ × ℕ) → Written
+written_of kind proposers reviewers weights forced forbidden =
+    record { kind = kind; proposers = agents_of proposers; reviewers = agents_of reviewers; weights = weights; forced = forced; forbidden = forbidden }

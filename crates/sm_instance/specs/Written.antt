@@ -1,0 +1,62 @@
+-- What is written in an instance.
+use Rattle.std.specs.Prelude.{ℕ, ◌<◌, ◌==◌, ◌&&◌, ℤ, pos, Bool, List, [], length, map, slice_index, slice_index_or}
+use Rattle.std.specs.List.{position_or_len}
+use Rattle.sm_instance.specs.declared.kinds.Kind.{Kind}
+
+-- an agent: its name, its capacity, the line of its declaration, and whom it lists, best first, by number
+pub record AgentData : Type 0 where
+  pub name : List ℕ
+  pub capacity : ℕ
+  pub line : ℕ
+  pub entries : List ℕ
+
+-- an instance with two sides: its agents, the weights that are given to pairs, and the pairs that are forced or
+-- forbidden, each with the proposer first
+-- (Manlove 2013, sections 2.2 and 3.2; Gusfield and Irving 1989, sections 1.1 and 1.6)
+pub record Written : Type 0 where
+  pub kind : Kind
+  pub proposers : List AgentData
+  pub reviewers : List AgentData
+  pub weights : List (ℕ × ℕ × ℤ)
+  pub forced : List (ℕ × ℕ)
+  pub forbidden : List (ℕ × ℕ)
+
+-- what stands for an agent that isn't there
+abbrev pub no_agent : AgentData
+no_agent = record { name = []; capacity = 0; line = 0; entries = [] }
+
+abbrev pub agent_at : List AgentData → ℕ → AgentData
+agent_at agents a = slice_index_or agents a no_agent
+
+-- an agent's list, whom it names at a place, and the place of b on it, which is its length where b isn't on it
+abbrev pub row : List AgentData → ℕ → List ℕ
+row agents a = (agent_at agents a).entries
+
+abbrev pub entry : List AgentData → ℕ → ℕ → ℕ
+entry agents a i = slice_index (row agents a) i
+
+abbrev pub place_of : List AgentData → ℕ → ℕ → ℕ
+place_of agents a b = position_or_len (λ x. x == b) (row agents a)
+
+abbrev pub capacity_of : List AgentData → ℕ → ℕ
+capacity_of agents a = (agent_at agents a).capacity
+
+abbrev pub names_of : List AgentData → List (List ℕ)
+names_of agents = map (λ agent. agent.name) agents
+
+-- a proposer and a reviewer are acceptable to each other when each lists the other. Any other entry is inert: it keeps
+-- its place, and is never matched.
+pub record IsAcceptable (w : Written) (p r : ℕ) : Type 0 where
+  pub proposer_lists : place_of w.proposers p r < length (row w.proposers p)
+  pub reviewer_lists : place_of w.reviewers r p < length (row w.reviewers r)
+
+-- the pair that a weight is given to
+abbrev pub weighed : (ℕ × ℕ × ℤ) → (ℕ × ℕ)
+weighed x = (x.0, x.1)
+
+abbrev pub is_same_pair : (ℕ × ℕ) → (ℕ × ℕ) → Bool
+is_same_pair x y = x.0 == y.0 && x.1 == y.1
+
+-- the weight that is given to a pair, 0 where none is
+abbrev pub given_weight : Written → ℕ → ℕ → ℤ
+given_weight w p r = (slice_index_or w.weights (position_or_len (is_same_pair (p, r)) (map weighed w.weights)) (0, 0, pos 0)).2

@@ -1,0 +1,74 @@
+//! What is read: an instance of any kind.
+
+use crate::agents::name_at;
+use crate::instance::Instance;
+use crate::kinds::Kind;
+use crate::persons::Persons;
+
+/// An instance with two sides, or one of roommates.
+#[derive(Drop)]
+pub enum Input {
+    Two(Instance),
+    Room(Persons),
+}
+
+impl Input {
+    ghost use Rattle.std.specs.Prelude.{◌≡◌, ◌<◌, length, position, IfSome};
+    ghost use Rattle.std.specs.Str.{bytes_eq};
+    ghost use Rattle.sm_instance.specs.Written.{agent_at, names_of};
+    ghost use Rattle.sm_instance.specs.Inputs.{kind_of, left_of, right_of};
+
+    /// The kind.
+    pub fn kind(&self) -> Kind
+        ensures { result ≡ kind_of self.now }
+    {
+        match self {
+            Input::Two(instance) => instance.kind(),
+            Input::Room(_) => Kind::Roommates,
+        }
+    }
+
+    /// The name of a proposer, in roommates of a person.
+    pub fn left_name(&self, at: u32) -> &[u8]
+        requires { at < length (left_of self.now) }
+        ensures { result.now ≡ (agent_at (left_of self.now) at).name }
+    {
+        match self {
+            Input::Two(instance) => name_at(instance.proposers(), at),
+            Input::Room(persons) => name_at(persons.persons(), at),
+        }
+    }
+
+    /// The name of a reviewer, in roommates of a person.
+    pub fn right_name(&self, at: u32) -> &[u8]
+        requires { at < length (right_of self.now) }
+        ensures { result.now ≡ (agent_at (right_of self.now) at).name }
+    {
+        match self {
+            Input::Two(instance) => name_at(instance.reviewers(), at),
+            Input::Room(persons) => name_at(persons.persons(), at),
+        }
+    }
+
+    /// The number of the proposer with a name, in roommates of the person. `None` exactly where no proposer has it.
+    pub fn find_left(&self, name: &[u8]) -> Option<u32>
+        ensures number { result ≡ position (bytes_eq name.now) (names_of (left_of self.now)) }
+        ensures in_range { IfSome result (λ n. n < length (left_of self.now)) }
+    {
+        match self {
+            Input::Two(instance) => instance.find_proposer(name),
+            Input::Room(persons) => persons.find(name),
+        }
+    }
+
+    /// The number of the reviewer with a name, in roommates of the person. `None` exactly where no reviewer has it.
+    pub fn find_right(&self, name: &[u8]) -> Option<u32>
+        ensures number { result ≡ position (bytes_eq name.now) (names_of (right_of self.now)) }
+        ensures in_range { IfSome result (λ n. n < length (right_of self.now)) }
+    {
+        match self {
+            Input::Two(instance) => instance.find_reviewer(name),
+            Input::Room(persons) => persons.find(name),
+        }
+    }
+}

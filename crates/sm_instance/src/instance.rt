@@ -1,0 +1,290 @@
+//! Instances with two sides.
+
+ghost use Rattle.std.specs.Prelude.{◌≡◌, ◌≢◌, ◌+◌, ◌<◌, ◌≤◌, ◌^◌, ◌↔◌, IsTrue, IfSome, length, position, IfOk, IfErr, OnOk};
+ghost use Rattle.std.specs.Str.{bytes_eq};
+ghost use Rattle.std.specs.Int.RustNames.{unsigned_abs};
+ghost use Rattle.sm_instance.specs.Written.{row, entry, names_of, capacity_of, IsAcceptable, given_weight};
+ghost use Rattle.sm_instance.specs.Vectors.{agents_of, written_of};
+ghost use Rattle.sm_instance.specs.Sound.{IsInstance};
+ghost use Rattle.sm_instance.specs.Kept.{cross_place, AreNamingsOf};
+
+use crate::agents::{Agent, capacity_at, list_at};
+use crate::checks::checked;
+use crate::crosses::crosses;
+use crate::faults::InstanceFault;
+use crate::kinds::Kind;
+use crate::names::Names;
+use crate::namings::{Naming, namings, place_by};
+use crate::pairs::Pairs;
+use std::alloc::Global;
+use std::marker::Model;
+
+/// An instance with two sides: a marriage, or hospitals and residents.
+///
+/// Beside what is written it keeps for each place of a proposer's list the place of that proposer on the other list, and
+/// for each reviewer who names it, so that no later call searches lists or takes memory. It takes memory in proportion
+/// to the agents, the entries and the weights, and none for each pair of agents.
+#[derive(Drop)]
+pub struct Instance {
+    kind: Kind,
+    proposers: Vec<Agent>,
+    reviewers: Vec<Agent>,
+    weights: Vec<(u32, u32, i64)>,
+    forced: Vec<(u32, u32)>,
+    forbidden: Vec<(u32, u32)>,
+    crosses: Vec<Vec<Option<u32>>>,
+    namings: Vec<Vec<Naming>>,
+    left: Names,
+    right: Names,
+    weighed: Pairs,
+}
+
+impl Model for Instance {
+    ghost use Rattle.sm_instance.specs.Written.{Written};
+    ghost use Rattle.sm_instance.specs.Vectors.{written_of, crosses_of, namings_of};
+    ghost use Rattle.sm_instance.specs.Kept.{IsKept};
+
+    ghost Value = { Written };
+
+    ghost view = { λ i. written_of i.kind i.proposers.items i.reviewers.items i.weights.items i.forced.items i.forbidden.items };
+
+    ghost invariant = { λ i. IsKept
+        (written_of i.kind i.proposers.items i.reviewers.items i.weights.items i.forced.items i.forbidden.items)
+        (crosses_of i.crosses.items) (namings_of i.namings.items) i.left i.right i.weighed };
+}
+
+impl Instance {
+    ghost use Rattle.sm_instance.specs.Faults.{IsFault};
+
+    /// Makes an instance, or names the first thing that stands in the way.
+    ///
+    /// The kind has to be one with two sides, and there have to be fewer than 2^24 weights, forced and forbidden pairs
+    /// together. Each pair has the proposer first. What is given is moved into the instance, and is dropped where it
+    /// makes none. Takes time in proportion to the agents, the items and, but for a logarithm, the entries, and memory
+    /// in proportion to all.
+    ///
+    /// # Errors
+    ///
+    /// The faults are those of [`InstanceFault`], in its order. Agents and entries are tried on the proposers' side
+    /// first, then by number and by place. The capacity has to be 1 for a proposer, and for every agent of a marriage.
+    pub fn build(
+        alloc: Global,
+        kind: Kind,
+        proposers: Vec<Agent>,
+        reviewers: Vec<Agent>,
+        weights: Vec<(u32, u32, i64)>,
+        forced: Vec<(u32, u32)>,
+        forbidden: Vec<(u32, u32)>,
+    ) -> Result<Instance, InstanceFault>
+        requires two_sided { kind ≢ Kind.Roommates }
+        requires few { length weights.items + length forced.items + length forbidden.items < 2 ^ 24 }
+        ensures written { IfOk result (λ i. i ≡ written_of kind
+            proposers.items reviewers.items weights.items forced.items forbidden.items) }
+        ensures instance { OnOk result (IsInstance (written_of kind
+            proposers.items reviewers.items weights.items forced.items forbidden.items)) }
+        ensures fault { IfErr result (λ f. IsFault (written_of kind
+            proposers.items reviewers.items weights.items forced.items forbidden.items) f) }
+    {
+        let (left, right, weighed) = checked(
+            alloc, kind, &proposers, &reviewers, &weights, &forced, &forbidden,
+        )?;
+        let crosses = crosses(alloc, &proposers, &reviewers)?;
+        let namings = namings(alloc, &proposers, reviewers.len() as u32)?;
+        Ok(Instance {
+            kind,
+            proposers,
+            reviewers,
+            weights,
+            forced,
+            forbidden,
+            crosses,
+            namings,
+            left,
+            right,
+            weighed,
+        })
+    }
+
+    /// The kind, which is a marriage or hospitals.
+    pub fn kind(&self) -> Kind
+        ensures { result ≡ self.now.kind }
+    {
+        self.kind
+    }
+
+    /// The proposers, by number.
+    pub fn proposers(&self) -> &[Agent]
+        ensures agents { agents_of result.now ≡ self.now.proposers }
+        ensures instance { IsInstance self.now }
+    {
+        &self.proposers
+    }
+
+    /// The reviewers, by number.
+    pub fn reviewers(&self) -> &[Agent]
+        ensures agents { agents_of result.now ≡ self.now.reviewers }
+        ensures instance { IsInstance self.now }
+    {
+        &self.reviewers
+    }
+
+    /// The weights in the order in which they were given, each with its proposer and its reviewer.
+    pub fn weights(&self) -> &[(u32, u32, i64)]
+        ensures { result.now ≡ self.now.weights }
+    {
+        &self.weights
+    }
+
+    /// The forced pairs, in the order in which they were given.
+    pub fn forced(&self) -> &[(u32, u32)]
+        ensures pairs { result.now ≡ self.now.forced }
+        ensures instance { IsInstance self.now }
+    {
+        &self.forced
+    }
+
+    /// The forbidden pairs, in the order in which they were given.
+    pub fn forbidden(&self) -> &[(u32, u32)]
+        ensures pairs { result.now ≡ self.now.forbidden }
+        ensures instance { IsInstance self.now }
+    {
+        &self.forbidden
+    }
+
+    /// How many proposers there are.
+    pub fn proposer_count(&self) -> u32
+        ensures count { result ≡ length self.now.proposers }
+        ensures instance { IsInstance self.now }
+    {
+        self.proposers.len() as u32
+    }
+
+    /// How many reviewers there are.
+    pub fn reviewer_count(&self) -> u32
+        ensures count { result ≡ length self.now.reviewers }
+        ensures instance { IsInstance self.now }
+    {
+        self.reviewers.len() as u32
+    }
+
+    /// How many reviewers a proposer lists.
+    pub fn proposer_len(&self, p: u32) -> u32
+        requires { p < length self.now.proposers }
+        ensures length { result ≡ length (row self.now.proposers p) }
+        ensures fits { result ≤ 524288 }
+        ensures instance { IsInstance self.now }
+    {
+        list_at(&self.proposers, p).len() as u32
+    }
+
+    /// How many proposers a reviewer lists.
+    pub fn reviewer_len(&self, r: u32) -> u32
+        requires { r < length self.now.reviewers }
+        ensures length { result ≡ length (row self.now.reviewers r) }
+        ensures fits { result ≤ 524288 }
+    {
+        list_at(&self.reviewers, r).len() as u32
+    }
+
+    /// The reviewer at a place of a proposer's list.
+    pub fn reviewer_at(&self, p: u32, place: u32) -> u32
+        requires in_range { p < length self.now.proposers }
+        requires on_list { place < length (row self.now.proposers p) }
+        ensures named { result ≡ entry self.now.proposers p place }
+        ensures in_range { result < length self.now.reviewers }
+    {
+        list_at(&self.proposers, p)[place as usize]
+    }
+
+    /// How many proposers a reviewer may have.
+    pub fn capacity(&self, r: u32) -> u32
+        requires { r < length self.now.reviewers }
+        ensures capacity { result ≡ capacity_of self.now.reviewers r }
+        ensures fits { result ≤ 4096 }
+    {
+        capacity_at(&self.reviewers, r)
+    }
+
+    /// The place of proposer `p` on the list of the reviewer at `place` of `p`'s list; `None` where it isn't on it, so
+    /// that the entry is inert. Takes the same time for all.
+    pub fn cross(&self, p: u32, place: u32) -> Option<u32>
+        requires in_range { p < length self.now.proposers }
+        requires on_list { place < length (row self.now.proposers p) }
+        ensures cross { result ≡ cross_place self.now.reviewers (entry self.now.proposers p place) p }
+        ensures fits { IfSome result (λ back. back < 524288) }
+        ensures place_fits { place < 524288 }
+    {
+        self.kept_cross(p, place)
+    }
+
+    /// The cross place that is kept.
+    fn kept_cross(&self, p: u32, place: u32) -> Option<u32>
+        requires in_range { p < length self.now.proposers }
+        requires on_list { place < length (row self.now.proposers p) }
+        ensures cross { result ≡ cross_place self.now.reviewers (entry self.now.proposers p place) p }
+        ensures instance { IsInstance self.now }
+    {
+        self.crosses[p as usize][place as usize]
+    }
+
+    /// Whether a proposer and a reviewer are acceptable to each other: each lists the other.
+    ///
+    /// Takes time in proportion to the logarithm of how many list the reviewer.
+    pub fn acceptable(&self, p: u32, r: u32) -> bool
+        requires proposer { p < length self.now.proposers }
+        requires reviewer { r < length self.now.reviewers }
+        ensures { IsTrue result ↔ IsAcceptable self.now p r }
+    {
+        match self.place(p, r) {
+            Some(place) => self.cross(p, place).is_some(),
+            None => false,
+        }
+    }
+
+    /// The place of a reviewer on a proposer's list; `None` where it isn't on it.
+    pub fn place(&self, p: u32, r: u32) -> Option<u32>
+        requires proposer { p < length self.now.proposers }
+        requires reviewer { r < length self.now.reviewers }
+        ensures { result ≡ cross_place self.now.proposers p r }
+    {
+        place_by(self.namings_of(r), p)
+    }
+
+    /// Who lists a reviewer, by number and with the place.
+    pub(crate) fn namings_of(&self, r: u32) -> &[Naming]
+        requires { r < length self.now.reviewers }
+        ensures namings { AreNamingsOf self.now.proposers (length self.now.proposers) 0 r result.now }
+        ensures instance { IsInstance self.now }
+    {
+        &self.namings[r as usize]
+    }
+
+    /// The weight that is given to a pair, 0 where none is. Takes the same time for all.
+    pub fn weight(&self, p: u32, r: u32) -> i64
+        requires proposer { p < length self.now.proposers }
+        requires reviewer { r < length self.now.reviewers }
+        ensures weight { result ≡ given_weight self.now p r }
+        ensures size { unsigned_abs result ≤ 1000000000 }
+    {
+        match self.weighed.find((p, r)) {
+            Some(n) => self.weights[n].2,
+            None => 0,
+        }
+    }
+
+    /// The number of the proposer with a name, `None` where there is none.
+    pub fn find_proposer(&self, name: &[u8]) -> Option<u32>
+        ensures number { result ≡ position (bytes_eq name.now) (names_of self.now.proposers) }
+        ensures in_range { IfSome result (λ n. n < length self.now.proposers) }
+    {
+        self.left.find(name)
+    }
+
+    /// The number of the reviewer with a name, `None` where there is none.
+    pub fn find_reviewer(&self, name: &[u8]) -> Option<u32>
+        ensures number { result ≡ position (bytes_eq name.now) (names_of self.now.reviewers) }
+        ensures in_range { IfSome result (λ n. n < length self.now.reviewers) }
+    {
+        self.right.find(name)
+    }
+}

@@ -1,0 +1,33 @@
+//! Instances of stable matching problems: named agents on two sides with written lists and capacities, weights of pairs
+//! and conditions; and matchings of them.
+//!
+//! Agents are numbered from 0 on each side, in the order of their declarations. Places on a list are counted from 0, and
+//! ranks from 1. A proposer and a reviewer are acceptable to each other when each lists the other; any other entry is
+//! inert, and keeps its place (Manlove 2013, chapters 1 and 2; Gusfield and Irving 1989, chapter 1).
+//!
+//! [`Instance::build`] and [`Persons::build`] make instances, or name the first thing that stands in the way. No other
+//! call of this crate takes memory.
+#![tactic(auto)]
+
+mod agents;
+mod allowed;
+mod blocking;
+mod checks;
+mod crosses;
+mod faults;
+mod inputs;
+mod instance;
+mod kinds;
+mod matching;
+mod names;
+mod namings;
+mod pairs;
+mod persons;
+mod ranks;
+
+pub use agents::{Agent, Assignment};
+pub use faults::InstanceFault;
+pub use inputs::Input;
+pub use instance::Instance;
+pub use kinds::{Kind, Measure, Side};
+pub use persons::Persons;

@@ -1,0 +1,57 @@
+//! The names of one side, each with its number.
+
+ghost use Rattle.std.specs.Prelude.{◌≡◌, ◌<◌, ◌^◌, [], ◌++◌, ◌∷◌, length, not, position, if◌then◌else◌, IfOk, IfSome};
+ghost use Rattle.std.specs.List.{list_any};
+ghost use Rattle.std.specs.Str.{bytes_eq};
+
+use indexmap::IndexSet;
+use std::alloc::{AllocError, Global};
+use std::marker::Model;
+
+/// The names of a side, in the order of its agents. They are found by their hash.
+#[derive(Drop)]
+pub(crate) struct Names {
+    names: IndexSet<Vec<u8>>,
+}
+
+impl Model for Names {
+    ghost use Rattle.std.specs.Prelude.{ℕ, List};
+    ghost use Rattle.indexmap.specs.IndexSet.{keys};
+    ghost use Rattle.sm_instance.specs.Vectors.{texts_of};
+
+    ghost Value = { List (List ℕ) };
+
+    ghost view = { λ n. texts_of (keys n.names) };
+}
+
+impl Names {
+    /// No names.
+    pub(crate) fn new(alloc: Global) -> Names
+        ensures { result ≡ [] }
+    {
+        Names {
+            names: IndexSet::new(alloc),
+        }
+    }
+
+    /// Adds a name behind the others, unless it is among them, and answers whether it was added.
+    pub(crate) fn add(&mut self, alloc: Global, name: &[u8]) -> Result<bool, AllocError>
+        ensures added { IfOk result (λ added. added ≡ not (list_any (bytes_eq name.now) self.old)) }
+        ensures names { IfOk result
+            (λ added. self.new ≡ (if added then self.old ++ name.now ∷ [] else self.old)) }
+    {
+        Ok(self.names.insert(Vec::from_slice(alloc, name)?)?)
+    }
+
+    /// The number of a name.
+    pub(crate) fn find(&self, name: &[u8]) -> Option<u32>
+        requires { length self.now < 2 ^ 32 }
+        ensures number { result ≡ position (bytes_eq name.now) self.now }
+        ensures in_range { IfSome result (λ n. n < length self.now) }
+    {
+        match self.names.get_index_of(name) {
+            Some(number) => Some(number as u32),
+            None => None,
+        }
+    }
+}

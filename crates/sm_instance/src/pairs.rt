@@ -1,0 +1,51 @@
+//! Pairs of a proposer and a reviewer, each with its number.
+
+ghost use Rattle.std.specs.Prelude.{◌≡◌, [], ◌++◌, ◌∷◌, length, not, position, if◌then◌else◌, IfOk};
+ghost use Rattle.std.specs.List.{list_any};
+ghost use Rattle.sm_instance.specs.Written.{is_same_pair};
+
+use indexmap::IndexSet;
+use std::alloc::{AllocError, Global};
+use std::marker::Model;
+
+/// Pairs that differ, in the order in which they were added. They are found by their hash.
+#[derive(Drop)]
+pub(crate) struct Pairs {
+    pairs: IndexSet<(u32, u32)>,
+}
+
+impl Model for Pairs {
+    ghost use Rattle.std.specs.Prelude.{ℕ, List};
+    ghost use Rattle.indexmap.specs.IndexSet.{keys};
+
+    ghost Value = { List (ℕ × ℕ) };
+
+    ghost view = { λ p. keys p.pairs };
+}
+
+impl Pairs {
+    /// No pairs.
+    pub(crate) fn new(alloc: Global) -> Pairs
+        ensures { result ≡ [] }
+    {
+        Pairs {
+            pairs: IndexSet::new(alloc),
+        }
+    }
+
+    /// Adds a pair behind the others, unless it is among them, and answers whether it was added.
+    pub(crate) fn add(&mut self, pair: (u32, u32)) -> Result<bool, AllocError>
+        ensures added { IfOk result (λ added. added ≡ not (list_any (is_same_pair pair) self.old)) }
+        ensures pairs { IfOk result
+            (λ added. self.new ≡ (if added then self.old ++ pair ∷ [] else self.old)) }
+    {
+        Ok(self.pairs.insert(pair)?)
+    }
+
+    /// The number of a pair.
+    pub(crate) fn find(&self, pair: (u32, u32)) -> Option<usize>
+        ensures { result ≡ position (is_same_pair pair) self.now }
+    {
+        self.pairs.get_index_of(&pair)
+    }
+}

@@ -1,0 +1,77 @@
+//! Instances of roommates.
+
+ghost use Rattle.std.specs.Prelude.{◌≡◌, ◌<◌, length, position, IfSome, IfOk, IfErr, OnOk};
+ghost use Rattle.std.specs.Str.{bytes_eq};
+ghost use Rattle.sm_instance.specs.Written.{names_of};
+ghost use Rattle.sm_instance.specs.Vectors.{agents_of};
+ghost use Rattle.sm_instance.specs.Sound.{ArePersons};
+
+use crate::agents::Agent;
+use crate::checks::{are_within_limits, check_entries, checked_names};
+use crate::faults::InstanceFault;
+use crate::kinds::Side;
+use crate::names::Names;
+use std::alloc::Global;
+use std::marker::Model;
+
+/// An instance of roommates: persons who list each other. An entry that names its own writer is inert.
+#[derive(Drop)]
+pub struct Persons {
+    persons: Vec<Agent>,
+    names: Names,
+}
+
+impl Model for Persons {
+    ghost use Rattle.std.specs.Prelude.{List};
+    ghost use Rattle.sm_instance.specs.Written.{AgentData};
+    ghost use Rattle.sm_instance.specs.Vectors.{agents_of};
+    ghost use Rattle.sm_instance.specs.Kept.{ArePersonsKept};
+
+    ghost Value = { List AgentData };
+
+    ghost view = { λ p. agents_of p.persons.items };
+
+    ghost invariant = { λ p. ArePersonsKept (agents_of p.persons.items) p.names };
+}
+
+impl Persons {
+    ghost use Rattle.sm_instance.specs.Faults.{IsPersonsFault};
+
+    /// Makes an instance of roommates, or names the first thing that stands in the way.
+    ///
+    /// The persons are moved into the instance, and are dropped where they make none. Takes time and memory in
+    /// proportion to the persons and entries.
+    ///
+    /// # Errors
+    ///
+    /// The faults are those of [`InstanceFault`], in its order, and never `BadPair`. The persons are named as
+    /// proposers, and each has to have the capacity 1.
+    pub fn build(alloc: Global, persons: Vec<Agent>) -> Result<Persons, InstanceFault>
+        ensures persons { IfOk result (λ p. p ≡ agents_of persons.items) }
+        ensures sound { OnOk result (ArePersons (agents_of persons.items)) }
+        ensures fault { IfErr result (λ f. IsPersonsFault (agents_of persons.items) f) }
+    {
+        if !are_within_limits(&persons, &[]) {
+            return Err(InstanceFault::TooMany);
+        }
+        let names = checked_names(alloc, Side::Proposers, &persons, true)?;
+        check_entries(alloc, Side::Proposers, &persons, persons.len() as u32)?;
+        Ok(Persons { persons, names })
+    }
+
+    /// The persons, by number.
+    pub fn persons(&self) -> &[Agent]
+        ensures agents { agents_of result.now ≡ self.now }
+        ensures sound { ArePersons self.now }
+    {
+        &self.persons
+    }
+
+    /// The number of the person with a name, `None` where there is none.
+    pub fn find(&self, name: &[u8]) -> Option<u32>
+        ensures number { result ≡ position (bytes_eq name.now) (names_of self.now) }
+        ensures in_range { IfSome result (λ n. n < length self.now) }
+    {
+        self.names.find(name)
+    }
+}
