@@ -80,22 +80,22 @@ module _ (net : Net) (set : List Bool) (one : length set ≡ net.size) where
   unfolding x out_of
   cut_is = omega (
     arith,
-    sum_first (suc net.size) row,
+    sum_first (suc net.size) leaving,
     from_source,
-    sum_same net.size (λ k. row (suc k)) (λ k. cond (is_member set k) (net.drain k) 0) (λ k h. from k),
+    sum_same net.size (λ k. leaving (suc k)) (λ k. cond (is_member set k) (net.drain k) 0) (λ k h. from k),
     from_sink,
     sum_plus net.size (λ k. cond (is_member set k) 0 (net.supply k)) (λ k. cond (is_member set k) (net.drain k) 0),
     sum_same net.size (λ k. cond (is_member set k) 0 (net.supply k) + cond (is_member set k) (net.drain k) 0) (λ k. cond (is_member set k) (net.drain k) (net.supply k)) (λ k h. join (is_member set k) (net.drain k) (net.supply k)),
   )
     where
-      row : ℕ → ℕ
-      row i = sum_to (out_of x (room_of net) i) (nodes net)
+      leaving : ℕ → ℕ
+      leaving i = sum_to (out_of x (room_of net) i) (nodes net)
 
       join : (b : Bool) (d s : ℕ) → cond b 0 s + cond b d 0 ≡ cond b d s
       join true d s = omega arith
       join false d s = omega arith
 
-      from_source : row 0 ≡ sum_to (λ k. cond (is_member set k) 0 (net.supply k)) net.size
+      from_source : leaving 0 ≡ sum_to (λ k. cond (is_member set k) 0 (net.supply k)) net.size
       from_source = omega (
         arith,
         sum_first (suc net.size) (out_of x (room_of net) 0),
@@ -106,7 +106,7 @@ module _ (net : Net) (set : List Bool) (one : length set ≡ net.size) where
           last : out_of x (room_of net) 0 (suc net.size) ≡ 0
           last = rw (past, le-ltb net.size net.size (omega arith)) refl
 
-      from : (k : ℕ) → row (suc k) ≡ cond (is_member set k) (net.drain k) 0
+      from : (k : ℕ) → leaving (suc k) ≡ cond (is_member set k) (net.drain k) 0
       from k = omega (
         arith,
         sum_first (suc net.size) (out_of x (room_of net) (suc k)),
@@ -129,7 +129,7 @@ module _ (net : Net) (set : List Bool) (one : length set ≡ net.size) where
           last : out_of x (room_of net) (suc k) (suc net.size) ≡ cond (is_member set k) (net.drain k) 0
           last = rw (past, eq-eqb net.size net.size refl) refl
 
-      from_sink : row (suc net.size) ≡ 0
+      from_sink : leaving (suc net.size) ≡ 0
       from_sink = sum_none (nodes net) (out_of x (room_of net) (suc net.size)) (λ j h. rw past refl)
 
   module _ (flow : ℕ → ℕ → ℕ) (h : IsFlow net flow) where
