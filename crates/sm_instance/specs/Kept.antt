@@ -47,11 +47,12 @@ pub record AreNamings (agents : List AgentData) (others p k : ℕ) (namings : Li
   pub one_each : length namings ≡ others
   pub of : (r : ℕ) → r < others → AreNamingsOf agents p k r (slice_index_or namings r [])
 
--- what is kept beside an instance: the cross places, who names each reviewer, the names of both sides and the pairs with
+-- what is kept beside an instance: the cross places of both sides, who names each reviewer, the names of both sides and the pairs with
 -- a weight
-pub record IsKept (w : Written) (crosses : List (List (Option ℕ))) (namings : List (List Naming)) (left right : List (List ℕ)) (pairs : List (ℕ × ℕ)) : Type 0 where
+pub record IsKept (w : Written) (crosses reviewer_crosses : List (List (Option ℕ))) (namings : List (List Naming)) (left right : List (List ℕ)) (pairs : List (ℕ × ℕ)) : Type 0 where
   pub instance : IsInstance w
   pub crossed : AreCrossPlaces w.proposers w.reviewers crosses
+  pub crossed_back : AreCrossPlaces w.reviewers w.proposers reviewer_crosses
   pub named : AreNamings w.proposers (length w.reviewers) (length w.proposers) 0 namings
   pub lefts : left ≡ names_of w.proposers
   pub rights : right ≡ names_of w.reviewers

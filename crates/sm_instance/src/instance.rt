@@ -10,19 +10,19 @@ ghost use Rattle.sm_instance.specs.Kept.{cross_place, AreNamingsOf};
 
 use crate::agents::{Agent, capacity_at, list_at};
 use crate::checks::checked;
-use crate::crosses::crosses;
+use crate::crosses::crossings;
 use crate::faults::InstanceFault;
 use crate::kinds::Kind;
 use crate::names::Names;
-use crate::namings::{Naming, namings, place_by};
+use crate::namings::{Naming, place_by};
 use crate::pairs::Pairs;
 use std::alloc::Global;
 use std::marker::Model;
 
 /// An instance with two sides: a marriage, or hospitals and residents.
 ///
-/// Beside what is written it keeps for each place of a proposer's list the place of that proposer on the other list, and
-/// for each reviewer who names it, so that no later call searches lists or takes memory. It takes memory in proportion
+/// Beside what is written it keeps for each place of a list the place of the list's owner on the other list, and for
+/// each reviewer who names it, so that no later call searches lists or takes memory. It takes memory in proportion
 /// to the agents, the entries and the weights, and none for each pair of agents.
 #[derive(Drop)]
 pub struct Instance {
@@ -33,6 +33,7 @@ pub struct Instance {
     forced: Vec<(u32, u32)>,
     forbidden: Vec<(u32, u32)>,
     crosses: Vec<Vec<Option<u32>>>,
+    reviewer_crosses: Vec<Vec<Option<u32>>>,
     namings: Vec<Vec<Naming>>,
     left: Names,
     right: Names,
@@ -50,7 +51,7 @@ impl Model for Instance {
 
     ghost invariant = { λ i. IsKept
         (written_of i.kind i.proposers.items i.reviewers.items i.weights.items i.forced.items i.forbidden.items)
-        (crosses_of i.crosses.items) (namings_of i.namings.items) i.left i.right i.weighed };
+        (crosses_of i.crosses.items) (crosses_of i.reviewer_crosses.items) (namings_of i.namings.items) i.left i.right i.weighed };
 }
 
 impl Instance {
@@ -88,8 +89,7 @@ impl Instance {
         let (left, right, weighed) = checked(
             alloc, kind, &proposers, &reviewers, &weights, &forced, &forbidden,
         )?;
-        let crosses = crosses(alloc, &proposers, &reviewers)?;
-        let namings = namings(alloc, &proposers, reviewers.len() as u32)?;
+        let (crosses, reviewer_crosses, namings) = crossings(alloc, &proposers, &reviewers)?;
         Ok(Instance {
             kind,
             proposers,
@@ -98,6 +98,7 @@ impl Instance {
             forced,
             forbidden,
             crosses,
+            reviewer_crosses,
             namings,
             left,
             right,
@@ -196,6 +197,16 @@ impl Instance {
         list_at(&self.proposers, p)[place as usize]
     }
 
+    /// The proposer at a place of a reviewer's list.
+    pub fn proposer_at(&self, r: u32, place: u32) -> u32
+        requires in_range { r < length self.now.reviewers }
+        requires on_list { place < length (row self.now.reviewers r) }
+        ensures named { result ≡ entry self.now.reviewers r place }
+        ensures in_range { result < length self.now.proposers }
+    {
+        list_at(&self.reviewers, r)[place as usize]
+    }
+
     /// How many proposers a reviewer may have.
     pub fn capacity(&self, r: u32) -> u32
         requires { r < length self.now.reviewers }
@@ -215,6 +226,16 @@ impl Instance {
         ensures place_fits { place < 524288 }
     {
         self.kept_cross(p, place)
+    }
+
+    /// The place of reviewer `r` on the list of the proposer at `place` of `r`'s list; `None` where it isn't on it, so
+    /// that the entry is inert. Takes the same time for all.
+    pub fn reviewer_cross(&self, r: u32, place: u32) -> Option<u32>
+        requires in_range { r < length self.now.reviewers }
+        requires on_list { place < length (row self.now.reviewers r) }
+        ensures { result ≡ cross_place self.now.proposers (entry self.now.reviewers r place) r }
+    {
+        self.reviewer_crosses[r as usize][place as usize]
     }
 
     /// The cross place that is kept.

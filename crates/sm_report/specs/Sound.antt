@@ -1,0 +1,121 @@
+-- Which lines can be printed, and which are lines of an instance.
+use Rattle.std.specs.Prelude.{◌≡◌, ℕ, ◌<◌, ◌≤◌, ◌^◌, List, [], ◌∷◌, length, map, All, Option, None, IsSome, IfSome}
+use Rattle.std.specs.List.Sorted.{IsStrictlyIncreasing}
+use Rattle.std.specs.Int.RustNames.{unsigned_abs}
+use Rattle.sm_instance.specs.Inputs.{kind_of, left_of, right_of}
+use Rattle.sm_instance.specs.declared.inputs.Input.{Input}
+use Rattle.sm_instance.specs.declared.kinds.Kind.{Kind}
+use Rattle.sm_instance.specs.declared.kinds.Kind.TheVariants.{Marriage, Hospitals, Roommates}
+use Rattle.sm_instance.specs.declared.kinds.Side.{Side}
+use Rattle.sm_report.specs.declared.lines.Seat.{Seat}
+use Rattle.sm_report.specs.Heads.{HeadData}
+use Rattle.sm_report.specs.Lines.{LineData}
+use Rattle.sm_report.specs.Reasons.{IsReason}
+
+-- the agents that a line names are there, and so is the reason of a `no`
+abbrev pub IsLeft : Input → ℕ → Type 0
+IsLeft input p = p < length (left_of input)
+
+abbrev pub IsRight : Input → ℕ → Type 0
+IsRight input r = r < length (right_of input)
+
+abbrev pub ArePair : Input → ℕ → ℕ → Type 0
+ArePair input p r = IsLeft input p × IsRight input r
+
+abbrev pub AreTurns : Input → List (ℕ × Seat) → Type 0
+AreTurns input pairs = All (λ (pair : ℕ × Seat). ArePair input pair.0 pair.1.reviewer) pairs
+
+abbrev pub AreSeats : Input → List Seat → Type 0
+AreSeats input seats = All (λ (seat : Seat). IsRight input seat.reviewer) seats
+
+abbrev pub IsPrintable : Input → LineData → Type 0
+IsPrintable input (LineData.Pair p r) = ArePair input p r
+IsPrintable input (LineData.Party persons) = All (IsLeft input) persons
+IsPrintable input (LineData.First p seat) = ArePair input p seat.reviewer
+IsPrintable input (LineData.Last p seat) = ArePair input p seat.reviewer
+IsPrintable input (LineData.ProposerList p seats) = IsLeft input p × AreSeats input seats
+IsPrintable input (LineData.ReviewerList seat proposers) = IsRight input seat.reviewer × All (IsLeft input) proposers
+IsPrintable input (LineData.Rotation i pairs) = AreTurns input pairs
+IsPrintable input (LineData.SomePair p r) = ArePair input p r
+IsPrintable input (LineData.AllPair p r) = ArePair input p r
+IsPrintable input (LineData.LeftPair p r) = ArePair input p r
+IsPrintable input (LineData.RightPair p r) = ArePair input p r
+IsPrintable input (LineData.No at reason) = IsReason reason
+IsPrintable input _ = Unit {0}
+
+-- the seats that a line names
+abbrev pub seats_of : LineData → List Seat
+seats_of (LineData.First p seat) = seat ∷ []
+seats_of (LineData.Last p seat) = seat ∷ []
+seats_of (LineData.ProposerList p seats) = seats
+seats_of (LineData.ReviewerList seat proposers) = seat ∷ []
+seats_of (LineData.Rotation i pairs) = map (λ pair. pair.1) pairs
+seats_of _ = []
+
+-- a seat's number, of which there is one alone but in hospitals
+abbrev pub IsSeatNumber : Kind → ℕ → Type 0
+IsSeatNumber Marriage n = n ≡ 1
+IsSeatNumber Hospitals n = (1 ≤ n) × (n < 2 ^ 32)
+IsSeatNumber Roommates n = n ≡ 1
+
+-- a rotation's number, and numbers of 32 and of 64 bits
+pub record IsRotation (i : ℕ) : Type 0 where
+  pub least : 1 ≤ i
+  pub greatest : i ≤ 4294967294
+
+abbrev pub IsSmall : ℕ → Type 0
+IsSmall n = n < 2 ^ 32
+
+abbrev pub IsLarge : ℕ → Type 0
+IsLarge n = n < 2 ^ 64
+
+-- numbers of rotations, each above the one before it
+pub record AreRotations (ns : List ℕ) : Type 0 where
+  pub each : All IsRotation ns
+  pub rising : IsStrictlyIncreasing ns
+
+-- a limit on how many are listed
+pub record IsLimit (n : ℕ) : Type 0 where
+  pub least : 1 ≤ n
+  pub greatest : n ≤ 1000000
+
+-- `solve` names a side exactly where the instance has two
+abbrev pub NamesSide : Kind → Option Side → Type 0
+NamesSide Marriage side = IsSome side
+NamesSide Hospitals side = IsSome side
+NamesSide Roommates side = side ≡ None
+
+abbrev pub IsHeadOf : Kind → HeadData → Type 0
+IsHeadOf kind (HeadData.Solve side) = NamesSide kind side
+IsHeadOf kind (HeadData.List after limit) = IfSome after (All IsSmall) × IsLimit limit
+IsHeadOf kind (HeadData.Survey limit) = IsLimit limit
+IsHeadOf kind _ = Unit {0}
+
+-- the other numbers of a line are within their limits
+abbrev pub AreNumbers : LineData → Type 0
+AreNumbers (LineData.Rotation i pairs) = IsRotation i
+AreNumbers (LineData.Needs i needed) = IsRotation i × AreRotations needed
+AreNumbers (LineData.Gain i gain) = IsRotation i × (unsigned_abs gain ≤ 9223372036854775807)
+AreNumbers (LineData.Flow from to amount) = IsSmall from × IsSmall to × IsLarge amount
+AreNumbers (LineData.Taken taken) = AreRotations taken
+AreNumbers (LineData.Value value) = IsLarge value
+AreNumbers (LineData.Cut value) = IsLarge value
+AreNumbers (LineData.Total weight) = unsigned_abs weight ≤ 9223372036854775807
+AreNumbers (LineData.Vector v) = All IsSmall v
+AreNumbers (LineData.More v) = All IsSmall v
+AreNumbers (LineData.Regret regret) = IsSmall regret
+AreNumbers (LineData.Listed count) = IsSmall count
+AreNumbers (LineData.TallyLine tag figures) = IsSmall tag × All IsLarge figures
+AreNumbers (LineData.No at reason) = IsSmall at
+AreNumbers _ = Unit {0}
+
+abbrev pub HasHeadOf : Kind → LineData → Type 0
+HasHeadOf kind (LineData.Answer head) = IsHeadOf kind head
+HasHeadOf kind _ = Unit {0}
+
+-- a line of an instance
+pub record IsLineOf (input : Input) (line : LineData) : Type 0 where
+  pub printable : IsPrintable input line
+  pub seats : All (λ (seat : Seat). IsSeatNumber (kind_of input) seat.number) (seats_of line)
+  pub numbers : AreNumbers line
+  pub head : HasHeadOf (kind_of input) line

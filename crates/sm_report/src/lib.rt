@@ -1,0 +1,20 @@
+//! The lines of answers, and what is written for each.
+//!
+//! A line is a [`Line`] over an instance: it names agents, seats and rotations by number. Agents are numbered from 0,
+//! as in the instance, and seats of a reviewer and rotations from 1. [`put_line`] puts a line's text behind what a
+//! writer holds. Nothing here looks at what the lines say of the instance: whether an answer is right is shown elsewhere.
+#![tactic(auto)]
+
+mod fields;
+mod heads;
+mod lines;
+mod lists;
+mod printing;
+mod reasons;
+
+pub use heads::Head;
+pub use lines::{Line, Seat};
+pub use printing::put_line;
+
+#[cfg(test)]
+mod tests;
