@@ -1,11 +1,11 @@
 -- From the definitions over lists to the functions of Core, and back.
 use Rattle.std.proofs.Common.{◌≡◌, ℕ, ◌<◌, ◌≤◌, ◌⊎◌, ◌==◌, inl, inr, arith, refl, sym, ap, ◌∙◌, List, [], length, Option, None, Some, eqb-true, eq-eqb, ne_eqb}
-use Rattle.std.proofs.lemmas.List.{get_or_past}
+use Rattle.std.proofs.lemmas.List.{get_or_past, ext_get_or}
 use Rattle.std.proofs.lemmas.List.Sums.{position_or_len_is, passes_at_first}
 use Rattle.sm_market.specs.Lists.{Lists, row, entry, place_of, reversed_lists, AreMutual, IsMarket}
 use Rattle.sm_market.specs.Matching.{Places, held, standing, reversed, AreHeldInTurn, IsMatching}
 use Rattle.sm_market.specs.Stable.{Blocks, IsStable}
-use Rattle.sm_market.proofs.Core.{Half, Sides, Stand, Kept, Fit, Stable}
+use Rattle.sm_market.proofs.Core.{Half, Sides, Stand, Kept, Fit, Stable, Stable-turned, same_reviewers}
 
 pub list_len : List (List ℕ) → ℕ → ℕ
 list_len rows a = length (row rows a)
@@ -129,3 +129,34 @@ pub unblocked_of : {l : Lists} (h : IsMarket l) {m : Places} → Stable (sides_o
 unblocked_of {l} h {m} s p i b =
     let e = entry_place h.proposers p i b.on_list in
     s.unblocked p (entry l.proposers p i) (omega (arith, e, b.on_list)) (omega (arith, e, b.proposer_gains)) b.reviewer_gains
+
+-- a stable matching with the sides exchanged
+pub IsStable-reversed : {l : Lists} (h : IsMarket l) {m : Places} → IsStable l m → IsStable (reversed_lists l) (reversed m)
+IsStable-reversed {l} h {m} s = record { matching = IsMatching-reversed s.matching; unblocked = unblocked_of (IsMarket-reversed h) {m = reversed m} (Stable-turned (stable_of h s)) }
+
+-- two matchings in which all stand alike are equal
+pub places_equal : {l : Lists} {m n : Places} → IsMatching l m → IsMatching l n
+    → ((p : ℕ) → standing l.proposers m.proposers p ≡ standing l.proposers n.proposers p)
+    → ((r : ℕ) → standing l.reviewers m.reviewers r ≡ standing l.reviewers n.reviewers r) → m ≡ n
+places_equal {l} {m} {n} hm hn left right = λ i. record { proposers = one i; reviewers = two i }
+  where
+    same : (rows : List (List ℕ)) (xs ys : List (Option ℕ)) (a : ℕ) → ((i : ℕ) → held xs a ≡ Some i → i < length (row rows a)) → ((i : ℕ) → held ys a ≡ Some i → i < length (row rows a)) → standing rows xs a ≡ standing rows ys a → held xs a ≡ held ys a
+    same rows xs ys a on on' e = elim (held_cases rows xs a) [
+      | inl w ↦ elim (held_cases rows ys a) [
+        | inl v ↦ w.held_is ∙ sym v.held_is
+        | inr v ↦ absurd (omega (arith, w.standing_is, v.standing_is, on' v.place v.held_is))
+      ]
+      | inr w ↦ elim (held_cases rows ys a) [
+        | inl v ↦ absurd (omega (arith, w.standing_is, v.standing_is, on w.place w.held_is))
+        | inr v ↦ w.held_is ∙ ap Some (sym w.standing_is ∙ e ∙ v.standing_is) ∙ sym v.held_is
+      ]
+    ]
+
+    one : m.proposers ≡ n.proposers
+    one = ext_get_or None m.proposers n.proposers (hm.proposers.one_each ∙ sym hn.proposers.one_each) (λ i _. same l.proposers m.proposers n.proposers i (hm.proposers.on_list i) (hn.proposers.on_list i) (left i))
+
+    two : m.reviewers ≡ n.reviewers
+    two = ext_get_or None m.reviewers n.reviewers (hm.reviewers.one_each ∙ sym hn.reviewers.one_each) (λ i _. same l.reviewers m.reviewers n.reviewers i (hm.reviewers.on_list i) (hn.reviewers.on_list i) (right i))
+
+pub stable_equal : {l : Lists} (h : IsMarket l) {m n : Places} → IsStable l m → IsStable l n → ((p : ℕ) → standing l.proposers m.proposers p ≡ standing l.proposers n.proposers p) → m ≡ n
+stable_equal h hm hn alike = places_equal hm.matching hn.matching alike (same_reviewers (fit_of h hm.matching) (fit_of h hn.matching) alike)

@@ -1,7 +1,7 @@
 -- Markets and matchings as functions on numbers: what the proofs about stable matchings go over. An agent's standing is
 -- the place of its partner on its list, or the list's length where it is unmatched, so that lower is better.
 use Rattle.std.proofs.Common.{◌≡◌, ℕ, ◌<◌, ◌≤◌, inl, inr, arith, sym, ap, ◌∙◌}
-use Rattle.sm_market.proofs.Counting.{lt_or_le}
+use Rattle.sm_market.proofs.Counting.{lt_or_le, less_same_more}
 
 -- the lists of one side: `place p r` is r's place on p's list, at or past `len p` where r isn't on it; `at p i` is
 -- whom the list names at place i
@@ -103,3 +103,19 @@ easy {s} {m} {n} {p} {r} h pair less = elim (lt_or_le (n.b r) (m.b r)) [
 
 pub easy' : {s : Sides} {m n : Stand} {p r : ℕ} → Stable s n → Pair s m p r → m.b r < n.b r → n.a p < m.a p
 easy' h pair less = easy (Stable-turned h) (Pair-turned pair) less
+
+-- two matchings in which the proposers stand alike are one
+pub same_reviewers : {s : Sides} {m n : Stand} → Fit s m → Fit s n → ((p : ℕ) → m.a p ≡ n.a p) → (r : ℕ) → m.b r ≡ n.b r
+same_reviewers {s} {m} {n} hm hn alike r = elim (less_same_more (m.b r) (n.b r)) [
+  | inl h ↦ let w = pair_of' r hm (omega (arith, hn.right.within r)) in
+      let e = alike (s.at' r (m.b r)) in
+      let v : Pair s n (s.at' r (m.b r)) r = pair_at (s.at' r (m.b r)) r hn (omega (arith, w.matched)) (w.place_is ∙ e) in
+      omega (arith, w.rank_is, v.rank_is)
+  | inr d ↦ elim d [
+    | inl h ↦ h
+    | inr h ↦ let w = pair_of' r hn (omega (arith, hm.right.within r)) in
+        let e = alike (s.at' r (n.b r)) in
+        let v : Pair s m (s.at' r (n.b r)) r = pair_at (s.at' r (n.b r)) r hm (omega (arith, w.matched)) (w.place_is ∙ sym e) in
+        omega (arith, w.rank_is, v.rank_is)
+  ]
+]

@@ -7,6 +7,8 @@ pub mod CrossLemmas
 pub mod BuildLemmas
 pub mod SeatLemmas
 pub mod PairingLemmas
+pub mod CycleLemmas
+pub mod TurnLemmas
 pub mod CheckLemmas
 pub mod Witnesses
 pub mod Counting

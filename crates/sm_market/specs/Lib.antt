@@ -3,6 +3,7 @@ pub mod Matching
 pub mod Stable
 pub mod Reduced
 pub mod Pairing
+pub mod Cycles
 pub mod Laws
 pub mod Vectors
 pub mod Limits

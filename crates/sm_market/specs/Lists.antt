@@ -1,6 +1,6 @@
 -- Preference lists. Agents of a side are numbered from 0, and so are the places on a list.
 use Rattle.std.specs.Prelude.{◌≢◌, ℕ, ◌<◌, ◌==◌, List, [], slice_index, slice_index_or, length}
-use Rattle.std.specs.List.{position_or_len}
+use Rattle.std.specs.List.{position_or_len, range_with_len}
 
 -- the preference lists of both sides, best first: each entry is the number of an agent of the other side
 -- (Gusfield and Irving 1989, section 1.1.1)
@@ -15,6 +15,10 @@ reversed_lists l = record { proposers = l.reviewers; reviewers = l.proposers }
 -- an agent's list, among those of its side; empty where there is no such agent
 abbrev pub row : List (List ℕ) → ℕ → List ℕ
 row rows a = slice_index_or rows a []
+
+-- the agents of the side that has these lists
+abbrev pub agents : List (List ℕ) → List ℕ
+agents rows = range_with_len 0 (length rows)
 
 -- whom an agent's list names at a place
 abbrev pub entry : List (List ℕ) → ℕ → ℕ → ℕ

@@ -9,6 +9,10 @@ pub record Paired : Type 0 where
   pub places : Places
   pub holders : List (Option ℕ)
 
+-- a pairing of the proposers' places, the reviewers' places, and the reviewers' proposers
+abbrev pub paired : (proposers reviewers holders : List (Option ℕ)) → Paired
+paired proposers reviewers holders = record { places = record { proposers = proposers; reviewers = reviewers }; holders = holders }
+
 -- a pairing that was made for these lists: a matching of them, in which the proposer that a reviewer has is the one
 -- at the reviewer's place
 pub record IsPairingOf (l : Lists) (m : Paired) : Type 0 where

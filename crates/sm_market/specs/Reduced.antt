@@ -1,7 +1,6 @@
 -- The reduced lists: what is left of the lists once nobody looks beyond the best and the worst that it can have.
-use Rattle.std.specs.Prelude.{ℕ, Bool, false, ◌&&◌, nat_le, List, [], Option, Some, None, map, length, filter}
-use Rattle.std.specs.List.{range_with_len}
-use Rattle.sm_market.specs.Lists.{Lists, row, place_of}
+use Rattle.std.specs.Prelude.{ℕ, Bool, false, ◌&&◌, nat_le, List, [], Option, Some, None, map, filter}
+use Rattle.sm_market.specs.Lists.{Lists, row, place_of, agents}
 use Rattle.sm_market.specs.Matching.{Places, held}
 
 -- a is matched, and b is no worse for it than its partner
@@ -21,6 +20,6 @@ reduced_row rows others worst theirs a = filter (λ b. is_no_worse rows worst a 
 -- worst partners in the best of the other (Gusfield and Irving 1989, section 1.2.4).
 abbrev pub reduced_lists_of : Lists → (first last : Places) → Lists
 reduced_lists_of l first last = record {
-  proposers = map (reduced_row l.proposers l.reviewers last.proposers first.reviewers) (range_with_len 0 (length l.proposers));
-  reviewers = map (reduced_row l.reviewers l.proposers first.reviewers last.proposers) (range_with_len 0 (length l.reviewers));
+  proposers = map (reduced_row l.proposers l.reviewers last.proposers first.reviewers) (agents l.proposers);
+  reviewers = map (reduced_row l.reviewers l.proposers first.reviewers last.proposers) (agents l.reviewers);
 }

@@ -1,14 +1,14 @@
 //! Markets: the lists of both sides, and where each agent stands on the lists of those whom it lists.
 
 ghost use Rattle.std.specs.Prelude.{◌≡◌, ◌≢◌, ℕ, ◌<◌, ◌^◌, length, IfOk, IfErr, OnOk};
-ghost use Rattle.sm_market.specs.Lists.{Lists, row, entry, place_of, IsMarket};
+ghost use Rattle.sm_market.specs.Lists.{Lists, row, entry, place_of, reversed_lists, IsMarket};
 ghost use Rattle.sm_market.specs.Vectors.{lists_of};
 ghost use Rattle.sm_market.specs.Limits.{IsWithinLimits};
 
 use crate::crosses::crosses;
 use crate::faults::{MarketFault, Side};
-use crate::rows::{entry_at, list_at};
-use std::alloc::Global;
+use crate::rows::{copy_of, entry_at, list_at};
+use std::alloc::{AllocError, Global};
 use std::marker::Model;
 
 /// A market with mutual lists: two agents list each other, or neither lists the other.
@@ -76,6 +76,24 @@ impl Market {
         })
     }
 
+    /// The market with its sides exchanged: the reviewers of this one propose there, each with its own list.
+    ///
+    /// Takes time and memory in proportion to the agents and entries.
+    ///
+    /// # Errors
+    ///
+    /// `AllocError` where memory ran out, and only then.
+    pub fn swapped(&self, alloc: Global) -> Result<Market, AllocError>
+        ensures { IfOk result (λ m. m ≡ reversed_lists self.now) }
+    {
+        Ok(Market {
+            proposer_lists: copy_of(alloc, &self.reviewer_lists)?,
+            reviewer_lists: copy_of(alloc, &self.proposer_lists)?,
+            proposer_crosses: copy_of(alloc, &self.reviewer_crosses)?,
+            reviewer_crosses: copy_of(alloc, &self.proposer_crosses)?,
+        })
+    }
+
     /// How many proposers there are.
     pub fn proposers(&self) -> u32
         ensures count { result ≡ length self.now.proposers }
@@ -136,6 +154,7 @@ impl Market {
         requires on_list { place < length (row self.now.proposers p) }
         ensures named { result ≡ entry self.now.proposers p place }
         ensures in_range { result < length self.now.reviewers }
+        ensures market { IsMarket self.now }
     {
         entry_at(&self.proposer_lists, p, place)
     }
@@ -146,6 +165,7 @@ impl Market {
         requires on_list { place < length (row self.now.reviewers r) }
         ensures named { result ≡ entry self.now.reviewers r place }
         ensures in_range { result < length self.now.proposers }
+        ensures market { IsMarket self.now }
     {
         entry_at(&self.reviewer_lists, r, place)
     }

@@ -1,9 +1,10 @@
 //! Pairings: matchings of a market, by places and by reviewers' partners.
 
-ghost use Rattle.std.specs.Prelude.{◌≡◌, ℕ, ◌<◌, length, IfOk, IfErr, MatchOption, replicate};
-ghost use Rattle.sm_market.specs.Lists.{row, entry};
+ghost use Rattle.std.specs.Prelude.{◌≡◌, ℕ, ◌<◌, length, IfOk, IfErr, MatchOption, replicate, ◌+◌, ◌==◌, if◌then◌else◌};
+ghost use Rattle.sm_market.specs.Lists.{row, entry, place_of, IsMarket};
 ghost use Rattle.sm_market.specs.Matching.{held};
-ghost use Rattle.sm_market.specs.Pairing.{IsPairingOf};
+ghost use Rattle.sm_market.specs.Pairing.{paired, IsPairingOf};
+ghost use Rattle.sm_market.specs.Cycles.{target_at, places_after, CanTurn};
 ghost use Rattle.sm_market.specs.PairingFaults.{IsPairingFault, IsPastList, IsFirstPastList, IsFirstTaken};
 
 use crate::faults::PairingFault;
@@ -20,14 +21,11 @@ pub struct Pairing {
 }
 
 impl Model for Pairing {
-    ghost use Rattle.sm_market.specs.Pairing.{Paired};
+    ghost use Rattle.sm_market.specs.Pairing.{Paired, paired};
 
     ghost Value = { Paired };
 
-    ghost view = { λ m. record {
-      places = record { proposers = m.places.items; reviewers = m.reviewer_places.items };
-      holders = m.holders.items;
-    } };
+    ghost view = { λ m. paired m.places.items m.reviewer_places.items m.holders.items };
 }
 
 impl Pairing {
@@ -90,6 +88,31 @@ impl Pairing {
     {
         self.holders[r as usize]
     }
+
+    /// Moves each proposer of a cycle to the reviewer of the next pair, and the last one to the reviewer of the first
+    /// pair. All others keep their partners.
+    ///
+    /// The pairing has to be made for a market of these lists. The proposers of the cycle have to differ, each has to
+    /// have the reviewer of its pair, and each and the reviewer to which it moves have to list each other.
+    ///
+    /// Takes no memory. The new reviewer is looked for on the proposer's list from the place that it holds on, and
+    /// before that place only where it isn't found there. So the time is in proportion to the cycle and to the places
+    /// by which its proposers move down their lists, where all of them move down.
+    pub fn turn(&mut self, market: &Market, cycle: &[(u32, u32)])
+        requires made { IsPairingOf market.now self.old }
+        requires cycle { CanTurn market.now self.old.places cycle.now }
+        ensures moved { self.new.places.proposers ≡ places_after market.now self.old.places.proposers cycle.now }
+        ensures made { IsPairingOf market.now self.new }
+    {
+        prove_eq!(self.places.len(), market.proposers() as usize);
+        turn_round(
+            market,
+            cycle,
+            &mut self.places,
+            &mut self.reviewer_places,
+            &mut self.holders,
+        );
+    }
 }
 
 /// The first proposer whose place is past its list.
@@ -121,10 +144,7 @@ fn first_taken(
     requires no_places { reviewer_places.old ≡ replicate (length market.now.reviewers) None }
     requires no_holders { holders.old ≡ replicate (length market.now.reviewers) None }
     ensures { MatchOption result
-        (IsPairingOf market.now (record {
-          places = record { proposers = places.now; reviewers = reviewer_places.new };
-          holders = holders.new;
-        }))
+        (IsPairingOf market.now (paired places.now reviewer_places.new holders.new))
         (λ p. IsFirstTaken market.now places.now p) }
 {
     for p in 0..market.proposers() {
@@ -138,4 +158,57 @@ fn first_taken(
         }
     }
     None
+}
+
+/// Moves each proposer of a cycle to the reviewer of the next pair.
+fn turn_round(
+    market: &Market,
+    cycle: &[(u32, u32)],
+    places: &mut [Option<u32>],
+    reviewer_places: &mut [Option<u32>],
+    holders: &mut [Option<u32>],
+)
+    requires market { IsMarket market.now }
+    requires made { IsPairingOf market.now (paired places.old reviewer_places.old holders.old) }
+    requires cycle { CanTurn market.now (paired places.old reviewer_places.old holders.old).places cycle.now }
+    ensures moved { places.new ≡ places_after market.now places.old cycle.now }
+    ensures made { IsPairingOf market.now (paired places.new reviewer_places.new holders.new) }
+{
+    for i in 0..cycle.len() {
+        let p = cycle[i].0;
+        let target = cycle[next_of(i, cycle.len())].1;
+        let from = places[p as usize].unwrap_or(0);
+        let place = place_from(market, p, from, target);
+        places[p as usize] = Some(place);
+        reviewer_places[target as usize] = Some(market.cross(p, place));
+        holders[target as usize] = Some(p);
+    }
+}
+
+/// The number of the pair that follows pair `i` round a cycle of `size` pairs.
+fn next_of(i: usize, size: usize) -> usize
+    requires { i < size }
+    ensures { result ≡ (if i + 1 == size then 0 else i + 1) }
+{
+    if i + 1 == size { 0 } else { i + 1 }
+}
+
+/// The place of `r`, who is listed, on `p`'s list, looked for from a place on and then before it.
+fn place_from(market: &Market, p: u32, from: u32, r: u32) -> u32
+    requires in_range { p < length market.now.proposers }
+    requires listed { place_of market.now.proposers p r < length (row market.now.proposers p) }
+    requires on_list { from < length (row market.now.proposers p) }
+    ensures { result ≡ place_of market.now.proposers p r }
+{
+    for place in from..market.proposer_len(p) {
+        if market.reviewer_at(p, place) == r {
+            return place;
+        }
+    }
+    for place in 0..from {
+        if market.reviewer_at(p, place) == r {
+            return place;
+        }
+    }
+    unreachable!()
 }

@@ -1,8 +1,21 @@
 //! Lists that are held in vectors, read by agent and place.
 
-ghost use Rattle.std.specs.Prelude.{◌≡◌, ℕ, ◌<◌, length};
+ghost use Rattle.std.specs.Prelude.{◌≡◌, ℕ, ◌<◌, length, IfOk};
 ghost use Rattle.sm_market.specs.Lists.{row, entry};
 ghost use Rattle.sm_market.specs.Vectors.{rows_of};
+
+use std::alloc::{AllocError, Global};
+
+/// A copy of the lists.
+pub(crate) fn copy_of(alloc: Global, rows: &[Vec<u32>]) -> Result<Vec<Vec<u32>>, AllocError>
+    ensures { IfOk result (λ copy. rows_of copy.items ≡ rows_of rows.now) }
+{
+    let mut copy = Vec::with_capacity(alloc, rows.len())?;
+    for row in rows {
+        copy.push(Vec::from_slice(alloc, row)?)?;
+    }
+    Ok(copy)
+}
 
 /// An agent's list.
 pub(crate) fn list_at(rows: &[Vec<u32>], a: u32) -> &[u32]

@@ -171,3 +171,21 @@ fn refuses_places(rt: HostRuntime) -> Result<(), Fail> {
     assert_eq!(rt; refusal(&rt, &[Some(1), Some(1)])?, None);
     Ok(())
 }
+
+fn one_sided(rt: &(impl Abort + AllocGlobal)) -> Result<Market, AllocError> {
+    let market = built(rt.alloc(), &[&[0], &[0, 1]], &[&[1, 0], &[1]])?.expect(rt, "a market");
+    Ok(market)
+}
+
+#[test]
+fn swaps_sides(rt: HostRuntime) -> Result<(), Fail> {
+    let swapped = one_sided(&rt)?.swapped(rt.alloc())?;
+    assert_eq!(rt; swapped.proposers(), 2);
+    assert_eq!(rt; swapped.reviewers(), 2);
+    assert!(rt; swapped.proposer_list(0) == [1, 0].as_slice());
+    assert!(rt; swapped.reviewer_list(0) == [0].as_slice());
+    assert!(rt; swapped.reviewer_list(1) == [0, 1].as_slice());
+    assert_eq!(rt; swapped.cross(0, 0), 0);
+    assert_eq!(rt; swapped.reviewer_cross(1, 0), 0);
+    Ok(())
+}

@@ -1,4 +1,5 @@
 -- Complete chains and the matchings of sets, between the definitions over lists and the functions of Core.
+pub use Rattle.sm_market.proofs.Bridge.{places_equal, stable_equal}
 use Rattle.std.proofs.Common.{◌≡◌, ℕ, zero, suc, ◌<◌, ◌≤◌, inl, inr, arith, refl, sym, ap, ◌∙◌, List, length, map, Option, None, Some, Bool, true, false, slice_index_or, ext_get_or}
 use Rattle.std.specs.List.{range_with_len}
 use Rattle.std.proofs.lemmas.List.FromFn.{get_or-map-range_with_len, length-map-range_with_len}
@@ -87,30 +88,3 @@ Decided-member set k = go (is_member set k)
     go : (b : Bool) → Decided (b ≡ true)
     go true = inl refl
     go false = inr (λ e. grind arith)
-
--- two matchings in which all stand alike are equal
-pub places_equal : {l : Lists} {m n : Places} → IsMatching l m → IsMatching l n
-    → ((p : ℕ) → standing l.proposers m.proposers p ≡ standing l.proposers n.proposers p)
-    → ((r : ℕ) → standing l.reviewers m.reviewers r ≡ standing l.reviewers n.reviewers r) → m ≡ n
-places_equal {l} {m} {n} hm hn left right = λ i. record { proposers = one i; reviewers = two i }
-  where
-    same : (rows : List (List ℕ)) (xs ys : List (Option ℕ)) (a : ℕ) → ((i : ℕ) → held xs a ≡ Some i → i < length (row rows a)) → ((i : ℕ) → held ys a ≡ Some i → i < length (row rows a)) → standing rows xs a ≡ standing rows ys a → held xs a ≡ held ys a
-    same rows xs ys a on on' e = elim (held_cases rows xs a) [
-      | inl w ↦ elim (held_cases rows ys a) [
-        | inl v ↦ w.held_is ∙ sym v.held_is
-        | inr v ↦ absurd (omega (arith, w.standing_is, v.standing_is, on' v.place v.held_is))
-      ]
-      | inr w ↦ elim (held_cases rows ys a) [
-        | inl v ↦ absurd (omega (arith, w.standing_is, v.standing_is, on w.place w.held_is))
-        | inr v ↦ w.held_is ∙ ap Some (sym w.standing_is ∙ e ∙ v.standing_is) ∙ sym v.held_is
-      ]
-    ]
-
-    one : m.proposers ≡ n.proposers
-    one = ext_get_or None m.proposers n.proposers (hm.proposers.one_each ∙ sym hn.proposers.one_each) (λ i _. same l.proposers m.proposers n.proposers i (hm.proposers.on_list i) (hn.proposers.on_list i) (left i))
-
-    two : m.reviewers ≡ n.reviewers
-    two = ext_get_or None m.reviewers n.reviewers (hm.reviewers.one_each ∙ sym hn.reviewers.one_each) (λ i _. same l.reviewers m.reviewers n.reviewers i (hm.reviewers.on_list i) (hn.reviewers.on_list i) (right i))
-
-pub stable_equal : {l : Lists} (h : IsMarket l) {m n : Places} → IsStable l m → IsStable l n → ((p : ℕ) → standing l.proposers m.proposers p ≡ standing l.proposers n.proposers p) → m ≡ n
-stable_equal h hm hn alike = places_equal hm.matching hn.matching alike (same_reviewers (fit_of h hm.matching) (fit_of h hn.matching) alike)

@@ -5,6 +5,8 @@ use Rattle.std.proofs.lemmas.List.FromFn.{length-map-range_with_len}
 use Rattle.sm_market.specs.Lists.{Lists, row, entry, place_of, IsMarket}
 use Rattle.sm_market.specs.Matching.{Places, held, standing, IsMatching}
 use Rattle.sm_market.specs.Stable.{IsStable}
+use Rattle.sm_market.proofs.CycleLemmas as Cycles
+use Rattle.sm_market.proofs.CycleLemmas.{AreDistinct}
 use Rattle.sm_market.proofs.Counting.{lt_or_le, less_same_more}
 use Rattle.sm_market.proofs.Core.{pair_at}
 use Rattle.sm_market.proofs.Bridge.{sides_of, stand_of, fit_of, stable_of, held_cases, held_at, standing-some, entry_place, place_entry}
@@ -87,21 +89,20 @@ module _ {l : Lists} (h : IsMarket l) {m : Places} where
 
   -- elimination
   module _ (f : IsMatching l m) {rotation : List (ℕ × ℕ)} (x : IsExposed l m rotation) where
+    distinct : AreDistinct rotation
+    distinct = record { distinct = x.distinct }
+
     pub pair_at_is : (i : ℕ) → i < length rotation → pair_of rotation (proposer_at rotation i) ≡ i
-    pair_at_is i a = position_or_len_is (λ pair. pair.0 == proposer_at rotation i) rotation i (0, 0) (omega arith)
-        (λ k less. ne_eqb _ _ (λ e. x.distinct k i less a e))
-        (λ _. eq-eqb _ _ refl)
+    pair_at_is i a = Cycles.pair_at_is distinct i a
 
     pub no_pair : (p : ℕ) → ((i : ℕ) → i < length rotation → proposer_at rotation i ≡ p → ⊥) → pair_of rotation p ≡ length rotation
-    no_pair p none = position_or_len_is (λ pair. pair.0 == p) rotation (length rotation) (0, 0) (omega arith)
-        (λ k less. ne_eqb _ _ (none k less))
-        (λ less. absurd (omega arith))
+    no_pair p none = Cycles.no_pair rotation p none
 
     pub after_in : (i : ℕ) → i < length rotation → place_after l m.proposers rotation (proposer_at rotation i) ≡ Some (place_of l.proposers (proposer_at rotation i) (target_at rotation i))
-    after_in i a = rw (pair_at_is i a, lt-ltb i (length rotation) a) refl
+    after_in i a = Cycles.after_in distinct l m.proposers i a
 
     pub after_out : (p : ℕ) → ((i : ℕ) → i < length rotation → proposer_at rotation i ≡ p → ⊥) → place_after l m.proposers rotation p ≡ held m.proposers p
-    after_out p none = rw (no_pair p none, le-ltb (length rotation) (length rotation) (omega arith)) refl
+    after_out p none = Cycles.after_out l m.proposers rotation p none
 
     core : Exposed (sides_of l h) (stand_of l m) (cycle_of rotation)
     core = exposed_of f x

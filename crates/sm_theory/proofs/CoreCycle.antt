@@ -3,35 +3,8 @@ use Rattle.std.proofs.Common.{◌≡◌, ◌≢◌, ℕ, zero, suc, ◌+◌, ◌
 use Rattle.std.proofs.lemmas.Bool.{eq-eqb, ne_eqb}
 use Rattle.sm_market.proofs.Counting.{lt_or_le, eq_or_ne, search_below, First, Decided-eq}
 use Rattle.sm_market.proofs.Core.{Sides, Stand, Pair, one_reviewer, one_proposer}
-
--- the number that follows i round a cycle of n
-abbrev pub turn : ℕ → ℕ → ℕ
-turn n i = if i + 1 == n then 0 else i + 1
-
-pub turn_last : (n i : ℕ) → i + 1 ≡ n → turn n i ≡ 0
-turn_last n i e = rw (eq-eqb (i + 1) n e)
-
-pub turn_more : (n i : ℕ) → i + 1 ≢ n → turn n i ≡ i + 1
-turn_more n i e = rw (ne_eqb (i + 1) n e)
-
-pub turn_in : (n i : ℕ) → i < n → turn n i < n
-turn_in n i h = elim (eq_or_ne (i + 1) n) [ inl e ↦ omega (arith, turn_last n i e) | inr e ↦ omega (arith, turn_more n i e) ]
-
-pub turn_once : (n i j : ℕ) → i < n → j < n → turn n i ≡ turn n j → i ≡ j
-turn_once n i j h k e = elim (eq_or_ne (i + 1) n) [
-  | inl x ↦ elim (eq_or_ne (j + 1) n) [ inl y ↦ omega arith | inr y ↦ absurd (omega (arith, turn_last n i x, turn_more n j y)) ]
-  | inr x ↦ elim (eq_or_ne (j + 1) n) [ inl y ↦ absurd (omega (arith, turn_more n i x, turn_last n j y)) | inr y ↦ omega (arith, turn_more n i x, turn_more n j y) ]
-]
-
--- the number that j follows
-pub record Follows (n j : ℕ) : Type 0 where
-  pub at : ℕ
-  pub below : at < n
-  pub is : turn n at ≡ j
-
-pub follows : (n j : ℕ) → j < n → Follows n j
-follows n zero h = record { at = n - 1; below = omega arith; is = turn_last n (n - 1) (omega arith) }
-follows n (suc j) h = record { at = j; below = omega arith; is = turn_more n j (omega arith) ∙ omega arith }
+-- going round, passed on
+pub use Rattle.sm_market.proofs.CycleLemmas.{turn, turn_last, turn_more, turn_in, turn_once, Follows, follows}
 
 -- what passes from each number to the next holds all round
 pub go_round : (n : ℕ) (P : ℕ → Type 0) → ((i : ℕ) → i < n → P i → P (turn n i)) → (i : ℕ) → i < n → P i → (j : ℕ) → j < n → P j

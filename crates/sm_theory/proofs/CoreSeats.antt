@@ -1,4 +1,5 @@
 -- The reviewers' side of a matching from its proposers' side.
+pub use Rattle.sm_market.proofs.Core.{same_reviewers}
 use Rattle.std.proofs.Common.{◌≡◌, ◌≢◌, ℕ, ◌<◌, ◌≤◌, ◌⊎◌, inl, inr, arith, sym, ap, ◌∙◌}
 use Rattle.sm_market.proofs.Counting.{less_same_more, search_below, First, Decided-eq}
 use Rattle.sm_market.proofs.Core.{Sides, Stand, Fit, Stable, Pair, pair_of', pair_at, one_proposer}
@@ -75,22 +76,6 @@ Seats-seat_of s a = record {
     first : (r : ℕ) (d : First (s.len' r) (λ k. s.place (s.at' r k) r ≡ a (s.at' r k)) ⊎ ((k : ℕ) → k < s.len' r → s.place (s.at' r k) r ≡ a (s.at' r k) → ⊥)) → (k : ℕ) → k < seat_go (λ w. w.at) (s.len' r) d → s.place (s.at' r k) r ≢ a (s.at' r k)
     first r (inl w) k h = w.earlier k h
     first r (inr w) k h = w k h
-
--- two matchings in which the proposers stand alike are one
-pub same_reviewers : {s : Sides} {m n : Stand} → Fit s m → Fit s n → ((p : ℕ) → m.a p ≡ n.a p) → (r : ℕ) → m.b r ≡ n.b r
-same_reviewers {s} {m} {n} hm hn alike r = elim (less_same_more (m.b r) (n.b r)) [
-  | inl h ↦ let w = pair_of' r hm (omega (arith, hn.right.within r)) in
-      let e = alike (s.at' r (m.b r)) in
-      let v : Pair s n (s.at' r (m.b r)) r = pair_at (s.at' r (m.b r)) r hn (omega (arith, w.matched)) (w.place_is ∙ e) in
-      omega (arith, w.rank_is, v.rank_is)
-  | inr d ↦ elim d [
-    | inl h ↦ h
-    | inr h ↦ let w = pair_of' r hn (omega (arith, hm.right.within r)) in
-        let e = alike (s.at' r (n.b r)) in
-        let v : Pair s m (s.at' r (n.b r)) r = pair_at (s.at' r (n.b r)) r hm (omega (arith, w.matched)) (w.place_is ∙ sym e) in
-        omega (arith, w.rank_is, v.rank_is)
-  ]
-]
 
 -- and the one is stable where the other is
 pub same_stable : {s : Sides} {m n : Stand} → Stable s n → ((p : ℕ) → m.a p ≡ n.a p) → Seats s m → Stable s m

@@ -8,7 +8,7 @@ use Rattle.sm_market.specs.Stable.{IsStable}
 use Rattle.sm_market.proofs.Counting.{Decided}
 use Rattle.sm_market.proofs.Core.{Stable-turned}
 use Rattle.sm_market.proofs.CoreLaws.{opposed, opposed'}
-use Rattle.sm_market.proofs.Bridge.{stand_of, stable_of, unblocked_of, IsMarket-reversed, IsMatching-reversed}
+use Rattle.sm_market.proofs.Bridge.{stand_of, stable_of, IsMarket-reversed, IsStable-reversed}
 use Rattle.sm_theory.specs.Rotations.{proposer_at}
 use Rattle.sm_theory.specs.Chains.{rotation_at}
 use Rattle.sm_theory.specs.ClosedSets.{is_member, IsMember, IsClosed, matching_of}
@@ -34,9 +34,6 @@ nothing_exposed l m h hm none = (record { stable = hm; worst = worst }, λ n hn 
   where
     worst : (n : Places) → IsStable l n → (p : ℕ) → standing l.proposers n.proposers p ≤ standing l.proposers m.proposers p
     worst n hn p = nothing_below h hm none (stand_of l n) (stable_of h hn) p
-
-IsStable-reversed : {l : Lists} (h : IsMarket l) {m : Places} → IsStable l m → IsStable (reversed_lists l) (reversed m)
-IsStable-reversed {l} h {m} s = record { matching = IsMatching-reversed s.matching; unblocked = unblocked_of (IsMarket-reversed h) {m = reversed m} (Stable-turned (stable_of h s)) }
 
 pub nothing_exposed_back : NothingExposedBack
 nothing_exposed_back l m h hm none = record {

@@ -1,12 +1,10 @@
 -- The meet and the join of two matchings.
-use Rattle.std.specs.Prelude.{ℕ, ◌==◌, List, Option, None, Some, map, length, min, max}
-use Rattle.std.specs.List.{position, range_with_len}
+use Rattle.std.specs.Prelude.{ℕ, ◌==◌, List, Option, None, Some, map, min, max}
+use Rattle.std.specs.List.{position}
 use Rattle.sm_market.specs.Lists.{Lists, row, place_of}
 use Rattle.sm_market.specs.Matching.{Places, held, standing}
-
--- the agents of the side that has these lists
-abbrev pub agents : List (List ℕ) → List ℕ
-agents rows = range_with_len 0 (length rows)
+-- the agents of a side, passed on
+pub use Rattle.sm_market.specs.Lists.{agents}
 
 -- the places of both sides where the proposers hold these: a reviewer holds the place of the first proposer on its
 -- list that has it

@@ -1,0 +1,250 @@
+-- Linking all numbers, and taking out the last pair of a reviewer's list.
+use Rattle.std.proofs.Common.{◌≡◌, ◌≢◌, ℕ, ◌+◌, ◌-◌, ◌<◌, ◌≤◌, ◌⊎◌, inl, inr, arith, sym, ap, ◌∙◌, List, [], length, set, get_or}
+use Rattle.std.proofs.lemmas.List.{get_or_past, get_or-map, get_or-set_same, get_or-set_other, length-set, length-map}
+use Rattle.sm_market.specs.Lists.{Lists, row, entry, place_of, IsMarket}
+use Rattle.sm_market.proofs.Counting.{lt_or_le, eq_or_ne}
+use Rattle.sm_market.proofs.PlaceLemmas.{entry-place_of, place_of-entry}
+use Rattle.sm_accept.specs.Linking.{Linking, IsHeld, IsIn, Follows, AreStarts, AreAllLinked, IsLinkedOf, link_at, all_ends}
+use Rattle.sm_accept.proofs.LinkLemmas.{apart, link_in_range, in_le, held_in, follows_once, followed_once, IsTakenOut, follows_join, follows_still}
+
+-- number j of q's list stands before number k of p's
+abbrev pub IsReached : (p k q j : ℕ) → Type 0
+IsReached p k q j = (q < p) ⊎ ((q ≡ p) × (j < k))
+
+-- the numbers before number k of p's list are linked
+pub record AreLinkedTo (l : Lists) (starts : List ℕ) (p k : ℕ) (next before : List ℕ) : Type 0 where
+  pub forward : (q j : ℕ) → q < length l.proposers → j ≤ length (row l.proposers q) → IsReached p k q j → link_at starts next q j ≡ j + 1
+  pub back : (q j : ℕ) → q < length l.proposers → j ≤ length (row l.proposers q) → IsReached p k q j → link_at starts before q (j + 1) ≡ j
+
+pub link_none : (l : Lists) (starts next before : List ℕ) → AreLinkedTo l starts 0 0 next before
+link_none l starts next before = record { forward = λ q j _ _ w. absurd (none w); back = λ q j _ _ w. absurd (none w) }
+  where
+    none : {q j : ℕ} → IsReached 0 0 q j → ⊥
+    none (inl h) = omega arith
+    none (inr h) = let lt = h.1 in omega arith
+
+module _ {l : Lists} {starts : List ℕ} (s : AreStarts l starts) {p : ℕ} (hp : p < length l.proposers) where
+  -- one more number
+  pub link_one : {k : ℕ} {next before : List ℕ} → k ≤ length (row l.proposers p) → length next ≡ get_or starts (length l.proposers) 0 → length before ≡ get_or starts (length l.proposers) 0
+      → AreLinkedTo l starts p k next before → AreLinkedTo l starts p (k + 1) (set next (get_or starts p 0 + k) (k + 1)) (set before (get_or starts p 0 + (k + 1)) k)
+  link_one {k} {next} {before} on long long' t = record {
+    forward = λ q j hq hj w. elim (cases q j w) [
+      | inl same ↦ rw (same.0, same.1) (get_or-set_same next (get_or starts p 0 + k) (k + 1) 0 (omega (arith, link_in_range s p k hp (omega arith))))
+      | inr old ↦ get_or-set_other next (get_or starts p 0 + k) (get_or starts q 0 + j) (k + 1) 0 (λ e. other q j old (apart s q p j k hq hp (omega arith) (omega arith) e)) ∙ t.forward q j hq hj old
+    ];
+    back = λ q j hq hj w. elim (cases q j w) [
+      | inl same ↦ rw (same.0, same.1) (get_or-set_same before (get_or starts p 0 + (k + 1)) k 0 (omega (arith, link_in_range s p (k + 1) hp (omega arith))))
+      | inr old ↦ get_or-set_other before (get_or starts p 0 + (k + 1)) (get_or starts q 0 + (j + 1)) k 0 (λ e. other q j old (let one = apart s q p (j + 1) (k + 1) hq hp (omega arith) (omega arith) (omega arith) in (one.0, let two = one.1 in omega arith))) ∙ t.back q j hq hj old
+    ];
+  }
+    where
+      cases : (q j : ℕ) → IsReached p (k + 1) q j → ((q ≡ p) × (j ≡ k)) ⊎ IsReached p k q j
+      cases q j (inl less) = inr (inl less)
+      cases q j (inr w) = let lt = w.1 in elim (lt_or_le j k) [ inl less ↦ inr (inr (w.0, less)) | inr more ↦ inl (w.0, omega arith) ]
+
+      other : (q j : ℕ) → IsReached p k q j → ((q ≡ p) × (j ≡ k)) → ⊥
+      other q j (inl less) same = let e = same.0 in omega arith
+      other q j (inr w) same = let e = same.1 in let lt = w.1 in omega arith
+
+-- a whole list, and the next one begins
+pub link_row : {l : Lists} {starts : List ℕ} {p k : ℕ} {next before : List ℕ} → length (row l.proposers p) < k → AreLinkedTo l starts p k next before → AreLinkedTo l starts (p + 1) 0 next before
+link_row {l} {p = p} {k = k} all t = record { forward = λ q j hq hj w. t.forward q j hq hj (reached q j hj w); back = λ q j hq hj w. t.back q j hq hj (reached q j hj w) }
+  where
+    reached : (q j : ℕ) → j ≤ length (row l.proposers q) → IsReached (p + 1) 0 q j → IsReached p k q j
+    reached q j hj (inl less) = elim (lt_or_le q p) [
+      | inl lower ↦ inl lower
+      | inr upper ↦ let same : q ≡ p = omega arith in inr (same, (let len = ap (λ x. length (row l.proposers x)) same in omega arith))
+    ]
+    reached q j hj (inr w) = let lt = w.1 in absurd (omega arith)
+
+pub link_end : {l : Lists} {starts : List ℕ} {p k : ℕ} {next before : List ℕ} → length l.proposers ≤ p → AreLinkedTo l starts p k next before → AreAllLinked l starts next before
+link_end all t = record { forward = λ q j hq hj. t.forward q j hq hj (inl (omega arith)); back = λ q j hq hj. t.back q j hq hj (inl (omega arith)) }
+
+-- the set of all pairs
+all_at : (l : Lists) (r : ℕ) → get_or (all_ends l) r 0 ≡ length (row l.reviewers r)
+all_at l r = elim (lt_or_le r (length l.reviewers)) [
+  | inl less ↦ get_or-map (λ list. length list) l.reviewers r [] 0 less
+  | inr past ↦ get_or_past (all_ends l) r 0 (let long = length-map l.reviewers (λ list. length list) in omega arith) ∙ sym (ap length (get_or_past l.reviewers r [] past))
+]
+
+module _ {l : Lists} (market : IsMarket l) where
+  all_held : (p i : ℕ) → i < length (row l.proposers p) → IsHeld l (all_ends l) p i
+  all_held p i on = record { on_list = on; in_front = omega (arith, all_at l (entry l.proposers p i), market.proposers.returned p i on) }
+
+  all_in : (p j : ℕ) → j ≤ length (row l.proposers p) + 1 → IsIn l (all_ends l) p j
+  all_in p j h = elim (eq_or_ne j 0) [
+    | inl e ↦ inl (inl e)
+    | inr some ↦ elim (eq_or_ne j (length (row l.proposers p) + 1)) [
+      | inl e ↦ inl (inr e)
+      | inr less ↦ inr (record { place = j - 1; number = omega arith; held = all_held p (j - 1) (omega arith) })
+    ]
+  ]
+
+  follows_all : (p j : ℕ) → j ≤ length (row l.proposers p) → Follows l (all_ends l) p j (j + 1)
+  follows_all p j h = record { lower = all_in p j (omega arith); upper = all_in p (j + 1) (omega arith); rising = omega arith; between = λ x more less _. omega arith }
+
+  pub all_linked : {starts next before : List ℕ} → AreStarts l starts → length next ≡ get_or starts (length l.proposers) 0 → length before ≡ get_or starts (length l.proposers) 0
+      → AreAllLinked l starts next before → IsLinkedOf l (record { ends = all_ends l; starts = starts; next = next; before = before })
+  all_linked {starts} {next} {before} s long long' t = record {
+    ends_each = length-map l.reviewers (λ list. length list);
+    ends_on_lists = λ r. omega (arith, all_at l r);
+    starts = s;
+    next_each = long;
+    before_each = long';
+    next = λ p j hp hj _. rw (t.forward p j hp hj) (follows_all p j hj);
+    before = λ p j hp some hj _. back p j (j - 1) hp (omega arith) (omega arith);
+  }
+    where
+      back : (p j i : ℕ) → p < length l.proposers → j ≡ i + 1 → i ≤ length (row l.proposers p) → Follows l (all_ends l) p (link_at starts before p j) j
+      back p j i hp e hi = rw (e, t.back p i hp hi) (follows_all p i hi)
+
+-- taking out the last pair that is held of r's list
+module _ {l : Lists} {v : Linking} {r : ℕ} (last : ℕ) (market : IsMarket l) (made : IsLinkedOf l v) (hr : r < length l.reviewers) (end_is : get_or v.ends r 0 ≡ last + 1) where
+  pub last_on_list : last < length (row l.reviewers r)
+  last_on_list = omega (arith, made.ends_on_lists r)
+
+  listed : place_of l.proposers (entry l.reviewers r last) r < length (row l.proposers (entry l.reviewers r last))
+  listed = market.reviewers.returned r last last_on_list
+
+  who_in_range : entry l.reviewers r last < length l.proposers
+  who_in_range = market.reviewers.in_range r last last_on_list
+
+  there : entry l.proposers (entry l.reviewers r last) (place_of l.proposers (entry l.reviewers r last) r) ≡ r
+  there = entry-place_of l.proposers (entry l.reviewers r last) r listed
+
+  rank : place_of l.reviewers r (entry l.reviewers r last) ≡ last
+  rank = place_of-entry market.reviewers r last last_on_list
+
+  in_ends : r < length v.ends
+  in_ends = omega (arith, made.ends_each)
+
+  pub last_held : IsHeld l v.ends (entry l.reviewers r last) (place_of l.proposers (entry l.reviewers r last) r)
+  last_held = record { on_list = listed; in_front = rw there (omega (arith, rank)) }
+
+  held_still : (q j : ℕ) → IsHeld l (set v.ends r last) q j → IsHeld l v.ends q j
+  held_still q j h = record {
+    on_list = h.on_list;
+    in_front = let front = h.in_front in elim (eq_or_ne (entry l.proposers q j) r) [
+      | inl e ↦ let now : get_or (set v.ends r last) (entry l.proposers q j) 0 ≡ last = ap (λ s. get_or (set v.ends r last) s 0) e ∙ get_or-set_same v.ends r last 0 in_ends in
+          let was : get_or v.ends (entry l.proposers q j) 0 ≡ last + 1 = ap (λ s. get_or v.ends s 0) e ∙ end_is in omega arith
+      | inr ne ↦ let same = get_or-set_other v.ends r (entry l.proposers q j) last 0 ne in omega arith
+    ];
+  }
+
+  held_gone : ¬ IsHeld l (set v.ends r last) (entry l.reviewers r last) (place_of l.proposers (entry l.reviewers r last) r)
+  held_gone h = let front = rw there at h.in_front in let now = get_or-set_same v.ends r last 0 in_ends in omega (arith, rank)
+
+  held_stays : (q j : ℕ) → IsHeld l v.ends q j → (q ≢ entry l.reviewers r last) ⊎ (j ≢ place_of l.proposers (entry l.reviewers r last) r) → IsHeld l (set v.ends r last) q j
+  held_stays q j h other = record {
+    on_list = h.on_list;
+    in_front = let front = h.in_front in elim (eq_or_ne (entry l.proposers q j) r) [
+      | inr ne ↦ let same = get_or-set_other v.ends r (entry l.proposers q j) last 0 ne in omega arith
+      | inl e ↦ let now : get_or (set v.ends r last) (entry l.proposers q j) 0 ≡ last = ap (λ s. get_or (set v.ends r last) s 0) e ∙ get_or-set_same v.ends r last 0 in_ends in
+          let was : get_or v.ends (entry l.proposers q j) 0 ≡ last + 1 = ap (λ s. get_or v.ends s 0) e ∙ end_is in
+          let better : place_of l.reviewers (entry l.proposers q j) q ≢ last = not_last e in omega arith
+    ];
+  }
+    where
+      not_last : entry l.proposers q j ≡ r → place_of l.reviewers (entry l.proposers q j) q ≢ last
+      not_last e is =
+          let back : entry l.reviewers r (place_of l.reviewers r q) ≡ q = entry-place_of l.reviewers r q (rw e at (market.proposers.returned q j h.on_list)) in
+          let rank_is : place_of l.reviewers r q ≡ last = rw e at is in
+          let who_is : q ≡ entry l.reviewers r last = sym back ∙ ap (entry l.reviewers r) rank_is in
+          let place_is : j ≡ place_of l.proposers (entry l.reviewers r last) r = sym (place_of-entry market.proposers q j h.on_list) ∙ ap (place_of l.proposers q) e ∙ ap (λ x. place_of l.proposers x r) who_is in
+          elim other [ inl ne ↦ ne who_is | inr ne ↦ ne place_is ]
+
+  pub taken_out : IsTakenOut l v.ends (set v.ends r last) (entry l.reviewers r last) (place_of l.proposers (entry l.reviewers r last) r + 1)
+  taken_out = record { still_in = still; gone = gone; stays = stays }
+    where
+      still : (q j : ℕ) → IsIn l (set v.ends r last) q j → IsIn l v.ends q j
+      still q j (inl e) = inl e
+      still q j (inr w) = inr (record { place = w.place; number = w.number; held = held_still q w.place w.held })
+
+      gone : ¬ IsIn l (set v.ends r last) (entry l.reviewers r last) (place_of l.proposers (entry l.reviewers r last) r + 1)
+      gone (inl (inl e)) = omega arith
+      gone (inl (inr e)) = omega (arith, listed)
+      gone (inr w) = let n = w.number in let same : w.place ≡ place_of l.proposers (entry l.reviewers r last) r = omega arith in held_gone (rw same at w.held)
+
+      stays : (q j : ℕ) → IsIn l v.ends q j → (q ≢ entry l.reviewers r last) ⊎ (j ≢ place_of l.proposers (entry l.reviewers r last) r + 1) → IsIn l (set v.ends r last) q j
+      stays q j (inl e) _ = inl e
+      stays q j (inr w) other = inr (record { place = w.place; number = w.number; held = held_stays q w.place w.held (elim other [ inl ne ↦ inl ne | inr ne ↦ inr (λ e. ne (w.number ∙ ap (λ x. x + 1) e)) ]) })
+
+  -- what the number of the pair follows, and what follows it
+  pub last_before : Follows l v.ends (entry l.reviewers r last) (link_at v.starts v.before (entry l.reviewers r last) (place_of l.proposers (entry l.reviewers r last) r + 1)) (place_of l.proposers (entry l.reviewers r last) r + 1)
+  last_before = made.before _ _ who_in_range (omega arith) (omega (arith, listed)) (held_in last_held)
+
+  pub last_next : Follows l v.ends (entry l.reviewers r last) (place_of l.proposers (entry l.reviewers r last) r + 1) (link_at v.starts v.next (entry l.reviewers r last) (place_of l.proposers (entry l.reviewers r last) r + 1))
+  last_next = made.next _ _ who_in_range (omega (arith, listed)) (held_in last_held)
+
+  -- the same where the pair's proposer and number are known by other names
+  module _ {p k : ℕ} (is_p : p ≡ entry l.reviewers r last) (is_k : k ≡ place_of l.proposers (entry l.reviewers r last) r) where
+    pub ahead : {b : ℕ} → b ≡ link_at v.starts v.before p (k + 1) → Follows l v.ends p b (place_of l.proposers p r + 1)
+    ahead is_b = rw (is_b, is_k, is_p) last_before
+
+    pub behind : {n : ℕ} → n ≡ link_at v.starts v.next p (k + 1) → Follows l v.ends p (place_of l.proposers p r + 1) n
+    behind is_n = rw (is_n, is_k, is_p) last_next
+
+    pub number_fits : get_or v.starts p 0 + (k + 1) < get_or v.starts (length l.proposers) 0
+    number_fits = rw (is_k, is_p) (link_in_range made.starts (entry l.reviewers r last) (place_of l.proposers (entry l.reviewers r last) r + 1) who_in_range (omega (arith, listed)))
+
+  module _ {p b n : ℕ} (is_p : p ≡ entry l.reviewers r last) (f : Follows l v.ends p b (place_of l.proposers p r + 1)) (g : Follows l v.ends p (place_of l.proposers p r + 1) n) where
+    hp : p < length l.proposers
+    hp = omega (arith, who_in_range, is_p)
+
+    on_list : place_of l.proposers p r < length (row l.proposers p)
+    on_list = rw is_p listed
+
+    out : IsTakenOut l v.ends (set v.ends r last) p (place_of l.proposers p r + 1)
+    out = rw is_p taken_out
+
+    pub before_in_range : get_or v.starts p 0 + b < length v.next
+    before_in_range = let rising = f.rising in omega (arith, made.next_each, on_list, link_in_range made.starts p b hp (omega (arith, on_list)))
+
+    pub next_in_range : get_or v.starts p 0 + n < length v.before
+    next_in_range = omega (arith, made.before_each, link_in_range made.starts p n hp (omega (arith, in_le g.upper)))
+
+    pub unlinked : IsLinkedOf l (record { ends = set v.ends r last; starts = v.starts; next = set v.next (get_or v.starts p 0 + b) n; before = set v.before (get_or v.starts p 0 + n) b })
+    unlinked = record {
+      ends_each = length-set v.ends r last ∙ made.ends_each;
+      ends_on_lists = λ s. elim (eq_or_ne s r) [
+        | inl e ↦ rw (e, get_or-set_same v.ends r last 0 in_ends) (omega (arith, last_on_list))
+        | inr ne ↦ rw (get_or-set_other v.ends r s last 0 ne) (made.ends_on_lists s)
+      ];
+      starts = made.starts;
+      next_each = length-set v.next (get_or v.starts p 0 + b) n ∙ made.next_each;
+      before_each = length-set v.before (get_or v.starts p 0 + n) b ∙ made.before_each;
+      next = λ q j hq hj h. forward q j hq hj h (eq_or_ne q p) (eq_or_ne j b);
+      before = λ q j hq some hj h. back q j hq some hj h (eq_or_ne q p) (eq_or_ne j n);
+    }
+      where
+        b_le : b < length (row l.proposers p) + 2
+        b_le = let rising = f.rising in omega (arith, on_list)
+
+        n_le : n < length (row l.proposers p) + 2
+        n_le = omega (arith, in_le g.upper)
+
+        still_forward : (q j : ℕ) → q < length l.proposers → j ≤ length (row l.proposers q) → ((q ≡ p) × (j ≡ b) → ⊥) → link_at v.starts (set v.next (get_or v.starts p 0 + b) n) q j ≡ link_at v.starts v.next q j
+        still_forward q j hq hj ne = get_or-set_other v.next (get_or v.starts p 0 + b) (get_or v.starts q 0 + j) n 0 (λ e. ne (apart made.starts q p j b hq hp (omega arith) b_le e))
+
+        still_back : (q j : ℕ) → q < length l.proposers → j ≤ length (row l.proposers q) + 1 → ((q ≡ p) × (j ≡ n) → ⊥) → link_at v.starts (set v.before (get_or v.starts p 0 + n) b) q j ≡ link_at v.starts v.before q j
+        still_back q j hq hj ne = get_or-set_other v.before (get_or v.starts p 0 + n) (get_or v.starts q 0 + j) b 0 (λ e. ne (apart made.starts q p j n hq hp (omega arith) n_le e))
+
+        forward : (q j : ℕ) → q < length l.proposers → j ≤ length (row l.proposers q) → IsIn l (set v.ends r last) q j → (q ≡ p) ⊎ (q ≢ p) → (j ≡ b) ⊎ (j ≢ b) → Follows l (set v.ends r last) q j (link_at v.starts (set v.next (get_or v.starts p 0 + b) n) q j)
+        forward q j hq hj h (inl same) (inl e) = rw (same, e, get_or-set_same v.next (get_or v.starts p 0 + b) n 0 before_in_range) (follows_join out f g)
+        forward q j hq hj h (inl same) (inr ne) =
+            let old = made.next q j hq hj (out.still_in q j h) in
+            let apart_x : link_at v.starts v.next q j ≢ place_of l.proposers p r + 1 = λ e. ne (followed_once (rw same at (rw e at old)) f) in
+            rw (still_forward q j hq hj (λ w. ne w.1)) (follows_still out old h (out.stays q _ old.upper (inr apart_x)))
+        forward q j hq hj h (inr ne) _ =
+            let old = made.next q j hq hj (out.still_in q j h) in
+            rw (still_forward q j hq hj (λ w. ne w.0)) (follows_still out old h (out.stays q _ old.upper (inl ne)))
+
+        back : (q j : ℕ) → q < length l.proposers → 0 < j → j ≤ length (row l.proposers q) + 1 → IsIn l (set v.ends r last) q j → (q ≡ p) ⊎ (q ≢ p) → (j ≡ n) ⊎ (j ≢ n) → Follows l (set v.ends r last) q (link_at v.starts (set v.before (get_or v.starts p 0 + n) b) q j) j
+        back q j hq some hj h (inl same) (inl e) = rw (same, e, get_or-set_same v.before (get_or v.starts p 0 + n) b 0 next_in_range) (follows_join out f g)
+        back q j hq some hj h (inl same) (inr ne) =
+            let old = made.before q j hq some hj (out.still_in q j h) in
+            let apart_x : link_at v.starts v.before q j ≢ place_of l.proposers p r + 1 = λ e. ne (follows_once (rw same at (rw e at old)) g) in
+            rw (still_back q j hq hj (λ w. ne w.1)) (follows_still out old (out.stays q _ old.lower (inr apart_x)) h)
+        back q j hq some hj h (inr ne) _ =
+            let old = made.before q j hq some hj (out.still_in q j h) in
+            rw (still_back q j hq hj (λ w. ne w.0)) (follows_still out old (out.stays q _ old.lower (inl ne)) h)

@@ -1,0 +1,11 @@
+use Rattle.sm_accept.proofs.accept.pairing_of.Goals as goal
+
+pub unreachable-requires-in-Err-OutOfRange : goal.unreachable-requires-in-Err-OutOfRange
+unreachable-requires-in-Err-OutOfRange c =
+    let fault = rw (c.in-Err-OutOfRange.field-0-is) at c.in-Err-OutOfRange.ensures.fault in
+    c.requires.on_lists c.in-Err-OutOfRange.field-0-0 fault.past
+
+pub unreachable-requires-in-Err-Taken : goal.unreachable-requires-in-Err-Taken
+unreachable-requires-in-Err-Taken c =
+    let fault = rw (c.in-Err-Taken.field-0-is) at c.in-Err-Taken.ensures.fault in
+    c.requires.untaken c.in-Err-Taken.field-0-0 fault.taken

@@ -1,0 +1,4 @@
+pub mod Accepting
+pub mod Bests
+pub mod Linking
+pub mod Reducing

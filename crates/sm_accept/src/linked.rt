@@ -1,0 +1,227 @@
+//! Sets of pairs of a market that lose pairs from the ends of the reviewers' lists.
+
+ghost use Rattle.std.specs.Prelude.{◌≡◌, ℕ, ◌+◌, ◌-◌, ◌<◌, ◌≤◌, length, slice_index, slice_set, replicate, IfOk, MatchOption};
+ghost use Rattle.sm_market.specs.Lists.{row, entry, place_of};
+ghost use Rattle.sm_accept.specs.Linking.{linking, IsHeld, IsFirstHeld, IsHeldBehind, IsLinkedOf, AreStarts, AreAllLinked, link_at, all_ends, cut_ends};
+
+use sm_market::Market;
+use std::alloc::{AllocError, Global};
+use std::marker::Model;
+
+/// A set of pairs of a market, from which the pairs at the end of a reviewer's list can be taken out.
+///
+/// So of each reviewer's list it holds a front. The places that it holds of each proposer's list are linked in both
+/// directions (Gusfield and Irving 1989, section 1.2.4, holds reduced lists so).
+#[derive(Debug, Drop)]
+pub struct Linked {
+    /// How many pairs are held of each reviewer's list.
+    ends: Vec<u32>,
+    /// Where each proposer's links begin, and behind the last of them.
+    starts: Vec<u32>,
+    /// For each number of each proposer's list, the next one that is in: number 0 stands in front of the list, `i + 1`
+    /// for place `i`, and one more behind the list.
+    next: Vec<u32>,
+    /// For each number of each proposer's list, the last one before it that is in.
+    before: Vec<u32>,
+}
+
+impl Model for Linked {
+    ghost use Rattle.sm_accept.specs.Linking.{Linking, linking};
+
+    ghost Value = { Linking };
+
+    ghost view = { λ v. linking v.ends.items v.starts.items v.next.items v.before.items };
+}
+
+impl Linked {
+    /// The set of all pairs of a market.
+    ///
+    /// Takes time and memory in proportion to the agents and entries.
+    ///
+    /// # Errors
+    ///
+    /// `AllocError` where memory ran out, and only then.
+    pub fn of(alloc: Global, market: &Market) -> Result<Linked, AllocError>
+        ensures made { IfOk result (λ v. IsLinkedOf market.now v) }
+        ensures all { IfOk result (λ v. v.ends ≡ all_ends market.now) }
+    {
+        let mut ends = vec![in alloc; 0; market.reviewers() as usize]?;
+        let mut starts = vec![in alloc; 0; market.proposers() as usize + 1]?;
+        end_all(market, &mut ends);
+        let links = start_all(market, &mut starts);
+        let mut next = vec![in alloc; 0; links as usize]?;
+        let mut before = vec![in alloc; 0; links as usize]?;
+        link_all(market, &starts, &mut next, &mut before);
+        Ok(Linked {
+            ends,
+            starts,
+            next,
+            before,
+        })
+    }
+
+    /// A proposer's first held place. `None` exactly where none of its places is held.
+    ///
+    /// The set has to be made for a market of these lists. Takes the same time for all, and no memory.
+    pub fn first(&self, market: &Market, p: u32) -> Option<u32>
+        requires in_range { p < length market.now.proposers }
+        requires made { IsLinkedOf market.now self.now }
+        ensures { MatchOption result
+            ((i : ℕ) → ¬ IsHeld market.now self.now.ends p i)
+            (λ i. IsFirstHeld market.now self.now.ends p i) }
+    {
+        let number = link_of(&self.starts, &self.next, p, 0);
+        place_of_number(number, market.proposer_len(p))
+    }
+
+    /// A proposer's first held place behind one that is held. `None` exactly where none of those behind is held.
+    ///
+    /// The set has to be made for a market of these lists. Takes the same time for all, and no memory.
+    pub fn behind(&self, market: &Market, p: u32, place: u32) -> Option<u32>
+        requires in_range { p < length market.now.proposers }
+        requires made { IsLinkedOf market.now self.now }
+        requires held { IsHeld market.now self.now.ends p place }
+        ensures { MatchOption result
+            ((i : ℕ) → place < i → ¬ IsHeld market.now self.now.ends p i)
+            (λ i. IsHeldBehind market.now self.now.ends p place i) }
+    {
+        let places = market.proposer_len(p);
+        let number = link_of(&self.starts, &self.next, p, place + 1);
+        place_of_number(number, places)
+    }
+
+    /// Takes out the pairs of `r` that stand behind a place of its list. All else stays, and nothing is taken out where
+    /// the place is past all that is held.
+    ///
+    /// The set has to be made for a market of these lists. Takes time in proportion to the pairs that it takes out, and
+    /// no memory.
+    pub fn cut(&mut self, market: &Market, r: u32, place: u32)
+        requires in_range { r < length market.now.reviewers }
+        requires made { IsLinkedOf market.now self.old }
+        ensures made { IsLinkedOf market.now self.new }
+        ensures cut { self.new.ends ≡ cut_ends self.old.ends r place }
+    {
+        cut_links(
+            market,
+            &self.starts,
+            &mut self.ends,
+            &mut self.next,
+            &mut self.before,
+            r,
+            place,
+        );
+    }
+}
+
+/// Takes out the pairs of `r` behind a place of its list, from the last one on.
+fn cut_links(
+    market: &Market,
+    starts: &[u32],
+    ends: &mut [u32],
+    next: &mut [u32],
+    before: &mut [u32],
+    r: u32,
+    place: u32,
+)
+    requires in_range { r < length market.now.reviewers }
+    requires made { IsLinkedOf market.now (linking ends.old starts.now next.old before.old) }
+    ensures made { IsLinkedOf market.now (linking ends.new starts.now next.new before.new) }
+    ensures cut { ends.new ≡ cut_ends ends.old r place }
+{
+    let kept = place.saturating_add(1);
+    let mut end = ends[r as usize];
+    while kept < end {
+        end -= 1;
+        take_last(market, starts, ends, next, before, r, end);
+    }
+}
+
+/// Takes out the last pair that is held of the list of `r`.
+fn take_last(
+    market: &Market,
+    starts: &[u32],
+    ends: &mut [u32],
+    next: &mut [u32],
+    before: &mut [u32],
+    r: u32,
+    last: u32,
+)
+    requires in_range { r < length market.now.reviewers }
+    requires made { IsLinkedOf market.now (linking ends.old starts.now next.old before.old) }
+    requires last { slice_index ends.old r ≡ last + 1 }
+    ensures made { IsLinkedOf market.now (linking ends.new starts.now next.new before.new) }
+    ensures taken { ends.new ≡ slice_set ends.old r last }
+{
+    let p = market.proposer_at(r, last);
+    let number = market.reviewer_cross(r, last) + 1;
+    let behind = link_of(starts, next, p, number);
+    let ahead = link_of(starts, before, p, number);
+    set_link(starts, next, p, ahead, behind);
+    set_link(starts, before, p, behind, ahead);
+    ends[r as usize] = last;
+}
+
+/// The place with a number of a list, `None` for the number behind the list.
+fn place_of_number(number: u32, places: u32) -> Option<u32>
+    requires { 0 < number }
+    ensures { MatchOption result (places < number) (λ place. (number ≤ places) × (number ≡ place + 1)) }
+{
+    (number <= places).then_some(number - 1)
+}
+
+/// The link of a number of `p`'s list.
+fn link_of(starts: &[u32], links: &[u32], p: u32, number: u32) -> u32
+    requires in_range { p < length starts.now }
+    requires there { slice_index starts.now p + number < length links.now }
+    ensures { result ≡ link_at starts.now links.now p number }
+{
+    links[starts[p as usize] as usize + number as usize]
+}
+
+/// Links a number of `p`'s list with another one.
+fn set_link(starts: &[u32], links: &mut [u32], p: u32, number: u32, to: u32)
+    requires in_range { p < length starts.now }
+    requires there { slice_index starts.now p + number < length links.old }
+    ensures { links.new ≡ slice_set links.old (slice_index starts.now p + number) to }
+{
+    links[starts[p as usize] as usize + number as usize] = to;
+}
+
+/// Sets the end of each reviewer's list behind all of it.
+fn end_all(market: &Market, ends: &mut [u32])
+    requires { length ends.old ≡ length market.now.reviewers }
+    ensures { ends.new ≡ all_ends market.now }
+{
+    for r in 0..market.reviewers() {
+        ends[r as usize] = market.reviewer_len(r);
+    }
+}
+
+/// Says where each proposer's links begin, and returns how many links there are.
+fn start_all(market: &Market, starts: &mut [u32]) -> u32
+    requires zeros { starts.old ≡ replicate (length market.now.proposers + 1) 0 }
+    ensures starts { AreStarts market.now starts.new }
+    ensures count { result ≡ slice_index starts.new (length market.now.proposers) }
+{
+    let mut links = 0;
+    for p in 0..market.proposers() {
+        links += market.proposer_len(p) + 2;
+        starts[p as usize + 1] = links;
+    }
+    links
+}
+
+/// Links each number of each proposer's list with the ones before and behind it.
+fn link_all(market: &Market, starts: &[u32], next: &mut [u32], before: &mut [u32])
+    requires starts { AreStarts market.now starts.now }
+    requires next_each { length next.old ≡ slice_index starts.now (length market.now.proposers) }
+    requires before_each { length before.old ≡ slice_index starts.now (length market.now.proposers) }
+    ensures { AreAllLinked market.now starts.now next.new before.new }
+{
+    for p in 0..market.proposers() {
+        for number in 0..market.proposer_len(p) + 1 {
+            set_link(starts, next, p, number, number + 1);
+            set_link(starts, before, p, number + 1, number);
+        }
+    }
+}
