@@ -1,5 +1,6 @@
 -- Texts that are put one behind the other.
-use Rattle.std.proofs.Common.{◌≡◌, ℕ, zero, suc, ◌+◌, ◌-◌, ◌<◌, ◌≤◌, ◌==◌, false, List, [], ◌∷◌, ◌++◌, length, map, take, drop, get_or, Result, Ok, Err, IsErr, refl, sym, ap, ◌∙◌, subst, append_assoc, append-nil, arith, length-append, decimal}
+use Rattle.std.proofs.Common.{◌≡◌, ℕ, zero, suc, ◌+◌, ◌-◌, ◌<◌, ◌≤◌, ◌==◌, false, List, [], ◌∷◌, ◌++◌, length, map, take, drop, get_or}
+use Rattle.std.proofs.Common.{Result, Ok, Err, IsErr, refl, sym, ap, ◌∙◌, subst, append_assoc, append-nil, arith, length-append, decimal}
 use Rattle.std.specs.List.{flat_map, join_with_byte}
 use Rattle.std.proofs.lemmas.List.{take_more, take_all}
 use Rattle.std.proofs.lemmas.List.Concat.{flat_map-append}
@@ -12,7 +13,8 @@ use Rattle.sm_report.specs.Fields.{IsShown, AreShown, spaced}
 use Rattle.sm_report.specs.Putting.{PutsText}
 
 -- one text and then another
-pub puts_then : {E : Type 0} {a b c : Written} {xs ys : List ℕ} (r : Result (Unit {0}) E) → PutsText {E = E} a b xs (Ok tt) → PutsText {E = E} b c ys r → PutsText {E = E} a c (xs ++ ys) r
+pub puts_then : {E : Type 0} {a b c : Written} {xs ys : List ℕ} (r : Result (Unit {0}) E) → PutsText {E = E} a b xs (Ok tt)
+    → PutsText {E = E} b c ys r → PutsText {E = E} a c (xs ++ ys) r
 puts_then {E} {a} {b} {c} {xs} {ys} (Ok done) first then = record {
   ok = then.ok ∙ ap (λ t. t ++ ys) first.ok ∙ append_assoc a.bytes xs ys;
   err = tt;
@@ -32,7 +34,8 @@ puts_then {E} {a} {b} {c} {xs} {ys} (Err e) first then = record {
 }
 
 -- a text that wasn't put whole, in front of another
-pub puts_front : {E : Type 0} {a b : Written} {xs : List ℕ} (ys : List ℕ) (e : E) → PutsText {E = E} a b xs (Err e) → PutsText {E = E} a b (xs ++ ys) (Err e)
+pub puts_front : {E : Type 0} {a b : Written} {xs : List ℕ} (ys : List ℕ) (e : E) → PutsText {E = E} a b xs (Err e)
+    → PutsText {E = E} a b (xs ++ ys) (Err e)
 puts_front {E} {a} {b} {xs} ys e part = record {
   ok = tt;
   err = record {
@@ -46,23 +49,27 @@ puts_front {E} {a} {b} {xs} ys e part = record {
 }
 
 -- another error
-pub puts_broken : {E : Type 0} {a b : Written} {text : List ℕ} (e : E) (r : Result (Unit {0}) E) → IsErr r → PutsText {E = E} a b text (Err e) → PutsText {E = E} a b text r
+pub puts_broken : {E : Type 0} {a b : Written} {text : List ℕ} (e : E) (r : Result (Unit {0}) E) → IsErr r
+    → PutsText {E = E} a b text (Err e) → PutsText {E = E} a b text r
 puts_broken e (Ok done) is h = cc
 puts_broken e (Err other) is h = record { ok = tt; err = h.err; fits = h.fits; room = h.room }
 
 -- another text that is the same
-pub puts_same : {E : Type 0} {a b : Written} {xs ys : List ℕ} {r : Result (Unit {0}) E} → xs ≡ ys → PutsText {E = E} a b xs r → PutsText {E = E} a b ys r
+pub puts_same : {E : Type 0} {a b : Written} {xs ys : List ℕ} {r : Result (Unit {0}) E} → xs ≡ ys → PutsText {E = E} a b xs r
+    → PutsText {E = E} a b ys r
 puts_same {E} {a} {b} {xs} {ys} {r} same h = subst (λ t. PutsText {E = E} a b t r) same h
 
 -- the texts of the items up to one, and those up to the next
-flat_map_more_items : {X : Type 0} (h : X → List ℕ) (xs : List X) (i : ℕ) (d : X) → i < length xs → flat_map h (take i xs) ++ h (get_or xs i d) ≡ flat_map h (take (i + 1) xs)
+flat_map_more_items : {X : Type 0} (h : X → List ℕ) (xs : List X) (i : ℕ) (d : X) → i < length xs
+    → flat_map h (take i xs) ++ h (get_or xs i d) ≡ flat_map h (take (i + 1) xs)
 flat_map_more_items h xs i d below =
     ap (λ t. flat_map h (take i xs) ++ t) (sym (append-nil (h (get_or xs i d))))
     ∙ sym (flat_map-append h (take i xs) (get_or xs i d ∷ []))
     ∙ ap (flat_map h) (sym (take_more xs i d below))
 
 -- the texts of the items up to one, and the rest
-rest_of_items : {X : Type 0} (h : X → List ℕ) (xs : List X) (i : ℕ) → i ≤ length xs → (rest : List ℕ) × (flat_map h (take i xs) ++ rest ≡ flat_map h xs)
+rest_of_items : {X : Type 0} (h : X → List ℕ) (xs : List X) (i : ℕ) → i ≤ length xs
+    → (rest : List ℕ) × (flat_map h (take i xs) ++ rest ≡ flat_map h xs)
 rest_of_items h xs zero within = (flat_map h xs, refl)
 rest_of_items h [] (suc i) within = absurd (omega arith)
 rest_of_items h (x ∷ xs) (suc i) within =
@@ -70,19 +77,21 @@ rest_of_items h (x ∷ xs) (suc i) within =
     (more.0, append_assoc (h x) (flat_map h (take i xs)) more.0 ∙ ap (λ t. h x ++ t) more.1)
 
 -- all items are put, behind some other text
-pub items_put : {E X : Type 0} (front : List ℕ) (h : X → List ℕ) (xs : List X) (i : ℕ) {a b : Written} {text : List ℕ} → length xs ≤ i → front ++ flat_map h xs ≡ text
+pub items_put : {E X : Type 0} (front : List ℕ) (h : X → List ℕ) (xs : List X) (i : ℕ) {a b : Written} {text : List ℕ} → length xs ≤ i
+    → front ++ flat_map h xs ≡ text
     → PutsText {E = E} a b (front ++ flat_map h (take i xs)) (Ok tt) → PutsText {E = E} a b text (Ok tt)
 items_put front h xs i all same so_far = puts_same (ap (λ t. front ++ flat_map h t) (take_all i xs all) ∙ same) so_far
 
 -- an item isn't put whole
-pub items_broken : {E X : Type 0} (front : List ℕ) (h : X → List ℕ) (xs : List X) (i : ℕ) (d : X) {a b c : Written} {text : List ℕ} (e : E) (r : Result (Unit {0}) E) → IsErr r
-    → i < length xs → front ++ flat_map h xs ≡ text
+pub items_broken : {E X : Type 0} (front : List ℕ) (h : X → List ℕ) (xs : List X) (i : ℕ) (d : X) {a b c : Written} {text : List ℕ}
+    → (e : E) (r : Result (Unit {0}) E) → IsErr r → i < length xs → front ++ flat_map h xs ≡ text
     → PutsText {E = E} a b (front ++ flat_map h (take i xs)) (Ok tt) → PutsText {E = E} b c (h (get_or xs i d)) (Err e) → PutsText {E = E} a c text r
 items_broken front h xs i d e r is below same before here =
     let rest = rest_of_items h xs (i + 1) (omega arith) in
     let item = h (get_or xs i d) in
     let whole = append_assoc (front ++ flat_map h (take i xs)) item rest.0 ∙ append_assoc front (flat_map h (take i xs)) (item ++ rest.0)
-    ∙ ap (λ t. front ++ t) (sym (append_assoc (flat_map h (take i xs)) item rest.0) ∙ ap (λ t. t ++ rest.0) (flat_map_more_items h xs i d below) ∙ rest.1) ∙ same in
+    ∙ ap (λ t. front ++ t) (sym (append_assoc (flat_map h (take i xs)) item rest.0)
+    ∙ ap (λ t. t ++ rest.0) (flat_map_more_items h xs i d below) ∙ rest.1) ∙ same in
     puts_broken e r is (puts_same whole (puts_front rest.0 e (puts_then (Err e) before here)))
 
 -- fields with a space between them are the first and the others behind spaces
@@ -116,34 +125,42 @@ spaced-listed f (x ∷ xs) some = sym (spaced-map f (x ∷ xs))
 pub spaced-turns : (input : Input) (pairs : List (ℕ × Seat)) → false ≡ (length pairs == 0)
     → flat_map (λ (pair : ℕ × Seat). spaced (left_name input pair.0 ∷ seat_text input pair.1 ∷ [])) pairs ≡ spaced (turns input pairs)
 spaced-turns input [] some = cc
-spaced-turns input (pair ∷ pairs) some = sym (spaced-flat_map (λ (pair : ℕ × Seat). left_name input pair.0 ∷ seat_text input pair.1 ∷ []) (pair ∷ pairs))
+spaced-turns input (pair ∷ pairs) some =
+    sym (spaced-flat_map (λ (pair : ℕ × Seat). left_name input pair.0 ∷ seat_text input pair.1 ∷ []) (pair ∷ pairs))
 
 -- numbers with commas between them are the first and the others behind commas
 joined_by_commas : (x : List ℕ) (ns : List ℕ) → x ++ flat_map (λ n. 44 ∷ decimal n) ns ≡ join_with_byte 44 (x ∷ map decimal ns)
 joined_by_commas x [] = append-nil x
 joined_by_commas x (n ∷ ns) = ap (λ t. x ++ 44 ∷ t) (joined_by_commas (decimal n) ns)
 
-pub vector_is : (ns : List ℕ) → 1 ≤ length ns → decimal (get_or ns 0 0) ++ flat_map (λ n. 44 ∷ decimal n) (take (length ns - 1) (drop 1 ns)) ≡ vector_text ns
+pub vector_is : (ns : List ℕ) → 1 ≤ length ns
+    → decimal (get_or ns 0 0) ++ flat_map (λ n. 44 ∷ decimal n) (take (length ns - 1) (drop 1 ns)) ≡ vector_text ns
 vector_is [] some = absurd (omega arith)
-vector_is (n ∷ ns) some = ap (λ t. decimal n ++ flat_map (λ n. 44 ∷ decimal n) t) (take_all (length (n ∷ ns) - 1) ns (omega arith)) ∙ joined_by_commas (decimal n) ns
+vector_is (n ∷ ns) some =
+    ap (λ t. decimal n ++ flat_map (λ n. 44 ∷ decimal n) t) (take_all (length (n ∷ ns) - 1) ns (omega arith)) ∙ joined_by_commas (decimal n) ns
 
 -- each of some fields is shown
-pub shown_at : (input : Input) (fields : List Field) (i : ℕ) (d : Field) → i < length fields → AreShown input fields → IsShown input (get_or fields i d)
+pub shown_at : (input : Input) (fields : List Field) (i : ℕ) (d : Field) → i < length fields → AreShown input fields
+    → IsShown input (get_or fields i d)
 shown_at input [] i d below shown = absurd (omega arith)
 shown_at input (f ∷ fs) zero d below shown = shown.0
 shown_at input (f ∷ fs) (suc i) d below shown = shown_at input fs i d (omega arith) shown.1
 
 -- a word and then fields
-pub words_put : {E : Type 0} {a b c : Written} (word : List ℕ) (fields : List (List ℕ)) (r : Result (Unit {0}) E) → Puts {E = E} a b word (Ok tt) → PutsText {E = E} b c (spaced fields) r
+pub words_put : {E : Type 0} {a b c : Written} (word : List ℕ) (fields : List (List ℕ)) (r : Result (Unit {0}) E)
+    → Puts {E = E} a b word (Ok tt) → PutsText {E = E} b c (spaced fields) r
     → PutsText {E = E} a c (join_with_byte 32 (word ∷ fields)) r
 words_put word fields r first then =
     puts_same (sym (joined_is_spaced word fields)) (puts_then r (record { ok = first.ok; err = tt; fits = λ _. refl; room = first.room }) then)
 
 -- the fields of a line, the last of which are those of a list
-pub line_put : {E : Type 0} {a b c : Written} {text : List ℕ} (word : List ℕ) (fields list : List (List ℕ)) (r : Result (Unit {0}) E) → join_with_byte 32 (word ∷ (fields ++ list)) ≡ text
+pub line_put : {E : Type 0} {a b c : Written} {text : List ℕ} (word : List ℕ) (fields list : List (List ℕ)) (r : Result (Unit {0}) E)
+    → join_with_byte 32 (word ∷ (fields ++ list)) ≡ text
     → PutsText {E = E} a b (join_with_byte 32 (word ∷ fields)) (Ok tt) → PutsText {E = E} b c (spaced list) r → PutsText {E = E} a c text r
 line_put word fields list r same first then = puts_same (joined_then word fields list ∙ same) (puts_then r first then)
 
-pub line_broken : {E : Type 0} {a b : Written} {text : List ℕ} (word : List ℕ) (fields list : List (List ℕ)) (e : E) (r : Result (Unit {0}) E) → IsErr r → join_with_byte 32 (word ∷ (fields ++ list)) ≡ text
+pub line_broken : {E : Type 0} {a b : Written} {text : List ℕ} (word : List ℕ) (fields list : List (List ℕ)) (e : E) (r : Result (Unit {0}) E)
+    → IsErr r → join_with_byte 32 (word ∷ (fields ++ list)) ≡ text
     → PutsText {E = E} a b (join_with_byte 32 (word ∷ fields)) (Err e) → PutsText {E = E} a b text r
-line_broken word fields list e r is same first = puts_broken e r is (puts_same (joined_then word fields list ∙ same) (puts_front (spaced list) e first))
+line_broken word fields list e r is same first =
+    puts_broken e r is (puts_same (joined_then word fields list ∙ same) (puts_front (spaced list) e first))

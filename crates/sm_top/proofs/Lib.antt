@@ -1,9 +1,10 @@
-pub mod InputLemmas
-pub mod PlainLemmas
-pub mod NameLemmas
-pub mod WrittenLemmas
-pub mod CountLemmas
 pub mod WritingLemmas
+pub mod InputLemmas
+pub mod FilterLemmas
+pub mod MarriageLemmas
+pub mod MarketLemmas
+pub mod RefusingLemmas
+pub mod LineLemmas
+pub mod SolveLemmas
+pub mod ReduceLemmas
 pub mod RunLemmas
-pub mod AcceptSteps
-pub mod AcceptEnds

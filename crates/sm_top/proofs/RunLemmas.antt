@@ -10,15 +10,18 @@ use Rattle.sm_text.specs.declared.refusal.RefusalKind.TheVariants.{TooLong}
 use Rattle.sm_top.specs.declared.status.Status.{Status}
 use Rattle.sm_top.specs.declared.status.Status.TheVariants.{Done, Refused, Usage, OutOfMemory, ReadFault, WriteFault}
 use Rattle.sm_top.specs.declared.words.Job.{Job}
-use Rattle.sm_top.specs.declared.answer.Unwritten.{Unwritten}
-use Rattle.sm_top.specs.declared.answer.Unwritten.TheVariants.{SinkFailed, NoMemory}
+use Rattle.sm_top.specs.declared.writing.Unwritten.{Unwritten}
+use Rattle.sm_top.specs.declared.writing.Unwritten.TheVariants.{SinkFailed, NoMemory}
 use Rattle.sm_top.specs.declared.TheConstants.{MOST_BYTES}
 use Rattle.sm_top.specs.Words.{words_meaning}
 use Rattle.sm_top.specs.Input.{IsReadWhole, GaveTooMany}
-use Rattle.sm_top.specs.declared.words.Job.TheVariants.{Solve}
-use Rattle.sm_top.specs.Outcome.{Outcome, IsRefused, IsAccepted, faulty_words, refused, answered, too_long, not_plain}
-use Rattle.std.proofs.lemmas.Bool.{false≢true}
-use Rattle.sm_top.specs.Plain.{Agents}
+use Rattle.sm_top.specs.declared.words.Job.TheVariants.{Solve, Reduced}
+use Rattle.sm_reader.specs.InstanceText.{ReadText, Refusal, instance_text}
+use Rattle.sm_report.specs.Lines.{LineData}
+use Rattle.sm_instance.specs.declared.inputs.Input.{Input}
+use Rattle.sm_instance.specs.declared.inputs.Input.TheVariants.{Two, Room}
+use Rattle.sm_top.specs.Outcome.{Outcome, accepted, behind_text, IsAnswer, faulty_words, refused, answered}
+use Rattle.std.proofs.lemmas.Bool.{false≢true, lt-ltb}
 use Rattle.sm_top.specs.Running.{IsFront, IsBeingRead, Answers, Ends, IsFaultless, IsDoneUnlessNoMemory, AnswersAccepted}
 use Rattle.sm_top.specs.Writing.{Writes, Wrote, WroteFor, status_of}
 
@@ -73,37 +76,53 @@ whole_agrees None after bytes given end = tt
 whole_agrees (Some all) None bytes given end = absurd given
 whole_agrees (Some all) (Some rest) bytes given end = given ∙ ap (λ t. bytes ++ t) end ∙ append-nil bytes
 
+-- a right answer is a whole one
+pub answer_done : (job : Job) (input : Input) (status : Status) (answer : List LineData) → IsAnswer job input status answer → status ≡ Done
+answer_done (Solve side) (Two w) status answer right = right.0
+answer_done Reduced (Two w) status answer right = right.0
+answer_done (Solve side) (Room persons) status answer right = absurd right
+answer_done Reduced (Room persons) status answer right = absurd right
+
 -- sound words come to no usage
 no_usage : (words : List (List ℕ)) (bytes text : List ℕ) (word : ℕ) (job : Job) → words_meaning words ≡ Ok job → Outcome words bytes (Usage word) text → ⊥
 no_usage words bytes text word job sound (faulty_words n faulty status is) = cc
 no_usage words bytes text word job sound (refused other kind at meaning why status is) = cc
-no_usage words bytes text word job sound (answered Solve agents meaning accepted answer) = let status = answer.0 in cc
+no_usage words bytes text word job sound (answered other read answer meaning ok right is) = let status = answer_done other read.input _ answer right in cc
 
--- too many bytes come to no answer
+-- an input that is too long is refused
+pub too_long_text : (bytes : List ℕ) → MOST_BYTES < length bytes → instance_text bytes ≡ Err (TooLong, 0)
+unfolding instance_text
+too_long_text bytes long = rw (lt-ltb MOST_BYTES (length bytes) long) refl
+
+pub too_long_refused : (bytes : List ℕ) → MOST_BYTES < length bytes → accepted bytes ≡ Err (TooLong, 0)
+too_long_refused bytes long = ap (behind_text bytes) (too_long_text bytes long)
+
+-- and comes to nothing else
 not_done : (words : List (List ℕ)) (bytes text : List ℕ) → MOST_BYTES < length bytes → Outcome words bytes Done text → ⊥
 not_done words bytes text long (faulty_words n faulty status is) = cc
 not_done words bytes text long (refused other kind at meaning why status is) = cc
-not_done words bytes text long (answered Solve agents meaning accepted answer) = let short = accepted.short in omega (arith, short, long)
+not_done words bytes text long (answered other read answer meaning ok right is) = let e = too_long_refused bytes long in cc
 
--- too many bytes are refused as that
 refused_kind : (words : List (List ℕ)) (bytes text : List ℕ) (kind : RefusalKind) (at : ℕ) → MOST_BYTES < length bytes → Outcome words bytes (Refused kind at) text → kind ≡ TooLong
 refused_kind words bytes text kind at long (faulty_words n faulty status is) = absurd (cc)
-refused_kind words bytes text kind at long (refused other k n meaning why status is) = by_reason why status where
-  by_reason : {k : RefusalKind} {n : ℕ} → IsRefused bytes k n → Refused kind at ≡ Refused k n → kind ≡ TooLong
-  by_reason (too_long h) e = cc
-  by_reason (not_plain short none) e = absurd (omega (arith, short, long))
-refused_kind words bytes text kind at long (answered Solve agents meaning accepted answer) = let status = answer.0 in absurd (cc)
+refused_kind words bytes text kind at long (refused other k n meaning why status is) =
+    let e = too_long_refused bytes long in
+    let both : ◌≡◌ {A = RefusalKind × ℕ} (k, n) (TooLong, 0) = cc in
+    let same : k ≡ TooLong = ap (λ (r : RefusalKind × ℕ). r.0) both in
+    let kinds : kind ≡ k = cc in
+    kinds ∙ same
+refused_kind words bytes text kind at long (answered other read answer meaning ok right is) = let status = answer_done other read.input _ answer right in absurd (cc)
 
 -- faulty words come to nothing but a usage
 not_done_faulty : (words : List (List ℕ)) (bytes text : List ℕ) (word : ℕ) → words_meaning words ≡ Err word → Outcome words bytes Done text → ⊥
 not_done_faulty words bytes text word wrong (faulty_words n faulty status is) = cc
 not_done_faulty words bytes text word wrong (refused other kind at meaning why status is) = cc
-not_done_faulty words bytes text word wrong (answered job agents meaning accepted answer) = cc
+not_done_faulty words bytes text word wrong (answered job read answer meaning ok right is) = cc
 
 not_refused_faulty : (words : List (List ℕ)) (bytes text : List ℕ) (word : ℕ) (k : RefusalKind) (n : ℕ) → words_meaning words ≡ Err word → Outcome words bytes (Refused k n) text → ⊥
 not_refused_faulty words bytes text word k n wrong (faulty_words m faulty status is) = cc
 not_refused_faulty words bytes text word k n wrong (refused other kind at meaning why status is) = cc
-not_refused_faulty words bytes text word k n wrong (answered job agents meaning accepted answer) = cc
+not_refused_faulty words bytes text word k n wrong (answered job read answer meaning ok right is) = cc
 
 -- the input was read whole, and a text was written
 pub answers_whole : (words : List (List ℕ)) (bytes : List ℕ) (left_before left_after a b : Option (List ℕ)) (f g : ℕ) (status : Status)
@@ -198,27 +217,26 @@ faultless ReadFault R K read write r k = r (read refl)
 faultless WriteFault R K read write r k = k (write refl)
 
 -- an accepted input isn't refused
-not_refused : (words : List (List ℕ)) (bytes text : List ℕ) (a : Agents) (kind : RefusalKind) (at : ℕ) → IsAccepted bytes a → IsOk (words_meaning words)
+not_refused : (words : List (List ℕ)) (bytes text : List ℕ) (read : ReadText) (kind : RefusalKind) (at : ℕ) → accepted bytes ≡ Ok read → IsOk (words_meaning words)
     → Outcome words bytes (Refused kind at) text → ⊥
-not_refused words bytes text a kind at accepted sound (faulty_words n faulty status is) = cc
-not_refused words bytes text a kind at accepted sound (refused job k n meaning (too_long long) status is) = let short = accepted.short in omega (arith, short, long)
-not_refused words bytes text a kind at accepted sound (refused job k n meaning (not_plain short none) status is) = none a accepted.plain
-not_refused words bytes text a kind at accepted sound (answered Solve agents meaning other answer) = let status = answer.0 in cc
+not_refused words bytes text read kind at ok sound (faulty_words n faulty status is) = cc
+not_refused words bytes text read kind at ok sound (refused job k n meaning why status is) = cc
+not_refused words bytes text read kind at ok sound (answered job other answer meaning found right is) = let status = answer_done job other.input _ answer right in cc
 
 not_usage : (words : List (List ℕ)) (bytes text : List ℕ) (word : ℕ) → IsOk (words_meaning words) → Outcome words bytes (Usage word) text → ⊥
 not_usage words bytes text word sound (faulty_words n faulty status is) = false≢true (subst IsOk faulty sound)
 not_usage words bytes text word sound (refused job k n meaning why status is) = cc
-not_usage words bytes text word sound (answered Solve agents meaning other answer) = let status = answer.0 in cc
+not_usage words bytes text word sound (answered job read answer meaning found right is) = let status = answer_done job read.input _ answer right in cc
 
 -- a run on accepted bytes
 pub answers_accepted : (words : List (List ℕ)) (left_before left_after a b : Option (List ℕ)) (status : Status)
     → Answers words left_before left_after a b status → AnswersAccepted words left_before status
-answers_accepted words before after a b status answers bytes agents sound told accepted fine =
+answers_accepted words before after a b status answers bytes read sound told ok fine =
     let same : bytes ≡ answers.bytes = subst (λ left. Agrees left answers.bytes) told answers.read in
-    by_status status (subst (λ t. IsAccepted t agents) same accepted) answers.ends fine where
-      by_status : (status : Status) → IsAccepted answers.bytes agents → Ends words answers.bytes answers.text before after status → IsFaultless status → IsDoneUnlessNoMemory status
+    by_status status (subst (λ t. accepted t ≡ Ok read) same ok) answers.ends fine where
+      by_status : (status : Status) → accepted answers.bytes ≡ Ok read → Ends words answers.bytes answers.text before after status → IsFaultless status → IsDoneUnlessNoMemory status
       by_status Done ok ends fine = tt
-      by_status (Refused kind at) ok ends fine = not_refused words answers.bytes answers.text agents kind at ok sound ends.0
+      by_status (Refused kind at) ok ends fine = not_refused words answers.bytes answers.text read kind at ok sound ends.0
       by_status (Usage word) ok ends fine = not_usage words answers.bytes answers.text word sound ends.0
       by_status OutOfMemory ok ends fine = tt
       by_status ReadFault ok ends fine = fine

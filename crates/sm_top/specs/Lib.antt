@@ -1,10 +1,11 @@
 pub mod Words
-pub mod Plain
-pub mod Answer
+pub mod MarriageMarket
+pub mod Texts
+pub mod Answers
+pub mod Reduction
 pub mod Outcome
 pub mod Running
 pub mod Input
-pub mod Reading
+pub mod Giving
 pub mod Writing
 pub mod Statuses
-pub mod Accepting

@@ -1,5 +1,5 @@
 -- What a run does to its source and its sink.
-use Rattle.std.specs.Prelude.{◌≡◌, ◌≢◌, ◌≤◌, ◌+◌, ◌⊎◌, ℕ, List, [], ◌++◌, length, Option, Some, IsSomeAnd, IsOk}
+use Rattle.std.specs.Prelude.{◌≡◌, ◌≢◌, ◌≤◌, ◌+◌, ◌⊎◌, ℕ, List, [], ◌++◌, length, Option, Some, IsSomeAnd, IsOk, Ok}
 use Rattle.sm_io.specs.Source.{Agrees}
 use Rattle.sm_io.specs.Sink.{Grows}
 use Rattle.sm_text.specs.declared.refusal.RefusalKind.TheVariants.{TooLong}
@@ -8,8 +8,8 @@ use Rattle.sm_top.specs.declared.status.Status.TheVariants.{Done, Refused, Usage
 use Rattle.sm_top.specs.declared.TheConstants.{MOST_BYTES}
 use Rattle.sm_top.specs.Words.{words_meaning}
 use Rattle.sm_top.specs.Input.{IsReadWhole}
-use Rattle.sm_top.specs.Plain.{Agents}
-use Rattle.sm_top.specs.Outcome.{Outcome, IsAccepted}
+use Rattle.sm_reader.specs.InstanceText.{ReadText}
+use Rattle.sm_top.specs.Outcome.{Outcome, accepted}
 
 -- a front of the text of an outcome
 pub record IsFront (words : List (List ℕ)) (bytes text : List ℕ) : Type 0 where
@@ -60,4 +60,4 @@ IsDoneUnlessNoMemory status = ⊥
 -- where words ask for a job and the source tells bytes that are accepted, a run without faults comes to the answer
 abbrev pub AnswersAccepted : List (List ℕ) → Option (List ℕ) → Status → Type 0
 AnswersAccepted words left status =
-    (bytes : List ℕ) (a : Agents) → IsOk (words_meaning words) → left ≡ Some bytes → IsAccepted bytes a → IsFaultless status → IsDoneUnlessNoMemory status
+    (bytes : List ℕ) (read : ReadText) → IsOk (words_meaning words) → left ≡ Some bytes → accepted bytes ≡ Ok read → IsFaultless status → IsDoneUnlessNoMemory status

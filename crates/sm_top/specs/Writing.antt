@@ -4,8 +4,8 @@ use Rattle.sm_io.specs.Faults.{Rose}
 use Rattle.sm_io.specs.Sink.{Grows, IsPart}
 use Rattle.sm_top.specs.declared.status.Status.{Status}
 use Rattle.sm_top.specs.declared.status.Status.TheVariants.{Done, Refused, Usage, OutOfMemory, ReadFault, WriteFault}
-use Rattle.sm_top.specs.declared.answer.Unwritten.{Unwritten}
-use Rattle.sm_top.specs.declared.answer.Unwritten.TheVariants.{SinkFailed, NoMemory}
+use Rattle.sm_top.specs.declared.writing.Unwritten.{Unwritten}
+use Rattle.sm_top.specs.declared.writing.Unwritten.TheVariants.{SinkFailed, NoMemory}
 use Rattle.sm_top.specs.Outcome.{Outcome}
 use Rattle.sm_top.specs.Running.{IsFront}
 

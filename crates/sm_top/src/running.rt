@@ -1,20 +1,25 @@
 //! The top call.
 
-ghost use Rattle.std.specs.Prelude.{◌≡◌, ◌≢◌, ◌≤◌, ◌<◌, length, Ok, Err, ℕ, List};
+ghost use Rattle.std.specs.Prelude.{◌≡◌, ◌≢◌, ◌≤◌, ◌<◌, length, Ok, Err, ℕ, List, true};
 ghost use Rattle.sm_io.specs.Faults.{Rose};
+ghost use Rattle.sm_reader.specs.InstanceText.{ReadText};
 ghost use Rattle.sm_top.specs.Words.{texts, words_meaning};
-ghost use Rattle.sm_top.specs.Outcome.{Outcome, IsRefused};
+ghost use Rattle.sm_top.specs.Outcome.{Outcome, accepted, is_built};
+ghost use Rattle.sm_instance.specs.Inputs.{kind_of};
 ghost use Rattle.sm_top.specs.Running.{Answers, AnswersAccepted, IsFaultless};
 ghost use Rattle.sm_top.specs.Writing.{Wrote, status_of};
 
 use crate::MOST_BYTES;
-use crate::accept::proposers_best;
-use crate::answer::{Unwritten, write_refused, write_solution, write_usage};
 use crate::input::{Reading, read_all};
-use crate::plain::read_plain;
+use crate::reducing::reduce;
+use crate::refusing::refusal;
+use crate::solving::solve;
 use crate::status::Status;
-use crate::words::{Job, read_words};
+use crate::words::{Job, WordsFault, read_words};
+use crate::writing::{ended, write_refused, write_usage};
+use sm_instance::Input;
 use sm_io::{Sink, Source};
+use sm_reader::{TextFault, read_instance};
 use sm_text::RefusalKind;
 use std::alloc::{AllocError, Global};
 
@@ -23,9 +28,13 @@ use std::alloc::{AllocError, Global};
 /// The words are those of the command line behind the program's name. Where they are faulty nothing is read. Else the source is read to
 /// its end, or until it gave more than 16,777,216 bytes, and the answer is written to the sink, each line with one put.
 ///
-/// - `Done`: the whole answer is written. For `solve`, the one job so far, it is the pairs of the stable matching in which
-///   every proposer has the best partner that it has in any stable matching (Gale and Shapley 1962), in the order of the text.
-/// - `Refused`: the input has too many bytes, or is no plain text; the one line `refused NAME LINE` is written.
+/// - `Done`: the whole answer is written. For `solve` it is the pairs of the stable matching in which every agent of a
+///   side has the best partner that it has in any stable matching (Gale and Shapley 1962), in the order of the text; for
+///   `reduced` the partners in both such matchings and the lists in which all stable pairs lie (Gusfield and Irving 1989,
+///   section 1.2.4).
+/// - `Refused`: the input is refused for this reason, at this line; the one line `refused NAME LINE` is written. An input
+///   that is too long comes first, then the faults of its lines from the top, then a missing `end`, then a name that isn't
+///   declared, then text behind `end`, then a kind that isn't taken yet.
 /// - `Usage`: the words are faulty; the one line `usage WORD` is written.
 /// - `ReadFault`, `WriteFault`: the source or the sink failed. Nothing was written, or a front of the answer.
 /// - `OutOfMemory`: there was no memory. Nothing was written, or a front of the answer.
@@ -46,9 +55,10 @@ pub fn run<S: Source, K: Sink>(
     ensures source_later { S.faults source.old ≤ S.faults source.new }
     ensures sink_later { K.faults sink.old ≤ K.faults sink.new }
 {
-    match read_words(words) {
+    match read_words(alloc, words) {
         Ok(job) => serve(alloc, job, source, sink),
-        Err(word) => complain(alloc, word, sink),
+        Err(WordsFault::Usage(word)) => complain(alloc, word, sink),
+        Err(WordsFault::OutOfMemory) => Status::OutOfMemory,
     }
 }
 
@@ -90,35 +100,38 @@ fn answer<K: Sink>(alloc: Global, job: Job, bytes: &[u8], sink: &mut K) -> Statu
     ensures write_fault { result ≡ Status.WriteFault → Rose (K.faults sink.old) (K.faults sink.new) }
     ensures later { K.faults sink.old ≤ K.faults sink.new }
 {
-    match job {
-        Job::Solve => solve(alloc, bytes, sink),
+    match read_instance(alloc, bytes) {
+        Ok(read) => match refusal(bytes, &read) {
+            Some((kind, at)) => refuse(alloc, sink, kind, at),
+            None => perform(alloc, job, &read.input, sink),
+        },
+        Err(TextFault::Refused(kind, at)) => refuse(alloc, sink, kind, at),
+        Err(TextFault::OutOfMemory) => Status::OutOfMemory,
     }
 }
 
-// Writes the matching that is best for the proposers of a plain text.
-#[tactic(auto, using(crate::proofs::RunLemmas::ended_fault, crate::proofs::RunLemmas::ended_no_read_fault))]
-fn solve<K: Sink>(alloc: Global, bytes: &[u8], sink: &mut K) -> Status
-    requires { length bytes.now ≤ MOST_BYTES }
-    ensures wrote { (words : List (List ℕ)) → words_meaning words ≡ Ok Job.Solve
-        → Wrote words bytes.now (K.held sink.old) (K.held sink.new) (K.faults sink.old) (K.faults sink.new) result }
+// Does a job on an instance.
+fn perform<K: Sink>(alloc: Global, job: Job, input: &Input, sink: &mut K) -> Status
+    requires { is_built (kind_of input.now) ≡ true }
+    ensures wrote { (words : List (List ℕ)) (bytes : List ℕ) (read : ReadText) → words_meaning words ≡ Ok job → accepted bytes ≡ Ok read → read.input ≡ input.now
+        → Wrote words bytes (K.held sink.old) (K.held sink.new) (K.faults sink.old) (K.faults sink.new) result }
     ensures no_read_fault { result ≢ Status.ReadFault }
     ensures write_fault { result ≡ Status.WriteFault → Rose (K.faults sink.old) (K.faults sink.new) }
     ensures later { K.faults sink.old ≤ K.faults sink.new }
 {
-    match read_plain(alloc, bytes) {
-        Ok(Some(text)) => match proposers_best(alloc, &text.market) {
-            Ok(best) => ended(Status::Done, write_solution(alloc, sink, &text, &best)),
-            Err(AllocError) => Status::OutOfMemory,
+    match input {
+        Input::Two(instance) => match job {
+            Job::Solve(side) => solve(alloc, side, input, instance, sink),
+            Job::Reduced => reduce(alloc, input, instance, sink),
         },
-        Ok(None) => refuse(alloc, sink, RefusalKind::NotBuilt, 0),
-        Err(AllocError) => Status::OutOfMemory,
+        Input::Room(_) => unreachable!(),
     }
 }
 
 // Writes that an input is refused.
 #[tactic(auto, using(crate::proofs::RunLemmas::ended_fault, crate::proofs::RunLemmas::ended_no_read_fault))]
 fn refuse<K: Sink>(alloc: Global, sink: &mut K, kind: RefusalKind, at: u32) -> Status
-    ensures wrote { (words : List (List ℕ)) (bytes : List ℕ) (job : _) → words_meaning words ≡ Ok job → IsRefused bytes kind at
+    ensures wrote { (words : List (List ℕ)) (bytes : List ℕ) (job : _) → words_meaning words ≡ Ok job → accepted bytes ≡ Err (kind, at)
         → Wrote words bytes (K.held sink.old) (K.held sink.new) (K.faults sink.old) (K.faults sink.new) result }
     ensures no_read_fault { result ≢ Status.ReadFault }
     ensures write_fault { result ≡ Status.WriteFault → Rose (K.faults sink.old) (K.faults sink.new) }
@@ -128,15 +141,4 @@ fn refuse<K: Sink>(alloc: Global, sink: &mut K, kind: RefusalKind, at: u32) -> S
         Status::Refused(kind, at),
         write_refused(alloc, sink, kind, at),
     )
-}
-
-// The status, where the text that goes with it was written, and else why it wasn't.
-fn ended(status: Status, written: Result<(), Unwritten>) -> Status
-    ensures { result ≡ status_of status written }
-{
-    match written {
-        Ok(()) => status,
-        Err(Unwritten::SinkFailed) => Status::WriteFault,
-        Err(Unwritten::NoMemory) => Status::OutOfMemory,
-    }
 }

@@ -15,4 +15,5 @@ returns-in_err-put_field c =
 pub returns : goal.returns
 returns c =
     let f = text_of_field c.args.input.now in
-    items_put [] (λ x. 32 ∷ f x) c.args.fields.now c.loop-field.field-index c.loop-field-test.false (sym (spaced-map f c.args.fields.now)) c.loop-field.invariant
+    items_put [] (λ x. 32 ∷ f x) c.args.fields.now c.loop-field.field-index c.loop-field-test.false (sym (spaced-map f c.args.fields.now))
+    c.loop-field.invariant

@@ -7,4 +7,5 @@ use Rattle.sm_report.proofs.fields.put_fields.Given as goal
 
 -- the fields so far are put
 abbrev pub invariant-loop-field : goal.invariant-loop-field
-invariant-loop-field l = PutsText {E = AllocError} l.initial.into l.into (flat_map (λ f. 32 ∷ text_of_field l.input f) (take l.field-index l.fields)) (Ok tt)
+invariant-loop-field l =
+    PutsText {E = AllocError} l.initial.into l.into (flat_map (λ f. 32 ∷ text_of_field l.input f) (take l.field-index l.fields)) (Ok tt)

@@ -6,4 +6,6 @@ use Rattle.sm_report.proofs.fields.put_vector.Given as goal
 
 -- the first number and those behind it so far are put
 abbrev pub invariant-loop-number : goal.invariant-loop-number
-invariant-loop-number l = PutsText {E = AllocError} l.fn.into l.into (decimal (slice_index l.fn.vector 0) ++ flat_map (λ n. 44 ∷ decimal n) (take l.number-index l.more)) (Ok tt)
+invariant-loop-number l =
+    PutsText {E = AllocError} l.fn.into l.into
+    (decimal (slice_index l.fn.vector 0) ++ flat_map (λ n. 44 ∷ decimal n) (take l.number-index l.more)) (Ok tt)

@@ -6,7 +6,8 @@ pub returns-in_err-put_field : goal.returns-in_err-put_field
 returns-in_err-put_field c =
     let xs = c.args.list.now in
     items_broken [] (λ n. 32 ∷ decimal n) xs c.loop-n.n-index 0 c.in_err-put_field.field-0.0 _ c.from_residual.ensures.0
-    c.loop-n-test.true (spaced-listed decimal xs c.if-is_empty.ensures) c.loop-n.invariant (puts_same (ap (λ n. 32 ∷ decimal n) c.from.ensures) c.in_err-put_field.ensures)
+    c.loop-n-test.true (spaced-listed decimal xs c.if-is_empty.ensures) c.loop-n.invariant
+    (puts_same (ap (λ n. 32 ∷ decimal n) c.from.ensures) c.in_err-put_field.ensures)
 
 pub returns : goal.returns
 returns c =

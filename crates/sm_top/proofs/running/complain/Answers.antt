@@ -1,5 +1,5 @@
 use Rattle.std.proofs.Common.{refl, sym, subst}
-use Rattle.sm_top.specs.Answer.{usage_text}
+use Rattle.sm_top.specs.Texts.{usage_text}
 use Rattle.sm_top.specs.Outcome.{faulty_words}
 use Rattle.sm_top.specs.Writing.{Wrote}
 use Rattle.sm_top.specs.declared.status.Status.TheVariants.{Usage}

@@ -1,5 +1,5 @@
 use Rattle.std.proofs.Common.{refl, sym, subst}
-use Rattle.sm_top.specs.Answer.{refused_text}
+use Rattle.sm_top.specs.Texts.{refused_text}
 use Rattle.sm_top.specs.Outcome.{refused}
 use Rattle.sm_top.specs.Writing.{Wrote}
 use Rattle.sm_top.specs.declared.status.Status.TheVariants.{Refused}

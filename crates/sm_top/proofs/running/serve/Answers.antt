@@ -1,7 +1,6 @@
 use Rattle.std.proofs.Common.{subst}
-use Rattle.sm_top.specs.Outcome.{too_long}
 use Rattle.sm_top.specs.Writing.{Wrote}
-use Rattle.sm_top.proofs.RunLemmas.{answers_whole, answers_too_long, had_too_many, answers_read_fault, answers_no_memory}
+use Rattle.sm_top.proofs.RunLemmas.{answers_whole, answers_too_long, had_too_many, answers_read_fault, answers_no_memory, too_long_refused}
 use Rattle.sm_top.proofs.running.serve.Goals as goal
 
 pub returns-in-Ok-Whole-clause-answer : goal.returns-in-Ok-Whole-clause-answer
@@ -25,7 +24,7 @@ returns-in-Ok-TooLong-clause-answer g c words sound =
     let gave = rw c.in-Ok-TooLong.field-0-is at c.in-Ok-TooLong.ensures.read in
     let had = had_too_many (left c.args.source.now) (left c.read_all.new.source) gave in
     answers_too_long words (left c.args.source.now) (left c.read_all.new.source) (held c.args.sink.now) (held c.refuse.new.sink) (faults c.args.sink.now) (faults c.refuse.new.sink)
-    c.refuse.result gave c.args.job sound (c.refuse.ensures.wrote words had.bytes c.args.job sound (too_long had.long))
+    c.refuse.result gave c.args.job sound (c.refuse.ensures.wrote words had.bytes c.args.job sound (too_long_refused had.bytes had.long))
 
 pub returns-in-Ok-Failed-clause-answer : goal.returns-in-Ok-Failed-clause-answer
 returns-in-Ok-Failed-clause-answer g c words sound =

@@ -1,0 +1,92 @@
+-- Verdicts on lines.
+use Rattle.std.proofs.Common.{◌≡◌, ℕ, ◌<◌, ◌≤◌, Bool, true, false, not, cond, List, [], ◌∷◌, length, get_or, drop, Option, Some, None, refl, ap, ◌∙◌, arith}
+use Rattle.std.specs.Borrow.{Bor}
+use Rattle.std.specs.List.{list_any, list_all}
+use Rattle.std.specs.Option.{option_or, option_map_or}
+use Rattle.sm_text.specs.Name.{is_name}
+use Rattle.sm_text.specs.declared.refusal.RefusalKind.{RefusalKind}
+use Rattle.sm_text.specs.declared.refusal.RefusalKind.TheVariants.{BadByte, BadHeader, BadName}
+use Rattle.sm_instance.specs.declared.kinds.Kind.{Kind}
+use Rattle.sm_instance.specs.declared.kinds.Side.{Side}
+use Rattle.sm_reader.specs.Said.{Said, names_of, agents_on, all_entries}
+use Rattle.sm_reader.specs.Forms.{Form, declares, weighs, forces, forbids, is_bad, form_behind, is_end, header_of}
+use Rattle.sm_reader.specs.Judging.{Verdict, goes, stops, refuses, passes, heads, faces, heading_of, verdict_on, of_form, fault_of, said_with, is_bad_capacity}
+use Rattle.sm_reader.specs.Kept.{texts_of}
+use Rattle.sm_reader.specs.Draft.{run_fault, name_fault, weight_fault, IsLineFault, IsRefusedBy}
+use Rattle.sm_reader.specs.declared.faults.TextFault.{TextFault}
+use Rattle.sm_reader.specs.declared.faults.TextFault.TheVariants.{Refused, OutOfMemory}
+
+module _ (kind : Kind) (said : Said) (line : ℕ) where
+  pub verdict_empty : (xs : List (Bor (List ℕ))) → length xs < 1 → verdict_on kind said line (texts_of xs) ≡ goes said
+  unfolding verdict_on
+  verdict_empty [] h = refl
+  verdict_empty (x ∷ xs) h = absurd (omega arith)
+
+  pub verdict_bad : (xs : List (Bor (List ℕ))) → 1 ≤ length xs → list_any is_bad (texts_of xs) ≡ true → verdict_on kind said line (texts_of xs) ≡ refuses BadByte
+  unfolding verdict_on
+  verdict_bad [] h bad = absurd (omega arith)
+  verdict_bad (x ∷ xs) h bad = rw bad refl
+
+  pub verdict_end : (xs : List (Bor (List ℕ))) → 1 ≤ length xs → list_any is_bad (texts_of xs) ≡ false → is_end (texts_of xs) ≡ true → verdict_on kind said line (texts_of xs) ≡ stops
+  unfolding verdict_on
+  verdict_end [] h bad end = absurd (omega arith)
+  verdict_end (x ∷ xs) h bad end = rw (bad, end) refl
+
+  pub verdict_form : (xs : List (Bor (List ℕ))) (d : Bor (List ℕ)) → 1 ≤ length xs → list_any is_bad (texts_of xs) ≡ false → is_end (texts_of xs) ≡ false
+      → verdict_on kind said line (texts_of xs) ≡ of_form said line (form_behind kind (get_or xs 0 d).now (texts_of (drop 1 xs)))
+  unfolding verdict_on
+  verdict_form [] d h bad end = absurd (omega arith)
+  verdict_form (x ∷ xs) d h bad end = rw (bad, end) refl
+
+-- the verdict on a form, by its fault
+pub by_fault : (said : Said) (line : ℕ) (form : Form) (kind : RefusalKind) → fault_of said form ≡ Some kind → of_form said line (Some form) ≡ refuses kind
+by_fault said line form kind e = rw e refl
+
+pub by_none : (said : Said) (line : ℕ) (form : Form) → fault_of said form ≡ None → of_form said line (Some form) ≡ goes (said_with said line form)
+by_none said line form e = rw e refl
+
+-- the faults of an agent's line are those of its runs, and then those of names and limits
+two_rows : (a b : Bool) (k l : RefusalKind) (rest : Option RefusalKind) → cond a (Some k) (cond b (Some l) rest) ≡ option_or (cond a (Some k) (cond b (Some l) None)) rest
+two_rows true b k l rest = refl
+two_rows false true k l rest = refl
+two_rows false false k l rest = refl
+
+pub agent_faults : (said : Said) (side : Side) (name : List ℕ) (capacity : Option (List ℕ)) (entries : List (List ℕ))
+    → fault_of said (declares side name capacity entries)
+    ≡ option_or (run_fault name capacity entries) (name_fault (names_of (agents_on side said)) name entries (length (agents_on side said)) (all_entries said))
+unfolding fault_of
+agent_faults said side name capacity entries = two_rows (not (list_all is_name (name ∷ entries))) (is_bad_capacity capacity) _ _ _
+
+pub weight_faults : (said : Said) (p r w : List ℕ) → fault_of said (weighs p r w) ≡ weight_fault said.weights p r w
+unfolding fault_of
+weight_faults said p r w = refl
+
+pub forced_fault : (said : Said) (p r : List ℕ) (t : Bool) → list_all is_name (p ∷ r ∷ []) ≡ t → fault_of said (forces p r) ≡ cond (not t) (Some BadName) None
+unfolding fault_of
+forced_fault said p r t e = ap (λ b. cond (not b) (Some BadName) None) e
+
+pub forbidden_fault : (said : Said) (p r : List ℕ) (t : Bool) → list_all is_name (p ∷ r ∷ []) ≡ t → fault_of said (forbids p r) ≡ cond (not t) (Some BadName) None
+unfolding fault_of
+forbidden_fault said p r t e = ap (λ b. cond (not b) (Some BadName) None) e
+
+-- a line whose form has a fault is refused for it
+pub refused_line : (said : Said) (line : ℕ) (form : Form) (verdict : Verdict) → verdict ≡ of_form said line (Some form) → (f : TextFault) → IsLineFault (fault_of said form) line f → IsRefusedBy verdict line f
+refused_line said line form verdict same (Refused kind at) h = (same ∙ by_fault said line form kind h.0, h.1)
+refused_line said line form verdict same OutOfMemory h = tt
+
+-- the heading that stands on a line
+pub heading_empty : (xs : List (Bor (List ℕ))) → length xs < 1 → heading_of (texts_of xs) ≡ passes
+unfolding heading_of
+heading_empty [] h = refl
+heading_empty (x ∷ xs) h = absurd (omega arith)
+
+pub heading_bad : (xs : List (Bor (List ℕ))) → 1 ≤ length xs → list_any is_bad (texts_of xs) ≡ true → heading_of (texts_of xs) ≡ faces BadByte
+unfolding heading_of
+heading_bad [] h bad = absurd (omega arith)
+heading_bad (x ∷ xs) h bad = rw bad refl
+
+pub heading_form : (xs : List (Bor (List ℕ))) → 1 ≤ length xs → list_any is_bad (texts_of xs) ≡ false
+    → heading_of (texts_of xs) ≡ option_map_or (λ (kind : Kind). heads kind) (header_of (texts_of xs)) (faces BadHeader)
+unfolding heading_of
+heading_form [] h bad = absurd (omega arith)
+heading_form (x ∷ xs) h bad = rw bad refl

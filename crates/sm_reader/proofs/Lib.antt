@@ -1,0 +1,12 @@
+pub mod TextLemmas
+pub mod TableLemmas
+pub mod ListingLemmas
+pub mod DraftLemmas
+pub mod JudgeLemmas
+pub mod AddLemmas
+pub mod ResultLemmas
+pub mod PairLemmas
+pub mod NumberLemmas
+pub mod ReadingLemmas
+pub mod RightLemmas
+pub mod SoundLemmas

@@ -1,0 +1,200 @@
+-- Numbers of names, and the first line that names nobody.
+use Rattle.std.proofs.Common.{◌≡◌, ◌≢◌, ℕ, zero, suc, ◌+◌, ◌<◌, ◌≤◌, ◌||◌, Bool, true, false, cond, List, [], ◌∷◌, ◌++◌, length, get_or, take, map, min, filter, Option, Some, None, refl, sym, ap, ◌∙◌, subst, arith, ℤ}
+use Rattle.std.specs.Borrow.{Bor}
+use Rattle.std.specs.List.{list_any}
+use Rattle.std.specs.Option.{option_map_or}
+use Rattle.std.proofs.lemmas.List.{length-map, get_or-map, map_push, map-append, take_more, take_all}
+use Rattle.std.proofs.lemmas.List.Elements.{filter-append}
+use Rattle.std.proofs.lemmas.List.Folds.{list_any-append, list_any_at}
+use Rattle.sm_instance.specs.Written.{AgentData, Written}
+use Rattle.sm_instance.specs.declared.inputs.Input.TheVariants.{Two}
+use Rattle.sm_instance.specs.declared.kinds.Kind.{Kind}
+use Rattle.sm_instance.specs.declared.kinds.Kind.TheVariants.{Marriage, Hospitals, Roommates}
+use Rattle.sm_reader.specs.Said.{SaidPair, SaidWeight, Said, names_of}
+use Rattle.sm_reader.specs.InstanceText.{lines_with_unknown, pairs_with_unknown, least, unknown_lines, listed_by_proposers, numbered, two_sides, input_of}
+use Rattle.sm_reader.specs.Kept.{AreBelow, Table, table_of}
+use Rattle.sm_reader.specs.Draft.{AreAgentsBelow, IsPairBelow, ArePairsBelow, pairs_of, listed_table, agent_in, pair_in, given_in, said_of, IsDraft}
+use Rattle.sm_reader.specs.Numbering.{lesser, line_if, pair_among, weight_among}
+use Rattle.sm_reader.specs.declared.draft.Declared.{Declared}
+use Rattle.sm_reader.specs.declared.draft.Pair.{Pair}
+use Rattle.sm_reader.specs.declared.draft.Weight.{Weight}
+use Rattle.sm_reader.specs.declared.draft.Draft.{Draft}
+use Rattle.sm_reader.specs.declared.names.Names.{Names}
+
+-- the parts of a front of a list, and one more
+pub front_more : {X Y : Type 0} (f : X → Y) (xs : List X) (i : ℕ) (d : X) → i < length xs → map f (take (i + 1) xs) ≡ map f (take i xs) ++ f (get_or xs i d) ∷ []
+front_more f xs i d inside = ap (map f) (take_more xs i d inside) ∙ map_push f (take i xs) (get_or xs i d)
+
+pub front_all : {X Y : Type 0} (f : X → Y) (xs : List X) (i : ℕ) → length xs ≤ i → map f (take i xs) ≡ map f xs
+front_all f xs i past = ap (map f) (take_all i xs past)
+
+-- a test of the names of indexes
+module _ (p : List ℕ → Bool) (t : ℕ → List ℕ) (ids : List ℕ) where
+  pub any_found : (i : ℕ) → i < length ids → p (t (get_or ids i 0)) ≡ true → list_any p (map t ids) ≡ true
+  any_found i inside found =
+      list_any_at p (map t ids) i (t 0) (omega (arith, length-map ids t)) (ap p (get_or-map t ids i 0 (t 0) inside) ∙ found)
+
+  pub any_more : (i : ℕ) → i < length ids → list_any p (map t (take i ids)) ≡ false → p (t (get_or ids i 0)) ≡ false → list_any p (map t (take (i + 1) ids)) ≡ false
+  any_more i inside before fails =
+      ap (list_any p) (front_more t ids i 0 inside) ∙ list_any-append p (map t (take i ids)) (t (get_or ids i 0) ∷ [])
+      ∙ ap (λ b. b || (p (t (get_or ids i 0)) || false)) before ∙ ap (λ b. b || false) fails
+
+  pub any_end : (i : ℕ) → length ids ≤ i → list_any p (map t (take i ids)) ≡ false → list_any p (map t ids) ≡ false
+  any_end i past h = ap (list_any p) (sym (front_all t ids i past)) ∙ h
+
+-- the least of two lists
+lesser_assoc : (n : ℕ) (a b : Option ℕ) → Some (option_map_or (min n) (lesser a b) n) ≡ lesser (Some (option_map_or (min n) a n)) b
+lesser_assoc n None None = refl
+lesser_assoc n None (Some b) = refl
+lesser_assoc n (Some a) None = refl
+lesser_assoc n (Some a) (Some b) = ap Some (let e : min n (min a b) ≡ min (min n a) b = omega arith in e)
+
+pub least-append : (xs ys : List ℕ) → least (xs ++ ys) ≡ lesser (least xs) (least ys)
+least-append [] ys = refl
+least-append (n ∷ xs) ys = ap (λ o. Some (option_map_or (min n) o n)) (least-append xs ys) ∙ lesser_assoc n (least xs) (least ys)
+
+least_one : (xs : List ℕ) (b : Bool) (n : ℕ) → least (xs ++ cond b (n ∷ []) []) ≡ lesser (least xs) (line_if b n)
+least_one xs true n = least-append xs (n ∷ [])
+least_one xs false n = least-append xs []
+
+if_map : {X : Type 0} (f : X → ℕ) (b : Bool) (x : X) → map f (cond b (x ∷ []) []) ≡ cond b (f x ∷ []) []
+if_map f true x = refl
+if_map f false x = refl
+
+-- the first line of those with a mark, with one more
+pub least_more : {X : Type 0} (p : X → Bool) (line : X → ℕ) (xs : List X) (x : X) → least (map line (filter p (xs ++ x ∷ []))) ≡ lesser (least (map line (filter p xs))) (line_if (p x) (line x))
+least_more p line xs x =
+    ap (λ ys. least (map line ys)) (filter-append p xs (x ∷ []))
+    ∙ ap least (map-append line (filter p xs) (cond (p x) (x ∷ []) []))
+    ∙ ap (λ ys. least (map line (filter p xs) ++ ys)) (if_map line (p x) x)
+    ∙ least_one (map line (filter p xs)) (p x) (line x)
+
+-- what is in range, at a place
+pub agents_below_at : (n : ℕ) (agents : List Declared) (i : ℕ) (a : Declared) → AreAgentsBelow n agents → i < length agents → a ≡ get_or agents i a → AreBelow n a.entries.items
+agents_below_at n [] i a inside below here = absurd (omega arith)
+agents_below_at n (b ∷ agents) zero a inside below here = subst (λ (x : Declared). AreBelow n x.entries.items) (sym here) inside.0
+agents_below_at n (b ∷ agents) (suc i) a inside below here = agents_below_at n agents i a inside.1 (omega arith) here
+
+pub pairs_below_at : (n m : ℕ) (pairs : List Pair) (i : ℕ) (d : Pair) → ArePairsBelow n m pairs → i < length pairs → IsPairBelow n m (get_or pairs i d)
+pairs_below_at n m [] i d inside below = absurd (omega arith)
+pairs_below_at n m (x ∷ pairs) zero d inside below = inside.0
+pairs_below_at n m (x ∷ pairs) (suc i) d inside below = pairs_below_at n m pairs i d inside.1 (omega arith)
+
+pub weights_below_at : (n m : ℕ) (ws : List Weight) (i : ℕ) (d : Weight) → ArePairsBelow n m (pairs_of ws) → i < length ws → IsPairBelow n m (get_or ws i d).pair
+weights_below_at n m [] i d inside below = absurd (omega arith)
+weights_below_at n m (x ∷ ws) zero d inside below = inside.0
+weights_below_at n m (x ∷ ws) (suc i) d inside below = weights_below_at n m ws i d inside.1 (omega arith)
+
+-- the lists of persons are numbered among persons, and those of any other kind among reviewers
+pub other_table : (kind : Kind) (pn rn : Names) → kind ≢ Roommates → listed_table kind pn rn ≡ table_of rn
+other_table Marriage pn rn other = refl
+other_table Hospitals pn rn other = refl
+other_table Roommates pn rn other = absurd (other refl)
+
+-- the names of a draft's agents are those that are declared
+pub names_in : (texts : List (List ℕ)) (agents : List Declared) → names_of (map (agent_in texts) agents) ≡ map (λ (a : Declared). a.name.now) agents
+names_in texts [] = refl
+names_in texts (a ∷ agents) = ap (λ x. a.name.now ∷ x) (names_in texts agents)
+
+pub pairs_in : (p r : List (List ℕ)) (ws : List Weight) → map (λ (w : SaidWeight). w.pair) (map (given_in p r) ws) ≡ map (pair_in p r) (pairs_of ws)
+pairs_in p r [] = refl
+pairs_in p r (w ∷ ws) = ap (λ x. pair_in p r w.pair ∷ x) (pairs_in p r ws)
+
+module _ (kind : Kind) (line : ℕ) (d : Draft) (draft : IsDraft kind line d) where
+  pub proposer_names : names_of (said_of kind d).proposers ≡ (table_of d.proposer_names).declared
+  proposer_names = names_in (listed_table kind d.proposer_names d.reviewer_names).texts d.proposers.items ∙ sym draft.proposers_declared
+
+  pub reviewer_names : names_of (said_of kind d).reviewers ≡ (table_of d.reviewer_names).declared
+  reviewer_names = names_in (table_of d.proposer_names).texts d.reviewers.items ∙ sym draft.reviewers_declared
+
+-- whom the proposers list
+pub listed_names : (kind : Kind) (line : ℕ) (d : Draft) → IsDraft kind line d → listed_by_proposers kind (said_of kind d) ≡ (listed_table kind d.proposer_names d.reviewer_names).declared
+listed_names Marriage line d draft = reviewer_names Marriage line d draft
+listed_names Hospitals line d draft = reviewer_names Hospitals line d draft
+listed_names Roommates line d draft = proposer_names Roommates line d draft
+
+-- the first line that names an undeclared agent, part by part
+pub unknown_is : (kind : Kind) (line : ℕ) (d : Draft) → IsDraft kind line d
+    → let p = table_of d.proposer_names in let r = table_of d.reviewer_names in let t = listed_table kind d.proposer_names d.reviewer_names in
+    least (unknown_lines kind (said_of kind d)) ≡ lesser (lesser (lesser (lesser
+    (least (lines_with_unknown t.declared (map (agent_in t.texts) d.proposers.items)))
+    (least (lines_with_unknown p.declared (map (agent_in p.texts) d.reviewers.items))))
+    (least (pairs_with_unknown p.declared r.declared (map (pair_in p.texts r.texts) (pairs_of d.weights.items)))))
+    (least (pairs_with_unknown p.declared r.declared (map (pair_in p.texts r.texts) d.forced.items))))
+    (least (pairs_with_unknown p.declared r.declared (map (pair_in p.texts r.texts) d.forbidden.items)))
+unknown_is kind line d draft =
+    let p = table_of d.proposer_names in
+    let r = table_of d.reviewer_names in
+    let t = listed_table kind d.proposer_names d.reviewer_names in
+    let said = said_of kind d in
+    let parts = λ (listed ps rs : List (List ℕ)) (ws : List SaidPair). lines_with_unknown listed said.proposers ++ lines_with_unknown ps said.reviewers
+    ++ pairs_with_unknown ps rs ws ++ pairs_with_unknown ps rs said.forced ++ pairs_with_unknown ps rs said.forbidden in
+    let weighed = map (λ (w : SaidWeight). w.pair) said.weights in
+    let named : unknown_lines kind said ≡ parts t.declared p.declared r.declared (map (pair_in p.texts r.texts) (pairs_of d.weights.items)) =
+    ap (λ x. parts x (names_of said.proposers) (names_of said.reviewers) weighed) (listed_names kind line d draft)
+    ∙ ap (λ x. parts t.declared x (names_of said.reviewers) weighed) (proposer_names kind line d draft)
+    ∙ ap (λ x. parts t.declared p.declared x weighed) (reviewer_names kind line d draft)
+    ∙ ap (λ x. parts t.declared p.declared r.declared x) (pairs_in p.texts r.texts d.weights.items) in
+    let a = lines_with_unknown t.declared said.proposers in
+    let b = lines_with_unknown p.declared said.reviewers in
+    let w = pairs_with_unknown p.declared r.declared (map (pair_in p.texts r.texts) (pairs_of d.weights.items)) in
+    let f = pairs_with_unknown p.declared r.declared said.forced in
+    let g = pairs_with_unknown p.declared r.declared said.forbidden in
+    ap least named
+    ∙ least-append (a ++ b ++ w ++ f) g
+    ∙ ap (λ o. lesser o (least g)) (least-append (a ++ b ++ w) f)
+    ∙ ap (λ o. lesser (lesser o (least f)) (least g)) (least-append (a ++ b) w)
+    ∙ ap (λ o. lesser (lesser (lesser o (least w)) (least f)) (least g)) (least-append a b)
+
+-- one part after another
+pub lesser_chain : {a b w f g x y z u p q r s t : Option ℕ} → x ≡ lesser a b → y ≡ lesser x w → z ≡ lesser y f → u ≡ lesser z g → a ≡ p → b ≡ q → w ≡ r → f ≡ s → g ≡ t
+    → u ≡ lesser (lesser (lesser (lesser p q) r) s) t
+lesser_chain e1 e2 e3 e4 ha hb hw hf hg = cc
+
+-- the two sides that are numbered are those that a draft says
+pub sides_said : (kind : Kind) (line : ℕ) (d : Draft) → IsDraft kind line d → kind ≢ Roommates
+    → (left right : List AgentData) (weights : List (ℕ × ℕ × ℤ)) (forced forbidden : List (ℕ × ℕ))
+    → (let p = table_of d.proposer_names in let r = table_of d.reviewer_names in
+    left ≡ map (numbered r.declared) (map (agent_in r.texts) d.proposers.items)
+    → right ≡ map (numbered p.declared) (map (agent_in p.texts) d.reviewers.items)
+    → weights ≡ map (weight_among p.declared r.declared) (map (given_in p.texts r.texts) d.weights.items)
+    → forced ≡ map (pair_among p.declared r.declared) (map (pair_in p.texts r.texts) d.forced.items)
+    → forbidden ≡ map (pair_among p.declared r.declared) (map (pair_in p.texts r.texts) d.forbidden.items)
+    → (let w : Written = record { kind = kind; proposers = left; reviewers = right; weights = weights; forced = forced; forbidden = forbidden } in w ≡ two_sides kind (said_of kind d)))
+sides_said kind line d draft other left right weights forced forbidden e1 e2 e3 e4 e5 =
+    let said = said_of kind d in
+    let p = table_of d.proposer_names in
+    let r = table_of d.reviewer_names in
+    let sides : List (List ℕ) → List (List ℕ) → List (List ℕ) → Written = λ ps rs listed. record {
+      kind = kind;
+      proposers = map (numbered rs) (map (agent_in listed) d.proposers.items);
+      reviewers = map (numbered ps) said.reviewers;
+      weights = map (weight_among ps rs) said.weights;
+      forced = map (pair_among ps rs) said.forced;
+      forbidden = map (pair_among ps rs) said.forbidden;
+    } in
+    let given : Written = record { kind = kind; proposers = left; reviewers = right; weights = weights; forced = forced; forbidden = forbidden } in
+    let first : given ≡ sides p.declared r.declared r.texts = five kind e1 e2 e3 e4 e5 in
+    first
+    ∙ ap (λ (t : Table). sides p.declared r.declared t.texts) (sym (other_table kind d.proposer_names d.reviewer_names other))
+    ∙ ap (λ ps. sides ps r.declared (listed_table kind d.proposer_names d.reviewer_names).texts) (sym (proposer_names kind line d draft))
+    ∙ ap (λ rs. sides (names_of said.proposers) rs (listed_table kind d.proposer_names d.reviewer_names).texts) (sym (reviewer_names kind line d draft))
+  where
+    five : (k : Kind) {a a' b b' : List AgentData} {w w' : List (ℕ × ℕ × ℤ)} {f f' g g' : List (ℕ × ℕ)} → a ≡ a' → b ≡ b' → w ≡ w' → f ≡ f' → g ≡ g'
+        → let x : Written = record { kind = k; proposers = a; reviewers = b; weights = w; forced = f; forbidden = g } in
+        let y : Written = record { kind = k; proposers = a'; reviewers = b'; weights = w'; forced = f'; forbidden = g' } in x ≡ y
+    five k h1 h2 h3 h4 h5 = cc
+
+pub other_input : (kind : Kind) (said : Said) → kind ≢ Roommates → input_of kind said ≡ Two (two_sides kind said)
+other_input Marriage said other = refl
+other_input Hospitals said other = refl
+other_input Roommates said other = absurd (other refl)
+
+-- few names are declared
+pub few_names : (kind : Kind) (line : ℕ) (d : Draft) → IsDraft kind line d → (length d.proposer_names.declared.items ≤ 4096) × (length d.reviewer_names.declared.items ≤ 4096)
+few_names kind line d draft =
+    let name = λ (a : Declared). a.name.now in
+    let text = λ (x : Bor (List ℕ)). x.now in (
+      omega (arith, ap length draft.proposers_declared, length-map d.proposers.items name, length-map d.proposer_names.declared.items text, draft.proposers_fit),
+      omega (arith, ap length draft.reviewers_declared, length-map d.reviewers.items name, length-map d.reviewer_names.declared.items text, draft.reviewers_fit),
+    )

@@ -1,0 +1,133 @@
+-- Texts among texts.
+use Rattle.std.proofs.Common.{◌≡◌, ◌≢◌, ℕ, suc, ◌+◌, ◌<◌, ◌≤◌, ◌||◌, ◌&&◌, Bool, true, false, not, cond, List, [], ◌∷◌, ◌++◌, length, get_or, take, Some, None, refl, sym, ap, ◌∙◌, arith, position, is_some}
+use Rattle.std.specs.Borrow.{Bor}
+use Rattle.std.specs.List.{list_any, list_all, position_or_len}
+use Rattle.std.specs.Str.{bytes_eq}
+use Rattle.std.proofs.lemmas.Slice.Eq.{bytes_eq-Decides}
+use Rattle.std.proofs.lemmas.List.Folds.{position_or_len_push, list_any-append, list_all-map, list_all_at, list_all_more}
+use Rattle.std.proofs.lemmas.List.{take_all, map_push}
+use Rattle.std.proofs.lemmas.Bool.Decides.{nat_tests}
+use Rattle.std.proofs.lemmas.Bool.{false≢true}
+use Rattle.sm_reader.specs.Kept.{texts_of}
+
+-- a text is itself, and another one isn't
+pub same_text : (a b : List ℕ) → a ≡ b → bytes_eq a b ≡ true
+same_text a b e = (bytes_eq-Decides a b).1 e
+
+pub equal_text : (a b : List ℕ) → bytes_eq a b ≡ true → a ≡ b
+equal_text a b e = (bytes_eq-Decides a b).0 e
+
+pub other_text : (a b : List ℕ) → a ≢ b → bytes_eq a b ≡ false
+other_text a b differ = by_test (bytes_eq a b) refl
+  where
+    by_test : (t : Bool) → bytes_eq a b ≡ t → bytes_eq a b ≡ false
+    by_test true e = absurd (differ (equal_text a b e))
+    by_test false e = e
+
+-- among slices, as among what they hold
+pub list_any_texts : (name : List ℕ) (keys : List (Bor (List ℕ))) → list_any (λ k. bytes_eq name k.now) keys ≡ list_any (bytes_eq name) (texts_of keys)
+list_any_texts name [] = refl
+list_any_texts name (k ∷ ks) = ap (λ t. bytes_eq name k.now || t) (list_any_texts name ks)
+
+pub position_texts : (name : List ℕ) (keys : List (Bor (List ℕ))) → position_or_len (λ k. bytes_eq name k.now) keys ≡ position_or_len (bytes_eq name) (texts_of keys)
+position_texts name [] = refl
+position_texts name (k ∷ ks) = ap (λ n. cond (not (bytes_eq name k.now)) (1 + n) 0) (position_texts name ks)
+
+-- the first that passes, where one does or none does
+pub position_or_len-le : {X : Type 0} (p : X → Bool) (xs : List X) → position_or_len p xs ≤ length xs
+position_or_len-le p [] = omega arith
+position_or_len-le p (x ∷ xs) = elim (p x) as (λ t. cond (not t) (1 + position_or_len p xs) 0 ≤ length (x ∷ xs)) [ true ↦ omega arith | false ↦ omega (arith, position_or_len-le p xs) ]
+
+pub position_or_len-none : {X : Type 0} (p : X → Bool) (xs : List X) → list_any p xs ≡ false → position_or_len p xs ≡ length xs
+position_or_len-none p [] h = refl
+position_or_len-none p (x ∷ xs) h = by_test (p x) refl h (position_or_len-none p xs)
+  where
+    by_test : (t : Bool) → p x ≡ t → (t || list_any p xs) ≡ false → (list_any p xs ≡ false → position_or_len p xs ≡ length xs)
+        → cond (not (p x)) (1 + position_or_len p xs) 0 ≡ length (x ∷ xs)
+    by_test true e k behind = absurd (false≢true (sym k))
+    by_test false e k behind = rw e (omega (arith, behind k))
+
+pub position_or_len-lt : {X : Type 0} (p : X → Bool) (xs : List X) → list_any p xs ≡ true → position_or_len p xs < length xs
+position_or_len-lt p [] h = absurd (false≢true h)
+position_or_len-lt p (x ∷ xs) h = by_test (p x) refl h (position_or_len-lt p xs)
+  where
+    by_test : (t : Bool) → p x ≡ t → (t || list_any p xs) ≡ true → (list_any p xs ≡ true → position_or_len p xs < length xs)
+        → cond (not (p x)) (1 + position_or_len p xs) 0 < length (x ∷ xs)
+    by_test true e k behind = rw e (omega arith)
+    by_test false e k behind = rw e (omega (arith, behind k))
+
+pub position-none : {X : Type 0} (p : X → Bool) (xs : List X) → list_any p xs ≡ false → position p xs ≡ None
+position-none p xs h = let past = position_or_len-none p xs h in grind (arith, nat_tests)
+
+pub position-some : {X : Type 0} (p : X → Bool) (xs : List X) → list_any p xs ≡ true → position p xs ≡ Some (position_or_len p xs)
+position-some p xs h = let found = position_or_len-lt p xs h in grind (arith, nat_tests)
+
+-- whether there is a position
+pub is_some-position : {X : Type 0} (p : X → Bool) (xs : List X) → is_some (position p xs) ≡ list_any p xs
+is_some-position p xs = by_test (list_any p xs) refl
+  where
+    by_test : (t : Bool) → list_any p xs ≡ t → is_some (position p xs) ≡ list_any p xs
+    by_test true e = ap is_some (position-some p xs e) ∙ sym e
+    by_test false e = ap is_some (position-none p xs e) ∙ sym e
+
+-- a further one changes no position of what it isn't
+pub position-push_other : {X : Type 0} (p : X → Bool) (xs : List X) (y : X) → p y ≡ false → position p (xs ++ y ∷ []) ≡ position p xs
+position-push_other p xs y differ = by_test (list_any p xs) refl
+  where
+    by_test : (t : Bool) → list_any p xs ≡ t → position p (xs ++ y ∷ []) ≡ position p xs
+    by_test true e =
+        let found = position_or_len-lt p xs e in
+        let same : position_or_len p (xs ++ y ∷ []) ≡ position_or_len p xs = position_or_len_push p xs y ∙ grind (arith, nat_tests) in
+        position-some p (xs ++ y ∷ []) (list_any-append p xs (y ∷ []) ∙ ap (λ t. t || list_any p (y ∷ [])) e) ∙ ap Some same ∙ sym (position-some p xs e)
+    by_test false e =
+        position-none p (xs ++ y ∷ []) (list_any-append p xs (y ∷ []) ∙ ap (λ t. t || list_any p (y ∷ [])) e ∙ ap (λ t. t || false) differ)
+        ∙ sym (position-none p xs e)
+
+-- and is the last of what it is and no other is
+pub position-push_new : {X : Type 0} (p : X → Bool) (xs : List X) (y : X) → list_any p xs ≡ false → p y ≡ true → position p (xs ++ y ∷ []) ≡ Some (length xs)
+position-push_new p xs y none same =
+    let past = position_or_len-none p xs none in
+    let last : position_or_len p (xs ++ y ∷ []) ≡ length xs = position_or_len_push p xs y ∙ grind (arith, nat_tests) in
+    position-some p (xs ++ y ∷ []) (list_any-append p xs (y ∷ []) ∙ ap (λ t. t || list_any p (y ∷ [])) none ∙ ap (λ t. t || false) same) ∙ ap Some last
+
+one_more : (n : ℕ) → 1 + n ≡ suc n
+one_more n = omega arith
+
+-- the first place of a text that is there holds it
+pub at_position : (name : List ℕ) (xs : List (List ℕ)) → list_any (bytes_eq name) xs ≡ true → get_or xs (position_or_len (bytes_eq name) xs) [] ≡ name
+at_position name [] h = absurd (false≢true h)
+at_position name (x ∷ xs) h = by_test (bytes_eq name x) refl h (at_position name xs)
+  where
+    by_test : (t : Bool) → bytes_eq name x ≡ t → (t || list_any (bytes_eq name) xs) ≡ true
+        → (list_any (bytes_eq name) xs ≡ true → get_or xs (position_or_len (bytes_eq name) xs) [] ≡ name)
+        → get_or (x ∷ xs) (cond (not (bytes_eq name x)) (1 + position_or_len (bytes_eq name) xs) 0) [] ≡ name
+    by_test true e k behind = rw e (sym (equal_text name x e))
+    by_test false e k behind = rw e (ap (λ n. get_or (x ∷ xs) n []) (one_more (position_or_len (bytes_eq name) xs)) ∙ behind k)
+
+-- a test of all texts, in a loop
+module _ (p : List ℕ → Bool) (xs : List (Bor (List ℕ))) where
+  pub all_texts_fail : (i : ℕ) (x : Bor (List ℕ)) → i < length xs → x ≡ get_or xs i x → p x.now ≡ false → list_all p (texts_of xs) ≡ false
+  all_texts_fail i x inside here fails =
+      list_all-map p (λ (y : Bor (List ℕ)). y.now) xs ∙ list_all_at (λ (y : Bor (List ℕ)). p y.now) xs i x inside (ap (λ (y : Bor (List ℕ)). p y.now) (sym here) ∙ fails)
+
+  pub all_texts_more : (i : ℕ) (x : Bor (List ℕ)) → i < length xs → x ≡ get_or xs i x → list_all p (texts_of (take i xs)) ≡ true → p x.now ≡ true → list_all p (texts_of (take (i + 1) xs)) ≡ true
+  all_texts_more i x inside here before passes =
+      list_all-map p (λ (y : Bor (List ℕ)). y.now) (take (i + 1) xs)
+      ∙ list_all_more (λ (y : Bor (List ℕ)). p y.now) xs i x inside
+      ∙ ap (λ t. t && p (get_or xs i x).now) (sym (list_all-map p (λ (y : Bor (List ℕ)). y.now) (take i xs)) ∙ before)
+      ∙ ap (λ (y : Bor (List ℕ)). p y.now) (sym here) ∙ passes
+
+  pub all_texts_end : (i : ℕ) → length xs ≤ i → list_all p (texts_of (take i xs)) ≡ true → list_all p (texts_of xs) ≡ true
+  all_texts_end i past h = ap (λ t. list_all p (texts_of t)) (sym (take_all i xs past)) ∙ h
+
+pub from_not_false : (b : Bool) → not b ≡ false → b ≡ true
+from_not_false true h = refl
+from_not_false false h = cc
+
+pub from_not_true : (b : Bool) → not b ≡ true → b ≡ false
+from_not_true true h = cc
+from_not_true false h = refl
+
+-- the slices with one more
+pub texts_push : (xs : List (Bor (List ℕ))) (x : Bor (List ℕ)) → texts_of (xs ++ x ∷ []) ≡ texts_of xs ++ x.now ∷ []
+texts_push xs x = map_push (λ (y : Bor (List ℕ)). y.now) xs x

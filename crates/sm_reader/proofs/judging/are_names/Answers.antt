@@ -1,0 +1,25 @@
+use Rattle.std.proofs.Common.{◌∙◌, sym, get_or, ℕ, List, []}
+use Rattle.std.specs.Borrow.{Bor}
+use Rattle.std.proofs.lemmas.List.{get_or_default}
+use Rattle.sm_text.specs.Name.{is_name}
+use Rattle.sm_reader.proofs.TextLemmas.{all_texts_fail, all_texts_more, all_texts_end}
+use Rattle.sm_reader.proofs.judging.are_names.Goals as goal
+
+pub returns-then-not-is_name : goal.returns-then-not-is_name
+returns-then-not-is_name c =
+    let d : Bor (List ℕ) = record { ref_ptr = (0, 0); now = [] } in
+    let tokens = c.args.runs.now in
+    let i = c.runs.run-index in
+    let token = get_or tokens i d in
+    sym (all_texts_fail is_name tokens i token c.runs-test.true (get_or_default tokens i d token c.runs-test.true) (sym c.is_name.ensures ∙ c.if-not-is_name.true))
+
+pub runs-preserved : goal.runs-preserved
+runs-preserved c =
+    let d : Bor (List ℕ) = record { ref_ptr = (0, 0); now = [] } in
+    let tokens = c.args.runs.now in
+    let i = c.runs.run-index in
+    let token = get_or tokens i d in
+    all_texts_more is_name tokens i token c.runs-test.true (get_or_default tokens i d token c.runs-test.true) c.runs.invariant (sym c.is_name.ensures ∙ c.if-not-is_name.false)
+
+pub returns : goal.returns
+returns c = sym (all_texts_end is_name c.args.runs.now c.runs.run-index c.runs-test.false c.runs.invariant)

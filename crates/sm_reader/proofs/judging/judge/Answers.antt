@@ -1,0 +1,59 @@
+use Rattle.std.proofs.Common.{◌≡◌, ℕ, List, [], get_or, ◌∙◌, sym, ap, refl, Some}
+use Rattle.std.specs.Borrow.{Bor}
+use Rattle.std.specs.Option.{option_map}
+use Rattle.std.proofs.lemmas.List.{take_rest}
+use Rattle.sm_reader.specs.Forms.{form_behind}
+use Rattle.sm_reader.specs.Judging.{of_form, goes, verdict_on}
+use Rattle.sm_reader.specs.Kept.{texts_of}
+use Rattle.sm_reader.specs.Draft.{said_of, form_of, IsRefusedBy}
+use Rattle.sm_reader.proofs.JudgeLemmas.{verdict_empty, verdict_bad, verdict_end, verdict_form, by_none, refused_line}
+use Rattle.sm_reader.proofs.DraftLemmas.{draft_later}
+use Rattle.sm_reader.proofs.ResultLemmas.{on_err}
+use Rattle.sm_reader.proofs.judging.judge.Goals as goal
+
+pub returns-in_default-clause-judged : goal.returns-in_default-clause-judged
+returns-in_default-clause-judged c = (verdict_empty c.args.kind (said_of c.args.kind c.args.draft.now) c.args.line c.args.tokens.now c.in_default.len_below, draft_later c.args.kind c.args.line c.args.draft.now c.requires.draft)
+
+pub returns-then-bad-clause-refused : goal.returns-then-bad-clause-refused
+returns-then-bad-clause-refused c =
+    (verdict_bad c.args.kind (said_of c.args.kind c.args.draft.now) c.args.line c.args.tokens.now c.in-len1-up.len_at_least (sym c.requires.bad ∙ c.if-bad.true), refl)
+
+pub returns-then-is_end-clause-judged : goal.returns-then-is_end-clause-judged
+returns-then-is_end-clause-judged c =
+    (verdict_end c.args.kind (said_of c.args.kind c.args.draft.now) c.args.line c.args.tokens.now c.in-len1-up.len_at_least (sym c.requires.bad ∙ c.if-bad.false) (sym c.is_end.ensures ∙ c.if-is_end.true), refl)
+
+pub returns-in-None-clause-refused : goal.returns-in-None-clause-refused
+returns-in-None-clause-refused c =
+    let d : Bor (List ℕ) = record { ref_ptr = (0, 0); now = [] } in
+    let said = said_of c.args.kind c.args.draft.now in (
+      verdict_form c.args.kind said c.args.line c.args.tokens.now d c.in-len1-up.len_at_least (sym c.requires.bad ∙ c.if-bad.false) (sym c.is_end.ensures ∙ c.if-is_end.false)
+          ∙ ap (λ rest. of_form said c.args.line (form_behind c.args.kind (get_or c.args.tokens.now 0 d).now (texts_of rest))) (sym (take_rest c.args.tokens.now 1))
+          ∙ ap (of_form said c.args.line) (sym c.form_behind.ensures ∙ ap (option_map form_of) c.in-None.is),
+      refl,
+    )
+
+pub returns-in_ok-add-in-Some-clause-judged : goal.returns-in_ok-add-in-Some-clause-judged
+returns-in_ok-add-in-Some-clause-judged c =
+    let d : Bor (List ℕ) = record { ref_ptr = (0, 0); now = [] } in
+    let said = said_of c.args.kind c.args.draft.now in
+    let form = form_of c.in-Some.form in
+    let adds = c.in_ok-add-in-Some.ensures.added in (
+      verdict_form c.args.kind said c.args.line c.args.tokens.now d c.in-len1-up.len_at_least (sym c.requires.bad ∙ c.if-bad.false) (sym c.is_end.ensures ∙ c.if-is_end.false)
+          ∙ ap (λ rest. of_form said c.args.line (form_behind c.args.kind (get_or c.args.tokens.now 0 d).now (texts_of rest))) (sym (take_rest c.args.tokens.now 1))
+          ∙ ap (of_form said c.args.line) (sym c.form_behind.ensures ∙ ap (option_map form_of) c.in-Some.is)
+          ∙ by_none said c.args.line form adds.faultless ∙ ap (λ s. goes s) (sym adds.said),
+      adds.draft,
+    )
+
+pub returns-in_err-add-in-Some-clause-refused : goal.returns-in_err-add-in-Some-clause-refused
+returns-in_err-add-in-Some-clause-refused c =
+    let d : Bor (List ℕ) = record { ref_ptr = (0, 0); now = [] } in
+    let said = said_of c.args.kind c.args.draft.now in
+    let form = form_of c.in-Some.form in
+    let verdict = verdict_on c.args.kind said c.args.line (texts_of c.args.tokens.now) in
+    let same : verdict ≡ of_form said c.args.line (Some form) =
+    verdict_form c.args.kind said c.args.line c.args.tokens.now d c.in-len1-up.len_at_least (sym c.requires.bad ∙ c.if-bad.false) (sym c.is_end.ensures ∙ c.if-is_end.false)
+    ∙ ap (λ rest. of_form said c.args.line (form_behind c.args.kind (get_or c.args.tokens.now 0 d).now (texts_of rest))) (sym (take_rest c.args.tokens.now 1))
+    ∙ ap (of_form said c.args.line) (sym c.form_behind.ensures ∙ ap (option_map form_of) c.in-Some.is) in
+    on_err (IsRefusedBy verdict c.args.line) c.from_residual.result c.in_err-add-in-Some.field-0.0 c.from_residual.ensures.1
+    (refused_line said c.args.line form verdict same c.in_err-add-in-Some.field-0.0 c.in_err-add-in-Some.ensures.fault)

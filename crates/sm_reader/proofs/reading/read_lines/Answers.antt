@@ -1,0 +1,87 @@
+use Rattle.std.proofs.Common.{◌≡◌, ◌+◌, drop, ap, ◌∙◌, sym, subst, arith}
+use Rattle.sm_text.specs.Lines.{lines}
+use Rattle.sm_text.specs.Tokens.{tokens}
+use Rattle.sm_reader.specs.Said.{nothing}
+use Rattle.sm_reader.specs.Judging.{verdict_on}
+use Rattle.sm_reader.specs.InstanceText.{behind_header, ended}
+use Rattle.sm_reader.specs.Kept.{texts_of}
+use Rattle.sm_reader.specs.Draft.{said_of, IsDraft}
+use Rattle.sm_reader.specs.Reading.{IsFaultOf}
+use Rattle.sm_reader.specs.declared.draft.Draft.{Draft}
+use Rattle.sm_reader.specs.Right.{IsRight}
+use Rattle.sm_reader.proofs.ReadingLemmas.{goes_step, stops_step, ended_ok, ended_err, same_fault}
+use Rattle.sm_reader.proofs.RightLemmas.{nothing_right, goes_right}
+use Rattle.sm_reader.proofs.ResultLemmas.{on_err}
+use Rattle.sm_reader.proofs.reading.read_lines.Goals as goal
+
+pub lines-init : goal.lines-init
+lines-init c =
+    let h = c.args.header in
+    record {
+      means = ap (λ s. behind_header h.kind h.line s (h.line + 1) h.next (lines (drop h.next c.args.bytes.now))) (c.empty-draft.ensures.said h.kind);
+      right = subst (IsRight h.kind) (sym (c.empty-draft.ensures.said h.kind)) (nothing_right h.kind);
+      draft = c.empty-draft.ensures.draft h.kind (h.line + 1) (omega (arith, c.requires.headed.first));
+      fits = omega (arith, c.requires.headed.fits);
+      within = c.requires.headed.within;
+    }
+
+pub lines-preserved : goal.lines-preserved
+lines-preserved c =
+    let h = c.args.header in
+    let bytes = c.args.bytes.now in
+    let old = c.lines.draft in
+    let said = said_of h.kind old in
+    let toks : texts_of c.deref.result.now ≡ tokens c.in-Some.text.now = ap texts_of c.deref.ensures.value ∙ c.in_ok-bad.ensures.cut in
+    let judged = rw c.in-Goes.is at c.in_ok-judge.ensures.judged in
+    record {
+      means = sym (goes_step bytes c.in-Some.text.now c.lines.at c.in-Some.next c.in-Some.ensures.line h.kind h.line said c.lines.line (said_of h.kind c.judge.new.draft)
+          (ap (verdict_on h.kind said c.lines.line) (sym toks) ∙ judged.0)) ∙ c.lines.invariant.means;
+      draft = judged.1;
+      right = goes_right h.kind said c.lines.line (tokens c.in-Some.text.now) (said_of h.kind c.judge.new.draft) c.lines.invariant.right (ap (verdict_on h.kind said c.lines.line) (sym toks) ∙ judged.0);
+      fits = omega (arith, c.lines.invariant.fits, c.in-Some.ensures.later);
+      within = c.in-Some.ensures.within;
+    }
+
+pub returns-in_err-input-in-Stops-clause-fault : goal.returns-in_err-input-in-Stops-clause-fault
+returns-in_err-input-in-Stops-clause-fault c =
+    let h = c.args.header in
+    let bytes = c.args.bytes.now in
+    let old = c.lines.draft in
+    let new = c.judge.new.draft in
+    let said = said_of h.kind old in
+    let toks : texts_of c.deref.result.now ≡ tokens c.in-Some.text.now = ap texts_of c.deref.ensures.value ∙ c.in_ok-bad.ensures.cut in
+    let judged = rw c.in-Stops.is at c.in_ok-judge.ensures.judged in
+    let meaning = behind_header h.kind h.line nothing (h.line + 1) h.next (lines (drop h.next bytes)) in
+    let means : meaning ≡ ended h.kind h.line (said_of h.kind new) c.in-Some.next (c.lines.line + 1) =
+    sym c.lines.invariant.means
+    ∙ stops_step bytes c.in-Some.text.now c.lines.at c.in-Some.next c.in-Some.ensures.line h.kind h.line said c.lines.line (ap (verdict_on h.kind said c.lines.line) (sym toks) ∙ judged.0)
+    ∙ ap (λ d. ended h.kind h.line (said_of h.kind d) c.in-Some.next (c.lines.line + 1)) (sym judged.1) in
+    let f = c.in_err-input-in-Stops.field-0.0 in
+    on_err (IsFaultOf meaning) c.from_residual-in_err-input-in-Stops.result f c.from_residual-in_err-input-in-Stops.ensures.1
+    (same_fault meaning (ended h.kind h.line (said_of h.kind new) c.in-Some.next (c.lines.line + 1)) f means
+    (ended_err h.kind h.line new c.in-Some.next (c.lines.line + 1) f c.in_err-input-in-Stops.ensures.fault))
+
+pub returns-in-Stops-clause-read : goal.returns-in-Stops-clause-read
+returns-in-Stops-clause-read c =
+    let h = c.args.header in
+    let bytes = c.args.bytes.now in
+    let old = c.lines.draft in
+    let new = c.judge.new.draft in
+    let said = said_of h.kind old in
+    let toks : texts_of c.deref.result.now ≡ tokens c.in-Some.text.now = ap texts_of c.deref.ensures.value ∙ c.in_ok-bad.ensures.cut in
+    let judged = rw c.in-Stops.is at c.in_ok-judge.ensures.judged in
+    sym c.lines.invariant.means
+    ∙ stops_step bytes c.in-Some.text.now c.lines.at c.in-Some.next c.in-Some.ensures.line h.kind h.line said c.lines.line (ap (verdict_on h.kind said c.lines.line) (sym toks) ∙ judged.0)
+    ∙ ap (λ d. ended h.kind h.line (said_of h.kind d) c.in-Some.next (c.lines.line + 1)) (sym judged.1)
+    ∙ ended_ok h.kind h.line new c.in-Some.next (c.lines.line + 1) c.in_ok-input-in-Stops.input c.in_ok-input-in-Stops.ensures.finished
+
+pub finished-requires : goal.finished-requires
+finished-requires c =
+    let kind = c.args.header.kind in
+    let judged = rw c.in-Stops.is at c.in_ok-judge.ensures.judged in
+    record {
+      line = c.lines.line;
+      draft = subst (IsDraft kind c.lines.line) (sym judged.1) c.lines.invariant.draft;
+      right = subst (λ (x : Draft). IsRight kind (said_of kind x)) (sym judged.1) c.lines.invariant.right;
+      few = omega (arith, c.requires.short, c.lines.invariant.fits, c.lines.invariant.within);
+    }

@@ -1,0 +1,16 @@
+use Rattle.std.proofs.Common.{◌≡◌, ◌++◌, ◌-◌, ◌||◌, length, drop}
+use Rattle.std.specs.List.{list_any}
+use Rattle.sm_text.specs.Tokens.{tokens}
+use Rattle.sm_reader.specs.Forms.{is_bad}
+use Rattle.sm_reader.specs.Kept.{texts_of}
+use Rattle.sm_reader.proofs.tokens.cut.Given as goal
+
+-- the tokens so far and those from here on, and whether one of them is bad
+abbrev pub invariant-tokens : goal.invariant-tokens
+invariant-tokens l = record {
+  cut : texts_of l.into.items ++ tokens (drop l.from l.line) ≡ tokens l.line;
+  bad : (l.bad || list_any is_bad (tokens (drop l.from l.line))) ≡ list_any is_bad (tokens l.line);
+}
+
+abbrev pub decreases-tokens : goal.decreases-tokens
+decreases-tokens l = length l.line - l.from

@@ -1,0 +1,243 @@
+-- What a `Draft` says, what it has to meet, and what a line does to it.
+use Rattle.std.specs.Prelude.{◌≡◌, ℕ, ◌+◌, ◌<◌, ◌≤◌, true, false, not, List, [], ◌∷◌, ◌++◌, length, map, Option, Some, None, slice_index, nat_le, nat_lt, unwrap_or, is_none}
+use Rattle.std.specs.List.{list_any, list_all}
+use Rattle.std.specs.Option.{option_map, option_and_then}
+use Rattle.std.specs.Str.{bytes_eq}
+use Rattle.indexmap.specs.IndexSet.{keys}
+use Rattle.sm_text.specs.Name.{is_name}
+use Rattle.sm_text.specs.declared.refusal.RefusalKind.{RefusalKind}
+use Rattle.sm_text.specs.declared.refusal.RefusalKind.TheVariants.{BadName, BadNumber, Redeclared, RepeatedEntry, RepeatedWeight, TooManyAgents, TooManyEntries}
+use Rattle.sm_instance.specs.declared.kinds.Kind.{Kind}
+use Rattle.sm_instance.specs.declared.kinds.Kind.TheVariants.{Marriage, Hospitals, Roommates}
+use Rattle.sm_instance.specs.declared.kinds.Side.{Side}
+use Rattle.sm_instance.specs.declared.kinds.Side.TheVariants.{Proposers, Reviewers}
+use Rattle.sm_reader.specs.Said.{SaidAgent, SaidPair, SaidWeight, Said, all_entries, is_given_to}
+use Rattle.sm_reader.specs.Forms.{Form, declares, weighs, forces, forbids}
+use Rattle.sm_reader.specs.Judging.{Verdict, goes, stops, refuses, first_fault, is_bad_capacity, capacity_in, weight_in, has_repeated, fault_of, with_agent, said_with, verdict_on}
+use Rattle.sm_reader.specs.Kept.{texts_of, Table, table_of, text_at, IsTable, AreBelow, Interns, Declares, IsListed}
+use Rattle.sm_reader.specs.declared.names.Names.{Names}
+use Rattle.sm_reader.specs.declared.draft.Declared.{Declared}
+use Rattle.sm_reader.specs.declared.draft.Pair.{Pair}
+use Rattle.sm_reader.specs.declared.draft.Weight.{Weight}
+use Rattle.sm_reader.specs.declared.draft.Draft.{Draft}
+use Rattle.sm_reader.specs.declared.faults.TextFault.{TextFault}
+use Rattle.sm_reader.specs.declared.faults.TextFault.TheVariants.{Refused, OutOfMemory}
+use Rattle.sm_reader.specs.declared.forms.Form.{Form as Line}
+use Rattle.sm_reader.specs.declared.forms.Form.TheVariants.{Agent as AgentLine, Weight as WeightLine, Forced as ForcedLine, Forbidden as ForbiddenLine}
+use Rattle.sm_reader.specs.declared.judging.Step.{Step}
+use Rattle.sm_reader.specs.declared.judging.Step.TheVariants.{Goes, Stops}
+
+-- a form, as plain data
+abbrev pub form_of : Line → Form
+form_of (AgentLine side name capacity entries) = declares side name.now (option_map (λ x. x.now) capacity) (texts_of entries.now)
+form_of (WeightLine proposer reviewer weight) = weighs proposer.now reviewer.now weight.now
+form_of (ForcedLine proposer reviewer) = forces proposer.now reviewer.now
+form_of (ForbiddenLine proposer reviewer) = forbids proposer.now reviewer.now
+
+-- the names of whom the proposers list: of the reviewers, and in roommates of the persons
+abbrev pub listed_table : Kind → Names → Names → Table
+listed_table Marriage proposers reviewers = table_of reviewers
+listed_table Hospitals proposers reviewers = table_of reviewers
+listed_table Roommates proposers reviewers = table_of proposers
+
+-- the side that the agents of a side list
+abbrev pub listed_side : Kind → Side → Side
+listed_side Marriage Proposers = Reviewers
+listed_side Hospitals Proposers = Reviewers
+listed_side Roommates Proposers = Proposers
+listed_side _ Reviewers = Proposers
+
+-- the parts of a draft, with the names of their indexes
+abbrev pub agent_in : List (List ℕ) → Declared → SaidAgent
+agent_in texts a = record { name = a.name.now; capacity = a.capacity; line = a.line; entries = map (text_at texts) a.entries.items }
+
+abbrev pub pair_in : List (List ℕ) → List (List ℕ) → Pair → SaidPair
+pair_in proposers reviewers x = record { proposer = text_at proposers x.proposer; reviewer = text_at reviewers x.reviewer; line = x.line }
+
+abbrev pub given_in : List (List ℕ) → List (List ℕ) → Weight → SaidWeight
+given_in proposers reviewers w = record { pair = pair_in proposers reviewers w.pair; weight = w.weight }
+
+-- what a draft says
+abbrev pub said_of : Kind → Draft → Said
+said_of kind d =
+    let proposers = (table_of d.proposer_names).texts in
+    let reviewers = (table_of d.reviewer_names).texts in
+    record {
+      proposers = map (agent_in (listed_table kind d.proposer_names d.reviewer_names).texts) d.proposers.items;
+      reviewers = map (agent_in proposers) d.reviewers.items;
+      weights = map (given_in proposers reviewers) d.weights.items;
+      forced = map (pair_in proposers reviewers) d.forced.items;
+      forbidden = map (pair_in proposers reviewers) d.forbidden.items;
+    }
+
+-- all indexes of lists and of pairs are in range
+abbrev pub AreAgentsBelow : ℕ → List Declared → Type 0
+AreAgentsBelow n [] = Unit {0}
+AreAgentsBelow n (a ∷ agents) = AreBelow n a.entries.items × AreAgentsBelow n agents
+
+pub record IsPairBelow (proposers reviewers : ℕ) (x : Pair) : Type 0 where
+  pub proposer : x.proposer < proposers
+  pub reviewer : x.reviewer < reviewers
+
+abbrev pub ArePairsBelow : ℕ → ℕ → List Pair → Type 0
+ArePairsBelow proposers reviewers [] = Unit {0}
+ArePairsBelow proposers reviewers (x ∷ pairs) = IsPairBelow proposers reviewers x × ArePairsBelow proposers reviewers pairs
+
+abbrev pub pairs_of : List Weight → List Pair
+pairs_of weights = map (λ (w : Weight). w.pair) weights
+
+abbrev pub key_of : Weight → ℕ × ℕ
+key_of w = (w.pair.proposer, w.pair.reviewer)
+
+-- Before the line of a number a draft has the declared agents' names in their tables, all indexes in range, the pairs that
+-- have a weight, and its entries counted. Limits are kept, and no name has the stamp of this line. There are fewer pairs
+-- than lines.
+pub record IsDraft (kind : Kind) (line : ℕ) (d : Draft) : Type 0 where
+  pub proposer_table : IsTable (table_of d.proposer_names)
+  pub reviewer_table : IsTable (table_of d.reviewer_names)
+  pub proposers_declared : (table_of d.proposer_names).declared ≡ map (λ (a : Declared). a.name.now) d.proposers.items
+  pub reviewers_declared : (table_of d.reviewer_names).declared ≡ map (λ (a : Declared). a.name.now) d.reviewers.items
+  pub proposers_in : AreAgentsBelow (length (listed_table kind d.proposer_names d.reviewer_names).texts) d.proposers.items
+  pub reviewers_in : AreAgentsBelow (length (table_of d.proposer_names).texts) d.reviewers.items
+  pub weights_in : ArePairsBelow (length (table_of d.proposer_names).texts) (length (table_of d.reviewer_names).texts) (pairs_of d.weights.items)
+  pub forced_in : ArePairsBelow (length (table_of d.proposer_names).texts) (length (table_of d.reviewer_names).texts) d.forced.items
+  pub forbidden_in : ArePairsBelow (length (table_of d.proposer_names).texts) (length (table_of d.reviewer_names).texts) d.forbidden.items
+  pub weighed : keys d.weighed ≡ map key_of d.weights.items
+  pub counted : d.entries ≡ all_entries (said_of kind d)
+  pub entries_fit : d.entries ≤ 524288
+  pub proposers_fit : length d.proposers.items ≤ 4096
+  pub reviewers_fit : length d.reviewers.items ≤ 4096
+  pub proposers_fresh : (k : ℕ) → slice_index d.proposer_names.stamps.items k < line
+  pub reviewers_fresh : (k : ℕ) → slice_index d.reviewer_names.stamps.items k < line
+  pub few : length d.weights.items + length d.forced.items + length d.forbidden.items + 1 < line
+
+-- a line is refused for this fault, if there is one; want of memory says nothing
+abbrev pub IsLineFault : Option RefusalKind → ℕ → TextFault → Type 0
+IsLineFault fault line (Refused kind at) = (fault ≡ Some kind) × (at ≡ line)
+IsLineFault fault line OutOfMemory = Unit {0}
+
+-- a faultless line of a form has added what it says
+pub record Adds (kind : Kind) (line : ℕ) (form : Form) (old new : Draft) : Type 0 where
+  pub faultless : fault_of (said_of kind old) form ≡ None
+  pub said : said_of kind new ≡ said_with (said_of kind old) line form
+  pub draft : IsDraft kind (line + 1) new
+
+-- a line is judged by its tokens
+abbrev pub Judges : Kind → ℕ → List (List ℕ) → Draft → Draft → Step → Type 0
+Judges kind line tokens old new Goes = (verdict_on kind (said_of kind old) line tokens ≡ goes (said_of kind new)) × IsDraft kind (line + 1) new
+Judges kind line tokens old new Stops = (verdict_on kind (said_of kind old) line tokens ≡ stops) × (new ≡ old)
+
+abbrev pub IsRefusedBy : Verdict → ℕ → TextFault → Type 0
+IsRefusedBy verdict line (Refused kind at) = (verdict ≡ refuses kind) × (at ≡ line)
+IsRefusedBy verdict line OutOfMemory = Unit {0}
+
+-- the first of the faults of an agent's line that its own runs show, of those that the names of both sides show, and of
+-- those against the limits
+abbrev pub run_fault : List ℕ → Option (List ℕ) → List (List ℕ) → Option RefusalKind
+run_fault name capacity entries = first_fault ((not (list_all is_name (name ∷ entries)), BadName) ∷ (is_bad_capacity capacity, BadNumber) ∷ [])
+
+abbrev pub limit_fault : ℕ → ℕ → ℕ → Option RefusalKind
+limit_fault agents entries more = first_fault ((nat_le 4096 agents, TooManyAgents) ∷ (nat_lt 524288 (entries + more), TooManyEntries) ∷ [])
+
+abbrev pub name_fault : List (List ℕ) → List ℕ → List (List ℕ) → ℕ → ℕ → Option RefusalKind
+name_fault declared name entries agents all = first_fault (
+    (list_any (bytes_eq name) declared, Redeclared)
+    ∷ (has_repeated entries, RepeatedEntry)
+    ∷ (nat_le 4096 agents, TooManyAgents)
+    ∷ (nat_lt 524288 (all + length entries), TooManyEntries) ∷ [])
+
+-- the runs of an agent's line are right, and its capacity is this
+pub record IsChecked (name : List ℕ) (capacity : Option (List ℕ)) (entries : List (List ℕ)) (n : ℕ) : Type 0 where
+  pub faultless : run_fault name capacity entries ≡ None
+  pub number : n ≡ unwrap_or (option_and_then capacity_in capacity) 1
+
+-- the table of a side and its agents
+abbrev pub table_on : Side → Draft → Table
+table_on Proposers d = table_of d.proposer_names
+table_on Reviewers d = table_of d.reviewer_names
+
+abbrev pub declared_on : Side → Draft → List Declared
+declared_on Proposers d = d.proposers.items
+declared_on Reviewers d = d.reviewers.items
+
+-- nothing but the table of a side has changed
+abbrev pub ChangesNames : Side → Draft → Draft → Type 0
+ChangesNames Proposers old new = new ≡ record old { proposer_names = new.proposer_names }
+ChangesNames Reviewers old new = new ≡ record old { reviewer_names = new.reviewer_names }
+
+-- nothing but the agents of a side and the count of entries has
+abbrev pub ChangesAgents : Side → Draft → Draft → Type 0
+ChangesAgents Proposers old new = new ≡ record old { proposers = new.proposers; entries = new.entries }
+ChangesAgents Reviewers old new = new ≡ record old { reviewers = new.reviewers; entries = new.entries }
+
+-- a name is declared on a side for the first time
+pub record DeclaresOn (side : Side) (old new : Draft) (name : List ℕ) : Type 0 where
+  pub is_new : list_any (bytes_eq name) (table_on side old).declared ≡ false
+  pub declares : Declares (table_on side old) (table_on side new) name true
+  pub changes : ChangesNames side old new
+
+-- the names of a list have indexes on a side
+pub record ListsOn (side : Side) (old new : Draft) (entries : List (List ℕ)) (line : ℕ) (indexes : List ℕ) : Type 0 where
+  pub listed : IsListed (table_on side old) (table_on side new) entries line indexes
+  pub changes : ChangesNames side old new
+
+-- an agent stands behind the others of its side, within the limits
+pub record PutsOn (side : Side) (old new : Draft) (agent : Declared) : Type 0 where
+  pub faultless : limit_fault (length (declared_on side old)) old.entries (length agent.entries.items) ≡ None
+  pub agents : declared_on side new ≡ declared_on side old ++ agent ∷ []
+  pub entries : new.entries ≡ old.entries + length agent.entries.items
+  pub changes : ChangesAgents side old new
+
+-- a refusal of this kind, where a fact holds
+abbrev pub RefusesFor : RefusalKind → ℕ → Type 0 → TextFault → Type 0
+RefusesFor kind line P (Refused k at) = (k ≡ kind) × (at ≡ line) × P
+RefusesFor kind line P OutOfMemory = Unit {0}
+
+-- the pair of two names, which have indexes on their sides
+pub record PairsOf (old new : Draft) (proposer reviewer : List ℕ) (line : ℕ) (pair : Pair) : Type 0 where
+  pub are_names : list_all is_name (proposer ∷ reviewer ∷ []) ≡ true
+  pub named_proposer : Interns (table_of old.proposer_names) (table_of new.proposer_names) proposer pair.proposer
+  pub named_reviewer : Interns (table_of old.reviewer_names) (table_of new.reviewer_names) reviewer pair.reviewer
+  pub on_line : pair.line ≡ line
+  pub changes : new ≡ record old { proposer_names = new.proposer_names; reviewer_names = new.reviewer_names }
+
+-- what draft says of weights
+abbrev pub weights_in : Draft → List SaidWeight
+weights_in d = map (given_in (table_of d.proposer_names).texts (table_of d.reviewer_names).texts) d.weights.items
+
+abbrev pub weight_fault : List SaidWeight → List ℕ → List ℕ → List ℕ → Option RefusalKind
+weight_fault weights proposer reviewer weight = first_fault (
+    (not (list_all is_name (proposer ∷ reviewer ∷ [])), BadName)
+    ∷ (is_none (weight_in weight), BadNumber)
+    ∷ (list_any (is_given_to proposer reviewer) weights, RepeatedWeight) ∷ [])
+
+-- a pair has got its first weight; or is forced; or forbidden
+pub record PutsWeight (old new : Draft) (proposer reviewer run : List ℕ) (line : ℕ) : Type 0 where
+  pub mid : Draft
+  pub added : Weight
+  pub paired : PairsOf old mid proposer reviewer line added.pair
+  pub faultless : weight_fault (weights_in old) proposer reviewer run ≡ None
+  pub weight : weight_in run ≡ Some added.weight
+  pub weights : new.weights.items ≡ mid.weights.items ++ added ∷ []
+  pub weighed : keys new.weighed ≡ keys mid.weighed ++ key_of added ∷ []
+  pub changes : new ≡ record mid { weights = new.weights; weighed = new.weighed }
+
+pub record PutsForced (old new : Draft) (proposer reviewer : List ℕ) (line : ℕ) : Type 0 where
+  pub mid : Draft
+  pub pair : Pair
+  pub paired : PairsOf old mid proposer reviewer line pair
+  pub forced : new.forced.items ≡ mid.forced.items ++ pair ∷ []
+  pub changes : new ≡ record mid { forced = new.forced }
+
+pub record PutsForbidden (old new : Draft) (proposer reviewer : List ℕ) (line : ℕ) : Type 0 where
+  pub mid : Draft
+  pub pair : Pair
+  pub paired : PairsOf old mid proposer reviewer line pair
+  pub forbidden : new.forbidden.items ≡ mid.forbidden.items ++ pair ∷ []
+  pub changes : new ≡ record mid { forbidden = new.forbidden }
+
+-- an agent is declared without a fault of names and limits
+pub record AddsAgent (kind : Kind) (line : ℕ) (side : Side) (name : List ℕ) (capacity : ℕ) (entries : List (List ℕ)) (old new : Draft) : Type 0 where
+  pub faultless : name_fault (table_on side old).declared name entries (length (declared_on side old)) old.entries ≡ None
+  pub said : said_of kind new ≡ with_agent side (record { name = name; capacity = capacity; line = line; entries = entries }) (said_of kind old)
+  pub draft : IsDraft kind (line + 1) new

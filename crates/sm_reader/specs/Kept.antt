@@ -1,0 +1,108 @@
+-- What the reading keeps of lines and of the names on them.
+use Rattle.std.specs.Prelude.{◌≡◌, ◌≢◌, ℕ, ◌<◌, ◌≤◌, ◌==◌, Bool, true, false, not, if◌then◌else◌, List, [], ◌∷◌, ◌++◌, length, map, drop, slice_index, slice_index_or, position, Option, Some, None, AllPairs}
+use Rattle.std.specs.List.{list_any}
+use Rattle.std.specs.Borrow.{Bor}
+use Rattle.std.specs.Str.{bytes_eq}
+use Rattle.std.specs.declared.alloc.Global.{Global}
+use Rattle.std.specs.Prelude.{Vec, ◌+◌}
+use Rattle.indexmap.specs.IndexSet.{keys}
+use Rattle.sm_text.specs.Lines.{lines, first_line, content}
+use Rattle.sm_reader.specs.Judging.{has_repeated}
+use Rattle.sm_reader.specs.declared.names.Names.{Names}
+
+-- what slices hold
+abbrev pub texts_of : List (Bor (List ℕ)) → List (List ℕ)
+texts_of slices = map (λ (x : Bor (List ℕ)). x.now) slices
+
+-- a line holds this text and is the first of those from a place on; behind it those from the next place on stand
+pub record LeadsLines (bytes : List ℕ) (from : ℕ) (text : List ℕ) (next : ℕ) : Type 0 where
+  pub leads : lines (drop from bytes) ≡ first_line (drop from bytes) ∷ lines (drop next bytes)
+  pub holds : text ≡ content (first_line (drop from bytes))
+  pub long : next ≡ from + length (first_line (drop from bytes))
+
+-- the names of a side, as plain data
+pub record Table : Type 0 where
+  pub texts : List (List ℕ)
+  pub numbers : List (Option ℕ)
+  pub stamps : List ℕ
+  pub declared : List (List ℕ)
+
+abbrev pub table_of : Names → Table
+table_of names = record { texts = texts_of (keys names.texts); numbers = names.numbers.items; stamps = names.stamps.items; declared = texts_of names.declared.items }
+
+abbrev pub no_names : Table
+no_names = record { texts = []; numbers = []; stamps = []; declared = [] }
+
+-- the name of an index
+abbrev pub text_at : List (List ℕ) → ℕ → List ℕ
+text_at texts i = slice_index_or texts i []
+
+-- names that differ, each with its number among those that are declared, which are among them, and with a stamp
+pub record IsTable (t : Table) : Type 0 where
+  pub number_each : length t.numbers ≡ length t.texts
+  pub stamp_each : length t.stamps ≡ length t.texts
+  pub distinct : AllPairs ◌≢◌ t.texts
+  pub numbered : (i : ℕ) → i < length t.texts → slice_index_or t.numbers i None ≡ position (bytes_eq (text_at t.texts i)) t.declared
+  pub known : (k : ℕ) → k < length t.declared → list_any (bytes_eq (text_at t.declared k)) t.texts ≡ true
+
+-- the names that were there keep their indexes, and more may stand behind them
+pub record Extends (old new : List (List ℕ)) : Type 0 where
+  pub more : List (List ℕ)
+  pub appended : new ≡ old ++ more
+
+-- a name has an index now; no stamp has changed
+pub record Interns (old new : Table) (name : List ℕ) (i : ℕ) : Type 0 where
+  pub table : IsTable new
+  pub extends : Extends old.texts new.texts
+  pub declared : new.declared ≡ old.declared
+  pub in_range : i < length new.texts
+  pub names : text_at new.texts i ≡ name
+  pub stamps : (k : ℕ) → slice_index new.stamps k ≡ slice_index old.stamps k
+
+-- a name is declared, if it wasn't; no stamp has changed
+pub record Declares (old new : Table) (name : List ℕ) (added : Bool) : Type 0 where
+  pub table : IsTable new
+  pub extends : Extends old.texts new.texts
+  pub is_new : added ≡ not (list_any (bytes_eq name) old.declared)
+  pub declared : new.declared ≡ (if added then old.declared ++ name ∷ [] else old.declared)
+  pub stamps : (k : ℕ) → slice_index new.stamps k ≡ slice_index old.stamps k
+
+-- a name that hadn't this stamp has an index and the stamp
+pub record IsStamped (old new : Table) (name : List ℕ) (stamp i : ℕ) : Type 0 where
+  pub table : IsTable new
+  pub extends : Extends old.texts new.texts
+  pub declared : new.declared ≡ old.declared
+  pub in_range : i < length new.texts
+  pub names : text_at new.texts i ≡ name
+  pub unstamped : slice_index old.stamps i ≢ stamp
+  pub stamps : (k : ℕ) → slice_index new.stamps k ≡ (if k == i then stamp else slice_index old.stamps k)
+
+-- a name has this stamp
+pub record HasStamp (old new : Table) (name : List ℕ) (stamp : ℕ) : Type 0 where
+  pub at : ℕ
+  pub extends : Extends old.texts new.texts
+  pub names : text_at new.texts at ≡ name
+  pub stamped : slice_index old.stamps at ≡ stamp
+
+abbrev pub Meets : Table → Table → List ℕ → ℕ → Option ℕ → Type 0
+Meets old new name stamp None = HasStamp old new name stamp
+Meets old new name stamp (Some i) = IsStamped old new name stamp i
+
+-- indexes within a range
+abbrev pub AreBelow : ℕ → List ℕ → Type 0
+AreBelow n [] = Unit {0}
+AreBelow n (i ∷ is) = (i < n) × AreBelow n is
+
+-- the names of a list, which differ, have indexes
+pub record IsListed (old new : Table) (entries : List (List ℕ)) (stamp : ℕ) (indexes : List ℕ) : Type 0 where
+  pub table : IsTable new
+  pub extends : Extends old.texts new.texts
+  pub declared : new.declared ≡ old.declared
+  pub differ : has_repeated entries ≡ false
+  pub in_range : AreBelow (length new.texts) indexes
+  pub names : map (text_at new.texts) indexes ≡ entries
+  pub stamps : (k : ℕ) → slice_index new.stamps k ≤ stamp
+
+abbrev pub Lists : Table → Table → List (List ℕ) → ℕ → Option (Vec ℕ Global) → Type 0
+Lists old new entries stamp None = has_repeated entries ≡ true
+Lists old new entries stamp (Some list) = IsListed old new entries stamp list.items

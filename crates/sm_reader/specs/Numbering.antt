@@ -1,0 +1,40 @@
+-- What the numbering of names takes and gives.
+use Rattle.std.specs.Prelude.{◌≡◌, ℕ, ◌≤◌, Bool, if◌then◌else◌, List, min, Option, Some, None, ℤ}
+use Rattle.sm_instance.specs.declared.kinds.Kind.{Kind}
+use Rattle.sm_reader.specs.Said.{SaidPair, SaidWeight}
+use Rattle.sm_reader.specs.InstanceText.{number_in, unknown_lines, least}
+use Rattle.sm_reader.specs.Draft.{IsDraft, said_of}
+use Rattle.sm_reader.specs.Right.{IsRight}
+use Rattle.sm_text.specs.declared.refusal.RefusalKind.TheVariants.{UnknownName}
+use Rattle.sm_reader.specs.declared.draft.Draft.{Draft}
+use Rattle.sm_reader.specs.declared.faults.TextFault.{TextFault}
+use Rattle.sm_reader.specs.declared.faults.TextFault.TheVariants.{Refused, OutOfMemory}
+
+-- the lesser of two numbers, if there are any
+abbrev pub lesser : Option ℕ → Option ℕ → Option ℕ
+lesser None b = b
+lesser (Some a) None = Some a
+lesser (Some a) (Some b) = Some (min a b)
+
+-- a line, if it counts
+abbrev pub line_if : Bool → ℕ → Option ℕ
+line_if counts line = if counts then Some line else None
+
+-- a pair and a weight, with numbers among the names of both sides
+abbrev pub pair_among : List (List ℕ) → List (List ℕ) → SaidPair → ℕ × ℕ
+pair_among proposers reviewers x = (number_in proposers x.proposer, number_in reviewers x.reviewer)
+
+abbrev pub weight_among : List (List ℕ) → List (List ℕ) → SaidWeight → ℕ × ℕ × ℤ
+weight_among proposers reviewers w = (number_in proposers w.pair.proposer, number_in reviewers w.pair.reviewer, w.weight)
+
+-- a draft before a line that isn't past the last of a text, after lines without a fault
+pub record IsReady (kind : Kind) (d : Draft) : Type 0 where
+  pub line : ℕ
+  pub draft : IsDraft kind line d
+  pub right : IsRight kind (said_of kind d)
+  pub few : line ≤ 16777217
+
+-- the first line that names an undeclared agent is refused
+abbrev pub IsUnknownFault : Kind → Draft → TextFault → Type 0
+IsUnknownFault kind d (Refused fault at) = (fault ≡ UnknownName) × (least (unknown_lines kind (said_of kind d)) ≡ Some at)
+IsUnknownFault kind d OutOfMemory = Unit {0}

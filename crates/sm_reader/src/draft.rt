@@ -1,0 +1,68 @@
+//! What the lines so far say, with indexes in the place of names.
+
+ghost use Rattle.std.specs.Prelude.{◌≡◌, ℕ, ◌<◌};
+ghost use Rattle.sm_reader.specs.Draft.{said_of, IsDraft};
+ghost use Rattle.sm_reader.specs.Said.{nothing};
+ghost use Rattle.sm_instance.specs.declared.kinds.Kind.{Kind};
+
+use crate::names::Names;
+use indexmap::IndexSet;
+use std::alloc::Global;
+
+/// An agent as its line declares it, with the indexes of the names on its list.
+#[derive(Drop)]
+pub(crate) struct Declared<'a> {
+    pub(crate) name: &'a [u8],
+    pub(crate) capacity: u32,
+    pub(crate) line: u32,
+    pub(crate) entries: Vec<usize>,
+}
+
+/// A proposer and a reviewer that a line names, by the indexes of their names.
+#[derive(Clone, Copy)]
+pub(crate) struct Pair {
+    pub(crate) proposer: usize,
+    pub(crate) reviewer: usize,
+    pub(crate) line: u32,
+}
+
+/// The weight that a line gives to a pair.
+#[derive(Clone, Copy)]
+pub(crate) struct Weight {
+    pub(crate) pair: Pair,
+    pub(crate) weight: i64,
+}
+
+/// What the lines so far say. In roommates the persons stand as proposers.
+#[derive(Drop)]
+pub(crate) struct Draft<'a> {
+    pub(crate) proposer_names: Names<'a>,
+    pub(crate) reviewer_names: Names<'a>,
+    pub(crate) proposers: Vec<Declared<'a>>,
+    pub(crate) reviewers: Vec<Declared<'a>>,
+    /// How many entries all lists have together.
+    pub(crate) entries: usize,
+    pub(crate) weights: Vec<Weight>,
+    /// The pairs that have a weight.
+    pub(crate) weighed: IndexSet<(usize, usize)>,
+    pub(crate) forced: Vec<Pair>,
+    pub(crate) forbidden: Vec<Pair>,
+}
+
+/// Nothing is said yet.
+pub(crate) fn empty<'a>(alloc: Global) -> Draft<'a>
+    ensures said { (kind : Kind) → said_of kind result ≡ nothing }
+    ensures draft { (kind : Kind) (line : ℕ) → 1 < line → IsDraft kind line result }
+{
+    Draft {
+        proposer_names: Names::new(alloc),
+        reviewer_names: Names::new(alloc),
+        proposers: Vec::new(alloc),
+        reviewers: Vec::new(alloc),
+        entries: 0,
+        weights: Vec::new(alloc),
+        weighed: IndexSet::new(alloc),
+        forced: Vec::new(alloc),
+        forbidden: Vec::new(alloc),
+    }
+}

@@ -1,0 +1,228 @@
+//! The forms of lines.
+
+ghost use Rattle.std.specs.Prelude.{◌≡◌, ◌∷◌};
+ghost use Rattle.std.specs.Option.{option_map};
+ghost use Rattle.std.specs.List.{list_all};
+ghost use Rattle.std.specs.Str.{bytes_eq};
+ghost use Rattle.sm_text.specs.Tokens.{begins_run};
+ghost use Rattle.sm_reader.specs.Forms.{list_form, capacity_form, weight_form, pair_form, reviewer_form, two_sided_form, form_behind, is_end, header_of, kind_named, forces, forbids};
+ghost use Rattle.sm_reader.specs.Kept.{texts_of};
+ghost use Rattle.sm_reader.specs.Draft.{form_of};
+
+use crate::tokens::is_run;
+use sm_instance::{Kind, Side};
+
+/// A line by its form, with the runs that stand in the positions of names and numbers.
+#[derive(Clone, Copy)]
+pub(crate) enum Form<'a, 'b> {
+    Agent {
+        side: Side,
+        name: &'a [u8],
+        capacity: Option<&'a [u8]>,
+        entries: &'b [&'a [u8]],
+    },
+    Weight {
+        proposer: &'a [u8],
+        reviewer: &'a [u8],
+        weight: &'a [u8],
+    },
+    Forced {
+        proposer: &'a [u8],
+        reviewer: &'a [u8],
+    },
+    Forbidden {
+        proposer: &'a [u8],
+        reviewer: &'a [u8],
+    },
+}
+
+/// The kind of instance that a header names, `None` where the tokens make no header.
+#[tactic(auto, unfolding(crate::specs::Forms::header_of))]
+pub(crate) fn header_of(tokens: &[&[u8]]) -> Option<Kind>
+    ensures { result ≡ header_of (texts_of tokens.now) }
+{
+    match tokens {
+        [word, format, kind] if is(word, b"stable") && is(format, b"1") => kind_named(kind),
+        _ => None,
+    }
+}
+
+// The kind that a word names.
+fn kind_named(word: &[u8]) -> Option<Kind>
+    ensures { result ≡ kind_named word.now }
+{
+    if is(word, b"marriage") {
+        Some(Kind::Marriage)
+    } else if is(word, b"hospitals") {
+        Some(Kind::Hospitals)
+    } else if is(word, b"roommates") {
+        Some(Kind::Roommates)
+    } else {
+        None
+    }
+}
+
+/// Do the tokens make the line that ends an instance?
+#[tactic(auto, unfolding(crate::specs::Forms::is_end))]
+pub(crate) fn is_end(tokens: &[&[u8]]) -> bool
+    ensures { result ≡ is_end (texts_of tokens.now) }
+{
+    match tokens {
+        [word] => is(word, b"end"),
+        _ => false,
+    }
+}
+
+/// The form of a line that begins with a word, `None` where it has none.
+#[tactic(auto, unfolding(crate::specs::Forms::form_behind))]
+pub(crate) fn form_behind<'a, 'b>(
+    kind: Kind,
+    word: &'a [u8],
+    rest: &'b [&'a [u8]],
+) -> Option<Form<'a, 'b>>
+    ensures { option_map form_of result ≡ form_behind kind word.now (texts_of rest.now) }
+{
+    if is(word, b"p") {
+        return list_form(Side::Proposers, rest);
+    }
+    match kind {
+        Kind::Roommates => None,
+        _ => two_sided_form(kind, word, rest),
+    }
+}
+
+// The form of a line in a marriage or in hospitals, beside that of a proposer.
+#[tactic(auto, unfolding(crate::specs::Forms::two_sided_form))]
+fn two_sided_form<'a, 'b>(kind: Kind, word: &'a [u8], rest: &'b [&'a [u8]]) -> Option<Form<'a, 'b>>
+    ensures { option_map form_of result ≡ two_sided_form kind word.now (texts_of rest.now) }
+{
+    if is(word, b"r") {
+        reviewer_form(kind, rest)
+    } else if is(word, b"weight") {
+        weight_form(rest)
+    } else if is(word, b"force") {
+        forced_form(rest)
+    } else if is(word, b"forbid") {
+        forbidden_form(rest)
+    } else {
+        None
+    }
+}
+
+// A reviewer, whose capacity may be written in hospitals alone.
+#[tactic(auto, unfolding(crate::specs::Forms::reviewer_form))]
+fn reviewer_form<'a, 'b>(kind: Kind, rest: &'b [&'a [u8]]) -> Option<Form<'a, 'b>>
+    ensures { option_map form_of result ≡ reviewer_form kind (texts_of rest.now) }
+{
+    match list_form(Side::Reviewers, rest) {
+        Some(form) => Some(form),
+        None if kind == Kind::Hospitals => capacity_form(rest),
+        None => None,
+    }
+}
+
+// A name, a colon and a list.
+#[tactic(auto, unfolding(crate::specs::Forms::list_form))]
+fn list_form<'a, 'b>(side: Side, rest: &'b [&'a [u8]]) -> Option<Form<'a, 'b>>
+    ensures { option_map form_of result ≡ list_form side (texts_of rest.now) }
+{
+    match rest {
+        [name, colon, entries @ ..] if is_run(name) && is(colon, b":") && are_runs(entries) => {
+            Some(Form::Agent {
+                side,
+                name: *name,
+                capacity: None,
+                entries,
+            })
+        }
+        _ => None,
+    }
+}
+
+// A name, a number in brackets, a colon and a list.
+#[tactic(auto, unfolding(crate::specs::Forms::capacity_form))]
+fn capacity_form<'a, 'b>(rest: &'b [&'a [u8]]) -> Option<Form<'a, 'b>>
+    ensures { option_map form_of result ≡ capacity_form (texts_of rest.now) }
+{
+    match rest {
+        [name, opening, number, closing, colon, entries @ ..]
+            if is_run(name)
+                && is(opening, b"[")
+                && is_run(number)
+                && is(closing, b"]")
+                && is(colon, b":")
+                && are_runs(entries) => {
+            Some(Form::Agent {
+                side: Side::Reviewers,
+                name: *name,
+                capacity: Some(*number),
+                entries,
+            })
+        }
+        _ => None,
+    }
+}
+
+// Two names and a weight.
+#[tactic(auto, unfolding(crate::specs::Forms::weight_form))]
+fn weight_form<'a, 'b>(rest: &'b [&'a [u8]]) -> Option<Form<'a, 'b>>
+    ensures { option_map form_of result ≡ weight_form (texts_of rest.now) }
+{
+    match rest {
+        [proposer, reviewer, weight] if is_run(proposer) && is_run(reviewer) && is_run(weight) => {
+            Some(Form::Weight {
+                proposer: *proposer,
+                reviewer: *reviewer,
+                weight: *weight,
+            })
+        }
+        _ => None,
+    }
+}
+
+// Two names of a pair that is forced.
+#[tactic(auto, unfolding(crate::specs::Forms::pair_form))]
+fn forced_form<'a, 'b>(rest: &'b [&'a [u8]]) -> Option<Form<'a, 'b>>
+    ensures { option_map form_of result ≡ pair_form forces (texts_of rest.now) }
+{
+    match rest {
+        [proposer, reviewer] if is_run(proposer) && is_run(reviewer) => Some(Form::Forced {
+            proposer: *proposer,
+            reviewer: *reviewer,
+        }),
+        _ => None,
+    }
+}
+
+// Two names of a pair that is forbidden.
+#[tactic(auto, unfolding(crate::specs::Forms::pair_form))]
+fn forbidden_form<'a, 'b>(rest: &'b [&'a [u8]]) -> Option<Form<'a, 'b>>
+    ensures { option_map form_of result ≡ pair_form forbids (texts_of rest.now) }
+{
+    match rest {
+        [proposer, reviewer] if is_run(proposer) && is_run(reviewer) => Some(Form::Forbidden {
+            proposer: *proposer,
+            reviewer: *reviewer,
+        }),
+        _ => None,
+    }
+}
+
+// Are all these tokens runs?
+fn are_runs(tokens: &[&[u8]]) -> bool
+    ensures { result ≡ list_all begins_run (texts_of tokens.now) }
+{
+    'tokens: for token in tokens {
+        if !is_run(token) {
+            return false;
+        }
+    }
+    true
+}
+
+// Is the token this text?
+fn is(token: &[u8], text: &[u8]) -> bool
+    ensures { result ≡ bytes_eq token.now text.now }
+{
+    token == text
+}

@@ -1,0 +1,11 @@
+//! The header of a text.
+
+use sm_instance::Kind;
+
+/// The header that was read: the kind, its line, and the place behind its line.
+#[derive(Clone, Copy)]
+pub(crate) struct Header {
+    pub(crate) kind: Kind,
+    pub(crate) line: u32,
+    pub(crate) next: usize,
+}

@@ -1,0 +1,321 @@
+//! How a line is judged, and what it adds.
+
+ghost use Rattle.std.specs.Prelude.{◌≡◌, ℕ, ◌<◌, ◌≤◌, ◌∷◌, [], true, false, length, map, slice_index, IfOk, IfErr};
+ghost use Rattle.std.specs.List.{list_any, list_all};
+ghost use Rattle.std.specs.Option.{option_map};
+ghost use Rattle.std.specs.Str.{bytes_eq};
+ghost use Rattle.indexmap.specs.IndexSet.{keys};
+ghost use Rattle.sm_text.specs.Name.{is_name as is_a_name};
+ghost use Rattle.sm_reader.specs.Forms.{is_bad};
+ghost use Rattle.sm_reader.specs.Judging.{verdict_on, fault_of, has_repeated};
+ghost use Rattle.sm_reader.specs.Kept.{texts_of, table_of, IsTable};
+ghost use Rattle.sm_reader.specs.Draft.{said_of, form_of, listed_side, table_on, declared_on, IsDraft, Adds, Judges, IsRefusedBy, IsLineFault, run_fault, name_fault, limit_fault, IsChecked, DeclaresOn, ListsOn, PutsOn, RefusesFor, PairsOf, AddsAgent, ArePairsBelow, pairs_of, key_of, weights_in, weight_fault, PutsWeight, PutsForced, PutsForbidden};
+
+use crate::draft::{Declared, Draft, Pair, Weight};
+use crate::faults::TextFault;
+use crate::forms::{Form, form_behind, is_end};
+use crate::names::list;
+use crate::{MOST_AGENTS, MOST_CAPACITY, MOST_ENTRIES, MOST_WEIGHT};
+use sm_instance::{Kind, Side};
+use sm_text::{RefusalKind, is_name, number, signed};
+use std::alloc::Global;
+
+/// What comes of a line that isn't refused.
+#[derive(Clone, Copy)]
+pub(crate) enum Step {
+    /// The instance goes on.
+    Goes,
+    /// The line ends the instance.
+    Stops,
+}
+
+/// Judges a line by its tokens, and adds what it says. `bad` tells whether a token is a byte that no line holds.
+pub(crate) fn judge<'a>(
+    alloc: Global,
+    kind: Kind,
+    draft: &mut Draft<'a>,
+    line: u32,
+    tokens: &[&'a [u8]],
+    bad: bool,
+) -> Result<Step, TextFault>
+    requires draft { IsDraft kind line draft.old }
+    requires bad { bad ≡ list_any is_bad (texts_of tokens.now) }
+    ensures judged { IfOk result (λ step. Judges kind line (texts_of tokens.now) draft.old draft.new step) }
+    ensures refused { IfErr result (λ f. IsRefusedBy (verdict_on kind (said_of kind draft.old) line (texts_of tokens.now)) line f) }
+{
+    let [word, rest @ ..] = tokens else {
+        return Ok(Step::Goes);
+    };
+    if bad {
+        return Err(TextFault::Refused(RefusalKind::BadByte, line));
+    }
+    if is_end(tokens) {
+        return Ok(Step::Stops);
+    }
+    match form_behind(kind, word, rest) {
+        None => Err(TextFault::Refused(RefusalKind::BadLine, line)),
+        Some(form) => {
+            add(alloc, kind, draft, line, form)?;
+            Ok(Step::Goes)
+        }
+    }
+}
+
+// Adds what a line of this form says, unless it has a fault.
+fn add<'a>(
+    alloc: Global,
+    kind: Kind,
+    draft: &mut Draft<'a>,
+    line: u32,
+    form: Form<'a, '_>,
+) -> Result<(), TextFault>
+    requires { IsDraft kind line draft.old }
+    ensures added { IfOk result (λ _. Adds kind line (form_of form.entry) draft.old draft.new) }
+    ensures fault { IfErr result (λ f. IsLineFault (fault_of (said_of kind draft.old) (form_of form.entry)) line f) }
+{
+    match form {
+        Form::Agent {
+            side,
+            name,
+            capacity,
+            entries,
+        } => {
+            let capacity = checked_capacity(name, capacity, entries, line)?;
+            add_agent(alloc, kind, draft, line, side, name, capacity, entries)
+        }
+        Form::Weight {
+            proposer,
+            reviewer,
+            weight,
+        } => add_weight(draft, line, proposer, reviewer, weight),
+        Form::Forced { proposer, reviewer } => add_forced(draft, line, proposer, reviewer),
+        Form::Forbidden { proposer, reviewer } => add_forbidden(draft, line, proposer, reviewer),
+    }
+}
+
+// The capacity that the line of an agent says, which is 1 where it says none.
+fn checked_capacity(
+    name: &[u8],
+    capacity: Option<&[u8]>,
+    entries: &[&[u8]],
+    line: u32,
+) -> Result<u32, TextFault>
+    ensures checked { IfOk result (λ n. IsChecked name.now (option_map (λ x. x.now) capacity.entry) (texts_of entries.now) n) }
+    ensures fault { IfErr result (λ f. IsLineFault (run_fault name.now (option_map (λ x. x.now) capacity.entry) (texts_of entries.now)) line f) }
+{
+    if !is_name(name) || !are_names(entries) {
+        return Err(TextFault::Refused(RefusalKind::BadName, line));
+    }
+    let Some(run) = capacity else {
+        return Ok(1);
+    };
+    match number(run, MOST_CAPACITY) {
+        Some(capacity) => Ok(capacity as u32),
+        None => Err(TextFault::Refused(RefusalKind::BadNumber, line)),
+    }
+}
+
+// Are all these runs names?
+fn are_names(runs: &[&[u8]]) -> bool
+    ensures { result ≡ list_all is_a_name (texts_of runs.now) }
+{
+    'runs: for run in runs {
+        if !is_name(run) {
+            return false;
+        }
+    }
+    true
+}
+
+// Adds an agent with its list.
+fn add_agent<'a>(
+    alloc: Global,
+    kind: Kind,
+    draft: &mut Draft<'a>,
+    line: u32,
+    side: Side,
+    name: &'a [u8],
+    capacity: u32,
+    entries: &[&'a [u8]],
+) -> Result<(), TextFault>
+    requires { IsDraft kind line draft.old }
+    ensures added { IfOk result (λ _. AddsAgent kind line side name.now capacity (texts_of entries.now) draft.old draft.new) }
+    ensures fault { IfErr result (λ f. IsLineFault (name_fault (table_on side draft.old).declared name.now (texts_of entries.now)
+        (length (declared_on side draft.old)) draft.old.entries) line f) }
+{
+    declare(draft, side, name, line)?;
+    let entries = listed(alloc, draft, listed_side(kind, side), entries, line)?;
+    let agent = Declared {
+        name,
+        capacity,
+        line,
+        entries,
+    };
+    put_agent(draft, side, agent)
+}
+
+// The side that the agents of a side list.
+fn listed_side(kind: Kind, side: Side) -> Side
+    ensures { result ≡ listed_side kind side }
+{
+    match (kind, side) {
+        (Kind::Roommates, Side::Proposers) => Side::Proposers,
+        (_, Side::Proposers) => Side::Reviewers,
+        (_, Side::Reviewers) => Side::Proposers,
+    }
+}
+
+// Declares a name that isn't declared yet on its side.
+fn declare<'a>(
+    draft: &mut Draft<'a>,
+    side: Side,
+    name: &'a [u8],
+    line: u32,
+) -> Result<(), TextFault>
+    requires table { IsTable (table_on side draft.old) }
+    requires few { length (table_on side draft.old).declared ≤ 4096 }
+    ensures declared { IfOk result (λ _. DeclaresOn side draft.old draft.new name.now) }
+    ensures refused { IfErr result (λ f. RefusesFor RefusalKind.Redeclared line (list_any (bytes_eq name.now) (table_on side draft.old).declared ≡ true) f) }
+{
+    let is_new = match side {
+        Side::Proposers => draft.proposer_names.declare(name)?,
+        Side::Reviewers => draft.reviewer_names.declare(name)?,
+    };
+    if is_new {
+        Ok(())
+    } else {
+        Err(TextFault::Refused(RefusalKind::Redeclared, line))
+    }
+}
+
+// The indexes on a side of the names on a list, on which none stands twice.
+fn listed<'a>(
+    alloc: Global,
+    draft: &mut Draft<'a>,
+    side: Side,
+    entries: &[&'a [u8]],
+    line: u32,
+) -> Result<Vec<usize>, TextFault>
+    requires table { IsTable (table_on side draft.old) }
+    requires fresh { (k : ℕ) → slice_index (table_on side draft.old).stamps k < line }
+    ensures listed { IfOk result (λ indexes. ListsOn side draft.old draft.new (texts_of entries.now) line indexes.items) }
+    ensures refused { IfErr result (λ f. RefusesFor RefusalKind.RepeatedEntry line (has_repeated (texts_of entries.now) ≡ true) f) }
+{
+    let indexes = match side {
+        Side::Proposers => list(alloc, &mut draft.proposer_names, entries, line)?,
+        Side::Reviewers => list(alloc, &mut draft.reviewer_names, entries, line)?,
+    };
+    match indexes {
+        Some(indexes) => Ok(indexes),
+        None => Err(TextFault::Refused(RefusalKind::RepeatedEntry, line)),
+    }
+}
+
+// Puts an agent behind the others of its side, within the limits.
+fn put_agent<'a>(draft: &mut Draft<'a>, side: Side, agent: Declared<'a>) -> Result<(), TextFault>
+    requires { draft.old.entries ≤ 524288 }
+    ensures put { IfOk result (λ _. PutsOn side draft.old draft.new agent.entry) }
+    ensures fault { IfErr result (λ f. IsLineFault (limit_fault (length (declared_on side draft.old)) draft.old.entries (length agent.entry.entries.items)) agent.entry.line f) }
+{
+    let count = match side {
+        Side::Proposers => draft.proposers.len(),
+        Side::Reviewers => draft.reviewers.len(),
+    };
+    if count >= MOST_AGENTS {
+        return Err(TextFault::Refused(RefusalKind::TooManyAgents, agent.line));
+    }
+    let more = agent.entries.len();
+    if more > MOST_ENTRIES - draft.entries {
+        return Err(TextFault::Refused(RefusalKind::TooManyEntries, agent.line));
+    }
+    draft.entries += more;
+    match side {
+        Side::Proposers => draft.proposers.push(agent)?,
+        Side::Reviewers => draft.reviewers.push(agent)?,
+    }
+    Ok(())
+}
+
+// The pair of two names.
+fn pair_of<'a>(
+    draft: &mut Draft<'a>,
+    line: u32,
+    proposer: &'a [u8],
+    reviewer: &'a [u8],
+) -> Result<Pair, TextFault>
+    requires proposers { IsTable (table_of draft.old.proposer_names) }
+    requires reviewers { IsTable (table_of draft.old.reviewer_names) }
+    ensures pair { IfOk result (λ pair. PairsOf draft.old draft.new proposer.now reviewer.now line pair) }
+    ensures refused { IfErr result (λ f. RefusesFor RefusalKind.BadName line (list_all is_a_name (proposer.now ∷ reviewer.now ∷ []) ≡ false) f) }
+{
+    if !is_name(proposer) || !is_name(reviewer) {
+        return Err(TextFault::Refused(RefusalKind::BadName, line));
+    }
+    let proposer = draft.proposer_names.intern(proposer)?;
+    let reviewer = draft.reviewer_names.intern(reviewer)?;
+    Ok(Pair {
+        proposer,
+        reviewer,
+        line,
+    })
+}
+
+// Adds the weight of a pair that has none yet.
+fn add_weight<'a>(
+    draft: &mut Draft<'a>,
+    line: u32,
+    proposer: &'a [u8],
+    reviewer: &'a [u8],
+    weight: &[u8],
+) -> Result<(), TextFault>
+    requires proposers { IsTable (table_of draft.old.proposer_names) }
+    requires reviewers { IsTable (table_of draft.old.reviewer_names) }
+    requires in_range { ArePairsBelow (length (table_of draft.old.proposer_names).texts) (length (table_of draft.old.reviewer_names).texts) (pairs_of draft.old.weights.items) }
+    requires weighed { keys draft.old.weighed ≡ map key_of draft.old.weights.items }
+    ensures put { IfOk result (λ _. PutsWeight draft.old draft.new proposer.now reviewer.now weight.now line) }
+    ensures fault { IfErr result (λ f. IsLineFault (weight_fault (weights_in draft.old) proposer.now reviewer.now weight.now) line f) }
+{
+    let pair = pair_of(draft, line, proposer, reviewer)?;
+    let Some(weight) = signed(weight, MOST_WEIGHT) else {
+        return Err(TextFault::Refused(RefusalKind::BadNumber, line));
+    };
+    if !draft.weighed.insert((pair.proposer, pair.reviewer))? {
+        return Err(TextFault::Refused(RefusalKind::RepeatedWeight, line));
+    }
+    draft.weights.push(Weight { pair, weight })?;
+    Ok(())
+}
+
+// Adds a forced pair.
+fn add_forced<'a>(
+    draft: &mut Draft<'a>,
+    line: u32,
+    proposer: &'a [u8],
+    reviewer: &'a [u8],
+) -> Result<(), TextFault>
+    requires proposers { IsTable (table_of draft.old.proposer_names) }
+    requires reviewers { IsTable (table_of draft.old.reviewer_names) }
+    ensures put { IfOk result (λ _. PutsForced draft.old draft.new proposer.now reviewer.now line) }
+    ensures refused { IfErr result (λ f. RefusesFor RefusalKind.BadName line (list_all is_a_name (proposer.now ∷ reviewer.now ∷ []) ≡ false) f) }
+{
+    let pair = pair_of(draft, line, proposer, reviewer)?;
+    draft.forced.push(pair)?;
+    Ok(())
+}
+
+// Adds a forbidden pair.
+fn add_forbidden<'a>(
+    draft: &mut Draft<'a>,
+    line: u32,
+    proposer: &'a [u8],
+    reviewer: &'a [u8],
+) -> Result<(), TextFault>
+    requires proposers { IsTable (table_of draft.old.proposer_names) }
+    requires reviewers { IsTable (table_of draft.old.reviewer_names) }
+    ensures put { IfOk result (λ _. PutsForbidden draft.old draft.new proposer.now reviewer.now line) }
+    ensures refused { IfErr result (λ f. RefusesFor RefusalKind.BadName line (list_all is_a_name (proposer.now ∷ reviewer.now ∷ []) ≡ false) f) }
+{
+    let pair = pair_of(draft, line, proposer, reviewer)?;
+    draft.forbidden.push(pair)?;
+    Ok(())
+}

@@ -1,0 +1,122 @@
+//! The names of one side.
+
+ghost use Rattle.std.specs.Prelude.{◌≡◌, ℕ, ◌<◌, ◌^◌, length, slice_index, IfOk};
+ghost use Rattle.std.specs.List.{list_any};
+ghost use Rattle.std.specs.Str.{bytes_eq};
+ghost use Rattle.sm_reader.specs.InstanceText.{number_in};
+ghost use Rattle.sm_reader.specs.Kept.{texts_of, text_at, table_of, no_names, IsTable, Interns, Declares, Meets, Lists};
+
+use indexmap::IndexSet;
+use std::alloc::{AllocError, Global};
+
+/// The names of one side that stand in a text so far, declared or not, each by the index that it got where it stood
+/// first. They are found by their hash.
+#[derive(Drop)]
+pub(crate) struct Names<'a> {
+    /// The names, by index.
+    pub(crate) texts: IndexSet<&'a [u8]>,
+    /// The number of the agent of each name, `None` while it isn't declared.
+    pub(crate) numbers: Vec<Option<u32>>,
+    /// For each name the line on whose list it stood last, 0 where it stood on none.
+    pub(crate) stamps: Vec<u32>,
+    /// The declared names, by the number of their agents.
+    pub(crate) declared: Vec<&'a [u8]>,
+}
+
+impl<'a> Names<'a> {
+    /// No names.
+    pub(crate) fn new(alloc: Global) -> Names<'a>
+        ensures { table_of result ≡ no_names }
+    {
+        Names {
+            texts: IndexSet::new(alloc),
+            numbers: Vec::new(alloc),
+            stamps: Vec::new(alloc),
+            declared: Vec::new(alloc),
+        }
+    }
+
+    /// The index of a name, which is added where it didn't stand before.
+    pub(crate) fn intern(&mut self, name: &'a [u8]) -> Result<usize, AllocError>
+        requires { IsTable (table_of self.old) }
+        ensures { IfOk result (λ i. Interns (table_of self.old) (table_of self.new) name.now i) }
+    {
+        let (index, is_new) = self.texts.insert_full(name)?;
+        if is_new {
+            self.numbers.push(None)?;
+            self.stamps.push(0)?;
+        }
+        Ok(index)
+    }
+
+    /// Declares a name under the next number, unless it is declared, and answers whether it did.
+    pub(crate) fn declare(&mut self, name: &'a [u8]) -> Result<bool, AllocError>
+        requires table { IsTable (table_of self.old) }
+        requires few { length self.old.declared.items < 2 ^ 32 }
+        ensures { IfOk result (λ added. Declares (table_of self.old) (table_of self.new) name.now added) }
+    {
+        let index = self.intern(name)?;
+        if self.numbers[index].is_some() {
+            return Ok(false);
+        }
+        self.numbers[index] = Some(self.declared.len() as u32);
+        self.declared.push(name)?;
+        Ok(true)
+    }
+
+    /// The index of a name on the list of a line, `None` where it stands there already.
+    pub(crate) fn meet(&mut self, name: &'a [u8], line: u32) -> Result<Option<usize>, AllocError>
+        requires { IsTable (table_of self.old) }
+        ensures { IfOk result (λ met. Meets (table_of self.old) (table_of self.new) name.now line met) }
+    {
+        let index = self.intern(name)?;
+        if self.stamps[index] == line {
+            return Ok(None);
+        }
+        self.stamps[index] = line;
+        Ok(Some(index))
+    }
+
+    /// Is the name of this index declared?
+    pub(crate) fn is_declared(&self, index: usize) -> bool
+        requires table { IsTable (table_of self.now) }
+        requires in_range { index < length (table_of self.now).texts }
+        ensures { result ≡ list_any (bytes_eq (text_at (table_of self.now).texts index)) (table_of self.now).declared }
+    {
+        self.numbers[index].is_some()
+    }
+
+    /// The number under which the name of this index is declared, and how many are declared where it isn't.
+    pub(crate) fn number(&self, index: usize) -> u32
+        requires table { IsTable (table_of self.now) }
+        requires in_range { index < length (table_of self.now).texts }
+        requires few { length self.now.declared.items < 2 ^ 32 }
+        ensures { result ≡ number_in (table_of self.now).declared (text_at (table_of self.now).texts index) }
+    {
+        match self.numbers[index] {
+            Some(number) => number,
+            None => self.declared.len() as u32,
+        }
+    }
+}
+
+/// The indexes of the names on the list of a line, `None` where one stands on it twice.
+pub(crate) fn list<'a>(
+    alloc: Global,
+    names: &mut Names<'a>,
+    entries: &[&'a [u8]],
+    line: u32,
+) -> Result<Option<Vec<usize>>, AllocError>
+    requires table { IsTable (table_of names.old) }
+    requires fresh { (k : ℕ) → slice_index names.old.stamps.items k < line }
+    ensures { IfOk result (λ list. Lists (table_of names.old) (table_of names.new) (texts_of entries.now) line list) }
+{
+    let mut indexes = Vec::with_capacity(alloc, entries.len())?;
+    'entries: for entry in entries {
+        let Some(index) = names.meet(entry, line)? else {
+            return Ok(None);
+        };
+        indexes.push(index)?;
+    }
+    Ok(Some(indexes))
+}

@@ -1,0 +1,241 @@
+//! Numbers for names, once all agents are declared.
+
+ghost use Rattle.std.specs.Prelude.{◌≡◌, ◌<◌, ◌^◌, ◌||◌, length, map, IfOk};
+ghost use Rattle.std.specs.List.{list_any};
+ghost use Rattle.sm_instance.specs.Vectors.{agent_of, agents_of};
+ghost use Rattle.sm_reader.specs.InstanceText.{least, unknown_lines, lines_with_unknown, pairs_with_unknown, is_unknown, number_in, numbered};
+ghost use Rattle.sm_reader.specs.Kept.{table_of, text_at, IsTable, AreBelow};
+ghost use Rattle.sm_reader.specs.Draft.{said_of, listed_table, agent_in, pair_in, given_in, AreAgentsBelow, IsPairBelow, ArePairsBelow, pairs_of};
+ghost use Rattle.sm_reader.specs.Numbering.{lesser, line_if, pair_among, weight_among, IsReady};
+
+use crate::draft::{Declared, Draft, Pair, Weight};
+use crate::names::Names;
+use sm_instance::{Agent, Kind};
+use std::alloc::{AllocError, Global};
+
+/// The first line that names an agent which isn't declared.
+pub(crate) fn first_unknown(kind: Kind, draft: &Draft<'_>) -> Option<u32>
+    requires { IsReady kind draft.now }
+    ensures { result ≡ least (unknown_lines kind (said_of kind draft.now)) }
+{
+    let proposers = &draft.proposer_names;
+    let reviewers = &draft.reviewer_names;
+    let in_lists = first_in_proposers(kind, draft);
+    let in_others = first_in_lists(proposers, &draft.reviewers);
+    let in_weights = first_in_weights(proposers, reviewers, &draft.weights);
+    let in_forced = first_in_pairs(proposers, reviewers, &draft.forced);
+    let in_forbidden = first_in_pairs(proposers, reviewers, &draft.forbidden);
+    let of_agents = earlier(in_lists, in_others);
+    let of_weights = earlier(of_agents, in_weights);
+    let of_forced = earlier(of_weights, in_forced);
+    earlier(of_forced, in_forbidden)
+}
+
+// The first line whose proposer lists a name that isn't declared.
+fn first_in_proposers(kind: Kind, draft: &Draft<'_>) -> Option<u32>
+    requires { IsReady kind draft.now }
+    ensures { let t = listed_table kind draft.now.proposer_names draft.now.reviewer_names in
+        result ≡ least (lines_with_unknown t.declared (map (agent_in t.texts) draft.now.proposers.items)) }
+{
+    match kind {
+        Kind::Roommates => first_in_lists(&draft.proposer_names, &draft.proposers),
+        _ => first_in_lists(&draft.reviewer_names, &draft.proposers),
+    }
+}
+
+// The earlier of two lines, if there are any.
+fn earlier(a: Option<u32>, b: Option<u32>) -> Option<u32>
+    ensures { result ≡ lesser a b }
+{
+    match (a, b) {
+        (Some(a), Some(b)) => Some(a.min(b)),
+        (Some(a), None) => Some(a),
+        (None, b) => b,
+    }
+}
+
+// The first line whose list has a name that isn't declared.
+fn first_in_lists(names: &Names<'_>, agents: &[Declared<'_>]) -> Option<u32>
+    requires table { IsTable (table_of names.now) }
+    requires in_range { AreAgentsBelow (length (table_of names.now).texts) agents.now }
+    ensures { result ≡ least (lines_with_unknown (table_of names.now).declared (map (agent_in (table_of names.now).texts) agents.now)) }
+{
+    let mut first = None;
+    'agents: for agent in agents {
+        first = earlier(
+            first,
+            line_if(agent.line, has_unknown(names, &agent.entries)),
+        );
+    }
+    first
+}
+
+// A line, if it counts.
+fn line_if(line: u32, counts: bool) -> Option<u32>
+    ensures { result ≡ line_if counts line }
+{
+    if counts { Some(line) } else { None }
+}
+
+// Is one of these names not declared?
+fn has_unknown(names: &Names<'_>, indexes: &[usize]) -> bool
+    requires table { IsTable (table_of names.now) }
+    requires in_range { AreBelow (length (table_of names.now).texts) indexes.now }
+    ensures { result ≡ list_any (is_unknown (table_of names.now).declared) (map (text_at (table_of names.now).texts) indexes.now) }
+{
+    'indexes: for index in indexes {
+        if !names.is_declared(*index) {
+            return true;
+        }
+    }
+    false
+}
+
+// The first line of a pair of which one isn't declared.
+fn first_in_pairs(proposers: &Names<'_>, reviewers: &Names<'_>, pairs: &[Pair]) -> Option<u32>
+    requires proposers { IsTable (table_of proposers.now) }
+    requires reviewers { IsTable (table_of reviewers.now) }
+    requires in_range { ArePairsBelow (length (table_of proposers.now).texts) (length (table_of reviewers.now).texts) pairs.now }
+    ensures { result ≡ least (pairs_with_unknown (table_of proposers.now).declared (table_of reviewers.now).declared
+        (map (pair_in (table_of proposers.now).texts (table_of reviewers.now).texts) pairs.now)) }
+{
+    let mut first = None;
+    'pairs: for pair in pairs {
+        first = earlier(
+            first,
+            line_if(pair.line, is_unknown(proposers, reviewers, *pair)),
+        );
+    }
+    first
+}
+
+// The first line of a weight of whose pair one isn't declared.
+fn first_in_weights(proposers: &Names<'_>, reviewers: &Names<'_>, weights: &[Weight]) -> Option<u32>
+    requires proposers { IsTable (table_of proposers.now) }
+    requires reviewers { IsTable (table_of reviewers.now) }
+    requires in_range { ArePairsBelow (length (table_of proposers.now).texts) (length (table_of reviewers.now).texts) (pairs_of weights.now) }
+    ensures { result ≡ least (pairs_with_unknown (table_of proposers.now).declared (table_of reviewers.now).declared
+        (map (pair_in (table_of proposers.now).texts (table_of reviewers.now).texts) (pairs_of weights.now))) }
+{
+    let mut first = None;
+    'weights: for weight in weights {
+        let pair = weight.pair;
+        first = earlier(
+            first,
+            line_if(pair.line, is_unknown(proposers, reviewers, pair)),
+        );
+    }
+    first
+}
+
+// Is one of a pair not declared?
+fn is_unknown(proposers: &Names<'_>, reviewers: &Names<'_>, pair: Pair) -> bool
+    requires proposers { IsTable (table_of proposers.now) }
+    requires reviewers { IsTable (table_of reviewers.now) }
+    requires in_range { IsPairBelow (length (table_of proposers.now).texts) (length (table_of reviewers.now).texts) pair }
+    ensures { result ≡ (is_unknown (table_of proposers.now).declared (text_at (table_of proposers.now).texts pair.proposer)
+        || is_unknown (table_of reviewers.now).declared (text_at (table_of reviewers.now).texts pair.reviewer)) }
+{
+    !proposers.is_declared(pair.proposer) || !reviewers.is_declared(pair.reviewer)
+}
+
+/// The agents of a side, with numbers for the names on their lists.
+pub(crate) fn number_agents(
+    alloc: Global,
+    names: &Names<'_>,
+    side: &[Declared<'_>],
+) -> Result<Vec<Agent>, AllocError>
+    requires table { IsTable (table_of names.now) }
+    requires few { length names.now.declared.items < 2 ^ 32 }
+    requires in_range { AreAgentsBelow (length (table_of names.now).texts) side.now }
+    ensures { IfOk result (λ v. agents_of v.items ≡ map (numbered (table_of names.now).declared) (map (agent_in (table_of names.now).texts) side.now)) }
+{
+    let mut agents = Vec::with_capacity(alloc, side.len())?;
+    'agents: for declared in side {
+        agents.push(number_agent(alloc, names, declared)?)?;
+    }
+    Ok(agents)
+}
+
+// An agent, with numbers for the names on its list.
+fn number_agent(
+    alloc: Global,
+    names: &Names<'_>,
+    declared: &Declared<'_>,
+) -> Result<Agent, AllocError>
+    requires table { IsTable (table_of names.now) }
+    requires few { length names.now.declared.items < 2 ^ 32 }
+    requires in_range { AreBelow (length (table_of names.now).texts) declared.now.entries.items }
+    ensures { IfOk result (λ a. agent_of a ≡ numbered (table_of names.now).declared (agent_in (table_of names.now).texts declared.now)) }
+{
+    let name = Vec::from_slice(alloc, declared.name)?;
+    let entries = number_names(alloc, names, &declared.entries)?;
+    Ok(Agent {
+        name,
+        capacity: declared.capacity,
+        line: declared.line,
+        entries,
+    })
+}
+
+// The numbers of names.
+fn number_names(alloc: Global, names: &Names<'_>, indexes: &[usize]) -> Result<Vec<u32>, AllocError>
+    requires table { IsTable (table_of names.now) }
+    requires few { length names.now.declared.items < 2 ^ 32 }
+    requires in_range { AreBelow (length (table_of names.now).texts) indexes.now }
+    ensures { IfOk result (λ v. v.items ≡ map (number_in (table_of names.now).declared) (map (text_at (table_of names.now).texts) indexes.now)) }
+{
+    let mut numbers = Vec::with_capacity(alloc, indexes.len())?;
+    'indexes: for index in indexes {
+        numbers.push(names.number(*index))?;
+    }
+    Ok(numbers)
+}
+
+/// Pairs by number.
+pub(crate) fn number_pairs(
+    alloc: Global,
+    proposers: &Names<'_>,
+    reviewers: &Names<'_>,
+    pairs: &[Pair],
+) -> Result<Vec<(u32, u32)>, AllocError>
+    requires proposers { IsTable (table_of proposers.now) }
+    requires reviewers { IsTable (table_of reviewers.now) }
+    requires few_proposers { length proposers.now.declared.items < 2 ^ 32 }
+    requires few_reviewers { length reviewers.now.declared.items < 2 ^ 32 }
+    requires in_range { ArePairsBelow (length (table_of proposers.now).texts) (length (table_of reviewers.now).texts) pairs.now }
+    ensures { IfOk result (λ v. v.items ≡ map (pair_among (table_of proposers.now).declared (table_of reviewers.now).declared)
+        (map (pair_in (table_of proposers.now).texts (table_of reviewers.now).texts) pairs.now)) }
+{
+    let mut numbers = Vec::with_capacity(alloc, pairs.len())?;
+    'pairs: for pair in pairs {
+        let proposer = proposers.number(pair.proposer);
+        let reviewer = reviewers.number(pair.reviewer);
+        numbers.push((proposer, reviewer))?;
+    }
+    Ok(numbers)
+}
+
+/// Weights of pairs by number.
+pub(crate) fn number_weights(
+    alloc: Global,
+    proposers: &Names<'_>,
+    reviewers: &Names<'_>,
+    weights: &[Weight],
+) -> Result<Vec<(u32, u32, i64)>, AllocError>
+    requires proposers { IsTable (table_of proposers.now) }
+    requires reviewers { IsTable (table_of reviewers.now) }
+    requires few_proposers { length proposers.now.declared.items < 2 ^ 32 }
+    requires few_reviewers { length reviewers.now.declared.items < 2 ^ 32 }
+    requires in_range { ArePairsBelow (length (table_of proposers.now).texts) (length (table_of reviewers.now).texts) (pairs_of weights.now) }
+    ensures { IfOk result (λ v. v.items ≡ map (weight_among (table_of proposers.now).declared (table_of reviewers.now).declared)
+        (map (given_in (table_of proposers.now).texts (table_of reviewers.now).texts) weights.now)) }
+{
+    let mut numbers = Vec::with_capacity(alloc, weights.len())?;
+    'weights: for weight in weights {
+        let proposer = proposers.number(weight.pair.proposer);
+        let reviewer = reviewers.number(weight.pair.reviewer);
+        numbers.push((proposer, reviewer, weight.weight))?;
+    }
+    Ok(numbers)
+}

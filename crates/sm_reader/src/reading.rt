@@ -1,0 +1,196 @@
+//! The reading of a text.
+
+ghost use Rattle.std.specs.Prelude.{◌≡◌, ◌≢◌, ◌<◌, ◌≤◌, ◌+◌, length, drop, IfOk, IfErr, Ok, None};
+ghost use Rattle.std.specs.List.{list_any};
+ghost use Rattle.sm_reader.specs.Forms.{is_bad};
+ghost use Rattle.sm_text.specs.Lines.{lines};
+ghost use Rattle.sm_instance.specs.declared.inputs.Input.TheVariants.{Two};
+ghost use Rattle.sm_reader.specs.Said.{nothing};
+ghost use Rattle.sm_reader.specs.Judging.{heading_of};
+ghost use Rattle.sm_reader.specs.InstanceText.{instance_text, read_of, IsTextFault, before_header, behind_header, unknown_lines, least, input_of, two_sides};
+ghost use Rattle.sm_reader.specs.Kept.{texts_of};
+ghost use Rattle.sm_reader.specs.Draft.{said_of};
+ghost use Rattle.sm_reader.specs.Numbering.{IsReady, IsUnknownFault};
+ghost use Rattle.sm_reader.specs.Reading.{IsHeaded, IsFaultOf, heading_is, IsHeadingFault, Finishes};
+
+use crate::MOST_BYTES;
+use crate::draft::{Draft, empty};
+use crate::faults::TextFault;
+use crate::forms::header_of;
+use crate::header::Header;
+use crate::judging::{Step, judge};
+use crate::numbering::{first_unknown, number_agents, number_pairs, number_weights};
+use crate::tokens::{cut, line_from};
+use sm_instance::{Input, Instance, InstanceFault, Kind, Persons};
+use sm_text::RefusalKind;
+use std::alloc::Global;
+
+/// An instance that was read, and what stands behind it.
+#[derive(Drop)]
+pub struct Read {
+    /// The instance.
+    pub input: Input,
+    /// The line of the header. Lines are counted from 1 over the whole text.
+    pub header_line: u32,
+    /// The place behind the line `end` with its line end, counted in bytes from 0.
+    pub rest: usize,
+    /// The number of the line that begins at that place.
+    pub rest_line: u32,
+}
+
+/// Reads the text of an instance, up to the line `end`.
+///
+/// Agents get their numbers in the order of their lines. Names that stand before their declarations are found, and the
+/// text behind the line `end` isn't looked at. Each byte is read once, and each name is looked up once; it takes time and
+/// memory in proportion to the text.
+///
+/// # Errors
+///
+/// `Refused` names the first line that has a fault, and of all faults of that line the first in the order in which
+/// [`RefusalKind`] has them. A missing `end` counts as a fault of the line behind the last one. Only where there is no
+/// such fault, `UnknownName` names the first line that lists or pairs an agent which isn't declared. A text of more than
+/// 16,777,216 bytes is refused at line 0.
+pub fn read_instance(alloc: Global, bytes: &[u8]) -> Result<Read, TextFault>
+    ensures read { IfOk result (λ read. instance_text bytes.now ≡ Ok (read_of read)) }
+    ensures fault { IfErr result (λ f. IsTextFault bytes.now f) }
+{
+    if bytes.len() > MOST_BYTES {
+        return Err(TextFault::Refused(RefusalKind::TooLong, 0));
+    }
+    let header = read_header(alloc, bytes)?;
+    read_lines(alloc, bytes, header)
+}
+
+// The header.
+fn read_header(alloc: Global, bytes: &[u8]) -> Result<Header, TextFault>
+    requires { length bytes.now ≤ MOST_BYTES }
+    ensures header { IfOk result (λ header. IsHeaded bytes.now header) }
+    ensures fault { IfErr result (λ f. IsFaultOf (before_header 1 0 (lines bytes.now)) f) }
+{
+    let mut tokens = Vec::new(alloc);
+    let mut at = 0;
+    let mut line = 1;
+    'lines: while let Some((text, next)) = line_from(bytes, at) {
+        let bad = cut(text, &mut tokens)?;
+        if let Some(kind) = heading(&tokens, bad, line)? {
+            return Ok(Header { kind, line, next });
+        }
+        at = next;
+        line += 1;
+    }
+    Err(TextFault::Refused(RefusalKind::BadHeader, line))
+}
+
+// The kind that a line names which stands before the header or is it, `None` where it has no token.
+fn heading(tokens: &[&[u8]], bad: bool, line: u32) -> Result<Option<Kind>, TextFault>
+    requires { bad ≡ list_any is_bad (texts_of tokens.now) }
+    ensures heading { IfOk result (λ kind. heading_of (texts_of tokens.now) ≡ heading_is kind) }
+    ensures fault { IfErr result (λ f. IsHeadingFault (heading_of (texts_of tokens.now)) line f) }
+{
+    if tokens.is_empty() {
+        return Ok(None);
+    }
+    if bad {
+        return Err(TextFault::Refused(RefusalKind::BadByte, line));
+    }
+    match header_of(tokens) {
+        Some(kind) => Ok(Some(kind)),
+        None => Err(TextFault::Refused(RefusalKind::BadHeader, line)),
+    }
+}
+
+// Reads the lines behind the header.
+fn read_lines(alloc: Global, bytes: &[u8], header: Header) -> Result<Read, TextFault>
+    requires short { length bytes.now ≤ MOST_BYTES }
+    requires headed { IsHeaded bytes.now header }
+    ensures read { IfOk result (λ read. behind_header header.kind header.line nothing (header.line + 1) header.next (lines (drop header.next bytes.now)) ≡ Ok (read_of read)) }
+    ensures fault { IfErr result (λ f. IsFaultOf (behind_header header.kind header.line nothing (header.line + 1) header.next (lines (drop header.next bytes.now))) f) }
+{
+    let mut draft = empty(alloc);
+    let mut tokens = Vec::new(alloc);
+    let mut at = header.next;
+    let mut line = header.line + 1;
+    'lines: while let Some((text, next)) = line_from(bytes, at) {
+        let bad = cut(text, &mut tokens)?;
+        match judge(alloc, header.kind, &mut draft, line, &tokens, bad)? {
+            Step::Goes => {
+                at = next;
+                line += 1;
+            }
+            Step::Stops => {
+                let input = finished(alloc, header.kind, &draft)?;
+                return Ok(Read {
+                    input,
+                    header_line: header.line,
+                    rest: next,
+                    rest_line: line + 1,
+                });
+            }
+        }
+    }
+    Err(TextFault::Refused(RefusalKind::MissingEnd, line))
+}
+
+// The instance that a text says whose lines have no fault.
+fn finished(alloc: Global, kind: Kind, draft: &Draft<'_>) -> Result<Input, TextFault>
+    requires { IsReady kind draft.now }
+    ensures finished { IfOk result (λ input. Finishes kind draft.now input) }
+    ensures fault { IfErr result (λ f. IsUnknownFault kind draft.now f) }
+{
+    if let Some(line) = first_unknown(kind, draft) {
+        return Err(TextFault::Refused(RefusalKind::UnknownName, line));
+    }
+    match kind {
+        Kind::Roommates => persons(alloc, draft),
+        _ => two_sides(alloc, kind, draft),
+    }
+}
+
+// The persons.
+fn persons(alloc: Global, draft: &Draft<'_>) -> Result<Input, TextFault>
+    requires ready { IsReady Kind.Roommates draft.now }
+    requires known { least (unknown_lines Kind.Roommates (said_of Kind.Roommates draft.now)) ≡ None }
+    ensures persons { IfOk result (λ input. input ≡ input_of Kind.Roommates (said_of Kind.Roommates draft.now)) }
+    ensures memory { IfErr result (λ f. f ≡ TextFault.OutOfMemory) }
+{
+    let persons = number_agents(alloc, &draft.proposer_names, &draft.proposers)?;
+    match Persons::build(alloc, persons) {
+        Ok(persons) => Ok(Input::Room(persons)),
+        Err(fault) => Err(want_of_memory(fault)),
+    }
+}
+
+// The two sides, with their weights and conditions.
+fn two_sides(alloc: Global, kind: Kind, draft: &Draft<'_>) -> Result<Input, TextFault>
+    requires two_sided { kind ≢ Kind.Roommates }
+    requires ready { IsReady kind draft.now }
+    requires known { least (unknown_lines kind (said_of kind draft.now)) ≡ None }
+    ensures sides { IfOk result (λ input. input ≡ Two (two_sides kind (said_of kind draft.now))) }
+    ensures memory { IfErr result (λ f. f ≡ TextFault.OutOfMemory) }
+{
+    let proposers = &draft.proposer_names;
+    let reviewers = &draft.reviewer_names;
+    let left = number_agents(alloc, reviewers, &draft.proposers)?;
+    let right = number_agents(alloc, proposers, &draft.reviewers)?;
+    let weights = number_weights(alloc, proposers, reviewers, &draft.weights)?;
+    let forced = number_pairs(alloc, proposers, reviewers, &draft.forced)?;
+    let forbidden = number_pairs(alloc, proposers, reviewers, &draft.forbidden)?;
+    match Instance::build(alloc, kind, left, right, weights, forced, forbidden) {
+        Ok(instance) => Ok(Input::Two(instance)),
+        Err(fault) => Err(want_of_memory(fault)),
+    }
+}
+
+// Want of memory, the only fault that is left where the lines were judged and all names are declared.
+fn want_of_memory(fault: InstanceFault) -> TextFault
+    requires { fault ≡ InstanceFault.OutOfMemory }
+    ensures { result ≡ TextFault.OutOfMemory }
+{
+    match fault {
+        InstanceFault::OutOfMemory => TextFault::OutOfMemory,
+        InstanceFault::TooMany
+        | InstanceFault::BadAgent(..)
+        | InstanceFault::BadEntry(..)
+        | InstanceFault::BadPair(_) => unreachable!(),
+    }
+}

@@ -1,5 +1,0 @@
-use Rattle.sm_top.specs.Accepting.{IsProgress}
-use Rattle.sm_top.proofs.accept.best_places.Given as goal
-
-abbrev pub invariant-loop-p : goal.invariant-loop-p
-invariant-loop-p l = IsProgress l.market l.p l.p l.next l.standings

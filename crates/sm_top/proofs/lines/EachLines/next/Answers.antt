@@ -1,0 +1,11 @@
+use Rattle.std.proofs.Common.{◌∙◌, sym, arith}
+use Rattle.sm_top.proofs.LineLemmas.{lines_passed, line_given, no_lines_left}
+use Rattle.sm_top.proofs.lines.EachLines.next.Goals as goal
+
+pub items-preserved : goal.items-preserved
+items-preserved g c =
+    let n = g.T.Numbered.count c.items.self.items in
+    record {
+      items = c.items.invariant.items;
+      left = lines_passed (g.T.Numbered.line c.items.self.items) c.items.self.next n c.in_ok-line.line (omega (arith, c.items-test.true, c.count.ensures)) c.in_ok-line.ensures (sym c.is_some.ensures ∙ c.if-is_some.false) ∙ c.items.invariant.left;
+    }

@@ -1,0 +1,8 @@
+use Rattle.sm_top.specs.MarriageMarket.{mutual_row}
+use Rattle.sm_top.proofs.MarketLemmas.{row_pushed}
+use Rattle.sm_top.proofs.market.mutual_proposers.Goals as goal
+
+pub loop-p-preserved : goal.loop-p-preserved
+loop-p-preserved c =
+    let w = c.args.instance.now in
+    rw c.in_ok-push.ensures.items (row_pushed c.loop-p.rows.items c.in_ok-mutual_proposer.field-0 (mutual_row w.proposers w.reviewers) c.loop-p.p c.loop-p.invariant c.in_ok-mutual_proposer.ensures)
