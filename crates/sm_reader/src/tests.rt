@@ -1,7 +1,7 @@
 use crate::{TextFault, read_instance};
 use sm_instance::{Input, Instance, Kind};
-use sm_text::RefusalKind;
-use std::alloc::Global;
+use sm_text::{LineWriter, RefusalKind};
+use std::alloc::{AllocError, Global};
 use std::process::Abort;
 use std::test::Fail;
 
@@ -77,13 +77,59 @@ fn each_fault_is_found_at_its_line(rt: HostRuntime) {
 }
 
 #[test]
-fn of_two_faults_the_first_counts(rt: HostRuntime) {
-    let rows: [(&[u8], RefusalKind, u32); 9] = [
+fn of_two_faults_of_a_line_the_first_counts(rt: HostRuntime) {
+    let rows: [(&[u8], RefusalKind, u32); 19] = [
+        (b"stable 1 marriage ;\n", RefusalKind::BadByte, 1),
         (b"stable 1 marriage\nq a ;\n", RefusalKind::BadByte, 2),
+        (b"stable 1 marriage\np -a: x ;\n", RefusalKind::BadByte, 2),
+        (b"stable 1 hospitals\nr h [x]: ;\n", RefusalKind::BadByte, 2),
+        (
+            b"stable 1 marriage\np a:\np a: ;\n",
+            RefusalKind::BadByte,
+            3,
+        ),
+        (b"stable 1 marriage\np a: x x ;\n", RefusalKind::BadByte, 2),
+        (
+            b"stable 1 marriage\nweight a x 1\nweight a x 1 ;\n",
+            RefusalKind::BadByte,
+            3,
+        ),
         (b"stable 1 marriage\np -a -b\n", RefusalKind::BadLine, 2),
+        (
+            b"stable 1 marriage\nweight a x 01 y\n",
+            RefusalKind::BadLine,
+            2,
+        ),
+        (
+            b"stable 1 marriage\np a:\np a: :\n",
+            RefusalKind::BadLine,
+            3,
+        ),
+        (b"stable 1 marriage\np a: x x :\n", RefusalKind::BadLine, 2),
+        (
+            b"stable 1 marriage\nweight a x 1\nweight a x 1 1\n",
+            RefusalKind::BadLine,
+            3,
+        ),
         (b"stable 1 hospitals\nr -h [x]:\n", RefusalKind::BadName, 2),
         (
+            b"stable 1 marriage\np a:\np a: -x\n",
+            RefusalKind::BadName,
+            3,
+        ),
+        (b"stable 1 marriage\np a: -x -x\n", RefusalKind::BadName, 2),
+        (
             b"stable 1 hospitals\nr h:\nr h [x]:\n",
+            RefusalKind::BadNumber,
+            3,
+        ),
+        (
+            b"stable 1 hospitals\nr h [01]: a a\n",
+            RefusalKind::BadNumber,
+            2,
+        ),
+        (
+            b"stable 1 marriage\nweight a x 1\nweight a x 01\n",
             RefusalKind::BadNumber,
             3,
         ),
@@ -92,16 +138,44 @@ fn of_two_faults_the_first_counts(rt: HostRuntime) {
             RefusalKind::Redeclared,
             3,
         ),
+    ];
+    for (text, kind, line) in rows {
+        assert_eq!(rt; refusal(rt.alloc(), text), Some((kind, line)), "{text:?}");
+    }
+}
+
+#[test]
+fn a_fault_counts_before_those_of_later_lines(rt: HostRuntime) {
+    let rows: [(&[u8], RefusalKind, u32); 11] = [
+        (b"p\nstable 1 marriage ;\n", RefusalKind::BadHeader, 1),
+        (b"stable 1 marriage\np b\n;\n", RefusalKind::BadLine, 2),
+        (b"stable 1 marriage\np -b:\n;\n", RefusalKind::BadName, 2),
         (
-            b"stable 1 marriage\nweight a x 1\nweight a x 01\n",
+            b"stable 1 marriage\nweight a x +1\np b\n",
+            RefusalKind::BadByte,
+            2,
+        ),
+        (
+            b"stable 1 marriage\nweight a x -0\n;\n",
             RefusalKind::BadNumber,
+            2,
+        ),
+        (
+            b"stable 1 marriage\np b:\np b:\n;\n",
+            RefusalKind::Redeclared,
             3,
         ),
         (
-            b"stable 1 marriage\np a: x x\np b;\n",
+            b"stable 1 marriage\np b: x x\n;\n",
             RefusalKind::RepeatedEntry,
             2,
         ),
+        (
+            b"stable 1 marriage\nweight a x 1\nweight a x 1\n;\n",
+            RefusalKind::RepeatedWeight,
+            3,
+        ),
+        (b"stable 1 marriage\n\x01\np b\n", RefusalKind::BadByte, 2),
         (b"stable 1 marriage\np a: x\n", RefusalKind::MissingEnd, 3),
         (
             b"stable 1 marriage\nforce a x\np a: y\nend\n",
@@ -112,6 +186,52 @@ fn of_two_faults_the_first_counts(rt: HostRuntime) {
     for (text, kind, line) in rows {
         assert_eq!(rt; refusal(rt.alloc(), text), Some((kind, line)), "{text:?}");
     }
+}
+
+/// A text of 4,096 proposers who list 128 names each, which are all entries that a text may have, and of a last line.
+fn full(alloc: Global, last: &[u8]) -> Result<LineWriter, AllocError> {
+    let mut text = LineWriter::new(alloc, 3_000_000)?;
+    text.put_bytes(b"stable 1 marriage\n")?;
+    for p in 0..4_096 {
+        text.put_bytes(b"p a")?;
+        text.put_number(p)?;
+        text.put_bytes(b":")?;
+        put_entries(&mut text)?;
+        text.put_bytes(b"\n")?;
+    }
+    text.put_bytes(last)?;
+    Ok(text)
+}
+
+/// 128 names, each behind a space.
+fn put_entries(text: &mut LineWriter) -> Result<(), AllocError> {
+    for r in 0..128 {
+        text.put_bytes(b" x")?;
+        text.put_number(r)?;
+    }
+    Ok(())
+}
+
+/// Makes sure of the refusal of a full text with this last line.
+fn refuses_full(rt: &(impl Abort + AllocGlobal), last: &[u8], kind: RefusalKind, line: u32) {
+    let text = full(rt.alloc(), last).expect(rt, "memory");
+    assert!(rt;
+        refusal(rt.alloc(), text.bytes()) == Some((kind, line)),
+        "{last:?}"
+    );
+}
+
+#[test]
+fn agents_and_entries_are_counted(rt: HostRuntime) {
+    refuses_full(&rt, b"p b: x0 ;\n", RefusalKind::BadByte, 4_098);
+    refuses_full(&rt, b"p b x0\n", RefusalKind::BadLine, 4_098);
+    refuses_full(&rt, b"p -b: x0\n", RefusalKind::BadName, 4_098);
+    refuses_full(&rt, b"p a7: x0\n", RefusalKind::Redeclared, 4_098);
+    refuses_full(&rt, b"p b: x0 x0\n", RefusalKind::RepeatedEntry, 4_098);
+    refuses_full(&rt, b"p b: x0\n;\n", RefusalKind::TooManyAgents, 4_098);
+    refuses_full(&rt, b"r y: a0\n;\n", RefusalKind::TooManyEntries, 4_098);
+    refuses_full(&rt, b"r y:\n", RefusalKind::MissingEnd, 4_099);
+    refuses_full(&rt, b"r y:\nend\n", RefusalKind::UnknownName, 2);
 }
 
 #[test]

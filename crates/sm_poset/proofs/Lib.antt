@@ -1,0 +1,6 @@
+pub mod HeldLemmas
+pub mod ReadLemmas
+pub mod ChainLemmas
+pub mod MoveLemmas
+pub mod StepLemmas
+pub mod SetLemmas

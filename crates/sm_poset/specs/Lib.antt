@@ -1,0 +1,3 @@
+pub mod Posets
+pub mod Moves
+pub mod Kept

@@ -1,0 +1,316 @@
+-- Writing notes and marks, one after another, and collecting them.
+use Rattle.std.proofs.Common.{◌≡◌, ◌≢◌, ℕ, zero, suc, ◌+◌, ◌<◌, ◌≤◌, ◌⊎◌, ◌==◌, inl, inr, arith, refl, sym, ap, ◌∙◌, List, [], ◌∷◌, ◌++◌, length, Option, None, Some, IsSome, get_or, set, slice_index, slice_index_or, eqb}
+use Rattle.std.specs.List.{Contains, dedup}
+use Rattle.std.specs.List.Sorted.{IsPermutation, IsSorted, IsStrictlyIncreasing}
+use Rattle.std.specs.Ordering.{nat_cmp}
+use Rattle.std.proofs.lemmas.List.{get_or-set_same, get_or-set_other, length-set, get_or_default}
+use Rattle.std.proofs.lemmas.List.Elements.{Contains-append_left, Contains-append_right, Contains-append_cases}
+use Rattle.std.proofs.lemmas.List.Sorted.{Contains-permutation, IsPermutation-sym}
+use Rattle.std.proofs.lemmas.List.Kept.{Contains-dedup_nat, Contains-from_dedup}
+use Rattle.std.proofs.lemmas.Map.Keys.{IsStrictlyIncreasing-dedup}
+use Rattle.sm_market.specs.Lists.{Lists, row, entry, place_of, IsMarket}
+use Rattle.sm_market.proofs.Counting.{lt_or_le, eq_or_ne}
+use Rattle.sm_market.proofs.Bridge.{entry_place, place_entry}
+use Rattle.sm_theory.specs.Rotations.{proposer_at, reviewer_at, target_at, next_in}
+use Rattle.sm_rotations.specs.Marking.{note_of, marks_of, mark_at, Moves, MovesOver, AreMoved, AreMarked, AreMarksFor, IsSpan, IsSpanMarked, IsLastOf, IsBetween, IsPassedBy, IsFound, Adds, IsRisingListOf}
+
+-- one mark set
+module _ (marks : List (List (Option ℕ))) (p x j : ℕ) (in_range : p < length marks) (on : x < length (marks_of marks p)) where
+  abbrev one_more : List (List (Option ℕ))
+  one_more = set marks p (set (marks_of marks p) x (Some j))
+
+  row_here : marks_of one_more p ≡ set (marks_of marks p) x (Some j)
+  row_here = get_or-set_same marks p (set (marks_of marks p) x (Some j)) [] in_range
+
+  row_other : (q : ℕ) → q ≢ p → marks_of one_more q ≡ marks_of marks q
+  row_other q ne = get_or-set_other marks p q (set (marks_of marks p) x (Some j)) [] ne
+
+  pub set_here : mark_at one_more p x ≡ Some j
+  set_here = ap (λ marks. note_of marks x) row_here ∙ get_or-set_same (marks_of marks p) x (Some j) None on
+
+  pub set_elsewhere : (q y : ℕ) → (q ≢ p) ⊎ (y ≢ x) → mark_at one_more q y ≡ mark_at marks q y
+  set_elsewhere q y (inl ne) = ap (λ marks. note_of marks y) (row_other q ne)
+  set_elsewhere q y (inr ne) = elim (eq_or_ne q p) [
+    | inr other ↦ ap (λ marks. note_of marks y) (row_other q other)
+    | inl e ↦ rw e (ap (λ marks. note_of marks y) row_here ∙ get_or-set_other (marks_of marks p) x y (Some j) None ne)
+  ]
+
+  pub set_long : (q : ℕ) → length (marks_of one_more q) ≡ length (marks_of marks q)
+  set_long q = elim (eq_or_ne q p) [
+    | inr other ↦ ap length (row_other q other)
+    | inl e ↦ rw e (ap length row_here ∙ length-set (marks_of marks p) x (Some j))
+  ]
+
+  pub set_for_entries : {l : Lists} → AreMarksFor l marks → AreMarksFor l one_more
+  set_for_entries f = record { one_each = length-set marks p (set (marks_of marks p) x (Some j)) ∙ f.one_each; as_long = λ q. set_long q ∙ f.as_long q }
+
+  set_cases_at : (q y : ℕ) → ((q ≡ p) × (y ≡ x)) ⊎ ((q ≢ p) ⊎ (y ≢ x))
+  set_cases_at q y = elim (eq_or_ne q p) [
+    | inr ne ↦ inr (inl ne)
+    | inl e ↦ elim (eq_or_ne y x) [ inr ne ↦ inr (inr ne) | inl f ↦ inl (e, f) ]
+  ]
+
+-- spans
+pub span_start : {l : Lists} (r better j : ℕ) (marks : List (List (Option ℕ))) → AreMarksFor l marks → IsSpanMarked l r better (better + 1) j marks marks
+span_start r better j marks f = record { for_entries = f; marked = λ p x w. absurd (omega (arith, w.behind, w.before)); only = λ p x. inl refl }
+
+module _ {l : Lists} (h : IsMarket l) where
+  returns_to : (r k : ℕ) → k < length (row l.reviewers r) → let p = entry l.reviewers r k in place_of l.proposers p r < length (row l.proposers p)
+  returns_to r k on = h.reviewers.returned r k on
+
+  span_wider : {r better k p x : ℕ} → IsSpan l r better k p x → IsSpan l r better (k + 1) p x
+  span_wider w = record { place = w.place; behind = w.behind; before = omega (arith, w.before); proposer = w.proposer; at = w.at }
+
+  pub span_more : {r better k j : ℕ} {before marks : List (List (Option ℕ))} → IsSpanMarked l r better k j before marks → better < k → k < length (row l.reviewers r)
+      → let p = entry l.reviewers r k in IsSpanMarked l r better (k + 1) j before (set marks p (set (marks_of marks p) (place_of l.proposers p r) (Some j)))
+  span_more {r} {better} {k} {j} {before} {marks} m low on =
+      let p : ℕ = entry l.reviewers r k in
+      let x : ℕ = place_of l.proposers p r in
+      let in_range : p < length marks = omega (arith, m.for_entries.one_each, h.reviewers.in_range r k on) in
+      let here : x < length (marks_of marks p) = omega (arith, m.for_entries.as_long p, returns_to r k on) in
+      record {
+        for_entries = set_for_entries marks p x j in_range here m.for_entries;
+        marked = λ q y w. elim (set_cases_at marks p x j in_range here q y) [
+          | inl e ↦ rw (e.0, e.1) (set_here marks p x j in_range here)
+          | inr ne ↦ set_elsewhere marks p x j in_range here q y ne ∙ m.marked q y (record {
+            place = w.place;
+            behind = w.behind;
+            proposer = w.proposer;
+            at = w.at;
+            before = elim (eq_or_ne w.place k) [
+              | inr other ↦ omega (arith, w.before)
+              | inl same ↦ absurd (elsewhere q y w same ne)
+            ];
+          })
+        ];
+        only = λ q y. elim (set_cases_at marks p x j in_range here q y) [
+          | inl e ↦ inr (rw (e.0, e.1) (set_here marks p x j in_range here), record { place = k; behind = low; before = omega arith; proposer = e.0; at = e.1 ∙ ap (λ p. place_of l.proposers p r) (sym e.0) })
+          | inr ne ↦ elim (m.only q y) [
+            | inl same ↦ inl (set_elsewhere marks p x j in_range here q y ne ∙ same)
+            | inr w ↦ inr (set_elsewhere marks p x j in_range here q y ne ∙ w.0, span_wider w.1)
+          ]
+        ];
+      }
+    where
+      elsewhere : (q y : ℕ) (w : IsSpan l r better (k + 1) q y) → w.place ≡ k → (q ≢ entry l.reviewers r k) ⊎ (y ≢ place_of l.proposers (entry l.reviewers r k) r) → ⊥
+      elsewhere q y w same (inl ne) = ne (w.proposer ∙ ap (entry l.reviewers r) same)
+      elsewhere q y w same (inr ne) = ne (w.at ∙ ap (λ p. place_of l.proposers p r) (w.proposer ∙ ap (entry l.reviewers r) same))
+
+  -- the entries over which one pair moves its reviewer are a span
+  over_of_span : (rotation : List (ℕ × ℕ)) (i : ℕ) {better old p x : ℕ} → let r = target_at rotation i in
+      better ≡ place_of l.reviewers r (proposer_at rotation i) → old ≡ place_of l.reviewers r (proposer_at rotation (next_in rotation i)) → old ≤ length (row l.reviewers r)
+      → IsSpan l r better old p x → MovesOver l rotation (i + 1) p x
+  over_of_span rotation i {better} {old} {p} {x} low high fits w =
+      let r : ℕ = target_at rotation i in
+      let on : w.place < length (row l.reviewers r) = omega (arith, w.before) in
+      let rank : place_of l.reviewers r p ≡ w.place = rw w.proposer (entry_place h.reviewers r w.place on) in
+      let listed : place_of l.proposers p r < length (row l.proposers p) = rw w.proposer (returns_to r w.place on) in
+      let is : entry l.proposers p x ≡ r = rw w.at (place_entry l.proposers p r listed) in
+      record { pair = i; pair_in = omega arith; reviewer = sym is; gains = rw is (omega (arith, rank, w.behind)); loses = rw is (omega (arith, rank, w.before)) }
+
+  span_of_over : (rotation : List (ℕ × ℕ)) {better old p x : ℕ} (i : ℕ) → let r = target_at rotation i in
+      better ≡ place_of l.reviewers r (proposer_at rotation i) → old ≡ place_of l.reviewers r (proposer_at rotation (next_in rotation i))
+      → x < length (row l.proposers p) → r ≡ entry l.proposers p x
+      → place_of l.reviewers (entry l.proposers p x) (proposer_at rotation i) < place_of l.reviewers (entry l.proposers p x) p
+      → place_of l.reviewers (entry l.proposers p x) p < place_of l.reviewers (entry l.proposers p x) (proposer_at rotation (next_in rotation i))
+      → IsSpan l r better old p x
+  span_of_over rotation {better} {old} {p} {x} i low high on is gains loses =
+      let r : ℕ = target_at rotation i in
+      let gains' : place_of l.reviewers r (proposer_at rotation i) < place_of l.reviewers r p = rw is gains in
+      let loses' : place_of l.reviewers r p < place_of l.reviewers r (proposer_at rotation (next_in rotation i)) = rw is loses in
+      let listed : place_of l.reviewers r p < length (row l.reviewers r) = rw is (h.proposers.returned p x on) in
+      record {
+        place = place_of l.reviewers r p;
+        behind = omega arith;
+        before = omega arith;
+        proposer = sym (place_entry l.reviewers r p listed);
+        at = sym (ap (place_of l.proposers p) is ∙ entry_place h.proposers p x on);
+      }
+
+  pub marked_start : (rotation : List (ℕ × ℕ)) (j : ℕ) (marks : List (List (Option ℕ))) → AreMarksFor l marks → AreMarked l rotation 0 j marks marks
+  marked_start rotation j marks f = record { for_entries = f; marked = λ p x _ w. absurd (omega (arith, w.pair_in)); only = λ p x. inl refl }
+
+  over_wider : {rotation : List (ℕ × ℕ)} {n p x : ℕ} → MovesOver l rotation n p x → MovesOver l rotation (n + 1) p x
+  over_wider w = record { pair = w.pair; pair_in = omega (arith, w.pair_in); reviewer = w.reviewer; gains = w.gains; loses = w.loses }
+
+  pub marked_more : {rotation : List (ℕ × ℕ)} {i j : ℕ} {before marks after : List (List (Option ℕ))} (better old : ℕ) → let r = target_at rotation i in
+      better ≡ place_of l.reviewers r (proposer_at rotation i) → old ≡ place_of l.reviewers r (proposer_at rotation (next_in rotation i)) → old ≤ length (row l.reviewers r)
+      → AreMarked l rotation i j before marks → IsSpanMarked l r better old j marks after → AreMarked l rotation (i + 1) j before after
+  marked_more {rotation} {i} {j} {before} {marks} {after} better old low high fits m s = record {
+    for_entries = s.for_entries;
+    marked = λ p x on w. elim (eq_or_ne w.pair i) [
+      | inl e ↦ s.marked p x (span_of_over rotation i low high on (rw e at w.reviewer) (rw e at w.gains) (rw e at w.loses))
+      | inr e ↦ elim (s.only p x) [
+        | inr v ↦ v.0
+        | inl same ↦ same ∙ m.marked p x on (record { pair = w.pair; pair_in = omega (arith, w.pair_in); reviewer = w.reviewer; gains = w.gains; loses = w.loses })
+      ]
+    ];
+    only = λ p x. elim (s.only p x) [
+      | inr v ↦ inr (v.0, over_of_span rotation i low high fits v.1)
+      | inl same ↦ elim (m.only p x) [
+        | inl same' ↦ inl (same ∙ same')
+        | inr v ↦ inr (same ∙ v.0, over_wider v.1)
+      ]
+    ];
+  }
+
+  pub marked_step : {rotation : List (ℕ × ℕ)} {i j : ℕ} {before marks after : List (List (Option ℕ))} (r better old : ℕ) → r ≡ target_at rotation i
+      → better ≡ place_of l.reviewers (target_at rotation i) (proposer_at rotation i) → old ≡ place_of l.reviewers (target_at rotation i) (proposer_at rotation (next_in rotation i)) → old ≤ length (row l.reviewers r)
+      → AreMarked l rotation i j before marks → IsSpanMarked l r better old j marks after → AreMarked l rotation (i + 1) j before after
+  marked_step {rotation} {i} {j} {before} {marks} {after} r better old is low high fits m s =
+      let fits' : old ≤ length (row l.reviewers (target_at rotation i)) = rw is at fits in
+      let s' : IsSpanMarked l (target_at rotation i) better old j marks after = rw is at s in
+      marked_more better old low high fits' m s'
+
+-- notes
+pub moved_start : (rotation : List (ℕ × ℕ)) (j : ℕ) (notes : List (Option ℕ)) → AreMoved rotation 0 j notes notes
+moved_start rotation j notes = record { one_each = refl; moved = λ i less. absurd (omega arith); only = λ p. inl refl }
+
+moves_wider : {rotation : List (ℕ × ℕ)} {n p : ℕ} → Moves rotation n p → Moves rotation (n + 1) p
+moves_wider w = record { pair = w.pair; pair_in = omega (arith, w.pair_in); is = w.is }
+
+pub moved_more : {rotation : List (ℕ × ℕ)} {i j : ℕ} {before notes : List (Option ℕ)} (p : ℕ) → p ≡ proposer_at rotation i → p < length notes → AreMoved rotation i j before notes → AreMoved rotation (i + 1) j before (set notes p (Some j))
+moved_more {rotation} {i} {j} {before} {notes} p is in_range m = record {
+  one_each = length-set notes p (Some j) ∙ m.one_each;
+  moved = λ k less. elim (eq_or_ne (proposer_at rotation k) p) [
+    | inl e ↦ rw e (get_or-set_same notes p (Some j) None in_range)
+    | inr ne ↦ get_or-set_other notes p (proposer_at rotation k) (Some j) None ne ∙ m.moved k (elim (eq_or_ne k i) [ inl e ↦ absurd (ne (ap (proposer_at rotation) e ∙ sym is)) | inr e ↦ omega arith ])
+  ];
+  only = λ q. elim (eq_or_ne q p) [
+    | inl e ↦ inr (rw e (get_or-set_same notes p (Some j) None in_range), record { pair = i; pair_in = omega arith; is = sym is ∙ sym e })
+    | inr ne ↦ elim (m.only q) [
+      | inl same ↦ inl (get_or-set_other notes p q (Some j) None ne ∙ same)
+      | inr w ↦ inr (get_or-set_other notes p q (Some j) None ne ∙ w.0, moves_wider w.1)
+    ]
+  ];
+}
+
+-- collecting
+pub adds_none : (P : ℕ → Type 0) (xs : List ℕ) → ((i : ℕ) → P i → ⊥) → Adds P xs xs
+adds_none P xs none = record { kept = λ i w. w; added = λ i w. absurd (none i w); only = λ i w. inl w }
+
+pub adds_one : (P : ℕ → Type 0) (xs : List ℕ) (x : ℕ) → P x → ((i : ℕ) → P i → i ≡ x) → Adds P xs (xs ++ x ∷ [])
+adds_one P xs x here one = record {
+  kept = λ i w. Contains-append_left xs (x ∷ []) i w;
+  added = λ i w. rw (one i w) (Contains-append_right xs (x ∷ []) x (0, omega arith, refl));
+  only = λ i w. elim (Contains-append_cases xs (x ∷ []) i w) [
+    | inl v ↦ inl v
+    | inr v ↦ inr (rw (single x i v) here)
+  ];
+}
+  where
+    single : (x i : ℕ) → Contains (x ∷ []) i → i ≡ x
+    single x i v = go v.0 v.1 v.2
+      where
+        go : (k : ℕ) → k < 1 → slice_index_or (x ∷ []) k i ≡ i → i ≡ x
+        go zero _ e = sym e
+        go (suc k) less e = absurd (omega arith)
+
+pub adds_join : {P Q : ℕ → Type 0} (R : ℕ → Type 0) {xs ys zs : List ℕ} → Adds P xs ys → Adds Q ys zs → ((i : ℕ) → P i → R i) → ((i : ℕ) → Q i → R i) → ((i : ℕ) → R i → P i ⊎ Q i) → Adds R xs zs
+adds_join R a b p q back = record {
+  kept = λ i w. b.kept i (a.kept i w);
+  added = λ i w. elim (back i w) [ inl v ↦ b.kept i (a.added i v) | inr v ↦ b.added i v ];
+  only = λ i w. elim (b.only i w) [
+    | inr v ↦ inr (q i v)
+    | inl v ↦ elim (a.only i v) [ inl u ↦ inl u | inr u ↦ inr (p i u) ]
+  ];
+}
+
+-- what stands between two places, place by place
+pub between_start : (marks : List (Option ℕ)) (from : ℕ) (xs : List ℕ) → Adds (λ i. IsBetween marks from (from + 1) i) xs xs
+between_start marks from xs = adds_none _ xs (λ i w. omega (arith, w.behind, w.before))
+
+between_wider : {marks : List (Option ℕ)} {from to i : ℕ} → IsBetween marks from to i → IsBetween marks from (to + 1) i
+between_wider w = record { place = w.place; behind = w.behind; before = omega (arith, w.before); marked = w.marked }
+
+between_split : {marks : List (Option ℕ)} {from to : ℕ} (i : ℕ) → IsBetween marks from (to + 1) i → IsBetween marks from to i ⊎ (note_of marks to ≡ Some i)
+between_split {marks} {from} {to} i w = elim (eq_or_ne w.place to) [
+  | inl e ↦ inr (rw e at w.marked)
+  | inr e ↦ inl (record { place = w.place; behind = w.behind; before = omega (arith, w.before); marked = w.marked })
+]
+
+some_same : {x y : ℕ} → Some x ≡ Some y → x ≡ y
+some_same e = cc
+
+none_some : {x : ℕ} → ◌≡◌ {A = Option ℕ} None (Some x) → ⊥
+none_some e = grind arith
+
+pub between_some : {marks : List (Option ℕ)} {from to : ℕ} {xs ys : List ℕ} (x : ℕ) → from < to → note_of marks to ≡ Some x → Adds (λ i. IsBetween marks from to i) xs ys → Adds (λ i. IsBetween marks from (to + 1) i) xs (ys ++ x ∷ [])
+between_some {marks} {from} {to} {xs} {ys} x low is a =
+    adds_join (λ i. IsBetween marks from (to + 1) i) a (adds_one (λ i. note_of marks to ≡ Some i) ys x is (λ i e. some_same (sym e ∙ is)))
+    (λ i w. between_wider w)
+    (λ i e. record { place = to; behind = low; before = omega arith; marked = e })
+    between_split
+
+pub between_none : {marks : List (Option ℕ)} {from to : ℕ} {xs ys : List ℕ} → note_of marks to ≡ None → Adds (λ i. IsBetween marks from to i) xs ys → Adds (λ i. IsBetween marks from (to + 1) i) xs ys
+between_none {marks} {from} {to} {xs} {ys} is a =
+    adds_join (λ i. IsBetween marks from (to + 1) i) a (adds_none (λ i. note_of marks to ≡ Some i) ys (λ i e. none_some (sym is ∙ e)))
+    (λ i w. between_wider w)
+    (λ i e. absurd (none_some (sym is ∙ e)))
+    between_split
+
+-- what the pairs of a rotation are found to need, pair by pair
+module _ {l : Lists} {rotation : List (ℕ × ℕ)} {notes : List (Option ℕ)} {marks : List (List (Option ℕ))} where
+  found_wider : {n i : ℕ} → IsFound l rotation n notes marks i → IsFound l rotation (n + 1) notes marks i
+  found_wider (inl w) = inl (record { pair = w.pair; pair_in = omega (arith, w.pair_in); noted = w.noted })
+  found_wider (inr w) = inr (record { pair = w.pair; pair_in = omega (arith, w.pair_in); between = w.between })
+
+  pub found_start : (xs : List ℕ) → Adds (λ i. IsFound l rotation 0 notes marks i) xs xs
+  found_start xs = adds_none _ xs none
+    where
+      none : (i : ℕ) → IsFound l rotation 0 notes marks i → ⊥
+      none i (inl w) = omega (arith, w.pair_in)
+      none i (inr w) = omega (arith, w.pair_in)
+
+  module _ {n : ℕ} (p : ℕ) (is : p ≡ proposer_at rotation n) {from to : ℕ} (from_is : from ≡ place_of l.proposers p (reviewer_at rotation n)) (to_is : to ≡ place_of l.proposers p (target_at rotation n)) where
+    pub found_more : {xs ys zs ws : List ℕ} → Adds (λ i. IsFound l rotation n notes marks i) xs ys → Adds (λ i. note_of notes p ≡ Some i) ys zs → Adds (λ i. IsBetween (marks_of marks p) from to i) zs ws
+        → Adds (λ i. IsFound l rotation (n + 1) notes marks i) xs ws
+    found_more a b c = adds_join (λ i. IsFound l rotation (n + 1) notes marks i)
+        (adds_join (λ i. IsFound l rotation n notes marks i ⊎ (note_of notes p ≡ Some i)) a b (λ i w. inl w) (λ i w. inr w) (λ i w. w))
+        c
+        forth
+        (λ i w. inr (record { pair = n; pair_in = omega arith; between = rw (← is, ← from_is, ← to_is) w }))
+        back
+      where
+        forth : (i : ℕ) → IsFound l rotation n notes marks i ⊎ (note_of notes p ≡ Some i) → IsFound l rotation (n + 1) notes marks i
+        forth i (inl w) = found_wider w
+        forth i (inr e) = inl (record { pair = n; pair_in = omega arith; noted = rw (← is) e })
+
+        back : (i : ℕ) → IsFound l rotation (n + 1) notes marks i → (IsFound l rotation n notes marks i ⊎ (note_of notes p ≡ Some i)) ⊎ IsBetween (marks_of marks p) from to i
+        back i (inl w) = elim (eq_or_ne w.pair n) [
+          | inl e ↦ inl (inr (ap (note_of notes) (is ∙ ap (proposer_at rotation) (sym e)) ∙ w.noted))
+          | inr e ↦ inl (inl (inl (record { pair = w.pair; pair_in = omega (arith, w.pair_in); noted = w.noted })))
+        ]
+        back i (inr w) = elim (eq_or_ne w.pair n) [
+          | inl e ↦ inr (rw (from_is, to_is, is) (rw e at w.between))
+          | inr e ↦ inl (inl (inr (record { pair = w.pair; pair_in = omega (arith, w.pair_in); between = w.between })))
+        ]
+
+-- sorted and without repeats
+rises : (xs : List ℕ) → IsStrictlyIncreasing xs → (a b : ℕ) → a < b → b < length xs → slice_index xs a < slice_index xs b
+rises xs up a zero less inside = absurd (omega arith)
+rises xs up a (suc b) less inside =
+    let last : slice_index xs b < slice_index xs (suc b) = let e : b + 1 ≡ suc b = omega arith in rw e at (up b (omega arith)) in
+    elim (eq_or_ne a b) [
+      | inl e ↦ rw e last
+      | inr e ↦ omega (arith, rises xs up a b (omega arith) (omega arith))
+    ]
+
+pub rising_of : (P : ℕ → Type 0) (xs ys : List ℕ) → Adds P [] xs → IsPermutation xs ys → IsSorted nat_cmp ys → IsRisingListOf P (dedup eqb ys)
+rising_of P xs ys a permuted sorted = record {
+  rising = rises (dedup eqb ys) (IsStrictlyIncreasing-dedup ys sorted);
+  sound = λ b less.
+      let x : ℕ = slice_index (dedup eqb ys) b in
+      let there : Contains ys x = Contains-from_dedup eqb ys x (b, less, read (dedup eqb ys) b x less) in
+      elim (a.only x (Contains-permutation ys xs x (IsPermutation-sym xs ys permuted) there)) [
+        | inl w ↦ absurd (omega (arith, w.1))
+        | inr w ↦ w
+      ];
+  all = λ i w. Contains-dedup_nat ys i (Contains-permutation xs ys i permuted (a.added i w));
+}
+  where
+    read : (xs : List ℕ) (b d : ℕ) → b < length xs → slice_index_or xs b d ≡ slice_index xs b
+    read xs b d less = get_or_default xs b d 0 less
+
+pub rising_at : (P : ℕ → Type 0) (xs ys list : List ℕ) → list ≡ dedup eqb ys → Adds P [] xs → IsPermutation xs ys → IsSorted nat_cmp ys → IsRisingListOf P list
+rising_at P xs ys list e a permuted sorted = rw e (rising_of P xs ys a permuted sorted)

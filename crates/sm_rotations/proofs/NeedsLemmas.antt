@@ -1,0 +1,114 @@
+-- What the steps of `needs` read and write.
+use Rattle.std.proofs.Common.{◌≡◌, ℕ, suc, ◌+◌, ◌<◌, ◌≤◌, ◌⊎◌, inl, inr, arith, refl, sym, ap, ◌∙◌, List, [], ◌∷◌, ◌++◌, Vec, Result, Ok, Err, length, map, Option, None, Some, get_or, set, replicate, eqb}
+use Rattle.std.specs.Result.{IfOk}
+use Rattle.std.specs.Vec.{with_item}
+use Rattle.std.specs.declared.alloc.Global.{Global}
+use Rattle.std.proofs.lemmas.Bool.{cases_lt}
+use Rattle.std.proofs.lemmas.List.{get_or-map, map-set, get_or_past, get_or-replicate, length-replicate, length_push, length-map}
+use Rattle.sm_market.specs.Lists.{Lists, row, entry, place_of, IsMarket}
+use Rattle.sm_market.specs.Vectors.{rows_of}
+use Rattle.sm_market.specs.Matching.{Places, held, standing, IsMatching}
+use Rattle.sm_market.specs.Stable.{IsStable}
+use Rattle.sm_market.proofs.Counting.{lt_or_le, eq_or_ne}
+use Rattle.sm_market.proofs.ListLemmas.{push_cases}
+use Rattle.sm_market.proofs.PairingLemmas.{held_in_range}
+use Rattle.sm_market.proofs.Bridge.{place_entry}
+use Rattle.sm_theory.specs.Rotations.{IsExposed, proposer_at, reviewer_at, target_at, next_in, eliminated}
+use Rattle.sm_theory.specs.Chains.{rotation_at, stage, IsCompleteChain, AreNeedsOf}
+use Rattle.sm_theory.specs.Values.{rotations_of}
+use Rattle.sm_theory.specs.declared.rotations.Rotation.{Rotation}
+use Rattle.sm_theory.proofs.CoreCycle.{turn, turn_in}
+use Rattle.sm_theory.proofs.BridgeRotation.{exposed_of}
+use Rattle.sm_rotations.specs.Marking.{marks_in, note_of, marks_of, mark_at, AreLastMoves, AreMarks, AreMarksFor}
+
+-- the items of a vector of marks, read and written
+pub marks_read : (marks : List (Vec (Option ℕ) Global)) (p : ℕ) (v : Vec (Option ℕ) Global) → p < length marks → v ≡ get_or marks p v → v.items ≡ marks_of (marks_in marks) p
+marks_read marks p v inside is = ap (λ (v : Vec (Option ℕ) Global). v.items) is ∙ sym (get_or-map (λ (v : Vec (Option ℕ) Global). v.items) marks p v [] inside)
+
+pub marks_written : (marks : List (Vec (Option ℕ) Global)) (p x : ℕ) (j : Option ℕ) (d : Vec (Option ℕ) Global) → p < length marks
+    → marks_in (set marks p (with_item (get_or marks p d) x j)) ≡ set (marks_in marks) p (set (marks_of (marks_in marks) p) x j)
+marks_written marks p x j d inside =
+    map-set (λ (v : Vec (Option ℕ) Global). v.items) marks p (with_item (get_or marks p d) x j)
+    ∙ ap (λ row. set (marks_in marks) p (set row x j)) (sym (get_or-map (λ (v : Vec (Option ℕ) Global). v.items) marks p d [] inside))
+
+-- the pairs of a rotation that is held in a value
+pub pairs_read : (rotations : List Rotation) (j : ℕ) (r : Rotation) → j < length rotations → r ≡ get_or rotations j r → r.pairs.items ≡ rotation_at (rotations_of rotations) j
+pairs_read rotations j r inside is = ap (λ (r : Rotation). r.pairs.items) is ∙ sym (get_or-map (λ (r : Rotation). r.pairs.items) rotations j r [] inside)
+
+pub as_many : (rotations : List Rotation) → length (rotations_of rotations) ≡ length rotations
+as_many rotations = length-map rotations (λ (r : Rotation). r.pairs.items)
+
+pub as_many_marks : (marks : List (Vec (Option ℕ) Global)) → length (marks_in marks) ≡ length marks
+as_many_marks marks = length-map marks (λ (v : Vec (Option ℕ) Global). v.items)
+
+-- nothing noted and nothing marked
+pub last_start : (rotations : List (List (ℕ × ℕ))) (notes : List (Option ℕ)) → ((p : ℕ) → note_of notes p ≡ None) → AreLastMoves rotations 0 notes
+last_start rotations notes none = record {
+  below = λ p i e. let n = none p in absurd cc;
+  moves = λ p i e. let n = none p in absurd cc;
+  last = λ p i k e less below w. omega arith;
+  noted = λ p i below w. absurd (omega arith);
+}
+
+pub marks_start : {l : Lists} {rotations : List (List (ℕ × ℕ))} {marks : List (List (Option ℕ))} → AreMarksFor l marks → ((p x : ℕ) → mark_at marks p x ≡ None) → AreMarks l rotations 0 marks
+marks_start f none = record {
+  for_entries = f;
+  below = λ p x i e. let n = none p x in absurd cc;
+  moves = λ p x i e. let n = none p x in absurd cc;
+  all = λ p x i on below w. absurd (omega arith);
+}
+
+pub none_noted : (n p : ℕ) → note_of (replicate n None) p ≡ None
+none_noted n p = elim (lt_or_le p n) [
+  | inl h ↦ get_or-replicate n p None None h
+  | inr h ↦ get_or_past (replicate n None) p None (omega (arith, length-replicate {A = Option ℕ} n None))
+]
+
+module _ {l : Lists} (h : IsMarket l) {m : Places} {pairs : List (ℕ × ℕ)} (f : IsMatching l m) (x : IsExposed l m pairs) where
+  pub in_range : (i : ℕ) → i < length pairs → proposer_at pairs i < length l.proposers
+  in_range i a = held_in_range f.proposers (proposer_at pairs i) (place_of l.proposers (proposer_at pairs i) (reviewer_at pairs i)) (x.paired i a)
+
+  -- the reviewer to which a pair moves, its place before and its place behind
+  module _ (i : ℕ) (a : i < length pairs) {p to r : ℕ} (is : p ≡ proposer_at pairs i) (to_is : to ≡ place_of l.proposers p (target_at pairs i)) (on : to < length (row l.proposers p)) (r_is : r ≡ entry l.proposers p to) where
+    pub target_is : r ≡ target_at pairs i
+    target_is = r_is ∙ ap (entry l.proposers p) to_is ∙ place_entry l.proposers p (target_at pairs i) (omega arith)
+
+    pub better_is : (better : ℕ) → better ≡ place_of l.reviewers (entry l.proposers p to) p → better ≡ place_of l.reviewers (target_at pairs i) (proposer_at pairs i)
+    better_is better e = rw (← is, ← target_is, r_is) e
+
+    pub worse_is : (worse : ℕ) → worse ≡ standing l.reviewers m.reviewers r → worse ≡ place_of l.reviewers (target_at pairs i) (proposer_at pairs (next_in pairs i))
+    worse_is worse e =
+        let pair = (exposed_of h f x).paired (turn (length pairs) i) (turn_in (length pairs) i a) in
+        let rank : place_of l.reviewers (target_at pairs i) (proposer_at pairs (next_in pairs i)) ≡ standing l.reviewers m.reviewers (target_at pairs i) = pair.rank_is in
+        e ∙ ap (standing l.reviewers m.reviewers) target_is ∙ sym rank
+
+    pub gains : place_of l.reviewers (entry l.proposers p to) p < standing l.reviewers m.reviewers r
+    gains =
+        let takes = ((exposed_of h f x).next i a).takes in
+        rw (target_is, ← r_is, target_is, is) takes
+
+-- a stage and the rotation exposed at it
+module _ {l : Lists} {first m : Places} {rotations : List (List (ℕ × ℕ))} (chain : IsCompleteChain l first rotations) {j : ℕ} (inside : j < length rotations) (is : m ≡ stage l first rotations j) where
+  pub exposed_here : (pairs : List (ℕ × ℕ)) → pairs ≡ rotation_at rotations j → IsExposed l m pairs
+  exposed_here pairs e = rw (is, e) (chain.exposed j inside)
+
+  pub next_stage : {n : Places} (pairs : List (ℕ × ℕ)) → pairs ≡ rotation_at rotations j → n ≡ eliminated l m pairs → n ≡ stage l first rotations (j + 1)
+  next_stage pairs e n_is = let same : j + 1 ≡ suc j = omega arith in rw same (n_is ∙ ap (λ m. eliminated l m pairs) is ∙ ap (eliminated l (stage l first rotations j)) e)
+
+pub IfOk-more : {X E : Type 0} (r : Result X E) (P Q : X → Type 0) → ((x : X) → P x → Q x) → IfOk r P → IfOk r Q
+IfOk-more (Ok x) P Q f p = f x p
+IfOk-more (Err e) P Q f p = tt
+
+-- one more list of needs
+pub needs_push : {l : Lists} {rotations : List (List (ℕ × ℕ))} (needs : List (Vec ℕ Global)) (v : Vec ℕ Global) (j : ℕ) → length needs ≡ j → ((k : ℕ) → k < j → AreNeedsOf l rotations k (row (rows_of needs) k)) → AreNeedsOf l rotations j v.items
+    → (k : ℕ) → k < j + 1 → AreNeedsOf l rotations k (row (rows_of (needs ++ v ∷ [])) k)
+needs_push {l} {rotations} needs v j long before new k less = rw row_is (push_cases (λ k (v : Vec ℕ Global). AreNeedsOf l rotations k v.items) needs v v (rw long new) (λ k inside. rw (← row_before k inside) (before k (omega (arith, long)))) k within)
+  where
+    within : k < length (needs ++ v ∷ [])
+    within = omega (arith, length_push needs v, long)
+
+    row_before : (k : ℕ) → k < length needs → row (rows_of needs) k ≡ (get_or needs k v).items
+    row_before k inside = get_or-map (λ (v : Vec ℕ Global). v.items) needs k v [] inside
+
+    row_is : row (rows_of (needs ++ v ∷ [])) k ≡ (get_or (needs ++ v ∷ []) k v).items
+    row_is = get_or-map (λ (v : Vec ℕ Global). v.items) (needs ++ v ∷ []) k v [] within

@@ -1,0 +1,58 @@
+//! Eliminating a rotation.
+
+ghost use Rattle.std.specs.Prelude.{◌≡◌, length, IfOk, OnOk};
+ghost use Rattle.sm_market.specs.Lists.{IsMarket};
+ghost use Rattle.sm_market.specs.Stable.{IsStable};
+ghost use Rattle.sm_market.specs.Pairing.{IsPairingOf};
+ghost use Rattle.sm_theory.specs.Rotations.{IsExposed, eliminated};
+
+use sm_market::{Market, Pairing, PairingFault};
+use sm_theory::Rotation;
+use std::alloc::{AllocError, Global};
+
+/// Moves each proposer of a rotation to the reviewer of the next pair, and the last one to that of the first pair. What
+/// comes out is stable again.
+///
+/// The pairing has to be stable and made for a market of these lists, and the rotation exposed at it. Takes no memory,
+/// and time in proportion to the rotation and to the places by which its proposers move down their lists
+/// (Gusfield and Irving 1989, section 2.5).
+pub fn eliminate(market: &Market, m: &mut Pairing, rotation: &Rotation)
+    requires made { IsPairingOf market.now m.old }
+    requires stable { IsStable market.now m.old.places }
+    requires exposed { IsExposed market.now m.old.places rotation.now.pairs.items }
+    ensures made { IsPairingOf market.now m.new }
+    ensures moved { m.new.places ≡ eliminated market.now m.old.places rotation.now.pairs.items }
+    ensures stable { IsStable market.now m.new.places }
+{
+    prove!(market.proposers() < 1 << 24);
+    m.turn(market, &rotation.pairs);
+}
+
+/// A pairing with the same partners.
+pub(crate) fn copy_of(alloc: Global, market: &Market, m: &Pairing) -> Result<Pairing, AllocError>
+    requires made { IsPairingOf market.now m.now }
+    ensures made { IfOk result (λ copy. IsPairingOf market.now copy) }
+    ensures same { IfOk result (λ copy. copy.places ≡ m.now.places) }
+    ensures market { OnOk result (IsMarket market.now) }
+{
+    let mut places = vec![in alloc; None; market.proposers() as usize]?;
+    write_places(market, m, &mut places);
+    match Pairing::of(alloc, market, &places) {
+        Ok(copy) => Ok(copy),
+        Err(PairingFault::OutOfMemory) => Err(AllocError),
+        Err(PairingFault::WrongLength) => unreachable!(),
+        Err(PairingFault::OutOfRange(_)) => unreachable!(),
+        Err(PairingFault::Taken(_)) => unreachable!(),
+    }
+}
+
+/// Writes the place that each proposer of a pairing holds.
+fn write_places(market: &Market, m: &Pairing, places: &mut [Option<u32>])
+    requires made { IsPairingOf market.now m.now }
+    requires one_each { length places.old ≡ length market.now.proposers }
+    ensures { places.new ≡ m.now.places.proposers }
+{
+    for p in 0..market.proposers() {
+        places[p as usize] = m.place(p);
+    }
+}

@@ -1,0 +1,219 @@
+//! What each rotation of a chain needs: its predecessors.
+//!
+//! The rotations are taken in the order of the chain. Each proposer is noted with the last rotation that moved it, and
+//! each entry of a list with the rotation that moved its reviewer from somebody worse than the list's owner to somebody
+//! better. There is no more than one such rotation, since reviewers never go down.
+
+ghost use Rattle.std.specs.Prelude.{◌≡◌, ℕ, ◌<◌, ◌≤◌, ◌+◌, length, IfOk, OnOk, Some, None, slice_set};
+ghost use Rattle.sm_market.specs.Lists.{row, entry, place_of, IsMarket};
+ghost use Rattle.sm_market.specs.Vectors.{rows_of};
+ghost use Rattle.sm_market.specs.Pairing.{IsPairingOf};
+ghost use Rattle.sm_theory.specs.Rotations.{IsExposed, proposer_at, reviewer_at, target_at};
+ghost use Rattle.sm_theory.specs.Chains.{IsCompleteChain, AreNeedsOf};
+ghost use Rattle.sm_theory.specs.Values.{rotations_of};
+ghost use Rattle.sm_rotations.specs.Marking.{marks_in, marks_of, mark_at, note_of, AreMarksFor, AreMoved, AreMarked, IsSpanMarked, IsBetween, IsFound, Adds, IsRisingListOf};
+
+use crate::elimination::{copy_of, eliminate};
+use sm_market::{Market, Pairing};
+use sm_theory::{Chain, successor};
+use std::alloc::{AllocError, Global};
+
+/// How a rotation moves one of its proposers: from a place of its list down to another one.
+#[derive(Clone, Copy, Debug)]
+struct Move {
+    proposer: u32,
+    from: u32,
+    to: u32,
+}
+
+/// For each rotation of a complete chain the numbers of its predecessors, rising.
+///
+/// There are two kinds. A rotation that moves a proposer from a reviewer needs the one that moved it there. A rotation
+/// that moves a proposer past a reviewer of its list needs the one that moved that reviewer from somebody worse than the
+/// proposer to somebody better (Gusfield and Irving 1989, chapter 3, in a form of this project's own).
+///
+/// Rotations are numbered from 0. Any complete chain will do, and not only the one that [`crate::chain`] gives. Takes time
+/// in proportion to the agents and entries, up to a logarithm in the number of predecessors, and memory in proportion to
+/// the agents, the entries and the answer.
+///
+/// # Errors
+///
+/// `AllocError` where memory ran out, and only then.
+pub fn needs(alloc: Global, market: &Market, chain: &Chain) -> Result<Vec<Vec<u32>>, AllocError>
+    requires made { IsPairingOf market.now chain.now.first }
+    requires complete { IsCompleteChain market.now chain.now.first.places (rotations_of chain.now.rotations.items) }
+    ensures one_each { IfOk result (λ n. length n.items ≡ length chain.now.rotations.items) }
+    ensures needs { IfOk result (λ n. (j : ℕ) → j < length chain.now.rotations.items
+        → AreNeedsOf market.now (rotations_of chain.now.rotations.items) j (row (rows_of n.items) j)) }
+{
+    let rotations = chain.rotations.as_slice();
+    let mut m = copy_of(alloc, market, &chain.first)?;
+    let mut last = vec![in alloc; None; market.proposers() as usize]?;
+    let mut marks = no_marks(alloc, market)?;
+    let mut found = Vec::new(alloc);
+    let mut needs = Vec::with_capacity(alloc, rotations.len())?;
+    let last = last.as_mut_slice();
+    let marks = marks.as_mut_slice();
+    for j in 0..rotations.len() {
+        let rotation = &rotations[j];
+        let pairs = rotation.pairs.as_slice();
+        needs.push(needs_of(alloc, market, &m, pairs, last, marks, &mut found)?)?;
+        note_moves(market, &m, pairs, j as u32, last, marks);
+        eliminate(market, &mut m, rotation);
+    }
+    Ok(needs)
+}
+
+/// A place for a mark beside each entry of the proposers' lists, and no mark.
+fn no_marks(alloc: Global, market: &Market) -> Result<Vec<Vec<Option<u32>>>, AllocError>
+    ensures for_entries { IfOk result (λ marks. AreMarksFor market.now (marks_in marks.items)) }
+    ensures none { IfOk result (λ marks. (p x : ℕ) → mark_at (marks_in marks.items) p x ≡ None) }
+{
+    let mut marks = Vec::with_capacity(alloc, market.proposers() as usize)?;
+    for p in 0..market.proposers() {
+        marks.push(vec![in alloc; None; market.proposer_len(p) as usize]?)?;
+    }
+    Ok(marks)
+}
+
+/// How an exposed rotation moves the proposer of its pair `i`.
+fn move_of(market: &Market, m: &Pairing, pairs: &[(u32, u32)], i: usize) -> Move
+    requires market { IsMarket market.now }
+    requires made { IsPairingOf market.now m.now }
+    requires exposed { IsExposed market.now m.now.places pairs.now }
+    requires in_range { i < length pairs.now }
+    ensures proposer { result.proposer ≡ proposer_at pairs.now i }
+    ensures in_range { result.proposer < length market.now.proposers }
+    ensures from { result.from ≡ place_of market.now.proposers result.proposer (reviewer_at pairs.now i) }
+    ensures to { result.to ≡ place_of market.now.proposers result.proposer (target_at pairs.now i) }
+    ensures on_list { result.to < length (row market.now.proposers result.proposer) }
+    ensures down { result.from < result.to }
+{
+    let proposer = pairs[i].0;
+    let (Some(from), Some(to)) = (m.place(proposer), successor(market, m, proposer)) else {
+        unreachable!()
+    };
+    Move { proposer, from, to }
+}
+
+/// What a rotation needs, by what was noted of the rotations before it.
+fn needs_of(
+    alloc: Global,
+    market: &Market,
+    m: &Pairing,
+    pairs: &[(u32, u32)],
+    last: &[Option<u32>],
+    marks: &[Vec<Option<u32>>],
+    found: &mut Vec<u32>,
+) -> Result<Vec<u32>, AllocError>
+    requires market { IsMarket market.now }
+    requires made { IsPairingOf market.now m.now }
+    requires exposed { IsExposed market.now m.now.places pairs.now }
+    requires one_each { length last.now ≡ length market.now.proposers }
+    requires for_entries { AreMarksFor market.now (marks_in marks.now) }
+    ensures { IfOk result (λ needs. IsRisingListOf
+        (λ i. IsFound market.now pairs.now (length pairs.now) last.now (marks_in marks.now) i)
+        needs.items) }
+{
+    found.clear();
+    for i in 0..pairs.len() {
+        let moved = move_of(market, m, pairs, i);
+        add_last(last[moved.proposer as usize], found)?;
+        add_between(&marks[moved.proposer as usize], moved.from, moved.to, found)?;
+    }
+    found.sort_unstable();
+    found.dedup();
+    Vec::from_slice(alloc, found)
+}
+
+/// Adds the rotation that is noted, if any.
+fn add_last(last: Option<u32>, found: &mut Vec<u32>) -> Result<(), AllocError>
+    ensures { OnOk result (Adds (λ i. last ≡ Some i) found.old.items found.new.items) }
+{
+    if let Some(i) = last {
+        found.push(i)?;
+    }
+    Ok(())
+}
+
+/// Adds the rotations that are marked behind one place and before another.
+fn add_between(
+    marks: &[Option<u32>],
+    from: u32,
+    to: u32,
+    found: &mut Vec<u32>,
+) -> Result<(), AllocError>
+    requires down { from < to }
+    requires on_list { to ≤ length marks.now }
+    ensures { OnOk result (Adds (λ i. IsBetween marks.now from to i) found.old.items found.new.items) }
+{
+    for place in from + 1..to {
+        if let Some(i) = marks[place as usize] {
+            found.push(i)?;
+        }
+    }
+    Ok(())
+}
+
+/// Notes a rotation with each proposer that it moves, and marks each entry over which it moves the entry's reviewer.
+fn note_moves(
+    market: &Market,
+    m: &Pairing,
+    pairs: &[(u32, u32)],
+    j: u32,
+    last: &mut [Option<u32>],
+    marks: &mut [Vec<Option<u32>>],
+)
+    requires market { IsMarket market.now }
+    requires made { IsPairingOf market.now m.now }
+    requires exposed { IsExposed market.now m.now.places pairs.now }
+    requires one_each { length last.old ≡ length market.now.proposers }
+    requires for_entries { AreMarksFor market.now (marks_in marks.old) }
+    ensures moved { AreMoved pairs.now (length pairs.now) j last.old last.new }
+    ensures marked { AreMarked market.now pairs.now (length pairs.now) j
+        (marks_in marks.old) (marks_in marks.new) }
+{
+    for i in 0..pairs.len() {
+        let moved = move_of(market, m, pairs, i);
+        last[moved.proposer as usize] = Some(j);
+        let r = market.reviewer_at(moved.proposer, moved.to);
+        let better = market.cross(moved.proposer, moved.to);
+        mark_span(market, r, better, market.reviewer_standing(m, r), j, marks);
+    }
+}
+
+/// Marks a reviewer's entries behind one place of its list and before another.
+fn mark_span(
+    market: &Market,
+    r: u32,
+    better: u32,
+    worse: u32,
+    j: u32,
+    marks: &mut [Vec<Option<u32>>],
+)
+    requires market { IsMarket market.now }
+    requires in_range { r < length market.now.reviewers }
+    requires gains { better < worse }
+    requires on_list { worse ≤ length (row market.now.reviewers r) }
+    requires for_entries { AreMarksFor market.now (marks_in marks.old) }
+    ensures { IsSpanMarked market.now r better worse j (marks_in marks.old) (marks_in marks.new) }
+{
+    for place in better + 1..worse {
+        set_mark(
+            marks,
+            market.proposer_at(r, place),
+            market.reviewer_cross(r, place),
+            j,
+        );
+    }
+}
+
+/// Marks one entry.
+fn set_mark(marks: &mut [Vec<Option<u32>>], p: u32, place: u32, j: u32)
+    requires in_range { p < length marks.old }
+    requires on_list { place < length (marks_of (marks_in marks.old) p) }
+    ensures { marks_in marks.new ≡ slice_set (marks_in marks.old) p
+        (slice_set (marks_of (marks_in marks.old) p) place (Some j)) }
+{
+    marks[p as usize][place as usize] = Some(j);
+}
