@@ -96,7 +96,7 @@ fn chain_of(alloc: Global, market: &Market) -> Result<Chain, AllocError>
 fn step_by_step(alloc: Global, market: &Market) -> Result<Vec<Rotation>, AllocError> {
     let mut rotations = Vec::new(alloc);
     let mut m = proposer_best(alloc, market)?;
-    for _turn in 0..8 {
+    'turns: for _ in 0..8 {
         let Some(rotation) = exposed(alloc, market, &m)? else {
             break;
         };
