@@ -1,19 +1,18 @@
 -- What is noted of the rotations of a complete chain tells what each one needs.
-use Rattle.std.proofs.Common.{◌≡◌, ◌≢◌, ℕ, suc, ◌+◌, ◌<◌, ◌≤◌, ◌⊎◌, inl, inr, arith, refl, sym, ap, ◌∙◌, List, length, Option, None, Some, IsSome, slice_index, slice_index_or}
-use Rattle.std.specs.List.{Contains}
+use Rattle.std.proofs.Common.{◌≡◌, ℕ, suc, ◌+◌, ◌<◌, inl, inr, arith, refl, sym, ap, ◌∙◌, List, length, Option, None, Some, IsSome, slice_index}
 use Rattle.sm_market.specs.Lists.{Lists, row, entry, place_of, IsMarket}
 use Rattle.sm_market.specs.Matching.{Places}
 use Rattle.sm_market.proofs.Counting.{lt_or_le, eq_or_ne, Last}
-use Rattle.sm_market.proofs.Core.{Sides, Stand, Pair}
+use Rattle.sm_market.proofs.Core.{Pair}
 use Rattle.sm_market.proofs.Bridge.{sides_of, stand_of, entry_place, place_entry}
 use Rattle.sm_theory.specs.Rotations.{proposer_at, reviewer_at, target_at, next_in}
 use Rattle.sm_theory.specs.Chains.{rotation_at, stage, IsCompleteChain, IsNeededBy, AreNeedsOf}
 use Rattle.sm_theory.proofs.CoreCycle as CoreCycle
 use Rattle.sm_theory.proofs.CoreCycle.{Cycle, turn, turn_in, target, Exposed, moves_at}
-use Rattle.sm_theory.proofs.CoreChain.{Chain, Needs, rise, fall, up_at, moved_to, needs_lower, last_needed}
+use Rattle.sm_theory.proofs.CoreChain.{rise, fall, up_at, moved_to, needs_lower, last_needed}
 use Rattle.sm_theory.proofs.BridgeRotation.{cycle_of}
 use Rattle.sm_theory.proofs.BridgeChain.{chain_of, needs_of, needs_back}
-use Rattle.sm_rotations.specs.Marking.{note_of, marks_of, mark_at, Moves, MovesOver, AreLastMoves, AreMarks, AreMoved, AreMarked, AreMarksFor, IsLastOf, IsBetween, IsPassedBy, IsFound, IsRisingListOf}
+use Rattle.sm_rotations.specs.Marking.{note_of, Moves, MovesOver, AreLastMoves, AreMarks, AreMoved, AreMarked, IsLastOf, IsPassedBy, IsFound, IsRisingListOf}
 
 none_some : {x : ℕ} → ◌≡◌ {A = Option ℕ} None (Some x) → ⊥
 none_some e = grind arith

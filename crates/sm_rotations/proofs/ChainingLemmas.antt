@@ -1,17 +1,17 @@
 -- A chain grows rotation by rotation.
-use Rattle.std.proofs.Common.{◌≡◌, ℕ, zero, suc, ◌+◌, ◌-◌, ◌<◌, ◌≤◌, inl, inr, arith, refl, sym, ap, ◌∙◌, List, [], ◌∷◌, ◌++◌, length, slice_index_or, map}
+use Rattle.std.proofs.Common.{◌≡◌, ℕ, zero, suc, ◌-◌, ◌<◌, ◌≤◌, inl, inr, arith, refl, sym, ap, ◌∙◌, List, [], ◌∷◌, ◌++◌, length}
 use Rattle.std.proofs.lemmas.List.{get_or_append_left, get_or_push, length_push}
 use Rattle.sm_market.specs.Lists.{Lists, row, IsMarket}
 use Rattle.sm_market.specs.Matching.{Places, standing}
 use Rattle.sm_market.specs.Stable.{IsStable, IsProposersBest}
 use Rattle.sm_market.proofs.Counting.{lt_or_le, eq_or_ne}
-use Rattle.sm_market.proofs.Bridge.{sides_of, stand_of, fit_of, stable_of}
+use Rattle.sm_market.proofs.Bridge.{sides_of, stable_of}
 use Rattle.sm_theory.specs.Rotations.{proposer_at, IsExposed, eliminated}
-use Rattle.sm_theory.specs.Chains.{rotation_at, stage, IsCompleteChain, IsPrintedChain}
+use Rattle.sm_theory.specs.Chains.{rotation_at, stage, IsPrintedChain}
 use Rattle.sm_theory.specs.Values.{rotations_of}
 use Rattle.sm_theory.specs.declared.rotations.Rotation.{Rotation}
-use Rattle.sm_theory.proofs.CoreRotation.{Elim, goes_down, never_up, elim_stable}
-use Rattle.sm_theory.proofs.BridgeRotation.{cycle_of, exposed_of, elim_of, eliminated_stable}
+use Rattle.sm_theory.proofs.CoreRotation.{goes_down, never_up, elim_stable}
+use Rattle.sm_theory.proofs.BridgeRotation.{exposed_of, elim_of}
 use Rattle.sm_rotations.specs.Following.{IsNothingExposed, IsLowestExposed}
 use Rattle.sm_rotations.specs.Chaining.{LeadsTo}
 use Rattle.sm_rotations.proofs.CountLemmas.{sum_below, sums_le, sums_less}

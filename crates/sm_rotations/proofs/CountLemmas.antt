@@ -1,5 +1,5 @@
 -- A chain has no more rotations than the lists of the proposers have entries.
-use Rattle.std.proofs.Common.{◌≡◌, ℕ, zero, suc, ◌+◌, ◌<◌, ◌≤◌, ◌^◌, inl, inr, arith, refl, sym, ap, ◌∙◌, List, [], length, take, get_or}
+use Rattle.std.proofs.Common.{◌≡◌, ℕ, zero, suc, ◌+◌, ◌<◌, ◌≤◌, ◌^◌, inl, inr, arith, refl, List, [], length, take}
 use Rattle.std.specs.List.{sum_by}
 use Rattle.std.proofs.lemmas.List.Sums.{sum_by_more, sum_by-take-le}
 use Rattle.sm_market.specs.Lists.{Lists, row, IsMarket}
@@ -7,8 +7,7 @@ use Rattle.sm_market.specs.Matching.{Places}
 use Rattle.sm_market.specs.Limits.{IsWithinLimits}
 use Rattle.sm_market.proofs.Counting.{lt_or_le, eq_or_ne}
 use Rattle.sm_market.proofs.Core.{Sides, Stand}
-use Rattle.sm_market.proofs.Bridge.{sides_of, stand_of}
-use Rattle.sm_theory.specs.Chains.{stage, IsCompleteChain}
+use Rattle.sm_theory.specs.Chains.{IsCompleteChain}
 use Rattle.sm_theory.proofs.CoreCycle.{Cycle, moves_at}
 use Rattle.sm_theory.proofs.CoreChain.{Chain, rise, up_at}
 use Rattle.sm_theory.proofs.BridgeChain.{chain_of}

@@ -1,6 +1,6 @@
 -- What eliminating an exposed rotation leaves.
-use Rattle.std.proofs.Common.{◌≡◌, ℕ, ◌<◌, refl, sym, ap, ◌∙◌, List}
-use Rattle.sm_market.specs.Lists.{Lists, row, IsMarket}
+use Rattle.std.proofs.Common.{◌≡◌, ℕ, ap, List}
+use Rattle.sm_market.specs.Lists.{Lists, IsMarket}
 use Rattle.sm_market.specs.Matching.{Places, standing, IsMatching}
 use Rattle.sm_market.specs.Stable.{IsStable}
 use Rattle.sm_market.specs.Cycles.{CanTurn, places_after}

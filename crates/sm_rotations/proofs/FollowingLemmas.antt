@@ -1,12 +1,12 @@
 -- Following successors from one proposer to the next.
-use Rattle.std.proofs.Common.{◌≡◌, ◌≢◌, ℕ, zero, suc, ◌+◌, ◌-◌, ◌<◌, ◌≤◌, ◌⊎◌, inl, inr, arith, refl, sym, ap, ◌∙◌, List, [], ◌∷◌, ◌++◌, length, slice_index_or, Option, None, Some, IsSome}
+use Rattle.std.proofs.Common.{◌≡◌, ◌≢◌, ℕ, zero, suc, ◌+◌, ◌<◌, ◌≤◌, ◌⊎◌, inl, inr, arith, refl, sym, ap, ◌∙◌, List, [], ◌∷◌, ◌++◌, length, slice_index_or, Option, None, Some}
 use Rattle.std.specs.Option.{option_map}
 use Rattle.std.proofs.lemmas.List.{get_or_append_left, get_or_push, length_push}
-use Rattle.sm_market.specs.Lists.{Lists, row, entry, place_of, IsMarket}
-use Rattle.sm_market.specs.Matching.{Places, held, standing, IsMatching}
+use Rattle.sm_market.specs.Lists.{Lists, entry, place_of, IsMarket}
+use Rattle.sm_market.specs.Matching.{Places, held, IsMatching}
 use Rattle.sm_market.specs.Pairing.{Paired, IsPairingOf}
-use Rattle.sm_market.proofs.Counting.{lt_or_le, eq_or_ne, less_same_more, Twice, pigeonhole}
-use Rattle.sm_market.proofs.Core.{Sides, Stand, Pair, pair_at, one_proposer, one_reviewer}
+use Rattle.sm_market.proofs.Counting.{lt_or_le, eq_or_ne, Twice, pigeonhole}
+use Rattle.sm_market.proofs.Core.{Pair, pair_at, one_proposer, one_reviewer}
 use Rattle.sm_market.proofs.Bridge.{sides_of, stand_of, fit_of, standing-some, standing-none, entry_place, place_entry}
 use Rattle.sm_market.proofs.PairingLemmas.{held_in_range}
 use Rattle.sm_theory.specs.Rotations.{IsSuccessor, IsLink, IsExposed, proposer_at, reviewer_at, target_at, next_in}

@@ -1,5 +1,5 @@
 -- Writing notes and marks, one after another, and collecting them.
-use Rattle.std.proofs.Common.{◌≡◌, ◌≢◌, ℕ, zero, suc, ◌+◌, ◌<◌, ◌≤◌, ◌⊎◌, ◌==◌, inl, inr, arith, refl, sym, ap, ◌∙◌, List, [], ◌∷◌, ◌++◌, length, Option, None, Some, IsSome, get_or, set, slice_index, slice_index_or, eqb}
+use Rattle.std.proofs.Common.{◌≡◌, ◌≢◌, ℕ, zero, suc, ◌+◌, ◌<◌, ◌≤◌, ◌⊎◌, inl, inr, arith, refl, sym, ap, ◌∙◌, List, [], ◌∷◌, ◌++◌, length, Option, None, Some, set, slice_index, slice_index_or, eqb}
 use Rattle.std.specs.List.{Contains, dedup}
 use Rattle.std.specs.List.Sorted.{IsPermutation, IsSorted, IsStrictlyIncreasing}
 use Rattle.std.specs.Ordering.{nat_cmp}
@@ -9,10 +9,10 @@ use Rattle.std.proofs.lemmas.List.Sorted.{Contains-permutation, IsPermutation-sy
 use Rattle.std.proofs.lemmas.List.Kept.{Contains-dedup_nat, Contains-from_dedup}
 use Rattle.std.proofs.lemmas.Map.Keys.{IsStrictlyIncreasing-dedup}
 use Rattle.sm_market.specs.Lists.{Lists, row, entry, place_of, IsMarket}
-use Rattle.sm_market.proofs.Counting.{lt_or_le, eq_or_ne}
+use Rattle.sm_market.proofs.Counting.{eq_or_ne}
 use Rattle.sm_market.proofs.Bridge.{entry_place, place_entry}
 use Rattle.sm_theory.specs.Rotations.{proposer_at, reviewer_at, target_at, next_in}
-use Rattle.sm_rotations.specs.Marking.{note_of, marks_of, mark_at, Moves, MovesOver, AreMoved, AreMarked, AreMarksFor, IsSpan, IsSpanMarked, IsLastOf, IsBetween, IsPassedBy, IsFound, Adds, IsRisingListOf}
+use Rattle.sm_rotations.specs.Marking.{note_of, marks_of, mark_at, Moves, MovesOver, AreMoved, AreMarked, AreMarksFor, IsSpan, IsSpanMarked, IsBetween, IsFound, Adds, IsRisingListOf}
 
 -- one mark set
 module _ (marks : List (List (Option ℕ))) (p x j : ℕ) (in_range : p < length marks) (on : x < length (marks_of marks p)) where

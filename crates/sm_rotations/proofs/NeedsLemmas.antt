@@ -1,15 +1,13 @@
 -- What the steps of `needs` read and write.
-use Rattle.std.proofs.Common.{◌≡◌, ℕ, suc, ◌+◌, ◌<◌, ◌≤◌, ◌⊎◌, inl, inr, arith, refl, sym, ap, ◌∙◌, List, [], ◌∷◌, ◌++◌, Vec, Result, Ok, Err, length, map, Option, None, Some, get_or, set, replicate, eqb}
+use Rattle.std.proofs.Common.{◌≡◌, ℕ, suc, ◌+◌, ◌<◌, inl, inr, arith, sym, ap, ◌∙◌, List, [], ◌∷◌, ◌++◌, Vec, Result, Ok, Err, length, Option, None, get_or, set, replicate}
 use Rattle.std.specs.Result.{IfOk}
 use Rattle.std.specs.Vec.{with_item}
 use Rattle.std.specs.declared.alloc.Global.{Global}
-use Rattle.std.proofs.lemmas.Bool.{cases_lt}
 use Rattle.std.proofs.lemmas.List.{get_or-map, map-set, get_or_past, get_or-replicate, length-replicate, length_push, length-map}
 use Rattle.sm_market.specs.Lists.{Lists, row, entry, place_of, IsMarket}
 use Rattle.sm_market.specs.Vectors.{rows_of}
-use Rattle.sm_market.specs.Matching.{Places, held, standing, IsMatching}
-use Rattle.sm_market.specs.Stable.{IsStable}
-use Rattle.sm_market.proofs.Counting.{lt_or_le, eq_or_ne}
+use Rattle.sm_market.specs.Matching.{Places, standing, IsMatching}
+use Rattle.sm_market.proofs.Counting.{lt_or_le}
 use Rattle.sm_market.proofs.ListLemmas.{push_cases}
 use Rattle.sm_market.proofs.PairingLemmas.{held_in_range}
 use Rattle.sm_market.proofs.Bridge.{place_entry}

@@ -1,6 +1,6 @@
 -- What is noted of the rotations of a chain, one after another: which one moved each proposer last, and which one moved a
 -- reviewer past each proposer of its list.
-use Rattle.std.specs.Prelude.{◌≡◌, ℕ, ◌<◌, ◌≤◌, ◌⊎◌, List, [], Option, Some, None, IsSome, length, slice_index, slice_index_or, map, Vec, Contains}
+use Rattle.std.specs.Prelude.{◌≡◌, ℕ, ◌<◌, ◌⊎◌, List, [], Option, Some, None, IsSome, length, slice_index, slice_index_or, map, Vec, Contains}
 use Rattle.std.specs.declared.alloc.Global.{Global}
 use Rattle.sm_market.specs.Lists.{Lists, row, entry, place_of}
 use Rattle.sm_theory.specs.Rotations.{proposer_at, reviewer_at, target_at, next_in}
@@ -53,7 +53,8 @@ pub record AreMarks (l : Lists) (rotations : List (List (ℕ × ℕ))) (n : ℕ)
   pub for_entries : AreMarksFor l marks
   pub below : (p x i : ℕ) → mark_at marks p x ≡ Some i → i < n
   pub moves : (p x i : ℕ) → mark_at marks p x ≡ Some i → MovesOver l (rotation_at rotations i) (length (rotation_at rotations i)) p x
-  pub all : (p x i : ℕ) → x < length (row l.proposers p) → i < n → MovesOver l (rotation_at rotations i) (length (rotation_at rotations i)) p x → mark_at marks p x ≡ Some i
+  pub all : (p x i : ℕ) → x < length (row l.proposers p) → i < n
+      → MovesOver l (rotation_at rotations i) (length (rotation_at rotations i)) p x → mark_at marks p x ≡ Some i
 
 -- the proposers of the first n pairs are noted with the number j, and all else stays
 pub record AreMoved (rotation : List (ℕ × ℕ)) (n j : ℕ) (before after : List (Option ℕ)) : Type 0 where
@@ -67,18 +68,19 @@ pub record AreMarked (l : Lists) (rotation : List (ℕ × ℕ)) (n j : ℕ) (bef
   pub marked : (p x : ℕ) → x < length (row l.proposers p) → MovesOver l rotation n p x → mark_at after p x ≡ Some j
   pub only : (p x : ℕ) → (mark_at after p x ≡ mark_at before p x) ⊎ ((mark_at after p x ≡ Some j) × MovesOver l rotation n p x)
 
--- r's entries behind the place `better` and before the place `k` are marked with the number j, and all else stays
-pub record IsSpan (l : Lists) (r better k p x : ℕ) : Type 0 where
+-- r stands at place x of p's list, and p on r's list behind the place `better` and before the place `worse`
+pub record IsSpan (l : Lists) (r better worse p x : ℕ) : Type 0 where
   pub place : ℕ
   pub behind : better < place
-  pub before : place < k
+  pub before : place < worse
   pub proposer : p ≡ entry l.reviewers r place
   pub at : x ≡ place_of l.proposers p r
 
-pub record IsSpanMarked (l : Lists) (r better k j : ℕ) (before after : List (List (Option ℕ))) : Type 0 where
+-- these entries are marked with the number j, and all else stays
+pub record IsSpanMarked (l : Lists) (r better worse j : ℕ) (before after : List (List (Option ℕ))) : Type 0 where
   pub for_entries : AreMarksFor l after
-  pub marked : (p x : ℕ) → IsSpan l r better k p x → mark_at after p x ≡ Some j
-  pub only : (p x : ℕ) → (mark_at after p x ≡ mark_at before p x) ⊎ ((mark_at after p x ≡ Some j) × IsSpan l r better k p x)
+  pub marked : (p x : ℕ) → IsSpan l r better worse p x → mark_at after p x ≡ Some j
+  pub only : (p x : ℕ) → (mark_at after p x ≡ mark_at before p x) ⊎ ((mark_at after p x ≡ Some j) × IsSpan l r better worse p x)
 
 -- one of the first n pairs has a proposer that rotation i moved last
 pub record IsLastOf (rotation : List (ℕ × ℕ)) (n : ℕ) (notes : List (Option ℕ)) (i : ℕ) : Type 0 where
@@ -86,7 +88,7 @@ pub record IsLastOf (rotation : List (ℕ × ℕ)) (n : ℕ) (notes : List (Opti
   pub pair_in : pair < n
   pub noted : note_of notes (proposer_at rotation pair) ≡ Some i
 
--- the marks of p's list behind the place `from` and before the place `to` have the number i
+-- a mark behind the place `from` and before the place `to` has the number i
 pub record IsBetween (marks : List (Option ℕ)) (from to i : ℕ) : Type 0 where
   pub place : ℕ
   pub behind : from < place

@@ -18,7 +18,8 @@ use std::alloc::{AllocError, Global};
 /// lowest-numbered proposer. The pairing has to be the proposers' best of the market, as
 /// [`sm_accept::proposer_best`] gives it (Gusfield and Irving 1989, section 2.5).
 ///
-/// The exposed rotation is looked for anew at each turn.
+/// The exposed rotation is looked for anew at each turn, by [`crate::exposed`]. So the time is that of as many such calls
+/// as there are rotations.
 ///
 /// # Errors
 ///

@@ -15,8 +15,8 @@ use std::alloc::{AllocError, Global};
 /// `None` exactly where none is exposed.
 ///
 /// The pairing has to be stable and made for a market of these lists. From each proposer in turn the successors are
-/// followed until they come back to it or have led on as often as there are proposers. So this is no way to find a whole
-/// chain of a large market: [`crate::chain`] does that (Gusfield and Irving 1989, section 2.5).
+/// followed until they come back to it or have led on as often as there are proposers, so the time can grow with the square
+/// of the proposers and with the length of their lists (Gusfield and Irving 1989, section 2.5).
 ///
 /// # Errors
 ///

@@ -1,7 +1,5 @@
 use Rattle.std.proofs.Common.{◌≡◌}
-use Rattle.sm_market.specs.Stable.{IsStable}
 use Rattle.sm_market.specs.Cycles.{places_after}
-use Rattle.sm_theory.specs.Rotations.{eliminated}
 use Rattle.sm_theory.proofs.BridgeRotation.{eliminated_stable}
 use Rattle.sm_rotations.proofs.EliminationLemmas.{turned_is}
 use Rattle.sm_rotations.proofs.elimination.eliminate.Goals as goal
