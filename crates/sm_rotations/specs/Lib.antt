@@ -1,3 +1,4 @@
 pub mod Marking
 pub mod Following
 pub mod Chaining
+pub mod Walking
