@@ -5,8 +5,3 @@ pub mod CountLemmas
 pub mod NeedsLemmas
 pub mod FollowingLemmas
 pub mod ChainingLemmas
-pub mod WalkLemmas
-pub mod StackLemmas
-pub mod FrontLemmas
-pub mod CutLemmas
-pub mod OrderLemmas

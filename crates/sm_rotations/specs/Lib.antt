@@ -1,4 +1,3 @@
 pub mod Marking
 pub mod Following
 pub mod Chaining
-pub mod Walking

@@ -10,7 +10,6 @@ mod exposure;
 mod predecessors;
 #[cfg(test)]
 mod tests;
-mod walk;
 
 pub use chains::chain;
 pub use elimination::eliminate;
