@@ -94,6 +94,24 @@ impl Market {
         })
     }
 
+    /// A market with the same lists.
+    ///
+    /// Takes time and memory in proportion to the agents and entries.
+    ///
+    /// # Errors
+    ///
+    /// `AllocError` where memory ran out, and only then.
+    pub fn copy(&self, alloc: Global) -> Result<Market, AllocError>
+        ensures { IfOk result (λ copy. copy ≡ self.now) }
+    {
+        Ok(Market {
+            proposer_lists: copy_of(alloc, &self.proposer_lists)?,
+            reviewer_lists: copy_of(alloc, &self.reviewer_lists)?,
+            proposer_crosses: copy_of(alloc, &self.proposer_crosses)?,
+            reviewer_crosses: copy_of(alloc, &self.reviewer_crosses)?,
+        })
+    }
+
     /// How many proposers there are.
     pub fn proposers(&self) -> u32
         ensures count { result ≡ length self.now.proposers }

@@ -65,6 +65,23 @@ impl Pairing {
         })
     }
 
+    /// A pairing with the same partners.
+    ///
+    /// Takes time and memory in proportion to the agents.
+    ///
+    /// # Errors
+    ///
+    /// `AllocError` where memory ran out, and only then.
+    pub fn copy(&self, alloc: Global) -> Result<Pairing, AllocError>
+        ensures { IfOk result (λ copy. copy ≡ self.now) }
+    {
+        Ok(Pairing {
+            places: Vec::from_slice(alloc, &self.places)?,
+            reviewer_places: Vec::from_slice(alloc, &self.reviewer_places)?,
+            holders: Vec::from_slice(alloc, &self.holders)?,
+        })
+    }
+
     /// The place that a proposer holds on its list, `None` where it is unmatched.
     pub fn place(&self, p: u32) -> Option<u32>
         requires { p < length self.now.places.proposers }

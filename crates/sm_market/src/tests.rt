@@ -189,3 +189,25 @@ fn swaps_sides(rt: HostRuntime) -> Result<(), Fail> {
     assert_eq!(rt; swapped.reviewer_cross(1, 0), 0);
     Ok(())
 }
+
+#[test]
+fn copies_are_the_same(rt: HostRuntime) -> Result<(), Fail> {
+    let market = one_sided(&rt)?.copy(rt.alloc())?;
+    assert_eq!(rt; market.proposers(), 2);
+    assert!(rt; market.proposer_list(1) == [0, 1].as_slice());
+    assert_eq!(rt; market.cross(1, 1), 0);
+    let m = Pairing::of(rt.alloc(), &market, &[Some(0), Some(1)]).expect(&rt, "a pairing");
+    second_keeps(&rt, &market, &m.copy(rt.alloc())?);
+    Ok(())
+}
+
+/// Makes sure that the second proposer has the reviewer 1, at the second place of its list.
+fn second_keeps(rt: &impl Abort, market: &Market, m: &Pairing)
+    requires { IsPairingOf market.now m.now }
+{
+    assert_eq!(rt; market.proposers(), 2);
+    assert_eq!(rt; market.reviewers(), 2);
+    assert_eq!(rt; m.place(1), Some(1));
+    assert_eq!(rt; m.reviewer_place(1), Some(0));
+    assert_eq!(rt; m.holder(1), Some(1));
+}

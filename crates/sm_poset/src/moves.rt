@@ -10,7 +10,6 @@ ghost use Rattle.sm_theory.specs.Chains.{IsCompleteChain};
 ghost use Rattle.sm_theory.specs.Values.{rotations_of};
 ghost use Rattle.sm_poset.specs.Kept.{moves_in, moves_at, AreMoves, AreLeaders, IsMovedOn};
 
-use crate::pairings::copy_of;
 use sm_market::{Market, Pairing};
 use sm_rotations::eliminate;
 use sm_theory::Chain;
@@ -37,7 +36,7 @@ pub(crate) fn follow(alloc: Global, market: &Market, chain: &Chain) -> Result<Mo
 {
     let mut of_proposers = no_moves(alloc, market.proposers() as usize)?;
     let mut leaders = Vec::with_capacity(alloc, chain.rotations.len())?;
-    let mut m = copy_of(alloc, market, &chain.first)?;
+    let mut m = chain.first.copy(alloc)?;
     for k in 0..chain.rotations.len() as u32 {
         let rotation = &chain.rotations[k as usize];
         eliminate(market, &mut m, rotation);

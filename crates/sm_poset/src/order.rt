@@ -70,7 +70,7 @@ impl Poset {
             of_proposers,
             leaders,
         } = follow(alloc, market, &chain)?;
-        let market = market.swapped(alloc)?.swapped(alloc)?;
+        let market = market.copy(alloc)?;
         Ok(Poset {
             market,
             chain,

@@ -25,16 +25,3 @@ pub(crate) fn pairing_of(
         Err(PairingFault::Taken(_)) => unreachable!(),
     }
 }
-
-/// A copy of a pairing.
-pub(crate) fn copy_of(alloc: Global, market: &Market, m: &Pairing) -> Result<Pairing, AllocError>
-    requires { IsPairingOf market.now m.now }
-    ensures pairing { IfOk result (λ copy. IsPairingOf market.now copy) }
-    ensures same { IfOk result (λ copy. copy.places ≡ m.now.places) }
-{
-    let mut places = Vec::with_capacity(alloc, market.proposers() as usize)?;
-    for p in 0..market.proposers() {
-        places.push(m.place(p))?;
-    }
-    pairing_of(alloc, market, &places)
-}

@@ -1,6 +1,7 @@
 use Rattle.std.proofs.Common.{◌≡◌, ◌<◌, IsSome, sym, ap, subst, length, drop, arith}
 use Rattle.std.proofs.lemmas.List.{length-map, get_or_read}
 use Rattle.sm_market.specs.Matching.{held}
+use Rattle.sm_market.specs.Pairing.{Paired}
 use Rattle.sm_theory.specs.Rotations.{proposer_at}
 use Rattle.sm_theory.specs.Values.{rotations_of}
 use Rattle.sm_theory.proofs.BridgeChain.{stage_stable}
@@ -17,8 +18,8 @@ overflow_cast-k-end c =
 
 pub loop-k-init : goal.loop-k-init
 loop-k-init c = record {
-  made = c.in_ok-m.ensures.pairing;
-  at = c.in_ok-m.ensures.same;
+  made = rw c.in_ok-m.ensures c.requires.made;
+  at = ap (λ (v : Paired). v.places) c.in_ok-m.ensures;
   moves = moves_start c.args.market.now (rotations_of c.args.chain.now.rotations.items) _ _ c.proposers.ensures.count c.in_ok-of_proposers.ensures;
   leaders = leaders_start c.args.market.now (rotations_of c.args.chain.now.rotations.items) _ c.in_ok-leaders.ensures.items;
 }

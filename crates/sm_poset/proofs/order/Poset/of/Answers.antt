@@ -1,6 +1,6 @@
-use Rattle.std.proofs.Common.{◌≡◌, ◌∙◌, length, sym, ap, subst, arith}
+use Rattle.std.proofs.Common.{◌≡◌, ◌∙◌, length, sym, subst, arith}
 use Rattle.std.proofs.lemmas.List.{length-map}
-use Rattle.sm_market.specs.Lists.{Lists, reversed_lists}
+use Rattle.sm_market.specs.Lists.{Lists}
 use Rattle.sm_market.specs.Vectors.{rows_of}
 use Rattle.sm_theory.specs.Values.{rotations_of}
 use Rattle.sm_poset.specs.Posets.{poset_of}
@@ -12,7 +12,7 @@ pub invariant_of-result : goal.invariant_of-result
 invariant_of-result c =
     let rotations = rotations_of c.args.chain.rotations.items in
     let long : length rotations ≡ length c.args.chain.rotations.items = length-map c.args.chain.rotations.items (λ r. r.pairs.items) in
-    let lists_are : c.in_ok-market.market ≡ c.args.market.now = c.in_ok-market.ensures ∙ ap reversed_lists c.in_ok-swapped.ensures in
+    let lists_are : c.in_ok-market.market ≡ c.args.market.now = c.in_ok-market.ensures in
     let noted = c.in_ok-of_proposers.ensures in
     let kept : IsKept (poset_of c.args.market.now c.args.chain.first rotations) (rows_of c.in_ok-needs.needs.items) (moves_in c.in_ok-of_proposers.field-0.of_proposers.items) c.in_ok-of_proposers.field-0.leaders.items = record {
       chain = record {
