@@ -5,3 +5,4 @@ pub mod AcceptEnds
 pub mod ReducedLemmas
 pub mod LinkLemmas
 pub mod LinkSteps
+pub mod FrontLemmas

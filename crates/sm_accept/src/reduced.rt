@@ -1,15 +1,18 @@
 //! The reduced lists.
 
-ghost use Rattle.std.specs.Prelude.{◌≡◌, ℕ, ◌<◌, ◌≤◌, length, IfOk, OnOk, MatchOption, [], ◌∷◌, ◌++◌, false, nat_le, ◌&&◌, if◌then◌else◌};
+ghost use Rattle.std.specs.Prelude.{◌≡◌, ℕ, ◌<◌, ◌≤◌, length, IfOk, OnOk, MatchOption, [], ◌∷◌, ◌++◌, replicate, false, nat_le, ◌&&◌, if◌then◌else◌};
 ghost use Rattle.sm_market.specs.Lists.{row, entry, IsMarket};
 ghost use Rattle.sm_market.specs.Matching.{Places};
 ghost use Rattle.sm_market.specs.Vectors.{rows_of, lists_of};
 ghost use Rattle.sm_market.specs.Pairing.{IsPairingOf};
 ghost use Rattle.sm_market.specs.Stable.{IsProposersBest, IsReviewersBest};
 ghost use Rattle.sm_market.specs.Reduced.{is_no_worse, reduced_row, reduced_lists_of};
+ghost use Rattle.sm_accept.specs.Linking.{IsLinkedOf, IsFront};
 ghost use Rattle.sm_accept.specs.Reducing.{KeepsStablePairs};
 
 use crate::accept::{proposer_best, reviewer_best};
+use crate::fronts::cut_to_partners;
+use crate::linked::Linked;
 use sm_market::{Market, Pairing};
 use std::alloc::{AllocError, Global};
 
@@ -26,7 +29,8 @@ pub struct Reduced {
 /// that it has in any stable matching, and that in turn like it no less than the worst partner that they have. The others
 /// have empty lists (Gusfield and Irving 1989, section 1.2.4).
 ///
-/// Takes time and memory in proportion to the agents and entries.
+/// Takes time and memory in proportion to the agents and entries. All memory for the lists is taken before the first of
+/// them is filled.
 ///
 /// # Errors
 ///
@@ -48,8 +52,9 @@ pub fn reduced_lists(alloc: Global, market: &Market) -> Result<Reduced, AllocErr
 /// partner by the other. Where the two pairings are the proposers' best and the reviewers' best, these are the reduced
 /// lists of the market (Gusfield and Irving 1989, section 1.2.4).
 ///
-/// The pairings have to be made for a market of these lists. Takes time and memory in proportion to the agents and
-/// entries.
+/// The pairings have to be made for a market of these lists. The reviewers' lists are cut behind their partners in `first`,
+/// and of each proposer's list only the pairs that are left are looked at. Takes time and memory in proportion to the
+/// agents and entries.
 ///
 /// # Errors
 ///
@@ -66,75 +71,98 @@ pub fn reduced_between(
         ≡ reduced_lists_of market.now first.now.places last.now.places) }
     ensures market { OnOk result (IsMarket market.now) }
 {
+    let mut reduced = room_for(alloc, market)?;
+    let mut linked = Linked::of(alloc, market)?;
+    cut_to_partners(market, first, &mut linked);
+    fill_proposers(&mut reduced.proposers, market, &linked, first, last)?;
+    fill_reviewers(&mut reduced.reviewers, market, first, last)?;
+    Ok(reduced)
+}
+
+/// Empty lists, with room for as many agents as each agent of the market lists.
+fn room_for(alloc: Global, market: &Market) -> Result<Reduced, AllocError>
+    ensures proposers { IfOk result (λ reduced. rows_of reduced.proposers.items ≡ replicate (length market.now.proposers) []) }
+    ensures reviewers { IfOk result (λ reduced. rows_of reduced.reviewers.items ≡ replicate (length market.now.reviewers) []) }
+    ensures market { OnOk result (IsMarket market.now) }
+{
+    let mut proposers = Vec::with_capacity(alloc, market.proposers() as usize)?;
+    for p in 0..market.proposers() {
+        proposers.push(Vec::with_capacity(alloc, market.proposer_len(p) as usize)?)?;
+    }
+    let mut reviewers = Vec::with_capacity(alloc, market.reviewers() as usize)?;
+    for r in 0..market.reviewers() {
+        reviewers.push(Vec::with_capacity(alloc, market.reviewer_len(r) as usize)?)?;
+    }
     Ok(Reduced {
-        proposers: proposer_rows(alloc, market, first, last)?,
-        reviewers: reviewer_rows(alloc, market, first, last)?,
+        proposers,
+        reviewers,
     })
 }
 
-/// What stands between the pairings on each proposer's list.
-fn proposer_rows(
-    alloc: Global,
+/// Fills each proposer's list with what stands between the pairings on its list in the market.
+fn fill_proposers(
+    rows: &mut [Vec<u32>],
+    market: &Market,
+    linked: &Linked,
+    first: &Pairing,
+    last: &Pairing,
+) -> Result<(), AllocError>
+    requires empty { rows_of rows.old ≡ replicate (length market.now.proposers) [] }
+    requires linked { IsLinkedOf market.now linked.now }
+    requires front { IsFront market.now first.now.places linked.now.ends }
+    requires first { IsPairingOf market.now first.now }
+    requires last { IsPairingOf market.now last.now }
+    ensures filled { OnOk result (rows_of rows.new ≡ (reduced_lists_of market.now first.now.places last.now.places).proposers) }
+{
+    for p in 0..market.proposers() {
+        add_reviewers(&mut rows[p as usize], market, linked, first, last, p)?;
+    }
+    Ok(())
+}
+
+/// Fills each reviewer's list with what stands between the pairings on its list in the market.
+fn fill_reviewers(
+    rows: &mut [Vec<u32>],
     market: &Market,
     first: &Pairing,
     last: &Pairing,
-) -> Result<Vec<Vec<u32>>, AllocError>
+) -> Result<(), AllocError>
+    requires empty { rows_of rows.old ≡ replicate (length market.now.reviewers) [] }
     requires first { IsPairingOf market.now first.now }
     requires last { IsPairingOf market.now last.now }
-    ensures reduced { IfOk result (λ rows. rows_of rows.items
-        ≡ (reduced_lists_of market.now first.now.places last.now.places).proposers) }
-    ensures market { OnOk result (IsMarket market.now) }
+    ensures filled { OnOk result (rows_of rows.new ≡ (reduced_lists_of market.now first.now.places last.now.places).reviewers) }
 {
-    let mut rows = Vec::with_capacity(alloc, market.proposers() as usize)?;
-    for p in 0..market.proposers() {
-        let mut row = Vec::with_capacity(alloc, market.proposer_len(p) as usize)?;
-        add_reviewers(&mut row, market, first, last, p)?;
-        rows.push(row)?;
+    for r in 0..market.reviewers() {
+        add_proposers(&mut rows[r as usize], market, first, last, r)?;
     }
-    Ok(rows)
+    Ok(())
 }
 
-/// Adds the reviewers that stand between the pairings on a proposer's list.
+/// Adds the reviewers that stand between the pairings on a proposer's list. Only pairs that are linked can do so.
 fn add_reviewers(
     row: &mut Vec<u32>,
     market: &Market,
+    linked: &Linked,
     first: &Pairing,
     last: &Pairing,
     p: u32,
 ) -> Result<(), AllocError>
     requires in_range { p < length market.now.proposers }
+    requires linked { IsLinkedOf market.now linked.now }
+    requires front { IsFront market.now first.now.places linked.now.ends }
     requires first { IsPairingOf market.now first.now }
     requires last { IsPairingOf market.now last.now }
     requires empty { row.old.items ≡ [] }
     ensures { OnOk result (row.new.items ≡ reduced_row market.now.proposers market.now.reviewers
         last.now.places.proposers first.now.places.reviewers p) }
 {
-    for place in 0..market.proposer_len(p) {
+    let mut held = linked.first(market, p);
+    'held: while let Some(place) = held {
         let between = is_between(market, first, last, p, place);
         push_if(row, between, market.reviewer_at(p, place))?;
+        held = linked.behind(market, p, place);
     }
     Ok(())
-}
-
-/// What stands between the pairings on each reviewer's list.
-fn reviewer_rows(
-    alloc: Global,
-    market: &Market,
-    first: &Pairing,
-    last: &Pairing,
-) -> Result<Vec<Vec<u32>>, AllocError>
-    requires first { IsPairingOf market.now first.now }
-    requires last { IsPairingOf market.now last.now }
-    ensures { IfOk result (λ rows. rows_of rows.items
-        ≡ (reduced_lists_of market.now first.now.places last.now.places).reviewers) }
-{
-    let mut rows = Vec::with_capacity(alloc, market.reviewers() as usize)?;
-    for r in 0..market.reviewers() {
-        let mut row = Vec::with_capacity(alloc, market.reviewer_len(r) as usize)?;
-        add_proposers(&mut row, market, first, last, r)?;
-        rows.push(row)?;
-    }
-    Ok(rows)
 }
 
 /// Adds the proposers that stand between the pairings on a reviewer's list.

@@ -6,7 +6,10 @@ ghost use Rattle.sm_market.specs.Limits.{AreWithinLimits};
 ghost use Rattle.sm_market.specs.Pairing.{IsPairingOf};
 ghost use Rattle.sm_accept.specs.Linking.{IsLinkedOf};
 
-use crate::{Linked, proposer_best, reduced_between, reduced_lists, reviewer_best};
+use crate::{
+    Linked, cut_to_partner, cut_to_partners, proposer_best, reduced_between, reduced_lists,
+    reviewer_best,
+};
 use sm_market::{Market, Pairing};
 use std::alloc::{AllocError, Global};
 use std::process::Abort;
@@ -120,6 +123,21 @@ fn cuts_what_stands_behind(rt: HostRuntime) -> Result<(), Fail> {
     assert!(rt; first_two(&rt, &market, &linked, 0) == (Some(1), None));
     assert!(rt; first_two(&rt, &market, &linked, 1) == (Some(0), Some(1)));
     linked.cut(&market, 1, 7);
+    assert!(rt; first_two(&rt, &market, &linked, 1) == (Some(0), Some(1)));
+    Ok(())
+}
+
+#[test]
+fn lists_are_cut_behind_partners(rt: HostRuntime) -> Result<(), Fail> {
+    let market = two_by_two(&rt)?;
+    let first = proposer_best(rt.alloc(), &market)?;
+    let mut linked = Linked::of(rt.alloc(), &market)?;
+    cut_to_partners(&market, &first, &mut linked);
+    assert!(rt; first_two(&rt, &market, &linked, 0) == (Some(0), Some(1)));
+    let last = reviewer_best(rt.alloc(), &market)?;
+    assert_eq!(rt; market.reviewers(), 2);
+    cut_to_partner(&market, &last, 0, &mut linked);
+    assert!(rt; first_two(&rt, &market, &linked, 0) == (Some(1), None));
     assert!(rt; first_two(&rt, &market, &linked, 1) == (Some(0), Some(1)));
     Ok(())
 }
