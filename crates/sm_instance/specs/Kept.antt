@@ -1,8 +1,9 @@
 -- What is kept beside an instance, so that the calls on it take no memory.
-use Rattle.std.specs.Prelude.{◌≡◌, ℕ, ◌<◌, ◌≤◌, List, [], length, map, slice_index_or, Option, Some, None, if◌then◌else◌, nat_lt}
+use Rattle.std.specs.Prelude.{◌≡◌, ℕ, ◌+◌, ◌<◌, ◌≤◌, ◌==◌, List, [], length, map, slice_index_or, Option, Some, None, if◌then◌else◌, nat_lt}
 use Rattle.sm_instance.specs.Written.{AgentData, Written, row, entry, place_of, names_of, weighed}
 use Rattle.sm_instance.specs.Sound.{IsInstance, ArePersons}
 use Rattle.sm_instance.specs.declared.namings.Naming.{Naming}
+use Rattle.sm_instance.specs.declared.crosses.Note.{Note}
 
 -- the place of b on a's list, if it is on it
 abbrev pub cross_place : List AgentData → ℕ → ℕ → Option ℕ
@@ -46,6 +47,25 @@ pub record AreNamingsOf (agents : List AgentData) (p k r : ℕ) (namings : List 
 pub record AreNamings (agents : List AgentData) (others p k : ℕ) (namings : List (List Naming)) : Type 0 where
   pub one_each : length namings ≡ others
   pub of : (r : ℕ) → r < others → AreNamingsOf agents p k r (slice_index_or namings r [])
+
+-- what stands for a note past the last
+abbrev pub no_note : Note
+no_note = record { stamp = 0; place = 0 }
+
+-- the note of b
+abbrev pub note_of : List Note → ℕ → Note
+note_of notes b = slice_index_or notes b no_note
+
+-- the place that was noted in the turn with a stamp
+abbrev pub noted_in : Note → ℕ → Option ℕ
+noted_in note stamp = if note.stamp == stamp then Some note.place else None
+
+-- whoever makes one of the first n namings is noted in a's turn, with the place of one of its namings, and nobody else is
+-- noted in that turn, or in a later one
+pub record AreNotesOf (namings : List Naming) (n a : ℕ) (notes : List Note) : Type 0 where
+  pub latest : (b : ℕ) → (note_of notes b).stamp ≤ a + 1
+  pub noted : (e : ℕ) → e < n → (note_of notes (naming_at namings e).by).stamp ≡ a + 1
+  pub named : (b : ℕ) → (note_of notes b).stamp ≡ a + 1 → IsNamed namings b (note_of notes b).place
 
 -- what is kept beside an instance: the cross places of both sides, who names each reviewer, the names of both sides and the pairs with
 -- a weight

@@ -1,14 +1,36 @@
 //! Where each agent stands on the lists of those whom it lists.
+//!
+//! Each agent's list is walked with its namings noted by who names it.
 
-ghost use Rattle.std.specs.Prelude.{◌≡◌, ◌≤◌, ◌<◌, length, IfOk, MatchOption};
-ghost use Rattle.sm_instance.specs.Written.{row, place_of};
+ghost use Rattle.std.specs.Prelude.{◌≡◌, ℕ, ◌+◌, ◌≤◌, ◌<◌, ◌^◌, length, slice_index, slice_index_or, IfOk, None};
 ghost use Rattle.sm_instance.specs.Sound.{IsWithinLimits, AreSoundEntries};
-ghost use Rattle.sm_instance.specs.Kept.{AreNamings, AreCrossPlaces, AreCrossPlacesOf, cross_place};
+ghost use Rattle.sm_instance.specs.Kept.{AreNamings, AreCrossPlaces, naming_at, note_of, noted_in, AreNotesOf};
 ghost use Rattle.sm_instance.specs.Vectors.{agents_of, crosses_of, namings_of};
 
 use crate::agents::{Agent, list_at};
-use crate::namings::{Naming, namings, place_by};
+use crate::namings::{Naming, namings};
 use std::alloc::{AllocError, Global};
+
+/// The place at which an agent of the other side names the agent whose turn it is; of an earlier turn where the stamp
+/// differs. Turns count from 1.
+#[derive(Clone, Copy)]
+struct Note {
+    stamp: u32,
+    place: u32,
+}
+
+impl Note {
+    /// The place, if it was noted in the turn with this stamp.
+    fn place_in(self, stamp: u32) -> Option<u32>
+        ensures { result ≡ noted_in self stamp }
+    {
+        if self.stamp == stamp {
+            Some(self.place)
+        } else {
+            None
+        }
+    }
+}
 
 /// The cross places of the proposers' and of the reviewers' lists, and who names each reviewer.
 pub(crate) fn crossings(
@@ -49,47 +71,56 @@ fn crosses(
     namings: &[Vec<Naming>],
 ) -> Result<Vec<Vec<Option<u32>>>, AllocError>
     requires few { length agents.now ≤ 4096 }
+    requires in_range { AreSoundEntries (agents_of agents.now) (length (agents_of others.now)) }
     requires sound { AreSoundEntries (agents_of others.now) (length agents.now) }
     requires namings { AreNamings (agents_of others.now) (length agents.now) (length (agents_of others.now)) 0
         (namings_of namings.now) }
     ensures { IfOk result (λ c. AreCrossPlaces (agents_of agents.now) (agents_of others.now) (crosses_of c.items)) }
 {
+    let mut notes = vec![in alloc; Note { stamp: 0, place: 0 }; others.len()]?;
     let mut crosses = Vec::with_capacity(alloc, agents.len())?;
+    let notes = notes.as_mut_slice();
     for a in 0..agents.len() as u32 {
-        crosses.push(crosses_of(alloc, a, agents, others, namings)?)?;
+        note_namings(&namings[a as usize], a, notes);
+        crosses.push(crosses_of(alloc, list_at(agents, a), a, notes)?)?;
     }
     Ok(crosses)
 }
 
-/// The cross places of one list.
+/// Notes, in the turn of `a`, whoever makes one of the namings of `a`, with the place.
+fn note_namings(namings: &[Naming], a: u32, notes: &mut [Note])
+    requires small { a < 2 ^ 24 }
+    requires in_range { (e : ℕ) → e < length namings.now → (naming_at namings.now e).by < length notes.old }
+    requires earlier { (b : ℕ) → (note_of notes.old b).stamp ≤ a }
+    ensures one_each { length notes.new ≡ length notes.old }
+    ensures noted { AreNotesOf namings.now (length namings.now) a notes.new }
+{
+    let stamp = a + 1;
+    for naming in namings {
+        notes[naming.by as usize] = Note {
+            stamp,
+            place: naming.place,
+        };
+    }
+}
+
+/// The places that are noted, in the turn of `a`, of those whom its list names.
 fn crosses_of(
     alloc: Global,
+    list: &[u32],
     a: u32,
-    agents: &[Agent],
-    others: &[Agent],
-    namings: &[Vec<Naming>],
+    notes: &[Note],
 ) -> Result<Vec<Option<u32>>, AllocError>
-    requires in_range { a < length agents.now }
-    requires sound { AreSoundEntries (agents_of others.now) (length agents.now) }
-    requires namings { AreNamings (agents_of others.now) (length agents.now) (length (agents_of others.now)) 0
-        (namings_of namings.now) }
-    ensures { IfOk result (λ c. AreCrossPlacesOf (agents_of agents.now) (agents_of others.now) a c.items) }
+    requires small { a < 2 ^ 24 }
+    requires in_range { (i : ℕ) → i < length list.now → slice_index list.now i < length notes.now }
+    ensures as_long { IfOk result (λ c. length c.items ≡ length list.now) }
+    ensures places { IfOk result (λ c. (i : ℕ) → i < length list.now
+        → slice_index_or c.items i None ≡ noted_in (note_of notes.now (slice_index list.now i)) (a + 1)) }
 {
-    let list = list_at(agents, a);
+    let stamp = a + 1;
     let mut crosses = Vec::with_capacity(alloc, list.len())?;
     'list: for b in list {
-        crosses.push(cross(a, *b, agents, others, namings))?;
+        crosses.push(notes[*b as usize].place_in(stamp))?;
     }
     Ok(crosses)
-}
-
-/// The place of `a` on `b`'s list.
-fn cross(a: u32, b: u32, agents: &[Agent], others: &[Agent], namings: &[Vec<Naming>]) -> Option<u32>
-    requires in_range { a < length agents.now }
-    requires sound { AreSoundEntries (agents_of others.now) (length agents.now) }
-    requires namings { AreNamings (agents_of others.now) (length agents.now) (length (agents_of others.now)) 0
-        (namings_of namings.now) }
-    ensures { result ≡ cross_place (agents_of others.now) b a }
-{
-    place_by(&namings[a as usize], b)
 }

@@ -1,4 +1,5 @@
 pub mod TextLemmas
+pub mod WholeLemmas
 pub mod TableLemmas
 pub mod ListingLemmas
 pub mod DraftLemmas

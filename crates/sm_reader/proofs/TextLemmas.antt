@@ -8,7 +8,8 @@ use Rattle.std.proofs.lemmas.List.Folds.{position_or_len_push, list_any-append, 
 use Rattle.std.proofs.lemmas.List.{take_all, map_push}
 use Rattle.std.proofs.lemmas.Bool.Decides.{nat_tests}
 use Rattle.std.proofs.lemmas.Bool.{false≢true}
-use Rattle.sm_reader.specs.Kept.{texts_of}
+use Rattle.sm_reader.specs.Kept.{texts_of, text_of, key_texts}
+use Rattle.sm_reader.specs.declared.keys.Key.{Key}
 
 -- a text is itself, and another one isn't
 pub same_text : (a b : List ℕ) → a ≡ b → bytes_eq a b ≡ true
@@ -24,14 +25,14 @@ other_text a b differ = by_test (bytes_eq a b) refl
     by_test true e = absurd (differ (equal_text a b e))
     by_test false e = e
 
--- among slices, as among what they hold
-pub list_any_texts : (name : List ℕ) (keys : List (Bor (List ℕ))) → list_any (λ k. bytes_eq name k.now) keys ≡ list_any (bytes_eq name) (texts_of keys)
+-- among keys, as among the names that they are
+pub list_any_texts : (name : List ℕ) (keys : List Key) → list_any (λ k. bytes_eq name (text_of k)) keys ≡ list_any (bytes_eq name) (key_texts keys)
 list_any_texts name [] = refl
-list_any_texts name (k ∷ ks) = ap (λ t. bytes_eq name k.now || t) (list_any_texts name ks)
+list_any_texts name (k ∷ ks) = ap (λ t. bytes_eq name (text_of k) || t) (list_any_texts name ks)
 
-pub position_texts : (name : List ℕ) (keys : List (Bor (List ℕ))) → position_or_len (λ k. bytes_eq name k.now) keys ≡ position_or_len (bytes_eq name) (texts_of keys)
+pub position_texts : (name : List ℕ) (keys : List Key) → position_or_len (λ k. bytes_eq name (text_of k)) keys ≡ position_or_len (bytes_eq name) (key_texts keys)
 position_texts name [] = refl
-position_texts name (k ∷ ks) = ap (λ n. cond (not (bytes_eq name k.now)) (1 + n) 0) (position_texts name ks)
+position_texts name (k ∷ ks) = ap (λ n. cond (not (bytes_eq name (text_of k))) (1 + n) 0) (position_texts name ks)
 
 -- the first that passes, where one does or none does
 pub position_or_len-le : {X : Type 0} (p : X → Bool) (xs : List X) → position_or_len p xs ≤ length xs
@@ -127,6 +128,10 @@ from_not_false false h = cc
 pub from_not_true : (b : Bool) → not b ≡ true → b ≡ false
 from_not_true true h = cc
 from_not_true false h = refl
+
+-- the keys with one more
+pub keys_push : (xs : List Key) (x : Key) → key_texts (xs ++ x ∷ []) ≡ key_texts xs ++ text_of x ∷ []
+keys_push xs x = map_push text_of xs x
 
 -- the slices with one more
 pub texts_push : (xs : List (Bor (List ℕ))) (x : Bor (List ℕ)) → texts_of (xs ++ x ∷ []) ≡ texts_of xs ++ x.now ∷ []

@@ -34,6 +34,13 @@ form_of (WeightLine proposer reviewer weight) = weighs proposer.now reviewer.now
 form_of (ForcedLine proposer reviewer) = forces proposer.now reviewer.now
 form_of (ForbiddenLine proposer reviewer) = forbids proposer.now reviewer.now
 
+-- the names on the list that a line of a form has
+abbrev pub entries_in : Form → List (List ℕ)
+entries_in (declares side name capacity entries) = entries
+entries_in (weighs proposer reviewer weight) = []
+entries_in (forces proposer reviewer) = []
+entries_in (forbids proposer reviewer) = []
+
 -- the names of whom the proposers list: of the reviewers, and in roommates of the persons
 abbrev pub listed_table : Kind → Names → Names → Table
 listed_table Marriage proposers reviewers = table_of reviewers

@@ -8,13 +8,14 @@ ghost use Rattle.indexmap.specs.IndexSet.{keys};
 ghost use Rattle.sm_text.specs.Name.{is_name as is_a_name};
 ghost use Rattle.sm_reader.specs.Forms.{is_bad};
 ghost use Rattle.sm_reader.specs.Judging.{verdict_on, fault_of, has_repeated};
-ghost use Rattle.sm_reader.specs.Kept.{texts_of, table_of, IsTable};
-ghost use Rattle.sm_reader.specs.Draft.{said_of, form_of, listed_side, table_on, declared_on, IsDraft, Adds, Judges, IsRefusedBy, IsLineFault, run_fault, name_fault, limit_fault, IsChecked, DeclaresOn, ListsOn, PutsOn, RefusesFor, PairsOf, AddsAgent, ArePairsBelow, pairs_of, key_of, weights_in, weight_fault, PutsWeight, PutsForced, PutsForbidden};
+ghost use Rattle.sm_reader.specs.Kept.{texts_of, table_of, IsTable, is_whole, AreRuns};
+ghost use Rattle.sm_reader.specs.Draft.{said_of, form_of, entries_in, listed_side, table_on, declared_on, IsDraft, Adds, Judges, IsRefusedBy, IsLineFault, run_fault, name_fault, limit_fault, IsChecked, DeclaresOn, ListsOn, PutsOn, RefusesFor, PairsOf, AddsAgent, ArePairsBelow, pairs_of, key_of, weights_in, weight_fault, PutsWeight, PutsForced, PutsForbidden};
 
 use crate::draft::{Declared, Draft, Pair, Weight};
 use crate::faults::TextFault;
 use crate::forms::{Form, form_behind, is_end};
 use crate::names::list;
+use crate::tokens::is_name_run;
 use crate::{MOST_AGENTS, MOST_CAPACITY, MOST_ENTRIES, MOST_WEIGHT};
 use sm_instance::{Kind, Side};
 use sm_text::{RefusalKind, is_name, number, signed};
@@ -39,6 +40,7 @@ pub(crate) fn judge<'a>(
     bad: bool,
 ) -> Result<Step, TextFault>
     requires draft { IsDraft kind line draft.old }
+    requires whole { list_all is_whole (texts_of tokens.now) ≡ true }
     requires bad { bad ≡ list_any is_bad (texts_of tokens.now) }
     ensures judged { IfOk result (λ step. Judges kind line (texts_of tokens.now) draft.old draft.new step) }
     ensures refused { IfErr result (λ f. IsRefusedBy (verdict_on kind (said_of kind draft.old) line (texts_of tokens.now)) line f) }
@@ -69,7 +71,8 @@ fn add<'a>(
     line: u32,
     form: Form<'a, '_>,
 ) -> Result<(), TextFault>
-    requires { IsDraft kind line draft.old }
+    requires draft { IsDraft kind line draft.old }
+    requires runs { AreRuns (entries_in (form_of form)) }
     ensures added { IfOk result (λ _. Adds kind line (form_of form.entry) draft.old draft.new) }
     ensures fault { IfErr result (λ f. IsLineFault (fault_of (said_of kind draft.old) (form_of form.entry)) line f) }
 {
@@ -100,6 +103,7 @@ fn checked_capacity(
     entries: &[&[u8]],
     line: u32,
 ) -> Result<u32, TextFault>
+    requires { AreRuns (texts_of entries.now) }
     ensures checked { IfOk result (λ n. IsChecked name.now (option_map (λ x. x.now) capacity.entry) (texts_of entries.now) n) }
     ensures fault { IfErr result (λ f. IsLineFault (run_fault name.now (option_map (λ x. x.now) capacity.entry) (texts_of entries.now)) line f) }
 {
@@ -117,10 +121,11 @@ fn checked_capacity(
 
 // Are all these runs names?
 fn are_names(runs: &[&[u8]]) -> bool
+    requires { AreRuns (texts_of runs.now) }
     ensures { result ≡ list_all is_a_name (texts_of runs.now) }
 {
     'runs: for run in runs {
-        if !is_name(run) {
+        if !is_name_run(run) {
             return false;
         }
     }

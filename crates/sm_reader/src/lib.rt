@@ -9,6 +9,7 @@ mod faults;
 mod forms;
 mod header;
 mod judging;
+mod keys;
 mod names;
 mod numbering;
 mod reading;

@@ -6,6 +6,7 @@ ghost use Rattle.std.specs.Str.{bytes_eq};
 ghost use Rattle.sm_reader.specs.InstanceText.{number_in};
 ghost use Rattle.sm_reader.specs.Kept.{texts_of, text_at, table_of, no_names, IsTable, Interns, Declares, Meets, Lists};
 
+use crate::keys::Key;
 use indexmap::IndexSet;
 use std::alloc::{AllocError, Global};
 
@@ -14,7 +15,7 @@ use std::alloc::{AllocError, Global};
 #[derive(Drop)]
 pub(crate) struct Names<'a> {
     /// The names, by index.
-    pub(crate) texts: IndexSet<&'a [u8]>,
+    pub(crate) texts: IndexSet<Key<'a>>,
     /// The number of the agent of each name, `None` while it isn't declared.
     pub(crate) numbers: Vec<Option<u32>>,
     /// For each name the line on whose list it stood last, 0 where it stood on none.
@@ -41,7 +42,7 @@ impl<'a> Names<'a> {
         requires { IsTable (table_of self.old) }
         ensures { IfOk result (λ i. Interns (table_of self.old) (table_of self.new) name.now i) }
     {
-        let (index, is_new) = self.texts.insert_full(name)?;
+        let (index, is_new) = self.texts.insert_full(Key { text: name })?;
         if is_new {
             self.numbers.push(None)?;
             self.stamps.push(0)?;

@@ -188,13 +188,19 @@ fn a_fault_counts_before_those_of_later_lines(rt: HostRuntime) {
     }
 }
 
-/// A text of 4,096 proposers who list 128 names each, which are all entries that a text may have, and of a last line.
-fn full(alloc: Global, last: &[u8]) -> Result<LineWriter, AllocError> {
+/// A text of this header, of 4,096 agents whose lines begin so and list 128 names each, which are all agents that a side
+/// may have and all entries that a text may have, and of a last line.
+fn full(
+    alloc: Global,
+    header: &[u8],
+    beginning: &[u8],
+    last: &[u8],
+) -> Result<LineWriter, AllocError> {
     let mut text = LineWriter::new(alloc, 3_000_000)?;
-    text.put_bytes(b"stable 1 marriage\n")?;
-    for p in 0..4_096 {
-        text.put_bytes(b"p a")?;
-        text.put_number(p)?;
+    text.put_bytes(header)?;
+    for agent in 0..4_096 {
+        text.put_bytes(beginning)?;
+        text.put_number(agent)?;
         text.put_bytes(b":")?;
         put_entries(&mut text)?;
         text.put_bytes(b"\n")?;
@@ -212,11 +218,25 @@ fn put_entries(text: &mut LineWriter) -> Result<(), AllocError> {
     Ok(())
 }
 
-/// Makes sure of the refusal of a full text with this last line.
+/// Makes sure of the refusal of a marriage full of proposers with this last line.
 fn refuses_full(rt: &(impl Abort + AllocGlobal), last: &[u8], kind: RefusalKind, line: u32) {
-    let text = full(rt.alloc(), last).expect(rt, "memory");
+    let text = full(rt.alloc(), b"stable 1 marriage\n", b"p a", last).expect(rt, "memory");
     assert!(rt;
         refusal(rt.alloc(), text.bytes()) == Some((kind, line)),
+        "{last:?}"
+    );
+}
+
+/// Makes sure of the refusal of hospitals full of agents whose lines begin so at this last line.
+fn refuses_full_hospitals(
+    rt: &(impl Abort + AllocGlobal),
+    beginning: &[u8],
+    last: &[u8],
+    kind: RefusalKind,
+) {
+    let text = full(rt.alloc(), b"stable 1 hospitals\n", beginning, last).expect(rt, "memory");
+    assert!(rt;
+        refusal(rt.alloc(), text.bytes()) == Some((kind, 4_098)),
         "{last:?}"
     );
 }
@@ -232,6 +252,16 @@ fn agents_and_entries_are_counted(rt: HostRuntime) {
     refuses_full(&rt, b"r y: a0\n;\n", RefusalKind::TooManyEntries, 4_098);
     refuses_full(&rt, b"r y:\n", RefusalKind::MissingEnd, 4_099);
     refuses_full(&rt, b"r y:\nend\n", RefusalKind::UnknownName, 2);
+}
+
+#[test]
+fn numbers_count_before_agents_and_entries(rt: HostRuntime) {
+    // A hospital with one entry too many, and a hospital too many.
+    let bad = RefusalKind::BadNumber;
+    refuses_full_hospitals(&rt, b"p a", b"r h [01]: a0\n", bad);
+    refuses_full_hospitals(&rt, b"p a", b"r h [1]: a0\n", RefusalKind::TooManyEntries);
+    refuses_full_hospitals(&rt, b"r a", b"r h [01]:\n", bad);
+    refuses_full_hospitals(&rt, b"r a", b"r h [1]:\n", RefusalKind::TooManyAgents);
 }
 
 #[test]

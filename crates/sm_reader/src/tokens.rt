@@ -1,14 +1,17 @@
 //! Lines, and their tokens.
 
-ghost use Rattle.std.specs.Prelude.{◌≡◌, ◌<◌, ◌≤◌, [], length, drop, IfOk, IfSome, MatchOption};
-ghost use Rattle.std.specs.List.{list_any};
+ghost use Rattle.std.specs.Prelude.{◌≡◌, ◌<◌, ◌≤◌, [], true, length, drop, IfOk, IfSome, MatchOption};
+ghost use Rattle.std.specs.List.{list_any, list_all};
+ghost use Rattle.sm_text.specs.Name.{is_name as is_a_name, is_name_byte};
 ghost use Rattle.sm_text.specs.Tokens.{tokens, begins_run, is_mark, IsLeading};
-ghost use Rattle.sm_text.specs.Name.{is_name_byte, begins_name};
 ghost use Rattle.sm_reader.specs.Forms.{is_bad};
-ghost use Rattle.sm_reader.specs.Kept.{texts_of, LeadsLines};
+ghost use Rattle.sm_reader.specs.Kept.{texts_of, LeadsLines, is_inner};
 
-use sm_text::{LineSpan, TokenAt, line_at, token_at};
+use sm_text::{LineSpan, TokenAt, is_name_byte, line_at, token_at};
 use std::alloc::AllocError;
+
+/// The greatest number of bytes in a name.
+const LONGEST: usize = 64;
 
 /// What the line that begins at a place holds, and the place behind the line.
 pub(crate) fn line_from<'a>(bytes: &'a [u8], from: usize) -> Option<(&'a [u8], usize)>
@@ -59,6 +62,24 @@ pub(crate) fn is_run(token: &[u8]) -> bool
     }
 }
 
+/// Is this run, which is name bytes all through, a name?
+pub(crate) fn is_name_run(run: &[u8]) -> bool
+    requires { list_all is_name_byte run.now ≡ true }
+    ensures { result ≡ is_a_name run.now }
+{
+    match run {
+        [first, ..] => !is_inner(*first) && run.len() <= LONGEST,
+        [] => false,
+    }
+}
+
+// Is it `.` or `-`, with which no name begins?
+fn is_inner(b: u8) -> bool
+    ensures { result ≡ is_inner b }
+{
+    b == b'.' || b == b'-'
+}
+
 // Is the token a byte that no line of an instance holds?
 #[tactic(auto, unfolding(crate::specs::Forms::is_bad))]
 fn is_bad(token: &[u8]) -> bool
@@ -68,22 +89,6 @@ fn is_bad(token: &[u8]) -> bool
         [first, ..] => !(is_name_byte(*first) || is_mark(*first)),
         [] => false,
     }
-}
-
-// May a name hold this byte?
-#[tactic(auto, unfolding(sm_text::specs::Name::begins_name, sm_text::specs::Name::is_name_byte))]
-fn is_name_byte(b: u8) -> bool
-    ensures { result ≡ is_name_byte b }
-{
-    begins_name(b) || b == b'.' || b == b'-'
-}
-
-// May a name begin with this byte?
-#[tactic(auto, unfolding(sm_text::specs::Name::begins_name))]
-fn begins_name(b: u8) -> bool
-    ensures { result ≡ begins_name b }
-{
-    matches!(b, b'A'..=b'Z' | b'a'..=b'z' | b'0'..=b'9' | b'_')
 }
 
 // Is it `:`, `[` or `]`?

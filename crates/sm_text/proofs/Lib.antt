@@ -2,3 +2,4 @@ pub mod LineLemmas
 pub mod DigitLemmas
 pub mod TokenLemmas
 pub mod NumberLemmas
+pub mod NameLemmas

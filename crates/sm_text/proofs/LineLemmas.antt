@@ -1,8 +1,9 @@
 -- The first line of a list of bytes, and what it holds.
-use Rattle.std.proofs.Common.{zero, suc, ◌≡◌, ℕ, ◌+◌, ◌-◌, ◌<◌, ◌≤◌, cond, eqb, Bool, true, false, List, [], ◌∷◌, length, get_or, take, drop, refl, sym, ap, ◌∙◌, arith}
+use Rattle.std.proofs.Common.{zero, suc, ◌≡◌, ◌≢◌, ℕ, ◌+◌, ◌-◌, ◌<◌, ◌≤◌, cond, eqb, Bool, true, false, List, [], ◌∷◌, length, get_or, take, drop, refl, sym, ap, ◌∙◌, arith}
 use Rattle.std.proofs.lemmas.List.{at_drop_more, take-take, drop-drop, length-drop}
 use Rattle.std.specs.List.{onto_first}
 use Rattle.std.proofs.lemmas.Bool.Decides.{nat_tests}
+use Rattle.std.proofs.lemmas.Bool.{eq-eqb, ne_eqb}
 use Rattle.sm_text.specs.Lines.{first_line, without_last, content, lines, IsLineAt}
 use Rattle.sm_text.specs.declared.lines.LineSpan.{LineSpan}
 
@@ -10,6 +11,19 @@ use Rattle.sm_text.specs.declared.lines.LineSpan.{LineSpan}
 pub first_line_drop : (bytes : List ℕ) (i : ℕ) → i < length bytes
     → first_line (drop i bytes) ≡ cond (eqb (get_or bytes i 0) 10) (get_or bytes i 0 ∷ []) (get_or bytes i 0 ∷ first_line (drop (i + 1) bytes))
 first_line_drop bytes i h = at_drop_more first_line bytes i 0 h
+
+-- the line ends at the first LF, or with the text
+pub first_line_to : (bytes : List ℕ) (i : ℕ) → i < length bytes → get_or bytes i 0 ≡ 10 → ((k : ℕ) → k < i → get_or bytes k 0 ≢ 10) → first_line bytes ≡ take (i + 1) bytes
+first_line_to [] i h there before = absurd (omega arith)
+first_line_to (b ∷ bytes) zero h there before = rw (eq-eqb b 10 there) refl
+first_line_to (b ∷ bytes) (suc i) h there before =
+    rw (ne_eqb b 10 (before 0 (omega arith))) (ap (λ t. b ∷ t) (first_line_to bytes i (omega arith) there (λ k l. before (suc k) (omega arith)))
+    ∙ ap (λ n. take n (b ∷ bytes)) (let e : suc (i + 1) ≡ suc i + 1 = omega arith in e))
+
+pub first_line_whole : (bytes : List ℕ) → ((k : ℕ) → k < length bytes → get_or bytes k 0 ≢ 10) → first_line bytes ≡ bytes
+first_line_whole [] none = refl
+first_line_whole (b ∷ bytes) none =
+    rw (ne_eqb b 10 (none 0 (omega arith))) (ap (λ t. b ∷ t) (first_line_whole bytes (λ k l. none (suc k) (omega arith))))
 
 pub first_line_taken : (bytes : List ℕ) → take (length (first_line bytes)) bytes ≡ first_line bytes
 first_line_taken [] = refl

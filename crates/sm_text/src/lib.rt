@@ -12,7 +12,7 @@ mod tokens;
 mod writer;
 
 pub use lines::{LineSpan, line_at, line_count};
-pub use names::is_name;
+pub use names::{is_name, is_name_byte};
 pub use numbers::{number, signed};
 pub use refusal::RefusalKind;
 pub use tokens::{TokenAt, token_at};

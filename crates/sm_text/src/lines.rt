@@ -1,6 +1,8 @@
 ghost use Rattle.std.specs.Prelude.{◌≡◌, ◌≤◌, ◌<◌, ◌+◌, length, drop, MatchOption};
 ghost use Rattle.sm_text.specs.Lines.{IsLineAt, first_line, content, without_last, lines};
 
+use memchr::memchr;
+
 /// Where a line stands in a text: its bytes are `start..stop`, its end is `stop..next`, and the line after it, if there is
 /// one, begins at `next`. Places are counted from 0.
 #[derive(Clone, Copy, Debug, PartialEq, Eq)]
@@ -51,16 +53,13 @@ pub fn line_count(bytes: &[u8]) -> u32
 }
 
 // The first line, with its end.
-#[tactic(auto, using(crate::proofs::LineLemmas::first_line_drop, crate::proofs::LineLemmas::first_line_taken))]
 fn first_line(bytes: &[u8]) -> &[u8]
     ensures { result.now ≡ first_line bytes.now }
 {
-    for (i, b) in bytes.iter().enumerate() {
-        if *b == LF {
-            return &bytes[..i + 1];
-        }
+    match memchr(LF, bytes) {
+        Some(at) => &bytes[..at + 1],
+        None => bytes,
     }
-    bytes
 }
 
 // What a line holds: the line without its end.

@@ -22,17 +22,39 @@ fn are_name_bytes(run: &[u8]) -> bool
 }
 
 // May a name begin with this byte?
-#[tactic(auto, unfolding(crate::specs::Name::begins_name))]
+#[tactic(auto, unfolding(crate::specs::Name::begins_name, crate::specs::Name::is_name_byte))]
 fn begins_name(b: u8) -> bool
     ensures { result ≡ begins_name b }
 {
-    matches!(b, b'A'..=b'Z' | b'a'..=b'z' | b'0'..=b'9' | b'_')
+    is_name_byte(b) && b != b'.' && b != b'-'
 }
 
-// May a name hold this byte?
-#[tactic(auto, unfolding(crate::specs::Name::begins_name, crate::specs::Name::is_name_byte))]
-pub(crate) fn is_name_byte(b: u8) -> bool
+/// May a name hold this byte: is it a letter, a digit, `_`, `.` or `-`?
+pub fn is_name_byte(b: u8) -> bool
     ensures { result ≡ is_name_byte b }
 {
-    begins_name(b) || b == b'.' || b == b'-'
+    NAME_BYTES[b as usize]
 }
+
+// For each byte, whether a name may hold it. Most of a text is names, and one look takes less time than comparisons do.
+static NAME_BYTES: [bool; 256] = [
+    false, false, false, false, false, false, false, false, false, false, false, false, false,
+    false, false, false, false, false, false, false, false, false, false, false, false, false,
+    false, false, false, false, false, false, false, false, false, false, false, false, false,
+    false, false, false, false, false, false, true, true, false, true, true, true, true, true,
+    true, true, true, true, true, false, false, false, false, false, false, false, true, true,
+    true, true, true, true, true, true, true, true, true, true, true, true, true, true, true, true,
+    true, true, true, true, true, true, true, true, false, false, false, false, true, false, true,
+    true, true, true, true, true, true, true, true, true, true, true, true, true, true, true, true,
+    true, true, true, true, true, true, true, true, true, false, false, false, false, false, false,
+    false, false, false, false, false, false, false, false, false, false, false, false, false,
+    false, false, false, false, false, false, false, false, false, false, false, false, false,
+    false, false, false, false, false, false, false, false, false, false, false, false, false,
+    false, false, false, false, false, false, false, false, false, false, false, false, false,
+    false, false, false, false, false, false, false, false, false, false, false, false, false,
+    false, false, false, false, false, false, false, false, false, false, false, false, false,
+    false, false, false, false, false, false, false, false, false, false, false, false, false,
+    false, false, false, false, false, false, false, false, false, false, false, false, false,
+    false, false, false, false, false, false, false, false, false, false, false, false, false,
+    false, false, false, false, false, false, false, false, false, false,
+];

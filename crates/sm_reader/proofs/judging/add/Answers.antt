@@ -3,12 +3,15 @@ use Rattle.std.specs.Option.{option_map}
 use Rattle.std.specs.Result.{IfOk, IfErr}
 use Rattle.sm_reader.specs.Forms.{declares, weighs, forces, forbids}
 use Rattle.sm_reader.specs.Judging.{fault_of}
-use Rattle.sm_reader.specs.Kept.{texts_of}
-use Rattle.sm_reader.specs.Draft.{said_of, form_of, Adds, IsLineFault}
+use Rattle.sm_reader.specs.Kept.{texts_of, AreRuns}
+use Rattle.sm_reader.specs.Draft.{said_of, form_of, entries_in, Adds, IsLineFault}
 use Rattle.sm_reader.proofs.JudgeLemmas.{weight_faults}
 use Rattle.sm_reader.proofs.PairLemmas.{adds_agent, agent_refused, runs_refused, weight_added, forced_added, forbidden_added, forced_refused, forbidden_refused}
 use Rattle.sm_reader.proofs.ResultLemmas.{if_ok, if_err, on_err}
 use Rattle.sm_reader.proofs.judging.add.Goals as goal
+
+pub checked_capacity-requires : goal.checked_capacity-requires
+checked_capacity-requires c = subst (λ form. AreRuns (entries_in (form_of form))) c.in-Agent.is c.requires.runs
 
 pub returns-in_err-capacity-in-Agent-clause-fault : goal.returns-in_err-capacity-in-Agent-clause-fault
 returns-in_err-capacity-in-Agent-clause-fault c =
@@ -17,7 +20,7 @@ returns-in_err-capacity-in-Agent-clause-fault c =
     let f = c.in_err-capacity-in-Agent.field-0.0 in
     on_err (λ f. IsLineFault (fault_of said (form_of c.args.form)) c.args.line f) c.from_residual.result f c.from_residual.ensures.1
     (subst (λ form. IsLineFault (fault_of said (form_of form)) c.args.line f) (sym a.is)
-    (runs_refused c.args.kind c.args.line c.args.draft.now a.side a.name.now (option_map (λ x. x.now) a.capacity) (texts_of a.entries.now) c.requires f c.in_err-capacity-in-Agent.ensures.fault))
+    (runs_refused c.args.kind c.args.line c.args.draft.now a.side a.name.now (option_map (λ x. x.now) a.capacity) (texts_of a.entries.now) c.requires.draft f c.in_err-capacity-in-Agent.ensures.fault))
 
 pub returns-in_ok-capacity-in-Agent-clause-added : goal.returns-in_ok-capacity-in-Agent-clause-added
 returns-in_ok-capacity-in-Agent-clause-added c =
@@ -26,7 +29,7 @@ returns-in_ok-capacity-in-Agent-clause-added c =
     let new = c.add_agent.new.draft in
     subst (λ form. IfOk c.add_agent.result (λ _. Adds c.args.kind c.args.line (form_of form) d new)) (sym a.is)
     (if_ok _ (λ _. Adds c.args.kind c.args.line (declares a.side a.name.now (option_map (λ x. x.now) a.capacity) (texts_of a.entries.now)) d new) c.add_agent.result c.add_agent.ensures.added
-    (λ _ adds. adds_agent c.args.kind c.args.line d a.side a.name.now (option_map (λ x. x.now) a.capacity) (texts_of a.entries.now) c.requires c.in_ok-capacity-in-Agent.capacity new c.in_ok-capacity-in-Agent.ensures.checked adds))
+    (λ _ adds. adds_agent c.args.kind c.args.line d a.side a.name.now (option_map (λ x. x.now) a.capacity) (texts_of a.entries.now) c.requires.draft c.in_ok-capacity-in-Agent.capacity new c.in_ok-capacity-in-Agent.ensures.checked adds))
 
 pub returns-in_ok-capacity-in-Agent-clause-fault : goal.returns-in_ok-capacity-in-Agent-clause-fault
 returns-in_ok-capacity-in-Agent-clause-fault c =
@@ -35,7 +38,7 @@ returns-in_ok-capacity-in-Agent-clause-fault c =
     let said = said_of c.args.kind d in
     subst (λ form. IfErr c.add_agent.result (λ f. IsLineFault (fault_of said (form_of form)) c.args.line f)) (sym a.is)
     (if_err _ (λ f. IsLineFault (fault_of said (declares a.side a.name.now (option_map (λ x. x.now) a.capacity) (texts_of a.entries.now))) c.args.line f) c.add_agent.result c.add_agent.ensures.fault
-    (λ f h. agent_refused c.args.kind c.args.line d a.side a.name.now (option_map (λ x. x.now) a.capacity) (texts_of a.entries.now) c.requires c.in_ok-capacity-in-Agent.capacity f c.in_ok-capacity-in-Agent.ensures.checked h))
+    (λ f h. agent_refused c.args.kind c.args.line d a.side a.name.now (option_map (λ x. x.now) a.capacity) (texts_of a.entries.now) c.requires.draft c.in_ok-capacity-in-Agent.capacity f c.in_ok-capacity-in-Agent.ensures.checked h))
 
 pub returns-in-Weight-clause-added : goal.returns-in-Weight-clause-added
 returns-in-Weight-clause-added c =
@@ -44,7 +47,7 @@ returns-in-Weight-clause-added c =
     let new = c.add_weight.new.draft in
     subst (λ form. IfOk c.add_weight.result (λ _. Adds c.args.kind c.args.line (form_of form) d new)) (sym a.is)
     (if_ok _ (λ _. Adds c.args.kind c.args.line (weighs a.proposer.now a.reviewer.now a.weight.now) d new) c.add_weight.result c.add_weight.ensures.put
-    (λ _ puts. weight_added c.args.kind c.args.line d new a.proposer.now a.reviewer.now a.weight.now c.requires puts))
+    (λ _ puts. weight_added c.args.kind c.args.line d new a.proposer.now a.reviewer.now a.weight.now c.requires.draft puts))
 
 pub returns-in-Weight-clause-fault : goal.returns-in-Weight-clause-fault
 returns-in-Weight-clause-fault c =
@@ -61,7 +64,7 @@ returns-in-Forced-clause-added c =
     let new = c.add_forced.new.draft in
     subst (λ form. IfOk c.add_forced.result (λ _. Adds c.args.kind c.args.line (form_of form) d new)) (sym a.is)
     (if_ok _ (λ _. Adds c.args.kind c.args.line (forces a.proposer.now a.reviewer.now) d new) c.add_forced.result c.add_forced.ensures.put
-    (λ _ puts. forced_added c.args.kind c.args.line d new a.proposer.now a.reviewer.now c.requires puts))
+    (λ _ puts. forced_added c.args.kind c.args.line d new a.proposer.now a.reviewer.now c.requires.draft puts))
 
 pub returns-in-Forced-clause-fault : goal.returns-in-Forced-clause-fault
 returns-in-Forced-clause-fault c =
@@ -78,7 +81,7 @@ returns-in-Forbidden-clause-added c =
     let new = c.add_forbidden.new.draft in
     subst (λ form. IfOk c.add_forbidden.result (λ _. Adds c.args.kind c.args.line (form_of form) d new)) (sym a.is)
     (if_ok _ (λ _. Adds c.args.kind c.args.line (forbids a.proposer.now a.reviewer.now) d new) c.add_forbidden.result c.add_forbidden.ensures.put
-    (λ _ puts. forbidden_added c.args.kind c.args.line d new a.proposer.now a.reviewer.now c.requires puts))
+    (λ _ puts. forbidden_added c.args.kind c.args.line d new a.proposer.now a.reviewer.now c.requires.draft puts))
 
 pub returns-in-Forbidden-clause-fault : goal.returns-in-Forbidden-clause-fault
 returns-in-Forbidden-clause-fault c =

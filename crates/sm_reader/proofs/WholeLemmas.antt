@@ -1,0 +1,202 @@
+-- Tokens that begin with a name byte are name bytes all through.
+use Rattle.std.proofs.Common.{◌≡◌, ℕ, suc, ◌+◌, ◌<◌, ◌≤◌, cond, eqb, ◌&&◌, ◌||◌, not, Bool, true, false, List, [], ◌∷◌, length, get_or, take, drop, Option, Some, None, nat_le, refl, sym, ap, subst, ◌∙◌, arith}
+use Rattle.std.specs.Option.{option_or}
+use Rattle.std.specs.List.{list_all, onto_first, prefix_len}
+use Rattle.std.specs.Str.{bytes_eq}
+use Rattle.std.specs.Prelude.{codes}
+use Rattle.std.proofs.lemmas.Bool.Decides.{nat_tests}
+use Rattle.std.proofs.lemmas.Bool.{false≢true}
+use Rattle.sm_text.specs.Name.{is_name, is_name_byte, begins_name}
+use Rattle.sm_text.specs.Tokens.{tokens, begins_run, is_blank}
+use Rattle.sm_text.proofs.TokenLemmas.{tokens_of_run}
+use Rattle.sm_instance.specs.Sound.{is_single}
+use Rattle.sm_instance.specs.declared.kinds.Kind.{Kind}
+use Rattle.sm_instance.specs.declared.kinds.Kind.TheVariants.{Marriage, Hospitals, Roommates}
+use Rattle.sm_instance.specs.declared.kinds.Side.{Side}
+use Rattle.sm_instance.specs.declared.kinds.Side.TheVariants.{Proposers, Reviewers}
+use Rattle.sm_reader.specs.Forms.{Form, declares, weighs, forces, forbids, list_form, capacity_form, weight_form, pair_form, reviewer_form, two_sided_form, form_behind, is_colon}
+use Rattle.sm_reader.specs.Kept.{texts_of, is_whole, is_inner, AreRuns}
+use Rattle.sm_reader.proofs.TextLemmas.{all_texts_fail}
+use Rattle.std.specs.Borrow.{Bor}
+use Rattle.std.proofs.lemmas.List.{get_or_default}
+use Rattle.sm_reader.specs.Draft.{entries_in}
+
+and_left : (s t : Bool) → (s && t) ≡ true → s ≡ true
+and_left true t h = refl
+and_left false t h = cc
+
+and_right : (s t : Bool) → (s && t) ≡ true → t ≡ true
+and_right true t h = h
+and_right false t h = cc
+
+or_right : (s t : Bool) → (not s || t) ≡ true → s ≡ true → t ≡ true
+or_right true t h k = h
+or_right false t h k = cc
+
+itself : (s : Bool) → (not s || (s && true)) ≡ true
+itself true = refl
+itself false = refl
+
+one_more : (n b : ℕ) (line : List ℕ) → take (1 + n) (b ∷ line) ≡ b ∷ take n line
+one_more n b line = ap (λ k. take k (b ∷ line)) (let e : 1 + n ≡ suc n = omega arith in e)
+
+-- a name byte before a run
+longer_whole : (b : ℕ) (first : List ℕ) (more : List (List ℕ)) → is_name_byte b ≡ true → begins_run first ≡ true → list_all is_whole (first ∷ more) ≡ true
+    → list_all is_whole ((b ∷ first) ∷ more) ≡ true
+longer_whole b first more name begins h =
+    let all : list_all is_name_byte first ≡ true = or_right (begins_run first) (list_all is_name_byte first) (and_left (is_whole first) (list_all is_whole more) h) begins in
+    rw (name, all) (and_right (is_whole first) (list_all is_whole more) h)
+
+joined_whole : (b : ℕ) (line : List ℕ) → is_name_byte b ≡ true → begins_run line ≡ true → list_all is_whole (tokens line) ≡ true → list_all is_whole (onto_first b (tokens line)) ≡ true
+joined_whole b [] name begins h = absurd (false≢true begins)
+joined_whole b (c ∷ line) name begins h =
+    let n = prefix_len is_name_byte line in
+    let more = tokens (drop (1 + n) (c ∷ line)) in
+    let split : tokens (c ∷ line) ≡ (c ∷ take n line) ∷ more = tokens_of_run c line begins ∙ ap (λ t. t ∷ more) (one_more n c line) in
+    let Q : List (List ℕ) → Type 0 = λ ts. list_all is_whole ts ≡ true in
+    let P : List (List ℕ) → Type 0 = λ ts. Q (onto_first b ts) in
+    subst P (sym split) (longer_whole b (c ∷ take n line) more name begins (subst Q split h))
+
+pub tokens_whole : (line : List ℕ) → list_all is_whole (tokens line) ≡ true
+tokens_whole [] = refl
+tokens_whole (b ∷ line) = by_hash (eqb b 35) (is_blank b) (is_name_byte b && begins_run line) refl (tokens_whole line)
+  where
+    by_hash : (s t u : Bool) → (is_name_byte b && begins_run line) ≡ u → list_all is_whole (tokens line) ≡ true
+        → list_all is_whole (cond s [] (cond t (tokens line) (cond u (onto_first b (tokens line)) ((b ∷ []) ∷ tokens line)))) ≡ true
+    by_hash true t u e behind = refl
+    by_hash false true u e behind = behind
+    by_hash false false true e behind = joined_whole b line (and_left (is_name_byte b) (begins_run line) e) (and_right (is_name_byte b) (begins_run line) e) behind
+    by_hash false false false e behind = rw (itself (is_name_byte b)) behind
+
+-- runs among whole tokens
+runs_whole : (tokens : List (List ℕ)) → list_all begins_run tokens ≡ true → list_all is_whole tokens ≡ true → AreRuns tokens
+runs_whole [] begin whole = refl
+runs_whole (t ∷ ts) begin whole =
+    let all : list_all is_name_byte t ≡ true = or_right (begins_run t) (list_all is_name_byte t) (and_left (is_whole t) (list_all is_whole ts) whole) (and_left (begins_run t) (list_all begins_run ts) begin) in
+    rw all (runs_whole ts (and_right (begins_run t) (list_all begins_run ts) begin) (and_right (is_whole t) (list_all is_whole ts) whole))
+
+-- the list of a line that may have one
+abbrev pub listed : Option Form → List (List ℕ)
+listed None = []
+listed (Some form) = entries_in form
+
+tail_whole : (t : List ℕ) (ts : List (List ℕ)) → list_all is_whole (t ∷ ts) ≡ true → list_all is_whole ts ≡ true
+tail_whole t ts h = and_right (is_whole t) (list_all is_whole ts) h
+
+-- the lists of lines are runs
+list_runs : (side : Side) (rest : List (List ℕ)) → list_all is_whole rest ≡ true → AreRuns (listed (list_form side rest))
+unfolding list_form
+list_runs side [] h = refl
+list_runs side (name ∷ []) h = refl
+list_runs side (name ∷ colon ∷ entries) h = by_test (begins_run name && is_colon colon && list_all begins_run entries) refl
+  where
+    by_test : (t : Bool) → (begins_run name && is_colon colon && list_all begins_run entries) ≡ t → AreRuns (listed (cond t (Some (declares side name None entries)) None))
+    by_test true e = runs_whole entries (and_right (begins_run name && is_colon colon) (list_all begins_run entries) e) (tail_whole colon entries (tail_whole name (colon ∷ entries) h))
+    by_test false e = refl
+
+capacity_runs : (rest : List (List ℕ)) → list_all is_whole rest ≡ true → AreRuns (listed (capacity_form rest))
+unfolding capacity_form
+capacity_runs [] h = refl
+capacity_runs (a ∷ []) h = refl
+capacity_runs (a ∷ b ∷ []) h = refl
+capacity_runs (a ∷ b ∷ c ∷ []) h = refl
+capacity_runs (a ∷ b ∷ c ∷ d ∷ []) h = refl
+capacity_runs (name ∷ opening ∷ number ∷ closing ∷ colon ∷ entries) h =
+    by_test (begins_run name) (bytes_eq opening (codes "[")) (begins_run number) (bytes_eq closing (codes "]")) (is_colon colon) (list_all begins_run entries) refl
+  where
+    by_test : (s t u v w x : Bool) → list_all begins_run entries ≡ x → AreRuns (listed (cond (s && t && u && v && w && x) (Some (declares Reviewers name (Some number) entries)) None))
+    by_test true true true true true true e = runs_whole entries e (tail_whole colon entries (tail_whole closing (colon ∷ entries) (tail_whole number (closing ∷ colon ∷ entries) (tail_whole opening (number ∷ closing ∷ colon ∷ entries) (tail_whole name (opening ∷ number ∷ closing ∷ colon ∷ entries) h)))))
+    by_test true true true true true false e = refl
+    by_test true true true true false x e = refl
+    by_test true true true false w x e = refl
+    by_test true true false v w x e = refl
+    by_test true false u v w x e = refl
+    by_test false t u v w x e = refl
+
+weight_runs : (rest : List (List ℕ)) → AreRuns (listed (weight_form rest))
+unfolding weight_form
+weight_runs [] = refl
+weight_runs (a ∷ []) = refl
+weight_runs (a ∷ b ∷ []) = refl
+weight_runs (a ∷ b ∷ c ∷ []) = elim (begins_run a && begins_run b && begins_run c) as (λ t. AreRuns (listed (cond t (Some (weighs a b c)) None))) [ true ↦ refl | false ↦ refl ]
+weight_runs (a ∷ b ∷ c ∷ d ∷ rest) = refl
+
+forced_runs : (rest : List (List ℕ)) → AreRuns (listed (pair_form forces rest))
+unfolding pair_form
+forced_runs [] = refl
+forced_runs (a ∷ []) = refl
+forced_runs (a ∷ b ∷ []) = elim (begins_run a && begins_run b) as (λ t. AreRuns (listed (cond t (Some (forces a b)) None))) [ true ↦ refl | false ↦ refl ]
+forced_runs (a ∷ b ∷ c ∷ rest) = refl
+
+forbidden_runs : (rest : List (List ℕ)) → AreRuns (listed (pair_form forbids rest))
+unfolding pair_form
+forbidden_runs [] = refl
+forbidden_runs (a ∷ []) = refl
+forbidden_runs (a ∷ b ∷ []) = elim (begins_run a && begins_run b) as (λ t. AreRuns (listed (cond t (Some (forbids a b)) None))) [ true ↦ refl | false ↦ refl ]
+forbidden_runs (a ∷ b ∷ c ∷ rest) = refl
+
+-- of two, and of five
+or_runs : (a b : Option Form) → AreRuns (listed a) → AreRuns (listed b) → AreRuns (listed (option_or a b))
+or_runs None b h k = k
+or_runs (Some form) b h k = h
+
+cond_runs : (t : Bool) (a b : Option Form) → AreRuns (listed a) → AreRuns (listed b) → AreRuns (listed (cond t a b))
+cond_runs true a b h k = h
+cond_runs false a b h k = k
+
+reviewer_runs : (kind : Kind) (rest : List (List ℕ)) → list_all is_whole rest ≡ true → AreRuns (listed (reviewer_form kind rest))
+unfolding reviewer_form
+reviewer_runs kind rest h =
+    cond_runs (is_single kind) (list_form Reviewers rest) (option_or (list_form Reviewers rest) (capacity_form rest)) (list_runs Reviewers rest h)
+    (or_runs (list_form Reviewers rest) (capacity_form rest) (list_runs Reviewers rest h) (capacity_runs rest h))
+
+two_sided_runs : (kind : Kind) (word : List ℕ) (rest : List (List ℕ)) → list_all is_whole rest ≡ true → AreRuns (listed (two_sided_form kind word rest))
+unfolding two_sided_form
+two_sided_runs kind word rest h =
+    cond_runs (bytes_eq word (codes "r")) (reviewer_form kind rest) _ (reviewer_runs kind rest h)
+    (cond_runs (bytes_eq word (codes "weight")) (weight_form rest) _ (weight_runs rest)
+    (cond_runs (bytes_eq word (codes "force")) (pair_form forces rest) _ (forced_runs rest)
+    (cond_runs (bytes_eq word (codes "forbid")) (pair_form forbids rest) None (forbidden_runs rest) refl)))
+
+pub form_runs : (kind : Kind) (word : List ℕ) (rest : List (List ℕ)) → list_all is_whole rest ≡ true → AreRuns (listed (form_behind kind word rest))
+unfolding form_behind
+form_runs Roommates word rest h = cond_runs (bytes_eq word (codes "p")) (list_form Proposers rest) None (list_runs Proposers rest h) refl
+form_runs Marriage word rest h = cond_runs (bytes_eq word (codes "p")) (list_form Proposers rest) (two_sided_form Marriage word rest) (list_runs Proposers rest h) (two_sided_runs Marriage word rest h)
+form_runs Hospitals word rest h = cond_runs (bytes_eq word (codes "p")) (list_form Proposers rest) (two_sided_form Hospitals word rest) (list_runs Proposers rest h) (two_sided_runs Hospitals word rest h)
+
+-- all tokens behind the first are whole
+pub rest_whole : (tokens : List (Bor (List ℕ))) → list_all is_whole (texts_of tokens) ≡ true → list_all is_whole (texts_of (drop 1 tokens)) ≡ true
+rest_whole [] h = refl
+rest_whole (t ∷ ts) h = tail_whole t.now (texts_of ts) h
+
+-- a name byte begins a name unless it is one of those that don't
+first_begins : (b : ℕ) → is_name_byte b ≡ true → begins_name b ≡ not (is_inner b)
+unfolding is_name_byte begins_name
+first_begins b h = grind (arith, nat_tests)
+
+-- two of four tests, the other two of which pass
+two_of_four : (s t u v w : Bool) → s ≡ true → v ≡ true → u ≡ w → (s && t && u && v) ≡ (w && t)
+two_of_four true true true true true e f g = refl
+two_of_four true true false true false e f g = refl
+two_of_four true false true true true e f g = refl
+two_of_four true false false true false e f g = refl
+two_of_four true t true true false e f g = cc
+two_of_four true t false true true e f g = cc
+two_of_four true t u false w e f g = cc
+two_of_four false t u v w e f g = cc
+
+-- a run is a name unless it is too long or begins with one of those
+pub name_of_run : (run : List ℕ) → 1 ≤ length run → list_all is_name_byte run ≡ true → is_name run ≡ (not (is_inner (get_or run 0 0)) && nat_le (length run) 64)
+name_of_run [] some all = absurd (omega arith)
+name_of_run (b ∷ rest) some all =
+    let one : nat_le 1 (length (b ∷ rest)) ≡ true = grind (arith, nat_tests) in
+    two_of_four (nat_le 1 (length (b ∷ rest))) (nat_le (length (b ∷ rest)) 64) (begins_name b) (list_all is_name_byte (b ∷ rest)) (not (is_inner b)) one all
+    (first_begins b (and_left (is_name_byte b) (list_all is_name_byte rest) all))
+
+-- one of the runs
+pub run_at : (xs : List (Bor (List ℕ))) (i : ℕ) (d : Bor (List ℕ)) → i < length xs → AreRuns (texts_of xs) → list_all is_name_byte (get_or xs i d).now ≡ true
+run_at xs i d inside runs = by_test (list_all is_name_byte (get_or xs i d).now) refl
+  where
+    by_test : (t : Bool) → list_all is_name_byte (get_or xs i d).now ≡ t → list_all is_name_byte (get_or xs i d).now ≡ true
+    by_test true e = e
+    by_test false e = absurd (false≢true (sym (all_texts_fail (list_all is_name_byte) xs i (get_or xs i d) inside (get_or_default xs i d (get_or xs i d) inside) e) ∙ runs))
