@@ -16,13 +16,13 @@ use Rattle.sm_rotations.specs.Following.{IsNothingExposed, IsLowestExposed}
 use Rattle.sm_rotations.specs.Chaining.{LeadsTo}
 use Rattle.sm_rotations.proofs.CountLemmas.{sum_below, sums_le, sums_less}
 
-rotation_before : (xs : List (List (ℕ × ℕ))) (x : List (ℕ × ℕ)) (k : ℕ) → k < length xs → rotation_at (xs ++ x ∷ []) k ≡ rotation_at xs k
+pub rotation_before : (xs : List (List (ℕ × ℕ))) (x : List (ℕ × ℕ)) (k : ℕ) → k < length xs → rotation_at (xs ++ x ∷ []) k ≡ rotation_at xs k
 rotation_before xs x k less = get_or_append_left xs (x ∷ []) [] k less
 
-rotation_new : (xs : List (List (ℕ × ℕ))) (x : List (ℕ × ℕ)) (k : ℕ) → k ≡ length xs → rotation_at (xs ++ x ∷ []) k ≡ x
+pub rotation_new : (xs : List (List (ℕ × ℕ))) (x : List (ℕ × ℕ)) (k : ℕ) → k ≡ length xs → rotation_at (xs ++ x ∷ []) k ≡ x
 rotation_new xs x k e = get_or_push xs x [] k (sym e)
 
-stage_before : (l : Lists) (first : Places) (xs : List (List (ℕ × ℕ))) (x : List (ℕ × ℕ)) (k : ℕ) → k ≤ length xs → stage l first (xs ++ x ∷ []) k ≡ stage l first xs k
+pub stage_before : (l : Lists) (first : Places) (xs : List (List (ℕ × ℕ))) (x : List (ℕ × ℕ)) (k : ℕ) → k ≤ length xs → stage l first (xs ++ x ∷ []) k ≡ stage l first xs k
 stage_before l first xs x zero le = refl
 stage_before l first xs x (suc k) le = ap (λ m. eliminated l m (rotation_at (xs ++ x ∷ []) k)) (stage_before l first xs x k (omega arith)) ∙ ap (eliminated l (stage l first xs k)) (rotation_before xs x k (omega arith))
 

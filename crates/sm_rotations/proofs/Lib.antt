@@ -5,3 +5,16 @@ pub mod CountLemmas
 pub mod NeedsLemmas
 pub mod FollowingLemmas
 pub mod ChainingLemmas
+pub mod WalkLemmas
+pub mod StackLemmas
+pub mod FrontLemmas
+pub mod CutLemmas
+pub mod WalkTurns
+pub mod OrderLemmas
+pub mod TurnLemmas
+pub mod TimesLemmas
+pub mod PassedLemmas
+pub mod ReadyLemmas
+pub mod HeapLemmas
+pub mod TurnedOverLemmas
+pub mod WrittenLemmas

@@ -6,8 +6,8 @@ ghost use Rattle.sm_market.specs.Pairing.{IsPairingOf};
 ghost use Rattle.sm_theory.specs.Chains.{IsPrintedChain};
 ghost use Rattle.sm_theory.specs.Values.{rotations_of};
 
-use crate::elimination::{copy_of, eliminate};
-use crate::exposure::exposed;
+use crate::order::in_order;
+use crate::walk::walk;
 use sm_market::{Market, Pairing};
 use sm_theory::Chain;
 use std::alloc::{AllocError, Global};
@@ -18,8 +18,9 @@ use std::alloc::{AllocError, Global};
 /// lowest-numbered proposer. The pairing has to be the proposers' best of the market, as
 /// [`sm_accept::proposer_best`] gives it (Gusfield and Irving 1989, section 2.5).
 ///
-/// The exposed rotation is looked for anew at each turn, by [`crate::exposed`]. So the time is that of as many such calls
-/// as there are rotations.
+/// A walk with one stack of proposers over linked lists finds the rotations, and a heap puts them into this order. Takes
+/// time and memory in proportion to the agents, the entries and the predecessors of the rotations, up to a logarithm in
+/// the number of rotations.
 ///
 /// # Errors
 ///
@@ -31,12 +32,9 @@ pub fn chain(alloc: Global, market: &Market, best: &Pairing) -> Result<Chain, Al
     ensures first { IfOk result (λ chain. chain.first.places ≡ best.now.places) }
     ensures chain { IfOk result (λ chain. IsPrintedChain market.now best.now.places (rotations_of chain.rotations.items)) }
 {
-    let first = copy_of(alloc, market, best)?;
-    let mut m = copy_of(alloc, market, best)?;
-    let mut rotations = Vec::new(alloc);
-    'turns: while let Some(rotation) = exposed(alloc, market, &m)? {
-        eliminate(market, &mut m, &rotation);
-        rotations.push(rotation)?;
-    }
-    Ok(Chain { first, rotations })
+    let found = Chain {
+        first: best.copy(alloc)?,
+        rotations: walk(alloc, market, best)?,
+    };
+    in_order(alloc, market, &found)
 }

@@ -27,32 +27,3 @@ pub fn eliminate(market: &Market, m: &mut Pairing, rotation: &Rotation)
     prove!(market.proposers() < 1 << 24);
     m.turn(market, &rotation.pairs);
 }
-
-/// A pairing with the same partners.
-pub(crate) fn copy_of(alloc: Global, market: &Market, m: &Pairing) -> Result<Pairing, AllocError>
-    requires made { IsPairingOf market.now m.now }
-    ensures made { IfOk result (λ copy. IsPairingOf market.now copy) }
-    ensures same { IfOk result (λ copy. copy.places ≡ m.now.places) }
-    ensures market { OnOk result (IsMarket market.now) }
-{
-    let mut places = vec![in alloc; None; market.proposers() as usize]?;
-    write_places(market, m, &mut places);
-    match Pairing::of(alloc, market, &places) {
-        Ok(copy) => Ok(copy),
-        Err(PairingFault::OutOfMemory) => Err(AllocError),
-        Err(PairingFault::WrongLength) => unreachable!(),
-        Err(PairingFault::OutOfRange(_)) => unreachable!(),
-        Err(PairingFault::Taken(_)) => unreachable!(),
-    }
-}
-
-/// Writes the place that each proposer of a pairing holds.
-fn write_places(market: &Market, m: &Pairing, places: &mut [Option<u32>])
-    requires made { IsPairingOf market.now m.now }
-    requires one_each { length places.old ≡ length market.now.proposers }
-    ensures { places.new ≡ m.now.places.proposers }
-{
-    for p in 0..market.proposers() {
-        places[p as usize] = m.place(p);
-    }
-}

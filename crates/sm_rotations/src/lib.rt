@@ -7,9 +7,11 @@
 mod chains;
 mod elimination;
 mod exposure;
+mod order;
 mod predecessors;
 #[cfg(test)]
 mod tests;
+mod walk;
 
 pub use chains::chain;
 pub use elimination::eliminate;

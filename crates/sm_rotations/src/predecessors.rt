@@ -13,7 +13,7 @@ ghost use Rattle.sm_theory.specs.Chains.{IsCompleteChain, AreNeedsOf};
 ghost use Rattle.sm_theory.specs.Values.{rotations_of};
 ghost use Rattle.sm_rotations.specs.Marking.{marks_in, marks_of, mark_at, note_of, AreMarksFor, AreMoved, AreMarked, IsSpanMarked, IsBetween, IsFound, Adds, IsRisingListOf};
 
-use crate::elimination::{copy_of, eliminate};
+use crate::elimination::eliminate;
 use sm_market::{Market, Pairing};
 use sm_theory::{Chain, successor};
 use std::alloc::{AllocError, Global};
@@ -47,7 +47,7 @@ pub fn needs(alloc: Global, market: &Market, chain: &Chain) -> Result<Vec<Vec<u3
         → AreNeedsOf market.now (rotations_of chain.now.rotations.items) j (row (rows_of n.items) j)) }
 {
     let rotations = chain.rotations.as_slice();
-    let mut m = copy_of(alloc, market, &chain.first)?;
+    let mut m = chain.first.copy(alloc)?;
     let mut last = vec![in alloc; None; market.proposers() as usize]?;
     let mut marks = no_marks(alloc, market)?;
     let mut found = Vec::new(alloc);

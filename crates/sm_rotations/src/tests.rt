@@ -9,7 +9,7 @@ ghost use Rattle.sm_theory.specs.Values.{rotations_of};
 
 use crate::{chain, eliminate, exposed, needs};
 use sm_accept::proposer_best;
-use sm_market::Market;
+use sm_market::{Market, Side};
 use sm_theory::{Chain, Rotation};
 use std::alloc::{AllocError, Global};
 use std::process::Abort;
@@ -81,6 +81,59 @@ fn unmatched_between(rt: &(impl Abort + AllocGlobal)) -> Result<Market, AllocErr
         &[&[0, 2, 1], &[1, 0], &[1]],
         &[&[1, 0], &[0, 1, 2], &[0]],
     )
+}
+
+/// Proposer 0 is in no rotation, and its successor leads to proposer 2 of the only one.
+fn leads_in(rt: &(impl Abort + AllocGlobal)) -> Result<Market, AllocError> {
+    market(
+        rt,
+        &[&[0, 2], &[1, 2], &[2, 1]],
+        &[&[0], &[2, 1], &[1, 0, 2]],
+    )
+}
+
+/// Whether two agents of the made market of a seed list each other. One proposer lists a single reviewer at most, and
+/// reviewers 0 and 5 and proposer 3 list nobody.
+fn list_each_other(seed: u32, p: u32, r: u32) -> bool {
+    r.wrapping_mul(p.wrapping_add(2)) % 5 != 0 && (p != seed % 7 || r == seed % 7)
+}
+
+/// The list of an agent in the made market of a seed. Both sides go round in the same steps, proposers upward from their
+/// own number and reviewers from the next one, so that what one side likes best the other likes least.
+fn made_list(alloc: Global, seed: u32, side: Side, a: u32) -> Result<Vec<u32>, AllocError>
+    ensures { IfOk result (λ v. length v.items < 8) }
+{
+    let step = 1 + seed % 6;
+    let mut list = Vec::new(alloc);
+    for k in 0..7 {
+        let (p, r) = match side {
+            Side::Proposers => (a, a.wrapping_add(step.wrapping_mul(k)) % 7),
+            Side::Reviewers => (a.wrapping_add(step.wrapping_mul(k + 1)) % 7, a),
+        };
+        if list_each_other(seed, p, r) {
+            list.push(if side == Side::Proposers { r } else { p })?;
+        }
+    }
+    Ok(list)
+}
+
+/// The lists of a side in the made market of a seed.
+fn made_lists(alloc: Global, seed: u32, side: Side) -> Result<Vec<Vec<u32>>, AllocError>
+    ensures { IfOk result (λ v. AreWithinLimits (rows_of v.items)) }
+{
+    let mut lists = Vec::new(alloc);
+    for a in 0..7 {
+        lists.push(made_list(alloc, seed, side, a)?)?;
+    }
+    Ok(lists)
+}
+
+/// The made market of a seed, of seven proposers and seven reviewers.
+fn made(rt: &(impl Abort + AllocGlobal), seed: u32) -> Result<Market, AllocError> {
+    let alloc = rt.alloc();
+    let proposers = made_lists(alloc, seed, Side::Proposers)?;
+    let reviewers = made_lists(alloc, seed, Side::Reviewers)?;
+    Ok(Market::build(alloc, proposers, reviewers).expect(rt, "a market"))
 }
 
 /// The chain of a market.
@@ -184,5 +237,48 @@ fn unmatched_agents(rt: HostRuntime) -> Result<(), Fail> {
     asserts(&rt, &last, &[&[(0, 0), (1, 1)]], &[&[]])?;
     let between = unmatched_between(&rt)?;
     asserts(&rt, &between, &[], &[])?;
+    Ok(())
+}
+
+#[test]
+fn a_rotation_behind_a_proposer_that_is_in_none(rt: HostRuntime) -> Result<(), Fail> {
+    let market = leads_in(&rt)?;
+    asserts(&rt, &market, &[&[(1, 1), (2, 2)]], &[&[]])?;
+    Ok(())
+}
+
+/// Makes sure that the made market of a seed has so many rotations, the same by `chain` and one at a time.
+fn has_rotations(
+    rt: &(impl Abort + AllocGlobal),
+    seed: u32,
+    count: usize,
+) -> Result<(), AllocError> {
+    let market = made(rt, seed)?;
+    let chain = chain_of(rt.alloc(), &market)?;
+    let plain = step_by_step(rt.alloc(), &market)?;
+    assert!(rt; chain.rotations.len() == count, "{seed}");
+    assert!(rt; are_same(&chain.rotations, &plain), "{seed}");
+    Ok(())
+}
+
+/// Whether the rotations have the same pairs.
+fn are_same(rotations: &[Rotation], others: &[Rotation]) -> bool {
+    if rotations.len() != others.len() {
+        return false;
+    }
+    for i in 0..rotations.len() {
+        if rotations[i].pairs.as_slice() != others[i].pairs.as_slice() {
+            return false;
+        }
+    }
+    true
+}
+
+#[test]
+fn the_chain_is_what_one_step_after_another_finds(rt: HostRuntime) -> Result<(), Fail> {
+    let counts: [usize; 12] = [3, 2, 3, 0, 3, 3, 3, 3, 4, 3, 0, 3];
+    for seed in 0..12 {
+        has_rotations(&rt, seed, counts[seed as usize])?;
+    }
     Ok(())
 }

@@ -1,5 +1,6 @@
 use Rattle.std.proofs.Common.{◌≡◌, ◌<◌, ℕ, ◌∙◌, arith, ap, length, replicate, Option, None, rules, ◌++◌, ◌∷◌, []}
 use Rattle.std.proofs.lemmas.List.{length-replicate, length_push}
+use Rattle.sm_market.specs.Pairing.{Paired}
 use Rattle.sm_theory.specs.Chains.{rotation_at, IsCompleteChain}
 use Rattle.sm_theory.specs.Values.{rotations_of}
 use Rattle.sm_theory.proofs.BridgeChain.{stage_stable}
@@ -13,8 +14,8 @@ pub loop-j-init : goal.loop-j-init
 loop-j-init c =
     let notes_is : c.as_mut_slice-last.result.now ≡ replicate c.proposers.result None = search rules in
     record {
-      made = c.in_ok-m.ensures.made;
-      stage = c.in_ok-m.ensures.same;
+      made = rw c.in_ok-m.ensures c.requires.made;
+      stage = ap (λ (v : Paired). v.places) c.in_ok-m.ensures;
       notes_each = omega (arith, ap length notes_is, length-replicate {A = Option ℕ} c.proposers.result None, c.proposers.ensures.count);
       last = last_start _ _ (λ p. rw notes_is (none_noted c.proposers.result p));
       marks = rw c.as_mut_slice-marks.ensures.value (marks_start c.in_ok-marks.ensures.for_entries c.in_ok-marks.ensures.none);

@@ -1,0 +1,118 @@
+-- Pairs that are left once each matched reviewer's list is cut behind its partner: the second one of a matched proposer
+-- tells its successor.
+use Rattle.std.proofs.Common.{◌≡◌, ℕ, ◌<◌, ◌≤◌, inl, inr, arith, refl, sym, ap, ◌∙◌, List, length, Option, Some, None, IsSome, MatchOption}
+use Rattle.std.specs.Option.{option_map}
+use Rattle.sm_market.specs.Lists.{Lists, row, entry, place_of, IsMarket}
+use Rattle.sm_market.specs.Matching.{Places, held, IsMatching}
+use Rattle.sm_market.specs.Pairing.{Paired, IsPairingOf}
+use Rattle.sm_market.proofs.PairingLemmas.{held_in_range}
+use Rattle.sm_market.proofs.Counting.{eq_or_ne, less_same_more}
+use Rattle.sm_market.proofs.Bridge.{held_cases, entry_place, place_entry, standing-some}
+use Rattle.sm_theory.specs.Rotations.{IsSuccessor, WouldTake}
+use Rattle.sm_accept.specs.Linking.{IsHeld, IsHeldBehind, IsFront}
+use Rattle.sm_theory.proofs.LinkLemmas.{successor_named}
+use Rattle.sm_rotations.specs.Walking.{IsNext}
+
+module _ {l : Lists} (h : IsMarket l) {m : Places} (f : IsMatching l m) {ends : List ℕ} (x : IsFront l m ends) where
+  -- a matched proposer's own place is held
+  pub own_held : (p i : ℕ) → held m.proposers p ≡ Some i → IsHeld l ends p i
+  own_held p i e =
+      let on = f.proposers.on_list p i e in
+      let turn = f.proposers.in_turn p i e in
+      record { on_list = on; in_front = omega (arith, x.matched (entry l.proposers p i) (place_of l.reviewers (entry l.proposers p i) p) turn) }
+
+  -- behind it a place is held exactly where its reviewer would take the proposer
+  pub held_takes : (p i j : ℕ) → held m.proposers p ≡ Some i → i < j → IsHeld l ends p j → WouldTake l m p j
+  held_takes p i j e more w = elim (held_cases l.reviewers m.reviewers r) [
+    | inl v ↦ omega (arith, v.standing_is, h.proposers.returned p j w.on_list)
+    | inr v ↦
+        let end = x.matched r v.place v.held_is in
+        let le : place_of l.reviewers r p ≤ v.place = omega (arith, w.in_front) in
+        elim (eq_or_ne (place_of l.reviewers r p) v.place) [
+          | inr ne ↦ omega (arith, v.standing_is)
+          | inl same ↦
+              let back = f.reviewers.in_turn r v.place v.held_is in
+              let who : entry l.reviewers r v.place ≡ p = ap (entry l.reviewers r) (sym same) ∙ place_entry l.reviewers r p (h.proposers.returned p j w.on_list) in
+              let mine : held m.proposers p ≡ Some (place_of l.proposers p r) = rw who at back in
+              let here : place_of l.proposers p r ≡ j = entry_place h.proposers p j w.on_list in
+              let two : i ≡ place_of l.proposers p r = some_same (sym e ∙ mine) in
+              absurd (omega arith)
+        ]
+  ]
+    where
+      r : ℕ
+      r = entry l.proposers p j
+
+      some_same : {x y : ℕ} → Some x ≡ Some y → x ≡ y
+      some_same e = cc
+
+  pub takes_held : (p j : ℕ) → j < length (row l.proposers p) → WouldTake l m p j → IsHeld l ends p j
+  takes_held p j on w = elim (held_cases l.reviewers m.reviewers (entry l.proposers p j)) [
+    | inl v ↦ record { on_list = on; in_front = omega (arith, x.unmatched (entry l.proposers p j) v.held_is, h.proposers.returned p j on) }
+    | inr v ↦ record { on_list = on; in_front = omega (arith, x.matched (entry l.proposers p j) v.place v.held_is, v.standing_is) }
+  ]
+
+  -- so the next held place is the successor's, where its reviewer is matched, and else there is none
+  pub successor_of : (p i j : ℕ) → held m.proposers p ≡ Some i → IsHeldBehind l ends p i j → IsSome (held m.reviewers (entry l.proposers p j)) → IsSuccessor l m p j
+  successor_of p i j e w some = record {
+    on_list = w.held.on_list;
+    behind = omega (arith, w.behind, standing-some l.proposers m.proposers p i e);
+    takes = held_takes p i j e w.behind w.held;
+    first = λ k a b v. w.between k (omega (arith, standing-some l.proposers m.proposers p i e)) b (takes_held p k (omega (arith, w.held.on_list)) v);
+    matched = some;
+  }
+
+  pub no_successor_past : (p i j : ℕ) → held m.proposers p ≡ Some i → IsHeldBehind l ends p i j → held m.reviewers (entry l.proposers p j) ≡ None → (k : ℕ) → ¬ IsSuccessor l m p k
+  no_successor_past p i j e w none k y = elim (less_same_more k j) [
+    | inl less ↦ w.between k (omega (arith, y.behind, standing-some l.proposers m.proposers p i e)) less (takes_held p k y.on_list y.takes)
+    | inr d ↦ elim d [
+      | inl same ↦ let some = y.matched in no_some (held m.reviewers (entry l.proposers p k)) some (ap (λ k. held m.reviewers (entry l.proposers p k)) same ∙ none)
+      | inr more ↦ y.first j (omega (arith, w.behind, standing-some l.proposers m.proposers p i e)) more (held_takes p i j e w.behind w.held)
+    ]
+  ]
+    where
+      no_some : (o : Option ℕ) → IsSome o → o ≡ None → ⊥
+      no_some None s e = grind (arith, s)
+      no_some (Some x) s e = grind arith
+
+  pub no_successor_behind : (p i : ℕ) → held m.proposers p ≡ Some i → ((j : ℕ) → i < j → ¬ IsHeld l ends p j) → (k : ℕ) → ¬ IsSuccessor l m p k
+  no_successor_behind p i e none k y = none k (omega (arith, y.behind, standing-some l.proposers m.proposers p i e)) (takes_held p k y.on_list y.takes)
+
+-- whom a reviewer has, as it is read
+pub record HasHolder (l : Lists) (m : Places) (r q : ℕ) : Type 0 where
+  pub matched : IsSome (held m.reviewers r)
+  pub has : held m.proposers q ≡ Some (place_of l.proposers q r)
+
+module _ {l : Lists} {m : Paired} (made : IsPairingOf l m) where
+  some_is : {x y : ℕ} → Some x ≡ Some y → x ≡ y
+  some_is e = cc
+
+  none_is : {x : ℕ} → ◌≡◌ {A = Option ℕ} None (Some x) → ⊥
+  none_is e = grind arith
+
+  pub holder_none : (r : ℕ) → held m.holders r ≡ None → held m.places.reviewers r ≡ None
+  holder_none r e = go (held m.places.reviewers r) refl
+    where
+      go : (o : Option ℕ) → held m.places.reviewers r ≡ o → held m.places.reviewers r ≡ None
+      go None is = is
+      go (Some k) is = absurd (none_is (sym e ∙ made.names r ∙ ap (option_map (entry l.reviewers r)) is))
+
+  pub holder_some : (r q : ℕ) → held m.holders r ≡ Some q → HasHolder l m.places r q
+  holder_some r q e = go (held m.places.reviewers r) refl
+    where
+      go : (o : Option ℕ) → held m.places.reviewers r ≡ o → HasHolder l m.places r q
+      go None is = absurd (none_is (sym (ap (option_map (entry l.reviewers r)) is) ∙ sym (made.names r) ∙ e))
+      go (Some k) is =
+          let same : q ≡ entry l.reviewers r k = some_is (sym e ∙ made.names r ∙ ap (option_map (entry l.reviewers r)) is) in
+          record { matched = rw is refl; has = rw same (made.matching.reviewers.in_turn r k is) }
+
+  pub next_answer : (h : IsMarket l) {ends : List ℕ} → IsFront l m.places ends → (p i j : ℕ) → held m.places.proposers p ≡ Some i → IsHeldBehind l ends p i j → (o : Option ℕ) → held m.holders (entry l.proposers p j) ≡ o
+      → MatchOption o ((k : ℕ) → ¬ IsSuccessor l m.places p k) (λ q. IsNext l m.places p q)
+  next_answer h x p i j e w None is = λ k. no_successor_past h made.matching x p i j e w (holder_none (entry l.proposers p j) is) k
+  next_answer h x p i j e w (Some q) is =
+      let v = holder_some (entry l.proposers p j) q is in
+      record { target = entry l.proposers p j; next = successor_named l m.places p j (entry l.proposers p j) h (successor_of h made.matching x p i j e w v.matched) refl; has = v.has }
+
+  pub next_in_range : (r : ℕ) (o : Option ℕ) → held m.holders r ≡ o → MatchOption o (Unit {0}) (λ q. q < length l.proposers)
+  next_in_range r None is = tt
+  next_in_range r (Some q) is = let v = holder_some r q is in held_in_range made.matching.proposers q (place_of l.proposers q r) v.has

@@ -1,0 +1,156 @@
+-- What a heap of rotations has after a push, after a pop, and once needs are met.
+use Rattle.std.proofs.Common.{◌≡◌, ◌≢◌, ℕ, ◌+◌, ◌<◌, ◌≤◌, inl, inr, arith, refl, sym, ◌∙◌, List, [], ◌∷◌, length, set, take, cond, false, slice_index_or, All}
+use Rattle.std.specs.Bool.{nat_eq}
+use Rattle.std.specs.BinaryHeap.{IsUpperBound}
+use Rattle.std.specs.List.Sorted.{IsPermutation}
+use Rattle.std.specs.Ordering.{is_lt, ordering_then}
+use Rattle.std.specs.declared.cmp.Ordering.{Ordering}
+use Rattle.std.specs.declared.cmp.Ordering.TheVariants.{Less, Equal, Greater}
+use Rattle.std.specs.declared.cmp.Reverse.{Reverse}
+use Rattle.std.proofs.HeapSift.{at_most}
+use Rattle.std.proofs.lemmas.Bool.{eq-eqb, ne_eqb}
+use Rattle.std.proofs.lemmas.List.{get_or-set_same, get_or-set_other}
+use Rattle.std.proofs.lemmas.List.Elements.{All-nil, All-cons, All-tail, All-head}
+use Rattle.std.proofs.lemmas.List.Sorted.{All-permutation, sum_by_pushed, sum_by_popped}
+use Rattle.sm_market.proofs.Counting.{eq_or_ne}
+use Rattle.sm_theory.specs.Chains.{rotation_at}
+use Rattle.sm_rotations.specs.Ordering.{times, later_first, times_ready, IsLead, IsEntry, IsOneMore, IsReleased, AreReadyAtFirst}
+use Rattle.sm_rotations.proofs.TimesLemmas.{num_true, num_false, times_more, times_same, times_part}
+
+-- of a heap in order the first has the lowest proposer
+not_before : (a b : Ordering) → is_lt (ordering_then a b) ≡ false → is_lt a ≡ false
+not_before Less b e = e
+not_before Equal b e = refl
+not_before Greater b e = refl
+
+pub least_of_heap : (x : Reverse (ℕ × ℕ)) (xs : List (Reverse (ℕ × ℕ))) → IsUpperBound later_first x xs → All (λ y. x.0.0 ≤ y.0.0) xs
+least_of_heap x [] h = All-nil (λ y. x.0.0 ≤ y.0.0)
+least_of_heap x (y ∷ ys) h = All-cons (λ y. x.0.0 ≤ y.0.0) y ys (at_most y.0.0 x.0.0 (not_before _ _ h.0)) (least_of_heap x ys h.1)
+
+-- a rotation comes in
+module _ (x : Reverse (ℕ × ℕ)) (xs ys : List (Reverse (ℕ × ℕ))) (p : IsPermutation (x ∷ xs) ys) where
+  pub one_pushed : times_ready ys x.0.1 ≡ times_ready xs x.0.1 + 1
+  one_pushed =
+      omega (arith, num_true (nat_eq x.0.1 x.0.1) (eq-eqb x.0.1 x.0.1 refl), sum_by_pushed (λ z. cond (nat_eq z.0.1 x.0.1) 1 0) x xs ys p)
+
+  pub others_pushed : (j : ℕ) → x.0.1 ≢ j → times_ready ys j ≡ times_ready xs j
+  others_pushed j ne =
+      omega (arith, num_false (nat_eq x.0.1 j) (ne_eqb x.0.1 j ne), sum_by_pushed (λ z. cond (nat_eq z.0.1 j) 1 0) x xs ys p)
+
+  pub one_more : (rotation : List (ℕ × ℕ)) (k : ℕ) → x.0.1 ≡ k → IsLead rotation x.0.0 → IsOneMore rotation k xs ys
+  one_more rotation k is lead = record {
+    others = λ j ne. others_pushed j (λ e. ne (sym e ∙ is));
+    this = rw is at one_pushed;
+    entries = λ rotations g same all. All-permutation (IsEntry rotations) (x ∷ xs) ys p (All-cons (IsEntry rotations) x xs (entry rotations g same) all);
+  }
+    where
+      entry : (rotations : List (List (ℕ × ℕ))) → k < length rotations → rotation_at rotations k ≡ rotation → IsEntry rotations x
+      entry rotations g same = (omega arith, rw (is, same) lead)
+
+-- a rotation goes out
+module _ (x : Reverse (ℕ × ℕ)) (xs ys : List (Reverse (ℕ × ℕ))) (p : IsPermutation xs (x ∷ ys)) where
+  pub one_popped : times_ready ys x.0.1 + 1 ≡ times_ready xs x.0.1
+  one_popped =
+      omega (arith, num_true (nat_eq x.0.1 x.0.1) (eq-eqb x.0.1 x.0.1 refl), sum_by_popped (λ z. cond (nat_eq z.0.1 x.0.1) 1 0) x xs ys p)
+
+  pub others_popped : (j : ℕ) → j ≢ x.0.1 → times_ready ys j ≡ times_ready xs j
+  others_popped j ne =
+      omega (arith, num_false (nat_eq x.0.1 j) (ne_eqb x.0.1 j (λ e. ne (sym e))), sum_by_popped (λ z. cond (nat_eq z.0.1 j) 1 0) x xs ys p)
+
+  pub entry_popped : (rotations : List (List (ℕ × ℕ))) → All (IsEntry rotations) xs → IsEntry rotations x
+  entry_popped rotations all = All-head (IsEntry rotations) x ys (All-permutation (IsEntry rotations) xs (x ∷ ys) p all)
+
+  pub entries_popped : (rotations : List (List (ℕ × ℕ))) → All (IsEntry rotations) xs → All (IsEntry rotations) ys
+  entries_popped rotations all = All-tail (IsEntry rotations) x ys (All-permutation (IsEntry rotations) xs (x ∷ ys) p all)
+
+-- the heap at first, rotation after rotation
+module _ {rotations : List (List (ℕ × ℕ))} {unmet : List ℕ} where
+  pub first_start : AreReadyAtFirst rotations unmet 0 []
+  first_start = record {
+    entries = All-nil (IsEntry rotations);
+    once = λ k g. absurd (omega arith);
+    waiting = λ k g. absurd (omega arith);
+    later = λ k g. refl;
+  }
+
+  pub first_more : {k : ℕ} {ready after : List (Reverse (ℕ × ℕ))} → k < length rotations → slice_index_or unmet k 0 ≡ 0 → AreReadyAtFirst rotations unmet k ready → IsOneMore (rotation_at rotations k) k ready after
+      → AreReadyAtFirst rotations unmet (k + 1) after
+  first_more {k} {ready} {after} g none r o = record {
+    entries = o.entries rotations g refl r.entries;
+    once = λ j a e. elim (eq_or_ne j k) [
+      | inl is ↦ rw is (omega (arith, o.this, r.later k (omega arith)))
+      | inr ne ↦ omega (arith, o.others j ne, r.once j (omega arith) e)
+    ];
+    waiting = λ j a e. elim (eq_or_ne j k) [
+      | inl is ↦ absurd (e (rw is none))
+      | inr ne ↦ omega (arith, o.others j ne, r.waiting j (omega arith) e)
+    ];
+    later = λ j a. omega (arith, o.others j (omega arith), r.later j (omega arith));
+  }
+
+  pub first_past : {k : ℕ} {ready : List (Reverse (ℕ × ℕ))} → slice_index_or unmet k 0 ≢ 0 → AreReadyAtFirst rotations unmet k ready → AreReadyAtFirst rotations unmet (k + 1) ready
+  first_past {k} {ready} some r = record {
+    entries = r.entries;
+    once = λ j a e. elim (eq_or_ne j k) [
+      | inl is ↦ absurd (some (rw is at e))
+      | inr ne ↦ r.once j (omega arith) e
+    ];
+    waiting = λ j a e. elim (eq_or_ne j k) [
+      | inl is ↦ rw is (r.later k (omega arith))
+      | inr ne ↦ r.waiting j (omega arith) e
+    ];
+    later = λ j a. r.later j (omega arith);
+  }
+
+-- needs are met, one after another
+module _ {rotations : List (List (ℕ × ℕ))} (followers : List ℕ) (before : List ℕ) (ready_before : List (Reverse (ℕ × ℕ))) where
+  pub release_start : IsReleased rotations (take 0 followers) before ready_before before ready_before
+  release_start = record {
+    counts = λ j. omega arith;
+    fallen = λ j. record { fallen = λ some none. absurd (omega arith); same = λ _. refl };
+    entries = λ all. all;
+  }
+
+  module _ {e j : ℕ} {unmet : List ℕ} {ready : List (Reverse (ℕ × ℕ))} (inside : e < length followers) (is : slice_index_or followers e 0 ≡ j) (within : j < length unmet)
+      (r : IsReleased rotations (take e followers) before ready_before unmet ready) (enough : times followers j ≤ slice_index_or before j 0) where
+    pub some_unmet : 0 < slice_index_or unmet j 0
+    some_unmet = omega (arith, r.counts j, times_more followers e j inside is, times_part followers (e + 1) j)
+
+    here : (n : ℕ) → slice_index_or (set unmet j n) j 0 ≡ n
+    here n = get_or-set_same unmet j n 0 within
+
+    elsewhere : (n i : ℕ) → i ≢ j → slice_index_or (set unmet j n) i 0 ≡ slice_index_or unmet i 0
+    elsewhere n i ne = get_or-set_other unmet j i n 0 ne
+
+    counts_on : (n : ℕ) → n + 1 ≡ slice_index_or unmet j 0 → (i : ℕ) → slice_index_or (set unmet j n) i 0 + times (take (e + 1) followers) i ≡ slice_index_or before i 0
+    counts_on n less i = elim (eq_or_ne i j) [
+      | inl same ↦ rw same (omega (arith, here n, r.counts j, times_more followers e j inside is))
+      | inr ne ↦ omega (arith, elsewhere n i ne, r.counts i, times_same followers e i inside (λ f. ne (sym f ∙ is)))
+    ]
+
+    pub release_kept : (n : ℕ) → n + 1 ≡ slice_index_or unmet j 0 → slice_index_or (set unmet j n) j 0 ≢ 0 → IsReleased rotations (take (e + 1) followers) before ready_before (set unmet j n) ready
+    release_kept n less ne = record {
+      counts = counts_on n less;
+      fallen = λ i. elim (eq_or_ne i j) [
+        | inl same ↦ rw same (record {
+          fallen = λ some none. absurd (ne none);
+          same = λ _. (r.fallen j).same (inr (omega arith));
+        })
+        | inr other ↦ rw (elsewhere n i other) (r.fallen i)
+      ];
+      entries = r.entries;
+    }
+
+    pub release_fallen : (n : ℕ) {after : List (Reverse (ℕ × ℕ))} → n + 1 ≡ slice_index_or unmet j 0 → slice_index_or (set unmet j n) j 0 ≡ 0 → j < length rotations → IsOneMore (rotation_at rotations j) j ready after
+        → IsReleased rotations (take (e + 1) followers) before ready_before (set unmet j n) after
+    release_fallen n {after} less none g o = record {
+      counts = counts_on n less;
+      fallen = λ i. elim (eq_or_ne i j) [
+        | inl same ↦ rw same (record {
+          fallen = λ some none. omega (arith, o.this, (r.fallen j).same (inr (omega arith)));
+          same = λ d. absurd (elim d [ inl x ↦ omega (arith, r.counts j) | inr x ↦ omega (arith, none) ]);
+        })
+        | inr other ↦ rw (elsewhere n i other, o.others i other) (r.fallen i)
+      ];
+      entries = λ all. o.entries rotations g refl (r.entries all);
+    }

@@ -1,0 +1,142 @@
+-- Two rotations that are exposed at one matching and share a proposer lead to one matching.
+use Rattle.std.proofs.Common.{◌≡◌, ◌≢◌, ℕ, suc, ◌<◌, ◌⊎◌, inl, inr, arith, sym, ap, ◌∙◌, List, length}
+use Rattle.sm_market.specs.Lists.{Lists, IsMarket}
+use Rattle.sm_market.specs.Matching.{Places}
+use Rattle.sm_market.specs.Stable.{IsStable}
+use Rattle.sm_market.proofs.Counting.{Decided-and, Decided-not, by_contradiction, lt_or_le, First, search_below}
+use Rattle.sm_market.proofs.Core.{Sides, Stand, Stable}
+use Rattle.sm_market.proofs.Bridge.{stable_equal}
+use Rattle.sm_theory.specs.Rotations.{proposer_at, IsExposed, eliminated}
+use Rattle.sm_theory.proofs.CoreCycle.{Cycle, target, Exposed, Moves, moves_or_not, moves_at, Among, same_cycle, succ_unique}
+use Rattle.sm_theory.proofs.CoreRotation.{Elim, eliminate, Elim-eliminate, elim_stable, goes_down, never_up}
+use Rattle.sm_theory.proofs.CoreChain.{Chain, Needs, up_at, rise, needs_lower, upper}
+use Rattle.sm_theory.proofs.CoreExposure.{exposed_there, same_before}
+use Rattle.sm_theory.proofs.CoreClosed.{of_more}
+use Rattle.sm_theory.proofs.CoreCorrespondence.{Reaches, Decided-reaches, reaches_of, reaches_closed, exposed_out, exposed_ready}
+use Rattle.sm_theory.proofs.BridgeRotation.{exposed_of, elim_of, eliminated_stable}
+
+module _ {s : Sides} {m k n : Stand} {c d : Cycle} (x : Exposed s m c) (y : Exposed s m d) (e : Elim s m c k) (f : Elim s m d n) (i j : ℕ) (h : i < c.size) (g : j < d.size) (same : d.who j ≡ c.who i) where
+  pub same_move : (p : ℕ) → k.a p ≡ n.a p
+  same_move p = elim (moves_or_not c p) [
+    | inl w ↦
+        let v : Among c d w.at = same_cycle x y i j h g same w.at w.below in
+        let one : target d v.at ≡ target c w.at = succ_unique (y.next v.at v.below) (rw (sym v.who_is) at (x.next w.at w.below)) in
+        let left : k.a p ≡ s.place p (target c w.at) = rw w.holds at (e.moved w.at w.below) in
+        let who : d.who v.at ≡ p = v.who_is ∙ w.holds in
+        let right : n.a p ≡ s.place p (target d v.at) = rw who at (f.moved v.at v.below) in
+        left ∙ ap (s.place p) (sym one) ∙ sym right
+    | inr none ↦ elim (moves_or_not d p) [
+      | inr none' ↦ e.still p none ∙ sym (f.still p none')
+      | inl w ↦ let v : Among d c w.at = same_cycle y x j i g h (sym same) w.at w.below in absurd (none v.at v.below (v.who_is ∙ w.holds))
+    ]
+  ]
+
+pub same_elimination : {l : Lists} {m : Places} {c d : List (ℕ × ℕ)} → IsMarket l → IsStable l m → IsExposed l m c → IsExposed l m d → (i j : ℕ) → i < length c → j < length d → proposer_at d j ≡ proposer_at c i → eliminated l m c ≡ eliminated l m d
+same_elimination h s x y i j a b same = stable_equal h (eliminated_stable h s x) (eliminated_stable h s y)
+    (same_move (exposed_of h s.matching x) (exposed_of h s.matching y) (elim_of h s.matching x) (elim_of h s.matching y) i j a b same)
+
+-- Putting a chain into another order: at a stable matching the rotations that it reaches are behind it.
+module _ {s : Sides} {t : ℕ} {M : ℕ → Stand} {c : ℕ → Cycle} (ch : Chain s t M c) where
+  -- a rotation is reached where one of its proposers does worse than before it
+  pub reached_by : {n : Stand} (hn : Stable s n) (k p : ℕ) → k < t → Moves (c k) p → (M k).a p < n.a p → Reaches ch n k
+  reached_by hn k p h mv less = by_contradiction (Decided-reaches ch hn k) (λ out. omega (arith, upper ch (reaches_closed ch hn) (reaches_of ch hn) k p h out mv))
+
+  -- what is exposed isn't reached, and all that it needs is
+  pub exposed_is_ready : {n : Stand} (hn : Stable s n) (k : ℕ) → k < t → Exposed s n (c k) → (Reaches ch n k → ⊥) × ((i : ℕ) → i < t → Needs s (c i) (c k) → Reaches ch n i)
+  exposed_is_ready hn k h x = (
+    exposed_out ch (reaches_closed ch hn) (λ i _. Decided-reaches ch hn i) hn (reaches_of ch hn) k h x,
+    exposed_ready ch (reaches_closed ch hn) (λ i _. Decided-reaches ch hn i) hn (reaches_of ch hn) k h x,
+  )
+
+  pub ready_is_exposed : {n : Stand} (hn : Stable s n) (k : ℕ) → k < t → (Reaches ch n k → ⊥) → ((i : ℕ) → i < t → Needs s (c i) (c k) → Reaches ch n i) → Exposed s n (c k)
+  ready_is_exposed hn k h out ready = exposed_there ch (reaches_closed ch hn) hn (reaches_of ch hn) k h out ready
+
+  -- eliminating one of the chain's rotations reaches that one in addition, and no other
+  module _ {n m : Stand} (hn : Stable s n) (hm : Stable s m) (k : ℕ) (h : k < t) (x : Exposed s n (c k)) (e : Elim s n (c k) m) where
+    pub still_reached : (j : ℕ) → j < t → Reaches ch n j → Reaches ch m j
+    still_reached j g r =
+        let p : ℕ = (c j).who 0 in
+        let mv = moves_at (c j) 0 (ch.exposed j g).some in
+        reached_by hm j p g mv (omega (arith, (reaches_of ch hn).reach p j g r mv, never_up hn x e p, up_at ch j p g mv))
+
+    after_k : (p : ℕ) (w : Moves (c k) p) → m.a p ≡ (M (suc k)).a p
+    after_k p w =
+        let one : m.a p ≡ s.place p (target (c k) w.at) = rw w.holds at (e.moved w.at w.below) in
+        let two : (M (suc k)).a p ≡ s.place p (target (c k) w.at) = rw w.holds at ((ch.onward k h).moved w.at w.below) in
+        one ∙ sym two
+
+    before_k : (p : ℕ) (w : Moves (c k) p) → n.a p ≡ (M k).a p
+    before_k p w =
+        let one : s.place p ((c k).has w.at) ≡ n.a p = rw w.holds at ((x.paired w.at w.below).place_is) in
+        let two : s.place p ((c k).has w.at) ≡ (M k).a p = rw w.holds at (((ch.exposed k h).paired w.at w.below).place_is) in
+        sym one ∙ two
+
+    pub now_reached : Reaches ch m k
+    now_reached =
+        let p : ℕ = (c k).who 0 in
+        let mv = moves_at (c k) 0 x.some in
+        reached_by hm k p h mv (omega (arith, after_k p mv, up_at ch k p h mv))
+
+    pub no_other : (j : ℕ) → j < t → j ≢ k → Reaches ch m j → Reaches ch n j
+    no_other j g ne r =
+        let p : ℕ = (c j).who 0 in
+        let mv = moves_at (c j) 0 (ch.exposed j g).some in
+        let low = (reaches_of ch hm).reach p j g r mv in
+        let up = up_at ch j p g mv in
+        elim (moves_or_not (c k) p) [
+          | inr none ↦ reached_by hn j p g mv (omega (arith, low, up, e.still p none))
+          | inl w ↦ elim (lt_or_le j k) [
+            | inl less ↦ reached_by hn j p g mv (omega (arith, up, before_k p w, rise ch p (suc j) k less (omega arith)))
+            | inr more ↦ absurd (omega (arith, low, up, after_k p w, rise ch p (suc k) j (omega arith) (omega arith)))
+          ]
+        ]
+
+  -- an exposed rotation is one of the chain that is exposed there, begun at some pair
+  pub record IsOneOf (n : Stand) (d : Cycle) : Type 0 where
+    pub at : ℕ
+    pub below : at < t
+    pub exposed : Exposed s n (c at)
+    pub there : (i : ℕ) → i < d.size → Among d (c at) i
+    pub back : (i : ℕ) → i < (c at).size → Among (c at) d i
+
+  pub one_of_chain : {n : Stand} {d : Cycle} → Stable s n → Exposed s n d → IsOneOf n d
+  one_of_chain {n} {d} hn x = go (search_below t (λ k. Reaches ch m k × (Reaches ch n k → ⊥)) (λ k _. Decided-and (Decided-reaches ch hm k) (Decided-not (Decided-reaches ch hn k))))
+    where
+      m : Stand
+      m = eliminate s n d
+
+      e : Elim s n d m
+      e = Elim-eliminate x
+
+      hm : Stable s m
+      hm = elim_stable hn x e
+
+      found : (k : ℕ) → k < t → Reaches ch m k → (Reaches ch n k → ⊥) → ((j : ℕ) → j < k → Reaches ch m j × (Reaches ch n j → ⊥) → ⊥) → IsOneOf n d
+      found k h inside out least = share (moves_or_not d p)
+        where
+          ready : (i : ℕ) → i < t → Needs s (c i) (c k) → Reaches ch n i
+          ready i g need = by_contradiction (Decided-reaches ch hn i) (λ not_there. least i (needs_lower ch i k g h need) (reaches_closed ch hm i k g h inside need, not_there))
+
+          y : Exposed s n (c k)
+          y = ready_is_exposed hn k h out ready
+
+          p : ℕ
+          p = (c k).who 0
+
+          mv : Moves (c k) p
+          mv = moves_at (c k) 0 y.some
+
+          less : n.a p < m.a p
+          less = omega (arith, (reaches_of ch hm).reach p k h inside mv, up_at ch k p h mv, same_before ch (reaches_closed ch hn) hn (reaches_of ch hn) k h out ready p mv)
+
+          share : Moves d p ⊎ ((i : ℕ) → i < d.size → d.who i ≡ p → ⊥) → IsOneOf n d
+          share (inr none) = absurd (omega (arith, e.still p none, less))
+          share (inl w) = record { at = k; below = h; exposed = y; there = same_cycle x y w.at 0 w.below y.some (sym w.holds); back = same_cycle y x 0 w.at y.some w.below w.holds }
+
+      go : First t (λ k. Reaches ch m k × (Reaches ch n k → ⊥)) ⊎ ((k : ℕ) → k < t → Reaches ch m k × (Reaches ch n k → ⊥) → ⊥) → IsOneOf n d
+      go (inl w) = found w.at w.below w.holds.0 w.holds.1 w.earlier
+      go (inr none) = absurd (omega (
+        arith,
+        goes_down hn x e 0 x.some,
+        of_more ch (reaches_of ch hm) (reaches_of ch hn) (λ k h r. by_contradiction (Decided-reaches ch hn k) (λ out. none k h (r, out))) (d.who 0),
+      ))

@@ -1,0 +1,157 @@
+-- The heap has what is exposed, turn after turn.
+use Rattle.std.proofs.Common.{◌≡◌, ◌≢◌, ℕ, ◌+◌, ◌<◌, ◌≤◌, inl, inr, arith, refl, sym, ap, ◌∙◌, List, length, Bool, true, false, not, slice_index_or, All}
+use Rattle.std.specs.Bool.{nat_eq}
+use Rattle.std.specs.declared.cmp.Reverse.{Reverse}
+use Rattle.std.proofs.lemmas.Bool.{eqb-true}
+use Rattle.sm_market.specs.Lists.{Lists, row, IsMarket}
+use Rattle.sm_market.specs.Matching.{Places}
+use Rattle.sm_market.specs.Stable.{IsStable}
+use Rattle.sm_market.proofs.Counting.{eq_or_ne, by_contradiction}
+use Rattle.sm_theory.specs.Rotations.{IsExposed, eliminated}
+use Rattle.sm_theory.specs.Chains.{rotation_at, IsCompleteChain, IsNeededBy, AreNeedsOf}
+use Rattle.sm_rotations.specs.Following.{IsNothingExposed, IsLowestExposed}
+use Rattle.sm_rotations.specs.Ordering.{times, times_ready, is_passed, IsPassed, left_over, IsLead, IsEntry, IsTurned, AreReady, AreReadyAtFirst, IsReleased, AreCounts}
+use Rattle.sm_rotations.proofs.TimesLemmas.{count_found, count_some, count_none, count_all, count_apart}
+use Rattle.sm_rotations.proofs.TurnLemmas.{turned_exposed, turned_first}
+use Rattle.sm_rotations.proofs.PassedLemmas.{Decided-true, IsReadyOne, none_passed, passed_needs, ready_exposed, exposed_ready_one, all_passed, now_passed, still_passed, no_other_passed}
+
+false_of : (b : Bool) → (b ≡ true → ⊥) → b ≡ false
+false_of true out = absurd (out refl)
+false_of false out = refl
+
+same_bool : (a b : Bool) → (a ≡ true → b ≡ true) → (b ≡ true → a ≡ true) → a ≡ b
+same_bool true b f g = sym (f refl)
+same_bool false true f g = g refl
+same_bool false false f g = refl
+
+module _ {l : Lists} (h : IsMarket l) {first : Places} {rotations : List (List (ℕ × ℕ))} (chain : IsCompleteChain l first rotations)
+    (needs : List (List ℕ)) (are : (j : ℕ) → j < length rotations → AreNeedsOf l rotations j (row needs j)) where
+  -- no need is left over exactly where all needs are passed
+  none_left : (m : Places) (k : ℕ) → k < length rotations → left_over l first rotations m (row needs k) ≡ 0
+      → (i : ℕ) → i < length rotations → IsNeededBy l (rotation_at rotations i) (rotation_at rotations k) → IsPassed l first rotations m i
+  none_left m k g none i a need = by_contradiction (Decided-true (is_passed l first rotations m i)) (λ out.
+      let w = (are k g).all i a need in
+      let there : slice_index_or (row needs k) w.0 i ≡ i = w.2 in
+      let left : not (is_passed l first rotations m (slice_index_or (row needs k) w.0 i)) ≡ true = ap (λ i. not (is_passed l first rotations m i)) there ∙ ap not (false_of (is_passed l first rotations m i) out) in
+      omega (arith, none, count_some (λ k. not (is_passed l first rotations m k)) (row needs k) w.0 i w.1 left))
+
+  all_left : (m : Places) (k : ℕ) → k < length rotations → ((i : ℕ) → i < length rotations → IsNeededBy l (rotation_at rotations i) (rotation_at rotations k) → IsPassed l first rotations m i)
+      → left_over l first rotations m (row needs k) ≡ 0
+  all_left m k g all = count_none (λ k. not (is_passed l first rotations m k)) (row needs k) 0 (λ a less.
+      ap not (all (slice_index_or (row needs k) a 0) ((are k g).sound a less) ((are k g).each a less)))
+
+  -- at first all needs are left over
+  pub ready_start : (unmet : List ℕ) (ready : List (Reverse (ℕ × ℕ))) → length needs ≡ length rotations → AreCounts needs unmet → AreReadyAtFirst rotations unmet (length rotations) ready → AreReady l first rotations needs first unmet ready
+  ready_start unmet ready as_many c r = record {
+    one_each = c.one_each ∙ as_many;
+    counts = λ k g. c.each k (omega arith) ∙ sym (count_all (λ k. not (is_passed l first rotations first k)) (row needs k) 0 (λ a less.
+        ap not (false_of (is_passed l first rotations first (slice_index_or (row needs k) a 0)) (none_passed h chain (slice_index_or (row needs k) a 0) ((are k g).sound a less)))));
+    entries = r.entries;
+    once = λ k g _ e. r.once k g e;
+    passed = λ k g e. absurd (none_passed h chain k g e);
+    waiting = λ k g ne. r.waiting k g ne;
+  }
+
+  module _ {m : Places} (s : IsStable l m) {unmet : List ℕ} {ready : List (Reverse (ℕ × ℕ))} (r : AreReady l first rotations needs m unmet ready) where
+    -- what stands in the heap is not passed and has no unmet need
+    in_heap_out : (k : ℕ) → k < length rotations → 0 < times_ready ready k → ¬ IsPassed l first rotations m k
+    in_heap_out k g some e = omega (arith, r.passed k g e)
+
+    in_heap_met : (k : ℕ) → k < length rotations → 0 < times_ready ready k → slice_index_or unmet k 0 ≡ 0
+    in_heap_met k g some = elim (eq_or_ne (slice_index_or unmet k 0) 0) [ inl e ↦ e | inr ne ↦ absurd (omega (arith, r.waiting k g ne)) ]
+
+    pub in_heap_once : (k : ℕ) → k < length rotations → 0 < times_ready ready k → times_ready ready k ≡ 1
+    in_heap_once k g some = r.once k g (in_heap_out k g some) (in_heap_met k g some)
+
+    -- so it is exposed
+    pub in_heap_exposed : (k : ℕ) → k < length rotations → 0 < times_ready ready k → IsExposed l m (rotation_at rotations k)
+    in_heap_exposed k g some = ready_exposed h chain s k g (in_heap_out k g some) (none_left m k g (sym (r.counts k g) ∙ in_heap_met k g some))
+
+    -- and what is ready stands in the heap
+    ready_in_heap : (k : ℕ) → k < length rotations → ¬ IsPassed l first rotations m k
+        → ((i : ℕ) → i < length rotations → IsNeededBy l (rotation_at rotations i) (rotation_at rotations k) → IsPassed l first rotations m i) → times_ready ready k ≡ 1
+    ready_in_heap k g out all = r.once k g out (r.counts k g ∙ all_left m k g all)
+
+    -- an empty heap: nothing is exposed
+    pub nothing_left : ((k : ℕ) → times_ready ready k ≡ 0) → IsNothingExposed l m
+    nothing_left empty = record {
+      none = λ other x.
+          let w : IsReadyOne l first rotations m other = exposed_ready_one h chain s other x in
+          w.out (all_passed h chain s (λ k g out all. omega (arith, empty k, ready_in_heap k g out all)) w.at w.below);
+    }
+
+    -- the heap's first is the exposed rotation with the lowest-numbered proposer
+    pub first_is_lowest : (x : Reverse (ℕ × ℕ)) (turned : List (ℕ × ℕ)) → IsEntry rotations x → 0 < times_ready ready x.0.1 → All (λ y. x.0.0 ≤ y.0.0) ready
+        → IsTurned (rotation_at rotations x.0.1) turned → IsLowestExposed l m turned
+    first_is_lowest x turned entry some least t = record {
+      exposed = turned_exposed h s (in_heap_exposed x.0.1 entry.0 some) t;
+      lowest = λ other y i inside.
+          let w : IsReadyOne l first rotations m other = exposed_ready_one h chain s other y in
+          let v = w.among i inside in
+          let u = count_found (λ z. nat_eq z.0.1 w.at) ready x (omega (arith, ready_in_heap w.at w.below w.out w.prepared)) in
+          let same : (slice_index_or ready u.at x).0.1 ≡ w.at = eqb-true (slice_index_or ready u.at x).0.1 w.at u.is in
+          let there : IsLead (rotation_at rotations w.at) (slice_index_or ready u.at x).0.0 = rw same at ((r.entries u.at x u.inside).1) in
+          let one = turned_first h s (in_heap_exposed x.0.1 entry.0 some) t in
+          let two = t.lowest.least entry.1.pair entry.1.lowest.inside in
+          let three = least u.at x u.inside in
+          let four = there.lowest.least v.pair v.pair_in in
+          omega (arith, one, two, three, four, entry.1.is, there.is, v.is);
+    }
+
+    -- once the first is taken off and eliminated
+    module _ (k : ℕ) (g : k < length rotations) (some : 0 < times_ready ready k) where
+      x : IsExposed l m (rotation_at rotations k)
+      x = in_heap_exposed k g some
+
+      fewer : (j : ℕ) → j < length rotations → left_over l first rotations m (row needs j) ≡ left_over l first rotations (eliminated l m (rotation_at rotations k)) (row needs j) + times (row needs j) k
+      fewer j a = count_apart (λ i. not (is_passed l first rotations m i)) (λ i. not (is_passed l first rotations (eliminated l m (rotation_at rotations k)) i)) k (row needs j)
+          (ap not (false_of (is_passed l first rotations m k) (in_heap_out k g some)))
+          (ap not (now_passed h chain s k g x))
+          (λ b less ne.
+          let i : ℕ = slice_index_or (row needs j) b 0 in
+          let within : i < length rotations = (are j a).sound b less in
+          ap not (same_bool (is_passed l first rotations m i) (is_passed l first rotations (eliminated l m (rotation_at rotations k)) i) (still_passed h chain s k g x i within) (no_other_passed h chain s k g x i within ne)))
+
+      pub enough : (followers : List ℕ) → ((j : ℕ) → j < length rotations → times followers j ≡ times (row needs j) k) → (j : ℕ) → j < length rotations → times followers j ≤ slice_index_or unmet j 0
+      enough followers follow j a = omega (arith, follow j a, fewer j a, r.counts j a)
+
+      pub ready_more : {followers unmet_after : List ℕ} {rest ready_after : List (Reverse (ℕ × ℕ))} → ((j : ℕ) → j < length rotations → times followers j ≡ times (row needs j) k)
+          → ((j : ℕ) → j ≢ k → times_ready rest j ≡ times_ready ready j) → times_ready rest k + 1 ≡ times_ready ready k → All (IsEntry rotations) rest
+          → length unmet_after ≡ length unmet → IsReleased rotations followers unmet rest unmet_after ready_after → AreReady l first rotations needs (eliminated l m (rotation_at rotations k)) unmet_after ready_after
+      ready_more {followers} {unmet_after} {rest} {ready_after} follow others this entries long d = record {
+        one_each = long ∙ r.one_each;
+        counts = λ j a. omega (arith, d.counts j, follow j a, fewer j a, r.counts j a);
+        entries = d.entries entries;
+        once = once;
+        passed = passed;
+        waiting = waiting;
+      }
+        where
+          once : (j : ℕ) → j < length rotations → ¬ IsPassed l first rotations (eliminated l m (rotation_at rotations k)) j → slice_index_or unmet_after j 0 ≡ 0 → times_ready ready_after j ≡ 1
+          once j a out none = elim (eq_or_ne j k) [
+            | inl e ↦ let now : IsPassed l first rotations (eliminated l m (rotation_at rotations k)) j = ap (is_passed l first rotations (eliminated l m (rotation_at rotations k))) e ∙ now_passed h chain s k g x in absurd (out now)
+            | inr ne ↦ elim (eq_or_ne (slice_index_or unmet j 0) 0) [
+              | inl met ↦ omega (arith, (d.fallen j).same (inl met), others j ne, r.once j a (λ e. out (still_passed h chain s k g x j a e)) met)
+              | inr unmet ↦ omega (arith, (d.fallen j).fallen (omega arith) none, others j ne, r.waiting j a unmet)
+            ]
+          ]
+
+          met_here : (j : ℕ) → j ≡ k → slice_index_or unmet j 0 ≡ 0
+          met_here j e = ap (λ j. slice_index_or unmet j 0) e ∙ in_heap_met k g some
+
+          passed : (j : ℕ) → j < length rotations → IsPassed l first rotations (eliminated l m (rotation_at rotations k)) j → times_ready ready_after j ≡ 0
+          passed j a e = elim (eq_or_ne j k) [
+            | inl is ↦
+                let taken : times_ready rest j ≡ times_ready rest k = ap (times_ready rest) is in
+                omega (arith, (d.fallen j).same (inl (met_here j is)), taken, this, in_heap_once k g some)
+            | inr ne ↦
+                let before = no_other_passed h chain s k g x j a ne e in
+                let met : slice_index_or unmet j 0 ≡ 0 = r.counts j a ∙ all_left m j a (λ i b need. passed_needs h chain s i j b a before need) in
+                omega (arith, (d.fallen j).same (inl met), others j ne, r.passed j a before)
+          ]
+
+          waiting : (j : ℕ) → j < length rotations → slice_index_or unmet_after j 0 ≢ 0 → times_ready ready_after j ≡ 0
+          waiting j a ne =
+              let more : slice_index_or unmet j 0 ≢ 0 = λ e. ne (omega (arith, d.counts j)) in
+              let other : j ≢ k = λ e. more (met_here j e) in
+              omega (arith, (d.fallen j).same (inr (omega arith)), others j other, r.waiting j a more)

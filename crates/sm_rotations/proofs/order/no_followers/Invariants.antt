@@ -1,0 +1,6 @@
+use Rattle.std.proofs.Common.{◌≡◌, [], replicate}
+use Rattle.sm_market.specs.Vectors.{rows_of}
+use Rattle.sm_rotations.proofs.order.no_followers.Given as goal
+
+abbrev pub invariant-loop : goal.invariant-loop
+invariant-loop l = rows_of l.followers.items ≡ replicate l.counter []

@@ -1,0 +1,28 @@
+use Rattle.std.proofs.Common.{◌≡◌, ℕ, ◌<◌, true}
+use Rattle.sm_market.specs.Pairing.{IsPairingOf}
+use Rattle.sm_theory.specs.Values.{rotations_of}
+use Rattle.sm_accept.specs.Linking.{IsLinkedOf, IsFront}
+use Rattle.sm_rotations.specs.Walking.{IsWalking, is_finished}
+use Rattle.sm_rotations.proofs.WalkTurns.{turns_left}
+use Rattle.sm_rotations.proofs.walk.walk.Given as goal
+
+abbrev pub invariant-loop-p : goal.invariant-loop-p
+invariant-loop-p l = record {
+  made : IsPairingOf l.market l.m;
+  linked : IsLinkedOf l.market l.linked;
+  front : IsFront l.market l.m.places l.linked.ends;
+  walking : IsWalking l.market l.best.places l.m.places (rotations_of l.rotations.items) l.finished l.stack.items l.spots;
+  done : (q : ℕ) → q < l.p → is_finished l.finished q ≡ true;
+}
+
+abbrev pub invariant-turns : goal.invariant-turns
+invariant-turns l = record {
+  made : IsPairingOf l.market l.m;
+  linked : IsLinkedOf l.market l.linked;
+  front : IsFront l.market l.m.places l.linked.ends;
+  walking : IsWalking l.market l.best.places l.m.places (rotations_of l.rotations.items) l.finished l.stack.items l.spots;
+  done : (q : ℕ) → q < l.p → is_finished l.finished q ≡ true;
+}
+
+abbrev pub decreases-turns : goal.decreases-turns
+decreases-turns l = turns_left l.market l.m.places l.finished l.stack.items l.spots

@@ -1,0 +1,118 @@
+-- The chain put into the stated order: what is written, what is ready, and what is still needed.
+use Rattle.std.specs.Prelude.{◌≡◌, ◌≢◌, ℕ, suc, ◌+◌, ◌<◌, ◌≤◌, ◌⊎◌, nat_le, nat_eq, not, ◌++◌, Bool, true, List, take, drop, length, slice_index_or, All, count_by}
+use Rattle.std.specs.Ordering.{nat_cmp, ordering_then}
+use Rattle.std.specs.declared.cmp.Ordering.{Ordering}
+use Rattle.std.specs.declared.cmp.Reverse.{Reverse}
+use Rattle.sm_market.specs.Lists.{Lists, row}
+use Rattle.sm_market.specs.Matching.{Places, standing}
+use Rattle.sm_market.specs.Stable.{IsStable}
+use Rattle.sm_theory.specs.Rotations.{proposer_at}
+use Rattle.sm_theory.specs.Chains.{rotation_at, stage}
+use Rattle.sm_rotations.specs.Chaining.{LeadsTo}
+
+-- pair i has the lowest-numbered proposer
+pub record IsLowestPair (rotation : List (ℕ × ℕ)) (i : ℕ) : Type 0 where
+  pub inside : i < length rotation
+  pub least : (j : ℕ) → j < length rotation → proposer_at rotation i ≤ proposer_at rotation j
+
+-- the same cycle, begun at its lowest-numbered proposer
+pub record IsTurned (rotation turned : List (ℕ × ℕ)) : Type 0 where
+  pub from : ℕ
+  pub lowest : IsLowestPair rotation from
+  pub is : turned ≡ drop from rotation ++ take from rotation
+
+-- how often a number stands in a list
+abbrev pub times : List ℕ → ℕ → ℕ
+times numbers k = count_by (λ x. nat_eq x k) numbers
+
+-- the order of a heap whose first is the lowest
+abbrev pub later_first : Reverse (ℕ × ℕ) → Reverse (ℕ × ℕ) → Ordering
+later_first x y = ordering_then (nat_cmp y.0.0 x.0.0) (nat_cmp y.0.1 x.0.1)
+
+-- how often a rotation stands in a heap
+abbrev pub times_ready : List (Reverse (ℕ × ℕ)) → ℕ → ℕ
+times_ready ready k = count_by (λ x. nat_eq x.0.1 k) ready
+
+-- p is the lowest-numbered proposer
+pub record IsLead (rotation : List (ℕ × ℕ)) (p : ℕ) : Type 0 where
+  pub pair : ℕ
+  pub lowest : IsLowestPair rotation pair
+  pub is : proposer_at rotation pair ≡ p
+
+-- an item of the heap is a rotation with its lowest-numbered proposer
+abbrev pub IsEntry : List (List (ℕ × ℕ)) → Reverse (ℕ × ℕ) → Type 0
+IsEntry rotations x = (x.0.1 < length rotations) × IsLead (rotation_at rotations x.0.1) x.0.0
+
+-- the heap has rotation k once more
+pub record IsOneMore (rotation : List (ℕ × ℕ)) (k : ℕ) (before after : List (Reverse (ℕ × ℕ))) : Type 0 where
+  pub others : (j : ℕ) → j ≢ k → times_ready after j ≡ times_ready before j
+  pub this : times_ready after k ≡ times_ready before k + 1
+  pub entries : (rotations : List (List (ℕ × ℕ))) → k < length rotations → rotation_at rotations k ≡ rotation
+      → All (IsEntry rotations) before → All (IsEntry rotations) after
+
+-- each of the first n rotations is noted with those that it needs, as often as it needs them
+pub record AreTurnedOver (needs : List (List ℕ)) (n : ℕ) (followers : List (List ℕ)) : Type 0 where
+  pub one_each : length followers ≡ length needs
+  pub noted : (i j : ℕ) → i < length needs → j < n → times (row followers i) j ≡ times (row needs j) i
+  pub later : (i j : ℕ) → n ≤ j → times (row followers i) j ≡ 0
+
+-- rotation j is noted with each of its needs, and all else stays
+pub record IsFollowing (j : ℕ) (needs : List ℕ) (before after : List (List ℕ)) : Type 0 where
+  pub one_each : length after ≡ length before
+  pub others : (i k : ℕ) → k ≢ j → times (row after i) k ≡ times (row before i) k
+  pub this : (i : ℕ) → i < length before → times (row after i) j ≡ times (row before i) j + times needs i
+
+-- the length of each list
+pub record AreCounts (needs : List (List ℕ)) (counts : List ℕ) : Type 0 where
+  pub one_each : length counts ≡ length needs
+  pub each : (j : ℕ) → j < length needs → slice_index_or counts j 0 ≡ length (row needs j)
+
+-- the heap has once each of the first n rotations that needs no other
+pub record AreReadyAtFirst (rotations : List (List (ℕ × ℕ))) (unmet : List ℕ) (n : ℕ) (ready : List (Reverse (ℕ × ℕ))) : Type 0 where
+  pub entries : All (IsEntry rotations) ready
+  pub once : (k : ℕ) → k < n → slice_index_or unmet k 0 ≡ 0 → times_ready ready k ≡ 1
+  pub waiting : (k : ℕ) → k < n → slice_index_or unmet k 0 ≢ 0 → times_ready ready k ≡ 0
+  pub later : (k : ℕ) → n ≤ k → times_ready ready k ≡ 0
+
+-- the count of a rotation falls, and where it falls to nothing the heap has the rotation once more
+pub record IsFallen (unmet_before ready_before unmet_after ready_after : ℕ) : Type 0 where
+  pub fallen : 0 < unmet_before → unmet_after ≡ 0 → ready_after ≡ ready_before + 1
+  pub same : (unmet_before ≡ 0) ⊎ (0 < unmet_after) → ready_after ≡ ready_before
+
+-- each rotation has one unmet need less for each time that it stands among the followers
+pub record IsReleased (rotations : List (List (ℕ × ℕ))) (followers : List ℕ) (unmet : List ℕ) (ready : List (Reverse (ℕ × ℕ)))
+    (unmet_after : List ℕ) (ready_after : List (Reverse (ℕ × ℕ))) : Type 0 where
+  pub counts : (j : ℕ) → slice_index_or unmet_after j 0 + times followers j ≡ slice_index_or unmet j 0
+  pub fallen : (j : ℕ) → IsFallen (slice_index_or unmet j 0) (times_ready ready j) (slice_index_or unmet_after j 0) (times_ready ready_after j)
+  pub entries : All (IsEntry rotations) ready → All (IsEntry rotations) ready_after
+
+-- a matching has passed rotation k: the first proposer of that has come down to where it moves it, or further
+abbrev pub is_passed : Lists → Places → List (List (ℕ × ℕ)) → Places → ℕ → Bool
+is_passed l first rotations m k =
+    let p = proposer_at (rotation_at rotations k) 0 in
+    nat_le (standing l.proposers (stage l first rotations (suc k)).proposers p) (standing l.proposers m.proposers p)
+
+abbrev pub IsPassed : Lists → Places → List (List (ℕ × ℕ)) → Places → ℕ → Type 0
+IsPassed l first rotations m k = is_passed l first rotations m k ≡ true
+
+-- how many of these rotations a matching hasn't passed
+abbrev pub left_over : Lists → Places → List (List (ℕ × ℕ)) → Places → List ℕ → ℕ
+left_over l first rotations m numbers = count_by (λ k. not (is_passed l first rotations m k)) numbers
+
+-- at a matching the heap has once each rotation that isn't passed and has no unmet need, and the counts are those of the
+-- needs that aren't passed
+pub record AreReady (l : Lists) (first : Places) (rotations : List (List (ℕ × ℕ))) (needs : List (List ℕ)) (m : Places)
+    (unmet : List ℕ) (ready : List (Reverse (ℕ × ℕ))) : Type 0 where
+  pub one_each : length unmet ≡ length rotations
+  pub counts : (k : ℕ) → k < length rotations → slice_index_or unmet k 0 ≡ left_over l first rotations m (row needs k)
+  pub entries : All (IsEntry rotations) ready
+  pub once : (k : ℕ) → k < length rotations → ¬ IsPassed l first rotations m k → slice_index_or unmet k 0 ≡ 0 → times_ready ready k ≡ 1
+  pub passed : (k : ℕ) → k < length rotations → IsPassed l first rotations m k → times_ready ready k ≡ 0
+  pub waiting : (k : ℕ) → k < length rotations → slice_index_or unmet k 0 ≢ 0 → times_ready ready k ≡ 0
+
+-- the rotations written so far lead to a stable matching, each one the lowest at its turn, and the heap has what is ready there
+pub record AreWritten (l : Lists) (first : Places) (rotations : List (List (ℕ × ℕ))) (needs : List (List ℕ)) (written : List (List (ℕ × ℕ)))
+    (unmet : List ℕ) (ready : List (Reverse (ℕ × ℕ))) : Type 0 where
+  pub stable : IsStable l (stage l first written (length written))
+  pub leads : LeadsTo l first written (stage l first written (length written))
+  pub heap : AreReady l first rotations needs (stage l first written (length written)) unmet ready

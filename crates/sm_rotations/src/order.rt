@@ -1,0 +1,195 @@
+//! A chain of rotations put into the stated order.
+
+ghost use Rattle.std.specs.Prelude.{◌≡◌, ℕ, ◌<◌, ◌≤◌, ◌^◌, length, replicate, [], slice_index_or, IfOk, OnOk};
+ghost use Rattle.std.specs.BinaryHeap.{IsHeap, heap_items};
+ghost use Rattle.sm_market.specs.Lists.{row};
+ghost use Rattle.sm_market.specs.Vectors.{rows_of};
+ghost use Rattle.sm_market.specs.Pairing.{IsPairingOf};
+ghost use Rattle.sm_theory.specs.Chains.{rotation_at, IsCompleteChain, IsPrintedChain};
+ghost use Rattle.sm_theory.specs.Values.{rotations_of};
+ghost use Rattle.sm_rotations.specs.Ordering.{times, later_first, IsLowestPair, IsTurned, IsOneMore, AreTurnedOver, IsFollowing, AreCounts, AreReadyAtFirst, IsReleased};
+
+use crate::predecessors::needs;
+use sm_market::Market;
+use sm_theory::{Chain, Rotation};
+use std::alloc::{AllocError, Global};
+use std::cmp::Reverse;
+use std::collections::BinaryHeap;
+
+/// The chain with its rotations in the stated order: at each turn the exposed rotation that has the lowest-numbered
+/// proposer comes first, and each rotation begins with its lowest-numbered proposer.
+///
+/// Any complete chain will do. At each turn the exposed rotations are those that are left over and whose predecessors have
+/// all been written; they wait in a heap, by their lowest proposers. Takes time in proportion to the agents and entries, and
+/// to the rotations and predecessors times a logarithm, and memory in proportion to the agents, the entries and the
+/// predecessors (Gusfield and Irving 1989, section 2.5 and chapter 3).
+///
+/// # Errors
+///
+/// `AllocError` where memory ran out, and only then.
+pub(crate) fn in_order(alloc: Global, market: &Market, chain: &Chain) -> Result<Chain, AllocError>
+    requires made { IsPairingOf market.now chain.now.first }
+    requires complete { IsCompleteChain market.now chain.now.first.places (rotations_of chain.now.rotations.items) }
+    ensures made { IfOk result (λ c. IsPairingOf market.now c.first) }
+    ensures first { IfOk result (λ c. c.first.places ≡ chain.now.first.places) }
+    ensures chain { IfOk result (λ c. IsPrintedChain market.now chain.now.first.places (rotations_of c.rotations.items)) }
+{
+    let first = chain.first.copy(alloc)?;
+    let rotations = ordered(alloc, market, chain)?;
+    Ok(Chain { first, rotations })
+}
+
+/// The rotations of a chain in the stated order.
+fn ordered(alloc: Global, market: &Market, chain: &Chain) -> Result<Vec<Rotation>, AllocError>
+    requires made { IsPairingOf market.now chain.now.first }
+    requires complete { IsCompleteChain market.now chain.now.first.places (rotations_of chain.now.rotations.items) }
+    ensures { IfOk result (λ r. IsPrintedChain market.now chain.now.first.places (rotations_of r.items)) }
+{
+    prove!(market.proposers() < 1 << 24);
+    let needs = needs(alloc, market, chain)?;
+    let followers = followers(alloc, &needs)?;
+    let mut unmet = counts(alloc, &needs)?;
+    let followers = followers.as_slice();
+    let unmet = unmet.as_mut_slice();
+    let rotations = chain.rotations.as_slice();
+    let mut ready = ready_at_first(alloc, rotations, unmet)?;
+    let mut written = Vec::with_capacity(alloc, rotations.len())?;
+    'turns: while let Some(Reverse((_, k))) = ready.pop() {
+        written.push(turned(alloc, &rotations[k as usize].pairs)?)?;
+        release(rotations, &followers[k as usize], unmet, &mut ready)?;
+    }
+    Ok(written)
+}
+
+/// The number of the pair that has the lowest-numbered proposer.
+fn lowest(pairs: &[(u32, u32)]) -> usize
+    requires { 0 < length pairs.now }
+    ensures { IsLowestPair pairs.now result }
+{
+    let mut best = 0;
+    for i in 1..pairs.len() {
+        if pairs[i].0 < pairs[best].0 {
+            best = i;
+        }
+    }
+    best
+}
+
+/// The same cycle, begun at its lowest-numbered proposer.
+fn turned(alloc: Global, pairs: &[(u32, u32)]) -> Result<Rotation, AllocError>
+    requires { 0 < length pairs.now }
+    ensures { IfOk result (λ r. IsTurned pairs.now r.pairs.items) }
+{
+    let from = lowest(pairs);
+    let mut turned = Vec::from_slice(alloc, &pairs[from..])?;
+    turned.extend_from_slice(&pairs[..from])?;
+    Ok(Rotation { pairs: turned })
+}
+
+/// For each rotation those that need it.
+fn followers(alloc: Global, needs: &[Vec<u32>]) -> Result<Vec<Vec<u32>>, AllocError>
+    requires few { length needs.now < 2 ^ 32 }
+    requires in_range { (j a : ℕ) → a < length (row (rows_of needs.now) j) → slice_index_or (row (rows_of needs.now) j) a 0 < length needs.now }
+    ensures { IfOk result (λ f. AreTurnedOver (rows_of needs.now) (length needs.now) (rows_of f.items)) }
+{
+    let mut followers = no_followers(alloc, needs.len())?;
+    for j in 0..needs.len() as u32 {
+        follow(j, &needs[j as usize], &mut followers)?;
+    }
+    Ok(followers)
+}
+
+/// No rotation yet that needs any of them.
+fn no_followers(alloc: Global, rotations: usize) -> Result<Vec<Vec<u32>>, AllocError>
+    ensures { IfOk result (λ f. rows_of f.items ≡ replicate rotations []) }
+{
+    let mut followers = Vec::with_capacity(alloc, rotations)?;
+    for _ in 0..rotations {
+        followers.push(Vec::new(alloc))?;
+    }
+    Ok(followers)
+}
+
+/// Notes a rotation with each one that it needs.
+fn follow(j: u32, needs: &[u32], followers: &mut [Vec<u32>]) -> Result<(), AllocError>
+    requires in_range { (a : ℕ) → a < length needs.now → slice_index_or needs.now a 0 < length followers.old }
+    ensures { OnOk result (IsFollowing j needs.now (rows_of followers.old) (rows_of followers.new)) }
+{
+    for &i in needs {
+        followers[i as usize].push(j)?;
+    }
+    Ok(())
+}
+
+/// How many others each rotation needs.
+fn counts(alloc: Global, needs: &[Vec<u32>]) -> Result<Vec<usize>, AllocError>
+    ensures { IfOk result (λ c. AreCounts (rows_of needs.now) c.items) }
+{
+    let mut counts = Vec::with_capacity(alloc, needs.len())?;
+    for of in needs {
+        counts.push(of.len())?;
+    }
+    Ok(counts)
+}
+
+/// The rotations that need no other, by their lowest proposers.
+fn ready_at_first(
+    alloc: Global,
+    rotations: &[Rotation],
+    unmet: &[usize],
+) -> Result<BinaryHeap<Reverse<(u32, u32)>>, AllocError>
+    requires few { length rotations.now < 2 ^ 32 }
+    requires one_each { length unmet.now ≡ length rotations.now }
+    requires some { (k : ℕ) → k < length rotations.now → 0 < length (rotation_at (rotations_of rotations.now) k) }
+    ensures order { IfOk result (λ h. IsHeap later_first (heap_items h)) }
+    ensures ready { IfOk result (λ h. AreReadyAtFirst (rotations_of rotations.now) unmet.now (length rotations.now) (heap_items h)) }
+{
+    let mut ready = BinaryHeap::new(alloc);
+    for k in 0..rotations.len() as u32 {
+        if unmet[k as usize] == 0 {
+            add_ready(&rotations[k as usize].pairs, k, &mut ready)?;
+        }
+    }
+    Ok(ready)
+}
+
+/// Adds a rotation to those that are ready.
+fn add_ready(
+    pairs: &[(u32, u32)],
+    k: u32,
+    ready: &mut BinaryHeap<Reverse<(u32, u32)>>,
+) -> Result<(), AllocError>
+    requires some { 0 < length pairs.now }
+    requires order { IsHeap later_first (heap_items ready.old) }
+    ensures order { OnOk result (IsHeap later_first (heap_items ready.new)) }
+    ensures added { OnOk result (IsOneMore pairs.now k (heap_items ready.old) (heap_items ready.new)) }
+{
+    let p = pairs[lowest(pairs)].0;
+    ready.push(Reverse((p, k)))?;
+    Ok(())
+}
+
+/// One need less for each of these rotations. Those that have no other become ready.
+fn release(
+    rotations: &[Rotation],
+    followers: &[u32],
+    unmet: &mut [usize],
+    ready: &mut BinaryHeap<Reverse<(u32, u32)>>,
+) -> Result<(), AllocError>
+    requires one_each { length unmet.old ≡ length rotations.now }
+    requires in_range { (a : ℕ) → a < length followers.now → slice_index_or followers.now a 0 < length rotations.now }
+    requires some { (k : ℕ) → k < length rotations.now → 0 < length (rotation_at (rotations_of rotations.now) k) }
+    requires enough { (j : ℕ) → times followers.now j ≤ slice_index_or unmet.old j 0 }
+    requires order { IsHeap later_first (heap_items ready.old) }
+    ensures one_each { OnOk result (length unmet.new ≡ length unmet.old) }
+    ensures order { OnOk result (IsHeap later_first (heap_items ready.new)) }
+    ensures released { OnOk result (IsReleased (rotations_of rotations.now) followers.now unmet.old (heap_items ready.old) unmet.new (heap_items ready.new)) }
+{
+    for &j in followers {
+        unmet[j as usize] -= 1;
+        if unmet[j as usize] == 0 {
+            add_ready(&rotations[j as usize].pairs, j, ready)?;
+        }
+    }
+    Ok(())
+}
