@@ -7,4 +7,6 @@ pub mod RefusingLemmas
 pub mod LineLemmas
 pub mod SolveLemmas
 pub mod ReduceLemmas
+pub mod ShownLemmas
+pub mod RotationLemmas
 pub mod RunLemmas

@@ -374,7 +374,7 @@ abbrev holder_of : Written → List (Option ℕ) → ℕ → ℕ
 holder_of w places r = position_or_len (λ q. is_at w places q r) (range_with_len 0 (length w.proposers))
 
 -- where a proposer stands in the market, and a reviewer
-abbrev proposer_stand : Written → List (Option ℕ) → ℕ → Option ℕ → ℕ
+abbrev pub proposer_stand : Written → List (Option ℕ) → ℕ → Option ℕ → ℕ
 proposer_stand w places p None = length (market_row (market_of w).proposers p)
 proposer_stand w places p (Some i) = market_place (market_of w).proposers p (entry w.proposers p i)
 

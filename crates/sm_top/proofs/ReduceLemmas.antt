@@ -38,15 +38,15 @@ use Rattle.sm_top.specs.Outcome.{IsReduction}
 use Rattle.sm_top.proofs.MarriageLemmas.{is_market}
 
 -- what holds of each number's line holds of all
-lines_each : (P : LineData → Type 0) (f : ℕ → Option LineData) (a n : ℕ) → ((i : ℕ) → i < a + n → All P (line_or_none (f i))) → All P (lines_from f a n)
+pub lines_each : (P : LineData → Type 0) (f : ℕ → Option LineData) (a n : ℕ) → ((i : ℕ) → i < a + n → All P (line_or_none (f i))) → All P (lines_from f a n)
 lines_each P f a zero each = λ k d l. absurd (omega arith)
 lines_each P f a (suc n) each =
     All-append P (line_or_none (f a)) (lines_from f (a + 1) n) (each a (omega arith)) (lines_each P f (a + 1) n (λ i l. each i (omega arith)))
 
-one_line : (P : LineData → Type 0) (line : LineData) → P line → All P (line ∷ [])
+pub one_line : (P : LineData → Type 0) (line : LineData) → P line → All P (line ∷ [])
 one_line P line h = All-cons P line [] h (λ k d l. absurd (omega arith))
 
-no_line : (P : LineData → Type 0) → All P []
+pub no_line : (P : LineData → Type 0) → All P []
 no_line P = λ k d l. absurd (omega arith)
 
 -- what holds at each place holds of all
@@ -54,17 +54,17 @@ all_of : (P : ℕ → Type 0) (xs : List ℕ) → ((i : ℕ) → i < length xs �
 all_of P xs each = λ k d l. subst P (sym (get_or_default_zero xs k d l)) (each k l)
 
 -- the agents of the market are those of the instance
-proposers_long : (w : Written) → length (market_of w).proposers ≡ length w.proposers
+pub proposers_long : (w : Written) → length (market_of w).proposers ≡ length w.proposers
 proposers_long w = length-map-range_with_len (mutual_row w.proposers w.reviewers) 0 (length w.proposers)
 
-reviewers_long : (w : Written) → length (market_of w).reviewers ≡ length w.reviewers
+pub reviewers_long : (w : Written) → length (market_of w).reviewers ≡ length w.reviewers
 reviewers_long w = length-map-range_with_len (mutual_row w.reviewers w.proposers) 0 (length w.reviewers)
 
 side_printable : (w : Written) (side : Side) (p r : ℕ) → (p < length w.proposers) × (r < length w.reviewers) → IsPrintable (Two w) (best_seat side p (seat_of r))
 side_printable w Proposers p r both = both
 side_printable w Reviewers p r both = both
 
-seat_printable : (w : Written) (side : Side) (m : Places) → IsInstance w → IsMatching (market_of w) m → (p : ℕ) → All (IsPrintable (Two w)) (line_or_none (seat_line side (market_of w) m p))
+pub seat_printable : (w : Written) (side : Side) (m : Places) → IsInstance w → IsMatching (market_of w) m → (p : ℕ) → All (IsPrintable (Two w)) (line_or_none (seat_line side (market_of w) m p))
 seat_printable w side m h f p = by_place (held m.proposers p) refl
   where
     by_place : (o : Option ℕ) → held m.proposers p ≡ o

@@ -15,7 +15,7 @@ use Rattle.sm_top.specs.declared.writing.Unwritten.TheVariants.{SinkFailed, NoMe
 use Rattle.sm_top.specs.declared.TheConstants.{MOST_BYTES}
 use Rattle.sm_top.specs.Words.{words_meaning}
 use Rattle.sm_top.specs.Input.{IsReadWhole, GaveTooMany}
-use Rattle.sm_top.specs.declared.words.Job.TheVariants.{Solve, Reduced}
+use Rattle.sm_top.specs.declared.words.Job.TheVariants.{Solve, Reduced, Rotations}
 use Rattle.sm_reader.specs.InstanceText.{ReadText, Refusal, instance_text}
 use Rattle.sm_report.specs.Lines.{LineData}
 use Rattle.sm_instance.specs.declared.inputs.Input.{Input}
@@ -80,8 +80,10 @@ whole_agrees (Some all) (Some rest) bytes given end = given ∙ ap (λ t. bytes 
 pub answer_done : (job : Job) (input : Input) (status : Status) (answer : List LineData) → IsAnswer job input status answer → status ≡ Done
 answer_done (Solve side) (Two w) status answer right = right.0
 answer_done Reduced (Two w) status answer right = right.0
+answer_done Rotations (Two w) status answer right = right.0
 answer_done (Solve side) (Room persons) status answer right = absurd right
 answer_done Reduced (Room persons) status answer right = absurd right
+answer_done Rotations (Room persons) status answer right = absurd right
 
 -- sound words come to no usage
 no_usage : (words : List (List ℕ)) (bytes text : List ℕ) (word : ℕ) (job : Job) → words_meaning words ≡ Ok job → Outcome words bytes (Usage word) text → ⊥

@@ -3,6 +3,8 @@ pub mod MarriageMarket
 pub mod Texts
 pub mod Answers
 pub mod Reduction
+pub mod RotationLines
+pub mod RotationAnswer
 pub mod Outcome
 pub mod Running
 pub mod Input

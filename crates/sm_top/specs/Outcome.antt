@@ -19,7 +19,7 @@ use Rattle.sm_report.specs.Texts.{texts_of_lines}
 use Rattle.sm_top.specs.declared.status.Status.{Status}
 use Rattle.sm_top.specs.declared.status.Status.TheVariants.{Done, Refused, Usage}
 use Rattle.sm_top.specs.declared.words.Job.{Job}
-use Rattle.sm_top.specs.declared.words.Job.TheVariants.{Solve, Reduced}
+use Rattle.sm_top.specs.declared.words.Job.TheVariants.{Solve, Reduced, Rotations}
 use Rattle.sm_top.specs.Words.{words_meaning}
 use Rattle.sm_top.specs.Texts.{usage_text, refused_text}
 use Rattle.sm_market.specs.Matching.{Places}
@@ -27,6 +27,7 @@ use Rattle.sm_market.specs.Stable.{IsProposersBest, IsReviewersBest}
 use Rattle.sm_top.specs.MarriageMarket.{market_of}
 use Rattle.sm_top.specs.Answers.{solve_lines, IsBestOf}
 use Rattle.sm_top.specs.Reduction.{reduced_lines}
+use Rattle.sm_top.specs.RotationAnswer.{IsRotationAnswer}
 
 -- The order of refusals.
 
@@ -92,6 +93,7 @@ pub record IsReduction (w : Written) (answer : List LineData) : Type 0 where
 abbrev pub IsAnswer : Job → Input → Status → List LineData → Type 0
 IsAnswer (Solve side) (Two w) status answer = (status ≡ Done) × IsSolution (unwrap_or side Proposers) w answer
 IsAnswer Reduced (Two w) status answer = (status ≡ Done) × IsReduction w answer
+IsAnswer Rotations (Two w) status answer = (status ≡ Done) × IsRotationAnswer w answer
 IsAnswer job (Room persons) status answer = ⊥
 
 -- the words are faulty; or they ask for a job, and the input is refused; or it is accepted, and the text is that of a

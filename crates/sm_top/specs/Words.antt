@@ -6,7 +6,7 @@ use Rattle.sm_instance.specs.declared.kinds.Side.TheVariants.{Proposers, Reviewe
 use Rattle.std.specs.Str.{bytes_eq}
 use Rattle.std.specs.declared.alloc.Global.{Global}
 use Rattle.sm_top.specs.declared.words.Job.{Job}
-use Rattle.sm_top.specs.declared.words.Job.TheVariants.{Solve, Reduced}
+use Rattle.sm_top.specs.declared.words.Job.TheVariants.{Solve, Reduced, Rotations}
 use Rattle.sm_top.specs.declared.words.WordsFault.{WordsFault}
 use Rattle.sm_top.specs.declared.words.WordsFault.TheVariants.{Usage, OutOfMemory}
 
@@ -37,7 +37,8 @@ abbrev pub words_meaning : List (List ℕ) → Result Job ℕ
 words_meaning [] = Err 1
 words_meaning (command ∷ operands) =
     if bytes_eq command (codes "solve") then solve_meaning operands else
-    (if bytes_eq command (codes "reduced") then alone Reduced operands else Err 1)
+    (if bytes_eq command (codes "reduced") then alone Reduced operands else
+    (if bytes_eq command (codes "rotations") then alone Rotations operands else Err 1))
 
 -- a fault of words is that of what they mean; want of memory says nothing
 abbrev pub IsFaultBy : Result Job ℕ → WordsFault → Type 0

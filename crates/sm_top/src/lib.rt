@@ -7,11 +7,13 @@ mod market;
 mod pairs;
 mod reducing;
 mod refusing;
+mod rotating;
 mod rows;
 mod running;
 mod seats;
 mod solving;
 mod status;
+mod turns;
 mod words;
 mod writing;
 

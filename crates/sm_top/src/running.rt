@@ -13,6 +13,7 @@ use crate::MOST_BYTES;
 use crate::input::{Reading, read_all};
 use crate::reducing::reduce;
 use crate::refusing::refusal;
+use crate::rotating::show_rotations;
 use crate::solving::solve;
 use crate::status::Status;
 use crate::words::{Job, WordsFault, read_words};
@@ -31,7 +32,9 @@ use std::alloc::{AllocError, Global};
 /// - `Done`: the whole answer is written. For `solve` it is the pairs of the stable matching in which every agent of a
 ///   side has the best partner that it has in any stable matching (Gale and Shapley 1962), in the order of the text; for
 ///   `reduced` the partners in both such matchings and the lists in which all stable pairs lie (Gusfield and Irving 1989,
-///   section 1.2.4).
+///   section 1.2.4); for `rotations` the proposers' partners in the first of them, the rotations that lead from it to the
+///   last, and what each needs, so that the stable matchings are those of the closed sets that the lines show (Gusfield and
+///   Irving 1989, theorem 2.5.7).
 /// - `Refused`: the input is refused for this reason, at this line; the one line `refused NAME LINE` is written. An input
 ///   that is too long comes first, then the faults of its lines from the top, then a missing `end`, then a name that isn't
 ///   declared, then text behind `end`, then a kind that isn't taken yet.
@@ -40,7 +43,8 @@ use std::alloc::{AllocError, Global};
 /// - `OutOfMemory`: there was no memory. Nothing was written, or a front of the answer.
 ///
 /// What is written is added to what the sink held. It depends on the bytes that the source gave and not on how they were cut.
-/// Takes time and memory linear in the bytes.
+/// Takes time and memory linear in the bytes for `solve` and `reduced`; for `rotations` the time of [`sm_rotations::chain`]
+/// comes besides.
 pub fn run<S: Source, K: Sink>(
     alloc: Global,
     words: &[String],
@@ -123,6 +127,7 @@ fn perform<K: Sink>(alloc: Global, job: Job, input: &Input, sink: &mut K) -> Sta
         Input::Two(instance) => match job {
             Job::Solve(side) => solve(alloc, side, input, instance, sink),
             Job::Reduced => reduce(alloc, input, instance, sink),
+            Job::Rotations => show_rotations(alloc, input, instance, sink),
         },
         Input::Room(_) => unreachable!(),
     }

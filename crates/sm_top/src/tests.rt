@@ -106,6 +106,49 @@ fn reduces_lists(rt: HostRuntime) {
 }
 
 #[test]
+fn shows_rotations(rt: HostRuntime) {
+    gives(
+        &rt,
+        &["rotations"],
+        TWO_BY_TWO,
+        Status::Done,
+        "answer rotations\nfirst m1 a\nfirst m2 b\nrotation 1 m1 a m2 b\nneeds 1 -\nend\n",
+    );
+    gives(
+        &rt,
+        &["rotations"],
+        "stable 1 marriage\np p1: a b\np p2: b a\np p3: c a d\np p4: d c\nr a: p2 p3 p1\nr b: p1 p2\nr c: p4 p3\nr d: p3 p4\nend\n",
+        Status::Done,
+        "answer rotations\nfirst p1 a\nfirst p2 b\nfirst p3 c\nfirst p4 d\nrotation 1 p1 a p2 b\nneeds 1 -\nrotation 2 p3 c p4 d\nneeds 2 1\nend\n",
+    );
+    gives(
+        &rt,
+        &["rotations"],
+        "stable 1 marriage\np ann: art chemistry biology\np ben: biology art\np cem: chemistry art drama english\np dan: drama art biology chemistry\np eve: english french\np fay: french art english\nr art: ben dan cem fay ann\nr biology: ann dan ben\nr chemistry: dan ann cem\nr drama: cem dan\nr english: fay eve cem\nr french: eve fay\nend\n",
+        Status::Done,
+        "answer rotations\nfirst ann art\nfirst ben biology\nfirst cem chemistry\nfirst dan drama\nfirst eve english\nfirst fay french\nrotation 1 ann art cem chemistry\nneeds 1 -\nrotation 2 cem art dan drama\nneeds 2 1\nrotation 3 ben biology dan art\nneeds 3 2\nrotation 4 ann chemistry dan biology\nneeds 4 1 3\nrotation 5 eve english fay french\nneeds 5 1\nend\n",
+    );
+}
+
+#[test]
+fn shows_no_rotation_where_there_is_none(rt: HostRuntime) {
+    gives(
+        &rt,
+        &["rotations"],
+        "stable 1 marriage\np m1: z w x\np m2: w\np m3: x w\np m4:\nr w: m1 m3 m2\nr x: m3 m1\nr y: m4\nr z:\nend\n",
+        Status::Done,
+        "answer rotations\nfirst m1 w\nfirst m3 x\nend\n",
+    );
+    gives(
+        &rt,
+        &["rotations"],
+        "stable 1 hospitals\np m1: a\nr a [2]: m1\nend\n",
+        Status::Refused(RefusalKind::NotBuilt, 1),
+        "refused NotBuilt 1\n",
+    );
+}
+
+#[test]
 fn reads_what_a_text_may_hold(rt: HostRuntime) {
     gives(
         &rt,
@@ -206,6 +249,13 @@ fn refuses_words(rt: HostRuntime) {
         Status::Usage(3),
         "usage 3\n",
     );
+    gives(
+        &rt,
+        &["rotations", "side=proposers"],
+        TWO_BY_TWO,
+        Status::Usage(2),
+        "usage 2\n",
+    );
 }
 
 // The job of words, if there is one.
@@ -224,7 +274,9 @@ fn words_ask_for_jobs(rt: HostRuntime) {
     assert!(rt;
         job_of(&rt, &["solve", "side=reviewers"]) == Some(Job::Solve(Some(Side::Reviewers)))
     );
+    assert!(rt; job_of(&rt, &["rotations"]) == Some(Job::Rotations));
     assert!(rt; job_of(&rt, &["side=reviewers"]) == None);
+    assert!(rt; job_of(&rt, &["rotations", "rotations"]) == None);
 }
 
 #[test]

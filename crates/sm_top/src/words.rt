@@ -14,6 +14,8 @@ pub enum Job {
     Solve(Option<Side>),
     /// The first and the last partners, and the reduced lists.
     Reduced,
+    /// The first partners, the chain of rotations, and what each rotation needs.
+    Rotations,
 }
 
 /// Why words ask for nothing.
@@ -29,7 +31,8 @@ pub enum WordsFault {
 
 /// What the words ask for, which are those of the command line behind the program's name.
 ///
-/// The first word is a command. `solve` may have the operand `side=proposers` or `side=reviewers`; `reduced` has none.
+/// The first word is a command. `solve` may have the operand `side=proposers` or `side=reviewers`; `reduced` and
+/// `rotations` have none.
 ///
 /// # Errors
 ///
@@ -43,6 +46,9 @@ pub fn read_words(_alloc: Global, words: &[String]) -> Result<Job, WordsFault>
         [] => Err(WordsFault::Usage(1)),
         [command, operands @ ..] if command.as_str() == "solve" => solve_job(operands),
         [command, operands @ ..] if command.as_str() == "reduced" => alone(Job::Reduced, operands),
+        [command, operands @ ..] if command.as_str() == "rotations" => {
+            alone(Job::Rotations, operands)
+        }
         _ => Err(WordsFault::Usage(1)),
     }
 }
