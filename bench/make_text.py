@@ -3,10 +3,18 @@
     python3 bench/make_text.py hospitals RESIDENTS ENTRIES HOSPITALS [SEED]
     python3 bench/make_text.py comments BYTES
     python3 bench/make_text.py force BYTES
+    python3 bench/make_text.py cycle SIZE
+    python3 bench/make_text.py copies SIZE
+    python3 bench/make_text.py opposed BLOCKS SIZE
 
 `hospitals` has residents who each list ENTRIES hospitals at random, and hospitals of capacity 14 that list back, in
 random order. `comments` and `force` are a marriage of one proposer and one reviewer, filled up with comment lines or
-with `force` lines to nearly so many bytes. The same arguments give the same text.
+with `force` lines to nearly so many bytes.
+
+The other three are marriages with many rotations. In `cycle` the proposer p(i) lists r(i), r(i+1) and so on around, and
+the reviewer r(k) lists p(k+1), p(k+2) and so on around: each turn is one rotation of all proposers. `copies` has SIZE
+copies of the two by two instance with two stable matchings. `opposed` has BLOCKS cycles of SIZE agents, with the
+proposers' and the reviewers' numbers mixed. The same arguments give the same text.
 """
 
 import random
@@ -34,6 +42,35 @@ def filled(line, size):
     return ends[:3] + [line] * (room // (len(line) + 1)) + ends[3:]
 
 
+def marriage(proposers, reviewers):
+    out = ["stable 1 marriage"]
+    out += ["p p%d: %s" % (p + 1, " ".join("r%d" % (r + 1) for r in row)) for p, row in enumerate(proposers)]
+    out += ["r r%d: %s" % (r + 1, " ".join("p%d" % (p + 1) for p in row)) for r, row in enumerate(reviewers)]
+    return out + ["end"]
+
+
+def cycle(size):
+    around = [[(i + d) % size for d in range(size)] for i in range(size)]
+    return marriage(around, [row[1:] + row[:1] for row in around])
+
+
+def copies(size):
+    straight = [[i, i ^ 1] for i in range(2 * size)]
+    return marriage(straight, [row[::-1] for row in straight])
+
+
+def opposed(blocks, size, seed=1):
+    draw = random.Random(seed)
+    left, right = (draw.sample(range(blocks * size), blocks * size) for _ in range(2))
+    proposers, reviewers = ([None] * (blocks * size) for _ in range(2))
+    for first in range(0, blocks * size, size):
+        for i in range(size):
+            around = [first + (i + d) % size for d in range(size)]
+            proposers[left[first + i]] = [right[r] for r in around]
+            reviewers[right[first + i]] = [left[p] for p in around[1:] + around[:1]]
+    return marriage(proposers, reviewers)
+
+
 def main(words):
     if words[:1] == ["hospitals"] and len(words) in (4, 5):
         return hospitals(int(words[1]), int(words[2]), int(words[3]), int(words[4]) if len(words) == 5 else 1)
@@ -41,6 +78,12 @@ def main(words):
         return filled("# " + "comment " * 9, int(words[1]))
     if words[:1] == ["force"] and len(words) == 2:
         return filled("force m w", int(words[1]))
+    if words[:1] == ["cycle"] and len(words) == 2:
+        return cycle(int(words[1]))
+    if words[:1] == ["copies"] and len(words) == 2:
+        return copies(int(words[1]))
+    if words[:1] == ["opposed"] and len(words) == 3:
+        return opposed(int(words[1]), int(words[2]))
     sys.exit(__doc__)
 
 
