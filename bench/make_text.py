@@ -33,7 +33,7 @@ def hospitals(residents, entries, count, seed):
     for h, back in enumerate(backs):
         draw.shuffle(back)
         out.append("r h%d [14]: %s" % (h, " ".join("r%d" % p for p in back)))
-    return out
+    return out + ["end"]
 
 
 def filled(line, size):
