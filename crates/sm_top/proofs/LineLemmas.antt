@@ -1,6 +1,6 @@
 -- Lines that are given one after another, and what is written of them.
-use Rattle.std.proofs.Common.{◌≡◌, ℕ, suc, ◌+◌, ◌-◌, ◌<◌, ◌≤◌, Bool, true, false, List, [], ◌∷◌, ◌++◌, Option, Some, None, is_some, Result, Ok, Err, refl, sym, ap, ◌∙◌, subst, append_assoc, append-nil, arith}
-use Rattle.std.specs.List.{All, flat_map}
+use Rattle.std.proofs.Common.{◌≡◌, ℕ, suc, ◌+◌, ◌-◌, ◌<◌, ◌≤◌, true, false, List, [], ◌∷◌, ◌++◌, Option, Some, None, is_some, Ok, Err, refl, sym, ap, ◌∙◌, subst, append_assoc, append-nil, arith}
+use Rattle.std.specs.List.{All}
 use Rattle.std.proofs.lemmas.List.Concat.{flat_map-append}
 use Rattle.sm_text.specs.Lines.{LF}
 use Rattle.sm_io.specs.Sink.{Grows}
@@ -14,9 +14,9 @@ use Rattle.sm_top.specs.Giving.{GivesLine}
 use Rattle.sm_report.specs.Texts.{text_of_line, texts_of_lines}
 use Rattle.sm_report.specs.Sound.{IsPrintable}
 use Rattle.sm_top.specs.declared.writing.Unwritten.{Unwritten}
-use Rattle.sm_top.specs.declared.writing.Unwritten.TheVariants.{SinkFailed, NoMemory}
+use Rattle.sm_top.specs.declared.writing.Unwritten.TheVariants.{NoMemory}
 use Rattle.sm_top.specs.Writing.{Writes}
-use Rattle.sm_top.proofs.WritingLemmas.{writes_then, writes_front, writes_midst}
+use Rattle.sm_top.proofs.WritingLemmas.{writes_midst}
 
 -- of all lines some are written, and the others are left
 pub record IsWrittenSoFar (input : Input) (all left : List LineData) (before now : Option (List ℕ)) (f g : ℕ) : Type 0 where

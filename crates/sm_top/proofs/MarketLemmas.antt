@@ -1,5 +1,5 @@
 -- The lists of the market, entry by entry.
-use Rattle.std.proofs.Common.{◌≡◌, ℕ, zero, suc, subst, ◌+◌, ◌<◌, ◌≤◌, ◌++◌, ◌∷◌, [], cond, Bool, true, false, List, Option, Some, None, length, map, take, get_or, Vec, is_some, refl, sym, ap, ◌∙◌, append-nil, arith, nat_lt}
+use Rattle.std.proofs.Common.{◌≡◌, ℕ, zero, suc, subst, ◌+◌, ◌<◌, ◌≤◌, ◌++◌, ◌∷◌, [], cond, Bool, true, false, List, Some, None, length, map, take, Vec, is_some, refl, sym, ap, ◌∙◌, append-nil, arith, nat_lt}
 use Rattle.std.specs.List.{filter, range_with_len, sum_by}
 use Rattle.std.proofs.lemmas.List.Sums.{sum_by-take-le, sum_by_more}
 use Rattle.std.specs.declared.alloc.Global.{Global}

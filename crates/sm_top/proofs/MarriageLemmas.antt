@@ -1,10 +1,10 @@
 -- The stable matchings of a marriage are those of its market.
-use Rattle.std.proofs.Common.{◌≡◌, ◌≢◌, ℕ, zero, suc, ◌+◌, ◌<◌, ◌≤◌, ◌⊎◌, ◌==◌, cond, nat_lt, Bool, true, false, List, [], ◌∷◌, Option, Some, None, map, length, get_or, subst, refl, sym, ap, ◌∙◌, arith, inl, inr, ⊎_elim, unwrap_or}
+use Rattle.std.proofs.Common.{◌≡◌, ℕ, zero, suc, ◌+◌, ◌<◌, ◌≤◌, ◌⊎◌, cond, nat_lt, Bool, true, false, List, [], Option, Some, None, length, get_or, subst, refl, sym, ap, ◌∙◌, arith, inl, inr, unwrap_or}
 use Rattle.std.specs.List.{position_or_len, filter, range_with_len}
 use Rattle.std.specs.Option.{option_map}
-use Rattle.std.proofs.lemmas.Bool.{eqb-true, eq-eqb, ne_eqb, false≢true, cases_lt, cases_eq, le-ltb}
-use Rattle.std.proofs.lemmas.List.Sums.{fails_before_first, passes_at_first, prefix_len-le-length}
-use Rattle.std.proofs.lemmas.List.{get_or_past, get_or-map, length-map}
+use Rattle.std.proofs.lemmas.Bool.{false≢true, cases_lt, cases_eq, le-ltb}
+use Rattle.std.proofs.lemmas.List.Sums.{fails_before_first, passes_at_first}
+use Rattle.std.proofs.lemmas.List.{get_or_past}
 use Rattle.std.proofs.lemmas.List.FromFn.{get_or-range_with_len, length-range_with_len, get_or-map-range_with_len, length-map-range_with_len}
 use Rattle.sm_instance.specs.Written.{AgentData, Written, no_agent, row, entry, place_of, capacity_of, IsAcceptable}
 use Rattle.sm_instance.specs.Sound.{AreSoundEntries, IsInstance}
@@ -14,14 +14,14 @@ use Rattle.sm_instance.proofs.LoadLemmas.{test_cases, load_more_yes, load_more_n
 use Rattle.sm_instance.proofs.AcceptLemmas.{lt_true, true_lt}
 use Rattle.sm_instance.proofs.ListLemmas.{row_in_range}
 use Rattle.sm_instance.proofs.PlaceLemmas.{place_of-le-at, place_of-entry}
-use Rattle.sm_market.specs.Lists.{Lists, row as market_row, entry as market_entry, place_of as market_place, AreMutual, IsMarket}
+use Rattle.sm_market.specs.Lists.{row as market_row, entry as market_entry, place_of as market_place, AreMutual, IsMarket}
 use Rattle.sm_market.specs.Matching.{Places, held as market_held, standing as market_standing}
 use Rattle.sm_market.specs.Stable.{IsStable as IsMarketStable, IsProposersBest as IsMarketProposersBest, IsReviewersBest as IsMarketReviewersBest}
-use Rattle.sm_market.proofs.Core.{Sides, Stand, Kept, Fit, Stable, Pair, pair_of, pair_of', pair_at, pair_at', one_proposer}
-use Rattle.sm_market.proofs.Bridge.{sides_of, stand_of, stable_of, held_cases, held_at}
-use Rattle.sm_theory.proofs.BridgePlaces.{Tabled, tabled, position_cases}
+use Rattle.sm_market.proofs.Core.{Sides, Stand, Stable, Pair, pair_of', pair_at, one_proposer}
+use Rattle.sm_market.proofs.Bridge.{sides_of, stand_of, stable_of, held_cases}
+use Rattle.sm_theory.proofs.BridgePlaces.{tabled}
 use Rattle.sm_top.specs.MarriageMarket.{lists_back, mutual_row, mutual_rows, market_of, written_places}
-use Rattle.sm_top.proofs.FilterLemmas.{place, place-le, get_or-place, place_lt, kept, kept_passes, kept_order, kept_order_back, AreDistinct, kept_distinct}
+use Rattle.sm_top.proofs.FilterLemmas.{get_or-place, place_lt, kept, kept_passes, kept_order, kept_order_back, AreDistinct, kept_distinct}
 
 -- One side.
 

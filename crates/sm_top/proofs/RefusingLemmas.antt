@@ -1,5 +1,5 @@
 -- How many lines a text has, and where its reading ends.
-use Rattle.std.proofs.Common.{◌≡◌, ℕ, zero, suc, ◌+◌, ◌<◌, ◌≤◌, cond, Bool, true, false, List, [], ◌∷◌, length, take, drop, ◌-◌, Option, Some, None, Result, Ok, Err, refl, sym, ap, ◌∙◌, arith, ◌==◌}
+use Rattle.std.proofs.Common.{◌≡◌, ℕ, ◌+◌, ◌≤◌, cond, Bool, true, false, List, [], ◌∷◌, length, take, drop, ◌-◌, Option, Some, None, Result, Ok, Err, sym, ap, ◌∙◌, arith, ◌==◌}
 use Rattle.std.specs.List.{onto_first}
 use Rattle.std.specs.Option.{option_map_or}
 use Rattle.std.proofs.lemmas.Bool.{le-ltb}
@@ -7,13 +7,12 @@ use Rattle.sm_text.specs.Lines.{LF, lines, content, first_line, IsLineAt}
 use Rattle.sm_text.proofs.LineLemmas.{line_text, lines_at}
 use Rattle.sm_text.specs.Tokens.{tokens}
 use Rattle.sm_text.specs.declared.lines.LineSpan.{LineSpan}
-use Rattle.sm_text.specs.declared.refusal.RefusalKind.{RefusalKind}
 use Rattle.sm_text.specs.declared.refusal.RefusalKind.TheVariants.{UnknownName}
 use Rattle.sm_instance.specs.declared.kinds.Kind.{Kind}
 use Rattle.sm_reader.specs.Said.{Said, nothing}
 use Rattle.sm_reader.specs.Judging.{Verdict, goes, stops, refuses, by_verdict, verdict_on, Heading, passes, heads, faces, by_heading, heading_of}
 use Rattle.sm_reader.specs.InstanceText.{ReadText, Refusal, instance_text, before_header, behind_header, ended, unknown_lines, least, input_of}
-use Rattle.sm_top.specs.Outcome.{first_saying, says_something, has_tokens}
+use Rattle.sm_top.specs.Outcome.{first_saying, has_tokens}
 
 length-onto_first : (b : ℕ) (parts : List (List ℕ)) → length (onto_first b parts) ≤ length parts + 1
 length-onto_first b [] = omega arith

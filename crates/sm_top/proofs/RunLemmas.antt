@@ -16,7 +16,7 @@ use Rattle.sm_top.specs.declared.TheConstants.{MOST_BYTES}
 use Rattle.sm_top.specs.Words.{words_meaning}
 use Rattle.sm_top.specs.Input.{IsReadWhole, GaveTooMany}
 use Rattle.sm_top.specs.declared.words.Job.TheVariants.{Solve, Reduced, Rotations}
-use Rattle.sm_reader.specs.InstanceText.{ReadText, Refusal, instance_text}
+use Rattle.sm_reader.specs.InstanceText.{ReadText, instance_text}
 use Rattle.sm_report.specs.Lines.{LineData}
 use Rattle.sm_instance.specs.declared.inputs.Input.{Input}
 use Rattle.sm_instance.specs.declared.inputs.Input.TheVariants.{Two, Room}

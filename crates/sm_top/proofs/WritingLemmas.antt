@@ -1,9 +1,5 @@
 -- What is written piece by piece.
-use Rattle.std.proofs.Common.{◌≡◌, ℕ, zero, suc, inl, inr, Some, append-nil, codes, codes, ◌+◌, ◌<◌, ◌≤◌, List, [], ◌∷◌, ◌++◌, Option, Result, Ok, Err, sym, ap, ◌∙◌, subst, append_assoc, arith}
-use Rattle.std.specs.List.{flat_map, range_with_len}
-use Rattle.std.specs.Option.{option_map_or}
-use Rattle.std.proofs.lemmas.List.Concat.{flat_map-append}
-use Rattle.std.proofs.lemmas.Bool.{cases_lt}
+use Rattle.std.proofs.Common.{◌≡◌, ℕ, ◌≤◌, List, ◌++◌, Option, Result, Ok, Err, sym, subst}
 use Rattle.sm_io.specs.Sink.{Grows}
 use Rattle.sm_io.proofs.FaultLemmas.{Rose-sooner}
 use Rattle.sm_io.proofs.SinkLemmas.{Grows-trans, IsPart-after, IsPart-more}

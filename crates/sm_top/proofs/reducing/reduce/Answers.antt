@@ -1,4 +1,4 @@
-use Rattle.std.proofs.Common.{◌≡◌, ◌++◌, ◌∙◌, refl, sym, ap, subst, List, length}
+use Rattle.std.proofs.Common.{◌++◌, ◌∙◌, refl, sym, ap, subst}
 use Rattle.sm_instance.specs.declared.inputs.Input.{Input}
 use Rattle.sm_market.specs.Vectors.{lists_of}
 use Rattle.sm_report.specs.Texts.{texts_of_lines}

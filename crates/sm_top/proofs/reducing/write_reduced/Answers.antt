@@ -1,4 +1,3 @@
-use Rattle.std.proofs.Common.{◌≡◌, sym, ap, subst}
 use Rattle.std.proofs.lemmas.Result.{err_from_is_err_and}
 use Rattle.sm_market.specs.Vectors.{lists_of}
 use Rattle.sm_top.specs.Reduction.{seats_given, rows_given}

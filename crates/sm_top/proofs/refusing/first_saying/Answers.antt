@@ -1,4 +1,4 @@
-use Rattle.std.proofs.Common.{◌≡◌, ◌+◌, ◌∙◌, sym, ap, cond, Option, Some, length, drop, arith}
+use Rattle.std.proofs.Common.{◌≡◌, ◌+◌, ◌∙◌, sym, ap, cond, Some, drop, arith}
 use Rattle.sm_text.specs.Lines.{lines}
 use Rattle.sm_text.proofs.LineLemmas.{line_places}
 use Rattle.sm_top.specs.Outcome.{first_saying}

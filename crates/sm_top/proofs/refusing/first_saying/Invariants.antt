@@ -1,4 +1,4 @@
-use Rattle.std.proofs.Common.{◌≡◌, ◌≤◌, ◌+◌, ◌<◌, ◌^◌, length, drop, ◌-◌}
+use Rattle.std.proofs.Common.{◌≡◌, ◌+◌, ◌<◌, ◌^◌, length, drop}
 use Rattle.sm_text.specs.Lines.{lines}
 use Rattle.sm_top.specs.Outcome.{first_saying}
 use Rattle.sm_top.proofs.refusing.first_saying.Given as goal

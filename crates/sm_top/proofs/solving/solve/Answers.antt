@@ -1,7 +1,6 @@
-use Rattle.std.proofs.Common.{◌≡◌, ◌∙◌, refl, sym, ap, subst, List}
+use Rattle.std.proofs.Common.{◌∙◌, refl, sym, ap, subst}
 use Rattle.sm_instance.specs.declared.inputs.Input.{Input}
 use Rattle.sm_instance.specs.declared.kinds.Side.{Side}
-use Rattle.sm_report.specs.Lines.{LineData}
 use Rattle.sm_report.specs.Texts.{texts_of_lines}
 use Rattle.sm_top.specs.Outcome.{Outcome, IsAnswer, IsSolution, answered}
 use Rattle.sm_top.specs.Writing.{Wrote}

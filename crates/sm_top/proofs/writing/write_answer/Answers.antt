@@ -1,6 +1,6 @@
 use Rattle.std.proofs.lemmas.Result.{err_from_is_err_and}
 use Rattle.sm_report.specs.Lines.{line_of}
-use Rattle.sm_top.proofs.LineLemmas.{nothing_written, one_more_written, next_printable, all_written, line_unwritten, no_next_line}
+use Rattle.sm_top.proofs.LineLemmas.{nothing_written, one_more_written, next_printable, line_unwritten, no_next_line}
 use Rattle.sm_top.proofs.writing.write_answer.Goals as goal
 
 pub lines-init : goal.lines-init

@@ -1,5 +1,5 @@
 use Rattle.std.proofs.Common.{◌∙◌, sym, arith}
-use Rattle.sm_top.proofs.LineLemmas.{lines_passed, line_given, no_lines_left}
+use Rattle.sm_top.proofs.LineLemmas.{lines_passed}
 use Rattle.sm_top.proofs.lines.EachLines.next.Goals as goal
 
 pub items-preserved : goal.items-preserved

@@ -1,4 +1,4 @@
-use Rattle.std.proofs.Common.{◌-◌, ◌≡◌, ◌≤◌}
+use Rattle.std.proofs.Common.{◌-◌, ◌≡◌}
 use Rattle.sm_top.specs.Answers.{lines_from}
 use Rattle.sm_top.proofs.lines.EachLines.next.Given as goal
 
