@@ -3,14 +3,11 @@ use Rattle.std.proofs.Common.{◌≡◌, ℕ, ap, List}
 use Rattle.sm_market.specs.Lists.{Lists, IsMarket}
 use Rattle.sm_market.specs.Matching.{Places, standing, IsMatching}
 use Rattle.sm_market.specs.Stable.{IsStable}
-use Rattle.sm_market.specs.Cycles.{CanTurn, places_after}
+use Rattle.sm_market.specs.Cycles.{places_after}
 use Rattle.sm_market.proofs.Core.{same_reviewers}
 use Rattle.sm_market.proofs.Bridge.{fit_of, places_equal}
 use Rattle.sm_theory.specs.Rotations.{IsExposed, eliminated}
 use Rattle.sm_theory.proofs.BridgeRotation.{eliminated_stable}
-
-pub can_turn : {l : Lists} {m : Places} {rotation : List (ℕ × ℕ)} → IsExposed l m rotation → CanTurn l m rotation
-can_turn x = record { distinct = x.distinct; paired = x.paired; listed = λ i a. (x.next i a).on_list }
 
 -- matchings with the same places of the proposers are one
 pub one_matching : {l : Lists} {m n : Places} → IsMarket l → IsMatching l m → IsMatching l n → m.proposers ≡ n.proposers → m ≡ n

@@ -7,17 +7,13 @@ use Rattle.sm_market.specs.Matching.{Places, held, IsMatching}
 use Rattle.sm_market.specs.Pairing.{Paired, IsPairingOf}
 use Rattle.sm_market.proofs.Counting.{lt_or_le, eq_or_ne, Twice, pigeonhole}
 use Rattle.sm_market.proofs.Core.{Pair, pair_at, one_proposer, one_reviewer}
-use Rattle.sm_market.proofs.Bridge.{sides_of, stand_of, fit_of, standing-some, standing-none, entry_place, place_entry}
+use Rattle.sm_market.proofs.Bridge.{sides_of, stand_of, fit_of, standing-some, entry_place, place_entry}
 use Rattle.sm_market.proofs.PairingLemmas.{held_in_range}
 use Rattle.sm_theory.specs.Rotations.{IsSuccessor, IsLink, IsExposed, proposer_at, reviewer_at, target_at, next_in}
 use Rattle.sm_theory.proofs.CoreCycle.{Succ, succ_unique, turn, turn_in, turn_last, turn_more}
 use Rattle.sm_theory.proofs.BridgeRotation.{succ_of, exposed_of}
 use Rattle.sm_theory.proofs.LinkLemmas.{exposed_of_links, successor_named}
 use Rattle.sm_rotations.specs.Following.{IsNothingExposed, IsLowestExposed, IsStep, IsWalk, IsRotationFrom, IsInNone}
-
--- who is unmatched has no successor
-pub no_successor : (l : Lists) (m : Places) (p i : ℕ) → held m.proposers p ≡ None → ¬ IsSuccessor l m p i
-no_successor l m p i e x = omega (arith, x.on_list, x.behind, standing-none l.proposers m.proposers p e)
 
 some_same : {x y : ℕ} → Some x ≡ Some y → x ≡ y
 some_same e = cc
@@ -210,17 +206,6 @@ step_read {l} {m} p place i q h made e x holder = record {
         let named = made.names (entry l.proposers p i) in
         let same : q ≡ entry l.reviewers (entry l.proposers p i) k = some_same (sym holder ∙ named ∙ ap (option_map (entry l.reviewers (entry l.proposers p i))) some) in
         rw same (made.matching.reviewers.in_turn (entry l.proposers p i) k some)
-
--- who has a successor has one that is matched
-pub no_holder : {l : Lists} {m : Paired} (p i : ℕ) → IsPairingOf l m → IsSuccessor l m.places p i → held m.holders (entry l.proposers p i) ≡ None → ⊥
-no_holder {l} {m} p i made x none = go (held m.places.reviewers (entry l.proposers p i)) refl
-  where
-    go : (o : Option ℕ) → held m.places.reviewers (entry l.proposers p i) ≡ o → ⊥
-    go None e = let some = x.matched in absurd (grind (arith, some, e))
-    go (Some k) e = no (sym none ∙ made.names (entry l.proposers p i) ∙ ap (option_map (entry l.reviewers (entry l.proposers p i))) e)
-      where
-        no : {x : ℕ} → ◌≡◌ {A = Option ℕ} None (Some x) → ⊥
-        no e = grind arith
 
 pub lowest_of : {l : Lists} {m : Places} {p : ℕ} {pairs : List (ℕ × ℕ)} → ((q : ℕ) → q < p → IsInNone l m q) → IsRotationFrom l m p pairs → IsLowestExposed l m pairs
 lowest_of {l} {m} {p} {pairs} before w = record {

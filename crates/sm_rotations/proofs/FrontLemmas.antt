@@ -75,9 +75,6 @@ module _ {l : Lists} (h : IsMarket l) {m : Places} (f : IsMatching l m) {ends : 
       no_some None s e = grind (arith, s)
       no_some (Some x) s e = grind arith
 
-  pub no_successor_behind : (p i : ℕ) → held m.proposers p ≡ Some i → ((j : ℕ) → i < j → ¬ IsHeld l ends p j) → (k : ℕ) → ¬ IsSuccessor l m p k
-  no_successor_behind p i e none k y = none k (omega (arith, y.behind, standing-some l.proposers m.proposers p i e)) (takes_held p k y.on_list y.takes)
-
 -- whom a reviewer has, as it is read
 pub record HasHolder (l : Lists) (m : Places) (r q : ℕ) : Type 0 where
   pub matched : IsSome (held m.reviewers r)

@@ -14,7 +14,8 @@ use Rattle.std.proofs.lemmas.List.Elements.{All-nil, All-cons, All-tail, All-hea
 use Rattle.std.proofs.lemmas.List.Sorted.{All-permutation, sum_by_pushed, sum_by_popped}
 use Rattle.sm_market.proofs.Counting.{eq_or_ne}
 use Rattle.sm_theory.specs.Chains.{rotation_at}
-use Rattle.sm_rotations.specs.Ordering.{times, later_first, times_ready, IsLead, IsEntry, IsOneMore, IsReleased, AreReadyAtFirst}
+use Rattle.sm_rotations.specs.Graph.{times}
+use Rattle.sm_rotations.specs.Ordering.{later_first, times_ready, IsLead, IsEntry, IsOneMore, IsReleased, AreReadyAtFirst}
 use Rattle.sm_rotations.proofs.TimesLemmas.{num_true, num_false, times_more, times_same, times_part}
 
 -- of a heap in order the first has the lowest proposer
@@ -65,14 +66,6 @@ module _ (x : Reverse (ℕ × ℕ)) (xs ys : List (Reverse (ℕ × ℕ))) (p : I
 
 -- the heap at first, rotation after rotation
 module _ {rotations : List (List (ℕ × ℕ))} {unmet : List ℕ} where
-  pub first_start : AreReadyAtFirst rotations unmet 0 []
-  first_start = record {
-    entries = All-nil (IsEntry rotations);
-    once = λ k g. absurd (omega arith);
-    waiting = λ k g. absurd (omega arith);
-    later = λ k g. refl;
-  }
-
   pub first_more : {k : ℕ} {ready after : List (Reverse (ℕ × ℕ))} → k < length rotations → slice_index_or unmet k 0 ≡ 0 → AreReadyAtFirst rotations unmet k ready → IsOneMore (rotation_at rotations k) k ready after
       → AreReadyAtFirst rotations unmet (k + 1) after
   first_more {k} {ready} {after} g none r o = record {
@@ -104,13 +97,6 @@ module _ {rotations : List (List (ℕ × ℕ))} {unmet : List ℕ} where
 
 -- needs are met, one after another
 module _ {rotations : List (List (ℕ × ℕ))} (followers : List ℕ) (before : List ℕ) (ready_before : List (Reverse (ℕ × ℕ))) where
-  pub release_start : IsReleased rotations (take 0 followers) before ready_before before ready_before
-  release_start = record {
-    counts = λ j. omega arith;
-    fallen = λ j. record { fallen = λ some none. absurd (omega arith); same = λ _. refl };
-    entries = λ all. all;
-  }
-
   module _ {e j : ℕ} {unmet : List ℕ} {ready : List (Reverse (ℕ × ℕ))} (inside : e < length followers) (is : slice_index_or followers e 0 ≡ j) (within : j < length unmet)
       (r : IsReleased rotations (take e followers) before ready_before unmet ready) (enough : times followers j ≤ slice_index_or before j 0) where
     pub some_unmet : 0 < slice_index_or unmet j 0

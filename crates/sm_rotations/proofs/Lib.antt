@@ -17,4 +17,5 @@ pub mod PassedLemmas
 pub mod ReadyLemmas
 pub mod HeapLemmas
 pub mod TurnedOverLemmas
+pub mod TurnedBackLemmas
 pub mod WrittenLemmas

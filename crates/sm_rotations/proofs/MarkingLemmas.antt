@@ -1,18 +1,13 @@
 -- Writing notes and marks, one after another, and collecting them.
-use Rattle.std.proofs.Common.{◌≡◌, ◌≢◌, ℕ, zero, suc, ◌+◌, ◌<◌, ◌≤◌, ◌⊎◌, inl, inr, arith, refl, sym, ap, ◌∙◌, List, [], ◌∷◌, ◌++◌, length, Option, None, Some, set, slice_index, slice_index_or, eqb}
-use Rattle.std.specs.List.{Contains, dedup}
-use Rattle.std.specs.List.Sorted.{IsPermutation, IsSorted, IsStrictlyIncreasing}
-use Rattle.std.specs.Ordering.{nat_cmp}
-use Rattle.std.proofs.lemmas.List.{get_or-set_same, get_or-set_other, length-set, get_or_default}
+use Rattle.std.proofs.Common.{◌≡◌, ◌≢◌, ℕ, zero, suc, ◌+◌, ◌<◌, ◌≤◌, ◌⊎◌, inl, inr, arith, refl, sym, ap, ◌∙◌, List, [], ◌∷◌, ◌++◌, length, Option, None, Some, set, slice_index_or}
+use Rattle.std.specs.List.{Contains}
+use Rattle.std.proofs.lemmas.List.{get_or-set_same, get_or-set_other, length-set}
 use Rattle.std.proofs.lemmas.List.Elements.{Contains-append_left, Contains-append_right, Contains-append_cases}
-use Rattle.std.proofs.lemmas.List.Sorted.{Contains-permutation, IsPermutation-sym}
-use Rattle.std.proofs.lemmas.List.Kept.{Contains-dedup_nat, Contains-from_dedup}
-use Rattle.std.proofs.lemmas.Map.Keys.{IsStrictlyIncreasing-dedup}
 use Rattle.sm_market.specs.Lists.{Lists, row, entry, place_of, IsMarket}
 use Rattle.sm_market.proofs.Counting.{eq_or_ne}
 use Rattle.sm_market.proofs.Bridge.{entry_place, place_entry}
 use Rattle.sm_theory.specs.Rotations.{proposer_at, reviewer_at, target_at, next_in}
-use Rattle.sm_rotations.specs.Marking.{note_of, marks_of, mark_at, Moves, MovesOver, AreMoved, AreMarked, AreMarksFor, IsSpan, IsSpanMarked, IsBetween, IsFound, Adds, IsRisingListOf}
+use Rattle.sm_rotations.specs.Marking.{note_of, marks_of, mark_at, Moves, MovesOver, AreMoved, AreMarked, AreMarksFor, IsSpan, IsSpanMarked, IsBetween, IsFound, Adds}
 
 -- one mark set
 module _ (marks : List (List (Option ℕ))) (p x j : ℕ) (in_range : p < length marks) (on : x < length (marks_of marks p)) where
@@ -49,10 +44,6 @@ module _ (marks : List (List (Option ℕ))) (p x j : ℕ) (in_range : p < length
     | inr ne ↦ inr (inl ne)
     | inl e ↦ elim (eq_or_ne y x) [ inr ne ↦ inr (inr ne) | inl f ↦ inl (e, f) ]
   ]
-
--- spans
-pub span_start : {l : Lists} (r better j : ℕ) (marks : List (List (Option ℕ))) → AreMarksFor l marks → IsSpanMarked l r better (better + 1) j marks marks
-span_start r better j marks f = record { for_entries = f; marked = λ p x w. absurd (omega (arith, w.behind, w.before)); only = λ p x. inl refl }
 
 module _ {l : Lists} (h : IsMarket l) where
   returns_to : (r k : ℕ) → k < length (row l.reviewers r) → let p = entry l.reviewers r k in place_of l.proposers p r < length (row l.proposers p)
@@ -127,9 +118,6 @@ module _ {l : Lists} (h : IsMarket l) where
         at = sym (ap (place_of l.proposers p) is ∙ entry_place h.proposers p x on);
       }
 
-  pub marked_start : (rotation : List (ℕ × ℕ)) (j : ℕ) (marks : List (List (Option ℕ))) → AreMarksFor l marks → AreMarked l rotation 0 j marks marks
-  marked_start rotation j marks f = record { for_entries = f; marked = λ p x _ w. absurd (omega (arith, w.pair_in)); only = λ p x. inl refl }
-
   over_wider : {rotation : List (ℕ × ℕ)} {n p x : ℕ} → MovesOver l rotation n p x → MovesOver l rotation (n + 1) p x
   over_wider w = record { pair = w.pair; pair_in = omega (arith, w.pair_in); reviewer = w.reviewer; gains = w.gains; loses = w.loses }
 
@@ -163,9 +151,6 @@ module _ {l : Lists} (h : IsMarket l) where
       marked_more better old low high fits' m s'
 
 -- notes
-pub moved_start : (rotation : List (ℕ × ℕ)) (j : ℕ) (notes : List (Option ℕ)) → AreMoved rotation 0 j notes notes
-moved_start rotation j notes = record { one_each = refl; moved = λ i less. absurd (omega arith); only = λ p. inl refl }
-
 moves_wider : {rotation : List (ℕ × ℕ)} {n p : ℕ} → Moves rotation n p → Moves rotation (n + 1) p
 moves_wider w = record { pair = w.pair; pair_in = omega (arith, w.pair_in); is = w.is }
 
@@ -217,9 +202,6 @@ adds_join R a b p q back = record {
 }
 
 -- what stands between two places, place by place
-pub between_start : (marks : List (Option ℕ)) (from : ℕ) (xs : List ℕ) → Adds (λ i. IsBetween marks from (from + 1) i) xs xs
-between_start marks from xs = adds_none _ xs (λ i w. omega (arith, w.behind, w.before))
-
 between_wider : {marks : List (Option ℕ)} {from to i : ℕ} → IsBetween marks from to i → IsBetween marks from (to + 1) i
 between_wider w = record { place = w.place; behind = w.behind; before = omega (arith, w.before); marked = w.marked }
 
@@ -255,13 +237,6 @@ module _ {l : Lists} {rotation : List (ℕ × ℕ)} {notes : List (Option ℕ)} 
   found_wider (inl w) = inl (record { pair = w.pair; pair_in = omega (arith, w.pair_in); noted = w.noted })
   found_wider (inr w) = inr (record { pair = w.pair; pair_in = omega (arith, w.pair_in); between = w.between })
 
-  pub found_start : (xs : List ℕ) → Adds (λ i. IsFound l rotation 0 notes marks i) xs xs
-  found_start xs = adds_none _ xs none
-    where
-      none : (i : ℕ) → IsFound l rotation 0 notes marks i → ⊥
-      none i (inl w) = omega (arith, w.pair_in)
-      none i (inr w) = omega (arith, w.pair_in)
-
   module _ {n : ℕ} (p : ℕ) (is : p ≡ proposer_at rotation n) {from to : ℕ} (from_is : from ≡ place_of l.proposers p (reviewer_at rotation n)) (to_is : to ≡ place_of l.proposers p (target_at rotation n)) where
     pub found_more : {xs ys zs ws : List ℕ} → Adds (λ i. IsFound l rotation n notes marks i) xs ys → Adds (λ i. note_of notes p ≡ Some i) ys zs → Adds (λ i. IsBetween (marks_of marks p) from to i) zs ws
         → Adds (λ i. IsFound l rotation (n + 1) notes marks i) xs ws
@@ -285,32 +260,3 @@ module _ {l : Lists} {rotation : List (ℕ × ℕ)} {notes : List (Option ℕ)} 
           | inl e ↦ inr (rw (from_is, to_is, is) (rw e at w.between))
           | inr e ↦ inl (inl (inr (record { pair = w.pair; pair_in = omega (arith, w.pair_in); between = w.between })))
         ]
-
--- sorted and without repeats
-rises : (xs : List ℕ) → IsStrictlyIncreasing xs → (a b : ℕ) → a < b → b < length xs → slice_index xs a < slice_index xs b
-rises xs up a zero less inside = absurd (omega arith)
-rises xs up a (suc b) less inside =
-    let last : slice_index xs b < slice_index xs (suc b) = let e : b + 1 ≡ suc b = omega arith in rw e at (up b (omega arith)) in
-    elim (eq_or_ne a b) [
-      | inl e ↦ rw e last
-      | inr e ↦ omega (arith, rises xs up a b (omega arith) (omega arith))
-    ]
-
-pub rising_of : (P : ℕ → Type 0) (xs ys : List ℕ) → Adds P [] xs → IsPermutation xs ys → IsSorted nat_cmp ys → IsRisingListOf P (dedup eqb ys)
-rising_of P xs ys a permuted sorted = record {
-  rising = rises (dedup eqb ys) (IsStrictlyIncreasing-dedup ys sorted);
-  sound = λ b less.
-      let x : ℕ = slice_index (dedup eqb ys) b in
-      let there : Contains ys x = Contains-from_dedup eqb ys x (b, less, read (dedup eqb ys) b x less) in
-      elim (a.only x (Contains-permutation ys xs x (IsPermutation-sym xs ys permuted) there)) [
-        | inl w ↦ absurd (omega (arith, w.1))
-        | inr w ↦ w
-      ];
-  all = λ i w. Contains-dedup_nat ys i (Contains-permutation xs ys i permuted (a.added i w));
-}
-  where
-    read : (xs : List ℕ) (b d : ℕ) → b < length xs → slice_index_or xs b d ≡ slice_index xs b
-    read xs b d less = get_or_default xs b d 0 less
-
-pub rising_at : (P : ℕ → Type 0) (xs ys list : List ℕ) → list ≡ dedup eqb ys → Adds P [] xs → IsPermutation xs ys → IsSorted nat_cmp ys → IsRisingListOf P list
-rising_at P xs ys list e a permuted sorted = rw e (rising_of P xs ys a permuted sorted)

@@ -1,18 +1,16 @@
 -- What the steps of `needs` read and write.
-use Rattle.std.proofs.Common.{◌≡◌, ℕ, suc, ◌+◌, ◌<◌, inl, inr, arith, sym, ap, ◌∙◌, List, [], ◌∷◌, ◌++◌, Vec, Result, Ok, Err, length, Option, None, get_or, set, replicate}
+use Rattle.std.proofs.Common.{◌≡◌, ℕ, suc, ◌+◌, ◌<◌, inl, inr, arith, sym, ap, ◌∙◌, List, [], Vec, Result, Ok, Err, length, Option, None, get_or, set, replicate}
 use Rattle.std.specs.Result.{IfOk}
 use Rattle.std.specs.Vec.{with_item}
 use Rattle.std.specs.declared.alloc.Global.{Global}
-use Rattle.std.proofs.lemmas.List.{get_or-map, map-set, get_or_past, get_or-replicate, length-replicate, length_push, length-map}
+use Rattle.std.proofs.lemmas.List.{get_or-map, map-set, get_or_past, get_or-replicate, length-replicate, length-map}
 use Rattle.sm_market.specs.Lists.{Lists, row, entry, place_of, IsMarket}
-use Rattle.sm_market.specs.Vectors.{rows_of}
 use Rattle.sm_market.specs.Matching.{Places, standing, IsMatching}
 use Rattle.sm_market.proofs.Counting.{lt_or_le}
-use Rattle.sm_market.proofs.ListLemmas.{push_cases}
 use Rattle.sm_market.proofs.PairingLemmas.{held_in_range}
 use Rattle.sm_market.proofs.Bridge.{place_entry}
 use Rattle.sm_theory.specs.Rotations.{IsExposed, proposer_at, reviewer_at, target_at, next_in, eliminated}
-use Rattle.sm_theory.specs.Chains.{rotation_at, stage, IsCompleteChain, AreNeedsOf}
+use Rattle.sm_theory.specs.Chains.{rotation_at, stage, IsCompleteChain}
 use Rattle.sm_theory.specs.Values.{rotations_of}
 use Rattle.sm_theory.specs.declared.rotations.Rotation.{Rotation}
 use Rattle.sm_theory.proofs.CoreCycle.{turn, turn_in}
@@ -96,17 +94,3 @@ module _ {l : Lists} {first m : Places} {rotations : List (List (ℕ × ℕ))} (
 pub IfOk-more : {X E : Type 0} (r : Result X E) (P Q : X → Type 0) → ((x : X) → P x → Q x) → IfOk r P → IfOk r Q
 IfOk-more (Ok x) P Q f p = f x p
 IfOk-more (Err e) P Q f p = tt
-
--- one more list of needs
-pub needs_push : {l : Lists} {rotations : List (List (ℕ × ℕ))} (needs : List (Vec ℕ Global)) (v : Vec ℕ Global) (j : ℕ) → length needs ≡ j → ((k : ℕ) → k < j → AreNeedsOf l rotations k (row (rows_of needs) k)) → AreNeedsOf l rotations j v.items
-    → (k : ℕ) → k < j + 1 → AreNeedsOf l rotations k (row (rows_of (needs ++ v ∷ [])) k)
-needs_push {l} {rotations} needs v j long before new k less = rw row_is (push_cases (λ k (v : Vec ℕ Global). AreNeedsOf l rotations k v.items) needs v v (rw long new) (λ k inside. rw (← row_before k inside) (before k (omega (arith, long)))) k within)
-  where
-    within : k < length (needs ++ v ∷ [])
-    within = omega (arith, length_push needs v, long)
-
-    row_before : (k : ℕ) → k < length needs → row (rows_of needs) k ≡ (get_or needs k v).items
-    row_before k inside = get_or-map (λ (v : Vec ℕ Global). v.items) needs k v [] inside
-
-    row_is : row (rows_of (needs ++ v ∷ [])) k ≡ (get_or (needs ++ v ∷ []) k v).items
-    row_is = get_or-map (λ (v : Vec ℕ Global). v.items) (needs ++ v ∷ []) k v [] within

@@ -10,7 +10,8 @@ use Rattle.sm_market.proofs.Counting.{eq_or_ne, by_contradiction}
 use Rattle.sm_theory.specs.Rotations.{IsExposed, eliminated}
 use Rattle.sm_theory.specs.Chains.{rotation_at, IsCompleteChain, IsNeededBy, AreNeedsOf}
 use Rattle.sm_rotations.specs.Following.{IsNothingExposed, IsLowestExposed}
-use Rattle.sm_rotations.specs.Ordering.{times, times_ready, is_passed, IsPassed, left_over, IsLead, IsEntry, IsTurned, AreReady, AreReadyAtFirst, IsReleased, AreCounts}
+use Rattle.sm_rotations.specs.Graph.{times}
+use Rattle.sm_rotations.specs.Ordering.{times_ready, is_passed, IsPassed, left_over, IsLead, IsEntry, IsTurned, AreReady, AreReadyAtFirst, IsReleased, AreCounts}
 use Rattle.sm_rotations.proofs.TimesLemmas.{count_found, count_some, count_none, count_all, count_apart}
 use Rattle.sm_rotations.proofs.TurnLemmas.{turned_exposed, turned_first}
 use Rattle.sm_rotations.proofs.PassedLemmas.{Decided-true, IsReadyOne, none_passed, passed_needs, ready_exposed, exposed_ready_one, all_passed, now_passed, still_passed, no_other_passed}

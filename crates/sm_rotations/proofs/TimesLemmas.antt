@@ -1,11 +1,11 @@
 -- How often a test is passed in a list.
 use Rattle.std.proofs.Common.{◌≡◌, ◌≢◌, ℕ, suc, ◌+◌, ◌<◌, ◌≤◌, inl, inr, arith, refl, sym, ap, ◌∙◌, List, [], ◌∷◌, length, Bool, true, false, cond, slice_index_or, take}
 use Rattle.std.specs.Bool.{nat_eq}
-use Rattle.std.specs.List.{count_by}
-use Rattle.std.proofs.lemmas.Bool.{cases_Bool, eq-eqb, ne_eqb}
+use Rattle.std.specs.List.{count_by, Contains}
+use Rattle.std.proofs.lemmas.Bool.{cases_Bool, eq-eqb, eqb-true, ne_eqb}
 use Rattle.std.proofs.lemmas.List.Sums.{sum_by-cons, get_or-le-sum_by, sum_by-take-le, sum_by_more}
 use Rattle.sm_market.proofs.Counting.{eq_or_ne}
-use Rattle.sm_rotations.specs.Ordering.{times}
+use Rattle.sm_rotations.specs.Graph.{times}
 
 -- a test as a number
 abbrev num : Bool → ℕ
@@ -83,3 +83,12 @@ module _ (xs : List ℕ) (i k : ℕ) (inside : i < length xs) where
 
 pub times_part : (xs : List ℕ) (i k : ℕ) → times (take i xs) k ≤ times xs k
 times_part xs i k = sum_by-take-le (λ x. cond (nat_eq x k) 1 0) xs i
+
+-- what stands in a list stands there at least once
+pub times_of_contains : (xs : List ℕ) (k : ℕ) → Contains xs k → 0 < times xs k
+times_of_contains xs k w = count_some (λ x. nat_eq x k) xs w.0 k w.1 (eq-eqb (slice_index_or xs w.0 k) k w.2)
+
+pub contains_of_times : (xs : List ℕ) (k : ℕ) → 0 < times xs k → Contains xs k
+contains_of_times xs k some =
+    let w = count_found (λ x. nat_eq x k) xs k some in
+    (w.at, w.inside, eqb-true (slice_index_or xs w.at k) k w.is)

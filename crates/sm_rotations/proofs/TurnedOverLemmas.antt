@@ -8,7 +8,7 @@ use Rattle.std.proofs.lemmas.List.Sums.{sum_by_push}
 use Rattle.sm_market.specs.Lists.{row}
 use Rattle.sm_market.specs.Vectors.{rows_of}
 use Rattle.sm_market.proofs.Counting.{lt_or_le, eq_or_ne}
-use Rattle.sm_rotations.specs.Ordering.{times, AreTurnedOver, IsFollowing}
+use Rattle.sm_rotations.specs.Graph.{times, AreTurnedOver, IsFollowing}
 use Rattle.sm_rotations.proofs.TimesLemmas.{num_true, num_false, times_more, times_same, count_some}
 
 -- a list that is held in a vector
@@ -29,9 +29,6 @@ push_this xs x =
 push_other : (xs : List ℕ) (x k : ℕ) → x ≢ k → times (xs ++ x ∷ []) k ≡ times xs k
 push_other xs x k ne =
     omega (arith, num_false (nat_eq x k) (ne_eqb x k ne), sum_by_push (λ z. cond (nat_eq z k) 1 0) xs x)
-
-pub following_start : (j : ℕ) (needs : List ℕ) (lists : List (List ℕ)) → IsFollowing j (take 0 needs) lists lists
-following_start j needs lists = record { one_each = refl; others = λ i k ne. refl; this = λ i a. omega arith }
 
 pub following_more : {j e i : ℕ} (needs : List ℕ) {before lists : List (List ℕ)} (list : List ℕ) → e < length needs → slice_index_or needs e 0 ≡ i → i < length lists → list ≡ row lists i ++ j ∷ []
     → IsFollowing j (take e needs) before lists → IsFollowing j (take (e + 1) needs) before (set lists i list)
@@ -56,13 +53,6 @@ following_more {j} {e} {i} needs {before} {lists} list inside is within pushed f
 
     elsewhere : (q : ℕ) → q ≢ i → row (set lists i list) q ≡ row lists q
     elsewhere q ne = get_or-set_other lists i q list [] ne
-
-pub over_start : {needs followers : List (List ℕ)} → length followers ≡ length needs → ((i : ℕ) → row followers i ≡ []) → AreTurnedOver needs 0 followers
-over_start long empty = record {
-  one_each = long;
-  noted = λ i j a b. absurd (omega arith);
-  later = λ i j b. ap (λ xs. times xs j) (empty i);
-}
 
 pub over_more : {needs before after : List (List ℕ)} {j : ℕ} → AreTurnedOver needs j before → IsFollowing j (row needs j) before after → AreTurnedOver needs (j + 1) after
 over_more {needs} {before} {after} {j} w f = record {

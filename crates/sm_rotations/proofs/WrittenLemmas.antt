@@ -17,7 +17,8 @@ use Rattle.sm_theory.specs.declared.rotations.Rotation.{Rotation}
 use Rattle.sm_theory.proofs.BridgeRotation.{eliminated_stable}
 use Rattle.sm_rotations.specs.Following.{IsLowestExposed}
 use Rattle.sm_rotations.specs.Chaining.{LeadsTo}
-use Rattle.sm_rotations.specs.Ordering.{times, later_first, times_ready, IsEntry, IsTurned, AreReadyAtFirst, IsReleased, AreTurnedOver, AreCounts, AreWritten}
+use Rattle.sm_rotations.specs.Graph.{times, AreTurnedOver}
+use Rattle.sm_rotations.specs.Ordering.{later_first, times_ready, IsEntry, IsTurned, AreReadyAtFirst, IsReleased, AreCounts, AreWritten}
 use Rattle.sm_rotations.proofs.ChainingLemmas.{leads_start, leads_on, leads_whole, places_below, places_fall}
 use Rattle.sm_rotations.proofs.NeedsLemmas.{as_many}
 use Rattle.sm_rotations.proofs.TurnLemmas.{turned_eliminated}

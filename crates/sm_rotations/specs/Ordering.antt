@@ -9,6 +9,7 @@ use Rattle.sm_market.specs.Stable.{IsStable}
 use Rattle.sm_theory.specs.Rotations.{proposer_at}
 use Rattle.sm_theory.specs.Chains.{rotation_at, stage}
 use Rattle.sm_rotations.specs.Chaining.{LeadsTo}
+use Rattle.sm_rotations.specs.Graph.{times}
 
 -- pair i has the lowest-numbered proposer
 pub record IsLowestPair (rotation : List (ℕ × ℕ)) (i : ℕ) : Type 0 where
@@ -20,10 +21,6 @@ pub record IsTurned (rotation turned : List (ℕ × ℕ)) : Type 0 where
   pub from : ℕ
   pub lowest : IsLowestPair rotation from
   pub is : turned ≡ drop from rotation ++ take from rotation
-
--- how often a number stands in a list
-abbrev pub times : List ℕ → ℕ → ℕ
-times numbers k = count_by (λ x. nat_eq x k) numbers
 
 -- the order of a heap whose first is the lowest
 abbrev pub later_first : Reverse (ℕ × ℕ) → Reverse (ℕ × ℕ) → Ordering
@@ -49,18 +46,6 @@ pub record IsOneMore (rotation : List (ℕ × ℕ)) (k : ℕ) (before after : Li
   pub this : times_ready after k ≡ times_ready before k + 1
   pub entries : (rotations : List (List (ℕ × ℕ))) → k < length rotations → rotation_at rotations k ≡ rotation
       → All (IsEntry rotations) before → All (IsEntry rotations) after
-
--- each of the first n rotations is noted with those that it needs, as often as it needs them
-pub record AreTurnedOver (needs : List (List ℕ)) (n : ℕ) (followers : List (List ℕ)) : Type 0 where
-  pub one_each : length followers ≡ length needs
-  pub noted : (i j : ℕ) → i < length needs → j < n → times (row followers i) j ≡ times (row needs j) i
-  pub later : (i j : ℕ) → n ≤ j → times (row followers i) j ≡ 0
-
--- rotation j is noted with each of its needs, and all else stays
-pub record IsFollowing (j : ℕ) (needs : List ℕ) (before after : List (List ℕ)) : Type 0 where
-  pub one_each : length after ≡ length before
-  pub others : (i k : ℕ) → k ≢ j → times (row after i) k ≡ times (row before i) k
-  pub this : (i : ℕ) → i < length before → times (row after i) j ≡ times (row before i) j + times needs i
 
 -- the length of each list
 pub record AreCounts (needs : List (List ℕ)) (counts : List ℕ) : Type 0 where

@@ -7,6 +7,7 @@
 mod chains;
 mod elimination;
 mod exposure;
+mod graph;
 mod order;
 mod predecessors;
 #[cfg(test)]

@@ -1,14 +1,16 @@
 //! A chain of rotations put into the stated order.
 
-ghost use Rattle.std.specs.Prelude.{◌≡◌, ℕ, ◌<◌, ◌≤◌, ◌^◌, length, replicate, [], slice_index_or, IfOk, OnOk};
+ghost use Rattle.std.specs.Prelude.{◌≡◌, ℕ, ◌<◌, ◌≤◌, ◌^◌, length, slice_index_or, IfOk, OnOk};
 ghost use Rattle.std.specs.BinaryHeap.{IsHeap, heap_items};
 ghost use Rattle.sm_market.specs.Lists.{row};
 ghost use Rattle.sm_market.specs.Vectors.{rows_of};
 ghost use Rattle.sm_market.specs.Pairing.{IsPairingOf};
 ghost use Rattle.sm_theory.specs.Chains.{rotation_at, IsCompleteChain, IsPrintedChain};
 ghost use Rattle.sm_theory.specs.Values.{rotations_of};
-ghost use Rattle.sm_rotations.specs.Ordering.{times, later_first, IsLowestPair, IsTurned, IsOneMore, AreTurnedOver, IsFollowing, AreCounts, AreReadyAtFirst, IsReleased};
+ghost use Rattle.sm_rotations.specs.Graph.{times};
+ghost use Rattle.sm_rotations.specs.Ordering.{later_first, IsLowestPair, IsTurned, IsOneMore, AreCounts, AreReadyAtFirst, IsReleased};
 
+use crate::graph::followers;
 use crate::predecessors::needs;
 use sm_market::Market;
 use sm_theory::{Chain, Rotation};
@@ -21,8 +23,8 @@ use std::collections::BinaryHeap;
 ///
 /// Any complete chain will do. At each turn the exposed rotations are those that are left over and whose predecessors have
 /// all been written; they wait in a heap, by their lowest proposers. Takes time in proportion to the agents and entries, and
-/// to the rotations and predecessors times a logarithm, and memory in proportion to the agents, the entries and the
-/// predecessors (Gusfield and Irving 1989, section 2.5 and chapter 3).
+/// to the rotations times a logarithm, and memory in proportion to the agents and entries (Gusfield and Irving 1989,
+/// section 2.5 and chapter 3).
 ///
 /// # Errors
 ///
@@ -84,41 +86,6 @@ fn turned(alloc: Global, pairs: &[(u32, u32)]) -> Result<Rotation, AllocError>
     let mut turned = Vec::from_slice(alloc, &pairs[from..])?;
     turned.extend_from_slice(&pairs[..from])?;
     Ok(Rotation { pairs: turned })
-}
-
-/// For each rotation those that need it.
-fn followers(alloc: Global, needs: &[Vec<u32>]) -> Result<Vec<Vec<u32>>, AllocError>
-    requires few { length needs.now < 2 ^ 32 }
-    requires in_range { (j a : ℕ) → a < length (row (rows_of needs.now) j) → slice_index_or (row (rows_of needs.now) j) a 0 < length needs.now }
-    ensures { IfOk result (λ f. AreTurnedOver (rows_of needs.now) (length needs.now) (rows_of f.items)) }
-{
-    let mut followers = no_followers(alloc, needs.len())?;
-    for j in 0..needs.len() as u32 {
-        follow(j, &needs[j as usize], &mut followers)?;
-    }
-    Ok(followers)
-}
-
-/// No rotation yet that needs any of them.
-fn no_followers(alloc: Global, rotations: usize) -> Result<Vec<Vec<u32>>, AllocError>
-    ensures { IfOk result (λ f. rows_of f.items ≡ replicate rotations []) }
-{
-    let mut followers = Vec::with_capacity(alloc, rotations)?;
-    for _ in 0..rotations {
-        followers.push(Vec::new(alloc))?;
-    }
-    Ok(followers)
-}
-
-/// Notes a rotation with each one that it needs.
-fn follow(j: u32, needs: &[u32], followers: &mut [Vec<u32>]) -> Result<(), AllocError>
-    requires in_range { (a : ℕ) → a < length needs.now → slice_index_or needs.now a 0 < length followers.old }
-    ensures { OnOk result (IsFollowing j needs.now (rows_of followers.old) (rows_of followers.new)) }
-{
-    for &i in needs {
-        followers[i as usize].push(j)?;
-    }
-    Ok(())
 }
 
 /// How many others each rotation needs.

@@ -4,16 +4,17 @@
 //! each entry of a list with the rotation that moved its reviewer from somebody worse than the list's owner to somebody
 //! better. There is no more than one such rotation, since reviewers never go down.
 
-ghost use Rattle.std.specs.Prelude.{◌≡◌, ℕ, ◌<◌, ◌≤◌, ◌+◌, length, IfOk, OnOk, Some, None, slice_set};
+ghost use Rattle.std.specs.Prelude.{◌≡◌, ℕ, ◌<◌, ◌≤◌, ◌+◌, length, IfOk, OnOk, Some, None, slice_set, []};
 ghost use Rattle.sm_market.specs.Lists.{row, entry, place_of, IsMarket};
 ghost use Rattle.sm_market.specs.Vectors.{rows_of};
 ghost use Rattle.sm_market.specs.Pairing.{IsPairingOf};
 ghost use Rattle.sm_theory.specs.Rotations.{IsExposed, proposer_at, reviewer_at, target_at};
 ghost use Rattle.sm_theory.specs.Chains.{IsCompleteChain, AreNeedsOf};
 ghost use Rattle.sm_theory.specs.Values.{rotations_of};
-ghost use Rattle.sm_rotations.specs.Marking.{marks_in, marks_of, mark_at, note_of, AreMarksFor, AreMoved, AreMarked, IsSpanMarked, IsBetween, IsFound, Adds, IsRisingListOf};
+ghost use Rattle.sm_rotations.specs.Marking.{marks_in, marks_of, mark_at, note_of, AreMarksFor, AreMoved, AreMarked, IsSpanMarked, IsBetween, IsFound, Adds};
 
 use crate::elimination::eliminate;
+use crate::graph::{empty_lists, follow, needs_by_followers};
 use sm_market::{Market, Pairing};
 use sm_theory::{Chain, successor};
 use std::alloc::{AllocError, Global};
@@ -33,8 +34,8 @@ struct Move {
 /// proposer to somebody better (Gusfield and Irving 1989, chapter 3, in a form of this project's own).
 ///
 /// Rotations are numbered from 0. Any complete chain will do, and not only the one that [`crate::chain`] gives. Takes time
-/// in proportion to the agents and entries, up to a logarithm in the number of predecessors, and memory in proportion to
-/// the agents, the entries and the answer.
+/// and memory in proportion to the agents and entries: what is found is noted with the rotation that is needed, so that
+/// nothing has to be sorted.
 ///
 /// # Errors
 ///
@@ -51,17 +52,18 @@ pub fn needs(alloc: Global, market: &Market, chain: &Chain) -> Result<Vec<Vec<u3
     let mut last = vec![in alloc; None; market.proposers() as usize]?;
     let mut marks = no_marks(alloc, market)?;
     let mut found = Vec::new(alloc);
-    let mut needs = Vec::with_capacity(alloc, rotations.len())?;
+    let mut followers = empty_lists(alloc, rotations.len())?;
     let last = last.as_mut_slice();
     let marks = marks.as_mut_slice();
-    for j in 0..rotations.len() {
-        let rotation = &rotations[j];
+    for j in 0..rotations.len() as u32 {
+        let rotation = &rotations[j as usize];
         let pairs = rotation.pairs.as_slice();
-        needs.push(needs_of(alloc, market, &m, pairs, last, marks, &mut found)?)?;
-        note_moves(market, &m, pairs, j as u32, last, marks);
+        find(market, &m, pairs, last, marks, &mut found)?;
+        follow(j, &found, &mut followers)?;
+        note_moves(market, &m, pairs, j, last, marks);
         eliminate(market, &mut m, rotation);
     }
-    Ok(needs)
+    needs_by_followers(alloc, &followers)
 }
 
 /// A place for a mark beside each entry of the proposers' lists, and no mark.
@@ -96,24 +98,23 @@ fn move_of(market: &Market, m: &Pairing, pairs: &[(u32, u32)], i: usize) -> Move
     Move { proposer, from, to }
 }
 
-/// What a rotation needs, by what was noted of the rotations before it.
-fn needs_of(
-    alloc: Global,
+/// Finds what a rotation needs, by what was noted of the rotations before it, in place of what was found for another.
+fn find(
     market: &Market,
     m: &Pairing,
     pairs: &[(u32, u32)],
     last: &[Option<u32>],
     marks: &[Vec<Option<u32>>],
     found: &mut Vec<u32>,
-) -> Result<Vec<u32>, AllocError>
+) -> Result<(), AllocError>
     requires market { IsMarket market.now }
     requires made { IsPairingOf market.now m.now }
     requires exposed { IsExposed market.now m.now.places pairs.now }
     requires one_each { length last.now ≡ length market.now.proposers }
     requires for_entries { AreMarksFor market.now (marks_in marks.now) }
-    ensures { IfOk result (λ needs. IsRisingListOf
+    ensures { OnOk result (Adds
         (λ i. IsFound market.now pairs.now (length pairs.now) last.now (marks_in marks.now) i)
-        needs.items) }
+        [] found.new.items) }
 {
     found.clear();
     for i in 0..pairs.len() {
@@ -121,9 +122,7 @@ fn needs_of(
         add_last(last[moved.proposer as usize], found)?;
         add_between(&marks[moved.proposer as usize], moved.from, moved.to, found)?;
     }
-    found.sort_unstable();
-    found.dedup();
-    Vec::from_slice(alloc, found)
+    Ok(())
 }
 
 /// Adds the rotation that is noted, if any.

@@ -1,10 +1,8 @@
-use Rattle.std.proofs.Common.{◌≡◌, ◌<◌, ◌∙◌, arith, eqb, length, []}
-use Rattle.std.specs.List.{dedup}
-use Rattle.std.proofs.lemmas.List.Filters.{dedup_is}
-use Rattle.sm_rotations.specs.Marking.{marks_in, marks_of, IsBetween, IsFound, Adds}
-use Rattle.sm_rotations.proofs.MarkingLemmas.{found_more, rising_at}
-use Rattle.sm_rotations.proofs.NeedsLemmas.{marks_read, as_many_marks, IfOk-more}
-use Rattle.sm_rotations.proofs.predecessors.needs_of.Goals as goal
+use Rattle.std.proofs.Common.{◌≡◌, ◌<◌, ◌∙◌, arith, length}
+use Rattle.sm_rotations.specs.Marking.{marks_in, marks_of, IsBetween, Adds}
+use Rattle.sm_rotations.proofs.MarkingLemmas.{found_more}
+use Rattle.sm_rotations.proofs.NeedsLemmas.{marks_read, as_many_marks}
+use Rattle.sm_rotations.proofs.predecessors.find.Goals as goal
 
 pub loop-i-preserved : goal.loop-i-preserved
 loop-i-preserved c =
@@ -18,8 +16,4 @@ loop-i-preserved c =
 pub returns : goal.returns
 returns c =
     let e : c.loop-i.i ≡ length c.args.pairs.now = omega (arith, c.loop-i.auto.i-end, c.loop-i-test.false) in
-    let all : Adds (λ i. IsFound c.args.market.now c.args.pairs.now (length c.args.pairs.now) c.args.last.now (marks_in c.args.marks.now) i) [] c.loop-i.found.items = rw e at c.loop-i.invariant in
-    let kept : c.dedup.new.self.items ≡ dedup eqb c.sort_unstable.new.self.items = dedup_is eqb _ _ c.dedup.ensures.filtered in
-    IfOk-more c.from_slice.result _ _
-    (λ v same. rising_at _ c.loop-i.found.items c.sort_unstable.new.self.items v.items (same ∙ c.deref-2.ensures.value ∙ kept) all c.sort_unstable.ensures.permutation c.sort_unstable.ensures.sorted)
-    c.from_slice.ensures.items
+    rw e at c.loop-i.invariant

@@ -1,6 +1,6 @@
 use Rattle.std.proofs.Common.{[]}
 use Rattle.sm_rotations.specs.Marking.{marks_in, IsFound, Adds}
-use Rattle.sm_rotations.proofs.predecessors.needs_of.Given as goal
+use Rattle.sm_rotations.proofs.predecessors.find.Given as goal
 
 abbrev pub invariant-loop-i : goal.invariant-loop-i
 invariant-loop-i l = Adds (λ i. IsFound l.market l.pairs l.i l.last (marks_in l.marks) i) [] l.found.items

@@ -4,7 +4,7 @@ use Rattle.std.proofs.lemmas.List.{get_or-map, map-set, length-map}
 use Rattle.sm_market.specs.Lists.{row}
 use Rattle.sm_market.specs.Vectors.{rows_of}
 use Rattle.sm_rotations.proofs.TurnedOverLemmas.{following_more}
-use Rattle.sm_rotations.proofs.order.follow.Goals as goal
+use Rattle.sm_rotations.proofs.graph.follow.Goals as goal
 
 pub loop-i-preserved : goal.loop-i-preserved
 loop-i-preserved c =

@@ -4,7 +4,7 @@ use Rattle.sm_market.specs.Lists.{row}
 use Rattle.sm_market.specs.Vectors.{rows_of}
 use Rattle.sm_accept.proofs.ResultLemmas.{written}
 use Rattle.sm_rotations.proofs.TurnedOverLemmas.{row_read, over_more}
-use Rattle.sm_rotations.proofs.order.followers.Goals as goal
+use Rattle.sm_rotations.proofs.graph.followers.Goals as goal
 
 pub follow-requires : goal.follow-requires
 follow-requires c = record {
