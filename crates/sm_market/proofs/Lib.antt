@@ -4,6 +4,7 @@ pub mod NamingLemmas
 pub mod AddingLemmas
 pub mod WalkLemmas
 pub mod CrossLemmas
+pub mod TurningLemmas
 pub mod BuildLemmas
 pub mod SeatLemmas
 pub mod PairingLemmas

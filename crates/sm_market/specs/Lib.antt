@@ -9,6 +9,7 @@ pub mod Vectors
 pub mod Limits
 pub mod Crosses
 pub mod Namings
+pub mod Turning
 pub mod Entries
 pub mod MarketFaults
 pub mod PairingFaults

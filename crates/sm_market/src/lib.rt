@@ -18,6 +18,7 @@ mod pairs;
 mod rows;
 #[cfg(test)]
 mod tests;
+mod turning;
 
 pub use faults::{MarketFault, PairingFault, Side};
 pub use lists::Market;

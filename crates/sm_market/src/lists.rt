@@ -8,6 +8,7 @@ ghost use Rattle.sm_market.specs.Limits.{IsWithinLimits};
 use crate::crosses::crosses;
 use crate::faults::{MarketFault, Side};
 use crate::rows::{copy_of, entry_at, list_at};
+use crate::turning::reviewer_crosses;
 use std::alloc::{AllocError, Global};
 use std::marker::Model;
 
@@ -67,7 +68,12 @@ impl Market {
             → ¬ IsMarket (lists_of proposer_lists.items reviewer_lists.items)) }
     {
         let proposer_crosses = crosses(alloc, Side::Proposers, &proposer_lists, &reviewer_lists)?;
-        let reviewer_crosses = crosses(alloc, Side::Reviewers, &reviewer_lists, &proposer_lists)?;
+        let reviewer_crosses = reviewer_crosses(
+            alloc,
+            &proposer_lists,
+            &reviewer_lists,
+            &proposer_crosses,
+        )?;
         Ok(Market {
             proposer_lists,
             reviewer_lists,

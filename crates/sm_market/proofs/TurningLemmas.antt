@@ -1,0 +1,187 @@
+-- Turning cross positions over.
+use Rattle.std.proofs.Common.{◌≡◌, ◌≢◌, ℕ, ◌+◌, ◌<◌, Bool, true, false, eqb, List, [], Vec, length, get_or, set, replicate, refl, sym, ap, subst, ◌∙◌, arith, ⊎_elim}
+use Rattle.std.proofs.lemmas.Bool.{cases_lt, eqb-true, eq-eqb, false≢true}
+use Rattle.std.proofs.lemmas.List.{get_or_past, get_or-map, get_or-replicate, get_or-set_same, length-map, length-replicate, length-set, map-set}
+use Rattle.std.specs.List.{IsAnyAnswer}
+use Rattle.std.specs.Vec.{with_item}
+use Rattle.std.specs.declared.alloc.Global.{Global}
+use Rattle.sm_market.specs.Lists.{row, entry, place_of}
+use Rattle.sm_market.specs.Vectors.{rows_of}
+use Rattle.sm_market.specs.Crosses.{AreCrosses}
+use Rattle.sm_market.specs.Entries.{AreSound}
+use Rattle.sm_market.specs.declared.turning.TheConstants.{UNWRITTEN}
+use Rattle.sm_market.specs.Turning.{unwritten_of, AreWritten}
+use Rattle.sm_market.proofs.ListLemmas.{row_in_range, set_cases}
+use Rattle.sm_market.proofs.PlaceLemmas.{entry-place_of, not_before-place_of, place_of_is}
+
+-- v is b's place on the list of the agent that b names at place j, and b names that agent at no earlier place
+pub record IsCrossAt (rows others : List (List ℕ)) (b j v : ℕ) : Type 0 where
+  pub on_list : v < length (row rows (entry others b j))
+  pub place : v ≡ place_of rows (entry others b j) b
+  pub first : place_of others b (entry others b j) ≡ j
+
+-- all lists before a's and the first k places of a's are turned over: what each of their entries tells is written, and
+-- what is written is right
+pub record AreTurned (rows others : List (List ℕ)) (a k : ℕ) (turned : List (List ℕ)) : Type 0 where
+  pub one_each : length turned ≡ length others
+  pub as_long : (b : ℕ) → length (row turned b) ≡ length (row others b)
+  pub right : (b j : ℕ) → j < length (row others b) → entry turned b j ≢ UNWRITTEN → IsCrossAt rows others b j (entry turned b j)
+  pub earlier : (c i : ℕ) → c < a → i < length (row rows c) → let b = entry rows c i in entry turned b (place_of others b c) ≢ UNWRITTEN
+  pub here : (i : ℕ) → i < k → let b = entry rows a i in entry turned b (place_of others b a) ≢ UNWRITTEN
+
+-- a list that is read of its vector
+pub row_read : (vectors : List (Vec ℕ Global)) (b : ℕ) (v : Vec ℕ Global) (list : List ℕ) → b < length vectors → v ≡ get_or vectors b v → list ≡ v.items → list ≡ row (rows_of vectors) b
+row_read vectors b v list inside read is =
+    is ∙ ap (λ (w : Vec ℕ Global). w.items) read ∙ sym (get_or-map (λ (w : Vec ℕ Global). w.items) vectors b v [] inside)
+
+-- one entry of a list that is held in a vector is replaced
+pub entry_written : (vectors : List (Vec ℕ Global)) (b j v : ℕ) (w : Vec ℕ Global) → b < length vectors → w ≡ get_or vectors b w
+    → rows_of (set vectors b (with_item w j v)) ≡ set (rows_of vectors) b (set (row (rows_of vectors) b) j v)
+entry_written vectors b j v w inside read =
+    map-set (λ (x : Vec ℕ Global). x.items) vectors b (with_item w j v)
+    ∙ ap (λ list. set (rows_of vectors) b (set list j v)) (row_read vectors b w w.items inside read refl)
+
+-- what holds of each entry after one is replaced
+entry_cases : (P : ℕ → ℕ → ℕ → Type 0) (rows : List (List ℕ)) (b j v : ℕ) → b < length rows → j < length (row rows b) → P b j v → ((c k : ℕ) → P c k (entry rows c k))
+    → (c k : ℕ) → P c k (entry (set rows b (set (row rows b) j v)) c k)
+entry_cases P rows b j v inside on new old =
+    set_cases (λ c (list : List ℕ). (k : ℕ) → P c k (get_or list k 0)) rows b (set (row rows b) j v) [] inside
+    (set_cases (λ k x. P b k x) (row rows b) j v 0 on new (λ k _. old b k))
+    (λ c _. old c)
+
+-- marks alone
+unwritten_row : (others : List (List ℕ)) (b : ℕ) → row (unwritten_of others) b ≡ replicate (length (row others b)) UNWRITTEN
+unwritten_row others b =
+    let f : List ℕ → List ℕ = λ list. replicate (length list) UNWRITTEN in
+    ⊎_elim
+    (λ lt. get_or-map f others b [] [] lt)
+    (λ ge. get_or_past (unwritten_of others) b [] (let long = length-map others f in omega arith) ∙ sym (ap f (get_or_past others b [] ge)))
+    (cases_lt b (length others))
+
+pub turning_start : (rows others turned : List (List ℕ)) → turned ≡ unwritten_of others → AreTurned rows others 0 0 turned
+turning_start rows others turned is =
+    rw is
+    (record {
+      one_each = length-map others (λ list. replicate (length list) UNWRITTEN);
+      as_long = λ b. ap length (unwritten_row others b) ∙ length-replicate (length (row others b)) UNWRITTEN;
+      right = λ b j l written. absurd (written (ap (λ list. get_or list j 0) (unwritten_row others b) ∙ get_or-replicate (length (row others b)) j UNWRITTEN 0 l));
+      earlier = λ c i l on. absurd (omega arith);
+      here = λ i l. absurd (omega arith);
+    })
+
+-- what an entry and its cross position tell
+turned_cross : {rows others : List (List ℕ)} (a i : ℕ) → AreSound rows others → i < length (row rows a) → let b = entry rows a i in IsCrossAt rows others b (place_of others b a) i
+turned_cross {rows} {others} a i sound on =
+    let b : ℕ = entry rows a i in
+    let s = sound.sound a i on in
+    let there : entry others b (place_of others b a) ≡ a = entry-place_of others b a s.returned in
+    record {
+      on_list = rw there on;
+      place = rw there (sym (place_of_is rows a b i on refl s.fresh));
+      first = ap (place_of others b) there;
+    }
+
+-- one entry more is turned over
+pub turning_step : {rows others turned : List (List ℕ)} {a i : ℕ} (b j : ℕ) → AreTurned rows others a i turned → AreSound rows others → i < length (row rows a) → i ≢ UNWRITTEN
+    → b ≡ entry rows a i → j ≡ place_of others (entry rows a i) a → AreTurned rows others a (i + 1) (set turned b (set (row turned b) j i))
+turning_step {rows} {others} {turned} {a} {i} b j w sound on unmarked is at =
+    let c : ℕ = entry rows a i in
+    let k : ℕ = place_of others c a in
+    let s = sound.sound a i on in
+    let inside : c < length turned = let e = w.one_each in let l = s.in_range in omega arith in
+    let there : k < length (row turned c) = let e = w.as_long c in let l = s.returned in omega arith in
+    let list : List ℕ = set (row turned c) k i in
+    let new : entry (set turned c list) c k ≡ i = ap (λ l. get_or l k 0) (get_or-set_same turned c list [] inside) ∙ get_or-set_same (row turned c) k i 0 there in
+    let kept : (d m : ℕ) → entry turned d m ≢ UNWRITTEN → entry (set turned c list) d m ≢ UNWRITTEN =
+    entry_cases (λ d m x. entry turned d m ≢ UNWRITTEN → x ≢ UNWRITTEN) turned c k i inside there (λ _. unmarked) (λ d m h. h) in
+    rw (is, at)
+    (record {
+      one_each = length-set turned c list ∙ w.one_each;
+      as_long = set_cases (λ d (l : List ℕ). length l ≡ length (row others d)) turned c list [] inside (length-set (row turned c) k i ∙ w.as_long c) (λ d _. w.as_long d);
+      right = entry_cases (λ d m x. m < length (row others d) → x ≢ UNWRITTEN → IsCrossAt rows others d m x) turned c k i inside there (λ _ _. turned_cross a i sound on) w.right;
+      earlier = λ d m l on. kept _ _ (w.earlier d m l on);
+      here = λ m l. ⊎_elim
+          (λ lower. kept _ _ (w.here m lower))
+          (λ le. let last : i ≡ m = omega arith in
+          let Q : ℕ → Type 0 = λ n. entry (set turned c list) (entry rows a n) (place_of others (entry rows a n) a) ≢ UNWRITTEN in
+          subst Q last (λ e. unmarked (sym new ∙ e)))
+          (cases_lt m i);
+    })
+
+-- at the end of a list the next one begins
+pub turning_end : {rows others turned : List (List ℕ)} {a : ℕ} → AreTurned rows others a (length (row rows a)) turned → AreTurned rows others (a + 1) 0 turned
+turning_end {rows} {others} {turned} {a} w =
+    record {
+      one_each = w.one_each;
+      as_long = w.as_long;
+      right = w.right;
+      earlier = λ c i l on. ⊎_elim
+          (λ lower. w.earlier c i lower on)
+          (λ le. let last : a ≡ c = omega arith in
+          let Q : ℕ → Type 0 = λ d. i < length (row rows d) → entry turned (entry rows d i) (place_of others (entry rows d i) d) ≢ UNWRITTEN in
+          subst Q last (λ on. w.here i on) on)
+          (cases_lt c a);
+      here = λ i l. absurd (omega arith);
+    }
+
+module _ {rows others turned : List (List ℕ)} {a : ℕ} (w : AreTurned rows others a 0 turned) where
+  -- where all are written, all are right
+  written_right : AreWritten turned → (b j : ℕ) → j < length (row others b) → IsCrossAt rows others b j (entry turned b j)
+  written_right all b j on = w.right b j on (all.written b j (let long = w.as_long b in omega arith))
+
+  pub turned_crosses : AreWritten turned → AreCrosses others rows turned
+  turned_crosses all =
+      record {
+        one_each = w.one_each;
+        as_long = w.as_long;
+        places = λ b j on. (written_right all b j on).place;
+      }
+
+  pub turned_sound : AreWritten turned → AreSound others rows
+  turned_sound all =
+      record {
+        sound = λ b j on.
+            let h = written_right all b j on in
+            let p : ℕ = entry others b j in
+            record {
+              in_range = row_in_range rows p (entry turned b j) h.on_list;
+              fresh = λ k l. not_before-place_of others b p k (let first = h.first in omega arith);
+              returned = let place = h.place in let on = h.on_list in omega arith;
+            };
+      }
+
+  -- where the other side is sound, all are written once each list is turned over
+  pub sound_written : a ≡ length rows → AreSound others rows → AreWritten turned
+  sound_written all sound =
+      record {
+        written = λ b j l.
+            let on : j < length (row others b) = let long = w.as_long b in omega arith in
+            let s = sound.sound b j on in
+            let p : ℕ = entry others b j in
+            let there : entry rows p (place_of rows p b) ≡ b = entry-place_of rows p b s.returned in
+            let at : place_of others b p ≡ j = place_of_is others b p j on refl s.fresh in
+            let Q : ℕ → Type 0 = λ c. entry turned c (place_of others c p) ≢ UNWRITTEN in
+            subst (λ k. entry turned b k ≢ UNWRITTEN) at
+            (subst Q there (w.earlier p (place_of rows p b) (let inside = s.in_range in omega arith) s.returned));
+      }
+
+-- a mark is found beside a list
+pub mark_found : {turned : List (List ℕ)} {list : List ℕ} {found : Bool} (b : ℕ) → list ≡ row turned b → IsAnyAnswer (λ y t. eqb y UNWRITTEN ≡ t) list found → found ≡ true → ¬ AreWritten turned
+mark_found {turned} {list} {found} b is cases there all =
+    let in_row : IsAnyAnswer (λ y t. eqb y UNWRITTEN ≡ t) (row turned b) found = subst (λ s. IsAnyAnswer (λ y t. eqb y UNWRITTEN ≡ t) s found) is cases in
+    let any = subst (λ t. IsAnyAnswer (λ y t. eqb y UNWRITTEN ≡ t) (row turned b) t) there in_row in
+    all.written b any.0 any.1 (eqb-true _ _ (any.2 0))
+
+-- none is, so nor is any beside one list more
+pub written_more : {list : List ℕ} {found : Bool} (turned : List (List ℕ)) (b : ℕ) → ((c j : ℕ) → c < b → j < length (row turned c) → entry turned c j ≢ UNWRITTEN) → list ≡ row turned b
+    → IsAnyAnswer (λ y t. eqb y UNWRITTEN ≡ t) list found → found ≡ false → (c j : ℕ) → c < b + 1 → j < length (row turned c) → entry turned c j ≢ UNWRITTEN
+written_more {list} {found} turned b before is cases absent c j l on =
+    let none = subst (λ t. IsAnyAnswer (λ y t. eqb y UNWRITTEN ≡ t) list t) absent cases in
+    ⊎_elim
+    (λ lower. before c j lower on)
+    (λ ge e.
+    let last : c ≡ b = omega arith in
+    let here : list ≡ row turned c = is ∙ ap (row turned) (sym last) in
+    let within : j < length list = rw here on in
+    false≢true (sym (none j 0 (omega arith) within) ∙ eq-eqb _ _ (ap (λ s. get_or s j 0) here ∙ e)))
+    (cases_lt c b)
