@@ -1,15 +1,16 @@
 -- Noting an agent's namings, and the cross places that the notes tell.
-use Rattle.std.proofs.Common.{◌≡◌, ◌≢◌, ℕ, ◌+◌, ◌<◌, ◌≤◌, Bool, List, [], ◌∷◌, ◌++◌, Vec, Global, Option, Some, None, if◌then◌else◌, length, get_or, set, replicate, refl, sym, ap, subst, ◌∙◌, arith, ⊎_elim}
+use Rattle.std.proofs.Common.{◌≡◌, ◌≢◌, ℕ, ◌+◌, ◌<◌, ◌≤◌, Bool, List, [], ◌∷◌, ◌++◌, Vec, Global, Option, Some, None, IfSome, if◌then◌else◌, length, get_or, set, replicate, refl, sym, ap, subst, ◌∙◌, arith, ⊎_elim}
 use Rattle.std.proofs.lemmas.Bool.{cases_lt, cases_eq, eq-eqb, ne_eqb}
 use Rattle.std.proofs.lemmas.List.{get_or-replicate, get_or_past, length-replicate, length_push, map_push}
 use Rattle.sm_instance.specs.Written.{AgentData, row, entry}
-use Rattle.sm_instance.specs.Sound.{AreSoundEntries}
+use Rattle.sm_instance.specs.Sound.{AreSoundEntries, entries_of}
 use Rattle.sm_instance.specs.Vectors.{crosses_of}
 use Rattle.sm_instance.specs.Kept.{naming_at, IsNamed, AreNamingsOf, cross_place, AreCrossPlacesOf, AreCrossPlaces, no_note, note_of, noted_in, AreNotesOf}
 use Rattle.sm_instance.specs.declared.namings.Naming.{Naming}
 use Rattle.sm_instance.specs.declared.crosses.Note.{Note}
 use Rattle.sm_instance.proofs.ListLemmas.{set_cases, push_cases, row_in_range}
 use Rattle.sm_instance.proofs.NamingLemmas.{place_found, place_missing}
+use Rattle.sm_instance.proofs.AcceptLemmas.{cross_within}
 
 -- before the first naming, where all notes are of earlier turns
 pub noting_start : (namings : List Naming) (a : ℕ) (notes : List Note) → ((b : ℕ) → (note_of notes b).stamp ≤ a) → AreNotesOf namings 0 a notes
@@ -55,6 +56,11 @@ noted_place {agents} {others} {a} {namings} {notes} sound n s b =
     (λ (ne : note.stamp ≢ a + 1). subst P (sym (ne_eqb note.stamp (a + 1) ne))
     (place_missing n b (λ e l same. ne (ap (λ c. (note_of notes c).stamp) (sym same) ∙ s.noted e l))))
     (cases_eq note.stamp (a + 1))
+
+-- and these fit
+pub noted_fits : {agents : List AgentData} {others a : ℕ} {namings : List Naming} {notes : List Note} → entries_of agents ≤ 524288 → AreSoundEntries agents others → AreNamingsOf agents (length agents) 0 a namings → AreNotesOf namings (length namings) a notes
+    → (b : ℕ) → IfSome (noted_in (note_of notes b) (a + 1)) (λ place. place < 524288)
+noted_fits {agents} {others} {a} {namings} {notes} all sound n s b = cross_within agents all b a (noted_in (note_of notes b) (a + 1)) (noted_place sound n s b)
 
 -- the lists of the first agents are crossed, and all notes are of their turns
 pub record IsCrossing (agents others : List AgentData) (a : ℕ) (crosses : List (List (Option ℕ))) (notes : List Note) : Type 0 where

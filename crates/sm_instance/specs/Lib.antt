@@ -6,6 +6,7 @@ pub mod Allowed
 pub mod Sound
 pub mod Faults
 pub mod Checks
+pub mod Places
 pub mod Vectors
 pub mod Kept
 pub mod Inputs

@@ -2,12 +2,13 @@
 //!
 //! Each agent's list is walked with its namings noted by who names it.
 
-ghost use Rattle.std.specs.Prelude.{◌≡◌, ℕ, ◌+◌, ◌≤◌, ◌<◌, ◌^◌, length, slice_index, slice_index_or, IfOk, None};
-ghost use Rattle.sm_instance.specs.Sound.{IsWithinLimits, AreSoundEntries};
+ghost use Rattle.std.specs.Prelude.{◌≡◌, ℕ, ◌+◌, ◌≤◌, ◌<◌, ◌^◌, length, slice_index, slice_index_or, IfOk, IfSome, None};
+ghost use Rattle.sm_instance.specs.Sound.{entries_of, IsWithinLimits, AreSoundEntries};
 ghost use Rattle.sm_instance.specs.Kept.{AreNamings, AreCrossPlaces, naming_at, note_of, noted_in, AreNotesOf};
 ghost use Rattle.sm_instance.specs.Vectors.{agents_of, crosses_of, namings_of};
 
 use crate::agents::{Agent, list_at};
+use crate::cross::Cross;
 use crate::namings::{Naming, namings};
 use std::alloc::{AllocError, Global};
 
@@ -37,14 +38,7 @@ pub(crate) fn crossings(
     alloc: Global,
     proposers: &[Agent],
     reviewers: &[Agent],
-) -> Result<
-    (
-        Vec<Vec<Option<u32>>>,
-        Vec<Vec<Option<u32>>>,
-        Vec<Vec<Naming>>,
-    ),
-    AllocError,
->
+) -> Result<(Vec<Vec<Cross>>, Vec<Vec<Cross>>, Vec<Vec<Naming>>), AllocError>
     requires limits { IsWithinLimits (agents_of proposers.now) (agents_of reviewers.now) }
     requires proposers { AreSoundEntries (agents_of proposers.now) (length (agents_of reviewers.now)) }
     requires reviewers { AreSoundEntries (agents_of reviewers.now) (length (agents_of proposers.now)) }
@@ -55,11 +49,27 @@ pub(crate) fn crossings(
     ensures namings { IfOk result (λ c. AreNamings (agents_of proposers.now) (length (agents_of reviewers.now))
         (length (agents_of proposers.now)) 0 (namings_of c.2.items)) }
 {
-    let of_reviewers = namings(alloc, proposers, reviewers.len() as u32)?;
-    let of_proposers = namings(alloc, reviewers, proposers.len() as u32)?;
-    let proposer_crosses = crosses(alloc, proposers, reviewers, &of_proposers)?;
+    let proposer_crosses = side_crosses(alloc, proposers, reviewers)?;
+    let of_reviewers = namings(alloc, proposers, reviewers)?;
     let reviewer_crosses = crosses(alloc, reviewers, proposers, &of_reviewers)?;
     Ok((proposer_crosses, reviewer_crosses, of_reviewers))
+}
+
+/// The cross places of one side's lists. The namings that this takes are dropped before it returns.
+fn side_crosses(
+    alloc: Global,
+    agents: &[Agent],
+    others: &[Agent],
+) -> Result<Vec<Vec<Cross>>, AllocError>
+    requires agents { length agents.now ≤ 4096 }
+    requires others { length others.now ≤ 4096 }
+    requires entries { entries_of (agents_of others.now) ≤ 524288 }
+    requires in_range { AreSoundEntries (agents_of agents.now) (length (agents_of others.now)) }
+    requires sound { AreSoundEntries (agents_of others.now) (length agents.now) }
+    ensures { IfOk result (λ c. AreCrossPlaces (agents_of agents.now) (agents_of others.now) (crosses_of c.items)) }
+{
+    let namings = namings(alloc, others, agents)?;
+    crosses(alloc, agents, others, &namings)
 }
 
 /// For each place of each list of one side, the place of the list's owner on the list of the agent that is named there,
@@ -69,8 +79,9 @@ fn crosses(
     agents: &[Agent],
     others: &[Agent],
     namings: &[Vec<Naming>],
-) -> Result<Vec<Vec<Option<u32>>>, AllocError>
+) -> Result<Vec<Vec<Cross>>, AllocError>
     requires few { length agents.now ≤ 4096 }
+    requires entries { entries_of (agents_of others.now) ≤ 524288 }
     requires in_range { AreSoundEntries (agents_of agents.now) (length (agents_of others.now)) }
     requires sound { AreSoundEntries (agents_of others.now) (length agents.now) }
     requires namings { AreNamings (agents_of others.now) (length agents.now) (length (agents_of others.now)) 0
@@ -105,14 +116,10 @@ fn note_namings(namings: &[Naming], a: u32, notes: &mut [Note])
 }
 
 /// The places that are noted, in the turn of `a`, of those whom its list names.
-fn crosses_of(
-    alloc: Global,
-    list: &[u32],
-    a: u32,
-    notes: &[Note],
-) -> Result<Vec<Option<u32>>, AllocError>
+fn crosses_of(alloc: Global, list: &[u32], a: u32, notes: &[Note]) -> Result<Vec<Cross>, AllocError>
     requires small { a < 2 ^ 24 }
     requires in_range { (i : ℕ) → i < length list.now → slice_index list.now i < length notes.now }
+    requires fits { (b : ℕ) → IfSome (noted_in (note_of notes.now b) (a + 1)) (λ place. place < 524288) }
     ensures as_long { IfOk result (λ c. length c.items ≡ length list.now) }
     ensures places { IfOk result (λ c. (i : ℕ) → i < length list.now
         → slice_index_or c.items i None ≡ noted_in (note_of notes.now (slice_index list.now i)) (a + 1)) }
@@ -120,7 +127,7 @@ fn crosses_of(
     let stamp = a + 1;
     let mut crosses = Vec::with_capacity(alloc, list.len())?;
     'list: for b in list {
-        crosses.push(notes[*b as usize].place_in(stamp))?;
+        crosses.push(Cross::of(notes[*b as usize].place_in(stamp)))?;
     }
     Ok(crosses)
 }

@@ -10,6 +10,7 @@ ghost use Rattle.sm_instance.specs.Kept.{cross_place, AreNamingsOf};
 
 use crate::agents::{Agent, capacity_at, list_at};
 use crate::checks::checked;
+use crate::cross::Cross;
 use crate::crosses::crossings;
 use crate::faults::InstanceFault;
 use crate::kinds::Kind;
@@ -32,8 +33,8 @@ pub struct Instance {
     weights: Vec<(u32, u32, i64)>,
     forced: Vec<(u32, u32)>,
     forbidden: Vec<(u32, u32)>,
-    crosses: Vec<Vec<Option<u32>>>,
-    reviewer_crosses: Vec<Vec<Option<u32>>>,
+    crosses: Vec<Vec<Cross>>,
+    reviewer_crosses: Vec<Vec<Cross>>,
     namings: Vec<Vec<Naming>>,
     left: Names,
     right: Names,
@@ -235,7 +236,7 @@ impl Instance {
         requires on_list { place < length (row self.now.reviewers r) }
         ensures { result ≡ cross_place self.now.proposers (entry self.now.reviewers r place) r }
     {
-        self.reviewer_crosses[r as usize][place as usize]
+        self.reviewer_crosses[r as usize][place as usize].place()
     }
 
     /// The cross place that is kept.
@@ -245,7 +246,7 @@ impl Instance {
         ensures cross { result ≡ cross_place self.now.reviewers (entry self.now.proposers p place) p }
         ensures instance { IsInstance self.now }
     {
-        self.crosses[p as usize][place as usize]
+        self.crosses[p as usize][place as usize].place()
     }
 
     /// Whether a proposer and a reviewer are acceptable to each other: each lists the other.

@@ -13,6 +13,7 @@ mod agents;
 mod allowed;
 mod blocking;
 mod checks;
+mod cross;
 mod crosses;
 mod faults;
 mod inputs;

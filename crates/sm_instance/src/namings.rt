@@ -15,16 +15,17 @@ pub(crate) struct Naming {
     pub(crate) place: u32,
 }
 
-/// Who names each of the agents of the other side, by number.
+/// Who names each of the agents of the other side, `others`, by number.
 pub(crate) fn namings(
     alloc: Global,
     agents: &[Agent],
-    others: u32,
+    others: &[Agent],
 ) -> Result<Vec<Vec<Naming>>, AllocError>
     requires agents { length agents.now ≤ 4096 }
     requires entries { entries_of (agents_of agents.now) ≤ 524288 }
-    requires sound { AreSoundEntries (agents_of agents.now) others }
-    ensures { IfOk result (λ n. AreNamings (agents_of agents.now) others (length (agents_of agents.now)) 0 (namings_of n.items)) }
+    requires sound { AreSoundEntries (agents_of agents.now) (length others.now) }
+    ensures { IfOk result (λ n. AreNamings (agents_of agents.now) (length others.now)
+        (length (agents_of agents.now)) 0 (namings_of n.items)) }
 {
     let mut namings = empty_lists(alloc, others)?;
     for by in 0..agents.len() as u32 {
@@ -33,14 +34,15 @@ pub(crate) fn namings(
     Ok(namings)
 }
 
-/// So many empty lists.
-fn empty_lists(alloc: Global, count: u32) -> Result<Vec<Vec<Naming>>, AllocError>
-    ensures count { IfOk result (λ lists. length (namings_of lists.items) ≡ count) }
+/// An empty list for each agent, with room for as many namings as its own list is long: whoever is listed mostly lists
+/// back.
+fn empty_lists(alloc: Global, agents: &[Agent]) -> Result<Vec<Vec<Naming>>, AllocError>
+    ensures count { IfOk result (λ lists. length (namings_of lists.items) ≡ length agents.now) }
     ensures empty { IfOk result (λ lists. (r : ℕ) → slice_index_or (namings_of lists.items) r [] ≡ []) }
 {
-    let mut lists = Vec::with_capacity(alloc, count as usize)?;
-    for done in 0..count {
-        lists.push(Vec::new(alloc))?;
+    let mut lists = Vec::with_capacity(alloc, agents.len())?;
+    for agent in agents {
+        lists.push(Vec::with_capacity(alloc, agent.entries.len())?)?;
     }
     Ok(lists)
 }

@@ -1,0 +1,46 @@
+//! Cross places as they are kept, in four bytes each.
+
+ghost use Rattle.std.specs.Prelude.{◌≡◌, ◌<◌, IfSome};
+
+use std::marker::Model;
+
+/// The place of a list's owner on the list of an agent that it names, or none where it isn't on it. Half as large as an
+/// `Option<u32>`.
+#[derive(Clone, Copy)]
+pub(crate) struct Cross {
+    /// One more than the place; 0 where there is none.
+    past: u32,
+}
+
+impl Model for Cross {
+    ghost use Rattle.std.specs.Prelude.{ℕ, Option};
+    ghost use Rattle.sm_instance.specs.Places.{place_before, past_of, past_of-place_before};
+
+    ghost Value = { Option ℕ };
+
+    ghost view = { λ c. place_before c.past };
+
+    ghost inverse = { λ place. record { past = past_of place } };
+
+    ghost inverse_ok = { λ c h i. record { past = past_of-place_before c.past i } };
+}
+
+impl Cross {
+    /// Keeps a place.
+    pub(crate) fn of(place: Option<u32>) -> Cross
+        requires { IfSome place (λ place. place < 524288) }
+        ensures { result ≡ place }
+    {
+        match place {
+            Some(place) => Cross { past: place + 1 },
+            None => Cross { past: 0 },
+        }
+    }
+
+    /// The place.
+    pub(crate) fn place(self) -> Option<u32>
+        ensures { result ≡ self }
+    {
+        self.past.checked_sub(1)
+    }
+}
