@@ -104,6 +104,17 @@ interned_old t n name i table there texts numbers stamps declared index = record
   stamps = λ k. ap (λ x. get_or x k 0) stamps;
 }
 
+-- a name that stands at an index has it
+pub interned_at : (t : Table) (name : List ℕ) (i : ℕ) → IsTable t → i < length t.texts → text_at t.texts i ≡ name → Interns t t name i
+interned_at t name i table inside names = record {
+  table = table;
+  extends = record { more = []; appended = sym (append-nil t.texts) };
+  declared = refl;
+  in_range = inside;
+  names = names;
+  stamps = λ k. refl;
+}
+
 -- whether the name of an index is declared
 pub declared_at : (t : Table) (i : ℕ) → IsTable t → i < length t.texts → is_some (get_or t.numbers i None) ≡ list_any (bytes_eq (text_at t.texts i)) t.declared
 declared_at t i table inside = ap is_some (table.numbered i inside) ∙ is_some-position (bytes_eq (text_at t.texts i)) t.declared

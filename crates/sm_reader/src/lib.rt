@@ -13,6 +13,7 @@ mod keys;
 mod names;
 mod numbering;
 mod reading;
+mod recent;
 mod tokens;
 
 pub use faults::TextFault;

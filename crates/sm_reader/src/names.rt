@@ -1,21 +1,24 @@
 //! The names of one side.
 
-ghost use Rattle.std.specs.Prelude.{◌≡◌, ℕ, ◌<◌, ◌^◌, length, slice_index, IfOk};
+ghost use Rattle.std.specs.Prelude.{◌≡◌, ℕ, ◌<◌, ◌^◌, length, slice_index, IfOk, IfSome};
 ghost use Rattle.std.specs.List.{list_any};
 ghost use Rattle.std.specs.Str.{bytes_eq};
 ghost use Rattle.sm_reader.specs.InstanceText.{number_in};
 ghost use Rattle.sm_reader.specs.Kept.{texts_of, text_at, table_of, no_names, IsTable, Interns, Declares, Meets, Lists};
 
 use crate::keys::Key;
+use crate::recent::Recent;
 use indexmap::IndexSet;
 use std::alloc::{AllocError, Global};
 
 /// The names of one side that stand in a text so far, declared or not, each by the index that it got where it stood
-/// first. They are found by their hash.
+/// first. A name is looked for at the index that it is guessed to have, and else found by its hash.
 #[derive(Drop)]
 pub(crate) struct Names<'a> {
     /// The names, by index.
     pub(crate) texts: IndexSet<Key<'a>>,
+    /// The indexes that names are guessed to have.
+    pub(crate) recent: Recent,
     /// The number of the agent of each name, `None` while it isn't declared.
     pub(crate) numbers: Vec<Option<u32>>,
     /// For each name the line on whose list it stood last, 0 where it stood on none.
@@ -31,6 +34,7 @@ impl<'a> Names<'a> {
     {
         Names {
             texts: IndexSet::new(alloc),
+            recent: Recent::new(alloc),
             numbers: Vec::new(alloc),
             stamps: Vec::new(alloc),
             declared: Vec::new(alloc),
@@ -42,7 +46,35 @@ impl<'a> Names<'a> {
         requires { IsTable (table_of self.old) }
         ensures { IfOk result (λ i. Interns (table_of self.old) (table_of self.new) name.now i) }
     {
+        match self.recall(name) {
+            Some(index) => Ok(index),
+            None => self.insert(name),
+        }
+    }
+
+    // The index that a name is guessed to have, where the name has it.
+    fn recall(&self, name: &[u8]) -> Option<usize>
+        ensures in_range { IfSome result (λ i. i < length (table_of self.now).texts) }
+        ensures names { IfSome result (λ i. text_at (table_of self.now).texts i ≡ name.now) }
+    {
+        let guess = self.recent.guess(name)?;
+        let known = self.texts.get_index(guess)?;
+        if *known == (Key { text: name }) {
+            Some(guess)
+        } else {
+            None
+        }
+    }
+
+    // The index of a name by its hash; a name that isn't found is added. Never inlined, so that a name whose index is
+    // guessed pays nothing for it.
+    #[inline(never)]
+    fn insert(&mut self, name: &'a [u8]) -> Result<usize, AllocError>
+        requires { IsTable (table_of self.old) }
+        ensures { IfOk result (λ i. Interns (table_of self.old) (table_of self.new) name.now i) }
+    {
         let (index, is_new) = self.texts.insert_full(Key { text: name })?;
+        self.recent.note(name, index)?;
         if is_new {
             self.numbers.push(None)?;
             self.stamps.push(0)?;
