@@ -12,8 +12,8 @@ const LONGEST_IN_SLOT: usize = 16;
 
 /// The indexes of names that were met of late, which spare most look-ups in a set.
 ///
-/// A name of at most [`LONGEST_IN_SLOT`] bytes falls into a slot, and others may fall into the same. The slot holds the index that
-/// was noted there last, so what is found in it is a guess, which whoever asks has to test.
+/// A name of at most [`LONGEST_IN_SLOT`] bytes falls into a slot, and others may fall into the same. The slot holds the
+/// index that was noted there last, so what is found in it is a guess, which whoever asks has to test.
 #[derive(Drop)]
 pub(crate) struct Recent {
     /// The index in each slot, 0 where none was noted. There are no slots before the first index is noted.
