@@ -4,7 +4,7 @@ use std::alloc::{AllocError, Global};
 use std::hash::{FoldHasher, Hasher};
 
 /// The number of slots, a power of two.
-const SLOTS: usize = 8_192;
+const SLOTS: usize = 16_384;
 
 /// The greatest number of bytes in a name that has a slot. A longer one would be hashed and compared in as much time as
 /// a set takes to find it.
