@@ -7,7 +7,8 @@ use Rattle.sm_theory.specs.Values.{rotations_of}
 use Rattle.sm_theory.proofs.BridgeChain.{stage_stable}
 use Rattle.sm_rotations.proofs.CountLemmas.{few_rotations}
 use Rattle.sm_poset.specs.Kept.{moves_in}
-use Rattle.sm_poset.proofs.ReadLemmas.{rotation_read, written}
+use Rattle.sm_rotations.proofs.NeedsLemmas.{pairs_read}
+use Rattle.sm_poset.proofs.ReadLemmas.{written}
 use Rattle.sm_poset.proofs.StepLemmas.{IsStep, step_of, stage_next, matched, distinct, not_empty, moves_after, leaders_after, moves_start, leaders_start}
 use Rattle.sm_poset.proofs.moves.follow.Goals as goal
 
@@ -35,7 +36,7 @@ eliminate-requires-clause-exposed c =
     let rotations = c.args.chain.now.rotations.items in
     let long = length-map rotations (λ r. r.pairs.items) in
     let there : c.loop-k.k < length rotations = omega (arith, c.len-k-end.ensures) in
-    let read = rotation_read rotations c.loop-k.k c.index-rotation.result.now there c.index-rotation.ensures in
+    let read = pairs_read rotations c.loop-k.k c.index-rotation.result.now there c.index-rotation.ensures in
     rw (c.loop-k.invariant.at, read) (c.requires.complete.exposed c.loop-k.k (omega arith))
 
 pub add_moves-requires-clause-matched : goal.add_moves-requires-clause-matched
@@ -43,7 +44,7 @@ add_moves-requires-clause-matched c =
     let rotations = c.args.chain.now.rotations.items in
     let long = length-map rotations (λ r. r.pairs.items) in
     let there : c.loop-k.k < length rotations = omega (arith, c.len-k-end.ensures) in
-    let read = rotation_read rotations c.loop-k.k c.index-rotation.result.now there c.index-rotation.ensures in
+    let read = pairs_read rotations c.loop-k.k c.index-rotation.result.now there c.index-rotation.ensures in
     let step : IsStep c.args.market.now c.args.chain.now.first.places (rotations_of rotations) c.loop-k.k c.index-rotation.result.now.pairs.items c.eliminate.new.m.places = step_of (omega arith) read c.loop-k.invariant.at c.eliminate.ensures.moved in
     rw c.deref.ensures.value (matched c.proposers.ensures.market c.requires.complete step)
 
@@ -52,7 +53,7 @@ add_moves-requires-clause-distinct c =
     let rotations = c.args.chain.now.rotations.items in
     let long = length-map rotations (λ r. r.pairs.items) in
     let there : c.loop-k.k < length rotations = omega (arith, c.len-k-end.ensures) in
-    let read = rotation_read rotations c.loop-k.k c.index-rotation.result.now there c.index-rotation.ensures in
+    let read = pairs_read rotations c.loop-k.k c.index-rotation.result.now there c.index-rotation.ensures in
     let step : IsStep c.args.market.now c.args.chain.now.first.places (rotations_of rotations) c.loop-k.k c.index-rotation.result.now.pairs.items c.eliminate.new.m.places = step_of (omega arith) read c.loop-k.invariant.at c.eliminate.ensures.moved in
     rw c.deref.ensures.value (distinct c.proposers.ensures.market c.requires.complete step)
 
@@ -61,7 +62,7 @@ index-requires c =
     let rotations = c.args.chain.now.rotations.items in
     let long = length-map rotations (λ r. r.pairs.items) in
     let there : c.loop-k.k < length rotations = omega (arith, c.len-k-end.ensures) in
-    let read = rotation_read rotations c.loop-k.k c.index-rotation.result.now there c.index-rotation.ensures in
+    let read = pairs_read rotations c.loop-k.k c.index-rotation.result.now there c.index-rotation.ensures in
     let step : IsStep c.args.market.now c.args.chain.now.first.places (rotations_of rotations) c.loop-k.k c.index-rotation.result.now.pairs.items c.eliminate.new.m.places = step_of (omega arith) read c.loop-k.invariant.at c.eliminate.ensures.moved in
     omega (arith, not_empty c.proposers.ensures.market c.requires.complete step, c.deref.ensures.len, ap length c.deref.ensures.value)
 
@@ -70,7 +71,7 @@ place_in-requires c =
     let rotations = c.args.chain.now.rotations.items in
     let long = length-map rotations (λ r. r.pairs.items) in
     let there : c.loop-k.k < length rotations = omega (arith, c.len-k-end.ensures) in
-    let read = rotation_read rotations c.loop-k.k c.index-rotation.result.now there c.index-rotation.ensures in
+    let read = pairs_read rotations c.loop-k.k c.index-rotation.result.now there c.index-rotation.ensures in
     let step : IsStep c.args.market.now c.args.chain.now.first.places (rotations_of rotations) c.loop-k.k c.index-rotation.result.now.pairs.items c.eliminate.new.m.places = step_of (omega arith) read c.loop-k.invariant.at c.eliminate.ensures.moved in
     let some = not_empty c.proposers.ensures.market c.requires.complete step in
     let leader : c.index.result.now.0 ≡ proposer_at c.index-rotation.result.now.pairs.items 0 = ap (λ pair. pair.0) (get_or_read c.index-rotation.result.now.pairs.items 0 c.index.result.now some c.index.ensures (0, 0)) in
@@ -81,7 +82,7 @@ loop-k-preserved c =
     let rotations = c.args.chain.now.rotations.items in
     let long = length-map rotations (λ r. r.pairs.items) in
     let there : c.loop-k.k < length rotations = omega (arith, c.len-k-end.ensures) in
-    let read = rotation_read rotations c.loop-k.k c.index-rotation.result.now there c.index-rotation.ensures in
+    let read = pairs_read rotations c.loop-k.k c.index-rotation.result.now there c.index-rotation.ensures in
     let step : IsStep c.args.market.now c.args.chain.now.first.places (rotations_of rotations) c.loop-k.k c.index-rotation.result.now.pairs.items c.eliminate.new.m.places = step_of (omega arith) read c.loop-k.invariant.at c.eliminate.ensures.moved in
     let some = not_empty c.proposers.ensures.market c.requires.complete step in
     let leader : c.index.result.now.0 ≡ proposer_at c.index-rotation.result.now.pairs.items 0 = ap (λ pair. pair.0) (get_or_read c.index-rotation.result.now.pairs.items 0 c.index.result.now some c.index.ensures (0, 0)) in

@@ -1,15 +1,15 @@
-use Rattle.std.proofs.Common.{◌≡◌, ◌∙◌, length, drop, ap, arith}
+use Rattle.std.proofs.Common.{◌≡◌, length, drop, ap, arith}
 use Rattle.std.proofs.lemmas.List.{length-map}
 use Rattle.sm_market.specs.Lists.{row}
 use Rattle.sm_market.specs.Vectors.{rows_of}
 use Rattle.sm_accept.proofs.ResultLemmas.{written}
-use Rattle.sm_rotations.proofs.TurnedOverLemmas.{row_read}
+use Rattle.sm_market.proofs.TurningLemmas.{row_read}
 use Rattle.sm_rotations.proofs.TurnedBackLemmas.{back_more}
 use Rattle.sm_rotations.proofs.graph.needs_by_followers.Goals as goal
 
 pub need-requires-clause-in_range : goal.need-requires-clause-in_range
 need-requires-clause-in_range c = λ a less.
-    let read : c.deref.result.now ≡ row (rows_of c.args.followers.now) c.loop-i.i = c.deref.ensures.value ∙ row_read c.args.followers.now c.loop-i.i c.index-followers-i.result c.loop-i-test.true c.index-followers-i.is in
+    let read : c.deref.result.now ≡ row (rows_of c.args.followers.now) c.loop-i.i = row_read c.args.followers.now c.loop-i.i c.index-followers-i.result c.deref.result.now c.loop-i-test.true c.index-followers-i.is c.deref.ensures.value in
     let long : length (rows_of c.loop-i.needs.items) ≡ length c.loop-i.needs.items = length-map c.loop-i.needs.items (λ v. v.items) in
     let as_many : length (rows_of c.args.followers.now) ≡ length c.args.followers.now = length-map c.args.followers.now (λ v. v.items) in
     let each = c.loop-i.invariant.one_each in
@@ -18,7 +18,7 @@ need-requires-clause-in_range c = λ a less.
 
 pub loop-i-preserved : goal.loop-i-preserved
 loop-i-preserved c =
-    let read : c.deref.result.now ≡ row (rows_of c.args.followers.now) c.loop-i.i = c.deref.ensures.value ∙ row_read c.args.followers.now c.loop-i.i c.index-followers-i.result c.loop-i-test.true c.index-followers-i.is in
+    let read : c.deref.result.now ≡ row (rows_of c.args.followers.now) c.loop-i.i = row_read c.args.followers.now c.loop-i.i c.index-followers-i.result c.deref.result.now c.loop-i-test.true c.index-followers-i.is c.deref.ensures.value in
     let noted = rw (read, c.deref_mut.ensures.value) at c.in_ok-need.ensures in
     let same = c.need.auto.needs in
     rw (written c.loop-i.needs.len c.need.new.needs (drop (length c.need.new.needs) c.loop-i.needs.items) (omega (arith, c.deref_mut.ensures.len)))

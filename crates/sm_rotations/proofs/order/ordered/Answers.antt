@@ -9,7 +9,8 @@ use Rattle.sm_rotations.specs.Ordering.{IsTurned, AreCounts, AreReadyAtFirst}
 use Rattle.sm_rotations.proofs.CountLemmas.{few_rotations}
 use Rattle.sm_rotations.proofs.ChainingLemmas.{pushed}
 use Rattle.sm_rotations.proofs.NeedsLemmas.{as_many}
-use Rattle.sm_rotations.proofs.TurnedOverLemmas.{row_read, follower_in_range, over_read}
+use Rattle.sm_market.proofs.TurningLemmas.{row_read}
+use Rattle.sm_rotations.proofs.TurnedOverLemmas.{follower_in_range, over_read}
 use Rattle.sm_rotations.proofs.WrittenLemmas.{nil_of, pairs_at, has_needs, need_in_range, written_start, written_whole, popped_in_range, popped_some, enough_unmet, places_left, written_more}
 use Rattle.sm_rotations.proofs.order.ordered.Goals as goal
 
@@ -75,7 +76,7 @@ release-requires-clause-in_range c =
     let inside : c.in-Some.field-0.0.1 < length c.as_slice-rotations.result.now = omega (arith, popped_in_range u w x popped, as_many c.as_slice-rotations.result.now) in
     let over : AreTurnedOver (rows_of c.in_ok-needs.needs.items) (length (rows_of c.in_ok-needs.needs.items)) (rows_of c.as_slice-followers.result.now) = over_read c.in_ok-needs.needs.items c.deref.result.now c.in_ok-followers.followers.items c.as_slice-followers.result.now c.deref.ensures.value c.as_slice-followers.ensures.value c.in_ok-followers.ensures in
     let there : c.in-Some.field-0.0.1 < length c.as_slice-followers.result.now = omega (arith, inside, over.one_each, length-map c.as_slice-followers.result.now (λ v. v.items), u.as_many, as_many c.as_slice-rotations.result.now) in
-    let list : c.deref-in-Some-2.result.now ≡ row (rows_of c.as_slice-followers.result.now) c.in-Some.field-0.0.1 = c.deref-in-Some-2.ensures.value ∙ row_read c.as_slice-followers.result.now c.in-Some.field-0.0.1 c.index-followers-k.result there c.index-followers-k.is in
+    let list : c.deref-in-Some-2.result.now ≡ row (rows_of c.as_slice-followers.result.now) c.in-Some.field-0.0.1 = row_read c.as_slice-followers.result.now c.in-Some.field-0.0.1 c.index-followers-k.result c.deref-in-Some-2.result.now there c.index-followers-k.is c.deref-in-Some-2.ensures.value in
     λ a less.
     let less' : a < length (row (rows_of c.as_slice-followers.result.now) c.in-Some.field-0.0.1) = rw (sym list) less in
     rw list (omega (arith, follower_in_range c.in-Some.field-0.0.1 a over less', u.as_many, as_many c.as_slice-rotations.result.now))
@@ -89,7 +90,7 @@ release-requires-clause-enough c =
     let inside : c.in-Some.field-0.0.1 < length c.as_slice-rotations.result.now = omega (arith, popped_in_range u w x popped, as_many c.as_slice-rotations.result.now) in
     let over : AreTurnedOver (rows_of c.in_ok-needs.needs.items) (length (rows_of c.in_ok-needs.needs.items)) (rows_of c.as_slice-followers.result.now) = over_read c.in_ok-needs.needs.items c.deref.result.now c.in_ok-followers.followers.items c.as_slice-followers.result.now c.deref.ensures.value c.as_slice-followers.ensures.value c.in_ok-followers.ensures in
     let there : c.in-Some.field-0.0.1 < length c.as_slice-followers.result.now = omega (arith, inside, over.one_each, length-map c.as_slice-followers.result.now (λ v. v.items), u.as_many, as_many c.as_slice-rotations.result.now) in
-    let list : c.deref-in-Some-2.result.now ≡ row (rows_of c.as_slice-followers.result.now) c.in-Some.field-0.0.1 = c.deref-in-Some-2.ensures.value ∙ row_read c.as_slice-followers.result.now c.in-Some.field-0.0.1 c.index-followers-k.result there c.index-followers-k.is in
+    let list : c.deref-in-Some-2.result.now ≡ row (rows_of c.as_slice-followers.result.now) c.in-Some.field-0.0.1 = row_read c.as_slice-followers.result.now c.in-Some.field-0.0.1 c.index-followers-k.result c.deref-in-Some-2.result.now there c.index-followers-k.is c.deref-in-Some-2.ensures.value in
     rw list (enough_unmet u w x popped over)
 
 pub turns-smaller : goal.turns-smaller
@@ -117,7 +118,7 @@ turns-preserved c =
     let pairs : c.deref-in-Some.result.now ≡ rotation_at (rotations_of c.as_slice-rotations.result.now) c.in-Some.field-0.0.1 = c.deref-in-Some.ensures.value ∙ pairs_at c.as_slice-rotations.result.now c.in-Some.field-0.0.1 c.index-rotations-k.result inside in
     let over : AreTurnedOver (rows_of c.in_ok-needs.needs.items) (length (rows_of c.in_ok-needs.needs.items)) (rows_of c.as_slice-followers.result.now) = over_read c.in_ok-needs.needs.items c.deref.result.now c.in_ok-followers.followers.items c.as_slice-followers.result.now c.deref.ensures.value c.as_slice-followers.ensures.value c.in_ok-followers.ensures in
     let there : c.in-Some.field-0.0.1 < length c.as_slice-followers.result.now = omega (arith, inside, over.one_each, length-map c.as_slice-followers.result.now (λ v. v.items), u.as_many, as_many c.as_slice-rotations.result.now) in
-    let list : c.deref-in-Some-2.result.now ≡ row (rows_of c.as_slice-followers.result.now) c.in-Some.field-0.0.1 = c.deref-in-Some-2.ensures.value ∙ row_read c.as_slice-followers.result.now c.in-Some.field-0.0.1 c.index-followers-k.result there c.index-followers-k.is in
+    let list : c.deref-in-Some-2.result.now ≡ row (rows_of c.as_slice-followers.result.now) c.in-Some.field-0.0.1 = row_read c.as_slice-followers.result.now c.in-Some.field-0.0.1 c.index-followers-k.result c.deref-in-Some-2.result.now there c.index-followers-k.is c.deref-in-Some-2.ensures.value in
     let order = (c.in-Some.ensures.heap_order c.turns.invariant.order).1 in
     let turned : IsTurned (rotation_at (rotations_of c.as_slice-rotations.result.now) c.in-Some.field-0.0.1) c.in_ok-turned.field-0.pairs.items = rw pairs at c.in_ok-turned.ensures in
     let more : rotations_of c.push.new.self.items ≡ rotations_of c.turns.written.items ++ c.in_ok-turned.field-0.pairs.items ∷ [] = ap rotations_of c.in_ok-push.ensures.items ∙ pushed c.turns.written.items c.in_ok-turned.field-0 in
