@@ -1,12 +1,12 @@
 -- How the namings grow, entry by entry.
-use Rattle.std.proofs.Common.{◌≡◌, ◌≢◌, ℕ, ◌+◌, ◌<◌, ◌≤◌, List, [], ◌∷◌, ◌++◌, Vec, length, get_or, set, replicate, refl, sym, ap, subst, ◌∙◌, arith, ⊎_elim}
+use Rattle.std.proofs.Common.{◌≡◌, ◌≢◌, ℕ, ◌+◌, ◌<◌, ◌≤◌, List, [], ◌∷◌, ◌++◌, Vec, length, get_or, drop, set, replicate, refl, sym, ap, subst, ◌∙◌, arith, ⊎_elim}
 use Rattle.std.proofs.lemmas.Bool.{cases_lt}
 use Rattle.std.proofs.lemmas.List.{get_or_append_left, get_or_push, get_or-map, length_push, length-map, length-set, length-replicate, get_or-replicate, map-set}
 use Rattle.std.specs.declared.alloc.Global.{Global}
 use Rattle.sm_market.specs.Lists.{row, entry}
 use Rattle.sm_market.specs.Namings.{namings_in, namings_of, naming_at, IsNamed, AreNamingsOf, AreNamings, no_naming}
 use Rattle.sm_market.specs.declared.crosses.Naming.{Naming}
-use Rattle.sm_market.proofs.ListLemmas.{set_cases, push_cases}
+use Rattle.sm_market.proofs.ListLemmas.{set_cases, push_cases, left_first}
 
 module _ {others : List (List ℕ)} {b k a : ℕ} {namings : List Naming} (n : AreNamingsOf others b k a namings) where
   -- an entry that names another agent adds no naming
@@ -126,3 +126,9 @@ namings_read {b = b} {k = k} {others = others} vectors a v items n lt read is =
     let there : a < length vectors = let long = length-map vectors (λ (v : Vec Naming Global). v.items) in let same = n.one_each in omega arith in
     let all : items ≡ namings_of (namings_in vectors) a = is ∙ ap (λ (v : Vec Naming Global). v.items) read ∙ sym (get_or-map (λ (v : Vec Naming Global). v.items) vectors a v [] there) in
     rw all (n.of a lt)
+
+-- what is left of the namings of all agents, behind those of the first a, begins with those of a
+pub namings_next : {agents b k a : ℕ} {others : List (List ℕ)} {vectors left rest given : List (Vec Naming Global)} {v : Vec Naming Global} {items : List Naming}
+    → AreNamings agents others b k (namings_in vectors) → a < agents → given ≡ vectors → left ≡ drop a given → left ≡ v ∷ rest → items ≡ v.items → AreNamingsOf others b k a items
+namings_next {a = a} {vectors = vectors} {given = given} {v = v} {items = items} n lt all there first is =
+    namings_read vectors a v items n lt (left_first given a first there ∙ ap (λ xs. get_or xs a v) all) is

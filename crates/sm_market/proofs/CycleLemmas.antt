@@ -1,10 +1,10 @@
 -- Going round a cycle, and the pair in which it has a proposer.
-use Rattle.std.proofs.Common.{◌≡◌, ◌≢◌, ℕ, zero, suc, ◌+◌, ◌-◌, ◌<◌, ◌≤◌, ◌⊎◌, inl, inr, arith, refl, sym, ap, ◌∙◌, ◌==◌, if◌then◌else◌, List, Option, Some, length, get_or, eq-eqb, ne_eqb, lt-ltb, le-ltb}
+use Rattle.std.proofs.Common.{◌≡◌, ◌≢◌, ℕ, zero, suc, ◌+◌, ◌-◌, ◌<◌, ◌⊎◌, inl, inr, arith, refl, sym, ◌∙◌, ◌==◌, if◌then◌else◌, List, Option, Some, length, eq-eqb, ne_eqb, lt-ltb, le-ltb}
 use Rattle.std.proofs.lemmas.List.Sums.{position_or_len_is}
 use Rattle.sm_market.specs.Lists.{Lists, place_of}
 use Rattle.sm_market.specs.Matching.{held}
 use Rattle.sm_market.specs.Cycles.{proposer_at, target_at, pair_of, place_after}
-use Rattle.sm_market.proofs.Counting.{lt_or_le, eq_or_ne, less_same_more, search_below, First, Decided-eq}
+use Rattle.sm_market.proofs.Counting.{eq_or_ne, less_same_more, search_below, First, Decided-eq}
 
 -- the number that follows i round a cycle of n
 abbrev pub turn : ℕ → ℕ → ℕ

@@ -1,17 +1,17 @@
 -- Moving the proposers of a cycle, one after another.
-use Rattle.std.proofs.Common.{◌≡◌, ◌≢◌, ℕ, ◌+◌, ◌<◌, ◌≤◌, ◌⊎◌, inl, inr, arith, refl, sym, ap, subst, ◌∙◌, List, Option, Some, None, length, map, set, get_or}
+use Rattle.std.proofs.Common.{◌≡◌, ◌≢◌, ℕ, ◌+◌, ◌<◌, inl, inr, arith, refl, sym, ap, subst, ◌∙◌, List, Option, Some, None, length, set}
 use Rattle.std.specs.Option.{option_map}
 use Rattle.std.proofs.lemmas.List.{get_or-set_same, get_or-set_other, length-set, ext_get_or}
 use Rattle.std.proofs.lemmas.List.FromFn.{get_or-map-range_with_len, length-map-range_with_len}
-use Rattle.sm_market.specs.Lists.{Lists, row, entry, place_of, agents, IsMarket}
-use Rattle.sm_market.specs.Matching.{held, AreHeldInTurn}
+use Rattle.sm_market.specs.Lists.{Lists, row, entry, place_of, IsMarket}
+use Rattle.sm_market.specs.Matching.{held}
 use Rattle.sm_market.specs.Pairing.{Paired, paired, IsPairingOf}
 use Rattle.sm_market.specs.Cycles.{proposer_at, reviewer_at, target_at, next_in, place_after, places_after, CanTurn}
-use Rattle.sm_market.proofs.Counting.{lt_or_le, eq_or_ne}
+use Rattle.sm_market.proofs.Counting.{lt_or_le}
 use Rattle.sm_market.proofs.PlaceLemmas.{entry-place_of}
-use Rattle.sm_market.proofs.SeatLemmas.{same_place, option_cases}
+use Rattle.sm_market.proofs.SeatLemmas.{same_place}
 use Rattle.sm_market.proofs.PairingLemmas.{held_in_range, one_partner}
-use Rattle.sm_market.proofs.CycleLemmas.{turn, turn_in, turn_once, Follows, follows, among, AreDistinct, one_pair, after_in, after_out}
+use Rattle.sm_market.proofs.CycleLemmas.{turn_in, turn_once, follows, among, AreDistinct, one_pair, after_in, after_out}
 
 -- the proposers of the first i pairs have moved, and their new reviewers have them; all others hold what they held in m
 pub record HasTurned (l : Lists) (m : Paired) (cycle : List (ℕ × ℕ)) (i : ℕ) (places reviewers holders : List (Option ℕ)) : Type 0 where

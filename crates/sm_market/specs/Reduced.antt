@@ -1,5 +1,5 @@
 -- The reduced lists: what is left of the lists once nobody looks beyond the best and the worst that it can have.
-use Rattle.std.specs.Prelude.{ℕ, Bool, false, ◌&&◌, nat_le, List, [], Option, Some, None, map, filter}
+use Rattle.std.specs.Prelude.{ℕ, Bool, false, ◌&&◌, nat_le, List, Option, Some, None, map, filter}
 use Rattle.sm_market.specs.Lists.{Lists, row, place_of, agents}
 use Rattle.sm_market.specs.Matching.{Places, held}
 

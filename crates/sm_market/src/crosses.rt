@@ -1,7 +1,8 @@
 //! Cross positions, and the faults that stand in their way.
 //!
 //! The lists of the other side are turned over first, into one vector for each agent of who names it and where. Then
-//! each agent's list is walked with its namings noted by who names it.
+//! each agent's list is walked with its namings noted by who names it. Its namings are dropped before, so that its cross
+//! positions can take their room.
 
 ghost use Rattle.std.specs.Prelude.{◌≡◌, ◌≢◌, ℕ, ◌+◌, ◌<◌, ◌≤◌, ◌^◌, length, IfOk, IfErr, OnOk, MatchOption, replicate, [], slice_index};
 ghost use Rattle.sm_market.specs.Lists.{row, entry, place_of};
@@ -61,9 +62,12 @@ pub(crate) fn crosses(
     let mut crosses = Vec::with_capacity(alloc, rows.len())?;
     let notes = notes.as_mut_slice();
     let met = met.as_mut_slice();
-    for a in 0..rows.len() as u32 {
-        note_namings(&namings[a as usize], a, notes);
+    let mut a = 0;
+    for of_agent in namings {
+        note_namings(&of_agent, a, notes);
+        drop(of_agent);
         crosses.push(crosses_of(alloc, side, a, rows, others, notes, met)?)?;
+        a += 1;
     }
     Ok(crosses)
 }

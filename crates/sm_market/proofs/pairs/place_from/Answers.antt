@@ -1,6 +1,6 @@
-use Rattle.std.proofs.Common.{ℕ, ◌<◌, ◌≤◌, ◌≢◌, sym, ap, ◌∙◌, arith, ⊎_elim}
+use Rattle.std.proofs.Common.{ℕ, sym, ap, ◌∙◌, arith, ⊎_elim}
 use Rattle.std.proofs.lemmas.Bool.{cases_lt}
-use Rattle.sm_market.specs.Lists.{entry, place_of}
+use Rattle.sm_market.specs.Lists.{place_of}
 use Rattle.sm_market.proofs.PlaceLemmas.{place_of-entry, entry-place_of}
 use Rattle.sm_market.proofs.pairs.place_from.Goals as goal
 

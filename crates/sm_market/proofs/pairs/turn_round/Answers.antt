@@ -1,4 +1,4 @@
-use Rattle.std.proofs.Common.{◌≡◌, ℕ, ◌<◌, length, Option, unwrap_or, refl, sym, ap, ◌∙◌, arith}
+use Rattle.std.proofs.Common.{◌≡◌, ℕ, ◌<◌, length, Option, unwrap_or, refl, ap, ◌∙◌, arith}
 use Rattle.sm_market.specs.Lists.{row, entry, place_of}
 use Rattle.sm_market.specs.Cycles.{proposer_at, reviewer_at, target_at}
 use Rattle.sm_market.proofs.PlaceLemmas.{entry-place_of}

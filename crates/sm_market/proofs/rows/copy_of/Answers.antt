@@ -1,4 +1,4 @@
-use Rattle.std.proofs.Common.{◌≡◌, Vec, ℕ, take, sym, ap, ◌∙◌, List, ◌++◌, ◌∷◌, []}
+use Rattle.std.proofs.Common.{Vec, ℕ, take, sym, ap, ◌∙◌, ◌++◌, ◌∷◌, []}
 use Rattle.std.specs.declared.alloc.Global.{Global}
 use Rattle.std.proofs.lemmas.List.{map_more, map_push}
 use Rattle.sm_market.specs.Vectors.{rows_of}
