@@ -107,14 +107,14 @@ over_at_hash line from at is inside hash =
     tokens_at line from at is ∙ at_drop_more tokens line at 0 inside ∙ tokens_of_hash (get_or line at 0) (drop (at + 1) line) hash
 
 -- a run leads
-pub run_leads : (line : List ℕ) (from at stop : ℕ) → at ≡ blanks_end line from → at < length line → is_name_byte (get_or line at 0) ≡ true → stop ≡ run_end line at
+pub run_leads : (line : List ℕ) (from at stop : ℕ) → at ≡ blanks_end line from → at < length line → is_name_byte (get_or line at 0) ≡ true → stop ≡ run_end line (at + 1)
     → IsLeading line from at stop
 run_leads line from at stop is inside name end =
     let b = get_or line at 0 in
     let behind = drop (at + 1) line in
     let rest : drop at line ≡ b ∷ behind = at_drop_more (λ t. t) line at 0 inside in
     let n = 1 + prefix_len is_name_byte behind in
-    let count : stop ≡ at + n = end ∙ ap (λ t. at + t) (ap (prefix_len is_name_byte) rest ∙ ap (λ t. cond t n 0) name) in
+    let count : stop ≡ at + n = omega arith in
     let first : BeginsWith n (drop at line) = rw rest (tokens_of_run b behind name) in
     record {
       behind = omega arith;

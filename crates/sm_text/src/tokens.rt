@@ -31,7 +31,7 @@ pub fn token_at(line: &[u8], from: usize) -> TokenAt
     }
     match line[at] {
         b'#' => TokenAt::Over,
-        b if is_name_byte(b) => TokenAt::Run(at, run_end(line, at)),
+        b if is_name_byte(b) => TokenAt::Run(at, run_end(line, at + 1)),
         b if is_mark(b) => TokenAt::Mark(at),
         _ => TokenAt::Bad(at),
     }
@@ -48,7 +48,7 @@ fn blanks_end(line: &[u8], from: usize) -> usize
     at
 }
 
-// Where the run of name bytes ends that begins at a place.
+// Where a run of name bytes ends that goes on at a place, if it does.
 fn run_end(line: &[u8], from: usize) -> usize
     ensures { result ≡ run_end line.now from }
 {
