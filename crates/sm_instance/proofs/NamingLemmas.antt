@@ -1,15 +1,14 @@
 -- How the namings grow, and what they say of places.
 use Rattle.std.proofs.Common.{Vec, Global, MatchOption, ◌≡◌, ◌≢◌, ℕ, ◌+◌, ◌<◌, ◌≤◌, List, [], ◌∷◌, ◌++◌, Option, Some, None, length, get_or, set, refl, sym, ap, subst, ◌∙◌, arith, ⊎_elim}
 use Rattle.std.proofs.lemmas.Bool.{cases_lt, cases_eq}
-use Rattle.std.proofs.lemmas.Bool.Decides.{nat_tests}
 use Rattle.sm_instance.specs.Vectors.{namings_of}
 use Rattle.std.proofs.lemmas.List.{get_or-map, length-map, get_or_append_left, get_or_push, length_push, length-set, get_or-set_same, get_or-set_other}
-use Rattle.sm_instance.specs.Written.{AgentData, row, entry, place_of}
+use Rattle.sm_instance.specs.Written.{AgentData, row, entry}
 use Rattle.sm_instance.specs.Sound.{AreSoundEntries}
 use Rattle.sm_instance.specs.Kept.{no_naming, naming_at, IsNamed, AreNamingsOf, AreNamings, cross_place}
 use Rattle.sm_instance.specs.declared.namings.Naming.{Naming}
 use Rattle.sm_instance.proofs.ListLemmas.{push_cases, row_in_range}
-use Rattle.sm_instance.proofs.PlaceLemmas.{place_of-entry, place_of-none}
+use Rattle.sm_instance.proofs.PlaceLemmas.{place_found, place_missing}
 
 -- an entry that names another agent
 other_named : {agents : List AgentData} {p k r : ℕ} {all : List Naming} → AreNamingsOf agents p k r all → entry agents p k ≢ r → AreNamingsOf agents p (k + 1) r all
@@ -117,21 +116,17 @@ none_named agents others all count empty =
           });
     }
 
--- the place of whom b names, and of whom it doesn't
-pub place_found : {agents : List AgentData} {others a : ℕ} {all : List Naming} → AreSoundEntries agents others → AreNamingsOf agents (length agents) 0 a all → (b i : ℕ) → IsNamed all b i
+-- the place of whom b names
+pub naming_found : {agents : List AgentData} {others a : ℕ} {all : List Naming} → AreSoundEntries agents others → AreNamingsOf agents (length agents) 0 a all → (b i : ℕ) → IsNamed all b i
     → Some i ≡ cross_place agents b a
-place_found {agents} {others} {a} {all} sound n b i w =
+naming_found {agents} {others} {a} {all} sound n b i w =
     let on : i < length (row agents b) = let l = n.on_list w.at w.there in let P : ℕ → ℕ → Type 0 = λ q j. j < length (row agents q) in subst (P b) w.place (let Q : ℕ → Type 0 = λ q. P q (naming_at all w.at).place in subst Q w.by l) in
     let there : entry agents b i ≡ a = let l = n.names w.at w.there in let P : ℕ → ℕ → Type 0 = λ q j. entry agents q j ≡ a in subst (P b) w.place (let Q : ℕ → Type 0 = λ q. P q (naming_at all w.at).place in subst Q w.by l) in
-    let place : place_of agents b a ≡ i = place_of-entry sound b a i on there in
-    grind (arith, nat_tests)
+    place_found sound b a i on there
 
-pub place_missing : {agents : List AgentData} {a : ℕ} {all : List Naming} → AreNamingsOf agents (length agents) 0 a all → (b : ℕ) → ((e : ℕ) → e < length all → (naming_at all e).by ≢ b)
-    → let none : Option ℕ = None in none ≡ cross_place agents b a
-place_missing {agents} {a} {all} n b unnamed =
-    let place : place_of agents b a ≡ length (row agents b) =
-    place_of-none agents b a (λ i on is. let w = n.earlier_named b i (row_in_range agents b i on) on is in unnamed w.at w.there w.by) in
-    grind (arith, nat_tests)
+-- whoever names an agent is there
+pub named_in_range : {agents : List AgentData} {p k r : ℕ} {all : List Naming} → AreNamingsOf agents p k r all → (e : ℕ) → e < length all → (naming_at all e).by < length agents
+named_in_range {agents} {all = all} n e lt = row_in_range agents (naming_at all e).by (naming_at all e).place (n.on_list e lt)
 
 -- the namings of the agent at an index of a slice
 pub namings_here : {agents : List AgentData} {others : ℕ} (all : List (Vec Naming Global)) (a : ℕ) (vector : Vec Naming Global) (items : List Naming) → AreNamings agents others (length agents) 0 (namings_of all) → a < others
@@ -144,5 +139,5 @@ namings_here {agents} {others} all a vector items n lt is same =
 -- the answer of a search
 pub place_answer : {agents : List AgentData} {others a : ℕ} {all : List Naming} → AreSoundEntries agents others → AreNamingsOf agents (length agents) 0 a all → (b : ℕ) (o : Option ℕ)
     → MatchOption o ((e : ℕ) → e < length all → (naming_at all e).by ≢ b) (λ i. IsNamed all b i) → o ≡ cross_place agents b a
-place_answer sound n b None h = place_missing n b h
-place_answer sound n b (Some i) h = place_found sound n b i h
+place_answer {agents} {a = a} sound n b None h = place_missing agents b a (λ i on is. let w = n.earlier_named b i (row_in_range agents b i on) on is in h w.at w.there w.by)
+place_answer sound n b (Some i) h = naming_found sound n b i h

@@ -1,5 +1,5 @@
 -- What is kept beside an instance, so that the calls on it take no memory.
-use Rattle.std.specs.Prelude.{◌≡◌, ℕ, ◌+◌, ◌<◌, ◌≤◌, ◌==◌, List, [], length, map, slice_index_or, Option, Some, None, if◌then◌else◌, nat_lt}
+use Rattle.std.specs.Prelude.{◌≡◌, ℕ, ◌+◌, ◌<◌, ◌≤◌, ◌==◌, List, [], length, map, replicate, slice_index, slice_index_or, slice_set, Option, Some, None, if◌then◌else◌, nat_lt}
 use Rattle.sm_instance.specs.Written.{AgentData, Written, row, entry, place_of, names_of, weighed}
 use Rattle.sm_instance.specs.Sound.{IsInstance, ArePersons}
 use Rattle.sm_instance.specs.declared.namings.Naming.{Naming}
@@ -18,6 +18,15 @@ pub record AreCrossPlacesOf (agents others : List AgentData) (a : ℕ) (crosses 
 pub record AreCrossPlaces (agents others : List AgentData) (crosses : List (List (Option ℕ))) : Type 0 where
   pub one_each : length crosses ≡ length agents
   pub of : (a : ℕ) → a < length agents → AreCrossPlacesOf agents others a (slice_index_or crosses a [])
+
+-- no cross place yet, beside each entry of the agents' lists
+abbrev pub no_crosses_of : List AgentData → List (List (Option ℕ))
+no_crosses_of agents = map (λ agent. replicate (length agent.entries) None) agents
+
+-- a list's cross places once that at a place is known to be i, if there is a place
+abbrev pub with_back : List (Option ℕ) → Option ℕ → ℕ → List (Option ℕ)
+with_back crosses None i = crosses
+with_back crosses (Some j) i = slice_set crosses j (Some i)
 
 -- what stands for a naming past the last
 abbrev pub no_naming : Naming
@@ -52,20 +61,21 @@ pub record AreNamings (agents : List AgentData) (others p k : ℕ) (namings : Li
 abbrev pub no_note : Note
 no_note = record { stamp = 0; place = 0 }
 
--- the note of b
+-- the note of p
 abbrev pub note_of : List Note → ℕ → Note
-note_of notes b = slice_index_or notes b no_note
+note_of notes p = slice_index_or notes p no_note
 
 -- the place that was noted in the turn with a stamp
 abbrev pub noted_in : Note → ℕ → Option ℕ
 noted_in note stamp = if note.stamp == stamp then Some note.place else None
 
--- whoever makes one of the first n namings is noted in a's turn, with the place of one of its namings, and nobody else is
+-- whoever stands on the first n places of a list is noted in r's turn, with a place where it stands, and nobody else is
 -- noted in that turn, or in a later one
-pub record AreNotesOf (namings : List Naming) (n a : ℕ) (notes : List Note) : Type 0 where
-  pub latest : (b : ℕ) → (note_of notes b).stamp ≤ a + 1
-  pub noted : (e : ℕ) → e < n → (note_of notes (naming_at namings e).by).stamp ≡ a + 1
-  pub named : (b : ℕ) → (note_of notes b).stamp ≡ a + 1 → IsNamed namings b (note_of notes b).place
+pub record AreNotesOf (list : List ℕ) (n r : ℕ) (notes : List Note) : Type 0 where
+  pub latest : (p : ℕ) → (note_of notes p).stamp ≤ r + 1
+  pub noted : (j : ℕ) → j < n → (note_of notes (slice_index list j)).stamp ≡ r + 1
+  pub on_list : (p : ℕ) → (note_of notes p).stamp ≡ r + 1 → (note_of notes p).place < n
+  pub there : (p : ℕ) → (note_of notes p).stamp ≡ r + 1 → slice_index list (note_of notes p).place ≡ p
 
 -- what is kept beside an instance: the cross places of both sides, who names each reviewer, the names of both sides and the pairs with
 -- a weight

@@ -64,7 +64,10 @@ impl Instance {
             first = sooner(first, self.first_blocking_at(a, r));
         }
         match first {
-            Some(naming) => Some((naming.by, self.reviewer_at(naming.by, naming.place))),
+            Some(naming) => {
+                let p = u32::from(naming.by);
+                Some((p, self.reviewer_at(p, u32::from(naming.place))))
+            }
             None => None,
         }
     }
@@ -81,7 +84,7 @@ impl Instance {
         let namings = self.namings_of(r);
         for e in 0..namings.len() {
             let naming = namings[e];
-            if self.blocks_at(a, naming.by, naming.place, limit) {
+            if self.blocks_at(a, u32::from(naming.by), u32::from(naming.place), limit) {
                 return Some(naming);
             }
         }

@@ -1,15 +1,15 @@
-//! Cross places as they are kept, in four bytes each.
+//! Cross places as they are kept, in two bytes each.
 
 ghost use Rattle.std.specs.Prelude.{◌≡◌, ◌<◌, IfSome};
 
 use std::marker::Model;
 
-/// The place of a list's owner on the list of an agent that it names, or none where it isn't on it. Half as large as an
-/// `Option<u32>`.
+/// The place of a list's owner on the list of an agent that it names, or none where it isn't on it, so that the entry is
+/// inert. A quarter as large as an `Option<u32>`.
 #[derive(Clone, Copy)]
-pub(crate) struct Cross {
+pub struct Cross {
     /// One more than the place; 0 where there is none.
-    past: u32,
+    past: u16,
 }
 
 impl Model for Cross {
@@ -28,19 +28,21 @@ impl Model for Cross {
 impl Cross {
     /// Keeps a place.
     pub(crate) fn of(place: Option<u32>) -> Cross
-        requires { IfSome place (λ place. place < 524288) }
+        requires { IfSome place (λ place. place < 4096) }
         ensures { result ≡ place }
     {
         match place {
-            Some(place) => Cross { past: place + 1 },
+            Some(place) => Cross {
+                past: place as u16 + 1,
+            },
             None => Cross { past: 0 },
         }
     }
 
-    /// The place.
-    pub(crate) fn place(self) -> Option<u32>
+    /// The place, counted from 0.
+    pub fn place(self) -> Option<u32>
         ensures { result ≡ self }
     {
-        self.past.checked_sub(1)
+        u32::from(self.past).checked_sub(1)
     }
 }

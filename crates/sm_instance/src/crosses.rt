@@ -1,10 +1,11 @@
 //! Where each agent stands on the lists of those whom it lists.
 //!
-//! Each agent's list is walked with its namings noted by who names it.
+//! Each reviewer has a turn, in which all places of its list are noted by who stands there. Then each naming of the reviewer
+//! tells the cross place of the entry that makes it, and that of the reviewer's entry that returns it.
 
-ghost use Rattle.std.specs.Prelude.{◌≡◌, ℕ, ◌+◌, ◌≤◌, ◌<◌, ◌^◌, length, slice_index, slice_index_or, IfOk, IfSome, None};
-ghost use Rattle.sm_instance.specs.Sound.{entries_of, IsWithinLimits, AreSoundEntries};
-ghost use Rattle.sm_instance.specs.Kept.{AreNamings, AreCrossPlaces, naming_at, note_of, noted_in, AreNotesOf};
+ghost use Rattle.std.specs.Prelude.{◌≡◌, ℕ, ◌≤◌, ◌<◌, [], length, slice_index, slice_index_or, slice_set, IfOk, IfSome};
+ghost use Rattle.sm_instance.specs.Sound.{IsWithinLimits, AreSoundEntries};
+ghost use Rattle.sm_instance.specs.Kept.{AreNamings, AreCrossPlaces, no_crosses_of, with_back, note_of, noted_in, AreNotesOf};
 ghost use Rattle.sm_instance.specs.Vectors.{agents_of, crosses_of, namings_of};
 
 use crate::agents::{Agent, list_at};
@@ -12,21 +13,21 @@ use crate::cross::Cross;
 use crate::namings::{Naming, namings};
 use std::alloc::{AllocError, Global};
 
-/// The place at which an agent of the other side names the agent whose turn it is; of an earlier turn where the stamp
-/// differs. Turns count from 1.
+/// The place of a proposer on the list of the reviewer whose turn it is; of an earlier turn where the stamp differs. Turns
+/// count from 1.
 #[derive(Clone, Copy)]
 struct Note {
-    stamp: u32,
-    place: u32,
+    stamp: u16,
+    place: u16,
 }
 
 impl Note {
     /// The place, if it was noted in the turn with this stamp.
-    fn place_in(self, stamp: u32) -> Option<u32>
+    fn place_in(self, stamp: u16) -> Option<u32>
         ensures { result ≡ noted_in self stamp }
     {
         if self.stamp == stamp {
-            Some(self.place)
+            Some(u32::from(self.place))
         } else {
             None
         }
@@ -49,85 +50,73 @@ pub(crate) fn crossings(
     ensures namings { IfOk result (λ c. AreNamings (agents_of proposers.now) (length (agents_of reviewers.now))
         (length (agents_of proposers.now)) 0 (namings_of c.2.items)) }
 {
-    let proposer_crosses = side_crosses(alloc, proposers, reviewers)?;
     let of_reviewers = namings(alloc, proposers, reviewers)?;
-    let reviewer_crosses = crosses(alloc, reviewers, proposers, &of_reviewers)?;
+    let mut proposer_crosses = no_crosses(alloc, proposers)?;
+    let mut reviewer_crosses = Vec::with_capacity(alloc, reviewers.len())?;
+    let mut notes = vec![in alloc; Note { stamp: 0, place: 0 }; proposers.len()]?;
+    let notes = notes.as_mut_slice();
+    for r in 0..reviewers.len() as u32 {
+        let list = list_at(reviewers, r);
+        note_list(list, r, notes);
+        let mut crosses = vec![in alloc; Cross::of(None); list.len()]?;
+        for naming in &of_reviewers[r as usize] {
+            let place = notes[naming.by as usize].place_in(r as u16 + 1);
+            write_crosses(*naming, place, &mut proposer_crosses, &mut crosses);
+        }
+        reviewer_crosses.push(crosses)?;
+    }
     Ok((proposer_crosses, reviewer_crosses, of_reviewers))
 }
 
-/// The cross places of one side's lists. The namings that this takes are dropped before it returns.
-fn side_crosses(
-    alloc: Global,
-    agents: &[Agent],
-    others: &[Agent],
-) -> Result<Vec<Vec<Cross>>, AllocError>
-    requires agents { length agents.now ≤ 4096 }
-    requires others { length others.now ≤ 4096 }
-    requires entries { entries_of (agents_of others.now) ≤ 524288 }
-    requires in_range { AreSoundEntries (agents_of agents.now) (length (agents_of others.now)) }
-    requires sound { AreSoundEntries (agents_of others.now) (length agents.now) }
-    ensures { IfOk result (λ c. AreCrossPlaces (agents_of agents.now) (agents_of others.now) (crosses_of c.items)) }
+/// No cross place yet, beside each entry of these agents' lists.
+fn no_crosses(alloc: Global, agents: &[Agent]) -> Result<Vec<Vec<Cross>>, AllocError>
+    ensures { IfOk result (λ c. crosses_of c.items ≡ no_crosses_of (agents_of agents.now)) }
 {
-    let namings = namings(alloc, others, agents)?;
-    crosses(alloc, agents, others, &namings)
-}
-
-/// For each place of each list of one side, the place of the list's owner on the list of the agent that is named there,
-/// by who of the other side names each owner.
-fn crosses(
-    alloc: Global,
-    agents: &[Agent],
-    others: &[Agent],
-    namings: &[Vec<Naming>],
-) -> Result<Vec<Vec<Cross>>, AllocError>
-    requires few { length agents.now ≤ 4096 }
-    requires entries { entries_of (agents_of others.now) ≤ 524288 }
-    requires in_range { AreSoundEntries (agents_of agents.now) (length (agents_of others.now)) }
-    requires sound { AreSoundEntries (agents_of others.now) (length agents.now) }
-    requires namings { AreNamings (agents_of others.now) (length agents.now) (length (agents_of others.now)) 0
-        (namings_of namings.now) }
-    ensures { IfOk result (λ c. AreCrossPlaces (agents_of agents.now) (agents_of others.now) (crosses_of c.items)) }
-{
-    let mut notes = vec![in alloc; Note { stamp: 0, place: 0 }; others.len()]?;
     let mut crosses = Vec::with_capacity(alloc, agents.len())?;
-    let notes = notes.as_mut_slice();
-    for a in 0..agents.len() as u32 {
-        note_namings(&namings[a as usize], a, notes);
-        crosses.push(crosses_of(alloc, list_at(agents, a), a, notes)?)?;
+    for agent in agents {
+        crosses.push(vec![in alloc; Cross::of(None); agent.entries.len()]?)?;
     }
     Ok(crosses)
 }
 
-/// Notes, in the turn of `a`, whoever makes one of the namings of `a`, with the place.
-fn note_namings(namings: &[Naming], a: u32, notes: &mut [Note])
-    requires small { a < 2 ^ 24 }
-    requires in_range { (e : ℕ) → e < length namings.now → (naming_at namings.now e).by < length notes.old }
-    requires earlier { (b : ℕ) → (note_of notes.old b).stamp ≤ a }
+/// Notes, in the turn of `r`, where each agent stands on its list.
+fn note_list(list: &[u32], r: u32, notes: &mut [Note])
+    requires small { r < 4096 }
+    requires fits { length list.now ≤ 4096 }
+    requires in_range { (j : ℕ) → j < length list.now → slice_index list.now j < length notes.old }
+    requires earlier { (p : ℕ) → (note_of notes.old p).stamp ≤ r }
     ensures one_each { length notes.new ≡ length notes.old }
-    ensures noted { AreNotesOf namings.now (length namings.now) a notes.new }
+    ensures noted { AreNotesOf list.now (length list.now) r notes.new }
 {
-    let stamp = a + 1;
-    for naming in namings {
-        notes[naming.by as usize] = Note {
+    let stamp = r as u16 + 1;
+    for place in 0..list.len() as u32 {
+        notes[list[place as usize] as usize] = Note {
             stamp,
-            place: naming.place,
+            place: place as u16,
         };
     }
 }
 
-/// The places that are noted, in the turn of `a`, of those whom its list names.
-fn crosses_of(alloc: Global, list: &[u32], a: u32, notes: &[Note]) -> Result<Vec<Cross>, AllocError>
-    requires small { a < 2 ^ 24 }
-    requires in_range { (i : ℕ) → i < length list.now → slice_index list.now i < length notes.now }
-    requires fits { (b : ℕ) → IfSome (noted_in (note_of notes.now b) (a + 1)) (λ place. place < 524288) }
-    ensures as_long { IfOk result (λ c. length c.items ≡ length list.now) }
-    ensures places { IfOk result (λ c. (i : ℕ) → i < length list.now
-        → slice_index_or c.items i None ≡ noted_in (note_of notes.now (slice_index list.now i)) (a + 1)) }
+/// Writes what a naming tells, where `place` is that of the proposer on the list of the reviewer that it names, if it is
+/// on it: the cross place of the proposer's entry, and that of the reviewer's own entry.
+#[tactic(auto, using(crate::proofs::NoteLemmas::cross_written))]
+fn write_crosses(
+    naming: Naming,
+    place: Option<u32>,
+    proposer_crosses: &mut [Vec<Cross>],
+    crosses: &mut [Cross],
+)
+    requires by { naming.by < length proposer_crosses.old }
+    requires on_list { naming.place < length (slice_index_or (crosses_of proposer_crosses.old) naming.by []) }
+    requires fits { naming.place < 4096 }
+    requires back { IfSome place (λ j. j < length crosses.old) }
+    requires short { length crosses.old ≤ 4096 }
+    ensures proposer { crosses_of proposer_crosses.new ≡ slice_set (crosses_of proposer_crosses.old) naming.by
+        (slice_set (slice_index_or (crosses_of proposer_crosses.old) naming.by []) naming.place place) }
+    ensures reviewer { crosses.new ≡ with_back crosses.old place naming.place }
 {
-    let stamp = a + 1;
-    let mut crosses = Vec::with_capacity(alloc, list.len())?;
-    'list: for b in list {
-        crosses.push(Cross::of(notes[*b as usize].place_in(stamp)))?;
+    proposer_crosses[naming.by as usize][naming.place as usize] = Cross::of(place);
+    if let Some(place) = place {
+        crosses[place as usize] = Cross::of(Some(u32::from(naming.place)));
     }
-    Ok(crosses)
 }

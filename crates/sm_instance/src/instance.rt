@@ -6,7 +6,7 @@ ghost use Rattle.std.specs.Int.RustNames.{unsigned_abs};
 ghost use Rattle.sm_instance.specs.Written.{row, entry, names_of, capacity_of, IsAcceptable, given_weight};
 ghost use Rattle.sm_instance.specs.Vectors.{agents_of, written_of};
 ghost use Rattle.sm_instance.specs.Sound.{IsInstance};
-ghost use Rattle.sm_instance.specs.Kept.{cross_place, AreNamingsOf};
+ghost use Rattle.sm_instance.specs.Kept.{cross_place, AreCrossPlacesOf, AreNamingsOf};
 
 use crate::agents::{Agent, capacity_at, list_at};
 use crate::checks::checked;
@@ -62,8 +62,7 @@ impl Instance {
     ///
     /// The kind has to be one with two sides, and there have to be fewer than 2^24 weights, forced and forbidden pairs
     /// together. Each pair has the proposer first. What is given is moved into the instance, and is dropped where it
-    /// makes none. Takes time in proportion to the agents, the items and, but for a logarithm, the entries, and memory
-    /// in proportion to all.
+    /// makes none. Takes time and memory in proportion to the agents, the entries and the items.
     ///
     /// # Errors
     ///
@@ -198,14 +197,20 @@ impl Instance {
         list_at(&self.proposers, p)[place as usize]
     }
 
-    /// The proposer at a place of a reviewer's list.
-    pub fn proposer_at(&self, r: u32, place: u32) -> u32
-        requires in_range { r < length self.now.reviewers }
-        requires on_list { place < length (row self.now.reviewers r) }
-        ensures named { result ≡ entry self.now.reviewers r place }
-        ensures in_range { result < length self.now.proposers }
+    /// Whom a proposer lists, best first.
+    pub fn proposer_list(&self, p: u32) -> &[u32]
+        requires { p < length self.now.proposers }
+        ensures { result.now ≡ row self.now.proposers p }
     {
-        list_at(&self.reviewers, r)[place as usize]
+        list_at(&self.proposers, p)
+    }
+
+    /// Whom a reviewer lists, best first.
+    pub fn reviewer_list(&self, r: u32) -> &[u32]
+        requires { r < length self.now.reviewers }
+        ensures { result.now ≡ row self.now.reviewers r }
+    {
+        list_at(&self.reviewers, r)
     }
 
     /// How many proposers a reviewer may have.
@@ -229,14 +234,20 @@ impl Instance {
         self.kept_cross(p, place)
     }
 
-    /// The place of reviewer `r` on the list of the proposer at `place` of `r`'s list; `None` where it isn't on it, so
-    /// that the entry is inert. Takes the same time for all.
-    pub fn reviewer_cross(&self, r: u32, place: u32) -> Option<u32>
-        requires in_range { r < length self.now.reviewers }
-        requires on_list { place < length (row self.now.reviewers r) }
-        ensures { result ≡ cross_place self.now.proposers (entry self.now.reviewers r place) r }
+    /// For each place of a proposer's list, the proposer's place on the list of the reviewer there.
+    pub fn proposer_crosses(&self, p: u32) -> &[Cross]
+        requires { p < length self.now.proposers }
+        ensures { AreCrossPlacesOf self.now.proposers self.now.reviewers p result.now }
     {
-        self.reviewer_crosses[r as usize][place as usize].place()
+        &self.crosses[p as usize]
+    }
+
+    /// For each place of a reviewer's list, the reviewer's place on the list of the proposer there.
+    pub fn reviewer_crosses(&self, r: u32) -> &[Cross]
+        requires { r < length self.now.reviewers }
+        ensures { AreCrossPlacesOf self.now.reviewers self.now.proposers r result.now }
+    {
+        &self.reviewer_crosses[r as usize]
     }
 
     /// The cross place that is kept.

@@ -27,6 +27,7 @@ mod persons;
 mod ranks;
 
 pub use agents::{Agent, Assignment};
+pub use cross::Cross;
 pub use faults::InstanceFault;
 pub use inputs::Input;
 pub use instance::Instance;

@@ -8,14 +8,15 @@ ghost use Rattle.sm_instance.specs.Loads.{IsFirstOf, IsUnacceptable, IsOverfull,
 
 use crate::agents::Assignment;
 use crate::instance::Instance;
+use crate::namings::Naming;
 
-/// Does a proposer hold this place?
-pub(crate) fn holds(a: &Assignment, p: u32, place: u32) -> bool
-    requires { p < length a.now.places.items }
-    ensures { IsTrue result ↔ (held a.now.places.items p ≡ Some place) }
+/// Does a proposer hold the place at which it names a reviewer?
+pub(crate) fn holds(a: &Assignment, naming: Naming) -> bool
+    requires { naming.by < length a.now.places.items }
+    ensures { IsTrue result ↔ (held a.now.places.items naming.by ≡ Some naming.place) }
 {
-    match a.places[p as usize] {
-        Some(held) => held == place,
+    match a.places[naming.by as usize] {
+        Some(held) => held == u32::from(naming.place),
         None => false,
     }
 }
@@ -102,9 +103,9 @@ impl Instance {
         let namings = self.namings_of(r);
         for e in 0..namings.len() {
             let naming = namings[e];
-            if holds(a, naming.by, naming.place) {
+            if holds(a, naming) {
                 if load == capacity {
-                    return Some(naming.by);
+                    return Some(u32::from(naming.by));
                 }
                 load += 1;
             }
@@ -122,7 +123,7 @@ impl Instance {
         let namings = self.namings_of(r);
         for e in 0..namings.len() {
             let naming = namings[e];
-            if holds(a, naming.by, naming.place) {
+            if holds(a, naming) {
                 load += 1;
             }
         }
@@ -139,8 +140,8 @@ impl Instance {
         let namings = self.namings_of(r);
         for e in 0..namings.len() {
             let naming = namings[e];
-            if holds(a, naming.by, naming.place) {
-                if let Some(place) = self.cross(naming.by, naming.place) {
+            if holds(a, naming) {
+                if let Some(place) = self.cross(u32::from(naming.by), u32::from(naming.place)) {
                     worst = worst.max(place);
                 }
             }

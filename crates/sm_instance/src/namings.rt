@@ -1,18 +1,18 @@
 //! Who names each agent, and where: the lists of one side turned over.
 
 ghost use Rattle.std.specs.Prelude.{◌≡◌, ◌≢◌, ℕ, ◌+◌, ◌<◌, ◌≤◌, ◌++◌, ◌∷◌, [], length, slice_index_or, slice_set, IfOk, OnOk, MatchOption};
-ghost use Rattle.sm_instance.specs.Sound.{entries_of, AreSoundEntries};
+ghost use Rattle.sm_instance.specs.Sound.{AreSoundEntries};
 ghost use Rattle.sm_instance.specs.Kept.{AreNamings, IsNamed, naming_at};
 ghost use Rattle.sm_instance.specs.Vectors.{agents_of, namings_of};
 
 use crate::agents::{Agent, list_at};
 use std::alloc::{AllocError, Global};
 
-/// That an agent of the other side names a certain agent, at a place of its list.
+/// That an agent of the other side names a certain agent, at a place of its list: in four bytes, since both are small.
 #[derive(Clone, Copy)]
 pub(crate) struct Naming {
-    pub(crate) by: u32,
-    pub(crate) place: u32,
+    pub(crate) by: u16,
+    pub(crate) place: u16,
 }
 
 /// Who names each of the agents of the other side, `others`, by number.
@@ -22,7 +22,7 @@ pub(crate) fn namings(
     others: &[Agent],
 ) -> Result<Vec<Vec<Naming>>, AllocError>
     requires agents { length agents.now ≤ 4096 }
-    requires entries { entries_of (agents_of agents.now) ≤ 524288 }
+    requires others { length others.now ≤ 4096 }
     requires sound { AreSoundEntries (agents_of agents.now) (length others.now) }
     ensures { IfOk result (λ n. AreNamings (agents_of agents.now) (length others.now)
         (length (agents_of agents.now)) 0 (namings_of n.items)) }
@@ -50,7 +50,7 @@ fn empty_lists(alloc: Global, agents: &[Agent]) -> Result<Vec<Vec<Naming>>, Allo
 /// Adds the namings of one list.
 fn add_namings(namings: &mut [Vec<Naming>], by: u32, agents: &[Agent]) -> Result<(), AllocError>
     requires agents { length agents.now ≤ 4096 }
-    requires entries { entries_of (agents_of agents.now) ≤ 524288 }
+    requires others { length namings.old ≤ 4096 }
     requires in_range { by < length agents.now }
     requires sound { AreSoundEntries (agents_of agents.now) (length namings.old) }
     requires before { AreNamings (agents_of agents.now) (length namings.old) by 0 (namings_of namings.old) }
@@ -59,7 +59,11 @@ fn add_namings(namings: &mut [Vec<Naming>], by: u32, agents: &[Agent]) -> Result
 {
     let list = list_at(agents, by);
     for place in 0..list.len() as u32 {
-        add(namings, list[place as usize], Naming { by, place })?;
+        let naming = Naming {
+            by: by as u16,
+            place: place as u16,
+        };
+        add(namings, list[place as usize], naming)?;
     }
     Ok(())
 }
@@ -87,10 +91,11 @@ pub(crate) fn place_by(namings: &[Naming], by: u32) -> Option<u32>
     while low < high {
         let middle = low + (high - low) / 2;
         let naming = namings[middle];
-        if naming.by == by {
-            return Some(naming.place);
+        let found = u32::from(naming.by);
+        if found == by {
+            return Some(u32::from(naming.place));
         }
-        if naming.by < by {
+        if found < by {
             low = middle + 1;
         } else {
             high = middle;

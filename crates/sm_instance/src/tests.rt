@@ -3,7 +3,9 @@
 ghost use Rattle.std.specs.Prelude.{◌≡◌, ◌<◌, length, IfOk};
 ghost use Rattle.sm_instance.specs.Matching.{IsMatching};
 
-use crate::{Agent, Assignment, Input, Instance, InstanceFault, Kind, Measure, Persons, Side};
+use crate::{
+    Agent, Assignment, Cross, Input, Instance, InstanceFault, Kind, Measure, Persons, Side,
+};
 use std::alloc::{AllocError, Global};
 use std::process::Abort;
 use std::test::Fail;
@@ -197,6 +199,16 @@ fn accepts(rt: &impl Abort, instance: &Instance, p: u32, r: u32, accepts: bool) 
     assert!(rt; instance.acceptable(p, r) == accepts);
 }
 
+// Makes sure who stands on a list, and where the list's owner stands on theirs.
+fn crosses(rt: &impl Abort, list: &[u32], crosses: &[Cross], wanted: &[(u32, Option<u32>)]) {
+    assert!(rt; list.len() == wanted.len());
+    assert!(rt; crosses.len() == wanted.len());
+    for place in 0..wanted.len() {
+        assert!(rt; list[place] == wanted[place].0);
+        assert!(rt; crosses[place].place() == wanted[place].1);
+    }
+}
+
 // `m1` lists `x`, who doesn't list it back, before `a`.
 fn inert_entry(alloc: Global) -> Result<Instance, InstanceFault> {
     let proposers = side(alloc, &["m1", "m2"], &[&[0, 1], &[1]])?;
@@ -209,6 +221,18 @@ fn inert_entries_keep_their_places(rt: HostRuntime) -> Result<(), Fail> {
     let instance = inert_entry(rt.alloc())?;
     accepts(&rt, &instance, 0, 0, false);
     accepts(&rt, &instance, 0, 1, true);
+    crosses(
+        &rt,
+        instance.proposer_list(0),
+        instance.proposer_crosses(0),
+        &[(0, None), (1, Some(1))],
+    );
+    crosses(
+        &rt,
+        instance.reviewer_list(1),
+        instance.reviewer_crosses(1),
+        &[(1, Some(0)), (0, Some(1))],
+    );
     has_ranks(&rt, &instance, &[None, Some(0)], [3, 1])?;
     is_blocked(&rt, &instance, &[None, Some(0)], None)?;
     breaks(&rt, &instance, &[Some(0), Some(0)], Some(0))?;

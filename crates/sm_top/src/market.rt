@@ -1,13 +1,15 @@
 //! The market of a marriage.
 
-ghost use Rattle.std.specs.Prelude.{◌≡◌, ◌<◌, ◌≢◌, length, IfOk};
+ghost use Rattle.std.specs.Prelude.{◌≡◌, ℕ, List, length, IfOk};
+ghost use Rattle.sm_instance.specs.Written.{AgentData, row};
 ghost use Rattle.sm_instance.specs.Sound.{IsInstance};
+ghost use Rattle.sm_instance.specs.Kept.{AreCrossPlacesOf};
 ghost use Rattle.sm_market.specs.Lists.{IsMarket};
 ghost use Rattle.sm_market.specs.Limits.{IsWithinLimits};
 ghost use Rattle.sm_market.specs.Vectors.{rows_of, lists_of};
 ghost use Rattle.sm_top.specs.MarriageMarket.{mutual_row, mutual_rows, market_of};
 
-use sm_instance::Instance;
+use sm_instance::{Cross, Instance};
 use sm_market::{Market, MarketFault};
 use std::alloc::{AllocError, Global};
 
@@ -48,24 +50,14 @@ fn mutual_proposers(alloc: Global, instance: &Instance) -> Result<Vec<Vec<u32>>,
 {
     let mut rows = Vec::with_capacity(alloc, instance.proposer_count() as usize)?;
     for p in 0..instance.proposer_count() {
-        rows.push(mutual_proposer(alloc, instance, p)?)?;
+        let row = returned(
+            alloc,
+            instance.proposer_list(p),
+            instance.proposer_crosses(p),
+        )?;
+        rows.push(row)?;
     }
     Ok(rows)
-}
-
-// A proposer's list without inert entries.
-fn mutual_proposer(alloc: Global, instance: &Instance, p: u32) -> Result<Vec<u32>, AllocError>
-    requires { p < length instance.now.proposers }
-    ensures { IfOk result (λ row. row.items ≡ mutual_row instance.now.proposers instance.now.reviewers p) }
-{
-    let len = instance.proposer_len(p);
-    let mut row = Vec::with_capacity(alloc, len as usize)?;
-    for place in 0..len {
-        if instance.cross(p, place).is_some() {
-            row.push(instance.reviewer_at(p, place))?;
-        }
-    }
-    Ok(row)
 }
 
 // The reviewers' lists without inert entries.
@@ -74,22 +66,27 @@ fn mutual_reviewers(alloc: Global, instance: &Instance) -> Result<Vec<Vec<u32>>,
 {
     let mut rows = Vec::with_capacity(alloc, instance.reviewer_count() as usize)?;
     for r in 0..instance.reviewer_count() {
-        rows.push(mutual_reviewer(alloc, instance, r)?)?;
+        let row = returned(
+            alloc,
+            instance.reviewer_list(r),
+            instance.reviewer_crosses(r),
+        )?;
+        rows.push(row)?;
     }
     Ok(rows)
 }
 
-// A reviewer's list without inert entries.
-fn mutual_reviewer(alloc: Global, instance: &Instance, r: u32) -> Result<Vec<u32>, AllocError>
-    requires { r < length instance.now.reviewers }
-    ensures { IfOk result (λ row. row.items ≡ mutual_row instance.now.reviewers instance.now.proposers r) }
+// The entries of an agent's list that aren't inert, by its cross places.
+fn returned(alloc: Global, list: &[u32], crosses: &[Cross]) -> Result<Vec<u32>, AllocError>
+    requires { length crosses.now ≡ length list.now }
+    ensures { IfOk result (λ kept. (agents others : List AgentData) (a : ℕ) → list.now ≡ row agents a
+        → AreCrossPlacesOf agents others a crosses.now → kept.items ≡ mutual_row agents others a) }
 {
-    let len = instance.reviewer_len(r);
-    let mut row = Vec::with_capacity(alloc, len as usize)?;
-    for place in 0..len {
-        if instance.reviewer_cross(r, place).is_some() {
-            row.push(instance.proposer_at(r, place))?;
+    let mut kept = Vec::with_capacity(alloc, list.len())?;
+    for place in 0..list.len() {
+        if crosses[place].place().is_some() {
+            kept.push(list[place])?;
         }
     }
-    Ok(row)
+    Ok(kept)
 }

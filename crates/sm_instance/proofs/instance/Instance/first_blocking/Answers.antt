@@ -1,6 +1,5 @@
 use Rattle.std.proofs.Common.{◌≡◌, ℕ, ◌+◌, Option, Some, length, arith, subst, sym}
 use Rattle.sm_instance.specs.Loads.{IsFirstBelow}
-use Rattle.sm_instance.specs.Stable.{IsFirstBlocking}
 use Rattle.sm_instance.specs.declared.namings.Naming.{Naming}
 use Rattle.sm_instance.proofs.BlockLemmas.{first_more, first_end}
 use Rattle.sm_instance.proofs.instance.Instance.first_blocking.Goals as goal
@@ -21,5 +20,4 @@ returns-in-Some c =
     let Q : ℕ → Option Naming → Type 0 = λ k o. IsFirstBelow w places k o in
     let here = subst (Q c.loop-r.r) c.in-Some.is c.loop-r.invariant in
     let whole = subst (λ k. Q k (Some c.in-Some.naming)) all here in
-    let R : ℕ → Type 0 = λ r. IsFirstBlocking w places c.in-Some.naming.by r in
-    subst R (sym c.reviewer_at.ensures.named) (first_end c.reviewer_count-r-end.ensures.instance c.requires.matching (Some c.in-Some.naming) whole)
+    rw (c.reviewer_at.ensures.named, c.from-p.ensures, c.from.ensures) (first_end c.reviewer_count-r-end.ensures.instance c.requires.matching (Some c.in-Some.naming) whole)

@@ -13,7 +13,7 @@ loop-e-init c = record {
 pub returns-then-load-capacity : goal.returns-then-load-capacity
 returns-then-load-capacity c =
     let capacity = c.capacity-capacity.ensures.capacity in
-    overfull_first c.namings_of-namings.ensures.instance c.requires.assignment c.namings_of-namings.ensures.namings c.loop-e.invariant.counted c.loop-e-test.true (c.holds.ensures.0 c.if-holds.true) (omega arith)
+    rw c.from.ensures (overfull_first c.namings_of-namings.ensures.instance c.requires.assignment c.namings_of-namings.ensures.namings c.loop-e.invariant.counted c.loop-e-test.true (c.holds.ensures.0 c.if-holds.true) (omega arith))
 
 pub loop-e-preserved : goal.loop-e-preserved
 loop-e-preserved c =

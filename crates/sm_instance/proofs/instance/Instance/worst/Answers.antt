@@ -15,10 +15,10 @@ loop-e-preserved c =
     let named = c.namings_of-namings.ensures.namings in
     let assigned = c.requires.matching.assigned in
     elim c.if-holds.branch [
-      | then-holds+in-Some w ↦ rw (w.worst-is, w.max-worst.ensures, ord_max-is c.loop-e.worst w.in-Some.place) (worst_more inst assigned named c.loop-e.invariant c.loop-e-test.true (c.holds.ensures.0 w.if-holds.true) w.in-Some.place w.in-Some.ensures.cross)
+      | then-holds+in-Some w ↦ rw (w.worst-is, w.max-worst.ensures, ord_max-is c.loop-e.worst w.in-Some.place) (worst_more inst assigned named c.loop-e.invariant c.loop-e-test.true (c.holds.ensures.0 w.if-holds.true) w.in-Some.place (rw (w.from.ensures, w.from-then-holds.ensures) at w.in-Some.ensures.cross))
       | then-holds+in_default w ↦
           let n = naming_at c.namings_of-namings.result.now c.loop-e.e in
-          absurd (one_sided_at c.args.self.now n.by n.place (sym w.in_default.is ∙ w.cross.ensures.cross) (c.requires.matching.acceptable n.by n.place (c.holds.ensures.0 w.if-holds.true)))
+          absurd (one_sided_at c.args.self.now n.by n.place (sym w.in_default.is ∙ (rw (w.from.ensures, w.from-then-holds.ensures) at w.cross.ensures.cross)) (c.requires.matching.acceptable n.by n.place (c.holds.ensures.0 w.if-holds.true)))
       | else-holds w ↦ rw w.worst-is (worst_skip inst assigned named c.loop-e.invariant (λ h. let t = c.holds.ensures.1 h in let f = w.if-holds.false in cc))
     ]
 
