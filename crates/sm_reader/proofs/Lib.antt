@@ -1,5 +1,7 @@
 pub mod TextLemmas
+pub mod BadLemmas
 pub mod WholeLemmas
+pub mod NameLemmas
 pub mod TableLemmas
 pub mod ListingLemmas
 pub mod DraftLemmas

@@ -1,12 +1,15 @@
 -- Numbers of names, and the first line that names nobody.
-use Rattle.std.proofs.Common.{◌≡◌, ◌≢◌, ℕ, zero, suc, ◌+◌, ◌<◌, ◌≤◌, ◌||◌, Bool, true, false, cond, List, [], ◌∷◌, ◌++◌, length, get_or, take, map, min, filter, Option, Some, None, refl, sym, ap, ◌∙◌, subst, arith, ℤ}
+use Rattle.std.proofs.Common.{◌≡◌, ◌≢◌, ℕ, zero, suc, ◌+◌, ◌<◌, ◌≤◌, ◌||◌, Bool, true, false, cond, List, [], ◌∷◌, ◌++◌, length, get_or, set, take, drop, map, min, filter, Option, Some, None, refl, sym, ap, ◌∙◌, subst, append_assoc, arith, ℤ}
 use Rattle.std.specs.Borrow.{Bor}
 use Rattle.std.specs.List.{list_any}
 use Rattle.std.specs.Option.{option_map_or}
-use Rattle.std.proofs.lemmas.List.{length-map, get_or-map, map_push, map-append, take_more, take_all}
+use Rattle.std.proofs.Math.Seq.{drop-cons, get_or-append_seam, set-append_seam}
+use Rattle.std.proofs.lemmas.List.{length-map, length-take-le, get_or-map, map_push, map-append, take_more, take_all}
 use Rattle.std.proofs.lemmas.List.Elements.{filter-append}
 use Rattle.std.proofs.lemmas.List.Folds.{list_any-append, list_any_at}
+use Rattle.sm_instance.specs.Vectors.{agents_of, written_of}
 use Rattle.sm_instance.specs.Written.{AgentData, Written}
+use Rattle.sm_instance.specs.declared.agents.Agent.{Agent}
 use Rattle.sm_instance.specs.declared.inputs.Input.TheVariants.{Two}
 use Rattle.sm_instance.specs.declared.kinds.Kind.{Kind}
 use Rattle.sm_instance.specs.declared.kinds.Kind.TheVariants.{Marriage, Hospitals, Roommates}
@@ -14,12 +17,13 @@ use Rattle.sm_reader.specs.Said.{SaidPair, SaidWeight, Said, names_of}
 use Rattle.sm_reader.specs.InstanceText.{lines_with_unknown, pairs_with_unknown, least, unknown_lines, listed_by_proposers, numbered, two_sides, input_of}
 use Rattle.sm_reader.specs.Kept.{AreBelow, Table, table_of}
 use Rattle.sm_reader.specs.Draft.{AreAgentsBelow, IsPairBelow, ArePairsBelow, pairs_of, listed_table, agent_in, pair_in, given_in, said_of, IsDraft}
-use Rattle.sm_reader.specs.Numbering.{lesser, line_if, pair_among, weight_among}
+use Rattle.sm_reader.specs.Numbering.{lesser, line_if, pair_among, weight_among, NumbersPersons, NumbersSides}
 use Rattle.sm_reader.specs.declared.draft.Declared.{Declared}
 use Rattle.sm_reader.specs.declared.draft.Pair.{Pair}
 use Rattle.sm_reader.specs.declared.draft.Weight.{Weight}
 use Rattle.sm_reader.specs.declared.draft.Draft.{Draft}
 use Rattle.sm_reader.specs.declared.names.Names.{Names}
+use Rattle.sm_reader.specs.declared.numbering.Numbered.{Numbered}
 
 -- the parts of a front of a list, and one more
 pub front_more : {X Y : Type 0} (f : X → Y) (xs : List X) (i : ℕ) (d : X) → i < length xs → map f (take (i + 1) xs) ≡ map f (take i xs) ++ f (get_or xs i d) ∷ []
@@ -27,6 +31,25 @@ front_more f xs i d inside = ap (map f) (take_more xs i d inside) ∙ map_push f
 
 pub front_all : {X Y : Type 0} (f : X → Y) (xs : List X) (i : ℕ) → length xs ≤ i → map f (take i xs) ≡ map f xs
 front_all f xs i past = ap (map f) (take_all i xs past)
+
+-- a list whose front is replaced, element by element
+pub front_long : {X Y Z : Type 0} (f : Y → Z) (g : X → Y) (xs : List X) (i : ℕ) → i < length xs → length (map f (map g (take i xs))) ≡ i
+front_long f g xs i inside = length-map (map g (take i xs)) f ∙ length-map (take i xs) g ∙ length-take-le i xs (omega arith)
+
+module _ {X : Type 0} (front xs : List X) (i : ℕ) (d : X) (long : length front ≡ i) (inside : i < length xs) where
+  pub replaced_at : get_or (front ++ drop i xs) i d ≡ get_or xs i d
+  replaced_at =
+      ap (λ ys. get_or (front ++ ys) i d) (drop-cons xs i d inside)
+      ∙ ap (λ n. get_or (front ++ get_or xs i d ∷ drop (suc i) xs) n d) (sym long)
+      ∙ get_or-append_seam front (get_or xs i d) (drop (suc i) xs) d
+
+  pub replaced_more : (y : X) → set (front ++ drop i xs) i y ≡ (front ++ y ∷ []) ++ drop (i + 1) xs
+  replaced_more y =
+      ap (λ ys. set (front ++ ys) i y) (drop-cons xs i d inside)
+      ∙ ap (λ n. set (front ++ get_or xs i d ∷ drop (suc i) xs) n y) (sym long)
+      ∙ set-append_seam front (get_or xs i d) (drop (suc i) xs) y
+      ∙ sym (append_assoc front (y ∷ []) (drop (suc i) xs))
+      ∙ ap (λ n. (front ++ y ∷ []) ++ drop n xs) (let e : suc i ≡ i + 1 = omega arith in e)
 
 -- a test of the names of indexes
 module _ (p : List ℕ → Bool) (t : ℕ → List ℕ) (ids : List ℕ) where
@@ -74,6 +97,10 @@ pub agents_below_at : (n : ℕ) (agents : List Declared) (i : ℕ) (a : Declared
 agents_below_at n [] i a inside below here = absurd (omega arith)
 agents_below_at n (b ∷ agents) zero a inside below here = subst (λ (x : Declared). AreBelow n x.entries.items) (sym here) inside.0
 agents_below_at n (b ∷ agents) (suc i) a inside below here = agents_below_at n agents i a inside.1 (omega arith) here
+
+pub agents_below_next : (n : ℕ) (before : List Declared) (a : Declared) (behind : List Declared) → AreAgentsBelow n (before ++ a ∷ behind) → AreBelow n a.entries.items
+agents_below_next n [] a behind inside = inside.0
+agents_below_next n (b ∷ before) a behind inside = agents_below_next n before a behind inside.1
 
 pub pairs_below_at : (n m : ℕ) (pairs : List Pair) (i : ℕ) (d : Pair) → ArePairsBelow n m pairs → i < length pairs → IsPairBelow n m (get_or pairs i d)
 pairs_below_at n m [] i d inside below = absurd (omega arith)
@@ -151,17 +178,15 @@ pub lesser_chain : {a b w f g x y z u p q r s t : Option ℕ} → x ≡ lesser a
     → u ≡ lesser (lesser (lesser (lesser p q) r) s) t
 lesser_chain e1 e2 e3 e4 ha hb hw hf hg = cc
 
--- the two sides that are numbered are those that a draft says
-pub sides_said : (kind : Kind) (line : ℕ) (d : Draft) → IsDraft kind line d → kind ≢ Roommates
-    → (left right : List AgentData) (weights : List (ℕ × ℕ × ℤ)) (forced forbidden : List (ℕ × ℕ))
-    → (let p = table_of d.proposer_names in let r = table_of d.reviewer_names in
-    left ≡ map (numbered r.declared) (map (agent_in r.texts) d.proposers.items)
-    → right ≡ map (numbered p.declared) (map (agent_in p.texts) d.reviewers.items)
-    → weights ≡ map (weight_among p.declared r.declared) (map (given_in p.texts r.texts) d.weights.items)
-    → forced ≡ map (pair_among p.declared r.declared) (map (pair_in p.texts r.texts) d.forced.items)
-    → forbidden ≡ map (pair_among p.declared r.declared) (map (pair_in p.texts r.texts) d.forbidden.items)
-    → (let w : Written = record { kind = kind; proposers = left; reviewers = right; weights = weights; forced = forced; forbidden = forbidden } in w ≡ two_sides kind (said_of kind d)))
-sides_said kind line d draft other left right weights forced forbidden e1 e2 e3 e4 e5 =
+-- the persons that are numbered are those that a draft says
+pub persons_said : (line : ℕ) (d : Draft) → IsDraft Roommates line d → (persons : List Agent) → NumbersPersons d persons
+    → agents_of persons ≡ (let said = said_of Roommates d in map (numbered (names_of said.proposers)) said.proposers)
+persons_said line d draft persons are = are ∙ ap (λ ns. map (numbered ns) (said_of Roommates d).proposers) (sym (proposer_names Roommates line d draft))
+
+-- and so are the two sides
+pub sides_said : (kind : Kind) (line : ℕ) (d : Draft) → IsDraft kind line d → kind ≢ Roommates → (sides : Numbered) → NumbersSides d sides
+    → written_of kind sides.proposers.items sides.reviewers.items sides.weights.items sides.forced.items sides.forbidden.items ≡ two_sides kind (said_of kind d)
+sides_said kind line d draft other n are =
     let said = said_of kind d in
     let p = table_of d.proposer_names in
     let r = table_of d.reviewer_names in
@@ -173,8 +198,8 @@ sides_said kind line d draft other left right weights forced forbidden e1 e2 e3 
       forced = map (pair_among ps rs) said.forced;
       forbidden = map (pair_among ps rs) said.forbidden;
     } in
-    let given : Written = record { kind = kind; proposers = left; reviewers = right; weights = weights; forced = forced; forbidden = forbidden } in
-    let first : given ≡ sides p.declared r.declared r.texts = five kind e1 e2 e3 e4 e5 in
+    let first : written_of kind n.proposers.items n.reviewers.items n.weights.items n.forced.items n.forbidden.items ≡ sides p.declared r.declared r.texts =
+    five kind are.proposers are.reviewers are.weights are.forced are.forbidden in
     first
     ∙ ap (λ (t : Table). sides p.declared r.declared t.texts) (sym (other_table kind d.proposer_names d.reviewer_names other))
     ∙ ap (λ ps. sides ps r.declared (listed_table kind d.proposer_names d.reviewer_names).texts) (sym (proposer_names kind line d draft))

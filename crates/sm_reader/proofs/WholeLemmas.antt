@@ -1,5 +1,5 @@
 -- Tokens that begin with a name byte are name bytes all through.
-use Rattle.std.proofs.Common.{◌≡◌, ℕ, suc, ◌+◌, ◌<◌, ◌≤◌, cond, eqb, ◌&&◌, ◌||◌, not, Bool, true, false, List, [], ◌∷◌, length, get_or, take, drop, Option, Some, None, nat_le, refl, sym, ap, subst, ◌∙◌, arith}
+use Rattle.std.proofs.Common.{◌≡◌, ℕ, suc, ◌+◌, ◌-◌, ◌<◌, ◌≤◌, cond, eqb, ◌&&◌, ◌||◌, not, Bool, true, false, List, [], ◌∷◌, length, get_or, take, drop, Option, Some, None, nat_le, refl, sym, ap, subst, ◌∙◌, arith}
 use Rattle.std.specs.Option.{option_or}
 use Rattle.std.specs.List.{list_all, onto_first, prefix_len}
 use Rattle.std.specs.Str.{bytes_eq}
@@ -7,7 +7,7 @@ use Rattle.std.specs.Prelude.{codes}
 use Rattle.std.proofs.lemmas.Bool.Decides.{nat_tests}
 use Rattle.std.proofs.lemmas.Bool.{false≢true}
 use Rattle.sm_text.specs.Name.{is_name, is_name_byte, begins_name}
-use Rattle.sm_text.specs.Tokens.{tokens, begins_run, is_blank}
+use Rattle.sm_text.specs.Tokens.{tokens, begins_run, is_blank, IsLeading}
 use Rattle.sm_text.proofs.TokenLemmas.{tokens_of_run}
 use Rattle.sm_instance.specs.Sound.{is_single}
 use Rattle.sm_instance.specs.declared.kinds.Kind.{Kind}
@@ -21,11 +21,11 @@ use Rattle.std.specs.Borrow.{Bor}
 use Rattle.std.proofs.lemmas.List.{get_or_default}
 use Rattle.sm_reader.specs.Draft.{entries_in}
 
-and_left : (s t : Bool) → (s && t) ≡ true → s ≡ true
+pub and_left : (s t : Bool) → (s && t) ≡ true → s ≡ true
 and_left true t h = refl
 and_left false t h = cc
 
-and_right : (s t : Bool) → (s && t) ≡ true → t ≡ true
+pub and_right : (s t : Bool) → (s && t) ≡ true → t ≡ true
 and_right true t h = h
 and_right false t h = cc
 
@@ -68,6 +68,14 @@ tokens_whole (b ∷ line) = by_hash (eqb b 35) (is_blank b) (is_name_byte b && b
     by_hash false false true e behind = joined_whole b line (and_left (is_name_byte b) (begins_run line) e) (and_right (is_name_byte b) (begins_run line) e) behind
     by_hash false false false e behind = rw (itself (is_name_byte b)) behind
 
+-- a token that begins a run is one
+pub leading_run : (line : List ℕ) (from start stop : ℕ) → IsLeading line from start stop → begins_run (take (stop - start) (drop start line)) ≡ true
+    → list_all is_name_byte (take (stop - start) (drop start line)) ≡ true
+leading_run line from start stop leading begins =
+    let token = take (stop - start) (drop start line) in
+    let whole = subst (λ ts. list_all is_whole ts ≡ true) leading.leads (tokens_whole (drop from line)) in
+    or_right (begins_run token) (list_all is_name_byte token) (and_left (is_whole token) (list_all is_whole (tokens (drop stop line))) whole) begins
+
 -- runs among whole tokens
 runs_whole : (tokens : List (List ℕ)) → list_all begins_run tokens ≡ true → list_all is_whole tokens ≡ true → AreRuns tokens
 runs_whole [] begin whole = refl
@@ -83,86 +91,90 @@ listed (Some form) = entries_in form
 tail_whole : (t : List ℕ) (ts : List (List ℕ)) → list_all is_whole (t ∷ ts) ≡ true → list_all is_whole ts ≡ true
 tail_whole t ts h = and_right (is_whole t) (list_all is_whole ts) h
 
+-- what holds of tokens and of those behind the first of them, and so of runs among them, holds of the list of a line
+module _ (P Q : List (List ℕ) → Type 0) (tail : (t : List ℕ) (ts : List (List ℕ)) → P (t ∷ ts) → P ts)
+    (none : Q []) (of_runs : (ts : List (List ℕ)) → list_all begins_run ts ≡ true → P ts → Q ts) where
+  of_list : (side : Side) (rest : List (List ℕ)) → P rest → Q (listed (list_form side rest))
+  unfolding list_form
+  of_list side [] h = none
+  of_list side (name ∷ []) h = none
+  of_list side (name ∷ colon ∷ entries) h = by_test (begins_run name && is_colon colon && list_all begins_run entries) refl
+    where
+      by_test : (t : Bool) → (begins_run name && is_colon colon && list_all begins_run entries) ≡ t → Q (listed (cond t (Some (declares side name None entries)) None))
+      by_test true e = of_runs entries (and_right (begins_run name && is_colon colon) (list_all begins_run entries) e) (tail colon entries (tail name (colon ∷ entries) h))
+      by_test false e = none
+
+  of_capacity : (rest : List (List ℕ)) → P rest → Q (listed (capacity_form rest))
+  unfolding capacity_form
+  of_capacity [] h = none
+  of_capacity (a ∷ []) h = none
+  of_capacity (a ∷ b ∷ []) h = none
+  of_capacity (a ∷ b ∷ c ∷ []) h = none
+  of_capacity (a ∷ b ∷ c ∷ d ∷ []) h = none
+  of_capacity (name ∷ opening ∷ number ∷ closing ∷ colon ∷ entries) h =
+      by_test (begins_run name && bytes_eq opening (codes "[") && begins_run number && bytes_eq closing (codes "]") && is_colon colon && list_all begins_run entries) refl
+    where
+      by_test : (t : Bool) → (begins_run name && bytes_eq opening (codes "[") && begins_run number && bytes_eq closing (codes "]") && is_colon colon && list_all begins_run entries) ≡ t
+          → Q (listed (cond t (Some (declares Reviewers name (Some number) entries)) None))
+      by_test true e =
+          of_runs entries (and_right (begins_run name && bytes_eq opening (codes "[") && begins_run number && bytes_eq closing (codes "]") && is_colon colon) (list_all begins_run entries) e)
+          (tail colon entries (tail closing (colon ∷ entries) (tail number (closing ∷ colon ∷ entries) (tail opening (number ∷ closing ∷ colon ∷ entries) (tail name (opening ∷ number ∷ closing ∷ colon ∷ entries) h)))))
+      by_test false e = none
+
+  of_weight : (rest : List (List ℕ)) → Q (listed (weight_form rest))
+  unfolding weight_form
+  of_weight [] = none
+  of_weight (a ∷ []) = none
+  of_weight (a ∷ b ∷ []) = none
+  of_weight (a ∷ b ∷ c ∷ []) = elim (begins_run a && begins_run b && begins_run c) as (λ t. Q (listed (cond t (Some (weighs a b c)) None))) [ true ↦ none | false ↦ none ]
+  of_weight (a ∷ b ∷ c ∷ d ∷ rest) = none
+
+  of_forced : (rest : List (List ℕ)) → Q (listed (pair_form forces rest))
+  unfolding pair_form
+  of_forced [] = none
+  of_forced (a ∷ []) = none
+  of_forced (a ∷ b ∷ []) = elim (begins_run a && begins_run b) as (λ t. Q (listed (cond t (Some (forces a b)) None))) [ true ↦ none | false ↦ none ]
+  of_forced (a ∷ b ∷ c ∷ rest) = none
+
+  of_forbidden : (rest : List (List ℕ)) → Q (listed (pair_form forbids rest))
+  unfolding pair_form
+  of_forbidden [] = none
+  of_forbidden (a ∷ []) = none
+  of_forbidden (a ∷ b ∷ []) = elim (begins_run a && begins_run b) as (λ t. Q (listed (cond t (Some (forbids a b)) None))) [ true ↦ none | false ↦ none ]
+  of_forbidden (a ∷ b ∷ c ∷ rest) = none
+
+  -- of two, and of five
+  of_or : (a b : Option Form) → Q (listed a) → Q (listed b) → Q (listed (option_or a b))
+  of_or None b h k = k
+  of_or (Some form) b h k = h
+
+  of_cond : (t : Bool) (a b : Option Form) → Q (listed a) → Q (listed b) → Q (listed (cond t a b))
+  of_cond true a b h k = h
+  of_cond false a b h k = k
+
+  of_reviewer : (kind : Kind) (rest : List (List ℕ)) → P rest → Q (listed (reviewer_form kind rest))
+  unfolding reviewer_form
+  of_reviewer kind rest h =
+      of_cond (is_single kind) (list_form Reviewers rest) (option_or (list_form Reviewers rest) (capacity_form rest)) (of_list Reviewers rest h)
+      (of_or (list_form Reviewers rest) (capacity_form rest) (of_list Reviewers rest h) (of_capacity rest h))
+
+  of_two_sided : (kind : Kind) (word : List ℕ) (rest : List (List ℕ)) → P rest → Q (listed (two_sided_form kind word rest))
+  unfolding two_sided_form
+  of_two_sided kind word rest h =
+      of_cond (bytes_eq word (codes "r")) (reviewer_form kind rest) _ (of_reviewer kind rest h)
+      (of_cond (bytes_eq word (codes "weight")) (weight_form rest) _ (of_weight rest)
+      (of_cond (bytes_eq word (codes "force")) (pair_form forces rest) _ (of_forced rest)
+      (of_cond (bytes_eq word (codes "forbid")) (pair_form forbids rest) None (of_forbidden rest) none)))
+
+  pub list_behind : (kind : Kind) (word : List ℕ) (rest : List (List ℕ)) → P rest → Q (listed (form_behind kind word rest))
+  unfolding form_behind
+  list_behind Roommates word rest h = of_cond (bytes_eq word (codes "p")) (list_form Proposers rest) None (of_list Proposers rest h) none
+  list_behind Marriage word rest h = of_cond (bytes_eq word (codes "p")) (list_form Proposers rest) (two_sided_form Marriage word rest) (of_list Proposers rest h) (of_two_sided Marriage word rest h)
+  list_behind Hospitals word rest h = of_cond (bytes_eq word (codes "p")) (list_form Proposers rest) (two_sided_form Hospitals word rest) (of_list Proposers rest h) (of_two_sided Hospitals word rest h)
+
 -- the lists of lines are runs
-list_runs : (side : Side) (rest : List (List ℕ)) → list_all is_whole rest ≡ true → AreRuns (listed (list_form side rest))
-unfolding list_form
-list_runs side [] h = refl
-list_runs side (name ∷ []) h = refl
-list_runs side (name ∷ colon ∷ entries) h = by_test (begins_run name && is_colon colon && list_all begins_run entries) refl
-  where
-    by_test : (t : Bool) → (begins_run name && is_colon colon && list_all begins_run entries) ≡ t → AreRuns (listed (cond t (Some (declares side name None entries)) None))
-    by_test true e = runs_whole entries (and_right (begins_run name && is_colon colon) (list_all begins_run entries) e) (tail_whole colon entries (tail_whole name (colon ∷ entries) h))
-    by_test false e = refl
-
-capacity_runs : (rest : List (List ℕ)) → list_all is_whole rest ≡ true → AreRuns (listed (capacity_form rest))
-unfolding capacity_form
-capacity_runs [] h = refl
-capacity_runs (a ∷ []) h = refl
-capacity_runs (a ∷ b ∷ []) h = refl
-capacity_runs (a ∷ b ∷ c ∷ []) h = refl
-capacity_runs (a ∷ b ∷ c ∷ d ∷ []) h = refl
-capacity_runs (name ∷ opening ∷ number ∷ closing ∷ colon ∷ entries) h =
-    by_test (begins_run name) (bytes_eq opening (codes "[")) (begins_run number) (bytes_eq closing (codes "]")) (is_colon colon) (list_all begins_run entries) refl
-  where
-    by_test : (s t u v w x : Bool) → list_all begins_run entries ≡ x → AreRuns (listed (cond (s && t && u && v && w && x) (Some (declares Reviewers name (Some number) entries)) None))
-    by_test true true true true true true e = runs_whole entries e (tail_whole colon entries (tail_whole closing (colon ∷ entries) (tail_whole number (closing ∷ colon ∷ entries) (tail_whole opening (number ∷ closing ∷ colon ∷ entries) (tail_whole name (opening ∷ number ∷ closing ∷ colon ∷ entries) h)))))
-    by_test true true true true true false e = refl
-    by_test true true true true false x e = refl
-    by_test true true true false w x e = refl
-    by_test true true false v w x e = refl
-    by_test true false u v w x e = refl
-    by_test false t u v w x e = refl
-
-weight_runs : (rest : List (List ℕ)) → AreRuns (listed (weight_form rest))
-unfolding weight_form
-weight_runs [] = refl
-weight_runs (a ∷ []) = refl
-weight_runs (a ∷ b ∷ []) = refl
-weight_runs (a ∷ b ∷ c ∷ []) = elim (begins_run a && begins_run b && begins_run c) as (λ t. AreRuns (listed (cond t (Some (weighs a b c)) None))) [ true ↦ refl | false ↦ refl ]
-weight_runs (a ∷ b ∷ c ∷ d ∷ rest) = refl
-
-forced_runs : (rest : List (List ℕ)) → AreRuns (listed (pair_form forces rest))
-unfolding pair_form
-forced_runs [] = refl
-forced_runs (a ∷ []) = refl
-forced_runs (a ∷ b ∷ []) = elim (begins_run a && begins_run b) as (λ t. AreRuns (listed (cond t (Some (forces a b)) None))) [ true ↦ refl | false ↦ refl ]
-forced_runs (a ∷ b ∷ c ∷ rest) = refl
-
-forbidden_runs : (rest : List (List ℕ)) → AreRuns (listed (pair_form forbids rest))
-unfolding pair_form
-forbidden_runs [] = refl
-forbidden_runs (a ∷ []) = refl
-forbidden_runs (a ∷ b ∷ []) = elim (begins_run a && begins_run b) as (λ t. AreRuns (listed (cond t (Some (forbids a b)) None))) [ true ↦ refl | false ↦ refl ]
-forbidden_runs (a ∷ b ∷ c ∷ rest) = refl
-
--- of two, and of five
-or_runs : (a b : Option Form) → AreRuns (listed a) → AreRuns (listed b) → AreRuns (listed (option_or a b))
-or_runs None b h k = k
-or_runs (Some form) b h k = h
-
-cond_runs : (t : Bool) (a b : Option Form) → AreRuns (listed a) → AreRuns (listed b) → AreRuns (listed (cond t a b))
-cond_runs true a b h k = h
-cond_runs false a b h k = k
-
-reviewer_runs : (kind : Kind) (rest : List (List ℕ)) → list_all is_whole rest ≡ true → AreRuns (listed (reviewer_form kind rest))
-unfolding reviewer_form
-reviewer_runs kind rest h =
-    cond_runs (is_single kind) (list_form Reviewers rest) (option_or (list_form Reviewers rest) (capacity_form rest)) (list_runs Reviewers rest h)
-    (or_runs (list_form Reviewers rest) (capacity_form rest) (list_runs Reviewers rest h) (capacity_runs rest h))
-
-two_sided_runs : (kind : Kind) (word : List ℕ) (rest : List (List ℕ)) → list_all is_whole rest ≡ true → AreRuns (listed (two_sided_form kind word rest))
-unfolding two_sided_form
-two_sided_runs kind word rest h =
-    cond_runs (bytes_eq word (codes "r")) (reviewer_form kind rest) _ (reviewer_runs kind rest h)
-    (cond_runs (bytes_eq word (codes "weight")) (weight_form rest) _ (weight_runs rest)
-    (cond_runs (bytes_eq word (codes "force")) (pair_form forces rest) _ (forced_runs rest)
-    (cond_runs (bytes_eq word (codes "forbid")) (pair_form forbids rest) None (forbidden_runs rest) refl)))
-
 pub form_runs : (kind : Kind) (word : List ℕ) (rest : List (List ℕ)) → list_all is_whole rest ≡ true → AreRuns (listed (form_behind kind word rest))
-unfolding form_behind
-form_runs Roommates word rest h = cond_runs (bytes_eq word (codes "p")) (list_form Proposers rest) None (list_runs Proposers rest h) refl
-form_runs Marriage word rest h = cond_runs (bytes_eq word (codes "p")) (list_form Proposers rest) (two_sided_form Marriage word rest) (list_runs Proposers rest h) (two_sided_runs Marriage word rest h)
-form_runs Hospitals word rest h = cond_runs (bytes_eq word (codes "p")) (list_form Proposers rest) (two_sided_form Hospitals word rest) (list_runs Proposers rest h) (two_sided_runs Hospitals word rest h)
+form_runs = list_behind (λ ts. list_all is_whole ts ≡ true) AreRuns tail_whole refl runs_whole
 
 -- all tokens behind the first are whole
 pub rest_whole : (tokens : List (Bor (List ℕ))) → list_all is_whole (texts_of tokens) ≡ true → list_all is_whole (texts_of (drop 1 tokens)) ≡ true

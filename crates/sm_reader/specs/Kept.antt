@@ -7,7 +7,7 @@ use Rattle.std.specs.declared.alloc.Global.{Global}
 use Rattle.std.specs.Prelude.{Vec, ◌+◌}
 use Rattle.indexmap.specs.IndexSet.{keys}
 use Rattle.sm_text.specs.Lines.{lines, first_line, content}
-use Rattle.sm_text.specs.Name.{is_name_byte}
+use Rattle.sm_text.specs.Name.{is_name, is_name_byte}
 use Rattle.sm_text.specs.Tokens.{begins_run}
 use Rattle.sm_reader.specs.Judging.{has_repeated}
 use Rattle.sm_reader.specs.declared.keys.Key.{Key}
@@ -35,6 +35,10 @@ is_inner b = b == 46 || b == 45
 -- these are name bytes all through
 abbrev pub AreRuns : List (List ℕ) → Type 0
 AreRuns tokens = list_all (list_all is_name_byte) tokens ≡ true
+
+-- the last so many of the tokens are names: where no more than that stand behind the first k, these are
+pub record AreNamesAtEnd (names : ℕ) (tokens : List (List ℕ)) : Type 0 where
+  pub are : (k : ℕ) → length (drop k tokens) ≤ names → list_all is_name (drop k tokens) ≡ true
 
 -- a line holds this text and is the first of those from a place on; behind it those from the next place on stand
 pub record LeadsLines (bytes : List ℕ) (from : ℕ) (text : List ℕ) (next : ℕ) : Type 0 where

@@ -15,14 +15,14 @@ pub(crate) struct Declared<'a> {
     pub(crate) name: &'a [u8],
     pub(crate) capacity: u32,
     pub(crate) line: u32,
-    pub(crate) entries: Vec<usize>,
+    pub(crate) entries: Vec<u32>,
 }
 
 /// A proposer and a reviewer that a line names, by the indexes of their names.
 #[derive(Clone, Copy)]
 pub(crate) struct Pair {
-    pub(crate) proposer: usize,
-    pub(crate) reviewer: usize,
+    pub(crate) proposer: u32,
+    pub(crate) reviewer: u32,
     pub(crate) line: u32,
 }
 
@@ -44,7 +44,7 @@ pub(crate) struct Draft<'a> {
     pub(crate) entries: usize,
     pub(crate) weights: Vec<Weight>,
     /// The pairs that have a weight.
-    pub(crate) weighed: IndexSet<(usize, usize)>,
+    pub(crate) weighed: IndexSet<(u32, u32)>,
     pub(crate) forced: Vec<Pair>,
     pub(crate) forbidden: Vec<Pair>,
 }

@@ -6,7 +6,7 @@ ghost use Rattle.std.specs.List.{list_all};
 ghost use Rattle.std.specs.Str.{bytes_eq};
 ghost use Rattle.sm_text.specs.Tokens.{begins_run};
 ghost use Rattle.sm_reader.specs.Forms.{list_form, capacity_form, weight_form, pair_form, reviewer_form, two_sided_form, form_behind, is_end, header_of, kind_named, forces, forbids};
-ghost use Rattle.sm_reader.specs.Kept.{texts_of};
+ghost use Rattle.sm_reader.specs.Kept.{texts_of, AreNamesAtEnd};
 ghost use Rattle.sm_reader.specs.Draft.{form_of};
 
 use crate::tokens::is_run;
@@ -73,31 +73,40 @@ pub(crate) fn is_end(tokens: &[&[u8]]) -> bool
     }
 }
 
-/// The form of a line that begins with a word, `None` where it has none.
+/// The form of a line that begins with a word, `None` where it has none. The last `names` tokens behind the word are known
+/// to be names.
 #[tactic(auto, unfolding(crate::specs::Forms::form_behind))]
 pub(crate) fn form_behind<'a, 'b>(
     kind: Kind,
     word: &'a [u8],
     rest: &'b [&'a [u8]],
+    names: usize,
 ) -> Option<Form<'a, 'b>>
+    requires { AreNamesAtEnd names (texts_of rest.now) }
     ensures { option_map form_of result ≡ form_behind kind word.now (texts_of rest.now) }
 {
     if is(word, b"p") {
-        return list_form(Side::Proposers, rest);
+        return list_form(Side::Proposers, rest, names);
     }
     match kind {
         Kind::Roommates => None,
-        _ => two_sided_form(kind, word, rest),
+        _ => two_sided_form(kind, word, rest, names),
     }
 }
 
 // The form of a line in a marriage or in hospitals, beside that of a proposer.
 #[tactic(auto, unfolding(crate::specs::Forms::two_sided_form))]
-fn two_sided_form<'a, 'b>(kind: Kind, word: &'a [u8], rest: &'b [&'a [u8]]) -> Option<Form<'a, 'b>>
+fn two_sided_form<'a, 'b>(
+    kind: Kind,
+    word: &'a [u8],
+    rest: &'b [&'a [u8]],
+    names: usize,
+) -> Option<Form<'a, 'b>>
+    requires { AreNamesAtEnd names (texts_of rest.now) }
     ensures { option_map form_of result ≡ two_sided_form kind word.now (texts_of rest.now) }
 {
     if is(word, b"r") {
-        reviewer_form(kind, rest)
+        reviewer_form(kind, rest, names)
     } else if is(word, b"weight") {
         weight_form(rest)
     } else if is(word, b"force") {
@@ -111,23 +120,26 @@ fn two_sided_form<'a, 'b>(kind: Kind, word: &'a [u8], rest: &'b [&'a [u8]]) -> O
 
 // A reviewer, whose capacity may be written in hospitals alone.
 #[tactic(auto, unfolding(crate::specs::Forms::reviewer_form))]
-fn reviewer_form<'a, 'b>(kind: Kind, rest: &'b [&'a [u8]]) -> Option<Form<'a, 'b>>
+fn reviewer_form<'a, 'b>(kind: Kind, rest: &'b [&'a [u8]], names: usize) -> Option<Form<'a, 'b>>
+    requires { AreNamesAtEnd names (texts_of rest.now) }
     ensures { option_map form_of result ≡ reviewer_form kind (texts_of rest.now) }
 {
-    match list_form(Side::Reviewers, rest) {
+    match list_form(Side::Reviewers, rest, names) {
         Some(form) => Some(form),
-        None if kind == Kind::Hospitals => capacity_form(rest),
+        None if kind == Kind::Hospitals => capacity_form(rest, names),
         None => None,
     }
 }
 
 // A name, a colon and a list.
 #[tactic(auto, unfolding(crate::specs::Forms::list_form))]
-fn list_form<'a, 'b>(side: Side, rest: &'b [&'a [u8]]) -> Option<Form<'a, 'b>>
+fn list_form<'a, 'b>(side: Side, rest: &'b [&'a [u8]], names: usize) -> Option<Form<'a, 'b>>
+    requires { AreNamesAtEnd names (texts_of rest.now) }
     ensures { option_map form_of result ≡ list_form side (texts_of rest.now) }
 {
     match rest {
-        [name, colon, entries @ ..] if is_run(name) && is(colon, b":") && are_runs(entries) => {
+        [name, colon, entries @ ..]
+            if is_run(name) && is(colon, b":") && are_runs(entries, names) => {
             Some(Form::Agent {
                 side,
                 name: *name,
@@ -141,7 +153,8 @@ fn list_form<'a, 'b>(side: Side, rest: &'b [&'a [u8]]) -> Option<Form<'a, 'b>>
 
 // A name, a number in brackets, a colon and a list.
 #[tactic(auto, unfolding(crate::specs::Forms::capacity_form))]
-fn capacity_form<'a, 'b>(rest: &'b [&'a [u8]]) -> Option<Form<'a, 'b>>
+fn capacity_form<'a, 'b>(rest: &'b [&'a [u8]], names: usize) -> Option<Form<'a, 'b>>
+    requires { AreNamesAtEnd names (texts_of rest.now) }
     ensures { option_map form_of result ≡ capacity_form (texts_of rest.now) }
 {
     match rest {
@@ -151,7 +164,7 @@ fn capacity_form<'a, 'b>(rest: &'b [&'a [u8]]) -> Option<Form<'a, 'b>>
                 && is_run(number)
                 && is(closing, b"]")
                 && is(colon, b":")
-                && are_runs(entries) => {
+                && are_runs(entries, names) => {
             Some(Form::Agent {
                 side: Side::Reviewers,
                 name: *name,
@@ -208,10 +221,14 @@ fn forbidden_form<'a, 'b>(rest: &'b [&'a [u8]]) -> Option<Form<'a, 'b>>
     }
 }
 
-// Are all these tokens runs?
-fn are_runs(tokens: &[&[u8]]) -> bool
+// Are all these tokens runs? The last `names` of them are known to be names.
+fn are_runs(tokens: &[&[u8]], names: usize) -> bool
+    requires { AreNamesAtEnd names (texts_of tokens.now) }
     ensures { result ≡ list_all begins_run (texts_of tokens.now) }
 {
+    if tokens.len() <= names {
+        return true;
+    }
     'tokens: for token in tokens {
         if !is_run(token) {
             return false;

@@ -8,14 +8,14 @@ ghost use Rattle.indexmap.specs.IndexSet.{keys};
 ghost use Rattle.sm_text.specs.Name.{is_name as is_a_name};
 ghost use Rattle.sm_reader.specs.Forms.{is_bad};
 ghost use Rattle.sm_reader.specs.Judging.{verdict_on, fault_of, has_repeated};
-ghost use Rattle.sm_reader.specs.Kept.{texts_of, table_of, IsTable, is_whole, AreRuns};
+ghost use Rattle.sm_reader.specs.Kept.{texts_of, table_of, IsTable, is_whole, AreRuns, AreNamesAtEnd};
 ghost use Rattle.sm_reader.specs.Draft.{said_of, form_of, entries_in, listed_side, table_on, declared_on, IsDraft, Adds, Judges, IsRefusedBy, IsLineFault, run_fault, name_fault, limit_fault, IsChecked, DeclaresOn, ListsOn, PutsOn, RefusesFor, PairsOf, AddsAgent, ArePairsBelow, pairs_of, key_of, weights_in, weight_fault, PutsWeight, PutsForced, PutsForbidden};
 
 use crate::draft::{Declared, Draft, Pair, Weight};
 use crate::faults::TextFault;
 use crate::forms::{Form, form_behind, is_end};
 use crate::names::list;
-use crate::tokens::is_name_run;
+use crate::tokens::{Found, is_name_run};
 use crate::{MOST_AGENTS, MOST_CAPACITY, MOST_ENTRIES, MOST_WEIGHT};
 use sm_instance::{Kind, Side};
 use sm_text::{RefusalKind, is_name, number, signed};
@@ -30,49 +30,52 @@ pub(crate) enum Step {
     Stops,
 }
 
-/// Judges a line by its tokens, and adds what it says. `bad` tells whether a token is a byte that no line holds.
+/// Judges a line by its tokens and what they were found to be, and adds what it says.
 pub(crate) fn judge<'a>(
     alloc: Global,
     kind: Kind,
     draft: &mut Draft<'a>,
     line: u32,
     tokens: &[&'a [u8]],
-    bad: bool,
+    found: Found,
 ) -> Result<Step, TextFault>
     requires draft { IsDraft kind line draft.old }
     requires whole { list_all is_whole (texts_of tokens.now) ≡ true }
-    requires bad { bad ≡ list_any is_bad (texts_of tokens.now) }
+    requires bad { found.bad ≡ list_any is_bad (texts_of tokens.now) }
+    requires names { AreNamesAtEnd found.names (texts_of tokens.now) }
     ensures judged { IfOk result (λ step. Judges kind line (texts_of tokens.now) draft.old draft.new step) }
     ensures refused { IfErr result (λ f. IsRefusedBy (verdict_on kind (said_of kind draft.old) line (texts_of tokens.now)) line f) }
 {
     let [word, rest @ ..] = tokens else {
         return Ok(Step::Goes);
     };
-    if bad {
+    if found.bad {
         return Err(TextFault::Refused(RefusalKind::BadByte, line));
     }
     if is_end(tokens) {
         return Ok(Step::Stops);
     }
-    match form_behind(kind, word, rest) {
+    match form_behind(kind, word, rest, found.names) {
         None => Err(TextFault::Refused(RefusalKind::BadLine, line)),
         Some(form) => {
-            add(alloc, kind, draft, line, form)?;
+            add(alloc, kind, draft, line, form, found.names)?;
             Ok(Step::Goes)
         }
     }
 }
 
-// Adds what a line of this form says, unless it has a fault.
+// Adds what a line of this form says, unless it has a fault. The last `names` runs on its list are known to be names.
 fn add<'a>(
     alloc: Global,
     kind: Kind,
     draft: &mut Draft<'a>,
     line: u32,
     form: Form<'a, '_>,
+    names: usize,
 ) -> Result<(), TextFault>
     requires draft { IsDraft kind line draft.old }
     requires runs { AreRuns (entries_in (form_of form)) }
+    requires names { AreNamesAtEnd names (entries_in (form_of form)) }
     ensures added { IfOk result (λ _. Adds kind line (form_of form.entry) draft.old draft.new) }
     ensures fault { IfErr result (λ f. IsLineFault (fault_of (said_of kind draft.old) (form_of form.entry)) line f) }
 {
@@ -83,7 +86,7 @@ fn add<'a>(
             capacity,
             entries,
         } => {
-            let capacity = checked_capacity(name, capacity, entries, line)?;
+            let capacity = checked_capacity(name, capacity, entries, names, line)?;
             add_agent(alloc, kind, draft, line, side, name, capacity, entries)
         }
         Form::Weight {
@@ -101,13 +104,15 @@ fn checked_capacity(
     name: &[u8],
     capacity: Option<&[u8]>,
     entries: &[&[u8]],
+    names: usize,
     line: u32,
 ) -> Result<u32, TextFault>
-    requires { AreRuns (texts_of entries.now) }
+    requires runs { AreRuns (texts_of entries.now) }
+    requires names { AreNamesAtEnd names (texts_of entries.now) }
     ensures checked { IfOk result (λ n. IsChecked name.now (option_map (λ x. x.now) capacity.entry) (texts_of entries.now) n) }
     ensures fault { IfErr result (λ f. IsLineFault (run_fault name.now (option_map (λ x. x.now) capacity.entry) (texts_of entries.now)) line f) }
 {
-    if !is_name(name) || !are_names(entries) {
+    if !is_name(name) || !are_names(entries, names) {
         return Err(TextFault::Refused(RefusalKind::BadName, line));
     }
     let Some(run) = capacity else {
@@ -119,11 +124,15 @@ fn checked_capacity(
     }
 }
 
-// Are all these runs names?
-fn are_names(runs: &[&[u8]]) -> bool
-    requires { AreRuns (texts_of runs.now) }
+// Are all these runs names? The last `names` of them are known to be.
+fn are_names(runs: &[&[u8]], names: usize) -> bool
+    requires runs { AreRuns (texts_of runs.now) }
+    requires names { AreNamesAtEnd names (texts_of runs.now) }
     ensures { result ≡ list_all is_a_name (texts_of runs.now) }
 {
+    if runs.len() <= names {
+        return true;
+    }
     'runs: for run in runs {
         if !is_name_run(run) {
             return false;
@@ -200,7 +209,7 @@ fn listed<'a>(
     side: Side,
     entries: &[&'a [u8]],
     line: u32,
-) -> Result<Vec<usize>, TextFault>
+) -> Result<Vec<u32>, TextFault>
     requires table { IsTable (table_on side draft.old) }
     requires fresh { (k : ℕ) → slice_index (table_on side draft.old).stamps k < line }
     ensures listed { IfOk result (λ indexes. ListsOn side draft.old draft.new (texts_of entries.now) line indexes.items) }

@@ -36,6 +36,20 @@ impl<'a> PartialEq for Key<'a> {
     }
 }
 
+impl<'a> Eq for Key<'a> {
+    ghost laws = { on_equiv text_of nat_list_eq_equiv };
+}
+
+impl<'a> Hash for Key<'a> {
+    ghost hash_input = { λ key. text_of key ∷ [] };
+
+    ghost respects_eq = { Prim.search (hashing, rules) };
+
+    fn hash<H: Hasher>(&self, state: &mut H) {
+        state.write(self.text);
+    }
+}
+
 // Are four to eight bytes the same? They are where the last four are and the first four.
 #[inline(always)]
 fn equal_by_fours(a: &[u8], b: &[u8]) -> bool
@@ -73,18 +87,4 @@ fn last_four(text: &[u8]) -> &[u8; 4]
     ensures { result.now ≡ drop (length text.now - 4) text.now }
 {
     text.last_chunk().unwrap()
-}
-
-impl<'a> Eq for Key<'a> {
-    ghost laws = { on_equiv text_of nat_list_eq_equiv };
-}
-
-impl<'a> Hash for Key<'a> {
-    ghost hash_input = { λ key. text_of key ∷ [] };
-
-    ghost respects_eq = { Prim.search (hashing, rules) };
-
-    fn hash<H: Hasher>(&self, state: &mut H) {
-        state.write(self.text);
-    }
 }

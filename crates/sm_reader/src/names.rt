@@ -41,8 +41,10 @@ impl<'a> Names<'a> {
         }
     }
 
-    /// The index of a name, which is added where it didn't stand before.
-    pub(crate) fn intern(&mut self, name: &'a [u8]) -> Result<usize, AllocError>
+    /// The index of a name, which is added where it didn't stand before. Always inlined, so that a name whose index is
+    /// guessed needs no call.
+    #[inline(always)]
+    pub(crate) fn intern(&mut self, name: &'a [u8]) -> Result<u32, AllocError>
         requires { IsTable (table_of self.old) }
         ensures { IfOk result (λ i. Interns (table_of self.old) (table_of self.new) name.now i) }
     {
@@ -52,13 +54,14 @@ impl<'a> Names<'a> {
         }
     }
 
-    // The index that a name is guessed to have, where the name has it.
-    fn recall(&self, name: &[u8]) -> Option<usize>
+    // The index that a name is guessed to have, where the name has it. Always inlined, as `intern` is.
+    #[inline(always)]
+    fn recall(&self, name: &[u8]) -> Option<u32>
         ensures in_range { IfSome result (λ i. i < length (table_of self.now).texts) }
         ensures names { IfSome result (λ i. text_at (table_of self.now).texts i ≡ name.now) }
     {
         let guess = self.recent.guess(name)?;
-        let known = self.texts.get_index(guess)?;
+        let known = self.texts.get_index(guess as usize)?;
         if *known == (Key { text: name }) {
             Some(guess)
         } else {
@@ -69,11 +72,15 @@ impl<'a> Names<'a> {
     // The index of a name by its hash; a name that isn't found is added. Never inlined, so that a name whose index is
     // guessed pays nothing for it.
     #[inline(never)]
-    fn insert(&mut self, name: &'a [u8]) -> Result<usize, AllocError>
+    fn insert(&mut self, name: &'a [u8]) -> Result<u32, AllocError>
         requires { IsTable (table_of self.old) }
         ensures { IfOk result (λ i. Interns (table_of self.old) (table_of self.new) name.now i) }
     {
-        let (index, is_new) = self.texts.insert_full(Key { text: name })?;
+        let (place, is_new) = self.texts.insert_full(Key { text: name })?;
+        // An index fits, since a text has fewer names than bytes.
+        let Ok(index) = u32::try_from(place) else {
+            return Err(AllocError);
+        };
         self.recent.note(name, index)?;
         if is_new {
             self.numbers.push(None)?;
@@ -89,44 +96,44 @@ impl<'a> Names<'a> {
         ensures { IfOk result (λ added. Declares (table_of self.old) (table_of self.new) name.now added) }
     {
         let index = self.intern(name)?;
-        if self.numbers[index].is_some() {
+        if self.numbers[index as usize].is_some() {
             return Ok(false);
         }
-        self.numbers[index] = Some(self.declared.len() as u32);
+        self.numbers[index as usize] = Some(self.declared.len() as u32);
         self.declared.push(name)?;
         Ok(true)
     }
 
     /// The index of a name on the list of a line, `None` where it stands there already.
-    pub(crate) fn meet(&mut self, name: &'a [u8], line: u32) -> Result<Option<usize>, AllocError>
+    pub(crate) fn meet(&mut self, name: &'a [u8], line: u32) -> Result<Option<u32>, AllocError>
         requires { IsTable (table_of self.old) }
         ensures { IfOk result (λ met. Meets (table_of self.old) (table_of self.new) name.now line met) }
     {
         let index = self.intern(name)?;
-        if self.stamps[index] == line {
+        if self.stamps[index as usize] == line {
             return Ok(None);
         }
-        self.stamps[index] = line;
+        self.stamps[index as usize] = line;
         Ok(Some(index))
     }
 
     /// Is the name of this index declared?
-    pub(crate) fn is_declared(&self, index: usize) -> bool
+    pub(crate) fn is_declared(&self, index: u32) -> bool
         requires table { IsTable (table_of self.now) }
         requires in_range { index < length (table_of self.now).texts }
         ensures { result ≡ list_any (bytes_eq (text_at (table_of self.now).texts index)) (table_of self.now).declared }
     {
-        self.numbers[index].is_some()
+        self.numbers[index as usize].is_some()
     }
 
     /// The number under which the name of this index is declared, and how many are declared where it isn't.
-    pub(crate) fn number(&self, index: usize) -> u32
+    pub(crate) fn number(&self, index: u32) -> u32
         requires table { IsTable (table_of self.now) }
         requires in_range { index < length (table_of self.now).texts }
         requires few { length self.now.declared.items < 2 ^ 32 }
         ensures { result ≡ number_in (table_of self.now).declared (text_at (table_of self.now).texts index) }
     {
-        match self.numbers[index] {
+        match self.numbers[index as usize] {
             Some(number) => number,
             None => self.declared.len() as u32,
         }
@@ -139,7 +146,7 @@ pub(crate) fn list<'a>(
     names: &mut Names<'a>,
     entries: &[&'a [u8]],
     line: u32,
-) -> Result<Option<Vec<usize>>, AllocError>
+) -> Result<Option<Vec<u32>>, AllocError>
     requires table { IsTable (table_of names.old) }
     requires fresh { (k : ℕ) → slice_index names.old.stamps.items k < line }
     ensures { IfOk result (λ list. Lists (table_of names.old) (table_of names.new) (texts_of entries.now) line list) }

@@ -6,12 +6,22 @@ ghost use Rattle.sm_instance.specs.Vectors.{agent_of, agents_of};
 ghost use Rattle.sm_reader.specs.InstanceText.{least, unknown_lines, lines_with_unknown, pairs_with_unknown, is_unknown, number_in, numbered};
 ghost use Rattle.sm_reader.specs.Kept.{table_of, text_at, IsTable, AreBelow};
 ghost use Rattle.sm_reader.specs.Draft.{said_of, listed_table, agent_in, pair_in, given_in, AreAgentsBelow, IsPairBelow, ArePairsBelow, pairs_of};
-ghost use Rattle.sm_reader.specs.Numbering.{lesser, line_if, pair_among, weight_among, IsReady};
+ghost use Rattle.sm_reader.specs.Numbering.{lesser, line_if, pair_among, weight_among, IsReady, IsTwoSided, NumbersPersons, NumbersSides};
 
 use crate::draft::{Declared, Draft, Pair, Weight};
 use crate::names::Names;
 use sm_instance::{Agent, Kind};
 use std::alloc::{AllocError, Global};
+
+/// Two sides by number, with their weights and conditions.
+#[derive(Drop)]
+pub(crate) struct Numbered {
+    pub(crate) proposers: Vec<Agent>,
+    pub(crate) reviewers: Vec<Agent>,
+    pub(crate) weights: Vec<(u32, u32, i64)>,
+    pub(crate) forced: Vec<(u32, u32)>,
+    pub(crate) forbidden: Vec<(u32, u32)>,
+}
 
 /// The first line that names an agent which isn't declared.
 pub(crate) fn first_unknown(kind: Kind, draft: &Draft<'_>) -> Option<u32>
@@ -78,7 +88,7 @@ fn line_if(line: u32, counts: bool) -> Option<u32>
 }
 
 // Is one of these names not declared?
-fn has_unknown(names: &Names<'_>, indexes: &[usize]) -> bool
+fn has_unknown(names: &Names<'_>, indexes: &[u32]) -> bool
     requires table { IsTable (table_of names.now) }
     requires in_range { AreBelow (length (table_of names.now).texts) indexes.now }
     ensures { result ≡ list_any (is_unknown (table_of names.now).declared) (map (text_at (table_of names.now).texts) indexes.now) }
@@ -139,16 +149,60 @@ fn is_unknown(proposers: &Names<'_>, reviewers: &Names<'_>, pair: Pair) -> bool
     !proposers.is_declared(pair.proposer) || !reviewers.is_declared(pair.reviewer)
 }
 
-/// The agents of a side, with numbers for the names on their lists.
-pub(crate) fn number_agents(
+/// The persons of a draft by number. Nothing else of the draft is kept.
+pub(crate) fn numbered_persons(alloc: Global, draft: Draft<'_>) -> Result<Vec<Agent>, AllocError>
+    requires { IsReady Kind.Roommates draft }
+    ensures { IfOk result (λ persons. NumbersPersons draft.entry persons.items) }
+{
+    let Draft {
+        proposer_names,
+        proposers,
+        ..
+    } = draft;
+    number_agents(alloc, &proposer_names, proposers)
+}
+
+/// The two sides of a draft by number. Nothing else of the draft is kept.
+pub(crate) fn numbered_sides(alloc: Global, draft: Draft<'_>) -> Result<Numbered, AllocError>
+    requires { IsTwoSided draft }
+    ensures { IfOk result (λ sides. NumbersSides draft.entry sides) }
+{
+    let Draft {
+        proposer_names,
+        reviewer_names,
+        proposers,
+        reviewers,
+        weights,
+        weighed,
+        forced,
+        forbidden,
+        ..
+    } = draft;
+    drop(weighed);
+    let proposers = number_agents(alloc, &reviewer_names, proposers)?;
+    let reviewers = number_agents(alloc, &proposer_names, reviewers)?;
+    let weights = number_weights(alloc, &proposer_names, &reviewer_names, &weights)?;
+    let forced = number_pairs(alloc, &proposer_names, &reviewer_names, &forced)?;
+    let forbidden = number_pairs(alloc, &proposer_names, &reviewer_names, &forbidden)?;
+    Ok(Numbered {
+        proposers,
+        reviewers,
+        weights,
+        forced,
+        forbidden,
+    })
+}
+
+// The agents of a side, with numbers for the names on their lists.
+fn number_agents(
     alloc: Global,
     names: &Names<'_>,
-    side: &[Declared<'_>],
+    side: Vec<Declared<'_>>,
 ) -> Result<Vec<Agent>, AllocError>
     requires table { IsTable (table_of names.now) }
     requires few { length names.now.declared.items < 2 ^ 32 }
-    requires in_range { AreAgentsBelow (length (table_of names.now).texts) side.now }
-    ensures { IfOk result (λ v. agents_of v.items ≡ map (numbered (table_of names.now).declared) (map (agent_in (table_of names.now).texts) side.now)) }
+    requires in_range { AreAgentsBelow (length (table_of names.now).texts) side.items }
+    ensures { IfOk result (λ v. agents_of v.items ≡ map (numbered (table_of names.now).declared) (map (agent_in (table_of names.now).texts) side.entry.items)) }
 {
     let mut agents = Vec::with_capacity(alloc, side.len())?;
     'agents: for declared in side {
@@ -161,39 +215,43 @@ pub(crate) fn number_agents(
 fn number_agent(
     alloc: Global,
     names: &Names<'_>,
-    declared: &Declared<'_>,
+    declared: Declared<'_>,
 ) -> Result<Agent, AllocError>
     requires table { IsTable (table_of names.now) }
     requires few { length names.now.declared.items < 2 ^ 32 }
-    requires in_range { AreBelow (length (table_of names.now).texts) declared.now.entries.items }
-    ensures { IfOk result (λ a. agent_of a ≡ numbered (table_of names.now).declared (agent_in (table_of names.now).texts declared.now)) }
+    requires in_range { AreBelow (length (table_of names.now).texts) declared.entries.items }
+    ensures { IfOk result (λ a. agent_of a ≡ numbered (table_of names.now).declared (agent_in (table_of names.now).texts declared.entry)) }
 {
-    let name = Vec::from_slice(alloc, declared.name)?;
-    let entries = number_names(alloc, names, &declared.entries)?;
+    let Declared {
+        name,
+        capacity,
+        line,
+        mut entries,
+    } = declared;
+    let name = Vec::from_slice(alloc, name)?;
+    number_names(names, &mut entries);
     Ok(Agent {
         name,
-        capacity: declared.capacity,
-        line: declared.line,
+        capacity,
+        line,
         entries,
     })
 }
 
-// The numbers of names.
-fn number_names(alloc: Global, names: &Names<'_>, indexes: &[usize]) -> Result<Vec<u32>, AllocError>
+// Puts the numbers of names in the place of their indexes.
+fn number_names(names: &Names<'_>, entries: &mut [u32])
     requires table { IsTable (table_of names.now) }
     requires few { length names.now.declared.items < 2 ^ 32 }
-    requires in_range { AreBelow (length (table_of names.now).texts) indexes.now }
-    ensures { IfOk result (λ v. v.items ≡ map (number_in (table_of names.now).declared) (map (text_at (table_of names.now).texts) indexes.now)) }
+    requires in_range { AreBelow (length (table_of names.now).texts) entries.old }
+    ensures { entries.new ≡ map (number_in (table_of names.now).declared) (map (text_at (table_of names.now).texts) entries.old) }
 {
-    let mut numbers = Vec::with_capacity(alloc, indexes.len())?;
-    'indexes: for index in indexes {
-        numbers.push(names.number(*index))?;
+    'entries: for entry in entries.iter_mut() {
+        *entry = names.number(*entry);
     }
-    Ok(numbers)
 }
 
-/// Pairs by number.
-pub(crate) fn number_pairs(
+// Pairs by number.
+fn number_pairs(
     alloc: Global,
     proposers: &Names<'_>,
     reviewers: &Names<'_>,
@@ -216,8 +274,8 @@ pub(crate) fn number_pairs(
     Ok(numbers)
 }
 
-/// Weights of pairs by number.
-pub(crate) fn number_weights(
+// Weights of pairs by number.
+fn number_weights(
     alloc: Global,
     proposers: &Names<'_>,
     reviewers: &Names<'_>,

@@ -19,7 +19,7 @@ use crate::faults::TextFault;
 use crate::forms::header_of;
 use crate::header::Header;
 use crate::judging::{Step, judge};
-use crate::numbering::{first_unknown, number_agents, number_pairs, number_weights};
+use crate::numbering::{Numbered, first_unknown, numbered_persons, numbered_sides};
 use crate::tokens::{cut, line_from};
 use sm_instance::{Input, Instance, InstanceFault, Kind, Persons};
 use sm_text::RefusalKind;
@@ -71,8 +71,8 @@ fn read_header(alloc: Global, bytes: &[u8]) -> Result<Header, TextFault>
     let mut at = 0;
     let mut line = 1;
     'lines: while let Some((text, next)) = line_from(bytes, at) {
-        let bad = cut(text, &mut tokens)?;
-        if let Some(kind) = heading(&tokens, bad, line)? {
+        let found = cut(text, &mut tokens)?;
+        if let Some(kind) = heading(&tokens, found.bad, line)? {
             return Ok(Header { kind, line, next });
         }
         at = next;
@@ -111,14 +111,14 @@ fn read_lines(alloc: Global, bytes: &[u8], header: Header) -> Result<Read, TextF
     let mut at = header.next;
     let mut line = header.line + 1;
     'lines: while let Some((text, next)) = line_from(bytes, at) {
-        let bad = cut(text, &mut tokens)?;
-        match judge(alloc, header.kind, &mut draft, line, &tokens, bad)? {
+        let found = cut(text, &mut tokens)?;
+        match judge(alloc, header.kind, &mut draft, line, &tokens, found)? {
             Step::Goes => {
                 at = next;
                 line += 1;
             }
             Step::Stops => {
-                let input = finished(alloc, header.kind, &draft)?;
+                let input = finished(alloc, header.kind, draft)?;
                 return Ok(Read {
                     input,
                     header_line: header.line,
@@ -132,12 +132,12 @@ fn read_lines(alloc: Global, bytes: &[u8], header: Header) -> Result<Read, TextF
 }
 
 // The instance that a text says whose lines have no fault.
-fn finished(alloc: Global, kind: Kind, draft: &Draft<'_>) -> Result<Input, TextFault>
-    requires { IsReady kind draft.now }
-    ensures finished { IfOk result (λ input. Finishes kind draft.now input) }
-    ensures fault { IfErr result (λ f. IsUnknownFault kind draft.now f) }
+fn finished(alloc: Global, kind: Kind, draft: Draft<'_>) -> Result<Input, TextFault>
+    requires { IsReady kind draft }
+    ensures finished { IfOk result (λ input. Finishes kind draft.entry input) }
+    ensures fault { IfErr result (λ f. IsUnknownFault kind draft.entry f) }
 {
-    if let Some(line) = first_unknown(kind, draft) {
+    if let Some(line) = first_unknown(kind, &draft) {
         return Err(TextFault::Refused(RefusalKind::UnknownName, line));
     }
     match kind {
@@ -147,13 +147,13 @@ fn finished(alloc: Global, kind: Kind, draft: &Draft<'_>) -> Result<Input, TextF
 }
 
 // The persons.
-fn persons(alloc: Global, draft: &Draft<'_>) -> Result<Input, TextFault>
-    requires ready { IsReady Kind.Roommates draft.now }
-    requires known { least (unknown_lines Kind.Roommates (said_of Kind.Roommates draft.now)) ≡ None }
-    ensures persons { IfOk result (λ input. input ≡ input_of Kind.Roommates (said_of Kind.Roommates draft.now)) }
+fn persons(alloc: Global, draft: Draft<'_>) -> Result<Input, TextFault>
+    requires ready { IsReady Kind.Roommates draft }
+    requires known { least (unknown_lines Kind.Roommates (said_of Kind.Roommates draft)) ≡ None }
+    ensures persons { IfOk result (λ input. input ≡ input_of Kind.Roommates (said_of Kind.Roommates draft.entry)) }
     ensures memory { IfErr result (λ f. f ≡ TextFault.OutOfMemory) }
 {
-    let persons = number_agents(alloc, &draft.proposer_names, &draft.proposers)?;
+    let persons = numbered_persons(alloc, draft)?;
     match Persons::build(alloc, persons) {
         Ok(persons) => Ok(Input::Room(persons)),
         Err(fault) => Err(want_of_memory(fault)),
@@ -161,21 +161,23 @@ fn persons(alloc: Global, draft: &Draft<'_>) -> Result<Input, TextFault>
 }
 
 // The two sides, with their weights and conditions.
-fn two_sides(alloc: Global, kind: Kind, draft: &Draft<'_>) -> Result<Input, TextFault>
+fn two_sides(alloc: Global, kind: Kind, draft: Draft<'_>) -> Result<Input, TextFault>
     requires two_sided { kind ≢ Kind.Roommates }
-    requires ready { IsReady kind draft.now }
-    requires known { least (unknown_lines kind (said_of kind draft.now)) ≡ None }
-    ensures sides { IfOk result (λ input. input ≡ Two (two_sides kind (said_of kind draft.now))) }
+    requires ready { IsReady kind draft }
+    requires known { least (unknown_lines kind (said_of kind draft)) ≡ None }
+    ensures sides { IfOk result (λ input. input ≡ Two (two_sides kind (said_of kind draft.entry))) }
     ensures memory { IfErr result (λ f. f ≡ TextFault.OutOfMemory) }
 {
-    let proposers = &draft.proposer_names;
-    let reviewers = &draft.reviewer_names;
-    let left = number_agents(alloc, reviewers, &draft.proposers)?;
-    let right = number_agents(alloc, proposers, &draft.reviewers)?;
-    let weights = number_weights(alloc, proposers, reviewers, &draft.weights)?;
-    let forced = number_pairs(alloc, proposers, reviewers, &draft.forced)?;
-    let forbidden = number_pairs(alloc, proposers, reviewers, &draft.forbidden)?;
-    match Instance::build(alloc, kind, left, right, weights, forced, forbidden) {
+    let Numbered {
+        proposers,
+        reviewers,
+        weights,
+        forced,
+        forbidden,
+    } = numbered_sides(alloc, draft)?;
+    match Instance::build(
+        alloc, kind, proposers, reviewers, weights, forced, forbidden,
+    ) {
         Ok(instance) => Ok(Input::Two(instance)),
         Err(fault) => Err(want_of_memory(fault)),
     }

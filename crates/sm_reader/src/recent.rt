@@ -4,7 +4,7 @@ use std::alloc::{AllocError, Global};
 use std::hash::{FoldHasher, Hasher};
 
 /// The number of slots, a power of two.
-const SLOTS: usize = 16_384;
+const SLOTS: usize = 32_768;
 
 /// The greatest number of bytes in a name that has a slot. A longer one would be hashed and compared in as much time as
 /// a set takes to find it.
@@ -29,23 +29,21 @@ impl Recent {
     }
 
     /// The index that a name may have, `None` where there is none to guess.
-    pub(crate) fn guess(&self, name: &[u8]) -> Option<usize> {
+    pub(crate) fn guess(&self, name: &[u8]) -> Option<u32> {
         let index = self.slots.get(slot_of(name)?)?;
-        Some(*index as usize)
+        Some(*index)
     }
 
     /// Notes the index of a name, instead of what stood in its slot.
-    pub(crate) fn note(&mut self, name: &[u8], index: usize) -> Result<(), AllocError> {
+    pub(crate) fn note(&mut self, name: &[u8], index: u32) -> Result<(), AllocError> {
         let Some(slot) = slot_of(name) else {
             return Ok(());
         };
         if self.slots.is_empty() {
             self.slots.resize(SLOTS, 0)?;
         }
-        if let Ok(index) = u32::try_from(index) {
-            if let Some(noted) = self.slots.get_mut(slot) {
-                *noted = index;
-            }
+        if let Some(noted) = self.slots.get_mut(slot) {
+            *noted = index;
         }
         Ok(())
     }

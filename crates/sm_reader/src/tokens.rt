@@ -1,17 +1,37 @@
 //! Lines, and their tokens.
 
-ghost use Rattle.std.specs.Prelude.{◌≡◌, ◌<◌, ◌≤◌, [], true, length, drop, IfOk, IfSome, MatchOption};
+ghost use Rattle.std.specs.Prelude.{◌≡◌, ◌-◌, ◌<◌, ◌≤◌, [], true, length, take, drop, IfOk, IfSome, MatchOption};
 ghost use Rattle.std.specs.List.{list_any, list_all};
 ghost use Rattle.sm_text.specs.Name.{is_name as is_a_name, is_name_byte};
-ghost use Rattle.sm_text.specs.Tokens.{tokens, begins_run, is_mark, IsLeading};
+ghost use Rattle.sm_text.specs.Tokens.{tokens, begins_run, IsLeading};
 ghost use Rattle.sm_reader.specs.Forms.{is_bad};
-ghost use Rattle.sm_reader.specs.Kept.{texts_of, LeadsLines, is_inner};
+ghost use Rattle.sm_reader.specs.Kept.{texts_of, LeadsLines, is_inner, AreNamesAtEnd};
 
 use sm_text::{LineSpan, TokenAt, is_name_byte, line_at, token_at};
 use std::alloc::AllocError;
 
 /// The greatest number of bytes in a name.
 const LONGEST: usize = 64;
+
+/// What the tokens of a line were found to be.
+#[derive(Clone, Copy)]
+pub(crate) struct Found {
+    /// Is a token a byte that no line of an instance holds?
+    pub(crate) bad: bool,
+    /// How many tokens at the end of the line are known to be names.
+    pub(crate) names: usize,
+}
+
+// Where a token stands on a line, and what it was found to be.
+#[derive(Clone, Copy)]
+struct Token {
+    start: usize,
+    stop: usize,
+    // Is it a byte that no line of an instance holds?
+    bad: bool,
+    // Is it known to be a name?
+    name: bool,
+}
 
 /// What the line that begins at a place holds, and the place behind the line.
 pub(crate) fn line_from<'a>(bytes: &'a [u8], from: usize) -> Option<(&'a [u8], usize)>
@@ -23,31 +43,54 @@ pub(crate) fn line_from<'a>(bytes: &'a [u8], from: usize) -> Option<(&'a [u8], u
     Some((&bytes[start..stop], next))
 }
 
-/// Cuts a line into its tokens, instead of what the vector holds. Returns whether one of them is a byte that no line of
-/// an instance holds.
-pub(crate) fn cut<'a>(line: &'a [u8], into: &mut Vec<&'a [u8]>) -> Result<bool, AllocError>
+/// Cuts a line into its tokens, instead of what the vector holds.
+pub(crate) fn cut<'a>(line: &'a [u8], into: &mut Vec<&'a [u8]>) -> Result<Found, AllocError>
     ensures cut { IfOk result (λ _. texts_of into.new.items ≡ tokens line.now) }
-    ensures bad { IfOk result (λ bad. bad ≡ list_any is_bad (tokens line.now)) }
+    ensures bad { IfOk result (λ found. found.bad ≡ list_any is_bad (tokens line.now)) }
+    ensures names { IfOk result (λ found. AreNamesAtEnd found.names (tokens line.now)) }
 {
     into.clear();
     let mut from = 0;
     let mut bad = false;
-    'tokens: while let Some((start, stop)) = token_from(line, from) {
-        let token = &line[start..stop];
-        bad = bad || is_bad(token);
-        into.push(token)?;
-        from = stop;
+    // The place behind the last token that isn't known to be a name.
+    let mut others = 0;
+    'tokens: while let Some(token) = token_from(line, from) {
+        bad = bad || token.bad;
+        others = if token.name { others } else { into.len() + 1 };
+        into.push(&line[token.start..token.stop])?;
+        from = token.stop;
     }
-    Ok(bad)
+    Ok(Found {
+        bad,
+        names: into.len() - others,
+    })
 }
 
-// The places of the first token at or behind a place of a line.
-fn token_from(line: &[u8], from: usize) -> Option<(usize, usize)>
-    ensures { MatchOption result (tokens (drop from line.now) ≡ []) (λ r. IsLeading line.now from r.0 r.1) }
+// The first token at or behind a place of a line.
+fn token_from(line: &[u8], from: usize) -> Option<Token>
+    ensures places { MatchOption result (tokens (drop from line.now) ≡ []) (λ t. IsLeading line.now from t.start t.stop) }
+    ensures bad { IfSome result (λ t. t.bad ≡ is_bad (take (t.stop - t.start) (drop t.start line.now))) }
+    ensures name { IfSome result (λ t. t.name ≡ true → is_a_name (take (t.stop - t.start) (drop t.start line.now)) ≡ true) }
 {
     match token_at(line, from) {
-        TokenAt::Run(start, stop) => Some((start, stop)),
-        TokenAt::Mark(at) | TokenAt::Bad(at) => Some((at, at + 1)),
+        TokenAt::Run(start, stop) => Some(Token {
+            start,
+            stop,
+            bad: false,
+            name: is_name_run(&line[start..stop]),
+        }),
+        TokenAt::Mark(at) => Some(Token {
+            start: at,
+            stop: at + 1,
+            bad: false,
+            name: false,
+        }),
+        TokenAt::Bad(at) => Some(Token {
+            start: at,
+            stop: at + 1,
+            bad: true,
+            name: false,
+        }),
         TokenAt::Over => None,
     }
 }
@@ -78,23 +121,4 @@ fn is_inner(b: u8) -> bool
     ensures { result ≡ is_inner b }
 {
     b == b'.' || b == b'-'
-}
-
-// Is the token a byte that no line of an instance holds?
-#[tactic(auto, unfolding(crate::specs::Forms::is_bad))]
-fn is_bad(token: &[u8]) -> bool
-    ensures { result ≡ is_bad token.now }
-{
-    match token {
-        [first, ..] => !(is_name_byte(*first) || is_mark(*first)),
-        [] => false,
-    }
-}
-
-// Is it `:`, `[` or `]`?
-#[tactic(auto, unfolding(sm_text::specs::Tokens::is_mark))]
-fn is_mark(b: u8) -> bool
-    ensures { result ≡ is_mark b }
-{
-    matches!(b, b':' | b'[' | b']')
 }

@@ -4,12 +4,16 @@ use Rattle.std.proofs.lemmas.List.{get_or_default}
 use Rattle.sm_text.specs.Name.{is_name}
 use Rattle.sm_reader.proofs.TextLemmas.{all_texts_fail, all_texts_more, all_texts_end}
 use Rattle.sm_reader.proofs.WholeLemmas.{run_at}
+use Rattle.sm_reader.proofs.NameLemmas.{all_names}
 use Rattle.sm_reader.proofs.judging.are_names.Goals as goal
+
+pub returns-then-runs-names : goal.returns-then-runs-names
+returns-then-runs-names c = sym (all_names c.args.names c.args.runs.now c.requires.names c.if-runs-names.true)
 
 pub is_name_run-requires : goal.is_name_run-requires
 is_name_run-requires c =
     let d : Bor (List ℕ) = record { ref_ptr = (0, 0); now = [] } in
-    run_at c.args.runs.now c.runs.run-index d c.runs-test.true c.requires
+    run_at c.args.runs.now c.runs.run-index d c.runs-test.true c.requires.runs
 
 pub returns-then-not-is_name_run : goal.returns-then-not-is_name_run
 returns-then-not-is_name_run c =

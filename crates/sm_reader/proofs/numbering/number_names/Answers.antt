@@ -1,26 +1,33 @@
-use Rattle.std.proofs.Common.{◌++◌, ◌∷◌, [], ap, ◌∙◌, sym, length, map, take, get_or}
+use Rattle.std.proofs.Common.{◌≡◌, ◌<◌, ◌+◌, ◌++◌, ◌∷◌, [], ap, ◌∙◌, sym, subst, length, map, take, drop, get_or, set}
 use Rattle.std.proofs.lemmas.List.{map_push}
 use Rattle.sm_reader.specs.InstanceText.{number_in}
 use Rattle.sm_reader.specs.Kept.{table_of, text_at}
 use Rattle.sm_reader.proofs.ListingLemmas.{below_at}
-use Rattle.sm_reader.proofs.NumberLemmas.{front_more, front_all}
+use Rattle.sm_reader.proofs.NumberLemmas.{front_long, front_more, replaced_at, replaced_more}
 use Rattle.sm_reader.proofs.numbering.number_names.Goals as goal
 
 pub number-requires-clause-in_range : goal.number-requires-clause-in_range
-number-requires-clause-in_range c = below_at (length (table_of c.args.names.now).texts) c.args.indexes.now c.indexes.index-index c.requires.in_range c.indexes-test.true
-
-pub indexes-preserved : goal.indexes-preserved
-indexes-preserved c =
+number-requires-clause-in_range c =
     let t = table_of c.args.names.now in
-    let i = c.indexes.index-index in
-    let ids = c.args.indexes.now in
-    c.in_ok-push.ensures.items
-    ∙ ap (λ xs. xs ++ c.number.result ∷ []) c.indexes.invariant
-    ∙ ap (λ n. map (number_in t.declared) (map (text_at t.texts) (take i ids)) ++ n ∷ []) c.number.ensures
-    ∙ sym (map_push (number_in t.declared) (map (text_at t.texts) (take i ids)) (text_at t.texts (get_or ids i 0)))
-    ∙ ap (map (number_in t.declared)) (sym (front_more (text_at t.texts) ids i 0 c.indexes-test.true))
+    let old = c.args.entries.now in
+    let i = c.entries.entry-index in
+    let front = map (number_in t.declared) (map (text_at t.texts) (take i old)) in
+    let same : get_or c.entries.entries i 0 ≡ get_or old i 0 = ap (λ xs. get_or xs i 0) c.entries.invariant
+    ∙ replaced_at front old i 0 (front_long (number_in t.declared) (text_at t.texts) old i c.entries-test.true) c.entries-test.true in
+    subst (λ x. x < length t.texts) (sym same) (below_at (length t.texts) old i c.requires.in_range c.entries-test.true)
 
-pub returns : goal.returns
-returns c =
+pub entries-preserved : goal.entries-preserved
+entries-preserved c =
     let t = table_of c.args.names.now in
-    c.indexes.invariant ∙ ap (map (number_in t.declared)) (front_all (text_at t.texts) c.args.indexes.now c.indexes.index-index c.indexes-test.false)
+    let old = c.args.entries.now in
+    let i = c.entries.entry-index in
+    let names = map (text_at t.texts) (take i old) in
+    let front = map (number_in t.declared) names in
+    let behind = drop (i + 1) old in
+    let long = front_long (number_in t.declared) (text_at t.texts) old i c.entries-test.true in
+    let same : get_or c.entries.entries i 0 ≡ get_or old i 0 = ap (λ xs. get_or xs i 0) c.entries.invariant ∙ replaced_at front old i 0 long c.entries-test.true in
+    ap (λ xs. set xs i c.number.result) c.entries.invariant
+    ∙ replaced_more front old i 0 long c.entries-test.true c.number.result
+    ∙ ap (λ n. (front ++ n ∷ []) ++ behind) (c.number.ensures ∙ ap (λ x. number_in t.declared (text_at t.texts x)) same)
+    ∙ ap (λ xs. xs ++ behind) (sym (map_push (number_in t.declared) names (text_at t.texts (get_or old i 0)))
+    ∙ ap (map (number_in t.declared)) (sym (front_more (text_at t.texts) old i 0 c.entries-test.true)))

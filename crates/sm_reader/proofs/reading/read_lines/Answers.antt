@@ -18,7 +18,7 @@ use Rattle.sm_reader.proofs.reading.read_lines.Goals as goal
 
 pub judge-requires-clause-whole : goal.judge-requires-clause-whole
 judge-requires-clause-whole c =
-    let toks : texts_of c.deref.result.now ≡ tokens c.in-Some.text.now = ap texts_of c.deref.ensures.value ∙ c.in_ok-bad.ensures.cut in
+    let toks : texts_of c.deref.result.now ≡ tokens c.in-Some.text.now = ap texts_of c.deref.ensures.value ∙ c.in_ok-found.ensures.cut in
     ap (list_all is_whole) toks ∙ tokens_whole c.in-Some.text.now
 
 pub lines-init : goal.lines-init
@@ -38,7 +38,7 @@ lines-preserved c =
     let bytes = c.args.bytes.now in
     let old = c.lines.draft in
     let said = said_of h.kind old in
-    let toks : texts_of c.deref.result.now ≡ tokens c.in-Some.text.now = ap texts_of c.deref.ensures.value ∙ c.in_ok-bad.ensures.cut in
+    let toks : texts_of c.deref.result.now ≡ tokens c.in-Some.text.now = ap texts_of c.deref.ensures.value ∙ c.in_ok-found.ensures.cut in
     let judged = rw c.in-Goes.is at c.in_ok-judge.ensures.judged in
     record {
       means = sym (goes_step bytes c.in-Some.text.now c.lines.at c.in-Some.next c.in-Some.ensures.line h.kind h.line said c.lines.line (said_of h.kind c.judge.new.draft)
@@ -56,7 +56,7 @@ returns-in_err-input-in-Stops-clause-fault c =
     let old = c.lines.draft in
     let new = c.judge.new.draft in
     let said = said_of h.kind old in
-    let toks : texts_of c.deref.result.now ≡ tokens c.in-Some.text.now = ap texts_of c.deref.ensures.value ∙ c.in_ok-bad.ensures.cut in
+    let toks : texts_of c.deref.result.now ≡ tokens c.in-Some.text.now = ap texts_of c.deref.ensures.value ∙ c.in_ok-found.ensures.cut in
     let judged = rw c.in-Stops.is at c.in_ok-judge.ensures.judged in
     let meaning = behind_header h.kind h.line nothing (h.line + 1) h.next (lines (drop h.next bytes)) in
     let means : meaning ≡ ended h.kind h.line (said_of h.kind new) c.in-Some.next (c.lines.line + 1) =
@@ -75,7 +75,7 @@ returns-in-Stops-clause-read c =
     let old = c.lines.draft in
     let new = c.judge.new.draft in
     let said = said_of h.kind old in
-    let toks : texts_of c.deref.result.now ≡ tokens c.in-Some.text.now = ap texts_of c.deref.ensures.value ∙ c.in_ok-bad.ensures.cut in
+    let toks : texts_of c.deref.result.now ≡ tokens c.in-Some.text.now = ap texts_of c.deref.ensures.value ∙ c.in_ok-found.ensures.cut in
     let judged = rw c.in-Stops.is at c.in_ok-judge.ensures.judged in
     sym c.lines.invariant.means
     ∙ stops_step bytes c.in-Some.text.now c.lines.at c.in-Some.next c.in-Some.ensures.line h.kind h.line said c.lines.line (ap (verdict_on h.kind said c.lines.line) (sym toks) ∙ judged.0)

@@ -14,11 +14,11 @@ returns-in_ok-push-2 c =
     let key : Key = record { text = name } in
     let old = keys c.args.self.now.texts in
     let new = keys c.insert_full.new.self in
-    let absent : list_any (λ (k : Key). bytes_eq name.now (text_of k)) old ≡ false = from_not_true _ (sym c.in_ok-index.ensures.added ∙ c.if-is_new.true) in
+    let absent : list_any (λ (k : Key). bytes_eq name.now (text_of k)) old ≡ false = from_not_true _ (sym c.in_ok-place.ensures.added ∙ c.if-is_new.true) in
     let missing : list_any (bytes_eq name.now) (key_texts old) ≡ false = sym (list_any_texts name.now old) ∙ absent in
-    let put : new ≡ old ++ key ∷ [] = c.in_ok-index.ensures.keys ∙ ap (λ b. cond b old (old ++ key ∷ [])) absent in
-    let index : c.in_ok-index.index ≡ length (key_texts old) =
-    c.in_ok-index.ensures.index ∙ position_texts name.now old ∙ position_or_len-none (bytes_eq name.now) (key_texts old) missing in
+    let put : new ≡ old ++ key ∷ [] = c.in_ok-place.ensures.keys ∙ ap (λ b. cond b old (old ++ key ∷ [])) absent in
+    let index : c.in-Ok.index ≡ length (key_texts old) =
+    c.in-Ok.ensures.1 ∙ c.in_ok-place.ensures.index ∙ position_texts name.now old ∙ position_or_len-none (bytes_eq name.now) (key_texts old) missing in
     interned_new _ _ _ _ c.requires missing (ap key_texts put ∙ keys_push old key) c.in_ok-push.ensures.items c.in_ok-push-2.ensures.items refl index
 
 pub returns-else-is_new : goal.returns-else-is_new
@@ -27,7 +27,7 @@ returns-else-is_new c =
     let key : Key = record { text = name } in
     let old = keys c.args.self.now.texts in
     let new = keys c.insert_full.new.self in
-    let there : list_any (λ (k : Key). bytes_eq name.now (text_of k)) old ≡ true = from_not_false _ (sym c.in_ok-index.ensures.added ∙ c.if-is_new.false) in
-    let put : new ≡ old = c.in_ok-index.ensures.keys ∙ ap (λ b. cond b old (old ++ key ∷ [])) there in
+    let there : list_any (λ (k : Key). bytes_eq name.now (text_of k)) old ≡ true = from_not_false _ (sym c.in_ok-place.ensures.added ∙ c.if-is_new.false) in
+    let put : new ≡ old = c.in_ok-place.ensures.keys ∙ ap (λ b. cond b old (old ++ key ∷ [])) there in
     interned_old _ _ _ _ c.requires (sym (list_any_texts name.now old) ∙ there) (ap key_texts put) refl refl refl
-    (c.in_ok-index.ensures.index ∙ position_texts name.now old)
+    (c.in-Ok.ensures.1 ∙ c.in_ok-place.ensures.index ∙ position_texts name.now old)

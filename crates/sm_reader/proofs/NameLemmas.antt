@@ -1,0 +1,55 @@
+-- The names at the end of tokens.
+use Rattle.std.proofs.Common.{◌≡◌, ℕ, zero, suc, ◌+◌, ◌-◌, ◌≤◌, true, List, [], ◌∷◌, length, take, drop, refl, sym, ap, subst, ◌∙◌, arith}
+use Rattle.std.specs.List.{list_all}
+use Rattle.std.specs.Borrow.{Bor}
+use Rattle.std.proofs.lemmas.List.{take_rest, drop-drop, drop-map, drop_all, length-map, length-drop}
+use Rattle.sm_text.specs.Name.{is_name, is_name_byte}
+use Rattle.sm_text.specs.Tokens.{begins_run}
+use Rattle.sm_instance.specs.declared.kinds.Kind.{Kind}
+use Rattle.sm_reader.specs.Forms.{form_behind}
+use Rattle.sm_reader.specs.Kept.{texts_of, AreNamesAtEnd}
+use Rattle.sm_reader.proofs.WholeLemmas.{and_left, and_right, listed, list_behind}
+
+module _ (names : ℕ) where
+  -- they are the names at the end of what stands behind some of the tokens
+  names_behind : (n : ℕ) (tokens : List (List ℕ)) → AreNamesAtEnd names tokens → AreNamesAtEnd names (drop n tokens)
+  names_behind n tokens h = record {
+    are = λ k few. let e = drop-drop k n tokens in ap (list_all is_name) e ∙ h.are _ (subst (λ ts. length ts ≤ names) e few);
+  }
+
+  -- and so in the rest of a slice
+  pub names_rest : (n : ℕ) (tokens : List (Bor (List ℕ))) → AreNamesAtEnd names (texts_of tokens) → AreNamesAtEnd names (texts_of (take (length tokens - n) (drop n tokens)))
+  names_rest n tokens h =
+      subst (λ (ts : List (Bor (List ℕ))). AreNamesAtEnd names (texts_of ts)) (sym (take_rest tokens n))
+      (subst (AreNamesAtEnd names) (drop-map (λ (x : Bor (List ℕ)). x.now) n tokens) (names_behind n (texts_of tokens) h))
+
+  -- and of the list of a line
+  pub form_names : (kind : Kind) (word : List ℕ) (rest : List (List ℕ)) → AreNamesAtEnd names rest → AreNamesAtEnd names (listed (form_behind kind word rest))
+  form_names = list_behind (AreNamesAtEnd names) (AreNamesAtEnd names) (λ t ts. names_behind 1 (t ∷ ts)) (record { are = λ k few. ap (list_all is_name) (drop_all k [] (omega arith)) }) (λ ts begin h. h)
+
+  -- all tokens are names where there are no more of them
+  pub all_names : (tokens : List (Bor (List ℕ))) → AreNamesAtEnd names (texts_of tokens) → length tokens ≤ names → list_all is_name (texts_of tokens) ≡ true
+  all_names tokens h few = h.are 0 (omega (arith, length-map tokens (λ (x : Bor (List ℕ)). x.now)))
+
+-- those behind some of the names are names
+names_drop : (n : ℕ) (tokens : List (List ℕ)) → list_all is_name tokens ≡ true → list_all is_name (drop n tokens) ≡ true
+names_drop zero tokens h = h
+names_drop (suc n) [] h = refl
+names_drop (suc n) (t ∷ ts) h = names_drop n ts (and_right (is_name t) (list_all is_name ts) h)
+
+-- the tokens from a place on are the names at the end
+pub names_from : (place : ℕ) (tokens : List (List ℕ)) → list_all is_name (drop place tokens) ≡ true → place ≤ length tokens → AreNamesAtEnd (length tokens - place) tokens
+names_from place tokens h within = record {
+  are = λ k few.
+      let e : place + (k - place) ≡ k = omega (arith, few, within, length-drop k tokens) in
+      ap (λ n. list_all is_name (drop n tokens)) (sym e) ∙ ap (list_all is_name) (sym (drop-drop (k - place) place tokens)) ∙ names_drop (k - place) (drop place tokens) h;
+}
+
+-- names are runs
+name_begins : (token : List ℕ) → is_name token ≡ true → begins_run token ≡ true
+name_begins [] h = cc
+name_begins (b ∷ rest) h = and_left (is_name_byte b) (list_all is_name_byte rest) (and_right _ (list_all is_name_byte (b ∷ rest)) h)
+
+pub names_begin : (tokens : List (List ℕ)) → list_all is_name tokens ≡ true → list_all begins_run tokens ≡ true
+names_begin [] h = refl
+names_begin (t ∷ ts) h = rw (name_begins t (and_left (is_name t) (list_all is_name ts) h)) (names_begin ts (and_right (is_name t) (list_all is_name ts) h))
