@@ -209,6 +209,20 @@ fn crosses(rt: &impl Abort, list: &[u32], crosses: &[Cross], wanted: &[(u32, Opt
     }
 }
 
+// Makes sure of a proposer's list.
+fn proposer_lists(rt: &impl Abort, instance: &Instance, p: u32, wanted: &[(u32, Option<u32>)]) {
+    assert!(rt; p < instance.proposer_count());
+    let list = instance.proposer_list(p);
+    crosses(rt, list, instance.proposer_crosses(p), wanted);
+}
+
+// Makes sure of a reviewer's list.
+fn reviewer_lists(rt: &impl Abort, instance: &Instance, r: u32, wanted: &[(u32, Option<u32>)]) {
+    assert!(rt; r < instance.reviewer_count());
+    let list = instance.reviewer_list(r);
+    crosses(rt, list, instance.reviewer_crosses(r), wanted);
+}
+
 // `m1` lists `x`, who doesn't list it back, before `a`.
 fn inert_entry(alloc: Global) -> Result<Instance, InstanceFault> {
     let proposers = side(alloc, &["m1", "m2"], &[&[0, 1], &[1]])?;
@@ -221,18 +235,8 @@ fn inert_entries_keep_their_places(rt: HostRuntime) -> Result<(), Fail> {
     let instance = inert_entry(rt.alloc())?;
     accepts(&rt, &instance, 0, 0, false);
     accepts(&rt, &instance, 0, 1, true);
-    crosses(
-        &rt,
-        instance.proposer_list(0),
-        instance.proposer_crosses(0),
-        &[(0, None), (1, Some(1))],
-    );
-    crosses(
-        &rt,
-        instance.reviewer_list(1),
-        instance.reviewer_crosses(1),
-        &[(1, Some(0)), (0, Some(1))],
-    );
+    proposer_lists(&rt, &instance, 0, &[(0, None), (1, Some(1))]);
+    reviewer_lists(&rt, &instance, 1, &[(1, Some(0)), (0, Some(1))]);
     has_ranks(&rt, &instance, &[None, Some(0)], [3, 1])?;
     is_blocked(&rt, &instance, &[None, Some(0)], None)?;
     breaks(&rt, &instance, &[Some(0), Some(0)], Some(0))?;
