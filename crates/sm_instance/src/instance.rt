@@ -234,7 +234,8 @@ impl Instance {
         self.kept_cross(p, place)
     }
 
-    /// For each place of a proposer's list, the proposer's place on the list of the reviewer there.
+    /// For each place of a proposer's list, the proposer's place on the list of the reviewer there; none where it isn't on
+    /// it, so that the entry is inert. Takes the same time for all.
     pub fn proposer_crosses(&self, p: u32) -> &[Cross]
         requires { p < length self.now.proposers }
         ensures { AreCrossPlacesOf self.now.proposers self.now.reviewers p result.now }
@@ -242,7 +243,8 @@ impl Instance {
         &self.crosses[p as usize]
     }
 
-    /// For each place of a reviewer's list, the reviewer's place on the list of the proposer there.
+    /// For each place of a reviewer's list, the reviewer's place on the list of the proposer there; none where it isn't on
+    /// it, so that the entry is inert. Takes the same time for all.
     pub fn reviewer_crosses(&self, r: u32) -> &[Cross]
         requires { r < length self.now.reviewers }
         ensures { AreCrossPlacesOf self.now.reviewers self.now.proposers r result.now }
