@@ -53,8 +53,12 @@ fn put_words(
     put_fields(into, input, fields)
 }
 
-/// Puts a line's text.
-fn put_text(into: &mut LineWriter, input: &Input, line: &Line) -> Result<(), AllocError>
+/// Puts a line's text behind what a writer holds, without LF. The rest is as [`put_line`] says.
+///
+/// # Errors
+///
+/// `AllocError` where memory ran out, and only then. The writer then holds what it held and a front of the text.
+pub fn put_text(into: &mut LineWriter, input: &Input, line: &Line) -> Result<(), AllocError>
     requires { IsPrintable input.now (line_of line.now) }
     ensures { PutsText into.old into.new (text_of_line input.now (line_of line.now)) result }
 {

@@ -1,0 +1,4 @@
+pub mod Jobs
+pub mod Tables
+pub mod Operands
+pub mod Words

@@ -1,0 +1,40 @@
+-- How words give operands.
+use Rattle.std.specs.Prelude.{ℕ, ◌==◌, nat_lt, Bool, List, length, Option, Some, None, option_map, if◌then◌else◌}
+use Rattle.std.specs.List.{before_first, after_first, position_or_len}
+use Rattle.std.specs.Option.{option_and_then}
+use Rattle.sm_instance.specs.declared.kinds.Side.{Side}
+use Rattle.sm_words.specs.declared.operands.Command.{Command}
+use Rattle.sm_words.specs.declared.operands.Given.{Given}
+use Rattle.sm_words.specs.Tables.{look_up, operands_of, ValueData, OfSide, value_named}
+
+-- the operands that were given: for each its value, if it stands
+pub record GivenData : Type 0 where
+  pub side : Option Side
+
+abbrev pub given_of : Given → GivenData
+given_of g = record { side = g.side }
+
+abbrev pub nothing : GivenData
+nothing = record { side = None }
+
+-- each operand stands at most once
+abbrev pub once : {T : Type 0} → Option T → T → Option (Option T)
+once None value = Some (Some value)
+once (Some old) value = None
+
+abbrev pub with_value : ValueData → GivenData → Option GivenData
+with_value (OfSide v) g = option_map (λ s. record g { side = s }) (once g.side v)
+
+-- a word is a name, `=` and a value, which is all behind the first `=`
+abbrev pub is_equals : ℕ → Bool
+is_equals b = b == 61
+
+-- what a word gives to a command's operands
+abbrev pub value_in : Command → List ℕ → Option ValueData
+value_in command word =
+    if nat_lt (position_or_len is_equals word) (length word)
+    then option_and_then (λ operand. value_named operand (after_first is_equals word)) (look_up (operands_of command) (before_first is_equals word))
+    else None
+
+abbrev pub with_word : Command → List ℕ → GivenData → Option GivenData
+with_word command word given = option_and_then (λ value. with_value value given) (value_in command word)

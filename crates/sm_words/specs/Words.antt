@@ -1,0 +1,53 @@
+-- What words mean.
+use Rattle.std.specs.Prelude.{◌≡◌, ℕ, ◌+◌, List, [], ◌∷◌, length, map, Option, Some, Result, Ok, Err, string_bytes, String}
+use Rattle.std.specs.Option.{option_map_or}
+use Rattle.std.specs.declared.alloc.Global.{Global}
+use Rattle.sm_words.specs.declared.operands.Command.{Command}
+use Rattle.sm_words.specs.declared.operands.Command.TheVariants as command
+use Rattle.sm_words.specs.declared.jobs.WordsFault.{WordsFault}
+use Rattle.sm_words.specs.declared.jobs.WordsFault.TheVariants.{Usage, OutOfMemory}
+use Rattle.sm_words.specs.Jobs.{JobData, Solve, Reduced, Rotations}
+use Rattle.sm_words.specs.Tables.{look_up, commands}
+use Rattle.sm_words.specs.Operands.{GivenData, nothing, with_word}
+
+-- the bytes of each word
+abbrev pub texts : List (String Global) → List (List ℕ)
+texts words = map string_bytes words
+
+-- The faulty word is the first that these steps find. First the words are tried from the left. The first word is faulty
+-- where it isn't a command, and a later one where it isn't an operand of this command with a right value, or repeats one.
+abbrev pub read_operands : Command → ℕ → GivenData → List (List ℕ) → Result GivenData ℕ
+read_operands command number given [] = Ok given
+read_operands command number given (word ∷ more) =
+    option_map_or (λ g. read_operands command (number + 1) g more) (with_word command word given) (Err number)
+
+-- Then, where there is no command or a required operand is missing, the word behind the last is faulty.
+abbrev pub job_for : Command → GivenData → Option JobData
+job_for command.Solve g = Some (Solve g.side)
+job_for command.Reduced g = Some Reduced
+job_for command.Rotations g = Some Rotations
+
+abbrev pub or_missing : Command → ℕ → Result GivenData ℕ → Result JobData ℕ
+or_missing command behind (Err word) = Err word
+or_missing command behind (Ok g) = option_map_or Ok (job_for command g) (Err behind)
+
+-- what a command asks for with the words behind it
+abbrev pub asked : Command → List (List ℕ) → Result JobData ℕ
+asked command operands = or_missing command (length operands + 2) (read_operands command 2 nothing operands)
+
+-- what words ask for, or the number of the faulty word, counted from 1
+abbrev pub words_meaning : List (List ℕ) → Result JobData ℕ
+words_meaning [] = Err 1
+words_meaning (word ∷ operands) = option_map_or (λ command. asked command operands) (look_up commands word) (Err 1)
+
+-- a fault of words is that of what they mean; want of memory says nothing
+abbrev pub IsFaultBy : {A : Type 0} → Result A ℕ → WordsFault → Type 0
+IsFaultBy meaning (Usage word) = meaning ≡ Err word
+IsFaultBy meaning OutOfMemory = Unit {0}
+
+abbrev pub IsWordsFault : List (List ℕ) → WordsFault → Type 0
+IsWordsFault words fault = IsFaultBy (words_meaning words) fault
+
+abbrev pub IsNoMemory : WordsFault → Type 0
+IsNoMemory (Usage word) = ⊥
+IsNoMemory OutOfMemory = Unit {0}

@@ -1,0 +1,38 @@
+//! What words may ask for, and why they ask for nothing.
+
+use sm_instance::Side;
+use std::alloc::AllocError;
+use thiserror::Error;
+
+/// What the words ask for.
+#[derive(Debug, Drop, PartialEq, Eq)]
+pub enum Job {
+    /// The best stable matching of a side, of the proposers where no side is named.
+    Solve(Option<Side>),
+    /// The first and the last partners, and the reduced lists.
+    Reduced,
+    /// The first partners, the chain of rotations, and what each rotation needs.
+    Rotations,
+}
+
+/// Why words ask for nothing.
+#[derive(Debug, Drop, Error)]
+pub enum WordsFault {
+    /// The word of this number, counted from 1, is faulty.
+    #[error("word {0} is faulty")]
+    Usage(u32),
+    /// There was no memory.
+    #[error("no memory")]
+    OutOfMemory,
+}
+
+impl From<AllocError> for WordsFault {
+    ghost use Rattle.std.specs.Prelude.{◌≡◌};
+    ghost use Rattle.sm_words.specs.declared.jobs.WordsFault.TheVariants.{OutOfMemory};
+
+    ghost from_gives = { λ _ e. e ≡ OutOfMemory };
+
+    fn from(_e: AllocError) -> WordsFault {
+        WordsFault::OutOfMemory
+    }
+}
