@@ -2,11 +2,6 @@
 use Rattle.std.proofs.Common.{ℕ, ◌≤◌, inl, inr, arith}
 use Rattle.sm_io.specs.Faults.{Rose}
 
--- a count that rose stays risen
-pub Rose-later : (a b c : ℕ) → a ≤ b → Rose a b → b ≤ c → Rose a c
-Rose-later a b c p (inl rose) q = inl (omega arith)
-Rose-later a b c p (inr top) q = grind arith
-
 -- a count that rises later has risen since before
 pub Rose-sooner : (a b c : ℕ) → a ≤ b → Rose b c → Rose a c
 Rose-sooner a b c p (inl rose) = inl (omega arith)

@@ -1,5 +1,4 @@
 mod Out
 mod PieceLemmas
 pub mod FaultLemmas
-pub mod SourceLemmas
 pub mod SinkLemmas

@@ -1,8 +1,8 @@
 -- How far a loop that writes a piece has come.
-use Rattle.std.proofs.Common.{◌≡◌, ℕ, List, [], ◌++◌, length, take, drop, Option, refl, sym, ap, ◌∙◌, append_assoc, append-nil}
+use Rattle.std.proofs.Common.{◌≡◌, ℕ, List, ◌++◌, length, take, drop, Option, sym, ap, ◌∙◌, append_assoc}
 use Rattle.std.proofs.Math.Seq.{take-append_seam}
 use Rattle.std.proofs.lemmas.List.{take-append-drop}
-use Rattle.std.proofs.KnownBytes.{Appends-nil, Appends-trans, Appends-kept, Keeps-refl}
+use Rattle.std.proofs.KnownBytes.{Appends-trans, Appends-kept, Keeps-refl}
 use Rattle.std.specs.Io.KnownBytes.{Appends, Keeps}
 use Rattle.sm_io.specs.Edge.{AppendsPart}
 
@@ -11,9 +11,6 @@ pub record IsOut (before after : Option (List ℕ)) (piece rest : List ℕ) : Ty
   pub out : List ℕ
   pub whole : piece ≡ out ++ rest
   pub appends : Appends before after out
-
-pub IsOut-start : (before : Option (List ℕ)) (piece : List ℕ) → IsOut before before piece piece
-IsOut-start before piece = record { out = []; whole = refl; appends = Appends-nil before }
 
 -- one more write, of n bytes
 pub IsOut-more : {before mid : Option (List ℕ)} {piece rest : List ℕ} (after : Option (List ℕ)) (n : ℕ) → IsOut before mid piece rest
@@ -35,10 +32,3 @@ IsOut-part {before} {mid} {piece} {rest} after o k =
 pub IsOut-last : {before mid : Option (List ℕ)} {piece rest : List ℕ} (after : Option (List ℕ)) (n : ℕ) → IsOut before mid piece rest
     → Appends mid after (take n rest) → AppendsPart before after piece
 IsOut-last after n o w = IsOut-part after (IsOut-more after n o w) (Keeps-refl after)
-
--- at the end of the loop the whole piece is out
-pub IsOut-all : {before mid : Option (List ℕ)} {piece rest : List ℕ} (after : Option (List ℕ)) → IsOut before mid piece rest → rest ≡ []
-    → Keeps mid after → Appends before after piece
-IsOut-all {before} {mid} {piece} {rest} after o none k =
-    let e : piece ≡ o.out = o.whole ∙ ap (λ l. o.out ++ l) none ∙ append-nil o.out in
-    rw e (Appends-kept before mid after o.out o.appends k)

@@ -1,4 +1,5 @@
-// A source over a reader and a sink over a writer: the ways out of the program.
+//! A source over a reader and a sink over a writer: the ways out of the program.
+
 ghost use Rattle.std.specs.Prelude.{◌≡◌, ◌≤◌, None};
 ghost use Rattle.sm_io.specs.Faults.{Rose};
 ghost use Rattle.sm_io.specs.Source.{Takes};

@@ -1,4 +1,5 @@
-// A source and a sink in memory that fail at chosen calls.
+//! A source and a sink in memory that fail at chosen calls.
+
 ghost use Rattle.std.specs.Prelude.{◌≡◌, ◌≤◌, ◌==◌, [], length, find, option_map, Some, IfOk};
 ghost use Rattle.std.specs.List.{list_any};
 ghost use Rattle.sm_io.specs.Faults.{Rose};

@@ -1,6 +1,6 @@
-// A source and a sink in memory that never fail.
-ghost use Rattle.std.specs.Prelude.{◌≡◌, ◌≤◌, [], Some, IfOk, option_copied};
-ghost use Rattle.sm_io.specs.Faults.{Rose};
+//! A source and a sink in memory that never fail.
+
+ghost use Rattle.std.specs.Prelude.{◌≡◌, ◌≢◌, ◌≤◌, [], Some, IfOk, option_copied};
 
 use crate::{Put, Sink, Source, Taken};
 use std::alloc::{AllocError, Global};
@@ -51,7 +51,7 @@ impl Source for SteadySource {
     #[tactic(auto, using(crate::proofs::PieceLemmas::given_bytes))]
     fn take(&mut self, into: &mut [u8]) -> Taken
         ensures taken { Takes (Some self.old.left) (Some self.new.left) result into.new }
-        ensures failed { result ≡ Taken.Failed → Rose 0 0 }
+        ensures never { result ≢ Taken.Failed }
         ensures gives { Gives self.old self.new result into.new }
     {
         let left = &self.bytes[self.start..];

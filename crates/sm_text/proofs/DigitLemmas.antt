@@ -1,5 +1,5 @@
 -- Digits that are written from the last one on.
-use Rattle.std.proofs.Common.{zero, suc, ◌*◌, ◌≡◌, ℕ, ◌+◌, ◌-◌, ◌<◌, ◌≤◌, ◌^◌, ◌/◌, ◌%◌, cond, ltb, true, false, List, [], ◌∷◌, ◌++◌, length, take, drop, refl, sym, ap, subst, ◌∙◌, arith, append_assoc, inl, inr, slice_set, decimal, ℤ, pos, negsuc, add-one}
+use Rattle.std.proofs.Common.{zero, suc, ◌*◌, ◌≡◌, ℕ, ◌+◌, ◌-◌, ◌<◌, ◌≤◌, ◌^◌, ◌/◌, ◌%◌, cond, ltb, false, List, [], ◌∷◌, ◌++◌, length, take, drop, refl, sym, ap, subst, ◌∙◌, arith, append_assoc, inl, inr, slice_set, decimal, ℤ, pos, negsuc, add-one}
 use Rattle.std.proofs.lemmas.List.{drop-set, length-append, length-drop, append-nil, take_all}
 use Rattle.std.specs.Fmt.{signed_decimal}
 use Rattle.std.specs.Int.RustNames.{unsigned_abs}
@@ -43,10 +43,6 @@ more_written ds text rest start room inside above fits large written =
     ∙ ap (λ t. t ++ drop start ds) (sym digit ∙ sym (front_digits_of_large rest large))
     ∙ written
 
--- a number of one digit has no more in front
-pub all_written : (ds text : List ℕ) (rest start : ℕ) → rest < 10 → front_digits rest ++ drop start ds ≡ text → drop start ds ≡ text
-all_written ds text rest start small written = grind (arith, nat_tests)
-
 one_more_power : (s : ℕ) → suc s + 1 ≡ suc (s + 1)
 one_more_power s = omega arith
 
@@ -80,7 +76,3 @@ signed_text ds text start room inside written =
 pub signed_below : (z : ℤ) → le_z (pos 0) z ≡ false → 45 ∷ decimal (unsigned_abs z) ≡ signed_decimal z
 signed_below (pos n) h = absurd (grind (arith, nat_tests))
 signed_below (negsuc n) h = refl
-
-pub signed_above : (z : ℤ) → le_z (pos 0) z ≡ true → decimal (unsigned_abs z) ≡ signed_decimal z
-signed_above (pos n) h = refl
-signed_above (negsuc n) h = cc

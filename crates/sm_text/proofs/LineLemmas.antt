@@ -1,16 +1,11 @@
 -- The first line of a list of bytes, and what it holds.
 use Rattle.std.proofs.Common.{zero, suc, ◌≡◌, ◌≢◌, ℕ, ◌+◌, ◌-◌, ◌<◌, ◌≤◌, cond, eqb, Bool, true, false, List, [], ◌∷◌, length, get_or, take, drop, refl, sym, ap, ◌∙◌, arith}
-use Rattle.std.proofs.lemmas.List.{at_drop_more, take-take, drop-drop, length-drop}
+use Rattle.std.proofs.lemmas.List.{take-take, drop-drop, length-drop}
 use Rattle.std.specs.List.{onto_first}
 use Rattle.std.proofs.lemmas.Bool.Decides.{nat_tests}
 use Rattle.std.proofs.lemmas.Bool.{eq-eqb, ne_eqb}
 use Rattle.sm_text.specs.Lines.{first_line, without_last, content, lines, IsLineAt}
 use Rattle.sm_text.specs.declared.lines.LineSpan.{LineSpan}
-
--- one more byte
-pub first_line_drop : (bytes : List ℕ) (i : ℕ) → i < length bytes
-    → first_line (drop i bytes) ≡ cond (eqb (get_or bytes i 0) 10) (get_or bytes i 0 ∷ []) (get_or bytes i 0 ∷ first_line (drop (i + 1) bytes))
-first_line_drop bytes i h = at_drop_more first_line bytes i 0 h
 
 -- the line ends at the first LF, or with the text
 pub first_line_to : (bytes : List ℕ) (i : ℕ) → i < length bytes → get_or bytes i 0 ≡ 10 → ((k : ℕ) → k < i → get_or bytes k 0 ≢ 10) → first_line bytes ≡ take (i + 1) bytes
@@ -119,10 +114,10 @@ lines_first (b ∷ c ∷ rest) h =
     ≡ cond t (b ∷ []) (b ∷ first_line (c ∷ rest)) ∷ lines (drop (length (cond t (b ∷ []) (b ∷ first_line (c ∷ rest)))) (b ∷ c ∷ rest)))
     [ true ↦ refl | false ↦ ap (onto_first b) behind ]
 
--- the line at a place, and the lines from the next place on
-pub lines_at : (bytes : List ℕ) (from : ℕ) (span : LineSpan) → IsLineAt bytes from span
-    → lines (drop from bytes) ≡ first_line (drop from bytes) ∷ lines (drop span.next bytes)
-lines_at bytes from span h =
+-- the line at a place, and the lines behind it
+pub lines_drop : (bytes : List ℕ) (from : ℕ) → from < length bytes
+    → lines (drop from bytes) ≡ first_line (drop from bytes) ∷ lines (drop (from + length (first_line (drop from bytes))) bytes)
+lines_drop bytes from within =
     let rest = drop from bytes in
-    lines_first rest (omega (arith, length-drop from bytes, h.within))
-    ∙ ap (λ t. first_line rest ∷ lines t) (drop-drop (length (first_line rest)) from bytes ∙ ap (λ n. drop n bytes) (sym h.next))
+    lines_first rest (omega (arith, length-drop from bytes, within))
+    ∙ ap (λ t. first_line rest ∷ lines t) (drop-drop (length (first_line rest)) from bytes)

@@ -16,10 +16,6 @@ pub value_behind_drop : (value : ℕ) (digits : List ℕ) (i : ℕ) → i < leng
     → value_behind value (drop i digits) ≡ value_behind (10 * value + (get_or digits i 0 - 48)) (drop (i + 1) digits)
 value_behind_drop value digits i h = at_drop_more (value_behind value) digits i 0 h
 
-pub list_all_drop : (digits : List ℕ) (i : ℕ) → i < length digits
-    → list_all is_digit (drop i digits) ≡ (is_digit (get_or digits i 0) && list_all is_digit (drop (i + 1) digits))
-list_all_drop digits i h = at_drop_more (list_all is_digit) digits i 0 h
-
 -- a value that passes the greatest allowed with the next digit is too great
 pub too_great : (digits : List ℕ) (i value most : ℕ) → i < length digits → value_behind value (drop i digits) ≡ value_of digits → most < 10 * value + (get_or digits i 0 - 48)
     → None ≡ cond (list_all is_digit digits && leb (value_of digits) most) (Some (value_of digits)) None

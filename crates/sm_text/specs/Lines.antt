@@ -30,9 +30,11 @@ abbrev pub lines : List ℕ → List (List ℕ)
 lines [] = []
 lines (b ∷ bytes) = if b == LF then (b ∷ []) ∷ lines bytes else onto_first b (lines bytes)
 
--- the span is that of the line that begins at a place of an input
+-- the span is that of the line that begins at a place of an input: of the first line from there on, behind which stand those
+-- from the next place on
 pub record IsLineAt (bytes : List ℕ) (from : ℕ) (span : LineSpan) : Type 0 where
   pub within : from < length bytes
   pub start : span.start ≡ from
   pub stop : span.stop ≡ from + length (content (first_line (drop from bytes)))
   pub next : span.next ≡ from + length (first_line (drop from bytes))
+  pub leads : lines (drop from bytes) ≡ first_line (drop from bytes) ∷ lines (drop span.next bytes)

@@ -1,6 +1,7 @@
 -- Names.
 use Rattle.std.specs.Prelude.{ℕ, ◌==◌, ◌&&◌, ◌||◌, Bool, List, length, nat_le, slice_index}
 use Rattle.std.specs.List.{list_all}
+use Rattle.sm_text.specs.Limits.{most_name_bytes}
 
 abbrev pub is_letter : ℕ → Bool
 is_letter b = (nat_le 65 b && nat_le b 90) || (nat_le 97 b && nat_le b 122)
@@ -18,4 +19,4 @@ is_name_byte b = begins_name b || b == 46 || b == 45
 
 -- a name: 1 to 64 name bytes, the first of them a letter, a digit or `_`
 abbrev pub is_name : List ℕ → Bool
-is_name run = nat_le 1 (length run) && nat_le (length run) 64 && begins_name (slice_index run 0) && list_all is_name_byte run
+is_name run = nat_le 1 (length run) && nat_le (length run) most_name_bytes && begins_name (slice_index run 0) && list_all is_name_byte run

@@ -4,6 +4,7 @@
 //! LF, or as the last byte of the text, belongs to the line's end.
 #![tactic(auto)]
 
+mod limits;
 mod lines;
 mod names;
 mod numbers;
@@ -11,6 +12,9 @@ mod refusal;
 mod tokens;
 mod writer;
 
+pub use limits::{
+    MOST_AGENTS, MOST_BYTES, MOST_CAPACITY, MOST_ENTRIES, MOST_NAME_BYTES, MOST_SEAT_ENTRIES, MOST_WEIGHT,
+};
 pub use lines::{LineSpan, line_at, line_count};
 pub use names::{is_name, is_name_byte};
 pub use numbers::{number, signed};

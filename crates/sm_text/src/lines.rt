@@ -1,4 +1,7 @@
+//! Lines.
+
 ghost use Rattle.std.specs.Prelude.{◌≡◌, ◌≤◌, ◌<◌, ◌+◌, length, drop, MatchOption};
+ghost use Rattle.sm_text.specs.Limits.{most_bytes};
 ghost use Rattle.sm_text.specs.Lines.{IsLineAt, first_line, content, without_last, lines};
 
 use memchr::memchr;
@@ -33,14 +36,11 @@ pub fn line_at(bytes: &[u8], from: usize) -> Option<LineSpan>
     })
 }
 
-/// The greatest number of bytes whose lines are counted: one more than an input may have.
-const MOST_BYTES: usize = 16_777_217;
-
-/// How many lines a text has, of at most 16,777,217 bytes.
+/// How many lines a text has, which may have one byte more than an input.
 ///
 /// It takes time in the length of the text, and no memory.
 pub fn line_count(bytes: &[u8]) -> u32
-    requires { length bytes.now ≤ MOST_BYTES }
+    requires { length bytes.now ≤ most_bytes + 1 }
     ensures { result ≡ length (lines bytes.now) }
 {
     let mut count = 0;

@@ -1,9 +1,10 @@
+//! Names.
+
 ghost use Rattle.std.specs.Prelude.{◌≡◌};
 ghost use Rattle.std.specs.List.{list_all};
 ghost use Rattle.sm_text.specs.Name.{is_name as is_a_name, is_name_byte, begins_name};
 
-/// The greatest number of bytes in a name.
-const LONGEST: usize = 64;
+use crate::limits::MOST_NAME_BYTES;
 
 /// Is this a name: 1 to 64 bytes, each a letter, a digit, `_`, `.` or `-`, of which the first is a letter, a digit or `_`?
 ///
@@ -11,7 +12,7 @@ const LONGEST: usize = 64;
 pub fn is_name(run: &[u8]) -> bool
     ensures { result ≡ is_a_name run.now }
 {
-    !run.is_empty() && run.len() <= LONGEST && begins_name(run[0]) && are_name_bytes(run)
+    !run.is_empty() && run.len() <= MOST_NAME_BYTES && begins_name(run[0]) && are_name_bytes(run)
 }
 
 // May a name hold each of these bytes?

@@ -1,3 +1,5 @@
+//! Reasons for a refusal.
+
 ghost use Rattle.std.specs.Prelude.{◌≡◌};
 ghost use Rattle.sm_text.specs.Refusal.{name_of_refusal};
 

@@ -1,3 +1,5 @@
+//! Tokens of lines.
+
 ghost use Rattle.std.specs.Prelude.{◌≡◌, ◌≤◌, length};
 ghost use Rattle.sm_text.specs.Tokens.{token_at, LeadsTokens, blanks_end, run_end, is_blank, is_mark};
 

@@ -1,3 +1,5 @@
+//! A writer of lines.
+
 ghost use Rattle.std.specs.Prelude.{◌≡◌, ◌≤◌, ◌<◌, ◌++◌, [], length, drop, decimal, IfOk};
 
 use std::alloc::{AllocError, Global};
