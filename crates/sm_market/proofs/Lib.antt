@@ -11,7 +11,7 @@ pub mod PairingLemmas
 pub mod CycleLemmas
 pub mod TurnLemmas
 pub mod CheckLemmas
-pub mod Witnesses
+pub mod WitnessMarkets
 pub mod Counting
 pub mod Core
 pub mod CoreLaws

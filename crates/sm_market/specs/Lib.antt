@@ -14,3 +14,4 @@ pub mod Entries
 pub mod MarketFaults
 pub mod PairingFaults
 pub mod Blocking
+pub mod Witnesses

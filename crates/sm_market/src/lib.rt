@@ -16,9 +16,8 @@ pub mod laws;
 mod lists;
 mod pairs;
 mod rows;
-#[cfg(test)]
-mod tests;
 mod turning;
+pub mod witnesses;
 
 pub use faults::{MarketFault, PairingFault, Side};
 pub use lists::Market;

@@ -1,25 +1,14 @@
--- Small markets whose stable matchings are known, so that the definitions hold of something.
+-- The markets of specs/Witnesses.antt.
 use Rattle.std.proofs.Common.{◌≡◌, ◌≢◌, ℕ, zero, suc, ◌<◌, ◌≤◌, ◌⊎◌, [], ◌∷◌, Option, Some, None, length, unwrap_or, refl, ap, ◌∙◌, arith, ⊎_elim, inl, inr}
 use Rattle.std.proofs.lemmas.Bool.{cases_lt}
 use Rattle.std.proofs.lemmas.List.{ext_get_or}
 use Rattle.sm_market.specs.Lists.{Lists, row, entry, place_of, IsMarket}
 use Rattle.sm_market.specs.Matching.{Places, held, standing, IsMatching}
 use Rattle.sm_market.specs.Stable.{IsStable, IsProposersBest, IsReviewersBest}
-use Rattle.sm_market.specs.Reduced.{reduced_lists_of}
+use Rattle.sm_market.specs.Witnesses.{two_by_two, first_choices, second_choices, TwoByTwo, two_for_one, one_pair, TwoForOne}
 use Rattle.sm_market.proofs.CheckLemmas.{market_from_test, matching_from_test, stable_from_test}
 use Rattle.sm_market.proofs.PairingLemmas.{reviewers_same, one_partner}
 use Rattle.sm_market.proofs.SeatLemmas.{option_cases}
-
--- two proposers and two reviewers who all list each other: each agent is the last choice of its own first choice
-abbrev pub two_by_two : Lists
-two_by_two = record { proposers = (0 ∷ 1 ∷ []) ∷ (1 ∷ 0 ∷ []) ∷ []; reviewers = (1 ∷ 0 ∷ []) ∷ (0 ∷ 1 ∷ []) ∷ [] }
-
--- each proposer has its first choice, or its second
-abbrev pub first_choices : Places
-first_choices = record { proposers = Some 0 ∷ Some 0 ∷ []; reviewers = Some 1 ∷ Some 1 ∷ [] }
-
-abbrev pub second_choices : Places
-second_choices = record { proposers = Some 1 ∷ Some 1 ∷ []; reviewers = Some 0 ∷ Some 0 ∷ [] }
 
 pub two_by_two_market : IsMarket two_by_two
 two_by_two_market = market_from_test two_by_two refl refl
@@ -75,6 +64,9 @@ both_hold m matching o q first second =
 abbrev pub IsSame : Places → Places → Type 0
 IsSame m n = (m.proposers ≡ n.proposers) × (m.reviewers ≡ n.reviewers)
 
+same_places : {m n : Places} → IsSame m n → m ≡ n
+same_places s = λ i. record { proposers = s.0 i; reviewers = s.1 i }
+
 -- the two stable matchings of this market are all that it has
 pub two_stable_matchings : (m : Places) → IsStable two_by_two m → IsSame m first_choices ⊎ IsSame m second_choices
 two_stable_matchings m s =
@@ -115,24 +107,20 @@ second_choices_best = record { stable = second_choices_stable; worst = λ n s. �
     second : (p : ℕ) → standing two_by_two.proposers second_choices.proposers p ≤ standing two_by_two.proposers second_choices.proposers p
     second p = omega arith
 
--- one reviewer on both proposers' lists, and one on none
-abbrev pub two_for_one : Lists
-two_for_one = record { proposers = (0 ∷ []) ∷ (0 ∷ []) ∷ []; reviewers = (0 ∷ 1 ∷ []) ∷ [] ∷ [] }
-
--- proposer 0 has reviewer 0, and proposer 1 and reviewer 1 are unmatched
-abbrev pub one_pair : Places
-one_pair = record { proposers = Some 0 ∷ None ∷ []; reviewers = Some 0 ∷ None ∷ [] }
-
 pub two_for_one_market : IsMarket two_for_one
 two_for_one_market = market_from_test two_for_one refl refl
 
 pub one_pair_stable : IsStable two_for_one one_pair
 one_pair_stable = stable_from_test two_for_one one_pair (matching_from_test two_for_one one_pair refl refl) refl
 
--- every pair of the first market is in its reduced lists
-pub nothing_reduced : reduced_lists_of two_by_two first_choices second_choices ≡ two_by_two
-nothing_reduced = refl
+pub two_by_two_is : TwoByTwo
+two_by_two_is = (
+  two_by_two_market,
+  first_choices_best,
+  second_choices_best,
+  (λ m s. ⊎_elim (λ e. inl (same_places e)) (λ e. inr (same_places e)) (two_stable_matchings m s)),
+  refl,
+)
 
--- and of the second only the one pair that is matched
-pub one_pair_left : reduced_lists_of two_for_one one_pair one_pair ≡ record { proposers = (0 ∷ []) ∷ [] ∷ []; reviewers = (0 ∷ []) ∷ [] ∷ [] }
-one_pair_left = refl
+pub two_for_one_is : TwoForOne
+two_for_one_is = (two_for_one_market, one_pair_stable, refl)
