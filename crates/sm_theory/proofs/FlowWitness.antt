@@ -1,41 +1,17 @@
 -- The net of specs/WitnessesFlows.antt.
-use Rattle.std.proofs.Common.{◌≡◌, ℕ, zero, suc, ◌+◌, ◌<◌, ◌≤◌, arith, refl, sym, ap, ◌∙◌, inl, inr, [], ◌∷◌, true, false, length, slice_index}
+use Rattle.std.proofs.Common.{◌≡◌, ℕ, zero, suc, ◌+◌, ◌<◌, ◌≤◌, arith, refl, sym, ap, ◌∙◌, inl, inr, [], ◌∷◌, Bool, true, false, not, ◌&&◌, List, length, Option, Some, slice_index, slice_index_or}
 use Rattle.std.proofs.lemmas.Bool.{false≢true}
 use Rattle.sm_market.specs.Lists.{row}
-use Rattle.sm_theory.specs.Chains.{rotation_at, IsNeededBy, AreNeedsOf}
-use Rattle.sm_theory.specs.Vectors.{AreLevels}
+use Rattle.sm_theory.specs.Chains.{stage, rotation_at, IsNeededBy, AreNeedsOf}
+use Rattle.sm_theory.specs.Vectors.{HasLevel}
 use Rattle.sm_theory.specs.Witnesses.{three_cycle, three_cycle_first, three_cycle_chain}
-use Rattle.sm_theory.specs.Net.{room_of, IsUnbounded, NoneLeaves, IsReachable}
+use Rattle.sm_theory.specs.Net.{Net, sink_of, room_of, is_unbounded, IsUnbounded, is_in, NoneLeaves, IsCut, IsReachable}
 use Rattle.sm_theory.specs.Flows.{IsFlow, IsResidualStep, IsResidualReach}
 use Rattle.sm_theory.specs.Conditions.{IsNetGround}
-use Rattle.sm_theory.specs.WitnessesFlows.{three_cycle_levels, three_cycle_needs, three_cycle_net, three_cycle_flow, WorkedNet, BarredNet}
+use Rattle.sm_theory.specs.WitnessesFlows.{three_cycle_levels, three_cycle_needs, three_cycle_net, three_cycle_flow, WorkedNet, BarredNet, middle, forced_net, forbidden_net, MiddleLevel}
 use Rattle.sm_theory.proofs.LawsRotations.{predecessor_is_earlier}
+use Rattle.sm_theory.proofs.WitnessTests.{all_below, passes, not_true, both, levels_pass}
 use Rattle.sm_theory.proofs.WitnessMarkets.{below_two, three_cycle_is}
-
-levels_rise : AreLevels three_cycle three_cycle_levels
-levels_rise = record { one_each = refl; per_place = per_place; rising = rising }
-  where
-    per_place : (p : ℕ) → p < 3 → length (row three_cycle_levels p) ≡ length (row three_cycle.proposers p) + 1
-    per_place zero h = refl
-    per_place (suc zero) h = refl
-    per_place (suc (suc zero)) h = refl
-    per_place (suc (suc (suc p))) h = absurd (omega arith)
-
-    one_row : (i j : ℕ) → i < j → j < 4 → slice_index (1 ∷ 2 ∷ 3 ∷ 4 ∷ []) i ≤ slice_index (1 ∷ 2 ∷ 3 ∷ 4 ∷ []) j
-    one_row i j h g = omega (arith, is i (omega arith), is j g)
-      where
-        is : (i : ℕ) → i < 4 → slice_index (1 ∷ 2 ∷ 3 ∷ 4 ∷ []) i ≡ suc i
-        is zero h = refl
-        is (suc zero) h = refl
-        is (suc (suc zero)) h = refl
-        is (suc (suc (suc zero))) h = refl
-        is (suc (suc (suc (suc i)))) h = absurd (omega arith)
-
-    rising : (p i j : ℕ) → i < j → j < length (row three_cycle_levels p) → slice_index (row three_cycle_levels p) i ≤ slice_index (row three_cycle_levels p) j
-    rising zero i j h g = one_row i j h g
-    rising (suc zero) i j h g = one_row i j h g
-    rising (suc (suc zero)) i j h g = one_row i j h g
-    rising (suc (suc (suc p))) i j h g = absurd (omega arith)
 
 needs_are : (j : ℕ) → j < 2 → AreNeedsOf three_cycle three_cycle_chain j (row three_cycle_needs j)
 needs_are zero h = record {
@@ -65,7 +41,7 @@ needs_are (suc zero) h = record {
 needs_are (suc (suc j)) h = absurd (omega arith)
 
 ground : IsNetGround three_cycle three_cycle_levels three_cycle_first three_cycle_chain three_cycle_needs
-ground = record { market = three_cycle_is.0; rising = levels_rise; chain = three_cycle_is.1.chain; one_each = refl; each = needs_are }
+ground = record { market = three_cycle_is.0; rising = levels_pass three_cycle three_cycle_levels refl; chain = three_cycle_is.1.chain; one_each = refl; each = needs_are }
 
 flow_within : (i j : ℕ) → (IsUnbounded three_cycle_net i j → ⊥) → three_cycle_flow i j ≤ room_of three_cycle_net i j
 flow_within zero (suc (suc zero)) u = omega arith
@@ -110,3 +86,54 @@ worked_net = (ground, flow_is, refl, reach_is, none_leaves, refl, refl)
 
 pub barred_net_is : BarredNet
 barred_net_is = record { path = 1 ∷ 2 ∷ 3 ∷ []; is = (refl, (refl, (refl, refl))) }
+
+-- cuts
+abbrev edge_test : Net → List Bool → ℕ → ℕ → Bool
+edge_test net set i j = not (is_in set i && (not (is_in set j) && is_unbounded net i j))
+
+abbrev cut_test : Net → List Bool → Bool
+cut_test net set = all_below (suc (sink_of net)) (λ i. all_below (suc (sink_of net)) (edge_test net set i))
+
+cut_pass : (net : Net) (set : List Bool) → length set ≡ net.size → cut_test net set ≡ true → IsCut net set
+cut_pass net set one e = record {
+  one_each = one;
+  bounded = λ i j a b p q u. not_true (is_in set i && (not (is_in set j) && is_unbounded net i j)) (passes (suc (sink_of net)) (edge_test net set i) (passes (suc (sink_of net)) (λ i. all_below (suc (sink_of net)) (edge_test net set i)) e i a) j b)
+      (both _ _ p (both _ _ (ap not q) u));
+}
+
+-- the level in the middle
+some_same : {x y : ℕ} → ◌≡◌ {A = Option ℕ} (Some x) (Some y) → x ≡ y
+some_same e = cc
+
+middle_has : HasLevel three_cycle_levels (stage three_cycle three_cycle_first three_cycle_chain 1) 0 2
+middle_has = record { place = 1; holds = refl; at_level = refl }
+
+first_has_not : HasLevel three_cycle_levels three_cycle_first 0 2 → ⊥
+first_has_not h =
+    let first : ◌≡◌ {A = ℕ} 0 h.place = some_same h.holds in
+    let level : ◌≡◌ {A = ℕ} 1 2 = ap (slice_index (1 ∷ 2 ∷ 3 ∷ 4 ∷ [])) first ∙ h.at_level in
+    omega (arith, level)
+
+pub middle_level_is : MiddleLevel
+middle_level_is = (
+  refl,
+  refl,
+  record { holds = holds; avoids = λ c h. absurd (omega arith) },
+  (λ a. first_has_not (a.holds 0 (omega arith))),
+  cut_pass forced_net (true ∷ false ∷ []) refl refl,
+  (λ c. c.bounded 0 1 (omega arith) (omega arith) refl refl refl),
+  (λ c. c.bounded 2 3 (omega arith) (omega arith) refl refl refl),
+  record { holds = λ c h. absurd (omega arith); avoids = avoids },
+  (λ a. a.avoids 0 (omega arith) middle_has),
+  cut_pass forbidden_net (false ∷ false ∷ []) refl refl,
+  cut_pass forbidden_net (true ∷ true ∷ []) refl refl,
+  (λ c. c.bounded 1 2 (omega arith) (omega arith) refl refl refl),
+)
+  where
+    holds : (c : ℕ) → c < 1 → let (p, level) = slice_index_or middle c (0, 0) in HasLevel three_cycle_levels (stage three_cycle three_cycle_first three_cycle_chain 1) p level
+    holds zero h = middle_has
+    holds (suc c) h = absurd (omega arith)
+
+    avoids : (c : ℕ) → c < 1 → let (p, level) = slice_index_or middle c (0, 0) in ¬ HasLevel three_cycle_levels three_cycle_first p level
+    avoids zero h = first_has_not
+    avoids (suc c) h = absurd (omega arith)

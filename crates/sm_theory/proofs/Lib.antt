@@ -34,4 +34,7 @@ pub mod WitnessTests
 pub mod WitnessMarkets
 pub mod FlowWitness
 pub mod RoomWitness
+pub mod WitnessSeats
+pub mod WitnessOrders
+pub mod WitnessListing
 pub mod LawsRotations

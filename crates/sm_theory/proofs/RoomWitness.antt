@@ -1,14 +1,14 @@
 -- Tests that compute, and what passing them means, for roommates that are written out; and the persons of
 -- specs/WitnessesRooms.antt.
-use Rattle.std.proofs.Common.{◌≡◌, ◌≢◌, ℕ, zero, suc, ◌<◌, ◌⊎◌, ◌&&◌, ◌||◌, inl, inr, arith, refl, sym, ap, ◌∙◌, Bool, true, not, eqb, nat_lt, List, length, Option, None, Some, eqb-true, eq-eqb, ltb-true, lt-ltb}
+use Rattle.std.proofs.Common.{◌≡◌, ◌≢◌, ℕ, zero, suc, ◌<◌, ◌⊎◌, ◌&&◌, ◌||◌, inl, inr, arith, refl, sym, ap, ◌∙◌, Bool, true, not, eqb, nat_lt, List, length, Option, None, Some, eqb-true, eq-eqb, ne_eqb, ltb-true, lt-ltb}
 use Rattle.std.proofs.lemmas.List.{get_or_past}
 use Rattle.sm_market.specs.Lists.{row, entry, place_of}
 use Rattle.sm_market.proofs.Counting.{lt_or_le}
 use Rattle.sm_theory.specs.Rooms.{AreRoomLists, IsAcceptable, mate_of, place_of_mate, IsRoomStable}
 use Rattle.sm_theory.specs.Partitions.{successor_in, predecessor_in, after, party_place, IsStablePartition, IsLowestOfOdd}
-use Rattle.sm_theory.specs.WitnessesRooms.{odd_party_rows, odd_party_next, odd_party_rest, OddParty, four_persons_rows, four_persons_next, four_persons_mates, FourPersons}
+use Rattle.sm_theory.specs.WitnessesRooms.{odd_party_rows, odd_party_next, odd_party_rest, OddParty, even_party_rows, even_party_next, even_party_mates, EvenParty}
 use Rattle.sm_theory.proofs.RoomBridge.{listed_in_range}
-use Rattle.sm_theory.proofs.NetTests.{and_parts, and_true, or_parts}
+use Rattle.sm_theory.proofs.NetTests.{and_parts, and_true, or_parts, not_is}
 use Rattle.sm_theory.proofs.WitnessTests.{all_below, passes, not_true, is_at, is_at_pass, none_some}
 
 -- lists
@@ -35,17 +35,17 @@ acceptable_pass rows x y e =
     let more = and_parts (nat_lt (place_of rows x y) (length (row rows x))) (nat_lt (place_of rows y x) (length (row rows y))) parts.1 in
     record { apart = λ a. not_true _ parts.0 (eq-eqb _ _ a); listed = ltb-true _ _ more.0; returned = ltb-true _ _ more.1 }
 
--- no pair passes both tests
+-- no two persons pass both tests
 abbrev unblocked_test : List (List ℕ) → (ℕ → ℕ) → Bool
-unblocked_test rows stands = all_below (length rows) (λ x. all_below (length rows) (λ y. not (nat_lt (place_of rows x y) (stands x) && nat_lt (place_of rows y x) (stands y))))
+unblocked_test rows stands = all_below (length rows) (λ x. all_below (length rows) (λ y. not (not (eqb x y) && (nat_lt (place_of rows x y) (stands x) && nat_lt (place_of rows y x) (stands y)))))
 
 unblocked_pass : (rows : List (List ℕ)) (stands : ℕ → ℕ) → unblocked_test rows stands ≡ true → (x y : ℕ) → IsAcceptable rows x y → place_of rows x y < stands x → place_of rows y x < stands y → ⊥
 unblocked_pass rows stands e x y h a b =
-    not_true (nat_lt (place_of rows x y) (stands x) && nat_lt (place_of rows y x) (stands y))
-    (passes (length rows) (λ y. not (nat_lt (place_of rows x y) (stands x) && nat_lt (place_of rows y x) (stands y)))
-    (passes (length rows) (λ x. all_below (length rows) (λ y. not (nat_lt (place_of rows x y) (stands x) && nat_lt (place_of rows y x) (stands y)))) e x (listed_in_range rows x _ h.listed))
+    not_true (not (eqb x y) && (nat_lt (place_of rows x y) (stands x) && nat_lt (place_of rows y x) (stands y)))
+    (passes (length rows) (λ y. not (not (eqb x y) && (nat_lt (place_of rows x y) (stands x) && nat_lt (place_of rows y x) (stands y))))
+    (passes (length rows) (λ x. all_below (length rows) (λ y. not (not (eqb x y) && (nat_lt (place_of rows x y) (stands x) && nat_lt (place_of rows y x) (stands y))))) e x (listed_in_range rows x _ h.listed))
     y (listed_in_range rows y _ h.returned))
-    (and_true _ _ (lt-ltb _ _ a) (lt-ltb _ _ b))
+    (and_true _ _ (not_is _ (ne_eqb x y h.apart)) (and_true _ _ (lt-ltb _ _ a) (lt-ltb _ _ b)))
 
 -- partitions
 abbrev person_test : List (List ℕ) → List ℕ → ℕ → Bool
@@ -106,11 +106,11 @@ mates_pass rows mates one each unblocked = record {
         inside : x < length rows
         inside = elim (lt_or_le x (length rows)) [ inl k ↦ k | inr k ↦ absurd (none_some (sym (get_or_past mates x None (omega (arith, one))) ∙ e)) ]
 
-pub four_persons_is : FourPersons
-four_persons_is = (
-  rows_pass four_persons_rows refl,
-  partition_pass four_persons_rows four_persons_next refl refl refl refl,
-  mates_pass four_persons_rows four_persons_mates refl refl refl,
+pub even_party_is : EvenParty
+even_party_is = (
+  rows_pass even_party_rows refl,
+  partition_pass even_party_rows even_party_next refl refl refl refl,
+  mates_pass even_party_rows even_party_mates refl refl refl,
 )
 
 -- the odd party
@@ -132,7 +132,8 @@ others_not zero w = refl
 others_not (suc zero) w = absurd (omega (arith, w.lowest 2))
 others_not (suc (suc zero)) w = absurd (omega (arith, w.lowest 1))
 others_not (suc (suc (suc zero))) w = refl
-others_not (suc (suc (suc (suc x)))) w = refl
+others_not (suc (suc (suc (suc zero)))) w = refl
+others_not (suc (suc (suc (suc (suc x))))) w = refl
 
 pub odd_party_is : OddParty
 odd_party_is = (
@@ -150,18 +151,21 @@ odd_party_is = (
     neighbours (suc zero) y e = let f : 2 ≡ y = some_same e in ((λ g. omega arith), inl (sym f))
     neighbours (suc (suc zero)) y e = let f : 1 ≡ y = some_same e in ((λ g. omega arith), inr (sym f))
     neighbours (suc (suc (suc zero))) y e = absurd (none_some e)
-    neighbours (suc (suc (suc (suc x)))) y e = absurd (none_some e)
+    neighbours (suc (suc (suc (suc zero)))) y e = absurd (none_some e)
+    neighbours (suc (suc (suc (suc (suc x))))) y e = absurd (none_some e)
 
     in_turn : (x y : ℕ) → mate_of odd_party_rest x ≡ Some y → mate_of odd_party_rest y ≡ Some x
     in_turn zero y e = absurd (none_some e)
     in_turn (suc zero) y e = let f : 2 ≡ y = some_same e in ap (mate_of odd_party_rest) (sym f)
     in_turn (suc (suc zero)) y e = let f : 1 ≡ y = some_same e in ap (mate_of odd_party_rest) (sym f)
     in_turn (suc (suc (suc zero))) y e = absurd (none_some e)
-    in_turn (suc (suc (suc (suc x)))) y e = absurd (none_some e)
+    in_turn (suc (suc (suc (suc zero)))) y e = absurd (none_some e)
+    in_turn (suc (suc (suc (suc (suc x))))) y e = absurd (none_some e)
 
-    others : (x : ℕ) → x < 4 → mate_of odd_party_rest x ≡ None → (successor_in odd_party_next x ≡ x) ⊎ IsLowestOfOdd odd_party_rows odd_party_next x
+    others : (x : ℕ) → x < 5 → mate_of odd_party_rest x ≡ None → (successor_in odd_party_next x ≡ x) ⊎ IsLowestOfOdd odd_party_rows odd_party_next x
     others zero h e = inr lowest
     others (suc zero) h e = absurd (none_some (sym e))
     others (suc (suc zero)) h e = absurd (none_some (sym e))
     others (suc (suc (suc zero))) h e = inl refl
-    others (suc (suc (suc (suc x)))) h e = absurd (omega arith)
+    others (suc (suc (suc (suc zero)))) h e = inl refl
+    others (suc (suc (suc (suc (suc x))))) h e = absurd (omega arith)

@@ -1,13 +1,16 @@
 -- Tests that compute, and what passing them means: for markets, matchings and rotations that are written out.
-use Rattle.std.proofs.Common.{◌≡◌, ℕ, zero, suc, ◌+◌, ◌<◌, ◌&&◌, inl, inr, arith, refl, sym, ap, ◌∙◌, Bool, true, false, not, eqb, nat_lt, List, length, Option, None, Some, is_some, eqb-true, eq-eqb, ltb-true, lt-ltb}
+use Rattle.std.proofs.Common.{◌≡◌, ℕ, zero, suc, ◌+◌, ◌<◌, ◌≤◌, ◌&&◌, ◌||◌, inl, inr, arith, refl, sym, ap, ◌∙◌, Bool, true, false, not, eqb, nat_lt, List, length, slice_index, Option, None, Some, is_some, eqb-true, eq-eqb, ltb-true, lt-ltb}
 use Rattle.std.proofs.lemmas.List.{get_or_past}
 use Rattle.sm_market.specs.Lists.{Lists, row, entry, place_of, AreMutual, IsMarket}
 use Rattle.sm_market.specs.Matching.{Places, held, standing, AreHeldInTurn, IsMatching}
-use Rattle.sm_market.specs.Stable.{IsProposersBest}
+use Rattle.sm_market.specs.Stable.{IsStable, IsProposersBest}
 use Rattle.sm_market.proofs.Counting.{lt_or_le, eq_or_ne}
-use Rattle.sm_market.proofs.Bridge.{held_cases}
+use Rattle.sm_market.proofs.Bridge.{held_cases, standing-none}
+use Rattle.sm_market.proofs.LawsProved.{same_agents}
 use Rattle.sm_theory.specs.Rotations.{IsSuccessor, IsExposed, proposer_at, reviewer_at, target_at}
+use Rattle.sm_theory.specs.Vectors.{AreLevels}
 use Rattle.sm_theory.proofs.BridgePlaces.{row_past}
+use Rattle.sm_theory.proofs.NetTests.{or_parts}
 
 abbrev pub all_below : ℕ → (ℕ → Bool) → Bool
 all_below zero f = true
@@ -110,6 +113,26 @@ firsts_best l m f e = record {
       ]
     ]
 
+-- a stable matching in which each proposer has the first on its list or is unmatched is the proposers' best
+pub firsts_or_none_best : (l : Lists) (m : Places) → IsMarket l → IsStable l m → all_below (length l.proposers) (λ p. eqb (standing l.proposers m.proposers p) 0 || not (is_some (held m.proposers p))) ≡ true → IsProposersBest l m
+firsts_or_none_best l m h stable e = record { stable = stable; best = λ n s p. at n s p }
+  where
+    none : (o : Option ℕ) → not (is_some o) ≡ true → o ≡ None
+    none None x = refl
+    none (Some k) x = grind arith
+
+    at : (n : Places) → IsStable l n → (p : ℕ) → standing l.proposers m.proposers p ≤ standing l.proposers n.proposers p
+    at n s p = elim (lt_or_le p (length l.proposers)) [
+      | inl k ↦ elim (or_parts (eqb (standing l.proposers m.proposers p) 0) (not (is_some (held m.proposers p))) (passes (length l.proposers) (λ p. eqb (standing l.proposers m.proposers p) 0 || not (is_some (held m.proposers p))) e p k)) [
+        | inl x ↦ let zero_is = eqb-true (standing l.proposers m.proposers p) 0 x in omega arith
+        | inr x ↦ omega (arith, standing-none l.proposers m.proposers p (none _ x), standing-none l.proposers n.proposers p ((same_agents l m n h stable s).0 p (none _ x)))
+      ]
+      | inr k ↦ elim (held_cases l.proposers m.proposers p) [
+        | inl w ↦ omega (arith, w.standing_is, row_past l.proposers p k)
+        | inr w ↦ absurd (omega (arith, stable.matching.proposers.on_list p w.place w.held_is, row_past l.proposers p k))
+      ]
+    ]
+
 -- rotations
 abbrev takes_test : Lists → Places → ℕ → ℕ → Bool
 takes_test l m p i = nat_lt (place_of l.reviewers (entry l.proposers p i) p) (standing l.reviewers m.reviewers (entry l.proposers p i))
@@ -165,15 +188,49 @@ exposed_pass l m rotation e = record {
     test : (i : ℕ) → i < length rotation → pair_test l m rotation i ≡ true
     test = passes (length rotation) (pair_test l m rotation) whole.2
 
--- where each proposer has the last on its list, nothing is exposed
-pub lasts_complete : (l : Lists) (m : Places) → all_below (length l.proposers) (λ p. nat_lt (length (row l.proposers p)) (standing l.proposers m.proposers p + 2)) ≡ true → (other : List (ℕ × ℕ)) → ¬ IsExposed l m other
-lasts_complete l m e other x = go (x.next 0 x.not_empty)
+-- a place behind p's partner whose reviewer is matched and would take p
+abbrev goes_test : Lists → Places → ℕ → ℕ → Bool
+goes_test l m p i = nat_lt (standing l.proposers m.proposers p) i && (takes_test l m p i && is_some (held m.reviewers (entry l.proposers p i)))
+
+abbrev pub none_test : Lists → Places → Bool
+none_test l m = all_below (length l.proposers) (λ p. all_below (length (row l.proposers p)) (λ i. not (goes_test l m p i)))
+
+-- where there is no such place, nothing is exposed
+pub none_pass : (l : Lists) (m : Places) → none_test l m ≡ true → (other : List (ℕ × ℕ)) → ¬ IsExposed l m other
+none_pass l m e other x = go (x.next 0 x.not_empty)
   where
     p : ℕ
     p = proposer_at other 0
 
     go : IsSuccessor l m p (place_of l.proposers p (target_at other 0)) → ⊥
     go w = elim (lt_or_le p (length l.proposers)) [
-      | inl k ↦ omega (arith, w.on_list, w.behind, ltb-true _ _ (passes (length l.proposers) (λ p. nat_lt (length (row l.proposers p)) (standing l.proposers m.proposers p + 2)) e p k))
+      | inl k ↦ not_true (goes_test l m p (place_of l.proposers p (target_at other 0)))
+          (passes (length (row l.proposers p)) (λ i. not (goes_test l m p i)) (passes (length l.proposers) (λ p. all_below (length (row l.proposers p)) (λ i. not (goes_test l m p i))) e p k) (place_of l.proposers p (target_at other 0)) w.on_list)
+          (both _ _ (lt-ltb _ _ w.behind) (both _ _ (lt-ltb _ _ w.takes) w.matched))
       | inr k ↦ omega (arith, w.on_list, row_past l.proposers p k)
     ]
+
+-- levels
+abbrev rising_test : List ℕ → Bool
+rising_test levels = all_below (length levels) (λ j. all_below j (λ i. not (nat_lt (slice_index levels j) (slice_index levels i))))
+
+abbrev pub levels_test : Lists → List (List ℕ) → Bool
+levels_test l levels = eqb (length levels) (length l.proposers)
+    && (all_below (length l.proposers) (λ p. eqb (length (row levels p)) (length (row l.proposers p) + 1)) && all_below (length levels) (λ p. rising_test (row levels p)))
+
+not_less : (a b : ℕ) → not (nat_lt a b) ≡ true → b ≤ a
+not_less a b e = elim (lt_or_le a b) [ inl h ↦ absurd (not_true _ e (lt-ltb _ _ h)) | inr h ↦ h ]
+
+pub levels_pass : (l : Lists) (levels : List (List ℕ)) → levels_test l levels ≡ true → AreLevels l levels
+levels_pass l levels e = record {
+  one_each = eqb-true _ _ whole.0;
+  per_place = λ p h. eqb-true _ _ (passes (length l.proposers) (λ p. eqb (length (row levels p)) (length (row l.proposers p) + 1)) whole.1 p h);
+  rising = λ p i j h g. elim (lt_or_le p (length levels)) [
+    | inl k ↦ not_less _ _ (passes j (λ i. not (nat_lt (slice_index (row levels p) j) (slice_index (row levels p) i)))
+        (passes (length (row levels p)) (λ j. all_below j (λ i. not (nat_lt (slice_index (row levels p) j) (slice_index (row levels p) i)))) (passes (length levels) (λ p. rising_test (row levels p)) whole.2 p k) j g) i h)
+    | inr k ↦ absurd (omega (arith, g, row_past levels p k))
+  ];
+}
+  where
+    whole : (eqb (length levels) (length l.proposers) ≡ true) × (all_below (length l.proposers) (λ p. eqb (length (row levels p)) (length (row l.proposers p) + 1)) ≡ true) × (all_below (length levels) (λ p. rising_test (row levels p)) ≡ true)
+    whole = three (eqb (length levels) (length l.proposers)) (all_below (length l.proposers) (λ p. eqb (length (row levels p)) (length (row l.proposers p) + 1))) (all_below (length levels) (λ p. rising_test (row levels p))) e

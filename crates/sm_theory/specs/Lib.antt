@@ -16,4 +16,6 @@ pub mod LawsFlows
 pub mod Witnesses
 pub mod WitnessesFlows
 pub mod WitnessesRooms
+pub mod WitnessesSeats
+pub mod WitnessesListing
 pub mod Values

@@ -1,11 +1,13 @@
 -- A net that is written out, and what is known of its flows and cuts.
-use Rattle.std.specs.Prelude.{◌≡◌, ℕ, zero, suc, true, List, [], ◌∷◌, ℤ, pos, negsuc}
+use Rattle.std.specs.Prelude.{◌≡◌, ℕ, zero, suc, true, false, List, [], ◌∷◌, ℤ, pos, negsuc}
+use Rattle.sm_theory.specs.Chains.{stage}
 use Rattle.sm_theory.specs.ClosedSets.{matching_of}
+use Rattle.sm_theory.specs.Vectors.{IsAllowed}
 use Rattle.sm_theory.specs.Weights.{weight_of}
 use Rattle.sm_theory.specs.Witnesses.{three_cycle, three_cycle_first, three_cycle_chain}
-use Rattle.sm_theory.specs.Net.{Net, sink_of, IsUnbounded, NoneLeaves, cut_of, IsReachable}
+use Rattle.sm_theory.specs.Net.{Net, sink_of, IsUnbounded, NoneLeaves, IsCut, cut_of, IsReachable}
 use Rattle.sm_theory.specs.Flows.{IsFlow, flow_value, IsResidualStep, IsResidualReach}
-use Rattle.sm_theory.specs.Conditions.{net_of, IsNetGround}
+use Rattle.sm_theory.specs.Conditions.{entry_node, exit_node, net_of, IsNetGround}
 
 -- the places of the three proposers and being unmatched, as ranks
 abbrev pub three_cycle_levels : List (List ℕ)
@@ -44,3 +46,30 @@ barred_net = net_of three_cycle three_cycle_levels three_cycle_weights [] ((0, 1
 
 abbrev pub BarredNet : Type 0
 BarredNet = IsReachable (IsUnbounded barred_net) 0 (sink_of barred_net)
+
+-- the level in the middle forced on proposer 0, and the same forbidden: the first rotation takes it there and the second
+-- from there
+abbrev pub middle : List (ℕ × ℕ)
+middle = (0, 2) ∷ []
+
+abbrev pub forced_net : Net
+forced_net = net_of three_cycle three_cycle_levels three_cycle_weights middle [] three_cycle_first three_cycle_chain three_cycle_needs
+
+abbrev pub forbidden_net : Net
+forbidden_net = net_of three_cycle three_cycle_levels three_cycle_weights [] middle three_cycle_first three_cycle_chain three_cycle_needs
+
+-- forced, the matching in the middle is allowed and the first one isn't; forbidden, it is the other way round. The sets
+-- of what is allowed are cuts, and those of what isn't are none.
+abbrev pub MiddleLevel : Type 0
+MiddleLevel = (entry_node three_cycle three_cycle_levels three_cycle_first three_cycle_chain 0 2 ≡ 1)
+    × (exit_node three_cycle three_cycle_levels three_cycle_chain 0 2 ≡ 2)
+    × IsAllowed three_cycle_levels middle [] (stage three_cycle three_cycle_first three_cycle_chain 1)
+    × (¬ IsAllowed three_cycle_levels middle [] three_cycle_first)
+    × IsCut forced_net (true ∷ false ∷ [])
+    × (¬ IsCut forced_net (false ∷ false ∷ []))
+    × (¬ IsCut forced_net (true ∷ true ∷ []))
+    × IsAllowed three_cycle_levels [] middle three_cycle_first
+    × (¬ IsAllowed three_cycle_levels [] middle (stage three_cycle three_cycle_first three_cycle_chain 1))
+    × IsCut forbidden_net (false ∷ false ∷ [])
+    × IsCut forbidden_net (true ∷ true ∷ [])
+    × (¬ IsCut forbidden_net (true ∷ false ∷ []))

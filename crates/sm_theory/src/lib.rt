@@ -7,8 +7,6 @@
 pub mod laws;
 mod rotations;
 mod sets;
-#[cfg(test)]
-mod tests;
 pub mod witnesses;
 
 pub use rotations::{Rotation, is_exposed, successor};

@@ -1,12 +1,14 @@
 //! Small markets, a net and groups of persons of whom the checker computes what the laws speak of, so that the laws are not
 //! about nothing. Each function does nothing: its contract is the statement.
 
-ghost use Rattle.sm_theory.specs.Witnesses.{ThreeCycle, PassedSeat};
-ghost use Rattle.sm_theory.specs.WitnessesFlows.{WorkedNet, BarredNet};
-ghost use Rattle.sm_theory.specs.WitnessesRooms.{OddParty, FourPersons};
+ghost use Rattle.sm_theory.specs.Witnesses.{ThreeCycle, PassedSeat, LeftOver};
+ghost use Rattle.sm_theory.specs.WitnessesFlows.{WorkedNet, BarredNet, MiddleLevel};
+ghost use Rattle.sm_theory.specs.WitnessesListing.{TwoPairs};
+ghost use Rattle.sm_theory.specs.WitnessesRooms.{OddParty, EvenParty};
+ghost use Rattle.sm_theory.specs.WitnessesSeats.{Seats};
 
 /// Three proposers whose stable matchings form a chain of three: their complete chain has two rotations, and the second
-/// needs the first.
+/// needs the first. At its end stands the reviewers' best, and the regrets of the three are 3, 2 and 3.
 pub fn three_cycle()
     ensures { ThreeCycle }
 {}
@@ -15,6 +17,12 @@ pub fn three_cycle()
 /// are the empty one, that of the first rotation and that of both.
 pub fn passed_seat()
     ensures { PassedSeat }
+{}
+
+/// A market with an unmatched agent on each side: its chain has one rotation, and ends at the reviewers' best because an
+/// unmatched reviewer is no successor.
+pub fn left_over()
+    ensures { LeftOver }
 {}
 
 /// A net with a flow of value 4, whose reach has both rotations and a cut of 4; the matching weighs -10.
@@ -27,13 +35,32 @@ pub fn barred_net()
     ensures { BarredNet }
 {}
 
-/// Four persons whose stable partition has an odd party of three, and the fourth alone; with the lowest left out the other
-/// two are together.
+/// The same market where the level in the middle is forced on the first proposer, and where it is forbidden: what is
+/// allowed, and which sets are cuts.
+pub fn middle_level()
+    ensures { MiddleLevel }
+{}
+
+/// A market with four stable matchings, whose two rotations don't need each other: the meet and the join of two of them, the
+/// listings in two orders, and one of two behind a cursor with more to follow.
+pub fn two_pairs()
+    ensures { TwoPairs }
+{}
+
+/// A market of seats in which two seats of one hospital have one level: of two stable matchings the one is before the other
+/// by levels, and behind it by seats.
+pub fn seats()
+    ensures { Seats }
+{}
+
+/// Persons whose stable partition has an odd party of three, and two that are alone, of whom one is listed by nobody; with
+/// the lowest left out the other two of the party are together.
 pub fn odd_party()
     ensures { OddParty }
 {}
 
-/// Four persons whose stable partition is one party of four, and a stable matching of them.
-pub fn four_persons()
-    ensures { FourPersons }
+/// Persons whose stable partition has one party of four, and a stable matching of them, in which a fifth is unmatched whom
+/// nobody lists.
+pub fn even_party()
+    ensures { EvenParty }
 {}

@@ -1,0 +1,5 @@
+use Rattle.sm_theory.proofs.RoomWitness.{even_party_is}
+use Rattle.sm_theory.proofs.witnesses.even_party.Goals as goal
+
+pub returns : goal.returns
+returns c = even_party_is

@@ -1,0 +1,5 @@
+use Rattle.sm_theory.proofs.WitnessSeats.{seats_are}
+use Rattle.sm_theory.proofs.witnesses.seats.Goals as goal
+
+pub returns : goal.returns
+returns c = seats_are

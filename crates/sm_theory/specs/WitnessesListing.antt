@@ -1,0 +1,63 @@
+-- A small market with four stable matchings, and listings of them in two orders.
+use Rattle.std.specs.Prelude.{◌≡◌, ℕ, ◌<◌, Bool, true, false, List, [], ◌∷◌, None, Some}
+use Rattle.sm_market.specs.Lists.{Lists, IsMarket}
+use Rattle.sm_market.specs.Matching.{Places}
+use Rattle.sm_theory.specs.Lattice.{meet_of, join_of}
+use Rattle.sm_theory.specs.Chains.{stage, rotation_at, IsPrintedChain, IsNeededBy}
+use Rattle.sm_theory.specs.ClosedSets.{matching_of, IsReady}
+use Rattle.sm_theory.specs.Vectors.{AreLevels, IsAllowedVector, IsListing}
+
+-- twice two proposers with opposed lists
+abbrev pub two_pairs : Lists
+two_pairs = record {
+  proposers = (0 ∷ 1 ∷ []) ∷ (1 ∷ 0 ∷ []) ∷ (2 ∷ 3 ∷ []) ∷ (3 ∷ 2 ∷ []) ∷ [];
+  reviewers = (1 ∷ 0 ∷ []) ∷ (0 ∷ 1 ∷ []) ∷ (3 ∷ 2 ∷ []) ∷ (2 ∷ 3 ∷ []) ∷ [];
+}
+
+abbrev pub two_pairs_first : Places
+two_pairs_first = record { proposers = Some 0 ∷ Some 0 ∷ Some 0 ∷ Some 0 ∷ []; reviewers = Some 1 ∷ Some 1 ∷ Some 1 ∷ Some 1 ∷ [] }
+
+abbrev pub two_pairs_chain : List (List (ℕ × ℕ))
+two_pairs_chain = ((0, 0) ∷ (1, 1) ∷ []) ∷ ((2, 2) ∷ (3, 3) ∷ []) ∷ []
+
+-- the ranks, from 1, and that of being unmatched
+abbrev pub two_pairs_ranks : List (List ℕ)
+two_pairs_ranks = (1 ∷ 2 ∷ 3 ∷ []) ∷ (1 ∷ 2 ∷ 3 ∷ []) ∷ (1 ∷ 2 ∷ 3 ∷ []) ∷ (1 ∷ 2 ∷ 3 ∷ []) ∷ []
+
+abbrev pub both_best : List ℕ
+both_best = 1 ∷ 1 ∷ 1 ∷ 1 ∷ []
+
+abbrev pub second_worst : List ℕ
+second_worst = 1 ∷ 1 ∷ 2 ∷ 2 ∷ []
+
+abbrev pub first_worst : List ℕ
+first_worst = 2 ∷ 2 ∷ 1 ∷ 1 ∷ []
+
+abbrev pub both_worst : List ℕ
+both_worst = 2 ∷ 2 ∷ 2 ∷ 2 ∷ []
+
+-- the two matchings in which one pair of proposers has its first choices and the other its second
+abbrev pub two_pairs_of : List Bool → Places
+two_pairs_of set = matching_of two_pairs two_pairs_first two_pairs_chain set
+
+-- neither rotation needs the other, so each is ready where the other is in
+abbrev pub TwoApart : Type 0
+TwoApart = ((i j : ℕ) → i < 2 → j < 2 → ¬ IsNeededBy two_pairs (rotation_at two_pairs_chain i) (rotation_at two_pairs_chain j))
+    × IsReady two_pairs two_pairs_chain (true ∷ false ∷ []) 1
+    × IsReady two_pairs two_pairs_chain (false ∷ true ∷ []) 0
+    × (¬ IsReady two_pairs two_pairs_chain (true ∷ false ∷ []) 0)
+
+-- the meet of the two matchings in the middle is the first one of all, and their join the last
+abbrev pub MeetAndJoin : Type 0
+MeetAndJoin = (meet_of two_pairs (two_pairs_of (true ∷ false ∷ [])) (two_pairs_of (false ∷ true ∷ [])) ≡ two_pairs_first)
+    × (join_of two_pairs (two_pairs_of (true ∷ false ∷ [])) (two_pairs_of (false ∷ true ∷ [])) ≡ stage two_pairs two_pairs_first two_pairs_chain 2)
+
+-- the whole listing in the order of the proposers, the one that begins with proposer 2, and two behind a cursor
+abbrev pub Listed : Type 0
+Listed = IsListing (IsAllowedVector two_pairs two_pairs_ranks [] []) (0 ∷ 1 ∷ 2 ∷ 3 ∷ []) None 9 (both_best ∷ second_worst ∷ first_worst ∷ both_worst ∷ []) false
+    × IsListing (IsAllowedVector two_pairs two_pairs_ranks [] []) (2 ∷ 3 ∷ 0 ∷ 1 ∷ []) None 4 (both_best ∷ first_worst ∷ second_worst ∷ both_worst ∷ []) false
+    × IsListing (IsAllowedVector two_pairs two_pairs_ranks [] []) (0 ∷ 1 ∷ 2 ∷ 3 ∷ []) (Some both_best) 2 (second_worst ∷ first_worst ∷ []) true
+
+abbrev pub TwoPairs : Type 0
+TwoPairs = IsMarket two_pairs × IsPrintedChain two_pairs two_pairs_first two_pairs_chain × AreLevels two_pairs two_pairs_ranks
+    × TwoApart × MeetAndJoin × Listed
