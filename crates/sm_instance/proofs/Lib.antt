@@ -11,3 +11,4 @@ pub mod AcceptLemmas
 pub mod BreachLemmas
 pub mod BlockLemmas
 pub mod RankLemmas
+pub mod WitnessLemmas

@@ -11,3 +11,4 @@ pub mod Vectors
 pub mod Kept
 pub mod Inputs
 pub mod Loads
+pub mod Witnesses

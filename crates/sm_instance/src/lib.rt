@@ -25,6 +25,7 @@ mod namings;
 mod pairs;
 mod persons;
 mod ranks;
+pub mod witnesses;
 
 pub use agents::{Agent, Assignment};
 pub use cross::Cross;

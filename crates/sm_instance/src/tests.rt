@@ -1,467 +1,305 @@
-//! Each call once with memory, and what matchings of small instances are worth, by hand.
+//! Each call once with memory, and each fault once. What the definitions mean is computed in `witnesses.rt`.
 
-ghost use Rattle.std.specs.Prelude.{◌≡◌, ◌<◌, length, IfOk};
+ghost use Rattle.std.specs.Prelude.{◌≡◌, ◌<◌, length};
 ghost use Rattle.sm_instance.specs.Matching.{IsMatching};
 
-use crate::{
-    Agent, Assignment, Cross, Input, Instance, InstanceFault, Kind, Measure, Persons, Side,
-};
-use std::alloc::{AllocError, Global};
+use crate::{Agent, Assignment, Input, Instance, InstanceFault, Kind, Measure, Persons, Side};
 use std::process::Abort;
-use std::test::Fail;
 
-// Agents with these names and lists, of capacity 1.
-fn side(alloc: Global, names: &[&str], lists: &[&[u32]]) -> Result<Vec<Agent>, AllocError> {
-    let mut side = Vec::new(alloc);
-    for (name, list) in names.iter().zip(lists) {
-        side.push(Agent {
-            name: Vec::from_slice(alloc, name.as_bytes())?,
-            capacity: 1,
-            line: 0,
-            entries: Vec::from_slice(alloc, list)?,
-        })?;
-    }
-    Ok(side)
+const MEMORY: &str = "memory";
+
+// A copy of a list.
+fn copy<T: Copy>(rt: &(impl Abort + AllocGlobal), list: &[T]) -> Vec<T>
+    ensures { result.items ≡ list.now }
+{
+    Vec::from_slice(rt.alloc(), list).expect(rt, MEMORY)
 }
 
-// A few pairs.
-fn few(alloc: Global, pairs: &[(u32, u32)]) -> Result<Vec<(u32, u32)>, AllocError>
-    ensures { IfOk result (λ v. length v.items < 100) }
-{
-    if pairs.len() < 100 {
-        Vec::from_slice(alloc, pairs)
-    } else {
-        Ok(Vec::new(alloc))
+// An agent of one letter, with a capacity and a list.
+fn agent(rt: &(impl Abort + AllocGlobal), letter: u8, capacity: u32, list: &[u32]) -> Agent {
+    Agent {
+        name: copy(rt, &[letter]),
+        capacity,
+        line: 0,
+        entries: copy(rt, list),
     }
 }
 
-fn weighed(alloc: Global, pairs: &[(u32, u32, i64)]) -> Result<Vec<(u32, u32, i64)>, AllocError>
-    ensures { IfOk result (λ v. length v.items < 100) }
-{
-    if pairs.len() < 100 {
-        Vec::from_slice(alloc, pairs)
-    } else {
-        Ok(Vec::new(alloc))
-    }
+// A side of two agents.
+fn two(rt: &(impl Abort + AllocGlobal), first: Agent, second: Agent) -> Vec<Agent> {
+    let mut side = Vec::new(rt.alloc());
+    side.push(first).expect(rt, MEMORY);
+    side.push(second).expect(rt, MEMORY);
+    side
 }
 
-// The instance, or its fault, of a marriage without conditions.
-fn marriage(
-    proposers: Vec<Agent>,
-    reviewers: Vec<Agent>,
-    weights: Vec<(u32, u32, i64)>,
-    alloc: Global,
-) -> Result<Instance, InstanceFault>
-    requires { length weights.items < 100 }
-{
+// A side of three agents.
+fn three(rt: &(impl Abort + AllocGlobal), first: Agent, second: Agent, third: Agent) -> Vec<Agent> {
+    let mut side = two(rt, first, second);
+    side.push(third).expect(rt, MEMORY);
+    side
+}
+
+// The residents a: k h, b: z h and c: h k, who doesn't stand on k's list; h has two places, k one and z none.
+fn small_hospitals(rt: &(impl Abort + AllocGlobal)) -> Instance {
+    let residents = three(
+        rt,
+        agent(rt, b'a', 1, &[1, 0]),
+        agent(rt, b'b', 1, &[2, 0]),
+        agent(rt, b'c', 1, &[0, 1]),
+    );
+    let hospitals = three(
+        rt,
+        agent(rt, b'h', 2, &[2, 0, 1]),
+        agent(rt, b'k', 1, &[0]),
+        agent(rt, b'z', 0, &[1]),
+    );
     Instance::build(
-        alloc,
-        Kind::Marriage,
-        proposers,
-        reviewers,
-        weights,
-        Vec::new(alloc),
-        Vec::new(alloc),
+        rt.alloc(),
+        Kind::Hospitals,
+        residents,
+        hospitals,
+        copy(rt, &[(0, 0, 4), (2, 0, -10)]),
+        copy(rt, &[(0, 0)]),
+        copy(rt, &[(1, 0)]),
     )
+    .expect(rt, "an instance")
 }
 
-// Residents who list hospitals of these capacities.
-fn hospitals(
-    proposers: Vec<Agent>,
-    mut reviewers: Vec<Agent>,
-    capacities: &[u32],
-    alloc: Global,
-) -> Result<Instance, InstanceFault> {
-    for (hospital, capacity) in reviewers.iter_mut().zip(capacities) {
-        hospital.capacity = *capacity;
+// Places of the three residents, what is found of them, and what they are worth where they are a matching.
+struct Row {
+    places: [Option<u32>; 3],
+    breach: Option<u32>,
+    blocking: Option<(u32, u32)>,
+    ranks: [u32; 3],
+    regret: u32,
+    weights: (i64, i64),
+    allowed: bool,
+}
+
+fn is_worth(rt: &impl Abort, instance: &Instance, a: &Assignment, row: &Row)
+    requires { IsMatching instance.now a.now.places.items }
+{
+    let mut ranks = [0; 3];
+    assert!(rt; instance.proposer_count() == 3);
+    instance.rank_vector(a, &mut ranks);
+    assert!(rt; ranks == row.ranks);
+    assert!(rt; instance.first_blocking(a) == row.blocking);
+    assert!(rt; instance.regret(a) == row.regret);
+    assert!(rt; instance.weigh(a, Measure::Ranks) == row.weights.0);
+    assert!(rt; instance.weigh(a, Measure::Given) == row.weights.1);
+    assert!(rt; instance.allowed(a) == row.allowed);
+}
+
+fn are_worth(rt: &(impl Abort + AllocGlobal), instance: &Instance, rows: &[Row]) {
+    for row in rows {
+        let a = Assignment {
+            places: copy(rt, &row.places),
+        };
+        assert!(rt; instance.is_assignment(&a));
+        match instance.breach(&a) {
+            None => is_worth(rt, instance, &a, row),
+            Some(p) => assert!(rt; row.breach == Some(p)),
+        }
     }
+}
+
+// Resident c and hospital k, z and what they are to each other.
+fn knows_its_agents(rt: &impl Abort, instance: &Instance) {
+    assert!(rt; instance.proposer_count() == 3);
+    assert!(rt; instance.reviewer_count() == 3);
+    assert!(rt; !instance.acceptable(2, 1));
+    assert!(rt; instance.acceptable(2, 0));
+    assert!(rt; instance.place(2, 1) == Some(1));
+    assert!(rt; instance.weight(2, 0) == -10);
+    assert!(rt; instance.capacity(2) == 0);
+}
+
+#[test]
+fn small_hospitals_are_worth(rt: HostRuntime) {
+    let instance = small_hospitals(&rt);
+    knows_its_agents(&rt, &instance);
+    are_worth(
+        &rt,
+        &instance,
+        &[
+            Row {
+                places: [Some(0), Some(1), Some(0)],
+                breach: None,
+                blocking: None,
+                ranks: [1, 2, 1],
+                regret: 3,
+                weights: (9, -10),
+                allowed: false,
+            },
+            Row {
+                places: [Some(1), None, Some(0)],
+                breach: None,
+                blocking: Some((0, 1)),
+                ranks: [2, 3, 1],
+                regret: 2,
+                weights: (6, -6),
+                allowed: true,
+            },
+        ],
+    );
+}
+
+// Makes sure where the first resident stands that can't be where it is.
+fn breaks(rt: &(impl Abort + AllocGlobal), instance: &Instance, places: &[Option<u32>], p: u32) {
+    let a = Assignment {
+        places: copy(rt, places),
+    };
+    assert!(rt; instance.is_assignment(&a));
+    assert!(rt; instance.breach(&a) == Some(p));
+}
+
+#[test]
+fn inert_entries_and_full_hospitals_break(rt: HostRuntime) {
+    let instance = small_hospitals(&rt);
+    breaks(&rt, &instance, &[None, None, Some(1)], 2);
+    breaks(&rt, &instance, &[Some(1), Some(1), Some(0)], 2);
+    breaks(&rt, &instance, &[None, Some(0), None], 1);
+}
+
+// A proposer m and the hospitals a and another: what may be wrong with them.
+#[derive(Clone, Copy)]
+struct Case {
+    letter: u8,
+    capacity: u32,
+    list: [u32; 2],
+    back: u32,
+    weight: (u32, u32, i64),
+    forbidden: (u32, u32),
+}
+
+const SOUND: Case = Case {
+    letter: b'b',
+    capacity: 1,
+    list: [0, 1],
+    back: 0,
+    weight: (0, 1, 2),
+    forbidden: (0, 1),
+};
+
+fn fault_of(rt: &(impl Abort + AllocGlobal), case: &Case) -> Option<InstanceFault> {
+    let mut proposers = Vec::new(rt.alloc());
+    proposers
+        .push(agent(rt, b'm', 1, &case.list))
+        .expect(rt, MEMORY);
+    let reviewers = two(
+        rt,
+        agent(rt, b'a', case.capacity, &[case.back]),
+        agent(rt, case.letter, 1, &[0]),
+    );
     Instance::build(
-        alloc,
+        rt.alloc(),
         Kind::Hospitals,
         proposers,
         reviewers,
-        Vec::new(alloc),
-        Vec::new(alloc),
-        Vec::new(alloc),
+        copy(rt, &[(0, 0, 1), case.weight]),
+        copy(rt, &[(0, 0)]),
+        copy(rt, &[case.forbidden]),
     )
+    .err()
 }
 
-fn assigned(alloc: Global, places: &[Option<u32>]) -> Result<Assignment, AllocError> {
-    Ok(Assignment {
-        places: Vec::from_slice(alloc, places)?,
-    })
-}
-
-// Makes sure that an assignment is a matching.
-fn expect_matching(rt: &impl Abort, instance: &Instance, a: &Assignment)
-    ensures { IsMatching instance.now a.now.places.items }
-{
-    assert!(rt; instance.is_assignment(a));
-    match instance.breach(a) {
-        None => (),
-        Some(_) => panic!(rt; "a breach"),
+fn have_faults(rt: &(impl Abort + AllocGlobal), cases: &[(Case, Option<InstanceFault>)]) {
+    for (case, fault) in cases {
+        assert!(rt; fault_of(rt, case) == *fault);
     }
 }
 
-// Makes sure that the first proposer that can't be where it is is this one.
-fn breaks(
-    rt: &(impl Abort + AllocGlobal),
-    instance: &Instance,
-    places: &[Option<u32>],
-    breach: Option<u32>,
-) -> Result<(), AllocError> {
-    let a = assigned(rt.alloc(), places)?;
-    assert!(rt; instance.is_assignment(&a));
-    assert!(rt; instance.breach(&a) == breach);
-    Ok(())
-}
-
-// Makes sure that this pair blocks first.
-fn is_blocked(
-    rt: &(impl Abort + AllocGlobal),
-    instance: &Instance,
-    places: &[Option<u32>],
-    first: Option<(u32, u32)>,
-) -> Result<(), AllocError> {
-    let a = assigned(rt.alloc(), places)?;
-    expect_matching(rt, instance, &a);
-    assert!(rt; instance.first_blocking(&a) == first);
-    Ok(())
-}
-
-// Makes sure whether a pair blocks.
-fn pair_blocks(
-    rt: &(impl Abort + AllocGlobal),
-    instance: &Instance,
-    places: &[Option<u32>],
-    pair: (u32, u32),
-    blocks: bool,
-) -> Result<(), AllocError> {
-    let (p, r) = pair;
-    let a = assigned(rt.alloc(), places)?;
-    expect_matching(rt, instance, &a);
-    assert!(rt; p < instance.proposer_count());
-    assert!(rt; r < instance.reviewer_count());
-    assert!(rt; instance.blocks(&a, p, r) == blocks);
-    Ok(())
-}
-
-// Makes sure of the regret, and of the weights by ranks and as given.
-fn is_worth(
-    rt: &(impl Abort + AllocGlobal),
-    instance: &Instance,
-    places: &[Option<u32>],
-    regret: u32,
-    ranks: i64,
-    given: i64,
-) -> Result<(), AllocError> {
-    let a = assigned(rt.alloc(), places)?;
-    expect_matching(rt, instance, &a);
-    assert!(rt; instance.regret(&a) == regret);
-    assert!(rt; instance.weigh(&a, Measure::Ranks) == ranks);
-    assert!(rt; instance.weigh(&a, Measure::Given) == given);
-    Ok(())
-}
-
-// Makes sure whether a matching is allowed.
-fn allows(
-    rt: &(impl Abort + AllocGlobal),
-    instance: &Instance,
-    places: &[Option<u32>],
-    allowed: bool,
-) -> Result<(), AllocError> {
-    let a = assigned(rt.alloc(), places)?;
-    expect_matching(rt, instance, &a);
-    assert!(rt; instance.allowed(&a) == allowed);
-    Ok(())
-}
-
-// Makes sure of the ranks of two proposers.
-fn has_ranks(
-    rt: &(impl Abort + AllocGlobal),
-    instance: &Instance,
-    places: &[Option<u32>],
-    ranks: [u32; 2],
-) -> Result<(), AllocError> {
-    let a = assigned(rt.alloc(), places)?;
-    let mut found = [0, 0];
-    expect_matching(rt, instance, &a);
-    assert!(rt; instance.proposer_count() == 2);
-    instance.rank_vector(&a, &mut found);
-    assert!(rt; found == ranks);
-    Ok(())
-}
-
-// Makes sure whether a proposer and a reviewer accept each other.
-fn accepts(rt: &impl Abort, instance: &Instance, p: u32, r: u32, accepts: bool) {
-    assert!(rt; p < instance.proposer_count());
-    assert!(rt; r < instance.reviewer_count());
-    assert!(rt; instance.acceptable(p, r) == accepts);
-}
-
-// Makes sure who stands on a list, and where the list's owner stands on theirs.
-fn crosses(rt: &impl Abort, list: &[u32], crosses: &[Cross], wanted: &[(u32, Option<u32>)]) {
-    assert!(rt; list.len() == wanted.len());
-    assert!(rt; crosses.len() == wanted.len());
-    for place in 0..wanted.len() {
-        assert!(rt; list[place] == wanted[place].0);
-        assert!(rt; crosses[place].place() == wanted[place].1);
-    }
-}
-
-// Makes sure of a proposer's list.
-fn proposer_lists(rt: &impl Abort, instance: &Instance, p: u32, wanted: &[(u32, Option<u32>)]) {
-    assert!(rt; p < instance.proposer_count());
-    let list = instance.proposer_list(p);
-    crosses(rt, list, instance.proposer_crosses(p), wanted);
-}
-
-// Makes sure of a reviewer's list.
-fn reviewer_lists(rt: &impl Abort, instance: &Instance, r: u32, wanted: &[(u32, Option<u32>)]) {
-    assert!(rt; r < instance.reviewer_count());
-    let list = instance.reviewer_list(r);
-    crosses(rt, list, instance.reviewer_crosses(r), wanted);
-}
-
-// `m1` lists `x`, who doesn't list it back, before `a`.
-fn inert_entry(alloc: Global) -> Result<Instance, InstanceFault> {
-    let proposers = side(alloc, &["m1", "m2"], &[&[0, 1], &[1]])?;
-    let reviewers = side(alloc, &["x", "a"], &[&[], &[1, 0]])?;
-    marriage(proposers, reviewers, Vec::new(alloc), alloc)
-}
-
 #[test]
-fn inert_entries_keep_their_places(rt: HostRuntime) -> Result<(), Fail> {
-    let instance = inert_entry(rt.alloc())?;
-    accepts(&rt, &instance, 0, 0, false);
-    accepts(&rt, &instance, 0, 1, true);
-    proposer_lists(&rt, &instance, 0, &[(0, None), (1, Some(1))]);
-    reviewer_lists(&rt, &instance, 1, &[(1, Some(0)), (0, Some(1))]);
-    has_ranks(&rt, &instance, &[None, Some(0)], [3, 1])?;
-    is_blocked(&rt, &instance, &[None, Some(0)], None)?;
-    breaks(&rt, &instance, &[Some(0), Some(0)], Some(0))?;
-    Ok(())
-}
-
-// A resident and a hospital of capacity 0.
-fn closed_hospital(alloc: Global) -> Result<Instance, InstanceFault> {
-    hospitals(
-        side(alloc, &["r0"], &[&[0]])?,
-        side(alloc, &["h"], &[&[0]])?,
-        &[0],
-        alloc,
-    )
-}
-
-#[test]
-fn a_hospital_without_places_never_blocks(rt: HostRuntime) -> Result<(), Fail> {
-    let instance = closed_hospital(rt.alloc())?;
-    is_blocked(&rt, &instance, &[None], None)?;
-    pair_blocks(&rt, &instance, &[None], (0, 0), false)?;
-    breaks(&rt, &instance, &[Some(0)], Some(0))?;
-    Ok(())
-}
-
-// Three residents, and two hospitals of which the first has two places.
-fn small_hospitals(alloc: Global) -> Result<Instance, InstanceFault> {
-    let residents = side(alloc, &["r0", "r1", "r2"], &[&[0], &[0, 1], &[1, 0]])?;
-    let both = side(alloc, &["h", "k"], &[&[2, 0, 1], &[1, 2]])?;
-    hospitals(residents, both, &[2, 1], alloc)
-}
-
-#[test]
-fn full_hospitals_and_free_places(rt: HostRuntime) -> Result<(), Fail> {
-    let instance = small_hospitals(rt.alloc())?;
-    is_blocked(&rt, &instance, &[Some(0), Some(0), Some(0)], None)?;
-    is_blocked(&rt, &instance, &[None, Some(0), Some(1)], Some((0, 0)))?;
-    is_blocked(&rt, &instance, &[Some(0), Some(0), None], Some((2, 1)))?;
-    pair_blocks(&rt, &instance, &[Some(0), Some(0), None], (2, 0), true)?;
-    pair_blocks(&rt, &instance, &[Some(0), Some(0), None], (0, 0), false)?;
-    breaks(&rt, &instance, &[Some(0), Some(0), Some(1)], Some(2))?;
-    Ok(())
-}
-
-// Three proposers and three reviewers whose lists go round, with two weights.
-fn three_cycle(alloc: Global) -> Result<Instance, InstanceFault> {
-    let proposers = side(
-        alloc,
-        &["m1", "m2", "m3"],
-        &[&[0, 1, 2], &[1, 2, 0], &[2, 0, 1]],
-    )?;
-    let reviewers = side(
-        alloc,
-        &["a", "b", "c"],
-        &[&[1, 2, 0], &[2, 0, 1], &[0, 1, 2]],
-    )?;
-    marriage(
-        proposers,
-        reviewers,
-        weighed(alloc, &[(0, 1, 4), (0, 2, -10)])?,
-        alloc,
-    )
-}
-
-#[test]
-fn regrets_and_weights(rt: HostRuntime) -> Result<(), Fail> {
-    let instance = three_cycle(rt.alloc())?;
-    is_worth(&rt, &instance, &[Some(0), Some(0), Some(0)], 3, 12, 0)?;
-    is_worth(&rt, &instance, &[Some(1), Some(1), Some(1)], 2, 12, 4)?;
-    is_worth(&rt, &instance, &[Some(2), Some(2), Some(2)], 3, 12, -10)?;
-    is_worth(&rt, &instance, &[None, None, None], 0, 0, 0)?;
-    Ok(())
-}
-
-// The two-by-two instance, with a forced and a forbidden pair.
-fn with_conditions(
-    alloc: Global,
-    forced: &[(u32, u32)],
-    forbidden: &[(u32, u32)],
-) -> Result<Instance, InstanceFault> {
-    let proposers = side(alloc, &["m1", "m2"], &[&[0, 1], &[1, 0]])?;
-    let reviewers = side(alloc, &["a", "b"], &[&[1, 0], &[0, 1]])?;
-    let forced = few(alloc, forced)?;
-    let forbidden = few(alloc, forbidden)?;
-    Instance::build(
-        alloc,
-        Kind::Marriage,
-        proposers,
-        reviewers,
-        Vec::new(alloc),
-        forced,
-        forbidden,
-    )
-}
-
-#[test]
-fn conditions_allow(rt: HostRuntime) -> Result<(), Fail> {
-    let instance = with_conditions(rt.alloc(), &[(0, 1)], &[(1, 1)])?;
-    allows(&rt, &instance, &[Some(0), Some(0)], false)?;
-    allows(&rt, &instance, &[Some(1), Some(1)], true)?;
-    allows(&rt, &instance, &[Some(1), None], true)?;
-    Ok(())
-}
-
-// The fault of a marriage of one proposer and one reviewer with these lists.
-fn fault_of_lists(
-    alloc: Global,
-    proposer: &[u32],
-    reviewer: &[u32],
-) -> Result<Option<InstanceFault>, AllocError> {
-    let proposers = side(alloc, &["m"], &[proposer])?;
-    let reviewers = side(alloc, &["a"], &[reviewer])?;
-    Ok(marriage(proposers, reviewers, Vec::new(alloc), alloc).err())
-}
-
-// The fault of a marriage of one proposer and one reviewer with these weights.
-fn fault_of_weights(
-    alloc: Global,
-    weights: &[(u32, u32, i64)],
-) -> Result<Option<InstanceFault>, AllocError> {
-    let proposers = side(alloc, &["m"], &[&[]])?;
-    let reviewers = side(alloc, &["a"], &[&[]])?;
-    Ok(marriage(proposers, reviewers, weighed(alloc, weights)?, alloc).err())
-}
-
-#[test]
-fn names_the_first_faulty_entry(rt: HostRuntime) -> Result<(), Fail> {
-    assert_eq!(rt;
-        fault_of_lists(rt.alloc(), &[0, 0], &[])?,
-        Some(InstanceFault::BadEntry(Side::Proposers, 0, 1))
+fn each_fault_once(rt: HostRuntime) {
+    let bad_entry = InstanceFault::BadEntry(Side::Proposers, 0, 1);
+    have_faults(
+        &rt,
+        &[
+            (SOUND, None),
+            (
+                Case {
+                    letter: b'a',
+                    ..SOUND
+                },
+                Some(InstanceFault::BadAgent(Side::Reviewers, 1)),
+            ),
+            (
+                Case {
+                    capacity: 4_097,
+                    ..SOUND
+                },
+                Some(InstanceFault::BadAgent(Side::Reviewers, 0)),
+            ),
+            (
+                Case {
+                    list: [0, 0],
+                    ..SOUND
+                },
+                Some(bad_entry),
+            ),
+            (
+                Case {
+                    list: [0, 2],
+                    ..SOUND
+                },
+                Some(bad_entry),
+            ),
+            (
+                Case { back: 1, ..SOUND },
+                Some(InstanceFault::BadEntry(Side::Reviewers, 0, 0)),
+            ),
+            (
+                Case {
+                    weight: (0, 0, 2),
+                    ..SOUND
+                },
+                Some(InstanceFault::BadPair(1)),
+            ),
+            (
+                Case {
+                    weight: (0, 1, 1_000_000_001),
+                    ..SOUND
+                },
+                Some(InstanceFault::BadPair(1)),
+            ),
+            (
+                Case {
+                    forbidden: (0, 2),
+                    ..SOUND
+                },
+                Some(InstanceFault::BadPair(3)),
+            ),
+        ],
     );
-    assert_eq!(rt;
-        fault_of_lists(rt.alloc(), &[0], &[1])?,
-        Some(InstanceFault::BadEntry(Side::Reviewers, 0, 0))
-    );
-    Ok(())
+}
+
+// Two persons, of whom the first lists itself.
+fn persons(rt: &(impl Abort + AllocGlobal), second: u8) -> Result<Persons, InstanceFault> {
+    let both = two(rt, agent(rt, b'x', 1, &[1, 0]), agent(rt, second, 1, &[0]));
+    Persons::build(rt.alloc(), both)
+}
+
+// Makes sure of the numbers of the left and of the right agent with this name.
+fn finds(rt: &impl Abort, input: &Input, name: &[u8], left: Option<u32>, right: Option<u32>) {
+    assert!(rt; input.find_left(name) == left);
+    assert!(rt; input.find_right(name) == right);
 }
 
 #[test]
-fn names_the_first_faulty_pair(rt: HostRuntime) -> Result<(), Fail> {
-    assert_eq!(rt;
-        fault_of_weights(rt.alloc(), &[(0, 0, 1), (0, 0, 2)])?,
-        Some(InstanceFault::BadPair(1))
-    );
-    assert_eq!(rt;
-        fault_of_weights(rt.alloc(), &[(0, 0, 1_000_000_001)])?,
-        Some(InstanceFault::BadPair(0))
-    );
-    assert_eq!(rt;
-        with_conditions(rt.alloc(), &[(0, 0)], &[(1, 2)]).err(),
-        Some(InstanceFault::BadPair(1))
-    );
-    Ok(())
+fn persons_find_their_names(rt: HostRuntime) {
+    let twice = persons(&rt, b'x').err();
+    assert!(rt; twice == Some(InstanceFault::BadAgent(Side::Proposers, 1)));
+    let input = Input::Room(persons(&rt, b'y').expect(&rt, "persons"));
+    assert!(rt; input.kind() == Kind::Roommates);
+    finds(&rt, &input, b"y", Some(1), Some(1));
+    finds(&rt, &input, b"z", None, None);
 }
 
 #[test]
-fn names_the_first_faulty_agent(rt: HostRuntime) -> Result<(), Fail> {
-    let wide = hospitals(
-        Vec::new(rt.alloc()),
-        side(rt.alloc(), &["h"], &[&[]])?,
-        &[4_097],
-        rt.alloc(),
-    );
-    assert_eq!(rt;
-        wide.err(),
-        Some(InstanceFault::BadAgent(Side::Reviewers, 0))
-    );
-    let twice = Persons::build(rt.alloc(), side(rt.alloc(), &["m", "m"], &[&[], &[]])?);
-    assert_eq!(rt;
-        twice.err(),
-        Some(InstanceFault::BadAgent(Side::Proposers, 1))
-    );
-    Ok(())
-}
-
-// More agents than are taken, all of one name: that there are too many is tried first.
-fn crowd(alloc: Global) -> Result<Vec<Agent>, AllocError> {
-    let mut crowd = Vec::new(alloc);
-    for _n in 0..4_097 {
-        crowd.push(Agent {
-            name: Vec::from_slice(alloc, b"m")?,
-            capacity: 1,
-            line: 0,
-            entries: Vec::new(alloc),
-        })?;
-    }
-    Ok(crowd)
-}
-
-#[test]
-fn too_many_agents(rt: HostRuntime) -> Result<(), Fail> {
-    let persons = Persons::build(rt.alloc(), crowd(rt.alloc())?);
-    assert_eq!(rt; persons.err(), Some(InstanceFault::TooMany));
-    Ok(())
-}
-
-// Two persons who list the first of them.
-fn two_persons(alloc: Global) -> Result<Persons, InstanceFault> {
-    Persons::build(alloc, side(alloc, &["1", "2"], &[&[1, 0], &[0]])?)
-}
-
-fn finds_persons(rt: &impl Abort, input: &Input) {
-    assert_eq!(rt; input.kind(), Kind::Roommates);
-    assert_eq!(rt; input.find_left(b"2"), Some(1));
-    assert_eq!(rt; input.find_right(b"1"), Some(0));
-    assert_eq!(rt; input.find_right(b"3"), None);
-}
-
-#[test]
-fn persons_find_their_names(rt: HostRuntime) -> Result<(), Fail> {
-    let input = Input::Room(two_persons(rt.alloc())?);
-    finds_persons(&rt, &input);
-    Ok(())
-}
-
-fn finds_agents(rt: &impl Abort, input: &Input) {
-    assert_eq!(rt; input.kind(), Kind::Marriage);
-    assert_eq!(rt; input.find_left(b"m2"), Some(1));
-    assert_eq!(rt; input.find_right(b"a"), Some(1));
-    assert_eq!(rt; input.find_right(b"m2"), None);
-}
-
-#[test]
-fn inputs_name_their_sides(rt: HostRuntime) -> Result<(), Fail> {
-    let input = Input::Two(inert_entry(rt.alloc())?);
-    finds_agents(&rt, &input);
-    Ok(())
+fn inputs_name_their_sides(rt: HostRuntime) {
+    let input = Input::Two(small_hospitals(&rt));
+    assert!(rt; input.kind() == Kind::Hospitals);
+    finds(&rt, &input, b"c", Some(2), None);
+    finds(&rt, &input, b"h", None, Some(0));
 }
