@@ -12,7 +12,7 @@ use crate::faults::InstanceFault;
 use crate::kinds::{Kind, Side};
 use crate::names::Names;
 use crate::pairs::Pairs;
-use sm_text::is_name;
+use sm_text::{Digest, TextHash, is_name};
 use std::alloc::Global;
 
 const MOST_AGENTS: usize = 4_096;
@@ -65,7 +65,7 @@ pub(crate) fn checked_names(
     ensures names { IfOk result (λ names. names ≡ names_of (agents_of agents.now)) }
     ensures fault { IfErr result (λ f. IsAgentFault side (agents_of agents.now) single f) }
 {
-    let mut names = Names::new(alloc);
+    let mut names = Names::new(alloc, hash_of_names(agents));
     for a in 0..agents.len() as u32 {
         let name = name_at(agents, a);
         if !is_name(name) || !is_capacity(capacity_at(agents, a), single) {
@@ -77,6 +77,15 @@ pub(crate) fn checked_names(
         }
     }
     Ok(names)
+}
+
+// Hashes for the names of a side, which no name can choose.
+fn hash_of_names(agents: &[Agent]) -> TextHash {
+    let mut digest = Digest::new();
+    for agent in agents {
+        digest.take(&agent.name);
+    }
+    digest.hash()
 }
 
 /// May an agent have this capacity, where it is 1 for all or not?
@@ -149,6 +158,16 @@ fn first_bad_pair(pairs: &[(u32, u32)], proposers: u32, reviewers: u32) -> Optio
     None
 }
 
+// Hashes for the pairs that are weighed, which no pair can choose.
+fn hash_of_weights(weights: &[(u32, u32, i64)]) -> TextHash {
+    let mut digest = Digest::new();
+    for (p, r, _) in weights {
+        digest.take(&p.to_le_bytes());
+        digest.take(&r.to_le_bytes());
+    }
+    digest.hash()
+}
+
 /// The pairs that are weighed, or the first weight that isn't sound.
 fn checked_weights(
     alloc: Global,
@@ -163,7 +182,7 @@ fn checked_weights(
     ensures fault { IfErr result
         (λ f. IsItemFault proposers reviewers weights.now (map weighed weights.now) f) }
 {
-    let mut pairs = Pairs::new(alloc);
+    let mut pairs = Pairs::new(alloc, hash_of_weights(weights));
     for n in 0..weights.len() as u32 {
         let (p, r, weight) = weights[n as usize];
         if p >= proposers || r >= reviewers || weight.unsigned_abs() > MOST_WEIGHT {

@@ -5,13 +5,14 @@ ghost use Rattle.std.specs.List.{list_any};
 ghost use Rattle.std.specs.Str.{bytes_eq};
 
 use indexmap::IndexSet;
+use sm_text::TextHash;
 use std::alloc::{AllocError, Global};
 use std::marker::Model;
 
 /// The names of a side, in the order of its agents. They are found by their hash.
 #[derive(Drop)]
 pub(crate) struct Names {
-    names: IndexSet<Vec<u8>>,
+    names: IndexSet<Vec<u8>, TextHash>,
 }
 
 impl Model for Names {
@@ -25,12 +26,12 @@ impl Model for Names {
 }
 
 impl Names {
-    /// No names.
-    pub(crate) fn new(alloc: Global) -> Names
+    /// No names, which will be found by these hashes.
+    pub(crate) fn new(alloc: Global, hash: TextHash) -> Names
         ensures { result ≡ [] }
     {
         Names {
-            names: IndexSet::new(alloc),
+            names: IndexSet::with_hasher(alloc, hash),
         }
     }
 

@@ -5,13 +5,14 @@ ghost use Rattle.std.specs.List.{list_any};
 ghost use Rattle.sm_instance.specs.Written.{is_same_pair};
 
 use indexmap::IndexSet;
+use sm_text::TextHash;
 use std::alloc::{AllocError, Global};
 use std::marker::Model;
 
 /// Pairs that differ, in the order in which they were added. They are found by their hash.
 #[derive(Drop)]
 pub(crate) struct Pairs {
-    pairs: IndexSet<(u32, u32)>,
+    pairs: IndexSet<(u32, u32), TextHash>,
 }
 
 impl Model for Pairs {
@@ -24,12 +25,12 @@ impl Model for Pairs {
 }
 
 impl Pairs {
-    /// No pairs.
-    pub(crate) fn new(alloc: Global) -> Pairs
+    /// No pairs, which will be found by these hashes.
+    pub(crate) fn new(alloc: Global, hash: TextHash) -> Pairs
         ensures { result ≡ [] }
     {
         Pairs {
-            pairs: IndexSet::new(alloc),
+            pairs: IndexSet::with_hasher(alloc, hash),
         }
     }
 

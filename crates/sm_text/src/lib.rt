@@ -9,16 +9,19 @@ mod lines;
 mod names;
 mod numbers;
 mod refusal;
+mod text_hash;
 mod tokens;
 mod writer;
 
 pub use limits::{
-    MOST_AGENTS, MOST_BYTES, MOST_CAPACITY, MOST_ENTRIES, MOST_NAME_BYTES, MOST_SEAT_ENTRIES, MOST_WEIGHT,
+    MOST_AGENTS, MOST_BYTES, MOST_CAPACITY, MOST_ENTRIES, MOST_NAME_BYTES, MOST_SEAT_ENTRIES,
+    MOST_WEIGHT,
 };
 pub use lines::{LineSpan, line_at, line_count};
 pub use names::{is_name, is_name_byte};
 pub use numbers::{number, signed};
 pub use refusal::RefusalKind;
+pub use text_hash::{Digest, TextHash};
 pub use tokens::{TokenAt, token_at};
 pub use writer::LineWriter;
 
