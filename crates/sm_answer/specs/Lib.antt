@@ -1,0 +1,4 @@
+pub mod Giving
+pub mod Lines
+pub mod Printing
+pub mod Writing
