@@ -3,16 +3,16 @@ use Rattle.std.proofs.Common.{◌≡◌, ℕ, ◌<◌, ◌≤◌, ltb, cond, Boo
 use Rattle.std.proofs.lemmas.Bool.{cases_lt}
 use Rattle.std.proofs.lemmas.Bool.Decides.{nat_tests}
 use Rattle.std.specs.Option.{is_some}
+use Rattle.sm_text.specs.Limits.{most_agents}
 use Rattle.sm_instance.specs.Written.{Written, AgentData, row, entry, place_of, IsAcceptable}
-use Rattle.sm_instance.specs.Sound.{IsInstance, entries_of}
+use Rattle.sm_instance.specs.Sound.{IsInstance}
 use Rattle.sm_instance.specs.Matching.{held, IsAssignment}
 use Rattle.sm_instance.specs.Kept.{cross_place}
-use Rattle.sm_instance.proofs.ListLemmas.{length-row-le}
-use Rattle.sm_instance.proofs.PlaceLemmas.{entry-place_of, place_of-lt}
+use Rattle.sm_instance.proofs.PlaceLemmas.{entry-place_of, place_of-lt, length-row-le-others}
 
--- no list of a proposer is longer than all entries together
-pub proposer_row_fits : {w : Written} → IsInstance w → (p : ℕ) → length (row w.proposers p) ≤ 524288
-proposer_row_fits {w} i p = let le = length-row-le w.proposers p in let all = i.limits.entries in omega arith
+-- no list of a proposer has more entries than a side has agents
+pub proposer_row_fits : {w : Written} → IsInstance w → (p : ℕ) → length (row w.proposers p) ≤ most_agents
+proposer_row_fits {w} i p = let le = length-row-le-others i.proposer_entries p in let few = i.limits.reviewers in omega arith
 
 some_pick : (b : Bool) (n i : ℕ) → (let none : Option ℕ = None in cond b (Some n) none ≡ Some i) → (b ≡ true) × (n ≡ i)
 some_pick true n i h = (refl, cc)
@@ -30,13 +30,16 @@ cross_none agents a b h = ⊎_elim (λ l. absurd (let on : ltb (place_of agents 
 pub cross_is : (agents : List AgentData) (a b : ℕ) → place_of agents a b < length (row agents a) → cross_place agents a b ≡ Some (place_of agents a b)
 cross_is agents a b l = grind (arith, nat_tests)
 
--- and fits, where all entries do
-pub cross_within : (agents : List AgentData) → entries_of agents ≤ 524288 → (a b : ℕ) (o : Option ℕ) → o ≡ cross_place agents a b → IfSome o (λ place. place < 524288)
-cross_within agents all a b None h = tt
-cross_within agents all a b (Some k) h = let x = cross_some agents a b k (sym h) in let on = x.1 in let le = length-row-le agents a in let e = x.0 in omega arith
-
-pub cross_fits : {w : Written} → IsInstance w → (r p : ℕ) (o : Option ℕ) → o ≡ cross_place w.reviewers r p → IfSome o (λ back. back < 524288)
-cross_fits {w} i r p o h = cross_within w.reviewers (let all = i.limits.entries in omega arith) r p o h
+-- and fits, since a list has no more entries than a side has agents
+pub cross_fits : {w : Written} → IsInstance w → (r p : ℕ) (o : Option ℕ) → o ≡ cross_place w.reviewers r p → IfSome o (λ back. back < most_agents)
+cross_fits {w} i r p None h = tt
+cross_fits {w} i r p (Some k) h =
+    let x = cross_some w.reviewers r p k (sym h) in
+    let on = x.1 in
+    let e = x.0 in
+    let le = length-row-le-others i.reviewer_entries r in
+    let few = i.limits.proposers in
+    omega arith
 
 -- the test of acceptability, where the place of r on p's list is known
 pub acceptable_at : (w : Written) (p r i : ℕ) → Some i ≡ cross_place w.proposers p r → (o : Option ℕ) → o ≡ cross_place w.reviewers (entry w.proposers p i) p → (b : Bool) → b ≡ is_some o

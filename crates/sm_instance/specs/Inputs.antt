@@ -1,10 +1,16 @@
 -- What an `Input` is.
 use Rattle.std.specs.Prelude.{List}
 use Rattle.sm_instance.specs.Written.{AgentData}
+use Rattle.sm_instance.specs.Sound.{IsInstance, ArePersons}
 use Rattle.sm_instance.specs.declared.kinds.Kind.{Kind}
 use Rattle.sm_instance.specs.declared.kinds.Kind.TheVariants.{Roommates}
 use Rattle.sm_instance.specs.declared.inputs.Input.{Input}
 use Rattle.sm_instance.specs.declared.inputs.Input.TheVariants.{Two, Room}
+
+-- an instance with two sides, or one of roommates
+abbrev pub IsInput : Input → Type 0
+IsInput (Two w) = IsInstance w
+IsInput (Room persons) = ArePersons persons
 
 abbrev pub kind_of : Input → Kind
 kind_of (Two w) = w.kind

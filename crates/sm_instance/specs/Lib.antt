@@ -10,5 +10,6 @@ pub mod Places
 pub mod Vectors
 pub mod Kept
 pub mod Inputs
+pub mod Named
 pub mod Loads
 pub mod Witnesses

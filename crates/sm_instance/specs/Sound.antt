@@ -2,6 +2,7 @@
 use Rattle.std.specs.Prelude.{◌≡◌, ◌≢◌, ℕ, ◌+◌, ◌<◌, ◌≤◌, Bool, true, false, IsTrue, List, [], length, map, ◌++◌, slice_index_or, ℤ, pos}
 use Rattle.std.specs.List.{sum_by}
 use Rattle.std.specs.Int.RustNames.{unsigned_abs}
+use Rattle.sm_text.specs.Limits.{most_agents, most_entries, most_capacity, most_weight}
 use Rattle.sm_text.specs.Name.{is_name}
 use Rattle.sm_instance.specs.Written.{AgentData, Written, agent_at, row, entry, weighed}
 use Rattle.sm_instance.specs.declared.kinds.Kind.{Kind}
@@ -10,18 +11,18 @@ use Rattle.sm_instance.specs.declared.kinds.Kind.TheVariants.{Marriage, Hospital
 abbrev pub entries_of : List AgentData → ℕ
 entries_of agents = sum_by (λ agent. length agent.entries) agents
 
--- at most 4,096 agents on each side, and at most 524,288 entries on all lists
+-- the agents on each side, and the entries on all lists, are few enough
 pub record IsWithinLimits (left right : List AgentData) : Type 0 where
-  pub proposers : length left ≤ 4096
-  pub reviewers : length right ≤ 4096
-  pub entries : entries_of left + entries_of right ≤ 524288
+  pub proposers : length left ≤ most_agents
+  pub reviewers : length right ≤ most_agents
+  pub entries : entries_of left + entries_of right ≤ most_entries
 
 -- an agent has a name, which no earlier agent of its side has, and a capacity of at most 4,096, which is 1 where every
 -- agent of the side has a single place
 pub record IsSoundAgent (agents : List AgentData) (single : Bool) (a : ℕ) : Type 0 where
   pub name : IsTrue (is_name (agent_at agents a).name)
   pub fresh : (b : ℕ) → b < a → (agent_at agents b).name ≢ (agent_at agents a).name
-  pub capacity : (agent_at agents a).capacity ≤ 4096
+  pub capacity : (agent_at agents a).capacity ≤ most_capacity
   pub one : IsTrue single → (agent_at agents a).capacity ≡ 1
 
 pub record AreSoundAgents (agents : List AgentData) (single : Bool) : Type 0 where
@@ -50,7 +51,7 @@ items_of weights forced forbidden = map weighed weights ++ forced ++ forbidden
 -- an item names two agents; a weight is of a size of at most 1,000,000,000, and of a pair that isn't weighed earlier
 pub record IsSoundItem (proposers reviewers : ℕ) (weights : List (ℕ × ℕ × ℤ)) (items : List (ℕ × ℕ)) (n : ℕ) : Type 0 where
   pub pair : IsPairOf proposers reviewers (pair_at items n)
-  pub size : n < length weights → unsigned_abs (slice_index_or weights n (0, 0, pos 0)).2 ≤ 1000000000
+  pub size : n < length weights → unsigned_abs (slice_index_or weights n (0, 0, pos 0)).2 ≤ most_weight
   pub fresh : n < length weights → (k : ℕ) → k < n → pair_at items k ≢ pair_at items n
 
 -- whether every reviewer has a single place
@@ -59,8 +60,9 @@ is_single Marriage = true
 is_single Hospitals = false
 is_single Roommates = true
 
--- an instance with two sides
+-- an instance with two sides: a marriage, or hospitals and residents
 pub record IsInstance (w : Written) : Type 0 where
+  pub two_sided : w.kind ≢ Roommates
   pub limits : IsWithinLimits w.proposers w.reviewers
   pub proposers : AreSoundAgents w.proposers true
   pub reviewers : AreSoundAgents w.reviewers (is_single w.kind)

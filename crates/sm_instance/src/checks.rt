@@ -1,6 +1,7 @@
 //! Checks of agents, of entries and of pairs.
 
-ghost use Rattle.std.specs.Prelude.{◌≡◌, ℕ, ◌+◌, ◌<◌, ◌≤◌, ◌↔◌, length, map, slice_index, true, IsTrue, IfOk, IfErr, OnOk, MatchOption};
+ghost use Rattle.std.specs.Prelude.{◌≡◌, ◌≢◌, ℕ, ◌+◌, ◌<◌, ◌≤◌, ◌^◌, ◌↔◌, length, map, slice_index, true, IsTrue, IfOk, IfErr, OnOk, MatchOption};
+ghost use Rattle.sm_text.specs.Limits.{most_agents, most_entries, most_capacity};
 ghost use Rattle.sm_instance.specs.Written.{row, names_of, weighed};
 ghost use Rattle.sm_instance.specs.Sound.{is_single as is_single_kind, IsInstance, entries_of, IsWithinLimits, AreSoundAgents, AreSoundEntries, IsSoundEntry, IsPairOf, pair_at, IsSoundItem, items_of};
 ghost use Rattle.sm_instance.specs.Checks.{IsAgentFault, IsEntryFault, IsFirstBadPlace, IsFirstBadPair, IsItemFault, AreAgentsFaulty, AreEntriesFaulty};
@@ -12,16 +13,8 @@ use crate::faults::InstanceFault;
 use crate::kinds::{Kind, Side};
 use crate::names::Names;
 use crate::pairs::Pairs;
-use sm_text::{Digest, TextHash, is_name};
+use sm_text::{Digest, MOST_AGENTS, MOST_CAPACITY, MOST_ENTRIES, MOST_WEIGHT, TextHash, is_name};
 use std::alloc::Global;
-
-const MOST_AGENTS: usize = 4_096;
-
-const MOST_ENTRIES: u32 = 524_288;
-
-const MOST_CAPACITY: u32 = 4_096;
-
-const MOST_WEIGHT: u64 = 1_000_000_000;
 
 /// Are there few enough agents on each side, and few enough entries on all lists?
 pub(crate) fn are_within_limits(left: &[Agent], right: &[Agent]) -> bool
@@ -37,7 +30,7 @@ pub(crate) fn are_within_limits(left: &[Agent], right: &[Agent]) -> bool
 }
 
 /// How many of so many entries these agents leave; `None` where they have more.
-fn entries_left(agents: &[Agent], most: u32) -> Option<u32>
+fn entries_left(agents: &[Agent], most: usize) -> Option<usize>
     ensures { MatchOption result
         (most < entries_of (agents_of agents.now))
         (λ left. left + entries_of (agents_of agents.now) ≡ most) }
@@ -45,10 +38,10 @@ fn entries_left(agents: &[Agent], most: u32) -> Option<u32>
     let mut left = most;
     for agent in agents {
         let entries = agent.entries.len();
-        if entries > left as usize {
+        if entries > left {
             return None;
         }
-        left -= entries as u32;
+        left -= entries;
     }
     Some(left)
 }
@@ -60,7 +53,7 @@ pub(crate) fn checked_names(
     agents: &[Agent],
     single: bool,
 ) -> Result<Names, InstanceFault>
-    requires { length agents.now ≤ 4096 }
+    requires { length agents.now ≤ most_agents }
     ensures sound { OnOk result (AreSoundAgents (agents_of agents.now) single) }
     ensures names { IfOk result (λ names. names ≡ names_of (agents_of agents.now)) }
     ensures fault { IfErr result (λ f. IsAgentFault side (agents_of agents.now) single f) }
@@ -90,7 +83,7 @@ fn hash_of_names(agents: &[Agent]) -> TextHash {
 
 /// May an agent have this capacity, where it is 1 for all or not?
 fn is_capacity(capacity: u32, single: bool) -> bool
-    ensures { IsTrue result ↔ ((capacity ≤ 4096) × (IsTrue single → capacity ≡ 1)) }
+    ensures { IsTrue result ↔ ((capacity ≤ most_capacity) × (IsTrue single → capacity ≡ 1)) }
 {
     capacity <= MOST_CAPACITY && (!single || capacity == 1)
 }
@@ -102,8 +95,8 @@ pub(crate) fn check_entries(
     agents: &[Agent],
     others: u32,
 ) -> Result<(), InstanceFault>
-    requires agents { length agents.now ≤ 4096 }
-    requires entries { entries_of (agents_of agents.now) ≤ 524288 }
+    requires agents { length agents.now ≤ most_agents }
+    requires entries { entries_of (agents_of agents.now) ≤ most_entries }
     ensures sound { OnOk result (AreSoundEntries (agents_of agents.now) others) }
     ensures fault { IfErr result (λ f. IsEntryFault side (agents_of agents.now) others f) }
 {
@@ -121,8 +114,8 @@ pub(crate) fn check_entries(
 /// the number of its owner.
 fn first_bad_place(agents: &[Agent], a: u32, met: &mut [u32]) -> Option<u32>
     requires in_range { a < length agents.now }
-    requires agents { length agents.now ≤ 4096 }
-    requires entries { entries_of (agents_of agents.now) ≤ 524288 }
+    requires agents { length agents.now ≤ most_agents }
+    requires entries { entries_of (agents_of agents.now) ≤ most_entries }
     requires met { (b : ℕ) → slice_index met.old b ≤ a }
     ensures met { (b : ℕ) → slice_index met.new b ≤ a + 1 }
     ensures first { MatchOption result
@@ -144,7 +137,7 @@ fn first_bad_place(agents: &[Agent], a: u32, met: &mut [u32]) -> Option<u32>
 
 /// The first pair that names a proposer or a reviewer that isn't there.
 fn first_bad_pair(pairs: &[(u32, u32)], proposers: u32, reviewers: u32) -> Option<u32>
-    requires { length pairs.now < 16777216 }
+    requires { length pairs.now < 2 ^ 24 }
     ensures { MatchOption result
         ((n : ℕ) → n < length pairs.now → IsPairOf proposers reviewers (pair_at pairs.now n))
         (λ n. IsFirstBadPair proposers reviewers pairs.now n) }
@@ -175,7 +168,7 @@ fn checked_weights(
     reviewers: u32,
     weights: &[(u32, u32, i64)],
 ) -> Result<Pairs, InstanceFault>
-    requires { length weights.now < 16777216 }
+    requires { length weights.now < 2 ^ 24 }
     ensures pairs { IfOk result (λ pairs. pairs ≡ map weighed weights.now) }
     ensures sound { OnOk result ((n : ℕ) → n < length weights.now
         → IsSoundItem proposers reviewers weights.now (map weighed weights.now) n) }
@@ -185,7 +178,7 @@ fn checked_weights(
     let mut pairs = Pairs::new(alloc, hash_of_weights(weights));
     for n in 0..weights.len() as u32 {
         let (p, r, weight) = weights[n as usize];
-        if p >= proposers || r >= reviewers || weight.unsigned_abs() > MOST_WEIGHT {
+        if p >= proposers || r >= reviewers || weight.unsigned_abs() > MOST_WEIGHT.unsigned_abs() {
             return Err(InstanceFault::BadPair(n));
         }
         let is_new = pairs.add((p, r))?;
@@ -205,7 +198,7 @@ pub(crate) fn checked_items(
     forced: &[(u32, u32)],
     forbidden: &[(u32, u32)],
 ) -> Result<Pairs, InstanceFault>
-    requires { length weights.now + length forced.now + length forbidden.now < 16777216 }
+    requires { length weights.now + length forced.now + length forbidden.now < 2 ^ 24 }
     ensures pairs { IfOk result (λ pairs. pairs ≡ map weighed weights.now) }
     ensures sound { OnOk result (let items = items_of weights.now forced.now forbidden.now in
         (n : ℕ) → n < length items → IsSoundItem proposers reviewers weights.now items n) }
@@ -232,7 +225,8 @@ pub(crate) fn checked(
     forced: &[(u32, u32)],
     forbidden: &[(u32, u32)],
 ) -> Result<(Names, Names, Pairs), InstanceFault>
-    requires { length weights.now + length forced.now + length forbidden.now < 16777216 }
+    requires two_sided { kind ≢ Kind.Roommates }
+    requires few { length weights.now + length forced.now + length forbidden.now < 2 ^ 24 }
     ensures instance { OnOk result
         (IsInstance (written_of kind proposers.now reviewers.now weights.now forced.now forbidden.now)) }
     ensures left { IfOk result (λ kept. kept.0 ≡ names_of (agents_of proposers.now)) }
@@ -259,8 +253,8 @@ fn checked_agents(
     proposers: &[Agent],
     reviewers: &[Agent],
 ) -> Result<(Names, Names), InstanceFault>
-    requires proposers { length proposers.now ≤ 4096 }
-    requires reviewers { length reviewers.now ≤ 4096 }
+    requires proposers { length proposers.now ≤ most_agents }
+    requires reviewers { length reviewers.now ≤ most_agents }
     ensures proposers { OnOk result (AreSoundAgents (agents_of proposers.now) true) }
     ensures reviewers { OnOk result (AreSoundAgents (agents_of reviewers.now) (is_single_kind kind)) }
     ensures left { IfOk result (λ kept. kept.0 ≡ names_of (agents_of proposers.now)) }

@@ -16,15 +16,16 @@ impl Input {
     ghost use Rattle.std.specs.Prelude.{◌≡◌, ◌<◌, length, position, IfSome};
     ghost use Rattle.std.specs.Str.{bytes_eq};
     ghost use Rattle.sm_instance.specs.Written.{agent_at, names_of};
-    ghost use Rattle.sm_instance.specs.Inputs.{kind_of, left_of, right_of};
+    ghost use Rattle.sm_instance.specs.Inputs.{IsInput, kind_of, left_of, right_of};
 
     /// The kind.
     pub fn kind(&self) -> Kind
-        ensures { result ≡ kind_of self.now }
+        ensures kind { result ≡ kind_of self.now }
+        ensures sound { IsInput self.now }
     {
         match self {
             Input::Two(instance) => instance.kind(),
-            Input::Room(_) => Kind::Roommates,
+            Input::Room(persons) => persons.kind(),
         }
     }
 

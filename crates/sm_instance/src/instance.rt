@@ -3,6 +3,7 @@
 ghost use Rattle.std.specs.Prelude.{◌≡◌, ◌≢◌, ◌+◌, ◌<◌, ◌≤◌, ◌^◌, ◌↔◌, IsTrue, IfSome, length, position, IfOk, IfErr, OnOk};
 ghost use Rattle.std.specs.Str.{bytes_eq};
 ghost use Rattle.std.specs.Int.RustNames.{unsigned_abs};
+ghost use Rattle.sm_text.specs.Limits.{most_agents, most_capacity, most_weight};
 ghost use Rattle.sm_instance.specs.Written.{row, entry, names_of, capacity_of, IsAcceptable, given_weight};
 ghost use Rattle.sm_instance.specs.Vectors.{agents_of, written_of};
 ghost use Rattle.sm_instance.specs.Sound.{IsInstance};
@@ -108,7 +109,8 @@ impl Instance {
 
     /// The kind, which is a marriage or hospitals.
     pub fn kind(&self) -> Kind
-        ensures { result ≡ self.now.kind }
+        ensures kind { result ≡ self.now.kind }
+        ensures instance { IsInstance self.now }
     {
         self.kind
     }
@@ -172,7 +174,7 @@ impl Instance {
     pub fn proposer_len(&self, p: u32) -> u32
         requires { p < length self.now.proposers }
         ensures length { result ≡ length (row self.now.proposers p) }
-        ensures fits { result ≤ 524288 }
+        ensures fits { result ≤ most_agents }
         ensures instance { IsInstance self.now }
     {
         list_at(&self.proposers, p).len() as u32
@@ -182,7 +184,7 @@ impl Instance {
     pub fn reviewer_len(&self, r: u32) -> u32
         requires { r < length self.now.reviewers }
         ensures length { result ≡ length (row self.now.reviewers r) }
-        ensures fits { result ≤ 524288 }
+        ensures fits { result ≤ most_agents }
     {
         list_at(&self.reviewers, r).len() as u32
     }
@@ -217,7 +219,7 @@ impl Instance {
     pub fn capacity(&self, r: u32) -> u32
         requires { r < length self.now.reviewers }
         ensures capacity { result ≡ capacity_of self.now.reviewers r }
-        ensures fits { result ≤ 4096 }
+        ensures fits { result ≤ most_capacity }
     {
         capacity_at(&self.reviewers, r)
     }
@@ -228,8 +230,8 @@ impl Instance {
         requires in_range { p < length self.now.proposers }
         requires on_list { place < length (row self.now.proposers p) }
         ensures cross { result ≡ cross_place self.now.reviewers (entry self.now.proposers p place) p }
-        ensures fits { IfSome result (λ back. back < 524288) }
-        ensures place_fits { place < 524288 }
+        ensures fits { IfSome result (λ back. back < most_agents) }
+        ensures place_fits { place < most_agents }
     {
         self.kept_cross(p, place)
     }
@@ -299,7 +301,7 @@ impl Instance {
         requires proposer { p < length self.now.proposers }
         requires reviewer { r < length self.now.reviewers }
         ensures weight { result ≡ given_weight self.now p r }
-        ensures size { unsigned_abs result ≤ 1000000000 }
+        ensures size { unsigned_abs result ≤ most_weight }
     {
         match self.weighed.find((p, r)) {
             Some(n) => self.weights[n].2,

@@ -1,6 +1,7 @@
 //! Assignments of proposers: which are matchings, and where others break.
 
 ghost use Rattle.std.specs.Prelude.{◌≡◌, ℕ, ◌<◌, ◌↔◌, ◌⊎◌, length, min, Some, None, IsTrue, MatchOption, IfSome, ◌≤◌};
+ghost use Rattle.sm_text.specs.Limits.{most_agents};
 ghost use Rattle.sm_instance.specs.Written.{row, entry, place_of, capacity_of};
 ghost use Rattle.sm_instance.specs.Matching.{held, standing, load, IsAssignment, IsMatching, IsFirstBreach};
 ghost use Rattle.sm_instance.specs.Sound.{IsInstance};
@@ -167,7 +168,7 @@ impl Instance {
         requires assignment { IsAssignment self.now a.now.places.items }
         requires in_range { p < length self.now.proposers }
         ensures standing { result ≡ standing self.now a.now.places.items p }
-        ensures fits { result ≤ 524288 }
+        ensures fits { result ≤ most_agents }
         ensures instance { IsInstance self.now }
     {
         let past = self.proposer_len(p);

@@ -9,7 +9,7 @@ ghost use Rattle.sm_instance.specs.Sound.{ArePersons};
 use crate::agents::Agent;
 use crate::checks::{are_within_limits, check_entries, checked_names};
 use crate::faults::InstanceFault;
-use crate::kinds::Side;
+use crate::kinds::{Kind, Side};
 use crate::names::Names;
 use std::alloc::Global;
 use std::marker::Model;
@@ -57,6 +57,15 @@ impl Persons {
         let names = checked_names(alloc, Side::Proposers, &persons, true)?;
         check_entries(alloc, Side::Proposers, &persons, persons.len() as u32)?;
         Ok(Persons { persons, names })
+    }
+
+    // The kind. The read is for the proof alone: it shows what is kept of the persons.
+    pub(crate) fn kind(&self) -> Kind
+        ensures kind { result ≡ Kind.Roommates }
+        ensures sound { ArePersons self.now }
+    {
+        let _persons = &self.persons;
+        Kind::Roommates
     }
 
     /// The persons, by number.

@@ -2,6 +2,7 @@
 
 ghost use Rattle.std.specs.Prelude.{◌≡◌, ◌<◌, ◌≤◌, length};
 ghost use Rattle.std.specs.Int.RustNames.{unsigned_abs};
+ghost use Rattle.sm_text.specs.Limits.{most_agents, most_weight};
 ghost use Rattle.sm_instance.specs.Written.{row, entry, IsAcceptable};
 ghost use Rattle.sm_instance.specs.Matching.{held, IsMatching};
 ghost use Rattle.sm_instance.specs.Ranks.{rank_vector_of, rank_back, worse_rank, regret_of, pair_weight, weight_of};
@@ -61,8 +62,8 @@ impl Instance {
         requires on_list { place < length (row self.now.proposers p) }
         requires acceptable { IsAcceptable self.now p (entry self.now.proposers p place) }
         ensures rank { result ≡ rank_back self.now p place }
-        ensures fits { result ≤ 524288 }
-        ensures place_fits { place < 524288 }
+        ensures fits { result ≤ most_agents }
+        ensures place_fits { place < most_agents }
     {
         match self.cross(p, place) {
             Some(back) => back + 1,
@@ -90,7 +91,7 @@ impl Instance {
         requires matching { IsMatching self.now a.now.places.items }
         requires in_range { p < length self.now.proposers }
         ensures weight { result ≡ pair_weight by self.now p (held a.now.places.items p) }
-        ensures size { unsigned_abs result ≤ 1000000000 }
+        ensures size { unsigned_abs result ≤ most_weight }
     {
         match self.held(a, p) {
             Some(place) => match by {

@@ -2,7 +2,7 @@
 use Rattle.std.proofs.Common.{◌≡◌, ℕ, ◌+◌, ◌≤◌, List, [], ◌∷◌, ◌++◌, length, map, refl, ap, ◌∙◌, arith}
 use Rattle.sm_instance.specs.declared.kinds.Kind.{Kind}
 use Rattle.sm_instance.specs.declared.kinds.Kind.TheVariants.{Marriage, Hospitals, Roommates}
-use Rattle.sm_reader.specs.Said.{SaidAgent, SaidPair, SaidWeight, Said}
+use Rattle.sm_instance.specs.Named.{SaidAgent, SaidPair, SaidWeight, Said}
 use Rattle.sm_reader.specs.Kept.{table_of, text_at, Extends, AreBelow}
 use Rattle.sm_reader.specs.Draft.{listed_table, agent_in, pair_in, given_in, said_of, AreAgentsBelow, IsPairBelow, ArePairsBelow, pairs_of, IsDraft}
 use Rattle.sm_reader.specs.declared.names.Names.{Names}

@@ -8,7 +8,7 @@ use Rattle.sm_text.specs.declared.refusal.RefusalKind.{RefusalKind}
 use Rattle.sm_text.specs.declared.refusal.RefusalKind.TheVariants.{BadByte, BadHeader, BadName}
 use Rattle.sm_instance.specs.declared.kinds.Kind.{Kind}
 use Rattle.sm_instance.specs.declared.kinds.Side.{Side}
-use Rattle.sm_reader.specs.Said.{Said, names_of, agents_on, all_entries}
+use Rattle.sm_instance.specs.Named.{Said, names_of, agents_on, all_entries}
 use Rattle.sm_reader.specs.Forms.{Form, declares, weighs, forces, forbids, is_bad, form_behind, is_end, header_of}
 use Rattle.sm_reader.specs.Judging.{Verdict, goes, stops, refuses, passes, heads, faces, heading_of, verdict_on, of_form, fault_of, said_with, is_bad_capacity}
 use Rattle.sm_reader.specs.Kept.{texts_of}

@@ -13,7 +13,7 @@ use Rattle.sm_instance.specs.declared.agents.Agent.{Agent}
 use Rattle.sm_instance.specs.declared.inputs.Input.TheVariants.{Two}
 use Rattle.sm_instance.specs.declared.kinds.Kind.{Kind}
 use Rattle.sm_instance.specs.declared.kinds.Kind.TheVariants.{Marriage, Hospitals, Roommates}
-use Rattle.sm_reader.specs.Said.{SaidPair, SaidWeight, Said, names_of}
+use Rattle.sm_instance.specs.Named.{SaidPair, SaidWeight, Said, names_of}
 use Rattle.sm_reader.specs.InstanceText.{lines_with_unknown, pairs_with_unknown, least, unknown_lines, listed_by_proposers, numbered, two_sides, input_of}
 use Rattle.sm_reader.specs.Kept.{AreBelow, Table, table_of}
 use Rattle.sm_reader.specs.Draft.{AreAgentsBelow, IsPairBelow, ArePairsBelow, pairs_of, listed_table, agent_in, pair_in, given_in, said_of, IsDraft}

@@ -12,7 +12,7 @@ use Rattle.sm_text.specs.declared.refusal.RefusalKind.TheVariants.{BadName, BadN
 use Rattle.sm_instance.specs.declared.kinds.Kind.{Kind}
 use Rattle.sm_instance.specs.declared.kinds.Side.{Side}
 use Rattle.sm_instance.specs.declared.kinds.Side.TheVariants.{Proposers, Reviewers}
-use Rattle.sm_reader.specs.Said.{SaidPair, SaidWeight, Said, names_of, entries_of, all_entries, agents_on, is_given_to}
+use Rattle.sm_instance.specs.Named.{SaidPair, SaidWeight, Said, names_of, entries_of, all_entries, agents_on, is_given_to}
 use Rattle.sm_reader.specs.Forms.{declares, weighs, forces, forbids}
 use Rattle.sm_reader.specs.Judging.{fault_of, said_with, with_agent, weight_in}
 use Rattle.sm_reader.specs.Kept.{table_of, text_at}

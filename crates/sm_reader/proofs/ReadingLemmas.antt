@@ -8,7 +8,7 @@ use Rattle.sm_text.specs.Tokens.{tokens}
 use Rattle.sm_text.specs.declared.refusal.RefusalKind.TheVariants.{TooLong, UnknownName}
 use Rattle.sm_instance.specs.declared.kinds.Kind.{Kind}
 use Rattle.sm_instance.specs.declared.inputs.Input.{Input}
-use Rattle.sm_reader.specs.Said.{Said, nothing}
+use Rattle.sm_instance.specs.Named.{Said, nothing}
 use Rattle.sm_reader.specs.Judging.{by_heading, heading_of, by_verdict, verdict_on, goes, stops}
 use Rattle.sm_reader.specs.InstanceText.{ReadText, Refusal, before_header, behind_header, ended, input_of, instance_text, IsTextFault}
 use Rattle.sm_reader.specs.Kept.{LeadsLines}

@@ -20,7 +20,7 @@ use Rattle.sm_instance.specs.declared.kinds.Kind.{Kind}
 use Rattle.sm_instance.specs.declared.kinds.Kind.TheVariants.{Marriage, Hospitals, Roommates}
 use Rattle.sm_instance.specs.declared.kinds.Side.{Side}
 use Rattle.sm_instance.specs.declared.kinds.Side.TheVariants.{Proposers, Reviewers}
-use Rattle.sm_reader.specs.Said.{SaidAgent, SaidWeight, Said, nothing, names_of, entries_of, all_entries, is_given_to}
+use Rattle.sm_instance.specs.Named.{SaidAgent, SaidWeight, Said, nothing, names_of, entries_of, all_entries, is_given_to}
 use Rattle.sm_reader.specs.Forms.{Form, declares, weighs, forces, forbids, is_bad, is_end, list_form, capacity_form, weight_form, pair_form, reviewer_form, two_sided_form, form_behind}
 use Rattle.sm_reader.specs.Judging.{goes, stops, refuses, verdict_on, of_form, fault_of, said_with, is_bad_capacity, capacity_in, weight_in, has_repeated}
 use Rattle.sm_reader.specs.Draft.{run_fault, name_fault, weight_fault, limit_fault}

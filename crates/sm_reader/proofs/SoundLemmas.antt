@@ -17,7 +17,7 @@ use Rattle.sm_instance.specs.declared.faults.InstanceFault.TheVariants.{TooMany,
 use Rattle.sm_instance.specs.declared.kinds.Side.TheVariants.{Proposers, Reviewers}
 use Rattle.sm_instance.specs.declared.kinds.Kind.{Kind}
 use Rattle.sm_instance.specs.declared.kinds.Kind.TheVariants.{Marriage, Hospitals, Roommates}
-use Rattle.sm_reader.specs.Said.{SaidAgent, SaidPair, SaidWeight, Said, names_of, entries_of}
+use Rattle.sm_instance.specs.Named.{SaidAgent, SaidPair, SaidWeight, Said, names_of, entries_of}
 use Rattle.sm_reader.specs.Judging.{has_repeated}
 use Rattle.sm_reader.specs.InstanceText.{is_unknown, lines_with_unknown, pairs_with_unknown, unknown_lines, listed_by_proposers, least, number_in, numbered, numbered_pair, two_sides}
 use Rattle.sm_reader.specs.Right.{IsRightAgent, IsRight}

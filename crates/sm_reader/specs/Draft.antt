@@ -11,7 +11,7 @@ use Rattle.sm_instance.specs.declared.kinds.Kind.{Kind}
 use Rattle.sm_instance.specs.declared.kinds.Kind.TheVariants.{Marriage, Hospitals, Roommates}
 use Rattle.sm_instance.specs.declared.kinds.Side.{Side}
 use Rattle.sm_instance.specs.declared.kinds.Side.TheVariants.{Proposers, Reviewers}
-use Rattle.sm_reader.specs.Said.{SaidAgent, SaidPair, SaidWeight, Said, all_entries, is_given_to}
+use Rattle.sm_instance.specs.Named.{SaidAgent, SaidPair, SaidWeight, Said, all_entries, is_given_to}
 use Rattle.sm_reader.specs.Forms.{Form, declares, weighs, forces, forbids}
 use Rattle.sm_reader.specs.Judging.{Verdict, goes, stops, refuses, first_fault, is_bad_capacity, capacity_in, weight_in, has_repeated, fault_of, with_agent, said_with, verdict_on}
 use Rattle.sm_reader.specs.Kept.{texts_of, Table, table_of, text_at, IsTable, AreBelow, Interns, Declares, IsListed}

@@ -12,7 +12,7 @@ use Rattle.sm_instance.specs.declared.kinds.Kind.{Kind}
 use Rattle.sm_instance.specs.declared.kinds.Kind.TheVariants.{Marriage, Hospitals, Roommates}
 use Rattle.sm_instance.specs.declared.inputs.Input.{Input}
 use Rattle.sm_instance.specs.declared.inputs.Input.TheVariants.{Two, Room}
-use Rattle.sm_reader.specs.Said.{SaidAgent, SaidPair, SaidWeight, Said, nothing, names_of}
+use Rattle.sm_instance.specs.Named.{SaidAgent, SaidPair, SaidWeight, Said, nothing, names_of}
 use Rattle.sm_reader.specs.Judging.{verdict_on, by_verdict, heading_of, by_heading}
 use Rattle.sm_reader.specs.declared.reading.Read.{Read}
 use Rattle.sm_reader.specs.declared.faults.TextFault.{TextFault}

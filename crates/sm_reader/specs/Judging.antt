@@ -10,7 +10,7 @@ use Rattle.sm_text.specs.declared.refusal.RefusalKind.TheVariants.{BadByte, BadH
 use Rattle.sm_instance.specs.declared.kinds.Kind.{Kind}
 use Rattle.sm_instance.specs.declared.kinds.Side.{Side}
 use Rattle.sm_instance.specs.declared.kinds.Side.TheVariants.{Proposers, Reviewers}
-use Rattle.sm_reader.specs.Said.{SaidAgent, SaidPair, Said, names_of, agents_on, all_entries, is_given_to}
+use Rattle.sm_instance.specs.Named.{SaidAgent, SaidPair, Said, names_of, agents_on, all_entries, is_given_to}
 use Rattle.sm_reader.specs.Forms.{Form, declares, weighs, forces, forbids, is_bad, form_behind, is_end, header_of}
 
 -- the fault of the first row of a table whose test holds

@@ -4,7 +4,7 @@ use Rattle.sm_instance.specs.declared.kinds.Kind.{Kind}
 use Rattle.sm_instance.specs.declared.kinds.Kind.TheVariants.{Roommates}
 use Rattle.sm_instance.specs.declared.agents.Agent.{Agent}
 use Rattle.sm_instance.specs.Vectors.{agents_of}
-use Rattle.sm_reader.specs.Said.{SaidPair, SaidWeight}
+use Rattle.sm_instance.specs.Named.{SaidPair, SaidWeight}
 use Rattle.sm_reader.specs.InstanceText.{number_in, numbered, unknown_lines, least}
 use Rattle.sm_reader.specs.Kept.{table_of}
 use Rattle.sm_reader.specs.Draft.{IsDraft, said_of, agent_in, pair_in, given_in}

@@ -3,7 +3,7 @@ use Rattle.std.specs.Prelude.{◌≡◌, ℕ, ◌+◌, ◌≤◌, List, length, 
 use Rattle.sm_text.specs.Lines.{lines}
 use Rattle.sm_instance.specs.declared.kinds.Kind.{Kind}
 use Rattle.sm_instance.specs.declared.inputs.Input.{Input}
-use Rattle.sm_reader.specs.Said.{nothing}
+use Rattle.sm_instance.specs.Named.{nothing}
 use Rattle.sm_reader.specs.Judging.{Heading, passes, heads, faces}
 use Rattle.sm_reader.specs.InstanceText.{ReadText, Refusal, before_header, behind_header, unknown_lines, least, input_of}
 use Rattle.sm_reader.specs.Draft.{said_of}

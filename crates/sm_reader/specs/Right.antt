@@ -4,7 +4,7 @@ use Rattle.std.specs.Int.RustNames.{unsigned_abs}
 use Rattle.sm_text.specs.Name.{is_name}
 use Rattle.sm_instance.specs.Sound.{is_single}
 use Rattle.sm_instance.specs.declared.kinds.Kind.{Kind}
-use Rattle.sm_reader.specs.Said.{SaidAgent, SaidWeight, Said, names_of, all_entries, is_given_to}
+use Rattle.sm_instance.specs.Named.{SaidAgent, SaidWeight, Said, names_of, all_entries, is_given_to}
 use Rattle.sm_reader.specs.Judging.{has_repeated}
 
 -- an agent has a name, a capacity of at most 4,096, which is 1 where every agent of its side has a single place, and a list

@@ -2,7 +2,7 @@
 
 ghost use Rattle.std.specs.Prelude.{◌≡◌, ℕ, ◌<◌};
 ghost use Rattle.sm_reader.specs.Draft.{said_of, IsDraft};
-ghost use Rattle.sm_reader.specs.Said.{nothing};
+ghost use Rattle.sm_instance.specs.Named.{nothing};
 ghost use Rattle.sm_instance.specs.declared.kinds.Kind.{Kind};
 
 use crate::names::Names;

@@ -5,7 +5,7 @@ ghost use Rattle.std.specs.List.{list_any};
 ghost use Rattle.sm_reader.specs.Forms.{is_bad};
 ghost use Rattle.sm_text.specs.Lines.{lines};
 ghost use Rattle.sm_instance.specs.declared.inputs.Input.TheVariants.{Two};
-ghost use Rattle.sm_reader.specs.Said.{nothing};
+ghost use Rattle.sm_instance.specs.Named.{nothing};
 ghost use Rattle.sm_reader.specs.Judging.{heading_of};
 ghost use Rattle.sm_reader.specs.InstanceText.{instance_text, read_of, IsTextFault, before_header, behind_header, unknown_lines, least, input_of, two_sides};
 ghost use Rattle.sm_reader.specs.Kept.{texts_of};

@@ -11,6 +11,7 @@ returns-clause-instance c =
     let left : length c.args.proposers.now ≡ length (agents_of c.args.proposers.now) = sym (length-agents c.args.proposers.now) in
     let right : length c.args.reviewers.now ≡ length (agents_of c.args.reviewers.now) = sym (length-agents c.args.reviewers.now) in
     record {
+      two_sided = c.requires.two_sided;
       limits = c.are_within_limits.ensures.0 c.if-not-are_within_limits.false;
       proposers = c.in_ok-left.ensures.proposers;
       reviewers = c.in_ok-left.ensures.reviewers;

@@ -30,7 +30,7 @@ loop-n-preserved c =
           ∙ pairs_more (map weighed weights) c.loop-n.n old _ (omega arith) c.loop-n.invariant.told here;
       sound = below_more _ _ c.loop-n.invariant.sound (record {
         pair = subst (IsPairOf c.args.proposers c.args.reviewers) here (record { proposer = c.if-p-proposers.false; reviewer = c.if-r-reviewers.false });
-        size = λ lt. let fits : FitsSigned w64 (get_or weights c.loop-n.n (0, 0, pos 0)).2 = search rules in let is = simp to_z-of_z at c.unsigned_abs.ensures.value in let le = c.if-unsigned_abs-gt-MOST_WEIGHT.false in omega arith;
+        size = λ lt. let fits : FitsSigned w64 (get_or weights c.loop-n.n (0, 0, pos 0)).2 = search rules in let is = simp to_z-of_z at c.unsigned_abs.ensures.value in let le = c.if-unsigned_abs.false in omega arith;
         fresh = λ lt. fresh_pair (map weighed weights) c.loop-n.n old _ (omega arith) c.loop-n.invariant.told here new;
       });
     }

@@ -1,7 +1,7 @@
 use Rattle.std.proofs.Common.{◌≡◌, ◌++◌, ◌∷◌, [], true, false, cond, Some, ◌∙◌, ap, sym, refl, rules}
 use Rattle.std.specs.List.{list_any}
 use Rattle.indexmap.specs.IndexSet.{keys}
-use Rattle.sm_reader.specs.Said.{is_given_to}
+use Rattle.sm_instance.specs.Named.{is_given_to}
 use Rattle.sm_reader.specs.Judging.{weight_in}
 use Rattle.sm_reader.specs.Draft.{weights_in}
 use Rattle.sm_reader.proofs.TextLemmas.{from_not_false, from_not_true}

@@ -1,6 +1,6 @@
 use Rattle.std.proofs.Common.{◌≡◌, ◌++◌, ◌∷◌, [], ap, ◌∙◌, sym, subst, length, map, take}
 use Rattle.std.specs.List.{list_any}
-use Rattle.sm_reader.specs.Said.{SaidAgent}
+use Rattle.sm_instance.specs.Named.{SaidAgent}
 use Rattle.sm_reader.specs.InstanceText.{is_unknown, lines_with_unknown, least}
 use Rattle.sm_reader.specs.Kept.{table_of, text_at, AreBelow}
 use Rattle.sm_reader.specs.Draft.{agent_in}

@@ -1,6 +1,6 @@
 use Rattle.std.proofs.Common.{ap, ◌∙◌, ◌||◌, sym, length, map, take, get_or, pos}
 use Rattle.std.proofs.lemmas.List.{map_push}
-use Rattle.sm_reader.specs.Said.{SaidPair}
+use Rattle.sm_instance.specs.Named.{SaidPair}
 use Rattle.sm_reader.specs.InstanceText.{is_unknown, pairs_with_unknown, least}
 use Rattle.sm_reader.specs.Kept.{table_of}
 use Rattle.sm_reader.specs.Draft.{pair_in, pairs_of}

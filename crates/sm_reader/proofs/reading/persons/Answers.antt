@@ -2,7 +2,7 @@ use Rattle.std.proofs.Common.{ap, ◌∙◌, ◌≡◌, sym, subst, map}
 use Rattle.sm_instance.specs.Vectors.{agents_of}
 use Rattle.sm_instance.specs.Sound.{ArePersons}
 use Rattle.sm_instance.specs.declared.inputs.Input.TheVariants.{Room}
-use Rattle.sm_reader.specs.Said.{names_of}
+use Rattle.sm_instance.specs.Named.{names_of}
 use Rattle.sm_reader.specs.InstanceText.{numbered}
 use Rattle.sm_reader.specs.Draft.{said_of}
 use Rattle.sm_instance.specs.declared.kinds.Kind.TheVariants.{Roommates}

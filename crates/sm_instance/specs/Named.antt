@@ -1,4 +1,4 @@
--- What the lines of an instance say, with names in the place of numbers.
+-- An instance by names: what the lines of its text say. A name need not be declared.
 use Rattle.std.specs.Prelude.{ℕ, ◌+◌, ◌&&◌, Bool, List, [], length, map, ℤ}
 use Rattle.std.specs.List.{sum_by}
 use Rattle.std.specs.Str.{bytes_eq}
