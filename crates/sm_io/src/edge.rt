@@ -1,6 +1,6 @@
 //! A source over a reader and a sink over a writer: the ways out of the program.
 
-ghost use Rattle.std.specs.Prelude.{◌≡◌, ◌≤◌, None};
+ghost use Rattle.std.specs.Prelude.{◌≡◌, ◌≤◌, None, IfOk};
 ghost use Rattle.sm_io.specs.Faults.{Rose};
 ghost use Rattle.sm_io.specs.Source.{Takes};
 ghost use Rattle.sm_io.specs.Sink.{Puts};
@@ -112,55 +112,60 @@ fn write_out<W: Write>(writer: &mut W, piece: &[u8]) -> Put
 mod tests {
     use super::*;
     use std::io;
+    use std::process::Abort;
     use std::test::Fail;
 
-    // Reads or writes a byte a call, and fails once its limit is reached: with an error, or by writing nothing.
+    // Moves a byte a call, but for the call of one number, from 1: this one fails, with an error or by writing nothing.
     #[derive(Drop)]
-    struct Short {
-        limit: usize,
+    struct FailsOnce {
+        calls: usize,
+        failing: usize,
         is_loud: bool,
     }
 
-    impl Short {
-        // Whether the next call may move a byte.
-        fn step(&mut self) -> io::Result<bool> {
-            if self.limit > 0 {
-                self.limit -= 1;
-                Ok(true)
+    impl FailsOnce {
+        fn new(failing: usize, is_loud: bool) -> FailsOnce {
+            FailsOnce {
+                calls: 0,
+                failing,
+                is_loud,
+            }
+        }
+
+        // How many bytes the next call moves.
+        fn step(&mut self) -> io::Result<usize>
+            ensures { IfOk result (λ count. count ≤ 1) }
+        {
+            self.calls = self.calls.saturating_add(1);
+            if self.calls != self.failing {
+                Ok(1)
             } else if self.is_loud {
                 Err(io::Error::from(io::ErrorKind::BrokenPipe))
-            } else {
-                Ok(false)
-            }
-        }
-    }
-
-    impl Read for Short {
-        fn read(&mut self, buf: &mut [u8]) -> io::Result<usize> {
-            match buf.first_mut() {
-                Some(place) if self.step()? => {
-                    *place = b'x';
-                    Ok(1)
-                }
-                _ => Ok(0),
-            }
-        }
-    }
-
-    impl Write for Short {
-        fn write(&mut self, buf: &[u8]) -> io::Result<usize> {
-            if !buf.is_empty() && self.step()? {
-                Ok(1)
             } else {
                 Ok(0)
             }
         }
+    }
 
-        // Fails where the limit was just reached.
-        fn flush(&mut self) -> io::Result<()> {
-            if self.limit == 0 {
-                return Err(io::Error::from(io::ErrorKind::BrokenPipe));
+    impl Read for FailsOnce {
+        fn read(&mut self, buf: &mut [u8]) -> io::Result<usize> {
+            if buf.is_empty() {
+                return Ok(0);
             }
+            self.step()
+        }
+    }
+
+    impl Write for FailsOnce {
+        fn write(&mut self, buf: &[u8]) -> io::Result<usize> {
+            if buf.is_empty() {
+                return Ok(0);
+            }
+            self.step()
+        }
+
+        fn flush(&mut self) -> io::Result<()> {
+            self.step()?;
             Ok(())
         }
     }
@@ -179,17 +184,13 @@ mod tests {
     }
 
     #[test]
-    fn a_failed_read_is_counted(rt: HostRuntime) {
-        let mut source = ReadSource::new(Short {
-            limit: 1,
-            is_loud: true,
-        });
+    fn a_failed_read_is_counted_and_not_tried_again(rt: HostRuntime) {
+        let mut source = ReadSource::new(FailsOnce::new(1, true));
         let mut into = [0u8; 2];
-        assert_eq!(rt; source.take(&mut into), Taken::Got(1));
-        assert_eq!(rt; source.take(&mut into), Taken::Failed);
-        assert_eq!(rt; source.faults, 1);
-        assert_eq!(rt; source.take(&mut into), Taken::Failed);
-        assert_eq!(rt; source.faults, 2);
+        assert!(rt; source.take(&mut into) == Taken::Failed);
+        assert!(rt; source.faults == 1);
+        assert!(rt; source.take(&mut into) == Taken::Got(1));
+        assert!(rt; source.faults == 1);
     }
 
     #[test]
@@ -201,15 +202,27 @@ mod tests {
         Ok(())
     }
 
+    // Puts a piece of two bytes, which takes a write for each and a flush, into a writer of which one call fails, and
+    // then puts another.
+    fn puts_once_more(rt: &impl Abort, failing: usize, is_loud: bool) {
+        let mut sink = WriteSink::new(FailsOnce::new(failing, is_loud));
+        assert!(rt; sink.put(b"ab") == Put::Failed);
+        assert!(rt; sink.inner.calls == failing);
+        assert!(rt; sink.faults == 1);
+        assert!(rt; sink.put(b"cd") == Put::Done);
+        assert!(rt; sink.inner.calls == failing.saturating_add(3));
+        assert!(rt; sink.faults == 1);
+    }
+
     #[test]
-    fn short_writes_go_on_and_faults_are_counted(rt: HostRuntime) {
-        for is_loud in [true, false] {
-            let mut sink = WriteSink::new(Short { limit: 6, is_loud });
-            assert_eq!(rt; sink.put(b"abcd"), Put::Done);
-            assert_eq!(rt; sink.inner.limit, 2);
-            assert_eq!(rt; sink.put(b"ef"), Put::Failed, "the flush");
-            assert_eq!(rt; sink.put(b"g"), Put::Failed, "the write");
-            assert_eq!(rt; sink.faults, 2);
-        }
+    fn a_failed_write_is_counted_and_not_tried_again(rt: HostRuntime) {
+        puts_once_more(&rt, 1, true);
+        puts_once_more(&rt, 2, true);
+        puts_once_more(&rt, 2, false);
+    }
+
+    #[test]
+    fn a_failed_flush_is_counted_and_not_tried_again(rt: HostRuntime) {
+        puts_once_more(&rt, 3, true);
     }
 }
