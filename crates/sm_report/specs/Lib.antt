@@ -5,3 +5,4 @@ pub mod Texts
 pub mod Sound
 pub mod Putting
 pub mod Fields
+pub mod Witnesses

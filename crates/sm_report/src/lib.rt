@@ -11,6 +11,7 @@ mod lines;
 mod lists;
 mod printing;
 mod reasons;
+pub mod witnesses;
 
 pub use heads::Head;
 pub use lines::{Line, Seat};
