@@ -13,3 +13,4 @@ pub mod NumberLemmas
 pub mod ReadingLemmas
 pub mod RightLemmas
 pub mod SoundLemmas
+pub mod WitnessLemmas

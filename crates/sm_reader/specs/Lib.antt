@@ -6,3 +6,4 @@ pub mod Draft
 pub mod Right
 pub mod Numbering
 pub mod Reading
+pub mod Witnesses

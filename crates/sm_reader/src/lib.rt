@@ -15,6 +15,7 @@ mod numbering;
 mod reading;
 mod recent;
 mod tokens;
+pub mod witnesses;
 
 pub use faults::TextFault;
 pub use reading::{Read, read_instance};
