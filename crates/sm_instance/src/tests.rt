@@ -104,7 +104,7 @@ fn are_worth(rt: &(impl Abort + AllocGlobal), instance: &Instance, rows: &[Row])
     }
 }
 
-// Resident c and hospital k, z and what they are to each other.
+// What resident c and the hospitals are to each other.
 fn knows_its_agents(rt: &impl Abort, instance: &Instance) {
     assert!(rt; instance.proposer_count() == 3);
     assert!(rt; instance.reviewer_count() == 3);
