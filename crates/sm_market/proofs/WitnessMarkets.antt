@@ -2,7 +2,7 @@
 use Rattle.std.proofs.Common.{◌≡◌, ◌≢◌, ℕ, zero, suc, ◌<◌, ◌≤◌, ◌⊎◌, [], ◌∷◌, Option, Some, None, length, unwrap_or, refl, ap, ◌∙◌, arith, ⊎_elim, inl, inr}
 use Rattle.std.proofs.lemmas.Bool.{cases_lt}
 use Rattle.std.proofs.lemmas.List.{ext_get_or}
-use Rattle.sm_market.specs.Lists.{Lists, row, entry, place_of, IsMarket}
+use Rattle.sm_market.specs.Lists.{row, entry, place_of, IsMarket}
 use Rattle.sm_market.specs.Matching.{Places, held, standing, IsMatching}
 use Rattle.sm_market.specs.Stable.{IsStable, IsProposersBest, IsReviewersBest}
 use Rattle.sm_market.specs.Witnesses.{two_by_two, first_choices, second_choices, TwoByTwo, two_for_one, one_pair, TwoForOne}
