@@ -10,8 +10,6 @@ mod accept;
 mod fronts;
 mod linked;
 mod reduced;
-#[cfg(test)]
-mod tests;
 
 pub use accept::{proposer_best, reviewer_best};
 pub use fronts::{cut_to_partner, cut_to_partners};
