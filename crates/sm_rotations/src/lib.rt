@@ -10,8 +10,6 @@ mod exposure;
 mod graph;
 mod order;
 mod predecessors;
-#[cfg(test)]
-mod tests;
 mod walk;
 
 pub use chains::chain;
