@@ -9,7 +9,5 @@ mod moves;
 mod order;
 mod pairings;
 mod sets;
-#[cfg(test)]
-mod tests;
 
 pub use order::Poset;
