@@ -7,6 +7,7 @@ use Rattle.std.specs.declared.alloc.Global.{Global}
 use Rattle.std.proofs.lemmas.List.{append-nil, length_push, map_push, length-map}
 use Rattle.std.proofs.lemmas.List.Sums.{sum_by_push}
 use Rattle.std.proofs.lemmas.Bool.Decides.{nat_tests}
+use Rattle.sm_text.specs.Limits.{most_agents, most_entries}
 use Rattle.sm_instance.specs.declared.kinds.Kind.{Kind}
 use Rattle.sm_instance.specs.declared.kinds.Kind.TheVariants.{Marriage, Hospitals, Roommates}
 use Rattle.sm_instance.specs.declared.kinds.Side.{Side}
@@ -22,10 +23,10 @@ use Rattle.sm_reader.proofs.ListingLemmas.{extends_long, extends_twice}
 use Rattle.sm_reader.proofs.DraftLemmas.{agents_kept, agents_below_more, agents_below_push, pairs_kept, weights_kept, pairs_below_more, said_same, listed_more}
 
 -- a faultless agent is within the limits
-pub within_limits : (agents entries more : ℕ) → limit_fault agents entries more ≡ None → (agents < 4096) × (entries + more ≤ 524288)
-within_limits agents entries more h = by_tests (nat_le 4096 agents) (nat_lt 524288 (entries + more)) refl refl h
+pub within_limits : (agents entries more : ℕ) → limit_fault agents entries more ≡ None → (agents < most_agents) × (entries + more ≤ most_entries)
+within_limits agents entries more h = by_tests (nat_le most_agents agents) (nat_lt most_entries (entries + more)) refl refl h
   where
-    by_tests : (a b : Bool) → nat_le 4096 agents ≡ a → nat_lt 524288 (entries + more) ≡ b → limit_fault agents entries more ≡ None → (agents < 4096) × (entries + more ≤ 524288)
+    by_tests : (a b : Bool) → nat_le most_agents agents ≡ a → nat_lt most_entries (entries + more) ≡ b → limit_fault agents entries more ≡ None → (agents < most_agents) × (entries + more ≤ most_entries)
     by_tests true b e f h = let k = rw e at h in cc
     by_tests false true e f h = let k = rw (e, f) at h in cc
     by_tests false false e f h = (grind (arith, nat_tests), grind (arith, nat_tests))
@@ -50,7 +51,7 @@ module _ (kind : Kind) (line : ℕ) (d : Draft) (pn rn : Names) (draft : IsDraft
       (below : AreBelow (length (listed_table kind pn rn).texts) agent.entries.items)
       (pushed : v.items ≡ d.proposers.items ++ agent ∷ [])
       (more : n ≡ d.entries + length agent.entries.items)
-      (fits : (length d.proposers.items < 4096) × (d.entries + length agent.entries.items ≤ 524288)) where
+      (fits : (length d.proposers.items < most_agents) × (d.entries + length agent.entries.items ≤ most_entries)) where
     proposer_said : said_of kind (record d { proposer_names = pn; reviewer_names = rn; proposers = v; entries = n }) ≡ with_agent Proposers (agent_in (listed_table kind pn rn).texts agent) (said_of kind d)
     proposer_said =
         let p = (table_of d.proposer_names).texts in
@@ -112,7 +113,7 @@ module _ (kind : Kind) (line : ℕ) (d : Draft) (pn rn : Names) (draft : IsDraft
       (below : AreBelow (length (table_of pn).texts) agent.entries.items)
       (pushed : v.items ≡ d.reviewers.items ++ agent ∷ [])
       (more : n ≡ d.entries + length agent.entries.items)
-      (fits : (length d.reviewers.items < 4096) × (d.entries + length agent.entries.items ≤ 524288)) where
+      (fits : (length d.reviewers.items < most_agents) × (d.entries + length agent.entries.items ≤ most_entries)) where
     reviewer_said : said_of kind (record d { proposer_names = pn; reviewer_names = rn; reviewers = v; entries = n }) ≡ with_agent Reviewers (agent_in (table_of pn).texts agent) (said_of kind d)
     reviewer_said =
         let p = (table_of d.proposer_names).texts in

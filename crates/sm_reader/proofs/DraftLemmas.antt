@@ -4,7 +4,7 @@ use Rattle.sm_instance.specs.declared.kinds.Kind.{Kind}
 use Rattle.sm_instance.specs.declared.kinds.Kind.TheVariants.{Marriage, Hospitals, Roommates}
 use Rattle.sm_instance.specs.Named.{SaidAgent, SaidPair, SaidWeight, Said}
 use Rattle.sm_reader.specs.Kept.{table_of, text_at, Extends, AreBelow}
-use Rattle.sm_reader.specs.Draft.{listed_table, agent_in, pair_in, given_in, said_of, AreAgentsBelow, IsPairBelow, ArePairsBelow, pairs_of, IsDraft}
+use Rattle.sm_reader.specs.Draft.{listed_table, agent_in, pair_in, given_in, AreAgentsBelow, IsPairBelow, ArePairsBelow, pairs_of, IsDraft}
 use Rattle.sm_reader.specs.declared.names.Names.{Names}
 use Rattle.sm_reader.specs.declared.draft.Declared.{Declared}
 use Rattle.sm_reader.specs.declared.draft.Pair.{Pair}
@@ -65,9 +65,6 @@ pub said_same : {p p' r r' : List SaidAgent} {w w' : List SaidWeight} {f f' b b'
 said_same e1 e2 e3 e4 e5 = cc
 
 -- the tables of a draft grow
-abbrev pub with_names : Draft → Names → Names → Draft
-with_names d pn rn = record d { proposer_names = pn; reviewer_names = rn }
-
 module _ (kind : Kind) (d : Draft) (pn rn : Names) (more_p : Extends (table_of d.proposer_names).texts (table_of pn).texts) (more_r : Extends (table_of d.reviewer_names).texts (table_of rn).texts) where
   more_listed : (k : Kind) → Extends (listed_table k d.proposer_names d.reviewer_names).texts (listed_table k pn rn).texts
   more_listed Marriage = more_r
@@ -76,21 +73,6 @@ module _ (kind : Kind) (d : Draft) (pn rn : Names) (more_p : Extends (table_of d
 
   pub listed_more : Extends (listed_table kind d.proposer_names d.reviewer_names).texts (listed_table kind pn rn).texts
   listed_more = more_listed kind
-
-  pub said_grown : AreAgentsBelow (length (listed_table kind d.proposer_names d.reviewer_names).texts) d.proposers.items → AreAgentsBelow (length (table_of d.proposer_names).texts) d.reviewers.items
-      → (let p = length (table_of d.proposer_names).texts in let r = length (table_of d.reviewer_names).texts in
-      ArePairsBelow p r (pairs_of d.weights.items) → ArePairsBelow p r d.forced.items → ArePairsBelow p r d.forbidden.items → said_of kind (with_names d pn rn) ≡ said_of kind d)
-  said_grown ps rs ws fs bs =
-      let p = (table_of d.proposer_names).texts in
-      let q = (table_of pn).texts in
-      let r = (table_of d.reviewer_names).texts in
-      let s = (table_of rn).texts in
-      said_same
-      (agents_kept (listed_table kind d.proposer_names d.reviewer_names).texts (listed_table kind pn rn).texts d.proposers.items listed_more ps)
-      (agents_kept p q d.reviewers.items more_p rs)
-      (weights_kept p q r s more_p more_r d.weights.items ws)
-      (pairs_kept p q r s more_p more_r d.forced.items fs)
-      (pairs_kept p q r s more_p more_r d.forbidden.items bs)
 
 -- a line that says nothing
 pub draft_later : (kind : Kind) (line : ℕ) (d : Draft) → IsDraft kind line d → IsDraft kind (line + 1) d

@@ -9,7 +9,8 @@ use Rattle.sm_text.specs.declared.refusal.RefusalKind.TheVariants.{BadByte, BadH
 use Rattle.sm_instance.specs.declared.kinds.Kind.{Kind}
 use Rattle.sm_instance.specs.declared.kinds.Side.{Side}
 use Rattle.sm_instance.specs.Named.{Said, names_of, agents_on, all_entries}
-use Rattle.sm_reader.specs.Forms.{Form, declares, weighs, forces, forbids, is_bad, form_behind, is_end, header_of}
+use Rattle.sm_reader.specs.declared.forms.Condition.{Condition}
+use Rattle.sm_reader.specs.Forms.{Form, declares, weighs, binds, is_bad, form_behind, is_end, header_of}
 use Rattle.sm_reader.specs.Judging.{Verdict, goes, stops, refuses, passes, heads, faces, heading_of, verdict_on, of_form, fault_of, said_with, is_bad_capacity}
 use Rattle.sm_reader.specs.Kept.{texts_of}
 use Rattle.sm_reader.specs.Draft.{run_fault, name_fault, weight_fault, IsLineFault, IsRefusedBy}
@@ -61,13 +62,10 @@ pub weight_faults : (said : Said) (p r w : List ℕ) → fault_of said (weighs p
 unfolding fault_of
 weight_faults said p r w = refl
 
-pub forced_fault : (said : Said) (p r : List ℕ) (t : Bool) → list_all is_name (p ∷ r ∷ []) ≡ t → fault_of said (forces p r) ≡ cond (not t) (Some BadName) None
+-- the fault of a pair of which something is asked
+pub pair_fault : (said : Said) (condition : Condition) (p r : List ℕ) (t : Bool) → list_all is_name (p ∷ r ∷ []) ≡ t → fault_of said (binds condition p r) ≡ cond (not t) (Some BadName) None
 unfolding fault_of
-forced_fault said p r t e = ap (λ b. cond (not b) (Some BadName) None) e
-
-pub forbidden_fault : (said : Said) (p r : List ℕ) (t : Bool) → list_all is_name (p ∷ r ∷ []) ≡ t → fault_of said (forbids p r) ≡ cond (not t) (Some BadName) None
-unfolding fault_of
-forbidden_fault said p r t e = ap (λ b. cond (not b) (Some BadName) None) e
+pair_fault said condition p r t e = ap (λ b. cond (not b) (Some BadName) None) e
 
 -- a line whose form has a fault is refused for it
 pub refused_line : (said : Said) (line : ℕ) (form : Form) (verdict : Verdict) → verdict ≡ of_form said line (Some form) → (f : TextFault) → IsLineFault (fault_of said form) line f → IsRefusedBy verdict line f

@@ -7,14 +7,14 @@ use Rattle.std.proofs.Math.Seq.{drop-cons, get_or-append_seam, set-append_seam}
 use Rattle.std.proofs.lemmas.List.{length-map, length-take-le, get_or-map, map_push, map-append, take_more, take_all}
 use Rattle.std.proofs.lemmas.List.Elements.{filter-append}
 use Rattle.std.proofs.lemmas.List.Folds.{list_any-append, list_any_at}
+use Rattle.sm_text.specs.Limits.{most_agents}
 use Rattle.sm_instance.specs.Vectors.{agents_of, written_of}
 use Rattle.sm_instance.specs.Written.{AgentData, Written}
 use Rattle.sm_instance.specs.declared.agents.Agent.{Agent}
-use Rattle.sm_instance.specs.declared.inputs.Input.TheVariants.{Two}
 use Rattle.sm_instance.specs.declared.kinds.Kind.{Kind}
 use Rattle.sm_instance.specs.declared.kinds.Kind.TheVariants.{Marriage, Hospitals, Roommates}
-use Rattle.sm_instance.specs.Named.{SaidPair, SaidWeight, Said, names_of}
-use Rattle.sm_reader.specs.InstanceText.{lines_with_unknown, pairs_with_unknown, least, unknown_lines, listed_by_proposers, numbered, two_sides, input_of}
+use Rattle.sm_instance.specs.Named.{SaidPair, SaidWeight, names_of}
+use Rattle.sm_reader.specs.InstanceText.{lines_with_unknown, pairs_with_unknown, least, unknown_lines, listed_by_proposers, numbered, two_sides}
 use Rattle.sm_reader.specs.Kept.{AreBelow, Table, table_of}
 use Rattle.sm_reader.specs.Draft.{AreAgentsBelow, IsPairBelow, ArePairsBelow, pairs_of, listed_table, agent_in, pair_in, given_in, said_of, IsDraft}
 use Rattle.sm_reader.specs.Numbering.{lesser, line_if, pair_among, weight_among, NumbersPersons, NumbersSides}
@@ -210,13 +210,8 @@ sides_said kind line d draft other n are =
         let y : Written = record { kind = k; proposers = a'; reviewers = b'; weights = w'; forced = f'; forbidden = g' } in x ≡ y
     five k h1 h2 h3 h4 h5 = cc
 
-pub other_input : (kind : Kind) (said : Said) → kind ≢ Roommates → input_of kind said ≡ Two (two_sides kind said)
-other_input Marriage said other = refl
-other_input Hospitals said other = refl
-other_input Roommates said other = absurd (other refl)
-
 -- few names are declared
-pub few_names : (kind : Kind) (line : ℕ) (d : Draft) → IsDraft kind line d → (length d.proposer_names.declared.items ≤ 4096) × (length d.reviewer_names.declared.items ≤ 4096)
+pub few_names : (kind : Kind) (line : ℕ) (d : Draft) → IsDraft kind line d → (length d.proposer_names.declared.items ≤ most_agents) × (length d.reviewer_names.declared.items ≤ most_agents)
 few_names kind line d draft =
     let name = λ (a : Declared). a.name.now in
     let text = λ (x : Bor (List ℕ)). x.now in (

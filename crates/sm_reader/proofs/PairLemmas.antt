@@ -13,10 +13,12 @@ use Rattle.sm_instance.specs.declared.kinds.Kind.{Kind}
 use Rattle.sm_instance.specs.declared.kinds.Side.{Side}
 use Rattle.sm_instance.specs.declared.kinds.Side.TheVariants.{Proposers, Reviewers}
 use Rattle.sm_instance.specs.Named.{SaidPair, SaidWeight, Said, names_of, entries_of, all_entries, agents_on, is_given_to}
-use Rattle.sm_reader.specs.Forms.{declares, weighs, forces, forbids}
+use Rattle.sm_reader.specs.declared.forms.Condition.{Condition}
+use Rattle.sm_reader.specs.declared.forms.Condition.TheVariants.{Force, Forbid}
+use Rattle.sm_reader.specs.Forms.{declares, weighs, binds}
 use Rattle.sm_reader.specs.Judging.{fault_of, said_with, with_agent, weight_in}
 use Rattle.sm_reader.specs.Kept.{table_of, text_at}
-use Rattle.sm_reader.specs.Draft.{listed_table, agent_in, pair_in, given_in, said_of, IsPairBelow, ArePairsBelow, pairs_of, key_of, IsDraft, Adds, AddsAgent, IsChecked, IsLineFault, RefusesFor, run_fault, name_fault, weight_fault, weights_in, table_on, declared_on, PairsOf, PutsWeight, PutsForced, PutsForbidden}
+use Rattle.sm_reader.specs.Draft.{listed_table, agent_in, pair_in, given_in, said_of, IsPairBelow, ArePairsBelow, pairs_of, key_of, IsDraft, Adds, AddsAgent, IsChecked, IsLineFault, RefusesFor, run_fault, name_fault, weight_fault, weights_in, table_on, declared_on, PairsOf, PutsWeight, PutsPair, Binds}
 use Rattle.sm_reader.specs.declared.draft.Declared.{Declared}
 use Rattle.sm_reader.specs.declared.draft.Pair.{Pair}
 use Rattle.sm_reader.specs.declared.draft.Weight.{Weight}
@@ -27,7 +29,7 @@ use Rattle.sm_reader.proofs.TextLemmas.{same_text, other_text}
 use Rattle.sm_reader.proofs.TableLemmas.{distinct_index, cases_eq}
 use Rattle.sm_reader.proofs.ListingLemmas.{extends_long}
 use Rattle.sm_reader.proofs.DraftLemmas.{agents_kept, agents_below_more, pairs_kept, weights_kept, pairs_below_more, pairs_below_push, said_same, listed_more}
-use Rattle.sm_reader.proofs.JudgeLemmas.{agent_faults, weight_faults, forced_fault, forbidden_fault}
+use Rattle.sm_reader.proofs.JudgeLemmas.{agent_faults, weight_faults, pair_fault}
 use Rattle.sm_reader.proofs.AddLemmas.{Grown}
 
 module _ (kind : Kind) (line : ℕ) (d mid : Draft) (proposer reviewer : List ℕ) (pair : Pair) (draft : IsDraft kind line d) (paired : PairsOf d mid proposer reviewer line pair) where
@@ -105,65 +107,64 @@ module _ (kind : Kind) (line : ℕ) (d mid : Draft) (proposer reviewer : List �
     few = omega (arith, draft.few);
   }
 
--- a pair is forced
-pub forced_added : (kind : Kind) (line : ℕ) (d new : Draft) (proposer reviewer : List ℕ) → IsDraft kind line d → PutsForced d new proposer reviewer line → Adds kind line (forces proposer reviewer) d new
-unfolding said_with
-forced_added kind line d new proposer reviewer draft puts =
-    let mid = puts.mid in
-    let e : Draft = record d { forced = new.forced } in
-    let q = (table_of mid.proposer_names).texts in
-    let s = (table_of mid.reviewer_names).texts in
-    let paired = puts.paired in
-    let all : new ≡ with_pairs kind line d mid proposer reviewer puts.pair draft paired e = puts.changes ∙ ap (λ (x : Draft). record x { forced = new.forced }) paired.changes in
-    let pushed : new.forced.items ≡ d.forced.items ++ puts.pair ∷ [] = puts.forced ∙ ap (λ (x : Draft). x.forced.items ++ puts.pair ∷ []) paired.changes in
-    record {
-      faultless = forced_fault (said_of kind d) proposer reviewer true paired.are_names;
-      said = ap (said_of kind) all ∙ said_same
-          (agents_same kind line d mid proposer reviewer puts.pair draft paired)
-          (others_same kind line d mid proposer reviewer puts.pair draft paired)
-          (weights_same kind line d mid proposer reviewer puts.pair draft paired)
-          (ap (map (pair_in q s)) pushed ∙ map_push (pair_in q s) d.forced.items puts.pair
-          ∙ ap (λ x. x ++ pair_in q s puts.pair ∷ []) (pairs_same kind line d mid proposer reviewer puts.pair draft paired d.forced.items draft.forced_in)
-          ∙ ap (λ x. (said_of kind d).forced ++ x ∷ []) (pair_is kind line d mid proposer reviewer puts.pair draft paired))
-          (pairs_same kind line d mid proposer reviewer puts.pair draft paired d.forbidden.items draft.forbidden_in);
-      draft = subst (IsDraft kind (line + 1)) (sym all) (draft_with_pairs kind line d mid proposer reviewer puts.pair draft paired e
-          (below_still kind line d mid proposer reviewer puts.pair draft paired (pairs_of d.weights.items) draft.weights_in)
-          (subst (ArePairsBelow (length q) (length s)) (sym pushed) (pairs_below_push (length q) (length s) d.forced.items puts.pair
-          (below_still kind line d mid proposer reviewer puts.pair draft paired d.forced.items draft.forced_in) (pair_below kind line d mid proposer reviewer puts.pair draft paired)))
-          (below_still kind line d mid proposer reviewer puts.pair draft paired d.forbidden.items draft.forbidden_in)
-          draft.weighed
-          (omega (arith, ap length pushed, length_push d.forced.items puts.pair)));
-    }
+  -- what is said, and that it is in range, where the pair stands behind others
+  pushed_said : (xs ys : List Pair) → ArePairsBelow (length (table_of d.proposer_names).texts) (length (table_of d.reviewer_names).texts) xs → ys ≡ xs ++ pair ∷ []
+      → let one : SaidPair = record { proposer = proposer; reviewer = reviewer; line = line } in
+      map (pair_in (table_of mid.proposer_names).texts (table_of mid.reviewer_names).texts) ys
+      ≡ map (pair_in (table_of d.proposer_names).texts (table_of d.reviewer_names).texts) xs ++ one ∷ []
+  pushed_said xs ys inside pushed =
+      let said = pair_in (table_of mid.proposer_names).texts (table_of mid.reviewer_names).texts in
+      ap (map said) pushed ∙ map_push said xs pair ∙ ap (λ zs. zs ++ said pair ∷ []) (pairs_same xs inside)
+      ∙ ap (λ x. map (pair_in (table_of d.proposer_names).texts (table_of d.reviewer_names).texts) xs ++ x ∷ []) pair_is
 
--- a pair is forbidden
-pub forbidden_added : (kind : Kind) (line : ℕ) (d new : Draft) (proposer reviewer : List ℕ) → IsDraft kind line d → PutsForbidden d new proposer reviewer line → Adds kind line (forbids proposer reviewer) d new
-unfolding said_with
-forbidden_added kind line d new proposer reviewer draft puts =
-    let mid = puts.mid in
-    let e : Draft = record d { forbidden = new.forbidden } in
-    let q = (table_of mid.proposer_names).texts in
-    let s = (table_of mid.reviewer_names).texts in
-    let paired = puts.paired in
-    let all : new ≡ with_pairs kind line d mid proposer reviewer puts.pair draft paired e = puts.changes ∙ ap (λ (x : Draft). record x { forbidden = new.forbidden }) paired.changes in
-    let pushed : new.forbidden.items ≡ d.forbidden.items ++ puts.pair ∷ [] = puts.forbidden ∙ ap (λ (x : Draft). x.forbidden.items ++ puts.pair ∷ []) paired.changes in
-    record {
-      faultless = forbidden_fault (said_of kind d) proposer reviewer true paired.are_names;
-      said = ap (said_of kind) all ∙ said_same
-          (agents_same kind line d mid proposer reviewer puts.pair draft paired)
-          (others_same kind line d mid proposer reviewer puts.pair draft paired)
-          (weights_same kind line d mid proposer reviewer puts.pair draft paired)
-          (pairs_same kind line d mid proposer reviewer puts.pair draft paired d.forced.items draft.forced_in)
-          (ap (map (pair_in q s)) pushed ∙ map_push (pair_in q s) d.forbidden.items puts.pair
-          ∙ ap (λ x. x ++ pair_in q s puts.pair ∷ []) (pairs_same kind line d mid proposer reviewer puts.pair draft paired d.forbidden.items draft.forbidden_in)
-          ∙ ap (λ x. (said_of kind d).forbidden ++ x ∷ []) (pair_is kind line d mid proposer reviewer puts.pair draft paired));
-      draft = subst (IsDraft kind (line + 1)) (sym all) (draft_with_pairs kind line d mid proposer reviewer puts.pair draft paired e
-          (below_still kind line d mid proposer reviewer puts.pair draft paired (pairs_of d.weights.items) draft.weights_in)
-          (below_still kind line d mid proposer reviewer puts.pair draft paired d.forced.items draft.forced_in)
-          (subst (ArePairsBelow (length q) (length s)) (sym pushed) (pairs_below_push (length q) (length s) d.forbidden.items puts.pair
-          (below_still kind line d mid proposer reviewer puts.pair draft paired d.forbidden.items draft.forbidden_in) (pair_below kind line d mid proposer reviewer puts.pair draft paired)))
-          draft.weighed
-          (omega (arith, ap length pushed, length_push d.forbidden.items puts.pair)));
-    }
+  pushed_below : (xs ys : List Pair) → ArePairsBelow (length (table_of d.proposer_names).texts) (length (table_of d.reviewer_names).texts) xs → ys ≡ xs ++ pair ∷ []
+      → ArePairsBelow (length (table_of mid.proposer_names).texts) (length (table_of mid.reviewer_names).texts) ys
+  pushed_below xs ys inside pushed =
+      let p = length (table_of mid.proposer_names).texts in
+      let r = length (table_of mid.reviewer_names).texts in
+      subst (ArePairsBelow p r) (sym pushed) (pairs_below_push p r xs pair (below_still xs inside) pair_below)
+
+  -- something is asked of a pair
+  pair_added : (condition : Condition) (new : Draft) → PutsPair condition mid new pair → Adds kind line (binds condition proposer reviewer) d new
+  unfolding said_with
+  pair_added Force new puts =
+      let e : Draft = record d { forced = new.forced } in
+      let all : new ≡ with_pairs e = puts.changes ∙ ap (λ (x : Draft). record x { forced = new.forced }) paired.changes in
+      let pushed : new.forced.items ≡ d.forced.items ++ pair ∷ [] = puts.pairs ∙ ap (λ (x : Draft). x.forced.items ++ pair ∷ []) paired.changes in
+      record {
+        faultless = pair_fault (said_of kind d) Force proposer reviewer true paired.are_names;
+        said = ap (said_of kind) all ∙ said_same agents_same others_same weights_same
+            (pushed_said d.forced.items new.forced.items draft.forced_in pushed)
+            (pairs_same d.forbidden.items draft.forbidden_in);
+        draft = subst (IsDraft kind (line + 1)) (sym all) (draft_with_pairs e
+            (below_still (pairs_of d.weights.items) draft.weights_in)
+            (pushed_below d.forced.items new.forced.items draft.forced_in pushed)
+            (below_still d.forbidden.items draft.forbidden_in)
+            draft.weighed
+            (omega (arith, ap length pushed, length_push d.forced.items pair)));
+      }
+  pair_added Forbid new puts =
+      let e : Draft = record d { forbidden = new.forbidden } in
+      let all : new ≡ with_pairs e = puts.changes ∙ ap (λ (x : Draft). record x { forbidden = new.forbidden }) paired.changes in
+      let pushed : new.forbidden.items ≡ d.forbidden.items ++ pair ∷ [] = puts.pairs ∙ ap (λ (x : Draft). x.forbidden.items ++ pair ∷ []) paired.changes in
+      record {
+        faultless = pair_fault (said_of kind d) Forbid proposer reviewer true paired.are_names;
+        said = ap (said_of kind) all ∙ said_same agents_same others_same weights_same
+            (pairs_same d.forced.items draft.forced_in)
+            (pushed_said d.forbidden.items new.forbidden.items draft.forbidden_in pushed);
+        draft = subst (IsDraft kind (line + 1)) (sym all) (draft_with_pairs e
+            (below_still (pairs_of d.weights.items) draft.weights_in)
+            (below_still d.forced.items draft.forced_in)
+            (pushed_below d.forbidden.items new.forbidden.items draft.forbidden_in pushed)
+            draft.weighed
+            (omega (arith, ap length pushed, length_push d.forbidden.items pair)));
+      }
+
+-- a condition is added
+pub condition_added : (kind : Kind) (line : ℕ) (d new : Draft) (condition : Condition) (proposer reviewer : List ℕ) → IsDraft kind line d → Binds condition d new proposer reviewer line
+    → Adds kind line (binds condition proposer reviewer) d new
+condition_added kind line d new condition proposer reviewer draft bound =
+    pair_added kind line d bound.mid proposer reviewer bound.pair draft bound.paired condition new bound.puts
 
 -- a pair gets its weight
 pub weight_added : (kind : Kind) (line : ℕ) (d new : Draft) (proposer reviewer run : List ℕ) → IsDraft kind line d → PutsWeight d new proposer reviewer run line → Adds kind line (weighs proposer reviewer run) d new
@@ -264,13 +265,10 @@ module _ (kind : Kind) (line : ℕ) (d : Draft) (side : Side) (name : List ℕ) 
       )
   runs_refused OutOfMemory h = tt
 
-pub forced_refused : (said : Said) (line : ℕ) (p r : List ℕ) (f : TextFault) → RefusesFor BadName line (list_all is_name (p ∷ r ∷ []) ≡ false) f → IsLineFault (fault_of said (forces p r)) line f
-forced_refused said line p r (Refused k at) h = (forced_fault said p r false h.2 ∙ sym (ap Some h.0), h.1)
-forced_refused said line p r OutOfMemory h = tt
-
-pub forbidden_refused : (said : Said) (line : ℕ) (p r : List ℕ) (f : TextFault) → RefusesFor BadName line (list_all is_name (p ∷ r ∷ []) ≡ false) f → IsLineFault (fault_of said (forbids p r)) line f
-forbidden_refused said line p r (Refused k at) h = (forbidden_fault said p r false h.2 ∙ sym (ap Some h.0), h.1)
-forbidden_refused said line p r OutOfMemory h = tt
+pub pair_refused : (said : Said) (line : ℕ) (condition : Condition) (p r : List ℕ) (f : TextFault) → RefusesFor BadName line (list_all is_name (p ∷ r ∷ []) ≡ false) f
+    → IsLineFault (fault_of said (binds condition p r)) line f
+pair_refused said line condition p r (Refused k at) h = (pair_fault said condition p r false h.2 ∙ sym (ap Some h.0), h.1)
+pair_refused said line condition p r OutOfMemory h = tt
 
 -- a pair is weighed already, by index and by name
 pub weight_met : (d mid : Draft) (p r : List ℕ) (line : ℕ) (pair : Pair) → PairsOf d mid p r line pair

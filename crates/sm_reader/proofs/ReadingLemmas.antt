@@ -1,18 +1,18 @@
 -- The lines of a text, one after another.
-use Rattle.std.proofs.Common.{◌≡◌, ℕ, ◌+◌, ◌<◌, ◌≤◌, List, [], length, drop, true, false, Result, Ok, Err, refl, sym, ap, ◌∙◌, arith, nat_lt}
+use Rattle.std.proofs.Common.{◌≡◌, ℕ, ◌+◌, ◌<◌, ◌≤◌, List, length, drop, true, false, Result, Ok, Err, refl, sym, ap, ◌∙◌, arith, nat_lt}
 use Rattle.std.specs.Option.{option_map_or}
 use Rattle.std.proofs.lemmas.Bool.Decides.{nat_tests}
-use Rattle.std.proofs.lemmas.List.{drop_all}
+use Rattle.sm_text.specs.Limits.{most_bytes}
 use Rattle.sm_text.specs.Lines.{lines, first_line, content}
 use Rattle.sm_text.specs.Tokens.{tokens}
 use Rattle.sm_text.specs.declared.refusal.RefusalKind.TheVariants.{TooLong, UnknownName}
 use Rattle.sm_instance.specs.declared.kinds.Kind.{Kind}
 use Rattle.sm_instance.specs.declared.inputs.Input.{Input}
-use Rattle.sm_instance.specs.Named.{Said, nothing}
-use Rattle.sm_reader.specs.Judging.{by_heading, heading_of, by_verdict, verdict_on, goes, stops}
+use Rattle.sm_instance.specs.Named.{Said}
+use Rattle.sm_reader.specs.Judging.{by_verdict, verdict_on, goes, stops}
 use Rattle.sm_reader.specs.InstanceText.{ReadText, Refusal, before_header, behind_header, ended, input_of, instance_text, IsTextFault}
 use Rattle.sm_reader.specs.Kept.{LeadsLines}
-use Rattle.sm_reader.specs.Draft.{said_of, IsRefusedBy}
+use Rattle.sm_reader.specs.Draft.{said_of}
 use Rattle.sm_reader.specs.Numbering.{IsUnknownFault}
 use Rattle.sm_reader.specs.Reading.{IsFaultOf, Finishes}
 use Rattle.sm_reader.specs.declared.draft.Draft.{Draft}
@@ -20,17 +20,7 @@ use Rattle.sm_reader.specs.declared.faults.TextFault.{TextFault}
 use Rattle.sm_reader.specs.declared.faults.TextFault.TheVariants.{Refused, OutOfMemory}
 
 module _ (bytes text : List ℕ) (at next : ℕ) (leads : LeadsLines bytes at text next) where
-  -- one line before the header
-  pub heading_step : (n : ℕ) → before_header n at (lines (drop at bytes))
-      ≡ by_heading (heading_of (tokens text)) (before_header (n + 1) next (lines (drop next bytes))) (λ kind. behind_header kind n nothing (n + 1) next (lines (drop next bytes))) (λ fault. Err (fault, n))
-  heading_step n =
-      ap (before_header n at) leads.leads
-      ∙ ap (λ p. by_heading (heading_of (tokens (content (first_line (drop at bytes))))) (before_header (n + 1) p (lines (drop next bytes)))
-      (λ kind. behind_header kind n nothing (n + 1) p (lines (drop next bytes))) (λ fault. Err (fault, n))) (sym leads.long)
-      ∙ ap (λ t. by_heading (heading_of (tokens t)) (before_header (n + 1) next (lines (drop next bytes)))
-      (λ kind. behind_header kind n nothing (n + 1) next (lines (drop next bytes))) (λ fault. Err (fault, n))) (sym leads.holds)
-
-  -- one line behind it
+  -- one line behind the header
   pub verdict_step : (kind : Kind) (header : ℕ) (said : Said) (n : ℕ) → behind_header kind header said n at (lines (drop at bytes))
       ≡ by_verdict (verdict_on kind said n (tokens text)) (λ more. behind_header kind header more (n + 1) next (lines (drop next bytes))) (ended kind header said next (n + 1)) (λ fault. Err (fault, n))
   verdict_step kind header said n =
@@ -40,10 +30,6 @@ module _ (bytes text : List ℕ) (at next : ℕ) (leads : LeadsLines bytes at te
       ∙ ap (λ t. by_verdict (verdict_on kind said n (tokens t)) (λ more. behind_header kind header more (n + 1) next (lines (drop next bytes)))
       (ended kind header said next (n + 1)) (λ fault. Err (fault, n))) (sym leads.holds)
 
--- no line is left
-pub no_lines : (bytes : List ℕ) (at : ℕ) → length bytes ≤ at → lines (drop at bytes) ≡ []
-no_lines bytes at past = ap lines (drop_all at bytes past)
-
 module _ (bytes text : List ℕ) (at next : ℕ) (leads : LeadsLines bytes at text next) (kind : Kind) (header : ℕ) (said : Said) (n : ℕ) where
   pub goes_step : (more : Said) → verdict_on kind said n (tokens text) ≡ goes more → behind_header kind header said n at (lines (drop at bytes)) ≡ behind_header kind header more (n + 1) next (lines (drop next bytes))
   goes_step more e = verdict_step bytes text at next leads kind header said n
@@ -52,12 +38,6 @@ module _ (bytes text : List ℕ) (at next : ℕ) (leads : LeadsLines bytes at te
   pub stops_step : verdict_on kind said n (tokens text) ≡ stops → behind_header kind header said n at (lines (drop at bytes)) ≡ ended kind header said next (n + 1)
   stops_step e = verdict_step bytes text at next leads kind header said n
       ∙ ap (λ v. by_verdict v (λ more. behind_header kind header more (n + 1) next (lines (drop next bytes))) (ended kind header said next (n + 1)) (λ fault. Err (fault, n))) e
-
-  pub refuses_step : (f : TextFault) → IsRefusedBy (verdict_on kind said n (tokens text)) n f → IsFaultOf (behind_header kind header said n at (lines (drop at bytes))) f
-  refuses_step (Refused fault line) h = verdict_step bytes text at next leads kind header said n
-      ∙ ap (λ v. by_verdict v (λ more. behind_header kind header more (n + 1) next (lines (drop next bytes))) (ended kind header said next (n + 1)) (λ fault. Err (fault, n))) h.0
-      ∙ ap (λ m. Err (fault, m)) (sym h.1)
-  refuses_step OutOfMemory h = tt
 
 -- how an instance ends
 pub ended_ok : (kind : Kind) (header : ℕ) (d : Draft) (rest rest_line : ℕ) (input : Input) → Finishes kind d input
@@ -81,13 +61,13 @@ same_fault a b (Refused kind at) e h = e ∙ h
 same_fault a b OutOfMemory e h = tt
 
 -- the whole text
-pub too_long : (bytes : List ℕ) → 16777216 < length bytes → instance_text bytes ≡ Err (TooLong, 0)
+pub too_long : (bytes : List ℕ) → most_bytes < length bytes → instance_text bytes ≡ Err (TooLong, 0)
 unfolding instance_text
-too_long bytes h = let e : nat_lt 16777216 (length bytes) ≡ true = grind (arith, nat_tests) in rw e refl
+too_long bytes h = let e : nat_lt most_bytes (length bytes) ≡ true = grind (arith, nat_tests) in rw e refl
 
-pub short_text : (bytes : List ℕ) → length bytes ≤ 16777216 → instance_text bytes ≡ before_header 1 0 (lines bytes)
+pub short_text : (bytes : List ℕ) → length bytes ≤ most_bytes → instance_text bytes ≡ before_header 1 0 (lines bytes)
 unfolding instance_text
-short_text bytes h = let e : nat_lt 16777216 (length bytes) ≡ false = grind (arith, nat_tests) in rw e refl
+short_text bytes h = let e : nat_lt most_bytes (length bytes) ≡ false = grind (arith, nat_tests) in rw e refl
 
 pub text_fault : (bytes : List ℕ) (meaning : Result ReadText Refusal) (f : TextFault) → instance_text bytes ≡ meaning → IsFaultOf meaning f → IsTextFault bytes f
 text_fault bytes meaning (Refused kind at) e h = e ∙ h

@@ -11,6 +11,7 @@ use Rattle.std.proofs.lemmas.List.Elements.{All-push}
 use Rattle.std.proofs.lemmas.List.Folds.{list_any_at}
 use Rattle.std.proofs.lemmas.List.Quantifiers.{all_pairs_push}
 use Rattle.std.proofs.lemmas.List.Sums.{sum_by_push}
+use Rattle.sm_text.specs.Limits.{most_agents, most_capacity, most_weight}
 use Rattle.sm_text.specs.Name.{is_name}
 use Rattle.sm_text.specs.Numbers.{is_number, value_of, number_of, signed_of, negated}
 use Rattle.sm_text.specs.declared.refusal.RefusalKind.{RefusalKind}
@@ -21,7 +22,9 @@ use Rattle.sm_instance.specs.declared.kinds.Kind.TheVariants.{Marriage, Hospital
 use Rattle.sm_instance.specs.declared.kinds.Side.{Side}
 use Rattle.sm_instance.specs.declared.kinds.Side.TheVariants.{Proposers, Reviewers}
 use Rattle.sm_instance.specs.Named.{SaidAgent, SaidWeight, Said, nothing, names_of, entries_of, all_entries, is_given_to}
-use Rattle.sm_reader.specs.Forms.{Form, declares, weighs, forces, forbids, is_bad, is_end, list_form, capacity_form, weight_form, pair_form, reviewer_form, two_sided_form, form_behind}
+use Rattle.sm_reader.specs.declared.forms.Condition.{Condition}
+use Rattle.sm_reader.specs.declared.forms.Condition.TheVariants.{Force, Forbid}
+use Rattle.sm_reader.specs.Forms.{Form, declares, weighs, binds, is_bad, is_end, list_form, capacity_form, weight_form, pair_form, reviewer_form, two_sided_form, form_behind}
 use Rattle.sm_reader.specs.Judging.{goes, stops, refuses, verdict_on, of_form, fault_of, said_with, is_bad_capacity, capacity_in, weight_in, has_repeated}
 use Rattle.sm_reader.specs.Draft.{run_fault, name_fault, weight_fault, limit_fault}
 use Rattle.sm_reader.specs.Right.{IsRightAgent, IsRight}
@@ -61,8 +64,7 @@ abbrev pub HasSingle : Kind → Form → Type 0
 HasSingle kind (declares Proposers name capacity entries) = capacity ≡ None
 HasSingle kind (declares Reviewers name capacity entries) = is_single kind ≡ true → capacity ≡ None
 HasSingle kind (weighs proposer reviewer weight) = Unit {0}
-HasSingle kind (forces proposer reviewer) = Unit {0}
-HasSingle kind (forbids proposer reviewer) = Unit {0}
+HasSingle kind (binds condition proposer reviewer) = Unit {0}
 
 none_single : (kind : Kind) (side : Side) (name : List ℕ) (entries : List (List ℕ)) → HasSingle kind (declares side name None entries)
 none_single kind Proposers name entries = refl
@@ -95,19 +97,12 @@ weight_single kind (a ∷ b ∷ []) form e = absurd cc
 weight_single kind (a ∷ b ∷ d ∷ []) form e = some_form kind _ _ form tt e
 weight_single kind (a ∷ b ∷ d ∷ f ∷ xs) form e = absurd cc
 
-forced_single : (kind : Kind) (xs : List (List ℕ)) (form : Form) → pair_form forces xs ≡ Some form → HasSingle kind form
+pair_single : (kind : Kind) (condition : Condition) (xs : List (List ℕ)) (form : Form) → pair_form condition xs ≡ Some form → HasSingle kind form
 unfolding pair_form
-forced_single kind [] form e = absurd cc
-forced_single kind (a ∷ []) form e = absurd cc
-forced_single kind (a ∷ b ∷ []) form e = some_form kind _ _ form tt e
-forced_single kind (a ∷ b ∷ d ∷ xs) form e = absurd cc
-
-forbidden_single : (kind : Kind) (xs : List (List ℕ)) (form : Form) → pair_form forbids xs ≡ Some form → HasSingle kind form
-unfolding pair_form
-forbidden_single kind [] form e = absurd cc
-forbidden_single kind (a ∷ []) form e = absurd cc
-forbidden_single kind (a ∷ b ∷ []) form e = some_form kind _ _ form tt e
-forbidden_single kind (a ∷ b ∷ d ∷ xs) form e = absurd cc
+pair_single kind condition [] form e = absurd cc
+pair_single kind condition (a ∷ []) form e = absurd cc
+pair_single kind condition (a ∷ b ∷ []) form e = some_form kind _ _ form tt e
+pair_single kind condition (a ∷ b ∷ d ∷ xs) form e = absurd cc
 
 either_form : (a b : Option Form) (form : Form) → option_or a b ≡ Some form → (a ≡ Some form) ⊎ (b ≡ Some form)
 either_form None b form e = inr e
@@ -128,11 +123,11 @@ two_sided_single : (kind : Kind) (word : List ℕ) (xs : List (List ℕ)) (form 
 unfolding two_sided_form
 two_sided_single kind word xs form e = by_tests _ _ _ _ e
   where
-    by_tests : (a b d f : Bool) → cond a (reviewer_form kind xs) (cond b (weight_form xs) (cond d (pair_form forces xs) (cond f (pair_form forbids xs) None))) ≡ Some form → HasSingle kind form
+    by_tests : (a b d f : Bool) → cond a (reviewer_form kind xs) (cond b (weight_form xs) (cond d (pair_form Force xs) (cond f (pair_form Forbid xs) None))) ≡ Some form → HasSingle kind form
     by_tests true b d f h = reviewer_single kind xs form h
     by_tests false true d f h = weight_single kind xs form h
-    by_tests false false true f h = forced_single kind xs form h
-    by_tests false false false true h = forbidden_single kind xs form h
+    by_tests false false true f h = pair_single kind Force xs form h
+    by_tests false false false true h = pair_single kind Forbid xs form h
     by_tests false false false false h = absurd cc
 
 pub form_single : (kind : Kind) (word : List ℕ) (xs : List (List ℕ)) (form : Form) → form_behind kind word xs ≡ Some form → HasSingle kind form
@@ -200,9 +195,9 @@ some_le : (o : Option ℕ) (most : ℕ) → ((v : ℕ) → o ≡ Some v → v �
 some_le None most le h = absurd (false≢true (sym h))
 some_le (Some v) most le h = le v refl
 
-capacity_fits : (capacity : Option (List ℕ)) → is_bad_capacity capacity ≡ false → unwrap_or (option_and_then capacity_in capacity) 1 ≤ 4096
+capacity_fits : (capacity : Option (List ℕ)) → is_bad_capacity capacity ≡ false → unwrap_or (option_and_then capacity_in capacity) 1 ≤ most_capacity
 capacity_fits None h = omega arith
-capacity_fits (Some run) h = some_le (capacity_in run) 4096 (number_le run 4096) h
+capacity_fits (Some run) h = some_le (capacity_in run) most_capacity (number_le run most_capacity) h
 
 minus_fits : (o : Option ℕ) (most : ℕ) → ((v : ℕ) → o ≡ Some v → v ≤ most) → is_none (negated o) ≡ false → unsigned_abs (unwrap_or (negated o) (pos 0)) ≤ most
 minus_fits None most le h = absurd (false≢true (sym h))
@@ -309,7 +304,7 @@ weight_right kind said line p r run right none =
       proposers_fit = right.proposers_fit;
       reviewers_fit = right.reviewers_fit;
       entries_fit = right.entries_fit;
-      sizes = All-push (λ (x : SaidWeight). unsigned_abs x.weight ≤ 1000000000) said.weights w right.sizes (weight_fits run 1000000000 parts.0);
+      sizes = All-push (λ (x : SaidWeight). unsigned_abs x.weight ≤ most_weight) said.weights w right.sizes (weight_fits run most_weight parts.0);
       weights_differ = all_pairs_push (λ (a b : SaidWeight). is_given_to b.pair.proposer b.pair.reviewer a ≡ false) said.weights w right.weights_differ
           (λ (k : ℕ) (d : SaidWeight) (below : k < length said.weights). fails_at (is_given_to p r) said.weights k d parts.1 below);
     }
@@ -321,10 +316,10 @@ pair_right kind said more right e1 e2 e3 = record {
   reviewers = subst (All (IsRightAgent (is_single kind))) (sym e2) right.reviewers;
   proposers_differ = subst (λ xs. AllPairs ◌≢◌ (names_of xs)) (sym e1) right.proposers_differ;
   reviewers_differ = subst (λ xs. AllPairs ◌≢◌ (names_of xs)) (sym e2) right.reviewers_differ;
-  proposers_fit = subst (λ (xs : List SaidAgent). length xs ≤ 4096) (sym e1) right.proposers_fit;
-  reviewers_fit = subst (λ (xs : List SaidAgent). length xs ≤ 4096) (sym e2) right.reviewers_fit;
+  proposers_fit = subst (λ (xs : List SaidAgent). length xs ≤ most_agents) (sym e1) right.proposers_fit;
+  reviewers_fit = subst (λ (xs : List SaidAgent). length xs ≤ most_agents) (sym e2) right.reviewers_fit;
   entries_fit = omega (arith, right.entries_fit, ap entries_of e1, ap entries_of e2);
-  sizes = subst (All (λ (w : SaidWeight). unsigned_abs w.weight ≤ 1000000000)) (sym e3) right.sizes;
+  sizes = subst (All (λ (w : SaidWeight). unsigned_abs w.weight ≤ most_weight)) (sym e3) right.sizes;
   weights_differ = subst (AllPairs (λ (a b : SaidWeight). is_given_to b.pair.proposer b.pair.reviewer a ≡ false)) (sym e3) right.weights_differ;
 }
 
@@ -332,8 +327,8 @@ form_right : (kind : Kind) (said : Said) (line : ℕ) (form : Form) → IsRight 
 unfolding said_with
 form_right kind said line (declares side name capacity entries) right single none = agent_right kind said line side name capacity entries right single none
 form_right kind said line (weighs p r run) right single none = weight_right kind said line p r run right none
-form_right kind said line (forces p r) right single none = pair_right kind said (said_with said line (forces p r)) right refl refl refl
-form_right kind said line (forbids p r) right single none = pair_right kind said (said_with said line (forbids p r)) right refl refl refl
+form_right kind said line (binds Force p r) right single none = pair_right kind said (said_with said line (binds Force p r)) right refl refl refl
+form_right kind said line (binds Forbid p r) right single none = pair_right kind said (said_with said line (binds Forbid p r)) right refl refl refl
 
 pub goes_right : (kind : Kind) (said : Said) (line : ℕ) (tokens : List (List ℕ)) (more : Said) → IsRight kind said → verdict_on kind said line tokens ≡ goes more → IsRight kind more
 goes_right kind said line tokens more right e = elim (verdict_goes kind said line tokens more e) [

@@ -8,6 +8,7 @@ use Rattle.std.proofs.lemmas.List.{length-map, length-append, get_or-map, get_or
 use Rattle.std.proofs.lemmas.List.Elements.{All-append, All-map}
 use Rattle.std.proofs.lemmas.List.Folds.{list_any_at, fold-map}
 use Rattle.std.proofs.Math.ListN.{get_or-append}
+use Rattle.sm_text.specs.Limits.{most_capacity, most_weight}
 use Rattle.sm_text.specs.Name.{is_name}
 use Rattle.sm_instance.specs.Written.{AgentData, Written, no_agent, agent_at, weighed}
 use Rattle.sm_instance.specs.Sound.{AreSoundAgents, AreSoundEntries, IsPairOf, pair_at, items_of, IsSoundItem, is_single, IsInstance, ArePersons, entries_of as entries_in}
@@ -88,7 +89,7 @@ module _ (single : Bool) (agents : List SaidAgent) (names : List (List ℕ)) (ri
           name = (ap (λ (x : AgentData). is_name x.name) (here a below) ∙ one.name);
           fresh = λ b before same. differ b a [] before (omega (arith, length-map agents (λ (x : SaidAgent). x.name)))
               (sym (name_is b (omega arith)) ∙ same ∙ name_is a below);
-          capacity = subst (λ (x : AgentData). x.capacity ≤ 4096) (sym (here a below)) one.capacity;
+          capacity = subst (λ (x : AgentData). x.capacity ≤ most_capacity) (sym (here a below)) one.capacity;
           one = λ h. ap (λ (x : AgentData). x.capacity) (here a below) ∙ one.one h;
         };
   }
@@ -208,7 +209,7 @@ module _ (said : Said) where
       ap marks (sym (get_or-map (λ (w : SaidWeight). w.pair) said.weights k no_weight no_weight.pair below)) ∙ fails_at marks pairs k no_weight.pair hw (omega (arith, length-map said.weights (λ (w : SaidWeight). w.pair))) in
       record {
         pair = all i (0, 0) inside;
-        size = λ within. subst (λ (x : ℕ × ℕ × ℤ). unsigned_abs x.2 ≤ 1000000000) (sym (get_or-map given said.weights i no_weight (0, 0, pos 0) (omega (arith, long)))) (right.sizes i no_weight (omega (arith, long)));
+        size = λ within. subst (λ (x : ℕ × ℕ × ℤ). unsigned_abs x.2 ≤ most_weight) (sym (get_or-map given said.weights i no_weight (0, 0, pos 0) (omega (arith, long)))) (right.sizes i no_weight (omega (arith, long)));
         fresh = λ within k before same.
             let here : i < length said.weights = omega (arith, long) in
             let there : k < length said.weights = omega arith in
@@ -235,6 +236,7 @@ sides_sound kind said other right none =
     let lists = λ (names : List (List ℕ)) (a : SaidAgent). list_any (is_unknown names) a.entries in
     let pair_line = λ (x : SaidPair). x.line in
     record {
+      two_sided = other;
       limits = record {
         proposers = omega (arith, right.proposers_fit, length-map said.proposers (numbered reviewers));
         reviewers = omega (arith, right.reviewers_fit, length-map said.reviewers (numbered proposers));

@@ -58,10 +58,6 @@ position_texts name [] = refl
 position_texts name (k ∷ ks) = ap (λ n. cond (not (bytes_eq name (text_of k))) (1 + n) 0) (position_texts name ks)
 
 -- the first that passes, where one does or none does
-pub position_or_len-le : {X : Type 0} (p : X → Bool) (xs : List X) → position_or_len p xs ≤ length xs
-position_or_len-le p [] = omega arith
-position_or_len-le p (x ∷ xs) = elim (p x) as (λ t. cond (not t) (1 + position_or_len p xs) 0 ≤ length (x ∷ xs)) [ true ↦ omega arith | false ↦ omega (arith, position_or_len-le p xs) ]
-
 pub position_or_len-none : {X : Type 0} (p : X → Bool) (xs : List X) → list_any p xs ≡ false → position_or_len p xs ≡ length xs
 position_or_len-none p [] h = refl
 position_or_len-none p (x ∷ xs) h = by_test (p x) refl h (position_or_len-none p xs)

@@ -6,6 +6,7 @@ use Rattle.std.specs.Str.{bytes_eq}
 use Rattle.std.specs.Prelude.{codes}
 use Rattle.std.proofs.lemmas.Bool.Decides.{nat_tests}
 use Rattle.std.proofs.lemmas.Bool.{false≢true}
+use Rattle.sm_text.specs.Limits.{most_name_bytes}
 use Rattle.sm_text.specs.Name.{is_name, is_name_byte, begins_name}
 use Rattle.sm_text.specs.Tokens.{tokens, begins_run, is_blank, IsLeading}
 use Rattle.sm_text.proofs.TokenLemmas.{tokens_of_run}
@@ -14,7 +15,9 @@ use Rattle.sm_instance.specs.declared.kinds.Kind.{Kind}
 use Rattle.sm_instance.specs.declared.kinds.Kind.TheVariants.{Marriage, Hospitals, Roommates}
 use Rattle.sm_instance.specs.declared.kinds.Side.{Side}
 use Rattle.sm_instance.specs.declared.kinds.Side.TheVariants.{Proposers, Reviewers}
-use Rattle.sm_reader.specs.Forms.{Form, declares, weighs, forces, forbids, list_form, capacity_form, weight_form, pair_form, reviewer_form, two_sided_form, form_behind, is_colon}
+use Rattle.sm_reader.specs.declared.forms.Condition.{Condition}
+use Rattle.sm_reader.specs.declared.forms.Condition.TheVariants.{Force, Forbid}
+use Rattle.sm_reader.specs.Forms.{Form, declares, weighs, binds, list_form, capacity_form, weight_form, pair_form, reviewer_form, two_sided_form, form_behind, is_colon}
 use Rattle.sm_reader.specs.Kept.{texts_of, is_whole, is_inner, AreRuns}
 use Rattle.sm_reader.proofs.TextLemmas.{all_texts_fail}
 use Rattle.std.specs.Borrow.{Bor}
@@ -129,19 +132,12 @@ module _ (P Q : List (List ℕ) → Type 0) (tail : (t : List ℕ) (ts : List (L
   of_weight (a ∷ b ∷ c ∷ []) = elim (begins_run a && begins_run b && begins_run c) as (λ t. Q (listed (cond t (Some (weighs a b c)) None))) [ true ↦ none | false ↦ none ]
   of_weight (a ∷ b ∷ c ∷ d ∷ rest) = none
 
-  of_forced : (rest : List (List ℕ)) → Q (listed (pair_form forces rest))
+  of_pair : (condition : Condition) (rest : List (List ℕ)) → Q (listed (pair_form condition rest))
   unfolding pair_form
-  of_forced [] = none
-  of_forced (a ∷ []) = none
-  of_forced (a ∷ b ∷ []) = elim (begins_run a && begins_run b) as (λ t. Q (listed (cond t (Some (forces a b)) None))) [ true ↦ none | false ↦ none ]
-  of_forced (a ∷ b ∷ c ∷ rest) = none
-
-  of_forbidden : (rest : List (List ℕ)) → Q (listed (pair_form forbids rest))
-  unfolding pair_form
-  of_forbidden [] = none
-  of_forbidden (a ∷ []) = none
-  of_forbidden (a ∷ b ∷ []) = elim (begins_run a && begins_run b) as (λ t. Q (listed (cond t (Some (forbids a b)) None))) [ true ↦ none | false ↦ none ]
-  of_forbidden (a ∷ b ∷ c ∷ rest) = none
+  of_pair condition [] = none
+  of_pair condition (a ∷ []) = none
+  of_pair condition (a ∷ b ∷ []) = elim (begins_run a && begins_run b) as (λ t. Q (listed (cond t (Some (binds condition a b)) None))) [ true ↦ none | false ↦ none ]
+  of_pair condition (a ∷ b ∷ c ∷ rest) = none
 
   -- of two, and of five
   of_or : (a b : Option Form) → Q (listed a) → Q (listed b) → Q (listed (option_or a b))
@@ -163,8 +159,8 @@ module _ (P Q : List (List ℕ) → Type 0) (tail : (t : List ℕ) (ts : List (L
   of_two_sided kind word rest h =
       of_cond (bytes_eq word (codes "r")) (reviewer_form kind rest) _ (of_reviewer kind rest h)
       (of_cond (bytes_eq word (codes "weight")) (weight_form rest) _ (of_weight rest)
-      (of_cond (bytes_eq word (codes "force")) (pair_form forces rest) _ (of_forced rest)
-      (of_cond (bytes_eq word (codes "forbid")) (pair_form forbids rest) None (of_forbidden rest) none)))
+      (of_cond (bytes_eq word (codes "force")) (pair_form Force rest) _ (of_pair Force rest)
+      (of_cond (bytes_eq word (codes "forbid")) (pair_form Forbid rest) None (of_pair Forbid rest) none)))
 
   pub list_behind : (kind : Kind) (word : List ℕ) (rest : List (List ℕ)) → P rest → Q (listed (form_behind kind word rest))
   unfolding form_behind
@@ -198,11 +194,11 @@ two_of_four true t u false w e f g = cc
 two_of_four false t u v w e f g = cc
 
 -- a run is a name unless it is too long or begins with one of those
-pub name_of_run : (run : List ℕ) → 1 ≤ length run → list_all is_name_byte run ≡ true → is_name run ≡ (not (is_inner (get_or run 0 0)) && nat_le (length run) 64)
+pub name_of_run : (run : List ℕ) → 1 ≤ length run → list_all is_name_byte run ≡ true → is_name run ≡ (not (is_inner (get_or run 0 0)) && nat_le (length run) most_name_bytes)
 name_of_run [] some all = absurd (omega arith)
 name_of_run (b ∷ rest) some all =
     let one : nat_le 1 (length (b ∷ rest)) ≡ true = grind (arith, nat_tests) in
-    two_of_four (nat_le 1 (length (b ∷ rest))) (nat_le (length (b ∷ rest)) 64) (begins_name b) (list_all is_name_byte (b ∷ rest)) (not (is_inner b)) one all
+    two_of_four (nat_le 1 (length (b ∷ rest))) (nat_le (length (b ∷ rest)) most_name_bytes) (begins_name b) (list_all is_name_byte (b ∷ rest)) (not (is_inner b)) one all
     (first_begins b (and_left (is_name_byte b) (list_all is_name_byte rest) all))
 
 -- one of the runs

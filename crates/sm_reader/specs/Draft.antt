@@ -1,19 +1,19 @@
 -- What a `Draft` says, what it has to meet, and what a line does to it.
-use Rattle.std.specs.Prelude.{◌≡◌, ℕ, ◌+◌, ◌<◌, ◌≤◌, true, false, not, List, [], ◌∷◌, ◌++◌, length, map, Option, Some, None, slice_index, nat_le, nat_lt, unwrap_or, is_none}
+use Rattle.std.specs.Prelude.{◌≡◌, ℕ, ◌+◌, ◌<◌, ◌≤◌, true, false, List, [], ◌∷◌, ◌++◌, length, map, Option, Some, None, slice_index, unwrap_or}
 use Rattle.std.specs.List.{list_any, list_all}
 use Rattle.std.specs.Option.{option_map, option_and_then}
 use Rattle.std.specs.Str.{bytes_eq}
 use Rattle.indexmap.specs.IndexSet.{keys}
+use Rattle.sm_text.specs.Limits.{most_agents, most_entries}
 use Rattle.sm_text.specs.Name.{is_name}
 use Rattle.sm_text.specs.declared.refusal.RefusalKind.{RefusalKind}
-use Rattle.sm_text.specs.declared.refusal.RefusalKind.TheVariants.{BadName, BadNumber, Redeclared, RepeatedEntry, RepeatedWeight, TooManyAgents, TooManyEntries}
 use Rattle.sm_instance.specs.declared.kinds.Kind.{Kind}
 use Rattle.sm_instance.specs.declared.kinds.Kind.TheVariants.{Marriage, Hospitals, Roommates}
 use Rattle.sm_instance.specs.declared.kinds.Side.{Side}
 use Rattle.sm_instance.specs.declared.kinds.Side.TheVariants.{Proposers, Reviewers}
-use Rattle.sm_instance.specs.Named.{SaidAgent, SaidPair, SaidWeight, Said, all_entries, is_given_to}
-use Rattle.sm_reader.specs.Forms.{Form, declares, weighs, forces, forbids}
-use Rattle.sm_reader.specs.Judging.{Verdict, goes, stops, refuses, first_fault, is_bad_capacity, capacity_in, weight_in, has_repeated, fault_of, with_agent, said_with, verdict_on}
+use Rattle.sm_instance.specs.Named.{SaidAgent, SaidPair, SaidWeight, Said, all_entries}
+use Rattle.sm_reader.specs.Forms.{Form, declares, weighs, binds}
+use Rattle.sm_reader.specs.Judging.{Verdict, goes, stops, refuses, first_fault, run_rows, name_rows, limit_rows, weight_rows, capacity_in, weight_in, fault_of, with_agent, said_with, verdict_on}
 use Rattle.sm_reader.specs.Kept.{texts_of, Table, table_of, text_at, IsTable, AreBelow, Interns, Declares, IsListed}
 use Rattle.sm_reader.specs.declared.names.Names.{Names}
 use Rattle.sm_reader.specs.declared.draft.Declared.{Declared}
@@ -23,7 +23,9 @@ use Rattle.sm_reader.specs.declared.draft.Draft.{Draft}
 use Rattle.sm_reader.specs.declared.faults.TextFault.{TextFault}
 use Rattle.sm_reader.specs.declared.faults.TextFault.TheVariants.{Refused, OutOfMemory}
 use Rattle.sm_reader.specs.declared.forms.Form.{Form as Line}
-use Rattle.sm_reader.specs.declared.forms.Form.TheVariants.{Agent as AgentLine, Weight as WeightLine, Forced as ForcedLine, Forbidden as ForbiddenLine}
+use Rattle.sm_reader.specs.declared.forms.Form.TheVariants.{Agent as AgentLine, Weight as WeightLine, Pair as PairLine}
+use Rattle.sm_reader.specs.declared.forms.Condition.{Condition}
+use Rattle.sm_reader.specs.declared.forms.Condition.TheVariants.{Force, Forbid}
 use Rattle.sm_reader.specs.declared.judging.Step.{Step}
 use Rattle.sm_reader.specs.declared.judging.Step.TheVariants.{Goes, Stops}
 
@@ -31,15 +33,13 @@ use Rattle.sm_reader.specs.declared.judging.Step.TheVariants.{Goes, Stops}
 abbrev pub form_of : Line → Form
 form_of (AgentLine side name capacity entries) = declares side name.now (option_map (λ x. x.now) capacity) (texts_of entries.now)
 form_of (WeightLine proposer reviewer weight) = weighs proposer.now reviewer.now weight.now
-form_of (ForcedLine proposer reviewer) = forces proposer.now reviewer.now
-form_of (ForbiddenLine proposer reviewer) = forbids proposer.now reviewer.now
+form_of (PairLine condition proposer reviewer) = binds condition proposer.now reviewer.now
 
 -- the names on the list that a line of a form has
 abbrev pub entries_in : Form → List (List ℕ)
 entries_in (declares side name capacity entries) = entries
 entries_in (weighs proposer reviewer weight) = []
-entries_in (forces proposer reviewer) = []
-entries_in (forbids proposer reviewer) = []
+entries_in (binds condition proposer reviewer) = []
 
 -- the names of whom the proposers list: of the reviewers, and in roommates of the persons
 abbrev pub listed_table : Kind → Names → Names → Table
@@ -111,9 +111,9 @@ pub record IsDraft (kind : Kind) (line : ℕ) (d : Draft) : Type 0 where
   pub forbidden_in : ArePairsBelow (length (table_of d.proposer_names).texts) (length (table_of d.reviewer_names).texts) d.forbidden.items
   pub weighed : keys d.weighed ≡ map key_of d.weights.items
   pub counted : d.entries ≡ all_entries (said_of kind d)
-  pub entries_fit : d.entries ≤ 524288
-  pub proposers_fit : length d.proposers.items ≤ 4096
-  pub reviewers_fit : length d.reviewers.items ≤ 4096
+  pub entries_fit : d.entries ≤ most_entries
+  pub proposers_fit : length d.proposers.items ≤ most_agents
+  pub reviewers_fit : length d.reviewers.items ≤ most_agents
   pub proposers_fresh : (k : ℕ) → slice_index d.proposer_names.stamps.items k < line
   pub reviewers_fresh : (k : ℕ) → slice_index d.reviewer_names.stamps.items k < line
   pub few : length d.weights.items + length d.forced.items + length d.forbidden.items + 1 < line
@@ -141,17 +141,13 @@ IsRefusedBy verdict line OutOfMemory = Unit {0}
 -- the first of the faults of an agent's line that its own runs show, of those that the names of both sides show, and of
 -- those against the limits
 abbrev pub run_fault : List ℕ → Option (List ℕ) → List (List ℕ) → Option RefusalKind
-run_fault name capacity entries = first_fault ((not (list_all is_name (name ∷ entries)), BadName) ∷ (is_bad_capacity capacity, BadNumber) ∷ [])
+run_fault name capacity entries = first_fault (run_rows name capacity entries)
 
 abbrev pub limit_fault : ℕ → ℕ → ℕ → Option RefusalKind
-limit_fault agents entries more = first_fault ((nat_le 4096 agents, TooManyAgents) ∷ (nat_lt 524288 (entries + more), TooManyEntries) ∷ [])
+limit_fault agents entries more = first_fault (limit_rows agents entries more)
 
 abbrev pub name_fault : List (List ℕ) → List ℕ → List (List ℕ) → ℕ → ℕ → Option RefusalKind
-name_fault declared name entries agents all = first_fault (
-    (list_any (bytes_eq name) declared, Redeclared)
-    ∷ (has_repeated entries, RepeatedEntry)
-    ∷ (nat_le 4096 agents, TooManyAgents)
-    ∷ (nat_lt 524288 (all + length entries), TooManyEntries) ∷ [])
+name_fault declared name entries agents all = first_fault (name_rows declared name entries ++ limit_rows agents all (length entries))
 
 -- the runs of an agent's line are right, and its capacity is this
 pub record IsChecked (name : List ℕ) (capacity : Option (List ℕ)) (entries : List (List ℕ)) (n : ℕ) : Type 0 where
@@ -213,12 +209,9 @@ abbrev pub weights_in : Draft → List SaidWeight
 weights_in d = map (given_in (table_of d.proposer_names).texts (table_of d.reviewer_names).texts) d.weights.items
 
 abbrev pub weight_fault : List SaidWeight → List ℕ → List ℕ → List ℕ → Option RefusalKind
-weight_fault weights proposer reviewer weight = first_fault (
-    (not (list_all is_name (proposer ∷ reviewer ∷ [])), BadName)
-    ∷ (is_none (weight_in weight), BadNumber)
-    ∷ (list_any (is_given_to proposer reviewer) weights, RepeatedWeight) ∷ [])
+weight_fault weights proposer reviewer weight = first_fault (weight_rows weights proposer reviewer weight)
 
--- a pair has got its first weight; or is forced; or forbidden
+-- a pair has got its first weight
 pub record PutsWeight (old new : Draft) (proposer reviewer run : List ℕ) (line : ℕ) : Type 0 where
   pub mid : Draft
   pub added : Weight
@@ -229,19 +222,27 @@ pub record PutsWeight (old new : Draft) (proposer reviewer run : List ℕ) (line
   pub weighed : keys new.weighed ≡ keys mid.weighed ++ key_of added ∷ []
   pub changes : new ≡ record mid { weights = new.weights; weighed = new.weighed }
 
-pub record PutsForced (old new : Draft) (proposer reviewer : List ℕ) (line : ℕ) : Type 0 where
-  pub mid : Draft
-  pub pair : Pair
-  pub paired : PairsOf old mid proposer reviewer line pair
-  pub forced : new.forced.items ≡ mid.forced.items ++ pair ∷ []
-  pub changes : new ≡ record mid { forced = new.forced }
+-- the pairs of which something is asked
+abbrev pub pairs_on : Condition → Draft → List Pair
+pairs_on Force d = d.forced.items
+pairs_on Forbid d = d.forbidden.items
 
-pub record PutsForbidden (old new : Draft) (proposer reviewer : List ℕ) (line : ℕ) : Type 0 where
+-- nothing but these pairs has changed
+abbrev pub ChangesPairs : Condition → Draft → Draft → Type 0
+ChangesPairs Force old new = new ≡ record old { forced = new.forced }
+ChangesPairs Forbid old new = new ≡ record old { forbidden = new.forbidden }
+
+-- a pair stands behind the others of which the same is asked
+pub record PutsPair (condition : Condition) (old new : Draft) (pair : Pair) : Type 0 where
+  pub pairs : pairs_on condition new ≡ pairs_on condition old ++ pair ∷ []
+  pub changes : ChangesPairs condition old new
+
+-- something is asked of the pair of two names
+pub record Binds (condition : Condition) (old new : Draft) (proposer reviewer : List ℕ) (line : ℕ) : Type 0 where
   pub mid : Draft
   pub pair : Pair
   pub paired : PairsOf old mid proposer reviewer line pair
-  pub forbidden : new.forbidden.items ≡ mid.forbidden.items ++ pair ∷ []
-  pub changes : new ≡ record mid { forbidden = new.forbidden }
+  pub puts : PutsPair condition mid new pair
 
 -- an agent is declared without a fault of names and limits
 pub record AddsAgent (kind : Kind) (line : ℕ) (side : Side) (name : List ℕ) (capacity : ℕ) (entries : List (List ℕ)) (old new : Draft) : Type 0 where

@@ -10,13 +10,14 @@ use Rattle.sm_instance.specs.declared.kinds.Kind.{Kind}
 use Rattle.sm_instance.specs.declared.kinds.Kind.TheVariants.{Marriage, Hospitals, Roommates}
 use Rattle.sm_instance.specs.declared.kinds.Side.{Side}
 use Rattle.sm_instance.specs.declared.kinds.Side.TheVariants.{Proposers, Reviewers}
+use Rattle.sm_reader.specs.declared.forms.Condition.{Condition}
+use Rattle.sm_reader.specs.declared.forms.Condition.TheVariants.{Force, Forbid}
 
 -- a line by its form, with the runs that stand in the positions of names and of numbers
 pub data Form : Type 0 where
   declares : Side → (name : List ℕ) → (capacity : Option (List ℕ)) → (entries : List (List ℕ)) → Form
   weighs : (proposer reviewer weight : List ℕ) → Form
-  forces : (proposer reviewer : List ℕ) → Form
-  forbids : (proposer reviewer : List ℕ) → Form
+  binds : Condition → (proposer reviewer : List ℕ) → Form
 
 -- a token that is a byte which no line of an instance holds outside of a comment
 unfoldable pub is_bad : List ℕ → Bool
@@ -48,9 +49,9 @@ weight_form (proposer ∷ reviewer ∷ weight ∷ []) =
 weight_form _ = None
 
 -- NAME NAME
-unfoldable pub pair_form : (List ℕ → List ℕ → Form) → List (List ℕ) → Option Form
-pair_form form (proposer ∷ reviewer ∷ []) = if begins_run proposer && begins_run reviewer then Some (form proposer reviewer) else None
-pair_form form _ = None
+unfoldable pub pair_form : Condition → List (List ℕ) → Option Form
+pair_form condition (proposer ∷ reviewer ∷ []) = if begins_run proposer && begins_run reviewer then Some (binds condition proposer reviewer) else None
+pair_form condition _ = None
 
 -- a capacity may be written in hospitals alone
 unfoldable pub reviewer_form : Kind → List (List ℕ) → Option Form
@@ -61,8 +62,8 @@ unfoldable pub two_sided_form : Kind → List ℕ → List (List ℕ) → Option
 two_sided_form kind word rest =
     if bytes_eq word (codes "r") then reviewer_form kind rest else
     (if bytes_eq word (codes "weight") then weight_form rest else
-    (if bytes_eq word (codes "force") then pair_form forces rest else
-    (if bytes_eq word (codes "forbid") then pair_form forbids rest else None)))
+    (if bytes_eq word (codes "force") then pair_form Force rest else
+    (if bytes_eq word (codes "forbid") then pair_form Forbid rest else None)))
 
 -- the form of a line that begins with a word, in an instance of a kind
 unfoldable pub form_behind : Kind → List ℕ → List (List ℕ) → Option Form

@@ -3,6 +3,7 @@ use Rattle.std.specs.Prelude.{◌≡◌, ℕ, ◌+◌, ◌||◌, Bool, not, if�
 use Rattle.std.specs.List.{list_any, position_or_len}
 use Rattle.std.specs.Option.{option_map_or}
 use Rattle.std.specs.Str.{bytes_eq}
+use Rattle.sm_text.specs.Limits.{most_bytes}
 use Rattle.sm_text.specs.Lines.{lines, content}
 use Rattle.sm_text.specs.Tokens.{tokens}
 use Rattle.sm_text.specs.declared.refusal.RefusalKind.{RefusalKind}
@@ -120,7 +121,7 @@ before_header number place (line ∷ rest) = by_heading (heading_of (tokens (con
 
 -- what the text of an instance means: the instance, or why it is refused and at which line. Lines are counted from 1.
 unfoldable pub instance_text : List ℕ → Result ReadText Refusal
-instance_text bytes = if nat_lt 16777216 (length bytes) then Err (TooLong, 0) else before_header 1 0 (lines bytes)
+instance_text bytes = if nat_lt most_bytes (length bytes) then Err (TooLong, 0) else before_header 1 0 (lines bytes)
 
 -- what was read, as plain data
 abbrev pub read_of : Read → ReadText

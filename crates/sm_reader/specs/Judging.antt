@@ -3,6 +3,7 @@ use Rattle.std.specs.Prelude.{ℕ, ◌+◌, ◌||◌, Bool, false, not, if◌the
 use Rattle.std.specs.List.{list_all, list_any}
 use Rattle.std.specs.Option.{option_and_then, option_map_or}
 use Rattle.std.specs.Str.{bytes_eq}
+use Rattle.sm_text.specs.Limits.{most_agents, most_entries, most_capacity, most_weight}
 use Rattle.sm_text.specs.Name.{is_name}
 use Rattle.sm_text.specs.Numbers.{number_of, signed_of}
 use Rattle.sm_text.specs.declared.refusal.RefusalKind.{RefusalKind}
@@ -10,20 +11,22 @@ use Rattle.sm_text.specs.declared.refusal.RefusalKind.TheVariants.{BadByte, BadH
 use Rattle.sm_instance.specs.declared.kinds.Kind.{Kind}
 use Rattle.sm_instance.specs.declared.kinds.Side.{Side}
 use Rattle.sm_instance.specs.declared.kinds.Side.TheVariants.{Proposers, Reviewers}
-use Rattle.sm_instance.specs.Named.{SaidAgent, SaidPair, Said, names_of, agents_on, all_entries, is_given_to}
-use Rattle.sm_reader.specs.Forms.{Form, declares, weighs, forces, forbids, is_bad, form_behind, is_end, header_of}
+use Rattle.sm_instance.specs.Named.{SaidAgent, SaidPair, SaidWeight, Said, names_of, agents_on, all_entries, is_given_to}
+use Rattle.sm_reader.specs.declared.forms.Condition.{Condition}
+use Rattle.sm_reader.specs.declared.forms.Condition.TheVariants.{Force, Forbid}
+use Rattle.sm_reader.specs.Forms.{Form, declares, weighs, binds, is_bad, form_behind, is_end, header_of}
 
 -- the fault of the first row of a table whose test holds
 abbrev pub first_fault : List (Bool × RefusalKind) → Option RefusalKind
 first_fault [] = None
 first_fault (row ∷ rows) = if row.0 then Some row.1 else first_fault rows
 
--- the capacity that a run spells, which is at most 4,096, and the weight, whose size is at most 1,000,000,000
+-- the capacity that a run spells, and the weight, both within their limits
 abbrev pub capacity_in : List ℕ → Option ℕ
-capacity_in run = number_of run 4096
+capacity_in run = number_of run most_capacity
 
 abbrev pub weight_in : List ℕ → Option ℤ
-weight_in run = signed_of run 1000000000
+weight_in run = signed_of run most_weight
 
 -- a name stands twice among names
 abbrev pub has_repeated : List (List ℕ) → Bool
@@ -35,26 +38,41 @@ abbrev pub is_bad_capacity : Option (List ℕ) → Bool
 is_bad_capacity None = false
 is_bad_capacity (Some run) = is_none (capacity_in run)
 
+-- The rows of the table of faults. Of a line that declares an agent: what its own runs show, what the names above it show,
+-- and what passes a limit; of a line of a pair: what its runs show; of one that weighs a pair also what the weights above it do.
+abbrev pub run_rows : List ℕ → Option (List ℕ) → List (List ℕ) → List (Bool × RefusalKind)
+run_rows name capacity entries = (not (list_all is_name (name ∷ entries)), BadName) ∷ (is_bad_capacity capacity, BadNumber) ∷ []
+
+abbrev pub name_rows : (declared : List (List ℕ)) → List ℕ → List (List ℕ) → List (Bool × RefusalKind)
+name_rows declared name entries = (list_any (bytes_eq name) declared, Redeclared) ∷ (has_repeated entries, RepeatedEntry) ∷ []
+
+abbrev pub limit_rows : (agents entries more : ℕ) → List (Bool × RefusalKind)
+limit_rows agents entries more = (nat_le most_agents agents, TooManyAgents) ∷ (nat_lt most_entries (entries + more), TooManyEntries) ∷ []
+
+abbrev pub pair_rows : (proposer reviewer : List ℕ) → List (Bool × RefusalKind)
+pair_rows proposer reviewer = (not (list_all is_name (proposer ∷ reviewer ∷ [])), BadName) ∷ []
+
+abbrev pub weight_rows : List SaidWeight → (proposer reviewer weight : List ℕ) → List (Bool × RefusalKind)
+weight_rows weights proposer reviewer weight = pair_rows proposer reviewer
+    ++ (is_none (weight_in weight), BadNumber) ∷ (list_any (is_given_to proposer reviewer) weights, RepeatedWeight) ∷ []
+
 -- the fault of a line of a form
 unfoldable pub fault_of : Said → Form → Option RefusalKind
-fault_of said (declares side name capacity entries) = first_fault (
-    (not (list_all is_name (name ∷ entries)), BadName)
-    ∷ (is_bad_capacity capacity, BadNumber)
-    ∷ (list_any (bytes_eq name) (names_of (agents_on side said)), Redeclared)
-    ∷ (has_repeated entries, RepeatedEntry)
-    ∷ (nat_le 4096 (length (agents_on side said)), TooManyAgents)
-    ∷ (nat_lt 524288 (all_entries said + length entries), TooManyEntries) ∷ [])
-fault_of said (weighs proposer reviewer weight) = first_fault (
-    (not (list_all is_name (proposer ∷ reviewer ∷ [])), BadName)
-    ∷ (is_none (weight_in weight), BadNumber)
-    ∷ (list_any (is_given_to proposer reviewer) said.weights, RepeatedWeight) ∷ [])
-fault_of said (forces proposer reviewer) = first_fault ((not (list_all is_name (proposer ∷ reviewer ∷ [])), BadName) ∷ [])
-fault_of said (forbids proposer reviewer) = first_fault ((not (list_all is_name (proposer ∷ reviewer ∷ [])), BadName) ∷ [])
+fault_of said (declares side name capacity entries) =
+    let agents = agents_on side said in
+    first_fault (run_rows name capacity entries ++ (name_rows (names_of agents) name entries ++ limit_rows (length agents) (all_entries said) (length entries)))
+fault_of said (weighs proposer reviewer weight) = first_fault (weight_rows said.weights proposer reviewer weight)
+fault_of said (binds condition proposer reviewer) = first_fault (pair_rows proposer reviewer)
 
 -- an agent behind the others of its side
 abbrev pub with_agent : Side → SaidAgent → Said → Said
 with_agent Proposers agent said = record said { proposers = said.proposers ++ agent ∷ [] }
 with_agent Reviewers agent said = record said { reviewers = said.reviewers ++ agent ∷ [] }
+
+-- a pair behind the others of which the same is asked
+abbrev pub with_pair : Condition → SaidPair → Said → Said
+with_pair Force pair said = record said { forced = said.forced ++ pair ∷ [] }
+with_pair Forbid pair said = record said { forbidden = said.forbidden ++ pair ∷ [] }
 
 -- what is said with a faultless line of a form; a capacity is 1 where none is written
 unfoldable pub said_with : Said → ℕ → Form → Said
@@ -63,10 +81,7 @@ said_with said line (declares side name capacity entries) =
 said_with said line (weighs proposer reviewer weight) =
     let pair : SaidPair = record { proposer = proposer; reviewer = reviewer; line = line } in
     record said { weights = said.weights ++ (record { pair = pair; weight = unwrap_or (weight_in weight) (pos 0) }) ∷ [] }
-said_with said line (forces proposer reviewer) =
-    record said { forced = said.forced ++ (record { proposer = proposer; reviewer = reviewer; line = line }) ∷ [] }
-said_with said line (forbids proposer reviewer) =
-    record said { forbidden = said.forbidden ++ (record { proposer = proposer; reviewer = reviewer; line = line }) ∷ [] }
+said_with said line (binds condition proposer reviewer) = with_pair condition (record { proposer = proposer; reviewer = reviewer; line = line }) said
 
 -- a line is right, and this is said with it; or it ends the instance; or it is refused
 pub data Verdict : Type 0 where

@@ -1,5 +1,5 @@
 -- What the numbering of names takes and gives.
-use Rattle.std.specs.Prelude.{◌≡◌, ◌≢◌, ℕ, ◌≤◌, length, map, Bool, if◌then◌else◌, List, min, Option, Some, None, ℤ}
+use Rattle.std.specs.Prelude.{◌≡◌, ◌≢◌, ℕ, ◌+◌, ◌≤◌, length, map, Bool, if◌then◌else◌, List, min, Option, Some, None, ℤ}
 use Rattle.sm_instance.specs.declared.kinds.Kind.{Kind}
 use Rattle.sm_instance.specs.declared.kinds.Kind.TheVariants.{Roommates}
 use Rattle.sm_instance.specs.declared.agents.Agent.{Agent}
@@ -9,6 +9,7 @@ use Rattle.sm_reader.specs.InstanceText.{number_in, numbered, unknown_lines, lea
 use Rattle.sm_reader.specs.Kept.{table_of}
 use Rattle.sm_reader.specs.Draft.{IsDraft, said_of, agent_in, pair_in, given_in}
 use Rattle.sm_reader.specs.Right.{IsRight}
+use Rattle.sm_text.specs.Limits.{most_bytes, most_agents}
 use Rattle.sm_text.specs.declared.refusal.RefusalKind.TheVariants.{UnknownName}
 use Rattle.sm_reader.specs.declared.draft.Draft.{Draft}
 use Rattle.sm_reader.specs.declared.numbering.Numbered.{Numbered}
@@ -37,7 +38,7 @@ pub record IsReady (kind : Kind) (d : Draft) : Type 0 where
   pub line : ℕ
   pub draft : IsDraft kind line d
   pub right : IsRight kind (said_of kind d)
-  pub few : line ≤ 16777217
+  pub few : line ≤ most_bytes + 1
 
 -- a draft of two sides, before the line of some number
 pub record IsTwoSided (d : Draft) : Type 0 where
@@ -45,8 +46,8 @@ pub record IsTwoSided (d : Draft) : Type 0 where
   pub line : ℕ
   pub two_sided : kind ≢ Roommates
   pub draft : IsDraft kind line d
-  pub few_proposers : length d.proposer_names.declared.items ≤ 4096
-  pub few_reviewers : length d.reviewer_names.declared.items ≤ 4096
+  pub few_proposers : length d.proposer_names.declared.items ≤ most_agents
+  pub few_reviewers : length d.reviewer_names.declared.items ≤ most_agents
 
 -- the persons of a draft by number
 abbrev pub NumbersPersons : Draft → List Agent → Type 0

@@ -2,6 +2,7 @@
 use Rattle.std.specs.Prelude.{◌≡◌, ℕ, ◌+◌, ◌≤◌, List, length, drop, Option, Some, None, Result, Err}
 use Rattle.sm_text.specs.Lines.{lines}
 use Rattle.sm_instance.specs.declared.kinds.Kind.{Kind}
+use Rattle.sm_instance.specs.Inputs.{IsInput}
 use Rattle.sm_instance.specs.declared.inputs.Input.{Input}
 use Rattle.sm_instance.specs.Named.{nothing}
 use Rattle.sm_reader.specs.Judging.{Heading, passes, heads, faces}
@@ -33,7 +34,8 @@ abbrev pub IsHeadingFault : Heading → ℕ → TextFault → Type 0
 IsHeadingFault heading line (Refused kind at) = (heading ≡ faces kind) × (at ≡ line)
 IsHeadingFault heading line OutOfMemory = Unit {0}
 
--- all names are declared, and the input is the instance that the lines say
+-- all names are declared, and the input is the instance that the lines say, which is sound
 pub record Finishes (kind : Kind) (d : Draft) (input : Input) : Type 0 where
   pub known : least (unknown_lines kind (said_of kind d)) ≡ None
   pub said : input ≡ input_of kind (said_of kind d)
+  pub sound : IsInput input

@@ -1,17 +1,18 @@
 -- What lines without a fault say together.
 use Rattle.std.specs.Prelude.{◌≡◌, ◌≢◌, ◌≤◌, Bool, true, false, length, All, AllPairs}
 use Rattle.std.specs.Int.RustNames.{unsigned_abs}
+use Rattle.sm_text.specs.Limits.{most_agents, most_entries, most_capacity, most_weight}
 use Rattle.sm_text.specs.Name.{is_name}
 use Rattle.sm_instance.specs.Sound.{is_single}
 use Rattle.sm_instance.specs.declared.kinds.Kind.{Kind}
 use Rattle.sm_instance.specs.Named.{SaidAgent, SaidWeight, Said, names_of, all_entries, is_given_to}
 use Rattle.sm_reader.specs.Judging.{has_repeated}
 
--- an agent has a name, a capacity of at most 4,096, which is 1 where every agent of its side has a single place, and a list
+-- an agent has a name, a capacity within the limit, which is 1 where every agent of its side has a single place, and a list
 -- on which no name stands twice
 pub record IsRightAgent (single : Bool) (a : SaidAgent) : Type 0 where
   pub name : is_name a.name ≡ true
-  pub capacity : a.capacity ≤ 4096
+  pub capacity : a.capacity ≤ most_capacity
   pub one : single ≡ true → a.capacity ≡ 1
   pub differ : has_repeated a.entries ≡ false
 
@@ -22,8 +23,8 @@ pub record IsRight (kind : Kind) (said : Said) : Type 0 where
   pub reviewers : All (IsRightAgent (is_single kind)) said.reviewers
   pub proposers_differ : AllPairs ◌≢◌ (names_of said.proposers)
   pub reviewers_differ : AllPairs ◌≢◌ (names_of said.reviewers)
-  pub proposers_fit : length said.proposers ≤ 4096
-  pub reviewers_fit : length said.reviewers ≤ 4096
-  pub entries_fit : all_entries said ≤ 524288
-  pub sizes : All (λ (w : SaidWeight). unsigned_abs w.weight ≤ 1000000000) said.weights
+  pub proposers_fit : length said.proposers ≤ most_agents
+  pub reviewers_fit : length said.reviewers ≤ most_agents
+  pub entries_fit : all_entries said ≤ most_entries
+  pub sizes : All (λ (w : SaidWeight). unsigned_abs w.weight ≤ most_weight) said.weights
   pub weights_differ : AllPairs (λ (a b : SaidWeight). is_given_to b.pair.proposer b.pair.reviewer a ≡ false) said.weights

@@ -5,12 +5,19 @@ ghost use Rattle.std.specs.Option.{option_map};
 ghost use Rattle.std.specs.List.{list_all};
 ghost use Rattle.std.specs.Str.{bytes_eq};
 ghost use Rattle.sm_text.specs.Tokens.{begins_run};
-ghost use Rattle.sm_reader.specs.Forms.{list_form, capacity_form, weight_form, pair_form, reviewer_form, two_sided_form, form_behind, is_end, header_of, kind_named, forces, forbids};
+ghost use Rattle.sm_reader.specs.Forms.{list_form, capacity_form, weight_form, pair_form, reviewer_form, two_sided_form, form_behind, is_end, header_of, kind_named};
 ghost use Rattle.sm_reader.specs.Kept.{texts_of, AreNamesAtEnd};
 ghost use Rattle.sm_reader.specs.Draft.{form_of};
 
 use crate::tokens::is_run;
 use sm_instance::{Kind, Side};
+
+/// What a line asks of a pair: to be held, or not to be.
+#[derive(Clone, Copy)]
+pub(crate) enum Condition {
+    Force,
+    Forbid,
+}
 
 /// A line by its form, with the runs that stand in the positions of names and numbers.
 #[derive(Clone, Copy)]
@@ -26,11 +33,8 @@ pub(crate) enum Form<'a, 'b> {
         reviewer: &'a [u8],
         weight: &'a [u8],
     },
-    Forced {
-        proposer: &'a [u8],
-        reviewer: &'a [u8],
-    },
-    Forbidden {
+    Pair {
+        condition: Condition,
         proposer: &'a [u8],
         reviewer: &'a [u8],
     },
@@ -110,9 +114,9 @@ fn two_sided_form<'a, 'b>(
     } else if is(word, b"weight") {
         weight_form(rest)
     } else if is(word, b"force") {
-        forced_form(rest)
+        pair_form(Condition::Force, rest)
     } else if is(word, b"forbid") {
-        forbidden_form(rest)
+        pair_form(Condition::Forbid, rest)
     } else {
         None
     }
@@ -193,27 +197,14 @@ fn weight_form<'a, 'b>(rest: &'b [&'a [u8]]) -> Option<Form<'a, 'b>>
     }
 }
 
-// Two names of a pair that is forced.
+// Two names of a pair of which something is asked.
 #[tactic(auto, unfolding(crate::specs::Forms::pair_form))]
-fn forced_form<'a, 'b>(rest: &'b [&'a [u8]]) -> Option<Form<'a, 'b>>
-    ensures { option_map form_of result ≡ pair_form forces (texts_of rest.now) }
+fn pair_form<'a, 'b>(condition: Condition, rest: &'b [&'a [u8]]) -> Option<Form<'a, 'b>>
+    ensures { option_map form_of result ≡ pair_form condition (texts_of rest.now) }
 {
     match rest {
-        [proposer, reviewer] if is_run(proposer) && is_run(reviewer) => Some(Form::Forced {
-            proposer: *proposer,
-            reviewer: *reviewer,
-        }),
-        _ => None,
-    }
-}
-
-// Two names of a pair that is forbidden.
-#[tactic(auto, unfolding(crate::specs::Forms::pair_form))]
-fn forbidden_form<'a, 'b>(rest: &'b [&'a [u8]]) -> Option<Form<'a, 'b>>
-    ensures { option_map form_of result ≡ pair_form forbids (texts_of rest.now) }
-{
-    match rest {
-        [proposer, reviewer] if is_run(proposer) && is_run(reviewer) => Some(Form::Forbidden {
+        [proposer, reviewer] if is_run(proposer) && is_run(reviewer) => Some(Form::Pair {
+            condition,
             proposer: *proposer,
             reviewer: *reviewer,
         }),

@@ -5,21 +5,32 @@ ghost use Rattle.std.specs.List.{list_any, list_all};
 ghost use Rattle.std.specs.Option.{option_map};
 ghost use Rattle.std.specs.Str.{bytes_eq};
 ghost use Rattle.indexmap.specs.IndexSet.{keys};
+ghost use Rattle.sm_text.specs.Limits.{most_agents, most_entries};
 ghost use Rattle.sm_text.specs.Name.{is_name as is_a_name};
 ghost use Rattle.sm_reader.specs.Forms.{is_bad};
 ghost use Rattle.sm_reader.specs.Judging.{verdict_on, fault_of, has_repeated};
 ghost use Rattle.sm_reader.specs.Kept.{texts_of, table_of, IsTable, is_whole, AreRuns, AreNamesAtEnd};
-ghost use Rattle.sm_reader.specs.Draft.{said_of, form_of, entries_in, listed_side, table_on, declared_on, IsDraft, Adds, Judges, IsRefusedBy, IsLineFault, run_fault, name_fault, limit_fault, IsChecked, DeclaresOn, ListsOn, PutsOn, RefusesFor, PairsOf, AddsAgent, ArePairsBelow, pairs_of, key_of, weights_in, weight_fault, PutsWeight, PutsForced, PutsForbidden};
+ghost use Rattle.sm_reader.specs.Draft.{said_of, form_of, entries_in, listed_side, table_on, declared_on, IsDraft, Adds, Judges, IsRefusedBy, IsLineFault, run_fault, name_fault, limit_fault, IsChecked, DeclaresOn, ListsOn, PutsOn, RefusesFor, PairsOf, AddsAgent, ArePairsBelow, pairs_of, key_of, weights_in, weight_fault, PutsWeight, PutsPair, Binds};
 
 use crate::draft::{Declared, Draft, Pair, Weight};
 use crate::faults::TextFault;
-use crate::forms::{Form, form_behind, is_end};
+use crate::forms::{Condition, Form, form_behind, is_end};
 use crate::names::list;
 use crate::tokens::{Found, is_name_run};
-use crate::{MOST_AGENTS, MOST_CAPACITY, MOST_ENTRIES, MOST_WEIGHT};
 use sm_instance::{Kind, Side};
-use sm_text::{RefusalKind, is_name, number, signed};
-use std::alloc::Global;
+use sm_text::{
+    MOST_AGENTS, MOST_CAPACITY, MOST_ENTRIES, MOST_WEIGHT, RefusalKind, is_name, number, signed,
+};
+use std::alloc::{AllocError, Global};
+
+// An agent as its line declares it, with its capacity and the names on its list.
+#[derive(Clone, Copy)]
+struct Stated<'a, 'b> {
+    side: Side,
+    name: &'a [u8],
+    capacity: u32,
+    entries: &'b [&'a [u8]],
+}
 
 /// What comes of a line that isn't refused.
 #[derive(Clone, Copy)]
@@ -87,15 +98,24 @@ fn add<'a>(
             entries,
         } => {
             let capacity = checked_capacity(name, capacity, entries, names, line)?;
-            add_agent(alloc, kind, draft, line, side, name, capacity, entries)
+            let agent = Stated {
+                side,
+                name,
+                capacity,
+                entries,
+            };
+            add_agent(alloc, kind, draft, line, agent)
         }
         Form::Weight {
             proposer,
             reviewer,
             weight,
         } => add_weight(draft, line, proposer, reviewer, weight),
-        Form::Forced { proposer, reviewer } => add_forced(draft, line, proposer, reviewer),
-        Form::Forbidden { proposer, reviewer } => add_forbidden(draft, line, proposer, reviewer),
+        Form::Pair {
+            condition,
+            proposer,
+            reviewer,
+        } => add_condition(draft, line, condition, proposer, reviewer),
     }
 }
 
@@ -118,7 +138,7 @@ fn checked_capacity(
     let Some(run) = capacity else {
         return Ok(1);
     };
-    match number(run, MOST_CAPACITY) {
+    match number(run, u64::from(MOST_CAPACITY)) {
         Some(capacity) => Ok(capacity as u32),
         None => Err(TextFault::Refused(RefusalKind::BadNumber, line)),
     }
@@ -147,16 +167,19 @@ fn add_agent<'a>(
     kind: Kind,
     draft: &mut Draft<'a>,
     line: u32,
-    side: Side,
-    name: &'a [u8],
-    capacity: u32,
-    entries: &[&'a [u8]],
+    agent: Stated<'a, '_>,
 ) -> Result<(), TextFault>
     requires { IsDraft kind line draft.old }
-    ensures added { IfOk result (λ _. AddsAgent kind line side name.now capacity (texts_of entries.now) draft.old draft.new) }
-    ensures fault { IfErr result (λ f. IsLineFault (name_fault (table_on side draft.old).declared name.now (texts_of entries.now)
-        (length (declared_on side draft.old)) draft.old.entries) line f) }
+    ensures added { IfOk result (λ _. AddsAgent kind line agent.entry.side agent.entry.name.now agent.entry.capacity (texts_of agent.entry.entries.now) draft.old draft.new) }
+    ensures fault { IfErr result (λ f. IsLineFault (name_fault (table_on agent.entry.side draft.old).declared agent.entry.name.now (texts_of agent.entry.entries.now)
+        (length (declared_on agent.entry.side draft.old)) draft.old.entries) line f) }
 {
+    let Stated {
+        side,
+        name,
+        capacity,
+        entries,
+    } = agent;
     declare(draft, side, name, line)?;
     let entries = listed(alloc, draft, listed_side(kind, side), entries, line)?;
     let agent = Declared {
@@ -187,7 +210,7 @@ fn declare<'a>(
     line: u32,
 ) -> Result<(), TextFault>
     requires table { IsTable (table_on side draft.old) }
-    requires few { length (table_on side draft.old).declared ≤ 4096 }
+    requires few { length (table_on side draft.old).declared ≤ most_agents }
     ensures declared { IfOk result (λ _. DeclaresOn side draft.old draft.new name.now) }
     ensures refused { IfErr result (λ f. RefusesFor RefusalKind.Redeclared line (list_any (bytes_eq name.now) (table_on side draft.old).declared ≡ true) f) }
 {
@@ -227,7 +250,7 @@ fn listed<'a>(
 
 // Puts an agent behind the others of its side, within the limits.
 fn put_agent<'a>(draft: &mut Draft<'a>, side: Side, agent: Declared<'a>) -> Result<(), TextFault>
-    requires { draft.old.entries ≤ 524288 }
+    requires { draft.old.entries ≤ most_entries }
     ensures put { IfOk result (λ _. PutsOn side draft.old draft.new agent.entry) }
     ensures fault { IfErr result (λ f. IsLineFault (limit_fault (length (declared_on side draft.old)) draft.old.entries (length agent.entry.entries.items)) agent.entry.line f) }
 {
@@ -300,36 +323,31 @@ fn add_weight<'a>(
     Ok(())
 }
 
-// Adds a forced pair.
-fn add_forced<'a>(
+// Adds a pair of which something is asked.
+fn add_condition<'a>(
     draft: &mut Draft<'a>,
     line: u32,
+    condition: Condition,
     proposer: &'a [u8],
     reviewer: &'a [u8],
 ) -> Result<(), TextFault>
     requires proposers { IsTable (table_of draft.old.proposer_names) }
     requires reviewers { IsTable (table_of draft.old.reviewer_names) }
-    ensures put { IfOk result (λ _. PutsForced draft.old draft.new proposer.now reviewer.now line) }
+    ensures bound { IfOk result (λ _. Binds condition draft.old draft.new proposer.now reviewer.now line) }
     ensures refused { IfErr result (λ f. RefusesFor RefusalKind.BadName line (list_all is_a_name (proposer.now ∷ reviewer.now ∷ []) ≡ false) f) }
 {
     let pair = pair_of(draft, line, proposer, reviewer)?;
-    draft.forced.push(pair)?;
+    put_pair(draft, condition, pair)?;
     Ok(())
 }
 
-// Adds a forbidden pair.
-fn add_forbidden<'a>(
-    draft: &mut Draft<'a>,
-    line: u32,
-    proposer: &'a [u8],
-    reviewer: &'a [u8],
-) -> Result<(), TextFault>
-    requires proposers { IsTable (table_of draft.old.proposer_names) }
-    requires reviewers { IsTable (table_of draft.old.reviewer_names) }
-    ensures put { IfOk result (λ _. PutsForbidden draft.old draft.new proposer.now reviewer.now line) }
-    ensures refused { IfErr result (λ f. RefusesFor RefusalKind.BadName line (list_all is_a_name (proposer.now ∷ reviewer.now ∷ []) ≡ false) f) }
+// Puts a pair behind the others of which the same is asked.
+fn put_pair(draft: &mut Draft<'_>, condition: Condition, pair: Pair) -> Result<(), AllocError>
+    ensures { IfOk result (λ _. PutsPair condition draft.old draft.new pair) }
 {
-    let pair = pair_of(draft, line, proposer, reviewer)?;
-    draft.forbidden.push(pair)?;
+    match condition {
+        Condition::Force => draft.forced.push(pair)?,
+        Condition::Forbid => draft.forbidden.push(pair)?,
+    }
     Ok(())
 }

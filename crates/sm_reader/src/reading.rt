@@ -3,7 +3,9 @@
 ghost use Rattle.std.specs.Prelude.{◌≡◌, ◌≢◌, ◌<◌, ◌≤◌, ◌+◌, length, drop, IfOk, IfErr, Ok, None};
 ghost use Rattle.std.specs.List.{list_any};
 ghost use Rattle.sm_reader.specs.Forms.{is_bad};
+ghost use Rattle.sm_text.specs.Limits.{most_bytes};
 ghost use Rattle.sm_text.specs.Lines.{lines};
+ghost use Rattle.sm_instance.specs.Inputs.{IsInput};
 ghost use Rattle.sm_instance.specs.declared.inputs.Input.TheVariants.{Two};
 ghost use Rattle.sm_instance.specs.Named.{nothing};
 ghost use Rattle.sm_reader.specs.Judging.{heading_of};
@@ -13,7 +15,6 @@ ghost use Rattle.sm_reader.specs.Draft.{said_of};
 ghost use Rattle.sm_reader.specs.Numbering.{IsReady, IsUnknownFault};
 ghost use Rattle.sm_reader.specs.Reading.{IsHeaded, IsFaultOf, heading_is, IsHeadingFault, Finishes};
 
-use crate::MOST_BYTES;
 use crate::draft::{Draft, empty};
 use crate::faults::TextFault;
 use crate::forms::header_of;
@@ -22,7 +23,7 @@ use crate::judging::{Step, judge};
 use crate::numbering::{Numbered, first_unknown, numbered_persons, numbered_sides};
 use crate::tokens::{cut, line_from};
 use sm_instance::{Input, Instance, InstanceFault, Kind, Persons};
-use sm_text::RefusalKind;
+use sm_text::{MOST_BYTES, RefusalKind};
 use std::alloc::Global;
 
 /// An instance that was read, and what stands behind it.
@@ -41,8 +42,7 @@ pub struct Read {
 /// Reads the text of an instance, up to the line `end`.
 ///
 /// Agents get their numbers in the order of their lines. Names that stand before their declarations are found, and the
-/// text behind the line `end` isn't looked at. Each byte is read once, and each name is looked up once; it takes time and
-/// memory in proportion to the text.
+/// text behind the line `end` isn't looked at. It takes time and memory in proportion to the text.
 ///
 /// # Errors
 ///
@@ -52,6 +52,7 @@ pub struct Read {
 /// 16,777,216 bytes is refused at line 0.
 pub fn read_instance(alloc: Global, bytes: &[u8]) -> Result<Read, TextFault>
     ensures read { IfOk result (λ read. instance_text bytes.now ≡ Ok (read_of read)) }
+    ensures sound { IfOk result (λ read. IsInput read.input) }
     ensures fault { IfErr result (λ f. IsTextFault bytes.now f) }
 {
     if bytes.len() > MOST_BYTES {
@@ -63,7 +64,7 @@ pub fn read_instance(alloc: Global, bytes: &[u8]) -> Result<Read, TextFault>
 
 // The header.
 fn read_header(alloc: Global, bytes: &[u8]) -> Result<Header, TextFault>
-    requires { length bytes.now ≤ MOST_BYTES }
+    requires { length bytes.now ≤ most_bytes }
     ensures header { IfOk result (λ header. IsHeaded bytes.now header) }
     ensures fault { IfErr result (λ f. IsFaultOf (before_header 1 0 (lines bytes.now)) f) }
 {
@@ -101,8 +102,9 @@ fn heading(tokens: &[&[u8]], bad: bool, line: u32) -> Result<Option<Kind>, TextF
 
 // Reads the lines behind the header.
 fn read_lines(alloc: Global, bytes: &[u8], header: Header) -> Result<Read, TextFault>
-    requires short { length bytes.now ≤ MOST_BYTES }
+    requires short { length bytes.now ≤ most_bytes }
     requires headed { IsHeaded bytes.now header }
+    ensures sound { IfOk result (λ read. IsInput read.input) }
     ensures read { IfOk result (λ read. behind_header header.kind header.line nothing (header.line + 1) header.next (lines (drop header.next bytes.now)) ≡ Ok (read_of read)) }
     ensures fault { IfErr result (λ f. IsFaultOf (behind_header header.kind header.line nothing (header.line + 1) header.next (lines (drop header.next bytes.now))) f) }
 {
@@ -150,6 +152,7 @@ fn finished(alloc: Global, kind: Kind, draft: Draft<'_>) -> Result<Input, TextFa
 fn persons(alloc: Global, draft: Draft<'_>) -> Result<Input, TextFault>
     requires ready { IsReady Kind.Roommates draft }
     requires known { least (unknown_lines Kind.Roommates (said_of Kind.Roommates draft)) ≡ None }
+    ensures sound { IfOk result (λ input. IsInput input) }
     ensures persons { IfOk result (λ input. input ≡ input_of Kind.Roommates (said_of Kind.Roommates draft.entry)) }
     ensures memory { IfErr result (λ f. f ≡ TextFault.OutOfMemory) }
 {
@@ -165,6 +168,7 @@ fn two_sides(alloc: Global, kind: Kind, draft: Draft<'_>) -> Result<Input, TextF
     requires two_sided { kind ≢ Kind.Roommates }
     requires ready { IsReady kind draft }
     requires known { least (unknown_lines kind (said_of kind draft)) ≡ None }
+    ensures sound { IfOk result (λ input. IsInput input) }
     ensures sides { IfOk result (λ input. input ≡ Two (two_sides kind (said_of kind draft.entry))) }
     ensures memory { IfErr result (λ f. f ≡ TextFault.OutOfMemory) }
 {

@@ -7,11 +7,8 @@ ghost use Rattle.sm_text.specs.Tokens.{tokens, begins_run, IsLeading};
 ghost use Rattle.sm_reader.specs.Forms.{is_bad};
 ghost use Rattle.sm_reader.specs.Kept.{texts_of, LeadsLines, is_inner, AreNamesAtEnd};
 
-use sm_text::{LineSpan, TokenAt, is_name_byte, line_at, token_at};
+use sm_text::{LineSpan, MOST_NAME_BYTES, TokenAt, is_name_byte, line_at, token_at};
 use std::alloc::AllocError;
-
-/// The greatest number of bytes in a name.
-const LONGEST: usize = 64;
 
 /// What the tokens of a line were found to be.
 #[derive(Clone, Copy)]
@@ -111,7 +108,7 @@ pub(crate) fn is_name_run(run: &[u8]) -> bool
     ensures { result ≡ is_a_name run.now }
 {
     match run {
-        [first, ..] => !is_inner(*first) && run.len() <= LONGEST,
+        [first, ..] => !is_inner(*first) && run.len() <= MOST_NAME_BYTES,
         [] => false,
     }
 }

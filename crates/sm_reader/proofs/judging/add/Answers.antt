@@ -1,12 +1,12 @@
 use Rattle.std.proofs.Common.{sym, subst}
 use Rattle.std.specs.Option.{option_map}
 use Rattle.std.specs.Result.{IfOk, IfErr}
-use Rattle.sm_reader.specs.Forms.{declares, weighs, forces, forbids}
+use Rattle.sm_reader.specs.Forms.{declares, weighs, binds}
 use Rattle.sm_reader.specs.Judging.{fault_of}
 use Rattle.sm_reader.specs.Kept.{texts_of, AreRuns, AreNamesAtEnd}
 use Rattle.sm_reader.specs.Draft.{said_of, form_of, entries_in, Adds, IsLineFault}
 use Rattle.sm_reader.proofs.JudgeLemmas.{weight_faults}
-use Rattle.sm_reader.proofs.PairLemmas.{adds_agent, agent_refused, runs_refused, weight_added, forced_added, forbidden_added, forced_refused, forbidden_refused}
+use Rattle.sm_reader.proofs.PairLemmas.{adds_agent, agent_refused, runs_refused, weight_added, condition_added, pair_refused}
 use Rattle.sm_reader.proofs.ResultLemmas.{if_ok, if_err, on_err}
 use Rattle.sm_reader.proofs.judging.add.Goals as goal
 
@@ -60,36 +60,19 @@ returns-in-Weight-clause-fault c =
     (if_err _ (λ f. IsLineFault (fault_of said (weighs a.proposer.now a.reviewer.now a.weight.now)) c.args.line f) c.add_weight.result c.add_weight.ensures.fault
     (λ f h. subst (λ o. IsLineFault o c.args.line f) (sym (weight_faults said a.proposer.now a.reviewer.now a.weight.now)) h))
 
-pub returns-in-Forced-clause-added : goal.returns-in-Forced-clause-added
-returns-in-Forced-clause-added c =
-    let a = c.in-Forced in
+pub returns-in-Pair-clause-added : goal.returns-in-Pair-clause-added
+returns-in-Pair-clause-added c =
+    let a = c.in-Pair in
     let d = c.args.draft.now in
-    let new = c.add_forced.new.draft in
-    subst (λ form. IfOk c.add_forced.result (λ _. Adds c.args.kind c.args.line (form_of form) d new)) (sym a.is)
-    (if_ok _ (λ _. Adds c.args.kind c.args.line (forces a.proposer.now a.reviewer.now) d new) c.add_forced.result c.add_forced.ensures.put
-    (λ _ puts. forced_added c.args.kind c.args.line d new a.proposer.now a.reviewer.now c.requires.draft puts))
+    let new = c.add_condition.new.draft in
+    subst (λ form. IfOk c.add_condition.result (λ _. Adds c.args.kind c.args.line (form_of form) d new)) (sym a.is)
+    (if_ok _ (λ _. Adds c.args.kind c.args.line (binds a.condition a.proposer.now a.reviewer.now) d new) c.add_condition.result c.add_condition.ensures.bound
+    (λ _ bound. condition_added c.args.kind c.args.line d new a.condition a.proposer.now a.reviewer.now c.requires.draft bound))
 
-pub returns-in-Forced-clause-fault : goal.returns-in-Forced-clause-fault
-returns-in-Forced-clause-fault c =
-    let a = c.in-Forced in
+pub returns-in-Pair-clause-fault : goal.returns-in-Pair-clause-fault
+returns-in-Pair-clause-fault c =
+    let a = c.in-Pair in
     let said = said_of c.args.kind c.args.draft.now in
-    subst (λ form. IfErr c.add_forced.result (λ f. IsLineFault (fault_of said (form_of form)) c.args.line f)) (sym a.is)
-    (if_err _ (λ f. IsLineFault (fault_of said (forces a.proposer.now a.reviewer.now)) c.args.line f) c.add_forced.result c.add_forced.ensures.refused
-    (λ f h. forced_refused said c.args.line a.proposer.now a.reviewer.now f h))
-
-pub returns-in-Forbidden-clause-added : goal.returns-in-Forbidden-clause-added
-returns-in-Forbidden-clause-added c =
-    let a = c.in-Forbidden in
-    let d = c.args.draft.now in
-    let new = c.add_forbidden.new.draft in
-    subst (λ form. IfOk c.add_forbidden.result (λ _. Adds c.args.kind c.args.line (form_of form) d new)) (sym a.is)
-    (if_ok _ (λ _. Adds c.args.kind c.args.line (forbids a.proposer.now a.reviewer.now) d new) c.add_forbidden.result c.add_forbidden.ensures.put
-    (λ _ puts. forbidden_added c.args.kind c.args.line d new a.proposer.now a.reviewer.now c.requires.draft puts))
-
-pub returns-in-Forbidden-clause-fault : goal.returns-in-Forbidden-clause-fault
-returns-in-Forbidden-clause-fault c =
-    let a = c.in-Forbidden in
-    let said = said_of c.args.kind c.args.draft.now in
-    subst (λ form. IfErr c.add_forbidden.result (λ f. IsLineFault (fault_of said (form_of form)) c.args.line f)) (sym a.is)
-    (if_err _ (λ f. IsLineFault (fault_of said (forbids a.proposer.now a.reviewer.now)) c.args.line f) c.add_forbidden.result c.add_forbidden.ensures.refused
-    (λ f h. forbidden_refused said c.args.line a.proposer.now a.reviewer.now f h))
+    subst (λ form. IfErr c.add_condition.result (λ f. IsLineFault (fault_of said (form_of form)) c.args.line f)) (sym a.is)
+    (if_err _ (λ f. IsLineFault (fault_of said (binds a.condition a.proposer.now a.reviewer.now)) c.args.line f) c.add_condition.result c.add_condition.ensures.refused
+    (λ f h. pair_refused said c.args.line a.condition a.proposer.now a.reviewer.now f h))

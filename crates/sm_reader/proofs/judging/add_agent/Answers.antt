@@ -11,8 +11,8 @@ returns-clause-added c =
     let d1 = c.declare.new.draft in
     let d2 = c.listed.new.draft in
     let d3 = c.put_agent.new.draft in
-    let entries = texts_of c.args.entries.now in
+    let entries = texts_of c.args.agent.entries.now in
     let ids = c.in_ok-entries.entries in
     let lists = subst (λ side. ListsOn side d1 d2 entries c.args.line ids.items) c.listed_side.ensures c.in_ok-entries.ensures.listed in
-    if_ok _ (λ _. AddsAgent c.args.kind c.args.line c.args.side c.args.name.now c.args.capacity entries d d3) c.put_agent.result c.put_agent.ensures.put
-    (λ _ puts. agent_added c.args.line c.args.capacity c.args.name entries ids d d1 d2 d3 c.args.kind c.args.side c.requires c.in_ok-declare.ensures.declared lists puts)
+    if_ok _ (λ _. AddsAgent c.args.kind c.args.line c.args.agent.side c.args.agent.name.now c.args.agent.capacity entries d d3) c.put_agent.result c.put_agent.ensures.put
+    (λ _ puts. agent_added c.args.line c.args.agent.capacity c.args.agent.name entries ids d d1 d2 d3 c.args.kind c.args.agent.side c.requires c.in_ok-declare.ensures.declared lists puts)

@@ -14,6 +14,9 @@ pub returns-in-Ok-clause-persons : goal.returns-in-Ok-clause-persons
 returns-in-Ok-clause-persons c =
     ap (λ x. Room x) (c.in-Ok.ensures.persons ∙ persons_said c.requires.ready.line c.args.draft c.requires.ready.draft c.in_ok-persons.persons.items c.in_ok-persons.ensures)
 
+pub returns-in-Ok-clause-sound : goal.returns-in-Ok-clause-sound
+returns-in-Ok-clause-sound c = subst ArePersons (sym c.in-Ok.ensures.persons) c.in-Ok.ensures.sound
+
 pub want_of_memory-requires : goal.want_of_memory-requires
 want_of_memory-requires c =
     let said = said_of Roommates c.args.draft in

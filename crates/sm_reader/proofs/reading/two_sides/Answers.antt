@@ -19,6 +19,9 @@ returns-in-Ok-clause-sides c =
     let ready = c.requires.ready in
     ap (λ x. Two x) (c.in-Ok.ensures.written ∙ sides_said c.args.kind ready.line c.args.draft ready.draft c.requires.two_sided _ c.in_ok-proposers.ensures)
 
+pub returns-in-Ok-clause-sound : goal.returns-in-Ok-clause-sound
+returns-in-Ok-clause-sound c = subst IsInstance (sym c.in-Ok.ensures.written) c.in-Ok.ensures.instance
+
 pub want_of_memory-requires : goal.want_of_memory-requires
 want_of_memory-requires c =
     let ready = c.requires.ready in

@@ -1,6 +1,6 @@
 use Rattle.std.proofs.Common.{arith}
 use Rattle.std.proofs.lemmas.Grind.{common_steps}
-use Rattle.sm_text.proofs.LineLemmas.{line_places, line_text, lines_at}
+use Rattle.sm_text.proofs.LineLemmas.{line_places, line_text}
 use Rattle.sm_reader.proofs.tokens.line_from.Goals as goal
 
 pub slice_bounds-result-end : goal.slice_bounds-result-end
@@ -12,7 +12,7 @@ pub returns-clause-line : goal.returns-clause-line
 returns-clause-line c =
     let span = c.in_ok-start.field-0 in
     record {
-      leads = lines_at c.args.bytes.now c.args.from span c.in_ok-start.ensures;
+      leads = c.in_ok-start.ensures.leads;
       holds = line_text c.args.bytes.now c.args.from span c.in_ok-start.ensures;
       long = c.in_ok-start.ensures.next;
     }
