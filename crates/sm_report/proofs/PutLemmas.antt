@@ -1,14 +1,13 @@
 -- Texts that are put one behind the other.
-use Rattle.std.proofs.Common.{◌≡◌, ℕ, zero, suc, ◌+◌, ◌-◌, ◌<◌, ◌≤◌, ◌==◌, false, List, [], ◌∷◌, ◌++◌, length, map, take, drop, get_or}
+use Rattle.std.proofs.Common.{◌≡◌, ℕ, zero, suc, ◌+◌, ◌-◌, ◌<◌, ◌≤◌, List, [], ◌∷◌, ◌++◌, length, map, take, drop, get_or}
 use Rattle.std.proofs.Common.{Result, Ok, Err, IsErr, refl, sym, ap, ◌∙◌, subst, append_assoc, append-nil, arith, length-append, decimal}
 use Rattle.std.specs.List.{flat_map, join_with_byte}
 use Rattle.std.proofs.lemmas.List.{take_more, take_all}
 use Rattle.std.proofs.lemmas.List.Concat.{flat_map-append}
 use Rattle.sm_text.specs.Writer.{Written, Puts}
 use Rattle.sm_instance.specs.declared.inputs.Input.{Input}
-use Rattle.sm_report.specs.declared.lines.Seat.{Seat}
 use Rattle.sm_report.specs.declared.fields.Field.{Field}
-use Rattle.sm_report.specs.Texts.{left_name, seat_text, listed, turns, vector_text}
+use Rattle.sm_report.specs.Texts.{vector_text}
 use Rattle.sm_report.specs.Fields.{IsShown, AreShown, spaced}
 use Rattle.sm_report.specs.Putting.{PutsText}
 
@@ -112,21 +111,6 @@ joined_then x xs ys =
 pub spaced-map : {X : Type 0} (f : X → List ℕ) (xs : List X) → spaced (map f xs) ≡ flat_map (λ x. 32 ∷ f x) xs
 spaced-map f [] = refl
 spaced-map f (x ∷ xs) = ap (λ t. (32 ∷ f x) ++ t) (spaced-map f xs)
-
-pub spaced-flat_map : {X : Type 0} (g : X → List (List ℕ)) (xs : List X) → spaced (flat_map g xs) ≡ flat_map (λ x. spaced (g x)) xs
-spaced-flat_map g [] = refl
-spaced-flat_map g (x ∷ xs) = spaced-append (g x) (flat_map g xs) ∙ ap (λ t. spaced (g x) ++ t) (spaced-flat_map g xs)
-
--- a list that isn't empty
-pub spaced-listed : {X : Type 0} (f : X → List ℕ) (xs : List X) → false ≡ (length xs == 0) → flat_map (λ x. 32 ∷ f x) xs ≡ spaced (listed (map f xs))
-spaced-listed f [] some = cc
-spaced-listed f (x ∷ xs) some = sym (spaced-map f (x ∷ xs))
-
-pub spaced-turns : (input : Input) (pairs : List (ℕ × Seat)) → false ≡ (length pairs == 0)
-    → flat_map (λ (pair : ℕ × Seat). spaced (left_name input pair.0 ∷ seat_text input pair.1 ∷ [])) pairs ≡ spaced (turns input pairs)
-spaced-turns input [] some = cc
-spaced-turns input (pair ∷ pairs) some =
-    sym (spaced-flat_map (λ (pair : ℕ × Seat). left_name input pair.0 ∷ seat_text input pair.1 ∷ []) (pair ∷ pairs))
 
 -- numbers with commas between them are the first and the others behind commas
 joined_by_commas : (x : List ℕ) (ns : List ℕ) → x ++ flat_map (λ n. 44 ∷ decimal n) ns ≡ join_with_byte 44 (x ∷ map decimal ns)

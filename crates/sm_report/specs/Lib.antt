@@ -6,3 +6,4 @@ pub mod Sound
 pub mod Putting
 pub mod Fields
 pub mod Witnesses
+pub mod Items

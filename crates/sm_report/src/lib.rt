@@ -7,8 +7,8 @@
 
 mod fields;
 mod heads;
+mod items;
 mod lines;
-mod lists;
 mod printing;
 mod reasons;
 pub mod witnesses;

@@ -8,12 +8,13 @@ ghost use Rattle.sm_report.specs.Lines.{line_of};
 ghost use Rattle.sm_report.specs.Texts.{fields_of_head, text_of_line};
 ghost use Rattle.sm_report.specs.Sound.{IsPrintable};
 ghost use Rattle.sm_report.specs.Fields.{text_of_field, AreShown};
+ghost use Rattle.sm_report.specs.Items.{fields_of_items, AreNamed};
 ghost use Rattle.sm_report.specs.Putting.{PutsText};
 
 use crate::fields::{Field, put_fields};
 use crate::heads::Head;
+use crate::items::{Items, put_items};
 use crate::lines::Line;
-use crate::lists::{put_figures, put_lefts, put_numbers, put_seats, put_turns};
 use crate::reasons::reason_name;
 use sm_instance::{Input, Measure, Side};
 use sm_text::LineWriter;
@@ -53,6 +54,23 @@ fn put_words(
     put_fields(into, input, fields)
 }
 
+/// Puts a word, fields and a list, with a space between each two of them.
+fn put_list(
+    into: &mut LineWriter,
+    input: &Input,
+    word: &[u8],
+    fields: &[Field<'_>],
+    items: Items<'_>,
+) -> Result<(), AllocError>
+    requires shown { AreShown input.now fields.now }
+    requires named { AreNamed input.now items }
+    ensures { PutsText into.old into.new (join_with_byte 32 (word.now
+        ∷ (map (text_of_field input.now) fields.now ++ fields_of_items input.now items.entry))) result }
+{
+    put_words(into, input, word, fields)?;
+    put_items(into, input, items)
+}
+
 /// Puts a line's text behind what a writer holds, without LF. The rest is as [`put_line`] says.
 ///
 /// # Errors
@@ -66,10 +84,7 @@ pub fn put_text(into: &mut LineWriter, input: &Input, line: &Line) -> Result<(),
         Line::Answer(head) => put_head(into, input, head),
         Line::Pair(p, r) => put_words(into, input, b"pair", &[Field::Left(*p), Field::Right(*r)]),
         Line::Nothing => put_words(into, input, b"none", &[]),
-        Line::Party(persons) => {
-            put_words(into, input, b"party", &[])?;
-            put_lefts(into, input, persons)
-        }
+        Line::Party(persons) => put_list(into, input, b"party", &[], Items::Lefts(persons)),
         Line::First(p, seat) => put_words(
             into,
             input,
@@ -82,22 +97,34 @@ pub fn put_text(into: &mut LineWriter, input: &Input, line: &Line) -> Result<(),
             b"last",
             &[Field::Left(*p), Field::At(*seat)],
         ),
-        Line::ProposerList(p, seats) => {
-            put_words(into, input, b"proposer", &[Field::Left(*p)])?;
-            put_seats(into, input, seats)
-        }
-        Line::ReviewerList(seat, proposers) => {
-            put_words(into, input, b"reviewer", &[Field::At(*seat)])?;
-            put_lefts(into, input, proposers)
-        }
-        Line::Rotation(i, pairs) => {
-            put_words(into, input, b"rotation", &[Field::Number(u64::from(*i))])?;
-            put_turns(into, input, pairs)
-        }
-        Line::Needs(i, needed) => {
-            put_words(into, input, b"needs", &[Field::Number(u64::from(*i))])?;
-            put_numbers(into, input, needed)
-        }
+        Line::ProposerList(p, seats) => put_list(
+            into,
+            input,
+            b"proposer",
+            &[Field::Left(*p)],
+            Items::Seats(seats),
+        ),
+        Line::ReviewerList(seat, proposers) => put_list(
+            into,
+            input,
+            b"reviewer",
+            &[Field::At(*seat)],
+            Items::Lefts(proposers),
+        ),
+        Line::Rotation(i, pairs) => put_list(
+            into,
+            input,
+            b"rotation",
+            &[Field::Number(u64::from(*i))],
+            Items::Turns(pairs),
+        ),
+        Line::Needs(i, needed) => put_list(
+            into,
+            input,
+            b"needs",
+            &[Field::Number(u64::from(*i))],
+            Items::Numbers(needed),
+        ),
         Line::Gain(i, gain) => put_words(
             into,
             input,
@@ -114,10 +141,7 @@ pub fn put_text(into: &mut LineWriter, input: &Input, line: &Line) -> Result<(),
                 Field::Number(*amount),
             ],
         ),
-        Line::Taken(taken) => {
-            put_words(into, input, b"taken", &[])?;
-            put_numbers(into, input, taken)
-        }
+        Line::Taken(taken) => put_list(into, input, b"taken", &[], Items::Numbers(taken)),
         Line::Value(value) => put_words(into, input, b"value", &[Field::Number(*value)]),
         Line::Cut(value) => put_words(into, input, b"cut", &[Field::Number(*value)]),
         Line::Total(weight) => put_words(into, input, b"total", &[Field::Signed(*weight)]),
@@ -154,10 +178,13 @@ pub fn put_text(into: &mut LineWriter, input: &Input, line: &Line) -> Result<(),
             b"listed",
             &[Field::Number(u64::from(*count))],
         ),
-        Line::TallyLine(tag, figures) => {
-            put_words(into, input, b"tally", &[Field::Number(u64::from(*tag))])?;
-            put_figures(into, input, figures)
-        }
+        Line::TallyLine(tag, figures) => put_list(
+            into,
+            input,
+            b"tally",
+            &[Field::Number(u64::from(*tag))],
+            Items::Figures(figures),
+        ),
         Line::Yes => put_words(into, input, b"yes", &[]),
         Line::No(at, reason) => put_words(
             into,
