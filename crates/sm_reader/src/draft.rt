@@ -7,6 +7,7 @@ ghost use Rattle.sm_instance.specs.declared.kinds.Kind.{Kind};
 
 use crate::names::Names;
 use indexmap::IndexSet;
+use sm_text::TextHash;
 use std::alloc::Global;
 
 /// An agent as its line declares it, with the indexes of the names on its list.
@@ -44,24 +45,24 @@ pub(crate) struct Draft<'a> {
     pub(crate) entries: usize,
     pub(crate) weights: Vec<Weight>,
     /// The pairs that have a weight.
-    pub(crate) weighed: IndexSet<(u32, u32)>,
+    pub(crate) weighed: IndexSet<(u32, u32), TextHash>,
     pub(crate) forced: Vec<Pair>,
     pub(crate) forbidden: Vec<Pair>,
 }
 
-/// Nothing is said yet.
-pub(crate) fn empty<'a>(alloc: Global) -> Draft<'a>
+/// Nothing is said yet. Names and pairs will be found by these hashes.
+pub(crate) fn empty<'a>(alloc: Global, hash: TextHash) -> Draft<'a>
     ensures said { (kind : Kind) → said_of kind result ≡ nothing }
     ensures draft { (kind : Kind) (line : ℕ) → 1 < line → IsDraft kind line result }
 {
     Draft {
-        proposer_names: Names::new(alloc),
-        reviewer_names: Names::new(alloc),
+        proposer_names: Names::new(alloc, hash),
+        reviewer_names: Names::new(alloc, hash),
         proposers: Vec::new(alloc),
         reviewers: Vec::new(alloc),
         entries: 0,
         weights: Vec::new(alloc),
-        weighed: IndexSet::new(alloc),
+        weighed: IndexSet::with_hasher(alloc, hash),
         forced: Vec::new(alloc),
         forbidden: Vec::new(alloc),
     }

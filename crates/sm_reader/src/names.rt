@@ -9,6 +9,7 @@ ghost use Rattle.sm_reader.specs.Kept.{texts_of, text_at, table_of, no_names, Is
 use crate::keys::Key;
 use crate::recent::Recent;
 use indexmap::IndexSet;
+use sm_text::TextHash;
 use std::alloc::{AllocError, Global};
 
 /// The names of one side that stand in a text so far, declared or not, each by the index that it got where it stood
@@ -16,7 +17,7 @@ use std::alloc::{AllocError, Global};
 #[derive(Drop)]
 pub(crate) struct Names<'a> {
     /// The names, by index.
-    pub(crate) texts: IndexSet<Key<'a>>,
+    pub(crate) texts: IndexSet<Key<'a>, TextHash>,
     /// The indexes that names are guessed to have.
     pub(crate) recent: Recent,
     /// The number of the agent of each name, `None` while it isn't declared.
@@ -28,12 +29,12 @@ pub(crate) struct Names<'a> {
 }
 
 impl<'a> Names<'a> {
-    /// No names.
-    pub(crate) fn new(alloc: Global) -> Names<'a>
+    /// No names, which will be found by these hashes.
+    pub(crate) fn new(alloc: Global, hash: TextHash) -> Names<'a>
         ensures { table_of result ≡ no_names }
     {
         Names {
-            texts: IndexSet::new(alloc),
+            texts: IndexSet::with_hasher(alloc, hash),
             recent: Recent::new(alloc),
             numbers: Vec::new(alloc),
             stamps: Vec::new(alloc),

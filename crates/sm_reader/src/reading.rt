@@ -23,7 +23,7 @@ use crate::judging::{Step, judge};
 use crate::numbering::{Numbered, first_unknown, numbered_persons, numbered_sides};
 use crate::tokens::{cut, line_from};
 use sm_instance::{Input, Instance, InstanceFault, Kind, Persons};
-use sm_text::{MOST_BYTES, RefusalKind};
+use sm_text::{MOST_BYTES, RefusalKind, TextHash};
 use std::alloc::Global;
 
 /// An instance that was read, and what stands behind it.
@@ -108,7 +108,7 @@ fn read_lines(alloc: Global, bytes: &[u8], header: Header) -> Result<Read, TextF
     ensures read { IfOk result (λ read. behind_header header.kind header.line nothing (header.line + 1) header.next (lines (drop header.next bytes.now)) ≡ Ok (read_of read)) }
     ensures fault { IfErr result (λ f. IsFaultOf (behind_header header.kind header.line nothing (header.line + 1) header.next (lines (drop header.next bytes.now))) f) }
 {
-    let mut draft = empty(alloc);
+    let mut draft = empty(alloc, TextHash::of(bytes));
     let mut tokens = Vec::new(alloc);
     let mut at = header.next;
     let mut line = header.line + 1;
