@@ -6,8 +6,9 @@ use Rattle.sm_market.specs.Lists.{Lists, row, entry, place_of, IsMarket}
 use Rattle.sm_market.specs.Matching.{Places, held, standing, IsMatching}
 use Rattle.sm_market.specs.Stable.{IsProposersBest}
 use Rattle.sm_market.specs.PairingFaults.{IsTaken}
-use Rattle.sm_market.proofs.PlaceLemmas.{place_of-le, entry-place_of, place_of-entry}
-use Rattle.sm_market.proofs.ListLemmas.{row_in_range}
+use Rattle.sm_lists.proofs.PlaceLemmas.{place_of-le, entry-place_of}
+use Rattle.sm_market.proofs.PlaceLemmas.{place_of-entry}
+use Rattle.sm_lists.proofs.RowLemmas.{row_in_range}
 use Rattle.sm_accept.proofs.BestLemmas.{worst_of_reviewers}
 use Rattle.sm_accept.specs.Accepting.{IsHolding, holds, IsProgress, IsEnd, AreEnds, AreBestPlaces}
 
@@ -108,9 +109,11 @@ module _ {l : Lists} {next standings : List ℕ} {places : List (Option ℕ)} {b
   pub best_places_at : AreBestPlaces l places
   best_places_at =
       record {
-        one_each = ends.one_each;
-        on_lists = λ p h. let at = ends_at p h.at h.holds in let past = h.past in omega (arith, at.1);
-        untaken = untaken_at;
+        held = record {
+          one_each = ends.one_each;
+          on_lists = λ p h. let at = ends_at p h.at h.holds in let past = h.past in omega (arith, at.1);
+          untaken = untaken_at;
+        };
         best = best_at;
         worst = λ m f same. worst_of_reviewers market (best_at m f same);
       }

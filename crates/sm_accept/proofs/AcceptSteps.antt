@@ -8,8 +8,10 @@ use Rattle.sm_market.specs.Lists.{Lists, row, entry, place_of, IsMarket}
 use Rattle.sm_market.specs.Limits.{IsWithinLimits}
 use Rattle.sm_market.specs.Matching.{Places, held, standing, IsMatching}
 use Rattle.sm_market.specs.Stable.{IsStable}
-use Rattle.sm_market.proofs.PlaceLemmas.{place_of-le, entry-place_of, place_of-entry}
-use Rattle.sm_market.proofs.ListLemmas.{row_fits, set_cases}
+use Rattle.sm_lists.proofs.PlaceLemmas.{place_of-le, entry-place_of}
+use Rattle.sm_market.proofs.PlaceLemmas.{place_of-entry}
+use Rattle.sm_lists.proofs.RowLemmas.{row_fits}
+use Rattle.sm_lists.proofs.ItemLemmas.{set_cases}
 use Rattle.sm_market.proofs.SeatLemmas.{same_place}
 use Rattle.sm_accept.specs.Accepting.{IsHolding, holds, AreFree, IsProgress, Takes, IsTakenIn, IsTakenFor, IsRefused}
 

@@ -3,21 +3,10 @@ use Rattle.std.proofs.Common.{◌≡◌, ℕ, arith, sym}
 use Rattle.sm_market.specs.Lists.{Lists, IsMarket, reversed_lists}
 use Rattle.sm_market.specs.Matching.{Places, reversed, IsMatching}
 use Rattle.sm_market.specs.Stable.{IsProposersBest, IsReviewersBest}
-use Rattle.sm_market.specs.PairingFaults.{IsPastList, IsTaken}
 use Rattle.sm_market.proofs.Bridge.{IsMarket-reversed, IsMatching-reversed, IsStable-reversed, stable_equal}
 use Rattle.sm_market.proofs.LawsProved.{proposers_best_is_worst}
-use Rattle.sm_market.proofs.PairingLemmas.{one_partner, reviewers_same}
+use Rattle.sm_market.proofs.PairingLemmas.{reviewers_same}
 use Rattle.sm_accept.specs.Bests.{IsWorstOfReviewers, IsBestOfReviewers}
-
--- the proposers of a matching hold places on their lists
-pub held_on_list : {l : Lists} {m : Places} → IsMatching l m → (p : ℕ) → ¬ IsPastList l m.proposers p
-held_on_list f p x = let on = f.proposers.on_list p x.at x.holds in let past = x.past in omega arith
-
--- and no two of them one reviewer
-pub held_untaken : {l : Lists} {m : Places} → IsMatching l m → (p : ℕ) → ¬ IsTaken l m.proposers p
-held_untaken f p x =
-    let one = one_partner f.proposers f.reviewers x.earlier p x.there x.at x.earlier_holds x.holds x.same in
-    let before = x.before in omega arith
 
 pub worst_of_reviewers : {l : Lists} {m : Places} → IsMarket l → IsProposersBest l m → IsWorstOfReviewers l m
 worst_of_reviewers {l} {m} h x = record { worst = λ n s r. proposers_best_is_worst l m n h x s r }

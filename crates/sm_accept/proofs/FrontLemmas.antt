@@ -1,18 +1,13 @@
 -- Cutting the reviewers' lists behind their partners, one after another.
 use Rattle.std.proofs.Common.{◌≡◌, ◌≢◌, ℕ, ◌+◌, ◌<◌, ◌≤◌, inl, inr, arith, sym, ap, ◌∙◌, List, [], length, Option, Some, None, slice_index, min}
 use Rattle.std.proofs.lemmas.List.{get_or-set_same, get_or-set_other, get_or-map, get_or_past, length-map}
+use Rattle.std.proofs.lemmas.Option.{same_Some, none-some}
 use Rattle.sm_market.specs.Lists.{Lists, row}
 use Rattle.sm_market.specs.Matching.{Places, held, IsMatching}
-use Rattle.sm_market.proofs.Counting.{lt_or_le, eq_or_ne}
-use Rattle.sm_market.proofs.ListLemmas.{row_in_range}
+use Rattle.sm_lists.proofs.Counting.{lt_or_le, eq_or_ne}
+use Rattle.sm_lists.proofs.RowLemmas.{row_in_range}
 use Rattle.sm_market.proofs.Bridge.{held_cases}
 use Rattle.sm_accept.specs.Linking.{IsFront, IsFrontBut, all_ends, cut_ends}
-
-some_same : {x y : ℕ} → Some x ≡ Some y → x ≡ y
-some_same e = cc
-
-none_some : {x : ℕ} → ◌≡◌ {A = Option ℕ} None (Some x) → ⊥
-none_some e = grind arith
 
 all_ends_at : (l : Lists) (r : ℕ) → slice_index (all_ends l) r ≡ length (row l.reviewers r)
 all_ends_at l r = elim (lt_or_le r (length l.reviewers)) [
@@ -33,15 +28,15 @@ module _ {l : Lists} {m : Places} {ends : List ℕ} {left : ℕ → Type 0} (x :
   pub front_cut : (left' : ℕ → Type 0) (r k : ℕ) → r < length ends → held m.reviewers r ≡ Some k → ((s : ℕ) → s ≢ r → (left' s → ⊥) → left s → ⊥) → IsFrontBut l m (cut_ends ends r k) left'
   front_cut left' r k inside e fewer = record {
     above = λ s j g. elim (eq_or_ne s r) [
-      | inl is ↦ let same : k ≡ j = some_same (sym e ∙ ap (held m.reviewers) (sym is) ∙ g) in rw is (omega (arith, here))
+      | inl is ↦ let same : k ≡ j = same_Some _ _ (sym e ∙ ap (held m.reviewers) (sym is) ∙ g) in rw is (omega (arith, here))
       | inr ne ↦ rw (there s ne) (x.above s j g)
     ];
     tight = λ s j g out. elim (eq_or_ne s r) [
-      | inl is ↦ let same : k ≡ j = some_same (sym e ∙ ap (held m.reviewers) (sym is) ∙ g) in rw is (omega (arith, here))
+      | inl is ↦ let same : k ≡ j = same_Some _ _ (sym e ∙ ap (held m.reviewers) (sym is) ∙ g) in rw is (omega (arith, here))
       | inr ne ↦ there s ne ∙ x.tight s j g (fewer s ne out)
     ];
     unmatched = λ s g. elim (eq_or_ne s r) [
-      | inl is ↦ absurd (none_some (sym g ∙ ap (held m.reviewers) is ∙ e))
+      | inl is ↦ absurd (none-some _ (sym g ∙ ap (held m.reviewers) is ∙ e))
       | inr ne ↦ there s ne ∙ x.unmatched s g
     ];
   }
@@ -57,7 +52,7 @@ module _ {l : Lists} {m : Places} {ends : List ℕ} {left : ℕ → Type 0} (x :
   front_skip left' r e fewer = record {
     above = x.above;
     tight = λ s j g out. elim (eq_or_ne s r) [
-      | inl is ↦ absurd (none_some (sym e ∙ ap (held m.reviewers) (sym is) ∙ g))
+      | inl is ↦ absurd (none-some _ (sym e ∙ ap (held m.reviewers) (sym is) ∙ g))
       | inr ne ↦ x.tight s j g (fewer s ne out)
     ];
     unmatched = x.unmatched;

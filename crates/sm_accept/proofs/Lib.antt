@@ -1,4 +1,3 @@
-pub mod ResultLemmas
 pub mod BestLemmas
 pub mod AcceptSteps
 pub mod AcceptEnds

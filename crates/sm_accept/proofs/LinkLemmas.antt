@@ -1,7 +1,7 @@
 -- Linked numbers: where they stand, which follow which, and what taking one out leaves.
 use Rattle.std.proofs.Common.{◌≡◌, ◌≢◌, ℕ, zero, suc, ◌+◌, ◌-◌, ◌<◌, ◌≤◌, ◌⊎◌, inl, inr, arith, refl, ap, List, Option, Some, None, MatchOption, length, get_or}
 use Rattle.sm_market.specs.Lists.{Lists, row}
-use Rattle.sm_market.proofs.Counting.{eq_or_ne, less_same_more}
+use Rattle.sm_lists.proofs.Counting.{eq_or_ne, less_same_more}
 use Rattle.sm_accept.specs.Linking.{IsHeld, IsFirstHeld, IsHeldBehind, IsIn, Follows, AreStarts}
 
 module _ {l : Lists} {starts : List ℕ} (s : AreStarts l starts) where

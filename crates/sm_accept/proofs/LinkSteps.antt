@@ -2,8 +2,9 @@
 use Rattle.std.proofs.Common.{◌≡◌, ◌≢◌, ℕ, ◌+◌, ◌-◌, ◌<◌, ◌≤◌, ◌⊎◌, inl, inr, arith, sym, ap, ◌∙◌, List, [], length, set, get_or}
 use Rattle.std.proofs.lemmas.List.{get_or_past, get_or-map, get_or-set_same, get_or-set_other, length-set, length-map}
 use Rattle.sm_market.specs.Lists.{Lists, row, entry, place_of, IsMarket}
-use Rattle.sm_market.proofs.Counting.{lt_or_le, eq_or_ne}
-use Rattle.sm_market.proofs.PlaceLemmas.{entry-place_of, place_of-entry}
+use Rattle.sm_lists.proofs.Counting.{lt_or_le, eq_or_ne}
+use Rattle.sm_lists.proofs.PlaceLemmas.{entry-place_of}
+use Rattle.sm_market.proofs.PlaceLemmas.{place_of-entry}
 use Rattle.sm_accept.specs.Linking.{Linking, IsHeld, IsIn, Follows, AreStarts, AreAllLinked, IsLinkedOf, link_at, all_ends}
 use Rattle.sm_accept.proofs.LinkLemmas.{apart, link_in_range, in_le, held_in, follows_once, followed_once, IsTakenOut, follows_join, follows_still}
 

@@ -5,15 +5,16 @@ use Rattle.std.proofs.lemmas.Bool.{le-leb, lt-leb, and_right}
 use Rattle.std.proofs.lemmas.List.{append-nil, ext_get_or, get_or-replicate, get_or-set_same, get_or-set_other, length-replicate, length-set}
 use Rattle.std.proofs.lemmas.List.Elements.{filter_more}
 use Rattle.std.proofs.lemmas.List.FromFn.{get_or-map-range_with_len, length-map-range_with_len}
+use Rattle.std.proofs.lemmas.Option.{none-some}
 use Rattle.sm_market.specs.Lists.{Lists, row, entry, place_of, IsMarket}
 use Rattle.sm_market.specs.Matching.{Places, held}
 use Rattle.sm_market.specs.Stable.{IsStable, IsProposersBest, IsReviewersBest}
 use Rattle.sm_market.specs.Reduced.{is_no_worse, reduced_row, reduced_lists_of}
 use Rattle.sm_market.proofs.Bridge.{held_cases, HoldsNone, HoldsPlace, standing-some}
-use Rattle.sm_market.proofs.Counting.{lt_or_le, eq_or_ne}
+use Rattle.sm_lists.proofs.Counting.{lt_or_le, eq_or_ne}
 use Rattle.sm_market.proofs.LawsProved.{same_agents, proposers_best_is_worst}
 use Rattle.sm_market.proofs.PlaceLemmas.{place_of-entry}
-use Rattle.sm_market.proofs.ListLemmas.{row_in_range}
+use Rattle.sm_lists.proofs.RowLemmas.{row_in_range}
 use Rattle.sm_accept.specs.Linking.{IsHeld, IsFirstHeld, IsHeldBehind, IsFront}
 use Rattle.sm_accept.specs.Reducing.{KeepsStablePairs}
 
@@ -162,21 +163,18 @@ filter-contains test (y ∷ xs) (suc k) x less at passes =
 no_worse_at : (rows : List (List ℕ)) (places : List (Option ℕ)) (a b w : ℕ) → held places a ≡ Some w → place_of rows a b ≤ w → is_no_worse rows places a b ≡ true
 no_worse_at rows places a b w is le = rw is (le-leb _ _ le)
 
-none_some : {x : ℕ} → ◌≡◌ {A = Option ℕ} None (Some x) → ⊥
-none_some e = grind arith
-
 module _ {l : Lists} {first last n : Places} (h : IsMarket l) (f : IsProposersBest l first) (g : IsReviewersBest l last) (s : IsStable l n) where
   -- a proposer's partner in a stable matching is no worse than its partner in the reviewers' best
   proposer_keeps : (p i b : ℕ) → held n.proposers p ≡ Some i → place_of l.proposers p b ≡ i → is_no_worse l.proposers last.proposers p b ≡ true
   proposer_keeps p i b e at = elim (held_cases l.proposers last.proposers p) [
-    | inl w ↦ absurd (none_some (sym ((same_agents l last n h g.stable s).0 p w.held_is) ∙ e))
+    | inl w ↦ absurd (none-some _ (sym ((same_agents l last n h g.stable s).0 p w.held_is) ∙ e))
     | inr w ↦ no_worse_at l.proposers last.proposers p b w.place w.held_is (omega (arith, g.worst n s p, w.standing_is, standing-some l.proposers n.proposers p i e))
   ]
 
   -- and a reviewer's no worse than its partner in the proposers' best
   reviewer_keeps : (r k b : ℕ) → held n.reviewers r ≡ Some k → place_of l.reviewers r b ≡ k → is_no_worse l.reviewers first.reviewers r b ≡ true
   reviewer_keeps r k b e at = elim (held_cases l.reviewers first.reviewers r) [
-    | inl w ↦ absurd (none_some (sym ((same_agents l first n h f.stable s).1 r w.held_is) ∙ e))
+    | inl w ↦ absurd (none-some _ (sym ((same_agents l first n h f.stable s).1 r w.held_is) ∙ e))
     | inr w ↦ no_worse_at l.reviewers first.reviewers r b w.place w.held_is (omega (arith, proposers_best_is_worst l first n h f s r, w.standing_is, standing-some l.reviewers n.reviewers r k e))
   ]
 

@@ -3,7 +3,7 @@ use Rattle.std.specs.Prelude.{◌≡◌, ◌≢◌, ℕ, ◌<◌, ◌≤◌, Lis
 use Rattle.sm_market.specs.Lists.{Lists, row, entry, place_of}
 use Rattle.sm_market.specs.Matching.{Places, IsMatching, held, standing}
 use Rattle.sm_market.specs.Stable.{IsStable, IsProposersBest}
-use Rattle.sm_market.specs.PairingFaults.{IsPastList, IsTaken}
+use Rattle.sm_market.specs.PairingFaults.{AreHeld}
 use Rattle.sm_accept.specs.Bests.{IsWorstOfReviewers}
 
 -- a reviewer's standing is the place of the proposer that it holds, or one past its list while it is free
@@ -71,8 +71,6 @@ pub record AreEnds (l : Lists) (next : List ℕ) (places : List (Option ℕ)) : 
 
 -- places that no two proposers share, on their lists, and that are those of the proposers' best, the worst of reviewers
 pub record AreBestPlaces (l : Lists) (places : List (Option ℕ)) : Type 0 where
-  pub one_each : length places ≡ length l.proposers
-  pub on_lists : (p : ℕ) → ¬ IsPastList l places p
-  pub untaken : (p : ℕ) → ¬ IsTaken l places p
+  pub held : AreHeld l places
   pub best : (m : Places) → IsMatching l m → m.proposers ≡ places → IsProposersBest l m
   pub worst : (m : Places) → IsMatching l m → m.proposers ≡ places → IsWorstOfReviewers l m

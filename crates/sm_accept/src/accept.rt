@@ -9,11 +9,10 @@ ghost use Rattle.sm_market.specs.Lists.{row, entry, IsMarket};
 ghost use Rattle.sm_market.specs.Limits.{IsWithinLimits};
 ghost use Rattle.sm_market.specs.Stable.{IsProposersBest, IsReviewersBest};
 ghost use Rattle.sm_market.specs.Pairing.{IsPairingOf};
-ghost use Rattle.sm_market.specs.PairingFaults.{IsPastList, IsTaken};
 ghost use Rattle.sm_accept.specs.Accepting.{AreFree, IsProgress, IsTakenIn, IsTakenFor, IsRefused, AreEnds, AreBestPlaces};
 ghost use Rattle.sm_accept.specs.Bests.{IsWorstOfReviewers, IsBestOfReviewers};
 
-use sm_market::{Market, Pairing, PairingFault};
+use sm_market::{Market, Pairing};
 use std::alloc::{AllocError, Global};
 
 /// The stable matching in which every proposer has the best partner that it has in any stable matching, and every
@@ -32,7 +31,7 @@ pub fn proposer_best(alloc: Global, market: &Market) -> Result<Pairing, AllocErr
     ensures worst { IfOk result (λ m. IsWorstOfReviewers market.now m.places) }
 {
     let places = best_places(alloc, market)?;
-    pairing_of(alloc, market, &places)
+    Pairing::held(alloc, market, &places)
 }
 
 /// The stable matching in which every reviewer has the best partner that it has in any stable matching, and every
@@ -54,7 +53,7 @@ pub fn reviewer_best(alloc: Global, market: &Market) -> Result<Pairing, AllocErr
     let best = proposer_best(alloc, &swapped)?;
     let mut places = vec![in alloc; None; market.proposers() as usize]?;
     own_places(&swapped, &best, &mut places);
-    pairing_of(alloc, market, &places)
+    Pairing::held(alloc, market, &places)
 }
 
 /// Writes the place that each reviewer of a pairing holds.
@@ -65,23 +64,6 @@ fn own_places(market: &Market, m: &Pairing, places: &mut [Option<u32>])
 {
     for r in 0..market.reviewers() {
         places[r as usize] = m.reviewer_place(r);
-    }
-}
-
-/// The pairing in which the proposers hold these places, which are on their lists and no two of one reviewer.
-fn pairing_of(alloc: Global, market: &Market, places: &[Option<u32>]) -> Result<Pairing, AllocError>
-    requires one_each { length places.now ≡ length market.now.proposers }
-    requires on_lists { (p : ℕ) → ¬ IsPastList market.now places.now p }
-    requires untaken { (p : ℕ) → ¬ IsTaken market.now places.now p }
-    ensures pairing { IfOk result (λ m. IsPairingOf market.now m) }
-    ensures places { IfOk result (λ m. m.places.proposers ≡ places.now) }
-{
-    match Pairing::of(alloc, market, places) {
-        Ok(pairing) => Ok(pairing),
-        Err(PairingFault::OutOfMemory) => Err(AllocError),
-        Err(PairingFault::WrongLength) => unreachable!(),
-        Err(PairingFault::OutOfRange(_)) => unreachable!(),
-        Err(PairingFault::Taken(_)) => unreachable!(),
     }
 }
 

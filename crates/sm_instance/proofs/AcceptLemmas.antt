@@ -8,7 +8,8 @@ use Rattle.sm_instance.specs.Written.{Written, AgentData, row, entry, place_of, 
 use Rattle.sm_instance.specs.Sound.{IsInstance}
 use Rattle.sm_instance.specs.Matching.{held, IsAssignment}
 use Rattle.sm_instance.specs.Kept.{cross_place}
-use Rattle.sm_instance.proofs.PlaceLemmas.{entry-place_of, place_of-lt, length-row-le-others}
+use Rattle.sm_instance.proofs.PlaceLemmas.{length-row-le-others}
+use Rattle.sm_lists.proofs.PlaceLemmas.{get_or-place_on, place_on-lt}
 
 -- no list of a proposer has more entries than a side has agents
 pub proposer_row_fits : {w : Written} → IsInstance w → (p : ℕ) → length (row w.proposers p) ≤ most_agents
@@ -46,7 +47,7 @@ pub acceptable_at : (w : Written) (p r i : ℕ) → Some i ≡ cross_place w.pro
     → (IsTrue b → IsAcceptable w p r) × (IsAcceptable w p r → IsTrue b)
 acceptable_at w p r i h o cross b test =
     let x = cross_some w.proposers p r i (sym h) in
-    let there : entry w.proposers p i ≡ r = ap (entry w.proposers p) (sym x.0) ∙ entry-place_of w.proposers p r x.1 in
+    let there : entry w.proposers p i ≡ r = ap (entry w.proposers p) (sym x.0) ∙ get_or-place_on (row w.proposers p) r x.1 in
     let cross' : o ≡ cross_place w.reviewers r p = cross ∙ ap (λ s. cross_place w.reviewers s p) there in
     by_cross o cross' test
   where
@@ -61,7 +62,7 @@ unlisted w p r h a = let le = cross_none w.proposers p r (sym h) in let lt = a.p
 -- the reviewer at place i lists p, or doesn't
 pub accepts_at : {w : Written} → IsInstance w → (p i k : ℕ) → i < length (row w.proposers p) → Some k ≡ cross_place w.reviewers (entry w.proposers p i) p → IsAcceptable w p (entry w.proposers p i)
 accepts_at {w} inst p i k on c =
-    record { proposer_lists = place_of-lt w.proposers p (entry w.proposers p i) i on refl; reviewer_lists = (cross_some w.reviewers (entry w.proposers p i) p k (sym c)).1 }
+    record { proposer_lists = place_on-lt (row w.proposers p) (entry w.proposers p i) i on refl; reviewer_lists = (cross_some w.reviewers (entry w.proposers p i) p k (sym c)).1 }
 
 pub one_sided_at : (w : Written) (p i : ℕ) → (let none : Option ℕ = None in none ≡ cross_place w.reviewers (entry w.proposers p i) p) → IsAcceptable w p (entry w.proposers p i) → ⊥
 one_sided_at w p i c a = let le = cross_none w.reviewers (entry w.proposers p i) p (sym c) in let lt = a.reviewer_lists in omega arith
@@ -83,4 +84,4 @@ true_lt a b h = grind (arith, nat_tests, h)
 
 -- who stands at the place that is found
 pub entry_cross : (agents : List AgentData) (a b i : ℕ) → Some i ≡ cross_place agents a b → entry agents a i ≡ b
-entry_cross agents a b i h = let x = cross_some agents a b i (sym h) in ap (entry agents a) (sym x.0) ∙ entry-place_of agents a b x.1
+entry_cross agents a b i h = let x = cross_some agents a b i (sym h) in ap (entry agents a) (sym x.0) ∙ get_or-place_on (row agents a) b x.1

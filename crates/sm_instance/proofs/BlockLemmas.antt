@@ -10,7 +10,8 @@ use Rattle.sm_instance.specs.Kept.{naming_at, AreNamingsOf, cross_place}
 use Rattle.sm_instance.specs.Loads.{IsGainLimit, IsFirstAt, IsFirstPairBelow, IsFirstBelow, is_sooner, sooner_of}
 use Rattle.sm_instance.specs.declared.namings.Naming.{Naming}
 use Rattle.sm_instance.proofs.ListLemmas.{row_in_range}
-use Rattle.sm_instance.proofs.PlaceLemmas.{entry-place_of, place_of-entry}
+use Rattle.sm_instance.proofs.PlaceLemmas.{place_of-entry}
+use Rattle.sm_lists.proofs.PlaceLemmas.{get_or-place_on}
 use Rattle.sm_instance.proofs.AcceptLemmas.{cross_some, cross_none}
 
 -- whether p and the reviewer at place i block, by the place of p on the other list
@@ -35,7 +36,7 @@ pub blocking_named : {w : Written} {places : List (Option ℕ)} {r : ℕ} {all :
 blocking_named {w} {places} {r} {all} named e le none q before h =
     let a = h.acceptable in
     let on = a.proposer_lists in
-    let n = named.earlier_named q (place_of w.proposers q r) (row_in_range w.proposers q _ on) on (entry-place_of w.proposers q r on) in
+    let n = named.earlier_named q (place_of w.proposers q r) (row_in_range w.proposers q _ on) on (get_or-place_on (row w.proposers q) r on) in
     ⊎_elim
     (λ l. none n.at l (let Q : ℕ → Type 0 = λ p. Blocks w places p r in subst Q (sym n.by) h))
     (λ g. let lt = before n.at g n.there in let by = n.by in omega arith)
@@ -57,7 +58,7 @@ none_at named e whole none q = blocking_named named e (omega arith) none q (λ f
 -- two agents that stand at one place of a list are one
 same_reviewer : {w : Written} {places : List (Option ℕ)} {p r s : ℕ} → Blocks w places p r → Blocks w places p s → place_of w.proposers p r ≡ place_of w.proposers p s → r ≡ s
 same_reviewer {w} {places} {p} {r} {s} a b same =
-    sym (entry-place_of w.proposers p r a.acceptable.proposer_lists) ∙ ap (entry w.proposers p) same ∙ entry-place_of w.proposers p s b.acceptable.proposer_lists
+    sym (get_or-place_on (row w.proposers p) r a.acceptable.proposer_lists) ∙ ap (entry w.proposers p) same ∙ get_or-place_on (row w.proposers p) s b.acceptable.proposer_lists
 
 -- the order of pairs
 sooner_true : (n m : Naming) → is_sooner n m ≡ true → (n.by < m.by) ⊎ ((n.by ≡ m.by) × (n.place < m.place))
@@ -118,7 +119,7 @@ first_end {w} {places} inst matching None h = record { matching = matching; unbl
     reviewer_below : {w : Written} {places : List (Option ℕ)} {p r : ℕ} → IsInstance w → Blocks w places p r → r < length w.reviewers
     reviewer_below {w} {places} {p} {r} inst b = row_in_range w.reviewers r _ b.acceptable.reviewer_lists
 first_end {w} {places} inst matching (Some n) h =
-    let there : h.reviewer ≡ entry w.proposers n.by n.place = sym (entry-place_of w.proposers n.by h.reviewer h.blocks.acceptable.proposer_lists) ∙ ap (entry w.proposers n.by) (sym h.at) in
+    let there : h.reviewer ≡ entry w.proposers n.by n.place = sym (get_or-place_on (row w.proposers n.by) h.reviewer h.blocks.acceptable.proposer_lists) ∙ ap (entry w.proposers n.by) (sym h.at) in
     let Q : ℕ → Type 0 = λ r. IsFirstBlocking w places n.by r in
     subst Q there (record {
       blocks = h.blocks;

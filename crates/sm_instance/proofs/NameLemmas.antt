@@ -1,5 +1,5 @@
 -- Texts among the texts of a list, and their positions.
-use Rattle.std.proofs.Common.{◌≡◌, ℕ, ◌+◌, ◌||◌, Bool, true, false, not, cond, List, [], ◌∷◌, length, refl, sym, ap, Vec, position}
+use Rattle.std.proofs.Common.{◌≡◌, ℕ, ◌+◌, ◌||◌, not, cond, List, [], ◌∷◌, length, refl, sym, ap, Vec, position}
 use Rattle.std.specs.List.{list_any, position_or_len}
 use Rattle.std.specs.Str.{bytes_eq}
 use Rattle.std.proofs.lemmas.List.{length-map}
@@ -19,11 +19,3 @@ position-texts name texts =
     let places = position_or_len-texts name texts in
     let long : length texts ≡ length (texts_of texts) = sym (length-map texts (λ (v : Vec ℕ Global). v.items)) in
     cc
-
-pub from_not_false : (b : Bool) → not b ≡ false → b ≡ true
-from_not_false true h = refl
-from_not_false false h = cc
-
-pub from_not_true : (b : Bool) → not b ≡ true → b ≡ false
-from_not_true true h = cc
-from_not_true false h = refl

@@ -7,7 +7,8 @@ use Rattle.sm_instance.specs.Written.{AgentData, row, entry}
 use Rattle.sm_instance.specs.Sound.{AreSoundEntries}
 use Rattle.sm_instance.specs.Kept.{no_naming, naming_at, IsNamed, AreNamingsOf, AreNamings, cross_place}
 use Rattle.sm_instance.specs.declared.namings.Naming.{Naming}
-use Rattle.sm_instance.proofs.ListLemmas.{push_cases, row_in_range}
+use Rattle.sm_lists.proofs.ItemLemmas.{push_cases}
+use Rattle.sm_instance.proofs.ListLemmas.{row_in_range}
 use Rattle.sm_instance.proofs.PlaceLemmas.{place_found, place_missing}
 
 -- an entry that names another agent

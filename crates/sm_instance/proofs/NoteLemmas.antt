@@ -9,7 +9,8 @@ use Rattle.sm_instance.specs.Vectors.{crosses_of}
 use Rattle.sm_instance.specs.Kept.{naming_at, AreNamingsOf, cross_place, AreCrossPlacesOf, AreCrossPlaces, no_crosses_of, with_back, no_note, note_of, noted_in, AreNotesOf}
 use Rattle.sm_instance.specs.declared.namings.Naming.{Naming}
 use Rattle.sm_instance.specs.declared.crosses.Note.{Note}
-use Rattle.sm_instance.proofs.ListLemmas.{set_cases, push_cases, row_in_range}
+use Rattle.sm_lists.proofs.ItemLemmas.{set_cases, push_cases}
+use Rattle.sm_instance.proofs.ListLemmas.{row_in_range}
 use Rattle.sm_instance.proofs.PlaceLemmas.{place_found, place_missing}
 use Rattle.sm_instance.proofs.NamingLemmas.{naming_found}
 use Rattle.sm_instance.proofs.AcceptLemmas.{cross_some, entry_cross}

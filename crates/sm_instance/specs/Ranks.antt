@@ -1,7 +1,9 @@
 -- Rank vectors and their order, and what a matching is worth: its regret and its weight. Ranks are written places counted
 -- from 1.
-use Rattle.std.specs.Prelude.{◌≡◌, ℕ, ◌+◌, ◌<◌, max, List, length, map, fold, slice_index, Option, Some, None, ℤ, pos, ◌+ℤ◌}
+use Rattle.std.specs.Prelude.{ℕ, ◌+◌, max, List, length, map, fold, Option, Some, None, ℤ, pos, ◌+ℤ◌}
 use Rattle.std.specs.List.{range_with_len}
+-- the order of rank vectors, in which the proposers are compared in a given order
+pub use Rattle.sm_lists.specs.Orders.{IsBefore}
 use Rattle.sm_instance.specs.Written.{Written, entry, place_of, given_weight}
 use Rattle.sm_instance.specs.Matching.{held, standing}
 use Rattle.sm_instance.specs.declared.kinds.Measure.{Measure}
@@ -10,14 +12,6 @@ use Rattle.sm_instance.specs.declared.kinds.Measure.TheVariants.{Ranks, Given}
 -- for each proposer the rank of its partner, or one more than the length of its list where it is unmatched
 abbrev pub rank_vector_of : Written → List (Option ℕ) → List ℕ
 rank_vector_of w places = map (λ p. standing w places p + 1) (range_with_len 0 (length w.proposers))
-
--- u stands before v: at the first place at which they differ it has the lower rank
-pub record IsBefore (u v : List ℕ) : Type 0 where
-  pub as_long : length u ≡ length v
-  pub at : ℕ
-  pub within : at < length u
-  pub same : (k : ℕ) → k < at → slice_index u k ≡ slice_index v k
-  pub lower : slice_index u at < slice_index v at
 
 -- the rank that the reviewer at a place of p's list gives p
 abbrev pub rank_back : Written → ℕ → ℕ → ℕ

@@ -1,6 +1,7 @@
 -- What is written in an instance.
 use Rattle.std.specs.Prelude.{ℕ, ◌<◌, ◌==◌, ◌&&◌, ℤ, pos, Bool, List, [], length, map, slice_index, slice_index_or}
 use Rattle.std.specs.List.{position_or_len}
+use Rattle.sm_lists.specs.Rows.{place_on}
 use Rattle.sm_instance.specs.declared.kinds.Kind.{Kind}
 
 -- an agent: its name, its capacity, the line of its declaration, and whom it lists, best first, by number
@@ -36,7 +37,7 @@ abbrev pub entry : List AgentData → ℕ → ℕ → ℕ
 entry agents a i = slice_index (row agents a) i
 
 abbrev pub place_of : List AgentData → ℕ → ℕ → ℕ
-place_of agents a b = position_or_len (λ x. x == b) (row agents a)
+place_of agents a b = place_on (row agents a) b
 
 abbrev pub capacity_of : List AgentData → ℕ → ℕ
 capacity_of agents a = (agent_at agents a).capacity

@@ -6,7 +6,7 @@ use Rattle.std.specs.declared.alloc.Global.{Global}
 use Rattle.sm_market.specs.Lists.{row, entry}
 use Rattle.sm_market.specs.Namings.{namings_in, namings_of, naming_at, IsNamed, AreNamingsOf, AreNamings, no_naming}
 use Rattle.sm_market.specs.declared.crosses.Naming.{Naming}
-use Rattle.sm_market.proofs.ListLemmas.{set_cases, push_cases, left_first}
+use Rattle.sm_lists.proofs.ItemLemmas.{set_cases, push_cases, left_first}
 
 module _ {others : List (List ℕ)} {b k a : ℕ} {namings : List Naming} (n : AreNamingsOf others b k a namings) where
   -- an entry that names another agent adds no naming

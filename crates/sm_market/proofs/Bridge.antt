@@ -1,31 +1,21 @@
 -- From the definitions over lists to the functions of Core, and back.
-use Rattle.std.proofs.Common.{◌≡◌, ℕ, ◌<◌, ◌≤◌, ◌⊎◌, ◌==◌, inl, inr, arith, refl, sym, ap, ◌∙◌, List, [], length, Option, None, Some, eqb-true, eq-eqb, ne_eqb}
+use Rattle.std.proofs.Common.{◌≡◌, ℕ, ◌<◌, ◌≤◌, ◌⊎◌, inl, inr, arith, refl, sym, ap, ◌∙◌, List, [], length, Option, None, Some}
 use Rattle.std.proofs.lemmas.List.{get_or_past, ext_get_or}
-use Rattle.std.proofs.lemmas.List.Sums.{position_or_len_is, passes_at_first}
 use Rattle.sm_market.specs.Lists.{Lists, row, entry, place_of, reversed_lists, AreMutual, IsMarket}
 use Rattle.sm_market.specs.Matching.{Places, held, standing, reversed, AreHeldInTurn, IsMatching}
 use Rattle.sm_market.specs.Stable.{Blocks, IsStable}
+use Rattle.sm_lists.proofs.PlaceLemmas.{entry-place_of}
+use Rattle.sm_market.proofs.PlaceLemmas.{place_of-entry}
 use Rattle.sm_market.proofs.Core.{Half, Sides, Stand, Kept, Fit, Stable, Stable-turned, same_reviewers}
 
-pub list_len : List (List ℕ) → ℕ → ℕ
-list_len rows a = length (row rows a)
-
-pub entry_place : {rows others : List (List ℕ)} → AreMutual rows others → (a i : ℕ) → i < length (row rows a) → place_of rows a (entry rows a i) ≡ i
-entry_place {rows} h a i on = position_or_len_is (λ x. x == entry rows a i) (row rows a) i 0 (omega arith)
-    (λ k less. ne_eqb _ _ (λ e. h.distinct a k i less on e))
-    (λ _. eq-eqb _ _ refl)
-
-pub place_entry : (rows : List (List ℕ)) (a b : ℕ) → place_of rows a b < length (row rows a) → entry rows a (place_of rows a b) ≡ b
-place_entry rows a b on = eqb-true _ _ (passes_at_first (λ x. x == b) (row rows a) 0 on)
-
 pub place_back : {rows others : List (List ℕ)} → AreMutual rows others → (a b : ℕ) → place_of rows a b < length (row rows a) → place_of others b a < length (row others b)
-place_back {rows} {others} h a b on = rw (place_entry rows a b on) at (h.returned a (place_of rows a b) on)
+place_back {rows} {others} h a b on = rw (entry-place_of rows a b on) at (h.returned a (place_of rows a b) on)
 
 pub half_of : {rows others : List (List ℕ)} → AreMutual rows others → Half (length rows) (λ a. length (row rows a)) (place_of rows) (entry rows) (λ a. length (row others a)) (place_of others)
 half_of {rows} {others} h = record {
   few = λ p past. ap length (get_or_past rows p [] past);
-  place_at = entry_place h;
-  at_place = place_entry rows;
+  place_at = place_of-entry h;
+  at_place = entry-place_of rows;
   back = place_back h;
 }
 
@@ -94,7 +84,7 @@ kept_of {rows} {others} {places} {theirs} h = record {
   kept = λ p r on e.
       let i = place_of rows p r in
       let held_is : held places p ≡ Some i = held_at rows places p on ∙ ap Some (sym e) in
-      let turn : held theirs r ≡ Some (place_of others r p) = rw (place_entry rows p r (omega arith)) at (h.in_turn p i held_is) in
+      let turn : held theirs r ≡ Some (place_of others r p) = rw (entry-place_of rows p r (omega arith)) at (h.in_turn p i held_is) in
       sym (standing-some others theirs r _ turn);
 }
 
@@ -105,7 +95,7 @@ pub stable_of : {l : Lists} (h : IsMarket l) {m : Places} → IsStable l m → S
 stable_of {l} h {m} f = record {
   fit = fit_of h f.matching;
   unblocked = λ p r on better gains.
-      let e = place_entry l.proposers p r on in
+      let e = entry-place_of l.proposers p r on in
       f.unblocked p (place_of l.proposers p r) (record { on_list = on; proposer_gains = better; reviewer_gains = rw e gains });
 }
 
@@ -119,7 +109,7 @@ held_in_turn_of {rows} {others} {places} {theirs} lists one on k = record {
   on_list = on;
   in_turn = λ a i e.
       let at = standing-some rows places a i e in
-      let here = entry_place lists a i (on a i e) in
+      let here = place_of-entry lists a i (on a i e) in
       let theirs_is = k.kept a (entry rows a i) (omega (arith, on a i e, at)) (here ∙ sym at) in
       let back = place_back lists a (entry rows a i) (omega (arith, here, on a i e)) in
       held_at others theirs (entry rows a i) (omega (arith, theirs_is, back)) ∙ ap Some (sym theirs_is);
@@ -127,7 +117,7 @@ held_in_turn_of {rows} {others} {places} {theirs} lists one on k = record {
 
 pub unblocked_of : {l : Lists} (h : IsMarket l) {m : Places} → Stable (sides_of l h) (stand_of l m) → (p i : ℕ) → ¬ Blocks l m p i
 unblocked_of {l} h {m} s p i b =
-    let e = entry_place h.proposers p i b.on_list in
+    let e = place_of-entry h.proposers p i b.on_list in
     s.unblocked p (entry l.proposers p i) (omega (arith, e, b.on_list)) (omega (arith, e, b.proposer_gains)) b.reviewer_gains
 
 -- a stable matching with the sides exchanged

@@ -6,7 +6,7 @@ use Rattle.std.proofs.lemmas.List.{get_or_past}
 use Rattle.sm_market.specs.Lists.{Lists, row, entry, place_of, AreMutual, IsMarket}
 use Rattle.sm_market.specs.Matching.{Places, held, standing, AreHeldInTurn, IsMatching}
 use Rattle.sm_market.specs.Stable.{IsStable}
-use Rattle.sm_market.proofs.ListLemmas.{row_in_range}
+use Rattle.sm_lists.proofs.RowLemmas.{row_in_range}
 
 -- each number below n passes
 abbrev pub all_below : ℕ → (ℕ → Bool) → Bool

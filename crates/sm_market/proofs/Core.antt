@@ -1,7 +1,7 @@
 -- Markets and matchings as functions on numbers: what the proofs about stable matchings go over. An agent's standing is
 -- the place of its partner on its list, or the list's length where it is unmatched, so that lower is better.
 use Rattle.std.proofs.Common.{◌≡◌, ℕ, ◌<◌, ◌≤◌, inl, inr, arith, sym, ap, ◌∙◌}
-use Rattle.sm_market.proofs.Counting.{lt_or_le, less_same_more}
+use Rattle.sm_lists.proofs.Counting.{lt_or_le, less_same_more}
 
 -- the lists of one side: `place p r` is r's place on p's list, at or past `len p` where r isn't on it; `at p i` is
 -- whom the list names at place i

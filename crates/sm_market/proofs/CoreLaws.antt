@@ -1,6 +1,6 @@
 -- The opposition of interests by counting, and what follows from it.
 use Rattle.std.proofs.Common.{ℕ, ◌<◌, ◌≤◌, ◌⊎◌, inl, inr, arith}
-use Rattle.sm_market.proofs.Counting.{lt_or_le, less_same_more, two_injections, BothOnto}
+use Rattle.sm_lists.proofs.Counting.{lt_or_le, less_same_more, two_injections, BothOnto}
 use Rattle.sm_market.proofs.Core.{Sides, Stand, Stable, Pair, Stable-turned, Pair-turned, pair_of, pair_of', one_reviewer, one_proposer, same_place, easy, easy'}
 
 -- who prefers m to n has a partner in n, and that partner prefers n to m

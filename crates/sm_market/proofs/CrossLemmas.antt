@@ -9,7 +9,8 @@ use Rattle.sm_market.specs.Crosses.{AreCrosses}
 use Rattle.sm_market.specs.Entries.{IsSound, AreSound}
 use Rattle.sm_market.specs.Namings.{no_note, note_of, AreNoted, AreCrossesOf}
 use Rattle.sm_market.specs.declared.crosses.Note.{Note}
-use Rattle.sm_market.proofs.ListLemmas.{row_in_range, push_cases}
+use Rattle.sm_lists.proofs.RowLemmas.{row_in_range}
+use Rattle.sm_lists.proofs.ItemLemmas.{push_cases}
 
 -- the lists of the first agents are sound and crossed, and all marks are of their turns
 pub record IsCrossing (rows others : List (List ℕ)) (a : ℕ) (crosses : List (List ℕ)) (notes : List Note) (met : List ℕ) : Type 0 where

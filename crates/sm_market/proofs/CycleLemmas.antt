@@ -4,7 +4,7 @@ use Rattle.std.proofs.lemmas.List.Sums.{position_or_len_is}
 use Rattle.sm_market.specs.Lists.{Lists, place_of}
 use Rattle.sm_market.specs.Matching.{held}
 use Rattle.sm_market.specs.Cycles.{proposer_at, target_at, pair_of, place_after}
-use Rattle.sm_market.proofs.Counting.{eq_or_ne, less_same_more, search_below, First, Decided-eq}
+use Rattle.sm_lists.proofs.Counting.{eq_or_ne, less_same_more, search_below, First, Decided-eq}
 
 -- the number that follows i round a cycle of n
 abbrev pub turn : ℕ → ℕ → ℕ

@@ -6,22 +6,23 @@ use Rattle.sm_market.specs.Stable.{IsStable}
 use Rattle.sm_market.specs.Laws.{OppositionOfInterests, SameAgents, ProposersBestIsWorst, ReviewersBestIsBest}
 use Rattle.sm_market.proofs.Core.{Pair, easy, easy', pair_at, pair_at'}
 use Rattle.sm_market.proofs.CoreLaws.{same_matched, same_matched', opposed}
-use Rattle.sm_market.proofs.Bridge.{sides_of, stand_of, stable_of, entry_place, held_none, standing-some, standing-none}
-use Rattle.sm_market.proofs.Counting.{lt_or_le}
+use Rattle.sm_market.proofs.PlaceLemmas.{place_of-entry}
+use Rattle.sm_market.proofs.Bridge.{sides_of, stand_of, stable_of, held_none, standing-some, standing-none}
+use Rattle.sm_lists.proofs.Counting.{lt_or_le}
 
 -- whom an agent finds at its place is its partner
 pub pair_held : {l : Lists} (h : IsMarket l) {m : Places} → IsStable l m → (p i : ℕ) → held m.proposers p ≡ Some i → Pair (sides_of l h) (stand_of l m) p (entry l.proposers p i)
 pair_held {l} h {m} s p i e =
     let at = standing-some l.proposers m.proposers p i e in
     let on = s.matching.proposers.on_list p i e in
-    let here = entry_place h.proposers p i on in
+    let here = place_of-entry h.proposers p i on in
     pair_at p (entry l.proposers p i) (stable_of h s).fit (omega arith) (omega arith)
 
 pub pair_held' : {l : Lists} (h : IsMarket l) {m : Places} → IsStable l m → (r k : ℕ) → held m.reviewers r ≡ Some k → Pair (sides_of l h) (stand_of l m) (entry l.reviewers r k) r
 pair_held' {l} h {m} s r k e =
     let at = standing-some l.reviewers m.reviewers r k e in
     let on = s.matching.reviewers.on_list r k e in
-    let here = entry_place h.reviewers r k on in
+    let here = place_of-entry h.reviewers r k on in
     pair_at' (entry l.reviewers r k) r (stable_of h s).fit (omega arith) (omega arith)
 
 pub opposition_of_interests : OppositionOfInterests

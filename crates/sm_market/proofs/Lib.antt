@@ -1,5 +1,4 @@
 pub mod PlaceLemmas
-pub mod ListLemmas
 pub mod NamingLemmas
 pub mod AddingLemmas
 pub mod WalkLemmas
@@ -12,7 +11,6 @@ pub mod CycleLemmas
 pub mod TurnLemmas
 pub mod CheckLemmas
 pub mod WitnessMarkets
-pub mod Counting
 pub mod Core
 pub mod CoreLaws
 pub mod Bridge

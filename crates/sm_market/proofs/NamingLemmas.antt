@@ -5,8 +5,9 @@ use Rattle.sm_market.specs.Lists.{row, entry, place_of}
 use Rattle.sm_market.specs.Namings.{naming_at, AreNamingsOf, IsFirstNaming, no_note, note_of, AreNotesOf, AreNoted}
 use Rattle.sm_market.specs.declared.crosses.Naming.{Naming}
 use Rattle.sm_market.specs.declared.crosses.Note.{Note}
-use Rattle.sm_market.proofs.PlaceLemmas.{place_of-le, entry-place_of, place_of_is}
-use Rattle.sm_market.proofs.ListLemmas.{row_in_range, set_cases}
+use Rattle.sm_lists.proofs.PlaceLemmas.{place_of-le, entry-place_of, place_on_is}
+use Rattle.sm_lists.proofs.RowLemmas.{row_in_range}
+use Rattle.sm_lists.proofs.ItemLemmas.{set_cases}
 
 -- before the first naming, where all notes are of earlier turns
 pub noting_start : (namings : List Naming) (a : ℕ) (notes : List Note) → ((b : ℕ) → (note_of notes b).stamp ≤ a) → AreNotesOf namings 0 a notes
@@ -79,7 +80,7 @@ first_is_place {others} {a} {namings} n c j w =
     (λ other. let above = n.ordered w.at v.at (omega arith) v.there (w.by ∙ sym v.by) in omega arith)
     (cases_eq v.at w.at))
     (cases_lt v.at w.at) in
-    (on, place_of_is others c a j on named none_before)
+    (on, place_on_is (row others c) a j on named none_before)
 
 -- with all namings of the agent noted
 pub noted_whole : {others : List (List ℕ)} {a : ℕ} {namings : List Naming} {notes : List Note} → AreNamingsOf others (length others) 0 a namings → AreNotesOf namings (length namings) a notes

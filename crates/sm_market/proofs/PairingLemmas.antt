@@ -1,12 +1,13 @@
 -- A matching is determined by what one side holds.
-use Rattle.std.proofs.Common.{◌≡◌, ℕ, ◌<◌, List, Option, Some, None, length, sym, ap, subst, ◌∙◌, ⊎_elim}
+use Rattle.std.proofs.Common.{◌≡◌, ℕ, ◌<◌, List, Option, Some, None, length, sym, ap, subst, ◌∙◌, arith, ⊎_elim}
 use Rattle.std.proofs.lemmas.List.{ext_get_or}
 use Rattle.std.specs.Option.{option_map}
 use Rattle.sm_market.specs.Lists.{Lists, entry, place_of}
 use Rattle.sm_market.specs.Matching.{Places, held, AreHeldInTurn, IsMatching}
+use Rattle.sm_market.specs.PairingFaults.{AreHeld}
 use Rattle.sm_market.specs.Pairing.{Paired, IsPairingOf}
-use Rattle.sm_market.proofs.PlaceLemmas.{entry-place_of}
-use Rattle.sm_market.proofs.ListLemmas.{row_in_range}
+use Rattle.sm_lists.proofs.PlaceLemmas.{entry-place_of}
+use Rattle.sm_lists.proofs.RowLemmas.{row_in_range}
 use Rattle.sm_market.proofs.SeatLemmas.{same_place, option_cases}
 
 -- an agent that holds a place is one of its side
@@ -23,6 +24,16 @@ one_partner {rows} {others} {places} {theirs} here there a c i j h g same =
     let turn' : held theirs b ≡ Some (place_of others b c) = subst Q (sym same) (here.in_turn c j g) in
     let k_is = same_place turn turn' in
     sym (entry-place_of others b a (there.on_list b (place_of others b a) turn)) ∙ ap (λ k. entry others b k) k_is ∙ entry-place_of others b c (there.on_list b (place_of others b c) turn')
+
+-- the proposers of a matching can hold what they hold
+pub held_of_matching : {l : Lists} {m : Places} → IsMatching l m → AreHeld l m.proposers
+held_of_matching f = record {
+  one_each = f.proposers.one_each;
+  on_lists = λ p x. let on = f.proposers.on_list p x.at x.holds in let past = x.past in omega arith;
+  untaken = λ p x.
+      let one = one_partner f.proposers f.reviewers x.earlier p x.there x.at x.earlier_holds x.holds x.same in
+      let before = x.before in omega arith;
+}
 
 -- what an agent holds in one matching it holds in another in which the other side holds the same
 held_kept : {rows others : List (List ℕ)} {places theirs places' theirs' : List (Option ℕ)} → AreHeldInTurn rows others places theirs → AreHeldInTurn others rows theirs places → AreHeldInTurn others rows theirs' places' → theirs ≡ theirs'

@@ -1,14 +1,15 @@
 -- Seating the proposers at their places, one after another.
 use Rattle.std.proofs.Common.{◌≡◌, ◌≢◌, ℕ, ◌+◌, ◌<◌, ◌≤◌, ◌⊎◌, true, false, List, Option, Some, None, length, set, replicate, refl, sym, ap, subst, ◌∙◌, arith, ⊎_elim, inl, inr}
-use Rattle.std.proofs.lemmas.Bool.{cases_lt, cases_eq}
+use Rattle.std.proofs.lemmas.Bool.{cases_lt, cases_eq, false_from_ne_true}
 use Rattle.std.proofs.lemmas.List.{get_or_past, get_or-replicate, length-replicate, get_or-set_same, get_or-set_other, length-set}
 use Rattle.std.specs.Option.{option_map, is_some}
 use Rattle.sm_market.specs.Lists.{Lists, row, entry, place_of, IsMarket}
 use Rattle.sm_market.specs.Matching.{held}
 use Rattle.sm_market.specs.Pairing.{IsPairingOf}
 use Rattle.sm_market.specs.PairingFaults.{IsPastList, IsTaken}
-use Rattle.sm_market.proofs.PlaceLemmas.{entry-place_of, place_of-entry}
-use Rattle.sm_market.proofs.ListLemmas.{row_in_range}
+use Rattle.sm_lists.proofs.PlaceLemmas.{entry-place_of}
+use Rattle.sm_market.proofs.PlaceLemmas.{place_of-entry}
+use Rattle.sm_lists.proofs.RowLemmas.{row_in_range}
 
 -- two places that an agent holds are one
 pub same_place : {o : Option ℕ} {i j : ℕ} → o ≡ Some i → o ≡ Some j → i ≡ j
@@ -143,6 +144,10 @@ module _ {l : Lists} {places reviewers holders : List (Option ℕ)} {p : ℕ} (s
       let x = some_of (held holders r) taken in
       let w = s.held_by r x.0 x.1 in
       record { at = at; holds = is; earlier = x.0; before = w.lower; there = w.at; earlier_holds = w.holds; same = w.there ∙ there }
+
+  -- and one whose reviewer no earlier one has finds it free
+  pub seat_free : (at r : ℕ) → held places p ≡ Some at → r ≡ entry l.proposers p at → ¬ IsTaken l places p → is_some (held holders r) ≡ false
+  seat_free at r is there untaken = false_from_ne_true _ (λ taken. untaken (seat_taken at r is there taken))
 
 -- all proposers are seated
 pub seat_end : {l : Lists} {places reviewers holders : List (Option ℕ)} {p : ℕ} → IsSeated l places p reviewers holders → p ≡ length l.proposers → IsMarket l → length places ≡ length l.proposers → ((q : ℕ) → ¬ IsPastList l places q)

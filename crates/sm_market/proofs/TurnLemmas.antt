@@ -7,8 +7,8 @@ use Rattle.sm_market.specs.Lists.{Lists, row, entry, place_of, IsMarket}
 use Rattle.sm_market.specs.Matching.{held}
 use Rattle.sm_market.specs.Pairing.{Paired, paired, IsPairingOf}
 use Rattle.sm_market.specs.Cycles.{proposer_at, reviewer_at, target_at, next_in, place_after, places_after, CanTurn}
-use Rattle.sm_market.proofs.Counting.{lt_or_le}
-use Rattle.sm_market.proofs.PlaceLemmas.{entry-place_of}
+use Rattle.sm_lists.proofs.Counting.{lt_or_le}
+use Rattle.sm_lists.proofs.PlaceLemmas.{entry-place_of}
 use Rattle.sm_market.proofs.SeatLemmas.{same_place}
 use Rattle.sm_market.proofs.PairingLemmas.{held_in_range, one_partner}
 use Rattle.sm_market.proofs.CycleLemmas.{turn_in, turn_once, follows, among, AreDistinct, one_pair, after_in, after_out}

@@ -11,8 +11,9 @@ use Rattle.sm_market.specs.Crosses.{AreCrosses}
 use Rattle.sm_market.specs.Entries.{AreSound}
 use Rattle.sm_market.specs.declared.turning.TheConstants.{UNWRITTEN}
 use Rattle.sm_market.specs.Turning.{unwritten_of, AreWritten}
-use Rattle.sm_market.proofs.ListLemmas.{row_in_range, set_cases}
-use Rattle.sm_market.proofs.PlaceLemmas.{entry-place_of, not_before-place_of, place_of_is}
+use Rattle.sm_lists.proofs.ItemLemmas.{set_cases}
+use Rattle.sm_lists.proofs.RowLemmas.{row_in_range, row_read}
+use Rattle.sm_lists.proofs.PlaceLemmas.{entry-place_of, get_or_before-place_on, place_on_is}
 
 -- v is b's place on the list of the agent that b names at place j, and b names that agent at no earlier place
 pub record IsCrossAt (rows others : List (List ℕ)) (b j v : ℕ) : Type 0 where
@@ -28,11 +29,6 @@ pub record AreTurned (rows others : List (List ℕ)) (a k : ℕ) (turned : List 
   pub right : (b j : ℕ) → j < length (row others b) → entry turned b j ≢ UNWRITTEN → IsCrossAt rows others b j (entry turned b j)
   pub earlier : (c i : ℕ) → c < a → i < length (row rows c) → let b = entry rows c i in entry turned b (place_of others b c) ≢ UNWRITTEN
   pub here : (i : ℕ) → i < k → let b = entry rows a i in entry turned b (place_of others b a) ≢ UNWRITTEN
-
--- a list that is read of its vector
-pub row_read : (vectors : List (Vec ℕ Global)) (b : ℕ) (v : Vec ℕ Global) (list : List ℕ) → b < length vectors → v ≡ get_or vectors b v → list ≡ v.items → list ≡ row (rows_of vectors) b
-row_read vectors b v list inside read is =
-    is ∙ ap (λ (w : Vec ℕ Global). w.items) read ∙ sym (get_or-map (λ (w : Vec ℕ Global). w.items) vectors b v [] inside)
 
 -- one entry of a list that is held in a vector is replaced
 pub entry_written : (vectors : List (Vec ℕ Global)) (b j v : ℕ) (w : Vec ℕ Global) → b < length vectors → w ≡ get_or vectors b w
@@ -77,7 +73,7 @@ turned_cross {rows} {others} a i sound on =
     let there : entry others b (place_of others b a) ≡ a = entry-place_of others b a s.returned in
     record {
       on_list = rw there on;
-      place = rw there (sym (place_of_is rows a b i on refl s.fresh));
+      place = rw there (sym (place_on_is (row rows a) b i on refl s.fresh));
       first = ap (place_of others b) there;
     }
 
@@ -145,7 +141,7 @@ module _ {rows others turned : List (List ℕ)} {a : ℕ} (w : AreTurned rows ot
             let p : ℕ = entry others b j in
             record {
               in_range = row_in_range rows p (entry turned b j) h.on_list;
-              fresh = λ k l. not_before-place_of others b p k (let first = h.first in omega arith);
+              fresh = λ k l. get_or_before-place_on (row others b) p k (let first = h.first in omega arith);
               returned = let place = h.place in let on = h.on_list in omega arith;
             };
       }
@@ -159,7 +155,7 @@ module _ {rows others turned : List (List ℕ)} {a : ℕ} (w : AreTurned rows ot
             let s = sound.sound b j on in
             let p : ℕ = entry others b j in
             let there : entry rows p (place_of rows p b) ≡ b = entry-place_of rows p b s.returned in
-            let at : place_of others b p ≡ j = place_of_is others b p j on refl s.fresh in
+            let at : place_of others b p ≡ j = place_on_is (row others b) p j on refl s.fresh in
             let Q : ℕ → Type 0 = λ c. entry turned c (place_of others c p) ≢ UNWRITTEN in
             subst (λ k. entry turned b k ≢ UNWRITTEN) at
             (subst Q there (w.earlier p (place_of rows p b) (let inside = s.in_range in omega arith) s.returned));

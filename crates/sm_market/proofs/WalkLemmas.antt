@@ -6,7 +6,7 @@ use Rattle.sm_market.specs.Lists.{entry, place_of}
 use Rattle.sm_market.specs.Entries.{IsSound}
 use Rattle.sm_market.specs.Namings.{AreNoted, note_of}
 use Rattle.sm_market.specs.declared.crosses.Note.{Note}
-use Rattle.sm_market.proofs.ListLemmas.{set_cases, push_cases}
+use Rattle.sm_lists.proofs.ItemLemmas.{set_cases, push_cases}
 
 -- b stands at a place before i on a's list
 pub record IsAmong (rows : List (List ℕ)) (a i b : ℕ) : Type 0 where

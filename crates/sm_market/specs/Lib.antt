@@ -2,6 +2,7 @@ pub mod Lists
 pub mod Matching
 pub mod Stable
 pub mod Reduced
+pub mod Levels
 pub mod Pairing
 pub mod Cycles
 pub mod Laws

@@ -21,6 +21,12 @@ pub record IsTaken (l : Lists) (places : List (Option ℕ)) (p : ℕ) : Type 0 w
   pub earlier_holds : held places earlier ≡ Some there
   pub same : entry l.proposers earlier there ≡ entry l.proposers p at
 
+-- places that the proposers can hold together: one for each, on its list, and no two with one reviewer
+pub record AreHeld (l : Lists) (places : List (Option ℕ)) : Type 0 where
+  pub one_each : length places ≡ length l.proposers
+  pub on_lists : (p : ℕ) → ¬ IsPastList l places p
+  pub untaken : (p : ℕ) → ¬ IsTaken l places p
+
 -- p is the first proposer with a place past its list
 pub record IsFirstPastList (l : Lists) (places : List (Option ℕ)) (p : ℕ) : Type 0 where
   pub one_each : length places ≡ length l.proposers

@@ -1,11 +1,8 @@
 -- Lists that are held in vectors, as plain lists.
-use Rattle.std.specs.Prelude.{ℕ, List, map, Vec}
+use Rattle.std.specs.Prelude.{ℕ, List, Vec}
 use Rattle.std.specs.declared.alloc.Global.{Global}
 use Rattle.sm_market.specs.Lists.{Lists}
-
--- what each of the vectors holds
-abbrev pub rows_of : List (Vec ℕ Global) → List (List ℕ)
-rows_of vectors = map (λ v. v.items) vectors
+pub use Rattle.sm_lists.specs.Rows.{rows_of}
 
 -- the lists of both sides
 abbrev pub lists_of : List (Vec ℕ Global) → List (Vec ℕ Global) → Lists

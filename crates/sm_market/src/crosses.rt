@@ -14,7 +14,7 @@ ghost use Rattle.sm_market.specs.MarketFaults.{IsFirstFaultOf};
 ghost use Rattle.sm_market.specs.Namings.{namings_in, naming_at, AreNamings, AreNotesOf, AreNoted, AreCrossesOf, note_of};
 
 use crate::faults::{MarketFault, Side};
-use crate::rows::list_at;
+use sm_lists::list_at;
 use std::alloc::{AllocError, Global};
 
 /// That an agent of the other side names a certain agent, at a place of its list.

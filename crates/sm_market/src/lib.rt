@@ -15,7 +15,6 @@ mod faults;
 pub mod laws;
 mod lists;
 mod pairs;
-mod rows;
 mod turning;
 pub mod witnesses;
 

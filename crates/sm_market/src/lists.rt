@@ -7,8 +7,8 @@ ghost use Rattle.sm_market.specs.Limits.{IsWithinLimits};
 
 use crate::crosses::crosses;
 use crate::faults::{MarketFault, Side};
-use crate::rows::{copy_of, entry_at, list_at};
 use crate::turning::reviewer_crosses;
+use sm_lists::{copy_of, entry_at, list_at};
 use std::alloc::{AllocError, Global};
 use std::marker::Model;
 
@@ -137,7 +137,7 @@ impl Market {
     }
 
     /// A proposer's list of reviewers, best first.
-    #[tactic(auto, using(crate::proofs::ListLemmas::row_fits))]
+    #[tactic(auto, using(sm_lists::proofs::RowLemmas::row_fits))]
     pub fn proposer_list(&self, p: u32) -> &[u32]
         requires { p < length self.now.proposers }
         ensures list { result.now ≡ row self.now.proposers p }
@@ -147,7 +147,7 @@ impl Market {
     }
 
     /// A reviewer's list of proposers, best first.
-    #[tactic(auto, using(crate::proofs::ListLemmas::row_fits))]
+    #[tactic(auto, using(sm_lists::proofs::RowLemmas::row_fits))]
     pub fn reviewer_list(&self, r: u32) -> &[u32]
         requires { r < length self.now.reviewers }
         ensures list { result.now ≡ row self.now.reviewers r }

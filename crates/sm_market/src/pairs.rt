@@ -5,7 +5,7 @@ ghost use Rattle.sm_market.specs.Lists.{row, entry, place_of, IsMarket};
 ghost use Rattle.sm_market.specs.Matching.{held};
 ghost use Rattle.sm_market.specs.Pairing.{paired, IsPairingOf};
 ghost use Rattle.sm_market.specs.Cycles.{target_at, places_after, CanTurn};
-ghost use Rattle.sm_market.specs.PairingFaults.{IsPairingFault, IsPastList, IsFirstPastList, IsFirstTaken};
+ghost use Rattle.sm_market.specs.PairingFaults.{IsPairingFault, AreHeld, IsPastList, IsFirstPastList, IsFirstTaken};
 
 use crate::faults::PairingFault;
 use crate::lists::Market;
@@ -58,6 +58,32 @@ impl Pairing {
         if let Some(p) = first_taken(market, places, &mut reviewer_places, &mut holders) {
             return Err(PairingFault::Taken(p));
         }
+        Ok(Pairing {
+            places: Vec::from_slice(alloc, places)?,
+            reviewer_places,
+            holders,
+        })
+    }
+
+    /// The pairing in which the proposers hold these places, one for each, all on their lists and no two with one reviewer.
+    ///
+    /// Takes time and memory in proportion to the agents.
+    ///
+    /// # Errors
+    ///
+    /// `AllocError` where memory ran out, and only then.
+    pub fn held(
+        alloc: Global,
+        market: &Market,
+        places: &[Option<u32>],
+    ) -> Result<Pairing, AllocError>
+        requires { AreHeld market.now places.now }
+        ensures pairing { IfOk result (λ m. IsPairingOf market.now m) }
+        ensures places { IfOk result (λ m. m.places.proposers ≡ places.now) }
+    {
+        let mut reviewer_places = vec![in alloc; None; market.reviewers() as usize]?;
+        let mut holders = vec![in alloc; None; market.reviewers() as usize]?;
+        seat_all(market, places, &mut reviewer_places, &mut holders);
         Ok(Pairing {
             places: Vec::from_slice(alloc, places)?,
             reviewer_places,
@@ -175,6 +201,27 @@ fn first_taken(
         }
     }
     None
+}
+
+/// Gives each proposer the reviewer at its place, where no two have one.
+fn seat_all(
+    market: &Market,
+    places: &[Option<u32>],
+    reviewer_places: &mut [Option<u32>],
+    holders: &mut [Option<u32>],
+)
+    requires held { AreHeld market.now places.now }
+    requires no_places { reviewer_places.old ≡ replicate (length market.now.reviewers) None }
+    requires no_holders { holders.old ≡ replicate (length market.now.reviewers) None }
+    ensures { IsPairingOf market.now (paired places.now reviewer_places.new holders.new) }
+{
+    for p in 0..market.proposers() {
+        if let Some(place) = places[p as usize] {
+            let r = market.reviewer_at(p, place);
+            holders[r as usize] = Some(p);
+            reviewer_places[r as usize] = Some(market.cross(p, place));
+        }
+    }
 }
 
 /// Moves each proposer of a cycle to the reviewer of the next pair.

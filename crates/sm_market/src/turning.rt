@@ -13,7 +13,7 @@ ghost use Rattle.sm_market.specs.Turning.{unwritten_of, AreWritten};
 
 use crate::crosses::crosses;
 use crate::faults::{MarketFault, Side};
-use crate::rows::list_at;
+use sm_lists::list_at;
 use std::alloc::{AllocError, Global};
 
 /// What stands for a cross position that isn't written.

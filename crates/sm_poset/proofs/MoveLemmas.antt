@@ -4,8 +4,8 @@ use Rattle.std.proofs.lemmas.List.{get_or_append_left, get_or_push, length_push,
 use Rattle.std.proofs.lemmas.List.Elements.{Contains-append_left, Contains-append_right}
 use Rattle.sm_market.specs.Lists.{Lists, place_of, IsMarket}
 use Rattle.sm_market.specs.Matching.{Places, held}
-use Rattle.sm_market.proofs.Counting.{lt_or_le, eq_or_ne}
-use Rattle.sm_market.proofs.ListLemmas.{push_cases}
+use Rattle.sm_lists.proofs.Counting.{lt_or_le, eq_or_ne}
+use Rattle.sm_lists.proofs.ItemLemmas.{push_cases}
 use Rattle.sm_market.proofs.CycleLemmas.{AreDistinct, pair_at_is}
 use Rattle.sm_theory.specs.Rotations.{proposer_at, target_at, pair_of}
 use Rattle.sm_theory.specs.Chains.{rotation_at, stage, IsCompleteChain}

@@ -8,6 +8,3 @@ use Rattle.sm_poset.specs.Kept.{moves_in, moves_at}
 pub moves_read : (vectors : List (Vec (ℕ × ℕ) Global)) (p : ℕ) (v : Vec (ℕ × ℕ) Global) → p < length vectors → v ≡ get_or vectors p v → v.items ≡ moves_at (moves_in vectors) p
 moves_read vectors p v h e = ap (λ (v : Vec (ℕ × ℕ) Global). v.items) e ∙ sym (get_or-map (λ (v : Vec (ℕ × ℕ) Global). v.items) vectors p v [] h)
 
--- a vector whose items are all written through a slice
-pub written : {X : Type 0} (n : ℕ) (ys zs : List X) → length ys ≡ n → take n (ys ++ zs) ≡ ys
-written n ys zs e = subst (λ k. take k (ys ++ zs) ≡ ys) e (take-append_seam ys zs)

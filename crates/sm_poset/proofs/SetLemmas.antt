@@ -5,10 +5,11 @@ use Rattle.std.specs.List.{All}
 use Rattle.std.proofs.lemmas.Bool.{le-leb, lt-leb}
 use Rattle.std.proofs.lemmas.List.{get_or_read, get_or_default, get_or-map, length-map, ext_get_or, get_or_past}
 use Rattle.std.proofs.lemmas.List.FromFn.{get_or-map-range_with_len, length-map-range_with_len}
+use Rattle.sm_lists.proofs.ResultLemmas.{cond-and_false}
 use Rattle.sm_market.specs.Lists.{Lists, row, place_of, IsMarket}
 use Rattle.sm_market.specs.Matching.{Places, held, standing}
 use Rattle.sm_market.specs.Stable.{IsStable}
-use Rattle.sm_market.proofs.Counting.{lt_or_le, eq_or_ne}
+use Rattle.sm_lists.proofs.Counting.{lt_or_le, eq_or_ne}
 use Rattle.sm_market.proofs.Bridge.{stand_of}
 use Rattle.sm_theory.specs.Rotations.{target_at, pair_of}
 use Rattle.sm_theory.specs.Chains.{rotation_at, stage, IsCompleteChain, AreNeedsOf}
@@ -71,10 +72,6 @@ module _ (l : Lists) (rotations : List (List (ℕ × ℕ))) (set : List Bool) (p
     ];
   }
 
-  cond_no : (b : Bool) (x y : ℕ) → cond (b && false) x y ≡ y
-  cond_no true x y = refl
-  cond_no false x y = refl
-
   is_false : (b : Bool) → (b ≡ true → ⊥) → b ≡ false
   is_false true out = absurd (out refl)
   is_false false out = refl
@@ -88,7 +85,7 @@ module _ (l : Lists) (rotations : List (List (ℕ × ℕ))) (set : List Bool) (p
         subst (Worst l rotations set p i (suc n)) (sym e) (kept n (worst_place l rotations set p i n) (λ j member v. out member) (worst n))
     | inl member ↦ elim (lt_or_le (pair_of (rotation_at rotations n) p) (length (rotation_at rotations n))) [
       | inr past ↦
-          let e : worst_place l rotations set p i (suc n) ≡ worst_place l rotations set p i n = rw (le-ltb (pair_of (rotation_at rotations n) p) (length (rotation_at rotations n)) past) (cond_no (is_member set n) _ _) in
+          let e : worst_place l rotations set p i (suc n) ≡ worst_place l rotations set p i n = rw (le-ltb (pair_of (rotation_at rotations n) p) (length (rotation_at rotations n)) past) (cond-and_false (is_member set n) _ _) in
           subst (Worst l rotations set p i (suc n)) (sym e) (kept n (worst_place l rotations set p i n) (λ j _ v. let m = v.moved in omega arith) (worst n))
       | inl inside ↦
           let e : worst_place l rotations set p i (suc n) ≡ max (worst_place l rotations set p i n) (target_of l rotations p n) = rw (lt-ltb (pair_of (rotation_at rotations n) p) (length (rotation_at rotations n)) inside, member) refl in

@@ -1,9 +1,10 @@
 -- One step down a chain, and what is noted of it.
 use Rattle.std.proofs.Common.{◌≡◌, ◌≢◌, ℕ, suc, ◌+◌, ◌<◌, ◌++◌, ◌∷◌, [], List, Option, Some, None, IsSome, length, slice_index_or, replicate, refl, sym, ap, subst, ◌∙◌, arith, add-one}
 use Rattle.std.proofs.lemmas.List.{length_push, length-replicate, get_or-replicate}
+use Rattle.std.proofs.lemmas.Option.{same_Some}
 use Rattle.sm_market.specs.Lists.{Lists, place_of, IsMarket}
 use Rattle.sm_market.specs.Matching.{Places, held}
-use Rattle.sm_market.proofs.ListLemmas.{push_cases}
+use Rattle.sm_lists.proofs.ItemLemmas.{push_cases}
 use Rattle.sm_theory.specs.Rotations.{proposer_at, target_at, eliminated}
 use Rattle.sm_theory.specs.Chains.{rotation_at, stage, IsCompleteChain}
 use Rattle.sm_poset.specs.Moves.{IsMove, AreMovesOf}
@@ -61,9 +62,6 @@ module _ {l : Lists} (h : IsMarket l) {first : Places} {rotations : List (List (
       leads = λ j a. (led j a).1;
     }
       where
-        some_same : {x y : ℕ} → Some x ≡ Some y → x ≡ y
-        some_same e = cc
-
         P : ℕ → ℕ × ℕ → Type 0
         P j x = (x.0 < length l.proposers) × IsMove l rotations x.0 j x.1
 
@@ -77,7 +75,7 @@ module _ {l : Lists} (h : IsMarket l) {first : Places} {rotations : List (List (
         who = ap (λ x. proposer_at x 0) (sym s.pairs_are) ∙ is
 
         where_is : place ≡ i
-        where_is = some_same (sym (holds_after h chain k 0 s.less first_in) ∙ ap (λ m. held m.proposers (proposer_at (rotation_at rotations k) 0)) (sym s.after) ∙ ap (held n.proposers) who ∙ sym there)
+        where_is = same_Some _ _ (sym (holds_after h chain k 0 s.less first_in) ∙ ap (λ m. held m.proposers (proposer_at (rotation_at rotations k) 0)) (sym s.after) ∙ ap (held n.proposers) who ∙ sym there)
 
         led : (j : ℕ) → j < k + 1 → P j (slice_index_or (leaders ++ (p, i) ∷ []) j (0, 0))
         led j a = push_cases P leaders (p, i) (0, 0) (subst (λ m. P m (p, i)) (sym w.one_each) now) (λ j b. let c : j < k = omega (arith, w.one_each) in (w.in_range j c, w.leads j c)) j (omega (arith, length_push leaders (p, i), w.one_each))

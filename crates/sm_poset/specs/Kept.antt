@@ -35,12 +35,6 @@ pub record IsKept (poset : RotationPoset) (needs : List (List ℕ)) (moves : Lis
   pub moves_are : AreMoves poset.lists poset.rotations (length poset.rotations) moves
   pub leaders_are : AreLeaders poset.lists poset.rotations (length poset.rotations) leaders
 
--- some matching has these places of its proposers
-pub record AreHeld (l : Lists) (places : List (Option ℕ)) : Type 0 where
-  pub matching : Places
-  pub fits : IsMatching l matching
-  pub held_are : matching.proposers ≡ places
-
 -- the moves of p once the proposers of the first i pairs of a rotation have got one more: that of rotation k, to the place
 -- that each holds
 pub record IsMovedOn (k : ℕ) (rotation : List (ℕ × ℕ)) (places : List (Option ℕ)) (i p : ℕ) (before after : List (ℕ × ℕ)) : Type 0 where

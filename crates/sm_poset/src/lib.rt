@@ -7,7 +7,6 @@
 
 mod moves;
 mod order;
-mod pairings;
 mod sets;
 
 pub use order::Poset;

@@ -11,7 +11,6 @@ ghost use Rattle.sm_poset.specs.Posets.{RotationPoset, poset_of, IsPoset};
 ghost use Rattle.sm_poset.specs.Moves.{AreMovesOf, GoDown};
 
 use crate::moves::{Moves, follow};
-use crate::pairings::pairing_of;
 use crate::sets::{are_closed, reached, worst_places};
 use sm_market::{Market, Pairing};
 use sm_rotations::needs;
@@ -147,7 +146,7 @@ impl Poset {
         ensures stable { IfOk result (λ m. IsStable self.now.lists m.places) }
     {
         let places = worst_places(alloc, &self.chain.first, &self.moves, &set.members)?;
-        pairing_of(alloc, &self.market, &places)
+        Pairing::held(alloc, &self.market, &places)
     }
 
     /// The closed set whose matching is this stable one. There is no other.

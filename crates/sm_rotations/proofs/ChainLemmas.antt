@@ -1,11 +1,14 @@
 -- What is noted of the rotations of a complete chain tells what each one needs.
 use Rattle.std.proofs.Common.{◌≡◌, ℕ, suc, ◌+◌, ◌<◌, inl, inr, arith, refl, sym, ap, ◌∙◌, List, [], length, Option, None, Some, IsSome, slice_index_or}
 use Rattle.std.proofs.lemmas.List.{get_or_past, get_or_default}
+use Rattle.std.proofs.lemmas.Option.{same_Some, none-some}
 use Rattle.sm_market.specs.Lists.{Lists, row, entry, place_of, IsMarket}
 use Rattle.sm_market.specs.Matching.{Places}
-use Rattle.sm_market.proofs.Counting.{lt_or_le, eq_or_ne, Last}
+use Rattle.sm_lists.proofs.Counting.{lt_or_le, eq_or_ne, Last}
 use Rattle.sm_market.proofs.Core.{Pair}
-use Rattle.sm_market.proofs.Bridge.{sides_of, stand_of, entry_place, place_entry}
+use Rattle.sm_market.proofs.PlaceLemmas.{place_of-entry}
+use Rattle.sm_lists.proofs.PlaceLemmas.{entry-place_of}
+use Rattle.sm_market.proofs.Bridge.{sides_of, stand_of}
 use Rattle.sm_theory.specs.Rotations.{proposer_at, reviewer_at, target_at, next_in}
 use Rattle.sm_theory.specs.Chains.{rotation_at, stage, IsCompleteChain, IsNeededBy}
 use Rattle.sm_theory.proofs.CoreCycle as CoreCycle
@@ -16,12 +19,6 @@ use Rattle.sm_theory.proofs.BridgeChain.{chain_of, needs_of, needs_back}
 use Rattle.sm_rotations.specs.Marking.{note_of, Moves, MovesOver, AreLastMoves, AreMarks, AreMoved, AreMarked, IsLastOf, IsPassedBy, IsFound, Adds}
 use Rattle.sm_rotations.specs.Graph.{times, AreFollowers, IsFollowing}
 use Rattle.sm_rotations.proofs.TimesLemmas.{times_of_contains, contains_of_times}
-
-none_some : {x : ℕ} → ◌≡◌ {A = Option ℕ} None (Some x) → ⊥
-none_some e = grind arith
-
-pub some_same : {x y : ℕ} → Some x ≡ Some y → x ≡ y
-some_same e = cc
 
 pub moves_core : {rotation : List (ℕ × ℕ)} {p : ℕ} → Moves rotation (length rotation) p → CoreCycle.Moves (cycle_of rotation) p
 moves_core {rotation} w = rw w.is at (moves_at (cycle_of rotation) w.pair w.pair_in)
@@ -51,11 +48,11 @@ module _ {l : Lists} (h : IsMarket l) {first : Places} {rotations : List (List (
   last_more {j} {before} {after} a m = record {
     below = λ p i e. elim (m.only p) [
       | inl same ↦ let b = a.below p i (sym same ∙ e) in omega arith
-      | inr w ↦ let x : j ≡ i = some_same (sym w.0 ∙ e) in omega arith
+      | inr w ↦ let x : j ≡ i = same_Some _ _ (sym w.0 ∙ e) in omega arith
     ];
     moves = λ p i e. elim (m.only p) [
       | inl same ↦ a.moves p i (sym same ∙ e)
-      | inr w ↦ let x : j ≡ i = some_same (sym w.0 ∙ e) in rw x at w.1
+      | inr w ↦ let x : j ≡ i = same_Some _ _ (sym w.0 ∙ e) in rw x at w.1
     ];
     last = λ p i k e less below w. elim (m.only p) [
       | inl same ↦ elim (eq_or_ne k j) [
@@ -63,10 +60,10 @@ module _ {l : Lists} (h : IsMarket l) {first : Places} {rotations : List (List (
             let v : Moves (rotation_at rotations j) (length (rotation_at rotations j)) p = rw x at w in
             let now : note_of after p ≡ Some j = rw v.is at (m.moved v.pair v.pair_in) in
             let b = a.below p i (sym same ∙ e) in
-            let y : j ≡ i = some_same (sym now ∙ e) in omega arith
+            let y : j ≡ i = same_Some _ _ (sym now ∙ e) in omega arith
         | inr x ↦ a.last p i k (sym same ∙ e) less (omega arith) w
       ]
-      | inr v ↦ let x : j ≡ i = some_same (sym v.0 ∙ e) in omega arith
+      | inr v ↦ let x : j ≡ i = same_Some _ _ (sym v.0 ∙ e) in omega arith
     ];
     noted = λ p i below w. elim (m.only p) [
       | inr v ↦ rw v.0 refl
@@ -85,11 +82,11 @@ module _ {l : Lists} (h : IsMarket l) {first : Places} {rotations : List (List (
     for_entries = m.for_entries;
     below = λ p x i e. elim (m.only p x) [
       | inl same ↦ let b = a.below p x i (sym same ∙ e) in omega arith
-      | inr w ↦ let y : j ≡ i = some_same (sym w.0 ∙ e) in omega arith
+      | inr w ↦ let y : j ≡ i = same_Some _ _ (sym w.0 ∙ e) in omega arith
     ];
     moves = λ p x i e. elim (m.only p x) [
       | inl same ↦ a.moves p x i (sym same ∙ e)
-      | inr w ↦ let y : j ≡ i = some_same (sym w.0 ∙ e) in rw y at w.1
+      | inr w ↦ let y : j ≡ i = same_Some _ _ (sym w.0 ∙ e) in rw y at w.1
     ];
     all = λ p x i on below w. elim (eq_or_ne i j) [
       | inl e ↦ rw e (m.marked p x on (rw e at w))
@@ -124,7 +121,7 @@ module _ {l : Lists} (h : IsMarket l) {first : Places} {rotations : List (List (
         let below = m.below p x i w.between.marked in
         let v = m.moves p x i w.between.marked in
         let on : place_of l.proposers p (target_at (rotation_at rotations j) w.pair) < length (row l.proposers p) = ((chain.exposed j inside).next w.pair w.pair_in).on_list in
-        let here : place_of l.proposers p (entry l.proposers p x) ≡ x = entry_place h.proposers p x (omega (arith, on, w.between.before)) in (
+        let here : place_of l.proposers p (entry l.proposers p x) ≡ x = place_of-entry h.proposers p x (omega (arith, on, w.between.before)) in (
           omega arith,
           inr (record {
             pair = v.pair;
@@ -169,7 +166,7 @@ module _ {l : Lists} (h : IsMarket l) {first : Places} {rotations : List (List (
         let x : ℕ = place_of l.proposers p r in
         let next = (chain.exposed j inside).next w.other w.other_in in
         let on : x < length (row l.proposers p) = omega (arith, w.before, next.on_list) in
-        let here : entry l.proposers p x ≡ r = place_entry l.proposers p r on in
+        let here : entry l.proposers p x ≡ r = entry-place_of l.proposers p r on in
         inr (record {
           pair = w.other;
           pair_in = w.other_in;

@@ -4,15 +4,14 @@ use Rattle.std.proofs.lemmas.List.{get_or_append_left, get_or_push, length_push}
 use Rattle.sm_market.specs.Lists.{Lists, row, IsMarket}
 use Rattle.sm_market.specs.Matching.{Places, standing}
 use Rattle.sm_market.specs.Stable.{IsStable, IsProposersBest}
-use Rattle.sm_market.proofs.Counting.{lt_or_le, eq_or_ne}
+use Rattle.sm_lists.proofs.Counting.{lt_or_le, eq_or_ne}
 use Rattle.sm_market.proofs.Bridge.{sides_of, stable_of}
-use Rattle.sm_theory.specs.Rotations.{proposer_at, IsExposed, eliminated}
+use Rattle.sm_theory.specs.Rotations.{proposer_at, IsExposed, eliminated, IsNothingExposed, IsLowestExposed}
 use Rattle.sm_theory.specs.Chains.{rotation_at, stage, IsPrintedChain}
 use Rattle.sm_theory.specs.Values.{rotations_of}
 use Rattle.sm_theory.specs.declared.rotations.Rotation.{Rotation}
 use Rattle.sm_theory.proofs.CoreRotation.{goes_down, never_up, elim_stable}
 use Rattle.sm_theory.proofs.BridgeRotation.{exposed_of, elim_of}
-use Rattle.sm_rotations.specs.Following.{IsNothingExposed, IsLowestExposed}
 use Rattle.sm_rotations.specs.Chaining.{LeadsTo}
 use Rattle.sm_rotations.proofs.CountLemmas.{sum_below, sums_le, sums_less}
 
@@ -27,17 +26,13 @@ stage_before l first xs x zero le = refl
 stage_before l first xs x (suc k) le = ap (λ m. eliminated l m (rotation_at (xs ++ x ∷ []) k)) (stage_before l first xs x k (omega arith)) ∙ ap (eliminated l (stage l first xs k)) (rotation_before xs x k (omega arith))
 
 pub leads_start : (l : Lists) (first m : Places) → m ≡ first → LeadsTo l first [] m
-leads_start l first m e = record { exposed = λ k less. absurd (omega arith); lowest = λ k less. absurd (omega arith); at_end = e }
+leads_start l first m e = record { lowest = λ k less. absurd (omega arith); at_end = e }
 
 pub leads_on : {l : Lists} {first m n : Places} {xs : List (List (ℕ × ℕ))} (x : List (ℕ × ℕ)) → LeadsTo l first xs m → IsLowestExposed l m x → n ≡ eliminated l m x → LeadsTo l first (xs ++ x ∷ []) n
 leads_on {l} {first} {m} {n} {xs} x a low e = record {
-  exposed = λ k less. elim (eq_or_ne k (length xs)) [
-    | inl is ↦ rw (there k is, rotation_new xs x k is) low.exposed
-    | inr ne ↦ rw (stage_before l first xs x k (before k less), rotation_before xs x k (inside k less ne)) (a.exposed k (inside k less ne))
-  ];
-  lowest = λ k less other y i within. elim (eq_or_ne k (length xs)) [
-    | inl is ↦ rw (rotation_new xs x k is) (low.lowest other (rw (there k is) at y) i within)
-    | inr ne ↦ rw (rotation_before xs x k (inside k less ne)) (a.lowest k (inside k less ne) other (rw (stage_before l first xs x k (before k less)) at y) i within)
+  lowest = λ k less. elim (eq_or_ne k (length xs)) [
+    | inl is ↦ rw (there k is, rotation_new xs x k is) low
+    | inr ne ↦ rw (stage_before l first xs x k (before k less), rotation_before xs x k (inside k less ne)) (a.lowest k (inside k less ne))
   ];
   at_end = e ∙ ap (λ m. eliminated l m x) (sym (there (length xs) refl)) ∙ ap (eliminated l (stage l first (xs ++ x ∷ []) (length xs))) (sym (rotation_new xs x (length xs) refl)) ∙ ap (stage l first (xs ++ x ∷ [])) top;
 }
@@ -56,7 +51,7 @@ leads_on {l} {first} {m} {n} {xs} x a low e = record {
 
 pub leads_whole : {l : Lists} {first m : Places} {xs : List (List (ℕ × ℕ))} → IsProposersBest l first → LeadsTo l first xs m → IsNothingExposed l m → IsPrintedChain l first xs
 leads_whole {l} {first} {m} {xs} best a none = record {
-  chain = record { from_best = best; exposed = a.exposed; complete = λ other x. none.none other (rw a.at_end x) };
+  chain = record { from_best = best; exposed = λ k less. (a.lowest k less).exposed; complete = λ other x. none.none other (rw a.at_end x) };
   lowest = a.lowest;
 }
 

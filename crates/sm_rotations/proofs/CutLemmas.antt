@@ -3,7 +3,7 @@ use Rattle.std.proofs.Common.{◌≡◌, ◌≢◌, ℕ, ◌+◌, ◌<◌, ◌�
 use Rattle.sm_market.specs.Lists.{Lists, row, IsMarket}
 use Rattle.sm_market.specs.Matching.{Places, held, standing}
 use Rattle.sm_market.specs.Stable.{IsStable}
-use Rattle.sm_market.proofs.Counting.{eq_or_ne}
+use Rattle.sm_lists.proofs.Counting.{eq_or_ne}
 use Rattle.sm_market.proofs.Bridge.{held_cases, standing-some, standing-none, stable_of}
 use Rattle.sm_theory.specs.Rotations.{IsExposed, reviewer_at, eliminated}
 use Rattle.sm_theory.proofs.BridgeRotation.{exposed_of, elim_of, eliminated_stable}

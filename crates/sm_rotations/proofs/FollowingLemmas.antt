@@ -2,21 +2,21 @@
 use Rattle.std.proofs.Common.{◌≡◌, ◌≢◌, ℕ, zero, suc, ◌+◌, ◌<◌, ◌≤◌, ◌⊎◌, inl, inr, arith, refl, sym, ap, ◌∙◌, List, [], ◌∷◌, ◌++◌, length, slice_index_or, Option, None, Some}
 use Rattle.std.specs.Option.{option_map}
 use Rattle.std.proofs.lemmas.List.{get_or_append_left, get_or_push, length_push}
+use Rattle.std.proofs.lemmas.Option.{same_Some}
 use Rattle.sm_market.specs.Lists.{Lists, entry, place_of, IsMarket}
 use Rattle.sm_market.specs.Matching.{Places, held, IsMatching}
 use Rattle.sm_market.specs.Pairing.{Paired, IsPairingOf}
-use Rattle.sm_market.proofs.Counting.{lt_or_le, eq_or_ne, Twice, pigeonhole}
+use Rattle.sm_lists.proofs.Counting.{lt_or_le, eq_or_ne, Twice, pigeonhole}
 use Rattle.sm_market.proofs.Core.{Pair, pair_at, one_proposer, one_reviewer}
-use Rattle.sm_market.proofs.Bridge.{sides_of, stand_of, fit_of, standing-some, entry_place, place_entry}
+use Rattle.sm_market.proofs.PlaceLemmas.{place_of-entry}
+use Rattle.sm_lists.proofs.PlaceLemmas.{entry-place_of}
+use Rattle.sm_market.proofs.Bridge.{sides_of, stand_of, fit_of, standing-some}
 use Rattle.sm_market.proofs.PairingLemmas.{held_in_range}
-use Rattle.sm_theory.specs.Rotations.{IsSuccessor, IsLink, IsExposed, proposer_at, reviewer_at, target_at, next_in}
+use Rattle.sm_theory.specs.Rotations.{IsSuccessor, IsLink, IsExposed, proposer_at, reviewer_at, target_at, next_in, IsNothingExposed, IsLowestExposed}
 use Rattle.sm_theory.proofs.CoreCycle.{Succ, succ_unique, turn, turn_in, turn_last, turn_more}
 use Rattle.sm_theory.proofs.BridgeRotation.{succ_of, exposed_of}
 use Rattle.sm_theory.proofs.LinkLemmas.{exposed_of_links, successor_named}
-use Rattle.sm_rotations.specs.Following.{IsNothingExposed, IsLowestExposed, IsStep, IsWalk, IsRotationFrom, IsInNone}
-
-some_same : {x y : ℕ} → Some x ≡ Some y → x ≡ y
-some_same e = cc
+use Rattle.sm_rotations.specs.Following.{IsStep, IsWalk, IsRotationFrom, IsInNone}
 
 module _ {l : Lists} (h : IsMarket l) {m : Places} (f : IsMatching l m) where
   pair_of_held : (p r : ℕ) → held m.proposers p ≡ Some (place_of l.proposers p r) → Pair (sides_of l h) (stand_of l m) p r
@@ -26,7 +26,7 @@ module _ {l : Lists} (h : IsMarket l) {m : Places} (f : IsMatching l m) where
       pair_at p r (fit_of h f) (omega arith) (sym at)
 
   succ_at : (p r : ℕ) → IsSuccessor l m p (place_of l.proposers p r) → Succ (sides_of l h) (stand_of l m) p r
-  succ_at p r x = rw (place_entry l.proposers p r x.on_list) at (succ_of h f p (place_of l.proposers p r) x)
+  succ_at p r x = rw (entry-place_of l.proposers p r x.on_list) at (succ_of h f p (place_of l.proposers p r) x)
 
   -- a step along a rotation
   step_along : {other : List (ℕ × ℕ)} → IsExposed l m other → (j p r q : ℕ) → j < length other → proposer_at other j ≡ p → IsStep l m p r q → proposer_at other (next_in other j) ≡ q
@@ -191,7 +191,7 @@ walk_start l m p = record {
 pub step_read : {l : Lists} {m : Paired} (p place i q : ℕ) → IsMarket l → IsPairingOf l m → held m.places.proposers p ≡ Some place → IsSuccessor l m.places p i → held m.holders (entry l.proposers p i) ≡ Some q
     → IsStep l m.places p (entry l.proposers p place) q
 step_read {l} {m} p place i q h made e x holder = record {
-  paired = e ∙ ap Some (sym (entry_place h.proposers p place (made.matching.proposers.on_list p place e)));
+  paired = e ∙ ap Some (sym (place_of-entry h.proposers p place (made.matching.proposers.on_list p place e)));
   target = entry l.proposers p i;
   next = successor_named l m.places p i (entry l.proposers p i) h x refl;
   has = turn_back (held m.places.reviewers (entry l.proposers p i)) refl;
@@ -204,7 +204,7 @@ step_read {l} {m} p place i q h made e x holder = record {
         no e = grind arith
     turn_back (Some k) some =
         let named = made.names (entry l.proposers p i) in
-        let same : q ≡ entry l.reviewers (entry l.proposers p i) k = some_same (sym holder ∙ named ∙ ap (option_map (entry l.reviewers (entry l.proposers p i))) some) in
+        let same : q ≡ entry l.reviewers (entry l.proposers p i) k = same_Some _ _ (sym holder ∙ named ∙ ap (option_map (entry l.reviewers (entry l.proposers p i))) some) in
         rw same (made.matching.reviewers.in_turn (entry l.proposers p i) k some)
 
 pub lowest_of : {l : Lists} {m : Places} {p : ℕ} {pairs : List (ℕ × ℕ)} → ((q : ℕ) → q < p → IsInNone l m q) → IsRotationFrom l m p pairs → IsLowestExposed l m pairs

@@ -2,12 +2,15 @@
 -- tells its successor.
 use Rattle.std.proofs.Common.{◌≡◌, ℕ, ◌<◌, ◌≤◌, inl, inr, arith, refl, sym, ap, ◌∙◌, List, length, Option, Some, None, IsSome, MatchOption}
 use Rattle.std.specs.Option.{option_map}
+use Rattle.std.proofs.lemmas.Option.{same_Some}
 use Rattle.sm_market.specs.Lists.{Lists, row, entry, place_of, IsMarket}
 use Rattle.sm_market.specs.Matching.{Places, held, IsMatching}
 use Rattle.sm_market.specs.Pairing.{Paired, IsPairingOf}
 use Rattle.sm_market.proofs.PairingLemmas.{held_in_range}
-use Rattle.sm_market.proofs.Counting.{eq_or_ne, less_same_more}
-use Rattle.sm_market.proofs.Bridge.{held_cases, entry_place, place_entry, standing-some}
+use Rattle.sm_lists.proofs.Counting.{eq_or_ne, less_same_more}
+use Rattle.sm_market.proofs.PlaceLemmas.{place_of-entry}
+use Rattle.sm_lists.proofs.PlaceLemmas.{entry-place_of}
+use Rattle.sm_market.proofs.Bridge.{held_cases, standing-some}
 use Rattle.sm_theory.specs.Rotations.{IsSuccessor, WouldTake}
 use Rattle.sm_accept.specs.Linking.{IsHeld, IsHeldBehind, IsFront}
 use Rattle.sm_theory.proofs.LinkLemmas.{successor_named}
@@ -32,19 +35,16 @@ module _ {l : Lists} (h : IsMarket l) {m : Places} (f : IsMatching l m) {ends : 
           | inr ne ↦ omega (arith, v.standing_is)
           | inl same ↦
               let back = f.reviewers.in_turn r v.place v.held_is in
-              let who : entry l.reviewers r v.place ≡ p = ap (entry l.reviewers r) (sym same) ∙ place_entry l.reviewers r p (h.proposers.returned p j w.on_list) in
+              let who : entry l.reviewers r v.place ≡ p = ap (entry l.reviewers r) (sym same) ∙ entry-place_of l.reviewers r p (h.proposers.returned p j w.on_list) in
               let mine : held m.proposers p ≡ Some (place_of l.proposers p r) = rw who at back in
-              let here : place_of l.proposers p r ≡ j = entry_place h.proposers p j w.on_list in
-              let two : i ≡ place_of l.proposers p r = some_same (sym e ∙ mine) in
+              let here : place_of l.proposers p r ≡ j = place_of-entry h.proposers p j w.on_list in
+              let two : i ≡ place_of l.proposers p r = same_Some _ _ (sym e ∙ mine) in
               absurd (omega arith)
         ]
   ]
     where
       r : ℕ
       r = entry l.proposers p j
-
-      some_same : {x y : ℕ} → Some x ≡ Some y → x ≡ y
-      some_same e = cc
 
   pub takes_held : (p j : ℕ) → j < length (row l.proposers p) → WouldTake l m p j → IsHeld l ends p j
   takes_held p j on w = elim (held_cases l.reviewers m.reviewers (entry l.proposers p j)) [

@@ -12,7 +12,7 @@ use Rattle.std.proofs.lemmas.Bool.{eq-eqb, ne_eqb}
 use Rattle.std.proofs.lemmas.List.{get_or-set_same, get_or-set_other}
 use Rattle.std.proofs.lemmas.List.Elements.{All-nil, All-cons, All-tail, All-head}
 use Rattle.std.proofs.lemmas.List.Sorted.{All-permutation, sum_by_pushed, sum_by_popped}
-use Rattle.sm_market.proofs.Counting.{eq_or_ne}
+use Rattle.sm_lists.proofs.Counting.{eq_or_ne}
 use Rattle.sm_theory.specs.Chains.{rotation_at}
 use Rattle.sm_rotations.specs.Graph.{times}
 use Rattle.sm_rotations.specs.Ordering.{later_first, times_ready, IsLead, IsEntry, IsOneMore, IsReleased, AreReadyAtFirst}

@@ -3,9 +3,11 @@ use Rattle.std.proofs.Common.{◌≡◌, ◌≢◌, ℕ, zero, suc, ◌+◌, ◌
 use Rattle.std.specs.List.{Contains}
 use Rattle.std.proofs.lemmas.List.{get_or-set_same, get_or-set_other, length-set}
 use Rattle.std.proofs.lemmas.List.Elements.{Contains-append_left, Contains-append_right, Contains-append_cases}
+use Rattle.std.proofs.lemmas.Option.{same_Some, none-some}
 use Rattle.sm_market.specs.Lists.{Lists, row, entry, place_of, IsMarket}
-use Rattle.sm_market.proofs.Counting.{eq_or_ne}
-use Rattle.sm_market.proofs.Bridge.{entry_place, place_entry}
+use Rattle.sm_lists.proofs.Counting.{eq_or_ne}
+use Rattle.sm_market.proofs.PlaceLemmas.{place_of-entry}
+use Rattle.sm_lists.proofs.PlaceLemmas.{entry-place_of}
 use Rattle.sm_theory.specs.Rotations.{proposer_at, reviewer_at, target_at, next_in}
 use Rattle.sm_rotations.specs.Marking.{note_of, marks_of, mark_at, Moves, MovesOver, AreMoved, AreMarked, AreMarksFor, IsSpan, IsSpanMarked, IsBetween, IsFound, Adds}
 
@@ -94,9 +96,9 @@ module _ {l : Lists} (h : IsMarket l) where
   over_of_span rotation i {better} {old} {p} {x} low high fits w =
       let r : ℕ = target_at rotation i in
       let on : w.place < length (row l.reviewers r) = omega (arith, w.before) in
-      let rank : place_of l.reviewers r p ≡ w.place = rw w.proposer (entry_place h.reviewers r w.place on) in
+      let rank : place_of l.reviewers r p ≡ w.place = rw w.proposer (place_of-entry h.reviewers r w.place on) in
       let listed : place_of l.proposers p r < length (row l.proposers p) = rw w.proposer (returns_to r w.place on) in
-      let is : entry l.proposers p x ≡ r = rw w.at (place_entry l.proposers p r listed) in
+      let is : entry l.proposers p x ≡ r = rw w.at (entry-place_of l.proposers p r listed) in
       record { pair = i; pair_in = omega arith; reviewer = sym is; gains = rw is (omega (arith, rank, w.behind)); loses = rw is (omega (arith, rank, w.before)) }
 
   span_of_over : (rotation : List (ℕ × ℕ)) {better old p x : ℕ} (i : ℕ) → let r = target_at rotation i in
@@ -114,8 +116,8 @@ module _ {l : Lists} (h : IsMarket l) where
         place = place_of l.reviewers r p;
         behind = omega arith;
         before = omega arith;
-        proposer = sym (place_entry l.reviewers r p listed);
-        at = sym (ap (place_of l.proposers p) is ∙ entry_place h.proposers p x on);
+        proposer = sym (entry-place_of l.reviewers r p listed);
+        at = sym (ap (place_of l.proposers p) is ∙ place_of-entry h.proposers p x on);
       }
 
   over_wider : {rotation : List (ℕ × ℕ)} {n p x : ℕ} → MovesOver l rotation n p x → MovesOver l rotation (n + 1) p x
@@ -211,24 +213,18 @@ between_split {marks} {from} {to} i w = elim (eq_or_ne w.place to) [
   | inr e ↦ inl (record { place = w.place; behind = w.behind; before = omega (arith, w.before); marked = w.marked })
 ]
 
-some_same : {x y : ℕ} → Some x ≡ Some y → x ≡ y
-some_same e = cc
-
-none_some : {x : ℕ} → ◌≡◌ {A = Option ℕ} None (Some x) → ⊥
-none_some e = grind arith
-
 pub between_some : {marks : List (Option ℕ)} {from to : ℕ} {xs ys : List ℕ} (x : ℕ) → from < to → note_of marks to ≡ Some x → Adds (λ i. IsBetween marks from to i) xs ys → Adds (λ i. IsBetween marks from (to + 1) i) xs (ys ++ x ∷ [])
 between_some {marks} {from} {to} {xs} {ys} x low is a =
-    adds_join (λ i. IsBetween marks from (to + 1) i) a (adds_one (λ i. note_of marks to ≡ Some i) ys x is (λ i e. some_same (sym e ∙ is)))
+    adds_join (λ i. IsBetween marks from (to + 1) i) a (adds_one (λ i. note_of marks to ≡ Some i) ys x is (λ i e. same_Some _ _ (sym e ∙ is)))
     (λ i w. between_wider w)
     (λ i e. record { place = to; behind = low; before = omega arith; marked = e })
     between_split
 
 pub between_none : {marks : List (Option ℕ)} {from to : ℕ} {xs ys : List ℕ} → note_of marks to ≡ None → Adds (λ i. IsBetween marks from to i) xs ys → Adds (λ i. IsBetween marks from (to + 1) i) xs ys
 between_none {marks} {from} {to} {xs} {ys} is a =
-    adds_join (λ i. IsBetween marks from (to + 1) i) a (adds_none (λ i. note_of marks to ≡ Some i) ys (λ i e. none_some (sym is ∙ e)))
+    adds_join (λ i. IsBetween marks from (to + 1) i) a (adds_none (λ i. note_of marks to ≡ Some i) ys (λ i e. none-some _ (sym is ∙ e)))
     (λ i w. between_wider w)
-    (λ i e. absurd (none_some (sym is ∙ e)))
+    (λ i e. absurd (none-some _ (sym is ∙ e)))
     between_split
 
 -- what the pairs of a rotation are found to need, pair by pair

@@ -6,9 +6,9 @@ use Rattle.std.specs.declared.alloc.Global.{Global}
 use Rattle.std.proofs.lemmas.List.{get_or-map, map-set, get_or_past, get_or-replicate, length-replicate, length-map}
 use Rattle.sm_market.specs.Lists.{Lists, row, entry, place_of, IsMarket}
 use Rattle.sm_market.specs.Matching.{Places, standing, IsMatching}
-use Rattle.sm_market.proofs.Counting.{lt_or_le}
+use Rattle.sm_lists.proofs.Counting.{lt_or_le}
 use Rattle.sm_market.proofs.PairingLemmas.{held_in_range}
-use Rattle.sm_market.proofs.Bridge.{place_entry}
+use Rattle.sm_lists.proofs.PlaceLemmas.{entry-place_of}
 use Rattle.sm_theory.specs.Rotations.{IsExposed, proposer_at, reviewer_at, target_at, next_in, eliminated}
 use Rattle.sm_theory.specs.Chains.{rotation_at, stage, IsCompleteChain}
 use Rattle.sm_theory.specs.Values.{rotations_of}
@@ -67,7 +67,7 @@ module _ {l : Lists} (h : IsMarket l) {m : Places} {pairs : List (ℕ × ℕ)} (
   -- the reviewer to which a pair moves, its place before and its place behind
   module _ (i : ℕ) (a : i < length pairs) {p to r : ℕ} (is : p ≡ proposer_at pairs i) (to_is : to ≡ place_of l.proposers p (target_at pairs i)) (on : to < length (row l.proposers p)) (r_is : r ≡ entry l.proposers p to) where
     pub target_is : r ≡ target_at pairs i
-    target_is = r_is ∙ ap (entry l.proposers p) to_is ∙ place_entry l.proposers p (target_at pairs i) (omega arith)
+    target_is = r_is ∙ ap (entry l.proposers p) to_is ∙ entry-place_of l.proposers p (target_at pairs i) (omega arith)
 
     pub better_is : (better : ℕ) → better ≡ place_of l.reviewers (entry l.proposers p to) p → better ≡ place_of l.reviewers (target_at pairs i) (proposer_at pairs i)
     better_is better e = rw (← is, ← target_is, r_is) e

@@ -3,7 +3,7 @@ use Rattle.std.proofs.Common.{◌≡◌, ◌≢◌, ℕ, suc, ◌<◌, ◌⊎◌
 use Rattle.sm_market.specs.Lists.{Lists, IsMarket}
 use Rattle.sm_market.specs.Matching.{Places}
 use Rattle.sm_market.specs.Stable.{IsStable}
-use Rattle.sm_market.proofs.Counting.{Decided-and, Decided-not, by_contradiction, lt_or_le, First, search_below}
+use Rattle.sm_lists.proofs.Counting.{Decided-and, Decided-not, by_contradiction, lt_or_le, First, search_below}
 use Rattle.sm_market.proofs.Core.{Sides, Stand, Stable}
 use Rattle.sm_market.proofs.Bridge.{stable_equal}
 use Rattle.sm_theory.specs.Rotations.{proposer_at, IsExposed, eliminated}
@@ -90,53 +90,3 @@ module _ {s : Sides} {t : ℕ} {M : ℕ → Stand} {c : ℕ → Cycle} (ch : Cha
             | inr more ↦ absurd (omega (arith, low, up, after_k p w, rise ch p (suc k) j (omega arith) (omega arith)))
           ]
         ]
-
-  -- an exposed rotation is one of the chain that is exposed there, begun at some pair
-  pub record IsOneOf (n : Stand) (d : Cycle) : Type 0 where
-    pub at : ℕ
-    pub below : at < t
-    pub exposed : Exposed s n (c at)
-    pub there : (i : ℕ) → i < d.size → Among d (c at) i
-    pub back : (i : ℕ) → i < (c at).size → Among (c at) d i
-
-  pub one_of_chain : {n : Stand} {d : Cycle} → Stable s n → Exposed s n d → IsOneOf n d
-  one_of_chain {n} {d} hn x = go (search_below t (λ k. Reaches ch m k × (Reaches ch n k → ⊥)) (λ k _. Decided-and (Decided-reaches ch hm k) (Decided-not (Decided-reaches ch hn k))))
-    where
-      m : Stand
-      m = eliminate s n d
-
-      e : Elim s n d m
-      e = Elim-eliminate x
-
-      hm : Stable s m
-      hm = elim_stable hn x e
-
-      found : (k : ℕ) → k < t → Reaches ch m k → (Reaches ch n k → ⊥) → ((j : ℕ) → j < k → Reaches ch m j × (Reaches ch n j → ⊥) → ⊥) → IsOneOf n d
-      found k h inside out least = share (moves_or_not d p)
-        where
-          ready : (i : ℕ) → i < t → Needs s (c i) (c k) → Reaches ch n i
-          ready i g need = by_contradiction (Decided-reaches ch hn i) (λ not_there. least i (needs_lower ch i k g h need) (reaches_closed ch hm i k g h inside need, not_there))
-
-          y : Exposed s n (c k)
-          y = ready_is_exposed hn k h out ready
-
-          p : ℕ
-          p = (c k).who 0
-
-          mv : Moves (c k) p
-          mv = moves_at (c k) 0 y.some
-
-          less : n.a p < m.a p
-          less = omega (arith, (reaches_of ch hm).reach p k h inside mv, up_at ch k p h mv, same_before ch (reaches_closed ch hn) hn (reaches_of ch hn) k h out ready p mv)
-
-          share : Moves d p ⊎ ((i : ℕ) → i < d.size → d.who i ≡ p → ⊥) → IsOneOf n d
-          share (inr none) = absurd (omega (arith, e.still p none, less))
-          share (inl w) = record { at = k; below = h; exposed = y; there = same_cycle x y w.at 0 w.below y.some (sym w.holds); back = same_cycle y x 0 w.at y.some w.below w.holds }
-
-      go : First t (λ k. Reaches ch m k × (Reaches ch n k → ⊥)) ⊎ ((k : ℕ) → k < t → Reaches ch m k × (Reaches ch n k → ⊥) → ⊥) → IsOneOf n d
-      go (inl w) = found w.at w.below w.holds.0 w.holds.1 w.earlier
-      go (inr none) = absurd (omega (
-        arith,
-        goes_down hn x e 0 x.some,
-        of_more ch (reaches_of ch hm) (reaches_of ch hn) (λ k h r. by_contradiction (Decided-reaches ch hn k) (λ out. none k h (r, out))) (d.who 0),
-      ))

@@ -4,7 +4,7 @@ use Rattle.std.proofs.lemmas.Bool.{le-leb, leb-true}
 use Rattle.sm_market.specs.Lists.{Lists, IsMarket}
 use Rattle.sm_market.specs.Matching.{Places, standing}
 use Rattle.sm_market.specs.Stable.{IsStable}
-use Rattle.sm_market.proofs.Counting.{Decided, by_contradiction, search_below, Decided-not}
+use Rattle.sm_lists.proofs.Counting.{Decided, by_contradiction, search_below, Decided-not, Decided-true}
 use Rattle.sm_market.proofs.Bridge.{stand_of, stable_of}
 use Rattle.sm_theory.specs.Rotations.{proposer_at, IsExposed, eliminated}
 use Rattle.sm_theory.specs.Chains.{rotation_at, stage, IsCompleteChain, IsNeededBy}
@@ -14,7 +14,8 @@ use Rattle.sm_theory.proofs.CoreCorrespondence.{Reaches, reaches_of, reaches_clo
 use Rattle.sm_theory.proofs.BridgeRotation.{cycle_of, exposed_of, exposed_back, elim_of, eliminated_stable}
 use Rattle.sm_theory.proofs.BridgeChain.{chain_of, needs_of, needs_back}
 use Rattle.sm_rotations.specs.Ordering.{is_passed, IsPassed}
-use Rattle.sm_rotations.proofs.OrderLemmas.{reached_by, exposed_is_ready, ready_is_exposed, still_reached, now_reached, no_other, one_of_chain, IsOneOf}
+use Rattle.sm_theory.proofs.CoreCorrespondence.{InChain, all_in_chain}
+use Rattle.sm_rotations.proofs.OrderLemmas.{reached_by, exposed_is_ready, ready_is_exposed, still_reached, now_reached, no_other}
 
 -- a pair has p
 pub record HasProposer (rotation : List (ℕ × ℕ)) (p : ℕ) : Type 0 where
@@ -29,10 +30,6 @@ pub record IsReadyOne (l : Lists) (first : Places) (rotations : List (List (ℕ 
   pub out : ¬ IsPassed l first rotations m at
   pub prepared : (i : ℕ) → i < length rotations → IsNeededBy l (rotation_at rotations i) (rotation_at rotations at) → IsPassed l first rotations m i
   pub among : (i : ℕ) → i < length other → HasProposer (rotation_at rotations at) (proposer_at other i)
-
-pub Decided-true : (b : Bool) → Decided (b ≡ true)
-Decided-true true = inl refl
-Decided-true false = inr (λ e. grind arith)
 
 module _ {l : Lists} (h : IsMarket l) {first : Places} {rotations : List (List (ℕ × ℕ))} (chain : IsCompleteChain l first rotations) where
   to_reached : {m : Places} → IsStable l m → (k : ℕ) → k < length rotations → IsPassed l first rotations m k → Reaches (chain_of h chain) (stand_of l m) k
@@ -72,7 +69,7 @@ module _ {l : Lists} (h : IsMarket l) {first : Places} {rotations : List (List (
     -- and what is exposed is one of these, with its pairs
     pub exposed_ready_one : (other : List (ℕ × ℕ)) → IsExposed l m other → IsReadyOne l first rotations m other
     exposed_ready_one other x =
-        let w : IsOneOf (chain_of h chain) (stand_of l m) (cycle_of other) = one_of_chain (chain_of h chain) (stable_of h s) (exposed_of h s.matching x) in
+        let w : InChain (chain_of h chain) (stand_of l m) (cycle_of other) = all_in_chain (chain_of h chain) (stable_of h s) (exposed_of h s.matching x) in
         let v = exposed_is_ready (chain_of h chain) (stable_of h s) w.at w.below w.exposed in
         record {
           at = w.at;

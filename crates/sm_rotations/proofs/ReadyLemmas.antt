@@ -3,27 +3,22 @@ use Rattle.std.proofs.Common.{◌≡◌, ◌≢◌, ℕ, ◌+◌, ◌<◌, ◌�
 use Rattle.std.specs.Bool.{nat_eq}
 use Rattle.std.specs.declared.cmp.Reverse.{Reverse}
 use Rattle.std.proofs.lemmas.Bool.{eqb-true}
+use Rattle.sm_lists.proofs.ResultLemmas.{same_bool}
 use Rattle.sm_market.specs.Lists.{Lists, row, IsMarket}
 use Rattle.sm_market.specs.Matching.{Places}
 use Rattle.sm_market.specs.Stable.{IsStable}
-use Rattle.sm_market.proofs.Counting.{eq_or_ne, by_contradiction}
-use Rattle.sm_theory.specs.Rotations.{IsExposed, eliminated}
+use Rattle.sm_lists.proofs.Counting.{eq_or_ne, by_contradiction, Decided-true}
+use Rattle.sm_theory.specs.Rotations.{IsExposed, eliminated, IsNothingExposed, IsLowestExposed}
 use Rattle.sm_theory.specs.Chains.{rotation_at, IsCompleteChain, IsNeededBy, AreNeedsOf}
-use Rattle.sm_rotations.specs.Following.{IsNothingExposed, IsLowestExposed}
 use Rattle.sm_rotations.specs.Graph.{times}
 use Rattle.sm_rotations.specs.Ordering.{times_ready, is_passed, IsPassed, left_over, IsLead, IsEntry, IsTurned, AreReady, AreReadyAtFirst, IsReleased, AreCounts}
 use Rattle.sm_rotations.proofs.TimesLemmas.{count_found, count_some, count_none, count_all, count_apart}
 use Rattle.sm_rotations.proofs.TurnLemmas.{turned_exposed, turned_first}
-use Rattle.sm_rotations.proofs.PassedLemmas.{Decided-true, IsReadyOne, none_passed, passed_needs, ready_exposed, exposed_ready_one, all_passed, now_passed, still_passed, no_other_passed}
+use Rattle.sm_rotations.proofs.PassedLemmas.{IsReadyOne, none_passed, passed_needs, ready_exposed, exposed_ready_one, all_passed, now_passed, still_passed, no_other_passed}
 
 false_of : (b : Bool) → (b ≡ true → ⊥) → b ≡ false
 false_of true out = absurd (out refl)
 false_of false out = refl
-
-same_bool : (a b : Bool) → (a ≡ true → b ≡ true) → (b ≡ true → a ≡ true) → a ≡ b
-same_bool true b f g = sym (f refl)
-same_bool false true f g = g refl
-same_bool false false f g = refl
 
 module _ {l : Lists} (h : IsMarket l) {first : Places} {rotations : List (List (ℕ × ℕ))} (chain : IsCompleteChain l first rotations)
     (needs : List (List ℕ)) (are : (j : ℕ) → j < length rotations → AreNeedsOf l rotations j (row needs j)) where

@@ -1,10 +1,11 @@
 -- The steps of the walk: the top is finished, the walk goes on, or a rotation is taken off.
 use Rattle.std.proofs.Common.{◌≡◌, ◌≢◌, ℕ, suc, ◌+◌, ◌<◌, ◌≤◌, inl, inr, arith, refl, sym, ap, ◌∙◌, Bool, true, false, List, [], ◌∷◌, ◌++◌, length, Option, Some, None, slice_index, set}
 use Rattle.std.proofs.lemmas.List.{get_or_append_left, get_or_push, length_push, get_or-set_same, get_or-set_other, length-set}
+use Rattle.std.proofs.lemmas.Option.{same_Some, none-some}
 use Rattle.sm_market.specs.Lists.{Lists, IsMarket}
 use Rattle.sm_market.specs.Matching.{Places, standing}
 use Rattle.sm_market.specs.Stable.{IsStable, IsProposersBest}
-use Rattle.sm_market.proofs.Counting.{lt_or_le, eq_or_ne}
+use Rattle.sm_lists.proofs.Counting.{lt_or_le, eq_or_ne}
 use Rattle.sm_theory.specs.Rotations.{IsExposed, proposer_at, eliminated}
 use Rattle.sm_theory.specs.Chains.{stage, IsCompleteChain}
 use Rattle.sm_market.proofs.Bridge.{stable_of}
@@ -13,12 +14,6 @@ use Rattle.sm_theory.proofs.BridgeRotation.{eliminated_stable}
 use Rattle.sm_rotations.specs.Walking.{IsNext, IsAtWorst, IsStack, ArePairsOf, spot_of, is_finished, IsWalking, IsOnStack, AreTakenOff}
 use Rattle.sm_rotations.proofs.WalkLemmas.{worst_kept, next_kept, all_worst}
 use Rattle.sm_rotations.proofs.ChainingLemmas.{rotation_before, rotation_new, stage_before}
-
-some_same : {x y : ℕ} → Some x ≡ Some y → x ≡ y
-some_same e = cc
-
-none_some : {x : ℕ} → ◌≡◌ {A = Option ℕ} None (Some x) → ⊥
-none_some e = grind arith
 
 -- the stack without its top
 module _ {l : Lists} {m : Places} {stack rest : List ℕ} {spots : List (Option ℕ)} (k : IsStack l m stack spots) (n : ℕ) (long : n + 1 ≡ length stack) (short : length rest ≡ n) (same : (j : ℕ) → j < n → slice_index rest j ≡ slice_index stack j) where
@@ -40,18 +35,18 @@ module _ {l : Lists} {m : Places} {stack rest : List ℕ} {spots : List (Option 
     where
       other : (j : ℕ) → j < n → slice_index stack j ≢ slice_index stack n
       other j less e =
-          let x : j ≡ n = some_same (sym (k.at j (omega arith)) ∙ ap (spot_of spots) e ∙ k.at n (omega arith)) in omega arith
+          let x : j ≡ n = same_Some _ _ (sym (k.at j (omega arith)) ∙ ap (spot_of spots) e ∙ k.at n (omega arith)) in omega arith
 
       before : (p j : ℕ) → spot_of (set spots (slice_index stack n) None) p ≡ Some j → spot_of spots p ≡ Some j
       before p j e = elim (eq_or_ne p (slice_index stack n)) [
         | inr ne ↦ sym (get_or-set_other spots (slice_index stack n) p None None ne) ∙ e
-        | inl is ↦ absurd (none_some (sym (get_or-set_same spots (slice_index stack n) None None (omega (arith, k.in_range n (omega arith), k.spots_each))) ∙ ap (spot_of (set spots (slice_index stack n) None)) (sym is) ∙ e))
+        | inl is ↦ absurd (none-some _ (sym (get_or-set_same spots (slice_index stack n) None None (omega (arith, k.in_range n (omega arith), k.spots_each))) ∙ ap (spot_of (set spots (slice_index stack n) None)) (sym is) ∙ e))
       ]
 
       top : (p j : ℕ) → spot_of (set spots (slice_index stack n) None) p ≡ Some j → j ≡ n → ⊥
       top p j e is =
           let at : slice_index stack n ≡ p = ap (slice_index stack) (sym is) ∙ k.only p j (before p j e) in
-          none_some (sym (get_or-set_same spots (slice_index stack n) None None (omega (arith, k.in_range n (omega arith), k.spots_each))) ∙ ap (spot_of (set spots (slice_index stack n) None)) at ∙ e)
+          none-some _ (sym (get_or-set_same spots (slice_index stack n) None None (omega (arith, k.in_range n (omega arith), k.spots_each))) ∙ ap (spot_of (set spots (slice_index stack n) None)) at ∙ e)
 
 -- the stack with one more
 pub stack_pushed : {l : Lists} {m : Places} {stack : List ℕ} {spots : List (Option ℕ)} → IsStack l m stack spots → (q : ℕ) → q < length l.proposers → spot_of spots q ≡ None
@@ -67,11 +62,11 @@ stack_pushed {l} {m} {stack} {spots} k q inside fresh step = record {
     | inr ne ↦ rw (old j (small j less ne)) (get_or-set_other spots q (slice_index stack j) (Some (length stack)) None (apart j (small j less ne)) ∙ k.at j (small j less ne))
   ];
   inside = λ p j e. elim (eq_or_ne p q) [
-    | inl is ↦ let x : length stack ≡ j = some_same (sym here ∙ ap (spot_of (set spots q (Some (length stack)))) (sym is) ∙ e) in omega (arith, length_push stack q)
+    | inl is ↦ let x : length stack ≡ j = same_Some _ _ (sym here ∙ ap (spot_of (set spots q (Some (length stack)))) (sym is) ∙ e) in omega (arith, length_push stack q)
     | inr ne ↦ omega (arith, length_push stack q, k.inside p j (sym (get_or-set_other spots q p (Some (length stack)) None ne) ∙ e))
   ];
   only = λ p j e. elim (eq_or_ne p q) [
-    | inl is ↦ let x : length stack ≡ j = some_same (sym here ∙ ap (spot_of (set spots q (Some (length stack)))) (sym is) ∙ e) in new j (sym x) ∙ sym is
+    | inl is ↦ let x : length stack ≡ j = same_Some _ _ (sym here ∙ ap (spot_of (set spots q (Some (length stack)))) (sym is) ∙ e) in new j (sym x) ∙ sym is
     | inr ne ↦ let y = sym (get_or-set_other spots q p (Some (length stack)) None ne) ∙ e in old j (k.inside p j y) ∙ k.only p j y
   ];
   next = λ j less. elim (eq_or_ne (j + 1) (length stack)) [
@@ -93,7 +88,7 @@ stack_pushed {l} {m} {stack} {spots} k q inside fresh step = record {
     here = get_or-set_same spots q (Some (length stack)) None (omega (arith, k.spots_each))
 
     apart : (j : ℕ) → j < length stack → slice_index stack j ≢ q
-    apart j less e = none_some (sym fresh ∙ ap (spot_of spots) (sym e) ∙ k.at j less)
+    apart j less e = none-some _ (sym fresh ∙ ap (spot_of spots) (sym e) ∙ k.at j less)
 
 -- the stack below a rotation that is eliminated
 pub stack_below : {l : Lists} (h : IsMarket l) {m : Places} (s : IsStable l m) {stack rest : List ℕ} {before after : List (Option ℕ)} {pairs : List (ℕ × ℕ)} (from : ℕ)
@@ -106,8 +101,8 @@ stack_below {l} h {m} s {stack} {rest} {before} {after} {pairs} from k a x t sho
     | inl e ↦ e ∙ k.at j (inside j (omega arith))
     | inr w ↦ absurd (below j (omega arith) w.1)
   ]);
-  inside = λ p j e. elim (lt_or_le j from) [ inl less ↦ omega arith | inr more ↦ absurd (none_some (sym (t.gone j more (k.inside p j (was p j e))) ∙ ap (spot_of after) (k.only p j (was p j e)) ∙ e)) ];
-  only = λ p j e. elim (lt_or_le j from) [ inl less ↦ same j less ∙ k.only p j (was p j e) | inr more ↦ absurd (none_some (sym (t.gone j more (k.inside p j (was p j e))) ∙ ap (spot_of after) (k.only p j (was p j e)) ∙ e)) ];
+  inside = λ p j e. elim (lt_or_le j from) [ inl less ↦ omega arith | inr more ↦ absurd (none-some _ (sym (t.gone j more (k.inside p j (was p j e))) ∙ ap (spot_of after) (k.only p j (was p j e)) ∙ e)) ];
+  only = λ p j e. elim (lt_or_le j from) [ inl less ↦ same j less ∙ k.only p j (was p j e) | inr more ↦ absurd (none-some _ (sym (t.gone j more (k.inside p j (was p j e))) ∙ ap (spot_of after) (k.only p j (was p j e)) ∙ e)) ];
   next = λ j less. rw (same j (omega arith), same (j + 1) (omega arith)) (next_kept h s x (slice_index stack j) (slice_index stack (j + 1)) (apart j (omega arith)) (apart (j + 1) (omega arith)) (k.next j (inside (j + 1) (omega arith))));
 }
   where
@@ -116,11 +111,11 @@ stack_below {l} h {m} s {stack} {rest} {before} {after} {pairs} from k a x t sho
 
     below : (j : ℕ) → j < from → IsOnStack stack from (slice_index stack j) → ⊥
     below j less w =
-        let e : w.spot ≡ j = some_same (sym (k.at w.spot w.inside) ∙ ap (spot_of before) w.is ∙ k.at j (inside j less)) in
+        let e : w.spot ≡ j = same_Some _ _ (sym (k.at w.spot w.inside) ∙ ap (spot_of before) w.is ∙ k.at j (inside j less)) in
         omega (arith, w.above)
 
     was : (p j : ℕ) → spot_of after p ≡ Some j → spot_of before p ≡ Some j
-    was p j e = elim (t.only p) [ inl y ↦ sym y ∙ e | inr w ↦ absurd (none_some (sym w.0 ∙ e)) ]
+    was p j e = elim (t.only p) [ inl y ↦ sym y ∙ e | inr w ↦ absurd (none-some _ (sym w.0 ∙ e)) ]
 
     apart : (j : ℕ) → j < from → (i : ℕ) → i < length pairs → proposer_at pairs i ≡ slice_index stack j → ⊥
     apart j less i within e = below j less (record { spot = from + i; above = omega arith; inside = omega (arith, a.as_many); is = sym (a.who i within) ∙ e })

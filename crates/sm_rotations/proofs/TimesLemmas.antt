@@ -4,7 +4,7 @@ use Rattle.std.specs.Bool.{nat_eq}
 use Rattle.std.specs.List.{count_by, Contains}
 use Rattle.std.proofs.lemmas.Bool.{cases_Bool, eq-eqb, eqb-true, ne_eqb}
 use Rattle.std.proofs.lemmas.List.Sums.{sum_by-cons, get_or-le-sum_by, sum_by-take-le, sum_by_more}
-use Rattle.sm_market.proofs.Counting.{eq_or_ne}
+use Rattle.sm_lists.proofs.Counting.{eq_or_ne}
 use Rattle.sm_rotations.specs.Graph.{times}
 
 -- a test as a number

@@ -4,7 +4,7 @@ use Rattle.std.proofs.lemmas.List.{length-append, length-drop, length-take-le, g
 use Rattle.sm_market.specs.Lists.{Lists, IsMarket}
 use Rattle.sm_market.specs.Matching.{Places, IsMatching}
 use Rattle.sm_market.specs.Stable.{IsStable}
-use Rattle.sm_market.proofs.Counting.{lt_or_le, eq_or_ne}
+use Rattle.sm_lists.proofs.Counting.{lt_or_le, eq_or_ne}
 use Rattle.sm_theory.specs.Rotations.{IsExposed, proposer_at, reviewer_at, target_at, eliminated}
 use Rattle.sm_theory.proofs.CoreCycle.{turn, turn_in, turn_last, turn_more}
 use Rattle.sm_theory.proofs.BridgeRotation.{exposed_of, exposed_back}

@@ -8,7 +8,7 @@ use Rattle.std.proofs.lemmas.Option.{slice_get_past, slice_get-get_or}
 use Rattle.std.specs.Bool.{nat_eq}
 use Rattle.sm_market.specs.Lists.{Lists, row}
 use Rattle.sm_theory.specs.Chains.{AreNeedsOf}
-use Rattle.sm_market.proofs.Counting.{eq_or_ne, lt_or_le}
+use Rattle.sm_lists.proofs.Counting.{eq_or_ne, lt_or_le}
 use Rattle.sm_rotations.specs.Marking.{IsRisingListOf}
 use Rattle.sm_rotations.specs.Graph.{times, last_of, AreFollowers, AreTurnedBack, IsNeeded}
 use Rattle.sm_rotations.proofs.TimesLemmas.{times_more, times_same, count_some}

@@ -1,20 +1,19 @@
 -- The walk along successors: what is finished stays finished, and what is on the stack stays there.
 use Rattle.std.proofs.Common.{◌≡◌, ℕ, ◌+◌, ◌<◌, ◌≤◌, inl, inr, arith, refl, sym, ap, ◌∙◌, List, length, Option, Some, slice_index}
+use Rattle.std.proofs.lemmas.Option.{same_Some}
 use Rattle.sm_market.specs.Lists.{Lists, place_of, IsMarket}
 use Rattle.sm_market.specs.Matching.{Places, held, standing}
 use Rattle.sm_market.specs.Stable.{IsStable}
-use Rattle.sm_market.proofs.Counting.{lt_or_le, eq_or_ne}
+use Rattle.sm_lists.proofs.Counting.{lt_or_le, eq_or_ne}
 use Rattle.sm_market.proofs.Core.{Pair, pair_at, one_proposer, one_reviewer}
-use Rattle.sm_market.proofs.Bridge.{sides_of, stand_of, fit_of, stable_of, standing-some, held_at, place_entry}
+use Rattle.sm_lists.proofs.PlaceLemmas.{entry-place_of}
+use Rattle.sm_market.proofs.Bridge.{sides_of, stand_of, fit_of, stable_of, standing-some, held_at}
 use Rattle.sm_theory.specs.Rotations.{IsSuccessor, IsExposed, proposer_at, reviewer_at, target_at, eliminated}
 use Rattle.sm_theory.proofs.CoreCycle.{Succ, turn_last, turn_more}
 use Rattle.sm_theory.proofs.CoreRotation.{goes_down, never_up, keeps, never_worse, elim_fit}
 use Rattle.sm_theory.proofs.CoreDichotomy.{step, step_on}
 use Rattle.sm_theory.proofs.BridgeRotation.{succ_of, succ_back, exposed_of, elim_of, eliminated_stable}
 use Rattle.sm_rotations.specs.Walking.{IsNext, IsAtWorst, IsStack, ArePairsOf, spot_of}
-
-some_same : {x y : ℕ} → Some x ≡ Some y → x ≡ y
-some_same e = cc
 
 module _ {l : Lists} (h : IsMarket l) {m : Places} (s : IsStable l m) where
   pair_of_held : (p r : ℕ) → held m.proposers p ≡ Some (place_of l.proposers p r) → Pair (sides_of l h) (stand_of l m) p r
@@ -24,7 +23,7 @@ module _ {l : Lists} (h : IsMarket l) {m : Places} (s : IsStable l m) where
       pair_at p r (fit_of h s.matching) (omega arith) (sym at)
 
   succ_at : (p r : ℕ) → IsSuccessor l m p (place_of l.proposers p r) → Succ (sides_of l h) (stand_of l m) p r
-  succ_at p r x = rw (place_entry l.proposers p r x.on_list) at (succ_of h s.matching p (place_of l.proposers p r) x)
+  succ_at p r x = rw (entry-place_of l.proposers p r x.on_list) at (succ_of h s.matching p (place_of l.proposers p r) x)
 
   -- a proposer is finished where it has no successor, or where the one that has its successor is finished
   pub worst_at_end : (p : ℕ) → ((i : ℕ) → ¬ IsSuccessor l m p i) → IsAtWorst l m p
@@ -90,7 +89,7 @@ module _ {l : Lists} (h : IsMarket l) {m : Places} (s : IsStable l m) where
     distinct = λ i j less inside e.
         let one : spot_of spots (proposer_at pairs i) ≡ Some (from + i) = rw (a.who i (omega arith)) (k.at (from + i) (omega (arith, a.as_many))) in
         let two : spot_of spots (proposer_at pairs j) ≡ Some (from + j) = rw (a.who j inside) (k.at (from + j) (omega (arith, a.as_many))) in
-        let same : from + i ≡ from + j = some_same (sym one ∙ ap (spot_of spots) e ∙ two) in
+        let same : from + i ≡ from + j = same_Some _ _ (sym one ∙ ap (spot_of spots) e ∙ two) in
         omega arith;
     paired = a.paired;
     next = next;

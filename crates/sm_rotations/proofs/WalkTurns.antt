@@ -3,20 +3,18 @@ use Rattle.std.proofs.Common.{◌≡◌, ℕ, zero, suc, ◌+◌, ◌*◌, ◌<�
 use Rattle.std.proofs.lemmas.List.{length_push, get_or-set_same, get_or-set_other, get_or_past, get_or-replicate, length-replicate, get_or-take, length-take-le}
 use Rattle.std.proofs.lemmas.Nat.{mul-add-lt}
 use Rattle.std.proofs.Math.Nat.{mul_comm}
+use Rattle.std.proofs.lemmas.Option.{none-some}
 use Rattle.sm_market.specs.Lists.{Lists, place_of, IsMarket}
 use Rattle.sm_market.specs.Matching.{Places}
 use Rattle.sm_market.specs.Stable.{IsStable}
-use Rattle.sm_market.proofs.Counting.{lt_or_le, eq_or_ne}
-use Rattle.sm_market.proofs.Bridge.{place_entry}
+use Rattle.sm_lists.proofs.Counting.{lt_or_le, eq_or_ne}
+use Rattle.sm_lists.proofs.PlaceLemmas.{entry-place_of}
 use Rattle.sm_theory.specs.Rotations.{IsSuccessor, IsExposed, proposer_at, reviewer_at, eliminated}
 use Rattle.sm_rotations.specs.Walking.{IsNext, IsAtWorst, IsStack, ArePairsOf, spot_of, is_finished, IsWalking, AreTakenOff, IsTopTakenOff, IsTopAtWorst, GoesOn, LeadsBack}
 use Rattle.sm_rotations.proofs.WalkLemmas.{worst_at_end, worst_before, stack_exposed}
 use Rattle.sm_rotations.proofs.StackLemmas.{walk_finishes, walk_goes_on, walk_takes_off}
 use Rattle.sm_rotations.proofs.ChainingLemmas.{places_below}
 use Rattle.sm_rotations.proofs.CountLemmas.{sum_below, sum_below-zero, sum_below-suc, sums_le, sums_less}
-
-none_some : {x : ℕ} → ◌≡◌ {A = Option ℕ} None (Some x) → ⊥
-none_some e = grind arith
 
 false_true : ◌≡◌ {A = Bool} false true → ⊥
 false_true e = grind arith
@@ -53,8 +51,8 @@ begins {l} {first} n e s = record {
     spots_each = length-replicate {A = Option ℕ} n None ∙ e;
     in_range = λ k less. absurd (omega arith);
     at = λ k less. absurd (omega arith);
-    inside = λ p k w. absurd (none_some (sym (spot_nowhere n p) ∙ w));
-    only = λ p k w. absurd (none_some (sym (spot_nowhere n p) ∙ w));
+    inside = λ p k w. absurd (none-some _ (sym (spot_nowhere n p) ∙ w));
+    only = λ p k w. absurd (none-some _ (sym (spot_nowhere n p) ∙ w));
     next = λ k less. absurd (omega arith);
   };
 }
@@ -89,7 +87,7 @@ module _ {l : Lists} (h : IsMarket l) {first m : Places} {rotations : List (List
         let p : ℕ = proposer_at pairs i in
         let r : ℕ = reviewer_at pairs i in
         let on = w.stable.matching.proposers.on_list p (place_of l.proposers p r) (a.paired i inside) in
-        rw (place_entry l.proposers p r on) at (h.proposers.in_range p (place_of l.proposers p r) on)
+        rw (entry-place_of l.proposers p r on) at (h.proposers.in_range p (place_of l.proposers p r) on)
 
 -- who is finished stays so
 pub still_finished : (finished : List Bool) (t p : ℕ) → t < length finished → is_finished finished p ≡ true → is_finished (set finished t true) p ≡ true
@@ -119,7 +117,7 @@ open_spot : (b : Bool) (o : Option ℕ) (k : ℕ) → o ≡ Some k → open_of b
 unfolding open_of
 open_spot true o k e = refl
 open_spot false (Some j) k e = refl
-open_spot false None k e = absurd (none_some e)
+open_spot false None k e = absurd (none-some _ e)
 
 open_free : (b : Bool) (o : Option ℕ) → b ≡ false → o ≡ None → open_of b o ≡ 1
 unfolding open_of

@@ -8,14 +8,13 @@ use Rattle.std.proofs.lemmas.List.{get_or-map, length-map}
 use Rattle.sm_market.specs.Lists.{Lists, row, IsMarket}
 use Rattle.sm_market.specs.Matching.{Places}
 use Rattle.sm_market.specs.Vectors.{rows_of}
-use Rattle.sm_market.proofs.Counting.{lt_or_le}
-use Rattle.sm_market.proofs.ListLemmas.{row_in_range}
-use Rattle.sm_theory.specs.Rotations.{eliminated}
+use Rattle.sm_lists.proofs.Counting.{lt_or_le}
+use Rattle.sm_lists.proofs.RowLemmas.{row_in_range}
+use Rattle.sm_theory.specs.Rotations.{eliminated, IsLowestExposed}
 use Rattle.sm_theory.specs.Chains.{rotation_at, stage, IsCompleteChain, IsPrintedChain, AreNeedsOf}
 use Rattle.sm_theory.specs.Values.{rotations_of}
 use Rattle.sm_theory.specs.declared.rotations.Rotation.{Rotation}
 use Rattle.sm_theory.proofs.BridgeRotation.{eliminated_stable}
-use Rattle.sm_rotations.specs.Following.{IsLowestExposed}
 use Rattle.sm_rotations.specs.Chaining.{LeadsTo}
 use Rattle.sm_rotations.specs.Graph.{times, AreTurnedOver}
 use Rattle.sm_rotations.specs.Ordering.{later_first, times_ready, IsEntry, IsTurned, AreReadyAtFirst, IsReleased, AreCounts, AreWritten}

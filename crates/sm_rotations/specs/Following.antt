@@ -1,17 +1,8 @@
--- Following successors from one proposer to the next, and the exposed rotation that comes first.
-use Rattle.std.specs.Prelude.{◌≡◌, ◌≢◌, ℕ, ◌+◌, ◌<◌, ◌≤◌, List, Some, length}
+-- Following successors from one proposer to the next.
+use Rattle.std.specs.Prelude.{◌≡◌, ◌≢◌, ℕ, ◌+◌, ◌<◌, List, Some, length}
 use Rattle.sm_market.specs.Lists.{Lists, place_of}
 use Rattle.sm_market.specs.Matching.{Places, held}
 use Rattle.sm_theory.specs.Rotations.{IsSuccessor, IsExposed, proposer_at, reviewer_at}
-
--- no rotation is exposed
-pub record IsNothingExposed (l : Lists) (m : Places) : Type 0 where
-  pub none : (other : List (ℕ × ℕ)) → ¬ IsExposed l m other
-
--- an exposed rotation that begins with the lowest-numbered proposer of all exposed rotations
-pub record IsLowestExposed (l : Lists) (m : Places) (rotation : List (ℕ × ℕ)) : Type 0 where
-  pub exposed : IsExposed l m rotation
-  pub lowest : (other : List (ℕ × ℕ)) → IsExposed l m other → (i : ℕ) → i < length other → proposer_at rotation 0 ≤ proposer_at other i
 
 -- p has r, and q has p's successor
 pub record IsStep (l : Lists) (m : Places) (p r q : ℕ) : Type 0 where

@@ -4,8 +4,8 @@ ghost use Rattle.std.specs.Prelude.{◌≡◌, ℕ, ◌<◌, length, true, false
 ghost use Rattle.sm_market.specs.Lists.{IsMarket};
 ghost use Rattle.sm_market.specs.Stable.{IsStable};
 ghost use Rattle.sm_market.specs.Pairing.{IsPairingOf};
-ghost use Rattle.sm_theory.specs.Rotations.{IsSuccessor};
-ghost use Rattle.sm_rotations.specs.Following.{IsNothingExposed, IsLowestExposed, IsStep, IsRotationFrom, IsInNone};
+ghost use Rattle.sm_theory.specs.Rotations.{IsSuccessor, IsNothingExposed, IsLowestExposed};
+ghost use Rattle.sm_rotations.specs.Following.{IsStep, IsRotationFrom, IsInNone};
 
 use sm_market::{Market, Pairing};
 use sm_theory::{Rotation, successor};

@@ -1,20 +1,15 @@
 -- Meet and join of stable matchings, over lists.
 use Rattle.std.proofs.Common.{◌≡◌, ℕ, ◌<◌, ◌≤◌, inl, inr, arith, refl, sym, ◌∙◌, length, map, Option, None, Some, unwrap_or, min, max}
 use Rattle.std.proofs.lemmas.List.FromFn.{length-map-range_with_len}
+use Rattle.std.proofs.lemmas.Option.{same_Some, none-some}
 use Rattle.sm_market.specs.Lists.{Lists, row, IsMarket}
 use Rattle.sm_market.specs.Matching.{Places, held, standing}
 use Rattle.sm_market.specs.Stable.{IsStable}
-use Rattle.sm_market.proofs.Counting.{lt_or_le}
+use Rattle.sm_lists.proofs.Counting.{lt_or_le}
 use Rattle.sm_market.proofs.Bridge.{sides_of, stand_of, fit_of, stable_of}
 use Rattle.sm_theory.specs.Lattice.{agents, better, worse, meet_of, join_of}
 use Rattle.sm_theory.proofs.CoreMeet.{meet_stable, join_stable}
 use Rattle.sm_theory.proofs.BridgePlaces.{held_map, held_map_past, standing_map, standing_map_past, row_past, seats_with, stable_with}
-
-none_some : {x : ℕ} → ◌≡◌ {A = Option ℕ} None (Some x) → ⊥
-none_some e = grind arith
-
-some_same : {x y : ℕ} → Some x ≡ Some y → x ≡ y
-some_same e = cc
 
 -- what `better` and `worse` make of standings, where no place is past the list
 unwrap_better : (o q : Option ℕ) (n : ℕ) → unwrap_or o n ≤ n → unwrap_or q n ≤ n → unwrap_or (better o q) n ≡ min (unwrap_or o n) (unwrap_or q n)
@@ -31,12 +26,12 @@ unwrap_worse (Some i) (Some k) n h g = refl
 better_on : (o q : Option ℕ) (n i : ℕ) → ((k : ℕ) → o ≡ Some k → k < n) → ((k : ℕ) → q ≡ Some k → k < n) → better o q ≡ Some i → i < n
 better_on None q n i h g e = g i e
 better_on (Some j) None n i h g e = h i e
-better_on (Some j) (Some k) n i h g e = let s : min j k ≡ i = some_same e in omega (arith, h j refl, g k refl)
+better_on (Some j) (Some k) n i h g e = let s : min j k ≡ i = same_Some _ _ e in omega (arith, h j refl, g k refl)
 
 worse_on : (o q : Option ℕ) (n i : ℕ) → ((k : ℕ) → o ≡ Some k → k < n) → ((k : ℕ) → q ≡ Some k → k < n) → worse o q ≡ Some i → i < n
-worse_on None q n i h g e = absurd (none_some e)
-worse_on (Some j) None n i h g e = absurd (none_some e)
-worse_on (Some j) (Some k) n i h g e = let s : max j k ≡ i = some_same e in omega (arith, h j refl, g k refl)
+worse_on None q n i h g e = absurd (none-some _ e)
+worse_on (Some j) None n i h g e = absurd (none-some _ e)
+worse_on (Some j) (Some k) n i h g e = let s : max j k ≡ i = same_Some _ _ e in omega (arith, h j refl, g k refl)
 
 module _ {l : Lists} (h : IsMarket l) {m n : Places} (hm : IsStable l m) (hn : IsStable l n) where
   pub standing_meet : (p : ℕ) → standing l.proposers (meet_of l m n).proposers p ≡ min (standing l.proposers m.proposers p) (standing l.proposers n.proposers p)
@@ -60,7 +55,7 @@ module _ {l : Lists} (h : IsMarket l) {m n : Places} (hm : IsStable l m) (hn : I
       on : (p i : ℕ) → held (meet_of l m n).proposers p ≡ Some i → i < length (row l.proposers p)
       on p i e = elim (lt_or_le p (length l.proposers)) [
         | inl k ↦ better_on (held m.proposers p) (held n.proposers p) (length (row l.proposers p)) i (hm.matching.proposers.on_list p) (hn.matching.proposers.on_list p) (sym (held_map l.proposers (λ p. better (held m.proposers p) (held n.proposers p)) p k) ∙ e)
-        | inr k ↦ absurd (none_some (sym (held_map_past l.proposers (λ p. better (held m.proposers p) (held n.proposers p)) p k) ∙ e))
+        | inr k ↦ absurd (none-some _ (sym (held_map_past l.proposers (λ p. better (held m.proposers p) (held n.proposers p)) p k) ∙ e))
       ]
 
   pub join_of_stable : IsStable l (join_of l m n)
@@ -70,5 +65,5 @@ module _ {l : Lists} (h : IsMarket l) {m n : Places} (hm : IsStable l m) (hn : I
       on : (p i : ℕ) → held (join_of l m n).proposers p ≡ Some i → i < length (row l.proposers p)
       on p i e = elim (lt_or_le p (length l.proposers)) [
         | inl k ↦ worse_on (held m.proposers p) (held n.proposers p) (length (row l.proposers p)) i (hm.matching.proposers.on_list p) (hn.matching.proposers.on_list p) (sym (held_map l.proposers (λ p. worse (held m.proposers p) (held n.proposers p)) p k) ∙ e)
-        | inr k ↦ absurd (none_some (sym (held_map_past l.proposers (λ p. worse (held m.proposers p) (held n.proposers p)) p k) ∙ e))
+        | inr k ↦ absurd (none-some _ (sym (held_map_past l.proposers (λ p. worse (held m.proposers p) (held n.proposers p)) p k) ∙ e))
       ]

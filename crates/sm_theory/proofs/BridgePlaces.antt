@@ -5,10 +5,11 @@ use Rattle.std.proofs.lemmas.Bool.{eqb-false}
 use Rattle.std.proofs.lemmas.List.{get_or_past}
 use Rattle.std.proofs.lemmas.List.Sums.{passes_at_first, fails_before_first, prefix_len-le-length}
 use Rattle.std.proofs.lemmas.List.FromFn.{get_or-map-range_with_len, length-map-range_with_len}
+use Rattle.std.proofs.lemmas.Option.{none-some}
 use Rattle.sm_market.specs.Lists.{Lists, row, entry, place_of, IsMarket}
 use Rattle.sm_market.specs.Matching.{Places, held, standing}
 use Rattle.sm_market.specs.Stable.{IsStable}
-use Rattle.sm_market.proofs.Counting.{lt_or_le}
+use Rattle.sm_lists.proofs.Counting.{lt_or_le}
 use Rattle.sm_market.proofs.Core.{Stand, Stable}
 use Rattle.sm_market.proofs.Bridge.{sides_of, stand_of, unblocked_of, held_in_turn_of, standing-some}
 use Rattle.sm_theory.specs.Lattice.{agents, with_proposers}
@@ -88,13 +89,10 @@ module _ {l : Lists} (h : IsMarket l) (places : List (Option ℕ)) where
       on' r k e = elim (lt_or_le r (length l.reviewers)) [
         | inl j ↦ elim (position_cases (λ p. standing l.proposers places p == place_of l.proposers p r) (row l.reviewers r)) [
           | inl w ↦ omega (arith, w.1, sym (standing-some l.reviewers (with_proposers l places).reviewers r k e), seat_is r j)
-          | inr w ↦ absurd (none_some (sym w.0 ∙ sym (held_map l.reviewers (λ r. position (λ p. standing l.proposers places p == place_of l.proposers p r) (row l.reviewers r)) r j) ∙ e))
+          | inr w ↦ absurd (none-some _ (sym w.0 ∙ sym (held_map l.reviewers (λ r. position (λ p. standing l.proposers places p == place_of l.proposers p r) (row l.reviewers r)) r j) ∙ e))
         ]
-        | inr j ↦ absurd (none_some (sym (held_map_past l.reviewers (λ r. position (λ p. standing l.proposers places p == place_of l.proposers p r) (row l.reviewers r)) r j) ∙ e))
+        | inr j ↦ absurd (none-some _ (sym (held_map_past l.reviewers (λ r. position (λ p. standing l.proposers places p == place_of l.proposers p r) (row l.reviewers r)) r j) ∙ e))
       ]
-        where
-          none_some : {x : ℕ} → ◌≡◌ {A = Option ℕ} None (Some x) → ⊥
-          none_some e = grind arith
 
 -- a stand that is stable has a matching that is
 pub record Tabled (l : Lists) (n : Stand) : Type 0 where

@@ -2,14 +2,17 @@
 use Rattle.std.proofs.Common.{◌≡◌, ℕ, ◌<◌, ◌⊎◌, ◌==◌, inl, inr, arith, refl, sym, ap, ◌∙◌, List, length, map, Option, None, Some, unwrap_or, eq-eqb, ne_eqb, lt-ltb, le-ltb}
 use Rattle.std.proofs.lemmas.List.Sums.{position_or_len_is}
 use Rattle.std.proofs.lemmas.List.FromFn.{length-map-range_with_len}
+use Rattle.std.proofs.lemmas.Option.{same_Some, none-some}
 use Rattle.sm_market.specs.Lists.{Lists, row, entry, place_of, IsMarket}
 use Rattle.sm_market.specs.Matching.{Places, held, standing, IsMatching}
 use Rattle.sm_market.specs.Stable.{IsStable}
 use Rattle.sm_market.proofs.CycleLemmas as Cycles
 use Rattle.sm_market.proofs.CycleLemmas.{AreDistinct}
-use Rattle.sm_market.proofs.Counting.{lt_or_le, less_same_more}
+use Rattle.sm_lists.proofs.Counting.{lt_or_le, less_same_more}
 use Rattle.sm_market.proofs.Core.{pair_at}
-use Rattle.sm_market.proofs.Bridge.{sides_of, stand_of, fit_of, stable_of, held_cases, held_at, standing-some, entry_place, place_entry}
+use Rattle.sm_market.proofs.PlaceLemmas.{place_of-entry}
+use Rattle.sm_lists.proofs.PlaceLemmas.{entry-place_of}
+use Rattle.sm_market.proofs.Bridge.{sides_of, stand_of, fit_of, stable_of, held_cases, held_at, standing-some}
 use Rattle.sm_theory.specs.Lattice.{agents}
 use Rattle.sm_theory.specs.Rotations.{IsSuccessor, proposer_at, reviewer_at, target_at, IsExposed, pair_of, place_after, eliminated}
 use Rattle.sm_theory.proofs.CoreCycle.{Cycle, Succ, Exposed, Moves, moves_or_not}
@@ -18,12 +21,6 @@ use Rattle.sm_theory.proofs.BridgePlaces.{held_map, held_map_past, standing_map,
 
 abbrev pub cycle_of : List (ℕ × ℕ) → Cycle
 cycle_of rotation = record { size = length rotation; who = proposer_at rotation; has = reviewer_at rotation }
-
-none_some : {x : ℕ} → ◌≡◌ {A = Option ℕ} None (Some x) → ⊥
-none_some e = grind arith
-
-some_same : {x y : ℕ} → Some x ≡ Some y → x ≡ y
-some_same e = cc
 
 module _ {l : Lists} (h : IsMarket l) {m : Places} where
   -- successors
@@ -34,7 +31,7 @@ module _ {l : Lists} (h : IsMarket l) {m : Places} where
     takes = x.takes;
     first = λ q a b. elim (lt_or_le (place_of l.reviewers q p) (standing l.reviewers m.reviewers q)) [
       | inr k ↦ k
-      | inl k ↦ absurd (x.first (place_of l.proposers p q) a (omega (arith, here, b)) (rw (place_entry l.proposers p q (omega (arith, here, b, x.on_list))) k))
+      | inl k ↦ absurd (x.first (place_of l.proposers p q) a (omega (arith, here, b)) (rw (entry-place_of l.proposers p q (omega (arith, here, b, x.on_list))) k))
     ];
     matched = elim (held_cases l.reviewers m.reviewers (entry l.proposers p i)) [
       | inl w ↦ absurd (grind (arith, w.held_is, x.matched))
@@ -43,7 +40,7 @@ module _ {l : Lists} (h : IsMarket l) {m : Places} where
   }
     where
       here : place_of l.proposers p (entry l.proposers p i) ≡ i
-      here = entry_place h.proposers p i x.on_list
+      here = place_of-entry h.proposers p i x.on_list
 
   pub succ_back : (p r : ℕ) → Succ (sides_of l h) (stand_of l m) p r → IsSuccessor l m p (place_of l.proposers p r)
   succ_back p r x = record {
@@ -51,13 +48,13 @@ module _ {l : Lists} (h : IsMarket l) {m : Places} where
     behind = x.behind;
     takes = rw here x.takes;
     first = λ j a b w.
-        let at = entry_place h.proposers p j (omega (arith, x.on, b)) in
+        let at = place_of-entry h.proposers p j (omega (arith, x.on, b)) in
         omega (arith, w, x.first (entry l.proposers p j) (omega (arith, at, a)) (omega (arith, at, b)));
     matched = rw (here, held_at l.reviewers m.reviewers r x.matched) refl;
   }
     where
       here : entry l.proposers p (place_of l.proposers p r) ≡ r
-      here = place_entry l.proposers p r x.on
+      here = entry-place_of l.proposers p r x.on
 
   pub exposed_of : IsMatching l m → {rotation : List (ℕ × ℕ)} → IsExposed l m rotation → Exposed (sides_of l h) (stand_of l m) (cycle_of rotation)
   exposed_of f {rotation} x = record {
@@ -74,7 +71,7 @@ module _ {l : Lists} (h : IsMarket l) {m : Places} where
         pair_at p r (fit_of h f) (omega arith) (sym at);
     next = λ i a.
         let p : ℕ = proposer_at rotation i in
-        rw (place_entry l.proposers p (target_at rotation i) (x.next i a).on_list) at (succ_of f p (place_of l.proposers p (target_at rotation i)) (x.next i a));
+        rw (entry-place_of l.proposers p (target_at rotation i) (x.next i a).on_list) at (succ_of f p (place_of l.proposers p (target_at rotation i)) (x.next i a));
   }
 
   pub exposed_back : (rotation : List (ℕ × ℕ)) → Exposed (sides_of l h) (stand_of l m) (cycle_of rotation) → IsExposed l m rotation
@@ -129,14 +126,14 @@ module _ {l : Lists} (h : IsMarket l) {m : Places} where
     where
       on : (p i : ℕ) → held (map (place_after l m.proposers rotation) (agents l.proposers)) p ≡ Some i → i < length (row l.proposers p)
       on p i e = elim (lt_or_le p (length l.proposers)) [
-        | inr k ↦ absurd (none_some (sym (held_map_past l.proposers (place_after l m.proposers rotation) p k) ∙ e))
+        | inr k ↦ absurd (none-some _ (sym (held_map_past l.proposers (place_after l m.proposers rotation) p k) ∙ e))
         | inl k ↦ after (sym (held_map l.proposers (place_after l m.proposers rotation) p k) ∙ e) (moves_or_not (cycle_of rotation) p)
       ]
         where
           after : place_after l m.proposers rotation p ≡ Some i → Moves (cycle_of rotation) p ⊎ ((j : ℕ) → j < length rotation → proposer_at rotation j ≡ p → ⊥) → i < length (row l.proposers p)
           after e (inl w) =
               let there : place_after l m.proposers rotation p ≡ Some (place_of l.proposers p (target_at rotation w.at)) = rw w.holds at (after_in s.matching x w.at w.below) in
-              let same : place_of l.proposers p (target_at rotation w.at) ≡ i = some_same (sym there ∙ e) in
+              let same : place_of l.proposers p (target_at rotation w.at) ≡ i = same_Some _ _ (sym there ∙ e) in
               let listed : place_of l.proposers p (target_at rotation w.at) < length (row l.proposers p) = rw w.holds at (x.next w.at w.below).on_list in
               omega arith
           after e (inr none) = s.matching.proposers.on_list p i (sym (after_out s.matching x p none) ∙ e)

@@ -2,10 +2,12 @@
 use Rattle.std.proofs.Common.{◌≡◌, ℕ, zero, suc, ◌<◌, ◌≤◌, ◌⊎◌, ◌&&◌, inl, inr, arith, refl, sym, ap, ◌∙◌, List, length, Option, None, Some, unwrap_or, cond, Bool, true, false, lt-ltb, le-ltb, max}
 use Rattle.std.specs.Option.{option_map}
 use Rattle.std.proofs.lemmas.List.FromFn.{length-map-range_with_len}
+use Rattle.std.proofs.lemmas.Option.{same_Some, none-some}
+use Rattle.sm_lists.proofs.ResultLemmas.{cond-and_false}
 use Rattle.sm_market.specs.Lists.{Lists, row, place_of, IsMarket}
 use Rattle.sm_market.specs.Matching.{Places, held, standing}
 use Rattle.sm_market.specs.Stable.{IsStable}
-use Rattle.sm_market.proofs.Counting.{lt_or_le, eq_or_ne, Decided}
+use Rattle.sm_lists.proofs.Counting.{lt_or_le, eq_or_ne, Decided}
 use Rattle.sm_market.proofs.Bridge.{sides_of, stand_of, fit_of, stable_of, held_cases}
 use Rattle.sm_theory.specs.Rotations.{proposer_at, target_at, pair_of}
 use Rattle.sm_theory.specs.Chains.{rotation_at, stage, IsCompleteChain}
@@ -17,16 +19,6 @@ use Rattle.sm_theory.proofs.CoreSeats.{same_stable}
 use Rattle.sm_theory.proofs.BridgePlaces.{held_map, held_map_past, standing_map, standing_map_past, row_past, seats_with, stable_with}
 use Rattle.sm_theory.proofs.BridgeRotation.{cycle_of, pair_at_is, no_pair}
 use Rattle.sm_theory.proofs.BridgeChain.{chain_of, stage_stable, closed_of, Decided-member}
-
-none_some : {x : ℕ} → ◌≡◌ {A = Option ℕ} None (Some x) → ⊥
-none_some e = grind arith
-
-some_same : {x y : ℕ} → Some x ≡ Some y → x ≡ y
-some_same e = cc
-
-cond_no : (b : Bool) (x y : ℕ) → cond (b && false) x y ≡ y
-cond_no true x y = refl
-cond_no false x y = refl
 
 -- in the matching of a set, who is unmatched at first stays so, and each other one has its worst place
 abbrev Cases : Lists → Places → List (List (ℕ × ℕ)) → List Bool → ℕ → Type 0
@@ -46,7 +38,7 @@ module _ {l : Lists} (h : IsMarket l) {first : Places} {rotations : List (List (
   worst_out : (p i n : ℕ) → n < length rotations → ((j : ℕ) → j < length (rotation_at rotations n) → proposer_at (rotation_at rotations n) j ≡ p → ⊥) → worst_place l rotations set p i (suc n) ≡ worst_place l rotations set p i n
   worst_out p i n g none =
       rw (no_pair h (stage_stable h chain n (omega arith)).matching (chain.exposed n g) p none, le-ltb (length (rotation_at rotations n)) (length (rotation_at rotations n)) (omega arith))
-      (cond_no (is_member set n) _ _)
+      (cond-and_false (is_member set n) _ _)
 
   worst_not : (p i n : ℕ) → (IsMember set n → ⊥) → worst_place l rotations set p i (suc n) ≡ worst_place l rotations set p i n
   worst_not p i n out = let e : is_member set n ≡ false = is_false (is_member set n) out in rw e refl
@@ -141,10 +133,10 @@ module _ {l : Lists} (h : IsMarket l) {first : Places} {rotations : List (List (
 
   on_list : (p i : ℕ) → held (matching_of l first rotations set).proposers p ≡ Some i → i < length (row l.proposers p)
   on_list p i e = elim (lt_or_le p (length l.proposers)) [
-    | inr k ↦ absurd (none_some (sym (held_map_past l.proposers place p k) ∙ e))
+    | inr k ↦ absurd (none-some _ (sym (held_map_past l.proposers place p k) ∙ e))
     | inl k ↦ elim (held_cases l.proposers first.proposers p) [
-      | inl w ↦ absurd (none_some (sym (ap (option_map (λ i. worst_place l rotations set p i (length rotations))) w.held_is) ∙ sym (held_map l.proposers place p k) ∙ e))
-      | inr w ↦ rw (some_same (sym (ap (option_map (λ i. worst_place l rotations set p i (length rotations))) w.held_is) ∙ sym (held_map l.proposers place p k) ∙ e)) at
+      | inl w ↦ absurd (none-some _ (sym (ap (option_map (λ i. worst_place l rotations set p i (length rotations))) w.held_is) ∙ sym (held_map l.proposers place p k) ∙ e))
+      | inr w ↦ rw (same_Some _ _ (sym (ap (option_map (λ i. worst_place l rotations set p i (length rotations))) w.held_is) ∙ sym (held_map l.proposers place p k) ∙ e)) at
           (below w.place (chain.from_best.stable.matching.proposers.on_list p w.place w.held_is) (worst p w.place (length rotations) (omega arith)).attained)
     ]
   ]

@@ -1,6 +1,6 @@
 -- Complete chains, their predecessors, and the matching of a set.
 use Rattle.std.proofs.Common.{◌≡◌, ℕ, zero, suc, ◌<◌, ◌≤◌, ◌⊎◌, inl, inr, arith, sym, ap, ◌∙◌, le_of_eq, le_trans}
-use Rattle.sm_market.proofs.Counting.{Decided, lt_or_le, eq_or_ne, Last, last_below}
+use Rattle.sm_lists.proofs.Counting.{Decided, lt_or_le, eq_or_ne, Last, last_below}
 use Rattle.sm_market.proofs.Core.{Sides, Stand, Stable, Pair, one_reviewer, same_place, easy}
 use Rattle.sm_market.proofs.CoreLaws.{whole}
 use Rattle.sm_theory.proofs.CoreCycle.{Cycle, turn, turn_in, target, Exposed, Moves, moves_or_not, moves_at}

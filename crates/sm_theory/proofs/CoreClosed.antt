@@ -1,6 +1,6 @@
 -- Closed sets have stable matchings, and different ones different matchings.
 use Rattle.std.proofs.Common.{◌≡◌, ℕ, zero, suc, ◌<◌, ◌≤◌, ◌⊎◌, inl, inr, arith, refl, sym, ap, ◌∙◌, le_of_eq, le_trans}
-use Rattle.sm_market.proofs.Counting.{Decided, eq_or_ne}
+use Rattle.sm_lists.proofs.Counting.{Decided, eq_or_ne}
 use Rattle.sm_market.proofs.Core.{Sides, Stand, Stable}
 use Rattle.sm_theory.proofs.CoreCycle.{Cycle, Exposed, Moves, target}
 use Rattle.sm_theory.proofs.CoreRotation.{Elim, eliminate, Elim-eliminate, elim_stable, never_up}

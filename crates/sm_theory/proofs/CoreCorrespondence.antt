@@ -1,6 +1,6 @@
 -- Each stable matching is that of a closed set; what is exposed at it; every exposed rotation is one of the chain.
 use Rattle.std.proofs.Common.{◌≡◌, ℕ, suc, ◌<◌, ◌≤◌, ◌⊎◌, inl, inr, arith, sym}
-use Rattle.sm_market.proofs.Counting.{Decided, Decided-le, Decided-and, Decided-not, by_contradiction, lt_or_le, First, Last, search_below, last_below}
+use Rattle.sm_lists.proofs.Counting.{Decided, Decided-le, Decided-and, Decided-not, by_contradiction, lt_or_le, First, Last, search_below, last_below}
 use Rattle.sm_market.proofs.Core.{Sides, Stand, Stable, Pair}
 use Rattle.sm_theory.proofs.CoreCycle.{Cycle, turn, turn_in, target, Exposed, Moves, moves_or_not, moves_at, Among, same_cycle}
 use Rattle.sm_theory.proofs.CoreRotation.{Elim, eliminate, Elim-eliminate, elim_stable, goes_down}
@@ -105,14 +105,16 @@ module _ {s : Sides} {t : ℕ} {M : ℕ → Stand} {c : ℕ → Cycle} (ch : Cha
         let high = seat_high (ch.stable i (omega arith)) hn old (upper ch closed of i q g out (moves_at (c i) (turn (c i).size w.at) inside)) in
         omega (arith, (x.next w.at' w.below').first seat (omega (arith, (x.paired w.at' w.below').place_is, w.behind)) w.before, w.loses, old.rank_is, high))
 
-  pub record InChain (d : Cycle) : Type 0 where
+  -- d is a rotation of the chain, begun at some pair, which is exposed at n
+  pub record InChain (n : Stand) (d : Cycle) : Type 0 where
     pub at : ℕ
     pub below : at < t
+    pub exposed : Exposed s n (c at)
     pub there : (i : ℕ) → i < d.size → Among d (c at) i
     pub back : (i : ℕ) → i < (c at).size → Among (c at) d i
 
   -- a rotation exposed at a stable matching is one of the chain
-  pub all_in_chain : {n : Stand} {d : Cycle} → Stable s n → Exposed s n d → InChain d
+  pub all_in_chain : {n : Stand} {d : Cycle} → Stable s n → Exposed s n d → InChain n d
   all_in_chain {n} {d} hn x = go (search_below t (λ k. Reaches m k × (Reaches n k → ⊥)) (λ k _. Decided-and (Decided-reaches hm k) (Decided-not (Decided-reaches hn k))))
     where
       m : Stand
@@ -124,7 +126,7 @@ module _ {s : Sides} {t : ℕ} {M : ℕ → Stand} {c : ℕ → Cycle} (ch : Cha
       hm : Stable s m
       hm = elim_stable hn x e
 
-      found : (k : ℕ) → k < t → Reaches m k → (Reaches n k → ⊥) → ((j : ℕ) → j < k → Reaches m j × (Reaches n j → ⊥) → ⊥) → InChain d
+      found : (k : ℕ) → k < t → Reaches m k → (Reaches n k → ⊥) → ((j : ℕ) → j < k → Reaches m j × (Reaches n j → ⊥) → ⊥) → InChain n d
       found k h inside out least = share (moves_or_not d p)
         where
           ready : (i : ℕ) → i < t → Needs s (c i) (c k) → Reaches n i
@@ -142,11 +144,11 @@ module _ {s : Sides} {t : ℕ} {M : ℕ → Stand} {c : ℕ → Cycle} (ch : Cha
           less : n.a p < m.a p
           less = omega (arith, reaches_all hm k p h inside mv, up_at ch k p h mv, same_before ch (reaches_closed hn) hn (reaches_of hn) k h out ready p mv)
 
-          share : Moves d p ⊎ ((i : ℕ) → i < d.size → d.who i ≡ p → ⊥) → InChain d
+          share : Moves d p ⊎ ((i : ℕ) → i < d.size → d.who i ≡ p → ⊥) → InChain n d
           share (inr none) = absurd (omega (arith, e.still p none, less))
-          share (inl w) = record { at = k; below = h; there = same_cycle x y w.at 0 w.below y.some (sym w.holds); back = same_cycle y x 0 w.at y.some w.below w.holds }
+          share (inl w) = record { at = k; below = h; exposed = y; there = same_cycle x y w.at 0 w.below y.some (sym w.holds); back = same_cycle y x 0 w.at y.some w.below w.holds }
 
-      go : First t (λ k. Reaches m k × (Reaches n k → ⊥)) ⊎ ((k : ℕ) → k < t → Reaches m k × (Reaches n k → ⊥) → ⊥) → InChain d
+      go : First t (λ k. Reaches m k × (Reaches n k → ⊥)) ⊎ ((k : ℕ) → k < t → Reaches m k × (Reaches n k → ⊥) → ⊥) → InChain n d
       go (inl w) = found w.at w.below w.holds.0 w.holds.1 w.earlier
       go (inr none) = absurd (omega (
         arith,

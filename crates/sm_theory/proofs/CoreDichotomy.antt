@@ -1,6 +1,6 @@
 -- The step lemma, the dichotomy, and a rotation wherever a stable matching is worse for some proposer.
 use Rattle.std.proofs.Common.{◌≡◌, ℕ, suc, ◌+◌, ◌-◌, ◌<◌, ◌≤◌, ◌⊎◌, inl, inr, arith, sym, ap, ◌∙◌}
-use Rattle.sm_market.proofs.Counting.{Decided, Decided-lt, Decided-and, Decided-eq, lt_or_le, eq_or_ne, less_same_more, First, search_below, iterate, iterate-zero, iterate-suc, iterate-add, iterate_stays, find_cycle, Twice}
+use Rattle.sm_lists.proofs.Counting.{Decided, Decided-lt, Decided-and, Decided-eq, lt_or_le, eq_or_ne, less_same_more, First, search_below, iterate, iterate-zero, iterate-suc, iterate-add, iterate_stays, find_cycle, Twice}
 use Rattle.sm_market.proofs.Core.{Sides, Stand, Stable, Pair, pair_of, pair_at, one_proposer, one_reviewer}
 use Rattle.sm_market.proofs.CoreLaws.{whole, whole', Crossed, Crossed'}
 use Rattle.sm_theory.proofs.CoreCycle.{Cycle, turn, turn_in, turn_last, turn_more, target, Succ, succ_unique, Exposed, go_round}

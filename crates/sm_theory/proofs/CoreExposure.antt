@@ -1,7 +1,7 @@
 -- At the matching of a closed set, a rotation outside whose predecessors are inside is exposed; so closed sets have
 -- stable matchings.
 use Rattle.std.proofs.Common.{◌≡◌, ℕ, suc, ◌<◌, ◌≤◌, ◌⊎◌, inl, inr, arith, sym, ap, ◌∙◌}
-use Rattle.sm_market.proofs.Counting.{Decided-lt, lt_or_le, eq_or_ne, First, Last, last_below}
+use Rattle.sm_lists.proofs.Counting.{Decided-lt, lt_or_le, eq_or_ne, First, Last, last_below}
 use Rattle.sm_market.proofs.Core.{Sides, Stand, Stable, Pair, pair_at', same_place}
 use Rattle.sm_market.proofs.CoreLaws.{opposed}
 use Rattle.sm_theory.proofs.CoreCycle.{Cycle, turn, turn_in, target, Exposed, Moves, moves_at, gives_or_not, follows}

@@ -1,6 +1,6 @@
 -- Where a proposer's partners in two stable matchings have equal lists, for all proposers, the matchings are one.
 use Rattle.std.proofs.Common.{◌≡◌, ℕ, zero, suc, ◌<◌, ◌≤◌, inl, inr, arith, sym}
-use Rattle.sm_market.proofs.Counting.{lt_or_le, less_same_more}
+use Rattle.sm_lists.proofs.Counting.{lt_or_le, less_same_more}
 use Rattle.sm_market.proofs.Core.{Sides, Stand, Stable, Pair, pair_of, pair_of', same_place, easy}
 
 -- a proposer that does better in m, whom its partner there gives a better rank than p's partner gives p

@@ -1,6 +1,6 @@
 -- Meet and join of stable matchings are stable.
 use Rattle.std.proofs.Common.{◌≡◌, ℕ, ◌<◌, ◌≤◌, ◌⊎◌, inl, inr, arith, sym, ◌∙◌, min, max}
-use Rattle.sm_market.proofs.Counting.{lt_or_le}
+use Rattle.sm_lists.proofs.Counting.{lt_or_le}
 use Rattle.sm_market.proofs.Core.{Sides, Stand, Fit, Stable, Pair, pair_of', pair_at, one_proposer, one_reviewer, same_place, easy, easy'}
 use Rattle.sm_market.proofs.CoreLaws.{whole}
 use Rattle.sm_theory.proofs.CoreSeats.{Seats, NoTwice, fit_of_seats}

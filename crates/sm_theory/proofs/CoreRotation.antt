@@ -1,6 +1,6 @@
 -- Eliminating an exposed rotation leaves a stable matching.
 use Rattle.std.proofs.Common.{◌≡◌, ℕ, ◌<◌, ◌≤◌, ◌⊎◌, inl, inr, arith, refl, sym, ap, ◌∙◌}
-use Rattle.sm_market.proofs.Counting.{less_same_more}
+use Rattle.sm_lists.proofs.Counting.{less_same_more}
 use Rattle.sm_market.proofs.Core.{Sides, Stand, Fit, Stable, Pair, pair_of', pair_at, one_proposer, one_reviewer}
 use Rattle.sm_theory.proofs.CoreSeats.{Seats, NoTwice, fit_of_seats, seat_of, Seats-seat_of}
 use Rattle.sm_theory.proofs.CoreCycle.{Cycle, turn, turn_in, turn_once, target, Succ, Exposed, Moves, moves_or_not, gives_or_not, follows}

@@ -1,7 +1,7 @@
 -- The weight of the matching of a closed set.
 use Rattle.std.proofs.Common.{◌≡◌, ℕ, zero, suc, ◌<◌, ◌≤◌, inl, inr, arith, refl, sym, ap, ◌∙◌, ℤ, pos, ◌+ℤ◌, ◌-ℤ◌, Bool, true, false, cond}
 use Rattle.std.proofs.lemmas.Int.{ints}
-use Rattle.sm_market.proofs.Counting.{Decided, lt_or_le}
+use Rattle.sm_lists.proofs.Counting.{Decided, lt_or_le}
 use Rattle.sm_market.proofs.Core.{Sides, Stand}
 use Rattle.sm_theory.specs.Weights.{total}
 use Rattle.sm_theory.proofs.CoreCycle.{Cycle, moves_at, target}

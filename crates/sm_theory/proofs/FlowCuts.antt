@@ -2,7 +2,7 @@
 use Rattle.std.proofs.Common.{◌≡◌, ℕ, zero, suc, ◌+◌, ◌<◌, ◌≤◌, ◌⊎◌, inl, inr, arith, refl, sym, ap, ◌∙◌, Bool, true, false, cond, List, [], ◌∷◌, length, lt-ltb, le-ltb, eq-eqb, ne_eqb}
 use Rattle.std.proofs.lemmas.List.{get_or_past}
 use Rattle.std.proofs.lemmas.Bool.{false≢true}
-use Rattle.sm_market.proofs.Counting.{lt_or_le, eq_or_ne}
+use Rattle.sm_lists.proofs.Counting.{lt_or_le, eq_or_ne}
 use Rattle.sm_theory.specs.ClosedSets.{is_member, IsMember}
 use Rattle.sm_theory.specs.Net.{Net, sink_of, room_of, IsUnbounded, is_in, NoneLeaves, IsCut, sum_to, cut_of, IsPath}
 use Rattle.sm_theory.specs.Flows.{IsFlow, flow_value, IsResidualStep}

@@ -5,10 +5,11 @@ use Rattle.std.proofs.lemmas.List.{get_or_past}
 use Rattle.sm_market.specs.Lists.{Lists, row, entry, place_of}
 use Rattle.sm_market.specs.Matching.{Places, held, standing}
 use Rattle.sm_market.specs.Stable.{IsStable}
-use Rattle.sm_market.proofs.Counting.{lt_or_le}
+use Rattle.sm_lists.proofs.Counting.{lt_or_le}
 use Rattle.sm_market.proofs.Core.{Pair}
 use Rattle.sm_market.proofs.CoreLaws.{pair_law}
-use Rattle.sm_market.proofs.Bridge.{sides_of, stand_of, stable_of, entry_place, held_at, standing-some}
+use Rattle.sm_market.proofs.PlaceLemmas.{place_of-entry}
+use Rattle.sm_market.proofs.Bridge.{sides_of, stand_of, stable_of, held_at, standing-some}
 use Rattle.sm_market.proofs.LawsProved.{pair_held}
 use Rattle.sm_theory.specs.Lattice.{better, meet_of}
 use Rattle.sm_theory.specs.Vectors.{level_of, HasLevel, IsWithin}
@@ -29,7 +30,7 @@ pair_is_divided l m n h hm hn p i e other = rw (standing-some l.proposers m.prop
     (pair_law (stable_of h hm) (stable_of h hn) (pair_held h hm p i e) apart)
   where
     here : place_of l.proposers p (entry l.proposers p i) ≡ i
-    here = entry_place h.proposers p i (hm.matching.proposers.on_list p i e)
+    here = place_of-entry h.proposers p i (hm.matching.proposers.on_list p i e)
 
     apart : Pair (sides_of l h) (stand_of l n) p (entry l.proposers p i) → ⊥
     apart w = other (held_at l.proposers n.proposers p w.matched ∙ ap Some (sym w.place_is ∙ here))

@@ -1,8 +1,9 @@
 -- The laws of specs/LawsRooms.antt.
 use Rattle.std.proofs.Common.{◌≡◌, ◌≢◌, ℕ, zero, suc, ◌+◌, ◌*◌, ◌<◌, ◌≤◌, ◌⊎◌, inl, inr, arith, refl, sym, ap, ◌∙◌, List, length, Option, None, Some}
 use Rattle.std.proofs.lemmas.List.{get_or_past}
+use Rattle.std.proofs.lemmas.Option.{none-some}
 use Rattle.sm_market.specs.Lists.{row, place_of}
-use Rattle.sm_market.proofs.Counting.{lt_or_le}
+use Rattle.sm_lists.proofs.Counting.{lt_or_le}
 use Rattle.sm_theory.specs.Rooms.{IsAcceptable, mate_of, place_of_mate, IsRoomMatching, RoomBlocks}
 use Rattle.sm_theory.specs.Partitions.{successor_in, predecessor_in, after, IsStablePartition, IsInOddParty, IsLowestOfOdd, PairsAlternately}
 use Rattle.sm_theory.specs.LawsRooms.{OddPartyExcludes, SameOddParties, SamePersons, EvenPartiesPair, RestIsStable}
@@ -55,11 +56,8 @@ module _ {rows : List (List ℕ)} {next : List ℕ} {mates : List (Option ℕ)} 
   mate_inside : (x y : ℕ) → mate_of mates x ≡ Some y → x < length rows
   mate_inside x y e = elim (lt_or_le x (length rows)) [
     | inl k ↦ k
-    | inr k ↦ absurd (none_some (sym (get_or_past mates x None (omega (arith, p.one_each))) ∙ e))
+    | inr k ↦ absurd (none-some _ (sym (get_or_past mates x None (omega (arith, p.one_each))) ∙ e))
   ]
-    where
-      none_some : {y : ℕ} → ◌≡◌ {A = Option ℕ} None (Some y) → ⊥
-      none_some e = grind arith
 
   acceptable : (x y : ℕ) → mate_of mates x ≡ Some y → IsAcceptable rows x y
   acceptable x y e = go (p.neighbours x y e).1

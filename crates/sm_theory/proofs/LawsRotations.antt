@@ -2,15 +2,16 @@
 use Rattle.std.proofs.Common.{◌≡◌, ℕ, ◌<◌, ◌≤◌, inl, inr, arith, refl, sym, ap, ◌∙◌, List, length, map, Bool, true, false, ext_get_or, true≢false}
 use Rattle.std.specs.List.{range_with_len}
 use Rattle.std.proofs.lemmas.List.FromFn.{get_or-map-range_with_len, length-map-range_with_len}
+use Rattle.sm_lists.proofs.ResultLemmas.{same_bool}
 use Rattle.sm_market.specs.Lists.{Lists, IsMarket, reversed_lists}
 use Rattle.sm_market.specs.Matching.{Places, standing, reversed}
 use Rattle.sm_market.specs.Stable.{IsStable}
-use Rattle.sm_market.proofs.Counting.{Decided}
+use Rattle.sm_lists.proofs.Counting.{Decided}
 use Rattle.sm_market.proofs.Core.{Stable-turned}
 use Rattle.sm_market.proofs.CoreLaws.{opposed, opposed'}
 use Rattle.sm_market.proofs.Bridge.{stand_of, stable_of, IsMarket-reversed, IsStable-reversed}
-use Rattle.sm_theory.specs.Rotations.{proposer_at}
-use Rattle.sm_theory.specs.Chains.{rotation_at}
+use Rattle.sm_theory.specs.Rotations.{proposer_at, IsExposed}
+use Rattle.sm_theory.specs.Chains.{rotation_at, stage, IsCompleteChain, IsPrintedChain}
 use Rattle.sm_theory.specs.ClosedSets.{is_member, IsMember, IsClosed, matching_of}
 use Rattle.sm_theory.specs.Laws.{Dichotomy, EliminationIsStable, NothingExposed, NothingExposedBack, BestIsUnique, PredecessorIsEarlier, SetsAreMatchings, ExposedWhereReady, AllInTheChain}
 use Rattle.sm_theory.proofs.CoreCycle.{moves_at}
@@ -65,11 +66,6 @@ of_holds : {P : Type 0} (d : Decided P) → P → bool_of d ≡ true
 unfolding bool_of
 of_holds (inl p) _ = refl
 of_holds (inr p) x = absurd (p x)
-
-same_bool : (a b : Bool) → (a ≡ true → b ≡ true) → (b ≡ true → a ≡ true) → a ≡ b
-same_bool true b f g = sym (f refl)
-same_bool false true f g = g refl
-same_bool false false f g = refl
 
 pub sets_are_matchings : SetsAreMatchings
 sets_are_matchings l first rotations h chain = record {
@@ -138,7 +134,7 @@ pair_equal x y p q = λ i. (p i, q i)
 
 pub all_in_the_chain : AllInTheChain
 all_in_the_chain l first rotations m rotation h chain hm x =
-    let w : InChain (chain_of h chain) (cycle_of rotation) = all_in_chain (chain_of h chain) (stable_of h hm) (exposed_of h hm.matching x) in (
+    let w : InChain (chain_of h chain) (stand_of l m) (cycle_of rotation) = all_in_chain (chain_of h chain) (stable_of h hm) (exposed_of h hm.matching x) in (
       w.at,
       w.below,
       record {
@@ -146,3 +142,9 @@ all_in_the_chain l first rotations m rotation h chain hm x =
         back = λ i a. let v = w.back i a in (v.at, v.below, pair_equal _ _ v.who_is v.has_is);
       },
     )
+
+-- a complete chain is printed where each rotation begins with the lowest-numbered proposer
+pub printed_of : {l : Lists} {first : Places} {rotations : List (List (ℕ × ℕ))} → IsCompleteChain l first rotations
+    → ((k : ℕ) → k < length rotations → (other : List (ℕ × ℕ)) → IsExposed l (stage l first rotations k) other → (i : ℕ) → i < length other → proposer_at (rotation_at rotations k) 0 ≤ proposer_at other i)
+    → IsPrintedChain l first rotations
+printed_of chain lowest = record { chain = chain; lowest = λ k h. record { exposed = chain.exposed k h; lowest = lowest k h } }

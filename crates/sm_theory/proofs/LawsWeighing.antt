@@ -1,8 +1,8 @@
 -- The laws on least cuts and lightest allowed matchings.
-use Rattle.std.proofs.Common.{◌≡◌, ℕ, zero, suc, ◌≤◌, inl, inr, arith, refl, sym, ap, ◌∙◌, Bool, true, false, cond, List, length, ℤ, pos, negsuc, ◌+ℤ◌}
+use Rattle.std.proofs.Common.{◌≡◌, ℕ, zero, suc, ◌≤◌, ◌⊎◌, inl, inr, arith, refl, sym, ap, ◌∙◌, Bool, true, false, cond, List, [], ◌∷◌, length, ℤ, pos, negsuc, ◌+ℤ◌}
 use Rattle.std.specs.Prelude.{◌≤ℤ◌}
 use Rattle.std.proofs.lemmas.Int.{ints}
-use Rattle.std.proofs.lemmas.Bool.{false≢true}
+use Rattle.std.proofs.lemmas.Bool.{false≢true, cases_Bool}
 use Rattle.sm_market.specs.Lists.{Lists}
 use Rattle.sm_market.specs.Matching.{Places, standing}
 use Rattle.sm_market.specs.Stable.{IsStable}
@@ -12,7 +12,7 @@ use Rattle.sm_theory.specs.Vectors.{IsAllowed}
 use Rattle.sm_theory.specs.Weights.{total, weight_of, gain_of, gain_of_set}
 use Rattle.sm_theory.specs.Net.{Net, IsUnbounded, sum_to, cut_of, IsLeastCut, IsReachable}
 use Rattle.sm_theory.specs.Flows.{flow_value}
-use Rattle.sm_theory.specs.Conditions.{rise_of, fall_of, net_of, IsNetGround, IsLightestAllowed}
+use Rattle.sm_theory.specs.Conditions.{rise_of, fall_of, allows_nothing, net_of, IsNetGround, IsLightestAllowed}
 use Rattle.sm_theory.specs.LawsFlows.{LeastCutIsLightest, ReachIsBestLightest, PathWhereNothing}
 use Rattle.sm_theory.proofs.CoreClosed.{of_more}
 use Rattle.sm_theory.proofs.BridgeChain.{chain_of}
@@ -20,7 +20,8 @@ use Rattle.sm_theory.proofs.BridgeSets.{set_is_of, set_stable}
 use Rattle.sm_theory.proofs.LawsRotations.{sets_are_matchings}
 use Rattle.sm_theory.proofs.LawsWeights.{weight_is_sum_of_gains}
 use Rattle.sm_theory.proofs.FlowCuts.{path_stays, reach_is_least_cut}
-use Rattle.sm_theory.proofs.NetCuts.{sink_out, allowed_of_cut, cut_of_allowed, edge_in_range}
+use Rattle.sm_theory.proofs.NetCuts.{sink_out, allowed_of_cut, cut_of_allowed, allowed_something, edge_in_range}
+use Rattle.sm_theory.proofs.NetWhole.{whole_net_of, net_is_whole, whole_across, whole_reach}
 use Rattle.sm_theory.proofs.NetPaths.{path_or_cut}
 
 -- a gain is what it adds to a cut, less what it takes off one
@@ -45,7 +46,7 @@ module _ (g : ℕ → ℤ) (set : List Bool) where
 
 module _ (l : Lists) (levels : List (List ℕ)) (weights : List (List ℤ)) (forced forbidden : List (ℕ × ℕ)) (first : Places) (rotations : List (List (ℕ × ℕ))) (needs : List (List ℕ)) (ground : IsNetGround l levels first rotations needs) where
   abbrev net : Net
-  net = net_of l levels weights forced forbidden first rotations needs
+  net = whole_net_of l levels weights forced forbidden first rotations needs
 
   -- the weight of a closed set's matching is its cut and a constant
   weight_is_cut : (set : List Bool) → IsClosed l rotations set
@@ -96,17 +97,20 @@ module _ (l : Lists) (levels : List (List ℕ)) (weights : List (List ℤ)) (for
 
 pub least_cut_is_lightest : LeastCutIsLightest
 least_cut_is_lightest l levels weights forced forbidden first rotations needs set ground = (
-  (λ c. lightest_of_least l levels weights forced forbidden first rotations needs ground set c),
-  (λ w. least_of_lightest l levels weights forced forbidden first rotations needs ground set w.0 w.1),
+  (λ c. lightest_of_least l levels weights forced forbidden first rotations needs ground set (rw (net_is_whole l levels weights forced forbidden first rotations needs c.0) at c.1)),
+  (λ w.
+      let some = allowed_something l levels weights forced forbidden first rotations needs ground set w.0 w.1.allowed in
+      (some, rw (net_is_whole l levels weights forced forbidden first rotations needs some) (least_of_lightest l levels weights forced forbidden first rotations needs ground set w.0 w.1))),
 )
 
 pub reach_is_best_lightest : ReachIsBestLightest
-reach_is_best_lightest l levels weights forced forbidden first rotations needs flow set ground h r none = (
-  (lightest_of_least l levels weights forced forbidden first rotations needs ground set found.0).1,
+reach_is_best_lightest l levels weights forced forbidden first rotations needs flow set ground some h r none = (
+  (lightest_of_least l levels weights forced forbidden first rotations needs ground set (whole_of set found.0)).1,
   (λ n x p.
       let w = of_cut l levels weights forced forbidden first rotations needs ground n x.stable in
       let y : IsLightestAllowed l levels weights forced forbidden (matching_of l first rotations w.members) = rw w.is x in
-      let inside = found.2 w.members (least_of_lightest l levels weights forced forbidden first rotations needs ground w.members w.closed y) in
+      let least = least_of_lightest l levels weights forced forbidden first rotations needs ground w.members w.closed y in
+      let inside = found.2 w.members (rw (net_is_whole l levels weights forced forbidden first rotations needs some) least) in
       omega (
         arith,
         of_more (chain_of ground.market ground.chain) (set_is_of ground.market ground.chain set) (set_is_of ground.market ground.chain w.members) (λ k _ m. inside k m) p,
@@ -114,25 +118,37 @@ reach_is_best_lightest l levels weights forced forbidden first rotations needs f
       )),
 )
   where
+    whole_of : (set : List Bool) → IsLeastCut (net_of l levels weights forced forbidden first rotations needs) set → IsLeastCut (whole_net_of l levels weights forced forbidden first rotations needs) set
+    whole_of set least = rw (net_is_whole l levels weights forced forbidden first rotations needs some) at least
+
     found : IsLeastCut (net_of l levels weights forced forbidden first rotations needs) set × (flow_value (net_of l levels weights forced forbidden first rotations needs) flow ≡ cut_of (net_of l levels weights forced forbidden first rotations needs) set)
         × ((other : List Bool) → IsLeastCut (net_of l levels weights forced forbidden first rotations needs) other → (k : ℕ) → IsMember set k → IsMember other k)
     found = reach_is_least_cut (net_of l levels weights forced forbidden first rotations needs) flow set h r none
 
 pub path_where_nothing : PathWhereNothing
-path_where_nothing l levels weights forced forbidden first rotations needs ground = (barred, back)
+path_where_nothing l levels weights forced forbidden first rotations needs ground = (there, back)
   where
-    barred : IsReachable (IsUnbounded (net_of l levels weights forced forbidden first rotations needs)) 0 (suc (length rotations)) → (m : Places) → IsStable l m → IsAllowed levels forced forbidden m → ⊥
+    barred : IsReachable (IsUnbounded (whole_net_of l levels weights forced forbidden first rotations needs)) 0 (suc (length rotations)) → (m : Places) → IsStable l m → IsAllowed levels forced forbidden m → ⊥
     barred path m s a =
         let w = of_cut l levels weights forced forbidden first rotations needs ground m s in
         let allowed : IsAllowed levels forced forbidden (matching_of l first rotations w.members) = rw w.is a in
         let c = cut_of_allowed l levels weights forced forbidden first rotations needs ground w.members w.closed allowed in
-        let p = path_stays (net_of l levels weights forced forbidden first rotations needs) (IsUnbounded (net_of l levels weights forced forbidden first rotations needs)) w.members (edge_in_range l levels weights forced forbidden first rotations needs ground) c.bounded path.path 0 (suc (length rotations)) (omega arith) refl path.is in
+        let p = path_stays (whole_net_of l levels weights forced forbidden first rotations needs) (IsUnbounded (whole_net_of l levels weights forced forbidden first rotations needs)) w.members (edge_in_range l levels weights forced forbidden first rotations needs ground) c.bounded path.path 0 (suc (length rotations)) (omega arith) refl path.is in
         false≢true (sym (sink_out l levels weights forced forbidden first rotations needs ground w.members c.one_each) ∙ p)
 
-    back : ((m : Places) → IsStable l m → IsAllowed levels forced forbidden m → ⊥) → IsReachable (IsUnbounded (net_of l levels weights forced forbidden first rotations needs)) 0 (suc (length rotations))
-    back nothing = elim (path_or_cut (net_of l levels weights forced forbidden first rotations needs)) [
-      | inl path ↦ path
-      | inr c ↦
-          let w = allowed_of_cut l levels weights forced forbidden first rotations needs ground c.members c.is in
-          absurd (nothing (matching_of l first rotations c.members) (set_stable ground.market ground.chain c.members w.0) w.1)
+    there : (allows_nothing l levels forced forbidden first rotations ≡ true) ⊎ IsReachable (IsUnbounded (net_of l levels weights forced forbidden first rotations needs)) 0 (suc (length rotations))
+        → (m : Places) → IsStable l m → IsAllowed levels forced forbidden m → ⊥
+    there (inl one) = barred (record { path = suc (length rotations) ∷ []; is = (whole_across l levels weights forced forbidden first rotations needs one, refl) })
+    there (inr path) = barred (whole_reach l levels weights forced forbidden first rotations needs path)
+
+    back : ((m : Places) → IsStable l m → IsAllowed levels forced forbidden m → ⊥)
+        → (allows_nothing l levels forced forbidden first rotations ≡ true) ⊎ IsReachable (IsUnbounded (net_of l levels weights forced forbidden first rotations needs)) 0 (suc (length rotations))
+    back nothing = elim (cases_Bool (allows_nothing l levels forced forbidden first rotations)) [
+      | inl one ↦ inl one
+      | inr some ↦ elim (path_or_cut (net_of l levels weights forced forbidden first rotations needs)) [
+        | inl path ↦ inr path
+        | inr c ↦
+            let w = allowed_of_cut l levels weights forced forbidden first rotations needs ground c.members (rw (net_is_whole l levels weights forced forbidden first rotations needs some) at c.is) in
+            absurd (nothing (matching_of l first rotations c.members) (set_stable ground.market ground.chain c.members w.0) w.1)
+      ]
     ]

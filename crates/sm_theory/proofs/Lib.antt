@@ -26,6 +26,7 @@ pub mod RoomPairing
 pub mod FlowSums
 pub mod FlowCuts
 pub mod NetTests
+pub mod NetWhole
 pub mod NetEntries
 pub mod NetCuts
 pub mod NetPaths

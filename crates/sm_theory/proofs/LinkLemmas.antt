@@ -1,16 +1,16 @@
 -- What `is_exposed` finds out pair by pair.
 use Rattle.std.proofs.Common.{◌≡◌, ◌≢◌, ℕ, zero, suc, ◌+◌, ◌-◌, ◌<◌, ◌≤◌, ◌↔◌, inl, inr, arith, refl, sym, ap, ◌∙◌, List, length, Some, Bool, true, false, not, IsTrue, ◌==◌, eq-eqb, ne_eqb}
+use Rattle.std.proofs.lemmas.Option.{same_Some}
 use Rattle.sm_market.specs.Lists.{Lists, entry, place_of, IsMarket}
 use Rattle.sm_market.specs.Matching.{Places, held, IsMatching}
-use Rattle.sm_market.proofs.Counting.{eq_or_ne, less_same_more}
+use Rattle.sm_lists.proofs.Counting.{eq_or_ne, less_same_more}
 use Rattle.sm_market.proofs.Core.{Sides, Stand, Pair, pair_at, one_proposer}
-use Rattle.sm_market.proofs.Bridge.{sides_of, stand_of, fit_of, standing-some, entry_place, place_entry}
+use Rattle.sm_market.proofs.PlaceLemmas.{place_of-entry}
+use Rattle.sm_lists.proofs.PlaceLemmas.{entry-place_of}
+use Rattle.sm_market.proofs.Bridge.{sides_of, stand_of, fit_of, standing-some}
 use Rattle.sm_theory.specs.Rotations.{IsSuccessor, IsLink, IsExposed, proposer_at, reviewer_at, target_at}
 use Rattle.sm_theory.proofs.CoreCycle.{Cycle, turn, turn_in, turn_last, turn_more, target, Succ, succ_unique}
 use Rattle.sm_theory.proofs.BridgeRotation.{cycle_of, succ_of}
-
-some_same : {x y : ℕ} → Some x ≡ Some y → x ≡ y
-some_same e = cc
 
 -- there is no more than one successor
 successor_once : {l : Lists} {m : Places} {p i j : ℕ} → IsSuccessor l m p i → IsSuccessor l m p j → i ≡ j
@@ -21,18 +21,18 @@ successor_once {l} {m} {p} {i} {j} x y = elim (less_same_more i j) [
 
 -- the successor by its reviewer
 pub successor_named : (l : Lists) (m : Places) (p i r : ℕ) → IsMarket l → IsSuccessor l m p i → entry l.proposers p i ≡ r → IsSuccessor l m p (place_of l.proposers p r)
-successor_named l m p i r h x e = let here = entry_place h.proposers p i x.on_list in
+successor_named l m p i r h x e = let here = place_of-entry h.proposers p i x.on_list in
     rw (sym here ∙ ap (place_of l.proposers p) e) at x
 
 pub successor_names : (l : Lists) (m : Places) (p i r : ℕ) → IsSuccessor l m p i → IsSuccessor l m p (place_of l.proposers p r) → entry l.proposers p i ≡ r
-successor_names l m p i r x y = ap (entry l.proposers p) (successor_once x y) ∙ place_entry l.proposers p r y.on_list
+successor_names l m p i r x y = ap (entry l.proposers p) (successor_once x y) ∙ entry-place_of l.proposers p r y.on_list
 
 -- what p holds by its reviewer
 pub held_named : (l : Lists) (m : Places) (p i r : ℕ) → IsMarket l → IsMatching l m → held m.proposers p ≡ Some i → entry l.proposers p i ≡ r → held m.proposers p ≡ Some (place_of l.proposers p r)
-held_named l m p i r h f e x = e ∙ ap Some (sym (entry_place h.proposers p i (f.proposers.on_list p i e)) ∙ ap (place_of l.proposers p) x)
+held_named l m p i r h f e x = e ∙ ap Some (sym (place_of-entry h.proposers p i (f.proposers.on_list p i e)) ∙ ap (place_of l.proposers p) x)
 
 pub held_names : (l : Lists) (m : Places) (p i r : ℕ) → IsMatching l m → held m.proposers p ≡ Some i → held m.proposers p ≡ Some (place_of l.proposers p r) → entry l.proposers p i ≡ r
-held_names l m p i r f e x = ap (entry l.proposers p) (some_same (sym e ∙ x)) ∙ place_entry l.proposers p r (f.proposers.on_list p (place_of l.proposers p r) x)
+held_names l m p i r f e x = ap (entry l.proposers p) (same_Some _ _ (sym e ∙ x)) ∙ entry-place_of l.proposers p r (f.proposers.on_list p (place_of l.proposers p r) x)
 
 -- links go round a cycle of distinct proposers, where the first one doesn't come again
 module _ {s : Sides} {m : Stand} (c : Cycle) (paired : (i : ℕ) → i < c.size → Pair s m (c.who i) (c.has i)) (next : (i : ℕ) → i < c.size → Succ s m (c.who i) (target c i)) (alone : (i : ℕ) → 0 < i → i < c.size → c.who i ≢ c.who 0) where
@@ -75,7 +75,7 @@ exposed_of_links l m rotation h f some links alone = record {
     next : (i : ℕ) → i < length rotation → Succ (sides_of l h) (stand_of l m) (proposer_at rotation i) (target_at rotation i)
     next i a =
         let p : ℕ = proposer_at rotation i in
-        rw (place_entry l.proposers p (target_at rotation i) (links i a).next.on_list) at (succ_of h f p (place_of l.proposers p (target_at rotation i)) (links i a).next)
+        rw (entry-place_of l.proposers p (target_at rotation i) (links i a).next.on_list) at (succ_of h f p (place_of l.proposers p (target_at rotation i)) (links i a).next)
 
 pub link_of_exposed : (l : Lists) (m : Places) (rotation : List (ℕ × ℕ)) → IsExposed l m rotation → (i : ℕ) → i < length rotation → IsLink l m (proposer_at rotation i) (reviewer_at rotation i) (target_at rotation i)
 link_of_exposed l m rotation x i a = record { paired = x.paired i a; next = x.next i a }

@@ -1,27 +1,28 @@
 -- The sets that no unbounded edge leaves are the closed sets whose matching is allowed.
 use Rattle.std.proofs.Common.{◌≡◌, ◌≢◌, ℕ, zero, suc, ◌<◌, ◌⊎◌, inl, inr, arith, refl, sym, ap, ◌∙◌, Bool, true, false, not, ◌&&◌, ◌||◌, List, length, eqb, eqb-true, eq-eqb, ℤ, slice_index, slice_index_or}
 use Rattle.std.specs.List.{list_any, position_or_len}
-use Rattle.std.proofs.lemmas.Bool.{false≢true}
+use Rattle.std.proofs.lemmas.Bool.{false≢true, false_from_ne_true}
 use Rattle.std.proofs.lemmas.List.{get_or_past}
 use Rattle.std.proofs.lemmas.List.Folds.{list_any_at}
 use Rattle.std.proofs.lemmas.List.Sums.{prefix_len-le-length}
 use Rattle.sm_market.specs.Lists.{Lists, row}
 use Rattle.sm_market.specs.Matching.{Places, held}
-use Rattle.sm_market.proofs.Counting.{lt_or_le}
+use Rattle.sm_lists.proofs.Counting.{lt_or_le}
 use Rattle.sm_theory.specs.Chains.{rotation_at, IsNeededBy}
 use Rattle.sm_theory.specs.ClosedSets.{IsMember, IsClosed, matching_of}
 use Rattle.sm_theory.specs.Vectors.{HasLevel, IsAllowed}
 use Rattle.sm_theory.specs.Net.{Net, sink_of, IsUnbounded, is_in, IsCut}
-use Rattle.sm_theory.specs.Conditions.{has_level, moves_to, moves_off, entry_node, exit_node, forces, forbids, leads_to_need, net_of, IsNetGround}
+use Rattle.sm_theory.specs.Conditions.{has_level, moves_to, moves_off, entry_node, exit_node, forces, forbids, leads_to_need, allows_nothing, net_of, IsNetGround}
 use Rattle.sm_theory.specs.LawsFlows.{CutsAreAllowed}
 use Rattle.sm_theory.proofs.BridgePlaces.{row_past}
 use Rattle.sm_theory.proofs.LawsRotations.{predecessor_is_earlier}
 use Rattle.sm_theory.proofs.NetTests.{true_or_false, not_true, and_parts, and_true, or_parts, or_left, or_right, not_same, Passes, some_passes}
+use Rattle.sm_theory.proofs.NetWhole.{whole_net_of, net_is_whole, whole_across}
 use Rattle.sm_theory.proofs.NetEntries.{entry_inside, exit_outside, level_between}
 
 module _ (l : Lists) (levels : List (List ℕ)) (weights : List (List ℤ)) (forced forbidden : List (ℕ × ℕ)) (first : Places) (rotations : List (List (ℕ × ℕ))) (needs : List (List ℕ)) (ground : IsNetGround l levels first rotations needs) where
   abbrev net : Net
-  net = net_of l levels weights forced forbidden first rotations needs
+  net = whole_net_of l levels weights forced forbidden first rotations needs
 
   abbrev entry : ℕ × ℕ → ℕ
   entry c = entry_node l levels first rotations c.0 c.1
@@ -207,8 +208,18 @@ module _ (l : Lists) (levels : List (List ℕ)) (weights : List (List ℤ)) (for
             ]
           ]
 
+-- where a matching is allowed, each pair allows something
+module _ (l : Lists) (levels : List (List ℕ)) (weights : List (List ℤ)) (forced forbidden : List (ℕ × ℕ)) (first : Places) (rotations : List (List (ℕ × ℕ))) (needs : List (List ℕ)) (ground : IsNetGround l levels first rotations needs) where
+  pub allowed_something : (set : List Bool) → IsClosed l rotations set → IsAllowed levels forced forbidden (matching_of l first rotations set) → allows_nothing l levels forced forbidden first rotations ≡ false
+  allowed_something set closed allowed =
+      let cut = cut_of_allowed l levels weights forced forbidden first rotations needs ground set closed allowed in
+      false_from_ne_true _ (λ e. cut.bounded 0 (suc (length rotations)) (omega arith) (omega arith) refl (sink_out l levels weights forced forbidden first rotations needs ground set closed.one_each)
+      (whole_across l levels weights forced forbidden first rotations needs e))
+
 pub cuts_are_allowed : CutsAreAllowed
 cuts_are_allowed l levels weights forced forbidden first rotations needs set ground = (
-  (λ c. allowed_of_cut l levels weights forced forbidden first rotations needs ground set c),
-  (λ w. cut_of_allowed l levels weights forced forbidden first rotations needs ground set w.0 w.1),
+  (λ c. allowed_of_cut l levels weights forced forbidden first rotations needs ground set (rw (net_is_whole l levels weights forced forbidden first rotations needs c.0) at c.1)),
+  (λ w.
+      let some = allowed_something l levels weights forced forbidden first rotations needs ground set w.0 w.1 in
+      (some, rw (net_is_whole l levels weights forced forbidden first rotations needs some) (cut_of_allowed l levels weights forced forbidden first rotations needs ground set w.0 w.1))),
 )

@@ -5,7 +5,7 @@ use Rattle.std.proofs.lemmas.Bool.{false≢true}
 use Rattle.std.proofs.lemmas.List.{get_or_past}
 use Rattle.sm_market.specs.Lists.{Lists, row, place_of, IsMarket}
 use Rattle.sm_market.specs.Matching.{Places, held, standing}
-use Rattle.sm_market.proofs.Counting.{lt_or_le, eq_or_ne}
+use Rattle.sm_lists.proofs.Counting.{lt_or_le, eq_or_ne}
 use Rattle.sm_market.proofs.Bridge.{stand_of, held_cases, held_at, standing-some}
 use Rattle.sm_theory.specs.Rotations.{reviewer_at, target_at, pair_of}
 use Rattle.sm_theory.specs.Chains.{rotation_at, stage, IsCompleteChain}

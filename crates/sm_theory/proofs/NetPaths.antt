@@ -4,7 +4,7 @@ use Rattle.std.specs.List.{range_with_len}
 use Rattle.std.proofs.lemmas.List.FromFn.{get_or-map-range_with_len, length-map-range_with_len}
 use Rattle.std.proofs.lemmas.Bool.{false≢true}
 use Rattle.std.proofs.lemmas.List.{get_or_past, get_or-set_same, get_or-set_other, length-set}
-use Rattle.sm_market.proofs.Counting.{Decided, Decided-and, Decided-some, lt_or_le, eq_or_ne, First}
+use Rattle.sm_lists.proofs.Counting.{Decided, Decided-and, Decided-some, lt_or_le, eq_or_ne, First, Decided-true}
 use Rattle.sm_theory.specs.ClosedSets.{is_member}
 use Rattle.sm_theory.specs.Net.{Net, sink_of, is_unbounded, IsUnbounded, is_in, IsCut, sum_to, IsPath, IsReachable}
 use Rattle.sm_theory.proofs.FlowSums.{sum_tight}
@@ -17,10 +17,6 @@ path_on Step (n ∷ path) i j k w s = (w.0, path_on Step path n j k w.1 s)
 
 reach_on : {Step : ℕ → ℕ → Type 0} {i j k : ℕ} → IsReachable Step i j → Step j k → IsReachable Step i k
 reach_on {Step} {i} {j} {k} w s = record { path = w.path ++ k ∷ []; is = path_on Step w.path i j k w.is s }
-
-Decided-true : (b : Bool) → Decided (b ≡ true)
-Decided-true true = inl refl
-Decided-true false = inr false≢true
 
 Decided-false : (b : Bool) → Decided (b ≡ false)
 Decided-false true = inr (λ e. false≢true (sym e))

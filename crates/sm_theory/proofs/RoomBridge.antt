@@ -1,9 +1,8 @@
 -- From stable matchings and stable partitions of roommates to ways of RoomCore.
 use Rattle.std.proofs.Common.{◌≡◌, ◌≢◌, ℕ, zero, suc, ◌<◌, ◌≤◌, inl, inr, arith, refl, sym, ap, ◌∙◌, List, length, Option, None, Some, cond, eqb, eq-eqb, ne_eqb, le_of_eq}
 use Rattle.sm_market.specs.Lists.{row, entry, place_of}
-use Rattle.sm_market.proofs.Counting.{lt_or_le, eq_or_ne, less_same_more, onto_itself, iterate, iterate-zero, iterate-suc}
-use Rattle.sm_market.proofs.Bridge.{place_entry}
-use Rattle.sm_market.proofs.PlaceLemmas.{place_of-le}
+use Rattle.sm_lists.proofs.Counting.{lt_or_le, eq_or_ne, less_same_more, onto_itself, iterate, iterate-zero, iterate-suc}
+use Rattle.sm_lists.proofs.PlaceLemmas.{entry-place_of, place_of-le}
 use Rattle.std.proofs.lemmas.List.Sums.{position_or_len_is}
 use Rattle.sm_theory.specs.Rooms.{IsAcceptable, mate_of, place_of_mate, IsRoomMatching, IsRoomStable}
 use Rattle.sm_theory.specs.Partitions.{successor_in, predecessor_in, after, party_place, IsStablePartition, IsInOddParty}
@@ -23,7 +22,7 @@ persons_of rows = record {
   turn = λ x y h. record { apart = λ e. h.apart (sym e); listed = h.returned; returned = h.listed };
   on = λ x y h. h.listed;
   inside = λ x y h. listed_in_range rows x (place_of rows x y) h.listed;
-  one = λ x y z h k e. sym (place_entry rows x y h.listed) ∙ ap (entry rows x) e ∙ place_entry rows x z k.listed;
+  one = λ x y z h k e. sym (entry-place_of rows x y h.listed) ∙ ap (entry rows x) e ∙ entry-place_of rows x z k.listed;
 }
 
 -- matchings

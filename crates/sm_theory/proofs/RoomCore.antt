@@ -2,7 +2,7 @@
 -- partition's successor and predecessor, or the mate twice. Ways are matchings of a market that has each person on both
 -- sides, so the interests of the two sides are opposed.
 use Rattle.std.proofs.Common.{◌≡◌, ℕ, zero, suc, ◌+◌, ◌-◌, ◌*◌, ◌<◌, ◌≤◌, inl, inr, arith, sym, ap, ◌∙◌}
-use Rattle.sm_market.proofs.Counting.{Decided, Decided-lt, Decided-and, lt_or_le, search_below, BothOnto, two_injections, iterate, iterate-zero, iterate-suc}
+use Rattle.sm_lists.proofs.Counting.{Decided, Decided-lt, Decided-and, lt_or_le, search_below, BothOnto, two_injections, iterate, iterate-zero, iterate-suc}
 
 -- persons below n, the lengths of their lists, places, and who are acceptable
 pub record Persons : Type 1 where

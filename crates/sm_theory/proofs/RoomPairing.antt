@@ -1,16 +1,17 @@
 -- The parties of a stable partition can be paired alternately, from the lowest person of each.
-use Rattle.std.proofs.Common.{◌≡◌, ◌≢◌, ℕ, zero, suc, ◌+◌, ◌*◌, ◌<◌, ◌≤◌, ◌⊎◌, inl, inr, arith, refl, sym, ap, ◌∙◌, Bool, true, false, not, List, length, map, Option, None, Some}
+use Rattle.std.proofs.Common.{◌≡◌, ◌≢◌, ℕ, zero, suc, ◌+◌, ◌-◌, ◌*◌, ◌<◌, ◌≤◌, ◌⊎◌, inl, inr, arith, refl, sym, ap, ◌∙◌, Bool, true, false, not, List, length, map, Option, None, Some}
 use Rattle.std.specs.List.{range_with_len}
 use Rattle.std.specs.Option.{option_map}
 use Rattle.std.proofs.lemmas.Bool.{false≢true}
 use Rattle.std.proofs.lemmas.List.{get_or_past}
 use Rattle.std.proofs.lemmas.List.FromFn.{get_or-map-range_with_len, length-map-range_with_len}
-use Rattle.sm_market.proofs.Counting.{lt_or_le, eq_or_ne}
+use Rattle.std.proofs.lemmas.Option.{same_Some, none-some}
+use Rattle.sm_lists.proofs.Counting.{lt_or_le, eq_or_ne}
 use Rattle.sm_theory.specs.Rooms.{mate_of}
 use Rattle.sm_theory.specs.Partitions.{successor_in, predecessor_in, after, IsStablePartition, IsLowestOfOdd, PairsAlternately}
 use Rattle.sm_theory.specs.LawsRooms.{PartiesPair}
 use Rattle.sm_theory.proofs.RoomBridge.{before_next, after_inside}
-use Rattle.sm_theory.proofs.RoomSpots.{Spot, spot, spot_of_lowest, same_spot}
+use Rattle.sm_theory.proofs.RoomSpots.{Spot, spot, spot_of_lowest, same_spot, after_plus}
 use Rattle.sm_theory.proofs.NetTests.{not_is}
 
 is_odd : ℕ → Bool
@@ -48,12 +49,6 @@ step_of true true k = Some (suc k)
 partner : ℕ → ℕ → Option ℕ
 partner size k = step_of (is_odd size) (is_odd k) k
 
-none_some : {x : ℕ} → ◌≡◌ {A = Option ℕ} None (Some x) → ⊥
-none_some e = grind arith
-
-some_same : {x y : ℕ} → Some x ≡ Some y → x ≡ y
-some_same e = cc
-
 record Partner (size k j : ℕ) : Type 0 where
   below : j < size
   back : partner size j ≡ Some k
@@ -85,22 +80,22 @@ partner_of size k j h e = go (is_odd size) (is_odd k) refl refl k refl e
   where
     go : (a b : Bool) → is_odd size ≡ a → is_odd k ≡ b → (m : ℕ) → k ≡ m → step_of a b m ≡ Some j → Partner size k j
     go false false p q m x f =
-        let y : suc m ≡ j = some_same f in
+        let y : suc m ≡ j = same_Some _ _ f in
         let z : j ≡ suc k = omega arith in
         record { below = rw z (odd_apart size k (p ∙ sym q) h); back = rw (z, p, q) refl; near = inl z }
     go true true p q m x f =
-        let y : suc m ≡ j = some_same f in
+        let y : suc m ≡ j = same_Some _ _ f in
         let z : j ≡ suc k = omega arith in
         record { below = rw z (odd_apart size k (p ∙ sym q) h); back = rw (z, p, q) refl; near = inl z }
-    go false true p q zero x f = absurd (none_some f)
-    go true false p q zero x f = absurd (none_some f)
+    go false true p q zero x f = absurd (none-some _ f)
+    go true false p q zero x f = absurd (none-some _ f)
     go false true p q (suc m) x f =
-        let y : m ≡ j = some_same f in
+        let y : m ≡ j = same_Some _ _ f in
         let z : k ≡ suc j = omega arith in
         let even : is_odd j ≡ false = flip_true (is_odd j) (ap is_odd (sym z) ∙ q) in
         record { below = omega arith; back = rw (p, even) (ap Some (sym z)); near = inr z }
     go true false p q (suc m) x f =
-        let y : m ≡ j = some_same f in
+        let y : m ≡ j = same_Some _ _ f in
         let z : k ≡ suc j = omega arith in
         let odd : is_odd j ≡ true = flip_false (is_odd j) (ap is_odd (sym z) ∙ q) in
         record { below = omega arith; back = rw (p, odd) (ap Some (sym z)); near = inr z }
@@ -110,12 +105,12 @@ unfolding partner step_of is_odd
 no_partner size k e = go (is_odd size) (is_odd k) refl refl k refl e
   where
     go : (a b : Bool) → is_odd size ≡ a → is_odd k ≡ b → (m : ℕ) → k ≡ m → step_of a b m ≡ None → (is_odd size ≡ true) × (k ≡ 0)
-    go false false p q m x f = absurd (none_some (sym f))
-    go true true p q m x f = absurd (none_some (sym f))
+    go false false p q m x f = absurd (none-some _ (sym f))
+    go true true p q m x f = absurd (none-some _ (sym f))
     go false true p q zero x f = absurd (false≢true (ap is_odd (sym x) ∙ q))
     go true false p q zero x f = (p, x)
-    go false true p q (suc m) x f = absurd (none_some (sym f))
-    go true false p q (suc m) x f = absurd (none_some (sym f))
+    go false true p q (suc m) x f = absurd (none-some _ (sym f))
+    go true false p q (suc m) x f = absurd (none-some _ (sym f))
 
 first_alone : (size : ℕ) → is_odd size ≡ true → partner size 0 ≡ None
 unfolding partner step_of is_odd
@@ -164,13 +159,13 @@ module _ {rows : List (List ℕ)} {next : List ℕ} (h : IsStablePartition rows 
 
   found : (x y : ℕ) → mate_of mates x ≡ Some y → Found x y
   found x y e = elim (lt_or_le x (length rows)) [
-    | inr k ↦ absurd (none_some (sym (get_or_past mates x None (omega (arith, mates_length))) ∙ e))
+    | inr k ↦ absurd (none-some _ (sym (get_or_past mates x None (omega (arith, mates_length))) ∙ e))
     | inl k ↦ let s = spot h x k in go k s (partner s.size s.at) refl (sym (mate_from_is s) ∙ sym (mate_is x k s) ∙ e)
   ]
     where
       go : x < length rows → (s : Spot rows next x) (o : Option ℕ) → partner s.size s.at ≡ o → option_map (after next s.lead) (partner s.size s.at) ≡ Some y → Found x y
-      go k s None p f = absurd (none_some (sym (ap (option_map (after next s.lead)) p) ∙ f))
-      go k s (Some j) p f = record { inside = k; from = s; to = j; partner_is = p; is = some_same (sym (ap (option_map (after next s.lead)) p) ∙ f) }
+      go k s None p f = absurd (none-some _ (sym (ap (option_map (after next s.lead)) p) ∙ f))
+      go k s (Some j) p f = record { inside = k; from = s; to = j; partner_is = p; is = same_Some _ _ (sym (ap (option_map (after next s.lead)) p) ∙ f) }
 
   -- the place of the mate
   spot_of_mate : {x y : ℕ} (w : Found x y) → Spot rows next y
@@ -221,7 +216,7 @@ module _ {rows : List (List ℕ)} {next : List ℕ} (h : IsStablePartition rows 
       others x a e = let s = spot h x a in go s (partner s.size s.at) refl (sym (mate_from_is s) ∙ sym (mate_is x a s) ∙ e)
         where
           go : (s : Spot rows next x) (o : Option ℕ) → partner s.size s.at ≡ o → option_map (after next s.lead) (partner s.size s.at) ≡ None → (successor_in next x ≡ x) ⊎ IsLowestOfOdd rows next x
-          go s (Some j) p f = absurd (none_some (sym f ∙ ap (option_map (after next s.lead)) p))
+          go s (Some j) p f = absurd (none-some _ (sym f ∙ ap (option_map (after next s.lead)) p))
           go s None p f =
               let v = no_partner s.size s.at p in
               let w = half_of s.size v.0 in
@@ -240,5 +235,22 @@ module _ {rows : List (List ℕ)} {next : List ℕ} (h : IsStablePartition rows 
                 })
               ]
 
+  -- who is the lowest of its party and is paired has its successor
+  lowest_first : (x y : ℕ) → ((k : ℕ) → x ≤ after next x k) → mate_of mates x ≡ Some y → y ≡ successor_in next x
+  lowest_first x y least e =
+      let w = found x y e in
+      let s = w.from in
+      let left : ℕ = s.size - s.at in
+      let whole : left + s.at ≡ s.size = omega (arith, s.below) in
+      let round : after next x left ≡ s.lead = ap (λ z. after next z left) (sym s.is) ∙ after_plus next s.lead left s.at ∙ ap (after next s.lead) whole ∙ s.returns in
+      let me : s.lead ≡ x = omega (arith, least left, round, s.lowest s.at, s.is) in
+      elim (eq_or_ne s.at 0) [
+        | inr more ↦ absurd (s.apart 0 s.at (omega arith) s.below (me ∙ sym s.is))
+        | inl none ↦ elim (partner_of s.size s.at w.to s.below w.partner_is).near [
+          | inl k ↦ sym w.is ∙ ap (after next s.lead) (k ∙ ap suc none) ∙ ap (successor_in next) me
+          | inr k ↦ absurd (omega arith)
+        ]
+      ]
+
 pub parties_pair : PartiesPair
-parties_pair rows next h = (mates h, pairs h)
+parties_pair rows next h = (mates h, record { alternately = pairs h; lowest_first = lowest_first h })

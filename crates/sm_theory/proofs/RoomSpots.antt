@@ -1,6 +1,6 @@
 -- Where a person stands in its party: how many steps behind the lowest, and how many members there are.
 use Rattle.std.proofs.Common.{◌≡◌, ◌≢◌, ℕ, zero, suc, ◌+◌, ◌-◌, ◌<◌, ◌≤◌, ◌⊎◌, inl, inr, arith, refl, sym, ap, ◌∙◌, List, length}
-use Rattle.sm_market.proofs.Counting.{Decided-eq, lt_or_le, eq_or_ne, less_same_more, First, search_below, Decided-some, find_cycle}
+use Rattle.sm_lists.proofs.Counting.{Decided-eq, lt_or_le, eq_or_ne, less_same_more, First, search_below, Decided-some, find_cycle}
 use Rattle.sm_theory.specs.Partitions.{successor_in, after, IsStablePartition}
 use Rattle.sm_theory.proofs.RoomBridge.{one_successor, after_is, after_inside}
 use Rattle.sm_theory.proofs.NetTests.{some_first}

@@ -3,7 +3,7 @@
 use Rattle.std.proofs.Common.{◌≡◌, ◌≢◌, ℕ, zero, suc, ◌<◌, ◌⊎◌, ◌&&◌, ◌||◌, inl, inr, arith, refl, sym, ap, ◌∙◌, Bool, true, not, eqb, nat_lt, List, length, Option, None, Some, eqb-true, eq-eqb, ne_eqb, ltb-true, lt-ltb}
 use Rattle.std.proofs.lemmas.List.{get_or_past}
 use Rattle.sm_market.specs.Lists.{row, entry, place_of}
-use Rattle.sm_market.proofs.Counting.{lt_or_le}
+use Rattle.sm_lists.proofs.Counting.{lt_or_le}
 use Rattle.sm_theory.specs.Rooms.{AreRoomLists, IsAcceptable, mate_of, place_of_mate, IsRoomStable}
 use Rattle.sm_theory.specs.Partitions.{successor_in, predecessor_in, after, party_place, IsStablePartition, IsLowestOfOdd}
 use Rattle.sm_theory.specs.WitnessesRooms.{odd_party_rows, odd_party_next, odd_party_rest, OddParty, even_party_rows, even_party_next, even_party_mates, EvenParty}

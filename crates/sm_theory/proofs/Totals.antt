@@ -1,7 +1,7 @@
 -- Sums of integers over 0..n-1 that differ at some places.
 use Rattle.std.proofs.Common.{◌≡◌, ◌≢◌, ℕ, zero, suc, ◌<◌, ◌≤◌, ◌⊎◌, inl, inr, arith, refl, sym, ap, ◌∙◌, ℤ, ◌+ℤ◌, ◌-ℤ◌}
 use Rattle.std.proofs.lemmas.Int.{ints}
-use Rattle.sm_market.proofs.Counting.{eq_or_ne, search_below, First, Decided-eq}
+use Rattle.sm_lists.proofs.Counting.{eq_or_ne, search_below, First, Decided-eq}
 use Rattle.sm_theory.specs.Weights.{total}
 
 pub total_same : (n : ℕ) (f g : ℕ → ℤ) → ((p : ℕ) → p < n → f p ≡ g p) → total f n ≡ total g n

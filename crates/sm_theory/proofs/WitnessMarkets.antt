@@ -7,7 +7,7 @@ use Rattle.sm_theory.specs.Rotations.{IsSuccessor, IsExposed, proposer_at}
 use Rattle.sm_theory.specs.Chains.{rotation_at, stage, IsCompleteChain, MakesItPass, IsNeededBy}
 use Rattle.sm_theory.specs.ClosedSets.{IsMember}
 use Rattle.sm_theory.specs.Witnesses.{three_cycle, three_cycle_first, three_cycle_chain, ThreeCycle, passed_seat, passed_seat_first, passed_seat_chain, PassedSeat, left_over, left_over_first, left_over_chain, left_over_last, LeftOver}
-use Rattle.sm_theory.proofs.LawsRotations.{nothing_exposed, predecessor_is_earlier}
+use Rattle.sm_theory.proofs.LawsRotations.{nothing_exposed, predecessor_is_earlier, printed_of}
 use Rattle.sm_theory.proofs.WitnessTests.{market_pass, matching_pass, firsts_best, exposed_pass, none_pass, firsts_or_none_best}
 
 -- a number below 2
@@ -33,7 +33,7 @@ three_cycle_complete = record {
 pub three_cycle_is : ThreeCycle
 three_cycle_is = (
   market_pass three_cycle refl,
-  record { chain = three_cycle_complete; lowest = below_two _ (λ other x i h. omega arith) (λ other x i h. omega arith) },
+  printed_of three_cycle_complete (below_two _ (λ other x i h. omega arith) (λ other x i h. omega arith)),
   record { pair = 0; pair_in = omega arith; other = 0; other_in = omega arith; same_proposer = refl; same_reviewer = refl },
   (nothing_exposed three_cycle last (market_pass three_cycle refl) (stable_from_test three_cycle last (matching_pass three_cycle last refl) refl) (none_pass three_cycle last refl)).0,
   (refl, refl, refl),
@@ -79,7 +79,7 @@ second_needs_first = record { pair = 1; pair_in = omega arith; other = 0; other_
 pub passed_seat_is : PassedSeat
 passed_seat_is = (
   market,
-  record { chain = passed_seat_complete; lowest = below_two _ (λ other x i h. omega arith) (λ other x i h. settled _ _ (x.next i h)) },
+  printed_of passed_seat_complete (below_two _ (λ other x i h. omega arith) (λ other x i h. settled _ _ (x.next i h))),
   second_needs_first,
   (λ w. apart w.pair w.other w.pair_in w.other_in w.same_proposer),
   record { one_each = refl; closed = λ i j a b member need. absurd (false_true (sym (below_two (λ j. slice_index_or (false ∷ false ∷ []) j false ≡ false) refl refl j b) ∙ member)) },

@@ -4,7 +4,7 @@ use Rattle.std.proofs.lemmas.List.{get_or_past}
 use Rattle.sm_market.specs.Lists.{Lists, row, entry, place_of, AreMutual, IsMarket}
 use Rattle.sm_market.specs.Matching.{Places, held, standing, AreHeldInTurn, IsMatching}
 use Rattle.sm_market.specs.Stable.{IsStable, IsProposersBest}
-use Rattle.sm_market.proofs.Counting.{lt_or_le, eq_or_ne}
+use Rattle.sm_lists.proofs.Counting.{lt_or_le, eq_or_ne}
 use Rattle.sm_market.proofs.Bridge.{held_cases, standing-none}
 use Rattle.sm_market.proofs.LawsProved.{same_agents}
 use Rattle.sm_theory.specs.Rotations.{IsSuccessor, IsExposed, proposer_at, reviewer_at, target_at}

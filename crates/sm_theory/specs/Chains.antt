@@ -1,9 +1,9 @@
 -- Complete chains of rotations, and the two kinds of predecessor.
-use Rattle.std.specs.Prelude.{◌≡◌, ℕ, zero, suc, ◌<◌, ◌≤◌, ◌⊎◌, List, [], length, slice_index, slice_index_or, Contains}
+use Rattle.std.specs.Prelude.{◌≡◌, ℕ, zero, suc, ◌<◌, ◌⊎◌, List, [], length, slice_index, slice_index_or, Contains}
 use Rattle.sm_market.specs.Lists.{Lists, place_of}
 use Rattle.sm_market.specs.Matching.{Places}
 use Rattle.sm_market.specs.Stable.{IsProposersBest}
-use Rattle.sm_theory.specs.Rotations.{proposer_at, reviewer_at, target_at, next_in, IsExposed, eliminated}
+use Rattle.sm_theory.specs.Rotations.{proposer_at, reviewer_at, target_at, next_in, IsExposed, IsLowestExposed, eliminated}
 
 abbrev pub rotation_at : List (List (ℕ × ℕ)) → ℕ → List (ℕ × ℕ)
 rotation_at rotations k = slice_index_or rotations k []
@@ -24,8 +24,7 @@ pub record IsCompleteChain (l : Lists) (first : Places) (rotations : List (List 
 -- rotations that are exposed at its turn
 pub record IsPrintedChain (l : Lists) (first : Places) (rotations : List (List (ℕ × ℕ))) : Type 0 where
   pub chain : IsCompleteChain l first rotations
-  pub lowest : (k : ℕ) → k < length rotations → (other : List (ℕ × ℕ)) → IsExposed l (stage l first rotations k) other
-      → (i : ℕ) → i < length other → proposer_at (rotation_at rotations k) 0 ≤ proposer_at other i
+  pub lowest : (k : ℕ) → k < length rotations → IsLowestExposed l (stage l first rotations k) (rotation_at rotations k)
 
 -- the first kind of predecessor: `early` moves some proposer to a reviewer from which `late` moves it
 pub record MovesItBefore (early late : List (ℕ × ℕ)) : Type 0 where

@@ -66,15 +66,22 @@ abbrev pub fall_of : ℤ → ℕ
 fall_of (pos n) = 0
 fall_of (negsuc n) = suc n
 
--- the net of the gains, the predecessors and the conditions, which are pairs of a proposer and a level
+-- a pair allows nothing by itself where its edge would lead from the source to the sink: a forced one that no stable
+-- matching holds, or a forbidden one that all hold
+abbrev pub allows_nothing : Lists → List (List ℕ) → (forced forbidden : List (ℕ × ℕ)) → Places → List (List (ℕ × ℕ)) → Bool
+allows_nothing l levels forced forbidden first rotations =
+    list_any (λ c. forces l levels first rotations c 0 (suc (length rotations))) forced || list_any (λ c. forbids l levels first rotations c 0 (suc (length rotations))) forbidden
+
+-- the net of the gains, the predecessors and the conditions, which are pairs of a proposer and a level. No edge leads from
+-- the source to the sink
 -- (Irving, Leather and Gusfield 1987; Gusfield and Irving 1989, chapter 3)
 abbrev pub net_of : Lists → List (List ℕ) → List (List ℤ) → (forced forbidden : List (ℕ × ℕ)) → Places → List (List (ℕ × ℕ)) → List (List ℕ) → Net
 net_of l levels weights forced forbidden first rotations needs = record {
   size = length rotations;
   supply = λ k. fall_of (gain_of l weights (rotation_at rotations k));
   drain = λ k. rise_of (gain_of l weights (rotation_at rotations k));
-  unbounded = λ i j. not (i == j)
-      && (leads_to_need needs i j || (list_any (λ c. forces l levels first rotations c i j) forced || list_any (λ c. forbids l levels first rotations c i j) forbidden));
+  unbounded = λ i j. not (i == j) && (not (i == 0 && j == suc (length rotations))
+      && (leads_to_need needs i j || (list_any (λ c. forces l levels first rotations c i j) forced || list_any (λ c. forbids l levels first rotations c i j) forbidden)));
 }
 
 -- what the net is made from: a market with levels, a complete chain, and the predecessors of each rotation

@@ -1,7 +1,7 @@
 -- The laws of roommates. Each is the contract of a function of `laws`.
 use Rattle.std.specs.Prelude.{◌≡◌, ℕ, List, Option, None}
 use Rattle.sm_theory.specs.Rooms.{mate_of, IsRoomMatching, RoomBlocks, IsRoomStable}
-use Rattle.sm_theory.specs.Partitions.{after, IsStablePartition, IsInOddParty, IsLowestOfOdd, PairsAlternately}
+use Rattle.sm_theory.specs.Partitions.{after, IsStablePartition, IsInOddParty, IsLowestOfOdd, PairsAlternately, PairsFromLowest}
 
 -- who have a stable partition with an odd party of three or more have no stable matching (Tan 1991)
 abbrev pub OddPartyExcludes : Type 0
@@ -18,9 +18,9 @@ abbrev pub SamePersons : Type 0
 SamePersons = (rows : List (List ℕ)) (m n : List (Option ℕ)) → IsRoomStable rows m → IsRoomStable rows n
     → (x : ℕ) → mate_of m x ≡ None → mate_of n x ≡ None
 
--- the parties of a stable partition can be paired so
+-- the parties of a stable partition can be paired alternately, each from its lowest person on
 abbrev pub PartiesPair : Type 0
-PartiesPair = (rows : List (List ℕ)) (next : List ℕ) → IsStablePartition rows next → (mates : List (Option ℕ)) × PairsAlternately rows next mates
+PartiesPair = (rows : List (List ℕ)) (next : List ℕ) → IsStablePartition rows next → (mates : List (Option ℕ)) × PairsFromLowest rows next mates
 
 -- where no party is odd, pairing each party alternately gives a stable matching (Tan 1991)
 abbrev pub EvenPartiesPair : Type 0

@@ -52,3 +52,8 @@ pub record PairsAlternately (rows : List (List ℕ)) (next : List ℕ) (mates : 
   pub in_turn : (x y : ℕ) → mate_of mates x ≡ Some y → mate_of mates y ≡ Some x
   pub left_out : (x : ℕ) → IsLowestOfOdd rows next x → mate_of mates x ≡ None
   pub others : (x : ℕ) → x < length rows → mate_of mates x ≡ None → (successor_in next x ≡ x) ⊎ IsLowestOfOdd rows next x
+
+-- and each party from its lowest person on: where that one is paired, it is with its successor
+pub record PairsFromLowest (rows : List (List ℕ)) (next : List ℕ) (mates : List (Option ℕ)) : Type 0 where
+  pub alternately : PairsAlternately rows next mates
+  pub lowest_first : (x y : ℕ) → ((k : ℕ) → x ≤ after next x k) → mate_of mates x ≡ Some y → y ≡ successor_in next x

@@ -1,5 +1,5 @@
 -- Successors, rotations, and their elimination. A rotation is a cycle of pairs of a proposer and a reviewer.
-use Rattle.std.specs.Prelude.{◌≡◌, ◌≢◌, ℕ, ◌<◌, List, Some, IsSome, length}
+use Rattle.std.specs.Prelude.{◌≡◌, ◌≢◌, ℕ, ◌<◌, ◌≤◌, List, Some, IsSome, length}
 use Rattle.sm_market.specs.Lists.{Lists, row, entry, place_of}
 use Rattle.sm_market.specs.Matching.{Places, held, standing}
 use Rattle.sm_theory.specs.Lattice.{with_proposers}
@@ -29,6 +29,15 @@ pub record IsExposed (l : Lists) (m : Places) (rotation : List (ℕ × ℕ)) : T
   pub distinct : (i j : ℕ) → i < j → j < length rotation → proposer_at rotation i ≢ proposer_at rotation j
   pub paired : (i : ℕ) → i < length rotation → held m.proposers (proposer_at rotation i) ≡ Some (place_of l.proposers (proposer_at rotation i) (reviewer_at rotation i))
   pub next : (i : ℕ) → i < length rotation → IsSuccessor l m (proposer_at rotation i) (place_of l.proposers (proposer_at rotation i) (target_at rotation i))
+
+-- no rotation is exposed
+pub record IsNothingExposed (l : Lists) (m : Places) : Type 0 where
+  pub none : (other : List (ℕ × ℕ)) → ¬ IsExposed l m other
+
+-- an exposed rotation that begins with the lowest-numbered proposer of all exposed rotations
+pub record IsLowestExposed (l : Lists) (m : Places) (rotation : List (ℕ × ℕ)) : Type 0 where
+  pub exposed : IsExposed l m rotation
+  pub lowest : (other : List (ℕ × ℕ)) → IsExposed l m other → (i : ℕ) → i < length other → proposer_at rotation 0 ≤ proposer_at other i
 
 -- p has r, and its successor is the reviewer `target`
 pub record IsLink (l : Lists) (m : Places) (p r target : ℕ) : Type 0 where

@@ -4,28 +4,15 @@ use Rattle.std.specs.Prelude.{◌≡◌, ℕ, ◌+◌, ◌<◌, ◌≤◌, ◌�
 use Rattle.sm_market.specs.Lists.{Lists, row}
 use Rattle.sm_market.specs.Matching.{Places, held, standing}
 use Rattle.sm_market.specs.Stable.{IsStable}
-use Rattle.sm_theory.specs.Lattice.{agents}
-
--- the level at which p stands
-abbrev pub level_of : Lists → List (List ℕ) → Places → ℕ → ℕ
-level_of l levels m p = slice_index (row levels p) (standing l.proposers m.proposers p)
-
--- the level of each proposer in turn; the rank vector, where the levels are ranks
-abbrev pub level_vector_of : Lists → List (List ℕ) → Places → List ℕ
-level_vector_of l levels m = map (level_of l levels m) (agents l.proposers)
+-- the level vector and the order of vectors, passed on
+pub use Rattle.sm_market.specs.Levels.{level_of, level_vector_of}
+pub use Rattle.sm_lists.specs.Orders.{IsBefore}
 
 -- levels for all places of each proposer, and one for being unmatched, never falling along a list
 pub record AreLevels (l : Lists) (levels : List (List ℕ)) : Type 0 where
   pub one_each : length levels ≡ length l.proposers
   pub per_place : (p : ℕ) → p < length l.proposers → length (row levels p) ≡ length (row l.proposers p) + 1
   pub rising : (p i j : ℕ) → i < j → j < length (row levels p) → slice_index (row levels p) i ≤ slice_index (row levels p) j
-
--- one vector is before another: it is smaller at the first of the proposers, in the given order, at which they differ
-pub record IsBefore (order v w : List ℕ) : Type 0 where
-  pub at : ℕ
-  pub within : at < length order
-  pub smaller : slice_index v (slice_index order at) < slice_index w (slice_index order at)
-  pub alike : (j : ℕ) → j < at → slice_index v (slice_index order j) ≡ slice_index w (slice_index order j)
 
 -- p is matched, at a place of this level
 pub record HasLevel (levels : List (List ℕ)) (m : Places) (p level : ℕ) : Type 0 where
@@ -43,24 +30,24 @@ abbrev pub IsWithin : Lists → List (List ℕ) → (low high : List ℕ) → Pl
 IsWithin l levels low high m = (p : ℕ) → p < length l.proposers → (slice_index low p ≤ level_of l levels m p) × (level_of l levels m p ≤ slice_index high p)
 
 -- behind a vector, if there is one
-abbrev pub IsBehind : List ℕ → Option (List ℕ) → List ℕ → Type 0
-IsBehind order None v = Unit {0}
-IsBehind order (Some c) v = IsBefore order c v
+abbrev pub IsBehind : (List ℕ → List ℕ → Type 0) → Option (List ℕ) → List ℕ → Type 0
+IsBehind Before None v = Unit {0}
+IsBehind Before (Some c) v = Before c v
 
 -- the last vector listed, or else the cursor
 abbrev pub end_of : Option (List ℕ) → List (List ℕ) → Option (List ℕ)
 end_of cursor [] = cursor
 end_of cursor (v ∷ vs) = end_of (Some v) vs
 
--- a listing of what is in question: the vectors behind the cursor, rising in the given order, the first ones of all, at
--- most as many as the limit; and more is said to follow exactly where more follow
-pub record IsListing (IsOne : List ℕ → Type 0) (order : List ℕ) (cursor : Option (List ℕ)) (limit : ℕ) (out : List (List ℕ)) (more : Bool) : Type 0 where
-  pub begins : 0 < length out → IsBehind order cursor (slice_index_or out 0 [])
-  pub rises : (k : ℕ) → k + 1 < length out → IsBefore order (slice_index_or out k []) (slice_index_or out (k + 1) [])
+-- a listing of what is in question: the vectors behind the cursor, rising in the given order, as `IsBefore` in an order of
+-- the proposers, the first ones of all, at most as many as the limit; and more is said to follow exactly where more follow
+pub record IsListing (Before : List ℕ → List ℕ → Type 0) (IsOne : List ℕ → Type 0) (cursor : Option (List ℕ)) (limit : ℕ) (out : List (List ℕ)) (more : Bool) : Type 0 where
+  pub begins : 0 < length out → IsBehind Before cursor (slice_index_or out 0 [])
+  pub rises : (k : ℕ) → k + 1 < length out → Before (slice_index_or out k []) (slice_index_or out (k + 1) [])
   pub sound : (k : ℕ) → k < length out → IsOne (slice_index_or out k [])
-  pub whole : (v : List ℕ) → IsOne v → IsBehind order cursor v → ((k : ℕ) × (k < length out) × (slice_index_or out k [] ≡ v)) ⊎ IsBehind order (end_of cursor out) v
+  pub whole : (v : List ℕ) → IsOne v → IsBehind Before cursor v → ((k : ℕ) × (k < length out) × (slice_index_or out k [] ≡ v)) ⊎ IsBehind Before (end_of cursor out) v
   pub limited : length out ≤ limit
-  pub ended : more ≡ false ↔ ((v : List ℕ) → IsOne v → IsBehind order (end_of cursor out) v → ⊥)
+  pub ended : more ≡ false ↔ ((v : List ℕ) → IsOne v → IsBehind Before (end_of cursor out) v → ⊥)
   pub cut : more ≡ true → length out ≡ limit
 
 -- the level vector of a stable matching that is allowed

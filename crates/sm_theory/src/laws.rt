@@ -108,7 +108,7 @@ pub fn reach_is_least_cut()
 {}
 
 /// In the net of gains, predecessors and conditions, the sets that no unbounded edge leaves are exactly the closed sets
-/// whose matching is allowed (Gusfield and Irving 1989, chapter 3).
+/// whose matching is allowed, where no pair allows nothing by itself (Gusfield and Irving 1989, chapter 3).
 pub fn cuts_are_allowed()
     ensures { CutsAreAllowed }
 {}
@@ -125,7 +125,8 @@ pub fn reach_is_best_lightest()
     ensures { ReachIsBestLightest }
 {}
 
-/// In that net a path of unbounded edges leads from the source to the sink exactly where no stable matching is allowed.
+/// No stable matching is allowed exactly where a pair allows nothing by itself or, in that net, a path of unbounded edges
+/// leads from the source to the sink.
 pub fn path_where_nothing()
     ensures { PathWhereNothing }
 {}
@@ -145,7 +146,8 @@ pub fn same_persons()
     ensures { SamePersons }
 {}
 
-/// The persons of each party of a stable partition can be paired alternately, with the lowest of each odd party left out.
+/// The persons of each party of a stable partition can be paired alternately from the lowest on, with the lowest of each
+/// odd party left out.
 pub fn parties_pair()
     ensures { PartiesPair }
 {}

@@ -1,5 +1,5 @@
 use Rattle.std.proofs.Common.{◌≡◌, ℕ, length, replicate, rules, arith}
-use Rattle.sm_accept.proofs.ResultLemmas.{written}
+use Rattle.sm_lists.proofs.ResultLemmas.{take-append_at_length}
 use Rattle.sm_accept.proofs.AcceptSteps.{progress_start}
 use Rattle.sm_accept.proofs.AcceptEnds.{best_places_at}
 use Rattle.sm_accept.proofs.accept.best_places.Goals as goal
@@ -15,4 +15,4 @@ pub returns : goal.returns
 returns c =
     let all : c.loop-p.p ≡ length c.args.market.now.proposers = let count = c.proposers-p-end.ensures.count in omega arith in
     let long : length c.end_all.new.places ≡ c.in_ok-places.places.len = let len = c.in_ok-places.ensures.len in let count = c.proposers-2.ensures.count in omega (arith, c.end_all.ensures.one_each) in
-    rw (written c.in_ok-places.places.len c.end_all.new.places _ long) (best_places_at c.proposers.ensures.market c.loop-p.invariant all c.end_all.ensures)
+    rw (take-append_at_length c.in_ok-places.places.len c.end_all.new.places _ long) (best_places_at c.proposers.ensures.market c.loop-p.invariant all c.end_all.ensures)

@@ -3,8 +3,9 @@ use Rattle.sm_market.specs.Lists.{reversed_lists}
 use Rattle.sm_market.specs.Matching.{reversed}
 use Rattle.sm_market.specs.Stable.{IsProposersBest}
 use Rattle.sm_market.proofs.Bridge.{IsMatching-reversed}
-use Rattle.sm_accept.proofs.ResultLemmas.{IfOk-both, written}
-use Rattle.sm_accept.proofs.BestLemmas.{held_on_list, held_untaken, reviewers_best_of, best_of_reviewers}
+use Rattle.sm_market.proofs.PairingLemmas.{held_of_matching}
+use Rattle.sm_lists.proofs.ResultLemmas.{IfOk-both, take-append_at_length}
+use Rattle.sm_accept.proofs.BestLemmas.{reviewers_best_of, best_of_reviewers}
 use Rattle.sm_accept.proofs.accept.reviewer_best.Goals as goal
 
 -- the best with the sides exchanged
@@ -15,26 +16,23 @@ best_is c = rw c.in_ok-swapped.ensures at c.in_ok-best.ensures.best
 places_are : (c : goal.After-deref) → c.deref.result.now ≡ c.in_ok-best.best.places.reviewers
 places_are c =
     let long : length c.own_places.new.places ≡ c.in_ok-places.places.len = let len = c.in_ok-places.ensures.len in let auto = c.own_places.auto.places in let also = c.deref_mut.ensures.len in omega arith in
-    c.deref.ensures.value ∙ written c.in_ok-places.places.len c.own_places.new.places _ long ∙ c.own_places.ensures
+    c.deref.ensures.value ∙ take-append_at_length c.in_ok-places.places.len c.own_places.new.places _ long ∙ c.own_places.ensures
 
-pub pairing_of-requires-clause-on_lists : goal.pairing_of-requires-clause-on_lists
-pairing_of-requires-clause-on_lists c = rw (places_are c) (held_on_list {l = c.args.market.now} {m = reversed c.in_ok-best.best.places} (IsMatching-reversed (best_is c).stable.matching))
-
-pub pairing_of-requires-clause-untaken : goal.pairing_of-requires-clause-untaken
-pairing_of-requires-clause-untaken c = rw (places_are c) (held_untaken {l = c.args.market.now} {m = reversed c.in_ok-best.best.places} (IsMatching-reversed (best_is c).stable.matching))
+pub held-requires : goal.held-requires
+held-requires c = rw (places_are c) (held_of_matching {l = c.args.market.now} {m = reversed c.in_ok-best.best.places} (IsMatching-reversed (best_is c).stable.matching))
 
 pub returns-clause-worst : goal.returns-clause-worst
 returns-clause-worst c =
     let long : length c.own_places.new.places ≡ c.in_ok-places.places.len = let len = c.in_ok-places.ensures.len in let auto = c.own_places.auto.places in let also = c.deref_mut.ensures.len in omega arith in
-    IfOk-both c.pairing_of.result _ _ _
+    IfOk-both c.held.result _ _ _
     (λ m made places. reviewers_best_of c.proposers.ensures.market (rw c.in_ok-swapped.ensures at c.in_ok-best.ensures.best) made.matching
-    (places ∙ c.deref.ensures.value ∙ written c.in_ok-places.places.len c.own_places.new.places _ long ∙ c.own_places.ensures))
-    c.pairing_of.ensures.pairing c.pairing_of.ensures.places
+    (places ∙ c.deref.ensures.value ∙ take-append_at_length c.in_ok-places.places.len c.own_places.new.places _ long ∙ c.own_places.ensures))
+    c.held.ensures.pairing c.held.ensures.places
 
 pub returns-clause-best : goal.returns-clause-best
 returns-clause-best c =
     let long : length c.own_places.new.places ≡ c.in_ok-places.places.len = let len = c.in_ok-places.ensures.len in let auto = c.own_places.auto.places in let also = c.deref_mut.ensures.len in omega arith in
-    IfOk-both c.pairing_of.result _ _ _
+    IfOk-both c.held.result _ _ _
     (λ m made places. best_of_reviewers c.proposers.ensures.market (rw c.in_ok-swapped.ensures at c.in_ok-best.ensures.best) made.matching
-    (places ∙ c.deref.ensures.value ∙ written c.in_ok-places.places.len c.own_places.new.places _ long ∙ c.own_places.ensures))
-    c.pairing_of.ensures.pairing c.pairing_of.ensures.places
+    (places ∙ c.deref.ensures.value ∙ take-append_at_length c.in_ok-places.places.len c.own_places.new.places _ long ∙ c.own_places.ensures))
+    c.held.ensures.pairing c.held.ensures.places

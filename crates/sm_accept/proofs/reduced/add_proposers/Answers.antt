@@ -1,7 +1,7 @@
 use Rattle.std.proofs.Common.{◌≡◌, ◌<◌, length, sym, ap, ◌∙◌, arith}
 use Rattle.sm_market.specs.Lists.{row, entry, place_of}
 use Rattle.sm_market.specs.Reduced.{is_no_worse}
-use Rattle.sm_market.proofs.PlaceLemmas.{entry-place_of}
+use Rattle.sm_lists.proofs.PlaceLemmas.{entry-place_of}
 use Rattle.sm_accept.proofs.ReducedLemmas.{filter_step, and_comm}
 use Rattle.sm_accept.proofs.reduced.add_proposers.Goals as goal
 

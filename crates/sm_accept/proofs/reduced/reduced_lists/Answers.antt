@@ -1,7 +1,7 @@
 use Rattle.std.proofs.Common.{ap, ◌∙◌}
 use Rattle.sm_market.specs.Matching.{Places}
 use Rattle.sm_market.specs.Reduced.{reduced_lists_of}
-use Rattle.sm_accept.proofs.ResultLemmas.{IfOk-both}
+use Rattle.sm_lists.proofs.ResultLemmas.{IfOk-both}
 use Rattle.sm_accept.proofs.BestLemmas.{proposers_best_once, reviewers_best_once}
 use Rattle.sm_accept.proofs.ReducedLemmas.{keeps_stable_pairs}
 use Rattle.sm_accept.proofs.reduced.reduced_lists.Goals as goal

@@ -1,17 +1,17 @@
 use Rattle.std.proofs.Common.{◌≡◌, ◌++◌, ◌∷◌, [], cond, true, false, refl, sym, ap, ◌∙◌, arith, below_more}
 use Rattle.std.specs.List.{list_any}
 use Rattle.std.specs.Str.{bytes_eq}
+use Rattle.std.proofs.lemmas.Bool.{not-false, not-true}
 use Rattle.sm_text.specs.Name.{is_name}
 use Rattle.sm_instance.specs.Vectors.{agents_of}
 use Rattle.sm_instance.proofs.AgentLemmas.{length-agents, fresh_name, stale_name, names_more}
-use Rattle.sm_instance.proofs.NameLemmas.{from_not_false, from_not_true}
 use Rattle.sm_instance.proofs.checks.checked_names.Goals as goal
 
 pub returns-then-not-is_new-clause-fault : goal.returns-then-not-is_new-clause-fault
 returns-then-not-is_new-clause-fault c =
     let agents = agents_of c.args.agents.now in
     let long = length-agents c.args.agents.now in
-    let among : list_any (bytes_eq c.name_at-name.result.now) c.loop-a.names ≡ true = from_not_false _ (sym c.in_ok-is_new.ensures.added ∙ c.if-not-is_new.true) in (
+    let among : list_any (bytes_eq c.name_at-name.result.now) c.loop-a.names ≡ true = not-false _ (sym c.in_ok-is_new.ensures.added ∙ c.if-not-is_new.true) in (
       refl,
       record {
         there = omega arith;
@@ -27,7 +27,7 @@ loop-a-preserved c =
     let old = c.loop-a.names in
     let name = c.name_at-name.result.now in
     let capacity = (c.is_capacity.ensures).0 c.if-not-is_capacity.false in
-    let new : list_any (bytes_eq name) old ≡ false = from_not_true _ (sym c.in_ok-is_new.ensures.added ∙ c.if-not-is_new.false) in
+    let new : list_any (bytes_eq name) old ≡ false = not-true _ (sym c.in_ok-is_new.ensures.added ∙ c.if-not-is_new.false) in
     record {
       told = c.in_ok-is_new.ensures.names ∙ ap (λ b. cond b (old ++ name ∷ []) old) c.if-not-is_new.false
           ∙ names_more agents c.loop-a.a old name (omega arith) c.loop-a.invariant.told c.name_at-name.ensures;

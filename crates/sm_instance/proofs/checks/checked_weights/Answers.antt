@@ -1,10 +1,10 @@
 use Rattle.std.proofs.Common.{◌≡◌, ◌++◌, ◌∷◌, [], cond, map, get_or, false, sym, ap, ◌∙◌, subst, arith, rules, below_more, pos, FitsSigned, w64}
 use Rattle.std.specs.List.{list_any}
 use Rattle.std.proofs.lemmas.Int.{to_z-of_z}
+use Rattle.std.proofs.lemmas.Bool.{not-false, not-true}
 use Rattle.sm_instance.specs.Written.{weighed, is_same_pair}
 use Rattle.sm_instance.specs.Sound.{IsPairOf}
 use Rattle.sm_instance.proofs.ItemLemmas.{length-weighed, pair_at-weighed, fresh_pair, stale_pair, pairs_more}
-use Rattle.sm_instance.proofs.NameLemmas.{from_not_false, from_not_true}
 use Rattle.sm_instance.proofs.checks.checked_weights.Goals as goal
 
 pub returns-then-not-is_new-clause-fault : goal.returns-then-not-is_new-clause-fault
@@ -14,7 +14,7 @@ returns-then-not-is_new-clause-fault c =
     record {
       there = omega arith;
       bad = λ s. stale_pair (map weighed weights) c.loop-n.n c.loop-n.pairs _ (omega arith) c.loop-n.invariant.told (sym (pair_at-weighed weights c.loop-n.n c.loop-n-test.true))
-          (from_not_false _ (sym c.in_ok-is_new.ensures.added ∙ c.if-not-is_new.true)) (s.fresh c.loop-n-test.true);
+          (not-false _ (sym c.in_ok-is_new.ensures.added ∙ c.if-not-is_new.true)) (s.fresh c.loop-n-test.true);
       earlier = c.loop-n.invariant.sound;
     }
 
@@ -24,7 +24,7 @@ loop-n-preserved c =
     let long = length-weighed weights in
     let old = c.loop-n.pairs in
     let here = sym (pair_at-weighed weights c.loop-n.n c.loop-n-test.true) in
-    let new : list_any (is_same_pair (weighed (get_or weights c.loop-n.n (0, 0, pos 0)))) old ≡ false = from_not_true _ (sym c.in_ok-is_new.ensures.added ∙ c.if-not-is_new.false) in
+    let new : list_any (is_same_pair (weighed (get_or weights c.loop-n.n (0, 0, pos 0)))) old ≡ false = not-true _ (sym c.in_ok-is_new.ensures.added ∙ c.if-not-is_new.false) in
     record {
       told = c.in_ok-is_new.ensures.pairs ∙ ap (λ b. cond b (old ++ weighed (get_or weights c.loop-n.n (0, 0, pos 0)) ∷ []) old) c.if-not-is_new.false
           ∙ pairs_more (map weighed weights) c.loop-n.n old _ (omega arith) c.loop-n.invariant.told here;

@@ -1,7 +1,7 @@
 use Rattle.std.proofs.Common.{arith}
 use Rattle.std.proofs.lemmas.List.{length-map}
 use Rattle.sm_market.proofs.AddingLemmas.{namings_next}
-use Rattle.sm_market.proofs.ListLemmas.{left_rest}
+use Rattle.sm_lists.proofs.ItemLemmas.{left_rest}
 use Rattle.sm_market.proofs.NamingLemmas.{namer_in_range, noted_whole}
 use Rattle.sm_market.proofs.CrossLemmas.{crossing_step, crossing_end, crossing_sound}
 use Rattle.sm_market.proofs.crosses.crosses.Goals as goal

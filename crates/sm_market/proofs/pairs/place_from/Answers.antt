@@ -1,7 +1,8 @@
 use Rattle.std.proofs.Common.{ℕ, sym, ap, ◌∙◌, arith, ⊎_elim}
 use Rattle.std.proofs.lemmas.Bool.{cases_lt}
 use Rattle.sm_market.specs.Lists.{place_of}
-use Rattle.sm_market.proofs.PlaceLemmas.{place_of-entry, entry-place_of}
+use Rattle.sm_lists.proofs.PlaceLemmas.{entry-place_of}
+use Rattle.sm_market.proofs.PlaceLemmas.{place_of-entry}
 use Rattle.sm_market.proofs.pairs.place_from.Goals as goal
 
 pub returns-then-reviewer_at-r : goal.returns-then-reviewer_at-r

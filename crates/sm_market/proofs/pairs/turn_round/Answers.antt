@@ -1,7 +1,7 @@
 use Rattle.std.proofs.Common.{◌≡◌, ℕ, ◌<◌, length, Option, unwrap_or, refl, ap, ◌∙◌, arith}
 use Rattle.sm_market.specs.Lists.{row, entry, place_of}
 use Rattle.sm_market.specs.Cycles.{proposer_at, reviewer_at, target_at}
-use Rattle.sm_market.proofs.PlaceLemmas.{entry-place_of}
+use Rattle.sm_lists.proofs.PlaceLemmas.{entry-place_of}
 use Rattle.sm_market.proofs.TurnLemmas.{turn_start, still_there, in_range, target_in_range, turn_step, turn_places, turn_made}
 use Rattle.sm_market.proofs.pairs.turn_round.Goals as goal
 

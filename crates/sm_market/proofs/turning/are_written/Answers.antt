@@ -1,5 +1,6 @@
 use Rattle.sm_market.specs.Vectors.{rows_of}
-use Rattle.sm_market.proofs.TurningLemmas.{row_read, mark_found, written_more}
+use Rattle.sm_lists.proofs.RowLemmas.{row_read}
+use Rattle.sm_market.proofs.TurningLemmas.{mark_found, written_more}
 use Rattle.sm_market.proofs.turning.are_written.Goals as goal
 
 pub returns-then-contains-clause-marked : goal.returns-then-contains-clause-marked

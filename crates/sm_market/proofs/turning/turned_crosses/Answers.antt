@@ -3,7 +3,7 @@ use Rattle.std.proofs.lemmas.List.{length-map}
 use Rattle.sm_market.specs.Lists.{row, entry, place_of}
 use Rattle.sm_market.specs.Vectors.{rows_of}
 use Rattle.sm_market.specs.declared.turning.TheConstants.{UNWRITTEN}
-use Rattle.sm_market.proofs.ListLemmas.{row_fits}
+use Rattle.sm_lists.proofs.RowLemmas.{row_fits}
 use Rattle.sm_market.proofs.TurningLemmas.{entry_written, turning_step, sound_written}
 use Rattle.sm_market.proofs.turning.turned_crosses.Goals as goal
 

@@ -1,5 +1,6 @@
 use Rattle.std.proofs.Common.{◌≡◌, ◌<◌, IsSome, sym, ap, subst, length, drop, arith}
 use Rattle.std.proofs.lemmas.List.{length-map, get_or_read}
+use Rattle.sm_lists.proofs.ResultLemmas.{take-append_at_length}
 use Rattle.sm_market.specs.Matching.{held}
 use Rattle.sm_market.specs.Pairing.{Paired}
 use Rattle.sm_theory.specs.Rotations.{proposer_at}
@@ -8,7 +9,6 @@ use Rattle.sm_theory.proofs.BridgeChain.{stage_stable}
 use Rattle.sm_rotations.proofs.CountLemmas.{few_rotations}
 use Rattle.sm_poset.specs.Kept.{moves_in}
 use Rattle.sm_rotations.proofs.NeedsLemmas.{pairs_read}
-use Rattle.sm_poset.proofs.ReadLemmas.{written}
 use Rattle.sm_poset.proofs.StepLemmas.{IsStep, step_of, stage_next, matched, distinct, not_empty, moves_after, leaders_after, moves_start, leaders_start}
 use Rattle.sm_poset.proofs.moves.follow.Goals as goal
 
@@ -93,7 +93,7 @@ loop-k-preserved c =
     record {
       made = c.eliminate.ensures.made;
       at = stage_next step;
-      moves = rw (written c.loop-k.of_proposers.len c.add_moves.new.moves (drop (length c.add_moves.new.moves) c.loop-k.of_proposers.items) (omega (arith, c.deref_mut.ensures.len)))
+      moves = rw (take-append_at_length c.loop-k.of_proposers.len c.add_moves.new.moves (drop (length c.add_moves.new.moves) c.loop-k.of_proposers.items) (omega (arith, c.deref_mut.ensures.len)))
           (moves_after c.proposers.ensures.market c.requires.complete step c.loop-k.invariant.moves as_long moved);
       leaders = rw c.in_ok-push.ensures.items (leaders_after c.proposers.ensures.market c.requires.complete step c.loop-k.invariant.leaders c.index.result.now.0 c.place_in.result (sym leader) c.place_in.ensures);
     }

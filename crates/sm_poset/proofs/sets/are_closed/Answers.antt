@@ -4,7 +4,7 @@ use Rattle.std.specs.List.{All}
 use Rattle.sm_market.specs.Lists.{row}
 use Rattle.sm_market.specs.Vectors.{rows_of}
 use Rattle.sm_theory.specs.ClosedSets.{IsMember}
-use Rattle.sm_market.proofs.TurningLemmas.{row_read}
+use Rattle.sm_lists.proofs.RowLemmas.{row_read}
 use Rattle.sm_poset.proofs.sets.are_closed.Goals as goal
 
 pub are_members-requires : goal.are_members-requires

@@ -1,7 +1,7 @@
 use Rattle.std.proofs.Common.{◌≡◌, ℕ, ◌<◌, None, Option, List, length, sym, subst, ◌∙◌, arith}
 use Rattle.std.proofs.lemmas.List.{length_push}
 use Rattle.sm_market.specs.Matching.{held}
-use Rattle.sm_market.proofs.ListLemmas.{push_cases}
+use Rattle.sm_lists.proofs.ItemLemmas.{push_cases}
 use Rattle.sm_poset.specs.Moves.{rotation_of, IsWorstPlace}
 use Rattle.sm_poset.specs.Kept.{moves_in, moves_at}
 use Rattle.sm_poset.proofs.ReadLemmas.{moves_read}

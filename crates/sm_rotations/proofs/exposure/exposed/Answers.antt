@@ -1,5 +1,5 @@
 use Rattle.std.proofs.Common.{inl, inr, arith}
-use Rattle.sm_market.proofs.Counting.{eq_or_ne}
+use Rattle.sm_lists.proofs.Counting.{eq_or_ne}
 use Rattle.sm_rotations.proofs.FollowingLemmas.{lowest_of, nothing_of}
 use Rattle.sm_rotations.proofs.exposure.exposed.Goals as goal
 

@@ -1,9 +1,9 @@
 use Rattle.std.proofs.Common.{◌≡◌, length, drop, ap, arith}
 use Rattle.std.proofs.lemmas.List.{length-map}
+use Rattle.sm_lists.proofs.ResultLemmas.{take-append_at_length}
 use Rattle.sm_market.specs.Lists.{row}
 use Rattle.sm_market.specs.Vectors.{rows_of}
-use Rattle.sm_accept.proofs.ResultLemmas.{written}
-use Rattle.sm_market.proofs.TurningLemmas.{row_read}
+use Rattle.sm_lists.proofs.RowLemmas.{row_read}
 use Rattle.sm_rotations.proofs.TurnedOverLemmas.{over_more}
 use Rattle.sm_rotations.proofs.graph.followers.Goals as goal
 
@@ -23,5 +23,5 @@ loop-j-preserved c =
     let read : c.deref.result.now ≡ row (rows_of c.args.needs.now) c.loop-j.j = row_read c.args.needs.now c.loop-j.j c.index-needs-j.result c.deref.result.now c.loop-j-test.true c.index-needs-j.is c.deref.ensures.value in
     let noted = rw (read, c.deref_mut.ensures.value) at c.in_ok-follow.ensures in
     let same = c.follow.auto.followers in
-    rw (written c.loop-j.followers.len c.follow.new.followers (drop (length c.follow.new.followers) c.loop-j.followers.items) (omega (arith, c.deref_mut.ensures.len)))
+    rw (take-append_at_length c.loop-j.followers.len c.follow.new.followers (drop (length c.follow.new.followers) c.loop-j.followers.items) (omega (arith, c.deref_mut.ensures.len)))
     (over_more c.loop-j.invariant noted)

@@ -1,9 +1,9 @@
 use Rattle.std.proofs.Common.{◌≡◌, length, drop, ap, arith}
 use Rattle.std.proofs.lemmas.List.{length-map}
+use Rattle.sm_lists.proofs.ResultLemmas.{take-append_at_length}
 use Rattle.sm_market.specs.Lists.{row}
 use Rattle.sm_market.specs.Vectors.{rows_of}
-use Rattle.sm_accept.proofs.ResultLemmas.{written}
-use Rattle.sm_market.proofs.TurningLemmas.{row_read}
+use Rattle.sm_lists.proofs.RowLemmas.{row_read}
 use Rattle.sm_rotations.proofs.TurnedBackLemmas.{back_more}
 use Rattle.sm_rotations.proofs.graph.needs_by_followers.Goals as goal
 
@@ -21,7 +21,7 @@ loop-i-preserved c =
     let read : c.deref.result.now ≡ row (rows_of c.args.followers.now) c.loop-i.i = row_read c.args.followers.now c.loop-i.i c.index-followers-i.result c.deref.result.now c.loop-i-test.true c.index-followers-i.is c.deref.ensures.value in
     let noted = rw (read, c.deref_mut.ensures.value) at c.in_ok-need.ensures in
     let same = c.need.auto.needs in
-    rw (written c.loop-i.needs.len c.need.new.needs (drop (length c.need.new.needs) c.loop-i.needs.items) (omega (arith, c.deref_mut.ensures.len)))
+    rw (take-append_at_length c.loop-i.needs.len c.need.new.needs (drop (length c.need.new.needs) c.loop-i.needs.items) (omega (arith, c.deref_mut.ensures.len)))
     (back_more c.loop-i.invariant noted)
 
 pub returns : goal.returns

@@ -9,7 +9,7 @@ use Rattle.sm_rotations.specs.Ordering.{IsTurned, AreCounts, AreReadyAtFirst}
 use Rattle.sm_rotations.proofs.CountLemmas.{few_rotations}
 use Rattle.sm_rotations.proofs.ChainingLemmas.{pushed}
 use Rattle.sm_rotations.proofs.NeedsLemmas.{as_many}
-use Rattle.sm_market.proofs.TurningLemmas.{row_read}
+use Rattle.sm_lists.proofs.RowLemmas.{row_read}
 use Rattle.sm_rotations.proofs.TurnedOverLemmas.{follower_in_range, over_read}
 use Rattle.sm_rotations.proofs.WrittenLemmas.{nil_of, pairs_at, has_needs, need_in_range, written_start, written_whole, popped_in_range, popped_some, enough_unmet, places_left, written_more}
 use Rattle.sm_rotations.proofs.order.ordered.Goals as goal

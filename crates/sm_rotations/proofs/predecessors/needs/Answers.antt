@@ -1,10 +1,10 @@
 use Rattle.std.proofs.Common.{◌≡◌, ◌<◌, ℕ, ◌∙◌, arith, ap, sym, List, length, replicate, Option, None, drop, rules, []}
 use Rattle.std.proofs.lemmas.List.{length-replicate, length-map}
+use Rattle.sm_lists.proofs.ResultLemmas.{take-append_at_length}
 use Rattle.sm_market.specs.Pairing.{Paired}
 use Rattle.sm_theory.specs.Chains.{rotation_at, IsCompleteChain}
 use Rattle.sm_theory.specs.Values.{rotations_of}
 use Rattle.sm_theory.proofs.BridgeChain.{stage_stable}
-use Rattle.sm_accept.proofs.ResultLemmas.{written}
 use Rattle.sm_market.specs.Vectors.{rows_of}
 use Rattle.sm_rotations.specs.Marking.{marks_in, AreMoved, AreMarked}
 use Rattle.sm_rotations.proofs.ChainLemmas.{last_more, marks_more, followed, found_in_range}
@@ -90,7 +90,7 @@ loop-j-preserved c =
       notes_each = omega (arith, c.note_moves.ensures.moved.one_each, c.loop-j.invariant.notes_each);
       last = last_more h chain c.loop-j.invariant.last moved;
       marks = marks_more h chain inside c.loop-j.invariant.marks marked;
-      followed = rw (written c.loop-j.followers.len c.follow.new.followers (drop (length c.follow.new.followers) c.loop-j.followers.items) (omega (arith, c.deref_mut.ensures.len)))
+      followed = rw (take-append_at_length c.loop-j.followers.len c.follow.new.followers (drop (length c.follow.new.followers) c.loop-j.followers.items) (omega (arith, c.deref_mut.ensures.len)))
           (followed h chain inside c.loop-j.invariant.last c.loop-j.invariant.marks found c.loop-j.invariant.followed step);
     }
 

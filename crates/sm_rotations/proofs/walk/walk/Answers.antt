@@ -1,6 +1,6 @@
 use Rattle.std.proofs.Common.{◌≡◌, ◌∙◌, ◌++◌, ◌∷◌, [], ap, inl, inr, arith, rules, None, false, replicate}
 use Rattle.sm_market.specs.Pairing.{Paired}
-use Rattle.sm_market.proofs.Counting.{eq_or_ne}
+use Rattle.sm_lists.proofs.Counting.{eq_or_ne}
 use Rattle.sm_theory.specs.Values.{rotations_of}
 use Rattle.sm_rotations.specs.Walking.{IsTopAtWorst, GoesOn, LeadsBack}
 use Rattle.sm_rotations.proofs.ChainingLemmas.{places_fall, pushed}

@@ -5,7 +5,7 @@ use Rattle.sm_market.specs.Vectors.{rows_of}
 use Rattle.sm_theory.specs.Chains.{AreNeedsOf}
 use Rattle.sm_poset.specs.Posets.{RotationPoset}
 use Rattle.sm_poset.specs.Kept.{moves_in, IsKept}
-use Rattle.sm_market.proofs.TurningLemmas.{row_read}
+use Rattle.sm_lists.proofs.RowLemmas.{row_read}
 use Rattle.sm_poset.proofs.order.Poset.needs.Goals as goal
 
 pub returns : goal.returns

@@ -1,13 +1,12 @@
 //! Lists that are held in vectors, read by agent and place.
 
 ghost use Rattle.std.specs.Prelude.{◌≡◌, ℕ, ◌<◌, length, IfOk};
-ghost use Rattle.sm_market.specs.Lists.{row, entry};
-ghost use Rattle.sm_market.specs.Vectors.{rows_of};
+ghost use Rattle.sm_lists.specs.Rows.{rows_of, row, entry};
 
 use std::alloc::{AllocError, Global};
 
 /// A copy of the lists.
-pub(crate) fn copy_of(alloc: Global, rows: &[Vec<u32>]) -> Result<Vec<Vec<u32>>, AllocError>
+pub fn copy_of(alloc: Global, rows: &[Vec<u32>]) -> Result<Vec<Vec<u32>>, AllocError>
     ensures { IfOk result (λ copy. rows_of copy.items ≡ rows_of rows.now) }
 {
     let mut copy = Vec::with_capacity(alloc, rows.len())?;
@@ -18,7 +17,7 @@ pub(crate) fn copy_of(alloc: Global, rows: &[Vec<u32>]) -> Result<Vec<Vec<u32>>,
 }
 
 /// An agent's list.
-pub(crate) fn list_at(rows: &[Vec<u32>], a: u32) -> &[u32]
+pub fn list_at(rows: &[Vec<u32>], a: u32) -> &[u32]
     requires { a < length rows.now }
     ensures { result.now ≡ row (rows_of rows.now) a }
 {
@@ -26,7 +25,7 @@ pub(crate) fn list_at(rows: &[Vec<u32>], a: u32) -> &[u32]
 }
 
 /// What stands at a place of an agent's list.
-pub(crate) fn entry_at(rows: &[Vec<u32>], a: u32, place: u32) -> u32
+pub fn entry_at(rows: &[Vec<u32>], a: u32, place: u32) -> u32
     requires in_range { a < length rows.now }
     requires on_list { place < length (row (rows_of rows.now) a) }
     ensures { result ≡ entry (rows_of rows.now) a place }

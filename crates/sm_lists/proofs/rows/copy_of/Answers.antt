@@ -1,8 +1,8 @@
 use Rattle.std.proofs.Common.{Vec, ℕ, take, sym, ap, ◌∙◌, ◌++◌, ◌∷◌, []}
 use Rattle.std.specs.declared.alloc.Global.{Global}
 use Rattle.std.proofs.lemmas.List.{map_more, map_push}
-use Rattle.sm_market.specs.Vectors.{rows_of}
-use Rattle.sm_market.proofs.rows.copy_of.Goals as goal
+use Rattle.sm_lists.specs.Rows.{rows_of}
+use Rattle.sm_lists.proofs.rows.copy_of.Goals as goal
 
 pub loop-row-preserved : goal.loop-row-preserved
 loop-row-preserved c =

@@ -1,5 +1,6 @@
 -- Decisions, bounded search and counting on {0..n-1}, without excluded middle.
-use Rattle.std.proofs.Common.{◌≡◌, ℕ, zero, suc, ◌+◌, ◌<◌, ◌≤◌, ◌≢◌, ◌⊎◌, inl, inr, arith, refl, sym, ap, ◌∙◌}
+use Rattle.std.proofs.Common.{◌≡◌, ℕ, zero, suc, ◌+◌, ◌<◌, ◌≤◌, ◌≢◌, ◌⊎◌, inl, inr, Bool, true, false, arith, refl, sym, ap, ◌∙◌}
+use Rattle.std.proofs.lemmas.Bool.{false≢true}
 
 -- P holds, or it doesn't
 abbrev pub Decided : Type 0 → Type 0
@@ -32,10 +33,9 @@ pub Decided-not : {P : Type 0} → Decided P → Decided (P → ⊥)
 Decided-not (inl p) = inr (λ h. h p)
 Decided-not (inr p) = inl p
 
-pub Decided-implies : {P Q : Type 0} → Decided P → Decided Q → Decided (P → Q)
-Decided-implies (inl p) (inl q) = inl (λ _. q)
-Decided-implies (inl p) (inr q) = inr (λ h. q (h p))
-Decided-implies (inr p) _ = inl (λ x. absurd (p x))
+pub Decided-true : (b : Bool) → Decided (b ≡ true)
+Decided-true true = inl refl
+Decided-true false = inr (λ e. false≢true e)
 
 -- what isn't so where its denial is absurd
 pub by_contradiction : {P : Type 0} → Decided P → ((P → ⊥) → ⊥) → P
@@ -76,13 +76,6 @@ last_below (suc n) P d = go (last_below n P (λ i h. d i (omega arith))) (d n (o
 
 pub Decided-some : (n : ℕ) (P : ℕ → Type 0) → ((i : ℕ) → i < n → Decided (P i)) → Decided (First n P)
 Decided-some n P d = elim (search_below n P d) [ inl w ↦ inl w | inr none ↦ inr (λ w. none w.at w.below w.holds) ]
-
-pub Decided-all : (n : ℕ) (P : ℕ → Type 0) → ((i : ℕ) → i < n → Decided (P i)) → Decided ((i : ℕ) → i < n → P i)
-Decided-all n P d = go (search_below n (λ i. P i → ⊥) (λ i h. Decided-not (d i h)))
-  where
-    go : First n (λ i. P i → ⊥) ⊎ ((i : ℕ) → i < n → (P i → ⊥) → ⊥) → Decided ((i : ℕ) → i < n → P i)
-    go (inl w) = inr (λ all. w.holds (all w.at w.below))
-    go (inr none) = inl (λ i h. by_contradiction (d i h) (none i h))
 
 -- the pigeonhole: of n + 1 numbers below n two are equal
 pub record Twice (f : ℕ → ℕ) (n : ℕ) : Type 0 where
@@ -133,6 +126,13 @@ pigeonhole (suc n) f h = go (search_below (suc n) (λ i. f i ≡ f (suc n)) (λ 
     go : First (suc n) (λ i. f i ≡ f (suc n)) ⊎ ((i : ℕ) → i < suc n → f i ≡ f (suc n) → ⊥) → (((i : ℕ) → i ≤ n → moved f n (f (suc n)) i < n) → Twice (moved f n (f (suc n))) n) → Twice f (suc n)
     go (inl w) _ = record { one = w.at; two = suc n; order = w.below; within = omega arith; same = w.holds }
     go (inr none) ih = back none (ih (small none))
+
+-- so what doesn't repeat is no longer than its range
+pub one_to_one-le : (m n : ℕ) (f : ℕ → ℕ) → ((i : ℕ) → i < m → f i < n) → ((i j : ℕ) → i < j → j < m → f i ≢ f j) → m ≤ n
+one_to_one-le m n f within apart = elim (lt_or_le n m) [
+  | inl more ↦ absurd (let t = pigeonhole n f (λ i le. within i (omega arith)) in apart t.one t.two t.order (omega (arith, t.within)) t.same)
+  | inr le ↦ le
+]
 
 -- f applied k times
 pub iterate : (f : ℕ → ℕ) (k x : ℕ) → ℕ

@@ -1,26 +1,7 @@
--- Lists that are held in vectors, and how long one of them can be.
-use Rattle.std.proofs.Common.{◌≡◌, ◌≢◌, ◌∷◌, ◌++◌, ◌+◌, set, ℕ, ◌<◌, ◌≤◌, ◌^◌, List, [], length, get_or, drop, sym, ap, subst, ◌∙◌, arith, ⊎_elim}
+-- What holds of the items of a list once one of them is replaced or added, or once some are gone.
+use Rattle.std.proofs.Common.{◌≡◌, ◌≢◌, ◌∷◌, ◌++◌, ◌+◌, set, ℕ, ◌<◌, List, [], length, get_or, drop, sym, ap, subst, ◌∙◌, arith, ⊎_elim}
 use Rattle.std.proofs.lemmas.Bool.{cases_lt, cases_eq}
-use Rattle.std.proofs.lemmas.List.{get_or_past, get_or-set_same, get_or-set_other, get_or_append_left, get_or_push, get_or-drop, drop-drop, length_push}
-use Rattle.std.proofs.lemmas.List.Sums.{get_or-le-sum_by}
-use Rattle.std.specs.List.{sum_by}
-use Rattle.sm_market.specs.Lists.{row}
-use Rattle.sm_market.specs.Limits.{AreWithinLimits}
-
--- an agent with a list is in range
-pub row_in_range : (rows : List (List ℕ)) (a i : ℕ) → i < length (row rows a) → a < length rows
-row_in_range rows a i h =
-    ⊎_elim (λ l. l) (λ l. absurd (let e = ap length (get_or_past rows a [] l) in omega arith)) (cases_lt a (length rows))
-
--- a list is no longer than all of them together
-pub length-row-le : (rows : List (List ℕ)) (a : ℕ) → length (row rows a) ≤ sum_by (λ list. length list) rows
-length-row-le rows a =
-    ⊎_elim (λ l. get_or-le-sum_by (λ list. length list) rows a [] l)
-    (λ l. let e = ap length (get_or_past rows a [] l) in omega arith) (cases_lt a (length rows))
-
--- so its length and its places fit a `u32`
-pub row_fits : {rows : List (List ℕ)} → AreWithinLimits rows → (a : ℕ) → length (row rows a) < 2 ^ 24
-row_fits {rows} w a = let le = length-row-le rows a in let lt = w.entries in omega arith
+use Rattle.std.proofs.lemmas.List.{get_or-set_same, get_or-set_other, get_or_append_left, get_or_push, get_or-drop, drop-drop, length_push}
 
 -- what holds at each index of a list after one item is replaced
 pub set_cases : {X : Type 0} (P : ℕ → X → Type 0) (xs : List X) (i : ℕ) (y d : X) → i < length xs → P i y → ((j : ℕ) → j ≢ i → P j (get_or xs j d)) → (j : ℕ) → P j (get_or (set xs i y) j d)

@@ -1,0 +1,29 @@
+-- Which agents have lists, and how long a list can be.
+use Rattle.std.proofs.Common.{◌≡◌, ℕ, ◌<◌, ◌≤◌, ◌^◌, List, [], Vec, length, get_or, sym, ap, ◌∙◌, arith, ⊎_elim}
+use Rattle.std.proofs.lemmas.Bool.{cases_lt}
+use Rattle.std.proofs.lemmas.List.{get_or_past, get_or-map}
+use Rattle.std.proofs.lemmas.List.Sums.{get_or-le-sum_by}
+use Rattle.std.specs.List.{sum_by}
+use Rattle.std.specs.declared.alloc.Global.{Global}
+use Rattle.sm_lists.specs.Rows.{row, rows_of}
+use Rattle.sm_lists.specs.Limits.{AreWithinLimits}
+
+-- an agent with a list is in range
+pub row_in_range : (rows : List (List ℕ)) (a i : ℕ) → i < length (row rows a) → a < length rows
+row_in_range rows a i h =
+    ⊎_elim (λ l. l) (λ l. absurd (let e = ap length (get_or_past rows a [] l) in omega arith)) (cases_lt a (length rows))
+
+-- a list is no longer than all of them together
+pub length-row-le : (rows : List (List ℕ)) (a : ℕ) → length (row rows a) ≤ sum_by (λ list. length list) rows
+length-row-le rows a =
+    ⊎_elim (λ l. get_or-le-sum_by (λ list. length list) rows a [] l)
+    (λ l. let e = ap length (get_or_past rows a [] l) in omega arith) (cases_lt a (length rows))
+
+-- so its length and its places fit a `u32`
+pub row_fits : {rows : List (List ℕ)} → AreWithinLimits rows → (a : ℕ) → length (row rows a) < 2 ^ 24
+row_fits {rows} w a = let le = length-row-le rows a in let lt = w.entries in omega arith
+
+-- a list that is read of its vector
+pub row_read : (vectors : List (Vec ℕ Global)) (b : ℕ) (v : Vec ℕ Global) (list : List ℕ) → b < length vectors → v ≡ get_or vectors b v → list ≡ v.items → list ≡ row (rows_of vectors) b
+row_read vectors b v list inside read is =
+    is ∙ ap (λ (w : Vec ℕ Global). w.items) read ∙ sym (get_or-map (λ (w : Vec ℕ Global). w.items) vectors b v [] inside)
