@@ -20,7 +20,8 @@ static uint64_t hash(const char *name) {
     uint32_t low, high;
     memcpy(&low, name, 4);
     memcpy(&high, name + 3, 4);
-    return folded(START ^ (low | (uint64_t)high << 32), MULTIPLIER ^ 14);
+    uint64_t hash = folded(START ^ (low | (uint64_t)high << 32), MULTIPLIER ^ 14);
+    return hash ^ hash >> 32;
 }
 
 int main(int count, char **words) {

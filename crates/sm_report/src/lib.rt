@@ -1,8 +1,9 @@
 //! The lines of answers, and what is written for each.
 //!
 //! A line is a [`Line`] over an instance: it names agents, seats and rotations by number. Agents are numbered from 0,
-//! as in the instance, and seats of a reviewer and rotations from 1. [`put_line`] puts a line's text and its end behind what
-//! a writer holds, and [`put_text`] the text alone. Nothing here looks at what the lines say of the instance: whether an answer is right is shown elsewhere.
+//! as in the instance, and seats of a reviewer and rotations from 1. [`put_line`] puts a line's text and its end behind
+//! what a writer holds, and [`put_text`] the text alone. Nothing here looks at what the lines say of the instance:
+//! whether an answer is right is shown elsewhere.
 #![tactic(auto)]
 
 mod fields;

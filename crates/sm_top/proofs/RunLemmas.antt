@@ -1,0 +1,351 @@
+-- From what was read and written to what a run promises.
+use Rattle.std.proofs.Common.{◌≡◌, ℕ, ◌<◌, ◌⊎◌, true, false, List, [], ◌∷◌, ◌++◌, length, Option, None, Some, Result, Ok, Err, inl, inr, refl, sym, ap, ◌∙◌, subst, length-append, append-nil, arith}
+use Rattle.std.specs.Result.{IfOk, IfErr}
+use Rattle.std.proofs.lemmas.Bool.{lt-ltb}
+use Rattle.sm_io.specs.Faults.{Rose}
+use Rattle.sm_io.specs.Source.{Agrees}
+use Rattle.sm_io.specs.Sink.{Grows}
+use Rattle.sm_io.proofs.SinkLemmas.{Grows-nil}
+use Rattle.sm_answer.specs.Printing.{IsShown}
+use Rattle.sm_text.specs.declared.refusal.RefusalKind.TheVariants.{TooLong}
+use Rattle.sm_instance.specs.Written.{Written}
+use Rattle.sm_instance.specs.declared.inputs.Input.{Input}
+use Rattle.sm_instance.specs.declared.inputs.Input.TheVariants.{Two}
+use Rattle.sm_reader.specs.InstanceText.{ReadText, instance_text}
+use Rattle.sm_report.specs.Lines.{LineData}
+use Rattle.sm_words.specs.Jobs.{JobData, Solve, Reduced, Rotations}
+use Rattle.sm_words.specs.Words.{words_meaning}
+use Rattle.sm_top.specs.declared.status.Status.{Status}
+use Rattle.sm_top.specs.declared.status.Status.TheVariants.{Refused, Usage, OutOfMemory, ReadFault, WriteFault}
+use Rattle.sm_top.specs.declared.stop.Stop.{Stop}
+use Rattle.sm_top.specs.declared.stop.Stop.TheVariants as stop
+use Rattle.sm_top.specs.Texts.{RefusalData, plain, usage_line, refused_line}
+use Rattle.sm_top.specs.Stops.{StopsBy}
+use Rattle.sm_top.specs.Accepting.{accepted, behind_text}
+use Rattle.sm_top.specs.Outcome.{OfTwo, IsAnswerOver, IsAnswer, IsRefused, Outcome, not_accepted, faulty_words, refused, answered}
+use Rattle.sm_top.specs.Input.{IsReadWhole, ReadWhole, IsTooLong}
+use Rattle.sm_top.specs.Running.{IsBeingRead, Ends, Answers, AnswersAccepted, reads, asks_to_read, is_whole, is_answer, is_too_long}
+use Rattle.sm_top.specs.Steps.{IsRefusalFor, IsRefusal, IsReadFault, Serves, ServesWords, SaysStop}
+use Rattle.sm_top.specs.declared.TheConstants.{MOST_BYTES}
+use Rattle.sm_top.specs.Wrote.{Ended, Wrote, With, whole, sink_failed, no_memory}
+use Rattle.sm_top.proofs.WritingLemmas.{wrote_for}
+
+-- the lines of a right answer for an instance with two sides were written
+pub wrote_answer : (job : JobData) (bytes : List ℕ) (read : ReadText) (w : Written) (right : Written → List LineData → Type 0) (given : Status) (a b : Option (List ℕ)) (f g : ℕ) (status : Status)
+    → accepted job bytes ≡ Ok read → read.input ≡ Two w
+    → Wrote (With given (IsShown read.input (right w))) a b f g status → Wrote (λ s lines. (s ≡ given) × IsAnswerOver job bytes (λ read. OfTwo right read.input) lines) a b f g status
+wrote_answer job bytes read w right given a b f g status ok two =
+    wrote_for (With given (IsShown read.input (right w))) (λ s lines. (s ≡ given) × IsAnswerOver job bytes (λ read. OfTwo right read.input) lines) a b f g status
+    (λ s lines h. (
+      h.same,
+      record {
+        read = read;
+        ok = ok;
+        shown = record {
+          answer = h.given_lines.answer;
+          is_right = subst (λ (input : Input). OfTwo right input h.given_lines.answer) (sym two) h.given_lines.is_right;
+          shows = h.given_lines.shows;
+        };
+      },
+    ))
+
+-- what is known of a stop for one reason is known of it for another
+pub stops_for : (U U' : ℕ → Type 0) (R R' : RefusalData → Type 0) (F F' : Type 0) (s : Stop)
+    → ((word : ℕ) → U word → U' word) → ((refusal : RefusalData) → R refusal → R' refusal) → (F → F') → StopsBy U R F s → StopsBy U' R' F' s
+stops_for U U' R R' F F' (stop.Usage word) u r f h = u word h
+stops_for U U' R R' F F' (stop.Refused kind at) u r f h = r (plain kind at) h
+stops_for U U' R R' F F' stop.ReadFault u r f h = f h
+stops_for U U' R R' F F' stop.OutOfMemory u r f h = tt
+
+pub err_stops_for : (U U' : ℕ → Type 0) (R R' : RefusalData → Type 0) (F F' : Type 0) (r : Result Status Stop)
+    → ((word : ℕ) → U word → U' word) → ((refusal : RefusalData) → R refusal → R' refusal) → (F → F')
+    → IfErr r (λ s. StopsBy U R F s) → IfErr r (λ s. StopsBy U' R' F' s)
+err_stops_for U U' R R' F F' (Ok status) u r f h = tt
+err_stops_for U U' R R' F F' (Err s) u r f h = stops_for U U' R R' F F' s u r f h
+
+-- The bytes that were read.
+
+-- a source that was read whole isn't being read
+not_being_read : (before after : Option (List ℕ)) → IsReadWhole before after → IsBeingRead before after → ⊥
+not_being_read None after end reading = reading
+not_being_read (Some all) None end reading = reading
+not_being_read (Some all) (Some rest) end reading = reading.0 end
+
+whole_agrees : (before after : Option (List ℕ)) (bytes : List ℕ) → ReadWhole before after bytes → Agrees before bytes
+whole_agrees None after bytes w = tt
+whole_agrees (Some all) None bytes w = absurd w.given
+whole_agrees (Some all) (Some rest) bytes w = w.given ∙ ap (λ t. bytes ++ t) w.over ∙ append-nil bytes
+
+-- an input that is too long is refused
+too_long_text : (bytes : List ℕ) → MOST_BYTES < length bytes → instance_text bytes ≡ Err (TooLong, 0)
+unfolding instance_text
+too_long_text bytes long = rw (lt-ltb MOST_BYTES (length bytes) long) refl
+
+-- the bytes that a source had, of which it gave too many
+record HadTooMany (left : Option (List ℕ)) : Type 0 where
+  bytes : List ℕ
+  agrees : Agrees left bytes
+  long : MOST_BYTES < length bytes
+
+had_too_many : (before after : Option (List ℕ)) (refusal : RefusalData) → IsTooLong before after refusal → HadTooMany before
+had_too_many None after refusal h = record { bytes = h.given; agrees = tt; long = h.long }
+had_too_many (Some all) None refusal h = absurd h.consumed
+had_too_many (Some all) (Some rest) refusal h = record {
+  bytes = all;
+  agrees = refl;
+  long = omega (arith, h.long, length-append h.given rest, ap length h.consumed);
+}
+
+not_read_yet : (before after : Option (List ℕ)) (refusal : RefusalData) → IsTooLong before after refusal → IsBeingRead before after → ⊥
+not_read_yet None after refusal h reading = reading
+not_read_yet (Some all) None refusal h reading = reading
+not_read_yet (Some all) (Some rest) refusal h reading = omega (arith, h.long, length-append h.given rest, ap length h.consumed, reading.1)
+
+pub refused_too_long : (job : JobData) (before after : Option (List ℕ)) (refusal : RefusalData) → IsTooLong before after refusal → IsRefusalFor job before after refusal
+refused_too_long job before after refusal h =
+    let had = had_too_many before after refusal h in
+    record {
+      bytes = had.bytes;
+      read = had.agrees;
+      refused = not_accepted (record { kind = TooLong; at = 0; because = ap (behind_text job had.bytes) (too_long_text had.bytes had.long); says = h.says });
+      read_whole = λ other. absurd (other (ap (λ (r : RefusalData). r.kind) h.says));
+      over = not_read_yet before after refusal h;
+    }
+
+-- and one that was read whole may be
+pub refused_whole : (job : JobData) (before after : Option (List ℕ)) (bytes : List ℕ) (refusal : RefusalData) → ReadWhole before after bytes → IsRefused job bytes refusal
+    → IsRefusalFor job before after refusal
+refused_whole job before after bytes refusal w why = record {
+  bytes = bytes;
+  read = whole_agrees before after bytes w;
+  refused = why;
+  read_whole = λ _. w.over;
+  over = not_being_read before after w.over;
+}
+
+pub serves_whole : (job : JobData) (before after a b : Option (List ℕ)) (f g : ℕ) (bytes : List ℕ) (r : Result Status Stop) → ReadWhole before after bytes
+    → IfOk r (λ status. Wrote (IsAnswer job bytes) a b f g status) → IfOk r (λ status. Serves job before after a b f g status)
+serves_whole job before after a b f g bytes (Ok status) w wrote = record { bytes = bytes; read = whole_agrees before after bytes w; wrote = wrote; over = w.over }
+serves_whole job before after a b f g bytes (Err e) w wrote = tt
+
+-- From a job to the words that ask for it.
+
+reads_of : (words : List (List ℕ)) (job : JobData) → words_meaning words ≡ Ok job → reads words ≡ true
+reads_of words job meaning = ap asks_to_read meaning
+
+pub serves_words : (words : List (List ℕ)) (job : JobData) (before after a b : Option (List ℕ)) (f g : ℕ) (r : Result Status Stop) → words_meaning words ≡ Ok job
+    → IfOk r (λ status. Serves job before after a b f g status) → IfOk r (λ status. ServesWords words before after a b f g status)
+serves_words words job before after a b f g (Ok status) meaning s = record { job = job; meaning = meaning; serves = s }
+serves_words words job before after a b f g (Err e) meaning s = tt
+
+pub refusal_of : (words : List (List ℕ)) (job : JobData) (before after : Option (List ℕ)) → words_meaning words ≡ Ok job → (refusal : RefusalData)
+    → IsRefusalFor job before after refusal → IsRefusal words before after refusal
+refusal_of words job before after meaning refusal h = record { job = job; meaning = meaning; for_job = h }
+
+pub read_fault_of : (words : List (List ℕ)) (job : JobData) (f g : ℕ) → words_meaning words ≡ Ok job → Rose f g → IsReadFault words f g
+read_fault_of words job f g meaning rose = record { reading = reads_of words job meaning; rose = rose }
+
+-- words that ask for a job ask to read
+pub reads_not : (words : List (List ℕ)) (job : JobData) → words_meaning words ≡ Ok job → reads words ≡ false → ⊥
+reads_not words job meaning none = let some = reads_of words job meaning in cc
+
+-- all bytes that a source tells
+bytes_of : Option (List ℕ) → List ℕ
+bytes_of None = []
+bytes_of (Some bytes) = bytes
+
+agrees_of : (left : Option (List ℕ)) → Agrees left (bytes_of left)
+unfolding bytes_of
+agrees_of None = tt
+agrees_of (Some bytes) = refl
+
+-- What a run promises.
+
+-- the status of a right answer is one of an answer
+answer_status : (job : JobData) (bytes : List ℕ) (status : Status) (lines : List (List ℕ)) → IsAnswer job bytes status lines → is_answer status ≡ true
+answer_status (Solve side) bytes status lines h = ap is_answer h.0
+answer_status Reduced bytes status lines h = ap is_answer h.0
+answer_status Rotations bytes status lines h = ap is_answer h.0
+
+answer_whole : (status : Status) → is_answer status ≡ true → is_whole status ≡ true
+answer_whole (Refused kind at) h = refl
+answer_whole (Usage word) h = refl
+answer_whole OutOfMemory h = absurd cc
+answer_whole ReadFault h = absurd cc
+answer_whole WriteFault h = absurd cc
+answer_whole _ h = refl
+
+outcome_whole : (words : List (List ℕ)) (bytes : List ℕ) (status : Status) (lines : List (List ℕ)) → Outcome words bytes status lines → is_whole status ≡ true
+outcome_whole words bytes status lines (faulty_words word meaning is shows) = ap is_whole is
+outcome_whole words bytes status lines (refused job refusal meaning why is shows) = ap is_whole is
+outcome_whole words bytes status lines (answered job meaning right) = answer_whole status (answer_status job bytes status lines right)
+
+-- a text was written, and what the source has left
+pub answers_wrote : (words : List (List ℕ)) (bytes : List ℕ) (before after a b : Option (List ℕ)) (f g : ℕ) (status : Status) → Agrees before bytes → Wrote (Outcome words bytes) a b f g status
+    → (reads words ≡ true → is_whole status ≡ true → is_too_long status ≡ false → IsReadWhole before after) → (reads words ≡ true → IsBeingRead before after → ⊥) → (reads words ≡ false → after ≡ before)
+    → Answers words before after a b status
+answers_wrote words bytes before after a b f g status agrees w read_whole over untouched =
+    record { bytes = bytes; text = w.text; read = agrees; written = w.grows; ends = by_end w.ended } where
+      by_end : Ended (Outcome words bytes) w.text f g status → Ends words bytes w.text before after status
+      by_end (whole text) =
+          let w : is_whole status ≡ true = outcome_whole words bytes status text.lines text.is_right in
+          record {
+            whole = λ _. text;
+            front = λ other. absurd cc;
+            write_fault = λ is. absurd (let h = ap is_whole is in cc);
+            read_fault = λ is. absurd (let h = ap is_whole is in cc);
+            early = λ is r reading. absurd (over r reading);
+            read_whole = read_whole;
+            untouched = untouched;
+          }
+      by_end (sink_failed is front rose) = record {
+        whole = λ other. absurd (let h = ap is_whole is in cc);
+        front = λ _. inr front;
+        write_fault = λ _. front;
+        read_fault = λ other. absurd cc;
+        early = λ other r reading. absurd (over r reading);
+        read_whole = read_whole;
+        untouched = untouched;
+      }
+      by_end (no_memory is front) = record {
+        whole = λ other. absurd (let h = ap is_whole is in cc);
+        front = λ _. inr front;
+        write_fault = λ other. absurd cc;
+        read_fault = λ other. absurd cc;
+        early = λ other r reading. absurd (over r reading);
+        read_whole = read_whole;
+        untouched = untouched;
+      }
+
+pub answers_served : (words : List (List ℕ)) (before after a b : Option (List ℕ)) (f g : ℕ) (status : Status) → ServesWords words before after a b f g status → Answers words before after a b status
+answers_served words before after a b f g status h =
+    let s = h.serves in
+    answers_wrote words s.bytes before after a b f g status s.read
+    (wrote_for (IsAnswer h.job s.bytes) (Outcome words s.bytes) a b f g status (λ s lines right. answered h.job h.meaning right) s.wrote)
+    (λ _ _ _. s.over) (λ _. not_being_read before after s.over) (λ none. absurd (reads_not words h.job h.meaning none))
+
+-- a status that says that the line of a stop was written is this one
+with_whole : (given : Status) (gives : List (List ℕ) → Type 0) (a b : Option (List ℕ)) (f g : ℕ) (status : Status) → is_whole status ≡ true → Wrote (With given gives) a b f g status → status ≡ given
+with_whole given gives a b f g status h w = by_end w.ended where
+  by_end : Ended (With given gives) w.text f g status → status ≡ given
+  by_end (whole text) = text.is_right.same
+  by_end (sink_failed is front rose) = absurd (let k = ap is_whole is in cc)
+  by_end (no_memory is front) = absurd (let k = ap is_whole is in cc)
+
+-- nothing was written, for want of memory, or since the source failed
+answers_nothing : (words : List (List ℕ)) (before after a b : Option (List ℕ)) (status : Status) → (status ≡ OutOfMemory) ⊎ ((status ≡ ReadFault) × (reads words ≡ true)) → b ≡ a
+    → (reads words ≡ false → after ≡ before) → Answers words before after a b status
+answers_nothing words before after a b status why same untouched = record {
+  bytes = bytes_of before;
+  text = [];
+  read = agrees_of before;
+  written = subst (λ (x : Option (List ℕ)). Grows a x []) (sym same) (Grows-nil a);
+  ends = record {
+    whole = λ w. absurd (not_whole why w);
+    front = λ _. inl refl;
+    write_fault = λ is. absurd (not_write_fault why is);
+    read_fault = λ is. (read_fault why is, refl);
+    early = λ _ _ _. refl;
+    read_whole = λ _ w. absurd (not_whole why w);
+    untouched = untouched;
+  };
+} where
+  not_whole : (status ≡ OutOfMemory) ⊎ ((status ≡ ReadFault) × (reads words ≡ true)) → is_whole status ≡ true → ⊥
+  not_whole (inl is) w = let h = ap is_whole is in cc
+  not_whole (inr is) w = let h = ap is_whole is.0 in cc
+
+  not_write_fault : (status ≡ OutOfMemory) ⊎ ((status ≡ ReadFault) × (reads words ≡ true)) → status ≡ WriteFault → ⊥
+  not_write_fault (inl is) w = cc
+  not_write_fault (inr is) w = let h = is.0 in cc
+
+  read_fault : (status ≡ OutOfMemory) ⊎ ((status ≡ ReadFault) × (reads words ≡ true)) → status ≡ ReadFault → reads words ≡ true
+  read_fault (inl is) w = absurd cc
+  read_fault (inr is) w = is.1
+
+-- what is said of a stop
+pub answers_stopped : (words : List (List ℕ)) (before after a b : Option (List ℕ)) (f g h i : ℕ) (s : Stop) (status : Status)
+    → StopsBy (λ word. words_meaning words ≡ Err word) (IsRefusal words before after) (IsReadFault words h i) s → (reads words ≡ false → after ≡ before) → SaysStop s a b f g status → Answers words before after a b status
+answers_stopped words before after a b f g h i (stop.Usage word) status faulty untouched says =
+    answers_wrote words (bytes_of before) before after a b f g status (agrees_of before)
+    (wrote_for (With (Usage word) (λ lines. lines ≡ usage_line word ∷ [])) (Outcome words (bytes_of before)) a b f g status (λ s lines w. faulty_words word faulty w.same w.given_lines) says)
+    (λ some. absurd (let none = ap asks_to_read faulty in cc)) (λ some. absurd (let none = ap asks_to_read faulty in cc)) untouched
+answers_stopped words before after a b f g h i (stop.Refused kind at) status refusal untouched says =
+    let r = refusal.for_job in
+    answers_wrote words r.bytes before after a b f g status r.read
+    (wrote_for (With (Refused kind at) (λ lines. lines ≡ refused_line (plain kind at) ∷ [])) (Outcome words r.bytes) a b f g status
+    (λ s lines w. refused refusal.job (plain kind at) refusal.meaning r.refused w.same w.given_lines) says)
+    (λ _ w short. r.read_whole (λ is. let same : status ≡ Refused kind at = with_whole (Refused kind at) _ a b f g status w says in let long : is_too_long status ≡ true = ap is_too_long same ∙ ap (λ k. is_too_long (Refused k at)) is in absurd cc))
+    (λ _. r.over) untouched
+answers_stopped words before after a b f g h i stop.ReadFault status fault untouched says = answers_nothing words before after a b status (inr (says.0, fault.reading)) says.1 untouched
+answers_stopped words before after a b f g h i stop.OutOfMemory status none untouched says = answers_nothing words before after a b status (inl says.0) says.1 untouched
+
+-- a status of a fault comes with a fault
+write_fault_rose : (right : Status → List (List ℕ) → Type 0) (a b : Option (List ℕ)) (f g : ℕ) (status : Status) → ((lines : List (List ℕ)) → right WriteFault lines → ⊥)
+    → Wrote right a b f g status → status ≡ WriteFault → Rose f g
+write_fault_rose right a b f g status never w is = by_end w.ended where
+  by_end : Ended right w.text f g status → Rose f g
+  by_end (whole text) = absurd (never text.lines (subst (λ (s : Status). right s text.lines) is text.is_right))
+  by_end (sink_failed _ front rose) = rose
+  by_end (no_memory other front) = absurd cc
+
+-- an answer's status is that of no fault
+no_fault : (job : JobData) (bytes : List ℕ) (status : Status) (lines : List (List ℕ)) → is_answer status ≡ false → IsAnswer job bytes status lines → ⊥
+no_fault job bytes status lines none right = let some = answer_status job bytes status lines right in cc
+
+pub served_write_fault : (words : List (List ℕ)) (before after a b : Option (List ℕ)) (f g : ℕ) (status : Status) → ServesWords words before after a b f g status → status ≡ WriteFault → Rose f g
+served_write_fault words before after a b f g status s =
+    write_fault_rose (IsAnswer s.job s.serves.bytes) a b f g status (λ lines. no_fault s.job s.serves.bytes WriteFault lines refl) s.serves.wrote
+
+pub stopped_write_fault : (a b : Option (List ℕ)) (f g : ℕ) (s : Stop) (status : Status) → SaysStop s a b f g status → status ≡ WriteFault → Rose f g
+stopped_write_fault a b f g (stop.Usage word) status says is = write_fault_rose (With (Usage word) (λ lines. lines ≡ usage_line word ∷ [])) a b f g status (λ lines w. let h = w.same in absurd cc) says is
+stopped_write_fault a b f g (stop.Refused kind at) status says is = write_fault_rose (With (Refused kind at) (λ lines. lines ≡ refused_line (plain kind at) ∷ [])) a b f g status (λ lines w. let h = w.same in absurd cc) says is
+stopped_write_fault a b f g stop.ReadFault status says is = absurd (let h = says.0 in cc)
+stopped_write_fault a b f g stop.OutOfMemory status says is = absurd (let h = says.0 in cc)
+
+wrote_no_read_fault : (right : Status → List (List ℕ) → Type 0) (a b : Option (List ℕ)) (f g : ℕ) (status : Status) → ((lines : List (List ℕ)) → right ReadFault lines → ⊥)
+    → Wrote right a b f g status → status ≡ ReadFault → ⊥
+wrote_no_read_fault right a b f g status never w is = by_end w.ended where
+  by_end : Ended right w.text f g status → ⊥
+  by_end (whole text) = never text.lines (subst (λ (s : Status). right s text.lines) is text.is_right)
+  by_end (sink_failed other front rose) = cc
+  by_end (no_memory other front) = cc
+
+pub served_read_fault : (words : List (List ℕ)) (before after a b : Option (List ℕ)) (f g : ℕ) (status : Status) → ServesWords words before after a b f g status → status ≡ ReadFault → ⊥
+served_read_fault words before after a b f g status s =
+    wrote_no_read_fault (IsAnswer s.job s.serves.bytes) a b f g status (λ lines. no_fault s.job s.serves.bytes ReadFault lines refl) s.serves.wrote
+
+pub stopped_read_fault : (words : List (List ℕ)) (before after a b : Option (List ℕ)) (f g h i : ℕ) (s : Stop) (status : Status)
+    → StopsBy (λ word. words_meaning words ≡ Err word) (IsRefusal words before after) (IsReadFault words h i) s → SaysStop s a b f g status → status ≡ ReadFault → Rose h i
+stopped_read_fault words before after a b f g h i (stop.Usage word) status stops says is =
+    absurd (wrote_no_read_fault (With (Usage word) (λ lines. lines ≡ usage_line word ∷ [])) a b f g status (λ lines w. let h = w.same in cc) says is)
+stopped_read_fault words before after a b f g h i (stop.Refused kind at) status stops says is =
+    absurd (wrote_no_read_fault (With (Refused kind at) (λ lines. lines ≡ refused_line (plain kind at) ∷ [])) a b f g status (λ lines w. let h = w.same in cc) says is)
+stopped_read_fault words before after a b f g h i stop.ReadFault status stops says is = stops.rose
+stopped_read_fault words before after a b f g h i stop.OutOfMemory status stops says is = absurd (let h = says.0 in cc)
+
+-- a run on bytes that aren't refused
+outcome_accepted : (words : List (List ℕ)) (bytes : List ℕ) (status : Status) (lines : List (List ℕ)) (job : JobData) → words_meaning words ≡ Ok job
+    → ((refusal : RefusalData) → ¬ IsRefused job bytes refusal) → Outcome words bytes status lines → is_answer status ≡ true
+outcome_accepted words bytes status lines job sound never (faulty_words word faulty is shows) = absurd cc
+outcome_accepted words bytes status lines job sound never (refused other refusal meaning why is shows) =
+    let both : ◌≡◌ {A = Result JobData ℕ} (Ok other) (Ok job) = sym meaning ∙ sound in
+    let same : other ≡ job = cc in absurd (never refusal (subst (λ (j : JobData). IsRefused j bytes refusal) same why))
+outcome_accepted words bytes status lines job sound never (answered other meaning right) = answer_status other bytes status lines right
+
+whole_or_not : (status : Status) → (is_whole status ≡ true) ⊎ ((status ≡ OutOfMemory) ⊎ ((status ≡ ReadFault) ⊎ (status ≡ WriteFault)))
+whole_or_not OutOfMemory = inr (inl refl)
+whole_or_not ReadFault = inr (inr (inl refl))
+whole_or_not WriteFault = inr (inr (inr refl))
+whole_or_not _ = inl refl
+
+pub answers_accepted : (words : List (List ℕ)) (before after a b : Option (List ℕ)) (status : Status) → Answers words before after a b status → AnswersAccepted words before status
+answers_accepted words before after a b status answers bytes job sound told never no_read_fault no_write_fault =
+    let same : answers.bytes ≡ bytes = sym (subst (λ (left : Option (List ℕ)). Agrees left answers.bytes) told answers.read) in
+    by_status (whole_or_not status) same where
+      by_status : (is_whole status ≡ true) ⊎ ((status ≡ OutOfMemory) ⊎ ((status ≡ ReadFault) ⊎ (status ≡ WriteFault))) → answers.bytes ≡ bytes → (is_answer status ≡ true) ⊎ (status ≡ OutOfMemory)
+      by_status (inl w) same =
+          let text = answers.ends.whole w in
+          inl (outcome_accepted words bytes status text.lines job sound never (subst (λ (t : List ℕ). Outcome words t status text.lines) same text.is_right))
+      by_status (inr (inl is)) same = inr is
+      by_status (inr (inr (inl is))) same = absurd (no_read_fault is)
+      by_status (inr (inr (inr is))) same = absurd (no_write_fault is)

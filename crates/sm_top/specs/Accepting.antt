@@ -1,0 +1,89 @@
+-- Which inputs are accepted for a job.
+use Rattle.std.specs.Prelude.{◌≡◌, ◌+◌, ℕ, Bool, true, false, if◌then◌else◌, List, [], ◌∷◌, drop, Option, Some, None, Result, Ok, Err}
+use Rattle.std.specs.Option.{option_map}
+use Rattle.sm_text.specs.Lines.{lines, content}
+use Rattle.sm_text.specs.Tokens.{tokens}
+use Rattle.sm_text.specs.declared.refusal.RefusalKind.{RefusalKind}
+use Rattle.sm_text.specs.declared.refusal.RefusalKind.TheVariants.{AfterEnd, WrongKind, NotBuilt}
+use Rattle.sm_instance.specs.Inputs.{kind_of}
+use Rattle.sm_instance.specs.declared.kinds.Kind.{Kind}
+use Rattle.sm_instance.specs.declared.kinds.Kind.TheVariants.{Marriage, Hospitals, Roommates}
+use Rattle.sm_reader.specs.InstanceText.{ReadText, Refusal, instance_text}
+use Rattle.sm_words.specs.Jobs.{JobData, Solve, Reduced, Rotations}
+use Rattle.sm_top.specs.Texts.{RefusalData, plain}
+
+-- What a job takes.
+
+-- text behind `end`
+abbrev pub takes_text : JobData → Bool
+takes_text (Solve side) = false
+takes_text Reduced = false
+takes_text Rotations = false
+
+-- a kind: `solve` takes all where it names no side, and the others those with two sides
+abbrev pub is_two_sided : Kind → Bool
+is_two_sided Marriage = true
+is_two_sided Hospitals = true
+is_two_sided Roommates = false
+
+abbrev pub takes_kind : JobData → Kind → Bool
+takes_kind (Solve None) kind = true
+takes_kind (Solve (Some side)) kind = is_two_sided kind
+takes_kind Reduced kind = is_two_sided kind
+takes_kind Rotations kind = is_two_sided kind
+
+-- the kinds that are taken yet
+abbrev pub is_built : Kind → Bool
+is_built Marriage = true
+is_built Hospitals = false
+is_built Roommates = false
+
+-- The order of refusals.
+
+-- a line says something that has a token: it is neither blank nor a comment
+abbrev pub has_tokens : List (List ℕ) → Bool
+has_tokens [] = false
+has_tokens (token ∷ more) = true
+
+abbrev pub says_something : List ℕ → Bool
+says_something line = has_tokens (tokens (content line))
+
+-- the number of the first of some lines that says something, where the first line has this number
+abbrev pub first_saying : ℕ → List (List ℕ) → Option ℕ
+first_saying number [] = None
+first_saying number (line ∷ rest) = if says_something line then Some number else first_saying (number + 1) rest
+
+-- there is text behind `end` and the job takes none
+abbrev pub after_end : JobData → List ℕ → ReadText → Option Refusal
+after_end job bytes read =
+    if takes_text job then None else option_map (λ line. (AfterEnd, line)) (first_saying read.rest_line (lines (drop read.rest bytes)))
+
+-- the kind isn't taken yet
+abbrev pub not_built : ReadText → Option Refusal
+not_built read = if is_built (kind_of read.input) then None else Some (NotBuilt, read.header_line)
+
+-- the job doesn't take the kind
+abbrev pub wrong_kind : JobData → ReadText → Option Refusal
+wrong_kind job read = if takes_kind job (kind_of read.input) then None else Some (WrongKind, read.header_line)
+
+-- the first refusal of several, if there is one
+abbrev pub first_refusal : List (Option Refusal) → ReadText → Result ReadText Refusal
+first_refusal [] read = Ok read
+first_refusal (None ∷ more) read = first_refusal more read
+first_refusal (Some refusal ∷ more) read = Err refusal
+
+-- What is read from an input for a job, or why it is refused and at which line. An input that is too long comes first, then
+-- the faults of its lines, a missing `end` and names that aren't declared; then these.
+abbrev pub behind_text : JobData → List ℕ → Result ReadText Refusal → Result ReadText Refusal
+behind_text job bytes (Err refusal) = Err refusal
+behind_text job bytes (Ok read) = first_refusal (after_end job bytes read ∷ not_built read ∷ wrong_kind job read ∷ []) read
+
+abbrev pub accepted : JobData → List ℕ → Result ReadText Refusal
+accepted job bytes = behind_text job bytes (instance_text bytes)
+
+-- an input isn't accepted, for this reason and at this line
+pub record IsUnaccepted (job : JobData) (bytes : List ℕ) (refusal : RefusalData) : Type 0 where
+  pub kind : RefusalKind
+  pub at : ℕ
+  pub because : accepted job bytes ≡ Err (kind, at)
+  pub says : refusal ≡ plain kind at

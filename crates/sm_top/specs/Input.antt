@@ -1,0 +1,23 @@
+-- What came of reading a source to its end.
+use Rattle.std.specs.Prelude.{◌≡◌, ◌<◌, ◌≤◌, ℕ, List, length, Option, IfSome}
+use Rattle.std.specs.Io.KnownBytes.{Consumes, IsAtEnd}
+use Rattle.sm_text.specs.declared.refusal.RefusalKind.TheVariants.{TooLong}
+use Rattle.sm_top.specs.Texts.{RefusalData, plain}
+use Rattle.sm_top.specs.declared.TheConstants.{MOST_BYTES}
+
+-- a source that told its bytes before has none left
+abbrev pub IsReadWhole : Option (List ℕ) → Option (List ℕ) → Type 0
+IsReadWhole left_before left_after = IfSome left_before (λ _. IsAtEnd left_after)
+
+-- these are all bytes that the source had, and not too many
+pub record ReadWhole (left_before left_after : Option (List ℕ)) (bytes : List ℕ) : Type 0 where
+  pub given : Consumes left_before left_after bytes
+  pub over : IsReadWhole left_before left_after
+  pub short : length bytes ≤ MOST_BYTES
+
+-- more bytes than are taken were given, and the refusal is that of all of them
+pub record IsTooLong (left_before left_after : Option (List ℕ)) (refusal : RefusalData) : Type 0 where
+  pub given : List ℕ
+  pub consumed : Consumes left_before left_after given
+  pub long : MOST_BYTES < length given
+  pub says : refusal ≡ plain TooLong 0

@@ -1,0 +1,16 @@
+pub mod MarriageMarket
+pub mod Texts
+pub mod Accepting
+pub mod Answers
+pub mod Reduction
+pub mod RotationLines
+pub mod RotationAnswer
+pub mod Input
+pub mod Outcome
+pub mod Running
+pub mod Statuses
+pub mod Stops
+pub mod Wrote
+pub mod Steps
+pub mod GivenLines
+pub mod Needs

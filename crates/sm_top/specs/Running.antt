@@ -1,0 +1,82 @@
+-- What a run does to its source and its sink.
+use Rattle.std.specs.Prelude.{◌≡◌, ◌≢◌, ◌≤◌, ◌+◌, ◌⊎◌, ℕ, Bool, true, false, List, [], ◌++◌, length, Option, Some, IsSomeAnd, Result, Ok, Err}
+use Rattle.sm_io.specs.Source.{Agrees}
+use Rattle.sm_io.specs.Sink.{Grows}
+use Rattle.sm_answer.specs.Writing.{text_of}
+use Rattle.sm_text.specs.declared.refusal.RefusalKind.TheVariants.{TooLong}
+use Rattle.sm_words.specs.Jobs.{JobData}
+use Rattle.sm_words.specs.Words.{words_meaning}
+use Rattle.sm_top.specs.declared.status.Status.{Status}
+use Rattle.sm_top.specs.declared.status.Status.TheVariants.{Refused, Usage, OutOfMemory, ReadFault, WriteFault}
+use Rattle.sm_top.specs.declared.TheConstants.{MOST_BYTES}
+use Rattle.sm_top.specs.Input.{IsReadWhole}
+use Rattle.sm_top.specs.Texts.{RefusalData}
+use Rattle.sm_top.specs.Outcome.{Outcome, IsRefused}
+
+-- what the words ask for reads an input: every job does, and faulty words don't
+abbrev pub asks_to_read : Result JobData ℕ → Bool
+asks_to_read (Ok job) = true
+asks_to_read (Err word) = false
+
+abbrev pub reads : List (List ℕ) → Bool
+reads words = asks_to_read (words_meaning words)
+
+-- the statuses with which all lines of an outcome are written, and those of an answer among them
+abbrev pub is_whole : Status → Bool
+is_whole OutOfMemory = false
+is_whole ReadFault = false
+is_whole WriteFault = false
+is_whole status = true
+
+abbrev pub is_answer : Status → Bool
+is_answer (Refused kind at) = false
+is_answer (Usage word) = false
+is_answer status = is_whole status
+
+abbrev pub is_too_long : Status → Bool
+is_too_long (Refused TooLong at) = true
+is_too_long status = false
+
+-- the source told its bytes, has some left, and hasn't lost more than are taken
+abbrev pub IsBeingRead : Option (List ℕ) → Option (List ℕ) → Type 0
+IsBeingRead before after = IsSomeAnd before (λ all. IsSomeAnd after (λ rest. (rest ≢ []) × (length all ≤ length rest + MOST_BYTES)))
+
+-- the text of right lines
+pub record IsText (right : List (List ℕ) → Type 0) (text : List ℕ) : Type 0 where
+  pub lines : List (List ℕ)
+  pub is_right : right lines
+  pub shows : text ≡ text_of lines
+
+-- a front of the text of right lines, with any status
+pub record IsFront (right : Status → List (List ℕ) → Type 0) (text : List ℕ) : Type 0 where
+  pub status : Status
+  pub rest : List ℕ
+  pub whole : IsText (right status) (text ++ rest)
+
+-- what the status says of the text that was written, and of what the source has left
+pub record Ends (words : List (List ℕ)) (bytes text : List ℕ) (left_before left_after : Option (List ℕ)) (status : Status) : Type 0 where
+  -- the whole text of an outcome was written; or nothing, or a front of one
+  pub whole : is_whole status ≡ true → IsText (Outcome words bytes status) text
+  pub front : is_whole status ≡ false → (text ≡ []) ⊎ IsFront (Outcome words bytes) text
+  -- where the sink failed, a front; where the source failed, or where there was no memory while the input was read, nothing
+  pub write_fault : status ≡ WriteFault → IsFront (Outcome words bytes) text
+  pub read_fault : status ≡ ReadFault → (reads words ≡ true) × (text ≡ [])
+  pub early : status ≡ OutOfMemory → reads words ≡ true → IsBeingRead left_before left_after → text ≡ []
+  -- an input is read whole, unless it is too long; where none is asked for, nothing is read
+  pub read_whole : reads words ≡ true → is_whole status ≡ true → is_too_long status ≡ false → IsReadWhole left_before left_after
+  pub untouched : reads words ≡ false → left_after ≡ left_before
+
+-- A run with these words: of all the bytes that the source had left, this text was written, which is added to what the sink
+-- held. Where a source or a sink doesn't tell its bytes, there are some of which this is true.
+pub record Answers (words : List (List ℕ)) (left_before left_after held_before held_after : Option (List ℕ)) (status : Status) : Type 0 where
+  pub bytes : List ℕ
+  pub text : List ℕ
+  pub read : Agrees left_before bytes
+  pub written : Grows held_before held_after text
+  pub ends : Ends words bytes text left_before left_after status
+
+-- where words ask for a job and the source tells bytes that aren't refused, a run without faults comes to an answer, if there is memory
+abbrev pub AnswersAccepted : List (List ℕ) → Option (List ℕ) → Status → Type 0
+AnswersAccepted words left status =
+    (bytes : List ℕ) (job : JobData) → words_meaning words ≡ Ok job → left ≡ Some bytes → ((refusal : RefusalData) → ¬ IsRefused job bytes refusal)
+    → status ≢ ReadFault → status ≢ WriteFault → (is_answer status ≡ true) ⊎ (status ≡ OutOfMemory)

@@ -1,0 +1,12 @@
+-- Why there is no answer.
+use Rattle.std.specs.Prelude.{ℕ}
+use Rattle.sm_top.specs.declared.stop.Stop.{Stop}
+use Rattle.sm_top.specs.declared.stop.Stop.TheVariants.{Usage, Refused, ReadFault, OutOfMemory}
+use Rattle.sm_top.specs.Texts.{RefusalData, plain}
+
+-- what is known of a faulty word, of a refusal, and of a source that failed; of want of memory nothing is known
+abbrev pub StopsBy : (usage : ℕ → Type 0) → (refused : RefusalData → Type 0) → (read_fault : Type 0) → Stop → Type 0
+StopsBy usage refused read_fault (Usage word) = usage word
+StopsBy usage refused read_fault (Refused kind at) = refused (plain kind at)
+StopsBy usage refused read_fault ReadFault = read_fault
+StopsBy usage refused read_fault OutOfMemory = Unit {0}

@@ -1,0 +1,33 @@
+//! The top call of the stable matching workbench: [`run`] does all that the program does.
+//!
+//! The words are read by [`read_words`]. For each job a file makes its answer, a value that gives lines
+//! ([`sm_answer::Lines`]), and `running.rt` writes it or says why there is none. How a command is added is told in the
+//! document `ADDING.md` of this repository.
+#![tactic(auto)]
+
+mod basis;
+mod input;
+mod list_lines;
+mod market;
+mod pair_lines;
+mod performing;
+mod reducing;
+mod refusing;
+mod rotating;
+mod rotation_lines;
+mod running;
+mod seat_lines;
+mod solving;
+mod status;
+mod stop;
+mod writing;
+
+pub use running::run;
+pub use sm_words::{Job, WordsFault, read_words};
+pub use status::Status;
+
+/// The greatest number of bytes of an input.
+const MOST_BYTES: usize = 16_777_216;
+
+#[cfg(test)]
+mod tests;

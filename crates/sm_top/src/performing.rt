@@ -1,0 +1,111 @@
+//! Doing a job: an arm for each command, which makes its answer and writes it.
+
+ghost use Rattle.std.specs.Prelude.{◌≡◌, ◌≤◌, Ok, IfOk, IfErr, OnErr, true, unwrap_or};
+ghost use Rattle.sm_answer.specs.Printing.{IsShown};
+ghost use Rattle.sm_instance.specs.Inputs.{kind_of};
+ghost use Rattle.sm_instance.specs.declared.inputs.Input.TheVariants.{Two};
+ghost use Rattle.sm_reader.specs.InstanceText.{read_of};
+ghost use Rattle.sm_words.specs.Jobs.{job_of};
+ghost use Rattle.sm_top.specs.Accepting.{accepted, is_built};
+ghost use Rattle.sm_top.specs.Answers.{IsSolution};
+ghost use Rattle.sm_top.specs.Outcome.{IsAnswer, IsOwnRefusal};
+ghost use Rattle.sm_top.specs.Reduction.{IsReduction};
+ghost use Rattle.sm_top.specs.RotationAnswer.{IsRotationAnswer};
+ghost use Rattle.sm_top.specs.Stops.{StopsBy};
+ghost use Rattle.sm_top.specs.Wrote.{Wrote, With};
+
+use crate::reducing::{find_reduction, reduction_lines};
+use crate::rotating::{find_rotations, rotation_answer_lines};
+use crate::solving::{find_solution, solution_lines};
+use crate::status::Status;
+use crate::stop::Stop;
+use crate::writing::write;
+use sm_instance::{Input, Instance, Side};
+use sm_io::Sink;
+use sm_reader::Read;
+use sm_words::Job;
+use std::alloc::{AllocError, Global};
+
+/// Does a job on an input that is accepted for it.
+pub(crate) fn perform<K: Sink>(
+    alloc: Global,
+    job: &Job,
+    bytes: &[u8],
+    read: &Read,
+    sink: &mut K,
+) -> Result<Status, Stop>
+    requires accepted { accepted (job_of job.now) bytes.now ≡ Ok (read_of read.now) }
+    requires built { is_built (kind_of read.now.input) ≡ true }
+    ensures wrote { IfOk result (λ status. Wrote (IsAnswer (job_of job.now) bytes.now) (K.held sink.old) (K.held sink.new) (K.faults sink.old) (K.faults sink.new) status) }
+    ensures stop { IfErr result (λ stop. StopsBy (λ _. ⊥) (IsOwnRefusal (job_of job.now) bytes.now (read_of read.now)) ⊥ stop) }
+    ensures unwritten { OnErr result (sink.new ≡ sink.old) }
+    ensures later { K.faults sink.old ≤ K.faults sink.new }
+{
+    let input = &read.input;
+    match input {
+        Input::Two(instance) => match job {
+            Job::Solve(side) => Ok(solve(alloc, input, instance, *side, sink)?),
+            Job::Reduced => Ok(reduce(alloc, input, instance, sink)?),
+            Job::Rotations => Ok(show_rotations(alloc, input, instance, sink)?),
+        },
+        Input::Room(_) => unreachable!(),
+    }
+}
+
+// `solve`
+fn solve<K: Sink>(
+    alloc: Global,
+    input: &Input,
+    instance: &Instance,
+    side: Option<Side>,
+    sink: &mut K,
+) -> Result<Status, AllocError>
+    requires input { input.now ≡ Two instance.now }
+    requires built { is_built instance.now.kind ≡ true }
+    ensures wrote { IfOk result (λ status. Wrote (With Status.Done (IsShown input.now (IsSolution (unwrap_or side Side.Proposers) instance.now)))
+        (K.held sink.old) (K.held sink.new) (K.faults sink.old) (K.faults sink.new) status) }
+    ensures unwritten { OnErr result (sink.new ≡ sink.old) }
+    ensures later { K.faults sink.old ≤ K.faults sink.new }
+{
+    let solution = find_solution(alloc, instance, side)?;
+    let lines = solution_lines(input, instance, &solution);
+    Ok(write(alloc, sink, Status::Done, lines))
+}
+
+// `reduced`
+fn reduce<K: Sink>(
+    alloc: Global,
+    input: &Input,
+    instance: &Instance,
+    sink: &mut K,
+) -> Result<Status, AllocError>
+    requires input { input.now ≡ Two instance.now }
+    requires built { is_built instance.now.kind ≡ true }
+    ensures wrote { IfOk result (λ status. Wrote (With Status.Done (IsShown input.now (IsReduction instance.now)))
+        (K.held sink.old) (K.held sink.new) (K.faults sink.old) (K.faults sink.new) status) }
+    ensures unwritten { OnErr result (sink.new ≡ sink.old) }
+    ensures later { K.faults sink.old ≤ K.faults sink.new }
+{
+    let reduction = find_reduction(alloc, instance)?;
+    let lines = reduction_lines(input, instance, &reduction);
+    Ok(write(alloc, sink, Status::Done, lines))
+}
+
+// `rotations`
+fn show_rotations<K: Sink>(
+    alloc: Global,
+    input: &Input,
+    instance: &Instance,
+    sink: &mut K,
+) -> Result<Status, AllocError>
+    requires input { input.now ≡ Two instance.now }
+    requires built { is_built instance.now.kind ≡ true }
+    ensures wrote { IfOk result (λ status. Wrote (With Status.Done (IsShown input.now (IsRotationAnswer instance.now)))
+        (K.held sink.old) (K.held sink.new) (K.faults sink.old) (K.faults sink.new) status) }
+    ensures unwritten { OnErr result (sink.new ≡ sink.old) }
+    ensures later { K.faults sink.old ≤ K.faults sink.new }
+{
+    let answer = find_rotations(alloc, instance)?;
+    let lines = rotation_answer_lines(input, instance, &answer);
+    Ok(write(alloc, sink, Status::Done, lines))
+}

@@ -1,0 +1,148 @@
+//! The top call.
+
+ghost use Rattle.std.specs.Prelude.{◌≡◌, ◌≤◌, ◌≢◌, Ok, Err, IfOk, IfErr, OnErr, length, true, false};
+ghost use Rattle.sm_io.specs.Faults.{Rose};
+ghost use Rattle.sm_instance.specs.Inputs.{kind_of};
+ghost use Rattle.sm_reader.specs.InstanceText.{read_of};
+ghost use Rattle.sm_words.specs.Jobs.{job_of};
+ghost use Rattle.sm_words.specs.Words.{texts, words_meaning};
+ghost use Rattle.sm_top.specs.Outcome.{IsAnswer, IsRefused};
+ghost use Rattle.sm_top.specs.Running.{reads, Answers, AnswersAccepted};
+ghost use Rattle.sm_top.specs.Steps.{Serves, ServesWords, IsRefusalFor, IsRefusal, IsReadFault, SaysStop};
+ghost use Rattle.sm_top.specs.Stops.{StopsBy};
+ghost use Rattle.sm_top.specs.Wrote.{Wrote};
+
+use crate::MOST_BYTES;
+use crate::input::read_all;
+use crate::performing::perform;
+use crate::refusing::accept;
+use crate::status::Status;
+use crate::stop::{RefusedLine, Stop, UsageLine};
+use crate::writing::write;
+use sm_io::{Sink, Source};
+use sm_words::{Job, WordsFault, read_words};
+use std::alloc::Global;
+
+/// Does all that the program does, and says how it ended.
+///
+/// The words are those of the command line behind the program's name. Where they are faulty nothing is read. Else the source
+/// is read to its end, or until it gave more than 16,777,216 bytes, and the answer is written to the sink, each line with
+/// one put.
+///
+/// - `Done`: the whole answer is written. For `solve` it is the pairs of the stable matching in which every agent of a
+///   side has the best partner that it has in any stable matching (Gale and Shapley 1962), in the order of the text; for
+///   `reduced` the partners in both such matchings and the lists in which all stable pairs lie (Gusfield and Irving 1989,
+///   section 1.2.4); for `rotations` the proposers' partners in the first of them, the rotations that lead from it to the
+///   last, and what each needs, so that the stable matchings are those of the closed sets that the lines show (Gusfield and
+///   Irving 1989, theorem 2.5.7).
+/// - `Refused`: the input is refused for this reason, at this line; the one line `refused NAME LINE` is written. An input
+///   that is too long comes first, then the faults of its lines from the top, then a missing `end`, then a name that isn't
+///   declared, then text behind `end`, then a kind that isn't taken yet.
+/// - `Usage`: the words are faulty; the one line `usage WORD` is written.
+/// - `ReadFault`, `WriteFault`: the source or the sink failed. Nothing was written, or a front of the answer.
+/// - `OutOfMemory`: there was no memory. Nothing was written, or a front of the answer.
+///
+/// What is written is added to what the sink held. It depends on the bytes that the source gave and not on how they were cut.
+/// Takes time and memory linear in the bytes for `solve` and `reduced`; for `rotations` the time of [`sm_rotations::chain`]
+/// comes besides.
+pub fn run<S: Source, K: Sink>(
+    alloc: Global,
+    words: &[String],
+    source: &mut S,
+    sink: &mut K,
+) -> Status
+    ensures answer { Answers (texts words.now) (S.left source.old) (S.left source.new) (K.held sink.old) (K.held sink.new) result }
+    ensures accepted { AnswersAccepted (texts words.now) (S.left source.old) result }
+    ensures untouched { reads (texts words.now) ≡ false → source.new ≡ source.old }
+    ensures faultless { (¬ Rose (S.faults source.old) (S.faults source.new)) → (¬ Rose (K.faults sink.old) (K.faults sink.new))
+        → (result ≢ Status.ReadFault) × (result ≢ Status.WriteFault) }
+    ensures read_fault { result ≡ Status.ReadFault → Rose (S.faults source.old) (S.faults source.new) }
+    ensures write_fault { result ≡ Status.WriteFault → Rose (K.faults sink.old) (K.faults sink.new) }
+    ensures source_later { S.faults source.old ≤ S.faults source.new }
+    ensures sink_later { K.faults sink.old ≤ K.faults sink.new }
+{
+    match serve(alloc, words, source, sink) {
+        Ok(status) => status,
+        Err(stop) => say_stop(alloc, sink, stop),
+    }
+}
+
+// Does what the words ask for.
+fn serve<S: Source, K: Sink>(
+    alloc: Global,
+    words: &[String],
+    source: &mut S,
+    sink: &mut K,
+) -> Result<Status, Stop>
+    ensures served { IfOk result (λ status. ServesWords (texts words.now) (S.left source.old) (S.left source.new) (K.held sink.old) (K.held sink.new)
+        (K.faults sink.old) (K.faults sink.new) status) }
+    ensures stop { IfErr result (λ stop. StopsBy (λ word. words_meaning (texts words.now) ≡ Err word) (IsRefusal (texts words.now) (S.left source.old) (S.left source.new))
+        (IsReadFault (texts words.now) (S.faults source.old) (S.faults source.new)) stop) }
+    ensures untouched { reads (texts words.now) ≡ false → source.new ≡ source.old }
+    ensures unwritten { OnErr result (sink.new ≡ sink.old) }
+    ensures source_later { S.faults source.old ≤ S.faults source.new }
+    ensures sink_later { K.faults sink.old ≤ K.faults sink.new }
+{
+    match read_words(alloc, words) {
+        Ok(job) => read_and_answer(alloc, &job, source, sink),
+        Err(WordsFault::Usage(word)) => Err(Stop::Usage(word)),
+        Err(WordsFault::OutOfMemory) => Err(Stop::OutOfMemory),
+    }
+}
+
+// Reads the input, and does a job on it.
+fn read_and_answer<S: Source, K: Sink>(
+    alloc: Global,
+    job: &Job,
+    source: &mut S,
+    sink: &mut K,
+) -> Result<Status, Stop>
+    ensures served { IfOk result (λ status. Serves (job_of job.now) (S.left source.old) (S.left source.new) (K.held sink.old) (K.held sink.new)
+        (K.faults sink.old) (K.faults sink.new) status) }
+    ensures stop { IfErr result (λ stop. StopsBy (λ _. ⊥) (IsRefusalFor (job_of job.now) (S.left source.old) (S.left source.new))
+        (Rose (S.faults source.old) (S.faults source.new)) stop) }
+    ensures unwritten { OnErr result (sink.new ≡ sink.old) }
+    ensures source_later { S.faults source.old ≤ S.faults source.new }
+    ensures sink_later { K.faults sink.old ≤ K.faults sink.new }
+{
+    let bytes = read_all(alloc, source)?;
+    answer(alloc, job, &bytes, sink)
+}
+
+// Does a job on an input that was read whole.
+fn answer<K: Sink>(alloc: Global, job: &Job, bytes: &[u8], sink: &mut K) -> Result<Status, Stop>
+    requires { length bytes.now ≤ MOST_BYTES }
+    ensures wrote { IfOk result (λ status. Wrote (IsAnswer (job_of job.now) bytes.now) (K.held sink.old) (K.held sink.new) (K.faults sink.old) (K.faults sink.new) status) }
+    ensures stop { IfErr result (λ stop. StopsBy (λ _. ⊥) (IsRefused (job_of job.now) bytes.now) ⊥ stop) }
+    ensures unwritten { OnErr result (sink.new ≡ sink.old) }
+    ensures later { K.faults sink.old ≤ K.faults sink.new }
+{
+    let read = accept(alloc, job, bytes)?;
+    perform(alloc, job, bytes, &read, sink)
+}
+
+// Says why there is no answer.
+fn say_stop<K: Sink>(alloc: Global, sink: &mut K, stop: Stop) -> Status
+    ensures says { SaysStop stop (K.held sink.old) (K.held sink.new) (K.faults sink.old) (K.faults sink.new) result }
+    ensures later { K.faults sink.old ≤ K.faults sink.new }
+{
+    match stop {
+        Stop::Usage(word) => {
+            let lines = UsageLine {
+                word,
+                is_said: false,
+            };
+            write(alloc, sink, Status::Usage(word), lines)
+        }
+        Stop::Refused(kind, at) => {
+            let lines = RefusedLine {
+                kind,
+                at,
+                is_said: false,
+            };
+            write(alloc, sink, Status::Refused(kind, at), lines)
+        }
+        Stop::ReadFault => Status::ReadFault,
+        Stop::OutOfMemory => Status::OutOfMemory,
+    }
+}

@@ -1,0 +1,105 @@
+//! What is said where there is no answer.
+
+ghost use Rattle.std.specs.Prelude.{◌≡◌, OnOk, ◌++◌};
+ghost use Rattle.sm_top.specs.Texts.{plain, usage_line, refused_line};
+
+use sm_answer::Lines;
+use sm_text::{LineWriter, RefusalKind};
+use std::alloc::{AllocError, Global};
+
+/// Why there is no answer.
+#[derive(Debug, Drop)]
+pub(crate) enum Stop {
+    /// The word of this number, counted from 1, is faulty.
+    Usage(u32),
+    /// The input is refused, for this reason and at this line.
+    Refused(RefusalKind, u32),
+    /// The source failed.
+    ReadFault,
+    /// There was no memory.
+    OutOfMemory,
+}
+
+impl From<AllocError> for Stop {
+    ghost use Rattle.std.specs.Prelude.{◌≡◌};
+    ghost use Rattle.sm_top.specs.declared.stop.Stop.TheVariants.{OutOfMemory};
+
+    ghost from_gives = { λ _ e. e ≡ OutOfMemory };
+
+    fn from(_e: AllocError) -> Stop {
+        Stop::OutOfMemory
+    }
+}
+
+/// The line that names a faulty word.
+#[derive(Drop)]
+pub(crate) struct UsageLine {
+    pub(crate) word: u32,
+    pub(crate) is_said: bool,
+}
+
+impl Lines for UsageLine {
+    ghost use Rattle.sm_top.specs.Texts.{usage_line};
+    ghost use Rattle.sm_top.specs.GivenLines.{lines_unsaid, most_unsaid};
+    ghost use Rattle.std.specs.Prelude.{◌≡◌};
+
+    ghost gives = { λ s rest. rest ≡ lines_unsaid s.is_said (usage_line s.word) };
+
+    ghost most = { λ s. most_unsaid s.is_said };
+
+    #[tactic(auto, using(crate::proofs::StopLemmas::line_said))]
+    fn put_next(&mut self, _alloc: Global, into: &mut LineWriter) -> Result<bool, AllocError> {
+        if self.is_said {
+            return Ok(false);
+        }
+        put_usage(into, self.word)?;
+        self.is_said = true;
+        Ok(true)
+    }
+}
+
+/// The line that names why an input is refused, and where.
+#[derive(Drop)]
+pub(crate) struct RefusedLine {
+    pub(crate) kind: RefusalKind,
+    pub(crate) at: u32,
+    pub(crate) is_said: bool,
+}
+
+impl Lines for RefusedLine {
+    ghost use Rattle.sm_top.specs.Texts.{plain, refused_line};
+    ghost use Rattle.sm_top.specs.GivenLines.{lines_unsaid, most_unsaid};
+    ghost use Rattle.std.specs.Prelude.{◌≡◌};
+
+    ghost gives = { λ s rest. rest ≡ lines_unsaid s.is_said (refused_line (plain s.kind s.at)) };
+
+    ghost most = { λ s. most_unsaid s.is_said };
+
+    #[tactic(auto, using(crate::proofs::StopLemmas::line_said))]
+    fn put_next(&mut self, _alloc: Global, into: &mut LineWriter) -> Result<bool, AllocError> {
+        if self.is_said {
+            return Ok(false);
+        }
+        put_refused(into, self.kind, self.at)?;
+        self.is_said = true;
+        Ok(true)
+    }
+}
+
+// Puts the line that names a faulty word.
+fn put_usage(into: &mut LineWriter, word: u32) -> Result<(), AllocError>
+    ensures { OnOk result (into.new.bytes ≡ into.old.bytes ++ usage_line word) }
+{
+    into.put_bytes(b"usage ")?;
+    into.put_number(u64::from(word))
+}
+
+// Puts the line that names why an input is refused, and where.
+fn put_refused(into: &mut LineWriter, kind: RefusalKind, at: u32) -> Result<(), AllocError>
+    ensures { OnOk result (into.new.bytes ≡ into.old.bytes ++ refused_line (plain kind at)) }
+{
+    into.put_bytes(b"refused ")?;
+    into.put_bytes(kind.name().as_bytes())?;
+    into.put_bytes(b" ")?;
+    into.put_number(u64::from(at))
+}
