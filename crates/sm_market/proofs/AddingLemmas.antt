@@ -71,29 +71,6 @@ naming_turns {others} {b} {a} {namings} n =
       listed_here = λ j before. absurd (omega arith);
     }
 
--- before the first list there are no namings
-naming_starts : (others : List (List ℕ)) (a : ℕ) → AreNamingsOf others 0 0 a []
-naming_starts others a =
-    record {
-      on_list = λ e l. absurd (omega arith);
-      named = λ e l. absurd (omega arith);
-      earlier = λ e l. absurd (omega arith);
-      here = λ e l. absurd (omega arith);
-      ordered = λ e f low l. absurd (omega arith);
-      listed_earlier = λ c j before. absurd (omega arith);
-      listed_here = λ j before. absurd (omega arith);
-    }
-
--- the same of all agents
-pub namings_start : (agents : ℕ) (others : List (List ℕ)) (lists : List (List Naming)) → lists ≡ replicate agents [] → AreNamings agents others 0 0 lists
-namings_start agents others lists is =
-    rw is
-    (record {
-      one_each = length-replicate agents [];
-      of = λ a lt. let none = get_or-replicate agents a [] [] lt in
-          let Q : List Naming → Type 0 = λ l. AreNamingsOf others 0 0 a l in subst Q (sym none) (naming_starts others a);
-    })
-
 module _ {agents b k : ℕ} {others : List (List ℕ)} {lists : List (List Naming)} (n : AreNamings agents others b k lists) where
   pub namings_pass : agents ≤ entry others b k → AreNamings agents others b (k + 1) lists
   namings_pass past = record { one_each = n.one_each; of = λ a lt. naming_passes (n.of a lt) (λ is. absurd (omega arith)) }

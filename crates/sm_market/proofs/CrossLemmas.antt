@@ -22,25 +22,6 @@ pub record IsCrossing (rows others : List (List ℕ)) (a : ℕ) (crosses : List 
   pub met_long : length met ≡ length others
   pub met_before : (b : ℕ) → get_or met b 0 ≤ a
 
--- a list of one value has that value, or what stands for it past the end
-replicate_all : {X : Type 0} (P : X → Type 0) (x : X) (n b : ℕ) → P x → P (get_or (replicate n x) b x)
-replicate_all P x n b h =
-    ⊎_elim (λ l. subst P (sym (get_or-replicate n b x x l)) h)
-    (λ l. subst P (sym (get_or_past (replicate n x) b x (let long = length-replicate n x in omega arith))) h) (cases_lt b n)
-
--- before the first list
-pub crossing_start : (rows others : List (List ℕ)) (notes : List Note) (met : List ℕ) (n : ℕ) → n ≡ length others → notes ≡ replicate n no_note → met ≡ replicate n 0 → IsCrossing rows others 0 [] notes met
-crossing_start rows others notes met n is all_notes all_met =
-    record {
-      one_each = refl;
-      crossed = λ c l. absurd (omega arith);
-      sound = λ c j l. absurd (omega arith);
-      notes_long = ap length all_notes ∙ length-replicate n no_note ∙ is;
-      noted = λ b. rw all_notes (replicate_all (λ (x : Note). x.stamp ≤ 0) no_note n b (omega arith));
-      met_long = ap length all_met ∙ length-replicate n 0 ∙ is;
-      met_before = λ b. rw all_met (replicate_all (λ x. x ≤ 0) 0 n b (omega arith));
-    }
-
 -- one more list
 pub crossing_step : {rows others : List (List ℕ)} {a : ℕ} {notes notes' : List Note} {met : List ℕ} (crosses : List (Vec ℕ Global)) (met' : List ℕ) (v : Vec ℕ Global)
     → IsCrossing rows others a (rows_of crosses) notes met → AreNoted others a notes' → length met' ≡ length others → ((b : ℕ) → get_or met' b 0 ≤ a + 1)

@@ -4,7 +4,6 @@ pub mod AddingLemmas
 pub mod WalkLemmas
 pub mod CrossLemmas
 pub mod TurningLemmas
-pub mod BuildLemmas
 pub mod SeatLemmas
 pub mod PairingLemmas
 pub mod CycleLemmas

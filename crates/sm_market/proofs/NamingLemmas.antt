@@ -9,54 +9,6 @@ use Rattle.sm_lists.proofs.PlaceLemmas.{place_of-le, entry-place_of, place_on_is
 use Rattle.sm_lists.proofs.RowLemmas.{row_in_range}
 use Rattle.sm_lists.proofs.ItemLemmas.{set_cases}
 
--- before the first naming, where all notes are of earlier turns
-pub noting_start : (namings : List Naming) (a : ℕ) (notes : List Note) → ((b : ℕ) → (note_of notes b).stamp ≤ a) → AreNotesOf namings 0 a notes
-noting_start namings a notes earlier =
-    record {
-      latest = λ b. let le = earlier b in omega arith;
-      noted = λ e l. absurd (omega arith);
-      first = λ b is. let le = earlier b in absurd (omega arith);
-    }
-
-module _ {namings : List Naming} {n a : ℕ} {notes : List Note} (s : AreNotesOf namings n a notes) where
-  -- a naming by an agent that is noted
-  pub noting_passes : (note_of notes (naming_at namings n).by).stamp ≡ a + 1 → AreNotesOf namings (n + 1) a notes
-  noting_passes is =
-      record {
-        latest = s.latest;
-        noted = λ e l. ⊎_elim
-            (λ lower. s.noted e lower)
-            (λ le. let last : n ≡ e = omega arith in subst (λ f. (note_of notes (naming_at namings f).by).stamp ≡ a + 1) last is)
-            (cases_lt e n);
-        first = s.first;
-      }
-
-  -- a naming by an agent that is not noted yet
-  pub noting_adds : n < length namings → (naming_at namings n).by < length notes → (note_of notes (naming_at namings n).by).stamp ≢ a + 1
-      → AreNotesOf namings (n + 1) a (set notes (naming_at namings n).by (record { stamp = a + 1; place = (naming_at namings n).place }))
-  noting_adds lt there unnoted =
-      let by : ℕ = (naming_at namings n).by in
-      let note : Note = record { stamp = a + 1; place = (naming_at namings n).place } in
-      record {
-        latest = set_cases (λ b x. x.stamp ≤ a + 1) notes by note no_note there (omega arith) (λ b _. s.latest b);
-        noted = λ e l. set_cases (λ b x. b ≡ (naming_at namings e).by → x.stamp ≡ a + 1) notes by note no_note there
-            (λ _. refl)
-            (λ b other same. ⊎_elim
-            (λ lower. ap (λ c. (note_of notes c).stamp) same ∙ s.noted e lower)
-            (λ le. let last : e ≡ n = omega arith in absurd (other (same ∙ ap (λ f. (naming_at namings f).by) last)))
-            (cases_lt e n))
-            (naming_at namings e).by refl;
-        first = set_cases (λ b x. x.stamp ≡ a + 1 → IsFirstNaming namings b x.place) notes by note no_note there
-            (λ _. record {
-              at = n;
-              there = lt;
-              by = refl;
-              place = refl;
-              before = λ e l same. unnoted (ap (λ c. (note_of notes c).stamp) (sym same) ∙ s.noted e l);
-            })
-            (λ b _. s.first b);
-      }
-
 -- whoever names the agent is in range
 pub namer_in_range : {others : List (List ℕ)} {b k a : ℕ} {namings : List Naming} → AreNamingsOf others b k a namings → (e : ℕ) → e < length namings → (naming_at namings e).by < length others
 namer_in_range {others} {namings = namings} n e l = row_in_range others (naming_at namings e).by (naming_at namings e).place (n.on_list e l)

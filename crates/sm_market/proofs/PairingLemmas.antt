@@ -63,13 +63,6 @@ held_same {rows} {others} {places} {theirs} {places'} {theirs'} here there here'
 pub reviewers_same : {l : Lists} {m n : Places} → IsMatching l m → IsMatching l n → m.proposers ≡ n.proposers → m.reviewers ≡ n.reviewers
 reviewers_same a b same = held_same a.reviewers a.proposers b.reviewers b.proposers same
 
--- and so are matchings in which the reviewers do
-pub proposers_same : {l : Lists} {m n : Places} → IsMatching l m → IsMatching l n → m.reviewers ≡ n.reviewers → m.proposers ≡ n.proposers
-proposers_same a b same = held_same a.proposers a.reviewers b.proposers b.reviewers same
-
--- a pairing is determined by the proposers' places
-pub holders_same : {l : Lists} {m n : Paired} → IsPairingOf l m → IsPairingOf l n → m.places.proposers ≡ n.places.proposers → m.holders ≡ n.holders
-holders_same {l} {m} {n} a b same =
-    let theirs = reviewers_same a.matching b.matching same in
-    ext_get_or None m.holders n.holders (a.one_each ∙ sym b.one_each)
-    (λ r _. a.names r ∙ ap (λ (places : List (Option ℕ)). option_map (λ j. entry l.reviewers r j) (held places r)) theirs ∙ sym (b.names r))
+-- matchings in which the proposers hold the same are one
+pub one_matching : {l : Lists} {m n : Places} → IsMatching l m → IsMatching l n → m.proposers ≡ n.proposers → m ≡ n
+one_matching f g same = λ i. record { proposers = same i; reviewers = reviewers_same f g same i }

@@ -65,19 +65,6 @@ none_at : (n r : ℕ) → held (replicate n None) r ≡ None
 none_at n r =
     ⊎_elim (λ l. get_or-replicate n r None None l) (λ l. get_or_past (replicate n None) r None (let none : Option ℕ = None in let long = length-replicate n none in omega arith)) (cases_lt r n)
 
-pub seat_start : (l : Lists) (places reviewers holders : List (Option ℕ)) → reviewers ≡ replicate (length l.reviewers) None → holders ≡ replicate (length l.reviewers) None → IsSeated l places 0 reviewers holders
-seat_start l places reviewers holders e f =
-    let n : ℕ = length l.reviewers in
-    rw (e, f)
-    (record {
-      places_each = length-replicate n None;
-      holders_each = length-replicate n None;
-      held_by = λ r q h. let none = none_at n r in cc;
-      unheld = λ r h. none_at n r;
-      seated = λ q i lt. absurd (omega arith);
-      untaken = λ q lt. absurd (omega arith);
-    })
-
 module _ {l : Lists} {places reviewers holders : List (Option ℕ)} {p : ℕ} (s : IsSeated l places p reviewers holders) where
   later : (r q : ℕ) → IsSeatedAt l places reviewers p r q → IsSeatedAt l places reviewers (p + 1) r q
   later r q h = record { lower = let lt = h.lower in omega arith; at = h.at; holds = h.holds; there = h.there; place = h.place }

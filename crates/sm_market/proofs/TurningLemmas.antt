@@ -45,26 +45,6 @@ entry_cases P rows b j v inside on new old =
     (set_cases (λ k x. P b k x) (row rows b) j v 0 on new (λ k _. old b k))
     (λ c _. old c)
 
--- marks alone
-unwritten_row : (others : List (List ℕ)) (b : ℕ) → row (unwritten_of others) b ≡ replicate (length (row others b)) UNWRITTEN
-unwritten_row others b =
-    let f : List ℕ → List ℕ = λ list. replicate (length list) UNWRITTEN in
-    ⊎_elim
-    (λ lt. get_or-map f others b [] [] lt)
-    (λ ge. get_or_past (unwritten_of others) b [] (let long = length-map others f in omega arith) ∙ sym (ap f (get_or_past others b [] ge)))
-    (cases_lt b (length others))
-
-pub turning_start : (rows others turned : List (List ℕ)) → turned ≡ unwritten_of others → AreTurned rows others 0 0 turned
-turning_start rows others turned is =
-    rw is
-    (record {
-      one_each = length-map others (λ list. replicate (length list) UNWRITTEN);
-      as_long = λ b. ap length (unwritten_row others b) ∙ length-replicate (length (row others b)) UNWRITTEN;
-      right = λ b j l written. absurd (written (ap (λ list. get_or list j 0) (unwritten_row others b) ∙ get_or-replicate (length (row others b)) j UNWRITTEN 0 l));
-      earlier = λ c i l on. absurd (omega arith);
-      here = λ i l. absurd (omega arith);
-    })
-
 -- what an entry and its cross position tell
 turned_cross : {rows others : List (List ℕ)} (a i : ℕ) → AreSound rows others → i < length (row rows a) → let b = entry rows a i in IsCrossAt rows others b (place_of others b a) i
 turned_cross {rows} {others} a i sound on =
@@ -104,22 +84,6 @@ turning_step {rows} {others} {turned} {a} {i} b j w sound on unmarked is at =
           (cases_lt m i);
     })
 
--- at the end of a list the next one begins
-pub turning_end : {rows others turned : List (List ℕ)} {a : ℕ} → AreTurned rows others a (length (row rows a)) turned → AreTurned rows others (a + 1) 0 turned
-turning_end {rows} {others} {turned} {a} w =
-    record {
-      one_each = w.one_each;
-      as_long = w.as_long;
-      right = w.right;
-      earlier = λ c i l on. ⊎_elim
-          (λ lower. w.earlier c i lower on)
-          (λ le. let last : a ≡ c = omega arith in
-          let Q : ℕ → Type 0 = λ d. i < length (row rows d) → entry turned (entry rows d i) (place_of others (entry rows d i) d) ≢ UNWRITTEN in
-          subst Q last (λ on. w.here i on) on)
-          (cases_lt c a);
-      here = λ i l. absurd (omega arith);
-    }
-
 module _ {rows others turned : List (List ℕ)} {a : ℕ} (w : AreTurned rows others a 0 turned) where
   -- where all are written, all are right
   written_right : AreWritten turned → (b j : ℕ) → j < length (row others b) → IsCrossAt rows others b j (entry turned b j)
@@ -131,19 +95,6 @@ module _ {rows others turned : List (List ℕ)} {a : ℕ} (w : AreTurned rows ot
         one_each = w.one_each;
         as_long = w.as_long;
         places = λ b j on. (written_right all b j on).place;
-      }
-
-  pub turned_sound : AreWritten turned → AreSound others rows
-  turned_sound all =
-      record {
-        sound = λ b j on.
-            let h = written_right all b j on in
-            let p : ℕ = entry others b j in
-            record {
-              in_range = row_in_range rows p (entry turned b j) h.on_list;
-              fresh = λ k l. get_or_before-place_on (row others b) p k (let first = h.first in omega arith);
-              returned = let place = h.place in let on = h.on_list in omega arith;
-            };
       }
 
   -- where the other side is sound, all are written once each list is turned over

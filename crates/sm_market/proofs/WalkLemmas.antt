@@ -24,19 +24,6 @@ pub record IsWalked (rows others : List (List ℕ)) (a i : ℕ) (crosses met : L
   pub met_all : (j : ℕ) → j < i → get_or met (entry rows a j) 0 ≡ a + 1
   pub met_only : (b : ℕ) → get_or met b 0 ≡ a + 1 → IsAmong rows a i b
 
--- nothing is walked yet
-pub walk_start : (rows others : List (List ℕ)) (a : ℕ) (met : List ℕ) → length met ≡ length others → ((b : ℕ) → get_or met b 0 ≤ a) → IsWalked rows others a 0 [] met
-walk_start rows others a met same earlier =
-    record {
-      as_long = refl;
-      one_each = same;
-      places = λ j l. absurd (omega arith);
-      sound = λ j l. absurd (omega arith);
-      latest = λ b. let le = earlier b in omega arith;
-      met_all = λ j l. absurd (omega arith);
-      met_only = λ b e. let le = earlier b in absurd (omega arith);
-    }
-
 module _ {rows others : List (List ℕ)} {a i : ℕ} {crosses met : List ℕ} (w : IsWalked rows others a i crosses met) where
   -- an entry whose agent isn't marked stands there for the first time
   pub fresh_at : get_or met (entry rows a i) 0 ≢ a + 1 → (j : ℕ) → j < i → entry rows a j ≢ entry rows a i

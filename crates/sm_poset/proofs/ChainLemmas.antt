@@ -8,7 +8,7 @@ use Rattle.sm_market.proofs.PairingLemmas.{held_in_range}
 use Rattle.sm_theory.specs.Rotations.{proposer_at, target_at, pair_of, place_after}
 use Rattle.sm_theory.specs.Chains.{rotation_at, stage, IsCompleteChain}
 use Rattle.sm_theory.proofs.CoreCycle.{Moves, moves_at}
-use Rattle.sm_theory.proofs.CoreChain.{up_at, rise}
+use Rattle.sm_theory.proofs.CoreChain.{up_at, rise, way_of}
 use Rattle.sm_theory.proofs.BridgePlaces.{held_map}
 use Rattle.sm_theory.proofs.BridgeRotation.{cycle_of, pair_at_is, after_in}
 use Rattle.sm_theory.proofs.BridgeChain.{chain_of, stage_stable}
@@ -53,8 +53,8 @@ module _ {l : Lists} (h : IsMarket l) {first : Places} {rotations : List (List (
     arith,
     move_stands p j a (omega arith) w,
     move_stands p k b g v,
-    rise (chain_of h chain) p (suc j) k less (omega arith),
-    up_at (chain_of h chain) k p g (moves_of_move p k b v),
+    rise (way_of (chain_of h chain)) p (suc j) k less (omega arith),
+    up_at (way_of (chain_of h chain)) k p g (moves_of_move p k b v),
   )
 
   -- the pair of a proposer of a rotation

@@ -1,4 +1,3 @@
-pub mod HeldLemmas
 pub mod ReadLemmas
 pub mod ChainLemmas
 pub mod MoveLemmas

@@ -15,7 +15,7 @@ use Rattle.sm_theory.specs.Rotations.{target_at, pair_of}
 use Rattle.sm_theory.specs.Chains.{rotation_at, stage, IsCompleteChain, AreNeedsOf}
 use Rattle.sm_theory.specs.ClosedSets.{is_member, IsMember, IsClosed, worst_place, matching_of}
 use Rattle.sm_theory.proofs.CoreCycle.{Moves}
-use Rattle.sm_theory.proofs.CoreChain.{upper, up_at, IsOf}
+use Rattle.sm_theory.proofs.CoreChain.{upper, up_at, IsOf, way_of}
 use Rattle.sm_theory.proofs.BridgeRotation.{cycle_of}
 use Rattle.sm_theory.proofs.BridgeChain.{chain_of, closed_of, Decided-member}
 use Rattle.sm_theory.proofs.BridgePlaces.{row_past}
@@ -162,7 +162,7 @@ pub member_where : {l : Lists} (h : IsMarket l) {first : Places} {rotations : Li
 member_where {l} h {first} {rotations} chain {m} set closed is p k i g w = elim (Decided-member set k) [
   | inl member ↦ le-leb i (standing l.proposers m.proposers p) (omega (arith, of.reach p k g member mv, move_stands h chain p k i g w)) ∙ sym member
   | inr out ↦
-      lt-leb i (standing l.proposers m.proposers p) (omega (arith, upper (chain_of h chain) (closed_of h closed) of k p g out mv, up_at (chain_of h chain) k p g mv, move_stands h chain p k i g w))
+      lt-leb i (standing l.proposers m.proposers p) (omega (arith, upper (way_of (chain_of h chain)) (closed_of h closed) of k p g out mv, up_at (way_of (chain_of h chain)) k p g mv, move_stands h chain p k i g w))
       ∙ sym (is_false (is_member set k) out)
 ]
   where

@@ -67,9 +67,9 @@ places_fall {l} {m} {n} x h s y e =
     let el = elim_of h s.matching y in
     let more = elim_stable hm z el in
     let p : ℕ = proposer_at x 0 in
-    let down : standing l.proposers m.proposers p < standing l.proposers (eliminated l m x).proposers p = goes_down hm z el 0 y.not_empty in
+    let down : standing l.proposers m.proposers p < standing l.proposers (eliminated l m x).proposers p = goes_down hm.fit z el 0 y.not_empty in
     let inside : p < length l.proposers = elim (lt_or_le p (length l.proposers)) [ inl k ↦ k | inr k ↦ absurd (omega (arith, (sides_of l h).left.few p k, (z.paired 0 y.not_empty).matched)) ] in
-    let less = sums_less (standing l.proposers m.proposers) (standing l.proposers (eliminated l m x).proposers) (length l.proposers) p (λ q. never_up hm z el q) inside down in
+    let less = sums_less (standing l.proposers m.proposers) (standing l.proposers (eliminated l m x).proposers) (length l.proposers) p (λ q. never_up hm.fit z el q) inside down in
     let fits = sums_le (standing l.proposers (eliminated l m x).proposers) (λ p. length (row l.proposers p)) (length l.proposers) (λ q. more.fit.left.within q) in
     rw e (omega arith)
 

@@ -3,14 +3,14 @@ use Rattle.std.proofs.Common.{◌≡◌, ℕ, zero, suc, ◌+◌, ◌<◌, ◌�
 use Rattle.std.specs.List.{sum_by}
 use Rattle.std.proofs.lemmas.List.Sums.{sum_by_more, sum_by-take-le}
 use Rattle.sm_market.specs.Lists.{Lists, row, IsMarket}
-use Rattle.sm_market.specs.Matching.{Places}
+use Rattle.sm_market.specs.Matching.{Places, IsMatching}
 use Rattle.sm_market.specs.Limits.{IsWithinLimits}
 use Rattle.sm_lists.proofs.Counting.{lt_or_le, eq_or_ne}
 use Rattle.sm_market.proofs.Core.{Sides, Stand}
-use Rattle.sm_theory.specs.Chains.{IsCompleteChain}
+use Rattle.sm_theory.specs.Chains.{AreEliminable, IsCompleteChain}
 use Rattle.sm_theory.proofs.CoreCycle.{Cycle, moves_at}
-use Rattle.sm_theory.proofs.CoreChain.{Chain, rise, up_at}
-use Rattle.sm_theory.proofs.BridgeChain.{chain_of}
+use Rattle.sm_theory.proofs.CoreChain.{Way, rise, up_at}
+use Rattle.sm_theory.proofs.BridgeChain.{way_along, eliminable_of}
 
 -- the sum of the first n values
 pub sum_below : (ℕ → ℕ) → ℕ → ℕ
@@ -47,7 +47,7 @@ sum_of_lengths rows n fits = omega (arith, part n fits, sum_by-take-le (λ (list
         let more' : sum_by (λ list. length list) (take (suc n) rows) ≡ sum_by (λ list. length list) (take n rows) + length (row rows n) = rw e at more in
         omega (arith, sum_below-suc (λ p. length (row rows p)) n, part n (omega arith))
 
-module _ {s : Sides} {t : ℕ} {M : ℕ → Stand} {c : ℕ → Cycle} (ch : Chain s t M c) where
+module _ {s : Sides} {t : ℕ} {M : ℕ → Stand} {c : ℕ → Cycle} (ch : Way s t M c) where
   stage_sum : (k : ℕ) → k ≤ t → k ≤ sum_below ((M k).a) s.bound
   stage_sum zero h = omega arith
   stage_sum (suc k) h =
@@ -58,9 +58,12 @@ module _ {s : Sides} {t : ℕ} {M : ℕ → Stand} {c : ℕ → Cycle} (ch : Cha
       omega (arith, stage_sum k (omega arith), sums_less ((M k).a) ((M (suc k)).a) s.bound p (λ q. rise ch q k (suc k) (omega arith) h) inside (up_at ch k p (omega arith) (moves_at (c k) 0 some)))
 
   pub chain_short : t ≤ sum_below s.len s.bound
-  chain_short = omega (arith, stage_sum t (omega arith), sums_le ((M t).a) s.len s.bound (λ p. (ch.stable t (omega arith)).fit.left.within p))
+  chain_short = omega (arith, stage_sum t (omega arith), sums_le ((M t).a) s.len s.bound (λ p. (ch.fit t (omega arith)).left.within p))
+
+pub few_eliminable : {l : Lists} {first : Places} {rotations : List (List (ℕ × ℕ))} → IsMarket l → IsWithinLimits l → IsMatching l first → AreEliminable l first rotations → length rotations < 2 ^ 24
+few_eliminable {l} {first} {rotations} h limits f chain =
+    let short : length rotations ≤ sum_below (λ p. length (row l.proposers p)) (length l.proposers) = chain_short (way_along h f chain) in
+    omega (arith, sum_of_lengths l.proposers (length l.proposers) (omega arith), limits.proposers.entries)
 
 pub few_rotations : {l : Lists} {first : Places} {rotations : List (List (ℕ × ℕ))} → IsMarket l → IsWithinLimits l → IsCompleteChain l first rotations → length rotations < 2 ^ 24
-few_rotations {l} {first} {rotations} h limits chain =
-    let short : length rotations ≤ sum_below (λ p. length (row l.proposers p)) (length l.proposers) = chain_short (chain_of h chain) in
-    omega (arith, sum_of_lengths l.proposers (length l.proposers) (omega arith), limits.proposers.entries)
+few_rotations h limits chain = few_eliminable h limits chain.from_best.stable.matching (eliminable_of chain)

@@ -35,10 +35,10 @@ front_left {l} h {m} s {ends} {pairs} f x = record {
     new_on r k e = (eliminated_stable h s x).matching.reviewers.on_list r k e
 
     less : (r : ℕ) → standing l.reviewers (eliminated l m pairs).reviewers r ≤ standing l.reviewers m.reviewers r
-    less r = never_worse (stable_of h s) (exposed_of h s.matching x) (elim_of h s.matching x) r
+    less r = never_worse (stable_of h s).fit (exposed_of h s.matching x) (elim_of h s.matching x) r
 
     still : (r : ℕ) → ((i : ℕ) → i < length pairs → reviewer_at pairs i ≡ r → ⊥) → standing l.reviewers (eliminated l m pairs).reviewers r ≡ standing l.reviewers m.reviewers r
-    still r none = keeps (stable_of h s) (exposed_of h s.matching x) (elim_of h s.matching x) r none
+    still r none = keeps (stable_of h s).fit (exposed_of h s.matching x) (elim_of h s.matching x) r none
 
     old_matched : (r i : ℕ) → i < length pairs → reviewer_at pairs i ≡ r → standing l.reviewers m.reviewers r < length (row l.reviewers r)
     old_matched r i a is = rw is at (((exposed_of h s.matching x).paired i a).matched')

@@ -19,13 +19,14 @@ use Rattle.sm_theory.proofs.LinkLemmas.{exposed_of_links, successor_named}
 use Rattle.sm_rotations.specs.Following.{IsStep, IsWalk, IsRotationFrom, IsInNone}
 
 module _ {l : Lists} (h : IsMarket l) {m : Places} (f : IsMatching l m) where
-  pair_of_held : (p r : ℕ) → held m.proposers p ≡ Some (place_of l.proposers p r) → Pair (sides_of l h) (stand_of l m) p r
+  -- whom p holds, as a pair, and its successor
+  pub pair_of_held : (p r : ℕ) → held m.proposers p ≡ Some (place_of l.proposers p r) → Pair (sides_of l h) (stand_of l m) p r
   pair_of_held p r e =
       let at = standing-some l.proposers m.proposers p (place_of l.proposers p r) e in
       let on = f.proposers.on_list p (place_of l.proposers p r) e in
       pair_at p r (fit_of h f) (omega arith) (sym at)
 
-  succ_at : (p r : ℕ) → IsSuccessor l m p (place_of l.proposers p r) → Succ (sides_of l h) (stand_of l m) p r
+  pub succ_at : (p r : ℕ) → IsSuccessor l m p (place_of l.proposers p r) → Succ (sides_of l h) (stand_of l m) p r
   succ_at p r x = rw (entry-place_of l.proposers p r x.on_list) at (succ_of h f p (place_of l.proposers p r) x)
 
   -- a step along a rotation
@@ -176,16 +177,6 @@ module _ {l : Lists} (h : IsMarket l) {m : Places} (f : IsMatching l m) where
 
         links : (k : ℕ) → k < length (pairs ++ (q, r) ∷ []) → IsLink l m (proposer_at (pairs ++ (q, r) ∷ []) k) (reviewer_at (pairs ++ (q, r) ∷ []) k) (target_at (pairs ++ (q, r) ∷ []) k)
         links k less = link_of_steps (step_at k (omega (arith, long))) (step_at (next_in (pairs ++ (q, r) ∷ []) k) (omega (arith, long, turn_in (length (pairs ++ (q, r) ∷ [])) k less)))
-
-pub walk_start : (l : Lists) (m : Places) (p : ℕ) → IsWalk l m p [] p
-walk_start l m p = record {
-  empty = λ _. refl;
-  first = λ less. absurd (omega arith);
-  steps = λ k less. absurd (omega arith);
-  last = λ k e. absurd (omega arith);
-  away = λ k pos less. absurd (omega arith);
-  still_away = λ less. absurd (omega arith);
-}
 
 -- a step as it is read
 pub step_read : {l : Lists} {m : Paired} (p place i q : ℕ) → IsMarket l → IsPairingOf l m → held m.places.proposers p ≡ Some place → IsSuccessor l m.places p i → held m.holders (entry l.proposers p i) ≡ Some q

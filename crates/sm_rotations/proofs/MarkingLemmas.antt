@@ -16,78 +16,9 @@ module _ (marks : List (List (Option ℕ))) (p x j : ℕ) (in_range : p < length
   abbrev one_more : List (List (Option ℕ))
   one_more = set marks p (set (marks_of marks p) x (Some j))
 
-  row_here : marks_of one_more p ≡ set (marks_of marks p) x (Some j)
-  row_here = get_or-set_same marks p (set (marks_of marks p) x (Some j)) [] in_range
-
-  row_other : (q : ℕ) → q ≢ p → marks_of one_more q ≡ marks_of marks q
-  row_other q ne = get_or-set_other marks p q (set (marks_of marks p) x (Some j)) [] ne
-
-  pub set_here : mark_at one_more p x ≡ Some j
-  set_here = ap (λ marks. note_of marks x) row_here ∙ get_or-set_same (marks_of marks p) x (Some j) None on
-
-  pub set_elsewhere : (q y : ℕ) → (q ≢ p) ⊎ (y ≢ x) → mark_at one_more q y ≡ mark_at marks q y
-  set_elsewhere q y (inl ne) = ap (λ marks. note_of marks y) (row_other q ne)
-  set_elsewhere q y (inr ne) = elim (eq_or_ne q p) [
-    | inr other ↦ ap (λ marks. note_of marks y) (row_other q other)
-    | inl e ↦ rw e (ap (λ marks. note_of marks y) row_here ∙ get_or-set_other (marks_of marks p) x y (Some j) None ne)
-  ]
-
-  pub set_long : (q : ℕ) → length (marks_of one_more q) ≡ length (marks_of marks q)
-  set_long q = elim (eq_or_ne q p) [
-    | inr other ↦ ap length (row_other q other)
-    | inl e ↦ rw e (ap length row_here ∙ length-set (marks_of marks p) x (Some j))
-  ]
-
-  pub set_for_entries : {l : Lists} → AreMarksFor l marks → AreMarksFor l one_more
-  set_for_entries f = record { one_each = length-set marks p (set (marks_of marks p) x (Some j)) ∙ f.one_each; as_long = λ q. set_long q ∙ f.as_long q }
-
-  set_cases_at : (q y : ℕ) → ((q ≡ p) × (y ≡ x)) ⊎ ((q ≢ p) ⊎ (y ≢ x))
-  set_cases_at q y = elim (eq_or_ne q p) [
-    | inr ne ↦ inr (inl ne)
-    | inl e ↦ elim (eq_or_ne y x) [ inr ne ↦ inr (inr ne) | inl f ↦ inl (e, f) ]
-  ]
-
 module _ {l : Lists} (h : IsMarket l) where
   returns_to : (r k : ℕ) → k < length (row l.reviewers r) → let p = entry l.reviewers r k in place_of l.proposers p r < length (row l.proposers p)
   returns_to r k on = h.reviewers.returned r k on
-
-  span_wider : {r better k p x : ℕ} → IsSpan l r better k p x → IsSpan l r better (k + 1) p x
-  span_wider w = record { place = w.place; behind = w.behind; before = omega (arith, w.before); proposer = w.proposer; at = w.at }
-
-  pub span_more : {r better k j : ℕ} {before marks : List (List (Option ℕ))} → IsSpanMarked l r better k j before marks → better < k → k < length (row l.reviewers r)
-      → let p = entry l.reviewers r k in IsSpanMarked l r better (k + 1) j before (set marks p (set (marks_of marks p) (place_of l.proposers p r) (Some j)))
-  span_more {r} {better} {k} {j} {before} {marks} m low on =
-      let p : ℕ = entry l.reviewers r k in
-      let x : ℕ = place_of l.proposers p r in
-      let in_range : p < length marks = omega (arith, m.for_entries.one_each, h.reviewers.in_range r k on) in
-      let here : x < length (marks_of marks p) = omega (arith, m.for_entries.as_long p, returns_to r k on) in
-      record {
-        for_entries = set_for_entries marks p x j in_range here m.for_entries;
-        marked = λ q y w. elim (set_cases_at marks p x j in_range here q y) [
-          | inl e ↦ rw (e.0, e.1) (set_here marks p x j in_range here)
-          | inr ne ↦ set_elsewhere marks p x j in_range here q y ne ∙ m.marked q y (record {
-            place = w.place;
-            behind = w.behind;
-            proposer = w.proposer;
-            at = w.at;
-            before = elim (eq_or_ne w.place k) [
-              | inr other ↦ omega (arith, w.before)
-              | inl same ↦ absurd (elsewhere q y w same ne)
-            ];
-          })
-        ];
-        only = λ q y. elim (set_cases_at marks p x j in_range here q y) [
-          | inl e ↦ inr (rw (e.0, e.1) (set_here marks p x j in_range here), record { place = k; behind = low; before = omega arith; proposer = e.0; at = e.1 ∙ ap (λ p. place_of l.proposers p r) (sym e.0) })
-          | inr ne ↦ elim (m.only q y) [
-            | inl same ↦ inl (set_elsewhere marks p x j in_range here q y ne ∙ same)
-            | inr w ↦ inr (set_elsewhere marks p x j in_range here q y ne ∙ w.0, span_wider w.1)
-          ]
-        ];
-      }
-    where
-      elsewhere : (q y : ℕ) (w : IsSpan l r better (k + 1) q y) → w.place ≡ k → (q ≢ entry l.reviewers r k) ⊎ (y ≢ place_of l.proposers (entry l.reviewers r k) r) → ⊥
-      elsewhere q y w same (inl ne) = ne (w.proposer ∙ ap (entry l.reviewers r) same)
-      elsewhere q y w same (inr ne) = ne (w.at ∙ ap (λ p. place_of l.proposers p r) (w.proposer ∙ ap (entry l.reviewers r) same))
 
   -- the entries over which one pair moves its reviewer are a span
   over_of_span : (rotation : List (ℕ × ℕ)) (i : ℕ) {better old p x : ℕ} → let r = target_at rotation i in

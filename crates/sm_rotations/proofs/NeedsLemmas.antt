@@ -10,7 +10,7 @@ use Rattle.sm_lists.proofs.Counting.{lt_or_le}
 use Rattle.sm_market.proofs.PairingLemmas.{held_in_range}
 use Rattle.sm_lists.proofs.PlaceLemmas.{entry-place_of}
 use Rattle.sm_theory.specs.Rotations.{IsExposed, proposer_at, reviewer_at, target_at, next_in, eliminated}
-use Rattle.sm_theory.specs.Chains.{rotation_at, stage, IsCompleteChain}
+use Rattle.sm_theory.specs.Chains.{rotation_at, stage, AreEliminable}
 use Rattle.sm_theory.specs.Values.{rotations_of}
 use Rattle.sm_theory.specs.declared.rotations.Rotation.{Rotation}
 use Rattle.sm_theory.proofs.CoreCycle.{turn, turn_in}
@@ -84,7 +84,7 @@ module _ {l : Lists} (h : IsMarket l) {m : Places} {pairs : List (ℕ × ℕ)} (
         rw (target_is, ← r_is, target_is, is) takes
 
 -- a stage and the rotation exposed at it
-module _ {l : Lists} {first m : Places} {rotations : List (List (ℕ × ℕ))} (chain : IsCompleteChain l first rotations) {j : ℕ} (inside : j < length rotations) (is : m ≡ stage l first rotations j) where
+module _ {l : Lists} {first m : Places} {rotations : List (List (ℕ × ℕ))} (chain : AreEliminable l first rotations) {j : ℕ} (inside : j < length rotations) (is : m ≡ stage l first rotations j) where
   pub exposed_here : (pairs : List (ℕ × ℕ)) → pairs ≡ rotation_at rotations j → IsExposed l m pairs
   exposed_here pairs e = rw (is, e) (chain.exposed j inside)
 

@@ -9,7 +9,7 @@ use Rattle.sm_market.proofs.Bridge.{stable_equal}
 use Rattle.sm_theory.specs.Rotations.{proposer_at, IsExposed, eliminated}
 use Rattle.sm_theory.proofs.CoreCycle.{Cycle, target, Exposed, Moves, moves_or_not, moves_at, Among, same_cycle, succ_unique}
 use Rattle.sm_theory.proofs.CoreRotation.{Elim, eliminate, Elim-eliminate, elim_stable, goes_down, never_up}
-use Rattle.sm_theory.proofs.CoreChain.{Chain, Needs, up_at, rise, needs_lower, upper}
+use Rattle.sm_theory.proofs.CoreChain.{Chain, Needs, up_at, rise, needs_lower, upper, way_of}
 use Rattle.sm_theory.proofs.CoreExposure.{exposed_there, same_before}
 use Rattle.sm_theory.proofs.CoreClosed.{of_more}
 use Rattle.sm_theory.proofs.CoreCorrespondence.{Reaches, Decided-reaches, reaches_of, reaches_closed, exposed_out, exposed_ready}
@@ -39,7 +39,7 @@ same_elimination h s x y i j a b same = stable_equal h (eliminated_stable h s x)
 module _ {s : Sides} {t : ℕ} {M : ℕ → Stand} {c : ℕ → Cycle} (ch : Chain s t M c) where
   -- a rotation is reached where one of its proposers does worse than before it
   pub reached_by : {n : Stand} (hn : Stable s n) (k p : ℕ) → k < t → Moves (c k) p → (M k).a p < n.a p → Reaches ch n k
-  reached_by hn k p h mv less = by_contradiction (Decided-reaches ch hn k) (λ out. omega (arith, upper ch (reaches_closed ch hn) (reaches_of ch hn) k p h out mv))
+  reached_by hn k p h mv less = by_contradiction (Decided-reaches ch hn k) (λ out. omega (arith, upper (way_of ch) (reaches_closed ch hn) (reaches_of ch hn) k p h out mv))
 
   -- what is exposed isn't reached, and all that it needs is
   pub exposed_is_ready : {n : Stand} (hn : Stable s n) (k : ℕ) → k < t → Exposed s n (c k) → (Reaches ch n k → ⊥) × ((i : ℕ) → i < t → Needs s (c i) (c k) → Reaches ch n i)
@@ -57,7 +57,7 @@ module _ {s : Sides} {t : ℕ} {M : ℕ → Stand} {c : ℕ → Cycle} (ch : Cha
     still_reached j g r =
         let p : ℕ = (c j).who 0 in
         let mv = moves_at (c j) 0 (ch.exposed j g).some in
-        reached_by hm j p g mv (omega (arith, (reaches_of ch hn).reach p j g r mv, never_up hn x e p, up_at ch j p g mv))
+        reached_by hm j p g mv (omega (arith, (reaches_of ch hn).reach p j g r mv, never_up hn.fit x e p, up_at (way_of ch) j p g mv))
 
     after_k : (p : ℕ) (w : Moves (c k) p) → m.a p ≡ (M (suc k)).a p
     after_k p w =
@@ -75,18 +75,18 @@ module _ {s : Sides} {t : ℕ} {M : ℕ → Stand} {c : ℕ → Cycle} (ch : Cha
     now_reached =
         let p : ℕ = (c k).who 0 in
         let mv = moves_at (c k) 0 x.some in
-        reached_by hm k p h mv (omega (arith, after_k p mv, up_at ch k p h mv))
+        reached_by hm k p h mv (omega (arith, after_k p mv, up_at (way_of ch) k p h mv))
 
     pub no_other : (j : ℕ) → j < t → j ≢ k → Reaches ch m j → Reaches ch n j
     no_other j g ne r =
         let p : ℕ = (c j).who 0 in
         let mv = moves_at (c j) 0 (ch.exposed j g).some in
         let low = (reaches_of ch hm).reach p j g r mv in
-        let up = up_at ch j p g mv in
+        let up = up_at (way_of ch) j p g mv in
         elim (moves_or_not (c k) p) [
           | inr none ↦ reached_by hn j p g mv (omega (arith, low, up, e.still p none))
           | inl w ↦ elim (lt_or_le j k) [
-            | inl less ↦ reached_by hn j p g mv (omega (arith, up, before_k p w, rise ch p (suc j) k less (omega arith)))
-            | inr more ↦ absurd (omega (arith, low, up, after_k p w, rise ch p (suc k) j (omega arith) (omega arith)))
+            | inl less ↦ reached_by hn j p g mv (omega (arith, up, before_k p w, rise (way_of ch) p (suc j) k less (omega arith)))
+            | inr more ↦ absurd (omega (arith, low, up, after_k p w, rise (way_of ch) p (suc k) j (omega arith) (omega arith)))
           ]
         ]

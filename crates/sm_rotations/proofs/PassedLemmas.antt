@@ -9,7 +9,7 @@ use Rattle.sm_market.proofs.Bridge.{stand_of, stable_of}
 use Rattle.sm_theory.specs.Rotations.{proposer_at, IsExposed, eliminated}
 use Rattle.sm_theory.specs.Chains.{rotation_at, stage, IsCompleteChain, IsNeededBy}
 use Rattle.sm_theory.proofs.CoreCycle.{moves_at}
-use Rattle.sm_theory.proofs.CoreChain.{up_at, rise, needs_lower}
+use Rattle.sm_theory.proofs.CoreChain.{up_at, rise, needs_lower, way_of}
 use Rattle.sm_theory.proofs.CoreCorrespondence.{Reaches, reaches_of, reaches_closed}
 use Rattle.sm_theory.proofs.BridgeRotation.{cycle_of, exposed_of, exposed_back, elim_of, eliminated_stable}
 use Rattle.sm_theory.proofs.BridgeChain.{chain_of, needs_of, needs_back}
@@ -37,7 +37,7 @@ module _ {l : Lists} (h : IsMarket l) {first : Places} {rotations : List (List (
       let p : ℕ = proposer_at (rotation_at rotations k) 0 in
       let mv = moves_at (cycle_of (rotation_at rotations k)) 0 (chain.exposed k g).not_empty in
       let le = leb-true (standing l.proposers (stage l first rotations (suc k)).proposers p) (standing l.proposers m.proposers p) e in
-      reached_by (chain_of h chain) (stable_of h s) k p g mv (omega (arith, le, up_at (chain_of h chain) k p g mv))
+      reached_by (chain_of h chain) (stable_of h s) k p g mv (omega (arith, le, up_at (way_of (chain_of h chain)) k p g mv))
 
   of_reached : {m : Places} → IsStable l m → (k : ℕ) → k < length rotations → Reaches (chain_of h chain) (stand_of l m) k → IsPassed l first rotations m k
   of_reached {m} s k g r =
@@ -51,7 +51,7 @@ module _ {l : Lists} (h : IsMarket l) {first : Places} {rotations : List (List (
       let ch = chain_of h chain in
       let p : ℕ = proposer_at (rotation_at rotations k) 0 in
       let le = leb-true (standing l.proposers (stage l first rotations (suc k)).proposers p) (standing l.proposers first.proposers p) e in
-      omega (arith, le, up_at ch k p g (moves_at (cycle_of (rotation_at rotations k)) 0 (chain.exposed k g).not_empty), rise ch p 0 k (omega arith) (omega arith))
+      omega (arith, le, up_at (way_of ch) k p g (moves_at (cycle_of (rotation_at rotations k)) 0 (chain.exposed k g).not_empty), rise (way_of ch) p 0 k (omega arith) (omega arith))
 
   module _ {m : Places} (s : IsStable l m) where
     -- what is passed has all its needs passed
@@ -86,7 +86,7 @@ module _ {l : Lists} (h : IsMarket l) {first : Places} {rotations : List (List (
     all_passed none k g = elim (search_below (length rotations) (λ k. ¬ IsPassed l first rotations m k) (λ k _. Decided-not (Decided-true (is_passed l first rotations m k)))) [
       | inr all ↦ by_contradiction (Decided-true (is_passed l first rotations m k)) (all k g)
       | inl w ↦ absurd (none w.at w.below w.holds (λ i a need. by_contradiction (Decided-true (is_passed l first rotations m i))
-          (w.earlier i (needs_lower (chain_of h chain) i w.at a w.below (needs_of h need)))))
+          (w.earlier i (needs_lower (way_of (chain_of h chain)) i w.at a w.below (needs_of h need)))))
     ]
 
     -- eliminating one of the chain's rotations passes that one in addition, and no other

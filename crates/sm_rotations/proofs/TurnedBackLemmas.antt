@@ -92,10 +92,6 @@ module _ {i e j : ℕ} (followers : List ℕ) {before lists : List (List ℕ)} (
         | inr none ↦ absurd (last_lower (row before j) i (lower j) (ap last_of (sym (f.others j (omega arith))) ∙ closed))
       ]
 
--- only lower numbers stand on the lists before the turn of i
-pub lower_before : {followers needs : List (List ℕ)} {i : ℕ} → AreTurnedBack followers i needs → (j a : ℕ) → a < length (row needs j) → slice_index_or (row needs j) a 0 < i
-lower_before w j a inside = ((w.each j).sound a inside).0
-
 -- a rising list that goes on with a higher number
 rising_push : {P Q : ℕ → Type 0} {list : List ℕ} (i : ℕ) → IsRisingListOf P list → ((k : ℕ) → P k → k < i) → ((k : ℕ) → P k → Q k) → Q i → ((k : ℕ) → Q k → k ≢ i → P k) → IsRisingListOf Q (list ++ i ∷ [])
 rising_push {P} {Q} {list} i f low forth here back = record {

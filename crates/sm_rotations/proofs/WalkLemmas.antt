@@ -13,18 +13,10 @@ use Rattle.sm_theory.proofs.CoreCycle.{Succ, turn_last, turn_more}
 use Rattle.sm_theory.proofs.CoreRotation.{goes_down, never_up, keeps, never_worse, elim_fit}
 use Rattle.sm_theory.proofs.CoreDichotomy.{step, step_on}
 use Rattle.sm_theory.proofs.BridgeRotation.{succ_of, succ_back, exposed_of, elim_of, eliminated_stable}
+use Rattle.sm_rotations.proofs.FollowingLemmas.{pair_of_held, succ_at}
 use Rattle.sm_rotations.specs.Walking.{IsNext, IsAtWorst, IsStack, ArePairsOf, spot_of}
 
 module _ {l : Lists} (h : IsMarket l) {m : Places} (s : IsStable l m) where
-  pair_of_held : (p r : ℕ) → held m.proposers p ≡ Some (place_of l.proposers p r) → Pair (sides_of l h) (stand_of l m) p r
-  pair_of_held p r e =
-      let at = standing-some l.proposers m.proposers p (place_of l.proposers p r) e in
-      let on = s.matching.proposers.on_list p (place_of l.proposers p r) e in
-      pair_at p r (fit_of h s.matching) (omega arith) (sym at)
-
-  succ_at : (p r : ℕ) → IsSuccessor l m p (place_of l.proposers p r) → Succ (sides_of l h) (stand_of l m) p r
-  succ_at p r x = rw (entry-place_of l.proposers p r x.on_list) at (succ_of h s.matching p (place_of l.proposers p r) x)
-
   -- a proposer is finished where it has no successor, or where the one that has its successor is finished
   pub worst_at_end : (p : ℕ) → ((i : ℕ) → ¬ IsSuccessor l m p i) → IsAtWorst l m p
   worst_at_end p none = record {
@@ -39,14 +31,14 @@ module _ {l : Lists} (h : IsMarket l) {m : Places} (s : IsStable l m) where
     worst = λ n sn. elim (lt_or_le (standing l.proposers m.proposers p) (standing l.proposers n.proposers p)) [
       | inr k ↦ k
       | inl k ↦
-          let more = step_on (stable_of h s) (stable_of h sn) (succ_at p x.target x.next) (pair_of_held q x.target x.has) k in
+          let more = step_on (stable_of h s) (stable_of h sn) (succ_at h s.matching p x.target x.next) (pair_of_held h s.matching q x.target x.has) k in
           absurd (omega (arith, more, w.worst n sn))
     ];
   }
 
   module _ {rotation : List (ℕ × ℕ)} (x : IsExposed l m rotation) where
     pub worst_kept : (p : ℕ) → IsAtWorst l m p → IsAtWorst l (eliminated l m rotation) p
-    worst_kept p w = record { worst = λ n sn. omega (arith, w.worst n sn, never_up (stable_of h s) (exposed_of h s.matching x) (elim_of h s.matching x) p) }
+    worst_kept p w = record { worst = λ n sn. omega (arith, w.worst n sn, never_up (stable_of h s).fit (exposed_of h s.matching x) (elim_of h s.matching x) p) }
 
     -- whom a rotation leaves alone keeps its successor, where it leaves that one's proposer alone too
     pub next_kept : (p q : ℕ) → ((i : ℕ) → i < length rotation → proposer_at rotation i ≡ p → ⊥) → ((i : ℕ) → i < length rotation → proposer_at rotation i ≡ q → ⊥) → IsNext l m p q → IsNext l (eliminated l m rotation) p q
@@ -55,17 +47,17 @@ module _ {l : Lists} (h : IsMarket l) {m : Places} (s : IsStable l m) where
         let z = exposed_of h s.matching x in
         let e = elim_of h s.matching x in
         let t : ℕ = w.target in
-        let old = succ_at p t w.next in
-        let pair = pair_of_held q t w.has in
-        let fit = elim_fit hm z e in
-        let still : standing l.reviewers (eliminated l m rotation).reviewers t ≡ standing l.reviewers m.reviewers t = keeps hm z e t (λ i less is. no_q i less (one_proposer (rw is at (z.paired i less)) pair)) in
+        let old = succ_at h s.matching p t w.next in
+        let pair = pair_of_held h s.matching q t w.has in
+        let fit = elim_fit hm.fit z e in
+        let still : standing l.reviewers (eliminated l m rotation).reviewers t ≡ standing l.reviewers m.reviewers t = keeps hm.fit z e t (λ i less is. no_q i less (one_proposer (rw is at (z.paired i less)) pair)) in
         let same : standing l.proposers (eliminated l m rotation).proposers p ≡ standing l.proposers m.proposers p = e.still p no_p in
         let same' : standing l.proposers (eliminated l m rotation).proposers q ≡ standing l.proposers m.proposers q = e.still q no_q in
         let new : Succ (sides_of l h) (stand_of l (eliminated l m rotation)) p t = record {
           on = old.on;
           behind = omega (arith, old.behind);
           takes = omega (arith, old.takes);
-          first = λ r a b. omega (arith, old.first r (omega (arith, a)) b, never_worse hm z e r);
+          first = λ r a b. omega (arith, old.first r (omega (arith, a)) b, never_worse hm.fit z e r);
           matched = omega (arith, old.matched);
         } in
         let pair' = pair_at q t fit (omega (arith, pair.matched)) (pair.place_is ∙ sym same') in
@@ -78,7 +70,7 @@ module _ {l : Lists} (h : IsMarket l) {m : Places} (s : IsStable l m) where
   -- where all are finished nothing is exposed
   pub all_worst : ((p : ℕ) → IsAtWorst l m p) → (rotation : List (ℕ × ℕ)) → ¬ IsExposed l m rotation
   all_worst w rotation x =
-      let down = goes_down (stable_of h s) (exposed_of h s.matching x) (elim_of h s.matching x) 0 x.not_empty in
+      let down = goes_down (stable_of h s).fit (exposed_of h s.matching x) (elim_of h s.matching x) 0 x.not_empty in
       omega (arith, down, (w (proposer_at rotation 0)).worst (eliminated l m rotation) (eliminated_stable h s x))
 
   -- where the top of the stack leads back to it, the pairs from there on are exposed
@@ -100,7 +92,7 @@ module _ {l : Lists} (h : IsMarket l) {m : Places} (s : IsStable l m) where
 
       onto : (i j : ℕ) → i < length pairs → j < length pairs → IsNext l m (proposer_at pairs i) (proposer_at pairs j) → IsSuccessor l m (proposer_at pairs i) (place_of l.proposers (proposer_at pairs i) (reviewer_at pairs j))
       onto i j g g' w =
-          let same : w.target ≡ reviewer_at pairs j = one_reviewer (pair_of_held (proposer_at pairs j) w.target w.has) (pair_of_held (proposer_at pairs j) (reviewer_at pairs j) (a.paired j g')) in
+          let same : w.target ≡ reviewer_at pairs j = one_reviewer (pair_of_held h s.matching (proposer_at pairs j) w.target w.has) (pair_of_held h s.matching (proposer_at pairs j) (reviewer_at pairs j) (a.paired j g')) in
           rw same at w.next
 
       leads : (i j : ℕ) → i < length pairs → j < length pairs → IsNext l m (slice_index stack (from + i)) (slice_index stack (from + j)) → IsNext l m (proposer_at pairs i) (proposer_at pairs j)

@@ -24,6 +24,17 @@ pub fn eliminate(market: &Market, m: &mut Pairing, rotation: &Rotation)
     ensures moved { m.new.places ≡ eliminated market.now m.old.places rotation.now.pairs.items }
     ensures stable { IsStable market.now m.new.places }
 {
+    move_round(market, m, rotation);
+}
+
+/// The same of a pairing that needn't be stable.
+pub(crate) fn move_round(market: &Market, m: &mut Pairing, rotation: &Rotation)
+    requires made { IsPairingOf market.now m.old }
+    requires exposed { IsExposed market.now m.old.places rotation.now.pairs.items }
+    ensures made { IsPairingOf market.now m.new }
+    ensures moved { m.new.places ≡ eliminated market.now m.old.places rotation.now.pairs.items }
+    ensures market { IsMarket market.now }
+{
     prove!(market.proposers() < 1 << 24);
     m.turn(market, &rotation.pairs);
 }

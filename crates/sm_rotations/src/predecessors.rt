@@ -9,11 +9,11 @@ ghost use Rattle.sm_market.specs.Lists.{row, entry, place_of, IsMarket};
 ghost use Rattle.sm_market.specs.Vectors.{rows_of};
 ghost use Rattle.sm_market.specs.Pairing.{IsPairingOf};
 ghost use Rattle.sm_theory.specs.Rotations.{IsExposed, proposer_at, reviewer_at, target_at};
-ghost use Rattle.sm_theory.specs.Chains.{IsCompleteChain, AreNeedsOf};
+ghost use Rattle.sm_theory.specs.Chains.{AreEliminable, AreNeedsOf};
 ghost use Rattle.sm_theory.specs.Values.{rotations_of};
 ghost use Rattle.sm_rotations.specs.Marking.{marks_in, marks_of, mark_at, note_of, AreMarksFor, AreMoved, AreMarked, IsSpanMarked, IsBetween, IsFound, Adds};
 
-use crate::elimination::eliminate;
+use crate::elimination::move_round;
 use crate::graph::{empty_lists, follow, needs_by_followers};
 use sm_market::{Market, Pairing};
 use sm_theory::{Chain, successor};
@@ -27,13 +27,14 @@ struct Move {
     to: u32,
 }
 
-/// For each rotation of a complete chain the numbers of its predecessors, rising.
+/// For each rotation of a chain the numbers of its predecessors, rising.
 ///
 /// There are two kinds. A rotation that moves a proposer from a reviewer needs the one that moved it there. A rotation
 /// that moves a proposer past a reviewer of its list needs the one that moved that reviewer from somebody worse than the
 /// proposer to somebody better (Gusfield and Irving 1989, chapter 3, in a form of this project's own).
 ///
-/// Rotations are numbered from 0. Any complete chain will do, and not only the one that [`crate::chain`] gives. Takes time
+/// The rotations have to be such that they can be eliminated one after the other from the first matching, in any order that
+/// allows it, with none exposed at the end. Rotations are numbered from 0. Takes time
 /// and memory in proportion to the agents and entries: what is found is noted with the rotation that is needed, so that
 /// nothing has to be sorted.
 ///
@@ -42,7 +43,7 @@ struct Move {
 /// `AllocError` where memory ran out, and only then.
 pub fn needs(alloc: Global, market: &Market, chain: &Chain) -> Result<Vec<Vec<u32>>, AllocError>
     requires made { IsPairingOf market.now chain.now.first }
-    requires complete { IsCompleteChain market.now chain.now.first.places (rotations_of chain.now.rotations.items) }
+    requires eliminable { AreEliminable market.now chain.now.first.places (rotations_of chain.now.rotations.items) }
     ensures one_each { IfOk result (λ n. length n.items ≡ length chain.now.rotations.items) }
     ensures needs { IfOk result (λ n. (j : ℕ) → j < length chain.now.rotations.items
         → AreNeedsOf market.now (rotations_of chain.now.rotations.items) j (row (rows_of n.items) j)) }
@@ -61,7 +62,7 @@ pub fn needs(alloc: Global, market: &Market, chain: &Chain) -> Result<Vec<Vec<u3
         find(market, &m, pairs, last, marks, &mut found)?;
         follow(j, &found, &mut followers)?;
         note_moves(market, &m, pairs, j, last, marks);
-        eliminate(market, &mut m, rotation);
+        move_round(market, &mut m, rotation);
     }
     needs_by_followers(alloc, &followers)
 }

@@ -10,14 +10,14 @@ use Rattle.sm_lists.proofs.Counting.{Decided, lt_or_le}
 use Rattle.sm_market.proofs.Core.{Sides, Stand, Stable}
 use Rattle.sm_market.proofs.Bridge.{sides_of, stand_of, fit_of, stable_of, held_cases}
 use Rattle.sm_theory.specs.Rotations.{proposer_at, reviewer_at, IsExposed}
-use Rattle.sm_theory.specs.Chains.{rotation_at, stage, IsCompleteChain, IsNeededBy}
+use Rattle.sm_theory.specs.Chains.{rotation_at, stage, AreEliminable, IsCompleteChain, IsNeededBy}
 use Rattle.sm_theory.specs.ClosedSets.{is_member, IsMember, IsClosed}
 use Rattle.sm_theory.proofs.CoreSeats.{same_reviewers}
 use Rattle.sm_theory.proofs.CoreCycle.{Cycle, turn, turn_in, target, Exposed}
 use Rattle.sm_theory.proofs.CoreDichotomy.{some_exposed, Found}
-use Rattle.sm_theory.proofs.CoreChain.{Chain, Needs, Closed}
+use Rattle.sm_theory.proofs.CoreChain.{Chain, Way, Needs, Closed}
 use Rattle.sm_theory.proofs.BridgePlaces.{Tabled, tabled}
-use Rattle.sm_theory.proofs.BridgeRotation.{cycle_of, exposed_of, exposed_back, elim_of, eliminated_stable}
+use Rattle.sm_theory.proofs.BridgeRotation.{cycle_of, exposed_of, exposed_back, elim_of, eliminated_matching, eliminated_stable}
 
 -- a cycle written as a list
 abbrev pub listed : Cycle → List (ℕ × ℕ)
@@ -68,6 +68,22 @@ module _ {l : Lists} (h : IsMarket l) {first : Places} {rotations : List (List (
     onward = λ k g. elim_of h (stage_stable k (omega arith)).matching (chain.exposed k g);
     best = λ n s p. let w : Tabled l n = tabled h s in omega (arith, w.alike p, chain.from_best.best w.places w.stable p);
     worst = nothing_below h (stage_stable (length rotations) (omega arith)) chain.complete;
+  }
+
+pub eliminable_of : {l : Lists} {first : Places} {rotations : List (List (ℕ × ℕ))} → IsCompleteChain l first rotations → AreEliminable l first rotations
+eliminable_of chain = record { exposed = chain.exposed; complete = chain.complete }
+
+-- rotations that can be eliminated lead from matching to matching
+module _ {l : Lists} (h : IsMarket l) {first : Places} (f : IsMatching l first) {rotations : List (List (ℕ × ℕ))} (chain : AreEliminable l first rotations) where
+  pub stage_matching : (k : ℕ) → k ≤ length rotations → IsMatching l (stage l first rotations k)
+  stage_matching zero g = f
+  stage_matching (suc k) g = eliminated_matching h (stage_matching k (omega arith)) (chain.exposed k (omega arith))
+
+  pub way_along : Way (sides_of l h) (length rotations) (λ k. stand_of l (stage l first rotations k)) (λ k. cycle_of (rotation_at rotations k))
+  way_along = record {
+    fit = λ k g. fit_of h (stage_matching k g);
+    exposed = λ k g. exposed_of h (stage_matching k (omega arith)) (chain.exposed k g);
+    onward = λ k g. elim_of h (stage_matching k (omega arith)) (chain.exposed k g);
   }
 
 -- predecessors

@@ -7,10 +7,10 @@ use Rattle.std.proofs.lemmas.List.Sums.{passes_at_first, fails_before_first, pre
 use Rattle.std.proofs.lemmas.List.FromFn.{get_or-map-range_with_len, length-map-range_with_len}
 use Rattle.std.proofs.lemmas.Option.{none-some}
 use Rattle.sm_market.specs.Lists.{Lists, row, entry, place_of, IsMarket}
-use Rattle.sm_market.specs.Matching.{Places, held, standing}
+use Rattle.sm_market.specs.Matching.{Places, held, standing, IsMatching}
 use Rattle.sm_market.specs.Stable.{IsStable}
 use Rattle.sm_lists.proofs.Counting.{lt_or_le}
-use Rattle.sm_market.proofs.Core.{Stand, Stable}
+use Rattle.sm_market.proofs.Core.{Stand, Fit, Stable}
 use Rattle.sm_market.proofs.Bridge.{sides_of, stand_of, unblocked_of, held_in_turn_of, standing-some}
 use Rattle.sm_theory.specs.Lattice.{agents, with_proposers}
 use Rattle.sm_theory.proofs.CoreSeats.{Seats, same_stable}
@@ -75,14 +75,11 @@ module _ {l : Lists} (h : IsMarket l) (places : List (Option ℕ)) where
         | inr j ↦ absurd (omega (arith, seat_past r j))
       ]
 
-  -- a stable matching, where the standings are those of one
-  pub stable_with : length places ≡ length l.proposers → ((p i : ℕ) → held places p ≡ Some i → i < length (row l.proposers p)) → Stable (sides_of l h) (stand_of l (with_proposers l places)) → IsStable l (with_proposers l places)
-  stable_with one on s = record {
-    matching = record {
-      proposers = held_in_turn_of h.proposers one on s.fit.left;
-      reviewers = held_in_turn_of h.reviewers (length-map-range_with_len _ 0 (length l.reviewers)) on' s.fit.right;
-    };
-    unblocked = unblocked_of h s;
+  -- a matching, where the standings are those of one
+  pub matching_with : length places ≡ length l.proposers → ((p i : ℕ) → held places p ≡ Some i → i < length (row l.proposers p)) → Fit (sides_of l h) (stand_of l (with_proposers l places)) → IsMatching l (with_proposers l places)
+  matching_with one on f = record {
+    proposers = held_in_turn_of h.proposers one on f.left;
+    reviewers = held_in_turn_of h.reviewers (length-map-range_with_len _ 0 (length l.reviewers)) on' f.right;
   }
     where
       on' : (r k : ℕ) → held (with_proposers l places).reviewers r ≡ Some k → k < length (row l.reviewers r)
@@ -93,6 +90,10 @@ module _ {l : Lists} (h : IsMarket l) (places : List (Option ℕ)) where
         ]
         | inr j ↦ absurd (none-some _ (sym (held_map_past l.reviewers (λ r. position (λ p. standing l.proposers places p == place_of l.proposers p r) (row l.reviewers r)) r j) ∙ e))
       ]
+
+  -- and a stable one, where they are those of a stable one
+  pub stable_with : length places ≡ length l.proposers → ((p i : ℕ) → held places p ≡ Some i → i < length (row l.proposers p)) → Stable (sides_of l h) (stand_of l (with_proposers l places)) → IsStable l (with_proposers l places)
+  stable_with one on s = record { matching = matching_with one on s.fit; unblocked = unblocked_of h s }
 
 -- a stand that is stable has a matching that is
 pub record Tabled (l : Lists) (n : Stand) : Type 0 where

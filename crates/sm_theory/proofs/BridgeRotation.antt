@@ -12,12 +12,12 @@ use Rattle.sm_lists.proofs.Counting.{lt_or_le, less_same_more}
 use Rattle.sm_market.proofs.Core.{pair_at}
 use Rattle.sm_market.proofs.PlaceLemmas.{place_of-entry}
 use Rattle.sm_lists.proofs.PlaceLemmas.{entry-place_of}
-use Rattle.sm_market.proofs.Bridge.{sides_of, stand_of, fit_of, stable_of, held_cases, held_at, standing-some}
+use Rattle.sm_market.proofs.Bridge.{sides_of, stand_of, fit_of, stable_of, unblocked_of, held_cases, held_at, standing-some}
 use Rattle.sm_theory.specs.Lattice.{agents}
 use Rattle.sm_theory.specs.Rotations.{IsSuccessor, proposer_at, reviewer_at, target_at, IsExposed, pair_of, place_after, eliminated}
 use Rattle.sm_theory.proofs.CoreCycle.{Cycle, Succ, Exposed, Moves, moves_or_not}
-use Rattle.sm_theory.proofs.CoreRotation.{Elim, elim_stable}
-use Rattle.sm_theory.proofs.BridgePlaces.{held_map, held_map_past, standing_map, standing_map_past, row_past, seats_with, stable_with}
+use Rattle.sm_theory.proofs.CoreRotation.{Elim, elim_fit, elim_stable}
+use Rattle.sm_theory.proofs.BridgePlaces.{held_map, held_map_past, standing_map, standing_map_past, row_past, seats_with, matching_with}
 
 abbrev pub cycle_of : List (ℕ × ℕ) → Cycle
 cycle_of rotation = record { size = length rotation; who = proposer_at rotation; has = reviewer_at rotation }
@@ -120,9 +120,9 @@ module _ {l : Lists} (h : IsMarket l) {m : Places} where
       seats = seats_with h (map (place_after l m.proposers rotation) (agents l.proposers));
     }
 
-  pub eliminated_stable : (s : IsStable l m) {rotation : List (ℕ × ℕ)} → IsExposed l m rotation → IsStable l (eliminated l m rotation)
-  eliminated_stable s {rotation} x = stable_with h (map (place_after l m.proposers rotation) (agents l.proposers)) (length-map-range_with_len _ 0 (length l.proposers)) on
-      (elim_stable (stable_of h s) (exposed_of s.matching x) (elim_of s.matching x))
+  pub eliminated_matching : (f : IsMatching l m) {rotation : List (ℕ × ℕ)} → IsExposed l m rotation → IsMatching l (eliminated l m rotation)
+  eliminated_matching f {rotation} x = matching_with h (map (place_after l m.proposers rotation) (agents l.proposers)) (length-map-range_with_len _ 0 (length l.proposers)) on
+      (elim_fit (fit_of h f) (exposed_of f x) (elim_of f x))
     where
       on : (p i : ℕ) → held (map (place_after l m.proposers rotation) (agents l.proposers)) p ≡ Some i → i < length (row l.proposers p)
       on p i e = elim (lt_or_le p (length l.proposers)) [
@@ -132,8 +132,11 @@ module _ {l : Lists} (h : IsMarket l) {m : Places} where
         where
           after : place_after l m.proposers rotation p ≡ Some i → Moves (cycle_of rotation) p ⊎ ((j : ℕ) → j < length rotation → proposer_at rotation j ≡ p → ⊥) → i < length (row l.proposers p)
           after e (inl w) =
-              let there : place_after l m.proposers rotation p ≡ Some (place_of l.proposers p (target_at rotation w.at)) = rw w.holds at (after_in s.matching x w.at w.below) in
+              let there : place_after l m.proposers rotation p ≡ Some (place_of l.proposers p (target_at rotation w.at)) = rw w.holds at (after_in f x w.at w.below) in
               let same : place_of l.proposers p (target_at rotation w.at) ≡ i = same_Some _ _ (sym there ∙ e) in
               let listed : place_of l.proposers p (target_at rotation w.at) < length (row l.proposers p) = rw w.holds at (x.next w.at w.below).on_list in
               omega arith
-          after e (inr none) = s.matching.proposers.on_list p i (sym (after_out s.matching x p none) ∙ e)
+          after e (inr none) = f.proposers.on_list p i (sym (after_out f x p none) ∙ e)
+
+  pub eliminated_stable : (s : IsStable l m) {rotation : List (ℕ × ℕ)} → IsExposed l m rotation → IsStable l (eliminated l m rotation)
+  eliminated_stable s x = record { matching = eliminated_matching s.matching x; unblocked = unblocked_of h (elim_stable (stable_of h s) (exposed_of s.matching x) (elim_of s.matching x)) }

@@ -13,7 +13,7 @@ use Rattle.sm_theory.specs.Rotations.{proposer_at, target_at, pair_of}
 use Rattle.sm_theory.specs.Chains.{rotation_at, stage, IsCompleteChain}
 use Rattle.sm_theory.specs.ClosedSets.{is_member, IsMember, IsClosed, worst_place, matching_of}
 use Rattle.sm_theory.proofs.CoreCycle.{Moves, moves_or_not}
-use Rattle.sm_theory.proofs.CoreChain.{IsOf, Attained, moved_to}
+use Rattle.sm_theory.proofs.CoreChain.{IsOf, Attained, moved_to, way_of}
 use Rattle.sm_theory.proofs.CoreClosed.{Built, built, of_more}
 use Rattle.sm_theory.proofs.CoreSeats.{same_stable}
 use Rattle.sm_theory.proofs.BridgePlaces.{held_map, held_map_past, standing_map, standing_map_past, row_past, seats_with, stable_with}
@@ -144,7 +144,7 @@ module _ {l : Lists} (h : IsMarket l) {first : Places} {rotations : List (List (
       below : (i : ℕ) → i < length (row l.proposers p) → (worst_place l rotations set p i (length rotations) ≡ i) ⊎ Last p i (length rotations) → worst_place l rotations set p i (length rotations) < length (row l.proposers p)
       below i g (inl x) = omega arith
       below i g (inr x) =
-          let v = moved_to (chain_of h chain) x.at x.moves.at x.below x.moves.below in
+          let v = moved_to (way_of (chain_of h chain)) x.at x.moves.at x.below x.moves.below in
           let u : standing l.proposers (stage l first rotations (suc x.at)).proposers p < length (row l.proposers p) = rw x.moves.holds at v.matched in
           omega (arith, x.is)
 

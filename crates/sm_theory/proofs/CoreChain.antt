@@ -1,7 +1,7 @@
 -- Complete chains, their predecessors, and the matching of a set.
 use Rattle.std.proofs.Common.{◌≡◌, ℕ, zero, suc, ◌<◌, ◌≤◌, ◌⊎◌, inl, inr, arith, sym, ap, ◌∙◌, le_of_eq, le_trans}
 use Rattle.sm_lists.proofs.Counting.{Decided, lt_or_le, eq_or_ne, Last, last_below}
-use Rattle.sm_market.proofs.Core.{Sides, Stand, Stable, Pair, one_reviewer, same_place, easy}
+use Rattle.sm_market.proofs.Core.{Sides, Stand, Fit, Stable, Pair, one_reviewer, same_place, easy}
 use Rattle.sm_market.proofs.CoreLaws.{whole}
 use Rattle.sm_theory.proofs.CoreCycle.{Cycle, turn, turn_in, target, Exposed, Moves, moves_or_not, moves_at}
 use Rattle.sm_theory.proofs.CoreRotation.{Elim, goes_down, never_up, never_worse, new_pair}
@@ -13,6 +13,15 @@ pub record Chain (s : Sides) (t : ℕ) (M : ℕ → Stand) (c : ℕ → Cycle) :
   pub onward : (k : ℕ) → k < t → Elim s (M k) (c k) (M (suc k))
   pub best : (n : Stand) → Stable s n → (p : ℕ) → (M 0).a p ≤ n.a p
   pub worst : (n : Stand) → Stable s n → (p : ℕ) → n.a p ≤ (M t).a p
+
+-- the same of matchings that needn't be stable, nor begin with the best or end with the worst
+pub record Way (s : Sides) (t : ℕ) (M : ℕ → Stand) (c : ℕ → Cycle) : Type 0 where
+  pub fit : (k : ℕ) → k ≤ t → Fit s (M k)
+  pub exposed : (k : ℕ) → k < t → Exposed s (M k) (c k)
+  pub onward : (k : ℕ) → k < t → Elim s (M k) (c k) (M (suc k))
+
+pub way_of : {s : Sides} {t : ℕ} {M : ℕ → Stand} {c : ℕ → Cycle} → Chain s t M c → Way s t M c
+way_of ch = record { fit = λ k h. (ch.stable k h).fit; exposed = ch.exposed; onward = ch.onward }
 
 -- early moves some proposer to a reviewer from which late moves it
 pub record Before (early late : Cycle) : Type 0 where
@@ -74,9 +83,9 @@ seat_high {s} {m} {n} {p} {r} hm hn pair le = elim (lt_or_le (n.a p) (m.a p)) [
   | inr h ↦ let w : Pair s n p r = same_place hn.fit pair (omega arith) in omega (arith, w.rank_is, pair.rank_is)
 ]
 
-module _ {s : Sides} {t : ℕ} {M : ℕ → Stand} {c : ℕ → Cycle} (ch : Chain s t M c) where
+module _ {s : Sides} {t : ℕ} {M : ℕ → Stand} {c : ℕ → Cycle} (ch : Way s t M c) where
   pub up_at : (k p : ℕ) → k < t → Moves (c k) p → (M k).a p < (M (suc k)).a p
-  up_at k p h w = let less = goes_down (ch.stable k (omega arith)) (ch.exposed k h) (ch.onward k h) w.at w.below in rw w.holds at less
+  up_at k p h w = let less = goes_down (ch.fit k (omega arith)) (ch.exposed k h) (ch.onward k h) w.at w.below in rw w.holds at less
 
   pub stay : (k p : ℕ) → k < t → (Moves (c k) p → ⊥) → (M (suc k)).a p ≡ (M k).a p
   stay k p h none = (ch.onward k h).still p (not_moves (c k) p none)
@@ -85,14 +94,14 @@ module _ {s : Sides} {t : ℕ} {M : ℕ → Stand} {c : ℕ → Cycle} (ch : Cha
   rise p i zero h g = le_of_eq (ap (λ k. (M k).a p) (omega arith))
   rise p i (suc j) h g = elim (eq_or_ne i (suc j)) [
     | inl e ↦ le_of_eq (ap (λ k. (M k).a p) e)
-    | inr e ↦ le_trans (rise p i j (omega arith) (omega arith)) (never_up (ch.stable j (omega arith)) (ch.exposed j (omega arith)) (ch.onward j (omega arith)) p)
+    | inr e ↦ le_trans (rise p i j (omega arith) (omega arith)) (never_up (ch.fit j (omega arith)) (ch.exposed j (omega arith)) (ch.onward j (omega arith)) p)
   ]
 
   pub fall : (r i j : ℕ) → i ≤ j → j ≤ t → (M j).b r ≤ (M i).b r
   fall r i zero h g = le_of_eq (ap (λ k. (M k).b r) (omega arith))
   fall r i (suc j) h g = elim (eq_or_ne i (suc j)) [
     | inl e ↦ le_of_eq (ap (λ k. (M k).b r) (sym e))
-    | inr e ↦ le_trans (never_worse (ch.stable j (omega arith)) (ch.exposed j (omega arith)) (ch.onward j (omega arith)) r) (fall r i j (omega arith) (omega arith))
+    | inr e ↦ le_trans (never_worse (ch.fit j (omega arith)) (ch.exposed j (omega arith)) (ch.onward j (omega arith)) r) (fall r i j (omega arith) (omega arith))
   ]
 
   -- while nothing moves p it stands still
@@ -114,7 +123,7 @@ module _ {s : Sides} {t : ℕ} {M : ℕ → Stand} {c : ℕ → Cycle} (ch : Cha
 
   -- what p has once k moved it
   pub moved_to : (k i : ℕ) → k < t → i < (c k).size → Pair s (M (suc k)) ((c k).who i) (target (c k) i)
-  moved_to k i h g = new_pair (ch.stable k (omega arith)) (ch.exposed k h) (ch.onward k h) i g
+  moved_to k i h g = new_pair (ch.fit k (omega arith)) (ch.exposed k h) (ch.onward k h) i g
 
   -- what moves p last before k is a predecessor of k, where k moves p
   pub last_needed : (p k : ℕ) → k < t → Moves (c k) p → (w : Last k (λ j. Moves (c j) p)) → Needs s (c w.at) (c k)
@@ -127,7 +136,7 @@ module _ {s : Sides} {t : ℕ} {M : ℕ → Stand} {c : ℕ → Cycle} (ch : Cha
       old = rw mv.holds at ((ch.exposed k h).paired mv.at mv.below)
 
       old' : Pair s (M (suc w.at)) p ((c k).has mv.at)
-      old' = same_place (ch.stable (suc w.at) (omega (arith, w.below))).fit old (since_last p k (omega arith) w)
+      old' = same_place (ch.fit (suc w.at) (omega (arith, w.below))) old (since_last p k (omega arith) w)
 
   -- a reviewer that is passed over at k has somebody that it likes at least as well
   pub passed : (k i r : ℕ) → k < t → i < (c k).size → s.place ((c k).who i) ((c k).has i) < s.place ((c k).who i) r → s.place ((c k).who i) r < s.place ((c k).who i) (target (c k) i) → (M k).b r ≤ s.rank r ((c k).who i)

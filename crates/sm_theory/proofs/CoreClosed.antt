@@ -4,7 +4,7 @@ use Rattle.sm_lists.proofs.Counting.{Decided, eq_or_ne}
 use Rattle.sm_market.proofs.Core.{Sides, Stand, Stable}
 use Rattle.sm_theory.proofs.CoreCycle.{Cycle, Exposed, Moves, target}
 use Rattle.sm_theory.proofs.CoreRotation.{Elim, eliminate, Elim-eliminate, elim_stable, never_up}
-use Rattle.sm_theory.proofs.CoreChain.{Chain, Closed, IsOf, Attained, Decided-moves, not_moves, up_at, needs_lower, upper}
+use Rattle.sm_theory.proofs.CoreChain.{Chain, Closed, IsOf, Attained, Decided-moves, not_moves, up_at, needs_lower, upper, way_of}
 use Rattle.sm_theory.proofs.CoreExposure.{exposed_there, same_before}
 
 -- the members of C below i
@@ -26,14 +26,14 @@ module _ {s : Sides} {t : ℕ} {M : ℕ → Stand} {c : ℕ → Cycle} (ch : Cha
 
   module _ {C : ℕ → Type 0} (closed : Closed s t c C) (known : (k : ℕ) → k < t → Decided (C k)) where
     Closed-under : (i : ℕ) → Closed s t c (Under C i)
-    Closed-under i a b h g member need = (closed a b h g member.0 need, omega (arith, needs_lower ch a b h g need, member.1))
+    Closed-under i a b h g member need = (closed a b h g member.0 need, omega (arith, needs_lower (way_of ch) a b h g need, member.1))
 
     pub added : (i : ℕ) → i < t → C i → Built s t M c (Under C i) → Built s t M c (Under C (suc i))
     added i h member w = record { stand = next; stable = elim_stable w.stable x e; of = record { low = λ p. le_trans (w.of.low p) (up p); reach = reach; attained = λ p. attained p (Decided-moves (c i) p) } }
       where
         x : Exposed s w.stand (c i)
         x = exposed_there ch (Closed-under i) w.stable w.of i h (λ out. omega (arith, out.1))
-            (λ j g need. (closed j i g h member need, needs_lower ch j i g h need))
+            (λ j g need. (closed j i g h member need, needs_lower (way_of ch) j i g h need))
 
         next : Stand
         next = eliminate s w.stand (c i)
@@ -42,7 +42,7 @@ module _ {s : Sides} {t : ℕ} {M : ℕ → Stand} {c : ℕ → Cycle} (ch : Cha
         e = Elim-eliminate x
 
         up : (p : ℕ) → w.stand.a p ≤ next.a p
-        up p = never_up w.stable x e p
+        up p = never_up w.stable.fit x e p
 
         reach : (p k : ℕ) → k < t → Under C (suc i) k → Moves (c k) p → (M (suc k)).a p ≤ next.a p
         reach p k g inside mv = elim (eq_or_ne k i) [
@@ -60,12 +60,12 @@ module _ {s : Sides} {t : ℕ} {M : ℕ → Stand} {c : ℕ → Cycle} (ch : Cha
     -- what was added is the elimination of i, whose proposers stood as at stage i
     pub added_before : (i : ℕ) (h : i < t) (member : C i) (w : Built s t M c (Under C i)) (p : ℕ) → Moves (c i) p → w.stand.a p ≡ (M i).a p
     added_before i h member w p mv = same_before ch (Closed-under i) w.stable w.of i h (λ out. omega (arith, out.1))
-        (λ j g need. (closed j i g h member need, needs_lower ch j i g h need)) p mv
+        (λ j g need. (closed j i g h member need, needs_lower (way_of ch) j i g h need)) p mv
 
     pub added_elim : (i : ℕ) (h : i < t) (member : C i) (w : Built s t M c (Under C i)) → Elim s w.stand (c i) (added i h member w).stand
     unfolding added
     added_elim i h member w = Elim-eliminate (exposed_there ch (Closed-under i) w.stable w.of i h (λ out. omega (arith, out.1))
-        (λ j g need. (closed j i g h member need, needs_lower ch j i g h need)))
+        (λ j g need. (closed j i g h member need, needs_lower (way_of ch) j i g h need)))
 
     pub passed_by : (i : ℕ) → i < t → (C i → ⊥) → Built s t M c (Under C i) → Built s t M c (Under C (suc i))
     passed_by i h out w = record { stand = w.stand; stable = w.stable; of = record { low = w.of.low; reach = reach; attained = attained } }
@@ -86,8 +86,9 @@ module _ {s : Sides} {t : ℕ} {M : ℕ → Stand} {c : ℕ → Cycle} (ch : Cha
     unfolding passed_by
     passed_stand i h out w = refl
 
-    built_to : (i : ℕ) → i ≤ t → Built s t M c (Under C i)
-    built_to zero h = record {
+    -- with no member it is the first
+    abbrev pub built_at_first : Built s t M c (Under C 0)
+    built_at_first = record {
       stand = M 0;
       stable = ch.stable 0 (omega arith);
       of = record {
@@ -96,6 +97,9 @@ module _ {s : Sides} {t : ℕ} {M : ℕ → Stand} {c : ℕ → Cycle} (ch : Cha
         attained = λ p. inl refl;
       };
     }
+
+    built_to : (i : ℕ) → i ≤ t → Built s t M c (Under C i)
+    built_to zero h = built_at_first
     built_to (suc i) h = elim (known i (omega arith)) [
       | inl member ↦ added i (omega arith) member (built_to i (omega arith))
       | inr out ↦ passed_by i (omega arith) out (built_to i (omega arith))
@@ -124,4 +128,4 @@ module _ {s : Sides} {t : ℕ} {M : ℕ → Stand} {c : ℕ → Cycle} (ch : Cha
 
   -- a member of one closed set that another lacks makes the matchings differ
   pub differ : {C D : ℕ → Type 0} {n m : Stand} → Closed s t c D → IsOf t M c C n → IsOf t M c D m → (k : ℕ) → k < t → C k → (D k → ⊥) → (p : ℕ) → Moves (c k) p → m.a p < n.a p
-  differ closed on om k h inside out p mv = omega (arith, upper ch closed om k p h out mv, up_at ch k p h mv, on.reach p k h inside mv)
+  differ closed on om k h inside out p mv = omega (arith, upper (way_of ch) closed om k p h out mv, up_at (way_of ch) k p h mv, on.reach p k h inside mv)

@@ -5,7 +5,7 @@ use Rattle.sm_market.proofs.Core.{Sides, Stand, Stable, Pair}
 use Rattle.sm_theory.proofs.CoreCycle.{Cycle, turn, turn_in, target, Exposed, Moves, moves_or_not, moves_at, Among, same_cycle}
 use Rattle.sm_theory.proofs.CoreRotation.{Elim, eliminate, Elim-eliminate, elim_stable, goes_down}
 use Rattle.sm_theory.proofs.CoreDichotomy.{dichotomy}
-use Rattle.sm_theory.proofs.CoreChain.{Chain, Needs, Closed, IsOf, Attained, Decided-moves, seat_high, up_at, quiet, moved_to, needs_lower, upper}
+use Rattle.sm_theory.proofs.CoreChain.{Chain, Needs, Closed, IsOf, Attained, Decided-moves, seat_high, up_at, quiet, moved_to, needs_lower, upper, way_of}
 use Rattle.sm_theory.proofs.CoreExposure.{exposed_there, same_before}
 use Rattle.sm_theory.proofs.CoreClosed.{of_more}
 
@@ -22,7 +22,7 @@ module _ {s : Sides} {t : ℕ} {M : ℕ → Stand} {c : ℕ → Cycle} (ch : Cha
     reaches_all : (k p : ℕ) → k < t → Reaches n k → Moves (c k) p → (M (suc k)).a p ≤ n.a p
     unfolding Reaches
     reaches_all k p h r mv = elim (dichotomy (ch.stable k (omega arith)) hn (ch.exposed k h)) [
-      | inl all ↦ absurd (omega (arith, all 0 (ch.exposed k h).some, up_at ch k ((c k).who 0) h (moves_at (c k) 0 (ch.exposed k h).some), r))
+      | inl all ↦ absurd (omega (arith, all 0 (ch.exposed k h).some, up_at (way_of ch) k ((c k).who 0) h (moves_at (c k) 0 (ch.exposed k h).some), r))
       | inr all ↦
           let x : s.place p (target (c k) mv.at) ≤ n.a p = rw mv.holds at (all mv.at mv.below) in
           let y : (M (suc k)).a p ≡ s.place p (target (c k) mv.at) = rw mv.holds at ((ch.onward k h).moved mv.at mv.below) in
@@ -45,9 +45,9 @@ module _ {s : Sides} {t : ℕ} {M : ℕ → Stand} {c : ℕ → Cycle} (ch : Cha
       | inl w ↦ omega (
         arith,
         stops_all w.at p w.below (λ r. none w.at w.holds.0 w.below r w.holds.1) w.holds.1,
-        quiet ch p k w.at w.holds.0 (omega (arith, w.below)) (λ j x y mv. w.earlier j y (x, mv)),
+        quiet (way_of ch) p k w.at w.holds.0 (omega (arith, w.below)) (λ j x y mv. w.earlier j y (x, mv)),
       )
-      | inr never ↦ omega (arith, ch.worst n hn p, quiet ch p k t h (omega arith) (λ j x y mv. never j y (x, mv)))
+      | inr never ↦ omega (arith, ch.worst n hn p, quiet (way_of ch) p k t h (omega arith) (λ j x y mv. never j y (x, mv)))
     ]
 
     -- n is the matching of what it reaches
@@ -69,16 +69,16 @@ module _ {s : Sides} {t : ℕ} {M : ℕ → Stand} {c : ℕ → Cycle} (ch : Cha
     reaches_closed i j h g r (inl w) =
         let p : ℕ = (c i).who w.at in
         let mv : Moves (c j) p = rw (sym w.who_is) at (moves_at (c j) w.at' w.below') in
-        let new = moved_to ch i w.at h w.below in
+        let new = moved_to (way_of ch) i w.at h w.below in
         let old : Pair s (M j) p (target (c i) w.at) = rw (sym w.who_is, sym w.has_is) at ((ch.exposed j g).paired w.at' w.below') in
-        reaches_by i p h (moves_at (c i) w.at w.below) (omega (arith, reaches_all j p g r mv, up_at ch j p g mv, new.place_is, old.place_is, up_at ch i p h (moves_at (c i) w.at w.below)))
+        reaches_by i p h (moves_at (c i) w.at w.below) (omega (arith, reaches_all j p g r mv, up_at (way_of ch) j p g mv, new.place_is, old.place_is, up_at (way_of ch) i p h (moves_at (c i) w.at w.below)))
     reaches_closed i j h g r (inr w) = by_contradiction (Decided-reaches i) (λ out.
         let p : ℕ = (c j).who w.at' in
         let q : ℕ = (c i).who (turn (c i).size w.at) in
         let seat : ℕ = target (c i) w.at in
         let inside = turn_in (c i).size w.at w.below in
         let low = reaches_all j p g r (moves_at (c j) w.at' w.below') in
-        let new = moved_to ch j w.at' g w.below' in
+        let new = moved_to (way_of ch) j w.at' g w.below' in
         let old = (ch.exposed i h).paired (turn (c i).size w.at) inside in
         let high = seat_high (ch.stable i (omega arith)) hn old (stops_all i q h out (moves_at (c i) (turn (c i).size w.at) inside)) in
         hn.unblocked p seat (omega (arith, w.before, new.place_is, new.matched)) (omega (arith, w.before, new.place_is, low)) (omega (arith, w.loses, old.rank_is, high)))
@@ -88,21 +88,21 @@ module _ {s : Sides} {t : ℕ} {M : ℕ → Stand} {c : ℕ → Cycle} (ch : Cha
     pub exposed_out : (k : ℕ) → k < t → Exposed s n (c k) → C k → ⊥
     exposed_out k h x inside =
         let mv = moves_at (c k) 0 x.some in
-        omega (arith, of.reach ((c k).who 0) k h inside mv, up_at ch k ((c k).who 0) h mv, (x.paired 0 x.some).place_is, ((ch.exposed k h).paired 0 x.some).place_is)
+        omega (arith, of.reach ((c k).who 0) k h inside mv, up_at (way_of ch) k ((c k).who 0) h mv, (x.paired 0 x.some).place_is, ((ch.exposed k h).paired 0 x.some).place_is)
 
     pub exposed_ready : (k : ℕ) → k < t → Exposed s n (c k) → (i : ℕ) → i < t → Needs s (c i) (c k) → C i
     exposed_ready k h x i g (inl w) = by_contradiction (known i g) (λ out.
         let p : ℕ = (c i).who w.at in
         let mv = moves_at (c i) w.at w.below in
-        let new = moved_to ch i w.at g w.below in
+        let new = moved_to (way_of ch) i w.at g w.below in
         let there : Pair s n p (target (c i) w.at) = rw (sym w.who_is, sym w.has_is) at (x.paired w.at' w.below') in
-        omega (arith, upper ch closed of i p g out mv, up_at ch i p g mv, new.place_is, there.place_is))
+        omega (arith, upper (way_of ch) closed of i p g out mv, up_at (way_of ch) i p g mv, new.place_is, there.place_is))
     exposed_ready k h x i g (inr w) = by_contradiction (known i g) (λ out.
         let q : ℕ = (c i).who (turn (c i).size w.at) in
         let seat : ℕ = target (c i) w.at in
         let inside = turn_in (c i).size w.at w.below in
         let old = (ch.exposed i g).paired (turn (c i).size w.at) inside in
-        let high = seat_high (ch.stable i (omega arith)) hn old (upper ch closed of i q g out (moves_at (c i) (turn (c i).size w.at) inside)) in
+        let high = seat_high (ch.stable i (omega arith)) hn old (upper (way_of ch) closed of i q g out (moves_at (c i) (turn (c i).size w.at) inside)) in
         omega (arith, (x.next w.at' w.below').first seat (omega (arith, (x.paired w.at' w.below').place_is, w.behind)) w.before, w.loses, old.rank_is, high))
 
   -- d is a rotation of the chain, begun at some pair, which is exposed at n
@@ -130,7 +130,7 @@ module _ {s : Sides} {t : ℕ} {M : ℕ → Stand} {c : ℕ → Cycle} (ch : Cha
       found k h inside out least = share (moves_or_not d p)
         where
           ready : (i : ℕ) → i < t → Needs s (c i) (c k) → Reaches n i
-          ready i g need = by_contradiction (Decided-reaches hn i) (λ not_there. least i (needs_lower ch i k g h need) (reaches_closed hm i k g h inside need, not_there))
+          ready i g need = by_contradiction (Decided-reaches hn i) (λ not_there. least i (needs_lower (way_of ch) i k g h need) (reaches_closed hm i k g h inside need, not_there))
 
           y : Exposed s n (c k)
           y = exposed_there ch (reaches_closed hn) hn (reaches_of hn) k h out ready
@@ -142,7 +142,7 @@ module _ {s : Sides} {t : ℕ} {M : ℕ → Stand} {c : ℕ → Cycle} (ch : Cha
           mv = moves_at (c k) 0 y.some
 
           less : n.a p < m.a p
-          less = omega (arith, reaches_all hm k p h inside mv, up_at ch k p h mv, same_before ch (reaches_closed hn) hn (reaches_of hn) k h out ready p mv)
+          less = omega (arith, reaches_all hm k p h inside mv, up_at (way_of ch) k p h mv, same_before ch (reaches_closed hn) hn (reaches_of hn) k h out ready p mv)
 
           share : Moves d p ⊎ ((i : ℕ) → i < d.size → d.who i ≡ p → ⊥) → InChain n d
           share (inr none) = absurd (omega (arith, e.still p none, less))
@@ -152,6 +152,6 @@ module _ {s : Sides} {t : ℕ} {M : ℕ → Stand} {c : ℕ → Cycle} (ch : Cha
       go (inl w) = found w.at w.below w.holds.0 w.holds.1 w.earlier
       go (inr none) = absurd (omega (
         arith,
-        goes_down hn x e 0 x.some,
+        goes_down hn.fit x e 0 x.some,
         of_more ch (reaches_of hm) (reaches_of hn) (λ k h r. by_contradiction (Decided-reaches hn k) (λ out. none k h (r, out))) (d.who 0),
       ))

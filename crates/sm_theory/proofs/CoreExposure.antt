@@ -6,20 +6,20 @@ use Rattle.sm_market.proofs.Core.{Sides, Stand, Stable, Pair, pair_at', same_pla
 use Rattle.sm_market.proofs.CoreLaws.{opposed}
 use Rattle.sm_theory.proofs.CoreCycle.{Cycle, turn, turn_in, target, Exposed, Moves, moves_at, gives_or_not, follows}
 use Rattle.sm_theory.proofs.CoreRotation.{keeps}
-use Rattle.sm_theory.proofs.CoreChain.{Chain, Needs, Closed, IsOf, seat_low, rise, last_move, since_last, since_start, last_needed, moved_to, passed, upper}
+use Rattle.sm_theory.proofs.CoreChain.{Chain, Needs, Closed, IsOf, seat_low, rise, last_move, since_last, since_start, last_needed, moved_to, passed, upper, way_of}
 
 module _ {s : Sides} {t : ℕ} {M : ℕ → Stand} {c : ℕ → Cycle} (ch : Chain s t M c) where
   module _ {C : ℕ → Type 0} {n : Stand} (closed : Closed s t c C) (hn : Stable s n) (of : IsOf t M c C n) (k : ℕ) (h : k < t) (out : C k → ⊥) (ready : (i : ℕ) → i < t → Needs s (c i) (c k) → C i) where
     -- the proposers of k have what they have just before k
     pub same_before : (p : ℕ) → Moves (c k) p → n.a p ≡ (M k).a p
-    same_before p mv = elim (last_move ch p k) [
+    same_before p mv = elim (last_move (way_of ch) p k) [
       | inl w ↦ omega (
         arith,
-        upper ch closed of k p h out mv,
-        since_last ch p k (omega arith) w,
-        of.reach p w.at (omega (arith, w.below)) (ready w.at (omega (arith, w.below)) (last_needed ch p k h mv w)) w.holds,
+        upper (way_of ch) closed of k p h out mv,
+        since_last (way_of ch) p k (omega arith) w,
+        of.reach p w.at (omega (arith, w.below)) (ready w.at (omega (arith, w.below)) (last_needed (way_of ch) p k h mv w)) w.holds,
       )
-      | inr none ↦ omega (arith, upper ch closed of k p h out mv, since_start ch p k (omega arith) none, of.low p)
+      | inr none ↦ omega (arith, upper (way_of ch) closed of k p h out mv, since_start (way_of ch) p k (omega arith) none, of.low p)
     ]
 
     same_pair : (i : ℕ) → i < (c k).size → Pair s n ((c k).who i) ((c k).has i)
@@ -31,7 +31,7 @@ module _ {s : Sides} {t : ℕ} {M : ℕ → Stand} {c : ℕ → Cycle} (ch : Cha
       | inr first ↦ omega (arith, opposed (ch.stable 0 (omega arith)) hn (ch.best n hn) r)
       | inl first ↦ elim (last_below k (λ j. s.rank r p < (M j).b r) (λ j _. Decided-lt (s.rank r p) ((M j).b r))) [
         | inr none ↦ elim (eq_or_ne 0 k) [
-          | inl e ↦ absurd (omega (arith, passed ch k i r h g x y, ap (λ j. (M j).b r) e))
+          | inl e ↦ absurd (omega (arith, passed (way_of ch) k i r h g x y, ap (λ j. (M j).b r) e))
           | inr e ↦ absurd (none 0 (omega arith) first)
         ]
         | inl w ↦ go w.at w.below w.holds (after w) (gives_or_not (c w.at) r)
@@ -46,7 +46,7 @@ module _ {s : Sides} {t : ℕ} {M : ℕ → Stand} {c : ℕ → Cycle} (ch : Cha
 
         after : (w : Last k (λ j. s.rank r p < (M j).b r)) → (M (suc w.at)).b r ≤ s.rank r p
         after w = elim (eq_or_ne (suc w.at) k) [
-          | inl e ↦ omega (arith, passed ch k i r h g x y, ap (λ j. (M j).b r) e)
+          | inl e ↦ omega (arith, passed (way_of ch) k i r h g x y, ap (λ j. (M j).b r) e)
           | inr e ↦ elim (lt_or_le (s.rank r p) ((M (suc w.at)).b r)) [
             | inl less ↦ absurd (w.later (suc w.at) (omega arith) (omega (arith, w.below)) less)
             | inr more ↦ more
@@ -58,7 +58,7 @@ module _ {s : Sides} {t : ℕ} {M : ℕ → Stand} {c : ℕ → Cycle} (ch : Cha
         by j q less high low inside is = omega (arith, seat_low hn new (of.reach ((c j).who q) j (omega arith) member (moves_at (c j) q inside)))
           where
             new : Pair s (M (suc j)) ((c j).who q) r
-            new = rw is at (moved_to ch j q (omega arith) inside)
+            new = rw is at (moved_to (way_of ch) j q (omega arith) inside)
 
             prior : Pair s (M j) ((c j).who (turn (c j).size q)) r
             prior = rw is at ((ch.exposed j (omega arith)).paired (turn (c j).size q) (turn_in (c j).size q inside))
@@ -67,7 +67,7 @@ module _ {s : Sides} {t : ℕ} {M : ℕ → Stand} {c : ℕ → Cycle} (ch : Cha
             better = elim (eq_or_ne ((M (suc j)).b r) (s.rank r p)) [
               | inl e ↦
                   let v : Pair s (M (suc j)) p r = pair_at' p r (ch.stable (suc j) (omega arith)).fit new.matched' (sym e) in
-                  absurd (omega (arith, v.place_is, old.place_is, rise ch p (suc j) k less (omega arith)))
+                  absurd (omega (arith, v.place_is, old.place_is, rise (way_of ch) p (suc j) k less (omega arith)))
               | inr e ↦ omega (arith, new.rank_is)
             ]
 
@@ -81,7 +81,7 @@ module _ {s : Sides} {t : ℕ} {M : ℕ → Stand} {c : ℕ → Cycle} (ch : Cha
             member = ready j (omega arith) needed
 
         go : (j : ℕ) → j < k → s.rank r p < (M j).b r → (M (suc j)).b r ≤ s.rank r p → First (c j).size (λ i. (c j).has i ≡ r) ⊎ ((i : ℕ) → i < (c j).size → (c j).has i ≡ r → ⊥) → n.b r ≤ s.rank r p
-        go j less high low (inr none) = absurd (omega (arith, keeps (ch.stable j (omega arith)) (ch.exposed j (omega arith)) (ch.onward j (omega arith)) r none))
+        go j less high low (inr none) = absurd (omega (arith, keeps (ch.stable j (omega arith)).fit (ch.exposed j (omega arith)) (ch.onward j (omega arith)) r none))
         go j less high low (inl f) = let w = follows (c j).size f.at f.below in by j w.at less high low w.below (ap (c j).has w.is ∙ f.holds)
 
     pub exposed_there : Exposed s n (c k)

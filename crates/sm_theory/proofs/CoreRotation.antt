@@ -11,7 +11,7 @@ pub record Elim (s : Sides) (m : Stand) (c : Cycle) (k : Stand) : Type 0 where
   pub still : (p : ℕ) → ((i : ℕ) → i < c.size → c.who i ≡ p → ⊥) → k.a p ≡ m.a p
   pub seats : Seats s k
 
-module _ {s : Sides} {m : Stand} {c : Cycle} {k : Stand} (hm : Stable s m) (x : Exposed s m c) (e : Elim s m c k) where
+module _ {s : Sides} {m : Stand} {c : Cycle} {k : Stand} (hm : Fit s m) (x : Exposed s m c) (e : Elim s m c k) where
   -- the proposers of the cycle go down, all others stay
   pub goes_down : (i : ℕ) → i < c.size → m.a (c.who i) < k.a (c.who i)
   goes_down i h = omega (arith, e.moved i h, (x.next i h).behind)
@@ -48,7 +48,7 @@ module _ {s : Sides} {m : Stand} {c : Cycle} {k : Stand} (hm : Stable s m) (x : 
           sym one ∙ ap (s.at p) (sym mv ∙ sym is) ∙ two
 
       stays : {q : ℕ} → ((i : ℕ) → i < c.size → c.who i ≡ q → ⊥) → k.a q < s.len q → s.place q r ≡ k.a q → Pair s m q r
-      stays {q} none on is = pair_at q r hm.fit (omega (arith, e.still q none)) (is ∙ e.still q none)
+      stays {q} none on is = pair_at q r hm (omega (arith, e.still q none)) (is ∙ e.still q none)
 
       taken : {p q : ℕ} (w : Moves c p) → ((i : ℕ) → i < c.size → c.who i ≡ q → ⊥) → k.a p < s.len p → s.place p r ≡ k.a p → k.a q < s.len q → s.place q r ≡ k.a q → ⊥
       taken {p} {q} w none on is on' is' =
@@ -62,7 +62,7 @@ module _ {s : Sides} {m : Stand} {c : Cycle} {k : Stand} (hm : Stable s m) (x : 
       low p = elim (moves_or_not c p) [
         | inl w ↦ let mv : k.a p ≡ s.place p (target c w.at) = rw w.holds at (e.moved w.at w.below) in
             let on : s.place p (target c w.at) < s.len p = rw w.holds at (x.next w.at w.below).on in omega arith
-        | inr none ↦ omega (arith, e.still p none, hm.fit.left.within p)
+        | inr none ↦ omega (arith, e.still p none, hm.left.within p)
       ]
 
   -- each proposer of the cycle has the reviewer of the next pair
@@ -78,16 +78,16 @@ module _ {s : Sides} {m : Stand} {c : Cycle} {k : Stand} (hm : Stable s m) (x : 
     | inr d ↦ elim d [
       | inl h ↦ h
       | inr h ↦
-          let w = pair_of' r hm.fit (omega (arith, e.seats.within r)) in
+          let w = pair_of' r hm (omega (arith, e.seats.within r)) in
           absurd (omega (arith, same_there w))
     ]
     | inl h ↦
-        let w = pair_of' r elim_fit (omega (arith, hm.fit.right.within r)) in
+        let w = pair_of' r elim_fit (omega (arith, hm.right.within r)) in
         absurd (elim (moves_or_not c (s.at' r (k.b r))) [
           | inl v ↦
               let inside = turn_in c.size v.at v.below in
               none (turn c.size v.at) inside (one_reviewer (rw v.holds at (new_pair v.at v.below)) w)
-          | inr out ↦ omega (arith, (pair_at (s.at' r (k.b r)) r hm.fit (omega (arith, w.matched, e.still _ out)) (w.place_is ∙ e.still _ out)).rank_is, w.rank_is)
+          | inr out ↦ omega (arith, (pair_at (s.at' r (k.b r)) r hm (omega (arith, w.matched, e.still _ out)) (w.place_is ∙ e.still _ out)).rank_is, w.rank_is)
         ])
   ]
     where
@@ -106,21 +106,25 @@ module _ {s : Sides} {m : Stand} {c : Cycle} {k : Stand} (hm : Stable s m) (x : 
     | inr none ↦ omega (arith, keeps r none)
   ]
 
+module _ {s : Sides} {m : Stand} {c : Cycle} {k : Stand} (hm : Stable s m) (x : Exposed s m c) (e : Elim s m c k) where
+  falls : (r : ℕ) → k.b r ≤ m.b r
+  falls r = never_worse hm.fit x e r
+
   pub elim_stable : Stable s k
-  elim_stable = record { fit = elim_fit; unblocked = blocked }
+  elim_stable = record { fit = elim_fit hm.fit x e; unblocked = blocked }
     where
       blocked : (p r : ℕ) → s.place p r < s.len p → s.place p r < k.a p → s.rank r p < k.b r → ⊥
       blocked p r on better wins = elim (moves_or_not c p) [
-        | inr none ↦ hm.unblocked p r on (omega (arith, e.still p none)) (omega (arith, never_worse r))
+        | inr none ↦ hm.unblocked p r on (omega (arith, e.still p none)) (omega (arith, falls r))
         | inl w ↦
             let old : Pair s m p (c.has w.at) = rw w.holds at (x.paired w.at w.below) in
             let mv : k.a p ≡ s.place p (target c w.at) = rw w.holds at (e.moved w.at w.below) in
             let nx : Succ s m p (target c w.at) = rw w.holds at (x.next w.at w.below) in
             elim (less_same_more (s.place p r) (m.a p)) [
-              | inl h ↦ hm.unblocked p r on h (omega (arith, never_worse r))
+              | inl h ↦ hm.unblocked p r on h (omega (arith, falls r))
               | inr d ↦ elim d [
-                | inl h ↦ omega (arith, never_worse r, (pair_at p r hm.fit old.matched h).rank_is)
-                | inr h ↦ omega (arith, never_worse r, nx.first r h (omega arith))
+                | inl h ↦ omega (arith, falls r, (pair_at p r hm.fit old.matched h).rank_is)
+                | inr h ↦ omega (arith, falls r, nx.first r h (omega arith))
               ]
             ]
       ]

@@ -7,7 +7,7 @@ use Rattle.sm_theory.specs.Weights.{total}
 use Rattle.sm_theory.proofs.CoreCycle.{Cycle, moves_at, target}
 use Rattle.sm_theory.proofs.CoreRotation.{Elim}
 use Rattle.sm_theory.proofs.CoreChain.{Chain, Closed, IsOf}
-use Rattle.sm_theory.proofs.CoreClosed.{Under, Built, added, added_before, added_elim, passed_by, passed_stand, of_more}
+use Rattle.sm_theory.proofs.CoreClosed.{Under, Built, added, added_before, added_elim, passed_by, passed_stand, of_more, built_at_first}
 use Rattle.sm_theory.proofs.Totals.{total_same, total_changes}
 
 -- the sum of the weights of all standings, and the gain of a cycle
@@ -46,15 +46,7 @@ module _ {s : Sides} {t : ℕ} {M : ℕ → Stand} {c : ℕ → Cycle} (ch : Cha
 
     weighed : (i : ℕ) → i ≤ t → Weighed i
     weighed zero h = record {
-      of = record {
-        stand = M 0;
-        stable = ch.stable 0 (omega arith);
-        of = record {
-          low = λ p. omega arith;
-          reach = λ p k g inside mv. absurd (omega (arith, inside.1));
-          attained = λ p. inl refl;
-        };
-      };
+      of = built_at_first ch closed known;
       is = omega (arith, ints);
     }
     weighed (suc i) h = go (weighed i (omega arith)) (set i) refl

@@ -16,7 +16,7 @@ use Rattle.sm_theory.specs.ClosedSets.{is_member, IsMember, IsClosed, matching_o
 use Rattle.sm_theory.specs.Laws.{Dichotomy, EliminationIsStable, NothingExposed, NothingExposedBack, BestIsUnique, PredecessorIsEarlier, SetsAreMatchings, ExposedWhereReady, AllInTheChain}
 use Rattle.sm_theory.proofs.CoreCycle.{moves_at}
 use Rattle.sm_theory.proofs.CoreDichotomy.{dichotomy}
-use Rattle.sm_theory.proofs.CoreChain.{needs_lower}
+use Rattle.sm_theory.proofs.CoreChain.{needs_lower, way_of}
 use Rattle.sm_theory.proofs.CoreExposure.{exposed_there}
 use Rattle.sm_theory.proofs.CoreClosed.{of_more, differ}
 use Rattle.sm_theory.proofs.CoreCorrespondence.{Reaches, Decided-reaches, reaches_of, reaches_closed, exposed_out, exposed_ready, all_in_chain, InChain}
@@ -50,7 +50,7 @@ best_is_unique l m n h = (
 )
 
 pub predecessor_is_earlier : PredecessorIsEarlier
-predecessor_is_earlier l first rotations i j h chain a b need = needs_lower (chain_of h chain) i j a b (needs_of h need)
+predecessor_is_earlier l first rotations i j h chain a b need = needs_lower (way_of (chain_of h chain)) i j a b (needs_of h need)
 
 -- a decision as a `Bool`
 bool_of : {P : Type 0} → Decided P → Bool

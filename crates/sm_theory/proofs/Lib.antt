@@ -14,6 +14,7 @@ pub mod BridgePlaces
 pub mod BridgeRotation
 pub mod BridgeMeet
 pub mod BridgeChain
+pub mod MarkLemmas
 pub mod BridgeSets
 pub mod LawsWeights
 pub mod LinkLemmas

@@ -77,9 +77,6 @@ exposed_of_links l m rotation h f some links alone = record {
         let p : ℕ = proposer_at rotation i in
         rw (entry-place_of l.proposers p (target_at rotation i) (links i a).next.on_list) at (succ_of h f p (place_of l.proposers p (target_at rotation i)) (links i a).next)
 
-pub link_of_exposed : (l : Lists) (m : Places) (rotation : List (ℕ × ℕ)) → IsExposed l m rotation → (i : ℕ) → i < length rotation → IsLink l m (proposer_at rotation i) (reviewer_at rotation i) (target_at rotation i)
-link_of_exposed l m rotation x i a = record { paired = x.paired i a; next = x.next i a }
-
 -- all pairs tried: exposed exactly where there is a pair
 pub exposed_end : (l : Lists) (m : Places) (pairs rotation : List (ℕ × ℕ)) (n : ℕ) (b : Bool) → IsMatching l m → pairs ≡ rotation → length pairs ≤ n
     → ((j : ℕ) → j < n → IsLink l m (proposer_at pairs j) (reviewer_at pairs j) (target_at pairs j))

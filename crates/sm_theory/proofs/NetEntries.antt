@@ -14,7 +14,7 @@ use Rattle.sm_theory.specs.Vectors.{AreLevels, HasLevel}
 use Rattle.sm_theory.specs.Net.{is_in}
 use Rattle.sm_theory.specs.Conditions.{level_at, has_level, moves_to, moves_off, entry_node, exit_node}
 use Rattle.sm_theory.proofs.CoreCycle.{Moves, moves_or_not}
-use Rattle.sm_theory.proofs.CoreChain.{Attained, Decided-moves, up_at, stay, rise, moved_to, initial}
+use Rattle.sm_theory.proofs.CoreChain.{Attained, Decided-moves, up_at, stay, rise, moved_to, initial, way_of}
 use Rattle.sm_theory.proofs.BridgePlaces.{row_past}
 use Rattle.sm_theory.proofs.BridgeRotation.{cycle_of, pair_at_is, no_pair}
 use Rattle.sm_theory.proofs.BridgeChain.{chain_of, stage_stable, closed_of}
@@ -111,7 +111,7 @@ module _ {l : Lists} (h : IsMarket l) {first : Places} {rotations : List (List (
         | inr there ↦ let w = crossing s e (omega arith) (omega arith) on there in record { at = w.at; from = w.from; before = omega (arith, w.before); leaves = w.leaves }
         | inl here ↦ elim (Decided-moves (cycle_of (rotation_at rotations e)) p) [
           | inl mv ↦ record { at = e; from = omega arith; before = omega arith; leaves = record { moves = mv; here = here; off = off } }
-          | inr still ↦ absurd (off (ap (level_at levels p) (stay (chain_of h chain) e p (omega arith) still) ∙ here))
+          | inr still ↦ absurd (off (ap (level_at levels p) (stay (way_of (chain_of h chain)) e p (omega arith) still) ∙ here))
         ]
       ]
     ]
@@ -145,11 +145,11 @@ module _ {l : Lists} (h : IsMarket l) {first : Places} {rotations : List (List (
       earlier : (k j : ℕ) → IsMember set k → Moved k p → j ≤ k → Moved j p → IsMember set j
       earlier k j m mv le mv' = elim (eq_or_ne j k) [
         | inl e ↦ rw (sym e) at m
-        | inr e ↦ initial (chain_of h chain) (closed_of h closed) p k (member_below k m) m mv j (omega arith) mv'
+        | inr e ↦ initial (way_of (chain_of h chain)) (closed_of h closed) p k (member_below k m) m mv j (omega arith) mv'
       ]
 
       matched_after : (k : ℕ) → k < length rotations → Moved k p → at_stage (suc k) p < length (row l.proposers p)
-      matched_after k g w = rw w.holds at (moved_to (chain_of h chain) k w.at g w.below).matched
+      matched_after k g w = rw w.holds at (moved_to (way_of (chain_of h chain)) k w.at g w.below).matched
 
       record Has : Type 0 where
         inside : here < length (row l.proposers p)
@@ -191,7 +191,7 @@ module _ {l : Lists} (h : IsMarket l) {first : Places} {rotations : List (List (
           let lt = member_below leaving m in
           let x = leaves_of leaving lt (first_passes (moves_off l levels p level) rotations [] lt) in
           let low = (set_is_of h chain set).reach p leaving lt m x.moves in
-          let up = up_at (chain_of h chain) leaving p lt x.moves in
+          let up = up_at (way_of (chain_of h chain)) leaving p lt x.moves in
           x.off (omega (
             arith,
             x.here,
@@ -249,9 +249,9 @@ module _ {l : Lists} (h : IsMarket l) {first : Places} {rotations : List (List (
           }
 
           finish : Start → (here ≡ at_stage 0 p) ⊎ Attained (length rotations) (λ k. stand_of l (stage l first rotations k)) (λ k. cycle_of (rotation_at rotations k)) (IsMember set) (stand_of l (matching_of l first rotations set)) p → HasLevel levels (matching_of l first rotations set) p level
-          finish s (inl e) = holds (at_stage s.stage_at p) (omega (arith, e, s.reached, rise (chain_of h chain) p 0 s.stage_at (omega arith) s.below)) s.inside s.level_is
+          finish s (inl e) = holds (at_stage s.stage_at p) (omega (arith, e, s.reached, rise (way_of (chain_of h chain)) p 0 s.stage_at (omega arith) s.below)) s.inside s.level_is
           finish s (inr x) = elim (lt_or_le x.at s.stage_at) [
-            | inl less ↦ holds (at_stage s.stage_at p) (omega (arith, x.is, s.reached, rise (chain_of h chain) p (suc x.at) s.stage_at less s.below)) s.inside s.level_is
+            | inl less ↦ holds (at_stage s.stage_at p) (omega (arith, x.is, s.reached, rise (way_of (chain_of h chain)) p (suc x.at) s.stage_at less s.below)) s.inside s.level_is
             | inr more ↦ elim (eq_or_ne (level_at levels p (at_stage (suc x.at) p)) level) [
               | inl on ↦ holds (at_stage (suc x.at) p) x.is (matched_after x.at x.below x.moves) on
               | inr off ↦

@@ -2,6 +2,7 @@ pub mod Market
 pub mod Lattice
 pub mod Rotations
 pub mod Chains
+pub mod Marks
 pub mod ClosedSets
 pub mod Vectors
 pub mod Weights

@@ -4,6 +4,7 @@ use Rattle.sm_market.specs.Lists.{row}
 use Rattle.sm_market.specs.Vectors.{rows_of}
 use Rattle.sm_theory.specs.Chains.{rotation_at}
 use Rattle.sm_theory.specs.Values.{rotations_of}
+use Rattle.sm_theory.proofs.BridgeChain.{eliminable_of}
 use Rattle.sm_rotations.specs.Graph.{AreTurnedOver}
 use Rattle.sm_rotations.specs.Ordering.{IsTurned, AreCounts, AreReadyAtFirst}
 use Rattle.sm_rotations.proofs.CountLemmas.{few_rotations}
@@ -13,6 +14,9 @@ use Rattle.sm_lists.proofs.RowLemmas.{row_read}
 use Rattle.sm_rotations.proofs.TurnedOverLemmas.{follower_in_range, over_read}
 use Rattle.sm_rotations.proofs.WrittenLemmas.{nil_of, pairs_at, has_needs, need_in_range, written_start, written_whole, popped_in_range, popped_some, enough_unmet, places_left, written_more}
 use Rattle.sm_rotations.proofs.order.ordered.Goals as goal
+
+pub needs-requires-clause-eliminable : goal.needs-requires-clause-eliminable
+needs-requires-clause-eliminable c = eliminable_of c.requires.complete
 
 pub followers-requires-clause-few : goal.followers-requires-clause-few
 followers-requires-clause-few c =

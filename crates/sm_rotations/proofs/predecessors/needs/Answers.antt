@@ -2,15 +2,15 @@ use Rattle.std.proofs.Common.{◌≡◌, ◌<◌, ℕ, ◌∙◌, arith, ap, sym
 use Rattle.std.proofs.lemmas.List.{length-replicate, length-map}
 use Rattle.sm_lists.proofs.ResultLemmas.{take-append_at_length}
 use Rattle.sm_market.specs.Pairing.{Paired}
-use Rattle.sm_theory.specs.Chains.{rotation_at, IsCompleteChain}
+use Rattle.sm_theory.specs.Chains.{rotation_at, AreEliminable}
 use Rattle.sm_theory.specs.Values.{rotations_of}
-use Rattle.sm_theory.proofs.BridgeChain.{stage_stable}
 use Rattle.sm_market.specs.Vectors.{rows_of}
+use Rattle.sm_theory.proofs.MarkLemmas.{last_more, marks_more}
 use Rattle.sm_rotations.specs.Marking.{marks_in, AreMoved, AreMarked}
-use Rattle.sm_rotations.proofs.ChainLemmas.{last_more, marks_more, followed, found_in_range}
+use Rattle.sm_rotations.proofs.ChainLemmas.{followed, found_in_range}
 use Rattle.sm_rotations.proofs.TurnedOverLemmas.{empty_row}
 use Rattle.sm_rotations.proofs.TurnedBackLemmas.{followers_start, followers_in_range, needs_turned}
-use Rattle.sm_rotations.proofs.CountLemmas.{few_rotations}
+use Rattle.sm_rotations.proofs.CountLemmas.{few_eliminable}
 use Rattle.sm_rotations.proofs.NeedsLemmas.{pairs_read, as_many, last_start, marks_start, none_noted, exposed_here, next_stage, IfOk-more}
 use Rattle.sm_rotations.proofs.predecessors.needs.Goals as goal
 
@@ -29,44 +29,38 @@ loop-j-init c =
 pub find-requires-clause-exposed : goal.find-requires-clause-exposed
 find-requires-clause-exposed c =
     let rotations = c.as_slice-rotations.result.now in
-    let chain : IsCompleteChain c.args.market.now c.args.chain.now.first.places (rotations_of c.as_slice-rotations.result.now) = rw c.as_slice-rotations.ensures.value c.requires.complete in
+    let chain : AreEliminable c.args.market.now c.args.chain.now.first.places (rotations_of c.as_slice-rotations.result.now) = rw c.as_slice-rotations.ensures.value c.requires.eliminable in
     let inside : c.loop-j.j < length (rotations_of c.as_slice-rotations.result.now) = omega (arith, c.loop-j-test.true, as_many c.as_slice-rotations.result.now) in
     exposed_here chain inside c.loop-j.invariant.stage c.as_slice-pairs.result.now
     (c.as_slice-pairs.ensures.value ∙ pairs_read c.as_slice-rotations.result.now c.loop-j.j c.index-rotations-j.result (omega (arith, c.loop-j-test.true)) c.index-rotations-j.is)
 
 pub overflow_cast-j-end : goal.overflow_cast-j-end
 overflow_cast-j-end c =
-    let few = few_rotations c.proposers.ensures.market c.proposers.ensures.limits c.requires.complete in
+    let few = few_eliminable c.proposers.ensures.market c.proposers.ensures.limits c.requires.made.matching c.requires.eliminable in
     omega (arith, few, as_many c.args.chain.now.rotations.items, ap length c.as_slice-rotations.ensures.value)
 
 pub follow-requires : goal.follow-requires
 follow-requires c =
-    let chain : IsCompleteChain c.args.market.now c.args.chain.now.first.places (rotations_of c.as_slice-rotations.result.now) = rw c.as_slice-rotations.ensures.value c.requires.complete in
+    let chain : AreEliminable c.args.market.now c.args.chain.now.first.places (rotations_of c.as_slice-rotations.result.now) = rw c.as_slice-rotations.ensures.value c.requires.eliminable in
     let inside : c.loop-j.j < length (rotations_of c.as_slice-rotations.result.now) = omega (arith, c.loop-j-test.true, as_many c.as_slice-rotations.result.now) in
     let is : c.index-rotations-j.result.pairs.items ≡ rotation_at (rotations_of c.as_slice-rotations.result.now) c.loop-j.j = pairs_read c.as_slice-rotations.result.now c.loop-j.j c.index-rotations-j.result (omega (arith, c.loop-j-test.true)) c.index-rotations-j.is in
     let found = rw (c.as_slice-pairs.ensures.value ∙ is) at c.in_ok-find.ensures in
     record {
       in_range = rw (c.deref.ensures.value, c.deref_mut.ensures.value) (λ a less.
-          let low = found_in_range c.proposers.ensures.market chain inside c.loop-j.invariant.last c.loop-j.invariant.marks found a less in
+          let low = found_in_range c.proposers.ensures.market c.requires.made.matching chain inside c.loop-j.invariant.last c.loop-j.invariant.marks found a less in
           omega (arith, low, c.loop-j.invariant.followed.one_each, length-map c.loop-j.followers.items (λ v. v.items)));
     }
 
 pub note_moves-requires-clause-exposed : goal.note_moves-requires-clause-exposed
 note_moves-requires-clause-exposed c =
-    let chain : IsCompleteChain c.args.market.now c.args.chain.now.first.places (rotations_of c.as_slice-rotations.result.now) = rw c.as_slice-rotations.ensures.value c.requires.complete in
+    let chain : AreEliminable c.args.market.now c.args.chain.now.first.places (rotations_of c.as_slice-rotations.result.now) = rw c.as_slice-rotations.ensures.value c.requires.eliminable in
     let inside : c.loop-j.j < length (rotations_of c.as_slice-rotations.result.now) = omega (arith, c.loop-j-test.true, as_many c.as_slice-rotations.result.now) in
     exposed_here chain inside c.loop-j.invariant.stage c.as_slice-pairs.result.now
     (c.as_slice-pairs.ensures.value ∙ pairs_read c.as_slice-rotations.result.now c.loop-j.j c.index-rotations-j.result (omega (arith, c.loop-j-test.true)) c.index-rotations-j.is)
 
-pub eliminate-requires-clause-stable : goal.eliminate-requires-clause-stable
-eliminate-requires-clause-stable c =
-    let chain : IsCompleteChain c.args.market.now c.args.chain.now.first.places (rotations_of c.as_slice-rotations.result.now) = rw c.as_slice-rotations.ensures.value c.requires.complete in
-    let inside : c.loop-j.j < length (rotations_of c.as_slice-rotations.result.now) = omega (arith, c.loop-j-test.true, as_many c.as_slice-rotations.result.now) in
-    rw c.loop-j.invariant.stage (stage_stable c.proposers.ensures.market chain c.loop-j.j (omega arith))
-
-pub eliminate-requires-clause-exposed : goal.eliminate-requires-clause-exposed
-eliminate-requires-clause-exposed c =
-    let chain : IsCompleteChain c.args.market.now c.args.chain.now.first.places (rotations_of c.as_slice-rotations.result.now) = rw c.as_slice-rotations.ensures.value c.requires.complete in
+pub move_round-requires-clause-exposed : goal.move_round-requires-clause-exposed
+move_round-requires-clause-exposed c =
+    let chain : AreEliminable c.args.market.now c.args.chain.now.first.places (rotations_of c.as_slice-rotations.result.now) = rw c.as_slice-rotations.ensures.value c.requires.eliminable in
     let inside : c.loop-j.j < length (rotations_of c.as_slice-rotations.result.now) = omega (arith, c.loop-j-test.true, as_many c.as_slice-rotations.result.now) in
     exposed_here chain inside c.loop-j.invariant.stage c.index-rotations-j.result.pairs.items
     (pairs_read c.as_slice-rotations.result.now c.loop-j.j c.index-rotations-j.result (omega (arith, c.loop-j-test.true)) c.index-rotations-j.is)
@@ -74,7 +68,7 @@ eliminate-requires-clause-exposed c =
 pub loop-j-preserved : goal.loop-j-preserved
 loop-j-preserved c =
     let h = c.proposers.ensures.market in
-    let chain : IsCompleteChain c.args.market.now c.args.chain.now.first.places (rotations_of c.as_slice-rotations.result.now) = rw c.as_slice-rotations.ensures.value c.requires.complete in
+    let chain : AreEliminable c.args.market.now c.args.chain.now.first.places (rotations_of c.as_slice-rotations.result.now) = rw c.as_slice-rotations.ensures.value c.requires.eliminable in
     let inside : c.loop-j.j < length (rotations_of c.as_slice-rotations.result.now) = omega (arith, c.loop-j-test.true, as_many c.as_slice-rotations.result.now) in
     let is : c.index-rotations-j.result.pairs.items ≡ rotation_at (rotations_of c.as_slice-rotations.result.now) c.loop-j.j = pairs_read c.as_slice-rotations.result.now c.loop-j.j c.index-rotations-j.result (omega (arith, c.loop-j-test.true)) c.index-rotations-j.is in
     let pairs_are : c.as_slice-pairs.result.now ≡ rotation_at (rotations_of c.as_slice-rotations.result.now) c.loop-j.j = c.as_slice-pairs.ensures.value ∙ is in
@@ -85,13 +79,13 @@ loop-j-preserved c =
     let step = rw (c.deref.ensures.value, c.deref_mut.ensures.value) at c.in_ok-follow.ensures in
     let same = c.follow.auto.followers in
     record {
-      made = c.eliminate.ensures.made;
-      stage = next_stage chain inside c.loop-j.invariant.stage c.index-rotations-j.result.pairs.items is c.eliminate.ensures.moved;
+      made = c.move_round.ensures.made;
+      stage = next_stage chain inside c.loop-j.invariant.stage c.index-rotations-j.result.pairs.items is c.move_round.ensures.moved;
       notes_each = omega (arith, c.note_moves.ensures.moved.one_each, c.loop-j.invariant.notes_each);
-      last = last_more h chain c.loop-j.invariant.last moved;
-      marks = marks_more h chain inside c.loop-j.invariant.marks marked;
+      last = last_more h c.requires.made.matching chain c.loop-j.invariant.last moved;
+      marks = marks_more h c.requires.made.matching chain inside c.loop-j.invariant.marks marked;
       followed = rw (take-append_at_length c.loop-j.followers.len c.follow.new.followers (drop (length c.follow.new.followers) c.loop-j.followers.items) (omega (arith, c.deref_mut.ensures.len)))
-          (followed h chain inside c.loop-j.invariant.last c.loop-j.invariant.marks found c.loop-j.invariant.followed step);
+          (followed h c.requires.made.matching chain inside c.loop-j.invariant.last c.loop-j.invariant.marks found c.loop-j.invariant.followed step);
     }
 
 pub needs_by_followers-requires-clause-in_range : goal.needs_by_followers-requires-clause-in_range

@@ -5,8 +5,7 @@ use Rattle.sm_market.specs.Stable.{IsStable}
 use Rattle.sm_theory.specs.ClosedSets.{IsClosed, matching_of}
 use Rattle.sm_theory.specs.Values.{rotations_of}
 use Rattle.sm_poset.specs.Posets.{RotationPoset, poset_of}
-use Rattle.sm_market.proofs.PairingLemmas.{held_of_matching}
-use Rattle.sm_poset.proofs.HeldLemmas.{one_matching}
+use Rattle.sm_market.proofs.PairingLemmas.{held_of_matching, one_matching}
 use Rattle.sm_poset.proofs.SetLemmas.{IsMatchingOf, moves_in_range, matching_made}
 use Rattle.sm_poset.proofs.order.Poset.matching_of.Goals as goal
 

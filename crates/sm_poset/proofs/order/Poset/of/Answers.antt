@@ -3,10 +3,14 @@ use Rattle.std.proofs.lemmas.List.{length-map}
 use Rattle.sm_market.specs.Lists.{Lists}
 use Rattle.sm_market.specs.Vectors.{rows_of}
 use Rattle.sm_theory.specs.Values.{rotations_of}
+use Rattle.sm_theory.proofs.BridgeChain.{eliminable_of}
 use Rattle.sm_poset.specs.Posets.{poset_of}
 use Rattle.sm_poset.specs.Kept.{moves_in, AreMoves, AreLeaders, IsKept}
 use Rattle.sm_rotations.proofs.CountLemmas.{few_rotations}
 use Rattle.sm_poset.proofs.order.Poset.of.Goals as goal
+
+pub needs-requires-clause-eliminable : goal.needs-requires-clause-eliminable
+needs-requires-clause-eliminable c = eliminable_of c.requires.printed.chain
 
 pub invariant_of-result : goal.invariant_of-result
 invariant_of-result c =
