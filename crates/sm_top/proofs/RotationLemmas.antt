@@ -18,7 +18,7 @@ use Rattle.sm_instance.specs.declared.kinds.Side.TheVariants.{Proposers}
 use Rattle.sm_market.specs.Lists.{Lists, row, entry, place_of, agents}
 use Rattle.sm_market.specs.Vectors.{rows_of}
 use Rattle.sm_market.specs.Matching.{Places, held}
-use Rattle.sm_market.proofs.ListLemmas.{row_in_range}
+use Rattle.sm_lists.proofs.RowLemmas.{row_in_range}
 use Rattle.sm_report.specs.declared.lines.Seat.{Seat}
 use Rattle.sm_report.specs.Heads.{HeadData}
 use Rattle.sm_report.specs.Lines.{LineData, line_of}

@@ -26,7 +26,7 @@ use Rattle.sm_top.specs.Outcome.{OfTwo, IsAnswerOver, IsAnswer, IsRefused, Outco
 use Rattle.sm_top.specs.Input.{IsReadWhole, ReadWhole, IsTooLong}
 use Rattle.sm_top.specs.Running.{IsBeingRead, Ends, Answers, AnswersAccepted, reads, asks_to_read, is_whole, is_answer, is_too_long}
 use Rattle.sm_top.specs.Steps.{IsRefusalFor, IsRefusal, IsReadFault, Serves, ServesWords, SaysStop}
-use Rattle.sm_top.specs.declared.TheConstants.{MOST_BYTES}
+use Rattle.sm_text.specs.Limits.{most_bytes}
 use Rattle.sm_top.specs.Wrote.{Ended, Wrote, With, whole, sink_failed, no_memory}
 use Rattle.sm_top.proofs.WritingLemmas.{wrote_for}
 
@@ -77,15 +77,15 @@ whole_agrees (Some all) None bytes w = absurd w.given
 whole_agrees (Some all) (Some rest) bytes w = w.given ∙ ap (λ t. bytes ++ t) w.over ∙ append-nil bytes
 
 -- an input that is too long is refused
-too_long_text : (bytes : List ℕ) → MOST_BYTES < length bytes → instance_text bytes ≡ Err (TooLong, 0)
+too_long_text : (bytes : List ℕ) → most_bytes < length bytes → instance_text bytes ≡ Err (TooLong, 0)
 unfolding instance_text
-too_long_text bytes long = rw (lt-ltb MOST_BYTES (length bytes) long) refl
+too_long_text bytes long = rw (lt-ltb most_bytes (length bytes) long) refl
 
 -- the bytes that a source had, of which it gave too many
 record HadTooMany (left : Option (List ℕ)) : Type 0 where
   bytes : List ℕ
   agrees : Agrees left bytes
-  long : MOST_BYTES < length bytes
+  long : most_bytes < length bytes
 
 had_too_many : (before after : Option (List ℕ)) (refusal : RefusalData) → IsTooLong before after refusal → HadTooMany before
 had_too_many None after refusal h = record { bytes = h.given; agrees = tt; long = h.long }

@@ -3,7 +3,7 @@ use Rattle.std.specs.Prelude.{◌≡◌, ◌<◌, ◌≤◌, ℕ, List, length, 
 use Rattle.std.specs.Io.KnownBytes.{Consumes, IsAtEnd}
 use Rattle.sm_text.specs.declared.refusal.RefusalKind.TheVariants.{TooLong}
 use Rattle.sm_top.specs.Texts.{RefusalData, plain}
-use Rattle.sm_top.specs.declared.TheConstants.{MOST_BYTES}
+use Rattle.sm_text.specs.Limits.{most_bytes}
 
 -- a source that told its bytes before has none left
 abbrev pub IsReadWhole : Option (List ℕ) → Option (List ℕ) → Type 0
@@ -13,11 +13,11 @@ IsReadWhole left_before left_after = IfSome left_before (λ _. IsAtEnd left_afte
 pub record ReadWhole (left_before left_after : Option (List ℕ)) (bytes : List ℕ) : Type 0 where
   pub given : Consumes left_before left_after bytes
   pub over : IsReadWhole left_before left_after
-  pub short : length bytes ≤ MOST_BYTES
+  pub short : length bytes ≤ most_bytes
 
 -- more bytes than are taken were given, and the refusal is that of all of them
 pub record IsTooLong (left_before left_after : Option (List ℕ)) (refusal : RefusalData) : Type 0 where
   pub given : List ℕ
   pub consumed : Consumes left_before left_after given
-  pub long : MOST_BYTES < length given
+  pub long : most_bytes < length given
   pub says : refusal ≡ plain TooLong 0

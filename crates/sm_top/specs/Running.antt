@@ -8,7 +8,7 @@ use Rattle.sm_words.specs.Jobs.{JobData}
 use Rattle.sm_words.specs.Words.{words_meaning}
 use Rattle.sm_top.specs.declared.status.Status.{Status}
 use Rattle.sm_top.specs.declared.status.Status.TheVariants.{Refused, Usage, OutOfMemory, ReadFault, WriteFault}
-use Rattle.sm_top.specs.declared.TheConstants.{MOST_BYTES}
+use Rattle.sm_text.specs.Limits.{most_bytes}
 use Rattle.sm_top.specs.Input.{IsReadWhole}
 use Rattle.sm_top.specs.Texts.{RefusalData}
 use Rattle.sm_top.specs.Outcome.{Outcome, IsRefused}
@@ -39,7 +39,7 @@ is_too_long status = false
 
 -- the source told its bytes, has some left, and hasn't lost more than are taken
 abbrev pub IsBeingRead : Option (List ℕ) → Option (List ℕ) → Type 0
-IsBeingRead before after = IsSomeAnd before (λ all. IsSomeAnd after (λ rest. (rest ≢ []) × (length all ≤ length rest + MOST_BYTES)))
+IsBeingRead before after = IsSomeAnd before (λ all. IsSomeAnd after (λ rest. (rest ≢ []) × (length all ≤ length rest + most_bytes)))
 
 -- the text of right lines
 pub record IsText (right : List (List ℕ) → Type 0) (text : List ℕ) : Type 0 where

@@ -5,10 +5,9 @@ ghost use Rattle.sm_io.specs.Faults.{Rose};
 ghost use Rattle.sm_top.specs.Input.{ReadWhole, IsTooLong};
 ghost use Rattle.sm_top.specs.Stops.{StopsBy};
 
-use crate::MOST_BYTES;
 use crate::stop::Stop;
 use sm_io::{Source, Taken};
-use sm_text::RefusalKind;
+use sm_text::{MOST_BYTES, RefusalKind};
 use std::alloc::{AllocError, Global};
 
 /// How many bytes are asked for at a time.

@@ -26,8 +26,5 @@ pub use running::run;
 pub use sm_words::{Job, WordsFault, read_words};
 pub use status::Status;
 
-/// The greatest number of bytes of an input.
-const MOST_BYTES: usize = 16_777_216;
-
 #[cfg(test)]
 mod tests;

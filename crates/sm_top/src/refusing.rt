@@ -1,6 +1,7 @@
 //! Which inputs are refused.
 
 ghost use Rattle.std.specs.Prelude.{◌≡◌, ◌≤◌, ◌+◌, ◌<◌, ◌^◌, length, drop, true, MatchOption, IfOk, IfErr, Ok, Err};
+ghost use Rattle.sm_text.specs.Limits.{most_bytes};
 ghost use Rattle.sm_instance.specs.Inputs.{kind_of};
 ghost use Rattle.sm_text.specs.Lines.{lines};
 ghost use Rattle.sm_text.specs.Tokens.{tokens};
@@ -18,7 +19,7 @@ use std::alloc::Global;
 
 /// Reads an input for a job, where it isn't refused.
 pub(crate) fn accept(alloc: Global, job: &Job, bytes: &[u8]) -> Result<Read, Stop>
-    requires { length bytes.now ≤ 16777216 }
+    requires { length bytes.now ≤ most_bytes }
     ensures read { IfOk result (λ read. accepted (job_of job.now) bytes.now ≡ Ok (read_of read)) }
     ensures built { IfOk result (λ read. is_built (kind_of read.input) ≡ true) }
     ensures stop { IfErr result (λ stop. StopsBy (λ _. ⊥) (IsUnaccepted (job_of job.now) bytes.now) ⊥ stop) }
@@ -36,7 +37,7 @@ pub(crate) fn accept(alloc: Global, job: &Job, bytes: &[u8]) -> Result<Read, Sto
 // Why a text is refused though it was read, and at which line: for text behind `end`, else for a kind that isn't taken
 // yet, else for one that the job doesn't take. `None` where it isn't refused.
 fn refusal(job: &Job, bytes: &[u8], read: &Read) -> Option<(RefusalKind, u32)>
-    requires short { length bytes.now ≤ 16777216 }
+    requires short { length bytes.now ≤ most_bytes }
     requires read { instance_text bytes.now ≡ Ok (read_of read.now) }
     ensures { MatchOption result
         ((accepted (job_of job.now) bytes.now ≡ Ok (read_of read.now)) × (is_built (kind_of read.now.input) ≡ true))

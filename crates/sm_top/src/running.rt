@@ -1,6 +1,7 @@
 //! The top call.
 
 ghost use Rattle.std.specs.Prelude.{◌≡◌, ◌≤◌, ◌≢◌, Ok, Err, IfOk, IfErr, OnErr, length, true, false};
+ghost use Rattle.sm_text.specs.Limits.{most_bytes};
 ghost use Rattle.sm_io.specs.Faults.{Rose};
 ghost use Rattle.sm_instance.specs.Inputs.{kind_of};
 ghost use Rattle.sm_reader.specs.InstanceText.{read_of};
@@ -12,7 +13,6 @@ ghost use Rattle.sm_top.specs.Steps.{Serves, ServesWords, IsRefusalFor, IsRefusa
 ghost use Rattle.sm_top.specs.Stops.{StopsBy};
 ghost use Rattle.sm_top.specs.Wrote.{Wrote};
 
-use crate::MOST_BYTES;
 use crate::input::read_all;
 use crate::performing::perform;
 use crate::refusing::accept;
@@ -111,7 +111,7 @@ fn read_and_answer<S: Source, K: Sink>(
 
 // Does a job on an input that was read whole.
 fn answer<K: Sink>(alloc: Global, job: &Job, bytes: &[u8], sink: &mut K) -> Result<Status, Stop>
-    requires { length bytes.now ≤ MOST_BYTES }
+    requires { length bytes.now ≤ most_bytes }
     ensures wrote { IfOk result (λ status. Wrote (IsAnswer (job_of job.now) bytes.now) (K.held sink.old) (K.held sink.new) (K.faults sink.old) (K.faults sink.new) status) }
     ensures stop { IfErr result (λ stop. StopsBy (λ _. ⊥) (IsRefused (job_of job.now) bytes.now) ⊥ stop) }
     ensures unwritten { OnErr result (sink.new ≡ sink.old) }
