@@ -19,7 +19,7 @@ impl Instance {
         self.holds_forced(a) && self.holds_no_forbidden(a)
     }
 
-    /// Is a proposer at a reviewer?
+    // Is a proposer at a reviewer?
     fn is_at(&self, a: &Assignment, p: u32, r: u32) -> bool
         requires matching { IsMatching self.now a.now.places.items }
         requires in_range { p < length self.now.proposers }
@@ -31,7 +31,7 @@ impl Instance {
         }
     }
 
-    /// Does a matching hold every forced pair?
+    // Does a matching hold every forced pair?
     fn holds_forced(&self, a: &Assignment) -> bool
         requires matching { IsMatching self.now a.now.places.items }
         ensures { IsTrue result
@@ -47,7 +47,7 @@ impl Instance {
         true
     }
 
-    /// Does a matching hold no forbidden pair?
+    // Does a matching hold no forbidden pair?
     fn holds_no_forbidden(&self, a: &Assignment) -> bool
         requires matching { IsMatching self.now a.now.places.items }
         ensures { IsTrue result

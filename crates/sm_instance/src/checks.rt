@@ -29,7 +29,7 @@ pub(crate) fn are_within_limits(left: &[Agent], right: &[Agent]) -> bool
     }
 }
 
-/// How many of so many entries these agents leave; `None` where they have more.
+// How many of so many entries these agents leave; `None` where they have more.
 fn entries_left(agents: &[Agent], most: usize) -> Option<usize>
     ensures { MatchOption result
         (most < entries_of (agents_of agents.now))
@@ -81,7 +81,7 @@ fn hash_of_names(agents: &[Agent]) -> TextHash {
     digest.hash()
 }
 
-/// May an agent have this capacity, where it is 1 for all or not?
+// May an agent have this capacity, where it is 1 for all or not?
 fn is_capacity(capacity: u32, single: bool) -> bool
     ensures { IsTrue result ↔ ((capacity ≤ most_capacity) × (IsTrue single → capacity ≡ 1)) }
 {
@@ -110,8 +110,8 @@ pub(crate) fn check_entries(
     Ok(())
 }
 
-/// The place of the first entry of a list that isn't sound. Agents that were met on the list get its stamp, one more than
-/// the number of its owner.
+// The place of the first entry of a list that isn't sound. Agents that were met on the list get its stamp, one more than
+// the number of its owner.
 fn first_bad_place(agents: &[Agent], a: u32, met: &mut [u32]) -> Option<u32>
     requires in_range { a < length agents.now }
     requires agents { length agents.now ≤ most_agents }
@@ -135,7 +135,7 @@ fn first_bad_place(agents: &[Agent], a: u32, met: &mut [u32]) -> Option<u32>
     None
 }
 
-/// The first pair that names a proposer or a reviewer that isn't there.
+// The first pair that names a proposer or a reviewer that isn't there.
 fn first_bad_pair(pairs: &[(u32, u32)], proposers: u32, reviewers: u32) -> Option<u32>
     requires { length pairs.now < 2 ^ 24 }
     ensures { MatchOption result
@@ -161,7 +161,7 @@ fn hash_of_weights(weights: &[(u32, u32, i64)]) -> TextHash {
     digest.hash()
 }
 
-/// The pairs that are weighed, or the first weight that isn't sound.
+// The pairs that are weighed, or the first weight that isn't sound.
 fn checked_weights(
     alloc: Global,
     proposers: u32,
@@ -246,7 +246,7 @@ pub(crate) fn checked(
     Ok((left, right, weighed))
 }
 
-/// The names of both sides, or the first agent that isn't sound.
+// The names of both sides, or the first agent that isn't sound.
 fn checked_agents(
     alloc: Global,
     kind: Kind,
@@ -267,7 +267,7 @@ fn checked_agents(
     Ok((left, right))
 }
 
-/// Whether all entries of both sides are sound; if not, the first that isn't.
+// Whether all entries of both sides are sound; if not, the first that isn't.
 fn check_lists(alloc: Global, proposers: &[Agent], reviewers: &[Agent]) -> Result<(), InstanceFault>
     requires { IsWithinLimits (agents_of proposers.now) (agents_of reviewers.now) }
     ensures proposers { OnOk result (AreSoundEntries (agents_of proposers.now) (length (agents_of reviewers.now))) }
@@ -279,7 +279,7 @@ fn check_lists(alloc: Global, proposers: &[Agent], reviewers: &[Agent]) -> Resul
     check_entries(alloc, Side::Reviewers, reviewers, proposers.len() as u32)
 }
 
-/// Has every reviewer a single place, in an instance of this kind?
+// Has every reviewer a single place, in an instance of this kind?
 fn is_single(kind: Kind) -> bool
     ensures { result ≡ is_single_kind kind }
 {

@@ -254,7 +254,7 @@ impl Instance {
         &self.reviewer_crosses[r as usize]
     }
 
-    /// The cross place that is kept.
+    // The cross place that is kept.
     fn kept_cross(&self, p: u32, place: u32) -> Option<u32>
         requires in_range { p < length self.now.proposers }
         requires on_list { place < length (row self.now.proposers p) }

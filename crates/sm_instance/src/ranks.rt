@@ -56,7 +56,7 @@ impl Instance {
         weight
     }
 
-    /// The rank that the reviewer at a place of a proposer's list gives the proposer.
+    // The rank that the reviewer at a place of a proposer's list gives the proposer.
     fn rank_back(&self, p: u32, place: u32) -> u32
         requires in_range { p < length self.now.proposers }
         requires on_list { place < length (row self.now.proposers p) }
@@ -71,7 +71,7 @@ impl Instance {
         }
     }
 
-    /// The greater of the ranks that a proposer and its partner give each other.
+    // The greater of the ranks that a proposer and its partner give each other.
     fn worse_rank(&self, a: &Assignment, p: u32) -> u32
         requires matching { IsMatching self.now a.now.places.items }
         requires in_range { p < length self.now.proposers }
@@ -86,7 +86,7 @@ impl Instance {
         }
     }
 
-    /// The weight of a proposer and its partner.
+    // The weight of a proposer and its partner.
     fn pair_weight(&self, a: &Assignment, p: u32, by: Measure) -> i64
         requires matching { IsMatching self.now a.now.places.items }
         requires in_range { p < length self.now.proposers }

@@ -1,8 +1,12 @@
 -- The names at the end of tokens.
-use Rattle.std.proofs.Common.{◌≡◌, ℕ, zero, suc, ◌+◌, ◌-◌, ◌≤◌, true, List, [], ◌∷◌, length, take, drop, refl, sym, ap, subst, ◌∙◌, arith}
+use Rattle.std.proofs.Common.{◌≡◌, ℕ, zero, suc, ◌+◌, ◌-◌, ◌<◌, ◌≤◌, ◌&&◌, nat_le, true, false, ◌++◌, ⊎_elim, List, [], ◌∷◌, length, take, drop, refl, sym, ap, subst, ◌∙◌, arith}
 use Rattle.std.specs.List.{list_all}
 use Rattle.std.specs.Borrow.{Bor}
-use Rattle.std.proofs.lemmas.List.{take_rest, drop-drop, drop-map, drop_all, length-map, length-drop}
+use Rattle.std.proofs.lemmas.Bool.{cases_lt}
+use Rattle.std.proofs.lemmas.Bool.Decides.{nat_tests}
+use Rattle.std.proofs.lemmas.List.Folds.{list_all-append}
+use Rattle.sm_reader.proofs.BadLemmas.{and_false}
+use Rattle.std.proofs.lemmas.List.{drop-append-le, take_rest, drop-drop, drop-map, drop_all, length-map, length-drop}
 use Rattle.sm_text.specs.Name.{is_name, is_name_byte}
 use Rattle.sm_text.specs.Tokens.{begins_run}
 use Rattle.sm_instance.specs.declared.kinds.Kind.{Kind}
@@ -14,7 +18,7 @@ module _ (names : ℕ) where
   -- they are the names at the end of what stands behind some of the tokens
   names_behind : (n : ℕ) (tokens : List (List ℕ)) → AreNamesAtEnd names tokens → AreNamesAtEnd names (drop n tokens)
   names_behind n tokens h = record {
-    are = λ k few. let e = drop-drop k n tokens in ap (list_all is_name) e ∙ h.are _ (subst (λ ts. length ts ≤ names) e few);
+    are = λ k. subst (λ ts. list_all is_name ts ≡ nat_le (length ts) names) (sym (drop-drop k n tokens)) (h.are _);
   }
 
   -- and so in the rest of a slice
@@ -23,13 +27,16 @@ module _ (names : ℕ) where
       subst (λ (ts : List (Bor (List ℕ))). AreNamesAtEnd names (texts_of ts)) (sym (take_rest tokens n))
       (subst (AreNamesAtEnd names) (drop-map (λ (x : Bor (List ℕ)). x.now) n tokens) (names_behind n (texts_of tokens) h))
 
+  none_there : AreNamesAtEnd names []
+  none_there = record { are = λ k. subst (λ (ts : List (List ℕ)). list_all is_name ts ≡ nat_le (length ts) names) (sym (drop_all k [] (omega arith))) (let e : true ≡ nat_le 0 names = grind (arith, nat_tests) in e) }
+
   -- and of the list of a line
   pub form_names : (kind : Kind) (word : List ℕ) (rest : List (List ℕ)) → AreNamesAtEnd names rest → AreNamesAtEnd names (listed (form_behind kind word rest))
-  form_names = list_behind (AreNamesAtEnd names) (AreNamesAtEnd names) (λ t ts. names_behind 1 (t ∷ ts)) (record { are = λ k few. ap (list_all is_name) (drop_all k [] (omega arith)) }) (λ ts begin h. h)
+  form_names = list_behind (AreNamesAtEnd names) (AreNamesAtEnd names) (λ t ts. names_behind 1 (t ∷ ts)) none_there (λ ts begin h. h)
 
-  -- all tokens are names where there are no more of them
-  pub all_names : (tokens : List (Bor (List ℕ))) → AreNamesAtEnd names (texts_of tokens) → length tokens ≤ names → list_all is_name (texts_of tokens) ≡ true
-  all_names tokens h few = h.are 0 (omega (arith, length-map tokens (λ (x : Bor (List ℕ)). x.now)))
+  -- all tokens are names exactly where there are no more of them
+  pub all_names : (tokens : List (Bor (List ℕ))) → AreNamesAtEnd names (texts_of tokens) → list_all is_name (texts_of tokens) ≡ nat_le (length tokens) names
+  all_names tokens h = h.are 0 ∙ ap (λ n. nat_le n names) (length-map tokens (λ (x : Bor (List ℕ)). x.now))
 
 -- those behind some of the names are names
 names_drop : (n : ℕ) (tokens : List (List ℕ)) → list_all is_name tokens ≡ true → list_all is_name (drop n tokens) ≡ true
@@ -37,13 +44,31 @@ names_drop zero tokens h = h
 names_drop (suc n) [] h = refl
 names_drop (suc n) (t ∷ ts) h = names_drop n ts (and_right (is_name t) (list_all is_name ts) h)
 
--- the tokens from a place on are the names at the end
-pub names_from : (place : ℕ) (tokens : List (List ℕ)) → list_all is_name (drop place tokens) ≡ true → place ≤ length tokens → AreNamesAtEnd (length tokens - place) tokens
-names_from place tokens h within = record {
-  are = λ k few.
-      let e : place + (k - place) ≡ k = omega (arith, few, within, length-drop k tokens) in
-      ap (λ n. list_all is_name (drop n tokens)) (sym e) ∙ ap (list_all is_name) (sym (drop-drop (k - place) place tokens)) ∙ names_drop (k - place) (drop place tokens) h;
-}
+-- the tokens from a place on are the names at the end, where those from any earlier place on aren't all names
+pub names_from : (place : ℕ) (tokens : List (List ℕ)) → list_all is_name (drop place tokens) ≡ true
+    → ((k : ℕ) → k < place → list_all is_name (drop k tokens) ≡ false) → place ≤ length tokens → AreNamesAtEnd (length tokens - place) tokens
+names_from place tokens h other within = record { are = λ k. ⊎_elim (earlier k) (later k) (cases_lt k place) }
+  where
+    earlier : (k : ℕ) → k < place → list_all is_name (drop k tokens) ≡ nat_le (length (drop k tokens)) (length tokens - place)
+    earlier k before = other k before ∙ (let no : false ≡ nat_le (length (drop k tokens)) (length tokens - place) = grind (arith, nat_tests, length-drop k tokens) in no)
+
+    later : (k : ℕ) → place ≤ k → list_all is_name (drop k tokens) ≡ nat_le (length (drop k tokens)) (length tokens - place)
+    later k behind =
+        let e : place + (k - place) ≡ k = omega (arith, behind) in
+        let yes : nat_le (length (drop k tokens)) (length tokens - place) ≡ true = grind (arith, nat_tests, length-drop k tokens) in
+        ap (λ n. list_all is_name (drop n tokens)) (sym e) ∙ ap (list_all is_name) (sym (drop-drop (k - place) place tokens)) ∙ names_drop (k - place) (drop place tokens) h
+        ∙ sym yes
+
+-- one more token, which is a name or isn't
+module _ (texts : List (List ℕ)) (t : List ℕ) (others : ℕ) where
+  pub other_before_name : ((k : ℕ) → k < others → list_all is_name (drop k texts) ≡ false) → others ≤ length texts → (k : ℕ) → k < others → list_all is_name (drop k (texts ++ t ∷ [])) ≡ false
+  other_before_name other within k before =
+      ap (list_all is_name) (drop-append-le k texts (t ∷ []) (omega arith)) ∙ list_all-append is_name (drop k texts) (t ∷ []) ∙ ap (λ s. s && list_all is_name (t ∷ [])) (other k before)
+
+  pub other_at_end : is_name t ≡ false → (k : ℕ) → k < length texts + 1 → list_all is_name (drop k (texts ++ t ∷ [])) ≡ false
+  other_at_end isnt k before =
+      ap (list_all is_name) (drop-append-le k texts (t ∷ []) (omega arith)) ∙ list_all-append is_name (drop k texts) (t ∷ []) ∙ ap (λ s. list_all is_name (drop k texts) && (s && true)) isnt
+      ∙ and_false (list_all is_name (drop k texts))
 
 -- names are runs
 name_begins : (token : List ℕ) → is_name token ≡ true → begins_run token ≡ true

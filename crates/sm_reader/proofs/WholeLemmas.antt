@@ -1,5 +1,5 @@
 -- Tokens that begin with a name byte are name bytes all through.
-use Rattle.std.proofs.Common.{◌≡◌, ℕ, suc, ◌+◌, ◌-◌, ◌<◌, ◌≤◌, cond, eqb, ◌&&◌, ◌||◌, not, Bool, true, false, List, [], ◌∷◌, length, get_or, take, drop, Option, Some, None, nat_le, refl, sym, ap, subst, ◌∙◌, arith}
+use Rattle.std.proofs.Common.{◌≡◌, ℕ, suc, ◌+◌, ◌-◌, ◌≤◌, cond, eqb, ◌&&◌, ◌||◌, not, Bool, true, false, List, [], ◌∷◌, length, get_or, take, drop, Option, Some, None, nat_le, refl, sym, ap, subst, ◌∙◌, arith}
 use Rattle.std.specs.Option.{option_or}
 use Rattle.std.specs.List.{list_all, onto_first, prefix_len}
 use Rattle.std.specs.Str.{bytes_eq}
@@ -18,10 +18,7 @@ use Rattle.sm_instance.specs.declared.kinds.Side.TheVariants.{Proposers, Reviewe
 use Rattle.sm_reader.specs.declared.forms.Condition.{Condition}
 use Rattle.sm_reader.specs.declared.forms.Condition.TheVariants.{Force, Forbid}
 use Rattle.sm_reader.specs.Forms.{Form, declares, weighs, binds, list_form, capacity_form, weight_form, pair_form, reviewer_form, two_sided_form, form_behind, is_colon}
-use Rattle.sm_reader.specs.Kept.{texts_of, is_whole, is_inner, AreRuns}
-use Rattle.sm_reader.proofs.TextLemmas.{all_texts_fail}
-use Rattle.std.specs.Borrow.{Bor}
-use Rattle.std.proofs.lemmas.List.{get_or_default}
+use Rattle.sm_reader.specs.Kept.{is_inner}
 use Rattle.sm_reader.specs.Draft.{entries_in}
 
 pub and_left : (s t : Bool) → (s && t) ≡ true → s ≡ true
@@ -35,6 +32,10 @@ and_right false t h = cc
 or_right : (s t : Bool) → (not s || t) ≡ true → s ≡ true → t ≡ true
 or_right true t h k = h
 or_right false t h k = cc
+
+-- a token is name bytes all through where it begins with one
+abbrev is_whole : List ℕ → Bool
+is_whole token = not (begins_run token) || list_all is_name_byte token
 
 itself : (s : Bool) → (not s || (s && true)) ≡ true
 itself true = refl
@@ -79,20 +80,10 @@ leading_run line from start stop leading begins =
     let whole = subst (λ ts. list_all is_whole ts ≡ true) leading.leads (tokens_whole (drop from line)) in
     or_right (begins_run token) (list_all is_name_byte token) (and_left (is_whole token) (list_all is_whole (tokens (drop stop line))) whole) begins
 
--- runs among whole tokens
-runs_whole : (tokens : List (List ℕ)) → list_all begins_run tokens ≡ true → list_all is_whole tokens ≡ true → AreRuns tokens
-runs_whole [] begin whole = refl
-runs_whole (t ∷ ts) begin whole =
-    let all : list_all is_name_byte t ≡ true = or_right (begins_run t) (list_all is_name_byte t) (and_left (is_whole t) (list_all is_whole ts) whole) (and_left (begins_run t) (list_all begins_run ts) begin) in
-    rw all (runs_whole ts (and_right (begins_run t) (list_all begins_run ts) begin) (and_right (is_whole t) (list_all is_whole ts) whole))
-
 -- the list of a line that may have one
 abbrev pub listed : Option Form → List (List ℕ)
 listed None = []
 listed (Some form) = entries_in form
-
-tail_whole : (t : List ℕ) (ts : List (List ℕ)) → list_all is_whole (t ∷ ts) ≡ true → list_all is_whole ts ≡ true
-tail_whole t ts h = and_right (is_whole t) (list_all is_whole ts) h
 
 -- what holds of tokens and of those behind the first of them, and so of runs among them, holds of the list of a line
 module _ (P Q : List (List ℕ) → Type 0) (tail : (t : List ℕ) (ts : List (List ℕ)) → P (t ∷ ts) → P ts)
@@ -168,15 +159,6 @@ module _ (P Q : List (List ℕ) → Type 0) (tail : (t : List ℕ) (ts : List (L
   list_behind Marriage word rest h = of_cond (bytes_eq word (codes "p")) (list_form Proposers rest) (two_sided_form Marriage word rest) (of_list Proposers rest h) (of_two_sided Marriage word rest h)
   list_behind Hospitals word rest h = of_cond (bytes_eq word (codes "p")) (list_form Proposers rest) (two_sided_form Hospitals word rest) (of_list Proposers rest h) (of_two_sided Hospitals word rest h)
 
--- the lists of lines are runs
-pub form_runs : (kind : Kind) (word : List ℕ) (rest : List (List ℕ)) → list_all is_whole rest ≡ true → AreRuns (listed (form_behind kind word rest))
-form_runs = list_behind (λ ts. list_all is_whole ts ≡ true) AreRuns tail_whole refl runs_whole
-
--- all tokens behind the first are whole
-pub rest_whole : (tokens : List (Bor (List ℕ))) → list_all is_whole (texts_of tokens) ≡ true → list_all is_whole (texts_of (drop 1 tokens)) ≡ true
-rest_whole [] h = refl
-rest_whole (t ∷ ts) h = tail_whole t.now (texts_of ts) h
-
 -- a name byte begins a name unless it is one of those that don't
 first_begins : (b : ℕ) → is_name_byte b ≡ true → begins_name b ≡ not (is_inner b)
 unfolding is_name_byte begins_name
@@ -200,11 +182,3 @@ name_of_run (b ∷ rest) some all =
     let one : nat_le 1 (length (b ∷ rest)) ≡ true = grind (arith, nat_tests) in
     two_of_four (nat_le 1 (length (b ∷ rest))) (nat_le (length (b ∷ rest)) most_name_bytes) (begins_name b) (list_all is_name_byte (b ∷ rest)) (not (is_inner b)) one all
     (first_begins b (and_left (is_name_byte b) (list_all is_name_byte rest) all))
-
--- one of the runs
-pub run_at : (xs : List (Bor (List ℕ))) (i : ℕ) (d : Bor (List ℕ)) → i < length xs → AreRuns (texts_of xs) → list_all is_name_byte (get_or xs i d).now ≡ true
-run_at xs i d inside runs = by_test (list_all is_name_byte (get_or xs i d).now) refl
-  where
-    by_test : (t : Bool) → list_all is_name_byte (get_or xs i d).now ≡ t → list_all is_name_byte (get_or xs i d).now ≡ true
-    by_test true e = e
-    by_test false e = absurd (false≢true (sym (all_texts_fail (list_all is_name_byte) xs i (get_or xs i d) inside (get_or_default xs i d (get_or xs i d) inside) e) ∙ runs))

@@ -1,5 +1,5 @@
 -- What the reading keeps of lines and of the names on them.
-use Rattle.std.specs.Prelude.{◌≡◌, ◌≢◌, ℕ, ◌<◌, ◌≤◌, ◌==◌, Bool, true, false, not, ◌||◌, if◌then◌else◌, List, [], ◌∷◌, ◌++◌, length, map, drop, slice_index, slice_index_or, position, Option, Some, None, AllPairs}
+use Rattle.std.specs.Prelude.{nat_le, ◌≡◌, ◌≢◌, ℕ, ◌<◌, ◌≤◌, ◌==◌, Bool, true, false, not, ◌||◌, if◌then◌else◌, List, [], ◌∷◌, ◌++◌, length, map, drop, slice_index, slice_index_or, position, Option, Some, None, AllPairs}
 use Rattle.std.specs.List.{list_any, list_all}
 use Rattle.std.specs.Borrow.{Bor}
 use Rattle.std.specs.Str.{bytes_eq}
@@ -7,8 +7,7 @@ use Rattle.std.specs.declared.alloc.Global.{Global}
 use Rattle.std.specs.Prelude.{Vec, ◌+◌}
 use Rattle.indexmap.specs.IndexSet.{keys}
 use Rattle.sm_text.specs.Lines.{lines, first_line, content}
-use Rattle.sm_text.specs.Name.{is_name, is_name_byte}
-use Rattle.sm_text.specs.Tokens.{begins_run}
+use Rattle.sm_text.specs.Name.{is_name}
 use Rattle.sm_reader.specs.Judging.{has_repeated}
 use Rattle.sm_reader.specs.declared.keys.Key.{Key}
 use Rattle.sm_reader.specs.declared.names.Names.{Names}
@@ -24,21 +23,13 @@ text_of key = key.text.now
 abbrev pub key_texts : List Key → List (List ℕ)
 key_texts keys = map text_of keys
 
--- a token is name bytes all through where it begins with one
-abbrev pub is_whole : List ℕ → Bool
-is_whole token = not (begins_run token) || list_all is_name_byte token
-
 -- `.` or `-`: the name bytes with which no name begins
 abbrev pub is_inner : ℕ → Bool
 is_inner b = b == 46 || b == 45
 
--- these are name bytes all through
-abbrev pub AreRuns : List (List ℕ) → Type 0
-AreRuns tokens = list_all (list_all is_name_byte) tokens ≡ true
-
--- the last so many of the tokens are names: where no more than that stand behind the first k, these are
+-- the last so many of the tokens are names, and no more: those behind the first k are where they are no more than that
 pub record AreNamesAtEnd (names : ℕ) (tokens : List (List ℕ)) : Type 0 where
-  pub are : (k : ℕ) → length (drop k tokens) ≤ names → list_all is_name (drop k tokens) ≡ true
+  pub are : (k : ℕ) → list_all is_name (drop k tokens) ≡ nat_le (length (drop k tokens)) names
 
 -- a line holds this text and is the first of those from a place on; behind it those from the next place on stand
 pub record LeadsLines (bytes : List ℕ) (from : ℕ) (text : List ℕ) (next : ℕ) : Type 0 where

@@ -77,8 +77,8 @@ pub(crate) fn is_end(tokens: &[&[u8]]) -> bool
     }
 }
 
-/// The form of a line that begins with a word, `None` where it has none. The last `names` tokens behind the word are known
-/// to be names.
+/// The form of a line that begins with a word, `None` where it has none. The last `names` tokens behind the word are
+/// names, and no more.
 #[tactic(auto, unfolding(crate::specs::Forms::form_behind))]
 pub(crate) fn form_behind<'a, 'b>(
     kind: Kind,
@@ -212,7 +212,7 @@ fn pair_form<'a, 'b>(condition: Condition, rest: &'b [&'a [u8]]) -> Option<Form<
     }
 }
 
-// Are all these tokens runs? The last `names` of them are known to be names.
+// Are all these tokens runs? The last `names` of them are names, and no more.
 fn are_runs(tokens: &[&[u8]], names: usize) -> bool
     requires { AreNamesAtEnd names (texts_of tokens.now) }
     ensures { result ≡ list_all begins_run (texts_of tokens.now) }

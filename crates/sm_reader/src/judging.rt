@@ -9,14 +9,14 @@ ghost use Rattle.sm_text.specs.Limits.{most_agents, most_entries};
 ghost use Rattle.sm_text.specs.Name.{is_name as is_a_name};
 ghost use Rattle.sm_reader.specs.Forms.{is_bad};
 ghost use Rattle.sm_reader.specs.Judging.{verdict_on, fault_of, has_repeated};
-ghost use Rattle.sm_reader.specs.Kept.{texts_of, table_of, IsTable, is_whole, AreRuns, AreNamesAtEnd};
+ghost use Rattle.sm_reader.specs.Kept.{texts_of, table_of, IsTable, AreNamesAtEnd};
 ghost use Rattle.sm_reader.specs.Draft.{said_of, form_of, entries_in, listed_side, table_on, declared_on, IsDraft, Adds, Judges, IsRefusedBy, IsLineFault, run_fault, name_fault, limit_fault, IsChecked, DeclaresOn, ListsOn, PutsOn, RefusesFor, PairsOf, AddsAgent, ArePairsBelow, pairs_of, key_of, weights_in, weight_fault, PutsWeight, PutsPair, Binds};
 
 use crate::draft::{Declared, Draft, Pair, Weight};
 use crate::faults::TextFault;
 use crate::forms::{Condition, Form, form_behind, is_end};
 use crate::names::list;
-use crate::tokens::{Found, is_name_run};
+use crate::tokens::Found;
 use sm_instance::{Kind, Side};
 use sm_text::{
     MOST_AGENTS, MOST_CAPACITY, MOST_ENTRIES, MOST_WEIGHT, RefusalKind, is_name, number, signed,
@@ -51,7 +51,6 @@ pub(crate) fn judge<'a>(
     found: Found,
 ) -> Result<Step, TextFault>
     requires draft { IsDraft kind line draft.old }
-    requires whole { list_all is_whole (texts_of tokens.now) ≡ true }
     requires bad { found.bad ≡ list_any is_bad (texts_of tokens.now) }
     requires names { AreNamesAtEnd found.names (texts_of tokens.now) }
     ensures judged { IfOk result (λ step. Judges kind line (texts_of tokens.now) draft.old draft.new step) }
@@ -75,7 +74,7 @@ pub(crate) fn judge<'a>(
     }
 }
 
-// Adds what a line of this form says, unless it has a fault. The last `names` runs on its list are known to be names.
+// Adds what a line of this form says, unless it has a fault. The last `names` runs on its list are names, and no more.
 fn add<'a>(
     alloc: Global,
     kind: Kind,
@@ -85,7 +84,6 @@ fn add<'a>(
     names: usize,
 ) -> Result<(), TextFault>
     requires draft { IsDraft kind line draft.old }
-    requires runs { AreRuns (entries_in (form_of form)) }
     requires names { AreNamesAtEnd names (entries_in (form_of form)) }
     ensures added { IfOk result (λ _. Adds kind line (form_of form.entry) draft.old draft.new) }
     ensures fault { IfErr result (λ f. IsLineFault (fault_of (said_of kind draft.old) (form_of form.entry)) line f) }
@@ -127,8 +125,7 @@ fn checked_capacity(
     names: usize,
     line: u32,
 ) -> Result<u32, TextFault>
-    requires runs { AreRuns (texts_of entries.now) }
-    requires names { AreNamesAtEnd names (texts_of entries.now) }
+    requires { AreNamesAtEnd names (texts_of entries.now) }
     ensures checked { IfOk result (λ n. IsChecked name.now (option_map (λ x. x.now) capacity.entry) (texts_of entries.now) n) }
     ensures fault { IfErr result (λ f. IsLineFault (run_fault name.now (option_map (λ x. x.now) capacity.entry) (texts_of entries.now)) line f) }
 {
@@ -144,21 +141,13 @@ fn checked_capacity(
     }
 }
 
-// Are all these runs names? The last `names` of them are known to be.
+// Are all these runs names? The last `names` of them are, and no more.
+#[tactic(auto, using(crate::proofs::NameLemmas::all_names))]
 fn are_names(runs: &[&[u8]], names: usize) -> bool
-    requires runs { AreRuns (texts_of runs.now) }
-    requires names { AreNamesAtEnd names (texts_of runs.now) }
+    requires { AreNamesAtEnd names (texts_of runs.now) }
     ensures { result ≡ list_all is_a_name (texts_of runs.now) }
 {
-    if runs.len() <= names {
-        return true;
-    }
-    'runs: for run in runs {
-        if !is_name_run(run) {
-            return false;
-        }
-    }
-    true
+    runs.len() <= names
 }
 
 // Adds an agent with its list.

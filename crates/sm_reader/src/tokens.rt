@@ -15,7 +15,7 @@ use std::alloc::AllocError;
 pub(crate) struct Found {
     /// Is a token a byte that no line of an instance holds?
     pub(crate) bad: bool,
-    /// How many tokens at the end of the line are known to be names.
+    /// How many tokens at the end of the line are names.
     pub(crate) names: usize,
 }
 
@@ -26,7 +26,7 @@ struct Token {
     stop: usize,
     // Is it a byte that no line of an instance holds?
     bad: bool,
-    // Is it known to be a name?
+    // Is it a name?
     name: bool,
 }
 
@@ -49,7 +49,7 @@ pub(crate) fn cut<'a>(line: &'a [u8], into: &mut Vec<&'a [u8]>) -> Result<Found,
     into.clear();
     let mut from = 0;
     let mut bad = false;
-    // The place behind the last token that isn't known to be a name.
+    // The place behind the last token that isn't a name.
     let mut others = 0;
     'tokens: while let Some(token) = token_from(line, from) {
         bad = bad || token.bad;
@@ -67,7 +67,7 @@ pub(crate) fn cut<'a>(line: &'a [u8], into: &mut Vec<&'a [u8]>) -> Result<Found,
 fn token_from(line: &[u8], from: usize) -> Option<Token>
     ensures places { MatchOption result (tokens (drop from line.now) ≡ []) (λ t. IsLeading line.now from t.start t.stop) }
     ensures bad { IfSome result (λ t. t.bad ≡ is_bad (take (t.stop - t.start) (drop t.start line.now))) }
-    ensures name { IfSome result (λ t. t.name ≡ true → is_a_name (take (t.stop - t.start) (drop t.start line.now)) ≡ true) }
+    ensures name { IfSome result (λ t. t.name ≡ is_a_name (take (t.stop - t.start) (drop t.start line.now))) }
 {
     match token_at(line, from) {
         TokenAt::Run(start, stop) => Some(Token {
@@ -102,8 +102,8 @@ pub(crate) fn is_run(token: &[u8]) -> bool
     }
 }
 
-/// Is this run, which is name bytes all through, a name?
-pub(crate) fn is_name_run(run: &[u8]) -> bool
+// Is this run, which is name bytes all through, a name?
+fn is_name_run(run: &[u8]) -> bool
     requires { list_all is_name_byte run.now ≡ true }
     ensures { result ≡ is_a_name run.now }
 {

@@ -40,7 +40,7 @@ pub fn put_line(into: &mut LineWriter, input: &Input, line: &Line) -> Result<(),
     into.put_bytes(b"\n")
 }
 
-/// Puts a word and fields, with a space between each two of them.
+// Puts a word and fields, with a space between each two of them.
 fn put_words(
     into: &mut LineWriter,
     input: &Input,
@@ -54,7 +54,7 @@ fn put_words(
     put_fields(into, input, fields)
 }
 
-/// Puts a word, fields and a list, with a space between each two of them.
+// Puts a word, fields and a list, with a space between each two of them.
 fn put_list(
     into: &mut LineWriter,
     input: &Input,
@@ -199,7 +199,7 @@ pub fn put_text(into: &mut LineWriter, input: &Input, line: &Line) -> Result<(),
     }
 }
 
-/// Puts the text of a first line: the command, and its operands with what wasn't said filled in.
+// Puts the text of a first line: the command, and its operands with what wasn't said filled in.
 fn put_head(into: &mut LineWriter, input: &Input, head: &Head) -> Result<(), AllocError>
     ensures { PutsText into.old into.new (join_with_byte 32 (codes "answer" ∷ fields_of_head (head_of head.now))) result }
 {
@@ -254,7 +254,7 @@ fn put_head(into: &mut LineWriter, input: &Input, head: &Head) -> Result<(), All
     }
 }
 
-/// Puts `answer` and fields.
+// Puts `answer` and fields.
 fn put_answer(into: &mut LineWriter, input: &Input, fields: &[Field<'_>]) -> Result<(), AllocError>
     requires { AreShown input.now fields.now }
     ensures { PutsText into.old into.new (join_with_byte 32 (codes "answer" ∷ map (text_of_field input.now) fields.now)) result }

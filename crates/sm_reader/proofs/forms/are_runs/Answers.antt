@@ -1,4 +1,5 @@
-use Rattle.std.proofs.Common.{◌∙◌, sym, get_or, ℕ, List, []}
+use Rattle.std.proofs.Common.{arith, ◌∙◌, sym, get_or, ℕ, List, []}
+use Rattle.std.proofs.lemmas.Bool.Decides.{nat_tests}
 use Rattle.std.specs.Borrow.{Bor}
 use Rattle.std.proofs.lemmas.List.{get_or_default}
 use Rattle.sm_text.specs.Tokens.{begins_run}
@@ -8,7 +9,7 @@ use Rattle.sm_reader.proofs.NameLemmas.{all_names, names_begin}
 use Rattle.sm_reader.proofs.forms.are_runs.Goals as goal
 
 pub returns-then-tokens-names : goal.returns-then-tokens-names
-returns-then-tokens-names c = sym (names_begin (texts_of c.args.tokens.now) (all_names c.args.names c.args.tokens.now c.requires c.if-tokens-names.true))
+returns-then-tokens-names c = sym (names_begin (texts_of c.args.tokens.now) (all_names c.args.names c.args.tokens.now c.requires ∙ grind (arith, nat_tests, c.if-tokens-names.true)))
 
 pub returns-then-not-is_run : goal.returns-then-not-is_run
 returns-then-not-is_run c =

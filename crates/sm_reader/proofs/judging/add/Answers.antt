@@ -3,7 +3,7 @@ use Rattle.std.specs.Option.{option_map}
 use Rattle.std.specs.Result.{IfOk, IfErr}
 use Rattle.sm_reader.specs.Forms.{declares, weighs, binds}
 use Rattle.sm_reader.specs.Judging.{fault_of}
-use Rattle.sm_reader.specs.Kept.{texts_of, AreRuns, AreNamesAtEnd}
+use Rattle.sm_reader.specs.Kept.{texts_of, AreNamesAtEnd}
 use Rattle.sm_reader.specs.Draft.{said_of, form_of, entries_in, Adds, IsLineFault}
 use Rattle.sm_reader.proofs.JudgeLemmas.{weight_faults}
 use Rattle.sm_reader.proofs.PairLemmas.{adds_agent, agent_refused, runs_refused, weight_added, condition_added, pair_refused}
@@ -11,10 +11,7 @@ use Rattle.sm_reader.proofs.ResultLemmas.{if_ok, if_err, on_err}
 use Rattle.sm_reader.proofs.judging.add.Goals as goal
 
 pub checked_capacity-requires : goal.checked_capacity-requires
-checked_capacity-requires c = record {
-  runs = subst (λ form. AreRuns (entries_in (form_of form))) c.in-Agent.is c.requires.runs;
-  names = subst (λ form. AreNamesAtEnd c.args.names (entries_in (form_of form))) c.in-Agent.is c.requires.names;
-}
+checked_capacity-requires c = subst (λ form. AreNamesAtEnd c.args.names (entries_in (form_of form))) c.in-Agent.is c.requires.names
 
 pub returns-in_err-capacity-in-Agent-clause-fault : goal.returns-in_err-capacity-in-Agent-clause-fault
 returns-in_err-capacity-in-Agent-clause-fault c =

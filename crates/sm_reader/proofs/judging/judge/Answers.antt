@@ -1,26 +1,20 @@
-use Rattle.std.proofs.Common.{◌≡◌, ℕ, List, [], get_or, ◌∙◌, sym, ap, refl, subst, true, Some}
+use Rattle.std.proofs.Common.{◌≡◌, ℕ, List, [], get_or, ◌∙◌, sym, ap, refl, subst, Some}
 use Rattle.std.specs.Borrow.{Bor}
-use Rattle.std.specs.List.{list_all}
 use Rattle.std.specs.Option.{option_map}
 use Rattle.std.proofs.lemmas.List.{take_rest}
 use Rattle.sm_reader.specs.Forms.{form_behind}
 use Rattle.sm_reader.specs.Judging.{of_form, goes, verdict_on}
-use Rattle.sm_reader.specs.Kept.{texts_of, is_whole, AreRuns, AreNamesAtEnd}
+use Rattle.sm_reader.specs.Kept.{texts_of, AreNamesAtEnd}
 use Rattle.sm_reader.specs.Draft.{said_of, form_of, IsRefusedBy}
 use Rattle.sm_reader.proofs.JudgeLemmas.{verdict_empty, verdict_bad, verdict_end, verdict_form, by_none, refused_line}
 use Rattle.sm_reader.proofs.DraftLemmas.{draft_later}
 use Rattle.sm_reader.proofs.ResultLemmas.{on_err}
-use Rattle.sm_reader.proofs.WholeLemmas.{listed, form_runs, rest_whole}
+use Rattle.sm_reader.proofs.WholeLemmas.{listed}
 use Rattle.sm_reader.proofs.NameLemmas.{names_rest, form_names}
 use Rattle.sm_reader.proofs.judging.judge.Goals as goal
 
 pub form_behind-requires : goal.form_behind-requires
 form_behind-requires c = names_rest c.args.found.names 1 c.args.tokens.now c.requires.names
-
-pub add-requires-clause-runs : goal.add-requires-clause-runs
-add-requires-clause-runs c =
-    let whole = subst (λ (ts : List (Bor (List ℕ))). list_all is_whole (texts_of ts) ≡ true) (sym (take_rest c.args.tokens.now 1)) (rest_whole c.args.tokens.now c.requires.whole) in
-    subst (λ f. AreRuns (listed f)) (sym c.form_behind.ensures ∙ ap (option_map form_of) c.in-Some.is) (form_runs c.args.kind _ _ whole)
 
 pub add-requires-clause-names : goal.add-requires-clause-names
 add-requires-clause-names c =

@@ -4,8 +4,7 @@ use Rattle.sm_text.specs.Tokens.{tokens}
 use Rattle.sm_instance.specs.Named.{nothing}
 use Rattle.sm_reader.specs.Judging.{verdict_on}
 use Rattle.sm_reader.specs.InstanceText.{behind_header, ended}
-use Rattle.std.specs.List.{list_all}
-use Rattle.sm_reader.specs.Kept.{texts_of, is_whole}
+use Rattle.sm_reader.specs.Kept.{texts_of}
 use Rattle.sm_reader.specs.Draft.{said_of, IsDraft}
 use Rattle.sm_reader.specs.Reading.{IsFaultOf}
 use Rattle.sm_reader.specs.declared.draft.Draft.{Draft}
@@ -13,13 +12,7 @@ use Rattle.sm_reader.specs.Right.{IsRight}
 use Rattle.sm_reader.proofs.ReadingLemmas.{goes_step, stops_step, ended_ok, ended_err, same_fault}
 use Rattle.sm_reader.proofs.RightLemmas.{nothing_right, goes_right}
 use Rattle.sm_reader.proofs.ResultLemmas.{on_err}
-use Rattle.sm_reader.proofs.WholeLemmas.{tokens_whole}
 use Rattle.sm_reader.proofs.reading.read_lines.Goals as goal
-
-pub judge-requires-clause-whole : goal.judge-requires-clause-whole
-judge-requires-clause-whole c =
-    let toks : texts_of c.deref.result.now ≡ tokens c.in-Some.text.now = ap texts_of c.deref.ensures.value ∙ c.in_ok-found.ensures.cut in
-    ap (list_all is_whole) toks ∙ tokens_whole c.in-Some.text.now
 
 pub lines-init : goal.lines-init
 lines-init c =

@@ -15,4 +15,4 @@ returns-clause-names c =
     let whole : found ≡ tokens c.args.line.now = let cut = c.tokens.invariant.cut in search rules in
     subst (λ n. AreNamesAtEnd (n - c.tokens.others) (tokens c.args.line.now)) count
     (subst (λ ts. AreNamesAtEnd (length found - c.tokens.others) ts) whole
-    (names_from c.tokens.others found c.tokens.invariant.names (omega (arith, c.tokens.invariant.within, length-map into.items (λ (x : Bor (List ℕ)). x.now)))))
+    (names_from c.tokens.others found c.tokens.invariant.names c.tokens.invariant.other (omega (arith, c.tokens.invariant.within, length-map into.items (λ (x : Bor (List ℕ)). x.now)))))

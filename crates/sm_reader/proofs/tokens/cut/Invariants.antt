@@ -1,4 +1,4 @@
-use Rattle.std.proofs.Common.{◌≡◌, ◌++◌, ◌-◌, ◌≤◌, ◌||◌, true, length, drop}
+use Rattle.std.proofs.Common.{◌≡◌, ◌++◌, ◌-◌, ℕ, ◌<◌, ◌≤◌, ◌||◌, true, false, length, drop}
 use Rattle.std.specs.List.{list_any, list_all}
 use Rattle.sm_text.specs.Name.{is_name}
 use Rattle.sm_text.specs.Tokens.{tokens}
@@ -12,6 +12,7 @@ invariant-tokens l = record {
   cut : texts_of l.into.items ++ tokens (drop l.from l.line) ≡ tokens l.line;
   bad : (l.bad || list_any is_bad (tokens (drop l.from l.line))) ≡ list_any is_bad (tokens l.line);
   names : list_all is_name (drop l.others (texts_of l.into.items)) ≡ true;
+  other : (k : ℕ) → k < l.others → list_all is_name (drop k (texts_of l.into.items)) ≡ false;
   within : l.others ≤ length l.into.items;
 }
 

@@ -1,4 +1,4 @@
-use Rattle.sm_reader.proofs.BadLemmas.{run_tells, mark_tells, bad_tells, run_begins}
+use Rattle.sm_reader.proofs.BadLemmas.{run_tells, mark_tells, bad_tells, mark_no_name, bad_no_name, run_begins}
 use Rattle.sm_reader.proofs.WholeLemmas.{leading_run}
 use Rattle.sm_reader.proofs.tokens.token_from.Goals as goal
 
@@ -15,3 +15,9 @@ returns-in-Mark-clause-bad c = mark_tells c.args.line.now c.args.from c.in-Mark.
 
 pub returns-in-Bad-clause-bad : goal.returns-in-Bad-clause-bad
 returns-in-Bad-clause-bad c = bad_tells c.args.line.now c.args.from c.in-Bad.at c.in-Bad.ensures.token
+
+pub returns-in-Mark-clause-name : goal.returns-in-Mark-clause-name
+returns-in-Mark-clause-name c = mark_no_name c.args.line.now c.args.from c.in-Mark.at c.in-Mark.ensures.token
+
+pub returns-in-Bad-clause-name : goal.returns-in-Bad-clause-name
+returns-in-Bad-clause-name c = bad_no_name c.args.line.now c.args.from c.in-Bad.at c.in-Bad.ensures.token
