@@ -1,0 +1,218 @@
+"""`draw` on the examples against stored pictures, and against all stable matchings found by trying all matchings."""
+import os
+import re
+import subprocess
+import sys
+import tempfile
+import unittest
+
+import brute
+
+HERE = os.path.dirname(os.path.realpath(__file__))
+TOP = os.path.join(HERE, '..', '..')
+EXAMPLES = os.path.join(TOP, 'examples')
+H = 'stable 1 hospitals\np r0: h\np r1: h k\np r2: k h\nr h [2]: r2 r0 r1\nr k [1]: r1 r2\nend\n'
+H_ANSWER = 'answer rotations\nfirst r0 h/1\nfirst r1 h/2\nfirst r2 k/1\nrotation 1 r0 h/1 r1 h/2 r2 k/1\nneeds 1 -\nend\n'
+
+
+def text_of(path):
+    with open(path, encoding='utf-8') as file:
+        return file.read()
+
+
+def example(name):
+    return text_of(os.path.join(EXAMPLES, name))
+
+
+def draw(instance, answer, *words, path=None):
+    """The status of `draw` on two texts, what it writes, and its fault."""
+    with tempfile.TemporaryDirectory() as folder:
+        file = os.path.join(folder, 'instance.txt')
+        with open(file, 'w', encoding='utf-8') as out:
+            out.write(instance)
+        done = subprocess.run([sys.executable, os.path.join(HERE, '..', 'draw'), *words, file], input=answer.encode(),
+                              capture_output=True, env={**os.environ, 'PATH': path} if path else None)
+        return done.returncode, done.stdout.decode(), done.stderr.decode().replace(folder + os.sep, '')
+
+
+def nodes_of(picture):
+    """Each node of a lattice with its label's lines."""
+    return {node: label.split('\\n')[:-1] for node, label in re.findall(r'^    (m\d+) \[label="([^"]*)"', picture, re.M)}
+
+
+def edges_of(picture):
+    """The edges, each with its label or style."""
+    return {(a, b): rest for a, b, rest in re.findall(r'^    (\w+) -> (\w+)(?: \[(.*)\])?;$', picture, re.M)}
+
+
+class Draw(unittest.TestCase):
+    def stored(self, name, words, kind):
+        status, picture, _ = draw(example(name + '.txt'), example(name + '.rotations'), *words)
+        self.assertEqual(status, 0)
+        self.assertEqual(picture, text_of(os.path.join(HERE, f'{name}_{kind}.dot')))
+        return picture
+
+    def agrees(self, text, answer):
+        """The lattice has exactly the stable matchings and their covering pairs, and a line adds its rotation."""
+        status, picture, fault = draw(text, answer, '--lattice')
+        self.assertEqual((status, fault), (0, ''))
+        stable = brute.Marriage(text).stable()
+        nodes = nodes_of(picture)
+        vectors = {node: tuple(map(int, [line for line in label if line[0].isdigit()][0].split())) for node, label in nodes.items()}
+        self.assertEqual(sorted(vectors.values()), sorted(stable))
+        edges = edges_of(picture)
+        self.assertEqual({(vectors[a], vectors[b]) for a, b in edges}, brute.covers(stable))
+        sets = {node: set(re.findall(r'\d+', label[-1])) for node, label in nodes.items()}
+        for (a, b), rest in edges.items():
+            self.assertEqual(sets[b] - sets[a], {re.search(r'\d+', rest).group()})
+            self.assertLess(sets[a], sets[b])
+        best = {words: [vectors[node] for node, label in nodes.items() if words in label]
+                for words in ('best for the proposers', 'best for the reviewers')}
+        self.assertEqual(list(best.values()), [[min(stable)], [max(stable)]])
+        return len(stable)
+
+    def test_examples(self):
+        for name, count in (('five_rotations', 9), ('three_cycle', 3), ('two_by_two', 2)):
+            self.stored(name, ['--lattice'], 'lattice')
+            self.assertEqual(self.agrees(example(name + '.txt'), example(name + '.rotations')), count)
+            self.stored(name, [], 'order')
+
+    def test_order(self):
+        """By the drawing in examples/README.md; rotation 4 needs 1 too, by way of 2 and 3."""
+        edges = edges_of(self.stored('five_rotations', [], 'order'))
+        self.assertEqual(edges, {('1', '2'): '', ('2', '3'): '', ('3', '4'): '', ('1', '5'): 'style=dashed'})
+
+    def test_pictures(self):
+        """The stored pictures are of the stored graphs: they have the same nodes, lines and words."""
+        for name in ('five_rotations_order', 'five_rotations_lattice', 'three_cycle_lattice', 'two_by_two_lattice'):
+            picture, graph = text_of(os.path.join(TOP, 'docs', 'pictures', name + '.svg')), text_of(os.path.join(HERE, name + '.dot'))
+            words = re.findall(r'<text [^>]*>([^<]*)</text>', picture)
+            labels = re.findall(r'label="([^"]*)"', graph)
+            self.assertEqual(sorted(it.strip() for it in words),
+                             sorted(it.strip() for label in labels for it in re.split(r'\\[nl]', label) if it))
+            titles = re.findall(r'<title>([^<]*)</title>', picture.replace('&#45;', '-').replace('&gt;', '>'))
+            self.assertEqual({it for it in titles if '->' in it}, {f'{a}->{b}' for a, b in edges_of(graph)})
+
+    def test_random(self):
+        counts = set()
+        for seed in range(40):
+            text = brute.made(seed)
+            counts.add(self.agrees(text, brute.answer_of(brute.Marriage(text))))
+        self.assertGreater(max(counts), 4)
+        self.assertIn(1, counts)
+
+    def test_hospitals(self):
+        status, picture, _ = draw(H, H_ANSWER, '--lattice')
+        self.assertEqual(status, 0)
+        self.assertEqual([label[1] for label in nodes_of(picture).values()], ['1 1 1', '1 2 2'])
+        self.assertIn('r0: h/1 to h/2\\l', draw(H, H_ANSWER)[1])
+
+    def test_limit(self):
+        """Twelve pairs of two have 4,096 stable matchings."""
+        lines, answer = [], ['answer rotations']
+        for i in range(1, 25, 2):
+            lines += [f'p p{i}: r{i} r{i + 1}', f'p p{i + 1}: r{i + 1} r{i}', f'r r{i}: p{i + 1} p{i}', f'r r{i + 1}: p{i} p{i + 1}']
+        answer += [f'first p{i} r{i}' for i in range(1, 25)]
+        for i in range(1, 13):
+            answer += [f'rotation {i} p{2 * i - 1} r{2 * i - 1} p{2 * i} r{2 * i}', f'needs {i} -']
+        text, answer = '\n'.join(['stable 1 marriage'] + lines + ['end', '']), '\n'.join(answer + ['end', ''])
+        status, picture, fault = draw(text, answer, '--lattice')
+        self.assertEqual((status, picture), (1, ''))
+        self.assertIn('more than 300 stable matchings', fault)
+        self.assertEqual(draw(text, answer, '--lattice', '--most', '4095')[0], 1)
+        self.assertEqual(draw(text, answer, '--lattice', '--most', '4096')[1].count('\\n{'), 4096)
+        self.assertEqual(draw(text, answer)[0], 0)
+
+    def test_many_rotations_stop_early(self):
+        """A thousand free rotations, with more closed sets than could be counted."""
+        lines, answer = [], ['answer rotations'] + [f'first p{i} r{i}' for i in range(1, 2001)]
+        for i in range(1, 2001, 2):
+            lines += [f'p p{i}: r{i} r{i + 1}', f'p p{i + 1}: r{i + 1} r{i}', f'r r{i}: p{i + 1} p{i}', f'r r{i + 1}: p{i} p{i + 1}']
+            answer += [f'rotation {(i + 1) // 2} p{i} r{i} p{i + 1} r{i + 1}', f'needs {(i + 1) // 2} -']
+        status, _, fault = draw('\n'.join(['stable 1 marriage'] + lines + ['end', '']), '\n'.join(answer + ['end', '']), '--lattice')
+        self.assertEqual(status, 1)
+        self.assertIn('more than 300', fault)
+
+    def test_no_rotation(self):
+        text = example('unmatched.txt')
+        status, picture, _ = draw(text, 'answer rotations\nfirst ann biology\nfirst cem art\nend\n', '--lattice')
+        self.assertEqual(status, 0)
+        self.assertEqual(list(nodes_of(picture).values()), [['best for the proposers', 'best for the reviewers', '2 2 1', '{}']])
+
+    def test_wrong_answers(self):
+        """Each with the line at which it is refused."""
+        right = example('five_rotations.rotations')
+        for old, new, line, what in (
+                ('answer rotations', 'refused NotBuilt 1', None, 'refused NotBuilt 1'),
+                ('answer rotations', 'usage 1', None, 'usage 1'),
+                ('answer rotations', 'answer reduced', 1, 'not of `rotations`'),
+                ('answer rotations', 'stable 1 marriage', 1, 'no answer'),
+                ('end\n', '', 17, 'isn\'t whole'),
+                ('first ann art', 'first ann zoo', 2, 'no seat zoo'),
+                ('first ann art', 'first ann art/1', 2, 'no seat art/1'),
+                ('first ann art', 'first ann french', 2, 'don\'t list each other'),
+                ('first ann art', 'first ann', 2, 'no line of an answer'),
+                ('first ben biology', 'first ann biology', 3, 'already'),
+                ('rotation 1', 'rotation 2', 8, 'stands where 1 should'),
+                ('rotation 2 cem art', 'rotation 2 cem drama', 10, 'cem doesn\'t have drama'),
+                ('needs 4 1 3', 'needs 4 3 1', 15, 'rising numbers'),
+                ('needs 4 1 3', 'needs 4 5', 15, 'rising numbers'),
+                ('needs 4 1 3', 'needs 3 1', 15, 'rising numbers'),
+                ('needs 4 1 3', 'needs 4', 15, 'no line of an answer'),
+                ('needs 1 -\n', '', 9, 'out of its place'),
+                ('needs 5 1\n', '', 17, 'is missing'),
+                ('needs 5 1', 'pair eve french', 17, 'out of its place'),
+        ):
+            status, picture, fault = draw(example('five_rotations.txt'), right.replace(old, new, 1))
+            self.assertEqual((status, picture), (1, ''), new)
+            self.assertIn(what, fault)
+            if line:
+                self.assertIn(f'standard input:{line}: ', fault)
+        status, _, fault = draw(example('three_cycle.txt'), right)
+        self.assertEqual(status, 1)
+        self.assertIn('standard input:2: this can\'t be an answer to instance.txt', fault)
+
+    def test_refused_instances(self):
+        """By the table of docs/FORMATS.md, and what a line may hold."""
+        two = 'stable 1 marriage\n'
+        for text, refusal in (
+                ('', 'BadHeader 1'), ('\n\n', 'BadHeader 3'), (two + 'p m1: a, b\n', 'BadByte 2'), ('stable 2 marriage\n', 'BadHeader 1'),
+                (two + 'p m1 a\n', 'BadLine 2'), (two + 'p -x:\n', 'BadName 2'), (two + f'p {"x" * 65}:\n', 'BadName 2'),
+                ('stable 1 hospitals\nr h [4097]:\n', 'BadNumber 2'), (two + 'r h [2]:\nend\n', 'BadLine 2'),
+                (two + 'p m1:\np m1:\n', 'Redeclared 3'), (two + 'p m1: a a\n', 'RepeatedEntry 2'),
+                (two + 'weight m1 a 1\nweight m1 a 1\n', 'RepeatedWeight 3'), (two + 'weight m1 a -0\n', 'BadNumber 2'),
+                (two, 'MissingEnd 2'), (two + 'p m1: z\nend\n', 'UnknownName 2'), (two + 'end\nend\n', 'AfterEnd 3'),
+                (two + 'force a b\nend\n', 'UnknownName 2'), ('end\n', 'BadHeader 1'), (two + 'p a\r:\nend\n', 'BadByte 2'),
+                ('stable 1 roommates\nr a:\nend\n', 'BadLine 2'), (two + ''.join(f'p p{i}:\n' for i in range(4097)), 'TooManyAgents 4098'),
+        ):
+            status, _, fault = draw(text, example('two_by_two.rotations'))
+            reason, line = refusal.split()
+            self.assertEqual(status, 1)
+            self.assertTrue(fault.startswith(f'draw: instance.txt:{line}: ') and fault.endswith(f'({reason})\n'), (refusal, fault))
+
+    def test_blanks(self):
+        """Comments, CR, blanks and a missing last LF change nothing."""
+        text = example('two_by_two.txt')
+        other = '# \xe9\n\n' + text.replace(': ', ':\t ').replace('\n', ' # x: [\r\n')[:-2]
+        answer = example('two_by_two.rotations').replace('\n', '\r\n')
+        self.assertEqual(draw(other, answer, '--lattice'), draw(text, example('two_by_two.rotations'), '--lattice'))
+
+    def test_svg(self):
+        """Without `dot` it says what to install; a graph is drawn where it is there."""
+        with tempfile.TemporaryDirectory() as folder:
+            file = os.path.join(folder, 'order.svg')
+            words = example('two_by_two.txt'), example('two_by_two.rotations'), '--svg', file
+            status, picture, fault = draw(*words, path=folder)
+            self.assertEqual((status, picture, os.path.exists(file)), (3, '', False))
+            self.assertIn('apt-get install graphviz', fault)
+            if subprocess.run(['sh', '-c', 'command -v dot'], capture_output=True).returncode == 0:
+                self.assertEqual(draw(*words)[0], 0)
+                self.assertIn('m1: a to b', text_of(file))
+
+    def test_words(self):
+        for words in (['--most', '0'], ['--most', 'x'], ['--latt'], ['--net'], ['a', 'b']):
+            self.assertEqual(draw(example('two_by_two.txt'), '', *words)[0], 2, words)
+
+
+if __name__ == '__main__':
+    unittest.main()
