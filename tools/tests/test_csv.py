@@ -1,0 +1,264 @@
+"""`from_csv` and `to_csv`: stored tables, broken ones, and names of all kinds there and back."""
+import csv
+import io
+import os
+import random
+import re
+import subprocess
+import sys
+import tempfile
+import unittest
+
+import brute
+
+HERE = os.path.dirname(os.path.realpath(__file__))
+EXAMPLES = os.path.join(HERE, '..', '..', 'examples')
+FORM = re.compile(r'[A-Za-z0-9_][A-Za-z0-9_.-]{0,63}\Z')
+
+
+def text_of(*path):
+    with open(os.path.join(*path), encoding='utf-8', newline='') as file:
+        return file.read()
+
+
+def table(text):
+    """The rows of a table."""
+    return list(csv.reader(io.StringIO(text, newline='')))
+
+
+def written(rows, delimiter=','):
+    """A table of rows."""
+    out = io.StringIO()
+    csv.writer(out, delimiter=delimiter).writerows(rows)
+    return out.getvalue()
+
+
+class Tables(unittest.TestCase):
+    def setUp(self):
+        self.folder = tempfile.TemporaryDirectory()
+        self.addCleanup(self.folder.cleanup)
+
+    def call(self, tool, *words, stdin=''):
+        """Status, output and faults of a tool that is called in a folder of its own."""
+        done = subprocess.run([sys.executable, os.path.join(HERE, '..', tool), *words], input=stdin.encode(),
+                              capture_output=True, cwd=self.folder.name)
+        return done.returncode, done.stdout.decode(), done.stderr.decode()
+
+    def put(self, name, content):
+        """A file in the folder."""
+        with open(os.path.join(self.folder.name, name), 'wb') as file:
+            file.write(content if isinstance(content, bytes) else content.encode())
+
+    def made(self, tables, *words):
+        """The instance and the names that are made of tables."""
+        files = [f'{letter}.csv' for letter, _ in zip('pr', tables)]
+        for file, content in zip(files, tables):
+            self.put(file, content)
+        status, text, fault = self.call('from_csv', '--names', 'names.csv', *words, *files)
+        self.assertEqual((status, fault), (0, ''))
+        return text, text_of(self.folder.name, 'names.csv')
+
+    def refused(self, tables, *words):
+        """The fault of tables; nothing is written then."""
+        files = [f'{letter}.csv' for letter, _ in zip('pr', tables)]
+        for file, content in zip(files, tables):
+            self.put(file, content)
+        status, text, fault = self.call('from_csv', '--names', 'names.csv', *words, *files)
+        self.assertEqual((status, text, os.path.exists(os.path.join(self.folder.name, 'names.csv'))), (1, '', False), fault)
+        return fault
+
+    def test_stored(self):
+        tables = [text_of(HERE, it) for it in ('students.csv', 'hosts.csv')]
+        text, names = self.made(tables, '--in-cell', ';')
+        self.assertEqual(text, text_of(HERE, 'students.txt'))
+        self.assertEqual(names, text_of(HERE, 'names.csv'))
+        # Found by hand: Zoë, Ivan and ann take the City Hospital one after another, and those who leave go down their lists.
+        pairs = {'Müller, Zoë': "St. John's", 'Ólafur Ægisson': 'Дом 5', 'Иван Петров': '', 'ann': 'City Hospital'}
+        stable = brute.Marriage(text).stable()
+        best = stable[min(stable)]
+        answer = ''.join(['answer solve side=proposers\n'] + [f'pair {p} {r}\n' for p, r in best.items()] + ['end\n'])
+        self.put('names.csv', names)
+        self.assertEqual(table(self.call('to_csv', 'names.csv', stdin=answer)[1]), [['proposer', 'reviewer'], *map(list, pairs.items())])
+
+    def test_there_and_back(self):
+        """Names with spaces, marks, quotes, line ends, accents, other scripts, of 80 letters, and like replaced ones."""
+        parts = ['ann', 'Ann', 'p1', 'p2', 'r1', 'r2', 'Zoë', 'Zoe', 'Łódź', 'Дом', '学校', 'O\'Neill', 'a"b', 'x,y', 'two\nlines', '-dash',
+                 '.dot', '#1', 'a:b', '[c]', 'É', 'E', 'n' * 80, '½', 'ß', '_', '😀', 'end', 'stable', '-', '0']
+        for seed in range(20):
+            draw = random.Random(seed)
+            def names():
+                one = [' '.join(draw.sample(parts, draw.choice((1, 1, 1, 2)))) for _ in range(5)]
+                return list({it.casefold() if draw.random() < 0.1 else it: None for it in one})
+            p, r = names(), names()
+            p, r = ([it for i, it in enumerate(side) if it not in side[:i]] for side in (p, r))
+            market = brute.Marriage('')
+            market.p = {it: draw.sample(r, draw.randint(0, len(r))) for it in p}
+            market.r = {it: draw.sample(p, draw.randint(0, len(p))) for it in r}
+            rows = [[['name'] + list('12345')] + [[it, *row] for it, row in side.items()] for side in (market.p, market.r)]
+            text, names_text = self.made([written(it) for it in rows])
+            given = {(side, name): original for side, name, original in table(names_text)[1:]}
+            got = brute.Marriage(text)
+            for kind, own, other in (('proposer', got.p, 'reviewer'), ('reviewer', got.r, 'proposer')):
+                self.assertTrue(all(FORM.match(it) for it in own), list(own))
+                back = {given[kind, it]: [given[other, entry] for entry in row] for it, row in own.items()}
+                wanted = market.p if kind == 'proposer' else market.r
+                self.assertEqual(back, wanted)
+                self.assertEqual(list(back), list(wanted))
+                self.assertTrue(all(it == given[kind, it] for it in own if FORM.match(given[kind, it])))
+                self.assertTrue(all(it in own for it in wanted if FORM.match(it)))
+            stable, wanted = got.stable(), market.stable()
+            answer = ''.join(['answer solve side=proposers\n'] + [f'pair {a} {b}\n' for a, b in stable[min(stable)].items()] + ['end\n'])
+            rows = table(self.call('to_csv', 'names.csv', stdin=answer)[1])[1:]
+            self.assertEqual(rows, [[it, wanted[min(wanted)].get(it, '')] for it in market.p])
+
+    def test_cleaned(self):
+        """What becomes of a name; only one that nobody else has, and in which no letter is lost, is kept in a cleaned form."""
+        originals = {'ann': 'ann', 'Zoë Müller': 'Zoe_Muller', 'Łódź/2': 'Lodz_2', '(art)': 'art', 'C++': 'p5', 'C': 'C', 'a b': 'p7', 'a_b': 'a_b',
+                     'x-y': 'x-y', 'x y': 'p10', 'x_y!': 'p11', 'Дом 5': 'p12', '!!': 'p13', 'p14': 'p14', 'ß' * 40: 's' * 64, 'p17': 'p17', '学': 'p17_'}
+        text, _ = self.made([written([['n', '1']] + [[it] for it in originals]), 'n,1\n'])
+        self.assertEqual(list(brute.Marriage(text).p), list(originals.values()))
+
+    def test_same_names(self):
+        """Blanks around and within, a composed and a divided accent: one name. Upper and lower case: two."""
+        text, _ = self.made(['n,1,2\n Jose\u0301 , A  b\u00a0,a b\n', 'n,1\nA b,Jos\u00e9\na b\n'])
+        self.assertEqual(text, 'stable 1 marriage\np Jose: A_b a_b\nr A_b: Jose\nr a_b:\nend\n')
+
+    def test_kinds(self):
+        p, persons = 'n,1,2\na,x,y\nb,y\n', 'n,1,2\na,b\nb,a,c d\nc d,b\n'
+        self.assertEqual(self.made([p, 'n,Capacity,1,2\nx,2,a\ny,0,b,a\n'])[0],
+                         'stable 1 hospitals\np a: x y\np b: y\nr x [2]: a\nr y [0]: b a\nend\n')
+        self.assertEqual(self.made([p, 'n,1,capacity,2\nx,a,1\ny,b,1,a\n'])[0],
+                         'stable 1 marriage\np a: x y\np b: y\nr x: a\nr y: b a\nend\n')
+        self.assertEqual(self.made([p, 'n,1,capacity,2\nx,a,many\ny,b,,a\n'], '--skip', 'Capacity')[0].split('\n')[0], 'stable 1 marriage')
+        text, names = self.made([persons])
+        self.assertEqual(text, 'stable 1 roommates\np a: b\np b: a c_d\np c_d: b\nend\n')
+        answer = 'answer solve\npair a b\nend\n'
+        self.assertEqual(table(self.call('to_csv', 'names.csv', stdin=answer)[1]), [['person', 'partner'], ['a', 'b'], ['b', 'a'], ['c d', '']])
+
+    def test_forms(self):
+        """One instance from tables with commas, semicolons, tabs, a mark at the front, CR, blank rows, columns in other places."""
+        wanted = 'stable 1 marriage\np a: x y\np b: y\nr x: a\nr y: b a\nend\n'
+        for p, r, words in (
+                ('n,1,2\na,x,y\nb,y\n', 'n,1,2\nx,a\ny,b,a', []),
+                ('\ufeffn,1,2\r\na,x,y\r\n,,\r\n\r\nb,,y\r\n', 'n,1,2\r\n"x",a\r\n"y","b","a"\r\n', []),
+                ('n;1\na;x,y\nb;y\n', 'n;1\nx;a\ny;b, a\n', ['--delimiter', ';', '--in-cell', ',']),
+                ('n\t1\na\tx|y\nb\ty|\n', 'n\t1\nx\ta\ny\tb||a\n', ['--delimiter', 'tab', '--in-cell', '|']),
+                ('n,1\na,"x, y"\nb,y\n', 'n,1\nx,a\ny,"b,a"\n', ['--in-cell', ',']),
+                ('id,n,mail,1,2\n7,a,a@b,x,y\n8,b,c@d,y\n', 'n,1,2\nx,a\ny,b,a\n', ['--skip', 'ID', '--skip', 'mail'])):
+            self.assertEqual(self.made([p, r], *words)[0], wanted, p)
+
+    def test_broken(self):
+        """Each with the lines that are named."""
+        p, r = 'n,1,2\na,x,y\nb,y\n', 'n,1,2\nx,a\ny,b,a\n'
+        for tables, words, faults in (
+                ([p + 'a,x\n', r], [], ['p.csv:4: \'a\' has a row already, on line 2']),
+                ([p + ',x\n', r], [], ['p.csv:4: this row has no name']),
+                ([p + 'c,x,y,x\n', r], [], ['p.csv:4: this row has more cells']),
+                ([p + 'c,x,x\n', r], [], ['p.csv:4: \'x\' stands twice']),
+                ([p + 'c,z\nd,"two\nlines",z\ne,z\n', r], [], ['p.csv:4: \'z\' isn\'t in r.csv', 'p.csv:5: \'two', 'p.csv:5: \'z\'', 'p.csv:7: \'z\'']),
+                ([p, r + 'z,a,n\n'], [], ['r.csv:4: \'n\' isn\'t in p.csv; the first row of a table only names']),
+                ([p, 'n,1\nhospital,a\nx\ny,hospitall\n'], [], ['r.csv:4: \'hospitall\' isn\'t in p.csv']),
+                (['n,1\na,hospitl\n', 'n,1\nhospital,a\n'], [], ['p.csv:2: \'hospitl\' isn\'t in r.csv; is \'hospital\' meant?']),
+                (['n,1\na,x;y\n', 'n,1\nx\ny\n'], [], ['p.csv:2: \'x;y\' isn\'t in r.csv; --in-cell \';\'']),
+                ([p, 'n,capacity,1\nx,2,a\ny,4097,b\nz,,a\nu,-1\nv,1.5\n'], [],
+                 [f'r.csv:{i}: the capacity {it!r}' for i, it in ((3, '4097'), (4, ''), (5, '-1'), (6, '1.5'))]),
+                (['n,capacity,1\na,1,x\n', r], [], ['p.csv:1: only reviewers have a capacity']),
+                (['n;1;2\na;x;y\n', r], [], ['p.csv:1: this table has no column with choices; are cells divided by --delimiter \';\'?']),
+                (['', r], [], ['p.csv:1: the table is empty']),
+                ([p, b'n,1\nx,a\ny,\xfcber\n'], [], ['r.csv:3: the table isn\'t in UTF-8']),
+                ([p.encode('utf-16'), r], [], ['p.csv:1: the table isn\'t in UTF-8']),
+                ([p, 'n,1\nx,a\ny,\0\n'], [], ['r.csv:3: this is no table of text']),
+                ([p, 'n,1\nx,"a\ny,b\n'], [], ['r.csv:2: the quotes of this row']),
+                ([p, 'n,1\nx,a\ny,"b" c\n'], [], ['r.csv:3: the quotes of this row']),
+                ([p, r], ['--skip', 'mail'], ['no table has a column \'mail\'']),
+                (['n,1\na,b\nb,b\n'], [], ['p.csv:3: \'b\' lists itself']),
+                (['n,1\n' + ''.join(f'a{i}\n' for i in range(4097)), r], [], ['p.csv:4098: there are more than 4,096']),
+        ):
+            lines = self.refused(tables, *words).splitlines()
+            named = [line for line in lines if re.match(r'[pr]\.csv:|from_csv: ', line)]
+            if named[0].endswith('these rows can\'t be taken'):
+                named = named[1:]
+            self.assertEqual(len(named), len(faults), lines)
+            for line, wanted in zip(named, faults):
+                self.assertTrue(line.replace('from_csv: ', '').startswith(wanted), (line, wanted))
+        lines = self.refused(['n,1\n' + ''.join(f'a{i},z\n' for i in range(30)), 'n,1\nx,\n']).splitlines()
+        self.assertEqual((len(lines), lines[-1]), (22, 'and 10 more'))
+
+    def test_entries(self):
+        """One choice too many."""
+        header, names = [['n'] + [str(i) for i in range(1024)]], [f'x{i}' for i in range(1024)]
+        rows = [[f'y{i}'] + names for i in range(512)]
+        self.assertEqual(self.made([written(header + rows), written([['n', '1']] + [[it] for it in names])])[0].count('\n'), 1538)
+        os.remove(os.path.join(self.folder.name, 'names.csv'))
+        fault = self.refused([written(header + rows), written([['n', '1']] + [[names[0], 'y0']] + [[it] for it in names[1:]])])
+        self.assertIn('more than 524,288 choices', fault)
+
+    def test_words(self):
+        self.put('p.csv', 'n,1\na,b\nb,a\n')
+        for words in ([], ['p.csv'], ['--names', 'p.csv', 'p.csv'], ['--names', 'n', 'p.csv', 'p.csv'], ['--names', 'n', '--in-cell', 'ab', 'p.csv'],
+                      ['--names', 'n', '--delimiter', 'a', 'p.csv'], ['--name', 'n', 'p.csv']):
+            self.assertEqual(self.call('from_csv', *words)[0], 2, words)
+        self.assertEqual(text_of(self.folder.name, 'p.csv'), 'n,1\na,b\nb,a\n')
+        status, _, fault = self.call('from_csv', '--names', 'n', 'q.csv')
+        self.assertEqual((status, fault), (1, 'from_csv: q.csv: No such file or directory\n'))
+        self.assertEqual(self.call('to_csv')[0], 2)
+        self.assertEqual(self.call('to_csv', '-')[0], 2)
+
+    def names_of(self, name):
+        """A table of names for an example: each name with its first letter doubled and a comma."""
+        market = brute.Marriage(text_of(EXAMPLES, name + '.txt'))
+        rows = [[kind, it, f'{it[0]}{it}, x'] for kind, side in (('proposer', market.p), ('reviewer', market.r)) for it in side]
+        self.put('names.csv', written([['side', 'name', 'original']] + rows))
+
+    def test_answers(self):
+        """The stored answers of the program to an example, whose tables were written by hand."""
+        for name, wanted in (
+                ('both_sides.solve', 'proposer,reviewer/aann,aart/bben,bbiology/ccem,ddrama/ddan,cchemistry/eeve,'),
+                ('both_sides.solve_reviewers', 'proposer,reviewer/aann,bbiology/bben,aart/ccem,ddrama/ddan,cchemistry/eeve,'),
+                ('both_sides.reduced', 'side,name,first,last,1,2/proposer,aann,aart,bbiology,aart,bbiology/proposer,bben,bbiology,aart,bbiology,aart/'
+                 'proposer,ccem,ddrama,ddrama,ddrama,/proposer,ddan,cchemistry,cchemistry,cchemistry,/proposer,eeve,,,,/'
+                 'reviewer,aart,aann,bben,bben,aann/reviewer,bbiology,bben,aann,aann,bben/reviewer,cchemistry,ddan,ddan,ddan,/'
+                 'reviewer,ddrama,ccem,ccem,ccem,'),
+                ('three_cycle.rotations', 'rotation,proposer,from,to,needs/1,mm1,aa,bb,/1,mm2,bb,cc,/1,mm3,cc,aa,/2,mm1,bb,cc,1/2,mm2,cc,aa,1/2,mm3,aa,bb,1')):
+            self.names_of(name.split('.')[0])
+            status, text, fault = self.call('to_csv', 'names.csv', os.path.join(EXAMPLES, name))
+            self.assertEqual((status, fault), (0, ''))
+            self.assertEqual([','.join(it.replace(', x', '') for it in row) for row in table(text)], wanted.split('/'))
+            self.assertTrue(all(it.endswith(', x') for row in table(text)[1:] for it in row if len(it) > 1 and it not in ('proposer', 'reviewer')))
+
+    def test_seats(self):
+        """Answers with seats and of `pairs`, in the forms of hospitals."""
+        self.put('names.csv', 'side,name,original\nproposer,r0,"Ann, A."\nproposer,r1,r1\nreviewer,h,St. H\nreviewer,k,k\n')
+        answer = 'answer reduced\nfirst r0 h/1\nlast r0 h/1\nproposer r0 h/1 h/2\nreviewer h/1 r0\nreviewer h/2 -\nend\n'
+        self.assertEqual(self.call('to_csv', 'names.csv', stdin=answer)[1],
+                         'side,name,first,last,1,2\nproposer,"Ann, A.",St. H/1,St. H/1,St. H/1,St. H/2\n'
+                         'reviewer,St. H/1,"Ann, A.","Ann, A.","Ann, A.",\nreviewer,St. H/2,,,,\n')
+        self.assertEqual(self.call('to_csv', 'names.csv', stdin='answer pairs\nall r0 h\nsome r1 k\nend\n')[1],
+                         'proposer,reviewer,in\n"Ann, A.",St. H,all\nr1,k,some\n')
+
+    def test_wrong_answers(self):
+        right = text_of(EXAMPLES, 'both_sides.solve')
+        self.names_of('both_sides')
+        for old, new, what in (
+                ('answer', 'refused BadLine 3\n', 'refused the instance: refused BadLine 3'), ('answer', 'usage 2\n', 'faulty word: usage 2'),
+                ('end\n', '', 'standard input:5: the answer isn\'t whole'), ('solve side=proposers', 'survey limit=100', 'have no table'),
+                ('pair ann art', 'none', 'no such matching'), ('pair ann art', 'pair zoe art', 'standard input:2: names.csv has no proposer zoe'),
+                ('pair ann art', 'pair ann zoo', 'standard input:2: names.csv has no reviewer zoo'),
+                ('pair ben', 'pair ann', 'standard input:3: ann stands in two pairs'), ('pair ann art', 'pair  ann art', 'standard input:2: no line'),
+                ('pair ann art', 'pair ann', 'standard input:2: no line'), ('pair', 'paar', 'standard input:2: no line')):
+            status, text, fault = self.call('to_csv', 'names.csv', stdin=right.replace(old, new, 1))
+            self.assertEqual((status, text), (1, ''))
+            self.assertIn(what, fault)
+        self.assertEqual(self.call('to_csv', 'names.csv', stdin='')[0], 1)
+        for names, what in (('a,b\n', 'names.csv:1: no table of names'), ('side,name,original\nx,a,b\n', 'names.csv:2: this row'),
+                            ('side,name,original\nproposer,a b,b\n', 'names.csv:2: this row'),
+                            ('side,name,original\nproposer,a,b\nproposer,a,c\n', 'names.csv:3: a has a row already'),
+                            ('side,name,original\nproposer,a,b\nperson,a,c\n', 'names.csv:1: it has persons beside')):
+            self.put('names.csv', names)
+            status, text, fault = self.call('to_csv', 'names.csv', stdin=right)
+            self.assertEqual((status, text), (1, ''))
+            self.assertIn(what, fault)
+
+
+if __name__ == '__main__':
+    unittest.main()
