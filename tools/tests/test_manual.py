@@ -1,0 +1,76 @@
+"""The manual page says of each command, refusal, status and limit what docs/FORMATS.md has, and is sound."""
+import os
+import re
+import shutil
+import subprocess
+import unittest
+
+TOP = os.path.join(os.path.dirname(os.path.realpath(__file__)), '..', '..')
+PAGE = os.path.join(TOP, 'docs', 'matchbench.1')
+
+
+def text_of(path):
+    with open(path, encoding='utf-8') as file:
+        return file.read()
+
+
+def part_of(text, title):
+    """What stands below a title of docs/FORMATS.md."""
+    return text.split(f'\n## {title}\n')[1].split('\n## ')[0]
+
+
+def section_of(page, title):
+    """A section of the manual page."""
+    return page.split(f'\n.SH {title}\n')[1].split('\n.SH ')[0]
+
+
+class Manual(unittest.TestCase):
+    def setUp(self):
+        self.page, self.formats = text_of(PAGE), text_of(os.path.join(TOP, 'docs', 'FORMATS.md'))
+        self.help = subprocess.run([os.path.join(TOP, 'matchbench'), '--help'], capture_output=True, text=True, check=True).stdout
+
+    def test_commands(self):
+        commands = re.findall(r'^\| `([a-z][^`]*)` \|', part_of(self.formats, 'The command line'), re.M)
+        self.assertIn('solve', commands)
+        self.assertEqual(sorted(re.findall(r'^\.B (.*)$', headings(section_of(self.page, 'COMMANDS')), re.M)), sorted(commands))
+        for words in commands:
+            self.assertRegex(self.help, rf'(?m)^  {words.split()[0]}\b')
+            for operand in words.split()[1:]:
+                self.assertIn(operand, self.help)
+
+    def test_refusals(self):
+        names = re.findall(r'^\| `(\w+)` \|', part_of(self.formats, 'Refusals'), re.M)
+        self.assertIn('TooLong', names)
+        self.assertEqual(re.findall(r'^\.B (.*)$', headings(section_of(self.page, 'REFUSALS')), re.M), names)
+
+    def test_statuses(self):
+        statuses = re.findall(r'^\| \w+ \| (\d) \|', part_of(self.formats, 'Statuses'), re.M)
+        self.assertIn('2', statuses)
+        self.assertEqual(re.findall(r'^  (\d+) ', self.help, re.M), statuses + ['8', '70'])
+        self.assertEqual(re.findall(r'^  (\d+) ', section_of(self.page, 'EXIT STATUS'), re.M), statuses + ['8', '70'])
+
+    def test_limits(self):
+        for limit in set(re.findall(r'\d+(?:,\d{3})+', section_of(self.page, 'LIMITS'))) | {'64'}:
+            self.assertIn(limit, self.formats)
+        for limit in set(re.findall(r'\d+(?:,\d{3})+', part_of(self.formats, 'The input: an instance'))):
+            self.assertIn(limit, section_of(self.page, 'LIMITS'))
+
+    def test_lines(self):
+        """The help fits a narrow terminal, and holds no other escape."""
+        for line in self.help.splitlines():
+            self.assertLessEqual(len(line), 72, line)
+            self.assertNotIn('\\', line)
+
+    def test_groff(self):
+        if shutil.which('groff'):
+            done = subprocess.run(['groff', '-man', '-ww', '-z', PAGE], capture_output=True, text=True)
+            self.assertEqual((done.returncode, done.stderr), (0, ''))
+
+
+def headings(section):
+    """The lines of a section that are the tags of paragraphs."""
+    return '\n'.join(re.findall(r'^\.T[PQ]\n(.*)$', section, re.M))
+
+
+if __name__ == '__main__':
+    unittest.main()
