@@ -56,7 +56,7 @@ class Agent:
 
 
 class Instance:
-    """A kind, proposers (persons) and reviewers by name in the order of their lines; conditions and weights are only checked."""
+    """A kind, and proposers (persons) and reviewers by name, in the order of their lines. Weights and conditions are checked."""
 
     def __init__(self, file):
         self.file = file

@@ -33,6 +33,11 @@ def written(rows, delimiter=','):
     return out.getvalue()
 
 
+def answer_of(matching):
+    """The answer of `solve` that has a matching."""
+    return ''.join(['answer solve side=proposers\n'] + [f'pair {p} {r}\n' for p, r in matching.items()] + ['end\n'])
+
+
 class Tables(unittest.TestCase):
     def setUp(self):
         self.folder = tempfile.TemporaryDirectory()
@@ -58,6 +63,12 @@ class Tables(unittest.TestCase):
         self.assertEqual((status, fault), (0, ''))
         return text, text_of(self.folder.name, 'names.csv')
 
+    def given_back(self, answer):
+        """The rows of an answer's table."""
+        status, text, fault = self.call('to_csv', 'names.csv', stdin=answer)
+        self.assertEqual((status, fault), (0, ''))
+        return table(text)
+
     def refused(self, tables, *words):
         """The fault of tables; nothing is written then."""
         files = [f'{letter}.csv' for letter, _ in zip('pr', tables)]
@@ -76,14 +87,13 @@ class Tables(unittest.TestCase):
         pairs = {'Müller, Zoë': "St. John's", 'Ólafur Ægisson': 'Дом 5', 'Иван Петров': '', 'ann': 'City Hospital'}
         stable = brute.Marriage(text).stable()
         best = stable[min(stable)]
-        answer = ''.join(['answer solve side=proposers\n'] + [f'pair {p} {r}\n' for p, r in best.items()] + ['end\n'])
         self.put('names.csv', names)
-        self.assertEqual(table(self.call('to_csv', 'names.csv', stdin=answer)[1]), [['proposer', 'reviewer'], *map(list, pairs.items())])
+        self.assertEqual(self.given_back(answer_of(best)), [['proposer', 'reviewer'], *map(list, pairs.items())])
 
     def test_there_and_back(self):
         """Names with spaces, marks, quotes, line ends, accents, other scripts, of 80 letters, and like replaced ones."""
-        parts = ['ann', 'Ann', 'p1', 'p2', 'r1', 'r2', 'Zoë', 'Zoe', 'Łódź', 'Дом', '学校', 'O\'Neill', 'a"b', 'x,y', 'two\nlines', '-dash',
-                 '.dot', '#1', 'a:b', '[c]', 'É', 'E', 'n' * 80, '½', 'ß', '_', '😀', 'end', 'stable', '-', '0']
+        parts = ['ann', 'Ann', 'p1', 'p2', 'r1', 'r2', 'Zoë', 'Zoe', 'Łódź', 'Дом', '学校', 'O\'Neill', 'a"b', 'x,y', 'two\nlines',
+                 '-dash', '.dot', '#1', 'a:b', '[c]', 'É', 'E', 'n' * 80, '½', 'ß', '_', '😀', 'end', 'stable', '-', '0']
         for seed in range(20):
             draw = random.Random(seed)
             def names():
@@ -107,14 +117,14 @@ class Tables(unittest.TestCase):
                 self.assertTrue(all(it == given[kind, it] for it in own if FORM.match(given[kind, it])))
                 self.assertTrue(all(it in own for it in wanted if FORM.match(it)))
             stable, wanted = got.stable(), market.stable()
-            answer = ''.join(['answer solve side=proposers\n'] + [f'pair {a} {b}\n' for a, b in stable[min(stable)].items()] + ['end\n'])
-            rows = table(self.call('to_csv', 'names.csv', stdin=answer)[1])[1:]
-            self.assertEqual(rows, [[it, wanted[min(wanted)].get(it, '')] for it in market.p])
+            rows = self.given_back(answer_of(stable[min(stable)]))
+            self.assertEqual(rows[1:], [[it, wanted[min(wanted)].get(it, '')] for it in market.p])
 
     def test_cleaned(self):
         """What becomes of a name; only one that nobody else has, and in which no letter is lost, is kept in a cleaned form."""
-        originals = {'ann': 'ann', 'Zoë Müller': 'Zoe_Muller', 'Łódź/2': 'Lodz_2', '(art)': 'art', 'C++': 'p5', 'C': 'C', 'a b': 'p7', 'a_b': 'a_b',
-                     'x-y': 'x-y', 'x y': 'p10', 'x_y!': 'p11', 'Дом 5': 'p12', '!!': 'p13', 'p14': 'p14', 'ß' * 40: 's' * 64, 'p17': 'p17', '学': 'p17_'}
+        originals = {'ann': 'ann', 'Zoë Müller': 'Zoe_Muller', 'Łódź/2': 'Lodz_2', '(art)': 'art', 'C++': 'p5', 'C': 'C',
+                     'a b': 'p7', 'a_b': 'a_b', 'x-y': 'x-y', 'x y': 'p10', 'x_y!': 'p11', 'Дом 5': 'p12', '!!': 'p13',
+                     'p14': 'p14', 'ß' * 40: 's' * 64, 'p17': 'p17', '学': 'p17_'}
         text, _ = self.made([written([['n', '1']] + [[it] for it in originals]), 'n,1\n'])
         self.assertEqual(list(brute.Marriage(text).p), list(originals.values()))
 
@@ -129,14 +139,15 @@ class Tables(unittest.TestCase):
                          'stable 1 hospitals\np a: x y\np b: y\nr x [2]: a\nr y [0]: b a\nend\n')
         self.assertEqual(self.made([p, 'n,1,capacity,2\nx,a,1\ny,b,1,a\n'])[0],
                          'stable 1 marriage\np a: x y\np b: y\nr x: a\nr y: b a\nend\n')
-        self.assertEqual(self.made([p, 'n,1,capacity,2\nx,a,many\ny,b,,a\n'], '--skip', 'Capacity')[0].split('\n')[0], 'stable 1 marriage')
+        text, _ = self.made([p, 'n,1,capacity,2\nx,a,many\ny,b,,a\n'], '--skip', 'Capacity')
+        self.assertEqual(text.split('\n')[0], 'stable 1 marriage')
         text, names = self.made([persons])
         self.assertEqual(text, 'stable 1 roommates\np a: b\np b: a c_d\np c_d: b\nend\n')
-        answer = 'answer solve\npair a b\nend\n'
-        self.assertEqual(table(self.call('to_csv', 'names.csv', stdin=answer)[1]), [['person', 'partner'], ['a', 'b'], ['b', 'a'], ['c d', '']])
+        self.assertEqual(self.given_back('answer solve\npair a b\nend\n'),
+                         [['person', 'partner'], ['a', 'b'], ['b', 'a'], ['c d', '']])
 
     def test_forms(self):
-        """One instance from tables with commas, semicolons, tabs, a mark at the front, CR, blank rows, columns in other places."""
+        """One instance from tables with commas, semicolons, tabs, a mark at the front, CR, blank rows, more columns."""
         wanted = 'stable 1 marriage\np a: x y\np b: y\nr x: a\nr y: b a\nend\n'
         for p, r, words in (
                 ('n,1,2\na,x,y\nb,y\n', 'n,1,2\nx,a\ny,b,a', []),
@@ -155,15 +166,18 @@ class Tables(unittest.TestCase):
                 ([p + ',x\n', r], [], ['p.csv:4: this row has no name']),
                 ([p + 'c,x,y,x\n', r], [], ['p.csv:4: this row has more cells']),
                 ([p + 'c,x,x\n', r], [], ['p.csv:4: \'x\' stands twice']),
-                ([p + 'c,z\nd,"two\nlines",z\ne,z\n', r], [], ['p.csv:4: \'z\' isn\'t in r.csv', 'p.csv:5: \'two', 'p.csv:5: \'z\'', 'p.csv:7: \'z\'']),
+                ([p + 'c,z\nd,"two\nlines",z\ne,z\n', r], [],
+                 ['p.csv:4: \'z\' isn\'t in r.csv', 'p.csv:5: \'two', 'p.csv:5: \'z\'', 'p.csv:7: \'z\'']),
                 ([p, r + 'z,a,n\n'], [], ['r.csv:4: \'n\' isn\'t in p.csv; the first row of a table only names']),
                 ([p, 'n,1\nhospital,a\nx\ny,hospitall\n'], [], ['r.csv:4: \'hospitall\' isn\'t in p.csv']),
-                (['n,1\na,hospitl\n', 'n,1\nhospital,a\n'], [], ['p.csv:2: \'hospitl\' isn\'t in r.csv; is \'hospital\' meant?']),
+                (['n,1\na,hospitl\n', 'n,1\nhospital,a\n'], [],
+                 ['p.csv:2: \'hospitl\' isn\'t in r.csv; is \'hospital\' meant?']),
                 (['n,1\na,x;y\n', 'n,1\nx\ny\n'], [], ['p.csv:2: \'x;y\' isn\'t in r.csv; --in-cell \';\'']),
                 ([p, 'n,capacity,1\nx,2,a\ny,4097,b\nz,,a\nu,-1\nv,1.5\n'], [],
                  [f'r.csv:{i}: the capacity {it!r}' for i, it in ((3, '4097'), (4, ''), (5, '-1'), (6, '1.5'))]),
                 (['n,capacity,1\na,1,x\n', r], [], ['p.csv:1: only reviewers have a capacity']),
-                (['n;1;2\na;x;y\n', r], [], ['p.csv:1: this table has no column with choices; are cells divided by --delimiter \';\'?']),
+                (['n;1;2\na;x;y\n', r], [],
+                 ['p.csv:1: this table has no column with choices; are cells divided by --delimiter \';\'?']),
                 (['', r], [], ['p.csv:1: the table is empty']),
                 ([p, b'n,1\nx,a\ny,\xfcber\n'], [], ['r.csv:3: the table isn\'t in UTF-8']),
                 ([p.encode('utf-16'), r], [], ['p.csv:1: the table isn\'t in UTF-8']),
@@ -188,15 +202,16 @@ class Tables(unittest.TestCase):
         """One choice too many."""
         header, names = [['n'] + [str(i) for i in range(1024)]], [f'x{i}' for i in range(1024)]
         rows = [[f'y{i}'] + names for i in range(512)]
-        self.assertEqual(self.made([written(header + rows), written([['n', '1']] + [[it] for it in names])])[0].count('\n'), 1538)
+        p, r = written(header + rows), written([['n', '1']] + [[it] for it in names])
+        self.assertEqual(self.made([p, r])[0].count('\n'), 1538)
         os.remove(os.path.join(self.folder.name, 'names.csv'))
-        fault = self.refused([written(header + rows), written([['n', '1']] + [[names[0], 'y0']] + [[it] for it in names[1:]])])
+        fault = self.refused([p, r.replace('x7', 'x7,y0', 1)])
         self.assertIn('more than 524,288 choices', fault)
 
     def test_words(self):
         self.put('p.csv', 'n,1\na,b\nb,a\n')
-        for words in ([], ['p.csv'], ['--names', 'p.csv', 'p.csv'], ['--names', 'n', 'p.csv', 'p.csv'], ['--names', 'n', '--in-cell', 'ab', 'p.csv'],
-                      ['--names', 'n', '--delimiter', 'a', 'p.csv'], ['--name', 'n', 'p.csv']):
+        for words in ([], ['p.csv'], ['--names', 'p.csv', 'p.csv'], ['--names', 'n', 'p.csv', 'p.csv'], ['--name', 'n', 'p.csv'],
+                      ['--names', 'n', '--in-cell', 'ab', 'p.csv'], ['--names', 'n', '--delimiter', 'a', 'p.csv']):
             self.assertEqual(self.call('from_csv', *words)[0], 2, words)
         self.assertEqual(text_of(self.folder.name, 'p.csv'), 'n,1\na,b\nb,a\n')
         status, _, fault = self.call('from_csv', '--names', 'n', 'q.csv')
@@ -215,16 +230,18 @@ class Tables(unittest.TestCase):
         for name, wanted in (
                 ('both_sides.solve', 'proposer,reviewer/aann,aart/bben,bbiology/ccem,ddrama/ddan,cchemistry/eeve,'),
                 ('both_sides.solve_reviewers', 'proposer,reviewer/aann,bbiology/bben,aart/ccem,ddrama/ddan,cchemistry/eeve,'),
-                ('both_sides.reduced', 'side,name,first,last,1,2/proposer,aann,aart,bbiology,aart,bbiology/proposer,bben,bbiology,aart,bbiology,aart/'
+                ('both_sides.reduced', 'side,name,first,last,1,2/'
+                 'proposer,aann,aart,bbiology,aart,bbiology/proposer,bben,bbiology,aart,bbiology,aart/'
                  'proposer,ccem,ddrama,ddrama,ddrama,/proposer,ddan,cchemistry,cchemistry,cchemistry,/proposer,eeve,,,,/'
                  'reviewer,aart,aann,bben,bben,aann/reviewer,bbiology,bben,aann,aann,bben/reviewer,cchemistry,ddan,ddan,ddan,/'
                  'reviewer,ddrama,ccem,ccem,ccem,'),
-                ('three_cycle.rotations', 'rotation,proposer,from,to,needs/1,mm1,aa,bb,/1,mm2,bb,cc,/1,mm3,cc,aa,/2,mm1,bb,cc,1/2,mm2,cc,aa,1/2,mm3,aa,bb,1')):
+                ('three_cycle.rotations', 'rotation,proposer,from,to,needs/1,mm1,aa,bb,/1,mm2,bb,cc,/1,mm3,cc,aa,/'
+                 '2,mm1,bb,cc,1/2,mm2,cc,aa,1/2,mm3,aa,bb,1')):
             self.names_of(name.split('.')[0])
             status, text, fault = self.call('to_csv', 'names.csv', os.path.join(EXAMPLES, name))
             self.assertEqual((status, fault), (0, ''))
             self.assertEqual([','.join(it.replace(', x', '') for it in row) for row in table(text)], wanted.split('/'))
-            self.assertTrue(all(it.endswith(', x') for row in table(text)[1:] for it in row if len(it) > 1 and it not in ('proposer', 'reviewer')))
+            self.assertTrue(all(it.endswith(', x') or it in ('', '1', '2', 'proposer', 'reviewer') for row in table(text)[1:] for it in row))
 
     def test_seats(self):
         """Answers with seats and of `pairs`, in the forms of hospitals."""
@@ -240,17 +257,20 @@ class Tables(unittest.TestCase):
         right = text_of(EXAMPLES, 'both_sides.solve')
         self.names_of('both_sides')
         for old, new, what in (
-                ('answer', 'refused BadLine 3\n', 'refused the instance: refused BadLine 3'), ('answer', 'usage 2\n', 'faulty word: usage 2'),
-                ('end\n', '', 'standard input:5: the answer isn\'t whole'), ('solve side=proposers', 'survey limit=100', 'have no table'),
-                ('pair ann art', 'none', 'no such matching'), ('pair ann art', 'pair zoe art', 'standard input:2: names.csv has no proposer zoe'),
+                ('answer', 'refused BadLine 3\n', 'refused the instance: refused BadLine 3'),
+                ('answer', 'usage 2\n', 'faulty word: usage 2'), ('end\n', '', 'standard input:5: the answer isn\'t whole'),
+                ('solve side=proposers', 'survey limit=100', 'have no table'), ('pair ann art', 'none', 'no such matching'),
+                ('pair ann art', 'pair zoe art', 'standard input:2: names.csv has no proposer zoe'),
                 ('pair ann art', 'pair ann zoo', 'standard input:2: names.csv has no reviewer zoo'),
-                ('pair ben', 'pair ann', 'standard input:3: ann stands in two pairs'), ('pair ann art', 'pair  ann art', 'standard input:2: no line'),
+                ('pair ben', 'pair ann', 'standard input:3: ann stands in two pairs'),
+                ('pair ann art', 'pair  ann art', 'standard input:2: no line'),
                 ('pair ann art', 'pair ann', 'standard input:2: no line'), ('pair', 'paar', 'standard input:2: no line')):
             status, text, fault = self.call('to_csv', 'names.csv', stdin=right.replace(old, new, 1))
             self.assertEqual((status, text), (1, ''))
             self.assertIn(what, fault)
         self.assertEqual(self.call('to_csv', 'names.csv', stdin='')[0], 1)
-        for names, what in (('a,b\n', 'names.csv:1: no table of names'), ('side,name,original\nx,a,b\n', 'names.csv:2: this row'),
+        for names, what in (('a,b\n', 'names.csv:1: no table of names'),
+                            ('side,name,original\nx,a,b\n', 'names.csv:2: this row'),
                             ('side,name,original\nproposer,a b,b\n', 'names.csv:2: this row'),
                             ('side,name,original\nproposer,a,b\nproposer,a,c\n', 'names.csv:3: a has a row already'),
                             ('side,name,original\nproposer,a,b\nperson,a,c\n', 'names.csv:1: it has persons beside')):

@@ -45,6 +45,17 @@ def edges_of(picture):
     return {(a, b): rest for a, b, rest in re.findall(r'^    (\w+) -> (\w+)(?: \[(.*)\])?;$', picture, re.M)}
 
 
+def copies(count):
+    """An instance of many couples of couples, each with a rotation of its own that needs no other, and its answer."""
+    lines, firsts, rotations = [], [], []
+    for i in range(1, count + 1):
+        p, q, a, b = f'p{2 * i - 1}', f'p{2 * i}', f'r{2 * i - 1}', f'r{2 * i}'
+        lines += [f'p {p}: {a} {b}', f'p {q}: {b} {a}', f'r {a}: {q} {p}', f'r {b}: {p} {q}']
+        firsts += [f'first {p} {a}', f'first {q} {b}']
+        rotations += [f'rotation {i} {p} {a} {q} {b}', f'needs {i} -']
+    return '\n'.join(['stable 1 marriage', *lines, 'end', '']), '\n'.join(['answer rotations', *firsts, *rotations, 'end', ''])
+
+
 class Draw(unittest.TestCase):
     def stored(self, name, words, kind):
         status, picture, _ = draw(example(name + '.txt'), example(name + '.rotations'), *words)
@@ -58,7 +69,7 @@ class Draw(unittest.TestCase):
         self.assertEqual((status, fault), (0, ''))
         stable = brute.Marriage(text).stable()
         nodes = nodes_of(picture)
-        vectors = {node: tuple(map(int, [line for line in label if line[0].isdigit()][0].split())) for node, label in nodes.items()}
+        vectors = {node: tuple(map(int, label[-2].split())) for node, label in nodes.items()}
         self.assertEqual(sorted(vectors.values()), sorted(stable))
         edges = edges_of(picture)
         self.assertEqual({(vectors[a], vectors[b]) for a, b in edges}, brute.covers(stable))
@@ -85,7 +96,8 @@ class Draw(unittest.TestCase):
     def test_pictures(self):
         """The stored pictures are of the stored graphs: they have the same nodes, lines and words."""
         for name in ('five_rotations_order', 'five_rotations_lattice', 'three_cycle_lattice', 'two_by_two_lattice'):
-            picture, graph = text_of(os.path.join(TOP, 'docs', 'pictures', name + '.svg')), text_of(os.path.join(HERE, name + '.dot'))
+            picture = text_of(os.path.join(TOP, 'docs', 'pictures', name + '.svg'))
+            graph = text_of(os.path.join(HERE, name + '.dot'))
             words = re.findall(r'<text [^>]*>([^<]*)</text>', picture)
             labels = re.findall(r'label="([^"]*)"', graph)
             self.assertEqual(sorted(it.strip() for it in words),
@@ -109,13 +121,7 @@ class Draw(unittest.TestCase):
 
     def test_limit(self):
         """Twelve pairs of two have 4,096 stable matchings."""
-        lines, answer = [], ['answer rotations']
-        for i in range(1, 25, 2):
-            lines += [f'p p{i}: r{i} r{i + 1}', f'p p{i + 1}: r{i + 1} r{i}', f'r r{i}: p{i + 1} p{i}', f'r r{i + 1}: p{i} p{i + 1}']
-        answer += [f'first p{i} r{i}' for i in range(1, 25)]
-        for i in range(1, 13):
-            answer += [f'rotation {i} p{2 * i - 1} r{2 * i - 1} p{2 * i} r{2 * i}', f'needs {i} -']
-        text, answer = '\n'.join(['stable 1 marriage'] + lines + ['end', '']), '\n'.join(answer + ['end', ''])
+        text, answer = copies(12)
         status, picture, fault = draw(text, answer, '--lattice')
         self.assertEqual((status, picture), (1, ''))
         self.assertIn('more than 300 stable matchings', fault)
@@ -125,11 +131,7 @@ class Draw(unittest.TestCase):
 
     def test_many_rotations_stop_early(self):
         """A thousand free rotations, with more closed sets than could be counted."""
-        lines, answer = [], ['answer rotations'] + [f'first p{i} r{i}' for i in range(1, 2001)]
-        for i in range(1, 2001, 2):
-            lines += [f'p p{i}: r{i} r{i + 1}', f'p p{i + 1}: r{i + 1} r{i}', f'r r{i}: p{i + 1} p{i}', f'r r{i + 1}: p{i} p{i + 1}']
-            answer += [f'rotation {(i + 1) // 2} p{i} r{i} p{i + 1} r{i + 1}', f'needs {(i + 1) // 2} -']
-        status, _, fault = draw('\n'.join(['stable 1 marriage'] + lines + ['end', '']), '\n'.join(answer + ['end', '']), '--lattice')
+        status, _, fault = draw(*copies(1000), '--lattice')
         self.assertEqual(status, 1)
         self.assertIn('more than 300', fault)
 
@@ -137,7 +139,8 @@ class Draw(unittest.TestCase):
         text = example('unmatched.txt')
         status, picture, _ = draw(text, 'answer rotations\nfirst ann biology\nfirst cem art\nend\n', '--lattice')
         self.assertEqual(status, 0)
-        self.assertEqual(list(nodes_of(picture).values()), [['best for the proposers', 'best for the reviewers', '2 2 1', '{}']])
+        self.assertEqual(list(nodes_of(picture).values()),
+                         [['best for the proposers', 'best for the reviewers', '2 2 1', '{}']])
 
     def test_wrong_answers(self):
         """Each with the line at which it is refused."""
@@ -176,19 +179,22 @@ class Draw(unittest.TestCase):
         """By the table of docs/FORMATS.md, and what a line may hold."""
         two = 'stable 1 marriage\n'
         for text, refusal in (
-                ('', 'BadHeader 1'), ('\n\n', 'BadHeader 3'), (two + 'p m1: a, b\n', 'BadByte 2'), ('stable 2 marriage\n', 'BadHeader 1'),
+                ('', 'BadHeader 1'), ('\n\n', 'BadHeader 3'), ('stable 2 marriage\n', 'BadHeader 1'),
+                (two + 'p m1: a, b\n', 'BadByte 2'),
                 (two + 'p m1 a\n', 'BadLine 2'), (two + 'p -x:\n', 'BadName 2'), (two + f'p {"x" * 65}:\n', 'BadName 2'),
                 ('stable 1 hospitals\nr h [4097]:\n', 'BadNumber 2'), (two + 'r h [2]:\nend\n', 'BadLine 2'),
                 (two + 'p m1:\np m1:\n', 'Redeclared 3'), (two + 'p m1: a a\n', 'RepeatedEntry 2'),
                 (two + 'weight m1 a 1\nweight m1 a 1\n', 'RepeatedWeight 3'), (two + 'weight m1 a -0\n', 'BadNumber 2'),
                 (two, 'MissingEnd 2'), (two + 'p m1: z\nend\n', 'UnknownName 2'), (two + 'end\nend\n', 'AfterEnd 3'),
                 (two + 'force a b\nend\n', 'UnknownName 2'), ('end\n', 'BadHeader 1'), (two + 'p a\r:\nend\n', 'BadByte 2'),
-                ('stable 1 roommates\nr a:\nend\n', 'BadLine 2'), (two + ''.join(f'p p{i}:\n' for i in range(4097)), 'TooManyAgents 4098'),
+                ('stable 1 roommates\nr a:\nend\n', 'BadLine 2'),
+                (two + ''.join(f'p p{i}:\n' for i in range(4097)), 'TooManyAgents 4098'),
         ):
             status, _, fault = draw(text, example('two_by_two.rotations'))
             reason, line = refusal.split()
             self.assertEqual(status, 1)
-            self.assertTrue(fault.startswith(f'draw: instance.txt:{line}: ') and fault.endswith(f'({reason})\n'), (refusal, fault))
+            self.assertTrue(fault.startswith(f'draw: instance.txt:{line}: '), (refusal, fault))
+            self.assertTrue(fault.endswith(f'({reason})\n'), (refusal, fault))
 
     def test_blanks(self):
         """Comments, CR, blanks and a missing last LF change nothing."""
