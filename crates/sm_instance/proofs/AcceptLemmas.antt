@@ -28,9 +28,6 @@ cross_some agents a b i h =
 pub cross_none : (agents : List AgentData) (a b : ℕ) → (let none : Option ℕ = None in cross_place agents a b ≡ none) → length (row agents a) ≤ place_of agents a b
 cross_none agents a b h = ⊎_elim (λ l. absurd (let on : ltb (place_of agents a b) (length (row agents a)) ≡ true = grind (arith, nat_tests) in let e = ap (λ t. cond t (Some (place_of agents a b)) None) on in cc)) (λ g. g) (cases_lt (place_of agents a b) (length (row agents a)))
 
-pub cross_is : (agents : List AgentData) (a b : ℕ) → place_of agents a b < length (row agents a) → cross_place agents a b ≡ Some (place_of agents a b)
-cross_is agents a b l = grind (arith, nat_tests)
-
 -- and fits, since a list has no more entries than a side has agents
 pub cross_fits : {w : Written} → IsInstance w → (r p : ℕ) (o : Option ℕ) → o ≡ cross_place w.reviewers r p → IfSome o (λ back. back < most_agents)
 cross_fits {w} i r p None h = tt
@@ -54,10 +51,6 @@ acceptable_at w p r i h o cross b test =
     by_cross : (o : Option ℕ) → o ≡ cross_place w.reviewers r p → b ≡ is_some o → (IsTrue b → IsAcceptable w p r) × (IsAcceptable w p r → IsTrue b)
     by_cross None c t = (λ e. cc, λ a. let le = cross_none w.reviewers r p (sym c) in let lt = a.reviewer_lists in absurd (omega arith))
     by_cross (Some k) c t = (λ e. record { proposer_lists = (cross_some w.proposers p r i (sym h)).1; reviewer_lists = (cross_some w.reviewers r p k (sym c)).1 }, λ a. t)
-
--- where r isn't on p's list
-pub unlisted : (w : Written) (p r : ℕ) → (let none : Option ℕ = None in none ≡ cross_place w.proposers p r) → IsAcceptable w p r → ⊥
-unlisted w p r h a = let le = cross_none w.proposers p r (sym h) in let lt = a.proposer_lists in omega arith
 
 -- the reviewer at place i lists p, or doesn't
 pub accepts_at : {w : Written} → IsInstance w → (p i k : ℕ) → i < length (row w.proposers p) → Some k ≡ cross_place w.reviewers (entry w.proposers p i) p → IsAcceptable w p (entry w.proposers p i)

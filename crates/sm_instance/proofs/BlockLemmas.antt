@@ -27,9 +27,6 @@ blocks_by {w} {places} inst p i k limit on cross gain =
       λ h. (⊎_elim (λ l. l) (λ g. absurd (gain.others p listed (omega arith) h.reviewer_gains)) (cases_lt k limit), let b = h.proposer_gains in omega arith),
     )
 
-pub blocks_not : {w : Written} {places : List (Option ℕ)} (p i : ℕ) → (let none : Option ℕ = None in none ≡ cross_place w.reviewers (entry w.proposers p i) p) → Blocks w places p (entry w.proposers p i) → ⊥
-blocks_not {w} p i cross h = let le = cross_none w.reviewers (entry w.proposers p i) p (sym cross) in let a = h.acceptable in let lt = a.reviewer_lists in omega arith
-
 -- who blocks with r names it
 pub blocking_named : {w : Written} {places : List (Option ℕ)} {r : ℕ} {all : List Naming} → AreNamingsOf w.proposers (length w.proposers) 0 r all → (e : ℕ) → e ≤ length all → ((f : ℕ) → f < e → ¬ Blocks w places (naming_at all f).by r)
     → (q : ℕ) → ((f : ℕ) → e ≤ f → f < length all → q < (naming_at all f).by) → ¬ Blocks w places q r
@@ -126,7 +123,3 @@ first_end {w} {places} inst matching (Some n) h =
       earlier_proposers = λ q s lt b. h.earlier_proposers q s (row_in_range w.reviewers s _ b.acceptable.reviewer_lists) lt b;
       earlier_places = λ s lt b. h.earlier_places s (row_in_range w.reviewers s _ b.acceptable.reviewer_lists) (let at = h.at in omega arith) b;
     })
-
--- the first pair's place is on its proposer's list
-pub first_in_range : {w : Written} {places : List (Option ℕ)} {k : ℕ} (n : Naming) → IsFirstPairBelow w places k n → (n.by < length w.proposers) × (n.place < length (row w.proposers n.by))
-first_in_range {w} n h = let at = h.at in let on = h.blocks.acceptable.proposer_lists in (row_in_range w.proposers n.by _ on, omega arith)

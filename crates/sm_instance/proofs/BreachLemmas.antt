@@ -176,17 +176,6 @@ module _ {w : Written} {places : List (Option ℕ)} {r : ℕ} {all : List Naming
 pub worst_start : (w : Written) (places : List (Option ℕ)) (r : ℕ) (all : List Naming) → IsWorstSoFar w places r all 0 0
 worst_start w places r all = record { above = λ f lt. absurd (omega arith); attained = λ p lt. absurd (omega arith) }
 
--- before which place r gains
-pub limit_free : {w : Written} {places : List (Option ℕ)} {r : ℕ} → load w places r < capacity_of w.reviewers r → (limit : ℕ) → limit ≡ length (row w.reviewers r) → IsGainLimit w places r limit
-limit_free free limit is = record { gains = λ p lt. inl free; others = λ p on past. absurd (omega arith) }
-
-pub limit_full : {w : Written} {places : List (Option ℕ)} {r worst : ℕ} → capacity_of w.reviewers r ≤ load w places r → IsWorst w places r worst → IsGainLimit w places r worst
-limit_full full s =
-    record {
-      gains = λ p lt. inr (s.attained p lt);
-      others = λ p on past. ⊎_elim (λ free. omega arith) (λ h. let le = s.above h.other h.at h.holds h.there in let worse = h.worse in omega arith);
-    }
-
 -- nobody past the last proposer holds a place
 pub unacceptable_all : {w : Written} {places : List (Option ℕ)} → IsAssignment w places → (n : ℕ) → length w.proposers ≤ n → ((q : ℕ) → q < n → ¬ IsUnacceptable w places q) → (q : ℕ) → ¬ IsUnacceptable w places q
 unacceptable_all {w} assigned n whole none q u =

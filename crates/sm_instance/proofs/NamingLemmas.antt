@@ -99,24 +99,6 @@ list_named {agents} {others} {p} {k} {all} n whole =
           };
     }
 
--- no list yet
-pub none_named : (agents : List AgentData) (others : ℕ) (all : List (List Naming)) → length all ≡ others → ((r : ℕ) → get_or all r [] ≡ []) → AreNamings agents others 0 0 all
-none_named agents others all count empty =
-    record {
-      one_each = count;
-      of = λ r lt. let R : List Naming → Type 0 = λ t. AreNamingsOf agents 0 0 r t in
-          subst R (sym (empty r))
-          (record {
-            on_list = λ e l. absurd (omega arith);
-            names = λ e l. absurd (omega arith);
-            reached = λ e l. absurd (omega arith);
-            here = λ e l. absurd (omega arith);
-            rising = λ e f lt l. absurd (omega arith);
-            earlier_named = λ q i low. absurd (omega arith);
-            here_named = λ i l. absurd (omega arith);
-          });
-    }
-
 -- the place of whom b names
 pub naming_found : {agents : List AgentData} {others a : ℕ} {all : List Naming} → AreSoundEntries agents others → AreNamingsOf agents (length agents) 0 a all → (b i : ℕ) → IsNamed all b i
     → Some i ≡ cross_place agents b a

@@ -15,35 +15,6 @@ use Rattle.sm_instance.proofs.PlaceLemmas.{place_found, place_missing}
 use Rattle.sm_instance.proofs.NamingLemmas.{naming_found}
 use Rattle.sm_instance.proofs.AcceptLemmas.{cross_some, entry_cross}
 
--- before the first place, where all notes are of earlier turns
-pub noting_start : (list : List ℕ) (r : ℕ) (notes : List Note) → ((p : ℕ) → (note_of notes p).stamp ≤ r) → AreNotesOf list 0 r notes
-noting_start list r notes earlier =
-    record {
-      latest = λ p. let le = earlier p in omega arith;
-      noted = λ j l. absurd (omega arith);
-      on_list = λ p is. let le = earlier p in absurd (omega arith);
-      there = λ p is. let le = earlier p in absurd (omega arith);
-    }
-
--- one more place
-pub noting_adds : {list : List ℕ} {n r : ℕ} {notes : List Note} → AreNotesOf list n r notes → get_or list n 0 < length notes
-    → AreNotesOf list (n + 1) r (set notes (get_or list n 0) (record { stamp = r + 1; place = n }))
-noting_adds {list} {n} {r} {notes} s inside =
-    let q : ℕ = get_or list n 0 in
-    let note : Note = record { stamp = r + 1; place = n } in
-    record {
-      latest = set_cases (λ p x. x.stamp ≤ r + 1) notes q note no_note inside (omega arith) (λ p _. s.latest p);
-      noted = λ j l. set_cases (λ p x. p ≡ get_or list j 0 → x.stamp ≡ r + 1) notes q note no_note inside
-          (λ _. refl)
-          (λ p other same. ⊎_elim
-          (λ lower. ap (λ c. (note_of notes c).stamp) same ∙ s.noted j lower)
-          (λ le. let last : j ≡ n = omega arith in absurd (other (same ∙ ap (λ k. get_or list k 0) last)))
-          (cases_lt j n))
-          (get_or list j 0) refl;
-      on_list = set_cases (λ p x. x.stamp ≡ r + 1 → x.place < n + 1) notes q note no_note inside (λ _. omega arith) (λ p _ is. let l = s.on_list p is in omega arith);
-      there = set_cases (λ p x. x.stamp ≡ r + 1 → get_or list x.place 0 ≡ p) notes q note no_note inside (λ _. refl) (λ p _. s.there p);
-    }
-
 -- with the whole list noted, the notes tell who stands where on it
 pub noted_place : {agents : List AgentData} {others r : ℕ} {notes : List Note} → AreSoundEntries agents others → AreNotesOf (row agents r) (length (row agents r)) r notes
     → (p : ℕ) → noted_in (note_of notes p) (r + 1) ≡ cross_place agents r p
@@ -92,22 +63,6 @@ get_or-none : (n i : ℕ) → (let none : Option ℕ = None in get_or (replicate
 get_or-none n i =
     let none : Option ℕ = None in
     ⊎_elim (λ l. get_or-replicate n i none none l) (λ l. get_or_past (replicate n none) i none (let long = length-replicate n none in omega arith)) (cases_lt i n)
-
-pub crossed_start : (proposers reviewers : List AgentData) (namings : List Naming) (crosses : List (List (Option ℕ))) → crosses ≡ no_crosses_of proposers → AreCrossed proposers reviewers 0 namings 0 crosses
-crossed_start proposers reviewers namings crosses is =
-    let none : Option ℕ = None in
-    let f : AgentData → List (Option ℕ) = λ agent. replicate (length agent.entries) none in
-    let long = length-map proposers f in
-    rw is
-    (record {
-      one_each = long;
-      as_long = λ p. ⊎_elim
-          (λ lt. ap length (get_or-map f proposers p no_agent [] lt) ∙ length-replicate (length (row proposers p)) none)
-          (λ ge. ap length (get_or_past (no_crosses_of proposers) p [] (omega arith)) ∙ sym (ap (λ (x : AgentData). length x.entries) (get_or_past proposers p no_agent ge)))
-          (cases_lt p (length proposers));
-      earlier = λ p i on lt. absurd (omega arith);
-      here = λ e lt. absurd (omega arith);
-    })
 
 pub told_start : (proposers reviewers : List AgentData) (r : ℕ) (namings : List Naming) (crosses : List (Option ℕ)) (n : ℕ) → n ≡ length (row reviewers r) → crosses ≡ replicate n None
     → AreToldBack proposers reviewers r namings 0 crosses
@@ -226,22 +181,6 @@ pub record IsCrossing (proposers reviewers : List AgentData) (r : ℕ) (notes : 
   pub back_each : length back ≡ r
   pub back_of : (q : ℕ) → q < r → AreCrossPlacesOf reviewers proposers q (get_or back q [])
 
--- before the first turn
-pub crossing_start : (proposers reviewers : List AgentData) (notes : List Note) (crosses : List (List (Option ℕ))) (n : ℕ) → n ≡ length proposers → notes ≡ replicate n no_note → crosses ≡ no_crosses_of proposers
-    → IsCrossing proposers reviewers 0 notes crosses []
-crossing_start proposers reviewers notes crosses n is all_notes none =
-    record {
-      notes_long = ap length all_notes ∙ length-replicate n no_note ∙ is;
-      latest = λ p. let P : Note → Type 0 = λ x. x.stamp ≤ 0 in
-          let Q : List Note → Type 0 = λ t. P (note_of t p) in
-          let zero : P no_note = omega arith in
-          subst Q (sym all_notes) (⊎_elim (λ l. subst P (sym (get_or-replicate n p no_note no_note l)) zero)
-          (λ l. subst P (sym (get_or_past (replicate n no_note) p no_note (let long = length-replicate n no_note in omega arith))) zero) (cases_lt p n));
-      crossed = λ namings. crossed_start proposers reviewers namings crosses none;
-      back_each = refl;
-      back_of = λ q l. absurd (omega arith);
-    }
-
 -- one more turn
 pub crossing_step : {proposers reviewers : List AgentData} {others r : ℕ} {notes notes' : List Note} {namings : List Naming} {crosses crosses' : List (List (Option ℕ))} (back : List (Vec (Option ℕ) Global)) (v : Vec (Option ℕ) Global)
     → IsCrossing proposers reviewers r notes crosses (crosses_of back) → AreSoundEntries reviewers others → AreNamingsOf proposers (length proposers) 0 r namings
@@ -271,6 +210,3 @@ module _ {proposers reviewers : List AgentData} {r : ℕ} {notes : List Note} {c
           places = λ i on. (w.crossed []).earlier p i on (let s = sound.sound p i on in let l = s.in_range in omega arith);
         };
       }
-
-  pub back_end : AreCrossPlaces reviewers proposers back
-  back_end = record { one_each = w.back_each ∙ is; of = λ q l. w.back_of q (omega arith) }

@@ -5,7 +5,11 @@ ghost use Rattle.sm_lists.specs.Rows.{rows_of, row, entry};
 
 use std::alloc::{AllocError, Global};
 
-/// A copy of the lists.
+/// A copy of the lists. Takes time and memory in proportion to the lists and their entries.
+///
+/// # Errors
+///
+/// `AllocError` where memory ran out, and only then.
 pub fn copy_of(alloc: Global, rows: &[Vec<u32>]) -> Result<Vec<Vec<u32>>, AllocError>
     ensures { IfOk result (λ copy. rows_of copy.items ≡ rows_of rows.now) }
 {
@@ -16,7 +20,7 @@ pub fn copy_of(alloc: Global, rows: &[Vec<u32>]) -> Result<Vec<Vec<u32>>, AllocE
     Ok(copy)
 }
 
-/// An agent's list.
+/// The list of the agent with a number. Agents and places are numbered from 0.
 pub fn list_at(rows: &[Vec<u32>], a: u32) -> &[u32]
     requires { a < length rows.now }
     ensures { result.now ≡ row (rows_of rows.now) a }
@@ -24,7 +28,7 @@ pub fn list_at(rows: &[Vec<u32>], a: u32) -> &[u32]
     &rows[a as usize]
 }
 
-/// What stands at a place of an agent's list.
+/// Whom an agent's list names at a place. Agents and places are numbered from 0.
 pub fn entry_at(rows: &[Vec<u32>], a: u32, place: u32) -> u32
     requires in_range { a < length rows.now }
     requires on_list { place < length (row (rows_of rows.now) a) }

@@ -7,4 +7,3 @@ use Rattle.sm_poset.specs.Kept.{moves_in, moves_at}
 
 pub moves_read : (vectors : List (Vec (ℕ × ℕ) Global)) (p : ℕ) (v : Vec (ℕ × ℕ) Global) → p < length vectors → v ≡ get_or vectors p v → v.items ≡ moves_at (moves_in vectors) p
 moves_read vectors p v h e = ap (λ (v : Vec (ℕ × ℕ) Global). v.items) e ∙ sym (get_or-map (λ (v : Vec (ℕ × ℕ) Global). v.items) vectors p v [] h)
-

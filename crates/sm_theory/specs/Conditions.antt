@@ -70,7 +70,8 @@ fall_of (negsuc n) = suc n
 -- matching holds, or a forbidden one that all hold
 abbrev pub allows_nothing : Lists → List (List ℕ) → (forced forbidden : List (ℕ × ℕ)) → Places → List (List (ℕ × ℕ)) → Bool
 allows_nothing l levels forced forbidden first rotations =
-    list_any (λ c. forces l levels first rotations c 0 (suc (length rotations))) forced || list_any (λ c. forbids l levels first rotations c 0 (suc (length rotations))) forbidden
+    list_any (λ c. forces l levels first rotations c 0 (suc (length rotations))) forced
+    || list_any (λ c. forbids l levels first rotations c 0 (suc (length rotations))) forbidden
 
 -- the net of the gains, the predecessors and the conditions, which are pairs of a proposer and a level. No edge leads from
 -- the source to the sink

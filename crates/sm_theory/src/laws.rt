@@ -113,14 +113,14 @@ pub fn cuts_are_allowed()
     ensures { CutsAreAllowed }
 {}
 
-/// In that net a closed set is a least cut exactly where its matching is allowed and none that is allowed is lighter
-/// (Irving, Leather and Gusfield 1987).
+/// In that net, where no pair allows nothing by itself, a closed set is a least cut exactly where its matching is allowed and
+/// none that is allowed is lighter (Irving, Leather and Gusfield 1987).
 pub fn least_cut_is_lightest()
     ensures { LeastCutIsLightest }
 {}
 
-/// In that net, where no residual step leaves the reach of a flow, the matching of the reach is a lightest allowed one, and
-/// no proposer does better in another.
+/// In that net, where no pair allows nothing by itself and no residual step leaves the reach of a flow, the matching of the
+/// reach is a lightest allowed one, and no proposer does better in another.
 pub fn reach_is_best_lightest()
     ensures { ReachIsBestLightest }
 {}
