@@ -1,6 +1,6 @@
 -- The order of vectors, as far as the witnesses need it.
 use Rattle.std.proofs.Common.{ℕ, ◌<◌, inl, inr, arith, sym, ◌∙◌, subst, List, slice_index}
-use Rattle.sm_market.proofs.Counting.{less_same_more}
+use Rattle.sm_lists.proofs.Counting.{less_same_more}
 use Rattle.sm_theory.specs.Vectors.{IsBefore}
 
 pub irreflexive : (order v : List ℕ) → IsBefore order v v → ⊥

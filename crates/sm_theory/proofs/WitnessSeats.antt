@@ -1,7 +1,7 @@
 -- The market of specs/WitnessesSeats.antt.
 use Rattle.std.proofs.Common.{◌≡◌, ℕ, zero, suc, ◌<◌, ◌||◌, arith, refl, sym, ap, ◌∙◌, inl, inr, Bool, not, eqb, eqb-true, eq-eqb, length, slice_index, [], ◌∷◌}
 use Rattle.sm_market.specs.Lists.{row, entry}
-use Rattle.sm_market.proofs.Counting.{lt_or_le}
+use Rattle.sm_lists.proofs.Counting.{lt_or_le}
 use Rattle.sm_market.proofs.CheckLemmas.{stable_from_test}
 use Rattle.sm_theory.specs.WitnessesSeats.{seats, seats_levels, seats_turned, seats_exchanged, Seats}
 use Rattle.sm_theory.proofs.BridgePlaces.{row_past}
