@@ -3,3 +3,4 @@ pub mod DigitLemmas
 pub mod TokenLemmas
 pub mod NumberLemmas
 pub mod NameLemmas
+pub mod WitnessLemmas

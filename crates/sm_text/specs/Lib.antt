@@ -5,3 +5,4 @@ pub mod Numbers
 pub mod Tokens
 pub mod Writer
 pub mod Refusal
+pub mod Witnesses

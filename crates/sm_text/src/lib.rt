@@ -11,6 +11,7 @@ mod numbers;
 mod refusal;
 mod text_hash;
 mod tokens;
+pub mod witnesses;
 mod writer;
 
 pub use limits::{

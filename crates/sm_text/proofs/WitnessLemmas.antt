@@ -1,0 +1,19 @@
+-- What stands in specs/Witnesses.antt, computed.
+use Rattle.std.proofs.Common.{refl}
+use Rattle.sm_text.specs.Name as name
+use Rattle.sm_text.specs.Tokens as token
+use Rattle.sm_text.specs.Witnesses.{LinesEnd, NamesBegin, TokensCut, NumbersSpelt}
+
+pub lines_end : LinesEnd
+lines_end = (refl, refl, refl, refl, refl, refl)
+
+pub names_begin : NamesBegin
+unfolding name.begins_name name.is_name_byte
+names_begin = (refl, refl)
+
+pub tokens_cut : TokensCut
+unfolding name.begins_name name.is_name_byte token.is_blank token.is_mark
+tokens_cut = (refl, refl, refl)
+
+pub numbers_spelt : NumbersSpelt
+numbers_spelt = (refl, refl, refl, refl)
