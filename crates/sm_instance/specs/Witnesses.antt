@@ -47,7 +47,8 @@ NobodyBlocks = IsStable small_hospitals settled
     × (weight_of Given small_hospitals settled ≡ negsuc 9)
     × (¬ IsAllowed small_hospitals settled)
 
--- a blocks with k, which has a free place; b doesn't with h, which is full of better ones, nor with z, which has no place
+-- a blocks with k, which has a free place; b blocks neither with h, which is full of better ones, nor with z, which has no
+-- place
 abbrev pub FreePlaceBlocks : Type 0
 FreePlaceBlocks = IsAllowed small_hospitals left_over
     × Blocks small_hospitals left_over 0 1
@@ -70,7 +71,8 @@ abbrev pub NoMatchings : Type 0
 NoMatchings = (¬ IsMatching small_hospitals (None ∷ None ∷ Some 1 ∷ []))
     × (¬ IsMatching small_hospitals (Some 1 ∷ Some 1 ∷ Some 0 ∷ []))
 
--- proposers m1: x a and m2: a; reviewers x, who lists nobody, and a: m2 m1. An inert entry counts in the ranks behind it.
+-- proposers m1: x a and m2: a; reviewers x, who lists nobody, and a: m2 m1. An inert entry counts in the ranks behind it,
+-- and in that of being unmatched
 abbrev pub inert_entry : Written
 inert_entry = record {
   kind = Marriage;

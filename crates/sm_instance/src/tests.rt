@@ -85,6 +85,8 @@ fn is_worth(rt: &impl Abort, instance: &Instance, a: &Assignment, row: &Row)
     instance.rank_vector(a, &mut ranks);
     assert!(rt; ranks == row.ranks);
     assert!(rt; instance.first_blocking(a) == row.blocking);
+    assert!(rt; instance.reviewer_count() == 3);
+    assert!(rt; !instance.blocks(a, 1, 2));
     assert!(rt; instance.regret(a) == row.regret);
     assert!(rt; instance.weigh(a, Measure::Ranks) == row.weights.0);
     assert!(rt; instance.weigh(a, Measure::Given) == row.weights.1);
@@ -111,6 +113,8 @@ fn knows_its_agents(rt: &impl Abort, instance: &Instance) {
     assert!(rt; !instance.acceptable(2, 1));
     assert!(rt; instance.acceptable(2, 0));
     assert!(rt; instance.place(2, 1) == Some(1));
+    assert!(rt; instance.proposer_len(2) == 2);
+    assert!(rt; instance.cross(2, 1).is_none());
     assert!(rt; instance.weight(2, 0) == -10);
     assert!(rt; instance.capacity(2) == 0);
 }

@@ -21,7 +21,8 @@ abbrev pub Row : Type 0
 Row = List (List ℕ) × RefusalKind × ℕ
 
 abbrev pub AreRefused : List Row → Type 0
-AreRefused rows = map (λ (row : Row). instance_text (text_of row.0)) rows ≡ map (λ (row : Row). Err (row.1, row.2)) rows
+AreRefused rows =
+    map (λ (row : Row). instance_text (text_of row.0)) rows ≡ map (λ (row : Row). Err (row.1, row.2)) rows
 
 -- the same of a marriage and of hospitals, by the lines behind the header, which is line 1
 abbrev pub under : List ℕ → List Row → List Row
@@ -122,7 +123,8 @@ AgentsCounted = (map (fault_of full_sides) (
 
 -- all lists together have at most 524,288 entries
 abbrev pub fault_behind : List (List ℕ) → Option RefusalKind
-fault_behind entries = fault_of (record nothing { proposers = lister entries ∷ [] }) (declares Reviewers (codes "x") None (codes "a" ∷ []))
+fault_behind entries = fault_of (record nothing { proposers = lister entries ∷ [] })
+    (declares Reviewers (codes "x") None (codes "a" ∷ []))
 
 abbrev pub EntriesCounted : Type 0
 EntriesCounted = ((entries : List (List ℕ)) → length entries ≡ 524287 → fault_behind entries ≡ None)
@@ -155,13 +157,14 @@ HospitalsRead = instance_text hospitals_text ≡ Ok (record {
 
 -- persons may list themselves, and the last line needs no end
 abbrev pub RoommatesRead : Type 0
-RoommatesRead = instance_text (text_of (codes "stable 1 roommates" ∷ codes "p a: a b" ∷ codes "p b: a" ∷ []) ++ codes "end") ≡ Ok (record {
-  input = Room (record { name = codes "a"; capacity = 1; line = 2; entries = 0 ∷ 1 ∷ [] }
-      ∷ record { name = codes "b"; capacity = 1; line = 3; entries = 0 ∷ [] } ∷ []);
-  header_line = 1;
-  rest = 38;
-  rest_line = 5;
-})
+RoommatesRead = instance_text (text_of (codes "stable 1 roommates" ∷ codes "p a: a b" ∷ codes "p b: a" ∷ []) ++ codes "end")
+    ≡ Ok (record {
+      input = Room (record { name = codes "a"; capacity = 1; line = 2; entries = 0 ∷ 1 ∷ [] }
+          ∷ record { name = codes "b"; capacity = 1; line = 3; entries = 0 ∷ [] } ∷ []);
+      header_line = 1;
+      rest = 38;
+      rest_line = 5;
+    })
 
 -- lines may end with CR and LF, and a last one with CR
 abbrev pub ReturnsRead : Type 0
