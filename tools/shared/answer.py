@@ -4,7 +4,7 @@ import re
 from .command import Fault
 from .instance import NAME, NUMBER
 
-SEAT = re.compile(r'([A-Za-z0-9_][A-Za-z0-9_.-]{0,63})(?:/([1-9][0-9]*))?\Z')
+SEAT = re.compile(r'([A-Za-z0-9_][A-Za-z0-9_.-]{0,63})(?:/([1-9][0-9]{0,9}))?\Z')
 
 # For each keyword whether its fields have their form. N is a name, S a seat, I a number, * any number of the last, none
 # of them written `-`, + one or more.

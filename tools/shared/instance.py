@@ -10,8 +10,9 @@ MOST_CAPACITY = 4_096
 MOST_WEIGHT = 1_000_000_000
 
 NAME = re.compile(r'[A-Za-z0-9_][A-Za-z0-9_.-]{0,63}\Z')
-NUMBER = re.compile(r'(0|[1-9][0-9]*)\Z')
-SIGNED = re.compile(r'(0|-?[1-9][0-9]*)\Z')
+# Numbers of more than 20 digits are out of all limits.
+NUMBER = re.compile(r'(0|[1-9][0-9]{0,19})\Z')
+SIGNED = re.compile(r'(0|-?[1-9][0-9]{0,19})\Z')
 RUN = re.compile(r'[A-Za-z0-9_.-]+\Z')
 TOKEN = re.compile(r'[A-Za-z0-9_.-]+|[:\[\]]')
 OTHER = re.compile(r'[^A-Za-z0-9_.:\[\] \t-]')

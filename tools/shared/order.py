@@ -107,7 +107,8 @@ class Order:
 
     def brings(self, i, k):
         """Whether rotation `i` brings a proposer to the seat that rotation `k` takes it from: needs of the first kind."""
-        return any((p, to) == (q, left) for p, _, to in self.moves[i - 1] for q, left, _ in self.moves[k - 1])
+        brought = {(p, to) for p, _, to in self.moves[i - 1]}
+        return any((p, left) in brought for p, left, _ in self.moves[k - 1])
 
     def closed_sets(self, most):
         """All closed sets, as bits, each behind those below it, or None where there are more than `most`."""

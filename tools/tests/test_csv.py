@@ -45,7 +45,7 @@ class Tables(unittest.TestCase):
 
     def call(self, tool, *words, stdin=''):
         """Status, output and faults of a tool that is called in a folder of its own."""
-        done = subprocess.run([sys.executable, os.path.join(HERE, '..', tool), *words], input=stdin.encode(),
+        done = subprocess.run([sys.executable, '-S', os.path.join(HERE, '..', tool), *words], input=stdin.encode(),
                               capture_output=True, cwd=self.folder.name)
         return done.returncode, done.stdout.decode(), done.stderr.decode()
 
@@ -94,7 +94,7 @@ class Tables(unittest.TestCase):
         """Names with spaces, marks, quotes, line ends, accents, other scripts, of 80 letters, and like replaced ones."""
         parts = ['ann', 'Ann', 'p1', 'p2', 'r1', 'r2', 'Zoë', 'Zoe', 'Łódź', 'Дом', '学校', 'O\'Neill', 'a"b', 'x,y', 'two\nlines',
                  '-dash', '.dot', '#1', 'a:b', '[c]', 'É', 'E', 'n' * 80, '½', 'ß', '_', '😀', 'end', 'stable', '-', '0']
-        for seed in range(20):
+        for seed in range(12):
             draw = random.Random(seed)
             def names():
                 one = [' '.join(draw.sample(parts, draw.choice((1, 1, 1, 2)))) for _ in range(5)]
@@ -154,7 +154,7 @@ class Tables(unittest.TestCase):
                 ('\ufeffn,1,2\r\na,x,y\r\n,,\r\n\r\nb,,y\r\n', 'n,1,2\r\n"x",a\r\n"y","b","a"\r\n', []),
                 ('n;1\na;x,y\nb;y\n', 'n;1\nx;a\ny;b, a\n', ['--delimiter', ';', '--in-cell', ',']),
                 ('n\t1\na\tx|y\nb\ty|\n', 'n\t1\nx\ta\ny\tb||a\n', ['--delimiter', 'tab', '--in-cell', '|']),
-                ('n,1\na,"x, y"\nb,y\n', 'n,1\nx,a\ny,"b,a"\n', ['--in-cell', ',']),
+                ('n,1\na, "x, y"\n "b",y\n', 'n,1\nx,a\ny,"b,a"\n', ['--in-cell', ',']),
                 ('id,n,mail,1,2\n7,a,a@b,x,y\n8,b,c@d,y\n', 'n,1,2\nx,a\ny,b,a\n', ['--skip', 'ID', '--skip', 'mail'])):
             self.assertEqual(self.made([p, r], *words)[0], wanted, p)
 

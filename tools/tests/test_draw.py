@@ -30,7 +30,7 @@ def draw(instance, answer, *words, path=None):
         file = os.path.join(folder, 'instance.txt')
         with open(file, 'w', encoding='utf-8') as out:
             out.write(instance)
-        done = subprocess.run([sys.executable, os.path.join(HERE, '..', 'draw'), *words, file], input=answer.encode(),
+        done = subprocess.run([sys.executable, '-S', os.path.join(HERE, '..', 'draw'), *words, file], input=answer.encode(),
                               capture_output=True, env={**os.environ, 'PATH': path} if path else None)
         return done.returncode, done.stdout.decode(), done.stderr.decode().replace(folder + os.sep, '')
 
@@ -107,7 +107,7 @@ class Draw(unittest.TestCase):
 
     def test_random(self):
         counts = set()
-        for seed in range(40):
+        for seed in range(25):
             text = brute.made(seed)
             counts.add(self.agrees(text, brute.answer_of(brute.Marriage(text))))
         self.assertGreater(max(counts), 4)
@@ -182,7 +182,7 @@ class Draw(unittest.TestCase):
                 ('', 'BadHeader 1'), ('\n\n', 'BadHeader 3'), ('stable 2 marriage\n', 'BadHeader 1'),
                 (two + 'p m1: a, b\n', 'BadByte 2'),
                 (two + 'p m1 a\n', 'BadLine 2'), (two + 'p -x:\n', 'BadName 2'), (two + f'p {"x" * 65}:\n', 'BadName 2'),
-                ('stable 1 hospitals\nr h [4097]:\n', 'BadNumber 2'), (two + 'r h [2]:\nend\n', 'BadLine 2'),
+                ('stable 1 hospitals\nr h [4097]:\n', 'BadNumber 2'), (f'stable 1 hospitals\nr h [{"9" * 5000}]:\n', 'BadNumber 2'), (two + 'r h [2]:\nend\n', 'BadLine 2'),
                 (two + 'p m1:\np m1:\n', 'Redeclared 3'), (two + 'p m1: a a\n', 'RepeatedEntry 2'),
                 (two + 'weight m1 a 1\nweight m1 a 1\n', 'RepeatedWeight 3'), (two + 'weight m1 a -0\n', 'BadNumber 2'),
                 (two, 'MissingEnd 2'), (two + 'p m1: z\nend\n', 'UnknownName 2'), (two + 'end\nend\n', 'AfterEnd 3'),
