@@ -110,26 +110,25 @@ class Order:
         brought = {(p, to) for p, _, to in self.moves[i - 1]}
         return any((p, left) in brought for p, left, _ in self.moves[k - 1])
 
-    def closed_sets(self, most):
-        """All closed sets, as bits, each behind those below it, or None where there are more than `most`."""
-        found, seen = [0], {0}
+    def lattice(self, most):
+        """All closed sets, as bits, each with the rank vector of its matching and behind the sets within it; None where
+        there are more than `most`. A rank vector has for each proposer the rank of its partner, or one more than its list
+        is long where it is unmatched.
+        """
+        numbers = {name: number for number, name in enumerate(self.instance.proposers)}
+        ranks = [agent.rank(self.first.get(name, (None,))[0]) for name, agent in self.instance.proposers.items()]
+        found, vectors = [0], {0: ranks}
         for closed in found:
             for i, below in enumerate(self.below):
                 more = closed | 1 << i
-                if more != closed and below & ~closed == 0 and more not in seen:
+                if more != closed and below & ~closed == 0 and more not in vectors:
                     if len(found) == most:
                         return None
-                    seen.add(more)
                     found.append(more)
-        return found
-
-    def rank_vector(self, closed):
-        """For each proposer the rank of its partner in the matching of a closed set; one more than its list if unmatched."""
-        held = dict(self.first)
-        for i, moves in enumerate(self.moves):
-            if closed >> i & 1:
-                held.update((p, to) for p, _, to in moves)
-        return [agent.rank(held[name][0] if name in held else None) for name, agent in self.instance.proposers.items()]
+                    vectors[more] = list(vectors[closed])
+                    for p, _, to in self.moves[i]:
+                        vectors[more][numbers[p]] = self.instance.proposers[p].rank(to[0])
+        return vectors
 
 
 def seat_text(seat):
