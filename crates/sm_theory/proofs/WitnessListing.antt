@@ -9,7 +9,7 @@ use Rattle.sm_theory.specs.ClosedSets.{IsMember, IsClosed, matching_of, IsReady}
 use Rattle.sm_theory.specs.Vectors.{IsBefore, IsAllowed, IsAllowedVector, level_vector_of, IsListing}
 use Rattle.sm_theory.specs.WitnessesListing.{two_pairs, two_pairs_first, two_pairs_chain, two_pairs_ranks, both_best, second_worst, first_worst, both_worst, TwoApart, Listed, TwoPairs}
 use Rattle.sm_theory.proofs.WitnessOrders.{irreflexive, transitive}
-use Rattle.sm_theory.proofs.LawsRotations.{predecessor_is_earlier, sets_are_matchings}
+use Rattle.sm_theory.proofs.LawsRotations.{predecessor_is_earlier, sets_are_matchings, printed_of}
 use Rattle.sm_theory.proofs.WitnessTests.{market_pass, matching_pass, firsts_best, exposed_pass, none_pass, levels_pass}
 use Rattle.sm_theory.proofs.WitnessMarkets.{below_two}
 
@@ -106,7 +106,7 @@ below_four P a b c d (suc (suc (suc (suc i)))) h = absurd (omega arith)
 
 -- all four in one order
 whole_listing : (order : List ℕ) (limit : ℕ) (a b c d : List ℕ) → 4 ≤ limit → IsBefore order a b → IsBefore order b c → IsBefore order c d → IsOne a → IsOne b → IsOne c → IsOne d
-    → ((v : List ℕ) → IsOne v → (k : ℕ) × (k < 4) × (slice_index_or (a ∷ b ∷ c ∷ d ∷ []) k [] ≡ v)) → IsListing IsOne order None limit (a ∷ b ∷ c ∷ d ∷ []) false
+    → ((v : List ℕ) → IsOne v → (k : ℕ) × (k < 4) × (slice_index_or (a ∷ b ∷ c ∷ d ∷ []) k [] ≡ v)) → IsListing (IsBefore order) IsOne None limit (a ∷ b ∷ c ∷ d ∷ []) false
 whole_listing order limit a b c d le ab bc cd one two three last all = record {
   begins = λ _. tt;
   rises = λ k h. below_three (λ k. IsBefore order (slice_index_or (a ∷ b ∷ c ∷ d ∷ []) k []) (slice_index_or (a ∷ b ∷ c ∷ d ∷ []) (k + 1) [])) ab bc cd k (omega arith);
@@ -219,7 +219,7 @@ listed = (
 pub two_pairs_are : TwoPairs
 two_pairs_are = (
   market,
-  record { chain = complete; lowest = below_two _ (λ other x i h. omega arith) (λ other x i h. settled _ _ (x.next i h)) },
+  printed_of complete (below_two _ (λ other x i h. omega arith) (λ other x i h. settled _ _ (x.next i h))),
   levels_pass two_pairs two_pairs_ranks refl,
   two_apart,
   (refl, refl),

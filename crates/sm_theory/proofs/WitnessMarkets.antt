@@ -107,7 +107,7 @@ left_over_complete = record {
 pub left_over_is : LeftOver
 left_over_is = (
   left_over_market,
-  record { chain = left_over_complete; lowest = below_one _ (λ other x i h. omega arith) },
+  printed_of left_over_complete (below_one _ (λ other x i h. omega arith)),
   refl,
   (nothing_exposed left_over left_over_last left_over_market (stable_from_test left_over left_over_last (matching_pass left_over left_over_last refl) refl) (none_pass left_over left_over_last refl)).0,
   record { outside = false_true; prepared = λ i a need. absurd (omega (arith, predecessor_is_earlier left_over left_over_first left_over_chain i 0 left_over_market left_over_complete a (omega arith) need)) },

@@ -5,7 +5,7 @@ use Rattle.sm_market.specs.Matching.{Places}
 use Rattle.sm_theory.specs.Lattice.{meet_of, join_of}
 use Rattle.sm_theory.specs.Chains.{stage, rotation_at, IsPrintedChain, IsNeededBy}
 use Rattle.sm_theory.specs.ClosedSets.{matching_of, IsReady}
-use Rattle.sm_theory.specs.Vectors.{AreLevels, IsAllowedVector, IsListing}
+use Rattle.sm_theory.specs.Vectors.{IsBefore, AreLevels, IsAllowedVector, IsListing}
 
 -- twice two proposers with opposed lists
 abbrev pub two_pairs : Lists
@@ -54,9 +54,9 @@ MeetAndJoin = (meet_of two_pairs (two_pairs_of (true ∷ false ∷ [])) (two_pai
 
 -- the whole listing in the order of the proposers, the one that begins with proposer 2, and two behind a cursor
 abbrev pub Listed : Type 0
-Listed = IsListing (IsAllowedVector two_pairs two_pairs_ranks [] []) (0 ∷ 1 ∷ 2 ∷ 3 ∷ []) None 9 (both_best ∷ second_worst ∷ first_worst ∷ both_worst ∷ []) false
-    × IsListing (IsAllowedVector two_pairs two_pairs_ranks [] []) (2 ∷ 3 ∷ 0 ∷ 1 ∷ []) None 4 (both_best ∷ first_worst ∷ second_worst ∷ both_worst ∷ []) false
-    × IsListing (IsAllowedVector two_pairs two_pairs_ranks [] []) (0 ∷ 1 ∷ 2 ∷ 3 ∷ []) (Some both_best) 2 (second_worst ∷ first_worst ∷ []) true
+Listed = IsListing (IsBefore (0 ∷ 1 ∷ 2 ∷ 3 ∷ [])) (IsAllowedVector two_pairs two_pairs_ranks [] []) None 9 (both_best ∷ second_worst ∷ first_worst ∷ both_worst ∷ []) false
+    × IsListing (IsBefore (2 ∷ 3 ∷ 0 ∷ 1 ∷ [])) (IsAllowedVector two_pairs two_pairs_ranks [] []) None 4 (both_best ∷ first_worst ∷ second_worst ∷ both_worst ∷ []) false
+    × IsListing (IsBefore (0 ∷ 1 ∷ 2 ∷ 3 ∷ [])) (IsAllowedVector two_pairs two_pairs_ranks [] []) (Some both_best) 2 (second_worst ∷ first_worst ∷ []) true
 
 abbrev pub TwoPairs : Type 0
 TwoPairs = IsMarket two_pairs × IsPrintedChain two_pairs two_pairs_first two_pairs_chain × AreLevels two_pairs two_pairs_ranks
