@@ -1,5 +1,5 @@
 -- The best matchings of the two sides.
-use Rattle.std.proofs.Common.{◌≡◌, ℕ, arith, sym}
+use Rattle.std.proofs.Common.{◌≡◌, arith, sym}
 use Rattle.sm_market.specs.Lists.{Lists, IsMarket, reversed_lists}
 use Rattle.sm_market.specs.Matching.{Places, reversed, IsMatching}
 use Rattle.sm_market.specs.Stable.{IsProposersBest, IsReviewersBest}

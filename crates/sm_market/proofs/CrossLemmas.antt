@@ -1,13 +1,13 @@
 -- The cross positions of one side, list by list.
-use Rattle.std.proofs.Common.{◌≡◌, ℕ, ◌+◌, ◌<◌, ◌≤◌, List, [], ◌∷◌, ◌++◌, Vec, length, get_or, replicate, refl, sym, ap, subst, ◌∙◌, arith, ⊎_elim}
+use Rattle.std.proofs.Common.{◌≡◌, ℕ, ◌+◌, ◌<◌, ◌≤◌, List, [], ◌∷◌, ◌++◌, Vec, length, get_or, sym, ap, subst, ◌∙◌, arith, ⊎_elim}
 use Rattle.std.proofs.lemmas.Bool.{cases_lt}
-use Rattle.std.proofs.lemmas.List.{get_or-replicate, get_or_past, length-replicate, length_push, map_push}
+use Rattle.std.proofs.lemmas.List.{get_or_past, length_push, map_push}
 use Rattle.std.specs.declared.alloc.Global.{Global}
 use Rattle.sm_market.specs.Lists.{row}
 use Rattle.sm_market.specs.Vectors.{rows_of}
 use Rattle.sm_market.specs.Crosses.{AreCrosses}
 use Rattle.sm_market.specs.Entries.{IsSound, AreSound}
-use Rattle.sm_market.specs.Namings.{no_note, note_of, AreNoted, AreCrossesOf}
+use Rattle.sm_market.specs.Namings.{note_of, AreNoted, AreCrossesOf}
 use Rattle.sm_market.specs.declared.crosses.Note.{Note}
 use Rattle.sm_lists.proofs.RowLemmas.{row_in_range}
 use Rattle.sm_lists.proofs.ItemLemmas.{push_cases}

@@ -1,13 +1,12 @@
 -- Noting an agent's namings.
-use Rattle.std.proofs.Common.{◌≡◌, ◌≢◌, ℕ, ◌+◌, ◌<◌, ◌≤◌, List, length, set, refl, sym, ap, subst, ◌∙◌, arith, ⊎_elim}
+use Rattle.std.proofs.Common.{◌≡◌, ◌≢◌, ℕ, ◌<◌, List, length, sym, ap, ◌∙◌, arith, ⊎_elim}
 use Rattle.std.proofs.lemmas.Bool.{cases_lt, cases_eq}
 use Rattle.sm_market.specs.Lists.{row, entry, place_of}
-use Rattle.sm_market.specs.Namings.{naming_at, AreNamingsOf, IsFirstNaming, no_note, note_of, AreNotesOf, AreNoted}
+use Rattle.sm_market.specs.Namings.{naming_at, AreNamingsOf, IsFirstNaming, note_of, AreNotesOf, AreNoted}
 use Rattle.sm_market.specs.declared.crosses.Naming.{Naming}
 use Rattle.sm_market.specs.declared.crosses.Note.{Note}
 use Rattle.sm_lists.proofs.PlaceLemmas.{place_of-le, entry-place_of, place_on_is}
 use Rattle.sm_lists.proofs.RowLemmas.{row_in_range}
-use Rattle.sm_lists.proofs.ItemLemmas.{set_cases}
 
 -- whoever names the agent is in range
 pub namer_in_range : {others : List (List ℕ)} {b k a : ℕ} {namings : List Naming} → AreNamingsOf others b k a namings → (e : ℕ) → e < length namings → (naming_at namings e).by < length others

@@ -1,11 +1,9 @@
 -- A matching is determined by what one side holds.
 use Rattle.std.proofs.Common.{◌≡◌, ℕ, ◌<◌, List, Option, Some, None, length, sym, ap, subst, ◌∙◌, arith, ⊎_elim}
 use Rattle.std.proofs.lemmas.List.{ext_get_or}
-use Rattle.std.specs.Option.{option_map}
 use Rattle.sm_market.specs.Lists.{Lists, entry, place_of}
 use Rattle.sm_market.specs.Matching.{Places, held, AreHeldInTurn, IsMatching}
 use Rattle.sm_market.specs.PairingFaults.{AreHeld}
-use Rattle.sm_market.specs.Pairing.{Paired, IsPairingOf}
 use Rattle.sm_lists.proofs.PlaceLemmas.{entry-place_of}
 use Rattle.sm_lists.proofs.RowLemmas.{row_in_range}
 use Rattle.sm_market.proofs.SeatLemmas.{same_place, option_cases}

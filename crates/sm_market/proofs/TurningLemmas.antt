@@ -1,7 +1,7 @@
 -- Turning cross positions over.
-use Rattle.std.proofs.Common.{◌≡◌, ◌≢◌, ℕ, ◌+◌, ◌<◌, Bool, true, false, eqb, List, [], Vec, length, get_or, set, replicate, refl, sym, ap, subst, ◌∙◌, arith, ⊎_elim}
+use Rattle.std.proofs.Common.{◌≡◌, ◌≢◌, ℕ, ◌+◌, ◌<◌, Bool, true, false, eqb, List, [], Vec, length, get_or, set, refl, sym, ap, subst, ◌∙◌, arith, ⊎_elim}
 use Rattle.std.proofs.lemmas.Bool.{cases_lt, eqb-true, eq-eqb, false≢true}
-use Rattle.std.proofs.lemmas.List.{get_or_past, get_or-map, get_or-replicate, get_or-set_same, length-map, length-replicate, length-set, map-set}
+use Rattle.std.proofs.lemmas.List.{get_or-set_same, length-set, map-set}
 use Rattle.std.specs.List.{IsAnyAnswer}
 use Rattle.std.specs.Vec.{with_item}
 use Rattle.std.specs.declared.alloc.Global.{Global}
@@ -10,10 +10,10 @@ use Rattle.sm_market.specs.Vectors.{rows_of}
 use Rattle.sm_market.specs.Crosses.{AreCrosses}
 use Rattle.sm_market.specs.Entries.{AreSound}
 use Rattle.sm_market.specs.declared.turning.TheConstants.{UNWRITTEN}
-use Rattle.sm_market.specs.Turning.{unwritten_of, AreWritten}
+use Rattle.sm_market.specs.Turning.{AreWritten}
 use Rattle.sm_lists.proofs.ItemLemmas.{set_cases}
-use Rattle.sm_lists.proofs.RowLemmas.{row_in_range, row_read}
-use Rattle.sm_lists.proofs.PlaceLemmas.{entry-place_of, get_or_before-place_on, place_on_is}
+use Rattle.sm_lists.proofs.RowLemmas.{row_read}
+use Rattle.sm_lists.proofs.PlaceLemmas.{entry-place_of, place_on_is}
 
 -- v is b's place on the list of the agent that b names at place j, and b names that agent at no earlier place
 pub record IsCrossAt (rows others : List (List ℕ)) (b j v : ℕ) : Type 0 where

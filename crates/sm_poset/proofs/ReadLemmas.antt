@@ -1,8 +1,7 @@
 -- What is read from vectors, and written through slices of them.
-use Rattle.std.proofs.Common.{◌≡◌, ℕ, ◌<◌, ◌++◌, List, [], Vec, length, get_or, take, sym, ap, subst, ◌∙◌}
+use Rattle.std.proofs.Common.{◌≡◌, ℕ, ◌<◌, List, [], Vec, length, get_or, sym, ap, ◌∙◌}
 use Rattle.std.specs.declared.alloc.Global.{Global}
 use Rattle.std.proofs.lemmas.List.{get_or-map}
-use Rattle.std.proofs.Math.Seq.{take-append_seam}
 use Rattle.sm_poset.specs.Kept.{moves_in, moves_at}
 
 pub moves_read : (vectors : List (Vec (ℕ × ℕ) Global)) (p : ℕ) (v : Vec (ℕ × ℕ) Global) → p < length vectors → v ≡ get_or vectors p v → v.items ≡ moves_at (moves_in vectors) p

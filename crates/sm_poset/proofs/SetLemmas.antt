@@ -1,5 +1,5 @@
 -- Sets of rotations and their matchings.
-use Rattle.std.proofs.Common.{◌≡◌, ℕ, zero, suc, ◌<◌, ◌≤◌, ◌⊎◌, ◌&&◌, inl, inr, arith, refl, sym, ap, ◌∙◌, subst, List, [], Option, Some, None, length, cond, Bool, true, false, max, lt-ltb, le-ltb, Contains, slice_index_or, nat_le, map}
+use Rattle.std.proofs.Common.{◌≡◌, ℕ, zero, suc, ◌<◌, ◌≤◌, ◌⊎◌, inl, inr, arith, refl, sym, ap, ◌∙◌, subst, List, [], Option, Some, None, length, Bool, true, false, max, lt-ltb, le-ltb, Contains, slice_index_or, nat_le, map}
 use Rattle.std.specs.Option.{option_map}
 use Rattle.std.specs.List.{All}
 use Rattle.std.proofs.lemmas.Bool.{le-leb, lt-leb}

@@ -2,7 +2,7 @@
 use Rattle.std.specs.Prelude.{◌≡◌, ℕ, ◌<◌, ◌≤◌, ◌++◌, ◌∷◌, [], List, Option, map, length, slice_index_or, unwrap_or, Vec}
 use Rattle.std.specs.declared.alloc.Global.{Global}
 use Rattle.sm_market.specs.Lists.{Lists, row}
-use Rattle.sm_market.specs.Matching.{Places, IsMatching, held}
+use Rattle.sm_market.specs.Matching.{held}
 use Rattle.sm_theory.specs.Rotations.{pair_of}
 use Rattle.sm_theory.specs.Chains.{AreNeedsOf}
 use Rattle.sm_poset.specs.Posets.{RotationPoset, IsPoset}

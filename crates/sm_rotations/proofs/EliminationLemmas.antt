@@ -1,7 +1,7 @@
 -- What eliminating an exposed rotation leaves.
-use Rattle.std.proofs.Common.{◌≡◌, ℕ, ap, List}
+use Rattle.std.proofs.Common.{◌≡◌, ℕ, List}
 use Rattle.sm_market.specs.Lists.{Lists, IsMarket}
-use Rattle.sm_market.specs.Matching.{Places, standing, IsMatching}
+use Rattle.sm_market.specs.Matching.{Places, IsMatching}
 use Rattle.sm_market.specs.Cycles.{places_after}
 use Rattle.sm_market.proofs.PairingLemmas.{one_matching}
 use Rattle.sm_theory.specs.Rotations.{IsExposed, eliminated}

@@ -1,5 +1,5 @@
 -- Writing notes and marks, one after another, and collecting them.
-use Rattle.std.proofs.Common.{◌≡◌, ◌≢◌, ℕ, zero, suc, ◌+◌, ◌<◌, ◌≤◌, ◌⊎◌, inl, inr, arith, refl, sym, ap, ◌∙◌, List, [], ◌∷◌, ◌++◌, length, Option, None, Some, set, slice_index_or}
+use Rattle.std.proofs.Common.{◌≡◌, ℕ, zero, suc, ◌+◌, ◌<◌, ◌≤◌, ◌⊎◌, inl, inr, arith, refl, sym, ap, ◌∙◌, List, [], ◌∷◌, ◌++◌, length, Option, None, Some, set, slice_index_or}
 use Rattle.std.specs.List.{Contains}
 use Rattle.std.proofs.lemmas.List.{get_or-set_same, get_or-set_other, length-set}
 use Rattle.std.proofs.lemmas.List.Elements.{Contains-append_left, Contains-append_right, Contains-append_cases}
@@ -9,7 +9,7 @@ use Rattle.sm_lists.proofs.Counting.{eq_or_ne}
 use Rattle.sm_market.proofs.PlaceLemmas.{place_of-entry}
 use Rattle.sm_lists.proofs.PlaceLemmas.{entry-place_of}
 use Rattle.sm_theory.specs.Rotations.{proposer_at, reviewer_at, target_at, next_in}
-use Rattle.sm_rotations.specs.Marking.{note_of, marks_of, mark_at, Moves, MovesOver, AreMoved, AreMarked, AreMarksFor, IsSpan, IsSpanMarked, IsBetween, IsFound, Adds}
+use Rattle.sm_rotations.specs.Marking.{note_of, marks_of, Moves, MovesOver, AreMoved, AreMarked, IsSpan, IsSpanMarked, IsBetween, IsFound, Adds}
 
 -- one mark set
 module _ (marks : List (List (Option ℕ))) (p x j : ℕ) (in_range : p < length marks) (on : x < length (marks_of marks p)) where

@@ -1,17 +1,16 @@
 -- Two rotations that are exposed at one matching and share a proposer lead to one matching.
-use Rattle.std.proofs.Common.{◌≡◌, ◌≢◌, ℕ, suc, ◌<◌, ◌⊎◌, inl, inr, arith, sym, ap, ◌∙◌, List, length}
+use Rattle.std.proofs.Common.{◌≡◌, ◌≢◌, ℕ, suc, ◌<◌, inl, inr, arith, sym, ap, ◌∙◌, List, length}
 use Rattle.sm_market.specs.Lists.{Lists, IsMarket}
 use Rattle.sm_market.specs.Matching.{Places}
 use Rattle.sm_market.specs.Stable.{IsStable}
-use Rattle.sm_lists.proofs.Counting.{Decided-and, Decided-not, by_contradiction, lt_or_le, First, search_below}
+use Rattle.sm_lists.proofs.Counting.{by_contradiction, lt_or_le}
 use Rattle.sm_market.proofs.Core.{Sides, Stand, Stable}
 use Rattle.sm_market.proofs.Bridge.{stable_equal}
 use Rattle.sm_theory.specs.Rotations.{proposer_at, IsExposed, eliminated}
 use Rattle.sm_theory.proofs.CoreCycle.{Cycle, target, Exposed, Moves, moves_or_not, moves_at, Among, same_cycle, succ_unique}
-use Rattle.sm_theory.proofs.CoreRotation.{Elim, eliminate, Elim-eliminate, elim_stable, goes_down, never_up}
-use Rattle.sm_theory.proofs.CoreChain.{Chain, Needs, up_at, rise, needs_lower, upper, way_of}
-use Rattle.sm_theory.proofs.CoreExposure.{exposed_there, same_before}
-use Rattle.sm_theory.proofs.CoreClosed.{of_more}
+use Rattle.sm_theory.proofs.CoreRotation.{Elim, never_up}
+use Rattle.sm_theory.proofs.CoreChain.{Chain, Needs, up_at, rise, upper, way_of}
+use Rattle.sm_theory.proofs.CoreExposure.{exposed_there}
 use Rattle.sm_theory.proofs.CoreCorrespondence.{Reaches, Decided-reaches, reaches_of, reaches_closed, exposed_out, exposed_ready}
 use Rattle.sm_theory.proofs.BridgeRotation.{exposed_of, elim_of, eliminated_stable}
 

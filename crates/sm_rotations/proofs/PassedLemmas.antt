@@ -1,10 +1,10 @@
 -- Which rotations of a chain a stable matching has passed, and which are exposed there.
-use Rattle.std.proofs.Common.{◌≡◌, ◌≢◌, ℕ, suc, ◌<◌, inl, inr, arith, refl, List, length, Bool, true, false}
+use Rattle.std.proofs.Common.{◌≡◌, ◌≢◌, ℕ, suc, ◌<◌, inl, inr, arith, List, length}
 use Rattle.std.proofs.lemmas.Bool.{le-leb, leb-true}
 use Rattle.sm_market.specs.Lists.{Lists, IsMarket}
 use Rattle.sm_market.specs.Matching.{Places, standing}
 use Rattle.sm_market.specs.Stable.{IsStable}
-use Rattle.sm_lists.proofs.Counting.{Decided, by_contradiction, search_below, Decided-not, Decided-true}
+use Rattle.sm_lists.proofs.Counting.{by_contradiction, search_below, Decided-not, Decided-true}
 use Rattle.sm_market.proofs.Bridge.{stand_of, stable_of}
 use Rattle.sm_theory.specs.Rotations.{proposer_at, IsExposed, eliminated}
 use Rattle.sm_theory.specs.Chains.{rotation_at, stage, IsCompleteChain, IsNeededBy}

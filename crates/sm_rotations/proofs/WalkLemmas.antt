@@ -2,17 +2,16 @@
 use Rattle.std.proofs.Common.{◌≡◌, ℕ, ◌+◌, ◌<◌, ◌≤◌, inl, inr, arith, refl, sym, ap, ◌∙◌, List, length, Option, Some, slice_index}
 use Rattle.std.proofs.lemmas.Option.{same_Some}
 use Rattle.sm_market.specs.Lists.{Lists, place_of, IsMarket}
-use Rattle.sm_market.specs.Matching.{Places, held, standing}
+use Rattle.sm_market.specs.Matching.{Places, standing}
 use Rattle.sm_market.specs.Stable.{IsStable}
 use Rattle.sm_lists.proofs.Counting.{lt_or_le, eq_or_ne}
-use Rattle.sm_market.proofs.Core.{Pair, pair_at, one_proposer, one_reviewer}
-use Rattle.sm_lists.proofs.PlaceLemmas.{entry-place_of}
-use Rattle.sm_market.proofs.Bridge.{sides_of, stand_of, fit_of, stable_of, standing-some, held_at}
+use Rattle.sm_market.proofs.Core.{pair_at, one_proposer, one_reviewer}
+use Rattle.sm_market.proofs.Bridge.{sides_of, stand_of, stable_of, held_at}
 use Rattle.sm_theory.specs.Rotations.{IsSuccessor, IsExposed, proposer_at, reviewer_at, target_at, eliminated}
 use Rattle.sm_theory.proofs.CoreCycle.{Succ, turn_last, turn_more}
 use Rattle.sm_theory.proofs.CoreRotation.{goes_down, never_up, keeps, never_worse, elim_fit}
 use Rattle.sm_theory.proofs.CoreDichotomy.{step, step_on}
-use Rattle.sm_theory.proofs.BridgeRotation.{succ_of, succ_back, exposed_of, elim_of, eliminated_stable}
+use Rattle.sm_theory.proofs.BridgeRotation.{succ_back, exposed_of, elim_of, eliminated_stable}
 use Rattle.sm_rotations.proofs.FollowingLemmas.{pair_of_held, succ_at}
 use Rattle.sm_rotations.specs.Walking.{IsNext, IsAtWorst, IsStack, ArePairsOf, spot_of}
 

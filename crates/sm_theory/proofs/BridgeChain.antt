@@ -1,18 +1,17 @@
 -- Complete chains and the matchings of sets, between the definitions over lists and the functions of Core.
 pub use Rattle.sm_market.proofs.Bridge.{places_equal, stable_equal}
-use Rattle.std.proofs.Common.{◌≡◌, ℕ, zero, suc, ◌<◌, ◌≤◌, inl, inr, arith, refl, sym, ap, ◌∙◌, List, length, map, Option, None, Some, Bool, true, false, slice_index_or, ext_get_or}
+use Rattle.std.proofs.Common.{◌≡◌, ℕ, zero, suc, ◌<◌, ◌≤◌, inl, inr, arith, refl, sym, ap, ◌∙◌, List, length, map, Bool, true, false, slice_index_or}
 use Rattle.std.specs.List.{range_with_len}
 use Rattle.std.proofs.lemmas.List.FromFn.{get_or-map-range_with_len, length-map-range_with_len}
-use Rattle.sm_market.specs.Lists.{Lists, row, IsMarket}
-use Rattle.sm_market.specs.Matching.{Places, held, standing, IsMatching}
+use Rattle.sm_market.specs.Lists.{Lists, IsMarket}
+use Rattle.sm_market.specs.Matching.{Places, standing, IsMatching}
 use Rattle.sm_market.specs.Stable.{IsStable}
 use Rattle.sm_lists.proofs.Counting.{Decided, lt_or_le}
 use Rattle.sm_market.proofs.Core.{Sides, Stand, Stable}
-use Rattle.sm_market.proofs.Bridge.{sides_of, stand_of, fit_of, stable_of, held_cases}
+use Rattle.sm_market.proofs.Bridge.{sides_of, stand_of, fit_of, stable_of}
 use Rattle.sm_theory.specs.Rotations.{proposer_at, reviewer_at, IsExposed}
 use Rattle.sm_theory.specs.Chains.{rotation_at, stage, AreEliminable, IsCompleteChain, IsNeededBy}
 use Rattle.sm_theory.specs.ClosedSets.{is_member, IsMember, IsClosed}
-use Rattle.sm_theory.proofs.CoreSeats.{same_reviewers}
 use Rattle.sm_theory.proofs.CoreCycle.{Cycle, turn, turn_in, target, Exposed}
 use Rattle.sm_theory.proofs.CoreDichotomy.{some_exposed, Found}
 use Rattle.sm_theory.proofs.CoreChain.{Chain, Way, Needs, Closed}

@@ -1,5 +1,5 @@
 -- The matching of a set over lists is the one of Core.
-use Rattle.std.proofs.Common.{◌≡◌, ℕ, zero, suc, ◌<◌, ◌≤◌, ◌⊎◌, ◌&&◌, inl, inr, arith, refl, sym, ap, ◌∙◌, List, length, Option, None, Some, unwrap_or, cond, Bool, true, false, lt-ltb, le-ltb, max}
+use Rattle.std.proofs.Common.{◌≡◌, ℕ, zero, suc, ◌<◌, ◌≤◌, ◌⊎◌, inl, inr, arith, refl, sym, ap, ◌∙◌, List, length, Option, Some, unwrap_or, Bool, true, false, lt-ltb, le-ltb, max}
 use Rattle.std.specs.Option.{option_map}
 use Rattle.std.proofs.lemmas.List.FromFn.{length-map-range_with_len}
 use Rattle.std.proofs.lemmas.Option.{same_Some, none-some}

@@ -1,7 +1,6 @@
 -- Cycles of pairs, and what goes round them.
-use Rattle.std.proofs.Common.{◌≡◌, ◌≢◌, ℕ, zero, suc, ◌+◌, ◌-◌, ◌<◌, ◌≤◌, ◌⊎◌, inl, inr, arith, refl, sym, ap, ◌∙◌, ◌==◌, if◌then◌else◌}
-use Rattle.std.proofs.lemmas.Bool.{eq-eqb, ne_eqb}
-use Rattle.sm_lists.proofs.Counting.{lt_or_le, eq_or_ne, search_below, First, Decided-eq}
+use Rattle.std.proofs.Common.{◌≡◌, ℕ, zero, suc, ◌+◌, ◌-◌, ◌<◌, ◌≤◌, ◌⊎◌, inl, inr, arith, refl, sym, ap, ◌∙◌}
+use Rattle.sm_lists.proofs.Counting.{lt_or_le, search_below, First, Decided-eq}
 use Rattle.sm_market.proofs.Core.{Sides, Stand, Pair, one_reviewer, one_proposer}
 -- going round, passed on
 pub use Rattle.sm_market.proofs.CycleLemmas.{turn, turn_last, turn_more, turn_in, turn_once, Follows, follows}

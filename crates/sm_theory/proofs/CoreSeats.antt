@@ -2,7 +2,7 @@
 pub use Rattle.sm_market.proofs.Core.{same_reviewers}
 use Rattle.std.proofs.Common.{◌≡◌, ◌≢◌, ℕ, ◌<◌, ◌≤◌, ◌⊎◌, inl, inr, arith, sym, ap, ◌∙◌}
 use Rattle.sm_lists.proofs.Counting.{less_same_more, search_below, First, Decided-eq}
-use Rattle.sm_market.proofs.Core.{Sides, Stand, Fit, Stable, Pair, pair_of', pair_at, one_proposer}
+use Rattle.sm_market.proofs.Core.{Sides, Stand, Fit, Stable, pair_at, one_proposer}
 
 -- each reviewer stands at the first proposer on its list that has it
 pub record Seats (s : Sides) (m : Stand) : Type 0 where

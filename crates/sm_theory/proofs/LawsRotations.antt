@@ -3,11 +3,10 @@ use Rattle.std.proofs.Common.{◌≡◌, ℕ, ◌<◌, ◌≤◌, inl, inr, arit
 use Rattle.std.specs.List.{range_with_len}
 use Rattle.std.proofs.lemmas.List.FromFn.{get_or-map-range_with_len, length-map-range_with_len}
 use Rattle.sm_lists.proofs.ResultLemmas.{same_bool}
-use Rattle.sm_market.specs.Lists.{Lists, IsMarket, reversed_lists}
+use Rattle.sm_market.specs.Lists.{Lists, reversed_lists}
 use Rattle.sm_market.specs.Matching.{Places, standing, reversed}
 use Rattle.sm_market.specs.Stable.{IsStable}
 use Rattle.sm_lists.proofs.Counting.{Decided}
-use Rattle.sm_market.proofs.Core.{Stable-turned}
 use Rattle.sm_market.proofs.CoreLaws.{opposed, opposed'}
 use Rattle.sm_market.proofs.Bridge.{stand_of, stable_of, IsMarket-reversed, IsStable-reversed}
 use Rattle.sm_theory.specs.Rotations.{proposer_at, IsExposed}

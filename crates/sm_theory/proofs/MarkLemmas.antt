@@ -1,6 +1,6 @@
 -- What is noted of rotations that are eliminated one after the other tells what each one needs.
 use Rattle.std.proofs.Common.{◌≡◌, ℕ, suc, ◌+◌, ◌<◌, inl, inr, arith, refl, sym, ap, ◌∙◌, List, length, Option, None, Some, IsSome}
-use Rattle.std.proofs.lemmas.Option.{same_Some, none-some}
+use Rattle.std.proofs.lemmas.Option.{same_Some}
 use Rattle.sm_market.specs.Lists.{Lists, row, entry, place_of, IsMarket}
 use Rattle.sm_market.specs.Matching.{Places, IsMatching}
 use Rattle.sm_lists.proofs.Counting.{lt_or_le, eq_or_ne, Last}

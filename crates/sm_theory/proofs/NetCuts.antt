@@ -12,7 +12,7 @@ use Rattle.sm_theory.specs.Chains.{rotation_at, IsNeededBy}
 use Rattle.sm_theory.specs.ClosedSets.{IsMember, IsClosed, matching_of}
 use Rattle.sm_theory.specs.Vectors.{HasLevel, IsAllowed}
 use Rattle.sm_theory.specs.Net.{Net, sink_of, IsUnbounded, is_in, IsCut}
-use Rattle.sm_theory.specs.Conditions.{has_level, moves_to, moves_off, entry_node, exit_node, forces, forbids, leads_to_need, allows_nothing, net_of, IsNetGround}
+use Rattle.sm_theory.specs.Conditions.{has_level, moves_to, moves_off, entry_node, exit_node, forces, forbids, leads_to_need, allows_nothing, IsNetGround}
 use Rattle.sm_theory.specs.LawsFlows.{CutsAreAllowed}
 use Rattle.sm_theory.proofs.BridgePlaces.{row_past}
 use Rattle.sm_theory.proofs.LawsRotations.{predecessor_is_earlier}

@@ -1,8 +1,8 @@
 -- Level vectors, conditions on levels, and listings. A caller gives for each proposer one level per place and one more
 -- for being unmatched.
-use Rattle.std.specs.Prelude.{◌≡◌, ℕ, ◌+◌, ◌<◌, ◌≤◌, ◌⊎◌, ◌↔◌, Bool, true, false, List, [], ◌∷◌, Option, None, Some, map, length, slice_index, slice_index_or}
+use Rattle.std.specs.Prelude.{◌≡◌, ℕ, ◌+◌, ◌<◌, ◌≤◌, ◌⊎◌, ◌↔◌, Bool, true, false, List, [], ◌∷◌, Option, None, Some, length, slice_index, slice_index_or}
 use Rattle.sm_market.specs.Lists.{Lists, row}
-use Rattle.sm_market.specs.Matching.{Places, held, standing}
+use Rattle.sm_market.specs.Matching.{Places, held}
 use Rattle.sm_market.specs.Stable.{IsStable}
 -- the level vector and the order of vectors, passed on
 pub use Rattle.sm_market.specs.Levels.{level_of, level_vector_of}
