@@ -12,7 +12,7 @@ use Rattle.sm_instance.specs.declared.namings.Naming.{Naming}
 use Rattle.sm_instance.proofs.ListLemmas.{row_in_range}
 use Rattle.sm_instance.proofs.PlaceLemmas.{place_of-entry}
 use Rattle.sm_lists.proofs.PlaceLemmas.{get_or-place_on}
-use Rattle.sm_instance.proofs.AcceptLemmas.{cross_some, cross_none}
+use Rattle.sm_instance.proofs.AcceptLemmas.{cross_some}
 
 -- whether p and the reviewer at place i block, by the place of p on the other list
 pub blocks_by : {w : Written} {places : List (Option ℕ)} → IsInstance w → (p i k limit : ℕ) → i < length (row w.proposers p) → Some k ≡ cross_place w.reviewers (entry w.proposers p i) p → IsGainLimit w places (entry w.proposers p i) limit

@@ -1,11 +1,9 @@
 -- From the fault of a part to the fault of the whole.
-use Rattle.std.proofs.Common.{◌≡◌, ℕ, Bool, true, List, [], length, Result, Ok, Err, IfErr, sym, subst, map, ℤ}
+use Rattle.std.proofs.Common.{◌≡◌, ℕ, List, Result, Ok, Err, IfErr, sym, subst, map, ℤ}
 use Rattle.std.specs.Result.{IsErrAnd}
-use Rattle.sm_instance.specs.Written.{AgentData, Written, weighed}
-use Rattle.sm_instance.specs.Sound.{IsWithinLimits, AreSoundAgents, AreSoundEntries, items_of, is_single}
-use Rattle.sm_instance.specs.Faults.{IsFault, IsPersonsFault, HasSoundAgents, HasSoundEntries}
-use Rattle.sm_instance.specs.Checks.{IsAgentFault, IsEntryFault, IsItemFault, AreAgentsFaulty, AreEntriesFaulty}
-use Rattle.sm_instance.specs.declared.kinds.Side.TheVariants.{Proposers, Reviewers}
+use Rattle.sm_instance.specs.Written.{weighed}
+use Rattle.sm_instance.specs.Sound.{items_of}
+use Rattle.sm_instance.specs.Checks.{IsItemFault}
 use Rattle.sm_instance.specs.declared.faults.InstanceFault.{InstanceFault}
 use Rattle.sm_instance.specs.declared.faults.InstanceFault.TheVariants.{TooMany, BadAgent, BadEntry, BadPair, OutOfMemory}
 use Rattle.sm_instance.proofs.ItemLemmas.{bad_first}

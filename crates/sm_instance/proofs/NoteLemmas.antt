@@ -1,12 +1,12 @@
 -- Noting an agent's list, and the cross places that the notes tell.
 use Rattle.std.proofs.Common.{◌≡◌, ◌≢◌, ℕ, ◌+◌, ◌<◌, ◌≤◌, Bool, List, [], ◌∷◌, ◌++◌, Vec, Global, Option, Some, None, if◌then◌else◌, length, get_or, set, replicate, refl, sym, ap, subst, ◌∙◌, arith, ⊎_elim}
 use Rattle.std.proofs.lemmas.Bool.{cases_lt, cases_eq, eq-eqb, ne_eqb}
-use Rattle.std.proofs.lemmas.List.{get_or-map, get_or-replicate, get_or_past, length-map, length-replicate, length-set, length_push, map_push, map-set}
+use Rattle.std.proofs.lemmas.List.{get_or-map, get_or-replicate, get_or_past, length-replicate, length-set, length_push, map_push, map-set}
 use Rattle.std.specs.Vec.{with_item}
-use Rattle.sm_instance.specs.Written.{AgentData, no_agent, row, entry}
+use Rattle.sm_instance.specs.Written.{AgentData, row, entry}
 use Rattle.sm_instance.specs.Sound.{AreSoundEntries}
 use Rattle.sm_instance.specs.Vectors.{crosses_of}
-use Rattle.sm_instance.specs.Kept.{naming_at, AreNamingsOf, cross_place, AreCrossPlacesOf, AreCrossPlaces, no_crosses_of, with_back, no_note, note_of, noted_in, AreNotesOf}
+use Rattle.sm_instance.specs.Kept.{naming_at, AreNamingsOf, cross_place, AreCrossPlacesOf, AreCrossPlaces, with_back, note_of, noted_in, AreNotesOf}
 use Rattle.sm_instance.specs.declared.namings.Naming.{Naming}
 use Rattle.sm_instance.specs.declared.crosses.Note.{Note}
 use Rattle.sm_lists.proofs.ItemLemmas.{set_cases, push_cases}
