@@ -1,5 +1,5 @@
 -- The lines of answers.
-use Rattle.std.proofs.Common.{◌≡◌, ℕ, zero, suc, ◌+◌, ◌-◌, ◌<◌, ◌≤◌, List, [], ◌∷◌, ◌++◌, map, true, false, Option, Some, None, is_some, Result, Ok, Err, refl, sym, ap, ◌∙◌, subst, arith, length}
+use Rattle.std.proofs.Common.{◌≡◌, ℕ, zero, suc, ◌+◌, ◌-◌, ◌<◌, List, [], ◌∷◌, ◌++◌, map, false, Option, Some, None, is_some, Result, Ok, Err, refl, sym, ap, ◌∙◌, subst, arith, length}
 use Rattle.std.specs.List.{All}
 use Rattle.std.specs.Option.{option_map}
 use Rattle.std.proofs.lemmas.List.Elements.{All-append, All-cons, All-tail}
@@ -115,39 +115,13 @@ pub lines_passed : (f : ℕ → Option LineData) (a n : ℕ) (found : Option Lin
 lines_passed f a n None h e none = sym (lines_first f a n h ∙ ap (λ o. line_or_none o ++ lines_from f (a + 1) (n - (a + 1))) (sym e))
 lines_passed f a n (Some line) h e none = absurd cc
 
--- a number's line is the first
-pub line_given : (f : ℕ → Option LineData) (b a n : ℕ) (found : Option Line) → b ≤ a → a < n → option_map line_of found ≡ f a → is_some found ≡ true
-    → lines_from f a (n - a) ≡ lines_from f b (n - b)
-    → GivesNext (λ rest. rest ≡ lines_from f b (n - b)) (λ rest. rest ≡ lines_from f (a + 1) (n - (a + 1))) (n - b) (n - (a + 1)) (Ok found)
-line_given f b a n None on h e some is = absurd cc
-line_given f b a n (Some line) on h e some is = record {
-  first = λ rest left. ap (λ t. line_of line ∷ t) left ∙ ap (λ o. line_or_none o ++ lines_from f (a + 1) (n - (a + 1))) e ∙ sym (lines_first f a n h) ∙ is;
-  more = record { lines = lines_from f (a + 1) (n - (a + 1)); given = refl };
-  fewer = omega arith;
-}
-
--- no number is left
-pub no_lines_left : (f : ℕ → Option LineData) (b a n : ℕ) → b ≤ a → n ≤ a → lines_from f a (n - a) ≡ lines_from f b (n - b)
-    → IsOver (λ rest. rest ≡ lines_from f b (n - b)) (λ rest. rest ≡ lines_from f a (n - a)) (n - b) (n - a)
-no_lines_left f b a n on h is =
-    let none : n - a ≡ 0 = omega arith in
-    let empty : lines_from f a (n - a) ≡ [] = ap (lines_from f a) none in
-    record { none_left = sym empty ∙ is; none_more = sym empty; over = λ rest left. left ∙ empty; no_more = omega arith }
-
--- What an answer of several parts gives: there are lines, and what holds of the lines of each part holds of all.
+-- There are lines that an answer of several parts may give.
 
 pub same_some : {X : Type 0} (xs : List X) → HasRest (λ (rest : List X). rest ≡ xs)
 same_some xs = record { lines = xs; given = refl }
 
-pub same_all : {X : Type 0} (R : X → Type 0) (xs : List X) → All R xs → (rest : List X) → rest ≡ xs → All R rest
-same_all R xs h rest is = subst (All R) (sym is) h
-
 pub joined_some : {X : Type 0} (P Q : List X → Type 0) → HasRest P → HasRest Q → HasRest (AreJoined P Q)
 joined_some P Q p q = record { lines = p.lines ++ q.lines; given = record { front = p.lines; back = q.lines; in_front = p.given; behind = q.given; whole = refl } }
-
-pub joined_all : {X : Type 0} (R : X → Type 0) (P Q : List X → Type 0) → ((xs : List X) → P xs → All R xs) → ((xs : List X) → Q xs → All R xs)
-    → (xs : List X) → AreJoined P Q xs → All R xs
-joined_all R P Q p q xs j = subst (All R) (sym j.whole) (All-append R j.front j.back (p j.front j.in_front) (q j.back j.behind))
 
 pub printed_some : (input : Input) (P : List LineData → Type 0) → HasRest P → ((other : List LineData) → P other → All (IsLineOf input) other) → HasRest (IsPrinted input P)
 printed_some input P p sound =

@@ -7,7 +7,7 @@ use Rattle.sm_io.proofs.FaultLemmas.{Rose-sooner}
 use Rattle.sm_io.proofs.SinkLemmas.{Grows-nil, Grows-trans, IsPart-more, IsPart-after, IsPart-front}
 use Rattle.sm_text.specs.Lines.{LF}
 use Rattle.sm_answer.specs.Giving.{HasRest, PutLine}
-use Rattle.sm_answer.specs.Writing.{text_of, WroteAll, WroteFront}
+use Rattle.sm_answer.specs.Writing.{text_of, WroteFront}
 
 -- some lines are written, and with what may be left they are what was to be written
 pub record IsWrittenSoFar (all left : List (List ℕ) → Type 0) (before now : Option (List ℕ)) (f g : ℕ) : Type 0 where
@@ -38,14 +38,6 @@ one_more_written all before after n m held holds piece a b c f g h w gave none i
           (Grows-trans a b c (text_of w.done) piece w.written grows);
       later = omega (arith, w.later, later);
     }
-
--- no line was left
-pub wrote_all : (all left : List (List ℕ) → Type 0) (a b : Option (List ℕ)) (f g : ℕ) → IsWrittenSoFar all left a b f g → left [] → WroteAll all a b
-wrote_all all left a b f g w none = record {
-  lines = w.done;
-  is_right = subst all (append-nil w.done) (w.sound [] none);
-  written = w.written;
-}
 
 -- there was no memory for the next line
 pub wrote_front : (all left : List (List ℕ) → Type 0) (a b : Option (List ℕ)) (f g : ℕ) → IsWrittenSoFar all left a b f g → WroteFront all a b

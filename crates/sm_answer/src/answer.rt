@@ -15,7 +15,11 @@ pub trait Answer {
     /// At most so many are left.
     ghost most: { Self → ℕ };
 
-    /// The next line, and `None` where no line is left.
+    /// The next line, and `None` where no line is left, and from then on always. There have to be lines that may be left.
+    ///
+    /// # Errors
+    ///
+    /// `AllocError` where memory ran out, and only then; nothing is said of what is left then.
     fn next(&mut self, alloc: Global) -> Result<Option<Line>, AllocError>
         requires { HasRest (gives self.old) }
         ensures { GivesNext (gives self.old) (gives self.new) (most self.old) (most self.new) result };
@@ -68,15 +72,21 @@ pub trait Numbered {
     ghost use Rattle.std.specs.Option.{option_map};
     ghost use Rattle.sm_report.specs.Lines.{LineData, line_of};
 
+    /// The line of the item of this number, counted from 0, if it has one.
     ghost line: { Self → ℕ → Option LineData };
 
+    /// How many items there are.
     ghost count: { Self → ℕ };
 
     /// How many items there are.
     fn count(&self) -> u32
         ensures { result ≡ count self.now };
 
-    /// The line of an item.
+    /// The line of an item, if it has one.
+    ///
+    /// # Errors
+    ///
+    /// `AllocError` where memory ran out, and only then.
     fn line(&self, alloc: Global, at: u32) -> Result<Option<Line>, AllocError>
         requires { at < count self.now }
         ensures { IfOk result (λ found. option_map line_of found ≡ line self.now at) };
@@ -93,7 +103,8 @@ impl<T: Numbered> Answer for Each<T> {
     ghost use Rattle.std.specs.Prelude.{◌≡◌, ◌-◌};
     ghost use Rattle.sm_answer.specs.Lines.{lines_from};
 
-    ghost gives = { λ each rest. rest ≡ lines_from (T.line each.items) each.next (T.count each.items - each.next) };
+    ghost gives = { λ each rest. rest
+        ≡ lines_from (T.line each.items) each.next (T.count each.items - each.next) };
 
     ghost most = { λ each. T.count each.items - each.next };
 

@@ -15,8 +15,14 @@ pub trait Lines {
     /// At most so many are left.
     ghost most: { Self → ℕ };
 
-    /// Puts the next line behind what the writer holds, without its end; `false` where no line is left.
+    /// Puts the next line behind what the writer holds, without its end; `false` where no line is left. There have to be
+    /// lines that may be left.
+    ///
+    /// # Errors
+    ///
+    /// `AllocError` where memory ran out, and only then; nothing is said of what is left then.
     fn put_next(&mut self, alloc: Global, into: &mut LineWriter) -> Result<bool, AllocError>
         requires { HasRest (gives self.old) }
-        ensures { PutsNext (gives self.old) (gives self.new) (most self.old) (most self.new) into.old.bytes into.new.bytes result };
+        ensures { PutsNext (gives self.old) (gives self.new) (most self.old) (most self.new)
+            into.old.bytes into.new.bytes result };
 }

@@ -35,8 +35,8 @@ const ROOM: usize = 160;
 
 /// Writes lines to a sink, each with LF behind it and with one put.
 ///
-/// There have to be lines that may be given. What is written is added to what the sink held. Takes no memory but for one
-/// line at a time.
+/// There have to be lines that may be given. What is written is added to what the sink held. Takes time in proportion to
+/// what is written, beside that of the lines, and memory for one line at a time.
 ///
 /// # Errors
 ///
@@ -48,7 +48,8 @@ pub fn write<K: Sink, L: Lines + Drop>(
     lines: L,
 ) -> Result<(), Unwritten>
     requires { HasRest (L.gives lines) }
-    ensures wrote { Writes (L.gives lines) (K.held sink.old) (K.held sink.new) (K.faults sink.old) (K.faults sink.new) result }
+    ensures wrote { Writes (L.gives lines)
+        (K.held sink.old) (K.held sink.new) (K.faults sink.old) (K.faults sink.new) result }
     ensures later { K.faults sink.old ≤ K.faults sink.new }
 {
     let mut lines = lines;

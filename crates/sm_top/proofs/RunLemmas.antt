@@ -2,7 +2,6 @@
 use Rattle.std.proofs.Common.{◌≡◌, ℕ, ◌<◌, ◌⊎◌, true, false, List, [], ◌∷◌, ◌++◌, length, Option, None, Some, Result, Ok, Err, inl, inr, refl, sym, ap, ◌∙◌, subst, length-append, append-nil, arith}
 use Rattle.std.specs.Result.{IfOk, IfErr}
 use Rattle.std.proofs.lemmas.Bool.{lt-ltb}
-use Rattle.sm_io.specs.Faults.{Rose}
 use Rattle.sm_io.specs.Source.{Agrees}
 use Rattle.sm_io.specs.Sink.{Grows}
 use Rattle.sm_io.proofs.SinkLemmas.{Grows-nil}
@@ -133,18 +132,6 @@ serves_whole job before after a b f g bytes (Err e) w wrote = tt
 reads_of : (words : List (List ℕ)) (job : JobData) → words_meaning words ≡ Ok job → reads words ≡ true
 reads_of words job meaning = ap asks_to_read meaning
 
-pub serves_words : (words : List (List ℕ)) (job : JobData) (before after a b : Option (List ℕ)) (f g : ℕ) (r : Result Status Stop) → words_meaning words ≡ Ok job
-    → IfOk r (λ status. Serves job before after a b f g status) → IfOk r (λ status. ServesWords words before after a b f g status)
-serves_words words job before after a b f g (Ok status) meaning s = record { job = job; meaning = meaning; serves = s }
-serves_words words job before after a b f g (Err e) meaning s = tt
-
-pub refusal_of : (words : List (List ℕ)) (job : JobData) (before after : Option (List ℕ)) → words_meaning words ≡ Ok job → (refusal : RefusalData)
-    → IsRefusalFor job before after refusal → IsRefusal words before after refusal
-refusal_of words job before after meaning refusal h = record { job = job; meaning = meaning; for_job = h }
-
-pub read_fault_of : (words : List (List ℕ)) (job : JobData) (f g : ℕ) → words_meaning words ≡ Ok job → Rose f g → IsReadFault words f g
-read_fault_of words job f g meaning rose = record { reading = reads_of words job meaning; rose = rose }
-
 -- words that ask for a job ask to read
 pub reads_not : (words : List (List ℕ)) (job : JobData) → words_meaning words ≡ Ok job → reads words ≡ false → ⊥
 reads_not words job meaning none = let some = reads_of words job meaning in cc
@@ -181,7 +168,7 @@ outcome_whole words bytes status lines (refused job refusal meaning why is shows
 outcome_whole words bytes status lines (answered job meaning right) = answer_whole status (answer_status job bytes status lines right)
 
 -- a text was written, and what the source has left
-pub answers_wrote : (words : List (List ℕ)) (bytes : List ℕ) (before after a b : Option (List ℕ)) (f g : ℕ) (status : Status) → Agrees before bytes → Wrote (Outcome words bytes) a b f g status
+answers_wrote : (words : List (List ℕ)) (bytes : List ℕ) (before after a b : Option (List ℕ)) (f g : ℕ) (status : Status) → Agrees before bytes → Wrote (Outcome words bytes) a b f g status
     → (reads words ≡ true → is_whole status ≡ true → is_too_long status ≡ false → IsReadWhole before after) → (reads words ≡ true → IsBeingRead before after → ⊥) → (reads words ≡ false → after ≡ before)
     → Answers words before after a b status
 answers_wrote words bytes before after a b f g status agrees w read_whole over untouched =
@@ -278,50 +265,6 @@ answers_stopped words before after a b f g h i (stop.Refused kind at) status ref
     (λ _. r.over) untouched
 answers_stopped words before after a b f g h i stop.ReadFault status fault untouched says = answers_nothing words before after a b status (inr (says.0, fault.reading)) says.1 untouched
 answers_stopped words before after a b f g h i stop.OutOfMemory status none untouched says = answers_nothing words before after a b status (inl says.0) says.1 untouched
-
--- a status of a fault comes with a fault
-write_fault_rose : (right : Status → List (List ℕ) → Type 0) (a b : Option (List ℕ)) (f g : ℕ) (status : Status) → ((lines : List (List ℕ)) → right WriteFault lines → ⊥)
-    → Wrote right a b f g status → status ≡ WriteFault → Rose f g
-write_fault_rose right a b f g status never w is = by_end w.ended where
-  by_end : Ended right w.text f g status → Rose f g
-  by_end (whole text) = absurd (never text.lines (subst (λ (s : Status). right s text.lines) is text.is_right))
-  by_end (sink_failed _ front rose) = rose
-  by_end (no_memory other front) = absurd cc
-
--- an answer's status is that of no fault
-no_fault : (job : JobData) (bytes : List ℕ) (status : Status) (lines : List (List ℕ)) → is_answer status ≡ false → IsAnswer job bytes status lines → ⊥
-no_fault job bytes status lines none right = let some = answer_status job bytes status lines right in cc
-
-pub served_write_fault : (words : List (List ℕ)) (before after a b : Option (List ℕ)) (f g : ℕ) (status : Status) → ServesWords words before after a b f g status → status ≡ WriteFault → Rose f g
-served_write_fault words before after a b f g status s =
-    write_fault_rose (IsAnswer s.job s.serves.bytes) a b f g status (λ lines. no_fault s.job s.serves.bytes WriteFault lines refl) s.serves.wrote
-
-pub stopped_write_fault : (a b : Option (List ℕ)) (f g : ℕ) (s : Stop) (status : Status) → SaysStop s a b f g status → status ≡ WriteFault → Rose f g
-stopped_write_fault a b f g (stop.Usage word) status says is = write_fault_rose (With (Usage word) (λ lines. lines ≡ usage_line word ∷ [])) a b f g status (λ lines w. let h = w.same in absurd cc) says is
-stopped_write_fault a b f g (stop.Refused kind at) status says is = write_fault_rose (With (Refused kind at) (λ lines. lines ≡ refused_line (plain kind at) ∷ [])) a b f g status (λ lines w. let h = w.same in absurd cc) says is
-stopped_write_fault a b f g stop.ReadFault status says is = absurd (let h = says.0 in cc)
-stopped_write_fault a b f g stop.OutOfMemory status says is = absurd (let h = says.0 in cc)
-
-wrote_no_read_fault : (right : Status → List (List ℕ) → Type 0) (a b : Option (List ℕ)) (f g : ℕ) (status : Status) → ((lines : List (List ℕ)) → right ReadFault lines → ⊥)
-    → Wrote right a b f g status → status ≡ ReadFault → ⊥
-wrote_no_read_fault right a b f g status never w is = by_end w.ended where
-  by_end : Ended right w.text f g status → ⊥
-  by_end (whole text) = never text.lines (subst (λ (s : Status). right s text.lines) is text.is_right)
-  by_end (sink_failed other front rose) = cc
-  by_end (no_memory other front) = cc
-
-pub served_read_fault : (words : List (List ℕ)) (before after a b : Option (List ℕ)) (f g : ℕ) (status : Status) → ServesWords words before after a b f g status → status ≡ ReadFault → ⊥
-served_read_fault words before after a b f g status s =
-    wrote_no_read_fault (IsAnswer s.job s.serves.bytes) a b f g status (λ lines. no_fault s.job s.serves.bytes ReadFault lines refl) s.serves.wrote
-
-pub stopped_read_fault : (words : List (List ℕ)) (before after a b : Option (List ℕ)) (f g h i : ℕ) (s : Stop) (status : Status)
-    → StopsBy (λ word. words_meaning words ≡ Err word) (IsRefusal words before after) (IsReadFault words h i) s → SaysStop s a b f g status → status ≡ ReadFault → Rose h i
-stopped_read_fault words before after a b f g h i (stop.Usage word) status stops says is =
-    absurd (wrote_no_read_fault (With (Usage word) (λ lines. lines ≡ usage_line word ∷ [])) a b f g status (λ lines w. let h = w.same in cc) says is)
-stopped_read_fault words before after a b f g h i (stop.Refused kind at) status stops says is =
-    absurd (wrote_no_read_fault (With (Refused kind at) (λ lines. lines ≡ refused_line (plain kind at) ∷ [])) a b f g status (λ lines w. let h = w.same in cc) says is)
-stopped_read_fault words before after a b f g h i stop.ReadFault status stops says is = stops.rose
-stopped_read_fault words before after a b f g h i stop.OutOfMemory status stops says is = absurd (let h = says.0 in cc)
 
 -- a run on bytes that aren't refused
 outcome_accepted : (words : List (List ℕ)) (bytes : List ℕ) (status : Status) (lines : List (List ℕ)) (job : JobData) → words_meaning words ≡ Ok job

@@ -36,8 +36,10 @@ pub(crate) fn perform<K: Sink>(
 ) -> Result<Status, Stop>
     requires accepted { accepted (job_of job.now) bytes.now ≡ Ok (read_of read.now) }
     requires built { is_built (kind_of read.now.input) ≡ true }
-    ensures wrote { IfOk result (λ status. Wrote (IsAnswer (job_of job.now) bytes.now) (K.held sink.old) (K.held sink.new) (K.faults sink.old) (K.faults sink.new) status) }
-    ensures stop { IfErr result (λ stop. StopsBy (λ _. ⊥) (IsOwnRefusal (job_of job.now) bytes.now (read_of read.now)) ⊥ stop) }
+    ensures wrote { IfOk result (λ status. Wrote (IsAnswer (job_of job.now) bytes.now)
+        (K.held sink.old) (K.held sink.new) (K.faults sink.old) (K.faults sink.new) status) }
+    ensures stop { IfErr result (λ stop.
+        StopsBy (λ _. ⊥) (IsOwnRefusal (job_of job.now) bytes.now (read_of read.now)) ⊥ stop) }
     ensures unwritten { OnErr result (sink.new ≡ sink.old) }
     ensures later { K.faults sink.old ≤ K.faults sink.new }
 {
@@ -52,7 +54,7 @@ pub(crate) fn perform<K: Sink>(
     }
 }
 
-// `solve`
+// Does `solve`.
 fn solve<K: Sink>(
     alloc: Global,
     input: &Input,
@@ -62,7 +64,8 @@ fn solve<K: Sink>(
 ) -> Result<Status, AllocError>
     requires input { input.now ≡ Two instance.now }
     requires built { is_built instance.now.kind ≡ true }
-    ensures wrote { IfOk result (λ status. Wrote (With Status.Done (IsShown input.now (IsSolution (unwrap_or side Side.Proposers) instance.now)))
+    ensures wrote { IfOk result (λ status. Wrote
+        (With Status.Done (IsShown input.now (IsSolution (unwrap_or side Side.Proposers) instance.now)))
         (K.held sink.old) (K.held sink.new) (K.faults sink.old) (K.faults sink.new) status) }
     ensures unwritten { OnErr result (sink.new ≡ sink.old) }
     ensures later { K.faults sink.old ≤ K.faults sink.new }
@@ -72,7 +75,7 @@ fn solve<K: Sink>(
     Ok(write(alloc, sink, Status::Done, lines))
 }
 
-// `reduced`
+// Does `reduced`.
 fn reduce<K: Sink>(
     alloc: Global,
     input: &Input,
@@ -91,7 +94,7 @@ fn reduce<K: Sink>(
     Ok(write(alloc, sink, Status::Done, lines))
 }
 
-// `rotations`
+// Does `rotations`.
 fn show_rotations<K: Sink>(
     alloc: Global,
     input: &Input,

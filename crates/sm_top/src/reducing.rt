@@ -122,7 +122,8 @@ fn both_seats<'a>(reduction: &'a Reduction) -> BothSeats<'a>
 fn both_lists<'a>(instance: &Instance, reduction: &'a Reduction) -> BothLists<'a>
     requires market { reduction.now.market ≡ market_of instance.now }
     ensures all { (rest : List LineData) → ⟦<BothLists<'a> as Answer>⟧.gives result rest
-        → rest ≡ rows_given reduction.now.market (lists_of reduction.now.lists.proposers.items reduction.now.lists.reviewers.items) }
+        → rest ≡ rows_given reduction.now.market
+        (lists_of reduction.now.lists.proposers.items reduction.now.lists.reviewers.items) }
     ensures some { HasRest (⟦<BothLists<'a> as Answer>⟧.gives result) }
 {
     let _count = instance.proposer_count();

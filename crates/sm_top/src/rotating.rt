@@ -8,7 +8,6 @@ ghost use Rattle.sm_instance.specs.declared.inputs.Input.TheVariants.{Two};
 ghost use Rattle.sm_market.specs.Lists.{row};
 ghost use Rattle.sm_market.specs.Vectors.{rows_of};
 ghost use Rattle.sm_poset.specs.Posets.{IsPoset};
-ghost use Rattle.sm_theory.specs.Chains.{AreNeedsOf};
 ghost use Rattle.sm_top.specs.Accepting.{is_built};
 ghost use Rattle.sm_top.specs.MarriageMarket.{market_of};
 ghost use Rattle.sm_top.specs.RotationAnswer.{IsRotationAnswer};

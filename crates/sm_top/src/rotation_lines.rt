@@ -64,7 +64,8 @@ impl Answer for RotationLines<'_> {
 // The line of a rotation's pairs.
 fn rotation_line(alloc: Global, rows: &Rotations, k: u32) -> Result<Line, AllocError>
     requires { k < length rows.now.rotations.now }
-    ensures { IfOk result (λ line. line_of line ≡ LineData.Rotation (k + 1) (turns_of (rotation_at (rotations_of rows.now.rotations.now) k))) }
+    ensures { IfOk result (λ line. line_of line
+        ≡ LineData.Rotation (k + 1) (turns_of (rotation_at (rotations_of rows.now.rotations.now) k))) }
 {
     let turns = turns_of(alloc, &rows.rotations[k as usize].pairs)?;
     Ok(Line::Rotation(k + 1, turns))
@@ -73,7 +74,8 @@ fn rotation_line(alloc: Global, rows: &Rotations, k: u32) -> Result<Line, AllocE
 // The line of what a rotation needs.
 fn needs_line(alloc: Global, rows: &Rotations, k: u32) -> Result<Line, AllocError>
     requires { k < length rows.now.rotations.now }
-    ensures { IfOk result (λ line. line_of line ≡ LineData.Needs (k + 1) (numbers_of (row (rows_of rows.now.needs.now) k))) }
+    ensures { IfOk result (λ line. line_of line
+        ≡ LineData.Needs (k + 1) (numbers_of (row (rows_of rows.now.needs.now) k))) }
 {
     let numbers = numbers_of(alloc, &rows.needs[k as usize])?;
     Ok(Line::Needs(k + 1, numbers))

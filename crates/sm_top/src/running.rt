@@ -3,7 +3,6 @@
 ghost use Rattle.std.specs.Prelude.{◌≡◌, ◌≤◌, ◌≢◌, Ok, Err, IfOk, IfErr, OnErr, length, true, false};
 ghost use Rattle.sm_text.specs.Limits.{most_bytes};
 ghost use Rattle.sm_io.specs.Faults.{Rose};
-ghost use Rattle.sm_instance.specs.Inputs.{kind_of};
 ghost use Rattle.sm_reader.specs.InstanceText.{read_of};
 ghost use Rattle.sm_words.specs.Jobs.{job_of};
 ghost use Rattle.sm_words.specs.Words.{texts, words_meaning};
@@ -37,21 +36,22 @@ use std::alloc::Global;
 ///   Irving 1989, theorem 2.5.7).
 /// - `Refused`: the input is refused for this reason, at this line; the one line `refused NAME LINE` is written. An input
 ///   that is too long comes first, then the faults of its lines from the top, then a missing `end`, then a name that isn't
-///   declared, then text behind `end`, then a kind that isn't taken yet.
+///   declared, then text behind `end`, then a kind that isn't taken yet, then one that the command doesn't take.
 /// - `Usage`: the words are faulty; the one line `usage WORD` is written.
 /// - `ReadFault`, `WriteFault`: the source or the sink failed. Nothing was written, or a front of the answer.
 /// - `OutOfMemory`: there was no memory. Nothing was written, or a front of the answer.
 ///
 /// What is written is added to what the sink held. It depends on the bytes that the source gave and not on how they were cut.
-/// Takes time and memory linear in the bytes for `solve` and `reduced`; for `rotations` the time of [`sm_rotations::chain`]
-/// comes besides.
+/// Takes time and memory linear in the bytes for `solve` and `reduced`; for `rotations` those of [`sm_rotations::chain`]
+/// and [`sm_poset::Poset::of`] come besides.
 pub fn run<S: Source, K: Sink>(
     alloc: Global,
     words: &[String],
     source: &mut S,
     sink: &mut K,
 ) -> Status
-    ensures answer { Answers (texts words.now) (S.left source.old) (S.left source.new) (K.held sink.old) (K.held sink.new) result }
+    ensures answer { Answers (texts words.now) (S.left source.old) (S.left source.new)
+        (K.held sink.old) (K.held sink.new) result }
     ensures accepted { AnswersAccepted (texts words.now) (S.left source.old) result }
     ensures untouched { reads (texts words.now) ≡ false → source.new ≡ source.old }
     ensures faultless { (¬ Rose (S.faults source.old) (S.faults source.new)) → (¬ Rose (K.faults sink.old) (K.faults sink.new))
@@ -74,9 +74,10 @@ fn serve<S: Source, K: Sink>(
     source: &mut S,
     sink: &mut K,
 ) -> Result<Status, Stop>
-    ensures served { IfOk result (λ status. ServesWords (texts words.now) (S.left source.old) (S.left source.new) (K.held sink.old) (K.held sink.new)
-        (K.faults sink.old) (K.faults sink.new) status) }
-    ensures stop { IfErr result (λ stop. StopsBy (λ word. words_meaning (texts words.now) ≡ Err word) (IsRefusal (texts words.now) (S.left source.old) (S.left source.new))
+    ensures served { IfOk result (λ status. ServesWords (texts words.now) (S.left source.old) (S.left source.new)
+        (K.held sink.old) (K.held sink.new) (K.faults sink.old) (K.faults sink.new) status) }
+    ensures stop { IfErr result (λ stop. StopsBy (λ word. words_meaning (texts words.now) ≡ Err word)
+        (IsRefusal (texts words.now) (S.left source.old) (S.left source.new))
         (IsReadFault (texts words.now) (S.faults source.old) (S.faults source.new)) stop) }
     ensures untouched { reads (texts words.now) ≡ false → source.new ≡ source.old }
     ensures unwritten { OnErr result (sink.new ≡ sink.old) }
@@ -97,9 +98,10 @@ fn read_and_answer<S: Source, K: Sink>(
     source: &mut S,
     sink: &mut K,
 ) -> Result<Status, Stop>
-    ensures served { IfOk result (λ status. Serves (job_of job.now) (S.left source.old) (S.left source.new) (K.held sink.old) (K.held sink.new)
-        (K.faults sink.old) (K.faults sink.new) status) }
-    ensures stop { IfErr result (λ stop. StopsBy (λ _. ⊥) (IsRefusalFor (job_of job.now) (S.left source.old) (S.left source.new))
+    ensures served { IfOk result (λ status. Serves (job_of job.now) (S.left source.old) (S.left source.new)
+        (K.held sink.old) (K.held sink.new) (K.faults sink.old) (K.faults sink.new) status) }
+    ensures stop { IfErr result (λ stop. StopsBy (λ _. ⊥)
+        (IsRefusalFor (job_of job.now) (S.left source.old) (S.left source.new))
         (Rose (S.faults source.old) (S.faults source.new)) stop) }
     ensures unwritten { OnErr result (sink.new ≡ sink.old) }
     ensures source_later { S.faults source.old ≤ S.faults source.new }
@@ -112,7 +114,8 @@ fn read_and_answer<S: Source, K: Sink>(
 // Does a job on an input that was read whole.
 fn answer<K: Sink>(alloc: Global, job: &Job, bytes: &[u8], sink: &mut K) -> Result<Status, Stop>
     requires { length bytes.now ≤ most_bytes }
-    ensures wrote { IfOk result (λ status. Wrote (IsAnswer (job_of job.now) bytes.now) (K.held sink.old) (K.held sink.new) (K.faults sink.old) (K.faults sink.new) status) }
+    ensures wrote { IfOk result (λ status. Wrote (IsAnswer (job_of job.now) bytes.now)
+        (K.held sink.old) (K.held sink.new) (K.faults sink.old) (K.faults sink.new) status) }
     ensures stop { IfErr result (λ stop. StopsBy (λ _. ⊥) (IsRefused (job_of job.now) bytes.now) ⊥ stop) }
     ensures unwritten { OnErr result (sink.new ≡ sink.old) }
     ensures later { K.faults sink.old ≤ K.faults sink.new }

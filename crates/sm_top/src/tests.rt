@@ -1,0 +1,249 @@
+//! Whole runs over sources and sinks in memory, with texts by hand.
+
+use crate::{Status, run};
+use sm_io::{MemSink, MemSource, SteadySink, SteadySource};
+use sm_text::RefusalKind;
+use std::alloc::Global;
+use std::process::Abort;
+
+const TWO_BY_TWO: &str = "stable 1 marriage\np m1: a b\np m2: b a\nr a: m2 m1\nr b: m1 m2\nend\n";
+
+// The words that stand in a text with a blank between each two.
+fn words_in(rt: &(impl Abort + AllocGlobal), text: &str) -> Vec<String> {
+    let mut words = Vec::new(rt.alloc());
+    for word in text.split_whitespace() {
+        let word = String::from_str(rt.alloc(), word).expect(rt, "memory");
+        words.push(word).expect(rt, "memory");
+    }
+    words
+}
+
+// The bytes of a text.
+fn bytes_of(rt: &(impl Abort + AllocGlobal), text: &str) -> Vec<u8> {
+    Vec::from_slice(rt.alloc(), text.as_bytes()).expect(rt, "memory")
+}
+
+// A run: its words, the text that is read, the calls of the source and the puts that fail, and what comes of it.
+#[derive(Clone, Copy)]
+struct Row<'a> {
+    words: &'a str,
+    text: &'a str,
+    failing_reads: &'a [u64],
+    failing_puts: &'a [(u64, u32)],
+    status: Status,
+    written: &'a str,
+}
+
+// Makes sure of what comes of runs.
+fn come_to(rt: &(impl Abort + AllocGlobal), rows: &[Row]) {
+    for row in rows {
+        let words = words_in(rt, row.words);
+        let failing = Vec::from_slice(rt.alloc(), row.failing_reads).expect(rt, "memory");
+        let mut source = MemSource::new(bytes_of(rt, row.text), 7, failing);
+        let failing = Vec::from_slice(rt.alloc(), row.failing_puts).expect(rt, "memory");
+        let mut sink = MemSink::new(rt.alloc(), 1000, failing).expect(rt, "memory");
+        let status = run(rt.alloc(), &words, &mut source, &mut sink);
+        assert!(rt; status == row.status, "{:?}", row.words);
+        assert!(rt; sink.held() == row.written.as_bytes(), "{:?}", row.words);
+    }
+}
+
+// A run without faults that answers.
+fn done<'a>(words: &'a str, text: &'a str, written: &'a str) -> Row<'a> {
+    Row {
+        words,
+        text,
+        failing_reads: &[],
+        failing_puts: &[],
+        status: Status::Done,
+        written,
+    }
+}
+
+// A run without faults whose input is refused.
+fn refused<'a>(
+    words: &'a str,
+    text: &'a str,
+    kind: RefusalKind,
+    at: u32,
+    written: &'a str,
+) -> Row<'a> {
+    Row {
+        words,
+        text,
+        failing_reads: &[],
+        failing_puts: &[],
+        status: Status::Refused(kind, at),
+        written,
+    }
+}
+
+#[test]
+fn commands_answer(rt: HostRuntime) {
+    let blanks =
+        "stable 1 marriage\r\nforce m1 b\r\nr b:m1 m2 # b\n\nweight m1 a -7\n\tr a : m2 m1\np m2: b a\np m1: x a b\nr x:\nend\n \n# done";
+    let chain =
+        "stable 1 marriage\np p1: a b\np p2: b a\np p3: c a d\np p4: d c\nr a: p2 p3 p1\nr b: p1 p2\nr c: p4 p3\nr d: p3 p4\nend\n";
+    let unmatched =
+        "stable 1 marriage\np m1: z w x\np m2: w\np m3: x w\np m4:\nr w: m1 m3 m2\nr x: m3 m1\nr y: m4\nr z:\nend\n";
+    come_to(
+        &rt,
+        &[
+            done(
+                "solve",
+                TWO_BY_TWO,
+                "answer solve side=proposers\npair m1 a\npair m2 b\nend\n",
+            ),
+            done(
+                "solve side=reviewers",
+                TWO_BY_TWO,
+                "answer solve side=reviewers\npair m1 b\npair m2 a\nend\n",
+            ),
+            done(
+                "solve side=proposers",
+                blanks,
+                "answer solve side=proposers\npair m2 b\npair m1 a\nend\n",
+            ),
+            done(
+                "solve",
+                "stable 1 marriage\nend",
+                "answer solve side=proposers\nend\n",
+            ),
+            done(
+                "reduced",
+                unmatched,
+                "answer reduced\nfirst m1 w\nfirst m3 x\nlast m1 w\nlast m3 x\nproposer m1 w\nproposer m2 -\nproposer m3 x\nproposer m4 -\nreviewer w m1\nreviewer x m3\nend\n",
+            ),
+            done(
+                "rotations",
+                unmatched,
+                "answer rotations\nfirst m1 w\nfirst m3 x\nend\n",
+            ),
+            done(
+                "rotations",
+                chain,
+                "answer rotations\nfirst p1 a\nfirst p2 b\nfirst p3 c\nfirst p4 d\nrotation 1 p1 a p2 b\nneeds 1 -\nrotation 2 p3 c p4 d\nneeds 2 1\nend\n",
+            ),
+        ],
+    );
+}
+
+#[test]
+fn inputs_are_refused(rt: HostRuntime) {
+    come_to(
+        &rt,
+        &[
+            refused(
+                "solve",
+                "",
+                RefusalKind::BadHeader,
+                1,
+                "refused BadHeader 1\n",
+            ),
+            refused(
+                "reduced",
+                "stable 1 marriage\np m1: a a\nend\n",
+                RefusalKind::RepeatedEntry,
+                2,
+                "refused RepeatedEntry 2\n",
+            ),
+            refused(
+                "solve",
+                "stable 1 marriage\nend\n\n# note\n\r\r\nx",
+                RefusalKind::AfterEnd,
+                5,
+                "refused AfterEnd 5\n",
+            ),
+            refused(
+                "solve",
+                "\n# kinds\nstable 1 hospitals\nr h [2]: r0\np r0: h\nend\n",
+                RefusalKind::NotBuilt,
+                3,
+                "refused NotBuilt 3\n",
+            ),
+            refused(
+                "rotations",
+                "stable 1 roommates\np 1: 2\np 2: 1\nend\nend\n",
+                RefusalKind::AfterEnd,
+                5,
+                "refused AfterEnd 5\n",
+            ),
+            refused(
+                "solve side=proposers",
+                "stable 1 roommates\np 1: 2\np 2: 1\nend\n",
+                RefusalKind::NotBuilt,
+                1,
+                "refused NotBuilt 1\n",
+            ),
+        ],
+    );
+}
+
+#[test]
+fn faults_end_a_run(rt: HostRuntime) {
+    come_to(
+        &rt,
+        &[
+            // faulty words, and nothing is read: the source's first call would fail
+            Row {
+                words: "solve side=",
+                text: TWO_BY_TWO,
+                failing_reads: &[1],
+                failing_puts: &[],
+                status: Status::Usage(2),
+                written: "usage 2\n",
+            },
+            Row {
+                words: "solve",
+                text: TWO_BY_TWO,
+                failing_reads: &[2],
+                failing_puts: &[],
+                status: Status::ReadFault,
+                written: "",
+            },
+            Row {
+                words: "solve",
+                text: TWO_BY_TWO,
+                failing_reads: &[],
+                failing_puts: &[(3, 4)],
+                status: Status::WriteFault,
+                written: "answer solve side=proposers\npair m1 a\npair",
+            },
+        ],
+    );
+}
+
+#[test]
+fn solves_over_a_steady_source_and_sink(rt: HostRuntime) {
+    let words = words_in(&rt, "solve");
+    let mut source = SteadySource::new(bytes_of(&rt, TWO_BY_TWO), 3);
+    let mut sink = SteadySink::new(rt.alloc(), 1000).expect(&rt, "memory");
+    let status = run(rt.alloc(), &words, &mut source, &mut sink);
+    assert!(rt; status == Status::Done);
+    assert!(rt; status.number() == 0);
+    assert!(rt;
+        sink.held() == Some(b"answer solve side=proposers\npair m1 a\npair m2 b\nend\n".as_slice())
+    );
+}
+
+// So many bytes.
+fn filled(alloc: Global, len: usize) -> Result<Vec<u8>, std::alloc::AllocError> {
+    vec![in alloc; b'#'; len]
+}
+
+// The status of `solve` for so many bytes.
+fn status_of(rt: &(impl Abort + AllocGlobal), len: usize) -> Status {
+    let words = words_in(rt, "solve");
+    let bytes = filled(rt.alloc(), len).expect(rt, "memory");
+    let mut source = MemSource::new(bytes, 1_000_000, Vec::new(rt.alloc()));
+    let mut sink = MemSink::new(rt.alloc(), 100, Vec::new(rt.alloc())).expect(rt, "memory");
+    run(rt.alloc(), &words, &mut source, &mut sink)
+}
+
+#[test]
+fn too_many_bytes_are_refused(rt: HostRuntime) {
+    let most = status_of(&rt, 16_777_216);
+    assert!(rt; most == Status::Refused(RefusalKind::BadHeader, 2));
+    let more = status_of(&rt, 16_777_217);
+    assert!(rt; more == Status::Refused(RefusalKind::TooLong, 0));
+}

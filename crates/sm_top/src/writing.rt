@@ -18,7 +18,8 @@ pub(crate) fn write<K: Sink, L: Lines + Drop>(
     lines: L,
 ) -> Status
     requires { HasRest (L.gives lines) }
-    ensures wrote { Wrote (With status (L.gives lines)) (K.held sink.old) (K.held sink.new) (K.faults sink.old) (K.faults sink.new) result }
+    ensures wrote { Wrote (With status (L.gives lines))
+        (K.held sink.old) (K.held sink.new) (K.faults sink.old) (K.faults sink.new) result }
     ensures later { K.faults sink.old ≤ K.faults sink.new }
 {
     match sm_answer::write(alloc, sink, lines) {

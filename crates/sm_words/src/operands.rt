@@ -110,7 +110,8 @@ fn side_named(name: &str) -> Option<Side>
 
 // Keeps a value, unless its operand stands already.
 fn put(given: &mut Given, value: Value) -> bool
-    ensures { with_value (value_of value) (given_of given.old) ≡ (if result then Some (given_of given.new) else None) }
+    ensures { with_value (value_of value) (given_of given.old)
+        ≡ (if result then Some (given_of given.new) else None) }
 {
     match value {
         Value::OfSide(side) => put_once(&mut given.side, side),
