@@ -7,7 +7,7 @@ use Rattle.sm_text.specs.declared.refusal.RefusalKind.TheVariants.{BadByte, BadH
 use Rattle.sm_instance.specs.declared.kinds.Kind.TheVariants.{Hospitals}
 use Rattle.sm_instance.specs.declared.kinds.Side.TheVariants.{Proposers, Reviewers}
 use Rattle.sm_instance.specs.declared.inputs.Input.TheVariants.{Two, Room}
-use Rattle.sm_reader.specs.Said.{SaidAgent, Said, nothing}
+use Rattle.sm_instance.specs.Named.{SaidAgent, Said, nothing}
 use Rattle.sm_reader.specs.Forms.{declares}
 use Rattle.sm_reader.specs.Judging.{fault_of}
 use Rattle.sm_reader.specs.InstanceText.{instance_text}
