@@ -14,9 +14,9 @@ ghost use Rattle.sm_top.specs.RotationAnswer.{IsRotationAnswer};
 ghost use Rattle.sm_top.specs.Stops.{StopsBy};
 ghost use Rattle.sm_top.specs.Wrote.{Wrote, With};
 
-use crate::reducing::{find_reduction, reduction_lines};
-use crate::rotating::{find_rotations, rotation_answer_lines};
-use crate::solving::{find_solution, solution_lines};
+use crate::reduction::{find_reduction, reduction_lines};
+use crate::rotation_answer::{find_rotations, rotation_answer_lines};
+use crate::solution::{find_solution, solution_lines};
 use crate::status::Status;
 use crate::stop::Stop;
 use crate::writing::write;

@@ -3,7 +3,7 @@ use Rattle.sm_market.specs.Vectors.{lists_of}
 use Rattle.sm_top.specs.GivenLines.{reduced_given}
 use Rattle.sm_top.proofs.SolveLemmas.{kind_built}
 use Rattle.sm_top.proofs.ReduceLemmas.{reduced_right, reduced_given_sound}
-use Rattle.sm_top.proofs.reducing.reduction_lines.Goals as goal
+use Rattle.sm_top.proofs.reduction.reduction_lines.Goals as goal
 
 pub returns-clause-right : goal.returns-clause-right
 returns-clause-right c =

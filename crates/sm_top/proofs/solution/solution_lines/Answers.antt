@@ -1,7 +1,7 @@
 use Rattle.sm_answer.proofs.AnswerLemmas.{same_some, same_is, joined_some, joined_is, given_right, given_some}
 use Rattle.sm_top.specs.GivenLines.{solve_given}
 use Rattle.sm_top.proofs.SolveLemmas.{marriage_of, kind_built, solve_right, solve_given_sound}
-use Rattle.sm_top.proofs.solving.solution_lines.Goals as goal
+use Rattle.sm_top.proofs.solution.solution_lines.Goals as goal
 
 pub returns-clause-right : goal.returns-clause-right
 returns-clause-right c =

@@ -1,6 +1,6 @@
 use Rattle.std.proofs.Common.{arith}
 use Rattle.sm_top.proofs.RotationLemmas.{needs_pushed}
-use Rattle.sm_top.proofs.rotating.needs_in.Goals as goal
+use Rattle.sm_top.proofs.rotation_answer.needs_in.Goals as goal
 
 pub loop-k-preserved : goal.loop-k-preserved
 loop-k-preserved c =

@@ -1,6 +1,6 @@
 use Rattle.sm_answer.proofs.AnswerLemmas.{same_some, same_is, joined_some, joined_is}
 use Rattle.sm_top.proofs.ReduceLemmas.{few_rows, back_rows, proposers_given, reviewers_given}
-use Rattle.sm_top.proofs.reducing.both_lists.Goals as goal
+use Rattle.sm_top.proofs.reduction.both_lists.Goals as goal
 
 pub invariant_of-result : goal.invariant_of-result
 invariant_of-result c =

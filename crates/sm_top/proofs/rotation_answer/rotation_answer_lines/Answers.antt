@@ -6,7 +6,7 @@ use Rattle.sm_top.specs.GivenLines.{rotations_given}
 use Rattle.sm_top.proofs.SolveLemmas.{marriage_of, kind_built}
 use Rattle.sm_top.proofs.RotationLemmas.{are_shown, values_few, values_each, small_needs, rotations_right, rotations_given_sound}
 use Rattle.std.proofs.Common.{◌∙◌}
-use Rattle.sm_top.proofs.rotating.rotation_answer_lines.Goals as goal
+use Rattle.sm_top.proofs.rotation_answer.rotation_answer_lines.Goals as goal
 
 pub invariant_of-result-2 : goal.invariant_of-result-2
 invariant_of-result-2 c =

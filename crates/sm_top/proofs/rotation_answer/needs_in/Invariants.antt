@@ -2,7 +2,7 @@ use Rattle.std.proofs.Common.{◌≡◌, ℕ, ◌<◌, length}
 use Rattle.sm_market.specs.Lists.{row}
 use Rattle.sm_market.specs.Vectors.{rows_of}
 use Rattle.sm_theory.specs.Chains.{AreNeedsOf}
-use Rattle.sm_top.proofs.rotating.needs_in.Given as goal
+use Rattle.sm_top.proofs.rotation_answer.needs_in.Given as goal
 
 -- what the rotations so far need
 abbrev pub invariant-loop-k : goal.invariant-loop-k
