@@ -14,9 +14,8 @@ use Rattle.sm_instance.specs.declared.kinds.Side.{Side}
 use Rattle.sm_instance.specs.declared.kinds.Side.TheVariants.{Proposers, Reviewers}
 use Rattle.sm_instance.specs.Named.{SaidAgent, entries_of, all_entries}
 use Rattle.sm_reader.specs.Judging.{has_repeated, with_agent}
-use Rattle.sm_reader.specs.Kept.{Table, table_of, text_at, IsTable, Extends, AreBelow}
+use Rattle.sm_reader.specs.Kept.{Table, text_at, Extends, AreBelow}
 use Rattle.sm_reader.specs.Draft.{listed_table, listed_side, agent_in, said_of, AreAgentsBelow, pairs_of, IsDraft, limit_fault, name_fault, DeclaresOn, ListsOn, PutsOn, AddsAgent}
-use Rattle.sm_reader.specs.declared.names.Names.{Names}
 use Rattle.sm_reader.specs.declared.draft.Declared.{Declared}
 use Rattle.sm_reader.specs.declared.draft.Draft.{Draft}
 use Rattle.sm_reader.proofs.ListingLemmas.{extends_long, extends_twice}
@@ -32,32 +31,30 @@ within_limits agents entries more h = by_tests (nat_le most_agents agents) (nat_
     by_tests false false e f h = (grind (arith, nat_tests), grind (arith, nat_tests))
 
 -- the names of both sides may have grown
-pub record Grown (line : ℕ) (d : Draft) (pn rn : Names) : Type 0 where
-  pub p_table : IsTable (table_of pn)
-  pub r_table : IsTable (table_of rn)
-  pub p_more : Extends (table_of d.proposer_names).texts (table_of pn).texts
-  pub r_more : Extends (table_of d.reviewer_names).texts (table_of rn).texts
-  pub p_fresh : (k : ℕ) → get_or pn.stamps.items k 0 < line + 1
-  pub r_fresh : (k : ℕ) → get_or rn.stamps.items k 0 < line + 1
+pub record Grown (line : ℕ) (d : Draft) (pn rn : Table) : Type 0 where
+  pub p_more : Extends d.proposer_names.texts pn.texts
+  pub r_more : Extends d.reviewer_names.texts rn.texts
+  pub p_fresh : (k : ℕ) → get_or pn.stamps k 0 < line + 1
+  pub r_fresh : (k : ℕ) → get_or rn.stamps k 0 < line + 1
 
-module _ (kind : Kind) (line : ℕ) (d : Draft) (pn rn : Names) (draft : IsDraft kind line d) (grown : Grown line d pn rn) where
+module _ (kind : Kind) (line : ℕ) (d : Draft) (pn rn : Table) (draft : IsDraft kind line d) (grown : Grown line d pn rn) where
   listed_now : Extends (listed_table kind d.proposer_names d.reviewer_names).texts (listed_table kind pn rn).texts
   listed_now = listed_more kind d pn rn grown.p_more grown.r_more
 
   -- a proposer is added
   module _ (agent : Declared) (v : Vec Declared Global) (n : ℕ)
-      (declared_p : (table_of pn).declared ≡ (table_of d.proposer_names).declared ++ agent.name.now ∷ [])
-      (declared_r : (table_of rn).declared ≡ (table_of d.reviewer_names).declared)
+      (declared_p : pn.declared ≡ d.proposer_names.declared ++ agent.name.now ∷ [])
+      (declared_r : rn.declared ≡ d.reviewer_names.declared)
       (below : AreBelow (length (listed_table kind pn rn).texts) agent.entries.items)
       (pushed : v.items ≡ d.proposers.items ++ agent ∷ [])
       (more : n ≡ d.entries + length agent.entries.items)
       (fits : (length d.proposers.items < most_agents) × (d.entries + length agent.entries.items ≤ most_entries)) where
     proposer_said : said_of kind (record d { proposer_names = pn; reviewer_names = rn; proposers = v; entries = n }) ≡ with_agent Proposers (agent_in (listed_table kind pn rn).texts agent) (said_of kind d)
     proposer_said =
-        let p = (table_of d.proposer_names).texts in
-        let q = (table_of pn).texts in
-        let r = (table_of d.reviewer_names).texts in
-        let s = (table_of rn).texts in
+        let p = d.proposer_names.texts in
+        let q = pn.texts in
+        let r = d.reviewer_names.texts in
+        let s = rn.texts in
         let listed = (listed_table kind pn rn).texts in
         said_same
         (ap (map (agent_in listed)) pushed ∙ map_push (agent_in listed) d.proposers.items agent
@@ -70,10 +67,10 @@ module _ (kind : Kind) (line : ℕ) (d : Draft) (pn rn : Names) (draft : IsDraft
     pub proposer_added : (said_of kind (record d { proposer_names = pn; reviewer_names = rn; proposers = v; entries = n }) ≡ with_agent Proposers (agent_in (listed_table kind pn rn).texts agent) (said_of kind d))
         × IsDraft kind (line + 1) (record d { proposer_names = pn; reviewer_names = rn; proposers = v; entries = n })
     proposer_added =
-        let p = (table_of d.proposer_names).texts in
-        let q = (table_of pn).texts in
-        let r = (table_of d.reviewer_names).texts in
-        let s = (table_of rn).texts in
+        let p = d.proposer_names.texts in
+        let q = pn.texts in
+        let r = d.reviewer_names.texts in
+        let s = rn.texts in
         let old = (listed_table kind d.proposer_names d.reviewer_names).texts in
         let listed = (listed_table kind pn rn).texts in
         let name = λ (a : Declared). a.name.now in
@@ -81,8 +78,6 @@ module _ (kind : Kind) (line : ℕ) (d : Draft) (pn rn : Names) (draft : IsDraft
         let one = agent_in listed agent in (
           proposer_said,
           record {
-            proposer_table = grown.p_table;
-            reviewer_table = grown.r_table;
             proposers_declared = declared_p ∙ ap (λ x. x ++ agent.name.now ∷ []) draft.proposers_declared ∙ sym (ap (map name) pushed ∙ map_push name d.proposers.items agent);
             reviewers_declared = declared_r ∙ draft.reviewers_declared;
             proposers_in = subst (AreAgentsBelow (length listed)) (sym pushed)
@@ -108,18 +103,18 @@ module _ (kind : Kind) (line : ℕ) (d : Draft) (pn rn : Names) (draft : IsDraft
 
   -- a reviewer is added
   module _ (agent : Declared) (v : Vec Declared Global) (n : ℕ)
-      (declared_p : (table_of pn).declared ≡ (table_of d.proposer_names).declared)
-      (declared_r : (table_of rn).declared ≡ (table_of d.reviewer_names).declared ++ agent.name.now ∷ [])
-      (below : AreBelow (length (table_of pn).texts) agent.entries.items)
+      (declared_p : pn.declared ≡ d.proposer_names.declared)
+      (declared_r : rn.declared ≡ d.reviewer_names.declared ++ agent.name.now ∷ [])
+      (below : AreBelow (length pn.texts) agent.entries.items)
       (pushed : v.items ≡ d.reviewers.items ++ agent ∷ [])
       (more : n ≡ d.entries + length agent.entries.items)
       (fits : (length d.reviewers.items < most_agents) × (d.entries + length agent.entries.items ≤ most_entries)) where
-    reviewer_said : said_of kind (record d { proposer_names = pn; reviewer_names = rn; reviewers = v; entries = n }) ≡ with_agent Reviewers (agent_in (table_of pn).texts agent) (said_of kind d)
+    reviewer_said : said_of kind (record d { proposer_names = pn; reviewer_names = rn; reviewers = v; entries = n }) ≡ with_agent Reviewers (agent_in pn.texts agent) (said_of kind d)
     reviewer_said =
-        let p = (table_of d.proposer_names).texts in
-        let q = (table_of pn).texts in
-        let r = (table_of d.reviewer_names).texts in
-        let s = (table_of rn).texts in
+        let p = d.proposer_names.texts in
+        let q = pn.texts in
+        let r = d.reviewer_names.texts in
+        let s = rn.texts in
         let listed = (listed_table kind pn rn).texts in
         said_same
         (agents_kept (listed_table kind d.proposer_names d.reviewer_names).texts listed d.proposers.items listed_now draft.proposers_in)
@@ -128,13 +123,13 @@ module _ (kind : Kind) (line : ℕ) (d : Draft) (pn rn : Names) (draft : IsDraft
         (pairs_kept p q r s grown.p_more grown.r_more d.forced.items draft.forced_in)
         (pairs_kept p q r s grown.p_more grown.r_more d.forbidden.items draft.forbidden_in)
 
-    pub reviewer_added : (said_of kind (record d { proposer_names = pn; reviewer_names = rn; reviewers = v; entries = n }) ≡ with_agent Reviewers (agent_in (table_of pn).texts agent) (said_of kind d))
+    pub reviewer_added : (said_of kind (record d { proposer_names = pn; reviewer_names = rn; reviewers = v; entries = n }) ≡ with_agent Reviewers (agent_in pn.texts agent) (said_of kind d))
         × IsDraft kind (line + 1) (record d { proposer_names = pn; reviewer_names = rn; reviewers = v; entries = n })
     reviewer_added =
-        let p = (table_of d.proposer_names).texts in
-        let q = (table_of pn).texts in
-        let r = (table_of d.reviewer_names).texts in
-        let s = (table_of rn).texts in
+        let p = d.proposer_names.texts in
+        let q = pn.texts in
+        let r = d.reviewer_names.texts in
+        let s = rn.texts in
         let old = (listed_table kind d.proposer_names d.reviewer_names).texts in
         let listed = (listed_table kind pn rn).texts in
         let name = λ (a : Declared). a.name.now in
@@ -142,8 +137,6 @@ module _ (kind : Kind) (line : ℕ) (d : Draft) (pn rn : Names) (draft : IsDraft
         let one = agent_in q agent in (
           reviewer_said,
           record {
-            proposer_table = grown.p_table;
-            reviewer_table = grown.r_table;
             proposers_declared = declared_p ∙ draft.proposers_declared;
             reviewers_declared = declared_r ∙ ap (λ x. x ++ agent.name.now ∷ []) draft.reviewers_declared ∙ sym (ap (map name) pushed ∙ map_push name d.reviewers.items agent);
             proposers_in = agents_below_more (length old) (length listed) d.proposers.items (extends_long old listed listed_now) draft.proposers_in;
@@ -182,7 +175,7 @@ module _ (line capacity : ℕ) (name : Bor (List ℕ)) (entries : List (List ℕ
       rw (is_new, differ) (ap (limit_fault agents all) (sym (ap length names) ∙ length-map ids.items (text_at texts)) ∙ fits)
 
   -- a proposer of two sides
-  two_sided : (kind : Kind) → ((pn rn : Names) → listed_table kind pn rn ≡ table_of rn) → IsDraft kind line d → DeclaresOn Proposers d d1 name.now → ListsOn Reviewers d1 d2 entries line ids.items → PutsOn Proposers d2 d3 one
+  two_sided : (kind : Kind) → ((pn rn : Table) → listed_table kind pn rn ≡ rn) → IsDraft kind line d → DeclaresOn Proposers d d1 name.now → ListsOn Reviewers d1 d2 entries line ids.items → PutsOn Proposers d2 d3 one
       → AddsAgent kind line Proposers name.now capacity entries d d3
   two_sided kind listed_is draft declares lists puts =
       let e1 = declares.changes in
@@ -190,23 +183,21 @@ module _ (line capacity : ℕ) (name : Bor (List ℕ)) (entries : List (List ℕ
       let all : d3 ≡ record d { proposer_names = d1.proposer_names; reviewer_names = d2.reviewer_names; proposers = d3.proposers; entries = d3.entries } =
       puts.changes ∙ ap (λ (x : Draft). record x { proposers = d3.proposers; entries = d3.entries }) e12 in
       let grown : Grown line d d1.proposer_names d2.reviewer_names = record {
-        p_table = declares.declares.table;
-        r_table = lists.listed.table;
         p_more = declares.declares.extends;
-        r_more = subst (λ (x : Draft). Extends (table_of x.reviewer_names).texts (table_of d2.reviewer_names).texts) e1 lists.listed.extends;
+        r_more = subst (λ (x : Draft). Extends x.reviewer_names.texts d2.reviewer_names.texts) e1 lists.listed.extends;
         p_fresh = λ k. omega (arith, declares.declares.stamps k, draft.proposers_fresh k);
         r_fresh = λ k. omega (arith, lists.listed.stamps k);
       } in
       let fits : limit_fault (length d.proposers.items) d.entries (length ids.items) ≡ None = ap (λ (x : Draft). limit_fault (length x.proposers.items) x.entries (length ids.items)) (sym e12) ∙ puts.faultless in
       let added = proposer_added kind line d d1.proposer_names d2.reviewer_names draft grown one d3.proposers d3.entries
       declares.declares.declared
-      (lists.listed.declared ∙ ap (λ (x : Draft). (table_of x.reviewer_names).declared) e1)
+      (lists.listed.declared ∙ ap (λ (x : Draft). x.reviewer_names.declared) e1)
       (subst (λ (t : Table). AreBelow (length t.texts) ids.items) (sym (listed_is d1.proposer_names d2.reviewer_names)) lists.listed.in_range)
       (puts.agents ∙ ap (λ (x : Draft). x.proposers.items ++ one ∷ []) e12)
       (puts.entries ∙ ap (λ (x : Draft). x.entries + length ids.items) e12)
       (within_limits (length d.proposers.items) d.entries (length ids.items) fits) in
       record {
-        faultless = no_fault (table_of d.proposer_names).declared (length d.proposers.items) d.entries (table_of d2.reviewer_names).texts declares.is_new lists.listed.differ lists.listed.names fits;
+        faultless = no_fault d.proposer_names.declared (length d.proposers.items) d.entries d2.reviewer_names.texts declares.is_new lists.listed.differ lists.listed.names fits;
         said = ap (said_of kind) all ∙ added.0 ∙ ap (λ a. with_agent Proposers a (said_of kind d))
             (same_agent (listed_table kind d1.proposer_names d2.reviewer_names).texts (ap (λ (t : Table). map (text_at t.texts) ids.items) (listed_is d1.proposer_names d2.reviewer_names) ∙ lists.listed.names));
         draft = subst (IsDraft kind (line + 1)) (sym all) added.1;
@@ -220,10 +211,8 @@ module _ (line capacity : ℕ) (name : Bor (List ℕ)) (entries : List (List ℕ
       let all : d3 ≡ record d { proposer_names = d2.proposer_names; reviewer_names = d.reviewer_names; proposers = d3.proposers; entries = d3.entries } =
       puts.changes ∙ ap (λ (x : Draft). record x { proposers = d3.proposers; entries = d3.entries }) e12 in
       let grown : Grown line d d2.proposer_names d.reviewer_names = record {
-        p_table = lists.listed.table;
-        r_table = draft.reviewer_table;
-        p_more = extends_twice (table_of d.proposer_names).texts (table_of d1.proposer_names).texts (table_of d2.proposer_names).texts declares.declares.extends lists.listed.extends;
-        r_more = record { more = []; appended = sym (append-nil (table_of d.reviewer_names).texts) };
+        p_more = extends_twice d.proposer_names.texts d1.proposer_names.texts d2.proposer_names.texts declares.declares.extends lists.listed.extends;
+        r_more = record { more = []; appended = sym (append-nil d.reviewer_names.texts) };
         p_fresh = λ k. omega (arith, lists.listed.stamps k);
         r_fresh = λ k. omega (arith, draft.reviewers_fresh k);
       } in
@@ -236,8 +225,8 @@ module _ (line capacity : ℕ) (name : Bor (List ℕ)) (entries : List (List ℕ
       (puts.entries ∙ ap (λ (x : Draft). x.entries + length ids.items) e12)
       (within_limits (length d.proposers.items) d.entries (length ids.items) fits) in
       record {
-        faultless = no_fault (table_of d.proposer_names).declared (length d.proposers.items) d.entries (table_of d2.proposer_names).texts declares.is_new lists.listed.differ lists.listed.names fits;
-        said = ap (said_of Roommates) all ∙ added.0 ∙ ap (λ a. with_agent Proposers a (said_of Roommates d)) (same_agent (table_of d2.proposer_names).texts lists.listed.names);
+        faultless = no_fault d.proposer_names.declared (length d.proposers.items) d.entries d2.proposer_names.texts declares.is_new lists.listed.differ lists.listed.names fits;
+        said = ap (said_of Roommates) all ∙ added.0 ∙ ap (λ a. with_agent Proposers a (said_of Roommates d)) (same_agent d2.proposer_names.texts lists.listed.names);
         draft = subst (IsDraft Roommates (line + 1)) (sym all) added.1;
       }
 
@@ -249,24 +238,22 @@ module _ (line capacity : ℕ) (name : Bor (List ℕ)) (entries : List (List ℕ
       let all : d3 ≡ record d { proposer_names = d2.proposer_names; reviewer_names = d1.reviewer_names; reviewers = d3.reviewers; entries = d3.entries } =
       puts.changes ∙ ap (λ (x : Draft). record x { reviewers = d3.reviewers; entries = d3.entries }) e12 in
       let grown : Grown line d d2.proposer_names d1.reviewer_names = record {
-        p_table = lists.listed.table;
-        r_table = declares.declares.table;
-        p_more = subst (λ (x : Draft). Extends (table_of x.proposer_names).texts (table_of d2.proposer_names).texts) e1 lists.listed.extends;
+        p_more = subst (λ (x : Draft). Extends x.proposer_names.texts d2.proposer_names.texts) e1 lists.listed.extends;
         r_more = declares.declares.extends;
         p_fresh = λ k. omega (arith, lists.listed.stamps k);
         r_fresh = λ k. omega (arith, declares.declares.stamps k, draft.reviewers_fresh k);
       } in
       let fits : limit_fault (length d.reviewers.items) d.entries (length ids.items) ≡ None = ap (λ (x : Draft). limit_fault (length x.reviewers.items) x.entries (length ids.items)) (sym e12) ∙ puts.faultless in
       let added = reviewer_added kind line d d2.proposer_names d1.reviewer_names draft grown one d3.reviewers d3.entries
-      (lists.listed.declared ∙ ap (λ (x : Draft). (table_of x.proposer_names).declared) e1)
+      (lists.listed.declared ∙ ap (λ (x : Draft). x.proposer_names.declared) e1)
       declares.declares.declared
       lists.listed.in_range
       (puts.agents ∙ ap (λ (x : Draft). x.reviewers.items ++ one ∷ []) e12)
       (puts.entries ∙ ap (λ (x : Draft). x.entries + length ids.items) e12)
       (within_limits (length d.reviewers.items) d.entries (length ids.items) fits) in
       record {
-        faultless = no_fault (table_of d.reviewer_names).declared (length d.reviewers.items) d.entries (table_of d2.proposer_names).texts declares.is_new lists.listed.differ lists.listed.names fits;
-        said = ap (said_of kind) all ∙ added.0 ∙ ap (λ a. with_agent Reviewers a (said_of kind d)) (same_agent (table_of d2.proposer_names).texts lists.listed.names);
+        faultless = no_fault d.reviewer_names.declared (length d.reviewers.items) d.entries d2.proposer_names.texts declares.is_new lists.listed.differ lists.listed.names fits;
+        said = ap (said_of kind) all ∙ added.0 ∙ ap (λ a. with_agent Reviewers a (said_of kind d)) (same_agent d2.proposer_names.texts lists.listed.names);
         draft = subst (IsDraft kind (line + 1)) (sym all) added.1;
       }
 

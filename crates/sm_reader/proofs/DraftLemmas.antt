@@ -3,9 +3,8 @@ use Rattle.std.proofs.Common.{◌≡◌, ℕ, ◌+◌, ◌≤◌, List, [], ◌�
 use Rattle.sm_instance.specs.declared.kinds.Kind.{Kind}
 use Rattle.sm_instance.specs.declared.kinds.Kind.TheVariants.{Marriage, Hospitals, Roommates}
 use Rattle.sm_instance.specs.Named.{SaidAgent, SaidPair, SaidWeight, Said}
-use Rattle.sm_reader.specs.Kept.{table_of, text_at, Extends, AreBelow}
+use Rattle.sm_reader.specs.Kept.{Table, text_at, Extends, AreBelow}
 use Rattle.sm_reader.specs.Draft.{listed_table, agent_in, pair_in, given_in, AreAgentsBelow, IsPairBelow, ArePairsBelow, pairs_of, IsDraft}
-use Rattle.sm_reader.specs.declared.names.Names.{Names}
 use Rattle.sm_reader.specs.declared.draft.Declared.{Declared}
 use Rattle.sm_reader.specs.declared.draft.Pair.{Pair}
 use Rattle.sm_reader.specs.declared.draft.Weight.{Weight}
@@ -65,7 +64,7 @@ pub said_same : {p p' r r' : List SaidAgent} {w w' : List SaidWeight} {f f' b b'
 said_same e1 e2 e3 e4 e5 = cc
 
 -- the tables of a draft grow
-module _ (kind : Kind) (d : Draft) (pn rn : Names) (more_p : Extends (table_of d.proposer_names).texts (table_of pn).texts) (more_r : Extends (table_of d.reviewer_names).texts (table_of rn).texts) where
+module _ (kind : Kind) (d : Draft) (pn rn : Table) (more_p : Extends d.proposer_names.texts pn.texts) (more_r : Extends d.reviewer_names.texts rn.texts) where
   more_listed : (k : Kind) → Extends (listed_table k d.proposer_names d.reviewer_names).texts (listed_table k pn rn).texts
   more_listed Marriage = more_r
   more_listed Hospitals = more_r
@@ -77,8 +76,6 @@ module _ (kind : Kind) (d : Draft) (pn rn : Names) (more_p : Extends (table_of d
 -- a line that says nothing
 pub draft_later : (kind : Kind) (line : ℕ) (d : Draft) → IsDraft kind line d → IsDraft kind (line + 1) d
 draft_later kind line d draft = record {
-  proposer_table = draft.proposer_table;
-  reviewer_table = draft.reviewer_table;
   proposers_declared = draft.proposers_declared;
   reviewers_declared = draft.reviewers_declared;
   proposers_in = draft.proposers_in;

@@ -9,7 +9,7 @@ use Rattle.std.proofs.lemmas.List.Folds.{list_any-append, list_any_none}
 use Rattle.std.proofs.lemmas.Bool.{false≢true, cases_lt}
 use Rattle.std.proofs.lemmas.Bool.Decides.{nat_tests}
 use Rattle.sm_reader.specs.Judging.{has_repeated}
-use Rattle.sm_reader.specs.Kept.{Table, IsTable, text_at, Extends, AreBelow, IsStamped, HasStamp, IsListed}
+use Rattle.sm_reader.specs.Kept.{Table, text_at, Extends, AreBelow, IsStamped, HasStamp, IsListed}
 use Rattle.sm_reader.proofs.TextLemmas.{same_text, equal_text, other_text}
 use Rattle.sm_reader.proofs.TableLemmas.{distinct_index, cases_eq}
 
@@ -77,7 +77,6 @@ extends_twice a b d first second = record {
 
 -- the first names of a list have their indexes, and they alone have this stamp
 pub record IsListing (first now : Table) (entries : List (List ℕ)) (stamp i : ℕ) (indexes : List ℕ) : Type 0 where
-  pub table : IsTable now
   pub extends : Extends first.texts now.texts
   pub declared : now.declared ≡ first.declared
   pub differ : has_repeated (take i entries) ≡ false
@@ -89,9 +88,9 @@ pub record IsListing (first now : Table) (entries : List (List ℕ)) (stamp i : 
 
 module _ (first now new : Table) (entries : List (List ℕ)) (stamp i : ℕ) (indexes : List ℕ) (name : List ℕ) (some : 0 < stamp) (listing : IsListing first now entries stamp i indexes)
     (inside : i < length entries) (here : get_or entries i [] ≡ name) where
-  stamped_inside : (k : ℕ) → get_or now.stamps k 0 ≡ stamp → k < length now.texts
-  stamped_inside k is = elim (cases_lt k (length now.stamps)) [
-    | inl below ↦ omega (arith, listing.table.stamp_each)
+  stamped_inside : length now.stamps ≡ length now.texts → (k : ℕ) → get_or now.stamps k 0 ≡ stamp → k < length now.texts
+  stamped_inside each k is = elim (cases_lt k (length now.stamps)) [
+    | inl below ↦ omega arith
     | inr past ↦ absurd (omega (arith, get_or_past now.stamps k 0 past))
   ]
 
@@ -105,7 +104,7 @@ module _ (first now new : Table) (entries : List (List ℕ)) (stamp i : ℕ) (in
   pub listing_stuck : HasStamp now new name stamp → has_repeated entries ≡ true
   listing_stuck met =
       let k = met.at in
-      let old : text_at now.texts k ≡ name = sym (text_kept now.texts new.texts k met.extends (stamped_inside k met.stamped)) ∙ met.names in
+      let old : text_at now.texts k ≡ name = sym (text_kept now.texts new.texts k met.extends (stamped_inside met.stamp_each k met.stamped)) ∙ met.names in
       let among : list_any (bytes_eq name) (take i entries) ≡ true = ap (λ x. list_any (bytes_eq x) (take i entries)) (sym old) ∙ listing.stamped k met.stamped in
       ap has_repeated (sym (take-append-drop i entries) ∙ ap (λ x. take i entries ++ x) (drop-cons entries i [] inside ∙ ap (λ x. x ∷ drop (suc i) entries) here))
       ∙ repeated_among (take i entries) (drop (suc i) entries) name among
@@ -125,7 +124,6 @@ module _ (first now new : Table) (entries : List (List ℕ)) (stamp i : ℕ) (in
 
   pub listing_more : (index : ℕ) → IsStamped now new name stamp index → IsListing first new entries stamp (i + 1) (indexes ++ index ∷ [])
   listing_more index met = record {
-    table = met.table;
     extends = extends_twice first.texts now.texts new.texts listing.extends met.extends;
     declared = met.declared ∙ listing.declared;
     differ = ap has_repeated one_more ∙ repeated_push (take i entries) name listing.differ (absent index met);
@@ -141,7 +139,7 @@ module _ (first now new : Table) (entries : List (List ℕ)) (stamp i : ℕ) (in
           | inr other ↦
               let apart : eqb k index ≡ false = grind (arith, nat_tests) in
               let before : get_or now.stamps k 0 ≡ stamp = sym (met.stamps k ∙ ap (λ b. cond b stamp (get_or now.stamps k 0)) apart) ∙ is in
-              ap (λ x. list_any (bytes_eq x) (take i entries) || list_any (bytes_eq (text_at new.texts k)) (name ∷ [])) (text_kept now.texts new.texts k met.extends (stamped_inside k before))
+              ap (λ x. list_any (bytes_eq x) (take i entries) || list_any (bytes_eq (text_at new.texts k)) (name ∷ [])) (text_kept now.texts new.texts k met.extends (stamped_inside met.stamp_each k before))
               ∙ ap (λ t. t || list_any (bytes_eq (text_at new.texts k)) (name ∷ [])) (listing.stamped k before)
         ];
     all = λ j below. elim (cases_lt j i) [
@@ -165,9 +163,8 @@ module _ (first now new : Table) (entries : List (List ℕ)) (stamp i : ℕ) (in
       stamp_there b s e = ap (λ t. cond t stamp s) e
 
 -- no name of a list, and all
-pub listing_none : (t : Table) (entries : List (List ℕ)) (stamp : ℕ) → IsTable t → ((k : ℕ) → get_or t.stamps k 0 < stamp) → IsListing t t entries stamp 0 []
-listing_none t entries stamp table fresh = record {
-  table = table;
+pub listing_none : (t : Table) (entries : List (List ℕ)) (stamp : ℕ) → ((k : ℕ) → get_or t.stamps k 0 < stamp) → IsListing t t entries stamp 0 []
+listing_none t entries stamp fresh = record {
   extends = record { more = []; appended = sym (append-nil t.texts) };
   declared = refl;
   differ = refl;
@@ -182,7 +179,6 @@ pub listing_all : (first now : Table) (entries : List (List ℕ)) (stamp i : ℕ
 listing_all first now entries stamp i indexes listing past =
     let whole = take_all i entries past in
     record {
-      table = listing.table;
       extends = listing.extends;
       declared = listing.declared;
       differ = ap has_repeated (sym whole) ∙ listing.differ;

@@ -1,6 +1,5 @@
 -- Numbers of names, and the first line that names nobody.
 use Rattle.std.proofs.Common.{◌≡◌, ◌≢◌, ℕ, zero, suc, ◌+◌, ◌<◌, ◌≤◌, ◌||◌, Bool, true, false, cond, List, [], ◌∷◌, ◌++◌, length, get_or, set, take, drop, map, min, filter, Option, Some, None, refl, sym, ap, ◌∙◌, subst, append_assoc, arith, ℤ}
-use Rattle.std.specs.Borrow.{Bor}
 use Rattle.std.specs.List.{list_any}
 use Rattle.std.specs.Option.{option_map_or}
 use Rattle.std.proofs.Math.Seq.{drop-cons, get_or-append_seam, set-append_seam}
@@ -15,14 +14,13 @@ use Rattle.sm_instance.specs.declared.kinds.Kind.{Kind}
 use Rattle.sm_instance.specs.declared.kinds.Kind.TheVariants.{Marriage, Hospitals, Roommates}
 use Rattle.sm_instance.specs.Named.{SaidPair, SaidWeight, names_of}
 use Rattle.sm_reader.specs.InstanceText.{lines_with_unknown, pairs_with_unknown, least, unknown_lines, listed_by_proposers, numbered, two_sides}
-use Rattle.sm_reader.specs.Kept.{AreBelow, Table, table_of}
+use Rattle.sm_reader.specs.Kept.{AreBelow, Table}
 use Rattle.sm_reader.specs.Draft.{AreAgentsBelow, IsPairBelow, ArePairsBelow, pairs_of, listed_table, agent_in, pair_in, given_in, said_of, IsDraft}
 use Rattle.sm_reader.specs.Numbering.{lesser, line_if, pair_among, weight_among, NumbersPersons, NumbersSides}
 use Rattle.sm_reader.specs.declared.draft.Declared.{Declared}
 use Rattle.sm_reader.specs.declared.draft.Pair.{Pair}
 use Rattle.sm_reader.specs.declared.draft.Weight.{Weight}
 use Rattle.sm_reader.specs.declared.draft.Draft.{Draft}
-use Rattle.sm_reader.specs.declared.names.Names.{Names}
 use Rattle.sm_reader.specs.declared.numbering.Numbered.{Numbered}
 
 -- the parts of a front of a list, and one more
@@ -113,7 +111,7 @@ weights_below_at n m (x ∷ ws) zero d inside below = inside.0
 weights_below_at n m (x ∷ ws) (suc i) d inside below = weights_below_at n m ws i d inside.1 (omega arith)
 
 -- the lists of persons are numbered among persons, and those of any other kind among reviewers
-pub other_table : (kind : Kind) (pn rn : Names) → kind ≢ Roommates → listed_table kind pn rn ≡ table_of rn
+pub other_table : (kind : Kind) (pn rn : Table) → kind ≢ Roommates → listed_table kind pn rn ≡ rn
 other_table Marriage pn rn other = refl
 other_table Hospitals pn rn other = refl
 other_table Roommates pn rn other = absurd (other refl)
@@ -128,11 +126,11 @@ pairs_in p r [] = refl
 pairs_in p r (w ∷ ws) = ap (λ x. pair_in p r w.pair ∷ x) (pairs_in p r ws)
 
 module _ (kind : Kind) (line : ℕ) (d : Draft) (draft : IsDraft kind line d) where
-  pub proposer_names : names_of (said_of kind d).proposers ≡ (table_of d.proposer_names).declared
+  pub proposer_names : names_of (said_of kind d).proposers ≡ d.proposer_names.declared
   proposer_names = names_in (listed_table kind d.proposer_names d.reviewer_names).texts d.proposers.items ∙ sym draft.proposers_declared
 
-  pub reviewer_names : names_of (said_of kind d).reviewers ≡ (table_of d.reviewer_names).declared
-  reviewer_names = names_in (table_of d.proposer_names).texts d.reviewers.items ∙ sym draft.reviewers_declared
+  pub reviewer_names : names_of (said_of kind d).reviewers ≡ d.reviewer_names.declared
+  reviewer_names = names_in d.proposer_names.texts d.reviewers.items ∙ sym draft.reviewers_declared
 
 -- whom the proposers list
 pub listed_names : (kind : Kind) (line : ℕ) (d : Draft) → IsDraft kind line d → listed_by_proposers kind (said_of kind d) ≡ (listed_table kind d.proposer_names d.reviewer_names).declared
@@ -142,7 +140,7 @@ listed_names Roommates line d draft = proposer_names Roommates line d draft
 
 -- the first line that names an undeclared agent, part by part
 pub unknown_is : (kind : Kind) (line : ℕ) (d : Draft) → IsDraft kind line d
-    → let p = table_of d.proposer_names in let r = table_of d.reviewer_names in let t = listed_table kind d.proposer_names d.reviewer_names in
+    → let p = d.proposer_names in let r = d.reviewer_names in let t = listed_table kind d.proposer_names d.reviewer_names in
     least (unknown_lines kind (said_of kind d)) ≡ lesser (lesser (lesser (lesser
     (least (lines_with_unknown t.declared (map (agent_in t.texts) d.proposers.items)))
     (least (lines_with_unknown p.declared (map (agent_in p.texts) d.reviewers.items))))
@@ -150,8 +148,8 @@ pub unknown_is : (kind : Kind) (line : ℕ) (d : Draft) → IsDraft kind line d
     (least (pairs_with_unknown p.declared r.declared (map (pair_in p.texts r.texts) d.forced.items))))
     (least (pairs_with_unknown p.declared r.declared (map (pair_in p.texts r.texts) d.forbidden.items)))
 unknown_is kind line d draft =
-    let p = table_of d.proposer_names in
-    let r = table_of d.reviewer_names in
+    let p = d.proposer_names in
+    let r = d.reviewer_names in
     let t = listed_table kind d.proposer_names d.reviewer_names in
     let said = said_of kind d in
     let parts = λ (listed ps rs : List (List ℕ)) (ws : List SaidPair). lines_with_unknown listed said.proposers ++ lines_with_unknown ps said.reviewers
@@ -188,8 +186,8 @@ pub sides_said : (kind : Kind) (line : ℕ) (d : Draft) → IsDraft kind line d 
     → written_of kind sides.proposers.items sides.reviewers.items sides.weights.items sides.forced.items sides.forbidden.items ≡ two_sides kind (said_of kind d)
 sides_said kind line d draft other n are =
     let said = said_of kind d in
-    let p = table_of d.proposer_names in
-    let r = table_of d.reviewer_names in
+    let p = d.proposer_names in
+    let r = d.reviewer_names in
     let sides : List (List ℕ) → List (List ℕ) → List (List ℕ) → Written = λ ps rs listed. record {
       kind = kind;
       proposers = map (numbered rs) (map (agent_in listed) d.proposers.items);
@@ -211,10 +209,9 @@ sides_said kind line d draft other n are =
     five k h1 h2 h3 h4 h5 = cc
 
 -- few names are declared
-pub few_names : (kind : Kind) (line : ℕ) (d : Draft) → IsDraft kind line d → (length d.proposer_names.declared.items ≤ most_agents) × (length d.reviewer_names.declared.items ≤ most_agents)
+pub few_names : (kind : Kind) (line : ℕ) (d : Draft) → IsDraft kind line d → (length d.proposer_names.declared ≤ most_agents) × (length d.reviewer_names.declared ≤ most_agents)
 few_names kind line d draft =
-    let name = λ (a : Declared). a.name.now in
-    let text = λ (x : Bor (List ℕ)). x.now in (
-      omega (arith, ap length draft.proposers_declared, length-map d.proposers.items name, length-map d.proposer_names.declared.items text, draft.proposers_fit),
-      omega (arith, ap length draft.reviewers_declared, length-map d.reviewers.items name, length-map d.reviewer_names.declared.items text, draft.reviewers_fit),
+    let name = λ (a : Declared). a.name.now in (
+      omega (arith, ap length draft.proposers_declared, length-map d.proposers.items name, draft.proposers_fit),
+      omega (arith, ap length draft.reviewers_declared, length-map d.reviewers.items name, draft.reviewers_fit),
     )

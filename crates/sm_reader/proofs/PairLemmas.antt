@@ -17,7 +17,7 @@ use Rattle.sm_reader.specs.declared.forms.Condition.{Condition}
 use Rattle.sm_reader.specs.declared.forms.Condition.TheVariants.{Force, Forbid}
 use Rattle.sm_reader.specs.Forms.{declares, weighs, binds}
 use Rattle.sm_reader.specs.Judging.{fault_of, said_with, with_agent, weight_in}
-use Rattle.sm_reader.specs.Kept.{table_of, text_at}
+use Rattle.sm_reader.specs.Kept.{text_at}
 use Rattle.sm_reader.specs.Draft.{listed_table, agent_in, pair_in, given_in, said_of, IsPairBelow, ArePairsBelow, pairs_of, key_of, IsDraft, Adds, AddsAgent, IsChecked, IsLineFault, RefusesFor, run_fault, name_fault, weight_fault, weights_in, table_on, declared_on, PairsOf, PutsWeight, PutsPair, Binds}
 use Rattle.sm_reader.specs.declared.draft.Declared.{Declared}
 use Rattle.sm_reader.specs.declared.draft.Pair.{Pair}
@@ -35,21 +35,19 @@ use Rattle.sm_reader.proofs.AddLemmas.{Grown}
 module _ (kind : Kind) (line : ℕ) (d mid : Draft) (proposer reviewer : List ℕ) (pair : Pair) (draft : IsDraft kind line d) (paired : PairsOf d mid proposer reviewer line pair) where
   grown_pair : Grown line d mid.proposer_names mid.reviewer_names
   grown_pair = record {
-    p_table = paired.named_proposer.table;
-    r_table = paired.named_reviewer.table;
     p_more = paired.named_proposer.extends;
     r_more = paired.named_reviewer.extends;
     p_fresh = λ k. omega (arith, paired.named_proposer.stamps k, draft.proposers_fresh k);
     r_fresh = λ k. omega (arith, paired.named_reviewer.stamps k, draft.reviewers_fresh k);
   }
 
-  pair_is : let said : SaidPair = record { proposer = proposer; reviewer = reviewer; line = line } in pair_in (table_of mid.proposer_names).texts (table_of mid.reviewer_names).texts pair ≡ said
+  pair_is : let said : SaidPair = record { proposer = proposer; reviewer = reviewer; line = line } in pair_in mid.proposer_names.texts mid.reviewer_names.texts pair ≡ said
   pair_is =
-      ap (λ t. record { proposer = t; reviewer = text_at (table_of mid.reviewer_names).texts pair.reviewer; line = pair.line }) paired.named_proposer.names
+      ap (λ t. record { proposer = t; reviewer = text_at mid.reviewer_names.texts pair.reviewer; line = pair.line }) paired.named_proposer.names
       ∙ ap (λ t. record { proposer = proposer; reviewer = t; line = pair.line }) paired.named_reviewer.names
       ∙ ap (λ n. record { proposer = proposer; reviewer = reviewer; line = n }) paired.on_line
 
-  pair_below : IsPairBelow (length (table_of mid.proposer_names).texts) (length (table_of mid.reviewer_names).texts) pair
+  pair_below : IsPairBelow (length mid.proposer_names.texts) (length mid.reviewer_names.texts) pair
   pair_below = record { proposer = paired.named_proposer.in_range; reviewer = paired.named_reviewer.in_range }
 
   -- a draft with further pairs
@@ -60,39 +58,37 @@ module _ (kind : Kind) (line : ℕ) (d mid : Draft) (proposer reviewer : List �
   agents_same = agents_kept (listed_table kind d.proposer_names d.reviewer_names).texts (listed_table kind mid.proposer_names mid.reviewer_names).texts d.proposers.items
       (listed_more kind d mid.proposer_names mid.reviewer_names grown_pair.p_more grown_pair.r_more) draft.proposers_in
 
-  others_same : map (agent_in (table_of mid.proposer_names).texts) d.reviewers.items ≡ (said_of kind d).reviewers
-  others_same = agents_kept (table_of d.proposer_names).texts (table_of mid.proposer_names).texts d.reviewers.items grown_pair.p_more draft.reviewers_in
+  others_same : map (agent_in mid.proposer_names.texts) d.reviewers.items ≡ (said_of kind d).reviewers
+  others_same = agents_kept d.proposer_names.texts mid.proposer_names.texts d.reviewers.items grown_pair.p_more draft.reviewers_in
 
-  weights_same : map (given_in (table_of mid.proposer_names).texts (table_of mid.reviewer_names).texts) d.weights.items ≡ (said_of kind d).weights
-  weights_same = weights_kept (table_of d.proposer_names).texts (table_of mid.proposer_names).texts (table_of d.reviewer_names).texts (table_of mid.reviewer_names).texts
+  weights_same : map (given_in mid.proposer_names.texts mid.reviewer_names.texts) d.weights.items ≡ (said_of kind d).weights
+  weights_same = weights_kept d.proposer_names.texts mid.proposer_names.texts d.reviewer_names.texts mid.reviewer_names.texts
       grown_pair.p_more grown_pair.r_more d.weights.items draft.weights_in
 
-  pairs_same : (xs : List Pair) → ArePairsBelow (length (table_of d.proposer_names).texts) (length (table_of d.reviewer_names).texts) xs
-      → map (pair_in (table_of mid.proposer_names).texts (table_of mid.reviewer_names).texts) xs ≡ map (pair_in (table_of d.proposer_names).texts (table_of d.reviewer_names).texts) xs
-  pairs_same xs inside = pairs_kept (table_of d.proposer_names).texts (table_of mid.proposer_names).texts (table_of d.reviewer_names).texts (table_of mid.reviewer_names).texts
+  pairs_same : (xs : List Pair) → ArePairsBelow (length d.proposer_names.texts) (length d.reviewer_names.texts) xs
+      → map (pair_in mid.proposer_names.texts mid.reviewer_names.texts) xs ≡ map (pair_in d.proposer_names.texts d.reviewer_names.texts) xs
+  pairs_same xs inside = pairs_kept d.proposer_names.texts mid.proposer_names.texts d.reviewer_names.texts mid.reviewer_names.texts
       grown_pair.p_more grown_pair.r_more xs inside
 
-  below_still : (xs : List Pair) → ArePairsBelow (length (table_of d.proposer_names).texts) (length (table_of d.reviewer_names).texts) xs
-      → ArePairsBelow (length (table_of mid.proposer_names).texts) (length (table_of mid.reviewer_names).texts) xs
-  below_still xs inside = pairs_below_more (table_of d.proposer_names).texts (table_of mid.proposer_names).texts (table_of d.reviewer_names).texts (table_of mid.reviewer_names).texts
+  below_still : (xs : List Pair) → ArePairsBelow (length d.proposer_names.texts) (length d.reviewer_names.texts) xs
+      → ArePairsBelow (length mid.proposer_names.texts) (length mid.reviewer_names.texts) xs
+  below_still xs inside = pairs_below_more d.proposer_names.texts mid.proposer_names.texts d.reviewer_names.texts mid.reviewer_names.texts
       grown_pair.p_more grown_pair.r_more xs inside
 
   draft_with_pairs : (e : Draft)
-      → (let p = length (table_of mid.proposer_names).texts in let r = length (table_of mid.reviewer_names).texts in
+      → (let p = length mid.proposer_names.texts in let r = length mid.reviewer_names.texts in
       ArePairsBelow p r (pairs_of e.weights.items) → ArePairsBelow p r e.forced.items → ArePairsBelow p r e.forbidden.items
       → keys e.weighed ≡ map key_of e.weights.items
       → length e.weights.items + length e.forced.items + length e.forbidden.items ≤ length d.weights.items + length d.forced.items + length d.forbidden.items + 1
       → IsDraft kind (line + 1) (with_pairs e))
   draft_with_pairs e ws fs bs weighed count = record {
-    proposer_table = grown_pair.p_table;
-    reviewer_table = grown_pair.r_table;
     proposers_declared = paired.named_proposer.declared ∙ draft.proposers_declared;
     reviewers_declared = paired.named_reviewer.declared ∙ draft.reviewers_declared;
     proposers_in = agents_below_more (length (listed_table kind d.proposer_names d.reviewer_names).texts) (length (listed_table kind mid.proposer_names mid.reviewer_names).texts) d.proposers.items
         (extends_long (listed_table kind d.proposer_names d.reviewer_names).texts (listed_table kind mid.proposer_names mid.reviewer_names).texts
         (listed_more kind d mid.proposer_names mid.reviewer_names grown_pair.p_more grown_pair.r_more)) draft.proposers_in;
-    reviewers_in = agents_below_more (length (table_of d.proposer_names).texts) (length (table_of mid.proposer_names).texts) d.reviewers.items
-        (extends_long (table_of d.proposer_names).texts (table_of mid.proposer_names).texts grown_pair.p_more) draft.reviewers_in;
+    reviewers_in = agents_below_more (length d.proposer_names.texts) (length mid.proposer_names.texts) d.reviewers.items
+        (extends_long d.proposer_names.texts mid.proposer_names.texts grown_pair.p_more) draft.reviewers_in;
     weights_in = ws;
     forced_in = fs;
     forbidden_in = bs;
@@ -108,20 +104,20 @@ module _ (kind : Kind) (line : ℕ) (d mid : Draft) (proposer reviewer : List �
   }
 
   -- what is said, and that it is in range, where the pair stands behind others
-  pushed_said : (xs ys : List Pair) → ArePairsBelow (length (table_of d.proposer_names).texts) (length (table_of d.reviewer_names).texts) xs → ys ≡ xs ++ pair ∷ []
+  pushed_said : (xs ys : List Pair) → ArePairsBelow (length d.proposer_names.texts) (length d.reviewer_names.texts) xs → ys ≡ xs ++ pair ∷ []
       → let one : SaidPair = record { proposer = proposer; reviewer = reviewer; line = line } in
-      map (pair_in (table_of mid.proposer_names).texts (table_of mid.reviewer_names).texts) ys
-      ≡ map (pair_in (table_of d.proposer_names).texts (table_of d.reviewer_names).texts) xs ++ one ∷ []
+      map (pair_in mid.proposer_names.texts mid.reviewer_names.texts) ys
+      ≡ map (pair_in d.proposer_names.texts d.reviewer_names.texts) xs ++ one ∷ []
   pushed_said xs ys inside pushed =
-      let said = pair_in (table_of mid.proposer_names).texts (table_of mid.reviewer_names).texts in
+      let said = pair_in mid.proposer_names.texts mid.reviewer_names.texts in
       ap (map said) pushed ∙ map_push said xs pair ∙ ap (λ zs. zs ++ said pair ∷ []) (pairs_same xs inside)
-      ∙ ap (λ x. map (pair_in (table_of d.proposer_names).texts (table_of d.reviewer_names).texts) xs ++ x ∷ []) pair_is
+      ∙ ap (λ x. map (pair_in d.proposer_names.texts d.reviewer_names.texts) xs ++ x ∷ []) pair_is
 
-  pushed_below : (xs ys : List Pair) → ArePairsBelow (length (table_of d.proposer_names).texts) (length (table_of d.reviewer_names).texts) xs → ys ≡ xs ++ pair ∷ []
-      → ArePairsBelow (length (table_of mid.proposer_names).texts) (length (table_of mid.reviewer_names).texts) ys
+  pushed_below : (xs ys : List Pair) → ArePairsBelow (length d.proposer_names.texts) (length d.reviewer_names.texts) xs → ys ≡ xs ++ pair ∷ []
+      → ArePairsBelow (length mid.proposer_names.texts) (length mid.reviewer_names.texts) ys
   pushed_below xs ys inside pushed =
-      let p = length (table_of mid.proposer_names).texts in
-      let r = length (table_of mid.reviewer_names).texts in
+      let p = length mid.proposer_names.texts in
+      let r = length mid.reviewer_names.texts in
       subst (ArePairsBelow p r) (sym pushed) (pairs_below_push p r xs pair (below_still xs inside) pair_below)
 
   -- something is asked of a pair
@@ -173,8 +169,8 @@ weight_added kind line d new proposer reviewer run draft puts =
     let mid = puts.mid in
     let w = puts.added in
     let e : Draft = record d { weights = new.weights; weighed = new.weighed } in
-    let q = (table_of mid.proposer_names).texts in
-    let s = (table_of mid.reviewer_names).texts in
+    let q = mid.proposer_names.texts in
+    let s = mid.reviewer_names.texts in
     let paired = puts.paired in
     let all : new ≡ with_pairs kind line d mid proposer reviewer w.pair draft paired e = puts.changes ∙ ap (λ (x : Draft). record x { weights = new.weights; weighed = new.weighed }) paired.changes in
     let pushed : new.weights.items ≡ d.weights.items ++ w ∷ [] = puts.weights ∙ ap (λ (x : Draft). x.weights.items ++ w ∷ []) paired.changes in
@@ -227,13 +223,13 @@ name_fault_same : (kind : Kind) (line : ℕ) (d : Draft) (side : Side) (name : L
 name_fault_same kind line d Proposers name entries draft =
     let texts = (listed_table kind d.proposer_names d.reviewer_names).texts in
     ap (λ x. name_fault x name entries (length (said_of kind d).proposers) (all_entries (said_of kind d))) (names_in texts d.proposers.items ∙ sym draft.proposers_declared)
-    ∙ ap (λ n. name_fault (table_of d.proposer_names).declared name entries n (all_entries (said_of kind d))) (length-map d.proposers.items (agent_in texts))
-    ∙ ap (λ n. name_fault (table_of d.proposer_names).declared name entries (length d.proposers.items) n) (sym draft.counted)
+    ∙ ap (λ n. name_fault d.proposer_names.declared name entries n (all_entries (said_of kind d))) (length-map d.proposers.items (agent_in texts))
+    ∙ ap (λ n. name_fault d.proposer_names.declared name entries (length d.proposers.items) n) (sym draft.counted)
 name_fault_same kind line d Reviewers name entries draft =
-    let texts = (table_of d.proposer_names).texts in
+    let texts = d.proposer_names.texts in
     ap (λ x. name_fault x name entries (length (said_of kind d).reviewers) (all_entries (said_of kind d))) (names_in texts d.reviewers.items ∙ sym draft.reviewers_declared)
-    ∙ ap (λ n. name_fault (table_of d.reviewer_names).declared name entries n (all_entries (said_of kind d))) (length-map d.reviewers.items (agent_in texts))
-    ∙ ap (λ n. name_fault (table_of d.reviewer_names).declared name entries (length d.reviewers.items) n) (sym draft.counted)
+    ∙ ap (λ n. name_fault d.reviewer_names.declared name entries n (all_entries (said_of kind d))) (length-map d.reviewers.items (agent_in texts))
+    ∙ ap (λ n. name_fault d.reviewer_names.declared name entries (length d.reviewers.items) n) (sym draft.counted)
 
 module _ (kind : Kind) (line : ℕ) (d : Draft) (side : Side) (name : List ℕ) (capacity : Option (List ℕ)) (entries : List (List ℕ)) (draft : IsDraft kind line d) where
   -- an agent's line whose runs are right has the faults of names and limits
@@ -272,15 +268,15 @@ pair_refused said line condition p r OutOfMemory h = tt
 
 -- a pair is weighed already, by index and by name
 pub weight_met : (d mid : Draft) (p r : List ℕ) (line : ℕ) (pair : Pair) → PairsOf d mid p r line pair
-    → ArePairsBelow (length (table_of d.proposer_names).texts) (length (table_of d.reviewer_names).texts) (pairs_of d.weights.items) → keys d.weighed ≡ map key_of d.weights.items
+    → ArePairsBelow (length d.proposer_names.texts) (length d.reviewer_names.texts) (pairs_of d.weights.items) → keys d.weighed ≡ map key_of d.weights.items
     → list_any (λ (k : ℕ × ℕ). eqb pair.proposer k.0 && eqb pair.reviewer k.1) (keys mid.weighed) ≡ list_any (is_given_to p r) (weights_in d)
 weight_met d mid p r line pair paired inside weighed =
     let a = paired.named_proposer in
     let b = paired.named_reviewer in
-    let q = (table_of mid.proposer_names).texts in
-    let s = (table_of mid.reviewer_names).texts in
-    let old_p = (table_of d.proposer_names).texts in
-    let old_r = (table_of d.reviewer_names).texts in
+    let q = mid.proposer_names.texts in
+    let s = mid.reviewer_names.texts in
+    let old_p = d.proposer_names.texts in
+    let old_r = d.reviewer_names.texts in
     let still = pairs_below_more old_p q old_r s a.extends b.extends (pairs_of d.weights.items) inside in
     ap (list_any (λ (k : ℕ × ℕ). eqb pair.proposer k.0 && eqb pair.reviewer k.1)) (ap (λ (x : Draft). keys x.weighed) paired.changes ∙ weighed)
     ∙ weighed_same q s pair.proposer pair.reviewer d.weights.items a.table.distinct b.table.distinct a.in_range b.in_range still

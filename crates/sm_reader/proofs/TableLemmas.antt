@@ -52,6 +52,7 @@ interned_new t n name i table absent texts numbers stamps declared index =
     let none : position (bytes_eq name) t.declared ≡ None = position-none (bytes_eq name) t.declared (undeclared t name table absent) in
     let last : text_at n.texts (length t.texts) ≡ name = ap (λ x. text_at x (length t.texts)) texts ∙ get_or-append_seam t.texts name [] [] in
     record {
+      was = table;
       table = record {
         number_each = let none : Option ℕ = None in omega (arith, ap length numbers, length_push t.numbers none, table.number_each);
         stamp_each = omega (arith, ap length stamps, length_push t.stamps 0, table.stamp_each);
@@ -89,6 +90,7 @@ pub interned_old : (t n : Table) (name : List ℕ) (i : ℕ) → IsTable t → l
     → n.texts ≡ t.texts → n.numbers ≡ t.numbers → n.stamps ≡ t.stamps → n.declared ≡ t.declared
     → i ≡ position_or_len (bytes_eq name) t.texts → Interns t n name i
 interned_old t n name i table there texts numbers stamps declared index = record {
+  was = table;
   table = record {
     number_each = ap length numbers ∙ table.number_each ∙ ap length (sym texts);
     stamp_each = ap length stamps ∙ table.stamp_each ∙ ap length (sym texts);
@@ -107,6 +109,7 @@ interned_old t n name i table there texts numbers stamps declared index = record
 -- a name that stands at an index has it
 pub interned_at : (t : Table) (name : List ℕ) (i : ℕ) → IsTable t → i < length t.texts → text_at t.texts i ≡ name → Interns t t name i
 interned_at t name i table inside names = record {
+  was = table;
   table = table;
   extends = record { more = []; appended = sym (append-nil t.texts) };
   declared = refl;
@@ -184,6 +187,7 @@ pub stamped_new : (t m n : Table) (name : List ℕ) (stamp i : ℕ) → Interns 
 stamped_new t m n name stamp i at unstamped texts numbers stamps declared =
     let table = at.table in
     record {
+      stamp_each = at.was.stamp_each;
       table = record {
         number_each = ap length numbers ∙ table.number_each ∙ ap length (sym texts);
         stamp_each = ap length stamps ∙ length-set m.stamps i stamp ∙ table.stamp_each ∙ ap length (sym texts);

@@ -14,8 +14,7 @@ use Rattle.sm_instance.specs.declared.kinds.Side.TheVariants.{Proposers, Reviewe
 use Rattle.sm_instance.specs.Named.{SaidAgent, SaidPair, SaidWeight, Said, all_entries}
 use Rattle.sm_reader.specs.Forms.{Form, declares, weighs, binds}
 use Rattle.sm_reader.specs.Judging.{Verdict, goes, stops, refuses, first_fault, run_rows, name_rows, limit_rows, weight_rows, capacity_in, weight_in, fault_of, with_agent, said_with, verdict_on}
-use Rattle.sm_reader.specs.Kept.{texts_of, Table, table_of, text_at, IsTable, AreBelow, Interns, Declares, IsListed}
-use Rattle.sm_reader.specs.declared.names.Names.{Names}
+use Rattle.sm_reader.specs.Kept.{texts_of, Table, text_at, AreBelow, Interns, Declares, IsListed}
 use Rattle.sm_reader.specs.declared.draft.Declared.{Declared}
 use Rattle.sm_reader.specs.declared.draft.Pair.{Pair}
 use Rattle.sm_reader.specs.declared.draft.Weight.{Weight}
@@ -42,10 +41,10 @@ entries_in (weighs proposer reviewer weight) = []
 entries_in (binds condition proposer reviewer) = []
 
 -- the names of whom the proposers list: of the reviewers, and in roommates of the persons
-abbrev pub listed_table : Kind → Names → Names → Table
-listed_table Marriage proposers reviewers = table_of reviewers
-listed_table Hospitals proposers reviewers = table_of reviewers
-listed_table Roommates proposers reviewers = table_of proposers
+abbrev pub listed_table : Kind → Table → Table → Table
+listed_table Marriage proposers reviewers = reviewers
+listed_table Hospitals proposers reviewers = reviewers
+listed_table Roommates proposers reviewers = proposers
 
 -- the side that the agents of a side list
 abbrev pub listed_side : Kind → Side → Side
@@ -67,8 +66,8 @@ given_in proposers reviewers w = record { pair = pair_in proposers reviewers w.p
 -- what a draft says
 abbrev pub said_of : Kind → Draft → Said
 said_of kind d =
-    let proposers = (table_of d.proposer_names).texts in
-    let reviewers = (table_of d.reviewer_names).texts in
+    let proposers = d.proposer_names.texts in
+    let reviewers = d.reviewer_names.texts in
     record {
       proposers = map (agent_in (listed_table kind d.proposer_names d.reviewer_names).texts) d.proposers.items;
       reviewers = map (agent_in proposers) d.reviewers.items;
@@ -100,22 +99,20 @@ key_of w = (w.pair.proposer, w.pair.reviewer)
 -- have a weight, and its entries counted. Limits are kept, and no name has the stamp of this line. There are fewer pairs
 -- than lines.
 pub record IsDraft (kind : Kind) (line : ℕ) (d : Draft) : Type 0 where
-  pub proposer_table : IsTable (table_of d.proposer_names)
-  pub reviewer_table : IsTable (table_of d.reviewer_names)
-  pub proposers_declared : (table_of d.proposer_names).declared ≡ map (λ (a : Declared). a.name.now) d.proposers.items
-  pub reviewers_declared : (table_of d.reviewer_names).declared ≡ map (λ (a : Declared). a.name.now) d.reviewers.items
+  pub proposers_declared : d.proposer_names.declared ≡ map (λ (a : Declared). a.name.now) d.proposers.items
+  pub reviewers_declared : d.reviewer_names.declared ≡ map (λ (a : Declared). a.name.now) d.reviewers.items
   pub proposers_in : AreAgentsBelow (length (listed_table kind d.proposer_names d.reviewer_names).texts) d.proposers.items
-  pub reviewers_in : AreAgentsBelow (length (table_of d.proposer_names).texts) d.reviewers.items
-  pub weights_in : ArePairsBelow (length (table_of d.proposer_names).texts) (length (table_of d.reviewer_names).texts) (pairs_of d.weights.items)
-  pub forced_in : ArePairsBelow (length (table_of d.proposer_names).texts) (length (table_of d.reviewer_names).texts) d.forced.items
-  pub forbidden_in : ArePairsBelow (length (table_of d.proposer_names).texts) (length (table_of d.reviewer_names).texts) d.forbidden.items
+  pub reviewers_in : AreAgentsBelow (length d.proposer_names.texts) d.reviewers.items
+  pub weights_in : ArePairsBelow (length d.proposer_names.texts) (length d.reviewer_names.texts) (pairs_of d.weights.items)
+  pub forced_in : ArePairsBelow (length d.proposer_names.texts) (length d.reviewer_names.texts) d.forced.items
+  pub forbidden_in : ArePairsBelow (length d.proposer_names.texts) (length d.reviewer_names.texts) d.forbidden.items
   pub weighed : keys d.weighed ≡ map key_of d.weights.items
   pub counted : d.entries ≡ all_entries (said_of kind d)
   pub entries_fit : d.entries ≤ most_entries
   pub proposers_fit : length d.proposers.items ≤ most_agents
   pub reviewers_fit : length d.reviewers.items ≤ most_agents
-  pub proposers_fresh : (k : ℕ) → slice_index d.proposer_names.stamps.items k < line
-  pub reviewers_fresh : (k : ℕ) → slice_index d.reviewer_names.stamps.items k < line
+  pub proposers_fresh : (k : ℕ) → slice_index d.proposer_names.stamps k < line
+  pub reviewers_fresh : (k : ℕ) → slice_index d.reviewer_names.stamps k < line
   pub few : length d.weights.items + length d.forced.items + length d.forbidden.items + 1 < line
 
 -- a line is refused for this fault, if there is one; want of memory says nothing
@@ -156,8 +153,8 @@ pub record IsChecked (name : List ℕ) (capacity : Option (List ℕ)) (entries :
 
 -- the table of a side and its agents
 abbrev pub table_on : Side → Draft → Table
-table_on Proposers d = table_of d.proposer_names
-table_on Reviewers d = table_of d.reviewer_names
+table_on Proposers d = d.proposer_names
+table_on Reviewers d = d.reviewer_names
 
 abbrev pub declared_on : Side → Draft → List Declared
 declared_on Proposers d = d.proposers.items
@@ -199,14 +196,14 @@ RefusesFor kind line P OutOfMemory = Unit {0}
 -- the pair of two names, which have indexes on their sides
 pub record PairsOf (old new : Draft) (proposer reviewer : List ℕ) (line : ℕ) (pair : Pair) : Type 0 where
   pub are_names : list_all is_name (proposer ∷ reviewer ∷ []) ≡ true
-  pub named_proposer : Interns (table_of old.proposer_names) (table_of new.proposer_names) proposer pair.proposer
-  pub named_reviewer : Interns (table_of old.reviewer_names) (table_of new.reviewer_names) reviewer pair.reviewer
+  pub named_proposer : Interns old.proposer_names new.proposer_names proposer pair.proposer
+  pub named_reviewer : Interns old.reviewer_names new.reviewer_names reviewer pair.reviewer
   pub on_line : pair.line ≡ line
   pub changes : new ≡ record old { proposer_names = new.proposer_names; reviewer_names = new.reviewer_names }
 
 -- what draft says of weights
 abbrev pub weights_in : Draft → List SaidWeight
-weights_in d = map (given_in (table_of d.proposer_names).texts (table_of d.reviewer_names).texts) d.weights.items
+weights_in d = map (given_in d.proposer_names.texts d.reviewer_names.texts) d.weights.items
 
 abbrev pub weight_fault : List SaidWeight → List ℕ → List ℕ → List ℕ → Option RefusalKind
 weight_fault weights proposer reviewer weight = first_fault (weight_rows weights proposer reviewer weight)

@@ -5,12 +5,10 @@ use Rattle.std.specs.Borrow.{Bor}
 use Rattle.std.specs.Str.{bytes_eq}
 use Rattle.std.specs.declared.alloc.Global.{Global}
 use Rattle.std.specs.Prelude.{Vec, ◌+◌}
-use Rattle.indexmap.specs.IndexSet.{keys}
 use Rattle.sm_text.specs.Lines.{lines, first_line, content}
 use Rattle.sm_text.specs.Name.{is_name}
 use Rattle.sm_reader.specs.Judging.{has_repeated}
 use Rattle.sm_reader.specs.declared.keys.Key.{Key}
-use Rattle.sm_reader.specs.declared.names.Names.{Names}
 
 -- what slices hold
 abbrev pub texts_of : List (Bor (List ℕ)) → List (List ℕ)
@@ -44,8 +42,8 @@ pub record Table : Type 0 where
   pub stamps : List ℕ
   pub declared : List (List ℕ)
 
-abbrev pub table_of : Names → Table
-table_of names = record { texts = key_texts (keys names.texts); numbers = names.numbers.items; stamps = names.stamps.items; declared = texts_of names.declared.items }
+abbrev pub table_from : List Key → List (Option ℕ) → List ℕ → List (Bor (List ℕ)) → Table
+table_from keys numbers stamps declared = record { texts = key_texts keys; numbers = numbers; stamps = stamps; declared = texts_of declared }
 
 abbrev pub no_names : Table
 no_names = record { texts = []; numbers = []; stamps = []; declared = [] }
@@ -69,6 +67,7 @@ pub record Extends (old new : List (List ℕ)) : Type 0 where
 
 -- a name has an index now; no stamp has changed
 pub record Interns (old new : Table) (name : List ℕ) (i : ℕ) : Type 0 where
+  pub was : IsTable old
   pub table : IsTable new
   pub extends : Extends old.texts new.texts
   pub declared : new.declared ≡ old.declared
@@ -86,6 +85,7 @@ pub record Declares (old new : Table) (name : List ℕ) (added : Bool) : Type 0 
 
 -- a name that hadn't this stamp has an index and the stamp
 pub record IsStamped (old new : Table) (name : List ℕ) (stamp i : ℕ) : Type 0 where
+  pub stamp_each : length old.stamps ≡ length old.texts
   pub table : IsTable new
   pub extends : Extends old.texts new.texts
   pub declared : new.declared ≡ old.declared
@@ -96,6 +96,7 @@ pub record IsStamped (old new : Table) (name : List ℕ) (stamp i : ℕ) : Type 
 
 -- a name has this stamp
 pub record HasStamp (old new : Table) (name : List ℕ) (stamp : ℕ) : Type 0 where
+  pub stamp_each : length old.stamps ≡ length old.texts
   pub at : ℕ
   pub extends : Extends old.texts new.texts
   pub names : text_at new.texts at ≡ name
@@ -112,7 +113,6 @@ AreBelow n (i ∷ is) = (i < n) × AreBelow n is
 
 -- the names of a list, which differ, have indexes
 pub record IsListed (old new : Table) (entries : List (List ℕ)) (stamp : ℕ) (indexes : List ℕ) : Type 0 where
-  pub table : IsTable new
   pub extends : Extends old.texts new.texts
   pub declared : new.declared ≡ old.declared
   pub differ : has_repeated entries ≡ false

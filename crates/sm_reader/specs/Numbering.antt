@@ -6,7 +6,6 @@ use Rattle.sm_instance.specs.declared.agents.Agent.{Agent}
 use Rattle.sm_instance.specs.Vectors.{agents_of}
 use Rattle.sm_instance.specs.Named.{SaidPair, SaidWeight}
 use Rattle.sm_reader.specs.InstanceText.{number_in, numbered, unknown_lines, least}
-use Rattle.sm_reader.specs.Kept.{table_of}
 use Rattle.sm_reader.specs.Draft.{IsDraft, said_of, agent_in, pair_in, given_in}
 use Rattle.sm_reader.specs.Right.{IsRight}
 use Rattle.sm_text.specs.Limits.{most_bytes, most_agents}
@@ -46,24 +45,24 @@ pub record IsTwoSided (d : Draft) : Type 0 where
   pub line : ℕ
   pub two_sided : kind ≢ Roommates
   pub draft : IsDraft kind line d
-  pub few_proposers : length d.proposer_names.declared.items ≤ most_agents
-  pub few_reviewers : length d.reviewer_names.declared.items ≤ most_agents
+  pub few_proposers : length d.proposer_names.declared ≤ most_agents
+  pub few_reviewers : length d.reviewer_names.declared ≤ most_agents
 
 -- the persons of a draft by number
 abbrev pub NumbersPersons : Draft → List Agent → Type 0
 NumbersPersons d persons =
-    let t = table_of d.proposer_names in
+    let t = d.proposer_names in
     agents_of persons ≡ map (numbered t.declared) (map (agent_in t.texts) d.proposers.items)
 
 -- the two sides of a draft by number, with its weights and conditions
 pub record NumbersSides (d : Draft) (sides : Numbered) : Type 0 where
-  pub proposers : let r = table_of d.reviewer_names in agents_of sides.proposers.items ≡ map (numbered r.declared) (map (agent_in r.texts) d.proposers.items)
-  pub reviewers : let p = table_of d.proposer_names in agents_of sides.reviewers.items ≡ map (numbered p.declared) (map (agent_in p.texts) d.reviewers.items)
-  pub weights : let p = table_of d.proposer_names in let r = table_of d.reviewer_names in
+  pub proposers : let r = d.reviewer_names in agents_of sides.proposers.items ≡ map (numbered r.declared) (map (agent_in r.texts) d.proposers.items)
+  pub reviewers : let p = d.proposer_names in agents_of sides.reviewers.items ≡ map (numbered p.declared) (map (agent_in p.texts) d.reviewers.items)
+  pub weights : let p = d.proposer_names in let r = d.reviewer_names in
       sides.weights.items ≡ map (weight_among p.declared r.declared) (map (given_in p.texts r.texts) d.weights.items)
-  pub forced : let p = table_of d.proposer_names in let r = table_of d.reviewer_names in
+  pub forced : let p = d.proposer_names in let r = d.reviewer_names in
       sides.forced.items ≡ map (pair_among p.declared r.declared) (map (pair_in p.texts r.texts) d.forced.items)
-  pub forbidden : let p = table_of d.proposer_names in let r = table_of d.reviewer_names in
+  pub forbidden : let p = d.proposer_names in let r = d.reviewer_names in
       sides.forbidden.items ≡ map (pair_among p.declared r.declared) (map (pair_in p.texts r.texts) d.forbidden.items)
 
 -- the first line that names an undeclared agent is refused

@@ -9,13 +9,12 @@ ghost use Rattle.sm_text.specs.Limits.{most_agents, most_entries};
 ghost use Rattle.sm_text.specs.Name.{is_name as is_a_name};
 ghost use Rattle.sm_reader.specs.Forms.{is_bad};
 ghost use Rattle.sm_reader.specs.Judging.{verdict_on, fault_of, has_repeated};
-ghost use Rattle.sm_reader.specs.Kept.{texts_of, table_of, IsTable, AreNamesAtEnd};
+ghost use Rattle.sm_reader.specs.Kept.{texts_of, AreNamesAtEnd};
 ghost use Rattle.sm_reader.specs.Draft.{said_of, form_of, entries_in, listed_side, table_on, declared_on, IsDraft, Adds, Judges, IsRefusedBy, IsLineFault, run_fault, name_fault, limit_fault, IsChecked, DeclaresOn, ListsOn, PutsOn, RefusesFor, PairsOf, AddsAgent, ArePairsBelow, pairs_of, key_of, weights_in, weight_fault, PutsWeight, PutsPair, Binds};
 
 use crate::draft::{Declared, Draft, Pair, Weight};
 use crate::faults::TextFault;
 use crate::forms::{Condition, Form, form_behind, is_end};
-use crate::names::list;
 use crate::tokens::Found;
 use sm_instance::{Kind, Side};
 use sm_text::{
@@ -198,7 +197,6 @@ fn declare<'a>(
     name: &'a [u8],
     line: u32,
 ) -> Result<(), TextFault>
-    requires table { IsTable (table_on side draft.old) }
     requires few { length (table_on side draft.old).declared ≤ most_agents }
     ensures declared { IfOk result (λ _. DeclaresOn side draft.old draft.new name.now) }
     ensures refused { IfErr result (λ f. RefusesFor RefusalKind.Redeclared line (list_any (bytes_eq name.now) (table_on side draft.old).declared ≡ true) f) }
@@ -222,14 +220,13 @@ fn listed<'a>(
     entries: &[&'a [u8]],
     line: u32,
 ) -> Result<Vec<u32>, TextFault>
-    requires table { IsTable (table_on side draft.old) }
     requires fresh { (k : ℕ) → slice_index (table_on side draft.old).stamps k < line }
     ensures listed { IfOk result (λ indexes. ListsOn side draft.old draft.new (texts_of entries.now) line indexes.items) }
     ensures refused { IfErr result (λ f. RefusesFor RefusalKind.RepeatedEntry line (has_repeated (texts_of entries.now) ≡ true) f) }
 {
     let indexes = match side {
-        Side::Proposers => list(alloc, &mut draft.proposer_names, entries, line)?,
-        Side::Reviewers => list(alloc, &mut draft.reviewer_names, entries, line)?,
+        Side::Proposers => draft.proposer_names.list(alloc, entries, line)?,
+        Side::Reviewers => draft.reviewer_names.list(alloc, entries, line)?,
     };
     match indexes {
         Some(indexes) => Ok(indexes),
@@ -269,8 +266,6 @@ fn pair_of<'a>(
     proposer: &'a [u8],
     reviewer: &'a [u8],
 ) -> Result<Pair, TextFault>
-    requires proposers { IsTable (table_of draft.old.proposer_names) }
-    requires reviewers { IsTable (table_of draft.old.reviewer_names) }
     ensures pair { IfOk result (λ pair. PairsOf draft.old draft.new proposer.now reviewer.now line pair) }
     ensures refused { IfErr result (λ f. RefusesFor RefusalKind.BadName line (list_all is_a_name (proposer.now ∷ reviewer.now ∷ []) ≡ false) f) }
 {
@@ -294,9 +289,7 @@ fn add_weight<'a>(
     reviewer: &'a [u8],
     weight: &[u8],
 ) -> Result<(), TextFault>
-    requires proposers { IsTable (table_of draft.old.proposer_names) }
-    requires reviewers { IsTable (table_of draft.old.reviewer_names) }
-    requires in_range { ArePairsBelow (length (table_of draft.old.proposer_names).texts) (length (table_of draft.old.reviewer_names).texts) (pairs_of draft.old.weights.items) }
+    requires in_range { ArePairsBelow (length draft.old.proposer_names.texts) (length draft.old.reviewer_names.texts) (pairs_of draft.old.weights.items) }
     requires weighed { keys draft.old.weighed ≡ map key_of draft.old.weights.items }
     ensures put { IfOk result (λ _. PutsWeight draft.old draft.new proposer.now reviewer.now weight.now line) }
     ensures fault { IfErr result (λ f. IsLineFault (weight_fault (weights_in draft.old) proposer.now reviewer.now weight.now) line f) }
@@ -320,8 +313,6 @@ fn add_condition<'a>(
     proposer: &'a [u8],
     reviewer: &'a [u8],
 ) -> Result<(), TextFault>
-    requires proposers { IsTable (table_of draft.old.proposer_names) }
-    requires reviewers { IsTable (table_of draft.old.reviewer_names) }
     ensures bound { IfOk result (λ _. Binds condition draft.old draft.new proposer.now reviewer.now line) }
     ensures refused { IfErr result (λ f. RefusesFor RefusalKind.BadName line (list_all is_a_name (proposer.now ∷ reviewer.now ∷ []) ≡ false) f) }
 {

@@ -4,13 +4,14 @@ ghost use Rattle.std.specs.Prelude.{◌≡◌, ℕ, ◌<◌, ◌^◌, length, sl
 ghost use Rattle.std.specs.List.{list_any};
 ghost use Rattle.std.specs.Str.{bytes_eq};
 ghost use Rattle.sm_reader.specs.InstanceText.{number_in};
-ghost use Rattle.sm_reader.specs.Kept.{texts_of, text_at, table_of, no_names, IsTable, Interns, Declares, Meets, Lists};
+ghost use Rattle.sm_reader.specs.Kept.{texts_of, text_at, no_names, Interns, Declares, Meets, Lists};
 
 use crate::keys::Key;
 use crate::recent::Recent;
 use indexmap::IndexSet;
 use sm_text::TextHash;
 use std::alloc::{AllocError, Global};
+use std::marker::Model;
 
 /// The names of one side that stand in a text so far, declared or not, each by the index that it got where it stood
 /// first. A name is looked for at the index that it is guessed to have, and else found by its hash.
@@ -28,10 +29,21 @@ pub(crate) struct Names<'a> {
     pub(crate) declared: Vec<&'a [u8]>,
 }
 
+impl<'a> Model for Names<'a> {
+    ghost use Rattle.indexmap.specs.IndexSet.{keys};
+    ghost use Rattle.sm_reader.specs.Kept.{Table, table_from, IsTable};
+
+    ghost Value = { Table };
+
+    ghost view = { λ n. table_from (keys n.texts) n.numbers.items n.stamps.items n.declared.items };
+
+    ghost invariant = { λ n. IsTable (table_from (keys n.texts) n.numbers.items n.stamps.items n.declared.items) };
+}
+
 impl<'a> Names<'a> {
     /// No names, which will be found by these hashes.
     pub(crate) fn new(alloc: Global, hash: TextHash) -> Names<'a>
-        ensures { table_of result ≡ no_names }
+        ensures { result ≡ no_names }
     {
         Names {
             texts: IndexSet::with_hasher(alloc, hash),
@@ -46,8 +58,7 @@ impl<'a> Names<'a> {
     /// guessed needs no call.
     #[inline(always)]
     pub(crate) fn intern(&mut self, name: &'a [u8]) -> Result<u32, AllocError>
-        requires { IsTable (table_of self.old) }
-        ensures { IfOk result (λ i. Interns (table_of self.old) (table_of self.new) name.now i) }
+        ensures { IfOk result (λ i. Interns self.old self.new name.now i) }
     {
         match self.recall(name) {
             Some(index) => Ok(index),
@@ -58,8 +69,7 @@ impl<'a> Names<'a> {
     // The index that a name is guessed to have, where the name has it. Always inlined, as `intern` is.
     #[inline(always)]
     fn recall(&self, name: &[u8]) -> Option<u32>
-        ensures in_range { IfSome result (λ i. i < length (table_of self.now).texts) }
-        ensures names { IfSome result (λ i. text_at (table_of self.now).texts i ≡ name.now) }
+        ensures { IfSome result (λ i. Interns self.now self.now name.now i) }
     {
         let guess = self.recent.guess(name)?;
         let known = self.texts.get_index(guess as usize)?;
@@ -74,41 +84,50 @@ impl<'a> Names<'a> {
     // guessed pays nothing for it.
     #[inline(never)]
     fn insert(&mut self, name: &'a [u8]) -> Result<u32, AllocError>
-        requires { IsTable (table_of self.old) }
-        ensures { IfOk result (λ i. Interns (table_of self.old) (table_of self.new) name.now i) }
+        ensures { IfOk result (λ i. Interns self.old self.new name.now i) }
     {
-        let (place, is_new) = self.texts.insert_full(Key { text: name })?;
-        // An index fits, since a text has fewer names than bytes.
-        let Ok(index) = u32::try_from(place) else {
-            return Err(AllocError);
-        };
+        let index = self.place(name)?;
         self.recent.note(name, index)?;
-        if is_new {
-            self.numbers.push(None)?;
-            self.stamps.push(0)?;
-        }
         Ok(index)
+    }
+
+    // The index of a name by its hash; one that isn't found is added with its number and its stamp, for which there is room
+    // by then, so that each name has them.
+    fn place(&mut self, name: &'a [u8]) -> Result<u32, AllocError>
+        ensures { IfOk result (λ i. Interns self.old self.new name.now i) }
+    {
+        // An index fits, since a text has fewer names than bytes.
+        if self.texts.len() >= u32::MAX as usize {
+            return Err(AllocError);
+        }
+        self.numbers.reserve(1)?;
+        self.stamps.reserve(1)?;
+        let (place, is_new) = self.texts.insert_full(Key { text: name })?;
+        if is_new {
+            self.numbers.push(None).unwrap();
+            self.stamps.push(0).unwrap();
+        }
+        Ok(place as u32)
     }
 
     /// Declares a name under the next number, unless it is declared, and answers whether it did.
     pub(crate) fn declare(&mut self, name: &'a [u8]) -> Result<bool, AllocError>
-        requires table { IsTable (table_of self.old) }
-        requires few { length self.old.declared.items < 2 ^ 32 }
-        ensures { IfOk result (λ added. Declares (table_of self.old) (table_of self.new) name.now added) }
+        requires { length self.old.declared < 2 ^ 32 }
+        ensures { IfOk result (λ added. Declares self.old self.new name.now added) }
     {
         let index = self.intern(name)?;
         if self.numbers[index as usize].is_some() {
             return Ok(false);
         }
+        self.declared.reserve(1)?;
         self.numbers[index as usize] = Some(self.declared.len() as u32);
-        self.declared.push(name)?;
+        self.declared.push(name).unwrap();
         Ok(true)
     }
 
     /// The index of a name on the list of a line, `None` where it stands there already.
     pub(crate) fn meet(&mut self, name: &'a [u8], line: u32) -> Result<Option<u32>, AllocError>
-        requires { IsTable (table_of self.old) }
-        ensures { IfOk result (λ met. Meets (table_of self.old) (table_of self.new) name.now line met) }
+        ensures { IfOk result (λ met. Meets self.old self.new name.now line met) }
     {
         let index = self.intern(name)?;
         if self.stamps[index as usize] == line {
@@ -120,44 +139,41 @@ impl<'a> Names<'a> {
 
     /// Is the name of this index declared?
     pub(crate) fn is_declared(&self, index: u32) -> bool
-        requires table { IsTable (table_of self.now) }
-        requires in_range { index < length (table_of self.now).texts }
-        ensures { result ≡ list_any (bytes_eq (text_at (table_of self.now).texts index)) (table_of self.now).declared }
+        requires { index < length self.now.texts }
+        ensures { result ≡ list_any (bytes_eq (text_at self.now.texts index)) self.now.declared }
     {
         self.numbers[index as usize].is_some()
     }
 
     /// The number under which the name of this index is declared, and how many are declared where it isn't.
     pub(crate) fn number(&self, index: u32) -> u32
-        requires table { IsTable (table_of self.now) }
-        requires in_range { index < length (table_of self.now).texts }
-        requires few { length self.now.declared.items < 2 ^ 32 }
-        ensures { result ≡ number_in (table_of self.now).declared (text_at (table_of self.now).texts index) }
+        requires in_range { index < length self.now.texts }
+        requires few { length self.now.declared < 2 ^ 32 }
+        ensures { result ≡ number_in self.now.declared (text_at self.now.texts index) }
     {
         match self.numbers[index as usize] {
             Some(number) => number,
             None => self.declared.len() as u32,
         }
     }
-}
 
-/// The indexes of the names on the list of a line, `None` where one stands on it twice.
-pub(crate) fn list<'a>(
-    alloc: Global,
-    names: &mut Names<'a>,
-    entries: &[&'a [u8]],
-    line: u32,
-) -> Result<Option<Vec<u32>>, AllocError>
-    requires table { IsTable (table_of names.old) }
-    requires fresh { (k : ℕ) → slice_index names.old.stamps.items k < line }
-    ensures { IfOk result (λ list. Lists (table_of names.old) (table_of names.new) (texts_of entries.now) line list) }
-{
-    let mut indexes = Vec::with_capacity(alloc, entries.len())?;
-    'entries: for entry in entries {
-        let Some(index) = names.meet(entry, line)? else {
-            return Ok(None);
-        };
-        indexes.push(index)?;
+    /// The indexes of the names on the list of a line, `None` where one stands on it twice.
+    pub(crate) fn list(
+        &mut self,
+        alloc: Global,
+        entries: &[&'a [u8]],
+        line: u32,
+    ) -> Result<Option<Vec<u32>>, AllocError>
+        requires { (k : ℕ) → slice_index self.old.stamps k < line }
+        ensures { IfOk result (λ list. Lists self.old self.new (texts_of entries.now) line list) }
+    {
+        let mut indexes = Vec::with_capacity(alloc, entries.len())?;
+        'entries: for entry in entries {
+            let Some(index) = self.meet(entry, line)? else {
+                return Ok(None);
+            };
+            indexes.push(index)?;
+        }
+        Ok(Some(indexes))
     }
-    Ok(Some(indexes))
 }

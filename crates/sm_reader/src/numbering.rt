@@ -4,7 +4,7 @@ ghost use Rattle.std.specs.Prelude.{◌≡◌, ◌<◌, ◌^◌, ◌||◌, lengt
 ghost use Rattle.std.specs.List.{list_any};
 ghost use Rattle.sm_instance.specs.Vectors.{agent_of, agents_of};
 ghost use Rattle.sm_reader.specs.InstanceText.{least, unknown_lines, lines_with_unknown, pairs_with_unknown, is_unknown, number_in, numbered};
-ghost use Rattle.sm_reader.specs.Kept.{table_of, text_at, IsTable, AreBelow};
+ghost use Rattle.sm_reader.specs.Kept.{text_at, AreBelow};
 ghost use Rattle.sm_reader.specs.Draft.{said_of, listed_table, agent_in, pair_in, given_in, AreAgentsBelow, IsPairBelow, ArePairsBelow, pairs_of};
 ghost use Rattle.sm_reader.specs.Numbering.{lesser, line_if, pair_among, weight_among, IsReady, IsTwoSided, NumbersPersons, NumbersSides};
 
@@ -66,9 +66,8 @@ fn earlier(a: Option<u32>, b: Option<u32>) -> Option<u32>
 
 // The first line whose list has a name that isn't declared.
 fn first_in_lists(names: &Names<'_>, agents: &[Declared<'_>]) -> Option<u32>
-    requires table { IsTable (table_of names.now) }
-    requires in_range { AreAgentsBelow (length (table_of names.now).texts) agents.now }
-    ensures { result ≡ least (lines_with_unknown (table_of names.now).declared (map (agent_in (table_of names.now).texts) agents.now)) }
+    requires { AreAgentsBelow (length names.now.texts) agents.now }
+    ensures { result ≡ least (lines_with_unknown names.now.declared (map (agent_in names.now.texts) agents.now)) }
 {
     let mut first = None;
     'agents: for agent in agents {
@@ -89,9 +88,8 @@ fn line_if(line: u32, counts: bool) -> Option<u32>
 
 // Is one of these names not declared?
 fn has_unknown(names: &Names<'_>, indexes: &[u32]) -> bool
-    requires table { IsTable (table_of names.now) }
-    requires in_range { AreBelow (length (table_of names.now).texts) indexes.now }
-    ensures { result ≡ list_any (is_unknown (table_of names.now).declared) (map (text_at (table_of names.now).texts) indexes.now) }
+    requires { AreBelow (length names.now.texts) indexes.now }
+    ensures { result ≡ list_any (is_unknown names.now.declared) (map (text_at names.now.texts) indexes.now) }
 {
     'indexes: for index in indexes {
         if !names.is_declared(*index) {
@@ -103,11 +101,9 @@ fn has_unknown(names: &Names<'_>, indexes: &[u32]) -> bool
 
 // The first line of a pair of which one isn't declared.
 fn first_in_pairs(proposers: &Names<'_>, reviewers: &Names<'_>, pairs: &[Pair]) -> Option<u32>
-    requires proposers { IsTable (table_of proposers.now) }
-    requires reviewers { IsTable (table_of reviewers.now) }
-    requires in_range { ArePairsBelow (length (table_of proposers.now).texts) (length (table_of reviewers.now).texts) pairs.now }
-    ensures { result ≡ least (pairs_with_unknown (table_of proposers.now).declared (table_of reviewers.now).declared
-        (map (pair_in (table_of proposers.now).texts (table_of reviewers.now).texts) pairs.now)) }
+    requires { ArePairsBelow (length proposers.now.texts) (length reviewers.now.texts) pairs.now }
+    ensures { result ≡ least (pairs_with_unknown proposers.now.declared reviewers.now.declared
+        (map (pair_in proposers.now.texts reviewers.now.texts) pairs.now)) }
 {
     let mut first = None;
     'pairs: for pair in pairs {
@@ -121,11 +117,9 @@ fn first_in_pairs(proposers: &Names<'_>, reviewers: &Names<'_>, pairs: &[Pair]) 
 
 // The first line of a weight of whose pair one isn't declared.
 fn first_in_weights(proposers: &Names<'_>, reviewers: &Names<'_>, weights: &[Weight]) -> Option<u32>
-    requires proposers { IsTable (table_of proposers.now) }
-    requires reviewers { IsTable (table_of reviewers.now) }
-    requires in_range { ArePairsBelow (length (table_of proposers.now).texts) (length (table_of reviewers.now).texts) (pairs_of weights.now) }
-    ensures { result ≡ least (pairs_with_unknown (table_of proposers.now).declared (table_of reviewers.now).declared
-        (map (pair_in (table_of proposers.now).texts (table_of reviewers.now).texts) (pairs_of weights.now))) }
+    requires { ArePairsBelow (length proposers.now.texts) (length reviewers.now.texts) (pairs_of weights.now) }
+    ensures { result ≡ least (pairs_with_unknown proposers.now.declared reviewers.now.declared
+        (map (pair_in proposers.now.texts reviewers.now.texts) (pairs_of weights.now))) }
 {
     let mut first = None;
     'weights: for weight in weights {
@@ -140,11 +134,9 @@ fn first_in_weights(proposers: &Names<'_>, reviewers: &Names<'_>, weights: &[Wei
 
 // Is one of a pair not declared?
 fn is_unknown(proposers: &Names<'_>, reviewers: &Names<'_>, pair: Pair) -> bool
-    requires proposers { IsTable (table_of proposers.now) }
-    requires reviewers { IsTable (table_of reviewers.now) }
-    requires in_range { IsPairBelow (length (table_of proposers.now).texts) (length (table_of reviewers.now).texts) pair }
-    ensures { result ≡ (is_unknown (table_of proposers.now).declared (text_at (table_of proposers.now).texts pair.proposer)
-        || is_unknown (table_of reviewers.now).declared (text_at (table_of reviewers.now).texts pair.reviewer)) }
+    requires { IsPairBelow (length proposers.now.texts) (length reviewers.now.texts) pair }
+    ensures { result ≡ (is_unknown proposers.now.declared (text_at proposers.now.texts pair.proposer)
+        || is_unknown reviewers.now.declared (text_at reviewers.now.texts pair.reviewer)) }
 {
     !proposers.is_declared(pair.proposer) || !reviewers.is_declared(pair.reviewer)
 }
@@ -199,10 +191,9 @@ fn number_agents(
     names: &Names<'_>,
     side: Vec<Declared<'_>>,
 ) -> Result<Vec<Agent>, AllocError>
-    requires table { IsTable (table_of names.now) }
-    requires few { length names.now.declared.items < 2 ^ 32 }
-    requires in_range { AreAgentsBelow (length (table_of names.now).texts) side.items }
-    ensures { IfOk result (λ v. agents_of v.items ≡ map (numbered (table_of names.now).declared) (map (agent_in (table_of names.now).texts) side.entry.items)) }
+    requires few { length names.now.declared < 2 ^ 32 }
+    requires in_range { AreAgentsBelow (length names.now.texts) side.items }
+    ensures { IfOk result (λ v. agents_of v.items ≡ map (numbered names.now.declared) (map (agent_in names.now.texts) side.entry.items)) }
 {
     let mut agents = Vec::with_capacity(alloc, side.len())?;
     'agents: for declared in side {
@@ -217,10 +208,9 @@ fn number_agent(
     names: &Names<'_>,
     declared: Declared<'_>,
 ) -> Result<Agent, AllocError>
-    requires table { IsTable (table_of names.now) }
-    requires few { length names.now.declared.items < 2 ^ 32 }
-    requires in_range { AreBelow (length (table_of names.now).texts) declared.entries.items }
-    ensures { IfOk result (λ a. agent_of a ≡ numbered (table_of names.now).declared (agent_in (table_of names.now).texts declared.entry)) }
+    requires few { length names.now.declared < 2 ^ 32 }
+    requires in_range { AreBelow (length names.now.texts) declared.entries.items }
+    ensures { IfOk result (λ a. agent_of a ≡ numbered names.now.declared (agent_in names.now.texts declared.entry)) }
 {
     let Declared {
         name,
@@ -240,10 +230,9 @@ fn number_agent(
 
 // Puts the numbers of names in the place of their indexes.
 fn number_names(names: &Names<'_>, entries: &mut [u32])
-    requires table { IsTable (table_of names.now) }
-    requires few { length names.now.declared.items < 2 ^ 32 }
-    requires in_range { AreBelow (length (table_of names.now).texts) entries.old }
-    ensures { entries.new ≡ map (number_in (table_of names.now).declared) (map (text_at (table_of names.now).texts) entries.old) }
+    requires few { length names.now.declared < 2 ^ 32 }
+    requires in_range { AreBelow (length names.now.texts) entries.old }
+    ensures { entries.new ≡ map (number_in names.now.declared) (map (text_at names.now.texts) entries.old) }
 {
     'entries: for entry in entries.iter_mut() {
         *entry = names.number(*entry);
@@ -257,13 +246,11 @@ fn number_pairs(
     reviewers: &Names<'_>,
     pairs: &[Pair],
 ) -> Result<Vec<(u32, u32)>, AllocError>
-    requires proposers { IsTable (table_of proposers.now) }
-    requires reviewers { IsTable (table_of reviewers.now) }
-    requires few_proposers { length proposers.now.declared.items < 2 ^ 32 }
-    requires few_reviewers { length reviewers.now.declared.items < 2 ^ 32 }
-    requires in_range { ArePairsBelow (length (table_of proposers.now).texts) (length (table_of reviewers.now).texts) pairs.now }
-    ensures { IfOk result (λ v. v.items ≡ map (pair_among (table_of proposers.now).declared (table_of reviewers.now).declared)
-        (map (pair_in (table_of proposers.now).texts (table_of reviewers.now).texts) pairs.now)) }
+    requires few_proposers { length proposers.now.declared < 2 ^ 32 }
+    requires few_reviewers { length reviewers.now.declared < 2 ^ 32 }
+    requires in_range { ArePairsBelow (length proposers.now.texts) (length reviewers.now.texts) pairs.now }
+    ensures { IfOk result (λ v. v.items ≡ map (pair_among proposers.now.declared reviewers.now.declared)
+        (map (pair_in proposers.now.texts reviewers.now.texts) pairs.now)) }
 {
     let mut numbers = Vec::with_capacity(alloc, pairs.len())?;
     'pairs: for pair in pairs {
@@ -281,13 +268,11 @@ fn number_weights(
     reviewers: &Names<'_>,
     weights: &[Weight],
 ) -> Result<Vec<(u32, u32, i64)>, AllocError>
-    requires proposers { IsTable (table_of proposers.now) }
-    requires reviewers { IsTable (table_of reviewers.now) }
-    requires few_proposers { length proposers.now.declared.items < 2 ^ 32 }
-    requires few_reviewers { length reviewers.now.declared.items < 2 ^ 32 }
-    requires in_range { ArePairsBelow (length (table_of proposers.now).texts) (length (table_of reviewers.now).texts) (pairs_of weights.now) }
-    ensures { IfOk result (λ v. v.items ≡ map (weight_among (table_of proposers.now).declared (table_of reviewers.now).declared)
-        (map (given_in (table_of proposers.now).texts (table_of reviewers.now).texts) weights.now)) }
+    requires few_proposers { length proposers.now.declared < 2 ^ 32 }
+    requires few_reviewers { length reviewers.now.declared < 2 ^ 32 }
+    requires in_range { ArePairsBelow (length proposers.now.texts) (length reviewers.now.texts) (pairs_of weights.now) }
+    ensures { IfOk result (λ v. v.items ≡ map (weight_among proposers.now.declared reviewers.now.declared)
+        (map (given_in proposers.now.texts reviewers.now.texts) weights.now)) }
 {
     let mut numbers = Vec::with_capacity(alloc, weights.len())?;
     'weights: for weight in weights {

@@ -2,20 +2,20 @@ use Rattle.std.proofs.Common.{◌≡◌, ◌++◌, ◌∷◌, [], ap, ◌∙◌,
 use Rattle.std.specs.List.{list_any}
 use Rattle.sm_instance.specs.Named.{SaidAgent}
 use Rattle.sm_reader.specs.InstanceText.{is_unknown, lines_with_unknown, least}
-use Rattle.sm_reader.specs.Kept.{table_of, text_at, AreBelow}
+use Rattle.sm_reader.specs.Kept.{text_at, AreBelow}
 use Rattle.sm_reader.specs.Draft.{agent_in}
 use Rattle.sm_reader.specs.Numbering.{lesser, line_if}
 use Rattle.sm_reader.proofs.NumberLemmas.{front_more, front_all, least_more, agents_below_at}
 use Rattle.sm_reader.proofs.numbering.first_in_lists.Goals as goal
 
-pub has_unknown-requires-clause-in_range : goal.has_unknown-requires-clause-in_range
-has_unknown-requires-clause-in_range c =
-    let n = length (table_of c.args.names.now).texts in
-    subst (AreBelow n) (sym c.deref.ensures.value) (agents_below_at n c.args.agents.now c.agents.agent-index c.agent-item.result c.requires.in_range c.agents-test.true c.agent-item.is)
+pub has_unknown-requires : goal.has_unknown-requires
+has_unknown-requires c =
+    let n = length c.args.names.now.texts in
+    subst (AreBelow n) (sym c.deref.ensures.value) (agents_below_at n c.args.agents.now c.agents.agent-index c.agent-item.result c.requires c.agents-test.true c.agent-item.is)
 
 pub agents-preserved : goal.agents-preserved
 agents-preserved c =
-    let t = table_of c.args.names.now in
+    let t = c.args.names.now in
     let agents = c.args.agents.now in
     let i = c.agents.agent-index in
     let agent = c.agent-item.result in
@@ -32,5 +32,5 @@ agents-preserved c =
 
 pub returns : goal.returns
 returns c =
-    let t = table_of c.args.names.now in
+    let t = c.args.names.now in
     c.agents.invariant ∙ ap (λ xs. least (lines_with_unknown t.declared xs)) (front_all (agent_in t.texts) c.args.agents.now c.agents.agent-index c.agents-test.false)

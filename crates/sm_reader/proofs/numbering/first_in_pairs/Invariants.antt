@@ -1,10 +1,9 @@
 use Rattle.std.proofs.Common.{◌≡◌, map, take}
 use Rattle.sm_reader.specs.InstanceText.{pairs_with_unknown, least}
-use Rattle.sm_reader.specs.Kept.{table_of}
 use Rattle.sm_reader.specs.Draft.{pair_in}
 use Rattle.sm_reader.proofs.numbering.first_in_pairs.Given as goal
 
 -- the first line so far
 abbrev pub invariant-pairs : goal.invariant-pairs
-invariant-pairs l = l.first ≡ least (pairs_with_unknown (table_of l.proposers).declared (table_of l.reviewers).declared
-    (map (pair_in (table_of l.proposers).texts (table_of l.reviewers).texts) (take l.pair-index l.pairs)))
+invariant-pairs l = l.first ≡ least (pairs_with_unknown l.proposers.declared l.reviewers.declared
+    (map (pair_in l.proposers.texts l.reviewers.texts) (take l.pair-index l.pairs)))

@@ -1,6 +1,5 @@
 use Rattle.std.proofs.Common.{ap, ◌∙◌, sym, map}
 use Rattle.sm_reader.specs.InstanceText.{lines_with_unknown, pairs_with_unknown, least}
-use Rattle.sm_reader.specs.Kept.{table_of}
 use Rattle.sm_reader.specs.Draft.{agent_in, pair_in, pairs_of}
 use Rattle.sm_reader.proofs.NumberLemmas.{unknown_is, lesser_chain}
 use Rattle.sm_reader.proofs.numbering.first_unknown.Goals as goal
@@ -8,8 +7,8 @@ use Rattle.sm_reader.proofs.numbering.first_unknown.Goals as goal
 pub returns : goal.returns
 returns c =
     let d = c.args.draft.now in
-    let p = table_of d.proposer_names in
-    let r = table_of d.reviewer_names in
+    let p = d.proposer_names in
+    let r = d.reviewer_names in
     lesser_chain c.earlier-of_agents.ensures c.earlier-of_weights.ensures c.earlier-of_forced.ensures c.earlier.ensures
     c.first_in_proposers-in_lists.ensures
     (c.first_in_lists-in_others.ensures ∙ ap (λ xs. least (lines_with_unknown p.declared (map (agent_in p.texts) xs))) c.deref.ensures.value)

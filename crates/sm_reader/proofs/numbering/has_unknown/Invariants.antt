@@ -1,9 +1,9 @@
 use Rattle.std.proofs.Common.{◌≡◌, false, map, take}
 use Rattle.std.specs.List.{list_any}
 use Rattle.sm_reader.specs.InstanceText.{is_unknown}
-use Rattle.sm_reader.specs.Kept.{table_of, text_at}
+use Rattle.sm_reader.specs.Kept.{text_at}
 use Rattle.sm_reader.proofs.numbering.has_unknown.Given as goal
 
 -- all names so far are declared
 abbrev pub invariant-indexes : goal.invariant-indexes
-invariant-indexes l = list_any (is_unknown (table_of l.names).declared) (map (text_at (table_of l.names).texts) (take l.index-index l.indexes)) ≡ false
+invariant-indexes l = list_any (is_unknown l.names.declared) (map (text_at l.names.texts) (take l.index-index l.indexes)) ≡ false

@@ -1,14 +1,14 @@
 use Rattle.std.proofs.Common.{◌≡◌, ◌<◌, ◌+◌, ◌++◌, ◌∷◌, [], ap, ◌∙◌, sym, subst, length, map, take, drop, get_or, set}
 use Rattle.std.proofs.lemmas.List.{map_push}
 use Rattle.sm_reader.specs.InstanceText.{number_in}
-use Rattle.sm_reader.specs.Kept.{table_of, text_at}
+use Rattle.sm_reader.specs.Kept.{text_at}
 use Rattle.sm_reader.proofs.ListingLemmas.{below_at}
 use Rattle.sm_reader.proofs.NumberLemmas.{front_long, front_more, replaced_at, replaced_more}
 use Rattle.sm_reader.proofs.numbering.number_names.Goals as goal
 
 pub number-requires-clause-in_range : goal.number-requires-clause-in_range
 number-requires-clause-in_range c =
-    let t = table_of c.args.names.now in
+    let t = c.args.names.now in
     let old = c.args.entries.now in
     let i = c.entries.entry-index in
     let front = map (number_in t.declared) (map (text_at t.texts) (take i old)) in
@@ -18,7 +18,7 @@ number-requires-clause-in_range c =
 
 pub entries-preserved : goal.entries-preserved
 entries-preserved c =
-    let t = table_of c.args.names.now in
+    let t = c.args.names.now in
     let old = c.args.entries.now in
     let i = c.entries.entry-index in
     let names = map (text_at t.texts) (take i old) in

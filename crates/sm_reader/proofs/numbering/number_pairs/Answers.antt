@@ -1,7 +1,7 @@
 use Rattle.std.proofs.Common.{◌≡◌, ◌++◌, ◌∷◌, [], ap, ◌∙◌, sym, length, map, take, get_or, rules}
 use Rattle.std.proofs.lemmas.List.{map_push}
 use Rattle.sm_reader.specs.InstanceText.{number_in}
-use Rattle.sm_reader.specs.Kept.{table_of, text_at}
+use Rattle.sm_reader.specs.Kept.{text_at}
 use Rattle.sm_reader.specs.Draft.{pair_in}
 use Rattle.sm_reader.specs.Numbering.{pair_among}
 use Rattle.sm_reader.specs.declared.draft.Pair.{Pair}
@@ -11,18 +11,18 @@ use Rattle.sm_reader.proofs.numbering.number_pairs.Goals as goal
 pub number-proposer-requires-clause-in_range : goal.number-proposer-requires-clause-in_range
 number-proposer-requires-clause-in_range c =
     let d : Pair = record { proposer = 0; reviewer = 0; line = 0 } in
-    (pairs_below_at (length (table_of c.args.proposers.now).texts) (length (table_of c.args.reviewers.now).texts) c.args.pairs.now c.pairs.pair-index d c.requires.in_range c.pairs-test.true).proposer
+    (pairs_below_at (length c.args.proposers.now.texts) (length c.args.reviewers.now.texts) c.args.pairs.now c.pairs.pair-index d c.requires.in_range c.pairs-test.true).proposer
 
 pub number-reviewer-requires-clause-in_range : goal.number-reviewer-requires-clause-in_range
 number-reviewer-requires-clause-in_range c =
     let d : Pair = record { proposer = 0; reviewer = 0; line = 0 } in
-    (pairs_below_at (length (table_of c.args.proposers.now).texts) (length (table_of c.args.reviewers.now).texts) c.args.pairs.now c.pairs.pair-index d c.requires.in_range c.pairs-test.true).reviewer
+    (pairs_below_at (length c.args.proposers.now.texts) (length c.args.reviewers.now.texts) c.args.pairs.now c.pairs.pair-index d c.requires.in_range c.pairs-test.true).reviewer
 
 pub pairs-preserved : goal.pairs-preserved
 pairs-preserved c =
     let d : Pair = record { proposer = 0; reviewer = 0; line = 0 } in
-    let p = table_of c.args.proposers.now in
-    let r = table_of c.args.reviewers.now in
+    let p = c.args.proposers.now in
+    let r = c.args.reviewers.now in
     let xs = c.args.pairs.now in
     let i = c.pairs.pair-index in
     let before = map (pair_among p.declared r.declared) (map (pair_in p.texts r.texts) (take i xs)) in
@@ -36,6 +36,6 @@ pairs-preserved c =
 
 pub returns : goal.returns
 returns c =
-    let p = table_of c.args.proposers.now in
-    let r = table_of c.args.reviewers.now in
+    let p = c.args.proposers.now in
+    let r = c.args.reviewers.now in
     c.pairs.invariant ∙ ap (map (pair_among p.declared r.declared)) (front_all (pair_in p.texts r.texts) c.args.pairs.now c.pairs.pair-index c.pairs-test.false)

@@ -1,7 +1,7 @@
 use Rattle.std.proofs.Common.{◌≡◌, ◌++◌, ◌∷◌, [], ap, ◌∙◌, sym, length, map, take, get_or, pos, rules}
 use Rattle.std.proofs.lemmas.List.{map_push}
 use Rattle.sm_reader.specs.InstanceText.{number_in}
-use Rattle.sm_reader.specs.Kept.{table_of, text_at}
+use Rattle.sm_reader.specs.Kept.{text_at}
 use Rattle.sm_reader.specs.Draft.{given_in}
 use Rattle.sm_reader.specs.Numbering.{weight_among}
 use Rattle.sm_reader.specs.declared.draft.Weight.{Weight}
@@ -11,18 +11,18 @@ use Rattle.sm_reader.proofs.numbering.number_weights.Goals as goal
 pub number-proposer-requires-clause-in_range : goal.number-proposer-requires-clause-in_range
 number-proposer-requires-clause-in_range c =
     let d : Weight = record { pair = record { proposer = 0; reviewer = 0; line = 0 }; weight = pos 0 } in
-    (weights_below_at (length (table_of c.args.proposers.now).texts) (length (table_of c.args.reviewers.now).texts) c.args.weights.now c.weights.weight-index d c.requires.in_range c.weights-test.true).proposer
+    (weights_below_at (length c.args.proposers.now.texts) (length c.args.reviewers.now.texts) c.args.weights.now c.weights.weight-index d c.requires.in_range c.weights-test.true).proposer
 
 pub number-reviewer-requires-clause-in_range : goal.number-reviewer-requires-clause-in_range
 number-reviewer-requires-clause-in_range c =
     let d : Weight = record { pair = record { proposer = 0; reviewer = 0; line = 0 }; weight = pos 0 } in
-    (weights_below_at (length (table_of c.args.proposers.now).texts) (length (table_of c.args.reviewers.now).texts) c.args.weights.now c.weights.weight-index d c.requires.in_range c.weights-test.true).reviewer
+    (weights_below_at (length c.args.proposers.now.texts) (length c.args.reviewers.now.texts) c.args.weights.now c.weights.weight-index d c.requires.in_range c.weights-test.true).reviewer
 
 pub weights-preserved : goal.weights-preserved
 weights-preserved c =
     let d : Weight = record { pair = record { proposer = 0; reviewer = 0; line = 0 }; weight = pos 0 } in
-    let p = table_of c.args.proposers.now in
-    let r = table_of c.args.reviewers.now in
+    let p = c.args.proposers.now in
+    let r = c.args.reviewers.now in
     let xs = c.args.weights.now in
     let i = c.weights.weight-index in
     let before = map (weight_among p.declared r.declared) (map (given_in p.texts r.texts) (take i xs)) in
@@ -36,6 +36,6 @@ weights-preserved c =
 
 pub returns : goal.returns
 returns c =
-    let p = table_of c.args.proposers.now in
-    let r = table_of c.args.reviewers.now in
+    let p = c.args.proposers.now in
+    let r = c.args.reviewers.now in
     c.weights.invariant ∙ ap (map (weight_among p.declared r.declared)) (front_all (given_in p.texts r.texts) c.args.weights.now c.weights.weight-index c.weights-test.false)

@@ -1,12 +1,17 @@
-use Rattle.std.proofs.Common.{◌≡◌, ◌∙◌, sym, arith, length, ℕ, List}
+use Rattle.std.proofs.Common.{◌≡◌, ◌<◌, ◌∙◌, sym, subst, arith, length, ℕ, List}
 use Rattle.std.specs.Borrow.{Bor}
 use Rattle.std.proofs.lemmas.List.{length-map}
-use Rattle.sm_reader.specs.Kept.{table_of, texts_of}
+use Rattle.indexmap.specs.IndexSet.{keys}
+use Rattle.sm_reader.specs.InstanceText.{number_in}
+use Rattle.sm_reader.specs.Kept.{Table, table_from, text_at, texts_of}
 use Rattle.sm_reader.proofs.TableLemmas.{number_none}
 use Rattle.sm_reader.proofs.names.Names.number.Goals as goal
 
 pub returns-in-None : goal.returns-in-None
 returns-in-None c =
-    let declared = c.args.self.now.declared in
-    let count : c.len.result ≡ length (texts_of declared.items) = omega (arith, c.len.ensures, declared.ok.0, length-map declared.items (λ (x : Bor (List ℕ)). x.now)) in
-    count ∙ sym (number_none (table_of c.args.self.now) c.args.index c.index.result.now c.requires.table c.requires.in_range c.index.ensures c.in-None.is)
+    let n = c.self.inside in
+    let t = table_from (keys n.texts) n.numbers.items n.stamps.items n.declared.items in
+    let i = c.args.index in
+    let count : c.len.result ≡ length (texts_of n.declared.items) = omega (arith, c.len.ensures, n.declared.ok.0, length-map n.declared.items (λ (x : Bor (List ℕ)). x.now)) in
+    let P : Table → Type 0 = λ t. i < length t.texts → c.len.result ≡ number_in t.declared (text_at t.texts i) in
+    subst P c.self.view_is (λ inside. count ∙ sym (number_none t i c.index.result.now c.self.invariant inside c.index.ensures c.in-None.is)) c.requires.in_range

@@ -1,15 +1,15 @@
 use Rattle.std.proofs.Common.{ℕ, List, [], get_or, ◌+◌, sym, subst, arith}
 use Rattle.std.specs.Borrow.{Bor}
 use Rattle.std.proofs.lemmas.List.{get_or-map, length-map}
-use Rattle.sm_reader.specs.Kept.{texts_of, table_of}
+use Rattle.sm_reader.specs.Kept.{texts_of}
 use Rattle.sm_reader.proofs.ListingLemmas.{IsListing, listing_none, listing_more, listing_stuck, listing_all}
-use Rattle.sm_reader.proofs.names.list.Goals as goal
+use Rattle.sm_reader.proofs.names.Names.list.Goals as goal
 
 pub entries-init : goal.entries-init
 entries-init c =
-    let t = table_of c.args.names.now in
+    let t = c.args.self.now in
     subst (IsListing t t (texts_of c.args.entries.now) c.args.line 0) (sym c.in_ok-indexes.ensures.items)
-    (listing_none t (texts_of c.args.entries.now) c.args.line c.requires.table c.requires.fresh)
+    (listing_none t (texts_of c.args.entries.now) c.args.line c.requires)
 
 pub returns-in_default : goal.returns-in_default
 returns-in_default c =
@@ -18,7 +18,7 @@ returns-in_default c =
     let i = c.entries.entry-index in
     let entry = get_or entries i d in
     let none = rw c.in_default.is at c.in_ok-index.ensures in
-    listing_stuck (table_of c.args.names.now) (table_of c.entries.names) (table_of c.meet.new.self) (texts_of entries) c.args.line i c.entries.indexes.items entry.now (omega (arith, c.requires.fresh 0))
+    listing_stuck c.args.self.now c.entries.self c.meet.new.self (texts_of entries) c.args.line i c.entries.indexes.items entry.now (omega (arith, c.requires 0))
     c.entries.invariant (omega (arith, c.entries-test.true, length-map entries (λ (x : Bor (List ℕ)). x.now))) (get_or-map (λ (x : Bor (List ℕ)). x.now) entries i d [] c.entries-test.true) none
 
 pub entries-preserved : goal.entries-preserved
@@ -28,12 +28,12 @@ entries-preserved c =
     let i = c.entries.entry-index in
     let entry = get_or entries i d in
     let some = rw c.in-Some.is at c.in_ok-index.ensures in
-    subst (IsListing (table_of c.args.names.now) (table_of c.meet.new.self) (texts_of entries) c.args.line (i + 1)) (sym c.in_ok-push.ensures.items)
-    (listing_more (table_of c.args.names.now) (table_of c.entries.names) (table_of c.meet.new.self) (texts_of entries) c.args.line i c.entries.indexes.items entry.now (omega (arith, c.requires.fresh 0))
+    subst (IsListing c.args.self.now c.meet.new.self (texts_of entries) c.args.line (i + 1)) (sym c.in_ok-push.ensures.items)
+    (listing_more c.args.self.now c.entries.self c.meet.new.self (texts_of entries) c.args.line i c.entries.indexes.items entry.now (omega (arith, c.requires 0))
     c.entries.invariant (omega (arith, c.entries-test.true, length-map entries (λ (x : Bor (List ℕ)). x.now))) (get_or-map (λ (x : Bor (List ℕ)). x.now) entries i d [] c.entries-test.true) c.in-Some.index some)
 
 pub returns : goal.returns
 returns c =
     let entries = c.args.entries.now in
-    listing_all (table_of c.args.names.now) (table_of c.entries.names) (texts_of entries) c.args.line c.entries.entry-index c.entries.indexes.items c.entries.invariant
+    listing_all c.args.self.now c.entries.self (texts_of entries) c.args.line c.entries.entry-index c.entries.indexes.items c.entries.invariant
     (omega (arith, c.entries-test.false, length-map entries (λ (x : Bor (List ℕ)). x.now)))
