@@ -40,8 +40,10 @@ impl Instance {
         requires matching { IsMatching self.now a.now.places.items }
         requires proposer { p < length self.now.proposers }
         requires on_list { place < length (row self.now.proposers p) }
-        requires limit { IsGainLimit self.now a.now.places.items (entry self.now.proposers p place) limit }
-        ensures { IsTrue result ↔ Blocks self.now a.now.places.items p (entry self.now.proposers p place) }
+        requires limit { IsGainLimit self.now a.now.places.items
+            (entry self.now.proposers p place) limit }
+        ensures { IsTrue result ↔ Blocks self.now a.now.places.items p
+            (entry self.now.proposers p place) }
     {
         match self.cross(p, place) {
             Some(back) => back < limit && place < self.standing(a, p),

@@ -228,12 +228,14 @@ pub(crate) fn checked(
     requires two_sided { kind ≢ Kind.Roommates }
     requires few { length weights.now + length forced.now + length forbidden.now < 2 ^ 24 }
     ensures instance { OnOk result
-        (IsInstance (written_of kind proposers.now reviewers.now weights.now forced.now forbidden.now)) }
+        (IsInstance (written_of kind proposers.now reviewers.now weights.now forced.now
+        forbidden.now)) }
     ensures left { IfOk result (λ kept. kept.0 ≡ names_of (agents_of proposers.now)) }
     ensures right { IfOk result (λ kept. kept.1 ≡ names_of (agents_of reviewers.now)) }
     ensures weighed { IfOk result (λ kept. kept.2 ≡ map weighed weights.now) }
     ensures fault { IfErr result
-        (λ f. IsFault (written_of kind proposers.now reviewers.now weights.now forced.now forbidden.now) f) }
+        (λ f. IsFault (written_of kind proposers.now reviewers.now weights.now forced.now
+        forbidden.now) f) }
 {
     if !are_within_limits(proposers, reviewers) {
         return Err(InstanceFault::TooMany);
@@ -260,7 +262,8 @@ fn checked_agents(
     ensures left { IfOk result (λ kept. kept.0 ≡ names_of (agents_of proposers.now)) }
     ensures right { IfOk result (λ kept. kept.1 ≡ names_of (agents_of reviewers.now)) }
     ensures fault { IfErr result
-        (λ f. AreAgentsFaulty (agents_of proposers.now) (agents_of reviewers.now) (is_single_kind kind) f) }
+        (λ f. AreAgentsFaulty (agents_of proposers.now) (agents_of reviewers.now)
+        (is_single_kind kind) f) }
 {
     let left = checked_names(alloc, Side::Proposers, proposers, true)?;
     let right = checked_names(alloc, Side::Reviewers, reviewers, is_single(kind))?;
@@ -270,8 +273,10 @@ fn checked_agents(
 // Whether all entries of both sides are sound; if not, the first that isn't.
 fn check_lists(alloc: Global, proposers: &[Agent], reviewers: &[Agent]) -> Result<(), InstanceFault>
     requires { IsWithinLimits (agents_of proposers.now) (agents_of reviewers.now) }
-    ensures proposers { OnOk result (AreSoundEntries (agents_of proposers.now) (length (agents_of reviewers.now))) }
-    ensures reviewers { OnOk result (AreSoundEntries (agents_of reviewers.now) (length (agents_of proposers.now))) }
+    ensures proposers { OnOk result (AreSoundEntries (agents_of proposers.now)
+        (length (agents_of reviewers.now))) }
+    ensures reviewers { OnOk result (AreSoundEntries (agents_of reviewers.now)
+        (length (agents_of proposers.now))) }
     ensures fault { IfErr result
         (λ f. AreEntriesFaulty (agents_of proposers.now) (agents_of reviewers.now) f) }
 {

@@ -52,8 +52,10 @@ impl Model for Instance {
     ghost view = { λ i. written_of i.kind i.proposers.items i.reviewers.items i.weights.items i.forced.items i.forbidden.items };
 
     ghost invariant = { λ i. IsKept
-        (written_of i.kind i.proposers.items i.reviewers.items i.weights.items i.forced.items i.forbidden.items)
-        (crosses_of i.crosses.items) (crosses_of i.reviewer_crosses.items) (namings_of i.namings.items) i.left i.right i.weighed };
+        (written_of i.kind i.proposers.items i.reviewers.items i.weights.items i.forced.items
+        i.forbidden.items)
+        (crosses_of i.crosses.items) (crosses_of i.reviewer_crosses.items)
+        (namings_of i.namings.items) i.left i.right i.weighed };
 }
 
 impl Instance {

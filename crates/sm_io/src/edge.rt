@@ -36,9 +36,11 @@ impl<R: Read> Source for ReadSource<R> {
     fn take(&mut self, into: &mut [u8]) -> Taken
         ensures taken { Takes None None result into.new }
         ensures later { source_faults self.old ≤ source_faults self.new }
-        ensures failed { result ≡ Taken.Failed → Rose (source_faults self.old) (source_faults self.new) }
+        ensures failed { result ≡ Taken.Failed → Rose (source_faults self.old)
+            (source_faults self.new) }
         ensures counted { CountsTaken (source_faults self.old) (source_faults self.new) result }
-        ensures reader { Takes (R.remaining (reader_of self.old)) (R.remaining (reader_of self.new)) result into.new }
+        ensures reader { Takes (R.remaining (reader_of self.old))
+            (R.remaining (reader_of self.new)) result into.new }
     {
         match self.inner.read(into) {
             Ok(0) => Taken::End,
@@ -80,7 +82,8 @@ impl<W: Write> Sink for WriteSink<W> {
         ensures later { sink_faults self.old ≤ sink_faults self.new }
         ensures failed { result ≡ Put.Failed → Rose (sink_faults self.old) (sink_faults self.new) }
         ensures counted { CountsPut (sink_faults self.old) (sink_faults self.new) result }
-        ensures writer { Writes (W.contents (writer_of self.old)) (W.contents (writer_of self.new)) result piece.now }
+        ensures writer { Writes (W.contents (writer_of self.old))
+            (W.contents (writer_of self.new)) result piece.now }
     {
         let answer = write_out(&mut self.inner, piece);
         if let Put::Failed = answer {

@@ -48,7 +48,12 @@ impl MemSource {
     /// Takes no memory.
     pub fn new(bytes: Vec<u8>, piece: usize, failing: Vec<u64>) -> MemSource
         requires { 1 ≤ piece }
-        ensures { result ≡ record { pieces = record { left = bytes.items; piece = piece }; failing = failing.items; calls = 0; faults = 0 } }
+        ensures { result ≡ record {
+          pieces = record { left = bytes.items; piece = piece };
+          failing = failing.items;
+          calls = 0;
+          faults = 0;
+        } }
     {
         MemSource {
             pieces: SteadySource::new(bytes, piece),
@@ -112,7 +117,13 @@ impl MemSink {
     /// one number the first counts.
     pub fn new(alloc: Global, room: usize, failing: Vec<(u64, u32)>) -> Result<MemSink, AllocError>
         ensures { IfOk result
-            (λ sink. sink ≡ record { held = []; room = room; failing = failing.items; calls = 0; faults = 0 }) }
+            (λ sink. sink ≡ record {
+              held = [];
+              room = room;
+              failing = failing.items;
+              calls = 0;
+              faults = 0;
+            }) }
     {
         Ok(MemSink {
             bytes: Vec::with_capacity(alloc, room)?,

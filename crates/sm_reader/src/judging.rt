@@ -52,8 +52,10 @@ pub(crate) fn judge<'a>(
     requires draft { IsDraft kind line draft.old }
     requires bad { found.bad ≡ list_any is_bad (texts_of tokens.now) }
     requires names { AreNamesAtEnd found.names (texts_of tokens.now) }
-    ensures judged { IfOk result (λ step. Judges kind line (texts_of tokens.now) draft.old draft.new step) }
-    ensures refused { IfErr result (λ f. IsRefusedBy (verdict_on kind (said_of kind draft.old) line (texts_of tokens.now)) line f) }
+    ensures judged { IfOk result (λ step. Judges kind line (texts_of tokens.now) draft.old
+        draft.new step) }
+    ensures refused { IfErr result (λ f. IsRefusedBy
+        (verdict_on kind (said_of kind draft.old) line (texts_of tokens.now)) line f) }
 {
     let [word, rest @ ..] = tokens else {
         return Ok(Step::Goes);
@@ -85,7 +87,8 @@ fn add<'a>(
     requires draft { IsDraft kind line draft.old }
     requires names { AreNamesAtEnd names (entries_in (form_of form)) }
     ensures added { IfOk result (λ _. Adds kind line (form_of form.entry) draft.old draft.new) }
-    ensures fault { IfErr result (λ f. IsLineFault (fault_of (said_of kind draft.old) (form_of form.entry)) line f) }
+    ensures fault { IfErr result (λ f. IsLineFault
+        (fault_of (said_of kind draft.old) (form_of form.entry)) line f) }
 {
     match form {
         Form::Agent {
@@ -125,8 +128,10 @@ fn checked_capacity(
     line: u32,
 ) -> Result<u32, TextFault>
     requires { AreNamesAtEnd names (texts_of entries.now) }
-    ensures checked { IfOk result (λ n. IsChecked name.now (option_map (λ x. x.now) capacity.entry) (texts_of entries.now) n) }
-    ensures fault { IfErr result (λ f. IsLineFault (run_fault name.now (option_map (λ x. x.now) capacity.entry) (texts_of entries.now)) line f) }
+    ensures checked { IfOk result (λ n. IsChecked name.now
+        (option_map (λ x. x.now) capacity.entry) (texts_of entries.now) n) }
+    ensures fault { IfErr result (λ f. IsLineFault
+        (run_fault name.now (option_map (λ x. x.now) capacity.entry) (texts_of entries.now)) line f) }
 {
     if !is_name(name) || !are_names(entries, names) {
         return Err(TextFault::Refused(RefusalKind::BadName, line));
@@ -158,8 +163,11 @@ fn add_agent<'a>(
     agent: Stated<'a, '_>,
 ) -> Result<(), TextFault>
     requires { IsDraft kind line draft.old }
-    ensures added { IfOk result (λ _. AddsAgent kind line agent.entry.side agent.entry.name.now agent.entry.capacity (texts_of agent.entry.entries.now) draft.old draft.new) }
-    ensures fault { IfErr result (λ f. IsLineFault (name_fault (table_on agent.entry.side draft.old).declared agent.entry.name.now (texts_of agent.entry.entries.now)
+    ensures added { IfOk result (λ _. AddsAgent kind line agent.entry.side agent.entry.name.now
+        agent.entry.capacity (texts_of agent.entry.entries.now) draft.old draft.new) }
+    ensures fault { IfErr result (λ f. IsLineFault
+        (name_fault (table_on agent.entry.side draft.old).declared agent.entry.name.now
+        (texts_of agent.entry.entries.now)
         (length (declared_on agent.entry.side draft.old)) draft.old.entries) line f) }
 {
     let Stated {
@@ -199,7 +207,8 @@ fn declare<'a>(
 ) -> Result<(), TextFault>
     requires few { length (table_on side draft.old).declared ≤ most_agents }
     ensures declared { IfOk result (λ _. DeclaresOn side draft.old draft.new name.now) }
-    ensures refused { IfErr result (λ f. RefusesFor RefusalKind.Redeclared line (list_any (bytes_eq name.now) (table_on side draft.old).declared ≡ true) f) }
+    ensures refused { IfErr result (λ f. RefusesFor RefusalKind.Redeclared line
+        (list_any (bytes_eq name.now) (table_on side draft.old).declared ≡ true) f) }
 {
     let is_new = match side {
         Side::Proposers => draft.proposer_names.declare(name)?,
@@ -221,8 +230,10 @@ fn listed<'a>(
     line: u32,
 ) -> Result<Vec<u32>, TextFault>
     requires fresh { (k : ℕ) → slice_index (table_on side draft.old).stamps k < line }
-    ensures listed { IfOk result (λ indexes. ListsOn side draft.old draft.new (texts_of entries.now) line indexes.items) }
-    ensures refused { IfErr result (λ f. RefusesFor RefusalKind.RepeatedEntry line (has_repeated (texts_of entries.now) ≡ true) f) }
+    ensures listed { IfOk result (λ indexes. ListsOn side draft.old draft.new
+        (texts_of entries.now) line indexes.items) }
+    ensures refused { IfErr result (λ f. RefusesFor RefusalKind.RepeatedEntry line
+        (has_repeated (texts_of entries.now) ≡ true) f) }
 {
     let indexes = match side {
         Side::Proposers => draft.proposer_names.list(alloc, entries, line)?,
@@ -238,7 +249,9 @@ fn listed<'a>(
 fn put_agent<'a>(draft: &mut Draft<'a>, side: Side, agent: Declared<'a>) -> Result<(), TextFault>
     requires { draft.old.entries ≤ most_entries }
     ensures put { IfOk result (λ _. PutsOn side draft.old draft.new agent.entry) }
-    ensures fault { IfErr result (λ f. IsLineFault (limit_fault (length (declared_on side draft.old)) draft.old.entries (length agent.entry.entries.items)) agent.entry.line f) }
+    ensures fault { IfErr result (λ f. IsLineFault
+        (limit_fault (length (declared_on side draft.old)) draft.old.entries
+        (length agent.entry.entries.items)) agent.entry.line f) }
 {
     let count = match side {
         Side::Proposers => draft.proposers.len(),
@@ -266,8 +279,10 @@ fn pair_of<'a>(
     proposer: &'a [u8],
     reviewer: &'a [u8],
 ) -> Result<Pair, TextFault>
-    ensures pair { IfOk result (λ pair. PairsOf draft.old draft.new proposer.now reviewer.now line pair) }
-    ensures refused { IfErr result (λ f. RefusesFor RefusalKind.BadName line (list_all is_a_name (proposer.now ∷ reviewer.now ∷ []) ≡ false) f) }
+    ensures pair { IfOk result (λ pair. PairsOf draft.old draft.new proposer.now reviewer.now line
+        pair) }
+    ensures refused { IfErr result (λ f. RefusesFor RefusalKind.BadName line
+        (list_all is_a_name (proposer.now ∷ reviewer.now ∷ []) ≡ false) f) }
 {
     if !is_name(proposer) || !is_name(reviewer) {
         return Err(TextFault::Refused(RefusalKind::BadName, line));
@@ -289,10 +304,13 @@ fn add_weight<'a>(
     reviewer: &'a [u8],
     weight: &[u8],
 ) -> Result<(), TextFault>
-    requires in_range { ArePairsBelow (length draft.old.proposer_names.texts) (length draft.old.reviewer_names.texts) (pairs_of draft.old.weights.items) }
+    requires in_range { ArePairsBelow (length draft.old.proposer_names.texts)
+        (length draft.old.reviewer_names.texts) (pairs_of draft.old.weights.items) }
     requires weighed { keys draft.old.weighed ≡ map key_of draft.old.weights.items }
-    ensures put { IfOk result (λ _. PutsWeight draft.old draft.new proposer.now reviewer.now weight.now line) }
-    ensures fault { IfErr result (λ f. IsLineFault (weight_fault (weights_in draft.old) proposer.now reviewer.now weight.now) line f) }
+    ensures put { IfOk result (λ _. PutsWeight draft.old draft.new proposer.now reviewer.now
+        weight.now line) }
+    ensures fault { IfErr result (λ f. IsLineFault
+        (weight_fault (weights_in draft.old) proposer.now reviewer.now weight.now) line f) }
 {
     let pair = pair_of(draft, line, proposer, reviewer)?;
     let Some(weight) = signed(weight, MOST_WEIGHT) else {
@@ -313,8 +331,10 @@ fn add_condition<'a>(
     proposer: &'a [u8],
     reviewer: &'a [u8],
 ) -> Result<(), TextFault>
-    ensures bound { IfOk result (λ _. Binds condition draft.old draft.new proposer.now reviewer.now line) }
-    ensures refused { IfErr result (λ f. RefusesFor RefusalKind.BadName line (list_all is_a_name (proposer.now ∷ reviewer.now ∷ []) ≡ false) f) }
+    ensures bound { IfOk result (λ _. Binds condition draft.old draft.new proposer.now
+        reviewer.now line) }
+    ensures refused { IfErr result (λ f. RefusesFor RefusalKind.BadName line
+        (list_all is_a_name (proposer.now ∷ reviewer.now ∷ []) ≡ false) f) }
 {
     let pair = pair_of(draft, line, proposer, reviewer)?;
     put_pair(draft, condition, pair)?;

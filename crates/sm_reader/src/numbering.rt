@@ -67,7 +67,8 @@ fn earlier(a: Option<u32>, b: Option<u32>) -> Option<u32>
 // The first line whose list has a name that isn't declared.
 fn first_in_lists(names: &Names<'_>, agents: &[Declared<'_>]) -> Option<u32>
     requires { AreAgentsBelow (length names.now.texts) agents.now }
-    ensures { result ≡ least (lines_with_unknown names.now.declared (map (agent_in names.now.texts) agents.now)) }
+    ensures { result ≡ least (lines_with_unknown names.now.declared
+        (map (agent_in names.now.texts) agents.now)) }
 {
     let mut first = None;
     'agents: for agent in agents {
@@ -89,7 +90,8 @@ fn line_if(line: u32, counts: bool) -> Option<u32>
 // Is one of these names not declared?
 fn has_unknown(names: &Names<'_>, indexes: &[u32]) -> bool
     requires { AreBelow (length names.now.texts) indexes.now }
-    ensures { result ≡ list_any (is_unknown names.now.declared) (map (text_at names.now.texts) indexes.now) }
+    ensures { result ≡ list_any (is_unknown names.now.declared)
+        (map (text_at names.now.texts) indexes.now) }
 {
     'indexes: for index in indexes {
         if !names.is_declared(*index) {
@@ -117,7 +119,8 @@ fn first_in_pairs(proposers: &Names<'_>, reviewers: &Names<'_>, pairs: &[Pair]) 
 
 // The first line of a weight of whose pair one isn't declared.
 fn first_in_weights(proposers: &Names<'_>, reviewers: &Names<'_>, weights: &[Weight]) -> Option<u32>
-    requires { ArePairsBelow (length proposers.now.texts) (length reviewers.now.texts) (pairs_of weights.now) }
+    requires { ArePairsBelow (length proposers.now.texts) (length reviewers.now.texts)
+        (pairs_of weights.now) }
     ensures { result ≡ least (pairs_with_unknown proposers.now.declared reviewers.now.declared
         (map (pair_in proposers.now.texts reviewers.now.texts) (pairs_of weights.now))) }
 {
@@ -193,7 +196,8 @@ fn number_agents(
 ) -> Result<Vec<Agent>, AllocError>
     requires few { length names.now.declared < 2 ^ 32 }
     requires in_range { AreAgentsBelow (length names.now.texts) side.items }
-    ensures { IfOk result (λ v. agents_of v.items ≡ map (numbered names.now.declared) (map (agent_in names.now.texts) side.entry.items)) }
+    ensures { IfOk result (λ v. agents_of v.items ≡ map (numbered names.now.declared)
+        (map (agent_in names.now.texts) side.entry.items)) }
 {
     let mut agents = Vec::with_capacity(alloc, side.len())?;
     'agents: for declared in side {
@@ -210,7 +214,8 @@ fn number_agent(
 ) -> Result<Agent, AllocError>
     requires few { length names.now.declared < 2 ^ 32 }
     requires in_range { AreBelow (length names.now.texts) declared.entries.items }
-    ensures { IfOk result (λ a. agent_of a ≡ numbered names.now.declared (agent_in names.now.texts declared.entry)) }
+    ensures { IfOk result (λ a. agent_of a ≡ numbered names.now.declared
+        (agent_in names.now.texts declared.entry)) }
 {
     let Declared {
         name,
@@ -232,7 +237,8 @@ fn number_agent(
 fn number_names(names: &Names<'_>, entries: &mut [u32])
     requires few { length names.now.declared < 2 ^ 32 }
     requires in_range { AreBelow (length names.now.texts) entries.old }
-    ensures { entries.new ≡ map (number_in names.now.declared) (map (text_at names.now.texts) entries.old) }
+    ensures { entries.new ≡ map (number_in names.now.declared)
+        (map (text_at names.now.texts) entries.old) }
 {
     'entries: for entry in entries.iter_mut() {
         *entry = names.number(*entry);
@@ -248,7 +254,8 @@ fn number_pairs(
 ) -> Result<Vec<(u32, u32)>, AllocError>
     requires few_proposers { length proposers.now.declared < 2 ^ 32 }
     requires few_reviewers { length reviewers.now.declared < 2 ^ 32 }
-    requires in_range { ArePairsBelow (length proposers.now.texts) (length reviewers.now.texts) pairs.now }
+    requires in_range { ArePairsBelow (length proposers.now.texts) (length reviewers.now.texts)
+        pairs.now }
     ensures { IfOk result (λ v. v.items ≡ map (pair_among proposers.now.declared reviewers.now.declared)
         (map (pair_in proposers.now.texts reviewers.now.texts) pairs.now)) }
 {
@@ -270,8 +277,10 @@ fn number_weights(
 ) -> Result<Vec<(u32, u32, i64)>, AllocError>
     requires few_proposers { length proposers.now.declared < 2 ^ 32 }
     requires few_reviewers { length reviewers.now.declared < 2 ^ 32 }
-    requires in_range { ArePairsBelow (length proposers.now.texts) (length reviewers.now.texts) (pairs_of weights.now) }
-    ensures { IfOk result (λ v. v.items ≡ map (weight_among proposers.now.declared reviewers.now.declared)
+    requires in_range { ArePairsBelow (length proposers.now.texts) (length reviewers.now.texts)
+        (pairs_of weights.now) }
+    ensures { IfOk result (λ v. v.items ≡ map (weight_among proposers.now.declared
+        reviewers.now.declared)
         (map (given_in proposers.now.texts reviewers.now.texts) weights.now)) }
 {
     let mut numbers = Vec::with_capacity(alloc, weights.len())?;

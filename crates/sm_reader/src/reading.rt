@@ -105,8 +105,10 @@ fn read_lines(alloc: Global, bytes: &[u8], header: Header) -> Result<Read, TextF
     requires short { length bytes.now ≤ most_bytes }
     requires headed { IsHeaded bytes.now header }
     ensures sound { IfOk result (λ read. IsInput read.input) }
-    ensures read { IfOk result (λ read. behind_header header.kind header.line nothing (header.line + 1) header.next (lines (drop header.next bytes.now)) ≡ Ok (read_of read)) }
-    ensures fault { IfErr result (λ f. IsFaultOf (behind_header header.kind header.line nothing (header.line + 1) header.next (lines (drop header.next bytes.now))) f) }
+    ensures read { IfOk result (λ read. behind_header header.kind header.line nothing
+        (header.line + 1) header.next (lines (drop header.next bytes.now)) ≡ Ok (read_of read)) }
+    ensures fault { IfErr result (λ f. IsFaultOf (behind_header header.kind header.line nothing
+        (header.line + 1) header.next (lines (drop header.next bytes.now))) f) }
 {
     let mut draft = empty(alloc, TextHash::of(bytes));
     let mut tokens = Vec::new(alloc);
@@ -153,7 +155,8 @@ fn persons(alloc: Global, draft: Draft<'_>) -> Result<Input, TextFault>
     requires ready { IsReady Kind.Roommates draft }
     requires known { least (unknown_lines Kind.Roommates (said_of Kind.Roommates draft)) ≡ None }
     ensures sound { IfOk result (λ input. IsInput input) }
-    ensures persons { IfOk result (λ input. input ≡ input_of Kind.Roommates (said_of Kind.Roommates draft.entry)) }
+    ensures persons { IfOk result (λ input. input ≡ input_of Kind.Roommates
+        (said_of Kind.Roommates draft.entry)) }
     ensures memory { IfErr result (λ f. f ≡ TextFault.OutOfMemory) }
 {
     let persons = numbered_persons(alloc, draft)?;

@@ -32,7 +32,8 @@ struct Token {
 
 /// What the line that begins at a place holds, and the place behind the line.
 pub(crate) fn line_from<'a>(bytes: &'a [u8], from: usize) -> Option<(&'a [u8], usize)>
-    ensures line { MatchOption result (length bytes.now ≤ from) (λ r. LeadsLines bytes.now from r.0.now r.1) }
+    ensures line { MatchOption result (length bytes.now ≤ from)
+        (λ r. LeadsLines bytes.now from r.0.now r.1) }
     ensures later { IfSome result (λ r. from < r.1) }
     ensures within { IfSome result (λ r. r.1 ≤ length bytes.now) }
 {
@@ -65,9 +66,12 @@ pub(crate) fn cut<'a>(line: &'a [u8], into: &mut Vec<&'a [u8]>) -> Result<Found,
 
 // The first token at or behind a place of a line.
 fn token_from(line: &[u8], from: usize) -> Option<Token>
-    ensures places { MatchOption result (tokens (drop from line.now) ≡ []) (λ t. IsLeading line.now from t.start t.stop) }
-    ensures bad { IfSome result (λ t. t.bad ≡ is_bad (take (t.stop - t.start) (drop t.start line.now))) }
-    ensures name { IfSome result (λ t. t.name ≡ is_a_name (take (t.stop - t.start) (drop t.start line.now))) }
+    ensures places { MatchOption result (tokens (drop from line.now) ≡ [])
+        (λ t. IsLeading line.now from t.start t.stop) }
+    ensures bad { IfSome result (λ t. t.bad ≡ is_bad
+        (take (t.stop - t.start) (drop t.start line.now))) }
+    ensures name { IfSome result (λ t. t.name ≡ is_a_name
+        (take (t.stop - t.start) (drop t.start line.now))) }
 {
     match token_at(line, from) {
         TokenAt::Run(start, stop) => Some(Token {

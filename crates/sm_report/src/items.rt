@@ -68,7 +68,8 @@ fn put_item(
 ) -> Result<(), AllocError>
     requires named { AreNamed input.now items }
     requires in_range { at < length (each_of input.now items) }
-    ensures { PutsText into.old into.new (spaced (slice_index_or (each_of input.now items.entry) at [])) result }
+    ensures { PutsText into.old into.new (spaced (slice_index_or (each_of input.now items.entry)
+        at [])) result }
 {
     match items {
         Items::Lefts(list) => put_fields(into, input, &[Field::Left(list[at])]),

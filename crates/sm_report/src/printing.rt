@@ -48,7 +48,8 @@ fn put_words(
     fields: &[Field<'_>],
 ) -> Result<(), AllocError>
     requires { AreShown input.now fields.now }
-    ensures { PutsText into.old into.new (join_with_byte 32 (word.now ∷ map (text_of_field input.now) fields.now)) result }
+    ensures { PutsText into.old into.new (join_with_byte 32
+        (word.now ∷ map (text_of_field input.now) fields.now)) result }
 {
     into.put_bytes(word)?;
     put_fields(into, input, fields)
@@ -201,7 +202,8 @@ pub fn put_text(into: &mut LineWriter, input: &Input, line: &Line) -> Result<(),
 
 // Puts the text of a first line: the command, and its operands with what wasn't said filled in.
 fn put_head(into: &mut LineWriter, input: &Input, head: &Head) -> Result<(), AllocError>
-    ensures { PutsText into.old into.new (join_with_byte 32 (codes "answer" ∷ fields_of_head (head_of head.now))) result }
+    ensures { PutsText into.old into.new (join_with_byte 32
+        (codes "answer" ∷ fields_of_head (head_of head.now))) result }
 {
     match head {
         Head::Solve(None) => put_answer(into, input, &[Field::Text(b"solve")]),
@@ -257,7 +259,8 @@ fn put_head(into: &mut LineWriter, input: &Input, head: &Head) -> Result<(), All
 // Puts `answer` and fields.
 fn put_answer(into: &mut LineWriter, input: &Input, fields: &[Field<'_>]) -> Result<(), AllocError>
     requires { AreShown input.now fields.now }
-    ensures { PutsText into.old into.new (join_with_byte 32 (codes "answer" ∷ map (text_of_field input.now) fields.now)) result }
+    ensures { PutsText into.old into.new (join_with_byte 32
+        (codes "answer" ∷ map (text_of_field input.now) fields.now)) result }
 {
     put_words(into, input, b"answer", fields)
 }
