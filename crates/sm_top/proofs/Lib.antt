@@ -1,12 +1,5 @@
 pub mod WritingLemmas
 pub mod InputLemmas
 pub mod StopLemmas
-pub mod FilterLemmas
-pub mod MarriageLemmas
-pub mod MarketLemmas
 pub mod RefusingLemmas
-pub mod SolveLemmas
-pub mod ReduceLemmas
-pub mod ShownLemmas
-pub mod RotationLemmas
 pub mod RunLemmas

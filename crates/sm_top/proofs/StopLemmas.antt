@@ -1,7 +1,7 @@
 -- A line that says why there is no answer.
 use Rattle.std.proofs.Common.{◌≡◌, ℕ, true, false, List, [], ◌∷◌, ◌++◌, Ok, refl, ap, arith}
 use Rattle.sm_answer.specs.Giving.{PutsNext}
-use Rattle.sm_top.specs.GivenLines.{lines_unsaid, most_unsaid}
+use Rattle.sm_top.specs.Unsaid.{lines_unsaid, most_unsaid}
 
 pub line_said : (line held holds : List ℕ) → holds ≡ held ++ line
     → PutsNext (λ rest. rest ≡ lines_unsaid false line) (λ rest. rest ≡ lines_unsaid true line) (most_unsaid false) (most_unsaid true) held holds (Ok true)

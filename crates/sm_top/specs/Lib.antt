@@ -1,10 +1,5 @@
-pub mod MarriageMarket
 pub mod Texts
 pub mod Accepting
-pub mod Answers
-pub mod Reduction
-pub mod RotationLines
-pub mod RotationAnswer
 pub mod Input
 pub mod Outcome
 pub mod Running
@@ -12,5 +7,4 @@ pub mod Statuses
 pub mod Stops
 pub mod Wrote
 pub mod Steps
-pub mod GivenLines
-pub mod Needs
+pub mod Unsaid

@@ -13,9 +13,9 @@ use Rattle.sm_top.specs.declared.status.Status.{Status}
 use Rattle.sm_top.specs.declared.status.Status.TheVariants.{Done, Refused, Usage}
 use Rattle.sm_top.specs.Texts.{RefusalData, usage_line, refused_line}
 use Rattle.sm_top.specs.Accepting.{accepted, IsUnaccepted}
-use Rattle.sm_top.specs.Answers.{IsSolution}
-use Rattle.sm_top.specs.Reduction.{IsReduction}
-use Rattle.sm_top.specs.RotationAnswer.{IsRotationAnswer}
+use Rattle.sm_shown.specs.Answers.{IsSolution}
+use Rattle.sm_shown.specs.Reduction.{IsReduction}
+use Rattle.sm_shown.specs.RotationAnswer.{IsRotationAnswer}
 
 -- a right answer for an instance with two sides
 abbrev pub OfTwo : (Written → List LineData → Type 0) → Input → List LineData → Type 0

@@ -1,23 +1,14 @@
 //! The top call of the stable matching workbench: [`run`] does all that the program does.
 //!
-//! The words are read by [`read_words`]. For each job a file makes its answer, a value that gives lines
-//! ([`sm_answer::Lines`]), and `running.rt` writes it or says why there is none. How a command is added is told in the
+//! The words are read by [`read_words`]. For each job `sm_shown` makes its answer, a value that gives lines
+//! ([`sm_answer::Lines`]), and this crate writes it or says why there is none. How a command is added is told in the
 //! document `ADDING.md` of this repository.
 #![tactic(auto)]
 
-mod basis;
 mod input;
-mod list_lines;
-mod market;
-mod pair_lines;
 mod performing;
-mod reduction;
 mod refusing;
-mod rotation_answer;
-mod rotation_lines;
 mod running;
-mod seat_lines;
-mod solution;
 mod status;
 mod stop;
 mod writing;

@@ -1,28 +1,30 @@
 //! Doing a job: an arm for each command, which makes its answer and writes it.
 
-ghost use Rattle.std.specs.Prelude.{◌≡◌, ◌≤◌, Ok, IfOk, IfErr, OnErr, true, unwrap_or};
+ghost use Rattle.std.specs.Prelude.{◌≡◌, ◌≤◌, Ok, IfOk, IfErr, OnErr, unwrap_or};
 ghost use Rattle.sm_answer.specs.Printing.{IsShown};
 ghost use Rattle.sm_instance.specs.Inputs.{kind_of};
 ghost use Rattle.sm_instance.specs.declared.inputs.Input.TheVariants.{Two};
+ghost use Rattle.sm_instance.specs.declared.kinds.Kind.TheVariants.{Marriage};
 ghost use Rattle.sm_reader.specs.InstanceText.{read_of};
 ghost use Rattle.sm_words.specs.Jobs.{job_of};
-ghost use Rattle.sm_top.specs.Accepting.{accepted, is_built};
-ghost use Rattle.sm_top.specs.Answers.{IsSolution};
+ghost use Rattle.sm_top.specs.Accepting.{accepted};
+ghost use Rattle.sm_shown.specs.Answers.{IsSolution};
 ghost use Rattle.sm_top.specs.Outcome.{IsAnswer, IsOwnRefusal};
-ghost use Rattle.sm_top.specs.Reduction.{IsReduction};
-ghost use Rattle.sm_top.specs.RotationAnswer.{IsRotationAnswer};
+ghost use Rattle.sm_shown.specs.Reduction.{IsReduction};
+ghost use Rattle.sm_shown.specs.RotationAnswer.{IsRotationAnswer};
 ghost use Rattle.sm_top.specs.Stops.{StopsBy};
 ghost use Rattle.sm_top.specs.Wrote.{Wrote, With};
 
-use crate::reduction::{find_reduction, reduction_lines};
-use crate::rotation_answer::{find_rotations, rotation_answer_lines};
-use crate::solution::{find_solution, solution_lines};
 use crate::status::Status;
 use crate::stop::Stop;
 use crate::writing::write;
 use sm_instance::{Input, Instance, Side};
 use sm_io::Sink;
 use sm_reader::Read;
+use sm_shown::{
+    find_reduction, find_rotations, find_solution, reduction_lines, rotation_answer_lines,
+    solution_lines,
+};
 use sm_words::Job;
 use std::alloc::{AllocError, Global};
 
@@ -35,7 +37,7 @@ pub(crate) fn perform<K: Sink>(
     sink: &mut K,
 ) -> Result<Status, Stop>
     requires accepted { accepted (job_of job.now) bytes.now ≡ Ok (read_of read.now) }
-    requires built { is_built (kind_of read.now.input) ≡ true }
+    requires marriage { kind_of read.now.input ≡ Marriage }
     ensures wrote { IfOk result (λ status. Wrote (IsAnswer (job_of job.now) bytes.now)
         (K.held sink.old) (K.held sink.new) (K.faults sink.old) (K.faults sink.new) status) }
     ensures stop { IfErr result (λ stop.
@@ -63,7 +65,7 @@ fn solve<K: Sink>(
     sink: &mut K,
 ) -> Result<Status, AllocError>
     requires input { input.now ≡ Two instance.now }
-    requires built { is_built instance.now.kind ≡ true }
+    requires marriage { instance.now.kind ≡ Marriage }
     ensures wrote { IfOk result (λ status. Wrote
         (With Status.Done (IsShown input.now (IsSolution (unwrap_or side Side.Proposers) instance.now)))
         (K.held sink.old) (K.held sink.new) (K.faults sink.old) (K.faults sink.new) status) }
@@ -83,7 +85,7 @@ fn reduce<K: Sink>(
     sink: &mut K,
 ) -> Result<Status, AllocError>
     requires input { input.now ≡ Two instance.now }
-    requires built { is_built instance.now.kind ≡ true }
+    requires marriage { instance.now.kind ≡ Marriage }
     ensures wrote { IfOk result (λ status. Wrote (With Status.Done (IsShown input.now (IsReduction instance.now)))
         (K.held sink.old) (K.held sink.new) (K.faults sink.old) (K.faults sink.new) status) }
     ensures unwritten { OnErr result (sink.new ≡ sink.old) }
@@ -102,7 +104,7 @@ fn show_rotations<K: Sink>(
     sink: &mut K,
 ) -> Result<Status, AllocError>
     requires input { input.now ≡ Two instance.now }
-    requires built { is_built instance.now.kind ≡ true }
+    requires marriage { instance.now.kind ≡ Marriage }
     ensures wrote { IfOk result (λ status. Wrote (With Status.Done (IsShown input.now (IsRotationAnswer instance.now)))
         (K.held sink.old) (K.held sink.new) (K.faults sink.old) (K.faults sink.new) status) }
     ensures unwritten { OnErr result (sink.new ≡ sink.old) }

@@ -1,8 +1,13 @@
 //! Which inputs are refused.
 
+<<<<<<< ours
 ghost use Rattle.std.specs.Prelude.{◌≡◌, ◌≤◌, ◌+◌, ◌<◌, ◌^◌, length, drop, true, MatchOption, IfOk, IfErr, Ok, Err};
 ghost use Rattle.sm_text.specs.Limits.{most_bytes};
+=======
+ghost use Rattle.std.specs.Prelude.{◌≡◌, ◌≤◌, ◌+◌, ◌<◌, ◌^◌, length, drop, IsTrue, MatchOption, IfOk, IfErr, Ok, Err};
+>>>>>>> theirs
 ghost use Rattle.sm_instance.specs.Inputs.{kind_of};
+ghost use Rattle.sm_instance.specs.declared.kinds.Kind.TheVariants.{Marriage};
 ghost use Rattle.sm_text.specs.Lines.{lines};
 ghost use Rattle.sm_text.specs.Tokens.{tokens};
 ghost use Rattle.sm_reader.specs.InstanceText.{instance_text, read_of};
@@ -21,7 +26,7 @@ use std::alloc::Global;
 pub(crate) fn accept(alloc: Global, job: &Job, bytes: &[u8]) -> Result<Read, Stop>
     requires { length bytes.now ≤ most_bytes }
     ensures read { IfOk result (λ read. accepted (job_of job.now) bytes.now ≡ Ok (read_of read)) }
-    ensures built { IfOk result (λ read. is_built (kind_of read.input) ≡ true) }
+    ensures marriage { IfOk result (λ read. kind_of read.input ≡ Marriage) }
     ensures stop { IfErr result (λ stop. StopsBy (λ _. ⊥) (IsUnaccepted (job_of job.now) bytes.now) ⊥ stop) }
 {
     match read_instance(alloc, bytes) {
@@ -40,7 +45,7 @@ fn refusal(job: &Job, bytes: &[u8], read: &Read) -> Option<(RefusalKind, u32)>
     requires short { length bytes.now ≤ most_bytes }
     requires read { instance_text bytes.now ≡ Ok (read_of read.now) }
     ensures { MatchOption result
-        ((accepted (job_of job.now) bytes.now ≡ Ok (read_of read.now)) × (is_built (kind_of read.now.input) ≡ true))
+        ((accepted (job_of job.now) bytes.now ≡ Ok (read_of read.now)) × (kind_of read.now.input ≡ Marriage))
         (λ refusal. accepted (job_of job.now) bytes.now ≡ Err refusal) }
 {
     if !takes_text(job) {
@@ -107,7 +112,8 @@ fn takes_kind(job: &Job, kind: Kind) -> bool
 
 // Is this kind taken?
 fn is_built(kind: Kind) -> bool
-    ensures { result ≡ is_built kind }
+    ensures built { result ≡ is_built kind }
+    ensures marriage { IsTrue result → kind ≡ Marriage }
 {
     match kind {
         Kind::Marriage => true,

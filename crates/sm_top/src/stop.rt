@@ -40,7 +40,7 @@ pub(crate) struct UsageLine {
 
 impl Lines for UsageLine {
     ghost use Rattle.sm_top.specs.Texts.{usage_line};
-    ghost use Rattle.sm_top.specs.GivenLines.{lines_unsaid, most_unsaid};
+    ghost use Rattle.sm_top.specs.Unsaid.{lines_unsaid, most_unsaid};
     ghost use Rattle.std.specs.Prelude.{◌≡◌};
 
     ghost gives = { λ s rest. rest ≡ lines_unsaid s.is_said (usage_line s.word) };
@@ -68,7 +68,7 @@ pub(crate) struct RefusedLine {
 
 impl Lines for RefusedLine {
     ghost use Rattle.sm_top.specs.Texts.{plain, refused_line};
-    ghost use Rattle.sm_top.specs.GivenLines.{lines_unsaid, most_unsaid};
+    ghost use Rattle.sm_top.specs.Unsaid.{lines_unsaid, most_unsaid};
     ghost use Rattle.std.specs.Prelude.{◌≡◌};
 
     ghost gives = { λ s rest. rest ≡ lines_unsaid s.is_said (refused_line (plain s.kind s.at)) };

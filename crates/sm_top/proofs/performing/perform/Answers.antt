@@ -2,9 +2,9 @@ use Rattle.std.specs.Prelude.{unwrap_or}
 use Rattle.sm_instance.specs.declared.kinds.Side.TheVariants.{Proposers}
 use Rattle.sm_reader.specs.InstanceText.{read_of}
 use Rattle.sm_words.specs.Jobs.{Solve, Reduced, Rotations}
-use Rattle.sm_top.specs.Answers.{IsSolution}
-use Rattle.sm_top.specs.Reduction.{IsReduction}
-use Rattle.sm_top.specs.RotationAnswer.{IsRotationAnswer}
+use Rattle.sm_shown.specs.Answers.{IsSolution}
+use Rattle.sm_shown.specs.Reduction.{IsReduction}
+use Rattle.sm_shown.specs.RotationAnswer.{IsRotationAnswer}
 use Rattle.sm_top.specs.declared.status.Status.TheVariants.{Done}
 use Rattle.sm_top.proofs.RunLemmas.{wrote_answer}
 use Rattle.sm_top.proofs.performing.perform.Goals as goal

@@ -1,0 +1,28 @@
+//! What the commands show: their answers, as values that give lines.
+//!
+//! For each command a function finds what its answer is read from, and another one lends that as lines
+//! ([`sm_answer::Lines`]): [`find_solution`] and [`solution_lines`], [`find_reduction`] and [`reduction_lines`],
+//! [`find_rotations`] and [`rotation_answer_lines`]. All but the first two stand on a [`Basis`]. The instance has to be a
+//! marriage.
+#![tactic(auto)]
+
+mod basis;
+mod list_lines;
+mod market;
+mod pair_lines;
+mod reduction;
+mod rotation_answer;
+mod rotation_lines;
+mod seat_lines;
+mod solution;
+
+pub use basis::Basis;
+pub use list_lines::{ProposerLists, ReviewerLists};
+pub use pair_lines::PairLines;
+pub use reduction::{Reduction, ReductionLines, find_reduction, reduction_lines};
+pub use rotation_answer::{
+    RotationAnswer, RotationAnswerLines, find_rotations, rotation_answer_lines,
+};
+pub use rotation_lines::{RotationLines, Rotations};
+pub use seat_lines::SeatLines;
+pub use solution::{Solution, SolutionLines, find_solution, solution_lines};

@@ -1,0 +1,105 @@
+//! The rotations of a chain as lines, each with what it needs.
+
+ghost use Rattle.std.specs.Prelude.{◌≡◌, ◌<◌, ◌≤◌, ◌^◌, ◌+◌, ℕ, All, length, map, IfOk};
+ghost use Rattle.sm_market.specs.Lists.{row};
+ghost use Rattle.sm_market.specs.Vectors.{rows_of};
+ghost use Rattle.sm_report.specs.Lines.{LineData, line_of};
+ghost use Rattle.sm_theory.specs.Chains.{rotation_at};
+ghost use Rattle.sm_theory.specs.Values.{rotations_of};
+ghost use Rattle.sm_shown.specs.RotationLines.{turns_of, numbers_of};
+
+use crate::seat_lines::seat_of;
+use sm_answer::Answer;
+use sm_report::{Line, Seat};
+use sm_theory::Rotation;
+use std::alloc::{AllocError, Global};
+
+/// The rotations of a chain and what each of them needs.
+#[derive(Drop)]
+pub struct Rotations<'a> {
+    pub rotations: &'a [Rotation],
+    pub needs: &'a [Vec<u32>],
+    ghost few: { length rotations.now < 2 ^ 24 },
+    ghost one_each: { length needs.now ≡ length rotations.now },
+    ghost small: { (k : ℕ) → All (λ i. i < 2 ^ 24) (row (rows_of needs.now) k) },
+}
+
+/// Two lines for each rotation from one on: its pairs, and then what it needs.
+#[derive(Drop)]
+pub struct RotationLines<'a> {
+    pub rows: Rotations<'a>,
+    pub next: u32,
+    /// Whether the first line of the next rotation is given already.
+    pub halfway: bool,
+}
+
+impl Answer for RotationLines<'_> {
+    ghost use Rattle.std.specs.Prelude.{◌≡◌, ◌-◌, length};
+    ghost use Rattle.sm_market.specs.Vectors.{rows_of};
+    ghost use Rattle.sm_theory.specs.Values.{rotations_of};
+    ghost use Rattle.sm_shown.specs.GivenLines.{lines_left, most_left};
+
+    ghost gives = { λ s rest. rest
+        ≡ lines_left s.halfway (rotations_of s.rows.rotations.now) (rows_of s.rows.needs.now) s.next };
+
+    ghost most = { λ s. most_left s.halfway (length s.rows.rotations.now - s.next) };
+
+    #[tactic(auto, using(crate::proofs::RotationLemmas::rotation_given, crate::proofs::RotationLemmas::needs_given, crate::proofs::RotationLemmas::none_given))]
+    fn next(&mut self, alloc: Global) -> Result<Option<Line>, AllocError> {
+        if self.next >= self.rows.rotations.len() as u32 {
+            return Ok(None);
+        }
+        if !self.halfway {
+            let line = rotation_line(alloc, &self.rows, self.next)?;
+            self.halfway = true;
+            return Ok(Some(line));
+        }
+        let line = needs_line(alloc, &self.rows, self.next)?;
+        self.halfway = false;
+        self.next += 1;
+        Ok(Some(line))
+    }
+}
+
+// The line of a rotation's pairs.
+fn rotation_line(alloc: Global, rows: &Rotations, k: u32) -> Result<Line, AllocError>
+    requires { k < length rows.now.rotations.now }
+    ensures { IfOk result (λ line. line_of line
+        ≡ LineData.Rotation (k + 1) (turns_of (rotation_at (rotations_of rows.now.rotations.now) k))) }
+{
+    let turns = turns_of(alloc, &rows.rotations[k as usize].pairs)?;
+    Ok(Line::Rotation(k + 1, turns))
+}
+
+// The line of what a rotation needs.
+fn needs_line(alloc: Global, rows: &Rotations, k: u32) -> Result<Line, AllocError>
+    requires { k < length rows.now.rotations.now }
+    ensures { IfOk result (λ line. line_of line
+        ≡ LineData.Needs (k + 1) (numbers_of (row (rows_of rows.now.needs.now) k))) }
+{
+    let numbers = numbers_of(alloc, &rows.needs[k as usize])?;
+    Ok(Line::Needs(k + 1, numbers))
+}
+
+// The pairs of a rotation with the seats of their reviewers, each of which has one.
+fn turns_of(alloc: Global, pairs: &[(u32, u32)]) -> Result<Vec<(u32, Seat)>, AllocError>
+    ensures { IfOk result (λ turns. turns.items ≡ turns_of pairs.now) }
+{
+    let mut turns = Vec::with_capacity(alloc, pairs.len())?;
+    for pair in pairs {
+        turns.push((pair.0, seat_of(pair.1)))?;
+    }
+    Ok(turns)
+}
+
+// The numbers of rotations as they are shown, from 1.
+fn numbers_of(alloc: Global, needed: &[u32]) -> Result<Vec<u32>, AllocError>
+    requires { All (λ i. i < 2 ^ 24) needed.now }
+    ensures { IfOk result (λ numbers. numbers.items ≡ numbers_of needed.now) }
+{
+    let mut numbers = Vec::with_capacity(alloc, needed.len())?;
+    for k in needed {
+        numbers.push(*k + 1)?;
+    }
+    Ok(numbers)
+}

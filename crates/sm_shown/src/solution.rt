@@ -1,0 +1,99 @@
+//! The answer of `solve`.
+
+ghost use Rattle.std.specs.Prelude.{◌≡◌, ℕ, List, IfOk, unwrap_or};
+ghost use Rattle.sm_answer.specs.Giving.{HasRest};
+ghost use Rattle.sm_answer.specs.Printing.{IsShown};
+ghost use Rattle.sm_instance.specs.Sound.{IsInstance};
+ghost use Rattle.sm_instance.specs.declared.inputs.Input.TheVariants.{Two};
+ghost use Rattle.sm_market.specs.Pairing.{IsPairingOf};
+ghost use Rattle.sm_instance.specs.declared.kinds.Kind.TheVariants.{Marriage};
+ghost use Rattle.sm_shown.specs.MarriageMarket.{market_of};
+ghost use Rattle.sm_shown.specs.GivenLines.{IsMarketBestOf};
+ghost use Rattle.sm_shown.specs.Answers.{IsSolution};
+
+use crate::market::mutual_market;
+use crate::pair_lines::PairLines;
+use sm_accept::{proposer_best, reviewer_best};
+use sm_answer::{Each, Lines, One, Printed, Then};
+use sm_instance::{Input, Instance, Side};
+use sm_market::{Market, Pairing};
+use sm_report::{Head, Line};
+use std::alloc::{AllocError, Global};
+
+/// The best stable matching of a side of a market.
+#[derive(Drop)]
+pub struct Solution {
+    pub side: Side,
+    pub market: Market,
+    pub best: Pairing,
+    ghost made: { IsPairingOf market best },
+}
+
+/// The best stable matching of a side of a marriage, of the proposers where no side is named (Gale and Shapley 1962). Takes
+/// time and memory linear in the entries.
+///
+/// # Errors
+///
+/// `AllocError` where memory ran out, and only then.
+pub fn find_solution(
+    alloc: Global,
+    instance: &Instance,
+    side: Option<Side>,
+) -> Result<Solution, AllocError>
+    ensures instance { IsInstance instance.now }
+    ensures side { IfOk result (λ solution. solution.side ≡ unwrap_or side Side.Proposers) }
+    ensures market { IfOk result (λ solution. solution.market ≡ market_of instance.now) }
+    ensures best { IfOk result (λ solution. IsMarketBestOf solution.side solution.market solution.best.places) }
+{
+    let market = mutual_market(alloc, instance)?;
+    let side = side.unwrap_or(Side::Proposers);
+    let best = best_of(alloc, side, &market)?;
+    Ok(Solution { side, market, best })
+}
+
+/// The lines of the answer of `solve`.
+pub type SolutionLines<'a> = Printed<'a, Then<One, Then<Each<PairLines<'a>>, One>>>;
+
+/// The head, the pairs of the best stable matching of a side in the order of the proposers, and `end`.
+pub fn solution_lines<'a>(
+    input: &'a Input,
+    instance: &Instance,
+    solution: &'a Solution,
+) -> SolutionLines<'a>
+    requires input { input.now ≡ Two instance.now }
+    requires marriage { instance.now.kind ≡ Marriage }
+    requires market { solution.now.market ≡ market_of instance.now }
+    requires best { IsMarketBestOf solution.now.side solution.now.market solution.now.best.places }
+    ensures right { (lines : List (List ℕ)) → ⟦<SolutionLines<'a> as Lines>⟧.gives result lines
+        → IsShown input.now (IsSolution solution.now.side instance.now) lines }
+    ensures some { HasRest (⟦<SolutionLines<'a> as Lines>⟧.gives result) }
+{
+    let _count = instance.proposer_count();
+    Printed {
+        input,
+        answer: Then {
+            first: One(Some(Line::Answer(Head::Solve(Some(solution.side))))),
+            second: Then {
+                first: Each {
+                    items: PairLines {
+                        market: &solution.market,
+                        pairing: &solution.best,
+                    },
+                    next: 0,
+                },
+                second: One(Some(Line::End)),
+            },
+        },
+    }
+}
+
+// The best stable matching of a side.
+fn best_of(alloc: Global, side: Side, market: &Market) -> Result<Pairing, AllocError>
+    ensures made { IfOk result (λ m. IsPairingOf market.now m) }
+    ensures best { IfOk result (λ m. IsMarketBestOf side market.now m.places) }
+{
+    match side {
+        Side::Proposers => proposer_best(alloc, market),
+        Side::Reviewers => reviewer_best(alloc, market),
+    }
+}

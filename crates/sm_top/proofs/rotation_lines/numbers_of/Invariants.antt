@@ -1,7 +1,0 @@
-use Rattle.std.proofs.Common.{◌≡◌, map, take}
-use Rattle.sm_top.specs.RotationLines.{number_of}
-use Rattle.sm_top.proofs.rotation_lines.numbers_of.Given as goal
-
--- the numbers so far
-abbrev pub invariant-loop-k : goal.invariant-loop-k
-invariant-loop-k l = l.numbers.items ≡ map number_of (take l.k-index l.needed)
