@@ -37,128 +37,117 @@ pub record Grown (line : ℕ) (d : Draft) (pn rn : Table) : Type 0 where
   pub p_fresh : (k : ℕ) → get_or pn.stamps k 0 < line + 1
   pub r_fresh : (k : ℕ) → get_or rn.stamps k 0 < line + 1
 
+-- an agent stands behind those of a side, whose lists have names among texts that may have grown
+module _ (old new : List (List ℕ)) (more : Extends old new) (ds es : List Declared) (inside : AreAgentsBelow (length old) ds)
+    (agent : Declared) (below : AreBelow (length new) agent.entries.items) (pushed : es ≡ ds ++ agent ∷ []) where
+  pushed_said : map (agent_in new) es ≡ map (agent_in old) ds ++ agent_in new agent ∷ []
+  pushed_said = ap (map (agent_in new)) pushed ∙ map_push (agent_in new) ds agent ∙ ap (λ x. x ++ agent_in new agent ∷ []) (agents_kept old new ds more inside)
+
+  pushed_below : AreAgentsBelow (length new) es
+  pushed_below = subst (AreAgentsBelow (length new)) (sym pushed)
+      (agents_below_push (length new) ds agent (agents_below_more (length old) (length new) ds (extends_long old new more) inside) below)
+
+  pushed_entries : entries_of (map (agent_in new) es) ≡ entries_of (map (agent_in old) ds) + length agent.entries.items
+  pushed_entries =
+      ap entries_of pushed_said ∙ sum_by_push (λ (x : SaidAgent). length x.entries) (map (agent_in old) ds) (agent_in new agent)
+      ∙ ap (λ k. entries_of (map (agent_in old) ds) + k) (length-map agent.entries.items (text_at new))
+
+  pushed_names : (before after : List (List ℕ)) → after ≡ before ++ agent.name.now ∷ [] → before ≡ map (λ (x : Declared). x.name.now) ds
+      → after ≡ map (λ (x : Declared). x.name.now) es
+  pushed_names before after e named =
+      let name = λ (x : Declared). x.name.now in
+      e ∙ ap (λ x. x ++ agent.name.now ∷ []) named ∙ sym (ap (map name) pushed ∙ map_push name ds agent)
+
 module _ (kind : Kind) (line : ℕ) (d : Draft) (pn rn : Table) (draft : IsDraft kind line d) (grown : Grown line d pn rn) where
   listed_now : Extends (listed_table kind d.proposer_names d.reviewer_names).texts (listed_table kind pn rn).texts
   listed_now = listed_more kind d pn rn grown.p_more grown.r_more
 
-  -- a proposer is added
-  module _ (agent : Declared) (v : Vec Declared Global) (n : ℕ)
-      (declared_p : pn.declared ≡ d.proposer_names.declared ++ agent.name.now ∷ [])
-      (declared_r : rn.declared ≡ d.reviewer_names.declared)
-      (below : AreBelow (length (listed_table kind pn rn).texts) agent.entries.items)
-      (pushed : v.items ≡ d.proposers.items ++ agent ∷ [])
-      (more : n ≡ d.entries + length agent.entries.items)
-      (fits : (length d.proposers.items < most_agents) × (d.entries + length agent.entries.items ≤ most_entries)) where
-    proposer_said : said_of kind (record d { proposer_names = pn; reviewer_names = rn; proposers = v; entries = n }) ≡ with_agent Proposers (agent_in (listed_table kind pn rn).texts agent) (said_of kind d)
-    proposer_said =
-        let p = d.proposer_names.texts in
-        let q = pn.texts in
-        let r = d.reviewer_names.texts in
-        let s = rn.texts in
-        let listed = (listed_table kind pn rn).texts in
-        said_same
-        (ap (map (agent_in listed)) pushed ∙ map_push (agent_in listed) d.proposers.items agent
-        ∙ ap (λ x. x ++ agent_in listed agent ∷ []) (agents_kept (listed_table kind d.proposer_names d.reviewer_names).texts listed d.proposers.items listed_now draft.proposers_in))
-        (agents_kept p q d.reviewers.items grown.p_more draft.reviewers_in)
-        (weights_kept p q r s grown.p_more grown.r_more d.weights.items draft.weights_in)
-        (pairs_kept p q r s grown.p_more grown.r_more d.forced.items draft.forced_in)
-        (pairs_kept p q r s grown.p_more grown.r_more d.forbidden.items draft.forbidden_in)
+  -- a draft with other agents
+  abbrev with_agents : Vec Declared Global → Vec Declared Global → ℕ → Draft
+  with_agents ps rs n = record d { proposer_names = pn; reviewer_names = rn; proposers = ps; reviewers = rs; entries = n }
 
-    pub proposer_added : (said_of kind (record d { proposer_names = pn; reviewer_names = rn; proposers = v; entries = n }) ≡ with_agent Proposers (agent_in (listed_table kind pn rn).texts agent) (said_of kind d))
-        × IsDraft kind (line + 1) (record d { proposer_names = pn; reviewer_names = rn; proposers = v; entries = n })
-    proposer_added =
+  said_with_agents : (ps rs : Vec Declared Global) (n : ℕ) {p r : List SaidAgent} → map (agent_in (listed_table kind pn rn).texts) ps.items ≡ p → map (agent_in pn.texts) rs.items ≡ r
+      → said_of kind (with_agents ps rs n) ≡ record (said_of kind d) { proposers = p; reviewers = r }
+  said_with_agents ps rs n e f =
+      let p = d.proposer_names.texts in
+      let r = d.reviewer_names.texts in
+      said_same e f
+      (weights_kept p pn.texts r rn.texts grown.p_more grown.r_more d.weights.items draft.weights_in)
+      (pairs_kept p pn.texts r rn.texts grown.p_more grown.r_more d.forced.items draft.forced_in)
+      (pairs_kept p pn.texts r rn.texts grown.p_more grown.r_more d.forbidden.items draft.forbidden_in)
+
+  draft_with_agents : (ps rs : Vec Declared Global) (n : ℕ) → pn.declared ≡ map (λ (x : Declared). x.name.now) ps.items → rn.declared ≡ map (λ (x : Declared). x.name.now) rs.items
+      → AreAgentsBelow (length (listed_table kind pn rn).texts) ps.items → AreAgentsBelow (length pn.texts) rs.items
+      → n ≡ entries_of (map (agent_in (listed_table kind pn rn).texts) ps.items) + entries_of (map (agent_in pn.texts) rs.items)
+      → n ≤ most_entries → length ps.items ≤ most_agents → length rs.items ≤ most_agents → IsDraft kind (line + 1) (with_agents ps rs n)
+  draft_with_agents ps rs n named_ps named_rs below_ps below_rs counted few few_ps few_rs =
+      let p = d.proposer_names.texts in
+      let r = d.reviewer_names.texts in
+      record {
+        proposers_declared = named_ps;
+        reviewers_declared = named_rs;
+        proposers_in = below_ps;
+        reviewers_in = below_rs;
+        weights_in = pairs_below_more p pn.texts r rn.texts grown.p_more grown.r_more (pairs_of d.weights.items) draft.weights_in;
+        forced_in = pairs_below_more p pn.texts r rn.texts grown.p_more grown.r_more d.forced.items draft.forced_in;
+        forbidden_in = pairs_below_more p pn.texts r rn.texts grown.p_more grown.r_more d.forbidden.items draft.forbidden_in;
+        weighed = draft.weighed;
+        counted = counted;
+        entries_fit = few;
+        proposers_fit = few_ps;
+        reviewers_fit = few_rs;
+        proposers_fresh = grown.p_fresh;
+        reviewers_fresh = grown.r_fresh;
+        few = omega (arith, draft.few);
+      }
+
+  -- an agent is added, behind those of its side
+  module _ (agent : Declared) (v : Vec Declared Global) (n : ℕ) (more : n ≡ d.entries + length agent.entries.items) (few : d.entries + length agent.entries.items ≤ most_entries) where
+    pub proposer_added : pn.declared ≡ d.proposer_names.declared ++ agent.name.now ∷ [] → rn.declared ≡ d.reviewer_names.declared
+        → AreBelow (length (listed_table kind pn rn).texts) agent.entries.items → v.items ≡ d.proposers.items ++ agent ∷ [] → length d.proposers.items < most_agents
+        → (said_of kind (with_agents v d.reviewers n) ≡ with_agent Proposers (agent_in (listed_table kind pn rn).texts agent) (said_of kind d)) × IsDraft kind (line + 1) (with_agents v d.reviewers n)
+    proposer_added declared_p declared_r below pushed fits =
         let p = d.proposer_names.texts in
-        let q = pn.texts in
-        let r = d.reviewer_names.texts in
-        let s = rn.texts in
         let old = (listed_table kind d.proposer_names d.reviewer_names).texts in
-        let listed = (listed_table kind pn rn).texts in
-        let name = λ (a : Declared). a.name.now in
-        let said = said_of kind d in
-        let one = agent_in listed agent in (
-          proposer_said,
-          record {
-            proposers_declared = declared_p ∙ ap (λ x. x ++ agent.name.now ∷ []) draft.proposers_declared ∙ sym (ap (map name) pushed ∙ map_push name d.proposers.items agent);
-            reviewers_declared = declared_r ∙ draft.reviewers_declared;
-            proposers_in = subst (AreAgentsBelow (length listed)) (sym pushed)
-                (agents_below_push (length listed) d.proposers.items agent (agents_below_more (length old) (length listed) d.proposers.items (extends_long old listed listed_now) draft.proposers_in) below);
-            reviewers_in = agents_below_more (length p) (length q) d.reviewers.items (extends_long p q grown.p_more) draft.reviewers_in;
-            weights_in = pairs_below_more p q r s grown.p_more grown.r_more (pairs_of d.weights.items) draft.weights_in;
-            forced_in = pairs_below_more p q r s grown.p_more grown.r_more d.forced.items draft.forced_in;
-            forbidden_in = pairs_below_more p q r s grown.p_more grown.r_more d.forbidden.items draft.forbidden_in;
-            weighed = draft.weighed;
-            counted = sum_one (entries_of said.proposers) (entries_of said.reviewers) (length agent.entries.items) (length one.entries) (entries_of (said.proposers ++ one ∷ []))
-                draft.counted (length-map agent.entries.items (text_at listed)) (sum_by_push (λ (a : SaidAgent). length a.entries) said.proposers one) more ∙ sym (ap all_entries proposer_said);
-            entries_fit = omega (arith, fits.1);
-            proposers_fit = omega (arith, fits.0, ap length pushed, length_push d.proposers.items agent);
-            reviewers_fit = draft.reviewers_fit;
-            proposers_fresh = grown.p_fresh;
-            reviewers_fresh = grown.r_fresh;
-            few = omega (arith, draft.few);
-          },
+        let new = (listed_table kind pn rn).texts in
+        let ds = d.proposers.items in
+        let others = agents_kept p pn.texts d.reviewers.items grown.p_more draft.reviewers_in in (
+          said_with_agents v d.reviewers n (pushed_said old new listed_now ds v.items draft.proposers_in agent below pushed) others,
+          draft_with_agents v d.reviewers n
+              (pushed_names old new listed_now ds v.items draft.proposers_in agent below pushed d.proposer_names.declared pn.declared declared_p draft.proposers_declared)
+              (declared_r ∙ draft.reviewers_declared)
+              (pushed_below old new listed_now ds v.items draft.proposers_in agent below pushed)
+              (agents_below_more (length p) (length pn.texts) d.reviewers.items (extends_long p pn.texts grown.p_more) draft.reviewers_in)
+              (sum_left (entries_of (map (agent_in old) ds)) (entries_of (map (agent_in p) d.reviewers.items)) _ _ draft.counted
+              (pushed_entries old new listed_now ds v.items draft.proposers_in agent below pushed) (ap entries_of others))
+              (omega arith) (omega (arith, ap length pushed, length_push ds agent)) draft.reviewers_fit,
         )
       where
-        sum_one : (a b k l t : ℕ) → d.entries ≡ a + b → l ≡ k → t ≡ a + l → n ≡ d.entries + k → n ≡ t + b
-        sum_one a b k l t e f g h = omega arith
+        sum_left : (a b t u : ℕ) → d.entries ≡ a + b → t ≡ a + length agent.entries.items → u ≡ b → n ≡ t + u
+        sum_left a b t u e f g = omega arith
 
-  -- a reviewer is added
-  module _ (agent : Declared) (v : Vec Declared Global) (n : ℕ)
-      (declared_p : pn.declared ≡ d.proposer_names.declared)
-      (declared_r : rn.declared ≡ d.reviewer_names.declared ++ agent.name.now ∷ [])
-      (below : AreBelow (length pn.texts) agent.entries.items)
-      (pushed : v.items ≡ d.reviewers.items ++ agent ∷ [])
-      (more : n ≡ d.entries + length agent.entries.items)
-      (fits : (length d.reviewers.items < most_agents) × (d.entries + length agent.entries.items ≤ most_entries)) where
-    reviewer_said : said_of kind (record d { proposer_names = pn; reviewer_names = rn; reviewers = v; entries = n }) ≡ with_agent Reviewers (agent_in pn.texts agent) (said_of kind d)
-    reviewer_said =
+    pub reviewer_added : pn.declared ≡ d.proposer_names.declared → rn.declared ≡ d.reviewer_names.declared ++ agent.name.now ∷ []
+        → AreBelow (length pn.texts) agent.entries.items → v.items ≡ d.reviewers.items ++ agent ∷ [] → length d.reviewers.items < most_agents
+        → (said_of kind (with_agents d.proposers v n) ≡ with_agent Reviewers (agent_in pn.texts agent) (said_of kind d)) × IsDraft kind (line + 1) (with_agents d.proposers v n)
+    reviewer_added declared_p declared_r below pushed fits =
         let p = d.proposer_names.texts in
-        let q = pn.texts in
-        let r = d.reviewer_names.texts in
-        let s = rn.texts in
-        let listed = (listed_table kind pn rn).texts in
-        said_same
-        (agents_kept (listed_table kind d.proposer_names d.reviewer_names).texts listed d.proposers.items listed_now draft.proposers_in)
-        (ap (map (agent_in q)) pushed ∙ map_push (agent_in q) d.reviewers.items agent ∙ ap (λ x. x ++ agent_in q agent ∷ []) (agents_kept p q d.reviewers.items grown.p_more draft.reviewers_in))
-        (weights_kept p q r s grown.p_more grown.r_more d.weights.items draft.weights_in)
-        (pairs_kept p q r s grown.p_more grown.r_more d.forced.items draft.forced_in)
-        (pairs_kept p q r s grown.p_more grown.r_more d.forbidden.items draft.forbidden_in)
-
-    pub reviewer_added : (said_of kind (record d { proposer_names = pn; reviewer_names = rn; reviewers = v; entries = n }) ≡ with_agent Reviewers (agent_in pn.texts agent) (said_of kind d))
-        × IsDraft kind (line + 1) (record d { proposer_names = pn; reviewer_names = rn; reviewers = v; entries = n })
-    reviewer_added =
-        let p = d.proposer_names.texts in
-        let q = pn.texts in
-        let r = d.reviewer_names.texts in
-        let s = rn.texts in
         let old = (listed_table kind d.proposer_names d.reviewer_names).texts in
-        let listed = (listed_table kind pn rn).texts in
-        let name = λ (a : Declared). a.name.now in
-        let said = said_of kind d in
-        let one = agent_in q agent in (
-          reviewer_said,
-          record {
-            proposers_declared = declared_p ∙ draft.proposers_declared;
-            reviewers_declared = declared_r ∙ ap (λ x. x ++ agent.name.now ∷ []) draft.reviewers_declared ∙ sym (ap (map name) pushed ∙ map_push name d.reviewers.items agent);
-            proposers_in = agents_below_more (length old) (length listed) d.proposers.items (extends_long old listed listed_now) draft.proposers_in;
-            reviewers_in = subst (AreAgentsBelow (length q)) (sym pushed)
-                (agents_below_push (length q) d.reviewers.items agent (agents_below_more (length p) (length q) d.reviewers.items (extends_long p q grown.p_more) draft.reviewers_in) below);
-            weights_in = pairs_below_more p q r s grown.p_more grown.r_more (pairs_of d.weights.items) draft.weights_in;
-            forced_in = pairs_below_more p q r s grown.p_more grown.r_more d.forced.items draft.forced_in;
-            forbidden_in = pairs_below_more p q r s grown.p_more grown.r_more d.forbidden.items draft.forbidden_in;
-            weighed = draft.weighed;
-            counted = sum_one (entries_of said.proposers) (entries_of said.reviewers) (length agent.entries.items) (length one.entries) (entries_of (said.reviewers ++ one ∷ []))
-                draft.counted (length-map agent.entries.items (text_at q)) (sum_by_push (λ (a : SaidAgent). length a.entries) said.reviewers one) more ∙ sym (ap all_entries reviewer_said);
-            entries_fit = omega (arith, fits.1);
-            proposers_fit = draft.proposers_fit;
-            reviewers_fit = omega (arith, fits.0, ap length pushed, length_push d.reviewers.items agent);
-            proposers_fresh = grown.p_fresh;
-            reviewers_fresh = grown.r_fresh;
-            few = omega (arith, draft.few);
-          },
+        let new = (listed_table kind pn rn).texts in
+        let ds = d.reviewers.items in
+        let others = agents_kept old new d.proposers.items listed_now draft.proposers_in in (
+          said_with_agents d.proposers v n others (pushed_said p pn.texts grown.p_more ds v.items draft.reviewers_in agent below pushed),
+          draft_with_agents d.proposers v n
+              (declared_p ∙ draft.proposers_declared)
+              (pushed_names p pn.texts grown.p_more ds v.items draft.reviewers_in agent below pushed d.reviewer_names.declared rn.declared declared_r draft.reviewers_declared)
+              (agents_below_more (length old) (length new) d.proposers.items (extends_long old new listed_now) draft.proposers_in)
+              (pushed_below p pn.texts grown.p_more ds v.items draft.reviewers_in agent below pushed)
+              (sum_right (entries_of (map (agent_in old) d.proposers.items)) (entries_of (map (agent_in p) ds)) _ _ draft.counted
+              (ap entries_of others) (pushed_entries p pn.texts grown.p_more ds v.items draft.reviewers_in agent below pushed))
+              (omega arith) draft.proposers_fit (omega (arith, ap length pushed, length_push ds agent)),
         )
       where
-        sum_one : (a b k l t : ℕ) → d.entries ≡ a + b → l ≡ k → t ≡ b + l → n ≡ d.entries + k → n ≡ a + t
-        sum_one a b k l t e f g h = omega arith
+        sum_right : (a b t u : ℕ) → d.entries ≡ a + b → t ≡ a → u ≡ b + length agent.entries.items → n ≡ t + u
+        sum_right a b t u e f g = omega arith
 
 -- the three ways in which an agent is added
 module _ (line capacity : ℕ) (name : Bor (List ℕ)) (entries : List (List ℕ)) (ids : Vec ℕ Global) (d d1 d2 d3 : Draft) where
@@ -189,13 +178,13 @@ module _ (line capacity : ℕ) (name : Bor (List ℕ)) (entries : List (List ℕ
         r_fresh = λ k. omega (arith, lists.listed.stamps k);
       } in
       let fits : limit_fault (length d.proposers.items) d.entries (length ids.items) ≡ None = ap (λ (x : Draft). limit_fault (length x.proposers.items) x.entries (length ids.items)) (sym e12) ∙ puts.faultless in
+      let inside = within_limits (length d.proposers.items) d.entries (length ids.items) fits in
       let added = proposer_added kind line d d1.proposer_names d2.reviewer_names draft grown one d3.proposers d3.entries
+      (puts.entries ∙ ap (λ (x : Draft). x.entries + length ids.items) e12) inside.1
       declares.declares.declared
       (lists.listed.declared ∙ ap (λ (x : Draft). x.reviewer_names.declared) e1)
       (subst (λ (t : Table). AreBelow (length t.texts) ids.items) (sym (listed_is d1.proposer_names d2.reviewer_names)) lists.listed.in_range)
-      (puts.agents ∙ ap (λ (x : Draft). x.proposers.items ++ one ∷ []) e12)
-      (puts.entries ∙ ap (λ (x : Draft). x.entries + length ids.items) e12)
-      (within_limits (length d.proposers.items) d.entries (length ids.items) fits) in
+      (puts.agents ∙ ap (λ (x : Draft). x.proposers.items ++ one ∷ []) e12) inside.0 in
       record {
         faultless = no_fault d.proposer_names.declared (length d.proposers.items) d.entries d2.reviewer_names.texts declares.is_new lists.listed.differ lists.listed.names fits;
         said = ap (said_of kind) all ∙ added.0 ∙ ap (λ a. with_agent Proposers a (said_of kind d))
@@ -217,13 +206,13 @@ module _ (line capacity : ℕ) (name : Bor (List ℕ)) (entries : List (List ℕ
         r_fresh = λ k. omega (arith, draft.reviewers_fresh k);
       } in
       let fits : limit_fault (length d.proposers.items) d.entries (length ids.items) ≡ None = ap (λ (x : Draft). limit_fault (length x.proposers.items) x.entries (length ids.items)) (sym e12) ∙ puts.faultless in
+      let inside = within_limits (length d.proposers.items) d.entries (length ids.items) fits in
       let added = proposer_added Roommates line d d2.proposer_names d.reviewer_names draft grown one d3.proposers d3.entries
+      (puts.entries ∙ ap (λ (x : Draft). x.entries + length ids.items) e12) inside.1
       (lists.listed.declared ∙ declares.declares.declared)
       refl
       lists.listed.in_range
-      (puts.agents ∙ ap (λ (x : Draft). x.proposers.items ++ one ∷ []) e12)
-      (puts.entries ∙ ap (λ (x : Draft). x.entries + length ids.items) e12)
-      (within_limits (length d.proposers.items) d.entries (length ids.items) fits) in
+      (puts.agents ∙ ap (λ (x : Draft). x.proposers.items ++ one ∷ []) e12) inside.0 in
       record {
         faultless = no_fault d.proposer_names.declared (length d.proposers.items) d.entries d2.proposer_names.texts declares.is_new lists.listed.differ lists.listed.names fits;
         said = ap (said_of Roommates) all ∙ added.0 ∙ ap (λ a. with_agent Proposers a (said_of Roommates d)) (same_agent d2.proposer_names.texts lists.listed.names);
@@ -244,13 +233,13 @@ module _ (line capacity : ℕ) (name : Bor (List ℕ)) (entries : List (List ℕ
         r_fresh = λ k. omega (arith, declares.declares.stamps k, draft.reviewers_fresh k);
       } in
       let fits : limit_fault (length d.reviewers.items) d.entries (length ids.items) ≡ None = ap (λ (x : Draft). limit_fault (length x.reviewers.items) x.entries (length ids.items)) (sym e12) ∙ puts.faultless in
+      let inside = within_limits (length d.reviewers.items) d.entries (length ids.items) fits in
       let added = reviewer_added kind line d d2.proposer_names d1.reviewer_names draft grown one d3.reviewers d3.entries
+      (puts.entries ∙ ap (λ (x : Draft). x.entries + length ids.items) e12) inside.1
       (lists.listed.declared ∙ ap (λ (x : Draft). x.proposer_names.declared) e1)
       declares.declares.declared
       lists.listed.in_range
-      (puts.agents ∙ ap (λ (x : Draft). x.reviewers.items ++ one ∷ []) e12)
-      (puts.entries ∙ ap (λ (x : Draft). x.entries + length ids.items) e12)
-      (within_limits (length d.reviewers.items) d.entries (length ids.items) fits) in
+      (puts.agents ∙ ap (λ (x : Draft). x.reviewers.items ++ one ∷ []) e12) inside.0 in
       record {
         faultless = no_fault d.reviewer_names.declared (length d.reviewers.items) d.entries d2.proposer_names.texts declares.is_new lists.listed.differ lists.listed.names fits;
         said = ap (said_of kind) all ∙ added.0 ∙ ap (λ a. with_agent Reviewers a (said_of kind d)) (same_agent d2.proposer_names.texts lists.listed.names);
