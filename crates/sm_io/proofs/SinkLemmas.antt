@@ -21,6 +21,7 @@ pub IsPart-after : (a b c : Option (List ℕ)) (xs ys : List ℕ) → Grows a b 
 IsPart-after a b c xs ys p q =
     record { count = length xs + q.count; grows = rw take-append-add (Grows-trans a b c xs (take q.count ys) p q.grows) }
 
+-- a front of a text is one of it with more behind it
 pub IsPart-more : (a b : Option (List ℕ)) (xs ys : List ℕ) → IsPart a b xs → IsPart a b (xs ++ ys)
 IsPart-more a b xs ys p =
     let n = min p.count (length xs) in
@@ -32,5 +33,6 @@ IsPart-more a b xs ys p =
 pub IsPart-whole : (a b : Option (List ℕ)) (xs : List ℕ) → Grows a b xs → IsPart a b xs
 IsPart-whole a b xs p = record { count = length xs; grows = rw take-length p }
 
+-- so is the whole of it
 pub IsPart-front : (a b : Option (List ℕ)) (xs ys : List ℕ) → Grows a b xs → IsPart a b (xs ++ ys)
 IsPart-front a b xs ys p = IsPart-more a b xs ys (IsPart-whole a b xs p)

@@ -103,6 +103,7 @@ module _ (kind : Kind) (line : ℕ) (d : Draft) (pn rn : Table) (draft : IsDraft
 
   -- an agent is added, behind those of its side
   module _ (agent : Declared) (v : Vec Declared Global) (n : ℕ) (more : n ≡ d.entries + length agent.entries.items) (few : d.entries + length agent.entries.items ≤ most_entries) where
+    -- a proposer
     pub proposer_added : pn.declared ≡ d.proposer_names.declared ++ agent.name.now ∷ [] → rn.declared ≡ d.reviewer_names.declared
         → AreBelow (length (listed_table kind pn rn).texts) agent.entries.items → v.items ≡ d.proposers.items ++ agent ∷ [] → length d.proposers.items < most_agents
         → (said_of kind (with_agents v d.reviewers n) ≡ with_agent Proposers (agent_in (listed_table kind pn rn).texts agent) (said_of kind d)) × IsDraft kind (line + 1) (with_agents v d.reviewers n)
@@ -126,6 +127,7 @@ module _ (kind : Kind) (line : ℕ) (d : Draft) (pn rn : Table) (draft : IsDraft
         sum_left : (a b t u : ℕ) → d.entries ≡ a + b → t ≡ a + length agent.entries.items → u ≡ b → n ≡ t + u
         sum_left a b t u e f g = omega arith
 
+    -- a reviewer
     pub reviewer_added : pn.declared ≡ d.proposer_names.declared → rn.declared ≡ d.reviewer_names.declared ++ agent.name.now ∷ []
         → AreBelow (length pn.texts) agent.entries.items → v.items ≡ d.reviewers.items ++ agent ∷ [] → length d.reviewers.items < most_agents
         → (said_of kind (with_agents d.proposers v n) ≡ with_agent Reviewers (agent_in pn.texts agent) (said_of kind d)) × IsDraft kind (line + 1) (with_agents d.proposers v n)
@@ -246,6 +248,7 @@ module _ (line capacity : ℕ) (name : Bor (List ℕ)) (entries : List (List ℕ
         draft = subst (IsDraft kind (line + 1)) (sym all) added.1;
       }
 
+  -- an agent of any kind of instance and of either side
   pub agent_added : (kind : Kind) (side : Side) → IsDraft kind line d → DeclaresOn side d d1 name.now → ListsOn (listed_side kind side) d1 d2 entries line ids.items → PutsOn side d2 d3 one
       → AddsAgent kind line side name.now capacity entries d d3
   agent_added Marriage Proposers draft declares lists puts = two_sided Marriage (λ pn rn. refl) draft declares lists puts

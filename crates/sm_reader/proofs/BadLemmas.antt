@@ -61,9 +61,11 @@ module _ (line : List ℕ) (from : ℕ) where
   pub run_tells : (start stop : ℕ) → Run start stop ≡ token_at line from → start < stop → false ≡ is_bad (take (stop - start) (drop start line))
   run_tells start stop is some = let t = told (Run start stop) is in bad_there line start stop (blanks_end line from) false t.0 t.1 some
 
+  -- a mark isn't bad
   pub mark_tells : (at : ℕ) → Mark at ≡ token_at line from → false ≡ is_bad (take (at + 1 - at) (drop at line))
   mark_tells at is = let t = told (Mark at) is in bad_there line at (at + 1) (blanks_end line from) false t.0 t.1 (omega arith)
 
+  -- any other byte is
   pub bad_tells : (at : ℕ) → Bad at ≡ token_at line from → true ≡ is_bad (take (at + 1 - at) (drop at line))
   bad_tells at is = let t = told (Bad at) is in bad_there line at (at + 1) (blanks_end line from) true t.0 t.1 (omega arith)
 
@@ -71,6 +73,7 @@ module _ (line : List ℕ) (from : ℕ) where
   pub mark_no_name : (at : ℕ) → Mark at ≡ token_at line from → false ≡ is_name (take (at + 1 - at) (drop at line))
   mark_no_name at is = let t = told (Mark at) is in no_name_there line at (at + 1) (blanks_end line from) t.0 t.2 (omega arith)
 
+  -- nor is any other byte
   pub bad_no_name : (at : ℕ) → Bad at ≡ token_at line from → false ≡ is_name (take (at + 1 - at) (drop at line))
   bad_no_name at is = let t = told (Bad at) is in no_name_there line at (at + 1) (blanks_end line from) t.0 t.2 (omega arith)
 

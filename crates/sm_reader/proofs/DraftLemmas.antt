@@ -20,29 +20,35 @@ agents_kept old new (a ∷ agents) more inside =
     let here : agent_in new a ≡ agent_in old a = ap (λ es. record { name = a.name.now; capacity = a.capacity; line = a.line; entries = es }) entries in
     ap (λ x. x ∷ map (agent_in new) agents) here ∙ ap (λ xs. agent_in old a ∷ xs) behind
 
+-- indexes of lists stay within a greater range
 pub agents_below_more : (n m : ℕ) (agents : List Declared) → n ≤ m → AreAgentsBelow n agents → AreAgentsBelow m agents
 agents_below_more n m [] le inside = tt
 agents_below_more n m (a ∷ agents) le inside = (below_more n m a.entries.items le inside.0, agents_below_more n m agents le inside.1)
 
+-- and one more agent's may follow
 pub agents_below_push : (n : ℕ) (agents : List Declared) (a : Declared) → AreAgentsBelow n agents → AreBelow n a.entries.items → AreAgentsBelow n (agents ++ a ∷ [])
 agents_below_push n [] a inside below = (below, tt)
 agents_below_push n (b ∷ agents) a inside below = (inside.0, agents_below_push n agents a inside.1 below)
 
 module _ (p q r s : List (List ℕ)) (more_p : Extends p q) (more_r : Extends r s) where
+  -- a pair keeps its names
   pub pair_kept : (x : Pair) → IsPairBelow (length p) (length r) x → pair_in q s x ≡ pair_in p r x
   pair_kept x inside =
       ap (λ t. record { proposer = t; reviewer = text_at s x.reviewer; line = x.line }) (text_kept p q x.proposer more_p inside.proposer)
       ∙ ap (λ t. record { proposer = text_at p x.proposer; reviewer = t; line = x.line }) (text_kept r s x.reviewer more_r inside.reviewer)
 
+  -- so do pairs
   pub pairs_kept : (xs : List Pair) → ArePairsBelow (length p) (length r) xs → map (pair_in q s) xs ≡ map (pair_in p r) xs
   pairs_kept [] inside = refl
   pairs_kept (x ∷ xs) inside = ap (λ y. y ∷ map (pair_in q s) xs) (pair_kept x inside.0) ∙ ap (λ ys. pair_in p r x ∷ ys) (pairs_kept xs inside.1)
 
+  -- and weights
   pub weights_kept : (ws : List Weight) → ArePairsBelow (length p) (length r) (pairs_of ws) → map (given_in q s) ws ≡ map (given_in p r) ws
   weights_kept [] inside = refl
   weights_kept (w ∷ ws) inside =
       ap (λ y. (record { pair = y; weight = w.weight }) ∷ map (given_in q s) ws) (pair_kept w.pair inside.0) ∙ ap (λ ys. given_in p r w ∷ ys) (weights_kept ws inside.1)
 
+  -- pairs stay within a greater range
   pub pairs_below_more : (xs : List Pair) → ArePairsBelow (length p) (length r) xs → ArePairsBelow (length q) (length s) xs
   pairs_below_more [] inside = tt
   pairs_below_more (x ∷ xs) inside = (
@@ -53,6 +59,7 @@ module _ (p q r s : List (List ℕ)) (more_p : Extends p q) (more_r : Extends r 
     pairs_below_more xs inside.1,
   )
 
+-- and one more pair may follow
 pub pairs_below_push : (n m : ℕ) (xs : List Pair) (x : Pair) → ArePairsBelow n m xs → IsPairBelow n m x → ArePairsBelow n m (xs ++ x ∷ [])
 pairs_below_push n m [] x inside below = (below, tt)
 pairs_below_push n m (y ∷ xs) x inside below = (inside.0, pairs_below_push n m xs x inside.1 below)
@@ -70,6 +77,7 @@ module _ (kind : Kind) (d : Draft) (pn rn : Table) (more_p : Extends d.proposer_
   more_listed Hospitals = more_r
   more_listed Roommates = more_p
 
+  -- the names of whom the proposers list have grown too
   pub listed_more : Extends (listed_table kind d.proposer_names d.reviewer_names).texts (listed_table kind pn rn).texts
   listed_more = more_listed kind
 

@@ -18,21 +18,25 @@ use Rattle.sm_reader.specs.declared.faults.TextFault.{TextFault}
 use Rattle.sm_reader.specs.declared.faults.TextFault.TheVariants.{Refused, OutOfMemory}
 
 module _ (kind : Kind) (said : Said) (line : ℕ) where
+  -- a line without tokens adds nothing
   pub verdict_empty : (xs : List (Bor (List ℕ))) → length xs < 1 → verdict_on kind said line (texts_of xs) ≡ goes said
   unfolding verdict_on
   verdict_empty [] h = refl
   verdict_empty (x ∷ xs) h = absurd (omega arith)
 
+  -- a bad byte comes first
   pub verdict_bad : (xs : List (Bor (List ℕ))) → 1 ≤ length xs → list_any is_bad (texts_of xs) ≡ true → verdict_on kind said line (texts_of xs) ≡ refuses BadByte
   unfolding verdict_on
   verdict_bad [] h bad = absurd (omega arith)
   verdict_bad (x ∷ xs) h bad = rw bad refl
 
+  -- `end` ends the instance
   pub verdict_end : (xs : List (Bor (List ℕ))) → 1 ≤ length xs → list_any is_bad (texts_of xs) ≡ false → is_end (texts_of xs) ≡ true → verdict_on kind said line (texts_of xs) ≡ stops
   unfolding verdict_on
   verdict_end [] h bad end = absurd (omega arith)
   verdict_end (x ∷ xs) h bad end = rw (bad, end) refl
 
+  -- else the form decides
   pub verdict_form : (xs : List (Bor (List ℕ))) (d : Bor (List ℕ)) → 1 ≤ length xs → list_any is_bad (texts_of xs) ≡ false → is_end (texts_of xs) ≡ false
       → verdict_on kind said line (texts_of xs) ≡ of_form said line (form_behind kind (get_or xs 0 d).now (texts_of (drop 1 xs)))
   unfolding verdict_on
@@ -43,6 +47,7 @@ module _ (kind : Kind) (said : Said) (line : ℕ) where
 pub by_fault : (said : Said) (line : ℕ) (form : Form) (kind : RefusalKind) → fault_of said form ≡ Some kind → of_form said line (Some form) ≡ refuses kind
 by_fault said line form kind e = rw e refl
 
+-- a form without a fault adds what it says
 pub by_none : (said : Said) (line : ℕ) (form : Form) → fault_of said form ≡ None → of_form said line (Some form) ≡ goes (said_with said line form)
 by_none said line form e = rw e refl
 
@@ -52,12 +57,14 @@ two_rows true b k l rest = refl
 two_rows false true k l rest = refl
 two_rows false false k l rest = refl
 
+-- the faults of an agent's line, in two parts
 pub agent_faults : (said : Said) (side : Side) (name : List ℕ) (capacity : Option (List ℕ)) (entries : List (List ℕ))
     → fault_of said (declares side name capacity entries)
     ≡ option_or (run_fault name capacity entries) (name_fault (names_of (agents_on side said)) name entries (length (agents_on side said)) (all_entries said))
 unfolding fault_of
 agent_faults said side name capacity entries = two_rows (not (list_all is_name (name ∷ entries))) (is_bad_capacity capacity) _ _ _
 
+-- the fault of a weight's line
 pub weight_faults : (said : Said) (p r w : List ℕ) → fault_of said (weighs p r w) ≡ weight_fault said.weights p r w
 unfolding fault_of
 weight_faults said p r w = refl
@@ -78,11 +85,13 @@ unfolding heading_of
 heading_empty [] h = refl
 heading_empty (x ∷ xs) h = absurd (omega arith)
 
+-- a bad byte comes first
 pub heading_bad : (xs : List (Bor (List ℕ))) → 1 ≤ length xs → list_any is_bad (texts_of xs) ≡ true → heading_of (texts_of xs) ≡ faces BadByte
 unfolding heading_of
 heading_bad [] h bad = absurd (omega arith)
 heading_bad (x ∷ xs) h bad = rw bad refl
 
+-- else the line has to be the header
 pub heading_form : (xs : List (Bor (List ℕ))) → 1 ≤ length xs → list_any is_bad (texts_of xs) ≡ false
     → heading_of (texts_of xs) ≡ option_map_or (λ (kind : Kind). heads kind) (header_of (texts_of xs)) (faces BadHeader)
 unfolding heading_of

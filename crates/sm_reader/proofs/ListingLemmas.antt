@@ -49,10 +49,12 @@ pub below_more : (n m : ℕ) (is : List ℕ) → n ≤ m → AreBelow n is → A
 below_more n m [] le h = tt
 below_more n m (i ∷ is) le h = (omega (arith, h.0), below_more n m is le h.1)
 
+-- and one more may follow
 pub below_push : (n : ℕ) (is : List ℕ) (i : ℕ) → AreBelow n is → i < n → AreBelow n (is ++ i ∷ [])
 below_push n [] i h inside = (inside, tt)
 below_push n (j ∷ is) i h inside = (h.0, below_push n is i h.1 inside)
 
+-- each of them is within the range
 pub below_at : (n : ℕ) (is : List ℕ) (k : ℕ) → AreBelow n is → k < length is → get_or is k 0 < n
 below_at n [] k h inside = absurd (omega arith)
 below_at n (i ∷ is) zero h inside = h.0
@@ -62,13 +64,16 @@ below_at n (i ∷ is) (suc k) h inside = below_at n is k h.1 (omega arith)
 pub text_kept : (old new : List (List ℕ)) (i : ℕ) → Extends old new → i < length old → text_at new i ≡ text_at old i
 text_kept old new i more inside = ap (λ x. text_at x i) more.appended ∙ get_or-append old more.more [] i inside
 
+-- so do the names of a list
 pub texts_kept : (old new : List (List ℕ)) (is : List ℕ) → Extends old new → AreBelow (length old) is → map (text_at new) is ≡ map (text_at old) is
 texts_kept old new [] more h = refl
 texts_kept old new (i ∷ is) more h = ap (λ x. x ∷ map (text_at new) is) (text_kept old new i more h.0) ∙ ap (λ x. text_at old i ∷ x) (texts_kept old new is more h.1)
 
+-- texts that have grown are as many or more
 pub extends_long : (old new : List (List ℕ)) → Extends old new → length old ≤ length new
 extends_long old new more = omega (arith, ap length more.appended, length-append old more.more)
 
+-- what has grown twice has grown
 pub extends_twice : (a b d : List (List ℕ)) → Extends a b → Extends b d → Extends a d
 extends_twice a b d first second = record {
   more = first.more ++ second.more;
@@ -122,6 +127,7 @@ module _ (first now new : Table) (entries : List (List ℕ)) (stamp i : ℕ) (in
       (text_kept now.texts new.texts at met.extends old ∙ there ∙ sym met.names) in
       met.unstamped (ap (λ j. get_or now.stamps j 0) (sym index_is) ∙ listing.all k small)))
 
+  -- one more name is listed
   pub listing_more : (index : ℕ) → IsStamped now new name stamp index → IsListing first new entries stamp (i + 1) (indexes ++ index ∷ [])
   listing_more index met = record {
     extends = extends_twice first.texts now.texts new.texts listing.extends met.extends;
@@ -175,6 +181,7 @@ listing_none t entries stamp fresh = record {
   all = λ j below. absurd (omega arith);
 }
 
+-- all names are listed
 pub listing_all : (first now : Table) (entries : List (List ℕ)) (stamp i : ℕ) (indexes : List ℕ) → IsListing first now entries stamp i indexes → length entries ≤ i → IsListed first now entries stamp indexes
 listing_all first now entries stamp i indexes listing past =
     let whole = take_all i entries past in

@@ -61,10 +61,12 @@ names_from place tokens h other within = record { are = λ k. ⊎_elim (earlier 
 
 -- one more token, which is a name or isn't
 module _ (texts : List (List ℕ)) (t : List ℕ) (others : ℕ) where
+  -- a name changes nothing for those before
   pub other_before_name : ((k : ℕ) → k < others → list_all is_name (drop k texts) ≡ false) → others ≤ length texts → (k : ℕ) → k < others → list_all is_name (drop k (texts ++ t ∷ [])) ≡ false
   other_before_name other within k before =
       ap (list_all is_name) (drop-append-le k texts (t ∷ []) (omega arith)) ∙ list_all-append is_name (drop k texts) (t ∷ []) ∙ ap (λ s. s && list_all is_name (t ∷ [])) (other k before)
 
+  -- what isn't a name ends them
   pub other_at_end : is_name t ≡ false → (k : ℕ) → k < length texts + 1 → list_all is_name (drop k (texts ++ t ∷ [])) ≡ false
   other_at_end isnt k before =
       ap (list_all is_name) (drop-append-le k texts (t ∷ []) (omega arith)) ∙ list_all-append is_name (drop k texts) (t ∷ []) ∙ ap (λ s. list_all is_name (drop k texts) && (s && true)) isnt
@@ -75,6 +77,7 @@ name_begins : (token : List ℕ) → is_name token ≡ true → begins_run token
 name_begins [] h = cc
 name_begins (b ∷ rest) h = and_left (is_name_byte b) (list_all is_name_byte rest) (and_right _ (list_all is_name_byte (b ∷ rest)) h)
 
+-- so all of some names are
 pub names_begin : (tokens : List (List ℕ)) → list_all is_name tokens ≡ true → list_all begins_run tokens ≡ true
 names_begin [] h = refl
 names_begin (t ∷ ts) h = rw (name_begins t (and_left (is_name t) (list_all is_name ts) h)) (names_begin ts (and_right (is_name t) (list_all is_name ts) h))

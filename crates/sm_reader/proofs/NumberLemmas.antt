@@ -27,6 +27,7 @@ use Rattle.sm_reader.specs.declared.numbering.Numbered.{Numbered}
 pub front_more : {X Y : Type 0} (f : X → Y) (xs : List X) (i : ℕ) (d : X) → i < length xs → map f (take (i + 1) xs) ≡ map f (take i xs) ++ f (get_or xs i d) ∷ []
 front_more f xs i d inside = ap (map f) (take_more xs i d inside) ∙ map_push f (take i xs) (get_or xs i d)
 
+-- and behind the last all are mapped
 pub front_all : {X Y : Type 0} (f : X → Y) (xs : List X) (i : ℕ) → length xs ≤ i → map f (take i xs) ≡ map f xs
 front_all f xs i past = ap (map f) (take_all i xs past)
 
@@ -35,12 +36,14 @@ pub front_long : {X Y Z : Type 0} (f : Y → Z) (g : X → Y) (xs : List X) (i :
 front_long f g xs i inside = length-map (map g (take i xs)) f ∙ length-map (take i xs) g ∙ length-take-le i xs (omega arith)
 
 module _ {X : Type 0} (front xs : List X) (i : ℕ) (d : X) (long : length front ≡ i) (inside : i < length xs) where
+  -- what stands at the next place is as it was
   pub replaced_at : get_or (front ++ drop i xs) i d ≡ get_or xs i d
   replaced_at =
       ap (λ ys. get_or (front ++ ys) i d) (drop-cons xs i d inside)
       ∙ ap (λ n. get_or (front ++ get_or xs i d ∷ drop (suc i) xs) n d) (sym long)
       ∙ get_or-append_seam front (get_or xs i d) (drop (suc i) xs) d
 
+  -- one more item is replaced
   pub replaced_more : (y : X) → set (front ++ drop i xs) i y ≡ (front ++ y ∷ []) ++ drop (i + 1) xs
   replaced_more y =
       ap (λ ys. set (front ++ ys) i y) (drop-cons xs i d inside)
@@ -51,15 +54,18 @@ module _ {X : Type 0} (front xs : List X) (i : ℕ) (d : X) (long : length front
 
 -- a test of the names of indexes
 module _ (p : List ℕ → Bool) (t : ℕ → List ℕ) (ids : List ℕ) where
+  -- one passes
   pub any_found : (i : ℕ) → i < length ids → p (t (get_or ids i 0)) ≡ true → list_any p (map t ids) ≡ true
   any_found i inside found =
       list_any_at p (map t ids) i (t 0) (omega (arith, length-map ids t)) (ap p (get_or-map t ids i 0 (t 0) inside) ∙ found)
 
+  -- one more doesn't
   pub any_more : (i : ℕ) → i < length ids → list_any p (map t (take i ids)) ≡ false → p (t (get_or ids i 0)) ≡ false → list_any p (map t (take (i + 1) ids)) ≡ false
   any_more i inside before fails =
       ap (list_any p) (front_more t ids i 0 inside) ∙ list_any-append p (map t (take i ids)) (t (get_or ids i 0) ∷ [])
       ∙ ap (λ b. b || (p (t (get_or ids i 0)) || false)) before ∙ ap (λ b. b || false) fails
 
+  -- none does
   pub any_end : (i : ℕ) → length ids ≤ i → list_any p (map t (take i ids)) ≡ false → list_any p (map t ids) ≡ false
   any_end i past h = ap (list_any p) (sym (front_all t ids i past)) ∙ h
 
@@ -70,6 +76,7 @@ lesser_assoc n None (Some b) = refl
 lesser_assoc n (Some a) None = refl
 lesser_assoc n (Some a) (Some b) = ap Some (let e : min n (min a b) ≡ min (min n a) b = omega arith in e)
 
+-- the least of two lists is the lesser of theirs
 pub least-append : (xs ys : List ℕ) → least (xs ++ ys) ≡ lesser (least xs) (least ys)
 least-append [] ys = refl
 least-append (n ∷ xs) ys = ap (λ o. Some (option_map_or (min n) o n)) (least-append xs ys) ∙ lesser_assoc n (least xs) (least ys)
@@ -96,15 +103,18 @@ agents_below_at n [] i a inside below here = absurd (omega arith)
 agents_below_at n (b ∷ agents) zero a inside below here = subst (λ (x : Declared). AreBelow n x.entries.items) (sym here) inside.0
 agents_below_at n (b ∷ agents) (suc i) a inside below here = agents_below_at n agents i a inside.1 (omega arith) here
 
+-- the next agent's indexes are in range
 pub agents_below_next : (n : ℕ) (before : List Declared) (a : Declared) (behind : List Declared) → AreAgentsBelow n (before ++ a ∷ behind) → AreBelow n a.entries.items
 agents_below_next n [] a behind inside = inside.0
 agents_below_next n (b ∷ before) a behind inside = agents_below_next n before a behind inside.1
 
+-- each pair is in range
 pub pairs_below_at : (n m : ℕ) (pairs : List Pair) (i : ℕ) (d : Pair) → ArePairsBelow n m pairs → i < length pairs → IsPairBelow n m (get_or pairs i d)
 pairs_below_at n m [] i d inside below = absurd (omega arith)
 pairs_below_at n m (x ∷ pairs) zero d inside below = inside.0
 pairs_below_at n m (x ∷ pairs) (suc i) d inside below = pairs_below_at n m pairs i d inside.1 (omega arith)
 
+-- so is the pair of each weight
 pub weights_below_at : (n m : ℕ) (ws : List Weight) (i : ℕ) (d : Weight) → ArePairsBelow n m (pairs_of ws) → i < length ws → IsPairBelow n m (get_or ws i d).pair
 weights_below_at n m [] i d inside below = absurd (omega arith)
 weights_below_at n m (x ∷ ws) zero d inside below = inside.0
@@ -121,14 +131,17 @@ pub names_in : (texts : List (List ℕ)) (agents : List Declared) → names_of (
 names_in texts [] = refl
 names_in texts (a ∷ agents) = ap (λ x. a.name.now ∷ x) (names_in texts agents)
 
+-- the pairs of weights that are said are those of the draft's
 pub pairs_in : (p r : List (List ℕ)) (ws : List Weight) → map (λ (w : SaidWeight). w.pair) (map (given_in p r) ws) ≡ map (pair_in p r) (pairs_of ws)
 pairs_in p r [] = refl
 pairs_in p r (w ∷ ws) = ap (λ x. pair_in p r w.pair ∷ x) (pairs_in p r ws)
 
 module _ (kind : Kind) (line : ℕ) (d : Draft) (draft : IsDraft kind line d) where
+  -- the proposers that are said are those declared
   pub proposer_names : names_of (said_of kind d).proposers ≡ d.proposer_names.declared
   proposer_names = names_in (listed_table kind d.proposer_names d.reviewer_names).texts d.proposers.items ∙ sym draft.proposers_declared
 
+  -- so are the reviewers
   pub reviewer_names : names_of (said_of kind d).reviewers ≡ d.reviewer_names.declared
   reviewer_names = names_in d.proposer_names.texts d.reviewers.items ∙ sym draft.reviewers_declared
 

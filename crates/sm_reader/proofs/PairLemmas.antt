@@ -204,6 +204,7 @@ eq_texts texts i j distinct inside within = elim (cases_eq i j) [
   | inr differ ↦ (let e : eqb i j ≡ false = grind (arith, nat_tests) in e) ∙ sym (other_text (text_at texts i) (text_at texts j) (λ same. differ (distinct_index texts i j distinct inside within same)))
 ]
 
+-- a pair is among those that are weighed by index as by name
 pub weighed_same : (ps rs : List (List ℕ)) (i j : ℕ) (ws : List Weight) → AllPairs ◌≢◌ ps → AllPairs ◌≢◌ rs → i < length ps → j < length rs → ArePairsBelow (length ps) (length rs) (pairs_of ws)
     → list_any (λ (k : ℕ × ℕ). eqb i k.0 && eqb j k.1) (map key_of ws) ≡ list_any (is_given_to (text_at ps i) (text_at rs j)) (map (given_in ps rs) ws)
 weighed_same ps rs i j [] dp dr hi hj inside = refl
@@ -240,6 +241,7 @@ module _ (kind : Kind) (line : ℕ) (d : Draft) (side : Side) (name : List ℕ) 
       ∙ ap (λ o. option_or o (name_fault (names_of (agents_on side said)) name entries (length (agents_on side said)) (all_entries said))) right
       ∙ name_fault_same kind line d side name entries draft
 
+  -- an agent whose runs are right, and its names, is added
   pub adds_agent : (n : ℕ) (new : Draft) → IsChecked name capacity entries n → AddsAgent kind line side name n entries d new → Adds kind line (declares side name capacity entries) d new
   unfolding said_with
   adds_agent n new checked adds = record {
@@ -248,10 +250,12 @@ module _ (kind : Kind) (line : ℕ) (d : Draft) (side : Side) (name : List ℕ) 
     draft = adds.draft;
   }
 
+  -- or it is refused for its names or the limits
   pub agent_refused : (n : ℕ) (f : TextFault) → IsChecked name capacity entries n → IsLineFault (name_fault (table_on side d).declared name entries (length (declared_on side d)) d.entries) line f
       → IsLineFault (fault_of (said_of kind d) (declares side name capacity entries)) line f
   agent_refused n f checked h = subst (λ o. IsLineFault o line f) (sym (later_faults checked.faultless)) h
 
+  -- or for its runs
   pub runs_refused : (f : TextFault) → IsLineFault (run_fault name capacity entries) line f → IsLineFault (fault_of (said_of kind d) (declares side name capacity entries)) line f
   runs_refused (Refused k at) h =
       let said = said_of kind d in (
@@ -261,6 +265,7 @@ module _ (kind : Kind) (line : ℕ) (d : Draft) (side : Side) (name : List ℕ) 
       )
   runs_refused OutOfMemory h = tt
 
+-- a pair is refused where one of its runs is no name
 pub pair_refused : (said : Said) (line : ℕ) (condition : Condition) (p r : List ℕ) (f : TextFault) → RefusesFor BadName line (list_all is_name (p ∷ r ∷ []) ≡ false) f
     → IsLineFault (fault_of said (binds condition p r)) line f
 pair_refused said line condition p r (Refused k at) h = (pair_fault said condition p r false h.2 ∙ sym (ap Some h.0), h.1)

@@ -31,10 +31,12 @@ module _ (bytes text : List ℕ) (at next : ℕ) (leads : LeadsLines bytes at te
       (ended kind header said next (n + 1)) (λ fault. Err (fault, n))) (sym leads.holds)
 
 module _ (bytes text : List ℕ) (at next : ℕ) (leads : LeadsLines bytes at text next) (kind : Kind) (header : ℕ) (said : Said) (n : ℕ) where
+  -- a line that goes on
   pub goes_step : (more : Said) → verdict_on kind said n (tokens text) ≡ goes more → behind_header kind header said n at (lines (drop at bytes)) ≡ behind_header kind header more (n + 1) next (lines (drop next bytes))
   goes_step more e = verdict_step bytes text at next leads kind header said n
       ∙ ap (λ v. by_verdict v (λ more. behind_header kind header more (n + 1) next (lines (drop next bytes))) (ended kind header said next (n + 1)) (λ fault. Err (fault, n))) e
 
+  -- a line that ends the instance
   pub stops_step : verdict_on kind said n (tokens text) ≡ stops → behind_header kind header said n at (lines (drop at bytes)) ≡ ended kind header said next (n + 1)
   stops_step e = verdict_step bytes text at next leads kind header said n
       ∙ ap (λ v. by_verdict v (λ more. behind_header kind header more (n + 1) next (lines (drop next bytes))) (ended kind header said next (n + 1)) (λ fault. Err (fault, n))) e
@@ -48,6 +50,7 @@ ended_ok kind header d rest rest_line input f =
     ap (λ o. option_map_or (λ (line : ℕ). Err (UnknownName, line)) o (Ok read)) f.known
     ∙ ap (λ i. Ok (record { input = i; header_line = header; rest = rest; rest_line = rest_line })) (sym f.said)
 
+-- a name that isn't declared refuses the text
 pub ended_err : (kind : Kind) (header : ℕ) (d : Draft) (rest rest_line : ℕ) (f : TextFault) → IsUnknownFault kind d f → IsFaultOf (ended kind header (said_of kind d) rest rest_line) f
 ended_err kind header d rest rest_line (Refused fault at) h =
     let said = said_of kind d in
@@ -65,10 +68,12 @@ pub too_long : (bytes : List ℕ) → most_bytes < length bytes → instance_tex
 unfolding instance_text
 too_long bytes h = let e : nat_lt most_bytes (length bytes) ≡ true = grind (arith, nat_tests) in rw e refl
 
+-- a text that isn't too long means what its lines do
 pub short_text : (bytes : List ℕ) → length bytes ≤ most_bytes → instance_text bytes ≡ before_header 1 0 (lines bytes)
 unfolding instance_text
 short_text bytes h = let e : nat_lt most_bytes (length bytes) ≡ false = grind (arith, nat_tests) in rw e refl
 
+-- a fault of the lines is one of the text
 pub text_fault : (bytes : List ℕ) (meaning : Result ReadText Refusal) (f : TextFault) → instance_text bytes ≡ meaning → IsFaultOf meaning f → IsTextFault bytes f
 text_fault bytes meaning (Refused kind at) e h = e ∙ h
 text_fault bytes meaning OutOfMemory e h = tt

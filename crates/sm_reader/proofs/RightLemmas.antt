@@ -46,6 +46,7 @@ fault_goes : (said : Said) (line : ℕ) (form : Form) (more : Said) (o : Option 
 fault_goes said line form more None e h = (e, cc)
 fault_goes said line form more (Some k) e h = absurd cc
 
+-- a line that goes on is of no form, or of one without a fault
 pub verdict_goes : (kind : Kind) (said : Said) (line : ℕ) (tokens : List (List ℕ)) (more : Said) → verdict_on kind said line tokens ≡ goes more → (more ≡ said) ⊎ IsFormed kind said line more
 unfolding verdict_on
 verdict_goes kind said line [] more e = inl (let h : more ≡ said = cc in h)
@@ -130,6 +131,7 @@ two_sided_single kind word xs form e = by_tests _ _ _ _ e
     by_tests false false false true h = pair_single kind Forbid xs form h
     by_tests false false false false h = absurd cc
 
+-- a form has a capacity only where the kind allows one
 pub form_single : (kind : Kind) (word : List ℕ) (xs : List (List ℕ)) (form : Form) → form_behind kind word xs ≡ Some form → HasSingle kind form
 unfolding form_behind
 form_single Marriage word xs form e = by_test _ e
@@ -330,12 +332,14 @@ form_right kind said line (weighs p r run) right single none = weight_right kind
 form_right kind said line (binds Force p r) right single none = pair_right kind said (said_with said line (binds Force p r)) right refl refl refl
 form_right kind said line (binds Forbid p r) right single none = pair_right kind said (said_with said line (binds Forbid p r)) right refl refl refl
 
+-- what is said stays right with a line that goes on
 pub goes_right : (kind : Kind) (said : Said) (line : ℕ) (tokens : List (List ℕ)) (more : Said) → IsRight kind said → verdict_on kind said line tokens ≡ goes more → IsRight kind more
 goes_right kind said line tokens more right e = elim (verdict_goes kind said line tokens more e) [
   | inl same ↦ subst (IsRight kind) (sym same) right
   | inr formed ↦ subst (IsRight kind) (sym formed.adds) (form_right kind said line formed.form right (form_single kind formed.word formed.rest formed.form formed.formed) formed.faultless)
 ]
 
+-- where nothing is said all is right
 pub nothing_right : (kind : Kind) → IsRight kind nothing
 nothing_right kind = record {
   proposers = λ (k : ℕ) (d : SaidAgent) (below : k < 0). absurd (omega arith);

@@ -80,6 +80,7 @@ module _ (single : Bool) (agents : List SaidAgent) (names : List (List ℕ)) (ri
   name_is : (a : ℕ) → a < length agents → (agent_at (map (numbered names) agents) a).name ≡ get_or (names_of agents) a []
   name_is a below = ap (λ (x : AgentData). x.name) (here a below) ∙ sym (get_or-map (λ (x : SaidAgent). x.name) agents a none_said [] below)
 
+  -- agents that are right are sound
   pub sound_agents : AllPairs ◌≢◌ (names_of agents) → AreSoundAgents (map (numbered names) agents) single
   sound_agents differ = record {
     sound = λ a inside.
@@ -94,6 +95,7 @@ module _ (single : Bool) (agents : List SaidAgent) (names : List (List ℕ)) (ri
         };
   }
 
+  -- so are their entries, where all names are declared
   pub sound_entries : list_any (λ (a : SaidAgent). list_any (is_unknown names) a.entries) agents ≡ false → (others : ℕ) → others ≡ length names → AreSoundEntries (map (numbered names) agents) others
   sound_entries known others count_is = record {
     sound = λ a i inside. elim (cases_lt a (length agents)) [
@@ -272,6 +274,7 @@ only_memory w (BadEntry Reviewers a i) sound h = absurd (h.1.1.bad (sound.review
 only_memory w (BadPair n) sound h = absurd (h.2.bad (sound.items n h.2.there))
 only_memory w OutOfMemory sound h = refl
 
+-- so it is of persons
 pub only_memory_persons : (persons : List AgentData) (f : InstanceFault) → ArePersons persons → IsPersonsFault persons f → f ≡ OutOfMemory
 only_memory_persons persons TooMany sound h = absurd (h sound.limits)
 only_memory_persons persons (BadAgent side a) sound h = absurd (h.2.bad (sound.agents.sound a h.2.there))

@@ -217,6 +217,7 @@ stamped_new t m n name stamp i at unstamped texts numbers stamps declared =
 pub number_at : (t : Table) (i : ℕ) (x : Option ℕ) → IsTable t → i < length t.texts → x ≡ get_or t.numbers i x → is_some x ≡ is_some (get_or t.numbers i None)
 number_at t i x table inside here = ap is_some here ∙ ap is_some (get_or_default t.numbers i x None (omega (arith, table.number_each)))
 
+-- the same after a name got its index
 pub number_here : (t m : Table) (name : List ℕ) (i : ℕ) → Interns t m name i → {x : Option ℕ} → x ≡ get_or m.numbers i x → is_some (get_or m.numbers i None) ≡ is_some x
 number_here t m name i at {x} here = sym (number_at m i x at.table at.in_range here)
 

@@ -15,9 +15,11 @@ use Rattle.sm_reader.specs.declared.keys.Key.{Key}
 pub same_text : (a b : List ℕ) → a ≡ b → bytes_eq a b ≡ true
 same_text a b e = (bytes_eq-Decides a b).1 e
 
+-- texts that test as the same are
 pub equal_text : (a b : List ℕ) → bytes_eq a b ≡ true → a ≡ b
 equal_text a b e = (bytes_eq-Decides a b).0 e
 
+-- texts that differ don't
 pub other_text : (a b : List ℕ) → a ≢ b → bytes_eq a b ≡ false
 other_text a b differ = by_test (bytes_eq a b) refl
   where
@@ -33,6 +35,7 @@ behind n a enough few =
 
 -- texts are the same where the first n of at most twice as many are and the last n
 module _ (n : ℕ) (a b : List ℕ) (long : length a ≡ length b) (enough : n ≤ length a) (few : length a ≤ n + n) where
+  -- two texts whose ends are the same are
   pub same_ends : take n a ≡ take n b → drop (length a - n) a ≡ drop (length b - n) b → a ≡ b
   same_ends first last =
       let ends : drop n a ≡ drop n b = behind n a enough few ∙ ap (λ k. drop ((n + n) - k) (drop (length a - n) a)) long
@@ -44,6 +47,7 @@ module _ (n : ℕ) (a b : List ℕ) (long : length a ≡ length b) (enough : n �
   by_first last true e = sym (same_text a b (same_ends (equal_text _ _ (sym e)) last))
   by_first last false e = sym (other_text a b (λ same. false≢true (e ∙ same_text _ _ (ap (take n) same))))
 
+  -- the same from the other end
   pub by_last : take n a ≡ take n b → (r : Bool) → r ≡ bytes_eq (drop (length a - n) a) (drop (length b - n) b) → r ≡ bytes_eq a b
   by_last first true e = sym (same_text a b (same_ends first (equal_text _ _ (sym e))))
   by_last first false e = sym (other_text a b (λ same. false≢true (e ∙ same_text _ _ (ap (λ x. drop (length x - n) x) same))))
@@ -53,6 +57,7 @@ pub list_any_texts : (name : List ℕ) (keys : List Key) → list_any (λ k. byt
 list_any_texts name [] = refl
 list_any_texts name (k ∷ ks) = ap (λ t. bytes_eq name (text_of k) || t) (list_any_texts name ks)
 
+-- the place of a name among keys is that among their texts
 pub position_texts : (name : List ℕ) (keys : List Key) → position_or_len (λ k. bytes_eq name (text_of k)) keys ≡ position_or_len (bytes_eq name) (key_texts keys)
 position_texts name [] = refl
 position_texts name (k ∷ ks) = ap (λ n. cond (not (bytes_eq name (text_of k))) (1 + n) 0) (position_texts name ks)
@@ -67,6 +72,7 @@ position_or_len-none p (x ∷ xs) h = by_test (p x) refl h (position_or_len-none
     by_test true e k behind = absurd (false≢true (sym k))
     by_test false e k behind = rw e (omega (arith, behind k))
 
+-- where one passes, it has a place
 pub position_or_len-lt : {X : Type 0} (p : X → Bool) (xs : List X) → list_any p xs ≡ true → position_or_len p xs < length xs
 position_or_len-lt p [] h = absurd (false≢true h)
 position_or_len-lt p (x ∷ xs) h = by_test (p x) refl h (position_or_len-lt p xs)
@@ -76,9 +82,11 @@ position_or_len-lt p (x ∷ xs) h = by_test (p x) refl h (position_or_len-lt p x
     by_test true e k behind = rw e (omega arith)
     by_test false e k behind = rw e (omega (arith, behind k))
 
+-- where none passes there is no position
 pub position-none : {X : Type 0} (p : X → Bool) (xs : List X) → list_any p xs ≡ false → position p xs ≡ None
 position-none p xs h = let past = position_or_len-none p xs h in grind (arith, nat_tests)
 
+-- where one does there is
 pub position-some : {X : Type 0} (p : X → Bool) (xs : List X) → list_any p xs ≡ true → position p xs ≡ Some (position_or_len p xs)
 position-some p xs h = let found = position_or_len-lt p xs h in grind (arith, nat_tests)
 
@@ -126,10 +134,12 @@ at_position name (x ∷ xs) h = by_test (bytes_eq name x) refl h (at_position na
 
 -- a test of all texts, in a loop
 module _ (p : List ℕ → Bool) (xs : List (Bor (List ℕ))) where
+  -- one fails
   pub all_texts_fail : (i : ℕ) (x : Bor (List ℕ)) → i < length xs → x ≡ get_or xs i x → p x.now ≡ false → list_all p (texts_of xs) ≡ false
   all_texts_fail i x inside here fails =
       list_all-map p (λ (y : Bor (List ℕ)). y.now) xs ∙ list_all_at (λ (y : Bor (List ℕ)). p y.now) xs i x inside (ap (λ (y : Bor (List ℕ)). p y.now) (sym here) ∙ fails)
 
+  -- one more passes
   pub all_texts_more : (i : ℕ) (x : Bor (List ℕ)) → i < length xs → x ≡ get_or xs i x → list_all p (texts_of (take i xs)) ≡ true → p x.now ≡ true → list_all p (texts_of (take (i + 1) xs)) ≡ true
   all_texts_more i x inside here before passes =
       list_all-map p (λ (y : Bor (List ℕ)). y.now) (take (i + 1) xs)
@@ -137,13 +147,16 @@ module _ (p : List ℕ → Bool) (xs : List (Bor (List ℕ))) where
       ∙ ap (λ t. t && p (get_or xs i x).now) (sym (list_all-map p (λ (y : Bor (List ℕ)). y.now) (take i xs)) ∙ before)
       ∙ ap (λ (y : Bor (List ℕ)). p y.now) (sym here) ∙ passes
 
+  -- all pass
   pub all_texts_end : (i : ℕ) → length xs ≤ i → list_all p (texts_of (take i xs)) ≡ true → list_all p (texts_of xs) ≡ true
   all_texts_end i past h = ap (λ t. list_all p (texts_of t)) (sym (take_all i xs past)) ∙ h
 
+-- what isn't false is true
 pub from_not_false : (b : Bool) → not b ≡ false → b ≡ true
 from_not_false true h = refl
 from_not_false false h = cc
 
+-- and what isn't true is false
 pub from_not_true : (b : Bool) → not b ≡ true → b ≡ false
 from_not_true true h = cc
 from_not_true false h = refl

@@ -21,10 +21,12 @@ use Rattle.sm_reader.specs.Forms.{Form, declares, weighs, binds, list_form, capa
 use Rattle.sm_reader.specs.Kept.{is_inner}
 use Rattle.sm_reader.specs.Draft.{entries_in}
 
+-- the first of two that hold
 pub and_left : (s t : Bool) → (s && t) ≡ true → s ≡ true
 and_left true t h = refl
 and_left false t h = cc
 
+-- the second of them
 pub and_right : (s t : Bool) → (s && t) ≡ true → t ≡ true
 and_right true t h = h
 and_right false t h = cc
@@ -61,6 +63,7 @@ joined_whole b (c ∷ line) name begins h =
     let P : List (List ℕ) → Type 0 = λ ts. Q (onto_first b ts) in
     subst P (sym split) (longer_whole b (c ∷ take n line) more name begins (subst Q split h))
 
+-- all tokens of a line are
 pub tokens_whole : (line : List ℕ) → list_all is_whole (tokens line) ≡ true
 tokens_whole [] = refl
 tokens_whole (b ∷ line) = by_hash (eqb b 35) (is_blank b) (is_name_byte b && begins_run line) refl (tokens_whole line)
@@ -153,6 +156,7 @@ module _ (P Q : List (List ℕ) → Type 0) (tail : (t : List ℕ) (ts : List (L
       (of_cond (bytes_eq word (codes "force")) (pair_form Force rest) _ (of_pair Force rest)
       (of_cond (bytes_eq word (codes "forbid")) (pair_form Forbid rest) None (of_pair Forbid rest) none)))
 
+  -- so it does of a line that begins with any word
   pub list_behind : (kind : Kind) (word : List ℕ) (rest : List (List ℕ)) → P rest → Q (listed (form_behind kind word rest))
   unfolding form_behind
   list_behind Roommates word rest h = of_cond (bytes_eq word (codes "p")) (list_form Proposers rest) None (of_list Proposers rest h) none

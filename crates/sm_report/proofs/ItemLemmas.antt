@@ -20,6 +20,7 @@ turns-none : (input : Input) (list : List (ℕ × Seat)) → length (map (λ (tu
 turns-none input [] none = refl
 turns-none input (x ∷ xs) none = absurd (omega arith)
 
+-- and so for each kind of list
 pub fields_of_items-none : (input : Input) (items : Items) → length (each_of input items) ≡ 0 → fields_of_items input items ≡ codes "-" ∷ []
 fields_of_items-none input (Lefts list) none = listed-none (left_name input) list.now none
 fields_of_items-none input (Seats list) none = listed-none (seat_text input) list.now none
@@ -47,6 +48,7 @@ turns-pieces : (input : Input) (list : List (ℕ × Seat)) → (let g = λ (turn
 turns-pieces input [] some = absurd (omega arith)
 turns-pieces input (turn ∷ list) some = flat_map-pieces (λ (turn : ℕ × Seat). left_name input turn.0 ∷ seat_text input turn.1 ∷ []) (turn ∷ list)
 
+-- and so for each kind of list
 pub flat_map-each_of : (input : Input) (items : Items) → 0 < length (each_of input items) → flat_map spaced (each_of input items) ≡ spaced (fields_of_items input items)
 flat_map-each_of input (Lefts list) some = listed-singles (left_name input) list.now some
 flat_map-each_of input (Seats list) some = listed-singles (seat_text input) list.now some

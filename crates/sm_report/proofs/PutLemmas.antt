@@ -98,6 +98,7 @@ pub joined_is_spaced : (x : List ℕ) (xs : List (List ℕ)) → join_with_byte 
 joined_is_spaced x [] = sym (append-nil x)
 joined_is_spaced x (y ∷ ys) = ap (λ t. x ++ 32 ∷ t) (joined_is_spaced y ys)
 
+-- spaced fields of two lists are joined
 pub spaced-append : (xs ys : List (List ℕ)) → spaced (xs ++ ys) ≡ spaced xs ++ spaced ys
 spaced-append xs ys = flat_map-append (λ text. 32 ∷ text) xs ys
 
@@ -117,6 +118,7 @@ joined_by_commas : (x : List ℕ) (ns : List ℕ) → x ++ flat_map (λ n. 44 �
 joined_by_commas x [] = append-nil x
 joined_by_commas x (n ∷ ns) = ap (λ t. x ++ 44 ∷ t) (joined_by_commas (decimal n) ns)
 
+-- a vector is its first number and the others behind commas
 pub vector_is : (ns : List ℕ) → 1 ≤ length ns
     → decimal (get_or ns 0 0) ++ flat_map (λ n. 44 ∷ decimal n) (take (length ns - 1) (drop 1 ns)) ≡ vector_text ns
 vector_is [] some = absurd (omega arith)
@@ -143,6 +145,7 @@ pub line_put : {E : Type 0} {a b c : Written} {text : List ℕ} (word : List ℕ
     → PutsText {E = E} a b (join_with_byte 32 (word ∷ fields)) (Ok tt) → PutsText {E = E} b c (spaced list) r → PutsText {E = E} a c text r
 line_put word fields list r same first then = puts_same (joined_then word fields list ∙ same) (puts_then r first then)
 
+-- where the word and the fields weren't put whole, neither was the line
 pub line_broken : {E : Type 0} {a b : Written} {text : List ℕ} (word : List ℕ) (fields list : List (List ℕ)) (e : E) (r : Result (Unit {0}) E)
     → IsErr r → join_with_byte 32 (word ∷ (fields ++ list)) ≡ text
     → PutsText {E = E} a b (join_with_byte 32 (word ∷ fields)) (Err e) → PutsText {E = E} a b text r

@@ -14,12 +14,14 @@ use Rattle.std.proofs.lemmas.Fmt.{decimal_digit, decimal_step}
 abbrev pub front_digits : ℕ → List ℕ
 front_digits n = cond (ltb n 10) [] (decimal (n / 10))
 
+-- a number in decimal is its front digits and its last
 pub decimal_split : (n : ℕ) → n < 2 ^ 64 → decimal n ≡ front_digits n ++ (48 + n % 10) ∷ []
 decimal_split n h = elim (cases_lt n 10) [
   | inl small ↦ grind (arith, nat_tests, decimal_digit n small)
   | inr large ↦ grind (arith, nat_tests, decimal_step n large h)
 ]
 
+-- the front digits are those of a tenth
 pub front_digits_of_large : (n : ℕ) → 10 ≤ n → front_digits n ≡ decimal (n / 10)
 front_digits_of_large n h = grind (arith, nat_tests)
 
@@ -73,6 +75,7 @@ signed_text ds text start room inside written =
     drop_behind : (n : ℕ) (xs : List ℕ) → drop (n + 1) (0 ∷ xs) ≡ drop n xs
     drop_behind n xs = ap (λ k. drop k (0 ∷ xs)) (add-one n)
 
+-- a number below 0 has a minus before its size
 pub signed_below : (z : ℤ) → le_z (pos 0) z ≡ false → 45 ∷ decimal (unsigned_abs z) ≡ signed_decimal z
 signed_below (pos n) h = absurd (grind (arith, nat_tests))
 signed_below (negsuc n) h = refl

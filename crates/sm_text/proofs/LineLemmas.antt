@@ -15,15 +15,18 @@ first_line_to (b ∷ bytes) (suc i) h there before =
     rw (ne_eqb b 10 (before 0 (omega arith))) (ap (λ t. b ∷ t) (first_line_to bytes i (omega arith) there (λ k l. before (suc k) (omega arith)))
     ∙ ap (λ n. take n (b ∷ bytes)) (let e : suc (i + 1) ≡ suc i + 1 = omega arith in e))
 
+-- a text with no LF is one line
 pub first_line_whole : (bytes : List ℕ) → ((k : ℕ) → k < length bytes → get_or bytes k 0 ≢ 10) → first_line bytes ≡ bytes
 first_line_whole [] none = refl
 first_line_whole (b ∷ bytes) none =
     rw (ne_eqb b 10 (none 0 (omega arith))) (ap (λ t. b ∷ t) (first_line_whole bytes (λ k l. none (suc k) (omega arith))))
 
+-- the first line is a front of the text
 pub first_line_taken : (bytes : List ℕ) → take (length (first_line bytes)) bytes ≡ first_line bytes
 first_line_taken [] = refl
 first_line_taken (b ∷ bytes) = elim (eqb b 10) as (λ t. take (length (cond t (b ∷ []) (b ∷ first_line bytes))) (b ∷ bytes) ≡ cond t (b ∷ []) (b ∷ first_line bytes)) [ true ↦ refl | false ↦ ap (λ t. b ∷ t) (first_line_taken bytes) ]
 
+-- it is no longer than the text
 pub length-first_line-le : (bytes : List ℕ) → length (first_line bytes) ≤ length bytes
 length-first_line-le [] = omega arith
 length-first_line-le (b ∷ bytes) = elim (eqb b 10) as (λ t. length (cond t (b ∷ []) (b ∷ first_line bytes)) ≤ length (b ∷ bytes)) [ true ↦ omega arith | false ↦ omega (arith, length-first_line-le bytes) ]
@@ -42,11 +45,13 @@ without_last_at x (b ∷ c ∷ rest) zero e = absurd (omega arith)
 without_last_at x (b ∷ c ∷ rest) (suc n) e =
     ap (λ t. b ∷ t) (without_last_at x (c ∷ rest) n (omega arith)) ∙ front_cond (eqb (get_or (c ∷ rest) n 0) x) b (take n (c ∷ rest)) (c ∷ rest)
 
+-- a list without its last item is a front of it
 pub without_last_taken : (x : ℕ) (line : List ℕ) → take (length (without_last x line)) line ≡ without_last x line
 without_last_taken x [] = refl
 without_last_taken x (b ∷ []) = elim (eqb b x) as (λ t. take (length (cond t [] (b ∷ []))) (b ∷ []) ≡ cond t [] (b ∷ [])) [ true ↦ refl | false ↦ refl ]
 without_last_taken x (b ∷ c ∷ rest) = ap (λ t. b ∷ t) (without_last_taken x (c ∷ rest))
 
+-- the first line of a text that has bytes has some
 pub length-first_line-pos : (bytes : List ℕ) → 0 < length bytes → 0 < length (first_line bytes)
 length-first_line-pos [] h = absurd (omega arith)
 length-first_line-pos (b ∷ bytes) h = elim (eqb b 10) as (λ t. 0 < length (cond t (b ∷ []) (b ∷ first_line bytes))) [ true ↦ omega arith | false ↦ omega arith ]
@@ -55,11 +60,13 @@ length-first_line-pos (b ∷ bytes) h = elim (eqb b 10) as (λ t. 0 < length (co
 take_of_front : (a b whole : List ℕ) → take (length a) b ≡ a → take (length b) whole ≡ b → length a ≤ length b → take (length a) whole ≡ a
 take_of_front a b whole h k short = sym (take-take (length a) (length b) whole short) ∙ ap (λ t. take (length a) t) k ∙ h
 
+-- taking the last item off makes no list longer
 pub length-without_last-le : (x : ℕ) (line : List ℕ) → length (without_last x line) ≤ length line
 length-without_last-le x [] = omega arith
 length-without_last-le x (b ∷ []) = elim (eqb b x) as (λ t. length (cond t [] (b ∷ [])) ≤ 1) [ true ↦ omega arith | false ↦ omega arith ]
 length-without_last-le x (b ∷ c ∷ rest) = omega (arith, length-without_last-le x (c ∷ rest))
 
+-- a line holds no more than its bytes
 pub length-content-le : (line : List ℕ) → length (content line) ≤ length line
 length-content-le line = omega (arith, length-without_last-le 13 (without_last 10 line), length-without_last-le 10 line)
 
@@ -69,6 +76,7 @@ without_last_kept x line h other =
     let last = without_last_at x line (length line - 1) (omega arith) in
     grind (arith, nat_tests)
 
+-- what a line holds is a front of it
 pub content_taken : (line : List ℕ) → take (length (content line)) line ≡ content line
 content_taken line =
     let inner = without_last 10 line in

@@ -10,5 +10,6 @@ table_is : NAME_BYTES ≡ map is_name_byte (range_with_len 0 256)
 unfolding is_name_byte begins_name
 table_is = refl
 
+-- so a look at the table answers
 pub table_at : (b : ℕ) → b < 256 → get_or NAME_BYTES b false ≡ is_name_byte b
 table_at b h = ap (λ t. get_or t b false) table_is ∙ get_or-map-range_with_len is_name_byte 0 256 b b false h (omega arith)

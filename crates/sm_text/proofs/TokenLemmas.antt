@@ -13,10 +13,12 @@ pub blank_no_hash : (b : ℕ) → is_blank b ≡ true → eqb b 35 ≡ false
 unfolding is_blank
 blank_no_hash b h = grind (arith, nat_tests)
 
+-- a name byte begins no comment
 pub name_no_hash : (b : ℕ) → is_name_byte b ≡ true → eqb b 35 ≡ false
 unfolding is_name_byte begins_name
 name_no_hash b h = grind (arith, nat_tests)
 
+-- nor is it a blank
 pub name_no_blank : (b : ℕ) → is_name_byte b ≡ true → is_blank b ≡ false
 unfolding is_name_byte begins_name is_blank
 name_no_blank b h = grind (arith, nat_tests)
@@ -37,6 +39,7 @@ blanks_step : (b : ℕ) (line : List ℕ) (t : Bool) → is_blank b ≡ t → to
 blanks_step b line true blank behind = rw (blank_no_hash b blank, blank) (behind ∙ ap tokens (sym (drop_one (prefix_len is_blank line) b line)))
 blanks_step b line false other behind = refl
 
+-- blanks in front change no token
 pub tokens_behind_blanks : (line : List ℕ) → tokens line ≡ tokens (drop (prefix_len is_blank line) line)
 tokens_behind_blanks [] = refl
 tokens_behind_blanks (b ∷ line) = blanks_step b line (is_blank b) refl (tokens_behind_blanks line)
@@ -68,6 +71,7 @@ run_step b c line true name more behind = joins b c line name more ∙ ap (onto_
     ap (λ t. t ∷ tokens (drop n (c ∷ line))) (sym (take_one n b (c ∷ line))) ∙ ap (λ t. take (1 + n) (b ∷ c ∷ line) ∷ tokens t) (sym (drop_one n b (c ∷ line))))
 run_step b c line false name over behind = rw (name_no_hash b name, name_no_blank b name, name, over) refl
 
+-- where a name byte stands first, the first token is its run
 pub tokens_of_run : (b : ℕ) (line : List ℕ) → is_name_byte b ≡ true → BeginsWith (1 + prefix_len is_name_byte line) (b ∷ line)
 tokens_of_run b [] name = rw (name_no_hash b name, name_no_blank b name, name) refl
 tokens_of_run b (c ∷ line) name = run_step b c line (is_name_byte c) name refl (tokens_of_run c line)
@@ -76,6 +80,7 @@ tokens_of_run b (c ∷ line) name = run_step b c line (is_name_byte c) name refl
 pub tokens_of_other : (b : ℕ) (line : List ℕ) → eqb b 35 ≡ false → is_blank b ≡ false → is_name_byte b ≡ false → tokens (b ∷ line) ≡ (b ∷ []) ∷ tokens line
 tokens_of_other b line no_hash no_blank no_name = rw (no_hash, no_blank, no_name) refl
 
+-- a comment has no tokens
 pub tokens_of_hash : (b : ℕ) (line : List ℕ) → b ≡ 35 → tokens (b ∷ line) ≡ []
 tokens_of_hash b line h = grind (arith, nat_tests)
 
@@ -102,6 +107,7 @@ token_here line from at is inside = ap (λ n. first_token line n (drop n line)) 
 pub over_at_end : (line : List ℕ) (from at : ℕ) → at ≡ blanks_end line from → length line ≤ at → tokens (drop from line) ≡ []
 over_at_end line from at is past = tokens_at line from at is ∙ at_drop_all tokens line at past
 
+-- where a comment stands next there is no token
 pub over_at_hash : (line : List ℕ) (from at : ℕ) → at ≡ blanks_end line from → at < length line → get_or line at 0 ≡ 35 → tokens (drop from line) ≡ []
 over_at_hash line from at is inside hash =
     tokens_at line from at is ∙ at_drop_more tokens line at 0 inside ∙ tokens_of_hash (get_or line at 0) (drop (at + 1) line) hash
@@ -144,5 +150,6 @@ other_leads line from at is inside no_hash no_name =
 pub mark_first : (line rest : List ℕ) (at b : ℕ) → eqb b 35 ≡ false → is_name_byte b ≡ false → is_mark b ≡ true → first_token line at (b ∷ rest) ≡ Mark at
 mark_first line rest at b no_hash no_name mark = rw (no_hash, no_name, mark) refl
 
+-- a byte that begins nothing is a token by itself
 pub bad_first : (line rest : List ℕ) (at b : ℕ) → eqb b 35 ≡ false → is_name_byte b ≡ false → is_mark b ≡ false → first_token line at (b ∷ rest) ≡ Bad at
 bad_first line rest at b no_hash no_name no_mark = rw (no_hash, no_name, no_mark) refl
