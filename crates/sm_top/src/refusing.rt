@@ -1,11 +1,7 @@
 //! Which inputs are refused.
 
-<<<<<<< ours
-ghost use Rattle.std.specs.Prelude.{◌≡◌, ◌≤◌, ◌+◌, ◌<◌, ◌^◌, length, drop, true, MatchOption, IfOk, IfErr, Ok, Err};
-ghost use Rattle.sm_text.specs.Limits.{most_bytes};
-=======
 ghost use Rattle.std.specs.Prelude.{◌≡◌, ◌≤◌, ◌+◌, ◌<◌, ◌^◌, length, drop, IsTrue, MatchOption, IfOk, IfErr, Ok, Err};
->>>>>>> theirs
+ghost use Rattle.sm_text.specs.Limits.{most_bytes};
 ghost use Rattle.sm_instance.specs.Inputs.{kind_of};
 ghost use Rattle.sm_instance.specs.declared.kinds.Kind.TheVariants.{Marriage};
 ghost use Rattle.sm_text.specs.Lines.{lines};
