@@ -3,7 +3,8 @@ use Rattle.std.proofs.Common.{◌≡◌, List, [], ◌∷◌, ◌++◌, refl, ap
 use Rattle.sm_tally.specs.Fold.{Feed, Shown, after_feed, after_feeds}
 use Rattle.sm_tally.specs.Laws.{NothingFed, OneMoreFed}
 
-after_more : (feeds : List Feed) (feed : Feed) (tally : Shown) → after_feeds (feeds ++ feed ∷ []) tally ≡ after_feed feed (after_feeds feeds tally)
+after_more : (feeds : List Feed) (feed : Feed) (tally : Shown) →
+    after_feeds (feeds ++ feed ∷ []) tally ≡ after_feed feed (after_feeds feeds tally)
 after_more [] feed tally = refl
 after_more (first ∷ feeds) feed tally = after_more feeds feed (after_feed first tally)
 

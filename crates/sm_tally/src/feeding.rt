@@ -26,7 +26,8 @@ fn feed_one(tally: &mut Box<dyn Tally>, ranks: &[u32], regret: u32)
     tally.feed(ranks, regret);
 }
 
-/// The tag of a tally and all its figures. The error is want of memory.
+/// The tag of a tally and all its figures, in the order in which they are printed. The error is want of memory. It takes
+/// time in proportion to the number of figures.
 pub fn read_out(alloc: Global, tally: &Box<dyn Tally>) -> Result<(u32, Vec<u64>), AllocError>
     ensures { IfOk result (λ r. shown_as r.0 r.1.items ≡ shown_as (kind tally.now) (shown tally.now)) }
 {
