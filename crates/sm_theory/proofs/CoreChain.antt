@@ -125,9 +125,9 @@ module _ {s : Sides} {t : ℕ} {M : ℕ → Stand} {c : ℕ → Cycle} (ch : Way
   pub moved_to : (k i : ℕ) → k < t → i < (c k).size → Pair s (M (suc k)) ((c k).who i) (target (c k) i)
   moved_to k i h g = new_pair (ch.fit k (omega arith)) (ch.exposed k h) (ch.onward k h) i g
 
-  -- what moves p last before k is a predecessor of k, where k moves p
-  pub last_needed : (p k : ℕ) → k < t → Moves (c k) p → (w : Last k (λ j. Moves (c j) p)) → Needs s (c w.at) (c k)
-  last_needed p k h mv w = inl (record { at = w.holds.at; below = w.holds.below; at' = mv.at; below' = mv.below; who_is = w.holds.holds ∙ sym mv.holds; has_is = one_reviewer new old' })
+  -- k takes p from where what moves it last before k took it
+  pub handed_on : (p k : ℕ) → k < t → (mv : Moves (c k) p) → (w : Last k (λ j. Moves (c j) p)) → target (c w.at) w.holds.at ≡ (c k).has mv.at
+  handed_on p k h mv w = one_reviewer new old'
     where
       new : Pair s (M (suc w.at)) p (target (c w.at) w.holds.at)
       new = rw w.holds.holds at (moved_to w.at w.holds.at (omega (arith, w.below)) w.holds.below)
@@ -137,6 +137,17 @@ module _ {s : Sides} {t : ℕ} {M : ℕ → Stand} {c : ℕ → Cycle} (ch : Way
 
       old' : Pair s (M (suc w.at)) p ((c k).has mv.at)
       old' = same_place (ch.fit (suc w.at) (omega (arith, w.below))) old (since_last p k (omega arith) w)
+
+  -- and the first that moves p from where it is at first
+  pub handed_first : (p k : ℕ) → k < t → (mv : Moves (c k) p) → ((j : ℕ) → j < k → Moves (c j) p → ⊥) → Pair s (M 0) p ((c k).has mv.at)
+  handed_first p k h mv none = same_place (ch.fit 0 (omega arith)) old (since_start p k (omega arith) none)
+    where
+      old : Pair s (M k) p ((c k).has mv.at)
+      old = rw mv.holds at ((ch.exposed k h).paired mv.at mv.below)
+
+  -- what moves p last before k is a predecessor of k, where k moves p
+  pub last_needed : (p k : ℕ) → k < t → Moves (c k) p → (w : Last k (λ j. Moves (c j) p)) → Needs s (c w.at) (c k)
+  last_needed p k h mv w = inl (record { at = w.holds.at; below = w.holds.below; at' = mv.at; below' = mv.below; who_is = w.holds.holds ∙ sym mv.holds; has_is = handed_on p k h mv w })
 
   -- a reviewer that is passed over at k has somebody that it likes at least as well
   pub passed : (k i r : ℕ) → k < t → i < (c k).size → s.place ((c k).who i) ((c k).has i) < s.place ((c k).who i) r → s.place ((c k).who i) r < s.place ((c k).who i) (target (c k) i) → (M k).b r ≤ s.rank r ((c k).who i)
@@ -192,4 +203,11 @@ module _ {s : Sides} {t : ℕ} {M : ℕ → Stand} {c : ℕ → Cycle} (ch : Way
           | inr e ↦ absurd (out (initial p w.at w.below w.member w.moves k (omega arith) mv))
         ]
       ]
+    ]
+
+    -- where all that move p before k are in one set, and p is worse in the matching of a closed one, that one has k
+    pub next_inside : {D : ℕ → Type 0} {n m : Stand} → IsOf t M c C n → IsOf t M c D m → (k p : ℕ) → k < t → Moves (c k) p → ((j : ℕ) → j < k → Moves (c j) p → D j) → m.a p < n.a p → (C k → ⊥) → ⊥
+    next_inside {D} {n} {m} on om k p h mv before less out = elim (last_move p k) [
+      | inr none ↦ omega (arith, upper on k p h out mv, since_start p k (omega arith) none, om.low p)
+      | inl w ↦ omega (arith, upper on k p h out mv, since_last p k (omega arith) w, om.reach p w.at (omega (arith, w.below)) (before w.at w.below w.holds) w.holds)
     ]

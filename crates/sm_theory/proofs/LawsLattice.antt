@@ -11,9 +11,10 @@ use Rattle.sm_market.proofs.CoreLaws.{pair_law}
 use Rattle.sm_market.proofs.PlaceLemmas.{place_of-entry}
 use Rattle.sm_market.proofs.Bridge.{sides_of, stand_of, stable_of, held_at, standing-some}
 use Rattle.sm_market.proofs.LawsProved.{pair_held}
-use Rattle.sm_theory.specs.Lattice.{better, meet_of}
+use Rattle.sm_theory.specs.Lattice.{better, worse, meet_of, join_of}
 use Rattle.sm_theory.specs.Vectors.{level_of, HasLevel, IsWithin}
 use Rattle.sm_theory.specs.Laws.{MeetIsStable, JoinIsStable, PairIsDivided, MeetKeepsBounds, LevelsDetermine}
+use Rattle.sm_theory.specs.LawsListing.{JoinKeepsBounds}
 use Rattle.sm_theory.proofs.CoreLevels.{no_better}
 use Rattle.sm_theory.proofs.BridgePlaces.{held_map, held_map_past, row_past}
 use Rattle.sm_theory.proofs.BridgeMeet.{meet_of_stable, join_of_stable, standing_meet, standing_join}
@@ -67,6 +68,42 @@ meet_keeps_bounds l levels low high forced forbidden m n h hm hn wm wn am an = (
 
     avoids : (c : ℕ) → c < length forbidden → let (p, level) = slice_index_or forbidden c (0, 0) in ¬ HasLevel levels (meet_of l m n) p level
     avoids c k w = elim (held_meet l m n hm hn (slice_index_or forbidden c (0, 0)).0) [
+      | inl e ↦ am.avoids c k (record { place = w.place; holds = sym e ∙ w.holds; at_level = w.at_level })
+      | inr e ↦ an.avoids c k (record { place = w.place; holds = sym e ∙ w.holds; at_level = w.at_level })
+    ]
+
+-- the join holds for each proposer what one of the two holds
+worse_either : (o q : Option ℕ) → (worse o q ≡ o) ⊎ (worse o q ≡ q)
+worse_either None q = inl refl
+worse_either (Some i) None = inr refl
+worse_either (Some i) (Some k) = elim (lt_or_le i k) [ inl h ↦ inr (ap Some (omega arith)) | inr h ↦ inl (ap Some (omega arith)) ]
+
+held_join : (l : Lists) (m n : Places) → IsStable l m → IsStable l n → (p : ℕ) → (held (join_of l m n).proposers p ≡ held m.proposers p) ⊎ (held (join_of l m n).proposers p ≡ held n.proposers p)
+held_join l m n hm hn p = elim (lt_or_le p (length l.proposers)) [
+  | inl k ↦ elim (worse_either (held m.proposers p) (held n.proposers p)) [
+    | inl e ↦ inl (held_map l.proposers (λ p. worse (held m.proposers p) (held n.proposers p)) p k ∙ e)
+    | inr e ↦ inr (held_map l.proposers (λ p. worse (held m.proposers p) (held n.proposers p)) p k ∙ e)
+  ]
+  | inr k ↦ inl (held_map_past l.proposers (λ p. worse (held m.proposers p) (held n.proposers p)) p k ∙ sym (get_or_past m.proposers p None (omega (arith, hm.matching.proposers.one_each))))
+]
+
+pub join_keeps_bounds : JoinKeepsBounds
+join_keeps_bounds l levels low high forced forbidden m n h hm hn wm wn am an = (within, record { holds = holds; avoids = avoids })
+  where
+    within : IsWithin l levels low high (join_of l m n)
+    within p k = elim (lt_or_le (standing l.proposers m.proposers p) (standing l.proposers n.proposers p)) [
+      | inl less ↦ let e : standing l.proposers (join_of l m n).proposers p ≡ standing l.proposers n.proposers p = omega (arith, standing_join h hm hn p) in rw e (wn p k)
+      | inr more ↦ let e : standing l.proposers (join_of l m n).proposers p ≡ standing l.proposers m.proposers p = omega (arith, standing_join h hm hn p) in rw e (wm p k)
+    ]
+
+    holds : (c : ℕ) → c < length forced → let (p, level) = slice_index_or forced c (0, 0) in HasLevel levels (join_of l m n) p level
+    holds c k = elim (held_join l m n hm hn (slice_index_or forced c (0, 0)).0) [
+      | inl e ↦ let w = am.holds c k in record { place = w.place; holds = e ∙ w.holds; at_level = w.at_level }
+      | inr e ↦ let w = an.holds c k in record { place = w.place; holds = e ∙ w.holds; at_level = w.at_level }
+    ]
+
+    avoids : (c : ℕ) → c < length forbidden → let (p, level) = slice_index_or forbidden c (0, 0) in ¬ HasLevel levels (join_of l m n) p level
+    avoids c k w = elim (held_join l m n hm hn (slice_index_or forbidden c (0, 0)).0) [
       | inl e ↦ am.avoids c k (record { place = w.place; holds = sym e ∙ w.holds; at_level = w.at_level })
       | inr e ↦ an.avoids c k (record { place = w.place; holds = sym e ∙ w.holds; at_level = w.at_level })
     ]

@@ -37,6 +37,11 @@ pub mod WitnessMarkets
 pub mod FlowWitness
 pub mod RoomWitness
 pub mod WitnessSeats
-pub mod WitnessOrders
+pub mod OrderLemmas
 pub mod WitnessListing
 pub mod LawsRotations
+pub mod ListingLemmas
+pub mod LawsVectors
+pub mod Decisions
+pub mod NextVectors
+pub mod LawsOfSets

@@ -6,9 +6,11 @@ use Rattle.sm_market.specs.Matching.{Places}
 use Rattle.sm_theory.specs.Rotations.{IsSuccessor, IsExposed, proposer_at, target_at}
 use Rattle.sm_theory.specs.Chains.{rotation_at, stage, IsCompleteChain, IsNeededBy}
 use Rattle.sm_theory.specs.ClosedSets.{IsMember, IsClosed, matching_of, IsReady}
-use Rattle.sm_theory.specs.Vectors.{IsBefore, IsAllowed, IsAllowedVector, level_vector_of, IsListing}
-use Rattle.sm_theory.specs.WitnessesListing.{two_pairs, two_pairs_first, two_pairs_chain, two_pairs_ranks, both_best, second_worst, first_worst, both_worst, TwoApart, Listed, TwoPairs}
-use Rattle.sm_theory.proofs.WitnessOrders.{irreflexive, transitive}
+use Rattle.sm_theory.specs.Vectors.{IsBefore, IsAllowed, IsAllowedVector, level_vector_of}
+use Rattle.sm_theory.specs.Listings.{IsListing}
+use Rattle.sm_theory.specs.WitnessesListing.{two_pairs, two_pairs_first, two_pairs_chain, two_pairs_ranks, both_best, second_worst, first_worst, both_worst, TwoApart, Listed, Orders, NextOnes, TwoPairs}
+use Rattle.sm_theory.proofs.OrderLemmas.{irreflexive, transitive}
+use Rattle.sm_theory.proofs.ListingLemmas.{first_is_next}
 use Rattle.sm_theory.proofs.LawsRotations.{predecessor_is_earlier, sets_are_matchings, printed_of}
 use Rattle.sm_theory.proofs.WitnessTests.{market_pass, matching_pass, firsts_best, exposed_pass, none_pass, levels_pass}
 use Rattle.sm_theory.proofs.WitnessMarkets.{below_two}
@@ -216,6 +218,19 @@ listed = (
     whole v (First e) b = inl (1, omega arith, e)
     whole v (Worst e) b = inr (subst (IsBefore forth first_worst) e first_both)
 
+orders : Orders
+orders = (
+  record {
+    long = refl;
+    in_range = below_four (λ j. slice_index forth j < 4) (omega arith) (omega arith) (omega arith) (omega arith);
+    each = below_four (λ p. (j : ℕ) × (j < 4) × (slice_index forth j ≡ p)) (0, omega arith, refl) (1, omega arith, refl) (2, omega arith, refl) (3, omega arith, refl);
+  },
+  (λ o. let w = o.each 3 (omega arith) in below_four (λ j. slice_index (0 ∷ 1 ∷ 2 ∷ 2 ∷ []) j ≡ 3 → ⊥) (λ e. omega arith) (λ e. omega arith) (λ e. omega arith) (λ e. omega arith) w.0 w.1 w.2),
+)
+
+next_ones : NextOnes
+next_ones = (first_is_next (irreflexive forth) (transitive forth) listed.2, listed.0.ended.0 refl)
+
 pub two_pairs_are : TwoPairs
 two_pairs_are = (
   market,
@@ -224,4 +239,7 @@ two_pairs_are = (
   two_apart,
   (refl, refl),
   listed,
+  orders,
+  next_ones,
+  (omega arith, refl, refl, λ h. omega arith),
 )

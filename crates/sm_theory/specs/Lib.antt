@@ -5,11 +5,13 @@ pub mod Chains
 pub mod Marks
 pub mod ClosedSets
 pub mod Vectors
+pub mod Listings
 pub mod Weights
 pub mod Laws
 pub mod Rooms
 pub mod Partitions
 pub mod LawsRooms
+pub mod LawsListing
 pub mod Net
 pub mod Flows
 pub mod Conditions

@@ -48,3 +48,13 @@ pub record IsLink (l : Lists) (m : Places) (p r target : ℕ) : Type 0 where
 -- (Gusfield and Irving 1989, section 2.5)
 abbrev pub eliminated : Lists → Places → List (ℕ × ℕ) → Places
 eliminated l m rotation = with_proposers l (places_after l m.proposers rotation)
+
+-- a rotation moves p, from this reviewer to that one
+abbrev pub DoesMove : List (ℕ × ℕ) → ℕ → Type 0
+DoesMove rotation p = pair_of rotation p < length rotation
+
+abbrev pub reviewer_before : List (ℕ × ℕ) → ℕ → ℕ
+reviewer_before rotation p = reviewer_at rotation (pair_of rotation p)
+
+abbrev pub reviewer_after : List (ℕ × ℕ) → ℕ → ℕ
+reviewer_after rotation p = target_at rotation (pair_of rotation p)

@@ -1,6 +1,6 @@
--- Level vectors, conditions on levels, and listings. A caller gives for each proposer one level per place and one more
+-- Level vectors, their order, and conditions on levels. A caller gives for each proposer one level per place and one more
 -- for being unmatched.
-use Rattle.std.specs.Prelude.{◌≡◌, ℕ, ◌+◌, ◌<◌, ◌≤◌, ◌⊎◌, ◌↔◌, Bool, true, false, List, [], ◌∷◌, Option, None, Some, length, slice_index, slice_index_or}
+use Rattle.std.specs.Prelude.{◌≡◌, ℕ, ◌+◌, ◌<◌, ◌≤◌, List, Some, length, slice_index, slice_index_or}
 use Rattle.sm_market.specs.Lists.{Lists, row}
 use Rattle.sm_market.specs.Matching.{Places, held}
 use Rattle.sm_market.specs.Stable.{IsStable}
@@ -13,6 +13,12 @@ pub record AreLevels (l : Lists) (levels : List (List ℕ)) : Type 0 where
   pub one_each : length levels ≡ length l.proposers
   pub per_place : (p : ℕ) → p < length l.proposers → length (row levels p) ≡ length (row l.proposers p) + 1
   pub rising : (p i j : ℕ) → i < j → j < length (row levels p) → slice_index (row levels p) i ≤ slice_index (row levels p) j
+
+-- an order of the proposers, or of other things that are counted: each stands in it once
+pub record IsOrder (count : ℕ) (order : List ℕ) : Type 0 where
+  pub long : length order ≡ count
+  pub in_range : (j : ℕ) → j < length order → slice_index order j < count
+  pub each : (p : ℕ) → p < count → (j : ℕ) × (j < length order) × (slice_index order j ≡ p)
 
 -- p is matched, at a place of this level
 pub record HasLevel (levels : List (List ℕ)) (m : Places) (p level : ℕ) : Type 0 where
@@ -28,27 +34,6 @@ pub record IsAllowed (levels : List (List ℕ)) (forced forbidden : List (ℕ ×
 -- the levels lie between these bounds, both included; the level of being unmatched counts too
 abbrev pub IsWithin : Lists → List (List ℕ) → (low high : List ℕ) → Places → Type 0
 IsWithin l levels low high m = (p : ℕ) → p < length l.proposers → (slice_index low p ≤ level_of l levels m p) × (level_of l levels m p ≤ slice_index high p)
-
--- behind a vector, if there is one
-abbrev pub IsBehind : (List ℕ → List ℕ → Type 0) → Option (List ℕ) → List ℕ → Type 0
-IsBehind Before None v = Unit {0}
-IsBehind Before (Some c) v = Before c v
-
--- the last vector listed, or else the cursor
-abbrev pub end_of : Option (List ℕ) → List (List ℕ) → Option (List ℕ)
-end_of cursor [] = cursor
-end_of cursor (v ∷ vs) = end_of (Some v) vs
-
--- a listing of what is in question: the vectors behind the cursor, rising in the given order, as `IsBefore` in an order of
--- the proposers, the first ones of all, at most as many as the limit; and more is said to follow exactly where more follow
-pub record IsListing (Before : List ℕ → List ℕ → Type 0) (IsOne : List ℕ → Type 0) (cursor : Option (List ℕ)) (limit : ℕ) (out : List (List ℕ)) (more : Bool) : Type 0 where
-  pub begins : 0 < length out → IsBehind Before cursor (slice_index_or out 0 [])
-  pub rises : (k : ℕ) → k + 1 < length out → Before (slice_index_or out k []) (slice_index_or out (k + 1) [])
-  pub sound : (k : ℕ) → k < length out → IsOne (slice_index_or out k [])
-  pub whole : (v : List ℕ) → IsOne v → IsBehind Before cursor v → ((k : ℕ) × (k < length out) × (slice_index_or out k [] ≡ v)) ⊎ IsBehind Before (end_of cursor out) v
-  pub limited : length out ≤ limit
-  pub ended : more ≡ false ↔ ((v : List ℕ) → IsOne v → IsBehind Before (end_of cursor out) v → ⊥)
-  pub cut : more ≡ true → length out ≡ limit
 
 -- the level vector of a stable matching that is allowed
 pub record IsAllowedVector (l : Lists) (levels : List (List ℕ)) (forced forbidden : List (ℕ × ℕ)) (v : List ℕ) : Type 0 where

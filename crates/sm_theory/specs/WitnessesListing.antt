@@ -3,9 +3,11 @@ use Rattle.std.specs.Prelude.{◌≡◌, ℕ, ◌<◌, Bool, true, false, List, 
 use Rattle.sm_market.specs.Lists.{Lists, IsMarket}
 use Rattle.sm_market.specs.Matching.{Places}
 use Rattle.sm_theory.specs.Lattice.{meet_of, join_of}
+use Rattle.sm_theory.specs.Rotations.{DoesMove, reviewer_before, reviewer_after}
 use Rattle.sm_theory.specs.Chains.{stage, rotation_at, IsPrintedChain, IsNeededBy}
 use Rattle.sm_theory.specs.ClosedSets.{matching_of, IsReady}
-use Rattle.sm_theory.specs.Vectors.{IsBefore, AreLevels, IsAllowedVector, IsListing}
+use Rattle.sm_theory.specs.Vectors.{IsBefore, IsOrder, AreLevels, IsAllowedVector}
+use Rattle.sm_theory.specs.Listings.{IsNext, IsNoneBehind, IsListing}
 
 -- twice two proposers with opposed lists
 abbrev pub two_pairs : Lists
@@ -58,6 +60,22 @@ Listed = IsListing (IsBefore (0 ∷ 1 ∷ 2 ∷ 3 ∷ [])) (IsAllowedVector two_
     × IsListing (IsBefore (2 ∷ 3 ∷ 0 ∷ 1 ∷ [])) (IsAllowedVector two_pairs two_pairs_ranks [] []) None 4 (both_best ∷ first_worst ∷ second_worst ∷ both_worst ∷ []) false
     × IsListing (IsBefore (0 ∷ 1 ∷ 2 ∷ 3 ∷ [])) (IsAllowedVector two_pairs two_pairs_ranks [] []) (Some both_best) 2 (second_worst ∷ first_worst ∷ []) true
 
+-- the order of the proposers is one, and a list in which one of them stands twice is none
+abbrev pub Orders : Type 0
+Orders = IsOrder 4 (0 ∷ 1 ∷ 2 ∷ 3 ∷ []) × (¬ IsOrder 4 (0 ∷ 1 ∷ 2 ∷ 2 ∷ []))
+
+-- behind the first vector the second is next, and none is behind the last
+abbrev pub NextOnes : Type 0
+NextOnes = IsNext (IsBefore (0 ∷ 1 ∷ 2 ∷ 3 ∷ [])) (IsAllowedVector two_pairs two_pairs_ranks [] []) (Some both_best) second_worst
+    × IsNoneBehind (IsBefore (0 ∷ 1 ∷ 2 ∷ 3 ∷ [])) (IsAllowedVector two_pairs two_pairs_ranks [] []) (Some both_worst)
+
+-- the first rotation moves proposer 0 from reviewer 0 to reviewer 1, and proposer 2 it doesn't move
+abbrev pub OneMove : Type 0
+OneMove = DoesMove (rotation_at two_pairs_chain 0) 0
+    × (reviewer_before (rotation_at two_pairs_chain 0) 0 ≡ 0)
+    × (reviewer_after (rotation_at two_pairs_chain 0) 0 ≡ 1)
+    × (¬ DoesMove (rotation_at two_pairs_chain 0) 2)
+
 abbrev pub TwoPairs : Type 0
 TwoPairs = IsMarket two_pairs × IsPrintedChain two_pairs two_pairs_first two_pairs_chain × AreLevels two_pairs two_pairs_ranks
-    × TwoApart × MeetAndJoin × Listed
+    × TwoApart × MeetAndJoin × Listed × Orders × NextOnes × OneMove

@@ -1,9 +1,10 @@
-//! The laws of the lattice of stable matchings, of rotations and of closed sets, of flows and the lightest matching, and of
-//! roommates. Each function does nothing: its contract is the law, a statement over the definitions alone, for all markets
+//! The laws of the lattice of stable matchings, of rotations and of closed sets, of flows and the lightest matching, of
+//! roommates, and of listings. Each function does nothing: its contract is the law, a statement over the definitions alone, for all markets
 //! and all matchings.
 
 ghost use Rattle.sm_market.specs.Laws.{SameAgents};
 ghost use Rattle.sm_theory.specs.LawsFlows.{NoFlowAboveCut, ReachIsLeastCut, CutsAreAllowed, LeastCutIsLightest, ReachIsBestLightest, PathWhereNothing};
+ghost use Rattle.sm_theory.specs.LawsListing.{SetsAreOrdered, MovesFollow, NextMoveIsIn, JoinKeepsBounds, VectorsAreOrdered, NextVector, ListingExists, OneListing, ListingResumes};
 ghost use Rattle.sm_theory.specs.LawsRooms.{OddPartyExcludes, SameOddParties, SamePersons, PartiesPair, EvenPartiesPair, RestIsStable};
 ghost use Rattle.sm_theory.specs.Laws.{MeetIsStable, JoinIsStable, PairIsDivided, Dichotomy, EliminationIsStable, NothingExposed, NothingExposedBack, BestIsUnique, PredecessorIsEarlier, SetsAreMatchings, ExposedWhereReady, AllInTheChain, MeetKeepsBounds, WeightIsSumOfGains, LevelsDetermine};
 
@@ -161,4 +162,52 @@ pub fn even_parties_pair()
 /// stay blocks (Tan 1991).
 pub fn rest_is_stable()
     ensures { RestIsStable }
+{}
+
+/// Of two closed sets one is inside the other exactly where no proposer stands worse in its matching
+/// (Gusfield and Irving 1989, theorem 2.5.7).
+pub fn sets_are_ordered()
+    ensures { SetsAreOrdered }
+{}
+
+/// The first rotation of a complete chain that moves a proposer takes it from its first reviewer, and each later one from
+/// the reviewer to which the last one before moved it.
+pub fn moves_follow()
+    ensures { MovesFollow }
+{}
+
+/// A closed set in whose matching a proposer stands worse than in another's has the first of the rotations outside the
+/// other that move this proposer.
+pub fn next_move_is_in()
+    ensures { NextMoveIsIn }
+{}
+
+/// The stable matchings within bounds on levels and under conditions are closed under join.
+pub fn join_keeps_bounds()
+    ensures { JoinKeepsBounds }
+{}
+
+/// The order of vectors is a strict one, and of two vectors of one length that differ one is before the other.
+pub fn vectors_are_ordered()
+    ensures { VectorsAreOrdered }
+{}
+
+/// Behind each cursor there is a least level vector of an allowed stable matching, or there is none.
+pub fn next_vector()
+    ensures { NextVector }
+{}
+
+/// For each cursor and each limit there is a listing of the level vectors of the allowed stable matchings.
+pub fn listing_exists()
+    ensures { ListingExists }
+{}
+
+/// For each cursor and each limit there is no more than one listing of the level vectors of the allowed stable matchings.
+pub fn one_listing()
+    ensures { OneListing }
+{}
+
+/// A listing that goes on from where another ended makes with it the listing up to both limits.
+pub fn listing_resumes()
+    ensures { ListingResumes }
 {}
