@@ -39,6 +39,7 @@ mapped_row (r ∷ rs) (suc p) = mapped_row rs p
 contains_at : (xs : List ℕ) (k x : ℕ) → k < length xs → slice_index xs k ≡ x → Contains xs x
 contains_at xs k x less e = (k, less, get_or_default xs k x 0 less ∙ e)
 
+-- the entry that is contained
 pub contained : (xs : List ℕ) (x : ℕ) (c : Contains xs x) → slice_index xs c.0 ≡ x
 contained xs x c = sym (get_or_default xs c.0 x 0 c.1) ∙ c.2
 
@@ -49,6 +50,7 @@ module _ {l : Lists} {levels : List (List ℕ)} {first : Places} {rotations : Li
   abbrev pub place : ℕ → ℕ → ℕ
   place p a = slice_index (places_at l first moves p) a
 
+  -- the moves of p are those of the whole chain
   pub all_moves : (p : ℕ) → AreMovesOf l rotations (length rotations) p (moves_at moves p)
   all_moves p = elim (lt_or_le p (length l.proposers)) [
     | inl less ↦ ground.moves_are.of p less
@@ -62,24 +64,30 @@ module _ {l : Lists} {levels : List (List ℕ)} {first : Places} {rotations : Li
         })
   ]
 
+  -- what ends a stay is the rotation of the move
   pub leave_is : (p a : ℕ) → leave board p a ≡ rotation_of (moves_at moves p) a
   leave_is p a = ap (λ r. slice_index r a) (mapped_row moves p) ∙ first_of_pairs (moves_at moves p) a
 
+  -- there is one move for each stay that ends
   pub leaves_long : (p : ℕ) → length (row board.leaves p) ≡ length (moves_at moves p)
   leaves_long p = ap length (mapped_row moves p) ∙ length-map (moves_at moves p) (λ m. m.0)
 
+  -- there is one row for each proposer
   pub many : length board.leaves ≡ length l.proposers
   many = length-map moves (λ ms. map (λ m. m.0) ms) ∙ ground.moves_are.one_each
 
+  -- the levels of p are those of its places
   pub levels_row : (p : ℕ) → p < length l.proposers → row board.levels p ≡ map (λ i. slice_index (row levels p) i) (places_at l first moves p)
   levels_row p less = get_or-map-range_with_len (λ p. map (λ i. slice_index (row levels p) i) (places_at l first moves p)) 0 (length l.proposers) p p [] less (omega arith)
 
   places_long : (p : ℕ) → length (places_at l first moves p) ≡ length (moves_at moves p) + 1
   places_long p = let e = length-map (moves_at moves p) (λ m. m.1) in omega arith
 
+  -- and one more than its moves
   pub levels_long : (p : ℕ) → p < length l.proposers → length (row board.levels p) ≡ length (moves_at moves p) + 1
   levels_long p less = ap length (levels_row p less) ∙ length-map (places_at l first moves p) (λ i. slice_index (row levels p) i) ∙ places_long p
 
+  -- the level of a stay is that of its place
   pub stay_level_is : (p a : ℕ) → p < length l.proposers → a < length (moves_at moves p) + 1 → stay_level board p a ≡ slice_index (row levels p) (place p a)
   stay_level_is p a less x = ap (λ r. slice_index r a) (levels_row p less) ∙ get_or-map (λ i. slice_index (row levels p) i) (places_at l first moves p) a 0 0 (omega (arith, places_long p))
 
@@ -90,9 +98,11 @@ module _ {l : Lists} {levels : List (List ℕ)} {first : Places} {rotations : Li
   pub stands : (p a : ℕ) → a < length (moves_at moves p) → standing l.proposers (stage l first rotations (suc (rotation_of (moves_at moves p) a))).proposers p ≡ place p (suc a)
   stands p a x = move_stands ground.market ground.chain p (rotation_of (moves_at moves p) a) (place_to (moves_at moves p) a) ((all_moves p).sound a x) ((all_moves p).each a x) ∙ sym (place_suc p a)
 
+  -- each move is one of a cycle
   pub movers : (p a : ℕ) → a < length (moves_at moves p) → Moves (cycle_of (rotation_at rotations (rotation_of (moves_at moves p) a))) p
   movers p a x = moves_of_move ground.market ground.chain p (rotation_of (moves_at moves p) a) (place_to (moves_at moves p) a) ((all_moves p).each a x)
 
+  -- places go down the list from stay to stay
   pub place_up : (p i j : ℕ) → i < j → j < length (moves_at moves p) + 1 → place p i < place p j
   place_up p i zero less x = absurd (omega arith)
   place_up p zero (suc b) less x =
@@ -147,6 +157,7 @@ module _ {l : Lists} {levels : List (List ℕ)} {first : Places} {rotations : Li
             ]
           ]
 
+  -- predecessors lead from move to move, and levels never fall
   pub is_board : IsBoard board
   is_board = record {
     movers_each = length-map rotations (λ rotation. map (λ pair. pair.0) rotation) ∙ sym ground.needs_each;
@@ -195,5 +206,6 @@ module _ {l : Lists} {levels : List (List ℕ)} {first : Places} {rotations : Li
             )
       ]
 
+-- by `is_board`
 pub board_is_board : BoardIsBoard
 board_is_board l levels first rotations needs moves ground = is_board ground

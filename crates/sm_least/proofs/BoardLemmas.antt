@@ -8,32 +8,39 @@ use Rattle.sm_least.specs.Board.{Board, IsBoard, leave, stay_level, stay, IsClos
 use Rattle.sm_least.specs.BoardLaws.{MembersAreFirst, StaysGrow, LeaveIsIn, PastIsShut, LevelStays, LevelRises, EnterEndsStays}
 use Rattle.sm_least.proofs.MemberLemmas.{members_few, Chained, front, more_members, not_among, among}
 
+-- of the rotations that move p a closed set has with each the one before it
 pub chained : {b : Board} {C : List Bool} → IsBoard b → IsClosedIn b C → (p : ℕ) → Chained C (row b.leaves p)
 chained {b} {C} h c p a less m = c.closed (leave b p a) (leave b p (a + 1)) m (h.lead p a less)
 
+-- those that move p and are members are the first ones
 pub members_are_first : MembersAreFirst
 members_are_first b C p a h c less = front C (row b.leaves p) (chained h c p) a less
 
+-- each stay has a level
 pub stays_in : {b : Board} → IsBoard b → (C : List Bool) (p : ℕ) → p < length b.leaves → stay b C p < length (row b.levels p)
 stays_in {b} h C p less = omega (arith, members_few C (row b.leaves p), h.long p less)
 
+-- levels never fall, from one stay to the same or a later one
 pub never_falls : {b : Board} → IsBoard b → (p i j : ℕ) → i ≤ j → j < length (row b.levels p) → stay_level b p i ≤ stay_level b p j
 never_falls {b} h p i j le less = elim (eq_or_ne i j) [
   | inl e ↦ omega (arith, ap (stay_level b p) e)
   | inr ne ↦ h.rising p i j (omega arith) less
 ]
 
+-- more members are counted, and levels never fall
 pub stays_grow : StaysGrow
 stays_grow b C D p h inside less =
     let more = more_members C D (row b.leaves p) inside in
     (more, never_falls h p (stay b C p) (stay b D p) more (stays_in h D p less))
 
+-- the greater set has a later stay, so what ends this one is a member
 pub leave_is_in : LeaveIsIn
 leave_is_in b C D p h inside d ne =
     let more = more_members C D (row b.leaves p) inside in
     let few = members_few D (row b.leaves p) in
     (members_are_first b D p (stay b C p) h d (omega arith)).1 (omega arith)
 
+-- stays grow, and what is open lies before the last open one
 pub past_is_shut : PastIsShut
 past_is_shut b g C D p h inside past w =
     let more = more_members C D (row b.leaves p) inside in
@@ -52,6 +59,7 @@ level_flat {b} h p i (suc m) less none =
     ] in
     before ∙ same ∙ ap (stay_level b p) (sym e)
 
+-- the level could change only where a new member raises it
 pub level_stays : LevelStays
 level_stays b C D p h inside c d less none =
     let more = more_members C D (row b.leaves p) inside in
@@ -64,6 +72,7 @@ level_stays b C D p h inside c d less none =
     (record { at = a; within = omega arith; is = refl; rises = rises }))
     ∙ ap (stay_level b p) e
 
+-- the new member lies between the two stays
 pub level_rises : LevelRises
 level_rises b C D p x h inside c d less new out w =
     let few = members_few D (row b.leaves p) in
@@ -79,6 +88,7 @@ level_rises b C D p x h inside c d less new out w =
       never_falls h p (w.at + 1) (stay b D p) (omega arith) (stays_in h D p less),
     )
 
+-- one more member is counted exactly for those that it moves
 pub enter_ends_stays : EnterEndsStays
 enter_ends_stays b C p x h less out = (
   (λ moves. let w = h.back p x moves in among C x (row b.leaves p) less out (λ a c g k. h.once p a c g k) w.0 w.1 (sym (get_or_default (row b.leaves p) w.0 x 0 w.1) ∙ w.2)),

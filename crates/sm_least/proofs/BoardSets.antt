@@ -29,6 +29,7 @@ use Rattle.sm_least.proofs.BoardBridge.{contained, board, place, all_moves, leav
 none_some : {x : ℕ} → ◌≡◌ {A = Option ℕ} None (Some x) → ⊥
 none_some e = grind arith
 
+-- a member is one of the set
 pub member_below : (C : List Bool) (j : ℕ) → IsMember C j → j < length C
 member_below C j m = elim (lt_or_le j (length C)) [
   | inl less ↦ less
@@ -36,6 +37,7 @@ member_below C j m = elim (lt_or_le j (length C)) [
 ]
 
 module _ {l : Lists} {levels : List (List ℕ)} {first : Places} {rotations : List (List (ℕ × ℕ))} {needs : List (List ℕ)} {moves : List (List (ℕ × ℕ))} (ground : IsGround l levels first rotations needs moves) where
+  -- a closed set of the chain is one of the board
   pub closed_in : {C : List Bool} → IsClosed l rotations C → IsClosedIn (board ground) C
   closed_in {C} c = record { one_each = c.one_each ∙ sym ground.needs_each; closed = closed }
     where
@@ -46,6 +48,7 @@ module _ {l : Lists} {levels : List (List ℕ)} {first : Places} {rotations : Li
           let are = ground.needs_are j g in
           subst (IsMember C) e (c.closed (slice_index (row needs j) w.0) j (are.sound w.0 w.1) g m (are.each w.0 w.1))
 
+  -- and back
   pub closed_back : {C : List Bool} → IsClosedIn (board ground) C → IsClosed l rotations C
   closed_back {C} c = record {
     one_each = c.one_each ∙ ground.needs_each;
@@ -94,12 +97,15 @@ module _ {l : Lists} {levels : List (List ℕ)} {first : Places} {rotations : Li
     stay_few : (p : ℕ) → stay (board ground) C p < length (moves_at moves p) + 1
     stay_few p = omega (arith, members_few C (row (board ground).leaves p), leaves_long ground p)
 
+    -- the level in the matching of a set is that of the stay
     pub level_is : (p : ℕ) → p < length l.proposers → level_of l levels (matching_of l first rotations C) p ≡ level (board ground) C p
     level_is p less = ap (slice_index (row levels p)) (is_at p) ∙ sym (stay_level_is ground p (stay (board ground) C p) less (stay_few p))
 
+    -- the stay is one of p's
     pub stay_in : (p : ℕ) → p < length l.proposers → stay (board ground) C p < length (row (board ground).levels p)
     stay_in p less = omega (arith, stay_few p, levels_long ground p less)
 
+    -- who is matched is matched in each matching of the chain
     pub matched_in : (p : ℕ) → slice_index_or (board ground).matched p false ≡ true → p < length l.proposers
     matched_in p e = elim (lt_or_le p (length l.proposers)) [
       | inl less ↦ less
@@ -112,6 +118,7 @@ module _ {l : Lists} {levels : List (List ℕ)} {first : Places} {rotations : Li
     held_is : (p : ℕ) → p < length l.proposers → held (matching_of l first rotations C).proposers p ≡ option_map (λ i. worst_place l rotations C p i (length rotations)) (held first.proposers p)
     held_is p less = held_map l.proposers (λ p. option_map (λ i. worst_place l rotations C p i (length rotations)) (held first.proposers p)) p less
 
+    -- a level that p has in the matching of a set is that of its stay
     pub has_level : (p L : ℕ) → HasLevel levels (matching_of l first rotations C) p L → (slice_index_or (board ground).matched p false ≡ true) × (level (board ground) C p ≡ L)
     has_level p L w = elim (lt_or_le p (length l.proposers)) [
       | inr past ↦ absurd (none_some (sym (held_map_past l.proposers (λ p. option_map (λ i. worst_place l rotations C p i (length rotations)) (held first.proposers p)) p past) ∙ w.holds))
@@ -125,6 +132,7 @@ module _ {l : Lists} {levels : List (List ℕ)} {first : Places} {rotations : Li
         some None e = absurd (none_some e)
         some (Some i) e = refl
 
+    -- and back
     pub has_level_back : (p L : ℕ) → slice_index_or (board ground).matched p false ≡ true → level (board ground) C p ≡ L → HasLevel levels (matching_of l first rotations C) p L
     has_level_back p L matched at = go (held first.proposers p) refl
       where
@@ -141,6 +149,7 @@ module _ {l : Lists} {levels : List (List ℕ)} {first : Places} {rotations : Li
               at_level = ap (slice_index (row levels p)) (sym (standing-some l.proposers (matching_of l first rotations C).proposers p (worst_place l rotations C p i (length rotations)) holds)) ∙ level_is p less ∙ at;
             }
 
+-- closed sets, levels and who is matched, each both ways
 pub board_shows_sets : BoardShowsSets
 board_shows_sets l levels first rotations needs moves C ground = (
   (closed_back ground, closed_in ground),
@@ -148,6 +157,7 @@ board_shows_sets l levels first rotations needs moves C ground = (
   (λ c p L. ((λ w. has_level ground c p L w), (λ w. has_level_back ground c p L w.0 w.1))),
 )
 
+-- stay by stay, since a condition speaks of one proposer
 pub gates_mean_conditions : GatesMeanConditions
 gates_mean_conditions l levels first rotations needs moves low high forced forbidden g C ground range gates = (there, λ w. back w.0 w.1 w.2)
   where
@@ -189,6 +199,7 @@ record Found (l : Lists) (first : Places) (rotations : List (List (ℕ × ℕ)))
   is : matching_of l first rotations set ≡ n
   fits : Fits b g set
 
+-- each allowed matching has a closed set, and smaller sets have better matchings
 pub least_is_best : LeastIsBest
 least_is_best l levels first rotations needs moves low high forced forbidden g ground range gates = (best, none)
   where
@@ -219,6 +230,7 @@ least_is_best l levels first rotations needs moves low high forced forbidden g g
     none : ((C : List Bool) → ¬ Fits (board ground) g C) → (m : Places) → IsStable l m → IsWithin l levels low high m → ¬ IsAllowed levels forced forbidden m
     none nothing m st wi al = let s = found_for m st wi al in nothing s.set s.fits
 
+-- by the last open stay, before it and from it on
 pub gates_from_tests : GatesFromTests
 gates_from_tests b low high forced forbidden g past here p a h x = elim (lt_or_le a (slice_index g.until p)) [
   | inl k ↦ ((λ w. (here p a h x k).0 w.unshut), (λ w. record { before = k; unshut = (here p a h x k).1 w }))

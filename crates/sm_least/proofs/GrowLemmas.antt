@@ -22,6 +22,7 @@ at_old log x a h = get_or_append_left log (x ∷ []) 0 a h
 at_new : (log : List ℕ) (x a : ℕ) → length log ≡ a → slice_index (log ++ x ∷ []) a ≡ x
 at_new log x a e = get_or_push log x 0 a e
 
+-- what enters was no member, so it stands in the log once
 pub log_grows : LogGrows
 log_grows b log C x w g out = record {
   one_each = length-set C x true ∙ w.one_each;
@@ -45,6 +46,7 @@ log_grows b log C x w g out = record {
   ];
 }
 
+-- what leaves stands nowhere else in the log
 pub log_falls : LogFalls
 log_falls b log C x w = record {
   one_each = length-set C x false ∙ w.one_each;
@@ -71,9 +73,11 @@ log_short b log C w = elim (lt_or_le (length b.needs) (length log)) [
   | inr le ↦ le
 ]
 
+-- the entries of a log are numbers below a bound, all different
 pub log_fits : LogFits
 log_fits b log C w = (log_short b log C w, λ x g out. omega (arith, log_short b (log ++ x ∷ []) (set C x true) (log_grows b log C x w g out), length_push log x))
 
+-- each member stands in the log, and its predecessors are members
 pub closed_when_done : ClosedWhenDone
 closed_when_done b log C w done = record {
   one_each = w.one_each;
@@ -82,18 +86,22 @@ closed_when_done b log C w done = record {
       done c.0 i c.1 (subst (λ k. Contains (row b.needs k) i) (sym (contained log j c)) need);
 }
 
+-- one more that is in the other set
 pub inside_more : (C D : List Bool) (y : ℕ) → IsInside C D → IsMember D y → IsInside (set C y true) D
 inside_more C D y inside m k x = elim (eq_or_ne k y) [
   | inl e ↦ subst (IsMember D) (sym e) m
   | inr ne ↦ inside k (sym (others_same C y k ne) ∙ x)
 ]
 
+-- a closed set has what its members need
 pub need_may_enter : NeedMayEnter
 need_may_enter b C D j y inside d m need less = inside_more C D y inside (d.closed y j (inside j m) need)
 
+-- the stay in a set that fits is open, so it is another one
 pub shut_leave_is_in : ShutLeaveIsIn
 shut_leave_is_in b g C D p h inside d less shut = leave_is_in b C D p h inside d.closed (λ e. shut (subst (IsOpen g p) (sym e) (d.opens p less)))
 
+-- the level there is another, so the stay is
 pub low_leave_is_in : LowLeaveIsIn
 low_leave_is_in b C D p wanted h inside d low high = leave_is_in b C D p h inside d (λ e. let same = ap (stay_level b p) e in omega arith)
 
@@ -104,21 +112,25 @@ same_members C D (x ∷ xs) inside old = elim (Decided-member D x) [
   | inr out ↦ passed D x xs out ∙ same_members C D xs inside (λ a h. old (suc a) (omega arith)) ∙ sym (passed C x xs (λ m. out (inside x m)))
 ]
 
+-- no new member is counted
 pub idle_stays : IdleStays
 idle_stays b C D p h inside idle = same_members C D (row b.leaves p) inside (λ a less m. elim (Decided-member C (leave b p a)) [
   | inl k ↦ k
   | inr out ↦ absurd (idle (leave b p a) m out (h.there p (leave b p a) (a, less, get_or_default (row b.leaves p) a (leave b p a) 0 less)))
 ])
 
+-- by `level_stays` at each position before `bar`
 pub free_keeps_levels : FreeKeepsLevels
 free_keeps_levels b order C D bar h o few inside c d free j less =
     sym (level_stays b C D (slice_index order j) h inside c d (o.in_range j (omega arith)) (λ x m out. free x j m out less))
 
+-- by `level_rises` at that position
 pub barred_changes_levels : BarredChangesLevels
 barred_changes_levels b order C D bar x j h o few inside c d new out less ch same =
     let up = level_rises b C D (slice_index order j) x h inside c d (o.in_range j (omega arith)) new out ch in
     omega (arith, same j less)
 
+-- by the order of their entering: what ended the stays before was held already
 pub asked_is_in : AskedIsIn
 asked_is_in b g log who at D h askers shut d a less = fuel (suc a) a (omega arith) less
   where
@@ -147,6 +159,7 @@ asked_is_in b g log who at D h askers shut d a less = fuel (suc a) a (omega arit
     fuel zero a x less = absurd (omega arith)
     fuel (suc n) a x less = step a less (λ c y. fuel n c (omega arith) (omega arith))
 
+-- all that is brought in is in each set that is sought, so what is sought and found is the least
 pub raise_finds : RaiseFinds
 raise_finds b g order C now p wanted bar h o few c forced w free = record {
   fits = w.fits;
@@ -156,10 +169,12 @@ raise_finds b g order C now p wanted bar h o few c forced w free = record {
   least = λ D f more reaches. forced D (record { fits = f; more = more; reaches = reaches });
 }
 
+-- by `past_is_shut`
 pub raise_is_past : RaiseIsPast
 raise_is_past b g order C now p wanted bar q h forced less past D f more reaches same =
     past_is_shut b g now D q h (forced D (record { fits = f; more = more; reaches = reaches })) past (f.opens q less)
 
+-- a set that is sought would need a later stay of p, and none is open
 pub raise_is_last : RaiseIsLast
 raise_is_last b g order C now p wanted bar h forced less low last D f more reaches same =
     let inside : IsInside now D = forced D (record { fits = f; more = more; reaches = reaches }) in
@@ -170,13 +185,16 @@ raise_is_last b g order C now p wanted bar h forced less low last D f more reach
       | inr ne ↦ omega (arith, w.before)
     ]
 
+-- by `barred_changes_levels`
 pub raise_is_barred : RaiseIsBarred
 raise_is_barred b g order C p wanted bar x j h o few c new out less ch D f more reaches same =
     barred_changes_levels b order C D bar x j h o few more c f.closed (new D (record { fits = f; more = more; reaches = reaches })) out less ch same
 
+-- it fits, and is inside each that does
 pub least_is_found : LeastIsFound
 least_is_found b g C c opens inside = record { one = record { closed = c; opens = opens }; least = inside }
 
+-- at the first open asker a new one begins, and all before it is whole
 pub asked_is_closed : AskedIsClosed
 asked_is_closed b g log who at zero whole less shut now a i x need = absurd (omega arith)
 asked_is_closed b g log who at (suc c) whole less shut now a i x need =

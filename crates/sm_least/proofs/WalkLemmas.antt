@@ -11,9 +11,11 @@ use Rattle.sm_least.specs.Walks.{vector, Agrees, Reaches, IsMark, IsUp, NoneFrom
 use Rattle.sm_least.proofs.MemberLemmas.{members_few}
 use Rattle.sm_least.proofs.BoardLemmas.{members_are_first, stays_grow, level_stays, level_rises}
 
+-- the vector has the level of each proposer
 pub vector_at : (b : Board) (C : List Bool) (p : ℕ) → p < length b.leaves → slice_index (vector b C) p ≡ level b C p
 vector_at b C p less = get_or-map-range_with_len (level b C) 0 (length b.leaves) p p 0 less (omega arith)
 
+-- and one number for each
 pub vector_long : (b : Board) (C : List Bool) → length (vector b C) ≡ length b.leaves
 vector_long b C = length-map-range_with_len (level b C) 0 (length b.leaves)
 
@@ -24,6 +26,7 @@ reaches_more {b} {g} {order} {v} {i} {D} u j less = elim (eq_or_ne j i) [
   | inr ne ↦ omega (arith, u.agrees j (omega arith))
 ]
 
+-- the mark is inside each set that reaches v behind the position
 pub up_where_raised : UpWhereRaised
 up_where_raised b g order v i C new m r = record {
   up = record { fits = r.fits; agrees = λ j less. r.same j less ∙ m.agrees j (omega arith); above = let a = r.reaches in omega arith };
@@ -43,6 +46,7 @@ none_more b g order v i none here j D le less u = elim (eq_or_ne i j) [
   | inr ne ↦ none j D (omega arith) less u
 ]
 
+-- a set above v at the position would be one that the raise looks for
 pub none_where_not_raised : NoneWhereNotRaised
 none_where_not_raised b g order v i C m r none = none_more b g order v i none (λ D u.
     r D u.fits (m.least D u.fits (reaches_more u)) (let a = u.above in omega arith) (λ j less. u.agrees j less ∙ sym (m.agrees j (omega arith))))
@@ -86,6 +90,7 @@ riser {b} {g} {C} {D} p h inside c d less rises = elim (search_below (stay b D p
       | inr k ↦ k
     ]
 
+-- a set above v at the position has a new member that changes the level there first
 pub none_without_turn : NoneWithoutTurn
 none_without_turn b g order v i C h o inside m turn none = none_more b g order v i none (λ D u.
     let p : ℕ = slice_index order i in
@@ -119,6 +124,7 @@ up_of {b} {g} {order} {v} {D} o f w = record {
   above = omega (arith, w.smaller, vector_at b D (slice_index order w.at) (o.in_range w.at w.within));
 }
 
+-- a set above v has a vector behind v
 pub before_of : {b : Board} {g : Gates} {order v : List ℕ} {i : ℕ} {D : List Bool} → IsOrder (length b.leaves) order → i < length order → IsUp b g order v i D → IsBefore order v (vector b D)
 before_of {b} {g} {order} {v} {i} {D} o x u = record {
   at = i;
@@ -127,6 +133,7 @@ before_of {b} {g} {order} {v} {i} {D} o x u = record {
   alike = λ j y. sym (u.agrees j y) ∙ sym (vector_at b D (slice_index order j) (o.in_range j (omega arith)));
 }
 
+-- a set above v further up would be above v at or behind the position
 pub next_up_is_first : NextUpIsFirst
 next_up_is_first b g order v i new h o x n none = record { above = before_of o x n.up; first = λ D f w. go D f w (less_same_more w.at i) }
   where
@@ -145,6 +152,7 @@ next_up_is_first b g order v i new h o x n none = record { above = before_of o x
         as_v : (j : ℕ) → j < i → slice_index (vector b new) (slice_index order j) ≡ slice_index v (slice_index order j)
         as_v j y = vector_at b new (slice_index order j) (o.in_range j (omega arith)) ∙ n.up.agrees j y
 
+-- the marks up to the position stay, and behind it the new set is the least
 pub walk_goes_on : WalkGoesOn
 walk_goes_on b g order v i mark then new o x marks n old now = record { marks = all; none = λ j D a c. absurd (omega arith) }
   where
@@ -167,6 +175,7 @@ walk_goes_on b g order v i mark then new o x marks n old now = record { marks = 
       })
     ]
 
+-- the least set is the mark everywhere
 pub walk_begins : WalkBegins
 walk_begins b g order C h o w = (
   record {
@@ -180,6 +189,7 @@ walk_begins b g order C h o w = (
   (λ D f. inside_first C D h o (w.least D f)),
 )
 
+-- what is found has the level of v, or a higher one
 pub follow_on : FollowOn
 follow_on b g order v i C new h o x m r = (
   (λ e. record { fits = r.fits; agrees = agrees e; least = least }),
@@ -203,6 +213,7 @@ follow_on b g order v i C new h o x m r = (
     least : (D : List Bool) → Fits b g D → Reaches b order v (i + 1) D → IsInside new D
     least D f reach = r.least D f (m.least D f (λ j y. reach j (omega arith))) (reach i (omega arith))
 
+-- a set that reaches v at the position would be one that the raise looks for
 pub follow_ends : FollowEnds
 follow_ends b g order v i C m r j D le less u =
     let reach : Reaches b order v i D = λ k y. let a = u.agrees k (omega arith) in omega arith in

@@ -125,6 +125,7 @@ fits_second = record {
       (record { before = omega arith; unshut = refl }) (record { before = omega arith; unshut = refl }) (record { before = omega arith; unshut = refl }) (record { before = omega arith; unshut = refl });
 }
 
+-- all of it computes, but that nothing smaller fits
 pub two_board_is : TwoBoard
 two_board_is = (
   ground,
