@@ -218,7 +218,8 @@ listed = (
     whole v (First e) b = inl (1, omega arith, e)
     whole v (Worst e) b = inr (subst (IsBefore forth first_worst) e first_both)
 
-orders : Orders
+-- a list of the four, each once
+pub orders : Orders
 orders = (
   record {
     long = refl;
