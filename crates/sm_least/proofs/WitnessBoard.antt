@@ -5,17 +5,23 @@ use Rattle.sm_market.specs.Lists.{row, place_of}
 use Rattle.sm_theory.specs.Rotations.{target_at, pair_of}
 use Rattle.sm_theory.specs.Chains.{rotation_at, AreNeedsOf}
 use Rattle.sm_theory.specs.ClosedSets.{IsMember}
-use Rattle.sm_theory.specs.WitnessesListing.{two_pairs, two_pairs_first, two_pairs_chain, two_pairs_ranks}
+use Rattle.sm_theory.specs.WitnessesListing.{two_pairs, two_pairs_first, two_pairs_chain, two_pairs_ranks, both_best}
 use Rattle.sm_theory.proofs.BridgeChain.{Decided-member}
 use Rattle.sm_theory.proofs.WitnessMarkets.{below_two}
-use Rattle.sm_theory.proofs.WitnessListing.{market, complete, none_needed, below_four}
+use Rattle.sm_theory.proofs.WitnessListing.{market, complete, none_needed, below_four, orders}
 use Rattle.sm_theory.proofs.WitnessTests.{levels_pass}
 use Rattle.sm_poset.specs.Moves.{IsMove, AreMovesOf, rotation_of, place_to}
 use Rattle.sm_poset.specs.Kept.{moves_at}
-use Rattle.sm_least.specs.Board.{stay, level, stay_level, IsClosedIn, IsInside, IsOpen, is_shut, Fits}
+use Rattle.sm_least.specs.Board.{IsBoard, leave, IsLeast, Changes, stay, level, stay_level, IsClosedIn, IsInside, IsOpen, is_shut, Fits}
 use Rattle.sm_least.specs.BoardOf.{IsGround, IsAllowedStay, AreGates}
-use Rattle.sm_least.specs.Witness.{two_needs, two_moves, two_board, two_forbidden, two_gates, TwoBoard}
+use Rattle.sm_least.specs.Witness.{two_needs, two_moves, two_board, two_forbidden, two_gates, TwoWalk, TwoLog, TwoBoard}
+use Rattle.sm_least.specs.Growing.{IsLogOf}
+use Rattle.sm_least.specs.Walks.{IsRaised, IsWalk, IsFirst}
 use Rattle.sm_least.proofs.MemberLemmas.{passed}
+use Rattle.sm_least.proofs.BoardBridge.{board_is_board}
+use Rattle.sm_least.proofs.BoardSets.{least_is_best}
+use Rattle.sm_least.proofs.GrowLemmas.{log_grows}
+use Rattle.sm_least.proofs.WalkLemmas.{up_where_raised, walk_begins}
 
 no_needs : (j : ℕ) → j < 2 → AreNeedsOf two_pairs two_pairs_chain j []
 no_needs j h = record {
@@ -68,6 +74,9 @@ ground = record {
         (one_move 3 1 (omega arith) (record { moved = omega arith; place = refl }) (second_moves 3 refl refl));
   };
 }
+
+abbrev forth : List ℕ
+forth = 0 ∷ 1 ∷ 2 ∷ 3 ∷ []
 
 unshut : (p a : ℕ) → is_shut two_gates p a ≡ false
 unshut p a = refl
@@ -125,25 +134,17 @@ fits_second = record {
       (record { before = omega arith; unshut = refl }) (record { before = omega arith; unshut = refl }) (record { before = omega arith; unshut = refl }) (record { before = omega arith; unshut = refl });
 }
 
--- all of it computes, but that nothing smaller fits
-pub two_board_is : TwoBoard
-two_board_is = (
-  ground,
-  refl,
-  gates,
-  record { one = fits_none; least = λ D f k m. absurd (none_in k m) },
-  record {
-    fits = fits_second;
-    more = λ k m. absurd (none_in k m);
-    reaches = omega arith;
-    same = below_two (λ j. level two_board (false ∷ true ∷ []) (slice_index (0 ∷ 1 ∷ 2 ∷ 3 ∷ []) j) ≡ level two_board (false ∷ false ∷ []) (slice_index (0 ∷ 1 ∷ 2 ∷ 3 ∷ []) j)) refl refl;
-    least = λ D f more reaches. second_in D reaches;
-  },
-  (λ D f more reaches same.
-      let w = f.opens 0 (omega arith) in
-      let e : stay two_board D 0 ≡ 0 = omega (arith, w.before) in
-      omega (arith, ap (stay_level two_board 0) e)),
-)
+least : IsLeast (Fits two_board two_gates) (false ∷ false ∷ [])
+least = record { one = fits_none; least = λ D f k m. absurd (none_in k m) }
+
+raised : IsRaised two_board two_gates forth (false ∷ false ∷ []) 2 2 2 (false ∷ true ∷ [])
+raised = record {
+  fits = fits_second;
+  more = λ k m. absurd (none_in k m);
+  reaches = omega arith;
+  same = below_two (λ j. level two_board (false ∷ true ∷ []) (slice_index forth j) ≡ level two_board (false ∷ false ∷ []) (slice_index forth j)) refl refl;
+  least = λ D f more reaches. second_in D reaches;
+}
   where
     second_in : (D : List Bool) → 2 ≤ level two_board D 2 → IsInside (false ∷ true ∷ []) D
     second_in D reaches zero m = absurd (false≢true m)
@@ -152,3 +153,67 @@ two_board_is = (
       | inr out ↦ let e : stay two_board D 2 ≡ 0 = passed D 1 [] out in absurd (omega (arith, ap (stay_level two_board 2) e))
     ]
     second_in D reaches (suc (suc k)) m = absurd (false≢true m)
+
+board : IsBoard two_board
+board = board_is_board two_pairs two_pairs_ranks two_pairs_first two_pairs_chain two_needs two_moves ground
+
+two_walk : TwoWalk
+two_walk = (begun.0, begun.1, up_where_raised two_board two_gates forth both_best 2 (false ∷ false ∷ []) (false ∷ true ∷ []) (begun.0.marks 3 (omega arith)) raised)
+  where
+    begun : IsWalk two_board two_gates forth both_best 4 (λ _. false ∷ false ∷ []) × IsFirst two_board two_gates forth (false ∷ false ∷ [])
+    begun = walk_begins two_board two_gates forth (false ∷ false ∷ []) board orders.0 least
+
+two_log : TwoLog
+two_log = (
+  log_grows two_board [] (false ∷ false ∷ []) 1 nothing (omega arith) (none_in 1),
+  record {
+    below = below;
+    come = come;
+    within = λ a h. within a h;
+    someone = λ a h. someone a h;
+  },
+  record {
+    within = omega arith;
+    changes = λ _. record { at = 0; within = omega arith; is = refl; rises = omega arith };
+    none_before = below_two (λ j. Changes two_board 1 (slice_index forth j) → ⊥) (not_here 0 refl refl) (not_here 1 refl refl);
+  },
+)
+  where
+    nothing : IsLogOf two_board [] (false ∷ false ∷ [])
+    nothing = record { one_each = refl; in_range = λ a h. absurd (omega arith); once = λ a c h g. absurd (omega arith); each = λ a h. absurd (omega arith); all = λ x m. absurd (none_in x m) }
+
+    below : (a : ℕ) → a < 1 → (D : List Bool) → IsClosedIn two_board D → IsMember D (leave two_board (slice_index (2 ∷ []) a) (slice_index (0 ∷ []) a)) → IsMember D (slice_index (1 ∷ []) a)
+    below zero h D c m = m
+    below (suc a) h D c m = absurd (omega arith)
+
+    come : (a j : ℕ) → a < 1 → j < slice_index (0 ∷ []) a → (c : ℕ) × (c < a) × (slice_index (1 ∷ []) c ≡ leave two_board (slice_index (2 ∷ []) a) j)
+    come zero j h g = absurd (omega arith)
+    come (suc a) j h g = absurd (omega arith)
+
+    within : (a : ℕ) → a < 1 → slice_index (0 ∷ []) a < length (row two_board.leaves (slice_index (2 ∷ []) a))
+    within zero h = omega arith
+    within (suc a) h = absurd (omega arith)
+
+    someone : (a : ℕ) → a < 1 → slice_index (2 ∷ []) a < 4
+    someone zero h = omega arith
+    someone (suc a) h = absurd (omega arith)
+
+    not_here : (p : ℕ) → length (row two_board.leaves p) ≡ 1 → leave two_board p 0 ≡ 0 → Changes two_board 1 p → ⊥
+    not_here p long at c = let e : c.at ≡ 0 = omega (arith, c.within) in omega (arith, c.is, ap (leave two_board p) e)
+
+-- what fits and is least is found by hand, and the rest by the laws
+pub two_board_is : TwoBoard
+two_board_is = (
+  ground,
+  refl,
+  gates,
+  least,
+  raised,
+  (λ D f more reaches same.
+      let w = f.opens 0 (omega arith) in
+      let e : stay two_board D 0 ≡ 0 = omega (arith, w.before) in
+      omega (arith, ap (stay_level two_board 0) e)),
+  (least_is_best two_pairs two_pairs_ranks two_pairs_first two_pairs_chain two_needs two_moves [] (9 ∷ 9 ∷ 9 ∷ 9 ∷ []) [] two_forbidden two_gates ground (λ c h. absurd (omega arith)) gates).0 (false ∷ false ∷ []) least,
+  two_walk,
+  two_log,
+)
