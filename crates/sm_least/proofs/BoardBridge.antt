@@ -8,11 +8,11 @@ use Rattle.sm_lists.proofs.Counting.{lt_or_le, eq_or_ne}
 use Rattle.sm_market.proofs.Bridge.{stable_of}
 use Rattle.sm_theory.specs.Rotations.{proposer_at, target_at, pair_of}
 use Rattle.sm_theory.specs.Chains.{rotation_at, stage}
-use Rattle.sm_theory.proofs.CoreCycle.{Moves, moves_at as moves_at_pair}
-use Rattle.sm_theory.proofs.CoreChain.{way_of, last_needed, rise, up_at}
-use Rattle.sm_theory.proofs.BridgeRotation.{cycle_of}
-use Rattle.sm_theory.proofs.BridgeChain.{chain_of, needs_back}
-use Rattle.sm_theory.proofs.LawsOfSets.{does_move}
+use Rattle.sm_theory.proofs.Core.Cycle.{Moves, moves_at as moves_at_pair}
+use Rattle.sm_theory.proofs.Core.Chain.{way_of, last_needed, rise, up_at}
+use Rattle.sm_theory.proofs.Bridge.Rotation.{cycle_of}
+use Rattle.sm_theory.proofs.Bridge.Chain.{chain_of, needs_back}
+use Rattle.sm_theory.proofs.Chains.Sets.{does_move}
 use Rattle.sm_poset.specs.Moves.{rotation_of, place_to, AreMovesOf}
 use Rattle.sm_poset.specs.Kept.{moves_at}
 use Rattle.sm_poset.proofs.ChainLemmas.{pair_is, in_range, move_stands, moves_of_move}

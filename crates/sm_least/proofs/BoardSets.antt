@@ -12,12 +12,12 @@ use Rattle.sm_market.proofs.Bridge.{stand_of, standing-some}
 use Rattle.sm_theory.specs.Chains.{rotation_at, stage}
 use Rattle.sm_theory.specs.ClosedSets.{IsMember, IsClosed, matching_of, worst_place}
 use Rattle.sm_theory.specs.Vectors.{level_of, HasLevel, IsAllowed, IsWithin}
-use Rattle.sm_theory.proofs.CoreChain.{IsOf, Attained}
-use Rattle.sm_theory.proofs.BridgePlaces.{held_map, held_map_past}
-use Rattle.sm_theory.proofs.BridgeRotation.{cycle_of}
-use Rattle.sm_theory.proofs.BridgeSets.{set_is_of}
-use Rattle.sm_theory.proofs.LawsOfSets.{sets_are_ordered}
-use Rattle.sm_theory.proofs.LawsRotations.{sets_are_matchings}
+use Rattle.sm_theory.proofs.Core.Chain.{IsOf, Attained}
+use Rattle.sm_theory.proofs.Bridge.Places.{held_map, held_map_past}
+use Rattle.sm_theory.proofs.Bridge.Rotation.{cycle_of}
+use Rattle.sm_theory.proofs.Bridge.Sets.{set_is_of}
+use Rattle.sm_theory.proofs.Chains.Sets.{sets_are_ordered}
+use Rattle.sm_theory.proofs.Chains.Rotations.{sets_are_matchings}
 use Rattle.sm_poset.specs.Moves.{rotation_of}
 use Rattle.sm_poset.specs.Kept.{moves_at}
 use Rattle.sm_least.specs.Board.{Board, stay, level, IsClosedIn, Gates, IsOpen, Fits, IsLeast}

@@ -6,7 +6,7 @@ use Rattle.std.proofs.lemmas.List.Elements.{Contains-append_left, Contains-push,
 use Rattle.sm_market.specs.Lists.{row}
 use Rattle.sm_lists.proofs.Counting.{pigeonhole, eq_or_ne, lt_or_le}
 use Rattle.sm_theory.specs.ClosedSets.{IsMember}
-use Rattle.sm_theory.proofs.BridgeChain.{Decided-member}
+use Rattle.sm_theory.proofs.Bridge.Chain.{Decided-member}
 use Rattle.sm_least.specs.Board.{Board, leave, stay_level, stay, IsInside, IsOpen, members_in}
 use Rattle.sm_least.specs.Growing.{IsLogOf, LogFits, LogGrows, LogFalls, ClosedWhenDone, NeedMayEnter, ShutLeaveIsIn, LowLeaveIsIn, IdleStays, FreeKeepsLevels, BarredChangesLevels, AskedIsIn, RaiseFinds, RaiseIsPast, RaiseIsLast, RaiseIsBarred, LeastIsFound, AskedIsClosed}
 use Rattle.sm_least.proofs.MemberLemmas.{entered, others_same, counted, passed, more_members}

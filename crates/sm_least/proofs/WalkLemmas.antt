@@ -5,7 +5,7 @@ use Rattle.sm_market.specs.Lists.{row}
 use Rattle.sm_lists.proofs.Counting.{Decided, Decided-lt, Decided-eq, Decided-le, Decided-and, First, search_below, eq_or_ne, lt_or_le, less_same_more}
 use Rattle.sm_theory.specs.ClosedSets.{IsMember}
 use Rattle.sm_theory.specs.Vectors.{IsOrder, IsBefore}
-use Rattle.sm_theory.proofs.OrderLemmas.{compared, alike_equal, Less, More, Alike}
+use Rattle.sm_theory.proofs.Vectors.Order.{compared, alike_equal, Less, More, Alike}
 use Rattle.sm_least.specs.Board.{Board, IsBoard, leave, stay_level, stay, level, IsInside, Gates, Fits, Changes}
 use Rattle.sm_least.specs.Walks.{vector, Agrees, Reaches, IsMark, IsUp, NoneFrom, UpWhereRaised, NoneWhereNotRaised, NoneWithoutTurn, NextUpIsFirst, WalkGoesOn, WalkBegins, FollowOn, FollowEnds}
 use Rattle.sm_least.proofs.MemberLemmas.{members_few}

@@ -6,10 +6,10 @@ use Rattle.sm_theory.specs.Rotations.{target_at, pair_of}
 use Rattle.sm_theory.specs.Chains.{rotation_at, AreNeedsOf}
 use Rattle.sm_theory.specs.ClosedSets.{IsMember}
 use Rattle.sm_theory.specs.WitnessesListing.{two_pairs, two_pairs_first, two_pairs_chain, two_pairs_ranks, both_best}
-use Rattle.sm_theory.proofs.BridgeChain.{Decided-member}
-use Rattle.sm_theory.proofs.WitnessMarkets.{below_two}
-use Rattle.sm_theory.proofs.WitnessListing.{market, complete, none_needed, below_four, orders}
-use Rattle.sm_theory.proofs.WitnessTests.{levels_pass}
+use Rattle.sm_theory.proofs.Bridge.Chain.{Decided-member}
+use Rattle.sm_theory.proofs.Tests.Markets.{below_two}
+use Rattle.sm_theory.proofs.Vectors.Witness.{market, complete, none_needed, below_four, orders}
+use Rattle.sm_theory.proofs.Tests.Pairs.{levels_pass}
 use Rattle.sm_poset.specs.Moves.{IsMove, AreMovesOf, rotation_of, place_to}
 use Rattle.sm_poset.specs.Kept.{moves_at}
 use Rattle.sm_least.specs.Board.{IsBoard, leave, IsLeast, Changes, stay, level, stay_level, IsClosedIn, IsInside, IsOpen, is_shut, Fits}

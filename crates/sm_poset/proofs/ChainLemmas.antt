@@ -7,11 +7,11 @@ use Rattle.sm_market.proofs.Bridge.{standing-some}
 use Rattle.sm_market.proofs.PairingLemmas.{held_in_range}
 use Rattle.sm_theory.specs.Rotations.{proposer_at, target_at, pair_of, place_after}
 use Rattle.sm_theory.specs.Chains.{rotation_at, stage, IsCompleteChain}
-use Rattle.sm_theory.proofs.CoreCycle.{Moves, moves_at}
-use Rattle.sm_theory.proofs.CoreChain.{up_at, rise, way_of}
-use Rattle.sm_theory.proofs.BridgePlaces.{held_map}
-use Rattle.sm_theory.proofs.BridgeRotation.{cycle_of, pair_at_is, after_in}
-use Rattle.sm_theory.proofs.BridgeChain.{chain_of, stage_stable}
+use Rattle.sm_theory.proofs.Core.Cycle.{Moves, moves_at}
+use Rattle.sm_theory.proofs.Core.Chain.{up_at, rise, way_of}
+use Rattle.sm_theory.proofs.Bridge.Places.{held_map}
+use Rattle.sm_theory.proofs.Bridge.Rotation.{cycle_of, pair_at_is, after_in}
+use Rattle.sm_theory.proofs.Bridge.Chain.{chain_of, stage_stable}
 use Rattle.sm_poset.specs.Moves.{IsMove}
 
 -- the pair of p is p's

@@ -14,13 +14,13 @@ use Rattle.sm_market.proofs.Bridge.{stand_of}
 use Rattle.sm_theory.specs.Rotations.{target_at, pair_of}
 use Rattle.sm_theory.specs.Chains.{rotation_at, stage, IsCompleteChain, AreNeedsOf}
 use Rattle.sm_theory.specs.ClosedSets.{is_member, IsMember, IsClosed, worst_place, matching_of}
-use Rattle.sm_theory.proofs.CoreCycle.{Moves}
-use Rattle.sm_theory.proofs.CoreChain.{upper, up_at, IsOf, way_of}
-use Rattle.sm_theory.proofs.BridgeRotation.{cycle_of}
-use Rattle.sm_theory.proofs.BridgeChain.{chain_of, closed_of, Decided-member}
-use Rattle.sm_theory.proofs.BridgePlaces.{row_past}
-use Rattle.sm_theory.proofs.BridgeSets.{set_is_of}
-use Rattle.sm_theory.proofs.LawsRotations.{sets_are_matchings}
+use Rattle.sm_theory.proofs.Core.Cycle.{Moves}
+use Rattle.sm_theory.proofs.Core.Chain.{upper, up_at, IsOf, way_of}
+use Rattle.sm_theory.proofs.Bridge.Rotation.{cycle_of}
+use Rattle.sm_theory.proofs.Bridge.Chain.{chain_of, closed_of, Decided-member}
+use Rattle.sm_theory.proofs.Bridge.Places.{row_past}
+use Rattle.sm_theory.proofs.Bridge.Sets.{set_is_of}
+use Rattle.sm_theory.proofs.Chains.Rotations.{sets_are_matchings}
 use Rattle.sm_poset.specs.Moves.{IsMove, rotation_of, place_to, AreMovesOf, IsWorstOf, IsWorstPlace}
 use Rattle.sm_poset.specs.Posets.{RotationPoset}
 use Rattle.sm_poset.specs.Kept.{AreLeaders, AreMoves, moves_at, IsKept}

@@ -5,7 +5,7 @@ use Rattle.sm_market.specs.Lists.{Lists, row, IsMarket}
 use Rattle.sm_market.specs.Matching.{Places, IsMatching}
 use Rattle.sm_lists.proofs.Counting.{lt_or_le, eq_or_ne}
 use Rattle.sm_theory.specs.Chains.{rotation_at, AreEliminable, IsNeededBy}
-use Rattle.sm_theory.proofs.MarkLemmas.{found_is_need, need_is_found}
+use Rattle.sm_theory.proofs.Chains.Marks.{found_is_need, need_is_found}
 use Rattle.sm_rotations.specs.Marking.{AreLastMoves, AreMarks, IsFound, Adds}
 use Rattle.sm_rotations.specs.Graph.{times, AreFollowers, IsFollowing}
 use Rattle.sm_rotations.proofs.TimesLemmas.{times_of_contains, contains_of_times}

@@ -10,8 +10,8 @@ use Rattle.sm_theory.specs.Rotations.{proposer_at, IsExposed, eliminated, IsNoth
 use Rattle.sm_theory.specs.Chains.{rotation_at, stage, IsPrintedChain}
 use Rattle.sm_theory.specs.Values.{rotations_of}
 use Rattle.sm_theory.specs.declared.rotations.Rotation.{Rotation}
-use Rattle.sm_theory.proofs.CoreRotation.{goes_down, never_up, elim_stable}
-use Rattle.sm_theory.proofs.BridgeRotation.{exposed_of, elim_of}
+use Rattle.sm_theory.proofs.Core.Rotation.{goes_down, never_up, elim_stable}
+use Rattle.sm_theory.proofs.Bridge.Rotation.{exposed_of, elim_of}
 use Rattle.sm_rotations.specs.Chaining.{LeadsTo}
 use Rattle.sm_rotations.proofs.CountLemmas.{sum_below, sums_le, sums_less}
 

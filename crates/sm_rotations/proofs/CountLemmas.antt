@@ -8,9 +8,9 @@ use Rattle.sm_market.specs.Limits.{IsWithinLimits}
 use Rattle.sm_lists.proofs.Counting.{lt_or_le, eq_or_ne}
 use Rattle.sm_market.proofs.Core.{Sides, Stand}
 use Rattle.sm_theory.specs.Chains.{AreEliminable, IsCompleteChain}
-use Rattle.sm_theory.proofs.CoreCycle.{Cycle, moves_at}
-use Rattle.sm_theory.proofs.CoreChain.{Way, rise, up_at}
-use Rattle.sm_theory.proofs.BridgeChain.{way_along, eliminable_of}
+use Rattle.sm_theory.proofs.Core.Cycle.{Cycle, moves_at}
+use Rattle.sm_theory.proofs.Core.Chain.{Way, rise, up_at}
+use Rattle.sm_theory.proofs.Bridge.Chain.{way_along, eliminable_of}
 
 -- the sum of the first n values
 pub sum_below : (ℕ → ℕ) → ℕ → ℕ

@@ -6,8 +6,8 @@ use Rattle.sm_market.specs.Stable.{IsStable}
 use Rattle.sm_lists.proofs.Counting.{eq_or_ne}
 use Rattle.sm_market.proofs.Bridge.{held_cases, standing-some, standing-none, stable_of}
 use Rattle.sm_theory.specs.Rotations.{IsExposed, reviewer_at, eliminated}
-use Rattle.sm_theory.proofs.BridgeRotation.{exposed_of, elim_of, eliminated_stable}
-use Rattle.sm_theory.proofs.CoreRotation.{keeps, never_worse}
+use Rattle.sm_theory.proofs.Bridge.Rotation.{exposed_of, elim_of, eliminated_stable}
+use Rattle.sm_theory.proofs.Core.Rotation.{keeps, never_worse}
 use Rattle.sm_accept.specs.Linking.{IsFront, IsFrontBut}
 use Rattle.sm_rotations.specs.Walking.{IsLeftIn}
 

@@ -13,9 +13,9 @@ use Rattle.sm_lists.proofs.PlaceLemmas.{entry-place_of}
 use Rattle.sm_market.proofs.Bridge.{sides_of, stand_of, fit_of, standing-some}
 use Rattle.sm_market.proofs.PairingLemmas.{held_in_range}
 use Rattle.sm_theory.specs.Rotations.{IsSuccessor, IsLink, IsExposed, proposer_at, reviewer_at, target_at, next_in, IsNothingExposed, IsLowestExposed}
-use Rattle.sm_theory.proofs.CoreCycle.{Succ, succ_unique, turn, turn_in, turn_last, turn_more}
-use Rattle.sm_theory.proofs.BridgeRotation.{succ_of, exposed_of}
-use Rattle.sm_theory.proofs.LinkLemmas.{exposed_of_links, successor_named}
+use Rattle.sm_theory.proofs.Core.Cycle.{Succ, succ_unique, turn, turn_in, turn_last, turn_more}
+use Rattle.sm_theory.proofs.Bridge.Rotation.{succ_of, exposed_of}
+use Rattle.sm_theory.proofs.Chains.Links.{exposed_of_links, successor_named}
 use Rattle.sm_rotations.specs.Following.{IsStep, IsWalk, IsRotationFrom, IsInNone}
 
 module _ {l : Lists} (h : IsMarket l) {m : Places} (f : IsMatching l m) where

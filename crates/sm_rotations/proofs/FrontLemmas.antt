@@ -13,7 +13,7 @@ use Rattle.sm_lists.proofs.PlaceLemmas.{entry-place_of}
 use Rattle.sm_market.proofs.Bridge.{held_cases, standing-some}
 use Rattle.sm_theory.specs.Rotations.{IsSuccessor, WouldTake}
 use Rattle.sm_accept.specs.Linking.{IsHeld, IsHeldBehind, IsFront}
-use Rattle.sm_theory.proofs.LinkLemmas.{successor_named}
+use Rattle.sm_theory.proofs.Chains.Links.{successor_named}
 use Rattle.sm_rotations.specs.Walking.{IsNext}
 
 module _ {l : Lists} (h : IsMarket l) {m : Places} (f : IsMatching l m) {ends : List ℕ} (x : IsFront l m ends) where

@@ -13,8 +13,8 @@ use Rattle.sm_theory.specs.Rotations.{IsExposed, proposer_at, reviewer_at, targe
 use Rattle.sm_theory.specs.Chains.{rotation_at, stage, AreEliminable}
 use Rattle.sm_theory.specs.Values.{rotations_of}
 use Rattle.sm_theory.specs.declared.rotations.Rotation.{Rotation}
-use Rattle.sm_theory.proofs.CoreCycle.{turn, turn_in}
-use Rattle.sm_theory.proofs.BridgeRotation.{exposed_of}
+use Rattle.sm_theory.proofs.Core.Cycle.{turn, turn_in}
+use Rattle.sm_theory.proofs.Bridge.Rotation.{exposed_of}
 use Rattle.sm_rotations.specs.Marking.{marks_in, note_of, marks_of, mark_at, AreLastMoves, AreMarks, AreMarksFor}
 
 -- the items of a vector of marks, read and written

@@ -7,12 +7,12 @@ use Rattle.sm_lists.proofs.Counting.{by_contradiction, lt_or_le}
 use Rattle.sm_market.proofs.Core.{Sides, Stand, Stable}
 use Rattle.sm_market.proofs.Bridge.{stable_equal}
 use Rattle.sm_theory.specs.Rotations.{proposer_at, IsExposed, eliminated}
-use Rattle.sm_theory.proofs.CoreCycle.{Cycle, target, Exposed, Moves, moves_or_not, moves_at, Among, same_cycle, succ_unique}
-use Rattle.sm_theory.proofs.CoreRotation.{Elim, never_up}
-use Rattle.sm_theory.proofs.CoreChain.{Chain, Needs, up_at, rise, upper, way_of}
-use Rattle.sm_theory.proofs.CoreExposure.{exposed_there}
-use Rattle.sm_theory.proofs.CoreCorrespondence.{Reaches, Decided-reaches, reaches_of, reaches_closed, exposed_out, exposed_ready}
-use Rattle.sm_theory.proofs.BridgeRotation.{exposed_of, elim_of, eliminated_stable}
+use Rattle.sm_theory.proofs.Core.Cycle.{Cycle, target, Exposed, Moves, moves_or_not, moves_at, Among, same_cycle, succ_unique}
+use Rattle.sm_theory.proofs.Core.Rotation.{Elim, never_up}
+use Rattle.sm_theory.proofs.Core.Chain.{Chain, Needs, up_at, rise, upper, way_of}
+use Rattle.sm_theory.proofs.Core.Exposure.{exposed_there}
+use Rattle.sm_theory.proofs.Core.Correspondence.{Reaches, Decided-reaches, reaches_of, reaches_closed, exposed_out, exposed_ready}
+use Rattle.sm_theory.proofs.Bridge.Rotation.{exposed_of, elim_of, eliminated_stable}
 
 module _ {s : Sides} {m k n : Stand} {c d : Cycle} (x : Exposed s m c) (y : Exposed s m d) (e : Elim s m c k) (f : Elim s m d n) (i j : ℕ) (h : i < c.size) (g : j < d.size) (same : d.who j ≡ c.who i) where
   pub same_move : (p : ℕ) → k.a p ≡ n.a p

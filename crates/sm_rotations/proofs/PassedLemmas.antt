@@ -8,13 +8,13 @@ use Rattle.sm_lists.proofs.Counting.{by_contradiction, search_below, Decided-not
 use Rattle.sm_market.proofs.Bridge.{stand_of, stable_of}
 use Rattle.sm_theory.specs.Rotations.{proposer_at, IsExposed, eliminated}
 use Rattle.sm_theory.specs.Chains.{rotation_at, stage, IsCompleteChain, IsNeededBy}
-use Rattle.sm_theory.proofs.CoreCycle.{moves_at}
-use Rattle.sm_theory.proofs.CoreChain.{up_at, rise, needs_lower, way_of}
-use Rattle.sm_theory.proofs.CoreCorrespondence.{Reaches, reaches_of, reaches_closed}
-use Rattle.sm_theory.proofs.BridgeRotation.{cycle_of, exposed_of, exposed_back, elim_of, eliminated_stable}
-use Rattle.sm_theory.proofs.BridgeChain.{chain_of, needs_of, needs_back}
+use Rattle.sm_theory.proofs.Core.Cycle.{moves_at}
+use Rattle.sm_theory.proofs.Core.Chain.{up_at, rise, needs_lower, way_of}
+use Rattle.sm_theory.proofs.Core.Correspondence.{Reaches, reaches_of, reaches_closed}
+use Rattle.sm_theory.proofs.Bridge.Rotation.{cycle_of, exposed_of, exposed_back, elim_of, eliminated_stable}
+use Rattle.sm_theory.proofs.Bridge.Chain.{chain_of, needs_of, needs_back}
 use Rattle.sm_rotations.specs.Ordering.{is_passed, IsPassed}
-use Rattle.sm_theory.proofs.CoreCorrespondence.{InChain, all_in_chain}
+use Rattle.sm_theory.proofs.Core.Correspondence.{InChain, all_in_chain}
 use Rattle.sm_rotations.proofs.OrderLemmas.{reached_by, exposed_is_ready, ready_is_exposed, still_reached, now_reached, no_other}
 
 -- a pair has p

@@ -9,8 +9,8 @@ use Rattle.sm_lists.proofs.Counting.{lt_or_le, eq_or_ne}
 use Rattle.sm_theory.specs.Rotations.{IsExposed, proposer_at, eliminated}
 use Rattle.sm_theory.specs.Chains.{stage, IsCompleteChain}
 use Rattle.sm_market.proofs.Bridge.{stable_of}
-use Rattle.sm_theory.proofs.BridgePlaces.{row_past}
-use Rattle.sm_theory.proofs.BridgeRotation.{eliminated_stable}
+use Rattle.sm_theory.proofs.Bridge.Places.{row_past}
+use Rattle.sm_theory.proofs.Bridge.Rotation.{eliminated_stable}
 use Rattle.sm_rotations.specs.Walking.{IsNext, IsAtWorst, IsStack, ArePairsOf, spot_of, is_finished, IsWalking, IsOnStack, AreTakenOff}
 use Rattle.sm_rotations.proofs.WalkLemmas.{worst_kept, next_kept, all_worst}
 use Rattle.sm_rotations.proofs.ChainingLemmas.{rotation_before, rotation_new, stage_before}

@@ -6,8 +6,8 @@ use Rattle.sm_market.specs.Matching.{Places, IsMatching}
 use Rattle.sm_market.specs.Stable.{IsStable}
 use Rattle.sm_lists.proofs.Counting.{lt_or_le, eq_or_ne}
 use Rattle.sm_theory.specs.Rotations.{IsExposed, proposer_at, reviewer_at, target_at, eliminated}
-use Rattle.sm_theory.proofs.CoreCycle.{turn, turn_in, turn_last, turn_more}
-use Rattle.sm_theory.proofs.BridgeRotation.{exposed_of, exposed_back}
+use Rattle.sm_theory.proofs.Core.Cycle.{turn, turn_in, turn_last, turn_more}
+use Rattle.sm_theory.proofs.Bridge.Rotation.{exposed_of, exposed_back}
 use Rattle.sm_rotations.specs.Ordering.{IsTurned}
 use Rattle.sm_rotations.proofs.OrderLemmas.{same_elimination}
 

@@ -8,10 +8,10 @@ use Rattle.sm_lists.proofs.Counting.{lt_or_le, eq_or_ne}
 use Rattle.sm_market.proofs.Core.{pair_at, one_proposer, one_reviewer}
 use Rattle.sm_market.proofs.Bridge.{sides_of, stand_of, stable_of, held_at}
 use Rattle.sm_theory.specs.Rotations.{IsSuccessor, IsExposed, proposer_at, reviewer_at, target_at, eliminated}
-use Rattle.sm_theory.proofs.CoreCycle.{Succ, turn_last, turn_more}
-use Rattle.sm_theory.proofs.CoreRotation.{goes_down, never_up, keeps, never_worse, elim_fit}
-use Rattle.sm_theory.proofs.CoreDichotomy.{step, step_on}
-use Rattle.sm_theory.proofs.BridgeRotation.{succ_back, exposed_of, elim_of, eliminated_stable}
+use Rattle.sm_theory.proofs.Core.Cycle.{Succ, turn_last, turn_more}
+use Rattle.sm_theory.proofs.Core.Rotation.{goes_down, never_up, keeps, never_worse, elim_fit}
+use Rattle.sm_theory.proofs.Core.Dichotomy.{step, step_on}
+use Rattle.sm_theory.proofs.Bridge.Rotation.{succ_back, exposed_of, elim_of, eliminated_stable}
 use Rattle.sm_rotations.proofs.FollowingLemmas.{pair_of_held, succ_at}
 use Rattle.sm_rotations.specs.Walking.{IsNext, IsAtWorst, IsStack, ArePairsOf, spot_of}
 

@@ -14,7 +14,7 @@ use Rattle.sm_theory.specs.Rotations.{eliminated, IsLowestExposed}
 use Rattle.sm_theory.specs.Chains.{rotation_at, stage, IsCompleteChain, IsPrintedChain, AreNeedsOf}
 use Rattle.sm_theory.specs.Values.{rotations_of}
 use Rattle.sm_theory.specs.declared.rotations.Rotation.{Rotation}
-use Rattle.sm_theory.proofs.BridgeRotation.{eliminated_stable}
+use Rattle.sm_theory.proofs.Bridge.Rotation.{eliminated_stable}
 use Rattle.sm_rotations.specs.Chaining.{LeadsTo}
 use Rattle.sm_rotations.specs.Graph.{times, AreTurnedOver}
 use Rattle.sm_rotations.specs.Ordering.{later_first, times_ready, IsEntry, IsTurned, AreReadyAtFirst, IsReleased, AreCounts, AreWritten}

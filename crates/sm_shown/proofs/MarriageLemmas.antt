@@ -19,7 +19,7 @@ use Rattle.sm_market.specs.Matching.{Places, held as market_held, standing as ma
 use Rattle.sm_market.specs.Stable.{IsStable as IsMarketStable, IsProposersBest as IsMarketProposersBest, IsReviewersBest as IsMarketReviewersBest}
 use Rattle.sm_market.proofs.Core.{Sides, Stand, Stable, Pair, pair_of', pair_at, one_proposer}
 use Rattle.sm_market.proofs.Bridge.{sides_of, stand_of, stable_of, held_cases}
-use Rattle.sm_theory.proofs.BridgePlaces.{tabled}
+use Rattle.sm_theory.proofs.Bridge.Places.{tabled}
 use Rattle.sm_shown.specs.MarriageMarket.{lists_back, mutual_row, mutual_rows, market_of, written_places}
 use Rattle.sm_shown.proofs.FilterLemmas.{get_or-place, place_lt, kept, kept_passes, kept_order, kept_order_back, AreDistinct, kept_distinct}
 

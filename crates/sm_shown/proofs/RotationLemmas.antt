@@ -28,7 +28,7 @@ use Rattle.sm_theory.specs.Rotations.{proposer_at, reviewer_at}
 use Rattle.sm_theory.specs.Chains.{rotation_at, IsCompleteChain, IsPrintedChain, AreNeedsOf}
 use Rattle.sm_theory.specs.Values.{rotations_of}
 use Rattle.sm_theory.specs.declared.rotations.Rotation.{Rotation}
-use Rattle.sm_theory.proofs.BridgeChain.{stage_stable}
+use Rattle.sm_theory.proofs.Bridge.Chain.{stage_stable}
 use Rattle.sm_shown.specs.MarriageMarket.{market_of}
 use Rattle.sm_answer.specs.Lines.{lines_from}
 use Rattle.sm_answer.specs.Giving.{GivesNext}

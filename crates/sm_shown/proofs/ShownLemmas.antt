@@ -17,8 +17,8 @@ use Rattle.sm_market.proofs.Bridge.{sides_of, stable_equal}
 use Rattle.sm_theory.specs.Rotations.{proposer_at, target_at, pair_of}
 use Rattle.sm_theory.specs.Chains.{rotation_at, IsCompleteChain}
 use Rattle.sm_theory.specs.ClosedSets.{is_member, IsMember, IsClosed, worst_place, matching_of, Correspondence}
-use Rattle.sm_theory.proofs.BridgePlaces.{tabled, held_map}
-use Rattle.sm_theory.proofs.LawsRotations.{sets_are_matchings}
+use Rattle.sm_theory.proofs.Bridge.Places.{tabled, held_map}
+use Rattle.sm_theory.proofs.Chains.Rotations.{sets_are_matchings}
 use Rattle.sm_shown.specs.MarriageMarket.{market_of, mutual_row, written_places}
 use Rattle.sm_shown.specs.RotationLines.{Shown, first_at, first_seat, turns_of, number_of, numbers_of, shown_of}
 use Rattle.sm_shown.specs.Reduction.{seat_of}

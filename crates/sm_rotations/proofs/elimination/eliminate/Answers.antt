@@ -1,4 +1,4 @@
-use Rattle.sm_theory.proofs.BridgeRotation.{eliminated_stable}
+use Rattle.sm_theory.proofs.Bridge.Rotation.{eliminated_stable}
 use Rattle.sm_rotations.proofs.elimination.eliminate.Goals as goal
 
 pub returns-clause-stable : goal.returns-clause-stable

@@ -4,7 +4,7 @@ use Rattle.sm_market.specs.Lists.{row}
 use Rattle.sm_market.specs.Vectors.{rows_of}
 use Rattle.sm_theory.specs.Chains.{rotation_at}
 use Rattle.sm_theory.specs.Values.{rotations_of}
-use Rattle.sm_theory.proofs.BridgeChain.{eliminable_of}
+use Rattle.sm_theory.proofs.Bridge.Chain.{eliminable_of}
 use Rattle.sm_rotations.specs.Graph.{AreTurnedOver}
 use Rattle.sm_rotations.specs.Ordering.{IsTurned, AreCounts, AreReadyAtFirst}
 use Rattle.sm_rotations.proofs.CountLemmas.{few_rotations}

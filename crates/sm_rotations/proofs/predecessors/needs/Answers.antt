@@ -5,7 +5,7 @@ use Rattle.sm_market.specs.Pairing.{Paired}
 use Rattle.sm_theory.specs.Chains.{rotation_at, AreEliminable}
 use Rattle.sm_theory.specs.Values.{rotations_of}
 use Rattle.sm_market.specs.Vectors.{rows_of}
-use Rattle.sm_theory.proofs.MarkLemmas.{last_more, marks_more}
+use Rattle.sm_theory.proofs.Chains.Marks.{last_more, marks_more}
 use Rattle.sm_rotations.specs.Marking.{marks_in, AreMoved, AreMarked}
 use Rattle.sm_rotations.proofs.ChainLemmas.{followed, found_in_range}
 use Rattle.sm_rotations.proofs.TurnedOverLemmas.{empty_row}

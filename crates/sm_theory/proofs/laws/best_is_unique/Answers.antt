@@ -1,4 +1,4 @@
-use Rattle.sm_theory.proofs.LawsRotations.{best_is_unique}
+use Rattle.sm_theory.proofs.Chains.Rotations.{best_is_unique}
 use Rattle.sm_theory.proofs.laws.best_is_unique.Goals as goal
 
 pub returns : goal.returns

@@ -1,4 +1,4 @@
-use Rattle.sm_theory.proofs.NetCuts.{cuts_are_allowed}
+use Rattle.sm_theory.proofs.Net.Cuts.{cuts_are_allowed}
 use Rattle.sm_theory.proofs.laws.cuts_are_allowed.Goals as goal
 
 pub returns : goal.returns

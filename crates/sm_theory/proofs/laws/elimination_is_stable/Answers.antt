@@ -1,4 +1,4 @@
-use Rattle.sm_theory.proofs.LawsRotations.{elimination_is_stable}
+use Rattle.sm_theory.proofs.Chains.Rotations.{elimination_is_stable}
 use Rattle.sm_theory.proofs.laws.elimination_is_stable.Goals as goal
 
 pub returns : goal.returns

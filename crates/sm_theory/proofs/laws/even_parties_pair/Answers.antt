@@ -1,4 +1,4 @@
-use Rattle.sm_theory.proofs.LawsRoommates.{even_parties_pair}
+use Rattle.sm_theory.proofs.Room.Partitions.{even_parties_pair}
 use Rattle.sm_theory.proofs.laws.even_parties_pair.Goals as goal
 
 pub returns : goal.returns

@@ -1,4 +1,4 @@
-use Rattle.sm_theory.proofs.LawsLattice.{levels_determine}
+use Rattle.sm_theory.proofs.Chains.Lattice.{levels_determine}
 use Rattle.sm_theory.proofs.laws.levels_determine.Goals as goal
 
 pub returns : goal.returns

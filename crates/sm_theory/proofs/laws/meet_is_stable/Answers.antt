@@ -1,4 +1,4 @@
-use Rattle.sm_theory.proofs.LawsLattice.{meet_is_stable}
+use Rattle.sm_theory.proofs.Chains.Lattice.{meet_is_stable}
 use Rattle.sm_theory.proofs.laws.meet_is_stable.Goals as goal
 
 pub returns : goal.returns

@@ -1,4 +1,4 @@
-use Rattle.sm_theory.proofs.LawsLattice.{meet_keeps_bounds}
+use Rattle.sm_theory.proofs.Chains.Lattice.{meet_keeps_bounds}
 use Rattle.sm_theory.proofs.laws.meet_keeps_bounds.Goals as goal
 
 pub returns : goal.returns

@@ -1,4 +1,4 @@
-use Rattle.sm_theory.proofs.FlowCuts.{no_flow_above_cut}
+use Rattle.sm_theory.proofs.Flow.Cuts.{no_flow_above_cut}
 use Rattle.sm_theory.proofs.laws.no_flow_above_cut.Goals as goal
 
 pub returns : goal.returns

@@ -1,4 +1,4 @@
-use Rattle.sm_theory.proofs.LawsRotations.{nothing_exposed}
+use Rattle.sm_theory.proofs.Chains.Rotations.{nothing_exposed}
 use Rattle.sm_theory.proofs.laws.nothing_exposed.Goals as goal
 
 pub returns : goal.returns

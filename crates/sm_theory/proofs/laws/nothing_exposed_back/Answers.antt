@@ -1,4 +1,4 @@
-use Rattle.sm_theory.proofs.LawsRotations.{nothing_exposed_back}
+use Rattle.sm_theory.proofs.Chains.Rotations.{nothing_exposed_back}
 use Rattle.sm_theory.proofs.laws.nothing_exposed_back.Goals as goal
 
 pub returns : goal.returns

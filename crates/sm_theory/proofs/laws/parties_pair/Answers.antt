@@ -1,4 +1,4 @@
-use Rattle.sm_theory.proofs.RoomPairing.{parties_pair}
+use Rattle.sm_theory.proofs.Room.Pairing.{parties_pair}
 use Rattle.sm_theory.proofs.laws.parties_pair.Goals as goal
 
 pub returns : goal.returns

@@ -1,4 +1,4 @@
-use Rattle.sm_theory.proofs.LawsRotations.{predecessor_is_earlier}
+use Rattle.sm_theory.proofs.Chains.Rotations.{predecessor_is_earlier}
 use Rattle.sm_theory.proofs.laws.predecessor_is_earlier.Goals as goal
 
 pub returns : goal.returns

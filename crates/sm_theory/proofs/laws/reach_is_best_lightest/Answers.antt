@@ -1,4 +1,4 @@
-use Rattle.sm_theory.proofs.LawsWeighing.{reach_is_best_lightest}
+use Rattle.sm_theory.proofs.Weighing.Lightest.{reach_is_best_lightest}
 use Rattle.sm_theory.proofs.laws.reach_is_best_lightest.Goals as goal
 
 pub returns : goal.returns

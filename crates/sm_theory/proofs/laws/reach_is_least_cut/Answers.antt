@@ -1,4 +1,4 @@
-use Rattle.sm_theory.proofs.FlowCuts.{reach_is_least_cut}
+use Rattle.sm_theory.proofs.Flow.Cuts.{reach_is_least_cut}
 use Rattle.sm_theory.proofs.laws.reach_is_least_cut.Goals as goal
 
 pub returns : goal.returns

@@ -1,4 +1,4 @@
-use Rattle.sm_theory.proofs.LawsRoommates.{same_odd_parties}
+use Rattle.sm_theory.proofs.Room.Partitions.{same_odd_parties}
 use Rattle.sm_theory.proofs.laws.same_odd_parties.Goals as goal
 
 pub returns : goal.returns

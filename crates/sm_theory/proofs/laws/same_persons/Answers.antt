@@ -1,4 +1,4 @@
-use Rattle.sm_theory.proofs.LawsRoommates.{same_persons}
+use Rattle.sm_theory.proofs.Room.Partitions.{same_persons}
 use Rattle.sm_theory.proofs.laws.same_persons.Goals as goal
 
 pub returns : goal.returns

@@ -1,5 +1,5 @@
 use Rattle.std.proofs.Common.{sym, ◌∙◌, eqb-true, eq-eqb}
-use Rattle.sm_theory.proofs.LinkLemmas.{held_named, held_names}
+use Rattle.sm_theory.proofs.Chains.Links.{held_named, held_names}
 use Rattle.sm_theory.proofs.rotations.are_partners.Goals as goal
 
 pub returns-in-Some : goal.returns-in-Some

@@ -1,4 +1,4 @@
-use Rattle.sm_theory.proofs.LinkLemmas.{exposed_end}
+use Rattle.sm_theory.proofs.Chains.Links.{exposed_end}
 use Rattle.std.proofs.Common.{arith}
 use Rattle.sm_theory.proofs.rotations.is_exposed.Goals as goal
 

@@ -1,5 +1,5 @@
 use Rattle.std.proofs.Common.{sym, ◌∙◌, eqb-true, eq-eqb}
-use Rattle.sm_theory.proofs.LinkLemmas.{successor_named, successor_names}
+use Rattle.sm_theory.proofs.Chains.Links.{successor_named, successor_names}
 use Rattle.sm_theory.proofs.rotations.is_successor.Goals as goal
 
 pub returns-in-Some : goal.returns-in-Some

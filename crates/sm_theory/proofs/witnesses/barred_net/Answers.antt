@@ -1,4 +1,4 @@
-use Rattle.sm_theory.proofs.FlowWitness.{barred_net_is}
+use Rattle.sm_theory.proofs.Flow.Witness.{barred_net_is}
 use Rattle.sm_theory.proofs.witnesses.barred_net.Goals as goal
 
 pub returns : goal.returns

@@ -1,4 +1,4 @@
-use Rattle.sm_theory.proofs.RoomWitness.{even_party_is}
+use Rattle.sm_theory.proofs.Room.Witness.{even_party_is}
 use Rattle.sm_theory.proofs.witnesses.even_party.Goals as goal
 
 pub returns : goal.returns

@@ -1,4 +1,4 @@
-use Rattle.sm_theory.proofs.WitnessMarkets.{left_over_is}
+use Rattle.sm_theory.proofs.Tests.Markets.{left_over_is}
 use Rattle.sm_theory.proofs.witnesses.left_over.Goals as goal
 
 pub returns : goal.returns

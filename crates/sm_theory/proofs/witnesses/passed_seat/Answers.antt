@@ -1,4 +1,4 @@
-use Rattle.sm_theory.proofs.WitnessMarkets.{passed_seat_is}
+use Rattle.sm_theory.proofs.Tests.Markets.{passed_seat_is}
 use Rattle.sm_theory.proofs.witnesses.passed_seat.Goals as goal
 
 pub returns : goal.returns

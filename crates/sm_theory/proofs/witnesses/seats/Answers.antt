@@ -1,4 +1,4 @@
-use Rattle.sm_theory.proofs.WitnessSeats.{seats_are}
+use Rattle.sm_theory.proofs.Tests.Seats.{seats_are}
 use Rattle.sm_theory.proofs.witnesses.seats.Goals as goal
 
 pub returns : goal.returns

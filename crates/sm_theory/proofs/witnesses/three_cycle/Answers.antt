@@ -1,4 +1,4 @@
-use Rattle.sm_theory.proofs.WitnessMarkets.{three_cycle_is}
+use Rattle.sm_theory.proofs.Tests.Markets.{three_cycle_is}
 use Rattle.sm_theory.proofs.witnesses.three_cycle.Goals as goal
 
 pub returns : goal.returns

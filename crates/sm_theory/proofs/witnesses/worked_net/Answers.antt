@@ -1,4 +1,4 @@
-use Rattle.sm_theory.proofs.FlowWitness.{worked_net}
+use Rattle.sm_theory.proofs.Flow.Witness.{worked_net}
 use Rattle.sm_theory.proofs.witnesses.worked_net.Goals as goal
 
 pub returns : goal.returns

@@ -3,7 +3,7 @@ use Rattle.std.proofs.lemmas.List.{length-map}
 use Rattle.sm_market.specs.Lists.{Lists}
 use Rattle.sm_market.specs.Vectors.{rows_of}
 use Rattle.sm_theory.specs.Values.{rotations_of}
-use Rattle.sm_theory.proofs.BridgeChain.{eliminable_of}
+use Rattle.sm_theory.proofs.Bridge.Chain.{eliminable_of}
 use Rattle.sm_poset.specs.Posets.{poset_of}
 use Rattle.sm_poset.specs.Kept.{moves_in, AreMoves, AreLeaders, IsKept}
 use Rattle.sm_rotations.proofs.CountLemmas.{few_rotations}

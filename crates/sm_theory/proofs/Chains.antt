@@ -1,0 +1,6 @@
+-- The laws of chains of rotations and their closed sets, over the lists of a market.
+pub mod Lattice
+pub mod Rotations
+pub mod Sets
+pub mod Marks
+pub mod Links

@@ -1,0 +1,4 @@
+-- Flows and cuts.
+pub mod Sums
+pub mod Cuts
+pub mod Witness

@@ -1,0 +1,7 @@
+-- Roommates: stable partitions and what an odd party excludes.
+pub mod Core
+pub mod Bridge
+pub mod Spots
+pub mod Pairing
+pub mod Partitions
+pub mod Witness

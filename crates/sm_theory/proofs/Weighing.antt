@@ -1,0 +1,4 @@
+-- Sums of weights over matchings and closed sets.
+pub mod Totals
+pub mod Weights
+pub mod Lightest
