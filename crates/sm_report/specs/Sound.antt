@@ -22,8 +22,8 @@ IsRight input r = r < length (right_of input)
 abbrev pub ArePair : Input → ℕ → ℕ → Type 0
 ArePair input p r = IsLeft input p × IsRight input r
 
-abbrev pub AreTurns : Input → List (ℕ × Seat) → Type 0
-AreTurns input pairs = All (λ (pair : ℕ × Seat). ArePair input pair.0 pair.1.reviewer) pairs
+abbrev pub AreSeatedPairs : Input → List (ℕ × Seat) → Type 0
+AreSeatedPairs input pairs = All (λ (pair : ℕ × Seat). ArePair input pair.0 pair.1.reviewer) pairs
 
 abbrev pub AreSeats : Input → List Seat → Type 0
 AreSeats input seats = All (λ (seat : Seat). IsRight input seat.reviewer) seats
@@ -35,7 +35,7 @@ IsPrintable input (LineData.First p seat) = ArePair input p seat.reviewer
 IsPrintable input (LineData.Last p seat) = ArePair input p seat.reviewer
 IsPrintable input (LineData.ProposerList p seats) = IsLeft input p × AreSeats input seats
 IsPrintable input (LineData.ReviewerList seat proposers) = IsRight input seat.reviewer × All (IsLeft input) proposers
-IsPrintable input (LineData.Rotation i pairs) = AreTurns input pairs
+IsPrintable input (LineData.Rotation i pairs) = AreSeatedPairs input pairs
 IsPrintable input (LineData.SomePair p r) = ArePair input p r
 IsPrintable input (LineData.AllPair p r) = ArePair input p r
 IsPrintable input (LineData.LeftPair p r) = ArePair input p r

@@ -42,8 +42,8 @@ lefts input proposers = listed (map (left_name input) proposers)
 abbrev pub seats : Input → List Seat → List (List ℕ)
 seats input list = listed (map (seat_text input) list)
 
-abbrev pub turns : Input → List (ℕ × Seat) → List (List ℕ)
-turns input pairs = listed (flat_map (λ pair. left_name input pair.0 ∷ seat_text input pair.1 ∷ []) pairs)
+abbrev pub seated_pairs : Input → List (ℕ × Seat) → List (List ℕ)
+seated_pairs input pairs = listed (flat_map (λ pair. left_name input pair.0 ∷ seat_text input pair.1 ∷ []) pairs)
 
 abbrev pub numbers : List ℕ → List (List ℕ)
 numbers ns = listed (map decimal ns)
@@ -94,7 +94,7 @@ fields_of input (LineData.First p seat) = codes "first" ∷ left_name input p �
 fields_of input (LineData.Last p seat) = codes "last" ∷ left_name input p ∷ seat_text input seat ∷ []
 fields_of input (LineData.ProposerList p list) = codes "proposer" ∷ left_name input p ∷ seats input list
 fields_of input (LineData.ReviewerList seat proposers) = codes "reviewer" ∷ seat_text input seat ∷ lefts input proposers
-fields_of input (LineData.Rotation i pairs) = codes "rotation" ∷ decimal i ∷ turns input pairs
+fields_of input (LineData.Rotation i pairs) = codes "rotation" ∷ decimal i ∷ seated_pairs input pairs
 fields_of input (LineData.Needs i needed) = codes "needs" ∷ decimal i ∷ numbers needed
 fields_of input (LineData.Gain i gain) = codes "gain" ∷ decimal i ∷ signed_decimal gain ∷ []
 fields_of input (LineData.Flow from to amount) = codes "flow" ∷ end_text from ∷ end_text to ∷ decimal amount ∷ []

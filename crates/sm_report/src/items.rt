@@ -19,7 +19,7 @@ pub(crate) enum Items<'a> {
     Lefts(&'a [u32]),
     Seats(&'a [Seat]),
     /// Proposers, each with a seat.
-    Turns(&'a [(u32, Seat)]),
+    Pairs(&'a [(u32, Seat)]),
     Numbers(&'a [u32]),
     /// A tally's figures.
     Figures(&'a [u64]),
@@ -54,7 +54,7 @@ fn item_count(items: Items<'_>) -> usize
     match items {
         Items::Lefts(list) | Items::Numbers(list) => list.len(),
         Items::Seats(list) => list.len(),
-        Items::Turns(list) => list.len(),
+        Items::Pairs(list) => list.len(),
         Items::Figures(list) => list.len(),
     }
 }
@@ -74,7 +74,7 @@ fn put_item(
     match items {
         Items::Lefts(list) => put_fields(into, input, &[Field::Left(list[at])]),
         Items::Seats(list) => put_fields(into, input, &[Field::At(list[at])]),
-        Items::Turns(list) => {
+        Items::Pairs(list) => {
             let (p, seat) = list[at];
             put_fields(into, input, &[Field::Left(p), Field::At(seat)])
         }

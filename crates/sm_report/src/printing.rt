@@ -117,7 +117,7 @@ pub fn put_text(into: &mut LineWriter, input: &Input, line: &Line) -> Result<(),
             input,
             b"rotation",
             &[Field::Number(u64::from(*i))],
-            Items::Turns(pairs),
+            Items::Pairs(pairs),
         ),
         Line::Needs(i, needed) => put_list(
             into,

@@ -9,7 +9,7 @@ pub mod WalkLemmas
 pub mod StackLemmas
 pub mod FrontLemmas
 pub mod CutLemmas
-pub mod WalkTurns
+pub mod WalkSteps
 pub mod OrderLemmas
 pub mod TurnLemmas
 pub mod TimesLemmas

@@ -5,8 +5,8 @@ use Rattle.sm_market.specs.Matching.{Places, held, standing}
 use Rattle.sm_market.specs.Stable.{IsStable}
 use Rattle.sm_theory.specs.Rotations.{IsSuccessor, IsExposed, proposer_at, reviewer_at}
 use Rattle.sm_theory.specs.Chains.{rotation_at, stage}
-use Rattle.sm_rotations.specs.declared.walk.Turn.{Turn}
-use Rattle.sm_rotations.specs.declared.walk.Turn.TheVariants.{Over, On, Back}
+use Rattle.sm_rotations.specs.declared.walk.WalkStep.{WalkStep}
+use Rattle.sm_rotations.specs.declared.walk.WalkStep.TheVariants.{Over, On, Back}
 
 -- q has p's successor
 pub record IsNext (l : Lists) (m : Places) (p q : ℕ) : Type 0 where
@@ -100,7 +100,7 @@ pub record LeadsBack (l : Lists) (m : Places) (stack : List ℕ) (from : ℕ) : 
   pub next : IsNext l m (slice_index stack top) (slice_index stack from)
 
 -- what the walk may do next
-abbrev pub IsTurn : Lists → Places → List ℕ → List (Option ℕ) → List Bool → Turn → Type 0
-IsTurn l m stack spots finished Over = IsTopAtWorst l m stack
-IsTurn l m stack spots finished (On q) = GoesOn l m stack spots finished q
-IsTurn l m stack spots finished (Back from) = LeadsBack l m stack from
+abbrev pub IsWalkStep : Lists → Places → List ℕ → List (Option ℕ) → List Bool → WalkStep → Type 0
+IsWalkStep l m stack spots finished Over = IsTopAtWorst l m stack
+IsWalkStep l m stack spots finished (On q) = GoesOn l m stack spots finished q
+IsWalkStep l m stack spots finished (Back from) = LeadsBack l m stack from

@@ -56,7 +56,7 @@ fn ordered(alloc: Global, market: &Market, chain: &Chain) -> Result<Vec<Rotation
     let rotations = chain.rotations.as_slice();
     let mut ready = ready_at_first(alloc, rotations, unmet)?;
     let mut written = Vec::with_capacity(alloc, rotations.len())?;
-    'turns: while let Some(Reverse((_, k))) = ready.pop() {
+    'steps: while let Some(Reverse((_, k))) = ready.pop() {
         written.push(turned(alloc, &rotations[k as usize].pairs)?)?;
         release(rotations, &followers[k as usize], unmet, &mut ready)?;
     }

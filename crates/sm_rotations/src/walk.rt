@@ -12,7 +12,7 @@ ghost use Rattle.sm_theory.specs.Rotations.{IsSuccessor, reviewer_at};
 ghost use Rattle.sm_theory.specs.Chains.{IsCompleteChain};
 ghost use Rattle.sm_theory.specs.Values.{rotations_of};
 ghost use Rattle.sm_accept.specs.Linking.{IsLinkedOf, IsFront, IsFrontBut};
-ghost use Rattle.sm_rotations.specs.Walking.{IsLeftIn, IsNext, IsAtWorst, IsStack, ArePairsOf, AreTakenOff, is_finished, IsTopTakenOff, IsTurn, LeadsBack};
+ghost use Rattle.sm_rotations.specs.Walking.{IsLeftIn, IsNext, IsAtWorst, IsStack, ArePairsOf, AreTakenOff, is_finished, IsTopTakenOff, IsWalkStep, LeadsBack};
 
 use crate::elimination::eliminate;
 use sm_accept::{Linked, cut_to_partner, cut_to_partners};
@@ -22,7 +22,7 @@ use std::alloc::{AllocError, Global};
 
 /// What the walk does next.
 #[derive(Clone, Copy)]
-enum Turn {
+enum WalkStep {
     /// The top of the stack is finished.
     Over,
     /// A proposer is put on the stack.
@@ -64,11 +64,11 @@ pub(crate) fn walk(
     let spots = spots.as_mut_slice();
     let finished = finished.as_mut_slice();
     for p in 0..market.proposers() {
-        'turns: while !finished[p as usize] {
-            match turn_of(market, &m, &linked, &stack, spots, finished, p) {
-                Turn::Over => take_top_off(&mut stack, spots, finished),
-                Turn::On(q) => put_on(q, &mut stack, spots)?,
-                Turn::Back(from) => {
+        'steps: while !finished[p as usize] {
+            match walk_step(market, &m, &linked, &stack, spots, finished, p) {
+                WalkStep::Over => take_top_off(&mut stack, spots, finished),
+                WalkStep::On(q) => put_on(q, &mut stack, spots)?,
+                WalkStep::Back(from) => {
                     let rotation = take_off(alloc, market, &m, from, &mut stack, spots)?;
                     eliminate(market, &mut m, &rotation);
                     cut_to_new_partners(market, &m, &rotation.pairs, &mut linked);
@@ -81,7 +81,7 @@ pub(crate) fn walk(
 }
 
 /// What the walk does next, while `p` isn't finished. Where the stack is empty, `p` is put on it.
-fn turn_of(
+fn walk_step(
     market: &Market,
     m: &Pairing,
     linked: &Linked,
@@ -89,7 +89,7 @@ fn turn_of(
     spots: &[Option<usize>],
     finished: &[bool],
     p: u32,
-) -> Turn
+) -> WalkStep
     requires in_range { p < length market.now.proposers }
     requires market { IsMarket market.now }
     requires made { IsPairingOf market.now m.now }
@@ -100,21 +100,21 @@ fn turn_of(
     requires finished_each { length finished.now ≡ length market.now.proposers }
     requires at_worst { (q : ℕ) → is_finished finished.now q ≡ true → IsAtWorst market.now m.now.places q }
     requires unfinished { is_finished finished.now p ≡ false }
-    ensures { IsTurn market.now m.now.places stack.now spots.now finished.now result }
+    ensures { IsWalkStep market.now m.now.places stack.now spots.now finished.now result }
 {
     if stack.is_empty() {
-        return Turn::On(p);
+        return WalkStep::On(p);
     }
     let top = stack[stack.len() - 1];
     let Some(q) = next_of(market, m, linked, top) else {
-        return Turn::Over;
+        return WalkStep::Over;
     };
     if finished[q as usize] {
-        return Turn::Over;
+        return WalkStep::Over;
     }
     match spots[q as usize] {
-        None => Turn::On(q),
-        Some(from) => Turn::Back(from),
+        None => WalkStep::On(q),
+        Some(from) => WalkStep::Back(from),
     }
 }
 

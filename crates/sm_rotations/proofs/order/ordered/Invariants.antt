@@ -7,11 +7,11 @@ use Rattle.sm_rotations.specs.Ordering.{later_first, AreWritten}
 use Rattle.sm_rotations.proofs.ChainingLemmas.{places_below}
 use Rattle.sm_rotations.proofs.order.ordered.Given as goal
 
-abbrev pub invariant-turns : goal.invariant-turns
-invariant-turns l = record {
+abbrev pub invariant-steps : goal.invariant-steps
+invariant-steps l = record {
   order : IsHeap later_first (heap_items l.ready);
   written : AreWritten l.market l.fn.chain.first.places (rotations_of l.rotations) (rows_of l.needs.items) (rotations_of l.written.items) l.unmet (heap_items l.ready);
 }
 
-abbrev pub decreases-turns : goal.decreases-turns
-decreases-turns l = places_below l.market (stage l.market l.fn.chain.first.places (rotations_of l.written.items) (length (rotations_of l.written.items)))
+abbrev pub decreases-steps : goal.decreases-steps
+decreases-steps l = places_below l.market (stage l.market l.fn.chain.first.places (rotations_of l.written.items) (length (rotations_of l.written.items)))

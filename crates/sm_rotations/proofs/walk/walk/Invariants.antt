@@ -3,7 +3,7 @@ use Rattle.sm_market.specs.Pairing.{IsPairingOf}
 use Rattle.sm_theory.specs.Values.{rotations_of}
 use Rattle.sm_accept.specs.Linking.{IsLinkedOf, IsFront}
 use Rattle.sm_rotations.specs.Walking.{IsWalking, is_finished}
-use Rattle.sm_rotations.proofs.WalkTurns.{turns_left}
+use Rattle.sm_rotations.proofs.WalkSteps.{steps_left}
 use Rattle.sm_rotations.proofs.walk.walk.Given as goal
 
 abbrev pub invariant-loop-p : goal.invariant-loop-p
@@ -15,8 +15,8 @@ invariant-loop-p l = record {
   done : (q : ℕ) → q < l.p → is_finished l.finished q ≡ true;
 }
 
-abbrev pub invariant-turns : goal.invariant-turns
-invariant-turns l = record {
+abbrev pub invariant-steps : goal.invariant-steps
+invariant-steps l = record {
   made : IsPairingOf l.market l.m;
   linked : IsLinkedOf l.market l.linked;
   front : IsFront l.market l.m.places l.linked.ends;
@@ -24,5 +24,5 @@ invariant-turns l = record {
   done : (q : ℕ) → q < l.p → is_finished l.finished q ≡ true;
 }
 
-abbrev pub decreases-turns : goal.decreases-turns
-decreases-turns l = turns_left l.market l.m.places l.finished l.stack.items l.spots
+abbrev pub decreases-steps : goal.decreases-steps
+decreases-steps l = steps_left l.market l.m.places l.finished l.stack.items l.spots

@@ -1,6 +1,6 @@
 use Rattle.std.proofs.Common.{◌-◌, ◌<◌, length, arith, rules}
-use Rattle.sm_rotations.proofs.WalkTurns.{over_at_end, over_before}
-use Rattle.sm_rotations.proofs.walk.turn_of.Goals as goal
+use Rattle.sm_rotations.proofs.WalkSteps.{over_at_end, over_before}
+use Rattle.sm_rotations.proofs.walk.walk_step.Goals as goal
 
 pub returns-in_default : goal.returns-in_default
 returns-in_default c =

@@ -1,4 +1,4 @@
--- What the walk reads and writes at each turn, and that it comes to an end.
+-- What the walk reads and writes at each step, and that it comes to an end.
 use Rattle.std.proofs.Common.{◌≡◌, ℕ, zero, suc, ◌+◌, ◌*◌, ◌<◌, ◌≤◌, inl, inr, arith, refl, sym, ap, ◌∙◌, Bool, true, false, List, [], ◌∷◌, ◌++◌, length, Option, Some, None, slice_index, set, take, replicate}
 use Rattle.std.proofs.lemmas.List.{length_push, get_or-set_same, get_or-set_other, get_or_past, get_or-replicate, length-replicate, get_or-take, length-take-le}
 use Rattle.std.proofs.lemmas.Nat.{mul-add-lt}
@@ -61,7 +61,7 @@ pub walk_begins : {l : Lists} {first m : Places} {rotations : List (List (ℕ ×
     → m ≡ first → rotations ≡ [] → finished ≡ replicate n false → stack ≡ [] → spots ≡ replicate n None → IsWalking l first m rotations finished stack spots
 walk_begins n e s same no_rotations none_finished no_stack no_spots = rw (same, no_rotations, none_finished, no_stack, no_spots) (begins n e s)
 
--- each turn goes on with the walk
+-- each step goes on with the walk
 module _ {l : Lists} (h : IsMarket l) {first m : Places} {rotations : List (List (ℕ × ℕ))} {finished : List Bool} {stack : List ℕ} {spots : List (Option ℕ)} (w : IsWalking l first m rotations finished stack spots) where
   pub walk_over : {rest : List ℕ} {after : List (Option ℕ)} {new : List Bool} → IsTopAtWorst l m stack → IsTopTakenOff stack rest spots after finished new → IsWalking l first m rotations new rest after
   walk_over a x =
@@ -130,14 +130,14 @@ sum_of_ones : (f : ℕ → ℕ) (n : ℕ) → ((p : ℕ) → f p ≤ 1) → sum_
 sum_of_ones f zero le = omega (arith, sum_below-zero f)
 sum_of_ones f (suc n) le = omega (arith, sum_below-suc f n, sum_of_ones f n le, le n)
 
--- the turns that the walk may still take
-pub turns_left : Lists → Places → List Bool → List ℕ → List (Option ℕ) → ℕ
-turns_left l m finished stack spots = (2 * length l.proposers + 2) * places_below l m + 2 * sum_below (open_at finished spots) (length l.proposers) + length stack
+-- the steps that the walk may still take
+pub steps_left : Lists → Places → List Bool → List ℕ → List (Option ℕ) → ℕ
+steps_left l m finished stack spots = (2 * length l.proposers + 2) * places_below l m + 2 * sum_below (open_at finished spots) (length l.proposers) + length stack
 
 module _ {l : Lists} {m : Places} {finished : List Bool} {stack : List ℕ} {spots : List (Option ℕ)} (k : IsStack l m stack spots) where
   pub fewer_over : {rest : List ℕ} {after : List (Option ℕ)} {new : List Bool} → length finished ≡ length l.proposers → IsTopTakenOff stack rest spots after finished new
-      → turns_left l m new rest after < turns_left l m finished stack spots
-  unfolding turns_left open_at
+      → steps_left l m new rest after < steps_left l m finished stack spots
+  unfolding steps_left open_at
   fewer_over {rest} {after} {new} each x =
       let t : ℕ = slice_index stack x.top in
       let inside : t < length finished = omega (arith, k.in_range x.top (omega (arith, x.last))) in
@@ -152,8 +152,8 @@ module _ {l : Lists} {m : Places} {finished : List Bool} {stack : List ℕ} {spo
       ] in
       omega (arith, sums_le (open_at new after) (open_at finished spots) (length l.proposers) le, x.last, x.short)
 
-  on_fewer : {q : ℕ} → GoesOn l m stack spots finished q → turns_left l m finished (stack ++ q ∷ []) (set spots q (Some (length stack))) < turns_left l m finished stack spots
-  unfolding turns_left open_at
+  on_fewer : {q : ℕ} → GoesOn l m stack spots finished q → steps_left l m finished (stack ++ q ∷ []) (set spots q (Some (length stack))) < steps_left l m finished stack spots
+  unfolding steps_left open_at
   on_fewer {q} x =
       let on : spot_of (set spots q (Some (length stack))) q ≡ Some (length stack) = get_or-set_same spots q (Some (length stack)) None (omega (arith, k.spots_each, x.in_range)) in
       let zero_now = open_spot (is_finished finished q) (spot_of (set spots q (Some (length stack))) q) (length stack) on in
@@ -166,12 +166,12 @@ module _ {l : Lists} {m : Places} {finished : List Bool} {stack : List ℕ} {spo
       omega (arith, sums_less (open_at finished (set spots q (Some (length stack)))) (open_at finished spots) (length l.proposers) q le x.in_range less, length_push stack q)
 
   pub fewer_on : {more : List ℕ} {after : List (Option ℕ)} {q : ℕ} → GoesOn l m stack spots finished q → more ≡ stack ++ q ∷ [] → after ≡ set spots q (Some (length stack))
-      → turns_left l m finished more after < turns_left l m finished stack spots
+      → steps_left l m finished more after < steps_left l m finished stack spots
   fewer_on x e f = rw (e, f) (on_fewer x)
 
 pub fewer_back : {l : Lists} {m : Places} {stack : List ℕ} (n : Places) (finished : List Bool) (rest : List ℕ) (spots after : List (Option ℕ)) {from : ℕ} → places_below l n < places_below l m → LeadsBack l m stack from → rest ≡ take from stack
-    → turns_left l n finished rest after < turns_left l m finished stack spots
-unfolding turns_left open_at
+    → steps_left l n finished rest after < steps_left l m finished stack spots
+unfolding steps_left open_at
 fewer_back {l} {m} {stack} n finished rest spots after {from} down b cut =
     let c : ℕ = 2 * length l.proposers + 2 in
     let few = sum_of_ones (open_at finished after) (length l.proposers) (λ p. open_least (is_finished finished p) (spot_of after p)) in
