@@ -1,6 +1,4 @@
-pub mod FilterLemmas
-pub mod MarriageLemmas
-pub mod MarketLemmas
+pub mod SeatingLemmas
 pub mod SolveLemmas
 pub mod ReduceLemmas
 pub mod ShownLemmas

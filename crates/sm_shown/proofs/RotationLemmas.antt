@@ -13,9 +13,8 @@ use Rattle.sm_instance.specs.Written.{Written}
 use Rattle.sm_instance.specs.Sound.{IsInstance}
 use Rattle.sm_instance.specs.declared.inputs.Input.{Input}
 use Rattle.sm_instance.specs.declared.inputs.Input.TheVariants.{Two}
-use Rattle.sm_instance.specs.declared.kinds.Kind.TheVariants.{Marriage}
 use Rattle.sm_instance.specs.declared.kinds.Side.TheVariants.{Proposers}
-use Rattle.sm_market.specs.Lists.{Lists, row, entry, place_of, agents}
+use Rattle.sm_market.specs.Lists.{Lists, row, entry, place_of, agents, IsMarket}
 use Rattle.sm_market.specs.Vectors.{rows_of}
 use Rattle.sm_market.specs.Matching.{Places, held}
 use Rattle.sm_lists.proofs.RowLemmas.{row_in_range}
@@ -29,22 +28,22 @@ use Rattle.sm_theory.specs.Chains.{rotation_at, IsCompleteChain, IsPrintedChain,
 use Rattle.sm_theory.specs.Values.{rotations_of}
 use Rattle.sm_theory.specs.declared.rotations.Rotation.{Rotation}
 use Rattle.sm_theory.proofs.Bridge.Chain.{stage_stable}
-use Rattle.sm_shown.specs.MarriageMarket.{market_of}
+use Rattle.sm_seats.specs.Seating.{Seating, seating_of}
+use Rattle.sm_seats.specs.Correspondence.{IsSeating}
 use Rattle.sm_answer.specs.Lines.{lines_from}
 use Rattle.sm_answer.specs.Giving.{GivesNext}
 use Rattle.sm_answer.proofs.AnswerLemmas.{lines_each, lines_alike, one_all, gave_first, gave_none}
 use Rattle.sm_shown.specs.Reduction.{seat_of, best_seat, seat_line}
-use Rattle.sm_shown.specs.RotationLines.{first_at, first_line, rotation_lines, shown_lines, first_seat, turn_of, turns_of, numbers_of, number_of, shown_of}
+use Rattle.sm_shown.specs.RotationLines.{first_at, first_line, rotation_lines, shown_lines, first_seat, seated_pair, seated_pairs, numbers_of, number_of, shown_of}
 use Rattle.sm_shown.specs.GivenLines.{two_lines, lines_of_rotations, lines_left, most_left, rotations_given}
 use Rattle.sm_market.specs.Pairing.{Paired}
 use Rattle.sm_poset.specs.Posets.{RotationPoset, IsPoset}
 use Rattle.sm_shown.specs.Needs.{AreNeedsIn}
-use Rattle.sm_shown.specs.RotationAnswer.{AreNeeds, IsRotationAnswer}
-use Rattle.sm_shown.proofs.FilterLemmas.{get_or-place}
-use Rattle.sm_shown.proofs.MarriageLemmas.{IsMarriage, is_market}
+use Rattle.sm_shown.specs.RotationAnswer.{IsRotationAnswer, IsCorrespondence}
+use Rattle.sm_lists.proofs.PlaceLemmas.{get_or-place_on}
 use Rattle.sm_shown.proofs.SolveLemmas.{end_sound}
-use Rattle.sm_shown.proofs.ReduceLemmas.{no_line, seat_sound, seats_numbered, proposers_long, reviewers_long}
-use Rattle.sm_shown.proofs.ShownLemmas.{turns_shown, needs_shown, correspondence}
+use Rattle.sm_shown.proofs.ReduceLemmas.{no_line, seat_is, seat_sound}
+use Rattle.sm_shown.proofs.ShownLemmas.{pairs_at_shown, needs_shown, correspondence}
 
 -- The whole answer.
 
@@ -52,87 +51,87 @@ flat_map_alike : (f g : ℕ → List LineData) → ((k : ℕ) → f k ≡ g k) �
 flat_map_alike f g e [] = refl
 flat_map_alike f g e (x ∷ xs) = ap (λ t. t ++ flat_map f xs) (e x) ∙ ap (λ t. g x ++ t) (flat_map_alike f g e xs)
 
-lines_shown : (l : Lists) (first : Places) (rotations : List (List (ℕ × ℕ))) (needs : List (List ℕ)) (k : ℕ) → two_lines rotations needs k ≡ rotation_lines (shown_of l first rotations needs) k
-lines_shown l first rotations needs k =
-    ap (λ (t : List (ℕ × Seat)). LineData.Rotation (k + 1) t ∷ LineData.Needs (k + 1) (numbers_of (row needs k)) ∷ []) (sym (turns_shown rotations k))
-    ∙ ap (λ (t : List ℕ). LineData.Rotation (k + 1) (slice_index_or (map turns_of rotations) k []) ∷ LineData.Needs (k + 1) t ∷ []) (sym (needs_shown needs k))
+lines_shown : (s : Seating) (first : Places) (rotations : List (List (ℕ × ℕ))) (needs : List (List ℕ)) (k : ℕ) → two_lines s rotations needs k ≡ rotation_lines (shown_of s first rotations needs) k
+lines_shown s first rotations needs k =
+    ap (λ (t : List (ℕ × Seat)). LineData.Rotation (k + 1) t ∷ LineData.Needs (k + 1) (numbers_of (row needs k)) ∷ []) (sym (pairs_at_shown s rotations k))
+    ∙ ap (λ (t : List ℕ). LineData.Rotation (k + 1) (slice_index_or (map (seated_pairs s) rotations) k []) ∷ LineData.Needs (k + 1) t ∷ []) (sym (needs_shown needs k))
 
-first_shown : (l : Lists) (first : Places) (rotations : List (List (ℕ × ℕ))) (needs : List (List ℕ)) → length first.proposers ≡ length l.proposers
-    → (p : ℕ) → seat_line Proposers l first p ≡ first_line (shown_of l first rotations needs) p
-first_shown l first rotations needs one p = by_place (held first.proposers p) refl
+first_shown : (s : Seating) (first : Places) (rotations : List (List (ℕ × ℕ))) (needs : List (List ℕ)) → length first.proposers ≡ length s.market.proposers
+    → (p : ℕ) → seat_line Proposers s first p ≡ first_line (shown_of s first rotations needs) p
+first_shown s first rotations needs one p = by_place (held first.proposers p) refl
     ∙ ap (option_map (λ seat. LineData.First p seat)) (sym seat)
   where
-    seat : first_at (shown_of l first rotations needs) p ≡ first_seat l first p
-    seat = elim (cases_lt p (length l.proposers)) [
-      | inl here ↦ get_or-map-range_with_len (first_seat l first) 0 (length l.proposers) p p None here (omega arith)
+    seat : first_at (shown_of s first rotations needs) p ≡ first_seat s first p
+    seat = elim (cases_lt p (length s.market.proposers)) [
+      | inl here ↦ get_or-map-range_with_len (first_seat s first) 0 (length s.market.proposers) p p None here (omega arith)
       | inr past ↦
-          let long = length-map-range_with_len (first_seat l first) 0 (length l.proposers) in
-          get_or_past (map (first_seat l first) (agents l.proposers)) p None (omega arith)
-          ∙ ap (option_map (λ i. seat_of (entry l.proposers p i))) (sym (get_or_past first.proposers p None (omega arith)))
+          let long = length-map-range_with_len (first_seat s first) 0 (length s.market.proposers) in
+          get_or_past (map (first_seat s first) (agents s.market.proposers)) p None (omega arith)
+          ∙ ap (option_map (λ i. seat_of s (entry s.market.proposers p i))) (sym (get_or_past first.proposers p None (omega arith)))
     ]
 
     by_place : (o : Option ℕ) → held first.proposers p ≡ o
-        → option_map (λ i. best_seat Proposers p (seat_of (entry l.proposers p i))) (held first.proposers p) ≡ option_map (λ seat. LineData.First p seat) (option_map (λ i. seat_of (entry l.proposers p i)) (held first.proposers p))
+        → option_map (λ i. best_seat Proposers p (seat_of s (entry s.market.proposers p i))) (held first.proposers p) ≡ option_map (λ seat. LineData.First p seat) (option_map (λ i. seat_of s (entry s.market.proposers p i)) (held first.proposers p))
     by_place None e = rw e refl
     by_place (Some i) e = rw e refl
 
 -- the lines that are given are those of the answer
-given_is : (l : Lists) (first : Places) (rotations : List (List (ℕ × ℕ))) (needs : List (List ℕ)) → length first.proposers ≡ length l.proposers
-    → rotations_given l first rotations needs ≡ shown_lines (shown_of l first rotations needs)
-given_is l first rotations needs one =
-    let shown = shown_of l first rotations needs in
-    let n : length l.proposers - 0 ≡ length (map (first_seat l first) (agents l.proposers)) = (let long = length-map-range_with_len (first_seat l first) 0 (length l.proposers) in omega arith) in
-    let k : length rotations - 0 ≡ length (map turns_of rotations) = omega (arith, length-map rotations turns_of) in
-    let firsts : lines_from (seat_line Proposers l first) 0 (length l.proposers - 0) ≡ lines_from (first_line shown) 0 (length shown.firsts) =
-    ap (lines_from (seat_line Proposers l first) 0) n ∙ lines_alike (seat_line Proposers l first) (first_line shown) (first_shown l first rotations needs one) 0 (length shown.firsts) in
-    let turns : lines_of_rotations rotations needs 0 ≡ flat_map (rotation_lines shown) (range_with_len 0 (length shown.rotations)) =
-    ap (λ n. flat_map (two_lines rotations needs) (range_with_len 0 n)) k
-    ∙ flat_map_alike (two_lines rotations needs) (rotation_lines shown) (lines_shown l first rotations needs) (range_with_len 0 (length shown.rotations)) in
-    ap (λ (t : List LineData). LineData.Answer HeadData.Rotations ∷ (t ++ (lines_of_rotations rotations needs 0 ++ LineData.End ∷ []))) firsts
-    ∙ ap (λ (t : List LineData). LineData.Answer HeadData.Rotations ∷ (lines_from (first_line shown) 0 (length shown.firsts) ++ (t ++ LineData.End ∷ []))) turns
+given_is : (s : Seating) (first : Places) (rotations : List (List (ℕ × ℕ))) (needs : List (List ℕ)) → length first.proposers ≡ length s.market.proposers
+    → rotations_given s first rotations needs ≡ shown_lines (shown_of s first rotations needs)
+given_is s first rotations needs one =
+    let l = s.market in
+    let shown = shown_of s first rotations needs in
+    let n : length l.proposers - 0 ≡ length (map (first_seat s first) (agents l.proposers)) = (let long = length-map-range_with_len (first_seat s first) 0 (length l.proposers) in omega arith) in
+    let k : length rotations - 0 ≡ length (map (seated_pairs s) rotations) = omega (arith, length-map rotations (seated_pairs s)) in
+    let firsts : lines_from (seat_line Proposers s first) 0 (length l.proposers - 0) ≡ lines_from (first_line shown) 0 (length shown.firsts) =
+    ap (lines_from (seat_line Proposers s first) 0) n ∙ lines_alike (seat_line Proposers s first) (first_line shown) (first_shown s first rotations needs one) 0 (length shown.firsts) in
+    let pairs : lines_of_rotations s rotations needs 0 ≡ flat_map (rotation_lines shown) (range_with_len 0 (length shown.rotations)) =
+    ap (λ n. flat_map (two_lines s rotations needs) (range_with_len 0 n)) k
+    ∙ flat_map_alike (two_lines s rotations needs) (rotation_lines shown) (lines_shown s first rotations needs) (range_with_len 0 (length shown.rotations)) in
+    ap (λ (t : List LineData). LineData.Answer HeadData.Rotations ∷ (t ++ (lines_of_rotations s rotations needs 0 ++ LineData.End ∷ []))) firsts
+    ∙ ap (λ (t : List LineData). LineData.Answer HeadData.Rotations ∷ (lines_from (first_line shown) 0 (length shown.firsts) ++ (t ++ LineData.End ∷ []))) pairs
 
 -- they are a right answer
-pub rotations_right : (w : Written) (l : Lists) (first : Places) (rotations : List (List (ℕ × ℕ))) (needs : List (List ℕ)) → l ≡ market_of w → IsMarriage w → IsPrintedChain l first rotations
-    → length needs ≡ length rotations → ((k : ℕ) → k < length rotations → AreNeedsOf l rotations k (row needs k)) → IsRotationAnswer w (rotations_given l first rotations needs)
-rotations_right w l first rotations needs is h printed one of =
-    let printed' = subst (λ (k : Lists). IsPrintedChain k first rotations) is printed in
-    let of' : (k : ℕ) → k < length rotations → AreNeedsOf (market_of w) rotations k (row needs k) = λ k g. subst (λ (l : Lists). AreNeedsOf l rotations k (row needs k)) is (of k g) in
-    let needed : AreNeeds w rotations needs = record { one_each = one; of = of' } in
-    record {
-      first = first;
-      rotations = rotations;
-      needs = needs;
-      printed = printed';
-      needed = needed;
-      shows = given_is l first rotations needs printed.chain.from_best.stable.matching.proposers.one_each ∙ ap (λ (k : Lists). shown_lines (shown_of k first rotations needs)) is;
-      corresponds = correspondence h printed'.chain needed;
-    }
+pub rotations_right : (w : Written) (s : Seating) (first : Places) (rotations : List (List (ℕ × ℕ))) (needs : List (List ℕ)) → s ≡ seating_of w → IsSeating w s → IsPrintedChain s.market first rotations
+    → length needs ≡ length rotations → ((k : ℕ) → k < length rotations → AreNeedsOf s.market rotations k (row needs k)) → IsRotationAnswer w (rotations_given s first rotations needs)
+rotations_right w s first rotations needs is h printed one of = record {
+  first = first;
+  rotations = rotations;
+  needs = needs;
+  printed = subst (λ (t : Seating). IsPrintedChain t.market first rotations) is printed;
+  needed = record { one_each = one; of = λ k g. subst (λ (t : Seating). AreNeedsOf t.market rotations k (row needs k)) is (of k g) };
+  shows = given_is s first rotations needs printed.chain.from_best.stable.matching.proposers.one_each ∙ ap (λ (t : Seating). shown_lines (shown_of t first rotations needs)) is;
+  corresponds = subst (λ (t : Seating). IsCorrespondence w (shown_of t first rotations needs)) is (correspondence needs h printed.chain of);
+}
 
 -- Lines of the instance.
 
--- the pairs of a rotation of the chain are agents of the instance
-pairs_named : (w : Written) (first : Places) (rotations : List (List (ℕ × ℕ))) → IsInstance w → IsCompleteChain (market_of w) first rotations → (k : ℕ)
-    → All (λ (pair : ℕ × ℕ). ArePair (Two w) pair.0 pair.1) (rotation_at rotations k)
-pairs_named w first rotations h chain k = elim (cases_lt k (length rotations)) [
-  | inl here ↦ λ i d on. subst (λ (pair : ℕ × ℕ). ArePair (Two w) pair.0 pair.1) (sym (get_or_default (rotation_at rotations k) i d (0, 0) on)) (named here i on)
+-- the pairs of a rotation of the chain are proposers and seats
+pub pairs_named : (l : Lists) (first : Places) (rotations : List (List (ℕ × ℕ))) → IsMarket l → IsCompleteChain l first rotations → (k : ℕ)
+    → All (λ (pair : ℕ × ℕ). (pair.0 < length l.proposers) × (pair.1 < length l.reviewers)) (rotation_at rotations k)
+pairs_named l first rotations m chain k = elim (cases_lt k (length rotations)) [
+  | inl here ↦ λ i d on. subst (λ (pair : ℕ × ℕ). (pair.0 < length l.proposers) × (pair.1 < length l.reviewers)) (sym (get_or_default (rotation_at rotations k) i d (0, 0) on)) (named here i on)
   | inr past ↦
       let none : length (rotation_at rotations k) ≡ 0 = ap (λ (r : List (ℕ × ℕ)). length r) (get_or_past rotations k [] past) in
       λ i d on. absurd (omega arith)
 ]
   where
-    named : k < length rotations → (i : ℕ) → i < length (rotation_at rotations k) → ArePair (Two w) (proposer_at (rotation_at rotations k) i) (reviewer_at (rotation_at rotations k) i)
+    named : k < length rotations → (i : ℕ) → i < length (rotation_at rotations k) → (proposer_at (rotation_at rotations k) i < length l.proposers) × (reviewer_at (rotation_at rotations k) i < length l.reviewers)
     named here i on =
-        let l = market_of w in
         let p = proposer_at (rotation_at rotations k) i in
         let r = reviewer_at (rotation_at rotations k) i in
-        let m = is_market h in
         let place = place_of l.proposers p r in
         let stable = stage_stable m chain k (omega arith) in
         let listed = stable.matching.proposers.on_list p place ((chain.exposed k here).paired i on) in
         let inside = row_in_range l.proposers p place listed in
-        let there : entry l.proposers p place ≡ r = get_or-place (row l.proposers p) r listed in
+        let there : entry l.proposers p place ≡ r = get_or-place_on (row l.proposers p) r listed in
         let range = m.proposers.in_range p place listed in
-        (omega (arith, inside, proposers_long w), omega (arith, range, there, reviewers_long w))
+        (inside, omega (arith, range, there))
+
+-- so its seats are there
+pub seats_named : (s : Seating) (first : Places) (rotations : List (List (ℕ × ℕ))) → IsMarket s.market → length s.market.reviewers ≡ length s.seats → IsCompleteChain s.market first rotations → (k : ℕ)
+    → All (λ (pair : ℕ × ℕ). pair.1 < length s.seats) (rotation_at rotations k)
+seats_named s first rotations m one chain k = λ i d on. omega (arith, (pairs_named s.market first rotations m chain k i d on).1, one)
 
 -- the numbers of what a rotation needs rise
 needs_numbered : (l : Lists) (rotations : List (List (ℕ × ℕ))) (j : ℕ) (needed : List ℕ) → length rotations < 2 ^ 24 → AreNeedsOf l rotations j needed → AreRotations (numbers_of needed)
@@ -148,80 +147,78 @@ needs_numbered l rotations j needed few h = record {
       let two : get_or (numbers_of needed) (k + 1) 0 ≡ number_of (get_or needed (k + 1) 0) = get_or-map number_of needed (k + 1) 0 0 (omega arith) in
       omega arith
 
-both_sound : (w : Written) (first : Places) (rotations : List (List (ℕ × ℕ))) (needs : List (List ℕ)) → w.kind ≡ Marriage → IsInstance w → IsCompleteChain (market_of w) first rotations → length rotations < 2 ^ 24
-    → ((k : ℕ) → k < length rotations → AreNeedsOf (market_of w) rotations k (row needs k)) → (k : ℕ) → k < length rotations → All (IsLineOf (Two w)) (two_lines rotations needs k)
-both_sound w first rotations needs kind h chain few of k here =
-    let P = IsLineOf (Two w) in
-    let number : IsRotation (k + 1) = record { least = omega arith; greatest = omega arith } in
-    let turns = rotation_at rotations k in
-    All-cons P (LineData.Rotation (k + 1) (turns_of turns)) (LineData.Needs (k + 1) (numbers_of (row needs k)) ∷ [])
-    (record {
-      printable = All-map (λ (turn : ℕ × Seat). ArePair (Two w) turn.0 turn.1.reviewer) turn_of turns (pairs_named w first rotations h chain k);
-      seats = turns_numbered turns;
-      numbers = number;
-      head = tt;
-    })
-    (one_all P (LineData.Needs (k + 1) (numbers_of (row needs k))) (record {
-      printable = tt;
-      seats = no_seats;
-      numbers = (number, needs_numbered (market_of w) rotations k (row needs k) few (of k here));
-      head = tt;
-    }))
-  where
-    no_seats : All (λ (seat : Seat). IsSeatNumber w.kind seat.number) []
-    no_seats = λ i d l. absurd (omega arith)
-
-    turns_numbered : (turns : List (ℕ × ℕ)) → All (λ (seat : Seat). IsSeatNumber w.kind seat.number) (map (λ (turn : ℕ × Seat). turn.1) (turns_of turns))
-    turns_numbered turns = subst (All (λ (seat : Seat). IsSeatNumber w.kind seat.number)) (sym (seats_are turns)) (seats_numbered w.kind kind (map (λ (pair : ℕ × ℕ). pair.1) turns)) where
-      seats_are : (turns : List (ℕ × ℕ)) → map (λ (turn : ℕ × Seat). turn.1) (turns_of turns) ≡ map seat_of (map (λ (pair : ℕ × ℕ). pair.1) turns)
-      seats_are [] = refl
-      seats_are (pair ∷ turns) = ap (λ (t : List Seat). seat_of pair.1 ∷ t) (seats_are turns)
+module _ {w : Written} {s : Seating} (i : IsInstance w) (h : IsSeating w s) (first : Places) (rotations : List (List (ℕ × ℕ))) (needs : List (List ℕ)) (chain : IsCompleteChain s.market first rotations)
+    (few : length rotations < 2 ^ 24) (of : (k : ℕ) → k < length rotations → AreNeedsOf s.market rotations k (row needs k)) where
+  both_sound : (k : ℕ) → k < length rotations → All (IsLineOf (Two w)) (two_lines s rotations needs k)
+  both_sound k here =
+      let P = IsLineOf (Two w) in
+      let number : IsRotation (k + 1) = record { least = omega arith; greatest = omega arith } in
+      let pairs = rotation_at rotations k in
+      let named = pairs_named s.market first rotations h.market chain k in
+      All-cons P (LineData.Rotation (k + 1) (seated_pairs s pairs)) (LineData.Needs (k + 1) (numbers_of (row needs k)) ∷ [])
+      (record {
+        printable = All-map (λ (pair : ℕ × Seat). ArePair (Two w) pair.0 pair.1.reviewer) (seated_pair s) pairs (λ j d on.
+            let both = named j d on in
+            let seat = seat_is i h (get_or pairs j d).1 (omega (arith, both.1, h.seats)) in
+            (omega (arith, both.0, h.proposers), seat.reviewer));
+        seats = All-map (λ (seat : Seat). IsSeatNumber w.kind seat.number) (λ (pair : ℕ × Seat). pair.1) (seated_pairs s pairs) (All-map (λ (pair : ℕ × Seat). IsSeatNumber w.kind pair.1.number) (seated_pair s) pairs
+            (λ j d on. (seat_is i h (get_or pairs j d).1 (omega (arith, (named j d on).1, h.seats))).number));
+        numbers = number;
+        head = tt;
+      })
+      (one_all P (LineData.Needs (k + 1) (numbers_of (row needs k))) (record {
+        printable = tt;
+        seats = no_seats;
+        numbers = (number, needs_numbered s.market rotations k (row needs k) few (of k here));
+        head = tt;
+      }))
+    where
+      no_seats : All (λ (seat : Seat). IsSeatNumber w.kind seat.number) []
+      no_seats = λ i d l. absurd (omega arith)
 
 -- what holds of the lines of each of some numbers holds of all
 flat_from : (P : LineData → Type 0) (f : ℕ → List LineData) (a n : ℕ) → ((k : ℕ) → k < a + n → All P (f k)) → All P (flat_map f (range_with_len a n))
 flat_from P f a zero each = no_line P
 flat_from P f a (suc n) each = All-append P (f a) (flat_map f (range_with_len (a + 1) n)) (each a (omega arith)) (flat_from P f (a + 1) n (λ k l. each k (omega arith)))
 
-pub rotations_given_sound : (input : Input) (w : Written) (l : Lists) (first : Places) (rotations : List (List (ℕ × ℕ))) (needs : List (List ℕ)) → input ≡ Two w → w.kind ≡ Marriage → IsInstance w → l ≡ market_of w
-    → IsPrintedChain l first rotations → length rotations < 2 ^ 24 → ((k : ℕ) → k < length rotations → AreNeedsOf l rotations k (row needs k)) → All (IsLineOf input) (rotations_given l first rotations needs)
-rotations_given_sound input w l first rotations needs two kind h is printed few of =
+pub rotations_given_sound : (input : Input) {w : Written} {s : Seating} → IsInstance w → IsSeating w s → (first : Places) (rotations : List (List (ℕ × ℕ))) (needs : List (List ℕ)) → input ≡ Two w
+    → IsPrintedChain s.market first rotations → length rotations < 2 ^ 24 → ((k : ℕ) → k < length rotations → AreNeedsOf s.market rotations k (row needs k)) → All (IsLineOf input) (rotations_given s first rotations needs)
+rotations_given_sound input {w} {s} i h first rotations needs two printed few of =
     let P = IsLineOf (Two w) in
-    let m = market_of w in
-    let chain = (subst (λ (k : Lists). IsPrintedChain k first rotations) is printed).chain in
-    let of' : (k : ℕ) → k < length rotations → AreNeedsOf (market_of w) rotations k (row needs k) = λ k g. subst (λ (l : Lists). AreNeedsOf l rotations k (row needs k)) is (of k g) in
-    let firsts = lines_each P (seat_line Proposers m first) 0 (length m.proposers - 0) (λ i l. seat_sound w Proposers first kind h chain.from_best.stable.matching i) in
-    let turns = flat_from P (two_lines rotations needs) 0 (length rotations - 0) (λ k l. both_sound w first rotations needs kind h chain few of' k (omega arith)) in
-    let whole : All P (rotations_given m first rotations needs) =
+    let firsts = lines_each P (seat_line Proposers s first) 0 (length s.market.proposers - 0) (λ p l. seat_sound i h Proposers first printed.chain.from_best.stable.matching p) in
+    let pairs = flat_from P (two_lines s rotations needs) 0 (length rotations - 0) (λ k l. both_sound i h first rotations needs printed.chain few of k (omega arith)) in
+    let whole : All P (rotations_given s first rotations needs) =
     All-cons P (LineData.Answer HeadData.Rotations) _ (record { printable = tt; seats = λ k d l. absurd (omega arith); numbers = tt; head = tt })
-    (All-append P _ _ firsts (All-append P _ _ turns (one_all P LineData.End (end_sound (Two w))))) in
-    subst (λ (i : Input). All (IsLineOf i) (rotations_given l first rotations needs)) (sym two) (subst (λ (x : Lists). All P (rotations_given x first rotations needs)) (sym is) whole)
+    (All-append P _ _ firsts (All-append P _ _ pairs (one_all P LineData.End (end_sound (Two w))))) in
+    subst (λ (i : Input). All (IsLineOf i) (rotations_given s first rotations needs)) (sym two) whole
 
 -- Giving the lines of rotations.
 
-lines_first : (rotations : List (List (ℕ × ℕ))) (needs : List (List ℕ)) (k : ℕ) → k < length rotations → lines_of_rotations rotations needs k ≡ two_lines rotations needs k ++ lines_of_rotations rotations needs (k + 1)
-lines_first rotations needs k here =
+lines_first : (s : Seating) (rotations : List (List (ℕ × ℕ))) (needs : List (List ℕ)) (k : ℕ) → k < length rotations
+    → lines_of_rotations s rotations needs k ≡ two_lines s rotations needs k ++ lines_of_rotations s rotations needs (k + 1)
+lines_first s rotations needs k here =
     let count : length rotations - k ≡ suc (length rotations - (k + 1)) = omega arith in
-    ap (λ n. flat_map (two_lines rotations needs) (range_with_len k n)) count
+    ap (λ n. flat_map (two_lines s rotations needs) (range_with_len k n)) count
 
-pub rotation_given : (rotations : List (List (ℕ × ℕ))) (needs : List (List ℕ)) (k : ℕ) (line : Line) → k < length rotations → line_of line ≡ LineData.Rotation (k + 1) (turns_of (rotation_at rotations k))
-    → GivesNext (λ rest. rest ≡ lines_left false rotations needs k) (λ rest. rest ≡ lines_left true rotations needs k) (most_left false (length rotations - k)) (most_left true (length rotations - k)) (Ok (Some line))
-rotation_given rotations needs k line here is =
-    let all = lines_first rotations needs k here in
-    gave_first _ _ line _ _ (all ∙ ap (λ t. t ∷ LineData.Needs (k + 1) (numbers_of (row needs k)) ∷ lines_of_rotations rotations needs (k + 1)) (sym is) ∙ ap (λ t. line_of line ∷ t) (sym (ap (drop 1) all))) (omega arith)
+pub rotation_given : (s : Seating) (rotations : List (List (ℕ × ℕ))) (needs : List (List ℕ)) (k : ℕ) (line : Line) → k < length rotations → line_of line ≡ LineData.Rotation (k + 1) (seated_pairs s (rotation_at rotations k))
+    → GivesNext (λ rest. rest ≡ lines_left false s rotations needs k) (λ rest. rest ≡ lines_left true s rotations needs k) (most_left false (length rotations - k)) (most_left true (length rotations - k)) (Ok (Some line))
+rotation_given s rotations needs k line here is =
+    let all = lines_first s rotations needs k here in
+    gave_first _ _ line _ _ (all ∙ ap (λ t. t ∷ LineData.Needs (k + 1) (numbers_of (row needs k)) ∷ lines_of_rotations s rotations needs (k + 1)) (sym is) ∙ ap (λ t. line_of line ∷ t) (sym (ap (drop 1) all))) (omega arith)
 
-pub needs_given : (rotations : List (List (ℕ × ℕ))) (needs : List (List ℕ)) (k : ℕ) (line : Line) → k < length rotations → line_of line ≡ LineData.Needs (k + 1) (numbers_of (row needs k))
-    → GivesNext (λ rest. rest ≡ lines_left true rotations needs k) (λ rest. rest ≡ lines_left false rotations needs (k + 1)) (most_left true (length rotations - k)) (most_left false (length rotations - (k + 1))) (Ok (Some line))
-needs_given rotations needs k line here is =
-    let all = lines_first rotations needs k here in
-    gave_first _ _ line _ _ (ap (drop 1) all ∙ ap (λ t. t ∷ lines_of_rotations rotations needs (k + 1)) (sym is)) (omega arith)
+pub needs_given : (s : Seating) (rotations : List (List (ℕ × ℕ))) (needs : List (List ℕ)) (k : ℕ) (line : Line) → k < length rotations → line_of line ≡ LineData.Needs (k + 1) (numbers_of (row needs k))
+    → GivesNext (λ rest. rest ≡ lines_left true s rotations needs k) (λ rest. rest ≡ lines_left false s rotations needs (k + 1)) (most_left true (length rotations - k)) (most_left false (length rotations - (k + 1))) (Ok (Some line))
+needs_given s rotations needs k line here is =
+    let all = lines_first s rotations needs k here in
+    gave_first _ _ line _ _ (ap (drop 1) all ∙ ap (λ t. t ∷ lines_of_rotations s rotations needs (k + 1)) (sym is)) (omega arith)
 
-pub none_given : (rotations : List (List (ℕ × ℕ))) (needs : List (List ℕ)) (halfway : Bool) (k n : ℕ) → length rotations ≤ k
-    → GivesNext (λ rest. rest ≡ lines_left halfway rotations needs k) (λ rest. rest ≡ lines_left halfway rotations needs k) n n (Ok None)
-none_given rotations needs halfway k n over =
+pub none_given : (s : Seating) (rotations : List (List (ℕ × ℕ))) (needs : List (List ℕ)) (halfway : Bool) (k n : ℕ) → length rotations ≤ k
+    → GivesNext (λ rest. rest ≡ lines_left halfway s rotations needs k) (λ rest. rest ≡ lines_left halfway s rotations needs k) n n (Ok None)
+none_given s rotations needs halfway k n over =
     let count : length rotations - k ≡ 0 = omega arith in
-    let none : lines_of_rotations rotations needs k ≡ [] = ap (λ n. flat_map (two_lines rotations needs) (range_with_len k n)) count in
-    gave_none (lines_left halfway rotations needs k) n (by_half halfway none) where
-      by_half : (halfway : Bool) → lines_of_rotations rotations needs k ≡ [] → lines_left halfway rotations needs k ≡ []
+    let none : lines_of_rotations s rotations needs k ≡ [] = ap (λ n. flat_map (two_lines s rotations needs) (range_with_len k n)) count in
+    gave_none (lines_left halfway s rotations needs k) n (by_half halfway none) where
+      by_half : (halfway : Bool) → lines_of_rotations s rotations needs k ≡ [] → lines_left halfway s rotations needs k ≡ []
       by_half false none = none
       by_half true none = ap (drop 1) none
 
@@ -264,30 +261,32 @@ needs_pushed l rotations vectors v k long of last j less =
     ]
 
 -- A poset's lists, first matching and rotations, as they are read from its values, and what each rotation needs.
-pub record AreShown (w : Written) (l : Lists) (first : Places) (rotations : List (List (ℕ × ℕ))) (needs : List (List ℕ)) : Type 0 where
-  pub is : l ≡ market_of w
+pub record AreShown (l : Lists) (first : Places) (rotations : List (List (ℕ × ℕ))) (needs : List (List ℕ)) : Type 0 where
   pub printed : IsPrintedChain l first rotations
   pub few : length rotations < 2 ^ 24
   pub one_each : length needs ≡ length rotations
   pub of : (k : ℕ) → k < length rotations → AreNeedsOf l rotations k (row needs k)
 
-pub are_shown : (w : Written) (poset : RotationPoset) (l : Lists) (first : Paired) (rotations : List (List (ℕ × ℕ))) (needs held : List (List ℕ))
-    → l ≡ poset.lists → first ≡ poset.first → rotations ≡ poset.rotations → needs ≡ held → poset.lists ≡ market_of w → IsPoset poset → AreNeedsIn poset held → AreShown w l first.places rotations needs
-are_shown w poset l first rotations needs held e ef er en is p n =
+pub are_shown : (poset : RotationPoset) (l : Lists) (first : Paired) (rotations : List (List (ℕ × ℕ))) (needs held : List (List ℕ))
+    → poset.lists ≡ l → first ≡ poset.first → rotations ≡ poset.rotations → needs ≡ held → IsPoset poset → AreNeedsIn poset held → AreShown l first.places rotations needs
+are_shown poset l first rotations needs held e ef er en p n =
     let long : length rotations ≡ length poset.rotations = ap (λ (r : List (List (ℕ × ℕ))). length r) er in
     record {
-      is = e ∙ is;
       printed = subst (λ (r : List (List (ℕ × ℕ))). IsPrintedChain l first.places r) (sym er) (subst (λ (f : Paired). IsPrintedChain l f.places poset.rotations) (sym ef)
-          (subst (λ (k : Lists). IsPrintedChain k poset.first.places poset.rotations) (sym e) p.printed));
+          (subst (λ (k : Lists). IsPrintedChain k poset.first.places poset.rotations) e p.printed));
       few = omega (arith, long, p.few);
       one_each = ap (λ (t : List (List ℕ)). length t) en ∙ n.one_each ∙ sym long;
       of = λ k here. subst (λ (r : List (List (ℕ × ℕ))). AreNeedsOf l r k (row needs k)) (sym er) (subst (λ (t : List (List ℕ)). AreNeedsOf l poset.rotations k (row t k)) (sym en)
-          (subst (λ (m : Lists). AreNeedsOf m poset.rotations k (row held k)) (sym e) (n.of k (omega (arith, here, long)))));
+          (subst (λ (m : Lists). AreNeedsOf m poset.rotations k (row held k)) e (n.of k (omega (arith, here, long)))));
     }
 
 -- the values are as many
-pub values_few : (w : Written) (l : Lists) (first : Places) (values : List Rotation) (needs : List (List ℕ)) → AreShown w l first (rotations_of values) needs → length values < 2 ^ 24
-values_few w l first values needs h = omega (arith, h.few, rotations_long values)
+pub values_few : (l : Lists) (first : Places) (values : List Rotation) (needs : List (List ℕ)) → AreShown l first (rotations_of values) needs → length values < 2 ^ 24
+values_few l first values needs h = omega (arith, h.few, rotations_long values)
 
-pub values_each : (w : Written) (l : Lists) (first : Places) (values : List Rotation) (vectors : List (Vec ℕ Global)) → AreShown w l first (rotations_of values) (rows_of vectors) → length vectors ≡ length values
-values_each w l first values vectors h = sym (rows_long vectors) ∙ h.one_each ∙ rotations_long values
+pub values_each : (l : Lists) (first : Places) (values : List Rotation) (vectors : List (Vec ℕ Global)) → AreShown l first (rotations_of values) (rows_of vectors) → length vectors ≡ length values
+values_each l first values vectors h = sym (rows_long vectors) ∙ h.one_each ∙ rotations_long values
+
+-- a rotation's pairs are read from its value
+pub pairs_read : (values : List Rotation) (k : ℕ) (r : Rotation) → k < length values → r ≡ get_or values k r → r.pairs.items ≡ rotation_at (rotations_of values) k
+pairs_read values k r h e = ap (λ (r : Rotation). r.pairs.items) e ∙ sym (get_or-map (λ (r : Rotation). r.pairs.items) values k r [] h)

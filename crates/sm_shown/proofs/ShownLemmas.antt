@@ -1,43 +1,46 @@
 -- The closed sets that are shown, and the stable matchings of the instance.
-use Rattle.std.proofs.Common.{◌≡◌, ℕ, zero, suc, ◌<◌, ◌≤◌, ◌==◌, ◌&&◌, cond, nat_lt, max, Bool, true, false, List, [], ◌∷◌, Option, Some, None, length, map, get_or, slice_index, slice_index_or, Contains, subst, refl, sym, ap, ◌∙◌, arith, inl, inr, ext_get_or, true≢false}
+use Rattle.std.proofs.Common.{◌≡◌, ℕ, zero, suc, ◌+◌, ◌<◌, ◌≤◌, ◌==◌, ◌&&◌, cond, nat_lt, max, Bool, true, false, List, [], ◌∷◌, Option, Some, None, length, map, get_or, slice_index, slice_index_or, Contains, subst, refl, sym, ap, ◌∙◌, arith, inl, inr, ext_get_or, true≢false}
 use Rattle.std.specs.Option.{option_map}
 use Rattle.std.proofs.lemmas.Bool.{cases_lt, eqb-true, false≢true}
 use Rattle.std.proofs.lemmas.List.{get_or-map, get_or_past, length-map}
 use Rattle.std.proofs.lemmas.List.FromFn.{get_or-map-range_with_len, length-map-range_with_len}
 use Rattle.std.proofs.lemmas.List.Sums.{passes_at_first}
-use Rattle.sm_instance.specs.Written.{Written, entry, place_of}
-use Rattle.sm_instance.specs.Matching.{held}
+use Rattle.sm_instance.specs.Written.{Written, place_of}
 use Rattle.sm_instance.specs.Stable.{IsStable}
 use Rattle.sm_instance.proofs.AcceptLemmas.{true_lt}
-use Rattle.sm_instance.proofs.PlaceLemmas.{place_of-entry}
-use Rattle.sm_market.specs.Lists.{row, entry as market_entry, place_of as market_place}
-use Rattle.sm_market.specs.Matching.{Places, held as market_held, standing as market_standing}
-use Rattle.sm_market.specs.Stable.{IsStable as IsMarketStable}
-use Rattle.sm_market.proofs.Bridge.{sides_of, stable_equal}
-use Rattle.sm_theory.specs.Rotations.{proposer_at, target_at, pair_of}
-use Rattle.sm_theory.specs.Chains.{rotation_at, IsCompleteChain}
+use Rattle.sm_instance.proofs.LoadLemmas.{test_cases}
+use Rattle.sm_market.specs.Lists.{row, entry, place_of as market_place}
+use Rattle.sm_market.specs.Matching.{Places, held as market_held}
+use Rattle.sm_market.proofs.CycleLemmas.{turn_in}
+use Rattle.sm_theory.specs.Rotations.{proposer_at, reviewer_at, next_in, target_at, pair_of}
+use Rattle.sm_theory.specs.Chains.{rotation_at, IsCompleteChain, AreNeedsOf}
 use Rattle.sm_theory.specs.ClosedSets.{is_member, IsMember, IsClosed, worst_place, matching_of, Correspondence}
-use Rattle.sm_theory.proofs.Bridge.Places.{tabled, held_map}
+use Rattle.sm_theory.proofs.Bridge.Places.{held_map}
 use Rattle.sm_theory.proofs.Chains.Rotations.{sets_are_matchings}
-use Rattle.sm_shown.specs.MarriageMarket.{market_of, mutual_row, written_places}
-use Rattle.sm_shown.specs.RotationLines.{Shown, first_at, first_seat, turns_of, number_of, numbers_of, shown_of}
+use Rattle.sm_seats.specs.Seating.{Seating, reviewer_of, written_place, written_of}
+use Rattle.sm_seats.specs.Correspondence.{IsSeating}
+use Rattle.sm_seats.proofs.SeatingLaws.{rises}
+use Rattle.sm_shown.specs.RotationLines.{Shown, first_at, first_seat, seated_pairs, number_of, numbers_of, shown_of}
 use Rattle.sm_shown.specs.Reduction.{seat_of}
-use Rattle.sm_shown.specs.RotationAnswer.{HasNumber, IsClosedIn, pairs_of, least_liked, matching_shown, IsCorrespondence, AreNeeds}
-use Rattle.sm_shown.proofs.FilterLemmas.{get_or-place}
-use Rattle.sm_shown.proofs.MarriageLemmas.{IsMutual, IsMarriage, HasPlace, acceptable_mutual, mutual_on_row, entry_mutual, order_back, order_back_le, is_market, same_cases, cases_of, stable_written, stable_stand, proposer_stand}
+use Rattle.sm_shown.specs.RotationAnswer.{HasNumber, IsClosedIn, pairs_of, least_liked, matching_shown, IsCorrespondence}
+use Rattle.sm_shown.proofs.SeatingLemmas.{place_of-list, place_of-reviewer_of}
 
 -- What is shown of a chain.
 
-pairs_shown : (rotation : List (ℕ × ℕ)) → pairs_of (turns_of rotation) ≡ rotation
-pairs_shown [] = refl
-pairs_shown (pair ∷ rotation) = ap (λ (t : List (ℕ × ℕ)). pair ∷ t) (pairs_shown rotation)
+-- a pair with the reviewer of its seat
+abbrev reviewer_pair : Seating → (ℕ × ℕ) → (ℕ × ℕ)
+reviewer_pair s pair = (pair.0, reviewer_of s pair.1)
 
-pub turns_shown : (rotations : List (List (ℕ × ℕ))) (k : ℕ) → slice_index_or (map turns_of rotations) k [] ≡ turns_of (rotation_at rotations k)
-turns_shown rotations k = elim (cases_lt k (length rotations)) [
-  | inl here ↦ get_or-map turns_of rotations k [] [] here
+pairs_shown : (s : Seating) (rotation : List (ℕ × ℕ)) → pairs_of (seated_pairs s rotation) ≡ map (reviewer_pair s) rotation
+pairs_shown s [] = refl
+pairs_shown s (pair ∷ rotation) = ap (λ (t : List (ℕ × ℕ)). reviewer_pair s pair ∷ t) (pairs_shown s rotation)
+
+pub pairs_at_shown : (s : Seating) (rotations : List (List (ℕ × ℕ))) (k : ℕ) → slice_index_or (map (seated_pairs s) rotations) k [] ≡ seated_pairs s (rotation_at rotations k)
+pairs_at_shown s rotations k = elim (cases_lt k (length rotations)) [
+  | inl here ↦ get_or-map (seated_pairs s) rotations k [] [] here
   | inr past ↦
-      get_or_past (map turns_of rotations) k [] (omega (arith, past, length-map rotations turns_of))
-      ∙ ap turns_of (sym (get_or_past rotations k [] past))
+      get_or_past (map (seated_pairs s) rotations) k [] (omega (arith, past, length-map rotations (seated_pairs s)))
+      ∙ ap (seated_pairs s) (sym (get_or_past rotations k [] past))
 ]
 
 pub needs_shown : (needs : List (List ℕ)) (k : ℕ) → slice_index_or (map numbers_of needs) k [] ≡ numbers_of (row needs k)
@@ -48,8 +51,31 @@ needs_shown needs k = elim (cases_lt k (length needs)) [
       ∙ ap numbers_of (sym (get_or_past needs k [] past))
 ]
 
-rotation_shown : (rotations : List (List (ℕ × ℕ))) (k : ℕ) → pairs_of (slice_index_or (map turns_of rotations) k []) ≡ rotation_at rotations k
-rotation_shown rotations k = ap pairs_of (turns_shown rotations k) ∙ pairs_shown (rotation_at rotations k)
+rotation_shown : (s : Seating) (rotations : List (List (ℕ × ℕ))) (k : ℕ) → pairs_of (slice_index_or (map (seated_pairs s) rotations) k []) ≡ map (reviewer_pair s) (rotation_at rotations k)
+rotation_shown s rotations k = ap pairs_of (pairs_at_shown s rotations k) ∙ pairs_shown s (rotation_at rotations k)
+
+-- the pair in which a shown rotation has p
+pair_of-shown : (s : Seating) (rotation : List (ℕ × ℕ)) (p : ℕ) → pair_of (map (reviewer_pair s) rotation) p ≡ pair_of rotation p
+pair_of-shown s [] p = refl
+pair_of-shown s (pair ∷ rotation) p = elim (test_cases (pair.0 == p)) [
+  | inl yes_ ↦ first_is (reviewer_pair s pair) (map (reviewer_pair s) rotation) yes_ ∙ sym (first_is pair rotation yes_)
+  | inr no_ ↦
+      let deep = pair_of-shown s rotation p in
+      omega (arith, deep, later_is (reviewer_pair s pair) (map (reviewer_pair s) rotation) no_, later_is pair rotation no_)
+]
+  where
+    first_is : (x : ℕ × ℕ) (xs : List (ℕ × ℕ)) → (x.0 == p) ≡ true → pair_of (x ∷ xs) p ≡ 0
+    first_is x xs e = rw e refl
+
+    later_is : (x : ℕ × ℕ) (xs : List (ℕ × ℕ)) → (x.0 == p) ≡ false → pair_of (x ∷ xs) p ≡ pair_of xs p + 1
+    later_is x xs e = rw e (omega arith)
+
+-- the reviewer to which a shown rotation moves the proposer of a pair
+target_at-shown : (s : Seating) (rotation : List (ℕ × ℕ)) (i : ℕ) → i < length rotation → target_at (map (reviewer_pair s) rotation) i ≡ reviewer_of s (target_at rotation i)
+target_at-shown s rotation i on =
+    let long = length-map rotation (reviewer_pair s) in
+    ap (λ n. reviewer_at (map (reviewer_pair s) rotation) (cond (i + 1 == n) 0 (i + 1))) long
+    ∙ ap (λ (pair : ℕ × ℕ). pair.1) (get_or-map (reviewer_pair s) rotation (next_in rotation i) (0, 0) (0, 0) (turn_in (length rotation) i on))
 
 -- the numbers that are shown are those of what is needed
 number_in : (needed : List ℕ) (i : ℕ) → Contains needed i → Contains (numbers_of needed) (number_of i)
@@ -76,215 +102,164 @@ member_below set k member = elim (cases_lt k (length set)) [
   | inr past ↦ absurd (true≢false (sym member ∙ get_or_past set k false past))
 ]
 
--- Places on the written lists and on those of the market.
+-- Places on the written lists and on those of the seats.
 
--- the reviewer at the place a of p's list in the market stands at the place b of its written list
-record IsSamePlace (w : Written) (p a b : ℕ) : Type 0 where
-  on : a < length (row (market_of w).proposers p)
-  same : b ≡ place_of w.proposers p (market_entry (market_of w).proposers p a)
+-- the reviewer of the seat at the place a of p's list of seats stands at the place b of its written list
+record IsSamePlace (s : Seating) (p a b : ℕ) : Type 0 where
+  on : a < length (row s.market.proposers p)
+  same : b ≡ written_place s p a
 
-market_at : {w : Written} → IsMarriage w → (p i : ℕ) → i < length (row (market_of w).proposers p) → market_place (market_of w).proposers p (market_entry (market_of w).proposers p i) ≡ i
-market_at {w} h p i on = (sides_of (market_of w) (is_market h.instance)).left.place_at p i on
+last_of_two : {w : Written} {s : Seating} {p a b c d : ℕ} → IsSeating w s → IsSamePlace s p a b → IsSamePlace s p c d → IsSamePlace s p (max a c) (max b d)
+last_of_two {w} {s} {p} {a} {b} {c} {d} h x y = elim (cases_lt a c) [
+  | inl less ↦
+      let down = rises h p a c (omega arith) y.on in
+      let m : max a c ≡ c = omega arith in
+      let n : max b d ≡ d = omega (arith, down, x.same, y.same) in
+      rw (m, n) y
+  | inr ge ↦
+      let down = rises h p c a ge x.on in
+      let m : max a c ≡ a = omega arith in
+      let n : max b d ≡ b = omega (arith, down, x.same, y.same) in
+      rw (m, n) x
+]
 
-last_of_two : {w : Written} {p a b c d : ℕ} → IsMarriage w → IsSamePlace w p a b → IsSamePlace w p c d → IsSamePlace w p (max a c) (max b d)
-last_of_two {w} {p} {a} {b} {c} {d} h x y =
-    let both = entry_mutual w.proposers w.reviewers p a x.on in
-    let others = entry_mutual w.proposers w.reviewers p c y.on in
-    let a_at = market_at h p a x.on in
-    let c_at = market_at h p c y.on in
-    elim (cases_lt a c) [
-      | inl less ↦
-          let down = order_back both others (omega (arith, less, a_at, c_at)) in
-          let m : max a c ≡ c = omega arith in
-          let n : max b d ≡ d = omega (arith, down, x.same, y.same) in
-          rw (m, n) y
-      | inr ge ↦
-          let down = order_back_le others both (omega (arith, ge, a_at, c_at)) in
-          let m : max a c ≡ a = omega arith in
-          let n : max b d ≡ b = omega (arith, down, x.same, y.same) in
-          rw (m, n) x
-    ]
-
--- the place of a reviewer of the market
-place_there : (w : Written) (p r : ℕ) → market_place (market_of w).proposers p r < length (row (market_of w).proposers p)
-    → IsSamePlace w p (market_place (market_of w).proposers p r) (place_of w.proposers p r)
-place_there w p r on = record { on = on; same = ap (place_of w.proposers p) (sym (get_or-place (row (market_of w).proposers p) r on)) }
+-- the place of the reviewer of a seat
+place_there : {w : Written} {s : Seating} → IsSeating w s → (p k : ℕ) → market_place s.market.proposers p k < length (row s.market.proposers p)
+    → IsSamePlace s p (market_place s.market.proposers p k) (place_of w.proposers p (reviewer_of s k))
+place_there h p k on = record { on = on; same = place_of-reviewer_of h p k on }
 
 both_true : (a b : Bool) → a && b ≡ true → b ≡ true
 both_true true b e = e
 both_true false b e = absurd (false≢true e)
 
 -- one more rotation, which a set has or not
-one_more : {w : Written} {p a b : ℕ} → IsMarriage w → IsSamePlace w p a b → (rotation : List (ℕ × ℕ)) (member : Bool)
-    → (pair_of rotation p < length rotation → market_place (market_of w).proposers p (target_at rotation (pair_of rotation p)) < length (row (market_of w).proposers p))
-    → IsSamePlace w p (cond (member && nat_lt (pair_of rotation p) (length rotation)) (max a (market_place (market_of w).proposers p (target_at rotation (pair_of rotation p)))) a)
-    (cond (member && nat_lt (pair_of rotation p) (length rotation)) (max b (place_of w.proposers p (target_at rotation (pair_of rotation p)))) b)
-one_more {w} {p} {a} {b} h x rotation member on_list = by_test (member && nat_lt (pair_of rotation p) (length rotation)) refl
+one_more : {w : Written} {s : Seating} {p a b : ℕ} → IsSeating w s → IsSamePlace s p a b → (rotation : List (ℕ × ℕ)) (member : Bool)
+    → (pair_of rotation p < length rotation → market_place s.market.proposers p (target_at rotation (pair_of rotation p)) < length (row s.market.proposers p))
+    → IsSamePlace s p (cond (member && nat_lt (pair_of rotation p) (length rotation)) (max a (market_place s.market.proposers p (target_at rotation (pair_of rotation p)))) a)
+    (cond (member && nat_lt (pair_of (map (reviewer_pair s) rotation) p) (length (map (reviewer_pair s) rotation))) (max b (place_of w.proposers p (target_at (map (reviewer_pair s) rotation) (pair_of (map (reviewer_pair s) rotation) p)))) b)
+one_more {w} {s} {p} {a} {b} h x rotation member on_list =
+    let i = pair_of rotation p in
+    let shown = map (reviewer_pair s) rotation in
+    let here = cond (member && nat_lt i (length rotation)) (max a (market_place s.market.proposers p (target_at rotation i))) a in
+    subst (λ j. IsSamePlace s p here (cond (member && nat_lt j (length shown)) (max b (place_of w.proposers p (target_at shown j))) b)) (sym (pair_of-shown s rotation p))
+    (subst (λ n. IsSamePlace s p here (cond (member && nat_lt i n) (max b (place_of w.proposers p (target_at shown i))) b)) (sym (length-map rotation (reviewer_pair s)))
+    (by_test (member && nat_lt i (length rotation)) refl))
   where
     by_test : (t : Bool) → member && nat_lt (pair_of rotation p) (length rotation) ≡ t
-        → IsSamePlace w p (cond t (max a (market_place (market_of w).proposers p (target_at rotation (pair_of rotation p)))) a) (cond t (max b (place_of w.proposers p (target_at rotation (pair_of rotation p)))) b)
-    by_test true e = last_of_two h x (place_there w p (target_at rotation (pair_of rotation p)) (on_list (true_lt _ _ (both_true member _ e))))
+        → IsSamePlace s p (cond t (max a (market_place s.market.proposers p (target_at rotation (pair_of rotation p)))) a) (cond t (max b (place_of w.proposers p (target_at (map (reviewer_pair s) rotation) (pair_of rotation p)))) b)
+    by_test true e =
+        let inside = true_lt _ _ (both_true member _ e) in
+        subst (λ r. IsSamePlace s p (max a (market_place s.market.proposers p (target_at rotation (pair_of rotation p)))) (max b (place_of w.proposers p r))) (sym (target_at-shown s rotation (pair_of rotation p) inside))
+        (last_of_two h x (place_there h p (target_at rotation (pair_of rotation p)) (on_list inside)))
     by_test false e = x
 
--- A complete chain of the market, and what its rotations need.
-module _ {w : Written} (h : IsMarriage w) {first : Places} {rotations : List (List (ℕ × ℕ))} {needs : List (List ℕ)} (chain : IsCompleteChain (market_of w) first rotations) (needed : AreNeeds w rotations needs) where
+-- A complete chain of the seats, and what its rotations need.
+module _ {w : Written} {s : Seating} (h : IsSeating w s) {first : Places} {rotations : List (List (ℕ × ℕ))} (needs : List (List ℕ)) (chain : IsCompleteChain s.market first rotations)
+    (needed : (k : ℕ) → k < length rotations → AreNeedsOf s.market rotations k (row needs k)) where
   -- shown closed sets are those of the chain
-  closed_of_shown : (set : List Bool) → IsClosedIn (shown_of (market_of w) first rotations needs) set → IsClosed (market_of w) rotations set
+  closed_of_shown : (set : List Bool) → IsClosedIn (shown_of s first rotations needs) set → IsClosed s.market rotations set
   closed_of_shown set c = record {
-    one_each = c.one_each ∙ length-map rotations turns_of;
+    one_each = c.one_each ∙ length-map rotations (seated_pairs s);
     closed = λ i j a b member need.
-        let there : Contains (numbers_of (row needs j)) (number_of i) = number_in (row needs j) i ((needed.of j b).all i a need) in
+        let there : Contains (numbers_of (row needs j)) (number_of i) = number_in (row needs j) i ((needed j b).all i a need) in
         let has = c.closed j (number_of i) member (subst (λ (x : List ℕ). Contains x (number_of i)) (sym (needs_shown needs j)) there) in
         member_of set i (number_of i) (omega arith) has;
   }
 
-  closed_as_shown : (set : List Bool) → IsClosed (market_of w) rotations set → IsClosedIn (shown_of (market_of w) first rotations needs) set
+  closed_as_shown : (set : List Bool) → IsClosed s.market rotations set → IsClosedIn (shown_of s first rotations needs) set
   closed_as_shown set c = record {
-    one_each = c.one_each ∙ sym (length-map rotations turns_of);
+    one_each = c.one_each ∙ sym (length-map rotations (seated_pairs s));
     closed = λ k n member there.
         let k_in : k < length rotations = omega (arith, member_below set k member, c.one_each) in
         let d = number_out (row needs k) n (subst (λ (x : List ℕ). Contains x n) (needs_shown needs k) there) in
         let i = slice_index (row needs k) d.at in
-        let has : HasNumber set (suc i) = c.closed i k ((needed.of k k_in).sound d.at d.on) k_in member ((needed.of k k_in).each d.at d.on) in
+        let has : HasNumber set (suc i) = c.closed i k ((needed k k_in).sound d.at d.on) k_in member ((needed k k_in).each d.at d.on) in
         subst (HasNumber set) (sym d.is) has;
   }
 
   -- a rotation that moves p moves it to a place of its list
   moved_on_list : (p n : ℕ) → n < length rotations → pair_of (rotation_at rotations n) p < length (rotation_at rotations n)
-      → market_place (market_of w).proposers p (target_at (rotation_at rotations n) (pair_of (rotation_at rotations n) p)) < length (row (market_of w).proposers p)
+      → market_place s.market.proposers p (target_at (rotation_at rotations n) (pair_of (rotation_at rotations n) p)) < length (row s.market.proposers p)
   moved_on_list p n g moved =
       let rotation = rotation_at rotations n in
       let i = pair_of rotation p in
       let is : proposer_at rotation i ≡ p = eqb-true _ _ (passes_at_first (λ (pair : ℕ × ℕ). pair.0 == p) rotation (0, 0) moved) in
-      subst (λ q. market_place (market_of w).proposers q (target_at rotation i) < length (row (market_of w).proposers q)) is ((chain.exposed n g).next i moved).on_list
+      subst (λ q. market_place s.market.proposers q (target_at rotation i) < length (row s.market.proposers q)) is ((chain.exposed n g).next i moved).on_list
 
-  brought : (set : List Bool) (p i n : ℕ) → n ≤ length rotations → i < length (row (market_of w).proposers p)
-      → IsSamePlace w p (worst_place (market_of w) rotations set p i n)
-      (least_liked w (shown_of (market_of w) first rotations needs) set p (place_of w.proposers p (market_entry (market_of w).proposers p i)) n)
+  brought : (set : List Bool) (p i n : ℕ) → n ≤ length rotations → i < length (row s.market.proposers p)
+      → IsSamePlace s p (worst_place s.market rotations set p i n)
+      (least_liked w (shown_of s first rotations needs) set p (written_place s p i) n)
   brought set p i zero g on = record { on = on; same = refl }
   brought set p i (suc n) g on =
       let deep = brought set p i n (omega arith) on in
       let step = one_more h deep (rotation_at rotations n) (is_member set n) (moved_on_list p n (omega arith)) in
-      let before = least_liked w (shown_of (market_of w) first rotations needs) set p (place_of w.proposers p (market_entry (market_of w).proposers p i)) n in
-      subst (λ (x : List (ℕ × ℕ)). IsSamePlace w p (worst_place (market_of w) rotations set p i (suc n))
-      (cond (is_member set n && nat_lt (pair_of x p) (length x)) (max before (place_of w.proposers p (target_at x (pair_of x p)))) before)) (sym (rotation_shown rotations n)) step
+      let before = least_liked w (shown_of s first rotations needs) set p (written_place s p i) n in
+      subst (λ (x : List (ℕ × ℕ)). IsSamePlace s p (worst_place s.market rotations set p i (suc n))
+      (cond (is_member set n && nat_lt (pair_of x p) (length x)) (max before (place_of w.proposers p (target_at x (pair_of x p)))) before)) (sym (rotation_shown s rotations n)) step
 
-  -- the matching that is shown of a set is that of the set in the market
-  matching_is : (set : List Bool) → matching_shown w (shown_of (market_of w) first rotations needs) set ≡ written_places w (matching_of (market_of w) first rotations set).proposers
+  -- the matching that is shown of a set is that of the set among the seats
+  matching_is : (set : List Bool) → matching_shown w (shown_of s first rotations needs) set ≡ written_of s (matching_of s.market first rotations set).proposers
   matching_is set = ext_get_or None _ _ (long ∙ sym long') (λ p here. at p (omega (arith, here, long)))
     where
       shown : Shown
-      shown = shown_of (market_of w) first rotations needs
+      shown = shown_of s first rotations needs
 
       f : ℕ → Option ℕ
-      f p = option_map (λ seat. least_liked w (shown_of (market_of w) first rotations needs) set p (place_of w.proposers p seat.reviewer) (length (map turns_of rotations))) (first_at (shown_of (market_of w) first rotations needs) p)
+      f p = option_map (λ seat. least_liked w (shown_of s first rotations needs) set p (place_of w.proposers p seat.reviewer) (length (map (seated_pairs s) rotations))) (first_at (shown_of s first rotations needs) p)
 
       g : ℕ → Option ℕ
-      g p = option_map (λ i. place_of w.proposers p (market_entry (market_of w).proposers p i)) (market_held (matching_of (market_of w) first rotations set).proposers p)
+      g p = option_map (written_place s p) (market_held (matching_of s.market first rotations set).proposers p)
 
-      long : length (matching_shown w (shown_of (market_of w) first rotations needs) set) ≡ length w.proposers
+      long : length (matching_shown w (shown_of s first rotations needs) set) ≡ length w.proposers
       long = length-map-range_with_len _ 0 (length w.proposers)
 
-      long' : length (written_places w (matching_of (market_of w) first rotations set).proposers) ≡ length w.proposers
-      long' = length-map-range_with_len _ 0 (length w.proposers)
+      long' : length (written_of s (matching_of s.market first rotations set).proposers) ≡ length w.proposers
+      long' = length-map-range_with_len _ 0 (length s.market.proposers) ∙ h.proposers
 
-      by_first : (p : ℕ) (o : Option ℕ) → ((i : ℕ) → o ≡ Some i → i < length (row (market_of w).proposers p))
-          → option_map (λ seat. least_liked w (shown_of (market_of w) first rotations needs) set p (place_of w.proposers p seat.reviewer) (length rotations)) (option_map (λ i. seat_of (market_entry (market_of w).proposers p i)) o)
-          ≡ option_map (λ i. place_of w.proposers p (market_entry (market_of w).proposers p i)) (option_map (λ i. worst_place (market_of w) rotations set p i (length rotations)) o)
+      -- the first seat of a proposer, by the place of its reviewer
+      first_place : (p i : ℕ) → i < length (row s.market.proposers p) → place_of w.proposers p (reviewer_of s (entry s.market.proposers p i)) ≡ written_place s p i
+      first_place p i on = place_of-list h p (reviewer_of s (entry s.market.proposers p i))
+
+      by_first : (p : ℕ) (o : Option ℕ) → ((i : ℕ) → o ≡ Some i → i < length (row s.market.proposers p))
+          → option_map (λ seat. least_liked w (shown_of s first rotations needs) set p (place_of w.proposers p seat.reviewer) (length rotations)) (option_map (λ i. seat_of s (entry s.market.proposers p i)) o)
+          ≡ option_map (written_place s p) (option_map (λ i. worst_place s.market rotations set p i (length rotations)) o)
       by_first p None on = refl
-      by_first p (Some i) on = ap Some (brought set p i (length rotations) (omega arith) (on i refl)).same
+      by_first p (Some i) on = ap (λ x. Some (least_liked w (shown_of s first rotations needs) set p x (length rotations))) (first_place p i (on i refl))
+          ∙ ap Some (brought set p i (length rotations) (omega arith) (on i refl)).same
 
-      at : (p : ℕ) → p < length w.proposers → get_or (matching_shown w (shown_of (market_of w) first rotations needs) set) p None ≡ get_or (written_places w (matching_of (market_of w) first rotations set).proposers) p None
+      at : (p : ℕ) → p < length w.proposers → get_or (matching_shown w (shown_of s first rotations needs) set) p None ≡ get_or (written_of s (matching_of s.market first rotations set).proposers) p None
       at p here =
-          let market_long : length (market_of w).proposers ≡ length w.proposers = length-map-range_with_len (mutual_row w.proposers w.reviewers) 0 (length w.proposers) in
-          let inside : p < length (market_of w).proposers = omega arith in
-          let count : length (map turns_of rotations) ≡ length rotations = length-map rotations turns_of in
-          let seat : first_at shown p ≡ first_seat (market_of w) first p = get_or-map-range_with_len (first_seat (market_of w) first) 0 (length (market_of w).proposers) p p None inside (omega arith) in
-          let place = held_map (market_of w).proposers (λ p. option_map (λ i. worst_place (market_of w) rotations set p i (length rotations)) (market_held first.proposers p)) p inside in
+          let inside : p < length s.market.proposers = omega (arith, here, h.proposers) in
+          let count : length (map (seated_pairs s) rotations) ≡ length rotations = length-map rotations (seated_pairs s) in
+          let seat : first_at shown p ≡ first_seat s first p = get_or-map-range_with_len (first_seat s first) 0 (length s.market.proposers) p p None inside (omega arith) in
+          let place = held_map s.market.proposers (λ p. option_map (λ i. worst_place s.market rotations set p i (length rotations)) (market_held first.proposers p)) p inside in
           get_or-map-range_with_len f 0 (length w.proposers) p p None here (omega arith)
           ∙ ap (λ n. option_map (λ seat. least_liked w shown set p (place_of w.proposers p seat.reviewer) n) (first_at shown p)) count
           ∙ ap (λ o. option_map (λ seat. least_liked w shown set p (place_of w.proposers p seat.reviewer) (length rotations)) o) seat
           ∙ by_first p (market_held first.proposers p) (λ i e. chain.from_best.stable.matching.proposers.on_list p i e)
-          ∙ ap (λ o. option_map (λ i. place_of w.proposers p (market_entry (market_of w).proposers p i)) o) (sym place)
-          ∙ sym (get_or-map-range_with_len g 0 (length w.proposers) p p None here (omega arith))
+          ∙ ap (λ o. option_map (written_place s p) o) (sym place)
+          ∙ sym (get_or-map-range_with_len g 0 (length s.market.proposers) p p None inside (omega arith))
 
--- A stable matching of the instance and its places in the market.
-
-none_some : {x : ℕ} → ◌≡◌ {A = Option ℕ} None (Some x) → ⊥
-none_some e = cc
-
-some_same : {x y : ℕ} → ◌≡◌ {A = Option ℕ} (Some x) (Some y) → x ≡ y
-some_same e = cc
-
-written_again : {w : Written} {places : List (Option ℕ)} (h : IsMarriage w) → (s : IsStable w places) {m : Places} → IsMarketStable (market_of w) m
-    → ((p : ℕ) → market_standing (market_of w).proposers m.proposers p ≡ proposer_stand w places p (held places p)) → written_places w m.proposers ≡ places
-written_again {w} {places} h s {m} t alike = ext_get_or None _ _ (length-map-range_with_len _ 0 (length w.proposers) ∙ sym s.matching.assigned.one_each) (λ p here. at p)
-  where
-    partners : (p : ℕ) (a : HasPlace w places p) → IsMutual w.proposers w.reviewers p (entry w.proposers p a.place)
-    partners p a = acceptable_mutual {w = w} (s.matching.acceptable p a.place a.held_is)
-
-    at : (p : ℕ) → held (written_places w m.proposers) p ≡ held places p
-    at p = elim (same_cases w m t p) [
-      | inl alone ↦ elim (cases_of w places p) [
-        | inl a ↦ alone.written_is ∙ sym a.held_is
-        | inr a ↦
-            let stands = alike p ∙ ap (proposer_stand w places p) a.held_is in
-            absurd (omega (arith, stands, alone.stands, mutual_on_row (partners p a)))
-      ]
-      | inr same ↦ elim (cases_of w places p) [
-        | inl a ↦
-            let stands = alike p ∙ ap (proposer_stand w places p) a.held_is in
-            absurd (omega (arith, stands, same.stands, same.on))
-        | inr a ↦
-            let x = entry w.proposers p a.place in
-            let stands : same.place ≡ market_place (market_of w).proposers p x = sym same.stands ∙ alike p ∙ ap (proposer_stand w places p) a.held_is in
-            let there : market_entry (market_of w).proposers p same.place ≡ x = ap (market_entry (market_of w).proposers p) stands ∙ get_or-place (row (market_of w).proposers p) x (mutual_on_row (partners p a)) in
-            let back : place_of w.proposers p x ≡ a.place = place_of-entry h.instance.proposer_entries p x a.place (s.matching.assigned.on_lists p a.place a.held_is) refl in
-            same.written_is ∙ ap Some (ap (place_of w.proposers p) there ∙ back) ∙ sym a.held_is
-      ]
-    ]
-
--- the written places tell the matching of the market
-places_told : {w : Written} (h : IsMarriage w) {m n : Places} → IsMarketStable (market_of w) m → IsMarketStable (market_of w) n → written_places w m.proposers ≡ written_places w n.proposers → m ≡ n
-places_told {w} h {m} {n} s t e = stable_equal (is_market h.instance) s t stands
-  where
-    stands : (p : ℕ) → market_standing (market_of w).proposers m.proposers p ≡ market_standing (market_of w).proposers n.proposers p
-    stands p =
-        let here : held (written_places w m.proposers) p ≡ held (written_places w n.proposers) p = ap (λ (x : List (Option ℕ)). held x p) e in
-        elim (same_cases w m s p) [
-          | inl a ↦ elim (same_cases w n t p) [
-            | inl b ↦ a.stands ∙ sym b.stands
-            | inr b ↦ absurd (none_some (sym a.written_is ∙ here ∙ b.written_is))
-          ]
-          | inr a ↦ elim (same_cases w n t p) [
-            | inl b ↦ absurd (none_some (sym b.written_is ∙ sym here ∙ a.written_is))
-            | inr b ↦
-                let same = some_same (sym a.written_is ∙ here ∙ b.written_is) in
-                let x : market_entry (market_of w).proposers p a.place ≡ market_entry (market_of w).proposers p b.place = sym a.there ∙ ap (entry w.proposers p) same ∙ b.there in
-                a.stands ∙ sym (market_at h p a.place a.on) ∙ ap (market_place (market_of w).proposers p) x ∙ market_at h p b.place b.on ∙ sym b.stands
-          ]
-        ]
-
-pub correspondence : {w : Written} {first : Places} {rotations : List (List (ℕ × ℕ))} {needs : List (List ℕ)} → IsMarriage w → IsCompleteChain (market_of w) first rotations → AreNeeds w rotations needs
-    → IsCorrespondence w (shown_of (market_of w) first rotations needs)
-correspondence {w} {first} {rotations} {needs} h chain needed = record {
-  stable = λ set c. subst (IsStable w) (sym (matching_is h chain needed set)) (stable_written h (law.stable set (closed_of_shown h chain needed set c)));
+pub correspondence : {w : Written} {s : Seating} {first : Places} {rotations : List (List (ℕ × ℕ))} (needs : List (List ℕ)) → IsSeating w s → IsCompleteChain s.market first rotations
+    → ((k : ℕ) → k < length rotations → AreNeedsOf s.market rotations k (row needs k)) → IsCorrespondence w (shown_of s first rotations needs)
+correspondence {w} {s} {first} {rotations} needs h chain needed = record {
+  stable = λ set c. subst (IsStable w) (sym (matching_is h needs chain needed set)) (h.forgotten _ (law.stable set (closed_of_shown h needs chain needed set c)));
   all = all;
   different = λ set other c d e.
-      let a = closed_of_shown h chain needed set c in
-      let b = closed_of_shown h chain needed other d in
+      let a = closed_of_shown h needs chain needed set c in
+      let b = closed_of_shown h needs chain needed other d in
       law.different set other a b
-      (places_told h (law.stable set a) (law.stable other b) (sym (matching_is h chain needed set) ∙ e ∙ matching_is h chain needed other));
+      (h.one _ _ (law.stable set a) (law.stable other b) (sym (matching_is h needs chain needed set) ∙ e ∙ matching_is h needs chain needed other));
 }
   where
-    law : Correspondence (market_of w) first rotations
-    law = sets_are_matchings (market_of w) first rotations (is_market h.instance) chain
+    law : Correspondence s.market first rotations
+    law = sets_are_matchings s.market first rotations h.market chain
 
-    all : (places : List (Option ℕ)) → IsStable w places → (set : List Bool) × IsClosedIn (shown_of (market_of w) first rotations needs) set × (matching_shown w (shown_of (market_of w) first rotations needs) set ≡ places)
-    all places s =
-        let t = tabled (is_market h.instance) (stable_stand h s) in
-        let x = law.all t.places t.stable in (
+    all : (places : List (Option ℕ)) → IsStable w places → (set : List Bool) × IsClosedIn (shown_of s first rotations needs) set × (matching_shown w (shown_of s first rotations needs) set ≡ places)
+    all places st =
+        let t = h.seated places st in
+        let x = law.all t.matching t.stable in (
           x.0,
-          closed_as_shown h chain needed x.0 x.1,
-          matching_is h chain needed x.0 ∙ ap (λ (m : Places). written_places w m.proposers) x.2 ∙ written_again h s t.stable t.alike,
+          closed_as_shown h needs chain needed x.0 x.1,
+          matching_is h needs chain needed x.0 ∙ ap (λ (m : Places). written_of s m.proposers) x.2 ∙ t.forgets,
         )

@@ -1,13 +1,12 @@
 -- The lines of the answer of `solve`.
-use Rattle.std.proofs.Common.{◌≡◌, ℕ, ◌-◌, ◌<◌, List, [], ◌∷◌, ◌++◌, Option, Some, None, length, refl, sym, ap, ◌∙◌, arith, subst, inl, inr}
+use Rattle.std.proofs.Common.{◌≡◌, ◌≢◌, ℕ, ◌-◌, ◌<◌, List, [], ◌∷◌, ◌++◌, Option, Some, None, length, refl, sym, ap, ◌∙◌, arith, subst, inl, inr}
 use Rattle.std.specs.List.{All}
 use Rattle.std.specs.Option.{option_map}
-use Rattle.std.proofs.lemmas.List.FromFn.{length-map-range_with_len}
 use Rattle.std.proofs.lemmas.List.Elements.{All-append, All-cons}
 use Rattle.sm_instance.specs.Written.{Written, entry}
-use Rattle.sm_instance.specs.Sound.{IsInstance, is_single}
+use Rattle.sm_instance.specs.Sound.{IsInstance}
 use Rattle.sm_instance.specs.declared.kinds.Kind.{Kind}
-use Rattle.sm_instance.specs.declared.kinds.Kind.TheVariants.{Marriage}
+use Rattle.sm_instance.specs.declared.kinds.Kind.TheVariants.{Marriage, Hospitals, Roommates}
 use Rattle.sm_instance.specs.declared.kinds.Side.TheVariants.{Proposers, Reviewers}
 use Rattle.sm_answer.specs.Lines.{line_or_none, lines_from}
 use Rattle.sm_answer.proofs.AnswerLemmas.{lines_alike, lines_all}
@@ -22,30 +21,32 @@ use Rattle.sm_market.specs.Stable.{IsStable as IsMarketStable}
 use Rattle.sm_report.specs.Heads.{HeadData}
 use Rattle.sm_report.specs.Lines.{LineData}
 use Rattle.sm_report.specs.Sound.{IsLineOf, NamesSide}
-use Rattle.sm_shown.specs.MarriageMarket.{market_of, written_places, mutual_row}
+use Rattle.sm_seats.specs.Seating.{Seating, reviewer_of, written_of}
+use Rattle.sm_seats.specs.Correspondence.{IsSeating}
+use Rattle.sm_seats.proofs.SeatingLaws.{proposers_best, reviewers_best}
 use Rattle.sm_shown.specs.Answers.{pair_line, solve_lines, IsBestOf, IsSolution}
-use Rattle.sm_shown.specs.GivenLines.{market_pair_line, IsMarketBestOf, solve_given}
-use Rattle.sm_shown.proofs.MarriageLemmas.{IsMarriage, same_cases, stable_written, proposers_best_written, reviewers_best_written}
+use Rattle.sm_shown.specs.GivenLines.{seated_pair_line, IsMarketBestOf, solve_given}
+use Rattle.sm_shown.proofs.SeatingLemmas.{seat_cases}
 
--- a proposer's pair in the market is its pair in the instance
-pub pair_alike : (w : Written) (m : Places) → IsMarketStable (market_of w) m → (p : ℕ) → market_pair_line (market_of w) m p ≡ pair_line w (written_places w m.proposers) p
-pair_alike w m s p = elim (same_cases w m s p) [
+-- the pair of a proposer's seat is its pair in the instance
+pub pair_alike : {w : Written} {s : Seating} → IsSeating w s → (m : Places) → IsMarketStable s.market m → (p : ℕ)
+    → seated_pair_line s m p ≡ pair_line w (written_of s m.proposers) p
+pair_alike {w} {s} h m st p = elim (seat_cases h st.matching p) [
   | inl alone ↦
-      ap (option_map (λ i. LineData.Pair p (market_entry (market_of w).proposers p i))) alone.held_is
+      ap (option_map (λ i. LineData.Pair p (reviewer_of s (market_entry s.market.proposers p i)))) alone.held_is
       ∙ sym (ap (option_map (λ i. LineData.Pair p (entry w.proposers p i))) alone.written_is)
-  | inr same ↦
-      ap (option_map (λ i. LineData.Pair p (market_entry (market_of w).proposers p i))) same.held_is
-      ∙ ap (λ r. Some (LineData.Pair p r)) (sym same.there)
-      ∙ sym (ap (option_map (λ i. LineData.Pair p (entry w.proposers p i))) same.written_is)
+  | inr seat ↦
+      ap (option_map (λ i. LineData.Pair p (reviewer_of s (market_entry s.market.proposers p i)))) seat.held_is
+      ∙ ap (λ r. Some (LineData.Pair p r)) (sym seat.there)
+      ∙ sym (ap (option_map (λ i. LineData.Pair p (entry w.proposers p i))) seat.written_is)
 ]
 
 -- the lines that are given are those of the answer
-given_is : (w : Written) (m : Places) (side : Side) → IsMarketStable (market_of w) m → solve_given side (market_of w) m ≡ solve_lines side w (written_places w m.proposers)
-given_is w m side s =
-    let long = length-map-range_with_len (mutual_row w.proposers w.reviewers) 0 (length w.proposers) in
-    let count : length (market_of w).proposers - 0 ≡ length w.proposers = omega arith in
+given_is : {w : Written} {s : Seating} → IsSeating w s → (m : Places) (side : Side) → IsMarketStable s.market m → solve_given side s m ≡ solve_lines side w (written_of s m.proposers)
+given_is {w} {s} h m side st =
+    let count : length s.market.proposers - 0 ≡ length w.proposers = omega (arith, h.proposers) in
     ap (λ t. LineData.Answer (HeadData.Solve (Some side)) ∷ (t ++ (LineData.End ∷ [])))
-    (ap (lines_from (market_pair_line (market_of w) m) 0) count ∙ lines_alike (market_pair_line (market_of w) m) (pair_line w (written_places w m.proposers)) (pair_alike w m s) 0 (length w.proposers))
+    (ap (lines_from (seated_pair_line s m) 0) count ∙ lines_alike (seated_pair_line s m) (pair_line w (written_of s m.proposers)) (pair_alike h m st) 0 (length w.proposers))
 
 -- a pair of a matching is a line of the instance
 pair_sound : (w : Written) (places : List (Option ℕ)) → IsMatching w places → (p : ℕ) → All (IsLineOf (Two w)) (line_or_none (pair_line w places p))
@@ -62,45 +63,42 @@ pair_sound w places m p = by_place (held places p) refl
 pub end_sound : (input : Input) → IsLineOf input LineData.End
 end_sound input = record { printable = tt; seats = λ k d l. absurd (omega arith); numbers = tt; head = tt }
 
+-- `solve` names a side where the instance has two
+names_side : (kind : Kind) (side : Side) → kind ≢ Roommates → NamesSide kind (Some side)
+names_side Marriage side two = refl
+names_side Hospitals side two = refl
+names_side Roommates side two = absurd (two refl)
+
 -- the answer of `solve` has lines of the instance alone
-solve_sound : (w : Written) (places : List (Option ℕ)) (side : Side) → w.kind ≡ Marriage → IsMatching w places → All (IsLineOf (Two w)) (solve_lines side w places)
-solve_sound w places side kind m =
+solve_sound : (w : Written) (places : List (Option ℕ)) (side : Side) → IsInstance w → IsMatching w places → All (IsLineOf (Two w)) (solve_lines side w places)
+solve_sound w places side h m =
     let P = IsLineOf (Two w) in
-    let named : NamesSide w.kind (Some side) = subst (λ (k : Kind). NamesSide k (Some side)) (sym kind) refl in
     All-cons P (LineData.Answer (HeadData.Solve (Some side))) (lines_from (pair_line w places) 0 (length w.proposers) ++ (LineData.End ∷ []))
-    (record { printable = tt; seats = λ k d l. absurd (omega arith); numbers = tt; head = named })
+    (record { printable = tt; seats = λ k d l. absurd (omega arith); numbers = tt; head = names_side w.kind side h.two_sided })
     (All-append P (lines_from (pair_line w places) 0 (length w.proposers)) (LineData.End ∷ [])
     (lines_all P (pair_line w places) (pair_sound w places m) 0 (length w.proposers))
     (All-cons P LineData.End [] (end_sound (Two w)) (λ k d l. absurd (omega arith))))
 
--- every agent of a marriage has one place
-pub marriage_of : {w : Written} → IsInstance w → w.kind ≡ Marriage → IsMarriage w
-marriage_of {w} h kind = record { instance = h; single = λ r here. (h.reviewers.sound r here).one (ap is_single kind) }
-
-best_written : (w : Written) (m : Places) (side : Side) → IsMarriage w → IsMarketBestOf side (market_of w) m → IsBestOf side w (written_places w m.proposers)
-best_written w m Proposers h best = proposers_best_written h best
-best_written w m Reviewers h best = reviewers_best_written h best
+best_written : {w : Written} {s : Seating} → IsSeating w s → (m : Places) (side : Side) → IsMarketBestOf side s.market m → IsBestOf side w (written_of s m.proposers)
+best_written h m Proposers best = proposers_best h best
+best_written h m Reviewers best = reviewers_best h best
 
 best_stable : (l : Lists) (m : Places) (side : Side) → IsMarketBestOf side l m → IsMarketStable l m
 best_stable l m Proposers best = best.stable
 best_stable l m Reviewers best = best.stable
 
--- the lines that are given for the best matching of a market are a right answer
-pub solve_right : (w : Written) (l : Lists) (m : Places) (side : Side) → IsMarriage w → l ≡ market_of w → IsMarketBestOf side l m → IsSolution side w (solve_given side l m)
-solve_right w l m side h is best =
-    let best' : IsMarketBestOf side (market_of w) m = subst (λ (k : Lists). IsMarketBestOf side k m) is best in
-    record {
-      places = written_places w m.proposers;
-      best = best_written w m side h best';
-      shows = ap (λ (k : Lists). solve_given side k m) is ∙ given_is w m side (best_stable (market_of w) m side best');
-    }
+-- the lines that are given for the best matching of the seats are a right answer
+pub solve_right : {w : Written} {s : Seating} → IsSeating w s → (m : Places) (side : Side) → IsMarketBestOf side s.market m → IsSolution side w (solve_given side s m)
+solve_right {w} {s} h m side best = record {
+  places = written_of s m.proposers;
+  best = best_written h m side best;
+  shows = given_is h m side (best_stable s.market m side best);
+}
 
 -- and lines of the instance
-pub solve_given_sound : (input : Input) (w : Written) (l : Lists) (m : Places) (side : Side) → input ≡ Two w → w.kind ≡ Marriage → IsMarriage w → l ≡ market_of w → IsMarketBestOf side l m
-    → All (IsLineOf input) (solve_given side l m)
-solve_given_sound input w l m side two kind h is best =
-    let best' : IsMarketBestOf side (market_of w) m = subst (λ (k : Lists). IsMarketBestOf side k m) is best in
-    let stable = best_stable (market_of w) m side best' in
-    let lines : solve_given side l m ≡ solve_lines side w (written_places w m.proposers) = ap (λ (k : Lists). solve_given side k m) is ∙ given_is w m side stable in
-    subst (λ (i : Input). All (IsLineOf i) (solve_given side l m)) (sym two)
-    (subst (All (IsLineOf (Two w))) (sym lines) (solve_sound w (written_places w m.proposers) side kind (stable_written h stable).matching))
+pub solve_given_sound : (input : Input) {w : Written} {s : Seating} → IsInstance w → IsSeating w s → (m : Places) (side : Side) → input ≡ Two w → IsMarketBestOf side s.market m
+    → All (IsLineOf input) (solve_given side s m)
+solve_given_sound input {w} {s} i h m side two best =
+    let stable = best_stable s.market m side best in
+    subst (λ (i : Input). All (IsLineOf i) (solve_given side s m)) (sym two)
+    (subst (All (IsLineOf (Two w))) (sym (given_is h m side stable)) (solve_sound w (written_of s m.proposers) side i (h.forgotten m stable).matching))

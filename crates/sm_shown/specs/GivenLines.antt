@@ -11,12 +11,13 @@ use Rattle.sm_market.specs.Stable.{IsProposersBest, IsReviewersBest}
 use Rattle.sm_report.specs.Heads.{HeadData}
 use Rattle.sm_report.specs.Lines.{LineData}
 use Rattle.sm_theory.specs.Chains.{rotation_at}
+use Rattle.sm_seats.specs.Seating.{Seating, reviewer_of}
 use Rattle.sm_shown.specs.Reduction.{seat_line, proposer_line, reviewer_line}
-use Rattle.sm_shown.specs.RotationLines.{turns_of, numbers_of}
+use Rattle.sm_shown.specs.RotationLines.{seated_pairs, numbers_of}
 
--- the pair of a proposer that is matched in a market
-abbrev pub market_pair_line : Lists → Places → ℕ → Option LineData
-market_pair_line l m p = option_map (λ i. LineData.Pair p (entry l.proposers p i)) (held m.proposers p)
+-- the pair of a proposer that has a seat
+abbrev pub seated_pair_line : Seating → Places → ℕ → Option LineData
+seated_pair_line s m p = option_map (λ i. LineData.Pair p (reviewer_of s (entry s.market.proposers p i))) (held m.proposers p)
 
 -- the best stable matching of a side of a market
 abbrev pub IsMarketBestOf : Side → Lists → Places → Type 0
@@ -24,19 +25,19 @@ IsMarketBestOf Proposers l m = IsProposersBest l m
 IsMarketBestOf Reviewers l m = IsReviewersBest l m
 
 -- the two lines of a rotation
-abbrev pub two_lines : List (List (ℕ × ℕ)) → List (List ℕ) → ℕ → List LineData
-two_lines rotations needs k = LineData.Rotation (k + 1) (turns_of (rotation_at rotations k)) ∷ LineData.Needs (k + 1) (numbers_of (row needs k)) ∷ []
+abbrev pub two_lines : Seating → List (List (ℕ × ℕ)) → List (List ℕ) → ℕ → List LineData
+two_lines s rotations needs k = LineData.Rotation (k + 1) (seated_pairs s (rotation_at rotations k)) ∷ LineData.Needs (k + 1) (numbers_of (row needs k)) ∷ []
 
 -- those of the rotations from one on; without the first of them where that is given already
-abbrev pub lines_of_rotations : List (List (ℕ × ℕ)) → List (List ℕ) → ℕ → List LineData
-lines_of_rotations rotations needs k = flat_map (two_lines rotations needs) (range_with_len k (length rotations - k))
+abbrev pub lines_of_rotations : Seating → List (List (ℕ × ℕ)) → List (List ℕ) → ℕ → List LineData
+lines_of_rotations s rotations needs k = flat_map (two_lines s rotations needs) (range_with_len k (length rotations - k))
 
 abbrev pub without_first : Bool → List LineData → List LineData
 without_first true lines = drop 1 lines
 without_first false lines = lines
 
-abbrev pub lines_left : Bool → List (List (ℕ × ℕ)) → List (List ℕ) → ℕ → List LineData
-lines_left halfway rotations needs k = without_first halfway (lines_of_rotations rotations needs k)
+abbrev pub lines_left : Bool → Seating → List (List (ℕ × ℕ)) → List (List ℕ) → ℕ → List LineData
+lines_left halfway s rotations needs k = without_first halfway (lines_of_rotations s rotations needs k)
 
 -- at most so many are left of n rotations
 abbrev pub most_left : Bool → ℕ → ℕ
@@ -44,27 +45,29 @@ most_left false n = n + n
 most_left true n = n + n - 1
 
 -- the answers of `solve`, `reduced` and `rotations`
-abbrev pub solve_given : Side → Lists → Places → List LineData
-solve_given side l m =
+abbrev pub solve_given : Side → Seating → Places → List LineData
+solve_given side s m =
     (LineData.Answer (HeadData.Solve (Some side)) ∷ [])
-    ++ (lines_from (market_pair_line l m) 0 (length l.proposers - 0)
+    ++ (lines_from (seated_pair_line s m) 0 (length s.market.proposers - 0)
     ++ (LineData.End ∷ []))
 
-abbrev pub seats_given : Lists → (first last : Places) → List LineData
-seats_given l first last = lines_from (seat_line Proposers l first) 0 (length l.proposers - 0) ++ lines_from (seat_line Reviewers l last) 0 (length l.proposers - 0)
+abbrev pub seats_given : Seating → (first last : Places) → List LineData
+seats_given s first last =
+    lines_from (seat_line Proposers s first) 0 (length s.market.proposers - 0)
+    ++ lines_from (seat_line Reviewers s last) 0 (length s.market.proposers - 0)
 
-abbrev pub rows_given : Lists → (rows : Lists) → List LineData
-rows_given l rows =
-    lines_from (proposer_line rows.proposers) 0 (length rows.proposers - 0)
-    ++ (lines_from (reviewer_line l.reviewers rows.reviewers) 0 (length l.reviewers - 0)
+abbrev pub rows_given : Seating → (rows : Lists) → List LineData
+rows_given s rows =
+    lines_from (proposer_line s rows.proposers) 0 (length rows.proposers - 0)
+    ++ (lines_from (reviewer_line s rows.reviewers) 0 (length rows.reviewers - 0)
     ++ (LineData.End ∷ []))
 
-abbrev pub reduced_given : Lists → (first last : Places) → (rows : Lists) → List LineData
-reduced_given l first last rows = (LineData.Answer HeadData.Reduced ∷ []) ++ (seats_given l first last ++ rows_given l rows)
+abbrev pub reduced_given : Seating → (first last : Places) → (rows : Lists) → List LineData
+reduced_given s first last rows = (LineData.Answer HeadData.Reduced ∷ []) ++ (seats_given s first last ++ rows_given s rows)
 
-abbrev pub rotations_given : Lists → Places → List (List (ℕ × ℕ)) → List (List ℕ) → List LineData
-rotations_given l first rotations needs =
+abbrev pub rotations_given : Seating → Places → List (List (ℕ × ℕ)) → List (List ℕ) → List LineData
+rotations_given s first rotations needs =
     (LineData.Answer HeadData.Rotations ∷ [])
-    ++ (lines_from (seat_line Proposers l first) 0 (length l.proposers - 0)
-    ++ (lines_left false rotations needs 0
+    ++ (lines_from (seat_line Proposers s first) 0 (length s.market.proposers - 0)
+    ++ (lines_left false s rotations needs 0
     ++ (LineData.End ∷ [])))

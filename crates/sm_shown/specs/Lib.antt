@@ -1,7 +1,7 @@
-pub mod MarriageMarket
 pub mod Answers
 pub mod Reduction
 pub mod RotationLines
 pub mod RotationAnswer
 pub mod GivenLines
 pub mod Needs
+pub mod Found

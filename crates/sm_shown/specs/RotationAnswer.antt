@@ -11,8 +11,9 @@ use Rattle.sm_report.specs.Lines.{LineData}
 use Rattle.sm_theory.specs.Rotations.{target_at, pair_of}
 use Rattle.sm_theory.specs.Chains.{IsPrintedChain, AreNeedsOf}
 use Rattle.sm_theory.specs.ClosedSets.{is_member, IsMember}
-use Rattle.sm_shown.specs.MarriageMarket.{market_of}
-use Rattle.sm_shown.specs.RotationLines.{Shown, first_at, turns_at, needs_at, shown_of, shown_lines}
+use Rattle.sm_seats.specs.SeatMarket.{seat_market}
+use Rattle.sm_seats.specs.Seating.{seating_of}
+use Rattle.sm_shown.specs.RotationLines.{Shown, first_at, pairs_at, needs_at, shown_of, shown_lines}
 
 -- A set of shown rotations has one item for each of them; the set has the rotation of this number, counted from 1.
 abbrev pub HasNumber : List Bool → ℕ → Type 0
@@ -25,15 +26,15 @@ pub record IsClosedIn (shown : Shown) (set : List Bool) : Type 0 where
   pub one_each : length set ≡ length shown.rotations
   pub closed : (k n : ℕ) → IsMember set k → Contains (needs_at shown k) n → HasNumber set n
 
--- the proposers of a shown rotation, each with the reviewer that it leaves; each moves to the reviewer of the next pair
+-- the proposers of a shown rotation, each with the reviewer whose seat it leaves; each moves to that of the next pair
 abbrev pub pairs_of : List (ℕ × Seat) → List (ℕ × ℕ)
-pairs_of turns = map (λ turn. (turn.0, turn.1.reviewer)) turns
+pairs_of rotation = map (λ pair. (pair.0, pair.1.reviewer)) rotation
 
 -- the last on p's written list of the place i and the places to which members of the set among the first n rotations move p
 abbrev pub least_liked : Written → Shown → List Bool → (p i n : ℕ) → ℕ
 least_liked w shown set p i zero = i
 least_liked w shown set p i (suc n) =
-    let rotation = pairs_of (turns_at shown n) in
+    let rotation = pairs_of (pairs_at shown n) in
     let pair = pair_of rotation p in
     let before = least_liked w shown set p i n in
     if is_member set n && nat_lt pair (length rotation) then max before (place_of w.proposers p (target_at rotation pair)) else before
@@ -53,10 +54,10 @@ pub record IsCorrespondence (w : Written) (shown : Shown) : Type 0 where
   pub different : (set other : List Bool) → IsClosedIn shown set → IsClosedIn shown other
       → matching_shown w shown set ≡ matching_shown w shown other → set ≡ other
 
--- the predecessors of each rotation of a market's chain
+-- the predecessors of each rotation of a chain of the seats
 pub record AreNeeds (w : Written) (rotations : List (List (ℕ × ℕ))) (needs : List (List ℕ)) : Type 0 where
   pub one_each : length needs ≡ length rotations
-  pub of : (k : ℕ) → k < length rotations → AreNeedsOf (market_of w) rotations k (row needs k)
+  pub of : (k : ℕ) → k < length rotations → AreNeedsOf (seat_market w) rotations k (row needs k)
 
 -- The lines are the seats in the proposers' best matching, the printed chain of rotations from it on, and what each of
 -- them needs; and the stable matchings are those of the closed sets that are shown.
@@ -64,7 +65,7 @@ pub record IsRotationAnswer (w : Written) (answer : List LineData) : Type 0 wher
   pub first : Places
   pub rotations : List (List (ℕ × ℕ))
   pub needs : List (List ℕ)
-  pub printed : IsPrintedChain (market_of w) first rotations
+  pub printed : IsPrintedChain (seat_market w) first rotations
   pub needed : AreNeeds w rotations needs
-  pub shows : answer ≡ shown_lines (shown_of (market_of w) first rotations needs)
-  pub corresponds : IsCorrespondence w (shown_of (market_of w) first rotations needs)
+  pub shows : answer ≡ shown_lines (shown_of (seating_of w) first rotations needs)
+  pub corresponds : IsCorrespondence w (shown_of (seating_of w) first rotations needs)

@@ -2,12 +2,13 @@
 use Rattle.std.specs.Prelude.{ℕ, ◌+◌, List, [], ◌∷◌, ◌++◌, length, map, Option, None, slice_index_or}
 use Rattle.std.specs.List.{flat_map, range_with_len}
 use Rattle.std.specs.Option.{option_map}
-use Rattle.sm_market.specs.Lists.{Lists, entry, agents}
+use Rattle.sm_market.specs.Lists.{entry, agents}
 use Rattle.sm_market.specs.Matching.{Places, held}
 use Rattle.sm_report.specs.declared.lines.Seat.{Seat}
 use Rattle.sm_report.specs.Heads.{HeadData}
 use Rattle.sm_report.specs.Lines.{LineData}
 use Rattle.sm_answer.specs.Lines.{lines_from}
+use Rattle.sm_seats.specs.Seating.{Seating}
 use Rattle.sm_shown.specs.Reduction.{seat_of}
 
 -- What is shown: for each proposer its first seat, if it has one; for each rotation its pairs in turn, a proposer and the
@@ -20,8 +21,8 @@ pub record Shown : Type 0 where
 abbrev pub first_at : Shown → ℕ → Option Seat
 first_at shown p = slice_index_or shown.firsts p None
 
-abbrev pub turns_at : Shown → ℕ → List (ℕ × Seat)
-turns_at shown k = slice_index_or shown.rotations k []
+abbrev pub pairs_at : Shown → ℕ → List (ℕ × Seat)
+pairs_at shown k = slice_index_or shown.rotations k []
 
 abbrev pub needs_at : Shown → ℕ → List ℕ
 needs_at shown k = slice_index_or shown.needs k []
@@ -31,7 +32,7 @@ abbrev pub first_line : Shown → ℕ → Option LineData
 first_line shown p = option_map (λ seat. LineData.First p seat) (first_at shown p)
 
 abbrev pub rotation_lines : Shown → ℕ → List LineData
-rotation_lines shown k = LineData.Rotation (k + 1) (turns_at shown k) ∷ LineData.Needs (k + 1) (needs_at shown k) ∷ []
+rotation_lines shown k = LineData.Rotation (k + 1) (pairs_at shown k) ∷ LineData.Needs (k + 1) (needs_at shown k) ∷ []
 
 abbrev pub shown_lines : Shown → List LineData
 shown_lines shown =
@@ -40,16 +41,16 @@ shown_lines shown =
     ++ (flat_map (rotation_lines shown) (range_with_len 0 (length shown.rotations))
     ++ LineData.End ∷ []))
 
--- what is shown of a market's first matching, of a chain, and of what each of its rotations needs; here rotations are
--- numbered from 0
-abbrev pub first_seat : Lists → Places → ℕ → Option Seat
-first_seat l first p = option_map (λ i. seat_of (entry l.proposers p i)) (held first.proposers p)
+-- what is shown of the first matching of seats, of a chain, and of what each of its rotations needs; here rotations and
+-- seats are numbered from 0
+abbrev pub first_seat : Seating → Places → ℕ → Option Seat
+first_seat s first p = option_map (λ i. seat_of s (entry s.market.proposers p i)) (held first.proposers p)
 
-abbrev pub turn_of : (ℕ × ℕ) → (ℕ × Seat)
-turn_of pair = (pair.0, seat_of pair.1)
+abbrev pub seated_pair : Seating → (ℕ × ℕ) → (ℕ × Seat)
+seated_pair s pair = (pair.0, seat_of s pair.1)
 
-abbrev pub turns_of : List (ℕ × ℕ) → List (ℕ × Seat)
-turns_of rotation = map turn_of rotation
+abbrev pub seated_pairs : Seating → List (ℕ × ℕ) → List (ℕ × Seat)
+seated_pairs s rotation = map (seated_pair s) rotation
 
 abbrev pub number_of : ℕ → ℕ
 number_of k = k + 1
@@ -57,9 +58,9 @@ number_of k = k + 1
 abbrev pub numbers_of : List ℕ → List ℕ
 numbers_of needed = map number_of needed
 
-abbrev pub shown_of : Lists → Places → List (List (ℕ × ℕ)) → List (List ℕ) → Shown
-shown_of l first rotations needs = record {
-  firsts = map (first_seat l first) (agents l.proposers);
-  rotations = map turns_of rotations;
+abbrev pub shown_of : Seating → Places → List (List (ℕ × ℕ)) → List (List ℕ) → Shown
+shown_of s first rotations needs = record {
+  firsts = map (first_seat s first) (agents s.market.proposers);
+  rotations = map (seated_pairs s) rotations;
   needs = map numbers_of needs;
 }

@@ -2,13 +2,12 @@
 //!
 //! For each command a function finds what its answer is read from, and another one lends that as lines
 //! ([`sm_answer::Lines`]): [`find_solution`] and [`solution_lines`], [`find_reduction`] and [`reduction_lines`],
-//! [`find_rotations`] and [`rotation_answer_lines`]. All but the first two stand on a [`Basis`]. The instance has to be a
-//! marriage.
+//! [`find_rotations`] and [`rotation_answer_lines`]. All but the first two stand on a [`Basis`]. Marriages and hospitals
+//! are alike here: both are known by their seats ([`sm_seats::Seats`]).
 #![tactic(auto)]
 
 mod basis;
 mod list_lines;
-mod market;
 mod pair_lines;
 mod reduction;
 mod rotation_answer;

@@ -9,57 +9,45 @@ ghost use Rattle.sm_market.specs.Pairing.{IsPairingOf};
 ghost use Rattle.sm_market.specs.Reduced.{reduced_lists_of};
 ghost use Rattle.sm_market.specs.Stable.{IsProposersBest, IsReviewersBest};
 ghost use Rattle.sm_market.specs.Vectors.{lists_of};
-ghost use Rattle.sm_instance.specs.declared.kinds.Kind.TheVariants.{Marriage};
 ghost use Rattle.sm_report.specs.Lines.{LineData};
 ghost use Rattle.sm_shown.specs.GivenLines.{seats_given, rows_given};
-ghost use Rattle.sm_shown.specs.MarriageMarket.{market_of};
+ghost use Rattle.sm_seats.specs.Seating.{seating_of};
+ghost use Rattle.sm_seats.specs.Correspondence.{IsSeating};
 ghost use Rattle.sm_shown.specs.Reduction.{IsReduction};
+ghost use Rattle.sm_shown.specs.Found.{IsReductionOf};
 
 use crate::list_lines::{ProposerLists, ReviewerLists};
-use crate::market::mutual_market;
 use crate::seat_lines::SeatLines;
 use sm_accept::{Reduced, proposer_best, reduced_between, reviewer_best};
 use sm_answer::{Answer, Each, Lines, One, Printed, Then};
 use sm_instance::{Input, Instance, Side};
-use sm_market::{Market, Pairing};
+use sm_market::Pairing;
 use sm_report::{Head, Line};
+use sm_seats::Seats;
 use std::alloc::{AllocError, Global};
 
-/// The first and the last stable matching of a market, and its reduced lists.
+/// The first and the last stable matching of seats, and the reduced lists.
 #[derive(Drop)]
 pub struct Reduction {
-    pub market: Market,
     pub first: Pairing,
     pub last: Pairing,
     pub lists: Reduced,
-    ghost first_made: { IsPairingOf market first },
-    ghost last_made: { IsPairingOf market last },
-    ghost proposers_best: { IsProposersBest market first.places },
-    ghost reviewers_best: { IsReviewersBest market last.places },
-    ghost reduced: { lists_of lists.proposers.items lists.reviewers.items
-        ≡ reduced_lists_of market first.places last.places },
 }
 
-/// Both best stable matchings of a marriage, and its reduced lists (Gusfield and Irving 1989, section 1.2.4). Takes time and
-/// memory linear in the entries.
+/// Both best stable matchings, and the reduced lists of the seats (Gusfield and Irving 1989, section 1.2.4). Takes time and
+/// memory linear in the entries of the seats' market.
 ///
 /// # Errors
 ///
 /// `AllocError` where memory ran out, and only then.
-pub fn find_reduction(alloc: Global, instance: &Instance) -> Result<Reduction, AllocError>
-    ensures instance { IsInstance instance.now }
-    ensures market { IfOk result (λ reduction. reduction.market ≡ market_of instance.now) }
+pub fn find_reduction(alloc: Global, seats: &Seats) -> Result<Reduction, AllocError>
+    ensures { IfOk result (λ reduction. IsReductionOf seats.now.market reduction) }
 {
-    let market = mutual_market(alloc, instance)?;
-    let first = proposer_best(alloc, &market)?;
-    let last = reviewer_best(alloc, &market)?;
-    let lists = reduced_between(alloc, &market, &first, &last)?;
-    Ok(Reduction {
-        market,
-        first,
-        last,
-        lists,
-    })
+    let market = seats.market();
+    let first = proposer_best(alloc, market)?;
+    let last = reviewer_best(alloc, market)?;
+    let lists = reduced_between(alloc, market, &first, &last)?;
+    Ok(Reduction { first, last, lists })
 }
 
 /// The lines of the seats of a reduction.
@@ -75,11 +63,13 @@ pub type ReductionLines<'a> = Printed<'a, Then<One, Then<BothSeats<'a>, BothList
 pub fn reduction_lines<'a>(
     input: &'a Input,
     instance: &Instance,
+    seats: &'a Seats,
     reduction: &'a Reduction,
 ) -> ReductionLines<'a>
     requires input { input.now ≡ Two instance.now }
-    requires marriage { instance.now.kind ≡ Marriage }
-    requires market { reduction.now.market ≡ market_of instance.now }
+    requires seats { seats.now ≡ seating_of instance.now }
+    requires seating { IsSeating instance.now seats.now }
+    requires reduction { IsReductionOf seats.now.market reduction.now }
     ensures right { (lines : List (List ℕ)) → ⟦<ReductionLines<'a> as Lines>⟧.gives result lines
         → IsShown input.now (IsReduction instance.now) lines }
     ensures some { HasRest (⟦<ReductionLines<'a> as Lines>⟧.gives result) }
@@ -90,24 +80,26 @@ pub fn reduction_lines<'a>(
         answer: Then {
             first: One(Some(Line::Answer(Head::Reduced))),
             second: Then {
-                first: both_seats(reduction),
-                second: both_lists(instance, reduction),
+                first: both_seats(seats, reduction),
+                second: both_lists(seats, reduction),
             },
         },
     }
 }
 
 // The first seats, and the last seats.
-fn both_seats<'a>(reduction: &'a Reduction) -> BothSeats<'a>
+fn both_seats<'a>(seats: &'a Seats, reduction: &'a Reduction) -> BothSeats<'a>
+    requires one_each { length seats.now.market.reviewers ≡ length seats.now.seats }
+    requires reduction { IsReductionOf seats.now.market reduction.now }
     ensures all { (rest : List LineData) → ⟦<BothSeats<'a> as Answer>⟧.gives result rest
-        → rest ≡ seats_given reduction.now.market reduction.now.first.places reduction.now.last.places }
+        → rest ≡ seats_given seats.now reduction.now.first.places reduction.now.last.places }
     ensures some { HasRest (⟦<BothSeats<'a> as Answer>⟧.gives result) }
 {
     Then {
         first: Each {
             items: SeatLines {
                 side: Side::Proposers,
-                market: &reduction.market,
+                seats,
                 pairing: &reduction.first,
             },
             next: 0,
@@ -115,7 +107,7 @@ fn both_seats<'a>(reduction: &'a Reduction) -> BothSeats<'a>
         second: Each {
             items: SeatLines {
                 side: Side::Reviewers,
-                market: &reduction.market,
+                seats,
                 pairing: &reduction.last,
             },
             next: 0,
@@ -124,17 +116,19 @@ fn both_seats<'a>(reduction: &'a Reduction) -> BothSeats<'a>
 }
 
 // The reduced lists of both sides, and the end.
-fn both_lists<'a>(instance: &Instance, reduction: &'a Reduction) -> BothLists<'a>
-    requires market { reduction.now.market ≡ market_of instance.now }
+fn both_lists<'a>(seats: &'a Seats, reduction: &'a Reduction) -> BothLists<'a>
+    requires one_each { length seats.now.market.reviewers ≡ length seats.now.seats }
+    requires reduction { IsReductionOf seats.now.market reduction.now }
     ensures all { (rest : List LineData) → ⟦<BothLists<'a> as Answer>⟧.gives result rest
-        → rest ≡ rows_given reduction.now.market
+        → rest ≡ rows_given seats.now
         (lists_of reduction.now.lists.proposers.items reduction.now.lists.reviewers.items) }
     ensures some { HasRest (⟦<BothLists<'a> as Answer>⟧.gives result) }
 {
-    let _count = instance.proposer_count();
+    let _count = seats.market().proposers();
     Then {
         first: Each {
             items: ProposerLists {
+                seats,
                 rows: &reduction.lists.proposers,
             },
             next: 0,
@@ -142,7 +136,7 @@ fn both_lists<'a>(instance: &Instance, reduction: &'a Reduction) -> BothLists<'a
         second: Then {
             first: Each {
                 items: ReviewerLists {
-                    market: &reduction.market,
+                    seats,
                     rows: &reduction.lists.reviewers,
                 },
                 next: 0,

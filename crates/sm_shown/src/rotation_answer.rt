@@ -8,8 +8,8 @@ ghost use Rattle.sm_instance.specs.declared.inputs.Input.TheVariants.{Two};
 ghost use Rattle.sm_market.specs.Lists.{row};
 ghost use Rattle.sm_market.specs.Vectors.{rows_of};
 ghost use Rattle.sm_poset.specs.Posets.{IsPoset};
-ghost use Rattle.sm_instance.specs.declared.kinds.Kind.TheVariants.{Marriage};
-ghost use Rattle.sm_shown.specs.MarriageMarket.{market_of};
+ghost use Rattle.sm_seats.specs.Seating.{seating_of};
+ghost use Rattle.sm_seats.specs.Correspondence.{IsSeating};
 ghost use Rattle.sm_shown.specs.RotationAnswer.{IsRotationAnswer};
 ghost use Rattle.sm_shown.specs.Needs.{AreNeedsIn};
 
@@ -20,6 +20,7 @@ use sm_answer::{Each, Lines, One, Printed, Then};
 use sm_instance::{Input, Instance, Side};
 use sm_poset::Poset;
 use sm_report::{Head, Line};
+use sm_seats::Seats;
 use std::alloc::{AllocError, Global};
 
 /// The poset of an instance, and what each of its rotations needs.
@@ -30,18 +31,17 @@ pub struct RotationAnswer {
     ghost poset: { IsPoset basis.poset },
 }
 
-/// The rotations of a marriage, and what each of them needs (Gusfield and Irving 1989, section 2.5). Takes the time and the
+/// The rotations of the seats, and what each of them needs (Gusfield and Irving 1989, section 2.5). Takes the time and the
 /// memory of [`Basis::of`].
 ///
 /// # Errors
 ///
 /// `AllocError` where memory ran out, and only then.
-pub fn find_rotations(alloc: Global, instance: &Instance) -> Result<RotationAnswer, AllocError>
-    ensures instance { IsInstance instance.now }
-    ensures market { IfOk result (λ answer. answer.basis.poset.lists ≡ market_of instance.now) }
+pub fn find_rotations(alloc: Global, seats: &Seats) -> Result<RotationAnswer, AllocError>
+    ensures market { IfOk result (λ answer. answer.basis.poset.lists ≡ seats.now.market) }
     ensures needs { IfOk result (λ answer. AreNeedsIn answer.basis.poset (rows_of answer.needs.items)) }
 {
-    let basis = Basis::of(alloc, instance)?;
+    let basis = Basis::of(alloc, seats)?;
     let needs = needs_in(alloc, &basis.poset)?;
     Ok(RotationAnswer { basis, needs })
 }
@@ -69,18 +69,19 @@ pub type RotationAnswerLines<'a> = Printed<
 pub fn rotation_answer_lines<'a>(
     input: &'a Input,
     instance: &Instance,
+    seats: &'a Seats,
     answer: &'a RotationAnswer,
 ) -> RotationAnswerLines<'a>
     requires input { input.now ≡ Two instance.now }
-    requires marriage { instance.now.kind ≡ Marriage }
-    requires market { answer.now.basis.poset.lists ≡ market_of instance.now }
+    requires seats { seats.now ≡ seating_of instance.now }
+    requires seating { IsSeating instance.now seats.now }
+    requires market { answer.now.basis.poset.lists ≡ seats.now.market }
     requires needs { AreNeedsIn answer.now.basis.poset (rows_of answer.now.needs.items) }
     ensures right { (lines : List (List ℕ)) → ⟦<RotationAnswerLines<'a> as Lines>⟧.gives result lines
         → IsShown input.now (IsRotationAnswer instance.now) lines }
     ensures some { HasRest (⟦<RotationAnswerLines<'a> as Lines>⟧.gives result) }
 {
     let _count = instance.proposer_count();
-    let market = answer.basis.poset.market();
     let chain = answer.basis.poset.chain();
     Printed {
         input,
@@ -90,7 +91,7 @@ pub fn rotation_answer_lines<'a>(
                 first: Each {
                     items: SeatLines {
                         side: Side::Proposers,
-                        market,
+                        seats,
                         pairing: &chain.first,
                     },
                     next: 0,
@@ -98,6 +99,7 @@ pub fn rotation_answer_lines<'a>(
                 second: Then {
                     first: RotationLines {
                         rows: Rotations {
+                            seats,
                             rotations: &chain.rotations,
                             needs: &answer.needs,
                         },

@@ -6,22 +6,26 @@ ghost use Rattle.sm_market.specs.Vectors.{rows_of};
 ghost use Rattle.sm_report.specs.Lines.{LineData, line_of};
 ghost use Rattle.sm_theory.specs.Chains.{rotation_at};
 ghost use Rattle.sm_theory.specs.Values.{rotations_of};
-ghost use Rattle.sm_shown.specs.RotationLines.{turns_of, numbers_of};
+ghost use Rattle.sm_shown.specs.RotationLines.{seated_pairs, numbers_of};
 
 use crate::seat_lines::seat_of;
 use sm_answer::Answer;
+use sm_lists::list_at;
 use sm_report::{Line, Seat};
+use sm_seats::Seats;
 use sm_theory::Rotation;
 use std::alloc::{AllocError, Global};
 
 /// The rotations of a chain and what each of them needs.
 #[derive(Drop)]
 pub struct Rotations<'a> {
+    pub seats: &'a Seats,
     pub rotations: &'a [Rotation],
     pub needs: &'a [Vec<u32>],
     ghost few: { length rotations.now < 2 ^ 24 },
     ghost one_each: { length needs.now ≡ length rotations.now },
     ghost small: { (k : ℕ) → All (λ i. i < 2 ^ 24) (row (rows_of needs.now) k) },
+    ghost named: { (k : ℕ) → All (λ pair. pair.1 < length seats.now.seats) (rotation_at (rotations_of rotations.now) k) },
 }
 
 /// Two lines for each rotation from one on: its pairs, and then what it needs.
@@ -40,7 +44,7 @@ impl Answer for RotationLines<'_> {
     ghost use Rattle.sm_shown.specs.GivenLines.{lines_left, most_left};
 
     ghost gives = { λ s rest. rest
-        ≡ lines_left s.halfway (rotations_of s.rows.rotations.now) (rows_of s.rows.needs.now) s.next };
+        ≡ lines_left s.halfway s.rows.seats.now (rotations_of s.rows.rotations.now) (rows_of s.rows.needs.now) s.next };
 
     ghost most = { λ s. most_left s.halfway (length s.rows.rotations.now - s.next) };
 
@@ -65,10 +69,10 @@ impl Answer for RotationLines<'_> {
 fn rotation_line(alloc: Global, rows: &Rotations, k: u32) -> Result<Line, AllocError>
     requires { k < length rows.now.rotations.now }
     ensures { IfOk result (λ line. line_of line
-        ≡ LineData.Rotation (k + 1) (turns_of (rotation_at (rotations_of rows.now.rotations.now) k))) }
+        ≡ LineData.Rotation (k + 1) (seated_pairs rows.now.seats.now (rotation_at (rotations_of rows.now.rotations.now) k))) }
 {
-    let turns = turns_of(alloc, &rows.rotations[k as usize].pairs)?;
-    Ok(Line::Rotation(k + 1, turns))
+    let pairs = seated_pairs(alloc, rows.seats, &rows.rotations[k as usize].pairs)?;
+    Ok(Line::Rotation(k + 1, pairs))
 }
 
 // The line of what a rotation needs.
@@ -77,19 +81,24 @@ fn needs_line(alloc: Global, rows: &Rotations, k: u32) -> Result<Line, AllocErro
     ensures { IfOk result (λ line. line_of line
         ≡ LineData.Needs (k + 1) (numbers_of (row (rows_of rows.now.needs.now) k))) }
 {
-    let numbers = numbers_of(alloc, &rows.needs[k as usize])?;
+    let numbers = numbers_of(alloc, list_at(rows.needs, k))?;
     Ok(Line::Needs(k + 1, numbers))
 }
 
-// The pairs of a rotation with the seats of their reviewers, each of which has one.
-fn turns_of(alloc: Global, pairs: &[(u32, u32)]) -> Result<Vec<(u32, Seat)>, AllocError>
-    ensures { IfOk result (λ turns. turns.items ≡ turns_of pairs.now) }
+// The pairs of a rotation with their seats as they are shown.
+fn seated_pairs(
+    alloc: Global,
+    seats: &Seats,
+    pairs: &[(u32, u32)],
+) -> Result<Vec<(u32, Seat)>, AllocError>
+    requires { All (λ pair. pair.1 < length seats.now.seats) pairs.now }
+    ensures { IfOk result (λ shown. shown.items ≡ seated_pairs seats.now pairs.now) }
 {
-    let mut turns = Vec::with_capacity(alloc, pairs.len())?;
+    let mut shown = Vec::with_capacity(alloc, pairs.len())?;
     for pair in pairs {
-        turns.push((pair.0, seat_of(pair.1)))?;
+        shown.push((pair.0, seat_of(seats, pair.1)))?;
     }
-    Ok(turns)
+    Ok(shown)
 }
 
 // The numbers of rotations as they are shown, from 1.

@@ -1,33 +1,34 @@
 //! The seats of a pairing as lines.
 
-ghost use Rattle.std.specs.Prelude.{◌≡◌};
+ghost use Rattle.std.specs.Prelude.{◌≡◌, ◌<◌, length};
 ghost use Rattle.sm_market.specs.Pairing.{IsPairingOf};
 ghost use Rattle.sm_report.specs.Lines.{line_of};
 ghost use Rattle.sm_shown.specs.Reduction.{seat_of, best_seat};
 
 use sm_answer::Numbered;
 use sm_instance::Side;
-use sm_market::{Market, Pairing};
+use sm_market::Pairing;
 use sm_report::{Line, Seat};
+use sm_seats::Seats;
 use std::alloc::{AllocError, Global};
 
 /// The seats of the proposers in the best matching of a side, in the order of the proposers.
 #[derive(Drop)]
 pub struct SeatLines<'a> {
     pub side: Side,
-    pub market: &'a Market,
+    pub seats: &'a Seats,
     pub pairing: &'a Pairing,
-    ghost made: { IsPairingOf market.now pairing.now },
+    ghost made: { IsPairingOf seats.now.market pairing.now },
+    ghost one_each: { length seats.now.market.reviewers ≡ length seats.now.seats },
 }
 
-/// The seat of a reviewer, which has one.
-pub fn seat_of(reviewer: u32) -> Seat
-    ensures { result ≡ seat_of reviewer }
+/// A seat as it is shown: its reviewer, and its number there, from 1.
+pub fn seat_of(seats: &Seats, seat: u32) -> Seat
+    requires { seat < length seats.now.seats }
+    ensures { result ≡ seat_of seats.now seat }
 {
-    Seat {
-        reviewer,
-        number: 1,
-    }
+    let (reviewer, number) = seats.seat(seat);
+    Seat { reviewer, number }
 }
 
 /// The line of a proposer and its seat in the best matching of a side.
@@ -44,21 +45,20 @@ impl Numbered for SeatLines<'_> {
     ghost use Rattle.std.specs.Prelude.{length};
     ghost use Rattle.sm_shown.specs.Reduction.{seat_line};
 
-    ghost line = { λ seats p. seat_line seats.side seats.market.now seats.pairing.now.places p };
+    ghost line = { λ lines p. seat_line lines.side lines.seats.now lines.pairing.now.places p };
 
-    ghost count = { λ seats. length seats.market.now.proposers };
+    ghost count = { λ lines. length lines.seats.now.market.proposers };
 
     fn count(&self) -> u32 {
-        self.market.proposers()
+        self.seats.market().proposers()
     }
 
     fn line(&self, _alloc: Global, p: u32) -> Result<Option<Line>, AllocError> {
         match self.pairing.place(p) {
-            Some(place) => Ok(Some(best_seat(
-                self.side,
-                p,
-                seat_of(self.market.reviewer_at(p, place)),
-            ))),
+            Some(place) => {
+                let seat = self.seats.market().reviewer_at(p, place);
+                Ok(Some(best_seat(self.side, p, seat_of(self.seats, seat))))
+            }
             None => Ok(None),
         }
     }

@@ -6,49 +6,46 @@ ghost use Rattle.sm_answer.specs.Printing.{IsShown};
 ghost use Rattle.sm_instance.specs.Sound.{IsInstance};
 ghost use Rattle.sm_instance.specs.declared.inputs.Input.TheVariants.{Two};
 ghost use Rattle.sm_market.specs.Pairing.{IsPairingOf};
-ghost use Rattle.sm_instance.specs.declared.kinds.Kind.TheVariants.{Marriage};
-ghost use Rattle.sm_shown.specs.MarriageMarket.{market_of};
+ghost use Rattle.sm_seats.specs.Seating.{seating_of};
+ghost use Rattle.sm_seats.specs.Correspondence.{IsSeating};
 ghost use Rattle.sm_shown.specs.GivenLines.{IsMarketBestOf};
 ghost use Rattle.sm_shown.specs.Answers.{IsSolution};
 
-use crate::market::mutual_market;
 use crate::pair_lines::PairLines;
 use sm_accept::{proposer_best, reviewer_best};
 use sm_answer::{Each, Lines, One, Printed, Then};
 use sm_instance::{Input, Instance, Side};
 use sm_market::{Market, Pairing};
 use sm_report::{Head, Line};
+use sm_seats::Seats;
 use std::alloc::{AllocError, Global};
 
-/// The best stable matching of a side of a market.
+/// The best stable matching of a side.
 #[derive(Drop)]
 pub struct Solution {
     pub side: Side,
-    pub market: Market,
+    /// The matching of the seats.
     pub best: Pairing,
-    ghost made: { IsPairingOf market best },
 }
 
-/// The best stable matching of a side of a marriage, of the proposers where no side is named (Gale and Shapley 1962). Takes
-/// time and memory linear in the entries.
+/// The best stable matching of a side, of the proposers where no side is named (Gale and Shapley 1962). Takes time and
+/// memory linear in the entries of the seats' market.
 ///
 /// # Errors
 ///
 /// `AllocError` where memory ran out, and only then.
 pub fn find_solution(
     alloc: Global,
-    instance: &Instance,
+    seats: &Seats,
     side: Option<Side>,
 ) -> Result<Solution, AllocError>
-    ensures instance { IsInstance instance.now }
     ensures side { IfOk result (λ solution. solution.side ≡ unwrap_or side Side.Proposers) }
-    ensures market { IfOk result (λ solution. solution.market ≡ market_of instance.now) }
-    ensures best { IfOk result (λ solution. IsMarketBestOf solution.side solution.market solution.best.places) }
+    ensures made { IfOk result (λ solution. IsPairingOf seats.now.market solution.best) }
+    ensures best { IfOk result (λ solution. IsMarketBestOf solution.side seats.now.market solution.best.places) }
 {
-    let market = mutual_market(alloc, instance)?;
     let side = side.unwrap_or(Side::Proposers);
-    let best = best_of(alloc, side, &market)?;
-    Ok(Solution { side, market, best })
+    let best = best_of(alloc, side, seats.market())?;
+    Ok(Solution { side, best })
 }
 
 /// The lines of the answer of `solve`.
@@ -58,12 +55,14 @@ pub type SolutionLines<'a> = Printed<'a, Then<One, Then<Each<PairLines<'a>>, One
 pub fn solution_lines<'a>(
     input: &'a Input,
     instance: &Instance,
+    seats: &'a Seats,
     solution: &'a Solution,
 ) -> SolutionLines<'a>
     requires input { input.now ≡ Two instance.now }
-    requires marriage { instance.now.kind ≡ Marriage }
-    requires market { solution.now.market ≡ market_of instance.now }
-    requires best { IsMarketBestOf solution.now.side solution.now.market solution.now.best.places }
+    requires seats { seats.now ≡ seating_of instance.now }
+    requires seating { IsSeating instance.now seats.now }
+    requires made { IsPairingOf seats.now.market solution.now.best }
+    requires best { IsMarketBestOf solution.now.side seats.now.market solution.now.best.places }
     ensures right { (lines : List (List ℕ)) → ⟦<SolutionLines<'a> as Lines>⟧.gives result lines
         → IsShown input.now (IsSolution solution.now.side instance.now) lines }
     ensures some { HasRest (⟦<SolutionLines<'a> as Lines>⟧.gives result) }
@@ -76,7 +75,7 @@ pub fn solution_lines<'a>(
             second: Then {
                 first: Each {
                     items: PairLines {
-                        market: &solution.market,
+                        seats,
                         pairing: &solution.best,
                     },
                     next: 0,

@@ -3,3 +3,4 @@ pub mod InputLemmas
 pub mod StopLemmas
 pub mod RefusingLemmas
 pub mod RunLemmas
+pub mod SeatLemmas

@@ -4,11 +4,15 @@ use Rattle.std.specs.Option.{option_map}
 use Rattle.sm_text.specs.Lines.{lines, content}
 use Rattle.sm_text.specs.Tokens.{tokens}
 use Rattle.sm_text.specs.declared.refusal.RefusalKind.{RefusalKind}
-use Rattle.sm_text.specs.declared.refusal.RefusalKind.TheVariants.{AfterEnd, WrongKind, NotBuilt}
+use Rattle.sm_text.specs.declared.refusal.RefusalKind.TheVariants.{AfterEnd, TooManySeats, WrongKind, NotBuilt}
+use Rattle.sm_instance.specs.Written.{agent_at}
 use Rattle.sm_instance.specs.Inputs.{kind_of}
+use Rattle.sm_instance.specs.declared.inputs.Input.{Input}
+use Rattle.sm_instance.specs.declared.inputs.Input.TheVariants.{Two, Room}
 use Rattle.sm_instance.specs.declared.kinds.Kind.{Kind}
 use Rattle.sm_instance.specs.declared.kinds.Kind.TheVariants.{Marriage, Hospitals, Roommates}
 use Rattle.sm_reader.specs.InstanceText.{ReadText, Refusal, instance_text}
+use Rattle.sm_seats.specs.SeatEntries.{first_too_many}
 use Rattle.sm_words.specs.Jobs.{JobData, Solve, Reduced, Rotations}
 use Rattle.sm_top.specs.Texts.{RefusalData, plain}
 
@@ -35,7 +39,7 @@ takes_kind Rotations kind = is_two_sided kind
 -- the kinds that are taken yet
 abbrev pub is_built : Kind → Bool
 is_built Marriage = true
-is_built Hospitals = false
+is_built Hospitals = true
 is_built Roommates = false
 
 -- The order of refusals.
@@ -66,6 +70,21 @@ not_built read = if is_built (kind_of read.input) then None else Some (NotBuilt,
 abbrev pub wrong_kind : JobData → ReadText → Option Refusal
 wrong_kind job read = if takes_kind job (kind_of read.input) then None else Some (WrongKind, read.header_line)
 
+-- the seats have too many entries: refused at the line of the first reviewer with whom they do
+abbrev pub too_many_in : Input → Option Refusal
+too_many_in (Two w) = option_map (λ r. (TooManySeats, (agent_at w.reviewers r).line)) (first_too_many w)
+too_many_in (Room persons) = None
+
+abbrev pub too_many_seats : ReadText → Option Refusal
+too_many_seats read = too_many_in read.input
+
+-- an input is refused for its seats
+pub record IsTooMany (input : Input) (refusal : RefusalData) : Type 0 where
+  pub kind : RefusalKind
+  pub at : ℕ
+  pub because : too_many_in input ≡ Some (kind, at)
+  pub says : refusal ≡ plain kind at
+
 -- the first refusal of several, if there is one
 abbrev pub first_refusal : List (Option Refusal) → ReadText → Result ReadText Refusal
 first_refusal [] read = Ok read
@@ -76,7 +95,7 @@ first_refusal (Some refusal ∷ more) read = Err refusal
 -- the faults of its lines, a missing `end` and names that aren't declared; then these.
 abbrev pub behind_text : JobData → List ℕ → Result ReadText Refusal → Result ReadText Refusal
 behind_text job bytes (Err refusal) = Err refusal
-behind_text job bytes (Ok read) = first_refusal (after_end job bytes read ∷ not_built read ∷ wrong_kind job read ∷ []) read
+behind_text job bytes (Ok read) = first_refusal (after_end job bytes read ∷ not_built read ∷ wrong_kind job read ∷ too_many_seats read ∷ []) read
 
 abbrev pub accepted : JobData → List ℕ → Result ReadText Refusal
 accepted job bytes = behind_text job bytes (instance_text bytes)

@@ -8,3 +8,4 @@ pub mod Stops
 pub mod Wrote
 pub mod Steps
 pub mod Unsaid
+pub mod Seated

@@ -36,7 +36,8 @@ use std::alloc::Global;
 ///   Irving 1989, theorem 2.5.7).
 /// - `Refused`: the input is refused for this reason, at this line; the one line `refused NAME LINE` is written. An input
 ///   that is too long comes first, then the faults of its lines from the top, then a missing `end`, then a name that isn't
-///   declared, then text behind `end`, then a kind that isn't taken yet, then one that the command doesn't take.
+///   declared, then text behind `end`, then a kind that isn't taken yet, then one that the command doesn't take, then seats
+///   that have more than 1,048,576 entries.
 /// - `Usage`: the words are faulty; the one line `usage WORD` is written.
 /// - `ReadFault`, `WriteFault`: the source or the sink failed. Nothing was written, or a front of the answer.
 /// - `OutOfMemory`: there was no memory. Nothing was written, or a front of the answer.
@@ -120,8 +121,8 @@ fn answer<K: Sink>(alloc: Global, job: &Job, bytes: &[u8], sink: &mut K) -> Resu
     ensures unwritten { OnErr result (sink.new ≡ sink.old) }
     ensures later { K.faults sink.old ≤ K.faults sink.new }
 {
-    let read = accept(alloc, job, bytes)?;
-    perform(alloc, job, bytes, &read, sink)
+    let given = accept(alloc, job, bytes)?;
+    perform(alloc, job, bytes, &given, sink)
 }
 
 // Says why there is no answer.

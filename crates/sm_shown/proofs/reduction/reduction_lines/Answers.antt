@@ -7,15 +7,18 @@ use Rattle.sm_shown.proofs.reduction.reduction_lines.Goals as goal
 pub returns-clause-right : goal.returns-clause-right
 returns-clause-right c =
     let r = c.args.reduction.now in
+    let s = c.args.seats.now in
+    let q = c.requires.reduction in
     let rows = lists_of r.lists.proposers.items r.lists.reviewers.items in
-    given_right _ _ _ (reduced_given r.market r.first.places r.last.places rows) (joined_is _ _ _ _ (same_is _) (joined_is _ _ _ _ c.both_seats.ensures.all c.both_lists.ensures.all))
-    (reduced_right c.args.instance.now r.market r.first.places r.last.places rows c.requires.market r.proposers_best r.reviewers_best r.reduced)
+    given_right _ _ _ (reduced_given s r.first.places r.last.places rows) (joined_is _ _ _ _ (same_is _) (joined_is _ _ _ _ c.both_seats.ensures.all c.both_lists.ensures.all))
+    (reduced_right c.args.instance.now s r.first.places r.last.places rows c.requires.seats q.proposers_best q.reviewers_best q.reduced)
 
 pub returns-clause-some : goal.returns-clause-some
 returns-clause-some c =
-    let w = c.args.instance.now in
     let r = c.args.reduction.now in
+    let s = c.args.seats.now in
+    let q = c.requires.reduction in
     let rows = lists_of r.lists.proposers.items r.lists.reviewers.items in
-    given_some _ _ (reduced_given r.market r.first.places r.last.places rows) (joined_some _ _ (same_some _) (joined_some _ _ c.both_seats.ensures.some c.both_lists.ensures.some))
+    given_some _ _ (reduced_given s r.first.places r.last.places rows) (joined_some _ _ (same_some _) (joined_some _ _ c.both_seats.ensures.some c.both_lists.ensures.some))
     (joined_is _ _ _ _ (same_is _) (joined_is _ _ _ _ c.both_seats.ensures.all c.both_lists.ensures.all))
-    (reduced_given_sound c.args.input.now w r.market r.first.places r.last.places rows c.requires.input c.requires.marriage c.proposer_count-count.ensures.instance c.requires.market r.proposers_best r.reviewers_best r.reduced)
+    (reduced_given_sound c.proposer_count-count.ensures.instance c.requires.seating r.first.places r.last.places c.args.input.now rows c.requires.input q.proposers_best q.reviewers_best q.reduced)

@@ -8,5 +8,5 @@ pub returns-clause-stop : goal.returns-clause-stop
 returns-clause-stop g c =
     let job = job_of c.args.job.now in
     let bytes = c.args.bytes.now in
-    let read = read_of c.in_ok-read.read in
-    err_stops_for (λ word. ⊥) (λ word. ⊥) (IsOwnRefusal job bytes read) (IsRefused job bytes) ⊥ ⊥ c.perform.result (λ word h. h) (λ refusal own. by_job read c.in_ok-read.ensures.read own) (λ h. h) c.perform.ensures.stop
+    let read = read_of c.in_ok-given.given.read in
+    err_stops_for (λ word. ⊥) (λ word. ⊥) (IsOwnRefusal job bytes read) (IsRefused job bytes) ⊥ ⊥ c.perform.result (λ word h. h) (λ refusal own. by_job read c.in_ok-given.ensures.read own) (λ h. h) c.perform.ensures.stop
