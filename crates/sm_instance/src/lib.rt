@@ -34,6 +34,3 @@ pub use inputs::Input;
 pub use instance::Instance;
 pub use kinds::{Kind, Measure, Side};
 pub use persons::Persons;
-
-#[cfg(test)]
-mod tests;

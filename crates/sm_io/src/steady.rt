@@ -132,32 +132,3 @@ impl Sink for SteadySink {
         Put::Done
     }
 }
-
-#[cfg(test)]
-mod tests {
-    use super::*;
-    use std::test::Fail;
-
-    #[test]
-    fn gives_piece_by_piece(rt: HostRuntime) -> Result<(), Fail> {
-        let mut source = SteadySource::new(b"abcd".to_vec(rt.alloc())?, 3);
-        let mut into = [0u8; 8];
-        assert_eq!(rt; source.take(&mut into), Taken::Got(3));
-        assert_eq!(rt; into[..3], b"abc"[..]);
-        assert_eq!(rt; source.take(&mut into), Taken::Got(1));
-        assert_eq!(rt; into[..1], b"d"[..]);
-        assert_eq!(rt; source.take(&mut into), Taken::End);
-        Ok(())
-    }
-
-    #[test]
-    fn tells_what_it_holds_while_that_fits(rt: HostRuntime) -> Result<(), Fail> {
-        let mut sink = SteadySink::new(rt.alloc(), 4)?;
-        assert_eq!(rt; sink.put(b"abc"), Put::Done);
-        assert_eq!(rt; sink.put(b"d"), Put::Done);
-        assert_eq!(rt; sink.held().ok_or("none held")?, b"abcd".as_slice());
-        assert_eq!(rt; sink.put(b"e"), Put::Done);
-        assert!(rt; sink.held().is_none());
-        Ok(())
-    }
-}

@@ -19,6 +19,3 @@ pub mod witnesses;
 
 pub use faults::TextFault;
 pub use reading::{Read, read_instance};
-
-#[cfg(test)]
-mod tests;

@@ -17,6 +17,3 @@ pub mod witnesses;
 pub use heads::Head;
 pub use lines::{Line, Seat};
 pub use printing::{put_line, put_text};
-
-#[cfg(test)]
-mod tests;

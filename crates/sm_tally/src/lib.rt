@@ -27,5 +27,3 @@ mod feeding;
 mod regret_tally;
 mod sum_tally;
 mod tally;
-#[cfg(test)]
-mod tests;

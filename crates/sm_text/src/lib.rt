@@ -25,6 +25,3 @@ pub use refusal::RefusalKind;
 pub use text_hash::{Digest, TextHash};
 pub use tokens::{TokenAt, token_at};
 pub use writer::LineWriter;
-
-#[cfg(test)]
-mod tests;

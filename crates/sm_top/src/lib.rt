@@ -16,6 +16,3 @@ mod writing;
 pub use running::run;
 pub use sm_words::{Job, WordsFault, read_words};
 pub use status::Status;
-
-#[cfg(test)]
-mod tests;

@@ -11,6 +11,3 @@ mod reading;
 
 pub use jobs::{Job, WordsFault};
 pub use reading::read_words;
-
-#[cfg(test)]
-mod tests;

@@ -1,37 +1,23 @@
-//! Lines through [`put_line`] with memory. What the text of each line is stands in `witnesses.rt`.
+//! Lines of answers that are put. What the text of each line is stands in the witnesses of `sm_report`.
 
 ghost use Rattle.std.specs.Prelude.{◌≡◌, ◌≢◌, length};
 ghost use Rattle.sm_instance.specs.Inputs.{left_of, right_of};
 ghost use Rattle.sm_report.specs.Lines.{line_of};
 ghost use Rattle.sm_report.specs.Sound.{IsPrintable};
 
-use crate::{Head, Line, Seat, put_line};
-use sm_instance::{Agent, Input, Instance, Kind, Side};
+use crate::made::{MEMORY, agent, copy, one};
+use sm_instance::{Input, Instance, Kind, Side};
+use sm_report::{Head, Line, Seat, put_line};
 use sm_text::LineWriter;
 use std::process::Abort;
-
-const MEMORY: &str = "memory";
-
-// One agent of a side, with this name and capacity and an empty list.
-fn alone(rt: &(impl Abort + AllocGlobal), name: &str, capacity: u32) -> Vec<Agent> {
-    let mut side = Vec::new(rt.alloc());
-    let agent = Agent {
-        name: Vec::from_slice(rt.alloc(), name.as_bytes()).expect(rt, MEMORY),
-        capacity,
-        line: 0,
-        entries: Vec::new(rt.alloc()),
-    };
-    side.push(agent).expect(rt, MEMORY);
-    side
-}
 
 // The proposer `a`, and the reviewer `h` of three places.
 fn hospitals(rt: &(impl Abort + AllocGlobal)) -> Input {
     let built = Instance::build(
         rt.alloc(),
         Kind::Hospitals,
-        alone(rt, "a", 1),
-        alone(rt, "h", 3),
+        one(rt, agent(rt, b'a', 1, &[])),
+        one(rt, agent(rt, b'h', 3, &[])),
         Vec::new(rt.alloc()),
         Vec::new(rt.alloc()),
         Vec::new(rt.alloc()),
@@ -84,6 +70,10 @@ fn lines_are_put(rt: HostRuntime) {
     };
     puts(&rt, &input, &Line::First(0, seat), "first a h/3\n");
     puts(&rt, &input, &Line::Total(-10), "total -10\n");
-    let ranks = Vec::from_slice(rt.alloc(), &[1, 2]).expect(&rt, MEMORY);
-    puts(&rt, &input, &Line::Vector(ranks), "vector 1,2\n");
+    puts(
+        &rt,
+        &input,
+        &Line::Vector(copy(&rt, &[1, 2])),
+        "vector 1,2\n",
+    );
 }

@@ -1,44 +1,10 @@
-//! Each call once with memory, and each fault once. What the definitions mean is computed in `witnesses.rt`.
+//! Instances and persons: each fault once, and what assignments of three residents are worth.
 
-ghost use Rattle.std.specs.Prelude.{◌≡◌, ◌<◌, length};
 ghost use Rattle.sm_instance.specs.Matching.{IsMatching};
 
-use crate::{Agent, Assignment, Input, Instance, InstanceFault, Kind, Measure, Persons, Side};
+use crate::made::{agent, copy, one, three, two};
+use sm_instance::{Assignment, Input, Instance, InstanceFault, Kind, Measure, Persons, Side};
 use std::process::Abort;
-
-const MEMORY: &str = "memory";
-
-// A copy of a list.
-fn copy<T: Copy>(rt: &(impl Abort + AllocGlobal), list: &[T]) -> Vec<T>
-    ensures { result.items ≡ list.now }
-{
-    Vec::from_slice(rt.alloc(), list).expect(rt, MEMORY)
-}
-
-// An agent of one letter, with a capacity and a list.
-fn agent(rt: &(impl Abort + AllocGlobal), letter: u8, capacity: u32, list: &[u32]) -> Agent {
-    Agent {
-        name: copy(rt, &[letter]),
-        capacity,
-        line: 0,
-        entries: copy(rt, list),
-    }
-}
-
-// A side of two agents.
-fn two(rt: &(impl Abort + AllocGlobal), first: Agent, second: Agent) -> Vec<Agent> {
-    let mut side = Vec::new(rt.alloc());
-    side.push(first).expect(rt, MEMORY);
-    side.push(second).expect(rt, MEMORY);
-    side
-}
-
-// A side of three agents.
-fn three(rt: &(impl Abort + AllocGlobal), first: Agent, second: Agent, third: Agent) -> Vec<Agent> {
-    let mut side = two(rt, first, second);
-    side.push(third).expect(rt, MEMORY);
-    side
-}
 
 // The residents a: k h, b: z h and c: h k, who doesn't stand on k's list; h has two places, k one and z none.
 fn small_hospitals(rt: &(impl Abort + AllocGlobal)) -> Instance {
@@ -119,6 +85,15 @@ fn knows_its_agents(rt: &impl Abort, instance: &Instance) {
     assert!(rt; instance.capacity(2) == 0);
 }
 
+// Makes sure where the first resident stands that can't be where it is.
+fn breaks(rt: &(impl Abort + AllocGlobal), instance: &Instance, places: &[Option<u32>], p: u32) {
+    let a = Assignment {
+        places: copy(rt, places),
+    };
+    assert!(rt; instance.is_assignment(&a));
+    assert!(rt; instance.breach(&a) == Some(p));
+}
+
 #[test]
 fn small_hospitals_are_worth(rt: HostRuntime) {
     let instance = small_hospitals(&rt);
@@ -147,20 +122,6 @@ fn small_hospitals_are_worth(rt: HostRuntime) {
             },
         ],
     );
-}
-
-// Makes sure where the first resident stands that can't be where it is.
-fn breaks(rt: &(impl Abort + AllocGlobal), instance: &Instance, places: &[Option<u32>], p: u32) {
-    let a = Assignment {
-        places: copy(rt, places),
-    };
-    assert!(rt; instance.is_assignment(&a));
-    assert!(rt; instance.breach(&a) == Some(p));
-}
-
-#[test]
-fn inert_entries_and_full_hospitals_break(rt: HostRuntime) {
-    let instance = small_hospitals(&rt);
     breaks(&rt, &instance, &[None, None, Some(1)], 2);
     breaks(&rt, &instance, &[Some(1), Some(1), Some(0)], 2);
     breaks(&rt, &instance, &[None, Some(0), None], 1);
@@ -187,10 +148,7 @@ const SOUND: Case = Case {
 };
 
 fn fault_of(rt: &(impl Abort + AllocGlobal), case: &Case) -> Option<InstanceFault> {
-    let mut proposers = Vec::new(rt.alloc());
-    proposers
-        .push(agent(rt, b'm', 1, &case.list))
-        .expect(rt, MEMORY);
+    let proposers = one(rt, agent(rt, b'm', 1, &case.list));
     let reviewers = two(
         rt,
         agent(rt, b'a', case.capacity, &[case.back]),
@@ -291,17 +249,13 @@ fn finds(rt: &impl Abort, input: &Input, name: &[u8], left: Option<u32>, right: 
 }
 
 #[test]
-fn persons_find_their_names(rt: HostRuntime) {
+fn agents_are_found_by_name(rt: HostRuntime) {
     let twice = persons(&rt, b'x').err();
     assert!(rt; twice == Some(InstanceFault::BadAgent(Side::Proposers, 1)));
     let input = Input::Room(persons(&rt, b'y').expect(&rt, "persons"));
     assert!(rt; input.kind() == Kind::Roommates);
     finds(&rt, &input, b"y", Some(1), Some(1));
     finds(&rt, &input, b"z", None, None);
-}
-
-#[test]
-fn inputs_name_their_sides(rt: HostRuntime) {
     let input = Input::Two(small_hospitals(&rt));
     assert!(rt; input.kind() == Kind::Hospitals);
     finds(&rt, &input, b"c", Some(2), None);

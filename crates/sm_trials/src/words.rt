@@ -1,23 +1,14 @@
 //! Words that ask for a job, and words that are faulty.
 
-use crate::{Job, WordsFault, read_words};
+use crate::made::words_in;
 use sm_instance::Side;
-use std::alloc::{AllocError, Global};
+use sm_words::{Job, WordsFault, read_words};
 use std::process::Abort;
-
-// The words that stand in a text with a blank between each two.
-fn words_in(alloc: Global, text: &str) -> Result<Vec<String>, AllocError> {
-    let mut words = Vec::new(alloc);
-    for word in text.split_whitespace() {
-        words.push(String::from_str(alloc, word)?)?;
-    }
-    Ok(words)
-}
 
 // Makes sure of what each of some words asks for.
 fn ask(rt: &(impl Abort + AllocGlobal), rows: &[(&str, Job)]) {
     for (text, job) in rows {
-        let words = words_in(rt.alloc(), text).expect(rt, "memory");
+        let words = words_in(rt, text);
         match read_words(rt.alloc(), &words) {
             Ok(asked) => assert!(rt; asked == *job, "{text:?}"),
             Err(_) => assert!(rt; false, "{text:?}"),
@@ -28,7 +19,7 @@ fn ask(rt: &(impl Abort + AllocGlobal), rows: &[(&str, Job)]) {
 // Makes sure of which word of each is faulty.
 fn are_faulty(rt: &(impl Abort + AllocGlobal), rows: &[(&str, u32)]) {
     for (text, number) in rows {
-        let words = words_in(rt.alloc(), text).expect(rt, "memory");
+        let words = words_in(rt, text);
         match read_words(rt.alloc(), &words) {
             Ok(_) => assert!(rt; false, "{text:?}"),
             Err(WordsFault::Usage(word)) => assert!(rt; word == *number, "{text:?}"),
@@ -38,7 +29,7 @@ fn are_faulty(rt: &(impl Abort + AllocGlobal), rows: &[(&str, u32)]) {
 }
 
 #[test]
-fn words_ask_for_jobs(rt: HostRuntime) {
+fn words_ask_or_are_faulty(rt: HostRuntime) {
     ask(
         &rt,
         &[
@@ -49,10 +40,6 @@ fn words_ask_for_jobs(rt: HostRuntime) {
             ("rotations", Job::Rotations),
         ],
     );
-}
-
-#[test]
-fn faulty_words_have_numbers(rt: HostRuntime) {
     are_faulty(
         &rt,
         &[

@@ -1,27 +1,13 @@
 //! Whole runs over sources and sinks in memory, with texts by hand.
 
-use crate::{Status, run};
+use crate::made::{MEMORY, copy, words_in};
 use sm_io::{MemSink, MemSource, SteadySink, SteadySource};
 use sm_text::RefusalKind;
+use sm_top::{Status, run};
 use std::alloc::Global;
 use std::process::Abort;
 
 const TWO_BY_TWO: &str = "stable 1 marriage\np m1: a b\np m2: b a\nr a: m2 m1\nr b: m1 m2\nend\n";
-
-// The words that stand in a text with a blank between each two.
-fn words_in(rt: &(impl Abort + AllocGlobal), text: &str) -> Vec<String> {
-    let mut words = Vec::new(rt.alloc());
-    for word in text.split_whitespace() {
-        let word = String::from_str(rt.alloc(), word).expect(rt, "memory");
-        words.push(word).expect(rt, "memory");
-    }
-    words
-}
-
-// The bytes of a text.
-fn bytes_of(rt: &(impl Abort + AllocGlobal), text: &str) -> Vec<u8> {
-    Vec::from_slice(rt.alloc(), text.as_bytes()).expect(rt, "memory")
-}
 
 // A run: its words, the text that is read, the calls of the source and the puts that fail, and what comes of it.
 #[derive(Clone, Copy)]
@@ -38,10 +24,10 @@ struct Row<'a> {
 fn come_to(rt: &(impl Abort + AllocGlobal), rows: &[Row]) {
     for row in rows {
         let words = words_in(rt, row.words);
-        let failing = Vec::from_slice(rt.alloc(), row.failing_reads).expect(rt, "memory");
-        let mut source = MemSource::new(bytes_of(rt, row.text), 7, failing);
-        let failing = Vec::from_slice(rt.alloc(), row.failing_puts).expect(rt, "memory");
-        let mut sink = MemSink::new(rt.alloc(), 1000, failing).expect(rt, "memory");
+        let bytes = copy(rt, row.text.as_bytes());
+        let mut source = MemSource::new(bytes, 7, copy(rt, row.failing_reads));
+        let failing = copy(rt, row.failing_puts);
+        let mut sink = MemSink::new(rt.alloc(), 1000, failing).expect(rt, MEMORY);
         let status = run(rt.alloc(), &words, &mut source, &mut sink);
         assert!(rt; status == row.status, "{:?}", row.words);
         assert!(rt; sink.held() == row.written.as_bytes(), "{:?}", row.words);
@@ -216,8 +202,8 @@ fn faults_end_a_run(rt: HostRuntime) {
 #[test]
 fn solves_over_a_steady_source_and_sink(rt: HostRuntime) {
     let words = words_in(&rt, "solve");
-    let mut source = SteadySource::new(bytes_of(&rt, TWO_BY_TWO), 3);
-    let mut sink = SteadySink::new(rt.alloc(), 1000).expect(&rt, "memory");
+    let mut source = SteadySource::new(copy(&rt, TWO_BY_TWO.as_bytes()), 3);
+    let mut sink = SteadySink::new(rt.alloc(), 1000).expect(&rt, MEMORY);
     let status = run(rt.alloc(), &words, &mut source, &mut sink);
     assert!(rt; status == Status::Done);
     assert!(rt; status.number() == 0);
@@ -234,9 +220,9 @@ fn filled(alloc: Global, len: usize) -> Result<Vec<u8>, std::alloc::AllocError> 
 // The status of `solve` for so many bytes.
 fn status_of(rt: &(impl Abort + AllocGlobal), len: usize) -> Status {
     let words = words_in(rt, "solve");
-    let bytes = filled(rt.alloc(), len).expect(rt, "memory");
+    let bytes = filled(rt.alloc(), len).expect(rt, MEMORY);
     let mut source = MemSource::new(bytes, 1_000_000, Vec::new(rt.alloc()));
-    let mut sink = MemSink::new(rt.alloc(), 100, Vec::new(rt.alloc())).expect(rt, "memory");
+    let mut sink = MemSink::new(rt.alloc(), 100, Vec::new(rt.alloc())).expect(rt, MEMORY);
     run(rt.alloc(), &words, &mut source, &mut sink)
 }
 

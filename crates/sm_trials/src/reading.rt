@@ -1,7 +1,7 @@
-//! A text that is read and texts that are refused, with memory. What texts mean stands in `witnesses.rt`.
+//! A text that is read and texts that are refused. What texts mean stands in the witnesses of `sm_reader`.
 
-use crate::{TextFault, read_instance};
 use sm_instance::{Input, Instance, Kind};
+use sm_reader::{TextFault, read_instance};
 use sm_text::RefusalKind;
 use std::alloc::Global;
 use std::process::Abort;

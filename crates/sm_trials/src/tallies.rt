@@ -1,6 +1,6 @@
-//! Each call once, through boxes.
+//! Tallies in boxes.
 
-use crate::{CountTally, RegretTally, SumTally, Tally, feed_each, read_out};
+use sm_tally::{CountTally, RegretTally, SumTally, Tally, feed_each, read_out};
 use std::test::Fail;
 
 #[test]

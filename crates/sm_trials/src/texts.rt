@@ -1,12 +1,11 @@
-//! Each call once. What lines, names, tokens and numbers are stands in `witnesses.rt`.
+//! Texts and lines: what they are stands in the witnesses of `sm_text`.
 
-use crate::{
+use crate::made::MEMORY;
+use sm_text::{
     LineSpan, LineWriter, RefusalKind, TokenAt, is_name, line_at, line_count, number, signed,
     token_at,
 };
 use std::process::Abort;
-
-const MEMORY: &str = "memory";
 
 #[test]
 fn texts_are_read(rt: HostRuntime) {

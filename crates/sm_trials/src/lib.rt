@@ -1,0 +1,27 @@
+//! Each public call of the crates below, once with memory and with each fault once; the crates of markets have theirs in
+//! `sm_examples`.
+//!
+//! A contract can't say that a call succeeds where there is memory, so it is tried here. A file stands for one crate. That
+//! definitions mean what they should is computed by the checker beside them, in the witnesses of the crates below.
+#![tactic(auto)]
+
+#[cfg(test)]
+mod flows;
+#[cfg(test)]
+mod instances;
+#[cfg(test)]
+mod lines;
+#[cfg(test)]
+mod made;
+#[cfg(test)]
+mod pieces;
+#[cfg(test)]
+mod reading;
+#[cfg(test)]
+mod runs;
+#[cfg(test)]
+mod tallies;
+#[cfg(test)]
+mod texts;
+#[cfg(test)]
+mod words;

@@ -1,0 +1,61 @@
+//! What several files make: copies, agents of one letter, sides of them, and words.
+
+ghost use Rattle.std.specs.Prelude.{◌≡◌};
+
+use sm_instance::Agent;
+use std::process::Abort;
+
+pub const MEMORY: &str = "memory";
+
+/// A copy of a list.
+pub fn copy<T: Copy>(rt: &(impl Abort + AllocGlobal), list: &[T]) -> Vec<T>
+    ensures { result.items ≡ list.now }
+{
+    Vec::from_slice(rt.alloc(), list).expect(rt, MEMORY)
+}
+
+/// The words that stand in a text with a blank between each two.
+pub fn words_in(rt: &(impl Abort + AllocGlobal), text: &str) -> Vec<String> {
+    let mut words = Vec::new(rt.alloc());
+    for word in text.split_whitespace() {
+        let word = String::from_str(rt.alloc(), word).expect(rt, MEMORY);
+        words.push(word).expect(rt, MEMORY);
+    }
+    words
+}
+
+/// An agent of one letter, with a capacity and a list.
+pub fn agent(rt: &(impl Abort + AllocGlobal), letter: u8, capacity: u32, list: &[u32]) -> Agent {
+    Agent {
+        name: copy(rt, &[letter]),
+        capacity,
+        line: 0,
+        entries: copy(rt, list),
+    }
+}
+
+/// A side of one agent.
+pub fn one(rt: &(impl Abort + AllocGlobal), agent: Agent) -> Vec<Agent> {
+    let mut side = Vec::new(rt.alloc());
+    side.push(agent).expect(rt, MEMORY);
+    side
+}
+
+/// A side of two agents.
+pub fn two(rt: &(impl Abort + AllocGlobal), first: Agent, second: Agent) -> Vec<Agent> {
+    let mut side = one(rt, first);
+    side.push(second).expect(rt, MEMORY);
+    side
+}
+
+/// A side of three agents.
+pub fn three(
+    rt: &(impl Abort + AllocGlobal),
+    first: Agent,
+    second: Agent,
+    third: Agent,
+) -> Vec<Agent> {
+    let mut side = two(rt, first, second);
+    side.push(third).expect(rt, MEMORY);
+    side
+}
