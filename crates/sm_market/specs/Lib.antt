@@ -9,6 +9,7 @@ pub mod Laws
 pub mod Vectors
 pub mod Limits
 pub mod Crosses
+pub mod Kept
 pub mod Namings
 pub mod Turning
 pub mod Entries

@@ -2,8 +2,9 @@
 
 ghost use Rattle.std.specs.Prelude.{◌≡◌, ◌≢◌, ℕ, ◌<◌, ◌^◌, length, IfOk, IfErr, OnOk};
 ghost use Rattle.sm_market.specs.Lists.{Lists, row, entry, place_of, reversed_lists, IsMarket};
-ghost use Rattle.sm_market.specs.Vectors.{lists_of};
+ghost use Rattle.sm_market.specs.Vectors.{rows_of, lists_of};
 ghost use Rattle.sm_market.specs.Limits.{IsWithinLimits};
+ghost use Rattle.sm_market.specs.Crosses.{AreCrosses};
 
 use crate::crosses::crosses;
 use crate::faults::{MarketFault, Side};
@@ -27,7 +28,7 @@ pub struct Market {
 impl Model for Market {
     ghost use Rattle.sm_market.specs.Lists.{Lists};
     ghost use Rattle.sm_market.specs.Vectors.{rows_of, lists_of};
-    ghost use Rattle.sm_market.specs.Crosses.{IsKept};
+    ghost use Rattle.sm_market.specs.Kept.{IsKept};
 
     ghost Value = { Lists };
 
@@ -80,6 +81,30 @@ impl Market {
             proposer_crosses,
             reviewer_crosses,
         })
+    }
+
+    /// A market of lists that are known to make one, with the cross positions of both sides. Nothing is tried, and no
+    /// memory is taken.
+    pub fn held(
+        proposer_lists: Vec<Vec<u32>>,
+        reviewer_lists: Vec<Vec<u32>>,
+        proposer_crosses: Vec<Vec<u32>>,
+        reviewer_crosses: Vec<Vec<u32>>,
+    ) -> Market
+        requires limits { IsWithinLimits (lists_of proposer_lists.items reviewer_lists.items) }
+        requires market { IsMarket (lists_of proposer_lists.items reviewer_lists.items) }
+        requires proposers { AreCrosses
+            (rows_of proposer_lists.items) (rows_of reviewer_lists.items) (rows_of proposer_crosses.items) }
+        requires reviewers { AreCrosses
+            (rows_of reviewer_lists.items) (rows_of proposer_lists.items) (rows_of reviewer_crosses.items) }
+        ensures lists { result ≡ lists_of proposer_lists.items reviewer_lists.items }
+    {
+        Market {
+            proposer_lists,
+            reviewer_lists,
+            proposer_crosses,
+            reviewer_crosses,
+        }
     }
 
     /// The market with its sides exchanged: the reviewers of this one propose there, each with its own list.
