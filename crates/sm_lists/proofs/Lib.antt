@@ -3,3 +3,7 @@ pub mod PlaceLemmas
 pub mod ItemLemmas
 pub mod RowLemmas
 pub mod ResultLemmas
+pub mod NoteLemmas
+pub mod FirstLemmas
+pub mod NamingLemmas
+pub mod CrossLemmas

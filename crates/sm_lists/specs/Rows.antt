@@ -1,6 +1,7 @@
 -- The lists of one side's agents, which are numbered from 0, as are the places on a list.
 use Rattle.std.specs.Prelude.{ℕ, ◌==◌, List, [], Vec, slice_index, slice_index_or, length, map}
 use Rattle.std.specs.List.{position_or_len, range_with_len}
+use Rattle.std.specs.Borrow.{Bor}
 use Rattle.std.specs.declared.alloc.Global.{Global}
 
 -- the place of b on a list, or the list's length where b isn't on it
@@ -26,3 +27,7 @@ place_of rows a b = place_on (row rows a) b
 -- lists that are held in vectors
 abbrev pub rows_of : List (Vec ℕ Global) → List (List ℕ)
 rows_of vectors = map (λ v. v.items) vectors
+
+-- the lists that are lent
+abbrev pub lists_in : List (Bor (List ℕ)) → List (List ℕ)
+lists_in lent = map (λ (list : Bor (List ℕ)). list.now) lent

@@ -1,10 +1,17 @@
 //! Lists of numbers, by owner and place, and counting: what the markets and the instances stand on.
 //!
 //! The agents of a side are numbered from 0, each has a list of agents, best first, and places on a list are counted from
-//! 0. Definitions are in `specs`: lists by row and place, the limits of a side, and the order of vectors. Lemmas are in
-//! `proofs`: places on a list, what one changed item changes, decisions and the pigeonhole.
+//! 0. Definitions are in `specs`: lists by row and place, the limits of a side, cross places, who names whom, and the order
+//! of vectors. Lemmas are in `proofs`: places on a list, what one changed item changes, decisions and the pigeonhole.
 #![tactic(auto)]
 
+mod crosses;
+mod naming;
+mod notes;
+mod place;
 mod rows;
 
-pub use rows::{copy_of, entry_at, list_at};
+pub use crosses::{CrossPlaces, cross_places};
+pub use naming::{KeptNaming, Naming};
+pub use place::KeptPlace;
+pub use rows::{copy_of, entry_at, lent, list_at};

@@ -1,7 +1,7 @@
 //! Lists that are held in vectors, read by agent and place.
 
 ghost use Rattle.std.specs.Prelude.{◌≡◌, ℕ, ◌<◌, length, IfOk};
-ghost use Rattle.sm_lists.specs.Rows.{rows_of, row, entry};
+ghost use Rattle.sm_lists.specs.Rows.{rows_of, row, entry, lists_in};
 
 use std::alloc::{AllocError, Global};
 
@@ -18,6 +18,21 @@ pub fn copy_of(alloc: Global, rows: &[Vec<u32>]) -> Result<Vec<Vec<u32>>, AllocE
         copy.push(Vec::from_slice(alloc, row)?)?;
     }
     Ok(copy)
+}
+
+/// The lists, lent one by one. Takes time and memory in proportion to the agents.
+///
+/// # Errors
+///
+/// `AllocError` where memory ran out, and only then.
+pub fn lent(alloc: Global, rows: &[Vec<u32>]) -> Result<Vec<&[u32]>, AllocError>
+    ensures { IfOk result (λ lent. lists_in lent.items ≡ rows_of rows.now) }
+{
+    let mut lent = Vec::with_capacity(alloc, rows.len())?;
+    for row in rows {
+        lent.push(row.as_slice())?;
+    }
+    Ok(lent)
 }
 
 /// The list of the agent with a number. Agents and places are numbered from 0.

@@ -1,0 +1,121 @@
+-- Noting places one after another, so that each agent keeps its first.
+use Rattle.std.proofs.Common.{IfSome, ◌≡◌, ◌≢◌, ℕ, ◌+◌, ◌<◌, ◌≤◌, List, Option, Some, None, length, get_or, set, refl, sym, ap, subst, ◌∙◌, arith, ⊎_elim}
+use Rattle.std.proofs.lemmas.Bool.{cases_lt, cases_eq}
+use Rattle.std.proofs.lemmas.Option.{same_Some, none-some}
+use Rattle.std.proofs.lemmas.Bool.Decides.{nat_tests}
+use Rattle.std.proofs.lemmas.List.{length-set, get_or_past, get_or-set_same, get_or-set_other}
+use Rattle.sm_lists.specs.Rows.{row, entry, place_on}
+use Rattle.sm_lists.specs.Crosses.{found_on, cross_place}
+use Rattle.sm_lists.specs.Namings.{naming_at, AreNamingsOf}
+use Rattle.sm_lists.specs.declared.naming.Naming.{Naming}
+use Rattle.sm_lists.specs.Kept.{noted_of, first_noted}
+use Rattle.sm_lists.proofs.PlaceLemmas.{place_on_is, place_on-none, place_on-lt, get_or-place_on, get_or_before-place_on}
+use Rattle.sm_lists.proofs.RowLemmas.{row_in_range}
+
+-- the place that is found on a list, and none where the agent isn't on it
+pub found_on_is : (list : List ℕ) (b i : ℕ) → i < length list → get_or list i 0 ≡ b → ((k : ℕ) → k < i → get_or list k 0 ≢ b) → Some i ≡ found_on list b
+found_on_is list b i on there before = let place : place_on list b ≡ i = place_on_is list b i on there before in grind (arith, nat_tests)
+
+pub found_on-none : (list : List ℕ) (b : ℕ) → ((i : ℕ) → i < length list → get_or list i 0 ≢ b) → let none : Option ℕ = None in none ≡ found_on list b
+found_on-none list b none = let place : place_on list b ≡ length list = place_on-none list b none in grind (arith, nat_tests)
+
+-- a place that is found is on the list
+pub found_on-fits : (list : List ℕ) (b most : ℕ) → length list ≤ most → IfSome (found_on list b) (λ i. i < most)
+found_on-fits list b most le =
+    let P : Option ℕ → Type 0 = λ o. IfSome o (λ i. i < most) in
+    ⊎_elim
+    (λ lt. subst P (found_on_is list b (place_on list b) lt (get_or-place_on list b lt) (get_or_before-place_on list b)) (let fits : place_on list b < most = omega arith in fits))
+    (λ ge. subst P (found_on-none list b (λ i on there. let lt = place_on-lt list b i on there in omega arith)) tt)
+    (cases_lt (place_on list b) (length list))
+
+-- of the first k keys a is the one with this number, and no earlier one; v is its value
+pub record IsFirstKey (key value : ℕ → ℕ) (k a v : ℕ) : Type 0 where
+  pub at : ℕ
+  pub below : at < k
+  pub is : key at ≡ a
+  pub told : value at ≡ v
+  pub before : (e : ℕ) → e < at → key e ≢ a
+
+-- with each of the first k keys that is in range its first value is noted, and nothing else is
+pub record AreFirst (key value : ℕ → ℕ) (k : ℕ) (places : List (Option ℕ)) : Type 0 where
+  pub noted : (e a : ℕ) → e < k → key e ≡ a → a < length places → noted_of places a ≢ None
+  pub first : (a v : ℕ) → noted_of places a ≡ Some v → IsFirstKey key value k a v
+
+first_later : {key value : ℕ → ℕ} {k a v : ℕ} → IsFirstKey key value k a v → IsFirstKey key value (k + 1) a v
+first_later w = record { at = w.at; below = let l = w.below in omega arith; is = w.is; told = w.told; before = w.before }
+
+-- one more place is noted among as many
+pub length-first_noted : (o : Option ℕ) (places : List (Option ℕ)) (a place : ℕ) → length (first_noted o places a place) ≡ length places
+length-first_noted (Some _) places a place = refl
+length-first_noted None places a place = length-set places a (Some place)
+
+-- one key more, whose value is noted already or isn't
+pub first_more : (key value : ℕ → ℕ) (k : ℕ) (places : List (Option ℕ)) (o : Option ℕ) → noted_of places (key k) ≡ o → AreFirst key value k places → AreFirst key value (k + 1) (first_noted o places (key k) (value k))
+first_more key value k places (Some w) is s =
+    record {
+      noted = λ e a l same inside. ⊎_elim
+          (λ lower. s.noted e a lower same inside)
+          (λ le none. let last : k ≡ e = omega arith in none-some w (sym none ∙ ap (noted_of places) (sym same ∙ ap key (sym last)) ∙ is))
+          (cases_lt e k);
+      first = λ a v there. first_later (s.first a v there);
+    }
+first_more key value k places None is s =
+    let new : List (Option ℕ) = set places (key k) (Some (value k)) in
+    let fresh : key k < length places → (e : ℕ) → e < k → key e ≢ key k = λ inside e l same. s.noted e (key k) l same inside is in
+    record {
+      noted = λ e a l same inside none. let long = length-set places (key k) (Some (value k)) in ⊎_elim
+          (λ (here : a ≡ key k). none-some (value k) (sym none ∙ ap (noted_of new) here ∙ get_or-set_same places (key k) (Some (value k)) None (omega arith)))
+          (λ other. s.noted e a (⊎_elim (λ lower. lower) (λ le. let last : k ≡ e = omega arith in absurd (other (sym same ∙ ap key (sym last)))) (cases_lt e k)) same (omega arith)
+          (sym (get_or-set_other places (key k) a (Some (value k)) None other) ∙ none))
+          (cases_eq a (key k));
+      first = λ a v there. ⊎_elim
+          (λ (here : a ≡ key k). ⊎_elim
+          (λ inside.
+          let told : value k ≡ v = same_Some (value k) v (sym (get_or-set_same places (key k) (Some (value k)) None inside) ∙ ap (noted_of new) (sym here) ∙ there) in
+          record { at = k; below = omega arith; is = sym here; told = told; before = λ e l same. fresh inside e l (same ∙ here) })
+          (λ past. let long = length-set places (key k) (Some (value k)) in
+          absurd (none-some v (sym (get_or_past new a None (omega arith)) ∙ there)))
+          (cases_lt (key k) (length places)))
+          (λ other. first_later (s.first a v (sym (get_or-set_other places (key k) a (Some (value k)) None other) ∙ there)))
+          (cases_eq a (key k));
+    }
+
+-- with all of a list noted, each agent's place on it is
+pub first_on_list : (list : List ℕ) (places : List (Option ℕ)) → AreFirst (λ j. get_or list j 0) (λ j. j) (length list) places → (a : ℕ) → a < length places → noted_of places a ≡ found_on list a
+first_on_list list places s a inside = go (noted_of places a) refl
+  where
+    go : (o : Option ℕ) → noted_of places a ≡ o → o ≡ found_on list a
+    go None none = found_on-none list a (λ j on same. s.noted j a on same inside none)
+    go (Some i) is =
+        let w = s.first a i is in
+        let at : w.at ≡ i = w.told in
+        let on : i < length list = let l = w.below in omega arith in
+        found_on_is list a i on (subst (λ j. get_or list j 0 ≡ a) at w.is) (λ j l. w.before j (omega arith))
+
+-- with all namings of b noted, its place on each list is
+pub first_of_namings : (namings : List Naming) (places : List (Option ℕ)) → AreFirst (λ e. (naming_at namings e).by) (λ e. (naming_at namings e).place) (length namings) places
+    → (rows : List (List ℕ)) (b : ℕ) → AreNamingsOf rows (length rows) 0 b namings → (a : ℕ) → a < length places → noted_of places a ≡ cross_place rows a b
+first_of_namings namings places s rows b n a inside = go (noted_of places a) refl
+  where
+    go : (o : Option ℕ) → noted_of places a ≡ o → o ≡ cross_place rows a b
+    go None none =
+        found_on-none (row rows a) b
+        (λ i on there. let w = n.earlier_named a i (row_in_range rows a i on) on there in s.noted w.at a w.there w.by inside none)
+    go (Some i) is =
+        let w = s.first a i is in
+        let P : (ℕ → ℕ → Type 0) → Type 0 = λ Q. Q (naming_at namings w.at).by (naming_at namings w.at).place → Q a i in
+        let read : (Q : ℕ → ℕ → Type 0) → P Q = λ Q q. subst (Q a) w.told (subst (λ c. Q c (naming_at namings w.at).place) w.is q) in
+        let on : i < length (row rows a) = read (λ c j. j < length (row rows c)) (n.on_list w.at w.below) in
+        let there : entry rows a i ≡ b = read (λ c j. entry rows c j ≡ b) (n.names w.at w.below) in
+        found_on_is (row rows a) b i on there
+        (λ j lower same.
+        let v = n.earlier_named a j (row_in_range rows a j (omega arith)) (omega arith) same in
+        let v_place = v.place in
+        let w_place = w.told in
+        ⊎_elim
+        (λ l. w.before v.at l v.by)
+        (λ le. ⊎_elim
+        (λ here. let e = ap (λ f. (naming_at namings f).place) here in omega arith)
+        (λ other. let above = n.ordered w.at v.at (omega arith) v.there (w.is ∙ sym v.by) in omega arith)
+        (cases_eq v.at w.at))
+        (cases_lt v.at w.at))

@@ -1,0 +1,17 @@
+use Rattle.std.proofs.Common.{◌≡◌, ℕ, ◌+◌, ◌<◌, [], length, get_or}
+use Rattle.sm_lists.specs.Crosses.{AreCrossPlacesOf}
+use Rattle.sm_lists.specs.Rows.{lists_in}
+use Rattle.sm_lists.specs.Held.{held_in}
+use Rattle.sm_lists.specs.Kept.{ArePlacesBefore}
+use Rattle.sm_lists.proofs.crosses.cross_places.Given as goal
+
+abbrev pub invariant-loop-b : goal.invariant-loop-b
+invariant-loop-b g l = record {
+  listed_turns : l.listed.turns ≡ l.b + 1;
+  named_turns : l.named.turns ≡ l.b + 1;
+  listed_long : length l.listed.places ≡ length l.rows;
+  named_long : length l.named.places ≡ length l.rows;
+  before : ArePlacesBefore (lists_in l.rows) (lists_in l.others) l.b (held_in g.C.KeptPlace.kept l.of_rows.items);
+  back_each : length (held_in g.C.KeptPlace.kept l.of_others.items) ≡ l.b;
+  back_of : (c : ℕ) → c < l.b → AreCrossPlacesOf (lists_in l.others) (lists_in l.rows) c (get_or (held_in g.C.KeptPlace.kept l.of_others.items) c []);
+}

@@ -1,0 +1,13 @@
+use Rattle.std.proofs.Common.{ℕ, ◌≡◌, length, subst, arith}
+use Rattle.std.proofs.lemmas.List.{length-map}
+use Rattle.sm_lists.specs.Namings.{AreNamings}
+use Rattle.sm_lists.specs.Rows.{lists_in}
+use Rattle.sm_lists.specs.Held.{held_in}
+use Rattle.sm_lists.proofs.crosses.namings.Goals as goal
+
+pub returns : goal.returns
+returns g c =
+    let long = length-map c.args.rows.now (λ list. list.now) in
+    let whole : c.loop-by.by ≡ length (lists_in c.args.rows.now) = omega arith in
+    let Q : ℕ → Type 0 = λ a. AreNamings (lists_in c.args.rows.now) (length (lists_in c.args.others.now)) a 0 (held_in g.N.KeptNaming.kept c.loop-by.namings.items) in
+    subst Q whole c.loop-by.invariant

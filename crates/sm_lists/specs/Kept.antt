@@ -1,0 +1,35 @@
+-- What is noted of a list, turn by turn, and the cross places that are written by then.
+use Rattle.std.specs.Prelude.{◌≡◌, ℕ, ◌<◌, ◌≤◌, ◌==◌, List, [], Option, Some, None, length, slice_index_or, slice_set, if◌then◌else◌}
+use Rattle.sm_lists.specs.Rows.{row, entry}
+use Rattle.sm_lists.specs.Crosses.{cross_place}
+use Rattle.sm_lists.specs.declared.notes.Note.{Note}
+
+-- what stands for a note past the last
+abbrev pub no_note : Note
+no_note = record { stamp = 0; place = 0 }
+
+-- what was noted in a turn
+abbrev pub noted_in : ℕ → Note → Option ℕ
+noted_in turn note = if note.stamp == turn then Some note.place else None
+
+-- the place that is noted for each agent of a side, and how many turns there have been
+pub record Noted : Type 0 where
+  pub turns : ℕ
+  pub places : List (Option ℕ)
+
+-- the place that is noted for an agent
+abbrev pub noted_of : List (Option ℕ) → ℕ → Option ℕ
+noted_of places a = slice_index_or places a None
+
+-- the places once one is noted for an agent, unless there is one
+abbrev pub first_noted : Option ℕ → List (Option ℕ) → ℕ → ℕ → List (Option ℕ)
+first_noted (Some _) places a place = places
+first_noted None places a place = slice_set places a (Some place)
+
+-- beside the entries that name agents before b are their cross places, and beside the others none
+pub record ArePlacesBefore (rows others : List (List ℕ)) (b : ℕ) (crosses : List (List (Option ℕ))) : Type 0 where
+  pub one_each : length crosses ≡ length rows
+  pub as_long : (a : ℕ) → length (slice_index_or crosses a []) ≡ length (row rows a)
+  pub written : (a i : ℕ) → i < length (row rows a) → entry rows a i < b
+      → slice_index_or (slice_index_or crosses a []) i None ≡ cross_place others (entry rows a i) a
+  pub unwritten : (a i : ℕ) → b ≤ entry rows a i → slice_index_or (slice_index_or crosses a []) i None ≡ None

@@ -1,0 +1,74 @@
+//! What is noted of each agent of a side while one list is looked at.
+
+ghost use Rattle.std.specs.Prelude.{◌≡◌, ℕ, ◌<◌, ◌^◌, ◌+◌, IfOk, None, length, replicate};
+ghost use Rattle.sm_lists.specs.Kept.{Noted, noted_of, first_noted};
+
+use std::alloc::{AllocError, Global};
+use std::marker::Model;
+
+/// A place that was noted for an agent, and the turn in which it was.
+#[derive(Clone, Copy)]
+struct Note {
+    stamp: u32,
+    place: u32,
+}
+
+/// A place for each agent of a side, or none. All are taken away at once when the next turn begins.
+#[derive(Drop)]
+pub(crate) struct Notes {
+    notes: Vec<Note>,
+    turn: u32,
+}
+
+impl Model for Notes {
+    ghost use Rattle.std.specs.Prelude.{ℕ, ◌≤◌, map, slice_index_or};
+    ghost use Rattle.sm_lists.specs.Kept.{Noted, noted_in, no_note};
+
+    ghost Value = { Noted };
+
+    ghost view = { λ n. record { turns = n.turn; places = map (noted_in n.turn) n.notes.items } };
+
+    ghost invariant = { λ n. (1 ≤ n.turn) × ((a : ℕ) → (slice_index_or n.notes.items a no_note).stamp ≤ n.turn) };
+}
+
+impl Notes {
+    /// Nothing is noted for so many agents.
+    pub(crate) fn new(alloc: Global, agents: usize) -> Result<Notes, AllocError>
+        ensures { IfOk result (λ notes. notes ≡ record { turns = 1; places = replicate agents None }) }
+    {
+        let notes = vec![in alloc; Note { stamp: 0, place: 0 }; agents]?;
+        Ok(Notes { notes, turn: 1 })
+    }
+
+    /// Begins the next turn, with nothing noted.
+    pub(crate) fn clear(&mut self)
+        requires { self.old.turns + 1 < 2 ^ 32 }
+        ensures { self.new ≡ record { turns = self.old.turns + 1; places = replicate (length self.old.places) None } }
+    {
+        self.turn += 1;
+    }
+
+    /// Notes a place for an agent, unless one is noted or the agent isn't of this side.
+    pub(crate) fn note(&mut self, a: u32, place: u32)
+        ensures turns { self.new.turns ≡ self.old.turns }
+        ensures places { self.new.places ≡ first_noted (noted_of self.old.places a) self.old.places a place }
+    {
+        let at = a as usize;
+        if at < self.notes.len() && self.notes[at].stamp != self.turn {
+            self.notes[at] = Note {
+                stamp: self.turn,
+                place,
+            };
+        }
+    }
+
+    /// The place that is noted for an agent.
+    pub(crate) fn place(&self, a: u32) -> Option<u32>
+        ensures { result ≡ noted_of self.now.places a }
+    {
+        match self.notes.get(a as usize) {
+            Some(note) if note.stamp == self.turn => Some(note.place),
+            _ => None,
+        }
+    }
+}
