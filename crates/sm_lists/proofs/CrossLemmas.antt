@@ -13,7 +13,7 @@ use Rattle.sm_lists.specs.Kept.{noted_of, ArePlacesBefore}
 use Rattle.sm_lists.specs.declared.naming.Naming.{Naming}
 use Rattle.sm_lists.proofs.ItemLemmas.{set_cases, push_cases}
 use Rattle.sm_lists.proofs.RowLemmas.{row_in_range}
-use Rattle.sm_lists.proofs.FirstLemmas.{found_on-fits}
+use Rattle.sm_lists.proofs.FoundLemmas.{found_on-fits}
 
 -- an item of a vector among vectors is replaced
 pub held_in-written : {X Y : Type 0} (f : X → Y) (vectors : List (Vec X Global)) (b j : ℕ) (x : X) (v : Vec X Global) → b < length vectors

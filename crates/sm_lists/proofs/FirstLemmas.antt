@@ -1,32 +1,15 @@
 -- Noting places one after another, so that each agent keeps its first.
-use Rattle.std.proofs.Common.{IfSome, ◌≡◌, ◌≢◌, ℕ, ◌+◌, ◌<◌, ◌≤◌, List, Option, Some, None, length, get_or, set, refl, sym, ap, subst, ◌∙◌, arith, ⊎_elim}
+use Rattle.std.proofs.Common.{◌≡◌, ◌≢◌, ℕ, ◌+◌, ◌<◌, List, Option, Some, None, length, get_or, set, refl, sym, ap, subst, ◌∙◌, arith, ⊎_elim}
 use Rattle.std.proofs.lemmas.Bool.{cases_lt, cases_eq}
 use Rattle.std.proofs.lemmas.Option.{same_Some, none-some}
-use Rattle.std.proofs.lemmas.Bool.Decides.{nat_tests}
 use Rattle.std.proofs.lemmas.List.{length-set, get_or_past, get_or-set_same, get_or-set_other}
-use Rattle.sm_lists.specs.Rows.{row, entry, place_on}
+use Rattle.sm_lists.specs.Rows.{row, entry}
 use Rattle.sm_lists.specs.Crosses.{found_on, cross_place}
 use Rattle.sm_lists.specs.Namings.{naming_at, AreNamingsOf}
 use Rattle.sm_lists.specs.declared.naming.Naming.{Naming}
 use Rattle.sm_lists.specs.Kept.{noted_of, first_noted}
-use Rattle.sm_lists.proofs.PlaceLemmas.{place_on_is, place_on-none, place_on-lt, get_or-place_on, get_or_before-place_on}
+use Rattle.sm_lists.proofs.FoundLemmas.{found_on_is, found_on-none}
 use Rattle.sm_lists.proofs.RowLemmas.{row_in_range}
-
--- the place that is found on a list, and none where the agent isn't on it
-pub found_on_is : (list : List ℕ) (b i : ℕ) → i < length list → get_or list i 0 ≡ b → ((k : ℕ) → k < i → get_or list k 0 ≢ b) → Some i ≡ found_on list b
-found_on_is list b i on there before = let place : place_on list b ≡ i = place_on_is list b i on there before in grind (arith, nat_tests)
-
-pub found_on-none : (list : List ℕ) (b : ℕ) → ((i : ℕ) → i < length list → get_or list i 0 ≢ b) → let none : Option ℕ = None in none ≡ found_on list b
-found_on-none list b none = let place : place_on list b ≡ length list = place_on-none list b none in grind (arith, nat_tests)
-
--- a place that is found is on the list
-pub found_on-fits : (list : List ℕ) (b most : ℕ) → length list ≤ most → IfSome (found_on list b) (λ i. i < most)
-found_on-fits list b most le =
-    let P : Option ℕ → Type 0 = λ o. IfSome o (λ i. i < most) in
-    ⊎_elim
-    (λ lt. subst P (found_on_is list b (place_on list b) lt (get_or-place_on list b lt) (get_or_before-place_on list b)) (let fits : place_on list b < most = omega arith in fits))
-    (λ ge. subst P (found_on-none list b (λ i on there. let lt = place_on-lt list b i on there in omega arith)) tt)
-    (cases_lt (place_on list b) (length list))
 
 -- of the first k keys a is the one with this number, and no earlier one; v is its value
 pub record IsFirstKey (key value : ℕ → ℕ) (k a v : ℕ) : Type 0 where

@@ -4,6 +4,7 @@ pub mod ItemLemmas
 pub mod RowLemmas
 pub mod ResultLemmas
 pub mod NoteLemmas
+pub mod FoundLemmas
 pub mod FirstLemmas
 pub mod NamingLemmas
 pub mod CrossLemmas

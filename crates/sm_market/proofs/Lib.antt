@@ -1,9 +1,5 @@
 pub mod PlaceLemmas
-pub mod NamingLemmas
-pub mod AddingLemmas
 pub mod WalkLemmas
-pub mod CrossLemmas
-pub mod TurningLemmas
 pub mod SeatLemmas
 pub mod PairingLemmas
 pub mod CycleLemmas

@@ -1,12 +1,20 @@
--- Walking a list with its namings noted: cross positions, and the first fault.
-use Rattle.std.proofs.Common.{◌≡◌, ◌≢◌, ℕ, ◌+◌, ◌<◌, ◌≤◌, List, [], ◌∷◌, ◌++◌, length, get_or, set, refl, sym, ap, subst, ◌∙◌, arith, ⊎_elim}
+-- Walking a list whose cross places are known, to its first fault; and the cross positions of sound lists.
+use Rattle.std.proofs.Common.{◌≡◌, ◌≢◌, ℕ, ◌+◌, ◌<◌, ◌≤◌, List, [], Vec, Option, Some, None, Bool, true, false, if◌then◌else◌, eqb, length, map, get_or, set, refl, sym, ap, subst, ◌∙◌, arith, ⊎_elim}
 use Rattle.std.proofs.lemmas.Bool.{cases_lt}
-use Rattle.std.proofs.lemmas.List.{length_push, length-set}
-use Rattle.sm_market.specs.Lists.{entry, place_of}
-use Rattle.sm_market.specs.Entries.{IsSound}
-use Rattle.sm_market.specs.Namings.{AreNoted, note_of}
-use Rattle.sm_market.specs.declared.crosses.Note.{Note}
-use Rattle.sm_lists.proofs.ItemLemmas.{set_cases, push_cases}
+use Rattle.std.proofs.lemmas.List.{get_or-map, get_or_past, length-map, length-set}
+use Rattle.std.proofs.lemmas.Simd.{map-map}
+use Rattle.std.proofs.Math.ListN.{get_or-map as get_or-map_all}
+use Rattle.std.proofs.lemmas.Option.{same_Some, none-some}
+use Rattle.std.specs.declared.alloc.Global.{Global}
+use Rattle.sm_market.specs.Lists.{row, entry, place_of}
+use Rattle.sm_market.specs.Vectors.{rows_of}
+use Rattle.sm_market.specs.Crosses.{AreCrosses}
+use Rattle.sm_market.specs.Entries.{IsSound, AreSound}
+use Rattle.sm_lists.specs.Crosses.{cross_place, AreCrossPlacesOf, AreCrossPlaces}
+use Rattle.sm_lists.specs.Held.{held_in, place_in}
+use Rattle.sm_lists.proofs.ItemLemmas.{set_cases}
+use Rattle.sm_lists.proofs.RowLemmas.{row_in_range}
+use Rattle.sm_lists.proofs.FoundLemmas.{found_on-some, place_on-unfound}
 
 -- b stands at a place before i on a's list
 pub record IsAmong (rows : List (List ℕ)) (a i b : ℕ) : Type 0 where
@@ -14,39 +22,32 @@ pub record IsAmong (rows : List (List ℕ)) (a i b : ℕ) : Type 0 where
   pub before : at < i
   pub is : entry rows a at ≡ b
 
--- the first i entries of a's list are sound, their cross positions are found, and whom they name is marked as met
-pub record IsWalked (rows others : List (List ℕ)) (a i : ℕ) (crosses met : List ℕ) : Type 0 where
-  pub as_long : length crosses ≡ i
+-- the first i entries of a's list are sound, and whom they name is marked as met
+pub record IsWalked (rows others : List (List ℕ)) (a i : ℕ) (met : List ℕ) : Type 0 where
   pub one_each : length met ≡ length others
-  pub places : (j : ℕ) → j < i → get_or crosses j 0 ≡ place_of others (entry rows a j) a
   pub sound : (j : ℕ) → j < i → IsSound rows others a j
   pub latest : (b : ℕ) → get_or met b 0 ≤ a + 1
   pub met_all : (j : ℕ) → j < i → get_or met (entry rows a j) 0 ≡ a + 1
   pub met_only : (b : ℕ) → get_or met b 0 ≡ a + 1 → IsAmong rows a i b
 
-module _ {rows others : List (List ℕ)} {a i : ℕ} {crosses met : List ℕ} (w : IsWalked rows others a i crosses met) where
+module _ {rows others : List (List ℕ)} {a i : ℕ} {met : List ℕ} (w : IsWalked rows others a i met) where
   -- an entry whose agent isn't marked stands there for the first time
   pub fresh_at : get_or met (entry rows a i) 0 ≢ a + 1 → (j : ℕ) → j < i → entry rows a j ≢ entry rows a i
   fresh_at unmet j l e = unmet (ap (λ b. get_or met b 0) (sym e) ∙ w.met_all j l)
 
   -- one step of the walk, at a sound entry
-  pub walk_step : (notes : List Note) (b place : ℕ) → AreNoted others a notes → b ≡ entry rows a i → b < length others → get_or met b 0 ≢ a + 1
-      → (note_of notes b).stamp ≡ a + 1 → place ≡ (note_of notes b).place → IsWalked rows others a (i + 1) (crosses ++ place ∷ []) (set met b (a + 1))
-  walk_step notes b place noted is in_range unmet stamped read =
+  pub walk_step : (b place : ℕ) → b ≡ entry rows a i → b < length others → get_or met b 0 ≢ a + 1 → Some place ≡ cross_place others (entry rows a i) a
+      → IsWalked rows others a (i + 1) (set met b (a + 1))
+  walk_step b place is in_range unmet found =
       let there : b < length met = let same = w.one_each in omega arith in
       let here : IsSound rows others a i =
       record {
         in_range = rw (← is) in_range;
         fresh = fresh_at (rw (← is) unmet);
-        returned = rw (← is) (noted.named b stamped);
+        returned = let x = found_on-some (row others (entry rows a i)) a place (sym found) in let e = x.0 in let l = x.1 in omega arith;
       } in
-      let placed : place ≡ place_of others (entry rows a i) a = read ∙ sym (noted.first b stamped) ∙ ap (λ c. place_of others c a) is in
       record {
-        as_long = let long = length_push crosses place in let same = w.as_long in omega arith;
         one_each = length-set met b (a + 1) ∙ w.one_each;
-        places = λ j l.
-            let long = length_push crosses place in let same = w.as_long in
-            push_cases (λ k x. x ≡ place_of others (entry rows a k) a) crosses place 0 (rw same placed) (λ k lk. w.places k (omega arith)) j (omega arith);
         sound = λ j l. ⊎_elim (λ lower. w.sound j lower) (λ le. let last : i ≡ j = omega arith in subst (λ k. IsSound rows others a k) last here) (cases_lt j i);
         latest = set_cases (λ _ x. x ≤ a + 1) met b (a + 1) 0 there (omega arith) (λ c _. w.latest c);
         met_all = λ j l. set_cases (λ c x. c ≡ entry rows a j → x ≡ a + 1) met b (a + 1) 0 there (λ _. refl)
@@ -59,3 +60,46 @@ module _ {rows others : List (List ℕ)} {a i : ℕ} {crosses met : List ℕ} (w
             (λ _. record { at = i; before = omega arith; is = sym is })
             (λ c other e. let m = w.met_only c e in record { at = m.at; before = let l = m.before in omega arith; is = m.is });
       }
+
+-- the cross place of an entry, as it is read
+pub cross_at : {rows others : List (List ℕ)} {a : ℕ} (crosses : List ℕ) → AreCrossPlacesOf rows others a (map place_in crosses) → (i : ℕ) → i < length (row rows a)
+    → place_in (get_or crosses i 0) ≡ cross_place others (entry rows a i) a
+cross_at crosses c i on =
+    let long = length-map crosses place_in in
+    let same = c.as_long in
+    sym (get_or-map place_in crosses i 0 None (omega arith)) ∙ c.places i on
+
+-- the cross places of a list, as they are read of its vector
+pub crosses_read : {rows others : List (List ℕ)} (vectors : List (Vec ℕ Global)) (a : ℕ) → AreCrossPlaces rows others (held_in place_in vectors) → a < length rows
+    → AreCrossPlacesOf rows others a (map place_in (row (rows_of vectors) a))
+crosses_read {rows} {others} vectors a c inside =
+    let items : Vec ℕ Global → List ℕ = λ v. v.items in
+    let read : get_or (held_in place_in vectors) a [] ≡ map place_in (row (rows_of vectors) a) =
+    ap (λ lists. get_or lists a []) (sym (map-map (map place_in) items vectors)) ∙ get_or-map_all (map place_in) (rows_of vectors) a [] in
+    subst (AreCrossPlacesOf rows others a) read (c.of a inside)
+
+-- beside sound entries the cross places are places
+pub place_in-some : (n i : ℕ) → place_in n ≡ Some i → n ≡ i
+place_in-some n i is = go (eqb n 4294967295) is
+  where
+    go : (t : Bool) → (if t then None else Some n) ≡ Some i → n ≡ i
+    go true e = absurd (none-some i e)
+    go false e = same_Some n i e
+
+pub crosses_sound : {rows others : List (List ℕ)} (vectors : List (Vec ℕ Global)) → AreCrossPlaces rows others (held_in place_in vectors) → AreSound rows others → AreCrosses rows others (rows_of vectors)
+crosses_sound {rows} {others} vectors c sound =
+    let long : length (rows_of vectors) ≡ length rows = length-map vectors (λ v. v.items) ∙ sym (length-map vectors (λ v. map place_in v.items)) ∙ c.one_each in
+    record {
+      one_each = long;
+      as_long = λ a. ⊎_elim
+          (λ inside. sym (length-map (row (rows_of vectors) a) place_in) ∙ (crosses_read vectors a c inside).as_long)
+          (λ past. ap length (get_or_past (rows_of vectors) a [] (omega arith)) ∙ sym (ap length (get_or_past rows a [] past)))
+          (cases_lt a (length rows));
+      places = λ a i on.
+          let at = cross_at (row (rows_of vectors) a) (crosses_read vectors a c (row_in_range rows a i on)) i on in
+          found (get_or (row (rows_of vectors) a) i 0) (entry rows a i) a (place_in (get_or (row (rows_of vectors) a) i 0)) refl at (sound.sound a i on).returned;
+    }
+  where
+    found : (n b a : ℕ) (o : Option ℕ) → place_in n ≡ o → o ≡ cross_place others b a → place_of others b a < length (row others b) → n ≡ place_of others b a
+    found n b a None is at on = absurd (let none = place_on-unfound (row others b) a at in omega arith)
+    found n b a (Some i) is at on = place_in-some n i is ∙ sym (found_on-some (row others b) a i (sym at)).0

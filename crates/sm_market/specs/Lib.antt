@@ -10,8 +10,6 @@ pub mod Vectors
 pub mod Limits
 pub mod Crosses
 pub mod Kept
-pub mod Namings
-pub mod Turning
 pub mod Entries
 pub mod MarketFaults
 pub mod PairingFaults

@@ -10,12 +10,11 @@
 #![tactic(auto)]
 
 mod blocking;
-mod crosses;
+mod entries;
 mod faults;
 pub mod laws;
 mod lists;
 mod pairs;
-mod turning;
 pub mod witnesses;
 
 pub use faults::{MarketFault, PairingFault, Side};

@@ -4,12 +4,13 @@ ghost use Rattle.std.specs.Prelude.{◌≡◌, ◌≢◌, ℕ, ◌<◌, ◌^◌,
 ghost use Rattle.sm_market.specs.Lists.{Lists, row, entry, place_of, reversed_lists, IsMarket};
 ghost use Rattle.sm_market.specs.Vectors.{rows_of, lists_of};
 ghost use Rattle.sm_market.specs.Limits.{IsWithinLimits};
+ghost use Rattle.sm_lists.specs.Crosses.{AreCrossPlaces};
+ghost use Rattle.sm_lists.specs.Held.{held_in, place_in};
 ghost use Rattle.sm_market.specs.Crosses.{AreCrosses};
 
-use crate::crosses::crosses;
+use crate::entries::check_entries;
 use crate::faults::{MarketFault, Side};
-use crate::turning::reviewer_crosses;
-use sm_lists::{copy_of, entry_at, list_at};
+use sm_lists::{CrossPlaces, Naming, copy_of, cross_places, entry_at, lent, list_at};
 use std::alloc::{AllocError, Global};
 use std::marker::Model;
 
@@ -68,12 +69,24 @@ impl Market {
             (λ f. f ≢ MarketFault.OutOfMemory
             → ¬ IsMarket (lists_of proposer_lists.items reviewer_lists.items)) }
     {
-        let proposer_crosses = crosses(alloc, Side::Proposers, &proposer_lists, &reviewer_lists)?;
-        let reviewer_crosses = reviewer_crosses(
+        let CrossPlaces {
+            rows: proposer_crosses,
+            others: reviewer_crosses,
+            ..
+        } = crosses_of(alloc, &proposer_lists, &reviewer_lists)?;
+        check_entries(
             alloc,
+            Side::Proposers,
             &proposer_lists,
             &reviewer_lists,
             &proposer_crosses,
+        )?;
+        check_entries(
+            alloc,
+            Side::Reviewers,
+            &reviewer_lists,
+            &proposer_lists,
+            &reviewer_crosses,
         )?;
         Ok(Market {
             proposer_lists,
@@ -238,4 +251,21 @@ impl Market {
     {
         entry_at(&self.reviewer_crosses, r, place)
     }
+}
+
+/// The cross places of both sides' lists, whatever their entries are.
+fn crosses_of(
+    alloc: Global,
+    proposers: &[Vec<u32>],
+    reviewers: &[Vec<u32>],
+) -> Result<CrossPlaces<u32, Naming>, AllocError>
+    requires { IsWithinLimits (lists_of proposers.now reviewers.now) }
+    ensures proposers { IfOk result (λ c. AreCrossPlaces (rows_of proposers.now) (rows_of reviewers.now)
+        (held_in place_in c.rows.items)) }
+    ensures reviewers { IfOk result (λ c. AreCrossPlaces (rows_of reviewers.now) (rows_of proposers.now)
+        (held_in place_in c.others.items)) }
+{
+    let proposers = lent(alloc, proposers)?;
+    let reviewers = lent(alloc, reviewers)?;
+    cross_places(alloc, &proposers, &reviewers)
 }

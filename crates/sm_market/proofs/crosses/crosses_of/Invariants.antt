@@ -1,6 +1,0 @@
-use Rattle.sm_market.specs.Vectors.{rows_of}
-use Rattle.sm_market.proofs.WalkLemmas.{IsWalked}
-use Rattle.sm_market.proofs.crosses.crosses_of.Given as goal
-
-abbrev pub invariant-loop-i : goal.invariant-loop-i
-invariant-loop-i l = IsWalked (rows_of l.rows) (rows_of l.others) l.a l.i l.crosses.items l.met
