@@ -19,4 +19,4 @@ pub mod witnesses;
 
 pub use faults::{MarketFault, PairingFault, Side};
 pub use lists::Market;
-pub use pairs::Pairing;
+pub use pairs::{Pairing, next_in};

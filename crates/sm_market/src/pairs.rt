@@ -240,7 +240,7 @@ fn turn_round(
 {
     for i in 0..cycle.len() {
         let p = cycle[i].0;
-        let target = cycle[next_of(i, cycle.len())].1;
+        let target = cycle[next_in(i, cycle.len())].1;
         let from = places[p as usize].unwrap_or(0);
         let place = place_from(market, p, from, target);
         places[p as usize] = Some(place);
@@ -249,8 +249,8 @@ fn turn_round(
     }
 }
 
-/// The number of the pair that follows pair `i` round a cycle of `size` pairs.
-fn next_of(i: usize, size: usize) -> usize
+/// The number of the pair that follows pair `i` round a cycle of `size` pairs. Pairs are numbered from 0.
+pub fn next_in(i: usize, size: usize) -> usize
     requires { i < size }
     ensures { result ≡ (if i + 1 == size then 0 else i + 1) }
 {

@@ -106,7 +106,7 @@ fn walk_step(
         return WalkStep::On(p);
     }
     let top = stack[stack.len() - 1];
-    let Some(q) = next_of(market, m, linked, top) else {
+    let Some(q) = holder_of_next(market, m, linked, top) else {
         return WalkStep::Over;
     };
     if finished[q as usize] {
@@ -230,7 +230,7 @@ fn cut_to_new_partners(market: &Market, m: &Pairing, pairs: &[(u32, u32)], linke
 }
 
 /// The proposer that has the successor of `p`, by the pairs that are left.
-fn next_of(market: &Market, m: &Pairing, linked: &Linked, p: u32) -> Option<u32>
+fn holder_of_next(market: &Market, m: &Pairing, linked: &Linked, p: u32) -> Option<u32>
     requires in_range { p < length market.now.proposers }
     requires market { IsMarket market.now }
     requires made { IsPairingOf market.now m.now }

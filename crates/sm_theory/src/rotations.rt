@@ -6,7 +6,7 @@ ghost use Rattle.sm_market.specs.Matching.{held};
 ghost use Rattle.sm_market.specs.Pairing.{IsPairingOf};
 ghost use Rattle.sm_theory.specs.Rotations.{WouldTake, IsSuccessor, IsLink, IsExposed, proposer_at, reviewer_at, target_at};
 
-use sm_market::{Market, Pairing};
+use sm_market::{Market, Pairing, next_in};
 
 /// A rotation: a cycle of pairs of a proposer and a reviewer, by their numbers. It moves each proposer to the reviewer of
 /// the next pair, and the last proposer to the reviewer of the first pair (Gusfield and Irving 1989, section 2.5).
@@ -89,14 +89,6 @@ fn is_link(market: &Market, m: &Pairing, p: u32, r: u32, target: u32) -> bool
     p < market.proposers() && are_partners(market, m, p, r) && is_successor(market, m, p, target)
 }
 
-/// The number of the pair that follows pair `i` round a cycle of `size` pairs.
-fn next_of(i: usize, size: usize) -> usize
-    requires { i < size }
-    ensures { result ≡ (if i + 1 == size then 0 else i + 1) }
-{
-    if i + 1 == size { 0 } else { i + 1 }
-}
-
 /// Whether the pair `i` of a cycle consists of partners, and its proposer's successor is the reviewer of the next pair.
 fn is_link_at(market: &Market, m: &Pairing, pairs: &[(u32, u32)], i: usize) -> bool
     requires in_range { i < length pairs.now }
@@ -106,7 +98,7 @@ fn is_link_at(market: &Market, m: &Pairing, pairs: &[(u32, u32)], i: usize) -> b
     ensures market { IsMarket market.now }
 {
     let (p, r) = pairs[i];
-    let next = next_of(i, pairs.len());
+    let next = next_in(i, pairs.len());
     is_link(market, m, p, r, pairs[next].1)
 }
 

@@ -15,7 +15,7 @@ pub place_from-place-requires-clause-in_range : goal.place_from-place-requires-c
 place_from-place-requires-clause-in_range c = in_range c.requires.market c.requires.made c.requires.cycle c.loop-i.i c.loop-i-test.true
 
 pub place_from-place-requires-clause-listed : goal.place_from-place-requires-clause-listed
-place_from-place-requires-clause-listed c = rw c.next_of.ensures (c.requires.cycle.listed c.loop-i.i c.loop-i-test.true)
+place_from-place-requires-clause-listed c = rw c.next_in.ensures (c.requires.cycle.listed c.loop-i.i c.loop-i-test.true)
 
 pub place_from-place-requires-clause-on_list : goal.place_from-place-requires-clause-on_list
 place_from-place-requires-clause-on_list c =
@@ -31,26 +31,26 @@ pub cross-requires-clause-in_range : goal.cross-requires-clause-in_range
 cross-requires-clause-in_range c = in_range c.requires.market c.requires.made c.requires.cycle c.loop-i.i c.loop-i-test.true
 
 pub cross-requires-clause-on_list : goal.cross-requires-clause-on_list
-cross-requires-clause-on_list c = rw (c.place_from-place.ensures, c.next_of.ensures) (c.requires.cycle.listed c.loop-i.i c.loop-i-test.true)
+cross-requires-clause-on_list c = rw (c.place_from-place.ensures, c.next_in.ensures) (c.requires.cycle.listed c.loop-i.i c.loop-i-test.true)
 
 pub bounds-reviewer_places-target : goal.bounds-reviewer_places-target
 bounds-reviewer_places-target c =
     let lt = target_in_range c.requires.market c.requires.made c.requires.cycle c.loop-i.i c.loop-i-test.true in
-    let is = ap (reviewer_at c.args.cycle.now) c.next_of.ensures in
+    let is = ap (reviewer_at c.args.cycle.now) c.next_in.ensures in
     omega (arith, c.loop-i.invariant.reviewers_each)
 
 pub bounds-holders-target : goal.bounds-holders-target
 bounds-holders-target c =
     let lt = target_in_range c.requires.market c.requires.made c.requires.cycle c.loop-i.i c.loop-i-test.true in
-    let is = ap (reviewer_at c.args.cycle.now) c.next_of.ensures in
+    let is = ap (reviewer_at c.args.cycle.now) c.next_in.ensures in
     omega (arith, c.loop-i.invariant.holders_each)
 
 pub loop-i-preserved : goal.loop-i-preserved
 loop-i-preserved c =
     let p : ℕ = proposer_at c.args.cycle.now c.loop-i.i in
-    let r : ℕ = reviewer_at c.args.cycle.now c.next_of.result in
-    let is_target : r ≡ target_at c.args.cycle.now c.loop-i.i = ap (reviewer_at c.args.cycle.now) c.next_of.ensures in
-    let listed : place_of c.args.market.now.proposers p r < length (row c.args.market.now.proposers p) = rw c.next_of.ensures (c.requires.cycle.listed c.loop-i.i c.loop-i-test.true) in
+    let r : ℕ = reviewer_at c.args.cycle.now c.next_in.result in
+    let is_target : r ≡ target_at c.args.cycle.now c.loop-i.i = ap (reviewer_at c.args.cycle.now) c.next_in.ensures in
+    let listed : place_of c.args.market.now.proposers p r < length (row c.args.market.now.proposers p) = rw c.next_in.ensures (c.requires.cycle.listed c.loop-i.i c.loop-i-test.true) in
     let there : entry c.args.market.now.proposers p c.place_from-place.result ≡ r = ap (entry c.args.market.now.proposers p) c.place_from-place.ensures ∙ entry-place_of c.args.market.now.proposers p r listed in
     turn_step c.requires.market c.requires.made c.requires.cycle _ _ _ _ c.loop-i.invariant c.loop-i-test.true
     refl is_target c.place_from-place.ensures

@@ -2,7 +2,7 @@ use Rattle.std.proofs.Common.{◌≡◌, sym, ap, ◌∙◌}
 use Rattle.sm_market.specs.Lists.{entry}
 use Rattle.sm_market.specs.Matching.{held}
 use Rattle.sm_rotations.proofs.FrontLemmas.{next_answer, next_in_range, own_held}
-use Rattle.sm_rotations.proofs.walk.next_of.Goals as goal
+use Rattle.sm_rotations.proofs.walk.holder_of_next.Goals as goal
 
 pub behind-requires-clause-held : goal.behind-requires-clause-held
 behind-requires-clause-held c = own_held c.requires.market c.requires.made.matching c.requires.front c.args.p c.in_ok-place.place (sym c.place.ensures ∙ c.in_ok-place.was)
