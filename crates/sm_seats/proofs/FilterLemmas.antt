@@ -1,0 +1,141 @@
+-- Where the items of a list stand once some are left out.
+use Rattle.std.proofs.Common.{◌≡◌, ◌≢◌, ℕ, zero, suc, ◌+◌, ◌<◌, ◌≤◌, ◌==◌, Bool, true, false, List, [], ◌∷◌, length, get_or, refl, sym, ap, ◌∙◌, arith, inl, inr, ⊎_elim}
+use Rattle.std.specs.List.{position_or_len, filter}
+use Rattle.std.proofs.lemmas.Bool.{eqb-true, eq-eqb, false≢true, cases_lt}
+use Rattle.std.proofs.lemmas.List.Sums.{fails_before_first, passes_at_first, prefix_len-le-length}
+use Rattle.sm_instance.proofs.LoadLemmas.{test_cases}
+
+-- the place of b on a list
+abbrev pub place : List ℕ → ℕ → ℕ
+place xs b = position_or_len (λ x. x == b) xs
+
+place_here : (x b : ℕ) (xs : List ℕ) → (x == b) ≡ true → place (x ∷ xs) b ≡ 0
+place_here x b xs e = rw e refl
+
+place_behind : (x b : ℕ) (xs : List ℕ) → (x == b) ≡ false → place (x ∷ xs) b ≡ place xs b + 1
+place_behind x b xs e = rw e (omega arith)
+
+taken : (t : ℕ → Bool) (x : ℕ) (xs : List ℕ) → t x ≡ true → filter t (x ∷ xs) ≡ x ∷ filter t xs
+taken t x xs e = rw e refl
+
+left_out : (t : ℕ → Bool) (x : ℕ) (xs : List ℕ) → t x ≡ false → filter t (x ∷ xs) ≡ filter t xs
+left_out t x xs e = rw e refl
+
+pub place-le : (xs : List ℕ) (b : ℕ) → place xs b ≤ length xs
+place-le xs b = prefix_len-le-length _ xs
+
+pub get_or-place : (xs : List ℕ) (b : ℕ) → place xs b < length xs → get_or xs (place xs b) 0 ≡ b
+get_or-place xs b h = eqb-true _ _ (passes_at_first (λ x. x == b) xs 0 h)
+
+pub place_lt : (xs : List ℕ) (b i : ℕ) → i < length xs → get_or xs i 0 ≡ b → place xs b < length xs
+place_lt xs b i h e = ⊎_elim
+    (λ l. absurd (false≢true (sym (fails_before_first (λ x. x == b) xs i 0 l) ∙ eq-eqb _ _ e)))
+    (λ ge. omega arith)
+    (cases_lt i (place xs b))
+
+-- who passes the test keeps a place
+pub kept : (t : ℕ → Bool) (xs : List ℕ) (b : ℕ) → t b ≡ true → place xs b < length xs → place (filter t xs) b < length (filter t xs)
+kept t [] b e h = absurd (omega arith)
+kept t (x ∷ xs) b e h = elim (test_cases (x == b)) [
+  | inl same ↦
+      let passes : t x ≡ true = ap t (eqb-true x b same) ∙ e in
+      rw (taken t x xs passes) (rw (place_here x b (filter t xs) same) (omega arith))
+  | inr other ↦
+      let below : place xs b < length xs = omega (arith, h, place_behind x b xs other) in
+      let deep = kept t xs b e below in
+      elim (test_cases (t x)) [
+        | inl passes ↦ rw (taken t x xs passes) (omega (arith, deep, place_behind x b (filter t xs) other))
+        | inr fails ↦ rw (left_out t x xs fails) deep
+      ]
+]
+
+-- and only who passes it
+pub kept_passes : (t : ℕ → Bool) (xs : List ℕ) (b : ℕ) → place (filter t xs) b < length (filter t xs) → (t b ≡ true) × (place xs b < length xs)
+kept_passes t [] b h = absurd (omega arith)
+kept_passes t (x ∷ xs) b h = elim (test_cases (t x)) [
+  | inl passes ↦ elim (test_cases (x == b)) [
+    | inl same ↦ (ap t (sym (eqb-true x b same)) ∙ passes, omega (arith, place_here x b xs same))
+    | inr other ↦
+        let h' : place (x ∷ filter t xs) b < length (x ∷ filter t xs) = rw (taken t x xs passes) at h in
+        let deep = kept_passes t xs b (omega (arith, h', place_behind x b (filter t xs) other)) in
+        (deep.0, omega (arith, deep.1, place_behind x b xs other))
+  ]
+  | inr fails ↦
+      let h' : place (filter t xs) b < length (filter t xs) = rw (left_out t x xs fails) at h in
+      let deep = kept_passes t xs b h' in
+      (deep.0, place_lt_behind deep.1)
+]
+  where
+    place_lt_behind : place xs b < length xs → place (x ∷ xs) b < length (x ∷ xs)
+    place_lt_behind below = elim (test_cases (x == b)) [
+      | inl same ↦ omega (arith, place_here x b xs same)
+      | inr other ↦ omega (arith, below, place_behind x b xs other)
+    ]
+
+-- those who pass stay in their order
+pub kept_order : (t : ℕ → Bool) (xs : List ℕ) (b c : ℕ) → t b ≡ true → t c ≡ true → place xs b < place xs c → place (filter t xs) b < place (filter t xs) c
+kept_order t [] b c e f h = absurd (omega arith)
+kept_order t (x ∷ xs) b c e f h = elim (test_cases (x == c)) [
+  | inl same ↦ absurd (omega (arith, h, place_here x c xs same))
+  | inr far ↦ elim (test_cases (x == b)) [
+    | inl same ↦
+        let passes : t x ≡ true = ap t (eqb-true x b same) ∙ e in
+        rw (taken t x xs passes) (omega (arith, place_here x b (filter t xs) same, place_behind x c (filter t xs) far))
+    | inr other ↦
+        let deep = kept_order t xs b c e f (omega (arith, h, place_behind x b xs other, place_behind x c xs far)) in
+        elim (test_cases (t x)) [
+          | inl passes ↦ rw (taken t x xs passes) (omega (arith, deep, place_behind x b (filter t xs) other, place_behind x c (filter t xs) far))
+          | inr fails ↦ rw (left_out t x xs fails) deep
+        ]
+  ]
+]
+
+-- so their order tells the order on the whole list
+pub kept_order_back : (t : ℕ → Bool) (xs : List ℕ) (b c : ℕ) → t b ≡ true → t c ≡ true → place xs b < length xs
+    → place (filter t xs) b < place (filter t xs) c → place xs b < place xs c
+kept_order_back t xs b c e f on h = elim (cases_lt (place xs b) (place xs c)) [
+  | inl less ↦ less
+  | inr ge ↦ elim (cases_lt (place xs c) (place xs b)) [
+    | inl less ↦ absurd (let back = kept_order t xs c b f e less in omega arith)
+    | inr le ↦
+        let same : place xs b ≡ place xs c = omega arith in
+        let b_is_c : b ≡ c = sym (get_or-place xs b on) ∙ ap (λ i. get_or xs i 0) same ∙ get_or-place xs c (omega arith) in
+        absurd (let e : place (filter t xs) b ≡ place (filter t xs) c = ap (place (filter t xs)) b_is_c in omega arith)
+  ]
+]
+
+pub record AreDistinct (xs : List ℕ) : Type 0 where
+  pub distinct : (i j : ℕ) → i < j → j < length xs → get_or xs i 0 ≢ get_or xs j 0
+
+rest_distinct : (x : ℕ) (xs : List ℕ) → AreDistinct (x ∷ xs) → AreDistinct xs
+rest_distinct x xs d = record { distinct = λ i j less on. d.distinct (suc i) (suc j) (omega arith) (omega arith) }
+
+-- one more item in front of what is kept of the rest
+front_distinct : (t : ℕ → Bool) (x : ℕ) (xs : List ℕ) → AreDistinct (x ∷ xs) → AreDistinct (filter t xs) → AreDistinct (x ∷ filter t xs)
+front_distinct t x xs d deep = record { distinct = apart }
+  where
+    apart : (i j : ℕ) → i < j → j < length (x ∷ filter t xs) → get_or (x ∷ filter t xs) i 0 ≢ get_or (x ∷ filter t xs) j 0
+    apart i zero less on = absurd (omega arith)
+    apart zero (suc j) less on = λ e.
+        let y = get_or (filter t xs) j 0 in
+        let there = kept_passes t xs y (place_lt (filter t xs) y j (omega arith) refl) in
+        d.distinct 0 (suc (place xs y)) (omega arith) (omega (arith, there.1)) (e ∙ sym (get_or-place xs y there.1))
+    apart (suc i) (suc j) less on = deep.distinct i j (omega arith) (omega arith)
+
+-- a list without repeats keeps none
+pub kept_distinct : (t : ℕ → Bool) (xs : List ℕ) → AreDistinct xs → AreDistinct (filter t xs)
+kept_distinct t [] d = d
+kept_distinct t (x ∷ xs) d =
+    let deep = kept_distinct t xs (rest_distinct x xs d) in
+    elim (test_cases (t x)) [
+      | inl passes ↦ rw (taken t x xs passes) (front_distinct t x xs d deep)
+      | inr fails ↦ rw (left_out t x xs fails) deep
+    ]
+
+-- no more is kept than there is
+pub length-filter-le : (t : ℕ → Bool) (xs : List ℕ) → length (filter t xs) ≤ length xs
+length-filter-le t [] = omega arith
+length-filter-le t (x ∷ xs) = elim (test_cases (t x)) [
+  | inl passes ↦ rw (taken t x xs passes) (let deep = length-filter-le t xs in omega arith)
+  | inr fails ↦ rw (left_out t x xs fails) (let deep = length-filter-le t xs in omega arith)
+]

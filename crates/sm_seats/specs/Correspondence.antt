@@ -1,0 +1,59 @@
+-- How the stable matchings of a market of seats and those of its instance correspond.
+use Rattle.std.specs.Prelude.{◌≡◌, ℕ, ◌+◌, ◌<◌, ◌↔◌, ℤ, List, map, length, Option, Some, slice_index}
+use Rattle.sm_instance.specs.Written.{Written, place_of}
+use Rattle.sm_instance.specs.Stable.{IsStable as IsWrittenStable}
+use Rattle.sm_instance.specs.Ranks.{rank_vector_of, worse_rank, regret_of as written_regret, pair_weight, weight_of as written_weight}
+use Rattle.sm_instance.specs.Allowed.{IsAllowed as IsWrittenAllowed}
+use Rattle.sm_instance.specs.declared.kinds.Measure.{Measure}
+use Rattle.sm_market.specs.Lists.{row, entry, agents, IsMarket}
+use Rattle.sm_market.specs.Matching.{Places}
+use Rattle.sm_market.specs.Stable.{IsStable}
+use Rattle.sm_theory.specs.Vectors.{AreLevels, IsAllowed, level_vector_of}
+use Rattle.sm_theory.specs.Weights.{weight_of, regret_of}
+use Rattle.sm_seats.specs.Seating.{Seating, written_of, at_places, levels_of}
+use Rattle.sm_seats.specs.Taken.{places_taken}
+
+-- the weights of the places, and the greater of the two ranks that a proposer and its seat's reviewer give each other
+abbrev pub weights_of : Measure → Written → Seating → List (List ℤ)
+weights_of by w s = map (at_places s (λ p i. pair_weight by w p (Some i))) (agents s.market.proposers)
+
+abbrev pub worse_ranks_of : Written → Seating → List (List ℕ)
+worse_ranks_of w s = map (at_places s (λ p i. worse_rank w p (Some i))) (agents s.market.proposers)
+
+-- pairs of a proposer and a reviewer as pairs of a proposer and a level
+abbrev pub leveled : Written → List (ℕ × ℕ) → List (ℕ × ℕ)
+leveled w pairs = map (λ pair. (pair.0, place_of w.proposers pair.0 pair.1 + 1)) pairs
+
+-- places of one level on a proposer's list are seats with equal lists
+abbrev pub AreLevelsOfSeats : Seating → Type 0
+AreLevelsOfSeats s = (p i j : ℕ) → i < length (row s.market.proposers p) → j < length (row s.market.proposers p)
+    → slice_index (row (levels_of s) p) i ≡ slice_index (row (levels_of s) p) j
+    → row s.market.reviewers (entry s.market.proposers p i) ≡ row s.market.reviewers (entry s.market.proposers p j)
+
+-- the matching of seats in which a matching of the instance seats its proposers
+pub record IsSeatedAs (w : Written) (s : Seating) (places : List (Option ℕ)) : Type 0 where
+  pub matching : Places
+  pub stable : IsStable s.market matching
+  pub taken : matching.proposers ≡ places_taken w places
+  pub forgets : written_of s matching.proposers ≡ places
+
+-- The stable matchings of the seats and those of the instance, by blocking with capacities over the written lists,
+-- correspond one to one: to forget seat numbers, and to seat each reviewer's proposers in its order of preference, are
+-- inverse to each other. Their level vectors are the rank vectors, and conditions, weights and regrets are the same
+-- (Gusfield and Irving 1989, section 1.6.1; Manlove 2013, section 3.2).
+pub record IsSeating (w : Written) (s : Seating) : Type 0 where
+  pub market : IsMarket s.market
+  pub proposers : length s.market.proposers ≡ length w.proposers
+  pub seats : length s.market.reviewers ≡ length s.seats
+  pub levels : AreLevels s.market (levels_of s)
+  pub alike : AreLevelsOfSeats s
+  pub forgotten : (m : Places) → IsStable s.market m → IsWrittenStable w (written_of s m.proposers)
+  pub seated : (places : List (Option ℕ)) → IsWrittenStable w places → IsSeatedAs w s places
+  pub one : (m n : Places) → IsStable s.market m → IsStable s.market n → written_of s m.proposers ≡ written_of s n.proposers → m ≡ n
+  pub taken : (m : Places) → IsStable s.market m → places_taken w (written_of s m.proposers) ≡ m.proposers
+  pub ranks : (m : Places) → IsStable s.market m → level_vector_of s.market (levels_of s) m ≡ rank_vector_of w (written_of s m.proposers)
+  pub allowed : (m : Places) → IsStable s.market m
+      → IsAllowed (levels_of s) (leveled w w.forced) (leveled w w.forbidden) m ↔ IsWrittenAllowed w (written_of s m.proposers)
+  pub weights : (by : Measure) (m : Places) → IsStable s.market m
+      → weight_of s.market (weights_of by w s) m ≡ written_weight by w (written_of s m.proposers)
+  pub regrets : (m : Places) → IsStable s.market m → regret_of s.market (worse_ranks_of w s) m ≡ written_regret w (written_of s m.proposers)

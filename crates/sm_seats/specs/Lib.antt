@@ -1,0 +1,6 @@
+pub mod Mutual
+pub mod SeatMarket
+pub mod SeatEntries
+pub mod Seating
+pub mod Taken
+pub mod Correspondence
