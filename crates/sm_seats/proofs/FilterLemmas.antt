@@ -1,18 +1,16 @@
 -- Where the items of a list stand once some are left out.
-use Rattle.std.proofs.Common.{◌≡◌, ◌≢◌, ℕ, zero, suc, ◌+◌, ◌<◌, ◌≤◌, ◌==◌, Bool, true, false, List, [], ◌∷◌, length, get_or, refl, sym, ap, ◌∙◌, arith, inl, inr, ⊎_elim}
-use Rattle.std.specs.List.{position_or_len, filter}
-use Rattle.std.proofs.lemmas.Bool.{eqb-true, eq-eqb, false≢true, cases_lt}
-use Rattle.std.proofs.lemmas.List.Sums.{fails_before_first, passes_at_first, prefix_len-le-length}
+use Rattle.std.proofs.Common.{◌≡◌, ◌≢◌, ℕ, zero, suc, ◌+◌, ◌<◌, ◌≤◌, ◌==◌, Bool, true, false, List, [], ◌∷◌, length, get_or, refl, sym, ap, ◌∙◌, arith, inl, inr}
+use Rattle.std.specs.List.{filter}
+use Rattle.std.proofs.lemmas.Bool.{eqb-true, cases_lt}
+use Rattle.sm_lists.specs.Rows.{place_on}
+use Rattle.sm_lists.proofs.PlaceLemmas.{get_or-place_on, place_on-lt}
+use Rattle.sm_lists.proofs.Counting.{one_to_one-le}
 use Rattle.sm_instance.proofs.LoadLemmas.{test_cases}
 
--- the place of b on a list
-abbrev pub place : List ℕ → ℕ → ℕ
-place xs b = position_or_len (λ x. x == b) xs
-
-place_here : (x b : ℕ) (xs : List ℕ) → (x == b) ≡ true → place (x ∷ xs) b ≡ 0
+place_here : (x b : ℕ) (xs : List ℕ) → (x == b) ≡ true → place_on (x ∷ xs) b ≡ 0
 place_here x b xs e = rw e refl
 
-place_behind : (x b : ℕ) (xs : List ℕ) → (x == b) ≡ false → place (x ∷ xs) b ≡ place xs b + 1
+place_behind : (x b : ℕ) (xs : List ℕ) → (x == b) ≡ false → place_on (x ∷ xs) b ≡ place_on xs b + 1
 place_behind x b xs e = rw e (omega arith)
 
 taken : (t : ℕ → Bool) (x : ℕ) (xs : List ℕ) → t x ≡ true → filter t (x ∷ xs) ≡ x ∷ filter t xs
@@ -21,27 +19,15 @@ taken t x xs e = rw e refl
 left_out : (t : ℕ → Bool) (x : ℕ) (xs : List ℕ) → t x ≡ false → filter t (x ∷ xs) ≡ filter t xs
 left_out t x xs e = rw e refl
 
-pub place-le : (xs : List ℕ) (b : ℕ) → place xs b ≤ length xs
-place-le xs b = prefix_len-le-length _ xs
-
-pub get_or-place : (xs : List ℕ) (b : ℕ) → place xs b < length xs → get_or xs (place xs b) 0 ≡ b
-get_or-place xs b h = eqb-true _ _ (passes_at_first (λ x. x == b) xs 0 h)
-
-pub place_lt : (xs : List ℕ) (b i : ℕ) → i < length xs → get_or xs i 0 ≡ b → place xs b < length xs
-place_lt xs b i h e = ⊎_elim
-    (λ l. absurd (false≢true (sym (fails_before_first (λ x. x == b) xs i 0 l) ∙ eq-eqb _ _ e)))
-    (λ ge. omega arith)
-    (cases_lt i (place xs b))
-
 -- who passes the test keeps a place
-pub kept : (t : ℕ → Bool) (xs : List ℕ) (b : ℕ) → t b ≡ true → place xs b < length xs → place (filter t xs) b < length (filter t xs)
+pub kept : (t : ℕ → Bool) (xs : List ℕ) (b : ℕ) → t b ≡ true → place_on xs b < length xs → place_on (filter t xs) b < length (filter t xs)
 kept t [] b e h = absurd (omega arith)
 kept t (x ∷ xs) b e h = elim (test_cases (x == b)) [
   | inl same ↦
       let passes : t x ≡ true = ap t (eqb-true x b same) ∙ e in
       rw (taken t x xs passes) (rw (place_here x b (filter t xs) same) (omega arith))
   | inr other ↦
-      let below : place xs b < length xs = omega (arith, h, place_behind x b xs other) in
+      let below : place_on xs b < length xs = omega (arith, h, place_behind x b xs other) in
       let deep = kept t xs b e below in
       elim (test_cases (t x)) [
         | inl passes ↦ rw (taken t x xs passes) (omega (arith, deep, place_behind x b (filter t xs) other))
@@ -50,30 +36,30 @@ kept t (x ∷ xs) b e h = elim (test_cases (x == b)) [
 ]
 
 -- and only who passes it
-pub kept_passes : (t : ℕ → Bool) (xs : List ℕ) (b : ℕ) → place (filter t xs) b < length (filter t xs) → (t b ≡ true) × (place xs b < length xs)
+pub kept_passes : (t : ℕ → Bool) (xs : List ℕ) (b : ℕ) → place_on (filter t xs) b < length (filter t xs) → (t b ≡ true) × (place_on xs b < length xs)
 kept_passes t [] b h = absurd (omega arith)
 kept_passes t (x ∷ xs) b h = elim (test_cases (t x)) [
   | inl passes ↦ elim (test_cases (x == b)) [
     | inl same ↦ (ap t (sym (eqb-true x b same)) ∙ passes, omega (arith, place_here x b xs same))
     | inr other ↦
-        let h' : place (x ∷ filter t xs) b < length (x ∷ filter t xs) = rw (taken t x xs passes) at h in
+        let h' : place_on (x ∷ filter t xs) b < length (x ∷ filter t xs) = rw (taken t x xs passes) at h in
         let deep = kept_passes t xs b (omega (arith, h', place_behind x b (filter t xs) other)) in
         (deep.0, omega (arith, deep.1, place_behind x b xs other))
   ]
   | inr fails ↦
-      let h' : place (filter t xs) b < length (filter t xs) = rw (left_out t x xs fails) at h in
+      let h' : place_on (filter t xs) b < length (filter t xs) = rw (left_out t x xs fails) at h in
       let deep = kept_passes t xs b h' in
       (deep.0, place_lt_behind deep.1)
 ]
   where
-    place_lt_behind : place xs b < length xs → place (x ∷ xs) b < length (x ∷ xs)
+    place_lt_behind : place_on xs b < length xs → place_on (x ∷ xs) b < length (x ∷ xs)
     place_lt_behind below = elim (test_cases (x == b)) [
       | inl same ↦ omega (arith, place_here x b xs same)
       | inr other ↦ omega (arith, below, place_behind x b xs other)
     ]
 
 -- those who pass stay in their order
-pub kept_order : (t : ℕ → Bool) (xs : List ℕ) (b c : ℕ) → t b ≡ true → t c ≡ true → place xs b < place xs c → place (filter t xs) b < place (filter t xs) c
+pub kept_order : (t : ℕ → Bool) (xs : List ℕ) (b c : ℕ) → t b ≡ true → t c ≡ true → place_on xs b < place_on xs c → place_on (filter t xs) b < place_on (filter t xs) c
 kept_order t [] b c e f h = absurd (omega arith)
 kept_order t (x ∷ xs) b c e f h = elim (test_cases (x == c)) [
   | inl same ↦ absurd (omega (arith, h, place_here x c xs same))
@@ -91,16 +77,16 @@ kept_order t (x ∷ xs) b c e f h = elim (test_cases (x == c)) [
 ]
 
 -- so their order tells the order on the whole list
-pub kept_order_back : (t : ℕ → Bool) (xs : List ℕ) (b c : ℕ) → t b ≡ true → t c ≡ true → place xs b < length xs
-    → place (filter t xs) b < place (filter t xs) c → place xs b < place xs c
-kept_order_back t xs b c e f on h = elim (cases_lt (place xs b) (place xs c)) [
+pub kept_order_back : (t : ℕ → Bool) (xs : List ℕ) (b c : ℕ) → t b ≡ true → t c ≡ true → place_on xs b < length xs
+    → place_on (filter t xs) b < place_on (filter t xs) c → place_on xs b < place_on xs c
+kept_order_back t xs b c e f on h = elim (cases_lt (place_on xs b) (place_on xs c)) [
   | inl less ↦ less
-  | inr ge ↦ elim (cases_lt (place xs c) (place xs b)) [
+  | inr ge ↦ elim (cases_lt (place_on xs c) (place_on xs b)) [
     | inl less ↦ absurd (let back = kept_order t xs c b f e less in omega arith)
     | inr le ↦
-        let same : place xs b ≡ place xs c = omega arith in
-        let b_is_c : b ≡ c = sym (get_or-place xs b on) ∙ ap (λ i. get_or xs i 0) same ∙ get_or-place xs c (omega arith) in
-        absurd (let e : place (filter t xs) b ≡ place (filter t xs) c = ap (place (filter t xs)) b_is_c in omega arith)
+        let same : place_on xs b ≡ place_on xs c = omega arith in
+        let b_is_c : b ≡ c = sym (get_or-place_on xs b on) ∙ ap (λ i. get_or xs i 0) same ∙ get_or-place_on xs c (omega arith) in
+        absurd (let e : place_on (filter t xs) b ≡ place_on (filter t xs) c = ap (place_on (filter t xs)) b_is_c in omega arith)
   ]
 ]
 
@@ -118,8 +104,8 @@ front_distinct t x xs d deep = record { distinct = apart }
     apart i zero less on = absurd (omega arith)
     apart zero (suc j) less on = λ e.
         let y = get_or (filter t xs) j 0 in
-        let there = kept_passes t xs y (place_lt (filter t xs) y j (omega arith) refl) in
-        d.distinct 0 (suc (place xs y)) (omega arith) (omega (arith, there.1)) (e ∙ sym (get_or-place xs y there.1))
+        let there = kept_passes t xs y (place_on-lt (filter t xs) y j (omega arith) refl) in
+        d.distinct 0 (suc (place_on xs y)) (omega arith) (omega (arith, there.1)) (e ∙ sym (get_or-place_on xs y there.1))
     apart (suc i) (suc j) less on = deep.distinct i j (omega arith) (omega arith)
 
 -- a list without repeats keeps none
@@ -139,3 +125,22 @@ length-filter-le t (x ∷ xs) = elim (test_cases (t x)) [
   | inl passes ↦ rw (taken t x xs passes) (let deep = length-filter-le t xs in omega arith)
   | inr fails ↦ rw (left_out t x xs fails) (let deep = length-filter-le t xs in omega arith)
 ]
+
+-- and fewer where one on the list is left out
+pub length-filter-lt : (t : ℕ → Bool) (xs : List ℕ) (b : ℕ) → place_on xs b < length xs → t b ≡ false → length (filter t xs) < length xs
+length-filter-lt t [] b on no_ = absurd (omega arith)
+length-filter-lt t (x ∷ xs) b on no_ = elim (test_cases (x == b)) [
+  | inl same ↦ rw (left_out t x xs (ap t (eqb-true x b same) ∙ no_)) (let deep = length-filter-le t xs in omega arith)
+  | inr other ↦
+      let deep = length-filter-lt t xs b (omega (arith, on, place_behind x b xs other)) no_ in
+      elim (test_cases (t x)) [
+        | inl passes ↦ rw (taken t x xs passes) (omega arith)
+        | inr fails ↦ rw (left_out t x xs fails) (omega arith)
+      ]
+]
+
+-- a list without repeats is no longer than one that has all its items
+pub length-le : (xs ys : List ℕ) → AreDistinct xs → ((i : ℕ) → i < length xs → place_on ys (get_or xs i 0) < length ys) → length xs ≤ length ys
+length-le xs ys d inside = one_to_one-le (length xs) (length ys) (λ i. place_on ys (get_or xs i 0)) inside
+    (λ i j less on same. d.distinct i j less on
+    (sym (get_or-place_on ys (get_or xs i 0) (inside i (omega arith))) ∙ ap (λ k. get_or ys k 0) same ∙ get_or-place_on ys (get_or xs j 0) (inside j on)))

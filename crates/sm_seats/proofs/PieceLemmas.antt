@@ -1,0 +1,52 @@
+-- Where the items of pieces stand in the list that is joined from these.
+use Rattle.std.proofs.Common.{◌≡◌, ℕ, zero, suc, ◌+◌, ◌-◌, ◌<◌, ◌≤◌, ◌++◌, List, [], ◌∷◌, length, take, get_or, refl, sym, ap, ◌∙◌, arith, inl, inr}
+use Rattle.std.specs.List.{flat_map, range_with_len}
+use Rattle.std.proofs.lemmas.Bool.{cases_lt}
+use Rattle.std.proofs.lemmas.List.{length-append}
+
+-- where a piece begins
+abbrev pub start_of : {X A : Type 0} → (X → List A) → List X → ℕ → ℕ
+start_of f xs i = length (flat_map f (take i xs))
+
+-- a place of the joined list is in a piece
+pub record IsInPiece {X A : Type 0} (f : X → List A) (xs : List X) (e : X) (i : ℕ) : Type 0 where
+  pub piece : ℕ
+  pub at : ℕ
+  pub there : piece < length xs
+  pub inside : at < length (f (get_or xs piece e))
+  pub is : i ≡ start_of f xs piece + at
+
+pub in_piece : {X A : Type 0} (f : X → List A) (xs : List X) (e : X) (i : ℕ) → i < length (flat_map f xs) → IsInPiece f xs e i
+in_piece f [] e i h = absurd (omega arith)
+in_piece f (x ∷ xs) e i h = elim (cases_lt i (length (f x))) [
+  | inl here ↦ record { piece = 0; at = i; there = omega arith; inside = here; is = omega arith }
+  | inr past ↦
+      let long = length-append (f x) (flat_map f xs) in
+      let deep = in_piece f xs e (i - length (f x)) (omega arith) in
+      let before = length-append (f x) (flat_map f (take deep.piece xs)) in
+      record { piece = suc deep.piece; at = deep.at; there = omega (arith, deep.there); inside = deep.inside; is = omega (arith, deep.is) }
+]
+
+-- a piece ends before a later one begins
+pub piece_end : {X A : Type 0} (f : X → List A) (xs : List X) (i j : ℕ) (e : X) → i < j → i < length xs → start_of f xs i + length (f (get_or xs i e)) ≤ start_of f xs j
+piece_end f [] i j e less on = absurd (omega arith)
+piece_end f (x ∷ xs) i zero e less on = absurd (omega arith)
+piece_end f (x ∷ xs) zero (suc j) e less on = let long = length-append (f x) (flat_map f (take j xs)) in omega arith
+piece_end f (x ∷ xs) (suc i) (suc j) e less on =
+    let long = length-append (f x) (flat_map f (take i xs)) in
+    let long' = length-append (f x) (flat_map f (take j xs)) in
+    let deep = piece_end f xs i j e (omega arith) (omega arith) in
+    omega arith
+
+range_last : (a n j : ℕ) → a + n ≡ j → range_with_len a (suc n) ≡ range_with_len a n ++ j ∷ []
+range_last a zero j e = let same : a ≡ j = omega arith in ap (λ k. k ∷ []) same
+range_last a (suc n) j e = ap (λ l. a ∷ l) (range_last (a + 1) n j (omega arith))
+
+-- one more number of a range
+pub range_more : (a n j : ℕ) → a + n ≡ j → range_with_len a (n + 1) ≡ range_with_len a n ++ j ∷ []
+range_more a n j e = let on : n + 1 ≡ suc n = omega arith in ap (range_with_len a) on ∙ range_last a n j e
+
+pub take-range : (a n k : ℕ) → k ≤ n → take k (range_with_len a n) ≡ range_with_len a k
+take-range a n zero le = refl
+take-range a zero (suc k) le = absurd (omega arith)
+take-range a (suc n) (suc k) le = ap (λ l. a ∷ l) (take-range (a + 1) n k (omega arith))
