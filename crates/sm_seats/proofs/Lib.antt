@@ -4,3 +4,5 @@ pub mod MutualLemmas
 pub mod SeatLemmas
 pub mod SeatPlaces
 pub mod MarketLaws
+pub mod EntryLemmas
+pub mod LimitLaws

@@ -1,0 +1,83 @@
+-- A market of few seats is within its limits.
+use Rattle.std.proofs.Common.{◌≡◌, ℕ, zero, suc, ◌+◌, ◌*◌, ◌<◌, ◌≤◌, ◌++◌, List, [], ◌∷◌, length, map, refl, sym, ap, ◌∙◌, arith, inl, inr}
+use Rattle.std.specs.List.{flat_map, range_with_len, sum_by, All}
+use Rattle.std.proofs.lemmas.List.Sums.{sum_by_push, sum_by-append, sum_by-le}
+use Rattle.std.proofs.lemmas.List.{map-append, length-map}
+use Rattle.std.proofs.lemmas.List.Concat.{flat_map-append}
+use Rattle.sm_instance.specs.Written.{Written}
+use Rattle.sm_instance.specs.Faults.{HasSoundEntries}
+use Rattle.sm_market.specs.Limits.{AreWithinLimits, IsWithinLimits}
+use Rattle.sm_seats.specs.Mutual.{mutual_row}
+use Rattle.sm_seats.specs.SeatMarket.{seat_count, seats_before, named_seats, seats_of, row_of_seat, seat_market}
+use Rattle.sm_seats.specs.SeatEntries.{seat_entries, seat_entries_before, AreFewSeats}
+use Rattle.sm_seats.proofs.PieceLemmas.{range_more}
+use Rattle.sm_seats.proofs.SeatLemmas.{seats_before_more, seat_count-le-row, length-reviewers, length-names}
+use Rattle.sm_seats.proofs.MarketLaws.{length-proposers, is_market}
+use Rattle.sm_seats.proofs.EntryLemmas.{entries-le}
+
+pub entries_before_more : (w : Written) (n : ℕ) → seat_entries_before w (n + 1) ≡ seat_entries_before w n + seat_entries w n
+entries_before_more w n = ap (sum_by (seat_entries w)) (range_more 0 n n (omega arith)) ∙ sum_by_push (seat_entries w) (range_with_len 0 n) n
+
+-- the lists of one reviewer's seats
+abbrev length_at : Written → (ℕ × ℕ) → ℕ
+length_at w seat = length (row_of_seat w seat)
+
+all_alike : (w : Written) (r a n : ℕ) → All (λ seat. length_at w seat ≤ length (mutual_row w.reviewers w.proposers r)) (map {B = ℕ × ℕ} (λ k. (r, k)) (range_with_len a n))
+all_alike w r a zero = grind arith
+all_alike w r a (suc n) = grind (arith, all_alike w r (a + 1) n)
+
+one_reviewer_lists : (w : Written) (r : ℕ) → sum_by (length_at w) (named_seats w r) ≤ seat_entries w r
+one_reviewer_lists w r =
+    let le = sum_by-le (length_at w) (length (mutual_row w.reviewers w.proposers r)) (named_seats w r) (all_alike w r 1 (seat_count w r)) in
+    let n = ap (λ k. k * length (mutual_row w.reviewers w.proposers r)) (length-names w r) in
+    omega (arith, n)
+
+few_lists : (w : Written) (n : ℕ) → sum_by (length_at w) (flat_map (named_seats w) (range_with_len 0 n)) ≤ seat_entries_before w n
+few_lists w zero = omega arith
+few_lists w (suc n) =
+    let k1 : suc n ≡ n + 1 = omega arith in
+    let none : named_seats w n ++ [] ≡ named_seats w n = Rattle.std.proofs.Common.append-nil (named_seats w n) in
+    let all : flat_map (named_seats w) (range_with_len 0 (suc n)) ≡ flat_map (named_seats w) (range_with_len 0 n) ++ named_seats w n =
+    ap (λ m. flat_map (named_seats w) (range_with_len 0 m)) k1 ∙ ap (flat_map (named_seats w)) (range_more 0 n n (omega arith))
+    ∙ flat_map-append (named_seats w) (range_with_len 0 n) (n ∷ []) ∙ ap (λ l. flat_map (named_seats w) (range_with_len 0 n) ++ l) none in
+    let parts = sum_by-append (length_at w) (flat_map (named_seats w) (range_with_len 0 n)) (named_seats w n) in
+    let whole = ap (sum_by (length_at w)) all in
+    let deep = few_lists w n in
+    let one = one_reviewer_lists w n in
+    let more : seat_entries_before w (suc n) ≡ seat_entries_before w n + seat_entries w n = ap (seat_entries_before w) k1 ∙ entries_before_more w n in
+    omega (arith, whole, parts, more)
+
+sum_of_rows : {X : Type 0} (f : X → List ℕ) (xs : List X) → sum_by (λ (list : List ℕ). length list) (map f xs) ≡ sum_by (λ x. length (f x)) xs
+sum_of_rows f [] = refl
+sum_of_rows f (x ∷ xs) =
+    Rattle.std.proofs.lemmas.List.Sums.sum_by-cons (λ (list : List ℕ). length list) (f x) (map f xs) ∙ ap (λ n. length (f x) + n) (sum_of_rows f xs)
+    ∙ sym (Rattle.std.proofs.lemmas.List.Sums.sum_by-cons (λ y. length (f y)) x xs)
+
+pub reviewer_entries-le : (w : Written) → sum_by (λ (list : List ℕ). length list) (seat_market w).reviewers ≤ seat_entries_before w (length w.reviewers)
+reviewer_entries-le w = omega (arith, sum_of_rows (row_of_seat w) (seats_of w), few_lists w (length w.reviewers))
+
+-- no reviewer has more seats than entries on their lists
+one_entry : (c n : ℕ) → c ≤ n → c ≤ c * n
+one_entry zero n le = omega arith
+one_entry (suc c) zero le = absurd (omega arith)
+one_entry (suc c) (suc n) le = let e : suc c * suc n ≡ suc c + suc c * n = grind arith in omega (arith, e)
+
+pub seats-le-entries : (w : Written) (n : ℕ) → seats_before w n ≤ seat_entries_before w n
+seats-le-entries w zero = omega arith
+seats-le-entries w (suc n) =
+    let k1 : suc n ≡ n + 1 = omega arith in
+    let more : seat_entries_before w (suc n) ≡ seat_entries_before w n + seat_entries w n = ap (seat_entries_before w) k1 ∙ entries_before_more w n in
+    let seats : seats_before w (suc n) ≡ seats_before w n + seat_count w n = ap (seats_before w) k1 ∙ seats_before_more w n in
+    let deep = seats-le-entries w n in
+    let one : seat_count w n ≤ seat_entries w n = one_entry (seat_count w n) (length (mutual_row w.reviewers w.proposers n)) (seat_count-le-row w n) in
+    omega (arith, more, seats)
+
+pub market_within : {w : Written} → HasSoundEntries w → length w.proposers ≤ 4096 → AreFewSeats w → IsWithinLimits (seat_market w)
+market_within {w} h few seats =
+    let entries = reviewer_entries-le w in
+    let back = entries-le (is_market h).proposers in
+    let agents = seats-le-entries w (length w.reviewers) in
+    record {
+      proposers = record { agents = omega (arith, length-proposers w); entries = omega arith };
+      reviewers = record { agents = omega (arith, length-reviewers w); entries = omega arith };
+    }
