@@ -6,3 +6,4 @@ pub mod SeatPlaces
 pub mod MarketLaws
 pub mod EntryLemmas
 pub mod LimitLaws
+pub mod LoadLaws
