@@ -7,3 +7,4 @@ pub mod MarketLaws
 pub mod EntryLemmas
 pub mod LimitLaws
 pub mod LoadLaws
+pub mod WrittenLemmas
