@@ -8,3 +8,4 @@ pub mod EntryLemmas
 pub mod LimitLaws
 pub mod LoadLaws
 pub mod WrittenLemmas
+pub mod ForgetLaws
