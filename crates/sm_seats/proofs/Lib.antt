@@ -9,3 +9,4 @@ pub mod LimitLaws
 pub mod LoadLaws
 pub mod WrittenLemmas
 pub mod ForgetLaws
+pub mod TakenLaws
