@@ -1,12 +1,12 @@
 -- How many entries the lists of a market have.
-use Rattle.std.proofs.Common.{◌≡◌, ◌≢◌, ℕ, zero, suc, ◌+◌, ◌*◌, ◌<◌, ◌≤◌, ◌⊎◌, ◌++◌, List, [], ◌∷◌, length, map, take, get_or, refl, sym, ap, ◌∙◌, arith, inl, inr}
-use Rattle.std.specs.List.{flat_map, range_with_len, sum_by, All}
+use Rattle.std.proofs.Common.{◌≡◌, ℕ, ◌+◌, ◌<◌, ◌≤◌, ◌⊎◌, List, [], length, sym, ap, ◌∙◌, arith, inl, inr}
+use Rattle.std.specs.List.{flat_map, sum_by}
 use Rattle.std.proofs.lemmas.Bool.{cases_lt}
 use Rattle.std.proofs.lemmas.List.Concat.{length-flat_map}
 use Rattle.std.proofs.lemmas.List.Folds.{length-flat_map-take}
 use Rattle.sm_lists.proofs.Counting.{one_to_one-le}
 use Rattle.sm_lists.proofs.PlaceLemmas.{entry-place_of}
-use Rattle.sm_market.specs.Lists.{row, entry, place_of, AreMutual}
+use Rattle.sm_market.specs.Lists.{entry, place_of, AreMutual}
 use Rattle.sm_market.proofs.PlaceLemmas.{place_of-entry}
 use Rattle.sm_seats.proofs.PieceLemmas.{start_of, IsInPiece, in_piece, piece_end}
 
@@ -32,14 +32,14 @@ module _ {rows others : List (List ℕ)} (m : AreMutual rows others) where
   unfolding there
   apart {i} {j} a b same = elim (cases_lt (entry rows a.piece a.at) (entry rows b.piece b.at)) [
     | inl less ↦ absurd (
-      let back = m.returned a.piece a.at a.inside in
-      let end = piece_end whole others (entry rows a.piece a.at) (entry rows b.piece b.at) [] less (m.in_range a.piece a.at a.inside) in
-      omega arith)
+        let back = m.returned a.piece a.at a.inside in
+        let end = piece_end whole others (entry rows a.piece a.at) (entry rows b.piece b.at) [] less (m.in_range a.piece a.at a.inside) in
+        omega arith)
     | inr ge ↦ elim (cases_lt (entry rows b.piece b.at) (entry rows a.piece a.at)) [
       | inl less ↦ absurd (
-        let back = m.returned b.piece b.at b.inside in
-        let end = piece_end whole others (entry rows b.piece b.at) (entry rows a.piece a.at) [] less (m.in_range b.piece b.at b.inside) in
-        omega arith)
+          let back = m.returned b.piece b.at b.inside in
+          let end = piece_end whole others (entry rows b.piece b.at) (entry rows a.piece a.at) [] less (m.in_range b.piece b.at b.inside) in
+          omega arith)
       | inr le ↦
           let who : entry rows a.piece a.at ≡ entry rows b.piece b.at = omega arith in
           let begin = ap (start_of whole others) who in

@@ -1,13 +1,13 @@
 -- A stable matching of seats is a stable matching of the instance, once seat numbers are forgotten.
 use Rattle.std.proofs.Common.{◌≡◌, ◌≢◌, ℕ, zero, suc, ◌+◌, ◌-◌, ◌<◌, ◌≤◌, ◌⊎◌, Bool, true, false, List, [], Option, Some, None, length, get_or, min, refl, sym, ap, ◌∙◌, arith, inl, inr}
-use Rattle.std.proofs.lemmas.Bool.{cases_lt, false≢true}
+use Rattle.std.proofs.lemmas.Bool.{cases_lt}
 use Rattle.sm_lists.specs.Rows.{place_on}
-use Rattle.sm_lists.proofs.Counting.{one_to_one-le, search_below, First, Decided-le}
+use Rattle.sm_lists.proofs.Counting.{one_to_one-le, search_below, Decided-le}
 use Rattle.sm_lists.proofs.PlaceLemmas.{get_or-place_on}
-use Rattle.sm_instance.specs.Written.{Written, row as written_row, entry as written_entry, place_of as written_place_of, capacity_of, IsAcceptable}
+use Rattle.sm_instance.specs.Written.{Written, row as written_row, entry as written_entry, place_of as written_place_of}
 use Rattle.sm_instance.specs.Faults.{HasSoundEntries}
-use Rattle.sm_instance.specs.Matching.{held, standing as written_standing, is_at, load, IsAssignment, IsMatching as IsWrittenMatching}
-use Rattle.sm_instance.specs.Stable.{Blocks, HasWorse, IsStable as IsWrittenStable}
+use Rattle.sm_instance.specs.Matching.{held, standing as written_standing, is_at, IsAssignment, IsMatching as IsWrittenMatching}
+use Rattle.sm_instance.specs.Stable.{Blocks, IsStable as IsWrittenStable}
 use Rattle.sm_instance.proofs.LoadLemmas.{test_cases, place_at, at_place}
 use Rattle.sm_instance.proofs.PlaceLemmas.{place_of-entry}
 use Rattle.sm_market.specs.Lists.{row, entry, place_of}
@@ -15,16 +15,15 @@ use Rattle.sm_market.specs.Matching.{Places, standing, IsMatching}
 use Rattle.sm_market.specs.Stable.{IsStable}
 use Rattle.sm_market.proofs.Core.{Sides, Stand, Stable, Pair, pair_of', one_proposer, one_reviewer as same_seat}
 use Rattle.sm_market.proofs.Bridge.{sides_of, stand_of, fit_of, stable_of}
-use Rattle.sm_seats.specs.Mutual.{mutual_row}
 use Rattle.sm_seats.specs.SeatMarket.{seat_count, seats_before, seat_market}
 use Rattle.sm_seats.specs.Seating.{seating_of, written_of}
 use Rattle.sm_seats.specs.Taken.{seated}
 use Rattle.sm_seats.proofs.MutualLemmas.{IsMutual, mutual_turned, acceptable_mutual, mutual_acceptable, mutual_on_row, order_kept}
 use Rattle.sm_seats.proofs.SeatLemmas.{IsSeatOf, seat_count-le-capacity}
-use Rattle.sm_seats.proofs.SeatPlaces.{IsPlaced, first_place, placed, seat_place, places_order}
+use Rattle.sm_seats.proofs.SeatPlaces.{placed, seat_place, places_order}
 use Rattle.sm_seats.proofs.MarketLaws.{is_market, rank_is, length-list}
-use Rattle.sm_seats.proofs.LoadLaws.{AreAcceptable, item_at, seated_at, seated_distinct, sits, length-seated, seated-lt-row}
-use Rattle.sm_seats.proofs.WrittenLemmas.{written_there, written_on, length-written, HasSeatIn, HasNoSeatIn, SitsAt, seat_cases, sits_in, sits_at, at_seat}
+use Rattle.sm_seats.proofs.LoadLaws.{AreAcceptable, item_at, seated_distinct, sits, length-seated, seated-lt-row}
+use Rattle.sm_seats.proofs.WrittenLemmas.{written_there, length-written, SitsAt, seat_cases, sits_at, at_seat}
 
 none_some : {x : ℕ} → ◌≡◌ {A = Option ℕ} None (Some x) → ⊥
 none_some e = grind arith
@@ -105,20 +104,20 @@ module _ {w : Written} (h : HasSoundEntries w) {m : Places} (f : IsMatching (sea
       elim (search_below (seat_count w r) (λ k. len k ≤ at k) (λ k _. Decided-le (len k) (at k))) [
         | inl first ↦ record { number = first.at; below = first.below; free = first.holds }
         | inr none ↦ absurd (
-          let holder : ℕ → ℕ = λ k. entry (seat_market w).reviewers (seats_before w r + k) (at k) in
-          let pair : (k : ℕ) → k < seat_count w r → Pair (sides_of (seat_market w) (is_market h)) (stand_of (seat_market w) m) (holder k) (seats_before w r + k) =
-          λ k l. pair_of' {s = sides_of (seat_market w) (is_market h)} {m = stand_of (seat_market w) m} (seats_before w r + k) fit (elim (cases_lt (at k) (len k)) [ inl less ↦ less | inr le ↦ absurd (none k l le) ]) in
-          let here : (k : ℕ) → k < seat_count w r → place_on (seated w (written_of (seating_of w) m.proposers) r) (holder k) < length (seated w (written_of (seating_of w) m.proposers) r) =
-          λ k l. sits h (written_of (seating_of w) m.proposers) forgotten_acceptable (holder k) r (at_seat h f (holder k) (seats_before w r + k) r k (pair k l) (record { is = refl; below = l })) in
-          let le = one_to_one-le (seat_count w r) (length (seated w (written_of (seating_of w) m.proposers) r)) (λ k. place_on (seated w (written_of (seating_of w) m.proposers) r) (holder k)) here
-          (λ i j less l same.
-          let l' : i < seat_count w r = omega arith in
-          let who : holder i ≡ holder j =
-          sym (get_or-place_on (seated w (written_of (seating_of w) m.proposers) r) (holder i) (here i l')) ∙ ap (λ k. get_or (seated w (written_of (seating_of w) m.proposers) r) k 0) same
-          ∙ get_or-place_on (seated w (written_of (seating_of w) m.proposers) r) (holder j) (here j l) in
-          let seat : seats_before w r + i ≡ seats_before w r + j = same_seat (rw who at (pair i l')) (pair j l) in
-          omega arith) in
-          omega arith)
+            let holder : ℕ → ℕ = λ k. entry (seat_market w).reviewers (seats_before w r + k) (at k) in
+            let pair : (k : ℕ) → k < seat_count w r → Pair (sides_of (seat_market w) (is_market h)) (stand_of (seat_market w) m) (holder k) (seats_before w r + k) =
+            λ k l. pair_of' {s = sides_of (seat_market w) (is_market h)} {m = stand_of (seat_market w) m} (seats_before w r + k) fit (elim (cases_lt (at k) (len k)) [ inl less ↦ less | inr le ↦ absurd (none k l le) ]) in
+            let here : (k : ℕ) → k < seat_count w r → place_on (seated w (written_of (seating_of w) m.proposers) r) (holder k) < length (seated w (written_of (seating_of w) m.proposers) r) =
+            λ k l. sits h (written_of (seating_of w) m.proposers) forgotten_acceptable (holder k) r (at_seat h f (holder k) (seats_before w r + k) r k (pair k l) (record { is = refl; below = l })) in
+            let le = one_to_one-le (seat_count w r) (length (seated w (written_of (seating_of w) m.proposers) r)) (λ k. place_on (seated w (written_of (seating_of w) m.proposers) r) (holder k)) here
+            (λ i j less l same.
+            let l' : i < seat_count w r = omega arith in
+            let who : holder i ≡ holder j =
+            sym (get_or-place_on (seated w (written_of (seating_of w) m.proposers) r) (holder i) (here i l')) ∙ ap (λ k. get_or (seated w (written_of (seating_of w) m.proposers) r) k 0) same
+            ∙ get_or-place_on (seated w (written_of (seating_of w) m.proposers) r) (holder j) (here j l) in
+            let seat : seats_before w r + i ≡ seats_before w r + j = same_seat (rw who at (pair i l')) (pair j l) in
+            omega arith) in
+            omega arith)
       ]
 
 -- p would rather have a seat of r than the one that it has, where it would rather have r on its written list

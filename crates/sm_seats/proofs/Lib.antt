@@ -10,3 +10,6 @@ pub mod LoadLaws
 pub mod WrittenLemmas
 pub mod ForgetLaws
 pub mod TakenLaws
+pub mod LevelLaws
+pub mod WorthLaws
+pub mod CorrespondenceLaws

@@ -6,7 +6,7 @@ use Rattle.std.proofs.lemmas.List.{map-append, length-map}
 use Rattle.std.proofs.lemmas.List.Concat.{flat_map-append}
 use Rattle.sm_instance.specs.Written.{Written}
 use Rattle.sm_instance.specs.Faults.{HasSoundEntries}
-use Rattle.sm_market.specs.Limits.{AreWithinLimits, IsWithinLimits}
+use Rattle.sm_market.specs.Limits.{IsWithinLimits}
 use Rattle.sm_seats.specs.Mutual.{mutual_row}
 use Rattle.sm_seats.specs.SeatMarket.{seat_count, seats_before, named_seats, seats_of, row_of_seat, seat_market}
 use Rattle.sm_seats.specs.SeatEntries.{seat_entries, seat_entries_before, AreFewSeats}

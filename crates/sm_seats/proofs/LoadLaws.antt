@@ -1,21 +1,19 @@
 -- The proposers at a reviewer, in its order of preference, are as many as its load.
-use Rattle.std.proofs.Common.{◌≡◌, ◌≢◌, ℕ, zero, suc, ◌+◌, ◌<◌, ◌≤◌, ◌++◌, Bool, true, false, List, [], ◌∷◌, Option, Some, None, length, get_or, map, cond, refl, sym, ap, ◌∙◌, arith, inl, inr}
-use Rattle.std.specs.List.{filter, range_with_len, sum}
-use Rattle.std.proofs.lemmas.Bool.{cases_lt, false≢true}
+use Rattle.std.proofs.Common.{◌≡◌, ℕ, ◌+◌, ◌<◌, ◌≤◌, Bool, true, false, List, Option, Some, length, get_or, cond, refl, sym, ◌∙◌, arith}
+use Rattle.std.specs.List.{filter, range_with_len}
 use Rattle.std.proofs.lemmas.List.Sums.{sum-map, length-filter}
 use Rattle.std.proofs.lemmas.List.FromFn.{get_or-range_with_len, length-range_with_len}
 use Rattle.sm_lists.specs.Rows.{place_on}
-use Rattle.sm_lists.proofs.PlaceLemmas.{place_on-lt, get_or-place_on}
-use Rattle.sm_instance.specs.Written.{Written, entry, capacity_of, IsAcceptable}
+use Rattle.sm_lists.proofs.PlaceLemmas.{place_on-lt}
+use Rattle.sm_instance.specs.Written.{Written, entry, IsAcceptable}
 use Rattle.sm_instance.specs.Faults.{HasSoundEntries}
-use Rattle.sm_instance.specs.Matching.{held, is_at, load, IsAssignment, IsMatching}
-use Rattle.sm_instance.proofs.LoadLemmas.{place_at, test_cases}
+use Rattle.sm_instance.specs.Matching.{held, is_at, load}
+use Rattle.sm_instance.proofs.LoadLemmas.{place_at}
 use Rattle.sm_instance.proofs.ListLemmas.{row_in_range}
 use Rattle.sm_seats.specs.Mutual.{mutual_row}
-use Rattle.sm_seats.specs.SeatMarket.{seat_count}
 use Rattle.sm_seats.specs.Taken.{seated}
 use Rattle.sm_seats.proofs.FilterLemmas.{kept, kept_passes, kept_order, kept_order_back, AreDistinct, kept_distinct, length-filter-le, length-filter-lt, length-le}
-use Rattle.sm_seats.proofs.MutualLemmas.{IsMutual, mutual_turned, acceptable_mutual, mutual_on_row, on_row, mutual_distinct}
+use Rattle.sm_seats.proofs.MutualLemmas.{IsMutual, mutual_turned, acceptable_mutual, mutual_on_row, mutual_distinct}
 
 -- each proposer that is matched has a reviewer that is acceptable to it
 abbrev pub AreAcceptable : Written → List (Option ℕ) → Type 0

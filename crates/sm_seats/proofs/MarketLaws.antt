@@ -1,16 +1,16 @@
 -- The seats of an instance make a market.
-use Rattle.std.proofs.Common.{◌≡◌, ◌≢◌, ℕ, ◌+◌, ◌<◌, ◌≤◌, List, [], length, get_or, refl, sym, ap, ◌∙◌, arith, inl, inr}
+use Rattle.std.proofs.Common.{◌≡◌, ℕ, length, get_or, ap, ◌∙◌, arith}
 use Rattle.std.proofs.lemmas.List.FromFn.{length-map-range_with_len}
 use Rattle.sm_lists.specs.Rows.{place_on}
-use Rattle.sm_instance.specs.Written.{AgentData, Written}
+use Rattle.sm_instance.specs.Written.{Written}
 use Rattle.sm_instance.specs.Faults.{HasSoundEntries}
 use Rattle.sm_instance.proofs.ListLemmas.{row_in_range}
 use Rattle.sm_market.specs.Lists.{row, entry, place_of, AreMutual, IsMarket}
 use Rattle.sm_seats.specs.Mutual.{mutual_row}
-use Rattle.sm_seats.specs.SeatMarket.{seat_count, seats_before, seat_row, seat_market}
-use Rattle.sm_seats.proofs.MutualLemmas.{IsMutual, mutual_turned, mutual_on_row, entry_mutual, mutual_distinct}
+use Rattle.sm_seats.specs.SeatMarket.{seat_row, seat_market}
+use Rattle.sm_seats.proofs.MutualLemmas.{mutual_turned, mutual_on_row, entry_mutual, mutual_distinct}
 use Rattle.sm_seats.proofs.SeatLemmas.{IsSeatOf, one_reviewer, one_number, length-reviewers, seat_there, seat_list, listed_seat}
-use Rattle.sm_seats.proofs.SeatPlaces.{first_place, IsPlaced, placed, seat_at_place, seat_on, seat_place, place_is}
+use Rattle.sm_seats.proofs.SeatPlaces.{first_place, placed, seat_at_place, seat_on, place_is}
 
 pub length-proposers : (w : Written) → length (seat_market w).proposers ≡ length w.proposers
 length-proposers w = length-map-range_with_len (seat_row w) 0 (length w.proposers)

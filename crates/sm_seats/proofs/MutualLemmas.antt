@@ -1,6 +1,5 @@
 -- Who is on a list without inert entries, and in which order.
-use Rattle.std.proofs.Common.{◌≡◌, ℕ, ◌<◌, ◌≤◌, Bool, true, List, length, get_or, refl, arith, inl, inr}
-use Rattle.std.proofs.lemmas.Bool.{cases_lt}
+use Rattle.std.proofs.Common.{◌≡◌, ℕ, ◌<◌, true, List, length, get_or, refl}
 use Rattle.sm_lists.specs.Rows.{place_on}
 use Rattle.sm_lists.proofs.PlaceLemmas.{place_on-lt, place_on_is}
 use Rattle.sm_instance.specs.Written.{AgentData, Written, row, place_of, IsAcceptable}

@@ -1,13 +1,13 @@
 -- Where seats stand on the lists of proposers.
-use Rattle.std.proofs.Common.{◌≡◌, ℕ, ◌+◌, ◌<◌, ◌≤◌, List, [], length, take, get_or, refl, sym, ap, ◌∙◌, arith, inl, inr}
-use Rattle.std.specs.List.{flat_map, filter, range_with_len}
+use Rattle.std.proofs.Common.{◌≡◌, ℕ, ◌+◌, ◌<◌, ◌≤◌, List, [], length, get_or, refl, sym, ap, ◌∙◌, arith, inl, inr}
+use Rattle.std.specs.List.{flat_map, filter}
 use Rattle.std.proofs.lemmas.Bool.{cases_lt}
 use Rattle.std.proofs.lemmas.List.{get_or_past}
 use Rattle.std.proofs.lemmas.List.Concat.{get_or-flat_map}
 use Rattle.std.proofs.lemmas.List.Folds.{length-flat_map-take}
 use Rattle.std.proofs.lemmas.List.FromFn.{get_or-range_with_len, length-range_with_len, get_or-map-range_with_len, length-map-range_with_len}
 use Rattle.sm_lists.specs.Rows.{place_on}
-use Rattle.sm_lists.proofs.PlaceLemmas.{get_or-place_on, place_on_is, place_on-lt}
+use Rattle.sm_lists.proofs.PlaceLemmas.{get_or-place_on, place_on_is}
 use Rattle.sm_instance.specs.Written.{AgentData, Written, no_agent, row as written_row, place_of as written_place}
 use Rattle.sm_instance.specs.Faults.{HasSoundEntries}
 use Rattle.sm_market.specs.Lists.{row, entry, place_of}
@@ -101,11 +101,11 @@ module _ {w : Written} (h : HasSoundEntries w) where
   seat_place {p} {r} {k} m below =
       let it = placed {w = w} {p = p} {r = r} {k = k} m below in
       place_on_is (row (seat_market w).proposers p) (seats_before w r + k) (first_place w p r + k) it.on it.names (λ j less same.
-          let other = seat_on p j (omega (arith, it.on)) in
-          let a : IsSeatOf w (seats_before w r + k) r k = record { is = refl; below = below } in
-          let b : IsSeatOf w (seats_before w r + k) other.reviewer other.number = record { is = sym same ∙ other.at.names; below = other.at.below } in
-          let r_is = ap (first_place w p) (one_reviewer a b) in
-          omega (arith, other.at.is, one_number a b))
+      let other = seat_on p j (omega (arith, it.on)) in
+      let a : IsSeatOf w (seats_before w r + k) r k = record { is = refl; below = below } in
+      let b : IsSeatOf w (seats_before w r + k) other.reviewer other.number = record { is = sym same ∙ other.at.names; below = other.at.below } in
+      let r_is = ap (first_place w p) (one_reviewer a b) in
+      omega (arith, other.at.is, one_number a b))
 
   -- the seat at a place has that place
   pub place_is : {p i r k : ℕ} → IsPlaced w p i r k → place_of (seat_market w).proposers p (seats_before w r + k) ≡ i

@@ -1,35 +1,34 @@
 -- A matching of the instance takes seats, and is a stable matching of the seats where it is stable.
-use Rattle.std.proofs.Common.{◌≡◌, ◌≢◌, ℕ, zero, suc, ◌+◌, ◌-◌, ◌<◌, ◌≤◌, ◌⊎◌, Bool, true, false, List, [], Option, Some, None, length, get_or, min, unwrap_or, refl, sym, ap, ◌∙◌, arith, inl, inr, ext_get_or}
+use Rattle.std.proofs.Common.{◌≡◌, ℕ, ◌+◌, ◌<◌, ◌⊎◌, true, false, List, Option, Some, None, length, get_or, unwrap_or, refl, sym, ap, ◌∙◌, arith, inl, inr, ext_get_or}
 use Rattle.std.specs.Option.{option_map}
 use Rattle.std.proofs.lemmas.Bool.{cases_lt, false≢true}
 use Rattle.std.proofs.lemmas.List.{get_or_past}
 use Rattle.std.proofs.lemmas.List.FromFn.{get_or-map-range_with_len, length-map-range_with_len}
 use Rattle.sm_lists.specs.Rows.{place_on}
 use Rattle.sm_lists.proofs.PlaceLemmas.{get_or-place_on, entry-place_of}
-use Rattle.sm_instance.specs.Written.{Written, row as written_row, entry as written_entry, place_of as written_place_of, capacity_of, IsAcceptable}
+use Rattle.sm_instance.specs.Written.{Written, row as written_row, entry as written_entry, place_of as written_place_of, capacity_of}
 use Rattle.sm_instance.specs.Faults.{HasSoundEntries}
 use Rattle.sm_instance.specs.Matching.{held, standing as written_standing, is_at, load, IsMatching as IsWrittenMatching}
-use Rattle.sm_instance.specs.Stable.{Blocks, HasWorse, IsStable as IsWrittenStable}
+use Rattle.sm_instance.specs.Stable.{HasWorse, IsStable as IsWrittenStable}
 use Rattle.sm_instance.proofs.LoadLemmas.{test_cases, place_at, at_place}
 use Rattle.sm_instance.proofs.PlaceLemmas.{place_of-entry}
 use Rattle.sm_market.specs.Lists.{row, entry, place_of}
-use Rattle.sm_market.specs.Matching.{Places, standing, IsMatching}
+use Rattle.sm_market.specs.Matching.{standing, IsMatching}
 use Rattle.sm_market.specs.Stable.{IsStable}
-use Rattle.sm_market.specs.PairingFaults.{IsPastList, IsTaken, AreHeld}
-use Rattle.sm_market.proofs.Core.{Fit, Stable, Pair, pair_at, pair_of'}
+use Rattle.sm_market.specs.PairingFaults.{AreHeld}
+use Rattle.sm_market.proofs.Core.{Fit, Pair, pair_at, pair_of'}
 use Rattle.sm_market.proofs.Bridge.{sides_of, stand_of, standing-some}
 use Rattle.sm_theory.specs.Lattice.{with_proposers}
-use Rattle.sm_theory.proofs.CoreSeats.{NoTwice, fit_of_seats}
+use Rattle.sm_theory.proofs.CoreSeats.{fit_of_seats}
 use Rattle.sm_theory.proofs.BridgePlaces.{seats_with, matching_with, stable_with}
-use Rattle.sm_seats.specs.Mutual.{mutual_row}
 use Rattle.sm_seats.specs.SeatMarket.{seat_count, seats_before, seat_market}
 use Rattle.sm_seats.specs.Seating.{seating_of, written_of, written_place}
-use Rattle.sm_seats.specs.Taken.{seated, seat_at, place_taken, places_taken}
-use Rattle.sm_seats.proofs.MutualLemmas.{IsMutual, mutual_turned, mutual_acceptable, mutual_on_row, order_back, place_of_item}
+use Rattle.sm_seats.specs.Taken.{seated, place_taken, places_taken}
+use Rattle.sm_seats.proofs.MutualLemmas.{IsMutual, mutual_turned, mutual_acceptable, order_back, place_of_item}
 use Rattle.sm_seats.proofs.SeatLemmas.{IsSeatOf, seat_count-le-capacity, one_reviewer, one_number}
 use Rattle.sm_seats.proofs.SeatPlaces.{IsPlaced, first_place, placed, seat_on, seat_place, place_is, places_order}
-use Rattle.sm_seats.proofs.MarketLaws.{is_market, length-proposers, rank_is, length-list}
-use Rattle.sm_seats.proofs.LoadLaws.{item_at, seated_at, seated_distinct, seated-le-row, mutual_at, sits, prefers, length-seated}
+use Rattle.sm_seats.proofs.MarketLaws.{is_market, length-proposers, rank_is}
+use Rattle.sm_seats.proofs.LoadLaws.{item_at, seated_distinct, seated-le-row, mutual_at, sits, prefers, length-seated}
 use Rattle.sm_seats.proofs.WrittenLemmas.{written_is, written_held, written_there}
 
 none_some : {x : ℕ} → ◌≡◌ {A = Option ℕ} None (Some x) → ⊥
@@ -256,10 +255,10 @@ module _ {w : Written} (h : HasSoundEntries w) (places : List (Option ℕ)) (s :
             })
         | inr free ↦ inl (elim (cases_lt k (length (seated w places r))) [
           | inl less ↦ absurd (
-            let pair = seat_filled h places s.matching r k less in
-            let a = ap (standing (seat_market w).reviewers m.reviewers) of.is in
-            let b = ap (λ x. length (row (seat_market w).reviewers x)) of.is in
-            omega (arith, pair.matched'))
+              let pair = seat_filled h places s.matching r k less in
+              let a = ap (standing (seat_market w).reviewers m.reviewers) of.is in
+              let b = ap (λ x. length (row (seat_market w).reviewers x)) of.is in
+              omega (arith, pair.matched'))
           | inr few ↦ omega (arith, length-seated h places s.matching.acceptable r, of.below, seat_count-le-capacity w r)
         ])
       ]

@@ -1,5 +1,5 @@
 -- What matchings of seats are on the written lists.
-use Rattle.std.proofs.Common.{◌≡◌, ℕ, zero, suc, ◌+◌, ◌<◌, ◌≤◌, ◌⊎◌, Bool, true, false, List, [], Option, Some, None, length, get_or, unwrap_or, refl, sym, ap, ◌∙◌, arith, inl, inr}
+use Rattle.std.proofs.Common.{◌≡◌, ℕ, ◌+◌, ◌<◌, ◌⊎◌, true, List, [], Option, Some, None, length, unwrap_or, sym, ap, ◌∙◌, arith, inl, inr}
 use Rattle.std.specs.Option.{option_map}
 use Rattle.std.proofs.lemmas.Bool.{cases_lt}
 use Rattle.std.proofs.lemmas.List.{get_or_past, get_or-map, length-map}
@@ -10,16 +10,15 @@ use Rattle.sm_instance.specs.Written.{AgentData, Written, no_agent, row as writt
 use Rattle.sm_instance.specs.Faults.{HasSoundEntries}
 use Rattle.sm_instance.specs.Matching.{held, standing as written_standing, is_at}
 use Rattle.sm_instance.proofs.LoadLemmas.{place_at, at_place}
-use Rattle.sm_market.specs.Lists.{row, entry, place_of}
+use Rattle.sm_market.specs.Lists.{row, entry}
 use Rattle.sm_market.specs.Matching.{Places, standing, IsMatching, held as market_held}
 use Rattle.sm_market.proofs.Core.{Pair, pair_at, one_reviewer as same_seat}
 use Rattle.sm_market.proofs.Bridge.{sides_of, stand_of, fit_of, held_cases}
-use Rattle.sm_seats.specs.Mutual.{mutual_row}
-use Rattle.sm_seats.specs.SeatMarket.{seat_count, seats_before, seats_of, seat_market}
-use Rattle.sm_seats.specs.Seating.{Seating, seating_of, written_lists, reviewer_of, written_place, written_of}
+use Rattle.sm_seats.specs.SeatMarket.{seat_count, seats_before, seat_market}
+use Rattle.sm_seats.specs.Seating.{seating_of, reviewer_of, written_place, written_of}
 use Rattle.sm_seats.proofs.MutualLemmas.{IsMutual}
 use Rattle.sm_seats.proofs.SeatLemmas.{IsSeatOf, seat_name, one_reviewer}
-use Rattle.sm_seats.proofs.SeatPlaces.{IsPlaced, seat_at_place, seat_on, place_is, seat_listed}
+use Rattle.sm_seats.proofs.SeatPlaces.{IsPlaced, seat_at_place, seat_on, place_is}
 use Rattle.sm_seats.proofs.MarketLaws.{is_market, length-proposers}
 
 -- the lists of a seating are the written ones

@@ -1,5 +1,5 @@
 -- How large a market of seats may be.
-use Rattle.std.specs.Prelude.{ℕ, ◌+◌, ◌*◌, ◌<◌, ◌≤◌, List, length}
+use Rattle.std.specs.Prelude.{ℕ, ◌+◌, ◌*◌, ◌<◌, ◌≤◌, length}
 use Rattle.std.specs.List.{range_with_len, sum_by}
 use Rattle.sm_text.specs.Limits.{most_seat_entries}
 use Rattle.sm_instance.specs.Written.{Written}

@@ -1,0 +1,41 @@
+-- The seats of an instance correspond to it.
+use Rattle.std.proofs.Common.{refl}
+use Rattle.std.proofs.lemmas.List.{length-map}
+use Rattle.sm_instance.specs.Written.{Written}
+use Rattle.sm_instance.specs.Sound.{IsInstance}
+use Rattle.sm_instance.specs.Faults.{HasSoundEntries}
+use Rattle.sm_theory.specs.Lattice.{with_proposers}
+use Rattle.sm_seats.specs.SeatMarket.{seat_market, seats_of, row_of_seat}
+use Rattle.sm_seats.specs.Seating.{seating_of}
+use Rattle.sm_seats.specs.Taken.{places_taken}
+use Rattle.sm_seats.specs.Correspondence.{IsSeating}
+use Rattle.sm_seats.proofs.MarketLaws.{is_market, length-proposers}
+use Rattle.sm_seats.proofs.ForgetLaws.{stable_forgotten}
+use Rattle.sm_seats.proofs.TakenLaws.{stable_taken, taken_forgotten}
+use Rattle.sm_seats.proofs.LevelLaws.{are_levels, levels_alike, levels_are_ranks, one_seating, taken_is}
+use Rattle.sm_seats.proofs.WorthLaws.{allowed_alike, weights_alike, regrets_alike}
+
+pub sound_entries : {w : Written} → IsInstance w → HasSoundEntries w
+sound_entries i = record { proposers = i.proposer_entries; reviewers = i.reviewer_entries }
+
+pub is_seating : {w : Written} → HasSoundEntries w → IsSeating w (seating_of w)
+is_seating {w} h = record {
+  market = is_market h;
+  proposers = length-proposers w;
+  seats = length-map (seats_of w) (row_of_seat w);
+  levels = are_levels h;
+  alike = levels_alike h;
+  forgotten = λ m s. stable_forgotten h s;
+  seated = λ places s. record {
+    matching = with_proposers (seat_market w) (places_taken w places);
+    stable = stable_taken h places s;
+    taken = refl;
+    forgets = taken_forgotten h places s.matching;
+  };
+  one = one_seating h;
+  taken = taken_is h;
+  ranks = λ m s. levels_are_ranks h s.matching;
+  allowed = λ m s. allowed_alike h s.matching;
+  weights = λ by m s. weights_alike h s.matching by;
+  regrets = λ m s. regrets_alike h s.matching;
+}
