@@ -1,7 +1,7 @@
 -- The seats of an instance correspond to it.
-use Rattle.std.proofs.Common.{refl}
+use Rattle.std.proofs.Common.{ℕ, ◌<◌, length, ap, refl, arith}
 use Rattle.std.proofs.lemmas.List.{length-map}
-use Rattle.sm_instance.specs.Written.{Written}
+use Rattle.sm_instance.specs.Written.{Written, capacity_of}
 use Rattle.sm_instance.specs.Sound.{IsInstance}
 use Rattle.sm_instance.specs.Faults.{HasSoundEntries}
 use Rattle.sm_theory.specs.Lattice.{with_proposers}
@@ -13,16 +13,32 @@ use Rattle.sm_seats.proofs.MarketLaws.{is_market, length-proposers}
 use Rattle.sm_seats.proofs.ForgetLaws.{stable_forgotten}
 use Rattle.sm_seats.proofs.TakenLaws.{stable_taken, taken_forgotten}
 use Rattle.sm_seats.proofs.LevelLaws.{are_levels, levels_alike, levels_are_ranks, one_seating, taken_is}
-use Rattle.sm_seats.proofs.WorthLaws.{allowed_alike, weights_alike, regrets_alike}
+use Rattle.sm_seats.proofs.SeatLemmas.{IsSeat, seat_found, seat_name, length-seats, has_seats, seat_count-le-capacity}
+use Rattle.sm_seats.proofs.SeatPlaces.{seat_on}
+use Rattle.sm_seats.proofs.WrittenLemmas.{list_is, reviewer_is, written_on}
+use Rattle.sm_seats.proofs.WorthLaws.{at_level, level_at, allowed_alike, weights_alike, regrets_alike}
 
 pub sound_entries : {w : Written} → IsInstance w → HasSoundEntries w
 sound_entries i = record { proposers = i.proposer_entries; reviewers = i.reviewer_entries }
+
+seat_at : (w : Written) (seat : ℕ) → seat < length (seats_of w) → IsSeat w seat
+seat_at w seat there = seat_found w seat (length w.reviewers) (omega (arith, length-seats w))
 
 pub is_seating : {w : Written} → HasSoundEntries w → IsSeating w (seating_of w)
 is_seating {w} h = record {
   market = is_market h;
   proposers = length-proposers w;
   seats = length-map (seats_of w) (row_of_seat w);
+  lists = refl;
+  reviewers = λ seat there. (let it = seat_at w seat there in let e = reviewer_is it.of in let here = has_seats w it.reviewer it.number it.of.below in omega arith);
+  numbers = λ seat there.
+      let it = seat_at w seat there in
+      let number = ap (λ (x : ℕ × ℕ). x.1) (seat_name it.of) in
+      let capacity = ap (capacity_of w.reviewers) (reviewer_is it.of) in
+      let most = seat_count-le-capacity w it.reviewer in
+      let below = it.of.below in
+      record { least = omega arith; greatest = omega arith };
+  on_lists = λ p i on. (let it = seat_on h p i on in let e = written_on it.at in let long = ap length (list_is w p) in omega arith);
   levels = are_levels h;
   alike = levels_alike h;
   forgotten = λ m s. stable_forgotten h s;
@@ -35,6 +51,7 @@ is_seating {w} h = record {
   one = one_seating h;
   taken = taken_is h;
   ranks = λ m s. levels_are_ranks h s.matching;
+  holds = λ m s p r. (at_level h s.matching p r, level_at h s.matching p r);
   allowed = λ m s. allowed_alike h s.matching;
   weights = λ by m s. weights_alike h s.matching by;
   regrets = λ m s. regrets_alike h s.matching;

@@ -1,15 +1,22 @@
 -- A market of few seats is within its limits.
-use Rattle.std.proofs.Common.{◌≡◌, ℕ, zero, suc, ◌+◌, ◌*◌, ◌<◌, ◌≤◌, ◌++◌, List, [], ◌∷◌, length, map, refl, sym, ap, ◌∙◌, arith, inl, inr}
+use Rattle.std.proofs.Common.{◌≡◌, ℕ, zero, suc, ◌+◌, ◌*◌, ◌<◌, ◌≤◌, ◌++◌, Bool, true, false, nat_lt, Option, Some, None, List, [], ◌∷◌, length, map, get_or, refl, sym, ap, ◌∙◌, arith, inl, inr}
 use Rattle.std.specs.List.{flat_map, range_with_len, sum_by, All}
 use Rattle.std.proofs.lemmas.List.Sums.{sum_by_push, sum_by-append, sum_by-le}
 use Rattle.std.proofs.lemmas.List.{map-append, length-map}
 use Rattle.std.proofs.lemmas.List.Concat.{flat_map-append}
+use Rattle.std.specs.List.{position_or_len}
+use Rattle.std.proofs.lemmas.Bool.{cases_eq, false≢true, le-ltb}
+use Rattle.std.proofs.lemmas.List.Sums.{position_or_len_is, passes_at_first}
+use Rattle.std.proofs.lemmas.List.FromFn.{get_or-range_with_len, length-range_with_len}
+use Rattle.sm_text.specs.Limits.{most_seat_entries}
+use Rattle.sm_instance.proofs.AcceptLemmas.{lt_true}
+use Rattle.sm_theory.proofs.BridgePlaces.{position_cases}
 use Rattle.sm_instance.specs.Written.{Written}
 use Rattle.sm_instance.specs.Faults.{HasSoundEntries}
 use Rattle.sm_market.specs.Limits.{IsWithinLimits}
 use Rattle.sm_seats.specs.Mutual.{mutual_row}
 use Rattle.sm_seats.specs.SeatMarket.{seat_count, seats_before, named_seats, seats_of, row_of_seat, seat_market}
-use Rattle.sm_seats.specs.SeatEntries.{seat_entries, seat_entries_before, AreFewSeats}
+use Rattle.sm_seats.specs.SeatEntries.{seat_entries, seat_entries_before, AreFewSeats, IsFirstTooMany, first_too_many}
 use Rattle.sm_seats.proofs.PieceLemmas.{range_more}
 use Rattle.sm_seats.proofs.SeatLemmas.{seats_before_more, seat_count-le-row, length-reviewers, length-names}
 use Rattle.sm_seats.proofs.MarketLaws.{length-proposers, is_market}
@@ -81,3 +88,49 @@ market_within {w} h few seats =
       proposers = record { agents = omega (arith, length-proposers w); entries = omega arith };
       reviewers = record { agents = omega (arith, length-reviewers w); entries = omega arith };
     }
+
+-- The first reviewer with whom they are too many.
+
+entries_rise : (w : Written) (r n : ℕ) → r ≤ n → seat_entries_before w r ≤ seat_entries_before w n
+entries_rise w r zero le = (let e = ap (seat_entries_before w) (let same : r ≡ 0 = omega arith in same) in omega arith)
+entries_rise w r (suc n) le =
+    let more : seat_entries_before w (suc n) ≡ seat_entries_before w n + seat_entries w n = ap (seat_entries_before w) (let e : suc n ≡ n + 1 = omega arith in e) ∙ entries_before_more w n in
+    elim (cases_eq r (suc n)) [
+      | inl same ↦ (let e = ap (seat_entries_before w) same in omega arith)
+      | inr other ↦ (let deep = entries_rise w r n (omega arith) in omega (arith, more))
+    ]
+
+is_past : Written → ℕ → Bool
+is_past w r = nat_lt most_seat_entries (seat_entries_before w (r + 1))
+
+-- where so many reviewers keep within the limit, none of them is it
+none_before : (w : Written) (n k d : ℕ) → seat_entries_before w n ≤ most_seat_entries → k < n → n ≤ length w.reviewers → is_past w (get_or (range_with_len 0 (length w.reviewers)) k d) ≡ false
+unfolding is_past
+none_before w n k d few less le =
+    let this : get_or (range_with_len 0 (length w.reviewers)) k d ≡ k = get_or-range_with_len 0 (length w.reviewers) k d (omega arith) ∙ (let e : 0 + k ≡ k = omega arith in e) in
+    ap (λ r. nat_lt most_seat_entries (seat_entries_before w (r + 1))) this ∙ le-ltb _ _ (let rise = entries_rise w (k + 1) n (omega arith) in omega arith)
+
+pub first_is : {w : Written} {r : ℕ} → IsFirstTooMany w r → first_too_many w ≡ Some r
+unfolding is_past
+first_is {w} {r} f =
+    let all = range_with_len 0 (length w.reviewers) in
+    let long = length-range_with_len 0 (length w.reviewers) in
+    let there = f.there in
+    let at : position_or_len (is_past w) all ≡ r = position_or_len_is (is_past w) all r 0 (omega arith) (λ k less. none_before w r k 0 f.earlier less (omega arith))
+    (λ _.
+    let this : get_or all r 0 ≡ r = get_or-range_with_len 0 (length w.reviewers) r 0 f.there ∙ (let e : 0 + r ≡ r = omega arith in e) in
+    ap (λ r. nat_lt most_seat_entries (seat_entries_before w (r + 1))) this ∙ lt_true _ _ f.past) in
+    elim (position_cases (is_past w) all) [
+      | inl found ↦ found.0 ∙ ap Some at
+      | inr none ↦ absurd (let e = none.1 in omega arith)
+    ]
+
+pub none_is : (w : Written) → AreFewSeats w → first_too_many w ≡ None
+unfolding is_past
+none_is w few =
+    let all = range_with_len 0 (length w.reviewers) in
+    let long = length-range_with_len 0 (length w.reviewers) in
+    elim (position_cases (is_past w) all) [
+      | inr none ↦ none.0
+      | inl found ↦ absurd (false≢true (sym (none_before w (length w.reviewers) (position_or_len (is_past w) all) 0 few (let l = found.1 in omega arith) (omega arith)) ∙ passes_at_first (is_past w) all 0 found.1))
+    ]

@@ -1,6 +1,7 @@
 -- How the stable matchings of a market of seats and those of its instance correspond.
-use Rattle.std.specs.Prelude.{◌≡◌, ℕ, ◌+◌, ◌<◌, ◌↔◌, ℤ, List, map, length, Option, Some, slice_index}
-use Rattle.sm_instance.specs.Written.{Written, place_of}
+use Rattle.std.specs.Prelude.{◌≡◌, ℕ, ◌+◌, ◌<◌, ◌≤◌, ◌↔◌, IsTrue, ℤ, List, map, length, Option, Some, slice_index}
+use Rattle.sm_instance.specs.Written.{Written, place_of, capacity_of}
+use Rattle.sm_instance.specs.Matching.{is_at}
 use Rattle.sm_instance.specs.Stable.{IsStable as IsWrittenStable}
 use Rattle.sm_instance.specs.Ranks.{rank_vector_of, worse_rank, regret_of as written_regret, pair_weight, weight_of as written_weight}
 use Rattle.sm_instance.specs.Allowed.{IsAllowed as IsWrittenAllowed}
@@ -8,9 +9,9 @@ use Rattle.sm_instance.specs.declared.kinds.Measure.{Measure}
 use Rattle.sm_market.specs.Lists.{row, entry, agents, IsMarket}
 use Rattle.sm_market.specs.Matching.{Places}
 use Rattle.sm_market.specs.Stable.{IsStable}
-use Rattle.sm_theory.specs.Vectors.{AreLevels, IsAllowed, level_vector_of}
+use Rattle.sm_theory.specs.Vectors.{AreLevels, HasLevel, IsAllowed, level_vector_of}
 use Rattle.sm_theory.specs.Weights.{weight_of, regret_of}
-use Rattle.sm_seats.specs.Seating.{Seating, written_of, at_places, levels_of}
+use Rattle.sm_seats.specs.Seating.{Seating, written_lists, reviewer_of, number_of, written_place, written_of, at_places, levels_of}
 use Rattle.sm_seats.specs.Taken.{places_taken}
 
 -- the weights of the places, and the greater of the two ranks that a proposer and its seat's reviewer give each other
@@ -30,6 +31,11 @@ AreLevelsOfSeats s = (p i j : ℕ) → i < length (row s.market.proposers p) →
     → slice_index (row (levels_of s) p) i ≡ slice_index (row (levels_of s) p) j
     → row s.market.reviewers (entry s.market.proposers p i) ≡ row s.market.reviewers (entry s.market.proposers p j)
 
+-- a seat has a number from 1 on, up to its reviewer's capacity
+pub record IsNumberAt (w : Written) (s : Seating) (seat : ℕ) : Type 0 where
+  pub least : 1 ≤ number_of s seat
+  pub greatest : number_of s seat ≤ capacity_of w.reviewers (reviewer_of s seat)
+
 -- the matching of seats in which a matching of the instance seats its proposers
 pub record IsSeatedAs (w : Written) (s : Seating) (places : List (Option ℕ)) : Type 0 where
   pub matching : Places
@@ -39,12 +45,16 @@ pub record IsSeatedAs (w : Written) (s : Seating) (places : List (Option ℕ)) :
 
 -- The stable matchings of the seats and those of the instance, by blocking with capacities over the written lists,
 -- correspond one to one: to forget seat numbers, and to seat each reviewer's proposers in its order of preference, are
--- inverse to each other. Their level vectors are the rank vectors, and conditions, weights and regrets are the same
+-- inverse to each other. Their level vectors are the rank vectors, and pairs, conditions, weights and regrets are the same
 -- (Gusfield and Irving 1989, section 1.6.1; Manlove 2013, section 3.2).
 pub record IsSeating (w : Written) (s : Seating) : Type 0 where
   pub market : IsMarket s.market
   pub proposers : length s.market.proposers ≡ length w.proposers
   pub seats : length s.market.reviewers ≡ length s.seats
+  pub lists : s.lists ≡ written_lists w.proposers
+  pub reviewers : (seat : ℕ) → seat < length s.seats → reviewer_of s seat < length w.reviewers
+  pub numbers : (seat : ℕ) → seat < length s.seats → IsNumberAt w s seat
+  pub on_lists : (p i : ℕ) → i < length (row s.market.proposers p) → written_place s p i < length (row s.lists p)
   pub levels : AreLevels s.market (levels_of s)
   pub alike : AreLevelsOfSeats s
   pub forgotten : (m : Places) → IsStable s.market m → IsWrittenStable w (written_of s m.proposers)
@@ -52,6 +62,8 @@ pub record IsSeating (w : Written) (s : Seating) : Type 0 where
   pub one : (m n : Places) → IsStable s.market m → IsStable s.market n → written_of s m.proposers ≡ written_of s n.proposers → m ≡ n
   pub taken : (m : Places) → IsStable s.market m → places_taken w (written_of s m.proposers) ≡ m.proposers
   pub ranks : (m : Places) → IsStable s.market m → level_vector_of s.market (levels_of s) m ≡ rank_vector_of w (written_of s m.proposers)
+  pub holds : (m : Places) → IsStable s.market m → (p r : ℕ)
+      → HasLevel (levels_of s) m p (place_of w.proposers p r + 1) ↔ IsTrue (is_at w (written_of s m.proposers) p r)
   pub allowed : (m : Places) → IsStable s.market m
       → IsAllowed (levels_of s) (leveled w w.forced) (leveled w w.forbidden) m ↔ IsWrittenAllowed w (written_of s m.proposers)
   pub weights : (by : Measure) (m : Places) → IsStable s.market m

@@ -1,5 +1,5 @@
 -- How large a market of seats may be.
-use Rattle.std.specs.Prelude.{ℕ, ◌+◌, ◌*◌, ◌<◌, ◌≤◌, length}
+use Rattle.std.specs.Prelude.{ℕ, ◌+◌, ◌*◌, ◌<◌, ◌≤◌, nat_lt, Option, position, length}
 use Rattle.std.specs.List.{range_with_len, sum_by}
 use Rattle.sm_text.specs.Limits.{most_seat_entries}
 use Rattle.sm_instance.specs.Written.{Written}
@@ -25,6 +25,10 @@ pub record IsFirstTooMany (w : Written) (r : ℕ) : Type 0 where
   pub there : r < length w.reviewers
   pub earlier : seat_entries_before w r ≤ most_seat_entries
   pub past : most_seat_entries < seat_entries_before w (r + 1)
+
+-- the same reviewer, if there is one
+abbrev pub first_too_many : Written → Option ℕ
+first_too_many w = position (λ r. nat_lt most_seat_entries (seat_entries_before w (r + 1))) (range_with_len 0 (length w.reviewers))
 
 -- what a fault says; want of memory says nothing
 abbrev pub IsSeatsFault : Written → SeatsFault → Type 0

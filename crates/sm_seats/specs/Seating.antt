@@ -21,9 +21,12 @@ written_lists agents = map (λ agent. agent.entries) agents
 abbrev pub seating_of : Written → Seating
 seating_of w = record { lists = written_lists w.proposers; market = seat_market w; seats = seats_of w }
 
--- a seat's reviewer
+-- a seat's reviewer, and its number there
 abbrev pub reviewer_of : Seating → ℕ → ℕ
 reviewer_of s seat = (slice_index_or s.seats seat (0, 0)).0
+
+abbrev pub number_of : Seating → ℕ → ℕ
+number_of s seat = (slice_index_or s.seats seat (0, 0)).1
 
 -- the place on p's written list of the reviewer whose seat is at place i of p's list of seats
 abbrev pub written_place : Seating → ℕ → ℕ → ℕ
