@@ -1,7 +1,6 @@
 -- The levels of seats are the ranks of their reviewers.
-use Rattle.std.proofs.Common.{◌≡◌, ℕ, ◌+◌, ◌<◌, ◌≤◌, List, [], ◌∷◌, length, get_or, sym, ap, ◌∙◌, arith, inl, inr}
+use Rattle.std.proofs.Common.{◌≡◌, ℕ, ◌+◌, ◌<◌, ◌≤◌, length, get_or, sym, ap, ◌∙◌, arith, inl, inr}
 use Rattle.std.proofs.lemmas.Bool.{cases_lt}
-use Rattle.std.proofs.lemmas.List.{get_or_past, get_or_append_left, get_or_push, length_push}
 use Rattle.std.proofs.lemmas.List.FromFn.{get_or-map-range_with_len, length-map-range_with_len, fill_by_all}
 use Rattle.sm_instance.specs.Written.{Written, row as written_row, entry as written_entry, place_of as written_place_of}
 use Rattle.sm_instance.specs.Faults.{HasSoundEntries}
@@ -14,9 +13,10 @@ use Rattle.sm_theory.specs.Lattice.{with_proposers}
 use Rattle.sm_theory.specs.Vectors.{AreLevels, level_of, level_vector_of}
 use Rattle.sm_theory.proofs.LawsLattice.{levels_determine}
 use Rattle.sm_seats.specs.SeatMarket.{seat_market}
-use Rattle.sm_seats.specs.Seating.{seating_of, written_place, written_of, at_places, rank_of, levels_at, levels_of}
+use Rattle.sm_seats.specs.Seating.{seating_of, written_of, levels_at, levels_of}
 use Rattle.sm_seats.specs.Taken.{places_taken}
 use Rattle.sm_seats.specs.Correspondence.{AreLevelsOfSeats}
+use Rattle.sm_seats.proofs.SeatingLemmas.{row_there, length-levels, level_is, level_last}
 use Rattle.sm_seats.proofs.SeatLemmas.{seat_list}
 use Rattle.sm_seats.proofs.SeatPlaces.{IsPlaced, seat_at_place, seat_on, places_order}
 use Rattle.sm_seats.proofs.MarketLaws.{is_market, length-proposers}
@@ -24,40 +24,11 @@ use Rattle.sm_seats.proofs.WrittenLemmas.{list_is, written_is, written_there, se
 use Rattle.sm_seats.proofs.ForgetLaws.{stable_forgotten}
 use Rattle.sm_seats.proofs.TakenLaws.{stable_taken, taken_forgotten}
 
--- whoever lists somebody is there
-pub row_there : (rows : List (List ℕ)) (p i : ℕ) → i < length (row rows p) → p < length rows
-row_there rows p i h = elim (cases_lt p (length rows)) [
-  | inl here ↦ here
-  | inr past ↦ absurd (let e = ap length (get_or_past rows p [] past) in omega arith)
-]
-
-pub levels_row : (w : Written) (p : ℕ) → p < length (seat_market w).proposers → row (levels_of (seating_of w)) p ≡ levels_at (seating_of w) p
-levels_row w p here = get_or-map-range_with_len (levels_at (seating_of w)) 0 (length (seat_market w).proposers) p p [] here (omega arith)
-
--- what stands at a place
-pub at_place_is : {X : Type 0} (w : Written) (f : ℕ → ℕ → X) (d : X) (p i : ℕ) → i < length (row (seat_market w).proposers p) → get_or (at_places (seating_of w) f p) i d ≡ f p (written_place (seating_of w) p i)
-at_place_is w f d p i on = get_or-map-range_with_len (λ i. f p (written_place (seating_of w) p i)) 0 (length (row (seat_market w).proposers p)) i i d on (omega arith)
-
-pub length-at_places : {X : Type 0} (w : Written) (f : ℕ → ℕ → X) (p : ℕ) → length (at_places (seating_of w) f p) ≡ length (row (seat_market w).proposers p)
-length-at_places w f p = length-map-range_with_len (λ i. f p (written_place (seating_of w) p i)) 0 (length (row (seat_market w).proposers p))
-
 pub level_on : {w : Written} {p i r k : ℕ} → IsPlaced w p i r k → get_or (row (levels_of (seating_of w)) p) i 0 ≡ written_place_of w.proposers p r + 1
-level_on {w} {p} {i} {r} {k} it =
-    let here = row_there (seat_market w).proposers p i it.on in
-    ap (λ l. get_or l i 0) (levels_row w p here)
-    ∙ get_or_append_left (at_places (seating_of w) rank_of p) ((length (row (seating_of w).lists p) + 1) ∷ []) 0 i (omega (arith, length-at_places w rank_of p, it.on))
-    ∙ at_place_is w rank_of 0 p i it.on
-    ∙ ap (λ n. n + 1) (written_is it)
+level_on {w} {p} {i} it = level_is (seating_of w) p i it.on ∙ ap (λ n. n + 1) (written_is it)
 
 pub level_past : (w : Written) (p : ℕ) → p < length (seat_market w).proposers → get_or (row (levels_of (seating_of w)) p) (length (row (seat_market w).proposers p)) 0 ≡ length (written_row w.proposers p) + 1
-level_past w p here =
-    ap (λ l. get_or l (length (row (seat_market w).proposers p)) 0) (levels_row w p here)
-    ∙ get_or_push (at_places (seating_of w) rank_of p) (length (row (seating_of w).lists p) + 1) 0 (length (row (seat_market w).proposers p)) (length-at_places w rank_of p)
-    ∙ ap (λ l. length l + 1) (list_is w p)
-
-length-levels : (w : Written) (p : ℕ) → p < length (seat_market w).proposers → length (row (levels_of (seating_of w)) p) ≡ length (row (seat_market w).proposers p) + 1
-length-levels w p here =
-    ap length (levels_row w p here) ∙ length_push (at_places (seating_of w) rank_of p) (length (row (seating_of w).lists p) + 1) ∙ ap (λ n. n + 1) (length-at_places w rank_of p)
+level_past w p here = level_last (seating_of w) p here ∙ ap (λ l. length l + 1) (list_is w p)
 
 module _ {w : Written} (h : HasSoundEntries w) where
   -- the levels of two places in their order
@@ -71,12 +42,12 @@ module _ {w : Written} (h : HasSoundEntries w) where
   pub are_levels : AreLevels (seat_market w) (levels_of (seating_of w))
   are_levels = record {
     one_each = length-map-range_with_len (levels_at (seating_of w)) 0 (length (seat_market w).proposers);
-    per_place = length-levels w;
+    per_place = length-levels (seating_of w);
     rising = λ p i j less on.
         let long = length-map-range_with_len (levels_at (seating_of w)) 0 (length (seat_market w).proposers) in
         let here' = row_there (levels_of (seating_of w)) p j on in
         let here : p < length (seat_market w).proposers = omega arith in
-        let size = length-levels w p here in
+        let size = length-levels (seating_of w) p here in
         let a = seat_on h p i (omega arith) in
         elim (cases_lt j (length (row (seat_market w).proposers p))) [
           | inl inside ↦
@@ -103,9 +74,9 @@ module _ {w : Written} (h : HasSoundEntries w) where
       seat_list (seat_at_place a.at) ∙ ap (Rattle.sm_seats.specs.Mutual.mutual_row w.reviewers w.proposers) (same_reviewer a.at b.at same) ∙ sym (seat_list (seat_at_place b.at))
 
   -- the level at which a proposer stands is its rank in the instance
-  pub level_is : {m : Places} → IsMatching (seat_market w) m → (p : ℕ) → p < length (seat_market w).proposers
+  pub stands_at_level : {m : Places} → IsMatching (seat_market w) m → (p : ℕ) → p < length (seat_market w).proposers
       → level_of (seat_market w) (levels_of (seating_of w)) m p ≡ written_standing w (written_of (seating_of w) m.proposers) p + 1
-  level_is {m} f p here = elim (seat_cases h f p) [
+  stands_at_level {m} f p here = elim (seat_cases h f p) [
     | inl alone ↦ ap (λ n. get_or (row (levels_of (seating_of w)) p) n 0) alone.stands ∙ level_past w p here ∙ ap (λ n. n + 1) (sym alone.written_stands)
     | inr it ↦ ap (λ n. get_or (row (levels_of (seating_of w)) p) n 0) it.stands ∙ level_on it.at ∙ ap (λ n. n + 1) (sym it.written_stands)
   ]
@@ -118,7 +89,7 @@ module _ {w : Written} (h : HasSoundEntries w) where
       let size = length-proposers w in
       fill_by_all (λ p. written_standing w (written_of (seating_of w) m.proposers) p + 1) (level_vector_of (seat_market w) (levels_of (seating_of w)) m) (length w.proposers) 0
       (length-map-range_with_len level 0 n ∙ size)
-      (λ p less. get_or-map-range_with_len level 0 n p p 0 (omega arith) (omega arith) ∙ level_is f p (omega arith))
+      (λ p less. get_or-map-range_with_len level 0 n p p 0 (omega arith) (omega arith) ∙ stands_at_level f p (omega arith))
 
   -- two stable matchings of seats that are one in the instance are one
   pub one_seating : (m n : Places) → IsStable (seat_market w) m → IsStable (seat_market w) n → written_of (seating_of w) m.proposers ≡ written_of (seating_of w) n.proposers → m ≡ n

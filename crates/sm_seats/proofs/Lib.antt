@@ -2,6 +2,7 @@ pub mod FilterLemmas
 pub mod PieceLemmas
 pub mod MutualLemmas
 pub mod SeatLemmas
+pub mod SeatingLemmas
 pub mod SeatPlaces
 pub mod MarketLaws
 pub mod EntryLemmas

@@ -29,7 +29,8 @@ use Rattle.sm_seats.proofs.SeatLemmas.{IsSeatOf, seat_count-le-capacity, one_rev
 use Rattle.sm_seats.proofs.SeatPlaces.{IsPlaced, first_place, placed, seat_on, seat_place, place_is, places_order}
 use Rattle.sm_seats.proofs.MarketLaws.{is_market, length-proposers, rank_is}
 use Rattle.sm_seats.proofs.LoadLaws.{item_at, seated_distinct, seated-le-row, mutual_at, sits, prefers, length-seated}
-use Rattle.sm_seats.proofs.WrittenLemmas.{written_is, written_held, written_there}
+use Rattle.sm_seats.proofs.SeatingLemmas.{written_held}
+use Rattle.sm_seats.proofs.WrittenLemmas.{written_is, written_there}
 
 none_some : {x : ℕ} → ◌≡◌ {A = Option ℕ} None (Some x) → ⊥
 none_some e = grind arith
@@ -168,7 +169,7 @@ module _ {w : Written} (h : HasSoundEntries w) (places : List (Option ℕ)) (m :
       let n = length (seat_market w).proposers in
       let each : ℕ → Option ℕ = λ p. option_map (written_place (seating_of w) p) (held (places_taken w places) p) in
       ext_get_or None (written_of (seating_of w) (places_taken w places)) places (length-map-range_with_len each 0 n ∙ length-proposers w ∙ sym m.assigned.one_each)
-      (λ p _. written_held w (places_taken w places) p taken_long ∙ elim (taken_cases p) [
+      (λ p _. written_held (seating_of w) (places_taken w places) p taken_long ∙ elim (taken_cases p) [
         | inl alone ↦ ap (option_map _) alone.taken_is ∙ sym alone.held_is
         | inr it ↦
             let place : written_place_of w.proposers p it.reviewer ≡ it.written = place_of-entry h.proposers p it.reviewer it.written (m.assigned.on_lists p it.written it.held_is) it.there in

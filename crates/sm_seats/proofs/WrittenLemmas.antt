@@ -3,7 +3,6 @@ use Rattle.std.proofs.Common.{◌≡◌, ℕ, ◌+◌, ◌<◌, ◌⊎◌, true,
 use Rattle.std.specs.Option.{option_map}
 use Rattle.std.proofs.lemmas.Bool.{cases_lt}
 use Rattle.std.proofs.lemmas.List.{get_or_past, get_or-map, length-map}
-use Rattle.std.proofs.lemmas.List.FromFn.{get_or-map-range_with_len, length-map-range_with_len}
 use Rattle.sm_lists.specs.Rows.{place_on}
 use Rattle.sm_lists.proofs.PlaceLemmas.{get_or-place_on}
 use Rattle.sm_instance.specs.Written.{AgentData, Written, no_agent, row as written_row, entry as written_entry, place_of as written_place_of}
@@ -16,6 +15,7 @@ use Rattle.sm_market.proofs.Core.{Pair, pair_at, one_reviewer as same_seat}
 use Rattle.sm_market.proofs.Bridge.{sides_of, stand_of, fit_of, held_cases}
 use Rattle.sm_seats.specs.SeatMarket.{seat_count, seats_before, seat_market}
 use Rattle.sm_seats.specs.Seating.{seating_of, reviewer_of, written_place, written_of}
+use Rattle.sm_seats.proofs.SeatingLemmas.{written_held, length-written as length-seating}
 use Rattle.sm_seats.proofs.MutualLemmas.{IsMutual}
 use Rattle.sm_seats.proofs.SeatLemmas.{IsSeatOf, seat_name, one_reviewer}
 use Rattle.sm_seats.proofs.SeatPlaces.{IsPlaced, seat_at_place, seat_on, place_is}
@@ -45,19 +45,7 @@ pub written_there : (w : Written) {p r : ℕ} → IsMutual w.proposers w.reviewe
 written_there w {p} {r} m = get_or-place_on (written_row w.proposers p) r m.lists
 
 pub length-written : (w : Written) (places : List (Option ℕ)) → length (written_of (seating_of w) places) ≡ length w.proposers
-length-written w places = length-map-range_with_len (λ p. option_map (written_place (seating_of w) p) (held places p)) 0 (length (seat_market w).proposers) ∙ length-proposers w
-
--- what a proposer holds on its written list
-pub written_held : (w : Written) (places : List (Option ℕ)) (p : ℕ) → length places ≡ length (seat_market w).proposers → held (written_of (seating_of w) places) p ≡ option_map (written_place (seating_of w) p) (held places p)
-written_held w places p long =
-    let n = length (seat_market w).proposers in
-    let each : ℕ → Option ℕ = λ p. option_map (written_place (seating_of w) p) (held places p) in
-    elim (cases_lt p n) [
-      | inl here ↦ get_or-map-range_with_len each 0 n p p None here (omega arith)
-      | inr past ↦
-          let e = length-map-range_with_len each 0 n in
-          get_or_past (written_of (seating_of w) places) p None (omega arith) ∙ ap (option_map _) (sym (get_or_past places p None (omega arith)))
-    ]
+length-written w places = length-seating (seating_of w) places ∙ length-proposers w
 
 -- a proposer has a seat in a matching, or it has none
 pub record HasSeatIn (w : Written) (m : Places) (p : ℕ) : Type 0 where
@@ -92,7 +80,7 @@ some_inj e = cc
 module _ {w : Written} (h : HasSoundEntries w) {m : Places} (f : IsMatching (seat_market w) m) where
   pub seat_cases : (p : ℕ) → HasNoSeatIn w m p ⊎ HasSeatIn w m p
   seat_cases p =
-      let e = written_held w m.proposers p f.proposers.one_each in
+      let e = written_held (seating_of w) m.proposers p f.proposers.one_each in
       elim (held_cases (seat_market w).proposers m.proposers p) [
         | inl alone ↦
             let none = e ∙ ap (option_map _) alone.held_is in
