@@ -14,3 +14,4 @@ pub mod TakenLaws
 pub mod LevelLaws
 pub mod WorthLaws
 pub mod CorrespondenceLaws
+pub mod SeatingLaws
