@@ -15,3 +15,5 @@ pub mod LevelLaws
 pub mod WorthLaws
 pub mod CorrespondenceLaws
 pub mod SeatingLaws
+pub mod LawsProved
+pub mod WitnessLemmas

@@ -4,3 +4,5 @@ pub mod SeatEntries
 pub mod Seating
 pub mod Taken
 pub mod Correspondence
+pub mod Laws
+pub mod Witnesses

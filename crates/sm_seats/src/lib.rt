@@ -6,7 +6,9 @@
 #![tactic(auto)]
 
 mod faults;
+pub mod laws;
 mod seats;
+pub mod witnesses;
 
 pub use faults::SeatsFault;
 pub use seats::Seats;
