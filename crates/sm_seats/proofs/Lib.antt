@@ -17,3 +17,5 @@ pub mod CorrespondenceLaws
 pub mod SeatingLaws
 pub mod LawsProved
 pub mod WitnessLemmas
+pub mod VectorLaws
+pub mod LatticeLaws

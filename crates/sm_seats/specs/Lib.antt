@@ -6,3 +6,4 @@ pub mod Taken
 pub mod Correspondence
 pub mod Laws
 pub mod Witnesses
+pub mod Vectors
