@@ -57,7 +57,7 @@ pub record TakesNone (w : Written) (places : List (Option ℕ)) (p : ℕ) : Type
   pub stands : standing (seat_market w).proposers (places_taken w places) p ≡ length (row (seat_market w).proposers p)
 
 module _ {w : Written} (h : HasSoundEntries w) (places : List (Option ℕ)) (m : IsWrittenMatching w places) where
-  taken_held : (p : ℕ) → held (places_taken w places) p ≡ option_map (place_taken w places p) (held places p)
+  pub taken_held : (p : ℕ) → held (places_taken w places) p ≡ option_map (place_taken w places p) (held places p)
   taken_held p =
       let each : ℕ → Option ℕ = λ p. option_map (place_taken w places p) (held places p) in
       elim (cases_lt p (length w.proposers)) [
@@ -68,7 +68,7 @@ module _ {w : Written} (h : HasSoundEntries w) (places : List (Option ℕ)) (m :
       ]
 
   -- there is a seat for each proposer
-  below_count : (r k : ℕ) → k < length (seated w places r) → k < seat_count w r
+  pub below_count : (r k : ℕ) → k < length (seated w places r) → k < seat_count w r
   below_count r k less = omega (arith, length-seated h places m.acceptable r, m.within r, seated-le-row w places r)
 
   pub taken_cases : (p : ℕ) → TakesNone w places p ⊎ DoesTake w places p
