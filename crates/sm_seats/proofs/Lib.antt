@@ -19,3 +19,4 @@ pub mod LawsProved
 pub mod WitnessLemmas
 pub mod VectorLaws
 pub mod LatticeLaws
+pub mod TakingLemmas

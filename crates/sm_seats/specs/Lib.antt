@@ -7,3 +7,4 @@ pub mod Correspondence
 pub mod Laws
 pub mod Witnesses
 pub mod Vectors
+pub mod Taking

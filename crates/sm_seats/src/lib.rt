@@ -8,6 +8,7 @@
 mod faults;
 pub mod laws;
 mod seats;
+mod taking;
 pub mod witnesses;
 
 pub use faults::SeatsFault;

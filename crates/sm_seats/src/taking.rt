@@ -1,0 +1,121 @@
+//! The seats that an assignment takes.
+
+ghost use Rattle.std.specs.Prelude.{◌≡◌, ◌<◌, length, replicate, None, IfOk};
+ghost use Rattle.sm_lists.specs.Rows.{rows_of};
+ghost use Rattle.sm_instance.specs.Written.{Written};
+ghost use Rattle.sm_instance.specs.Sound.{IsInstance};
+ghost use Rattle.sm_instance.specs.Matching.{held, is_at as is_written_at, IsAssignment, IsMatching};
+ghost use Rattle.sm_market.specs.Limits.{IsWithinLimits};
+ghost use Rattle.sm_seats.specs.SeatMarket.{seats_before, seat_count, seats_of, seat_market};
+ghost use Rattle.sm_seats.specs.Seating.{written_lists};
+ghost use Rattle.sm_seats.specs.Taken.{places_taken};
+ghost use Rattle.sm_seats.specs.Taking.{AreSeatedAt};
+
+use sm_instance::Assignment;
+use sm_lists::entry_at;
+use sm_market::Market;
+use std::alloc::{AllocError, Global};
+
+/// The place that each proposer takes on its list of seats, where each reviewer's proposers sit in its order of preference,
+/// from its first seat on. Takes time in proportion to the entries of the market.
+///
+/// # Errors
+///
+/// `AllocError` where memory ran out, and only then.
+pub(crate) fn taken_places(
+    alloc: Global,
+    lists: &[Vec<u32>],
+    market: &Market,
+    seats: &[(u32, u32)],
+    a: &Assignment,
+) -> Result<Vec<Option<u32>>, AllocError>
+    ghost written: { Written }
+    requires instance { IsInstance written }
+    requires lists { rows_of lists.now ≡ written_lists written.proposers }
+    requires market { market.now ≡ seat_market written }
+    requires seats { seats.now ≡ seats_of written }
+    requires matching { IsMatching written a.now.places.items }
+    ensures { IfOk result (λ places. places.items ≡ places_taken written a.now.places.items) }
+{
+    let mut places = vec![in alloc; None; market.proposers() as usize]?;
+    seat_all(lists, market, seats, a, &mut places);
+    Ok(places)
+}
+
+// Seats the proposers at each reviewer, one reviewer after another.
+fn seat_all(
+    lists: &[Vec<u32>],
+    market: &Market,
+    seats: &[(u32, u32)],
+    a: &Assignment,
+    places: &mut [Option<u32>],
+)
+    ghost written: { Written }
+    requires instance { IsInstance written }
+    requires lists { rows_of lists.now ≡ written_lists written.proposers }
+    requires market { market.now ≡ seat_market written }
+    requires seats { seats.now ≡ seats_of written }
+    requires matching { IsMatching written a.now.places.items }
+    requires limits { IsWithinLimits market.now }
+    requires none { places.old ≡ replicate (length market.now.proposers) None }
+    ensures { places.new ≡ places_taken written a.now.places.items }
+{
+    for seat in 0..market.reviewers() {
+        let (r, number) = seats[seat as usize];
+        if number == 1 {
+            seat_in_order(lists, market, (seat, r), a, places);
+        }
+    }
+}
+
+// Seats those at a reviewer in its order, from its first seat on. The first seat is given with its reviewer.
+fn seat_in_order(
+    lists: &[Vec<u32>],
+    market: &Market,
+    first: (u32, u32),
+    a: &Assignment,
+    places: &mut [Option<u32>],
+)
+    ghost written: { Written }
+    requires instance { IsInstance written }
+    requires lists { rows_of lists.now ≡ written_lists written.proposers }
+    requires market { market.now ≡ seat_market written }
+    requires limits { IsWithinLimits market.now }
+    requires first { first.0 ≡ seats_before written first.1 }
+    requires has_seat { 0 < seat_count written first.1 }
+    requires matching { IsMatching written a.now.places.items }
+    requires one_each { length places.old ≡ length written.proposers }
+    ensures { AreSeatedAt written a.now.places.items first.1 places.old places.new }
+{
+    let (seat, r) = first;
+    let mut before = 0;
+    for place in 0..market.reviewer_len(seat) {
+        let q = market.proposer_at(seat, place);
+        if is_at(lists, a, q, r) {
+            places[q as usize] = Some(market.reviewer_cross(seat, place) + before);
+            before += 1;
+        }
+    }
+}
+
+// The place that a proposer holds.
+fn held_place(a: &Assignment, q: u32) -> Option<u32>
+    requires { q < length a.now.places.items }
+    ensures { result ≡ held a.now.places.items q }
+{
+    a.places[q as usize]
+}
+
+// Is a proposer at a reviewer?
+fn is_at(lists: &[Vec<u32>], a: &Assignment, q: u32, r: u32) -> bool
+    ghost written: { Written }
+    requires lists { rows_of lists.now ≡ written_lists written.proposers }
+    requires assigned { IsAssignment written a.now.places.items }
+    requires in_range { q < length written.proposers }
+    ensures { result ≡ is_written_at written a.now.places.items q r }
+{
+    match held_place(a, q) {
+        Some(place) => entry_at(lists, q, place) == r,
+        None => false,
+    }
+}
