@@ -18,12 +18,14 @@ use Rattle.sm_seats.proofs.SeatPlaces.{seat_on}
 use Rattle.sm_seats.proofs.WrittenLemmas.{list_is, reviewer_is, written_on}
 use Rattle.sm_seats.proofs.WorthLaws.{at_level, level_at, allowed_alike, weights_alike, regrets_alike}
 
+-- an instance has sound entries
 pub sound_entries : {w : Written} → IsInstance w → HasSoundEntries w
 sound_entries i = record { proposers = i.proposer_entries; reviewers = i.reviewer_entries }
 
 seat_at : (w : Written) (seat : ℕ) → seat < length (seats_of w) → IsSeat w seat
 seat_at w seat there = seat_found w seat (length w.reviewers) (omega (arith, length-seats w))
 
+-- the seating of an instance is one
 pub is_seating : {w : Written} → HasSoundEntries w → IsSeating w (seating_of w)
 is_seating {w} h = record {
   market = is_market h;

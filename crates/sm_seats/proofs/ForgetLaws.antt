@@ -41,6 +41,7 @@ module _ {w : Written} (h : HasSoundEntries w) {m : Places} (f : IsMatching (sea
   abbrev stand : Stand
   stand = stand_of (seat_market w) m
 
+  -- each place that is left is on its list
   pub forgotten_assigned : IsAssignment w (written_of (seating_of w) m.proposers)
   forgotten_assigned = record {
     one_each = length-written w m.proposers;
@@ -50,6 +51,7 @@ module _ {w : Written} (h : HasSoundEntries w) {m : Places} (f : IsMatching (sea
     ];
   }
 
+  -- and names a reviewer that is acceptable
   pub forgotten_acceptable : AreAcceptable w (written_of (seating_of w) m.proposers)
   forgotten_acceptable p i e = elim (seat_cases h f p) [
     | inl alone ↦ absurd (none_some (sym alone.written_held_is ∙ e))
@@ -83,6 +85,7 @@ module _ {w : Written} (h : HasSoundEntries w) {m : Places} (f : IsMatching (sea
       let number : a.number ≡ b.number = sym (number_is r i on') ∙ same ∙ number_is r j on in
       (seated_distinct h (written_of (seating_of w) m.proposers) r).distinct i j less on (one_proposer (rw number at a.pair) b.pair))
 
+  -- so what is left is a matching
   pub forgotten_matching : IsWrittenMatching w (written_of (seating_of w) m.proposers)
   forgotten_matching = record {
     assigned = forgotten_assigned;
@@ -144,6 +147,7 @@ module _ {w : Written} (h : HasSoundEntries w) {m : Places} (f : IsMatching (sea
         absurd (omega (arith, place_of-entry h.proposers p r x.0 ((forgotten_assigned h f).on_lists p x.0 x.1) x.2, stands, gains))
   ]
 
+-- a stable one, where the matching of seats is
 pub stable_forgotten : {w : Written} (h : HasSoundEntries w) {m : Places} → IsStable (seat_market w) m → IsWrittenStable w (written_of (seating_of w) m.proposers)
 stable_forgotten {w} h {m} s = record { matching = forgotten_matching h s.matching; unblocked = unblocked }
   where

@@ -4,11 +4,14 @@ use Rattle.sm_seats.proofs.LimitLaws.{market_within}
 use Rattle.sm_seats.proofs.CorrespondenceLaws.{sound_entries, is_seating}
 use Rattle.sm_seats.proofs.SeatingLaws.{proposers_best, reviewers_best}
 
+-- by `CorrespondenceLaws`
 pub seats_correspond : SeatsCorrespond
 seats_correspond w i = is_seating (sound_entries i)
 
+-- by `LimitLaws`
 pub few_seats_fit : FewSeatsFit
 few_seats_fit w i few = market_within (sound_entries i) i.limits.proposers few
 
+-- by `SeatingLaws`
 pub bests_correspond : BestsCorrespond
 bests_correspond w s m h = (proposers_best h, reviewers_best h)

@@ -24,9 +24,11 @@ use Rattle.sm_seats.proofs.WrittenLemmas.{list_is, written_is, written_there, se
 use Rattle.sm_seats.proofs.ForgetLaws.{stable_forgotten}
 use Rattle.sm_seats.proofs.TakenLaws.{stable_taken, taken_forgotten}
 
+-- the level of a seat is the rank of its reviewer
 pub level_on : {w : Written} {p i r k : ℕ} → IsPlaced w p i r k → get_or (row (levels_of (seating_of w)) p) i 0 ≡ written_place_of w.proposers p r + 1
 level_on {w} {p} {i} it = level_is (seating_of w) p i it.on ∙ ap (λ n. n + 1) (written_is it)
 
+-- and the last level that of being unmatched
 pub level_past : (w : Written) (p : ℕ) → p < length (seat_market w).proposers → get_or (row (levels_of (seating_of w)) p) (length (row (seat_market w).proposers p)) 0 ≡ length (written_row w.proposers p) + 1
 level_past w p here = level_last (seating_of w) p here ∙ ap (λ l. length l + 1) (list_is w p)
 

@@ -22,6 +22,7 @@ use Rattle.sm_seats.proofs.SeatLemmas.{seats_before_more, seat_count-le-row, len
 use Rattle.sm_seats.proofs.MarketLaws.{length-proposers, is_market}
 use Rattle.sm_seats.proofs.EntryLemmas.{entries-le}
 
+-- one more reviewer
 pub entries_before_more : (w : Written) (n : ℕ) → seat_entries_before w (n + 1) ≡ seat_entries_before w n + seat_entries w n
 entries_before_more w n = ap (sum_by (seat_entries w)) (range_more 0 n n (omega arith)) ∙ sum_by_push (seat_entries w) (range_with_len 0 n) n
 
@@ -60,6 +61,7 @@ sum_of_rows f (x ∷ xs) =
     Rattle.std.proofs.lemmas.List.Sums.sum_by-cons (λ (list : List ℕ). length list) (f x) (map f xs) ∙ ap (λ n. length (f x) + n) (sum_of_rows f xs)
     ∙ sym (Rattle.std.proofs.lemmas.List.Sums.sum_by-cons (λ y. length (f y)) x xs)
 
+-- the lists of all seats have the seats' entries
 pub reviewer_entries-le : (w : Written) → sum_by (λ (list : List ℕ). length list) (seat_market w).reviewers ≤ seat_entries_before w (length w.reviewers)
 reviewer_entries-le w = omega (arith, sum_of_rows (row_of_seat w) (seats_of w), few_lists w (length w.reviewers))
 
@@ -69,6 +71,7 @@ one_entry zero n le = omega arith
 one_entry (suc c) zero le = absurd (omega arith)
 one_entry (suc c) (suc n) le = let e : suc c * suc n ≡ suc c + suc c * n = grind arith in omega (arith, e)
 
+-- so there are no more seats than entries
 pub seats-le-entries : (w : Written) (n : ℕ) → seats_before w n ≤ seat_entries_before w n
 seats-le-entries w zero = omega arith
 seats-le-entries w (suc n) =
@@ -79,6 +82,7 @@ seats-le-entries w (suc n) =
     let one : seat_count w n ≤ seat_entries w n = one_entry (seat_count w n) (length (mutual_row w.reviewers w.proposers n)) (seat_count-le-row w n) in
     omega (arith, more, seats)
 
+-- and both sides of the market are within its limits
 pub market_within : {w : Written} → HasSoundEntries w → length w.proposers ≤ 4096 → AreFewSeats w → IsWithinLimits (seat_market w)
 market_within {w} h few seats =
     let entries = reviewer_entries-le w in
@@ -110,6 +114,7 @@ none_before w n k d few less le =
     let this : get_or (range_with_len 0 (length w.reviewers)) k d ≡ k = get_or-range_with_len 0 (length w.reviewers) k d (omega arith) ∙ (let e : 0 + k ≡ k = omega arith in e) in
     ap (λ r. nat_lt most_seat_entries (seat_entries_before w (r + 1))) this ∙ le-ltb _ _ (let rise = entries_rise w (k + 1) n (omega arith) in omega arith)
 
+-- the first reviewer with whom they are too many is the one that is found
 pub first_is : {w : Written} {r : ℕ} → IsFirstTooMany w r → first_too_many w ≡ Some r
 unfolding is_past
 first_is {w} {r} f =
@@ -125,6 +130,7 @@ first_is {w} {r} f =
       | inr none ↦ absurd (let e = none.1 in omega arith)
     ]
 
+-- and none is found where they are few
 pub none_is : (w : Written) → AreFewSeats w → first_too_many w ≡ None
 unfolding is_past
 none_is w few =

@@ -27,9 +27,11 @@ all_at w places r = filter (λ q. is_at w places q r) (range_with_len 0 (length 
 pub seated_at : (w : Written) (places : List (Option ℕ)) (r q : ℕ) → place_on (seated w places r) q < length (seated w places r) → is_at w places q r ≡ true
 seated_at w places r q on = (kept_passes (λ q. is_at w places q r) (mutual_row w.reviewers w.proposers r) q on).0
 
+-- and so is whoever has a place there
 pub item_at : (w : Written) (places : List (Option ℕ)) (r i : ℕ) → i < length (seated w places r) → is_at w places (get_or (seated w places r) i 0) r ≡ true
 item_at w places r i on = seated_at w places r _ (place_on-lt (seated w places r) _ i on refl)
 
+-- no more sit there than are acceptable
 pub seated-le-row : (w : Written) (places : List (Option ℕ)) (r : ℕ) → length (seated w places r) ≤ length (mutual_row w.reviewers w.proposers r)
 seated-le-row w places r = length-filter-le (λ q. is_at w places q r) (mutual_row w.reviewers w.proposers r)
 
@@ -38,6 +40,7 @@ pub seated-lt-row : (w : Written) (places : List (Option ℕ)) {r p : ℕ} → I
 seated-lt-row w places {r} {p} m no_ = length-filter-lt (λ q. is_at w places q r) (mutual_row w.reviewers w.proposers r) p (mutual_on_row m) no_
 
 module _ {w : Written} (h : HasSoundEntries w) (places : List (Option ℕ)) where
+  -- nobody sits there twice
   pub seated_distinct : (r : ℕ) → AreDistinct (seated w places r)
   seated_distinct r = kept_distinct (λ q. is_at w places q r) (mutual_row w.reviewers w.proposers r) (mutual_distinct h.reviewers w.proposers r)
 
@@ -59,6 +62,7 @@ module _ {w : Written} (h : HasSoundEntries w) (places : List (Option ℕ)) wher
         → place_on (mutual_row w.reviewers w.proposers r) p < place_on (mutual_row w.reviewers w.proposers r) q
     prefers p q r at at' less = kept_order_back (λ q. is_at w places q r) (mutual_row w.reviewers w.proposers r) p q at at' (mutual_on_row (mutual_turned (mutual_at p r at))) less
 
+    -- they are as many as the load
     pub length-seated : (r : ℕ) → length (seated w places r) ≡ load w places r
     length-seated r =
         let n = length w.proposers in

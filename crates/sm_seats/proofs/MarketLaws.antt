@@ -12,6 +12,7 @@ use Rattle.sm_seats.proofs.MutualLemmas.{mutual_turned, mutual_on_row, entry_mut
 use Rattle.sm_seats.proofs.SeatLemmas.{IsSeatOf, one_reviewer, one_number, length-reviewers, seat_there, seat_list, listed_seat}
 use Rattle.sm_seats.proofs.SeatPlaces.{first_place, placed, seat_at_place, seat_on, place_is}
 
+-- the market has the proposers of the instance
 pub length-proposers : (w : Written) → length (seat_market w).proposers ≡ length w.proposers
 length-proposers w = length-map-range_with_len (seat_row w) 0 (length w.proposers)
 
@@ -19,6 +20,7 @@ length-proposers w = length-map-range_with_len (seat_row w) 0 (length w.proposer
 pub rank_is : {w : Written} {seat r k : ℕ} → IsSeatOf w seat r k → (p : ℕ) → place_of (seat_market w).reviewers seat p ≡ place_on (mutual_row w.reviewers w.proposers r) p
 rank_is s p = ap (λ l. place_on l p) (seat_list s)
 
+-- and how long that list is
 pub length-list : {w : Written} {seat r k : ℕ} → IsSeatOf w seat r k → length (row (seat_market w).reviewers seat) ≡ length (mutual_row w.reviewers w.proposers r)
 length-list s = ap length (seat_list s)
 
@@ -64,5 +66,6 @@ module _ {w : Written} (h : HasSoundEntries w) where
         rw q (omega (arith, there, place, it.on));
   }
 
+  -- so it is a market
   pub is_market : IsMarket (seat_market w)
   is_market = record { proposers = proposers_mutual; reviewers = reviewers_mutual }

@@ -16,6 +16,7 @@ pub record IsInPiece {X A : Type 0} (f : X → List A) (xs : List X) (e : X) (i 
   pub inside : at < length (f (get_or xs piece e))
   pub is : i ≡ start_of f xs piece + at
 
+-- each place is in one
 pub in_piece : {X A : Type 0} (f : X → List A) (xs : List X) (e : X) (i : ℕ) → i < length (flat_map f xs) → IsInPiece f xs e i
 in_piece f [] e i h = absurd (omega arith)
 in_piece f (x ∷ xs) e i h = elim (cases_lt i (length (f x))) [
@@ -46,6 +47,7 @@ range_last a (suc n) j e = ap (λ l. a ∷ l) (range_last (a + 1) n j (omega ari
 pub range_more : (a n j : ℕ) → a + n ≡ j → range_with_len a (n + 1) ≡ range_with_len a n ++ j ∷ []
 range_more a n j e = let on : n + 1 ≡ suc n = omega arith in ap (range_with_len a) on ∙ range_last a n j e
 
+-- the first numbers of a range
 pub take-range : (a n k : ℕ) → k ≤ n → take k (range_with_len a n) ≡ range_with_len a k
 take-range a n zero le = refl
 take-range a zero (suc k) le = absurd (omega arith)

@@ -18,12 +18,15 @@ pub record IsSeatOf (w : Written) (seat r k : ℕ) : Type 0 where
   pub is : seat ≡ seats_before w r + k
   pub below : k < seat_count w r
 
+-- one more reviewer
 pub seats_before_more : (w : Written) (r : ℕ) → seats_before w (r + 1) ≡ seats_before w r + seat_count w r
 seats_before_more w r = ap (sum_by (seat_count w)) (range_more 0 r r (omega arith)) ∙ sum_by_push (seat_count w) (range_with_len 0 r) r
 
+-- seats are no more than places
 pub seat_count-le-capacity : (w : Written) (r : ℕ) → seat_count w r ≤ capacity_of w.reviewers r
 seat_count-le-capacity w r = omega arith
 
+-- and no more than acceptable proposers
 pub seat_count-le-row : (w : Written) (r : ℕ) → seat_count w r ≤ length (mutual_row w.reviewers w.proposers r)
 seat_count-le-row w r = omega arith
 
@@ -68,6 +71,7 @@ pub record IsSeat (w : Written) (seat : ℕ) : Type 0 where
   pub number : ℕ
   pub of : IsSeatOf w seat reviewer number
 
+-- one is found for each number that is low enough
 pub seat_found : (w : Written) (seat n : ℕ) → seat < seats_before w n → IsSeat w seat
 seat_found w seat zero h = absurd (omega arith)
 seat_found w seat (suc n) h =
@@ -77,6 +81,7 @@ seat_found w seat (suc n) h =
       | inr ge ↦ record { reviewer = n; number = seat - seats_before w n; of = record { is = omega arith; below = omega (arith, more) } }
     ]
 
+-- a reviewer has as many names as seats
 pub length-names : (w : Written) (r : ℕ) → length (named_seats w r) ≡ seat_count w r
 length-names w r = length-map-range_with_len {X = ℕ × ℕ} (λ k. (r, k)) 1 (seat_count w r)
 
@@ -95,12 +100,15 @@ length-named w (suc n) =
     ∙ (let deep = length-named w n in let more = seats_before_more w n in let e : length (flat_map (named_seats w) (range_with_len 0 n)) + length (named_seats w n) ≡ seats_before w (n + 1) = omega (arith, deep, more, one) in e)
     ∙ ap (seats_before w) (sym k1)
 
+-- the same of all reviewers
 pub length-seats : (w : Written) → length (seats_of w) ≡ seats_before w (length w.reviewers)
 length-seats w = length-named w (length w.reviewers)
 
+-- and of the market's lists
 pub length-reviewers : (w : Written) → length (seat_market w).reviewers ≡ seats_before w (length w.reviewers)
 length-reviewers w = length-map (seats_of w) (row_of_seat w) ∙ length-seats w
 
+-- a reviewer's seat is one of the market
 pub seat_there : {w : Written} {seat r k : ℕ} → IsSeatOf w seat r k → seat < seats_before w (length w.reviewers)
 seat_there {w} {seat} {r} {k} h = omega (arith, h.is, h.below, seats_end w r (length w.reviewers) (has_seats w r k h.below))
 

@@ -43,9 +43,11 @@ pub record IsPlaced (w : Written) (p i r k : ℕ) : Type 0 where
   pub on : i < length (row (seat_market w).proposers p)
   pub names : entry (seat_market w).proposers p i ≡ seats_before w r + k
 
+-- that seat, by number
 pub seat_at_place : {w : Written} {p i r k : ℕ} → IsPlaced w p i r k → IsSeatOf w (entry (seat_market w).proposers p i) r k
 seat_at_place h = record { is = h.names; below = h.below }
 
+-- each seat of an acceptable reviewer is there
 pub placed : {w : Written} {p r k : ℕ} → IsMutual w.proposers w.reviewers p r → k < seat_count w r → IsPlaced w p (first_place w p r + k) r k
 placed {w} {p} {r} {k} m below = record { mutual_ = m; below = below; is = refl; on = on; names = names }
   where

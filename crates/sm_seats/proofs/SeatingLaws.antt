@@ -25,6 +25,7 @@ past_stands {w} {places} st p past =
     ap (λ o. unwrap_or o (length (written_row w.proposers p))) none ∙ empty
 
 module _ {w : Written} {s : Seating} (h : IsSeating w s) where
+  -- the lists of a seating are those of the instance
   pub list_of : (p : ℕ) → row s.lists p ≡ written_row w.proposers p
   list_of p = ap (λ (l : List (List ℕ)). row l p) h.lists ∙ list_is w p
 

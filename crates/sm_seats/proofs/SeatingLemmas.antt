@@ -21,6 +21,7 @@ written_held s places p long =
           get_or_past (written_of s places) p None (omega arith) ∙ ap (option_map _) (sym (get_or_past places p None (omega arith)))
     ]
 
+-- there is one for each proposer
 pub length-written : (s : Seating) (places : List (Option ℕ)) → length (written_of s places) ≡ length s.market.proposers
 length-written s places = length-map-range_with_len (λ p. option_map (written_place s p) (held places p)) 0 (length s.market.proposers)
 
@@ -33,6 +34,7 @@ written_seat s p seat on = ap (λ x. place_of s.lists p (reviewer_of s x)) (entr
 pub at_place_is : {X : Type 0} (s : Seating) (f : ℕ → ℕ → X) (d : X) (p i : ℕ) → i < length (row s.market.proposers p) → get_or (at_places s f p) i d ≡ f p (written_place s p i)
 at_place_is s f d p i on = get_or-map-range_with_len (λ i. f p (written_place s p i)) 0 (length (row s.market.proposers p)) i i d on (omega arith)
 
+-- as many as there are places
 pub length-at_places : {X : Type 0} (s : Seating) (f : ℕ → ℕ → X) (p : ℕ) → length (at_places s f p) ≡ length (row s.market.proposers p)
 length-at_places s f p = length-map-range_with_len (λ i. f p (written_place s p i)) 0 (length (row s.market.proposers p))
 
@@ -40,6 +42,7 @@ length-at_places s f p = length-map-range_with_len (λ i. f p (written_place s p
 pub levels_row : (s : Seating) (p : ℕ) → p < length s.market.proposers → row (levels_of s) p ≡ levels_at s p
 levels_row s p here = get_or-map-range_with_len (levels_at s) 0 (length s.market.proposers) p p [] here (omega arith)
 
+-- one more than there are places
 pub length-levels : (s : Seating) (p : ℕ) → p < length s.market.proposers → length (row (levels_of s) p) ≡ length (row s.market.proposers p) + 1
 length-levels s p here =
     ap length (levels_row s p here) ∙ length_push (at_places s rank_of p) (length (row s.lists p) + 1) ∙ ap (λ n. n + 1) (length-at_places s rank_of p)
@@ -51,12 +54,14 @@ row_there rows p i h = elim (cases_lt p (length rows)) [
   | inr past ↦ absurd (let e = ap length (get_or_past rows p [] past) in omega arith)
 ]
 
+-- one more than the written place
 pub level_is : (s : Seating) (p i : ℕ) → i < length (row s.market.proposers p) → get_or (row (levels_of s) p) i 0 ≡ written_place s p i + 1
 level_is s p i on =
     ap (λ l. get_or l i 0) (levels_row s p (row_there s.market.proposers p i on))
     ∙ get_or_append_left (at_places s rank_of p) ((length (row s.lists p) + 1) ∷ []) 0 i (omega (arith, length-at_places s rank_of p, on))
     ∙ at_place_is s rank_of 0 p i on
 
+-- and at last one more than the length of the written list
 pub level_last : (s : Seating) (p : ℕ) → p < length s.market.proposers → get_or (row (levels_of s) p) (length (row s.market.proposers p)) 0 ≡ length (row s.lists p) + 1
 level_last s p here =
     ap (λ l. get_or l (length (row s.market.proposers p)) 0) (levels_row s p here)

@@ -71,6 +71,7 @@ module _ {w : Written} (h : HasSoundEntries w) (places : List (Option ℕ)) (m :
   pub below_count : (r k : ℕ) → k < length (seated w places r) → k < seat_count w r
   below_count r k less = omega (arith, length-seated h places m.acceptable r, m.within r, seated-le-row w places r)
 
+  -- which of both
   pub taken_cases : (p : ℕ) → TakesNone w places p ⊎ DoesTake w places p
   taken_cases p = go (held places p) refl
     where
@@ -126,9 +127,11 @@ module _ {w : Written} (h : HasSoundEntries w) (places : List (Option ℕ)) (m :
     ]
   ]
 
+  -- there is a place for each proposer
   pub taken_long : length (places_taken w places) ≡ length (seat_market w).proposers
   taken_long = length-map-range_with_len (λ p. option_map (place_taken w places p) (held places p)) 0 (length w.proposers) ∙ sym (length-proposers w)
 
+  -- it is on its list
   pub taken_on : (p i : ℕ) → held (places_taken w places) p ≡ Some i → i < length (row (seat_market w).proposers p)
   taken_on p i e = elim (taken_cases p) [
     | inl alone ↦ absurd (none_some (sym alone.taken_is ∙ e))
@@ -141,9 +144,11 @@ module _ {w : Written} (h : HasSoundEntries w) (places : List (Option ℕ)) (m :
       (λ p. elim (taken_cases p) [ inl alone ↦ omega (arith, alone.stands) | inr it ↦ omega (arith, it.stands, it.placed_there.on) ])
       once (seats_with (is_market h) (places_taken w places))
 
+  -- and makes a matching
   pub taken_matching : IsMatching (seat_market w) (with_proposers (seat_market w) (places_taken w places))
   taken_matching = matching_with (is_market h) (places_taken w places) taken_long taken_on taken_fit
 
+  -- so they can be held
   pub taken_are_held : AreHeld (seat_market w) (places_taken w places)
   taken_are_held = record {
     one_each = taken_long;

@@ -5,9 +5,11 @@ use Rattle.sm_market.proofs.CheckLemmas.{market_from_test, matching_from_test, s
 use Rattle.sm_seats.specs.SeatMarket.{seat_market}
 use Rattle.sm_seats.specs.Witnesses.{SmallHospitals, MarriageSeats, TurningHospitals, turning_hospitals, firsts, lasts}
 
+-- computed
 pub small_hospitals_seats : SmallHospitals
 small_hospitals_seats = (refl, refl, refl, refl, refl, refl)
 
+-- computed
 pub marriage_seats : MarriageSeats
 marriage_seats = (refl, refl, refl)
 
@@ -17,5 +19,6 @@ firsts_stable = stable_from_test (seat_market turning_hospitals) firsts (matchin
 lasts_stable : IsStable (seat_market turning_hospitals) lasts
 lasts_stable = stable_from_test (seat_market turning_hospitals) lasts (matching_from_test (seat_market turning_hospitals) lasts refl refl) refl
 
+-- by tests that compute
 pub turning : TurningHospitals
 turning = (market_from_test (seat_market turning_hospitals) refl refl, firsts_stable, lasts_stable, refl, refl, refl)

@@ -59,6 +59,7 @@ module _ {w : Written} (h : HasSoundEntries w) {m : Places} (f : IsMatching (sea
         at_place w (written_of (seating_of w) m.proposers) p r _ it.written_held_is (written_there w it.at.mutual_ ∙ r_is)
   ]
 
+  -- and the other way round
   pub level_at : (p r : ℕ) → is_at w (written_of (seating_of w) m.proposers) p r ≡ true → HasLevel (levels_of (seating_of w)) m p (written_place_of w.proposers p r + 1)
   level_at p r at =
       let x = place_at w p r (held (written_of (seating_of w) m.proposers) p) at in
@@ -100,6 +101,7 @@ module _ {w : Written} (h : HasSoundEntries w) {m : Places} (f : IsMatching (sea
         rw (pair_leveled w w.forbidden c less) (λ has. not_at (at_level pair.0 pair.1 has));
   }
 
+  -- what is allowed at the seats is what is allowed in the instance
   pub allowed_alike : IsAllowed (levels_of (seating_of w)) (leveled w w.forced) (leveled w w.forbidden) m ↔ IsWrittenAllowed w (written_of (seating_of w) m.proposers)
   allowed_alike = (allowed_there, allowed_back)
 
@@ -118,6 +120,7 @@ module _ {w : Written} (h : HasSoundEntries w) {m : Places} (f : IsMatching (sea
         ∙ ap (pair_weight by w p) (sym it.written_held_is)
   ]
 
+  -- the weights are the same
   pub weights_alike : (by : Measure) → weight_of (seat_market w) (weights_of by w (seating_of w)) m ≡ written_weight by w (written_of (seating_of w) m.proposers)
   weights_alike by =
       let n = length (seat_market w).proposers in
@@ -140,6 +143,7 @@ module _ {w : Written} (h : HasSoundEntries w) {m : Places} (f : IsMatching (sea
         ∙ ap (worse_rank w p) (sym it.written_held_is)
   ]
 
+  -- and so are the regrets
   pub regrets_alike : regret_of (seat_market w) (worse_ranks_of w (seating_of w)) m ≡ written_regret w (written_of (seating_of w) m.proposers)
   regrets_alike =
       let n = length (seat_market w).proposers in

@@ -31,6 +31,7 @@ list_is w p = elim (cases_lt p (length w.proposers)) [
       get_or_past (seating_of w).lists p [] (omega arith) ∙ sym none
 ]
 
+-- a seat's reviewer is read off its name
 pub reviewer_is : {w : Written} {seat r k : ℕ} → IsSeatOf w seat r k → reviewer_of (seating_of w) seat ≡ r
 reviewer_is s = ap (λ (x : ℕ × ℕ). x.0) (seat_name s)
 
@@ -38,12 +39,15 @@ reviewer_is s = ap (λ (x : ℕ × ℕ). x.0) (seat_name s)
 pub written_is : {w : Written} {p i r k : ℕ} → IsPlaced w p i r k → written_place (seating_of w) p i ≡ written_place_of w.proposers p r
 written_is {w} {p} {i} it = ap (λ l. place_on l (reviewer_of (seating_of w) (entry (seat_market w).proposers p i))) (list_is w p) ∙ ap (written_place_of w.proposers p) (reviewer_is (seat_at_place it))
 
+-- it is on the written list
 pub written_on : {w : Written} {p i r k : ℕ} → IsPlaced w p i r k → written_place (seating_of w) p i < length (written_row w.proposers p)
 written_on it = omega (arith, written_is it, it.mutual_.lists)
 
+-- at it the reviewer is named
 pub written_there : (w : Written) {p r : ℕ} → IsMutual w.proposers w.reviewers p r → written_entry w.proposers p (written_place_of w.proposers p r) ≡ r
 written_there w {p} {r} m = get_or-place_on (written_row w.proposers p) r m.lists
 
+-- there is one for each proposer
 pub length-written : (w : Written) (places : List (Option ℕ)) → length (written_of (seating_of w) places) ≡ length w.proposers
 length-written w places = length-seating (seating_of w) places ∙ length-proposers w
 
@@ -78,6 +82,7 @@ some_inj : {x y : ℕ} → ◌≡◌ {A = Option ℕ} (Some x) (Some y) → x �
 some_inj e = cc
 
 module _ {w : Written} (h : HasSoundEntries w) {m : Places} (f : IsMatching (seat_market w) m) where
+  -- which of both
   pub seat_cases : (p : ℕ) → HasNoSeatIn w m p ⊎ HasSeatIn w m p
   seat_cases p =
       let e = written_held (seating_of w) m.proposers p f.proposers.one_each in

@@ -48,6 +48,7 @@ pub record IsSeatedAs (w : Written) (s : Seating) (places : List (Option ℕ)) :
 -- inverse to each other. Their level vectors are the rank vectors, and pairs, conditions, weights and regrets are the same
 -- (Gusfield and Irving 1989, section 1.6.1; Manlove 2013, section 3.2).
 pub record IsSeating (w : Written) (s : Seating) : Type 0 where
+  -- the market, the proposers' written lists, and the names of seats
   pub market : IsMarket s.market
   pub proposers : length s.market.proposers ≡ length w.proposers
   pub seats : length s.market.reviewers ≡ length s.seats
@@ -55,17 +56,23 @@ pub record IsSeating (w : Written) (s : Seating) : Type 0 where
   pub reviewers : (seat : ℕ) → seat < length s.seats → reviewer_of s seat < length w.reviewers
   pub numbers : (seat : ℕ) → seat < length s.seats → IsNumberAt w s seat
   pub on_lists : (p i : ℕ) → i < length (row s.market.proposers p) → written_place s p i < length (row s.lists p)
+  -- levels, by which a stable matching is determined
   pub levels : AreLevels s.market (levels_of s)
   pub alike : AreLevelsOfSeats s
+  -- to forget seat numbers, and to take seats
   pub forgotten : (m : Places) → IsStable s.market m → IsWrittenStable w (written_of s m.proposers)
   pub seated : (places : List (Option ℕ)) → IsWrittenStable w places → IsSeatedAs w s places
-  pub one : (m n : Places) → IsStable s.market m → IsStable s.market n → written_of s m.proposers ≡ written_of s n.proposers → m ≡ n
+  pub one : (m n : Places) → IsStable s.market m → IsStable s.market n
+      → written_of s m.proposers ≡ written_of s n.proposers → m ≡ n
   pub taken : (m : Places) → IsStable s.market m → places_taken w (written_of s m.proposers) ≡ m.proposers
-  pub ranks : (m : Places) → IsStable s.market m → level_vector_of s.market (levels_of s) m ≡ rank_vector_of w (written_of s m.proposers)
+  -- what is the same of both
+  pub ranks : (m : Places) → IsStable s.market m
+      → level_vector_of s.market (levels_of s) m ≡ rank_vector_of w (written_of s m.proposers)
   pub holds : (m : Places) → IsStable s.market m → (p r : ℕ)
       → HasLevel (levels_of s) m p (place_of w.proposers p r + 1) ↔ IsTrue (is_at w (written_of s m.proposers) p r)
   pub allowed : (m : Places) → IsStable s.market m
       → IsAllowed (levels_of s) (leveled w w.forced) (leveled w w.forbidden) m ↔ IsWrittenAllowed w (written_of s m.proposers)
   pub weights : (by : Measure) (m : Places) → IsStable s.market m
       → weight_of s.market (weights_of by w s) m ≡ written_weight by w (written_of s m.proposers)
-  pub regrets : (m : Places) → IsStable s.market m → regret_of s.market (worse_ranks_of w s) m ≡ written_regret w (written_of s m.proposers)
+  pub regrets : (m : Places) → IsStable s.market m
+      → regret_of s.market (worse_ranks_of w s) m ≡ written_regret w (written_of s m.proposers)
