@@ -10,12 +10,14 @@ use Rattle.sm_seats.specs.Taken.{place_taken}
 pub record AreSeatedBefore (w : Written) (places : List (Option ℕ)) (seat : ℕ) (taken : List (Option ℕ)) : Type 0 where
   pub long : length taken ≡ length w.proposers
   pub alone : (q : ℕ) → held places q ≡ None → held taken q ≡ None
-  pub seated : (q i : ℕ) → held places q ≡ Some i → seats_before w (entry w.proposers q i) < seat → held taken q ≡ Some (place_taken w places q i)
+  pub seated : (q i : ℕ) → held places q ≡ Some i → seats_before w (entry w.proposers q i) < seat
+      → held taken q ≡ Some (place_taken w places q i)
 
 -- those at r have their places, and all others what they had
 pub record AreSeatedAt (w : Written) (places : List (Option ℕ)) (r : ℕ) (before after : List (Option ℕ)) : Type 0 where
   pub long : length after ≡ length before
-  pub seated : (q i : ℕ) → held places q ≡ Some i → entry w.proposers q i ≡ r → held after q ≡ Some (place_taken w places q i)
+  pub seated : (q i : ℕ) → held places q ≡ Some i → entry w.proposers q i ≡ r
+      → held after q ≡ Some (place_taken w places q i)
   pub others : (q : ℕ) → is_at w places q r ≡ false → held after q ≡ held before q
 
 -- the same of the first j on r's list, so many of whom are at r
@@ -23,6 +25,6 @@ pub record AreFirstSeatedAt (w : Written) (places : List (Option ℕ)) (r j coun
   pub long : length after ≡ length before
   pub few : count ≤ j
   pub counted : count ≡ length (filter (λ q. is_at w places q r) (take j (mutual_row w.reviewers w.proposers r)))
-  pub seated : (k i : ℕ) → k < j → let q = slice_index (mutual_row w.reviewers w.proposers r) k in held places q ≡ Some i → entry w.proposers q i ≡ r
-      → held after q ≡ Some (place_taken w places q i)
+  pub seated : (k i : ℕ) → k < j → let q = slice_index (mutual_row w.reviewers w.proposers r) k in
+      held places q ≡ Some i → entry w.proposers q i ≡ r → held after q ≡ Some (place_taken w places q i)
   pub others : (q : ℕ) → is_at w places q r ≡ false → held after q ≡ held before q
