@@ -18,5 +18,6 @@ pub mod SeatingLaws
 pub mod LawsProved
 pub mod WitnessLemmas
 pub mod VectorLaws
+pub mod PairLaws
 pub mod LatticeLaws
 pub mod TakingLemmas
