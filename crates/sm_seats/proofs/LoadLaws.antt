@@ -12,7 +12,7 @@ use Rattle.sm_instance.proofs.LoadLemmas.{place_at}
 use Rattle.sm_instance.proofs.ListLemmas.{row_in_range}
 use Rattle.sm_seats.specs.Mutual.{mutual_row}
 use Rattle.sm_seats.specs.Taken.{seated}
-use Rattle.sm_seats.proofs.FilterLemmas.{kept, kept_passes, kept_order, kept_order_back, AreDistinct, kept_distinct, length-filter-le, length-filter-lt, length-le}
+use Rattle.sm_seats.proofs.FilterLemmas.{kept, kept_passes, kept_order_back, AreDistinct, kept_distinct, length-filter-le, length-filter-lt, length-le}
 use Rattle.sm_seats.proofs.MutualLemmas.{IsMutual, mutual_turned, acceptable_mutual, mutual_on_row, mutual_distinct}
 
 -- each proposer that is matched has a reviewer that is acceptable to it
@@ -53,11 +53,7 @@ module _ {w : Written} (h : HasSoundEntries w) (places : List (Option ℕ)) wher
     pub sits : (q r : ℕ) → is_at w places q r ≡ true → place_on (seated w places r) q < length (seated w places r)
     sits q r at = kept (λ q. is_at w places q r) (mutual_row w.reviewers w.proposers r) q at (mutual_on_row (mutual_turned (mutual_at q r at)))
 
-    -- in r's order
-    pub sits_before : (p q r : ℕ) → is_at w places p r ≡ true → is_at w places q r ≡ true → place_on (mutual_row w.reviewers w.proposers r) p < place_on (mutual_row w.reviewers w.proposers r) q
-        → place_on (seated w places r) p < place_on (seated w places r) q
-    sits_before p q r at at' less = kept_order (λ q. is_at w places q r) (mutual_row w.reviewers w.proposers r) p q at at' less
-
+    -- and is liked better than those behind it
     pub prefers : (p q r : ℕ) → is_at w places p r ≡ true → is_at w places q r ≡ true → place_on (seated w places r) p < place_on (seated w places r) q
         → place_on (mutual_row w.reviewers w.proposers r) p < place_on (mutual_row w.reviewers w.proposers r) q
     prefers p q r at at' less = kept_order_back (λ q. is_at w places q r) (mutual_row w.reviewers w.proposers r) p q at at' (mutual_on_row (mutual_turned (mutual_at p r at))) less

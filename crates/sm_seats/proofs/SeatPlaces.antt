@@ -113,16 +113,6 @@ module _ {w : Written} (h : HasSoundEntries w) where
   pub place_is : {p i r k : ℕ} → IsPlaced w p i r k → place_of (seat_market w).proposers p (seats_before w r + k) ≡ i
   place_is it = seat_place it.mutual_ it.below ∙ sym it.is
 
-  -- the reviewer of a seat on p's list and p accept each other
-  pub seat_listed : {p seat r k : ℕ} → place_of (seat_market w).proposers p seat < length (row (seat_market w).proposers p) → IsSeatOf w seat r k → IsPlaced w p (place_of (seat_market w).proposers p seat) r k
-  seat_listed {p} {seat} {r} {k} on s =
-      let it = seat_on p (place_of (seat_market w).proposers p seat) on in
-      let there : entry (seat_market w).proposers p (place_of (seat_market w).proposers p seat) ≡ seat = get_or-place_on (row (seat_market w).proposers p) seat on in
-      let t : IsSeatOf w seat it.reviewer it.number = record { is = sym there ∙ it.at.names; below = it.at.below } in
-      let r_is : it.reviewer ≡ r = one_reviewer t s in
-      let k_is : it.number ≡ k = one_number t s in
-      rw r_is at (rw k_is at it.at)
-
 -- the seats of a reviewer end before those of a later one begin
 pub places_order : (w : Written) {p r s : ℕ} → IsMutual w.proposers w.reviewers p r → IsMutual w.proposers w.reviewers p s → written_place w.proposers p r < written_place w.proposers p s
     → first_place w p r + seat_count w r ≤ first_place w p s

@@ -13,14 +13,14 @@ use Rattle.sm_instance.specs.Stable.{HasWorse, IsStable as IsWrittenStable}
 use Rattle.sm_instance.proofs.LoadLemmas.{test_cases, place_at, at_place}
 use Rattle.sm_instance.proofs.PlaceLemmas.{place_of-entry}
 use Rattle.sm_market.specs.Lists.{row, entry, place_of}
-use Rattle.sm_market.specs.Matching.{standing, IsMatching}
+use Rattle.sm_market.specs.Matching.{standing}
 use Rattle.sm_market.specs.Stable.{IsStable}
 use Rattle.sm_market.specs.PairingFaults.{AreHeld}
 use Rattle.sm_market.proofs.Core.{Fit, Pair, pair_at, pair_of'}
 use Rattle.sm_market.proofs.Bridge.{sides_of, stand_of, standing-some}
 use Rattle.sm_theory.specs.Lattice.{with_proposers}
 use Rattle.sm_theory.proofs.CoreSeats.{fit_of_seats}
-use Rattle.sm_theory.proofs.BridgePlaces.{seats_with, matching_with, stable_with}
+use Rattle.sm_theory.proofs.BridgePlaces.{seats_with, stable_with}
 use Rattle.sm_seats.specs.SeatMarket.{seat_count, seats_before, seat_market}
 use Rattle.sm_seats.specs.Seating.{seating_of, written_of, written_place}
 use Rattle.sm_seats.specs.Taken.{seated, place_taken, places_taken}
@@ -143,10 +143,6 @@ module _ {w : Written} (h : HasSoundEntries w) (places : List (Option ℕ)) (m :
   taken_fit = fit_of_seats {s = sides_of (seat_market w) (is_market h)} {m = stand_of (seat_market w) (with_proposers (seat_market w) (places_taken w places))}
       (λ p. elim (taken_cases p) [ inl alone ↦ omega (arith, alone.stands) | inr it ↦ omega (arith, it.stands, it.placed_there.on) ])
       once (seats_with (is_market h) (places_taken w places))
-
-  -- and makes a matching
-  pub taken_matching : IsMatching (seat_market w) (with_proposers (seat_market w) (places_taken w places))
-  taken_matching = matching_with (is_market h) (places_taken w places) taken_long taken_on taken_fit
 
   -- so they can be held
   pub taken_are_held : AreHeld (seat_market w) (places_taken w places)
