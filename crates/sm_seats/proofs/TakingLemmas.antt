@@ -7,13 +7,11 @@ use Rattle.std.proofs.lemmas.List.{get_or_past, get_or-set_same, get_or-set_othe
 use Rattle.std.proofs.lemmas.List.Elements.{filter_more}
 use Rattle.sm_lists.specs.Rows.{place_on, rows_of, row as list_at}
 use Rattle.sm_lists.proofs.PlaceLemmas.{get_or-place_on}
-use Rattle.sm_lists.proofs.RowLemmas.{row_fits}
 use Rattle.sm_instance.specs.Written.{Written, row as written_row, entry as written_entry}
 use Rattle.sm_instance.specs.Faults.{HasSoundEntries}
 use Rattle.sm_instance.specs.Matching.{held, is_at, leads_to, IsAssignment, IsMatching}
-use Rattle.sm_instance.proofs.LoadLemmas.{place_at, at_place, test_cases}
+use Rattle.sm_instance.proofs.LoadLemmas.{at_place, test_cases}
 use Rattle.sm_market.specs.Lists.{Lists, row, place_of}
-use Rattle.sm_market.specs.Limits.{IsWithinLimits}
 use Rattle.sm_seats.specs.Mutual.{mutual_row}
 use Rattle.sm_seats.specs.SeatMarket.{seat_count, seats_before, seats_of, seat_market}
 use Rattle.sm_seats.specs.Seating.{written_lists}
@@ -22,7 +20,7 @@ use Rattle.sm_seats.specs.Taking.{AreSeatedBefore, AreSeatedAt, AreFirstSeatedAt
 use Rattle.sm_seats.proofs.FilterLemmas.{AreDistinct}
 use Rattle.sm_seats.proofs.MutualLemmas.{IsMutual, mutual_distinct}
 use Rattle.sm_seats.proofs.SeatLemmas.{IsSeatOf, one_reviewer, one_number, seat_found, seat_name, seat_list, seat_there, length-reviewers}
-use Rattle.sm_seats.proofs.SeatPlaces.{placed, seat_place}
+use Rattle.sm_seats.proofs.SeatPlaces.{seat_place}
 use Rattle.sm_seats.proofs.MarketLaws.{length-proposers}
 use Rattle.sm_seats.proofs.LoadLaws.{mutual_at, sits}
 use Rattle.sm_seats.proofs.WrittenLemmas.{list_is}
@@ -39,13 +37,6 @@ list_same w lists e q = ap (λ (l : List (List ℕ)). list_at l q) e ∙ list_is
 pub place_listed : (w : Written) (places : List (Option ℕ)) (lists : List (Vec ℕ Global)) → rows_of lists ≡ written_lists w.proposers → IsAssignment w places → (q i : ℕ) → held places q ≡ Some i
     → i < length (list_at (rows_of lists) q)
 place_listed w places lists e a q i h = let long = ap (λ (l : List ℕ). length l) (list_same w lists e q) in let on = a.on_lists q i h in omega arith
-
-pub at_some : (w : Written) (places : List (Option ℕ)) (lists : List (Vec ℕ Global)) → rows_of lists ≡ written_lists w.proposers → (q r i x : ℕ) → held places q ≡ Some i → x ≡ get_or (list_at (rows_of lists) q) i 0
-    → (x == r) ≡ is_at w places q r
-at_some w places lists e q r i x h is = ap (λ y. y == r) (is ∙ ap (λ (l : List ℕ). get_or l i 0) (list_same w lists e q)) ∙ ap (leads_to w q r) (sym h)
-
-pub at_none : (w : Written) (places : List (Option ℕ)) (q r : ℕ) → (let none : Option ℕ = None in held places q ≡ none) → false ≡ is_at w places q r
-at_none w places q r h = ap (leads_to w q r) (sym h)
 
 -- One reviewer.
 
@@ -106,28 +97,6 @@ module _ {w : Written} (h : HasSoundEntries w) {places : List (Option ℕ)} (m :
       let number = place_kept (λ q. is_at w places q r) (mutual_row w.reviewers w.proposers r) j (mutual_distinct h.reviewers w.proposers r) on at in
       let taken : place_taken w places q i ≡ place_of (seat_market w).proposers q (seats_before w r + k) = ap (λ y. place_of (seat_market w).proposers q (seats_before w y + place_on (seated w places y) q)) there in
       omega arith
-
-  -- it is on the list of seats
-  pub place_sum_on : (r j count x : ℕ) → j < length (mutual_row w.reviewers w.proposers r) → is_at w places (get_or (mutual_row w.reviewers w.proposers r) j 0) r ≡ true
-      → count ≡ length (filter (λ q. is_at w places q r) (take j (mutual_row w.reviewers w.proposers r)))
-      → x ≡ place_of (seat_market w).proposers (get_or (mutual_row w.reviewers w.proposers r) j 0) (seats_before w r)
-      → x + count < length (row (seat_market w).proposers (get_or (mutual_row w.reviewers w.proposers r) j 0))
-  place_sum_on r j count x on at counted place =
-      let q = get_or (mutual_row w.reviewers w.proposers r) j 0 in
-      let both = mutual_at h places m.acceptable q r at in
-      let k = place_on (seated w places r) q in
-      let sit = sits h places m.acceptable q r at in
-      let below = below_count h places m r k sit in
-      let it = placed {w = w} {p = q} {r = r} {k = k} both below in
-      let y = place_at w q r (held places q) at in
-      let sum = place_sum r j count x on at counted place y.0 y.2 in
-      let here = seat_place h {p = q} {r = r} {k = k} both below in
-      let there = it.on in
-      let taken : place_taken w places q y.0 ≡ place_of (seat_market w).proposers q (seats_before w r + k) = ap (λ z. place_of (seat_market w).proposers q (seats_before w z + place_on (seated w places z) q)) y.2 in
-      omega arith
-
-  pub none_seated : (r : ℕ) (before : List (Option ℕ)) → AreFirstSeatedAt w places r 0 0 before before
-  none_seated r before = record { long = refl; few = omega arith; counted = refl; seated = λ k i less. absurd (omega arith); others = λ q no_. refl }
 
   pub one_seated : {r j count x : ℕ} {before after : List (Option ℕ)} → length before ≡ length w.proposers → AreFirstSeatedAt w places r j count before after → j < length (mutual_row w.reviewers w.proposers r)
       → is_at w places (get_or (mutual_row w.reviewers w.proposers r) j 0) r ≡ true → x ≡ place_of (seat_market w).proposers (get_or (mutual_row w.reviewers w.proposers r) j 0) (seats_before w r)
@@ -336,20 +305,6 @@ module _ (w : Written) (l : Lists) (is : l ≡ seat_market w) where
         let on' : j < length (mutual_row w.reviewers w.proposers r) = (let long = ap (λ (l : List ℕ). length l) list in omega arith) in
         let who' : q ≡ get_or (mutual_row w.reviewers w.proposers r) j 0 = who ∙ ap (λ (l : List ℕ). get_or l j 0) list in
         one_passed h m f on' (ap (λ y. is_at w places y r) (sym who') ∙ no_)
-
-    pub sum_fits : (seat r j count q x : ℕ) (before after : List (Option ℕ)) → IsWithinLimits l → seat ≡ seats_before w r → 0 < seat_count w r → AreFirstSeatedAt w places r j count before after
-        → j < length (row l.reviewers seat) → q ≡ get_or (row l.reviewers seat) j 0 → is_at w places q r ≡ true → x ≡ place_of l.proposers (get_or (row l.reviewers seat) j 0) seat
-        → x + count < 2 ^ 24
-    sum_fits seat r j count q x before after limits first has f on who at place =
-        let list = first_list seat r first has in
-        let on' : j < length (mutual_row w.reviewers w.proposers r) = (let long = ap (λ (l : List ℕ). length l) list in omega arith) in
-        let who' : q ≡ get_or (mutual_row w.reviewers w.proposers r) j 0 = who ∙ ap (λ (l : List ℕ). get_or l j 0) list in
-        let place' : x ≡ place_of (seat_market w).proposers (get_or (mutual_row w.reviewers w.proposers r) j 0) (seats_before w r) =
-        place ∙ (λ t. place_of (is t).proposers (get_or (list t) j 0) (first t)) in
-        let below = place_sum_on h m r j count x on' (ap (λ y. is_at w places y r) (sym who') ∙ at) f.counted place' in
-        let fits = row_fits limits.proposers (get_or (mutual_row w.reviewers w.proposers r) j 0) in
-        let same = ap (λ (l : Lists). length (row l.proposers (get_or (mutual_row w.reviewers w.proposers r) j 0))) is in
-        omega arith
 
     pub row_seated : (seat r j count : ℕ) (before after : List (Option ℕ)) → seat ≡ seats_before w r → 0 < seat_count w r → AreFirstSeatedAt w places r j count before after
         → length (row l.reviewers seat) ≤ j → AreSeatedAt w places r before after
