@@ -10,7 +10,7 @@ use Rattle.sm_seats.specs.Seating.{seating_of}
 use Rattle.sm_seats.specs.Taken.{places_taken}
 use Rattle.sm_seats.specs.Correspondence.{IsSeating}
 use Rattle.sm_seats.proofs.MarketLaws.{is_market, length-proposers}
-use Rattle.sm_seats.proofs.ForgetLaws.{stable_forgotten}
+use Rattle.sm_seats.proofs.ForgetLaws.{forgotten_matching, stable_forgotten}
 use Rattle.sm_seats.proofs.TakenLaws.{stable_taken, taken_forgotten}
 use Rattle.sm_seats.proofs.LevelLaws.{are_levels, levels_alike, levels_are_ranks, one_seating, taken_is}
 use Rattle.sm_seats.proofs.SeatLemmas.{IsSeat, seat_found, seat_name, length-seats, has_seats, seat_count-le-capacity}
@@ -43,6 +43,8 @@ is_seating {w} h = record {
   on_lists = λ p i on. (let it = seat_on h p i on in let e = written_on it.at in let long = ap length (list_is w p) in omega arith);
   levels = are_levels h;
   alike = levels_alike h;
+  matched = λ m f. forgotten_matching h f;
+  kept = λ places m. taken_forgotten h places m;
   forgotten = λ m s. stable_forgotten h s;
   seated = λ places s. record {
     matching = with_proposers (seat_market w) (places_taken w places);
@@ -52,9 +54,9 @@ is_seating {w} h = record {
   };
   one = one_seating h;
   taken = taken_is h;
-  ranks = λ m s. levels_are_ranks h s.matching;
-  holds = λ m s p r. (at_level h s.matching p r, level_at h s.matching p r);
-  allowed = λ m s. allowed_alike h s.matching;
-  weights = λ by m s. weights_alike h s.matching by;
-  regrets = λ m s. regrets_alike h s.matching;
+  ranks = λ m f. levels_are_ranks h f;
+  holds = λ m f p r. (at_level h f p r, level_at h f p r);
+  allowed = λ m f. allowed_alike h f;
+  weights = λ by m f. weights_alike h f by;
+  regrets = λ m f. regrets_alike h f;
 }

@@ -23,18 +23,18 @@ pub record IsStableLevel (s : Seating) (p level : ℕ) : Type 0 where
 
 module _ {w : Written} {s : Seating} (h : IsSeating w s) (p r : ℕ) where
   pub pair_of_level : IsStableLevel s p (place_of w.proposers p r + 1) → IsStablePair w p r
-  pair_of_level x = record { places = written_of s x.matching.proposers; stable = h.forgotten x.matching x.stable; at = (h.holds x.matching x.stable p r).0 x.holds }
+  pair_of_level x = record { places = written_of s x.matching.proposers; stable = h.forgotten x.matching x.stable; at = (h.holds x.matching x.stable.matching p r).0 x.holds }
 
   pub level_of_pair : IsStablePair w p r → IsStableLevel s p (place_of w.proposers p r + 1)
   level_of_pair x =
       let n = h.seated x.places x.stable in
-      record { matching = n.matching; stable = n.stable; holds = (h.holds n.matching n.stable p r).1 (subst (λ (y : List (Option ℕ)). IsTrue (is_at w y p r)) (sym n.forgets) x.at) }
+      record { matching = n.matching; stable = n.stable; holds = (h.holds n.matching n.stable.matching p r).1 (subst (λ (y : List (Option ℕ)). IsTrue (is_at w y p r)) (sym n.forgets) x.at) }
 
   -- and the same of all of them
   pub pair_everywhere : ((m : Places) → IsStable s.market m → HasLevel (levels_of s) m p (place_of w.proposers p r + 1)) → (places : List (Option ℕ)) → IsWrittenStable w places → IsTrue (is_at w places p r)
   pair_everywhere all places st =
       let n = h.seated places st in
-      subst (λ (y : List (Option ℕ)). IsTrue (is_at w y p r)) n.forgets ((h.holds n.matching n.stable p r).0 (all n.matching n.stable))
+      subst (λ (y : List (Option ℕ)). IsTrue (is_at w y p r)) n.forgets ((h.holds n.matching n.stable.matching p r).0 (all n.matching n.stable))
 
   pub level_everywhere : ((places : List (Option ℕ)) → IsWrittenStable w places → IsTrue (is_at w places p r)) → (m : Places) → IsStable s.market m → HasLevel (levels_of s) m p (place_of w.proposers p r + 1)
-  level_everywhere all m hm = (h.holds m hm p r).1 (all (written_of s m.proposers) (h.forgotten m hm))
+  level_everywhere all m hm = (h.holds m hm.matching p r).1 (all (written_of s m.proposers) (h.forgotten m hm))

@@ -52,7 +52,7 @@ module _ {w : Written} {s : Seating} (h : IsSeating w s) where
   stands_at {m} st p here =
       let size = h.proposers in
       sym (get_or-map-range_with_len (level_of s.market (levels_of s) m) 0 (length s.market.proposers) p p 0 (omega arith) (omega arith))
-      ∙ ap (λ (v : List ℕ). get_or v p 0) (h.ranks m st)
+      ∙ ap (λ (v : List ℕ). get_or v p 0) (h.ranks m st.matching)
       ∙ get_or-map-range_with_len (λ p. written_standing w (written_of s m.proposers) p + 1) 0 (length w.proposers) p p 0 here (omega arith)
 
   -- who stands as well at the seats stands as well in the instance

@@ -44,21 +44,21 @@ module _ {w : Written} {s : Seating} (h : IsSeating w s) where
   pub allowed_seats : {places : List (Option ℕ)} → IsWrittenStable w places → IsWrittenAllowed w places → HasAllowedSeats w s places
   allowed_seats {places} st a =
       let n = h.seated places st in
-      record { matching = n.matching; stable = n.stable; allowed = (h.allowed n.matching n.stable).1 (subst (IsWrittenAllowed w) (sym n.forgets) a); forgets = n.forgets }
+      record { matching = n.matching; stable = n.stable; allowed = (h.allowed n.matching n.stable.matching).1 (subst (IsWrittenAllowed w) (sym n.forgets) a); forgets = n.forgets }
 
   -- level vectors of allowed stable matchings of the seats are rank vectors of those of the instance
   pub vector_written : (v : List ℕ) → IsAllowedVector s.market (levels_of s) (leveled w w.forced) (leveled w w.forbidden) v → IsAllowedRankVector w v
   vector_written v a = record {
     places = written_of s a.matching.proposers;
     stable = h.forgotten a.matching a.stable;
-    allowed = (h.allowed a.matching a.stable).0 a.allowed;
-    vector = a.vector ∙ h.ranks a.matching a.stable;
+    allowed = (h.allowed a.matching a.stable.matching).0 a.allowed;
+    vector = a.vector ∙ h.ranks a.matching a.stable.matching;
   }
 
   pub vector_seated : (v : List ℕ) → IsAllowedRankVector w v → IsAllowedVector s.market (levels_of s) (leveled w w.forced) (leveled w w.forbidden) v
   vector_seated v a =
       let n = allowed_seats a.stable a.allowed in
-      record { matching = n.matching; stable = n.stable; allowed = n.allowed; vector = a.vector ∙ ap (rank_vector_of w) (sym n.forgets) ∙ sym (h.ranks n.matching n.stable) }
+      record { matching = n.matching; stable = n.stable; allowed = n.allowed; vector = a.vector ∙ ap (rank_vector_of w) (sym n.forgets) ∙ sym (h.ranks n.matching n.stable.matching) }
 
   -- so a listing at the seats is one of the instance
   pub listing_written : {Before : List ℕ → List ℕ → Type 0} {cursor : Option (List ℕ)} {limit : ℕ} {out : List (List ℕ)} {more : Bool}
@@ -76,8 +76,8 @@ module _ {w : Written} {s : Seating} (h : IsSeating w s) where
   lightest_written by m l places st a =
       let n = allowed_seats st a in
       let less : weight_of s.market (weights_of by w s) m ≤ℤ weight_of s.market (weights_of by w s) n.matching = l.lightest n.matching n.stable n.allowed in
-      let mine : weight_of s.market (weights_of by w s) m ≡ written_weight by w (written_of s m.proposers) = h.weights by m l.stable in
-      let theirs : weight_of s.market (weights_of by w s) n.matching ≡ written_weight by w places = h.weights by n.matching n.stable ∙ ap (written_weight by w) n.forgets in
+      let mine : weight_of s.market (weights_of by w s) m ≡ written_weight by w (written_of s m.proposers) = h.weights by m l.stable.matching in
+      let theirs : weight_of s.market (weights_of by w s) n.matching ≡ written_weight by w places = h.weights by n.matching n.stable.matching ∙ ap (written_weight by w) n.forgets in
       subst (λ x. x ≤ℤ written_weight by w places) mine (subst (λ x. weight_of s.market (weights_of by w s) m ≤ℤ x) theirs less)
 
   -- and the same of regrets
@@ -86,5 +86,5 @@ module _ {w : Written} {s : Seating} (h : IsSeating w s) where
       → (places : List (Option ℕ)) → IsWrittenStable w places → IsWrittenAllowed w places → written_regret w (written_of s m.proposers) ≤ written_regret w places
   least_regret_written m hm least places st a =
       let n = allowed_seats st a in
-      let theirs : regret_of s.market (worse_ranks_of w s) n.matching ≡ written_regret w places = h.regrets n.matching n.stable ∙ ap (written_regret w) n.forgets in
-      subst (λ x. x ≤ written_regret w places) (h.regrets m hm) (subst (λ x. regret_of s.market (worse_ranks_of w s) m ≤ x) theirs (least n.matching n.stable n.allowed))
+      let theirs : regret_of s.market (worse_ranks_of w s) n.matching ≡ written_regret w places = h.regrets n.matching n.stable.matching ∙ ap (written_regret w) n.forgets in
+      subst (λ x. x ≤ written_regret w places) (h.regrets m hm.matching) (subst (λ x. regret_of s.market (worse_ranks_of w s) m ≤ x) theirs (least n.matching n.stable n.allowed))

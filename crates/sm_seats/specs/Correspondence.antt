@@ -1,13 +1,13 @@
 -- How the stable matchings of a market of seats and those of its instance correspond.
 use Rattle.std.specs.Prelude.{◌≡◌, ℕ, ◌+◌, ◌<◌, ◌≤◌, ◌↔◌, IsTrue, ℤ, List, map, length, Option, Some, slice_index}
 use Rattle.sm_instance.specs.Written.{Written, place_of, capacity_of}
-use Rattle.sm_instance.specs.Matching.{is_at}
+use Rattle.sm_instance.specs.Matching.{is_at, IsMatching as IsWrittenMatching}
 use Rattle.sm_instance.specs.Stable.{IsStable as IsWrittenStable}
 use Rattle.sm_instance.specs.Ranks.{rank_vector_of, worse_rank, regret_of as written_regret, pair_weight, weight_of as written_weight}
 use Rattle.sm_instance.specs.Allowed.{IsAllowed as IsWrittenAllowed}
 use Rattle.sm_instance.specs.declared.kinds.Measure.{Measure}
 use Rattle.sm_market.specs.Lists.{row, entry, agents, IsMarket}
-use Rattle.sm_market.specs.Matching.{Places}
+use Rattle.sm_market.specs.Matching.{Places, IsMatching}
 use Rattle.sm_market.specs.Stable.{IsStable}
 use Rattle.sm_theory.specs.Vectors.{AreLevels, HasLevel, IsAllowed, level_vector_of}
 use Rattle.sm_theory.specs.Weights.{weight_of, regret_of}
@@ -45,8 +45,8 @@ pub record IsSeatedAs (w : Written) (s : Seating) (places : List (Option ℕ)) :
 
 -- The stable matchings of the seats and those of the instance, by blocking with capacities over the written lists,
 -- correspond one to one: to forget seat numbers, and to seat each reviewer's proposers in its order of preference, are
--- inverse to each other. Their level vectors are the rank vectors, and pairs, conditions, weights and regrets are the same
--- (Gusfield and Irving 1989, section 1.6.1; Manlove 2013, section 3.2).
+-- inverse to each other. Matchings go to matchings, their level vectors are the rank vectors, and pairs, conditions, weights
+-- and regrets are the same (Gusfield and Irving 1989, section 1.6.1; Manlove 2013, section 3.2).
 pub record IsSeating (w : Written) (s : Seating) : Type 0 where
   -- the market, the proposers' written lists, and the names of seats
   pub market : IsMarket s.market
@@ -60,19 +60,21 @@ pub record IsSeating (w : Written) (s : Seating) : Type 0 where
   pub levels : AreLevels s.market (levels_of s)
   pub alike : AreLevelsOfSeats s
   -- to forget seat numbers, and to take seats
+  pub matched : (m : Places) → IsMatching s.market m → IsWrittenMatching w (written_of s m.proposers)
+  pub kept : (places : List (Option ℕ)) → IsWrittenMatching w places → written_of s (places_taken w places) ≡ places
   pub forgotten : (m : Places) → IsStable s.market m → IsWrittenStable w (written_of s m.proposers)
   pub seated : (places : List (Option ℕ)) → IsWrittenStable w places → IsSeatedAs w s places
   pub one : (m n : Places) → IsStable s.market m → IsStable s.market n
       → written_of s m.proposers ≡ written_of s n.proposers → m ≡ n
   pub taken : (m : Places) → IsStable s.market m → places_taken w (written_of s m.proposers) ≡ m.proposers
   -- what is the same of both
-  pub ranks : (m : Places) → IsStable s.market m
+  pub ranks : (m : Places) → IsMatching s.market m
       → level_vector_of s.market (levels_of s) m ≡ rank_vector_of w (written_of s m.proposers)
-  pub holds : (m : Places) → IsStable s.market m → (p r : ℕ)
+  pub holds : (m : Places) → IsMatching s.market m → (p r : ℕ)
       → HasLevel (levels_of s) m p (place_of w.proposers p r + 1) ↔ IsTrue (is_at w (written_of s m.proposers) p r)
-  pub allowed : (m : Places) → IsStable s.market m
+  pub allowed : (m : Places) → IsMatching s.market m
       → IsAllowed (levels_of s) (leveled w w.forced) (leveled w w.forbidden) m ↔ IsWrittenAllowed w (written_of s m.proposers)
-  pub weights : (by : Measure) (m : Places) → IsStable s.market m
+  pub weights : (by : Measure) (m : Places) → IsMatching s.market m
       → weight_of s.market (weights_of by w s) m ≡ written_weight by w (written_of s m.proposers)
-  pub regrets : (m : Places) → IsStable s.market m
+  pub regrets : (m : Places) → IsMatching s.market m
       → regret_of s.market (worse_ranks_of w s) m ≡ written_regret w (written_of s m.proposers)
