@@ -10,7 +10,7 @@ use Rattle.sm_market.specs.Lists.{row}
 use Rattle.sm_market.specs.Matching.{Places, held}
 use Rattle.sm_market.specs.Stable.{IsStable}
 use Rattle.sm_theory.specs.Lattice.{better, worse, meet_of, join_of}
-use Rattle.sm_theory.proofs.BridgePlaces.{held_map, held_map_past}
+use Rattle.sm_theory.proofs.Bridge.Places.{held_map, held_map_past}
 use Rattle.sm_seats.specs.Seating.{Seating, written_place, written_of}
 use Rattle.sm_seats.specs.Correspondence.{IsSeating}
 use Rattle.sm_seats.proofs.SeatingLemmas as seating

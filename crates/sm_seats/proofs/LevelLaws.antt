@@ -11,7 +11,7 @@ use Rattle.sm_market.specs.Matching.{Places, IsMatching}
 use Rattle.sm_market.specs.Stable.{IsStable}
 use Rattle.sm_theory.specs.Lattice.{with_proposers}
 use Rattle.sm_theory.specs.Vectors.{AreLevels, level_of, level_vector_of}
-use Rattle.sm_theory.proofs.LawsLattice.{levels_determine}
+use Rattle.sm_theory.proofs.Chains.Lattice.{levels_determine}
 use Rattle.sm_seats.specs.SeatMarket.{seat_market}
 use Rattle.sm_seats.specs.Seating.{seating_of, written_of, levels_at, levels_of}
 use Rattle.sm_seats.specs.Taken.{places_taken}

@@ -10,7 +10,7 @@ use Rattle.std.proofs.lemmas.List.Sums.{position_or_len_is, passes_at_first}
 use Rattle.std.proofs.lemmas.List.FromFn.{get_or-range_with_len, length-range_with_len}
 use Rattle.sm_text.specs.Limits.{most_seat_entries}
 use Rattle.sm_instance.proofs.AcceptLemmas.{lt_true}
-use Rattle.sm_theory.proofs.BridgePlaces.{position_cases}
+use Rattle.sm_theory.proofs.Bridge.Places.{position_cases}
 use Rattle.sm_instance.specs.Written.{Written}
 use Rattle.sm_instance.specs.Faults.{HasSoundEntries}
 use Rattle.sm_market.specs.Limits.{IsWithinLimits}

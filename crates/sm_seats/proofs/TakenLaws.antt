@@ -19,8 +19,8 @@ use Rattle.sm_market.specs.PairingFaults.{AreHeld}
 use Rattle.sm_market.proofs.Core.{Fit, Pair, pair_at, pair_of'}
 use Rattle.sm_market.proofs.Bridge.{sides_of, stand_of, standing-some}
 use Rattle.sm_theory.specs.Lattice.{with_proposers}
-use Rattle.sm_theory.proofs.CoreSeats.{fit_of_seats}
-use Rattle.sm_theory.proofs.BridgePlaces.{seats_with, stable_with}
+use Rattle.sm_theory.proofs.Core.Seats.{fit_of_seats}
+use Rattle.sm_theory.proofs.Bridge.Places.{seats_with, stable_with}
 use Rattle.sm_seats.specs.SeatMarket.{seat_count, seats_before, seat_market}
 use Rattle.sm_seats.specs.Seating.{seating_of, written_of, written_place}
 use Rattle.sm_seats.specs.Taken.{seated, place_taken, places_taken}

@@ -17,7 +17,7 @@ use Rattle.sm_market.specs.Lists.{row}
 use Rattle.sm_market.specs.Matching.{Places, held as market_held, IsMatching}
 use Rattle.sm_theory.specs.Vectors.{HasLevel, IsAllowed}
 use Rattle.sm_theory.specs.Weights.{total, weight_of_place, weight_of, rank_of_place, regret_of}
-use Rattle.sm_theory.proofs.Totals.{total_same}
+use Rattle.sm_theory.proofs.Weighing.Totals.{total_same}
 use Rattle.sm_seats.specs.SeatMarket.{seat_market}
 use Rattle.sm_seats.specs.Seating.{seating_of, written_of, at_places, levels_of}
 use Rattle.sm_seats.specs.Correspondence.{weights_of, worse_ranks_of, leveled}
