@@ -28,18 +28,18 @@ blocks_by {w} {places} inst p i k limit on cross gain =
     )
 
 -- who blocks with r names it
-pub blocking_named : {w : Written} {places : List (Option ℕ)} {r : ℕ} {all : List Naming} → AreNamingsOf w.proposers (length w.proposers) 0 r all → (e : ℕ) → e ≤ length all → ((f : ℕ) → f < e → ¬ Blocks w places (naming_at all f).by r)
+pub blocking_named : {w : Written} {places : List (Option ℕ)} {r : ℕ} {all : List Naming} → AreNamingsOf w.proposers r all → (e : ℕ) → e ≤ length all → ((f : ℕ) → f < e → ¬ Blocks w places (naming_at all f).by r)
     → (q : ℕ) → ((f : ℕ) → e ≤ f → f < length all → q < (naming_at all f).by) → ¬ Blocks w places q r
 blocking_named {w} {places} {r} {all} named e le none q before h =
     let a = h.acceptable in
     let on = a.proposer_lists in
-    let n = named.earlier_named q (place_of w.proposers q r) (row_in_range w.proposers q _ on) on (get_or-place_on (row w.proposers q) r on) in
+    let n = named.named q (place_of w.proposers q r) on (get_or-place_on (row w.proposers q) r on) in
     ⊎_elim
     (λ l. none n.at l (let Q : ℕ → Type 0 = λ p. Blocks w places p r in subst Q (sym n.by) h))
     (λ g. let lt = before n.at g n.there in let by = n.by in omega arith)
     (cases_lt n.at e)
 
-pub first_at : {w : Written} {places : List (Option ℕ)} {r : ℕ} {all : List Naming} → IsInstance w → AreNamingsOf w.proposers (length w.proposers) 0 r all → (e : ℕ) → e < length all → ((f : ℕ) → f < e → ¬ Blocks w places (naming_at all f).by r)
+pub first_at : {w : Written} {places : List (Option ℕ)} {r : ℕ} {all : List Naming} → IsInstance w → AreNamingsOf w.proposers r all → (e : ℕ) → e < length all → ((f : ℕ) → f < e → ¬ Blocks w places (naming_at all f).by r)
     → Blocks w places (naming_at all e).by (entry w.proposers (naming_at all e).by (naming_at all e).place) → IsFirstAt w places r (naming_at all e)
 first_at {w} {places} {r} {all} inst named e l none h =
     let there = named.names e l in
@@ -49,7 +49,7 @@ first_at {w} {places} {r} {all} inst named e l none h =
       earlier = λ q lt. blocking_named named e (omega arith) none q (λ f ge inside. ⊎_elim (λ less. let up = named.rising e f less inside in omega arith) (λ past. let same : e ≡ f = omega arith in let s = ap (λ g. (naming_at all g).by) same in omega arith) (cases_lt e f));
     }
 
-pub none_at : {w : Written} {places : List (Option ℕ)} {r : ℕ} {all : List Naming} → AreNamingsOf w.proposers (length w.proposers) 0 r all → (e : ℕ) → length all ≡ e → ((f : ℕ) → f < e → ¬ Blocks w places (naming_at all f).by r) → (q : ℕ) → ¬ Blocks w places q r
+pub none_at : {w : Written} {places : List (Option ℕ)} {r : ℕ} {all : List Naming} → AreNamingsOf w.proposers r all → (e : ℕ) → length all ≡ e → ((f : ℕ) → f < e → ¬ Blocks w places (naming_at all f).by r) → (q : ℕ) → ¬ Blocks w places q r
 none_at named e whole none q = blocking_named named e (omega arith) none q (λ f ge inside. absurd (omega arith))
 
 -- two agents that stand at one place of a list are one

@@ -117,7 +117,7 @@ accepted {w} p at h a u = let same : at ≡ u.at = (let e = u.holds in cc) in u.
 pub unmatched : {w : Written} {places : List (Option ℕ)} (p : ℕ) → (let none : Option ℕ = None in held places p ≡ none) → ¬ IsUnacceptable w places p
 unmatched p h u = let e = u.holds in cc
 
-module _ {w : Written} {places : List (Option ℕ)} {r : ℕ} {all : List Naming} (i : IsInstance w) (assigned : IsAssignment w places) (named : AreNamingsOf w.proposers (length w.proposers) 0 r all) where
+module _ {w : Written} {places : List (Option ℕ)} {r : ℕ} {all : List Naming} (i : IsInstance w) (assigned : IsAssignment w places) (named : AreNamingsOf w.proposers r all) where
   -- numbers that rise are no smaller than their places
   pub rising_ge : (e : ℕ) → e < length all → e ≤ (naming_at all e).by
   rising_ge zero l = omega arith

@@ -3,7 +3,7 @@ pub mod PlaceLemmas
 pub mod NameLemmas
 pub mod AgentLemmas
 pub mod NamingLemmas
-pub mod NoteLemmas
+pub mod CrossLemmas
 pub mod LoadLemmas
 pub mod ItemLemmas
 pub mod FaultLemmas

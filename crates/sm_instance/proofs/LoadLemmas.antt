@@ -74,13 +74,13 @@ pub record IsWorstSoFar (w : Written) (places : List (Option ℕ)) (r : ℕ) (al
   pub above : (f : ℕ) → f < e → held places (naming_at all f).by ≡ Some (naming_at all f).place → place_of w.reviewers r (naming_at all f).by ≤ worst
   pub attained : (p : ℕ) → place_of w.reviewers r p < worst → HasWorse w places r p
 
-module _ {w : Written} {places : List (Option ℕ)} {r : ℕ} {all : List Naming} (assigned : IsAssignment w places) (sound : AreSoundEntries w.proposers (length w.reviewers)) (named : AreNamingsOf w.proposers (length w.proposers) 0 r all) where
+module _ {w : Written} {places : List (Option ℕ)} {r : ℕ} {all : List Naming} (assigned : IsAssignment w places) (sound : AreSoundEntries w.proposers (length w.reviewers)) (named : AreNamingsOf w.proposers r all) where
   -- whoever is at r names it
   pub named_at : (q : ℕ) → is_at w places q r ≡ true → (i : ℕ) × (held places q ≡ Some i) × IsNamed all q i
   named_at q at =
       let x = place_at w q r (held places q) at in
       let on = assigned.on_lists q x.0 x.1 in
-      (x.0, x.1, named.earlier_named q x.0 (row_in_range w.proposers q x.0 on) on x.2)
+      (x.0, x.1, named.named q x.0 on x.2)
 
   -- nobody between two namings is at r
   none_between : (j k : ℕ) → ((f : ℕ) → f < length all → ((naming_at all f).by < j) ⊎ (k ≤ (naming_at all f).by)) → (q : ℕ) → j ≤ q → q < k → is_at w places q r ≡ false

@@ -8,6 +8,7 @@ pub mod Faults
 pub mod Checks
 pub mod Places
 pub mod Vectors
+pub mod Crosses
 pub mod Kept
 pub mod Inputs
 pub mod Named

@@ -39,6 +39,10 @@ entry agents a i = slice_index (row agents a) i
 abbrev pub place_of : List AgentData → ℕ → ℕ → ℕ
 place_of agents a b = place_on (row agents a) b
 
+-- the lists of all agents
+abbrev pub lists_of : List AgentData → List (List ℕ)
+lists_of agents = map (λ agent. agent.entries) agents
+
 abbrev pub capacity_of : List AgentData → ℕ → ℕ
 capacity_of agents a = (agent_at agents a).capacity
 

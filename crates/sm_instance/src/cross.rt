@@ -1,7 +1,9 @@
 //! Cross places as they are kept, in two bytes each.
 
-ghost use Rattle.std.specs.Prelude.{◌≡◌, ◌<◌, IfSome};
+ghost use Rattle.std.specs.Prelude.{◌≡◌};
 
+use sm_lists::KeptPlace;
+use std::alloc::{AllocError, Global};
 use std::marker::Model;
 
 /// The place of a list's owner on the list of an agent that it names, or none where it isn't on it, so that the entry is
@@ -26,11 +28,22 @@ impl Model for Cross {
 }
 
 impl Cross {
-    /// Keeps a place.
-    pub(crate) fn of(place: Option<u32>) -> Cross
-        requires { IfSome place (λ place. place < 4096) }
-        ensures { result ≡ place }
+    /// The place, counted from 0.
+    pub fn place(self) -> Option<u32>
+        ensures { result ≡ self }
     {
+        u32::from(self.past).checked_sub(1)
+    }
+}
+
+impl KeptPlace for Cross {
+    ghost use Rattle.sm_text.specs.Limits.{most_agents};
+
+    ghost kept = { λ place. place };
+
+    ghost most = { most_agents };
+
+    fn of(place: Option<u32>) -> Cross {
         match place {
             Some(place) => Cross {
                 past: place as u16 + 1,
@@ -39,10 +52,12 @@ impl Cross {
         }
     }
 
-    /// The place, counted from 0.
-    pub fn place(self) -> Option<u32>
-        ensures { result ≡ self }
-    {
-        u32::from(self.past).checked_sub(1)
+    fn place(self) -> Option<u32> {
+        Cross::place(self)
+    }
+
+    #[tactic(auto, using(sm_lists::proofs::CrossLemmas::map_copies))]
+    fn none(alloc: Global, count: usize) -> Result<Vec<Cross>, AllocError> {
+        Ok(vec![in alloc; Cross { past: 0 }; count]?)
     }
 }

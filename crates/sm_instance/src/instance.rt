@@ -7,7 +7,8 @@ ghost use Rattle.sm_text.specs.Limits.{most_agents, most_capacity, most_weight};
 ghost use Rattle.sm_instance.specs.Written.{row, entry, names_of, capacity_of, IsAcceptable, given_weight};
 ghost use Rattle.sm_instance.specs.Vectors.{agents_of, written_of};
 ghost use Rattle.sm_instance.specs.Sound.{IsInstance};
-ghost use Rattle.sm_instance.specs.Kept.{cross_place, AreCrossPlacesOf, AreNamingsOf};
+ghost use Rattle.sm_instance.specs.Crosses.{cross_place, AreCrossPlacesOf};
+ghost use Rattle.sm_instance.specs.Kept.{AreNamingsOf};
 
 use crate::agents::{Agent, capacity_at, list_at};
 use crate::checks::checked;
@@ -18,6 +19,7 @@ use crate::kinds::Kind;
 use crate::names::Names;
 use crate::namings::{Naming, place_by};
 use crate::pairs::Pairs;
+use sm_lists::{CrossPlaces, KeptPlace};
 use std::alloc::Global;
 use std::marker::Model;
 
@@ -92,7 +94,11 @@ impl Instance {
         let (left, right, weighed) = checked(
             alloc, kind, &proposers, &reviewers, &weights, &forced, &forbidden,
         )?;
-        let (crosses, reviewer_crosses, namings) = crossings(alloc, &proposers, &reviewers)?;
+        let CrossPlaces {
+            rows: crosses,
+            others: reviewer_crosses,
+            namings,
+        } = crossings(alloc, &proposers, &reviewers)?;
         Ok(Instance {
             kind,
             proposers,
@@ -292,7 +298,7 @@ impl Instance {
     /// Who lists a reviewer, by number and with the place.
     pub(crate) fn namings_of(&self, r: u32) -> &[Naming]
         requires { r < length self.now.reviewers }
-        ensures namings { AreNamingsOf self.now.proposers (length self.now.proposers) 0 r result.now }
+        ensures namings { AreNamingsOf self.now.proposers r result.now }
         ensures instance { IsInstance self.now }
     {
         &self.namings[r as usize]

@@ -1,12 +1,9 @@
-//! Who names each agent, and where: the lists of one side turned over.
+//! Who names an agent, and where, as it is kept.
 
-ghost use Rattle.std.specs.Prelude.{◌≡◌, ◌≢◌, ℕ, ◌+◌, ◌<◌, ◌≤◌, ◌++◌, ◌∷◌, [], length, slice_index_or, slice_set, IfOk, OnOk, MatchOption};
-ghost use Rattle.sm_instance.specs.Sound.{AreSoundEntries};
-ghost use Rattle.sm_instance.specs.Kept.{AreNamings, IsNamed, naming_at};
-ghost use Rattle.sm_instance.specs.Vectors.{agents_of, namings_of};
+ghost use Rattle.std.specs.Prelude.{◌≡◌, ◌≢◌, ℕ, ◌<◌, length, MatchOption};
+ghost use Rattle.sm_instance.specs.Kept.{IsNamed, naming_at};
 
-use crate::agents::{Agent, list_at};
-use std::alloc::{AllocError, Global};
+use sm_lists::KeptNaming;
 
 /// That an agent of the other side names a certain agent, at a place of its list: in four bytes, since both are small.
 #[derive(Clone, Copy)]
@@ -15,67 +12,26 @@ pub(crate) struct Naming {
     pub(crate) place: u16,
 }
 
-/// Who names each of the agents of the other side, `others`, by number.
-pub(crate) fn namings(
-    alloc: Global,
-    agents: &[Agent],
-    others: &[Agent],
-) -> Result<Vec<Vec<Naming>>, AllocError>
-    requires agents { length agents.now ≤ 4096 }
-    requires others { length others.now ≤ 4096 }
-    requires sound { AreSoundEntries (agents_of agents.now) (length others.now) }
-    ensures { IfOk result (λ n. AreNamings (agents_of agents.now) (length others.now)
-        (length (agents_of agents.now)) 0 (namings_of n.items)) }
-{
-    let mut namings = empty_lists(alloc, others)?;
-    for by in 0..agents.len() as u32 {
-        add_namings(&mut namings, by, agents)?;
-    }
-    Ok(namings)
-}
+impl KeptNaming for Naming {
+    ghost use Rattle.sm_text.specs.Limits.{most_agents};
 
-/// An empty list for each agent, with room for as many namings as its own list is long: whoever is listed mostly lists
-/// back.
-fn empty_lists(alloc: Global, agents: &[Agent]) -> Result<Vec<Vec<Naming>>, AllocError>
-    ensures count { IfOk result (λ lists. length (namings_of lists.items) ≡ length agents.now) }
-    ensures empty { IfOk result (λ lists. (r : ℕ) → slice_index_or (namings_of lists.items) r [] ≡ []) }
-{
-    let mut lists = Vec::with_capacity(alloc, agents.len())?;
-    for agent in agents {
-        lists.push(Vec::with_capacity(alloc, agent.entries.len())?)?;
-    }
-    Ok(lists)
-}
+    ghost kept = { λ n. record { by = n.by; place = n.place } };
 
-/// Adds the namings of one list.
-fn add_namings(namings: &mut [Vec<Naming>], by: u32, agents: &[Agent]) -> Result<(), AllocError>
-    requires agents { length agents.now ≤ 4096 }
-    requires others { length namings.old ≤ 4096 }
-    requires in_range { by < length agents.now }
-    requires sound { AreSoundEntries (agents_of agents.now) (length namings.old) }
-    requires before { AreNamings (agents_of agents.now) (length namings.old) by 0 (namings_of namings.old) }
-    ensures after { OnOk result
-        (AreNamings (agents_of agents.now) (length namings.old) (by + 1) 0 (namings_of namings.new)) }
-{
-    let list = list_at(agents, by);
-    for place in 0..list.len() as u32 {
-        let naming = Naming {
-            by: by as u16,
-            place: place as u16,
-        };
-        add(namings, list[place as usize], naming)?;
-    }
-    Ok(())
-}
+    ghost most = { most_agents };
 
-/// Adds one naming.
-fn add(namings: &mut [Vec<Naming>], named: u32, naming: Naming) -> Result<(), AllocError>
-    requires { named < length namings.old }
-    ensures { OnOk result (namings_of namings.new ≡ slice_set (namings_of namings.old) named
-        (slice_index_or (namings_of namings.old) named [] ++ naming ∷ [])) }
-{
-    namings[named as usize].push(naming)?;
-    Ok(())
+    fn of(naming: sm_lists::Naming) -> Naming {
+        Naming {
+            by: naming.by as u16,
+            place: naming.place as u16,
+        }
+    }
+
+    fn naming(self) -> sm_lists::Naming {
+        sm_lists::Naming {
+            by: u32::from(self.by),
+            place: u32::from(self.place),
+        }
+    }
 }
 
 /// The place at which `by` names, in namings by rising number.

@@ -2,6 +2,7 @@ use Rattle.std.proofs.Common.{ℕ, sym, subst, arith, below_more}
 use Rattle.sm_instance.specs.Stable.{Blocks}
 use Rattle.sm_instance.specs.Kept.{naming_at}
 use Rattle.sm_instance.proofs.BlockLemmas.{first_at, none_at}
+use Rattle.sm_instance.proofs.NamingLemmas.{named_in_range}
 use Rattle.sm_instance.proofs.instance.Instance.first_blocking_at.Goals as goal
 
 pub returns-then-blocks_at : goal.returns-then-blocks_at
@@ -17,3 +18,6 @@ loop-e-preserved c =
 
 pub returns : goal.returns
 returns c = none_at c.namings_of-namings.ensures.namings c.loop-e.e (omega arith) c.loop-e.invariant
+
+pub blocks_at-requires-clause-proposer : goal.blocks_at-requires-clause-proposer
+blocks_at-requires-clause-proposer c = rw c.from.ensures (named_in_range c.namings_of-namings.ensures.namings c.loop-e.e c.loop-e-test.true)

@@ -1,0 +1,122 @@
+-- From the cross places and namings of plain lists to those of agents.
+use Rattle.std.proofs.Common.{◌≡◌, ◌≢◌, ℕ, ◌+◌, ◌<◌, ◌≤◌, ◌^◌, List, [], ◌∷◌, Vec, Global, Option, length, map, get_or, refl, sym, ap, subst, ◌∙◌, arith, ⊎_elim}
+use Rattle.std.proofs.lemmas.Bool.{cases_lt}
+use Rattle.std.proofs.lemmas.List.{length-map, map-id}
+use Rattle.std.proofs.lemmas.List.Folds.{fold-map}
+use Rattle.std.proofs.lemmas.Simd.{map-map}
+use Rattle.std.proofs.Math.ListN.{get_or-map as get_or-map_all}
+use Rattle.std.specs.List.{sum_by}
+use Rattle.sm_lists.specs.Rows.{row as row_at, entry as entry_at}
+use Rattle.sm_lists.specs.Crosses.{found_on, AreCrossPlacesOf as AreCrossesOfLists, AreCrossPlaces as AreCrossesOf}
+use Rattle.sm_lists.specs.Limits.{AreWithinLimits}
+use Rattle.sm_lists.specs.Held.{held_in, AreShort}
+use Rattle.sm_lists.specs.Namings.{naming_at as naming_known, AreNamings as AreKnown, AreNamingsOf as AreKnownOf}
+use Rattle.sm_lists.specs.declared.naming.Naming.{Naming as Known}
+use Rattle.sm_text.specs.Limits.{most_agents, most_entries}
+use Rattle.sm_instance.specs.Written.{AgentData, no_agent, row, entry, lists_of}
+use Rattle.sm_instance.specs.Sound.{AreSoundEntries, entries_of}
+use Rattle.sm_instance.specs.Vectors.{crosses_of, namings_of}
+use Rattle.sm_instance.specs.Crosses.{cross_place, AreCrossPlacesOf, AreCrossPlaces}
+use Rattle.sm_instance.specs.Kept.{no_naming, naming_at, IsNamed, AreNamingsOf, AreNamings}
+use Rattle.sm_instance.specs.declared.namings.Naming.{Naming}
+use Rattle.sm_instance.proofs.PlaceLemmas.{length-row-le-others}
+use Rattle.sm_instance.proofs.ListLemmas.{row_in_range}
+
+-- an agent's list among all lists
+pub row-lists_of : (agents : List AgentData) (a : ℕ) → row_at (lists_of agents) a ≡ row agents a
+row-lists_of agents a = get_or-map_all (λ (x : AgentData). x.entries) agents a no_agent
+
+-- all lists together are as long
+sum_by-lists_of : (agents : List AgentData) → sum_by (λ list. length list) (lists_of agents) ≡ entries_of agents
+sum_by-lists_of agents = fold-map (λ n list. n + length list) (λ (x : AgentData). x.entries) 0 agents
+
+-- few agents with few entries are within the limits of lists
+pub lists_within : (agents : List AgentData) → length agents ≤ most_agents → entries_of agents ≤ most_entries → AreWithinLimits (lists_of agents)
+lists_within agents few short =
+    let long = length-map agents (λ (x : AgentData). x.entries) in
+    let sum = sum_by-lists_of agents in
+    record { agents = omega arith; entries = omega arith }
+
+pub lists_short : {agents : List AgentData} {others : ℕ} → AreSoundEntries agents others → length agents ≤ most_agents → others ≤ most_agents → AreShort (lists_of agents) most_agents
+lists_short {agents} sound few fit =
+    let long = length-map agents (λ (x : AgentData). x.entries) in
+    record {
+      agents = omega arith;
+      lists = λ a. let le = length-row-le-others sound a in let same = ap length (row-lists_of agents a) in omega arith;
+    }
+
+-- the cross places of lists are those of agents
+pub crosses_known : (agents others : List AgentData) (crosses : List (List (Option ℕ))) → AreCrossesOf (lists_of agents) (lists_of others) crosses → AreCrossPlaces agents others crosses
+crosses_known agents others crosses c =
+    let many = length-map agents (λ (x : AgentData). x.entries) in
+    record {
+      one_each = c.one_each ∙ many;
+      of = λ a l. let of_list = c.of a (omega arith) in
+          record {
+            as_long = of_list.as_long ∙ ap length (row-lists_of agents a);
+            places = λ i on.
+                of_list.places i (let same = ap length (row-lists_of agents a) in omega arith)
+                ∙ ap (λ list. found_on (row_at (lists_of others) (get_or list i 0)) a) (row-lists_of agents a)
+                ∙ ap (λ list. found_on list a) (row-lists_of others (entry agents a i));
+          };
+    }
+
+-- vectors of places hold the places
+pub held_in-places : (vectors : List (Vec (Option ℕ) Global)) → held_in (λ (place : Option ℕ). place) vectors ≡ crosses_of vectors
+held_in-places [] = refl
+held_in-places (v ∷ vectors) = ap (λ x. x ∷ held_in (λ (place : Option ℕ). place) vectors) (map-id v.items) ∙ ap (λ xs. v.items ∷ xs) (held_in-places vectors)
+
+-- a naming of lists
+abbrev wide : Naming → Known
+wide n = record { by = n.by; place = n.place }
+
+-- the namings of lists are those of agents; none is named twice on a list, so that they rise
+of_known : {agents : List AgentData} {others r : ℕ} (all : List Naming) → AreSoundEntries agents others → AreKnownOf (lists_of agents) (length (lists_of agents)) 0 r (map wide all) → AreNamingsOf agents r all
+of_known {agents} {others} {r} all sound m =
+    let long = length-map all wide in
+    let many = length-map agents (λ (x : AgentData). x.entries) in
+    let read : (e : ℕ) → naming_known (map wide all) e ≡ wide (naming_at all e) = λ e. get_or-map_all wide all e no_naming in
+    let on : (e : ℕ) → e < length all → (naming_at all e).place < length (row agents (naming_at all e).by) =
+    λ e l.
+    let P : Known → Type 0 = λ y. y.place < length (row_at (lists_of agents) y.by) in
+    let lt : P (wide (naming_at all e)) = subst P (read e) (m.on_list e (omega arith)) in
+    let same = ap length (row-lists_of agents (naming_at all e).by) in omega arith in
+    let there : (e : ℕ) → e < length all → entry agents (naming_at all e).by (naming_at all e).place ≡ r =
+    λ e l.
+    let P : Known → Type 0 = λ y. entry_at (lists_of agents) y.by y.place ≡ r in
+    let is : P (wide (naming_at all e)) = subst P (read e) (m.names e (omega arith)) in
+    ap (λ list. get_or list (naming_at all e).place 0) (sym (row-lists_of agents (naming_at all e).by)) ∙ is in
+    record {
+      on_list = on;
+      names = there;
+      rising = λ e f lt l.
+          let a = ap (λ (y : Known). y.by) (read e) in
+          let b = ap (λ (y : Known). y.by) (read f) in
+          let c = ap (λ (y : Known). y.place) (read e) in
+          let d = ap (λ (y : Known). y.place) (read f) in
+          let le = m.rising e f lt (omega arith) in
+          ⊎_elim
+          (λ less. less)
+          (λ ge.
+          let same : (naming_at all e).by ≡ (naming_at all f).by = omega arith in
+          let before = m.ordered e f lt (omega arith) (omega arith) in
+          let twice : entry agents (naming_at all f).by (naming_at all e).place ≡ entry agents (naming_at all f).by (naming_at all f).place =
+          ap (λ q. entry agents q (naming_at all e).place) (sym same) ∙ there e (omega arith) ∙ sym (there f l) in
+          absurd ((sound.sound (naming_at all f).by (naming_at all f).place (on f l)).fresh (naming_at all e).place (omega arith) twice))
+          (cases_lt (naming_at all e).by (naming_at all f).by);
+      named = λ p i inside is.
+          let same = ap length (row-lists_of agents p) in
+          let w = m.earlier_named p i (let lt = row_in_range agents p i inside in omega arith) (omega arith) (ap (λ list. get_or list i 0) (row-lists_of agents p) ∙ is) in
+          record { at = w.at; there = let l = w.there in omega arith; by = ap (λ (y : Known). y.by) (sym (read w.at)) ∙ w.by; place = ap (λ (y : Known). y.place) (sym (read w.at)) ∙ w.place };
+    }
+
+pub namings_known : {agents : List AgentData} {others : ℕ} (vectors : List (Vec Naming Global)) → AreSoundEntries agents others
+    → AreKnown (lists_of agents) others (length (lists_of agents)) 0 (held_in (λ (n : Naming). record { by = n.by; place = n.place }) vectors) → AreNamings agents others (namings_of vectors)
+namings_known {agents} {others} vectors sound n =
+    let items : Vec Naming Global → List Naming = λ v. v.items in
+    let read : (r : ℕ) → get_or (held_in wide vectors) r [] ≡ map wide (get_or (namings_of vectors) r []) =
+    λ r. ap (λ lists. get_or lists r []) (sym (map-map (map wide) items vectors)) ∙ get_or-map_all (map wide) (namings_of vectors) r [] in
+    record {
+      one_each = length-map vectors items ∙ sym (length-map vectors (λ v. map wide v.items)) ∙ n.one_each;
+      of = λ r l. of_known (get_or (namings_of vectors) r []) sound (subst (AreKnownOf (lists_of agents) (length (lists_of agents)) 0 r) (read r) (n.of r l));
+    }

@@ -1,0 +1,18 @@
+-- Cross places: where each agent stands on the lists of those whom it names.
+use Rattle.std.specs.Prelude.{◌≡◌, ℕ, ◌<◌, List, [], Option, None, length, slice_index_or}
+use Rattle.sm_lists.specs.Crosses.{found_on}
+use Rattle.sm_instance.specs.Written.{AgentData, row, entry}
+
+-- the place of b on a's list, None where b isn't on it
+abbrev pub cross_place : List AgentData → ℕ → ℕ → Option ℕ
+cross_place agents a b = found_on (row agents a) b
+
+-- for each place of a's list, the place of a on the list of whom it names there
+pub record AreCrossPlacesOf (agents others : List AgentData) (a : ℕ) (crosses : List (Option ℕ)) : Type 0 where
+  pub as_long : length crosses ≡ length (row agents a)
+  pub places : (i : ℕ) → i < length (row agents a) → slice_index_or crosses i None ≡ cross_place others (entry agents a i) a
+
+-- the same for each list of a side
+pub record AreCrossPlaces (agents others : List AgentData) (crosses : List (List (Option ℕ))) : Type 0 where
+  pub one_each : length crosses ≡ length agents
+  pub of : (a : ℕ) → a < length agents → AreCrossPlacesOf agents others a (slice_index_or crosses a [])
