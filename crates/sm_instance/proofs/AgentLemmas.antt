@@ -1,5 +1,5 @@
 -- Agents of a side, one after another: their entries and their names.
-use Rattle.std.proofs.Common.{◌≡◌, ◌≢◌, ℕ, ◌+◌, ◌<◌, ◌≤◌, ◌++◌, ◌∷◌, [], true, false, List, length, get_or, take, sym, ap, ◌∙◌, arith}
+use Rattle.std.proofs.Common.{◌≡◌, ◌≢◌, ℕ, ◌+◌, ◌<◌, ◌≤◌, ◌++◌, ◌∷◌, [], Bool, true, false, List, length, get_or, take, refl, sym, ap, ◌∙◌, arith}
 use Rattle.std.proofs.lemmas.Bool.{false≢true}
 use Rattle.std.proofs.lemmas.List.{get_or-map, get_or_default, length-map, take_more, get_or-take, length-take}
 use Rattle.std.proofs.lemmas.List.Sums.{sum_by_more, sum_by-take-le}
@@ -49,6 +49,15 @@ stale_name agents a names name below told is among fresh =
     let before : k < a = omega (arith, found.2) in
     let there : x ≡ (agent_at agents k).name = sym found.3 ∙ get_or_default names k x [] found.2 ∙ ap (λ t. get_or t k []) told ∙ get_or-take a (names_of agents) k [] before ∙ get_or-names agents k (omega arith) in
     fresh k before (sym there ∙ sym ((bytes_eq-Decides name x).0 found.4) ∙ is)
+
+-- so a name that no agent before has is new
+pub name_is_new : (agents : List AgentData) (a : ℕ) (names : List (List ℕ)) (name : List ℕ) → a < length agents → names ≡ take a (names_of agents) → name ≡ (agent_at agents a).name
+    → ((b : ℕ) → b < a → (agent_at agents b).name ≢ (agent_at agents a).name) → list_any (bytes_eq name) names ≡ false
+name_is_new agents a names name below told is fresh = by_test (list_any (bytes_eq name) names) refl
+  where
+    by_test : (t : Bool) → list_any (bytes_eq name) names ≡ t → t ≡ false
+    by_test true among = absurd (stale_name agents a names name below told is among fresh)
+    by_test false _ = refl
 
 -- one more name
 pub names_more : (agents : List AgentData) (a : ℕ) (names : List (List ℕ)) (name : List ℕ) → a < length agents → names ≡ take a (names_of agents) → name ≡ (agent_at agents a).name

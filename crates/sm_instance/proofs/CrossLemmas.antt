@@ -1,5 +1,5 @@
 -- From the cross places and namings of plain lists to those of agents.
-use Rattle.std.proofs.Common.{◌≡◌, ◌≢◌, ℕ, ◌+◌, ◌<◌, ◌≤◌, ◌^◌, List, [], ◌∷◌, Vec, Global, Option, length, map, get_or, refl, sym, ap, subst, ◌∙◌, arith, ⊎_elim}
+use Rattle.std.proofs.Common.{◌≡◌, ℕ, ◌+◌, ◌<◌, ◌≤◌, List, [], ◌∷◌, Vec, Global, Option, length, map, get_or, refl, sym, ap, subst, ◌∙◌, arith, ⊎_elim}
 use Rattle.std.proofs.lemmas.Bool.{cases_lt}
 use Rattle.std.proofs.lemmas.List.{length-map, map-id}
 use Rattle.std.proofs.lemmas.List.Folds.{fold-map}
@@ -7,7 +7,7 @@ use Rattle.std.proofs.lemmas.Simd.{map-map}
 use Rattle.std.proofs.Math.ListN.{get_or-map as get_or-map_all}
 use Rattle.std.specs.List.{sum_by}
 use Rattle.sm_lists.specs.Rows.{row as row_at, entry as entry_at}
-use Rattle.sm_lists.specs.Crosses.{found_on, AreCrossPlacesOf as AreCrossesOfLists, AreCrossPlaces as AreCrossesOf}
+use Rattle.sm_lists.specs.Crosses.{found_on, AreCrossPlaces as AreCrossesOf}
 use Rattle.sm_lists.specs.Limits.{AreWithinLimits}
 use Rattle.sm_lists.specs.Held.{held_in, AreShort}
 use Rattle.sm_lists.specs.Namings.{naming_at as naming_known, AreNamings as AreKnown, AreNamingsOf as AreKnownOf}
@@ -16,8 +16,8 @@ use Rattle.sm_text.specs.Limits.{most_agents, most_entries}
 use Rattle.sm_instance.specs.Written.{AgentData, no_agent, row, entry, lists_of}
 use Rattle.sm_instance.specs.Sound.{AreSoundEntries, entries_of}
 use Rattle.sm_instance.specs.Vectors.{crosses_of, namings_of}
-use Rattle.sm_instance.specs.Crosses.{cross_place, AreCrossPlacesOf, AreCrossPlaces}
-use Rattle.sm_instance.specs.Kept.{no_naming, naming_at, IsNamed, AreNamingsOf, AreNamings}
+use Rattle.sm_instance.specs.Crosses.{AreCrossPlaces}
+use Rattle.sm_instance.specs.Kept.{no_naming, naming_at, AreNamingsOf, AreNamings}
 use Rattle.sm_instance.specs.declared.namings.Naming.{Naming}
 use Rattle.sm_instance.proofs.PlaceLemmas.{length-row-le-others}
 use Rattle.sm_instance.proofs.ListLemmas.{row_in_range}

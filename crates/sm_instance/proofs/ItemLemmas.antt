@@ -41,6 +41,15 @@ stale_pair all n pairs pair below told is among fresh =
     let there : x ≡ pair_at all k = sym found.3 ∙ get_or_default pairs k x (0, 0) found.2 ∙ ap (λ t. pair_at t k) told ∙ get_or-take n all k (0, 0) before in
     fresh k before (sym there ∙ sym (same_pair pair x found.4) ∙ is)
 
+-- so a pair that no item before has is new
+pub pair_is_new : (all : List (ℕ × ℕ)) (n : ℕ) (pairs : List (ℕ × ℕ)) (pair : ℕ × ℕ) → n < length all → pairs ≡ take n all → pair ≡ pair_at all n
+    → ((k : ℕ) → k < n → pair_at all k ≢ pair_at all n) → list_any (is_same_pair pair) pairs ≡ false
+pair_is_new all n pairs pair below told is fresh = by_test (list_any (is_same_pair pair) pairs) refl
+  where
+    by_test : (t : Bool) → list_any (is_same_pair pair) pairs ≡ t → t ≡ false
+    by_test true among = absurd (stale_pair all n pairs pair below told is among fresh)
+    by_test false _ = refl
+
 pub pairs_more : (all : List (ℕ × ℕ)) (n : ℕ) (pairs : List (ℕ × ℕ)) (pair : ℕ × ℕ) → n < length all → pairs ≡ take n all → pair ≡ pair_at all n → pairs ++ pair ∷ [] ≡ take (n + 1) all
 pairs_more all n pairs pair below told is =
     ap (λ t. t ++ pair ∷ []) told ∙ ap (λ t. take n all ++ t ∷ []) is ∙ sym (take_more all n (0, 0) below)
@@ -141,3 +150,11 @@ forbidden_in_range {w} i n l =
 -- all of a list of pairs
 pub all_pairs : (P : ℕ × ℕ → Type 0) (pairs : List (ℕ × ℕ)) (n : ℕ) → length pairs ≤ n → ((k : ℕ) → k < n → P (pair_at pairs k)) → All P pairs
 all_pairs P pairs n whole h = λ k d l. subst P (get_or_default pairs k (0, 0) d l) (h k (omega arith))
+
+-- the pairs of sound weights differ
+pub weights_differ : {proposers reviewers : ℕ} (weights : List (ℕ × ℕ × ℤ)) (forced forbidden : List (ℕ × ℕ))
+    → ((n : ℕ) → n < length (items_of weights forced forbidden) → IsSoundItem proposers reviewers weights (items_of weights forced forbidden) n)
+    → (n k : ℕ) → k < n → n < length weights → pair_at (map weighed weights) k ≢ pair_at (map weighed weights) n
+weights_differ weights forced forbidden sound n k before inside same =
+    let all = length-items weights forced forbidden in
+    (sound n (omega arith)).fresh inside k before (item_first weights forced forbidden k (omega arith) ∙ same ∙ sym (item_first weights forced forbidden n inside))

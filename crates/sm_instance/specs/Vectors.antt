@@ -5,6 +5,7 @@ use Rattle.sm_instance.specs.Written.{AgentData, Written}
 use Rattle.sm_instance.specs.declared.kinds.Kind.{Kind}
 use Rattle.sm_instance.specs.declared.agents.Agent.{Agent}
 use Rattle.sm_instance.specs.declared.namings.Naming.{Naming}
+use Rattle.sm_instance.specs.declared.parts.Parts.{Parts}
 
 abbrev pub agent_of : Agent → AgentData
 agent_of agent = record { name = agent.name.items; capacity = agent.capacity; line = agent.line; entries = agent.entries.items }
@@ -26,3 +27,6 @@ texts_of texts = map (λ v. v.items) texts
 abbrev pub written_of : Kind → List Agent → List Agent → List (ℕ × ℕ × ℤ) → List (ℕ × ℕ) → List (ℕ × ℕ) → Written
 written_of kind proposers reviewers weights forced forbidden =
     record { kind = kind; proposers = agents_of proposers; reviewers = agents_of reviewers; weights = weights; forced = forced; forbidden = forbidden }
+
+abbrev pub written_in : Parts → Written
+written_in parts = written_of parts.kind parts.proposers.items parts.reviewers.items parts.weights.items parts.forced.items parts.forbidden.items

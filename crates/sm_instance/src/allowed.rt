@@ -25,7 +25,7 @@ impl Instance {
         requires in_range { p < length self.now.proposers }
         ensures { result ≡ is_at self.now a.now.places.items p r }
     {
-        match self.held(a, p) {
+        match self.place_held(a, p) {
             Some(place) => self.reviewer_at(p, place) == r,
             None => false,
         }

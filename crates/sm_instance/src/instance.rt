@@ -1,11 +1,11 @@
 //! Instances with two sides.
 
-ghost use Rattle.std.specs.Prelude.{◌≡◌, ◌≢◌, ◌+◌, ◌<◌, ◌≤◌, ◌^◌, ◌↔◌, IsTrue, IfSome, length, position, IfOk, IfErr, OnOk};
+ghost use Rattle.std.specs.Prelude.{◌≡◌, ◌≢◌, ◌+◌, ◌<◌, ◌≤◌, ◌^◌, ◌↔◌, IsTrue, IfSome, length, map, position, IfOk, IfErr, OnOk};
 ghost use Rattle.std.specs.Str.{bytes_eq};
 ghost use Rattle.std.specs.Int.RustNames.{unsigned_abs};
 ghost use Rattle.sm_text.specs.Limits.{most_agents, most_capacity, most_weight};
-ghost use Rattle.sm_instance.specs.Written.{row, entry, names_of, capacity_of, IsAcceptable, given_weight};
-ghost use Rattle.sm_instance.specs.Vectors.{agents_of, written_of};
+ghost use Rattle.sm_instance.specs.Written.{row, entry, names_of, capacity_of, IsAcceptable, given_weight, weighed as weighed_pair};
+ghost use Rattle.sm_instance.specs.Vectors.{agents_of, written_of, written_in};
 ghost use Rattle.sm_instance.specs.Sound.{IsInstance};
 ghost use Rattle.sm_instance.specs.Crosses.{cross_place, AreCrossPlacesOf};
 ghost use Rattle.sm_instance.specs.Kept.{AreNamingsOf};
@@ -19,8 +19,10 @@ use crate::kinds::Kind;
 use crate::names::Names;
 use crate::namings::{Naming, place_by};
 use crate::pairs::Pairs;
+use crate::parts::Parts;
 use sm_lists::{CrossPlaces, KeptPlace};
-use std::alloc::Global;
+use sm_text::TextHash;
+use std::alloc::{AllocError, Global};
 use std::marker::Model;
 
 /// An instance with two sides: a marriage, or hospitals and residents.
@@ -94,25 +96,33 @@ impl Instance {
         let (left, right, weighed) = checked(
             alloc, kind, &proposers, &reviewers, &weights, &forced, &forbidden,
         )?;
-        let CrossPlaces {
-            rows: crosses,
-            others: reviewer_crosses,
-            namings,
-        } = crossings(alloc, &proposers, &reviewers)?;
-        Ok(Instance {
+        let parts = Parts {
             kind,
             proposers,
             reviewers,
             weights,
             forced,
             forbidden,
-            crosses,
-            reviewer_crosses,
-            namings,
-            left,
-            right,
-            weighed,
-        })
+        };
+        Ok(of_parts(alloc, parts, left, right, weighed)?)
+    }
+
+    /// An instance of parts that are known to make one. Nothing is tried. Names and pairs will be found by these hashes,
+    /// which shouldn't be known to whoever chose the names. Takes time and memory in proportion to the agents, the entries
+    /// and the items.
+    ///
+    /// # Errors
+    ///
+    /// `AllocError` where memory ran out, and only then.
+    pub fn held(alloc: Global, hash: TextHash, parts: Parts) -> Result<Instance, AllocError>
+        requires instance { IsInstance (written_in parts) }
+        requires few { length parts.weights.items < 2 ^ 24 }
+        ensures { IfOk result (λ i. i ≡ written_in parts) }
+    {
+        let left = Names::of(alloc, hash, &parts.proposers)?;
+        let right = Names::of(alloc, hash, &parts.reviewers)?;
+        let weighed = Pairs::of(alloc, hash, &parts.weights)?;
+        of_parts(alloc, parts, left, right, weighed)
     }
 
     /// The kind, which is a marriage or hospitals.
@@ -332,4 +342,39 @@ impl Instance {
     {
         self.right.find(name)
     }
+}
+
+/// An instance of parts that are known to make one, and of their names and of the pairs that are weighed.
+fn of_parts(
+    alloc: Global,
+    parts: Parts,
+    left: Names,
+    right: Names,
+    weighed: Pairs,
+) -> Result<Instance, AllocError>
+    requires instance { IsInstance (written_in parts) }
+    requires left { left ≡ names_of (agents_of parts.proposers.items) }
+    requires right { right ≡ names_of (agents_of parts.reviewers.items) }
+    requires pairs { weighed ≡ map weighed_pair parts.weights.items }
+    ensures { IfOk result (λ i. i ≡ written_in parts) }
+{
+    let CrossPlaces {
+        rows: crosses,
+        others: reviewer_crosses,
+        namings,
+    } = crossings(alloc, &parts.proposers, &parts.reviewers)?;
+    Ok(Instance {
+        kind: parts.kind,
+        proposers: parts.proposers,
+        reviewers: parts.reviewers,
+        weights: parts.weights,
+        forced: parts.forced,
+        forbidden: parts.forbidden,
+        crosses,
+        reviewer_crosses,
+        namings,
+        left,
+        right,
+        weighed,
+    })
 }

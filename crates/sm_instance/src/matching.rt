@@ -84,7 +84,7 @@ impl Instance {
         ensures { IsFirstOf (IsUnacceptable self.now a.now.places.items) result }
     {
         for p in 0..self.proposer_count() {
-            if let Some(place) = self.held(a, p) {
+            if let Some(place) = self.place_held(a, p) {
                 if self.cross(p, place).is_none() {
                     return Some(p);
                 }
@@ -172,11 +172,11 @@ impl Instance {
         ensures instance { IsInstance self.now }
     {
         let past = self.proposer_len(p);
-        self.held(a, p).unwrap_or(past)
+        self.place_held(a, p).unwrap_or(past)
     }
 
     /// The place that a proposer holds, if it is matched.
-    pub(crate) fn held(&self, a: &Assignment, p: u32) -> Option<u32>
+    pub(crate) fn place_held(&self, a: &Assignment, p: u32) -> Option<u32>
         requires assignment { IsAssignment self.now a.now.places.items }
         requires in_range { p < length self.now.proposers }
         ensures held { result ≡ held a.now.places.items p }

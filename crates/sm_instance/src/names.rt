@@ -1,9 +1,13 @@
 //! The names of one side, each with its number.
 
-ghost use Rattle.std.specs.Prelude.{◌≡◌, ◌<◌, ◌^◌, [], ◌++◌, ◌∷◌, length, not, position, if◌then◌else◌, IfOk, IfSome};
+ghost use Rattle.std.specs.Prelude.{◌≡◌, ◌≢◌, ℕ, ◌<◌, ◌≤◌, ◌^◌, [], ◌++◌, ◌∷◌, length, not, position, if◌then◌else◌, IfOk, IfSome};
 ghost use Rattle.std.specs.List.{list_any};
 ghost use Rattle.std.specs.Str.{bytes_eq};
+ghost use Rattle.sm_text.specs.Limits.{most_agents};
+ghost use Rattle.sm_instance.specs.Written.{agent_at, names_of};
+ghost use Rattle.sm_instance.specs.Vectors.{agents_of};
 
+use crate::agents::{Agent, name_at};
 use indexmap::IndexSet;
 use sm_text::TextHash;
 use std::alloc::{AllocError, Global};
@@ -33,6 +37,20 @@ impl Names {
         Names {
             names: IndexSet::with_hasher(alloc, hash),
         }
+    }
+
+    /// The names of agents that all differ, which will be found by these hashes.
+    pub(crate) fn of(alloc: Global, hash: TextHash, agents: &[Agent]) -> Result<Names, AllocError>
+        requires few { length agents.now ≤ most_agents }
+        requires differ { (a b : ℕ) → b < a → a < length (agents_of agents.now)
+            → (agent_at (agents_of agents.now) b).name ≢ (agent_at (agents_of agents.now) a).name }
+        ensures { IfOk result (λ names. names ≡ names_of (agents_of agents.now)) }
+    {
+        let mut names = Names::new(alloc, hash);
+        for a in 0..agents.len() as u32 {
+            names.add(alloc, name_at(agents, a))?;
+        }
+        Ok(names)
     }
 
     /// Adds a name behind the others, unless it is among them, and answers whether it was added.

@@ -1,8 +1,9 @@
 //! Pairs of a proposer and a reviewer, each with its number.
 
-ghost use Rattle.std.specs.Prelude.{◌≡◌, [], ◌++◌, ◌∷◌, length, not, position, if◌then◌else◌, IfOk};
+ghost use Rattle.std.specs.Prelude.{◌≡◌, ◌≢◌, ℕ, ◌<◌, ◌^◌, [], ◌++◌, ◌∷◌, map, length, not, position, if◌then◌else◌, IfOk};
 ghost use Rattle.std.specs.List.{list_any};
-ghost use Rattle.sm_instance.specs.Written.{is_same_pair};
+ghost use Rattle.sm_instance.specs.Written.{is_same_pair, weighed};
+ghost use Rattle.sm_instance.specs.Sound.{pair_at};
 
 use indexmap::IndexSet;
 use sm_text::TextHash;
@@ -32,6 +33,25 @@ impl Pairs {
         Pairs {
             pairs: IndexSet::with_hasher(alloc, hash),
         }
+    }
+
+    /// The pairs of weights that are all given to different ones. They will be found by these hashes.
+    pub(crate) fn of(
+        alloc: Global,
+        hash: TextHash,
+        weights: &[(u32, u32, i64)],
+    ) -> Result<Pairs, AllocError>
+        requires few { length weights.now < 2 ^ 24 }
+        requires differ { (n k : ℕ) → k < n → n < length weights.now
+            → pair_at (map weighed weights.now) k ≢ pair_at (map weighed weights.now) n }
+        ensures { IfOk result (λ pairs. pairs ≡ map weighed weights.now) }
+    {
+        let mut pairs = Pairs::new(alloc, hash);
+        for n in 0..weights.len() as u32 {
+            let (p, r, _) = weights[n as usize];
+            pairs.add((p, r))?;
+        }
+        Ok(pairs)
     }
 
     /// Adds a pair behind the others, unless it is among them, and answers whether it was added.

@@ -11,7 +11,8 @@ use crate::checks::{are_within_limits, check_entries, checked_names};
 use crate::faults::InstanceFault;
 use crate::kinds::{Kind, Side};
 use crate::names::Names;
-use std::alloc::Global;
+use sm_text::TextHash;
+use std::alloc::{AllocError, Global};
 use std::marker::Model;
 
 /// An instance of roommates: persons who list each other. An entry that names its own writer is inert.
@@ -56,6 +57,20 @@ impl Persons {
         }
         let names = checked_names(alloc, Side::Proposers, &persons, true)?;
         check_entries(alloc, Side::Proposers, &persons, persons.len() as u32)?;
+        Ok(Persons { persons, names })
+    }
+
+    /// An instance of persons who are known to make one. Nothing is tried. Names will be found by these hashes, which
+    /// shouldn't be known to whoever chose the names. Takes time and memory in proportion to the persons.
+    ///
+    /// # Errors
+    ///
+    /// `AllocError` where memory ran out, and only then.
+    pub fn held(alloc: Global, hash: TextHash, persons: Vec<Agent>) -> Result<Persons, AllocError>
+        requires { ArePersons (agents_of persons.items) }
+        ensures { IfOk result (λ p. p ≡ agents_of persons.items) }
+    {
+        let names = Names::of(alloc, hash, &persons)?;
         Ok(Persons { persons, names })
     }
 

@@ -77,7 +77,7 @@ impl Instance {
         requires in_range { p < length self.now.proposers }
         ensures { result ≡ worse_rank self.now p (held a.now.places.items p) }
     {
-        match self.held(a, p) {
+        match self.place_held(a, p) {
             Some(place) => {
                 let back = self.rank_back(p, place);
                 back.max(place + 1)
@@ -93,7 +93,7 @@ impl Instance {
         ensures weight { result ≡ pair_weight by self.now p (held a.now.places.items p) }
         ensures size { unsigned_abs result ≤ most_weight }
     {
-        match self.held(a, p) {
+        match self.place_held(a, p) {
             Some(place) => match by {
                 Measure::Ranks => {
                     let back = self.rank_back(p, place);

@@ -6,11 +6,11 @@ use Rattle.sm_instance.proofs.instance.Instance.first_unacceptable.Goals.{in-Som
 
 pub loop-p-preserved : goal.loop-p-preserved
 loop-p-preserved c =
-    elim c.match-held.branch [
+    elim c.match-place_held.branch [
       | in-Some+else-is_none w ↦ below_more _ _ c.loop-p.invariant (
           let some = is_none_not w.cross.result (w.is_none.ensures ∙ ap not w.if-is_none.false) in
           accepted c.loop-p.p w.in-Some.place (sym w.in-Some.ensures.held) (accepts_at c.proposer_count-p-end.ensures.instance c.loop-p.p w.in-Some.place some.0 w.in-Some.ensures.on_list (sym some.1 ∙ w.cross.ensures.cross)))
-      | in_default w ↦ below_more _ _ c.loop-p.invariant (unmatched c.loop-p.p (sym c.held.ensures.held ∙ w.in_default.is))
+      | in_default w ↦ below_more _ _ c.loop-p.invariant (unmatched c.loop-p.p (sym c.place_held.ensures.held ∙ w.in_default.is))
     ]
 
 pub returns : goal.returns

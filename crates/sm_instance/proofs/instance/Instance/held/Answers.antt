@@ -1,5 +1,11 @@
-use Rattle.sm_instance.proofs.AcceptLemmas.{held_on}
+use Rattle.std.proofs.Common.{◌≢◌, ◌<◌, ℕ, ℤ, List, length, map, sym, subst}
+use Rattle.sm_instance.specs.Written.{weighed}
+use Rattle.sm_instance.specs.Sound.{pair_at}
+use Rattle.sm_instance.proofs.ItemLemmas.{weights_differ}
 use Rattle.sm_instance.proofs.instance.Instance.held.Goals as goal
 
-pub returns-clause-on_list : goal.returns-clause-on_list
-returns-clause-on_list c = held_on c.requires.assignment c.args.p c.held_place.result c.held_place.ensures
+pub of-requires-3-clause-differ : goal.of-requires-3-clause-differ
+of-requires-3-clause-differ c =
+    let parts = c.args.parts in
+    let Differ : List (ℕ × ℕ × ℤ) → Type 0 = λ ws. (n k : ℕ) → k < n → n < length ws → pair_at (map weighed ws) k ≢ pair_at (map weighed ws) n in
+    subst Differ (sym c.deref-3.ensures.value) (weights_differ parts.weights.items parts.forced.items parts.forbidden.items c.requires.instance.items)
