@@ -7,6 +7,7 @@ MOST_BYTES = 16_777_216
 MOST_AGENTS = 4_096
 MOST_ENTRIES = 524_288
 MOST_CAPACITY = 4_096
+MOST_SEAT_ENTRIES = 1_048_576
 MOST_WEIGHT = 1_000_000_000
 
 NAME = re.compile(r'[A-Za-z0-9_][A-Za-z0-9_.-]{0,63}\Z')
@@ -33,6 +34,7 @@ MEANINGS = {
     'MissingEnd': 'the line `end` is missing',
     'UnknownName': 'nobody has this name',
     'AfterEnd': 'text behind `end`',
+    'TooManySeats': f'more than {MOST_SEAT_ENTRIES:,} entries on the lists of seats',
 }
 
 
@@ -45,10 +47,13 @@ class Refused(Fault):
 
 
 class Agent:
-    """An agent: its name, its capacity, its list from the best on, and the number of its line."""
+    """An agent: its name, its capacity, its list from the best on, and the number of its line. A reviewer has seats too: as
+    many as places, but no more than acceptable proposers.
+    """
 
     def __init__(self, name, capacity, entries, line):
         self.name, self.capacity, self.entries, self.line = name, capacity, entries, line
+        self.seats = 0
         self.ranks = {entry: place + 1 for place, entry in enumerate(entries)}
 
     def rank(self, other):
@@ -97,6 +102,7 @@ class Instance:
         instance.look_up()
         if ended <= len(lines):
             raise Refused(file, 'AfterEnd', ended)
+        instance.count_seats()
         return instance
 
     def say(self, number, tokens):
@@ -159,6 +165,16 @@ class Instance:
                 for name in names:
                     if name not in side:
                         raise Refused(self.file, 'UnknownName', number, name)
+
+    def count_seats(self):
+        """Counts the seats of the reviewers, and refuses the first with whom their lists have too many entries."""
+        entries = 0
+        for name, reviewer in self.reviewers.items():
+            acceptable = sum(name in self.proposers[p].ranks for p in reviewer.entries)
+            reviewer.seats = min(reviewer.capacity, acceptable)
+            entries += reviewer.seats * acceptable
+            if entries > MOST_SEAT_ENTRIES:
+                raise Refused(self.file, 'TooManySeats', reviewer.line)
 
     def acceptable(self, proposer, reviewer):
         """Whether both are there and list each other."""

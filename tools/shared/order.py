@@ -49,7 +49,7 @@ class Order:
         """The seat of a field, which has to be one of a reviewer that is acceptable to the proposer."""
         name, number = seat_of(field)
         reviewer = self.instance.reviewers.get(name)
-        if reviewer is None or (number is None) != (self.instance.kind == 'marriage') or (number or 1) > reviewer.capacity:
+        if reviewer is None or (number is None) != (self.instance.kind == 'marriage') or (number or 1) > reviewer.seats:
             raise self.fault(answer, line, f'it has no seat {field}')
         if not self.instance.acceptable(proposer, name):
             raise self.fault(answer, line, f'{proposer} and {name} don\'t list each other')

@@ -1,32 +1,39 @@
-"""All stable matchings of a small marriage, found by trying all matchings, and its rotations, found from these alone.
+"""All stable matchings of a small instance, found by trying all matchings, and the rotations of a marriage, found from these
+alone.
 
 It shares nothing with the tools: what they say is compared with it.
 """
 import random
 
 
-class Marriage:
-    """Two sides' lists by name."""
+class Market:
+    """Two sides' lists by name, and how many proposers each reviewer takes: one where its line has no number."""
 
     def __init__(self, text):
         self.text = text
-        self.p, self.r = {}, {}
+        self.p, self.r, self.capacities = {}, {}, {}
         for line in text.splitlines():
             words = line.split('#')[0].replace(':', ' : ').split()
             if words[:1] == ['p']:
                 self.p[words[1]] = words[3:]
             elif words[:1] == ['r']:
-                self.r[words[1]] = words[3:]
+                colon = words.index(':')
+                self.r[words[1]] = words[colon + 1:]
+                self.capacities[words[1]] = int(words[2].strip('[]')) if colon > 2 else 1
+
+    def at(self, has, r):
+        """The ranks that a reviewer gives the proposers that it has in a matching."""
+        return [self.r[r].index(p) for p in has if has[p] == r]
 
     def is_stable(self, has):
         """Whether a matching, from proposers to reviewers, has no blocking pair."""
-        holder = {r: p for p, r in has.items()}
         for p, row in self.p.items():
             for r in row:
                 if p not in self.r[r] or has.get(p) == r:
                     continue
                 gains = p not in has or row.index(r) < row.index(has[p])
-                welcome = r not in holder or self.r[r].index(p) < self.r[r].index(holder[r])
+                at = self.at(has, r)
+                welcome = len(at) < self.capacities.get(r, 1) or any(self.r[r].index(p) < other for other in at)
                 if gains and welcome:
                     return False
         return True
@@ -39,7 +46,7 @@ class Marriage:
                 return
             yield from further(names[1:], has)
             for r in self.p[names[0]]:
-                if names[0] in self.r[r] and r not in has.values():
+                if names[0] in self.r[r] and len(self.at(has, r)) < self.capacities.get(r, 1):
                     yield from further(names[1:], {**has, names[0]: r})
         return further(list(self.p), {})
 
@@ -103,3 +110,25 @@ def made(seed):
     least = size if seed % 2 else size - 2
     lines = [f'{name[0]} {name}: {" ".join(row[:draw.randint(least, size)])}' for name, row in rows.items()]
     return '\n'.join(['stable 1 marriage'] + lines + ['end', ''])
+
+
+def made_hospitals(seed):
+    """A small random instance of hospitals with up to three places, whose sides like the opposite; some lists are cut."""
+    draw = random.Random(seed)
+    p, r = [f'p{i}' for i in range(6)], [f'r{i}' for i in range(draw.choice((3, 4)))]
+    rows = {name: draw.sample(r, len(r)) for name in p}
+    rows.update({it: sorted(p, key=lambda name: draw.random() * 2 - rows[name].index(it)) for it in r})
+    lines = []
+    for name, row in rows.items():
+        places = f' [{draw.choice((0, 1, 2, 2, 2, 3))}]' if name in r else ''
+        lines.append(f'{name[0]} {name}{places}: {" ".join(row[:len(row) - (draw.random() < 0.15)])}')
+    return '\n'.join(['stable 1 hospitals'] + lines + ['end', ''])
+
+
+def seated(hospitals):
+    """The marriage of the seats: those of a hospital have its name, a dot and a number."""
+    lists = {h: [p for p in row if h in hospitals.p[p]] for h, row in hospitals.r.items()}
+    seats = {h: [f'{h}.{i + 1}' for i in range(min(hospitals.capacities[h], len(row)))] for h, row in lists.items()}
+    lines = [f'p {p}: ' + ' '.join(seat for h in row if p in lists[h] for seat in seats[h]) for p, row in hospitals.p.items()]
+    lines += [f'r {seat}: ' + ' '.join(lists[h]) for h in seats for seat in seats[h]]
+    return Market('\n'.join(lines))

@@ -85,7 +85,7 @@ class Tables(unittest.TestCase):
         self.assertEqual(names, text_of(HERE, 'names.csv'))
         # Found by hand: Zoë, Ivan and ann take the City Hospital one after another, and those who leave go down their lists.
         pairs = {'Müller, Zoë': "St. John's", 'Ólafur Ægisson': 'Дом 5', 'Иван Петров': '', 'ann': 'City Hospital'}
-        stable = brute.Marriage(text).stable()
+        stable = brute.Market(text).stable()
         best = stable[min(stable)]
         self.put('names.csv', names)
         self.assertEqual(self.given_back(answer_of(best)), [['proposer', 'reviewer'], *map(list, pairs.items())])
@@ -101,13 +101,13 @@ class Tables(unittest.TestCase):
                 return list({it.casefold() if draw.random() < 0.1 else it: None for it in one})
             p, r = names(), names()
             p, r = ([it for i, it in enumerate(side) if it not in side[:i]] for side in (p, r))
-            market = brute.Marriage('')
+            market = brute.Market('')
             market.p = {it: draw.sample(r, draw.randint(0, len(r))) for it in p}
             market.r = {it: draw.sample(p, draw.randint(0, len(p))) for it in r}
             rows = [[['name'] + list('12345')] + [[it, *row] for it, row in side.items()] for side in (market.p, market.r)]
             text, names_text = self.made([written(it) for it in rows])
             given = {(side, name): original for side, name, original in table(names_text)[1:]}
-            got = brute.Marriage(text)
+            got = brute.Market(text)
             for kind, own, other in (('proposer', got.p, 'reviewer'), ('reviewer', got.r, 'proposer')):
                 self.assertTrue(all(FORM.match(it) for it in own), list(own))
                 back = {given[kind, it]: [given[other, entry] for entry in row] for it, row in own.items()}
@@ -126,7 +126,7 @@ class Tables(unittest.TestCase):
                      'a b': 'p7', 'a_b': 'a_b', 'x-y': 'x-y', 'x y': 'p10', 'x_y!': 'p11', 'Дом 5': 'p12', '!!': 'p13',
                      'p14': 'p14', 'ß' * 40: 's' * 64, 'p17': 'p17', '学': 'p17_'}
         text, _ = self.made([written([['n', '1']] + [[it] for it in originals]), 'n,1\n'])
-        self.assertEqual(list(brute.Marriage(text).p), list(originals.values()))
+        self.assertEqual(list(brute.Market(text).p), list(originals.values()))
 
     def test_same_names(self):
         """Blanks around and within, a composed and a divided accent: one name. Upper and lower case: two."""
@@ -221,7 +221,7 @@ class Tables(unittest.TestCase):
 
     def names_of(self, name):
         """A table of names for an example: each name with its first letter doubled and a comma."""
-        market = brute.Marriage(text_of(EXAMPLES, name + '.txt'))
+        market = brute.Market(text_of(EXAMPLES, name + '.txt'))
         rows = [[kind, it, f'{it[0]}{it}, x'] for kind, side in (('proposer', market.p), ('reviewer', market.r)) for it in side]
         self.put('names.csv', written([['side', 'name', 'original']] + rows))
 
@@ -236,12 +236,20 @@ class Tables(unittest.TestCase):
                  'reviewer,aart,aann,bben,bben,aann/reviewer,bbiology,bben,aann,aann,bben/reviewer,cchemistry,ddan,ddan,ddan,/'
                  'reviewer,ddrama,ccem,ccem,ccem,'),
                 ('three_cycle.rotations', 'rotation,proposer,from,to,needs/1,mm1,aa,bb,/1,mm2,bb,cc,/1,mm3,cc,aa,/'
-                 '2,mm1,bb,cc,1/2,mm2,cc,aa,1/2,mm3,aa,bb,1')):
+                 '2,mm1,bb,cc,1/2,mm2,cc,aa,1/2,mm3,aa,bb,1'),
+                ('hospitals.solve', 'proposer,reviewer/aann,ccity/bben,ccity/ccem,nnorth/ddan,/eeve,wwest'),
+                ('hospitals.reduced', 'side,name,first,last,1,2/'
+                 'proposer,aann,ccity-1,ccity-2,ccity-1,ccity-2/proposer,bben,ccity-2,nnorth-1,ccity-2,nnorth-1/'
+                 'proposer,ccem,nnorth-1,ccity-1,nnorth-1,ccity-1/proposer,ddan,,,,/proposer,eeve,wwest-1,wwest-1,wwest-1,/'
+                 'reviewer,ccity-1,aann,ccem,ccem,aann/reviewer,ccity-2,bben,aann,aann,bben/'
+                 'reviewer,nnorth-1,ccem,bben,bben,ccem/reviewer,wwest-1,eeve,eeve,eeve,'),
+                ('hospitals.rotations', 'rotation,proposer,from,to,needs/1,aann,ccity-1,ccity-2,/1,bben,ccity-2,nnorth-1,/'
+                 '1,ccem,nnorth-1,ccity-1,')):
             self.names_of(name.split('.')[0])
             status, text, fault = self.call('to_csv', 'names.csv', os.path.join(EXAMPLES, name))
             self.assertEqual((status, fault), (0, ''))
-            self.assertEqual([','.join(it.replace(', x', '') for it in row) for row in table(text)], wanted.split('/'))
-            self.assertTrue(all(it.endswith(', x') or it in ('', '1', '2', 'proposer', 'reviewer') for row in table(text)[1:] for it in row))
+            self.assertEqual([','.join(it.replace(', x', '').replace('/', '-') for it in row) for row in table(text)], wanted.split('/'))
+            self.assertTrue(all(', x' in it or it in ('', '1', '2', 'proposer', 'reviewer') for row in table(text)[1:] for it in row))
 
     def test_seats(self):
         """Answers with seats and of `pairs`, in the forms of hospitals."""

@@ -67,7 +67,7 @@ class Draw(unittest.TestCase):
         """The lattice has exactly the stable matchings and their covering pairs, and a line adds its rotation."""
         status, picture, fault = draw(text, answer, '--lattice')
         self.assertEqual((status, fault), (0, ''))
-        stable = brute.Marriage(text).stable()
+        stable = brute.Market(text).stable()
         nodes = nodes_of(picture)
         vectors = {node: tuple(map(int, label[-2].split())) for node, label in nodes.items()}
         self.assertEqual(sorted(vectors.values()), sorted(stable))
@@ -109,7 +109,7 @@ class Draw(unittest.TestCase):
         counts = set()
         for seed in range(25):
             text = brute.made(seed)
-            counts.add(self.agrees(text, brute.answer_of(brute.Marriage(text))))
+            counts.add(self.agrees(text, brute.answer_of(brute.Market(text))))
         self.assertGreater(max(counts), 4)
         self.assertIn(1, counts)
 
@@ -118,6 +118,39 @@ class Draw(unittest.TestCase):
         self.assertEqual(status, 0)
         self.assertEqual([label[1] for label in nodes_of(picture).values()], ['1 1 1', '1 2 2'])
         self.assertIn('r0: h/1 to h/2\\l', draw(H, H_ANSWER)[1])
+        text, answer = example('hospitals.txt'), example('hospitals.rotations')
+        self.assertEqual(self.agrees(text, answer), 2)
+        self.assertIn('ann: city/1 to city/2\\l', draw(text, answer)[1])
+        for old, new, what in (
+                ('first eve west/1', 'first eve west/2', 'no seat west/2'), ('first eve west/1', 'first eve west', 'no seat west'),
+                ('first eve west/1', 'first dan south/1', 'no seat south/1'),
+                ('first ben city/2', 'first ben city/3', 'no seat city/3'),
+                ('first ben city/2', 'first ben city/1', 'already'),
+                ('first ann city/1', 'first ann north/1', 'ann and north don\'t list each other')):
+            status, picture, fault = draw(text, answer.replace(old, new, 1))
+            self.assertEqual((status, picture), (1, ''), new)
+            self.assertIn(what, fault)
+
+    def test_random_hospitals(self):
+        """The rotations are those of the seats, the stable matchings those of the hospitals."""
+        counts = set()
+        for seed in range(20):
+            text = brute.made_hospitals(seed)
+            answer = brute.answer_of(brute.seated(brute.Market(text))).replace('.', '/')
+            counts.add(self.agrees(text, answer))
+        self.assertGreater(max(counts), 3)
+        self.assertIn(1, counts)
+
+    def test_many_seats(self):
+        """1,024 residents of a hospital fill its seats' lists; with one more there are too many, at the hospital's line."""
+        for size, refused in ((1024, False), (1025, True)):
+            names = [f'p{i}' for i in range(size)]
+            text = '\n'.join(['stable 1 hospitals', 'r g [4096]: p0', f'r h [{size}]: {" ".join(names)}',
+                              *(f'p {name}: h' for name in names), 'end', ''])
+            answer = '\n'.join(['answer rotations', *(f'first {name} h/{i + 1}' for i, name in enumerate(names)), 'end', ''])
+            status, _, fault = draw(text, answer)
+            self.assertEqual(status, 1 if refused else 0)
+            self.assertEqual(fault, 'draw: instance.txt:3: more than 1,048,576 entries on the lists of seats (TooManySeats)\n' if refused else '')
 
     def test_limit(self):
         """Twelve pairs of two have 4,096 stable matchings."""
