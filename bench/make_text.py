@@ -1,6 +1,7 @@
 """Writes a large text of another kind to standard output, for measuring.
 
     python3 bench/make_text.py hospitals RESIDENTS ENTRIES HOSPITALS [SEED]
+    python3 bench/make_text.py one SIZE
     python3 bench/make_text.py comments BYTES
     python3 bench/make_text.py force BYTES
     python3 bench/make_text.py cycle SIZE
@@ -8,7 +9,8 @@
     python3 bench/make_text.py opposed BLOCKS SIZE
 
 `hospitals` has residents who each list ENTRIES hospitals at random, and hospitals of capacity 14 that list back, in
-random order. `comments` and `force` are a marriage of one proposer and one reviewer, filled up with comment lines or
+random order. `one` has SIZE residents r0, r1 and so on and one hospital h0 of as many places, which lists them from r0
+on. `comments` and `force` are a marriage of one proposer and one reviewer, filled up with comment lines or
 with `force` lines to nearly so many bytes.
 
 The other three are marriages with many rotations. In `cycle` the proposer p(i) lists r(i), r(i+1) and so on around, and
@@ -34,6 +36,11 @@ def hospitals(residents, entries, count, seed):
         draw.shuffle(back)
         out.append("r h%d [14]: %s" % (h, " ".join("r%d" % p for p in back)))
     return out + ["end"]
+
+
+def one(size):
+    out = ["stable 1 hospitals"] + ["p r%d: h0" % p for p in range(size)]
+    return out + ["r h0 [%d]: %s" % (size, " ".join("r%d" % p for p in range(size))), "end"]
 
 
 def filled(line, size):
@@ -74,6 +81,8 @@ def opposed(blocks, size, seed=1):
 def main(words):
     if words[:1] == ["hospitals"] and len(words) in (4, 5):
         return hospitals(int(words[1]), int(words[2]), int(words[3]), int(words[4]) if len(words) == 5 else 1)
+    if words[:1] == ["one"] and len(words) == 2:
+        return one(int(words[1]))
     if words[:1] == ["comments"] and len(words) == 2:
         return filled("# " + "comment " * 9, int(words[1]))
     if words[:1] == ["force"] and len(words) == 2:
