@@ -21,3 +21,7 @@ pub mod VectorLaws
 pub mod PairLaws
 pub mod LatticeLaws
 pub mod TakingLemmas
+pub mod CrossLemmas
+pub mod TableLemmas
+pub mod RowLemmas
+pub mod CrossRows

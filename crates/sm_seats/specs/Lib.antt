@@ -8,3 +8,6 @@ pub mod Laws
 pub mod Witnesses
 pub mod Vectors
 pub mod Taking
+pub mod Tables
+pub mod ProposerRows
+pub mod ReviewerRows

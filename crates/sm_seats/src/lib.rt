@@ -5,8 +5,12 @@
 //! back (Gusfield and Irving 1989, section 1.6.1; Manlove 2013, section 3.2).
 #![tactic(auto)]
 
+mod counts;
 mod faults;
 pub mod laws;
+mod places;
+mod proposer_rows;
+mod reviewer_rows;
 mod seats;
 mod taking;
 pub mod witnesses;

@@ -1,0 +1,153 @@
+-- What stands in the tables that are made on the way to the market of seats.
+use Rattle.std.proofs.Common.{◌≡◌, ℕ, zero, suc, ◌+◌, ◌-◌, ◌*◌, ◌<◌, ◌≤◌, ◌++◌, ◌∷◌, [], true, false, List, length, take, map, get_or, min, Vec, refl, sym, ap, ◌∙◌, arith, inl, inr}
+use Rattle.std.specs.List.{filter, flat_map, range_with_len}
+use Rattle.std.proofs.lemmas.Bool.{cases_lt}
+use Rattle.std.proofs.lemmas.List.{map-append, length_push, length-take, length-take-le, get_or-map, length-map, get_or_past, length-append, append-nil}
+use Rattle.std.proofs.lemmas.List.Concat.{flat_map-append}
+use Rattle.std.proofs.lemmas.List.FromFn.{get_or-map-range_with_len, length-map-range_with_len, length-range_with_len, map-range_with_len_more}
+use Rattle.std.specs.declared.alloc.Global.{Global}
+use Rattle.sm_lists.specs.Rows.{place_on, rows_of}
+use Rattle.sm_lists.specs.Rows.{row as table_row, entry as table_entry}
+use Rattle.sm_instance.specs.Written.{AgentData, Written, no_agent, row, entry, place_of, capacity_of}
+use Rattle.sm_instance.specs.Sound.{IsInstance}
+use Rattle.std.proofs.lemmas.List.Sums.{length-filter, count_by-le-length}
+use Rattle.sm_instance.proofs.AcceptLemmas.{lt_true, proposer_row_fits}
+use Rattle.sm_seats.specs.Mutual.{lists_back, mutual_row}
+use Rattle.sm_seats.specs.SeatMarket.{seat_count, seats_before, seats_at}
+use Rattle.sm_seats.specs.Tables.{first_seats_of, mutual_before, mutual_places_at, mutual_places_of, reviewers_before, seats_listed, seat_places_at, seat_places_of, begin_of}
+use Rattle.sm_seats.proofs.MutualLemmas.{IsMutual, mutual_turned, mutual_on_row}
+use Rattle.sm_seats.proofs.SeatLemmas.{seat_count-le-capacity, seats_before_more}
+use Rattle.sm_seats.proofs.SeatPlaces.{first_place}
+use Rattle.sm_seats.proofs.CrossLemmas.{back_more, back_same, filter-take_place}
+
+-- Counts along a list.
+
+pub record IsCounted (agents others : List AgentData) (a n count : ℕ) : Type 0 where
+  pub few : count ≤ n
+  pub counted : count ≡ length (filter (lists_back others a) (take n (row agents a)))
+
+pub count_more : {agents others : List AgentData} {a i count : ℕ} → i < length (row agents a) → lists_back others a (entry agents a i) ≡ true → IsCounted agents others a i count → IsCounted agents others a (i + 1) (count + 1)
+count_more {agents} {others} {a} {i} {count} on yes_ c =
+    let long = ap length (back_more agents others a i on yes_) ∙ length_push (filter (lists_back others a) (take i (row agents a))) (entry agents a i) in
+    record { few = omega (arith, c.few); counted = omega (arith, long, c.counted) }
+
+pub count_same : {agents others : List AgentData} {a i count : ℕ} → i < length (row agents a) → lists_back others a (entry agents a i) ≡ false → IsCounted agents others a i count → IsCounted agents others a (i + 1) count
+count_same {agents} {others} {a} {i} {count} on no_ c =
+    let long = ap length (back_same agents others a i on no_) in
+    record { few = omega (arith, c.few); counted = omega (arith, long, c.counted) }
+
+-- so many of its first seats p lists
+pub record IsListed (w : Written) (p n count : ℕ) : Type 0 where
+  pub few : count ≤ n * 4096
+  pub counted : count ≡ seats_listed w p n
+
+seats_joined : (w : Written) (xs : List ℕ) (r : ℕ) → length (flat_map (seats_at w) (xs ++ r ∷ [])) ≡ length (flat_map (seats_at w) xs) + seat_count w r
+seats_joined w xs r =
+    let one : seats_at w r ++ [] ≡ seats_at w r = append-nil (seats_at w r) in
+    ap length (flat_map-append (seats_at w) xs (r ∷ [])) ∙ length-append (flat_map (seats_at w) xs) (seats_at w r ++ [])
+    ∙ ap (λ l. length (flat_map (seats_at w) xs) + length l) one
+    ∙ ap (λ n. length (flat_map (seats_at w) xs) + n) (length-range_with_len (seats_before w r) (seat_count w r))
+
+module _ {w : Written} (h : IsInstance w) where
+  pub capacity-le : (r : ℕ) → capacity_of w.reviewers r ≤ 4096
+  capacity-le r = elim (cases_lt r (length w.reviewers)) [
+    | inl here ↦ (h.reviewers.sound r here).capacity
+    | inr past ↦ let none : capacity_of w.reviewers r ≡ 0 = ap (λ (x : AgentData). x.capacity) (get_or_past w.reviewers r no_agent past) in omega arith
+  ]
+
+  pub seat_count-le : (r : ℕ) → seat_count w r ≤ 4096
+  seat_count-le r = omega (arith, seat_count-le-capacity w r, capacity-le r)
+
+  pub list_more : {p i count : ℕ} → i < length (row w.proposers p) → lists_back w.reviewers p (entry w.proposers p i) ≡ true → IsListed w p i count → IsListed w p (i + 1) (count + seat_count w (entry w.proposers p i))
+  list_more {p} {i} {count} on yes_ c =
+      let r = entry w.proposers p i in
+      let more = ap (λ l. length (flat_map (seats_at w) l)) (back_more w.proposers w.reviewers p i on yes_) ∙ seats_joined w (reviewers_before w p i) r in
+      record { few = omega (arith, c.few, seat_count-le r); counted = omega (arith, more, c.counted) }
+
+  pub list_same : {p i count : ℕ} → i < length (row w.proposers p) → lists_back w.reviewers p (entry w.proposers p i) ≡ false → IsListed w p i count → IsListed w p (i + 1) count
+  list_same {p} {i} {count} on no_ c =
+      let same = ap (λ l. length (flat_map (seats_at w) l)) (back_same w.proposers w.reviewers p i on no_) in
+      record { few = omega (arith, c.few); counted = omega (arith, same, c.counted) }
+
+  seats_of_some : (xs : List ℕ) → length (flat_map (seats_at w) xs) ≤ length xs * 4096
+  seats_of_some [] = omega arith
+  seats_of_some (x ∷ xs) =
+      let long = length-append (seats_at w x) (flat_map (seats_at w) xs) in
+      omega (arith, length-range_with_len (seats_before w x) (seat_count w x), seat_count-le x, seats_of_some xs)
+
+  -- so many that they can be counted
+  pub begin-le : (r p : ℕ) → begin_of w r p ≤ 16777216
+  begin-le r p =
+      let i : ℕ = place_of w.proposers p r in
+      let some : List ℕ = reviewers_before w p i in
+      let few = length-filter (lists_back w.reviewers p) (take i (row w.proposers p)) in
+      let fewer = count_by-le-length (lists_back w.reviewers p) (take i (row w.proposers p)) in
+      omega (arith, seats_of_some some, few, fewer, length-take i (row w.proposers p), proposer_row_fits h p)
+
+-- What is read of the tables.
+
+pub first_seat_at : (w : Written) (r : ℕ) → r ≤ length w.reviewers → get_or (first_seats_of w) r 0 ≡ seats_before w r
+first_seat_at w r le = get_or-map-range_with_len (seats_before w) 0 (length w.reviewers + 1) r r 0 (omega arith) (omega arith)
+
+pub mutual_place_at : (w : Written) (r j : ℕ) → r < length w.reviewers → j < length (row w.reviewers r) → table_entry (mutual_places_of w) r j ≡ mutual_before w r j
+mutual_place_at w r j there on =
+    ap (λ l. get_or l j 0) (get_or-map-range_with_len (mutual_places_at w) 0 (length w.reviewers) r r [] there (omega arith))
+    ∙ get_or-map-range_with_len (mutual_before w r) 0 (length (row w.reviewers r)) j j 0 on (omega arith)
+
+pub mutual_row_at : (w : Written) (r : ℕ) → r < length w.reviewers → table_row (mutual_places_of w) r ≡ mutual_places_at w r
+mutual_row_at w r there = get_or-map-range_with_len (mutual_places_at w) 0 (length w.reviewers) r r [] there (omega arith)
+
+pub seat_place_at : (w : Written) (p i : ℕ) → p < length w.proposers → i ≤ length (row w.proposers p) → table_entry (seat_places_of w) p i ≡ seats_listed w p i
+seat_place_at w p i there on =
+    ap (λ l. get_or l i 0) (get_or-map-range_with_len (seat_places_at w) 0 (length w.proposers) p p [] there (omega arith))
+    ∙ get_or-map-range_with_len (seats_listed w p) 0 (length (row w.proposers p) + 1) i i 0 (omega arith) (omega arith)
+
+pub seat_row_at : (w : Written) (p : ℕ) → p < length w.proposers → table_row (seat_places_of w) p ≡ seat_places_at w p
+seat_row_at w p there = get_or-map-range_with_len (seat_places_at w) 0 (length w.proposers) p p [] there (omega arith)
+
+-- the place of a mutual agent on the list without inert entries
+pub mutual_before_is : (w : Written) {p r : ℕ} → IsMutual w.proposers w.reviewers p r → mutual_before w r (place_of w.reviewers r p) ≡ place_on (mutual_row w.reviewers w.proposers r) p
+mutual_before_is w {p} {r} m =
+    let list : List ℕ = mutual_row w.reviewers w.proposers r in
+    let on : place_on list p < length list = mutual_on_row (mutual_turned m) in
+    ap length (filter-take_place (lists_back w.proposers r) (row w.reviewers r) p (lt_true _ _ m.lists) m.listed) ∙ length-take-le (place_on list p) list (omega arith)
+
+-- the place where the seats of a mutual reviewer begin
+pub begin_is : (w : Written) {p r : ℕ} → IsMutual w.proposers w.reviewers p r → begin_of w r p ≡ first_place w p r
+begin_is w {p} {r} m = ap (λ l. length (flat_map (seats_at w) l)) (filter-take_place (lists_back w.reviewers p) (row w.proposers p) r (lt_true _ _ m.listed) m.lists)
+
+-- one more list
+pub row_pushed : (vectors : List (Vec ℕ Global)) (v : Vec ℕ Global) (f : ℕ → List ℕ) (a : ℕ) → rows_of vectors ≡ map f (range_with_len 0 a) → v.items ≡ f a
+    → rows_of (vectors ++ v ∷ []) ≡ map f (range_with_len 0 (a + 1))
+row_pushed vectors v f a e here =
+    map-append (λ (x : Vec ℕ Global). x.items) vectors (v ∷ []) ∙ ap (λ t. t ++ v.items ∷ []) e ∙ ap (λ t. map f (range_with_len 0 a) ++ t ∷ []) here
+    ∙ sym (map-range_with_len_more f 0 a a (omega arith))
+
+-- what is read of the first seats
+pub record AreSeatsRead (w : Written) (firsts : List ℕ) (r : ℕ) : Type 0 where
+  pub inside : r + 1 < length firsts
+  pub first : get_or firsts r 0 ≡ seats_before w r
+  pub next : get_or firsts (r + 1) 0 ≡ seats_before w r + seat_count w r
+  pub count : get_or firsts (r + 1) 0 - get_or firsts r 0 ≡ seat_count w r
+
+pub seats_read : (w : Written) {firsts : List ℕ} (r : ℕ) → firsts ≡ first_seats_of w → r < length w.reviewers → AreSeatsRead w firsts r
+seats_read w {firsts} r is there =
+    let long = ap length is ∙ length-map-range_with_len (seats_before w) 0 (length w.reviewers + 1) in
+    let first : get_or firsts r 0 ≡ seats_before w r = ap (λ l. get_or l r 0) is ∙ first_seat_at w r (omega arith) in
+    let next : get_or firsts (r + 1) 0 ≡ seats_before w r + seat_count w r = ap (λ l. get_or l (r + 1) 0) is ∙ first_seat_at w (r + 1) (omega arith) ∙ seats_before_more w r in
+    record { inside = omega (arith, long); first = first; next = next; count = omega (arith, first, next) }
+
+-- the seats of r, and the entries on their lists, where they are counted
+pub count_is : (w : Written) (r : ℕ) {count capacity acceptable : ℕ} → count ≡ min capacity acceptable → capacity ≡ capacity_of w.reviewers r → acceptable ≡ length (mutual_row w.reviewers w.proposers r) → count ≡ seat_count w r
+count_is w r {count} {capacity} {acceptable} is c a = is ∙ ap (λ x. min x acceptable) c ∙ ap (min (capacity_of w.reviewers r)) a
+
+-- the numbers at which seats begin are small
+pub begins_small : {w : Written} → IsInstance w → (r : ℕ) (list begins : List ℕ) → begins ≡ map (begin_of w r) list → (i : ℕ) → get_or begins i 0 ≤ 16777216
+begins_small {w} h r list begins is i = elim (cases_lt i (length list)) [
+  | inl here ↦
+      let at : get_or begins i 0 ≡ begin_of w r (get_or list i 0) = ap (λ l. get_or l i 0) is ∙ get_or-map (begin_of w r) list i 0 0 here in
+      omega (arith, at, begin-le h r (get_or list i 0))
+  | inr past ↦
+      let none : get_or begins i 0 ≡ 0 = ap (λ l. get_or l i 0) is ∙ get_or_past (map (begin_of w r) list) i 0 (omega (arith, length-map list (begin_of w r))) in
+      omega arith
+]

@@ -1,0 +1,77 @@
+use Rattle.std.proofs.Common.{◌≡◌, ℕ, ◌+◌, ◌-◌, ◌<◌, ◌≤◌, ◌∷◌, [], ◌++◌, List, Some, get_or, length, replicate, sym, ap, ◌∙◌, arith}
+use Rattle.std.specs.List.{flat_map, range_with_len}
+use Rattle.std.proofs.lemmas.List.FromFn.{length-map-range_with_len}
+use Rattle.std.proofs.lemmas.List.{length-map}
+use Rattle.sm_lists.specs.Rows.{place_on, rows_of, row as table_row, entry as table_entry}
+use Rattle.sm_instance.specs.Written.{row, entry, place_of}
+use Rattle.sm_seats.specs.Mutual.{mutual_row}
+use Rattle.sm_seats.specs.SeatMarket.{seat_count, seats_before, seats_at}
+use Rattle.sm_seats.specs.Tables.{reviewers_before, crosses_at, levels_for, mutual_before, mutual_places_of, mutual_places_at}
+use Rattle.sm_seats.proofs.CrossLemmas.{IsCrossed, crossed_at, not_crossed, back_more, back_same}
+use Rattle.sm_seats.proofs.TableLemmas.{seats_read, mutual_place_at, mutual_row_at, mutual_before_is}
+use Rattle.sm_seats.proofs.RowLemmas.{piece_pushed}
+use Rattle.sm_seats.proofs.proposer_rows.proposer_row.Goals as goal
+use Rattle.sm_seats.proofs.proposer_rows.proposer_row.Goals.{in-Some+in_ok-add_seats, in_default}
+
+pub bounds-firsts-r : goal.bounds-firsts-r
+bounds-firsts-r c = omega (arith, (seats_read c.args.instance.now c.reviewer_at-r.result c.requires.firsts c.reviewer_at-r.ensures.in_range).inside)
+
+pub bounds-firsts-r-in-Some : goal.bounds-firsts-r-in-Some
+bounds-firsts-r-in-Some c = (seats_read c.args.instance.now c.reviewer_at-r.result c.requires.firsts c.reviewer_at-r.ensures.in_range).inside
+
+pub entry_at-requires-clause-in_range : goal.entry_at-requires-clause-in_range
+entry_at-requires-clause-in_range c =
+    let w = c.args.instance.now in
+    let long = sym (length-map c.args.places.now (λ v. v.items)) ∙ ap length c.requires.places ∙ length-map-range_with_len (mutual_places_at w) 0 (length w.reviewers) in
+    omega (arith, long, c.reviewer_at-r.ensures.in_range)
+
+pub entry_at-requires-clause-on_list : goal.entry_at-requires-clause-on_list
+entry_at-requires-clause-on_list c =
+    let w = c.args.instance.now in
+    let r = c.reviewer_at-r.result in
+    let on : c.loop-place.place < length (row w.proposers c.args.p) = omega (arith, c.loop-place-test.true) in
+    let it = crossed_at c.proposer_len-place-end.ensures.instance.proposer_entries on c.cross.ensures.cross c.in-Some.is in
+    let named = ap (λ x. length (row w.reviewers x)) c.reviewer_at-r.ensures.named in
+    let long = ap (λ t. length (table_row t r)) c.requires.places ∙ ap length (mutual_row_at w r c.reviewer_at-r.ensures.in_range) ∙ length-map-range_with_len (mutual_before w r) 0 (length (row w.reviewers r)) in
+    omega (arith, long, named, it.back, it.mutual_.listed)
+
+pub add_seats-requires : goal.add_seats-requires
+add_seats-requires c =
+    let s = seats_read c.args.instance.now c.reviewer_at-r.result c.requires.firsts c.reviewer_at-r.ensures.in_range in
+    omega (arith, s.first, s.next)
+
+pub loop-place-preserved : goal.loop-place-preserved
+loop-place-preserved c =
+    let w = c.args.instance.now in
+    let p = c.args.p in
+    let i = c.loop-place.place in
+    let x : ℕ = entry w.proposers p i in
+    let on : i < length (row w.proposers p) = omega (arith, c.loop-place-test.true) in
+    let before = c.loop-place.invariant in
+    let xs : List ℕ = reviewers_before w p i in
+    elim c.match-cross.branch [
+      | in-Some+in_ok-add_seats b ↦
+          let it = crossed_at c.proposer_len-place-end.ensures.instance.proposer_entries on c.cross.ensures.cross b.in-Some.is in
+          let more = back_more w.proposers w.reviewers p i on it.passes in
+          let r = b.reviewer_at-r.result in
+          let s = seats_read w r c.requires.firsts b.reviewer_at-r.ensures.in_range in
+          let count : get_or c.args.firsts.now (r + 1) 0 - get_or c.args.firsts.now r 0 ≡ seat_count w x = s.count ∙ ap (seat_count w) b.reviewer_at-r.ensures.named in
+          let first : get_or c.args.firsts.now r 0 ≡ seats_before w x = s.first ∙ ap (seats_before w) b.reviewer_at-r.ensures.named in
+          let cross : b.entry_at.result ≡ place_on (mutual_row w.reviewers w.proposers x) p =
+          b.entry_at.ensures ∙ ap (λ t. table_entry t r b.in-Some.back) c.requires.places
+          ∙ mutual_place_at w r b.in-Some.back b.reviewer_at-r.ensures.in_range (let named = ap (λ y. length (row w.reviewers y)) b.reviewer_at-r.ensures.named in omega (arith, named, it.back, it.mutual_.listed))
+          ∙ ap (λ y. mutual_before w y b.in-Some.back) b.reviewer_at-r.ensures.named ∙ ap (mutual_before w x) (sym it.back) ∙ mutual_before_is w it.mutual_ in
+          let size : ℕ = get_or c.args.firsts.now (r + 1) 0 - get_or c.args.firsts.now r 0 in
+          record {
+            list = rw b.row-is (piece_pushed (seats_at w) xs x _ _ _ before.list b.in_ok-add_seats.ensures.list (ap (λ n. range_with_len n size) first ∙ ap (range_with_len (seats_before w x)) count) ∙ ap (flat_map (seats_at w)) (sym more));
+            crosses = rw b.row-is (piece_pushed (crosses_at w p) xs x _ _ _ before.crosses b.in_ok-add_seats.ensures.crosses (ap (replicate size) cross ∙ ap (λ n. replicate n (place_on (mutual_row w.reviewers w.proposers x) p)) count) ∙ ap (flat_map (crosses_at w p)) (sym more));
+            levels = rw b.row-is (piece_pushed (levels_for w p) xs x _ _ _ before.levels b.in_ok-add_seats.ensures.levels (ap (λ n. replicate size (n + 1)) (sym it.place) ∙ ap (λ n. replicate n (place_of w.proposers p x + 1)) count) ∙ ap (flat_map (levels_for w p)) (sym more));
+          }
+      | in_default b ↦
+          let same = back_same w.proposers w.reviewers p i on (not_crossed w.proposers w.reviewers p i c.cross.ensures.cross b.in_default.is) in
+          record {
+            list = rw b.row-is (before.list ∙ ap (flat_map (seats_at w)) (sym same));
+            crosses = rw b.row-is (before.crosses ∙ ap (flat_map (crosses_at w p)) (sym same));
+            levels = rw b.row-is (before.levels ∙ ap (flat_map (levels_for w p)) (sym same));
+          }
+    ]

@@ -1,0 +1,63 @@
+-- What is counted on the way to the market of seats, and its lists one by one with their cross places and levels.
+use Rattle.std.specs.Prelude.{ℕ, ◌+◌, ◌∷◌, [], ◌++◌, List, map, length, take, filter, replicate}
+use Rattle.std.specs.List.{flat_map, range_with_len}
+use Rattle.sm_lists.specs.Rows.{place_on}
+use Rattle.sm_instance.specs.Written.{Written, row, place_of}
+use Rattle.sm_seats.specs.Mutual.{lists_back, mutual_row}
+use Rattle.sm_seats.specs.SeatMarket.{seat_count, seats_before, seats_at, seat_row}
+
+-- the first seat of each reviewer, and behind the last how many seats there are
+abbrev pub first_seats_of : Written → List ℕ
+first_seats_of w = map (seats_before w) (range_with_len 0 (length w.reviewers + 1))
+
+-- how many acceptable proposers stand before place j of r's written list
+abbrev pub mutual_before : Written → ℕ → ℕ → ℕ
+mutual_before w r j = length (filter (lists_back w.proposers r) (take j (row w.reviewers r)))
+
+abbrev pub mutual_places_at : Written → ℕ → List ℕ
+mutual_places_at w r = map (mutual_before w r) (range_with_len 0 (length (row w.reviewers r)))
+
+abbrev pub mutual_places_of : Written → List (List ℕ)
+mutual_places_of w = map (mutual_places_at w) (range_with_len 0 (length w.reviewers))
+
+-- the acceptable reviewers before place i of p's written list, and how many seats they have
+abbrev pub reviewers_before : Written → ℕ → ℕ → List ℕ
+reviewers_before w p i = filter (lists_back w.reviewers p) (take i (row w.proposers p))
+
+abbrev pub seats_listed : Written → ℕ → ℕ → ℕ
+seats_listed w p i = length (flat_map (seats_at w) (reviewers_before w p i))
+
+-- the places where the seats of the reviewers begin, and behind the last how many seats p lists
+abbrev pub seat_places_at : Written → ℕ → List ℕ
+seat_places_at w p = map (seats_listed w p) (range_with_len 0 (length (row w.proposers p) + 1))
+
+abbrev pub seat_places_of : Written → List (List ℕ)
+seat_places_of w = map (seat_places_at w) (range_with_len 0 (length w.proposers))
+
+-- the place of p on the list of r's seats, for each of them, and the rank of r on p's list
+abbrev pub crosses_at : Written → ℕ → ℕ → List ℕ
+crosses_at w p r = replicate (seat_count w r) (place_on (mutual_row w.reviewers w.proposers r) p)
+
+abbrev pub levels_for : Written → ℕ → ℕ → List ℕ
+levels_for w p r = replicate (seat_count w r) (place_of w.proposers p r + 1)
+
+-- the same along p's list of seats, with the level of being unmatched
+abbrev pub cross_row : Written → ℕ → List ℕ
+cross_row w p = flat_map (crosses_at w p) (mutual_row w.proposers w.reviewers p)
+
+abbrev pub level_row : Written → ℕ → List ℕ
+level_row w p = flat_map (levels_for w p) (mutual_row w.proposers w.reviewers p) ++ (length (row w.proposers p) + 1) ∷ []
+
+-- where the seats of r begin on the list of each proposer that is acceptable to r, and the same for its seat k, from 0
+abbrev pub begin_of : Written → ℕ → ℕ → ℕ
+begin_of w r p = seats_listed w p (place_of w.proposers p r)
+
+abbrev pub seat_crosses : Written → ℕ → ℕ → List ℕ
+seat_crosses w r k = map (λ p. begin_of w r p + k) (mutual_row w.reviewers w.proposers r)
+
+-- the lists of r's seats, and their cross places
+abbrev pub lists_for : Written → ℕ → List (List ℕ)
+lists_for w r = replicate (seat_count w r) (mutual_row w.reviewers w.proposers r)
+
+abbrev pub crosses_for : Written → ℕ → List (List ℕ)
+crosses_for w r = map (seat_crosses w r) (range_with_len 0 (seat_count w r))

@@ -1,0 +1,52 @@
+//! How many seats each reviewer has, and where they begin.
+
+ghost use Rattle.std.specs.Prelude.{◌≡◌, ◌+◌, ◌<◌, ◌≤◌, length, IfOk, IfErr, OnOk};
+ghost use Rattle.sm_text.specs.Limits.{most_agents};
+ghost use Rattle.sm_instance.specs.Sound.{IsInstance};
+ghost use Rattle.sm_seats.specs.Mutual.{mutual_row};
+ghost use Rattle.sm_seats.specs.Tables.{first_seats_of};
+ghost use Rattle.sm_seats.specs.SeatEntries.{AreFewSeats, IsSeatsFault};
+
+use crate::faults::SeatsFault;
+use sm_instance::Instance;
+use sm_text::MOST_SEAT_ENTRIES;
+use std::alloc::Global;
+
+/// The number of the first seat of each reviewer, and behind them how many seats there are.
+pub(crate) fn first_seats(alloc: Global, instance: &Instance) -> Result<Vec<u32>, SeatsFault>
+    ensures firsts { IfOk result (λ firsts. firsts.items ≡ first_seats_of instance.now) }
+    ensures few { OnOk result (AreFewSeats instance.now) }
+    ensures fault { IfErr result (λ f. IsSeatsFault instance.now f) }
+{
+    let reviewers = instance.reviewer_count();
+    let mut firsts = Vec::with_capacity(alloc, reviewers as usize + 1)?;
+    let mut seats = 0;
+    let mut entries = 0;
+    for r in 0..reviewers {
+        let acceptable = acceptable_count(instance, r);
+        let count = instance.capacity(r).min(acceptable);
+        firsts.push(seats)?;
+        seats += count;
+        entries += count * acceptable;
+        if entries as usize > MOST_SEAT_ENTRIES {
+            return Err(SeatsFault::TooManySeats(r));
+        }
+    }
+    firsts.push(seats)?;
+    Ok(firsts)
+}
+
+// How many proposers are acceptable to a reviewer.
+fn acceptable_count(instance: &Instance, r: u32) -> u32
+    requires { r < length instance.now.reviewers }
+    ensures count { result ≡ length (mutual_row instance.now.reviewers instance.now.proposers r) }
+    ensures fits { result ≤ most_agents }
+{
+    let mut count = 0;
+    for place in 0..instance.reviewer_len(r) as usize {
+        if instance.reviewer_crosses(r)[place].place().is_some() {
+            count += 1;
+        }
+    }
+    count
+}

@@ -1,0 +1,126 @@
+//! The seats' lists of proposers.
+
+ghost use Rattle.std.specs.Prelude.{◌≡◌, ℕ, ◌+◌, ◌<◌, ◌≤◌, ◌^◌, ◌++◌, length, map, replicate, slice_index, IfOk, OnOk};
+ghost use Rattle.std.specs.List.{range_with_len};
+ghost use Rattle.sm_lists.specs.Rows.{rows_of};
+ghost use Rattle.sm_instance.specs.Sound.{IsInstance};
+ghost use Rattle.sm_seats.specs.Mutual.{mutual_row};
+ghost use Rattle.sm_seats.specs.SeatMarket.{seats_of};
+ghost use Rattle.sm_seats.specs.Tables.{first_seats_of, seat_places_of, begin_of};
+ghost use Rattle.sm_seats.specs.ReviewerRows.{seat_lists_before, seat_crosses_before};
+
+use sm_instance::Instance;
+use sm_lists::entry_at;
+use std::alloc::{AllocError, Global};
+
+/// The lists of all seats: of proposers, and of the seat's place on the list of each; and the reviewer and the number of each
+/// seat.
+#[derive(Drop)]
+pub(crate) struct ReviewerRows {
+    pub(crate) seats: Vec<(u32, u32)>,
+    pub(crate) lists: Vec<Vec<u32>>,
+    pub(crate) crosses: Vec<Vec<u32>>,
+}
+
+/// The list of a reviewer without inert entries, and for each place of it the place where the reviewer's seats begin on the
+/// list of the proposer there.
+#[derive(Drop)]
+struct ReviewerRow {
+    list: Vec<u32>,
+    begins: Vec<u32>,
+}
+
+/// The lists of all seats, from the numbers of the first seats and the places where the seats of each reviewer begin.
+pub(crate) fn reviewer_rows(
+    alloc: Global,
+    instance: &Instance,
+    firsts: &[u32],
+    begins: &[Vec<u32>],
+) -> Result<ReviewerRows, AllocError>
+    requires firsts { firsts.now ≡ first_seats_of instance.now }
+    requires begins { rows_of begins.now ≡ seat_places_of instance.now }
+    ensures seats { IfOk result (λ rows. rows.seats.items ≡ seats_of instance.now) }
+    ensures lists { IfOk result (λ rows. rows_of rows.lists.items ≡ seat_lists_before instance.now (length instance.now.reviewers)) }
+    ensures crosses { IfOk result (λ rows. rows_of rows.crosses.items ≡ seat_crosses_before instance.now (length instance.now.reviewers)) }
+{
+    let reviewers = instance.reviewer_count();
+    let room = firsts[reviewers as usize] as usize;
+    let mut rows = ReviewerRows {
+        seats: Vec::with_capacity(alloc, room)?,
+        lists: Vec::with_capacity(alloc, room)?,
+        crosses: Vec::with_capacity(alloc, room)?,
+    };
+    for r in 0..reviewers {
+        let row = reviewer_row(alloc, instance, r, begins)?;
+        let count = firsts[r as usize + 1] - firsts[r as usize];
+        add_seats(alloc, &mut rows, r, count, &row)?;
+    }
+    Ok(rows)
+}
+
+// The list of a reviewer without inert entries, and where its seats begin.
+fn reviewer_row(
+    alloc: Global,
+    instance: &Instance,
+    r: u32,
+    begins: &[Vec<u32>],
+) -> Result<ReviewerRow, AllocError>
+    requires instance { IsInstance instance.now }
+    requires in_range { r < length instance.now.reviewers }
+    requires begins { rows_of begins.now ≡ seat_places_of instance.now }
+    ensures list { IfOk result (λ row. row.list.items ≡ mutual_row instance.now.reviewers instance.now.proposers r) }
+    ensures begins { IfOk result (λ row. row.begins.items
+        ≡ map (begin_of instance.now r) (mutual_row instance.now.reviewers instance.now.proposers r)) }
+    ensures small { IfOk result (λ row. (i : ℕ) → slice_index row.begins.items i ≤ 2 ^ 24) }
+{
+    let list = instance.reviewer_list(r);
+    let crosses = instance.reviewer_crosses(r);
+    let mut row = ReviewerRow {
+        list: Vec::with_capacity(alloc, list.len())?,
+        begins: Vec::with_capacity(alloc, list.len())?,
+    };
+    for place in 0..list.len() {
+        if let Some(back) = crosses[place].place() {
+            let p = list[place];
+            row.list.push(p)?;
+            row.begins.push(entry_at(begins, p, back))?;
+        }
+    }
+    Ok(row)
+}
+
+// Adds so many seats of a reviewer.
+fn add_seats(
+    alloc: Global,
+    rows: &mut ReviewerRows,
+    r: u32,
+    count: u32,
+    row: &ReviewerRow,
+) -> Result<(), AllocError>
+    requires count { count ≤ 4096 }
+    requires small { (i : ℕ) → slice_index row.now.begins.items i ≤ 2 ^ 24 }
+    ensures seats { OnOk result (rows.new.seats.items ≡ rows.old.seats.items ++ map (λ k. (r, k)) (range_with_len 1 count)) }
+    ensures lists { OnOk result (rows_of rows.new.lists.items ≡ rows_of rows.old.lists.items ++ replicate count row.now.list.items) }
+    ensures crosses { OnOk result (rows_of rows.new.crosses.items
+        ≡ rows_of rows.old.crosses.items ++ map (λ k. map (λ n. n + k) row.now.begins.items) (range_with_len 0 count)) }
+{
+    for k in 0..count {
+        rows.seats.push((r, k + 1))?;
+        rows.lists.push(Vec::from_slice(alloc, &row.list)?)?;
+        rows.crosses.push(raised(alloc, &row.begins, k)?)?;
+    }
+    Ok(())
+}
+
+// Each number raised by so much.
+fn raised(alloc: Global, numbers: &[u32], by: u32) -> Result<Vec<u32>, AllocError>
+    requires small { (i : ℕ) → slice_index numbers.now i ≤ 2 ^ 24 }
+    requires by { by ≤ 4096 }
+    ensures { IfOk result (λ raised. raised.items ≡ map (λ n. n + by) numbers.now) }
+{
+    let mut raised = Vec::with_capacity(alloc, numbers.len())?;
+    for number in numbers {
+        raised.push(*number + by)?;
+    }
+    Ok(raised)
+}
