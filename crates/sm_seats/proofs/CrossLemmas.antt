@@ -1,5 +1,5 @@
 -- What cross places tell of the lists without inert entries.
-use Rattle.std.proofs.Common.{◌≡◌, ◌≢◌, ℕ, suc, ◌+◌, ◌<◌, ◌≤◌, ◌++◌, ◌∷◌, [], ◌==◌, cond, Bool, true, false, List, Some, None, Option, length, take, get_or, is_some, refl, sym, ap, ◌∙◌, append-nil, nat_lt, arith, inl, inr}
+use Rattle.std.proofs.Common.{◌≡◌, ℕ, suc, ◌+◌, ◌<◌, ◌++◌, ◌∷◌, [], ◌==◌, cond, Bool, true, false, List, Some, None, Option, length, take, get_or, is_some, refl, sym, ap, ◌∙◌, append-nil, nat_lt, arith, inl, inr}
 use Rattle.std.specs.List.{filter}
 use Rattle.std.proofs.lemmas.Bool.{eq-eqb, ne_eqb, cases_eq}
 use Rattle.std.proofs.lemmas.List.{get_or_read}

@@ -13,15 +13,15 @@ use Rattle.sm_instance.specs.Faults.{HasSoundEntries}
 use Rattle.sm_market.specs.Lists.{row, entry, place_of}
 use Rattle.sm_market.specs.Crosses.{AreCrosses}
 use Rattle.sm_seats.specs.Mutual.{mutual_row}
-use Rattle.sm_seats.specs.SeatMarket.{seat_count, seats_before, seats_at, named_seats, seats_of, seat_row, row_of_seat, seat_market}
+use Rattle.sm_seats.specs.SeatMarket.{seat_count, seats_before, seats_at, named_seats, seat_row, row_of_seat, seat_market}
 use Rattle.sm_seats.specs.Seating.{seating_of, written_place, levels_at, levels_of}
 use Rattle.sm_seats.specs.Tables.{crosses_at, levels_for, cross_row, level_row, begin_of, seat_crosses, lists_for, crosses_for}
 use Rattle.sm_seats.specs.ProposerRows.{cross_rows_of, level_rows_of}
 use Rattle.sm_seats.specs.ReviewerRows.{seat_lists_before, seat_crosses_before}
 use Rattle.sm_seats.proofs.MutualLemmas.{IsMutual, mutual_turned, mutual_on_row, entry_mutual}
 use Rattle.sm_seats.proofs.PieceLemmas.{take-range}
-use Rattle.sm_seats.proofs.SeatLemmas.{IsSeatOf, has_seats, seat_found, length-named, length-seats, length-reviewers, seat_list, listed_seat}
-use Rattle.sm_seats.proofs.SeatPlaces.{partners, row_is, first_place, IsPlaced, seat_at_place, seat_on, seat_place}
+use Rattle.sm_seats.proofs.SeatLemmas.{IsSeatOf, has_seats, seat_found, length-named, length-reviewers, seat_list, listed_seat}
+use Rattle.sm_seats.proofs.SeatPlaces.{partners, row_is, IsPlaced, seat_at_place, seat_on, seat_place}
 use Rattle.sm_seats.proofs.MarketLaws.{length-proposers, rank_is, length-list}
 use Rattle.sm_seats.proofs.WrittenLemmas.{list_is, written_is}
 use Rattle.sm_seats.proofs.TableLemmas.{begin_is}

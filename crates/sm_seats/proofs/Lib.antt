@@ -25,3 +25,4 @@ pub mod CrossLemmas
 pub mod TableLemmas
 pub mod RowLemmas
 pub mod CrossRows
+pub mod SeatingMade

@@ -1,11 +1,9 @@
 -- Lists that are made by one push after another.
-use Rattle.std.proofs.Common.{◌≡◌, ℕ, ◌+◌, ◌-◌, ◌*◌, ◌<◌, ◌≤◌, ◌++◌, ◌∷◌, [], List, Vec, length, map, replicate, refl, sym, ap, ◌∙◌, arith}
+use Rattle.std.proofs.Common.{◌≡◌, ℕ, ◌+◌, ◌-◌, ◌≤◌, ◌++◌, ◌∷◌, [], List, map, replicate, refl, sym, ap, ◌∙◌, arith}
 use Rattle.std.specs.List.{flat_map, range_with_len}
-use Rattle.std.specs.declared.alloc.Global.{Global}
-use Rattle.std.proofs.lemmas.List.{append_assoc, map_push, append-nil, replicate_more}
+use Rattle.std.proofs.lemmas.List.{append_assoc, append-nil, replicate_more}
 use Rattle.std.proofs.lemmas.List.Concat.{flat_map-append}
 use Rattle.std.proofs.lemmas.List.FromFn.{map-range_with_len_more}
-use Rattle.sm_lists.specs.Rows.{rows_of}
 use Rattle.sm_seats.proofs.PieceLemmas.{range_more}
 
 -- numbers from `from` on, up to one more

@@ -4,7 +4,7 @@ use Rattle.std.specs.List.{flat_map, range_with_len}
 use Rattle.sm_lists.specs.Rows.{place_on}
 use Rattle.sm_instance.specs.Written.{Written, row, place_of}
 use Rattle.sm_seats.specs.Mutual.{lists_back, mutual_row}
-use Rattle.sm_seats.specs.SeatMarket.{seat_count, seats_before, seats_at, seat_row}
+use Rattle.sm_seats.specs.SeatMarket.{seat_count, seats_before, seats_at}
 
 -- the first seat of each reviewer, and behind the last how many seats there are
 abbrev pub first_seats_of : Written → List ℕ

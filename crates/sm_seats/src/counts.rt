@@ -14,6 +14,7 @@ use std::alloc::Global;
 
 /// The number of the first seat of each reviewer, and behind them how many seats there are.
 pub(crate) fn first_seats(alloc: Global, instance: &Instance) -> Result<Vec<u32>, SeatsFault>
+    ensures instance { IsInstance instance.now }
     ensures firsts { IfOk result (λ firsts. firsts.items ≡ first_seats_of instance.now) }
     ensures few { OnOk result (AreFewSeats instance.now) }
     ensures fault { IfErr result (λ f. IsSeatsFault instance.now f) }

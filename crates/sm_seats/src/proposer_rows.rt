@@ -51,9 +51,12 @@ pub(crate) fn proposer_rows(
     requires firsts { firsts.now ≡ first_seats_of instance.now }
     requires places { rows_of places.now ≡ mutual_places_of instance.now }
     requires begins { rows_of begins.now ≡ seat_places_of instance.now }
-    ensures lists { IfOk result (λ rows. rows_of rows.lists.items ≡ seat_rows_of instance.now (length instance.now.proposers)) }
-    ensures crosses { IfOk result (λ rows. rows_of rows.crosses.items ≡ cross_rows_of instance.now (length instance.now.proposers)) }
-    ensures levels { IfOk result (λ rows. rows_of rows.levels.items ≡ level_rows_of instance.now (length instance.now.proposers)) }
+    ensures lists { IfOk result
+        (λ rows. rows_of rows.lists.items ≡ seat_rows_of instance.now (length instance.now.proposers)) }
+    ensures crosses { IfOk result
+        (λ rows. rows_of rows.crosses.items ≡ cross_rows_of instance.now (length instance.now.proposers)) }
+    ensures levels { IfOk result
+        (λ rows. rows_of rows.levels.items ≡ level_rows_of instance.now (length instance.now.proposers)) }
 {
     let proposers = instance.proposer_count();
     let mut lists = Vec::with_capacity(alloc, proposers as usize)?;
@@ -113,9 +116,12 @@ fn proposer_row(
 // Adds the seats of a reviewer.
 fn add_seats(row: &mut ProposerRow, range: SeatRange) -> Result<(), AllocError>
     requires { range.from ≤ range.to }
-    ensures list { OnOk result (row.new.list.items ≡ row.old.list.items ++ range_with_len range.from (range.to - range.from)) }
-    ensures crosses { OnOk result (row.new.crosses.items ≡ row.old.crosses.items ++ replicate (range.to - range.from) range.cross) }
-    ensures levels { OnOk result (row.new.levels.items ≡ row.old.levels.items ++ replicate (range.to - range.from) range.level) }
+    ensures list { OnOk result
+        (row.new.list.items ≡ row.old.list.items ++ range_with_len range.from (range.to - range.from)) }
+    ensures crosses { OnOk result
+        (row.new.crosses.items ≡ row.old.crosses.items ++ replicate (range.to - range.from) range.cross) }
+    ensures levels { OnOk result
+        (row.new.levels.items ≡ row.old.levels.items ++ replicate (range.to - range.from) range.level) }
 {
     for seat in range.from..range.to {
         row.list.push(seat)?;

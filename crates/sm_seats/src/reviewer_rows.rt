@@ -40,8 +40,10 @@ pub(crate) fn reviewer_rows(
     requires firsts { firsts.now ≡ first_seats_of instance.now }
     requires begins { rows_of begins.now ≡ seat_places_of instance.now }
     ensures seats { IfOk result (λ rows. rows.seats.items ≡ seats_of instance.now) }
-    ensures lists { IfOk result (λ rows. rows_of rows.lists.items ≡ seat_lists_before instance.now (length instance.now.reviewers)) }
-    ensures crosses { IfOk result (λ rows. rows_of rows.crosses.items ≡ seat_crosses_before instance.now (length instance.now.reviewers)) }
+    ensures lists { IfOk result
+        (λ rows. rows_of rows.lists.items ≡ seat_lists_before instance.now (length instance.now.reviewers)) }
+    ensures crosses { IfOk result
+        (λ rows. rows_of rows.crosses.items ≡ seat_crosses_before instance.now (length instance.now.reviewers)) }
 {
     let reviewers = instance.reviewer_count();
     let room = firsts[reviewers as usize] as usize;
@@ -68,7 +70,8 @@ fn reviewer_row(
     requires instance { IsInstance instance.now }
     requires in_range { r < length instance.now.reviewers }
     requires begins { rows_of begins.now ≡ seat_places_of instance.now }
-    ensures list { IfOk result (λ row. row.list.items ≡ mutual_row instance.now.reviewers instance.now.proposers r) }
+    ensures list { IfOk result
+        (λ row. row.list.items ≡ mutual_row instance.now.reviewers instance.now.proposers r) }
     ensures begins { IfOk result (λ row. row.begins.items
         ≡ map (begin_of instance.now r) (mutual_row instance.now.reviewers instance.now.proposers r)) }
     ensures small { IfOk result (λ row. (i : ℕ) → slice_index row.begins.items i ≤ 2 ^ 24) }
@@ -99,8 +102,10 @@ fn add_seats(
 ) -> Result<(), AllocError>
     requires count { count ≤ 4096 }
     requires small { (i : ℕ) → slice_index row.now.begins.items i ≤ 2 ^ 24 }
-    ensures seats { OnOk result (rows.new.seats.items ≡ rows.old.seats.items ++ map (λ k. (r, k)) (range_with_len 1 count)) }
-    ensures lists { OnOk result (rows_of rows.new.lists.items ≡ rows_of rows.old.lists.items ++ replicate count row.now.list.items) }
+    ensures seats { OnOk result
+        (rows.new.seats.items ≡ rows.old.seats.items ++ map (λ k. (r, k)) (range_with_len 1 count)) }
+    ensures lists { OnOk result
+        (rows_of rows.new.lists.items ≡ rows_of rows.old.lists.items ++ replicate count row.now.list.items) }
     ensures crosses { OnOk result (rows_of rows.new.crosses.items
         ≡ rows_of rows.old.crosses.items ++ map (λ k. map (λ n. n + k) row.now.begins.items) (range_with_len 0 count)) }
 {

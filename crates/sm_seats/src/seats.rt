@@ -1,19 +1,31 @@
 //! Seats, and matchings of them.
 
-ghost use Rattle.std.specs.Prelude.{◌≡◌, ℕ, ◌+◌, ◌<◌, List, length, slice_index_or, IfOk, IfErr, OnOk};
+ghost use Rattle.std.specs.Prelude.{◌≡◌, ◌+◌, ◌<◌, length, slice_index_or, IfOk, IfErr, OnOk};
 ghost use Rattle.sm_instance.specs.Written.{Written};
 ghost use Rattle.sm_instance.specs.Sound.{IsInstance};
+ghost use Rattle.std.specs.Option.{option_map};
 ghost use Rattle.sm_instance.specs.Matching.{IsMatching};
 ghost use Rattle.sm_market.specs.Lists.{row};
+ghost use Rattle.sm_market.specs.Matching.{held};
 ghost use Rattle.sm_market.specs.Pairing.{IsPairingOf};
 ghost use Rattle.sm_market.specs.Vectors.{rows_of};
+ghost use Rattle.sm_seats.specs.SeatMarket.{seats_of};
 ghost use Rattle.sm_seats.specs.SeatEntries.{AreFewSeats, IsSeatsFault};
-ghost use Rattle.sm_seats.specs.Seating.{seating_of, written_place, written_of, levels_of};
+ghost use Rattle.sm_seats.specs.Seating.{seating_of, written_lists, written_place, written_of, levels_of};
 ghost use Rattle.sm_seats.specs.Taken.{places_taken};
 ghost use Rattle.sm_seats.specs.Correspondence.{IsSeating};
+ghost use Rattle.sm_seats.specs.Tables.{first_seats_of};
+ghost use Rattle.sm_seats.specs.ProposerRows.{seat_rows_of, cross_rows_of, level_rows_of};
+ghost use Rattle.sm_seats.specs.ReviewerRows.{seat_lists_before, seat_crosses_before};
 
+use crate::counts::first_seats;
 use crate::faults::SeatsFault;
+use crate::places::{mutual_places, seat_places};
+use crate::proposer_rows::{ProposerRows, proposer_rows};
+use crate::reviewer_rows::{ReviewerRows, reviewer_rows};
+use crate::taking::taken_places;
 use sm_instance::{Assignment, Instance};
+use sm_lists::{copy_of, entry_at};
 use sm_market::{Market, Pairing};
 use std::alloc::{AllocError, Global};
 use std::marker::Model;
@@ -61,7 +73,8 @@ impl Seats {
         ensures few { OnOk result (AreFewSeats instance.now) }
         ensures fault { IfErr result (λ f. IsSeatsFault instance.now f) }
     {
-        unreachable!()
+        let firsts = first_seats(alloc, instance)?;
+        Ok(seats_from(alloc, instance, &firsts)?)
     }
 
     /// The market of the seats. Its lists have acceptable entries alone.
@@ -86,7 +99,7 @@ impl Seats {
         requires on_list { place < length (row self.now.market.proposers p) }
         ensures { result ≡ written_place self.now p place + 1 }
     {
-        self.levels[p as usize][place as usize]
+        entry_at(&self.levels, p, place)
     }
 
     /// For each proposer the levels of its places, followed by that of being unmatched, which is one more than the length
@@ -98,7 +111,7 @@ impl Seats {
     pub fn levels(&self, alloc: Global) -> Result<Vec<Vec<u32>>, AllocError>
         ensures { IfOk result (λ levels. rows_of levels.items ≡ levels_of self.now) }
     {
-        unreachable!()
+        copy_of(alloc, &self.levels)
     }
 
     /// The assignment in which each proposer has the reviewer of its seat. Takes time and memory in proportion to the
@@ -111,7 +124,24 @@ impl Seats {
         requires { IsPairingOf self.now.market m.now }
         ensures { IfOk result (λ a. a.places.items ≡ written_of self.now m.now.places.proposers) }
     {
-        unreachable!()
+        let proposers = self.market.proposers();
+        let mut places = Vec::with_capacity(alloc, proposers as usize)?;
+        for p in 0..proposers {
+            places.push(self.written_place(m, p))?;
+        }
+        Ok(Assignment { places })
+    }
+
+    // The place on its written list that a proposer holds by its seat.
+    fn written_place(&self, m: &Pairing, p: u32) -> Option<u32>
+        requires pairing { IsPairingOf self.now.market m.now }
+        requires in_range { p < length self.now.market.proposers }
+        ensures { result ≡ option_map (written_place self.now p) (held m.now.places.proposers p) }
+    {
+        match m.place(p) {
+            Some(place) => Some(self.level(p, place) - 1),
+            None => None,
+        }
     }
 
     /// The pairing in which each reviewer's proposers sit in its order of preference, from its first seat on. The
@@ -129,6 +159,69 @@ impl Seats {
         ensures pairing { IfOk result (λ m. IsPairingOf self.now.market m) }
         ensures places { IfOk result (λ m. m.places.proposers ≡ places_taken written a.now.places.items) }
     {
-        unreachable!()
+        let places = taken_places(alloc, &self.lists, &self.market, &self.seats, a)?;
+        Pairing::held(alloc, &self.market, &places)
     }
+}
+
+// The seats of an instance, whose first seats have these numbers.
+fn seats_from(alloc: Global, instance: &Instance, firsts: &[u32]) -> Result<Seats, AllocError>
+    requires firsts { firsts.now ≡ first_seats_of instance.now }
+    requires instance { IsInstance instance.now }
+    requires few { AreFewSeats instance.now }
+    ensures { IfOk result (λ seats. seats ≡ seating_of instance.now) }
+{
+    let places = mutual_places(alloc, instance)?;
+    let begins = seat_places(alloc, instance, firsts)?;
+    let proposers = proposer_rows(alloc, instance, firsts, &places, &begins)?;
+    let reviewers = reviewer_rows(alloc, instance, firsts, &begins)?;
+    seats_held(alloc, instance, proposers, reviewers)
+}
+
+// The seats with these lists, beside the lists that the proposers wrote.
+fn seats_held(
+    alloc: Global,
+    instance: &Instance,
+    proposers: ProposerRows,
+    reviewers: ReviewerRows,
+) -> Result<Seats, AllocError>
+    requires instance { IsInstance instance.now }
+    requires few { AreFewSeats instance.now }
+    requires proposers { rows_of proposers.lists.items
+        ≡ seat_rows_of instance.now (length instance.now.proposers) }
+    requires proposer_crosses { rows_of proposers.crosses.items
+        ≡ cross_rows_of instance.now (length instance.now.proposers) }
+    requires levels { rows_of proposers.levels.items
+        ≡ level_rows_of instance.now (length instance.now.proposers) }
+    requires seats { reviewers.seats.items ≡ seats_of instance.now }
+    requires reviewers { rows_of reviewers.lists.items
+        ≡ seat_lists_before instance.now (length instance.now.reviewers) }
+    requires reviewer_crosses { rows_of reviewers.crosses.items
+        ≡ seat_crosses_before instance.now (length instance.now.reviewers) }
+    ensures { IfOk result (λ seats. seats ≡ seating_of instance.now) }
+{
+    let lists = lists_of(alloc, instance)?;
+    let market = Market::held(
+        proposers.lists,
+        reviewers.lists,
+        proposers.crosses,
+        reviewers.crosses,
+    );
+    Ok(Seats {
+        lists,
+        market,
+        seats: reviewers.seats,
+        levels: proposers.levels,
+    })
+}
+
+// The proposers' written lists.
+fn lists_of(alloc: Global, instance: &Instance) -> Result<Vec<Vec<u32>>, AllocError>
+    ensures { IfOk result (λ lists. rows_of lists.items ≡ written_lists instance.now.proposers) }
+{
+    let mut lists = Vec::with_capacity(alloc, instance.proposer_count() as usize)?;
+    for p in 0..instance.proposer_count() {
+        lists.push(Vec::from_slice(alloc, instance.proposer_list(p))?)?;
+    }
+    Ok(lists)
 }

@@ -1,8 +1,5 @@
-use Rattle.std.proofs.Common.{◌≡◌, ◌<◌, ◌≤◌, ◌∙◌, ap, arith, length}
-use Rattle.std.specs.List.{filter}
-use Rattle.std.proofs.lemmas.List.{take_all}
+use Rattle.std.proofs.Common.{◌<◌, ◌∙◌, arith, length}
 use Rattle.sm_instance.specs.Written.{row, entry}
-use Rattle.sm_seats.specs.Mutual.{lists_back}
 use Rattle.sm_seats.proofs.CrossLemmas.{cross_tells, cross_read}
 use Rattle.sm_seats.proofs.TableLemmas.{count_more, count_same}
 use Rattle.sm_seats.proofs.counts.acceptable_count.Goals as goal

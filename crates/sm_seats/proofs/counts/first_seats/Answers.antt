@@ -1,9 +1,8 @@
-use Rattle.std.proofs.Common.{◌≡◌, ℕ, ◌+◌, ◌*◌, ◌<◌, ◌≤◌, ◌++◌, ◌∷◌, [], List, min, ◌∙◌, sym, ap, map, arith, length}
+use Rattle.std.proofs.Common.{◌≡◌, ℕ, ◌+◌, ◌*◌, ◌++◌, ◌∷◌, [], List, ◌∙◌, sym, ap, map, arith, length}
 use Rattle.std.specs.List.{range_with_len}
 use Rattle.std.proofs.lemmas.List.FromFn.{map-range_with_len_more}
-use Rattle.sm_text.specs.Limits.{most_seat_entries}
 use Rattle.sm_seats.specs.SeatMarket.{seat_count, seats_before}
-use Rattle.sm_seats.specs.SeatEntries.{seat_entries, seat_entries_before}
+use Rattle.sm_seats.specs.SeatEntries.{seat_entries}
 use Rattle.sm_seats.proofs.SeatLemmas.{seats_before_more, seat_count-le-capacity}
 use Rattle.sm_seats.proofs.LimitLaws.{entries_before_more}
 use Rattle.sm_seats.proofs.TableLemmas.{count_is}

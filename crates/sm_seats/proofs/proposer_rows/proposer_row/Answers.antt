@@ -1,13 +1,13 @@
-use Rattle.std.proofs.Common.{◌≡◌, ℕ, ◌+◌, ◌-◌, ◌<◌, ◌≤◌, ◌∷◌, [], ◌++◌, List, Some, get_or, length, replicate, sym, ap, ◌∙◌, arith}
+use Rattle.std.proofs.Common.{◌≡◌, ℕ, ◌+◌, ◌-◌, ◌<◌, List, get_or, length, replicate, sym, ap, ◌∙◌, arith}
 use Rattle.std.specs.List.{flat_map, range_with_len}
 use Rattle.std.proofs.lemmas.List.FromFn.{length-map-range_with_len}
 use Rattle.std.proofs.lemmas.List.{length-map}
-use Rattle.sm_lists.specs.Rows.{place_on, rows_of, row as table_row, entry as table_entry}
+use Rattle.sm_lists.specs.Rows.{place_on, row as table_row, entry as table_entry}
 use Rattle.sm_instance.specs.Written.{row, entry, place_of}
 use Rattle.sm_seats.specs.Mutual.{mutual_row}
 use Rattle.sm_seats.specs.SeatMarket.{seat_count, seats_before, seats_at}
-use Rattle.sm_seats.specs.Tables.{reviewers_before, crosses_at, levels_for, mutual_before, mutual_places_of, mutual_places_at}
-use Rattle.sm_seats.proofs.CrossLemmas.{IsCrossed, crossed_at, not_crossed, back_more, back_same}
+use Rattle.sm_seats.specs.Tables.{reviewers_before, crosses_at, levels_for, mutual_before, mutual_places_at}
+use Rattle.sm_seats.proofs.CrossLemmas.{crossed_at, not_crossed, back_more, back_same}
 use Rattle.sm_seats.proofs.TableLemmas.{seats_read, mutual_place_at, mutual_row_at, mutual_before_is}
 use Rattle.sm_seats.proofs.RowLemmas.{piece_pushed}
 use Rattle.sm_seats.proofs.proposer_rows.proposer_row.Goals as goal

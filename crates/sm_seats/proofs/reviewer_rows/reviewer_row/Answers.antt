@@ -1,9 +1,9 @@
-use Rattle.std.proofs.Common.{◌≡◌, ℕ, ◌+◌, ◌<◌, ◌≤◌, ◌∷◌, [], ◌++◌, List, Some, None, get_or, length, map, take, sym, ap, ◌∙◌, arith}
+use Rattle.std.proofs.Common.{◌≡◌, ℕ, ◌+◌, ◌<◌, ◌∷◌, [], ◌++◌, List, get_or, length, map, take, sym, ap, ◌∙◌, arith}
 use Rattle.std.specs.List.{filter}
 use Rattle.std.proofs.lemmas.List.FromFn.{length-map-range_with_len}
-use Rattle.std.proofs.lemmas.List.{length-map, map_push, take_all}
+use Rattle.std.proofs.lemmas.List.{length-map, map_push}
 use Rattle.sm_lists.specs.Rows.{rows_of, row as table_row, entry as table_entry}
-use Rattle.sm_instance.specs.Written.{row, entry, place_of}
+use Rattle.sm_instance.specs.Written.{row, entry}
 use Rattle.sm_seats.specs.Mutual.{lists_back}
 use Rattle.sm_seats.specs.Tables.{begin_of, seat_places_of, seat_places_at, seats_listed}
 use Rattle.sm_seats.proofs.CrossLemmas.{cross_read, crossed_at, not_crossed, back_more, back_same}

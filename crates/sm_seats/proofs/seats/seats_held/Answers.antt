@@ -1,0 +1,42 @@
+use Rattle.std.proofs.Common.{◌≡◌, sym, ap, ◌∙◌}
+use Rattle.sm_lists.specs.Rows.{rows_of}
+use Rattle.sm_seats.specs.SeatMarket.{seat_market}
+use Rattle.sm_seats.specs.Seating.{levels_of}
+use Rattle.sm_seats.proofs.CorrespondenceLaws.{sound_entries}
+use Rattle.sm_seats.proofs.LimitLaws.{market_within}
+use Rattle.sm_seats.proofs.MarketLaws.{is_market}
+use Rattle.sm_seats.proofs.CrossRows.{proposers_crossed, reviewers_crossed, levels_made, lists_made}
+use Rattle.sm_seats.proofs.SeatingMade.{market_made, seating_made}
+use Rattle.sm_seats.proofs.seats.seats_held.Goals as goal
+
+pub held-market-requires-clause-limits : goal.held-market-requires-clause-limits
+held-market-requires-clause-limits c =
+    let w = c.args.instance.now in
+    rw (market_made w c.args.proposers.lists.items c.args.reviewers.lists.items c.requires.proposers c.requires.reviewers) (market_within (sound_entries c.requires.instance) c.requires.instance.limits.proposers c.requires.few)
+
+pub held-market-requires-clause-market : goal.held-market-requires-clause-market
+held-market-requires-clause-market c =
+    let w = c.args.instance.now in
+    rw (market_made w c.args.proposers.lists.items c.args.reviewers.lists.items c.requires.proposers c.requires.reviewers) (is_market (sound_entries c.requires.instance))
+
+pub held-market-requires-clause-proposers : goal.held-market-requires-clause-proposers
+held-market-requires-clause-proposers c =
+    let w = c.args.instance.now in
+    rw (c.requires.proposers, c.requires.reviewers, c.requires.proposer_crosses, lists_made w) (proposers_crossed (sound_entries c.requires.instance))
+
+pub held-market-requires-clause-reviewers : goal.held-market-requires-clause-reviewers
+held-market-requires-clause-reviewers c =
+    let w = c.args.instance.now in
+    rw (c.requires.proposers, c.requires.reviewers, c.requires.reviewer_crosses, lists_made w) (reviewers_crossed (sound_entries c.requires.instance))
+
+pub invariant_of-result : goal.invariant_of-result
+invariant_of-result c =
+    let w = c.args.instance.now in
+    let market : c.held-market.result ≡ seat_market w = c.held-market.ensures.lists ∙ market_made w c.args.proposers.lists.items c.args.reviewers.lists.items c.requires.proposers c.requires.reviewers in
+    c.requires.levels ∙ levels_made (sound_entries c.requires.instance) ∙ ap levels_of (sym (seating_made w (rows_of c.in_ok-lists.lists.items) c.held-market.result c.args.reviewers.seats.items c.in_ok-lists.ensures market c.requires.seats))
+
+pub returns : goal.returns
+returns c =
+    let w = c.args.instance.now in
+    let market : c.held-market.result ≡ seat_market w = c.held-market.ensures.lists ∙ market_made w c.args.proposers.lists.items c.args.reviewers.lists.items c.requires.proposers c.requires.reviewers in
+    seating_made w (rows_of c.in_ok-lists.lists.items) c.held-market.result c.args.reviewers.seats.items c.in_ok-lists.ensures market c.requires.seats
