@@ -96,6 +96,11 @@ fn commands_answer(rt: HostRuntime) {
                 "answer solve side=proposers\nend\n",
             ),
             done(
+                "solve",
+                "\n# kinds\nstable 1 hospitals\nr h [2]: r0\np r0: h\nend\n",
+                "answer solve side=proposers\npair r0 h\nend\n",
+            ),
+            done(
                 "reduced",
                 unmatched,
                 "answer reduced\nfirst m1 w\nfirst m3 x\nlast m1 w\nlast m3 x\nproposer m1 w\nproposer m2 -\nproposer m3 x\nproposer m4 -\nreviewer w m1\nreviewer x m3\nend\n",
@@ -139,13 +144,6 @@ fn inputs_are_refused(rt: HostRuntime) {
                 RefusalKind::AfterEnd,
                 5,
                 "refused AfterEnd 5\n",
-            ),
-            refused(
-                "solve",
-                "\n# kinds\nstable 1 hospitals\nr h [2]: r0\np r0: h\nend\n",
-                RefusalKind::NotBuilt,
-                3,
-                "refused NotBuilt 3\n",
             ),
             refused(
                 "rotations",
