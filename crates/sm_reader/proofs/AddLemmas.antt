@@ -12,7 +12,7 @@ use Rattle.sm_instance.specs.declared.kinds.Kind.{Kind}
 use Rattle.sm_instance.specs.declared.kinds.Kind.TheVariants.{Marriage, Hospitals, Roommates}
 use Rattle.sm_instance.specs.declared.kinds.Side.{Side}
 use Rattle.sm_instance.specs.declared.kinds.Side.TheVariants.{Proposers, Reviewers}
-use Rattle.sm_instance.specs.Named.{SaidAgent, entries_of, all_entries}
+use Rattle.sm_instance.specs.Named.{SaidAgent, entries_of}
 use Rattle.sm_reader.specs.Judging.{has_repeated, with_agent}
 use Rattle.sm_reader.specs.Kept.{Table, text_at, Extends, AreBelow}
 use Rattle.sm_reader.specs.Draft.{listed_table, listed_side, agent_in, said_of, AreAgentsBelow, pairs_of, IsDraft, limit_fault, name_fault, DeclaresOn, ListsOn, PutsOn, AddsAgent}

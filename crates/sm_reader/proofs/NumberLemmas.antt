@@ -7,7 +7,7 @@ use Rattle.std.proofs.lemmas.List.{length-map, length-take-le, get_or-map, map_p
 use Rattle.std.proofs.lemmas.List.Elements.{filter-append}
 use Rattle.std.proofs.lemmas.List.Folds.{list_any-append, list_any_at}
 use Rattle.sm_text.specs.Limits.{most_agents}
-use Rattle.sm_instance.specs.Vectors.{agents_of, written_of}
+use Rattle.sm_instance.specs.Vectors.{agents_of, written_of, written_in}
 use Rattle.sm_instance.specs.Written.{AgentData, Written}
 use Rattle.sm_instance.specs.declared.agents.Agent.{Agent}
 use Rattle.sm_instance.specs.declared.kinds.Kind.{Kind}
@@ -21,7 +21,7 @@ use Rattle.sm_reader.specs.declared.draft.Declared.{Declared}
 use Rattle.sm_reader.specs.declared.draft.Pair.{Pair}
 use Rattle.sm_reader.specs.declared.draft.Weight.{Weight}
 use Rattle.sm_reader.specs.declared.draft.Draft.{Draft}
-use Rattle.sm_reader.specs.declared.numbering.Numbered.{Numbered}
+use Rattle.sm_instance.specs.declared.parts.Parts.{Parts}
 
 -- the parts of a front of a list, and one more
 pub front_more : {X Y : Type 0} (f : X → Y) (xs : List X) (i : ℕ) (d : X) → i < length xs → map f (take (i + 1) xs) ≡ map f (take i xs) ++ f (get_or xs i d) ∷ []
@@ -195,7 +195,7 @@ pub persons_said : (line : ℕ) (d : Draft) → IsDraft Roommates line d → (pe
 persons_said line d draft persons are = are ∙ ap (λ ns. map (numbered ns) (said_of Roommates d).proposers) (sym (proposer_names Roommates line d draft))
 
 -- and so are the two sides
-pub sides_said : (kind : Kind) (line : ℕ) (d : Draft) → IsDraft kind line d → kind ≢ Roommates → (sides : Numbered) → NumbersSides d sides
+pub sides_said : (kind : Kind) (line : ℕ) (d : Draft) → IsDraft kind line d → kind ≢ Roommates → (sides : Parts) → NumbersSides d sides
     → written_of kind sides.proposers.items sides.reviewers.items sides.weights.items sides.forced.items sides.forbidden.items ≡ two_sides kind (said_of kind d)
 sides_said kind line d draft other n are =
     let said = said_of kind d in
@@ -220,6 +220,10 @@ sides_said kind line d draft other n are =
         → let x : Written = record { kind = k; proposers = a; reviewers = b; weights = w; forced = f; forbidden = g } in
         let y : Written = record { kind = k; proposers = a'; reviewers = b'; weights = w'; forced = f'; forbidden = g' } in x ≡ y
     five k h1 h2 h3 h4 h5 = cc
+
+pub parts_said : (kind : Kind) (line : ℕ) (d : Draft) → IsDraft kind line d → kind ≢ Roommates → (parts : Parts) → parts.kind ≡ kind → NumbersSides d parts → written_in parts ≡ two_sides kind (said_of kind d)
+parts_said kind line d draft other parts same are =
+    ap (λ k. written_of k parts.proposers.items parts.reviewers.items parts.weights.items parts.forced.items parts.forbidden.items) same ∙ sides_said kind line d draft other parts are
 
 -- few names are declared
 pub few_names : (kind : Kind) (line : ℕ) (d : Draft) → IsDraft kind line d → (length d.proposer_names.declared ≤ most_agents) × (length d.reviewer_names.declared ≤ most_agents)

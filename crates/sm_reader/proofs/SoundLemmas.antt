@@ -10,12 +10,8 @@ use Rattle.std.proofs.lemmas.List.Folds.{list_any_at, fold-map}
 use Rattle.std.proofs.Math.ListN.{get_or-append}
 use Rattle.sm_text.specs.Limits.{most_capacity, most_weight}
 use Rattle.sm_text.specs.Name.{is_name}
-use Rattle.sm_instance.specs.Written.{AgentData, Written, no_agent, agent_at, weighed}
+use Rattle.sm_instance.specs.Written.{AgentData, no_agent, agent_at, weighed}
 use Rattle.sm_instance.specs.Sound.{AreSoundAgents, AreSoundEntries, IsPairOf, pair_at, items_of, IsSoundItem, is_single, IsInstance, ArePersons, entries_of as entries_in}
-use Rattle.sm_instance.specs.Faults.{IsFault, IsPersonsFault}
-use Rattle.sm_instance.specs.declared.faults.InstanceFault.{InstanceFault}
-use Rattle.sm_instance.specs.declared.faults.InstanceFault.TheVariants.{TooMany, BadAgent, BadEntry, BadPair, OutOfMemory}
-use Rattle.sm_instance.specs.declared.kinds.Side.TheVariants.{Proposers, Reviewers}
 use Rattle.sm_instance.specs.declared.kinds.Kind.{Kind}
 use Rattle.sm_instance.specs.declared.kinds.Kind.TheVariants.{Marriage, Hospitals, Roommates}
 use Rattle.sm_instance.specs.Named.{SaidAgent, SaidPair, SaidWeight, Said, names_of, entries_of}
@@ -263,21 +259,3 @@ sides_sound kind said other right none =
         let e3 = empty_parts (a ++ b) d e2.0 in
         let e4 = empty_parts a b e3.0 in
         (e4.0, e4.1, e3.1, e2.1, e1.1)
-
--- of a sound instance want of memory is the only fault
-pub only_memory : (w : Written) (f : InstanceFault) → IsInstance w → IsFault w f → f ≡ OutOfMemory
-only_memory w TooMany sound h = absurd (h sound.limits)
-only_memory w (BadAgent Proposers a) sound h = absurd (h.1.bad (sound.proposers.sound a h.1.there))
-only_memory w (BadAgent Reviewers a) sound h = absurd (h.1.1.bad (sound.reviewers.sound a h.1.1.there))
-only_memory w (BadEntry Proposers a i) sound h = absurd (h.1.bad (sound.proposer_entries.sound a i h.1.there))
-only_memory w (BadEntry Reviewers a i) sound h = absurd (h.1.1.bad (sound.reviewer_entries.sound a i h.1.1.there))
-only_memory w (BadPair n) sound h = absurd (h.2.bad (sound.items n h.2.there))
-only_memory w OutOfMemory sound h = refl
-
--- so it is of persons
-pub only_memory_persons : (persons : List AgentData) (f : InstanceFault) → ArePersons persons → IsPersonsFault persons f → f ≡ OutOfMemory
-only_memory_persons persons TooMany sound h = absurd (h sound.limits)
-only_memory_persons persons (BadAgent side a) sound h = absurd (h.2.bad (sound.agents.sound a h.2.there))
-only_memory_persons persons (BadEntry side a i) sound h = absurd (h.3.bad (sound.entries.sound a i h.3.there))
-only_memory_persons persons (BadPair n) sound h = absurd h
-only_memory_persons persons OutOfMemory sound h = refl

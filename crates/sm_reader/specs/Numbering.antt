@@ -3,6 +3,7 @@ use Rattle.std.specs.Prelude.{◌≡◌, ◌≢◌, ℕ, ◌+◌, ◌≤◌, len
 use Rattle.sm_instance.specs.declared.kinds.Kind.{Kind}
 use Rattle.sm_instance.specs.declared.kinds.Kind.TheVariants.{Roommates}
 use Rattle.sm_instance.specs.declared.agents.Agent.{Agent}
+use Rattle.sm_instance.specs.declared.parts.Parts.{Parts}
 use Rattle.sm_instance.specs.Vectors.{agents_of}
 use Rattle.sm_instance.specs.Named.{SaidPair, SaidWeight}
 use Rattle.sm_reader.specs.InstanceText.{number_in, numbered, unknown_lines, least}
@@ -11,7 +12,6 @@ use Rattle.sm_reader.specs.Right.{IsRight}
 use Rattle.sm_text.specs.Limits.{most_bytes, most_agents}
 use Rattle.sm_text.specs.declared.refusal.RefusalKind.TheVariants.{UnknownName}
 use Rattle.sm_reader.specs.declared.draft.Draft.{Draft}
-use Rattle.sm_reader.specs.declared.numbering.Numbered.{Numbered}
 use Rattle.sm_reader.specs.declared.faults.TextFault.{TextFault}
 use Rattle.sm_reader.specs.declared.faults.TextFault.TheVariants.{Refused, OutOfMemory}
 
@@ -55,7 +55,7 @@ NumbersPersons d persons =
     agents_of persons ≡ map (numbered t.declared) (map (agent_in t.texts) d.proposers.items)
 
 -- the two sides of a draft by number, with its weights and conditions
-pub record NumbersSides (d : Draft) (sides : Numbered) : Type 0 where
+pub record NumbersSides (d : Draft) (sides : Parts) : Type 0 where
   pub proposers : let r = d.reviewer_names in agents_of sides.proposers.items ≡ map (numbered r.declared) (map (agent_in r.texts) d.proposers.items)
   pub reviewers : let p = d.proposer_names in agents_of sides.reviewers.items ≡ map (numbered p.declared) (map (agent_in p.texts) d.reviewers.items)
   pub weights : let p = d.proposer_names in let r = d.reviewer_names in

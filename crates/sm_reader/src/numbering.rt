@@ -10,18 +10,8 @@ ghost use Rattle.sm_reader.specs.Numbering.{lesser, line_if, pair_among, weight_
 
 use crate::draft::{Declared, Draft, Pair, Weight};
 use crate::names::Names;
-use sm_instance::{Agent, Kind};
+use sm_instance::{Agent, Kind, Parts};
 use std::alloc::{AllocError, Global};
-
-/// Two sides by number, with their weights and conditions.
-#[derive(Drop)]
-pub(crate) struct Numbered {
-    pub(crate) proposers: Vec<Agent>,
-    pub(crate) reviewers: Vec<Agent>,
-    pub(crate) weights: Vec<(u32, u32, i64)>,
-    pub(crate) forced: Vec<(u32, u32)>,
-    pub(crate) forbidden: Vec<(u32, u32)>,
-}
 
 /// The first line that names an agent which isn't declared.
 pub(crate) fn first_unknown(kind: Kind, draft: &Draft<'_>) -> Option<u32>
@@ -158,9 +148,14 @@ pub(crate) fn numbered_persons(alloc: Global, draft: Draft<'_>) -> Result<Vec<Ag
 }
 
 /// The two sides of a draft by number. Nothing else of the draft is kept.
-pub(crate) fn numbered_sides(alloc: Global, draft: Draft<'_>) -> Result<Numbered, AllocError>
+pub(crate) fn numbered_sides(
+    alloc: Global,
+    kind: Kind,
+    draft: Draft<'_>,
+) -> Result<Parts, AllocError>
     requires { IsTwoSided draft }
-    ensures { IfOk result (λ sides. NumbersSides draft.entry sides) }
+    ensures kind { IfOk result (λ sides. sides.kind ≡ kind) }
+    ensures sides { IfOk result (λ sides. NumbersSides draft.entry sides) }
 {
     let Draft {
         proposer_names,
@@ -179,7 +174,8 @@ pub(crate) fn numbered_sides(alloc: Global, draft: Draft<'_>) -> Result<Numbered
     let weights = number_weights(alloc, &proposer_names, &reviewer_names, &weights)?;
     let forced = number_pairs(alloc, &proposer_names, &reviewer_names, &forced)?;
     let forbidden = number_pairs(alloc, &proposer_names, &reviewer_names, &forbidden)?;
-    Ok(Numbered {
+    Ok(Parts {
+        kind,
         proposers,
         reviewers,
         weights,

@@ -20,11 +20,11 @@ use crate::faults::TextFault;
 use crate::forms::header_of;
 use crate::header::Header;
 use crate::judging::{Step, judge};
-use crate::numbering::{Numbered, first_unknown, numbered_persons, numbered_sides};
+use crate::numbering::{first_unknown, numbered_persons, numbered_sides};
 use crate::tokens::{cut, line_from};
-use sm_instance::{Input, Instance, InstanceFault, Kind, Persons};
+use sm_instance::{Input, Instance, Kind, Persons};
 use sm_text::{MOST_BYTES, RefusalKind, TextHash};
-use std::alloc::Global;
+use std::alloc::{AllocError, Global};
 
 /// An instance that was read, and what stands behind it.
 #[derive(Drop)]
@@ -110,7 +110,8 @@ fn read_lines(alloc: Global, bytes: &[u8], header: Header) -> Result<Read, TextF
     ensures fault { IfErr result (λ f. IsFaultOf (behind_header header.kind header.line nothing
         (header.line + 1) header.next (lines (drop header.next bytes.now))) f) }
 {
-    let mut draft = empty(alloc, TextHash::of(bytes));
+    let hash = TextHash::of(bytes);
+    let mut draft = empty(alloc, hash);
     let mut tokens = Vec::new(alloc);
     let mut at = header.next;
     let mut line = header.line + 1;
@@ -122,7 +123,7 @@ fn read_lines(alloc: Global, bytes: &[u8], header: Header) -> Result<Read, TextF
                 line += 1;
             }
             Step::Stops => {
-                let input = finished(alloc, header.kind, draft)?;
+                let input = finished(alloc, hash, header.kind, draft)?;
                 return Ok(Read {
                     input,
                     header_line: header.line,
@@ -136,7 +137,7 @@ fn read_lines(alloc: Global, bytes: &[u8], header: Header) -> Result<Read, TextF
 }
 
 // The instance that a text says whose lines have no fault.
-fn finished(alloc: Global, kind: Kind, draft: Draft<'_>) -> Result<Input, TextFault>
+fn finished(alloc: Global, hash: TextHash, kind: Kind, draft: Draft<'_>) -> Result<Input, TextFault>
     requires { IsReady kind draft }
     ensures finished { IfOk result (λ input. Finishes kind draft.entry input) }
     ensures fault { IfErr result (λ f. IsUnknownFault kind draft.entry f) }
@@ -145,61 +146,36 @@ fn finished(alloc: Global, kind: Kind, draft: Draft<'_>) -> Result<Input, TextFa
         return Err(TextFault::Refused(RefusalKind::UnknownName, line));
     }
     match kind {
-        Kind::Roommates => persons(alloc, draft),
-        _ => two_sides(alloc, kind, draft),
+        Kind::Roommates => Ok(persons(alloc, hash, draft)?),
+        _ => Ok(two_sides(alloc, hash, kind, draft)?),
     }
 }
 
 // The persons.
-fn persons(alloc: Global, draft: Draft<'_>) -> Result<Input, TextFault>
+fn persons(alloc: Global, hash: TextHash, draft: Draft<'_>) -> Result<Input, AllocError>
     requires ready { IsReady Kind.Roommates draft }
     requires known { least (unknown_lines Kind.Roommates (said_of Kind.Roommates draft)) ≡ None }
     ensures sound { IfOk result (λ input. IsInput input) }
     ensures persons { IfOk result (λ input. input ≡ input_of Kind.Roommates
         (said_of Kind.Roommates draft.entry)) }
-    ensures memory { IfErr result (λ f. f ≡ TextFault.OutOfMemory) }
 {
     let persons = numbered_persons(alloc, draft)?;
-    match Persons::build(alloc, persons) {
-        Ok(persons) => Ok(Input::Room(persons)),
-        Err(fault) => Err(want_of_memory(fault)),
-    }
+    Ok(Input::Room(Persons::held(alloc, hash, persons)?))
 }
 
 // The two sides, with their weights and conditions.
-fn two_sides(alloc: Global, kind: Kind, draft: Draft<'_>) -> Result<Input, TextFault>
+fn two_sides(
+    alloc: Global,
+    hash: TextHash,
+    kind: Kind,
+    draft: Draft<'_>,
+) -> Result<Input, AllocError>
     requires two_sided { kind ≢ Kind.Roommates }
     requires ready { IsReady kind draft }
     requires known { least (unknown_lines kind (said_of kind draft)) ≡ None }
     ensures sound { IfOk result (λ input. IsInput input) }
     ensures sides { IfOk result (λ input. input ≡ Two (two_sides kind (said_of kind draft.entry))) }
-    ensures memory { IfErr result (λ f. f ≡ TextFault.OutOfMemory) }
 {
-    let Numbered {
-        proposers,
-        reviewers,
-        weights,
-        forced,
-        forbidden,
-    } = numbered_sides(alloc, draft)?;
-    match Instance::build(
-        alloc, kind, proposers, reviewers, weights, forced, forbidden,
-    ) {
-        Ok(instance) => Ok(Input::Two(instance)),
-        Err(fault) => Err(want_of_memory(fault)),
-    }
-}
-
-// Want of memory, the only fault that is left where the lines were judged and all names are declared.
-fn want_of_memory(fault: InstanceFault) -> TextFault
-    requires { fault ≡ InstanceFault.OutOfMemory }
-    ensures { result ≡ TextFault.OutOfMemory }
-{
-    match fault {
-        InstanceFault::OutOfMemory => TextFault::OutOfMemory,
-        InstanceFault::TooMany
-        | InstanceFault::BadAgent(..)
-        | InstanceFault::BadEntry(..)
-        | InstanceFault::BadPair(_) => unreachable!(),
-    }
+    let sides = numbered_sides(alloc, kind, draft)?;
+    Ok(Input::Two(Instance::held(alloc, hash, sides)?))
 }
