@@ -7,7 +7,7 @@ use Rattle.sm_text.specs.Limits.{most_agents}
 use Rattle.sm_instance.specs.Written.{Written, AgentData, row, entry, place_of, IsAcceptable}
 use Rattle.sm_instance.specs.Sound.{IsInstance}
 use Rattle.sm_instance.specs.Matching.{held, IsAssignment}
-use Rattle.sm_instance.specs.Kept.{cross_place}
+use Rattle.sm_instance.specs.Crosses.{cross_place}
 use Rattle.sm_instance.proofs.PlaceLemmas.{length-row-le-others}
 use Rattle.sm_lists.proofs.PlaceLemmas.{get_or-place_on, place_on-lt}
 

@@ -1,6 +1,7 @@
 -- The first breach of an assignment, and how reviewers stand.
 use Rattle.std.proofs.Common.{◌≡◌, ℕ, zero, suc, ◌+◌, ◌<◌, ◌≤◌, ◌⊎◌, List, Option, Some, None, MatchOption, length, min, max, refl, sym, ap, subst, ◌∙◌, arith, ⊎_elim, inl, inr}
 use Rattle.std.proofs.lemmas.Bool.{cases_lt}
+use Rattle.sm_text.specs.Limits.{most_agents}
 use Rattle.sm_instance.specs.Written.{Written, row, entry, place_of, capacity_of, IsAcceptable}
 use Rattle.sm_instance.specs.Sound.{IsInstance}
 use Rattle.sm_instance.specs.Matching.{held, is_at, load_before, IsAssignment, IsMatching, IsBreach, IsFirstBreach}
@@ -123,7 +124,7 @@ module _ {w : Written} {places : List (Option ℕ)} {r : ℕ} {all : List Naming
   rising_ge zero l = omega arith
   rising_ge (suc e) l = let up = named.rising e (suc e) (omega arith) l in let ge = rising_ge e (omega arith) in omega arith
 
-  pub few_named : (e : ℕ) → e < length all → e < 4096
+  pub few_named : (e : ℕ) → e < length all → e < most_agents
   few_named e l = let ge = rising_ge e l in let lt = row_in_range w.proposers (naming_at all e).by (naming_at all e).place (named.on_list e l) in let few = i.limits.proposers in omega arith
 
   -- the first that finds r full

@@ -2,17 +2,18 @@
 use Rattle.std.proofs.Common.{◌≡◌, ◌≢◌, ℕ, ◌<◌, ◌≤◌, List, Option, Some, None, length, sym, ap, ◌∙◌, arith}
 use Rattle.std.proofs.lemmas.Bool.Decides.{nat_tests}
 use Rattle.sm_lists.proofs.PlaceLemmas.{place_on-le-at, place_on_is, place_on-none, length-le-range}
+use Rattle.sm_text.specs.Limits.{most_agents}
 use Rattle.sm_instance.specs.Written.{AgentData, row, entry, place_of}
 use Rattle.sm_instance.specs.Sound.{AreSoundEntries}
-use Rattle.sm_instance.specs.Kept.{cross_place}
+use Rattle.sm_instance.specs.Crosses.{cross_place}
 
 -- a list has no more entries than there are agents of the other side
 pub length-row-le-others : {agents : List AgentData} {others : ℕ} → AreSoundEntries agents others → (a : ℕ) → length (row agents a) ≤ others
 length-row-le-others {agents} {others} sound a =
     length-le-range (row agents a) others (λ i on. (sound.sound a i on).in_range) (λ i j less on same. (sound.sound a j on).fresh i less same)
 
--- so a list is short, where there are at most 4,096 of them
-pub length-list-le : {agents : List AgentData} {others : ℕ} {list : List ℕ} → AreSoundEntries agents others → others ≤ 4096 → (a : ℕ) → list ≡ row agents a → length list ≤ 4096
+-- so a list is short, where there are few of them
+pub length-list-le : {agents : List AgentData} {others : ℕ} {list : List ℕ} → AreSoundEntries agents others → others ≤ most_agents → (a : ℕ) → list ≡ row agents a → length list ≤ most_agents
 length-list-le sound few a is = let le = length-row-le-others sound a in let long = ap length is in omega arith
 
 -- whoever stands at a place has that place or one before
