@@ -3,8 +3,14 @@
 use std::alloc::{AllocError, Global};
 use std::hash::{FoldHasher, Hasher};
 
-/// The number of slots, a power of two.
-const SLOTS: usize = 32_768;
+/// The binary digits of a slot's number.
+const SLOT_BITS: u32 = 15;
+
+/// The number of slots.
+const SLOTS: usize = 1 << SLOT_BITS;
+
+/// An odd number whose binary digits are as good as random: the golden ratio's (Knuth 1998, volume 3, section 6.4).
+const ODD: u64 = 0x9E37_79B9_7F4A_7C15;
 
 /// The indexes of names that were met of late, which spare most look-ups in a set.
 ///
@@ -43,9 +49,44 @@ impl Recent {
     }
 }
 
-// The slot of a name.
+// The slot of a name: by all its bytes where there are at most eight, and else by a hash of them.
+#[inline(always)]
 fn slot_of(name: &[u8]) -> usize {
+    let word = match name.len() {
+        4..=8 => ends(name),
+        0..=3 => few(name),
+        _ => hash(name),
+    };
+    (word.wrapping_mul(ODD) >> (64 - SLOT_BITS)) as usize
+}
+
+// The first four bytes of a name and its last four, which may overlap.
+#[inline(always)]
+fn ends(name: &[u8]) -> u64 {
+    match (name.first_chunk(), name.last_chunk()) {
+        (Some(first), Some(last)) => {
+            u64::from(u32::from_le_bytes(*first)) << 32 | u64::from(u32::from_le_bytes(*last))
+        }
+        _ => 0,
+    }
+}
+
+// At most three bytes.
+#[inline(always)]
+fn few(name: &[u8]) -> u64 {
+    let word = match name {
+        [first, second, third] => u32::from_le_bytes([*first, *second, *third, 0]),
+        [first, second] => u32::from_le_bytes([*first, *second, 0, 0]),
+        [only] => u32::from(*only),
+        _ => 0,
+    };
+    u64::from(word)
+}
+
+// A hash of all bytes.
+#[inline(never)]
+fn hash(name: &[u8]) -> u64 {
     let mut hasher = FoldHasher::default();
     hasher.write(name);
-    hasher.finish() as usize & (SLOTS - 1)
+    hasher.finish()
 }
