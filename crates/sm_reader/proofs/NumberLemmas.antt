@@ -114,11 +114,11 @@ pairs_below_at n m [] i d inside below = absurd (omega arith)
 pairs_below_at n m (x ∷ pairs) zero d inside below = inside.0
 pairs_below_at n m (x ∷ pairs) (suc i) d inside below = pairs_below_at n m pairs i d inside.1 (omega arith)
 
--- so is the pair of each weight
-pub weights_below_at : (n m : ℕ) (ws : List Weight) (i : ℕ) (d : Weight) → ArePairsBelow n m (pairs_of ws) → i < length ws → IsPairBelow n m (get_or ws i d).pair
-weights_below_at n m [] i d inside below = absurd (omega arith)
-weights_below_at n m (x ∷ ws) zero d inside below = inside.0
-weights_below_at n m (x ∷ ws) (suc i) d inside below = weights_below_at n m ws i d inside.1 (omega arith)
+-- so is the pair of each item
+pub pairs_below_in : {X : Type 0} (f : X → Pair) (n m : ℕ) (items : List X) (i : ℕ) (d : X) → ArePairsBelow n m (map f items) → i < length items → IsPairBelow n m (f (get_or items i d))
+pairs_below_in f n m [] i d inside below = absurd (omega arith)
+pairs_below_in f n m (x ∷ items) zero d inside below = inside.0
+pairs_below_in f n m (x ∷ items) (suc i) d inside below = pairs_below_in f n m items i d inside.1 (omega arith)
 
 -- the lists of persons are numbered among persons, and those of any other kind among reviewers
 pub other_table : (kind : Kind) (pn rn : Table) → kind ≢ Roommates → listed_table kind pn rn ≡ rn

@@ -34,6 +34,35 @@ pub(crate) struct Weight {
     pub(crate) weight: i64,
 }
 
+/// What a line says of a pair.
+pub(crate) trait OfPair: Copy {
+    ghost use Rattle.std.specs.Prelude.{◌≡◌};
+    ghost use Rattle.sm_reader.specs.declared.draft.Pair.{Pair};
+
+    /// The pair.
+    ghost pair_of: { Self → Pair };
+
+    /// The pair.
+    fn pair(self) -> Pair
+        ensures { result ≡ Self.pair_of self };
+}
+
+impl OfPair for Pair {
+    ghost pair_of = { λ pair. pair };
+
+    fn pair(self) -> Pair {
+        self
+    }
+}
+
+impl OfPair for Weight {
+    ghost pair_of = { λ weight. weight.pair };
+
+    fn pair(self) -> Pair {
+        self.pair
+    }
+}
+
 /// What the lines so far say. In roommates the persons stand as proposers.
 #[derive(Drop)]
 pub(crate) struct Draft<'a> {

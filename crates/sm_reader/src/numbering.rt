@@ -8,7 +8,7 @@ ghost use Rattle.sm_reader.specs.Kept.{text_at, AreBelow};
 ghost use Rattle.sm_reader.specs.Draft.{said_of, listed_table, agent_in, pair_in, given_in, AreAgentsBelow, IsPairBelow, ArePairsBelow, pairs_of};
 ghost use Rattle.sm_reader.specs.Numbering.{lesser, line_if, pair_among, weight_among, IsReady, IsTwoSided, NumbersPersons, NumbersSides};
 
-use crate::draft::{Declared, Draft, Pair, Weight};
+use crate::draft::{Declared, Draft, OfPair, Pair, Weight};
 use crate::names::Names;
 use sm_instance::{Agent, Kind, Parts};
 use std::alloc::{AllocError, Global};
@@ -22,7 +22,7 @@ pub(crate) fn first_unknown(kind: Kind, draft: &Draft<'_>) -> Option<u32>
     let reviewers = &draft.reviewer_names;
     let in_lists = first_in_proposers(kind, draft);
     let in_others = first_in_lists(proposers, &draft.reviewers);
-    let in_weights = first_in_weights(proposers, reviewers, &draft.weights);
+    let in_weights = first_in_pairs(proposers, reviewers, &draft.weights);
     let in_forced = first_in_pairs(proposers, reviewers, &draft.forced);
     let in_forbidden = first_in_pairs(proposers, reviewers, &draft.forbidden);
     let of_agents = earlier(in_lists, in_others);
@@ -91,32 +91,20 @@ fn has_unknown(names: &Names<'_>, indexes: &[u32]) -> bool
     false
 }
 
-// The first line of a pair of which one isn't declared.
-fn first_in_pairs(proposers: &Names<'_>, reviewers: &Names<'_>, pairs: &[Pair]) -> Option<u32>
-    requires { ArePairsBelow (length proposers.now.texts) (length reviewers.now.texts) pairs.now }
-    ensures { result ≡ least (pairs_with_unknown proposers.now.declared reviewers.now.declared
-        (map (pair_in proposers.now.texts reviewers.now.texts) pairs.now)) }
-{
-    let mut first = None;
-    'pairs: for pair in pairs {
-        first = earlier(
-            first,
-            line_if(pair.line, is_unknown(proposers, reviewers, *pair)),
-        );
-    }
-    first
-}
-
-// The first line of a weight of whose pair one isn't declared.
-fn first_in_weights(proposers: &Names<'_>, reviewers: &Names<'_>, weights: &[Weight]) -> Option<u32>
+// The first line that says something of a pair of which one isn't declared.
+fn first_in_pairs<X: OfPair>(
+    proposers: &Names<'_>,
+    reviewers: &Names<'_>,
+    items: &[X],
+) -> Option<u32>
     requires { ArePairsBelow (length proposers.now.texts) (length reviewers.now.texts)
-        (pairs_of weights.now) }
+        (map X.pair_of items.now) }
     ensures { result ≡ least (pairs_with_unknown proposers.now.declared reviewers.now.declared
-        (map (pair_in proposers.now.texts reviewers.now.texts) (pairs_of weights.now))) }
+        (map (pair_in proposers.now.texts reviewers.now.texts) (map X.pair_of items.now))) }
 {
     let mut first = None;
-    'weights: for weight in weights {
-        let pair = weight.pair;
+    'items: for item in items {
+        let pair = item.pair();
         first = earlier(
             first,
             line_if(pair.line, is_unknown(proposers, reviewers, pair)),

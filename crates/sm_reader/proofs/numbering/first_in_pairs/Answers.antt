@@ -1,35 +1,45 @@
-use Rattle.std.proofs.Common.{ap, ◌∙◌, ◌||◌, sym, length, map, take, get_or}
+use Rattle.std.proofs.Common.{◌≡◌, ◌++◌, ◌∷◌, [], ap, ◌∙◌, ◌||◌, sym, subst, length, map, take, get_or, List}
+use Rattle.std.proofs.lemmas.List.{map_push}
 use Rattle.sm_instance.specs.Named.{SaidPair}
 use Rattle.sm_reader.specs.InstanceText.{is_unknown, pairs_with_unknown, least}
-use Rattle.sm_reader.specs.Draft.{pair_in}
+use Rattle.sm_reader.specs.Draft.{pair_in, IsPairBelow}
 use Rattle.sm_reader.specs.Numbering.{lesser, line_if}
 use Rattle.sm_reader.specs.declared.draft.Pair.{Pair}
-use Rattle.sm_reader.proofs.NumberLemmas.{front_more, front_all, least_more, pairs_below_at}
+use Rattle.sm_reader.proofs.NumberLemmas.{front_more, front_all, least_more, pairs_below_in}
 use Rattle.sm_reader.proofs.numbering.first_in_pairs.Goals as goal
 
 pub is_unknown-requires : goal.is_unknown-requires
-is_unknown-requires c =
-    let d : Pair = record { proposer = 0; reviewer = 0; line = 0 } in
-    pairs_below_at (length c.args.proposers.now.texts) (length c.args.reviewers.now.texts) c.args.pairs.now c.pairs.pair-index d c.requires c.pairs-test.true
+is_unknown-requires g c =
+    let of = g.X.OfPair.pair_of in
+    let x = c.item-item.result in
+    let is : c.pair-pair.result ≡ of (get_or c.args.items.now c.items.item-index x) = c.pair-pair.ensures ∙ ap of c.item-item.is in
+    subst (IsPairBelow (length c.args.proposers.now.texts) (length c.args.reviewers.now.texts)) (sym is)
+    (pairs_below_in of (length c.args.proposers.now.texts) (length c.args.reviewers.now.texts) c.args.items.now c.items.item-index x c.requires c.items-test.true)
 
-pub pairs-preserved : goal.pairs-preserved
-pairs-preserved c =
-    let d : Pair = record { proposer = 0; reviewer = 0; line = 0 } in
+pub items-preserved : goal.items-preserved
+items-preserved g c =
+    let of = g.X.OfPair.pair_of in
+    let x = c.item-item.result in
     let p = c.args.proposers.now in
     let r = c.args.reviewers.now in
-    let pairs = c.args.pairs.now in
-    let i = c.pairs.pair-index in
+    let items = c.args.items.now in
+    let i = c.items.item-index in
+    let pair : Pair = c.pair-pair.result in
+    let is : pair ≡ of (get_or items i x) = c.pair-pair.ensures ∙ ap of c.item-item.is in
+    let front : List Pair = map of (take i items) in
     let mark = λ (x : SaidPair). is_unknown p.declared x.proposer || is_unknown r.declared x.reviewer in
     let line = λ (x : SaidPair). x.line in
     c.earlier-first.ensures
-    ∙ ap (λ o. lesser o c.line_if.result) c.pairs.invariant
-    ∙ ap (lesser (least (pairs_with_unknown p.declared r.declared (map (pair_in p.texts r.texts) (take i pairs)))))
-    (c.line_if.ensures ∙ ap (λ b. line_if b (get_or pairs i d).line) c.is_unknown.ensures)
-    ∙ sym (least_more mark line (map (pair_in p.texts r.texts) (take i pairs)) (pair_in p.texts r.texts (get_or pairs i d)))
-    ∙ ap (λ xs. least (pairs_with_unknown p.declared r.declared xs)) (sym (front_more (pair_in p.texts r.texts) pairs i d c.pairs-test.true))
+    ∙ ap (λ o. lesser o c.line_if.result) c.items.invariant
+    ∙ ap (lesser (least (pairs_with_unknown p.declared r.declared (map (pair_in p.texts r.texts) front))))
+    (c.line_if.ensures ∙ ap (λ b. line_if b pair.line) c.is_unknown.ensures)
+    ∙ sym (least_more mark line (map (pair_in p.texts r.texts) front) (pair_in p.texts r.texts pair))
+    ∙ ap (λ xs. least (pairs_with_unknown p.declared r.declared xs)) (sym (map_push (pair_in p.texts r.texts) front pair))
+    ∙ ap (λ xs. least (pairs_with_unknown p.declared r.declared (map (pair_in p.texts r.texts) xs)))
+    (ap (λ y. front ++ y ∷ []) is ∙ sym (front_more of items i x c.items-test.true))
 
 pub returns : goal.returns
-returns c =
+returns g c =
     let p = c.args.proposers.now in
     let r = c.args.reviewers.now in
-    c.pairs.invariant ∙ ap (λ xs. least (pairs_with_unknown p.declared r.declared xs)) (front_all (pair_in p.texts r.texts) c.args.pairs.now c.pairs.pair-index c.pairs-test.false)
+    c.items.invariant ∙ ap (λ xs. least (pairs_with_unknown p.declared r.declared (map (pair_in p.texts r.texts) xs))) (front_all g.X.OfPair.pair_of c.args.items.now c.items.item-index c.items-test.false)

@@ -4,6 +4,6 @@ use Rattle.sm_reader.specs.Draft.{pair_in}
 use Rattle.sm_reader.proofs.numbering.first_in_pairs.Given as goal
 
 -- the first line so far
-abbrev pub invariant-pairs : goal.invariant-pairs
-invariant-pairs l = l.first ≡ least (pairs_with_unknown l.proposers.declared l.reviewers.declared
-    (map (pair_in l.proposers.texts l.reviewers.texts) (take l.pair-index l.pairs)))
+abbrev pub invariant-items : goal.invariant-items
+invariant-items g l = l.first ≡ least (pairs_with_unknown l.proposers.declared l.reviewers.declared
+    (map (pair_in l.proposers.texts l.reviewers.texts) (map g.X.OfPair.pair_of (take l.item-index l.items))))

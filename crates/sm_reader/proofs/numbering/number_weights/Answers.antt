@@ -5,18 +5,18 @@ use Rattle.sm_reader.specs.Kept.{text_at}
 use Rattle.sm_reader.specs.Draft.{given_in}
 use Rattle.sm_reader.specs.Numbering.{weight_among}
 use Rattle.sm_reader.specs.declared.draft.Weight.{Weight}
-use Rattle.sm_reader.proofs.NumberLemmas.{front_more, front_all, weights_below_at}
+use Rattle.sm_reader.proofs.NumberLemmas.{front_more, front_all, pairs_below_in}
 use Rattle.sm_reader.proofs.numbering.number_weights.Goals as goal
 
 pub number-proposer-requires-clause-in_range : goal.number-proposer-requires-clause-in_range
 number-proposer-requires-clause-in_range c =
     let d : Weight = record { pair = record { proposer = 0; reviewer = 0; line = 0 }; weight = pos 0 } in
-    (weights_below_at (length c.args.proposers.now.texts) (length c.args.reviewers.now.texts) c.args.weights.now c.weights.weight-index d c.requires.in_range c.weights-test.true).proposer
+    (pairs_below_in (λ (w : Weight). w.pair) (length c.args.proposers.now.texts) (length c.args.reviewers.now.texts) c.args.weights.now c.weights.weight-index d c.requires.in_range c.weights-test.true).proposer
 
 pub number-reviewer-requires-clause-in_range : goal.number-reviewer-requires-clause-in_range
 number-reviewer-requires-clause-in_range c =
     let d : Weight = record { pair = record { proposer = 0; reviewer = 0; line = 0 }; weight = pos 0 } in
-    (weights_below_at (length c.args.proposers.now.texts) (length c.args.reviewers.now.texts) c.args.weights.now c.weights.weight-index d c.requires.in_range c.weights-test.true).reviewer
+    (pairs_below_in (λ (w : Weight). w.pair) (length c.args.proposers.now.texts) (length c.args.reviewers.now.texts) c.args.weights.now c.weights.weight-index d c.requires.in_range c.weights-test.true).reviewer
 
 pub weights-preserved : goal.weights-preserved
 weights-preserved c =
