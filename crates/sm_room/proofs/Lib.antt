@@ -1,0 +1,16 @@
+pub mod TableCore
+pub mod PhaseOneCore
+pub mod PhaseTwoCore
+pub mod EndCore
+pub mod CycleCore
+pub mod TableLemmas
+pub mod LeftLemmas
+pub mod ProgressLemmas
+pub mod FromLemmas
+pub mod WalkLemmas
+pub mod RotateLemmas
+pub mod TailCore
+pub mod EntryLemmas
+pub mod PairLemmas
+pub mod PartyLemmas
+pub mod PartySteps

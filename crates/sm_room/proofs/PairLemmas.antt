@@ -1,0 +1,166 @@
+-- Pairing the persons of each party alternately.
+use Rattle.std.proofs.Common.{◌≡◌, ◌≢◌, ℕ, zero, suc, ◌+◌, ◌-◌, ◌*◌, ◌<◌, ◌≤◌, ◌⊎◌, inl, inr, arith, refl, sym, ap, ◌∙◌, List, length, Option, Some, None}
+use Rattle.sm_lists.proofs.Counting.{eq_or_ne, less_same_more}
+use Rattle.sm_theory.specs.Rooms.{mate_of}
+use Rattle.sm_theory.specs.Partitions.{successor_in, after, IsInOddParty, IsLowestOfOdd, PairsAlternately}
+use Rattle.sm_theory.proofs.RoomSpots.{after_plus}
+use Rattle.sm_room.specs.Pairing.{IsPaired, ArePaired, IsPartyPaired}
+use Rattle.sm_room.specs.Parties.{IsLeftOut}
+
+none_some : {x : ℕ} → ◌≡◌ {A = Option ℕ} None (Some x) → ⊥
+none_some e = grind arith
+
+paired_not : {next : List ℕ} {mates : List (Option ℕ)} {u : ℕ} → IsPaired next mates u → mate_of mates u ≡ None → ⊥
+paired_not w e = none_some (sym e ∙ w.is)
+
+-- sizes that are first returns are the same
+one_size : (next : List ℕ) (x m n : ℕ) → 0 < m → 0 < n → after next x m ≡ x → after next x n ≡ x → ((i : ℕ) → 0 < i → i < m → after next x i ≢ x) → ((i : ℕ) → 0 < i → i < n → after next x i ≢ x) → m ≡ n
+one_size next x m n a b e f g h = elim (less_same_more m n) [
+  | inl l ↦ absurd (h m a l e)
+  | inr d ↦ elim d [ inl l ↦ l | inr l ↦ absurd (g n b l f) ]
+]
+
+module _ {rows : List (List ℕ)} {next : List ℕ} {x : ℕ} {old now : List (Option ℕ)} (g : ArePaired rows next x old) (w : IsPartyPaired rows next old x now) where
+  -- any number of steps is some number below the size
+  record Within (k : ℕ) : Type 0 where
+    to : ℕ
+    below : to < w.size
+    is : after next x k ≡ after next x to
+
+  within : (k : ℕ) → Within k
+  within zero = record { to = 0; below = w.some; is = refl }
+  within (suc k) =
+      let v = within k in
+      elim (eq_or_ne (suc v.to) w.size) [
+        | inl e ↦ record { to = 0; below = w.some; is = ap (successor_in next) v.is ∙ ap (after next x) e ∙ w.returns }
+        | inr e ↦ record { to = suc v.to; below = omega (arith, v.below, e); is = ap (successor_in next) v.is }
+      ]
+
+  low : (k : ℕ) → x ≤ after next x k
+  low k = let v = within k in omega (arith, v.is, w.above v.to v.below)
+
+  was_none : (u : ℕ) → mate_of now u ≡ None → mate_of old u ≡ None
+  was_none u e = elim (w.same u) [
+    | inl s ↦ sym s ∙ e
+    | inr v ↦ absurd (paired_not v.3 e)
+  ]
+
+  sound : (u v : ℕ) → mate_of now u ≡ Some v → IsPaired next now u
+  sound u v e = elim (w.same u) [
+    | inr s ↦ s.3
+    | inl s ↦
+        let k = g.sound u v (sym s ∙ e) in
+        elim (w.same k.mate) [
+          | inl t ↦ record { mate = k.mate; is = s ∙ k.is; back = t ∙ k.back; apart = k.apart; near = k.near }
+          | inr t ↦ absurd (none_some (sym (w.fresh t.0 t.1) ∙ ap (mate_of old) t.2 ∙ k.back))
+        ]
+  ]
+
+  untouched : (u : ℕ) → u < length rows → x + 1 ≤ successor_in next u → mate_of now (successor_in next u) ≡ None → (x + 1 ≤ u) × (mate_of now u ≡ None)
+  untouched u h more e =
+      let k = g.untouched u h (omega (arith, more)) (was_none (successor_in next u) e) in
+      elim (eq_or_ne u x) [
+        | inl d ↦ absurd (at_lead d)
+        | inr d ↦ (
+          omega (arith, k.0, d),
+          elim (w.same u) [
+            | inl s ↦ s ∙ k.1
+            | inr v ↦ absurd (member v.0 v.1 v.2)
+          ],
+        )
+      ]
+    where
+      member : (i : ℕ) → i < w.size → after next x i ≡ u → ⊥
+      member i l d = elim (eq_or_ne (suc i) w.size) [
+        | inl f ↦ let s : successor_in next u ≡ x = ap (successor_in next) (sym d) ∙ ap (after next x) f ∙ w.returns in omega (arith, s, more)
+        | inr f ↦ paired_not (w.paired (suc i) (omega arith) (omega (arith, l, f))) (ap (λ z. mate_of now (successor_in next z)) d ∙ e)
+      ]
+
+      at_lead : u ≡ x → ⊥
+      at_lead d = member 0 w.some (sym d)
+
+  odd_lead : IsInOddParty rows next x → IsPaired next now x → ⊥
+  odd_lead o p = elim w.lead [
+    | inl v ↦ omega (arith, one_size next x w.size (2 * o.half + 1) w.some (omega arith) w.returns o.returns w.apart o.first, v.0)
+    | inr v ↦ paired_not p v.1
+  ]
+
+  left_out : (u : ℕ) → IsLowestOfOdd rows next u → mate_of now u ≡ None
+  left_out u o = elim (w.same u) [
+    | inl s ↦ s ∙ g.left_out u o
+    | inr v ↦
+        let rest : ℕ = w.size - v.0 in
+        let sum : rest + v.0 ≡ w.size = omega (arith, v.1) in
+        let back : after next u rest ≡ x = ap (λ z. after next z rest) (sym v.2) ∙ after_plus next x rest v.0 ∙ ap (after next x) sum ∙ w.returns in
+        let le = o.lowest rest in
+        let ge = w.above v.0 v.1 in
+        let e : u ≡ x = omega (arith, le, back, ge, v.2) in
+        let ox : IsInOddParty rows next x = rw e at o.odd in
+        let px : IsPaired next now x = rw e at v.3 in
+        absurd (odd_lead ox px)
+  ]
+
+  others : (inside : x < length rows) → (u : ℕ) → u < x + 1 → mate_of now u ≡ None → (successor_in next u ≡ u) ⊎ IsLowestOfOdd rows next u
+  others inside u h e = elim (eq_or_ne u x) [
+    | inr d ↦ g.others u (omega (arith, h, d)) (was_none u e)
+    | inl d ↦ rw d (at_x (rw d at e))
+  ]
+    where
+      at_x : mate_of now x ≡ None → (successor_in next x ≡ x) ⊎ IsLowestOfOdd rows next x
+      at_x f = elim w.lead [
+        | inl v ↦ absurd (paired_not v.1 f)
+        | inr v ↦ elim (eq_or_ne w.half 0) [
+          | inl z ↦ let one : w.size ≡ 1 = omega (arith, v.0, z) in inl (ap (after next x) (sym one) ∙ w.returns)
+          | inr z ↦ inr (record {
+            odd = record {
+              in_range = inside;
+              half = w.half;
+              three = omega (arith, z);
+              returns = ap (after next x) (sym v.0) ∙ w.returns;
+              first = λ k a b. w.apart k a (omega (arith, b, v.0));
+            };
+            lowest = low;
+          })
+        ]
+      ]
+
+  pub pairs_step : x < length rows → ArePaired rows next (x + 1) now
+  pairs_step inside = record { one_each = w.one_each; sound = sound; untouched = untouched; left_out = left_out; others = others inside }
+
+-- whoever has a mate already is passed
+pub pairs_pass : {rows : List (List ℕ)} {next : List ℕ} {x : ℕ} {mates : List (Option ℕ)} → ArePaired rows next x mates → (mate_of mates x ≡ None → ⊥) → ArePaired rows next (x + 1) mates
+pairs_pass {rows} {next} {x} {mates} g some = record {
+  one_each = g.one_each;
+  sound = g.sound;
+  untouched = λ u h more e.
+      let k = g.untouched u h (omega (arith, more)) e in
+      elim (eq_or_ne u x) [
+        | inl d ↦ absurd (some (ap (mate_of mates) (sym d) ∙ k.1))
+        | inr d ↦ (omega (arith, k.0, d), k.1)
+      ];
+  left_out = g.left_out;
+  others = λ u h e. elim (eq_or_ne u x) [
+    | inl d ↦ absurd (some (ap (mate_of mates) (sym d) ∙ e))
+    | inr d ↦ g.others u (omega (arith, h, d)) e
+  ];
+}
+
+pub pairs_end : {rows : List (List ℕ)} {next : List ℕ} {x : ℕ} {mates : List (Option ℕ)} → ArePaired rows next x mates → x ≡ length rows → PairsAlternately rows next mates
+pairs_end {rows} {next} {x} {mates} g full = record {
+  one_each = g.one_each;
+  neighbours = λ u v e. let k = g.sound u v e in let d : k.mate ≡ v = some_same (sym k.is ∙ e) in (rw d at k.apart, rw d at k.near);
+  in_turn = λ u v e. let k = g.sound u v e in let d : k.mate ≡ v = some_same (sym k.is ∙ e) in rw d at k.back;
+  left_out = g.left_out;
+  others = λ u h e. g.others u (omega (arith, h, full)) e;
+}
+  where
+    some_same : {a b : ℕ} → Some a ≡ Some b → a ≡ b
+    some_same e = cc
+
+-- who isn't alone and has no mate is the lowest of an odd party
+pub left_out_is : {rows : List (List ℕ)} {next : List ℕ} {mates : List (Option ℕ)} → length next ≡ length rows → PairsAlternately rows next mates
+    → (x : ℕ) → (IsLeftOut next mates x → IsLowestOfOdd rows next x) × (IsLowestOfOdd rows next x → IsLeftOut next mates x)
+left_out_is {rows} {next} {mates} long p x = (
+  λ l. elim (p.others x (omega (arith, l.inside, long)) l.none) [ inl e ↦ absurd (l.apart e) | inr o ↦ o ],
+  λ o. record { inside = omega (arith, o.odd.in_range, long); apart = λ e. o.odd.first 1 (omega arith) (omega (arith, o.odd.three)) e; none = p.left_out x o },
+)

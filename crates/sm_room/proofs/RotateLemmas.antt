@@ -1,0 +1,197 @@
+-- The cuts round a cycle, and what stays short.
+use Rattle.std.proofs.Common.{◌≡◌, ℕ, zero, suc, ◌+◌, ◌-◌, ◌<◌, ◌≤◌, ◌⊎◌, ◌∷◌, [], inl, inr, arith, refl, sym, ◌∙◌, List, length, get_or, set}
+use Rattle.std.proofs.lemmas.List.{get_or-set_same, get_or-set_other, length-set}
+use Rattle.std.proofs.lemmas.List.Sums.{sum_by-cons}
+use Rattle.std.specs.List.{sum_by}
+use Rattle.sm_lists.specs.Rows.{entry, place_of}
+use Rattle.sm_lists.proofs.Counting.{lt_or_le, eq_or_ne}
+use Rattle.sm_room.specs.Bounds.{IsLeft, IsLast, IsSecond, IsNext, IsGoodAt, bound_in}
+use Rattle.sm_room.specs.Rotating.{IsSecondPlace, HasThreeLeft, IsShort, IsClosed, IsCutBy, AreCut, IsRotated, GoesTo}
+use Rattle.sm_theory.specs.Partitions.{IsStablePartition}
+use Rattle.sm_room.proofs.EndCore.{partition_at_end}
+use Rattle.sm_room.proofs.TableCore.{one_final, one_second, has_first, has_second, inside_rows, turn}
+use Rattle.sm_room.proofs.PhaseTwoCore.{Cuts, Two, Round, second_before_last, less, good_again}
+use Rattle.sm_room.proofs.CycleCore.{Walk, On, round_of_walk, none_has_two}
+
+-- who is short stays so while bounds fall
+pub short_kept : {rows : List (List ℕ)} {x : ℕ} (old now : List ℕ) → ((y : ℕ) → get_or now y 0 ≤ get_or old y 0) → IsShort rows old x → IsShort rows now x
+short_kept {rows} {x} old now lower h = record {
+  each = λ y l. elim (h.each y (back x y l)) [
+    | inl f ↦ inl (record { left = l; least = λ z k. f.least z (back x z k) })
+    | inr f ↦ inr (record { left = l; at = omega (arith, f.at, l.here, lower x) })
+  ];
+}
+  where
+    back : (u v : ℕ) → IsLeft rows (bound_in now) u v → IsLeft rows (bound_in old) u v
+    back u v l = record { acc = l.acc; here = omega (arith, l.here, lower u); there = omega (arith, l.there, lower v) }
+
+-- no second, or a second that is the last
+pub short_none : {rows : List (List ℕ)} (bounds : List ℕ) (x : ℕ) → ((y : ℕ) → IsSecond rows (bound_in bounds) x y → ⊥) → IsShort rows bounds x
+short_none {rows} bounds x none = record {
+  each = λ y l.
+      let f = has_first l in
+      elim (lt_or_le (place_of rows x f.front) (place_of rows x y)) [
+        | inl less ↦ let s = has_second f.first l less in absurd (none s.next s.second)
+        | inr le ↦ inl (record { left = l; least = λ z k. omega (arith, f.first.least z k, le) })
+      ];
+}
+
+pub short_two : {rows : List (List ℕ)} {bounds : List ℕ} {x place : ℕ} → IsSecondPlace rows bounds x place → get_or bounds x 0 ≤ place → IsShort rows bounds x
+short_two {rows} {bounds} {x} {place} g le = record {
+  each = λ y l. elim (lt_or_le (place_of rows x g.second.front) (place_of rows x y)) [
+    | inl more ↦ inr (record { left = l; at = omega (arith, g.second.least y l more, g.at, le, l.here) })
+    | inr le ↦ inl (record { left = l; least = λ z k. omega (arith, g.second.first.least z k, le) })
+  ];
+}
+
+-- one list is nowhere above the other, and somewhere below it
+sum_le : (xs ys : List ℕ) → length xs ≡ length ys → ((i : ℕ) → get_or xs i 0 ≤ get_or ys i 0) → sum_by (λ i. i) xs ≤ sum_by (λ i. i) ys
+sum_le [] ys long le = omega arith
+sum_le (x ∷ xs) [] long le = absurd (omega arith)
+sum_le (x ∷ xs) (y ∷ ys) long le =
+    let first : x ≤ y = le 0 in
+    let rest = sum_le xs ys (omega arith) (λ i. le (suc i)) in
+    omega (arith, sum_by-cons (λ (i : ℕ). i) x xs, sum_by-cons (λ (i : ℕ). i) y ys)
+
+sum_lt : (xs ys : List ℕ) (k : ℕ) → length xs ≡ length ys → ((i : ℕ) → get_or xs i 0 ≤ get_or ys i 0) → k < length xs → get_or xs k 0 < get_or ys k 0 → sum_by (λ i. i) xs < sum_by (λ i. i) ys
+sum_lt [] ys k long le h lt = absurd (omega arith)
+sum_lt (x ∷ xs) [] k long le h lt = absurd (omega arith)
+sum_lt (x ∷ xs) (y ∷ ys) zero long le h lt =
+    let first : x < y = lt in
+    let rest = sum_le xs ys (omega arith) (λ i. le (suc i)) in
+    omega (arith, sum_by-cons (λ (i : ℕ). i) x xs, sum_by-cons (λ (i : ℕ). i) y ys)
+sum_lt (x ∷ xs) (y ∷ ys) (suc k) long le h lt =
+    let first : x ≤ y = le 0 in
+    let rest = sum_lt xs ys k (omega arith) (λ i. le (suc i)) (omega arith) lt in
+    omega (arith, sum_by-cons (λ (i : ℕ). i) x xs, sum_by-cons (λ (i : ℕ). i) y ys)
+
+module _ {rows : List (List ℕ)} {bounds : List ℕ} {start : ℕ} {path places : List ℕ} {one : ℕ} (closed : IsClosed rows bounds start path places one) where
+  abbrev p : ℕ → ℕ
+  p i = get_or path i 0
+
+  -- who comes next at an index of the cycle, and at which index
+  pub record NextOn (i : ℕ) : Type 0 where
+    pub at : ℕ
+    pub next : IsNext rows (bound_in bounds) (get_or path i 0) (get_or path at 0)
+    pub inside : at < length path
+    pub which : ((suc i < length path) × (at ≡ suc i)) ⊎ ((length path ≤ suc i) × (at ≡ one))
+
+  next_on : (i : ℕ) → i < length path → NextOn i
+  next_on i h = elim (lt_or_le (suc i) (length path)) [
+    | inl l ↦ record { at = suc i; next = closed.steps i l; inside = l; which = inl (l, refl) }
+    | inr l ↦
+        let e : length path - 1 ≡ i = omega (arith, l, h) in
+        let n : IsNext rows (bound_in bounds) (p i) (p one) = rw e at closed.closes in
+        record { at = one; next = n; inside = closed.order; which = inr (l, refl) }
+  ]
+
+  -- two persons of the cycle have different seconds
+  seconds_apart : (i j y : ℕ) → one ≤ i → i < j → j < length path → IsSecond rows (bound_in bounds) (p i) y → IsSecond rows (bound_in bounds) (p j) y → ⊥
+  seconds_apart i j y late l h f g =
+      let a = next_on i (omega (arith, l, h)) in
+      let b = next_on j h in
+      let fa : IsLast rows (bound_in bounds) y (p a.at) = let e = one_second a.next.second f in rw e at a.next.final in
+      let fb : IsLast rows (bound_in bounds) y (p b.at) = let e = one_second b.next.second g in rw e at b.next.final in
+      let same : p a.at ≡ p b.at = one_final fa fb in
+      elim a.which [
+        | inr w ↦ omega (arith, w.0, l, h)
+        | inl w ↦ elim b.which [
+          | inl v ↦ closed.distinct a.at b.at (omega (arith, w.1, v.1, l)) b.inside same
+          | inr v ↦ closed.distinct b.at a.at (omega (arith, w.1, v.1, late)) a.inside (sym same)
+        ]
+      ]
+
+  pub cut_step : {i : ℕ} {now : List ℕ} (y v : ℕ) → AreCut rows bounds path one i now → one ≤ i → i < length path → length bounds ≡ length rows
+      → y ≡ entry rows (p i) (get_or places i 0) → v ≡ place_of rows y (p i) → AreCut rows bounds path one (i + 1) (set now y v)
+  cut_step {i} {now} y v g late h long is to = record { one_each = length-set now y v ∙ g.one_each; cut = cut; other = other }
+    where
+      second : IsSecond rows (bound_in bounds) (p i) y
+      second = rw is (closed.seconds i h).second
+
+      there : y < length now
+      there = omega (arith, g.one_each, long, inside_rows rows y (p i) (turn rows (p i) y second.left.acc))
+
+      cut : (j z : ℕ) → one ≤ j → j < i + 1 → IsSecond rows (bound_in bounds) (p j) z → get_or (set now y v) z 0 ≡ place_of rows z (p j)
+      cut j z a l f = elim (eq_or_ne j i) [
+        | inl e ↦
+            let k : IsSecond rows (bound_in bounds) (p i) z = rw e at f in
+            let d : z ≡ y = one_second k second in
+            rw (e, d) (get_or-set_same now y v 0 there ∙ to)
+        | inr ne ↦ elim (eq_or_ne z y) [
+          | inl d ↦ let k : IsSecond rows (bound_in bounds) (p j) y = rw d at f in absurd (seconds_apart j i y a (omega (arith, l, ne)) h k second)
+          | inr d ↦ get_or-set_other now y z v 0 d ∙ g.cut j z a (omega (arith, l, ne)) f
+        ]
+      ]
+
+      other : (z : ℕ) → IsCutBy rows bounds path one (i + 1) (set now y v) z ⊎ (get_or (set now y v) z 0 ≡ get_or bounds z 0)
+      other z = elim (eq_or_ne z y) [
+        | inl d ↦ rw d (inl (record { at = i; late = late; early = omega arith; second = second; bound = get_or-set_same now y v 0 there ∙ to }))
+        | inr d ↦ elim (g.other z) [
+          | inl w ↦ inl (record { at = w.at; late = w.late; early = omega (arith, w.early); second = w.second; bound = get_or-set_other now y z v 0 d ∙ w.bound })
+          | inr e ↦ inr (get_or-set_other now y z v 0 d ∙ e)
+        ]
+      ]
+
+  abbrev end : ℕ
+  end = length path - 1
+
+  walk_of : Walk rows (bound_in bounds) (λ i. get_or path i 0) one end
+  walk_of = record {
+    order = omega (arith, closed.order);
+    steps = λ i h. closed.steps i (omega (arith, h));
+    closes = closed.closes;
+  }
+
+  pub cut_end : {i : ℕ} {now : List ℕ} → IsGoodAt rows (bound_in bounds) → HasThreeLeft rows bounds start → length bounds ≡ length rows → AreCut rows bounds path one i now → i ≡ length path
+      → IsRotated rows bounds now
+  cut_end {i} {now} good three long g full = record {
+    one_each = g.one_each;
+    good = good_again good round cuts none;
+    lower = lower;
+    falls = sum_lt now bounds z g.one_each lower z_there falls;
+  }
+    where
+      C : ℕ → Type 0
+      C = On (λ i. get_or path i 0) one end
+
+      round : Round rows (bound_in bounds) C
+      round = round_of_walk walk_of
+
+      cuts : Cuts rows (bound_in bounds) (bound_in now) C
+      cuts = record {
+        cut = λ x y k f.
+            let f' : IsSecond rows (bound_in bounds) (p k.at) y = rw (sym k.is) at f in
+            let e = g.cut k.at y k.late (omega (arith, k.early, full, closed.order)) f' in
+            rw k.is at e;
+        other = λ y. elim (g.other y) [
+          | inl w ↦ inl (record { by = p w.at; here = record { at = w.at; late = w.late; early = omega (arith, w.early, full); is = refl }; second = w.second; bound = w.bound })
+          | inr e ↦ inr e
+        ];
+      }
+
+      first : IsSecond rows (bound_in bounds) (p 0) three.next
+      first = rw closed.starts three.second
+
+      none : (u w : ℕ) → Two rows (bound_in bounds) C u w → ⊥
+      none = none_has_two walk_of good three.next first (rw closed.starts three.more)
+
+      lower : (y : ℕ) → get_or now y 0 ≤ get_or bounds y 0
+      lower = less good round cuts none
+
+      z : ℕ
+      z = entry rows (p one) (get_or places one 0)
+
+      second : IsSecond rows (bound_in bounds) (p one) z
+      second = (closed.seconds one closed.order).second
+
+      z_there : z < length now
+      z_there = omega (arith, g.one_each, long, inside_rows rows z (p one) (turn rows (p one) z second.left.acc))
+
+      falls : get_or now z 0 < get_or bounds z 0
+      falls = omega (arith, g.cut one z (omega arith) (omega (arith, closed.order, full)) second, second_before_last good (p one) z second)
+
+-- where all are short, the firsts make a stable partition
+pub partition_of_short : {rows : List (List ℕ)} {next : List ℕ} (bounds : List ℕ) → IsGoodAt rows (bound_in bounds) → ((x : ℕ) → x < length rows → IsShort rows bounds x) → length next ≡ length rows
+    → ((x : ℕ) → x < length rows → GoesTo rows (bound_in bounds) next x) → IsStablePartition rows next
+partition_of_short {rows} {next} bounds good short long goes =
+    partition_at_end rows (bound_in bounds) next good long goes (λ x y l. (short x (inside_rows rows x y l.acc)).each y l)

@@ -1,0 +1,88 @@
+-- One step of phase two: the walk from a person with three or more left, and the cuts round the cycle that it closes.
+use Rattle.std.specs.Prelude.{◌≡◌, ◌≢◌, ℕ, suc, ◌+◌, ◌-◌, ◌<◌, ◌≤◌, ◌⊎◌, ◌++◌, ◌∷◌, [], List, length, slice_index}
+use Rattle.std.specs.List.{sum_by}
+use Rattle.sm_lists.specs.Rows.{row, entry, place_of}
+use Rattle.sm_theory.specs.Partitions.{successor_in}
+use Rattle.sm_room.specs.Bounds.{IsLeft, IsFirst, IsLast, IsSecond, IsNext, IsGoodAt, bound_in}
+
+-- the first place from some place on whose entry is left
+pub record IsLeftFrom (rows : List (List ℕ)) (bounds : List ℕ) (x from i : ℕ) : Type 0 where
+  pub behind : from ≤ i
+  pub on_list : i < length (row rows x)
+  pub left : IsLeft rows (bound_in bounds) x (entry rows x i)
+  pub least : (y : ℕ) → IsLeft rows (bound_in bounds) x y → from ≤ place_of rows x y → i ≤ place_of rows x y
+
+-- the place of the second that is left
+pub record IsSecondPlace (rows : List (List ℕ)) (bounds : List ℕ) (x i : ℕ) : Type 0 where
+  pub on_list : i < length (row rows x)
+  pub at : place_of rows x (entry rows x i) ≡ i
+  pub second : IsSecond rows (bound_in bounds) x (entry rows x i)
+
+-- two or more are left
+pub record HasTwoLeft (rows : List (List ℕ)) (bounds : List ℕ) (x : ℕ) : Type 0 where
+  pub next : ℕ
+  pub second : IsSecond rows (bound_in bounds) x next
+
+-- three or more are left
+pub record HasThreeLeft (rows : List (List ℕ)) (bounds : List ℕ) (x : ℕ) : Type 0 where
+  pub next : ℕ
+  pub second : IsSecond rows (bound_in bounds) x next
+  pub more : place_of rows x next < slice_index bounds x
+
+-- each that is left is the first or the last
+pub record IsShort (rows : List (List ℕ)) (bounds : List ℕ) (x : ℕ) : Type 0 where
+  pub each : (y : ℕ) → IsLeft rows (bound_in bounds) x y → IsFirst rows (bound_in bounds) x y ⊎ IsLast rows (bound_in bounds) x y
+
+-- the walk so far, with the person that comes next
+abbrev pub met : List ℕ → ℕ → ℕ → ℕ
+met path x i = slice_index (path ++ x ∷ []) i
+
+-- A walk from `start` over `path` to x, with the place of the second of each. A mark is one more than the index on the path,
+-- or 0.
+pub record IsWalk (rows : List (List ℕ)) (bounds : List ℕ) (start : ℕ) (path places marks : List ℕ) (x : ℕ) : Type 0 where
+  pub starts : met path x 0 ≡ start
+  pub steps : (i : ℕ) → i < length path → IsNext rows (bound_in bounds) (met path x i) (met path x (suc i))
+  pub place_each : length places ≡ length path
+  pub seconds : (i : ℕ) → i < length path → IsSecondPlace rows bounds (slice_index path i) (slice_index places i)
+  pub inside : (i : ℕ) → i < length path → slice_index path i < length rows
+  pub mark_each : length marks ≡ length rows
+  pub index : (i : ℕ) → i < length path → slice_index marks (slice_index path i) ≡ i + 1
+  pub marked : (z : ℕ) → slice_index marks z ≢ 0 → (slice_index marks z ≤ length path) × (slice_index path (slice_index marks z - 1) ≡ z)
+  pub here : x < length rows
+  pub goes : HasTwoLeft rows bounds x
+
+-- the walk has come back to its index `one`
+pub record IsClosed (rows : List (List ℕ)) (bounds : List ℕ) (start : ℕ) (path places : List ℕ) (one : ℕ) : Type 0 where
+  pub order : one < length path
+  pub starts : slice_index path 0 ≡ start
+  pub steps : (i : ℕ) → suc i < length path → IsNext rows (bound_in bounds) (slice_index path i) (slice_index path (suc i))
+  pub closes : IsNext rows (bound_in bounds) (slice_index path (length path - 1)) (slice_index path one)
+  pub place_each : length places ≡ length path
+  pub seconds : (i : ℕ) → i < length path → IsSecondPlace rows bounds (slice_index path i) (slice_index places i)
+  pub inside : (i : ℕ) → i < length path → slice_index path i < length rows
+  pub distinct : (i j : ℕ) → i < j → j < length path → slice_index path i ≢ slice_index path j
+
+-- the bound of y was set at the person at some index of the path
+pub record IsCutBy (rows : List (List ℕ)) (bounds path : List ℕ) (one upto : ℕ) (now : List ℕ) (y : ℕ) : Type 0 where
+  pub at : ℕ
+  pub late : one ≤ at
+  pub early : at < upto
+  pub second : IsSecond rows (bound_in bounds) (slice_index path at) y
+  pub bound : slice_index now y ≡ place_of rows y (slice_index path at)
+
+-- the bounds of the seconds of the persons from `one` on are set at these
+pub record AreCut (rows : List (List ℕ)) (bounds path : List ℕ) (one upto : ℕ) (now : List ℕ) : Type 0 where
+  pub one_each : length now ≡ length bounds
+  pub cut : (i y : ℕ) → one ≤ i → i < upto → IsSecond rows (bound_in bounds) (slice_index path i) y → slice_index now y ≡ place_of rows y (slice_index path i)
+  pub other : (y : ℕ) → IsCutBy rows bounds path one upto now y ⊎ (slice_index now y ≡ slice_index bounds y)
+
+-- a good table is good again, and has lost pairs
+pub record IsRotated (rows : List (List ℕ)) (before after : List ℕ) : Type 0 where
+  pub one_each : length after ≡ length before
+  pub good : IsGoodAt rows (bound_in after)
+  pub lower : (x : ℕ) → slice_index after x ≤ slice_index before x
+  pub falls : sum_by (λ i. i) after < sum_by (λ i. i) before
+
+-- each goes to the first that is left on its list, or to itself
+abbrev pub GoesTo : List (List ℕ) → (ℕ → ℕ) → List ℕ → ℕ → Type 0
+GoesTo rows b next x = IsFirst rows b x (successor_in next x) ⊎ ((successor_in next x ≡ x) × ((y : ℕ) → ¬ IsLeft rows b x y))
