@@ -1,14 +1,17 @@
 -- Pairing the persons of each party alternately.
-use Rattle.std.proofs.Common.{◌≡◌, ◌≢◌, ℕ, zero, suc, ◌+◌, ◌-◌, ◌*◌, ◌<◌, ◌≤◌, ◌⊎◌, inl, inr, arith, refl, sym, ap, ◌∙◌, List, length, Option, Some, None}
+use Rattle.std.proofs.Common.{◌≡◌, ◌≢◌, ℕ, zero, suc, ◌+◌, ◌-◌, ◌*◌, ◌<◌, ◌≤◌, ◌⊎◌, inl, inr, arith, refl, sym, ap, ◌∙◌, List, length, Option, Some, None, MatchOption}
 use Rattle.sm_lists.proofs.Counting.{eq_or_ne, less_same_more}
 use Rattle.sm_theory.specs.Rooms.{mate_of}
-use Rattle.sm_theory.specs.Partitions.{successor_in, after, IsInOddParty, IsLowestOfOdd, PairsAlternately}
-use Rattle.sm_theory.proofs.RoomSpots.{after_plus}
+use Rattle.sm_theory.specs.Partitions.{successor_in, after, IsStablePartition, IsInOddParty, IsLowestOfOdd, PairsAlternately, PairsFromLowest}
+use Rattle.sm_theory.proofs.RoomSpots.{Spot, spot, after_plus, take_back}
 use Rattle.sm_room.specs.Pairing.{IsPaired, ArePaired, IsPartyPaired}
-use Rattle.sm_room.specs.Parties.{IsLeftOut}
+use Rattle.sm_room.specs.Parties.{IsLeftOut, IsLowestInOdd}
 
 none_some : {x : ℕ} → ◌≡◌ {A = Option ℕ} None (Some x) → ⊥
 none_some e = grind arith
+
+some_same : {a b : ℕ} → Some a ≡ Some b → a ≡ b
+some_same e = cc
 
 paired_not : {next : List ℕ} {mates : List (Option ℕ)} {u : ℕ} → IsPaired next mates u → mate_of mates u ≡ None → ⊥
 paired_not w e = none_some (sym e ∙ w.is)
@@ -35,6 +38,13 @@ module _ {rows : List (List ℕ)} {next : List ℕ} {x : ℕ} {old now : List (O
         | inl e ↦ record { to = 0; below = w.some; is = ap (successor_in next) v.is ∙ ap (after next x) e ∙ w.returns }
         | inr e ↦ record { to = suc v.to; below = omega (arith, v.below, e); is = ap (successor_in next) v.is }
       ]
+
+  -- from a member the lowest is reached
+  comes_back : (u i : ℕ) → i < w.size → after next x i ≡ u → after next u (w.size - i) ≡ x
+  comes_back u i below is =
+      let rest : ℕ = w.size - i in
+      let sum : rest + i ≡ w.size = omega (arith, below) in
+      ap (λ z. after next z rest) (sym is) ∙ after_plus next x rest i ∙ ap (after next x) sum ∙ w.returns
 
   low : (k : ℕ) → x ≤ after next x k
   low k = let v = within k in omega (arith, v.is, w.above v.to v.below)
@@ -79,6 +89,22 @@ module _ {rows : List (List ℕ)} {next : List ℕ} {x : ℕ} {old now : List (O
       at_lead : u ≡ x → ⊥
       at_lead d = member 0 w.some (sym d)
 
+  -- the lowest of the party, where it is paired, is with its successor
+  lead_first : (v : ℕ) → mate_of now x ≡ Some v → v ≡ successor_in next x
+  lead_first v e = elim w.lead [
+    | inl l ↦ some_same (sym e ∙ l.1)
+    | inr l ↦ absurd (none_some (sym l.1 ∙ e))
+  ]
+
+  lowest_first : (u v : ℕ) → ((k : ℕ) → u ≤ after next u k) → mate_of now u ≡ Some v → v ≡ successor_in next u
+  lowest_first u v lowest e = elim (w.same u) [
+    | inl s ↦ g.lowest_first u v lowest (sym s ∙ e)
+    | inr m ↦
+        let le = lowest (w.size - m.0) in
+        let d : u ≡ x = omega (arith, le, comes_back u m.0 m.1 m.2, w.above m.0 m.1, m.2) in
+        rw d (lead_first v (rw d at e))
+  ]
+
   odd_lead : IsInOddParty rows next x → IsPaired next now x → ⊥
   odd_lead o p = elim w.lead [
     | inl v ↦ omega (arith, one_size next x w.size (2 * o.half + 1) w.some (omega arith) w.returns o.returns w.apart o.first, v.0)
@@ -89,10 +115,8 @@ module _ {rows : List (List ℕ)} {next : List ℕ} {x : ℕ} {old now : List (O
   left_out u o = elim (w.same u) [
     | inl s ↦ s ∙ g.left_out u o
     | inr v ↦
-        let rest : ℕ = w.size - v.0 in
-        let sum : rest + v.0 ≡ w.size = omega (arith, v.1) in
-        let back : after next u rest ≡ x = ap (λ z. after next z rest) (sym v.2) ∙ after_plus next x rest v.0 ∙ ap (after next x) sum ∙ w.returns in
-        let le = o.lowest rest in
+        let back = comes_back u v.0 v.1 v.2 in
+        let le = o.lowest (w.size - v.0) in
         let ge = w.above v.0 v.1 in
         let e : u ≡ x = omega (arith, le, back, ge, v.2) in
         let ox : IsInOddParty rows next x = rw e at o.odd in
@@ -108,7 +132,7 @@ module _ {rows : List (List ℕ)} {next : List ℕ} {x : ℕ} {old now : List (O
     where
       at_x : mate_of now x ≡ None → (successor_in next x ≡ x) ⊎ IsLowestOfOdd rows next x
       at_x f = elim w.lead [
-        | inl v ↦ absurd (paired_not v.1 f)
+        | inl v ↦ absurd (none_some (sym f ∙ v.1))
         | inr v ↦ elim (eq_or_ne w.half 0) [
           | inl z ↦ let one : w.size ≡ 1 = omega (arith, v.0, z) in inl (ap (after next x) (sym one) ∙ w.returns)
           | inr z ↦ inr (record {
@@ -125,7 +149,7 @@ module _ {rows : List (List ℕ)} {next : List ℕ} {x : ℕ} {old now : List (O
       ]
 
   pub pairs_step : x < length rows → ArePaired rows next (x + 1) now
-  pairs_step inside = record { one_each = w.one_each; sound = sound; untouched = untouched; left_out = left_out; others = others inside }
+  pairs_step inside = record { one_each = w.one_each; sound = sound; untouched = untouched; left_out = left_out; others = others inside; lowest_first = lowest_first }
 
 -- whoever has a mate already is passed
 pub pairs_pass : {rows : List (List ℕ)} {next : List ℕ} {x : ℕ} {mates : List (Option ℕ)} → ArePaired rows next x mates → (mate_of mates x ≡ None → ⊥) → ArePaired rows next (x + 1) mates
@@ -143,19 +167,20 @@ pairs_pass {rows} {next} {x} {mates} g some = record {
     | inl d ↦ absurd (some (ap (mate_of mates) (sym d) ∙ e))
     | inr d ↦ g.others u (omega (arith, h, d)) e
   ];
+  lowest_first = g.lowest_first;
 }
 
-pub pairs_end : {rows : List (List ℕ)} {next : List ℕ} {x : ℕ} {mates : List (Option ℕ)} → ArePaired rows next x mates → x ≡ length rows → PairsAlternately rows next mates
-pairs_end {rows} {next} {x} {mates} g full = record {
-  one_each = g.one_each;
-  neighbours = λ u v e. let k = g.sound u v e in let d : k.mate ≡ v = some_same (sym k.is ∙ e) in (rw d at k.apart, rw d at k.near);
-  in_turn = λ u v e. let k = g.sound u v e in let d : k.mate ≡ v = some_same (sym k.is ∙ e) in rw d at k.back;
-  left_out = g.left_out;
-  others = λ u h e. g.others u (omega (arith, h, full)) e;
-}
+pub pairs_end : {rows : List (List ℕ)} {next : List ℕ} {x : ℕ} {mates : List (Option ℕ)} → ArePaired rows next x mates → x ≡ length rows → PairsFromLowest rows next mates
+pairs_end {rows} {next} {x} {mates} g full = record { alternately = alternately; lowest_first = g.lowest_first }
   where
-    some_same : {a b : ℕ} → Some a ≡ Some b → a ≡ b
-    some_same e = cc
+    alternately : PairsAlternately rows next mates
+    alternately = record {
+      one_each = g.one_each;
+      neighbours = λ u v e. let k = g.sound u v e in let d : k.mate ≡ v = some_same (sym k.is ∙ e) in (rw d at k.apart, rw d at k.near);
+      in_turn = λ u v e. let k = g.sound u v e in let d : k.mate ≡ v = some_same (sym k.is ∙ e) in rw d at k.back;
+      left_out = g.left_out;
+      others = λ u h e. g.others u (omega (arith, h, full)) e;
+    }
 
 -- who isn't alone and has no mate is the lowest of an odd party
 pub left_out_is : {rows : List (List ℕ)} {next : List ℕ} {mates : List (Option ℕ)} → length next ≡ length rows → PairsAlternately rows next mates
@@ -164,3 +189,70 @@ left_out_is {rows} {next} {mates} long p x = (
   λ l. elim (p.others x (omega (arith, l.inside, long)) l.none) [ inl e ↦ absurd (l.apart e) | inr o ↦ o ],
   λ o. record { inside = omega (arith, o.odd.in_range, long); apart = λ e. o.odd.first 1 (omega arith) (omega (arith, o.odd.three)) e; none = p.left_out x o },
 )
+
+module _ {rows : List (List ℕ)} {next : List ℕ} (h : IsStablePartition rows next) where
+  -- the lowest of an odd party is no higher than any of it
+  pub record HasLead (y : ℕ) : Type 0 where
+    pub lead : ℕ
+    pub lowest : IsLowestOfOdd rows next lead
+    pub below : lead ≤ y
+
+  pub has_lead : (y : ℕ) → IsInOddParty rows next y → HasLead y
+  has_lead y o = record {
+    lead = s.lead;
+    below = let le = s.lowest s.at in omega (arith, le, s.is);
+    lowest = record {
+      odd = record {
+        in_range = s.inside;
+        half = o.half;
+        three = o.three;
+        returns = ap (after next s.lead) (sym full) ∙ s.returns;
+        first = λ k a b e. s.apart 0 k a (omega (arith, b, full)) (sym e);
+      };
+      lowest = s.lowest;
+    };
+  }
+    where
+      s : Spot rows next y
+      s = spot h y o.in_range
+
+      -- steps from the lowest and from y
+      turn : (k : ℕ) → after next y k ≡ after next s.lead (k + s.at)
+      turn k = ap (λ z. after next z k) (sym s.is) ∙ after_plus next s.lead k s.at
+
+      back : after next y s.size ≡ y
+      back =
+          let e : s.size + s.at ≡ s.at + s.size = omega arith in
+          turn s.size ∙ ap (after next s.lead) e ∙ sym (after_plus next s.lead s.at s.size) ∙ ap (λ z. after next z s.at) s.returns ∙ s.is
+
+      first : (k : ℕ) → 0 < k → k < s.size → after next y k ≢ y
+      first k a b e =
+          let z : s.at + 0 ≡ s.at = omega arith in
+          let f : k + s.at ≡ s.at + k = omega arith in
+          let same : after next s.lead (s.at + 0) ≡ after next s.lead (s.at + k) = ap (after next s.lead) z ∙ s.is ∙ sym e ∙ turn k ∙ ap (after next s.lead) f in
+          s.apart 0 k a b (take_back h s.lead s.at 0 k s.inside same)
+
+      full : s.size ≡ 2 * o.half + 1
+      full = one_size next y s.size (2 * o.half + 1) (omega (arith, s.below)) (omega arith) back o.returns first o.first
+
+  -- so the lowest person that is left out is the lowest in an odd party
+  pub lowest_in_odd : {mates : List (Option ℕ)} → PairsAlternately rows next mates → (found : Option ℕ)
+      → MatchOption found ((x : ℕ) → IsLeftOut next mates x → ⊥) (λ x. IsLeftOut next mates x × ((y : ℕ) → y < x → IsLeftOut next mates y → ⊥)) → IsLowestInOdd rows next found
+  lowest_in_odd {mates} p None none = λ x o. let l = has_lead x o in none l.lead ((left_out_is h.one_each p l.lead).1 l.lowest)
+  lowest_in_odd {mates} p (Some x) w = (
+    ((left_out_is h.one_each p x).0 w.0).odd,
+    λ y less o. let l = has_lead y o in w.1 l.lead (omega (arith, l.below, less)) ((left_out_is h.one_each p l.lead).1 l.lowest),
+  )
+
+-- a pairing of the parties is one for any roommates of as many persons
+pub pairs_of_others : {rows others : List (List ℕ)} {next : List ℕ} {mates : List (Option ℕ)} → length rows ≡ length others → PairsAlternately rows next mates → PairsAlternately others next mates
+pairs_of_others {rows} {others} {next} {mates} e p = record {
+  one_each = p.one_each ∙ e;
+  neighbours = p.neighbours;
+  in_turn = p.in_turn;
+  left_out = λ x o. p.left_out x (moved (sym e) x o);
+  others = λ x there none. elim (p.others x (omega (arith, e, there)) none) [ inl a ↦ inl a | inr o ↦ inr (moved e x o) ];
+}
+  where
+    moved : {some more : List (List ℕ)} → length some ≡ length more → (x : ℕ) → IsLowestOfOdd some next x → IsLowestOfOdd more next x
+    moved same x o = record { odd = record { in_range = omega (arith, same, o.odd.in_range); half = o.odd.half; three = o.odd.three; returns = o.odd.returns; first = o.odd.first }; lowest = o.lowest }

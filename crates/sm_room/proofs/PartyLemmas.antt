@@ -178,7 +178,7 @@ module _ {rows : List (List ℕ)} {next : List ℕ} {x : ℕ} {old : List (Optio
           | inr v ↦ let is : after next x v.0 ≡ u = ap (λ t. after next t v.0) (sym e) ∙ v.2 in inr (v.0, v.1, is, (let p = z_paired v.0 v.1 in rw v.2 at p))
         ];
         half = suc w.half;
-        lead = inl (omega arith, paired_x 0 (omega arith));
+        lead = inl (omega arith, ap (mate_of new) (sym e) ∙ at_z ∙ ap Some (sym z_next ∙ ap (successor_in next) e));
       }
         where
           paired_x : (i : ℕ) → i < suc d → IsPaired next new (after next x i)

@@ -44,6 +44,7 @@ pairs_begin mates long none = record {
   untouched = λ u h le e. (omega arith, none u);
   left_out = λ u o. none u;
   others = λ u h e. absurd (omega arith);
+  lowest_first = λ u v low e. absurd (some_none (sym (none u) ∙ e));
 }
 
 module _ {rows : List (List ℕ)} {next : List ℕ} (h : IsStablePartition rows next) where
