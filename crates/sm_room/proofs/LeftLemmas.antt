@@ -7,7 +7,7 @@ use Rattle.sm_lists.proofs.PlaceLemmas.{entry-place_of}
 use Rattle.sm_lists.proofs.PlaceLemmas.{place_on_is, place_on-lt, place_of-le}
 use Rattle.sm_lists.proofs.ItemLemmas.{push_cases}
 use Rattle.sm_theory.specs.Rooms.{AreRoomLists}
-use Rattle.sm_theory.proofs.RoomBridge.{listed_in_range}
+use Rattle.sm_theory.proofs.Room.Bridge.{listed_in_range}
 use Rattle.sm_room.specs.Bounds.{IsLeft, bound_in}
 use Rattle.sm_room.specs.Tables.{ListsLeft, IsTable, IsBound, AreBoundsOf}
 use Rattle.sm_room.specs.Proposing.{IsListLeft}

@@ -4,8 +4,8 @@ use Rattle.std.proofs.lemmas.List.{get_or-set_same, get_or-set_other, length-set
 use Rattle.sm_lists.proofs.Counting.{eq_or_ne}
 use Rattle.sm_theory.specs.Rooms.{mate_of}
 use Rattle.sm_theory.specs.Partitions.{successor_in, predecessor_in, after, IsStablePartition}
-use Rattle.sm_theory.proofs.RoomBridge.{has_before, HasBefore}
-use Rattle.sm_theory.proofs.RoomSpots.{after_plus}
+use Rattle.sm_theory.proofs.Room.Bridge.{has_before, HasBefore}
+use Rattle.sm_theory.proofs.Room.Spots.{after_plus}
 use Rattle.sm_room.specs.Pairing.{IsPaired, ArePaired, IsPairing, IsPartyPaired}
 
 none_some : {x : ℕ} → ◌≡◌ {A = Option ℕ} None (Some x) → ⊥

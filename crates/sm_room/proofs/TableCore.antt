@@ -4,7 +4,7 @@ use Rattle.sm_lists.specs.Rows.{row, entry, place_of}
 use Rattle.sm_lists.proofs.Counting.{Decided, Decided-lt, Decided-le, Decided-eq, Decided-not, Decided-and, lt_or_le, search_below}
 use Rattle.sm_lists.proofs.PlaceLemmas.{entry-place_of}
 use Rattle.sm_theory.specs.Rooms.{IsAcceptable}
-use Rattle.sm_theory.proofs.RoomBridge.{listed_in_range}
+use Rattle.sm_theory.proofs.Room.Bridge.{listed_in_range}
 use Rattle.sm_room.specs.Bounds.{IsLeft, IsFirst, IsLast, IsSecond}
 
 pub turn : (rows : List (List ℕ)) (x y : ℕ) → IsAcceptable rows x y → IsAcceptable rows y x
