@@ -1,11 +1,16 @@
 -- The first places, and the second, that are left on a list.
-use Rattle.std.proofs.Common.{◌≡◌, ℕ, ◌+◌, ◌<◌, ◌≤◌, inl, inr, arith, sym, ap, ◌∙◌, List, length, Option, Some, None, MatchOption}
+use Rattle.std.proofs.Common.{◌≡◌, ℕ, ◌+◌, ◌<◌, ◌≤◌, ◌⊎◌, inl, inr, arith, sym, ap, ◌∙◌, List, length, get_or, set, replicate}
+use Rattle.std.proofs.lemmas.List.{length-set, length-replicate}
 use Rattle.sm_lists.specs.Rows.{row, entry, place_of}
 use Rattle.sm_lists.proofs.Counting.{eq_or_ne}
 use Rattle.sm_lists.proofs.PlaceLemmas.{entry-place_of}
+use Rattle.sm_lists.proofs.ItemLemmas.{set_cases}
 use Rattle.sm_theory.specs.Rooms.{AreRoomLists}
 use Rattle.sm_room.specs.Bounds.{IsLeft, IsFirst, IsLast, IsSecond, IsGoodAt, bound_in}
-use Rattle.sm_room.specs.Rotating.{IsLeftFrom, IsSecondPlace}
+use Rattle.sm_theory.proofs.RoomBridge.{listed_in_range}
+use Rattle.sm_room.specs.Rotating.{IsLeftFrom, IsSecondPlace, AreHints}
+use Rattle.sm_room.proofs.TableCore.{one_at, one_second, same_front, has_first, has_second}
+use Rattle.sm_room.proofs.WalkLemmas.{zero_marks}
 use Rattle.sm_room.proofs.LeftLemmas.{place_at}
 
 -- nothing is left at places between
@@ -19,37 +24,95 @@ none_further rows bounds x from upto none gone y l le = elim (eq_or_ne (place_of
   | inr e ↦ omega (arith, e, none y l le)
 ]
 
-pub second_at : {rows : List (List ℕ)} {bounds : List ℕ} {x i j : ℕ} → AreRoomLists rows → IsLeftFrom rows bounds x 0 i → IsLeftFrom rows bounds x (i + 1) j → IsSecondPlace rows bounds x j
-second_at {rows} {bounds} {x} {i} {j} h f g =
-    let ei = place_at h x i f.on_list in
-    let ej = place_at h x j g.on_list in
-    record {
-      on_list = g.on_list;
-      at = ej;
-      second = record {
-        left = g.left;
-        front = entry rows x i;
-        first = record { left = f.left; least = λ z l. omega (arith, ei, f.least z l (omega arith)) };
-        behind = omega (arith, ei, ej, g.behind);
-        least = λ z l less. omega (arith, ej, g.least z l (omega (arith, ei, less)));
-      };
-    }
+-- from the hints on
+module _ {rows : List (List ℕ)} {bounds firsts seconds : List ℕ} (h : AreHints rows bounds firsts seconds) {x : ℕ} where
+  pub none_left : ((y : ℕ) → IsLeft rows (bound_in bounds) x y → place_of rows x y < get_or firsts x 0) → (y : ℕ) → IsLeft rows (bound_in bounds) x y → ⊥
+  none_left none y l = omega (arith, none y l, h.first x y l)
 
-pub no_second : {rows : List (List ℕ)} {bounds : List ℕ} {x i : ℕ} → IsLeftFrom rows bounds x 0 i → ((y : ℕ) → IsLeft rows (bound_in bounds) x y → place_of rows x y < i + 1)
-    → (y : ℕ) → IsSecond rows (bound_in bounds) x y → ⊥
-no_second {rows} {bounds} {x} {i} f none y s = omega (arith, none y s.left, s.behind, f.least s.front s.first.left (omega arith))
+  module _ {i : ℕ} (lists : AreRoomLists rows) (f : IsLeftFrom rows bounds x (get_or firsts x 0) i) where
+    pub first_is : IsFirst rows (bound_in bounds) x (entry rows x i)
+    first_is = record { left = f.left; least = λ z l. omega (arith, place_at lists x i f.on_list, f.least z l (h.first x z l)) }
+
+    -- the first that was found is a hint
+    pub first_hint : AreHints rows bounds (set firsts x i) seconds
+    first_hint =
+        let there : x < length firsts = omega (arith, h.first_each, listed_in_range rows x i f.on_list) in
+        record {
+          first_each = length-set firsts x i ∙ h.first_each;
+          second_each = h.second_each;
+          first = λ z y. set_cases (λ z n. IsLeft rows (bound_in bounds) z y → n ≤ place_of rows z y) firsts x i 0 there (λ l. f.least y l (h.first x y l)) (λ v _ l. h.first v y l) z;
+          second = h.second;
+        }
+
+    -- whoever is left behind it, and not before the hint of the second, is the second
+    module _ {from : ℕ} (behind : i + 1 ≤ from) (reached : (from ≡ i + 1) ⊎ (from ≡ get_or seconds x 0)) where
+      from_le : (y : ℕ) → IsSecond rows (bound_in bounds) x y → from ≤ place_of rows x y
+      from_le y s =
+          let less : i < place_of rows x y = omega (arith, place_at lists x i f.on_list, s.behind, f.least s.front s.first.left (h.first x s.front s.first.left)) in
+          elim reached [ inl e ↦ omega (arith, e, less) | inr e ↦ omega (arith, e, h.second x y s) ]
+
+      pub no_second : ((y : ℕ) → IsLeft rows (bound_in bounds) x y → place_of rows x y < from) → (y : ℕ) → IsSecond rows (bound_in bounds) x y → ⊥
+      no_second none y s = omega (arith, none y s.left, from_le y s)
+
+      module _ {j : ℕ} (g : IsLeftFrom rows bounds x from j) where
+        second_of : IsSecond rows (bound_in bounds) x (entry rows x j)
+        second_of =
+            let ei = place_at lists x i f.on_list in
+            let ej = place_at lists x j g.on_list in
+            let w = has_second first_is g.left (omega (arith, ei, ej, behind, g.behind)) in
+            let ge : j ≤ place_of rows x w.next = g.least w.next w.second.left (from_le w.next w.second) in
+            let le : place_of rows x w.next ≤ place_of rows x (entry rows x j) = w.second.least (entry rows x j) g.left (omega (arith, same_front w.second first_is, ei, ej, behind, g.behind)) in
+            let e : w.next ≡ entry rows x j = one_at rows x w.next (entry rows x j) w.second.left.acc g.left.acc (omega (arith, ge, le, ej)) in
+            rw e at w.second
+
+        pub second_at : IsSecondPlace rows bounds x j
+        second_at = record { on_list = g.on_list; at = place_at lists x j g.on_list; second = second_of }
+
+        -- and its place is a hint
+        pub second_hint : AreHints rows bounds (set firsts x i) (set seconds x j)
+        second_hint =
+            let k = first_hint in
+            let there : x < length seconds = omega (arith, h.second_each, listed_in_range rows x i f.on_list) in
+            record {
+              first_each = k.first_each;
+              second_each = length-set seconds x j ∙ h.second_each;
+              first = k.first;
+              second = λ z y. set_cases (λ z n. IsSecond rows (bound_in bounds) z y → n ≤ place_of rows z y) seconds x j 0 there
+                  (λ s. let e : y ≡ entry rows x j = one_second s second_of in omega (arith, ap (place_of rows x) e, place_at lists x j g.on_list))
+                  (λ v _ s. h.second v y s) z;
+            }
+
+-- hints stay hints while bounds fall
+pub hints_kept : {rows : List (List ℕ)} {firsts seconds : List ℕ} (old now : List ℕ) → ((y : ℕ) → get_or now y 0 ≤ get_or old y 0) → AreHints rows old firsts seconds → AreHints rows now firsts seconds
+hints_kept {rows} old now lower h = record {
+  first_each = h.first_each;
+  second_each = h.second_each;
+  first = λ x y l. h.first x y (back x y l);
+  second = λ x y s.
+      let f = has_first (back x y s.left) in
+      let less : place_of rows x f.front < place_of rows x y = let le = f.first.least s.front (back x s.front s.first.left) in omega (arith, le, s.behind) in
+      let w = has_second f.first (back x y s.left) less in
+      let le = w.second.least y (back x y s.left) (omega (arith, same_front w.second f.first, less)) in
+      omega (arith, le, h.second x w.next w.second);
+}
+  where
+    back : (u v : ℕ) → IsLeft rows (bound_in now) u v → IsLeft rows (bound_in old) u v
+    back u v l = record { acc = l.acc; here = omega (arith, l.here, lower u); there = omega (arith, l.there, lower v) }
+
+-- no hints yet
+pub hints_begin : {rows : List (List ℕ)} (bounds firsts seconds : List ℕ) → firsts ≡ replicate (length rows) 0 → seconds ≡ replicate (length rows) 0 → AreHints rows bounds firsts seconds
+hints_begin {rows} bounds firsts seconds a b = record {
+  first_each = rw a (let o : ℕ = 0 in length-replicate (length rows) o);
+  second_each = rw b (let o : ℕ = 0 in length-replicate (length rows) o);
+  first = λ x y _. let z = zero_marks (length rows) x firsts a in omega arith;
+  second = λ x y _. let z = zero_marks (length rows) x seconds b in omega arith;
+}
 
 pub last_at : {rows : List (List ℕ)} {b : ℕ → ℕ} {y x : ℕ} → IsGoodAt rows b → IsLeft rows b y x → (b y < length (row rows y)) × IsLast rows b y (entry rows y (b y))
 last_at {rows} {b} {y} {x} good i =
     let l = good.ends y x i in
     let e : l.last ≡ entry rows y (b y) = sym (entry-place_of rows y l.last l.final.left.acc.listed) ∙ ap (entry rows y) l.final.at in
     (omega (arith, l.final.at, l.final.left.acc.listed), rw e at l.final)
-
-pub second_result : {rows : List (List ℕ)} {bounds : List ℕ} {x i : ℕ} (o : Option ℕ) → AreRoomLists rows → IsLeftFrom rows bounds x 0 i
-    → MatchOption o ((y : ℕ) → IsLeft rows (bound_in bounds) x y → place_of rows x y < i + 1) (λ j. IsLeftFrom rows bounds x (i + 1) j)
-    → MatchOption o ((y : ℕ) → IsSecond rows (bound_in bounds) x y → ⊥) (λ j. IsSecondPlace rows bounds x j)
-second_result None h f w = no_second f w
-second_result (Some j) h f w = second_at h f w
 
 pub first_at : {rows : List (List ℕ)} {bounds : List ℕ} {x i : ℕ} → AreRoomLists rows → IsLeftFrom rows bounds x 0 i → IsFirst rows (bound_in bounds) x (entry rows x i)
 first_at {rows} {bounds} {x} {i} h f = record { left = f.left; least = λ z l. omega (arith, place_at h x i f.on_list, f.least z l (omega arith)) }

@@ -8,8 +8,8 @@ pub mod LeftLemmas
 pub mod ProgressLemmas
 pub mod FromLemmas
 pub mod WalkLemmas
-pub mod RotateLemmas
 pub mod TailCore
+pub mod RotateLemmas
 pub mod EntryLemmas
 pub mod PairLemmas
 pub mod PartyLemmas

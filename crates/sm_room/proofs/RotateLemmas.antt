@@ -1,17 +1,18 @@
 -- The cuts round a cycle, and what stays short.
-use Rattle.std.proofs.Common.{◌≡◌, ℕ, zero, suc, ◌+◌, ◌-◌, ◌<◌, ◌≤◌, ◌⊎◌, ◌∷◌, [], inl, inr, arith, refl, sym, ◌∙◌, List, length, get_or, set}
-use Rattle.std.proofs.lemmas.List.{get_or-set_same, get_or-set_other, length-set}
+use Rattle.std.proofs.Common.{◌≡◌, ℕ, zero, suc, ◌+◌, ◌-◌, ◌<◌, ◌≤◌, ◌⊎◌, ◌∷◌, [], inl, inr, arith, refl, sym, ap, ◌∙◌, List, length, get_or, set, take}
+use Rattle.std.proofs.lemmas.List.{get_or-set_same, get_or-set_other, length-set, get_or_push, get_or_append_left, get_or-take, length-take-le}
 use Rattle.std.proofs.lemmas.List.Sums.{sum_by-cons}
 use Rattle.std.specs.List.{sum_by}
 use Rattle.sm_lists.specs.Rows.{entry, place_of}
 use Rattle.sm_lists.proofs.Counting.{lt_or_le, eq_or_ne}
 use Rattle.sm_room.specs.Bounds.{IsLeft, IsLast, IsSecond, IsNext, IsGoodAt, bound_in}
-use Rattle.sm_room.specs.Rotating.{IsSecondPlace, HasThreeLeft, IsShort, IsClosed, IsCutBy, AreCut, IsRotated, GoesTo}
+use Rattle.sm_room.specs.Rotating.{IsSecondPlace, HasTwoLeft, HasThreeLeft, IsShort, met, IsWalk, IsClosed, IsCutBy, AreCut, IsRotated, GoesTo}
 use Rattle.sm_theory.specs.Partitions.{IsStablePartition}
 use Rattle.sm_room.proofs.EndCore.{partition_at_end}
 use Rattle.sm_room.proofs.TableCore.{one_final, one_second, has_first, has_second, inside_rows, turn}
-use Rattle.sm_room.proofs.PhaseTwoCore.{Cuts, Two, Round, second_before_last, less, good_again}
+use Rattle.sm_room.proofs.PhaseTwoCore.{Cuts, Two, Round, second_before_last, follows, less, good_again}
 use Rattle.sm_room.proofs.CycleCore.{Walk, On, round_of_walk, none_has_two}
+use Rattle.sm_room.proofs.TailCore.{tail_stays}
 
 -- who is short stays so while bounds fall
 pub short_kept : {rows : List (List ℕ)} {x : ℕ} (old now : List ℕ) → ((y : ℕ) → get_or now y 0 ≤ get_or old y 0) → IsShort rows old x → IsShort rows now x
@@ -142,53 +143,103 @@ module _ {rows : List (List ℕ)} {bounds : List ℕ} {start : ℕ} {path places
     closes = closed.closes;
   }
 
-  pub cut_end : {i : ℕ} {now : List ℕ} → IsGoodAt rows (bound_in bounds) → HasThreeLeft rows bounds start → length bounds ≡ length rows → AreCut rows bounds path one i now → i ≡ length path
-      → IsRotated rows bounds now
-  cut_end {i} {now} good three long g full = record {
-    one_each = g.one_each;
-    good = good_again good round cuts none;
-    lower = lower;
-    falls = sum_lt now bounds z g.one_each lower z_there falls;
-  }
-    where
-      C : ℕ → Type 0
-      C = On (λ i. get_or path i 0) one end
+  module _ {i : ℕ} {now : List ℕ} (good : IsGoodAt rows (bound_in bounds)) (three : HasThreeLeft rows bounds start) (g : AreCut rows bounds path one i now) (full : i ≡ length path) where
+    abbrev C : ℕ → Type 0
+    C = On (λ i. get_or path i 0) one end
 
-      round : Round rows (bound_in bounds) C
-      round = round_of_walk walk_of
+    round : Round rows (bound_in bounds) C
+    round = round_of_walk walk_of
 
-      cuts : Cuts rows (bound_in bounds) (bound_in now) C
-      cuts = record {
-        cut = λ x y k f.
-            let f' : IsSecond rows (bound_in bounds) (p k.at) y = rw (sym k.is) at f in
-            let e = g.cut k.at y k.late (omega (arith, k.early, full, closed.order)) f' in
-            rw k.is at e;
-        other = λ y. elim (g.other y) [
-          | inl w ↦ inl (record { by = p w.at; here = record { at = w.at; late = w.late; early = omega (arith, w.early, full); is = refl }; second = w.second; bound = w.bound })
-          | inr e ↦ inr e
-        ];
-      }
+    cuts : Cuts rows (bound_in bounds) (bound_in now) C
+    cuts = record {
+      cut = λ x y k f.
+          let f' : IsSecond rows (bound_in bounds) (p k.at) y = rw (sym k.is) at f in
+          let e = g.cut k.at y k.late (omega (arith, k.early, full, closed.order)) f' in
+          rw k.is at e;
+      other = λ y. elim (g.other y) [
+        | inl w ↦ inl (record { by = p w.at; here = record { at = w.at; late = w.late; early = omega (arith, w.early, full); is = refl }; second = w.second; bound = w.bound })
+        | inr e ↦ inr e
+      ];
+    }
 
-      first : IsSecond rows (bound_in bounds) (p 0) three.next
-      first = rw closed.starts three.second
+    first : IsSecond rows (bound_in bounds) (p 0) three.next
+    first = rw closed.starts three.second
 
-      none : (u w : ℕ) → Two rows (bound_in bounds) C u w → ⊥
-      none = none_has_two walk_of good three.next first (rw closed.starts three.more)
+    none : (u w : ℕ) → Two rows (bound_in bounds) C u w → ⊥
+    none = none_has_two walk_of good three.next first (rw closed.starts three.more)
 
-      lower : (y : ℕ) → get_or now y 0 ≤ get_or bounds y 0
-      lower = less good round cuts none
+    pub cut_end : length bounds ≡ length rows → IsRotated rows bounds now
+    cut_end long = record {
+      one_each = g.one_each;
+      good = good_again good round cuts none;
+      lower = lower;
+      falls = sum_lt now bounds z g.one_each lower z_there falls;
+    }
+      where
+        lower : (y : ℕ) → get_or now y 0 ≤ get_or bounds y 0
+        lower = less good round cuts none
 
-      z : ℕ
-      z = entry rows (p one) (get_or places one 0)
+        z : ℕ
+        z = entry rows (p one) (get_or places one 0)
 
-      second : IsSecond rows (bound_in bounds) (p one) z
-      second = (closed.seconds one closed.order).second
+        second : IsSecond rows (bound_in bounds) (p one) z
+        second = (closed.seconds one closed.order).second
 
-      z_there : z < length now
-      z_there = omega (arith, g.one_each, long, inside_rows rows z (p one) (turn rows (p one) z second.left.acc))
+        z_there : z < length now
+        z_there = omega (arith, g.one_each, long, inside_rows rows z (p one) (turn rows (p one) z second.left.acc))
 
-      falls : get_or now z 0 < get_or bounds z 0
-      falls = omega (arith, g.cut one z (omega arith) (omega (arith, closed.order, full)) second, second_before_last good (p one) z second)
+        falls : get_or now z 0 < get_or bounds z 0
+        falls = omega (arith, g.cut one z (omega arith) (omega (arith, closed.order, full)) second, second_before_last good (p one) z second)
+
+    -- the walk goes on from whoever is before the cycle, or from the start, where that has three left still
+    pub walk_back : {keep : ℕ} → keep ≡ one - 1 → HasThreeLeft rows now start → IsWalk rows now start (take keep path) (take keep places) (get_or path keep 0)
+    walk_back {keep} is still = record {
+      starts = at 0 (omega arith) ∙ closed.starts;
+      steps = λ j h. let k = kept j (omega (arith, h, long)) in
+          rw (at j (omega (arith, h, long)), at (suc j) (omega (arith, h, long))) (record { over = entry rows (p j) (get_or places j 0); second = k.0; final = k.1 });
+      seconds = λ j h.
+          let k = kept j (omega (arith, h, long)) in
+          let s = closed.seconds j (omega (arith, h, long, within)) in
+          rw (get_or-take keep path j 0 (omega (arith, h, long)), get_or-take keep places j 0 (omega (arith, h, long))) (record { on_list = s.on_list; at = s.at; second = k.0 });
+      here = closed.inside keep within;
+      goes = goes;
+    }
+      where
+        within : keep < length path
+        within = omega (arith, is, closed.order)
+
+        long : length (take keep path) ≡ keep
+        long = length-take-le keep path (omega (arith, within))
+
+        good' : IsGoodAt rows (bound_in now)
+        good' = good_again good round cuts none
+
+        at : (j : ℕ) → j ≤ keep → met (take keep path) (get_or path keep 0) j ≡ p j
+        at j h = elim (eq_or_ne j keep) [
+          | inl e ↦ get_or_push (take keep path) (p keep) 0 j (omega (arith, long, e)) ∙ ap p (sym e)
+          | inr e ↦ get_or_append_left (take keep path) (p keep ∷ []) 0 j (omega (arith, long, h, e)) ∙ get_or-take keep path j 0 (omega (arith, h, e))
+        ]
+
+        still_second : IsSecond rows (bound_in now) (p 0) still.next
+        still_second = rw closed.starts still.second
+
+        kept : (j : ℕ) → j < keep → IsSecond rows (bound_in now) (p j) (entry rows (p j) (get_or places j 0)) × IsLast rows (bound_in now) (entry rows (p j) (get_or places j 0)) (p (suc j))
+        kept j h = tail_stays walk_of good (λ a b l m. closed.distinct a b l (omega (arith, m, closed.order))) cuts none three.next still.next first (rw closed.starts three.more) still_second
+            j (omega (arith, h, is)) (entry rows (p j) (get_or places j 0)) (closed.seconds j (omega (arith, h, within))).second
+
+        goes : HasTwoLeft rows now (p keep)
+        goes = elim (eq_or_ne keep 0) [
+          | inl e ↦ rw e (record { next = still.next; second = still_second })
+          | inr e ↦
+              let j : ℕ = keep - 1 in
+              let up : suc j ≡ keep = omega (arith, e) in
+              let k = kept j (omega (arith, up)) in
+              let w = follows good' (p j) (entry rows (p j) (get_or places j 0)) k.0 in
+              let o : w.next.over ≡ entry rows (p j) (get_or places j 0) = one_second w.next.second k.0 in
+              let same : w.who ≡ p (suc j) = one_final (rw o at w.next.final) k.1 in
+              let s : IsSecond rows (bound_in now) (p (suc j)) w.onward = rw same at w.second in
+              rw (sym up) (record { next = w.onward; second = s })
+        ]
 
 -- where all are short, the firsts make a stable partition
 pub partition_of_short : {rows : List (List ℕ)} {next : List ℕ} (bounds : List ℕ) → IsGoodAt rows (bound_in bounds) → ((x : ℕ) → x < length rows → IsShort rows bounds x) → length next ≡ length rows

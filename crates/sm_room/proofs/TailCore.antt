@@ -84,39 +84,40 @@ module _ {rows : List (List ℕ)} {b : ℕ → ℕ} {p : ℕ → ℕ} {one end :
         let l : IsLast rows b f u = good.first_last u f g in
         last_first good (round_of_walk w) cuts none f u (keeps_last f u (uncut f u l out) l)
 
-    pub tail_keeps : (i : ℕ) → suc i < one → (IsSpoilt i → ⊥) → IsNext rows c (p i) (p (suc i))
-    tail_keeps i h sound = record { over = y; second = second; final = last }
+    -- who is before the cycle and isn't spoilt keeps its second, and the last of that one
+    pub tail_keeps : (i : ℕ) → suc i < one → (IsSpoilt i → ⊥) → (y : ℕ) → IsSecond rows b (p i) y → IsSecond rows c (p i) y × IsLast rows c y (p (suc i))
+    tail_keeps i h sound y f = (second, last)
       where
         n : IsNext rows b (p i) (p (suc i))
         n = w.steps i (omega (arith, h, w.order))
 
-        y : ℕ
-        y = n.over
+        final : IsLast rows b y (p (suc i))
+        final = let e : n.over ≡ y = one_second n.second f in rw e at n.final
 
         last : IsLast rows c y (p (suc i))
-        last = keeps_last y (p (suc i)) (uncut y (p (suc i)) n.final (off (suc i) h)) n.final
+        last = keeps_last y (p (suc i)) (uncut y (p (suc i)) final (off (suc i) h)) final
 
         here : place_of rows (p i) y ≤ c (p i)
         here = elim (cuts.other (p i)) [
-          | inr e ↦ omega (arith, e, n.second.left.here)
-          | inl k ↦ elim (lt_or_le (place_of rows (p i) n.second.front) (place_of rows (p i) k.by)) [
-            | inl l ↦ omega (arith, k.bound, n.second.least k.by (IsLeft-turn k.second.left) l)
+          | inr e ↦ omega (arith, e, f.left.here)
+          | inl k ↦ elim (lt_or_le (place_of rows (p i) f.front) (place_of rows (p i) k.by)) [
+            | inl l ↦ omega (arith, k.bound, f.least k.by (IsLeft-turn k.second.left) l)
             | inr l ↦
-                let first : IsFirst rows b (p i) k.by = record { left = IsLeft-turn k.second.left; least = λ z j. omega (arith, n.second.first.least z j, l) } in
+                let first : IsFirst rows b (p i) k.by = record { left = IsLeft-turn k.second.left; least = λ z j. omega (arith, f.first.least z j, l) } in
                 absurd (sound (record { by = k.by; here = k.here; first = first; second = k.second }))
           ]
         ]
 
         left : IsLeft rows c (p i) y
-        left = record { acc = n.second.left.acc; here = here; there = omega (arith, uncut y (p (suc i)) n.final (off (suc i) h), n.second.left.there) }
+        left = record { acc = f.left.acc; here = here; there = omega (arith, uncut y (p (suc i)) final (off (suc i) h), f.left.there) }
 
         second : IsSecond rows c (p i) y
         second = record {
           left = left;
-          front = n.second.front;
-          first = keeps_first (p i) n.second.front (off i (omega (arith, h))) n.second.first;
-          behind = n.second.behind;
-          least = λ z j l. n.second.least z (before_cuts good (round_of_walk w) cuts none j) l;
+          front = f.front;
+          first = keeps_first (p i) f.front (off i (omega (arith, h))) f.first;
+          behind = f.behind;
+          least = λ z j l. f.least z (before_cuts good (round_of_walk w) cuts none j) l;
         }
 
     -- a start that is spoilt has one left
@@ -127,10 +128,11 @@ module _ {rows : List (List ℕ)} {b : ℕ → ℕ} {p : ℕ → ℕ} {one end :
         omega (arith, e, s.behind, s.left.here, t.first.least s.front back)
 
     -- while the start has three left before and two after, all of the tail stays
-    pub tail_stays : (y z : ℕ) → IsSecond rows b (p 0) y → place_of rows (p 0) y < b (p 0) → IsSecond rows c (p 0) z → (i : ℕ) → suc i < one → IsNext rows c (p i) (p (suc i))
-    tail_stays y z f more s zero h = tail_keeps zero h (λ t. spoilt_short t z s)
-    tail_stays y z f more s (suc i) h = tail_keeps (suc i) h (λ t.
+    pub tail_stays : (y z : ℕ) → IsSecond rows b (p 0) y → place_of rows (p 0) y < b (p 0) → IsSecond rows c (p 0) z
+        → (i : ℕ) → suc i < one → (v : ℕ) → IsSecond rows b (p i) v → IsSecond rows c (p i) v × IsLast rows c v (p (suc i))
+    tail_stays y z f more s zero h v g = tail_keeps zero h (λ t. spoilt_short t z s) v g
+    tail_stays y z f more s (suc i) h v g = tail_keeps (suc i) h (λ t.
         let k = spoilt_start i (omega (arith, h)) t in
         let e : k.next ≡ y = one_second k.second f in
         let m : place_of rows (p 0) y ≡ b (p 0) = rw e at k.at in
-        omega (arith, m, more))
+        omega (arith, m, more)) v g

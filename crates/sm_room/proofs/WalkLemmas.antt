@@ -1,13 +1,13 @@
 -- The walk of phase two.
-use Rattle.std.proofs.Common.{◌≡◌, ◌≢◌, ℕ, zero, suc, ◌+◌, ◌-◌, ◌<◌, ◌≤◌, ◌++◌, ◌∷◌, [], inl, inr, arith, refl, sym, ap, ◌∙◌, List, length, get_or, set, replicate}
-use Rattle.std.proofs.lemmas.List.{get_or_append_left, get_or_push, length_push, get_or-set_same, get_or-set_other, length-set, get_or-replicate, length-replicate, get_or_past}
+use Rattle.std.proofs.Common.{◌≡◌, ◌≢◌, ℕ, zero, suc, ◌+◌, ◌-◌, ◌<◌, ◌≤◌, ◌++◌, ◌∷◌, [], inl, inr, arith, refl, sym, ap, ◌∙◌, List, length, get_or, set, replicate, take}
+use Rattle.std.proofs.lemmas.List.{get_or_append_left, get_or_push, length_push, get_or-set_same, get_or-set_other, length-set, get_or-replicate, length-replicate, get_or_past, get_or-take, length-take-le}
 use Rattle.std.proofs.lemmas.List.Sums.{sum_by-set}
 use Rattle.std.specs.List.{sum_by}
 use Rattle.sm_lists.specs.Rows.{entry}
-use Rattle.sm_lists.proofs.Counting.{lt_or_le, pigeonhole}
+use Rattle.sm_lists.proofs.Counting.{lt_or_le, eq_or_ne, pigeonhole}
 use Rattle.sm_lists.proofs.ItemLemmas.{push_cases, set_cases}
 use Rattle.sm_room.specs.Bounds.{IsLast, IsNext, IsGoodAt, bound_in}
-use Rattle.sm_room.specs.Rotating.{IsSecondPlace, HasTwoLeft, met, IsWalk, IsClosed}
+use Rattle.sm_room.specs.Rotating.{IsSecondPlace, HasTwoLeft, met, IsPath, IsWalk, IsClosed, AreUnmarked}
 use Rattle.sm_room.proofs.TableCore.{one_final, one_second}
 use Rattle.sm_room.proofs.PhaseTwoCore.{follows, Follows}
 
@@ -33,7 +33,8 @@ unmarked_falls marks x i there e h =
     let w = sum_by-set one_where_zero marks x i 0 there in
     omega (arith, w, is_one (get_or marks x 0) e, is_zero i h)
 
-zero_marks : (n z : ℕ) (marks : List ℕ) → marks ≡ replicate n 0 → get_or marks z 0 ≡ 0
+-- all is 0 at the start
+pub zero_marks : (n z : ℕ) (marks : List ℕ) → marks ≡ replicate n 0 → get_or marks z 0 ≡ 0
 zero_marks n z marks e =
     let o : ℕ = 0 in
     rw e (elim (lt_or_le z n) [
@@ -41,52 +42,71 @@ zero_marks n z marks e =
       | inr l ↦ get_or_past (replicate n o) z o (omega (arith, l, length-replicate n o))
     ])
 
-pub walk_begins : {rows : List (List ℕ)} {bounds : List ℕ} {start : ℕ} (path places marks : List ℕ) → path ≡ [] → places ≡ [] → marks ≡ replicate (length rows) 0 → start < length rows
-    → HasTwoLeft rows bounds start → IsWalk rows bounds start path places marks start
-walk_begins {rows} {bounds} {start} path places marks p q m there two = rw (p, q) (record {
-  starts = refl;
-  steps = λ i h. absurd (omega arith);
+-- nothing is walked yet
+pub path_begins : {rows : List (List ℕ)} (path places marks : List ℕ) → path ≡ [] → places ≡ [] → marks ≡ replicate (length rows) 0 → IsPath rows path places marks
+path_begins {rows} path places marks p q m = rw (p, q) (record {
   place_each = refl;
-  seconds = λ i h. absurd (omega arith);
   inside = λ i h. absurd (omega arith);
   mark_each = rw m (let o : ℕ = 0 in length-replicate (length rows) o);
   index = λ i h. absurd (omega arith);
   marked = λ z ne. absurd (ne (zero_marks (length rows) z marks m));
+})
+
+pub walk_begins : {rows : List (List ℕ)} {bounds : List ℕ} {start : ℕ} (path places : List ℕ) → path ≡ [] → start < length rows
+    → HasTwoLeft rows bounds start → IsWalk rows bounds start path places start
+walk_begins {rows} {bounds} {start} path places p there two = rw p (record {
+  starts = refl;
+  steps = λ i h. absurd (omega arith);
+  seconds = λ i h. absurd (omega arith);
   here = there;
   goes = two;
 })
 
-module _ {rows : List (List ℕ)} {bounds : List ℕ} {start : ℕ} {path places marks : List ℕ} {x : ℕ} (good : IsGoodAt rows (bound_in bounds)) (g : IsWalk rows bounds start path places marks x) where
-  -- one more step, to v
-  pub walk_goes_on : (place v : ℕ) → get_or marks x 0 ≡ 0 → IsSecondPlace rows bounds x place → IsLast rows (bound_in bounds) (entry rows x place) v → v < length rows
-      → IsWalk rows bounds start (path ++ x ∷ []) (places ++ place ∷ []) (set marks x (length path + 1)) v
-  walk_goes_on place v fresh second last there = record {
-    starts = get_or_append_left (path ++ x ∷ []) (v ∷ []) 0 0 (omega (arith, long)) ∙ g.starts;
-    steps = steps;
-    place_each = omega (arith, long, length_push places place, g.place_each);
-    seconds = λ i h. elim (lt_or_le i (length path)) [
-      | inl l ↦ rw (get_or_append_left path (x ∷ []) 0 i l, get_or_append_left places (place ∷ []) 0 i (omega (arith, l, g.place_each))) (g.seconds i l)
-      | inr l ↦ let e : length path ≡ i = omega (arith, l, h, long) in rw (get_or_push path x 0 i e, get_or_push places place 0 i (omega (arith, e, g.place_each))) second
-    ];
-    inside = push_cases (λ i z. z < length rows) path x 0 g.here g.inside;
-    mark_each = length-set marks x (length path + 1) ∙ g.mark_each;
+module _ {rows : List (List ℕ)} {path places marks : List ℕ} (k : IsPath rows path places marks) (x : ℕ) (there : x < length rows) (fresh : get_or marks x 0 ≡ 0) where
+  -- one more person on the path
+  pub path_goes_on : (place : ℕ) → IsPath rows (path ++ x ∷ []) (places ++ place ∷ []) (set marks x (length path + 1))
+  path_goes_on place = record {
+    place_each = omega (arith, long, length_push places place, k.place_each);
+    inside = push_cases (λ i z. z < length rows) path x 0 there k.inside;
+    mark_each = length-set marks x (length path + 1) ∙ k.mark_each;
     index = λ i h. elim (lt_or_le i (length path)) [
-      | inl l ↦ rw (get_or_append_left path (x ∷ []) 0 i l, get_or-set_other marks x (get_or path i 0) (length path + 1) 0 (λ e. other i l e)) (g.index i l)
+      | inl l ↦ rw (get_or_append_left path (x ∷ []) 0 i l, get_or-set_other marks x (get_or path i 0) (length path + 1) 0 (λ e. other i l e)) (k.index i l)
       | inr l ↦ let e : length path ≡ i = omega (arith, l, h, long) in rw (get_or_push path x 0 i e, get_or-set_same marks x (length path + 1) 0 inside_marks) (omega (arith, e))
     ];
     marked = marked;
-    here = there;
-    goes = let w = follows good x (entry rows x place) second.second in record { next = w.onward; second = let e : w.who ≡ v = next_is w in rw e at w.second };
   }
     where
       long : length (path ++ x ∷ []) ≡ length path + 1
       long = length_push path x
 
       inside_marks : x < length marks
-      inside_marks = omega (arith, g.here, g.mark_each)
+      inside_marks = omega (arith, there, k.mark_each)
 
       other : (i : ℕ) → i < length path → get_or path i 0 ≡ x → ⊥
-      other i l e = let k : get_or marks x 0 ≡ i + 1 = rw e at (g.index i l) in omega (arith, k, fresh)
+      other i l e = let m : get_or marks x 0 ≡ i + 1 = rw e at (k.index i l) in omega (arith, m, fresh)
+
+      marked : (z : ℕ) → get_or (set marks x (length path + 1)) z 0 ≢ 0 → (get_or (set marks x (length path + 1)) z 0 ≤ length (path ++ x ∷ [])) × (get_or (path ++ x ∷ []) (get_or (set marks x (length path + 1)) z 0 - 1) 0 ≡ z)
+      marked z = set_cases (λ z m. m ≢ 0 → (m ≤ length (path ++ x ∷ [])) × (get_or (path ++ x ∷ []) (m - 1) 0 ≡ z)) marks x (length path + 1) 0 inside_marks
+          (λ _. (omega (arith, long), get_or_push path x 0 (length path + 1 - 1) (omega arith)))
+          (λ w ne some. let m = k.marked w some in (omega (arith, m.0, long), get_or_append_left path (x ∷ []) 0 (get_or marks w 0 - 1) (omega (arith, m.0, some)) ∙ m.1)) z
+
+module _ {rows : List (List ℕ)} {bounds : List ℕ} {start : ℕ} {path places : List ℕ} {x : ℕ} (good : IsGoodAt rows (bound_in bounds)) (g : IsWalk rows bounds start path places x) where
+  -- one more step, to v
+  pub walk_goes_on : (place v : ℕ) → length places ≡ length path → IsSecondPlace rows bounds x place → IsLast rows (bound_in bounds) (entry rows x place) v → v < length rows
+      → IsWalk rows bounds start (path ++ x ∷ []) (places ++ place ∷ []) v
+  walk_goes_on place v place_each second last there = record {
+    starts = get_or_append_left (path ++ x ∷ []) (v ∷ []) 0 0 (omega (arith, long)) ∙ g.starts;
+    steps = steps;
+    seconds = λ i h. elim (lt_or_le i (length path)) [
+      | inl l ↦ rw (get_or_append_left path (x ∷ []) 0 i l, get_or_append_left places (place ∷ []) 0 i (omega (arith, l, place_each))) (g.seconds i l)
+      | inr l ↦ let e : length path ≡ i = omega (arith, l, h, long) in rw (get_or_push path x 0 i e, get_or_push places place 0 i (omega (arith, e, place_each))) second
+    ];
+    here = there;
+    goes = let w = follows good x (entry rows x place) second.second in record { next = w.onward; second = let e : w.who ≡ v = next_is w in rw e at w.second };
+  }
+    where
+      long : length (path ++ x ∷ []) ≡ length path + 1
+      long = length_push path x
 
       next_is : (w : Follows good x) → w.who ≡ v
       next_is w = one_final (let e = one_second w.next.second second.second in rw e at w.next.final) last
@@ -100,15 +120,10 @@ module _ {rows : List (List ℕ)} {bounds : List ℕ} {start : ℕ} {path places
             (record { over = entry rows x place; second = second.second; final = last })
       ]
 
-      marked : (z : ℕ) → get_or (set marks x (length path + 1)) z 0 ≢ 0 → (get_or (set marks x (length path + 1)) z 0 ≤ length (path ++ x ∷ [])) × (get_or (path ++ x ∷ []) (get_or (set marks x (length path + 1)) z 0 - 1) 0 ≡ z)
-      marked z = set_cases (λ z m. m ≢ 0 → (m ≤ length (path ++ x ∷ [])) × (get_or (path ++ x ∷ []) (m - 1) 0 ≡ z)) marks x (length path + 1) 0 inside_marks
-          (λ _. (omega (arith, long), get_or_push path x 0 (length path + 1 - 1) (omega arith)))
-          (λ w ne some. let k = g.marked w some in (omega (arith, k.0, long), get_or_append_left path (x ∷ []) 0 (get_or marks w 0 - 1) (omega (arith, k.0, some)) ∙ k.1)) z
-
   -- x was met before
-  pub walk_closes : get_or marks x 0 ≢ 0 → IsClosed rows bounds start path places (get_or marks x 0 - 1)
-  walk_closes some =
-      let k = g.marked x some in
+  pub walk_closes : {marks : List ℕ} → IsPath rows path places marks → get_or marks x 0 ≢ 0 → IsClosed rows bounds start path places (get_or marks x 0 - 1)
+  walk_closes {marks} kept some =
+      let k = kept.marked x some in
       let m : ℕ = get_or marks x 0 in
       let end : ℕ = length path - 1 in
       let up : suc end ≡ length path = omega (arith, k.0, some) in
@@ -122,15 +137,15 @@ module _ {rows : List (List ℕ)} {bounds : List ℕ} {start : ℕ} {path places
             let s = g.steps i (omega (arith, h)) in
             rw (get_or_append_left path (x ∷ []) 0 i (omega (arith, h)), get_or_append_left path (x ∷ []) 0 (suc i) h) at s;
         closes = rw (a, b) at n;
-        place_each = g.place_each;
+        place_each = kept.place_each;
         seconds = g.seconds;
-        inside = g.inside;
-        distinct = λ i j l h e. let p = g.index i (omega (arith, l, h)) in let q = g.index j h in omega (arith, ap (λ z. get_or marks z 0) e, p, q, l);
+        inside = kept.inside;
+        distinct = λ i j l h e. let p = kept.index i (omega (arith, l, h)) in let q = kept.index j h in omega (arith, ap (λ z. get_or marks z 0) e, p, q, l);
       }
 
--- a walk is no longer than there are persons
-pub walk_fits : {rows : List (List ℕ)} {bounds : List ℕ} {start : ℕ} {path places marks : List ℕ} {x : ℕ} → IsWalk rows bounds start path places marks x → length path ≤ length rows
-walk_fits {rows} {path = path} g = elim (lt_or_le (length rows) (length path)) [
+-- a path is no longer than there are persons
+pub path_fits : {rows : List (List ℕ)} {path places marks : List ℕ} → IsPath rows path places marks → length path ≤ length rows
+path_fits {rows} {path = path} g = elim (lt_or_le (length rows) (length path)) [
   | inr le ↦ le
   | inl more ↦
       let w = pigeonhole (length rows) (λ i. get_or path i 0) (λ i h. g.inside i (omega arith)) in
@@ -140,3 +155,70 @@ walk_fits {rows} {path = path} g = elim (lt_or_le (length rows) (length path)) [
       let o = w.order in
       absurd (let c = rw e at a in omega arith)
 ]
+
+-- the marks of one more person are 0
+pub unmark_begins : (path : List ℕ) (from : ℕ) (marks : List ℕ) → AreUnmarked path from from marks marks
+unmark_begins path from marks = record { one_each = refl; gone = λ i a b. absurd (omega arith); other = λ z. inl refl }
+
+pub unmark_goes_on : {path : List ℕ} {from upto : ℕ} {before now : List ℕ} → AreUnmarked path from upto before now → from ≤ upto → get_or path upto 0 < length before
+    → AreUnmarked path from (upto + 1) before (set now (get_or path upto 0) 0)
+unmark_goes_on {path} {from} {upto} {before} {now} u le there = record {
+  one_each = length-set now x 0 ∙ u.one_each;
+  gone = λ i a b. elim (eq_or_ne i upto) [
+    | inl e ↦ rw e zero_here
+    | inr e ↦ elim (eq_or_ne (get_or path i 0) x) [
+      | inl d ↦ rw d zero_here
+      | inr d ↦ get_or-set_other now x (get_or path i 0) 0 0 d ∙ u.gone i a (omega (arith, b, e))
+    ]
+  ];
+  other = λ z. elim (eq_or_ne z x) [
+    | inl d ↦ rw d (inr (record { at = upto; late = le; early = omega arith; is = refl }, zero_here))
+    | inr d ↦ elim (u.other z) [
+      | inl s ↦ inl (get_or-set_other now x z 0 0 d ∙ s)
+      | inr w ↦ inr (record { at = w.0.at; late = w.0.late; early = omega (arith, w.0.early); is = w.0.is }, get_or-set_other now x z 0 0 d ∙ w.1)
+    ]
+  ];
+}
+  where
+    x : ℕ
+    x = get_or path upto 0
+
+    zero_here : get_or (set now x 0) x 0 ≡ 0
+    zero_here = get_or-set_same now x 0 0 (omega (arith, u.one_each, there))
+
+-- what is left of a path once it is cut off
+pub path_kept : {rows : List (List ℕ)} {path places marks now : List ℕ} {keep upto : ℕ} → IsPath rows path places marks → AreUnmarked path keep upto marks now → upto ≡ length path → keep ≤ length path
+    → IsPath rows (take keep path) (take keep places) now
+path_kept {rows} {path} {places} {marks} {now} {keep} {upto} k u full le = record {
+  place_each = length-take-le keep places (omega (arith, k.place_each, le)) ∙ sym long;
+  inside = λ i h. rw (get_or-take keep path i 0 (omega (arith, h, long))) (k.inside i (omega (arith, h, long, le)));
+  mark_each = u.one_each ∙ k.mark_each;
+  index = λ i h. rw (get_or-take keep path i 0 (omega (arith, h, long))) (index i (omega (arith, h, long)));
+  marked = marked;
+}
+  where
+    long : length (take keep path) ≡ keep
+    long = length-take-le keep path le
+
+    index : (i : ℕ) → i < keep → get_or now (get_or path i 0) 0 ≡ i + 1
+    index i h = elim (u.other (get_or path i 0)) [
+      | inl s ↦ s ∙ k.index i (omega (arith, h, le))
+      | inr w ↦
+          let a = k.index i (omega (arith, h, le)) in
+          let b = k.index w.0.at (omega (arith, w.0.early, full)) in
+          absurd (omega (arith, ap (λ z. get_or marks z 0) w.0.is, a, b, w.0.late, h))
+    ]
+
+    marked : (z : ℕ) → get_or now z 0 ≢ 0 → (get_or now z 0 ≤ length (take keep path)) × (get_or (take keep path) (get_or now z 0 - 1) 0 ≡ z)
+    marked z some = elim (u.other z) [
+      | inr w ↦ absurd (some w.1)
+      | inl s ↦
+          let m = k.marked z (λ e. some (s ∙ e)) in
+          let before : get_or marks z 0 - 1 < keep = elim (lt_or_le (get_or marks z 0 - 1) keep) [
+            | inl l ↦ l
+            | inr l ↦
+                let zero : get_or now (get_or path (get_or marks z 0 - 1) 0) 0 ≡ 0 = u.gone (get_or marks z 0 - 1) l (omega (arith, m.0, full, s, some)) in
+                absurd (some (ap (λ v. get_or now v 0) (sym m.1) ∙ zero))
+          ] in
+          rw s (omega (arith, long, before), get_or-take keep path (get_or marks z 0 - 1) 0 before ∙ m.1)
+    ]

@@ -37,19 +37,42 @@ pub record IsShort (rows : List (List ℕ)) (bounds : List ℕ) (x : ℕ) : Type
 abbrev pub met : List ℕ → ℕ → ℕ → ℕ
 met path x i = slice_index (path ++ x ∷ []) i
 
--- A walk from `start` over `path` to x, with the place of the second of each. A mark is one more than the index on the path,
--- or 0.
-pub record IsWalk (rows : List (List ℕ)) (bounds : List ℕ) (start : ℕ) (path places marks : List ℕ) (x : ℕ) : Type 0 where
-  pub starts : met path x 0 ≡ start
-  pub steps : (i : ℕ) → i < length path → IsNext rows (bound_in bounds) (met path x i) (met path x (suc i))
+-- what is kept of a walk: the persons on its path, a place for each, and a mark for each person, which is one more than its
+-- index on the path, or 0
+pub record IsPath (rows : List (List ℕ)) (path places marks : List ℕ) : Type 0 where
   pub place_each : length places ≡ length path
-  pub seconds : (i : ℕ) → i < length path → IsSecondPlace rows bounds (slice_index path i) (slice_index places i)
   pub inside : (i : ℕ) → i < length path → slice_index path i < length rows
   pub mark_each : length marks ≡ length rows
   pub index : (i : ℕ) → i < length path → slice_index marks (slice_index path i) ≡ i + 1
   pub marked : (z : ℕ) → slice_index marks z ≢ 0 → (slice_index marks z ≤ length path) × (slice_index path (slice_index marks z - 1) ≡ z)
+
+-- a walk from `start` over the path to x, with the place of the second of each
+pub record IsWalk (rows : List (List ℕ)) (bounds : List ℕ) (start : ℕ) (path places : List ℕ) (x : ℕ) : Type 0 where
+  pub starts : met path x 0 ≡ start
+  pub steps : (i : ℕ) → i < length path → IsNext rows (bound_in bounds) (met path x i) (met path x (suc i))
+  pub seconds : (i : ℕ) → i < length path → IsSecondPlace rows bounds (slice_index path i) (slice_index places i)
   pub here : x < length rows
   pub goes : HasTwoLeft rows bounds x
+
+-- z stands on the path, from one index on and before another
+pub record IsOnPath (path : List ℕ) (from upto z : ℕ) : Type 0 where
+  pub at : ℕ
+  pub late : from ≤ at
+  pub early : at < upto
+  pub is : slice_index path at ≡ z
+
+-- the marks of those on the path from one index on and before another are 0, and all others are as before
+pub record AreUnmarked (path : List ℕ) (from upto : ℕ) (before now : List ℕ) : Type 0 where
+  pub one_each : length now ≡ length before
+  pub gone : (i : ℕ) → from ≤ i → i < upto → slice_index now (slice_index path i) ≡ 0
+  pub other : (z : ℕ) → (slice_index now z ≡ slice_index before z) ⊎ (IsOnPath path from upto z × (slice_index now z ≡ 0))
+
+-- nobody before the first of these places is left on a list, and the second that is left isn't before the second of them
+pub record AreHints (rows : List (List ℕ)) (bounds firsts seconds : List ℕ) : Type 0 where
+  pub first_each : length firsts ≡ length rows
+  pub second_each : length seconds ≡ length rows
+  pub first : (x y : ℕ) → IsLeft rows (bound_in bounds) x y → slice_index firsts x ≤ place_of rows x y
+  pub second : (x y : ℕ) → IsSecond rows (bound_in bounds) x y → slice_index seconds x ≤ place_of rows x y
 
 -- the walk has come back to its index `one`
 pub record IsClosed (rows : List (List ℕ)) (bounds : List ℕ) (start : ℕ) (path places : List ℕ) (one : ℕ) : Type 0 where

@@ -28,7 +28,7 @@ impl Model for Table {
 }
 
 impl Table {
-    /// Those who are left on a person's list.
+    /// Those who are left on a person's list, best first. Takes no memory.
     pub fn list(&self, person: u32) -> &[u32]
         requires { person < length self.now }
         ensures { result.now ≡ row self.now person }
@@ -82,7 +82,7 @@ fn place_on(market: &RoomMarket, x: u32, y: u32) -> u32
 /// A table in which y is first on x's list exactly when x is last on y's, and of each missing acceptable pair one of the two
 /// prefers its last to the other (Irving 1985).
 ///
-/// Takes time in proportion to the persons and entries.
+/// Takes time and memory in proportion to the persons and entries.
 ///
 /// # Errors
 ///

@@ -1,0 +1,108 @@
+//! The walk of phase two.
+
+ghost use Rattle.std.specs.Prelude.{◌≡◌, ℕ, ◌<◌, ◌≤◌, length, slice_index, take, [], IfOk, OnOk};
+ghost use Rattle.sm_room.specs.Bounds.{IsGoodAt, IsLeft, IsLast, bound_in};
+ghost use Rattle.sm_room.specs.Rotating.{IsPath, IsWalk, IsClosed, AreUnmarked, AreHints};
+
+use crate::hints::{Hints, second_place};
+use crate::market::RoomMarket;
+use std::alloc::{AllocError, Global};
+
+/// A walk from person to next person: its path, the place of the second of each person on it, and for each person of the
+/// market one more than its index on the path, or 0.
+#[derive(Drop)]
+pub(crate) struct Walk {
+    pub(crate) path: Vec<u32>,
+    pub(crate) places: Vec<u32>,
+    marks: Vec<u32>,
+}
+
+impl Walk {
+    /// Nobody is on the path yet.
+    pub(crate) fn new(alloc: Global, market: &RoomMarket) -> Result<Walk, AllocError>
+        ensures empty { IfOk result (λ walk. walk.path.items ≡ []) }
+        ensures path { IfOk result (λ walk. IsPath market.now walk.path.items walk.places.items walk.marks.items) }
+    {
+        let persons = market.persons() as usize;
+        let path = Vec::with_capacity(alloc, persons)?;
+        let places = Vec::with_capacity(alloc, persons)?;
+        let marks = vec![in alloc; 0; persons]?;
+        Ok(Walk {
+            path,
+            places,
+            marks,
+        })
+    }
+
+    /// Takes all from an index on off the path.
+    pub(crate) fn cut_off(&mut self, keep: usize)
+        requires inside { (i : ℕ) → i < length self.old.path.items
+            → slice_index self.old.path.items i < length self.old.marks.items }
+        requires keep { keep ≤ length self.old.path.items }
+        ensures path { self.new.path.items ≡ take keep self.old.path.items }
+        ensures places { self.new.places.items ≡ take keep self.old.places.items }
+        ensures marks { AreUnmarked self.old.path.items keep (length self.old.path.items) self.old.marks.items
+            self.new.marks.items }
+    {
+        unmark(&self.path, keep, self.marks.as_mut_slice());
+        self.path.truncate(keep);
+        self.places.truncate(keep);
+    }
+}
+
+/// Sets the marks of all from an index of the path on to 0.
+fn unmark(path: &[u32], keep: usize, marks: &mut [u32])
+    requires inside { (i : ℕ) → i < length path.now → slice_index path.now i < length marks.old }
+    requires keep { keep ≤ length path.now }
+    ensures { AreUnmarked path.now keep (length path.now) marks.old marks.new }
+{
+    for i in keep..path.len() {
+        marks[path[i] as usize] = 0;
+    }
+}
+
+/// Walks on from `from`, from person to next person, until one is met again, and returns its index on the path.
+pub(crate) fn go_round(
+    market: &RoomMarket,
+    bounds: &[u32],
+    hints: &mut Hints,
+    walk: &mut Walk,
+    start: u32,
+    from: u32,
+) -> Result<u32, AllocError>
+    requires one_each { length bounds.now ≡ length market.now }
+    requires good { IsGoodAt market.now (bound_in bounds.now) }
+    requires hints { AreHints market.now bounds.now hints.old.firsts.items hints.old.seconds.items }
+    requires path { IsPath market.now walk.old.path.items walk.old.places.items walk.old.marks.items }
+    requires walk { IsWalk market.now bounds.now start walk.old.path.items walk.old.places.items from }
+    ensures hints { OnOk result (AreHints market.now bounds.now hints.new.firsts.items hints.new.seconds.items) }
+    ensures path { OnOk result (IsPath market.now walk.new.path.items walk.new.places.items walk.new.marks.items) }
+    ensures closed { IfOk result (λ one.
+        IsClosed market.now bounds.now start walk.new.path.items walk.new.places.items one) }
+{
+    let _persons = market.persons();
+    let _ = start;
+    let mut x = from;
+    'steps: while walk.marks[x as usize] == 0 {
+        let Some(place) = second_place(market, bounds, hints, x) else {
+            unreachable!()
+        };
+        walk.path.push(x)?;
+        walk.places.push(place)?;
+        walk.marks[x as usize] = walk.path.len() as u32;
+        x = last_of(market, bounds, market.at(x, place), x);
+    }
+    Ok(walk.marks[x as usize] - 1)
+}
+
+/// The last that is left on a person's list, which isn't empty.
+fn last_of(market: &RoomMarket, bounds: &[u32], y: u32, x: u32) -> u32
+    requires in_range { y < length market.now }
+    requires one_each { length bounds.now ≡ length market.now }
+    requires good { IsGoodAt market.now (bound_in bounds.now) }
+    requires some { IsLeft market.now (bound_in bounds.now) y x }
+    ensures in_range { result < length market.now }
+    ensures last { IsLast market.now (bound_in bounds.now) y result }
+{
+    market.at(y, bounds[y as usize])
+}
