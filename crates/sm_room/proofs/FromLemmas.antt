@@ -1,15 +1,13 @@
 -- The first places, and the second, that are left on a list.
-use Rattle.std.proofs.Common.{◌≡◌, ℕ, ◌+◌, ◌<◌, ◌≤◌, ◌⊎◌, inl, inr, arith, sym, ap, ◌∙◌, List, length, get_or, set, replicate}
-use Rattle.std.proofs.lemmas.List.{length-set, length-replicate}
+use Rattle.std.proofs.Common.{◌≡◌, ℕ, ◌+◌, ◌<◌, ◌≤◌, ◌⊎◌, inl, inr, arith, sym, ap, ◌∙◌, List, length, get_or, replicate}
+use Rattle.std.proofs.lemmas.List.{length-replicate}
 use Rattle.sm_lists.specs.Rows.{row, entry, place_of}
 use Rattle.sm_lists.proofs.Counting.{eq_or_ne}
 use Rattle.sm_lists.proofs.PlaceLemmas.{entry-place_of}
-use Rattle.sm_lists.proofs.ItemLemmas.{set_cases}
 use Rattle.sm_theory.specs.Rooms.{AreRoomLists}
 use Rattle.sm_room.specs.Bounds.{IsLeft, IsFirst, IsLast, IsSecond, IsGoodAt, bound_in}
-use Rattle.sm_theory.proofs.RoomBridge.{listed_in_range}
 use Rattle.sm_room.specs.Rotating.{IsLeftFrom, IsSecondPlace, AreHints}
-use Rattle.sm_room.proofs.TableCore.{one_at, one_second, same_front, has_first, has_second}
+use Rattle.sm_room.proofs.TableCore.{one_at, same_front, has_first, has_second}
 use Rattle.sm_room.proofs.WalkLemmas.{zero_marks}
 use Rattle.sm_room.proofs.LeftLemmas.{place_at}
 
@@ -26,23 +24,9 @@ none_further rows bounds x from upto none gone y l le = elim (eq_or_ne (place_of
 
 -- from the hints on
 module _ {rows : List (List ℕ)} {bounds firsts seconds : List ℕ} (h : AreHints rows bounds firsts seconds) {x : ℕ} where
-  pub none_left : ((y : ℕ) → IsLeft rows (bound_in bounds) x y → place_of rows x y < get_or firsts x 0) → (y : ℕ) → IsLeft rows (bound_in bounds) x y → ⊥
-  none_left none y l = omega (arith, none y l, h.first x y l)
-
   module _ {i : ℕ} (lists : AreRoomLists rows) (f : IsLeftFrom rows bounds x (get_or firsts x 0) i) where
     pub first_is : IsFirst rows (bound_in bounds) x (entry rows x i)
     first_is = record { left = f.left; least = λ z l. omega (arith, place_at lists x i f.on_list, f.least z l (h.first x z l)) }
-
-    -- the first that was found is a hint
-    pub first_hint : AreHints rows bounds (set firsts x i) seconds
-    first_hint =
-        let there : x < length firsts = omega (arith, h.first_each, listed_in_range rows x i f.on_list) in
-        record {
-          first_each = length-set firsts x i ∙ h.first_each;
-          second_each = h.second_each;
-          first = λ z y. set_cases (λ z n. IsLeft rows (bound_in bounds) z y → n ≤ place_of rows z y) firsts x i 0 there (λ l. f.least y l (h.first x y l)) (λ v _ l. h.first v y l) z;
-          second = h.second;
-        }
 
     -- whoever is left behind it, and not before the hint of the second, is the second
     module _ {from : ℕ} (behind : i + 1 ≤ from) (reached : (from ≡ i + 1) ⊎ (from ≡ get_or seconds x 0)) where
@@ -50,9 +34,6 @@ module _ {rows : List (List ℕ)} {bounds firsts seconds : List ℕ} (h : AreHin
       from_le y s =
           let less : i < place_of rows x y = omega (arith, place_at lists x i f.on_list, s.behind, f.least s.front s.first.left (h.first x s.front s.first.left)) in
           elim reached [ inl e ↦ omega (arith, e, less) | inr e ↦ omega (arith, e, h.second x y s) ]
-
-      pub no_second : ((y : ℕ) → IsLeft rows (bound_in bounds) x y → place_of rows x y < from) → (y : ℕ) → IsSecond rows (bound_in bounds) x y → ⊥
-      no_second none y s = omega (arith, none y s.left, from_le y s)
 
       module _ {j : ℕ} (g : IsLeftFrom rows bounds x from j) where
         second_of : IsSecond rows (bound_in bounds) x (entry rows x j)
@@ -67,20 +48,6 @@ module _ {rows : List (List ℕ)} {bounds firsts seconds : List ℕ} (h : AreHin
 
         pub second_at : IsSecondPlace rows bounds x j
         second_at = record { on_list = g.on_list; at = place_at lists x j g.on_list; second = second_of }
-
-        -- and its place is a hint
-        pub second_hint : AreHints rows bounds (set firsts x i) (set seconds x j)
-        second_hint =
-            let k = first_hint in
-            let there : x < length seconds = omega (arith, h.second_each, listed_in_range rows x i f.on_list) in
-            record {
-              first_each = k.first_each;
-              second_each = length-set seconds x j ∙ h.second_each;
-              first = k.first;
-              second = λ z y. set_cases (λ z n. IsSecond rows (bound_in bounds) z y → n ≤ place_of rows z y) seconds x j 0 there
-                  (λ s. let e : y ≡ entry rows x j = one_second s second_of in omega (arith, ap (place_of rows x) e, place_at lists x j g.on_list))
-                  (λ v _ s. h.second v y s) z;
-            }
 
 -- hints stay hints while bounds fall
 pub hints_kept : {rows : List (List ℕ)} {firsts seconds : List ℕ} (old now : List ℕ) → ((y : ℕ) → get_or now y 0 ≤ get_or old y 0) → AreHints rows old firsts seconds → AreHints rows now firsts seconds

@@ -40,10 +40,6 @@ where_left {rows} b x i y c h on is cross l =
     let e = place_at h x i on in
     rw is (record { apart = l.acc.apart; listed = omega (arith, cross, l.acc.returned); here = omega (arith, e, l.here); there = omega (arith, cross, l.there) })
 
--- one more place of a list
-pub list_begins : (rows : List (List ℕ)) (bounds : List ℕ) (x : ℕ) → IsListLeft rows bounds x 0 []
-list_begins rows bounds x = record { left = λ i h. absurd (omega arith); below = λ i h. absurd (omega arith); all = λ y l h. absurd (omega arith); ordered = λ i j l h. absurd (omega arith) }
-
 module _ {rows : List (List ℕ)} {bounds : List ℕ} {x upto : ℕ} {list : List ℕ} (g : IsListLeft rows bounds x upto list) where
   at_upto : (y : ℕ) → IsLeft rows (bound_in bounds) x y → place_of rows x y ≡ upto → y ≡ entry rows x upto
   at_upto y l e = sym (entry-place_of rows x y l.acc.listed) ∙ ap (entry rows x) e
@@ -83,9 +79,6 @@ module _ {rows : List (List ℕ)} {bounds : List ℕ} {x upto : ℕ} {list : Lis
 pub record AreListsLeft (rows : List (List ℕ)) (bounds : List ℕ) (upto : ℕ) (table : List (List ℕ)) : Type 0 where
   pub one_each : length table ≡ upto
   pub each : (x : ℕ) → x < upto → IsListLeft rows bounds x (length (row rows x)) (row table x)
-
-pub lists_begin : (rows : List (List ℕ)) (bounds : List ℕ) → AreListsLeft rows bounds 0 []
-lists_begin rows bounds = record { one_each = refl; each = λ x h. absurd (omega arith) }
 
 pub lists_take : {rows : List (List ℕ)} {bounds : List ℕ} {upto : ℕ} (table : List (List ℕ)) (list : List ℕ) → AreListsLeft rows bounds upto table
     → IsListLeft rows bounds upto (length (row rows upto)) list → AreListsLeft rows bounds (upto + 1) (table ++ list ∷ [])

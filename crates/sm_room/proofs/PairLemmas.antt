@@ -2,8 +2,8 @@
 use Rattle.std.proofs.Common.{◌≡◌, ◌≢◌, ℕ, zero, suc, ◌+◌, ◌-◌, ◌*◌, ◌<◌, ◌≤◌, ◌⊎◌, inl, inr, arith, refl, sym, ap, ◌∙◌, List, length, Option, Some, None, MatchOption}
 use Rattle.sm_lists.proofs.Counting.{eq_or_ne, less_same_more}
 use Rattle.sm_theory.specs.Rooms.{mate_of}
-use Rattle.sm_theory.specs.Partitions.{successor_in, after, IsStablePartition, IsInOddParty, IsLowestOfOdd, PairsAlternately, PairsFromLowest}
-use Rattle.sm_theory.proofs.Room.Spots.{Spot, spot, after_plus, take_back}
+use Rattle.sm_theory.specs.Partitions.{successor_in, after, IsStablePartition, IsInOddParty, IsLowestOfOdd, PairsAlternately}
+use Rattle.sm_theory.proofs.RoomSpots.{Spot, spot, after_plus, take_back}
 use Rattle.sm_room.specs.Pairing.{IsPaired, ArePaired, IsPartyPaired}
 use Rattle.sm_room.specs.Parties.{IsLeftOut, IsLowestInOdd}
 
@@ -150,37 +150,6 @@ module _ {rows : List (List ℕ)} {next : List ℕ} {x : ℕ} {old now : List (O
 
   pub pairs_step : x < length rows → ArePaired rows next (x + 1) now
   pairs_step inside = record { one_each = w.one_each; sound = sound; untouched = untouched; left_out = left_out; others = others inside; lowest_first = lowest_first }
-
--- whoever has a mate already is passed
-pub pairs_pass : {rows : List (List ℕ)} {next : List ℕ} {x : ℕ} {mates : List (Option ℕ)} → ArePaired rows next x mates → (mate_of mates x ≡ None → ⊥) → ArePaired rows next (x + 1) mates
-pairs_pass {rows} {next} {x} {mates} g some = record {
-  one_each = g.one_each;
-  sound = g.sound;
-  untouched = λ u h more e.
-      let k = g.untouched u h (omega (arith, more)) e in
-      elim (eq_or_ne u x) [
-        | inl d ↦ absurd (some (ap (mate_of mates) (sym d) ∙ k.1))
-        | inr d ↦ (omega (arith, k.0, d), k.1)
-      ];
-  left_out = g.left_out;
-  others = λ u h e. elim (eq_or_ne u x) [
-    | inl d ↦ absurd (some (ap (mate_of mates) (sym d) ∙ e))
-    | inr d ↦ g.others u (omega (arith, h, d)) e
-  ];
-  lowest_first = g.lowest_first;
-}
-
-pub pairs_end : {rows : List (List ℕ)} {next : List ℕ} {x : ℕ} {mates : List (Option ℕ)} → ArePaired rows next x mates → x ≡ length rows → PairsFromLowest rows next mates
-pairs_end {rows} {next} {x} {mates} g full = record { alternately = alternately; lowest_first = g.lowest_first }
-  where
-    alternately : PairsAlternately rows next mates
-    alternately = record {
-      one_each = g.one_each;
-      neighbours = λ u v e. let k = g.sound u v e in let d : k.mate ≡ v = some_same (sym k.is ∙ e) in (rw d at k.apart, rw d at k.near);
-      in_turn = λ u v e. let k = g.sound u v e in let d : k.mate ≡ v = some_same (sym k.is ∙ e) in rw d at k.back;
-      left_out = g.left_out;
-      others = λ u h e. g.others u (omega (arith, h, full)) e;
-    }
 
 -- who isn't alone and has no mate is the lowest of an odd party
 pub left_out_is : {rows : List (List ℕ)} {next : List ℕ} {mates : List (Option ℕ)} → length next ≡ length rows → PairsAlternately rows next mates

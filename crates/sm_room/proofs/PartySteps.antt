@@ -6,8 +6,7 @@ use Rattle.std.specs.List.{sum_by}
 use Rattle.sm_lists.proofs.Counting.{eq_or_ne}
 use Rattle.sm_theory.specs.Rooms.{mate_of}
 use Rattle.sm_theory.specs.Partitions.{predecessor_in, IsStablePartition}
-use Rattle.sm_theory.proofs.Room.Bridge.{has_before, one_successor}
-use Rattle.sm_room.specs.Pairing.{ArePaired}
+use Rattle.sm_theory.proofs.RoomBridge.{has_before, one_successor}
 
 pub one_where_none : Option ℕ → ℕ
 one_where_none None = 1
@@ -35,17 +34,6 @@ unpaired_falls mates y z hy hz ne ey ez =
 
 some_none : {x : ℕ} → ◌≡◌ {A = Option ℕ} None (Some x) → ⊥
 some_none e = grind arith
-
--- nobody is paired yet
-pub pairs_begin : {rows : List (List ℕ)} {next : List ℕ} (mates : List (Option ℕ)) → length mates ≡ length rows → ((x : ℕ) → mate_of mates x ≡ None) → ArePaired rows next 0 mates
-pairs_begin mates long none = record {
-  one_each = long;
-  sound = λ u v e. absurd (some_none (sym (none u) ∙ e));
-  untouched = λ u h le e. (omega arith, none u);
-  left_out = λ u o. none u;
-  others = λ u h e. absurd (omega arith);
-  lowest_first = λ u v low e. absurd (some_none (sym (none u) ∙ e));
-}
 
 module _ {rows : List (List ℕ)} {next : List ℕ} (h : IsStablePartition rows next) where
   -- each person's successor has it before it

@@ -4,7 +4,7 @@ use Rattle.std.proofs.lemmas.List.{get_or_append_left, get_or_push, length_push,
 use Rattle.std.proofs.lemmas.List.Sums.{sum_by-set}
 use Rattle.std.specs.List.{sum_by}
 use Rattle.sm_lists.specs.Rows.{entry}
-use Rattle.sm_lists.proofs.Counting.{lt_or_le, eq_or_ne, pigeonhole}
+use Rattle.sm_lists.proofs.Counting.{lt_or_le, pigeonhole}
 use Rattle.sm_lists.proofs.ItemLemmas.{push_cases, set_cases}
 use Rattle.sm_room.specs.Bounds.{IsLast, IsNext, IsGoodAt, bound_in}
 use Rattle.sm_room.specs.Rotating.{IsSecondPlace, HasTwoLeft, met, IsPath, IsWalk, IsClosed, AreUnmarked}
@@ -41,16 +41,6 @@ zero_marks n z marks e =
       | inl l ↦ get_or-replicate n z o o l
       | inr l ↦ get_or_past (replicate n o) z o (omega (arith, l, length-replicate n o))
     ])
-
--- nothing is walked yet
-pub path_begins : {rows : List (List ℕ)} (path places marks : List ℕ) → path ≡ [] → places ≡ [] → marks ≡ replicate (length rows) 0 → IsPath rows path places marks
-path_begins {rows} path places marks p q m = rw (p, q) (record {
-  place_each = refl;
-  inside = λ i h. absurd (omega arith);
-  mark_each = rw m (let o : ℕ = 0 in length-replicate (length rows) o);
-  index = λ i h. absurd (omega arith);
-  marked = λ z ne. absurd (ne (zero_marks (length rows) z marks m));
-})
 
 pub walk_begins : {rows : List (List ℕ)} {bounds : List ℕ} {start : ℕ} (path places : List ℕ) → path ≡ [] → start < length rows
     → HasTwoLeft rows bounds start → IsWalk rows bounds start path places start
@@ -155,36 +145,6 @@ path_fits {rows} {path = path} g = elim (lt_or_le (length rows) (length path)) [
       let o = w.order in
       absurd (let c = rw e at a in omega arith)
 ]
-
--- the marks of one more person are 0
-pub unmark_begins : (path : List ℕ) (from : ℕ) (marks : List ℕ) → AreUnmarked path from from marks marks
-unmark_begins path from marks = record { one_each = refl; gone = λ i a b. absurd (omega arith); other = λ z. inl refl }
-
-pub unmark_goes_on : {path : List ℕ} {from upto : ℕ} {before now : List ℕ} → AreUnmarked path from upto before now → from ≤ upto → get_or path upto 0 < length before
-    → AreUnmarked path from (upto + 1) before (set now (get_or path upto 0) 0)
-unmark_goes_on {path} {from} {upto} {before} {now} u le there = record {
-  one_each = length-set now x 0 ∙ u.one_each;
-  gone = λ i a b. elim (eq_or_ne i upto) [
-    | inl e ↦ rw e zero_here
-    | inr e ↦ elim (eq_or_ne (get_or path i 0) x) [
-      | inl d ↦ rw d zero_here
-      | inr d ↦ get_or-set_other now x (get_or path i 0) 0 0 d ∙ u.gone i a (omega (arith, b, e))
-    ]
-  ];
-  other = λ z. elim (eq_or_ne z x) [
-    | inl d ↦ rw d (inr (record { at = upto; late = le; early = omega arith; is = refl }, zero_here))
-    | inr d ↦ elim (u.other z) [
-      | inl s ↦ inl (get_or-set_other now x z 0 0 d ∙ s)
-      | inr w ↦ inr (record { at = w.0.at; late = w.0.late; early = omega (arith, w.0.early); is = w.0.is }, get_or-set_other now x z 0 0 d ∙ w.1)
-    ]
-  ];
-}
-  where
-    x : ℕ
-    x = get_or path upto 0
-
-    zero_here : get_or (set now x 0) x 0 ≡ 0
-    zero_here = get_or-set_same now x 0 0 (omega (arith, u.one_each, there))
 
 -- what is left of a path once it is cut off
 pub path_kept : {rows : List (List ℕ)} {path places marks now : List ℕ} {keep upto : ℕ} → IsPath rows path places marks → AreUnmarked path keep upto marks now → upto ≡ length path → keep ≤ length path
