@@ -3,7 +3,7 @@ use Rattle.std.proofs.Common.{◌≡◌, ◌≢◌, ℕ, zero, suc, ◌+◌, ◌
 use Rattle.sm_lists.proofs.Counting.{eq_or_ne, less_same_more}
 use Rattle.sm_theory.specs.Rooms.{mate_of}
 use Rattle.sm_theory.specs.Partitions.{successor_in, after, IsStablePartition, IsInOddParty, IsLowestOfOdd, PairsAlternately}
-use Rattle.sm_theory.proofs.RoomSpots.{Spot, spot, after_plus, take_back}
+use Rattle.sm_theory.proofs.Room.Spots.{Spot, spot, after_plus, take_back}
 use Rattle.sm_room.specs.Pairing.{IsPaired, ArePaired, IsPartyPaired}
 use Rattle.sm_room.specs.Parties.{IsLeftOut, IsLowestInOdd}
 

@@ -6,7 +6,7 @@ use Rattle.std.specs.List.{sum_by}
 use Rattle.sm_lists.proofs.Counting.{eq_or_ne}
 use Rattle.sm_theory.specs.Rooms.{mate_of}
 use Rattle.sm_theory.specs.Partitions.{predecessor_in, IsStablePartition}
-use Rattle.sm_theory.proofs.RoomBridge.{has_before, one_successor}
+use Rattle.sm_theory.proofs.Room.Bridge.{has_before, one_successor}
 
 pub one_where_none : Option ℕ → ℕ
 one_where_none None = 1
