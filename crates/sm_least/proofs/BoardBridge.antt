@@ -1,5 +1,5 @@
 -- The board of a market and its complete chain.
-use Rattle.std.proofs.Common.{◌≡◌, ℕ, zero, suc, ◌+◌, ◌<◌, ◌≤◌, inl, inr, arith, refl, sym, ap, ◌∙◌, subst, List, [], ◌∷◌, length, map, is_some, slice_index, slice_index_or, Contains}
+use Rattle.std.proofs.Common.{◌≡◌, ◌≢◌, ℕ, zero, suc, ◌+◌, ◌<◌, ◌≤◌, inl, inr, arith, refl, sym, ap, ◌∙◌, subst, List, [], ◌∷◌, length, map, is_some, slice_index, slice_index_or, Contains}
 use Rattle.std.proofs.lemmas.List.{get_or_default, get_or_past, get_or-map, get_or_read, length-map}
 use Rattle.std.proofs.lemmas.List.FromFn.{get_or-map-range_with_len, length-map-range_with_len}
 use Rattle.sm_market.specs.Lists.{Lists, row, place_of}
@@ -164,6 +164,8 @@ module _ {l : Lists} {levels : List (List ℕ)} {first : Places} {rotations : Li
     levels_each = length-map-range_with_len (λ p. map (λ i. slice_index (row levels p) i) (places_at l first moves p)) 0 (length l.proposers) ∙ sym many;
     matched_each = length-map-range_with_len (λ p. is_some (held first.proposers p)) 0 (length l.proposers) ∙ sym many;
     in_range = λ p a x. omega (arith, leave_is p a, (all_moves p).sound a (omega (arith, leaves_long p)), ground.needs_each);
+    needs_in_range = needs_in_range;
+    movers_once = movers_once;
     lead = λ p a x.
         subst (λ k. Contains (row needs k) (leave board p a)) (sym (leave_is p (a + 1)))
         (subst (λ j. Contains (row needs (rotation_of (moves_at moves p) (a + 1))) j) (sym (leave_is p a)) (leads p a (omega (arith, leaves_long p))));
@@ -177,6 +179,21 @@ module _ {l : Lists} {levels : List (List ℕ)} {first : Places} {rotations : Li
     rising = rising;
   }
     where
+      needs_in_range : (x i : ℕ) → Contains (row needs x) i → i < length needs
+      needs_in_range x i c = elim (lt_or_le x (length rotations)) [
+        | inl g ↦ omega (arith, contained (row needs x) i c, (ground.needs_are x g).sound c.0 c.1, ground.needs_each)
+        | inr past ↦ absurd (omega (arith, c.1, ap length (get_or_past needs x [] (omega (arith, ground.needs_each)))))
+      ]
+
+      mover_at : (x a : ℕ) → slice_index (row board.movers x) a ≡ proposer_at (rotation_at rotations x) a
+      mover_at x a = ap (λ r. slice_index r a) (mapped_row rotations x) ∙ first_of_pairs (rotation_at rotations x) a
+
+      movers_once : (x a c : ℕ) → a < c → c < length (row board.movers x) → slice_index (row board.movers x) a ≢ slice_index (row board.movers x) c
+      movers_once x a c less in_it e = elim (lt_or_le x (length rotations)) [
+        | inl g ↦ (ground.chain.exposed x g).distinct a c less (omega (arith, ap length (mapped_row rotations x), length-map (rotation_at rotations x) (λ m. m.0))) (sym (mover_at x a) ∙ e ∙ mover_at x c)
+        | inr past ↦ absurd (omega (arith, ap length (mapped_row rotations x), length-map (rotation_at rotations x) (λ m. m.0), ap length (get_or_past rotations x [] past)))
+      ]
+
       mover : (x p : ℕ) → pair_of (rotation_at rotations x) p < length (rotation_at rotations x) → Contains (row board.movers x) p
       mover x p m = contains_at (row board.movers x) (pair_of (rotation_at rotations x) p) p
           (omega (arith, ap length (mapped_row rotations x), length-map (rotation_at rotations x) (λ m. m.0)))

@@ -5,8 +5,10 @@
 //! set of rotations to its stable matching and back (Irving and Leather 1986; Gusfield and Irving 1989, theorem 2.5.7).
 #![tactic(auto)]
 
+mod conditions;
 mod moves;
 mod order;
 mod sets;
 
+pub use conditions::Conditions;
 pub use order::Poset;

@@ -1,0 +1,110 @@
+-- The steps by which the least set grows. What a step brings in is in all sets that are looked for, and it tells of a rotation
+-- that would change a level before a bar.
+use Rattle.std.specs.Prelude.{◌≡◌, ◌≢◌, ℕ, ◌+◌, ◌<◌, ◌≤◌, ◌^◌, Bool, List, [], length, take, slice_index, slice_index_or, Contains}
+use Rattle.sm_market.specs.Lists.{row}
+use Rattle.sm_theory.specs.ClosedSets.{IsMember}
+use Rattle.sm_theory.specs.Vectors.{IsOrder}
+use Rattle.sm_least.specs.Board.{Board, IsBoard, stay, stay_level, level, IsClosedIn, IsInside, Gates, IsOpen, Fits, Changes, IsFirstChange}
+use Rattle.sm_least.specs.Growing.{IsLogOf}
+
+-- a board and an order of its proposers; for each rotation the first position in this order whose level it changes
+pub record Course : Type 0 where
+  pub board : Board
+  pub order : List ℕ
+  pub first : List ℕ
+
+pub record IsCourse (t : Course) : Type 0 where
+  pub board : IsBoard t.board
+  pub few : length t.board.leaves < 2 ^ 32
+  pub order : IsOrder (length t.board.leaves) t.order
+  pub first_each : length t.first ≡ length t.board.needs
+  pub first_are : (x : ℕ) → x < length t.board.needs → IsFirstChange t.board t.order x (slice_index t.first x)
+
+-- what is held: a set, its log and the room for it, and the stay and the level of each proposer in its matching
+pub record Held : Type 0 where
+  pub set : List Bool
+  pub log : List ℕ
+  pub room : ℕ
+  pub stays : List ℕ
+  pub levels : List ℕ
+
+pub record IsHeld (b : Board) (h : Held) : Type 0 where
+  pub logged : IsLogOf b h.log h.set
+  pub room : h.room ≡ length b.needs
+  pub at_each : length h.stays ≡ length b.leaves
+  pub now_each : length h.levels ≡ length b.leaves
+  pub at_is : (p : ℕ) → p < length b.leaves → slice_index h.stays p ≡ stay b h.set p
+  pub now_is : (p : ℕ) → p < length b.leaves → slice_index h.levels p ≡ level b h.set p
+
+-- more is held, behind what was held before, and nothing new changes a level before `bar`
+pub record Grows (t : Course) (bar : ℕ) (before after : Held) : Type 0 where
+  pub held : IsHeld t.board after
+  pub front : take (length before.log) after.log ≡ before.log
+  pub longer : length before.log ≤ length after.log
+  pub more : IsInside before.set after.set
+  pub free : (x j : ℕ) → IsMember after.set x → ¬ IsMember before.set x → j < bar
+      → ¬ Changes t.board x (slice_index t.order j)
+
+-- what is new is in each set that is looked for and has all that was held
+abbrev pub IsInAll : (List Bool → Type 0) → (before after : List Bool) → Type 0
+IsInAll IsOne before after = (D : List Bool) → IsOne D → IsInside before D → IsInside after D
+
+-- a new member changes a level before `bar`
+pub record IsBroken (t : Course) (bar : ℕ) (before D : List Bool) : Type 0 where
+  pub rotation : ℕ
+  pub member : IsMember D rotation
+  pub new : ¬ IsMember before rotation
+  pub position : ℕ
+  pub early : position < bar
+  pub changes : Changes t.board rotation (slice_index t.order position)
+
+-- each set that is looked for and has all that was held changes a level before `bar`
+abbrev pub Breaks : (List Bool → Type 0) → Course → (bar : ℕ) → List Bool → Type 0
+Breaks IsOne t bar before = (D : List Bool) → IsOne D → IsInside before D → IsBroken t bar before D
+
+-- a closed set that has this rotation
+pub record HasRotation (b : Board) (x : ℕ) (D : List Bool) : Type 0 where
+  pub closed : IsClosedIn b D
+  pub has : IsMember D x
+
+-- a set that fits and gives p at least this level
+pub record IsHigh (b : Board) (g : Gates) (p wanted : ℕ) (D : List Bool) : Type 0 where
+  pub fits : Fits b g D
+  pub reaches : wanted ≤ level b D p
+
+-- no rotation of the log from a place on moves p
+abbrev pub IsIdle : Board → List ℕ → (from p : ℕ) → Type 0
+IsIdle b log from p = (c : ℕ) → from ≤ c → c < length log → ¬ Contains (row b.movers (slice_index log c)) p
+
+-- those of the first i proposers of a list that are idle have open stays
+abbrev pub AreOpened : Board → Gates → Held → (from : ℕ) → List ℕ → ℕ → Type 0
+AreOpened b g h from proposers i = (a : ℕ) → a < i → IsIdle b h.log from (slice_index proposers a)
+    → IsOpen g (slice_index proposers a) (stay b h.set (slice_index proposers a))
+
+-- all of the first n proposers that are idle have open stays
+abbrev pub AreSettled : Board → Gates → Held → (from n : ℕ) → Type 0
+AreSettled b g h from n = (p : ℕ) → p < n → IsIdle b h.log from p → IsOpen g p (stay b h.set p)
+
+-- the first i proposers of a list have gone on to their next stay, or back to the one before, and all others stay
+pub record IsMovedOn (b : Board) (movers : List ℕ) (i : ℕ) (at now later then : List ℕ) : Type 0 where
+  pub at_each : length later ≡ length at
+  pub now_each : length then ≡ length now
+  pub gone : (a : ℕ) → a < i → let p = slice_index movers a in
+      (slice_index later p ≡ slice_index at p + 1) × (slice_index then p ≡ stay_level b p (slice_index at p + 1))
+  pub stays : (p : ℕ) → ((a : ℕ) → a < i → slice_index movers a ≢ p)
+      → (slice_index later p ≡ slice_index at p) × (slice_index then p ≡ slice_index now p)
+
+pub record IsMovedBack (b : Board) (movers : List ℕ) (i : ℕ) (at now later then : List ℕ) : Type 0 where
+  pub at_each : length later ≡ length at
+  pub now_each : length then ≡ length now
+  pub gone : (a : ℕ) → a < i → let p = slice_index movers a in
+      (slice_index later p + 1 ≡ slice_index at p) × (slice_index then p ≡ stay_level b p (slice_index later p))
+  pub stays : (p : ℕ) → ((a : ℕ) → a < i → slice_index movers a ≢ p)
+      → (slice_index later p ≡ slice_index at p) × (slice_index then p ≡ slice_index now p)
+
+-- gates for the stays of a board; the last open one is a stay
+pub record AreGatesOf (b : Board) (g : Gates) : Type 0 where
+  pub until_each : length g.until ≡ length b.leaves
+  pub shut_each : length g.shut ≡ length b.leaves
+  pub stay_each : (p : ℕ) → p < length b.leaves → length (slice_index_or g.shut p []) ≡ length (row b.levels p)
+  pub few : (p : ℕ) → p < length b.leaves → slice_index g.until p ≤ length (row b.levels p)
