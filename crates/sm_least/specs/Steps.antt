@@ -1,6 +1,7 @@
 -- The steps by which the least set grows. What a step brings in is in all sets that are looked for, and it tells of a rotation
 -- that would change a level before a bar.
-use Rattle.std.specs.Prelude.{◌≡◌, ◌≢◌, ℕ, ◌+◌, ◌<◌, ◌≤◌, ◌^◌, Bool, List, [], length, take, slice_index, slice_index_or, Contains}
+use Rattle.std.specs.Prelude.{◌≡◌, ◌↔◌, ◌≢◌, ℕ, ◌+◌, ◌<◌, ◌≤◌, ◌^◌, Bool, true, false, List, [], length, take, slice_index, slice_index_or, Contains, Vec, map}
+use Rattle.std.specs.declared.alloc.Global.{Global}
 use Rattle.sm_market.specs.Lists.{row}
 use Rattle.sm_theory.specs.ClosedSets.{IsMember}
 use Rattle.sm_theory.specs.Vectors.{IsOrder}
@@ -108,3 +109,35 @@ pub record AreGatesOf (b : Board) (g : Gates) : Type 0 where
   pub shut_each : length g.shut ≡ length b.leaves
   pub stay_each : (p : ℕ) → p < length b.leaves → length (slice_index_or g.shut p []) ≡ length (row b.levels p)
   pub few : (p : ℕ) → p < length b.leaves → slice_index g.until p ≤ length (row b.levels p)
+
+-- a level is within the bounds as narrowed by the first i forced pairs exactly where it is within the bounds and forced
+pub record IsNarrowed (matched : List Bool) (forced : List (ℕ × ℕ)) (i : ℕ) (low high lower upper : List ℕ) : Type 0 where
+  pub low_each : length lower ≡ length low
+  pub high_each : length upper ≡ length high
+  pub within : (p v : ℕ) → p < length matched
+      → (slice_index lower p ≤ v) × (v ≤ slice_index upper p) ↔ (slice_index low p ≤ v) × (v ≤ slice_index high p)
+      × ((c : ℕ) → c < i → (slice_index_or forced c (0, 0)).0 ≡ p
+      → (slice_index_or matched p false ≡ true) × (v ≡ (slice_index_or forced c (0, 0)).1))
+
+-- exactly the stays are open whose levels pass
+pub record AreShut (levels : List ℕ) (Passes : ℕ → Type 0) (shut : List Bool) : Type 0 where
+  pub one_each : length shut ≡ length levels
+  pub opens : (a : ℕ) → a < length levels → (slice_index_or shut a false ≡ false) ↔ Passes (slice_index levels a)
+
+-- rows that are held in vectors
+abbrev pub rows_in : List (Vec Bool Global) → List (List Bool)
+rows_in vectors = map (λ v. v.items) vectors
+
+-- for each level of each row whether it is shut
+pub record AreRowsFor (levels : List (List ℕ)) (shut : List (List Bool)) : Type 0 where
+  pub one_each : length shut ≡ length levels
+  pub row_each : (p : ℕ) → p < length levels → length (slice_index_or shut p []) ≡ length (row levels p)
+
+-- those stays are open that were, but for those at one of the first i forbidden levels of a matched proposer
+pub record AreAvoided (matched : List Bool) (levels : List (List ℕ)) (forbidden : List (ℕ × ℕ)) (i : ℕ) (before after : List (List Bool)) : Type 0 where
+  pub rows : AreRowsFor levels after
+  pub opens : (p a : ℕ) → p < length levels → a < length (row levels p)
+      → (slice_index_or (slice_index_or after p []) a false ≡ false)
+      ↔ (slice_index_or (slice_index_or before p []) a false ≡ false)
+      × ((c : ℕ) → c < i → (slice_index_or forbidden c (0, 0)).0 ≡ p → slice_index_or matched p false ≡ true
+      → slice_index (row levels p) a ≢ (slice_index_or forbidden c (0, 0)).1)

@@ -2,6 +2,7 @@
 
 ghost use Rattle.std.specs.Prelude.{◌≡◌, ℕ, ◌<◌, length};
 ghost use Rattle.sm_market.specs.Lists.{row};
+ghost use Rattle.sm_market.specs.Vectors.{rows_of};
 ghost use Rattle.sm_least.specs.Board.{leave, stay_level};
 
 use std::marker::Model;
@@ -37,6 +38,20 @@ impl Model for Board {
 }
 
 impl Board {
+    /// For each proposer the levels of its stays.
+    pub(crate) fn all_levels(&self) -> &[Vec<u32>]
+        ensures { rows_of result.now ≡ self.now.levels }
+    {
+        &self.levels
+    }
+
+    /// For each proposer whether it is matched.
+    pub(crate) fn matched(&self) -> &[bool]
+        ensures { result.now ≡ self.now.matched }
+    {
+        &self.matched
+    }
+
     /// The predecessors of a rotation.
     pub(crate) fn needs(&self, x: u32) -> &[u32]
         requires { x < length self.now.needs }

@@ -1,8 +1,14 @@
 //! Which stays the bounds and conditions of a search leave open.
 
-ghost use Rattle.std.specs.Prelude.{◌≡◌, ◌+◌, ◌<◌, ◌≤◌, true, false, [], length, slice_index, slice_index_or};
-ghost use Rattle.sm_least.specs.Board.{is_shut};
+ghost use Rattle.std.specs.Prelude.{◌≡◌, ◌≢◌, ℕ, ◌+◌, ◌<◌, ◌≤◌, ◌↔◌, true, false, [], length, slice_index, slice_index_or};
+ghost use Rattle.sm_market.specs.Lists.{row};
+ghost use Rattle.sm_market.specs.Vectors.{rows_of};
+ghost use Rattle.sm_least.specs.Board.{Gates, IsBoard, is_shut};
+ghost use Rattle.sm_least.specs.BoardOf.{AreGates, AreInRange};
+ghost use Rattle.sm_least.specs.Steps.{AreGatesOf, IsNarrowed, AreShut, rows_in, AreRowsFor, AreAvoided};
 
+use crate::board::Board;
+use sm_poset::Conditions;
 use std::marker::Model;
 
 /// Bounds on the levels of each proposer, and the stays that they and the conditions leave open.
@@ -17,15 +23,41 @@ pub(crate) struct Gates {
 }
 
 impl Model for Gates {
-    ghost use Rattle.std.specs.Prelude.{map};
+    ghost use Rattle.std.specs.Prelude.{◌≡◌, length, map};
     ghost use Rattle.sm_least.specs.Board.{Gates as Plain};
 
     ghost Value = { Plain };
 
     ghost view = { λ s. record { until = s.until.items; shut = map (λ v. v.items) s.shut.items } };
+
+    ghost invariant = { λ s. (length s.low.items ≡ length s.until.items) × (length s.high.items ≡ length s.until.items) };
 }
 
 impl Gates {
+    /// Leaves open the stays whose levels lie within the bounds and meet the conditions, and no others. Takes time in
+    /// proportion to the stays and the forced pairs, and to the stays of the proposers of the forbidden ones.
+    pub(crate) fn set(&mut self, board: &Board, low: &[u32], high: &[u32], conditions: &Conditions)
+        requires board { IsBoard board.now }
+        requires gates { AreGatesOf board.now self.old }
+        requires low_each { length low.now ≡ length board.now.leaves }
+        requires high_each { length high.now ≡ length board.now.leaves }
+        requires forced { AreInRange (length board.now.leaves) conditions.now.forced.items }
+        requires forbidden { AreInRange (length board.now.leaves) conditions.now.forbidden.items }
+        ensures gates { AreGatesOf board.now self.new }
+        ensures open { AreGates board.now low.now high.now conditions.now.forced.items conditions.now.forbidden.items self.new }
+    {
+        self.low.copy_from_slice(low);
+        self.high.copy_from_slice(high);
+        fill(
+            board,
+            conditions,
+            &mut self.low,
+            &mut self.high,
+            &mut self.shut,
+            &mut self.until,
+        );
+    }
+
     /// The stay behind a proposer's last open one.
     pub(crate) fn until(&self, p: u32) -> usize
         requires { p < length self.now.until }
@@ -51,5 +83,165 @@ impl Gates {
         ensures { result ≡ is_shut self.now p stay }
     {
         self.shut[p as usize][stay]
+    }
+}
+
+/// Leaves open the stays whose levels lie within the bounds and meet the conditions, and no others. The bounds are narrowed.
+fn fill(
+    board: &Board,
+    conditions: &Conditions,
+    low: &mut [u32],
+    high: &mut [u32],
+    shut: &mut [Vec<bool>],
+    until: &mut [usize],
+)
+    requires board { IsBoard board.now }
+    requires rows { AreRowsFor board.now.levels (rows_in shut.old) }
+    requires until_each { length until.old ≡ length board.now.leaves }
+    requires low_each { length low.old ≡ length board.now.leaves }
+    requires high_each { length high.old ≡ length board.now.leaves }
+    requires forced { AreInRange (length board.now.leaves) conditions.now.forced.items }
+    requires forbidden { AreInRange (length board.now.leaves) conditions.now.forbidden.items }
+    ensures low_each { length low.new ≡ length low.old }
+    ensures high_each { length high.new ≡ length high.old }
+    ensures shut_each { length shut.new ≡ length shut.old }
+    ensures until_each { length until.new ≡ length until.old }
+    ensures gates { AreGatesOf board.now (record { until = until.new; shut = rows_in shut.new }) }
+    ensures open { AreGates board.now low.old high.old conditions.now.forced.items conditions.now.forbidden.items
+        (record { until = until.new; shut = rows_in shut.new }) }
+{
+    let matched = board.matched();
+    let levels = board.all_levels();
+    narrow(matched, &conditions.forced, low, high);
+    shut_rows(levels, low, high, shut);
+    shut_forbidden(matched, levels, &conditions.forbidden, shut);
+    find_last(shut, until);
+}
+
+/// Forced levels are lower and upper bounds at once; a forced level of a proposer that is unmatched leaves it none.
+fn narrow(matched: &[bool], forced: &[(u32, u32)], low: &mut [u32], high: &mut [u32])
+    requires low_each { length low.old ≡ length matched.now }
+    requires high_each { length high.old ≡ length matched.now }
+    requires in_range { AreInRange (length matched.now) forced.now }
+    ensures { IsNarrowed matched.now forced.now (length forced.now) low.old high.old low.new high.new }
+{
+    for &(p, level) in forced {
+        narrow_one(
+            matched[p as usize],
+            level,
+            &mut low[p as usize],
+            &mut high[p as usize],
+        );
+    }
+}
+
+/// One forced level of a proposer.
+fn narrow_one(matched: bool, level: u32, low: &mut u32, high: &mut u32)
+    ensures { (v : ℕ) → (low.new ≤ v) × (v ≤ high.new) ↔ (low.old ≤ v) × (v ≤ high.old) × (matched ≡ true) × (v ≡ level) }
+{
+    if !matched {
+        *low = u32::MAX;
+        *high = 0;
+    } else {
+        *low = level.max(*low);
+        *high = level.min(*high);
+    }
+}
+
+/// Shuts the stays whose levels aren't between these bounds, and opens all others.
+fn shut_row(levels: &[u32], low: u32, high: u32, shut: &mut [bool])
+    requires { length shut.old ≡ length levels.now }
+    ensures { AreShut levels.now (λ v. (low ≤ v) × (v ≤ high)) shut.new }
+{
+    for a in 0..levels.len() {
+        shut[a] = levels[a] < low || high < levels[a];
+    }
+}
+
+/// Shuts the stays of a level.
+fn shut_level(levels: &[u32], level: u32, shut: &mut [bool])
+    requires { length shut.old ≡ length levels.now }
+    ensures one_each { length shut.new ≡ length shut.old }
+    ensures shut { (a : ℕ) → a < length levels.now → (slice_index_or shut.new a false ≡ false) ↔ (slice_index_or shut.old a false ≡ false) × (slice_index levels.now a ≢ level) }
+{
+    for a in 0..levels.len() {
+        if levels[a] == level {
+            shut[a] = true;
+        }
+    }
+}
+
+/// The place behind the last stay that isn't shut.
+fn last_open(shut: &[bool]) -> usize
+    ensures few { result ≤ length shut.now }
+    ensures past { (a : ℕ) → result ≤ a → a < length shut.now → slice_index_or shut.now a false ≡ true }
+{
+    let mut until = shut.len();
+    while until > 0 && shut[until - 1] {
+        until -= 1;
+    }
+    until
+}
+
+/// Shuts the stays of each proposer whose levels aren't between its bounds, and opens all others.
+fn shut_rows(levels: &[Vec<u32>], low: &[u32], high: &[u32], shut: &mut [Vec<bool>])
+    requires low_each { length low.now ≡ length levels.now }
+    requires high_each { length high.now ≡ length levels.now }
+    requires rows { AreRowsFor (rows_of levels.now) (rows_in shut.old) }
+    ensures rows { AreRowsFor (rows_of levels.now) (rows_in shut.new) }
+    ensures shut { (p : ℕ) → p < length levels.now → AreShut (row (rows_of levels.now) p)
+        (λ v. (slice_index low.now p ≤ v) × (v ≤ slice_index high.now p)) (slice_index_or (rows_in shut.new) p []) }
+{
+    for p in 0..levels.len() {
+        shut_row(&levels[p], low[p], high[p], &mut shut[p]);
+    }
+}
+
+/// Shuts the stays of the forbidden levels of matched proposers. Takes time in proportion to the stays of the proposers that
+/// are named.
+fn shut_forbidden(
+    matched: &[bool],
+    levels: &[Vec<u32>],
+    forbidden: &[(u32, u32)],
+    shut: &mut [Vec<bool>],
+)
+    requires matched_each { length matched.now ≡ length levels.now }
+    requires in_range { AreInRange (length levels.now) forbidden.now }
+    requires rows { AreRowsFor (rows_of levels.now) (rows_in shut.old) }
+    ensures { AreAvoided matched.now (rows_of levels.now) forbidden.now (length forbidden.now) (rows_in shut.old) (rows_in shut.new) }
+{
+    for &(p, level) in forbidden {
+        shut_if(
+            matched[p as usize],
+            &levels[p as usize],
+            level,
+            &mut shut[p as usize],
+        );
+    }
+}
+
+/// Shuts the stays of a level, of a matched proposer.
+fn shut_if(matched: bool, levels: &[u32], level: u32, shut: &mut [bool])
+    requires { length shut.old ≡ length levels.now }
+    ensures one_each { length shut.new ≡ length shut.old }
+    ensures shut { (a : ℕ) → a < length levels.now → (slice_index_or shut.new a false ≡ false)
+        ↔ (slice_index_or shut.old a false ≡ false) × (matched ≡ true → slice_index levels.now a ≢ level) }
+{
+    if matched {
+        shut_level(levels, level, shut);
+    }
+}
+
+/// Finds the last open stay of each proposer.
+fn find_last(shut: &[Vec<bool>], until: &mut [usize])
+    requires { length until.old ≡ length shut.now }
+    ensures one_each { length until.new ≡ length shut.now }
+    ensures few { (p : ℕ) → p < length shut.now → slice_index until.new p ≤ length (slice_index_or (rows_in shut.now) p []) }
+    ensures past { (p a : ℕ) → p < length shut.now → slice_index until.new p ≤ a
+        → a < length (slice_index_or (rows_in shut.now) p [])
+        → slice_index_or (slice_index_or (rows_in shut.now) p []) a false ≡ true }
+{
+    for p in 0..shut.len() {
+        until[p] = last_open(&shut[p]);
     }
 }
