@@ -9,7 +9,7 @@ use std::marker::Model;
 
 /// What the rotations of a chain change for each proposer. A stay of a proposer lies between two rotations that move it.
 #[derive(Debug, Drop)]
-pub(crate) struct Board {
+pub struct Board {
     /// For each rotation its predecessors.
     pub(crate) needs: Vec<Vec<u32>>,
     /// For each rotation the proposers that it moves.
@@ -53,7 +53,7 @@ impl Board {
     }
 
     /// The predecessors of a rotation.
-    pub(crate) fn needs(&self, x: u32) -> &[u32]
+    pub fn needs(&self, x: u32) -> &[u32]
         requires { x < length self.now.needs }
         ensures { result.now ≡ row self.now.needs x }
     {
@@ -61,7 +61,7 @@ impl Board {
     }
 
     /// The proposers that a rotation moves.
-    pub(crate) fn movers(&self, x: u32) -> &[u32]
+    pub fn movers(&self, x: u32) -> &[u32]
         requires { x < length self.now.movers }
         ensures { result.now ≡ row self.now.movers x }
     {
@@ -69,7 +69,7 @@ impl Board {
     }
 
     /// The rotation that ends a stay of a proposer.
-    pub(crate) fn leave(&self, p: u32, stay: usize) -> u32
+    pub fn leave(&self, p: u32, stay: usize) -> u32
         requires proposer { p < length self.now.leaves }
         requires stay { stay < length (row self.now.leaves p) }
         ensures { result ≡ leave self.now p stay }
@@ -78,7 +78,7 @@ impl Board {
     }
 
     /// How many stays a proposer has.
-    pub(crate) fn stays(&self, p: u32) -> usize
+    pub fn stays(&self, p: u32) -> usize
         requires { p < length self.now.levels }
         ensures { result ≡ length (row self.now.levels p) }
     {
@@ -86,7 +86,7 @@ impl Board {
     }
 
     /// The level of a stay of a proposer.
-    pub(crate) fn level(&self, p: u32, stay: usize) -> u32
+    pub fn level(&self, p: u32, stay: usize) -> u32
         requires proposer { p < length self.now.levels }
         requires stay { stay < length (row self.now.levels p) }
         ensures { result ≡ stay_level self.now p stay }

@@ -1,6 +1,6 @@
 //! The order of a walk over a board.
 
-ghost use Rattle.std.specs.Prelude.{◌≡◌, ◌<◌, ◌≤◌, ◌++◌, ◌∷◌, [], true, false, length, take, set};
+ghost use Rattle.std.specs.Prelude.{◌≡◌, ◌<◌, ◌≤◌, ◌++◌, ◌∷◌, [], true, false, length, take, set, slice_index};
 ghost use Rattle.sm_market.specs.Lists.{row};
 ghost use Rattle.sm_theory.specs.ClosedSets.{IsMember};
 ghost use Rattle.sm_least.specs.Board.{leave};
@@ -12,7 +12,7 @@ use std::marker::Model;
 
 /// A board and an order of its proposers.
 #[derive(Debug, Drop)]
-pub(crate) struct Course {
+pub struct Course {
     pub(crate) board: Board,
     /// The proposers, each once.
     pub(crate) order: Vec<u32>,
@@ -31,8 +31,19 @@ impl Model for Course {
 }
 
 impl Course {
+    /// The proposer at a position of the order.
+    pub fn proposer_at(&self, position: u32) -> u32
+        requires { position < length self.now.order }
+        ensures proposer { result ≡ slice_index self.now.order position }
+        ensures course { IsCourse self.now }
+    {
+        let _ = &self.board;
+        let _ = &self.first;
+        self.order[position as usize]
+    }
+
     /// The board. It is one, and the order has each of its proposers once.
-    pub(crate) fn board(&self) -> &Board
+    pub fn board(&self) -> &Board
         ensures board { result.now ≡ self.now.board }
         ensures course { IsCourse self.now }
     {
@@ -42,7 +53,7 @@ impl Course {
     }
 
     /// How many proposers there are.
-    pub(crate) fn proposers(&self) -> u32
+    pub fn proposers(&self) -> u32
         ensures proposers { result ≡ length self.now.board.leaves }
         ensures course { IsCourse self.now }
     {
@@ -51,7 +62,7 @@ impl Course {
     }
 
     /// The predecessors of a rotation.
-    pub(crate) fn needs(&self, x: u32) -> &[u32]
+    pub fn needs(&self, x: u32) -> &[u32]
         requires { x < length self.now.board.needs }
         ensures needs { result.now ≡ row self.now.board.needs x }
         ensures course { IsCourse self.now }
@@ -60,7 +71,7 @@ impl Course {
     }
 
     /// The proposers that a rotation moves.
-    pub(crate) fn movers(&self, x: u32) -> &[u32]
+    pub fn movers(&self, x: u32) -> &[u32]
         requires { x < length self.now.board.needs }
         ensures movers { result.now ≡ row self.now.board.movers x }
         ensures course { IsCourse self.now }
@@ -69,7 +80,7 @@ impl Course {
     }
 
     /// The rotation that ends a stay of a proposer.
-    pub(crate) fn leave(&self, p: u32, stay: usize) -> u32
+    pub fn leave(&self, p: u32, stay: usize) -> u32
         requires proposer { p < length self.now.board.leaves }
         requires stay { stay < length (row self.now.board.leaves p) }
         ensures rotation { result ≡ leave self.now.board p stay }
@@ -79,7 +90,7 @@ impl Course {
     }
 
     /// A rotation enters, where it changes no level before a bar.
-    pub(crate) fn enter(&self, held: &mut Held, x: u32, bar: u32) -> bool
+    pub fn enter(&self, held: &mut Held, x: u32, bar: u32) -> bool
         requires held { IsHeld self.now.board held.old }
         requires positions { bar ≤ length self.now.order }
         requires number { x < length self.now.board.needs }
@@ -100,7 +111,7 @@ impl Course {
     }
 
     /// The rotations leave that entered last, until so many are held.
-    pub(crate) fn back(&self, held: &mut Held, count: usize)
+    pub fn back(&self, held: &mut Held, count: usize)
         requires held { IsHeld self.now.board held.old }
         requires some { count ≤ length held.old.log }
         ensures held { IsHeld self.now.board held.new }

@@ -13,7 +13,7 @@ use std::marker::Model;
 
 /// Bounds on the levels of each proposer, and the stays that they and the conditions leave open.
 #[derive(Debug, Drop)]
-pub(crate) struct Gates {
+pub struct Gates {
     pub(crate) low: Vec<u32>,
     pub(crate) high: Vec<u32>,
     /// For each proposer the stay behind its last open one.
@@ -59,7 +59,7 @@ impl Gates {
     }
 
     /// The stay behind a proposer's last open one.
-    pub(crate) fn until(&self, p: u32) -> usize
+    pub fn until(&self, p: u32) -> usize
         requires { p < length self.now.until }
         ensures { result ≡ slice_index self.now.until p }
     {
@@ -67,7 +67,7 @@ impl Gates {
     }
 
     /// Whether no stay behind this one is open.
-    pub(crate) fn is_last(&self, p: u32, stay: usize) -> bool
+    pub fn is_last(&self, p: u32, stay: usize) -> bool
         requires { p < length self.now.until }
         ensures last { result ≡ true → slice_index self.now.until p ≤ stay + 1 }
         ensures more { result ≡ false → stay + 1 < slice_index self.now.until p }
@@ -77,7 +77,7 @@ impl Gates {
     }
 
     /// Whether a stay before a proposer's last open one is shut.
-    pub(crate) fn is_shut(&self, p: u32, stay: usize) -> bool
+    pub fn is_shut(&self, p: u32, stay: usize) -> bool
         requires proposer { p < length self.now.shut }
         requires stay { stay < length (slice_index_or self.now.shut p []) }
         ensures { result ≡ is_shut self.now p stay }

@@ -117,13 +117,7 @@ fn open(course: &Course, gates: &Gates, held: &mut Held, p: u32, bar: u32) -> bo
 
 /// All go on to open stays whom rotations of the log move, from a place on. False where one can't, or where something changes a
 /// level before the bar.
-pub(crate) fn settle(
-    course: &Course,
-    gates: &Gates,
-    held: &mut Held,
-    start: usize,
-    bar: u32,
-) -> bool
+fn settle(course: &Course, gates: &Gates, held: &mut Held, start: usize, bar: u32) -> bool
     requires held { IsHeld course.now.board held.old }
     requires closed { IsClosedIn course.now.board held.old.set }
     requires positions { bar ≤ length course.now.order }
@@ -170,7 +164,7 @@ fn open_movers(course: &Course, gates: &Gates, held: &mut Held, x: u32, bar: u32
 
 /// A proposer goes on until it stands at a level or above. False where it can't, or where something changes a level before the
 /// bar.
-fn lift(course: &Course, gates: &Gates, held: &mut Held, p: u32, wanted: u32, bar: u32) -> bool
+fn lift(course: &Course, gates: &Gates, held: &mut Held, p: u32, wanted: u64, bar: u32) -> bool
     requires held { IsHeld course.now.board held.old }
     requires closed { IsClosedIn course.now.board held.old.set }
     requires positions { bar ≤ length course.now.order }
@@ -183,7 +177,7 @@ fn lift(course: &Course, gates: &Gates, held: &mut Held, p: u32, wanted: u32, ba
     ensures barred { result ≡ false → Breaks (IsHigh course.now.board gates.now p wanted) course.now bar held.old.set }
 {
     let _board = course.board();
-    'stays: while held.level(p) < wanted {
+    'stays: while u64::from(held.level(p)) < wanted {
         let stay = held.stay(p);
         if gates.is_last(p, stay) {
             return false;
@@ -196,7 +190,7 @@ fn lift(course: &Course, gates: &Gates, held: &mut Held, p: u32, wanted: u32, ba
 }
 
 /// Looks for the least set that fits, from the empty one on. True where there is one, which is held then.
-pub(crate) fn find(course: &Course, gates: &Gates, held: &mut Held) -> bool
+pub fn find(course: &Course, gates: &Gates, held: &mut Held) -> bool
     requires held { IsHeld course.now.board held.old }
     requires gates { AreGatesOf course.now.board gates.now }
     ensures held { IsHeld course.now.board held.new }
@@ -231,14 +225,7 @@ fn grow_all(course: &Course, gates: &Gates, held: &mut Held) -> bool
 
 /// Looks for the least set that fits, has what is held and gives a proposer a level or a higher one. Where it changes no level
 /// before the bar it is held now, and otherwise what was held.
-pub(crate) fn raise(
-    course: &Course,
-    gates: &Gates,
-    held: &mut Held,
-    p: u32,
-    wanted: u32,
-    bar: u32,
-) -> bool
+pub fn raise(course: &Course, gates: &Gates, held: &mut Held, p: u32, wanted: u64, bar: u32) -> bool
     requires held { IsHeld course.now.board held.old }
     requires fits { Fits course.now.board gates.now held.old.set }
     requires positions { bar ≤ length course.now.order }
@@ -259,7 +246,7 @@ pub(crate) fn raise(
 }
 
 /// The same, but where it is false what has entered stays.
-fn grow_to(course: &Course, gates: &Gates, held: &mut Held, p: u32, wanted: u32, bar: u32) -> bool
+fn grow_to(course: &Course, gates: &Gates, held: &mut Held, p: u32, wanted: u64, bar: u32) -> bool
     requires held { IsHeld course.now.board held.old }
     requires fits { Fits course.now.board gates.now held.old.set }
     requires positions { bar ≤ length course.now.order }
