@@ -7,7 +7,7 @@ use Rattle.sm_theory.specs.ClosedSets.{IsMember}
 use Rattle.sm_theory.specs.Vectors.{IsOrder, IsBefore}
 use Rattle.sm_theory.proofs.Vectors.Order.{compared, alike_equal, Less, More, Alike}
 use Rattle.sm_least.specs.Board.{Board, IsBoard, leave, stay_level, stay, level, IsInside, Gates, Fits, Changes}
-use Rattle.sm_least.specs.Walks.{vector, Agrees, Reaches, IsMark, IsUp, NoneFrom, UpWhereRaised, NoneWhereNotRaised, NoneWithoutTurn, NextUpIsFirst, WalkGoesOn, WalkBegins, FollowOn, FollowEnds}
+use Rattle.sm_least.specs.Walks.{vector, Agrees, Reaches, IsMark, IsUp, IsNextUp, NoneFrom, UpWhereRaised, NoneWhereNotRaised, NoneWithoutTurn, NextUpIsFirst, WalkGoesOn, WalkBegins, FollowOn, FollowEnds}
 use Rattle.sm_least.proofs.MemberLemmas.{members_few}
 use Rattle.sm_least.proofs.BoardLemmas.{members_are_first, stays_grow, level_stays, level_rises}
 
@@ -152,27 +152,36 @@ next_up_is_first b g order v i new h o x n none = record { above = before_of o x
         as_v : (j : ℕ) → j < i → slice_index (vector b new) (slice_index order j) ≡ slice_index v (slice_index order j)
         as_v j y = vector_at b new (slice_index order j) (o.in_range j (omega arith)) ∙ n.up.agrees j y
 
+-- the vector of a set at a position
+at_position : (b : Board) (order : List ℕ) (C : List Bool) → IsOrder (length b.leaves) order → (j : ℕ) → j < length order → slice_index (vector b C) (slice_index order j) ≡ level b C (slice_index order j)
+at_position b order C o j y = vector_at b C (slice_index order j) (o.in_range j y)
+
+-- a mark up to the position is one for the vector of the next set up too
+pub mark_before : {b : Board} {g : Gates} {order v : List ℕ} {i : ℕ} {new C : List Bool} → IsOrder (length b.leaves) order → i < length order → IsNextUp b g order v i new → (t : ℕ) → t ≤ i → IsMark b g order v t C → IsMark b g order (vector b new) t C
+mark_before {b} {g} {order} {v} {i} {new} {C} o x n t before m = record {
+  fits = m.fits;
+  agrees = λ j y. m.agrees j y ∙ sym (n.up.agrees j (omega arith)) ∙ sym (at_position b order new o j (omega arith));
+  least = λ D f reach. m.least D f (λ j y. omega (arith, reach j y, at_position b order new o j (omega arith), n.up.agrees j (omega arith)));
+}
+
+-- and behind it the new set is the mark
+pub mark_behind : {b : Board} {g : Gates} {order v : List ℕ} {i : ℕ} {new : List Bool} → IsOrder (length b.leaves) order → i < length order → IsNextUp b g order v i new → (t : ℕ) → i < t → t ≤ length order → IsMark b g order (vector b new) t new
+mark_behind {b} {g} {order} {v} {i} {new} o x n t behind le = record {
+  fits = n.up.fits;
+  agrees = λ j y. sym (at_position b order new o j (omega arith));
+  least = λ D f reach. n.least D f
+      (λ j y. omega (arith, reach j (omega arith), at_position b order new o j (omega arith), n.up.agrees j y))
+      (omega (arith, reach i behind, at_position b order new o i x, n.up.above));
+}
+
 -- the marks up to the position stay, and behind it the new set is the least
 pub walk_goes_on : WalkGoesOn
 walk_goes_on b g order v i mark then new o x marks n old now = record { marks = all; none = λ j D a c. absurd (omega arith) }
   where
-    vec : (j : ℕ) → j < length order → slice_index (vector b new) (slice_index order j) ≡ level b new (slice_index order j)
-    vec j y = vector_at b new (slice_index order j) (o.in_range j y)
-
     all : (t : ℕ) → t ≤ length order → IsMark b g order (vector b new) t (then t)
     all t le = elim (lt_or_le i t) [
-      | inr before ↦ subst (IsMark b g order (vector b new) t) (sym (old t before)) (record {
-        fits = (marks t before).fits;
-        agrees = λ j y. (marks t before).agrees j y ∙ sym (n.up.agrees j (omega arith)) ∙ sym (vec j (omega arith));
-        least = λ D f reach. (marks t before).least D f (λ j y. omega (arith, reach j y, vec j (omega arith), n.up.agrees j (omega arith)));
-      })
-      | inl behind ↦ subst (IsMark b g order (vector b new) t) (sym (now t behind)) (record {
-        fits = n.up.fits;
-        agrees = λ j y. sym (vec j (omega arith));
-        least = λ D f reach. n.least D f
-            (λ j y. omega (arith, reach j (omega arith), vec j (omega arith), n.up.agrees j y))
-            (omega (arith, reach i behind, vec i x, n.up.above));
-      })
+      | inr before ↦ subst (IsMark b g order (vector b new) t) (sym (old t before)) (mark_before o x n t before (marks t before))
+      | inl behind ↦ subst (IsMark b g order (vector b new) t) (sym (now t behind)) (mark_behind o x n t behind le)
     ]
 
 -- the least set is the mark everywhere
