@@ -1,0 +1,12 @@
+use Rattle.std.proofs.Common.{◌≡◌}
+use Rattle.sm_lister.specs.Walking.{IsUnderWay}
+use Rattle.sm_lister.proofs.walk.go_on.Given as goal
+
+abbrev pub invariant-loop-below : goal.invariant-loop-below
+invariant-loop-below l = record {
+  under_way : IsUnderWay l.course l.gates l.held l.vector l.marks l.below;
+  same : l.vector ≡ l.initial.vector;
+}
+
+abbrev pub decreases-loop-below : goal.decreases-loop-below
+decreases-loop-below l = l.below

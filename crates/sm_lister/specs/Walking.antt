@@ -1,0 +1,64 @@
+-- Where a walk stands: the level vector that it came to last, or the one that it goes on behind, and for each position how much
+-- of the log of what is held the positions up to it ask for.
+use Rattle.std.specs.Prelude.{◌≡◌, if◌then◌else◌, ℕ, ◌+◌, ◌<◌, ◌≤◌, true, false, List, Bool, Option, None, Some, length, take, slice_index}
+use Rattle.sm_least.specs.Board.{Gates, Fits, IsLeast}
+use Rattle.sm_least.specs.Growing.{IsLogOf}
+use Rattle.sm_least.specs.Steps.{Course, Held, IsHeld, AreGatesOf}
+use Rattle.sm_least.specs.Walks.{vector, IsMark, NoneFrom, IsFirst, IsFirstAbove}
+use Rattle.sm_lister.specs.declared.walk.Walk.{Walk}
+
+-- the front of the log up to the mark of each of the first d positions is the least set that fits and is no lower than v up to
+-- this position
+pub record AreMarks (t : Course) (g : Gates) (v log marks : List ℕ) (d : ℕ) : Type 0 where
+  pub few : (i : ℕ) → i < d → slice_index marks i ≤ length log
+  pub rising : (i j : ℕ) → i ≤ j → j < d → slice_index marks i ≤ slice_index marks j
+  pub are : (i : ℕ) (C : List Bool) → i < d → IsLogOf t.board (take (slice_index marks i) log) C
+      → IsMark t.board g t.order v (i + 1) C
+
+-- the gates, what is held, a vector and marks are made for the course
+pub record IsMadeFor (t : Course) (g : Gates) (h : Held) (v marks : List ℕ) : Type 0 where
+  pub held : IsHeld t.board h
+  pub gates : AreGatesOf t.board g
+  pub level_each : length v ≡ length t.board.leaves
+  pub mark_each : length marks ≡ length t.board.leaves
+
+-- there are marks for the first d positions, and no set is above the vector from there on
+pub record IsUnderWay (t : Course) (g : Gates) (h : Held) (v marks : List ℕ) (d : ℕ) : Type 0 where
+  pub made : IsMadeFor t g h v marks
+  pub within : d ≤ length t.board.leaves
+  pub are : AreMarks t g v h.log marks d
+  pub none : NoneFrom t.board g t.order v d
+
+-- none of the sets that fit is behind a cursor
+abbrev pub NoneLeft : Course → Gates → Option (List ℕ) → Type 0
+NoneLeft t g None = (D : List Bool) → ¬ Fits t.board g D
+NoneLeft t g (Some v) = NoneFrom t.board g t.order v 0
+
+-- of the sets that fit this one is the first behind a cursor
+abbrev pub IsFirstBehind : Course → Gates → Option (List ℕ) → List Bool → Type 0
+IsFirstBehind t g None C = IsFirst t.board g t.order C
+IsFirstBehind t g (Some v) C = IsFirstAbove t.board g t.order v C
+
+-- the first set behind a cursor is held, with its vector, and the walk is under way from there
+pub record IsReached (t : Course) (g : Gates) (cursor : Option (List ℕ)) (h : Held) (v marks : List ℕ) : Type 0 where
+  pub fits : Fits t.board g h.set
+  pub first : IsFirstBehind t g cursor h.set
+  pub vector_is : v ≡ vector t.board h.set
+  pub under_way : IsUnderWay t g h v marks (length t.board.leaves)
+
+-- along a vector the first i positions have marks, and what is held is the mark behind them
+pub record IsAlong (t : Course) (g : Gates) (h : Held) (v marks : List ℕ) (i : ℕ) : Type 0 where
+  pub made : IsMadeFor t g h v marks
+  pub are : AreMarks t g v h.log marks i
+  pub mark : IsMark t.board g t.order v i h.set
+
+-- the vector, if one was given or reached
+abbrev pub cursor_of : Walk → Option (List ℕ)
+cursor_of w = if w.given then Some w.vector.items else None
+
+-- a walk that made no step yet holds the least set that fits; another one is under way, or nothing fits
+pub record IsWalking (t : Course) (g : Gates) (h : Held) (w : Walk) : Type 0 where
+  pub made : IsMadeFor t g h w.vector.items w.marks.items
+  pub least : w.fresh ≡ true → IsLeast (Fits t.board g) h.set
+  pub under_way : w.fresh ≡ false → IsUnderWay t g h w.vector.items w.marks.items w.depth
+  pub nothing : w.fresh ≡ false → w.given ≡ false → NoneLeft t g None
