@@ -5,7 +5,7 @@ use Rattle.std.proofs.lemmas.List.{get_or-set_same, get_or-set_other, length-set
 use Rattle.sm_market.specs.Lists.{row}
 use Rattle.sm_lists.proofs.Counting.{eq_or_ne, lt_or_le}
 use Rattle.sm_theory.specs.ClosedSets.{IsMember}
-use Rattle.sm_theory.proofs.BridgeChain.{Decided-member}
+use Rattle.sm_theory.proofs.Bridge.Chain.{Decided-member}
 use Rattle.sm_least.specs.Board.{Board, IsBoard, members_in, stay, level, stay_level, IsInside}
 use Rattle.sm_least.specs.Growing.{IsLogOf}
 use Rattle.sm_least.specs.Steps.{Held, IsHeld, IsMovedOn, IsMovedBack}

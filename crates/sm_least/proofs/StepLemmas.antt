@@ -5,7 +5,7 @@ use Rattle.std.proofs.lemmas.List.{length_push, take-take, get_or-take, take_all
 use Rattle.sm_market.specs.Lists.{row}
 use Rattle.sm_lists.proofs.Counting.{eq_or_ne, lt_or_le}
 use Rattle.sm_theory.specs.ClosedSets.{IsMember}
-use Rattle.sm_theory.proofs.BridgeChain.{Decided-member}
+use Rattle.sm_theory.proofs.Bridge.Chain.{Decided-member}
 use Rattle.sm_least.specs.Board.{Board, IsBoard, stay, stay_level, level, leave, is_shut, IsClosedIn, IsInside, Gates, IsOpen, Fits, Changes}
 use Rattle.sm_least.specs.Growing.{AreNeedsIn}
 use Rattle.sm_least.specs.Walks.{IsRaised, IsNotRaised}
