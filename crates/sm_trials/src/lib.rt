@@ -20,6 +20,8 @@ mod reading;
 #[cfg(test)]
 mod runs;
 #[cfg(test)]
+mod seats;
+#[cfg(test)]
 mod tallies;
 #[cfg(test)]
 mod texts;
