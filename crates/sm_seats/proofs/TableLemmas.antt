@@ -151,3 +151,10 @@ begins_small {w} h r list begins is i = elim (cases_lt i (length list)) [
       let none : get_or begins i 0 ≡ 0 = ap (λ l. get_or l i 0) is ∙ get_or_past (map (begin_of w r) list) i 0 (omega (arith, length-map list (begin_of w r))) in
       omega arith
 ]
+
+-- the same where the reviewer is read of a proposer's list
+pub read_at : (w : Written) (p i : ℕ) {firsts list : List ℕ} → IsInstance w → firsts ≡ first_seats_of w → list ≡ row w.proposers p → i < length (row w.proposers p) → AreSeatsRead w firsts (get_or list i 0)
+read_at w p i {firsts} {list} h is same on =
+    let there = (h.proposer_entries.sound p i on).in_range in
+    let named : get_or list i 0 ≡ entry w.proposers p i = ap (λ l. get_or l i 0) same in
+    seats_read w (get_or list i 0) is (omega arith)

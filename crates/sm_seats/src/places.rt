@@ -67,10 +67,12 @@ fn seat_places_of(
     let count = instance.proposer_len(p);
     let mut places = Vec::with_capacity(alloc, count as usize + 1)?;
     let mut before = 0;
-    for place in 0..count {
+    let list = instance.proposer_list(p);
+    let crosses = instance.proposer_crosses(p);
+    for place in 0..count as usize {
         places.push(before)?;
-        if instance.cross(p, place).is_some() {
-            let r = instance.reviewer_at(p, place) as usize;
+        if crosses[place].place().is_some() {
+            let r = list[place] as usize;
             before += firsts[r + 1] - firsts[r];
         }
     }
