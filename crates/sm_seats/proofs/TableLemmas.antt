@@ -158,3 +158,10 @@ read_at w p i {firsts} {list} h is same on =
     let there = (h.proposer_entries.sound p i on).in_range in
     let named : get_or list i 0 ≡ entry w.proposers p i = ap (λ l. get_or l i 0) same in
     seats_read w (get_or list i 0) is (omega arith)
+
+-- and who that reviewer is
+pub named_at : (w : Written) (p i : ℕ) {list : List ℕ} → IsInstance w → list ≡ row w.proposers p → i < length (row w.proposers p) → (get_or list i 0 ≡ entry w.proposers p i) × (get_or list i 0 < length w.reviewers)
+named_at w p i {list} h same on =
+    let there = (h.proposer_entries.sound p i on).in_range in
+    let named : get_or list i 0 ≡ entry w.proposers p i = ap (λ l. get_or l i 0) same in
+    (named, omega arith)

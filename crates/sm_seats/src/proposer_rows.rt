@@ -97,9 +97,11 @@ fn proposer_row(
         crosses: Vec::with_capacity(alloc, room as usize)?,
         levels: Vec::with_capacity(alloc, room as usize + 1)?,
     };
+    let list = instance.proposer_list(p);
+    let crosses = instance.proposer_crosses(p);
     for place in 0..instance.proposer_len(p) {
-        if let Some(back) = instance.cross(p, place) {
-            let r = instance.reviewer_at(p, place);
+        if let Some(back) = crosses[place as usize].place() {
+            let r = list[place as usize];
             let range = SeatRange {
                 from: firsts[r as usize],
                 to: firsts[r as usize + 1],

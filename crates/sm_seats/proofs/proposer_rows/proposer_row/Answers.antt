@@ -7,37 +7,39 @@ use Rattle.sm_instance.specs.Written.{row, entry, place_of}
 use Rattle.sm_seats.specs.Mutual.{mutual_row}
 use Rattle.sm_seats.specs.SeatMarket.{seat_count, seats_before, seats_at}
 use Rattle.sm_seats.specs.Tables.{reviewers_before, crosses_at, levels_for, mutual_before, mutual_places_at}
-use Rattle.sm_seats.proofs.CrossLemmas.{crossed_at, not_crossed, back_more, back_same}
-use Rattle.sm_seats.proofs.TableLemmas.{seats_read, mutual_place_at, mutual_row_at, mutual_before_is}
+use Rattle.sm_seats.proofs.CrossLemmas.{cross_read, crossed_at, not_crossed, back_more, back_same}
+use Rattle.sm_seats.proofs.TableLemmas.{seats_read, read_at, named_at, mutual_place_at, mutual_row_at, mutual_before_is}
 use Rattle.sm_seats.proofs.RowLemmas.{piece_pushed}
 use Rattle.sm_seats.proofs.proposer_rows.proposer_row.Goals as goal
 use Rattle.sm_seats.proofs.proposer_rows.proposer_row.Goals.{in-Some+in_ok-add_seats, in_default}
 
 pub bounds-firsts-r : goal.bounds-firsts-r
-bounds-firsts-r c = omega (arith, (seats_read c.args.instance.now c.reviewer_at-r.result c.requires.firsts c.reviewer_at-r.ensures.in_range).inside)
+bounds-firsts-r c = omega (arith, (read_at c.args.instance.now c.args.p c.loop-place.place c.proposer_len-place-end.ensures.instance c.requires.firsts c.proposer_list-list.ensures (omega (arith, c.loop-place-test.true))).inside)
 
 pub bounds-firsts-r-in-Some : goal.bounds-firsts-r-in-Some
-bounds-firsts-r-in-Some c = (seats_read c.args.instance.now c.reviewer_at-r.result c.requires.firsts c.reviewer_at-r.ensures.in_range).inside
+bounds-firsts-r-in-Some c = (read_at c.args.instance.now c.args.p c.loop-place.place c.proposer_len-place-end.ensures.instance c.requires.firsts c.proposer_list-list.ensures (omega (arith, c.loop-place-test.true))).inside
 
 pub entry_at-requires-clause-in_range : goal.entry_at-requires-clause-in_range
 entry_at-requires-clause-in_range c =
     let w = c.args.instance.now in
     let long = sym (length-map c.args.places.now (λ v. v.items)) ∙ ap length c.requires.places ∙ length-map-range_with_len (mutual_places_at w) 0 (length w.reviewers) in
-    omega (arith, long, c.reviewer_at-r.ensures.in_range)
+    let who = named_at c.args.instance.now c.args.p c.loop-place.place c.proposer_len-place-end.ensures.instance c.proposer_list-list.ensures (omega (arith, c.loop-place-test.true)) in
+    omega (arith, long, who.1)
 
 pub entry_at-requires-clause-on_list : goal.entry_at-requires-clause-on_list
 entry_at-requires-clause-on_list c =
     let w = c.args.instance.now in
-    let r = c.reviewer_at-r.result in
+    let who = named_at c.args.instance.now c.args.p c.loop-place.place c.proposer_len-place-end.ensures.instance c.proposer_list-list.ensures (omega (arith, c.loop-place-test.true)) in
+    let r = get_or c.proposer_list-list.result.now c.loop-place.place 0 in
     let on : c.loop-place.place < length (row w.proposers c.args.p) = omega (arith, c.loop-place-test.true) in
-    let it = crossed_at c.proposer_len-place-end.ensures.instance.proposer_entries on c.cross.ensures.cross c.in-Some.is in
-    let named = ap (λ x. length (row w.reviewers x)) c.reviewer_at-r.ensures.named in
-    let long = ap (λ t. length (table_row t r)) c.requires.places ∙ ap length (mutual_row_at w r c.reviewer_at-r.ensures.in_range) ∙ length-map-range_with_len (mutual_before w r) 0 (length (row w.reviewers r)) in
+    let it = crossed_at c.proposer_len-place-end.ensures.instance.proposer_entries on (cross_read c.proposer_crosses-crosses.ensures on c.index-crosses-place.is c.place.ensures) c.in-Some.is in
+    let named = ap (λ x. length (row w.reviewers x)) who.0 in
+    let long = ap (λ t. length (table_row t r)) c.requires.places ∙ ap length (mutual_row_at w r who.1) ∙ length-map-range_with_len (mutual_before w r) 0 (length (row w.reviewers r)) in
     omega (arith, long, named, it.back, it.mutual_.listed)
 
 pub add_seats-requires : goal.add_seats-requires
 add_seats-requires c =
-    let s = seats_read c.args.instance.now c.reviewer_at-r.result c.requires.firsts c.reviewer_at-r.ensures.in_range in
+    let s = (read_at c.args.instance.now c.args.p c.loop-place.place c.proposer_len-place-end.ensures.instance c.requires.firsts c.proposer_list-list.ensures (omega (arith, c.loop-place-test.true))) in
     omega (arith, s.first, s.next)
 
 pub loop-place-preserved : goal.loop-place-preserved
@@ -49,18 +51,20 @@ loop-place-preserved c =
     let on : i < length (row w.proposers p) = omega (arith, c.loop-place-test.true) in
     let before = c.loop-place.invariant in
     let xs : List ℕ = reviewers_before w p i in
-    elim c.match-cross.branch [
+    let who = named_at w p i c.proposer_len-place-end.ensures.instance c.proposer_list-list.ensures on in
+    let read = cross_read c.proposer_crosses-crosses.ensures on c.index-crosses-place.is c.place.ensures in
+    let r : ℕ = get_or c.proposer_list-list.result.now i 0 in
+    elim c.match-place.branch [
       | in-Some+in_ok-add_seats b ↦
-          let it = crossed_at c.proposer_len-place-end.ensures.instance.proposer_entries on c.cross.ensures.cross b.in-Some.is in
+          let it = crossed_at c.proposer_len-place-end.ensures.instance.proposer_entries on read b.in-Some.is in
           let more = back_more w.proposers w.reviewers p i on it.passes in
-          let r = b.reviewer_at-r.result in
-          let s = seats_read w r c.requires.firsts b.reviewer_at-r.ensures.in_range in
-          let count : get_or c.args.firsts.now (r + 1) 0 - get_or c.args.firsts.now r 0 ≡ seat_count w x = s.count ∙ ap (seat_count w) b.reviewer_at-r.ensures.named in
-          let first : get_or c.args.firsts.now r 0 ≡ seats_before w x = s.first ∙ ap (seats_before w) b.reviewer_at-r.ensures.named in
+          let s = seats_read w r c.requires.firsts who.1 in
+          let count : get_or c.args.firsts.now (r + 1) 0 - get_or c.args.firsts.now r 0 ≡ seat_count w x = s.count ∙ ap (seat_count w) who.0 in
+          let first : get_or c.args.firsts.now r 0 ≡ seats_before w x = s.first ∙ ap (seats_before w) who.0 in
           let cross : b.entry_at.result ≡ place_on (mutual_row w.reviewers w.proposers x) p =
           b.entry_at.ensures ∙ ap (λ t. table_entry t r b.in-Some.back) c.requires.places
-          ∙ mutual_place_at w r b.in-Some.back b.reviewer_at-r.ensures.in_range (let named = ap (λ y. length (row w.reviewers y)) b.reviewer_at-r.ensures.named in omega (arith, named, it.back, it.mutual_.listed))
-          ∙ ap (λ y. mutual_before w y b.in-Some.back) b.reviewer_at-r.ensures.named ∙ ap (mutual_before w x) (sym it.back) ∙ mutual_before_is w it.mutual_ in
+          ∙ mutual_place_at w r b.in-Some.back who.1 (let named = ap (λ y. length (row w.reviewers y)) who.0 in omega (arith, named, it.back, it.mutual_.listed))
+          ∙ ap (λ y. mutual_before w y b.in-Some.back) who.0 ∙ ap (mutual_before w x) (sym it.back) ∙ mutual_before_is w it.mutual_ in
           let size : ℕ = get_or c.args.firsts.now (r + 1) 0 - get_or c.args.firsts.now r 0 in
           record {
             list = rw b.row-is (piece_pushed (seats_at w) xs x _ _ _ before.list b.in_ok-add_seats.ensures.list (ap (λ n. range_with_len n size) first ∙ ap (range_with_len (seats_before w x)) count) ∙ ap (flat_map (seats_at w)) (sym more));
@@ -68,7 +72,7 @@ loop-place-preserved c =
             levels = rw b.row-is (piece_pushed (levels_for w p) xs x _ _ _ before.levels b.in_ok-add_seats.ensures.levels (ap (λ n. replicate size (n + 1)) (sym it.place) ∙ ap (λ n. replicate n (place_of w.proposers p x + 1)) count) ∙ ap (flat_map (levels_for w p)) (sym more));
           }
       | in_default b ↦
-          let same = back_same w.proposers w.reviewers p i on (not_crossed w.proposers w.reviewers p i c.cross.ensures.cross b.in_default.is) in
+          let same = back_same w.proposers w.reviewers p i on (not_crossed w.proposers w.reviewers p i read b.in_default.is) in
           record {
             list = rw b.row-is (before.list ∙ ap (flat_map (seats_at w)) (sym same));
             crosses = rw b.row-is (before.crosses ∙ ap (flat_map (crosses_at w p)) (sym same));
