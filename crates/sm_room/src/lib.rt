@@ -20,8 +20,6 @@ mod parties;
 mod proposing;
 mod rotating;
 mod tables;
-#[cfg(test)]
-mod tests;
 mod walk;
 
 pub use faults::RoomFault;

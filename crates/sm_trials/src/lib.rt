@@ -18,6 +18,8 @@ mod pieces;
 #[cfg(test)]
 mod reading;
 #[cfg(test)]
+mod rooms;
+#[cfg(test)]
 mod runs;
 #[cfg(test)]
 mod seats;

@@ -6,10 +6,9 @@ ghost use Rattle.sm_lists.specs.Rows.{rows_of};
 ghost use Rattle.sm_lists.specs.Limits.{AreWithinLimits};
 ghost use Rattle.sm_room.specs.Tables.{IsGood};
 
-use crate::{Partition, RoomFault, RoomMarket, Table, phase_one, phase_two, stable_partition};
+use crate::made::MEMORY;
+use sm_room::{Partition, RoomFault, RoomMarket, Table, phase_one, phase_two, stable_partition};
 use std::process::Abort;
-
-const MEMORY: &str = "memory";
 
 /// The persons of one list.
 fn list(rt: &(impl Abort + AllocGlobal), text: &str) -> Vec<u32>
