@@ -1,6 +1,6 @@
 //! The seats' lists of proposers.
 
-ghost use Rattle.std.specs.Prelude.{◌≡◌, ℕ, ◌+◌, ◌<◌, ◌≤◌, ◌^◌, ◌++◌, length, map, replicate, slice_index, IfOk, OnOk};
+ghost use Rattle.std.specs.Prelude.{◌≡◌, ℕ, ◌+◌, ◌-◌, ◌<◌, ◌≤◌, ◌^◌, ◌++◌, ◌∷◌, [], length, map, replicate, slice_index, IfOk, OnOk};
 ghost use Rattle.std.specs.List.{range_with_len};
 ghost use Rattle.sm_lists.specs.Rows.{rows_of};
 ghost use Rattle.sm_instance.specs.Sound.{IsInstance};
@@ -55,7 +55,7 @@ pub(crate) fn reviewer_rows(
     for r in 0..reviewers {
         let row = reviewer_row(alloc, instance, r, begins)?;
         let count = firsts[r as usize + 1] - firsts[r as usize];
-        add_seats(alloc, &mut rows, r, count, &row)?;
+        add_seats(alloc, &mut rows, r, count, row)?;
     }
     Ok(rows)
 }
@@ -92,8 +92,33 @@ fn reviewer_row(
     Ok(row)
 }
 
-// Adds so many seats of a reviewer.
+// Adds so many seats of a reviewer. The last one takes the row, so that a single seat copies nothing.
 fn add_seats(
+    alloc: Global,
+    rows: &mut ReviewerRows,
+    r: u32,
+    count: u32,
+    row: ReviewerRow,
+) -> Result<(), AllocError>
+    requires count { count ≤ 4096 }
+    requires small { (i : ℕ) → slice_index row.begins.items i ≤ 2 ^ 24 }
+    ensures seats { OnOk result
+        (rows.new.seats.items ≡ rows.old.seats.items ++ map (λ k. (r, k)) (range_with_len 1 count)) }
+    ensures lists { OnOk result
+        (rows_of rows.new.lists.items ≡ rows_of rows.old.lists.items ++ replicate count row.list.items) }
+    ensures crosses { OnOk result (rows_of rows.new.crosses.items
+        ≡ rows_of rows.old.crosses.items ++ map (λ k. map (λ n. n + k) row.begins.items) (range_with_len 0 count)) }
+{
+    if count == 0 {
+        return Ok(());
+    }
+    add_copies(alloc, rows, r, count - 1, &row)?;
+    add_last(alloc, rows, (r, count), row)?;
+    Ok(())
+}
+
+// Adds so many seats of a reviewer, with copies of its row.
+fn add_copies(
     alloc: Global,
     rows: &mut ReviewerRows,
     r: u32,
@@ -115,6 +140,40 @@ fn add_seats(
         rows.crosses.push(raised(alloc, &row.begins, k)?)?;
     }
     Ok(())
+}
+
+// Adds a reviewer's last seat, which takes the row.
+fn add_last(
+    alloc: Global,
+    rows: &mut ReviewerRows,
+    seat: (u32, u32),
+    row: ReviewerRow,
+) -> Result<(), AllocError>
+    requires number { 0 < seat.1 }
+    requires count { seat.1 ≤ 4096 }
+    requires small { (i : ℕ) → slice_index row.begins.items i ≤ 2 ^ 24 }
+    ensures seats { OnOk result (rows.new.seats.items ≡ rows.old.seats.items ++ seat ∷ []) }
+    ensures lists { OnOk result (rows_of rows.new.lists.items ≡ rows_of rows.old.lists.items ++ row.list.items ∷ []) }
+    ensures crosses { OnOk result (rows_of rows.new.crosses.items
+        ≡ rows_of rows.old.crosses.items ++ map (λ n. n + (seat.1 - 1)) row.begins.items ∷ []) }
+{
+    rows.seats.push(seat)?;
+    rows.lists.push(row.list)?;
+    rows.crosses
+        .push(last_raised(alloc, row.begins, seat.1 - 1)?)?;
+    Ok(())
+}
+
+// Each number raised by so much; nothing is copied where that is 0.
+fn last_raised(alloc: Global, numbers: Vec<u32>, by: u32) -> Result<Vec<u32>, AllocError>
+    requires small { (i : ℕ) → slice_index numbers.items i ≤ 2 ^ 24 }
+    requires by { by ≤ 4096 }
+    ensures { IfOk result (λ raised. raised.items ≡ map (λ n. n + by) numbers.items) }
+{
+    if by == 0 {
+        return Ok(numbers);
+    }
+    raised(alloc, &numbers, by)
 }
 
 // Each number raised by so much.

@@ -1,22 +1,25 @@
-use Rattle.std.proofs.Common.{◌≡◌, ℕ, ◌+◌, ◌∷◌, [], ◌++◌, List, Vec, map, refl, ap, ◌∙◌, arith}
-use Rattle.std.specs.declared.alloc.Global.{Global}
-use Rattle.std.proofs.lemmas.List.{map_push}
+use Rattle.std.proofs.Common.{◌≡◌, ℕ, ◌+◌, ◌-◌, ◌++◌, List, map, ap, ◌∙◌, arith}
+use Rattle.std.specs.List.{range_with_len}
 use Rattle.sm_lists.specs.Rows.{rows_of}
-use Rattle.sm_seats.proofs.RowLemmas.{map_pushed, same_pushed}
+use Rattle.sm_seats.proofs.RowLemmas.{map_pushed}
 use Rattle.sm_seats.proofs.reviewer_rows.add_seats.Goals as goal
 
-pub loop-k-preserved : goal.loop-k-preserved
-loop-k-preserved c =
-    let k = c.loop-k.k in
-    let old = c.args.rows.now in
-    let rows = c.loop-k.rows in
-    let row = c.args.row.now in
-    record {
-      seats = c.in_ok-push.ensures.items ∙ map_pushed (λ (j : ℕ). (c.args.r, j)) old.seats.items rows.seats.items 1 k (c.args.r, k + 1) (ap (λ (j : ℕ). (c.args.r, j)) (let e : k + 1 ≡ 1 + k = omega arith in e)) c.loop-k.invariant.seats;
-      lists = ap (λ v. rows_of v) c.in_ok-push-2.ensures.items ∙ map_push (λ (v : Vec ℕ Global). v.items) rows.lists.items c.in_ok-from_slice.field-0
-          ∙ ap (λ (l : List ℕ). rows_of rows.lists.items ++ l ∷ []) (c.in_ok-from_slice.ensures.items ∙ c.deref.ensures.value)
-          ∙ same_pushed (rows_of old.lists.items) (rows_of rows.lists.items) k (k + 1) row.list.items refl c.loop-k.invariant.lists;
-      crosses = ap (λ v. rows_of v) c.in_ok-push-3.ensures.items ∙ map_push (λ (v : Vec ℕ Global). v.items) rows.crosses.items c.in_ok-raised.field-0
-          ∙ map_pushed (λ (j : ℕ). map (λ (n : ℕ). n + j) row.begins.items) (rows_of old.crosses.items) (rows_of rows.crosses.items) 0 k c.in_ok-raised.field-0.items
-          (c.in_ok-raised.ensures ∙ ap (map (λ (n : ℕ). n + k)) c.deref-in-loop-k.ensures.value ∙ ap (λ (j : ℕ). map (λ (n : ℕ). n + j) row.begins.items) (let e : k ≡ 0 + k = omega arith in e)) c.loop-k.invariant.crosses;
-    }
+pub returns-clause-seats : goal.returns-clause-seats
+returns-clause-seats c =
+    let old = c.args.rows.now.seats.items in
+    let f : ℕ → ℕ × ℕ = λ j. (c.args.r, j) in
+    let n : ℕ = c.args.count - 1 in
+    let last : c.args.count ≡ 1 + n = omega (arith, c.if-count-eq0.false) in
+    let more : n + 1 ≡ c.args.count = omega (arith, c.if-count-eq0.false) in
+    c.in_ok-add_last.ensures.seats ∙ map_pushed f old _ 1 n (c.args.r, c.args.count) (ap f last) c.in_ok-add_copies.ensures.seats
+    ∙ ap (λ m. old ++ map f (range_with_len 1 m)) more
+
+pub returns-clause-crosses : goal.returns-clause-crosses
+returns-clause-crosses c =
+    let old = rows_of c.args.rows.now.crosses.items in
+    let f : ℕ → List ℕ = λ j. map (λ (b : ℕ). b + j) c.args.row.begins.items in
+    let n : ℕ = c.args.count - 1 in
+    let last : n ≡ 0 + n = omega arith in
+    let more : n + 1 ≡ c.args.count = omega (arith, c.if-count-eq0.false) in
+    c.in_ok-add_last.ensures.crosses ∙ map_pushed f old _ 0 n (f n) (ap f last) c.in_ok-add_copies.ensures.crosses
+    ∙ ap (λ m. old ++ map f (range_with_len 0 m)) more

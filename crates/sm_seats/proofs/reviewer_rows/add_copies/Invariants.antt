@@ -1,7 +1,7 @@
 use Rattle.std.proofs.Common.{◌≡◌, ◌+◌, ◌++◌, ℕ, map, replicate}
 use Rattle.std.specs.List.{range_with_len}
 use Rattle.sm_lists.specs.Rows.{rows_of}
-use Rattle.sm_seats.proofs.reviewer_rows.add_seats.Given as goal
+use Rattle.sm_seats.proofs.reviewer_rows.add_copies.Given as goal
 
 abbrev pub invariant-loop-k : goal.invariant-loop-k
 invariant-loop-k l = record {
