@@ -1,5 +1,5 @@
 -- Where the items of a list stand once some are left out.
-use Rattle.std.proofs.Common.{◌≡◌, ◌≢◌, ℕ, zero, suc, ◌+◌, ◌<◌, ◌≤◌, ◌==◌, Bool, true, false, List, [], ◌∷◌, length, get_or, refl, sym, ap, ◌∙◌, arith, inl, inr}
+use Rattle.std.proofs.Common.{◌≡◌, ◌≢◌, ℕ, zero, suc, ◌+◌, ◌<◌, ◌≤◌, ◌==◌, Bool, true, false, List, [], ◌∷◌, length, take, get_or, refl, sym, ap, ◌∙◌, arith, inl, inr}
 use Rattle.std.specs.List.{filter}
 use Rattle.std.proofs.lemmas.Bool.{eqb-true, cases_lt}
 use Rattle.sm_lists.specs.Rows.{place_on}
@@ -124,6 +124,33 @@ length-filter-le t [] = omega arith
 length-filter-le t (x ∷ xs) = elim (test_cases (t x)) [
   | inl passes ↦ rw (taken t x xs passes) (let deep = length-filter-le t xs in omega arith)
   | inr fails ↦ rw (left_out t x xs fails) (let deep = length-filter-le t xs in omega arith)
+]
+
+-- where all pass a test, so many do before a place
+pub whole_before : (t : ℕ → Bool) (xs : List ℕ) (j : ℕ) → length (filter t xs) ≡ length xs → j ≤ length xs → length (filter t (take j xs)) ≡ j
+whole_before t xs zero e le = refl
+whole_before t [] (suc j) e le = omega (arith, le)
+whole_before t (x ∷ xs) (suc j) e le = elim (test_cases (t x)) [
+  | inl passes ↦
+      let all = ap length (taken t x xs passes) in
+      let here = ap length (taken t x (take j xs) passes) in
+      let deep = whole_before t xs j (omega (arith, e, all)) (omega (arith, le)) in
+      omega (arith, here, deep)
+  | inr fails ↦
+      let all = ap length (left_out t x xs fails) in
+      omega (arith, e, all, length-filter-le t xs)
+]
+
+-- and they are the list
+pub whole_filter : (t : ℕ → Bool) (xs : List ℕ) → length (filter t xs) ≡ length xs → filter t xs ≡ xs
+whole_filter t [] e = refl
+whole_filter t (x ∷ xs) e = elim (test_cases (t x)) [
+  | inl passes ↦
+      let all = ap length (taken t x xs passes) in
+      taken t x xs passes ∙ ap (λ l. x ∷ l) (whole_filter t xs (omega (arith, e, all)))
+  | inr fails ↦
+      let all = ap length (left_out t x xs fails) in
+      absurd (omega (arith, e, all, length-filter-le t xs))
 ]
 
 -- and fewer where one on the list is left out

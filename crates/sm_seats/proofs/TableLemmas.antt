@@ -1,7 +1,7 @@
 -- What stands in the tables that are made on the way to the market of seats.
-use Rattle.std.proofs.Common.{◌≡◌, ℕ, ◌+◌, ◌-◌, ◌*◌, ◌<◌, ◌≤◌, ◌++◌, ◌∷◌, [], true, false, List, length, take, map, get_or, min, Vec, sym, ap, ◌∙◌, arith, inl, inr}
+use Rattle.std.proofs.Common.{◌≡◌, ℕ, ◌+◌, ◌-◌, ◌*◌, ◌<◌, ◌≤◌, ◌++◌, ◌∷◌, [], true, false, cond, nat_eq, List, length, take, map, get_or, min, Vec, sym, ap, ◌∙◌, arith, inl, inr}
 use Rattle.std.specs.List.{filter, flat_map, range_with_len}
-use Rattle.std.proofs.lemmas.Bool.{cases_lt}
+use Rattle.std.proofs.lemmas.Bool.{cases_lt, eqb-true}
 use Rattle.std.proofs.lemmas.List.{map-append, length_push, length-take, length-take-le, get_or-map, length-map, get_or_past, length-append, append-nil}
 use Rattle.std.proofs.lemmas.List.Concat.{flat_map-append}
 use Rattle.std.proofs.lemmas.List.FromFn.{get_or-map-range_with_len, length-map-range_with_len, length-range_with_len, map-range_with_len_more}
@@ -14,10 +14,12 @@ use Rattle.std.proofs.lemmas.List.Sums.{length-filter, count_by-le-length}
 use Rattle.sm_instance.proofs.AcceptLemmas.{lt_true, proposer_row_fits}
 use Rattle.sm_seats.specs.Mutual.{lists_back, mutual_row}
 use Rattle.sm_seats.specs.SeatMarket.{seat_count, seats_before, seats_at}
-use Rattle.sm_seats.specs.Tables.{first_seats_of, mutual_before, mutual_places_at, mutual_places_of, reviewers_before, seats_listed, seat_places_at, seat_places_of, begin_of}
+use Rattle.sm_seats.specs.Tables.{first_seats_of, acceptable_at, mutual_before, mutual_places_at, inert_places_at, inert_places_of, reviewers_before, seats_listed, seat_places_at, seat_places_of, begin_of}
 use Rattle.sm_seats.proofs.MutualLemmas.{IsMutual, mutual_turned, mutual_on_row}
 use Rattle.sm_seats.proofs.SeatLemmas.{seat_count-le-capacity, seats_before_more}
 use Rattle.sm_seats.proofs.SeatPlaces.{first_place}
+use Rattle.sm_instance.proofs.LoadLemmas.{test_cases}
+use Rattle.sm_seats.proofs.FilterLemmas.{whole_before}
 use Rattle.sm_seats.proofs.CrossLemmas.{back_more, back_same, filter-take_place}
 
 -- Counts along a list.
@@ -89,13 +91,28 @@ module _ {w : Written} (h : IsInstance w) where
 pub first_seat_at : (w : Written) (r : ℕ) → r ≤ length w.reviewers → get_or (first_seats_of w) r 0 ≡ seats_before w r
 first_seat_at w r le = get_or-map-range_with_len (seats_before w) 0 (length w.reviewers + 1) r r 0 (omega arith) (omega arith)
 
-pub mutual_place_at : (w : Written) (r j : ℕ) → r < length w.reviewers → j < length (row w.reviewers r) → table_entry (mutual_places_of w) r j ≡ mutual_before w r j
-mutual_place_at w r j there on =
-    ap (λ l. get_or l j 0) (get_or-map-range_with_len (mutual_places_at w) 0 (length w.reviewers) r r [] there (omega arith))
-    ∙ get_or-map-range_with_len (mutual_before w r) 0 (length (row w.reviewers r)) j j 0 on (omega arith)
+pub inert_row_at : (w : Written) (r : ℕ) → r < length w.reviewers → table_row (inert_places_of w) r ≡ inert_places_at w r
+inert_row_at w r there = get_or-map-range_with_len (inert_places_at w) 0 (length w.reviewers) r r [] there (omega arith)
 
-pub mutual_row_at : (w : Written) (r : ℕ) → r < length w.reviewers → table_row (mutual_places_of w) r ≡ mutual_places_at w r
-mutual_row_at w r there = get_or-map-range_with_len (mutual_places_at w) 0 (length w.reviewers) r r [] there (omega arith)
+-- the places that are read of a table of a list with inert entries, or without a table
+module _ (w : Written) (r j : ℕ) (on : j < length (row w.reviewers r)) where
+  pub mutual_place_read : j < length (inert_places_at w r) → get_or (inert_places_at w r) j 0 ≡ mutual_before w r j
+  mutual_place_read there = elim (test_cases (nat_eq (acceptable_at w r) (length (row w.reviewers r)))) [
+    | inl whole ↦
+        let none_ : length (inert_places_at w r) ≡ 0 = ap (λ b. length (cond b [] (mutual_places_at w r))) whole in
+        omega (arith, none_, there)
+    | inr other ↦
+        ap (λ b. get_or (cond b [] (mutual_places_at w r)) j 0) other
+        ∙ get_or-map-range_with_len (mutual_before w r) 0 (length (row w.reviewers r)) j j 0 on (omega arith)
+  ]
+
+  pub mutual_place_same : length (inert_places_at w r) ≤ j → j ≡ mutual_before w r j
+  mutual_place_same past = elim (test_cases (nat_eq (acceptable_at w r) (length (row w.reviewers r)))) [
+    | inl whole ↦ sym (whole_before (lists_back w.proposers r) (row w.reviewers r) j (eqb-true _ _ whole) (omega (arith, on)))
+    | inr other ↦
+        let long : length (inert_places_at w r) ≡ length (row w.reviewers r) = ap (λ b. length (cond b [] (mutual_places_at w r))) other ∙ length-map-range_with_len (mutual_before w r) 0 (length (row w.reviewers r)) in
+        omega (arith, long, past, on)
+  ]
 
 pub seat_place_at : (w : Written) (p i : ℕ) → p < length w.proposers → i ≤ length (row w.proposers p) → table_entry (seat_places_of w) p i ≡ seats_listed w p i
 seat_place_at w p i there on =

@@ -1,5 +1,5 @@
 -- What is counted on the way to the market of seats, and its lists one by one with their cross places and levels.
-use Rattle.std.specs.Prelude.{ℕ, ◌+◌, ◌∷◌, [], ◌++◌, List, map, length, take, filter, replicate}
+use Rattle.std.specs.Prelude.{ℕ, ◌+◌, ◌∷◌, [], ◌++◌, List, map, length, take, filter, replicate, nat_eq, cond}
 use Rattle.std.specs.List.{flat_map, range_with_len}
 use Rattle.sm_lists.specs.Rows.{place_on}
 use Rattle.sm_instance.specs.Written.{Written, row, place_of}
@@ -17,8 +17,19 @@ mutual_before w r j = length (filter (lists_back w.proposers r) (take j (row w.r
 abbrev pub mutual_places_at : Written → ℕ → List ℕ
 mutual_places_at w r = map (mutual_before w r) (range_with_len 0 (length (row w.reviewers r)))
 
-abbrev pub mutual_places_of : Written → List (List ℕ)
-mutual_places_of w = map (mutual_places_at w) (range_with_len 0 (length w.reviewers))
+-- how many proposers are acceptable to each reviewer
+abbrev pub acceptable_at : Written → ℕ → ℕ
+acceptable_at w r = length (mutual_row w.reviewers w.proposers r)
+
+abbrev pub acceptable_of : Written → List ℕ
+acceptable_of w = map (acceptable_at w) (range_with_len 0 (length w.reviewers))
+
+-- a table of them where an entry is inert: where none is, these places are those of the written list
+abbrev pub inert_places_at : Written → ℕ → List ℕ
+inert_places_at w r = cond (nat_eq (acceptable_at w r) (length (row w.reviewers r))) [] (mutual_places_at w r)
+
+abbrev pub inert_places_of : Written → List (List ℕ)
+inert_places_of w = map (inert_places_at w) (range_with_len 0 (length w.reviewers))
 
 -- the acceptable reviewers before place i of p's written list, and how many seats they have
 abbrev pub reviewers_before : Written → ℕ → ℕ → List ℕ

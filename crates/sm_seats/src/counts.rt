@@ -4,7 +4,7 @@ ghost use Rattle.std.specs.Prelude.{◌≡◌, ◌+◌, ◌<◌, ◌≤◌, leng
 ghost use Rattle.sm_text.specs.Limits.{most_agents};
 ghost use Rattle.sm_instance.specs.Sound.{IsInstance};
 ghost use Rattle.sm_seats.specs.Mutual.{mutual_row};
-ghost use Rattle.sm_seats.specs.Tables.{first_seats_of};
+ghost use Rattle.sm_seats.specs.Tables.{first_seats_of, acceptable_of};
 ghost use Rattle.sm_seats.specs.SeatEntries.{AreFewSeats, IsSeatsFault};
 
 use crate::faults::SeatsFault;
@@ -12,21 +12,32 @@ use sm_instance::Instance;
 use sm_text::MOST_SEAT_ENTRIES;
 use std::alloc::Global;
 
-/// The number of the first seat of each reviewer, and behind them how many seats there are.
-pub(crate) fn first_seats(alloc: Global, instance: &Instance) -> Result<Vec<u32>, SeatsFault>
+/// The number of the first seat of each reviewer, and behind them how many seats there are; and how many proposers are
+/// acceptable to each reviewer.
+#[derive(Drop)]
+pub(crate) struct SeatCounts {
+    pub(crate) firsts: Vec<u32>,
+    pub(crate) acceptable: Vec<u32>,
+}
+
+/// Counts the seats, and the acceptable proposers of each reviewer.
+pub(crate) fn seat_counts(alloc: Global, instance: &Instance) -> Result<SeatCounts, SeatsFault>
     ensures instance { IsInstance instance.now }
-    ensures firsts { IfOk result (λ firsts. firsts.items ≡ first_seats_of instance.now) }
+    ensures firsts { IfOk result (λ counts. counts.firsts.items ≡ first_seats_of instance.now) }
+    ensures acceptable { IfOk result (λ counts. counts.acceptable.items ≡ acceptable_of instance.now) }
     ensures few { OnOk result (AreFewSeats instance.now) }
     ensures fault { IfErr result (λ f. IsSeatsFault instance.now f) }
 {
     let reviewers = instance.reviewer_count();
     let mut firsts = Vec::with_capacity(alloc, reviewers as usize + 1)?;
+    let mut counts = Vec::with_capacity(alloc, reviewers as usize)?;
     let mut seats = 0;
     let mut entries = 0;
     for r in 0..reviewers {
         let acceptable = acceptable_count(instance, r);
         let count = instance.capacity(r).min(acceptable);
         firsts.push(seats)?;
+        counts.push(acceptable)?;
         seats += count;
         entries += count * acceptable;
         if entries as usize > MOST_SEAT_ENTRIES {
@@ -34,7 +45,10 @@ pub(crate) fn first_seats(alloc: Global, instance: &Instance) -> Result<Vec<u32>
         }
     }
     firsts.push(seats)?;
-    Ok(firsts)
+    Ok(SeatCounts {
+        firsts,
+        acceptable: counts,
+    })
 }
 
 // How many proposers are acceptable to a reviewer.

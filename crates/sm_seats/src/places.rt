@@ -3,20 +3,71 @@
 ghost use Rattle.std.specs.Prelude.{◌≡◌, ◌<◌, length, IfOk};
 ghost use Rattle.sm_lists.specs.Rows.{rows_of};
 ghost use Rattle.sm_instance.specs.Sound.{IsInstance};
-ghost use Rattle.sm_seats.specs.Tables.{first_seats_of, mutual_places_at, mutual_places_of, seat_places_at, seat_places_of};
+ghost use Rattle.sm_instance.specs.Written.{row};
+ghost use Rattle.sm_seats.specs.Tables.{
+  first_seats_of,
+  acceptable_at,
+  acceptable_of,
+  mutual_before,
+  mutual_places_at,
+  inert_places_at,
+  inert_places_of,
+  seat_places_at,
+  seat_places_of,
+};
 
 use sm_instance::Instance;
+use sm_lists::list_at;
 use std::alloc::{AllocError, Global};
 
-/// For each reviewer, and each place of its written list, how many acceptable proposers stand before that place.
-pub(crate) fn mutual_places(alloc: Global, instance: &Instance) -> Result<Vec<Vec<u32>>, AllocError>
-    ensures { IfOk result (λ places. rows_of places.items ≡ mutual_places_of instance.now) }
+/// For each reviewer, and each place of its written list, how many acceptable proposers stand before that place. A list
+/// without inert entries has no table of them.
+pub(crate) fn mutual_places(
+    alloc: Global,
+    instance: &Instance,
+    acceptable: &[u32],
+) -> Result<Vec<Vec<u32>>, AllocError>
+    requires { acceptable.now ≡ acceptable_of instance.now }
+    ensures { IfOk result (λ places. rows_of places.items ≡ inert_places_of instance.now) }
 {
     let mut places = Vec::with_capacity(alloc, instance.reviewer_count() as usize)?;
     for r in 0..instance.reviewer_count() {
-        places.push(mutual_places_of(alloc, instance, r)?)?;
+        places.push(inert_places(alloc, instance, r, acceptable[r as usize])?)?;
     }
     Ok(places)
+}
+
+// The same for one reviewer, with so many acceptable proposers.
+fn inert_places(
+    alloc: Global,
+    instance: &Instance,
+    r: u32,
+    acceptable: u32,
+) -> Result<Vec<u32>, AllocError>
+    requires in_range { r < length instance.now.reviewers }
+    requires acceptable { acceptable ≡ acceptable_at instance.now r }
+    ensures { IfOk result (λ places. places.items ≡ inert_places_at instance.now r) }
+{
+    if acceptable == instance.reviewer_len(r) {
+        return Vec::with_capacity(alloc, 0);
+    }
+    mutual_places_of(alloc, instance, r)
+}
+
+/// How many acceptable proposers stand before a place of a reviewer's written list, from these tables.
+pub(crate) fn mutual_place(instance: &Instance, places: &[Vec<u32>], r: u32, place: u32) -> u32
+    requires places { rows_of places.now ≡ inert_places_of instance.now }
+    requires in_range { r < length instance.now.reviewers }
+    requires on_list { place < length (row instance.now.reviewers r) }
+    ensures { result ≡ mutual_before instance.now r place }
+{
+    let _ = instance;
+    let table = list_at(places, r);
+    if (place as usize) < table.len() {
+        table[place as usize]
+    } else {
+        place
+    }
 }
 
 // How many acceptable proposers stand before each place of a reviewer's written list.

@@ -4,10 +4,11 @@ ghost use Rattle.std.specs.Prelude.{◌≡◌, ◌+◌, ◌-◌, ◌<◌, ◌≤
 ghost use Rattle.std.specs.List.{range_with_len};
 ghost use Rattle.sm_lists.specs.Rows.{rows_of};
 ghost use Rattle.sm_instance.specs.Sound.{IsInstance};
-ghost use Rattle.sm_seats.specs.Tables.{first_seats_of, mutual_places_of, seat_places_of, cross_row, level_row};
+ghost use Rattle.sm_seats.specs.Tables.{first_seats_of, inert_places_of, seat_places_of, cross_row, level_row};
 ghost use Rattle.sm_seats.specs.SeatMarket.{seat_row};
 ghost use Rattle.sm_seats.specs.ProposerRows.{seat_rows_of, cross_rows_of, level_rows_of};
 
+use crate::places::mutual_place;
 use sm_instance::Instance;
 use sm_lists::entry_at;
 use std::alloc::{AllocError, Global};
@@ -49,7 +50,7 @@ pub(crate) fn proposer_rows(
     begins: &[Vec<u32>],
 ) -> Result<ProposerRows, AllocError>
     requires firsts { firsts.now ≡ first_seats_of instance.now }
-    requires places { rows_of places.now ≡ mutual_places_of instance.now }
+    requires places { rows_of places.now ≡ inert_places_of instance.now }
     requires begins { rows_of begins.now ≡ seat_places_of instance.now }
     ensures lists { IfOk result
         (λ rows. rows_of rows.lists.items ≡ seat_rows_of instance.now (length instance.now.proposers)) }
@@ -87,7 +88,7 @@ fn proposer_row(
 ) -> Result<ProposerRow, AllocError>
     requires in_range { p < length instance.now.proposers }
     requires firsts { firsts.now ≡ first_seats_of instance.now }
-    requires places { rows_of places.now ≡ mutual_places_of instance.now }
+    requires places { rows_of places.now ≡ inert_places_of instance.now }
     ensures list { IfOk result (λ row. row.list.items ≡ seat_row instance.now p) }
     ensures crosses { IfOk result (λ row. row.crosses.items ≡ cross_row instance.now p) }
     ensures levels { IfOk result (λ row. row.levels.items ≡ level_row instance.now p) }
@@ -105,7 +106,7 @@ fn proposer_row(
             let range = SeatRange {
                 from: firsts[r as usize],
                 to: firsts[r as usize + 1],
-                cross: entry_at(places, r, back),
+                cross: mutual_place(instance, places, r, back),
                 level: place + 1,
             };
             add_seats(&mut row, range)?;

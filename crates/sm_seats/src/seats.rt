@@ -14,11 +14,11 @@ ghost use Rattle.sm_seats.specs.SeatEntries.{AreFewSeats, IsSeatsFault};
 ghost use Rattle.sm_seats.specs.Seating.{seating_of, written_lists, written_place, written_of, levels_of};
 ghost use Rattle.sm_seats.specs.Taken.{places_taken};
 ghost use Rattle.sm_seats.specs.Correspondence.{IsSeating};
-ghost use Rattle.sm_seats.specs.Tables.{first_seats_of};
+ghost use Rattle.sm_seats.specs.Tables.{first_seats_of, acceptable_of};
 ghost use Rattle.sm_seats.specs.ProposerRows.{seat_rows_of, cross_rows_of, level_rows_of};
 ghost use Rattle.sm_seats.specs.ReviewerRows.{seat_lists_before, seat_crosses_before};
 
-use crate::counts::first_seats;
+use crate::counts::{SeatCounts, seat_counts};
 use crate::faults::SeatsFault;
 use crate::places::{mutual_places, seat_places};
 use crate::proposer_rows::{ProposerRows, proposer_rows};
@@ -73,8 +73,8 @@ impl Seats {
         ensures few { OnOk result (AreFewSeats instance.now) }
         ensures fault { IfErr result (λ f. IsSeatsFault instance.now f) }
     {
-        let firsts = first_seats(alloc, instance)?;
-        Ok(seats_from(alloc, instance, &firsts)?)
+        let counts = seat_counts(alloc, instance)?;
+        Ok(seats_from(alloc, instance, &counts)?)
     }
 
     /// The market of the seats. Its lists have acceptable entries alone.
@@ -164,14 +164,16 @@ impl Seats {
     }
 }
 
-// The seats of an instance, whose first seats have these numbers.
-fn seats_from(alloc: Global, instance: &Instance, firsts: &[u32]) -> Result<Seats, AllocError>
-    requires firsts { firsts.now ≡ first_seats_of instance.now }
+// The seats of an instance, by what was counted of it.
+fn seats_from(alloc: Global, instance: &Instance, counts: &SeatCounts) -> Result<Seats, AllocError>
+    requires firsts { counts.now.firsts.items ≡ first_seats_of instance.now }
+    requires acceptable { counts.now.acceptable.items ≡ acceptable_of instance.now }
     requires instance { IsInstance instance.now }
     requires few { AreFewSeats instance.now }
     ensures { IfOk result (λ seats. seats ≡ seating_of instance.now) }
 {
-    let places = mutual_places(alloc, instance)?;
+    let firsts = counts.firsts.as_slice();
+    let places = mutual_places(alloc, instance, &counts.acceptable)?;
     let begins = seat_places(alloc, instance, firsts)?;
     let proposers = proposer_rows(alloc, instance, firsts, &places, &begins)?;
     let reviewers = reviewer_rows(alloc, instance, firsts, &begins)?;

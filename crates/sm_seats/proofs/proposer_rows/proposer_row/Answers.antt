@@ -1,14 +1,12 @@
 use Rattle.std.proofs.Common.{◌≡◌, ℕ, ◌+◌, ◌-◌, ◌<◌, List, get_or, length, replicate, sym, ap, ◌∙◌, arith}
 use Rattle.std.specs.List.{flat_map, range_with_len}
-use Rattle.std.proofs.lemmas.List.FromFn.{length-map-range_with_len}
-use Rattle.std.proofs.lemmas.List.{length-map}
-use Rattle.sm_lists.specs.Rows.{place_on, row as table_row, entry as table_entry}
+use Rattle.sm_lists.specs.Rows.{place_on}
 use Rattle.sm_instance.specs.Written.{row, entry, place_of}
 use Rattle.sm_seats.specs.Mutual.{mutual_row}
 use Rattle.sm_seats.specs.SeatMarket.{seat_count, seats_before, seats_at}
-use Rattle.sm_seats.specs.Tables.{reviewers_before, crosses_at, levels_for, mutual_before, mutual_places_at}
+use Rattle.sm_seats.specs.Tables.{reviewers_before, crosses_at, levels_for, mutual_before}
 use Rattle.sm_seats.proofs.CrossLemmas.{cross_read, crossed_at, not_crossed, back_more, back_same}
-use Rattle.sm_seats.proofs.TableLemmas.{seats_read, read_at, named_at, mutual_place_at, mutual_row_at, mutual_before_is}
+use Rattle.sm_seats.proofs.TableLemmas.{seats_read, read_at, named_at, mutual_before_is}
 use Rattle.sm_seats.proofs.RowLemmas.{piece_pushed}
 use Rattle.sm_seats.proofs.proposer_rows.proposer_row.Goals as goal
 use Rattle.sm_seats.proofs.proposer_rows.proposer_row.Goals.{in-Some+in_ok-add_seats, in_default}
@@ -19,23 +17,17 @@ bounds-firsts-r c = omega (arith, (read_at c.args.instance.now c.args.p c.loop-p
 pub bounds-firsts-r-in-Some : goal.bounds-firsts-r-in-Some
 bounds-firsts-r-in-Some c = (read_at c.args.instance.now c.args.p c.loop-place.place c.proposer_len-place-end.ensures.instance c.requires.firsts c.proposer_list-list.ensures (omega (arith, c.loop-place-test.true))).inside
 
-pub entry_at-requires-clause-in_range : goal.entry_at-requires-clause-in_range
-entry_at-requires-clause-in_range c =
-    let w = c.args.instance.now in
-    let long = sym (length-map c.args.places.now (λ v. v.items)) ∙ ap length c.requires.places ∙ length-map-range_with_len (mutual_places_at w) 0 (length w.reviewers) in
-    let who = named_at c.args.instance.now c.args.p c.loop-place.place c.proposer_len-place-end.ensures.instance c.proposer_list-list.ensures (omega (arith, c.loop-place-test.true)) in
-    omega (arith, long, who.1)
+pub mutual_place-requires-clause-in_range : goal.mutual_place-requires-clause-in_range
+mutual_place-requires-clause-in_range c = (named_at c.args.instance.now c.args.p c.loop-place.place c.proposer_len-place-end.ensures.instance c.proposer_list-list.ensures (omega (arith, c.loop-place-test.true))).1
 
-pub entry_at-requires-clause-on_list : goal.entry_at-requires-clause-on_list
-entry_at-requires-clause-on_list c =
+pub mutual_place-requires-clause-on_list : goal.mutual_place-requires-clause-on_list
+mutual_place-requires-clause-on_list c =
     let w = c.args.instance.now in
     let who = named_at c.args.instance.now c.args.p c.loop-place.place c.proposer_len-place-end.ensures.instance c.proposer_list-list.ensures (omega (arith, c.loop-place-test.true)) in
-    let r = get_or c.proposer_list-list.result.now c.loop-place.place 0 in
     let on : c.loop-place.place < length (row w.proposers c.args.p) = omega (arith, c.loop-place-test.true) in
     let it = crossed_at c.proposer_len-place-end.ensures.instance.proposer_entries on (cross_read c.proposer_crosses-crosses.ensures on c.index-crosses-place.is c.place.ensures) c.in-Some.is in
     let named = ap (λ x. length (row w.reviewers x)) who.0 in
-    let long = ap (λ t. length (table_row t r)) c.requires.places ∙ ap length (mutual_row_at w r who.1) ∙ length-map-range_with_len (mutual_before w r) 0 (length (row w.reviewers r)) in
-    omega (arith, long, named, it.back, it.mutual_.listed)
+    omega (arith, named, it.back, it.mutual_.listed)
 
 pub add_seats-requires : goal.add_seats-requires
 add_seats-requires c =
@@ -61,9 +53,8 @@ loop-place-preserved c =
           let s = seats_read w r c.requires.firsts who.1 in
           let count : get_or c.args.firsts.now (r + 1) 0 - get_or c.args.firsts.now r 0 ≡ seat_count w x = s.count ∙ ap (seat_count w) who.0 in
           let first : get_or c.args.firsts.now r 0 ≡ seats_before w x = s.first ∙ ap (seats_before w) who.0 in
-          let cross : b.entry_at.result ≡ place_on (mutual_row w.reviewers w.proposers x) p =
-          b.entry_at.ensures ∙ ap (λ t. table_entry t r b.in-Some.back) c.requires.places
-          ∙ mutual_place_at w r b.in-Some.back who.1 (let named = ap (λ y. length (row w.reviewers y)) who.0 in omega (arith, named, it.back, it.mutual_.listed))
+          let cross : b.mutual_place.result ≡ place_on (mutual_row w.reviewers w.proposers x) p =
+          b.mutual_place.ensures
           ∙ ap (λ y. mutual_before w y b.in-Some.back) who.0 ∙ ap (mutual_before w x) (sym it.back) ∙ mutual_before_is w it.mutual_ in
           let size : ℕ = get_or c.args.firsts.now (r + 1) 0 - get_or c.args.firsts.now r 0 in
           record {

@@ -2,11 +2,12 @@ use Rattle.std.proofs.Common.{◌≡◌, ℕ, ◌+◌, ◌*◌, ◌++◌, ◌∷
 use Rattle.std.specs.List.{range_with_len}
 use Rattle.std.proofs.lemmas.List.FromFn.{map-range_with_len_more}
 use Rattle.sm_seats.specs.SeatMarket.{seat_count, seats_before}
+use Rattle.sm_seats.specs.Tables.{acceptable_at}
 use Rattle.sm_seats.specs.SeatEntries.{seat_entries}
 use Rattle.sm_seats.proofs.SeatLemmas.{seats_before_more, seat_count-le-capacity}
 use Rattle.sm_seats.proofs.LimitLaws.{entries_before_more}
 use Rattle.sm_seats.proofs.TableLemmas.{count_is}
-use Rattle.sm_seats.proofs.counts.first_seats.Goals as goal
+use Rattle.sm_seats.proofs.counts.seat_counts.Goals as goal
 
 pub returns-then-entries-gt-MOST_SEAT_ENTRIES-clause-fault : goal.returns-then-entries-gt-MOST_SEAT_ENTRIES-clause-fault
 returns-then-entries-gt-MOST_SEAT_ENTRIES-clause-fault c =
@@ -34,6 +35,9 @@ loop-r-preserved c =
       firsts = c.in_ok-push.ensures.items ∙ ap (λ (front : List ℕ). front ++ c.loop-r.seats ∷ []) c.loop-r.invariant.firsts
           ∙ ap (λ (n : ℕ). map (seats_before w) (range_with_len 0 r) ++ n ∷ []) c.loop-r.invariant.seats
           ∙ sym (map-range_with_len_more (seats_before w) 0 r r (omega arith));
+      acceptable = c.in_ok-push-2.ensures.items ∙ ap (λ (front : List ℕ). front ++ acceptable ∷ []) c.loop-r.invariant.acceptable
+          ∙ ap (λ (n : ℕ). map (acceptable_at w) (range_with_len 0 r) ++ n ∷ []) c.acceptable_count-acceptable.ensures.count
+          ∙ sym (map-range_with_len_more (acceptable_at w) 0 r r (omega arith));
       seats = omega (arith, seats_before_more w r, count, c.loop-r.invariant.seats);
       seats_fit = omega (arith, c.loop-r.invariant.seats_fit, count, least, capacity, fits);
       entries = omega (arith, entries_before_more w r, e, c.loop-r.invariant.entries);
@@ -45,7 +49,12 @@ returns-clause-firsts c =
     let w = c.args.instance.now in
     let r = c.loop-r.r in
     let end : r ≡ length w.reviewers = omega (arith, c.loop-r-test.false, c.reviewer_count-reviewers.ensures.count) in
-    c.in_ok-push-2.ensures.items ∙ ap (λ (front : List ℕ). front ++ c.loop-r.seats ∷ []) c.loop-r.invariant.firsts
+    c.in_ok-push-3.ensures.items ∙ ap (λ (front : List ℕ). front ++ c.loop-r.seats ∷ []) c.loop-r.invariant.firsts
     ∙ ap (λ (n : ℕ). map (seats_before w) (range_with_len 0 r) ++ n ∷ []) c.loop-r.invariant.seats
     ∙ sym (map-range_with_len_more (seats_before w) 0 r r (omega arith))
     ∙ ap (λ n. map (seats_before w) (range_with_len 0 (n + 1))) end
+
+pub returns-clause-acceptable : goal.returns-clause-acceptable
+returns-clause-acceptable c =
+    let end : c.loop-r.r ≡ length c.args.instance.now.reviewers = omega (arith, c.loop-r-test.false, c.reviewer_count-reviewers.ensures.count) in
+    c.loop-r.invariant.acceptable ∙ ap (λ n. map (acceptable_at c.args.instance.now) (range_with_len 0 n)) end
