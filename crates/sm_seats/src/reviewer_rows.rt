@@ -6,7 +6,7 @@ ghost use Rattle.sm_lists.specs.Rows.{rows_of};
 ghost use Rattle.sm_instance.specs.Sound.{IsInstance};
 ghost use Rattle.sm_seats.specs.Mutual.{mutual_row};
 ghost use Rattle.sm_seats.specs.SeatMarket.{seats_of};
-ghost use Rattle.sm_seats.specs.Tables.{first_seats_of, seat_places_of, begin_of};
+ghost use Rattle.sm_seats.specs.Tables.{first_seats_of, seat_places_of, begin_of, acceptable_at, acceptable_of};
 ghost use Rattle.sm_seats.specs.ReviewerRows.{seat_lists_before, seat_crosses_before};
 
 use sm_instance::Instance;
@@ -30,14 +30,17 @@ struct ReviewerRow {
     begins: Vec<u32>,
 }
 
-/// The lists of all seats, from the numbers of the first seats and the places where the seats of each reviewer begin.
+/// The lists of all seats, from the numbers of the first seats, how many proposers are acceptable to each
+/// reviewer, and the places where the seats of each reviewer begin.
 pub(crate) fn reviewer_rows(
     alloc: Global,
     instance: &Instance,
     firsts: &[u32],
+    acceptable: &[u32],
     begins: &[Vec<u32>],
 ) -> Result<ReviewerRows, AllocError>
     requires firsts { firsts.now ≡ first_seats_of instance.now }
+    requires acceptable { acceptable.now ≡ acceptable_of instance.now }
     requires begins { rows_of begins.now ≡ seat_places_of instance.now }
     ensures seats { IfOk result (λ rows. rows.seats.items ≡ seats_of instance.now) }
     ensures lists { IfOk result
@@ -53,43 +56,79 @@ pub(crate) fn reviewer_rows(
         crosses: Vec::with_capacity(alloc, room)?,
     };
     for r in 0..reviewers {
-        let row = reviewer_row(alloc, instance, r, begins)?;
+        let row = ReviewerRow {
+            list: mutual_list(alloc, instance, r, acceptable[r as usize])?,
+            begins: mutual_begins(alloc, instance, r, begins)?,
+        };
         let count = firsts[r as usize + 1] - firsts[r as usize];
         add_seats(alloc, &mut rows, r, count, row)?;
     }
     Ok(rows)
 }
 
-// The list of a reviewer without inert entries, and where its seats begin.
-fn reviewer_row(
+// The list of a reviewer without inert entries, of which it has so many. It is copied where it has no others.
+fn mutual_list(
+    alloc: Global,
+    instance: &Instance,
+    r: u32,
+    acceptable: u32,
+) -> Result<Vec<u32>, AllocError>
+    requires in_range { r < length instance.now.reviewers }
+    requires acceptable { acceptable ≡ acceptable_at instance.now r }
+    ensures { IfOk result
+        (λ list. list.items ≡ mutual_row instance.now.reviewers instance.now.proposers r) }
+{
+    if acceptable == instance.reviewer_len(r) {
+        return Vec::from_slice(alloc, instance.reviewer_list(r));
+    }
+    without_inert(alloc, instance, r, acceptable as usize)
+}
+
+// The list of a reviewer without inert entries, with room for so many.
+fn without_inert(
+    alloc: Global,
+    instance: &Instance,
+    r: u32,
+    room: usize,
+) -> Result<Vec<u32>, AllocError>
+    requires in_range { r < length instance.now.reviewers }
+    ensures { IfOk result
+        (λ list. list.items ≡ mutual_row instance.now.reviewers instance.now.proposers r) }
+{
+    let list = instance.reviewer_list(r);
+    let crosses = instance.reviewer_crosses(r);
+    let mut kept = Vec::with_capacity(alloc, room)?;
+    for place in 0..list.len() {
+        if crosses[place].place().is_some() {
+            kept.push(list[place])?;
+        }
+    }
+    Ok(kept)
+}
+
+// Where the seats of a reviewer begin on the list of each acceptable proposer.
+fn mutual_begins(
     alloc: Global,
     instance: &Instance,
     r: u32,
     begins: &[Vec<u32>],
-) -> Result<ReviewerRow, AllocError>
+) -> Result<Vec<u32>, AllocError>
     requires instance { IsInstance instance.now }
     requires in_range { r < length instance.now.reviewers }
     requires begins { rows_of begins.now ≡ seat_places_of instance.now }
-    ensures list { IfOk result
-        (λ row. row.list.items ≡ mutual_row instance.now.reviewers instance.now.proposers r) }
-    ensures begins { IfOk result (λ row. row.begins.items
+    ensures begins { IfOk result (λ kept. kept.items
         ≡ map (begin_of instance.now r) (mutual_row instance.now.reviewers instance.now.proposers r)) }
-    ensures small { IfOk result (λ row. (i : ℕ) → slice_index row.begins.items i ≤ 2 ^ 24) }
+    ensures small { IfOk result (λ kept. (i : ℕ) → slice_index kept.items i ≤ 2 ^ 24) }
 {
     let list = instance.reviewer_list(r);
     let crosses = instance.reviewer_crosses(r);
-    let mut row = ReviewerRow {
-        list: Vec::with_capacity(alloc, list.len())?,
-        begins: Vec::with_capacity(alloc, list.len())?,
-    };
+    let mut kept = Vec::with_capacity(alloc, list.len())?;
     for place in 0..list.len() {
         if let Some(back) = crosses[place].place() {
-            let p = list[place];
-            row.list.push(p)?;
-            row.begins.push(entry_at(begins, p, back))?;
+            kept.push(entry_at(begins, list[place], back))?;
         }
     }
-    Ok(row)
+    Ok(kept)
 }
 
 // Adds so many seats of a reviewer. The last one takes the row, so that a single seat copies nothing.

@@ -176,7 +176,7 @@ fn seats_from(alloc: Global, instance: &Instance, counts: &SeatCounts) -> Result
     let places = mutual_places(alloc, instance, &counts.acceptable)?;
     let begins = seat_places(alloc, instance, firsts)?;
     let proposers = proposer_rows(alloc, instance, firsts, &places, &begins)?;
-    let reviewers = reviewer_rows(alloc, instance, firsts, &begins)?;
+    let reviewers = reviewer_rows(alloc, instance, firsts, &counts.acceptable, &begins)?;
     seats_held(alloc, instance, proposers, reviewers)
 }
 

@@ -8,8 +8,8 @@ use Rattle.sm_seats.specs.Mutual.{lists_back}
 use Rattle.sm_seats.specs.Tables.{begin_of, seat_places_of, seat_places_at, seats_listed}
 use Rattle.sm_seats.proofs.CrossLemmas.{cross_read, crossed_at, not_crossed, back_more, back_same}
 use Rattle.sm_seats.proofs.TableLemmas.{seat_place_at, seat_row_at, begins_small}
-use Rattle.sm_seats.proofs.reviewer_rows.reviewer_row.Goals as goal
-use Rattle.sm_seats.proofs.reviewer_rows.reviewer_row.Goals.{in-Some+in_ok-push+in_ok-push-2, in_default}
+use Rattle.sm_seats.proofs.reviewer_rows.mutual_begins.Goals as goal
+use Rattle.sm_seats.proofs.reviewer_rows.mutual_begins.Goals.{in-Some+in_ok-push, in_default}
 
 pub entry_at-requires-clause-in_range : goal.entry_at-requires-clause-in_range
 entry_at-requires-clause-in_range c =
@@ -51,25 +51,19 @@ loop-place-preserved c =
     let before = c.loop-place.invariant in
     let xs : List ℕ = filter (lists_back w.proposers r) (take i (row w.reviewers r)) in
     elim c.match-place.branch [
-      | in-Some+in_ok-push+in_ok-push-2 b ↦
+      | in-Some+in_ok-push b ↦
           let it = crossed_at c.requires.instance.reviewer_entries on cross b.in-Some.is in
           let more = back_more w.reviewers w.proposers r i on it.passes in
           let there = (c.requires.instance.reviewer_entries.sound r i on).in_range in
           let begin : b.entry_at.result ≡ begin_of w r p =
           b.entry_at.ensures ∙ ap (λ t. table_entry t (get_or c.reviewer_list-list.result.now i 0) b.in-Some.back) c.requires.begins ∙ ap (λ q. table_entry (seat_places_of w) q b.in-Some.back) named
           ∙ seat_place_at w p b.in-Some.back there (omega (arith, it.back, it.mutual_.listed)) ∙ ap (seats_listed w p) (sym it.back) in
-          record {
-            list = rw b.row-is (b.in_ok-push.ensures.items ∙ ap (λ (l : List ℕ). l ++ get_or c.reviewer_list-list.result.now i 0 ∷ []) before.list ∙ ap (λ (q : ℕ). xs ++ q ∷ []) named ∙ sym more);
-            begins = rw b.row-is (b.in_ok-push-2.ensures.items ∙ ap (λ (l : List ℕ). l ++ b.entry_at.result ∷ []) before.begins ∙ ap (λ (n : ℕ). map (begin_of w r) xs ++ n ∷ []) begin
-                ∙ sym (map_push (begin_of w r) xs p) ∙ ap (map (begin_of w r)) (sym more));
-          }
+          rw b.kept-is (b.in_ok-push.ensures.items ∙ ap (λ (l : List ℕ). l ++ b.entry_at.result ∷ []) before ∙ ap (λ (n : ℕ). map (begin_of w r) xs ++ n ∷ []) begin
+          ∙ sym (map_push (begin_of w r) xs p) ∙ ap (map (begin_of w r)) (sym more))
       | in_default b ↦
           let same = back_same w.reviewers w.proposers r i on (not_crossed w.reviewers w.proposers r i cross b.in_default.is) in
-          record {
-            list = rw b.row-is (before.list ∙ sym same);
-            begins = rw b.row-is (before.begins ∙ ap (map (begin_of w r)) (sym same));
-          }
+          rw b.kept-is (before ∙ ap (map (begin_of w r)) (sym same))
     ]
 
 pub returns-clause-small : goal.returns-clause-small
-returns-clause-small c = begins_small c.requires.instance c.args.r _ c.loop-place.row.begins.items c.loop-place.invariant.begins
+returns-clause-small c = begins_small c.requires.instance c.args.r _ c.loop-place.kept.items c.loop-place.invariant
