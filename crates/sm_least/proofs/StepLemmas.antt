@@ -6,6 +6,7 @@ use Rattle.sm_market.specs.Lists.{row}
 use Rattle.sm_lists.proofs.Counting.{eq_or_ne, lt_or_le}
 use Rattle.sm_theory.specs.ClosedSets.{IsMember}
 use Rattle.sm_theory.proofs.Bridge.Chain.{Decided-member}
+use Rattle.sm_theory.specs.Vectors.{IsOrder}
 use Rattle.sm_least.specs.Board.{Board, IsBoard, stay, stay_level, level, leave, is_shut, IsClosedIn, IsInside, Gates, IsOpen, Fits, Changes}
 use Rattle.sm_least.specs.Growing.{AreNeedsIn}
 use Rattle.sm_least.specs.Walks.{IsRaised, IsNotRaised}
@@ -214,18 +215,18 @@ pub settled_behind : {t : Course} {bar : ℕ} {g : Gates} {h k : Held} → IsBoa
 settled_behind ground w g fits p less idle = subst (IsOpen _ p) (sym (idle_keeps ground w g p idle)) (fits.opens p less)
 
 -- what fits, is high enough and changes no level before the bar is what was to be found
-pub raised : {t : Course} {bar : ℕ} {g : Gates} {h k : Held} (p wanted : ℕ) → IsCourse t → bar ≤ length t.order → Fits t.board g h.set → Grows t bar h k → Fits t.board g k.set → wanted ≤ level t.board k.set p → ((D : List Bool) → IsHigh t.board g p wanted D → IsInside h.set D → IsInside k.set D) → IsRaised t.board g t.order h.set p wanted bar k.set
-raised {t} {bar} {g} {h} {k} p wanted course few fits g' now high least =
-    raise_finds t.board g t.order h.set k.set p wanted bar course.board course.order few fits.closed
+pub raised : {t : Course} {bar : ℕ} {g : Gates} {h k : Held} (p wanted : ℕ) → IsCourse t → IsOrder (length t.board.leaves) t.order → bar ≤ length t.order → Fits t.board g h.set → Grows t bar h k → Fits t.board g k.set → wanted ≤ level t.board k.set p → ((D : List Bool) → IsHigh t.board g p wanted D → IsInside h.set D → IsInside k.set D) → IsRaised t.board g t.order h.set p wanted bar k.set
+raised {t} {bar} {g} {h} {k} p wanted course ordered few fits g' now high least =
+    raise_finds t.board g t.order h.set k.set p wanted bar course.board ordered few fits.closed
     (λ D s. least D (record { fits = s.fits; reaches = s.reaches }) s.more)
     (record { fits = now; more = g'.more; reaches = high })
     g'.free
 
 -- and where each that is high enough changes such a level there is none
-pub not_raised : {t : Course} {bar : ℕ} {g : Gates} (C : List Bool) (p wanted : ℕ) → IsCourse t → bar ≤ length t.order → Fits t.board g C → Breaks (IsHigh t.board g p wanted) t bar C → IsNotRaised t.board g t.order C p wanted bar
-not_raised {t} {bar} {g} C p wanted course few fits breaks D f more reaches same =
+pub not_raised : {t : Course} {bar : ℕ} {g : Gates} (C : List Bool) (p wanted : ℕ) → IsCourse t → IsOrder (length t.board.leaves) t.order → bar ≤ length t.order → Fits t.board g C → Breaks (IsHigh t.board g p wanted) t bar C → IsNotRaised t.board g t.order C p wanted bar
+not_raised {t} {bar} {g} C p wanted course ordered few fits breaks D f more reaches same =
     let w = breaks D (record { fits = f; reaches = reaches }) more in
-    barred_changes_levels t.board t.order C D bar w.rotation w.position course.board course.order few more fits.closed f.closed w.member w.new w.early w.changes same
+    barred_changes_levels t.board t.order C D bar w.rotation w.position course.board ordered few more fits.closed f.closed w.member w.new w.early w.changes same
 
 -- a set whose log is empty has no member
 pub none_held : {b : Board} {h : Held} → IsHeld b h → h.log ≡ [] → (x : ℕ) → IsMember h.set x → ⊥

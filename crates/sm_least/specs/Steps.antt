@@ -4,11 +4,12 @@ use Rattle.std.specs.Prelude.{◌≡◌, ◌↔◌, ◌≢◌, ℕ, ◌+◌, ◌
 use Rattle.std.specs.declared.alloc.Global.{Global}
 use Rattle.sm_market.specs.Lists.{row}
 use Rattle.sm_theory.specs.ClosedSets.{IsMember}
-use Rattle.sm_theory.specs.Vectors.{IsOrder}
 use Rattle.sm_least.specs.Board.{Board, IsBoard, stay, stay_level, level, IsClosedIn, IsInside, Gates, IsOpen, Fits, Changes, IsFirstChange}
+use Rattle.sm_least.specs.BoardOf.{AreGates}
 use Rattle.sm_least.specs.Growing.{IsLogOf}
 
--- a board and an order of its proposers; for each rotation the first position in this order whose level it changes
+-- a board and the order of its proposers in which a walk goes, which is empty before there is one; for each rotation the
+-- first position in this order whose level it changes
 pub record Course : Type 0 where
   pub board : Board
   pub order : List ℕ
@@ -17,9 +18,16 @@ pub record Course : Type 0 where
 pub record IsCourse (t : Course) : Type 0 where
   pub board : IsBoard t.board
   pub few : length t.board.leaves < 2 ^ 32
-  pub order : IsOrder (length t.board.leaves) t.order
   pub first_each : length t.first ≡ length t.board.needs
   pub first_are : (x : ℕ) → x < length t.board.needs → IsFirstChange t.board t.order x (slice_index t.first x)
+
+-- for each rotation the first position from position j on whose level it changes, or the end of the order
+pub record AreFirstFrom (b : Board) (order : List ℕ) (j : ℕ) (first : List ℕ) : Type 0 where
+  pub first_each : length first ≡ length b.needs
+  pub from : (x : ℕ) → x < length b.needs → j ≤ slice_index first x
+  pub within : (x : ℕ) → x < length b.needs → slice_index first x ≤ length order
+  pub changes : (x : ℕ) → x < length b.needs → slice_index first x < length order → Changes b x (slice_index order (slice_index first x))
+  pub none_before : (x k : ℕ) → x < length b.needs → j ≤ k → k < slice_index first x → ¬ Changes b x (slice_index order k)
 
 -- what is held: a set, its log and the room for it, and the stay and the level of each proposer in its matching
 pub record Held : Type 0 where
@@ -119,6 +127,16 @@ pub record IsNarrowed (matched : List Bool) (forced : List (ℕ × ℕ)) (i : �
       × ((c : ℕ) → c < i → (slice_index_or forced c (0, 0)).0 ≡ p
       → (slice_index_or matched p false ≡ true) × (v ≡ (slice_index_or forced c (0, 0)).1))
 
+-- levels that never fall
+abbrev pub NeverFall : List ℕ → Type 0
+NeverFall levels = (i j : ℕ) → i < j → j < length levels → slice_index levels i ≤ slice_index levels j
+
+-- the first n of these are lower than this one, and all others aren't
+pub record IsDivided (levels : List ℕ) (level n : ℕ) : Type 0 where
+  pub few : n ≤ length levels
+  pub lower : (a : ℕ) → a < n → slice_index levels a < level
+  pub higher : (a : ℕ) → n ≤ a → a < length levels → level ≤ slice_index levels a
+
 -- exactly the stays are open whose levels pass
 pub record AreShut (levels : List ℕ) (Passes : ℕ → Type 0) (shut : List Bool) : Type 0 where
   pub one_each : length shut ≡ length levels
@@ -141,3 +159,15 @@ pub record AreAvoided (matched : List Bool) (levels : List (List ℕ)) (forbidde
       ↔ (slice_index_or (slice_index_or before p []) a false ≡ false)
       × ((c : ℕ) → c < i → (slice_index_or forbidden c (0, 0)).0 ≡ p → slice_index_or matched p false ≡ true
       → slice_index (row levels p) a ≢ (slice_index_or forbidden c (0, 0)).1)
+
+-- bounds between which all stays lie
+abbrev pub AreWide : Board → (low high : List ℕ) → Type 0
+AreWide b low high = (p a : ℕ) → p < length b.leaves → a < length (row b.levels p)
+    → (slice_index low p ≤ stay_level b p a) × (stay_level b p a ≤ slice_index high p)
+
+-- gates that leave open exactly the stays that meet the conditions
+pub record AreUnbounded (b : Board) (forced forbidden : List (ℕ × ℕ)) (g : Gates) : Type 0 where
+  pub low : List ℕ
+  pub high : List ℕ
+  pub wide : AreWide b low high
+  pub gates : AreGates b low high forced forbidden g

@@ -1,6 +1,6 @@
 //! The board of a chain with levels, and the order of a walk on it.
 
-ghost use Rattle.std.specs.Prelude.{◌≡◌, ℕ, ◌<◌, length};
+ghost use Rattle.std.specs.Prelude.{◌≡◌, ◌<◌, length};
 ghost use Rattle.sm_market.specs.Lists.{row};
 ghost use Rattle.sm_market.specs.Vectors.{rows_of};
 ghost use Rattle.sm_least.specs.Board.{leave, stay_level};
@@ -50,6 +50,28 @@ impl Board {
         ensures { result.now ≡ self.now.matched }
     {
         &self.matched
+    }
+
+    /// How many proposers there are.
+    pub(crate) fn proposers(&self) -> usize
+        ensures { result ≡ length self.now.leaves }
+    {
+        self.leaves.len()
+    }
+
+    /// How many rotations there are.
+    pub(crate) fn rotations(&self) -> usize
+        ensures { result ≡ length self.now.needs }
+    {
+        self.needs.len()
+    }
+
+    /// The rotations that end the stays of a proposer, but for the last one.
+    pub(crate) fn leaves(&self, p: u32) -> &[u32]
+        requires { p < length self.now.leaves }
+        ensures { result.now ≡ row self.now.leaves p }
+    {
+        &self.leaves[p as usize]
     }
 
     /// The predecessors of a rotation.

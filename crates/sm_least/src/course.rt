@@ -1,13 +1,15 @@
 //! The order of a walk over a board.
 
-ghost use Rattle.std.specs.Prelude.{◌≡◌, ◌<◌, ◌≤◌, ◌++◌, ◌∷◌, [], true, false, length, take, set, slice_index};
+ghost use Rattle.std.specs.Prelude.{◌≡◌, ℕ, ◌<◌, ◌≤◌, ◌^◌, ◌++◌, ◌∷◌, [], true, false, length, take, set, slice_index, IfOk};
 ghost use Rattle.sm_market.specs.Lists.{row};
 ghost use Rattle.sm_theory.specs.ClosedSets.{IsMember};
-ghost use Rattle.sm_least.specs.Board.{leave};
+ghost use Rattle.sm_theory.specs.Vectors.{IsOrder};
+ghost use Rattle.sm_least.specs.Board.{IsBoard, Changes, IsFirstChange, leave};
 ghost use Rattle.sm_least.specs.Steps.{IsCourse, IsHeld, Grows, Breaks};
 
 use crate::board::Board;
 use crate::held::Held;
+use std::alloc::{AllocError, Global};
 use std::marker::Model;
 
 /// A board and an order of its proposers.
@@ -16,21 +18,53 @@ pub struct Course {
     pub(crate) board: Board,
     /// The proposers, each once.
     pub(crate) order: Vec<u32>,
+    /// How many of them there are: none before there is an order.
+    pub(crate) positions: usize,
     /// For each rotation the first position in the order whose level it changes, or the number of proposers.
     pub(crate) first: Vec<u32>,
 }
 
 impl Model for Course {
+    ghost use Rattle.std.specs.Prelude.{◌≡◌, length, take};
     ghost use Rattle.sm_least.specs.Steps.{Course as Plain, IsCourse};
 
     ghost Value = { Plain };
 
-    ghost view = { λ s. record { board = s.board; order = s.order.items; first = s.first.items } };
+    ghost view = { λ s. record { board = s.board; order = take s.positions s.order.items; first = s.first.items } };
 
-    ghost invariant = { λ s. IsCourse (record { board = s.board; order = s.order.items; first = s.first.items }) };
+    ghost invariant = { λ s. IsCourse (record { board = s.board; order = take s.positions s.order.items; first = s.first.items })
+        × (length s.order.items ≡ length s.board.leaves) };
 }
 
 impl Course {
+    /// A board for which there is no order yet.
+    pub(crate) fn new(alloc: Global, board: Board) -> Result<Course, AllocError>
+        requires board { IsBoard board }
+        requires few { length board.leaves < 2 ^ 32 }
+        ensures board { IfOk result (λ course. course.board ≡ board) }
+        ensures order { IfOk result (λ course. course.order ≡ []) }
+    {
+        let order = vec![in alloc; 0; board.proposers()]?;
+        let first = vec![in alloc; 0; board.rotations()]?;
+        Ok(Course {
+            board,
+            order,
+            positions: 0,
+            first,
+        })
+    }
+
+    /// Takes another order, which has each proposer once. Takes time in proportion to the stays.
+    pub(crate) fn set_order(&mut self, order: &[u32])
+        requires { IsOrder (length self.old.board.leaves) order.now }
+        ensures board { self.new.board ≡ self.old.board }
+        ensures order { self.new.order ≡ order.now }
+    {
+        self.order.copy_from_slice(order);
+        self.positions = order.len();
+        find_first(&self.board, order, &mut self.first);
+    }
+
     /// The proposer at a position of the order.
     pub fn proposer_at(&self, position: u32) -> u32
         requires { position < length self.now.order }
@@ -39,14 +73,16 @@ impl Course {
     {
         let _ = &self.board;
         let _ = &self.first;
+        let _ = self.positions;
         self.order[position as usize]
     }
 
-    /// The board. It is one, and the order has each of its proposers once.
+    /// The board.
     pub fn board(&self) -> &Board
         ensures board { result.now ≡ self.now.board }
         ensures course { IsCourse self.now }
     {
+        let _ = self.positions;
         let _ = &self.order;
         let _ = &self.first;
         &self.board
@@ -119,5 +155,48 @@ impl Course {
         ensures course { IsCourse self.now }
     {
         held.back(self.board(), count);
+    }
+
+    /// For each rotation the first position whose level it changes, or the end of the order.
+    pub fn first_positions(&self) -> &[u32]
+        ensures positions { result.now ≡ self.now.first }
+        ensures course { IsCourse self.now }
+    {
+        let _board = self.board();
+        let _ = self.positions;
+        &self.first
+    }
+}
+
+/// Finds for each rotation the first position in an order whose level it changes.
+fn find_first(board: &Board, order: &[u32], first: &mut [u32])
+    requires board { IsBoard board.now }
+    requires order { IsOrder (length board.now.leaves) order.now }
+    requires few { length board.now.leaves < 2 ^ 32 }
+    requires first_each { length first.old ≡ length board.now.needs }
+    ensures first_each { length first.new ≡ length first.old }
+    ensures first_are { (x : ℕ) → x < length board.now.needs → IsFirstChange board.now order.now x (slice_index first.new x) }
+{
+    let mut j = order.len();
+    first.fill(j as u32);
+    while j > 0 {
+        j -= 1;
+        mark_changes(board, order[j], j as u32, first);
+    }
+}
+
+/// Writes a number for each rotation that changes the level of a proposer.
+fn mark_changes(board: &Board, p: u32, number: u32, first: &mut [u32])
+    requires board { IsBoard board.now }
+    requires proposer { p < length board.now.leaves }
+    requires first_each { length first.old ≡ length board.now.needs }
+    ensures first_each { length first.new ≡ length first.old }
+    ensures marked { (x : ℕ) → Changes board.now x p → slice_index first.new x ≡ number }
+    ensures others { (x : ℕ) → ¬ Changes board.now x p → slice_index first.new x ≡ slice_index first.old x }
+{
+    for a in 1..board.stays(p) {
+        if board.level(p, a - 1) < board.level(p, a) {
+            first[board.leave(p, a - 1) as usize] = number;
+        }
     }
 }

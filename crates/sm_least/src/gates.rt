@@ -1,14 +1,15 @@
 //! Which stays the bounds and conditions of a search leave open.
 
-ghost use Rattle.std.specs.Prelude.{◌≡◌, ◌≢◌, ℕ, ◌+◌, ◌<◌, ◌≤◌, ◌↔◌, true, false, [], length, slice_index, slice_index_or};
+ghost use Rattle.std.specs.Prelude.{◌≡◌, ◌≢◌, ℕ, ◌+◌, ◌-◌, ◌<◌, ◌≤◌, ◌↔◌, true, false, [], length, slice_index, slice_index_or, IfOk};
 ghost use Rattle.sm_market.specs.Lists.{row};
 ghost use Rattle.sm_market.specs.Vectors.{rows_of};
 ghost use Rattle.sm_least.specs.Board.{Gates, IsBoard, is_shut};
 ghost use Rattle.sm_least.specs.BoardOf.{AreGates, AreInRange};
-ghost use Rattle.sm_least.specs.Steps.{AreGatesOf, IsNarrowed, AreShut, rows_in, AreRowsFor, AreAvoided};
+ghost use Rattle.sm_least.specs.Steps.{AreGatesOf, IsNarrowed, AreShut, rows_in, AreRowsFor, AreAvoided, AreUnbounded, NeverFall, IsDivided};
 
 use crate::board::Board;
 use sm_poset::Conditions;
+use std::alloc::{AllocError, Global};
 use std::marker::Model;
 
 /// Bounds on the levels of each proposer, and the stays that they and the conditions leave open.
@@ -34,8 +35,41 @@ impl Model for Gates {
 }
 
 impl Gates {
+    /// Gates for the stays of a board.
+    pub(crate) fn new(alloc: Global, board: &Board) -> Result<Gates, AllocError>
+        requires { IsBoard board.now }
+        ensures { IfOk result (λ gates. AreGatesOf board.now gates) }
+    {
+        let proposers = board.proposers();
+        Ok(Gates {
+            low: vec![in alloc; 0; proposers]?,
+            high: vec![in alloc; 0; proposers]?,
+            until: vec![in alloc; 0; proposers]?,
+            shut: open_rows(alloc, board.all_levels())?,
+        })
+    }
+
+    /// Leaves open the stays that meet the conditions, and no others. Takes as much time as [`Gates::set`].
+    pub(crate) fn set_unbounded(&mut self, board: &Board, conditions: &Conditions)
+        requires board { IsBoard board.now }
+        requires gates { AreGatesOf board.now self.old }
+        requires forced { AreInRange (length board.now.leaves) conditions.now.forced.items }
+        requires forbidden { AreInRange (length board.now.leaves) conditions.now.forbidden.items }
+        ensures gates { AreGatesOf board.now self.new }
+        ensures open { AreUnbounded board.now conditions.now.forced.items conditions.now.forbidden.items self.new }
+    {
+        fill_unbounded(
+            board,
+            conditions,
+            &mut self.low,
+            &mut self.high,
+            &mut self.shut,
+            &mut self.until,
+        );
+    }
+
     /// Leaves open the stays whose levels lie within the bounds and meet the conditions, and no others. Takes time in
-    /// proportion to the stays and the forced pairs, and to the stays of the proposers of the forbidden ones.
+    /// proportion to the stays and the conditions, and for each forbidden pair to the logarithm of its proposer's stays.
     pub(crate) fn set(&mut self, board: &Board, low: &[u32], high: &[u32], conditions: &Conditions)
         requires board { IsBoard board.now }
         requires gates { AreGatesOf board.now self.old }
@@ -84,6 +118,59 @@ impl Gates {
     {
         self.shut[p as usize][stay]
     }
+}
+
+/// A mark for each stay of each proposer, with none shut.
+fn open_rows(alloc: Global, levels: &[Vec<u32>]) -> Result<Vec<Vec<bool>>, AllocError>
+    ensures { IfOk result (λ rows. AreRowsFor (rows_of levels.now) (rows_in rows.items)) }
+{
+    let mut rows = Vec::with_capacity(alloc, levels.len())?;
+    for row in levels {
+        rows.push(vec![in alloc; false; row.len()]?)?;
+    }
+    Ok(rows)
+}
+
+/// Writes the last level of each proposer.
+fn write_highest(levels: &[Vec<u32>], high: &mut [u32])
+    requires high_each { length high.old ≡ length levels.now }
+    requires some { (p : ℕ) → p < length levels.now → 0 < length (row (rows_of levels.now) p) }
+    ensures high_each { length high.new ≡ length high.old }
+    ensures highest { (p : ℕ) → p < length levels.now
+        → slice_index high.new p ≡ slice_index (row (rows_of levels.now) p) (length (row (rows_of levels.now) p) - 1) }
+{
+    for p in 0..levels.len() {
+        high[p] = levels[p][levels[p].len() - 1];
+    }
+}
+
+/// Leaves open the stays that meet the conditions, and no others. The bounds become those that the conditions leave.
+fn fill_unbounded(
+    board: &Board,
+    conditions: &Conditions,
+    low: &mut [u32],
+    high: &mut [u32],
+    shut: &mut [Vec<bool>],
+    until: &mut [usize],
+)
+    requires board { IsBoard board.now }
+    requires rows { AreRowsFor board.now.levels (rows_in shut.old) }
+    requires until_each { length until.old ≡ length board.now.leaves }
+    requires low_each { length low.old ≡ length board.now.leaves }
+    requires high_each { length high.old ≡ length board.now.leaves }
+    requires forced { AreInRange (length board.now.leaves) conditions.now.forced.items }
+    requires forbidden { AreInRange (length board.now.leaves) conditions.now.forbidden.items }
+    ensures low_each { length low.new ≡ length low.old }
+    ensures high_each { length high.new ≡ length high.old }
+    ensures shut_each { length shut.new ≡ length shut.old }
+    ensures until_each { length until.new ≡ length until.old }
+    ensures gates { AreGatesOf board.now (record { until = until.new; shut = rows_in shut.new }) }
+    ensures open { AreUnbounded board.now conditions.now.forced.items conditions.now.forbidden.items
+        (record { until = until.new; shut = rows_in shut.new }) }
+{
+    low.fill(0);
+    write_highest(board.all_levels(), high);
+    fill(board, conditions, low, high, shut, until);
 }
 
 /// Leaves open the stays whose levels lie within the bounds and meet the conditions, and no others. The bounds are narrowed.
@@ -158,17 +245,36 @@ fn shut_row(levels: &[u32], low: u32, high: u32, shut: &mut [bool])
     }
 }
 
-/// Shuts the stays of a level.
+/// Shuts the stays of a level. Takes time in proportion to how many they are, and to the logarithm of all stays.
 fn shut_level(levels: &[u32], level: u32, shut: &mut [bool])
-    requires { length shut.old ≡ length levels.now }
+    requires one_each { length shut.old ≡ length levels.now }
+    requires rising { NeverFall levels.now }
     ensures one_each { length shut.new ≡ length shut.old }
     ensures shut { (a : ℕ) → a < length levels.now → (slice_index_or shut.new a false ≡ false) ↔ (slice_index_or shut.old a false ≡ false) × (slice_index levels.now a ≢ level) }
 {
-    for a in 0..levels.len() {
-        if levels[a] == level {
-            shut[a] = true;
+    let mut a = lower(levels, level);
+    'stays: while a < levels.len() && levels[a] == level {
+        shut[a] = true;
+        a += 1;
+    }
+}
+
+/// How many levels are lower than this one, found by bisection.
+fn lower(levels: &[u32], level: u32) -> usize
+    requires { NeverFall levels.now }
+    ensures { IsDivided levels.now level result }
+{
+    let mut low = 0;
+    let mut high = levels.len();
+    'halves: while low < high {
+        let middle = low + (high - low) / 2;
+        if levels[middle] < level {
+            low = middle + 1;
+        } else {
+            high = middle;
         }
     }
+    low
 }
 
 /// The place behind the last stay that isn't shut.
@@ -197,8 +303,8 @@ fn shut_rows(levels: &[Vec<u32>], low: &[u32], high: &[u32], shut: &mut [Vec<boo
     }
 }
 
-/// Shuts the stays of the forbidden levels of matched proposers. Takes time in proportion to the stays of the proposers that
-/// are named.
+/// Shuts the stays of the forbidden levels of matched proposers. Takes time in proportion to these stays, and for each pair to
+/// the logarithm of the stays of its proposer.
 fn shut_forbidden(
     matched: &[bool],
     levels: &[Vec<u32>],
@@ -208,6 +314,7 @@ fn shut_forbidden(
     requires matched_each { length matched.now ≡ length levels.now }
     requires in_range { AreInRange (length levels.now) forbidden.now }
     requires rows { AreRowsFor (rows_of levels.now) (rows_in shut.old) }
+    requires rising { (p : ℕ) → p < length levels.now → NeverFall (row (rows_of levels.now) p) }
     ensures { AreAvoided matched.now (rows_of levels.now) forbidden.now (length forbidden.now) (rows_in shut.old) (rows_in shut.new) }
 {
     for &(p, level) in forbidden {
@@ -222,7 +329,8 @@ fn shut_forbidden(
 
 /// Shuts the stays of a level, of a matched proposer.
 fn shut_if(matched: bool, levels: &[u32], level: u32, shut: &mut [bool])
-    requires { length shut.old ≡ length levels.now }
+    requires one_each { length shut.old ≡ length levels.now }
+    requires rising { NeverFall levels.now }
     ensures one_each { length shut.new ≡ length shut.old }
     ensures shut { (a : ℕ) → a < length levels.now → (slice_index_or shut.new a false ≡ false)
         ↔ (slice_index_or shut.old a false ≡ false) × (matched ≡ true → slice_index levels.now a ≢ level) }

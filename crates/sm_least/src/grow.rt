@@ -3,6 +3,7 @@
 ghost use Rattle.std.specs.Prelude.{◌≡◌, ℕ, ◌<◌, ◌≤◌, Bool, true, false, List, [], length, take, slice_index, Contains};
 ghost use Rattle.sm_market.specs.Lists.{row};
 ghost use Rattle.sm_theory.specs.ClosedSets.{IsMember};
+ghost use Rattle.sm_theory.specs.Vectors.{IsOrder};
 ghost use Rattle.sm_least.specs.Board.{IsClosedIn, IsOpen, Fits, IsLeast, level, stay};
 ghost use Rattle.sm_least.specs.Growing.{AreNeedsIn};
 ghost use Rattle.sm_least.specs.Steps.{IsHeld, Grows, IsInAll, Breaks, HasRotation, IsHigh, AreGatesOf, AreOpened, AreSettled};
@@ -228,6 +229,7 @@ fn grow_all(course: &Course, gates: &Gates, held: &mut Held) -> bool
 pub fn raise(course: &Course, gates: &Gates, held: &mut Held, p: u32, wanted: u64, bar: u32) -> bool
     requires held { IsHeld course.now.board held.old }
     requires fits { Fits course.now.board gates.now held.old.set }
+    requires order { IsOrder (length course.now.board.leaves) course.now.order }
     requires positions { bar ≤ length course.now.order }
     requires proposer { p < length course.now.board.leaves }
     requires gates { AreGatesOf course.now.board gates.now }
@@ -249,6 +251,7 @@ pub fn raise(course: &Course, gates: &Gates, held: &mut Held, p: u32, wanted: u6
 fn grow_to(course: &Course, gates: &Gates, held: &mut Held, p: u32, wanted: u64, bar: u32) -> bool
     requires held { IsHeld course.now.board held.old }
     requires fits { Fits course.now.board gates.now held.old.set }
+    requires order { IsOrder (length course.now.board.leaves) course.now.order }
     requires positions { bar ≤ length course.now.order }
     requires proposer { p < length course.now.board.leaves }
     requires gates { AreGatesOf course.now.board gates.now }

@@ -1,1 +1,5 @@
 pub mod WalkingLemmas
+pub mod SkipLemmas
+pub mod NextLemmas
+pub mod StartLemmas
+pub mod RestLemmas

@@ -1,19 +1,16 @@
 -- Where a walk stands: marks as lengths of the log.
-use Rattle.std.proofs.Common.{◌≡◌, ◌≢◌, ◌⊎◌, ℕ, ◌+◌, ◌<◌, ◌≤◌, inl, inr, arith, refl, sym, ap, ◌∙◌, subst, List, length, Bool, true, false, slice_index, slice_index_or, set, take, Option, None, Some, unwrap_or}
+use Rattle.std.proofs.Common.{◌≡◌, ◌≢◌, ◌⊎◌, ℕ, ◌+◌, ◌<◌, ◌≤◌, inl, inr, arith, refl, sym, ap, ◌∙◌, subst, List, length, Bool, false, slice_index, slice_index_or, set, take, Option, None, Some, unwrap_or}
 use Rattle.std.proofs.lemmas.List.{ext_get_or, take-take, take_all, length-take, length-set, get_or-set_same, get_or-set_other}
+use Rattle.sm_lists.proofs.ResultLemmas.{same_bool}
 use Rattle.sm_lists.proofs.Counting.{eq_or_ne, lt_or_le}
-use Rattle.sm_least.specs.Board.{Board, level, Gates, Fits, IsLeast}
+use Rattle.sm_theory.specs.Vectors.{IsOrder}
+use Rattle.sm_least.specs.Board.{IsBoard, Board, level, Gates, Fits, IsLeast}
 use Rattle.sm_least.specs.Growing.{IsLogOf}
-use Rattle.sm_least.specs.Steps.{Course, IsCourse, Held, IsHeld, AreGatesOf}
+use Rattle.sm_least.specs.Steps.{Course, Held, IsHeld, AreGatesOf}
 use Rattle.sm_least.specs.Walks.{vector, IsMark, IsNextUp, NoneFrom, IsWalk, IsFirst, IsRaised, IsNotRaised}
 use Rattle.sm_least.proofs.HeldLemmas.{one_log}
 use Rattle.sm_least.proofs.WalkLemmas.{vector_at, vector_long, up_where_raised, none_where_not_raised, next_up_is_first, mark_before, mark_behind, walk_begins, follow_on, follow_ends}
 use Rattle.sm_lister.specs.Walking.{AreMarks, IsMadeFor, IsUnderWay, IsReached, IsAlong}
-
-same_bool : (a b : Bool) → (a ≡ true → b ≡ true) → (b ≡ true → a ≡ true) → a ≡ b
-same_bool true b f g = sym (f refl)
-same_bool false true f g = g refl
-same_bool false false f g = refl
 
 -- a log has one set
 pub one_set : {b : Board} {log : List ℕ} {C D : List Bool} → IsLogOf b log C → IsLogOf b log D → C ≡ D
@@ -103,21 +100,21 @@ marks_fill {t} {g} {h} {v} {w} {old} {marks} i n held are before behind stays ne
         subst (IsMark t.board g t.order w (j + 1)) (one_set held.logged (subst (λ log. IsLogOf t.board log C) whole c)) (new j le y)
 
 -- the next set up at a position, with none behind, is reached
-pub reached_up : {t : Course} {g : Gates} {h : Held} {v old w marks : List ℕ} (i : ℕ) → IsCourse t → IsHeld t.board h → AreGatesOf t.board g → AreMarks t g v h.log old i → i < length t.board.leaves → length old ≡ length t.board.leaves
+pub reached_up : {t : Course} {g : Gates} {h : Held} {v old w marks : List ℕ} (i : ℕ) → IsBoard t.board → IsOrder (length t.board.leaves) t.order → IsHeld t.board h → AreGatesOf t.board g → AreMarks t g v h.log old i → i < length t.board.leaves → length old ≡ length t.board.leaves
     → IsNextUp t.board g t.order v i h.set → NoneFrom t.board g t.order v (i + 1)
     → w ≡ h.levels → length marks ≡ length old → ((j : ℕ) → j < i → slice_index marks j ≡ slice_index old j) → ((j : ℕ) → i ≤ j → j < length old → slice_index marks j ≡ length h.log)
     → IsReached t g (Some v) h w marks
-reached_up {t} {g} {h} {v} {old} {w} {marks} i course held gates are x long n none e each before behind = record {
+reached_up {t} {g} {h} {v} {old} {w} {marks} i board order held gates are x long n none e each before behind = record {
   fits = n.up.fits;
-  first = next_up_is_first t.board g t.order v i h.set course.board course.order within n none;
+  first = next_up_is_first t.board g t.order v i h.set board order within n none;
   vector_is = is;
   under_way = record {
-    made = record { held = held; gates = gates; level_each = ap length is ∙ vector_long t.board h.set; mark_each = each ∙ long };
+    made = record { order = order; held = held; gates = gates; level_each = ap length is ∙ vector_long t.board h.set; mark_each = each ∙ long };
     within = omega arith;
     are = marks_fill i (length t.board.leaves) held are before (λ j le y. behind j le (omega (arith, long)))
-        (λ j C y m. subst (λ u. IsMark t.board g t.order u (j + 1) C) (sym is) (mark_before course.order within n (j + 1) (omega arith) m))
-        (λ j le y. subst (λ u. IsMark t.board g t.order u (j + 1) h.set) (sym is) (mark_behind course.order within n (j + 1) (omega arith) (omega (arith, course.order.long))));
-    none = λ j D le y. absurd (omega (arith, course.order.long));
+        (λ j C y m. subst (λ u. IsMark t.board g t.order u (j + 1) C) (sym is) (mark_before order within n (j + 1) (omega arith) m))
+        (λ j le y. subst (λ u. IsMark t.board g t.order u (j + 1) h.set) (sym is) (mark_behind order within n (j + 1) (omega arith) (omega (arith, order.long))));
+    none = λ j D le y. absurd (omega (arith, order.long));
   };
 }
   where
@@ -125,23 +122,23 @@ reached_up {t} {g} {h} {v} {old} {w} {marks} i course held gates are x long n no
     is = e ∙ levels_are held
 
     within : i < length t.order
-    within = omega (arith, course.order.long)
+    within = omega (arith, order.long)
 
 -- so is the least set, where there is no vector
-pub reached_first : {t : Course} {g : Gates} {h : Held} {w marks : List ℕ} (old : List ℕ) → IsCourse t → IsHeld t.board h → AreGatesOf t.board g → length old ≡ length t.board.leaves
+pub reached_first : {t : Course} {g : Gates} {h : Held} {w marks : List ℕ} (old : List ℕ) → IsBoard t.board → IsOrder (length t.board.leaves) t.order → IsHeld t.board h → AreGatesOf t.board g → length old ≡ length t.board.leaves
     → IsLeast (Fits t.board g) h.set → w ≡ h.levels → length marks ≡ length old → ((j : ℕ) → 0 ≤ j → j < length old → slice_index marks j ≡ length h.log)
     → IsReached t g None h w marks
-reached_first {t} {g} {h} {w} {marks} old course held gates long least e each behind = record {
+reached_first {t} {g} {h} {w} {marks} old board order held gates long least e each behind = record {
   fits = least.one;
   first = begins.1;
   vector_is = is;
   under_way = record {
-    made = record { held = held; gates = gates; level_each = ap length is ∙ vector_long t.board h.set; mark_each = each ∙ long };
+    made = record { order = order; held = held; gates = gates; level_each = ap length is ∙ vector_long t.board h.set; mark_each = each ∙ long };
     within = omega arith;
     are = marks_fill {v = w} {old = marks} 0 (length t.board.leaves) held (record { few = λ j y. absurd (omega arith); rising = λ j k a y. absurd (omega arith); are = λ j C y. absurd (omega arith) }) (λ j y. absurd (omega arith)) (λ j le y. behind j le (omega (arith, long)))
         (λ j C y. absurd (omega arith))
-        (λ j le y. subst (λ u. IsMark t.board g t.order u (j + 1) h.set) (sym is) (begins.0.marks (j + 1) (omega (arith, course.order.long))));
-    none = λ j D le y. absurd (omega (arith, course.order.long));
+        (λ j le y. subst (λ u. IsMark t.board g t.order u (j + 1) h.set) (sym is) (begins.0.marks (j + 1) (omega (arith, order.long))));
+    none = λ j D le y. absurd (omega (arith, order.long));
   };
 }
   where
@@ -149,7 +146,7 @@ reached_first {t} {g} {h} {w} {marks} old course held gates long least e each be
     is = e ∙ levels_are held
 
     begins : IsWalk t.board g t.order (vector t.board h.set) (length t.order) (λ _. h.set) × IsFirst t.board g t.order h.set
-    begins = walk_begins t.board g t.order h.set course.board course.order least
+    begins = walk_begins t.board g t.order h.set board order least
 
 -- a vector is followed from the least set
 pub along_start : {t : Course} {g : Gates} {h : Held} {v marks : List ℕ} → IsMadeFor t g h v marks → IsLeast (Fits t.board g) h.set → IsAlong t g h v marks 0
@@ -166,7 +163,7 @@ marks_below {t} {g} {v} {log} {then} {marks} i w same long = marks_keep i (slice
 -- a position less, where none is above the vector there
 pub under_way_below : {t : Course} {g : Gates} {h k : Held} {v marks : List ℕ} (i : ℕ) → IsUnderWay t g h v marks (i + 1) → IsHeld t.board k → take (slice_index marks i) k.log ≡ take (slice_index marks i) h.log → slice_index marks i ≤ length k.log → NoneFrom t.board g t.order v i → IsUnderWay t g k v marks i
 under_way_below i w held same long none = record {
-  made = record { held = held; gates = w.made.gates; level_each = w.made.level_each; mark_each = w.made.mark_each };
+  made = record { order = w.made.order; held = held; gates = w.made.gates; level_each = w.made.level_each; mark_each = w.made.mark_each };
   within = let a = w.within in omega arith;
   are = marks_below i w.are same long;
   none = none;
@@ -175,21 +172,21 @@ under_way_below i w held same long none = record {
 -- where a vector can't be followed further the walk is under way up to there
 pub under_way_here : {t : Course} {g : Gates} {h k : Held} {v marks : List ℕ} (i p wanted : ℕ) → IsAlong t g h v marks i → i < length t.board.leaves → IsHeld t.board k → k.log ≡ h.log → p ≡ slice_index t.order i → wanted ≡ slice_index v p → IsNotRaised t.board g t.order h.set p wanted i → IsUnderWay t g k v marks i
 under_way_here {t} {g} {h} {k} {v} {marks} i p wanted w x held same at is r = record {
-  made = record { held = held; gates = w.made.gates; level_each = w.made.level_each; mark_each = w.made.mark_each };
+  made = record { order = w.made.order; held = held; gates = w.made.gates; level_each = w.made.level_each; mark_each = w.made.mark_each };
   within = omega arith;
   are = subst (λ log. AreMarks t g v log marks i) (sym same) w.are;
   none = follow_ends t.board g t.order v i h.set w.mark (subst (λ q. IsNotRaised t.board g t.order h.set q (slice_index v q) i) at (subst (λ n. IsNotRaised t.board g t.order h.set p n i) is r));
 }
 
 -- what is found at a position along a vector
-pub along_on : {t : Course} {g : Gates} {h : Held} {v marks : List ℕ} (k : Held) (i p wanted : ℕ) → IsCourse t → IsAlong t g h v marks i → i < length t.board.leaves → p ≡ slice_index t.order i → wanted ≡ slice_index v p → IsRaised t.board g t.order h.set p wanted i k.set
+pub along_on : {t : Course} {g : Gates} {h : Held} {v marks : List ℕ} (k : Held) (i p wanted : ℕ) → IsBoard t.board → IsOrder (length t.board.leaves) t.order → IsAlong t g h v marks i → i < length t.board.leaves → p ≡ slice_index t.order i → wanted ≡ slice_index v p → IsRaised t.board g t.order h.set p wanted i k.set
     → (level t.board k.set p ≡ wanted → IsMark t.board g t.order v (i + 1) k.set)
     × (wanted < level t.board k.set p → IsNextUp t.board g t.order v i k.set × NoneFrom t.board g t.order v (i + 1))
-along_on {t} {g} {h} {v} {marks} k i p wanted course w x at is r =
+along_on {t} {g} {h} {v} {marks} k i p wanted board order w x at is r =
     let q : ℕ = slice_index t.order i in
     let a : wanted ≡ slice_index v q = is ∙ ap (slice_index v) at in
     let l : level t.board k.set p ≡ level t.board k.set q = ap (level t.board k.set) at in
-    let on = follow_on t.board g t.order v i h.set k.set course.board course.order (omega (arith, course.order.long)) w.mark
+    let on = follow_on t.board g t.order v i h.set k.set board order (omega (arith, order.long)) w.mark
     (subst (λ q. IsRaised t.board g t.order h.set q (slice_index v q) i k.set) at (subst (λ n. IsRaised t.board g t.order h.set p n i k.set) is r)) in
     ((λ e. on.0 (sym l ∙ e ∙ a)), (λ up. on.1 (omega arith)))
 
@@ -200,7 +197,7 @@ along_grows {t} {g} {h} {v} {marks} k i w front long = marks_keep i (length h.lo
 -- one position further along a vector
 pub along_next : {t : Course} {g : Gates} {h k : Held} {v marks then : List ℕ} (i : ℕ) → IsAlong t g h v marks i → i < length t.board.leaves → IsHeld t.board k → take (length h.log) k.log ≡ h.log → length h.log ≤ length k.log → then ≡ set marks i (length k.log) → IsMark t.board g t.order v (i + 1) k.set → IsAlong t g k v then (i + 1)
 along_next {t} {g} {h} {k} {v} {marks} {then} i w x held front long is m = record {
-  made = record { held = held; gates = w.made.gates; level_each = w.made.level_each; mark_each = ap length is ∙ length-set marks i (length k.log) ∙ w.made.mark_each };
+  made = record { order = w.made.order; held = held; gates = w.made.gates; level_each = w.made.level_each; mark_each = ap length is ∙ length-set marks i (length k.log) ∙ w.made.mark_each };
   are = subst (λ ms. AreMarks t g v k.log ms (i + 1)) (sym is) (marks_add i held (along_grows k i w front long) (omega (arith, w.made.mark_each)) m);
   mark = m;
 }
@@ -210,8 +207,8 @@ pub front_long : (log then : List ℕ) → take (length log) then ≡ log → le
 front_long log then e = omega (arith, length-take (length log) then, ap length e)
 
 -- the level held of the proposer at a position
-pub level_held : {t : Course} (k : Held) (i p : ℕ) → IsCourse t → IsHeld t.board k → i < length t.board.leaves → p ≡ slice_index t.order i → slice_index k.levels p ≡ level t.board k.set p
-level_held {t} k i p course held x at = held.now_is p (let a = course.order.in_range i (omega (arith, course.order.long)) in omega arith)
+pub level_held : {b : Board} {order : List ℕ} (k : Held) (i p : ℕ) → IsOrder (length b.leaves) order → IsHeld b k → i < length b.leaves → p ≡ slice_index order i → slice_index k.levels p ≡ level b k.set p
+level_held k i p o held x at = held.now_is p (let a = o.in_range i (omega (arith, o.long)) in omega arith)
 
 -- where following a vector ends, the walk is under way
 pub followed : {t : Course} {g : Gates} {k : Held} {v w marks : List ℕ} (r : Option ℕ) (d n : ℕ) → d ≡ unwrap_or r n → n ≡ length t.board.leaves → (r ≡ None → IsReached t g (Some v) k w marks) → ((e : ℕ) → r ≡ Some e → IsUnderWay t g k w marks e) → IsUnderWay t g k w marks d

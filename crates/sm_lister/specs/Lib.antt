@@ -1,1 +1,3 @@
 pub mod Walking
+pub mod Listers
+pub mod Rests

@@ -1,7 +1,8 @@
 -- Where a walk stands: the level vector that it came to last, or the one that it goes on behind, and for each position how much
 -- of the log of what is held the positions up to it ask for.
-use Rattle.std.specs.Prelude.{◌≡◌, if◌then◌else◌, ℕ, ◌+◌, ◌<◌, ◌≤◌, true, false, List, Bool, Option, None, Some, length, take, slice_index}
-use Rattle.sm_least.specs.Board.{Gates, Fits, IsLeast}
+use Rattle.std.specs.Prelude.{◌≡◌, if◌then◌else◌, ℕ, ◌+◌, ◌<◌, ◌≤◌, true, false, List, Bool, Option, None, Some, length, take, slice_index, slice_index_or}
+use Rattle.sm_theory.specs.Vectors.{IsOrder}
+use Rattle.sm_least.specs.Board.{Board, Gates, Fits, IsLeast, IsFirstChange}
 use Rattle.sm_least.specs.Growing.{IsLogOf}
 use Rattle.sm_least.specs.Steps.{Course, Held, IsHeld, AreGatesOf}
 use Rattle.sm_least.specs.Walks.{vector, IsMark, NoneFrom, IsFirst, IsFirstAbove}
@@ -15,8 +16,9 @@ pub record AreMarks (t : Course) (g : Gates) (v log marks : List ℕ) (d : ℕ) 
   pub are : (i : ℕ) (C : List Bool) → i < d → IsLogOf t.board (take (slice_index marks i) log) C
       → IsMark t.board g t.order v (i + 1) C
 
--- the gates, what is held, a vector and marks are made for the course
+-- the gates, what is held, a vector and marks are made for the course, whose order has each proposer once
 pub record IsMadeFor (t : Course) (g : Gates) (h : Held) (v marks : List ℕ) : Type 0 where
+  pub order : IsOrder (length t.board.leaves) t.order
   pub held : IsHeld t.board h
   pub gates : AreGatesOf t.board g
   pub level_each : length v ≡ length t.board.leaves
@@ -28,6 +30,24 @@ pub record IsUnderWay (t : Course) (g : Gates) (h : Held) (v marks : List ℕ) (
   pub within : d ≤ length t.board.leaves
   pub are : AreMarks t g v h.log marks d
   pub none : NoneFrom t.board g t.order v d
+
+-- a depth from which on, up to depth d, no rotation changes the level at a position and none before it
+pub record IsSkip (b : Board) (order : List ℕ) (d s : ℕ) : Type 0 where
+  pub low : s ≤ d
+  pub none : (j x : ℕ) → s ≤ j → j < d → ¬ IsFirstChange b order x j
+
+-- such a depth for each one
+abbrev pub AreSkips : Board → (order skip : List ℕ) → Type 0
+AreSkips b order skip = (d : ℕ) → d < length skip → IsSkip b order d (slice_index skip d)
+
+-- the positions are marked that are the first whose level one of the first i rotations changes
+abbrev pub AreTurns : Course → ℕ → List Bool → Type 0
+AreTurns t i turns = (x j : ℕ) → x < i → j < length turns → slice_index t.first x ≡ j → slice_index_or turns j false ≡ true
+
+-- from each of these depths on, up to the one that it is for, no position is marked
+abbrev pub SkipsNoTurn : (turns : List Bool) → (skip : List ℕ) → Type 0
+SkipsNoTurn turns skip = (d : ℕ) → d < length skip → (slice_index skip d ≤ d)
+    × ((j : ℕ) → slice_index skip d ≤ j → j < d → slice_index_or turns j false ≡ false)
 
 -- none of the sets that fit is behind a cursor
 abbrev pub NoneLeft : Course → Gates → Option (List ℕ) → Type 0
@@ -59,6 +79,8 @@ cursor_of w = if w.given then Some w.vector.items else None
 -- a walk that made no step yet holds the least set that fits; another one is under way, or nothing fits
 pub record IsWalking (t : Course) (g : Gates) (h : Held) (w : Walk) : Type 0 where
   pub made : IsMadeFor t g h w.vector.items w.marks.items
+  pub skip_each : length w.skip.items ≡ length t.board.leaves + 1
+  pub skips : AreSkips t.board t.order w.skip.items
   pub least : w.fresh ≡ true → IsLeast (Fits t.board g) h.set
   pub under_way : w.fresh ≡ false → IsUnderWay t g h w.vector.items w.marks.items w.depth
   pub nothing : w.fresh ≡ false → w.given ≡ false → NoneLeft t g None

@@ -1,4 +1,14 @@
 //! The stable matchings that conditions allow, one after the other in the order of their level vectors.
+//!
+//! [`Lister`] steps from one vector to the next one, from the closed set that it holds, in arrays that it keeps. [`Listing`] is an
+//! iterator over its vectors with a limit; its law stands in [`laws`].
 #![tactic(auto)]
 
+pub mod laws;
+mod lister;
+mod listing;
+mod start;
 mod walk;
+
+pub use lister::Lister;
+pub use listing::Listing;

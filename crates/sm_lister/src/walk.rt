@@ -1,11 +1,12 @@
 //! The walk from vector to vector.
 
-ghost use Rattle.std.specs.Prelude.{◌≡◌, ℕ, ◌+◌, ◌<◌, ◌≤◌, true, false, List, Bool, Option, None, Some, length, take, slice_index};
+ghost use Rattle.std.specs.Prelude.{◌≡◌, ℕ, ◌+◌, ◌-◌, ◌<◌, ◌≤◌, true, false, List, Bool, Option, None, Some, length, take, slice_index};
+ghost use Rattle.sm_theory.specs.Vectors.{IsOrder};
 ghost use Rattle.sm_least.specs.Board.{Fits, IsLeast, level};
 ghost use Rattle.sm_least.specs.Growing.{IsLogOf};
 ghost use Rattle.sm_least.specs.Steps.{IsHeld, AreGatesOf};
 ghost use Rattle.sm_least.specs.Walks.{vector, IsMark, IsNextUp, NoneFrom};
-ghost use Rattle.sm_lister.specs.Walking.{cursor_of, IsMadeFor, IsUnderWay, IsReached, IsAlong, IsWalking, NoneLeft};
+ghost use Rattle.sm_lister.specs.Walking.{cursor_of, IsMadeFor, IsUnderWay, AreSkips, IsReached, IsAlong, IsWalking, NoneLeft};
 
 use sm_least::{Course, Gates, Held, raise};
 
@@ -18,6 +19,8 @@ pub struct Walk {
     pub(crate) given: bool,
     /// For each position how much of the log the positions up to it ask for.
     pub(crate) marks: Vec<usize>,
+    /// For each depth the one behind the last position before it that is the first whose level some rotation changes.
+    pub(crate) skip: Vec<u32>,
     /// The position before which a set may still go up.
     pub(crate) depth: u32,
     /// Whether no step was made yet.
@@ -83,13 +86,14 @@ fn next_step(course: &Course, gates: &Gates, held: &mut Held, walk: &mut Walk) -
     ensures none { result ≡ false → NoneLeft course.now gates.now (cursor_of walk.old) }
     ensures same { result ≡ false → cursor_of walk.new ≡ cursor_of walk.old }
 {
+    let depth = walk.depth as usize;
     let found = go_on(
         course,
         gates,
         held,
         &mut walk.vector,
         &mut walk.marks,
-        walk.depth,
+        &walk.skip[..depth + 1],
     );
     walk.depth = if found { course.proposers() } else { 0 };
     found
@@ -103,6 +107,7 @@ fn begin(course: &Course, gates: &Gates, held: &Held, walk: &mut Walk)
     ensures given { walk.new.given ≡ true }
     ensures depth { walk.new.depth ≡ length course.now.board.leaves }
     ensures fresh { walk.new.fresh ≡ walk.old.fresh }
+    ensures skip { walk.new.skip ≡ walk.old.skip }
 {
     keep(held, &mut walk.vector, &mut walk.marks, 0);
     walk.given = true;
@@ -144,6 +149,7 @@ fn go_up(
     mark: usize,
     i: u32,
 ) -> bool
+    requires order { IsOrder (length course.now.board.leaves) course.now.order }
     requires held { IsHeld course.now.board held.old }
     requires gates { AreGatesOf course.now.board gates.now }
     requires level_each { length vector.now ≡ length course.now.board.leaves }
@@ -186,26 +192,31 @@ fn step(
     true
 }
 
-/// From a depth down: goes to the first set above the vector. False where there is none.
+/// From a depth down: goes to the first set above the vector. False where there is none. The skips are those of the depths up
+/// to this one.
 fn go_on(
     course: &Course,
     gates: &Gates,
     held: &mut Held,
     vector: &mut [u32],
     marks: &mut [usize],
-    depth: u32,
+    skip: &[u32],
 ) -> bool
-    requires under_way { IsUnderWay course.now gates.now held.old vector.old marks.old depth }
+    requires skips { AreSkips course.now.board course.now.order skip.now }
+    requires some { 0 < length skip.now }
+    requires under_way { IsUnderWay course.now gates.now held.old vector.old marks.old (length skip.now - 1) }
     ensures reached { result ≡ true → IsReached course.now gates.now (Some vector.old) held.new vector.new marks.new }
     ensures under_way { result ≡ false → IsUnderWay course.now gates.now held.new vector.new marks.new 0 }
     ensures same { result ≡ false → vector.new ≡ vector.old }
 {
-    let mut below = depth;
+    let _board = course.board();
+    let mut below = skip[skip.len() - 1];
     while below > 0 {
         below -= 1;
         if step(course, gates, held, vector, marks, below) {
             return true;
         }
+        below = skip[below as usize];
     }
     false
 }

@@ -1,9 +1,9 @@
-use Rattle.std.proofs.Common.{◌≡◌, ℕ, ◌<◌, [], arith, ap, sym, ◌∙◌, Bool, Vec, length, slice_index_or}
+use Rattle.std.proofs.Common.{◌≡◌, ℕ, ◌<◌, [], arith, ap, sym, subst, ◌∙◌, Bool, Vec, length, slice_index_or}
 use Rattle.std.specs.declared.alloc.Global.{Global}
 use Rattle.std.proofs.lemmas.List.{length-map}
 use Rattle.sm_market.specs.Lists.{row}
 use Rattle.sm_market.specs.Vectors.{rows_of}
-use Rattle.sm_least.specs.Steps.{rows_in}
+use Rattle.sm_least.specs.Steps.{rows_in, NeverFall}
 use Rattle.sm_least.proofs.GateLemmas.{written_rows, avoided_more, row_read}
 use Rattle.sm_least.proofs.gates.shut_forbidden.Goals as goal
 
@@ -18,7 +18,10 @@ shut_if-requires c =
     let shut_many = length-map c.loop-p.shut (λ (v : Vec Bool Global). v.items) in
     let levels : c.deref.result.now ≡ row (rows_of c.args.levels.now) p = c.deref.ensures.value ∙ ap (λ (v : Vec ℕ Global). v.items) c.index-levels-p.is ∙ row_read c.args.levels.now p c.index-levels-p.result in_it in
     let shut : c.deref_mut.result.now ≡ slice_index_or (rows_in c.loop-p.shut) p [] = c.deref_mut.ensures.value ∙ row_read c.loop-p.shut p c.index-shut-p.result (omega (arith, c.loop-p.invariant.rows.one_each)) in
-    ap length shut ∙ c.loop-p.invariant.rows.row_each p (omega arith) ∙ sym (ap length levels)
+    record {
+      one_each = ap length shut ∙ c.loop-p.invariant.rows.row_each p (omega arith) ∙ sym (ap length levels);
+      rising = subst NeverFall (sym levels) (c.requires.rising p in_it);
+    }
 
 pub loop-p-preserved : goal.loop-p-preserved
 loop-p-preserved c =

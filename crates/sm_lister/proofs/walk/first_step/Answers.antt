@@ -12,6 +12,8 @@ returns-clause-walking c =
     let each : length c.follow-depth.new.marks ≡ c.args.walk.now.marks.len = omega (arith, new.made.mark_each, old.mark_each, ap length c.deref_mut-2.ensures.value, c.deref_mut-2.ensures.len) in
     record {
       made = made_same new.made (take-append_at_length c.args.walk.now.vector.len c.follow-depth.new.vector _ long) (take-append_at_length c.args.walk.now.marks.len c.follow-depth.new.marks _ each);
+      skip_each = c.requires.walking.skip_each;
+      skips = c.requires.walking.skips;
       least = λ yes. absurd (false≢true yes);
       under_way = λ _. under_way_same new (take-append_at_length c.args.walk.now.vector.len c.follow-depth.new.vector _ long) (take-append_at_length c.args.walk.now.marks.len c.follow-depth.new.marks _ each);
       nothing = λ _ no. absurd (false≢true (sym no ∙ c.if-not-walk.false));

@@ -11,5 +11,5 @@ returns-then-not-go_up-clause-under_way c = λ _. under_way_below c.args.i c.req
 pub returns-clause-reached : goal.returns-clause-reached
 returns-clause-reached c = λ _.
     let made = c.requires.under_way.made in
-    reached_up c.args.i c.board-board.ensures.course c.go_up.ensures.held made.gates (marks_below c.args.i c.requires.under_way.are c.go_up.ensures.front c.go_up.ensures.longer) (omega (arith, c.requires.under_way.within)) made.mark_each
+    reached_up c.args.i c.board-board.ensures.course.board made.order c.go_up.ensures.held made.gates (marks_below c.args.i c.requires.under_way.are c.go_up.ensures.front c.go_up.ensures.longer) (omega (arith, c.requires.under_way.within)) made.mark_each
     (c.go_up.ensures.up c.if-not-go_up.false) c.requires.under_way.none c.keep.ensures.vector c.keep.ensures.mark_each c.keep.ensures.before c.keep.ensures.behind

@@ -1,0 +1,48 @@
+-- What a `Least` tells: the poset and the levels for which it was made, the board of these with an order of the proposers, the
+-- gates of its last search, and what is held.
+use Rattle.std.specs.Prelude.{◌≡◌, ℕ, List}
+use Rattle.sm_market.specs.Vectors.{rows_of}
+use Rattle.sm_theory.specs.Values.{rotations_of}
+use Rattle.sm_poset.specs.Posets.{RotationPoset, poset_of, IsPoset}
+use Rattle.sm_least.specs.Board.{Board, IsClosedIn, Gates}
+use Rattle.sm_least.specs.BoardOf.{board_of, IsGround}
+use Rattle.sm_least.specs.Steps.{Course, IsCourse, Held, IsHeld, AreGatesOf}
+use Rattle.sm_least.specs.declared.least.Parts.{Parts}
+
+-- the board of a poset with levels
+pub record IsBoardFor (poset : RotationPoset) (levels : List (List ℕ)) (b : Board) : Type 0 where
+  pub needs : List (List ℕ)
+  pub moves : List (List (ℕ × ℕ))
+  pub ground : IsGround poset.lists levels poset.first.places poset.rotations needs moves
+  pub is : b ≡ board_of poset.lists levels poset.first.places poset.rotations needs moves
+
+pub record Search : Type 0 where
+  pub poset : RotationPoset
+  pub levels : List (List ℕ)
+  pub course : Course
+  pub gates : Gates
+  pub held : Held
+
+-- the search that is made of these parts
+abbrev pub search_of : Parts → Search
+search_of parts = record {
+  poset = poset_of parts.market parts.first (rotations_of parts.rotations.items);
+  levels = rows_of parts.levels.items;
+  course = parts.course;
+  gates = parts.gates;
+  held = parts.held;
+}
+
+pub record IsSearch (s : Search) : Type 0 where
+  pub poset : IsPoset s.poset
+  pub board : IsBoardFor s.poset s.levels s.course.board
+  pub course : IsCourse s.course
+  pub gates : AreGatesOf s.course.board s.gates
+  pub held : IsHeld s.course.board s.held
+  pub closed : IsClosedIn s.course.board s.held.set
+
+-- the same poset, levels and board
+pub record IsSame (s t : Search) : Type 0 where
+  pub poset : t.poset ≡ s.poset
+  pub levels : t.levels ≡ s.levels
+  pub board : t.course.board ≡ s.course.board

@@ -1,0 +1,288 @@
+//! The best stable matching within bounds that meets conditions.
+
+ghost use Rattle.std.specs.Prelude.{◌≡◌, ℕ, ◌<◌, ◌≤◌, ◌^◌, true, false, List, Bool, [], length, take, slice_index, IfOk};
+ghost use Rattle.sm_market.specs.Vectors.{rows_of};
+ghost use Rattle.sm_market.specs.Matching.{Places};
+ghost use Rattle.sm_market.specs.Stable.{IsStable};
+ghost use Rattle.sm_theory.specs.ClosedSets.{IsClosed, matching_of};
+ghost use Rattle.sm_theory.specs.Vectors.{AreLevels, IsAllowed, IsWithin, IsOrder, level_vector_of};
+ghost use Rattle.sm_least.specs.Board.{IsBoard, Fits, IsLeast, IsClosedIn, level, members_in};
+ghost use Rattle.sm_least.specs.Growing.{IsLogOf};
+ghost use Rattle.sm_least.specs.Steps.{AreUnbounded};
+ghost use Rattle.sm_least.specs.BoardOf.{AreInRange, IsLeastWithin, IsBestAllowed};
+ghost use Rattle.sm_least.specs.Walks.{IsRaised, IsNotRaised};
+ghost use Rattle.sm_least.specs.Searches.{IsSearch, IsSame, search_of};
+
+use crate::board::Board;
+use crate::course::Course;
+use crate::gates::Gates;
+use crate::grow::{find, raise};
+use crate::held::Held;
+use crate::make::{board, copy_rotations};
+use sm_market::{Market, Pairing};
+use sm_poset::{Conditions, Poset};
+use sm_theory::{ClosedSet, Rotation};
+use std::alloc::{AllocError, Global};
+use std::marker::Model;
+
+/// What a search is made of.
+#[derive(Debug, Drop)]
+pub struct Parts {
+    /// The market.
+    pub market: Market,
+    /// The proposers' best stable matching.
+    pub first: Pairing,
+    /// The rotations of the chain.
+    pub rotations: Vec<Rotation>,
+    /// For each proposer the levels of its places, and of being unmatched.
+    pub levels: Vec<Vec<u32>>,
+    /// The board, and the order of a walk over it.
+    pub course: Course,
+    /// Which stays are open.
+    pub gates: Gates,
+    /// What is held.
+    pub held: Held,
+}
+
+/// A search for the stable matching that is best for all proposers among those within bounds that meet conditions.
+///
+/// The closed set of the last search is held. All memory is taken at the start (Gusfield 1987; Gusfield and Irving 1989,
+/// section 3.4, in a form of this project's own).
+#[derive(Debug, Drop)]
+pub struct Least {
+    market: Market,
+    first: Pairing,
+    rotations: Vec<Rotation>,
+    levels: Vec<Vec<u32>>,
+    course: Course,
+    gates: Gates,
+    held: Held,
+}
+
+impl Model for Least {
+    ghost use Rattle.sm_market.specs.Vectors.{rows_of};
+    ghost use Rattle.sm_theory.specs.Values.{rotations_of};
+    ghost use Rattle.sm_poset.specs.Posets.{poset_of};
+    ghost use Rattle.sm_least.specs.Searches.{Search, IsSearch};
+
+    ghost Value = { Search };
+
+    ghost view = { λ s. record {
+      poset = poset_of s.market s.first (rotations_of s.rotations.items);
+      levels = rows_of s.levels.items;
+      course = s.course;
+      gates = s.gates;
+      held = s.held;
+    } };
+
+    ghost invariant = { λ s. IsSearch (record {
+      poset = poset_of s.market s.first (rotations_of s.rotations.items);
+      levels = rows_of s.levels.items;
+      course = s.course;
+      gates = s.gates;
+      held = s.held;
+    }) };
+}
+
+impl Least {
+    /// Makes ready to search the stable matchings of a poset, with levels for all places of each proposer and one for being
+    /// unmatched, never falling along a list.
+    ///
+    /// It keeps copies of the market and the chain. The levels are moved into it, and dropped where memory runs out. Takes time
+    /// and memory in proportion to the agents and entries, the pairs of the rotations and the predecessors.
+    ///
+    /// # Errors
+    ///
+    /// `AllocError` where memory ran out, and only then.
+    pub fn start(alloc: Global, poset: &Poset, levels: Vec<Vec<u32>>) -> Result<Least, AllocError>
+        requires { AreLevels poset.now.lists (rows_of levels.items) }
+        ensures poset { IfOk result (λ least. least.poset ≡ poset.now) }
+        ensures levels { IfOk result (λ least. least.levels ≡ rows_of levels.items) }
+    {
+        let chain = poset.chain();
+        let board = board(alloc, poset, &levels)?;
+        let gates = Gates::new(alloc, &board)?;
+        let held = Held::nothing(alloc, &board)?;
+        let course = Course::new(alloc, board)?;
+        Ok(Least {
+            market: poset.market().copy(alloc)?,
+            first: chain.first.copy(alloc)?,
+            rotations: copy_rotations(alloc, &chain.rotations)?,
+            levels,
+            course,
+            gates,
+            held,
+        })
+    }
+
+    /// The levels with which it was started: for each proposer one for each place of its list, and one for being unmatched.
+    pub fn levels(&self) -> &[Vec<u32>]
+        ensures { rows_of result.now ≡ self.now.levels }
+    {
+        &self.levels
+    }
+
+    /// Looks for the stable matching that is best for every proposer among those whose levels lie between `low` and `high`,
+    /// both included, and that meet the conditions. True where there is one, and its closed set is held then. False exactly
+    /// where there is none.
+    ///
+    /// The bounds have one item for each proposer, and the conditions name proposers that there are. Takes no memory, and
+    /// time in proportion to the stays, the conditions and what is held before and after.
+    pub fn least(&mut self, low: &[u32], high: &[u32], conditions: &Conditions) -> bool
+        requires low_each { length low.now ≡ length self.old.poset.lists.proposers }
+        requires high_each { length high.now ≡ length self.old.poset.lists.proposers }
+        requires forced { AreInRange (length self.old.poset.lists.proposers) conditions.now.forced.items }
+        requires forbidden { AreInRange (length self.old.poset.lists.proposers) conditions.now.forbidden.items }
+        ensures same { IsSame self.old self.new }
+        ensures found { result ≡ true → IsLeastWithin self.new.poset.lists self.new.levels low.now high.now
+            conditions.now.forced.items conditions.now.forbidden.items
+            (matching_of self.new.poset.lists self.new.poset.first.places self.new.poset.rotations self.new.held.set) }
+        ensures none { result ≡ false → (m : Places) → IsStable self.new.poset.lists m
+            → IsWithin self.new.poset.lists self.new.levels low.now high.now m
+            → ¬ IsAllowed self.new.levels conditions.now.forced.items conditions.now.forbidden.items m }
+    {
+        self.gates.set(self.course.board(), low, high, conditions);
+        find(&self.course, &self.gates, &mut self.held)
+    }
+
+    /// Looks for the stable matching that is best for every proposer among those that meet the conditions, and takes an order of
+    /// the proposers, which has each of them once: positions are those of this order from now on. True where there is such a
+    /// matching, and its closed set is held then. False exactly where there is none, and then nothing is held.
+    ///
+    /// The conditions name proposers that there are. Takes no memory, and time as [`Least::least`].
+    pub fn begin(&mut self, order: &[u32], conditions: &Conditions) -> bool
+        requires order { IsOrder (length self.old.poset.lists.proposers) order.now }
+        requires forced { AreInRange (length self.old.poset.lists.proposers) conditions.now.forced.items }
+        requires forbidden { AreInRange (length self.old.poset.lists.proposers) conditions.now.forbidden.items }
+        ensures same { IsSame self.old self.new }
+        ensures order { self.new.course.order ≡ order.now }
+        ensures gates { AreUnbounded self.new.course.board conditions.now.forced.items conditions.now.forbidden.items self.new.gates }
+        ensures found { result ≡ true → IsBestAllowed self.new.poset.lists self.new.levels conditions.now.forced.items conditions.now.forbidden.items
+            (matching_of self.new.poset.lists self.new.poset.first.places self.new.poset.rotations self.new.held.set) }
+        ensures not_allowed { result ≡ false → (m : Places) → IsStable self.new.poset.lists m
+            → ¬ IsAllowed self.new.levels conditions.now.forced.items conditions.now.forbidden.items m }
+        ensures least { result ≡ true → IsLeast (Fits self.new.course.board self.new.gates) self.new.held.set }
+        ensures none { result ≡ false → (D : List Bool) → ¬ Fits self.new.course.board self.new.gates D }
+        ensures nothing { result ≡ false → self.new.held.log ≡ [] }
+    {
+        self.course.set_order(order);
+        self.gates.set_unbounded(self.course.board(), conditions);
+        find(&self.course, &self.gates, &mut self.held)
+    }
+
+    /// Writes the levels of all proposers in the matching of a closed set. The slice has an item for each proposer. Takes no
+    /// memory, and time in proportion to the stays.
+    pub fn levels_of(&self, set: &ClosedSet, into: &mut [u32])
+        requires closed { IsClosed self.now.poset.lists self.now.poset.rotations set.now.members.items }
+        requires level_each { length into.old ≡ length self.now.poset.lists.proposers }
+        ensures { into.new ≡ level_vector_of self.now.poset.lists self.now.levels
+            (matching_of self.now.poset.lists self.now.poset.first.places self.now.poset.rotations set.now.members.items) }
+    {
+        let _ = &self.market;
+        write_levels(self.course.board(), &set.members, into);
+    }
+
+    /// The closed set that is held: after a call of [`Least::least`] that answered true the one that it found.
+    pub fn held(&self) -> &ClosedSet
+        ensures set { result.now.members.items ≡ self.now.held.set }
+        ensures closed { IsClosed self.now.poset.lists self.now.poset.rotations result.now.members.items }
+    {
+        self.held.set()
+    }
+
+    /// Looks for the least closed set that has what is held, fits the conditions of the last search and gives a proposer a level or
+    /// a higher one. True where there is one that changes no level before the position `bar` of the order, and it is held then;
+    /// what was held is the front of its log. Otherwise what was held is held still.
+    ///
+    /// Takes no memory, and time in proportion to what enters, its needs and the proposers that it moves.
+    pub fn raise(&mut self, p: u32, wanted: u64, bar: u32) -> bool
+        requires order { IsOrder (length self.old.course.board.leaves) self.old.course.order }
+        requires fits { Fits self.old.course.board self.old.gates self.old.held.set }
+        requires positions { bar ≤ length self.old.course.order }
+        requires proposer { p < length self.old.course.board.leaves }
+        ensures same { IsSame self.old self.new }
+        ensures course { self.new.course ≡ self.old.course }
+        ensures gates { self.new.gates ≡ self.old.gates }
+        ensures front { take (length self.old.held.log) self.new.held.log ≡ self.old.held.log }
+        ensures raised { result ≡ true → IsRaised self.old.course.board self.old.gates self.old.course.order self.old.held.set p wanted bar self.new.held.set }
+        ensures nothing { result ≡ false → IsNotRaised self.old.course.board self.old.gates self.old.course.order self.old.held.set p wanted bar }
+        ensures still { result ≡ false → self.new.held.log ≡ self.old.held.log }
+    {
+        raise(&self.course, &self.gates, &mut self.held, p, wanted, bar)
+    }
+
+    /// Takes back what entered last, until so many rotations are held. The first of them have to be closed, as they are where
+    /// [`Least::count`] gave this number. Takes no memory, and time in proportion to the proposers whom they move.
+    pub fn back(&mut self, count: usize)
+        requires some { count ≤ length self.old.held.log }
+        requires closed { (C : List Bool) → IsLogOf self.old.course.board (take count self.old.held.log) C → IsClosedIn self.old.course.board C }
+        ensures same { IsSame self.old self.new }
+        ensures course { self.new.course ≡ self.old.course }
+        ensures gates { self.new.gates ≡ self.old.gates }
+        ensures front { self.new.held.log ≡ take count self.old.held.log }
+    {
+        self.course.back(&mut self.held, count);
+    }
+
+    /// What it is made of, for a walk that steps on from what is held.
+    pub fn into_parts(self) -> Parts
+        ensures parts { search_of result ≡ self }
+        ensures search { IsSearch self }
+    {
+        Parts {
+            market: self.market,
+            first: self.first,
+            rotations: self.rotations,
+            levels: self.levels,
+            course: self.course,
+            gates: self.gates,
+            held: self.held,
+        }
+    }
+
+    /// How many rotations are held. Takes constant time.
+    pub fn count(&self) -> usize
+        ensures { result ≡ length self.now.held.log }
+    {
+        self.held.count()
+    }
+
+    /// The levels of all proposers in the matching of what is held.
+    pub fn vector(&self) -> &[u32]
+        ensures levels { result.now ≡ self.now.held.levels }
+        ensures search { IsSearch self.now }
+    {
+        let _ = &self.market;
+        self.held.levels()
+    }
+}
+
+/// Writes the levels of all proposers in the matching of a set.
+fn write_levels(board: &Board, members: &[bool], into: &mut [u32])
+    requires board { IsBoard board.now }
+    requires one_each { length members.now ≡ length board.now.needs }
+    requires few { length board.now.leaves < 2 ^ 32 }
+    requires level_each { length into.old ≡ length board.now.leaves }
+    ensures level_each { length into.new ≡ length into.old }
+    ensures levels { (p : ℕ) → p < length board.now.leaves → slice_index into.new p ≡ level board.now members.now p }
+{
+    for p in 0..into.len() {
+        let p = p as u32;
+        let stay = count_members(members, board.leaves(p));
+        into[p as usize] = board.level(p, stay);
+    }
+}
+
+/// How many of these rotations are members.
+fn count_members(members: &[bool], rotations: &[u32]) -> usize
+    requires { (a : ℕ) → a < length rotations.now → slice_index rotations.now a < length members.now }
+    ensures { result ≡ members_in members.now rotations.now }
+{
+    let mut count = 0;
+    for &x in rotations {
+        if members[x as usize] {
+            count += 1;
+        }
+    }
+    count
+}

@@ -1,0 +1,102 @@
+-- What a `Lister` tells: the poset and levels for which it was made, its conditions and its order, and the vector to which it
+-- came last or behind which it goes on.
+use Rattle.std.specs.Prelude.{◌≡◌, ◌⊎◌, ℕ, ◌+◌, Bool, true, false, Result, Ok, Err, Vec, List, Option, None, Some, length}
+use Rattle.std.specs.declared.alloc.AllocError.{AllocError}
+use Rattle.std.specs.declared.alloc.Global.{Global}
+use Rattle.sm_theory.specs.ClosedSets.{matching_of}
+use Rattle.sm_theory.specs.Vectors.{IsOrder, IsBefore, IsAllowedVector, level_vector_of}
+use Rattle.sm_theory.specs.Listings.{IsNext, IsNoneBehind}
+use Rattle.sm_poset.specs.Posets.{RotationPoset}
+use Rattle.sm_least.specs.Board.{Gates, Fits}
+use Rattle.sm_least.specs.BoardOf.{AreGates, AreInRange}
+use Rattle.sm_least.specs.Searches.{Search, IsBoardFor}
+use Rattle.sm_least.specs.Steps.{Course, Held}
+use Rattle.sm_least.specs.Walks.{vector, ExcludeNothing}
+use Rattle.sm_lister.specs.declared.walk.Walk.{Walk}
+use Rattle.sm_lister.specs.Walking.{cursor_of, IsWalking}
+
+-- `here` says that the last step found a vector, and `set` is then the closed set of its matching
+pub record Lister : Type 0 where
+  pub poset : RotationPoset
+  pub levels : List (List ℕ)
+  pub forced : List (ℕ × ℕ)
+  pub forbidden : List (ℕ × ℕ)
+  pub order : List ℕ
+  pub cursor : Option (List ℕ)
+  pub here : Bool
+  pub set : List Bool
+
+-- the vectors in question are those of the stable matchings that the conditions allow
+abbrev pub IsListed : Lister → List ℕ → Type 0
+IsListed s v = IsAllowedVector s.poset.lists s.levels s.forced s.forbidden v
+
+-- the first one behind the cursor, or there is none
+abbrev pub IsNextOf : Lister → List ℕ → Type 0
+IsNextOf s v = IsNext (IsBefore s.order) (IsListed s) s.cursor v
+
+abbrev pub IsAtEnd : Lister → Type 0
+IsAtEnd s = IsNoneBehind (IsBefore s.order) (IsListed s) s.cursor
+
+-- the level vector of the matching of a set
+abbrev pub vector_of : Lister → List Bool → List ℕ
+vector_of s set = level_vector_of s.poset.lists s.levels (matching_of s.poset.lists s.poset.first.places s.poset.rotations set)
+
+-- the same poset, levels, conditions and order
+pub record IsSameLister (s t : Lister) : Type 0 where
+  pub poset : t.poset ≡ s.poset
+  pub levels : t.levels ≡ s.levels
+  pub forced : t.forced ≡ s.forced
+  pub forbidden : t.forbidden ≡ s.forbidden
+  pub order : t.order ≡ s.order
+
+-- the walk goes over the board of the poset with its levels, with gates for the conditions alone
+pub record IsGoing (poset : RotationPoset) (levels : List (List ℕ)) (forced forbidden : List (ℕ × ℕ)) (t : Course) (g : Gates) : Type 0 where
+  pub board : IsBoardFor poset levels t.board
+  pub in_range : AreInRange (length poset.lists.proposers) forced
+  pub low : List ℕ
+  pub high : List ℕ
+  pub gates : AreGates t.board low high forced forbidden g
+  pub bounds : ExcludeNothing poset.lists levels low high
+  pub order : IsOrder (length poset.lists.proposers) t.order
+
+-- and what is held is where it came, if its last step found something
+pub record IsLister (poset : RotationPoset) (levels : List (List ℕ)) (forced forbidden : List (ℕ × ℕ)) (t : Course) (g : Gates)
+    (h : Held) (w : Walk) (here : Bool) : Type 0 where
+  pub going : IsGoing poset levels forced forbidden t g
+  pub walking : IsWalking t g h w
+  pub fits : here ≡ true → Fits t.board g h.set
+  pub reached : here ≡ true → cursor_of w ≡ Some (vector t.board h.set)
+
+-- a lister as it is started
+pub record IsStarted (least : Search) (forced forbidden : List (ℕ × ℕ)) (order : List ℕ) (after : Option (List ℕ)) (s : Lister) : Type 0 where
+  pub poset : s.poset ≡ least.poset
+  pub levels : s.levels ≡ least.levels
+  pub forced_is : s.forced ≡ forced
+  pub forbidden_is : s.forbidden ≡ forbidden
+  pub order_is : s.order ≡ order
+  pub cursor : s.cursor ≡ after
+
+-- what an iterator over a lister has left: at most so many items, and a vector that waits, since there was no memory for it
+pub record Listing : Type 0 where
+  pub lister : Lister
+  pub left : ℕ
+  pub waits : Bool
+
+-- the vector that comes next: the one that waits, or the first one behind the cursor
+abbrev pub ComesFrom : Bool → Lister → List ℕ → Type 0
+ComesFrom true s v = s.cursor ≡ Some v
+ComesFrom false s v = IsNextOf s v
+
+abbrev pub ComesNext : Listing → List ℕ → Type 0
+ComesNext s v = ComesFrom s.waits s.lister v
+
+-- no vector comes any more
+abbrev pub NoneComes : Listing → Type 0
+NoneComes s = (s.waits ≡ false) × IsAtEnd s.lister
+
+-- what an item says of the listing before and behind it: the next vector, which is the last one behind it; or a refusal, behind
+-- which the same vector comes next; or the end, behind which no item comes
+abbrev pub Gives : Listing → Option (Result (Vec ℕ Global) AllocError) → Listing → Type 0
+Gives s None t = ((s.left ≡ 0) ⊎ NoneComes s) × (t.left ≡ 0)
+Gives s (Some (Ok v)) t = (s.left ≡ t.left + 1) × ComesNext s v.items × (t.waits ≡ false) × (t.lister.cursor ≡ Some v.items) × IsSameLister s.lister t.lister
+Gives s (Some (Err e)) t = (s.left ≡ t.left + 1) × ((v : List ℕ) × ComesNext t v × ComesNext s v) × (t.waits ≡ true) × IsSameLister s.lister t.lister

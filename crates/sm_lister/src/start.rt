@@ -1,0 +1,97 @@
+//! What a walk needs before its first step.
+
+ghost use Rattle.std.specs.Prelude.{◌≡◌, ℕ, ◌+◌, ◌^◌, ◌<◌, true, false, Bool, List, length, slice_index, slice_index_or, option_map, IfOk, MatchOption};
+ghost use Rattle.sm_theory.specs.Vectors.{IsOrder};
+ghost use Rattle.sm_least.specs.Board.{Gates as PlainGates, Fits, IsLeast};
+ghost use Rattle.sm_least.specs.Steps.{Held as PlainHeld, IsHeld, AreGatesOf};
+ghost use Rattle.sm_lister.specs.Walking.{cursor_of, AreSkips, IsWalking, AreTurns, SkipsNoTurn};
+
+use crate::walk::Walk;
+use sm_least::Course;
+use std::alloc::{AllocError, Global};
+
+impl Walk {
+    /// A walk behind a vector, or from the first one on where there is none. `any` says whether the least set that fits is held,
+    /// or none fits.
+    pub(crate) fn start(
+        alloc: Global,
+        course: &Course,
+        after: Option<Vec<u32>>,
+        any: bool,
+    ) -> Result<Walk, AllocError>
+        requires order { IsOrder (length course.now.board.leaves) course.now.order }
+        requires after { MatchOption after (Unit {0}) (λ v. length v.items ≡ length course.now.board.leaves) }
+        ensures cursor { IfOk result (λ w. cursor_of w ≡ option_map (λ v. v.items) after) }
+        ensures walking { IfOk result (λ w. (g : PlainGates) (h : PlainHeld) → IsHeld course.now.board h → AreGatesOf course.now.board g
+            → (any ≡ true → IsLeast (Fits course.now.board g) h.set) → (any ≡ false → (D : List Bool) → ¬ Fits course.now.board g D)
+            → IsWalking course.now g h w) }
+    {
+        let n = course.proposers() as usize;
+        let skip = skips(alloc, course)?;
+        let marks = vec![in alloc; 0; n]?;
+        let given = after.is_some();
+        let vector = match after {
+            Some(vector) => vector,
+            None => vec![in alloc; 0; n]?,
+        };
+        Ok(Walk {
+            vector,
+            given,
+            marks,
+            skip,
+            depth: 0,
+            fresh: any,
+        })
+    }
+}
+
+/// For each depth the one behind the last position before it that is the first whose level some rotation changes.
+fn skips(alloc: Global, course: &Course) -> Result<Vec<u32>, AllocError>
+    requires order { IsOrder (length course.now.board.leaves) course.now.order }
+    ensures skip_each { IfOk result (λ skip. length skip.items ≡ length course.now.board.leaves + 1) }
+    ensures skips { IfOk result (λ skip. AreSkips course.now.board course.now.order skip.items) }
+{
+    let mut turns = vec![in alloc; false; course.proposers() as usize]?;
+    note_turns(course, &mut turns);
+    skips_of(alloc, &turns)
+}
+
+/// Marks the positions that are the first whose level some rotation changes.
+fn note_turns(course: &Course, turns: &mut [bool])
+    requires { length turns.old ≡ length course.now.board.leaves }
+    ensures turn_each { length turns.new ≡ length turns.old }
+    ensures turns { AreTurns course.now (length course.now.board.needs) turns.new }
+{
+    for &position in course.first_positions() {
+        note_turn(turns, position);
+    }
+}
+
+/// Marks a position, where there is one.
+fn note_turn(turns: &mut [bool], position: u32)
+    ensures turn_each { length turns.new ≡ length turns.old }
+    ensures marked { position < length turns.old → slice_index_or turns.new position false ≡ true }
+    ensures others { (j : ℕ) → slice_index_or turns.old j false ≡ true → slice_index_or turns.new j false ≡ true }
+{
+    if (position as usize) < turns.len() {
+        turns[position as usize] = true;
+    }
+}
+
+/// For each depth the one behind the last position before it that has a turn.
+fn skips_of(alloc: Global, turns: &[bool]) -> Result<Vec<u32>, AllocError>
+    requires { length turns.now < 2 ^ 32 }
+    ensures skip_each { IfOk result (λ skip. length skip.items ≡ length turns.now + 1) }
+    ensures skips { IfOk result (λ skip. SkipsNoTurn turns.now skip.items) }
+{
+    let mut skip = Vec::with_capacity(alloc, turns.len() + 1)?;
+    skip.push(0)?;
+    let mut last = 0;
+    for d in 0..turns.len() as u32 {
+        if turns[d as usize] {
+            last = d + 1;
+        }
+        skip.push(last)?;
+    }
+    Ok(skip)
+}
