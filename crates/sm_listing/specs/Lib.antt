@@ -1,0 +1,3 @@
+pub mod ListAnswer
+pub mod Started
+pub mod Remaining
