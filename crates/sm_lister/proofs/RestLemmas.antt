@@ -8,7 +8,7 @@ use Rattle.sm_lister.specs.Listers.{Lister, IsListed, IsSameLister, ComesFrom}
 use Rattle.sm_lister.specs.Rests.{Lists, RestFrom, ListingGives}
 
 -- the same is listed where the poset, the levels, the conditions and the order are the same
-same_lists : {s t : Lister} {c : Option (List ℕ)} {n : ℕ} {out : List (List ℕ)} {more : Bool} → IsSameLister s t → Lists t c n out more → Lists s c n out more
+pub same_lists : {s t : Lister} {c : Option (List ℕ)} {n : ℕ} {out : List (List ℕ)} {more : Bool} → IsSameLister s t → Lists t c n out more → Lists s c n out more
 same_lists {s} {t} {c} {n} {out} {more} e w =
     subst (λ x. IsListing (IsBefore x) (IsAllowedVector s.poset.lists s.levels s.forced s.forbidden) c n out more) e.order
     (subst (λ x. IsListing (IsBefore t.order) (IsAllowedVector x.lists s.levels s.forced s.forbidden) c n out more) e.poset

@@ -1,8 +1,9 @@
 //! A lister of an instance.
 
-ghost use Rattle.std.specs.Prelude.{◌≡◌, ℕ, ◌+◌, ◌<◌, List, All, length, IfOk, MatchOption};
-ghost use Rattle.std.specs.List.{range_with_len};
-ghost use Rattle.sm_instance.specs.Sound.{IsInstance, IsPairOf};
+ghost use Rattle.std.specs.Prelude.{◌≡◌, ℕ, ◌+◌, ◌<◌, ◌++◌, ◌∷◌, [], length, IfSome, IfOk, OnOk, MatchOption};
+ghost use Rattle.std.specs.List.{All, range_with_len};
+ghost use Rattle.sm_report.specs.Sound.{IsSmall};
+ghost use Rattle.sm_instance.specs.Sound.{IsInstance, IsPairOf, pair_at};
 ghost use Rattle.sm_instance.specs.Written.{place_of};
 ghost use Rattle.sm_poset.specs.Posets.{IsPoset};
 ghost use Rattle.sm_theory.specs.Vectors.{AreLevels};
@@ -16,7 +17,7 @@ use sm_lister::Lister;
 use sm_poset::Conditions;
 use sm_seats::Seats;
 use sm_shown::Basis;
-use std::alloc::{AllocError, Global};
+use std::alloc::{AllocError, AllocFailed, Global};
 
 /// Makes ready to list the rank vectors of the stable matchings that the conditions of an instance allow, behind a vector
 /// where one is given, in the order of the file's proposers.
@@ -76,7 +77,8 @@ fn leveled(
     instance: &Instance,
     pairs: &[(u32, u32)],
 ) -> Result<Vec<(u32, u32)>, AllocError>
-    requires { All (IsPairOf (length instance.now.proposers) (length instance.now.reviewers)) pairs.now }
+    requires { (n : ℕ) → n < length pairs.now
+        → IsPairOf (length instance.now.proposers) (length instance.now.reviewers) (pair_at pairs.now n) }
     ensures { IfOk result (λ levels. levels.items ≡ leveled instance.now pairs.now) }
 {
     let mut levels = Vec::with_capacity(alloc, pairs.len())?;
@@ -92,9 +94,10 @@ fn level_of(instance: &Instance, p: u32, r: u32) -> u32
     requires reviewer { r < length instance.now.reviewers }
     ensures { result ≡ place_of instance.now.proposers p r + 1 }
 {
+    let past = instance.proposer_len(p);
     match instance.place(p, r) {
         Some(place) => place + 1,
-        None => instance.proposer_len(p) + 1,
+        None => past + 1,
     }
 }
 
@@ -114,10 +117,31 @@ pub(crate) fn copy_of_cursor(
     alloc: Global,
     after: &Option<Vec<u32>>,
 ) -> Result<Option<Vec<u32>>, AllocError>
-    ensures { IfOk result (λ copy. cursor_in copy ≡ cursor_in after.now) }
+    ensures copied { IfOk result (λ copy. cursor_in copy ≡ cursor_in after.now) }
+    ensures small { IfOk result (λ copy. IfSome (cursor_in copy) (All IsSmall)) }
 {
     match after {
-        Some(vector) => Ok(Some(Vec::from_slice(alloc, vector)?)),
+        Some(vector) => Ok(Some(small_copy(alloc, vector)?)),
         None => Ok(None),
     }
+}
+
+// A copy of numbers, all of which have 32 bits.
+fn small_copy(alloc: Global, numbers: &[u32]) -> Result<Vec<u32>, AllocError>
+    ensures copied { IfOk result (λ copy. copy.items ≡ numbers.now) }
+    ensures small { IfOk result (λ copy. All IsSmall copy.items) }
+{
+    let mut copy = Vec::with_capacity(alloc, numbers.len())?;
+    for n in numbers {
+        push_small(&mut copy, *n)?;
+    }
+    Ok(copy)
+}
+
+// Adds a number, which has 32 bits.
+fn push_small(copy: &mut Vec<u32>, n: u32) -> Result<(), AllocFailed<u32>>
+    ensures pushed { OnOk result (copy.new.items ≡ copy.old.items ++ n ∷ []) }
+    ensures small { IsSmall n }
+{
+    copy.push(n)
 }

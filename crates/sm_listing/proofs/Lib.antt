@@ -1,0 +1,3 @@
+pub mod RemainingLemmas
+pub mod StartLemmas
+pub mod ListLemmas
