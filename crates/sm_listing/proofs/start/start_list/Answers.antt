@@ -5,7 +5,7 @@ use Rattle.sm_listing.proofs.StartLemmas.{range_is_order, forced_named, forbidde
 use Rattle.sm_listing.proofs.start.start_list.Goals as goal
 
 -- as many as the proposers of the instance
-count : (c : goal.In_ok-least) → length c.args.instance.now.proposers ≡ length c.in_ok-least.least.poset.lists.proposers
+count : (c : goal.In_ok-after) → length c.args.instance.now.proposers ≡ length c.in_ok-least.least.poset.lists.proposers
 count c =
     sym (ap (λ (poset : RotationPoset). length poset.lists.proposers) c.in_ok-least.ensures.same ∙ ap (λ (l : Lists). length l.proposers) c.in_ok-basis.ensures ∙ c.requires.seating.proposers)
 
