@@ -1,8 +1,7 @@
 -- The lines of the answer of `list`.
-use Rattle.std.proofs.Common.{◌≡◌, ℕ, zero, suc, ◌+◌, ◌<◌, ◌≤◌, List, [], ◌∷◌, ◌++◌, Bool, true, false, Option, Some, None, IfSome, length, map, get_or, slice_index_or, refl, sym, ap, ◌∙◌, subst, arith, unwrap_or}
+use Rattle.std.proofs.Common.{◌≡◌, ℕ, suc, ◌+◌, ◌<◌, ◌≤◌, List, [], ◌∷◌, ◌++◌, Bool, true, false, Option, Some, None, IfSome, length, map, get_or, slice_index_or, refl, sym, ap, ◌∙◌, subst, arith, unwrap_or}
 use Rattle.std.specs.List.{All, range_with_len}
 use Rattle.std.proofs.lemmas.List.Elements.{All-append, All-cons, All-head, All-tail, All-map}
-use Rattle.std.proofs.lemmas.List.FromFn.{length-range_with_len, get_or-range_with_len}
 use Rattle.sm_answer.specs.Giving.{HasRest, AreJoined}
 use Rattle.sm_answer.specs.Printing.{IsShown, IsPrinted}
 use Rattle.sm_answer.proofs.AnswerLemmas.{same_some, joined_some, printed_some}
@@ -14,7 +13,7 @@ use Rattle.sm_instance.specs.declared.inputs.Input.TheVariants.{Two}
 use Rattle.sm_instance.proofs.AcceptLemmas.{proposer_row_fits}
 use Rattle.sm_report.specs.Heads.{HeadData}
 use Rattle.sm_report.specs.Lines.{LineData}
-use Rattle.sm_report.specs.Sound.{IsSmall, IsLimit, IsLineOf}
+use Rattle.sm_report.specs.Sound.{IsSmall, IsLineOf}
 use Rattle.sm_theory.specs.Vectors.{IsOrder, IsBefore, IsAllowedVector}
 use Rattle.sm_theory.specs.Listings.{end_of, IsListing}
 use Rattle.sm_theory.proofs.Vectors.Next.{listing_exists}

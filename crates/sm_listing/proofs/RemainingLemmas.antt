@@ -1,13 +1,11 @@
 -- The lines that a lister has still to give.
-use Rattle.std.proofs.Common.{◌≡◌, ℕ, suc, ◌+◌, List, [], ◌∷◌, Bool, true, false, Option, Some, unwrap_or, refl, sym, ap, ◌∙◌, subst, arith}
+use Rattle.std.proofs.Common.{◌≡◌, ℕ, suc, ◌+◌, List, [], ◌∷◌, Bool, true, false, Some, unwrap_or, refl, sym, ap, ◌∙◌, subst, arith}
 use Rattle.std.proofs.lemmas.Bool.{false≢true}
 use Rattle.sm_answer.specs.Giving.{HasRest, Gave}
 use Rattle.sm_report.specs.Lines.{LineData}
-use Rattle.sm_theory.specs.Vectors.{IsBefore}
-use Rattle.sm_theory.specs.Listings.{IsNext, IsListing}
 use Rattle.sm_theory.proofs.Vectors.Order.{irreflexive, transitive}
 use Rattle.sm_theory.proofs.Vectors.Listings.{first_is_next, rest_is_listing, more_listing, Next-unique}
-use Rattle.sm_lister.specs.Listers.{Lister, IsListed, IsNextOf, IsSameLister}
+use Rattle.sm_lister.specs.Listers.{Lister, IsNextOf, IsSameLister}
 use Rattle.sm_lister.specs.Rests.{Lists}
 use Rattle.sm_lister.proofs.RestLemmas.{same_lists}
 use Rattle.sm_listing.specs.ListAnswer.{vector_lines}

@@ -1,5 +1,5 @@
 -- The answer of `list`.
-use Rattle.std.specs.Prelude.{◌≡◌, ℕ, Bool, true, false, List, [], ◌∷◌, ◌++◌, map, length, Option, Some, None}
+use Rattle.std.specs.Prelude.{◌≡◌, ℕ, Bool, true, List, [], ◌∷◌, ◌++◌, map, length, Option, Some}
 use Rattle.std.specs.List.{range_with_len}
 use Rattle.sm_instance.specs.Written.{Written}
 use Rattle.sm_instance.specs.Ranks.{IsBefore}

@@ -3,7 +3,6 @@ use Rattle.std.specs.List.{All}
 use Rattle.sm_report.specs.Sound.{IsSmall}
 use Rattle.sm_report.specs.Heads.{HeadData}
 use Rattle.sm_report.specs.Lines.{LineData}
-use Rattle.sm_listing.specs.Started.{cursor_in}
 use Rattle.sm_listing.proofs.ListLemmas.{list_right, list_has_rest}
 use Rattle.sm_listing.proofs.answer.list_lines.Goals as goal
 

@@ -1,4 +1,4 @@
-use Rattle.std.proofs.Common.{◌≡◌, ◌++◌, ◌∷◌, [], ◌∙◌, sym, ap, arith}
+use Rattle.std.proofs.Common.{◌++◌, ◌∷◌, [], ◌∙◌, sym, ap, arith}
 use Rattle.sm_seats.proofs.PieceLemmas.{range_more}
 use Rattle.sm_listing.proofs.start.first_numbers.Goals as goal
 

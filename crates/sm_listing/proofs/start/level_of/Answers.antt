@@ -1,4 +1,4 @@
-use Rattle.std.proofs.Common.{◌≡◌, ◌+◌, ◌∙◌, sym, ap, arith}
+use Rattle.std.proofs.Common.{◌+◌, ◌∙◌, sym, ap, arith}
 use Rattle.sm_instance.specs.Written.{row}
 use Rattle.sm_lists.proofs.FoundLemmas.{found_on-some, place_on-unfound}
 use Rattle.sm_listing.proofs.start.level_of.Goals as goal

@@ -1,4 +1,4 @@
-use Rattle.std.proofs.Common.{◌≡◌, ◌∙◌, sym, ap, subst, length}
+use Rattle.std.proofs.Common.{◌≡◌, ◌∙◌, sym, ap, length}
 use Rattle.sm_poset.specs.Posets.{RotationPoset}
 use Rattle.sm_market.specs.Lists.{Lists}
 use Rattle.sm_listing.proofs.StartLemmas.{range_is_order, forced_named, forbidden_named, cursor_long}
