@@ -7,8 +7,8 @@ use Rattle.sm_market.specs.Lists.{row}
 use Rattle.sm_lists.proofs.ResultLemmas.{take-append_at_length}
 use Rattle.sm_lists.proofs.Counting.{eq_or_ne, lt_or_le}
 use Rattle.sm_least.specs.Steps.{IsNarrowed, AreShut, rows_in, AreRowsFor, AreAvoided}
-use Rattle.sm_least.specs.Board.{Board, IsBoard, stay_level, Gates, is_shut}
-use Rattle.sm_least.specs.BoardOf.{IsAllowedStay, AreGates}
+use Rattle.sm_board.specs.Board.{Board, IsBoard, stay_level, Gates, is_shut}
+use Rattle.sm_board.specs.BoardOf.{IsAllowedStay, AreGates}
 use Rattle.std.proofs.lemmas.Bool.{false≢true}
 
 -- one more forced pair
@@ -91,10 +91,6 @@ rows_before rows P p new less own before q k = elim (eq_or_ne q p) [
   | inl same ↦ subst (λ r. P r (slice_index_or (set rows p new) r [])) (sym same) (subst (P p) (sym (get_or-set_same rows p new [] less)) own)
   | inr ne ↦ subst (P q) (sym (get_or-set_other rows p q new [] ne)) (before q (omega arith))
 ]
-
--- a row that is read
-pub row_read : {X : Type 0} (vectors : List (Vec X Global)) (p : ℕ) (d : Vec X Global) → p < length vectors → (slice_index_or vectors p d).items ≡ slice_index_or (map (λ v. v.items) vectors) p []
-row_read vectors p d less = sym (get_or-map (λ v. v.items) vectors p d [] less)
 
 -- one more forbidden pair
 pub avoided_more : {matched : List Bool} {levels : List (List ℕ)} {forbidden : List (ℕ × ℕ)} {before after : List (List Bool)} (i : ℕ) (new : List Bool) → let p = (slice_index_or forbidden i (0, 0)).0 in p < length levels → length new ≡ length (row levels p)

@@ -7,18 +7,18 @@ use Rattle.sm_theory.specs.ClosedSets.{IsClosed, matching_of}
 use Rattle.sm_theory.specs.Vectors.{IsAllowed, IsWithin, level_of, level_vector_of}
 use Rattle.sm_theory.proofs.Chains.Rotations.{sets_are_matchings}
 use Rattle.sm_poset.specs.Posets.{RotationPoset}
-use Rattle.sm_least.specs.Board.{Board, IsBoard, stay, level, Gates, Fits, IsLeast, IsClosedIn}
-use Rattle.sm_least.specs.Walks.{vector, ExcludeNothing}
-use Rattle.sm_least.specs.BoardOf.{AreGates, AreInRange, IsLeastWithin, IsBestAllowed}
-use Rattle.sm_least.specs.Growing.{IsLogOf}
-use Rattle.sm_least.specs.Steps.{Held, IsHeld, AreWide, AreUnbounded}
-use Rattle.sm_least.specs.Searches.{IsBoardFor}
-use Rattle.sm_least.proofs.HeldLemmas.{one_log}
-use Rattle.sm_least.proofs.BoardLemmas.{stays_in}
-use Rattle.sm_least.proofs.BoardBridge.{board, many, is_board}
-use Rattle.sm_least.proofs.BoardSets.{level_is, least_is_best, board_shows_sets}
-use Rattle.sm_least.proofs.WalkBridge.{vector_is}
-use Rattle.sm_least.proofs.WalkLemmas.{vector_at, vector_long}
+use Rattle.sm_board.specs.Board.{Board, IsBoard, stay, level, Gates, Fits, IsLeast, IsClosedIn}
+use Rattle.sm_board.specs.Walks.{vector, ExcludeNothing}
+use Rattle.sm_board.specs.BoardOf.{AreGates, AreInRange, IsLeastWithin, IsBestAllowed, IsBoardFor}
+use Rattle.sm_board.specs.Growing.{IsLogOf}
+use Rattle.sm_board.specs.Courses.{Held, IsHeld}
+use Rattle.sm_least.specs.Steps.{AreWide, AreUnbounded}
+use Rattle.sm_board.proofs.HeldLemmas.{one_log}
+use Rattle.sm_board.proofs.BoardLemmas.{stays_in}
+use Rattle.sm_board.proofs.BoardBridge.{board, many, is_board}
+use Rattle.sm_board.proofs.BoardSets.{level_is, least_is_best, board_shows_sets}
+use Rattle.sm_board.proofs.WalkBridge.{vector_is}
+use Rattle.sm_board.proofs.WalkLemmas.{vector_at, vector_long}
 
 -- the least set that fits is that of the best matching
 pub best_found : {poset : RotationPoset} {levels : List (List ℕ)} {b c : Board} {low high : List ℕ} {forced forbidden : List (ℕ × ℕ)} (g : Gates) (C : List Bool) → IsBoardFor poset levels b → AreInRange (length poset.lists.proposers) forced → c ≡ b → AreGates c low high forced forbidden g → IsLeast (Fits b g) C → IsLeastWithin poset.lists levels low high forced forbidden (matching_of poset.lists poset.first.places poset.rotations C)

@@ -7,14 +7,15 @@ use Rattle.sm_lists.proofs.Counting.{eq_or_ne, lt_or_le}
 use Rattle.sm_theory.specs.ClosedSets.{IsMember}
 use Rattle.sm_theory.proofs.Bridge.Chain.{Decided-member}
 use Rattle.sm_theory.specs.Vectors.{IsOrder}
-use Rattle.sm_least.specs.Board.{Board, IsBoard, stay, stay_level, level, leave, is_shut, IsClosedIn, IsInside, Gates, IsOpen, Fits, Changes}
-use Rattle.sm_least.specs.Growing.{AreNeedsIn}
-use Rattle.sm_least.specs.Walks.{IsRaised, IsNotRaised}
-use Rattle.sm_least.specs.Steps.{Course, IsCourse, Held, IsHeld, Grows, IsBroken, Breaks, IsHigh, IsIdle, AreOpened, AreSettled}
-use Rattle.sm_least.proofs.MemberLemmas.{entered, others_same, more_members}
-use Rattle.sm_least.proofs.BoardLemmas.{members_are_first}
-use Rattle.sm_least.proofs.GrowLemmas.{idle_stays, shut_leave_is_in, low_leave_is_in, log_fits, raise_finds, barred_changes_levels}
-use Rattle.sm_least.proofs.HeldLemmas.{contained_at, contains_at, on_or_off}
+use Rattle.sm_board.specs.Board.{Board, IsBoard, stay, stay_level, level, leave, is_shut, IsClosedIn, IsInside, Gates, IsOpen, Fits, Changes}
+use Rattle.sm_board.specs.Growing.{AreNeedsIn}
+use Rattle.sm_board.specs.Walks.{IsRaised, IsNotRaised}
+use Rattle.sm_board.specs.Courses.{Course, IsCourse, Held, IsHeld, Grows, IsBroken, Breaks}
+use Rattle.sm_least.specs.Steps.{IsHigh, IsIdle, AreOpened, AreSettled}
+use Rattle.sm_board.proofs.MemberLemmas.{entered, others_same, more_members}
+use Rattle.sm_board.proofs.BoardLemmas.{members_are_first}
+use Rattle.sm_board.proofs.GrowLemmas.{idle_stays, shut_leave_is_in, low_leave_is_in, log_fits, raise_finds, barred_changes_levels}
+use Rattle.sm_board.proofs.HeldLemmas.{contained_at, contains_at, on_or_off}
 
 -- nothing has entered
 pub grows_same : {t : Course} {h : Held} (bar : ℕ) → IsHeld t.board h → Grows t bar h h
@@ -39,26 +40,6 @@ grows_more {t} {bar} {h} {k} {m} g w = record {
   ];
 }
 
--- a rotation enters that changes no level before the bar
-pub grows_enter : {t : Course} {bar : ℕ} {h k : Held} (y : ℕ) → IsCourse t → IsHeld t.board h → IsHeld t.board k → y < length t.board.needs → k.set ≡ set h.set y true → k.log ≡ h.log ++ y ∷ [] → bar ≤ slice_index t.first y → Grows t bar h k
-grows_enter {t} {bar} {h} {k} y course w v less sets logs free = record {
-  held = v;
-  front = ap (take (length h.log)) logs ∙ take-append h.log (y ∷ []);
-  longer = omega (arith, ap length logs, length_push h.log y);
-  more = λ x m. elim (eq_or_ne x y) [
-    | inl e ↦ subst (λ s. IsMember s x) (sym sets) (subst (IsMember (set h.set y true)) (sym e) (entered h.set y (omega (arith, w.logged.one_each))))
-    | inr ne ↦ subst (λ s. IsMember s x) (sym sets) (others_same h.set y x ne ∙ m)
-  ];
-  free = λ x j m out early ch. elim (eq_or_ne x y) [
-    | inl e ↦ (course.first_are y less).none_before j (omega arith) (subst (λ z. Changes t.board z (slice_index t.order j)) e ch)
-    | inr ne ↦ out (sym (others_same h.set y x ne) ∙ subst (λ s. IsMember s x) sets m)
-  ];
-}
-  where
-    take-append : (xs ys : List ℕ) → take (length xs) (xs ++ ys) ≡ xs
-    take-append [] ys = refl
-    take-append (x ∷ xs) ys = ap (λ zs. x ∷ zs) (take-append xs ys)
-
 -- what breaks the bar for a greater set breaks it for a smaller one
 pub broken_back : {t : Course} {bar : ℕ} {C D now : List Bool} → IsInside C now → IsBroken t bar now D → IsBroken t bar C D
 broken_back inside w = record {
@@ -68,17 +49,6 @@ broken_back inside w = record {
   position = w.position;
   early = w.early;
   changes = w.changes;
-}
-
--- a rotation that changes a level before the bar, in a set that has it
-pub broken_at : {t : Course} {bar : ℕ} {C D : List Bool} (y : ℕ) → IsCourse t → bar ≤ length t.order → y < length t.board.needs → slice_index t.first y < bar → IsMember D y → (IsMember C y → ⊥) → IsBroken t bar C D
-broken_at {t} {bar} y course few less early m out = record {
-  rotation = y;
-  member = m;
-  new = out;
-  position = slice_index t.first y;
-  early = omega arith;
-  changes = (course.first_are y less).changes (omega arith);
 }
 
 -- a member of the set stands in the log, a new one behind what was held

@@ -4,17 +4,11 @@ use Rattle.std.specs.Prelude.{◌≡◌, ℕ, List}
 use Rattle.sm_market.specs.Vectors.{rows_of}
 use Rattle.sm_theory.specs.Values.{rotations_of}
 use Rattle.sm_poset.specs.Posets.{RotationPoset, poset_of, IsPoset}
-use Rattle.sm_least.specs.Board.{Board, IsClosedIn, Gates}
-use Rattle.sm_least.specs.BoardOf.{board_of, IsGround}
-use Rattle.sm_least.specs.Steps.{Course, IsCourse, Held, IsHeld, AreGatesOf}
+use Rattle.sm_board.specs.Board.{Board, IsClosedIn, Gates}
+use Rattle.sm_board.specs.BoardOf.{IsBoardFor}
+use Rattle.sm_board.specs.Courses.{Course, IsCourse, Held, IsHeld}
+use Rattle.sm_least.specs.Steps.{AreGatesOf}
 use Rattle.sm_least.specs.declared.least.Parts.{Parts}
-
--- the board of a poset with levels
-pub record IsBoardFor (poset : RotationPoset) (levels : List (List ℕ)) (b : Board) : Type 0 where
-  pub needs : List (List ℕ)
-  pub moves : List (List (ℕ × ℕ))
-  pub ground : IsGround poset.lists levels poset.first.places poset.rotations needs moves
-  pub is : b ≡ board_of poset.lists levels poset.first.places poset.rotations needs moves
 
 pub record Search : Type 0 where
   pub poset : RotationPoset
@@ -26,7 +20,7 @@ pub record Search : Type 0 where
 -- the search that is made of these parts
 abbrev pub search_of : Parts → Search
 search_of parts = record {
-  poset = poset_of parts.market parts.first (rotations_of parts.rotations.items);
+  poset = poset_of parts.market.value parts.chain.value.first (rotations_of parts.chain.value.rotations.items);
   levels = rows_of parts.levels.items;
   course = parts.course;
   gates = parts.gates;

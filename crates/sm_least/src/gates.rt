@@ -3,11 +3,11 @@
 ghost use Rattle.std.specs.Prelude.{◌≡◌, ◌≢◌, ℕ, ◌+◌, ◌-◌, ◌<◌, ◌≤◌, ◌↔◌, true, false, [], length, slice_index, slice_index_or, IfOk};
 ghost use Rattle.sm_market.specs.Lists.{row};
 ghost use Rattle.sm_market.specs.Vectors.{rows_of};
-ghost use Rattle.sm_least.specs.Board.{Gates, IsBoard, is_shut};
-ghost use Rattle.sm_least.specs.BoardOf.{AreGates, AreInRange};
+ghost use Rattle.sm_board.specs.Board.{Gates, IsBoard, is_shut};
+ghost use Rattle.sm_board.specs.BoardOf.{AreGates, AreInRange};
 ghost use Rattle.sm_least.specs.Steps.{AreGatesOf, IsNarrowed, AreShut, rows_in, AreRowsFor, AreAvoided, AreUnbounded, NeverFall, IsDivided};
 
-use crate::board::Board;
+use sm_board::Board;
 use sm_poset::Conditions;
 use std::alloc::{AllocError, Global};
 use std::marker::Model;
@@ -25,7 +25,7 @@ pub struct Gates {
 
 impl Model for Gates {
     ghost use Rattle.std.specs.Prelude.{◌≡◌, length, map};
-    ghost use Rattle.sm_least.specs.Board.{Gates as Plain};
+    ghost use Rattle.sm_board.specs.Board.{Gates as Plain};
 
     ghost Value = { Plain };
 

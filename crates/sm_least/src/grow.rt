@@ -4,14 +4,14 @@ ghost use Rattle.std.specs.Prelude.{◌≡◌, ℕ, ◌<◌, ◌≤◌, Bool, tr
 ghost use Rattle.sm_market.specs.Lists.{row};
 ghost use Rattle.sm_theory.specs.ClosedSets.{IsMember};
 ghost use Rattle.sm_theory.specs.Vectors.{IsOrder};
-ghost use Rattle.sm_least.specs.Board.{IsClosedIn, IsOpen, Fits, IsLeast, level, stay};
-ghost use Rattle.sm_least.specs.Growing.{AreNeedsIn};
-ghost use Rattle.sm_least.specs.Steps.{IsHeld, Grows, IsInAll, Breaks, HasRotation, IsHigh, AreGatesOf, AreOpened, AreSettled};
-ghost use Rattle.sm_least.specs.Walks.{IsRaised, IsNotRaised};
+ghost use Rattle.sm_board.specs.Board.{IsClosedIn, IsOpen, Fits, IsLeast, level, stay};
+ghost use Rattle.sm_board.specs.Growing.{AreNeedsIn};
+ghost use Rattle.sm_board.specs.Courses.{IsHeld, Grows, Breaks};
+ghost use Rattle.sm_least.specs.Steps.{IsInAll, HasRotation, IsHigh, AreGatesOf, AreOpened, AreSettled};
+ghost use Rattle.sm_board.specs.Walks.{IsRaised, IsNotRaised};
 
-use crate::course::Course;
 use crate::gates::Gates;
-use crate::held::Held;
+use sm_board::{Course, Held};
 
 /// A rotation enters where it isn't held. False where it changes a level before the bar.
 fn need(course: &Course, held: &mut Held, y: u32, bar: u32) -> bool

@@ -6,34 +6,30 @@ ghost use Rattle.sm_market.specs.Matching.{Places};
 ghost use Rattle.sm_market.specs.Stable.{IsStable};
 ghost use Rattle.sm_theory.specs.ClosedSets.{IsClosed, matching_of};
 ghost use Rattle.sm_theory.specs.Vectors.{AreLevels, IsAllowed, IsWithin, IsOrder, level_vector_of};
-ghost use Rattle.sm_least.specs.Board.{IsBoard, Fits, IsLeast, IsClosedIn, level, members_in};
-ghost use Rattle.sm_least.specs.Growing.{IsLogOf};
+ghost use Rattle.sm_board.specs.Board.{IsBoard, Fits, IsLeast, IsClosedIn, level, members_in};
+ghost use Rattle.sm_board.specs.Growing.{IsLogOf};
 ghost use Rattle.sm_least.specs.Steps.{AreUnbounded};
-ghost use Rattle.sm_least.specs.BoardOf.{AreInRange, IsLeastWithin, IsBestAllowed};
-ghost use Rattle.sm_least.specs.Walks.{IsRaised, IsNotRaised};
+ghost use Rattle.sm_board.specs.BoardOf.{AreInRange, IsLeastWithin, IsBestAllowed};
+ghost use Rattle.sm_board.specs.Walks.{IsRaised, IsNotRaised};
 ghost use Rattle.sm_least.specs.Searches.{IsSearch, IsSame, search_of};
 
-use crate::board::Board;
-use crate::course::Course;
 use crate::gates::Gates;
 use crate::grow::{find, raise};
-use crate::held::Held;
-use crate::make::{board, copy_rotations};
-use sm_market::{Market, Pairing};
+use sm_board::{Board, Course, Held, make_board};
+use sm_market::Market;
 use sm_poset::{Conditions, Poset};
-use sm_theory::{ClosedSet, Rotation};
+use sm_theory::{Chain, ClosedSet};
 use std::alloc::{AllocError, Global};
 use std::marker::Model;
+use std::rc::Rc;
 
 /// What a search is made of.
 #[derive(Debug, Drop)]
 pub struct Parts {
     /// The market.
-    pub market: Market,
-    /// The proposers' best stable matching.
-    pub first: Pairing,
-    /// The rotations of the chain.
-    pub rotations: Vec<Rotation>,
+    pub market: Rc<Market>,
+    /// The chain.
+    pub chain: Rc<Chain>,
     /// For each proposer the levels of its places, and of being unmatched.
     pub levels: Vec<Vec<u32>>,
     /// The board, and the order of a walk over it.
@@ -50,9 +46,8 @@ pub struct Parts {
 /// section 3.4, in a form of this project's own).
 #[derive(Debug, Drop)]
 pub struct Least {
-    market: Market,
-    first: Pairing,
-    rotations: Vec<Rotation>,
+    market: Rc<Market>,
+    chain: Rc<Chain>,
     levels: Vec<Vec<u32>>,
     course: Course,
     gates: Gates,
@@ -68,7 +63,7 @@ impl Model for Least {
     ghost Value = { Search };
 
     ghost view = { λ s. record {
-      poset = poset_of s.market s.first (rotations_of s.rotations.items);
+      poset = poset_of s.market.value s.chain.value.first (rotations_of s.chain.value.rotations.items);
       levels = rows_of s.levels.items;
       course = s.course;
       gates = s.gates;
@@ -76,7 +71,7 @@ impl Model for Least {
     } };
 
     ghost invariant = { λ s. IsSearch (record {
-      poset = poset_of s.market s.first (rotations_of s.rotations.items);
+      poset = poset_of s.market.value s.chain.value.first (rotations_of s.chain.value.rotations.items);
       levels = rows_of s.levels.items;
       course = s.course;
       gates = s.gates;
@@ -88,8 +83,8 @@ impl Least {
     /// Makes ready to search the stable matchings of a poset, with levels for all places of each proposer and one for being
     /// unmatched, never falling along a list.
     ///
-    /// It keeps copies of the market and the chain. The levels are moved into it, and dropped where memory runs out. Takes time
-    /// and memory in proportion to the agents and entries, the pairs of the rotations and the predecessors.
+    /// It keeps the market and the chain with the poset: these aren't copied. The levels are moved into it, and dropped where memory runs out. Takes time
+    /// and memory in proportion to the proposers, the pairs of the rotations and the predecessors.
     ///
     /// # Errors
     ///
@@ -99,15 +94,15 @@ impl Least {
         ensures poset { IfOk result (λ least. least.poset ≡ poset.now) }
         ensures levels { IfOk result (λ least. least.levels ≡ rows_of levels.items) }
     {
-        let chain = poset.chain();
-        let board = board(alloc, poset, &levels)?;
+        let _chain = poset.chain();
+        let board = make_board(alloc, poset, &levels)?;
         let gates = Gates::new(alloc, &board)?;
         let held = Held::nothing(alloc, &board)?;
         let course = Course::new(alloc, board)?;
+        let (market, chain) = poset.shared()?;
         Ok(Least {
-            market: poset.market().copy(alloc)?,
-            first: chain.first.copy(alloc)?,
-            rotations: copy_rotations(alloc, &chain.rotations)?,
+            market,
+            chain,
             levels,
             course,
             gates,
@@ -231,8 +226,7 @@ impl Least {
     {
         Parts {
             market: self.market,
-            first: self.first,
-            rotations: self.rotations,
+            chain: self.chain,
             levels: self.levels,
             course: self.course,
             gates: self.gates,

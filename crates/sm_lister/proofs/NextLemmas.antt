@@ -4,12 +4,12 @@ use Rattle.sm_theory.specs.ClosedSets.{IsClosed, matching_of}
 use Rattle.sm_theory.specs.Vectors.{IsBefore, IsAllowedVector, level_vector_of}
 use Rattle.sm_theory.specs.Listings.{IsNext, IsNoneBehind}
 use Rattle.sm_poset.specs.Posets.{RotationPoset}
-use Rattle.sm_least.specs.Board.{Gates, Fits}
-use Rattle.sm_least.specs.BoardOf.{AreGates}
-use Rattle.sm_least.specs.Steps.{Course}
-use Rattle.sm_least.specs.Walks.{vector, NoneFrom, IsFirst, IsFirstAbove}
-use Rattle.sm_least.proofs.BoardSets.{gates_mean_conditions}
-use Rattle.sm_least.proofs.WalkBridge.{walk_is_next, vector_is}
+use Rattle.sm_board.specs.Board.{Gates, Fits}
+use Rattle.sm_board.specs.BoardOf.{AreGates}
+use Rattle.sm_board.specs.Courses.{Course}
+use Rattle.sm_board.specs.Walks.{vector, NoneFrom, IsFirst, IsFirstAbove}
+use Rattle.sm_board.proofs.BoardSets.{gates_mean_conditions}
+use Rattle.sm_board.proofs.WalkBridge.{walk_is_next, vector_is}
 use Rattle.sm_lister.specs.declared.walk.Walk.{Walk}
 use Rattle.sm_lister.specs.Walking.{cursor_of, IsFirstBehind, NoneLeft}
 use Rattle.sm_lister.specs.Listers.{IsGoing}

@@ -1,12 +1,12 @@
 -- Positions at which no rotation changes a level first are passed over.
 use Rattle.std.proofs.Common.{◌≡◌, ℕ, zero, suc, ◌+◌, ◌-◌, ◌<◌, ◌≤◌, ◌∷◌, ◌++◌, [], arith, sym, subst, List, length, Bool, false, slice_index, set, take}
 use Rattle.std.proofs.lemmas.List.{take_all, take_more}
-use Rattle.sm_least.specs.Board.{Board, IsBoard, Gates, IsFirstChange}
-use Rattle.sm_least.specs.Growing.{IsLogOf}
-use Rattle.sm_least.specs.Steps.{Course, Held}
-use Rattle.sm_least.specs.Walks.{NoneFrom}
-use Rattle.sm_least.proofs.GrowLemmas.{log_falls}
-use Rattle.sm_least.proofs.WalkLemmas.{none_without_turn}
+use Rattle.sm_board.specs.Board.{Board, IsBoard, Gates, IsFirstChange}
+use Rattle.sm_board.specs.Growing.{IsLogOf}
+use Rattle.sm_board.specs.Courses.{Course, Held}
+use Rattle.sm_board.specs.Walks.{NoneFrom}
+use Rattle.sm_board.proofs.GrowLemmas.{log_falls}
+use Rattle.sm_board.proofs.WalkLemmas.{none_without_turn}
 use Rattle.sm_lister.specs.Walking.{AreMarks, IsUnderWay, IsSkip}
 
 -- a front of a log has a set

@@ -3,10 +3,11 @@ use Rattle.std.proofs.Common.{◌≡◌, ◌⊎◌, ℕ, ◌+◌, ◌<◌, inl, 
 use Rattle.std.proofs.lemmas.Bool.{false≢true}
 use Rattle.sm_lists.proofs.Counting.{less_same_more}
 use Rattle.sm_theory.specs.Vectors.{IsOrder}
-use Rattle.sm_least.specs.Board.{IsFirstChange, Gates, Fits, IsLeast}
-use Rattle.sm_least.specs.BoardOf.{AreInRange}
+use Rattle.sm_board.specs.Board.{IsFirstChange, Gates, Fits, IsLeast}
+use Rattle.sm_board.specs.BoardOf.{AreInRange}
 use Rattle.sm_least.specs.Searches.{Search, IsSearch}
-use Rattle.sm_least.specs.Steps.{Course, IsCourse, Held, IsHeld, AreGatesOf, AreUnbounded}
+use Rattle.sm_board.specs.Courses.{Course, IsCourse, Held, IsHeld}
+use Rattle.sm_least.specs.Steps.{AreGatesOf, AreUnbounded}
 use Rattle.sm_least.proofs.SearchLemmas.{nothing_excluded}
 use Rattle.sm_lister.specs.declared.walk.Walk.{Walk}
 use Rattle.sm_lister.specs.Walking.{AreSkips, AreTurns, SkipsNoTurn, IsWalking}

@@ -4,12 +4,13 @@ use Rattle.std.proofs.lemmas.List.{ext_get_or, take-take, take_all, length-take,
 use Rattle.sm_lists.proofs.ResultLemmas.{same_bool}
 use Rattle.sm_lists.proofs.Counting.{eq_or_ne, lt_or_le}
 use Rattle.sm_theory.specs.Vectors.{IsOrder}
-use Rattle.sm_least.specs.Board.{IsBoard, Board, level, Gates, Fits, IsLeast}
-use Rattle.sm_least.specs.Growing.{IsLogOf}
-use Rattle.sm_least.specs.Steps.{Course, Held, IsHeld, AreGatesOf}
-use Rattle.sm_least.specs.Walks.{vector, IsMark, IsNextUp, NoneFrom, IsWalk, IsFirst, IsRaised, IsNotRaised}
-use Rattle.sm_least.proofs.HeldLemmas.{one_log}
-use Rattle.sm_least.proofs.WalkLemmas.{vector_at, vector_long, up_where_raised, none_where_not_raised, next_up_is_first, mark_before, mark_behind, walk_begins, follow_on, follow_ends}
+use Rattle.sm_board.specs.Board.{IsBoard, Board, level, Gates, Fits, IsLeast}
+use Rattle.sm_board.specs.Growing.{IsLogOf}
+use Rattle.sm_board.specs.Courses.{Course, Held, IsHeld}
+use Rattle.sm_least.specs.Steps.{AreGatesOf}
+use Rattle.sm_board.specs.Walks.{vector, IsMark, IsNextUp, NoneFrom, IsWalk, IsFirst, IsRaised, IsNotRaised}
+use Rattle.sm_board.proofs.HeldLemmas.{one_log}
+use Rattle.sm_board.proofs.WalkLemmas.{vector_at, vector_long, up_where_raised, none_where_not_raised, next_up_is_first, mark_before, mark_behind, walk_begins, follow_on, follow_ends}
 use Rattle.sm_lister.specs.Walking.{AreMarks, IsMadeFor, IsUnderWay, IsReached, IsAlong}
 
 -- a log has one set

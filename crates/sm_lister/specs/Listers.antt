@@ -7,11 +7,11 @@ use Rattle.sm_theory.specs.ClosedSets.{matching_of}
 use Rattle.sm_theory.specs.Vectors.{IsOrder, IsBefore, IsAllowedVector, level_vector_of}
 use Rattle.sm_theory.specs.Listings.{IsNext, IsNoneBehind}
 use Rattle.sm_poset.specs.Posets.{RotationPoset}
-use Rattle.sm_least.specs.Board.{Gates, Fits}
-use Rattle.sm_least.specs.BoardOf.{AreGates, AreInRange}
-use Rattle.sm_least.specs.Searches.{Search, IsBoardFor}
-use Rattle.sm_least.specs.Steps.{Course, Held}
-use Rattle.sm_least.specs.Walks.{vector, ExcludeNothing}
+use Rattle.sm_board.specs.Board.{Gates, Fits}
+use Rattle.sm_board.specs.BoardOf.{AreGates, AreInRange, IsBoardFor}
+use Rattle.sm_least.specs.Searches.{Search}
+use Rattle.sm_board.specs.Courses.{Course, Held}
+use Rattle.sm_board.specs.Walks.{vector, ExcludeNothing}
 use Rattle.sm_lister.specs.declared.walk.Walk.{Walk}
 use Rattle.sm_lister.specs.Walking.{cursor_of, IsWalking}
 

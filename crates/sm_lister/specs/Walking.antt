@@ -2,10 +2,11 @@
 -- of the log of what is held the positions up to it ask for.
 use Rattle.std.specs.Prelude.{◌≡◌, if◌then◌else◌, ℕ, ◌+◌, ◌<◌, ◌≤◌, true, false, List, Bool, Option, None, Some, length, take, slice_index, slice_index_or}
 use Rattle.sm_theory.specs.Vectors.{IsOrder}
-use Rattle.sm_least.specs.Board.{Board, Gates, Fits, IsLeast, IsFirstChange}
-use Rattle.sm_least.specs.Growing.{IsLogOf}
-use Rattle.sm_least.specs.Steps.{Course, Held, IsHeld, AreGatesOf}
-use Rattle.sm_least.specs.Walks.{vector, IsMark, NoneFrom, IsFirst, IsFirstAbove}
+use Rattle.sm_board.specs.Board.{Board, Gates, Fits, IsLeast, IsFirstChange}
+use Rattle.sm_board.specs.Growing.{IsLogOf}
+use Rattle.sm_board.specs.Courses.{Course, Held, IsHeld}
+use Rattle.sm_least.specs.Steps.{AreGatesOf}
+use Rattle.sm_board.specs.Walks.{vector, IsMark, NoneFrom, IsFirst, IsFirstAbove}
 use Rattle.sm_lister.specs.declared.walk.Walk.{Walk}
 
 -- the front of the log up to the mark of each of the first d positions is the least set that fits and is no lower than v up to

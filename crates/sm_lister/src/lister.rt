@@ -3,16 +3,18 @@
 ghost use Rattle.std.specs.Prelude.{◌≡◌, true, false, List, ℕ, Option, Some, length, option_map, IfOk, MatchOption};
 ghost use Rattle.sm_theory.specs.ClosedSets.{IsClosed};
 ghost use Rattle.sm_theory.specs.Vectors.{IsOrder};
-ghost use Rattle.sm_least.specs.BoardOf.{AreInRange};
+ghost use Rattle.sm_board.specs.BoardOf.{AreInRange};
 ghost use Rattle.sm_lister.specs.Listers.{IsStarted, IsNextOf, IsAtEnd, IsSameLister, vector_of};
 
 use crate::walk::{Walk, advance};
-use sm_least::{Course, Gates, Held, Least, Parts};
-use sm_market::{Market, Pairing};
+use sm_board::{Course, Held};
+use sm_least::{Gates, Least, Parts};
+use sm_market::Market;
 use sm_poset::Conditions;
-use sm_theory::{ClosedSet, Rotation};
+use sm_theory::{Chain, ClosedSet};
 use std::alloc::{AllocError, Global};
 use std::marker::Model;
+use std::rc::Rc;
 
 /// Goes over the stable matchings that conditions allow, from one level vector to the next one in an order of the proposers.
 ///
@@ -21,9 +23,8 @@ use std::marker::Model;
 #[derive(Debug, Drop)]
 pub struct Lister {
     alloc: Global,
-    market: Market,
-    first: Pairing,
-    rotations: Vec<Rotation>,
+    market: Rc<Market>,
+    chain: Rc<Chain>,
     levels: Vec<Vec<u32>>,
     conditions: Conditions,
     course: Course,
@@ -43,7 +44,7 @@ impl Model for Lister {
     ghost Value = { Plain };
 
     ghost view = { λ s. record {
-      poset = poset_of s.market s.first (rotations_of s.rotations.items);
+      poset = poset_of s.market.value s.chain.value.first (rotations_of s.chain.value.rotations.items);
       levels = rows_of s.levels.items;
       forced = s.conditions.forced.items;
       forbidden = s.conditions.forbidden.items;
@@ -54,7 +55,7 @@ impl Model for Lister {
     } };
 
     ghost invariant = { λ s. IsLister
-        (poset_of s.market s.first (rotations_of s.rotations.items))
+        (poset_of s.market.value s.chain.value.first (rotations_of s.chain.value.rotations.items))
         (rows_of s.levels.items)
         s.conditions.forced.items
         s.conditions.forbidden.items
@@ -93,8 +94,7 @@ impl Lister {
         let any = least.begin(&order, &conditions);
         let Parts {
             market,
-            first,
-            rotations,
+            chain,
             levels,
             course,
             gates,
@@ -104,8 +104,7 @@ impl Lister {
         Ok(Lister {
             alloc,
             market,
-            first,
-            rotations,
+            chain,
             levels,
             conditions,
             course,

@@ -2,12 +2,13 @@
 
 ghost use Rattle.std.specs.Prelude.{◌≡◌, ℕ, ◌+◌, ◌^◌, ◌<◌, true, false, Bool, List, length, slice_index, slice_index_or, option_map, IfOk, MatchOption};
 ghost use Rattle.sm_theory.specs.Vectors.{IsOrder};
-ghost use Rattle.sm_least.specs.Board.{Gates as PlainGates, Fits, IsLeast};
-ghost use Rattle.sm_least.specs.Steps.{Held as PlainHeld, IsHeld, AreGatesOf};
+ghost use Rattle.sm_board.specs.Board.{Gates as PlainGates, Fits, IsLeast};
+ghost use Rattle.sm_board.specs.Courses.{Held as PlainHeld, IsHeld};
+ghost use Rattle.sm_least.specs.Steps.{AreGatesOf};
 ghost use Rattle.sm_lister.specs.Walking.{cursor_of, AreSkips, IsWalking, AreTurns, SkipsNoTurn};
 
 use crate::walk::Walk;
-use sm_least::Course;
+use sm_board::Course;
 use std::alloc::{AllocError, Global};
 
 impl Walk {

@@ -2,13 +2,15 @@
 
 ghost use Rattle.std.specs.Prelude.{◌≡◌, ℕ, ◌+◌, ◌-◌, ◌<◌, ◌≤◌, true, false, List, Bool, Option, None, Some, length, take, slice_index};
 ghost use Rattle.sm_theory.specs.Vectors.{IsOrder};
-ghost use Rattle.sm_least.specs.Board.{Fits, IsLeast, level};
-ghost use Rattle.sm_least.specs.Growing.{IsLogOf};
-ghost use Rattle.sm_least.specs.Steps.{IsHeld, AreGatesOf};
-ghost use Rattle.sm_least.specs.Walks.{vector, IsMark, IsNextUp, NoneFrom};
+ghost use Rattle.sm_board.specs.Board.{Fits, IsLeast, level};
+ghost use Rattle.sm_board.specs.Growing.{IsLogOf};
+ghost use Rattle.sm_board.specs.Courses.{IsHeld};
+ghost use Rattle.sm_least.specs.Steps.{AreGatesOf};
+ghost use Rattle.sm_board.specs.Walks.{vector, IsMark, IsNextUp, NoneFrom};
 ghost use Rattle.sm_lister.specs.Walking.{cursor_of, IsMadeFor, IsUnderWay, AreSkips, IsReached, IsAlong, IsWalking, NoneLeft};
 
-use sm_least::{Course, Gates, Held, raise};
+use sm_board::{Course, Held};
+use sm_least::{Gates, raise};
 
 /// Where a walk over the sets that fit stands.
 #[derive(Debug, Drop)]

@@ -1,3 +1,5 @@
 pub mod RemainingLemmas
 pub mod StartLemmas
+pub mod SpelledLemmas
+pub mod PutLemmas
 pub mod ListLemmas

@@ -50,6 +50,7 @@ list_is_right {w} {after} {s} limit head h is answer j =
     record {
       out = rest.out;
       more = rest.more;
+      cursor = h.fits;
       listing = listed_written h rest.listing;
       shows = j.whole ∙ ap (λ t. t ++ j.back) j.in_front ∙ ap (λ t. head ∷ t) (rest.shows ∙ ap (λ c. vector_lines c rest.out rest.more) h.cursor) ∙ ap (λ x. x ∷ vector_lines after rest.out rest.more) is;
     }

@@ -9,8 +9,9 @@ use Rattle.sm_instance.specs.Written.{Written, place_of}
 use Rattle.sm_instance.specs.Sound.{IsInstance, IsPairOf, pair_at}
 use Rattle.sm_instance.proofs.ItemLemmas.{forced_in_range, forbidden_in_range}
 use Rattle.sm_theory.specs.Vectors.{IsOrder}
-use Rattle.sm_least.specs.BoardOf.{AreInRange}
+use Rattle.sm_board.specs.BoardOf.{AreInRange}
 use Rattle.sm_seats.specs.Correspondence.{leveled}
+use Rattle.sm_listing.specs.ListAnswer.{IsCursor}
 use Rattle.sm_listing.specs.Started.{cursor_in}
 
 -- the numbers of the proposers in turn are an order of them
@@ -38,7 +39,7 @@ pub forbidden_named : {w : Written} → IsInstance w → AreInRange (length w.pr
 forbidden_named {w} i = named w w.forbidden (forbidden_in_range i)
 
 -- a copy of a vector is as long
-pub cursor_long : {n m : ℕ} (copy after : Option (Vec ℕ Global)) → cursor_in copy ≡ cursor_in after → n ≡ m → MatchOption after (Unit {0}) (λ v. length v.items ≡ n) → MatchOption copy (Unit {0}) (λ v. length v.items ≡ m)
+pub cursor_long : {n m : ℕ} (copy after : Option (Vec ℕ Global)) → cursor_in copy ≡ cursor_in after → n ≡ m → IsCursor n (cursor_in after) → MatchOption copy (Unit {0}) (λ v. length v.items ≡ m)
 cursor_long None after e same long = tt
 cursor_long (Some u) None e same long = absurd (none-some _ (sym e))
 cursor_long (Some u) (Some v) e same long = ap (λ (xs : List ℕ). length xs) (same_Some _ _ e) ∙ long ∙ same

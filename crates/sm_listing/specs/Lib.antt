@@ -1,3 +1,4 @@
 pub mod ListAnswer
 pub mod Started
+pub mod Spelled
 pub mod Remaining

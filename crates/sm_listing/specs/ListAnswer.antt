@@ -1,5 +1,5 @@
 -- The answer of `list`.
-use Rattle.std.specs.Prelude.{◌≡◌, ℕ, Bool, true, List, [], ◌∷◌, ◌++◌, map, length, Option, Some}
+use Rattle.std.specs.Prelude.{◌≡◌, ℕ, Bool, true, List, [], ◌∷◌, ◌++◌, map, length, Option, Some, None}
 use Rattle.std.specs.List.{range_with_len}
 use Rattle.sm_instance.specs.Written.{Written}
 use Rattle.sm_instance.specs.Ranks.{IsBefore}
@@ -17,6 +17,11 @@ last_line _ _ = LineData.End
 abbrev pub vector_lines : (after : Option (List ℕ)) → (out : List (List ℕ)) → (more : Bool) → List LineData
 vector_lines after out more = map (λ v. LineData.Vector v) out ++ last_line (end_of after out) more ∷ []
 
+-- a cursor has an item for each of so many proposers
+abbrev pub IsCursor : ℕ → Option (List ℕ) → Type 0
+IsCursor count None = Unit {0}
+IsCursor count (Some v) = length v ≡ count
+
 -- the order of the file's proposers
 abbrev pub order_of : Written → List ℕ
 order_of w = range_with_len 0 (length w.proposers)
@@ -26,5 +31,6 @@ order_of w = range_with_len 0 (length w.proposers)
 pub record IsListAnswer (after : Option (List ℕ)) (limit : ℕ) (w : Written) (answer : List LineData) : Type 0 where
   pub out : List (List ℕ)
   pub more : Bool
+  pub cursor : IsCursor (length w.proposers) after
   pub listing : IsListing (IsBefore (order_of w)) (IsAllowedRankVector w) after limit out more
   pub shows : answer ≡ LineData.Answer (HeadData.List after limit) ∷ vector_lines after out more

@@ -1,5 +1,5 @@
 -- A lister of an instance.
-use Rattle.std.specs.Prelude.{◌≡◌, ℕ, List, Vec, Option}
+use Rattle.std.specs.Prelude.{◌≡◌, ℕ, List, length, Vec, Option}
 use Rattle.std.specs.Option.{option_map}
 use Rattle.std.specs.declared.alloc.Global.{Global}
 use Rattle.sm_instance.specs.Written.{Written}
@@ -8,7 +8,7 @@ use Rattle.sm_seats.specs.SeatMarket.{seat_market}
 use Rattle.sm_seats.specs.Seating.{seating_of, levels_of}
 use Rattle.sm_seats.specs.Correspondence.{IsSeating, leveled}
 use Rattle.sm_lister.specs.Listers.{Lister}
-use Rattle.sm_listing.specs.ListAnswer.{order_of}
+use Rattle.sm_listing.specs.ListAnswer.{order_of, IsCursor}
 
 -- a vector that is held, if there is one
 abbrev pub cursor_in : Option (Vec ℕ Global) → Option (List ℕ)
@@ -25,3 +25,4 @@ pub record IsListerOf (w : Written) (after : Option (List ℕ)) (lister : Lister
   pub forbidden : lister.forbidden ≡ leveled w w.forbidden
   pub order : lister.order ≡ order_of w
   pub cursor : lister.cursor ≡ after
+  pub fits : IsCursor (length w.proposers) after

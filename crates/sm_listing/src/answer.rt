@@ -9,19 +9,48 @@ ghost use Rattle.sm_listing.specs.Started.{cursor_in, IsListerOf};
 
 use crate::start::copy_of_cursor;
 use crate::vector_lines::VectorLines;
-use sm_answer::{Lines, One, Printed, Then};
+use crate::vector_text::VectorText;
+use sm_answer::Lines;
 use sm_instance::{Input, Instance};
 use sm_lister::Lister;
-use sm_report::{Head, Line};
+use sm_report::{Head, Line, put_text};
+use sm_text::LineWriter;
 use std::alloc::{AllocError, Global};
 
 /// The lines of the answer of `list`.
-pub type ListLines<'a> = Printed<'a, Then<One, VectorLines>>;
+#[derive(Drop)]
+pub struct ListLines<'a> {
+    input: &'a Input,
+    /// The first line, until it is given.
+    head: Option<Line>,
+    vectors: VectorLines,
+}
+
+impl Lines for ListLines<'_> {
+    ghost use Rattle.std.specs.Prelude.{◌+◌, length};
+    ghost use Rattle.sm_answer.specs.Lines.{line_left};
+    ghost use Rattle.sm_listing.specs.Remaining.{IsListLeft, most_lines};
+
+    ghost gives = { λ s lines. IsListLeft s.input.now s.head s.vectors lines };
+
+    ghost most = { λ s. length (line_left s.head) + most_lines s.vectors.over s.vectors.left };
+
+    fn put_next(&mut self, alloc: Global, into: &mut LineWriter) -> Result<bool, AllocError> {
+        match self.head.take() {
+            Some(line) => {
+                put_text(into, self.input, &line)?;
+                Ok(true)
+            }
+            None => self.vectors.put_next(alloc, self.input, into),
+        }
+    }
+}
 
 /// The head, the rank vectors that a lister finds behind `after`, at most `limit`, and the last line. The lister is one of
 /// [`crate::start_list`] that made no step yet.
 ///
-/// Each vector is found when its line is asked for. Takes time and memory in proportion to `after`.
+/// Each vector is found when its line is asked for, and of its text only what changed is written anew. Takes time and memory in
+/// proportion to `after`.
 ///
 /// # Errors
 ///
@@ -44,15 +73,15 @@ pub fn list_lines<'a>(
 {
     let _count = instance.proposer_count();
     let after = copy_of_cursor(alloc, after)?;
-    Ok(Printed {
+    let text = VectorText::new(alloc)?;
+    Ok(ListLines {
         input,
-        answer: Then {
-            first: One(Some(Line::Answer(Head::List(after, limit)))),
-            second: VectorLines {
-                lister,
-                left: limit,
-                over: false,
-            },
+        head: Some(Line::Answer(Head::List(after, limit))),
+        vectors: VectorLines {
+            lister,
+            left: limit,
+            over: false,
+            text,
         },
     })
 }

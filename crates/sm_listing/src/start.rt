@@ -1,6 +1,6 @@
 //! A lister of an instance.
 
-ghost use Rattle.std.specs.Prelude.{◌≡◌, ℕ, ◌+◌, ◌<◌, ◌++◌, ◌∷◌, [], length, IfSome, IfOk, OnOk, MatchOption};
+ghost use Rattle.std.specs.Prelude.{◌≡◌, ℕ, ◌+◌, ◌<◌, ◌++◌, ◌∷◌, [], length, IfSome, IfOk, OnOk};
 ghost use Rattle.std.specs.List.{All, range_with_len};
 ghost use Rattle.sm_report.specs.Sound.{IsSmall};
 ghost use Rattle.sm_instance.specs.Sound.{IsInstance, IsPairOf, pair_at};
@@ -9,6 +9,7 @@ ghost use Rattle.sm_poset.specs.Posets.{IsPoset};
 ghost use Rattle.sm_theory.specs.Vectors.{AreLevels};
 ghost use Rattle.sm_seats.specs.Seating.{seating_of, levels_of};
 ghost use Rattle.sm_seats.specs.Correspondence.{IsSeating, leveled};
+ghost use Rattle.sm_listing.specs.ListAnswer.{IsCursor};
 ghost use Rattle.sm_listing.specs.Started.{cursor_in, IsListerOf};
 
 use sm_instance::Instance;
@@ -36,7 +37,7 @@ pub fn start_list(
 ) -> Result<Lister, AllocError>
     requires seats { seats.now ≡ seating_of instance.now }
     requires seating { IsSeating instance.now seats.now }
-    requires after { MatchOption after.now (Unit {0}) (λ v. length v.items ≡ length instance.now.proposers) }
+    requires after { IsCursor (length instance.now.proposers) (cursor_in after.now) }
     ensures { IfOk result (λ lister. IsListerOf instance.now (cursor_in after.now) lister) }
 {
     let basis = Basis::of(alloc, seats)?;

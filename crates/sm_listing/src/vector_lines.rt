@@ -1,48 +1,67 @@
 //! The vectors of a lister as lines.
 
-ghost use Rattle.std.specs.Prelude.{IfOk};
+ghost use Rattle.std.specs.Prelude.{◌≡◌, ◌++◌, codes, IfOk, OnOk};
+ghost use Rattle.sm_answer.specs.Giving.{HasRest, PutsNext};
+ghost use Rattle.sm_answer.specs.Printing.{IsPrinted};
 ghost use Rattle.sm_report.specs.Lines.{line_of};
-ghost use Rattle.sm_listing.specs.Remaining.{IsLastLine};
+ghost use Rattle.sm_report.specs.Texts.{vector_text};
+ghost use Rattle.sm_listing.specs.Remaining.{IsLeftOf, IsLastLine, most_lines};
+ghost use Rattle.sm_listing.specs.Spelled.{IsKept};
 
-use sm_answer::Answer;
+use crate::vector_text::VectorText;
+use sm_instance::Input;
 use sm_lister::Lister;
-use sm_report::Line;
+use sm_report::{Line, put_text};
+use sm_text::LineWriter;
 use std::alloc::{AllocError, Global};
 
 /// The vectors that a lister has still to give, at most so many, and the last line: `more` with the last vector where more
-/// vectors follow, and `end` where none does. Each line is found when it is asked for.
+/// vectors follow, and `end` where none does. Each line is found when it is asked for, and no vector is made for it.
 #[derive(Drop)]
 pub struct VectorLines {
-    pub lister: Lister,
+    pub(crate) lister: Lister,
     /// At most so many vectors are given still.
-    pub left: u32,
+    pub(crate) left: u32,
     /// Whether the last line is given.
-    pub over: bool,
+    pub(crate) over: bool,
+    /// The text of the last vector.
+    pub(crate) text: VectorText,
 }
 
-impl Answer for VectorLines {
-    ghost use Rattle.sm_listing.specs.Remaining.{IsLeftOf, most_lines};
-
-    ghost gives = { λ s lines. IsLeftOf s.over s.lister s.left lines };
-
-    ghost most = { λ s. most_lines s.over s.left };
-
-    fn next(&mut self, alloc: Global) -> Result<Option<Line>, AllocError> {
+impl VectorLines {
+    /// Puts the next line behind what the writer holds; `false` where no line is left.
+    pub(crate) fn put_next(
+        &mut self,
+        alloc: Global,
+        input: &Input,
+        into: &mut LineWriter,
+    ) -> Result<bool, AllocError>
+        requires kept { IsKept self.old.text }
+        requires some { HasRest (IsPrinted input.now (IsLeftOf self.old.over self.old.lister self.old.left)) }
+        ensures kept { OnOk result (IsKept self.new.text) }
+        ensures put { PutsNext (IsPrinted input.now (IsLeftOf self.old.over self.old.lister self.old.left))
+            (IsPrinted input.now (IsLeftOf self.new.over self.new.lister self.new.left))
+            (most_lines self.old.over self.old.left) (most_lines self.new.over self.new.left)
+            into.old.bytes into.new.bytes result }
+    {
         if self.over {
-            return Ok(None);
+            return Ok(false);
         }
         if self.left == 0 {
             let line = last_line(alloc, &mut self.lister)?;
             self.over = true;
-            return Ok(Some(line));
+            put_text(into, input, &line)?;
+            return Ok(true);
         }
         if !self.lister.advance() {
             self.over = true;
-            return Ok(Some(Line::End));
+            put_text(into, input, &Line::End)?;
+            return Ok(true);
         }
-        let vector = Vec::from_slice(alloc, self.lister.current())?;
         self.left -= 1;
-        Ok(Some(Line::Vector(vector)))
+        self.text.show(self.lister.current())?;
+        put_vector(into, &self.text)?;
+        Ok(true)
     }
 }
 
@@ -58,4 +77,13 @@ fn last_line(alloc: Global, lister: &mut Lister) -> Result<Line, AllocError>
         Some(vector) => Ok(Line::More(vector)),
         None => Ok(Line::End),
     }
+}
+
+// Puts the line of the vector that is shown.
+fn put_vector(into: &mut LineWriter, text: &VectorText) -> Result<(), AllocError>
+    requires { IsKept text.now }
+    ensures { OnOk result (into.new.bytes ≡ into.old.bytes ++ (codes "vector " ++ vector_text text.now.shown.items)) }
+{
+    into.put_bytes(b"vector ")?;
+    text.put(into)
 }

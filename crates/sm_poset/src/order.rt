@@ -17,15 +17,16 @@ use sm_rotations::needs;
 use sm_theory::{Chain, ClosedSet};
 use std::alloc::{AllocError, Global};
 use std::marker::Model;
+use std::rc::Rc;
 
 /// The rotations of a market's complete chain with what each one needs and whom it moves where.
 ///
-/// It keeps a copy of the market and the chain, and in proportion to the pairs of the rotations and to the predecessors what
+/// It keeps a copy of the market and the chain, which others may keep too, and in proportion to the pairs of the rotations and to the predecessors what
 /// it looks up (Gusfield and Irving 1989, section 2.5 and chapter 3).
 #[derive(Debug, Drop)]
 pub struct Poset {
-    market: Market,
-    chain: Chain,
+    market: Rc<Market>,
+    chain: Rc<Chain>,
     needs: Vec<Vec<u32>>,
     moves: Vec<Vec<(u32, u32)>>,
     leaders: Vec<(u32, u32)>,
@@ -39,10 +40,10 @@ impl Model for Poset {
 
     ghost Value = { RotationPoset };
 
-    ghost view = { λ s. poset_of s.market s.chain.first (rotations_of s.chain.rotations.items) };
+    ghost view = { λ s. poset_of s.market.value s.chain.value.first (rotations_of s.chain.value.rotations.items) };
 
     ghost invariant = { λ s. IsKept
-        (poset_of s.market s.chain.first (rotations_of s.chain.rotations.items))
+        (poset_of s.market.value s.chain.value.first (rotations_of s.chain.value.rotations.items))
         (rows_of s.needs.items)
         (moves_in s.moves.items)
         s.leaders.items };
@@ -69,7 +70,8 @@ impl Poset {
             of_proposers,
             leaders,
         } = follow(alloc, market, &chain)?;
-        let market = market.copy(alloc)?;
+        let market = Rc::new(alloc, market.copy(alloc)?)?;
+        let chain = Rc::new(alloc, chain)?;
         Ok(Poset {
             market,
             chain,
@@ -84,7 +86,7 @@ impl Poset {
         ensures market { result.now ≡ self.now.lists }
         ensures poset { IsPoset self.now }
     {
-        &self.market
+        self.market.as_ref()
     }
 
     /// The chain of which the poset was made.
@@ -93,7 +95,18 @@ impl Poset {
         ensures rotations { rotations_of result.now.rotations.items ≡ self.now.rotations }
         ensures poset { IsPoset self.now }
     {
-        &self.chain
+        self.chain.as_ref()
+    }
+
+    /// The market and the chain for one more keeper: nothing is copied. Takes constant time.
+    ///
+    /// # Errors
+    ///
+    /// `AllocError` where there are too many keepers, and only then.
+    pub fn shared(&self) -> Result<(Rc<Market>, Rc<Chain>), AllocError>
+        ensures { IfOk result (λ both. poset_of both.0.value both.1.value.first (rotations_of both.1.value.rotations.items) ≡ self.now) }
+    {
+        Ok((self.market.clone()?, self.chain.clone()?))
     }
 
     /// The numbers of the predecessors of a rotation, rising. All are numbered from 0.
@@ -145,8 +158,8 @@ impl Poset {
             ≡ matching_of self.now.lists self.now.first.places self.now.rotations set.now.members.items) }
         ensures stable { IfOk result (λ m. IsStable self.now.lists m.places) }
     {
-        let places = worst_places(alloc, &self.chain.first, &self.moves, &set.members)?;
-        Pairing::held(alloc, &self.market, &places)
+        let places = worst_places(alloc, &self.chain.as_ref().first, &self.moves, &set.members)?;
+        Pairing::held(alloc, self.market.as_ref(), &places)
     }
 
     /// The closed set whose matching is this stable one. There is no other.
@@ -169,7 +182,7 @@ impl Poset {
             → other ≡ set.members.items) }
     {
         Ok(ClosedSet {
-            members: reached(alloc, &self.market, m, &self.leaders)?,
+            members: reached(alloc, self.market.as_ref(), m, &self.leaders)?,
         })
     }
 }

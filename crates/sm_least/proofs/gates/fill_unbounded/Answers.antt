@@ -2,8 +2,8 @@ use Rattle.std.proofs.Common.{rules, ◌≡◌, ℕ, ◌-◌, ◌∙◌, arith, 
 use Rattle.std.specs.declared.alloc.Global.{Global}
 use Rattle.std.proofs.lemmas.List.{length-map, get_or-replicate}
 use Rattle.sm_market.specs.Lists.{row}
-use Rattle.sm_least.specs.Board.{stay_level}
-use Rattle.sm_least.proofs.BoardLemmas.{never_falls}
+use Rattle.sm_board.specs.Board.{stay_level}
+use Rattle.sm_board.proofs.BoardLemmas.{never_falls}
 use Rattle.sm_least.proofs.gates.fill_unbounded.Goals as goal
 
 pub returns-clause-open : goal.returns-clause-open

@@ -4,7 +4,8 @@ use Rattle.std.proofs.lemmas.List.{length-map}
 use Rattle.sm_market.specs.Lists.{row}
 use Rattle.sm_market.specs.Vectors.{rows_of}
 use Rattle.sm_least.specs.Steps.{rows_in, NeverFall}
-use Rattle.sm_least.proofs.GateLemmas.{written_rows, avoided_more, row_read}
+use Rattle.sm_board.proofs.MakeLemmas.{row_read}
+use Rattle.sm_least.proofs.GateLemmas.{written_rows, avoided_more}
 use Rattle.sm_least.proofs.gates.shut_forbidden.Goals as goal
 
 pub loop-p-init : goal.loop-p-init

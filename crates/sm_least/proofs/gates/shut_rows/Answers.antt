@@ -4,7 +4,8 @@ use Rattle.std.proofs.lemmas.List.{length-map}
 use Rattle.sm_market.specs.Lists.{row}
 use Rattle.sm_market.specs.Vectors.{rows_of}
 use Rattle.sm_least.specs.Steps.{AreShut, rows_in}
-use Rattle.sm_least.proofs.GateLemmas.{written_rows, rows_written, rows_before, row_read}
+use Rattle.sm_board.proofs.MakeLemmas.{row_read}
+use Rattle.sm_least.proofs.GateLemmas.{written_rows, rows_written, rows_before}
 use Rattle.sm_least.proofs.gates.shut_rows.Goals as goal
 
 pub shut_row-requires : goal.shut_row-requires

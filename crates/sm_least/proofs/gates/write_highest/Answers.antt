@@ -2,7 +2,7 @@ use Rattle.std.proofs.Common.{◌≡◌, ℕ, ◌∙◌, arith, ap, Vec, length}
 use Rattle.std.specs.declared.alloc.Global.{Global}
 use Rattle.sm_market.specs.Lists.{row}
 use Rattle.sm_market.specs.Vectors.{rows_of}
-use Rattle.sm_least.proofs.GateLemmas.{row_read}
+use Rattle.sm_board.proofs.MakeLemmas.{row_read}
 use Rattle.sm_least.proofs.gates.write_highest.Goals as goal
 
 pub overflow_sub-len : goal.overflow_sub-len

@@ -1,7 +1,7 @@
 use Rattle.std.proofs.Common.{sym, subst, Bool, List}
-use Rattle.sm_least.specs.Board.{IsInside}
+use Rattle.sm_board.specs.Board.{IsInside}
 use Rattle.sm_least.specs.Steps.{HasRotation}
-use Rattle.sm_least.proofs.GrowLemmas.{inside_more}
+use Rattle.sm_board.proofs.GrowLemmas.{inside_more}
 use Rattle.sm_least.proofs.StepLemmas.{grows_more, broken_back}
 use Rattle.sm_least.proofs.grow.bring.Goals as goal
 

@@ -1,6 +1,6 @@
 use Rattle.std.proofs.Common.{◌≡◌, arith, subst, length}
-use Rattle.sm_least.specs.Growing.{AreNeedsIn}
-use Rattle.sm_least.proofs.GrowLemmas.{log_fits, closed_when_done}
+use Rattle.sm_board.specs.Growing.{AreNeedsIn}
+use Rattle.sm_board.proofs.GrowLemmas.{log_fits, closed_when_done}
 use Rattle.sm_least.proofs.StepLemmas.{grows_more, broken_back, needs_more}
 use Rattle.sm_least.proofs.grow.close.Goals as goal
 

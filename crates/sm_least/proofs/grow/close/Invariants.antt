@@ -1,7 +1,8 @@
 use Rattle.std.proofs.Common.{◌≤◌, ◌-◌, length}
-use Rattle.sm_least.specs.Board.{IsClosedIn}
-use Rattle.sm_least.specs.Growing.{AreNeedsIn}
-use Rattle.sm_least.specs.Steps.{Grows, IsInAll}
+use Rattle.sm_board.specs.Board.{IsClosedIn}
+use Rattle.sm_board.specs.Growing.{AreNeedsIn}
+use Rattle.sm_board.specs.Courses.{Grows}
+use Rattle.sm_least.specs.Steps.{IsInAll}
 use Rattle.sm_least.proofs.grow.close.Given as goal
 
 abbrev pub invariant-loop-place : goal.invariant-loop-place

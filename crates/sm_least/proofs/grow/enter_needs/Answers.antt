@@ -1,7 +1,7 @@
 use Rattle.std.proofs.Common.{arith, ap, subst, length}
 use Rattle.sm_market.specs.Lists.{row}
 use Rattle.sm_theory.specs.ClosedSets.{IsMember}
-use Rattle.sm_least.proofs.HeldLemmas.{contained_at}
+use Rattle.sm_board.proofs.HeldLemmas.{contained_at}
 use Rattle.sm_least.proofs.StepLemmas.{grows_same, grows_more, read_in, one_more}
 use Rattle.sm_least.proofs.grow.enter_needs.Goals as goal
 

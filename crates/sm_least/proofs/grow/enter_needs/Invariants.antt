@@ -1,8 +1,9 @@
 use Rattle.std.proofs.Common.{ℕ, ◌<◌, slice_index}
 use Rattle.sm_market.specs.Lists.{row}
 use Rattle.sm_theory.specs.ClosedSets.{IsMember}
-use Rattle.sm_least.specs.Board.{IsClosedIn}
-use Rattle.sm_least.specs.Steps.{Grows, IsInAll}
+use Rattle.sm_board.specs.Board.{IsClosedIn}
+use Rattle.sm_board.specs.Courses.{Grows}
+use Rattle.sm_least.specs.Steps.{IsInAll}
 use Rattle.sm_least.proofs.grow.enter_needs.Given as goal
 
 abbrev pub invariant-loop-y : goal.invariant-loop-y

@@ -1,7 +1,7 @@
 use Rattle.std.proofs.Common.{◌≡◌, arith, subst, length}
 use Rattle.sm_least.specs.Steps.{AreSettled}
 use Rattle.sm_least.proofs.StepLemmas.{grows_same, grows_more, none_held, nothing_closed, settled_next, none_breaks}
-use Rattle.sm_least.proofs.GrowLemmas.{least_is_found}
+use Rattle.sm_board.proofs.GrowLemmas.{least_is_found}
 use Rattle.sm_least.proofs.grow.grow_all.Goals as goal
 
 pub loop-p-init : goal.loop-p-init

@@ -1,5 +1,6 @@
-use Rattle.sm_least.specs.Board.{IsClosedIn, Fits}
-use Rattle.sm_least.specs.Steps.{Grows, IsInAll, AreSettled}
+use Rattle.sm_board.specs.Board.{IsClosedIn, Fits}
+use Rattle.sm_board.specs.Courses.{Grows}
+use Rattle.sm_least.specs.Steps.{IsInAll, AreSettled}
 use Rattle.sm_least.proofs.grow.grow_all.Given as goal
 
 abbrev pub invariant-loop-p : goal.invariant-loop-p

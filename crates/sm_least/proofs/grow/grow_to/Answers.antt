@@ -1,6 +1,6 @@
 use Rattle.std.proofs.Common.{ℕ, arith, sym, subst, length}
 use Rattle.sm_least.specs.Steps.{AreSettled}
-use Rattle.sm_least.proofs.BoardLemmas.{stays_grow}
+use Rattle.sm_board.proofs.BoardLemmas.{stays_grow}
 use Rattle.sm_least.proofs.StepLemmas.{grows_more, broken_back, settled_behind, raised, not_raised}
 use Rattle.sm_least.proofs.grow.grow_to.Goals as goal
 

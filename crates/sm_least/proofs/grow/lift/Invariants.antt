@@ -1,6 +1,7 @@
 use Rattle.std.proofs.Common.{◌-◌, length}
-use Rattle.sm_least.specs.Board.{IsClosedIn}
-use Rattle.sm_least.specs.Steps.{Grows, IsInAll, IsHigh}
+use Rattle.sm_board.specs.Board.{IsClosedIn}
+use Rattle.sm_board.specs.Courses.{Grows}
+use Rattle.sm_least.specs.Steps.{IsInAll, IsHigh}
 use Rattle.sm_least.proofs.grow.lift.Given as goal
 
 abbrev pub invariant-stays : goal.invariant-stays

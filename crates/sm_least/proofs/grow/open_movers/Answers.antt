@@ -1,7 +1,7 @@
 use Rattle.std.proofs.Common.{◌≡◌, ℕ, arith, ap, subst, List, length, slice_index}
 use Rattle.sm_market.specs.Lists.{row}
 use Rattle.sm_least.specs.Steps.{AreOpened}
-use Rattle.sm_least.proofs.HeldLemmas.{mover_in}
+use Rattle.sm_board.proofs.HeldLemmas.{mover_in}
 use Rattle.sm_least.proofs.StepLemmas.{grows_same, grows_more, broken_back, opened_more}
 use Rattle.sm_least.proofs.grow.open_movers.Goals as goal
 

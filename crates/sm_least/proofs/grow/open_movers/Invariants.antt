@@ -1,7 +1,8 @@
 use Rattle.std.proofs.Common.{length}
 use Rattle.sm_market.specs.Lists.{row}
-use Rattle.sm_least.specs.Board.{IsClosedIn, Fits}
-use Rattle.sm_least.specs.Steps.{Grows, IsInAll, AreOpened}
+use Rattle.sm_board.specs.Board.{IsClosedIn, Fits}
+use Rattle.sm_board.specs.Courses.{Grows}
+use Rattle.sm_least.specs.Steps.{IsInAll, AreOpened}
 use Rattle.sm_least.proofs.grow.open_movers.Given as goal
 
 abbrev pub invariant-loop-p : goal.invariant-loop-p

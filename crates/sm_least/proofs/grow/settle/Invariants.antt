@@ -1,6 +1,7 @@
 use Rattle.std.proofs.Common.{◌-◌, ◌≤◌, length}
-use Rattle.sm_least.specs.Board.{IsClosedIn, Fits}
-use Rattle.sm_least.specs.Steps.{Grows, IsInAll, AreSettled}
+use Rattle.sm_board.specs.Board.{IsClosedIn, Fits}
+use Rattle.sm_board.specs.Courses.{Grows}
+use Rattle.sm_least.specs.Steps.{IsInAll, AreSettled}
 use Rattle.sm_least.proofs.grow.settle.Given as goal
 
 abbrev pub invariant-loop-place : goal.invariant-loop-place

@@ -1,5 +1,5 @@
 use Rattle.std.proofs.Common.{◌≡◌, ◌≤◌, ◌+◌, drop}
-use Rattle.sm_least.specs.Board.{members_in}
+use Rattle.sm_board.specs.Board.{members_in}
 use Rattle.sm_least.proofs.least.count_members.Given as goal
 
 abbrev pub invariant-loop-x : goal.invariant-loop-x

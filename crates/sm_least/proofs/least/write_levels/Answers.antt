@@ -1,6 +1,6 @@
 use Rattle.std.proofs.Common.{arith, ap}
-use Rattle.sm_least.specs.Board.{members_in}
-use Rattle.sm_least.proofs.BoardLemmas.{stays_in}
+use Rattle.sm_board.specs.Board.{members_in}
+use Rattle.sm_board.proofs.BoardLemmas.{stays_in}
 use Rattle.sm_least.proofs.least.write_levels.Goals as goal
 
 pub level-requires-clause-stay : goal.level-requires-clause-stay

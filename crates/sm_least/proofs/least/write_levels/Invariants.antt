@@ -1,5 +1,5 @@
 use Rattle.std.proofs.Common.{◌≡◌, ℕ, ◌<◌, length, slice_index}
-use Rattle.sm_least.specs.Board.{level}
+use Rattle.sm_board.specs.Board.{level}
 use Rattle.sm_least.proofs.least.write_levels.Given as goal
 
 abbrev pub invariant-loop-p : goal.invariant-loop-p

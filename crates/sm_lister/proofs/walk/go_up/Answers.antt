@@ -1,5 +1,5 @@
 use Rattle.std.proofs.Common.{subst, arith}
-use Rattle.sm_least.specs.Growing.{IsLogOf}
+use Rattle.sm_board.specs.Growing.{IsLogOf}
 use Rattle.sm_lister.proofs.WalkingLemmas.{up_is, none_is}
 use Rattle.sm_lister.proofs.walk.go_up.Goals as goal
 

@@ -1,5 +1,5 @@
 use Rattle.std.proofs.Common.{◌∙◌, ap, subst}
-use Rattle.sm_least.specs.Walks.{vector}
+use Rattle.sm_board.specs.Walks.{vector}
 use Rattle.sm_lister.specs.Listers.{Lister, IsNextOf, IsAtEnd}
 use Rattle.sm_lister.proofs.NextLemmas.{next_found, none_found, cursor_is}
 use Rattle.sm_lister.specs.Walking.{cursor_of}

@@ -17,34 +17,34 @@ worst_places-requires-clause-in_range c =
 pub held-requires : goal.held-requires
 held-requires c =
     let set = c.args.set.now.members.items in
-    let poset : RotationPoset = poset_of c.self.inside.market c.self.inside.chain.first (rotations_of c.self.inside.chain.rotations.items) in
+    let poset : RotationPoset = poset_of c.self.inside.market.value c.self.inside.chain.value.first (rotations_of c.self.inside.chain.value.rotations.items) in
     let closed = subst (λ (poset : RotationPoset). IsClosed poset.lists poset.rotations set) (sym c.self.view_is) c.requires in
-    let worst = rw (c.deref.ensures.value, c.deref-2.ensures.value) at c.in_ok-places.ensures.worst in
+    let worst = rw (c.deref.ensures.value, c.deref-2.ensures.value, c.as_ref.ensures) at c.in_ok-places.ensures.worst in
     let many = length-map c.self.inside.moves.items (λ v. v.items) in
     let made : IsMatchingOf poset set c.in_ok-places.places.items = matching_made c.self.invariant set closed c.in_ok-places.places.items
     (omega (arith, c.in_ok-places.ensures.one_each, ap length c.deref.ensures.value)) (λ p h. worst p (omega arith)) in
-    rw (c.deref-3.ensures.value, made.places_are) (held_of_matching made.stable.matching)
+    rw (c.deref-3.ensures.value, made.places_are, c.as_ref-2.ensures) (held_of_matching made.stable.matching)
 
 pub returns-clause-places : goal.returns-clause-places
 returns-clause-places c =
     let set = c.args.set.now.members.items in
-    let poset : RotationPoset = poset_of c.self.inside.market c.self.inside.chain.first (rotations_of c.self.inside.chain.rotations.items) in
+    let poset : RotationPoset = poset_of c.self.inside.market.value c.self.inside.chain.value.first (rotations_of c.self.inside.chain.value.rotations.items) in
     let closed = subst (λ (poset : RotationPoset). IsClosed poset.lists poset.rotations set) (sym c.self.view_is) c.requires in
-    let worst = rw (c.deref.ensures.value, c.deref-2.ensures.value) at c.in_ok-places.ensures.worst in
+    let worst = rw (c.deref.ensures.value, c.deref-2.ensures.value, c.as_ref.ensures) at c.in_ok-places.ensures.worst in
     let many = length-map c.self.inside.moves.items (λ v. v.items) in
     let made : IsMatchingOf poset set c.in_ok-places.places.items = matching_made c.self.invariant set closed c.in_ok-places.places.items
     (omega (arith, c.in_ok-places.ensures.one_each, ap length c.deref.ensures.value)) (λ p h. worst p (omega arith)) in
     IfOk-both c.held.result _ _ _
     (λ m paired places. one_matching paired.matching made.stable.matching (places ∙ c.deref-3.ensures.value ∙ made.places_are)
     ∙ ap (λ (poset : RotationPoset). matching_of poset.lists poset.first.places poset.rotations set) c.self.view_is)
-    c.held.ensures.pairing c.held.ensures.places
+    (rw c.as_ref-2.ensures at c.held.ensures.pairing) c.held.ensures.places
 
 pub returns-clause-stable : goal.returns-clause-stable
 returns-clause-stable c =
     let set = c.args.set.now.members.items in
-    let poset : RotationPoset = poset_of c.self.inside.market c.self.inside.chain.first (rotations_of c.self.inside.chain.rotations.items) in
+    let poset : RotationPoset = poset_of c.self.inside.market.value c.self.inside.chain.value.first (rotations_of c.self.inside.chain.value.rotations.items) in
     let closed = subst (λ (poset : RotationPoset). IsClosed poset.lists poset.rotations set) (sym c.self.view_is) c.requires in
-    let worst = rw (c.deref.ensures.value, c.deref-2.ensures.value) at c.in_ok-places.ensures.worst in
+    let worst = rw (c.deref.ensures.value, c.deref-2.ensures.value, c.as_ref.ensures) at c.in_ok-places.ensures.worst in
     let many = length-map c.self.inside.moves.items (λ v. v.items) in
     let made : IsMatchingOf poset set c.in_ok-places.places.items = matching_made c.self.invariant set closed c.in_ok-places.places.items
     (omega (arith, c.in_ok-places.ensures.one_each, ap length c.deref.ensures.value)) (λ p h. worst p (omega arith)) in

@@ -16,7 +16,7 @@ pub invariant_of-result : goal.invariant_of-result
 invariant_of-result c =
     let rotations = rotations_of c.args.chain.rotations.items in
     let long : length rotations ≡ length c.args.chain.rotations.items = length-map c.args.chain.rotations.items (λ r. r.pairs.items) in
-    let lists_are : c.in_ok-market.market ≡ c.args.market.now = c.in_ok-market.ensures in
+    let lists_are : c.in_ok-market.market.value ≡ c.args.market.now = c.in_ok-market.ensures.ok ∙ c.in_ok-copy.ensures in
     let noted = c.in_ok-of_proposers.ensures in
     let kept : IsKept (poset_of c.args.market.now c.args.chain.first rotations) (rows_of c.in_ok-needs.needs.items) (moves_in c.in_ok-of_proposers.field-0.of_proposers.items) c.in_ok-of_proposers.field-0.leaders.items = record {
       chain = record {
@@ -31,4 +31,4 @@ invariant_of-result c =
       moves_are = subst (λ n. AreMoves c.args.market.now rotations n (moves_in c.in_ok-of_proposers.field-0.of_proposers.items)) (sym long) noted.moves;
       leaders_are = subst (λ n. AreLeaders c.args.market.now rotations n c.in_ok-of_proposers.field-0.leaders.items) (sym long) noted.leaders;
     } in
-    subst (λ (l : Lists). IsKept (poset_of l c.args.chain.first rotations) (rows_of c.in_ok-needs.needs.items) (moves_in c.in_ok-of_proposers.field-0.of_proposers.items) c.in_ok-of_proposers.field-0.leaders.items) (sym lists_are) kept
+    rw c.in_ok-chain.ensures.ok (subst (λ (l : Lists). IsKept (poset_of l c.args.chain.first rotations) (rows_of c.in_ok-needs.needs.items) (moves_in c.in_ok-of_proposers.field-0.of_proposers.items) c.in_ok-of_proposers.field-0.leaders.items) (sym lists_are) kept)

@@ -1,0 +1,12 @@
+pub mod MakeLemmas
+pub mod CourseLemmas
+pub mod StartLemmas
+pub mod HeldLemmas
+pub mod MemberLemmas
+pub mod BoardLemmas
+pub mod BoardBridge
+pub mod BoardSets
+pub mod WalkLemmas
+pub mod WalkBridge
+pub mod GrowLemmas
+pub mod WitnessBoard

@@ -1,0 +1,155 @@
+//! The board of a poset with levels.
+
+ghost use Rattle.std.specs.Prelude.{◌≡◌, ℕ, ◌<◌, length, map, slice_index, is_some, ◌+◌, ◌∷◌, IfOk};
+ghost use Rattle.sm_market.specs.Lists.{row, agents};
+ghost use Rattle.sm_market.specs.Vectors.{rows_of};
+ghost use Rattle.sm_market.specs.Matching.{held};
+ghost use Rattle.sm_theory.specs.Chains.{AreNeedsOf};
+ghost use Rattle.sm_theory.specs.Vectors.{AreLevels};
+ghost use Rattle.sm_theory.specs.Values.{rotations_of};
+ghost use Rattle.sm_poset.specs.Kept.{moves_in, AreMoves};
+ghost use Rattle.sm_poset.specs.Moves.{place_to};
+ghost use Rattle.sm_board.specs.BoardOf.{places_at, IsBoardFor};
+
+use crate::board::Board;
+use sm_poset::Poset;
+use sm_theory::Rotation;
+use std::alloc::{AllocError, Global};
+
+/// The predecessors of each rotation.
+fn needs_of(alloc: Global, poset: &Poset) -> Result<Vec<Vec<u32>>, AllocError>
+    ensures one_each { IfOk result (λ needs. length needs.items ≡ length poset.now.rotations) }
+    ensures needs { IfOk result (λ needs. (j : ℕ) → j < length poset.now.rotations
+        → AreNeedsOf poset.now.lists poset.now.rotations j (row (rows_of needs.items) j)) }
+{
+    let rotations = poset.chain().rotations.len() as u32;
+    let mut needs = Vec::with_capacity(alloc, rotations as usize)?;
+    for j in 0..rotations {
+        needs.push(Vec::from_slice(alloc, poset.needs(j))?)?;
+    }
+    Ok(needs)
+}
+
+/// The moves of each proposer.
+fn moves_of(alloc: Global, poset: &Poset) -> Result<Vec<Vec<(u32, u32)>>, AllocError>
+    ensures { IfOk result (λ moves. AreMoves poset.now.lists poset.now.rotations (length poset.now.rotations) (moves_in moves.items)) }
+{
+    let proposers = poset.market().proposers();
+    let mut moves = Vec::with_capacity(alloc, proposers as usize)?;
+    for p in 0..proposers {
+        moves.push(Vec::from_slice(alloc, poset.moves(p))?)?;
+    }
+    Ok(moves)
+}
+
+/// The first of each pair.
+fn firsts(alloc: Global, pairs: &[(u32, u32)]) -> Result<Vec<u32>, AllocError>
+    ensures { IfOk result (λ firsts. firsts.items ≡ map (λ pair. pair.0) pairs.now) }
+{
+    let mut firsts = Vec::with_capacity(alloc, pairs.len())?;
+    for &(x, _) in pairs {
+        firsts.push(x)?;
+    }
+    Ok(firsts)
+}
+
+/// The proposers that each rotation moves.
+fn movers_of(alloc: Global, rotations: &[Rotation]) -> Result<Vec<Vec<u32>>, AllocError>
+    ensures { IfOk result (λ movers. rows_of movers.items ≡ map (λ rotation. map (λ pair. pair.0) rotation) (rotations_of rotations.now)) }
+{
+    let mut movers = Vec::with_capacity(alloc, rotations.len())?;
+    for rotation in rotations {
+        movers.push(firsts(alloc, &rotation.pairs)?)?;
+    }
+    Ok(movers)
+}
+
+/// The rotations that move each proposer.
+fn leaves_of(alloc: Global, moves: &[Vec<(u32, u32)>]) -> Result<Vec<Vec<u32>>, AllocError>
+    ensures { IfOk result (λ leaves. rows_of leaves.items ≡ map (λ ms. map (λ m. m.0) ms) (moves_in moves.now)) }
+{
+    let mut leaves = Vec::with_capacity(alloc, moves.len())?;
+    for row in moves {
+        leaves.push(firsts(alloc, row)?)?;
+    }
+    Ok(leaves)
+}
+
+/// The levels of a proposer at its first place and at those to which its moves lead.
+fn levels_at(
+    alloc: Global,
+    levels: &[u32],
+    first: u32,
+    moves: &[(u32, u32)],
+) -> Result<Vec<u32>, AllocError>
+    requires first { first < length levels.now }
+    requires places { (a : ℕ) → a < length moves.now → place_to moves.now a < length levels.now }
+    ensures { IfOk result (λ at. at.items ≡ map (λ i. slice_index levels.now i) (first ∷ map (λ m. m.1) moves.now)) }
+{
+    let mut at = Vec::with_capacity(alloc, moves.len() + 1)?;
+    at.push(levels[first as usize])?;
+    for &(_, place) in moves {
+        at.push(levels[place as usize])?;
+    }
+    Ok(at)
+}
+
+/// For each proposer whether it is matched.
+fn matched(alloc: Global, poset: &Poset) -> Result<Vec<bool>, AllocError>
+    ensures { IfOk result (λ matched. matched.items
+        ≡ map (λ p. is_some (held poset.now.first.places.proposers p)) (agents poset.now.lists.proposers)) }
+{
+    let first = &poset.chain().first;
+    let proposers = poset.market().proposers();
+    let mut matched = Vec::with_capacity(alloc, proposers as usize)?;
+    for p in 0..proposers {
+        matched.push(first.place(p).is_some())?;
+    }
+    Ok(matched)
+}
+
+/// For each proposer the levels at its first place and at those to which its moves lead.
+fn stay_levels(
+    alloc: Global,
+    poset: &Poset,
+    levels: &[Vec<u32>],
+    moves: &[Vec<(u32, u32)>],
+) -> Result<Vec<Vec<u32>>, AllocError>
+    requires levels { AreLevels poset.now.lists (rows_of levels.now) }
+    requires moves { AreMoves poset.now.lists poset.now.rotations (length poset.now.rotations) (moves_in moves.now) }
+    ensures { IfOk result (λ made. rows_of made.items ≡ map
+        (λ p. map (λ i. slice_index (row (rows_of levels.now) p) i)
+        (places_at poset.now.lists poset.now.first.places (moves_in moves.now) p))
+        (agents poset.now.lists.proposers)) }
+{
+    let market = poset.market();
+    let first = &poset.chain().first;
+    let mut made = Vec::with_capacity(alloc, levels.len())?;
+    for p in 0..market.proposers() {
+        let place = market.proposer_standing(first, p);
+        made.push(levels_at(alloc, &levels[p as usize], place, &moves[p as usize])?)?;
+    }
+    Ok(made)
+}
+
+/// The board of a poset with levels.
+///
+/// Takes time and memory in proportion to the proposers, the pairs of the rotations and the predecessors.
+pub fn make_board(alloc: Global, poset: &Poset, levels: &[Vec<u32>]) -> Result<Board, AllocError>
+    requires { AreLevels poset.now.lists (rows_of levels.now) }
+    ensures { IfOk result (λ board. IsBoardFor poset.now (rows_of levels.now) board) }
+{
+    let moves = moves_of(alloc, poset)?;
+    let needs = needs_of(alloc, poset)?;
+    let movers = movers_of(alloc, &poset.chain().rotations)?;
+    let leaves = leaves_of(alloc, &moves)?;
+    let stay_levels = stay_levels(alloc, poset, levels, &moves)?;
+    let matched = matched(alloc, poset)?;
+    Ok(Board {
+        needs,
+        movers,
+        leaves,
+        levels: stay_levels,
+        matched,
+    })
+}

@@ -1,6 +1,0 @@
-use Rattle.sm_market.specs.Lists.{row}
-use Rattle.sm_least.specs.Steps.{IsMovedOn}
-use Rattle.sm_least.proofs.held.move_on.Given as goal
-
-abbrev pub invariant-loop-p : goal.invariant-loop-p
-invariant-loop-p l = IsMovedOn l.board (row l.board.movers l.x) l.p-index l.initial.at l.initial.now l.at l.now
