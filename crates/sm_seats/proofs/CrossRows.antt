@@ -1,29 +1,27 @@
--- The lists, the cross places and the levels that are made are those of the market of seats.
+-- The lists and the cross places that are made are those of the market of seats.
 use Rattle.std.proofs.Common.{◌≡◌, ℕ, zero, suc, ◌+◌, ◌<◌, ◌≤◌, ◌++◌, ◌∷◌, [], List, length, take, map, get_or, replicate, refl, sym, ap, ◌∙◌, arith, inl, inr}
 use Rattle.std.specs.List.{flat_map, range_with_len}
 use Rattle.std.proofs.lemmas.Bool.{cases_lt}
-use Rattle.std.proofs.lemmas.List.{get_or_past, get_or-map, length-map, length-append, length-replicate, get_or-replicate, map-append, ext_get_or}
+use Rattle.std.proofs.lemmas.List.{get_or_past, get_or-map, length-map, length-append, length-replicate, get_or-replicate, map-append}
 use Rattle.std.proofs.lemmas.List.Concat.{get_or-flat_map}
 use Rattle.std.proofs.lemmas.List.FromFn.{get_or-range_with_len, length-range_with_len, get_or-map-range_with_len, length-map-range_with_len}
 use Rattle.sm_lists.specs.Rows.{place_on}
 use Rattle.sm_lists.proofs.PlaceLemmas.{get_or-place_on}
 use Rattle.sm_lists.proofs.RowLemmas.{row_in_range}
-use Rattle.sm_instance.specs.Written.{Written, row as written_row, place_of as written_place_of}
+use Rattle.sm_instance.specs.Written.{Written}
 use Rattle.sm_instance.specs.Faults.{HasSoundEntries}
 use Rattle.sm_market.specs.Lists.{row, entry, place_of}
 use Rattle.sm_market.specs.Crosses.{AreCrosses}
 use Rattle.sm_seats.specs.Mutual.{mutual_row}
 use Rattle.sm_seats.specs.SeatMarket.{seat_count, seats_before, seats_at, named_seats, seat_row, row_of_seat, seat_market}
-use Rattle.sm_seats.specs.Seating.{seating_of, written_place, levels_at, levels_of}
-use Rattle.sm_seats.specs.Tables.{crosses_at, levels_for, cross_row, level_row, begin_of, seat_crosses, lists_for, crosses_for}
-use Rattle.sm_seats.specs.ProposerRows.{cross_rows_of, level_rows_of}
+use Rattle.sm_seats.specs.Tables.{crosses_at, cross_row, begin_of, seat_crosses, lists_for, crosses_for}
+use Rattle.sm_seats.specs.ProposerRows.{cross_rows_of}
 use Rattle.sm_seats.specs.ReviewerRows.{seat_lists_before, seat_crosses_before}
 use Rattle.sm_seats.proofs.MutualLemmas.{IsMutual, mutual_turned, mutual_on_row, entry_mutual}
 use Rattle.sm_seats.proofs.PieceLemmas.{take-range}
 use Rattle.sm_seats.proofs.SeatLemmas.{IsSeatOf, has_seats, seat_found, length-named, length-reviewers, seat_list, listed_seat}
 use Rattle.sm_seats.proofs.SeatPlaces.{partners, row_is, IsPlaced, seat_at_place, seat_on, seat_place}
 use Rattle.sm_seats.proofs.MarketLaws.{length-proposers, rank_is, length-list}
-use Rattle.sm_seats.proofs.WrittenLemmas.{list_is, written_is}
 use Rattle.sm_seats.proofs.TableLemmas.{begin_is}
 
 -- Lists that are joined from pieces of the same lengths.
@@ -75,9 +73,6 @@ length-along w p f same =
 length-crosses_at : (w : Written) (p r : ℕ) → length (crosses_at w p r) ≡ seat_count w r
 length-crosses_at w p r = length-replicate (seat_count w r) (place_on (mutual_row w.reviewers w.proposers r) p)
 
-length-levels_for : (w : Written) (p r : ℕ) → length (levels_for w p r) ≡ seat_count w r
-length-levels_for w p r = length-replicate (seat_count w r) (written_place_of w.proposers p r + 1)
-
 pub proposers_crossed : {w : Written} → HasSoundEntries w → AreCrosses (seat_market w).proposers (seat_market w).reviewers (cross_rows_of w (length w.proposers))
 proposers_crossed {w} h = record {
   one_each = length-map-range_with_len (cross_row w) 0 (length w.proposers) ∙ sym (length-proposers w);
@@ -93,29 +88,6 @@ proposers_crossed {w} h = record {
       ∙ get_or-replicate (seat_count w s.reviewer) s.number (place_on (mutual_row w.reviewers w.proposers s.reviewer) p) 0 s.at.below
       ∙ sym (rank_is (seat_at_place s.at) p);
 }
-
--- the levels along p's list of seats
-level_row_is : {w : Written} → HasSoundEntries w → (p : ℕ) → level_row w p ≡ levels_at (seating_of w) p
-level_row_is {w} h p =
-    let n : ℕ = length (row (seat_market w).proposers p) in
-    let level : ℕ → ℕ = λ i. written_place (seating_of w) p i + 1 in
-    let long = length-along w p (levels_for w p) (length-levels_for w p) in
-    let right = length-map-range_with_len level 0 n in
-    let levels : flat_map (levels_for w p) (partners w p) ≡ map level (range_with_len 0 n) =
-    ext_get_or 0 (flat_map (levels_for w p) (partners w p)) (map level (range_with_len 0 n)) (omega (arith, long, right))
-    (λ i l.
-    let on : i < n = omega (arith, long, l) in
-    let s = seat_on h p i on in
-    along s.at (levels_for w p) (length-levels_for w p)
-    ∙ get_or-replicate (seat_count w s.reviewer) s.number (written_place_of w.proposers p s.reviewer + 1) 0 s.at.below
-    ∙ ap (λ x. x + 1) (sym (written_is s.at))
-    ∙ sym (get_or-map-range_with_len level 0 n i i 0 on (omega arith))) in
-    ap (λ l. l ++ (length (written_row w.proposers p) + 1) ∷ []) levels ∙ ap (λ (l : List ℕ). map level (range_with_len 0 n) ++ (length l + 1) ∷ []) (sym (list_is w p))
-
-pub levels_made : {w : Written} → HasSoundEntries w → level_rows_of w (length w.proposers) ≡ levels_of (seating_of w)
-levels_made {w} h =
-    map_same (level_row w) (levels_at (seating_of w)) (level_row_is h) (range_with_len 0 (length w.proposers))
-    ∙ ap (λ n. map (levels_at (seating_of w)) (range_with_len 0 n)) (sym (length-proposers w))
 
 -- The reviewers' side.
 

@@ -26,3 +26,5 @@ pub mod TableLemmas
 pub mod RowLemmas
 pub mod CrossRows
 pub mod SeatingMade
+pub mod KeptLemmas
+pub mod PlainLemmas

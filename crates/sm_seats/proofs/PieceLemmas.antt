@@ -1,5 +1,5 @@
 -- Where the items of pieces stand in the list that is joined from these.
-use Rattle.std.proofs.Common.{◌≡◌, ℕ, zero, suc, ◌+◌, ◌-◌, ◌<◌, ◌≤◌, ◌++◌, List, [], ◌∷◌, length, take, get_or, refl, ap, ◌∙◌, arith, inl, inr}
+use Rattle.std.proofs.Common.{◌≡◌, ℕ, zero, suc, ◌+◌, ◌-◌, ◌<◌, ◌≤◌, ◌++◌, List, [], ◌∷◌, length, take, drop, get_or, refl, ap, ◌∙◌, arith, inl, inr}
 use Rattle.std.specs.List.{flat_map, range_with_len}
 use Rattle.std.proofs.lemmas.Bool.{cases_lt}
 use Rattle.std.proofs.lemmas.List.{length-append}
@@ -52,3 +52,19 @@ pub take-range : (a n k : ℕ) → k ≤ n → take k (range_with_len a n) ≡ r
 take-range a n zero le = refl
 take-range a zero (suc k) le = absurd (omega arith)
 take-range a (suc n) (suc k) le = ap (λ l. a ∷ l) (take-range (a + 1) n k (omega arith))
+
+-- the numbers of a range behind the first ones
+drop-range : (a k n : ℕ) → drop k (range_with_len a (k + n)) ≡ range_with_len (a + k) n
+drop-range a zero n = ap (range_with_len a) (let e : 0 + n ≡ n = omega arith in e) ∙ ap (λ b. range_with_len b n) (let e : a ≡ a + 0 = omega arith in e)
+drop-range a (suc k) n =
+    ap (λ m. drop (suc k) (range_with_len a m)) (let e : suc k + n ≡ suc (k + n) = omega arith in e)
+    ∙ drop-range (a + 1) k n
+    ∙ ap (λ b. range_with_len b n) (let e : a + 1 + k ≡ a + suc k = omega arith in e)
+
+-- some numbers of a range from 0
+pub numbers_between : (n from count : ℕ) → from + count ≤ n → take count (drop from (range_with_len 0 n)) ≡ range_with_len from count
+numbers_between n from count le =
+    ap (λ m. take count (drop from (range_with_len 0 m))) (let e : n ≡ from + (n - from) = omega arith in e)
+    ∙ ap (take count) (drop-range 0 from (n - from))
+    ∙ take-range (0 + from) (n - from) count (omega arith)
+    ∙ ap (λ a. range_with_len a count) (let e : 0 + from ≡ from = omega arith in e)

@@ -1,17 +1,9 @@
 -- Lists that are made by one push after another.
-use Rattle.std.proofs.Common.{◌≡◌, ℕ, ◌+◌, ◌-◌, ◌≤◌, ◌++◌, ◌∷◌, [], List, map, replicate, refl, sym, ap, ◌∙◌, arith}
+use Rattle.std.proofs.Common.{◌≡◌, ℕ, ◌+◌, ◌<◌, ◌++◌, ◌∷◌, [], List, length, take, drop, get_or, map, replicate, zero, suc, set, refl, sym, ap, ◌∙◌, arith}
 use Rattle.std.specs.List.{flat_map, range_with_len}
 use Rattle.std.proofs.lemmas.List.{append_assoc, append-nil, replicate_more}
 use Rattle.std.proofs.lemmas.List.Concat.{flat_map-append}
 use Rattle.std.proofs.lemmas.List.FromFn.{map-range_with_len_more}
-use Rattle.sm_seats.proofs.PieceLemmas.{range_more}
-
--- numbers from `from` on, up to one more
-pub range_pushed : (xs ys : List ℕ) (from seat : ℕ) → from ≤ seat → ys ≡ xs ++ range_with_len from (seat - from) → ys ++ seat ∷ [] ≡ xs ++ range_with_len from (seat + 1 - from)
-range_pushed xs ys from seat le e =
-    ap (λ l. l ++ seat ∷ []) e ∙ append_assoc xs (range_with_len from (seat - from)) (seat ∷ [])
-    ∙ ap (λ l. xs ++ l) (sym (range_more from (seat - from) seat (omega arith)))
-    ∙ ap (λ n. xs ++ range_with_len from n) (let n : seat - from + 1 ≡ seat + 1 - from = omega arith in n)
 
 -- the same number once more
 pub same_pushed : {X : Type 0} (xs ys : List X) (n m : ℕ) (y : X) → n + 1 ≡ m → ys ≡ xs ++ replicate n y → ys ++ y ∷ [] ≡ xs ++ replicate m y
@@ -28,3 +20,27 @@ map_pushed f xs ys a n y is e =
 pub piece_pushed : {X Y : Type 0} (f : X → List Y) (xs : List X) (x : X) (ys zs piece : List Y) → ys ≡ flat_map f xs → zs ≡ ys ++ piece → piece ≡ f x → zs ≡ flat_map f (xs ++ x ∷ [])
 piece_pushed f xs x ys zs piece e joined is =
     joined ∙ ap (λ l. l ++ piece) e ∙ ap (λ l. flat_map f xs ++ l) is ∙ ap (λ l. flat_map f xs ++ l) (sym (append-nil (f x))) ∙ sym (flat_map-append f xs (x ∷ []))
+
+-- an item where those before it are changed
+pub unchanged_at : {X : Type 0} (f : X → X) (xs : List X) (i : ℕ) (d : X) → i < length xs → get_or (map f (take i xs) ++ drop i xs) i d ≡ get_or xs i d
+unchanged_at f [] i d on = absurd (omega arith)
+unchanged_at f (x ∷ xs) zero d on = refl
+unchanged_at f (x ∷ xs) (suc i) d on = unchanged_at f xs i d (omega arith)
+
+-- a list of one item
+pub only_item : {X : Type 0} (xs : List X) (d : X) → length xs ≡ 1 → xs ≡ get_or xs 0 d ∷ []
+only_item [] d one = absurd (omega arith)
+only_item (x ∷ []) d one = refl
+only_item (x ∷ y ∷ xs) d one = absurd (omega arith)
+
+-- one more item of a list is written over another list
+written_next : {X Y : Type 0} (f : X → Y) (xs : List X) (ys : List Y) (i : ℕ) (d : X) → i < length xs → length ys ≡ length xs
+    → set (map f (take i xs) ++ drop i ys) i (f (get_or xs i d)) ≡ map f (take (suc i) xs) ++ drop (suc i) ys
+written_next f [] ys i d on long = absurd (omega arith)
+written_next f (x ∷ xs) [] i d on long = absurd (omega arith)
+written_next f (x ∷ xs) (y ∷ ys) zero d on long = refl
+written_next f (x ∷ xs) (y ∷ ys) (suc i) d on long = ap (λ l. f x ∷ l) (written_next f xs ys i d (omega arith) (omega arith))
+
+pub written_more : {X Y : Type 0} (f : X → Y) (xs : List X) (ys : List Y) (i : ℕ) (d : X) → i < length xs → length ys ≡ length xs
+    → set (map f (take i xs) ++ drop i ys) i (f (get_or xs i d)) ≡ map f (take (i + 1) xs) ++ drop (i + 1) ys
+written_more f xs ys i d on long = written_next f xs ys i d on long ∙ ap (λ n. map f (take n xs) ++ drop n ys) (let e : suc i ≡ i + 1 = omega arith in e)

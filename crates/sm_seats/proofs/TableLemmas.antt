@@ -1,5 +1,5 @@
 -- What stands in the tables that are made on the way to the market of seats.
-use Rattle.std.proofs.Common.{◌≡◌, ℕ, ◌+◌, ◌-◌, ◌*◌, ◌<◌, ◌≤◌, ◌++◌, ◌∷◌, [], true, false, cond, nat_eq, List, length, take, map, get_or, min, Vec, sym, ap, ◌∙◌, arith, inl, inr}
+use Rattle.std.proofs.Common.{◌≡◌, ℕ, ◌+◌, ◌-◌, ◌*◌, ◌<◌, ◌≤◌, ◌++◌, ◌∷◌, [], true, false, cond, nat_eq, List, length, take, drop, map, get_or, min, Vec, sym, ap, ◌∙◌, arith, inl, inr}
 use Rattle.std.specs.List.{filter, flat_map, range_with_len}
 use Rattle.std.proofs.lemmas.Bool.{cases_lt, eqb-true}
 use Rattle.std.proofs.lemmas.List.{map-append, length_push, length-take, length-take-le, get_or-map, length-map, get_or_past, length-append, append-nil}
@@ -14,9 +14,10 @@ use Rattle.std.proofs.lemmas.List.Sums.{length-filter, count_by-le-length}
 use Rattle.sm_instance.proofs.AcceptLemmas.{lt_true, proposer_row_fits}
 use Rattle.sm_seats.specs.Mutual.{lists_back, mutual_row}
 use Rattle.sm_seats.specs.SeatMarket.{seat_count, seats_before, seats_at}
-use Rattle.sm_seats.specs.Tables.{first_seats_of, acceptable_at, mutual_before, mutual_places_at, inert_places_at, inert_places_of, reviewers_before, seats_listed, seat_places_at, seat_places_of, begin_of}
+use Rattle.sm_seats.specs.Tables.{first_seats_of, seat_numbers_of, acceptable_at, mutual_before, mutual_places_at, inert_places_at, inert_places_of, reviewers_before, seats_listed, seat_places_at, seat_places_of, begin_of}
 use Rattle.sm_seats.proofs.MutualLemmas.{IsMutual, mutual_turned, mutual_on_row}
-use Rattle.sm_seats.proofs.SeatLemmas.{seat_count-le-capacity, seats_before_more}
+use Rattle.sm_seats.proofs.SeatLemmas.{seat_count-le-capacity, seats_before_more, seats_end}
+use Rattle.sm_seats.proofs.PieceLemmas.{numbers_between}
 use Rattle.sm_seats.proofs.SeatPlaces.{first_place}
 use Rattle.sm_instance.proofs.LoadLemmas.{test_cases}
 use Rattle.sm_seats.proofs.FilterLemmas.{whole_before}
@@ -146,13 +147,27 @@ pub record AreSeatsRead (w : Written) (firsts : List ℕ) (r : ℕ) : Type 0 whe
   pub first : get_or firsts r 0 ≡ seats_before w r
   pub next : get_or firsts (r + 1) 0 ≡ seats_before w r + seat_count w r
   pub count : get_or firsts (r + 1) 0 - get_or firsts r 0 ≡ seat_count w r
+  pub within : get_or firsts (r + 1) 0 ≤ seats_before w (length w.reviewers)
 
 pub seats_read : (w : Written) {firsts : List ℕ} (r : ℕ) → firsts ≡ first_seats_of w → r < length w.reviewers → AreSeatsRead w firsts r
 seats_read w {firsts} r is there =
     let long = ap length is ∙ length-map-range_with_len (seats_before w) 0 (length w.reviewers + 1) in
     let first : get_or firsts r 0 ≡ seats_before w r = ap (λ l. get_or l r 0) is ∙ first_seat_at w r (omega arith) in
     let next : get_or firsts (r + 1) 0 ≡ seats_before w r + seat_count w r = ap (λ l. get_or l (r + 1) 0) is ∙ first_seat_at w (r + 1) (omega arith) ∙ seats_before_more w r in
-    record { inside = omega (arith, long); first = first; next = next; count = omega (arith, first, next) }
+    record { inside = omega (arith, long); first = first; next = next; count = omega (arith, first, next); within = omega (arith, next, seats_end w r (length w.reviewers) there) }
+
+-- so many seats there are
+pub length-numbers : (w : Written) (numbers : List ℕ) → numbers ≡ seat_numbers_of w → length numbers ≡ seats_before w (length w.reviewers)
+length-numbers w numbers is = ap length is ∙ length-range_with_len 0 (seats_before w (length w.reviewers))
+
+-- the seats of r, among all
+pub seats_between : (w : Written) {firsts : List ℕ} (numbers : List ℕ) (r : ℕ) → numbers ≡ seat_numbers_of w → AreSeatsRead w firsts r
+    → take (get_or firsts (r + 1) 0 - get_or firsts r 0) (drop (get_or firsts r 0) numbers) ≡ seats_at w r
+seats_between w {firsts} numbers r is s =
+    let from : ℕ = get_or firsts r 0 in
+    let size : ℕ = get_or firsts (r + 1) 0 - get_or firsts r 0 in
+    ap (λ l. take size (drop from l)) is ∙ numbers_between (seats_before w (length w.reviewers)) from size (omega (arith, s.within, s.first, s.next))
+    ∙ ap (range_with_len from) s.count ∙ ap (λ n. range_with_len n (seat_count w r)) s.first
 
 -- the seats of r, and the entries on their lists, where they are counted
 pub count_is : (w : Written) (r : ℕ) {count capacity acceptable : ℕ} → count ≡ min capacity acceptable → capacity ≡ capacity_of w.reviewers r → acceptable ≡ length (mutual_row w.reviewers w.proposers r) → count ≡ seat_count w r

@@ -2,6 +2,8 @@ pub mod Mutual
 pub mod SeatMarket
 pub mod SeatEntries
 pub mod Seating
+pub mod Along
+pub mod Kept
 pub mod Taken
 pub mod Correspondence
 pub mod Laws
@@ -11,3 +13,4 @@ pub mod Taking
 pub mod Tables
 pub mod ProposerRows
 pub mod ReviewerRows
+pub mod Plain

@@ -1,5 +1,5 @@
--- What is counted on the way to the market of seats, and its lists one by one with their cross places and levels.
-use Rattle.std.specs.Prelude.{ℕ, ◌+◌, ◌∷◌, [], ◌++◌, List, map, length, take, filter, replicate, nat_eq, cond}
+-- What is counted on the way to the market of seats, and its lists one by one with their cross places.
+use Rattle.std.specs.Prelude.{ℕ, ◌+◌, [], List, map, length, take, filter, replicate, nat_eq, cond}
 use Rattle.std.specs.List.{flat_map, range_with_len}
 use Rattle.sm_lists.specs.Rows.{place_on}
 use Rattle.sm_instance.specs.Written.{Written, row, place_of}
@@ -9,6 +9,10 @@ use Rattle.sm_seats.specs.SeatMarket.{seat_count, seats_before, seats_at}
 -- the first seat of each reviewer, and behind the last how many seats there are
 abbrev pub first_seats_of : Written → List ℕ
 first_seats_of w = map (seats_before w) (range_with_len 0 (length w.reviewers + 1))
+
+-- the numbers of all seats
+abbrev pub seat_numbers_of : Written → List ℕ
+seat_numbers_of w = range_with_len 0 (seats_before w (length w.reviewers))
 
 -- how many acceptable proposers stand before place j of r's written list
 abbrev pub mutual_before : Written → ℕ → ℕ → ℕ
@@ -45,19 +49,13 @@ seat_places_at w p = map (seats_listed w p) (range_with_len 0 (length (row w.pro
 abbrev pub seat_places_of : Written → List (List ℕ)
 seat_places_of w = map (seat_places_at w) (range_with_len 0 (length w.proposers))
 
--- the place of p on the list of r's seats, for each of them, and the rank of r on p's list
+-- the place of p on the list of r's seats, for each of them
 abbrev pub crosses_at : Written → ℕ → ℕ → List ℕ
 crosses_at w p r = replicate (seat_count w r) (place_on (mutual_row w.reviewers w.proposers r) p)
 
-abbrev pub levels_for : Written → ℕ → ℕ → List ℕ
-levels_for w p r = replicate (seat_count w r) (place_of w.proposers p r + 1)
-
--- the same along p's list of seats, with the level of being unmatched
+-- the same along p's list of seats
 abbrev pub cross_row : Written → ℕ → List ℕ
 cross_row w p = flat_map (crosses_at w p) (mutual_row w.proposers w.reviewers p)
-
-abbrev pub level_row : Written → ℕ → List ℕ
-level_row w p = flat_map (levels_for w p) (mutual_row w.proposers w.reviewers p) ++ (length (row w.proposers p) + 1) ∷ []
 
 -- where the seats of r begin on the list of each proposer that is acceptable to r, and the same for its seat k, from 0
 abbrev pub begin_of : Written → ℕ → ℕ → ℕ

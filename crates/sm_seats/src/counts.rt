@@ -1,22 +1,24 @@
 //! How many seats each reviewer has, and where they begin.
 
 ghost use Rattle.std.specs.Prelude.{◌≡◌, ◌+◌, ◌<◌, ◌≤◌, length, IfOk, IfErr, OnOk};
+ghost use Rattle.std.specs.List.{range_with_len};
 ghost use Rattle.sm_text.specs.Limits.{most_agents};
 ghost use Rattle.sm_instance.specs.Sound.{IsInstance};
 ghost use Rattle.sm_seats.specs.Mutual.{mutual_row};
-ghost use Rattle.sm_seats.specs.Tables.{first_seats_of, acceptable_of};
+ghost use Rattle.sm_seats.specs.Tables.{first_seats_of, seat_numbers_of, acceptable_of};
 ghost use Rattle.sm_seats.specs.SeatEntries.{AreFewSeats, IsSeatsFault};
 
 use crate::faults::SeatsFault;
 use sm_instance::Instance;
 use sm_text::MOST_SEAT_ENTRIES;
-use std::alloc::Global;
+use std::alloc::{AllocError, Global};
 
-/// The number of the first seat of each reviewer, and behind them how many seats there are; and how many proposers are
-/// acceptable to each reviewer.
+/// The number of the first seat of each reviewer, and behind them how many seats there are; the numbers of all seats; and
+/// how many proposers are acceptable to each reviewer.
 #[derive(Drop)]
 pub(crate) struct SeatCounts {
     pub(crate) firsts: Vec<u32>,
+    pub(crate) numbers: Vec<u32>,
     pub(crate) acceptable: Vec<u32>,
 }
 
@@ -24,6 +26,7 @@ pub(crate) struct SeatCounts {
 pub(crate) fn seat_counts(alloc: Global, instance: &Instance) -> Result<SeatCounts, SeatsFault>
     ensures instance { IsInstance instance.now }
     ensures firsts { IfOk result (λ counts. counts.firsts.items ≡ first_seats_of instance.now) }
+    ensures numbers { IfOk result (λ counts. counts.numbers.items ≡ seat_numbers_of instance.now) }
     ensures acceptable { IfOk result (λ counts. counts.acceptable.items ≡ acceptable_of instance.now) }
     ensures few { OnOk result (AreFewSeats instance.now) }
     ensures fault { IfErr result (λ f. IsSeatsFault instance.now f) }
@@ -47,8 +50,20 @@ pub(crate) fn seat_counts(alloc: Global, instance: &Instance) -> Result<SeatCoun
     firsts.push(seats)?;
     Ok(SeatCounts {
         firsts,
+        numbers: numbers_below(alloc, seats)?,
         acceptable: counts,
     })
+}
+
+// So many numbers, from 0 on.
+fn numbers_below(alloc: Global, count: u32) -> Result<Vec<u32>, AllocError>
+    ensures { IfOk result (λ numbers. numbers.items ≡ range_with_len 0 count) }
+{
+    let mut numbers = Vec::with_capacity(alloc, count as usize)?;
+    for number in 0..count {
+        numbers.push(number)?;
+    }
+    Ok(numbers)
 }
 
 // How many proposers are acceptable to a reviewer.
@@ -57,9 +72,10 @@ fn acceptable_count(instance: &Instance, r: u32) -> u32
     ensures count { result ≡ length (mutual_row instance.now.reviewers instance.now.proposers r) }
     ensures fits { result ≤ most_agents }
 {
+    let crosses = instance.reviewer_crosses(r);
     let mut count = 0;
     for place in 0..instance.reviewer_len(r) as usize {
-        if instance.reviewer_crosses(r)[place].place().is_some() {
+        if crosses[place].place().is_some() {
             count += 1;
         }
     }

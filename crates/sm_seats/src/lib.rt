@@ -8,7 +8,9 @@
 mod counts;
 mod faults;
 pub mod laws;
+mod levels;
 mod places;
+mod plain;
 mod proposer_rows;
 mod reviewer_rows;
 mod seats;

@@ -152,7 +152,7 @@ fn add_seats(
         return Ok(());
     }
     add_copies(alloc, rows, r, count - 1, &row)?;
-    add_last(alloc, rows, (r, count), row)?;
+    add_last(rows, (r, count), row)?;
     Ok(())
 }
 
@@ -182,12 +182,7 @@ fn add_copies(
 }
 
 // Adds a reviewer's last seat, which takes the row.
-fn add_last(
-    alloc: Global,
-    rows: &mut ReviewerRows,
-    seat: (u32, u32),
-    row: ReviewerRow,
-) -> Result<(), AllocError>
+fn add_last(rows: &mut ReviewerRows, seat: (u32, u32), row: ReviewerRow) -> Result<(), AllocError>
     requires number { 0 < seat.1 }
     requires count { seat.1 ≤ 4096 }
     requires small { (i : ℕ) → slice_index row.begins.items i ≤ 2 ^ 24 }
@@ -196,23 +191,12 @@ fn add_last(
     ensures crosses { OnOk result (rows_of rows.new.crosses.items
         ≡ rows_of rows.old.crosses.items ++ map (λ n. n + (seat.1 - 1)) row.begins.items ∷ []) }
 {
+    let ReviewerRow { list, mut begins } = row;
+    raise(&mut begins, seat.1 - 1);
     rows.seats.push(seat)?;
-    rows.lists.push(row.list)?;
-    rows.crosses
-        .push(last_raised(alloc, row.begins, seat.1 - 1)?)?;
+    rows.lists.push(list)?;
+    rows.crosses.push(begins)?;
     Ok(())
-}
-
-// Each number raised by so much; nothing is copied where that is 0.
-fn last_raised(alloc: Global, numbers: Vec<u32>, by: u32) -> Result<Vec<u32>, AllocError>
-    requires small { (i : ℕ) → slice_index numbers.items i ≤ 2 ^ 24 }
-    requires by { by ≤ 4096 }
-    ensures { IfOk result (λ raised. raised.items ≡ map (λ n. n + by) numbers.items) }
-{
-    if by == 0 {
-        return Ok(numbers);
-    }
-    raised(alloc, &numbers, by)
 }
 
 // Each number raised by so much.
@@ -221,9 +205,18 @@ fn raised(alloc: Global, numbers: &[u32], by: u32) -> Result<Vec<u32>, AllocErro
     requires by { by ≤ 4096 }
     ensures { IfOk result (λ raised. raised.items ≡ map (λ n. n + by) numbers.now) }
 {
-    let mut raised = Vec::with_capacity(alloc, numbers.len())?;
-    for number in numbers {
-        raised.push(*number + by)?;
-    }
+    let mut raised = Vec::from_slice(alloc, numbers)?;
+    raise(&mut raised, by);
     Ok(raised)
+}
+
+// Raises each number by so much.
+fn raise(numbers: &mut [u32], by: u32)
+    requires small { (i : ℕ) → slice_index numbers.old i ≤ 2 ^ 24 }
+    requires by { by ≤ 4096 }
+    ensures { numbers.new ≡ map (λ n. n + by) numbers.old }
+{
+    for at in 0..numbers.len() {
+        numbers[at] += by;
+    }
 }

@@ -11,21 +11,23 @@ ghost use Rattle.sm_market.specs.Pairing.{IsPairingOf};
 ghost use Rattle.sm_market.specs.Vectors.{rows_of};
 ghost use Rattle.sm_seats.specs.SeatMarket.{seats_of};
 ghost use Rattle.sm_seats.specs.SeatEntries.{AreFewSeats, IsSeatsFault};
-ghost use Rattle.sm_seats.specs.Seating.{seating_of, written_lists, written_place, written_of, levels_of};
+ghost use Rattle.sm_seats.specs.Seating.{seating_of, written_lists, written_place, written_of, levels_at, levels_of};
 ghost use Rattle.sm_seats.specs.Taken.{places_taken};
 ghost use Rattle.sm_seats.specs.Correspondence.{IsSeating};
-ghost use Rattle.sm_seats.specs.Tables.{first_seats_of, acceptable_of};
-ghost use Rattle.sm_seats.specs.ProposerRows.{seat_rows_of, cross_rows_of, level_rows_of};
+ghost use Rattle.sm_seats.specs.Tables.{first_seats_of, seat_numbers_of, acceptable_of};
+ghost use Rattle.sm_seats.specs.ProposerRows.{seat_rows_of, cross_rows_of};
 ghost use Rattle.sm_seats.specs.ReviewerRows.{seat_lists_before, seat_crosses_before};
 
 use crate::counts::{SeatCounts, seat_counts};
 use crate::faults::SeatsFault;
+use crate::levels::{levels_along, place_from};
 use crate::places::{mutual_places, seat_places};
+use crate::plain::{is_plain, plain_proposers, plain_seats};
 use crate::proposer_rows::{ProposerRows, proposer_rows};
 use crate::reviewer_rows::{ReviewerRows, reviewer_rows};
 use crate::taking::taken_places;
 use sm_instance::{Assignment, Instance};
-use sm_lists::{copy_of, entry_at};
+use sm_lists::list_at;
 use sm_market::{Market, Pairing};
 use std::alloc::{AllocError, Global};
 use std::marker::Model;
@@ -41,19 +43,18 @@ pub struct Seats {
     lists: Vec<Vec<u32>>,
     market: Market,
     seats: Vec<(u32, u32)>,
-    levels: Vec<Vec<u32>>,
 }
 
 impl Model for Seats {
-    ghost use Rattle.std.specs.Prelude.{◌≡◌};
     ghost use Rattle.sm_market.specs.Vectors.{rows_of};
-    ghost use Rattle.sm_seats.specs.Seating.{Seating, levels_of};
+    ghost use Rattle.sm_seats.specs.Seating.{Seating};
+    ghost use Rattle.sm_seats.specs.Kept.{IsKept};
 
     ghost Value = { Seating };
 
     ghost view = { λ s. record { lists = rows_of s.lists.items; market = s.market; seats = s.seats.items } };
 
-    ghost invariant = { λ s. rows_of s.levels.items ≡ levels_of (record { lists = rows_of s.lists.items; market = s.market; seats = s.seats.items }) };
+    ghost invariant = { λ s. IsKept (record { lists = rows_of s.lists.items; market = s.market; seats = s.seats.items }) };
 }
 
 impl Seats {
@@ -93,17 +94,19 @@ impl Seats {
     }
 
     /// The level of a place of a proposer's list of seats: the rank of the seat's reviewer on the proposer's written list,
-    /// from 1.
+    /// from 1. Takes time in proportion to the rank.
     pub fn level(&self, p: u32, place: u32) -> u32
         requires in_range { p < length self.now.market.proposers }
         requires on_list { place < length (row self.now.market.proposers p) }
         ensures { result ≡ written_place self.now p place + 1 }
     {
-        entry_at(&self.levels, p, place)
+        let (r, _) = self.seats[self.market.reviewer_at(p, place) as usize];
+        place_from(list_at(&self.lists, p), 0, r) + 1
     }
 
     /// For each proposer the levels of its places, followed by that of being unmatched, which is one more than the length
-    /// of its written list. Takes time and memory in proportion to the entries on the proposers' lists of seats.
+    /// of its written list. Takes time and memory in proportion to the entries on the proposers' written lists and to those
+    /// on their lists of seats.
     ///
     /// # Errors
     ///
@@ -111,11 +114,29 @@ impl Seats {
     pub fn levels(&self, alloc: Global) -> Result<Vec<Vec<u32>>, AllocError>
         ensures { IfOk result (λ levels. rows_of levels.items ≡ levels_of self.now) }
     {
-        copy_of(alloc, &self.levels)
+        let proposers = self.market.proposers();
+        let mut levels = Vec::with_capacity(alloc, proposers as usize)?;
+        for p in 0..proposers {
+            levels.push(self.levels_at(alloc, p)?)?;
+        }
+        Ok(levels)
     }
 
-    /// The assignment in which each proposer has the reviewer of its seat. Takes time and memory in proportion to the
-    /// proposers.
+    // The levels of one proposer.
+    fn levels_at(&self, alloc: Global, p: u32) -> Result<Vec<u32>, AllocError>
+        requires { p < length self.now.market.proposers }
+        ensures { IfOk result (λ levels. levels.items ≡ levels_at self.now p) }
+    {
+        levels_along(
+            alloc,
+            list_at(&self.lists, p),
+            self.market.proposer_list(p),
+            &self.seats,
+        )
+    }
+
+    /// The assignment in which each proposer has the reviewer of its seat. Takes memory in proportion to the proposers, and
+    /// time in proportion to them and the ranks of these reviewers.
     ///
     /// # Errors
     ///
@@ -167,15 +188,21 @@ impl Seats {
 // The seats of an instance, by what was counted of it.
 fn seats_from(alloc: Global, instance: &Instance, counts: &SeatCounts) -> Result<Seats, AllocError>
     requires firsts { counts.now.firsts.items ≡ first_seats_of instance.now }
+    requires numbers { counts.now.numbers.items ≡ seat_numbers_of instance.now }
     requires acceptable { counts.now.acceptable.items ≡ acceptable_of instance.now }
     requires instance { IsInstance instance.now }
     requires few { AreFewSeats instance.now }
     ensures { IfOk result (λ seats. seats ≡ seating_of instance.now) }
 {
+    if is_plain(instance, counts) {
+        let proposers = plain_proposers(alloc, instance)?;
+        let reviewers = plain_seats(alloc, instance)?;
+        return seats_held(alloc, instance, proposers, reviewers);
+    }
     let firsts = counts.firsts.as_slice();
     let places = mutual_places(alloc, instance, &counts.acceptable)?;
     let begins = seat_places(alloc, instance, firsts)?;
-    let proposers = proposer_rows(alloc, instance, firsts, &places, &begins)?;
+    let proposers = proposer_rows(alloc, instance, counts, &places, &begins)?;
     let reviewers = reviewer_rows(alloc, instance, firsts, &counts.acceptable, &begins)?;
     seats_held(alloc, instance, proposers, reviewers)
 }
@@ -193,8 +220,6 @@ fn seats_held(
         ≡ seat_rows_of instance.now (length instance.now.proposers) }
     requires proposer_crosses { rows_of proposers.crosses.items
         ≡ cross_rows_of instance.now (length instance.now.proposers) }
-    requires levels { rows_of proposers.levels.items
-        ≡ level_rows_of instance.now (length instance.now.proposers) }
     requires seats { reviewers.seats.items ≡ seats_of instance.now }
     requires reviewers { rows_of reviewers.lists.items
         ≡ seat_lists_before instance.now (length instance.now.reviewers) }
@@ -213,7 +238,6 @@ fn seats_held(
         lists,
         market,
         seats: reviewers.seats,
-        levels: proposers.levels,
     })
 }
 

@@ -11,7 +11,7 @@ loop-place-preserved c =
     let r = c.args.r in
     let i = c.loop-place.place in
     let on : i < length (row w.reviewers r) = omega (arith, c.loop-place-test.true) in
-    let cross = cross_read c.reviewer_crosses.ensures on c.index-reviewer_crosses-place.is c.place.ensures in
+    let cross = cross_read c.reviewer_crosses-crosses.ensures on c.index-crosses-place.is c.place.ensures in
     let tells = cross_tells w.proposers r (entry w.reviewers r i) cross c.is_some.ensures in
     elim c.if-is_some.branch [
       | then-is_some b ↦ rw b.count-is (count_more on (tells ∙ b.if-is_some.true) c.loop-place.invariant)

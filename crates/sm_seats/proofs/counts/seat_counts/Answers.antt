@@ -58,3 +58,8 @@ pub returns-clause-acceptable : goal.returns-clause-acceptable
 returns-clause-acceptable c =
     let end : c.loop-r.r ≡ length c.args.instance.now.reviewers = omega (arith, c.loop-r-test.false, c.reviewer_count-reviewers.ensures.count) in
     c.loop-r.invariant.acceptable ∙ ap (λ n. map (acceptable_at c.args.instance.now) (range_with_len 0 n)) end
+
+pub returns-clause-numbers : goal.returns-clause-numbers
+returns-clause-numbers c =
+    let end : c.loop-r.r ≡ length c.args.instance.now.reviewers = omega (arith, c.loop-r-test.false, c.reviewer_count-reviewers.ensures.count) in
+    c.in_ok-numbers_below.ensures ∙ ap (range_with_len 0) (c.loop-r.invariant.seats ∙ ap (seats_before c.args.instance.now) end)

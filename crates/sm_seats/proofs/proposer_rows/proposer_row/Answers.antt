@@ -1,27 +1,28 @@
-use Rattle.std.proofs.Common.{◌≡◌, ℕ, ◌+◌, ◌-◌, ◌<◌, List, get_or, length, replicate, sym, ap, ◌∙◌, arith}
-use Rattle.std.specs.List.{flat_map, range_with_len}
+use Rattle.std.proofs.Common.{◌≡◌, ℕ, ◌+◌, ◌-◌, ◌<◌, List, get_or, length, take, drop, replicate, sym, ap, ◌∙◌, arith}
+use Rattle.std.specs.List.{flat_map}
+use Rattle.std.proofs.lemmas.List.FromFn.{length-range_with_len}
 use Rattle.sm_lists.specs.Rows.{place_on}
-use Rattle.sm_instance.specs.Written.{row, entry, place_of}
+use Rattle.sm_instance.specs.Written.{row, entry}
 use Rattle.sm_seats.specs.Mutual.{mutual_row}
 use Rattle.sm_seats.specs.SeatMarket.{seat_count, seats_before, seats_at}
-use Rattle.sm_seats.specs.Tables.{reviewers_before, crosses_at, levels_for, mutual_before}
+use Rattle.sm_seats.specs.Tables.{reviewers_before, crosses_at, mutual_before}
 use Rattle.sm_seats.proofs.CrossLemmas.{cross_read, crossed_at, not_crossed, back_more, back_same}
-use Rattle.sm_seats.proofs.TableLemmas.{seats_read, read_at, named_at, mutual_before_is}
+use Rattle.sm_seats.proofs.TableLemmas.{seats_read, seats_between, length-numbers, read_at, named_at, mutual_before_is}
 use Rattle.sm_seats.proofs.RowLemmas.{piece_pushed}
 use Rattle.sm_seats.proofs.proposer_rows.proposer_row.Goals as goal
 use Rattle.sm_seats.proofs.proposer_rows.proposer_row.Goals.{in-Some+in_ok-add_seats, in_default}
 
 pub bounds-firsts-r : goal.bounds-firsts-r
-bounds-firsts-r c = omega (arith, (read_at c.args.instance.now c.args.p c.loop-place.place c.proposer_len-place-end.ensures.instance c.requires.firsts c.proposer_list-list.ensures (omega (arith, c.loop-place-test.true))).inside)
+bounds-firsts-r c = omega (arith, (read_at c.args.instance.now c.args.p c.loop-place.place c.proposer_len-place-end.ensures.instance (c.as_slice-firsts.ensures.value ∙ c.requires.firsts) c.proposer_list-list.ensures (omega (arith, c.loop-place-test.true))).inside)
 
 pub bounds-firsts-r-in-Some : goal.bounds-firsts-r-in-Some
-bounds-firsts-r-in-Some c = (read_at c.args.instance.now c.args.p c.loop-place.place c.proposer_len-place-end.ensures.instance c.requires.firsts c.proposer_list-list.ensures (omega (arith, c.loop-place-test.true))).inside
+bounds-firsts-r-in-Some c = (read_at c.args.instance.now c.args.p c.loop-place.place c.proposer_len-place-end.ensures.instance (c.as_slice-firsts.ensures.value ∙ c.requires.firsts) c.proposer_list-list.ensures (omega (arith, c.loop-place-test.true))).inside
 
-pub mutual_place-requires-clause-in_range : goal.mutual_place-requires-clause-in_range
-mutual_place-requires-clause-in_range c = (named_at c.args.instance.now c.args.p c.loop-place.place c.proposer_len-place-end.ensures.instance c.proposer_list-list.ensures (omega (arith, c.loop-place-test.true))).1
+pub mutual_place-cross-requires-clause-in_range : goal.mutual_place-cross-requires-clause-in_range
+mutual_place-cross-requires-clause-in_range c = (named_at c.args.instance.now c.args.p c.loop-place.place c.proposer_len-place-end.ensures.instance c.proposer_list-list.ensures (omega (arith, c.loop-place-test.true))).1
 
-pub mutual_place-requires-clause-on_list : goal.mutual_place-requires-clause-on_list
-mutual_place-requires-clause-on_list c =
+pub mutual_place-cross-requires-clause-on_list : goal.mutual_place-cross-requires-clause-on_list
+mutual_place-cross-requires-clause-on_list c =
     let w = c.args.instance.now in
     let who = named_at c.args.instance.now c.args.p c.loop-place.place c.proposer_len-place-end.ensures.instance c.proposer_list-list.ensures (omega (arith, c.loop-place-test.true)) in
     let on : c.loop-place.place < length (row w.proposers c.args.p) = omega (arith, c.loop-place-test.true) in
@@ -29,10 +30,20 @@ mutual_place-requires-clause-on_list c =
     let named = ap (λ x. length (row w.reviewers x)) who.0 in
     omega (arith, named, it.back, it.mutual_.listed)
 
-pub add_seats-requires : goal.add_seats-requires
-add_seats-requires c =
-    let s = (read_at c.args.instance.now c.args.p c.loop-place.place c.proposer_len-place-end.ensures.instance c.requires.firsts c.proposer_list-list.ensures (omega (arith, c.loop-place-test.true))) in
+pub slice_bounds-add_seats-count : goal.slice_bounds-add_seats-count
+slice_bounds-add_seats-count c =
+    let s = (read_at c.args.instance.now c.args.p c.loop-place.place c.proposer_len-place-end.ensures.instance (c.as_slice-firsts.ensures.value ∙ c.requires.firsts) c.proposer_list-list.ensures (omega (arith, c.loop-place-test.true))) in
     omega (arith, s.first, s.next)
+
+pub slice_bounds-add_seats-start : goal.slice_bounds-add_seats-start
+slice_bounds-add_seats-start c =
+    let s = (read_at c.args.instance.now c.args.p c.loop-place.place c.proposer_len-place-end.ensures.instance (c.as_slice-firsts.ensures.value ∙ c.requires.firsts) c.proposer_list-list.ensures (omega (arith, c.loop-place-test.true))) in
+    omega (arith, s.first, s.next)
+
+pub slice_bounds-add_seats-end : goal.slice_bounds-add_seats-end
+slice_bounds-add_seats-end c =
+    let s = (read_at c.args.instance.now c.args.p c.loop-place.place c.proposer_len-place-end.ensures.instance (c.as_slice-firsts.ensures.value ∙ c.requires.firsts) c.proposer_list-list.ensures (omega (arith, c.loop-place-test.true))) in
+    omega (arith, s.within, length-numbers c.args.instance.now c.as_slice-numbers.result.now (c.as_slice-numbers.ensures.value ∙ c.requires.numbers))
 
 pub loop-place-preserved : goal.loop-place-preserved
 loop-place-preserved c =
@@ -50,23 +61,23 @@ loop-place-preserved c =
       | in-Some+in_ok-add_seats b ↦
           let it = crossed_at c.proposer_len-place-end.ensures.instance.proposer_entries on read b.in-Some.is in
           let more = back_more w.proposers w.reviewers p i on it.passes in
-          let s = seats_read w r c.requires.firsts who.1 in
-          let count : get_or c.args.firsts.now (r + 1) 0 - get_or c.args.firsts.now r 0 ≡ seat_count w x = s.count ∙ ap (seat_count w) who.0 in
-          let first : get_or c.args.firsts.now r 0 ≡ seats_before w x = s.first ∙ ap (seats_before w) who.0 in
-          let cross : b.mutual_place.result ≡ place_on (mutual_row w.reviewers w.proposers x) p =
-          b.mutual_place.ensures
+          let s = seats_read w r (c.as_slice-firsts.ensures.value ∙ c.requires.firsts) who.1 in
+          let from : ℕ = get_or c.as_slice-firsts.result.now r 0 in
+          let size : ℕ = get_or c.as_slice-firsts.result.now (r + 1) 0 - from in
+          let seats : take size (drop from c.as_slice-numbers.result.now) ≡ seats_at w x =
+          seats_between w c.as_slice-numbers.result.now r (c.as_slice-numbers.ensures.value ∙ c.requires.numbers) s ∙ ap (seats_at w) who.0 in
+          let count = length-range_with_len (seats_before w x) (seat_count w x) in
+          let cross : b.mutual_place-cross.result ≡ place_on (mutual_row w.reviewers w.proposers x) p =
+          b.mutual_place-cross.ensures
           ∙ ap (λ y. mutual_before w y b.in-Some.back) who.0 ∙ ap (mutual_before w x) (sym it.back) ∙ mutual_before_is w it.mutual_ in
-          let size : ℕ = get_or c.args.firsts.now (r + 1) 0 - get_or c.args.firsts.now r 0 in
           record {
-            list = rw b.row-is (piece_pushed (seats_at w) xs x _ _ _ before.list b.in_ok-add_seats.ensures.list (ap (λ n. range_with_len n size) first ∙ ap (range_with_len (seats_before w x)) count) ∙ ap (flat_map (seats_at w)) (sym more));
-            crosses = rw b.row-is (piece_pushed (crosses_at w p) xs x _ _ _ before.crosses b.in_ok-add_seats.ensures.crosses (ap (replicate size) cross ∙ ap (λ n. replicate n (place_on (mutual_row w.reviewers w.proposers x) p)) count) ∙ ap (flat_map (crosses_at w p)) (sym more));
-            levels = rw b.row-is (piece_pushed (levels_for w p) xs x _ _ _ before.levels b.in_ok-add_seats.ensures.levels (ap (λ n. replicate size (n + 1)) (sym it.place) ∙ ap (λ n. replicate n (place_of w.proposers p x + 1)) count) ∙ ap (flat_map (levels_for w p)) (sym more));
+            list = rw b.row-is (piece_pushed (seats_at w) xs x _ _ _ before.list b.in_ok-add_seats.ensures.list seats ∙ ap (flat_map (seats_at w)) (sym more));
+            crosses = rw b.row-is (piece_pushed (crosses_at w p) xs x _ _ _ before.crosses b.in_ok-add_seats.ensures.crosses (ap (λ (l : List ℕ). replicate (length l) b.mutual_place-cross.result) seats ∙ ap (λ n. replicate n b.mutual_place-cross.result) count ∙ ap (replicate (seat_count w x)) cross) ∙ ap (flat_map (crosses_at w p)) (sym more));
           }
       | in_default b ↦
           let same = back_same w.proposers w.reviewers p i on (not_crossed w.proposers w.reviewers p i read b.in_default.is) in
           record {
             list = rw b.row-is (before.list ∙ ap (flat_map (seats_at w)) (sym same));
             crosses = rw b.row-is (before.crosses ∙ ap (flat_map (crosses_at w p)) (sym same));
-            levels = rw b.row-is (before.levels ∙ ap (flat_map (levels_for w p)) (sym same));
           }
     ]

@@ -4,7 +4,7 @@ use Rattle.std.proofs.lemmas.List.{length-map}
 use Rattle.sm_lists.specs.Rows.{row as table_row}
 use Rattle.sm_instance.specs.Written.{row}
 use Rattle.sm_seats.specs.SeatMarket.{seat_row}
-use Rattle.sm_seats.specs.Tables.{seat_places_at, seats_listed, cross_row, level_row}
+use Rattle.sm_seats.specs.Tables.{seat_places_at, seats_listed, cross_row}
 use Rattle.sm_seats.proofs.TableLemmas.{seat_row_at, row_pushed}
 use Rattle.sm_seats.proofs.proposer_rows.proposer_rows.Goals as goal
 
@@ -31,5 +31,4 @@ loop-p-preserved c =
     record {
       lists = rw c.in_ok-push.ensures.items (row_pushed c.loop-p.lists.items row.list (seat_row w) p before.lists c.in_ok-row.ensures.list);
       crosses = rw c.in_ok-push-2.ensures.items (row_pushed c.loop-p.crosses.items row.crosses (cross_row w) p before.crosses c.in_ok-row.ensures.crosses);
-      levels = rw c.in_ok-push-3.ensures.items (row_pushed c.loop-p.levels.items row.levels (level_row w) p before.levels c.in_ok-row.ensures.levels);
     }

@@ -1,12 +1,12 @@
-use Rattle.std.proofs.Common.{◌≡◌, sym, ap, ◌∙◌}
+use Rattle.std.proofs.Common.{◌≡◌, ◌∙◌}
 use Rattle.sm_lists.specs.Rows.{rows_of}
 use Rattle.sm_seats.specs.SeatMarket.{seat_market}
-use Rattle.sm_seats.specs.Seating.{levels_of}
 use Rattle.sm_seats.proofs.CorrespondenceLaws.{sound_entries}
 use Rattle.sm_seats.proofs.LimitLaws.{market_within}
 use Rattle.sm_seats.proofs.MarketLaws.{is_market}
-use Rattle.sm_seats.proofs.CrossRows.{proposers_crossed, reviewers_crossed, levels_made, lists_made}
+use Rattle.sm_seats.proofs.CrossRows.{proposers_crossed, reviewers_crossed, lists_made}
 use Rattle.sm_seats.proofs.SeatingMade.{market_made, seating_made}
+use Rattle.sm_seats.proofs.KeptLemmas.{seating_kept}
 use Rattle.sm_seats.proofs.seats.seats_held.Goals as goal
 
 pub held-market-requires-clause-limits : goal.held-market-requires-clause-limits
@@ -33,7 +33,7 @@ pub invariant_of-result : goal.invariant_of-result
 invariant_of-result c =
     let w = c.args.instance.now in
     let market : c.held-market.result ≡ seat_market w = c.held-market.ensures.lists ∙ market_made w c.args.proposers.lists.items c.args.reviewers.lists.items c.requires.proposers c.requires.reviewers in
-    c.requires.levels ∙ levels_made (sound_entries c.requires.instance) ∙ ap levels_of (sym (seating_made w (rows_of c.in_ok-lists.lists.items) c.held-market.result c.args.reviewers.seats.items c.in_ok-lists.ensures market c.requires.seats))
+    rw (seating_made w (rows_of c.in_ok-lists.lists.items) c.held-market.result c.args.reviewers.seats.items c.in_ok-lists.ensures market c.requires.seats) (seating_kept c.requires.instance)
 
 pub returns : goal.returns
 returns c =

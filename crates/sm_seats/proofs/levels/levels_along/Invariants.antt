@@ -1,0 +1,10 @@
+use Rattle.std.proofs.Common.{◌≡◌, ℕ, ◌+◌, ◌<◌, ◌≤◌, length, map}
+use Rattle.std.specs.List.{range_with_len}
+use Rattle.sm_seats.specs.Along.{place_along}
+use Rattle.sm_seats.proofs.levels.levels_along.Given as goal
+
+abbrev pub invariant-loop-at : goal.invariant-loop-at
+invariant-loop-at l = record {
+  levels : l.levels.items ≡ map (λ i. place_along l.list l.row l.seats i + 1) (range_with_len 0 l.at);
+  place : (i : ℕ) → l.at ≤ i → i < length l.row → l.place ≤ place_along l.list l.row l.seats i;
+}

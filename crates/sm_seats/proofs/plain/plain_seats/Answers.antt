@@ -1,0 +1,29 @@
+use Rattle.std.proofs.Common.{ℕ, ◌<◌, ◌∷◌, [], List, Vec, length, sym, ap, ◌∙◌, arith}
+use Rattle.std.specs.List.{flat_map, range_with_len}
+use Rattle.std.specs.declared.alloc.Global.{Global}
+use Rattle.std.proofs.lemmas.List.{map_push}
+use Rattle.sm_lists.specs.Rows.{rows_of}
+use Rattle.sm_seats.specs.SeatMarket.{named_seats}
+use Rattle.sm_seats.specs.Tables.{lists_for, crosses_for}
+use Rattle.sm_seats.proofs.PieceLemmas.{range_more}
+use Rattle.sm_seats.proofs.RowLemmas.{piece_pushed}
+use Rattle.sm_seats.proofs.PlainLemmas.{named_is, lists_for_is, crosses_for_is}
+use Rattle.sm_seats.proofs.plain.plain_seats.Goals as goal
+
+pub loop-r-preserved : goal.loop-r-preserved
+loop-r-preserved c =
+    let w = c.args.instance.now in
+    let r = c.loop-r.r in
+    let before = c.loop-r.invariant in
+    let it = c.reviewer_count-reviewers.ensures.instance in
+    let there : r < length w.reviewers = omega (arith, c.loop-r-test.true, c.reviewer_count-reviewers.ensures.count) in
+    let all = sym (range_more 0 r r (omega arith)) in
+    record {
+      seats = piece_pushed (named_seats w) (range_with_len 0 r) r _ _ _ before.seats c.in_ok-push.ensures.items (sym (named_is it c.requires r there)) ∙ ap (flat_map (named_seats w)) all;
+      lists = piece_pushed (lists_for w) (range_with_len 0 r) r _ _ _ before.lists
+          (ap (λ v. rows_of v) c.in_ok-push-2.ensures.items ∙ map_push (λ (v : Vec ℕ Global). v.items) c.loop-r.lists.items c.in_ok-from_slice.field-0)
+          (ap (λ (l : List ℕ). l ∷ []) (c.in_ok-from_slice.ensures.items ∙ c.reviewer_list.ensures) ∙ sym (lists_for_is it c.requires r there)) ∙ ap (flat_map (lists_for w)) all;
+      crosses = piece_pushed (crosses_for w) (range_with_len 0 r) r _ _ _ before.crosses
+          (ap (λ v. rows_of v) c.in_ok-push-3.ensures.items ∙ map_push (λ (v : Vec ℕ Global). v.items) c.loop-r.crosses.items c.in_ok-places_of.field-0)
+          (ap (λ (l : List ℕ). l ∷ []) c.in_ok-places_of.ensures ∙ crosses_for_is it c.requires r there c.reviewer_crosses.result.now c.reviewer_crosses.ensures) ∙ ap (flat_map (crosses_for w)) all;
+    }

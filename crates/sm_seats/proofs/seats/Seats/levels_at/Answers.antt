@@ -1,0 +1,6 @@
+use Rattle.sm_seats.proofs.KeptLemmas.{along}
+use Rattle.sm_seats.proofs.seats.Seats.levels_at.Goals as goal
+
+pub levels_along-requires-clause-along : goal.levels_along-requires-clause-along
+levels_along-requires-clause-along c =
+    rw (c.list_at.ensures, c.deref.ensures.value, c.proposer_list.ensures.list, c.deref-2.ensures.value) (along c.self.invariant c.args.p)

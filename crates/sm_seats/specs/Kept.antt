@@ -1,0 +1,14 @@
+-- What is kept of a seating.
+use Rattle.std.specs.Prelude.{◌≡◌, ℕ, ◌<◌, ◌≤◌, ◌^◌, length}
+use Rattle.sm_market.specs.Lists.{row, entry}
+use Rattle.sm_seats.specs.Seating.{Seating, written_place}
+
+-- there is a written list for each proposer and a name for each seat, the written lists are short, and each list of seats
+-- has seats that are there, and goes along the written list
+pub record IsKept (s : Seating) : Type 0 where
+  pub lists : length s.lists ≡ length s.market.proposers
+  pub seats : length s.seats ≡ length s.market.reviewers
+  pub short : (p : ℕ) → length (row s.lists p) < 2 ^ 24
+  pub there : (p i : ℕ) → i < length (row s.market.proposers p) → entry s.market.proposers p i < length s.seats
+  pub listed : (p i : ℕ) → i < length (row s.market.proposers p) → written_place s p i < length (row s.lists p)
+  pub rises : (p i j : ℕ) → i ≤ j → j < length (row s.market.proposers p) → written_place s p i ≤ written_place s p j

@@ -1,0 +1,151 @@
+//! Instances in which each reviewer has one seat and no entry is inert, as most marriages: the seats have the written lists,
+//! and the cross places of the instance.
+
+ghost use Rattle.std.specs.Prelude.{◌≡◌, ℕ, ◌<◌, ◌≤◌, ◌↔◌, length, IfOk, IsTrue};
+ghost use Rattle.sm_lists.specs.Rows.{rows_of};
+ghost use Rattle.sm_text.specs.Limits.{most_agents};
+ghost use Rattle.sm_instance.specs.Written.{row};
+ghost use Rattle.sm_seats.specs.Mutual.{mutual_row};
+ghost use Rattle.sm_seats.specs.SeatMarket.{seats_of};
+ghost use Rattle.sm_seats.specs.Tables.{first_seats_of, acceptable_of};
+ghost use Rattle.sm_seats.specs.ProposerRows.{seat_rows_of, cross_rows_of};
+ghost use Rattle.sm_seats.specs.ReviewerRows.{seat_lists_before, seat_crosses_before};
+ghost use Rattle.sm_seats.specs.Plain.{HasOneSeat, IsPlain, places_in};
+
+use crate::counts::SeatCounts;
+use crate::proposer_rows::ProposerRows;
+use crate::reviewer_rows::ReviewerRows;
+use sm_instance::{Cross, Instance};
+use std::alloc::{AllocError, Global};
+
+/// Is the instance such a one? Takes time in proportion to the entries.
+pub(crate) fn is_plain(instance: &Instance, counts: &SeatCounts) -> bool
+    requires firsts { counts.now.firsts.items ≡ first_seats_of instance.now }
+    requires acceptable { counts.now.acceptable.items ≡ acceptable_of instance.now }
+    ensures { IsTrue result ↔ IsPlain instance.now }
+{
+    have_one_seat(instance, counts) && have_whole_lists(instance)
+}
+
+// Have all reviewers one seat and no inert entries?
+fn have_one_seat(instance: &Instance, counts: &SeatCounts) -> bool
+    requires firsts { counts.now.firsts.items ≡ first_seats_of instance.now }
+    requires acceptable { counts.now.acceptable.items ≡ acceptable_of instance.now }
+    ensures { IsTrue result ↔ ((r : ℕ) → r < length instance.now.reviewers → HasOneSeat instance.now r) }
+{
+    for r in 0..instance.reviewer_count() {
+        if !has_one_seat(instance, counts, r) {
+            return false;
+        }
+    }
+    true
+}
+
+// Has a reviewer one seat and no inert entries?
+fn has_one_seat(instance: &Instance, counts: &SeatCounts, r: u32) -> bool
+    requires in_range { r < length instance.now.reviewers }
+    requires firsts { counts.now.firsts.items ≡ first_seats_of instance.now }
+    requires acceptable { counts.now.acceptable.items ≡ acceptable_of instance.now }
+    ensures { IsTrue result ↔ HasOneSeat instance.now r }
+{
+    let firsts = counts.firsts.as_slice();
+    let acceptable = counts.acceptable.as_slice();
+    let count = firsts[r as usize + 1] - firsts[r as usize];
+    if count != 1 {
+        return false;
+    }
+    acceptable[r as usize] == instance.reviewer_len(r)
+}
+
+// Have all proposers no inert entries?
+fn have_whole_lists(instance: &Instance) -> bool
+    ensures { IsTrue result ↔ ((p : ℕ) → p < length instance.now.proposers
+        → mutual_row instance.now.proposers instance.now.reviewers p ≡ row instance.now.proposers p) }
+{
+    for p in 0..instance.proposer_count() {
+        if acceptable_count(instance, p) != instance.proposer_len(p) {
+            return false;
+        }
+    }
+    true
+}
+
+// How many reviewers are acceptable to a proposer.
+fn acceptable_count(instance: &Instance, p: u32) -> u32
+    requires { p < length instance.now.proposers }
+    ensures { result ≡ length (mutual_row instance.now.proposers instance.now.reviewers p) }
+{
+    let crosses = instance.proposer_crosses(p);
+    let mut count = 0;
+    for place in 0..instance.proposer_len(p) as usize {
+        if crosses[place].place().is_some() {
+            count += 1;
+        }
+    }
+    count
+}
+
+/// The lists of all proposers.
+pub(crate) fn plain_proposers(
+    alloc: Global,
+    instance: &Instance,
+) -> Result<ProposerRows, AllocError>
+    requires { IsPlain instance.now }
+    ensures lists { IfOk result
+        (λ rows. rows_of rows.lists.items ≡ seat_rows_of instance.now (length instance.now.proposers)) }
+    ensures crosses { IfOk result
+        (λ rows. rows_of rows.crosses.items ≡ cross_rows_of instance.now (length instance.now.proposers)) }
+{
+    let proposers = instance.proposer_count();
+    let mut lists = Vec::with_capacity(alloc, proposers as usize)?;
+    let mut crosses = Vec::with_capacity(alloc, proposers as usize)?;
+    for p in 0..proposers {
+        lists.push(Vec::from_slice(alloc, instance.proposer_list(p))?)?;
+        crosses.push(places_of(alloc, instance.proposer_crosses(p))?)?;
+    }
+    Ok(ProposerRows { lists, crosses })
+}
+
+/// The lists of all seats.
+pub(crate) fn plain_seats(alloc: Global, instance: &Instance) -> Result<ReviewerRows, AllocError>
+    requires { IsPlain instance.now }
+    ensures seats { IfOk result (λ rows. rows.seats.items ≡ seats_of instance.now) }
+    ensures lists { IfOk result
+        (λ rows. rows_of rows.lists.items ≡ seat_lists_before instance.now (length instance.now.reviewers)) }
+    ensures crosses { IfOk result
+        (λ rows. rows_of rows.crosses.items ≡ seat_crosses_before instance.now (length instance.now.reviewers)) }
+{
+    let reviewers = instance.reviewer_count();
+    let mut seats = Vec::with_capacity(alloc, reviewers as usize)?;
+    let mut lists = Vec::with_capacity(alloc, reviewers as usize)?;
+    let mut crosses = Vec::with_capacity(alloc, reviewers as usize)?;
+    for r in 0..reviewers {
+        seats.push((r, 1))?;
+        lists.push(Vec::from_slice(alloc, instance.reviewer_list(r))?)?;
+        crosses.push(places_of(alloc, instance.reviewer_crosses(r))?)?;
+    }
+    Ok(ReviewerRows {
+        seats,
+        lists,
+        crosses,
+    })
+}
+
+// The cross places of a list without inert entries.
+fn places_of(alloc: Global, crosses: &[Cross]) -> Result<Vec<u32>, AllocError>
+    ensures { IfOk result (λ places. places.items ≡ places_in crosses.now) }
+{
+    let mut places = vec![in alloc; 0; crosses.len()]?;
+    write_places(crosses, &mut places);
+    Ok(places)
+}
+
+// Writes these cross places, one after another.
+fn write_places(crosses: &[Cross], places: &mut [u32])
+    requires { length places.old ≡ length crosses.now }
+    ensures { places.new ≡ places_in crosses.now }
+{
+    for at in 0..crosses.len() {
+        places[at] = crosses[at].place().unwrap_or(0);
+    }
+}
