@@ -51,6 +51,20 @@ impl RoomMarket {
         ensures fault { IfErr result (λ f. IsFirstFault (rows_of lists.items) f) }
     {
         check_entries(alloc, &lists)?;
+        Ok(RoomMarket::held(alloc, lists)?)
+    }
+
+    /// Roommates of lists that are known to be sound. Nothing is tried. Takes time and memory in proportion to the persons
+    /// and entries.
+    ///
+    /// # Errors
+    ///
+    /// `AllocError` where memory ran out, and only then.
+    pub fn held(alloc: Global, lists: Vec<Vec<u32>>) -> Result<RoomMarket, AllocError>
+        requires limits { AreWithinLimits (rows_of lists.items) }
+        requires sound { AreRoomLists (rows_of lists.items) }
+        ensures { IfOk result (λ m. m ≡ rows_of lists.items) }
+    {
         let crosses = crosses_of(alloc, &lists)?;
         Ok(RoomMarket { lists, crosses })
     }

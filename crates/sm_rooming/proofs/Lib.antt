@@ -1,0 +1,4 @@
+pub mod PartyLemmas
+pub mod LineLemmas
+pub mod PersonLemmas
+pub mod WitnessLemmas

@@ -1,0 +1,5 @@
+pub mod Parties
+pub mod RoomAnswer
+pub mod Found
+pub mod Walking
+pub mod Witnesses
