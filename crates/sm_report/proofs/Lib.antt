@@ -1,3 +1,4 @@
 pub mod PutLemmas
 pub mod WitnessLemmas
 pub mod ItemLemmas
+pub mod VectorLemmas

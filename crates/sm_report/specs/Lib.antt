@@ -7,3 +7,4 @@ pub mod Putting
 pub mod Fields
 pub mod Witnesses
 pub mod Items
+pub mod Vectors

@@ -12,8 +12,10 @@ mod items;
 mod lines;
 mod printing;
 mod reasons;
+mod vectors;
 pub mod witnesses;
 
 pub use heads::Head;
 pub use lines::{Line, Seat};
 pub use printing::{put_line, put_text};
+pub use vectors::vector;

@@ -4,3 +4,4 @@ pub mod StopLemmas
 pub mod RefusingLemmas
 pub mod RunLemmas
 pub mod SeatLemmas
+pub mod KindLemmas

@@ -9,7 +9,8 @@ use Rattle.sm_answer.specs.Printing.{IsShown}
 use Rattle.sm_text.specs.declared.refusal.RefusalKind.TheVariants.{TooLong}
 use Rattle.sm_instance.specs.Written.{Written}
 use Rattle.sm_instance.specs.declared.inputs.Input.{Input}
-use Rattle.sm_instance.specs.declared.inputs.Input.TheVariants.{Two}
+use Rattle.sm_instance.specs.declared.inputs.Input.TheVariants.{Two, Room}
+use Rattle.sm_instance.specs.declared.kinds.Side.{Side}
 use Rattle.sm_reader.specs.InstanceText.{ReadText, instance_text}
 use Rattle.sm_report.specs.Lines.{LineData}
 use Rattle.sm_words.specs.Jobs.{JobData, Solve, Reduced, Rotations}
@@ -21,7 +22,7 @@ use Rattle.sm_top.specs.declared.stop.Stop.TheVariants as stop
 use Rattle.sm_top.specs.Texts.{RefusalData, plain, usage_line, refused_line}
 use Rattle.sm_top.specs.Stops.{StopsBy}
 use Rattle.sm_top.specs.Accepting.{accepted, behind_text}
-use Rattle.sm_top.specs.Outcome.{OfTwo, IsAnswerOver, IsAnswer, IsRefused, Outcome, not_accepted, faulty_words, refused, answered}
+use Rattle.sm_top.specs.Outcome.{OfTwo, IsSolved, IsAnswerOver, IsAnswer, IsRefused, Outcome, not_accepted, faulty_words, refused, answered}
 use Rattle.sm_top.specs.Input.{IsReadWhole, ReadWhole, IsTooLong}
 use Rattle.sm_top.specs.Running.{IsBeingRead, Ends, Answers, AnswersAccepted, reads, asks_to_read, is_whole, is_answer, is_too_long}
 use Rattle.sm_top.specs.Steps.{IsRefusalFor, IsRefusal, IsReadFault, Serves, ServesWords, SaysStop}
@@ -149,10 +150,16 @@ agrees_of (Some bytes) = refl
 -- What a run promises.
 
 -- the status of a right answer is one of an answer
+solved_status : (side : Option Side) (input : Input) (status : Status) (answer : List LineData) → IsSolved side input status answer → is_answer status ≡ true
+solved_status side (Two w) status answer h = ap is_answer h.0
+solved_status side (Room persons) status answer (inl h) = ap is_answer h.0
+solved_status side (Room persons) status answer (inr h) = ap is_answer h.0
+
 answer_status : (job : JobData) (bytes : List ℕ) (status : Status) (lines : List (List ℕ)) → IsAnswer job bytes status lines → is_answer status ≡ true
-answer_status (Solve side) bytes status lines h = ap is_answer h.0
+answer_status (Solve side) bytes status lines h = solved_status side h.read.input status h.shown.answer h.shown.is_right
 answer_status Reduced bytes status lines h = ap is_answer h.0
 answer_status Rotations bytes status lines h = ap is_answer h.0
+answer_status (JobData.List after limit) bytes status lines h = ap is_answer h.0
 
 answer_whole : (status : Status) → is_answer status ≡ true → is_whole status ≡ true
 answer_whole (Refused kind at) h = refl

@@ -9,10 +9,8 @@ use Rattle.sm_instance.specs.Written.{AgentData, Written, no_agent, agent_at}
 use Rattle.sm_instance.specs.declared.inputs.Input.TheVariants.{Two}
 use Rattle.sm_seats.specs.SeatEntries.{IsFirstTooMany}
 use Rattle.sm_seats.proofs.LimitLaws.{first_is}
-use Rattle.sm_reader.specs.InstanceText.{ReadText, Refusal}
-use Rattle.sm_words.specs.Jobs.{JobData}
-use Rattle.sm_top.specs.Texts.{RefusalData, plain}
-use Rattle.sm_top.specs.Accepting.{too_many_seats, IsTooMany, first_refusal, accepted, IsUnaccepted}
+use Rattle.sm_top.specs.Texts.{plain}
+use Rattle.sm_top.specs.Accepting.{IsTooMany}
 
 -- the first reviewer with too many seats, and the line at which it stands
 pub too_many_at : (w : Written) (r line : ℕ) → IsFirstTooMany w r → line ≡ (agent_at w.reviewers r).line → IsTooMany (Two w) (plain TooManySeats line)
@@ -21,16 +19,6 @@ too_many_at w r line first at = record {
   at = line;
   because = ap (option_map (λ r. (TooManySeats, (agent_at w.reviewers r).line))) (first_is first) ∙ ap (λ n. Some (TooManySeats, n)) (sym at);
   says = refl;
-}
-
--- an input is refused for its seats where nothing was refused before
-pub refused_for_seats : (job : JobData) (bytes : List ℕ) (read : ReadText) (refusal : RefusalData) → accepted job bytes ≡ first_refusal (too_many_seats read ∷ []) read → IsTooMany read.input refusal
-    → IsUnaccepted job bytes refusal
-refused_for_seats job bytes read refusal before too = record {
-  kind = too.kind;
-  at = too.at;
-  because = before ∙ ap (λ (o : Option Refusal). first_refusal (o ∷ []) read) too.because;
-  says = too.says;
 }
 
 -- the line of an agent is read from its value

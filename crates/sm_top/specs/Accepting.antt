@@ -4,7 +4,7 @@ use Rattle.std.specs.Option.{option_map}
 use Rattle.sm_text.specs.Lines.{lines, content}
 use Rattle.sm_text.specs.Tokens.{tokens}
 use Rattle.sm_text.specs.declared.refusal.RefusalKind.{RefusalKind}
-use Rattle.sm_text.specs.declared.refusal.RefusalKind.TheVariants.{AfterEnd, TooManySeats, WrongKind, NotBuilt}
+use Rattle.sm_text.specs.declared.refusal.RefusalKind.TheVariants.{AfterEnd, TooManySeats, WrongKind}
 use Rattle.sm_instance.specs.Written.{agent_at}
 use Rattle.sm_instance.specs.Inputs.{kind_of}
 use Rattle.sm_instance.specs.declared.inputs.Input.{Input}
@@ -23,6 +23,7 @@ abbrev pub takes_text : JobData → Bool
 takes_text (Solve side) = false
 takes_text Reduced = false
 takes_text Rotations = false
+takes_text (JobData.List after limit) = false
 
 -- a kind: `solve` takes all where it names no side, and the others those with two sides
 abbrev pub is_two_sided : Kind → Bool
@@ -35,12 +36,7 @@ takes_kind (Solve None) kind = true
 takes_kind (Solve (Some side)) kind = is_two_sided kind
 takes_kind Reduced kind = is_two_sided kind
 takes_kind Rotations kind = is_two_sided kind
-
--- the kinds that are taken yet
-abbrev pub is_built : Kind → Bool
-is_built Marriage = true
-is_built Hospitals = true
-is_built Roommates = false
+takes_kind (JobData.List after limit) kind = is_two_sided kind
 
 -- The order of refusals.
 
@@ -61,10 +57,6 @@ first_saying number (line ∷ rest) = if says_something line then Some number el
 abbrev pub after_end : JobData → List ℕ → ReadText → Option Refusal
 after_end job bytes read =
     if takes_text job then None else option_map (λ line. (AfterEnd, line)) (first_saying read.rest_line (lines (drop read.rest bytes)))
-
--- the kind isn't taken yet
-abbrev pub not_built : ReadText → Option Refusal
-not_built read = if is_built (kind_of read.input) then None else Some (NotBuilt, read.header_line)
 
 -- the job doesn't take the kind
 abbrev pub wrong_kind : JobData → ReadText → Option Refusal
@@ -91,11 +83,15 @@ first_refusal [] read = Ok read
 first_refusal (None ∷ more) read = first_refusal more read
 first_refusal (Some refusal ∷ more) read = Err refusal
 
+-- what is judged of an input that was read: its kind, then its seats
+abbrev pub judged : JobData → ReadText → Result ReadText Refusal
+judged job read = first_refusal (wrong_kind job read ∷ too_many_seats read ∷ []) read
+
 -- What is read from an input for a job, or why it is refused and at which line. An input that is too long comes first, then
 -- the faults of its lines, a missing `end` and names that aren't declared; then these.
 abbrev pub behind_text : JobData → List ℕ → Result ReadText Refusal → Result ReadText Refusal
 behind_text job bytes (Err refusal) = Err refusal
-behind_text job bytes (Ok read) = first_refusal (after_end job bytes read ∷ not_built read ∷ wrong_kind job read ∷ too_many_seats read ∷ []) read
+behind_text job bytes (Ok read) = first_refusal (after_end job bytes read ∷ wrong_kind job read ∷ too_many_seats read ∷ []) read
 
 abbrev pub accepted : JobData → List ℕ → Result ReadText Refusal
 accepted job bytes = behind_text job bytes (instance_text bytes)

@@ -1,26 +1,35 @@
 -- What may come of words and an input: the status and the lines that are written. This is what the program promises.
-use Rattle.std.specs.Prelude.{◌≡◌, ℕ, List, [], ◌∷◌, unwrap_or, Ok, Err}
+use Rattle.std.specs.Prelude.{◌≡◌, ℕ, List, [], ◌∷◌, ◌⊎◌, length, Option, unwrap_or, Ok, Err}
 use Rattle.sm_answer.specs.Printing.{IsShown}
 use Rattle.sm_instance.specs.Written.{Written}
 use Rattle.sm_instance.specs.declared.inputs.Input.{Input}
 use Rattle.sm_instance.specs.declared.inputs.Input.TheVariants.{Two, Room}
+use Rattle.sm_instance.specs.declared.kinds.Side.{Side}
 use Rattle.sm_instance.specs.declared.kinds.Side.TheVariants.{Proposers}
 use Rattle.sm_reader.specs.InstanceText.{ReadText}
 use Rattle.sm_report.specs.Lines.{LineData}
+use Rattle.sm_text.specs.declared.refusal.RefusalKind.TheVariants.{BadCursor}
 use Rattle.sm_words.specs.Jobs.{JobData, Solve, Reduced, Rotations}
 use Rattle.sm_words.specs.Words.{words_meaning}
 use Rattle.sm_top.specs.declared.status.Status.{Status}
-use Rattle.sm_top.specs.declared.status.Status.TheVariants.{Done, Refused, Usage}
-use Rattle.sm_top.specs.Texts.{RefusalData, usage_line, refused_line}
+use Rattle.sm_top.specs.declared.status.Status.TheVariants.{Done, Refused, Usage, NoneExists}
+use Rattle.sm_top.specs.Texts.{RefusalData, plain, usage_line, refused_line}
 use Rattle.sm_top.specs.Accepting.{accepted, IsUnaccepted}
 use Rattle.sm_shown.specs.Answers.{IsSolution}
 use Rattle.sm_shown.specs.Reduction.{IsReduction}
 use Rattle.sm_shown.specs.RotationAnswer.{IsRotationAnswer}
+use Rattle.sm_listing.specs.ListAnswer.{IsCursor, IsListAnswer}
+use Rattle.sm_rooming.specs.RoomAnswer.{IsMatched, IsUnmatchable}
 
 -- a right answer for an instance with two sides
 abbrev pub OfTwo : (Written → List LineData → Type 0) → Input → List LineData → Type 0
 OfTwo right (Two w) answer = right w answer
 OfTwo right (Room persons) answer = ⊥
+
+-- a right answer to `solve`, with its status: for roommates a stable matching, or `none` where there is none
+abbrev pub IsSolved : Option Side → Input → Status → List LineData → Type 0
+IsSolved side (Two w) status answer = (status ≡ Done) × IsSolution (unwrap_or side Proposers) w answer
+IsSolved side (Room persons) status answer = ((status ≡ Done) × IsMatched persons answer) ⊎ ((status ≡ NoneExists) × IsUnmatchable persons answer)
 
 -- an input was accepted for a job, and the lines are those of a right answer
 pub record IsAnswerOver (job : JobData) (bytes : List ℕ) (right : ReadText → List LineData → Type 0) (lines : List (List ℕ)) : Type 0 where
@@ -30,16 +39,23 @@ pub record IsAnswerOver (job : JobData) (bytes : List ℕ) (right : ReadText →
 
 -- the right answers to a job, and the status that goes with them
 abbrev pub IsAnswer : JobData → List ℕ → Status → List (List ℕ) → Type 0
-IsAnswer (Solve side) bytes status lines =
-    (status ≡ Done) × IsAnswerOver (Solve side) bytes (λ read. OfTwo (IsSolution (unwrap_or side Proposers)) read.input) lines
+IsAnswer (Solve side) bytes status lines = IsAnswerOver (Solve side) bytes (λ read. IsSolved side read.input status) lines
 IsAnswer Reduced bytes status lines = (status ≡ Done) × IsAnswerOver Reduced bytes (λ read. OfTwo IsReduction read.input) lines
 IsAnswer Rotations bytes status lines = (status ≡ Done) × IsAnswerOver Rotations bytes (λ read. OfTwo IsRotationAnswer read.input) lines
+IsAnswer (JobData.List after limit) bytes status lines =
+    (status ≡ Done) × IsAnswerOver (JobData.List after limit) bytes (λ read. OfTwo (IsListAnswer after limit) read.input) lines
+
+-- a cursor that hasn't an item for each proposer is refused, at no line
+abbrev pub IsBadCursor : Option (List ℕ) → Input → RefusalData → Type 0
+IsBadCursor after (Two w) refusal = (¬ IsCursor (length w.proposers) after) × (refusal ≡ plain BadCursor 0)
+IsBadCursor after (Room persons) refusal = ⊥
 
 -- a job's own refusals of an input that is accepted for it
 abbrev pub IsOwnRefusal : JobData → List ℕ → ReadText → RefusalData → Type 0
 IsOwnRefusal (Solve side) bytes read refusal = ⊥
 IsOwnRefusal Reduced bytes read refusal = ⊥
 IsOwnRefusal Rotations bytes read refusal = ⊥
+IsOwnRefusal (JobData.List after limit) bytes read refusal = IsBadCursor after read.input refusal
 
 -- an input is refused
 pub data IsRefused (job : JobData) (bytes : List ℕ) (refusal : RefusalData) : Type 0 where

@@ -1,120 +1,258 @@
 //! Doing a job: an arm for each command, which makes its answer and writes it.
 
-ghost use Rattle.std.specs.Prelude.{◌≡◌, ◌≤◌, Ok, IfOk, IfErr, OnErr, unwrap_or};
+ghost use Rattle.std.specs.Prelude.{◌≡◌, ◌≤◌, ◌↔◌, Ok, None, IfOk, IfErr, OnOk, OnErr, IsTrue, unwrap_or, length};
 ghost use Rattle.sm_answer.specs.Printing.{IsShown};
-ghost use Rattle.sm_instance.specs.declared.inputs.Input.TheVariants.{Two};
+ghost use Rattle.sm_instance.specs.Sound.{IsInstance};
+ghost use Rattle.sm_instance.specs.declared.inputs.Input.TheVariants.{Two, Room};
 ghost use Rattle.sm_reader.specs.InstanceText.{read_of};
-ghost use Rattle.sm_words.specs.Jobs.{job_of};
-ghost use Rattle.sm_top.specs.Accepting.{accepted};
-ghost use Rattle.sm_top.specs.Seated.{IsSeated, AreSeatsOf};
+ghost use Rattle.sm_words.specs.Jobs.{job_of, IsInBounds, IsLimit};
+ghost use Rattle.sm_top.specs.Accepting.{judged, accepted, too_many_in, IsTooMany};
+ghost use Rattle.sm_top.specs.Seated.{IsSeated};
 ghost use Rattle.sm_shown.specs.Answers.{IsSolution};
-ghost use Rattle.sm_top.specs.Outcome.{IsAnswer, IsOwnRefusal};
+ghost use Rattle.sm_listing.specs.ListAnswer.{IsCursor, IsListAnswer};
+ghost use Rattle.sm_listing.specs.Started.{cursor_in};
+ghost use Rattle.sm_top.specs.Outcome.{IsSolved, IsAnswer, IsBadCursor, IsOwnRefusal, IsRefused};
 ghost use Rattle.sm_shown.specs.Reduction.{IsReduction};
 ghost use Rattle.sm_shown.specs.RotationAnswer.{IsRotationAnswer};
 ghost use Rattle.sm_top.specs.Stops.{StopsBy};
 ghost use Rattle.sm_top.specs.Wrote.{Wrote, With};
 
-use crate::refusing::Accepted;
+use crate::refusing::seats_of;
 use crate::status::Status;
 use crate::stop::Stop;
 use crate::writing::write;
-use sm_instance::{Input, Instance, Side};
+use sm_instance::{Input, Instance, Persons, Side};
 use sm_io::Sink;
+use sm_listing::{list_lines, start_list};
+use sm_reader::Read;
+use sm_rooming::{RoomSolution, couple_lines, find_roommates, party_lines};
 use sm_seats::Seats;
 use sm_shown::{
     find_reduction, find_rotations, find_solution, reduction_lines, rotation_answer_lines,
     solution_lines,
 };
+use sm_text::RefusalKind;
 use sm_words::Job;
 use std::alloc::{AllocError, Global};
 
-/// Does a job on an input that is accepted for it.
+/// An instance with two sides that was read, and its seats.
+#[derive(Drop)]
+struct Seated<'a> {
+    read: &'a Read,
+    instance: &'a Instance,
+    seats: Seats,
+}
+
+/// Does a job on an input that was read for it, where its kind and its seats aren't refused.
 pub(crate) fn perform<K: Sink>(
     alloc: Global,
     job: &Job,
     bytes: &[u8],
-    given: &Accepted,
+    read: &Read,
     sink: &mut K,
 ) -> Result<Status, Stop>
-    requires accepted { accepted (job_of job.now) bytes.now ≡ Ok (read_of given.now.read) }
-    requires seats { IsSeated given.now.read.input given.now.seats }
+    requires accepted { accepted (job_of job.now) bytes.now ≡ judged (job_of job.now) (read_of read.now) }
+    requires bounds { IsInBounds (job_of job.now) }
     ensures wrote { IfOk result (λ status. Wrote (IsAnswer (job_of job.now) bytes.now)
         (K.held sink.old) (K.held sink.new) (K.faults sink.old) (K.faults sink.new) status) }
-    ensures stop { IfErr result (λ stop.
-        StopsBy (λ _. ⊥) (IsOwnRefusal (job_of job.now) bytes.now (read_of given.now.read)) ⊥ stop) }
+    ensures stop { IfErr result (λ stop. StopsBy (λ _. ⊥) (IsRefused (job_of job.now) bytes.now) ⊥ stop) }
     ensures unwritten { OnErr result (sink.new ≡ sink.old) }
     ensures later { K.faults sink.old ≤ K.faults sink.new }
 {
-    let input = &given.read.input;
-    let seats = &given.seats;
-    match input {
-        Input::Two(instance) => match job {
-            Job::Solve(side) => Ok(solve(alloc, input, instance, seats, *side, sink)?),
-            Job::Reduced => Ok(reduce(alloc, input, instance, seats, sink)?),
-            Job::Rotations => Ok(show_rotations(alloc, input, instance, seats, sink)?),
-        },
-        Input::Room(_) => unreachable!(),
+    match &read.input {
+        Input::Two(instance) => {
+            let given = with_seats(alloc, read, instance)?;
+            perform_on_seats(alloc, job, bytes, &given, sink)
+        }
+        Input::Room(persons) => perform_on_persons(alloc, job, bytes, read, persons, sink),
     }
 }
 
-// Does `solve`.
+// An instance with its seats, where they aren't too many.
+fn with_seats<'a>(alloc: Global, read: &'a Read, instance: &'a Instance) -> Result<Seated<'a>, Stop>
+    requires { read.now.input ≡ Two instance.now }
+    ensures instance { IsInstance instance.now }
+    ensures read { IfOk result (λ given. given.read.now ≡ read.now) }
+    ensures seated { IfOk result (λ given. IsSeated read.now.input given.instance.now given.seats) }
+    ensures few { OnOk result (too_many_in read.now.input ≡ None) }
+    ensures stop { IfErr result (λ stop. StopsBy (λ _. ⊥) (IsTooMany read.now.input) ⊥ stop) }
+{
+    let _count = instance.proposer_count();
+    let seats = seats_of(alloc, instance)?;
+    Ok(Seated {
+        read,
+        instance,
+        seats,
+    })
+}
+
+// Does a job on an instance with two sides.
+fn perform_on_seats<K: Sink>(
+    alloc: Global,
+    job: &Job,
+    bytes: &[u8],
+    given: &Seated<'_>,
+    sink: &mut K,
+) -> Result<Status, Stop>
+    requires accepted { accepted (job_of job.now) bytes.now ≡ Ok (read_of given.now.read.now) }
+    requires seated { IsSeated given.now.read.now.input given.now.instance.now given.now.seats }
+    requires bounds { IsInBounds (job_of job.now) }
+    ensures wrote { IfOk result (λ status. Wrote (IsAnswer (job_of job.now) bytes.now)
+        (K.held sink.old) (K.held sink.new) (K.faults sink.old) (K.faults sink.new) status) }
+    ensures stop { IfErr result (λ stop.
+        StopsBy (λ _. ⊥) (IsOwnRefusal (job_of job.now) bytes.now (read_of given.now.read.now)) ⊥ stop) }
+    ensures unwritten { OnErr result (sink.new ≡ sink.old) }
+    ensures later { K.faults sink.old ≤ K.faults sink.new }
+{
+    match job {
+        Job::Solve(side) => Ok(solve(alloc, given, *side, sink)?),
+        Job::Reduced => Ok(reduce(alloc, given, sink)?),
+        Job::Rotations => Ok(show_rotations(alloc, given, sink)?),
+        Job::List(after, limit) => list(alloc, given, after, *limit, sink),
+    }
+}
+
+// Does a job on roommates, where it takes them.
+fn perform_on_persons<K: Sink>(
+    alloc: Global,
+    job: &Job,
+    bytes: &[u8],
+    read: &Read,
+    persons: &Persons,
+    sink: &mut K,
+) -> Result<Status, Stop>
+    requires room { read.now.input ≡ Room persons.now }
+    requires judged { accepted (job_of job.now) bytes.now ≡ judged (job_of job.now) (read_of read.now) }
+    ensures wrote { IfOk result (λ status. Wrote (IsAnswer (job_of job.now) bytes.now)
+        (K.held sink.old) (K.held sink.new) (K.faults sink.old) (K.faults sink.new) status) }
+    ensures stop { IfErr result (λ stop. StopsBy (λ _. ⊥) (IsRefused (job_of job.now) bytes.now) ⊥ stop) }
+    ensures unwritten { OnErr result (sink.new ≡ sink.old) }
+    ensures later { K.faults sink.old ≤ K.faults sink.new }
+{
+    let _ = bytes;
+    match job {
+        Job::Solve(None) => Ok(solve_roommates(alloc, &read.input, persons, sink)?),
+        Job::Solve(Some(_)) | Job::Reduced | Job::Rotations | Job::List(_, _) => {
+            Err(Stop::Refused(RefusalKind::WrongKind, read.header_line))
+        }
+    }
+}
+
+// Does `solve` on an instance with two sides.
 fn solve<K: Sink>(
     alloc: Global,
-    input: &Input,
-    instance: &Instance,
-    seats: &Seats,
+    given: &Seated<'_>,
     side: Option<Side>,
     sink: &mut K,
 ) -> Result<Status, AllocError>
-    requires input { input.now ≡ Two instance.now }
-    requires seats { AreSeatsOf instance.now seats.now }
+    requires { IsSeated given.now.read.now.input given.now.instance.now given.now.seats }
     ensures wrote { IfOk result (λ status. Wrote
-        (With Status.Done (IsShown input.now (IsSolution (unwrap_or side Side.Proposers) instance.now)))
+        (With Status.Done (IsShown given.now.read.now.input (IsSolution (unwrap_or side Side.Proposers) given.now.instance.now)))
         (K.held sink.old) (K.held sink.new) (K.faults sink.old) (K.faults sink.new) status) }
     ensures unwritten { OnErr result (sink.new ≡ sink.old) }
     ensures later { K.faults sink.old ≤ K.faults sink.new }
 {
-    let solution = find_solution(alloc, seats, side)?;
-    let lines = solution_lines(input, instance, seats, &solution);
+    let solution = find_solution(alloc, &given.seats, side)?;
+    let lines = solution_lines(&given.read.input, given.instance, &given.seats, &solution);
     Ok(write(alloc, sink, Status::Done, lines))
 }
 
-// Does `reduced`.
-fn reduce<K: Sink>(
+// Does `solve` on roommates.
+fn solve_roommates<K: Sink>(
     alloc: Global,
     input: &Input,
-    instance: &Instance,
-    seats: &Seats,
+    persons: &Persons,
     sink: &mut K,
 ) -> Result<Status, AllocError>
-    requires input { input.now ≡ Two instance.now }
-    requires seats { AreSeatsOf instance.now seats.now }
-    ensures wrote { IfOk result (λ status. Wrote (With Status.Done (IsShown input.now (IsReduction instance.now)))
+    requires { input.now ≡ Room persons.now }
+    ensures wrote { IfOk result (λ status. Wrote (λ status. IsShown input.now (IsSolved None input.now status))
         (K.held sink.old) (K.held sink.new) (K.faults sink.old) (K.faults sink.new) status) }
     ensures unwritten { OnErr result (sink.new ≡ sink.old) }
     ensures later { K.faults sink.old ≤ K.faults sink.new }
 {
-    let reduction = find_reduction(alloc, seats)?;
-    let lines = reduction_lines(input, instance, seats, &reduction);
+    match find_roommates(alloc, persons)? {
+        RoomSolution::Matching(mates) => {
+            let lines = couple_lines(input, persons, &mates);
+            Ok(write(alloc, sink, Status::Done, lines))
+        }
+        RoomSolution::Parties(parties) => {
+            let lines = party_lines(input, persons, &parties);
+            Ok(write(alloc, sink, Status::NoneExists, lines))
+        }
+    }
+}
+
+// Does `reduced`.
+fn reduce<K: Sink>(alloc: Global, given: &Seated<'_>, sink: &mut K) -> Result<Status, AllocError>
+    requires { IsSeated given.now.read.now.input given.now.instance.now given.now.seats }
+    ensures wrote { IfOk result (λ status. Wrote
+        (With Status.Done (IsShown given.now.read.now.input (IsReduction given.now.instance.now)))
+        (K.held sink.old) (K.held sink.new) (K.faults sink.old) (K.faults sink.new) status) }
+    ensures unwritten { OnErr result (sink.new ≡ sink.old) }
+    ensures later { K.faults sink.old ≤ K.faults sink.new }
+{
+    let reduction = find_reduction(alloc, &given.seats)?;
+    let lines = reduction_lines(&given.read.input, given.instance, &given.seats, &reduction);
     Ok(write(alloc, sink, Status::Done, lines))
 }
 
 // Does `rotations`.
 fn show_rotations<K: Sink>(
     alloc: Global,
-    input: &Input,
-    instance: &Instance,
-    seats: &Seats,
+    given: &Seated<'_>,
     sink: &mut K,
 ) -> Result<Status, AllocError>
-    requires input { input.now ≡ Two instance.now }
-    requires seats { AreSeatsOf instance.now seats.now }
-    ensures wrote { IfOk result (λ status. Wrote (With Status.Done (IsShown input.now (IsRotationAnswer instance.now)))
+    requires { IsSeated given.now.read.now.input given.now.instance.now given.now.seats }
+    ensures wrote { IfOk result (λ status. Wrote
+        (With Status.Done (IsShown given.now.read.now.input (IsRotationAnswer given.now.instance.now)))
         (K.held sink.old) (K.held sink.new) (K.faults sink.old) (K.faults sink.new) status) }
     ensures unwritten { OnErr result (sink.new ≡ sink.old) }
     ensures later { K.faults sink.old ≤ K.faults sink.new }
 {
-    let answer = find_rotations(alloc, seats)?;
-    let lines = rotation_answer_lines(input, instance, seats, &answer);
+    let answer = find_rotations(alloc, &given.seats)?;
+    let lines = rotation_answer_lines(&given.read.input, given.instance, &given.seats, &answer);
     Ok(write(alloc, sink, Status::Done, lines))
+}
+
+// Does `list`.
+fn list<K: Sink>(
+    alloc: Global,
+    given: &Seated<'_>,
+    after: &Option<Vec<u32>>,
+    limit: u32,
+    sink: &mut K,
+) -> Result<Status, Stop>
+    requires seated { IsSeated given.now.read.now.input given.now.instance.now given.now.seats }
+    requires limit { IsLimit limit }
+    ensures wrote { IfOk result (λ status. Wrote
+        (With Status.Done (IsShown given.now.read.now.input (IsListAnswer (cursor_in after.now) limit given.now.instance.now)))
+        (K.held sink.old) (K.held sink.new) (K.faults sink.old) (K.faults sink.new) status) }
+    ensures stop { IfErr result (λ stop.
+        StopsBy (λ _. ⊥) (IsBadCursor (cursor_in after.now) (Two given.now.instance.now)) ⊥ stop) }
+    ensures unwritten { OnErr result (sink.new ≡ sink.old) }
+    ensures later { K.faults sink.old ≤ K.faults sink.new }
+{
+    if !is_cursor(given.instance, after) {
+        return Err(Stop::Refused(RefusalKind::BadCursor, 0));
+    }
+    let lister = start_list(alloc, given.instance, &given.seats, after)?;
+    let lines = list_lines(
+        alloc,
+        &given.read.input,
+        given.instance,
+        lister,
+        after,
+        limit,
+    )?;
+    Ok(write(alloc, sink, Status::Done, lines))
+}
+
+// Has a cursor an item for each proposer, where there is one?
+fn is_cursor(instance: &Instance, after: &Option<Vec<u32>>) -> bool
+    ensures { IsTrue result ↔ IsCursor (length instance.now.proposers) (cursor_in after.now) }
+{
+    match after {
+        Some(vector) => vector.len() == instance.proposer_count() as usize,
+        None => true,
+    }
 }

@@ -4,7 +4,7 @@ ghost use Rattle.std.specs.Prelude.{◌≡◌, ◌≤◌, ◌≢◌, Ok, Err, If
 ghost use Rattle.sm_text.specs.Limits.{most_bytes};
 ghost use Rattle.sm_io.specs.Faults.{Rose};
 ghost use Rattle.sm_reader.specs.InstanceText.{read_of};
-ghost use Rattle.sm_words.specs.Jobs.{job_of};
+ghost use Rattle.sm_words.specs.Jobs.{job_of, IsInBounds};
 ghost use Rattle.sm_words.specs.Words.{texts, words_meaning};
 ghost use Rattle.sm_top.specs.Outcome.{IsAnswer, IsRefused};
 ghost use Rattle.sm_top.specs.Running.{reads, Answers, AnswersAccepted};
@@ -14,7 +14,7 @@ ghost use Rattle.sm_top.specs.Wrote.{Wrote};
 
 use crate::input::read_all;
 use crate::performing::perform;
-use crate::refusing::accept;
+use crate::refusing::read_for;
 use crate::status::Status;
 use crate::stop::{RefusedLine, Stop, UsageLine};
 use crate::writing::write;
@@ -29,22 +29,26 @@ use std::alloc::Global;
 /// one put.
 ///
 /// - `Done`: the whole answer is written. For `solve` it is the pairs of the stable matching in which every agent of a
-///   side has the best partner that it has in any stable matching (Gale and Shapley 1962), in the order of the text; for
-///   `reduced` the partners in both such matchings and the lists in which all stable pairs lie (Gusfield and Irving 1989,
+///   side has the best partner that it has in any stable matching (Gale and Shapley 1962), in the order of the text, and for
+///   roommates those of a stable matching; for `reduced` the partners in both such matchings and the lists in which all stable pairs lie (Gusfield and Irving 1989,
 ///   section 1.2.4); for `rotations` the proposers' partners in the first of them, the rotations that lead from it to the
 ///   last, and what each needs, so that the stable matchings are those of the closed sets that the lines show (Gusfield and
 ///   Irving 1989, theorem 2.5.7).
 /// - `Refused`: the input is refused for this reason, at this line; the one line `refused NAME LINE` is written. An input
 ///   that is too long comes first, then the faults of its lines from the top, then a missing `end`, then a name that isn't
-///   declared, then text behind `end`, then a kind that isn't taken yet, then one that the command doesn't take, then seats
-///   that have more than 1,048,576 entries.
+///   declared, then text behind `end`, then a kind that the command doesn't take, then seats that have more than 1,048,576
+///   entries.
+/// - `NoneExists`: the whole answer is written, and says that there is no such matching. For `solve` it is `none`, where
+///   roommates have no stable matching, and the parties of a stable partition that has an odd one of three or more (Tan
+///   1991).
 /// - `Usage`: the words are faulty; the one line `usage WORD` is written.
 /// - `ReadFault`, `WriteFault`: the source or the sink failed. Nothing was written, or a front of the answer.
 /// - `OutOfMemory`: there was no memory. Nothing was written, or a front of the answer.
 ///
 /// What is written is added to what the sink held. It depends on the bytes that the source gave and not on how they were cut.
-/// Takes time and memory linear in the bytes for `solve` and `reduced`; for `rotations` those of [`sm_rotations::chain`]
-/// and [`sm_poset::Poset::of`] come besides.
+/// Takes time and memory linear in the bytes for `solve` and `reduced`; for `solve` of roommates the time of
+/// [`sm_room::stable_partition`] comes besides, and for `rotations` those of [`sm_rotations::chain`] and
+/// [`sm_poset::Poset::of`].
 pub fn run<S: Source, K: Sink>(
     alloc: Global,
     words: &[String],
@@ -99,6 +103,7 @@ fn read_and_answer<S: Source, K: Sink>(
     source: &mut S,
     sink: &mut K,
 ) -> Result<Status, Stop>
+    requires { IsInBounds (job_of job.now) }
     ensures served { IfOk result (λ status. Serves (job_of job.now) (S.left source.old) (S.left source.new)
         (K.held sink.old) (K.held sink.new) (K.faults sink.old) (K.faults sink.new) status) }
     ensures stop { IfErr result (λ stop. StopsBy (λ _. ⊥)
@@ -114,15 +119,16 @@ fn read_and_answer<S: Source, K: Sink>(
 
 // Does a job on an input that was read whole.
 fn answer<K: Sink>(alloc: Global, job: &Job, bytes: &[u8], sink: &mut K) -> Result<Status, Stop>
-    requires { length bytes.now ≤ most_bytes }
+    requires short { length bytes.now ≤ most_bytes }
+    requires bounds { IsInBounds (job_of job.now) }
     ensures wrote { IfOk result (λ status. Wrote (IsAnswer (job_of job.now) bytes.now)
         (K.held sink.old) (K.held sink.new) (K.faults sink.old) (K.faults sink.new) status) }
     ensures stop { IfErr result (λ stop. StopsBy (λ _. ⊥) (IsRefused (job_of job.now) bytes.now) ⊥ stop) }
     ensures unwritten { OnErr result (sink.new ≡ sink.old) }
     ensures later { K.faults sink.old ≤ K.faults sink.new }
 {
-    let given = accept(alloc, job, bytes)?;
-    perform(alloc, job, bytes, &given, sink)
+    let read = read_for(alloc, job, bytes)?;
+    perform(alloc, job, bytes, &read, sink)
 }
 
 // Says why there is no answer.

@@ -14,6 +14,8 @@ pub enum Status {
     Refused(RefusalKind, u32),
     /// The word of this number, counted from 1, is faulty.
     Usage(u32),
+    /// The answer is written: there is no such matching.
+    NoneExists,
     /// There was no memory for the work.
     OutOfMemory,
     /// The source failed.
@@ -31,6 +33,7 @@ impl Status {
             Status::Done => 0,
             Status::Refused(_, _) => 1,
             Status::Usage(_) => 2,
+            Status::NoneExists => 3,
             Status::OutOfMemory => 4,
             Status::ReadFault => 5,
             Status::WriteFault => 6,

@@ -12,6 +12,8 @@ mod instances;
 #[cfg(test)]
 mod lines;
 #[cfg(test)]
+mod listings;
+#[cfg(test)]
 mod made;
 #[cfg(test)]
 mod pieces;

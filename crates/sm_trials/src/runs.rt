@@ -115,6 +115,58 @@ fn commands_answer(rt: HostRuntime) {
                 chain,
                 "answer rotations\nfirst p1 a\nfirst p2 b\nfirst p3 c\nfirst p4 d\nrotation 1 p1 a p2 b\nneeds 1 -\nrotation 2 p3 c p4 d\nneeds 2 1\nend\n",
             ),
+            done(
+                "list",
+                chain,
+                "answer list limit=100\nvector 1,1,1,1\nvector 2,2,1,1\nvector 2,2,3,2\nend\n",
+            ),
+            done(
+                "list limit=1 after=1,1,9,0",
+                chain,
+                "answer list after=1,1,9,0 limit=1\nvector 2,2,1,1\nmore 2,2,1,1\n",
+            ),
+        ],
+    );
+}
+
+// A run of `solve` on persons who have no stable matching.
+fn none_exists<'a>(text: &'a str, written: &'a str) -> Row<'a> {
+    Row {
+        words: "solve",
+        text,
+        failing_reads: &[],
+        failing_puts: &[],
+        status: Status::NoneExists,
+        written,
+    }
+}
+
+#[test]
+fn roommates_are_solved(rt: HostRuntime) {
+    come_to(
+        &rt,
+        &[
+            none_exists(
+                "stable 1 roommates\np 1: 2 3 4\np 2: 3 1 4\np 3: 1 2 4\np 4: 1 2 3\nend\n",
+                "answer solve\nnone\nparty 1 2 3\nparty 4\nend\n",
+            ),
+            // two odd parties and a couple, in the order of their lowest members
+            none_exists(
+                "stable 1 roommates\np a: c e\np b: f d\np c: e a\np d: b f\np e: a c\np f: d b\np g: h\np h: g\nend\n",
+                "answer solve\nnone\nparty a c e\nparty b f d\nparty g h\nend\n",
+            ),
+            done(
+                "solve",
+                "stable 1 roommates\np 1: 4 2 3\np 2: 3 1 4\np 3: 2 4 1\np 4: 1 3 2\nend\n",
+                "answer solve\npair 1 4\npair 2 3\nend\n",
+            ),
+            // who isn't listed in turn stays alone, and so does who lists nobody or only itself
+            done(
+                "solve",
+                "stable 1 roommates\np ann: bob ann cat\np bob: cat ann\np cat: dan\np dan:\np eve: eve ann\nend\n",
+                "answer solve\npair ann bob\nend\n",
+            ),
+            done("solve", "stable 1 roommates\nend\n", "answer solve\nend\n"),
         ],
     );
 }
@@ -155,9 +207,23 @@ fn inputs_are_refused(rt: HostRuntime) {
             refused(
                 "solve side=proposers",
                 "stable 1 roommates\np 1: 2\np 2: 1\nend\n",
-                RefusalKind::NotBuilt,
+                RefusalKind::WrongKind,
                 1,
-                "refused NotBuilt 1\n",
+                "refused WrongKind 1\n",
+            ),
+            refused(
+                "reduced",
+                "\nstable 1 roommates\np 1: 2\np 2: 1\nend\n",
+                RefusalKind::WrongKind,
+                2,
+                "refused WrongKind 2\n",
+            ),
+            refused(
+                "list after=1",
+                TWO_BY_TWO,
+                RefusalKind::BadCursor,
+                0,
+                "refused BadCursor 0\n",
             ),
         ],
     );
@@ -192,6 +258,14 @@ fn faults_end_a_run(rt: HostRuntime) {
                 failing_puts: &[(3, 4)],
                 status: Status::WriteFault,
                 written: "answer solve side=proposers\npair m1 a\npair",
+            },
+            Row {
+                words: "list",
+                text: TWO_BY_TWO,
+                failing_reads: &[],
+                failing_puts: &[(3, 4)],
+                status: Status::WriteFault,
+                written: "answer list limit=100\nvector 1,1\nvect",
             },
         ],
     );

@@ -1,9 +1,14 @@
-//! Seats of hospitals.
+//! Seats of hospitals, and a matching that goes to them and back.
 
 ghost use Rattle.std.specs.Prelude.{◌≡◌, length};
+ghost use Rattle.sm_instance.specs.Written.{Written};
+ghost use Rattle.sm_instance.specs.Sound.{IsInstance};
+ghost use Rattle.sm_instance.specs.Matching.{IsMatching};
+ghost use Rattle.sm_seats.specs.Seating.{seating_of};
 
 use crate::instances::small_hospitals;
-use crate::made::MEMORY;
+use crate::made::{MEMORY, copy};
+use sm_instance::{Assignment, Instance};
 use sm_seats::Seats;
 use std::process::Abort;
 
@@ -31,9 +36,46 @@ fn has_its_lists(rt: &(impl Abort + AllocGlobal), seats: &Seats)
     assert!(rt; levels[2].as_slice() == [1, 1, 3].as_slice());
 }
 
+// A matching of an instance takes these places on the lists of its seats, and is found again.
+fn takes_seats(
+    rt: &(impl Abort + AllocGlobal),
+    instance: &Instance,
+    seats: &Seats,
+    a: &Assignment,
+    places: [Option<u32>; 3],
+)
+    ghost written: { Written }
+    requires instance { IsInstance written }
+    requires seats { seats.now ≡ seating_of written }
+    requires matching { IsMatching written a.now.places.items }
+{
+    assert!(rt; instance.proposer_count() == 3);
+    let pairing = seats.to_seats(rt.alloc(), a).expect(rt, MEMORY);
+    assert!(rt; seats.market().proposers() == 3);
+    assert!(rt; pairing.place(0) == places[0]);
+    assert!(rt; pairing.place(1) == places[1]);
+    assert!(rt; pairing.place(2) == places[2]);
+    let back = seats.to_hospitals(rt.alloc(), &pairing).expect(rt, MEMORY);
+    assert!(rt; back.places.as_slice() == a.places.as_slice());
+}
+
 #[test]
 fn small_hospitals_have_seats(rt: HostRuntime) {
     let instance = small_hospitals(&rt);
     let seats = Seats::of(rt.alloc(), &instance).expect(&rt, "seats");
     has_its_lists(&rt, &seats);
+}
+
+#[test]
+fn a_matching_takes_seats(rt: HostRuntime) {
+    let instance = small_hospitals(&rt);
+    let seats = Seats::of(rt.alloc(), &instance).expect(&rt, "seats");
+    let a = Assignment {
+        places: copy(&rt, &[Some(0), Some(1), Some(0)]),
+    };
+    assert!(&rt; instance.is_assignment(&a));
+    match instance.breach(&a) {
+        None => takes_seats(&rt, &instance, &seats, &a, [Some(0), Some(1), Some(0)]),
+        Some(_) => assert!(&rt; false),
+    }
 }

@@ -1,6 +1,6 @@
 //! Words that ask for a job, and words that are faulty.
 
-use crate::made::words_in;
+use crate::made::{copy, words_in};
 use sm_instance::Side;
 use sm_words::{Job, WordsFault, read_words};
 use std::process::Abort;
@@ -38,6 +38,15 @@ fn words_ask_or_are_faulty(rt: HostRuntime) {
             ("solve side=reviewers", Job::Solve(Some(Side::Reviewers))),
             ("reduced", Job::Reduced),
             ("rotations", Job::Rotations),
+            ("list", Job::List(None, 100)),
+            (
+                "list limit=1 after=-",
+                Job::List(Some(Vec::new(rt.alloc())), 1),
+            ),
+            (
+                "list after=0,4294967295,7 limit=1000000",
+                Job::List(Some(copy(&rt, &[0, 4_294_967_295, 7])), 1_000_000),
+            ),
         ],
     );
     are_faulty(
@@ -46,7 +55,7 @@ fn words_ask_or_are_faulty(rt: HostRuntime) {
             ("", 1),
             ("solves", 1),
             ("side=reviewers", 1),
-            ("list", 1),
+            ("lists", 1),
             ("--help", 1),
             ("solve side=", 2),
             ("solve side", 2),
@@ -57,6 +66,16 @@ fn words_ask_or_are_faulty(rt: HostRuntime) {
             ("solve both side=both", 2),
             ("reduced side=proposers", 2),
             ("rotations rotations", 2),
+            ("list side=proposers", 2),
+            ("list limit=0", 2),
+            ("list limit=1000001", 2),
+            ("list limit=1 limit=2", 3),
+            ("list after=1 after=1", 3),
+            ("list after=", 2),
+            ("list after=1,", 2),
+            ("list after=1,-", 2),
+            ("list after=1,02", 2),
+            ("list after=1,4294967296", 2),
         ],
     );
 }

@@ -35,7 +35,7 @@ word_faulty command n g g' words i w text fits here is shows took wrong =
     ap (read_operands command n g) (texts_from words i w here is ∙ ap (λ t. t ∷ texts (drop (i + 1) words)) (sym shows)) ∙ operands_stop command n g g' text (texts (drop (i + 1) words)) fits took wrong
 
 -- the words behind the first, as a slice pattern gives them
-abbrev others : List (String Global) → List (String Global)
+abbrev pub others : List (String Global) → List (String Global)
 others words = take (length words - 1) (drop 1 words)
 
 others_are : (words : List (String Global)) → others words ≡ drop 1 words

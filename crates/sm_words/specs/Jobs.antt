@@ -1,5 +1,6 @@
 -- What words may ask for, as plain data.
-use Rattle.std.specs.Prelude.{Option}
+use Rattle.std.specs.Prelude.{◌≤◌, ℕ, List as Vector, Option}
+use Rattle.std.specs.Option.{option_map}
 use Rattle.sm_instance.specs.declared.kinds.Side.{Side}
 use Rattle.sm_words.specs.declared.jobs.Job.{Job}
 use Rattle.sm_words.specs.declared.jobs.Job.TheVariants as job
@@ -8,8 +9,27 @@ pub data JobData : Type 0 where
   Solve : Option Side → JobData
   Reduced : JobData
   Rotations : JobData
+  List : Option (Vector ℕ) → ℕ → JobData
 
 abbrev pub job_of : Job → JobData
 job_of (job.Solve side) = Solve side
 job_of job.Reduced = Reduced
 job_of job.Rotations = Rotations
+job_of (job.List after limit) = List (option_map (λ v. v.items) after) limit
+
+-- a limit lies in its bounds
+abbrev pub least_limit : ℕ
+least_limit = 1
+
+abbrev pub most_limit : ℕ
+most_limit = 1000000
+
+abbrev pub IsLimit : ℕ → Type 0
+IsLimit limit = (least_limit ≤ limit) × (limit ≤ most_limit)
+
+-- the numbers of a job lie in their bounds
+abbrev pub IsInBounds : JobData → Type 0
+IsInBounds (Solve side) = Unit {0}
+IsInBounds Reduced = Unit {0}
+IsInBounds Rotations = Unit {0}
+IsInBounds (List after limit) = IsLimit limit

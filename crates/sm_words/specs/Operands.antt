@@ -5,17 +5,19 @@ use Rattle.std.specs.Option.{option_and_then}
 use Rattle.sm_instance.specs.declared.kinds.Side.{Side}
 use Rattle.sm_words.specs.declared.operands.Command.{Command}
 use Rattle.sm_words.specs.declared.operands.Given.{Given}
-use Rattle.sm_words.specs.Tables.{look_up, operands_of, ValueData, OfSide, value_named}
+use Rattle.sm_words.specs.Tables.{look_up, operands_of, ValueData, OfSide, OfAfter, OfLimit, value_named}
 
 -- the operands that were given: for each its value, if it stands
 pub record GivenData : Type 0 where
   pub side : Option Side
+  pub after : Option (List ℕ)
+  pub limit : Option ℕ
 
 abbrev pub given_of : Given → GivenData
-given_of g = record { side = g.side }
+given_of g = record { side = g.side; after = option_map (λ v. v.items) g.after; limit = g.limit }
 
 abbrev pub nothing : GivenData
-nothing = record { side = None }
+nothing = record { side = None; after = None; limit = None }
 
 -- each operand stands at most once
 abbrev pub once : {T : Type 0} → Option T → T → Option (Option T)
@@ -24,6 +26,8 @@ once (Some old) value = None
 
 abbrev pub with_value : ValueData → GivenData → Option GivenData
 with_value (OfSide v) g = option_map (λ s. record g { side = s }) (once g.side v)
+with_value (OfAfter v) g = option_map (λ s. record g { after = s }) (once g.after v)
+with_value (OfLimit v) g = option_map (λ s. record g { limit = s }) (once g.limit v)
 
 -- a word is a name, `=` and a value, which is all behind the first `=`
 abbrev pub is_equals : ℕ → Bool

@@ -1,8 +1,11 @@
 -- The tables of the command line: its commands, the operands of each, and the values of each operand.
-use Rattle.std.specs.Prelude.{List, [], ◌∷◌, ℕ, codes, Option, Some, None, option_map, if◌then◌else◌}
+use Rattle.std.specs.Prelude.{List, [], ◌∷◌, ℕ, nat_lt, codes, Option, Some, None, option_map, if◌then◌else◌}
 use Rattle.std.specs.Str.{bytes_eq}
 use Rattle.sm_instance.specs.declared.kinds.Side.{Side}
 use Rattle.sm_instance.specs.declared.kinds.Side.TheVariants.{Proposers, Reviewers}
+use Rattle.sm_text.specs.Numbers.{number_of}
+use Rattle.sm_report.specs.Vectors.{vector_in}
+use Rattle.sm_words.specs.Jobs.{least_limit, most_limit}
 use Rattle.sm_words.specs.declared.operands.Command.{Command}
 use Rattle.sm_words.specs.declared.operands.Command.TheVariants as command
 use Rattle.sm_words.specs.declared.operands.Operand.{Operand}
@@ -20,12 +23,14 @@ commands =
     (codes "solve", command.Solve)
     ∷ (codes "reduced", command.Reduced)
     ∷ (codes "rotations", command.Rotations)
+    ∷ (codes "list", command.List)
     ∷ []
 
 abbrev pub operands_of : Command → List (List ℕ × Operand)
 operands_of command.Solve = (codes "side", operand.Side) ∷ []
 operands_of command.Reduced = []
 operands_of command.Rotations = []
+operands_of command.List = (codes "after", operand.After) ∷ (codes "limit", operand.Limit) ∷ []
 
 abbrev pub sides : List (List ℕ × Side)
 sides = (codes "proposers", Proposers) ∷ (codes "reviewers", Reviewers) ∷ []
@@ -33,10 +38,24 @@ sides = (codes "proposers", Proposers) ∷ (codes "reviewers", Reviewers) ∷ []
 -- the value of an operand, as plain data
 pub data ValueData : Type 0 where
   OfSide : Side → ValueData
+  OfAfter : List ℕ → ValueData
+  OfLimit : ℕ → ValueData
 
 abbrev pub value_of : Value → ValueData
 value_of (value.OfSide side) = OfSide side
+value_of (value.OfAfter after) = OfAfter after.items
+value_of (value.OfLimit limit) = OfLimit limit
+
+-- the limit that a text spells
+abbrev pub at_least : ℕ → Option ℕ → Option ℕ
+at_least least None = None
+at_least least (Some n) = if nat_lt n least then None else Some n
+
+abbrev pub limit_named : List ℕ → Option ℕ
+limit_named text = at_least least_limit (number_of text most_limit)
 
 -- the value that a text gives to an operand
 abbrev pub value_named : Operand → List ℕ → Option ValueData
 value_named operand.Side text = option_map OfSide (look_up sides text)
+value_named operand.After text = option_map OfAfter (vector_in text)
+value_named operand.Limit text = option_map OfLimit (limit_named text)

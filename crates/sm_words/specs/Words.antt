@@ -1,5 +1,5 @@
 -- What words mean.
-use Rattle.std.specs.Prelude.{◌≡◌, ℕ, ◌+◌, List, [], ◌∷◌, length, map, Option, Some, Result, Ok, Err, string_bytes, String}
+use Rattle.std.specs.Prelude.{◌≡◌, ℕ, ◌+◌, List, [], ◌∷◌, length, map, Option, Some, unwrap_or, Result, Ok, Err, string_bytes, String}
 use Rattle.std.specs.Option.{option_map_or}
 use Rattle.std.specs.declared.alloc.Global.{Global}
 use Rattle.sm_words.specs.declared.operands.Command.{Command}
@@ -21,11 +21,16 @@ read_operands command number given [] = Ok given
 read_operands command number given (word ∷ more) =
     option_map_or (λ g. read_operands command (number + 1) g more) (with_word command word given) (Err number)
 
+-- the limit where none is given
+abbrev pub usual_limit : ℕ
+usual_limit = 100
+
 -- Then, where there is no command or a required operand is missing, the word behind the last is faulty.
 abbrev pub job_for : Command → GivenData → Option JobData
 job_for command.Solve g = Some (Solve g.side)
 job_for command.Reduced g = Some Reduced
 job_for command.Rotations g = Some Rotations
+job_for command.List g = Some (JobData.List g.after (unwrap_or g.limit usual_limit))
 
 abbrev pub or_missing : Command → ℕ → Result GivenData ℕ → Result JobData ℕ
 or_missing command behind (Err word) = Err word

@@ -13,6 +13,8 @@ pub enum Job {
     Reduced,
     /// The first partners, the chain of rotations, and what each rotation needs.
     Rotations,
+    /// The rank vectors of the allowed stable matchings behind a vector, where one is given, and at most so many.
+    List(Option<Vec<u32>>, u32),
 }
 
 /// Why words ask for nothing.

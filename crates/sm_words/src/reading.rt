@@ -1,7 +1,7 @@
 //! Reading the words.
 
 ghost use Rattle.std.specs.Prelude.{◌≡◌, ◌+◌, length, IfOk, IfErr, Ok, option_map};
-ghost use Rattle.sm_words.specs.Jobs.{job_of};
+ghost use Rattle.sm_words.specs.Jobs.{job_of, IsInBounds};
 ghost use Rattle.sm_words.specs.Operands.{given_of, nothing};
 ghost use Rattle.sm_words.specs.Words.{texts, read_operands, job_for, asked, words_meaning, IsFaultBy, IsWordsFault, IsNoMemory};
 
@@ -9,20 +9,25 @@ use crate::jobs::{Job, WordsFault};
 use crate::operands::{Command, Given, command_named, nothing, take_word};
 use std::alloc::Global;
 
+/// The limit where none is given.
+const USUAL_LIMIT: u32 = 100;
+
 /// What the words ask for, which are those of the command line behind the program's name.
 ///
 /// The first word is a command. Each later word is `name=value`: an operand of the command and its value, which is all
 /// behind the first `=`. Each operand stands at most once, and they stand in any order. `solve` may have
-/// `side=proposers` or `side=reviewers`; `reduced` and `rotations` have none. Takes time linear in the words, and no
-/// memory.
+/// `side=proposers` or `side=reviewers`; `list` may have `after=` with the numbers of a vector, one comma between each two
+/// or `-` for none, and `limit=` with a number from 1 to 1,000,000, which is 100 where none is given; `reduced` and
+/// `rotations` have no operands. Takes time linear in the words, and memory for the vector alone.
 ///
 /// # Errors
 ///
 /// `Usage` with the number of the faulty word, counted from 1. The words are tried from the left, and the first that isn't
 /// what may stand there is faulty; where none is and a word is missing, it is the one behind the last. `OutOfMemory`
-/// where there are as many words as have no number.
+/// where there was no memory for a vector, or where there are as many words as have no number.
 pub fn read_words(alloc: Global, words: &[String]) -> Result<Job, WordsFault>
     ensures job { IfOk result (λ job. words_meaning (texts words.now) ≡ Ok (job_of job)) }
+    ensures bounds { IfOk result (λ job. IsInBounds (job_of job)) }
     ensures fault { IfErr result (λ fault. IsWordsFault (texts words.now) fault) }
 {
     match words {
@@ -70,6 +75,7 @@ fn job_for(command: Command, given: Given) -> Option<Job>
         Command::Solve => Some(Job::Solve(given.side)),
         Command::Reduced => Some(Job::Reduced),
         Command::Rotations => Some(Job::Rotations),
+        Command::List => Some(Job::List(given.after, given.limit.unwrap_or(USUAL_LIMIT))),
     }
 }
 

@@ -1,25 +1,27 @@
-use Rattle.std.specs.Prelude.{unwrap_or}
-use Rattle.sm_instance.specs.declared.kinds.Side.TheVariants.{Proposers}
+use Rattle.std.proofs.lemmas.Result.{err_from_is_err_and}
 use Rattle.sm_reader.specs.InstanceText.{read_of}
-use Rattle.sm_words.specs.Jobs.{Solve, Reduced, Rotations}
-use Rattle.sm_shown.specs.Answers.{IsSolution}
-use Rattle.sm_shown.specs.Reduction.{IsReduction}
-use Rattle.sm_shown.specs.RotationAnswer.{IsRotationAnswer}
-use Rattle.sm_top.specs.declared.status.Status.TheVariants.{Done}
-use Rattle.sm_top.proofs.RunLemmas.{wrote_answer}
+use Rattle.sm_words.specs.Jobs.{job_of}
+use Rattle.sm_top.specs.Outcome.{IsOwnRefusal, IsRefused, by_job}
+use Rattle.sm_top.proofs.RunLemmas.{stops_for, err_stops_for}
+use Rattle.sm_top.proofs.KindLemmas.{two_refused, two_accepted}
 use Rattle.sm_top.proofs.performing.perform.Goals as goal
 
-pub returns-in_ok-solve-in-Solve-clause-wrote : goal.returns-in_ok-solve-in-Solve-clause-wrote
-returns-in_ok-solve-in-Solve-clause-wrote g c =
-    let ok = rw c.in-Solve.is at c.requires.accepted in
-    rw c.in-Solve.is (wrote_answer (Solve c.in-Solve.side) c.args.bytes.now (read_of c.args.given.now.read) c.in-Two.instance (IsSolution (unwrap_or c.in-Solve.side Proposers)) Done _ _ _ _ _ ok c.in-Two.is c.in_ok-solve-in-Solve.ensures.wrote)
+pub returns-in_err-given-in-Two-clause-stop : goal.returns-in_err-given-in-Two-clause-stop
+returns-in_err-given-in-Two-clause-stop g c =
+    let e = err_from_is_err_and c.from_residual.result c.from_residual.ensures.1 in
+    let two = c.in_err-given-in-Two.ensures.instance.two_sided in
+    rw (e.1, e.2) (stops_for _ _ _ _ _ _ c.in_err-given-in-Two.field-0.0 (λ word h. h) (λ refusal too. two_refused (job_of c.args.job.now) c.args.bytes.now (read_of c.args.read.now) c.in-Two.instance refusal c.in-Two.is two c.requires.accepted too) (λ h. h) c.in_err-given-in-Two.ensures.stop)
 
-pub returns-in_ok-reduce-in-Reduced-clause-wrote : goal.returns-in_ok-reduce-in-Reduced-clause-wrote
-returns-in_ok-reduce-in-Reduced-clause-wrote g c =
-    let ok = rw c.in-Reduced.is at c.requires.accepted in
-    rw c.in-Reduced.is (wrote_answer Reduced c.args.bytes.now (read_of c.args.given.now.read) c.in-Two.instance IsReduction Done _ _ _ _ _ ok c.in-Two.is c.in_ok-reduce-in-Reduced.ensures.wrote)
+pub perform_on_seats-requires-clause-accepted : goal.perform_on_seats-requires-clause-accepted
+perform_on_seats-requires-clause-accepted g c =
+    let given = c.in_ok-given-in-Two.ensures in
+    rw given.read (two_accepted (job_of c.args.job.now) c.args.bytes.now (read_of c.args.read.now) c.in-Two.instance c.in-Two.is given.instance.two_sided c.requires.accepted given.few)
 
-pub returns-in_ok-show_rotations-in-Rotations-clause-wrote : goal.returns-in_ok-show_rotations-in-Rotations-clause-wrote
-returns-in_ok-show_rotations-in-Rotations-clause-wrote g c =
-    let ok = rw c.in-Rotations.is at c.requires.accepted in
-    rw c.in-Rotations.is (wrote_answer Rotations c.args.bytes.now (read_of c.args.given.now.read) c.in-Two.instance IsRotationAnswer Done _ _ _ _ _ ok c.in-Two.is c.in_ok-show_rotations-in-Rotations.ensures.wrote)
+pub returns-in_ok-given-in-Two-clause-stop : goal.returns-in_ok-given-in-Two-clause-stop
+returns-in_ok-given-in-Two-clause-stop g c =
+    let given = c.in_ok-given-in-Two.ensures in
+    let job = job_of c.args.job.now in
+    let bytes = c.args.bytes.now in
+    let read = read_of c.args.read.now in
+    let ok = two_accepted job bytes read c.in-Two.instance c.in-Two.is given.instance.two_sided c.requires.accepted given.few in
+    err_stops_for (λ word. ⊥) (λ word. ⊥) (IsOwnRefusal job bytes read) (IsRefused job bytes) ⊥ ⊥ c.perform_on_seats.result (λ word h. h) (λ refusal own. by_job read ok own) (λ h. h) (rw given.read at c.perform_on_seats.ensures.stop)

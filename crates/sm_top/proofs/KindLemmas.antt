@@ -1,0 +1,115 @@
+-- Inputs of either kind: what is judged of them, and the answers of `solve`.
+use Rattle.std.proofs.Common.{◌≡◌, ◌≢◌, ℕ, cond, Bool, true, false, List, [], ◌∷◌, Option, None, Some, Result, Ok, Err, inl, inr, refl, sym, ap, ◌∙◌, subst}
+use Rattle.std.specs.Option.{unwrap_or}
+use Rattle.sm_answer.specs.Printing.{IsShown}
+use Rattle.sm_text.specs.declared.refusal.RefusalKind.TheVariants.{WrongKind}
+use Rattle.sm_instance.specs.Written.{AgentData, Written}
+use Rattle.sm_instance.specs.Inputs.{kind_of}
+use Rattle.sm_instance.specs.declared.inputs.Input.{Input}
+use Rattle.sm_instance.specs.declared.inputs.Input.TheVariants.{Two, Room}
+use Rattle.sm_instance.specs.declared.kinds.Kind.{Kind}
+use Rattle.sm_instance.specs.declared.kinds.Kind.TheVariants.{Marriage, Hospitals, Roommates}
+use Rattle.sm_instance.specs.declared.kinds.Side.{Side}
+use Rattle.sm_instance.specs.declared.kinds.Side.TheVariants.{Proposers}
+use Rattle.sm_reader.specs.InstanceText.{ReadText, Refusal}
+use Rattle.sm_words.specs.Jobs.{JobData, Solve, Reduced, Rotations}
+use Rattle.sm_shown.specs.Answers.{IsSolution}
+use Rattle.sm_rooming.specs.RoomAnswer.{IsMatched, IsUnmatchable}
+use Rattle.sm_top.specs.declared.status.Status.{Status}
+use Rattle.sm_top.specs.declared.status.Status.TheVariants.{Done, NoneExists}
+use Rattle.sm_top.specs.Texts.{RefusalData, plain}
+use Rattle.sm_top.specs.Accepting.{is_two_sided, takes_kind, wrong_kind, too_many_in, too_many_seats, first_refusal, judged, accepted, IsTooMany, IsUnaccepted}
+use Rattle.sm_top.specs.Outcome.{IsSolved, IsAnswer, IsOwnRefusal, IsRefused, not_accepted, by_job}
+use Rattle.sm_top.specs.Wrote.{Wrote, With}
+use Rattle.sm_top.proofs.WritingLemmas.{wrote_for}
+
+-- Instances with two sides: every job takes them.
+
+two_sided : (kind : Kind) → kind ≢ Roommates → is_two_sided kind ≡ true
+two_sided Marriage two = refl
+two_sided Hospitals two = refl
+two_sided Roommates two = absurd (two refl)
+
+takes_two : (job : JobData) (kind : Kind) → kind ≢ Roommates → takes_kind job kind ≡ true
+takes_two (Solve None) kind two = refl
+takes_two (Solve (Some side)) kind two = two_sided kind two
+takes_two Reduced kind two = two_sided kind two
+takes_two Rotations kind two = two_sided kind two
+takes_two (JobData.List after limit) kind two = two_sided kind two
+
+-- so their seats alone are judged
+seats_judged : (job : JobData) (read : ReadText) (w : Written) → read.input ≡ Two w → w.kind ≢ Roommates → judged job read ≡ first_refusal (too_many_seats read ∷ []) read
+seats_judged job read w is two =
+    let taken : takes_kind job (kind_of read.input) ≡ true = ap (λ (input : Input). takes_kind job (kind_of input)) is ∙ takes_two job w.kind two in
+    ap (λ t. first_refusal (cond t None (Some (WrongKind, read.header_line)) ∷ too_many_seats read ∷ []) read) taken
+
+pub two_refused : (job : JobData) (bytes : List ℕ) (read : ReadText) (w : Written) (refusal : RefusalData) → read.input ≡ Two w → w.kind ≢ Roommates → accepted job bytes ≡ judged job read → IsTooMany read.input refusal
+    → IsRefused job bytes refusal
+two_refused job bytes read w refusal is two before too = not_accepted (record {
+  kind = too.kind;
+  at = too.at;
+  because = before ∙ seats_judged job read w is two ∙ ap (λ (o : Option Refusal). first_refusal (o ∷ []) read) too.because;
+  says = too.says;
+})
+
+pub two_accepted : (job : JobData) (bytes : List ℕ) (read : ReadText) (w : Written) → read.input ≡ Two w → w.kind ≢ Roommates → accepted job bytes ≡ judged job read → too_many_in read.input ≡ None
+    → accepted job bytes ≡ Ok read
+two_accepted job bytes read w is two before few = before ∙ seats_judged job read w is two ∙ ap (λ (o : Option Refusal). first_refusal (o ∷ []) read) few
+
+-- Roommates: they have no seats.
+
+kind_judged : (job : JobData) (read : ReadText) (persons : List AgentData) → read.input ≡ Room persons → judged job read ≡ cond (takes_kind job Roommates) (Ok read) (Err (WrongKind, read.header_line))
+kind_judged job read persons is = by_input read.input is ∙ by_test (takes_kind job Roommates)
+  where
+    by_input : (input : Input) → input ≡ Room persons
+        → first_refusal (cond (takes_kind job (kind_of input)) None (Some (WrongKind, read.header_line)) ∷ too_many_in input ∷ []) read
+        ≡ first_refusal (cond (takes_kind job Roommates) None (Some (WrongKind, read.header_line)) ∷ None ∷ []) read
+    by_input input same = ap (λ (i : Input). first_refusal (cond (takes_kind job (kind_of i)) None (Some (WrongKind, read.header_line)) ∷ too_many_in i ∷ []) read) same
+
+    by_test : (t : Bool) → first_refusal (cond t None (Some (WrongKind, read.header_line)) ∷ None ∷ []) read ≡ cond t (Ok read) (Err (WrongKind, read.header_line))
+    by_test true = refl
+    by_test false = refl
+
+pub room_refused : (job : JobData) (bytes : List ℕ) (read : ReadText) (persons : List AgentData) → read.input ≡ Room persons → accepted job bytes ≡ judged job read → takes_kind job Roommates ≡ false
+    → IsRefused job bytes (plain WrongKind read.header_line)
+room_refused job bytes read persons is before taken = not_accepted (record {
+  kind = WrongKind;
+  at = read.header_line;
+  because = before ∙ kind_judged job read persons is ∙ ap (λ t. cond t (Ok read) (Err (WrongKind, read.header_line))) taken;
+  says = refl;
+})
+
+pub room_accepted : (job : JobData) (bytes : List ℕ) (read : ReadText) (persons : List AgentData) → read.input ≡ Room persons → accepted job bytes ≡ judged job read → takes_kind job Roommates ≡ true
+    → accepted job bytes ≡ Ok read
+room_accepted job bytes read persons is before taken = before ∙ kind_judged job read persons is ∙ ap (λ t. cond t (Ok read) (Err (WrongKind, read.header_line))) taken
+
+-- The answers of `solve`.
+
+-- an answer is right for a job
+pub solved_answer : (side : Option Side) (bytes : List ℕ) (read : ReadText) (a b : Option (List ℕ)) (f g : ℕ) (status : Status) → accepted (Solve side) bytes ≡ Ok read
+    → Wrote (λ s. IsShown read.input (IsSolved side read.input s)) a b f g status → Wrote (IsAnswer (Solve side) bytes) a b f g status
+solved_answer side bytes read a b f g status ok =
+    wrote_for (λ s. IsShown read.input (IsSolved side read.input s)) (IsAnswer (Solve side) bytes) a b f g status (λ s lines shown. record { read = read; ok = ok; shown = shown })
+
+pub two_solved : (side : Option Side) (input : Input) (w : Written) (a b : Option (List ℕ)) (f g : ℕ) (status : Status) → input ≡ Two w
+    → Wrote (With Done (IsShown input (IsSolution (unwrap_or side Proposers) w))) a b f g status → Wrote (λ s. IsShown input (IsSolved side input s)) a b f g status
+two_solved side input w a b f g status is =
+    wrote_for (With Done (IsShown input (IsSolution (unwrap_or side Proposers) w))) (λ s. IsShown input (IsSolved side input s)) a b f g status
+    (λ s lines h. record {
+      answer = h.given_lines.answer;
+      is_right = subst (λ (input : Input). IsSolved side input s h.given_lines.answer) (sym is) (h.same, h.given_lines.is_right);
+      shows = h.given_lines.shows;
+    })
+
+-- roommates with a stable matching, and such without
+pub room_solved : (input : Input) (persons : List AgentData) (gives : List (List ℕ) → Type 0) (a b : Option (List ℕ)) (f g : ℕ) (status : Status) → input ≡ Room persons
+    → ((lines : List (List ℕ)) → gives lines → IsShown input (IsMatched persons) lines) → Wrote (With Done gives) a b f g status → Wrote (λ s. IsShown input (IsSolved None input s)) a b f g status
+room_solved input persons gives a b f g status is right =
+    wrote_for (With Done gives) (λ s. IsShown input (IsSolved None input s)) a b f g status
+    (λ s lines h. let shown = right lines h.given_lines in record { answer = shown.answer; is_right = subst (λ (input : Input). IsSolved None input s shown.answer) (sym is) (inl (h.same, shown.is_right)); shows = shown.shows })
+
+pub room_unsolved : (input : Input) (persons : List AgentData) (gives : List (List ℕ) → Type 0) (a b : Option (List ℕ)) (f g : ℕ) (status : Status) → input ≡ Room persons
+    → ((lines : List (List ℕ)) → gives lines → IsShown input (IsUnmatchable persons) lines) → Wrote (With NoneExists gives) a b f g status → Wrote (λ s. IsShown input (IsSolved None input s)) a b f g status
+room_unsolved input persons gives a b f g status is right =
+    wrote_for (With NoneExists gives) (λ s. IsShown input (IsSolved None input s)) a b f g status
+    (λ s lines h. let shown = right lines h.given_lines in record { answer = shown.answer; is_right = subst (λ (input : Input). IsSolved None input s shown.answer) (sym is) (inr (h.same, shown.is_right)); shows = shown.shows })

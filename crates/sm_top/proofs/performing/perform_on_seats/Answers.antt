@@ -1,0 +1,36 @@
+use Rattle.sm_reader.specs.InstanceText.{read_of}
+use Rattle.std.proofs.lemmas.Result.{IfOk-weaker}
+use Rattle.sm_words.specs.Jobs.{JobData, Reduced, Rotations}
+use Rattle.sm_shown.specs.Reduction.{IsReduction}
+use Rattle.sm_shown.specs.RotationAnswer.{IsRotationAnswer}
+use Rattle.sm_listing.specs.ListAnswer.{IsListAnswer}
+use Rattle.sm_listing.specs.Started.{cursor_in}
+use Rattle.sm_top.specs.declared.status.Status.TheVariants.{Done}
+use Rattle.sm_top.proofs.RunLemmas.{wrote_answer}
+use Rattle.sm_top.proofs.KindLemmas.{solved_answer, two_solved}
+use Rattle.sm_top.proofs.performing.perform_on_seats.Goals as goal
+
+pub returns-in_ok-solve-in-Solve-clause-wrote : goal.returns-in_ok-solve-in-Solve-clause-wrote
+returns-in_ok-solve-in-Solve-clause-wrote g c =
+    let ok = rw c.in-Solve.is at c.requires.accepted in
+    let given = c.args.given.now in
+    rw c.in-Solve.is (solved_answer c.in-Solve.side c.args.bytes.now (read_of given.read.now) _ _ _ _ _ ok (two_solved c.in-Solve.side given.read.now.input given.instance.now _ _ _ _ _ c.requires.seated.two c.in_ok-solve-in-Solve.ensures.wrote))
+
+pub returns-in_ok-reduce-in-Reduced-clause-wrote : goal.returns-in_ok-reduce-in-Reduced-clause-wrote
+returns-in_ok-reduce-in-Reduced-clause-wrote g c =
+    let ok = rw c.in-Reduced.is at c.requires.accepted in
+    let given = c.args.given.now in
+    rw c.in-Reduced.is (wrote_answer Reduced c.args.bytes.now (read_of given.read.now) given.instance.now IsReduction Done _ _ _ _ _ ok c.requires.seated.two c.in_ok-reduce-in-Reduced.ensures.wrote)
+
+pub returns-in_ok-show_rotations-in-Rotations-clause-wrote : goal.returns-in_ok-show_rotations-in-Rotations-clause-wrote
+returns-in_ok-show_rotations-in-Rotations-clause-wrote g c =
+    let ok = rw c.in-Rotations.is at c.requires.accepted in
+    let given = c.args.given.now in
+    rw c.in-Rotations.is (wrote_answer Rotations c.args.bytes.now (read_of given.read.now) given.instance.now IsRotationAnswer Done _ _ _ _ _ ok c.requires.seated.two c.in_ok-show_rotations-in-Rotations.ensures.wrote)
+
+pub returns-in-List-clause-wrote : goal.returns-in-List-clause-wrote
+returns-in-List-clause-wrote g c =
+    let ok = rw c.in-List.is at c.requires.accepted in
+    let given = c.args.given.now in
+    rw c.in-List.is (IfOk-weaker c.list.result _ _ (λ status w. wrote_answer (JobData.List (cursor_in c.in-List.after) c.in-List.limit) c.args.bytes.now (read_of given.read.now) given.instance.now
+    (IsListAnswer (cursor_in c.in-List.after) c.in-List.limit) Done _ _ _ _ status ok c.requires.seated.two w) c.list.ensures.wrote)

@@ -1,0 +1,4 @@
+use Rattle.sm_trials.proofs.seats.takes_seats.Given as goal
+
+abbrev pub ghost-to_seats : goal.ghost-to_seats
+ghost-to_seats g a = g.written
