@@ -179,7 +179,7 @@ class Draw(unittest.TestCase):
         """Each with the line at which it is refused."""
         right = example('five_rotations.rotations')
         for old, new, line, what in (
-                ('answer rotations', 'refused NotBuilt 1', None, 'refused NotBuilt 1'),
+                ('answer rotations', 'refused WrongKind 1', None, 'refused WrongKind 1'),
                 ('answer rotations', 'usage 1', None, 'usage 1'),
                 ('answer rotations', 'answer reduced', 1, 'not of `rotations`'),
                 ('answer rotations', 'stable 1 marriage', 1, 'no answer'),
