@@ -6,7 +6,8 @@ use Rattle.sm_instance.specs.Written.{Written, row, entry, place_of, capacity_of
 use Rattle.sm_instance.specs.Sound.{IsInstance}
 use Rattle.sm_instance.specs.Matching.{held, is_at, load_before, IsAssignment, IsMatching, IsBreach, IsFirstBreach}
 use Rattle.sm_instance.specs.Kept.{naming_at, AreNamingsOf, cross_place}
-use Rattle.sm_instance.specs.Loads.{IsFirstOf, earlier_of, IsUnacceptable, IsOverfull, IsOverfullBelow, IsWorst}
+use Rattle.sm_lists.specs.Earlier.{earlier_of}
+use Rattle.sm_instance.specs.Loads.{IsFirstOf, IsUnacceptable, IsOverfull, IsOverfullBelow, IsWorst}
 use Rattle.sm_instance.specs.declared.namings.Naming.{Naming}
 use Rattle.sm_instance.proofs.ListLemmas.{row_in_range}
 use Rattle.sm_instance.proofs.AcceptLemmas.{cross_some}

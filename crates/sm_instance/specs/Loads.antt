@@ -10,11 +10,6 @@ abbrev pub IsFirstOf : (ℕ → Type 0) → Option ℕ → Type 0
 IsFirstOf P None = (p : ℕ) → ¬ P p
 IsFirstOf P (Some p) = P p × ((q : ℕ) → q < p → ¬ P q)
 
-abbrev pub earlier_of : Option ℕ → Option ℕ → Option ℕ
-earlier_of None b = b
-earlier_of (Some p) None = Some p
-earlier_of (Some p) (Some q) = Some (min p q)
-
 -- p holds a place of a reviewer that isn't acceptable to it
 pub record IsUnacceptable (w : Written) (places : List (Option ℕ)) (p : ℕ) : Type 0 where
   pub at : ℕ

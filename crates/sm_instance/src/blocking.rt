@@ -4,18 +4,11 @@ ghost use Rattle.std.specs.Prelude.{◌≡◌, ℕ, ◌<◌, ◌↔◌, length, 
 ghost use Rattle.sm_instance.specs.Written.{row, entry};
 ghost use Rattle.sm_instance.specs.Matching.{IsMatching};
 ghost use Rattle.sm_instance.specs.Stable.{Blocks, IsStable, IsFirstBlocking};
-ghost use Rattle.sm_instance.specs.Loads.{IsGainLimit, IsFirstAt, is_sooner, sooner_of};
+ghost use Rattle.sm_instance.specs.Loads.{IsGainLimit, IsFirstAt, sooner_of};
 
 use crate::agents::Assignment;
 use crate::instance::Instance;
 use crate::namings::Naming;
-
-// Does the one pair come before the other, by proposer and then by place?
-fn is_sooner(a: Naming, b: Naming) -> bool
-    ensures { result ≡ is_sooner a b }
-{
-    a.by < b.by || (a.by == b.by && a.place < b.place)
-}
 
 impl Instance {
     /// Whether a proposer and a reviewer block a matching: they are acceptable to each other, the proposer would rather
@@ -94,12 +87,18 @@ impl Instance {
     }
 }
 
-// The sooner of two pairs.
+// The sooner of two pairs, by proposer and then by place.
 fn sooner(a: Option<Naming>, b: Option<Naming>) -> Option<Naming>
     ensures { result ≡ sooner_of a b }
 {
     match (a, b) {
-        (Some(m), Some(n)) => { if is_sooner(n, m) { Some(n) } else { Some(m) } }
+        (Some(m), Some(n)) => {
+            if n.by < m.by || (n.by == m.by && n.place < m.place) {
+                Some(n)
+            } else {
+                Some(m)
+            }
+        }
         (Some(m), None) => Some(m),
         (None, b) => b,
     }

@@ -61,7 +61,8 @@ pub(crate) fn checked_names(
     let mut names = Names::new(alloc, hash_of_names(agents));
     for a in 0..agents.len() as u32 {
         let name = name_at(agents, a);
-        if !is_name(name) || !is_capacity(capacity_at(agents, a), single) {
+        let capacity = capacity_at(agents, a);
+        if !is_name(name) || capacity > MOST_CAPACITY || (single && capacity != 1) {
             return Err(InstanceFault::BadAgent(side, a));
         }
         let is_new = names.add(alloc, name)?;
@@ -79,13 +80,6 @@ fn hash_of_names(agents: &[Agent]) -> TextHash {
         digest.take(&agent.name);
     }
     digest.hash()
-}
-
-// May an agent have this capacity, where it is 1 for all or not?
-fn is_capacity(capacity: u32, single: bool) -> bool
-    ensures { IsTrue result ↔ ((capacity ≤ most_capacity) × (IsTrue single → capacity ≡ 1)) }
-{
-    capacity <= MOST_CAPACITY && (!single || capacity == 1)
 }
 
 /// Whether all entries of a side are sound; if not, the first that isn't.

@@ -1,15 +1,16 @@
 //! Assignments of proposers: which are matchings, and where others break.
 
-ghost use Rattle.std.specs.Prelude.{◌≡◌, ℕ, ◌<◌, ◌↔◌, ◌⊎◌, length, min, Some, None, IsTrue, MatchOption, IfSome, ◌≤◌};
+ghost use Rattle.std.specs.Prelude.{◌≡◌, ℕ, ◌<◌, ◌↔◌, ◌⊎◌, length, Some, IsTrue, MatchOption, IfSome, ◌≤◌};
 ghost use Rattle.sm_text.specs.Limits.{most_agents};
 ghost use Rattle.sm_instance.specs.Written.{row, entry, place_of, capacity_of};
 ghost use Rattle.sm_instance.specs.Matching.{held, standing, load, IsAssignment, IsMatching, IsFirstBreach};
 ghost use Rattle.sm_instance.specs.Sound.{IsInstance};
-ghost use Rattle.sm_instance.specs.Loads.{IsFirstOf, IsUnacceptable, IsOverfull, earlier_of, IsGainLimit, IsWorst};
+ghost use Rattle.sm_instance.specs.Loads.{IsFirstOf, IsUnacceptable, IsOverfull, IsGainLimit, IsWorst};
 
 use crate::agents::Assignment;
 use crate::instance::Instance;
 use crate::namings::Naming;
+use sm_lists::earlier;
 
 /// Does a proposer hold the place at which it names a reviewer?
 pub(crate) fn holds(a: &Assignment, naming: Naming) -> bool
@@ -28,17 +29,6 @@ fn held_place(a: &Assignment, p: u32) -> Option<u32>
     ensures { result ≡ held a.now.places.items p }
 {
     a.places[p as usize]
-}
-
-// The earlier of two numbers.
-fn earlier(a: Option<u32>, b: Option<u32>) -> Option<u32>
-    ensures { result ≡ earlier_of a b }
-{
-    match (a, b) {
-        (Some(p), Some(q)) => Some(p.min(q)),
-        (Some(p), None) => Some(p),
-        (None, b) => b,
-    }
 }
 
 impl Instance {

@@ -138,7 +138,7 @@ places_end {rows} {others} {crosses} {b} all s =
       };
     }
 
--- what is noted in b's turn is found for every agent
+-- what is noted in b's round is found for every agent
 pub places_from_notes : {rows : List (List ℕ)} {b : ℕ} (places : List (Option ℕ)) → length places ≡ length rows → ((a : ℕ) → a < length places → noted_of places a ≡ cross_place rows a b)
     → (others : List (List ℕ)) (crosses : List (Option ℕ)) → crosses ≡ map (noted_of places) (row others b) → AreCrossPlacesOf others rows b crosses
 places_from_notes {rows} {b} places long found others crosses is =

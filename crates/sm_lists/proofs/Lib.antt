@@ -8,3 +8,4 @@ pub mod FoundLemmas
 pub mod FirstLemmas
 pub mod NamingLemmas
 pub mod CrossLemmas
+pub mod Sums

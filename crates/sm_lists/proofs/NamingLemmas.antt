@@ -79,8 +79,8 @@ module _ {rows : List (List ℕ)} {a k b : ℕ} {namings : List Naming} (n : Are
       }
 
 -- at the end of a list the next one begins
-naming_turns : {rows : List (List ℕ)} {a b : ℕ} {namings : List Naming} → AreNamingsOf rows a (length (row rows a)) b namings → AreNamingsOf rows (a + 1) 0 b namings
-naming_turns {rows} {a} {b} {namings} n =
+naming_next : {rows : List (List ℕ)} {a b : ℕ} {namings : List Naming} → AreNamingsOf rows a (length (row rows a)) b namings → AreNamingsOf rows (a + 1) 0 b namings
+naming_next {rows} {a} {b} {namings} n =
     record {
       on_list = n.on_list;
       names = n.names;
@@ -112,8 +112,8 @@ module _ {others a k : ℕ} {rows : List (List ℕ)} {lists : List (List Naming)
             (λ b other lt. naming_passes (n.of b lt) (λ same. other (sym (is ∙ same))));
       }
 
-pub namings_turn : {others a : ℕ} {rows : List (List ℕ)} {lists : List (List Naming)} → AreNamings rows others a (length (row rows a)) lists → AreNamings rows others (a + 1) 0 lists
-namings_turn n = record { one_each = n.one_each; of = λ b lt. naming_turns (n.of b lt) }
+pub namings_next : {others a : ℕ} {rows : List (List ℕ)} {lists : List (List Naming)} → AreNamings rows others a (length (row rows a)) lists → AreNamings rows others (a + 1) 0 lists
+namings_next n = record { one_each = n.one_each; of = λ b lt. naming_next (n.of b lt) }
 
 -- one more item in the vector of an agent
 pub held_in-pushed : {X Y : Type 0} (f : X → Y) (vectors : List (Vec X Global)) (b : ℕ) (v d : Vec X Global) (x : X) → b < length vectors → v.items ≡ (get_or vectors b d).items ++ x ∷ []

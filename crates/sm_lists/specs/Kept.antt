@@ -1,4 +1,4 @@
--- What is noted of a list, turn by turn, and the cross places that are written by then.
+-- What is noted of a list, round by round, and the cross places that are written by then.
 use Rattle.std.specs.Prelude.{◌≡◌, ℕ, ◌<◌, ◌≤◌, ◌==◌, List, [], Option, Some, None, length, slice_index_or, slice_set, if◌then◌else◌}
 use Rattle.sm_lists.specs.Rows.{row, entry}
 use Rattle.sm_lists.specs.Crosses.{cross_place}
@@ -8,13 +8,13 @@ use Rattle.sm_lists.specs.declared.notes.Note.{Note}
 abbrev pub no_note : Note
 no_note = record { stamp = 0; place = 0 }
 
--- what was noted in a turn
+-- what was noted in a round
 abbrev pub noted_in : ℕ → Note → Option ℕ
-noted_in turn note = if note.stamp == turn then Some note.place else None
+noted_in round note = if note.stamp == round then Some note.place else None
 
--- the place that is noted for each agent of a side, and how many turns there have been
+-- the place that is noted for each agent of a side, and how many rounds there have been
 pub record Noted : Type 0 where
-  pub turns : ℕ
+  pub rounds : ℕ
   pub places : List (Option ℕ)
 
 -- the place that is noted for an agent

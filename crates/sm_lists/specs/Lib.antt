@@ -5,3 +5,5 @@ pub mod Crosses
 pub mod Namings
 pub mod Held
 pub mod Kept
+pub mod Sums
+pub mod Earlier

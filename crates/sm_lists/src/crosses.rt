@@ -1,7 +1,7 @@
 //! Where each agent stands on the lists of those whom it names, and who names whom.
 //!
 //! The lists of one side are turned over first, into one vector for each agent of the other side of who names it and where.
-//! Then each agent of the other side has a turn, in which it is noted who stands where on its list, and where each names
+//! Then each agent of the other side has a round, in which it is noted who stands where on its list, and where each names
 //! it. The first tells the cross places of the entries that name it, and the second those of its own entries.
 
 ghost use Rattle.std.specs.Prelude.{◌≡◌, ℕ, ◌+◌, ◌<◌, ◌≤◌, [], None, ◌^◌, List, length, map, replicate, slice_index_or, IfOk, IfSome, OnOk};
@@ -146,11 +146,11 @@ fn unwritten<C: KeptPlace>(alloc: Global, rows: &[&[u32]]) -> Result<Vec<Vec<C>>
     Ok(crosses)
 }
 
-/// Notes, in a new turn, each agent's first place on a list.
+/// Notes, in a new round, each agent's first place on a list.
 fn note_list(list: &[u32], notes: &mut Notes)
-    requires turn { notes.old.turns + 1 < 2 ^ 32 }
+    requires round { notes.old.rounds + 1 < 2 ^ 32 }
     requires short { length list.now < 2 ^ 24 }
-    ensures turn { notes.new.turns ≡ notes.old.turns + 1 }
+    ensures round { notes.new.rounds ≡ notes.old.rounds + 1 }
     ensures one_each { length notes.new.places ≡ length notes.old.places }
     ensures found { (a : ℕ) → a < length notes.old.places → noted_of notes.new.places a ≡ found_on list.now a }
 {
@@ -160,10 +160,10 @@ fn note_list(list: &[u32], notes: &mut Notes)
     }
 }
 
-/// Notes, in a new turn, where each agent names the one whose namings these are.
+/// Notes, in a new round, where each agent names the one whose namings these are.
 fn note_namings<N: KeptNaming>(namings: &[N], notes: &mut Notes)
-    requires { notes.old.turns + 1 < 2 ^ 32 }
-    ensures turn { notes.new.turns ≡ notes.old.turns + 1 }
+    requires { notes.old.rounds + 1 < 2 ^ 32 }
+    ensures round { notes.new.rounds ≡ notes.old.rounds + 1 }
     ensures one_each { length notes.new.places ≡ length notes.old.places }
     ensures found { (rows : List (List ℕ)) (b : ℕ) → AreNamingsOf rows (length rows) 0 b (map N.kept namings.now)
         → (a : ℕ) → a < length notes.old.places → noted_of notes.new.places a ≡ cross_place rows a b }

@@ -8,10 +8,12 @@
 mod crosses;
 mod naming;
 mod notes;
+mod numbers;
 mod place;
 mod rows;
 
 pub use crosses::{CrossPlaces, cross_places};
 pub use naming::{KeptNaming, Naming};
+pub use numbers::earlier;
 pub use place::KeptPlace;
 pub use rows::{copy_of, entry_at, lent, list_at};

@@ -6,18 +6,18 @@ ghost use Rattle.sm_lists.specs.Kept.{Noted, noted_of, first_noted};
 use std::alloc::{AllocError, Global};
 use std::marker::Model;
 
-/// A place that was noted for an agent, and the turn in which it was.
+/// A place that was noted for an agent, and the round in which it was.
 #[derive(Clone, Copy)]
 struct Note {
     stamp: u32,
     place: u32,
 }
 
-/// A place for each agent of a side, or none. All are taken away at once when the next turn begins.
+/// A place for each agent of a side, or none. All are taken away at once when the next round begins.
 #[derive(Drop)]
 pub(crate) struct Notes {
     notes: Vec<Note>,
-    turn: u32,
+    round: u32,
 }
 
 impl Model for Notes {
@@ -26,37 +26,37 @@ impl Model for Notes {
 
     ghost Value = { Noted };
 
-    ghost view = { λ n. record { turns = n.turn; places = map (noted_in n.turn) n.notes.items } };
+    ghost view = { λ n. record { rounds = n.round; places = map (noted_in n.round) n.notes.items } };
 
-    ghost invariant = { λ n. (1 ≤ n.turn) × ((a : ℕ) → (slice_index_or n.notes.items a no_note).stamp ≤ n.turn) };
+    ghost invariant = { λ n. (1 ≤ n.round) × ((a : ℕ) → (slice_index_or n.notes.items a no_note).stamp ≤ n.round) };
 }
 
 impl Notes {
     /// Nothing is noted for so many agents.
     pub(crate) fn new(alloc: Global, agents: usize) -> Result<Notes, AllocError>
-        ensures { IfOk result (λ notes. notes ≡ record { turns = 1; places = replicate agents None }) }
+        ensures { IfOk result (λ notes. notes ≡ record { rounds = 1; places = replicate agents None }) }
     {
         let notes = vec![in alloc; Note { stamp: 0, place: 0 }; agents]?;
-        Ok(Notes { notes, turn: 1 })
+        Ok(Notes { notes, round: 1 })
     }
 
-    /// Begins the next turn, with nothing noted.
+    /// Begins the next round, with nothing noted.
     pub(crate) fn clear(&mut self)
-        requires { self.old.turns + 1 < 2 ^ 32 }
-        ensures { self.new ≡ record { turns = self.old.turns + 1; places = replicate (length self.old.places) None } }
+        requires { self.old.rounds + 1 < 2 ^ 32 }
+        ensures { self.new ≡ record { rounds = self.old.rounds + 1; places = replicate (length self.old.places) None } }
     {
-        self.turn += 1;
+        self.round += 1;
     }
 
     /// Notes a place for an agent, unless one is noted or the agent isn't of this side.
     pub(crate) fn note(&mut self, a: u32, place: u32)
-        ensures turns { self.new.turns ≡ self.old.turns }
+        ensures rounds { self.new.rounds ≡ self.old.rounds }
         ensures places { self.new.places ≡ first_noted (noted_of self.old.places a) self.old.places a place }
     {
         let at = a as usize;
-        if at < self.notes.len() && self.notes[at].stamp != self.turn {
+        if at < self.notes.len() && self.notes[at].stamp != self.round {
             self.notes[at] = Note {
-                stamp: self.turn,
+                stamp: self.round,
                 place,
             };
         }
@@ -67,7 +67,7 @@ impl Notes {
         ensures { result ≡ noted_of self.now.places a }
     {
         match self.notes.get(a as usize) {
-            Some(note) if note.stamp == self.turn => Some(note.place),
+            Some(note) if note.stamp == self.round => Some(note.place),
             _ => None,
         }
     }

@@ -13,10 +13,11 @@ use Rattle.sm_instance.specs.declared.agents.Agent.{Agent}
 use Rattle.sm_instance.specs.declared.kinds.Kind.{Kind}
 use Rattle.sm_instance.specs.declared.kinds.Kind.TheVariants.{Marriage, Hospitals, Roommates}
 use Rattle.sm_instance.specs.Named.{SaidPair, SaidWeight, names_of}
+use Rattle.sm_lists.specs.Earlier.{earlier_of}
 use Rattle.sm_reader.specs.InstanceText.{lines_with_unknown, pairs_with_unknown, least, unknown_lines, listed_by_proposers, numbered, two_sides}
 use Rattle.sm_reader.specs.Kept.{AreBelow, Table}
 use Rattle.sm_reader.specs.Draft.{AreAgentsBelow, IsPairBelow, ArePairsBelow, pairs_of, listed_table, agent_in, pair_in, given_in, said_of, IsDraft}
-use Rattle.sm_reader.specs.Numbering.{lesser, line_if, pair_among, weight_among, NumbersPersons, NumbersSides}
+use Rattle.sm_reader.specs.Numbering.{line_if, pair_among, weight_among, NumbersPersons, NumbersSides}
 use Rattle.sm_reader.specs.declared.draft.Declared.{Declared}
 use Rattle.sm_reader.specs.declared.draft.Pair.{Pair}
 use Rattle.sm_reader.specs.declared.draft.Weight.{Weight}
@@ -70,18 +71,18 @@ module _ (p : List ℕ → Bool) (t : ℕ → List ℕ) (ids : List ℕ) where
   any_end i past h = ap (list_any p) (sym (front_all t ids i past)) ∙ h
 
 -- the least of two lists
-lesser_assoc : (n : ℕ) (a b : Option ℕ) → Some (option_map_or (min n) (lesser a b) n) ≡ lesser (Some (option_map_or (min n) a n)) b
-lesser_assoc n None None = refl
-lesser_assoc n None (Some b) = refl
-lesser_assoc n (Some a) None = refl
-lesser_assoc n (Some a) (Some b) = ap Some (let e : min n (min a b) ≡ min (min n a) b = omega arith in e)
+earlier_assoc : (n : ℕ) (a b : Option ℕ) → Some (option_map_or (min n) (earlier_of a b) n) ≡ earlier_of (Some (option_map_or (min n) a n)) b
+earlier_assoc n None None = refl
+earlier_assoc n None (Some b) = refl
+earlier_assoc n (Some a) None = refl
+earlier_assoc n (Some a) (Some b) = ap Some (let e : min n (min a b) ≡ min (min n a) b = omega arith in e)
 
--- the least of two lists is the lesser of theirs
-pub least-append : (xs ys : List ℕ) → least (xs ++ ys) ≡ lesser (least xs) (least ys)
+-- the least of two lists is the earlier of theirs
+pub least-append : (xs ys : List ℕ) → least (xs ++ ys) ≡ earlier_of (least xs) (least ys)
 least-append [] ys = refl
-least-append (n ∷ xs) ys = ap (λ o. Some (option_map_or (min n) o n)) (least-append xs ys) ∙ lesser_assoc n (least xs) (least ys)
+least-append (n ∷ xs) ys = ap (λ o. Some (option_map_or (min n) o n)) (least-append xs ys) ∙ earlier_assoc n (least xs) (least ys)
 
-least_one : (xs : List ℕ) (b : Bool) (n : ℕ) → least (xs ++ cond b (n ∷ []) []) ≡ lesser (least xs) (line_if b n)
+least_one : (xs : List ℕ) (b : Bool) (n : ℕ) → least (xs ++ cond b (n ∷ []) []) ≡ earlier_of (least xs) (line_if b n)
 least_one xs true n = least-append xs (n ∷ [])
 least_one xs false n = least-append xs []
 
@@ -90,7 +91,7 @@ if_map f true x = refl
 if_map f false x = refl
 
 -- the first line of those with a mark, with one more
-pub least_more : {X : Type 0} (p : X → Bool) (line : X → ℕ) (xs : List X) (x : X) → least (map line (filter p (xs ++ x ∷ []))) ≡ lesser (least (map line (filter p xs))) (line_if (p x) (line x))
+pub least_more : {X : Type 0} (p : X → Bool) (line : X → ℕ) (xs : List X) (x : X) → least (map line (filter p (xs ++ x ∷ []))) ≡ earlier_of (least (map line (filter p xs))) (line_if (p x) (line x))
 least_more p line xs x =
     ap (λ ys. least (map line ys)) (filter-append p xs (x ∷ []))
     ∙ ap least (map-append line (filter p xs) (cond (p x) (x ∷ []) []))
@@ -154,7 +155,7 @@ listed_names Roommates line d draft = proposer_names Roommates line d draft
 -- the first line that names an undeclared agent, part by part
 pub unknown_is : (kind : Kind) (line : ℕ) (d : Draft) → IsDraft kind line d
     → let p = d.proposer_names in let r = d.reviewer_names in let t = listed_table kind d.proposer_names d.reviewer_names in
-    least (unknown_lines kind (said_of kind d)) ≡ lesser (lesser (lesser (lesser
+    least (unknown_lines kind (said_of kind d)) ≡ earlier_of (earlier_of (earlier_of (earlier_of
     (least (lines_with_unknown t.declared (map (agent_in t.texts) d.proposers.items)))
     (least (lines_with_unknown p.declared (map (agent_in p.texts) d.reviewers.items))))
     (least (pairs_with_unknown p.declared r.declared (map (pair_in p.texts r.texts) (pairs_of d.weights.items)))))
@@ -180,14 +181,14 @@ unknown_is kind line d draft =
     let g = pairs_with_unknown p.declared r.declared said.forbidden in
     ap least named
     ∙ least-append (a ++ b ++ w ++ f) g
-    ∙ ap (λ o. lesser o (least g)) (least-append (a ++ b ++ w) f)
-    ∙ ap (λ o. lesser (lesser o (least f)) (least g)) (least-append (a ++ b) w)
-    ∙ ap (λ o. lesser (lesser (lesser o (least w)) (least f)) (least g)) (least-append a b)
+    ∙ ap (λ o. earlier_of o (least g)) (least-append (a ++ b ++ w) f)
+    ∙ ap (λ o. earlier_of (earlier_of o (least f)) (least g)) (least-append (a ++ b) w)
+    ∙ ap (λ o. earlier_of (earlier_of (earlier_of o (least w)) (least f)) (least g)) (least-append a b)
 
 -- one part after another
-pub lesser_chain : {a b w f g x y z u p q r s t : Option ℕ} → x ≡ lesser a b → y ≡ lesser x w → z ≡ lesser y f → u ≡ lesser z g → a ≡ p → b ≡ q → w ≡ r → f ≡ s → g ≡ t
-    → u ≡ lesser (lesser (lesser (lesser p q) r) s) t
-lesser_chain e1 e2 e3 e4 ha hb hw hf hg = cc
+pub earlier_chain : {a b w f g x y z u p q r s t : Option ℕ} → x ≡ earlier_of a b → y ≡ earlier_of x w → z ≡ earlier_of y f → u ≡ earlier_of z g → a ≡ p → b ≡ q → w ≡ r → f ≡ s → g ≡ t
+    → u ≡ earlier_of (earlier_of (earlier_of (earlier_of p q) r) s) t
+earlier_chain e1 e2 e3 e4 ha hb hw hf hg = cc
 
 -- the persons that are numbered are those that a draft says
 pub persons_said : (line : ℕ) (d : Draft) → IsDraft Roommates line d → (persons : List Agent) → NumbersPersons d persons

@@ -15,12 +15,6 @@ use Rattle.sm_reader.specs.declared.draft.Draft.{Draft}
 use Rattle.sm_reader.specs.declared.faults.TextFault.{TextFault}
 use Rattle.sm_reader.specs.declared.faults.TextFault.TheVariants.{Refused, OutOfMemory}
 
--- the lesser of two numbers, if there are any
-abbrev pub lesser : Option ℕ → Option ℕ → Option ℕ
-lesser None b = b
-lesser (Some a) None = Some a
-lesser (Some a) (Some b) = Some (min a b)
-
 -- a line, if it counts
 abbrev pub line_if : Bool → ℕ → Option ℕ
 line_if counts line = if counts then Some line else None

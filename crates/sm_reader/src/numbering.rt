@@ -6,11 +6,12 @@ ghost use Rattle.sm_instance.specs.Vectors.{agent_of, agents_of};
 ghost use Rattle.sm_reader.specs.InstanceText.{least, unknown_lines, lines_with_unknown, pairs_with_unknown, is_unknown, number_in, numbered};
 ghost use Rattle.sm_reader.specs.Kept.{text_at, AreBelow};
 ghost use Rattle.sm_reader.specs.Draft.{said_of, listed_table, agent_in, pair_in, given_in, AreAgentsBelow, IsPairBelow, ArePairsBelow, pairs_of};
-ghost use Rattle.sm_reader.specs.Numbering.{lesser, line_if, pair_among, weight_among, IsReady, IsTwoSided, NumbersPersons, NumbersSides};
+ghost use Rattle.sm_reader.specs.Numbering.{line_if, pair_among, weight_among, IsReady, IsTwoSided, NumbersPersons, NumbersSides};
 
 use crate::draft::{Declared, Draft, OfPair, Pair, Weight};
 use crate::names::Names;
 use sm_instance::{Agent, Kind, Parts};
+use sm_lists::earlier;
 use std::alloc::{AllocError, Global};
 
 /// The first line that names an agent which isn't declared.
@@ -40,17 +41,6 @@ fn first_in_proposers(kind: Kind, draft: &Draft<'_>) -> Option<u32>
     match kind {
         Kind::Roommates => first_in_lists(&draft.proposer_names, &draft.proposers),
         _ => first_in_lists(&draft.reviewer_names, &draft.proposers),
-    }
-}
-
-// The earlier of two lines, if there are any.
-fn earlier(a: Option<u32>, b: Option<u32>) -> Option<u32>
-    ensures { result ≡ lesser a b }
-{
-    match (a, b) {
-        (Some(a), Some(b)) => Some(a.min(b)),
-        (Some(a), None) => Some(a),
-        (None, b) => b,
     }
 }
 
@@ -229,6 +219,19 @@ fn number_names(names: &Names<'_>, entries: &mut [u32])
     }
 }
 
+// A pair by number.
+fn number_pair(proposers: &Names<'_>, reviewers: &Names<'_>, pair: Pair) -> (u32, u32)
+    requires few_proposers { length proposers.now.declared < 2 ^ 32 }
+    requires few_reviewers { length reviewers.now.declared < 2 ^ 32 }
+    requires in_range { IsPairBelow (length proposers.now.texts) (length reviewers.now.texts) pair }
+    ensures { result ≡ pair_among proposers.now.declared reviewers.now.declared
+        (pair_in proposers.now.texts reviewers.now.texts pair) }
+{
+    let proposer = proposers.number(pair.proposer);
+    let reviewer = reviewers.number(pair.reviewer);
+    (proposer, reviewer)
+}
+
 // Pairs by number.
 fn number_pairs(
     alloc: Global,
@@ -245,9 +248,7 @@ fn number_pairs(
 {
     let mut numbers = Vec::with_capacity(alloc, pairs.len())?;
     'pairs: for pair in pairs {
-        let proposer = proposers.number(pair.proposer);
-        let reviewer = reviewers.number(pair.reviewer);
-        numbers.push((proposer, reviewer))?;
+        numbers.push(number_pair(proposers, reviewers, *pair))?;
     }
     Ok(numbers)
 }
@@ -269,8 +270,7 @@ fn number_weights(
 {
     let mut numbers = Vec::with_capacity(alloc, weights.len())?;
     'weights: for weight in weights {
-        let proposer = proposers.number(weight.pair.proposer);
-        let reviewer = reviewers.number(weight.pair.reviewer);
+        let (proposer, reviewer) = number_pair(proposers, reviewers, weight.pair);
         numbers.push((proposer, reviewer, weight.weight))?;
     }
     Ok(numbers)

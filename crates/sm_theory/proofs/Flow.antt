@@ -1,4 +1,3 @@
 -- Flows and cuts.
-pub mod Sums
 pub mod Cuts
 pub mod Witness

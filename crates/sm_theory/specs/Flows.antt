@@ -1,7 +1,8 @@
 -- Flows in a net, and what their residual steps reach.
 use Rattle.std.specs.Prelude.{◌≡◌, ℕ, suc, ◌<◌, ◌≤◌, ◌⊎◌, ◌↔◌, Bool, List, length}
 use Rattle.sm_theory.specs.ClosedSets.{IsMember}
-use Rattle.sm_theory.specs.Net.{Net, sink_of, room_of, IsUnbounded, sum_to, IsReachable}
+use Rattle.sm_lists.specs.Sums.{sum_to}
+use Rattle.sm_theory.specs.Net.{Net, sink_of, room_of, IsUnbounded, IsReachable}
 
 -- an amount on each edge, within its room, such that as much comes to each inner node as leaves it
 -- (Ford and Fulkerson 1956)

@@ -3,6 +3,7 @@
 -- unbounded one is there, a bounded one counts for nothing.
 use Rattle.std.specs.Prelude.{◌≡◌, ℕ, zero, suc, ◌+◌, ◌<◌, ◌≤◌, nat_lt, ◌==◌, if◌then◌else◌, Bool, true, false, List, [], ◌∷◌, length}
 use Rattle.sm_theory.specs.ClosedSets.{is_member}
+use Rattle.sm_lists.specs.Sums.{sum_to}
 
 -- how many inner nodes there are, the rooms of the edges from the source to them and from them to the sink, and which
 -- edges are unbounded (Ford and Fulkerson 1956). Node 0 is the source, node k + 1 the inner node k, and the last node
@@ -44,11 +45,6 @@ NoneLeaves net Step set = (i j : ℕ) → i < suc (sink_of net) → j < suc (sin
 pub record IsCut (net : Net) (set : List Bool) : Type 0 where
   pub one_each : length set ≡ net.size
   pub bounded : NoneLeaves net (IsUnbounded net) set
-
--- the sum of the first n values
-abbrev pub sum_to : (ℕ → ℕ) → ℕ → ℕ
-sum_to f zero = 0
-sum_to f (suc n) = sum_to f n + f n
 
 -- the rooms of the edges that leave a set: from its members to the sink, and from the source to the others
 -- (Ford and Fulkerson 1956)

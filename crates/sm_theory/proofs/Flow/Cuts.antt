@@ -4,10 +4,11 @@ use Rattle.std.proofs.lemmas.List.{get_or_past}
 use Rattle.std.proofs.lemmas.Bool.{false≢true}
 use Rattle.sm_lists.proofs.Counting.{lt_or_le, eq_or_ne}
 use Rattle.sm_theory.specs.ClosedSets.{is_member, IsMember}
-use Rattle.sm_theory.specs.Net.{Net, sink_of, room_of, IsUnbounded, is_in, NoneLeaves, IsCut, sum_to, cut_of, IsPath}
+use Rattle.sm_lists.specs.Sums.{sum_to}
+use Rattle.sm_theory.specs.Net.{Net, sink_of, room_of, IsUnbounded, is_in, NoneLeaves, IsCut, cut_of, IsPath}
 use Rattle.sm_theory.specs.Flows.{IsFlow, flow_value, IsResidualStep}
 use Rattle.sm_theory.specs.LawsFlows.{NoFlowAboveCut, ReachIsLeastCut}
-use Rattle.sm_theory.proofs.Flow.Sums.{sum_same, sum_le, sum_none, sum_plus, sum_first, sum_swap, sum_tight, sum_cond}
+use Rattle.sm_lists.proofs.Sums.{sum_same, sum_le, sum_none, sum_plus, sum_first, sum_swap, sum_tight, sum_cond}
 
 abbrev nodes : Net → ℕ
 nodes net = suc (suc net.size)

@@ -6,8 +6,9 @@ use Rattle.std.proofs.lemmas.Bool.{false≢true}
 use Rattle.std.proofs.lemmas.List.{get_or_past, get_or-set_same, get_or-set_other, length-set}
 use Rattle.sm_lists.proofs.Counting.{Decided, Decided-and, Decided-some, lt_or_le, eq_or_ne, First, Decided-true}
 use Rattle.sm_theory.specs.ClosedSets.{is_member}
-use Rattle.sm_theory.specs.Net.{Net, sink_of, is_unbounded, IsUnbounded, is_in, IsCut, sum_to, IsPath, IsReachable}
-use Rattle.sm_theory.proofs.Flow.Sums.{sum_tight}
+use Rattle.sm_lists.specs.Sums.{sum_to}
+use Rattle.sm_theory.specs.Net.{Net, sink_of, is_unbounded, IsUnbounded, is_in, IsCut, IsPath, IsReachable}
+use Rattle.sm_lists.proofs.Sums.{sum_tight}
 use Rattle.sm_theory.proofs.Net.Tests.{some_first}
 
 -- one step more

@@ -10,7 +10,8 @@ use Rattle.sm_theory.specs.Chains.{rotation_at}
 use Rattle.sm_theory.specs.ClosedSets.{is_member, IsMember, IsClosed, matching_of}
 use Rattle.sm_theory.specs.Vectors.{IsAllowed}
 use Rattle.sm_theory.specs.Weights.{total, weight_of, gain_of, gain_of_set}
-use Rattle.sm_theory.specs.Net.{Net, IsUnbounded, sum_to, cut_of, IsLeastCut, IsReachable}
+use Rattle.sm_lists.specs.Sums.{sum_to}
+use Rattle.sm_theory.specs.Net.{Net, IsUnbounded, cut_of, IsLeastCut, IsReachable}
 use Rattle.sm_theory.specs.Flows.{flow_value}
 use Rattle.sm_theory.specs.Conditions.{rise_of, fall_of, allows_nothing, net_of, IsNetGround, IsLightestAllowed}
 use Rattle.sm_theory.specs.LawsFlows.{LeastCutIsLightest, ReachIsBestLightest, PathWhereNothing}

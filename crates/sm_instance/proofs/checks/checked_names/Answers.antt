@@ -1,4 +1,4 @@
-use Rattle.std.proofs.Common.{◌≡◌, ◌++◌, ◌∷◌, [], cond, true, false, refl, sym, ap, ◌∙◌, arith, below_more}
+use Rattle.std.proofs.Common.{◌≡◌, ◌++◌, ◌∷◌, [], cond, true, false, true≢false, inl, inr, refl, sym, ap, ◌∙◌, arith, below_more}
 use Rattle.std.specs.List.{list_any}
 use Rattle.std.specs.Str.{bytes_eq}
 use Rattle.std.proofs.lemmas.Bool.{not-false, not-true}
@@ -26,7 +26,6 @@ loop-a-preserved c =
     let long = length-agents c.args.agents.now in
     let old = c.loop-a.names in
     let name = c.name_at-name.result.now in
-    let capacity = (c.is_capacity.ensures).0 c.if-not-is_capacity.false in
     let new : list_any (bytes_eq name) old ≡ false = not-true _ (sym c.in_ok-is_new.ensures.added ∙ c.if-not-is_new.false) in
     record {
       told = c.in_ok-is_new.ensures.names ∙ ap (λ b. cond b (old ++ name ∷ []) old) c.if-not-is_new.false
@@ -34,7 +33,10 @@ loop-a-preserved c =
       sound = below_more _ _ c.loop-a.invariant.sound (record {
         name = ap is_name (sym c.name_at-name.ensures) ∙ sym c.is_name.ensures ∙ c.if-not-is_name.false;
         fresh = fresh_name agents c.loop-a.a old name (omega arith) c.loop-a.invariant.told c.name_at-name.ensures new;
-        capacity = let h = capacity.0 in omega arith;
-        one = λ e. let h = capacity.1 e in omega arith;
+        capacity = let h = c.if-capacity-gt-MOST_CAPACITY.false in omega arith;
+        one = λ e. elim c.if-capacity-ne1.either [
+          | inl h ↦ sym c.capacity_at-capacity.ensures ∙ h.1
+          | inr h ↦ absurd (true≢false (sym e ∙ h))
+        ];
       });
     }

@@ -2,7 +2,7 @@ use Rattle.std.proofs.Common.{ℕ, ◌<◌, ◌≡◌, List, length, get_or, ap,
 use Rattle.sm_lists.specs.Rows.{row, entry, lists_in}
 use Rattle.sm_lists.specs.Namings.{AreNamings}
 use Rattle.sm_lists.specs.Held.{held_in}
-use Rattle.sm_lists.proofs.NamingLemmas.{held_in-pushed, namings_add, namings_pass, namings_turn}
+use Rattle.sm_lists.proofs.NamingLemmas.{held_in-pushed, namings_add, namings_pass, namings_next}
 use Rattle.sm_lists.proofs.crosses.add_namings.Goals as goal
 use Rattle.sm_lists.proofs.crosses.add_namings.Goals.{then-named-namings+in_ok-push, else-named-namings}
 
@@ -26,4 +26,4 @@ returns g c =
     let end : length c.lent_at-list.result.now ≡ c.loop-place.place = omega arith in
     let long : c.loop-place.place ≡ length (row rows c.args.by) = sym end ∙ ap (λ (s : List ℕ). length s) c.lent_at-list.ensures in
     let Q : ℕ → Type 0 = λ k. AreNamings rows (length c.args.namings.now) c.args.by k (held_in g.N.KeptNaming.kept c.loop-place.namings) in
-    record { after = namings_turn (subst Q long c.loop-place.invariant) }
+    record { after = namings_next (subst Q long c.loop-place.invariant) }

@@ -13,8 +13,8 @@ use Rattle.sm_lists.proofs.crosses.cross_places.Goals as goal
 
 pub loop-b-init : goal.loop-b-init
 loop-b-init g c = record {
-  listed_turns = ap (λ (n : Noted). n.turns) c.in_ok-listed.ensures;
-  named_turns = ap (λ (n : Noted). n.turns) c.in_ok-named.ensures;
+  listed_rounds = ap (λ (n : Noted). n.rounds) c.in_ok-listed.ensures;
+  named_rounds = ap (λ (n : Noted). n.rounds) c.in_ok-named.ensures;
   listed_long = ap (λ (n : Noted). length n.places) c.in_ok-listed.ensures ∙ length-replicate _ _;
   named_long = ap (λ (n : Noted). length n.places) c.in_ok-named.ensures ∙ length-replicate _ _;
   before = places_start (lists_in c.args.rows.now) (lists_in c.args.others.now) (held_in g.C.KeptPlace.kept c.in_ok-of_rows.of_rows.items) c.in_ok-of_rows.ensures;
@@ -89,8 +89,8 @@ loop-b-preserved g c =
     let written : ArePlacesBefore rows others (b + 1) (held_in g.C.KeptPlace.kept c.write_places.new.crosses) =
     c.write_places.ensures rows others b named notes (rw c.deref_mut.ensures.value before.before) in
     record {
-      listed_turns = let turn = c.note_list.ensures.turn in let t = before.listed_turns in omega arith;
-      named_turns = let turn = c.note_namings.ensures.turn in let t = before.named_turns in omega arith;
+      listed_rounds = let round = c.note_list.ensures.round in let t = before.listed_rounds in omega arith;
+      named_rounds = let round = c.note_namings.ensures.round in let t = before.named_rounds in omega arith;
       listed_long = listed_same ∙ listed_long;
       named_long = named_same ∙ named_long;
       before =

@@ -7,8 +7,8 @@ use Rattle.sm_lists.proofs.crosses.cross_places.Given as goal
 
 abbrev pub invariant-loop-b : goal.invariant-loop-b
 invariant-loop-b g l = record {
-  listed_turns : l.listed.turns ≡ l.b + 1;
-  named_turns : l.named.turns ≡ l.b + 1;
+  listed_rounds : l.listed.rounds ≡ l.b + 1;
+  named_rounds : l.named.rounds ≡ l.b + 1;
   listed_long : length l.listed.places ≡ length l.rows;
   named_long : length l.named.places ≡ length l.rows;
   before : ArePlacesBefore (lists_in l.rows) (lists_in l.others) l.b (held_in g.C.KeptPlace.kept l.of_rows.items);

@@ -10,7 +10,7 @@ loop-place-preserved c =
     let places : List (Option ℕ) = c.loop-place.notes.places in
     let before = c.loop-place.invariant in
     record {
-      turns = c.note.ensures.turns ∙ before.turns;
+      rounds = c.note.ensures.rounds ∙ before.rounds;
       one_each = ap (λ (xs : List (Option ℕ)). length xs) c.note.ensures.places ∙ length-first_noted (noted_of places (get_or list k 0)) places (get_or list k 0) k ∙ before.one_each;
       first = rw c.note.ensures.places (first_more (λ j. get_or list j 0) (λ j. j) k places (noted_of places (get_or list k 0)) refl before.first);
     }

@@ -20,7 +20,7 @@ loop-naming-preserved g c =
     let More : Naming → Type 0 = λ z. AreFirst key value (k + 1) (first_noted (noted_of places z.by) places z.by z.place) in
     let more : More y = subst More (sym read) (first_more key value k places (noted_of places (key k)) refl before.first) in
     record {
-      turns = c.note.ensures.turns ∙ before.turns;
+      rounds = c.note.ensures.rounds ∙ before.rounds;
       one_each = ap (λ (xs : List (Option ℕ)). length xs) c.note.ensures.places ∙ length-first_noted (noted_of places y.by) places y.by y.place ∙ before.one_each;
       first = rw c.note.ensures.places more;
     }

@@ -5,7 +5,7 @@ use Rattle.sm_lists.proofs.crosses.note_namings.Given as goal
 
 abbrev pub invariant-loop-naming : goal.invariant-loop-naming
 invariant-loop-naming g l = record {
-  turns : l.notes.turns ≡ l.fn.notes.turns + 1;
+  rounds : l.notes.rounds ≡ l.fn.notes.rounds + 1;
   one_each : length l.notes.places ≡ length l.fn.notes.places;
   first : AreFirst (λ e. (naming_at (map g.N.KeptNaming.kept l.namings) e).by) (λ e. (naming_at (map g.N.KeptNaming.kept l.namings) e).place) l.naming-index l.notes.places;
 }

@@ -1,10 +1,11 @@
 use Rattle.std.proofs.Common.{◌≡◌, ◌++◌, ◌∷◌, [], ap, ◌∙◌, sym, subst, length, map, take}
 use Rattle.std.specs.List.{list_any}
 use Rattle.sm_instance.specs.Named.{SaidAgent}
+use Rattle.sm_lists.specs.Earlier.{earlier_of}
 use Rattle.sm_reader.specs.InstanceText.{is_unknown, lines_with_unknown, least}
 use Rattle.sm_reader.specs.Kept.{text_at, AreBelow}
 use Rattle.sm_reader.specs.Draft.{agent_in}
-use Rattle.sm_reader.specs.Numbering.{lesser, line_if}
+use Rattle.sm_reader.specs.Numbering.{line_if}
 use Rattle.sm_reader.proofs.NumberLemmas.{front_more, front_all, least_more, agents_below_at}
 use Rattle.sm_reader.proofs.numbering.first_in_lists.Goals as goal
 
@@ -24,8 +25,8 @@ agents-preserved c =
     let marked : c.has_unknown.result ≡ list_any (is_unknown t.declared) (map (text_at t.texts) agent.entries.items) =
     c.has_unknown.ensures ∙ ap (λ ids. list_any (is_unknown t.declared) (map (text_at t.texts) ids)) c.deref.ensures.value in
     c.earlier-first.ensures
-    ∙ ap (λ o. lesser o c.line_if.result) c.agents.invariant
-    ∙ ap (lesser (least (lines_with_unknown t.declared (map (agent_in t.texts) (take i agents))))) (c.line_if.ensures ∙ ap (λ b. line_if b agent.line) marked)
+    ∙ ap (λ o. earlier_of o c.line_if.result) c.agents.invariant
+    ∙ ap (earlier_of (least (lines_with_unknown t.declared (map (agent_in t.texts) (take i agents))))) (c.line_if.ensures ∙ ap (λ b. line_if b agent.line) marked)
     ∙ sym (least_more mark line (map (agent_in t.texts) (take i agents)) (agent_in t.texts agent))
     ∙ ap (λ a. least (lines_with_unknown t.declared (map (agent_in t.texts) (take i agents) ++ agent_in t.texts a ∷ []))) c.agent-item.is
     ∙ ap (λ xs. least (lines_with_unknown t.declared xs)) (sym (front_more (agent_in t.texts) agents i agent c.agents-test.true))

@@ -1,9 +1,10 @@
 use Rattle.std.proofs.Common.{◌≡◌, ◌++◌, ◌∷◌, [], ap, ◌∙◌, ◌||◌, sym, subst, length, map, take, get_or, List}
 use Rattle.std.proofs.lemmas.List.{map_push}
 use Rattle.sm_instance.specs.Named.{SaidPair}
+use Rattle.sm_lists.specs.Earlier.{earlier_of}
 use Rattle.sm_reader.specs.InstanceText.{is_unknown, pairs_with_unknown, least}
 use Rattle.sm_reader.specs.Draft.{pair_in, IsPairBelow}
-use Rattle.sm_reader.specs.Numbering.{lesser, line_if}
+use Rattle.sm_reader.specs.Numbering.{line_if}
 use Rattle.sm_reader.specs.declared.draft.Pair.{Pair}
 use Rattle.sm_reader.proofs.NumberLemmas.{front_more, front_all, least_more, pairs_below_in}
 use Rattle.sm_reader.proofs.numbering.first_in_pairs.Goals as goal
@@ -30,8 +31,8 @@ items-preserved g c =
     let mark = λ (x : SaidPair). is_unknown p.declared x.proposer || is_unknown r.declared x.reviewer in
     let line = λ (x : SaidPair). x.line in
     c.earlier-first.ensures
-    ∙ ap (λ o. lesser o c.line_if.result) c.items.invariant
-    ∙ ap (lesser (least (pairs_with_unknown p.declared r.declared (map (pair_in p.texts r.texts) front))))
+    ∙ ap (λ o. earlier_of o c.line_if.result) c.items.invariant
+    ∙ ap (earlier_of (least (pairs_with_unknown p.declared r.declared (map (pair_in p.texts r.texts) front))))
     (c.line_if.ensures ∙ ap (λ b. line_if b pair.line) c.is_unknown.ensures)
     ∙ sym (least_more mark line (map (pair_in p.texts r.texts) front) (pair_in p.texts r.texts pair))
     ∙ ap (λ xs. least (pairs_with_unknown p.declared r.declared xs)) (sym (map_push (pair_in p.texts r.texts) front pair))

@@ -1,22 +1,15 @@
 use Rattle.std.proofs.Common.{◌≡◌, ◌++◌, ◌∷◌, [], ap, ◌∙◌, sym, length, map, take, get_or, pos, rules}
 use Rattle.std.proofs.lemmas.List.{map_push}
-use Rattle.sm_reader.specs.InstanceText.{number_in}
-use Rattle.sm_reader.specs.Kept.{text_at}
 use Rattle.sm_reader.specs.Draft.{given_in}
 use Rattle.sm_reader.specs.Numbering.{weight_among}
 use Rattle.sm_reader.specs.declared.draft.Weight.{Weight}
 use Rattle.sm_reader.proofs.NumberLemmas.{front_more, front_all, pairs_below_in}
 use Rattle.sm_reader.proofs.numbering.number_weights.Goals as goal
 
-pub number-proposer-requires-clause-in_range : goal.number-proposer-requires-clause-in_range
-number-proposer-requires-clause-in_range c =
+pub number_pair-proposer-requires-clause-in_range : goal.number_pair-proposer-requires-clause-in_range
+number_pair-proposer-requires-clause-in_range c =
     let d : Weight = record { pair = record { proposer = 0; reviewer = 0; line = 0 }; weight = pos 0 } in
-    (pairs_below_in (λ (w : Weight). w.pair) (length c.args.proposers.now.texts) (length c.args.reviewers.now.texts) c.args.weights.now c.weights.weight-index d c.requires.in_range c.weights-test.true).proposer
-
-pub number-reviewer-requires-clause-in_range : goal.number-reviewer-requires-clause-in_range
-number-reviewer-requires-clause-in_range c =
-    let d : Weight = record { pair = record { proposer = 0; reviewer = 0; line = 0 }; weight = pos 0 } in
-    (pairs_below_in (λ (w : Weight). w.pair) (length c.args.proposers.now.texts) (length c.args.reviewers.now.texts) c.args.weights.now c.weights.weight-index d c.requires.in_range c.weights-test.true).reviewer
+    pairs_below_in (λ (w : Weight). w.pair) (length c.args.proposers.now.texts) (length c.args.reviewers.now.texts) c.args.weights.now c.weights.weight-index d c.requires.in_range c.weights-test.true
 
 pub weights-preserved : goal.weights-preserved
 weights-preserved c =
@@ -25,12 +18,12 @@ weights-preserved c =
     let r = c.args.reviewers.now in
     let xs = c.args.weights.now in
     let i = c.weights.weight-index in
+    let weight = (get_or xs i d).weight in
     let before = map (weight_among p.declared r.declared) (map (given_in p.texts r.texts) (take i xs)) in
-    let items : c.push.new.self.items ≡ c.weights.numbers.items ++ (c.number-proposer.result, c.number-reviewer.result, (get_or xs i d).weight) ∷ [] = let pushed = c.in_ok-push.ensures.items in search rules in
+    let items : c.push.new.self.items ≡ c.weights.numbers.items ++ (c.number_pair-proposer.result.0, c.number_pair-proposer.result.1, weight) ∷ [] = let pushed = c.in_ok-push.ensures.items in search rules in
     items
-    ∙ ap (λ ys. ys ++ (c.number-proposer.result, c.number-reviewer.result, (get_or xs i d).weight) ∷ []) c.weights.invariant
-    ∙ ap (λ n. before ++ (n, c.number-reviewer.result, (get_or xs i d).weight) ∷ []) c.number-proposer.ensures
-    ∙ ap (λ n. before ++ (number_in p.declared (text_at p.texts (get_or xs i d).pair.proposer), n, (get_or xs i d).weight) ∷ []) c.number-reviewer.ensures
+    ∙ ap (λ ys. ys ++ (c.number_pair-proposer.result.0, c.number_pair-proposer.result.1, weight) ∷ []) c.weights.invariant
+    ∙ ap (λ n. before ++ (n.0, n.1, weight) ∷ []) c.number_pair-proposer.ensures
     ∙ sym (map_push (weight_among p.declared r.declared) (map (given_in p.texts r.texts) (take i xs)) (given_in p.texts r.texts (get_or xs i d)))
     ∙ ap (map (weight_among p.declared r.declared)) (sym (front_more (given_in p.texts r.texts) xs i d c.weights-test.true))
 

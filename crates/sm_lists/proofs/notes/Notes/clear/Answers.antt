@@ -6,8 +6,8 @@ use Rattle.sm_lists.proofs.notes.Notes.clear.Goals as goal
 
 pub returns : goal.returns
 returns c =
-    let turn = c.self.inside.turn in
+    let round = c.self.inside.round in
     let notes = c.self.inside.notes.items in
     rw (← c.self.view_is)
-    (ap (λ (places : List (Option ℕ)). record { turns = turn + 1; places = places })
-    (map-noted_in_earlier turn notes c.self.invariant.1 ∙ ap (λ n. replicate n None) (sym (length-map notes (noted_in turn)))))
+    (ap (λ (places : List (Option ℕ)). record { rounds = round + 1; places = places })
+    (map-noted_in_earlier round notes c.self.invariant.1 ∙ ap (λ n. replicate n None) (sym (length-map notes (noted_in round)))))

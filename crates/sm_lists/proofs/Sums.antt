@@ -1,7 +1,8 @@
 -- Sums of the first n values.
-use Rattle.std.proofs.Common.{◌≡◌, ℕ, zero, suc, ◌+◌, ◌<◌, ◌≤◌, inl, inr, arith, refl, sym, ap, ◌∙◌, Bool, true, false, cond}
+use Rattle.std.proofs.Common.{◌≡◌, ◌≢◌, ℕ, zero, suc, ◌+◌, ◌<◌, ◌≤◌, inl, inr, arith, refl, sym, ap, ◌∙◌, Bool, true, false, cond}
+use Rattle.std.proofs.lemmas.Bool.{cases_eq}
+use Rattle.sm_lists.specs.Sums.{sum_to}
 use Rattle.sm_lists.proofs.Counting.{eq_or_ne}
-use Rattle.sm_theory.specs.Net.{sum_to}
 
 pub sum_same : (n : ℕ) (f g : ℕ → ℕ) → ((i : ℕ) → i < n → f i ≡ g i) → sum_to f n ≡ sum_to g n
 sum_same zero f g e = refl
@@ -18,6 +19,17 @@ sum_none (suc n) f e = omega (arith, sum_none n f (λ i h. e i (omega arith)), e
 pub sum_plus : (n : ℕ) (f g : ℕ → ℕ) → sum_to (λ i. f i + g i) n ≡ sum_to f n + sum_to g n
 sum_plus zero f g = omega arith
 sum_plus (suc n) f g = omega (arith, sum_plus n f g)
+
+-- two functions that differ at k alone
+pub sum_one : (n k : ℕ) (f g : ℕ → ℕ) (d : ℕ) → k < n → ((i : ℕ) → i < n → i ≢ k → f i ≡ g i) → f k ≡ g k + d → sum_to f n ≡ sum_to g n + d
+sum_one zero k f g d lt same here = absurd (omega arith)
+sum_one (suc n) k f g d lt same here = elim (cases_eq n k) [
+  | inl e ↦
+      let a : f n ≡ f k = ap f e in
+      let b : g n ≡ g k = ap g e in
+      omega (arith, a, b, sum_same n f g (λ i h. same i (omega arith) (λ x. omega arith)))
+  | inr e ↦ omega (arith, sum_one n k f g d (omega arith) (λ i h x. same i (omega arith) x) here, same n (omega arith) e)
+]
 
 pub sum_first : (n : ℕ) (f : ℕ → ℕ) → sum_to f (suc n) ≡ f 0 + sum_to (λ k. f (suc k)) n
 sum_first zero f = omega arith

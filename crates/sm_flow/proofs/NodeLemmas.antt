@@ -1,0 +1,26 @@
+-- What counts at one node.
+use Rattle.std.proofs.Common.{◌≡◌, ◌≢◌, ℕ, ◌+◌, ◌==◌, arith, refl, Bool, true, false, cond, eq-eqb, ne_eqb}
+use Rattle.sm_flow.specs.Flowing.{at_node}
+
+pub at_here : (v n : ℕ) → at_node v v n ≡ n
+at_here v n = rw (eq-eqb v v refl) refl
+
+pub at_same : (v w n : ℕ) → w ≡ v → at_node v w n ≡ n
+at_same v w n e = rw (eq-eqb w v e) refl
+
+pub at_other : (v w n : ℕ) → w ≢ v → at_node v w n ≡ 0
+at_other v w n e = rw (ne_eqb w v e) refl
+
+pub at_plus : (v w m n : ℕ) → at_node v w (m + n) ≡ at_node v w m + at_node v w n
+at_plus v w m n = go (w == v)
+  where
+    go : (b : Bool) → cond b (m + n) 0 ≡ cond b m 0 + cond b n 0
+    go true = refl
+    go false = omega arith
+
+pub at_none : (v w : ℕ) → at_node v w 0 ≡ 0
+at_none v w = go (w == v)
+  where
+    go : (b : Bool) → ◌≡◌ {A = ℕ} (cond b 0 0) 0
+    go true = refl
+    go false = refl

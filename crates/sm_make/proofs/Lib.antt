@@ -1,0 +1,12 @@
+pub mod WordLemmas
+pub mod RangeLemmas
+pub mod DrawnLemmas
+pub mod SoundLemmas
+pub mod SideLemmas
+pub mod ListLemmas
+pub mod TurnLemmas
+pub mod CopyLemmas
+pub mod FewLemmas
+pub mod DigitLemmas
+pub mod WitnessLemmas
+pub mod InstanceLemmas
