@@ -1,5 +1,5 @@
 //! Each public call of the crates below, once with memory and with each fault once; the crates of markets have theirs in
-//! `sm_examples`.
+//! `sm_examples`, and words and whole runs in `sm_runs`.
 //!
 //! A contract can't say that a call succeeds where there is memory, so it is tried here. A file stands for one crate. That
 //! definitions mean what they should is computed by the checker beside them, in the witnesses of the crates below.
@@ -13,8 +13,7 @@ mod instances;
 mod lines;
 #[cfg(test)]
 mod listings;
-#[cfg(test)]
-mod made;
+pub mod made;
 #[cfg(test)]
 mod pieces;
 #[cfg(test)]
@@ -22,12 +21,8 @@ mod reading;
 #[cfg(test)]
 mod rooms;
 #[cfg(test)]
-mod runs;
-#[cfg(test)]
 mod seats;
 #[cfg(test)]
 mod tallies;
 #[cfg(test)]
 mod texts;
-#[cfg(test)]
-mod words;

@@ -1,9 +1,9 @@
 //! Whole runs over sources and sinks in memory, with texts by hand.
 
-use crate::made::{MEMORY, copy, words_in};
 use sm_io::{MemSink, MemSource, SteadySink, SteadySource};
 use sm_text::RefusalKind;
 use sm_top::{Status, run};
+use sm_trials::made::{MEMORY, copy, words_in};
 use std::alloc::Global;
 use std::process::Abort;
 

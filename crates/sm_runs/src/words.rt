@@ -1,7 +1,7 @@
 //! Words that ask for a job, and words that are faulty.
 
-use crate::made::{copy, words_in};
 use sm_instance::Side;
+use sm_trials::made::{copy, words_in};
 use sm_words::{Job, WordsFault, read_words};
 use std::process::Abort;
 
