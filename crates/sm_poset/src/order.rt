@@ -4,16 +4,18 @@ ghost use Rattle.std.specs.Prelude.{◌≡◌, ℕ, ◌<◌, ◌↔◌, Bool, Li
 ghost use Rattle.sm_market.specs.Matching.{Places};
 ghost use Rattle.sm_market.specs.Stable.{IsStable};
 ghost use Rattle.sm_market.specs.Pairing.{IsPairingOf};
+ghost use Rattle.sm_market.specs.Vectors.{rows_of};
 ghost use Rattle.sm_theory.specs.Chains.{IsPrintedChain, AreNeedsOf};
 ghost use Rattle.sm_theory.specs.ClosedSets.{IsClosed, matching_of};
 ghost use Rattle.sm_theory.specs.Values.{rotations_of};
+ghost use Rattle.sm_rotations.specs.Graph.{AreNeeds};
 ghost use Rattle.sm_poset.specs.Posets.{RotationPoset, poset_of, IsPoset};
 ghost use Rattle.sm_poset.specs.Moves.{AreMovesOf, GoDown};
 
 use crate::moves::{Moves, follow};
 use crate::sets::{are_closed, reached, worst_places};
 use sm_market::{Market, Pairing};
-use sm_rotations::needs;
+use sm_rotations::{ChainWithNeeds, needs};
 use sm_theory::{Chain, ClosedSet};
 use std::alloc::{AllocError, Global};
 use std::marker::Model;
@@ -21,8 +23,8 @@ use std::rc::Rc;
 
 /// The rotations of a market's complete chain with what each one needs and whom it moves where.
 ///
-/// It keeps a copy of the market and the chain, which others may keep too, and in proportion to the pairs of the rotations and to the predecessors what
-/// it looks up (Gusfield and Irving 1989, section 2.5 and chapter 3).
+/// It keeps the market and the chain, which others may keep too, and in proportion to the pairs of the rotations and to the
+/// predecessors what it looks up (Gusfield and Irving 1989, section 2.5 and chapter 3).
 #[derive(Debug, Drop)]
 pub struct Poset {
     market: Rc<Market>,
@@ -54,7 +56,7 @@ impl Poset {
     /// exposed at their turn.
     ///
     /// The first matching of the chain has to be made for a market of these lists, and the chain has to be complete. The
-    /// chain is moved into the poset, and dropped where memory runs out. Takes time and memory in proportion to the agents
+    /// market is copied. The chain is moved into the poset, and dropped where memory runs out. Takes time and memory in proportion to the agents
     /// and entries.
     ///
     /// # Errors
@@ -66,11 +68,35 @@ impl Poset {
         ensures { IfOk result (λ poset. poset ≡ poset_of market.now chain.first (rotations_of chain.rotations.items)) }
     {
         let needs = needs(alloc, market, &chain)?;
+        let market = Rc::new(alloc, market.copy(alloc)?)?;
+        Poset::with_needs(alloc, market, ChainWithNeeds { chain, needs })
+    }
+
+    /// Makes the poset of a market and its chain as [`Poset::of`] does, with the needs of the rotations, which aren't looked
+    /// for again, and a market that others may keep too. [`sm_rotations::chain_with_needs`] gives a chain with its needs.
+    ///
+    /// All three are moved into the poset, and dropped where memory runs out. Takes time in proportion to the agents and to
+    /// the places by which proposers move down their lists, and memory in proportion to the agents and to the pairs of the
+    /// rotations.
+    ///
+    /// # Errors
+    ///
+    /// `AllocError` where memory ran out, and only then.
+    pub fn with_needs(
+        alloc: Global,
+        market: Rc<Market>,
+        found: ChainWithNeeds,
+    ) -> Result<Poset, AllocError>
+        requires made { IsPairingOf market.value found.chain.first }
+        requires printed { IsPrintedChain market.value found.chain.first.places (rotations_of found.chain.rotations.items) }
+        requires needs { AreNeeds market.value (rotations_of found.chain.rotations.items) (rows_of found.needs.items) }
+        ensures { IfOk result (λ poset. poset ≡ poset_of market.value found.chain.first (rotations_of found.chain.rotations.items)) }
+    {
+        let ChainWithNeeds { chain, needs } = found;
         let Moves {
             of_proposers,
             leaders,
-        } = follow(alloc, market, &chain)?;
-        let market = Rc::new(alloc, market.copy(alloc)?)?;
+        } = follow(alloc, market.as_ref(), &chain)?;
         let chain = Rc::new(alloc, chain)?;
         Ok(Poset {
             market,

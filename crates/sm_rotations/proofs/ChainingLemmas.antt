@@ -1,8 +1,9 @@
 -- A chain grows rotation by rotation.
-use Rattle.std.proofs.Common.{◌≡◌, ℕ, zero, suc, ◌-◌, ◌<◌, ◌≤◌, inl, inr, arith, refl, sym, ap, ◌∙◌, List, [], ◌∷◌, ◌++◌, length}
+use Rattle.std.proofs.Common.{◌≡◌, ℕ, zero, suc, ◌-◌, ◌<◌, ◌≤◌, ◌^◌, inl, inr, arith, refl, sym, ap, ◌∙◌, List, [], ◌∷◌, ◌++◌, length}
 use Rattle.std.proofs.lemmas.List.{get_or_append_left, get_or_push, length_push}
 use Rattle.sm_market.specs.Lists.{Lists, row, IsMarket}
 use Rattle.sm_market.specs.Matching.{Places, standing}
+use Rattle.sm_market.specs.Limits.{IsWithinLimits}
 use Rattle.sm_market.specs.Stable.{IsStable, IsProposersBest}
 use Rattle.sm_lists.proofs.Counting.{lt_or_le, eq_or_ne}
 use Rattle.sm_market.proofs.Bridge.{sides_of, stable_of}
@@ -13,7 +14,7 @@ use Rattle.sm_theory.specs.declared.rotations.Rotation.{Rotation}
 use Rattle.sm_theory.proofs.Core.Rotation.{goes_down, never_up, elim_stable}
 use Rattle.sm_theory.proofs.Bridge.Rotation.{exposed_of, elim_of}
 use Rattle.sm_rotations.specs.Chaining.{LeadsTo}
-use Rattle.sm_rotations.proofs.CountLemmas.{sum_below, sums_le, sums_less}
+use Rattle.sm_rotations.proofs.CountLemmas.{sum_below, sums_le, sums_less, sum_of_lengths}
 
 pub rotation_before : (xs : List (List (ℕ × ℕ))) (x : List (ℕ × ℕ)) (k : ℕ) → k < length xs → rotation_at (xs ++ x ∷ []) k ≡ rotation_at xs k
 rotation_before xs x k less = get_or_append_left xs (x ∷ []) [] k less
@@ -72,6 +73,10 @@ places_fall {l} {m} {n} x h s y e =
     let less = sums_less (standing l.proposers m.proposers) (standing l.proposers (eliminated l m x).proposers) (length l.proposers) p (λ q. never_up hm.fit z el q) inside down in
     let fits = sums_le (standing l.proposers (eliminated l m x).proposers) (λ p. length (row l.proposers p)) (length l.proposers) (λ q. more.fit.left.within q) in
     rw e (omega arith)
+
+pub few_places : {l : Lists} (m : Places) → IsWithinLimits l → places_below l m < 2 ^ 24
+unfolding places_below
+few_places {l} m limits = omega (arith, sum_of_lengths l.proposers (length l.proposers) (omega arith), limits.proposers.entries)
 
 pub pushed : (rotations : List Rotation) (r : Rotation) → rotations_of (rotations ++ r ∷ []) ≡ rotations_of rotations ++ r.pairs.items ∷ []
 pushed [] r = refl

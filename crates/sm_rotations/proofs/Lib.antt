@@ -16,6 +16,8 @@ pub mod TimesLemmas
 pub mod PassedLemmas
 pub mod ReadyLemmas
 pub mod HeapLemmas
-pub mod TurnedOverLemmas
+pub mod AddingLemmas
 pub mod TurnedBackLemmas
 pub mod WrittenLemmas
+pub mod CountedLemmas
+pub mod RenumberLemmas

@@ -7,12 +7,12 @@ use Rattle.sm_lists.proofs.ResultLemmas.{same_bool}
 use Rattle.sm_market.specs.Lists.{Lists, row, IsMarket}
 use Rattle.sm_market.specs.Matching.{Places}
 use Rattle.sm_market.specs.Stable.{IsStable}
-use Rattle.sm_lists.proofs.Counting.{eq_or_ne, by_contradiction, Decided-true}
+use Rattle.sm_lists.proofs.Counting.{eq_or_ne, lt_or_le, by_contradiction, Decided-true}
 use Rattle.sm_theory.specs.Rotations.{IsExposed, eliminated, IsNothingExposed, IsLowestExposed}
-use Rattle.sm_theory.specs.Chains.{rotation_at, IsCompleteChain, IsNeededBy, AreNeedsOf}
-use Rattle.sm_rotations.specs.Graph.{times}
-use Rattle.sm_rotations.specs.Ordering.{times_ready, is_passed, IsPassed, left_over, IsLead, IsEntry, IsTurned, AreReady, AreReadyAtFirst, IsReleased, AreCounts}
-use Rattle.sm_rotations.proofs.TimesLemmas.{count_found, count_some, count_none, count_all, count_apart}
+use Rattle.sm_theory.specs.Chains.{rotation_at, IsCompleteChain, IsNeededBy}
+use Rattle.sm_rotations.specs.Graph.{times, times_below, AreFollowers, AreCounts}
+use Rattle.sm_rotations.specs.Ordering.{times_ready, is_passed, IsPassed, left_over, IsLead, IsEntry, IsTurned, AreReady, AreReadyAtFirst, IsReleased}
+use Rattle.sm_rotations.proofs.TimesLemmas.{count_found, below_none, below_some, below_alike, below_apart}
 use Rattle.sm_rotations.proofs.TurnLemmas.{turned_exposed, turned_first}
 use Rattle.sm_rotations.proofs.PassedLemmas.{IsReadyOne, none_passed, passed_needs, ready_exposed, exposed_ready_one, all_passed, now_passed, still_passed, no_other_passed}
 
@@ -21,36 +21,40 @@ false_of true out = absurd (out refl)
 false_of false out = refl
 
 module _ {l : Lists} (h : IsMarket l) {first : Places} {rotations : List (List (ℕ × ℕ))} (chain : IsCompleteChain l first rotations)
-    (needs : List (List ℕ)) (are : (j : ℕ) → j < length rotations → AreNeedsOf l rotations j (row needs j)) where
+    {followers : List (List ℕ)} (f : AreFollowers l rotations (length rotations) followers) where
   -- no need is left over exactly where all needs are passed
-  none_left : (m : Places) (k : ℕ) → k < length rotations → left_over l first rotations m (row needs k) ≡ 0
+  none_left : (m : Places) (k : ℕ) → k < length rotations → left_over l first rotations followers m k ≡ 0
       → (i : ℕ) → i < length rotations → IsNeededBy l (rotation_at rotations i) (rotation_at rotations k) → IsPassed l first rotations m i
   none_left m k g none i a need = by_contradiction (Decided-true (is_passed l first rotations m i)) (λ out.
-      let w = (are k g).all i a need in
-      let there : slice_index_or (row needs k) w.0 i ≡ i = w.2 in
-      let left : not (is_passed l first rotations m (slice_index_or (row needs k) w.0 i)) ≡ true = ap (λ i. not (is_passed l first rotations m i)) there ∙ ap not (false_of (is_passed l first rotations m i) out) in
-      omega (arith, none, count_some (λ k. not (is_passed l first rotations m k)) (row needs k) w.0 i w.1 left))
+      let left = ap not (false_of (is_passed l first rotations m i) out) in
+      omega (arith, none, below_some followers k (λ i. not (is_passed l first rotations m i)) (length rotations) i a left, f.all i k g a need))
 
-  all_left : (m : Places) (k : ℕ) → k < length rotations → ((i : ℕ) → i < length rotations → IsNeededBy l (rotation_at rotations i) (rotation_at rotations k) → IsPassed l first rotations m i)
-      → left_over l first rotations m (row needs k) ≡ 0
-  all_left m k g all = count_none (λ k. not (is_passed l first rotations m k)) (row needs k) 0 (λ a less.
-      ap not (all (slice_index_or (row needs k) a 0) ((are k g).sound a less) ((are k g).each a less)))
+  all_left : (m : Places) (k : ℕ) → ((i : ℕ) → i < length rotations → IsNeededBy l (rotation_at rotations i) (rotation_at rotations k) → IsPassed l first rotations m i)
+      → left_over l first rotations followers m k ≡ 0
+  all_left m k all = below_none followers k (λ i. not (is_passed l first rotations m i)) (length rotations) (λ i a left. elim (lt_or_le 0 (times (row followers i) k)) [
+    | inr none ↦ omega arith
+    | inl some ↦
+        let passed : not (is_passed l first rotations m i) ≡ false = ap not (all i a (f.sound i k some).2) in
+        let no : true ≡ false = sym left ∙ passed in
+        absurd (grind arith)
+  ])
 
   -- at first all needs are left over
-  pub ready_start : (unmet : List ℕ) (ready : List (Reverse (ℕ × ℕ))) → length needs ≡ length rotations → AreCounts needs unmet → AreReadyAtFirst rotations unmet (length rotations) ready → AreReady l first rotations needs first unmet ready
-  ready_start unmet ready as_many c r = record {
-    one_each = c.one_each ∙ as_many;
-    counts = λ k g. c.each k (omega arith) ∙ sym (count_all (λ k. not (is_passed l first rotations first k)) (row needs k) 0 (λ a less.
-        ap not (false_of (is_passed l first rotations first (slice_index_or (row needs k) a 0)) (none_passed h chain (slice_index_or (row needs k) a 0) ((are k g).sound a less)))));
+  pub ready_start : (unmet : List ℕ) (ready : List (Reverse (ℕ × ℕ))) → AreCounts followers (length followers) unmet → AreReadyAtFirst rotations unmet (length rotations) ready → AreReady l first rotations followers first unmet ready
+  ready_start unmet ready c r = record {
+    one_each = c.one_each ∙ f.one_each;
+    counts = λ k g. c.each k (omega (arith, f.one_each)) ∙ ap (times_below (λ _. true) followers k) f.one_each
+        ∙ below_alike followers k (λ _. true) (λ i. not (is_passed l first rotations first i)) (length rotations) (λ i a.
+        sym (ap not (false_of (is_passed l first rotations first i) (none_passed h chain i a))));
     entries = r.entries;
     once = λ k g _ e. r.once k g e;
     passed = λ k g e. absurd (none_passed h chain k g e);
     waiting = λ k g ne. r.waiting k g ne;
   }
 
-  module _ {m : Places} (s : IsStable l m) {unmet : List ℕ} {ready : List (Reverse (ℕ × ℕ))} (r : AreReady l first rotations needs m unmet ready) where
+  module _ {m : Places} (s : IsStable l m) {unmet : List ℕ} {ready : List (Reverse (ℕ × ℕ))} (r : AreReady l first rotations followers m unmet ready) where
     -- what stands in the heap is not passed and has no unmet need
-    in_heap_out : (k : ℕ) → k < length rotations → 0 < times_ready ready k → ¬ IsPassed l first rotations m k
+    pub in_heap_out : (k : ℕ) → k < length rotations → 0 < times_ready ready k → ¬ IsPassed l first rotations m k
     in_heap_out k g some e = omega (arith, r.passed k g e)
 
     in_heap_met : (k : ℕ) → k < length rotations → 0 < times_ready ready k → slice_index_or unmet k 0 ≡ 0
@@ -66,7 +70,7 @@ module _ {l : Lists} (h : IsMarket l) {first : Places} {rotations : List (List (
     -- and what is ready stands in the heap
     ready_in_heap : (k : ℕ) → k < length rotations → ¬ IsPassed l first rotations m k
         → ((i : ℕ) → i < length rotations → IsNeededBy l (rotation_at rotations i) (rotation_at rotations k) → IsPassed l first rotations m i) → times_ready ready k ≡ 1
-    ready_in_heap k g out all = r.once k g out (r.counts k g ∙ all_left m k g all)
+    ready_in_heap k g out all = r.once k g out (r.counts k g ∙ all_left m k all)
 
     -- an empty heap: nothing is exposed
     pub nothing_left : ((k : ℕ) → times_ready ready k ≡ 0) → IsNothingExposed l m
@@ -99,24 +103,21 @@ module _ {l : Lists} (h : IsMarket l) {first : Places} {rotations : List (List (
       x : IsExposed l m (rotation_at rotations k)
       x = in_heap_exposed k g some
 
-      fewer : (j : ℕ) → j < length rotations → left_over l first rotations m (row needs j) ≡ left_over l first rotations (eliminated l m (rotation_at rotations k)) (row needs j) + times (row needs j) k
-      fewer j a = count_apart (λ i. not (is_passed l first rotations m i)) (λ i. not (is_passed l first rotations (eliminated l m (rotation_at rotations k)) i)) k (row needs j)
+      fewer : (j : ℕ) → left_over l first rotations followers m j ≡ left_over l first rotations followers (eliminated l m (rotation_at rotations k)) j + times (row followers k) j
+      fewer j = below_apart followers j (λ i. not (is_passed l first rotations m i)) (λ i. not (is_passed l first rotations (eliminated l m (rotation_at rotations k)) i)) (length rotations) k g
           (ap not (false_of (is_passed l first rotations m k) (in_heap_out k g some)))
           (ap not (now_passed h chain s k g x))
-          (λ b less ne.
-          let i : ℕ = slice_index_or (row needs j) b 0 in
-          let within : i < length rotations = (are j a).sound b less in
-          ap not (same_bool (is_passed l first rotations m i) (is_passed l first rotations (eliminated l m (rotation_at rotations k)) i) (still_passed h chain s k g x i within) (no_other_passed h chain s k g x i within ne)))
+          (λ i a ne. ap not (same_bool (is_passed l first rotations m i) (is_passed l first rotations (eliminated l m (rotation_at rotations k)) i) (still_passed h chain s k g x i a) (no_other_passed h chain s k g x i a ne)))
 
-      pub enough : (followers : List ℕ) → ((j : ℕ) → j < length rotations → times followers j ≡ times (row needs j) k) → (j : ℕ) → j < length rotations → times followers j ≤ slice_index_or unmet j 0
-      enough followers follow j a = omega (arith, follow j a, fewer j a, r.counts j a)
+      pub enough : (j : ℕ) → j < length rotations → times (row followers k) j ≤ slice_index_or unmet j 0
+      enough j a = omega (arith, fewer j, r.counts j a)
 
-      pub ready_more : {followers unmet_after : List ℕ} {rest ready_after : List (Reverse (ℕ × ℕ))} → ((j : ℕ) → j < length rotations → times followers j ≡ times (row needs j) k)
+      pub ready_more : {unmet_after : List ℕ} {rest ready_after : List (Reverse (ℕ × ℕ))}
           → ((j : ℕ) → j ≢ k → times_ready rest j ≡ times_ready ready j) → times_ready rest k + 1 ≡ times_ready ready k → All (IsEntry rotations) rest
-          → length unmet_after ≡ length unmet → IsReleased rotations followers unmet rest unmet_after ready_after → AreReady l first rotations needs (eliminated l m (rotation_at rotations k)) unmet_after ready_after
-      ready_more {followers} {unmet_after} {rest} {ready_after} follow others this entries long d = record {
+          → length unmet_after ≡ length unmet → IsReleased rotations (row followers k) unmet rest unmet_after ready_after → AreReady l first rotations followers (eliminated l m (rotation_at rotations k)) unmet_after ready_after
+      ready_more {unmet_after} {rest} {ready_after} others this entries long d = record {
         one_each = long ∙ r.one_each;
-        counts = λ j a. omega (arith, d.counts j, follow j a, fewer j a, r.counts j a);
+        counts = λ j a. omega (arith, d.counts j, fewer j, r.counts j a);
         entries = d.entries entries;
         once = once;
         passed = passed;
@@ -142,7 +143,7 @@ module _ {l : Lists} (h : IsMarket l) {first : Places} {rotations : List (List (
                 omega (arith, (d.fallen j).same (inl (met_here j is)), taken, this, in_heap_once k g some)
             | inr ne ↦
                 let before = no_other_passed h chain s k g x j a ne e in
-                let met : slice_index_or unmet j 0 ≡ 0 = r.counts j a ∙ all_left m j a (λ i b need. passed_needs h chain s i j b a before need) in
+                let met : slice_index_or unmet j 0 ≡ 0 = r.counts j a ∙ all_left m j (λ i b need. passed_needs h chain s i j b a before need) in
                 omega (arith, (d.fallen j).same (inl met), others j ne, r.passed j a before)
           ]
 

@@ -1,11 +1,12 @@
 -- How often a test is passed in a list.
-use Rattle.std.proofs.Common.{◌≡◌, ◌≢◌, ℕ, suc, ◌+◌, ◌<◌, ◌≤◌, inl, inr, arith, refl, sym, ap, ◌∙◌, List, [], ◌∷◌, length, Bool, true, false, cond, slice_index_or, take}
+use Rattle.std.proofs.Common.{◌≡◌, ◌≢◌, ℕ, zero, suc, ◌+◌, ◌<◌, ◌≤◌, inl, inr, arith, refl, sym, ap, List, [], ◌∷◌, length, Bool, true, false, cond, if◌then◌else◌, slice_index_or, take}
 use Rattle.std.specs.Bool.{nat_eq}
 use Rattle.std.specs.List.{count_by, Contains}
 use Rattle.std.proofs.lemmas.Bool.{cases_Bool, eq-eqb, eqb-true, ne_eqb}
 use Rattle.std.proofs.lemmas.List.Sums.{sum_by-cons, get_or-le-sum_by, sum_by-take-le, sum_by_more}
 use Rattle.sm_lists.proofs.Counting.{eq_or_ne}
-use Rattle.sm_rotations.specs.Graph.{times}
+use Rattle.sm_market.specs.Lists.{row}
+use Rattle.sm_rotations.specs.Graph.{times, times_below}
 
 -- a test as a number
 abbrev num : Bool → ℕ
@@ -43,33 +44,60 @@ module _ {X : Type 0} (p : X → Bool) where
   count_some xs i d inside e =
       omega (arith, num_true (p (slice_index_or xs i d)) e, get_or-le-sum_by (λ x. cond (p x) 1 0) xs i d inside)
 
-  pub count_none : (xs : List X) (d : X) → ((a : ℕ) → a < length xs → p (slice_index_or xs a d) ≡ false) → count_by p xs ≡ 0
-  count_none [] d none = refl
-  count_none (x ∷ xs) d none = count_no x xs (none 0 (omega arith)) ∙ count_none xs d (λ a less. none (suc a) (omega arith))
+-- how often a number stands in the lists of those below n that pass a test
+module _ (lists : List (List ℕ)) (k : ℕ) where
+  taken : (b : Bool) (x : ℕ) → b ≡ true → (if b then x else 0) ≡ x
+  taken b x e = ap (λ b. if b then x else 0) e
 
-  pub count_all : (xs : List X) (d : X) → ((a : ℕ) → a < length xs → p (slice_index_or xs a d) ≡ true) → count_by p xs ≡ length xs
-  count_all [] d all = refl
-  count_all (x ∷ xs) d all = omega (arith, count_yes x xs (all 0 (omega arith)), count_all xs d (λ a less. all (suc a) (omega arith)))
+  left_out : (b : Bool) (x : ℕ) → b ≡ false → (if b then x else 0) ≡ 0
+  left_out b x e = ap (λ b. if b then x else 0) e
 
--- where only k passes the one test and not the other
-pub count_apart : (p q : ℕ → Bool) (k : ℕ) (xs : List ℕ) → p k ≡ true → q k ≡ false
-    → ((a : ℕ) → a < length xs → slice_index_or xs a 0 ≢ k → p (slice_index_or xs a 0) ≡ q (slice_index_or xs a 0)) → count_by p xs ≡ count_by q xs + times xs k
-count_apart p q k [] here there same = refl
-count_apart p q k (x ∷ xs) here there same =
-    let rest : count_by p xs ≡ count_by q xs + times xs k = count_apart p q k xs here there (λ a less. same (suc a) (omega arith)) in
-    elim (eq_or_ne x k) [
-      | inl e ↦
-          let one : p x ≡ true = ap p e ∙ here in
-          let none : q x ≡ false = ap q e ∙ there in
-          omega (arith, count_yes p x xs one, count_no q x xs none, count_yes (λ x. nat_eq x k) x xs (eq-eqb x k e))
-      | inr ne ↦
-          let alike : p x ≡ q x = same 0 (omega arith) ne in
-          let other = count_no (λ x. nat_eq x k) x xs (ne_eqb x k ne) in
-          elim (cases_Bool (p x)) [
-            | inl e ↦ omega (arith, count_yes p x xs e, count_yes q x xs (sym alike ∙ e))
-            | inr e ↦ omega (arith, count_no p x xs e, count_no q x xs (sym alike ∙ e))
-          ]
-    ]
+  pub below_suc : (test : ℕ → Bool) (n : ℕ) → times_below test lists k (suc n) ≡ times_below test lists k n + (if test n then times (row lists n) k else 0)
+  below_suc test n = refl
+
+  pub below_none : (test : ℕ → Bool) (n : ℕ) → ((i : ℕ) → i < n → test i ≡ true → times (row lists i) k ≡ 0) → times_below test lists k n ≡ 0
+  below_none test zero none = refl
+  below_none test (suc n) none = elim (cases_Bool (test n)) [
+    | inl e ↦ omega (arith, below_suc test n, taken (test n) (times (row lists n) k) e, none n (omega arith) e, below_none test n (λ i a. none i (omega arith)))
+    | inr e ↦ omega (arith, below_suc test n, left_out (test n) (times (row lists n) k) e, below_none test n (λ i a. none i (omega arith)))
+  ]
+
+  pub below_some : (test : ℕ → Bool) (n i : ℕ) → i < n → test i ≡ true → times (row lists i) k ≤ times_below test lists k n
+  below_some test zero i a e = absurd (omega arith)
+  below_some test (suc n) i a e = elim (eq_or_ne i n) [
+    | inl is ↦ rw is (omega (arith, below_suc test n, taken (test n) (times (row lists n) k) (rw is at e)))
+    | inr ne ↦ omega (arith, below_suc test n, below_some test n i (omega arith) e)
+  ]
+
+  same_term : (p q : ℕ → Bool) (n : ℕ) → p n ≡ q n → (if p n then times (row lists n) k else 0) ≡ (if q n then times (row lists n) k else 0)
+  same_term p q n e = ap (λ b. if b then times (row lists n) k else 0) e
+
+  pub below_alike : (p q : ℕ → Bool) (n : ℕ) → ((i : ℕ) → i < n → p i ≡ q i) → times_below p lists k n ≡ times_below q lists k n
+  below_alike p q zero same = refl
+  below_alike p q (suc n) same = omega (arith, below_suc p n, below_suc q n, same_term p q n (same n (omega arith)), below_alike p q n (λ i a. same i (omega arith)))
+
+  -- where only j passes the one test and not the other
+  pub below_apart : (p q : ℕ → Bool) (n j : ℕ) → j < n → p j ≡ true → q j ≡ false → ((i : ℕ) → i < n → i ≢ j → p i ≡ q i) → times_below p lists k n ≡ times_below q lists k n + times (row lists j) k
+  below_apart p q zero j a here there same = absurd (omega arith)
+  below_apart p q (suc n) j a here there same = elim (eq_or_ne j n) [
+    | inl is ↦ rw is (omega (
+      arith,
+      below_suc p n,
+      below_suc q n,
+      taken (p n) (times (row lists n) k) (rw is at here),
+      left_out (q n) (times (row lists n) k) (rw is at there),
+      below_alike p q n (λ i b. same i (omega arith) (omega arith)),
+    ))
+    | inr ne ↦ omega (arith, below_suc p n, below_suc q n, same_term p q n (same n (omega arith) (λ e. ne (sym e))), below_apart p q n j (omega arith) here there (λ i b. same i (omega arith)))
+  ]
+
+  -- no more often than there are lists, where it stands in each at most once
+  pub below_le : (test : ℕ → Bool) (n : ℕ) → ((i : ℕ) → times (row lists i) k ≤ 1) → times_below test lists k n ≤ n
+  below_le test zero once = omega arith
+  below_le test (suc n) once = elim (cases_Bool (test n)) [
+    | inl e ↦ omega (arith, below_suc test n, taken (test n) (times (row lists n) k) e, once n, below_le test n once)
+    | inr e ↦ omega (arith, below_suc test n, left_out (test n) (times (row lists n) k) e, below_le test n once)
+  ]
 
 -- one number more
 module _ (xs : List ℕ) (i k : ℕ) (inside : i < length xs) where

@@ -5,11 +5,52 @@ use Rattle.sm_market.specs.Lists.{Lists, IsMarket}
 use Rattle.sm_market.specs.Matching.{Places, IsMatching}
 use Rattle.sm_market.specs.Stable.{IsStable}
 use Rattle.sm_lists.proofs.Counting.{lt_or_le, eq_or_ne}
-use Rattle.sm_theory.specs.Rotations.{IsExposed, proposer_at, reviewer_at, target_at, eliminated}
+use Rattle.sm_theory.specs.Rotations.{IsExposed, proposer_at, reviewer_at, target_at, next_in, eliminated}
+use Rattle.sm_theory.specs.Chains.{IsNeededBy}
 use Rattle.sm_theory.proofs.Core.Cycle.{turn, turn_in, turn_last, turn_more}
 use Rattle.sm_theory.proofs.Bridge.Rotation.{exposed_of, exposed_back}
 use Rattle.sm_rotations.specs.Ordering.{IsTurned}
 use Rattle.sm_rotations.proofs.OrderLemmas.{same_elimination}
+
+-- a pair of a cycle that goes from and to as pair i of another does
+pub record IsLike (rotation other : List (ℕ × ℕ)) (i : ℕ) : Type 0 where
+  pub at : ℕ
+  pub below : at < length rotation
+  pub who : proposer_at other i ≡ proposer_at rotation at
+  pub has : reviewer_at other i ≡ reviewer_at rotation at
+  pub goes_to : target_at other i ≡ target_at rotation at
+  pub from_next : proposer_at other (next_in other i) ≡ proposer_at rotation (next_in rotation at)
+
+-- each pair of the other cycle goes as one of this one
+pub record IsAmong (rotation other : List (ℕ × ℕ)) : Type 0 where
+  pub each : (i : ℕ) → i < length other → IsLike rotation other i
+
+-- so it has no other needs and isn't needed by others
+pub like_needs : {l : Lists} {early late early' late' : List (ℕ × ℕ)} → IsAmong early' early → IsAmong late' late → IsNeededBy l early late → IsNeededBy l early' late'
+like_needs a b (inl w) =
+    let v = a.each w.pair w.pair_in in
+    let u = b.each w.other w.other_in in
+    inl (record {
+      pair = v.at;
+      pair_in = v.below;
+      other = u.at;
+      other_in = u.below;
+      same_proposer = sym v.who ∙ w.same_proposer ∙ u.who;
+      same_reviewer = sym v.goes_to ∙ w.same_reviewer ∙ u.has;
+    })
+like_needs a b (inr w) =
+    let v = a.each w.pair w.pair_in in
+    let u = b.each w.other w.other_in in
+    inr (record {
+      pair = v.at;
+      pair_in = v.below;
+      other = u.at;
+      other_in = u.below;
+      behind = rw (← u.who, ← u.has, ← v.goes_to) w.behind;
+      before = rw (← u.who, ← u.goes_to, ← v.goes_to) w.before;
+      gains = rw (← u.who, ← v.who, ← v.goes_to) w.gains;
+      loses = rw (← u.who, ← v.from_next, ← v.goes_to) w.loses;
+    })
 
 module _ (rotation : List (ℕ × ℕ)) (from : ℕ) (inside : from < length rotation) where
   abbrev begun : List (ℕ × ℕ)
@@ -45,6 +86,12 @@ module _ (rotation : List (ℕ × ℕ)) (from : ℕ) (inside : from < length rot
           is = inr (omega arith);
         }
   ]
+
+  -- where the pair k is found
+  record IsPlaceOf (k : ℕ) : Type 0 where
+    pub at : ℕ
+    pub below : at < length rotation
+    pub is : (k ≡ from + at) ⊎ (k + length rotation ≡ from + at)
 
   spot_once : (i j : ℕ) (v : Spot i) (w : Spot j) → i < length rotation → j < length rotation → v.at ≡ w.at → i ≡ j
   spot_once i j v w h g e = elim v.is [
@@ -96,6 +143,41 @@ module _ (rotation : List (ℕ × ℕ)) (from : ℕ) (inside : from < length rot
       let w = spot (turn (length rotation) i) (turn_in (length rotation) i h) in
       ap (λ n. reviewer_at (drop from rotation ++ take from rotation) (turn n i)) begun_long ∙ has (turn (length rotation) i) w ∙ ap (reviewer_at rotation) (spot_next i v w h)
 
+  from_next : (i : ℕ) (v : Spot i) → i < length rotation → proposer_at (drop from rotation ++ take from rotation) (next_in (drop from rotation ++ take from rotation) i) ≡ proposer_at rotation (next_in rotation v.at)
+  from_next i v h =
+      let w = spot (turn (length rotation) i) (turn_in (length rotation) i h) in
+      ap (λ n. proposer_at (drop from rotation ++ take from rotation) (turn n i)) begun_long ∙ who (turn (length rotation) i) w ∙ ap (proposer_at rotation) (spot_next i v w h)
+
+  pub begun_among : IsAmong rotation (drop from rotation ++ take from rotation)
+  begun_among = record {
+    each = λ i a.
+        let v = spot i (omega (arith, begun_long)) in
+        let b : i < length rotation = omega (arith, begun_long) in
+        record { at = v.at; below = v.below; who = who i v; has = has i v; goes_to = goes_to i v b; from_next = from_next i v b };
+  }
+
+  there : (k : ℕ) → k < length rotation → IsPlaceOf k
+  there k h = elim (lt_or_le k from) [
+    | inl less ↦ record { at = k + length rotation - from; below = omega arith; is = inr (omega arith) }
+    | inr more ↦ record { at = k - from; below = omega arith; is = inl (omega arith) }
+  ]
+
+  pub among_begun : IsAmong (drop from rotation ++ take from rotation) rotation
+  among_begun = record {
+    each = λ k a.
+        let w = there k a in
+        let v = spot w.at w.below in
+        let same : v.at ≡ k = same_spot v.at k w.at v.below a v.is w.is in
+        record {
+          at = w.at;
+          below = omega (arith, begun_long, w.below);
+          who = sym (who w.at v ∙ ap (proposer_at rotation) same);
+          has = sym (has w.at v ∙ ap (reviewer_at rotation) same);
+          goes_to = sym (goes_to w.at v w.below ∙ ap (target_at rotation) same);
+          from_next = sym (from_next w.at v w.below ∙ ap (λ k. proposer_at rotation (next_in rotation k)) same);
+        };
+  }
+
   pub begun_exposed : {l : Lists} {m : Places} → IsMarket l → IsMatching l m → IsExposed l m rotation → IsExposed l m (drop from rotation ++ take from rotation)
   begun_exposed {l} {m} h f x =
       let y = exposed_of h f x in
@@ -128,3 +210,11 @@ module _ {l : Lists} {m : Places} {rotation turned : List (ℕ × ℕ)} (h : IsM
 
   pub turned_eliminated : eliminated l m turned ≡ eliminated l m rotation
   turned_eliminated = sym (same_elimination h s x turned_exposed t.from 0 t.lowest.inside turned_exposed.not_empty turned_first)
+
+-- what is begun at another pair needs the same, and is needed by the same
+module _ {l : Lists} {early late early' late' : List (ℕ × ℕ)} (t : IsTurned early early') (v : IsTurned late late') where
+  pub turned_needs : IsNeededBy l early late → IsNeededBy l early' late'
+  turned_needs need = like_needs (rw t.is (among_begun early t.from t.lowest.inside)) (rw v.is (among_begun late v.from v.lowest.inside)) need
+
+  pub needs_of_turned : IsNeededBy l early' late' → IsNeededBy l early late
+  needs_of_turned need = like_needs (rw t.is (begun_among early t.from t.lowest.inside)) (rw v.is (begun_among late v.from v.lowest.inside)) need

@@ -10,7 +10,7 @@ use Rattle.sm_market.specs.Lists.{Lists, row}
 use Rattle.sm_theory.specs.Chains.{AreNeedsOf}
 use Rattle.sm_lists.proofs.Counting.{eq_or_ne, lt_or_le}
 use Rattle.sm_rotations.specs.Marking.{IsRisingListOf}
-use Rattle.sm_rotations.specs.Graph.{times, last_of, AreFollowers, AreTurnedBack, IsNeeded}
+use Rattle.sm_rotations.specs.Graph.{times, last_of, AreFollowers, AreTurnedBack, AreAddedTo}
 use Rattle.sm_rotations.proofs.TimesLemmas.{times_more, times_same, count_some}
 
 -- the last number of a list that ends with x, and of one that has only lower numbers
@@ -44,19 +44,19 @@ other_number x i e is =
     let no : true ≡ false = sym yes ∙ e in
     grind arith
 
-module _ {i e j : ℕ} (followers : List ℕ) {before lists : List (List ℕ)} (inside : e < length followers) (is : slice_index_or followers e 0 ≡ j) (within : j < length lists)
-    (lower : (j a : ℕ) → a < length (row before j) → slice_index_or (row before j) a 0 < i) (f : IsNeeded i (take e followers) before lists) where
+module _ {i e j : ℕ} (those : List ℕ) {before lists : List (List ℕ)} (inside : e < length those) (is : slice_index_or those e 0 ≡ j) (within : j < length lists)
+    (lower : (j a : ℕ) → a < length (row before j) → slice_index_or (row before j) a 0 < i) (f : AreAddedTo i (take e those) before lists) where
   -- where the list of j doesn't end with i, it hasn't been met before
-  pub needed_pushed : (list : List ℕ) → last_of (row lists j) ≢ Some i → list ≡ row lists j ++ i ∷ [] → IsNeeded i (take (e + 1) followers) before (set lists j list)
-  needed_pushed list unlike pushed = record {
+  pub added_pushed : (list : List ℕ) → last_of (row lists j) ≢ Some i → list ≡ row lists j ++ i ∷ [] → AreAddedTo i (take (e + 1) those) before (set lists j list)
+  added_pushed list unlike pushed = record {
     one_each = length-set lists j list ∙ f.one_each;
-    those = λ q some. elim (eq_or_ne q j) [
+    to = λ q some. elim (eq_or_ne q j) [
       | inl same ↦ rw same (here ∙ pushed ∙ ap (λ (xs : List ℕ). xs ++ i ∷ []) (f.others j unmet))
-      | inr other ↦ elsewhere q other ∙ f.those q (omega (arith, some, times_same followers e q inside (λ x. other (sym x ∙ is))))
+      | inr other ↦ elsewhere q other ∙ f.to q (omega (arith, some, times_same those e q inside (λ x. other (sym x ∙ is))))
     ];
     others = λ q none. elim (eq_or_ne q j) [
-      | inl same ↦ absurd (omega (arith, rw same at none, times_more followers e j inside is))
-      | inr other ↦ elsewhere q other ∙ f.others q (omega (arith, none, times_same followers e q inside (λ x. other (sym x ∙ is))))
+      | inl same ↦ absurd (omega (arith, rw same at none, times_more those e j inside is))
+      | inr other ↦ elsewhere q other ∙ f.others q (omega (arith, none, times_same those e q inside (λ x. other (sym x ∙ is))))
     ];
   }
     where
@@ -66,34 +66,34 @@ module _ {i e j : ℕ} (followers : List ℕ) {before lists : List (List ℕ)} (
       elsewhere : (q : ℕ) → q ≢ j → row (set lists j list) q ≡ row lists q
       elsewhere q ne = get_or-set_other lists j q list [] ne
 
-      unmet : times (take e followers) j ≡ 0
-      unmet = elim (lt_or_le 0 (times (take e followers) j)) [
+      unmet : times (take e those) j ≡ 0
+      unmet = elim (lt_or_le 0 (times (take e those) j)) [
         | inr none ↦ omega arith
-        | inl some ↦ absurd (unlike (ap last_of (f.those j some) ∙ last_pushed (row before j) i))
+        | inl some ↦ absurd (unlike (ap last_of (f.to j some) ∙ last_pushed (row before j) i))
       ]
 
   -- where it ends with i, it has been
-  pub needed_same : last_of (row lists j) ≡ Some i → IsNeeded i (take (e + 1) followers) before lists
-  needed_same closed = record {
+  pub added_same : last_of (row lists j) ≡ Some i → AreAddedTo i (take (e + 1) those) before lists
+  added_same closed = record {
     one_each = f.one_each;
-    those = λ q some. elim (eq_or_ne q j) [
-      | inl same ↦ rw same (f.those j met)
-      | inr other ↦ f.those q (omega (arith, some, times_same followers e q inside (λ x. other (sym x ∙ is))))
+    to = λ q some. elim (eq_or_ne q j) [
+      | inl same ↦ rw same (f.to j met)
+      | inr other ↦ f.to q (omega (arith, some, times_same those e q inside (λ x. other (sym x ∙ is))))
     ];
     others = λ q none. elim (eq_or_ne q j) [
-      | inl same ↦ absurd (omega (arith, rw same at none, times_more followers e j inside is))
-      | inr other ↦ f.others q (omega (arith, none, times_same followers e q inside (λ x. other (sym x ∙ is))))
+      | inl same ↦ absurd (omega (arith, rw same at none, times_more those e j inside is))
+      | inr other ↦ f.others q (omega (arith, none, times_same those e q inside (λ x. other (sym x ∙ is))))
     ];
   }
     where
-      met : 0 < times (take e followers) j
-      met = elim (lt_or_le 0 (times (take e followers) j)) [
+      met : 0 < times (take e those) j
+      met = elim (lt_or_le 0 (times (take e those) j)) [
         | inl some ↦ some
         | inr none ↦ absurd (last_lower (row before j) i (lower j) (ap last_of (sym (f.others j (omega arith))) ∙ closed))
       ]
 
 -- a rising list that goes on with a higher number
-rising_push : {P Q : ℕ → Type 0} {list : List ℕ} (i : ℕ) → IsRisingListOf P list → ((k : ℕ) → P k → k < i) → ((k : ℕ) → P k → Q k) → Q i → ((k : ℕ) → Q k → k ≢ i → P k) → IsRisingListOf Q (list ++ i ∷ [])
+pub rising_push : {P Q : ℕ → Type 0} {list : List ℕ} (i : ℕ) → IsRisingListOf P list → ((k : ℕ) → P k → k < i) → ((k : ℕ) → P k → Q k) → Q i → ((k : ℕ) → Q k → k ≢ i → P k) → IsRisingListOf Q (list ++ i ∷ [])
 rising_push {P} {Q} {list} i f low forth here back = record {
   rising = λ a b less inside. elim (lt_or_le b (length list)) [
     | inl old ↦ omega (arith, f.rising a b less old, read_old a (omega arith), read_old b old)
@@ -118,7 +118,7 @@ rising_push {P} {Q} {list} i f low forth here back = record {
     read_new : (a : ℕ) → length list ≡ a → slice_index (list ++ i ∷ []) a ≡ i
     read_new a e = get_or_push list i 0 a e
 
-rising_like : {P Q : ℕ → Type 0} {list : List ℕ} → IsRisingListOf P list → ((k : ℕ) → P k → Q k) → ((k : ℕ) → Q k → P k) → IsRisingListOf Q list
+pub rising_like : {P Q : ℕ → Type 0} {list : List ℕ} → IsRisingListOf P list → ((k : ℕ) → P k → Q k) → ((k : ℕ) → Q k → P k) → IsRisingListOf Q list
 rising_like f forth back = record {
   rising = f.rising;
   sound = λ a inside. forth _ (f.sound a inside);
@@ -126,11 +126,11 @@ rising_like f forth back = record {
 }
 
 -- one more number is turned back
-pub back_more : {followers before after : List (List ℕ)} {i : ℕ} → AreTurnedBack followers i before → IsNeeded i (row followers i) before after → AreTurnedBack followers (i + 1) after
+pub back_more : {followers before after : List (List ℕ)} {i : ℕ} → AreTurnedBack followers i before → AreAddedTo i (row followers i) before after → AreTurnedBack followers (i + 1) after
 back_more {followers} {before} {after} {i} w f = record {
   one_each = f.one_each ∙ w.one_each;
   each = λ j. elim (lt_or_le 0 (times (row followers i) j)) [
-    | inl some ↦ rw (f.those j some) (rising_push i (w.each j) (λ k p. p.0) (λ k p. (omega (arith, p.0), p.1)) (omega arith, some) (λ k q ne. (omega (arith, q.0), q.1)))
+    | inl some ↦ rw (f.to j some) (rising_push i (w.each j) (λ k p. p.0) (λ k p. (omega (arith, p.0), p.1)) (omega arith, some) (λ k q ne. (omega (arith, q.0), q.1)))
     | inr none ↦ rw (f.others j (omega arith)) (rising_like (w.each j) (λ k p. (omega (arith, p.0), p.1)) (λ k q. (
       elim (eq_or_ne k i) [
         | inl same ↦ absurd (omega (arith, rw same at q.1, none))
@@ -148,12 +148,17 @@ module _ {l : Lists} {rotations : List (List (ℕ × ℕ))} {followers : List (L
     one_each = long;
     sound = λ i j some. absurd (let none : times (row followers i) j ≡ 0 = ap (λ xs. times xs j) (empty i) in omega arith);
     all = λ i j below. absurd (omega arith);
+    once = λ i j. let none : times (row followers i) j ≡ 0 = ap (λ xs. times xs j) (empty i) in omega arith;
   }
 
-  pub followers_in_range : {n : ℕ} → AreFollowers l rotations n followers → n ≤ length rotations → (i a : ℕ) → a < length (row followers i) → slice_index_or (row followers i) a 0 < length followers
-  followers_in_range f few i a inside =
+  -- the followers are among the rotations that were taken
+  pub followers_lower : {n : ℕ} → AreFollowers l rotations n followers → (i a : ℕ) → a < length (row followers i) → slice_index_or (row followers i) a 0 < n
+  followers_lower f i a inside =
       let j : ℕ = slice_index_or (row followers i) a 0 in
-      omega (arith, (f.sound i j (count_some (λ x. nat_eq x j) (row followers i) a 0 inside (eq-eqb j j refl))).0, f.one_each)
+      (f.sound i j (count_some (λ x. nat_eq x j) (row followers i) a 0 inside (eq-eqb j j refl))).0
+
+  pub followers_in_range : {n : ℕ} → AreFollowers l rotations n followers → n ≤ length rotations → (i a : ℕ) → a < length (row followers i) → slice_index_or (row followers i) a 0 < length followers
+  followers_in_range f few i a inside = omega (arith, followers_lower f i a inside, f.one_each)
 
   -- the followers turned back are the needs
   pub needs_turned : {needs : List (List ℕ)} → AreFollowers l rotations (length rotations) followers → AreTurnedBack followers (length followers) needs → (j : ℕ) → j < length rotations → AreNeedsOf l rotations j (row needs j)

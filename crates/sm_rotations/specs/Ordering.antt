@@ -9,7 +9,8 @@ use Rattle.sm_market.specs.Stable.{IsStable}
 use Rattle.sm_theory.specs.Rotations.{proposer_at}
 use Rattle.sm_theory.specs.Chains.{rotation_at, stage}
 use Rattle.sm_rotations.specs.Chaining.{LeadsTo}
-use Rattle.sm_rotations.specs.Graph.{times}
+use Rattle.sm_rotations.specs.Graph.{times, times_below}
+use Rattle.sm_rotations.specs.Marking.{IsRisingListOf}
 
 -- pair i has the lowest-numbered proposer
 pub record IsLowestPair (rotation : List (ℕ × ℕ)) (i : ℕ) : Type 0 where
@@ -47,11 +48,6 @@ pub record IsOneMore (rotation : List (ℕ × ℕ)) (k : ℕ) (before after : Li
   pub entries : (rotations : List (List (ℕ × ℕ))) → k < length rotations → rotation_at rotations k ≡ rotation
       → All (IsEntry rotations) before → All (IsEntry rotations) after
 
--- the length of each list
-pub record AreCounts (needs : List (List ℕ)) (counts : List ℕ) : Type 0 where
-  pub one_each : length counts ≡ length needs
-  pub each : (j : ℕ) → j < length needs → slice_index_or counts j 0 ≡ length (row needs j)
-
 -- the heap has once each of the first n rotations that needs no other
 pub record AreReadyAtFirst (rotations : List (List (ℕ × ℕ))) (unmet : List ℕ) (n : ℕ) (ready : List (Reverse (ℕ × ℕ))) : Type 0 where
   pub entries : All (IsEntry rotations) ready
@@ -80,24 +76,46 @@ is_passed l first rotations m k =
 abbrev pub IsPassed : Lists → Places → List (List (ℕ × ℕ)) → Places → ℕ → Type 0
 IsPassed l first rotations m k = is_passed l first rotations m k ≡ true
 
--- how many of these rotations a matching hasn't passed
-abbrev pub left_over : Lists → Places → List (List (ℕ × ℕ)) → Places → List ℕ → ℕ
-left_over l first rotations m numbers = count_by (λ k. not (is_passed l first rotations m k)) numbers
+-- how many of those that rotation k needs a matching hasn't passed
+abbrev pub left_over : Lists → Places → List (List (ℕ × ℕ)) → List (List ℕ) → Places → ℕ → ℕ
+left_over l first rotations followers m k = times_below (λ i. not (is_passed l first rotations m i)) followers k (length rotations)
 
 -- at a matching the heap has once each rotation that isn't passed and has no unmet need, and the counts are those of the
 -- needs that aren't passed
-pub record AreReady (l : Lists) (first : Places) (rotations : List (List (ℕ × ℕ))) (needs : List (List ℕ)) (m : Places)
+pub record AreReady (l : Lists) (first : Places) (rotations : List (List (ℕ × ℕ))) (followers : List (List ℕ)) (m : Places)
     (unmet : List ℕ) (ready : List (Reverse (ℕ × ℕ))) : Type 0 where
   pub one_each : length unmet ≡ length rotations
-  pub counts : (k : ℕ) → k < length rotations → slice_index_or unmet k 0 ≡ left_over l first rotations m (row needs k)
+  pub counts : (k : ℕ) → k < length rotations → slice_index_or unmet k 0 ≡ left_over l first rotations followers m k
   pub entries : All (IsEntry rotations) ready
   pub once : (k : ℕ) → k < length rotations → ¬ IsPassed l first rotations m k → slice_index_or unmet k 0 ≡ 0 → times_ready ready k ≡ 1
   pub passed : (k : ℕ) → k < length rotations → IsPassed l first rotations m k → times_ready ready k ≡ 0
   pub waiting : (k : ℕ) → k < length rotations → slice_index_or unmet k 0 ≢ 0 → times_ready ready k ≡ 0
 
 -- the rotations written so far lead to a stable matching, each one the lowest at its turn, and the heap has what is ready there
-pub record AreWritten (l : Lists) (first : Places) (rotations : List (List (ℕ × ℕ))) (needs : List (List ℕ)) (written : List (List (ℕ × ℕ)))
+pub record AreWritten (l : Lists) (first : Places) (rotations : List (List (ℕ × ℕ))) (followers : List (List ℕ)) (written : List (List (ℕ × ℕ)))
     (unmet : List ℕ) (ready : List (Reverse (ℕ × ℕ))) : Type 0 where
   pub stable : IsStable l (stage l first written (length written))
   pub leads : LeadsTo l first written (stage l first written (length written))
-  pub heap : AreReady l first rotations needs (stage l first written (length written)) unmet ready
+  pub heap : AreReady l first rotations followers (stage l first written (length written)) unmet ready
+
+-- which rotation of the chain was written n-th
+abbrev pub number_at : List ℕ → ℕ → ℕ
+number_at numbers n = slice_index_or numbers n 0
+
+-- the numbers below n, rising, of those among the written ones that rotation k needs
+abbrev pub AreNewNeeds : List (List ℕ) → List ℕ → (n k : ℕ) → List ℕ → Type 0
+AreNewNeeds followers numbers n k list = IsRisingListOf (λ i. (i < n) × (0 < times (row followers (number_at numbers i)) k)) list
+
+-- each rotation that is written is one of the chain, begun at its lowest proposer; with it are the new numbers of those that
+-- it needs, and noted with each one that a matching hasn't passed are those that it needs among what is written
+pub record AreRenumbered (l : Lists) (first : Places) (rotations : List (List (ℕ × ℕ))) (followers : List (List ℕ)) (m : Places)
+    (written : List (List (ℕ × ℕ))) (noted needs : List (List ℕ)) : Type 0 where
+  pub numbers : List ℕ
+  pub numbers_each : length numbers ≡ length written
+  pub in_range : (n : ℕ) → n < length written → number_at numbers n < length rotations
+  pub turned : (n : ℕ) → n < length written → IsTurned (rotation_at rotations (number_at numbers n)) (rotation_at written n)
+  pub noted_each : length noted ≡ length rotations
+  pub lower : (k a : ℕ) → a < length (row noted k) → slice_index_or (row noted k) a 0 < length written
+  pub noted_are : (k : ℕ) → k < length rotations → ¬ IsPassed l first rotations m k → AreNewNeeds followers numbers (length written) k (row noted k)
+  pub needs_each : length needs ≡ length written
+  pub needs_are : (n : ℕ) → n < length written → AreNewNeeds followers numbers n (number_at numbers n) (row needs n)

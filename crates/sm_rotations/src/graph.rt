@@ -1,9 +1,9 @@
-//! The graph of needs from both of its ends: what each rotation needs, and which ones need it.
+//! Lists of numbers, one for each rotation: which ones need it, and which ones it needs.
 
-ghost use Rattle.std.specs.Prelude.{◌≡◌, ℕ, ◌<◌, ◌^◌, length, replicate, [], slice_index_or, IfOk, OnOk};
+ghost use Rattle.std.specs.Prelude.{◌≡◌, ℕ, ◌+◌, ◌<◌, ◌≤◌, ◌^◌, length, replicate, [], slice_index_or, IfOk, OnOk};
 ghost use Rattle.sm_market.specs.Lists.{row};
 ghost use Rattle.sm_market.specs.Vectors.{rows_of};
-ghost use Rattle.sm_rotations.specs.Graph.{AreTurnedOver, AreTurnedBack, IsFollowing, IsNeeded};
+ghost use Rattle.sm_rotations.specs.Graph.{times, AreTurnedBack, AreCounts, AreCounted, AreAddedTo};
 
 use std::alloc::{AllocError, Global};
 
@@ -18,26 +18,17 @@ pub(crate) fn empty_lists(alloc: Global, rotations: usize) -> Result<Vec<Vec<u32
     Ok(lists)
 }
 
-/// For each rotation those that need it.
-pub(crate) fn followers(alloc: Global, needs: &[Vec<u32>]) -> Result<Vec<Vec<u32>>, AllocError>
-    requires few { length needs.now < 2 ^ 32 }
-    requires in_range { (j a : ℕ) → a < length (row (rows_of needs.now) j) → slice_index_or (row (rows_of needs.now) j) a 0 < length needs.now }
-    ensures { IfOk result (λ f. AreTurnedOver (rows_of needs.now) (length needs.now) (rows_of f.items)) }
+/// Adds a number once to the list of each of those, which have only lower numbers before.
+pub(crate) fn add_once(number: u32, those: &[u32], lists: &mut [Vec<u32>]) -> Result<(), AllocError>
+    requires in_range { (a : ℕ) → a < length those.now → slice_index_or those.now a 0 < length lists.old }
+    requires lower { (j a : ℕ) → a < length (row (rows_of lists.old) j) → slice_index_or (row (rows_of lists.old) j) a 0 < number }
+    ensures { OnOk result (AreAddedTo number those.now (rows_of lists.old) (rows_of lists.new)) }
 {
-    let mut followers = empty_lists(alloc, needs.len())?;
-    for j in 0..needs.len() as u32 {
-        follow(j, &needs[j as usize], &mut followers)?;
-    }
-    Ok(followers)
-}
-
-/// Notes a rotation with each one that it needs.
-pub(crate) fn follow(j: u32, needs: &[u32], followers: &mut [Vec<u32>]) -> Result<(), AllocError>
-    requires in_range { (a : ℕ) → a < length needs.now → slice_index_or needs.now a 0 < length followers.old }
-    ensures { OnOk result (IsFollowing j needs.now (rows_of followers.old) (rows_of followers.new)) }
-{
-    for &i in needs {
-        followers[i as usize].push(j)?;
+    for &j in those {
+        let list = &mut lists[j as usize];
+        if list.last().copied() != Some(number) {
+            list.push(number)?;
+        }
     }
     Ok(())
 }
@@ -53,22 +44,32 @@ pub(crate) fn needs_by_followers(
 {
     let mut needs = empty_lists(alloc, followers.len())?;
     for i in 0..followers.len() as u32 {
-        need(i, &followers[i as usize], &mut needs)?;
+        add_once(i, &followers[i as usize], &mut needs)?;
     }
     Ok(needs)
 }
 
-/// Adds a rotation once to the needs of each one that needs it, which have only lower numbers before.
-fn need(i: u32, followers: &[u32], needs: &mut [Vec<u32>]) -> Result<(), AllocError>
-    requires in_range { (a : ℕ) → a < length followers.now → slice_index_or followers.now a 0 < length needs.old }
-    requires lower { (j a : ℕ) → a < length (row (rows_of needs.old) j) → slice_index_or (row (rows_of needs.old) j) a 0 < i }
-    ensures { OnOk result (IsNeeded i followers.now (rows_of needs.old) (rows_of needs.new)) }
+/// On how many of the lists each number stands. It stands on each at most once.
+pub(crate) fn counts(alloc: Global, lists: &[Vec<u32>]) -> Result<Vec<u32>, AllocError>
+    requires few { length lists.now < 2 ^ 32 }
+    requires in_range { (i a : ℕ) → a < length (row (rows_of lists.now) i) → slice_index_or (row (rows_of lists.now) i) a 0 < length lists.now }
+    requires once { (i j : ℕ) → times (row (rows_of lists.now) i) j ≤ 1 }
+    ensures { IfOk result (λ c. AreCounts (rows_of lists.now) (length lists.now) c.items) }
 {
-    for &j in followers {
-        let list = &mut needs[j as usize];
-        if list.last().copied() != Some(i) {
-            list.push(i)?;
-        }
+    let mut counts = vec![in alloc; 0; lists.len()]?;
+    for list in lists {
+        count(list, &mut counts);
     }
-    Ok(())
+    Ok(counts)
+}
+
+/// Counts the numbers of a list.
+fn count(list: &[u32], counts: &mut [u32])
+    requires in_range { (a : ℕ) → a < length list.now → slice_index_or list.now a 0 < length counts.old }
+    requires room { (j : ℕ) → slice_index_or counts.old j 0 + times list.now j < 2 ^ 32 }
+    ensures { AreCounted list.now counts.old counts.new }
+{
+    for &j in list {
+        counts[j as usize] += 1;
+    }
 }

@@ -1,6 +1,7 @@
 //! Rotations of a market: the complete chain of them from the proposers' best stable matching, and what each one needs.
 //!
-//! [`chain`] gives the chain (Gusfield and Irving 1989, section 2.5) and [`needs`] the predecessors of its rotations.
+//! [`chain`] gives the chain (Gusfield and Irving 1989, section 2.5), [`needs`] the predecessors of its rotations, and
+//! [`chain_with_needs`] both at once.
 //! [`exposed`] and [`eliminate`] go one step by the plain definitions.
 #![tactic(auto)]
 
@@ -12,7 +13,8 @@ mod order;
 mod predecessors;
 mod walk;
 
-pub use chains::chain;
+pub use chains::{chain, chain_with_needs};
 pub use elimination::eliminate;
 pub use exposure::exposed;
+pub use order::ChainWithNeeds;
 pub use predecessors::needs;

@@ -7,60 +7,94 @@ ghost use Rattle.sm_market.specs.Vectors.{rows_of};
 ghost use Rattle.sm_market.specs.Pairing.{IsPairingOf};
 ghost use Rattle.sm_theory.specs.Chains.{rotation_at, IsCompleteChain, IsPrintedChain};
 ghost use Rattle.sm_theory.specs.Values.{rotations_of};
-ghost use Rattle.sm_rotations.specs.Graph.{times};
-ghost use Rattle.sm_rotations.specs.Ordering.{later_first, IsLowestPair, IsTurned, IsOneMore, AreCounts, AreReadyAtFirst, IsReleased};
+ghost use Rattle.sm_rotations.specs.Graph.{times, AreNeeds};
+ghost use Rattle.sm_rotations.specs.Ordering.{later_first, IsLowestPair, IsTurned, IsOneMore, AreReadyAtFirst, IsReleased};
 
-use crate::graph::followers;
-use crate::predecessors::needs;
+use crate::graph::{add_once, counts, empty_lists};
+use crate::predecessors::followers;
 use sm_market::Market;
 use sm_theory::{Chain, Rotation};
 use std::alloc::{AllocError, Global};
 use std::cmp::Reverse;
 use std::collections::BinaryHeap;
+use std::mem;
 
-/// The chain with its rotations in the stated order: at each turn the exposed rotation that has the lowest-numbered
-/// proposer comes first, and each rotation begins with its lowest-numbered proposer.
+/// A chain of rotations with what each one needs.
+#[derive(Debug, Drop)]
+pub struct ChainWithNeeds {
+    /// The chain.
+    pub chain: Chain,
+    /// For each rotation the numbers of its predecessors, rising, as [`needs`](crate::needs) gives them. Rotations are
+    /// numbered from 0, in the order of the chain.
+    pub needs: Vec<Vec<u32>>,
+}
+
+/// Rotations in the stated order, and the numbers of those that each one needs.
+struct Written {
+    rotations: Vec<Rotation>,
+    needs: Vec<Vec<u32>>,
+}
+
+/// The chain with its rotations in the stated order, and what each one needs: at each turn the exposed rotation that has the
+/// lowest-numbered proposer comes first, and each rotation begins with its lowest-numbered proposer.
 ///
 /// Any complete chain will do. At each turn the exposed rotations are those that are left over and whose predecessors have
-/// all been written; they wait in a heap, by their lowest proposers. Takes time in proportion to the agents and entries, and
-/// to the rotations times a logarithm, and memory in proportion to the agents and entries (Gusfield and Irving 1989,
+/// all been written; they wait in a heap, by their lowest proposers. Whatever is written is noted at once, by its new number,
+/// with those that need it, so that what each one needs comes out rising. Takes time in proportion to the agents and entries,
+/// and to the rotations times a logarithm, and memory in proportion to the agents and entries (Gusfield and Irving 1989,
 /// section 2.5 and chapter 3).
 ///
 /// # Errors
 ///
 /// `AllocError` where memory ran out, and only then.
-pub(crate) fn in_order(alloc: Global, market: &Market, chain: &Chain) -> Result<Chain, AllocError>
+pub(crate) fn in_order(
+    alloc: Global,
+    market: &Market,
+    chain: &Chain,
+) -> Result<ChainWithNeeds, AllocError>
     requires made { IsPairingOf market.now chain.now.first }
     requires complete { IsCompleteChain market.now chain.now.first.places (rotations_of chain.now.rotations.items) }
-    ensures made { IfOk result (λ c. IsPairingOf market.now c.first) }
-    ensures first { IfOk result (λ c. c.first.places ≡ chain.now.first.places) }
-    ensures chain { IfOk result (λ c. IsPrintedChain market.now chain.now.first.places (rotations_of c.rotations.items)) }
+    ensures made { IfOk result (λ c. IsPairingOf market.now c.chain.first) }
+    ensures first { IfOk result (λ c. c.chain.first.places ≡ chain.now.first.places) }
+    ensures chain { IfOk result (λ c. IsPrintedChain market.now chain.now.first.places (rotations_of c.chain.rotations.items)) }
+    ensures needs { IfOk result (λ c. AreNeeds market.now (rotations_of c.chain.rotations.items) (rows_of c.needs.items)) }
 {
     let first = chain.first.copy(alloc)?;
-    let rotations = ordered(alloc, market, chain)?;
-    Ok(Chain { first, rotations })
+    let Written { rotations, needs } = ordered(alloc, market, chain)?;
+    let chain = Chain { first, rotations };
+    Ok(ChainWithNeeds { chain, needs })
 }
 
-/// The rotations of a chain in the stated order.
-fn ordered(alloc: Global, market: &Market, chain: &Chain) -> Result<Vec<Rotation>, AllocError>
+/// The rotations of a chain in the stated order, and what each one needs.
+fn ordered(alloc: Global, market: &Market, chain: &Chain) -> Result<Written, AllocError>
     requires made { IsPairingOf market.now chain.now.first }
     requires complete { IsCompleteChain market.now chain.now.first.places (rotations_of chain.now.rotations.items) }
-    ensures { IfOk result (λ r. IsPrintedChain market.now chain.now.first.places (rotations_of r.items)) }
+    ensures chain { IfOk result (λ o. IsPrintedChain market.now chain.now.first.places (rotations_of o.rotations.items)) }
+    ensures needs { IfOk result (λ o. AreNeeds market.now (rotations_of o.rotations.items) (rows_of o.needs.items)) }
 {
     prove!(market.proposers() < 1 << 24);
-    let needs = needs(alloc, market, chain)?;
-    let followers = followers(alloc, &needs)?;
-    let mut unmet = counts(alloc, &needs)?;
+    let followers = followers(alloc, market, chain)?;
+    let mut unmet = counts(alloc, &followers)?;
+    let mut noted = empty_lists(alloc, followers.len())?;
     let followers = followers.as_slice();
     let unmet = unmet.as_mut_slice();
+    let noted = noted.as_mut_slice();
     let rotations = chain.rotations.as_slice();
     let mut ready = ready_at_first(alloc, rotations, unmet)?;
     let mut written = Vec::with_capacity(alloc, rotations.len())?;
+    let mut needs = Vec::with_capacity(alloc, rotations.len())?;
     'steps: while let Some(Reverse((_, k))) = ready.pop() {
+        let number = written.len() as u32;
         written.push(turned(alloc, &rotations[k as usize].pairs)?)?;
-        release(rotations, &followers[k as usize], unmet, &mut ready)?;
+        needs.push(mem::replace(&mut noted[k as usize], Vec::new(alloc)))?;
+        let those = followers[k as usize].as_slice();
+        add_once(number, those, noted)?;
+        release(rotations, those, unmet, &mut ready)?;
     }
-    Ok(written)
+    Ok(Written {
+        rotations: written,
+        needs,
+    })
 }
 
 /// The number of the pair that has the lowest-numbered proposer.
@@ -88,22 +122,11 @@ fn turned(alloc: Global, pairs: &[(u32, u32)]) -> Result<Rotation, AllocError>
     Ok(Rotation { pairs: turned })
 }
 
-/// How many others each rotation needs.
-fn counts(alloc: Global, needs: &[Vec<u32>]) -> Result<Vec<usize>, AllocError>
-    ensures { IfOk result (λ c. AreCounts (rows_of needs.now) c.items) }
-{
-    let mut counts = Vec::with_capacity(alloc, needs.len())?;
-    for of in needs {
-        counts.push(of.len())?;
-    }
-    Ok(counts)
-}
-
 /// The rotations that need no other, by their lowest proposers.
 fn ready_at_first(
     alloc: Global,
     rotations: &[Rotation],
-    unmet: &[usize],
+    unmet: &[u32],
 ) -> Result<BinaryHeap<Reverse<(u32, u32)>>, AllocError>
     requires few { length rotations.now < 2 ^ 32 }
     requires one_each { length unmet.now ≡ length rotations.now }
@@ -140,7 +163,7 @@ fn add_ready(
 fn release(
     rotations: &[Rotation],
     followers: &[u32],
-    unmet: &mut [usize],
+    unmet: &mut [u32],
     ready: &mut BinaryHeap<Reverse<(u32, u32)>>,
 ) -> Result<(), AllocError>
     requires one_each { length unmet.old ≡ length rotations.now }

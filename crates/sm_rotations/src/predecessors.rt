@@ -4,17 +4,18 @@
 //! each entry of a list with the rotation that moved its reviewer from somebody worse than the list's owner to somebody
 //! better. There is no more than one such rotation, since reviewers never go down.
 
-ghost use Rattle.std.specs.Prelude.{◌≡◌, ℕ, ◌<◌, ◌≤◌, ◌+◌, length, IfOk, OnOk, Some, None, slice_set, []};
+ghost use Rattle.std.specs.Prelude.{◌≡◌, ℕ, ◌<◌, ◌≤◌, ◌+◌, ◌^◌, length, IfOk, OnOk, Some, None, slice_set, []};
 ghost use Rattle.sm_market.specs.Lists.{row, entry, place_of, IsMarket};
 ghost use Rattle.sm_market.specs.Vectors.{rows_of};
 ghost use Rattle.sm_market.specs.Pairing.{IsPairingOf};
 ghost use Rattle.sm_theory.specs.Rotations.{IsExposed, proposer_at, reviewer_at, target_at};
 ghost use Rattle.sm_theory.specs.Chains.{AreEliminable, AreNeedsOf};
 ghost use Rattle.sm_theory.specs.Values.{rotations_of};
+ghost use Rattle.sm_rotations.specs.Graph.{AreFollowers};
 ghost use Rattle.sm_rotations.specs.Marking.{marks_in, marks_of, mark_at, note_of, AreMarksFor, AreMoved, AreMarked, IsSpanMarked, IsBetween, IsFound, Adds};
 
 use crate::elimination::move_round;
-use crate::graph::{empty_lists, follow, needs_by_followers};
+use crate::graph::{add_once, empty_lists, needs_by_followers};
 use sm_market::{Market, Pairing};
 use sm_theory::{Chain, successor};
 use std::alloc::{AllocError, Global};
@@ -48,6 +49,24 @@ pub fn needs(alloc: Global, market: &Market, chain: &Chain) -> Result<Vec<Vec<u3
     ensures needs { IfOk result (λ n. (j : ℕ) → j < length chain.now.rotations.items
         → AreNeedsOf market.now (rotations_of chain.now.rotations.items) j (row (rows_of n.items) j)) }
 {
+    let followers = followers(alloc, market, chain)?;
+    needs_by_followers(alloc, &followers)
+}
+
+/// For each rotation of a chain those that need it, each once.
+///
+/// Takes time and memory in proportion to the agents and entries.
+pub(crate) fn followers(
+    alloc: Global,
+    market: &Market,
+    chain: &Chain,
+) -> Result<Vec<Vec<u32>>, AllocError>
+    requires made { IsPairingOf market.now chain.now.first }
+    requires eliminable { AreEliminable market.now chain.now.first.places (rotations_of chain.now.rotations.items) }
+    ensures few { OnOk result (length chain.now.rotations.items < 2 ^ 24) }
+    ensures followers { IfOk result (λ f. AreFollowers market.now (rotations_of chain.now.rotations.items)
+        (length chain.now.rotations.items) (rows_of f.items)) }
+{
     let rotations = chain.rotations.as_slice();
     let mut m = chain.first.copy(alloc)?;
     let mut last = vec![in alloc; None; market.proposers() as usize]?;
@@ -60,11 +79,11 @@ pub fn needs(alloc: Global, market: &Market, chain: &Chain) -> Result<Vec<Vec<u3
         let rotation = &rotations[j as usize];
         let pairs = rotation.pairs.as_slice();
         find(market, &m, pairs, last, marks, &mut found)?;
-        follow(j, &found, &mut followers)?;
+        add_once(j, &found, &mut followers)?;
         note_moves(market, &m, pairs, j, last, marks);
         move_round(market, &mut m, rotation);
     }
-    needs_by_followers(alloc, &followers)
+    Ok(followers)
 }
 
 /// A place for a mark beside each entry of the proposers' lists, and no mark.

@@ -4,9 +4,10 @@ ghost use Rattle.std.specs.Prelude.{◌≡◌, IfOk};
 
 use sm_accept::proposer_best;
 use sm_poset::Poset;
-use sm_rotations::chain;
+use sm_rotations::chain_with_needs;
 use sm_seats::Seats;
 use std::alloc::{AllocError, Global};
+use std::rc::Rc;
 
 /// What all commands but `solve` and `reduced` stand on: the poset of the market of an instance's seats, which keeps the
 /// market, the proposers' best matching and the chain.
@@ -17,8 +18,8 @@ pub struct Basis {
 }
 
 impl Basis {
-    /// The basis of an instance with these seats. Takes the time and the memory of [`sm_rotations::chain`] and
-    /// [`sm_poset::Poset::of`].
+    /// The basis of an instance with these seats. Takes the time and the memory of [`chain_with_needs`] and
+    /// [`Poset::with_needs`].
     ///
     /// # Errors
     ///
@@ -28,9 +29,10 @@ impl Basis {
     {
         let market = seats.market();
         let first = proposer_best(alloc, market)?;
-        let chain = chain(alloc, market, &first)?;
+        let found = chain_with_needs(alloc, market, &first)?;
+        let market = Rc::new(alloc, market.copy(alloc)?)?;
         Ok(Basis {
-            poset: Poset::of(alloc, market, chain)?,
+            poset: Poset::with_needs(alloc, market, found)?,
         })
     }
 }

@@ -5,7 +5,7 @@ use Rattle.sm_theory.specs.Chains.{stage}
 use Rattle.sm_theory.specs.Values.{rotations_of}
 use Rattle.sm_rotations.specs.Marking.{marks_in, AreLastMoves, AreMarks}
 use Rattle.sm_rotations.specs.Graph.{AreFollowers}
-use Rattle.sm_rotations.proofs.predecessors.needs.Given as goal
+use Rattle.sm_rotations.proofs.predecessors.followers.Given as goal
 
 abbrev pub invariant-loop-j : goal.invariant-loop-j
 invariant-loop-j l = record {
