@@ -1,16 +1,14 @@
--- A walk from person to next person, begun where three or more are left, closes to a cycle that has nobody with two left of
--- whom the last is on the cycle.
+-- A walk from person to next person closes to a cycle. Where anybody on it has two left, and the last of them is on the cycle,
+-- so it is for all, and whoever the walk began with is one of them.
 use Rattle.std.proofs.Common.{List, ◌≡◌, ℕ, zero, suc, ◌+◌, ◌-◌, ◌<◌, ◌≤◌, inl, inr, arith, ap, ◌∙◌}
 use Rattle.sm_lists.proofs.Counting.{lt_or_le, eq_or_ne}
-use Rattle.sm_lists.specs.Rows.{place_of}
-use Rattle.sm_room.specs.Bounds.{IsSecond, IsNext, IsGoodAt}
-use Rattle.sm_room.proofs.TableCore.{one_second}
+use Rattle.sm_room.specs.Bounds.{IsNext, IsGoodAt}
 use Rattle.sm_room.proofs.PhaseTwoCore.{Before, After, Round, Two, has_two_back, HasTwo, before_inside}
 
--- a walk over `p 0` to `p end`, whose last has `p one` next
+-- the cycle at the end of a walk, over `p one` to `p end`, which has `p one` next
 pub record Walk (rows : List (List ℕ)) (b : ℕ → ℕ) (p : ℕ → ℕ) (one end : ℕ) : Type 0 where
   pub order : one ≤ end
-  pub steps : (i : ℕ) → i < end → IsNext rows b (p i) (p (suc i))
+  pub steps : (i : ℕ) → one ≤ i → i < end → IsNext rows b (p i) (p (suc i))
   pub closes : IsNext rows b (p end) (p one)
 
 -- u is one of the cycle
@@ -30,7 +28,7 @@ module _ {rows : List (List ℕ)} {b : ℕ → ℕ} {p : ℕ → ℕ} {one end :
         | inr d ↦
             let k : ℕ = i - 1 in
             let up : suc k ≡ i = omega (arith, late, d) in
-            let n : IsNext rows b (p k) (p (suc k)) = w.steps k (omega (arith, up, early)) in
+            let n : IsNext rows b (p k) (p (suc k)) = w.steps k (omega (arith, up, late, d)) (omega (arith, up, early)) in
             let f : p (suc k) ≡ v = ap p up ∙ e in
             record { who = p k; here = record { at = k; late = omega (arith, up, late, d); early = omega (arith, up, early); is = ap p (omega arith) }; next = rw f at n }
       ]
@@ -38,7 +36,7 @@ module _ {rows : List (List ℕ)} {b : ℕ → ℕ} {p : ℕ → ℕ} {one end :
   after_on : (x : ℕ) → On p one end x → After rows b (On p one end) x
   after_on x o = elim (lt_or_le o.at end) [
     | inl l ↦
-        let n : IsNext rows b (p o.at) (p (suc o.at)) = w.steps o.at l in
+        let n : IsNext rows b (p o.at) (p (suc o.at)) = w.steps o.at o.late l in
         record { who = p (suc o.at); here = record { at = suc o.at; late = omega (arith, o.late); early = omega (arith, l); is = ap p (omega arith) }; next = rw o.is at n }
     | inr l ↦
         let e : end ≡ o.at = omega (arith, l, o.early) in
@@ -61,9 +59,9 @@ module _ {rows : List (List ℕ)} {b : ℕ → ℕ} {p : ℕ → ℕ} {one end :
     down (suc d) i late early h =
         let e : suc d + i ≡ suc (d + i) = omega arith in
         let g : Has (p (suc (d + i))) = rw e at h in
-        down d i late (omega (arith, early)) (has_two_back good round_of_walk _ g (p (d + i)) (on_walk (d + i) (omega (arith, late)) (omega (arith, early))) (w.steps (d + i) (omega (arith, early))))
+        down d i late (omega (arith, early)) (has_two_back good round_of_walk _ g (p (d + i)) (on_walk (d + i) (omega (arith, late)) (omega (arith, early))) (w.steps (d + i) (omega (arith, late)) (omega (arith, early))))
 
-    all_have : (i : ℕ) → one ≤ i → i ≤ end → Has (p i) → (j : ℕ) → one ≤ j → j ≤ end → Has (p j)
+    pub all_have : (i : ℕ) → one ≤ i → i ≤ end → Has (p i) → (j : ℕ) → one ≤ j → j ≤ end → Has (p j)
     all_have i late early h j late' early' =
         let d : ℕ = i - one in
         let e : d + one ≡ i = omega (arith, late) in
@@ -73,26 +71,25 @@ module _ {rows : List (List ℕ)} {b : ℕ → ℕ} {p : ℕ → ℕ} {one end :
         let f : c + j ≡ end = omega (arith, early') in
         down c j late' (omega (arith, f)) (rw f last)
 
-    -- were there one, the start of the walk would be on the cycle, and have two
-    module _ (all : (v : ℕ) → On p one end v → Has v) where
+    -- so it is enough to ask one of them
+    pub none_has_two : (Has (p one) → ⊥) → (u v : ℕ) → Two rows b (On p one end) u v → ⊥
+    none_has_two none u v t =
+        let o = t.here in
+        none (all_have o.at o.late o.early (rw o.is (record { last = v; two = t })) one (omega arith) w.order)
+
+    -- whoever the walk began with is on the cycle then
+    module _ (h : Has (p one)) (early : (i : ℕ) → i < one → IsNext rows b (p i) (p (suc i))) where
+      all_of : (v : ℕ) → On p one end v → Has v
+      all_of v o = let e : p o.at ≡ v = o.is in rw e at (all_have one (omega arith) w.order h o.at o.late o.early)
+
       to_start : (d : ℕ) → d ≤ one → On p one end (p (one - d))
       to_start zero h = let e : one - 0 ≡ one = omega arith in rw e (on_walk one (omega arith) w.order)
       to_start (suc d) h =
           let k : ℕ = one - suc d in
           let up : suc k ≡ one - d = omega (arith, h) in
-          let n : IsNext rows b (p k) (p (suc k)) = w.steps k (omega (arith, up, h, w.order)) in
+          let n : IsNext rows b (p k) (p (suc k)) = early k (omega (arith, up, h)) in
           let m : IsNext rows b (p k) (p (one - d)) = rw up at n in
-          before_inside good round_of_walk (p k) (p (one - d)) all m (to_start d (omega (arith, h)))
+          before_inside good round_of_walk (p k) (p (one - d)) all_of m (to_start d (omega (arith, h)))
 
-      start_has : Has (p 0)
-      start_has = let e : one - one ≡ 0 = omega arith in all (p 0) (rw e at (to_start one (omega arith)))
-
-    pub none_has_two : (y : ℕ) → IsSecond rows b (p 0) y → place_of rows (p 0) y < b (p 0) → (u w : ℕ) → Two rows b (On p one end) u w → ⊥
-    none_has_two y f more u v t =
-        let o = t.here in
-        let h : Has (p o.at) = rw o.is (record { last = v; two = t }) in
-        let h0 = start_has (λ z q. let e : p q.at ≡ z = q.is in rw e at (all_have o.at o.late o.early h q.at q.late q.early)) in
-        let g = h0.two in
-        let e : y ≡ h0.last = one_second f g.second in
-        let k : place_of rows (p 0) h0.last < b (p 0) = rw e at more in
-        omega (arith, k, g.at)
+      pub start_has : Has (p 0)
+      start_has = let e : one - one ≡ 0 = omega arith in all_of (p 0) (rw e at (to_start one (omega arith)))

@@ -1,5 +1,5 @@
 -- The first places, and the second, that are left on a list.
-use Rattle.std.proofs.Common.{◌≡◌, ℕ, ◌+◌, ◌<◌, ◌≤◌, ◌⊎◌, inl, inr, arith, sym, ap, ◌∙◌, List, length, get_or, replicate}
+use Rattle.std.proofs.Common.{◌≡◌, ℕ, ◌+◌, ◌<◌, ◌≤◌, inl, inr, arith, sym, ap, ◌∙◌, List, length, get_or, max, replicate}
 use Rattle.std.proofs.lemmas.List.{length-replicate}
 use Rattle.sm_lists.specs.Rows.{row, entry, place_of}
 use Rattle.sm_lists.proofs.Counting.{eq_or_ne}
@@ -7,7 +7,7 @@ use Rattle.sm_lists.proofs.PlaceLemmas.{entry-place_of}
 use Rattle.sm_theory.specs.Rooms.{AreRoomLists}
 use Rattle.sm_room.specs.Bounds.{IsLeft, IsFirst, IsLast, IsSecond, IsGoodAt, bound_in}
 use Rattle.sm_room.specs.Rotating.{IsLeftFrom, IsSecondPlace, AreHints}
-use Rattle.sm_room.proofs.TableCore.{one_at, same_front, has_first, has_second}
+use Rattle.sm_room.proofs.TableCore.{one_at, same_foremost, has_second, left_before, had_second}
 use Rattle.sm_room.proofs.WalkLemmas.{zero_marks}
 use Rattle.sm_room.proofs.LeftLemmas.{place_at}
 
@@ -29,11 +29,14 @@ module _ {rows : List (List ℕ)} {bounds firsts seconds : List ℕ} (h : AreHin
     first_is = record { left = f.left; least = λ z l. omega (arith, place_at lists x i f.on_list, f.least z l (h.first x z l)) }
 
     -- whoever is left behind it, and not before the hint of the second, is the second
-    module _ {from : ℕ} (behind : i + 1 ≤ from) (reached : (from ≡ i + 1) ⊎ (from ≡ get_or seconds x 0)) where
+    module _ {from : ℕ} (is : from ≡ max (get_or seconds x 0) (i + 1)) where
+      behind : i + 1 ≤ from
+      behind = omega (arith, is)
+
       from_le : (y : ℕ) → IsSecond rows (bound_in bounds) x y → from ≤ place_of rows x y
       from_le y s =
-          let less : i < place_of rows x y = omega (arith, place_at lists x i f.on_list, s.behind, f.least s.front s.first.left (h.first x s.front s.first.left)) in
-          elim reached [ inl e ↦ omega (arith, e, less) | inr e ↦ omega (arith, e, h.second x y s) ]
+          let less : i < place_of rows x y = omega (arith, place_at lists x i f.on_list, s.behind, f.least s.foremost s.first.left (h.first x s.foremost s.first.left)) in
+          omega (arith, is, less, h.second x y s)
 
       module _ {j : ℕ} (g : IsLeftFrom rows bounds x from j) where
         second_of : IsSecond rows (bound_in bounds) x (entry rows x j)
@@ -42,7 +45,7 @@ module _ {rows : List (List ℕ)} {bounds firsts seconds : List ℕ} (h : AreHin
             let ej = place_at lists x j g.on_list in
             let w = has_second first_is g.left (omega (arith, ei, ej, behind, g.behind)) in
             let ge : j ≤ place_of rows x w.next = g.least w.next w.second.left (from_le w.next w.second) in
-            let le : place_of rows x w.next ≤ place_of rows x (entry rows x j) = w.second.least (entry rows x j) g.left (omega (arith, same_front w.second first_is, ei, ej, behind, g.behind)) in
+            let le : place_of rows x w.next ≤ place_of rows x (entry rows x j) = w.second.least (entry rows x j) g.left (omega (arith, same_foremost w.second first_is, ei, ej, behind, g.behind)) in
             let e : w.next ≡ entry rows x j = one_at rows x w.next (entry rows x j) w.second.left.acc g.left.acc (omega (arith, ge, le, ej)) in
             rw e at w.second
 
@@ -54,17 +57,9 @@ pub hints_kept : {rows : List (List ℕ)} {firsts seconds : List ℕ} (old now :
 hints_kept {rows} old now lower h = record {
   first_each = h.first_each;
   second_each = h.second_each;
-  first = λ x y l. h.first x y (back x y l);
-  second = λ x y s.
-      let f = has_first (back x y s.left) in
-      let less : place_of rows x f.front < place_of rows x y = let le = f.first.least s.front (back x s.front s.first.left) in omega (arith, le, s.behind) in
-      let w = has_second f.first (back x y s.left) less in
-      let le = w.second.least y (back x y s.left) (omega (arith, same_front w.second f.first, less)) in
-      omega (arith, le, h.second x w.next w.second);
+  first = λ x y l. h.first x y (left_before (bound_in old) (bound_in now) lower l);
+  second = λ x y s. let w = had_second (bound_in old) (bound_in now) lower s in omega (arith, w.early, h.second x w.next w.second);
 }
-  where
-    back : (u v : ℕ) → IsLeft rows (bound_in now) u v → IsLeft rows (bound_in old) u v
-    back u v l = record { acc = l.acc; here = omega (arith, l.here, lower u); there = omega (arith, l.there, lower v) }
 
 -- no hints yet
 pub hints_begin : {rows : List (List ℕ)} (bounds firsts seconds : List ℕ) → firsts ≡ replicate (length rows) 0 → seconds ≡ replicate (length rows) 0 → AreHints rows bounds firsts seconds

@@ -50,7 +50,7 @@ pub record HasLeft (rows : List (List ℕ)) (b : ℕ → ℕ) (x : ℕ) : Type 0
 
 -- the person found, or another
 chosen : {rows : List (List ℕ)} {b : ℕ → ℕ} {x : ℕ} → Decided (HasFirst rows b x) → ℕ
-chosen {x = x} (inl w) = w.front
+chosen {x = x} (inl w) = w.foremost
 chosen {x = x} (inr _) = x
 
 chosen_is : {rows : List (List ℕ)} {b : ℕ → ℕ} {x : ℕ} (d : Decided (HasFirst rows b x)) → HasFirst rows b x → IsFirst rows b x (chosen d)
@@ -63,7 +63,7 @@ module _ {rows : List (List ℕ)} {b : ℕ → ℕ} (inv : IsProposing rows b) (
   Decided-first : (x : ℕ) → Decided (HasFirst rows b x)
   Decided-first x = elim (search_below (length rows) (λ y. IsLeft rows b x y) (λ y _. Decided-left b x y)) [
     | inl w ↦ inl (has_first w.holds)
-    | inr none ↦ inr (λ w. none w.front (in_range b x w.front w.first.left) w.first.left)
+    | inr none ↦ inr (λ w. none w.foremost (in_range b x w.foremost w.first.left) w.first.left)
   ]
 
   to : ℕ → ℕ

@@ -4,7 +4,7 @@ use Rattle.std.proofs.Common.{List, ◌≡◌, ℕ, ◌<◌, ◌≤◌, ◌⊎�
 use Rattle.sm_lists.proofs.Counting.{lt_or_le}
 use Rattle.sm_lists.specs.Rows.{place_of}
 use Rattle.sm_room.specs.Bounds.{IsLeft, IsFirst, IsLast, IsSecond, IsNext, HasLast, IsGoodAt}
-use Rattle.sm_room.proofs.TableCore.{IsLeft-turn, one_first, one_final, one_second, same_front, has_first, has_second, HasFirst, one_at, turn}
+use Rattle.sm_room.proofs.TableCore.{IsLeft-turn, one_first, one_final, one_second, same_foremost, has_first, has_second, HasFirst, one_at, turn, left_before}
 
 -- who is before somebody, and who is after, among those for whom C holds
 pub record Before (rows : List (List ℕ)) (b : ℕ → ℕ) (C : ℕ → Type 0) (v : ℕ) : Type 0 where
@@ -49,7 +49,7 @@ module _ {rows : List (List ℕ)} {b : ℕ → ℕ} (good : IsGoodAt rows b) whe
     | inr l ↦
         let e : place_of rows y x ≡ b y = omega (arith, l, f.left.there) in
         let first : IsFirst rows b x y = good.last_first y x (record { left = IsLeft-turn f.left; at = e }) in
-        absurd (omega (arith, f.behind, first.least f.front f.first.left))
+        absurd (omega (arith, f.behind, first.least f.foremost f.first.left))
   ]
 
   pub next_first : {x v : ℕ} → (n : IsNext rows b x v) → IsFirst rows b v n.over
@@ -86,7 +86,7 @@ module _ {rows : List (List ℕ)} {b : ℕ → ℕ} (good : IsGoodAt rows b) whe
         let sv : IsSecond rows b v.who u = rw e at v.next.second in
         let short : place_of rows u v.who < b u = second_before_last v.who u sv in
         let i : IsLeft rows b u v.who = IsLeft-turn sv.left in
-        let fu : IsFirst rows b u v.who = elim (lt_or_le (place_of rows u t.second.front) (place_of rows u v.who)) [
+        let fu : IsFirst rows b u v.who = elim (lt_or_le (place_of rows u t.second.foremost) (place_of rows u v.who)) [
           | inl l ↦ absurd (omega (arith, t.second.least v.who i l, t.at, short))
           | inr l ↦ record { left = i; least = λ z j. omega (arith, t.second.first.least z j, l) }
         ] in
@@ -111,9 +111,9 @@ module _ {rows : List (List ℕ)} {b : ℕ → ℕ} (good : IsGoodAt rows b) whe
         let w = two_back u h.last h.two p in
         let t = h.two in
         let f = w.0 in
-        elim (lt_or_le (place_of rows u t.second.front) (place_of rows u z)) [
+        elim (lt_or_le (place_of rows u t.second.foremost) (place_of rows u z)) [
           | inl l ↦ let e : z ≡ h.last = one_at rows u z h.last i.acc t.second.left.acc (omega (arith, t.second.least z i l, t.at, i.here)) in rw e t.there
-          | inr l ↦ let e : z ≡ p.who = one_at rows u z p.who i.acc f.left.acc (omega (arith, f.least z i, same_front t.second f, l)) in rw e p.here
+          | inr l ↦ let e : z ≡ p.who = one_at rows u z p.who i.acc f.left.acc (omega (arith, f.least z i, same_foremost t.second f, l)) in rw e p.here
         ]
 
     -- who isn't of the set isn't before one of it
@@ -131,7 +131,7 @@ module _ {rows : List (List ℕ)} {b : ℕ → ℕ} (good : IsGoodAt rows b) whe
       ]
 
       pub before_cuts : {u v : ℕ} → IsLeft rows c u v → IsLeft rows b u v
-      before_cuts {u} {v} h = record { acc = h.acc; here = omega (arith, h.here, less u); there = omega (arith, h.there, less v) }
+      before_cuts {u} {v} h = left_before b c less h
 
       -- the second of a person of the set stays on its list, and becomes the first
       stays : (x y : ℕ) → C x → IsSecond rows b x y → IsLast rows c y x
@@ -140,7 +140,7 @@ module _ {rows : List (List ℕ)} {b : ℕ → ℕ} (good : IsGoodAt rows b) whe
           here : place_of rows x y ≤ c x
           here = elim (cuts.other x) [
             | inr e ↦ omega (arith, e, f.left.here)
-            | inl w ↦ elim (lt_or_le (place_of rows x f.front) (place_of rows x w.by)) [
+            | inl w ↦ elim (lt_or_le (place_of rows x f.foremost) (place_of rows x w.by)) [
               | inl l ↦ omega (arith, w.bound, f.least w.by (IsLeft-turn w.second.left) l)
               | inr l ↦
                   let first : IsFirst rows b x w.by = record { left = IsLeft-turn w.second.left; least = λ z j. omega (arith, f.first.least z j, l) } in
@@ -185,10 +185,10 @@ module _ {rows : List (List ℕ)} {b : ℕ → ℕ} (good : IsGoodAt rows b) whe
                 let first : IsFirst rows b v p.next.over = next_first p.next in
                 let short = second_before_last p.who p.next.over p.next.second in
                 let bound = cuts.cut p.who p.next.over p.here p.next.second in
-                elim (lt_or_le (place_of rows v f.front) (place_of rows v z)) [
+                elim (lt_or_le (place_of rows v f.foremost) (place_of rows v z)) [
                   | inl l ↦ f.least z (before_cuts i) l
                   | inr l ↦
-                      let same : z ≡ p.next.over = one_at rows v z p.next.over i.acc first.left.acc (omega (arith, l, same_front f first, first.least z (before_cuts i))) in
+                      let same : z ≡ p.next.over = one_at rows v z p.next.over i.acc first.left.acc (omega (arith, l, same_foremost f first, first.least z (before_cuts i))) in
                       let j : IsLeft rows c v p.next.over = rw same at i in
                       absurd (omega (arith, j.there, short, bound, p.next.final.at))
                 ]
@@ -198,27 +198,27 @@ module _ {rows : List (List ℕ)} {b : ℕ → ℕ} (good : IsGoodAt rows b) whe
       first_last u v f = go (has_first (before_cuts f.left))
         where
           go : HasFirst rows b u → IsLast rows c v u
-          go w = elim (cuts.other w.front) [
+          go w = elim (cuts.other w.foremost) [
             | inl k ↦
                 let a = round.after k.by k.here in
-                let same : a.next.over ≡ w.front = one_second a.next.second k.second in
-                let last : IsLast rows b w.front a.who = rw same at a.next.final in
-                let e : a.who ≡ u = one_final last (good.first_last u w.front w.first) in
+                let same : a.next.over ≡ w.foremost = one_second a.next.second k.second in
+                let last : IsLast rows b w.foremost a.who = rw same at a.next.final in
+                let e : a.who ≡ u = one_final last (good.first_last u w.foremost w.first) in
                 let here : C u = rw e at a.here in
                 let n = round.after u here in
                 let g : IsLast rows c n.next.over u = stays u n.next.over here n.next.second in
                 let d : n.next.over ≡ v = one_first (last_first n.next.over u g) f in
                 rw d at g
             | inr k ↦
-                let front : ℕ = w.front in
-                let last : IsLast rows b front u = good.first_last u front w.first in
-                let here : place_of rows u front ≤ c u = elim (cuts.other u) [
+                let foremost : ℕ = w.foremost in
+                let last : IsLast rows b foremost u = good.first_last u foremost w.first in
+                let here : place_of rows u foremost ≤ c u = elim (cuts.other u) [
                   | inl j ↦ omega (arith, j.bound, w.first.least j.by (IsLeft-turn j.second.left))
                   | inr e ↦ omega (arith, e, w.first.left.here)
                 ] in
-                let i : IsLeft rows c front u = record { acc = last.left.acc; here = omega (arith, k, last.at); there = here } in
-                let g : IsLast rows c front u = record { left = i; at = omega (arith, k, last.at) } in
-                let d : front ≡ v = one_first (last_first front u g) f in
+                let i : IsLeft rows c foremost u = record { acc = last.left.acc; here = omega (arith, k, last.at); there = here } in
+                let g : IsLast rows c foremost u = record { left = i; at = omega (arith, k, last.at) } in
+                let d : foremost ≡ v = one_first (last_first foremost u g) f in
                 rw d at g
           ]
 

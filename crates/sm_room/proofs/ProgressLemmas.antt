@@ -48,8 +48,8 @@ module _ {rows : List (List ℕ)} {b c : ℕ → ℕ} (x y : ℕ) (inv : IsPropo
   at_first : (u f : ℕ) → IsFirst rows b u f → u ≡ y → place_of rows y f ≤ place_of rows y x
   at_first u f g e = let h : IsFirst rows b y f = rw e at g in h.least x (IsLeft-turn first.left)
 
-  front_inside : (u f : ℕ) → IsFirst rows b u f → place_of rows u f ≤ c u
-  front_inside u f g = elim (eq_or_ne u y) [
+  first_inside : (u f : ℕ) → IsFirst rows b u f → place_of rows u f ≤ c u
+  first_inside u f g = elim (eq_or_ne u y) [
     | inl e ↦ rw e (omega (arith, cut, at_first u f g e))
     | inr e ↦ omega (arith, kept u e, g.left.here)
   ]
@@ -58,10 +58,10 @@ module _ {rows : List (List ℕ)} {b c : ℕ → ℕ} (x y : ℕ) (inv : IsPropo
   pub stays_settled : (u : ℕ) → ((f : ℕ) → IsFirst rows b u f → IsLast rows b f u) → (IsLast rows b y u → ⊥) → (v : ℕ) → IsFirst rows c u v → IsLast rows c v u
   stays_settled u settled other v g =
       let w = has_first (was_left u v g.left) in
-      let f : ℕ = w.front in
+      let f : ℕ = w.foremost in
       let l : IsLast rows b f u = settled f w.first in
       let apart : f ≢ y = λ e. other (rw e at l) in
-      let new : IsLast rows c f u = record { left = record { acc = l.left.acc; here = omega (arith, kept f apart, l.at); there = front_inside u f w.first }; at = omega (arith, kept f apart, l.at) } in
+      let new : IsLast rows c f u = record { left = record { acc = l.left.acc; here = omega (arith, kept f apart, l.at); there = first_inside u f w.first }; at = omega (arith, kept f apart, l.at) } in
       let e : f ≡ v = one_first (last_first still_proposing new) g in
       rw e at new
 
@@ -74,36 +74,36 @@ module _ {rows : List (List ℕ)} {b c : ℕ → ℕ} (x y : ℕ) (inv : IsPropo
     | inr e ↦ inr (e, record { left = was_left v u l.left; at = omega (arith, kept v e, l.at) })
   ]
 
--- the first at a front
-front_first : {rows : List (List ℕ)} {b : ℕ → ℕ} (x i : ℕ) → ((y : ℕ) → IsLeft rows b x y → i ≤ place_of rows x y) → IsLeft rows b x (entry rows x i) → IsFirst rows b x (entry rows x i)
-front_first {rows} x i before left = record { left = left; least = λ z l. omega (arith, before z l, place_on-le-at (row rows x) (entry rows x i) i refl) }
+-- the first behind those that are passed
+passed_first : {rows : List (List ℕ)} {b : ℕ → ℕ} (x i : ℕ) → ((y : ℕ) → IsLeft rows b x y → i ≤ place_of rows x y) → IsLeft rows b x (entry rows x i) → IsFirst rows b x (entry rows x i)
+passed_first {rows} x i before left = record { left = left; least = λ z l. omega (arith, before z l, place_on-le-at (row rows x) (entry rows x i) i refl) }
 
-module _ {rows : List (List ℕ)} {begun away : ℕ} {fronts bounds : List ℕ} (g : IsProgress rows begun away fronts bounds) where
+module _ {rows : List (List ℕ)} {begun away : ℕ} {passed bounds : List ℕ} (g : IsProgress rows begun away passed bounds) where
   abbrev b : ℕ → ℕ
   b = bound_in bounds
 
-  -- the front of one person goes on
-  front_kept : (z : ℕ) → z < length rows → (c : ℕ → ℕ) → ((u v : ℕ) → IsLeft rows c u v → IsLeft rows b u v)
-      → ((v : ℕ) → IsLeft rows c z v → get_or fronts z 0 < place_of rows z v)
-      → (u v : ℕ) → IsLeft rows c u v → get_or (set fronts z (get_or fronts z 0 + 1)) u 0 ≤ place_of rows u v
-  front_kept z there c back behind u v =
-      set_cases (λ u i. IsLeft rows c u v → i ≤ place_of rows u v) fronts z (get_or fronts z 0 + 1) 0 (omega (arith, g.front_each, there))
-      (λ l. omega (arith, behind v l)) (λ w ne l. g.before_front w v (back w v l)) u
+  -- one person passes one more
+  passed_kept : (z : ℕ) → z < length rows → (c : ℕ → ℕ) → ((u v : ℕ) → IsLeft rows c u v → IsLeft rows b u v)
+      → ((v : ℕ) → IsLeft rows c z v → get_or passed z 0 < place_of rows z v)
+      → (u v : ℕ) → IsLeft rows c u v → get_or (set passed z (get_or passed z 0 + 1)) u 0 ≤ place_of rows u v
+  passed_kept z there c back behind u v =
+      set_cases (λ u i. IsLeft rows c u v → i ≤ place_of rows u v) passed z (get_or passed z 0 + 1) 0 (omega (arith, g.passed_each, there))
+      (λ l. omega (arith, behind v l)) (λ w ne l. g.all_passed w v (back w v l)) u
 
-  on_list_kept : (z : ℕ) → z < length rows → get_or fronts z 0 < length (row rows z) → (u : ℕ) → get_or (set fronts z (get_or fronts z 0 + 1)) u 0 ≤ length (row rows u)
-  on_list_kept z there on = set_cases (λ u i. i ≤ length (row rows u)) fronts z (get_or fronts z 0 + 1) 0 (omega (arith, g.front_each, there)) (omega (arith, on)) (λ u _. g.on_list u)
+  on_list_kept : (z : ℕ) → z < length rows → get_or passed z 0 < length (row rows z) → (u : ℕ) → get_or (set passed z (get_or passed z 0 + 1)) u 0 ≤ length (row rows u)
+  on_list_kept z there on = set_cases (λ u i. i ≤ length (row rows u)) passed z (get_or passed z 0 + 1) 0 (omega (arith, g.passed_each, there)) (omega (arith, on)) (λ u _. g.on_list u)
 
-  -- the entry at the front isn't left
-  pub progress_passes : away < length rows → get_or fronts away 0 < length (row rows away) → (IsLeft rows b away (entry rows away (get_or fronts away 0)) → ⊥)
-      → IsProgress rows begun away (set fronts away (get_or fronts away 0 + 1)) bounds
+  -- the next entry isn't left
+  pub progress_passes : away < length rows → get_or passed away 0 < length (row rows away) → (IsLeft rows b away (entry rows away (get_or passed away 0)) → ⊥)
+      → IsProgress rows begun away (set passed away (get_or passed away 0 + 1)) bounds
   progress_passes there on gone = record {
-    front_each = length-set fronts away (get_or fronts away 0 + 1) ∙ g.front_each;
+    passed_each = length-set passed away (get_or passed away 0 + 1) ∙ g.passed_each;
     bound_each = g.bound_each;
     on_list = on_list_kept away there on;
     proposing = g.proposing;
-    before_front = front_kept away there b (λ u v l. l) (λ v l. elim (eq_or_ne (place_of rows away v) (get_or fronts away 0)) [
-      | inl e ↦ let is : v ≡ entry rows away (get_or fronts away 0) = sym (entry-place_of rows away v l.acc.listed) ∙ ap (entry rows away) e in absurd (gone (rw is at l))
-      | inr e ↦ omega (arith, e, g.before_front away v l)
+    all_passed = passed_kept away there b (λ u v l. l) (λ v l. elim (eq_or_ne (place_of rows away v) (get_or passed away 0)) [
+      | inl e ↦ let is : v ≡ entry rows away (get_or passed away 0) = sym (entry-place_of rows away v l.acc.listed) ∙ ap (entry rows away) e in absurd (gone (rw is at l))
+      | inr e ↦ omega (arith, e, g.all_passed away v l)
     ]);
     settled = g.settled;
     last_begun = g.last_begun;
@@ -111,30 +111,30 @@ module _ {rows : List (List ℕ)} {begun away : ℕ} {fronts bounds : List ℕ} 
   }
 
   -- the one that is away is at the end of its list
-  pub progress_stops : length (row rows away) ≤ get_or fronts away 0 → away < begun → IsProgress rows begun begun fronts bounds
+  pub progress_stops : length (row rows away) ≤ get_or passed away 0 → away < begun → IsProgress rows begun begun passed bounds
   progress_stops end in_ = record {
-    front_each = g.front_each;
+    passed_each = g.passed_each;
     bound_each = g.bound_each;
     on_list = g.on_list;
     proposing = g.proposing;
-    before_front = g.before_front;
+    all_passed = g.all_passed;
     settled = λ x y lt ne f. elim (eq_or_ne x away) [
-      | inl e ↦ let h : IsLeft rows b away y = rw e at f.left in absurd (omega (arith, g.before_front away y h, h.acc.listed, end))
+      | inl e ↦ let h : IsLeft rows b away y = rw e at f.left in absurd (omega (arith, g.all_passed away y h, h.acc.listed, end))
       | inr e ↦ g.settled x y lt e f
     ];
     last_begun = g.last_begun;
     last_rests = λ x y l. let k = g.last_begun x y l in omega (arith, k);
   }
 
-  module _ (after : List ℕ) (in_ : away < begun) (t : IsTaken rows away (get_or fronts away 0) bounds after) where
+  module _ (after : List ℕ) (in_ : away < begun) (t : IsTaken rows away (get_or passed away 0) bounds after) where
     abbrev y : ℕ
-    y = entry rows away (get_or fronts away 0)
+    y = entry rows away (get_or passed away 0)
 
     abbrev c : ℕ → ℕ
     c = bound_in after
 
     first : IsFirst rows b away y
-    first = front_first away (get_or fronts away 0) (g.before_front away) t.left
+    first = passed_first away (get_or passed away 0) (g.all_passed away) t.left
 
     y_there : y < length bounds
     y_there = omega (arith, g.bound_each, inside_rows rows y away (turn rows away y t.left.acc))
@@ -155,13 +155,13 @@ module _ {rows : List (List ℕ)} {begun away : ℕ} {fronts bounds : List ℕ} 
     ]
 
     -- y held nobody
-    pub progress_taken_in : length (row rows y) ≤ get_or bounds y 0 → IsProgress rows begun begun fronts after
+    pub progress_taken_in : length (row rows y) ≤ get_or bounds y 0 → IsProgress rows begun begun passed after
     progress_taken_in free = record {
-      front_each = g.front_each;
+      passed_each = g.passed_each;
       bound_each = bound_long;
       on_list = g.on_list;
       proposing = still_proposing away y g.proposing first cut kept;
-      before_front = λ u v l. g.before_front u v (was_left away y g.proposing first cut kept u v l);
+      all_passed = λ u v l. g.all_passed u v (was_left away y g.proposing first cut kept u v l);
       settled = λ u v lt ne f. elim (eq_or_ne u away) [
         | inl e ↦ let h : IsFirst rows c away v = rw e at f in rw e (proposer_settled away y g.proposing first cut kept v h)
         | inr e ↦ stays_settled away y g.proposing first cut kept u (λ f k. g.settled u f lt e k) (λ l. omega (arith, l.at, l.left.acc.listed, free)) v f
@@ -196,11 +196,11 @@ module _ {rows : List (List ℕ)} {begun away : ℕ} {fronts bounds : List ℕ} 
       z_apart : z ≢ away
       z_apart = g.last_rests z y z_last
 
-      pub z_on : get_or fronts z 0 < length (row rows z)
-      z_on = omega (arith, g.before_front z y z_first.left, z_first.left.acc.listed)
+      pub z_on : get_or passed z 0 < length (row rows z)
+      z_on = omega (arith, g.all_passed z y z_first.left, z_first.left.acc.listed)
 
       -- y isn't left on z's list
-      behind : (v : ℕ) → IsLeft rows c z v → get_or fronts z 0 < place_of rows z v
+      behind : (v : ℕ) → IsLeft rows c z v → get_or passed z 0 < place_of rows z v
       behind v l =
           let k = was_left away y g.proposing first cut kept z v l in
           elim (eq_or_ne v y) [
@@ -209,18 +209,18 @@ module _ {rows : List (List ℕ)} {begun away : ℕ} {fronts bounds : List ℕ} 
                 let d : z ≡ away = one_at rows y z away (turn rows z y m.acc) (turn rows away y first.left.acc) (omega (arith, m.there, cut, z_last.at, first.left.there)) in
                 absurd (z_apart d)
             | inr e ↦ elim (lt_or_le (place_of rows z y) (place_of rows z v)) [
-              | inl m ↦ omega (arith, m, g.before_front z y z_first.left)
+              | inl m ↦ omega (arith, m, g.all_passed z y z_first.left)
               | inr m ↦ absurd (e (one_at rows z v y k.acc z_first.left.acc (omega (arith, m, z_first.least v k))))
             ]
           ]
 
-      pub progress_taken_for : IsProgress rows begun z (set fronts z (get_or fronts z 0 + 1)) after
+      pub progress_taken_for : IsProgress rows begun z (set passed z (get_or passed z 0 + 1)) after
       progress_taken_for = record {
-        front_each = length-set fronts z (get_or fronts z 0 + 1) ∙ g.front_each;
+        passed_each = length-set passed z (get_or passed z 0 + 1) ∙ g.passed_each;
         bound_each = bound_long;
         on_list = on_list_kept z z_there z_on;
         proposing = still_proposing away y g.proposing first cut kept;
-        before_front = front_kept z z_there c (was_left away y g.proposing first cut kept) behind;
+        all_passed = passed_kept z z_there c (was_left away y g.proposing first cut kept) behind;
         settled = λ u v lt ne f. elim (eq_or_ne u away) [
           | inl e ↦ let h : IsFirst rows c away v = rw e at f in rw e (proposer_settled away y g.proposing first cut kept v h)
           | inr e ↦ stays_settled away y g.proposing first cut kept u (λ f k. g.settled u f lt e k) (λ l. ne (one_final l z_last)) v f
@@ -233,41 +233,41 @@ module _ {rows : List (List ℕ)} {begun away : ℕ} {fronts bounds : List ℕ} 
       }
 
 -- before anybody proposes
-pub progress_start : {rows : List (List ℕ)} {fronts bounds : List ℕ} → length fronts ≡ length rows → ((x : ℕ) → get_or fronts x 0 ≡ 0) → length bounds ≡ length rows
-    → ((x : ℕ) → get_or bounds x 0 ≡ length (row rows x)) → IsProgress rows 0 0 fronts bounds
-progress_start {rows} {fronts} {bounds} long zero long' free = record {
-  front_each = long;
+pub progress_start : {rows : List (List ℕ)} {passed bounds : List ℕ} → length passed ≡ length rows → ((x : ℕ) → get_or passed x 0 ≡ 0) → length bounds ≡ length rows
+    → ((x : ℕ) → get_or bounds x 0 ≡ length (row rows x)) → IsProgress rows 0 0 passed bounds
+progress_start {rows} {passed} {bounds} long zero long' free = record {
+  passed_each = long;
   bound_each = long';
   on_list = λ x. omega (arith, zero x);
   proposing = proposing_at_start (λ y. omega (arith, free y));
-  before_front = λ x y l. omega (arith, zero x);
+  all_passed = λ x y l. omega (arith, zero x);
   settled = λ x y lt. absurd (omega (arith, lt));
   last_begun = λ x y l. absurd (omega (arith, l.at, l.left.acc.listed, free y));
   last_rests = λ x y l. absurd (omega (arith, l.at, l.left.acc.listed, free y));
 }
 
 -- the next person begins
-pub progress_begins : {rows : List (List ℕ)} {p : ℕ} {fronts bounds : List ℕ} → IsProgress rows p p fronts bounds → IsProgress rows (p + 1) p fronts bounds
+pub progress_begins : {rows : List (List ℕ)} {p : ℕ} {passed bounds : List ℕ} → IsProgress rows p p passed bounds → IsProgress rows (p + 1) p passed bounds
 progress_begins {p = p} g = record {
-  front_each = g.front_each;
+  passed_each = g.passed_each;
   bound_each = g.bound_each;
   on_list = g.on_list;
   proposing = g.proposing;
-  before_front = g.before_front;
+  all_passed = g.all_passed;
   settled = λ x y lt ne f. g.settled x y (omega (arith, lt, ne)) ne f;
   last_begun = λ x y l. omega (arith, g.last_begun x y l);
   last_rests = g.last_rests;
 }
 
-pub progress_end : {rows : List (List ℕ)} {p : ℕ} {fronts bounds : List ℕ} → IsProgress rows p p fronts bounds → p ≡ length rows → IsGoodAt rows (bound_in bounds)
-progress_end {rows} {p} {fronts} {bounds} g full = good_at_end g.proposing (λ x y f.
+pub progress_end : {rows : List (List ℕ)} {p : ℕ} {passed bounds : List ℕ} → IsProgress rows p p passed bounds → p ≡ length rows → IsGoodAt rows (bound_in bounds)
+progress_end {rows} {p} {passed} {bounds} g full = good_at_end g.proposing (λ x y f.
     let lt = inside_rows rows x y f.left.acc in
     let l = g.settled x y (omega (arith, lt, full)) (omega (arith, lt, full)) f in
     omega (arith, l.at))
 
--- how many places are ahead of the fronts
+-- how many places are ahead of those that are passed
 abbrev pub places_left : List (List ℕ) → List ℕ → ℕ
-places_left rows fronts = sum_by (λ list. length list) rows - sum_by (λ i. i) fronts
+places_left rows passed = sum_by (λ list. length list) rows - sum_by (λ i. i) passed
 
 sums_le : (rows : List (List ℕ)) (next : List ℕ) → length next ≡ length rows → ((p : ℕ) → get_or next p 0 ≤ length (row rows p)) → sum_by (λ i. i) next ≤ sum_by (λ list. length list) rows
 sums_le rows [] long le = omega arith
@@ -277,23 +277,23 @@ sums_le (list ∷ rows) (i ∷ next) long le =
     let rest = sums_le rows next (omega arith) (λ p. le (suc p)) in
     omega (arith, sum_by-cons (λ (list : List ℕ). length list) list rows, sum_by-cons (λ (i : ℕ). i) i next)
 
-pub places_left_fall : {rows : List (List ℕ)} {begun away : ℕ} {after : List ℕ} (fronts : List ℕ) (u : ℕ) → length fronts ≡ length rows → u < length rows
-    → IsProgress rows begun away (set fronts u (get_or fronts u 0 + 1)) after → places_left rows (set fronts u (get_or fronts u 0 + 1)) < places_left rows fronts
-places_left_fall {rows} fronts u long there g =
-    let le = sums_le rows (set fronts u (get_or fronts u 0 + 1)) g.front_each g.on_list in
-    let more = sum_by-set (λ (i : ℕ). i) fronts u (get_or fronts u 0 + 1) 0 (omega (arith, long, there)) in
+pub places_left_fall : {rows : List (List ℕ)} {begun away : ℕ} {after : List ℕ} (passed : List ℕ) (u : ℕ) → length passed ≡ length rows → u < length rows
+    → IsProgress rows begun away (set passed u (get_or passed u 0 + 1)) after → places_left rows (set passed u (get_or passed u 0 + 1)) < places_left rows passed
+places_left_fall {rows} passed u long there g =
+    let le = sums_le rows (set passed u (get_or passed u 0 + 1)) g.passed_each g.on_list in
+    let more = sum_by-set (λ (i : ℕ). i) passed u (get_or passed u 0 + 1) 0 (omega (arith, long, there)) in
     omega arith
 
 -- what follows once a person was asked
-pub record GoesOn (rows : List (List ℕ)) (begun next : ℕ) (fronts after : List ℕ) : Type 0 where
+pub record GoesOn (rows : List (List ℕ)) (begun next : ℕ) (passed after : List ℕ) : Type 0 where
   pub begun_is : next < begun
   pub there : next < length rows
-  pub on : get_or fronts next 0 < length (row rows next)
-  pub progress : IsProgress rows begun next (set fronts next (get_or fronts next 0 + 1)) after
+  pub on : get_or passed next 0 < length (row rows next)
+  pub progress : IsProgress rows begun next (set passed next (get_or passed next 0 + 1)) after
 
-pub goes_on : {rows : List (List ℕ)} {begun away : ℕ} {fronts bounds : List ℕ} (after : List ℕ) (z : ℕ) → IsProgress rows begun away fronts bounds → away < begun → away < length rows
-    → get_or fronts away 0 < length (row rows away)
-    → IsTakenFor rows away (get_or fronts away 0) z bounds after ⊎ IsPassed rows away (get_or fronts away 0) z bounds after → GoesOn rows begun z fronts after
+pub goes_on : {rows : List (List ℕ)} {begun away : ℕ} {passed bounds : List ℕ} (after : List ℕ) (z : ℕ) → IsProgress rows begun away passed bounds → away < begun → away < length rows
+    → get_or passed away 0 < length (row rows away)
+    → IsTakenFor rows away (get_or passed away 0) z bounds after ⊎ IsPassed rows away (get_or passed away 0) z bounds after → GoesOn rows begun z passed after
 goes_on after z g in_ there on (inl t) = rw t.lets_go (record {
   begun_is = z_begun g after in_ t.taken t.on_list;
   there = z_there g after in_ t.taken t.on_list;

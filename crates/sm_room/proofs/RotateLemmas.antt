@@ -5,43 +5,46 @@ use Rattle.std.proofs.lemmas.List.Sums.{sum_by-cons}
 use Rattle.std.specs.List.{sum_by}
 use Rattle.sm_lists.specs.Rows.{entry, place_of}
 use Rattle.sm_lists.proofs.Counting.{lt_or_le, eq_or_ne}
-use Rattle.sm_room.specs.Bounds.{IsLeft, IsLast, IsSecond, IsNext, IsGoodAt, bound_in}
-use Rattle.sm_room.specs.Rotating.{IsSecondPlace, HasTwoLeft, HasThreeLeft, IsShort, met, IsWalk, IsClosed, IsCutBy, AreCut, IsRotated, GoesTo}
+use Rattle.sm_room.specs.Bounds.{IsLast, IsSecond, IsNext, IsGoodAt, bound_in}
+use Rattle.sm_room.specs.Rotating.{HasTwoLeft, IsShort, met, IsWalk, IsClosed, IsOwnParty, IsCutBy, AreCut, IsRotated, GoesTo}
 use Rattle.sm_theory.specs.Partitions.{IsStablePartition}
 use Rattle.sm_room.proofs.EndCore.{partition_at_end}
-use Rattle.sm_room.proofs.TableCore.{one_final, one_second, has_first, has_second, inside_rows, turn}
-use Rattle.sm_room.proofs.PhaseTwoCore.{Cuts, Two, Round, second_before_last, follows, less, good_again}
-use Rattle.sm_room.proofs.CycleCore.{Walk, On, round_of_walk, none_has_two}
-use Rattle.sm_room.proofs.TailCore.{tail_stays}
+use Rattle.sm_room.proofs.TableCore.{one_final, one_second, has_first, has_second, inside_rows, turn, left_before, had_second}
+use Rattle.sm_room.proofs.PhaseTwoCore.{Cuts, Two, HasTwo, Round, second_before_last, less, good_again}
+use Rattle.sm_room.proofs.CycleCore.{Walk, On, round_of_walk, none_has_two, start_has}
+use Rattle.sm_room.proofs.WalkLemmas.{next_goes}
+use Rattle.sm_room.proofs.TailCore.{tail_keeps}
 
--- who is short stays so while bounds fall
-pub short_kept : {rows : List (List ℕ)} {x : ℕ} (old now : List ℕ) → ((y : ℕ) → get_or now y 0 ≤ get_or old y 0) → IsShort rows old x → IsShort rows now x
-short_kept {rows} {x} old now lower h = record {
-  each = λ y l. elim (h.each y (back x y l)) [
-    | inl f ↦ inl (record { left = l; least = λ z k. f.least z (back x z k) })
-    | inr f ↦ inr (record { left = l; at = omega (arith, f.at, l.here, lower x) })
-  ];
-}
-  where
-    back : (u v : ℕ) → IsLeft rows (bound_in now) u v → IsLeft rows (bound_in old) u v
-    back u v l = record { acc = l.acc; here = omega (arith, l.here, lower u); there = omega (arith, l.there, lower v) }
+module _ {rows : List (List ℕ)} {x : ℕ} (old now : List ℕ) (lower : (y : ℕ) → get_or now y 0 ≤ get_or old y 0) where
+  -- who is short stays so while bounds fall
+  pub short_kept : IsShort rows old x → IsShort rows now x
+  short_kept h = record {
+    each = λ y l. elim (h.each y (left_before (bound_in old) (bound_in now) lower l)) [
+      | inl f ↦ inl (record { left = l; least = λ z k. f.least z (left_before (bound_in old) (bound_in now) lower k) })
+      | inr f ↦ inr (record { left = l; at = omega (arith, f.at, l.here, lower x) })
+    ];
+  }
 
--- no second, or a second that is the last
-pub short_none : {rows : List (List ℕ)} (bounds : List ℕ) (x : ℕ) → ((y : ℕ) → IsSecond rows (bound_in bounds) x y → ⊥) → IsShort rows bounds x
-short_none {rows} bounds x none = record {
+  -- who has two left had two
+  two_before : HasTwoLeft rows now x → HasTwoLeft rows old x
+  two_before t = let w = had_second (bound_in old) (bound_in now) lower t.second in record { next = w.next; second = w.second }
+
+-- who has no two left is short, and who has a second that is the last
+pub short_unless : {rows : List (List ℕ)} (bounds : List ℕ) (x : ℕ) → (HasTwoLeft rows bounds x → IsShort rows bounds x) → IsShort rows bounds x
+short_unless {rows} bounds x short = record {
   each = λ y l.
       let f = has_first l in
-      elim (lt_or_le (place_of rows x f.front) (place_of rows x y)) [
-        | inl less ↦ let s = has_second f.first l less in absurd (none s.next s.second)
+      elim (lt_or_le (place_of rows x f.foremost) (place_of rows x y)) [
+        | inl less ↦ let s = has_second f.first l less in (short (record { next = s.next; second = s.second })).each y l
         | inr le ↦ inl (record { left = l; least = λ z k. omega (arith, f.first.least z k, le) })
       ];
 }
 
-pub short_two : {rows : List (List ℕ)} {bounds : List ℕ} {x place : ℕ} → IsSecondPlace rows bounds x place → get_or bounds x 0 ≤ place → IsShort rows bounds x
-short_two {rows} {bounds} {x} {place} g le = record {
-  each = λ y l. elim (lt_or_le (place_of rows x g.second.front) (place_of rows x y)) [
-    | inl more ↦ inr (record { left = l; at = omega (arith, g.second.least y l more, g.at, le, l.here) })
-    | inr le ↦ inl (record { left = l; least = λ z k. omega (arith, g.second.first.least z k, le) })
+pub short_two : {rows : List (List ℕ)} {bounds : List ℕ} {x z : ℕ} → IsSecond rows (bound_in bounds) x z → get_or bounds x 0 ≤ place_of rows x z → IsShort rows bounds x
+short_two {rows} {bounds} {x} {z} s le = record {
+  each = λ y l. elim (lt_or_le (place_of rows x s.foremost) (place_of rows x y)) [
+    | inl more ↦ inr (record { left = l; at = omega (arith, s.least y l more, le, l.here) })
+    | inr less ↦ inl (record { left = l; least = λ v k. omega (arith, s.first.least v k, less) })
   ];
 }
 
@@ -66,7 +69,7 @@ sum_lt (x ∷ xs) (y ∷ ys) (suc k) long le h lt =
     let rest = sum_lt xs ys k (omega arith) (λ i. le (suc i)) (omega arith) lt in
     omega (arith, sum_by-cons (λ (i : ℕ). i) x xs, sum_by-cons (λ (i : ℕ). i) y ys)
 
-module _ {rows : List (List ℕ)} {bounds : List ℕ} {start : ℕ} {path places : List ℕ} {one : ℕ} (closed : IsClosed rows bounds start path places one) where
+module _ {rows : List (List ℕ)} {bounds path places : List ℕ} {one : ℕ} (closed : IsClosed rows bounds path places one) where
   abbrev p : ℕ → ℕ
   p i = get_or path i 0
 
@@ -77,9 +80,9 @@ module _ {rows : List (List ℕ)} {bounds : List ℕ} {start : ℕ} {path places
     pub inside : at < length path
     pub which : ((suc i < length path) × (at ≡ suc i)) ⊎ ((length path ≤ suc i) × (at ≡ one))
 
-  next_on : (i : ℕ) → i < length path → NextOn i
-  next_on i h = elim (lt_or_le (suc i) (length path)) [
-    | inl l ↦ record { at = suc i; next = closed.steps i l; inside = l; which = inl (l, refl) }
+  next_on : (i : ℕ) → one ≤ i → i < length path → NextOn i
+  next_on i late h = elim (lt_or_le (suc i) (length path)) [
+    | inl l ↦ record { at = suc i; next = closed.steps i l (closed.goes i late h); inside = l; which = inl (l, refl) }
     | inr l ↦
         let e : length path - 1 ≡ i = omega (arith, l, h) in
         let n : IsNext rows (bound_in bounds) (p i) (p one) = rw e at closed.closes in
@@ -89,8 +92,8 @@ module _ {rows : List (List ℕ)} {bounds : List ℕ} {start : ℕ} {path places
   -- two persons of the cycle have different seconds
   seconds_apart : (i j y : ℕ) → one ≤ i → i < j → j < length path → IsSecond rows (bound_in bounds) (p i) y → IsSecond rows (bound_in bounds) (p j) y → ⊥
   seconds_apart i j y late l h f g =
-      let a = next_on i (omega (arith, l, h)) in
-      let b = next_on j h in
+      let a = next_on i late (omega (arith, l, h)) in
+      let b = next_on j (omega (arith, late, l)) h in
       let fa : IsLast rows (bound_in bounds) y (p a.at) = let e = one_second a.next.second f in rw e at a.next.final in
       let fb : IsLast rows (bound_in bounds) y (p b.at) = let e = one_second b.next.second g in rw e at b.next.final in
       let same : p a.at ≡ p b.at = one_final fa fb in
@@ -107,7 +110,7 @@ module _ {rows : List (List ℕ)} {bounds : List ℕ} {start : ℕ} {path places
   cut_step {i} {now} y v g late h long is to = record { one_each = length-set now y v ∙ g.one_each; cut = cut; other = other }
     where
       second : IsSecond rows (bound_in bounds) (p i) y
-      second = rw is (closed.seconds i h).second
+      second = rw is (closed.seconds i h (closed.goes i late h)).second
 
       there : y < length now
       there = omega (arith, g.one_each, long, inside_rows rows y (p i) (turn rows (p i) y second.left.acc))
@@ -136,20 +139,42 @@ module _ {rows : List (List ℕ)} {bounds : List ℕ} {start : ℕ} {path places
   abbrev end : ℕ
   end = length path - 1
 
-  walk_of : Walk rows (bound_in bounds) (λ i. get_or path i 0) one end
+  walk_of : Walk rows (bound_in bounds) p one end
   walk_of = record {
     order = omega (arith, closed.order);
-    steps = λ i h. closed.steps i (omega (arith, h));
+    steps = λ i late h. closed.steps i (omega (arith, h)) (closed.goes i late (omega (arith, h)));
     closes = closed.closes;
   }
 
-  module _ {i : ℕ} {now : List ℕ} (good : IsGoodAt rows (bound_in bounds)) (three : HasThreeLeft rows bounds start) (g : AreCut rows bounds path one i now) (full : i ≡ length path) where
-    abbrev C : ℕ → Type 0
-    C = On (λ i. get_or path i 0) one end
+  abbrev C : ℕ → Type 0
+  C = On p one end
 
-    round : Round rows (bound_in bounds) C
-    round = round_of_walk walk_of
+  abbrev round : Round rows (bound_in bounds) C
+  round = round_of_walk walk_of
 
+  -- where the cycle is a party by itself, whoever the walk began with is short
+  module _ (good : IsGoodAt rows (bound_in bounds)) (own : IsOwnParty rows bounds path one) where
+    has : HasTwo good round (p one)
+    has = record {
+      last = own.next;
+      two = record {
+        here = record { at = one; late = omega arith; early = omega (arith, closed.order); is = refl };
+        there = record { at = own.here.at; late = own.here.late; early = omega (arith, own.here.early); is = own.here.is };
+        second = own.second;
+        at = own.at;
+      };
+    }
+
+    early : HasTwoLeft rows bounds (p 0) → (i : ℕ) → i < length path → HasTwoLeft rows bounds (p i)
+    early two zero h = two
+    early two (suc i) h = next_goes good (closed.steps i h (early two i (omega (arith, h))))
+
+    pub own_short : IsShort rows bounds (p 0)
+    own_short = short_unless bounds (p 0) (λ two.
+        let h = start_has walk_of good has (λ i l. closed.steps i (omega (arith, l, closed.order)) (early two i (omega (arith, l, closed.order)))) in
+        short_two h.two.second (omega (arith, h.two.at)))
+
+  module _ {i : ℕ} {now : List ℕ} (good : IsGoodAt rows (bound_in bounds)) (apart : IsOwnParty rows bounds path one → ⊥) (g : AreCut rows bounds path one i now) (full : i ≡ length path) where
     cuts : Cuts rows (bound_in bounds) (bound_in now) C
     cuts = record {
       cut = λ x y k f.
@@ -162,11 +187,16 @@ module _ {rows : List (List ℕ)} {bounds : List ℕ} {start : ℕ} {path places
       ];
     }
 
-    first : IsSecond rows (bound_in bounds) (p 0) three.next
-    first = rw closed.starts three.second
-
     none : (u w : ℕ) → Two rows (bound_in bounds) C u w → ⊥
-    none = none_has_two walk_of good three.next first (rw closed.starts three.more)
+    none = none_has_two walk_of good (λ h. apart (record {
+      next = h.last;
+      second = h.two.second;
+      at = h.two.at;
+      here = record { at = h.two.there.at; late = h.two.there.late; early = omega (arith, h.two.there.early, closed.order); is = h.two.there.is };
+    }))
+
+    lower : (y : ℕ) → get_or now y 0 ≤ get_or bounds y 0
+    lower = less good round cuts none
 
     pub cut_end : length bounds ≡ length rows → IsRotated rows bounds now
     cut_end long = record {
@@ -176,14 +206,11 @@ module _ {rows : List (List ℕ)} {bounds : List ℕ} {start : ℕ} {path places
       falls = sum_lt now bounds z g.one_each lower z_there falls;
     }
       where
-        lower : (y : ℕ) → get_or now y 0 ≤ get_or bounds y 0
-        lower = less good round cuts none
-
         z : ℕ
         z = entry rows (p one) (get_or places one 0)
 
         second : IsSecond rows (bound_in bounds) (p one) z
-        second = (closed.seconds one closed.order).second
+        second = (closed.seconds one closed.order (closed.goes one (omega arith) closed.order)).second
 
         z_there : z < length now
         z_there = omega (arith, g.one_each, long, inside_rows rows z (p one) (turn rows (p one) z second.left.acc))
@@ -191,55 +218,44 @@ module _ {rows : List (List ℕ)} {bounds : List ℕ} {start : ℕ} {path places
         falls : get_or now z 0 < get_or bounds z 0
         falls = omega (arith, g.cut one z (omega arith) (omega (arith, closed.order, full)) second, second_before_last good (p one) z second)
 
-    -- the walk goes on from whoever is before the cycle, or from the start, where that has three left still
-    pub walk_back : {keep : ℕ} → keep ≡ one - 1 → HasThreeLeft rows now start → IsWalk rows now start (take keep path) (take keep places) (get_or path keep 0)
-    walk_back {keep} is still = record {
-      starts = at 0 (omega arith) ∙ closed.starts;
-      steps = λ j h. let k = kept j (omega (arith, h, long)) in
-          rw (at j (omega (arith, h, long)), at (suc j) (omega (arith, h, long))) (record { over = entry rows (p j) (get_or places j 0); second = k.0; final = k.1 });
-      seconds = λ j h.
-          let k = kept j (omega (arith, h, long)) in
-          let s = closed.seconds j (omega (arith, h, long, within)) in
-          rw (get_or-take keep path j 0 (omega (arith, h, long)), get_or-take keep places j 0 (omega (arith, h, long))) (record { on_list = s.on_list; at = s.at; second = k.0 });
-      here = closed.inside keep within;
-      goes = goes;
-    }
-      where
-        within : keep < length path
-        within = omega (arith, is, closed.order)
+    -- what is before the cycle is a walk still, to whoever is before it, or to its first where nobody is
+    module _ {keep : ℕ} (is : keep ≡ one - 1) where
+      within : keep < length path
+      within = omega (arith, is, closed.order)
 
-        long : length (take keep path) ≡ keep
-        long = length-take-le keep path (omega (arith, within))
+      long : length (take keep path) ≡ keep
+      long = length-take-le keep path (omega (arith, within))
 
-        good' : IsGoodAt rows (bound_in now)
-        good' = good_again good round cuts none
+      at : (j : ℕ) → j ≤ keep → met (take keep path) (p keep) j ≡ p j
+      at j h = elim (eq_or_ne j keep) [
+        | inl e ↦ get_or_push (take keep path) (p keep) 0 j (omega (arith, long, e)) ∙ ap p (sym e)
+        | inr e ↦ get_or_append_left (take keep path) (p keep ∷ []) 0 j (omega (arith, long, h, e)) ∙ get_or-take keep path j 0 (omega (arith, h, e))
+      ]
 
-        at : (j : ℕ) → j ≤ keep → met (take keep path) (get_or path keep 0) j ≡ p j
-        at j h = elim (eq_or_ne j keep) [
-          | inl e ↦ get_or_push (take keep path) (p keep) 0 j (omega (arith, long, e)) ∙ ap p (sym e)
-          | inr e ↦ get_or_append_left (take keep path) (p keep ∷ []) 0 j (omega (arith, long, h, e)) ∙ get_or-take keep path j 0 (omega (arith, h, e))
-        ]
+      -- whoever has two left before the cycle had two, the second of which is second still, with the same last
+      had : (j : ℕ) → j < keep → HasTwoLeft rows now (met (take keep path) (p keep) j) → HasTwoLeft rows bounds (p j)
+      had j h t = two_before bounds now lower (rw (at j (omega (arith, h))) at t)
 
-        still_second : IsSecond rows (bound_in now) (p 0) still.next
-        still_second = rw closed.starts still.second
+      kept : (j : ℕ) → j < keep → HasTwoLeft rows now (met (take keep path) (p keep) j)
+          → IsSecond rows (bound_in now) (p j) (entry rows (p j) (get_or places j 0)) × IsLast rows (bound_in now) (entry rows (p j) (get_or places j 0)) (p (suc j))
+      kept j h t =
+          let still : HasTwoLeft rows now (p j) = rw (at j (omega (arith, h))) at t in
+          let two = had j h t in
+          tail_keeps walk_of good (λ a b l m. closed.distinct a b l (omega (arith, m, closed.order))) cuts none
+          (omega (arith, h, is)) (closed.steps j (omega (arith, h, within)) two) still.second (closed.seconds j (omega (arith, h, within)) two).second
 
-        kept : (j : ℕ) → j < keep → IsSecond rows (bound_in now) (p j) (entry rows (p j) (get_or places j 0)) × IsLast rows (bound_in now) (entry rows (p j) (get_or places j 0)) (p (suc j))
-        kept j h = tail_stays walk_of good (λ a b l m. closed.distinct a b l (omega (arith, m, closed.order))) cuts none three.next still.next first (rw closed.starts three.more) still_second
-            j (omega (arith, h, is)) (entry rows (p j) (get_or places j 0)) (closed.seconds j (omega (arith, h, within))).second
+      pub walk_back : IsWalk rows now (take keep path) (take keep places) (p keep)
+      walk_back = record {
+        steps = λ j h t. let l : j < keep = omega (arith, h, long) in let k = kept j l t in
+            rw (at j (omega (arith, l)), at (suc j) (omega (arith, l))) (record { over = entry rows (p j) (get_or places j 0); second = k.0; final = k.1 });
+        seconds = λ j h t. let l : j < keep = omega (arith, h, long) in let k = kept j l t in
+            let s = closed.seconds j (omega (arith, l, within)) (had j l t) in
+            rw (get_or-take keep path j 0 l, get_or-take keep places j 0 l) (record { on_list = s.on_list; at = s.at; second = k.0 });
+        here = closed.inside keep within;
+      }
 
-        goes : HasTwoLeft rows now (p keep)
-        goes = elim (eq_or_ne keep 0) [
-          | inl e ↦ rw e (record { next = still.next; second = still_second })
-          | inr e ↦
-              let j : ℕ = keep - 1 in
-              let up : suc j ≡ keep = omega (arith, e) in
-              let k = kept j (omega (arith, up)) in
-              let w = follows good' (p j) (entry rows (p j) (get_or places j 0)) k.0 in
-              let o : w.next.over ≡ entry rows (p j) (get_or places j 0) = one_second w.next.second k.0 in
-              let same : w.who ≡ p (suc j) = one_final (rw o at w.next.final) k.1 in
-              let s : IsSecond rows (bound_in now) (p (suc j)) w.onward = rw same at w.second in
-              rw (sym up) (record { next = w.onward; second = s })
-        ]
+      pub starts_back : met (take keep path) (p keep) 0 ≡ p 0
+      starts_back = at 0 (omega arith)
 
 -- where all are short, the firsts make a stable partition
 pub partition_of_short : {rows : List (List ℕ)} {next : List ℕ} (bounds : List ℕ) → IsGoodAt rows (bound_in bounds) → ((x : ℕ) → x < length rows → IsShort rows bounds x) → length next ≡ length rows

@@ -32,12 +32,12 @@ one_first {rows} {b} {x} {y} {z} f g = one_at rows x y z f.left.acc g.left.acc (
 pub one_final : {rows : List (List ℕ)} {b : ℕ → ℕ} {x y z : ℕ} → IsLast rows b x y → IsLast rows b x z → y ≡ z
 one_final {rows} {b} {x} {y} {z} f g = one_at rows x y z f.left.acc g.left.acc (omega (arith, f.at, g.at))
 
-pub same_front : {rows : List (List ℕ)} {b : ℕ → ℕ} {x y z : ℕ} → (f : IsSecond rows b x y) → IsFirst rows b x z → place_of rows x f.front ≡ place_of rows x z
-same_front {rows} {b} {x} {y} {z} f g = omega (arith, f.first.least z g.left, g.least f.front f.first.left)
+pub same_foremost : {rows : List (List ℕ)} {b : ℕ → ℕ} {x y z : ℕ} → (f : IsSecond rows b x y) → IsFirst rows b x z → place_of rows x f.foremost ≡ place_of rows x z
+same_foremost {rows} {b} {x} {y} {z} f g = omega (arith, f.first.least z g.left, g.least f.foremost f.first.left)
 
 pub one_second : {rows : List (List ℕ)} {b : ℕ → ℕ} {x y z : ℕ} → IsSecond rows b x y → IsSecond rows b x z → y ≡ z
 one_second {rows} {b} {x} {y} {z} f g =
-    let e = same_front f g.first in
+    let e = same_foremost f g.first in
     one_at rows x y z f.left.acc g.left.acc (omega (arith, f.least z g.left (omega (arith, e, g.behind)), g.least y f.left (omega (arith, e, f.behind))))
 
 -- the least by a measure of those below n for whom P holds
@@ -54,12 +54,18 @@ find_least n P m d inside (suc k) y le p = elim (search_below n (λ z. P z × m 
 ]
 
 pub record HasFirst (rows : List (List ℕ)) (b : ℕ → ℕ) (x : ℕ) : Type 0 where
-  pub front : ℕ
-  pub first : IsFirst rows b x front
+  pub foremost : ℕ
+  pub first : IsFirst rows b x foremost
 
 pub record HasSecond (rows : List (List ℕ)) (b : ℕ → ℕ) (x : ℕ) : Type 0 where
   pub next : ℕ
   pub second : IsSecond rows b x next
+
+-- a second that isn't behind y
+pub record HadSecond (rows : List (List ℕ)) (b : ℕ → ℕ) (x y : ℕ) : Type 0 where
+  pub next : ℕ
+  pub second : IsSecond rows b x next
+  pub early : place_of rows x next ≤ place_of rows x y
 
 module _ {rows : List (List ℕ)} where
   pub Decided-left : (b : ℕ → ℕ) (x y : ℕ) → Decided (IsLeft rows b x y)
@@ -75,11 +81,24 @@ module _ {rows : List (List ℕ)} where
   pub has_first : {b : ℕ → ℕ} {x y : ℕ} → IsLeft rows b x y → HasFirst rows b x
   has_first {b} {x} {y} h =
       let w = find_least (length rows) (IsLeft rows b x) (place_of rows x) (Decided-left b x) (in_range b x) (place_of rows x y) y (omega arith) h in
-      record { front = w.at; first = record { left = w.holds; least = w.least } }
+      record { foremost = w.at; first = record { left = w.holds; least = w.least } }
 
   -- and a second, where somebody stands behind the first
   pub has_second : {b : ℕ → ℕ} {x f y : ℕ} → IsFirst rows b x f → IsLeft rows b x y → place_of rows x f < place_of rows x y → HasSecond rows b x
   has_second {b} {x} {f} {y} first h behind =
       let w = find_least (length rows) (λ z. IsLeft rows b x z × place_of rows x f < place_of rows x z) (place_of rows x) (λ z. Decided-and (Decided-left b x z) (Decided-lt (place_of rows x f) (place_of rows x z)))
       (λ z q. in_range b x z q.0) (place_of rows x y) y (omega arith) (h, behind) in
-      record { next = w.at; second = record { left = w.holds.0; front = f; first = first; behind = w.holds.1; least = λ z i l. w.least z (i, l) } }
+      record { next = w.at; second = record { left = w.holds.0; foremost = f; first = first; behind = w.holds.1; least = λ z i l. w.least z (i, l) } }
+
+  -- who is left was left before, where bounds have fallen since
+  module _ (b c : ℕ → ℕ) (lower : (y : ℕ) → c y ≤ b y) where
+    pub left_before : {x y : ℕ} → IsLeft rows c x y → IsLeft rows b x y
+    left_before {x} {y} h = record { acc = h.acc; here = omega (arith, h.here, lower x); there = omega (arith, h.there, lower y) }
+
+    -- and where there is a second there was one, no further behind
+    pub had_second : {x y : ℕ} → IsSecond rows c x y → HadSecond rows b x y
+    had_second {x} {y} s =
+        let f = has_first (left_before s.left) in
+        let less : place_of rows x f.foremost < place_of rows x y = let le = f.first.least s.foremost (left_before s.first.left) in omega (arith, le, s.behind) in
+        let w = has_second f.first (left_before s.left) less in
+        record { next = w.next; second = w.second; early = w.second.least y (left_before s.left) (omega (arith, same_foremost w.second f.first, less)) }

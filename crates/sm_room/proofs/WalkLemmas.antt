@@ -1,15 +1,16 @@
 -- The walk of phase two.
 use Rattle.std.proofs.Common.{◌≡◌, ◌≢◌, ℕ, zero, suc, ◌+◌, ◌-◌, ◌<◌, ◌≤◌, ◌++◌, ◌∷◌, [], inl, inr, arith, refl, sym, ap, ◌∙◌, List, length, get_or, set, replicate, take}
 use Rattle.std.proofs.lemmas.List.{get_or_append_left, get_or_push, length_push, get_or-set_same, get_or-set_other, length-set, get_or-replicate, length-replicate, get_or_past, get_or-take, length-take-le}
+use Rattle.std.proofs.lemmas.Grind.{get_or_default_zero}
 use Rattle.std.proofs.lemmas.List.Sums.{sum_by-set}
 use Rattle.std.specs.List.{sum_by}
-use Rattle.sm_lists.specs.Rows.{entry}
+use Rattle.sm_lists.specs.Rows.{entry, place_of}
 use Rattle.sm_lists.proofs.Counting.{lt_or_le, pigeonhole}
 use Rattle.sm_lists.proofs.ItemLemmas.{push_cases, set_cases}
-use Rattle.sm_room.specs.Bounds.{IsLast, IsNext, IsGoodAt, bound_in}
-use Rattle.sm_room.specs.Rotating.{IsSecondPlace, HasTwoLeft, met, IsPath, IsWalk, IsClosed, AreUnmarked}
+use Rattle.sm_room.specs.Bounds.{IsLast, IsSecond, IsNext, IsGoodAt, bound_in}
+use Rattle.sm_room.specs.Rotating.{IsSecondPlace, HasTwoLeft, met, IsPath, IsWalk, IsClosed, IsOwnParty, AreUnmarked}
 use Rattle.sm_room.proofs.TableCore.{one_final, one_second}
-use Rattle.sm_room.proofs.PhaseTwoCore.{follows, Follows}
+use Rattle.sm_room.proofs.PhaseTwoCore.{follows}
 
 -- how many persons the walk hasn't met
 pub one_where_zero : ℕ → ℕ
@@ -42,15 +43,23 @@ zero_marks n z marks e =
       | inr l ↦ get_or_past (replicate n o) z o (omega (arith, l, length-replicate n o))
     ])
 
-pub walk_begins : {rows : List (List ℕ)} {bounds : List ℕ} {start : ℕ} (path places : List ℕ) → path ≡ [] → start < length rows
-    → HasTwoLeft rows bounds start → IsWalk rows bounds start path places start
-walk_begins {rows} {bounds} {start} path places p there two = rw p (record {
-  starts = refl;
+pub walk_begins : {rows : List (List ℕ)} {bounds : List ℕ} {x : ℕ} (path places : List ℕ) → path ≡ [] → x < length rows → IsWalk rows bounds path places x
+walk_begins {rows} {bounds} {x} path places p there = rw p (record {
   steps = λ i h. absurd (omega arith);
   seconds = λ i h. absurd (omega arith);
   here = there;
-  goes = two;
 })
+
+pub starts_kept : (path : List ℕ) (x v : ℕ) → met (path ++ x ∷ []) v 0 ≡ met path x 0
+starts_kept path x v = get_or_append_left (path ++ x ∷ []) (v ∷ []) 0 0 (omega (arith, length_push path x))
+
+-- who comes next has two left
+pub next_goes : {rows : List (List ℕ)} {bounds : List ℕ} {x v : ℕ} → IsGoodAt rows (bound_in bounds) → IsNext rows (bound_in bounds) x v → HasTwoLeft rows bounds v
+next_goes {rows} {bounds} {x} {v} good n =
+    let w = follows good x n.over n.second in
+    let e : w.next.over ≡ n.over = one_second w.next.second n.second in
+    let is : w.who ≡ v = one_final (rw e at w.next.final) n.final in
+    record { next = w.onward; second = rw is at w.second }
 
 module _ {rows : List (List ℕ)} {path places marks : List ℕ} (k : IsPath rows path places marks) (x : ℕ) (there : x < length rows) (fresh : get_or marks x 0 ≡ 0) where
   -- one more person on the path
@@ -80,58 +89,94 @@ module _ {rows : List (List ℕ)} {path places marks : List ℕ} (k : IsPath row
           (λ _. (omega (arith, long), get_or_push path x 0 (length path + 1 - 1) (omega arith)))
           (λ w ne some. let m = k.marked w some in (omega (arith, m.0, long), get_or_append_left path (x ∷ []) 0 (get_or marks w 0 - 1) (omega (arith, m.0, some)) ∙ m.1)) z
 
-module _ {rows : List (List ℕ)} {bounds : List ℕ} {start : ℕ} {path places : List ℕ} {x : ℕ} (good : IsGoodAt rows (bound_in bounds)) (g : IsWalk rows bounds start path places x) where
+module _ {rows : List (List ℕ)} {bounds path places : List ℕ} {x : ℕ} (good : IsGoodAt rows (bound_in bounds)) (g : IsWalk rows bounds path places x) where
   -- one more step, to v
   pub walk_goes_on : (place v : ℕ) → length places ≡ length path → IsSecondPlace rows bounds x place → IsLast rows (bound_in bounds) (entry rows x place) v → v < length rows
-      → IsWalk rows bounds start (path ++ x ∷ []) (places ++ place ∷ []) v
-  walk_goes_on place v place_each second last there = record {
-    starts = get_or_append_left (path ++ x ∷ []) (v ∷ []) 0 0 (omega (arith, long)) ∙ g.starts;
-    steps = steps;
-    seconds = λ i h. elim (lt_or_le i (length path)) [
-      | inl l ↦ rw (get_or_append_left path (x ∷ []) 0 i l, get_or_append_left places (place ∷ []) 0 i (omega (arith, l, place_each))) (g.seconds i l)
-      | inr l ↦ let e : length path ≡ i = omega (arith, l, h, long) in rw (get_or_push path x 0 i e, get_or_push places place 0 i (omega (arith, e, place_each))) second
-    ];
-    here = there;
-    goes = let w = follows good x (entry rows x place) second.second in record { next = w.onward; second = let e : w.who ≡ v = next_is w in rw e at w.second };
-  }
+      → IsWalk rows bounds (path ++ x ∷ []) (places ++ place ∷ []) v
+  walk_goes_on place v place_each second last there = record { steps = steps; seconds = seconds; here = there }
     where
       long : length (path ++ x ∷ []) ≡ length path + 1
       long = length_push path x
 
-      next_is : (w : Follows good x) → w.who ≡ v
-      next_is w = one_final (let e = one_second w.next.second second.second in rw e at w.next.final) last
+      same : (i : ℕ) → i < length (path ++ x ∷ []) → met (path ++ x ∷ []) v i ≡ met path x i
+      same i h = get_or_append_left (path ++ x ∷ []) (v ∷ []) 0 i h
 
-      steps : (i : ℕ) → i < length (path ++ x ∷ []) → IsNext rows (bound_in bounds) (met (path ++ x ∷ []) v i) (met (path ++ x ∷ []) v (suc i))
-      steps i h = elim (lt_or_le i (length path)) [
-        | inl l ↦ rw (get_or_append_left (path ++ x ∷ []) (v ∷ []) 0 i h, get_or_append_left (path ++ x ∷ []) (v ∷ []) 0 (suc i) (omega (arith, l, long))) (g.steps i l)
+      steps : (i : ℕ) → i < length (path ++ x ∷ []) → HasTwoLeft rows bounds (met (path ++ x ∷ []) v i) → IsNext rows (bound_in bounds) (met (path ++ x ∷ []) v i) (met (path ++ x ∷ []) v (suc i))
+      steps i h two = elim (lt_or_le i (length path)) [
+        | inl l ↦ rw (same i h, same (suc i) (omega (arith, l, long))) (g.steps i l (rw (same i h) at two))
         | inr l ↦
             let e : length path ≡ i = omega (arith, l, h, long) in
-            rw (get_or_append_left (path ++ x ∷ []) (v ∷ []) 0 i h, get_or_push path x 0 i e, get_or_push (path ++ x ∷ []) v 0 (suc i) (omega (arith, e, long)))
+            rw (same i h, get_or_push path x 0 i e, get_or_push (path ++ x ∷ []) v 0 (suc i) (omega (arith, e, long)))
             (record { over = entry rows x place; second = second.second; final = last })
       ]
 
-  -- x was met before
-  pub walk_closes : {marks : List ℕ} → IsPath rows path places marks → get_or marks x 0 ≢ 0 → IsClosed rows bounds start path places (get_or marks x 0 - 1)
-  walk_closes {marks} kept some =
-      let k = kept.marked x some in
-      let m : ℕ = get_or marks x 0 in
-      let end : ℕ = length path - 1 in
-      let up : suc end ≡ length path = omega (arith, k.0, some) in
-      let n : IsNext rows (bound_in bounds) (met path x end) (met path x (suc end)) = g.steps end (omega (arith, up)) in
-      let a : met path x end ≡ get_or path end 0 = get_or_append_left path (x ∷ []) 0 end (omega (arith, up)) in
-      let b : met path x (suc end) ≡ get_or path (m - 1) 0 = get_or_push path x 0 (suc end) (sym up) ∙ sym k.1 in
-      record {
-        order = omega (arith, k.0, some);
-        starts = sym (get_or_append_left path (x ∷ []) 0 0 (omega (arith, up))) ∙ g.starts;
-        steps = λ i h.
-            let s = g.steps i (omega (arith, h)) in
-            rw (get_or_append_left path (x ∷ []) 0 i (omega (arith, h)), get_or_append_left path (x ∷ []) 0 (suc i) h) at s;
-        closes = rw (a, b) at n;
-        place_each = kept.place_each;
-        seconds = g.seconds;
-        inside = kept.inside;
-        distinct = λ i j l h e. let p = kept.index i (omega (arith, l, h)) in let q = kept.index j h in omega (arith, ap (λ z. get_or marks z 0) e, p, q, l);
-      }
+      seconds : (i : ℕ) → i < length (path ++ x ∷ []) → HasTwoLeft rows bounds (met (path ++ x ∷ []) v i) → IsSecondPlace rows bounds (get_or (path ++ x ∷ []) i 0) (get_or (places ++ place ∷ []) i 0)
+      seconds i h two = elim (lt_or_le i (length path)) [
+        | inl l ↦ rw (get_or_append_left path (x ∷ []) 0 i l, get_or_append_left places (place ∷ []) 0 i (omega (arith, l, place_each))) (g.seconds i l (rw (same i h) at two))
+        | inr l ↦ let e : length path ≡ i = omega (arith, l, h, long) in rw (get_or_push path x 0 i e, get_or_push places place 0 i (omega (arith, e, place_each))) second
+      ]
+
+  -- where somebody on it has two left, so has everybody from there on
+  goes_from : (d k : ℕ) → d + k ≤ length path → HasTwoLeft rows bounds (met path x k) → HasTwoLeft rows bounds (met path x (d + k))
+  goes_from zero k h two = let e : 0 + k ≡ k = omega arith in rw e two
+  goes_from (suc d) k h two =
+      let before = goes_from d k (omega (arith, h)) two in
+      let e : suc d + k ≡ suc (d + k) = omega arith in
+      rw e (next_goes good (g.steps (d + k) (omega (arith, h)) before))
+
+  at_end : met path x (length path) ≡ x
+  at_end = get_or_push path x 0 (length path) refl
+
+  -- x has two left, where whoever the walk began with has
+  pub goes_on : HasTwoLeft rows bounds (met path x 0) → HasTwoLeft rows bounds x
+  goes_on two = let e : length path + 0 ≡ length path = omega arith in rw at_end at (rw e at (goes_from (length path) 0 (omega arith) two))
+
+  -- x was met before, at the index `one`
+  module _ {marks : List ℕ} {one : ℕ} (kept : IsPath rows path places marks) (two : HasTwoLeft rows bounds x) (is : get_or marks x 0 ≡ suc one) where
+    at_one : (suc one ≤ length path) × (get_or path one 0 ≡ x)
+    at_one = let k = kept.marked x (λ e. omega (arith, is, e)) in (omega (arith, k.0, is), ap (λ z. get_or path z 0) (omega (arith, is)) ∙ k.1)
+
+    order : one < length path
+    order = omega (arith, at_one.0)
+
+    on_path : (i : ℕ) → i < length path → met path x i ≡ get_or path i 0
+    on_path i h = get_or_append_left path (x ∷ []) 0 i h
+
+    goes : (i : ℕ) → one ≤ i → i < length path → HasTwoLeft rows bounds (get_or path i 0)
+    goes i late h =
+        let e : (i - one) + one ≡ i = omega (arith, late) in
+        let first : HasTwoLeft rows bounds (met path x one) = rw (on_path one order, at_one.1) two in
+        rw (on_path i h) at (rw e at (goes_from (i - one) one (omega (arith, e, h)) first))
+
+    steps_on : (i : ℕ) → suc i < length path → HasTwoLeft rows bounds (get_or path i 0) → IsNext rows (bound_in bounds) (get_or path i 0) (get_or path (suc i) 0)
+    steps_on i h t =
+        let less : i < length path = omega (arith, h) in
+        let n = g.steps i less (rw (on_path i less) t) in
+        rw (on_path i less, on_path (suc i) h) at n
+
+    closes : IsNext rows (bound_in bounds) (get_or path (length path - 1) 0) (get_or path one 0)
+    closes =
+        let end : ℕ = length path - 1 in
+        let up : suc end ≡ length path = omega (arith, order) in
+        let less : end < length path = omega (arith, up) in
+        let n = g.steps end less (rw (on_path end less) (goes end (omega (arith, order, up)) less)) in
+        let b : met path x (suc end) ≡ get_or path one 0 = ap (met path x) up ∙ at_end ∙ sym at_one.1 in
+        rw (on_path end less, b) at n
+
+    pub walk_closes : IsClosed rows bounds path places one
+    walk_closes = record {
+      order = order;
+      goes = goes;
+      steps = steps_on;
+      closes = closes;
+      place_each = kept.place_each;
+      seconds = λ i h t. g.seconds i h (rw (on_path i h) t);
+      inside = kept.inside;
+      distinct = λ i j l h e. let p = kept.index i (omega (arith, l, h)) in let q = kept.index j h in omega (arith, ap (λ z. get_or marks z 0) e, p, q, l);
+    }
+
+    pub starts_on : get_or path 0 0 ≡ met path x 0
+    starts_on = sym (on_path 0 (omega (arith, order)))
 
 -- a path is no longer than there are persons
 pub path_fits : {rows : List (List ℕ)} {path places marks : List ℕ} → IsPath rows path places marks → length path ≤ length rows
@@ -182,3 +227,43 @@ path_kept {rows} {path} {places} {marks} {now} {keep} {upto} k u full le = recor
           ] in
           rw s (omega (arith, long, before), get_or-take keep path (get_or marks z 0 - 1) 0 before ∙ m.1)
     ]
+
+-- whether the cycle is a party by itself, by the second of the person at its beginning and the mark of that one
+module _ {rows : List (List ℕ)} {bounds path places marks : List ℕ} {one x place : ℕ} (kept : IsPath rows path places marks) (closed : IsClosed rows bounds path places one)
+    (is : x ≡ get_or path one x) (stands : place ≡ get_or places one place) where
+  begins : x ≡ get_or path one 0
+  begins = is ∙ get_or_default_zero path one x closed.order
+
+  second_begins : IsSecondPlace rows bounds x place
+  second_begins =
+      let e : place ≡ get_or places one 0 = stands ∙ get_or_default_zero places one place (omega (arith, closed.place_each, closed.order)) in
+      rw (begins, e) (closed.seconds one closed.order (closed.goes one (omega arith) closed.order))
+
+  ends : (own : IsOwnParty rows bounds path one) → own.next ≡ entry rows x place
+  ends own = let s : IsSecond rows (bound_in bounds) x own.next = rw begins own.second in one_second s second_begins.second
+
+  pub own_at_bound : IsOwnParty rows bounds path one → place ≡ get_or bounds x 0
+  own_at_bound own = let a = own.at in sym second_begins.at ∙ rw (ends own, sym begins) at a
+
+  module _ {y mark : ℕ} (named : y ≡ entry rows x place) (there : y < length rows) (marked : mark ≡ get_or marks y mark) where
+    mark_of : mark ≡ get_or marks y 0
+    mark_of = marked ∙ get_or_default_zero marks y mark (omega (arith, there, kept.mark_each))
+
+    pub own_marked : IsOwnParty rows bounds path one → one < mark
+    own_marked own =
+        let o = own.here in
+        let e : get_or path o.at 0 ≡ y = o.is ∙ ends own ∙ sym named in
+        let m : get_or marks y 0 ≡ o.at + 1 = rw e at (kept.index o.at o.early) in
+        omega (arith, m, o.late, mark_of)
+
+    pub marked_own : get_or bounds x 0 ≤ place → one < mark → IsOwnParty rows bounds path one
+    marked_own le more =
+        let m = kept.marked y (λ e. omega (arith, e, more, mark_of)) in
+        let s : IsSecond rows (bound_in bounds) x y = rw named second_begins.second in
+        let a : place_of rows x y ≡ get_or bounds x 0 = omega (arith, rw (sym named) at second_begins.at, s.left.here, le) in
+        record {
+          next = y;
+          second = rw (sym begins) s;
+          at = rw (sym begins) a;
+          here = record { at = get_or marks y 0 - 1; late = omega (arith, more, mark_of); early = omega (arith, m.0, more, mark_of); is = m.1 };
+        }

@@ -23,10 +23,10 @@ pub record IsLast (rows : List (List ℕ)) (b : ℕ → ℕ) (x y : ℕ) : Type 
 -- y is the second that is left on x's list
 pub record IsSecond (rows : List (List ℕ)) (b : ℕ → ℕ) (x y : ℕ) : Type 0 where
   pub left : IsLeft rows b x y
-  pub front : ℕ
-  pub first : IsFirst rows b x front
-  pub behind : place_of rows x front < place_of rows x y
-  pub least : (z : ℕ) → IsLeft rows b x z → place_of rows x front < place_of rows x z → place_of rows x y ≤ place_of rows x z
+  pub foremost : ℕ
+  pub first : IsFirst rows b x foremost
+  pub behind : place_of rows x foremost < place_of rows x y
+  pub least : (z : ℕ) → IsLeft rows b x z → place_of rows x foremost < place_of rows x z → place_of rows x y ≤ place_of rows x z
 
 pub record HasLast (rows : List (List ℕ)) (b : ℕ → ℕ) (x : ℕ) : Type 0 where
   pub last : ℕ

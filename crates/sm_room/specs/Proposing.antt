@@ -4,13 +4,13 @@ use Rattle.sm_lists.specs.Rows.{row, entry, place_of}
 use Rattle.sm_room.specs.Bounds.{IsLeft, IsFirst, IsLast, IsProposing, bound_in}
 
 -- The persons below `begun` have begun to propose. Each of them but `away` is last on the list of its first, and `away` is
--- last on no list. Nobody before a person's front is left on its list.
-pub record IsProgress (rows : List (List ℕ)) (begun away : ℕ) (fronts bounds : List ℕ) : Type 0 where
-  pub front_each : length fronts ≡ length rows
+-- last on no list. Nobody whom a person has passed is left on its list.
+pub record IsProgress (rows : List (List ℕ)) (begun away : ℕ) (passed bounds : List ℕ) : Type 0 where
+  pub passed_each : length passed ≡ length rows
   pub bound_each : length bounds ≡ length rows
-  pub on_list : (x : ℕ) → slice_index fronts x ≤ length (row rows x)
+  pub on_list : (x : ℕ) → slice_index passed x ≤ length (row rows x)
   pub proposing : IsProposing rows (bound_in bounds)
-  pub before_front : (x y : ℕ) → IsLeft rows (bound_in bounds) x y → slice_index fronts x ≤ place_of rows x y
+  pub all_passed : (x y : ℕ) → IsLeft rows (bound_in bounds) x y → slice_index passed x ≤ place_of rows x y
   pub settled : (x y : ℕ) → x < begun → x ≢ away → IsFirst rows (bound_in bounds) x y → IsLast rows (bound_in bounds) y x
   pub last_begun : (x y : ℕ) → IsLast rows (bound_in bounds) y x → x < begun
   pub last_rests : (x y : ℕ) → IsLast rows (bound_in bounds) y x → x ≢ away

@@ -1,4 +1,4 @@
--- One step of phase two: the walk from a person with three or more left, and the cuts round the cycle that it closes.
+-- One step of phase two: a walk from person to next person, and the cuts round the cycle that it closes.
 use Rattle.std.specs.Prelude.{◌≡◌, ◌≢◌, ℕ, suc, ◌+◌, ◌-◌, ◌<◌, ◌≤◌, ◌⊎◌, ◌++◌, ◌∷◌, [], List, length, slice_index}
 use Rattle.std.specs.List.{sum_by}
 use Rattle.sm_lists.specs.Rows.{row, entry, place_of}
@@ -46,13 +46,11 @@ pub record IsPath (rows : List (List ℕ)) (path places marks : List ℕ) : Type
   pub index : (i : ℕ) → i < length path → slice_index marks (slice_index path i) ≡ i + 1
   pub marked : (z : ℕ) → slice_index marks z ≢ 0 → (slice_index marks z ≤ length path) × (slice_index path (slice_index marks z - 1) ≡ z)
 
--- a walk from `start` over the path to x, with the place of the second of each
-pub record IsWalk (rows : List (List ℕ)) (bounds : List ℕ) (start : ℕ) (path places : List ℕ) (x : ℕ) : Type 0 where
-  pub starts : met path x 0 ≡ start
-  pub steps : (i : ℕ) → i < length path → IsNext rows (bound_in bounds) (met path x i) (met path x (suc i))
-  pub seconds : (i : ℕ) → i < length path → IsSecondPlace rows bounds (slice_index path i) (slice_index places i)
+-- a walk over the path to x: whoever of it has two left has the one behind it next, and stands with the place of its second
+pub record IsWalk (rows : List (List ℕ)) (bounds path places : List ℕ) (x : ℕ) : Type 0 where
+  pub steps : (i : ℕ) → i < length path → HasTwoLeft rows bounds (met path x i) → IsNext rows (bound_in bounds) (met path x i) (met path x (suc i))
+  pub seconds : (i : ℕ) → i < length path → HasTwoLeft rows bounds (met path x i) → IsSecondPlace rows bounds (slice_index path i) (slice_index places i)
   pub here : x < length rows
-  pub goes : HasTwoLeft rows bounds x
 
 -- z stands on the path, from one index on and before another
 pub record IsOnPath (path : List ℕ) (from upto z : ℕ) : Type 0 where
@@ -74,16 +72,24 @@ pub record AreHints (rows : List (List ℕ)) (bounds firsts seconds : List ℕ) 
   pub first : (x y : ℕ) → IsLeft rows (bound_in bounds) x y → slice_index firsts x ≤ place_of rows x y
   pub second : (x y : ℕ) → IsSecond rows (bound_in bounds) x y → slice_index seconds x ≤ place_of rows x y
 
--- the walk has come back to its index `one`
-pub record IsClosed (rows : List (List ℕ)) (bounds : List ℕ) (start : ℕ) (path places : List ℕ) (one : ℕ) : Type 0 where
+-- the walk has come back to its index `one`, and whoever is on the cycle has two left
+pub record IsClosed (rows : List (List ℕ)) (bounds path places : List ℕ) (one : ℕ) : Type 0 where
   pub order : one < length path
-  pub starts : slice_index path 0 ≡ start
-  pub steps : (i : ℕ) → suc i < length path → IsNext rows (bound_in bounds) (slice_index path i) (slice_index path (suc i))
+  pub goes : (i : ℕ) → one ≤ i → i < length path → HasTwoLeft rows bounds (slice_index path i)
+  pub steps : (i : ℕ) → suc i < length path → HasTwoLeft rows bounds (slice_index path i) → IsNext rows (bound_in bounds) (slice_index path i) (slice_index path (suc i))
   pub closes : IsNext rows (bound_in bounds) (slice_index path (length path - 1)) (slice_index path one)
   pub place_each : length places ≡ length path
-  pub seconds : (i : ℕ) → i < length path → IsSecondPlace rows bounds (slice_index path i) (slice_index places i)
+  pub seconds : (i : ℕ) → i < length path → HasTwoLeft rows bounds (slice_index path i) → IsSecondPlace rows bounds (slice_index path i) (slice_index places i)
   pub inside : (i : ℕ) → i < length path → slice_index path i < length rows
   pub distinct : (i j : ℕ) → i < j → j < length path → slice_index path i ≢ slice_index path j
+
+-- the person at index `one` of the path has two left, and the last of them is on the path from there on: where that is a
+-- cycle, it is a party by itself, and nobody else is left on its lists
+pub record IsOwnParty (rows : List (List ℕ)) (bounds path : List ℕ) (one : ℕ) : Type 0 where
+  pub next : ℕ
+  pub second : IsSecond rows (bound_in bounds) (slice_index path one) next
+  pub at : place_of rows (slice_index path one) next ≡ slice_index bounds (slice_index path one)
+  pub here : IsOnPath path one (length path) next
 
 -- the bound of y was set at the person at some index of the path
 pub record IsCutBy (rows : List (List ℕ)) (bounds path : List ℕ) (one upto : ℕ) (now : List ℕ) (y : ℕ) : Type 0 where

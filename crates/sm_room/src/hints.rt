@@ -1,6 +1,6 @@
 //! Where the first and the second that are left on a list stand.
 
-ghost use Rattle.std.specs.Prelude.{◌≡◌, ℕ, replicate, ◌+◌, ◌<◌, ◌≤◌, ◌⊎◌, ◌^◌, length, IfSome, IfOk, MatchOption, false, IsTrue};
+ghost use Rattle.std.specs.Prelude.{◌≡◌, ℕ, replicate, ◌+◌, ◌<◌, ◌^◌, length, IfSome, IfOk, MatchOption, false, IsTrue};
 ghost use Rattle.sm_lists.specs.Rows.{row, place_of};
 ghost use Rattle.sm_theory.specs.Rooms.{AreRoomLists};
 ghost use Rattle.sm_room.specs.Bounds.{IsLeft, IsSecond, IsGoodAt, bound_in};
@@ -69,20 +69,12 @@ pub(crate) fn second_place(
         return None;
     };
     hints.firsts[x as usize] = first;
-    let from = later(first + 1, hints.seconds[x as usize]);
+    let from = hints.seconds[x as usize].max(first + 1);
     let Some(second) = left_from(market, bounds, x, from) else {
         return None;
     };
     hints.seconds[x as usize] = second;
     Some(second)
-}
-
-/// The later of two places.
-fn later(one: u32, other: u32) -> u32
-    ensures behind { one ≤ result }
-    ensures is { (result ≡ one) ⊎ (result ≡ other) }
-{
-    if one < other { other } else { one }
 }
 
 /// Whether three or more are left on a person's list.

@@ -30,10 +30,10 @@ pub(crate) fn proposed(alloc: Global, market: &RoomMarket) -> Result<Vec<u32>, A
     ensures one_each { IfOk result (λ bounds. length bounds.items ≡ length market.now) }
     ensures good { IfOk result (λ bounds. IsGoodAt market.now (bound_in bounds.items)) }
 {
-    let mut fronts = vec![in alloc; 0; market.persons() as usize]?;
+    let mut passed = vec![in alloc; 0; market.persons() as usize]?;
     let mut bounds = vec![in alloc; 0; market.persons() as usize]?;
     free_all(market, bounds.as_mut_slice());
-    propose_all(market, fronts.as_mut_slice(), bounds.as_mut_slice());
+    propose_all(market, passed.as_mut_slice(), bounds.as_mut_slice());
     Ok(bounds)
 }
 
@@ -49,33 +49,33 @@ fn free_all(market: &RoomMarket, bounds: &mut [u32])
 }
 
 /// Lets all persons propose in turn.
-fn propose_all(market: &RoomMarket, fronts: &mut [u32], bounds: &mut [u32])
-    requires fronts { length fronts.old ≡ length market.now }
-    requires at_start { (x : ℕ) → slice_index fronts.old x ≡ 0 }
+fn propose_all(market: &RoomMarket, passed: &mut [u32], bounds: &mut [u32])
+    requires passed { length passed.old ≡ length market.now }
+    requires at_start { (x : ℕ) → slice_index passed.old x ≡ 0 }
     requires bounds { length bounds.old ≡ length market.now }
     requires free { (x : ℕ) → slice_index bounds.old x ≡ length (row market.now x) }
     ensures one_each { length bounds.new ≡ length market.now }
     ensures good { IsGoodAt market.now (bound_in bounds.new) }
 {
     for p in 0..market.persons() {
-        let_go(market, p, fronts, bounds);
+        let_go(market, p, passed, bounds);
     }
 }
 
 /// Lets one more person propose, and in turn each one that is let go, until a person who held nobody takes one or one is at
 /// the end of its list.
-fn let_go(market: &RoomMarket, p: u32, fronts: &mut [u32], bounds: &mut [u32])
+fn let_go(market: &RoomMarket, p: u32, passed: &mut [u32], bounds: &mut [u32])
     requires in_range { p < length market.now }
     requires limits { AreWithinLimits market.now }
-    requires before { IsProgress market.now p p fronts.old bounds.old }
-    ensures { IsProgress market.now (p + 1) (p + 1) fronts.new bounds.new }
+    requires before { IsProgress market.now p p passed.old bounds.old }
+    ensures { IsProgress market.now (p + 1) (p + 1) passed.new bounds.new }
 {
     let mut away = p;
-    'proposals: while fronts[away as usize] < market.len(away) {
-        let Some(next) = propose(market, away, fronts[away as usize], bounds) else {
+    'proposals: while passed[away as usize] < market.len(away) {
+        let Some(next) = propose(market, away, passed[away as usize], bounds) else {
             return;
         };
-        fronts[next as usize] += 1;
+        passed[next as usize] += 1;
         away = next;
     }
 }

@@ -1,16 +1,24 @@
 //! Phase two: cutting lists round cycles of persons, each of whom has the next last on the list of its second, until nobody
 //! has three or more left (Irving 1985).
 //!
-//! A walk that closes a cycle goes on, once that is cut, from whoever is before the cycle on its path: what is before stays
-//! a walk as long as the start has three left. So each step of a walk is paid for by a cut, or by a start that is done.
+//! A walk from person to next person closes a cycle. Once that is cut, the walk goes on from whoever is before the cycle on
+//! its path: those before it who have two left have the same person next as before, and those who have less are never met
+//! again. It ends where the person that it began with has one left, or where the cycle is a party by itself: each of its
+//! persons has two left, both of the cycle. To cut that would empty their lists, and the whole walk stands on it.
+//!
+//! So phase two takes time in proportion to the persons and entries. Each step of a walk puts a person on the path. Those on a
+//! cycle that is cut leave it, and the one before them to be put there again: the cut pays for these, since it takes an entry
+//! off the list of each one's second. All others leave it at the end of a walk, and have less than two left or are a party by
+//! themselves; either way no walk comes to them again. Where the first and the second on a list stand is sought from where they
+//! stood last.
 
-ghost use Rattle.std.specs.Prelude.{◌≡◌, ℕ, ◌-◌, ◌<◌, ◌≤◌, ◌⊎◌, length, slice_index, [], IfOk, OnOk};
+ghost use Rattle.std.specs.Prelude.{◌≡◌, ℕ, ◌<◌, ◌≤◌, ◌⊎◌, length, slice_index, [], IfOk, OnOk, MatchOption};
 ghost use Rattle.sm_room.specs.Bounds.{IsLeft, IsFirst, IsGoodAt, bound_in};
-ghost use Rattle.sm_room.specs.Rotating.{HasThreeLeft, IsShort, IsPath, IsClosed, AreCut, IsRotated, AreHints, GoesTo};
+ghost use Rattle.sm_room.specs.Rotating.{met, IsShort, IsPath, IsWalk, IsClosed, IsOwnParty, AreCut, IsRotated, AreHints, GoesTo};
 
 use crate::hints::{Hints, has_three, left_from};
 use crate::market::RoomMarket;
-use crate::walk::{Walk, go_round};
+use crate::walk::{Walk, go_round, is_own_party};
 use std::alloc::{AllocError, Global};
 
 /// Goes on until nobody has three or more left.
@@ -33,7 +41,8 @@ pub(crate) fn rotate_all(
     Ok(())
 }
 
-/// Goes on until a person has no three left. The path is empty before and after.
+/// Where a person has three or more left, cuts cycles that the walk from it meets, until it has less. The path is empty before
+/// and after.
 fn shorten(
     market: &RoomMarket,
     bounds: &mut [u32],
@@ -55,10 +64,12 @@ fn shorten(
     ensures empty { OnOk result (walk.new.path.items ≡ []) }
     ensures path { OnOk result (IsPath market.now walk.new.path.items walk.new.places.items walk.new.marks.items) }
 {
+    if !has_three(market, bounds, hints, x) {
+        return Ok(());
+    }
     let mut from = x;
-    'turns: while has_three(market, bounds, hints, x) {
-        let one = go_round(market, bounds, hints, walk, x, from)?;
-        cut(market, bounds, &walk.path, &walk.places, one, x);
+    'turns: while let Some(one) = next_cycle(market, bounds, hints, walk, from)? {
+        cut(market, bounds, &walk.path, &walk.places, one);
         let keep = (one as usize).saturating_sub(1);
         from = walk.path[keep];
         walk.cut_off(keep);
@@ -67,12 +78,43 @@ fn shorten(
     Ok(())
 }
 
-/// Cuts the list of the second of each person of the cycle behind that person.
-fn cut(market: &RoomMarket, bounds: &mut [u32], path: &[u32], places: &[u32], one: u32, start: u32)
+/// The index on the path of the next cycle that can be cut. `None` where there is none, and whoever the walk began with has no
+/// three left.
+fn next_cycle(
+    market: &RoomMarket,
+    bounds: &[u32],
+    hints: &mut Hints,
+    walk: &mut Walk,
+    from: u32,
+) -> Result<Option<u32>, AllocError>
+    requires one_each { length bounds.now ≡ length market.now }
+    requires good { IsGoodAt market.now (bound_in bounds.now) }
+    requires hints { AreHints market.now bounds.now hints.old.firsts.items hints.old.seconds.items }
+    requires path { IsPath market.now walk.old.path.items walk.old.places.items walk.old.marks.items }
+    requires walk { IsWalk market.now bounds.now walk.old.path.items walk.old.places.items from }
+    ensures hints { OnOk result (AreHints market.now bounds.now hints.new.firsts.items hints.new.seconds.items) }
+    ensures path { OnOk result (IsPath market.now walk.new.path.items walk.new.places.items walk.new.marks.items) }
+    ensures found { IfOk result (λ found. MatchOption found
+        (IsShort market.now bounds.now (met walk.old.path.items from 0))
+        (λ one. (slice_index walk.new.path.items 0 ≡ met walk.old.path.items from 0)
+        × IsClosed market.now bounds.now walk.new.path.items walk.new.places.items one
+        × (¬ IsOwnParty market.now bounds.now walk.new.path.items one))) }
+{
+    let Some(one) = go_round(market, bounds, hints, walk, from)? else {
+        return Ok(None);
+    };
+    if is_own_party(market, bounds, walk, one) {
+        return Ok(None);
+    }
+    Ok(Some(one))
+}
+
+/// Cuts the list of the second of each person of the cycle behind that person. The cycle isn't a party by itself.
+fn cut(market: &RoomMarket, bounds: &mut [u32], path: &[u32], places: &[u32], one: u32)
     requires one_each { length bounds.old ≡ length market.now }
     requires good { IsGoodAt market.now (bound_in bounds.old) }
-    requires three { HasThreeLeft market.now bounds.old start }
-    requires closed { IsClosed market.now bounds.old start path.now places.now one }
+    requires closed { IsClosed market.now bounds.old path.now places.now one }
+    requires apart { ¬ IsOwnParty market.now bounds.old path.now one }
     ensures rotated { IsRotated market.now bounds.old bounds.new }
     ensures cut { AreCut market.now bounds.old path.now one (length path.now) bounds.new }
 {

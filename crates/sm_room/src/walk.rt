@@ -1,8 +1,8 @@
 //! The walk of phase two.
 
-ghost use Rattle.std.specs.Prelude.{◌≡◌, ℕ, ◌<◌, ◌≤◌, length, slice_index, take, [], IfOk, OnOk};
+ghost use Rattle.std.specs.Prelude.{◌≡◌, ℕ, ◌<◌, ◌≤◌, length, slice_index, take, [], IfOk, OnOk, MatchOption, false, IsTrue};
 ghost use Rattle.sm_room.specs.Bounds.{IsGoodAt, IsLeft, IsLast, bound_in};
-ghost use Rattle.sm_room.specs.Rotating.{IsPath, IsWalk, IsClosed, AreUnmarked, AreHints};
+ghost use Rattle.sm_room.specs.Rotating.{met, HasTwoLeft, IsPath, IsWalk, IsClosed, IsOwnParty, AreUnmarked, AreHints};
 
 use crate::hints::{Hints, second_place};
 use crate::market::RoomMarket;
@@ -61,38 +61,56 @@ fn unmark(path: &[u32], keep: usize, marks: &mut [u32])
     }
 }
 
-/// Walks on from `from`, from person to next person, until one is met again, and returns its index on the path.
+/// Walks on from `from`, from person to next person, until one is met again, and returns its index on the path. `None` where
+/// somebody has no two left, and so whoever the walk began with hasn't either.
 pub(crate) fn go_round(
     market: &RoomMarket,
     bounds: &[u32],
     hints: &mut Hints,
     walk: &mut Walk,
-    start: u32,
     from: u32,
-) -> Result<u32, AllocError>
+) -> Result<Option<u32>, AllocError>
     requires one_each { length bounds.now ≡ length market.now }
     requires good { IsGoodAt market.now (bound_in bounds.now) }
     requires hints { AreHints market.now bounds.now hints.old.firsts.items hints.old.seconds.items }
     requires path { IsPath market.now walk.old.path.items walk.old.places.items walk.old.marks.items }
-    requires walk { IsWalk market.now bounds.now start walk.old.path.items walk.old.places.items from }
+    requires walk { IsWalk market.now bounds.now walk.old.path.items walk.old.places.items from }
     ensures hints { OnOk result (AreHints market.now bounds.now hints.new.firsts.items hints.new.seconds.items) }
     ensures path { OnOk result (IsPath market.now walk.new.path.items walk.new.places.items walk.new.marks.items) }
-    ensures closed { IfOk result (λ one.
-        IsClosed market.now bounds.now start walk.new.path.items walk.new.places.items one) }
+    ensures found { IfOk result (λ found. MatchOption found
+        (¬ HasTwoLeft market.now bounds.now (met walk.old.path.items from 0))
+        (λ one. (slice_index walk.new.path.items 0 ≡ met walk.old.path.items from 0)
+        × IsClosed market.now bounds.now walk.new.path.items walk.new.places.items one)) }
 {
     let _persons = market.persons();
-    let _ = start;
     let mut x = from;
-    'steps: while walk.marks[x as usize] == 0 {
-        let Some(place) = second_place(market, bounds, hints, x) else {
-            unreachable!()
-        };
+    'steps: while let Some(place) = second_place(market, bounds, hints, x) {
+        let mark = walk.marks[x as usize];
+        if mark > 0 {
+            return Ok(Some(mark - 1));
+        }
         walk.path.push(x)?;
         walk.places.push(place)?;
         walk.marks[x as usize] = walk.path.len() as u32;
         x = last_of(market, bounds, market.at(x, place), x);
     }
-    Ok(walk.marks[x as usize] - 1)
+    Ok(None)
+}
+
+/// Whether a cycle is a party by itself: each of its persons has two left, both of them on the cycle.
+pub(crate) fn is_own_party(market: &RoomMarket, bounds: &[u32], walk: &Walk, one: u32) -> bool
+    requires one_each { length bounds.now ≡ length market.now }
+    requires path { IsPath market.now walk.now.path.items walk.now.places.items walk.now.marks.items }
+    requires closed { IsClosed market.now bounds.now walk.now.path.items walk.now.places.items one }
+    ensures yes { IsTrue result → IsOwnParty market.now bounds.now walk.now.path.items one }
+    ensures no { result ≡ false → ¬ IsOwnParty market.now bounds.now walk.now.path.items one }
+{
+    let x = walk.path[one as usize];
+    let place = walk.places[one as usize];
+    if place < bounds[x as usize] {
+        return false;
+    }
+    walk.marks[market.at(x, place) as usize] > one
 }
 
 /// The last that is left on a person's list, which isn't empty.

@@ -17,7 +17,7 @@ use Rattle.sm_report.specs.Sound.{IsLineOf}
 use Rattle.sm_theory.specs.Rooms.{mate_of, IsRoomMatching, IsRoomStable}
 use Rattle.sm_theory.proofs.Room.Bridge.{listed_in_range}
 use Rattle.sm_rooming.specs.Parties.{AreParties}
-use Rattle.sm_rooming.specs.RoomAnswer.{couple_with, couple_line, couple_lines, party_line, party_lines, AreExcluding, IsMatched, IsUnmatchable}
+use Rattle.sm_rooming.specs.RoomAnswer.{answer_lines, couple_with, couple_line, couple_lines, party_line, party_lines, AreExcluding}
 
 -- Lines of the instance.
 
@@ -27,11 +27,20 @@ none_left P = λ k d l. absurd (omega arith)
 head_sound : (persons : List AgentData) → IsLineOf (Room persons) (LineData.Answer (HeadData.Solve None))
 head_sound persons = record { printable = tt; seats = λ k d l. absurd (omega arith); numbers = tt; head = refl }
 
+end_sound : (persons : List AgentData) → IsLineOf (Room persons) LineData.End
+end_sound persons = record { printable = tt; seats = λ k d l. absurd (omega arith); numbers = tt; head = tt }
+
 none_sound : (persons : List AgentData) → IsLineOf (Room persons) LineData.Nothing
 none_sound persons = record { printable = tt; seats = λ k d l. absurd (omega arith); numbers = tt; head = tt }
 
-end_sound : (persons : List AgentData) → IsLineOf (Room persons) LineData.End
-end_sound persons = record { printable = tt; seats = λ k d l. absurd (omega arith); numbers = tt; head = tt }
+answer_sound : {input : Input} {persons : List AgentData} (none : List LineData) (line : ℕ → Option LineData) (count : ℕ) → input ≡ Room persons → All (IsLineOf (Room persons)) none
+    → ((i : ℕ) → i < count → All (IsLineOf (Room persons)) (line_or_none (line i))) → All (IsLineOf input) (answer_lines none line count)
+answer_sound {input} {persons} none line count room nothing each =
+    let P = IsLineOf (Room persons) in
+    let shown = lines_from line 0 count in
+    let behind : All P (shown ++ (LineData.End ∷ [])) = All-append P shown (LineData.End ∷ []) (lines_each P line 0 count (λ i l. each i (omega (arith, l)))) (one_all P LineData.End (end_sound persons)) in
+    let whole : All P (answer_lines none line count) = All-cons P (LineData.Answer (HeadData.Solve None)) _ (head_sound persons) (All-append P none (shown ++ (LineData.End ∷ [])) nothing behind) in
+    subst (λ (i : Input). All (IsLineOf i) (answer_lines none line count)) (sym room) whole
 
 many : (persons : List AgentData) → length (lists_of persons) ≡ length persons
 many persons = length-map persons (λ (person : AgentData). person.entries)
@@ -57,52 +66,31 @@ party_sound persons next parties all count k on =
     λ i d l. let lt = (all.each k on).inside i l in omega (arith, lt, count, get_or_default_zero (row parties k) i d l) in
     one_all (IsLineOf (Room persons)) (LineData.Party (row parties k)) (record { printable = inside; seats = λ k d l. absurd (omega arith); numbers = tt; head = tt })
 
+pub couples_sound : {input : Input} {persons : List AgentData} {mates : List (Option ℕ)} → input ≡ Room persons → IsRoomStable (lists_of persons) mates → All (IsLineOf input) (couple_lines mates)
+couples_sound {input} {persons} {mates} room stable =
+    answer_sound [] (couple_line mates) (length mates) room (none_left (IsLineOf (Room persons))) (λ x l. couple_sound persons mates stable.matching x)
+
+abbrev parties_given : List (Vec ℕ Global) → List LineData
+parties_given parties = answer_lines (LineData.Nothing ∷ []) (party_line (rows_of parties)) (length parties)
+
+pub parties_sound : {input : Input} {persons : List AgentData} (parties : List (Vec ℕ Global)) → input ≡ Room persons → AreExcluding (lists_of persons) (rows_of parties) → All (IsLineOf input) (parties_given parties)
+parties_sound {input} {persons} parties room e =
+    answer_sound (LineData.Nothing ∷ []) (party_line (rows_of parties)) (length parties) room (one_all (IsLineOf (Room persons)) LineData.Nothing (none_sound persons))
+    (λ k l. party_sound persons e.next (rows_of parties) e.all (e.partition.one_each ∙ many persons) k (omega (arith, l, length-map parties (λ (v : Vec ℕ Global). v.items))))
+
+pub parties_are : (parties : List (Vec ℕ Global)) → parties_given parties ≡ party_lines (rows_of parties)
+parties_are parties = ap (answer_lines (LineData.Nothing ∷ []) (party_line (rows_of parties))) (sym (length-map parties (λ (v : Vec ℕ Global). v.items)))
+
 -- The lines that are given.
 
-abbrev pub couples_given : List (Option ℕ) → List LineData
-couples_given mates = (LineData.Answer (HeadData.Solve None) ∷ []) ++ (lines_from (couple_line mates) 0 (length mates - 0) ++ (LineData.End ∷ []))
+abbrev pub lines_given : List LineData → (ℕ → Option LineData) → ℕ → List LineData
+lines_given none line count = (LineData.Answer (HeadData.Solve None) ∷ []) ++ (none ++ (lines_from line 0 (count - 0) ++ (LineData.End ∷ [])))
 
-abbrev pub parties_given : List (Vec ℕ Global) → List LineData
-parties_given parties =
-    (LineData.Answer (HeadData.Solve None) ∷ [])
-    ++ ((LineData.Nothing ∷ [])
-    ++ (lines_from (party_line (rows_of parties)) 0 (length parties - 0)
-    ++ (LineData.End ∷ [])))
+pub given_is : (none : List LineData) (line : ℕ → Option LineData) (count : ℕ) → lines_given none line count ≡ answer_lines none line count
+given_is none line count = let n : count - 0 ≡ count = omega arith in ap (answer_lines none line) n
 
-couples_are : (mates : List (Option ℕ)) → couples_given mates ≡ couple_lines mates
-couples_are mates =
-    let n : length mates - 0 ≡ length mates = omega arith in
-    ap (λ c. LineData.Answer (HeadData.Solve None) ∷ (lines_from (couple_line mates) 0 c ++ (LineData.End ∷ []))) n
-
-parties_are : (parties : List (Vec ℕ Global)) → parties_given parties ≡ party_lines (rows_of parties)
-parties_are parties =
-    let n : length parties - 0 ≡ length (rows_of parties) = omega (arith, length-map parties (λ (v : Vec ℕ Global). v.items)) in
-    ap (λ c. LineData.Answer (HeadData.Solve None) ∷ LineData.Nothing ∷ (lines_from (party_line (rows_of parties)) 0 c ++ (LineData.End ∷ []))) n
-
-pub couples_right : {persons : List AgentData} {mates : List (Option ℕ)} → IsRoomStable (lists_of persons) mates → IsMatched persons (couples_given mates)
-couples_right {persons} {mates} stable = record { mates = mates; stable = stable; shows = couples_are mates }
-
-pub parties_right : {persons : List AgentData} (parties : List (Vec ℕ Global)) → AreExcluding (lists_of persons) (rows_of parties) → IsUnmatchable persons (parties_given parties)
-parties_right {persons} parties excluding = record { parties = rows_of parties; excluding = excluding; shows = parties_are parties }
-
-pub couples_sound : (input : Input) {persons : List AgentData} {mates : List (Option ℕ)} → input ≡ Room persons → IsRoomStable (lists_of persons) mates → All (IsLineOf input) (couples_given mates)
-couples_sound input {persons} {mates} room stable =
-    let P = IsLineOf (Room persons) in
-    let couples = lines_each P (couple_line mates) 0 (length mates - 0) (λ x l. couple_sound persons mates stable.matching x) in
-    let whole : All P (couples_given mates) = All-cons P (LineData.Answer (HeadData.Solve None)) _ (head_sound persons) (All-append P _ _ couples (one_all P LineData.End (end_sound persons))) in
-    subst (λ (i : Input). All (IsLineOf i) (couples_given mates)) (sym room) whole
-
-pub parties_sound : (input : Input) {persons : List AgentData} (parties : List (Vec ℕ Global)) → input ≡ Room persons → AreExcluding (lists_of persons) (rows_of parties) → All (IsLineOf input) (parties_given parties)
-parties_sound input {persons} parties room e =
-    let P = IsLineOf (Room persons) in
-    let long = length-map parties (λ (v : Vec ℕ Global). v.items) in
-    let count : length e.next ≡ length persons = e.partition.one_each ∙ many persons in
-    let shown = lines_from (party_line (rows_of parties)) 0 (length parties - 0) in
-    let each = lines_each P (party_line (rows_of parties)) 0 (length parties - 0) (λ k l. party_sound persons e.next (rows_of parties) e.all count k (omega (arith, l, long))) in
-    let whole : All P (parties_given parties) =
-    All-cons P (LineData.Answer (HeadData.Solve None)) (LineData.Nothing ∷ (shown ++ (LineData.End ∷ []))) (head_sound persons)
-    (All-cons P LineData.Nothing (shown ++ (LineData.End ∷ [])) (none_sound persons) (All-append P shown (LineData.End ∷ []) each (one_all P LineData.End (end_sound persons)))) in
-    subst (λ (i : Input). All (IsLineOf i) (parties_given parties)) (sym room) whole
+pub given_sound : {input : Input} (none : List LineData) (line : ℕ → Option LineData) (count : ℕ) → All (IsLineOf input) (answer_lines none line count) → All (IsLineOf input) (lines_given none line count)
+given_sound {input} none line count sound = subst (All (IsLineOf input)) (sym (given_is none line count)) sound
 
 -- There are few of both.
 

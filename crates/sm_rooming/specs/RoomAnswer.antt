@@ -9,6 +9,10 @@ use Rattle.sm_theory.specs.Rooms.{mate_of, IsRoomStable}
 use Rattle.sm_theory.specs.Partitions.{IsStablePartition, IsInOddParty}
 use Rattle.sm_rooming.specs.Parties.{AreParties}
 
+-- the head, what is said of there being no stable matching, the lines that numbers below `count` have, and `end`
+abbrev pub answer_lines : (none : List LineData) → (line : ℕ → Option LineData) → (count : ℕ) → List LineData
+answer_lines none line count = LineData.Answer (HeadData.Solve None) ∷ (none ++ (lines_from line 0 count ++ LineData.End ∷ []))
+
 -- the couple of a person whose mate has a higher number
 abbrev pub couple_with : ℕ → Option ℕ → Option LineData
 couple_with x None = None
@@ -19,7 +23,7 @@ couple_line mates x = couple_with x (mate_of mates x)
 
 -- the couples of a matching, the lower-numbered person first, in the order of these
 abbrev pub couple_lines : List (Option ℕ) → List LineData
-couple_lines mates = LineData.Answer (HeadData.Solve None) ∷ (lines_from (couple_line mates) 0 (length mates) ++ LineData.End ∷ [])
+couple_lines mates = answer_lines [] (couple_line mates) (length mates)
 
 -- every party has a line
 abbrev pub party_line : List (List ℕ) → ℕ → Option LineData
@@ -27,8 +31,7 @@ party_line parties k = Some (LineData.Party (row parties k))
 
 -- there is no stable matching, and these are the parties that show it
 abbrev pub party_lines : List (List ℕ) → List LineData
-party_lines parties =
-    LineData.Answer (HeadData.Solve None) ∷ LineData.Nothing ∷ (lines_from (party_line parties) 0 (length parties) ++ LineData.End ∷ [])
+party_lines parties = answer_lines (LineData.Nothing ∷ []) (party_line parties) (length parties)
 
 -- the parties of a stable partition of which one has an odd number of three or more members; so there is no stable matching
 -- (Tan 1991)

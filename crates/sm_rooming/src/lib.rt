@@ -10,7 +10,7 @@ mod parties;
 mod solution;
 pub mod witnesses;
 
-pub use lines::{CoupleAnswerLines, PartyAnswerLines, couple_lines, party_lines};
+pub use lines::{RoomLines, couple_lines, party_lines};
 pub use numbered::{CoupleLines, PartyLines};
 pub use parties::parties_of;
 pub use solution::{RoomSolution, find_roommates};

@@ -23,7 +23,7 @@ pub enum RoomSolution {
 
 /// A stable matching of persons, or the parties that show that there is none (Irving 1985; Tan 1991).
 ///
-/// Takes the time of [`stable_partition`] and memory in proportion to the persons and entries.
+/// Takes time and memory in proportion to the persons and entries.
 ///
 /// # Errors
 ///

@@ -1,11 +1,13 @@
-use Rattle.sm_room.specs.Rotating.{IsPath, IsWalk, AreHints}
+use Rattle.std.proofs.Common.{◌≡◌}
+use Rattle.sm_room.specs.Rotating.{met, IsPath, IsWalk, AreHints}
 use Rattle.sm_room.proofs.WalkLemmas.{unmarked}
 use Rattle.sm_room.proofs.walk.go_round.Given as goal
 
 abbrev pub invariant-steps : goal.invariant-steps
 invariant-steps l = record {
+  starts : met l.walk.path.items l.x 0 ≡ met l.fn.walk.path.items l.from 0;
   path : IsPath l.market l.walk.path.items l.walk.places.items l.walk.marks.items;
-  walk : IsWalk l.market l.bounds l.start l.walk.path.items l.walk.places.items l.x;
+  walk : IsWalk l.market l.bounds l.walk.path.items l.walk.places.items l.x;
   hints : AreHints l.market l.bounds l.hints.firsts.items l.hints.seconds.items;
 }
 

@@ -1,17 +1,13 @@
-use Rattle.sm_answer.proofs.AnswerLemmas.{same_some, same_is, joined_some, joined_is, given_right, given_some}
-use Rattle.sm_rooming.proofs.LineLemmas.{couples_given, couples_right, couples_sound, mates_fit}
+use Rattle.sm_rooming.proofs.LineLemmas.{couples_sound, mates_fit}
 use Rattle.sm_rooming.proofs.lines.couple_lines.Goals as goal
 
-pub invariant_of-result : goal.invariant_of-result
-invariant_of-result c = record { few = mates_fit c.persons-persons.ensures.sound c.requires.stable }
+pub invariant_of-room_lines : goal.invariant_of-room_lines
+invariant_of-room_lines c = record { few = mates_fit c.persons-persons.ensures.sound c.requires.stable }
+
+pub room_lines-requires : goal.room_lines-requires
+room_lines-requires c = record { sound = couples_sound c.requires.input c.requires.stable }
 
 pub returns-clause-right : goal.returns-clause-right
-returns-clause-right c =
-    given_right _ _ _ (couples_given c.args.mates.now) (joined_is _ _ _ _ (same_is _) (joined_is _ _ _ _ (same_is _) (same_is _)))
-    (couples_right c.requires.stable)
-
-pub returns-clause-some : goal.returns-clause-some
-returns-clause-some c =
-    given_some _ _ (couples_given c.args.mates.now) (joined_some _ _ (same_some _) (joined_some _ _ (same_some _) (same_some _)))
-    (joined_is _ _ _ _ (same_is _) (joined_is _ _ _ _ (same_is _) (same_is _)))
-    (couples_sound c.args.input.now c.requires.input c.requires.stable)
+returns-clause-right c = λ lines given.
+    let shown = c.room_lines.ensures.right lines given in
+    record { answer = shown.answer; is_right = record { mates = c.args.mates.now; stable = c.requires.stable; shows = shown.is_right }; shows = shown.shows }

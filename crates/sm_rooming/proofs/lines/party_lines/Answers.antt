@@ -1,17 +1,19 @@
-use Rattle.sm_answer.proofs.AnswerLemmas.{same_some, same_is, joined_some, joined_is, given_right, given_some}
-use Rattle.sm_rooming.proofs.LineLemmas.{parties_given, parties_right, parties_sound, parties_fit}
+use Rattle.std.proofs.Common.{◌∙◌}
+use Rattle.sm_lists.specs.Rows.{rows_of}
+use Rattle.sm_rooming.proofs.LineLemmas.{parties_sound, parties_are, parties_fit}
 use Rattle.sm_rooming.proofs.lines.party_lines.Goals as goal
 
-pub invariant_of-result : goal.invariant_of-result
-invariant_of-result c = record { few = parties_fit c.args.parties.now c.persons-persons.ensures.sound c.requires.excluding }
+pub invariant_of-room_lines : goal.invariant_of-room_lines
+invariant_of-room_lines c = record { few = parties_fit c.args.parties.now c.persons-persons.ensures.sound c.requires.excluding }
+
+pub room_lines-requires : goal.room_lines-requires
+room_lines-requires c = record { sound = parties_sound c.args.parties.now c.requires.input c.requires.excluding }
 
 pub returns-clause-right : goal.returns-clause-right
-returns-clause-right c =
-    given_right _ _ _ (parties_given c.args.parties.now) (joined_is _ _ _ _ (same_is _) (joined_is _ _ _ _ (same_is _) (joined_is _ _ _ _ (same_is _) (same_is _))))
-    (parties_right c.args.parties.now c.requires.excluding)
-
-pub returns-clause-some : goal.returns-clause-some
-returns-clause-some c =
-    given_some _ _ (parties_given c.args.parties.now) (joined_some _ _ (same_some _) (joined_some _ _ (same_some _) (joined_some _ _ (same_some _) (same_some _))))
-    (joined_is _ _ _ _ (same_is _) (joined_is _ _ _ _ (same_is _) (joined_is _ _ _ _ (same_is _) (same_is _))))
-    (parties_sound c.args.input.now c.args.parties.now c.requires.input c.requires.excluding)
+returns-clause-right c = λ lines given.
+    let shown = c.room_lines.ensures.right lines given in
+    record {
+      answer = shown.answer;
+      is_right = record { parties = rows_of c.args.parties.now; excluding = c.requires.excluding; shows = shown.is_right ∙ parties_are c.args.parties.now };
+      shows = shown.shows;
+    }
