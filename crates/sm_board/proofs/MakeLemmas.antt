@@ -1,8 +1,7 @@
 -- Rows that are made one after the other.
-use Rattle.std.proofs.Common.{◌≡◌, ℕ, ◌+◌, ◌<◌, ◌++◌, ◌∷◌, [], inl, inr, arith, refl, sym, subst, List, Bool, Vec, length, map, is_some, slice_index, slice_index_or}
+use Rattle.std.proofs.Common.{◌≡◌, ℕ, ◌<◌, [], refl, sym, List, Bool, Vec, length, map, is_some, slice_index, slice_index_or}
 use Rattle.std.specs.declared.alloc.Global.{Global}
-use Rattle.std.proofs.lemmas.List.{get_or_append_left, get_or_push, get_or-map}
-use Rattle.sm_lists.proofs.Counting.{eq_or_ne}
+use Rattle.std.proofs.lemmas.List.{get_or-map}
 use Rattle.sm_market.specs.Lists.{row, agents}
 use Rattle.sm_market.specs.Matching.{held}
 use Rattle.sm_theory.specs.Chains.{AreNeedsOf}
@@ -14,13 +13,6 @@ use Rattle.sm_board.specs.BoardOf.{places_at, IsBoardFor}
 -- a row that is read
 pub row_read : {X : Type 0} (vectors : List (Vec X Global)) (p : ℕ) (d : Vec X Global) → p < length vectors → (slice_index_or vectors p d).items ≡ slice_index_or (map (λ v. v.items) vectors) p []
 row_read vectors p d less = sym (get_or-map (λ v. v.items) vectors p d [] less)
-
--- what holds of each row so far and of one more
-pub rows_push : {X : Type 0} (rows : List (List X)) (new : List X) (n : ℕ) (P : ℕ → List X → Type 0) → length rows ≡ n → P n new → ((q : ℕ) → q < n → P q (slice_index_or rows q [])) → (q : ℕ) → q < n + 1 → P q (slice_index_or (rows ++ new ∷ []) q [])
-rows_push rows new n P e own before q less = elim (eq_or_ne q n) [
-  | inl same ↦ subst (λ r. P q r) (sym (get_or_push rows new [] q (omega arith))) (subst (λ k. P k new) (sym same) own)
-  | inr ne ↦ subst (λ r. P q r) (sym (get_or_append_left rows (new ∷ []) [] q (omega arith))) (before q (omega arith))
-]
 
 -- a board that has all the parts of a poset's board is that board
 pub board_for : {poset : RotationPoset} {levels : List (List ℕ)} (needs : List (List ℕ)) (moves : List (List (ℕ × ℕ))) (movers leaves made : List (List ℕ)) (matched : List Bool) → IsPoset poset → AreLevels poset.lists levels

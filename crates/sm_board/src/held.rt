@@ -4,7 +4,7 @@ ghost use Rattle.std.specs.Prelude.{◌≡◌, ◌≢◌, ℕ, ◌+◌, ◌-◌,
 ghost use Rattle.sm_market.specs.Lists.{row};
 ghost use Rattle.sm_theory.specs.ClosedSets.{IsMember};
 ghost use Rattle.sm_market.specs.Vectors.{rows_of};
-ghost use Rattle.sm_board.specs.Board.{Board, IsBoard};
+ghost use Rattle.sm_board.specs.Board.{Board, IsBoard, stay_level};
 ghost use Rattle.sm_board.specs.Growing.{IsLogOf};
 ghost use Rattle.sm_board.specs.Courses.{Held, IsHeld, IsMovedOn, IsMovedBack};
 
@@ -210,8 +210,7 @@ fn move_on(board: &Board, x: u32, at: &mut [usize], now: &mut [u32])
 {
     for &p in board.movers(x) {
         let _few = board.stays(p);
-        at[p as usize] += 1;
-        now[p as usize] = board.level(p, at[p as usize]);
+        set_stay(board, p, at[p as usize] + 1, at, now);
     }
 }
 
@@ -226,7 +225,20 @@ fn move_back(board: &Board, x: u32, at: &mut [usize], now: &mut [u32])
     ensures { let movers = row board.now.movers x in IsMovedBack board.now movers (length movers) at.old now.old at.new now.new }
 {
     for &p in board.movers(x) {
-        at[p as usize] -= 1;
-        now[p as usize] = board.level(p, at[p as usize]);
+        set_stay(board, p, at[p as usize] - 1, at, now);
     }
+}
+
+/// A proposer gets this stay, and its level.
+fn set_stay(board: &Board, p: u32, stay: usize, at: &mut [usize], now: &mut [u32])
+    requires board { IsBoard board.now }
+    requires proposer { p < length board.now.leaves }
+    requires stay { stay ≤ length (row board.now.leaves p) }
+    requires at_each { length at.old ≡ length board.now.leaves }
+    requires now_each { length now.old ≡ length board.now.leaves }
+    ensures stay { at.new ≡ set at.old p stay }
+    ensures level { now.new ≡ set now.old p (stay_level board.now p stay) }
+{
+    at[p as usize] = stay;
+    now[p as usize] = board.level(p, stay);
 }

@@ -4,7 +4,6 @@ ghost use Rattle.std.specs.Prelude.{◌≡◌, ℕ, ◌<◌, length, map, slice_
 ghost use Rattle.sm_market.specs.Lists.{row, agents};
 ghost use Rattle.sm_market.specs.Vectors.{rows_of};
 ghost use Rattle.sm_market.specs.Matching.{held};
-ghost use Rattle.sm_theory.specs.Chains.{AreNeedsOf};
 ghost use Rattle.sm_theory.specs.Vectors.{AreLevels};
 ghost use Rattle.sm_theory.specs.Values.{rotations_of};
 ghost use Rattle.sm_poset.specs.Kept.{moves_in, AreMoves};
@@ -12,35 +11,10 @@ ghost use Rattle.sm_poset.specs.Moves.{place_to};
 ghost use Rattle.sm_board.specs.BoardOf.{places_at, IsBoardFor};
 
 use crate::board::Board;
+use sm_lists::copy_of;
 use sm_poset::Poset;
 use sm_theory::Rotation;
 use std::alloc::{AllocError, Global};
-
-/// The predecessors of each rotation.
-fn needs_of(alloc: Global, poset: &Poset) -> Result<Vec<Vec<u32>>, AllocError>
-    ensures one_each { IfOk result (λ needs. length needs.items ≡ length poset.now.rotations) }
-    ensures needs { IfOk result (λ needs. (j : ℕ) → j < length poset.now.rotations
-        → AreNeedsOf poset.now.lists poset.now.rotations j (row (rows_of needs.items) j)) }
-{
-    let rotations = poset.chain().rotations.len() as u32;
-    let mut needs = Vec::with_capacity(alloc, rotations as usize)?;
-    for j in 0..rotations {
-        needs.push(Vec::from_slice(alloc, poset.needs(j))?)?;
-    }
-    Ok(needs)
-}
-
-/// The moves of each proposer.
-fn moves_of(alloc: Global, poset: &Poset) -> Result<Vec<Vec<(u32, u32)>>, AllocError>
-    ensures { IfOk result (λ moves. AreMoves poset.now.lists poset.now.rotations (length poset.now.rotations) (moves_in moves.items)) }
-{
-    let proposers = poset.market().proposers();
-    let mut moves = Vec::with_capacity(alloc, proposers as usize)?;
-    for p in 0..proposers {
-        moves.push(Vec::from_slice(alloc, poset.moves(p))?)?;
-    }
-    Ok(moves)
-}
 
 /// The first of each pair.
 fn firsts(alloc: Global, pairs: &[(u32, u32)]) -> Result<Vec<u32>, AllocError>
@@ -139,11 +113,11 @@ pub fn make_board(alloc: Global, poset: &Poset, levels: &[Vec<u32>]) -> Result<B
     requires { AreLevels poset.now.lists (rows_of levels.now) }
     ensures { IfOk result (λ board. IsBoardFor poset.now (rows_of levels.now) board) }
 {
-    let moves = moves_of(alloc, poset)?;
-    let needs = needs_of(alloc, poset)?;
+    let moves = poset.all_moves();
+    let needs = copy_of(alloc, poset.all_needs())?;
     let movers = movers_of(alloc, &poset.chain().rotations)?;
-    let leaves = leaves_of(alloc, &moves)?;
-    let stay_levels = stay_levels(alloc, poset, levels, &moves)?;
+    let leaves = leaves_of(alloc, moves)?;
+    let stay_levels = stay_levels(alloc, poset, levels, moves)?;
     let matched = matched(alloc, poset)?;
     Ok(Board {
         needs,

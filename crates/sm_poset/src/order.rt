@@ -10,6 +10,7 @@ ghost use Rattle.sm_theory.specs.ClosedSets.{IsClosed, matching_of};
 ghost use Rattle.sm_theory.specs.Values.{rotations_of};
 ghost use Rattle.sm_rotations.specs.Graph.{AreNeeds};
 ghost use Rattle.sm_poset.specs.Posets.{RotationPoset, poset_of, IsPoset};
+ghost use Rattle.sm_poset.specs.Kept.{moves_in, AreMoves};
 ghost use Rattle.sm_poset.specs.Moves.{AreMovesOf, GoDown};
 
 use crate::moves::{Moves, follow};
@@ -56,8 +57,8 @@ impl Poset {
     /// exposed at their turn.
     ///
     /// The first matching of the chain has to be made for a market of these lists, and the chain has to be complete. The
-    /// market is copied. The chain is moved into the poset, and dropped where memory runs out. Takes time and memory in proportion to the agents
-    /// and entries.
+    /// market is copied. The chain is moved into the poset, and dropped where memory runs out. Takes time and memory in
+    /// proportion to the agents and entries.
     ///
     /// # Errors
     ///
@@ -147,6 +148,13 @@ impl Poset {
         &self.needs[rotation as usize]
     }
 
+    /// For all rotations what [`Poset::needs`] gives for one.
+    pub fn all_needs(&self) -> &[Vec<u32>]
+        ensures { AreNeeds self.now.lists self.now.rotations (rows_of result.now) }
+    {
+        &self.needs
+    }
+
     /// The numbers of the rotations that move a proposer, rising, each with the place on the proposer's list to which it
     /// moves it. Rotations and places are numbered from 0. Each move leads further down the list than those before it.
     pub fn moves(&self, p: u32) -> &[(u32, u32)]
@@ -155,6 +163,13 @@ impl Poset {
         ensures down { GoDown self.now.lists p result.now }
     {
         &self.moves[p as usize]
+    }
+
+    /// For all proposers what [`Poset::moves`] gives for one.
+    pub fn all_moves(&self) -> &[Vec<(u32, u32)>]
+        ensures { AreMoves self.now.lists self.now.rotations (length self.now.rotations) (moves_in result.now) }
+    {
+        &self.moves
     }
 
     /// Whether a set of rotations has, with each member, all predecessors of it. The set has to have one item for each

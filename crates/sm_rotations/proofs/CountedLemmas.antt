@@ -1,21 +1,10 @@
 -- How often each number stands in lists, counted list after list.
-use Rattle.std.proofs.Common.{◌≡◌, ℕ, suc, ◌+◌, ◌<◌, ◌≤◌, inl, inr, arith, sym, ◌∙◌, List, length, set, take, true, slice_index_or}
-use Rattle.std.proofs.lemmas.List.{get_or-set_same, get_or-set_other, length-set, get_or_past}
+use Rattle.std.proofs.Common.{◌≡◌, ℕ, suc, ◌+◌, ◌<◌, ◌≤◌, inl, inr, arith, ◌∙◌, List, length, take, true, slice_index_or}
+use Rattle.std.proofs.lemmas.List.{get_or_past}
 use Rattle.sm_market.specs.Lists.{row}
-use Rattle.sm_lists.proofs.Counting.{eq_or_ne, lt_or_le}
+use Rattle.sm_lists.proofs.Counting.{lt_or_le}
 use Rattle.sm_rotations.specs.Graph.{times, AreCounts, AreCounted}
-use Rattle.sm_rotations.proofs.TimesLemmas.{times_more, times_same, times_part, below_suc, below_le}
-
--- a number is counted
-pub counted_more : {e j : ℕ} (list : List ℕ) {before counts : List ℕ} → e < length list → slice_index_or list e 0 ≡ j → j < length counts
-    → AreCounted (take e list) before counts → AreCounted (take (e + 1) list) before (set counts j (slice_index_or counts j 0 + 1))
-counted_more {e} {j} list {before} {counts} inside is within f = record {
-  one_each = length-set counts j (slice_index_or counts j 0 + 1) ∙ f.one_each;
-  each = λ i. elim (eq_or_ne i j) [
-    | inl same ↦ rw same (omega (arith, get_or-set_same counts j (slice_index_or counts j 0 + 1) 0 within, f.each j, times_more list e j inside is))
-    | inr ne ↦ omega (arith, get_or-set_other counts j i (slice_index_or counts j 0 + 1) 0 ne, f.each i, times_same list e i inside (λ x. ne (sym x ∙ is)))
-  ];
-}
+use Rattle.sm_rotations.proofs.TimesLemmas.{times_more, times_part, below_suc, below_le}
 
 -- there is room for it
 pub room_for_one : {e j n : ℕ} (list : List ℕ) {before counts : List ℕ} → e < length list → slice_index_or list e 0 ≡ j → slice_index_or before j 0 + times list j < n

@@ -3,6 +3,7 @@ pub mod ChainLemmas
 pub mod MarkingLemmas
 pub mod CountLemmas
 pub mod NeedsLemmas
+pub mod FootingLemmas
 pub mod FollowingLemmas
 pub mod ChainingLemmas
 pub mod WalkLemmas

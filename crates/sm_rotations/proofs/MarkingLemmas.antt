@@ -1,15 +1,16 @@
 -- Writing notes and marks, one after another, and collecting them.
 use Rattle.std.proofs.Common.{◌≡◌, ℕ, zero, suc, ◌+◌, ◌<◌, ◌≤◌, ◌⊎◌, inl, inr, arith, refl, sym, ap, ◌∙◌, List, [], ◌∷◌, ◌++◌, length, Option, None, Some, set, slice_index_or}
 use Rattle.std.specs.List.{Contains}
-use Rattle.std.proofs.lemmas.List.{get_or-set_same, get_or-set_other, length-set}
 use Rattle.std.proofs.lemmas.List.Elements.{Contains-append_left, Contains-append_right, Contains-append_cases}
 use Rattle.std.proofs.lemmas.Option.{same_Some, none-some}
 use Rattle.sm_market.specs.Lists.{Lists, row, entry, place_of, IsMarket}
 use Rattle.sm_lists.proofs.Counting.{eq_or_ne}
 use Rattle.sm_market.proofs.PlaceLemmas.{place_of-entry}
 use Rattle.sm_lists.proofs.PlaceLemmas.{entry-place_of}
-use Rattle.sm_theory.specs.Rotations.{proposer_at, reviewer_at, target_at, next_in}
-use Rattle.sm_rotations.specs.Marking.{note_of, marks_of, Moves, MovesOver, AreMoved, AreMarked, IsSpan, IsSpanMarked, IsBetween, IsFound, Adds}
+use Rattle.sm_theory.specs.Rotations.{proposer_at, target_at, next_in}
+use Rattle.sm_rotations.specs.Marking.{note_of, marks_of, MovesOver, AreMarked, IsSpan, IsSpanMarked, IsBetween, Adds}
+use Rattle.sm_rotations.specs.Footings.{footing_at, IsFoundAlong}
+use Rattle.sm_rotations.specs.declared.predecessors.Footing.{Footing}
 
 -- one mark set
 module _ (marks : List (List (Option ℕ))) (p x j : ℕ) (in_range : p < length marks) (on : x < length (marks_of marks p)) where
@@ -83,26 +84,6 @@ module _ {l : Lists} (h : IsMarket l) where
       let s' : IsSpanMarked l (target_at rotation i) better old j marks after = rw is at s in
       marked_more better old low high fits' m s'
 
--- notes
-moves_wider : {rotation : List (ℕ × ℕ)} {n p : ℕ} → Moves rotation n p → Moves rotation (n + 1) p
-moves_wider w = record { pair = w.pair; pair_in = omega (arith, w.pair_in); is = w.is }
-
-pub moved_more : {rotation : List (ℕ × ℕ)} {i j : ℕ} {before notes : List (Option ℕ)} (p : ℕ) → p ≡ proposer_at rotation i → p < length notes → AreMoved rotation i j before notes → AreMoved rotation (i + 1) j before (set notes p (Some j))
-moved_more {rotation} {i} {j} {before} {notes} p is in_range m = record {
-  one_each = length-set notes p (Some j) ∙ m.one_each;
-  moved = λ k less. elim (eq_or_ne (proposer_at rotation k) p) [
-    | inl e ↦ rw e (get_or-set_same notes p (Some j) None in_range)
-    | inr ne ↦ get_or-set_other notes p (proposer_at rotation k) (Some j) None ne ∙ m.moved k (elim (eq_or_ne k i) [ inl e ↦ absurd (ne (ap (proposer_at rotation) e ∙ sym is)) | inr e ↦ omega arith ])
-  ];
-  only = λ q. elim (eq_or_ne q p) [
-    | inl e ↦ inr (rw e (get_or-set_same notes p (Some j) None in_range), record { pair = i; pair_in = omega arith; is = sym is ∙ sym e })
-    | inr ne ↦ elim (m.only q) [
-      | inl same ↦ inl (get_or-set_other notes p q (Some j) None ne ∙ same)
-      | inr w ↦ inr (get_or-set_other notes p q (Some j) None ne ∙ w.0, moves_wider w.1)
-    ]
-  ];
-}
-
 -- collecting
 pub adds_none : (P : ℕ → Type 0) (xs : List ℕ) → ((i : ℕ) → P i → ⊥) → Adds P xs xs
 adds_none P xs none = record { kept = λ i w. w; added = λ i w. absurd (none i w); only = λ i w. inl w }
@@ -158,27 +139,35 @@ between_none {marks} {from} {to} {xs} {ys} is a =
     (λ i e. absurd (none-some _ (sym is ∙ e)))
     between_split
 
+-- the same by other words
+pub adds_like : {P Q : ℕ → Type 0} {xs ys : List ℕ} → ((i : ℕ) → P i → Q i) → ((i : ℕ) → Q i → P i) → Adds P xs ys → Adds Q xs ys
+adds_like forth back a = record {
+  kept = a.kept;
+  added = λ i q. a.added i (back i q);
+  only = λ i w. elim (a.only i w) [ inl v ↦ inl v | inr v ↦ inr (forth i v) ];
+}
+
 -- what the pairs of a rotation are found to need, pair by pair
-module _ {l : Lists} {rotation : List (ℕ × ℕ)} {notes : List (Option ℕ)} {marks : List (List (Option ℕ))} where
-  found_wider : {n i : ℕ} → IsFound l rotation n notes marks i → IsFound l rotation (n + 1) notes marks i
+module _ {rotation : List (ℕ × ℕ)} {before after : List Footing} {notes : List (Option ℕ)} {marks : List (List (Option ℕ))} where
+  found_wider : {n i : ℕ} → IsFoundAlong rotation before after n notes marks i → IsFoundAlong rotation before after (n + 1) notes marks i
   found_wider (inl w) = inl (record { pair = w.pair; pair_in = omega (arith, w.pair_in); noted = w.noted })
   found_wider (inr w) = inr (record { pair = w.pair; pair_in = omega (arith, w.pair_in); between = w.between })
 
-  module _ {n : ℕ} (p : ℕ) (is : p ≡ proposer_at rotation n) {from to : ℕ} (from_is : from ≡ place_of l.proposers p (reviewer_at rotation n)) (to_is : to ≡ place_of l.proposers p (target_at rotation n)) where
-    pub found_more : {xs ys zs ws : List ℕ} → Adds (λ i. IsFound l rotation n notes marks i) xs ys → Adds (λ i. note_of notes p ≡ Some i) ys zs → Adds (λ i. IsBetween (marks_of marks p) from to i) zs ws
-        → Adds (λ i. IsFound l rotation (n + 1) notes marks i) xs ws
-    found_more a b c = adds_join (λ i. IsFound l rotation (n + 1) notes marks i)
-        (adds_join (λ i. IsFound l rotation n notes marks i ⊎ (note_of notes p ≡ Some i)) a b (λ i w. inl w) (λ i w. inr w) (λ i w. w))
+  module _ {n : ℕ} (p : ℕ) (is : p ≡ proposer_at rotation n) {from to : ℕ} (from_is : from ≡ (footing_at before n).proposer) (to_is : to ≡ (footing_at after n).proposer) where
+    pub found_more : {xs ys zs ws : List ℕ} → Adds (λ i. IsFoundAlong rotation before after n notes marks i) xs ys → Adds (λ i. note_of notes p ≡ Some i) ys zs → Adds (λ i. IsBetween (marks_of marks p) from to i) zs ws
+        → Adds (λ i. IsFoundAlong rotation before after (n + 1) notes marks i) xs ws
+    found_more a b c = adds_join (λ i. IsFoundAlong rotation before after (n + 1) notes marks i)
+        (adds_join (λ i. IsFoundAlong rotation before after n notes marks i ⊎ (note_of notes p ≡ Some i)) a b (λ i w. inl w) (λ i w. inr w) (λ i w. w))
         c
         forth
         (λ i w. inr (record { pair = n; pair_in = omega arith; between = rw (← is, ← from_is, ← to_is) w }))
         back
       where
-        forth : (i : ℕ) → IsFound l rotation n notes marks i ⊎ (note_of notes p ≡ Some i) → IsFound l rotation (n + 1) notes marks i
+        forth : (i : ℕ) → IsFoundAlong rotation before after n notes marks i ⊎ (note_of notes p ≡ Some i) → IsFoundAlong rotation before after (n + 1) notes marks i
         forth i (inl w) = found_wider w
         forth i (inr e) = inl (record { pair = n; pair_in = omega arith; noted = rw (← is) e })
 
-        back : (i : ℕ) → IsFound l rotation (n + 1) notes marks i → (IsFound l rotation n notes marks i ⊎ (note_of notes p ≡ Some i)) ⊎ IsBetween (marks_of marks p) from to i
+        back : (i : ℕ) → IsFoundAlong rotation before after (n + 1) notes marks i → (IsFoundAlong rotation before after n notes marks i ⊎ (note_of notes p ≡ Some i)) ⊎ IsBetween (marks_of marks p) from to i
         back i (inl w) = elim (eq_or_ne w.pair n) [
           | inl e ↦ inl (inr (ap (note_of notes) (is ∙ ap (proposer_at rotation) (sym e)) ∙ w.noted))
           | inr e ↦ inl (inl (inl (record { pair = w.pair; pair_in = omega (arith, w.pair_in); noted = w.noted })))

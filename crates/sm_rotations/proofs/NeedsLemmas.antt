@@ -4,17 +4,13 @@ use Rattle.std.specs.Result.{IfOk}
 use Rattle.std.specs.Vec.{with_item}
 use Rattle.std.specs.declared.alloc.Global.{Global}
 use Rattle.std.proofs.lemmas.List.{get_or-map, map-set, get_or_past, get_or-replicate, length-replicate, length-map}
-use Rattle.sm_market.specs.Lists.{Lists, row, entry, place_of, IsMarket}
-use Rattle.sm_market.specs.Matching.{Places, standing, IsMatching}
+use Rattle.sm_market.specs.Lists.{Lists}
+use Rattle.sm_market.specs.Matching.{Places}
 use Rattle.sm_lists.proofs.Counting.{lt_or_le}
-use Rattle.sm_market.proofs.PairingLemmas.{held_in_range}
-use Rattle.sm_lists.proofs.PlaceLemmas.{entry-place_of}
-use Rattle.sm_theory.specs.Rotations.{IsExposed, proposer_at, reviewer_at, target_at, next_in, eliminated}
+use Rattle.sm_theory.specs.Rotations.{IsExposed, eliminated}
 use Rattle.sm_theory.specs.Chains.{rotation_at, stage, AreEliminable}
 use Rattle.sm_theory.specs.Values.{rotations_of}
 use Rattle.sm_theory.specs.declared.rotations.Rotation.{Rotation}
-use Rattle.sm_theory.proofs.Core.Cycle.{turn, turn_in}
-use Rattle.sm_theory.proofs.Bridge.Rotation.{exposed_of}
 use Rattle.sm_rotations.specs.Marking.{marks_in, note_of, marks_of, mark_at, AreLastMoves, AreMarks, AreMarksFor}
 
 -- the items of a vector of marks, read and written
@@ -59,29 +55,6 @@ none_noted n p = elim (lt_or_le p n) [
   | inl h ↦ get_or-replicate n p None None h
   | inr h ↦ get_or_past (replicate n None) p None (omega (arith, length-replicate {A = Option ℕ} n None))
 ]
-
-module _ {l : Lists} (h : IsMarket l) {m : Places} {pairs : List (ℕ × ℕ)} (f : IsMatching l m) (x : IsExposed l m pairs) where
-  pub in_range : (i : ℕ) → i < length pairs → proposer_at pairs i < length l.proposers
-  in_range i a = held_in_range f.proposers (proposer_at pairs i) (place_of l.proposers (proposer_at pairs i) (reviewer_at pairs i)) (x.paired i a)
-
-  -- the reviewer to which a pair moves, its place before and its place behind
-  module _ (i : ℕ) (a : i < length pairs) {p to r : ℕ} (is : p ≡ proposer_at pairs i) (to_is : to ≡ place_of l.proposers p (target_at pairs i)) (on : to < length (row l.proposers p)) (r_is : r ≡ entry l.proposers p to) where
-    pub target_is : r ≡ target_at pairs i
-    target_is = r_is ∙ ap (entry l.proposers p) to_is ∙ entry-place_of l.proposers p (target_at pairs i) (omega arith)
-
-    pub better_is : (better : ℕ) → better ≡ place_of l.reviewers (entry l.proposers p to) p → better ≡ place_of l.reviewers (target_at pairs i) (proposer_at pairs i)
-    better_is better e = rw (← is, ← target_is, r_is) e
-
-    pub worse_is : (worse : ℕ) → worse ≡ standing l.reviewers m.reviewers r → worse ≡ place_of l.reviewers (target_at pairs i) (proposer_at pairs (next_in pairs i))
-    worse_is worse e =
-        let pair = (exposed_of h f x).paired (turn (length pairs) i) (turn_in (length pairs) i a) in
-        let rank : place_of l.reviewers (target_at pairs i) (proposer_at pairs (next_in pairs i)) ≡ standing l.reviewers m.reviewers (target_at pairs i) = pair.rank_is in
-        e ∙ ap (standing l.reviewers m.reviewers) target_is ∙ sym rank
-
-    pub gains : place_of l.reviewers (entry l.proposers p to) p < standing l.reviewers m.reviewers r
-    gains =
-        let takes = ((exposed_of h f x).next i a).takes in
-        rw (target_is, ← r_is, target_is, is) takes
 
 -- a stage and the rotation exposed at it
 module _ {l : Lists} {first m : Places} {rotations : List (List (ℕ × ℕ))} (chain : AreEliminable l first rotations) {j : ℕ} (inside : j < length rotations) (is : m ≡ stage l first rotations j) where

@@ -19,10 +19,6 @@ pub num_false : (b : Bool) → b ≡ false → num b ≡ 0
 num_false b e = ap num e
 
 module _ {X : Type 0} (p : X → Bool) where
-  pub count_yes : (x : X) (xs : List X) → p x ≡ true → count_by p (x ∷ xs) ≡ count_by p xs + 1
-  count_yes x xs e =
-      omega (arith, num_true (p x) e, sum_by-cons (λ x. cond (p x) 1 0) x xs)
-
   pub count_no : (x : X) (xs : List X) → p x ≡ false → count_by p (x ∷ xs) ≡ count_by p xs
   count_no x xs e =
       omega (arith, num_false (p x) e, sum_by-cons (λ x. cond (p x) 1 0) x xs)

@@ -1,4 +1,5 @@
 pub mod Marking
+pub mod Footings
 pub mod Graph
 pub mod Following
 pub mod Chaining

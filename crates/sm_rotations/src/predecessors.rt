@@ -1,31 +1,32 @@
 //! What each rotation of a chain needs: its predecessors.
 //!
-//! The rotations are taken in the order of the chain. Each proposer is noted with the last rotation that moved it, and
-//! each entry of a list with the rotation that moved its reviewer from somebody worse than the list's owner to somebody
-//! better. There is no more than one such rotation, since reviewers never go down.
+//! The rotations are taken in the order of the chain and eliminated one after another. Each proposer is noted with the last
+//! rotation that moved it, and each entry of a list with the rotation that moved its reviewer from somebody worse than the
+//! list's owner to somebody better. There is no more than one such rotation, since reviewers never go down.
 
 ghost use Rattle.std.specs.Prelude.{◌≡◌, ℕ, ◌<◌, ◌≤◌, ◌+◌, ◌^◌, length, IfOk, OnOk, Some, None, slice_set, []};
 ghost use Rattle.sm_market.specs.Lists.{row, entry, place_of, IsMarket};
 ghost use Rattle.sm_market.specs.Vectors.{rows_of};
 ghost use Rattle.sm_market.specs.Pairing.{IsPairingOf};
-ghost use Rattle.sm_theory.specs.Rotations.{IsExposed, proposer_at, reviewer_at, target_at};
+ghost use Rattle.sm_theory.specs.Rotations.{proposer_at, target_at};
 ghost use Rattle.sm_theory.specs.Chains.{AreEliminable, AreNeedsOf};
 ghost use Rattle.sm_theory.specs.Values.{rotations_of};
 ghost use Rattle.sm_rotations.specs.Graph.{AreFollowers};
-ghost use Rattle.sm_rotations.specs.Marking.{marks_in, marks_of, mark_at, note_of, AreMarksFor, AreMoved, AreMarked, IsSpanMarked, IsBetween, IsFound, Adds};
+ghost use Rattle.sm_rotations.specs.Marking.{marks_in, marks_of, mark_at, note_of, AreMarksFor, AreMoved, AreMarked, IsSpanMarked, IsBetween, Adds};
+ghost use Rattle.sm_rotations.specs.Footings.{footing_at, AreFootings, AreSteps, IsFoundAlong};
 
 use crate::elimination::move_round;
 use crate::graph::{add_once, empty_lists, needs_by_followers};
-use sm_market::{Market, Pairing};
-use sm_theory::{Chain, successor};
+use sm_market::{Market, Pairing, next_in};
+use sm_theory::Chain;
 use std::alloc::{AllocError, Global};
 
-/// How a rotation moves one of its proposers: from a place of its list down to another one.
+/// How the proposer of a pair of a rotation stands on its list, and the reviewer of the next pair on its own. An elimination
+/// moves the one down and the other up.
 #[derive(Clone, Copy, Debug)]
-struct Move {
+struct Footing {
     proposer: u32,
-    from: u32,
-    to: u32,
+    reviewer: u32,
 }
 
 /// For each rotation of a chain the numbers of its predecessors, rising.
@@ -71,6 +72,8 @@ pub(crate) fn followers(
     let mut m = chain.first.copy(alloc)?;
     let mut last = vec![in alloc; None; market.proposers() as usize]?;
     let mut marks = no_marks(alloc, market)?;
+    let mut before = Vec::new(alloc);
+    let mut after = Vec::new(alloc);
     let mut found = Vec::new(alloc);
     let mut followers = empty_lists(alloc, rotations.len())?;
     let last = last.as_mut_slice();
@@ -78,10 +81,13 @@ pub(crate) fn followers(
     for j in 0..rotations.len() as u32 {
         let rotation = &rotations[j as usize];
         let pairs = rotation.pairs.as_slice();
-        find(market, &m, pairs, last, marks, &mut found)?;
-        add_once(j, &found, &mut followers)?;
-        note_moves(market, &m, pairs, j, last, marks);
+        find_footings(market, &m, pairs, &mut before)?;
         move_round(market, &mut m, rotation);
+        find_footings(market, &m, pairs, &mut after)?;
+        find(pairs, &before, &after, last, marks, &mut found)?;
+        add_once(j, &found, &mut followers)?;
+        note_movers(pairs, j, last);
+        mark_moves(market, pairs, &before, &after, j, marks);
     }
     Ok(followers)
 }
@@ -98,49 +104,53 @@ fn no_marks(alloc: Global, market: &Market) -> Result<Vec<Vec<Option<u32>>>, All
     Ok(marks)
 }
 
-/// How an exposed rotation moves the proposer of its pair `i`.
-fn move_of(market: &Market, m: &Pairing, pairs: &[(u32, u32)], i: usize) -> Move
-    requires market { IsMarket market.now }
+/// Finds how those whom a rotation moves stand in a pairing, pair by pair, in place of what was found for another.
+fn find_footings(
+    market: &Market,
+    m: &Pairing,
+    pairs: &[(u32, u32)],
+    footings: &mut Vec<Footing>,
+) -> Result<(), AllocError>
     requires made { IsPairingOf market.now m.now }
-    requires exposed { IsExposed market.now m.now.places pairs.now }
-    requires in_range { i < length pairs.now }
-    ensures proposer { result.proposer ≡ proposer_at pairs.now i }
-    ensures in_range { result.proposer < length market.now.proposers }
-    ensures from { result.from ≡ place_of market.now.proposers result.proposer (reviewer_at pairs.now i) }
-    ensures to { result.to ≡ place_of market.now.proposers result.proposer (target_at pairs.now i) }
-    ensures on_list { result.to < length (row market.now.proposers result.proposer) }
-    ensures down { result.from < result.to }
+    requires proposers { (i : ℕ) → i < length pairs.now → proposer_at pairs.now i < length market.now.proposers }
+    requires reviewers { (i : ℕ) → i < length pairs.now → target_at pairs.now i < length market.now.reviewers }
+    ensures { OnOk result (AreFootings market.now m.now.places pairs.now (length pairs.now) footings.new.items) }
 {
-    let proposer = pairs[i].0;
-    let (Some(from), Some(to)) = (m.place(proposer), successor(market, m, proposer)) else {
-        unreachable!()
-    };
-    Move { proposer, from, to }
+    footings.clear();
+    for i in 0..pairs.len() {
+        let target = pairs[next_in(i, pairs.len())].1;
+        let proposer = market.proposer_standing(m, pairs[i].0);
+        let reviewer = market.reviewer_standing(m, target);
+        footings.push(Footing { proposer, reviewer })?;
+    }
+    Ok(())
 }
 
 /// Finds what a rotation needs, by what was noted of the rotations before it, in place of what was found for another.
 fn find(
-    market: &Market,
-    m: &Pairing,
     pairs: &[(u32, u32)],
+    before: &[Footing],
+    after: &[Footing],
     last: &[Option<u32>],
     marks: &[Vec<Option<u32>>],
     found: &mut Vec<u32>,
 ) -> Result<(), AllocError>
-    requires market { IsMarket market.now }
-    requires made { IsPairingOf market.now m.now }
-    requires exposed { IsExposed market.now m.now.places pairs.now }
-    requires one_each { length last.now ≡ length market.now.proposers }
-    requires for_entries { AreMarksFor market.now (marks_in marks.now) }
+    requires before_each { length before.now ≡ length pairs.now }
+    requires after_each { length after.now ≡ length pairs.now }
+    requires in_last { (i : ℕ) → i < length pairs.now → proposer_at pairs.now i < length last.now }
+    requires in_marks { (i : ℕ) → i < length pairs.now → proposer_at pairs.now i < length marks.now }
+    requires down { (i : ℕ) → i < length pairs.now → (footing_at before.now i).proposer < (footing_at after.now i).proposer }
+    requires on_list { (i : ℕ) → i < length pairs.now
+        → (footing_at after.now i).proposer ≤ length (marks_of (marks_in marks.now) (proposer_at pairs.now i)) }
     ensures { OnOk result (Adds
-        (λ i. IsFound market.now pairs.now (length pairs.now) last.now (marks_in marks.now) i)
+        (λ i. IsFoundAlong pairs.now before.now after.now (length pairs.now) last.now (marks_in marks.now) i)
         [] found.new.items) }
 {
     found.clear();
     for i in 0..pairs.len() {
-        let moved = move_of(market, m, pairs, i);
-        add_last(last[moved.proposer as usize], found)?;
-        add_between(&marks[moved.proposer as usize], moved.from, moved.to, found)?;
+        let p = pairs[i].0 as usize;
+        add_last(last[p], found)?;
+        add_between(&marks[p], before[i].proposer, after[i].proposer, found)?;
     }
     Ok(())
 }
@@ -174,30 +184,33 @@ fn add_between(
     Ok(())
 }
 
-/// Notes a rotation with each proposer that it moves, and marks each entry over which it moves the entry's reviewer.
-fn note_moves(
+/// Notes a rotation with each proposer that it moves.
+fn note_movers(pairs: &[(u32, u32)], j: u32, last: &mut [Option<u32>])
+    requires in_range { (i : ℕ) → i < length pairs.now → proposer_at pairs.now i < length last.old }
+    ensures { AreMoved pairs.now (length pairs.now) j last.old last.new }
+{
+    for i in 0..pairs.len() {
+        last[pairs[i].0 as usize] = Some(j);
+    }
+}
+
+/// Marks with a rotation each entry over which it moves the entry's reviewer.
+fn mark_moves(
     market: &Market,
-    m: &Pairing,
     pairs: &[(u32, u32)],
+    before: &[Footing],
+    after: &[Footing],
     j: u32,
-    last: &mut [Option<u32>],
     marks: &mut [Vec<Option<u32>>],
 )
     requires market { IsMarket market.now }
-    requires made { IsPairingOf market.now m.now }
-    requires exposed { IsExposed market.now m.now.places pairs.now }
-    requires one_each { length last.old ≡ length market.now.proposers }
+    requires moved { AreSteps market.now pairs.now before.now after.now }
     requires for_entries { AreMarksFor market.now (marks_in marks.old) }
-    ensures moved { AreMoved pairs.now (length pairs.now) j last.old last.new }
-    ensures marked { AreMarked market.now pairs.now (length pairs.now) j
-        (marks_in marks.old) (marks_in marks.new) }
+    ensures { AreMarked market.now pairs.now (length pairs.now) j (marks_in marks.old) (marks_in marks.new) }
 {
     for i in 0..pairs.len() {
-        let moved = move_of(market, m, pairs, i);
-        last[moved.proposer as usize] = Some(j);
-        let r = market.reviewer_at(moved.proposer, moved.to);
-        let better = market.cross(moved.proposer, moved.to);
-        mark_span(market, r, better, market.reviewer_standing(m, r), j, marks);
+        let r = pairs[next_in(i, pairs.len())].1;
+        mark_span(market, r, after[i].reviewer, before[i].reviewer, j, marks);
     }
 }
 

@@ -31,17 +31,18 @@ use sm_lists::list_at;
 use sm_market::{Market, Pairing};
 use std::alloc::{AllocError, Global};
 use std::marker::Model;
+use std::rc::Rc;
 
 /// The seats of an instance with the market of them.
 ///
 /// A reviewer has as many seats as places, but no more than acceptable proposers; one without any has no seat. Each seat has
 /// its reviewer's list without inert entries, and a proposer lists the seats of a reviewer in the reviewer's place, in their
 /// order. Seats are numbered from 0 through all reviewers. It takes memory in proportion to the entries of the instance and
-/// to the entries on the lists of the seats.
+/// to the entries on the lists of the seats, and others may keep the market too.
 #[derive(Debug, Drop)]
 pub struct Seats {
     lists: Vec<Vec<u32>>,
-    market: Market,
+    market: Rc<Market>,
     seats: Vec<(u32, u32)>,
 }
 
@@ -52,9 +53,9 @@ impl Model for Seats {
 
     ghost Value = { Seating };
 
-    ghost view = { λ s. record { lists = rows_of s.lists.items; market = s.market; seats = s.seats.items } };
+    ghost view = { λ s. record { lists = rows_of s.lists.items; market = s.market.value; seats = s.seats.items } };
 
-    ghost invariant = { λ s. IsKept (record { lists = rows_of s.lists.items; market = s.market; seats = s.seats.items }) };
+    ghost invariant = { λ s. IsKept (record { lists = rows_of s.lists.items; market = s.market.value; seats = s.seats.items }) };
 }
 
 impl Seats {
@@ -82,7 +83,18 @@ impl Seats {
     pub fn market(&self) -> &Market
         ensures { result.now ≡ self.now.market }
     {
-        &self.market
+        self.market.as_ref()
+    }
+
+    /// The market of the seats for one more keeper: nothing is copied. Takes constant time.
+    ///
+    /// # Errors
+    ///
+    /// `AllocError` where there are too many keepers, and only then.
+    pub fn shared_market(&self) -> Result<Rc<Market>, AllocError>
+        ensures { IfOk result (λ market. market.value ≡ self.now.market) }
+    {
+        Ok(self.market.clone()?)
     }
 
     /// The reviewer of a seat, and the number of the seat there, from 1.
@@ -100,7 +112,7 @@ impl Seats {
         requires on_list { place < length (row self.now.market.proposers p) }
         ensures { result ≡ written_place self.now p place + 1 }
     {
-        let (r, _) = self.seats[self.market.reviewer_at(p, place) as usize];
+        let (r, _) = self.seats[self.market.as_ref().reviewer_at(p, place) as usize];
         place_from(list_at(&self.lists, p), 0, r) + 1
     }
 
@@ -114,7 +126,7 @@ impl Seats {
     pub fn levels(&self, alloc: Global) -> Result<Vec<Vec<u32>>, AllocError>
         ensures { IfOk result (λ levels. rows_of levels.items ≡ levels_of self.now) }
     {
-        let proposers = self.market.proposers();
+        let proposers = self.market.as_ref().proposers();
         let mut levels = Vec::with_capacity(alloc, proposers as usize)?;
         for p in 0..proposers {
             levels.push(self.levels_at(alloc, p)?)?;
@@ -130,7 +142,7 @@ impl Seats {
         levels_along(
             alloc,
             list_at(&self.lists, p),
-            self.market.proposer_list(p),
+            self.market.as_ref().proposer_list(p),
             &self.seats,
         )
     }
@@ -145,7 +157,7 @@ impl Seats {
         requires { IsPairingOf self.now.market m.now }
         ensures { IfOk result (λ a. a.places.items ≡ written_of self.now m.now.places.proposers) }
     {
-        let proposers = self.market.proposers();
+        let proposers = self.market.as_ref().proposers();
         let mut places = Vec::with_capacity(alloc, proposers as usize)?;
         for p in 0..proposers {
             places.push(self.written_place(m, p))?;
@@ -180,8 +192,9 @@ impl Seats {
         ensures pairing { IfOk result (λ m. IsPairingOf self.now.market m) }
         ensures places { IfOk result (λ m. m.places.proposers ≡ places_taken written a.now.places.items) }
     {
-        let places = taken_places(alloc, &self.lists, &self.market, &self.seats, a)?;
-        Pairing::held(alloc, &self.market, &places)
+        let market = self.market.as_ref();
+        let places = taken_places(alloc, &self.lists, market, &self.seats, a)?;
+        Pairing::held(alloc, market, &places)
     }
 }
 
@@ -234,6 +247,7 @@ fn seats_held(
         proposers.crosses,
         reviewers.crosses,
     );
+    let market = Rc::new(alloc, market)?;
     Ok(Seats {
         lists,
         market,

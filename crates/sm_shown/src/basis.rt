@@ -7,7 +7,6 @@ use sm_poset::Poset;
 use sm_rotations::chain_with_needs;
 use sm_seats::Seats;
 use std::alloc::{AllocError, Global};
-use std::rc::Rc;
 
 /// What all commands but `solve` and `reduced` stand on: the poset of the market of an instance's seats, which keeps the
 /// market, the proposers' best matching and the chain.
@@ -18,8 +17,8 @@ pub struct Basis {
 }
 
 impl Basis {
-    /// The basis of an instance with these seats. Takes the time and the memory of [`chain_with_needs`] and
-    /// [`Poset::with_needs`].
+    /// The basis of an instance with these seats, whose market it keeps too: nothing of it is copied. Takes the time and the
+    /// memory of [`chain_with_needs`] and [`Poset::with_needs`].
     ///
     /// # Errors
     ///
@@ -30,9 +29,8 @@ impl Basis {
         let market = seats.market();
         let first = proposer_best(alloc, market)?;
         let found = chain_with_needs(alloc, market, &first)?;
-        let market = Rc::new(alloc, market.copy(alloc)?)?;
         Ok(Basis {
-            poset: Poset::with_needs(alloc, market, found)?,
+            poset: Poset::with_needs(alloc, seats.shared_market()?, found)?,
         })
     }
 }

@@ -1,17 +1,18 @@
-use Rattle.std.proofs.Common.{◌≡◌, ◌<◌, ◌∙◌, arith, length}
+use Rattle.std.proofs.Common.{◌≡◌, ℕ, ◌∙◌, arith, refl, length}
+use Rattle.sm_theory.specs.Rotations.{proposer_at}
 use Rattle.sm_rotations.specs.Marking.{marks_in, marks_of, IsBetween, Adds}
+use Rattle.sm_rotations.specs.Footings.{footing_at}
 use Rattle.sm_rotations.proofs.MarkingLemmas.{found_more}
-use Rattle.sm_rotations.proofs.NeedsLemmas.{marks_read, as_many_marks}
+use Rattle.sm_rotations.proofs.NeedsLemmas.{marks_read}
 use Rattle.sm_rotations.proofs.predecessors.find.Goals as goal
 
 pub loop-i-preserved : goal.loop-i-preserved
 loop-i-preserved c =
-    let m = c.move_of-moved.ensures in
-    let inside : c.move_of-moved.result.proposer < length c.args.marks.now = omega (arith, m.in_range, c.requires.for_entries.one_each, as_many_marks c.args.marks.now) in
-    let row_is : c.deref.result.now ≡ marks_of (marks_in c.args.marks.now) c.move_of-moved.result.proposer = c.deref.ensures.value ∙ marks_read c.args.marks.now c.move_of-moved.result.proposer c.index-marks-moved.result inside c.index-marks-moved.is in
-    let between : Adds (λ i. IsBetween (marks_of (marks_in c.args.marks.now) c.move_of-moved.result.proposer) c.move_of-moved.result.from c.move_of-moved.result.to i) c.add_last.new.found.items c.add_between.new.found.items = rw row_is at c.in_ok-add_between.ensures in
-    found_more {l = c.args.market.now} {rotation = c.args.pairs.now} {notes = c.args.last.now} {marks = marks_in c.args.marks.now} {n = c.loop-i.i}
-    c.move_of-moved.result.proposer m.proposer m.from m.to c.loop-i.invariant c.in_ok-add_last.ensures between
+    let p : ℕ = proposer_at c.args.pairs.now c.loop-i.i in
+    let row_is : c.deref.result.now ≡ marks_of (marks_in c.args.marks.now) p = c.deref.ensures.value ∙ marks_read c.args.marks.now p c.index-marks-p.result (c.requires.in_marks c.loop-i.i c.loop-i-test.true) c.index-marks-p.is in
+    let between : Adds (λ i. IsBetween (marks_of (marks_in c.args.marks.now) p) (footing_at c.args.before.now c.loop-i.i).proposer (footing_at c.args.after.now c.loop-i.i).proposer i) c.add_last.new.found.items c.add_between.new.found.items = rw row_is at c.in_ok-add_between.ensures in
+    found_more {rotation = c.args.pairs.now} {before = c.args.before.now} {after = c.args.after.now} {notes = c.args.last.now} {marks = marks_in c.args.marks.now} {n = c.loop-i.i}
+    p refl refl refl c.loop-i.invariant c.in_ok-add_last.ensures between
 
 pub returns : goal.returns
 returns c =

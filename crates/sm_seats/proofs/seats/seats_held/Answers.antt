@@ -32,11 +32,11 @@ held-market-requires-clause-reviewers c =
 pub invariant_of-result : goal.invariant_of-result
 invariant_of-result c =
     let w = c.args.instance.now in
-    let market : c.held-market.result ≡ seat_market w = c.held-market.ensures.lists ∙ market_made w c.args.proposers.lists.items c.args.reviewers.lists.items c.requires.proposers c.requires.reviewers in
-    rw (seating_made w (rows_of c.in_ok-lists.lists.items) c.held-market.result c.args.reviewers.seats.items c.in_ok-lists.ensures market c.requires.seats) (seating_kept c.requires.instance)
+    let market : c.in_ok-market.market.value ≡ seat_market w = c.in_ok-market.ensures.ok ∙ c.held-market.ensures.lists ∙ market_made w c.args.proposers.lists.items c.args.reviewers.lists.items c.requires.proposers c.requires.reviewers in
+    rw (seating_made w (rows_of c.in_ok-lists.lists.items) c.in_ok-market.market.value c.args.reviewers.seats.items c.in_ok-lists.ensures market c.requires.seats) (seating_kept c.requires.instance)
 
 pub returns : goal.returns
 returns c =
     let w = c.args.instance.now in
-    let market : c.held-market.result ≡ seat_market w = c.held-market.ensures.lists ∙ market_made w c.args.proposers.lists.items c.args.reviewers.lists.items c.requires.proposers c.requires.reviewers in
-    seating_made w (rows_of c.in_ok-lists.lists.items) c.held-market.result c.args.reviewers.seats.items c.in_ok-lists.ensures market c.requires.seats
+    let market : c.in_ok-market.market.value ≡ seat_market w = c.in_ok-market.ensures.ok ∙ c.held-market.ensures.lists ∙ market_made w c.args.proposers.lists.items c.args.reviewers.lists.items c.requires.proposers c.requires.reviewers in
+    seating_made w (rows_of c.in_ok-lists.lists.items) c.in_ok-market.market.value c.args.reviewers.seats.items c.in_ok-lists.ensures market c.requires.seats

@@ -8,19 +8,19 @@ use Rattle.sm_seats.proofs.seats.Seats.level.Goals as goal
 pub place_from-requires-clause-listed : goal.place_from-requires-clause-listed
 place_from-requires-clause-listed c =
     (place_read c.self.invariant c.args.p c.args.place c.reviewer_at.result c.list_at.result.now c.index.result.now
-    (subst (λ (s : Seating). c.args.place < length (row s.market.proposers c.args.p)) (sym c.self.view_is) c.requires.on_list) c.reviewer_at.ensures.named c.index.ensures
+    (subst (λ (s : Seating). c.args.place < length (row s.market.proposers c.args.p)) (sym c.self.view_is) c.requires.on_list) (rw c.as_ref.ensures at c.reviewer_at.ensures.named) c.index.ensures
     (c.list_at.ensures ∙ ap (λ v. row (rows_of v) c.args.p) c.deref.ensures.value)).listed
 
 pub overflow_add-result : goal.overflow_add-result
 overflow_add-result c =
     let it = place_read c.self.invariant c.args.p c.args.place c.reviewer_at.result c.list_at.result.now c.index.result.now
-    (subst (λ (s : Seating). c.args.place < length (row s.market.proposers c.args.p)) (sym c.self.view_is) c.requires.on_list) c.reviewer_at.ensures.named c.index.ensures
+    (subst (λ (s : Seating). c.args.place < length (row s.market.proposers c.args.p)) (sym c.self.view_is) c.requires.on_list) (rw c.as_ref.ensures at c.reviewer_at.ensures.named) c.index.ensures
     (c.list_at.ensures ∙ ap (λ v. row (rows_of v) c.args.p) c.deref.ensures.value) in
     omega (arith, c.place_from.ensures, it.listed, it.short)
 
 pub returns : goal.returns
 returns c =
     let it = place_read c.self.invariant c.args.p c.args.place c.reviewer_at.result c.list_at.result.now c.index.result.now
-    (subst (λ (s : Seating). c.args.place < length (row s.market.proposers c.args.p)) (sym c.self.view_is) c.requires.on_list) c.reviewer_at.ensures.named c.index.ensures
+    (subst (λ (s : Seating). c.args.place < length (row s.market.proposers c.args.p)) (sym c.self.view_is) c.requires.on_list) (rw c.as_ref.ensures at c.reviewer_at.ensures.named) c.index.ensures
     (c.list_at.ensures ∙ ap (λ v. row (rows_of v) c.args.p) c.deref.ensures.value) in
     ap (λ n. n + 1) (c.place_from.ensures ∙ it.is) ∙ ap (λ (s : Seating). written_place s c.args.p c.args.place + 1) c.self.view_is
