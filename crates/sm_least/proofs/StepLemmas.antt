@@ -1,18 +1,18 @@
 -- Steps by which what is held grows.
-use Rattle.std.proofs.Common.{◌≡◌, ℕ, ◌+◌, ◌<◌, ◌≤◌, ◌++◌, ◌∷◌, inl, inr, arith, refl, sym, ap, ◌∙◌, subst, List, [], length, Bool, true, slice_index, set, take, Contains}
+use Rattle.std.proofs.Common.{◌≡◌, ℕ, ◌+◌, ◌<◌, ◌≤◌, inl, inr, arith, refl, sym, ap, ◌∙◌, subst, List, [], length, Bool, true, slice_index, take, Contains}
 use Rattle.std.proofs.lemmas.Bool.{false≢true}
-use Rattle.std.proofs.lemmas.List.{length_push, take-take, get_or-take, take_all}
+use Rattle.std.proofs.lemmas.List.{take-take, get_or-take, take_all}
 use Rattle.sm_market.specs.Lists.{row}
 use Rattle.sm_lists.proofs.Counting.{eq_or_ne, lt_or_le}
 use Rattle.sm_theory.specs.ClosedSets.{IsMember}
 use Rattle.sm_theory.proofs.Bridge.Chain.{Decided-member}
 use Rattle.sm_theory.specs.Vectors.{IsOrder}
-use Rattle.sm_board.specs.Board.{Board, IsBoard, stay, stay_level, level, leave, is_shut, IsClosedIn, IsInside, Gates, IsOpen, Fits, Changes}
+use Rattle.sm_board.specs.Board.{Board, IsBoard, stay, stay_level, level, leave, is_shut, IsClosedIn, IsInside, Gates, IsOpen, Fits}
 use Rattle.sm_board.specs.Growing.{AreNeedsIn}
 use Rattle.sm_board.specs.Walks.{IsRaised, IsNotRaised}
 use Rattle.sm_board.specs.Courses.{Course, IsCourse, Held, IsHeld, Grows, IsBroken, Breaks}
 use Rattle.sm_least.specs.Steps.{IsHigh, IsIdle, AreOpened, AreSettled}
-use Rattle.sm_board.proofs.MemberLemmas.{entered, others_same, more_members}
+use Rattle.sm_board.proofs.MemberLemmas.{more_members}
 use Rattle.sm_board.proofs.BoardLemmas.{members_are_first}
 use Rattle.sm_board.proofs.GrowLemmas.{idle_stays, shut_leave_is_in, low_leave_is_in, log_fits, raise_finds, barred_changes_levels}
 use Rattle.sm_board.proofs.HeldLemmas.{contained_at, contains_at, on_or_off}

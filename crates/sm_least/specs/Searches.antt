@@ -4,7 +4,7 @@ use Rattle.std.specs.Prelude.{◌≡◌, ℕ, List}
 use Rattle.sm_market.specs.Vectors.{rows_of}
 use Rattle.sm_theory.specs.Values.{rotations_of}
 use Rattle.sm_poset.specs.Posets.{RotationPoset, poset_of, IsPoset}
-use Rattle.sm_board.specs.Board.{Board, IsClosedIn, Gates}
+use Rattle.sm_board.specs.Board.{IsClosedIn, Gates}
 use Rattle.sm_board.specs.BoardOf.{IsBoardFor}
 use Rattle.sm_board.specs.Courses.{Course, IsCourse, Held, IsHeld}
 use Rattle.sm_least.specs.Steps.{AreGatesOf}

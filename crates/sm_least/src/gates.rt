@@ -5,6 +5,8 @@ ghost use Rattle.sm_market.specs.Lists.{row};
 ghost use Rattle.sm_market.specs.Vectors.{rows_of};
 ghost use Rattle.sm_board.specs.Board.{Gates, IsBoard, is_shut};
 ghost use Rattle.sm_board.specs.BoardOf.{AreGates, AreInRange};
+ghost use Rattle.sm_lists.specs.Rows.{place_on};
+ghost use Rattle.sm_least.specs.Regrets.{rank_of_level, IsRanked, AreBelow, AreCut};
 ghost use Rattle.sm_least.specs.Steps.{AreGatesOf, IsNarrowed, AreShut, rows_in, AreRowsFor, AreAvoided, AreUnbounded, NeverFall, IsDivided};
 
 use sm_board::Board;
@@ -35,7 +37,7 @@ impl Model for Gates {
 }
 
 impl Gates {
-    /// Gates for the stays of a board.
+    /// Gates for the stays of a board, all of them shut.
     pub(crate) fn new(alloc: Global, board: &Board) -> Result<Gates, AllocError>
         requires { IsBoard board.now }
         ensures { IfOk result (λ gates. AreGatesOf board.now gates) }
@@ -45,7 +47,7 @@ impl Gates {
             low: vec![in alloc; 0; proposers]?,
             high: vec![in alloc; 0; proposers]?,
             until: vec![in alloc; 0; proposers]?,
-            shut: open_rows(alloc, board.all_levels())?,
+            shut: closed_rows(alloc, board.all_levels())?,
         })
     }
 
@@ -66,6 +68,24 @@ impl Gates {
             &mut self.shut,
             &mut self.until,
         );
+    }
+
+    /// Shuts the stays of matched proposers too whose ranks are above a bound, the ranks being those of their levels. Takes time in
+    /// proportion to the stays of matched proposers, and for each of them to the logarithm of its proposer's places.
+    pub(crate) fn shut_above(
+        &mut self,
+        board: &Board,
+        levels: &[Vec<u32>],
+        ranks: &[Vec<u32>],
+        bound: u32,
+    )
+        requires board { IsBoard board.now }
+        requires gates { AreGatesOf board.now self.old }
+        requires ranked { IsRanked board.now (rows_of levels.now) (rows_of ranks.now) }
+        ensures gates { AreGatesOf board.now self.new }
+        ensures open { AreBelow board.now (rows_of levels.now) (rows_of ranks.now) bound self.old self.new }
+    {
+        cut(board, levels, ranks, bound, &mut self.shut, &mut self.until);
     }
 
     /// Leaves open the stays whose levels lie within the bounds and meet the conditions, and no others. Takes time in
@@ -120,13 +140,15 @@ impl Gates {
     }
 }
 
-/// A mark for each stay of each proposer, with none shut.
-fn open_rows(alloc: Global, levels: &[Vec<u32>]) -> Result<Vec<Vec<bool>>, AllocError>
-    ensures { IfOk result (λ rows. AreRowsFor (rows_of levels.now) (rows_in rows.items)) }
+/// A mark for each stay of each proposer, with all shut.
+fn closed_rows(alloc: Global, levels: &[Vec<u32>]) -> Result<Vec<Vec<bool>>, AllocError>
+    ensures rows { IfOk result (λ rows. AreRowsFor (rows_of levels.now) (rows_in rows.items)) }
+    ensures shut { IfOk result (λ rows. (p a : ℕ) → p < length levels.now → a < length (row (rows_of levels.now) p)
+        → slice_index_or (slice_index_or (rows_in rows.items) p []) a false ≡ true) }
 {
     let mut rows = Vec::with_capacity(alloc, levels.len())?;
     for row in levels {
-        rows.push(vec![in alloc; false; row.len()]?)?;
+        rows.push(vec![in alloc; true; row.len()]?)?;
     }
     Ok(rows)
 }
@@ -338,6 +360,81 @@ fn shut_if(matched: bool, levels: &[u32], level: u32, shut: &mut [bool])
     if matched {
         shut_level(levels, level, shut);
     }
+}
+
+/// Shuts the stays of matched proposers too whose ranks are above a bound.
+fn cut(
+    board: &Board,
+    levels: &[Vec<u32>],
+    ranks: &[Vec<u32>],
+    bound: u32,
+    shut: &mut [Vec<bool>],
+    until: &mut [usize],
+)
+    requires board { IsBoard board.now }
+    requires gates { AreGatesOf board.now (record { until = until.old; shut = rows_in shut.old }) }
+    requires ranked { IsRanked board.now (rows_of levels.now) (rows_of ranks.now) }
+    ensures shut_each { length shut.new ≡ length shut.old }
+    ensures until_each { length until.new ≡ length until.old }
+    ensures gates { AreGatesOf board.now (record { until = until.new; shut = rows_in shut.new }) }
+    ensures open { AreBelow board.now (rows_of levels.now) (rows_of ranks.now) bound
+        (record { until = until.old; shut = rows_in shut.old }) (record { until = until.new; shut = rows_in shut.new }) }
+{
+    shut_ranks(board, levels, ranks, bound, shut);
+    find_last(shut, until);
+}
+
+/// Shuts the stays of matched proposers whose ranks are above a bound.
+fn shut_ranks(
+    board: &Board,
+    levels: &[Vec<u32>],
+    ranks: &[Vec<u32>],
+    bound: u32,
+    shut: &mut [Vec<bool>],
+)
+    requires board { IsBoard board.now }
+    requires ranked { IsRanked board.now (rows_of levels.now) (rows_of ranks.now) }
+    requires rows { AreRowsFor board.now.levels (rows_in shut.old) }
+    ensures { AreCut board.now (rows_of levels.now) (rows_of ranks.now) bound (length board.now.leaves) (rows_in shut.old) (rows_in shut.new) }
+{
+    for p in 0..board.proposers() {
+        if board.matched()[p] {
+            shut_row_above(
+                &board.all_levels()[p],
+                &levels[p],
+                &ranks[p],
+                bound,
+                &mut shut[p],
+            );
+        }
+    }
+}
+
+/// Shuts the stays of a proposer whose ranks are above a bound.
+fn shut_row_above(stays: &[u32], levels: &[u32], ranks: &[u32], bound: u32, shut: &mut [bool])
+    requires one_each { length shut.old ≡ length stays.now }
+    requires rising { NeverFall levels.now }
+    requires few { length ranks.now ≤ length levels.now }
+    requires some { (a : ℕ) → a < length stays.now → place_on levels.now (slice_index stays.now a) < length ranks.now }
+    ensures one_each { length shut.new ≡ length shut.old }
+    ensures shut { (a : ℕ) → a < length stays.now → (slice_index_or shut.new a false ≡ false)
+        ↔ (slice_index_or shut.old a false ≡ false) × (rank_of_level levels.now ranks.now (slice_index stays.now a) ≤ bound) }
+{
+    for a in 0..stays.len() {
+        if bound < rank_of(levels, ranks, stays[a]) {
+            shut[a] = true;
+        }
+    }
+}
+
+/// The rank of the places of a level that some place has, found by bisection.
+pub(crate) fn rank_of(levels: &[u32], ranks: &[u32], level: u32) -> u32
+    requires rising { NeverFall levels.now }
+    requires few { length ranks.now ≤ length levels.now }
+    requires some { place_on levels.now level < length ranks.now }
+    ensures { result ≡ rank_of_level levels.now ranks.now level }
+{
+    ranks[lower(levels, level)]
 }
 
 /// Finds the last open stay of each proposer.

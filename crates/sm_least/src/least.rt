@@ -8,12 +8,15 @@ ghost use Rattle.sm_theory.specs.ClosedSets.{IsClosed, matching_of};
 ghost use Rattle.sm_theory.specs.Vectors.{AreLevels, IsAllowed, IsWithin, IsOrder, level_vector_of};
 ghost use Rattle.sm_board.specs.Board.{IsBoard, Fits, IsLeast, IsClosedIn, level, members_in};
 ghost use Rattle.sm_board.specs.Growing.{IsLogOf};
+ghost use Rattle.sm_theory.specs.Weights.{regret_of};
 ghost use Rattle.sm_least.specs.Steps.{AreUnbounded};
+ghost use Rattle.sm_theory.specs.Regrets.{AreRanks, IsBestBelow};
+ghost use Rattle.sm_least.specs.Regrets.{IsRanked, AreAtStays, rank_now, greatest_of};
 ghost use Rattle.sm_board.specs.BoardOf.{AreInRange, IsLeastWithin, IsBestAllowed};
 ghost use Rattle.sm_board.specs.Walks.{IsRaised, IsNotRaised};
 ghost use Rattle.sm_least.specs.Searches.{IsSearch, IsSame, search_of};
 
-use crate::gates::Gates;
+use crate::gates::{Gates, rank_of};
 use crate::grow::{find, raise};
 use sm_board::{Board, Course, Held, make_board};
 use sm_market::Market;
@@ -83,8 +86,9 @@ impl Least {
     /// Makes ready to search the stable matchings of a poset, with levels for all places of each proposer and one for being
     /// unmatched, never falling along a list.
     ///
-    /// It keeps the market and the chain with the poset: these aren't copied. The levels are moved into it, and dropped where memory runs out. Takes time
-    /// and memory in proportion to the proposers, the pairs of the rotations and the predecessors.
+    /// It keeps the market and the chain with the poset: these aren't copied. The levels are moved into it, and dropped where
+    /// memory runs out. Takes time and memory in proportion to the proposers, the pairs of the rotations and the
+    /// predecessors.
     ///
     /// # Errors
     ///
@@ -138,6 +142,59 @@ impl Least {
     {
         self.gates.set(self.course.board(), low, high, conditions);
         find(&self.course, &self.gates, &mut self.held)
+    }
+
+    /// Looks for the stable matching that is best for every proposer among those that meet the conditions. True where there is
+    /// one, and its closed set is held then. False exactly where there is none.
+    ///
+    /// The conditions name proposers that there are. Takes no memory, and time as [`Least::least`].
+    pub fn best_allowed(&mut self, conditions: &Conditions) -> bool
+        requires forced { AreInRange (length self.old.poset.lists.proposers) conditions.now.forced.items }
+        requires forbidden { AreInRange (length self.old.poset.lists.proposers) conditions.now.forbidden.items }
+        ensures same { IsSame self.old self.new }
+        ensures found { result ≡ true → IsBestAllowed self.new.poset.lists self.new.levels conditions.now.forced.items conditions.now.forbidden.items
+            (matching_of self.new.poset.lists self.new.poset.first.places self.new.poset.rotations self.new.held.set) }
+        ensures none { result ≡ false → (m : Places) → IsStable self.new.poset.lists m
+            → ¬ IsAllowed self.new.levels conditions.now.forced.items conditions.now.forbidden.items m }
+    {
+        self.gates.set_unbounded(self.course.board(), conditions);
+        find(&self.course, &self.gates, &mut self.held)
+    }
+
+    /// Looks for the stable matching that is best for every proposer among those that meet the conditions and have a regret of at
+    /// most a bound. True where there is one, and its closed set is held then. False exactly where there is none.
+    ///
+    /// `ranks` has one item for each place of a proposer's list, and places of one level have equal ones. The regret is the
+    /// greatest of the ranks at which matched proposers stand. The conditions name proposers that there are. Takes no memory, and
+    /// time as [`Least::least`], and for each stay the logarithm of its proposer's places (Gusfield 1987).
+    pub fn least_below(&mut self, conditions: &Conditions, ranks: &[Vec<u32>], bound: u32) -> bool
+        requires ranks { AreRanks self.old.poset.lists self.old.levels (rows_of ranks.now) }
+        requires forced { AreInRange (length self.old.poset.lists.proposers) conditions.now.forced.items }
+        requires forbidden { AreInRange (length self.old.poset.lists.proposers) conditions.now.forbidden.items }
+        ensures same { IsSame self.old self.new }
+        ensures found { result ≡ true → IsBestBelow self.new.poset.lists self.new.levels (rows_of ranks.now) bound
+            conditions.now.forced.items conditions.now.forbidden.items
+            (matching_of self.new.poset.lists self.new.poset.first.places self.new.poset.rotations self.new.held.set) }
+        ensures none { result ≡ false → (m : Places) → IsStable self.new.poset.lists m
+            → IsAllowed self.new.levels conditions.now.forced.items conditions.now.forbidden.items m
+            → bound < regret_of self.new.poset.lists (rows_of ranks.now) m }
+    {
+        let board = self.course.board();
+        self.gates.set_unbounded(board, conditions);
+        self.gates.shut_above(board, &self.levels, ranks, bound);
+        find(&self.course, &self.gates, &mut self.held)
+    }
+
+    /// The regret of the matching of what is held: the greatest rank at which a matched proposer stands, and 0 where nobody is
+    /// matched.
+    ///
+    /// `ranks` is as for [`Least::least_below`]. Takes no memory, and for each proposer the logarithm of its places.
+    pub fn greatest(&self, ranks: &[Vec<u32>]) -> u32
+        requires { AreRanks self.now.poset.lists self.now.levels (rows_of ranks.now) }
+        ensures { result ≡ regret_of self.now.poset.lists (rows_of ranks.now)
+            (matching_of self.now.poset.lists self.now.poset.first.places self.now.poset.rotations self.now.held.set) }
+    {
+        greatest_rank(self.course.board(), &self.levels, ranks, self.held.levels())
     }
 
     /// Looks for the stable matching that is best for every proposer among those that meet the conditions, and takes an order of
@@ -249,6 +306,23 @@ impl Least {
         let _ = &self.market;
         self.held.levels()
     }
+}
+
+/// The greatest rank of the levels at which matched proposers stand, and 0 where nobody is matched.
+fn greatest_rank(board: &Board, levels: &[Vec<u32>], ranks: &[Vec<u32>], now: &[u32]) -> u32
+    requires board { IsBoard board.now }
+    requires few { length board.now.leaves < 2 ^ 32 }
+    requires ranked { IsRanked board.now (rows_of levels.now) (rows_of ranks.now) }
+    requires now { AreAtStays board.now now.now }
+    ensures { result ≡ greatest_of (rank_now board.now (rows_of levels.now) (rows_of ranks.now) now.now) (length board.now.leaves) }
+{
+    let mut greatest = 0;
+    for p in 0..board.proposers() {
+        if board.matched()[p] {
+            greatest = greatest.max(rank_of(&levels[p], &ranks[p], now[p]));
+        }
+    }
+    greatest
 }
 
 /// Writes the levels of all proposers in the matching of a set.

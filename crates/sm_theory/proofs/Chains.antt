@@ -2,5 +2,6 @@
 pub mod Lattice
 pub mod Rotations
 pub mod Sets
+pub mod Places
 pub mod Marks
 pub mod Links

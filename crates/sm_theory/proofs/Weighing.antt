@@ -2,3 +2,4 @@
 pub mod Totals
 pub mod Weights
 pub mod Lightest
+pub mod Regrets

@@ -7,11 +7,14 @@ pub mod ClosedSets
 pub mod Vectors
 pub mod Listings
 pub mod Weights
+pub mod StablePlaces
+pub mod Regrets
 pub mod Laws
 pub mod Rooms
 pub mod Partitions
 pub mod LawsRooms
 pub mod LawsListing
+pub mod LawsPairs
 pub mod Net
 pub mod Flows
 pub mod Conditions

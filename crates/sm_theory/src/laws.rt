@@ -1,10 +1,11 @@
-//! The laws of the lattice of stable matchings, of rotations and of closed sets, of flows and the lightest matching, of
-//! roommates, and of listings. Each function does nothing: its contract is the law, a statement over the definitions alone, for all markets
-//! and all matchings.
+//! The laws of the lattice of stable matchings, of rotations and of closed sets, of stable pairs and regrets, of flows and
+//! the lightest matching, of roommates, and of listings. Each function does nothing: its contract is the law, a statement
+//! over the definitions alone, for all markets and all matchings.
 
 ghost use Rattle.sm_market.specs.Laws.{SameAgents};
 ghost use Rattle.sm_theory.specs.LawsFlows.{NoFlowAboveCut, ReachIsLeastCut, CutsAreAllowed, LeastCutIsLightest, ReachIsBestLightest, PathWhereNothing};
 ghost use Rattle.sm_theory.specs.LawsListing.{SetsAreOrdered, MovesFollow, NextMoveIsIn, JoinKeepsBounds, VectorsAreOrdered, NextVector, ListingExists, OneListing, ListingResumes};
+ghost use Rattle.sm_theory.specs.LawsPairs.{StablePlaces, RegretByBound};
 ghost use Rattle.sm_theory.specs.LawsRooms.{OddPartyExcludes, SameOddParties, SamePersons, PartiesPair, EvenPartiesPair, RestIsStable};
 ghost use Rattle.sm_theory.specs.Laws.{MeetIsStable, JoinIsStable, PairIsDivided, Dichotomy, EliminationIsStable, NothingExposed, NothingExposedBack, BestIsUnique, PredecessorIsEarlier, SetsAreMatchings, ExposedWhereReady, AllInTheChain, MeetKeepsBounds, WeightIsSumOfGains, LevelsDetermine};
 
@@ -210,4 +211,15 @@ pub fn one_listing()
 /// A listing that goes on from where another ended makes with it the listing up to both limits.
 pub fn listing_resumes()
     ensures { ListingResumes }
+{}
+
+/// A proposer has a place in some stable matching exactly where it is its first place or a rotation moves it there
+/// (Gusfield and Irving 1989, section 2.5).
+pub fn stable_places()
+    ensures { StablePlaces }
+{}
+
+/// A matching has a regret of at most a bound exactly where it holds no pair of a rank above the bound (Gusfield 1987).
+pub fn regret_by_bound()
+    ensures { RegretByBound }
 {}
