@@ -6,6 +6,8 @@
 #![tactic(auto)]
 
 #[cfg(test)]
+mod lattice;
+#[cfg(test)]
 mod made;
 #[cfg(test)]
 mod tests;

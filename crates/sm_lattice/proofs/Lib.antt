@@ -1,0 +1,4 @@
+pub mod LevelLemmas
+pub mod HalvingLemmas
+pub mod ChoiceLemmas
+pub mod FaultLemmas
