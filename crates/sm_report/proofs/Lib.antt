@@ -2,3 +2,12 @@ pub mod PutLemmas
 pub mod WitnessLemmas
 pub mod ItemLemmas
 pub mod VectorLemmas
+pub mod FieldLemmas
+pub mod DecimalLemmas
+pub mod InverseLemmas
+pub mod FreeLemmas
+pub mod FieldInverses
+pub mod HeadInverses
+pub mod LineInverses
+pub mod FreeLines
+pub mod ReadLemmas

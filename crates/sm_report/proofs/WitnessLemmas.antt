@@ -1,23 +1,37 @@
 -- The texts of specs/Witnesses.antt, computed.
 use Rattle.std.proofs.Common.{refl}
 use Rattle.std.specs.Fmt as fmt
-use Rattle.sm_report.specs.Witnesses.{MarriageTexts, HospitalTexts, RoomTexts, NumberTexts, HeadTexts}
+use Rattle.sm_report.specs.Meanings.{left_in, right_in, one_of, two_of, three_of, headed_of, items_in, bare_in, head_in}
+use Rattle.sm_report.specs.Witnesses.{MarriageTexts, HospitalTexts, RoomTexts, NumberTexts, HeadTexts, BadTexts, BadSeats, BadRooms}
 
 pub marriage_texts : MarriageTexts
-unfolding fmt.digits
-marriage_texts = refl
+unfolding fmt.digits left_in right_in one_of two_of three_of headed_of items_in bare_in head_in
+marriage_texts = (refl, refl)
 
 pub hospital_texts : HospitalTexts
-unfolding fmt.digits
-hospital_texts = refl
+unfolding fmt.digits left_in right_in one_of two_of three_of headed_of items_in bare_in head_in
+hospital_texts = (refl, refl)
 
 pub room_texts : RoomTexts
-room_texts = refl
+unfolding left_in right_in one_of two_of three_of headed_of items_in bare_in head_in
+room_texts = (refl, refl)
 
 pub number_texts : NumberTexts
-unfolding fmt.digits
-number_texts = refl
+unfolding fmt.digits left_in right_in one_of two_of three_of headed_of items_in bare_in head_in
+number_texts = (refl, refl)
 
 pub head_texts : HeadTexts
-unfolding fmt.digits
-head_texts = refl
+unfolding fmt.digits left_in right_in one_of two_of three_of headed_of items_in bare_in head_in
+head_texts = (refl, refl)
+
+pub bad_texts : BadTexts
+unfolding left_in right_in one_of two_of three_of headed_of items_in bare_in head_in
+bad_texts = refl
+
+pub bad_seats : BadSeats
+unfolding left_in right_in one_of two_of three_of headed_of items_in bare_in head_in
+bad_seats = refl
+
+pub bad_rooms : BadRooms
+unfolding left_in right_in one_of two_of three_of headed_of items_in bare_in head_in
+bad_rooms = refl

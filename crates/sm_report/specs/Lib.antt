@@ -8,3 +8,5 @@ pub mod Fields
 pub mod Witnesses
 pub mod Items
 pub mod Vectors
+pub mod Meanings
+pub mod Reading

@@ -35,10 +35,10 @@ pub(crate) enum Field<'a> {
 }
 
 /// Where a flow begins.
-const SOURCE: u32 = 0;
+pub(crate) const SOURCE: u32 = 0;
 
 /// Where a flow ends.
-const SINK: u32 = u32::MAX;
+pub(crate) const SINK: u32 = u32::MAX;
 
 /// Puts fields, each behind a space.
 pub(crate) fn put_fields(

@@ -6,16 +6,27 @@
 //! whether an answer is right is shown elsewhere.
 #![tactic(auto)]
 
+mod faults;
+mod field_readers;
 mod fields;
+mod fields_of;
+mod head_reader;
 mod heads;
 mod items;
+pub mod laws;
+mod line_readers;
 mod lines;
+mod list_readers;
 mod printing;
+mod reading;
 mod reasons;
 mod vectors;
 pub mod witnesses;
+mod words;
 
+pub use faults::LineFault;
 pub use heads::Head;
 pub use lines::{Line, Seat};
 pub use printing::{put_line, put_text};
+pub use reading::read_line;
 pub use vectors::vector;

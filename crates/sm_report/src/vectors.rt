@@ -1,10 +1,11 @@
 //! Vectors read from their texts.
 
-ghost use Rattle.std.specs.Prelude.{◌≡◌, ◌<◌, ◌∷◌, [], IfOk, MatchOption, length, option_map};
-ghost use Rattle.std.specs.List.{slice_split, position};
+ghost use Rattle.std.specs.Prelude.{◌≡◌, ◌==◌, ◌<◌, ◌∷◌, [], IfOk, MatchOption, length, option_map};
+ghost use Rattle.std.specs.List.{slice_split, position, position_or_len, before_first, after_first};
 ghost use Rattle.sm_text.specs.Numbers.{number_of};
 ghost use Rattle.sm_report.specs.Vectors.{most_in_vector, is_comma, numbers_in, vector_in};
 
+use crate::fields_of::is;
 use sm_text::number;
 use std::alloc::{AllocError, Global};
 
@@ -19,10 +20,17 @@ use std::alloc::{AllocError, Global};
 pub fn vector(alloc: Global, text: &str) -> Result<Option<Vec<u32>>, AllocError>
     ensures { IfOk result (λ found. vector_in text.now ≡ option_map (λ v. v.items) found) }
 {
-    if text == "-" {
+    vector_in(alloc, text.as_bytes())
+}
+
+/// The vector that bytes spell, as [`vector`] says.
+pub(crate) fn vector_in(alloc: Global, text: &[u8]) -> Result<Option<Vec<u32>>, AllocError>
+    ensures { IfOk result (λ found. vector_in text.now ≡ option_map (λ v. v.items) found) }
+{
+    if is(text, b"-") {
         return Ok(Some(Vec::new(alloc)));
     }
-    numbers_in(alloc, text.as_bytes())
+    numbers_in(alloc, text)
 }
 
 // The numbers that a text spells with commas between them.
@@ -31,7 +39,7 @@ fn numbers_in(alloc: Global, text: &[u8]) -> Result<Option<Vec<u32>>, AllocError
 {
     let mut numbers = Vec::new(alloc);
     let mut rest = text;
-    'parts: while let Some((part, behind)) = cut_at_comma(rest) {
+    'parts: while let Some((part, behind)) = cut_at(rest, b',') {
         match small_number(part) {
             Some(n) => numbers.push(n)?,
             None => return Ok(None),
@@ -47,27 +55,29 @@ fn numbers_in(alloc: Global, text: &[u8]) -> Result<Option<Vec<u32>>, AllocError
     }
 }
 
-// What stands before the first comma, and what behind it.
-fn cut_at_comma(text: &[u8]) -> Option<(&[u8], &[u8])>
-    ensures { MatchOption result (slice_split is_comma text.now ≡ text.now ∷ [])
-        (λ x. (slice_split is_comma text.now ≡ x.0.now ∷ slice_split is_comma x.1.now) × (length x.1.now < length text.now)) }
+/// What stands before the first byte that is a mark, and what behind it.
+pub(crate) fn cut_at(text: &[u8], mark: u8) -> Option<(&[u8], &[u8])>
+    ensures parts { MatchOption result (slice_split (λ b. b == mark) text.now ≡ text.now ∷ [])
+        (λ x. (slice_split (λ b. b == mark) text.now ≡ x.0.now ∷ slice_split (λ b. b == mark) x.1.now) × (length x.1.now < length text.now)) }
+    ensures ends { MatchOption result (position_or_len (λ b. b == mark) text.now ≡ length text.now)
+        (λ x. (x.0.now ≡ before_first (λ b. b == mark) text.now) × (x.1.now ≡ after_first (λ b. b == mark) text.now)) }
 {
     let len = text.len();
-    match comma_at(text) {
+    match mark_at(text, mark) {
         Some(at) => Some((&text[..at], &text[at + 1..len])),
         None => None,
     }
 }
 
-// The place of the first comma.
-fn comma_at(text: &[u8]) -> Option<usize>
-    ensures { result ≡ position is_comma text.now }
+// The place of the first byte that is a mark.
+fn mark_at(text: &[u8], mark: u8) -> Option<usize>
+    ensures { result ≡ position (λ b. b == mark) text.now }
 {
-    text.iter().position(|b| *b == b',')
+    text.iter().position(|b| *b == mark)
 }
 
-// The number that a text spells, where it has 32 bits.
-fn small_number(text: &[u8]) -> Option<u32>
+/// The number that a text spells, where it has 32 bits.
+pub(crate) fn small_number(text: &[u8]) -> Option<u32>
     ensures { result ≡ number_of text.now most_in_vector }
 {
     match number(text, u64::from(u32::MAX)) {

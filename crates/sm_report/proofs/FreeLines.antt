@@ -1,0 +1,191 @@
+-- No field of a line of an input holds a space, so the fields of its text are the line's.
+use Rattle.std.proofs.Common.{◌≡◌, ℕ, zero, suc, ◌-◌, ◌<◌, ◌≤◌, ◌^◌, ◌==◌, if◌then◌else◌, Bool, true, false, List, [], ◌∷◌, ◌++◌, map, All, get_or, Some, None, refl, ap, ◌∙◌, arith, codes, decimal, ℤ, pos, negsuc}
+use Rattle.std.specs.Fmt.{signed_decimal}
+use Rattle.std.specs.Int.RustNames.{unsigned_abs}
+use Rattle.std.specs.List.{flat_map, list_all, join_with_byte}
+use Rattle.std.proofs.lemmas.List.Elements.{All-head, All-tail}
+use Rattle.std.proofs.lemmas.List.Folds.{list_all-append}
+use Rattle.std.proofs.lemmas.Option.{none-some}
+use Rattle.sm_instance.specs.Inputs.{IsInput, kind_of}
+use Rattle.sm_instance.specs.declared.inputs.Input.{Input}
+use Rattle.sm_instance.specs.declared.kinds.Kind.{Kind}
+use Rattle.sm_instance.specs.declared.kinds.Kind.TheVariants.{Marriage, Hospitals, Roommates}
+use Rattle.sm_instance.specs.declared.kinds.Side.TheVariants.{Proposers, Reviewers}
+use Rattle.sm_instance.specs.declared.kinds.Measure.TheVariants.{Ranks, Given}
+use Rattle.sm_report.specs.declared.lines.Seat.{Seat}
+use Rattle.sm_report.specs.Heads.{HeadData}
+use Rattle.sm_report.specs.Lines.{LineData}
+use Rattle.sm_report.specs.Reasons.{reasons, name_of_reason}
+use Rattle.sm_report.specs.Sound.{IsLineOf, IsLeft, IsRight, IsSmall, IsLarge, IsRotation, IsLimit, IsSeatNumber, IsHeadOf}
+use Rattle.sm_report.specs.Texts.{left_name, right_name, seat_text, seat_text_in, listed, lefts, seats, seated_pairs, numbers, vector_text, end_text, limit_text, fields_of, fields_of_head, text_of_line, SOURCE, SINK}
+use Rattle.sm_report.specs.Meanings.{fields_in, line_in, headed_of}
+use Rattle.sm_report.proofs.DecimalLemmas.{both_true, first_true, second_true}
+use Rattle.sm_report.proofs.FreeLemmas.{is_free, free-append, split_joined}
+use Rattle.sm_report.proofs.FieldInverses.{left_is_name, right_is_name, name_without_space, digits_without}
+use Rattle.sm_report.proofs.LineInverses.{All-of_map, line_again}
+
+-- fields that hold no space
+abbrev are_free : List (List ℕ) → Bool
+are_free fields = list_all (is_free 32) fields
+
+free_one : (a : List ℕ) → is_free 32 a ≡ true → are_free (a ∷ []) ≡ true
+free_one a h = both_true (is_free 32 a) true h refl
+
+free_on : (a : List ℕ) (more : List (List ℕ)) → is_free 32 a ≡ true → are_free more ≡ true → are_free (a ∷ more) ≡ true
+free_on a more h k = both_true (is_free 32 a) (are_free more) h k
+
+free_listed : (fields : List (List ℕ)) → are_free fields ≡ true → are_free (listed fields) ≡ true
+free_listed [] h = refl
+free_listed (x ∷ xs) h = h
+
+free_map : {X : Type 0} (S : X → Type 0) (w : X → List ℕ) → ((x : X) → S x → is_free 32 (w x) ≡ true) → (xs : List X) → All S xs → are_free (map w xs) ≡ true
+free_map S w free [] h = refl
+free_map S w free (x ∷ xs) h = free_on (w x) (map w xs) (free x (All-head S x xs h)) (free_map S w free xs (All-tail S x xs h))
+
+free_flat_map : {X : Type 0} (S : X → Type 0) (w : X → List (List ℕ)) → ((x : X) → S x → are_free (w x) ≡ true) → (xs : List X) → All S xs → are_free (flat_map w xs) ≡ true
+free_flat_map S w free [] h = refl
+free_flat_map S w free (x ∷ xs) h =
+    list_all-append (is_free 32) (w x) (flat_map w xs) ∙ both_true (are_free (w x)) (are_free (flat_map w xs)) (free x (All-head S x xs h)) (free_flat_map S w free xs (All-tail S x xs h))
+
+-- numbers
+free_number : (n : ℕ) → n < 2 ^ 64 → is_free 32 (decimal n) ≡ true
+free_number n small = digits_without 32 refl n small
+
+free_small : (n : ℕ) → IsSmall n → is_free 32 (decimal n) ≡ true
+free_small n small = let h : n < 2 ^ 32 = small in free_number n (omega arith)
+
+free_rotation : (n : ℕ) → IsRotation n → is_free 32 (decimal n) ≡ true
+free_rotation n h = free_number n (omega (arith, h.greatest))
+
+free_signed : (z : ℤ) → unsigned_abs z ≤ 9223372036854775807 → is_free 32 (signed_decimal z) ≡ true
+free_signed (pos n) h = free_number n (omega (arith, h))
+free_signed (negsuc n) h = free_number (suc n) (omega (arith, h))
+
+free_end : (n : ℕ) → IsSmall n → is_free 32 (end_text n) ≡ true
+free_end n small = by_source (n == SOURCE) (n == SINK) where
+  by_source : (a b : Bool) → is_free 32 (if a then codes "S" else (if b then codes "T" else decimal n)) ≡ true
+  by_source true b = refl
+  by_source false true = refl
+  by_source false false = free_small n small
+
+free_at : (xs : List (List ℕ)) (i : ℕ) → are_free xs ≡ true → is_free 32 (get_or xs i []) ≡ true
+free_at [] i h = refl
+free_at (x ∷ xs) zero h = first_true (is_free 32 x) (are_free xs) h
+free_at (x ∷ xs) (suc i) h = free_at xs i (second_true (is_free 32 x) (are_free xs) h)
+
+free_reason : (n : ℕ) → is_free 32 (name_of_reason n) ≡ true
+free_reason n = free_at reasons (n - 1) refl
+
+free_joined : (x : List ℕ) (xs : List (List ℕ)) → are_free (x ∷ xs) ≡ true → is_free 32 (join_with_byte 44 (x ∷ xs)) ≡ true
+free_joined x [] h = first_true (is_free 32 x) true h
+free_joined x (y ∷ ys) h =
+    free-append 32 x (44 ∷ join_with_byte 44 (y ∷ ys)) (first_true (is_free 32 x) (are_free (y ∷ ys)) h) (free_joined y ys (second_true (is_free 32 x) (are_free (y ∷ ys)) h))
+
+free_vector : (v : List ℕ) → All IsSmall v → is_free 32 (vector_text v) ≡ true
+free_vector [] h = refl
+free_vector (n ∷ ns) h = free_joined (decimal n) (map decimal ns) (free_map IsSmall decimal free_small (n ∷ ns) h)
+
+-- first lines
+free_limit : (n : ℕ) → IsLimit n → is_free 32 (limit_text n) ≡ true
+free_limit n h = free-append 32 (codes "limit=") (decimal n) refl (free_number n (omega (arith, h.greatest)))
+
+free_head : (kind : Kind) (head : HeadData) → IsHeadOf kind head → are_free (fields_of_head head) ≡ true
+free_head kind (HeadData.Solve None) h = refl
+free_head kind (HeadData.Solve (Some Proposers)) h = refl
+free_head kind (HeadData.Solve (Some Reviewers)) h = refl
+free_head kind HeadData.Reduced h = refl
+free_head kind HeadData.Rotations h = refl
+free_head kind HeadData.Pairs h = refl
+free_head kind (HeadData.List None limit) h = free_one (limit_text limit) (free_limit limit h.1)
+free_head kind (HeadData.List (Some v) limit) h =
+    free_on (codes "after=" ++ vector_text v) (limit_text limit ∷ []) (free-append 32 (codes "after=") (vector_text v) refl (free_vector v h.0)) (free_one (limit_text limit) (free_limit limit h.1))
+free_head kind HeadData.Regret h = refl
+free_head kind (HeadData.Weight Ranks) h = refl
+free_head kind (HeadData.Weight Given) h = refl
+free_head kind HeadData.Meet h = refl
+free_head kind HeadData.Join h = refl
+free_head kind (HeadData.Survey limit) h = free_one (limit_text limit) (free_limit limit h)
+free_head kind HeadData.Check h = refl
+
+-- seats
+free_seat_in : (kind : Kind) (name : List ℕ) (n : ℕ) → is_free 32 name ≡ true → IsSeatNumber kind n → is_free 32 (seat_text_in kind name n) ≡ true
+free_seat_in Marriage name n h k = h
+free_seat_in Hospitals name n h k = let small : n < 2 ^ 32 = k.1 in free-append 32 (name ++ codes "/") (decimal n) (free-append 32 name (codes "/") h refl) (free_number n (omega arith))
+free_seat_in Roommates name n h k = h
+
+-- the lines of an input
+module _ (input : Input) (sound : IsInput input) where
+  free_left : (p : ℕ) → IsLeft input p → is_free 32 (left_name input p) ≡ true
+  free_left p h = name_without_space (left_name input p) (left_is_name input sound p h)
+
+  free_right : (r : ℕ) → IsRight input r → is_free 32 (right_name input r) ≡ true
+  free_right r h = name_without_space (right_name input r) (right_is_name input sound r h)
+
+  free_seat : (s : Seat) → IsRight input s.reviewer → IsSeatNumber (kind_of input) s.number → is_free 32 (seat_text input s) ≡ true
+  free_seat s h k = free_seat_in (kind_of input) (right_name input s.reviewer) s.number (free_right s.reviewer h) k
+
+  free_pair : (p r : ℕ) → IsLeft input p → IsRight input r → are_free (left_name input p ∷ right_name input r ∷ []) ≡ true
+  free_pair p r h k = free_on (left_name input p) (right_name input r ∷ []) (free_left p h) (free_one (right_name input r) (free_right r k))
+
+  free_seated : (p : ℕ) (s : Seat) → IsLeft input p → IsRight input s.reviewer → IsSeatNumber (kind_of input) s.number → are_free (left_name input p ∷ seat_text input s ∷ []) ≡ true
+  free_seated p s h k l = free_on (left_name input p) (seat_text input s ∷ []) (free_left p h) (free_one (seat_text input s) (free_seat s k l))
+
+  free_lefts : (ps : List ℕ) → All (IsLeft input) ps → are_free (lefts input ps) ≡ true
+  free_lefts ps h = free_listed (map (left_name input) ps) (free_map (IsLeft input) (left_name input) free_left ps h)
+
+  free_numbers : (S : ℕ → Type 0) → ((n : ℕ) → S n → is_free 32 (decimal n) ≡ true) → (ns : List ℕ) → All S ns → are_free (numbers ns) ≡ true
+  free_numbers S free ns h = free_listed (map decimal ns) (free_map S decimal free ns h)
+
+  one_number : (s : Seat) → All (λ (y : Seat). IsSeatNumber (kind_of input) y.number) (s ∷ []) → IsSeatNumber (kind_of input) s.number
+  one_number s h = All-head (λ (y : Seat). IsSeatNumber (kind_of input) y.number) s [] h
+
+  free_line : (line : LineData) → IsLineOf input line → are_free (fields_of input line) ≡ true
+  free_line (LineData.Answer head) s = free_head (kind_of input) head s.head
+  free_line (LineData.Pair p r) s = free_pair p r s.printable.0 s.printable.1
+  free_line LineData.Nothing s = refl
+  free_line (LineData.Party persons) s = free_lefts persons s.printable
+  free_line (LineData.First p to) s = free_seated p to s.printable.0 s.printable.1 (one_number to s.seats)
+  free_line (LineData.Last p to) s = free_seated p to s.printable.0 s.printable.1 (one_number to s.seats)
+  free_line (LineData.ProposerList p list) s =
+      free_on (left_name input p) (seats input list) (free_left p s.printable.0)
+      (free_listed (map (seat_text input) list)
+      (free_map (λ (x : Seat). IsRight input x.reviewer × IsSeatNumber (kind_of input) x.number) (seat_text input) (λ x h. free_seat x h.0 h.1) list (λ k d below. (s.printable.1 k d below, s.seats k d below))))
+  free_line (LineData.ReviewerList of list) s = free_on (seat_text input of) (lefts input list) (free_seat of s.printable.0 (one_number of s.seats)) (free_lefts list s.printable.1)
+  free_line (LineData.Rotation i pairs) s =
+      free_on (decimal i) (seated_pairs input pairs) (free_rotation i s.numbers)
+      (free_listed (flat_map (λ (pair : ℕ × Seat). left_name input pair.0 ∷ seat_text input pair.1 ∷ []) pairs)
+      (free_flat_map (λ (x : ℕ × Seat). (IsLeft input x.0 × IsRight input x.1.reviewer) × IsSeatNumber (kind_of input) x.1.number) (λ (pair : ℕ × Seat). left_name input pair.0 ∷ seat_text input pair.1 ∷ [])
+      (λ x h. free_seated x.0 x.1 h.0.0 h.0.1 h.1) pairs
+      (λ k d below. (s.printable k d below, All-of_map (λ (y : Seat). IsSeatNumber (kind_of input) y.number) (λ (pair : ℕ × Seat). pair.1) pairs s.seats k d below))))
+  free_line (LineData.Needs i needed) s = free_on (decimal i) (numbers needed) (free_rotation i s.numbers.0) (free_numbers IsRotation free_rotation needed s.numbers.1.each)
+  free_line (LineData.Gain i gain) s = free_on (decimal i) (signed_decimal gain ∷ []) (free_rotation i s.numbers.0) (free_one (signed_decimal gain) (free_signed gain s.numbers.1))
+  free_line (LineData.Flow from to amount) s =
+      free_on (end_text from) (end_text to ∷ decimal amount ∷ []) (free_end from s.numbers.0)
+      (free_on (end_text to) (decimal amount ∷ []) (free_end to s.numbers.1) (free_one (decimal amount) (free_number amount s.numbers.2)))
+  free_line (LineData.Taken taken) s = free_numbers IsRotation free_rotation taken s.numbers.each
+  free_line (LineData.Value value) s = free_one (decimal value) (free_number value s.numbers)
+  free_line (LineData.Cut value) s = free_one (decimal value) (free_number value s.numbers)
+  free_line (LineData.Total weight) s = free_one (signed_decimal weight) (free_signed weight s.numbers)
+  free_line (LineData.SomePair p r) s = free_pair p r s.printable.0 s.printable.1
+  free_line (LineData.AllPair p r) s = free_pair p r s.printable.0 s.printable.1
+  free_line (LineData.Vector v) s = free_one (vector_text v) (free_vector v s.numbers)
+  free_line (LineData.More v) s = free_one (vector_text v) (free_vector v s.numbers)
+  free_line (LineData.Regret regret) s = free_one (decimal regret) (free_small regret s.numbers)
+  free_line (LineData.LeftPair p r) s = free_pair p r s.printable.0 s.printable.1
+  free_line (LineData.RightPair p r) s = free_pair p r s.printable.0 s.printable.1
+  free_line (LineData.Listed count) s = free_one (decimal count) (free_small count s.numbers)
+  free_line (LineData.TallyLine tag figures) s = free_on (decimal tag) (numbers figures) (free_small tag s.numbers.0) (free_numbers IsLarge free_number figures s.numbers.1)
+  free_line LineData.Yes s = refl
+  free_line (LineData.No at reason) s = free_on (decimal at) (name_of_reason reason ∷ []) (free_small at s.numbers) (free_one (name_of_reason reason) (free_reason reason))
+  free_line LineData.End s = refl
+
+  -- the fields of a line's text are the line's
+  cut_again : (fields : List (List ℕ)) (line : LineData) → line_in input fields ≡ Some line → are_free fields ≡ true → fields_in (join_with_byte 32 fields) ≡ fields
+  unfolding headed_of
+  cut_again [] line e h = absurd (none-some line e)
+  cut_again (x ∷ xs) line e h = split_joined 32 x xs h
+
+  pub text_again : (line : LineData) → IsLineOf input line → line_in input (fields_in (text_of_line input line)) ≡ Some line
+  text_again line s =
+      let again = line_again input sound line s in
+      ap (line_in input) (cut_again (fields_of input line) line again (free_line line s)) ∙ again

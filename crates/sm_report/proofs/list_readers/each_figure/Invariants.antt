@@ -1,0 +1,8 @@
+use Rattle.std.proofs.Common.{◌≡◌, ◌++◌, drop, option_map}
+use Rattle.sm_report.specs.Vectors.{each_in}
+use Rattle.sm_report.specs.Meanings.{texts_of, large_in}
+use Rattle.sm_report.proofs.list_readers.each_figure.Given as goal
+
+-- what the items so far spell, and what those that are left do
+abbrev pub invariant-loop-item : goal.invariant-loop-item
+invariant-loop-item l = option_map (λ xs. l.found.items ++ xs) (each_in large_in (texts_of (drop l.item-index l.items))) ≡ each_in large_in (texts_of l.items)

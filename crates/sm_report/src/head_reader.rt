@@ -1,0 +1,147 @@
+//! The first lines of answers, read.
+
+ghost use Rattle.std.specs.Prelude.{◌≡◌, IfOk, MatchOption, option_map};
+ghost use Rattle.sm_report.specs.Heads.{head_of};
+ghost use Rattle.sm_report.specs.Meanings.{look_up, texts_of, behind, limit_in, after_in, sides, measures, bare_heads, bare_head_in, side_in, operand_head_in, list_head_in, head_in};
+
+use crate::field_readers::number_within;
+use crate::fields_of::is;
+use crate::heads::Head;
+use crate::vectors::vector_in;
+use sm_instance::{Kind, Measure, Side};
+use std::alloc::{AllocError, Global};
+
+/// The bounds of a limit.
+const LEAST_LIMIT: u32 = 1;
+
+const MOST_LIMIT: u32 = 1_000_000;
+
+/// What the fields behind `answer` say: a command with its operands.
+#[tactic(auto, unfolding(crate::specs::Meanings::head_in))]
+pub(crate) fn head_in(
+    alloc: Global,
+    kind: Kind,
+    fields: &[&[u8]],
+) -> Result<Option<Head>, AllocError>
+    ensures { IfOk result (λ found. head_in kind (texts_of fields.now) ≡ option_map head_of found) }
+{
+    match fields {
+        [] => Ok(None),
+        [command] => Ok(bare_head_in(kind, command)),
+        [command, operand] => Ok(operand_head_in(kind, command, operand)),
+        [command, after, limit] => list_head_in(alloc, command, after, limit),
+        _ => Ok(None),
+    }
+}
+
+// A command without operands.
+fn bare_head_in(kind: Kind, command: &[u8]) -> Option<Head>
+    ensures { bare_head_in kind command.now ≡ option_map head_of result }
+{
+    if kind == Kind::Roommates && is(command, b"solve") {
+        Some(Head::Solve(None))
+    } else if is(command, b"reduced") {
+        Some(Head::Reduced)
+    } else if is(command, b"rotations") {
+        Some(Head::Rotations)
+    } else if is(command, b"pairs") {
+        Some(Head::Pairs)
+    } else if is(command, b"regret") {
+        Some(Head::Regret)
+    } else if is(command, b"meet") {
+        Some(Head::Meet)
+    } else if is(command, b"join") {
+        Some(Head::Join)
+    } else if is(command, b"check") {
+        Some(Head::Check)
+    } else {
+        None
+    }
+}
+
+// A command with one operand.
+fn operand_head_in(kind: Kind, command: &[u8], operand: &[u8]) -> Option<Head>
+    ensures { operand_head_in kind command.now operand.now ≡ option_map head_of result }
+{
+    if is(command, b"solve") {
+        Some(Head::Solve(Some(side_in(kind, operand)?)))
+    } else if is(command, b"weight") {
+        Some(Head::Weight(measure_in(operand)?))
+    } else if is(command, b"list") {
+        Some(Head::List(None, limit_in(operand)?))
+    } else if is(command, b"survey") {
+        Some(Head::Survey(limit_in(operand)?))
+    } else {
+        None
+    }
+}
+
+// `list` with the vector behind which it begins, and its limit.
+fn list_head_in(
+    alloc: Global,
+    command: &[u8],
+    after: &[u8],
+    limit: &[u8],
+) -> Result<Option<Head>, AllocError>
+    ensures { IfOk result (λ found. list_head_in command.now after.now limit.now ≡ option_map head_of found) }
+{
+    if !is(command, b"list") {
+        return Ok(None);
+    }
+    match (after_in(alloc, after)?, limit_in(limit)) {
+        (Some(after), Some(limit)) => Ok(Some(Head::List(Some(after), limit))),
+        _ => Ok(None),
+    }
+}
+
+// The side that an operand of `solve` names, which an instance with two sides alone has.
+fn side_in(kind: Kind, operand: &[u8]) -> Option<Side>
+    ensures { result ≡ side_in kind operand.now }
+{
+    if kind == Kind::Roommates {
+        None
+    } else if is(operand, b"side=proposers") {
+        Some(Side::Proposers)
+    } else if is(operand, b"side=reviewers") {
+        Some(Side::Reviewers)
+    } else {
+        None
+    }
+}
+
+// The measure that an operand of `weight` names.
+fn measure_in(operand: &[u8]) -> Option<Measure>
+    ensures { result ≡ look_up measures operand.now }
+{
+    if is(operand, b"by=ranks") {
+        Some(Measure::Ranks)
+    } else if is(operand, b"by=given") {
+        Some(Measure::Given)
+    } else {
+        None
+    }
+}
+
+// The limit that an operand gives.
+fn limit_in(operand: &[u8]) -> Option<u32>
+    ensures { result ≡ limit_in operand.now }
+{
+    number_within(behind(operand, b"limit=")?, LEAST_LIMIT, MOST_LIMIT)
+}
+
+// The vector that an operand gives.
+fn after_in(alloc: Global, operand: &[u8]) -> Result<Option<Vec<u32>>, AllocError>
+    ensures { IfOk result (λ found. after_in operand.now ≡ option_map (λ v. v.items) found) }
+{
+    match behind(operand, b"after=") {
+        Some(text) => vector_in(alloc, text),
+        None => Ok(None),
+    }
+}
+
+// What stands behind an operand's name and `=`.
+fn behind<'a>(operand: &'a [u8], name: &[u8]) -> Option<&'a [u8]>
+    ensures { MatchOption result (behind name.now operand.now ≡ None) (λ x. behind name.now operand.now ≡ Some x.now) }
+{
+    operand.strip_prefix(name)
+}

@@ -1,0 +1,15 @@
+//! The laws of lines and their texts. Each function does nothing: its contract is the law, a statement over the
+//! definitions alone, for all instances and all lines.
+
+ghost use Rattle.sm_report.specs.Reading.{OneLineHasIt, PutIsReadAgain};
+
+/// Two lines of an instance that have one text are the same line.
+pub fn one_line_has_a_text()
+    ensures { OneLineHasIt }
+{}
+
+/// What was put for a line of an instance is the text of that line and of no other, so that [`crate::read_line`] reads
+/// the line again.
+pub fn what_was_put_is_read()
+    ensures { PutIsReadAgain }
+{}
