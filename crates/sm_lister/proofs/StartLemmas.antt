@@ -10,7 +10,7 @@ use Rattle.sm_board.specs.Courses.{Course, IsCourse, Held, IsHeld}
 use Rattle.sm_least.specs.Steps.{AreGatesOf, AreUnbounded}
 use Rattle.sm_least.proofs.SearchLemmas.{nothing_excluded}
 use Rattle.sm_lister.specs.declared.walk.Walk.{Walk}
-use Rattle.sm_lister.specs.Walking.{AreSkips, AreTurns, SkipsNoTurn, IsWalking}
+use Rattle.sm_lister.specs.Walking.{AreSkips, AreFirstChanges, SkipsNoFirstChange, IsWalking}
 use Rattle.sm_lister.specs.Listers.{IsLister}
 
 -- a rotation changes the level first at no other position than its own
@@ -25,9 +25,9 @@ first_is {t} x j course less on f = go (less_same_more (slice_index t.first x) j
     go (inr (inl e)) = e
     go (inr (inr behind)) = absurd (own.none_before j behind (f.changes on))
 
--- where positions with a turn are marked, skips that pass over none of these are right
-pub are_skips : {t : Course} (turns : List Bool) (skip : List ℕ) → IsCourse t → IsOrder (length t.board.leaves) t.order → length turns ≡ length t.board.leaves → AreTurns t (length t.board.needs) turns → length skip ≡ length turns + 1 → SkipsNoTurn turns skip → AreSkips t.board t.order skip
-are_skips {t} turns skip course order each turned long skips d x = record {
+-- where the positions of first changes are marked, skips that pass over none of these are right
+pub are_skips : {t : Course} (changes : List Bool) (skip : List ℕ) → IsCourse t → IsOrder (length t.board.leaves) t.order → length changes ≡ length t.board.leaves → AreFirstChanges t (length t.board.needs) changes → length skip ≡ length changes + 1 → SkipsNoFirstChange changes skip → AreSkips t.board t.order skip
+are_skips {t} changes skip course order each turned long skips d x = record {
   low = (skips d x).0;
   none = λ j y le less f.
       let on : j < length t.order = omega (arith, order.long) in

@@ -42,13 +42,13 @@ abbrev pub AreSkips : Board → (order skip : List ℕ) → Type 0
 AreSkips b order skip = (d : ℕ) → d < length skip → IsSkip b order d (slice_index skip d)
 
 -- the positions are marked that are the first whose level one of the first i rotations changes
-abbrev pub AreTurns : Course → ℕ → List Bool → Type 0
-AreTurns t i turns = (x j : ℕ) → x < i → j < length turns → slice_index t.first x ≡ j → slice_index_or turns j false ≡ true
+abbrev pub AreFirstChanges : Course → ℕ → List Bool → Type 0
+AreFirstChanges t i changes = (x j : ℕ) → x < i → j < length changes → slice_index t.first x ≡ j → slice_index_or changes j false ≡ true
 
 -- from each of these depths on, up to the one that it is for, no position is marked
-abbrev pub SkipsNoTurn : (turns : List Bool) → (skip : List ℕ) → Type 0
-SkipsNoTurn turns skip = (d : ℕ) → d < length skip → (slice_index skip d ≤ d)
-    × ((j : ℕ) → slice_index skip d ≤ j → j < d → slice_index_or turns j false ≡ false)
+abbrev pub SkipsNoFirstChange : (changes : List Bool) → (skip : List ℕ) → Type 0
+SkipsNoFirstChange changes skip = (d : ℕ) → d < length skip → (slice_index skip d ≤ d)
+    × ((j : ℕ) → slice_index skip d ≤ j → j < d → slice_index_or changes j false ≡ false)
 
 -- none of the sets that fit is behind a cursor
 abbrev pub NoneLeft : Course → Gates → Option (List ℕ) → Type 0

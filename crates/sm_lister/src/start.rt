@@ -5,7 +5,7 @@ ghost use Rattle.sm_theory.specs.Vectors.{IsOrder};
 ghost use Rattle.sm_board.specs.Board.{Gates as PlainGates, Fits, IsLeast};
 ghost use Rattle.sm_board.specs.Courses.{Held as PlainHeld, IsHeld};
 ghost use Rattle.sm_least.specs.Steps.{AreGatesOf};
-ghost use Rattle.sm_lister.specs.Walking.{cursor_of, AreSkips, IsWalking, AreTurns, SkipsNoTurn};
+ghost use Rattle.sm_lister.specs.Walking.{cursor_of, AreSkips, IsWalking, AreFirstChanges, SkipsNoFirstChange};
 
 use crate::walk::Walk;
 use sm_board::Course;
@@ -52,44 +52,44 @@ fn skips(alloc: Global, course: &Course) -> Result<Vec<u32>, AllocError>
     ensures skip_each { IfOk result (λ skip. length skip.items ≡ length course.now.board.leaves + 1) }
     ensures skips { IfOk result (λ skip. AreSkips course.now.board course.now.order skip.items) }
 {
-    let mut turns = vec![in alloc; false; course.proposers() as usize]?;
-    note_turns(course, &mut turns);
-    skips_of(alloc, &turns)
+    let mut changes = vec![in alloc; false; course.proposers() as usize]?;
+    note_first_changes(course, &mut changes);
+    skips_of(alloc, &changes)
 }
 
 /// Marks the positions that are the first whose level some rotation changes.
-fn note_turns(course: &Course, turns: &mut [bool])
-    requires { length turns.old ≡ length course.now.board.leaves }
-    ensures turn_each { length turns.new ≡ length turns.old }
-    ensures turns { AreTurns course.now (length course.now.board.needs) turns.new }
+fn note_first_changes(course: &Course, changes: &mut [bool])
+    requires { length changes.old ≡ length course.now.board.leaves }
+    ensures change_each { length changes.new ≡ length changes.old }
+    ensures changes { AreFirstChanges course.now (length course.now.board.needs) changes.new }
 {
     for &position in course.first_positions() {
-        note_turn(turns, position);
+        note_first_change(changes, position);
     }
 }
 
 /// Marks a position, where there is one.
-fn note_turn(turns: &mut [bool], position: u32)
-    ensures turn_each { length turns.new ≡ length turns.old }
-    ensures marked { position < length turns.old → slice_index_or turns.new position false ≡ true }
-    ensures others { (j : ℕ) → slice_index_or turns.old j false ≡ true → slice_index_or turns.new j false ≡ true }
+fn note_first_change(changes: &mut [bool], position: u32)
+    ensures change_each { length changes.new ≡ length changes.old }
+    ensures marked { position < length changes.old → slice_index_or changes.new position false ≡ true }
+    ensures others { (j : ℕ) → slice_index_or changes.old j false ≡ true → slice_index_or changes.new j false ≡ true }
 {
-    if (position as usize) < turns.len() {
-        turns[position as usize] = true;
+    if (position as usize) < changes.len() {
+        changes[position as usize] = true;
     }
 }
 
-/// For each depth the one behind the last position before it that has a turn.
-fn skips_of(alloc: Global, turns: &[bool]) -> Result<Vec<u32>, AllocError>
-    requires { length turns.now < 2 ^ 32 }
-    ensures skip_each { IfOk result (λ skip. length skip.items ≡ length turns.now + 1) }
-    ensures skips { IfOk result (λ skip. SkipsNoTurn turns.now skip.items) }
+/// For each depth the one behind the last position before it that is marked.
+fn skips_of(alloc: Global, changes: &[bool]) -> Result<Vec<u32>, AllocError>
+    requires { length changes.now < 2 ^ 32 }
+    ensures skip_each { IfOk result (λ skip. length skip.items ≡ length changes.now + 1) }
+    ensures skips { IfOk result (λ skip. SkipsNoFirstChange changes.now skip.items) }
 {
-    let mut skip = Vec::with_capacity(alloc, turns.len() + 1)?;
+    let mut skip = Vec::with_capacity(alloc, changes.len() + 1)?;
     skip.push(0)?;
     let mut last = 0;
-    for d in 0..turns.len() as u32 {
-        if turns[d as usize] {
+    for d in 0..changes.len() as u32 {
+        if changes[d as usize] {
             last = d + 1;
         }
         skip.push(last)?;
