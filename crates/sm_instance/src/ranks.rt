@@ -56,8 +56,9 @@ impl Instance {
         weight
     }
 
-    // The rank that the reviewer at a place of a proposer's list gives the proposer.
-    fn rank_back(&self, p: u32, place: u32) -> u32
+    /// The rank that the reviewer at a place of a proposer's list gives the proposer, from 1. The two have to be acceptable
+    /// to each other. Takes the same time for all.
+    pub fn rank_back(&self, p: u32, place: u32) -> u32
         requires in_range { p < length self.now.proposers }
         requires on_list { place < length (row self.now.proposers p) }
         requires acceptable { IsAcceptable self.now p (entry self.now.proposers p place) }

@@ -58,11 +58,6 @@ printed_joined input Q lines w = record {
   sound = λ other j. w.sound other (joined_behind Q other j);
 }
 
-pub rest_behind : (input : Input) (head : Option Line) (vectors : VectorLines) → head ≡ None → HasRest (IsListLeft input head vectors) → HasRest (IsPrinted input (IsLeftOf vectors.over vectors.lister vectors.left))
-rest_behind input head vectors e h =
-    let left = subst (λ o. IsListLeft input o vectors h.lines) e h.given in
-    record { lines = h.lines; given = printed_behind input _ h.lines left.printed }
-
 -- what there is with the first line in front
 with_head : (input : Input) (line : Line) (vectors : VectorLines) (head : Option Line) → head ≡ Some line → HasRest (IsListLeft input head vectors) → HasRest (IsListLeft input (Some line) vectors)
 with_head input line vectors head e h = record { lines = h.lines; given = subst (λ o. IsListLeft input o vectors h.lines) e h.given }

@@ -49,7 +49,7 @@ given_is {w} {s} h m side st =
     (ap (lines_from (seated_pair_line s m) 0) count ∙ lines_alike (seated_pair_line s m) (pair_line w (written_of s m.proposers)) (pair_alike h m st) 0 (length w.proposers))
 
 -- a pair of a matching is a line of the instance
-pair_sound : (w : Written) (places : List (Option ℕ)) → IsMatching w places → (p : ℕ) → All (IsLineOf (Two w)) (line_or_none (pair_line w places p))
+pub pair_sound : (w : Written) (places : List (Option ℕ)) → IsMatching w places → (p : ℕ) → All (IsLineOf (Two w)) (line_or_none (pair_line w places p))
 pair_sound w places m p = by_place (held places p) refl
   where
     by_place : (o : Option ℕ) → held places p ≡ o → All (IsLineOf (Two w)) (line_or_none (option_map (λ i. LineData.Pair p (entry w.proposers p i)) o))

@@ -1,4 +1,4 @@
--- Inputs of either kind: what is judged of them, and the answers of `solve`.
+-- Inputs of either kind: what is judged of them, and the answers of `solve` and `regret`.
 use Rattle.std.proofs.Common.{◌≡◌, ◌≢◌, ℕ, cond, Bool, true, false, List, [], ◌∷◌, Option, None, Some, Result, Ok, Err, inl, inr, refl, sym, ap, ◌∙◌, subst}
 use Rattle.std.specs.Option.{unwrap_or}
 use Rattle.sm_answer.specs.Printing.{IsShown}
@@ -12,16 +12,18 @@ use Rattle.sm_instance.specs.declared.kinds.Kind.TheVariants.{Marriage, Hospital
 use Rattle.sm_instance.specs.declared.kinds.Side.{Side}
 use Rattle.sm_instance.specs.declared.kinds.Side.TheVariants.{Proposers}
 use Rattle.sm_reader.specs.InstanceText.{ReadText, Refusal}
-use Rattle.sm_words.specs.Jobs.{JobData, Solve, Reduced, Rotations}
+use Rattle.sm_words.specs.Jobs.{JobData, Solve, Reduced, Rotations, Pairs, Regret}
 use Rattle.sm_shown.specs.Answers.{IsSolution}
+use Rattle.sm_report.specs.Lines.{LineData}
+use Rattle.sm_partners.specs.RegretAnswer.{IsRegretAnswer, IsNoneAllowed}
 use Rattle.sm_rooming.specs.RoomAnswer.{IsMatched, IsUnmatchable}
 use Rattle.sm_top.specs.declared.status.Status.{Status}
 use Rattle.sm_top.specs.declared.status.Status.TheVariants.{Done, NoneExists}
 use Rattle.sm_top.specs.Texts.{RefusalData, plain}
 use Rattle.sm_top.specs.Accepting.{is_two_sided, takes_kind, wrong_kind, too_many_in, too_many_seats, first_refusal, judged, accepted, IsTooMany, IsUnaccepted}
-use Rattle.sm_top.specs.Outcome.{IsSolved, IsAnswer, IsOwnRefusal, IsRefused, not_accepted, by_job}
+use Rattle.sm_top.specs.Outcome.{IsSolved, IsRegretted, IsAnswerOver, IsOwnRefusal, IsRefused, not_accepted, by_job}
 use Rattle.sm_top.specs.Wrote.{Wrote, With}
-use Rattle.sm_top.proofs.WritingLemmas.{wrote_for}
+use Rattle.sm_top.proofs.WritingLemmas.{wrote_for, wrote_shown}
 
 -- Instances with two sides: every job takes them.
 
@@ -36,6 +38,8 @@ takes_two (Solve (Some side)) kind two = two_sided kind two
 takes_two Reduced kind two = two_sided kind two
 takes_two Rotations kind two = two_sided kind two
 takes_two (JobData.List after limit) kind two = two_sided kind two
+takes_two Pairs kind two = two_sided kind two
+takes_two Regret kind two = two_sided kind two
 
 -- so their seats alone are judged
 seats_judged : (job : JobData) (read : ReadText) (w : Written) → read.input ≡ Two w → w.kind ≢ Roommates → judged job read ≡ first_refusal (too_many_seats read ∷ []) read
@@ -83,33 +87,39 @@ pub room_accepted : (job : JobData) (bytes : List ℕ) (read : ReadText) (person
     → accepted job bytes ≡ Ok read
 room_accepted job bytes read persons is before taken = before ∙ kind_judged job read persons is ∙ ap (λ t. cond t (Ok read) (Err (WrongKind, read.header_line))) taken
 
--- The answers of `solve`.
+-- The answers of `solve` and `regret`.
 
 -- an answer is right for a job
-pub solved_answer : (side : Option Side) (bytes : List ℕ) (read : ReadText) (a b : Option (List ℕ)) (f g : ℕ) (status : Status) → accepted (Solve side) bytes ≡ Ok read
-    → Wrote (λ s. IsShown read.input (IsSolved side read.input s)) a b f g status → Wrote (IsAnswer (Solve side) bytes) a b f g status
-solved_answer side bytes read a b f g status ok =
-    wrote_for (λ s. IsShown read.input (IsSolved side read.input s)) (IsAnswer (Solve side) bytes) a b f g status (λ s lines shown. record { read = read; ok = ok; shown = shown })
+pub answer_over : (job : JobData) (bytes : List ℕ) (read : ReadText) (right : Input → Status → List LineData → Type 0) (a b : Option (List ℕ)) (f g : ℕ) (status : Status) → accepted job bytes ≡ Ok read
+    → Wrote (λ s. IsShown read.input (right read.input s)) a b f g status → Wrote (λ s lines. IsAnswerOver job bytes (λ read. right read.input s) lines) a b f g status
+answer_over job bytes read right a b f g status ok =
+    wrote_for (λ s. IsShown read.input (right read.input s)) (λ s lines. IsAnswerOver job bytes (λ read. right read.input s) lines) a b f g status (λ s lines shown. record { read = read; ok = ok; shown = shown })
 
 pub two_solved : (side : Option Side) (input : Input) (w : Written) (a b : Option (List ℕ)) (f g : ℕ) (status : Status) → input ≡ Two w
     → Wrote (With Done (IsShown input (IsSolution (unwrap_or side Proposers) w))) a b f g status → Wrote (λ s. IsShown input (IsSolved side input s)) a b f g status
 two_solved side input w a b f g status is =
-    wrote_for (With Done (IsShown input (IsSolution (unwrap_or side Proposers) w))) (λ s. IsShown input (IsSolved side input s)) a b f g status
-    (λ s lines h. record {
-      answer = h.given_lines.answer;
-      is_right = subst (λ (input : Input). IsSolved side input s h.given_lines.answer) (sym is) (h.same, h.given_lines.is_right);
-      shows = h.given_lines.shows;
-    })
+    let right : List LineData → Type 0 = IsSolution (unwrap_or side Proposers) w in
+    wrote_shown Done (IsShown input right) input right (IsSolved side input) a b f g status (λ lines shown. shown)
+    (λ answer h. subst (λ (input : Input). IsSolved side input Done answer) (sym is) (refl, h))
 
 -- roommates with a stable matching, and such without
 pub room_solved : (input : Input) (persons : List AgentData) (gives : List (List ℕ) → Type 0) (a b : Option (List ℕ)) (f g : ℕ) (status : Status) → input ≡ Room persons
     → ((lines : List (List ℕ)) → gives lines → IsShown input (IsMatched persons) lines) → Wrote (With Done gives) a b f g status → Wrote (λ s. IsShown input (IsSolved None input s)) a b f g status
 room_solved input persons gives a b f g status is right =
-    wrote_for (With Done gives) (λ s. IsShown input (IsSolved None input s)) a b f g status
-    (λ s lines h. let shown = right lines h.given_lines in record { answer = shown.answer; is_right = subst (λ (input : Input). IsSolved None input s shown.answer) (sym is) (inl (h.same, shown.is_right)); shows = shown.shows })
+    wrote_shown Done gives input (IsMatched persons) (IsSolved None input) a b f g status right (λ answer h. subst (λ (input : Input). IsSolved None input Done answer) (sym is) (inl (refl, h)))
 
 pub room_unsolved : (input : Input) (persons : List AgentData) (gives : List (List ℕ) → Type 0) (a b : Option (List ℕ)) (f g : ℕ) (status : Status) → input ≡ Room persons
     → ((lines : List (List ℕ)) → gives lines → IsShown input (IsUnmatchable persons) lines) → Wrote (With NoneExists gives) a b f g status → Wrote (λ s. IsShown input (IsSolved None input s)) a b f g status
 room_unsolved input persons gives a b f g status is right =
-    wrote_for (With NoneExists gives) (λ s. IsShown input (IsSolved None input s)) a b f g status
-    (λ s lines h. let shown = right lines h.given_lines in record { answer = shown.answer; is_right = subst (λ (input : Input). IsSolved None input s shown.answer) (sym is) (inr (h.same, shown.is_right)); shows = shown.shows })
+    wrote_shown NoneExists gives input (IsUnmatchable persons) (IsSolved None input) a b f g status right (λ answer h. subst (λ (input : Input). IsSolved None input NoneExists answer) (sym is) (inr (refl, h)))
+
+-- instances with an allowed stable matching, and such without
+pub two_regretted : (input : Input) (w : Written) (gives : List (List ℕ) → Type 0) (a b : Option (List ℕ)) (f g : ℕ) (status : Status) → input ≡ Two w
+    → ((lines : List (List ℕ)) → gives lines → IsShown input (IsRegretAnswer w) lines) → Wrote (With Done gives) a b f g status → Wrote (λ s. IsShown input (IsRegretted input s)) a b f g status
+two_regretted input w gives a b f g status is right =
+    wrote_shown Done gives input (IsRegretAnswer w) (IsRegretted input) a b f g status right (λ answer h. subst (λ (input : Input). IsRegretted input Done answer) (sym is) (inl (refl, h)))
+
+pub two_unallowed : (input : Input) (w : Written) (gives : List (List ℕ) → Type 0) (a b : Option (List ℕ)) (f g : ℕ) (status : Status) → input ≡ Two w
+    → ((lines : List (List ℕ)) → gives lines → IsShown input (IsNoneAllowed w) lines) → Wrote (With NoneExists gives) a b f g status → Wrote (λ s. IsShown input (IsRegretted input s)) a b f g status
+two_unallowed input w gives a b f g status is right =
+    wrote_shown NoneExists gives input (IsNoneAllowed w) (IsRegretted input) a b f g status right (λ answer h. subst (λ (input : Input). IsRegretted input NoneExists answer) (sym is) (inr (refl, h)))

@@ -13,7 +13,7 @@ use Rattle.sm_instance.specs.declared.inputs.Input.TheVariants.{Two, Room}
 use Rattle.sm_instance.specs.declared.kinds.Side.{Side}
 use Rattle.sm_reader.specs.InstanceText.{ReadText, instance_text}
 use Rattle.sm_report.specs.Lines.{LineData}
-use Rattle.sm_words.specs.Jobs.{JobData, Solve, Reduced, Rotations}
+use Rattle.sm_words.specs.Jobs.{JobData, Solve, Reduced, Rotations, Pairs, Regret}
 use Rattle.sm_words.specs.Words.{words_meaning}
 use Rattle.sm_top.specs.declared.status.Status.{Status}
 use Rattle.sm_top.specs.declared.status.Status.TheVariants.{Refused, Usage, OutOfMemory, ReadFault, WriteFault}
@@ -22,7 +22,7 @@ use Rattle.sm_top.specs.declared.stop.Stop.TheVariants as stop
 use Rattle.sm_top.specs.Texts.{RefusalData, plain, usage_line, refused_line}
 use Rattle.sm_top.specs.Stops.{StopsBy}
 use Rattle.sm_top.specs.Accepting.{accepted, behind_text}
-use Rattle.sm_top.specs.Outcome.{OfTwo, IsSolved, IsAnswerOver, IsAnswer, IsRefused, Outcome, not_accepted, faulty_words, refused, answered}
+use Rattle.sm_top.specs.Outcome.{OfTwo, IsSolved, IsRegretted, IsAnswerOver, IsAnswer, IsRefused, Outcome, not_accepted, faulty_words, refused, answered}
 use Rattle.sm_top.specs.Input.{IsReadWhole, ReadWhole, IsTooLong}
 use Rattle.sm_top.specs.Running.{IsBeingRead, Ends, Answers, AnswersAccepted, reads, asks_to_read, is_whole, is_answer, is_too_long}
 use Rattle.sm_top.specs.Steps.{IsRefusalFor, IsRefusal, IsReadFault, Serves, ServesWords, SaysStop}
@@ -155,11 +155,19 @@ solved_status side (Two w) status answer h = ap is_answer h.0
 solved_status side (Room persons) status answer (inl h) = ap is_answer h.0
 solved_status side (Room persons) status answer (inr h) = ap is_answer h.0
 
+-- and of a right answer to `regret`
+regretted_status : (input : Input) (status : Status) (answer : List LineData) → IsRegretted input status answer → is_answer status ≡ true
+regretted_status (Two w) status answer (inl h) = ap is_answer h.0
+regretted_status (Two w) status answer (inr h) = ap is_answer h.0
+regretted_status (Room persons) status answer h = absurd h
+
 answer_status : (job : JobData) (bytes : List ℕ) (status : Status) (lines : List (List ℕ)) → IsAnswer job bytes status lines → is_answer status ≡ true
 answer_status (Solve side) bytes status lines h = solved_status side h.read.input status h.shown.answer h.shown.is_right
 answer_status Reduced bytes status lines h = ap is_answer h.0
 answer_status Rotations bytes status lines h = ap is_answer h.0
 answer_status (JobData.List after limit) bytes status lines h = ap is_answer h.0
+answer_status Pairs bytes status lines h = ap is_answer h.0
+answer_status Regret bytes status lines h = regretted_status h.read.input status h.shown.answer h.shown.is_right
 
 answer_whole : (status : Status) → is_answer status ≡ true → is_whole status ≡ true
 answer_whole (Refused kind at) h = refl

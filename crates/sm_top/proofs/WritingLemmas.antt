@@ -1,8 +1,11 @@
 -- What is written with a status.
-use Rattle.std.proofs.Common.{ℕ, List, ◌++◌, take, drop, Option, refl}
+use Rattle.std.proofs.Common.{ℕ, List, ◌++◌, take, drop, Option, refl, sym, subst}
 use Rattle.std.proofs.Math.ListN.{take-append-drop}
 use Rattle.sm_io.specs.Faults.{Rose}
+use Rattle.sm_answer.specs.Printing.{IsShown}
 use Rattle.sm_answer.specs.Writing.{text_of, WroteAll, WroteFront}
+use Rattle.sm_instance.specs.declared.inputs.Input.{Input}
+use Rattle.sm_report.specs.Lines.{LineData}
 use Rattle.sm_top.specs.declared.status.Status.{Status}
 use Rattle.sm_top.specs.declared.status.Status.TheVariants.{OutOfMemory, WriteFault}
 use Rattle.sm_top.specs.Running.{IsText, IsFront}
@@ -54,3 +57,11 @@ wrote_for P Q a b f g status to w = record { text = w.text; grows = w.grows; end
 pub wrote_given : (given : Status) (P Q : List (List ℕ) → Type 0) (a b : Option (List ℕ)) (f g : ℕ) (status : Status)
     → ((lines : List (List ℕ)) → P lines → Q lines) → Wrote (With given P) a b f g status → Wrote (With given Q) a b f g status
 wrote_given given P Q a b f g status to = wrote_for (With given P) (With given Q) a b f g status (λ s lines w. record { same = w.same; given_lines = to lines w.given_lines })
+
+-- lines that show an answer of one form show one of several, with its status
+pub wrote_shown : (given : Status) (gives : List (List ℕ) → Type 0) (input : Input) (right : List LineData → Type 0) (R : Status → List LineData → Type 0) (a b : Option (List ℕ)) (f g : ℕ) (status : Status)
+    → ((lines : List (List ℕ)) → gives lines → IsShown input right lines) → ((answer : List LineData) → right answer → R given answer)
+    → Wrote (With given gives) a b f g status → Wrote (λ s. IsShown input (R s)) a b f g status
+wrote_shown given gives input right R a b f g status shows to =
+    wrote_for (With given gives) (λ s. IsShown input (R s)) a b f g status
+    (λ s lines h. let shown = shows lines h.given_lines in record { answer = shown.answer; is_right = subst (λ (s : Status). R s shown.answer) (sym h.same) (to shown.answer shown.is_right); shows = shown.shows })

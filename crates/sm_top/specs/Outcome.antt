@@ -9,7 +9,7 @@ use Rattle.sm_instance.specs.declared.kinds.Side.TheVariants.{Proposers}
 use Rattle.sm_reader.specs.InstanceText.{ReadText}
 use Rattle.sm_report.specs.Lines.{LineData}
 use Rattle.sm_text.specs.declared.refusal.RefusalKind.TheVariants.{BadCursor}
-use Rattle.sm_words.specs.Jobs.{JobData, Solve, Reduced, Rotations}
+use Rattle.sm_words.specs.Jobs.{JobData, Solve, Reduced, Rotations, Pairs, Regret}
 use Rattle.sm_words.specs.Words.{words_meaning}
 use Rattle.sm_top.specs.declared.status.Status.{Status}
 use Rattle.sm_top.specs.declared.status.Status.TheVariants.{Done, Refused, Usage, NoneExists}
@@ -19,6 +19,8 @@ use Rattle.sm_shown.specs.Answers.{IsSolution}
 use Rattle.sm_shown.specs.Reduction.{IsReduction}
 use Rattle.sm_shown.specs.RotationAnswer.{IsRotationAnswer}
 use Rattle.sm_listing.specs.ListAnswer.{IsCursor, IsListAnswer}
+use Rattle.sm_partners.specs.PairsAnswer.{IsPairsAnswer}
+use Rattle.sm_partners.specs.RegretAnswer.{IsRegretAnswer, IsNoneAllowed}
 use Rattle.sm_rooming.specs.RoomAnswer.{IsMatched, IsUnmatchable}
 
 -- a right answer for an instance with two sides
@@ -30,6 +32,11 @@ OfTwo right (Room persons) answer = ⊥
 abbrev pub IsSolved : Option Side → Input → Status → List LineData → Type 0
 IsSolved side (Two w) status answer = (status ≡ Done) × IsSolution (unwrap_or side Proposers) w answer
 IsSolved side (Room persons) status answer = ((status ≡ Done) × IsMatched persons answer) ⊎ ((status ≡ NoneExists) × IsUnmatchable persons answer)
+
+-- a right answer to `regret`, with its status: a matching of the least regret, or `none` where no stable matching is allowed
+abbrev pub IsRegretted : Input → Status → List LineData → Type 0
+IsRegretted (Two w) status answer = ((status ≡ Done) × IsRegretAnswer w answer) ⊎ ((status ≡ NoneExists) × IsNoneAllowed w answer)
+IsRegretted (Room persons) status answer = ⊥
 
 -- an input was accepted for a job, and the lines are those of a right answer
 pub record IsAnswerOver (job : JobData) (bytes : List ℕ) (right : ReadText → List LineData → Type 0) (lines : List (List ℕ)) : Type 0 where
@@ -44,6 +51,8 @@ IsAnswer Reduced bytes status lines = (status ≡ Done) × IsAnswerOver Reduced 
 IsAnswer Rotations bytes status lines = (status ≡ Done) × IsAnswerOver Rotations bytes (λ read. OfTwo IsRotationAnswer read.input) lines
 IsAnswer (JobData.List after limit) bytes status lines =
     (status ≡ Done) × IsAnswerOver (JobData.List after limit) bytes (λ read. OfTwo (IsListAnswer after limit) read.input) lines
+IsAnswer Pairs bytes status lines = (status ≡ Done) × IsAnswerOver Pairs bytes (λ read. OfTwo IsPairsAnswer read.input) lines
+IsAnswer Regret bytes status lines = IsAnswerOver Regret bytes (λ read. IsRegretted read.input status) lines
 
 -- a cursor that hasn't an item for each proposer is refused, at no line
 abbrev pub IsBadCursor : Option (List ℕ) → Input → RefusalData → Type 0
@@ -56,6 +65,8 @@ IsOwnRefusal (Solve side) bytes read refusal = ⊥
 IsOwnRefusal Reduced bytes read refusal = ⊥
 IsOwnRefusal Rotations bytes read refusal = ⊥
 IsOwnRefusal (JobData.List after limit) bytes read refusal = IsBadCursor after read.input refusal
+IsOwnRefusal Pairs bytes read refusal = ⊥
+IsOwnRefusal Regret bytes read refusal = ⊥
 
 -- an input is refused
 pub data IsRefused (job : JobData) (bytes : List ℕ) (refusal : RefusalData) : Type 0 where

@@ -11,7 +11,8 @@ ghost use Rattle.sm_top.specs.Seated.{IsSeated};
 ghost use Rattle.sm_shown.specs.Answers.{IsSolution};
 ghost use Rattle.sm_listing.specs.ListAnswer.{IsCursor, IsListAnswer};
 ghost use Rattle.sm_listing.specs.Started.{cursor_in};
-ghost use Rattle.sm_top.specs.Outcome.{IsSolved, IsAnswer, IsBadCursor, IsOwnRefusal, IsRefused};
+ghost use Rattle.sm_partners.specs.PairsAnswer.{IsPairsAnswer};
+ghost use Rattle.sm_top.specs.Outcome.{IsSolved, IsRegretted, IsAnswer, IsBadCursor, IsOwnRefusal, IsRefused};
 ghost use Rattle.sm_shown.specs.Reduction.{IsReduction};
 ghost use Rattle.sm_shown.specs.RotationAnswer.{IsRotationAnswer};
 ghost use Rattle.sm_top.specs.Stops.{StopsBy};
@@ -24,6 +25,7 @@ use crate::writing::write;
 use sm_instance::{Input, Instance, Persons, Side};
 use sm_io::Sink;
 use sm_listing::{list_lines, start_list};
+use sm_partners::{find_pairs, find_regret, none_lines, pairs_lines, regret_lines};
 use sm_reader::Read;
 use sm_rooming::{RoomSolution, couple_lines, find_roommates, party_lines};
 use sm_seats::Seats;
@@ -109,6 +111,8 @@ fn perform_on_seats<K: Sink>(
         Job::Reduced => Ok(reduce(alloc, given, sink)?),
         Job::Rotations => Ok(show_rotations(alloc, given, sink)?),
         Job::List(after, limit) => list(alloc, given, after, *limit, sink),
+        Job::Pairs => Ok(show_pairs(alloc, given, sink)?),
+        Job::Regret => Ok(show_regret(alloc, given, sink)?),
     }
 }
 
@@ -132,9 +136,12 @@ fn perform_on_persons<K: Sink>(
     let _ = bytes;
     match job {
         Job::Solve(None) => Ok(solve_roommates(alloc, &read.input, persons, sink)?),
-        Job::Solve(Some(_)) | Job::Reduced | Job::Rotations | Job::List(_, _) => {
-            Err(Stop::Refused(RefusalKind::WrongKind, read.header_line))
-        }
+        Job::Solve(Some(_))
+        | Job::Reduced
+        | Job::Rotations
+        | Job::List(_, _)
+        | Job::Pairs
+        | Job::Regret => Err(Stop::Refused(RefusalKind::WrongKind, read.header_line)),
     }
 }
 
@@ -245,6 +252,49 @@ fn list<K: Sink>(
         limit,
     )?;
     Ok(write(alloc, sink, Status::Done, lines))
+}
+
+// Does `pairs`.
+fn show_pairs<K: Sink>(
+    alloc: Global,
+    given: &Seated<'_>,
+    sink: &mut K,
+) -> Result<Status, AllocError>
+    requires { IsSeated given.now.read.now.input given.now.instance.now given.now.seats }
+    ensures wrote { IfOk result (λ status. Wrote
+        (With Status.Done (IsShown given.now.read.now.input (IsPairsAnswer given.now.instance.now)))
+        (K.held sink.old) (K.held sink.new) (K.faults sink.old) (K.faults sink.new) status) }
+    ensures unwritten { OnErr result (sink.new ≡ sink.old) }
+    ensures later { K.faults sink.old ≤ K.faults sink.new }
+{
+    let pairs = find_pairs(alloc, given.instance, &given.seats)?;
+    let lines = pairs_lines(&given.read.input, given.instance, &pairs);
+    Ok(write(alloc, sink, Status::Done, lines))
+}
+
+// Does `regret`.
+fn show_regret<K: Sink>(
+    alloc: Global,
+    given: &Seated<'_>,
+    sink: &mut K,
+) -> Result<Status, AllocError>
+    requires { IsSeated given.now.read.now.input given.now.instance.now given.now.seats }
+    ensures wrote { IfOk result (λ status. Wrote
+        (λ status. IsShown given.now.read.now.input (IsRegretted given.now.read.now.input status))
+        (K.held sink.old) (K.held sink.new) (K.faults sink.old) (K.faults sink.new) status) }
+    ensures unwritten { OnErr result (sink.new ≡ sink.old) }
+    ensures later { K.faults sink.old ≤ K.faults sink.new }
+{
+    match find_regret(alloc, given.instance, &given.seats)? {
+        Some(found) => {
+            let lines = regret_lines(&given.read.input, given.instance, &given.seats, &found);
+            Ok(write(alloc, sink, Status::Done, lines))
+        }
+        None => {
+            let none = none_lines(&given.read.input, given.instance);
+            Ok(write(alloc, sink, Status::NoneExists, none))
+        }
+    }
 }
 
 // Has a cursor an item for each proposer, where there is one?

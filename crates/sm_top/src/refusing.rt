@@ -101,6 +101,11 @@ fn takes_text(job: &Job) -> bool
     ensures { result ≡ takes_text (job_of job.now) }
 {
     match job {
-        Job::Solve(_) | Job::Reduced | Job::Rotations | Job::List(_, _) => false,
+        Job::Solve(_)
+        | Job::Reduced
+        | Job::Rotations
+        | Job::List(_, _)
+        | Job::Pairs
+        | Job::Regret => false,
     }
 }

@@ -30,25 +30,28 @@ use std::alloc::Global;
 ///
 /// - `Done`: the whole answer is written. For `solve` it is the pairs of the stable matching in which every agent of a
 ///   side has the best partner that it has in any stable matching (Gale and Shapley 1962), in the order of the text, and for
-///   roommates those of a stable matching; for `reduced` the partners in both such matchings and the lists in which all stable pairs lie (Gusfield and Irving 1989,
-///   section 1.2.4); for `rotations` the proposers' partners in the first of them, the rotations that lead from it to the
-///   last, and what each needs, so that the stable matchings are those of the closed sets that the lines show (Gusfield and
-///   Irving 1989, theorem 2.5.7).
+///   roommates those of a stable matching; for `reduced` the partners in both such matchings and the lists in which all
+///   stable pairs lie (Gusfield and Irving 1989, section 1.2.4); for `rotations` the proposers' partners in the first of
+///   them, the rotations that lead from it to the last, and what each needs, so that the stable matchings are those of the
+///   closed sets that the lines show (theorem 2.5.7 there); for `list` the rank vectors of the allowed stable matchings
+///   behind the cursor, in their order and at most so many as the limit (after section 3.3 there); for `pairs` the pairs of
+///   all stable matchings, and which of them are in each (section 2.3.3 there); for `regret` the least regret of an allowed
+///   stable matching, and of those that have it the pairs of the one that is best for all proposers (Gusfield 1987).
 /// - `Refused`: the input is refused for this reason, at this line; the one line `refused NAME LINE` is written. An input
 ///   that is too long comes first, then the faults of its lines from the top, then a missing `end`, then a name that isn't
 ///   declared, then text behind `end`, then a kind that the command doesn't take, then seats that have more than 1,048,576
-///   entries.
+///   entries, then a cursor that hasn't a number for each proposer.
 /// - `NoneExists`: the whole answer is written, and says that there is no such matching. For `solve` it is `none`, where
 ///   roommates have no stable matching, and the parties of a stable partition that has an odd one of three or more (Tan
-///   1991).
+///   1991); for `regret` it is `none` alone, where no stable matching is allowed.
 /// - `Usage`: the words are faulty; the one line `usage WORD` is written.
 /// - `ReadFault`, `WriteFault`: the source or the sink failed. Nothing was written, or a front of the answer.
 /// - `OutOfMemory`: there was no memory. Nothing was written, or a front of the answer.
 ///
 /// What is written is added to what the sink held. It depends on the bytes that the source gave and not on how they were cut.
-/// Takes time and memory linear in the bytes for `solve` and `reduced`; for `solve` of roommates the time of
-/// [`sm_room::stable_partition`] comes besides, and for `rotations` those of [`sm_rotations::chain`] and
-/// [`sm_poset::Poset::of`].
+/// Takes time and memory linear in the bytes for `solve` and `reduced`. For the others those of [`sm_rotations::chain`] and
+/// [`sm_poset::Poset::of`] come besides, and then those of [`sm_listing::start_list`] and of each step for `list`, and of
+/// [`sm_partners::find_pairs`] and [`sm_partners::find_regret`] for `pairs` and `regret`.
 pub fn run<S: Source, K: Sink>(
     alloc: Global,
     words: &[String],

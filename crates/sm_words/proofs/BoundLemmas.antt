@@ -1,5 +1,5 @@
 -- The numbers of a job lie in their bounds.
-use Rattle.std.proofs.Common.{◌≡◌, ℕ, ◌+◌, ◌<◌, ◌≤◌, Bool, true, false, cond, ◌&&◌, nat_lt, nat_le, List, [], ◌∷◌, length, Option, Some, None, option_map, Result, Ok, Err, IfOk, IfSome, refl, sym, ap, ◌∙◌, subst, arith, unwrap_or}
+use Rattle.std.proofs.Common.{◌≡◌, ℕ, ◌+◌, ◌≤◌, Bool, true, false, cond, ◌&&◌, nat_lt, nat_le, List, [], ◌∷◌, length, Option, Some, None, option_map, Result, Ok, Err, IfOk, IfSome, refl, subst, arith, unwrap_or}
 use Rattle.std.specs.List.{position_or_len, before_first, after_first}
 use Rattle.std.specs.Option.{option_and_then, option_map_or}
 use Rattle.std.proofs.lemmas.Bool.{ltb-false, leb-true}
@@ -112,6 +112,8 @@ job_in_bounds command.List g job b e = subst IsInBounds (same_Some _ _ e) (by_li
   by_limit : (o : Option ℕ) → IfSome o IsLimit → IsLimit (unwrap_or o usual_limit)
   by_limit None b = (omega arith, omega arith)
   by_limit (Some n) b = b
+job_in_bounds command.Pairs g job b e = subst IsInBounds (same_Some _ _ e) tt
+job_in_bounds command.Regret g job b e = subst IsInBounds (same_Some _ _ e) tt
 
 asked_in_bounds : (c : Command) (operands : List (List ℕ)) (job : JobData) → asked c operands ≡ Ok job → IsInBounds job
 asked_in_bounds c operands job e = by_given (read_operands c 2 nothing operands) refl e where

@@ -10,12 +10,16 @@ pub data JobData : Type 0 where
   Reduced : JobData
   Rotations : JobData
   List : Option (Vector ℕ) → ℕ → JobData
+  Pairs : JobData
+  Regret : JobData
 
 abbrev pub job_of : Job → JobData
 job_of (job.Solve side) = Solve side
 job_of job.Reduced = Reduced
 job_of job.Rotations = Rotations
 job_of (job.List after limit) = List (option_map (λ v. v.items) after) limit
+job_of job.Pairs = Pairs
+job_of job.Regret = Regret
 
 -- a limit lies in its bounds
 abbrev pub least_limit : ℕ
@@ -33,3 +37,5 @@ IsInBounds (Solve side) = Unit {0}
 IsInBounds Reduced = Unit {0}
 IsInBounds Rotations = Unit {0}
 IsInBounds (List after limit) = IsLimit limit
+IsInBounds Pairs = Unit {0}
+IsInBounds Regret = Unit {0}

@@ -24,6 +24,8 @@ commands =
     ∷ (codes "reduced", command.Reduced)
     ∷ (codes "rotations", command.Rotations)
     ∷ (codes "list", command.List)
+    ∷ (codes "pairs", command.Pairs)
+    ∷ (codes "regret", command.Regret)
     ∷ []
 
 abbrev pub operands_of : Command → List (List ℕ × Operand)
@@ -31,6 +33,8 @@ operands_of command.Solve = (codes "side", operand.Side) ∷ []
 operands_of command.Reduced = []
 operands_of command.Rotations = []
 operands_of command.List = (codes "after", operand.After) ∷ (codes "limit", operand.Limit) ∷ []
+operands_of command.Pairs = []
+operands_of command.Regret = []
 
 abbrev pub sides : List (List ℕ × Side)
 sides = (codes "proposers", Proposers) ∷ (codes "reviewers", Reviewers) ∷ []

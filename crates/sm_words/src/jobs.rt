@@ -15,6 +15,10 @@ pub enum Job {
     Rotations,
     /// The rank vectors of the allowed stable matchings behind a vector, where one is given, and at most so many.
     List(Option<Vec<u32>>, u32),
+    /// The stable pairs, and which of them are in every stable matching.
+    Pairs,
+    /// The allowed stable matching of the least regret.
+    Regret,
 }
 
 /// Why words ask for nothing.

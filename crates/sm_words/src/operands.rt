@@ -21,6 +21,8 @@ pub(crate) enum Command {
     Reduced,
     Rotations,
     List,
+    Pairs,
+    Regret,
 }
 
 /// An operand.
@@ -56,6 +58,8 @@ pub(crate) fn command_named(name: &str) -> Option<Command>
         "reduced" => Some(Command::Reduced),
         "rotations" => Some(Command::Rotations),
         "list" => Some(Command::List),
+        "pairs" => Some(Command::Pairs),
+        "regret" => Some(Command::Regret),
         _ => None,
     }
 }
@@ -109,6 +113,8 @@ fn operand_named(command: Command, name: &str) -> Option<Operand>
             "limit" => Some(Operand::Limit),
             _ => None,
         },
+        Command::Pairs => None,
+        Command::Regret => None,
     }
 }
 

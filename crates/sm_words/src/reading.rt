@@ -17,8 +17,8 @@ const USUAL_LIMIT: u32 = 100;
 /// The first word is a command. Each later word is `name=value`: an operand of the command and its value, which is all
 /// behind the first `=`. Each operand stands at most once, and they stand in any order. `solve` may have
 /// `side=proposers` or `side=reviewers`; `list` may have `after=` with the numbers of a vector, one comma between each two
-/// or `-` for none, and `limit=` with a number from 1 to 1,000,000, which is 100 where none is given; `reduced` and
-/// `rotations` have no operands. Takes time linear in the words, and memory for the vector alone.
+/// or `-` for none, and `limit=` with a number from 1 to 1,000,000, which is 100 where none is given; `reduced`,
+/// `rotations`, `pairs` and `regret` have no operands. Takes time linear in the words, and memory for the vector alone.
 ///
 /// # Errors
 ///
@@ -76,6 +76,8 @@ fn job_for(command: Command, given: Given) -> Option<Job>
         Command::Reduced => Some(Job::Reduced),
         Command::Rotations => Some(Job::Rotations),
         Command::List => Some(Job::List(given.after, given.limit.unwrap_or(USUAL_LIMIT))),
+        Command::Pairs => Some(Job::Pairs),
+        Command::Regret => Some(Job::Regret),
     }
 }
 

@@ -1,7 +1,8 @@
 use Rattle.std.proofs.Common.{◌≡◌, ◌∙◌, ap, refl, None}
 use Rattle.sm_reader.specs.InstanceText.{read_of}
 use Rattle.sm_words.specs.Jobs.{job_of, Solve}
-use Rattle.sm_top.proofs.KindLemmas.{room_accepted, solved_answer}
+use Rattle.sm_top.specs.Outcome.{IsSolved}
+use Rattle.sm_top.proofs.KindLemmas.{room_accepted, answer_over}
 use Rattle.sm_top.proofs.performing.perform_on_persons.Goals as goal
 
 pub returns-in_ok-solve_roommates-in-Solve-None-clause-wrote : goal.returns-in_ok-solve_roommates-in-Solve-None-clause-wrote
@@ -11,4 +12,4 @@ returns-in_ok-solve_roommates-in-Solve-None-clause-wrote g c =
     let read = read_of c.args.read.now in
     let judged = rw job at c.requires.judged in
     let ok = room_accepted (Solve None) c.args.bytes.now read c.args.persons.now c.requires.room judged refl in
-    rw job (solved_answer None c.args.bytes.now read _ _ _ _ _ ok c.in_ok-solve_roommates-in-Solve-None.ensures.wrote)
+    rw job (answer_over (Solve None) c.args.bytes.now read (IsSolved None) _ _ _ _ _ ok c.in_ok-solve_roommates-in-Solve-None.ensures.wrote)

@@ -1,20 +1,22 @@
 use Rattle.sm_reader.specs.InstanceText.{read_of}
 use Rattle.std.proofs.lemmas.Result.{IfOk-weaker}
-use Rattle.sm_words.specs.Jobs.{JobData, Reduced, Rotations}
+use Rattle.sm_words.specs.Jobs.{JobData, Solve, Reduced, Rotations, Pairs, Regret}
 use Rattle.sm_shown.specs.Reduction.{IsReduction}
 use Rattle.sm_shown.specs.RotationAnswer.{IsRotationAnswer}
 use Rattle.sm_listing.specs.ListAnswer.{IsListAnswer}
 use Rattle.sm_listing.specs.Started.{cursor_in}
+use Rattle.sm_partners.specs.PairsAnswer.{IsPairsAnswer}
+use Rattle.sm_top.specs.Outcome.{IsSolved, IsRegretted}
 use Rattle.sm_top.specs.declared.status.Status.TheVariants.{Done}
 use Rattle.sm_top.proofs.RunLemmas.{wrote_answer}
-use Rattle.sm_top.proofs.KindLemmas.{solved_answer, two_solved}
+use Rattle.sm_top.proofs.KindLemmas.{answer_over, two_solved}
 use Rattle.sm_top.proofs.performing.perform_on_seats.Goals as goal
 
 pub returns-in_ok-solve-in-Solve-clause-wrote : goal.returns-in_ok-solve-in-Solve-clause-wrote
 returns-in_ok-solve-in-Solve-clause-wrote g c =
     let ok = rw c.in-Solve.is at c.requires.accepted in
     let given = c.args.given.now in
-    rw c.in-Solve.is (solved_answer c.in-Solve.side c.args.bytes.now (read_of given.read.now) _ _ _ _ _ ok (two_solved c.in-Solve.side given.read.now.input given.instance.now _ _ _ _ _ c.requires.seated.two c.in_ok-solve-in-Solve.ensures.wrote))
+    rw c.in-Solve.is (answer_over (Solve c.in-Solve.side) c.args.bytes.now (read_of given.read.now) (IsSolved c.in-Solve.side) _ _ _ _ _ ok (two_solved c.in-Solve.side given.read.now.input given.instance.now _ _ _ _ _ c.requires.seated.two c.in_ok-solve-in-Solve.ensures.wrote))
 
 pub returns-in_ok-reduce-in-Reduced-clause-wrote : goal.returns-in_ok-reduce-in-Reduced-clause-wrote
 returns-in_ok-reduce-in-Reduced-clause-wrote g c =
@@ -34,3 +36,14 @@ returns-in-List-clause-wrote g c =
     let given = c.args.given.now in
     rw c.in-List.is (IfOk-weaker c.list.result _ _ (λ status w. wrote_answer (JobData.List (cursor_in c.in-List.after) c.in-List.limit) c.args.bytes.now (read_of given.read.now) given.instance.now
     (IsListAnswer (cursor_in c.in-List.after) c.in-List.limit) Done _ _ _ _ status ok c.requires.seated.two w) c.list.ensures.wrote)
+
+pub returns-in_ok-show_pairs-in-Pairs-clause-wrote : goal.returns-in_ok-show_pairs-in-Pairs-clause-wrote
+returns-in_ok-show_pairs-in-Pairs-clause-wrote g c =
+    let ok = rw c.in-Pairs.is at c.requires.accepted in
+    let given = c.args.given.now in
+    rw c.in-Pairs.is (wrote_answer Pairs c.args.bytes.now (read_of given.read.now) given.instance.now IsPairsAnswer Done _ _ _ _ _ ok c.requires.seated.two c.in_ok-show_pairs-in-Pairs.ensures.wrote)
+
+pub returns-in_ok-show_regret-in-Regret-clause-wrote : goal.returns-in_ok-show_regret-in-Regret-clause-wrote
+returns-in_ok-show_regret-in-Regret-clause-wrote g c =
+    let ok = rw c.in-Regret.is at c.requires.accepted in
+    rw c.in-Regret.is (answer_over Regret c.args.bytes.now (read_of c.args.given.now.read.now) IsRegretted _ _ _ _ _ ok c.in_ok-show_regret-in-Regret.ensures.wrote)

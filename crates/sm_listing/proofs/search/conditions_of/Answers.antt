@@ -1,5 +1,5 @@
 use Rattle.sm_instance.proofs.ItemLemmas.{forced_in_range, forbidden_in_range}
-use Rattle.sm_listing.proofs.start.conditions_of.Goals as goal
+use Rattle.sm_listing.proofs.search.conditions_of.Goals as goal
 
 pub leveled-requires : goal.leveled-requires
 leveled-requires c = rw c.forced.ensures.pairs (forced_in_range c.forced.ensures.instance)

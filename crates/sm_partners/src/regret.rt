@@ -1,0 +1,162 @@
+//! The answer of `regret`.
+
+ghost use Rattle.std.specs.Prelude.{◌≡◌, ℕ, ◌<◌, List, Option, length, map, IfOk, MatchOption, Some};
+ghost use Rattle.std.specs.List.{range_with_len};
+ghost use Rattle.sm_answer.specs.Giving.{HasRest};
+ghost use Rattle.sm_answer.specs.Printing.{IsShown};
+ghost use Rattle.sm_instance.specs.Stable.{IsStable};
+ghost use Rattle.sm_instance.specs.Allowed.{IsAllowed};
+ghost use Rattle.sm_instance.specs.Ranks.{worse_rank};
+ghost use Rattle.sm_instance.specs.declared.inputs.Input.TheVariants.{Two};
+ghost use Rattle.sm_market.specs.Lists.{row};
+ghost use Rattle.sm_market.specs.Vectors.{rows_of};
+ghost use Rattle.sm_seats.specs.Seating.{seating_of, levels_of, at_places};
+ghost use Rattle.sm_seats.specs.Correspondence.{IsSeating, worse_ranks_of};
+ghost use Rattle.sm_partners.specs.RegretAnswer.{IsRegretAnswer, IsNoneAllowed};
+ghost use Rattle.sm_partners.specs.RegretFound.{IsFound, AreAcceptableAt};
+
+use crate::least_regret::LeastRegret;
+use sm_answer::{Each, Lines, One, Printed, Then};
+use sm_instance::{Input, Instance};
+use sm_lattice::min_regret;
+use sm_listing::{conditions_of, least_of};
+use sm_report::{Head, Line};
+use sm_seats::Seats;
+use sm_shown::{Basis, PairLines};
+use std::alloc::{AllocError, Global};
+
+/// The stable matching of the least regret among those that the conditions of an instance allow, and of those that have it the
+/// one that is best for all proposers. `None` exactly where no stable matching is allowed.
+///
+/// Takes the time and the memory of [`Basis::of`] and of a dozen searches, as those of [`sm_lattice::min_regret`].
+///
+/// # Errors
+///
+/// `AllocError` where memory ran out, and only then.
+pub fn find_regret(
+    alloc: Global,
+    instance: &Instance,
+    seats: &Seats,
+) -> Result<Option<LeastRegret>, AllocError>
+    requires seats { seats.now ≡ seating_of instance.now }
+    requires seating { IsSeating instance.now seats.now }
+    ensures { IfOk result (λ found. MatchOption found
+        ((places : List (Option ℕ)) → IsStable instance.now places → ¬ IsAllowed instance.now places)
+        (λ f. IsFound instance.now seats.now f)) }
+{
+    let basis = Basis::of(alloc, seats)?;
+    let mut least = least_of(alloc, &basis, seats)?;
+    let conditions = conditions_of(alloc, instance)?;
+    let ranks = worse_ranks(alloc, instance, seats)?;
+    match min_regret(alloc, &mut least, &ranks, &conditions)? {
+        Some((regret, set)) => {
+            let matching = basis.poset.matching_of(alloc, &set)?;
+            Ok(Some(LeastRegret { regret, matching }))
+        }
+        None => Ok(None),
+    }
+}
+
+// For each place the greater of the ranks that the proposer and its seat's reviewer give each other.
+fn worse_ranks(
+    alloc: Global,
+    instance: &Instance,
+    seats: &Seats,
+) -> Result<Vec<Vec<u32>>, AllocError>
+    requires seats { seats.now ≡ seating_of instance.now }
+    requires seating { IsSeating instance.now seats.now }
+    ensures { IfOk result (λ ranks. rows_of ranks.items ≡ worse_ranks_of instance.now seats.now) }
+{
+    let levels = seats.levels(alloc)?;
+    let mut ranks = Vec::with_capacity(alloc, levels.len())?;
+    for p in 0..instance.proposer_count() {
+        ranks.push(ranks_of(alloc, instance, seats, p, &levels[p as usize])?)?;
+    }
+    Ok(ranks)
+}
+
+// The same for the places of one proposer, whose levels these are.
+fn ranks_of(
+    alloc: Global,
+    instance: &Instance,
+    seats: &Seats,
+    p: u32,
+    levels: &[u32],
+) -> Result<Vec<u32>, AllocError>
+    requires seating { IsSeating instance.now seats.now }
+    requires in_range { p < length instance.now.proposers }
+    requires levels { levels.now ≡ row (levels_of seats.now) p }
+    requires acceptable { AreAcceptableAt instance.now seats.now p }
+    ensures { IfOk result (λ ranks. ranks.items ≡ at_places seats.now (λ p i. worse_rank instance.now p (Some i)) p) }
+{
+    let places = seats.market().proposer_len(p);
+    let mut ranks = Vec::with_capacity(alloc, places as usize)?;
+    for i in 0..places {
+        let level = levels[i as usize];
+        let back = instance.rank_back(p, level - 1);
+        ranks.push(back.max(level))?;
+    }
+    Ok(ranks)
+}
+
+/// The lines of the answer of `regret`.
+pub type RegretLines<'a> = Printed<'a, Then<One, Then<One, Then<Each<PairLines<'a>>, One>>>>;
+
+/// The head, the least regret, the pairs of its matching in the order of the proposers, and `end`.
+pub fn regret_lines<'a>(
+    input: &'a Input,
+    instance: &Instance,
+    seats: &'a Seats,
+    found: &'a LeastRegret,
+) -> RegretLines<'a>
+    requires input { input.now ≡ Two instance.now }
+    requires seating { IsSeating instance.now seats.now }
+    requires found { IsFound instance.now seats.now found.now }
+    ensures right { (lines : List (List ℕ)) → ⟦<RegretLines<'a> as Lines>⟧.gives result lines
+        → IsShown input.now (IsRegretAnswer instance.now) lines }
+    ensures some { HasRest (⟦<RegretLines<'a> as Lines>⟧.gives result) }
+{
+    let _count = instance.proposer_count();
+    Printed {
+        input,
+        answer: Then {
+            first: One(Some(Line::Answer(Head::Regret))),
+            second: Then {
+                first: One(Some(Line::Regret(found.regret))),
+                second: Then {
+                    first: Each {
+                        items: PairLines {
+                            seats,
+                            pairing: &found.matching,
+                        },
+                        next: 0,
+                    },
+                    second: One(Some(Line::End)),
+                },
+            },
+        },
+    }
+}
+
+/// The lines of the answer of `regret` where nothing is allowed.
+pub type NoneLines<'a> = Printed<'a, Then<One, Then<One, One>>>;
+
+/// The head, `none`, and `end`.
+pub fn none_lines<'a>(input: &'a Input, instance: &Instance) -> NoneLines<'a>
+    requires input { input.now ≡ Two instance.now }
+    requires none { (places : List (Option ℕ)) → IsStable instance.now places → ¬ IsAllowed instance.now places }
+    ensures right { (lines : List (List ℕ)) → ⟦<NoneLines<'a> as Lines>⟧.gives result lines
+        → IsShown input.now (IsNoneAllowed instance.now) lines }
+    ensures some { HasRest (⟦<NoneLines<'a> as Lines>⟧.gives result) }
+{
+    Printed {
+        input,
+        answer: Then {
+            first: One(Some(Line::Answer(Head::Regret))),
+            second: Then {
+                first: One(Some(Line::Nothing)),
+                second: One(Some(Line::End)),
+            },
+        },
+    }
+}
