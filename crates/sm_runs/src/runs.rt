@@ -1,9 +1,9 @@
 //! Whole runs over sources and sinks in memory, with texts by hand.
 
+use crate::made::{MEMORY, copy, words_in};
 use sm_io::{MemSink, MemSource, SteadySink, SteadySource};
 use sm_text::RefusalKind;
 use sm_top::{Status, run};
-use sm_trials::made::{MEMORY, copy, words_in};
 use std::alloc::Global;
 use std::process::Abort;
 
@@ -42,6 +42,18 @@ fn done<'a>(words: &'a str, text: &'a str, written: &'a str) -> Row<'a> {
         failing_reads: &[],
         failing_puts: &[],
         status: Status::Done,
+        written,
+    }
+}
+
+// A run without faults that answers that there is no such matching.
+fn none_exists<'a>(words: &'a str, text: &'a str, written: &'a str) -> Row<'a> {
+    Row {
+        words,
+        text,
+        failing_reads: &[],
+        failing_puts: &[],
+        status: Status::NoneExists,
         written,
     }
 }
@@ -125,20 +137,34 @@ fn commands_answer(rt: HostRuntime) {
                 chain,
                 "answer list after=1,1,9,0 limit=1\nvector 2,2,1,1\nmore 2,2,1,1\n",
             ),
+            done(
+                "pairs",
+                TWO_BY_TWO,
+                "answer pairs\nsome m1 a\nsome m1 b\nsome m2 b\nsome m2 a\nend\n",
+            ),
+            done(
+                "pairs",
+                "stable 1 marriage\np m1: x a\np m2: a\nr x:\nr a: m2 m1\nend\n",
+                "answer pairs\nall m2 a\nend\n",
+            ),
+            // from one seat of h to the other
+            done(
+                "pairs",
+                "stable 1 hospitals\np r0: h\np r1: h k\np r2: k h\nr h [2]: r2 r0 r1\nr k [1]: r1 r2\nend\n",
+                "answer pairs\nall r0 h\nsome r1 h\nsome r1 k\nsome r2 k\nsome r2 h\nend\n",
+            ),
+            done(
+                "regret",
+                "stable 1 marriage\np m1: a b c\np m2: b c a\np m3: c a b\nr a: m2 m3 m1\nr b: m3 m1 m2\nr c: m1 m2 m3\nend\n",
+                "answer regret\nregret 2\npair m1 b\npair m2 c\npair m3 a\nend\n",
+            ),
+            none_exists(
+                "regret",
+                "stable 1 marriage\np m1: a b\np m2: b a\nr a: m2 m1\nr b: m1 m2\nforbid m1 a\nforbid m1 b\nend\n",
+                "answer regret\nnone\nend\n",
+            ),
         ],
     );
-}
-
-// A run of `solve` on persons who have no stable matching.
-fn none_exists<'a>(text: &'a str, written: &'a str) -> Row<'a> {
-    Row {
-        words: "solve",
-        text,
-        failing_reads: &[],
-        failing_puts: &[],
-        status: Status::NoneExists,
-        written,
-    }
 }
 
 #[test]
@@ -147,11 +173,13 @@ fn roommates_are_solved(rt: HostRuntime) {
         &rt,
         &[
             none_exists(
+                "solve",
                 "stable 1 roommates\np 1: 2 3 4\np 2: 3 1 4\np 3: 1 2 4\np 4: 1 2 3\nend\n",
                 "answer solve\nnone\nparty 1 2 3\nparty 4\nend\n",
             ),
             // two odd parties and a couple, in the order of their lowest members
             none_exists(
+                "solve",
                 "stable 1 roommates\np a: c e\np b: f d\np c: e a\np d: b f\np e: a c\np f: d b\np g: h\np h: g\nend\n",
                 "answer solve\nnone\nparty a c e\nparty b f d\nparty g h\nend\n",
             ),
@@ -217,6 +245,13 @@ fn inputs_are_refused(rt: HostRuntime) {
                 RefusalKind::WrongKind,
                 2,
                 "refused WrongKind 2\n",
+            ),
+            refused(
+                "pairs",
+                "stable 1 roommates\np 1: 2\np 2: 1\nend\n",
+                RefusalKind::WrongKind,
+                1,
+                "refused WrongKind 1\n",
             ),
             refused(
                 "list after=1",

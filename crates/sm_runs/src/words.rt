@@ -1,7 +1,7 @@
 //! Words that ask for a job, and words that are faulty.
 
+use crate::made::{copy, words_in};
 use sm_instance::Side;
-use sm_trials::made::{copy, words_in};
 use sm_words::{Job, WordsFault, read_words};
 use std::process::Abort;
 
@@ -47,6 +47,8 @@ fn words_ask_or_are_faulty(rt: HostRuntime) {
                 "list after=0,4294967295,7 limit=1000000",
                 Job::List(Some(copy(&rt, &[0, 4_294_967_295, 7])), 1_000_000),
             ),
+            ("pairs", Job::Pairs),
+            ("regret", Job::Regret),
         ],
     );
     are_faulty(
@@ -67,6 +69,9 @@ fn words_ask_or_are_faulty(rt: HostRuntime) {
             ("reduced side=proposers", 2),
             ("rotations rotations", 2),
             ("list side=proposers", 2),
+            ("pair", 1),
+            ("pairs limit=1", 2),
+            ("regret side=proposers", 2),
             ("list limit=0", 2),
             ("list limit=1000001", 2),
             ("list limit=1 limit=2", 3),

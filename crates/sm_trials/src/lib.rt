@@ -13,7 +13,8 @@ mod instances;
 mod lines;
 #[cfg(test)]
 mod listings;
-pub mod made;
+#[cfg(test)]
+mod made;
 #[cfg(test)]
 mod pieces;
 #[cfg(test)]

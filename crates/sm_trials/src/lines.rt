@@ -1,4 +1,4 @@
-//! Lines of answers that are put. What the text of each line is stands in the witnesses of `sm_report`.
+//! Lines of answers that are put and read. What the text of each line is stands in the witnesses of `sm_report`.
 
 ghost use Rattle.std.specs.Prelude.{◌≡◌, ◌≢◌, length};
 ghost use Rattle.sm_instance.specs.Inputs.{left_of, right_of};
@@ -7,7 +7,7 @@ ghost use Rattle.sm_report.specs.Sound.{IsPrintable};
 
 use crate::made::{MEMORY, agent, copy, one};
 use sm_instance::{Input, Instance, Kind, Side};
-use sm_report::{Head, Line, Seat, put_line};
+use sm_report::{Head, Line, LineFault, Seat, put_line, put_text, read_line};
 use sm_text::LineWriter;
 use std::process::Abort;
 
@@ -76,4 +76,30 @@ fn lines_are_put(rt: HostRuntime) {
         &Line::Vector(copy(&rt, &[1, 2])),
         "vector 1,2\n",
     );
+}
+
+// Makes sure that a line is read from a text and has it.
+fn reads(rt: &(impl Abort + AllocGlobal), input: &Input, text: &str) {
+    let line = read_line(rt.alloc(), input, text.as_bytes()).expect(rt, "a line");
+    let mut writer = LineWriter::new(rt.alloc(), 1).expect(rt, MEMORY);
+    put_text(&mut writer, input, &line).expect(rt, MEMORY);
+    assert!(rt; writer.bytes() == text.as_bytes());
+}
+
+#[test]
+fn lines_are_read(rt: HostRuntime) {
+    let input = hospitals(&rt);
+    reads(&rt, &input, "pair a h");
+    reads(&rt, &input, "proposer a h/3 h/1");
+    reads(&rt, &input, "rotation 2 a h/1 a h/2");
+    reads(&rt, &input, "needs 3 1 2");
+    reads(&rt, &input, "taken -");
+    reads(&rt, &input, "flow S 4294967294 18446744073709551615");
+    reads(&rt, &input, "total -9223372036854775807");
+    reads(&rt, &input, "tally 2 0 5");
+    reads(&rt, &input, "no 24 NotConserved");
+    reads(&rt, &input, "vector 1,2");
+    reads(&rt, &input, "answer list after=- limit=100");
+    let refused = read_line(rt.alloc(), &input, b"regret 00");
+    assert!(rt; matches!(refused, Err(LineFault::BadAnswer)));
 }

@@ -5,6 +5,7 @@ ghost use Rattle.std.specs.Prelude.{◌≡◌, length, MatchOption};
 
 use crate::made::{MEMORY, agent, copy, three};
 use sm_instance::{Instance, Kind};
+use sm_lattice::stable_levels;
 use sm_least::Least;
 use sm_lister::{Lister, Listing};
 use sm_listing::start_list;
@@ -136,4 +137,17 @@ fn a_search_within_bounds(rt: HostRuntime) {
     finds(&rt, &mut least, &[1, 1, 1], &[3, 3, 3], Some([1, 1, 1]));
     finds(&rt, &mut least, &[1, 2, 1], &[3, 3, 3], Some([2, 2, 2]));
     finds(&rt, &mut least, &[1, 2, 1], &[1, 3, 3], None);
+}
+
+#[test]
+fn levels_in_stable_pairings(rt: HostRuntime) {
+    let instance = three_cycle(&rt);
+    let seats = Seats::of(rt.alloc(), &instance).expect(&rt, "seats");
+    let basis = Basis::of(rt.alloc(), &seats).expect(&rt, MEMORY);
+    let levels = seats.levels(rt.alloc()).expect(&rt, MEMORY);
+    assert!(rt; basis.poset.market().proposers() == 3);
+    let stable = stable_levels(rt.alloc(), &basis.poset, &levels).expect(&rt, MEMORY);
+    for row in &stable {
+        assert!(rt; row.as_slice() == [1, 2, 3].as_slice());
+    }
 }

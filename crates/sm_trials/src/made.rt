@@ -1,4 +1,4 @@
-//! What several files make: copies, agents of one letter, sides of them, and words.
+//! What several files make: copies, agents of one letter, and sides of them.
 
 ghost use Rattle.std.specs.Prelude.{◌≡◌};
 
@@ -12,16 +12,6 @@ pub fn copy<T: Copy>(rt: &(impl Abort + AllocGlobal), list: &[T]) -> Vec<T>
     ensures { result.items ≡ list.now }
 {
     Vec::from_slice(rt.alloc(), list).expect(rt, MEMORY)
-}
-
-/// The words that stand in a text with a blank between each two.
-pub fn words_in(rt: &(impl Abort + AllocGlobal), text: &str) -> Vec<String> {
-    let mut words = Vec::new(rt.alloc());
-    for word in text.split_whitespace() {
-        let word = String::from_str(rt.alloc(), word).expect(rt, MEMORY);
-        words.push(word).expect(rt, MEMORY);
-    }
-    words
 }
 
 /// An agent of one letter, with a capacity and a list.

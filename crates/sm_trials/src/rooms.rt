@@ -129,6 +129,11 @@ fn party_of_four(rt: HostRuntime) {
 }
 
 #[test]
+fn party_of_five_behind_a_cycle(rt: HostRuntime) {
+    parts(&rt, "1234/2340/3401/4012/0123", "23401", "-3412", Some(0));
+}
+
+#[test]
 fn alone_and_inert(rt: HostRuntime) {
     parts(&rt, "01/30//23", "1023", "10--", None);
     parts(&rt, "", "0", "-", None);
