@@ -3,8 +3,8 @@ use Rattle.sm_market.specs.Lists.{Lists, IsMarket}
 use Rattle.sm_market.specs.Matching.{Places}
 use Rattle.sm_market.specs.Stable.{IsStable}
 use Rattle.sm_theory.proofs.Bridge.Meet.{meet_of_stable, join_of_stable}
-use Rattle.sm_lattice.specs.declared.lattice.Choice.{Choice}
-use Rattle.sm_lattice.specs.declared.lattice.Choice.TheVariants.{Better, Worse}
+use Rattle.sm_lattice.specs.declared.choice.Choice.{Choice}
+use Rattle.sm_lattice.specs.declared.choice.Choice.TheVariants.{Better, Worse}
 use Rattle.sm_lattice.specs.Choices.{chosen_of}
 
 -- the meet and the join of two stable matchings are stable

@@ -3,8 +3,8 @@ use Rattle.std.specs.Prelude.{ℕ, Option, map}
 use Rattle.sm_market.specs.Lists.{Lists, agents}
 use Rattle.sm_market.specs.Matching.{Places, held}
 use Rattle.sm_theory.specs.Lattice.{better, worse, with_proposers}
-use Rattle.sm_lattice.specs.declared.lattice.Choice.{Choice}
-use Rattle.sm_lattice.specs.declared.lattice.Choice.TheVariants.{Better, Worse}
+use Rattle.sm_lattice.specs.declared.choice.Choice.{Choice}
+use Rattle.sm_lattice.specs.declared.choice.Choice.TheVariants.{Better, Worse}
 
 -- the better of two places, or the worse
 abbrev pub chosen : Choice → Option ℕ → Option ℕ → Option ℕ

@@ -5,20 +5,14 @@ ghost use Rattle.sm_market.specs.Lists.{agents, IsMarket};
 ghost use Rattle.sm_market.specs.Matching.{held};
 ghost use Rattle.sm_market.specs.Pairing.{IsPairingOf};
 ghost use Rattle.sm_market.specs.Stable.{IsStable};
-ghost use Rattle.sm_theory.specs.Lattice.{better, worse, meet_of, join_of};
+ghost use Rattle.sm_theory.specs.Lattice.{meet_of, join_of};
 ghost use Rattle.sm_lattice.specs.Choices.{chosen, chosen_of};
 ghost use Rattle.sm_lattice.specs.Faults.{IsFault, IsBlocked, AreStable};
 
+use crate::choice::{Choice, chosen_place};
 use crate::faults::LatticeFault;
 use sm_market::{Market, Pairing};
 use std::alloc::{AllocError, Global};
-
-/// Which of its two partners a proposer gets.
-#[derive(Clone, Copy)]
-enum Choice {
-    Better,
-    Worse,
-}
 
 /// The meet of two stable pairings: each proposer gets the better of its two partners, where being unmatched is worse than every
 /// partner. It is stable (Gusfield and Irving 1989, theorem 1.3.2).
@@ -129,32 +123,4 @@ fn chosen_places(
         places.push(chosen_place(choice, m.place(p), n.place(p)))?;
     }
     Ok(places)
-}
-
-/// The chosen one of two places on a list. Being unmatched is worse than every place.
-fn chosen_place(choice: Choice, first: Option<u32>, second: Option<u32>) -> Option<u32>
-    ensures { result ≡ chosen choice first second }
-{
-    match choice {
-        Choice::Better => better(first, second),
-        Choice::Worse => worse(first, second),
-    }
-}
-
-/// The better of two places.
-fn better(first: Option<u32>, second: Option<u32>) -> Option<u32>
-    ensures { result ≡ better first second }
-{
-    match (first, second) {
-        (Some(i), Some(k)) => Some(i.min(k)),
-        (Some(i), None) => Some(i),
-        (None, other) => other,
-    }
-}
-
-/// The worse of two places.
-fn worse(first: Option<u32>, second: Option<u32>) -> Option<u32>
-    ensures { result ≡ worse first second }
-{
-    Some(first?.max(second?))
 }

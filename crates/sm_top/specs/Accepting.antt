@@ -13,12 +13,12 @@ use Rattle.sm_instance.specs.declared.kinds.Kind.{Kind}
 use Rattle.sm_instance.specs.declared.kinds.Kind.TheVariants.{Marriage, Hospitals, Roommates}
 use Rattle.sm_reader.specs.InstanceText.{ReadText, Refusal, instance_text}
 use Rattle.sm_seats.specs.SeatEntries.{first_too_many}
-use Rattle.sm_words.specs.Jobs.{JobData, Solve, Reduced, Rotations, Pairs, Regret}
+use Rattle.sm_words.specs.Jobs.{JobData, Solve, Reduced, Rotations, Pairs, Regret, Meet, Join}
 use Rattle.sm_top.specs.Texts.{RefusalData, plain}
 
 -- What a job takes.
 
--- text behind `end`
+-- text behind `end`: `meet` and `join`
 abbrev pub takes_text : JobData → Bool
 takes_text (Solve side) = false
 takes_text Reduced = false
@@ -26,6 +26,8 @@ takes_text Rotations = false
 takes_text (JobData.List after limit) = false
 takes_text Pairs = false
 takes_text Regret = false
+takes_text Meet = true
+takes_text Join = true
 
 -- a kind: `solve` takes all where it names no side, and the others those with two sides
 abbrev pub is_two_sided : Kind → Bool
@@ -41,6 +43,8 @@ takes_kind Rotations kind = is_two_sided kind
 takes_kind (JobData.List after limit) kind = is_two_sided kind
 takes_kind Pairs kind = is_two_sided kind
 takes_kind Regret kind = is_two_sided kind
+takes_kind Meet kind = is_two_sided kind
+takes_kind Join kind = is_two_sided kind
 
 -- The order of refusals.
 

@@ -1,5 +1,5 @@
 -- What may come of words and an input: the status and the lines that are written. This is what the program promises.
-use Rattle.std.specs.Prelude.{◌≡◌, ℕ, List, [], ◌∷◌, ◌⊎◌, length, Option, unwrap_or, Ok, Err}
+use Rattle.std.specs.Prelude.{◌≡◌, ℕ, List, [], ◌∷◌, ◌⊎◌, length, Option, unwrap_or, Ok, Err, codes}
 use Rattle.sm_answer.specs.Printing.{IsShown}
 use Rattle.sm_instance.specs.Written.{Written}
 use Rattle.sm_instance.specs.declared.inputs.Input.{Input}
@@ -8,12 +8,13 @@ use Rattle.sm_instance.specs.declared.kinds.Side.{Side}
 use Rattle.sm_instance.specs.declared.kinds.Side.TheVariants.{Proposers}
 use Rattle.sm_reader.specs.InstanceText.{ReadText}
 use Rattle.sm_report.specs.Lines.{LineData}
-use Rattle.sm_text.specs.declared.refusal.RefusalKind.TheVariants.{BadCursor}
-use Rattle.sm_words.specs.Jobs.{JobData, Solve, Reduced, Rotations, Pairs, Regret}
+use Rattle.sm_report.specs.Texts.{left_name, right_name}
+use Rattle.sm_text.specs.declared.refusal.RefusalKind.TheVariants.{BadCursor, BadAnswer, NotStable}
+use Rattle.sm_words.specs.Jobs.{JobData, Solve, Reduced, Rotations, Pairs, Regret, Meet, Join}
 use Rattle.sm_words.specs.Words.{words_meaning}
 use Rattle.sm_top.specs.declared.status.Status.{Status}
 use Rattle.sm_top.specs.declared.status.Status.TheVariants.{Done, Refused, Usage, NoneExists}
-use Rattle.sm_top.specs.Texts.{RefusalData, plain, usage_line, refused_line}
+use Rattle.sm_top.specs.Texts.{RefusalData, plain, with_detail, usage_line, refused_line}
 use Rattle.sm_top.specs.Accepting.{accepted, IsUnaccepted}
 use Rattle.sm_shown.specs.Answers.{IsSolution}
 use Rattle.sm_shown.specs.Reduction.{IsReduction}
@@ -21,6 +22,15 @@ use Rattle.sm_shown.specs.RotationAnswer.{IsRotationAnswer}
 use Rattle.sm_listing.specs.ListAnswer.{IsCursor, IsListAnswer}
 use Rattle.sm_partners.specs.PairsAnswer.{IsPairsAnswer}
 use Rattle.sm_partners.specs.RegretAnswer.{IsRegretAnswer, IsNoneAllowed}
+use Rattle.sm_lattice.specs.declared.choice.Choice.TheVariants.{Better, Worse}
+use Rattle.sm_given.specs.GivenText.{texts_from, IsBadAt}
+use Rattle.sm_given.specs.Chosen.{IsChosenAnswer}
+use Rattle.sm_given.specs.Refusing.{AreUnstable}
+use Rattle.sm_given.specs.declared.faults.Which.{Which}
+use Rattle.sm_given.specs.declared.faults.Which.TheVariants.{Left, Right}
+use Rattle.sm_given.specs.declared.faults.Flaw.{Flaw}
+use Rattle.sm_given.specs.declared.faults.Flaw.TheVariants.{Breach, Blocks}
+use Rattle.sm_given.specs.declared.faults.Unstable.{Unstable}
 use Rattle.sm_rooming.specs.RoomAnswer.{IsMatched, IsUnmatchable}
 
 -- a right answer for an instance with two sides
@@ -53,11 +63,34 @@ IsAnswer (JobData.List after limit) bytes status lines =
     (status ≡ Done) × IsAnswerOver (JobData.List after limit) bytes (λ read. OfTwo (IsListAnswer after limit) read.input) lines
 IsAnswer Pairs bytes status lines = (status ≡ Done) × IsAnswerOver Pairs bytes (λ read. OfTwo IsPairsAnswer read.input) lines
 IsAnswer Regret bytes status lines = IsAnswerOver Regret bytes (λ read. IsRegretted read.input status) lines
+IsAnswer Meet bytes status lines = (status ≡ Done) × IsAnswerOver Meet bytes (λ read. OfTwo (IsChosenAnswer Better (texts_from bytes read.rest)) read.input) lines
+IsAnswer Join bytes status lines = (status ≡ Done) × IsAnswerOver Join bytes (λ read. OfTwo (IsChosenAnswer Worse (texts_from bytes read.rest)) read.input) lines
 
 -- a cursor that hasn't an item for each proposer is refused, at no line
 abbrev pub IsBadCursor : Option (List ℕ) → Input → RefusalData → Type 0
 IsBadCursor after (Two w) refusal = (¬ IsCursor (length w.proposers) after) × (refusal ≡ plain BadCursor 0)
 IsBadCursor after (Room persons) refusal = ⊥
+
+-- what tells of a given matching that isn't stable: which one, why, and the pair
+abbrev pub which_name : Which → List ℕ
+which_name Left = codes "left"
+which_name Right = codes "right"
+
+abbrev pub flaw_name : Flaw → List ℕ
+flaw_name Breach = codes "breach"
+flaw_name Blocks = codes "blocks"
+
+abbrev pub unstable_fields : Input → Unstable → List (List ℕ)
+unstable_fields input u = which_name u.which ∷ flaw_name u.flaw ∷ left_name input u.proposer ∷ right_name input u.reviewer ∷ []
+
+-- texts, of which the first stands on this line, aren't those of two matchings; or they are, and one isn't stable
+pub data IsGivenRefusal (w : Written) (texts : List (List ℕ)) (line : ℕ) (refusal : RefusalData) : Type 0 where
+  bad : (at : ℕ) → IsBadAt (Two w) texts line at → refusal ≡ plain BadAnswer at → IsGivenRefusal w texts line refusal
+  unstable : (u : Unstable) → AreUnstable w texts line u → refusal ≡ with_detail NotStable u.line (unstable_fields (Two w) u) → IsGivenRefusal w texts line refusal
+
+abbrev pub IsBadGiven : Input → List (List ℕ) → ℕ → RefusalData → Type 0
+IsBadGiven (Two w) texts line refusal = IsGivenRefusal w texts line refusal
+IsBadGiven (Room persons) texts line refusal = ⊥
 
 -- a job's own refusals of an input that is accepted for it
 abbrev pub IsOwnRefusal : JobData → List ℕ → ReadText → RefusalData → Type 0
@@ -67,6 +100,8 @@ IsOwnRefusal Rotations bytes read refusal = ⊥
 IsOwnRefusal (JobData.List after limit) bytes read refusal = IsBadCursor after read.input refusal
 IsOwnRefusal Pairs bytes read refusal = ⊥
 IsOwnRefusal Regret bytes read refusal = ⊥
+IsOwnRefusal Meet bytes read refusal = IsBadGiven read.input (texts_from bytes read.rest) read.rest_line refusal
+IsOwnRefusal Join bytes read refusal = IsBadGiven read.input (texts_from bytes read.rest) read.rest_line refusal
 
 -- an input is refused
 pub data IsRefused (job : JobData) (bytes : List ℕ) (refusal : RefusalData) : Type 0 where

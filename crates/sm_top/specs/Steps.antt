@@ -2,7 +2,7 @@
 use Rattle.std.specs.Prelude.{◌≡◌, ◌≢◌, ℕ, true, List, [], ◌∷◌, Option, Ok}
 use Rattle.sm_io.specs.Source.{Agrees}
 use Rattle.sm_io.specs.Faults.{Rose}
-use Rattle.sm_text.specs.declared.refusal.RefusalKind.TheVariants.{TooLong}
+use Rattle.sm_text.specs.declared.refusal.RefusalKind.TheVariants.{TooLong, NotStable}
 use Rattle.sm_words.specs.Jobs.{JobData}
 use Rattle.sm_words.specs.Words.{words_meaning}
 use Rattle.sm_top.specs.declared.status.Status.{Status}
@@ -10,7 +10,7 @@ use Rattle.sm_top.specs.declared.status.Status.TheVariants.{Refused, Usage, OutO
 use Rattle.sm_top.specs.declared.stop.Stop.{Stop}
 use Rattle.sm_top.specs.declared.stop.Stop.TheVariants as stop
 use Rattle.sm_top.specs.Input.{IsReadWhole}
-use Rattle.sm_top.specs.Texts.{RefusalData, plain, usage_line, refused_line}
+use Rattle.sm_top.specs.Texts.{RefusalData, plain, with_detail, fields_of, usage_line, refused_line}
 use Rattle.sm_top.specs.Outcome.{IsAnswer, IsRefused}
 use Rattle.sm_top.specs.Running.{IsBeingRead, reads}
 use Rattle.sm_top.specs.Wrote.{Wrote, With}
@@ -51,5 +51,7 @@ pub record IsReadFault (words : List (List ℕ)) (before after : ℕ) : Type 0 w
 abbrev pub SaysStop : Stop → Option (List ℕ) → Option (List ℕ) → ℕ → ℕ → Status → Type 0
 SaysStop (stop.Usage word) a b f g status = Wrote (With (Usage word) (λ lines. lines ≡ usage_line word ∷ [])) a b f g status
 SaysStop (stop.Refused kind at) a b f g status = Wrote (With (Refused kind at) (λ lines. lines ≡ refused_line (plain kind at) ∷ [])) a b f g status
+SaysStop (stop.Unstable at fields) a b f g status =
+    Wrote (With (Refused NotStable at) (λ lines. lines ≡ refused_line (with_detail NotStable at (fields_of fields)) ∷ [])) a b f g status
 SaysStop stop.ReadFault a b f g status = (status ≡ ReadFault) × (b ≡ a)
 SaysStop stop.OutOfMemory a b f g status = (status ≡ OutOfMemory) × (b ≡ a)

@@ -1,6 +1,7 @@
 -- The lines that are written where there is no answer.
-use Rattle.std.specs.Prelude.{ℕ, List, [], ◌++◌, codes, decimal}
+use Rattle.std.specs.Prelude.{ℕ, List, [], ◌++◌, codes, decimal, map, Vec}
 use Rattle.std.specs.List.{flat_map}
+use Rattle.std.specs.declared.alloc.Global.{Global}
 use Rattle.sm_text.specs.Refusal.{name_of_refusal}
 use Rattle.sm_text.specs.declared.refusal.RefusalKind.{RefusalKind}
 
@@ -10,14 +11,25 @@ pub record RefusalData : Type 0 where
   pub at : ℕ
   pub detail : List (List ℕ)
 
+abbrev pub with_detail : RefusalKind → ℕ → List (List ℕ) → RefusalData
+with_detail kind at detail = record { kind = kind; at = at; detail = detail }
+
 abbrev pub plain : RefusalKind → ℕ → RefusalData
-plain kind at = record { kind = kind; at = at; detail = [] }
+plain kind at = with_detail kind at []
+
+-- fields, each behind a space
+abbrev pub spaced : List (List ℕ) → List ℕ
+spaced fields = flat_map (λ field. codes " " ++ field) fields
 
 -- the line that names a refusal
 abbrev pub refused_line : RefusalData → List ℕ
 refused_line refusal =
-    codes "refused " ++ name_of_refusal refusal.kind ++ codes " " ++ decimal refusal.at ++ flat_map (λ field. codes " " ++ field) refusal.detail
+    codes "refused " ++ name_of_refusal refusal.kind ++ codes " " ++ decimal refusal.at ++ spaced refusal.detail
 
 -- the line that names a faulty word by its number
 abbrev pub usage_line : ℕ → List ℕ
 usage_line word = codes "usage " ++ decimal word
+
+-- the fields of a refusal, as plain data
+abbrev pub fields_of : Vec (Vec ℕ Global) Global → List (List ℕ)
+fields_of fields = map (λ (field : Vec ℕ Global). field.items) fields.items

@@ -5,6 +5,7 @@ ghost use Rattle.sm_answer.specs.Printing.{IsShown};
 ghost use Rattle.sm_instance.specs.Sound.{IsInstance};
 ghost use Rattle.sm_instance.specs.declared.inputs.Input.TheVariants.{Two, Room};
 ghost use Rattle.sm_reader.specs.InstanceText.{read_of};
+ghost use Rattle.sm_text.specs.Limits.{most_bytes};
 ghost use Rattle.sm_words.specs.Jobs.{job_of, IsInBounds, IsLimit};
 ghost use Rattle.sm_top.specs.Accepting.{judged, accepted, too_many_in, IsTooMany};
 ghost use Rattle.sm_top.specs.Seated.{IsSeated};
@@ -18,11 +19,13 @@ ghost use Rattle.sm_shown.specs.RotationAnswer.{IsRotationAnswer};
 ghost use Rattle.sm_top.specs.Stops.{StopsBy};
 ghost use Rattle.sm_top.specs.Wrote.{Wrote, With};
 
+use crate::choosing::choose;
 use crate::refusing::seats_of;
 use crate::status::Status;
 use crate::stop::Stop;
 use crate::writing::write;
 use sm_instance::{Input, Instance, Persons, Side};
+use sm_lattice::Choice;
 use sm_io::Sink;
 use sm_listing::{list_lines, start_list};
 use sm_partners::{find_pairs, find_regret, none_lines, pairs_lines, regret_lines};
@@ -53,6 +56,7 @@ pub(crate) fn perform<K: Sink>(
     read: &Read,
     sink: &mut K,
 ) -> Result<Status, Stop>
+    requires short { length bytes.now ≤ most_bytes }
     requires accepted { accepted (job_of job.now) bytes.now ≡ judged (job_of job.now) (read_of read.now) }
     requires bounds { IsInBounds (job_of job.now) }
     ensures wrote { IfOk result (λ status. Wrote (IsAnswer (job_of job.now) bytes.now)
@@ -96,6 +100,7 @@ fn perform_on_seats<K: Sink>(
     given: &Seated<'_>,
     sink: &mut K,
 ) -> Result<Status, Stop>
+    requires short { length bytes.now ≤ most_bytes }
     requires accepted { accepted (job_of job.now) bytes.now ≡ Ok (read_of given.now.read.now) }
     requires seated { IsSeated given.now.read.now.input given.now.instance.now given.now.seats }
     requires bounds { IsInBounds (job_of job.now) }
@@ -113,6 +118,8 @@ fn perform_on_seats<K: Sink>(
         Job::List(after, limit) => list(alloc, given, after, *limit, sink),
         Job::Pairs => Ok(show_pairs(alloc, given, sink)?),
         Job::Regret => Ok(show_regret(alloc, given, sink)?),
+        Job::Meet => choose(alloc, given.read, given.instance, bytes, Choice::Better, sink),
+        Job::Join => choose(alloc, given.read, given.instance, bytes, Choice::Worse, sink),
     }
 }
 
@@ -141,7 +148,9 @@ fn perform_on_persons<K: Sink>(
         | Job::Rotations
         | Job::List(_, _)
         | Job::Pairs
-        | Job::Regret => Err(Stop::Refused(RefusalKind::WrongKind, read.header_line)),
+        | Job::Regret
+        | Job::Meet
+        | Job::Join => Err(Stop::Refused(RefusalKind::WrongKind, read.header_line)),
     }
 }
 

@@ -107,5 +107,6 @@ fn takes_text(job: &Job) -> bool
         | Job::List(_, _)
         | Job::Pairs
         | Job::Regret => false,
+        Job::Meet | Job::Join => true,
     }
 }

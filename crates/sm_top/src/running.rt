@@ -19,6 +19,7 @@ use crate::status::Status;
 use crate::stop::{RefusedLine, Stop, UsageLine};
 use crate::writing::write;
 use sm_io::{Sink, Source};
+use sm_text::RefusalKind;
 use sm_words::{Job, WordsFault, read_words};
 use std::alloc::Global;
 
@@ -36,11 +37,16 @@ use std::alloc::Global;
 ///   closed sets that the lines show (theorem 2.5.7 there); for `list` the rank vectors of the allowed stable matchings
 ///   behind the cursor, in their order and at most so many as the limit (after section 3.3 there); for `pairs` the pairs of
 ///   all stable matchings, and which of them are in each (section 2.3.3 there); for `regret` the least regret of an allowed
-///   stable matching, and of those that have it the pairs of the one that is best for all proposers (Gusfield 1987).
+///   stable matching, and of those that have it the pairs of the one that is best for all proposers (Gusfield 1987); for
+///   `meet` and `join` the pairs of two stable matchings, which are read behind `end`, and those of the matching in which
+///   each proposer has the better of its two partners, or the worse (section 1.3.1 there).
 /// - `Refused`: the input is refused for this reason, at this line; the one line `refused NAME LINE` is written. An input
 ///   that is too long comes first, then the faults of its lines from the top, then a missing `end`, then a name that isn't
-///   declared, then text behind `end`, then a kind that the command doesn't take, then seats that have more than 1,048,576
-///   entries, then a cursor that hasn't a number for each proposer.
+///   declared, then text behind `end` where the command takes none, then a kind that the command doesn't take, then seats that have more than 1,048,576
+///   entries. Then come a cursor that hasn't a number for each proposer, for `list`; and for `meet` and `join` the first
+///   line behind `end` that can't stand where it stands, then, with four more fields, the first pair that can't be held
+///   beside those before it, then, at the closing `end`, a pair that blocks the left matching, then one that blocks the
+///   right one.
 /// - `NoneExists`: the whole answer is written, and says that there is no such matching. For `solve` it is `none`, where
 ///   roommates have no stable matching, and the parties of a stable partition that has an odd one of three or more (Tan
 ///   1991); for `regret` it is `none` alone, where no stable matching is allowed.
@@ -49,7 +55,7 @@ use std::alloc::Global;
 /// - `OutOfMemory`: there was no memory. Nothing was written, or a front of the answer.
 ///
 /// What is written is added to what the sink held. It depends on the bytes that the source gave and not on how they were cut.
-/// Takes time and memory linear in the bytes for `solve` and `reduced`. For the others those of [`sm_rotations::chain`] and
+/// Takes time and memory linear in the bytes for `solve`, `reduced`, `meet` and `join`, beside a look-up for each name. For the others those of [`sm_rotations::chain`] and
 /// [`sm_poset::Poset::of`] come besides, and then those of [`sm_listing::start_list`] and of each step for `list`, and of
 /// [`sm_partners::find_pairs`] and [`sm_partners::find_regret`] for `pairs` and `regret`.
 pub fn run<S: Source, K: Sink>(
@@ -151,9 +157,19 @@ fn say_stop<K: Sink>(alloc: Global, sink: &mut K, stop: Stop) -> Status
             let lines = RefusedLine {
                 kind,
                 at,
+                detail: Vec::new(alloc),
                 is_said: false,
             };
             write(alloc, sink, Status::Refused(kind, at), lines)
+        }
+        Stop::Unstable(at, detail) => {
+            let lines = RefusedLine {
+                kind: RefusalKind::NotStable,
+                at,
+                detail,
+                is_said: false,
+            };
+            write(alloc, sink, Status::Refused(RefusalKind::NotStable, at), lines)
         }
         Stop::ReadFault => Status::ReadFault,
         Stop::OutOfMemory => Status::OutOfMemory,

@@ -1,7 +1,7 @@
 //! What is said where there is no answer.
 
 ghost use Rattle.std.specs.Prelude.{◌≡◌, OnOk, ◌++◌};
-ghost use Rattle.sm_top.specs.Texts.{plain, usage_line, refused_line};
+ghost use Rattle.sm_top.specs.Texts.{plain, fields_of, spaced, usage_line, refused_line};
 
 use sm_answer::Lines;
 use sm_text::{LineWriter, RefusalKind};
@@ -14,6 +14,8 @@ pub(crate) enum Stop {
     Usage(u32),
     /// The input is refused, for this reason and at this line.
     Refused(RefusalKind, u32),
+    /// A given matching isn't stable: the line, and the fields that tell why.
+    Unstable(u32, Vec<Vec<u8>>),
     /// The source failed.
     ReadFault,
     /// There was no memory.
@@ -63,15 +65,17 @@ impl Lines for UsageLine {
 pub(crate) struct RefusedLine {
     pub(crate) kind: RefusalKind,
     pub(crate) at: u32,
+    /// The fields that tell more.
+    pub(crate) detail: Vec<Vec<u8>>,
     pub(crate) is_said: bool,
 }
 
 impl Lines for RefusedLine {
-    ghost use Rattle.sm_top.specs.Texts.{plain, refused_line};
+    ghost use Rattle.sm_top.specs.Texts.{with_detail, fields_of, refused_line};
     ghost use Rattle.sm_top.specs.Unsaid.{lines_unsaid, most_unsaid};
     ghost use Rattle.std.specs.Prelude.{◌≡◌};
 
-    ghost gives = { λ s rest. rest ≡ lines_unsaid s.is_said (refused_line (plain s.kind s.at)) };
+    ghost gives = { λ s rest. rest ≡ lines_unsaid s.is_said (refused_line (with_detail s.kind s.at (fields_of s.detail))) };
 
     ghost most = { λ s. most_unsaid s.is_said };
 
@@ -81,6 +85,7 @@ impl Lines for RefusedLine {
             return Ok(false);
         }
         put_refused(into, self.kind, self.at)?;
+        put_fields(into, &self.detail)?;
         self.is_said = true;
         Ok(true)
     }
@@ -94,7 +99,7 @@ fn put_usage(into: &mut LineWriter, word: u32) -> Result<(), AllocError>
     into.put_number(u64::from(word))
 }
 
-// Puts the line that names why an input is refused, and where.
+// Puts why an input is refused, and where.
 fn put_refused(into: &mut LineWriter, kind: RefusalKind, at: u32) -> Result<(), AllocError>
     ensures { OnOk result (into.new.bytes ≡ into.old.bytes ++ refused_line (plain kind at)) }
 {
@@ -102,4 +107,15 @@ fn put_refused(into: &mut LineWriter, kind: RefusalKind, at: u32) -> Result<(), 
     into.put_bytes(kind.name().as_bytes())?;
     into.put_bytes(b" ")?;
     into.put_number(u64::from(at))
+}
+
+// Puts fields, each behind a space.
+fn put_fields(into: &mut LineWriter, fields: &Vec<Vec<u8>>) -> Result<(), AllocError>
+    ensures { OnOk result (into.new.bytes ≡ into.old.bytes ++ spaced (fields_of fields.now)) }
+{
+    for field in fields {
+        into.put_bytes(b" ")?;
+        into.put_bytes(field)?;
+    }
+    Ok(())
 }

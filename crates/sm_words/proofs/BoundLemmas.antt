@@ -114,6 +114,8 @@ job_in_bounds command.List g job b e = subst IsInBounds (same_Some _ _ e) (by_li
   by_limit (Some n) b = b
 job_in_bounds command.Pairs g job b e = subst IsInBounds (same_Some _ _ e) tt
 job_in_bounds command.Regret g job b e = subst IsInBounds (same_Some _ _ e) tt
+job_in_bounds command.Meet g job b e = subst IsInBounds (same_Some _ _ e) tt
+job_in_bounds command.Join g job b e = subst IsInBounds (same_Some _ _ e) tt
 
 asked_in_bounds : (c : Command) (operands : List (List ℕ)) (job : JobData) → asked c operands ≡ Ok job → IsInBounds job
 asked_in_bounds c operands job e = by_given (read_operands c 2 nothing operands) refl e where

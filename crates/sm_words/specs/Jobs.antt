@@ -12,6 +12,8 @@ pub data JobData : Type 0 where
   List : Option (Vector ℕ) → ℕ → JobData
   Pairs : JobData
   Regret : JobData
+  Meet : JobData
+  Join : JobData
 
 abbrev pub job_of : Job → JobData
 job_of (job.Solve side) = Solve side
@@ -20,6 +22,8 @@ job_of job.Rotations = Rotations
 job_of (job.List after limit) = List (option_map (λ v. v.items) after) limit
 job_of job.Pairs = Pairs
 job_of job.Regret = Regret
+job_of job.Meet = Meet
+job_of job.Join = Join
 
 -- a limit lies in its bounds
 abbrev pub least_limit : ℕ
@@ -39,3 +43,5 @@ IsInBounds Rotations = Unit {0}
 IsInBounds (List after limit) = IsLimit limit
 IsInBounds Pairs = Unit {0}
 IsInBounds Regret = Unit {0}
+IsInBounds Meet = Unit {0}
+IsInBounds Join = Unit {0}

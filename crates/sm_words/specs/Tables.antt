@@ -26,6 +26,8 @@ commands =
     ∷ (codes "list", command.List)
     ∷ (codes "pairs", command.Pairs)
     ∷ (codes "regret", command.Regret)
+    ∷ (codes "meet", command.Meet)
+    ∷ (codes "join", command.Join)
     ∷ []
 
 abbrev pub operands_of : Command → List (List ℕ × Operand)
@@ -35,6 +37,8 @@ operands_of command.Rotations = []
 operands_of command.List = (codes "after", operand.After) ∷ (codes "limit", operand.Limit) ∷ []
 operands_of command.Pairs = []
 operands_of command.Regret = []
+operands_of command.Meet = []
+operands_of command.Join = []
 
 abbrev pub sides : List (List ℕ × Side)
 sides = (codes "proposers", Proposers) ∷ (codes "reviewers", Reviewers) ∷ []

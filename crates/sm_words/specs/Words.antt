@@ -6,7 +6,7 @@ use Rattle.sm_words.specs.declared.operands.Command.{Command}
 use Rattle.sm_words.specs.declared.operands.Command.TheVariants as command
 use Rattle.sm_words.specs.declared.jobs.WordsFault.{WordsFault}
 use Rattle.sm_words.specs.declared.jobs.WordsFault.TheVariants.{Usage, OutOfMemory}
-use Rattle.sm_words.specs.Jobs.{JobData, Solve, Reduced, Rotations, Pairs, Regret}
+use Rattle.sm_words.specs.Jobs.{JobData, Solve, Reduced, Rotations, Pairs, Regret, Meet, Join}
 use Rattle.sm_words.specs.Tables.{look_up, commands}
 use Rattle.sm_words.specs.Operands.{GivenData, nothing, with_word}
 
@@ -33,6 +33,8 @@ job_for command.Rotations g = Some Rotations
 job_for command.List g = Some (JobData.List g.after (unwrap_or g.limit usual_limit))
 job_for command.Pairs g = Some Pairs
 job_for command.Regret g = Some Regret
+job_for command.Meet g = Some Meet
+job_for command.Join g = Some Join
 
 abbrev pub or_missing : Command → ℕ → Result GivenData ℕ → Result JobData ℕ
 or_missing command behind (Err word) = Err word

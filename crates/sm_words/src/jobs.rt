@@ -19,6 +19,10 @@ pub enum Job {
     Pairs,
     /// The allowed stable matching of the least regret.
     Regret,
+    /// The matching in which each proposer has the better of its partners in two stable matchings that are given.
+    Meet,
+    /// The matching in which each proposer has the worse of them.
+    Join,
 }
 
 /// Why words ask for nothing.

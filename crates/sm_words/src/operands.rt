@@ -23,6 +23,8 @@ pub(crate) enum Command {
     List,
     Pairs,
     Regret,
+    Meet,
+    Join,
 }
 
 /// An operand.
@@ -60,6 +62,8 @@ pub(crate) fn command_named(name: &str) -> Option<Command>
         "list" => Some(Command::List),
         "pairs" => Some(Command::Pairs),
         "regret" => Some(Command::Regret),
+        "meet" => Some(Command::Meet),
+        "join" => Some(Command::Join),
         _ => None,
     }
 }
@@ -115,6 +119,8 @@ fn operand_named(command: Command, name: &str) -> Option<Operand>
         },
         Command::Pairs => None,
         Command::Regret => None,
+        Command::Meet => None,
+        Command::Join => None,
     }
 }
 

@@ -18,7 +18,7 @@ const USUAL_LIMIT: u32 = 100;
 /// behind the first `=`. Each operand stands at most once, and they stand in any order. `solve` may have
 /// `side=proposers` or `side=reviewers`; `list` may have `after=` with the numbers of a vector, one comma between each two
 /// or `-` for none, and `limit=` with a number from 1 to 1,000,000, which is 100 where none is given; `reduced`,
-/// `rotations`, `pairs` and `regret` have no operands. Takes time linear in the words, and memory for the vector alone.
+/// `rotations`, `pairs`, `regret`, `meet` and `join` have no operands. Takes time linear in the words, and memory for the vector alone.
 ///
 /// # Errors
 ///
@@ -78,6 +78,8 @@ fn job_for(command: Command, given: Given) -> Option<Job>
         Command::List => Some(Job::List(given.after, given.limit.unwrap_or(USUAL_LIMIT))),
         Command::Pairs => Some(Job::Pairs),
         Command::Regret => Some(Job::Regret),
+        Command::Meet => Some(Job::Meet),
+        Command::Join => Some(Job::Join),
     }
 }
 

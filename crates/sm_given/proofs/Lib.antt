@@ -1,0 +1,4 @@
+pub mod HoldingLemmas
+pub mod ReadingLemmas
+pub mod GivenLemmas
+pub mod ChosenLemmas

@@ -1,0 +1,45 @@
+-- The answers of `meet` and `join`.
+use Rattle.std.specs.Prelude.{◌≡◌, ℕ, List, [], ◌∷◌, ◌++◌, length, map, Option}
+use Rattle.std.specs.List.{range_with_len}
+use Rattle.sm_answer.specs.Lines.{lines_from}
+use Rattle.sm_instance.specs.Written.{Written}
+use Rattle.sm_instance.specs.Matching.{held}
+use Rattle.sm_instance.specs.declared.inputs.Input.TheVariants.{Two}
+use Rattle.sm_lattice.specs.Choices.{chosen}
+use Rattle.sm_lattice.specs.declared.choice.Choice.{Choice}
+use Rattle.sm_lattice.specs.declared.choice.Choice.TheVariants.{Better, Worse}
+use Rattle.sm_report.specs.Heads.{HeadData}
+use Rattle.sm_report.specs.Lines.{LineData}
+use Rattle.sm_given.specs.GivenText.{AreGiven}
+use Rattle.sm_given.specs.Held.{places_in, GiveStable}
+use Rattle.sm_given.specs.MatchingLines.{matching_line}
+use Rattle.sm_given.specs.declared.matching_lines.PairWord.{PairWord}
+use Rattle.sm_given.specs.declared.matching_lines.PairWord.TheVariants as word
+
+-- each proposer has the chosen one of its partners in two matchings: the better in the meet, the worse in the join; to be
+-- unmatched is worse than every partner (Gusfield and Irving 1989, section 1.3.1)
+abbrev pub chosen_places : Choice → Written → (m n : List (Option ℕ)) → List (Option ℕ)
+chosen_places choice w m n = map (λ p. chosen choice (held m p) (held n p)) (range_with_len 0 (length w.proposers))
+
+-- the pairs of a matching in the order of the proposers
+abbrev pub pair_lines : PairWord → Written → List (Option ℕ) → List LineData
+pair_lines word w places = lines_from (matching_line word w places) 0 (length w.proposers)
+
+abbrev pub head_for : Choice → HeadData
+head_for Better = HeadData.Meet
+head_for Worse = HeadData.Join
+
+-- the two matchings and the chosen one, each in the order of the proposers
+abbrev pub chosen_lines : Choice → Written → (m n : List (Option ℕ)) → List LineData
+chosen_lines choice w m n =
+    LineData.Answer (head_for choice)
+    ∷ (pair_lines word.Left w m ++ (pair_lines word.Right w n ++ (pair_lines word.Pair w (chosen_places choice w m n) ++ LineData.End ∷ [])))
+
+-- the lines are those of two stable matchings that were given and of the chosen one
+pub record IsChosenAnswer (choice : Choice) (texts : List (List ℕ)) (w : Written) (answer : List LineData) : Type 0 where
+  pub left : List (ℕ × ℕ)
+  pub right : List (ℕ × ℕ)
+  pub given : AreGiven (Two w) texts left right
+  pub first : GiveStable w left
+  pub second : GiveStable w right
+  pub shows : answer ≡ chosen_lines choice w (places_in w left) (places_in w right)

@@ -1,0 +1,49 @@
+-- The text of two given matchings.
+use Rattle.std.specs.Prelude.{◌≡◌, ℕ, suc, ◌+◌, ◌<◌, List, [], ◌∷◌, ◌++◌, length, map, take, drop, All}
+use Rattle.sm_text.specs.Lines.{lines, content}
+use Rattle.sm_instance.specs.declared.inputs.Input.{Input}
+use Rattle.sm_report.specs.Lines.{LineData}
+use Rattle.sm_report.specs.Sound.{ArePair}
+use Rattle.sm_report.specs.Texts.{text_of_line}
+
+-- what stands on the lines from a place on, without their ends
+abbrev pub texts_from : List ℕ → ℕ → List (List ℕ)
+texts_from bytes from = map content (lines (drop from bytes))
+
+-- `left` lines, then `right` lines, then `end`
+abbrev pub left_pair : ℕ × ℕ → LineData
+left_pair pair = LineData.LeftPair pair.0 pair.1
+
+abbrev pub right_pair : ℕ × ℕ → LineData
+right_pair pair = LineData.RightPair pair.0 pair.1
+
+abbrev pub given_lines : (left right : List (ℕ × ℕ)) → List LineData
+given_lines left right = map left_pair left ++ map right_pair right ++ LineData.End ∷ []
+
+-- all pairs are of agents that are there
+abbrev pub ArePairs : Input → List (ℕ × ℕ) → Type 0
+ArePairs input pairs = All (λ (pair : ℕ × ℕ). ArePair input pair.0 pair.1) pairs
+
+-- the texts are those of the lines of these pairs
+pub record AreGiven (input : Input) (texts : List (List ℕ)) (left right : List (ℕ × ℕ)) : Type 0 where
+  pub left_there : ArePairs input left
+  pub right_there : ArePairs input right
+  pub spelled : texts ≡ map (text_of_line input) (given_lines left right)
+
+-- they are the first of such texts
+pub record AreBegun (input : Input) (texts : List (List ℕ)) : Type 0 where
+  pub left : List (ℕ × ℕ)
+  pub right : List (ℕ × ℕ)
+  pub rest : List (List ℕ)
+  pub given : AreGiven input (texts ++ rest) left right
+
+-- the first line, numbered from 0, that can't stand where it stands; or the one behind the last, where lines are missing
+pub data IsBadLine (input : Input) (texts : List (List ℕ)) (k : ℕ) : Type 0 where
+  misplaced : k < length texts → AreBegun input (take k texts) → ¬ AreBegun input (take (suc k) texts) → IsBadLine input texts k
+  missing : k ≡ length texts → AreBegun input texts → ((left right : List (ℕ × ℕ)) → ¬ AreGiven input texts left right) → IsBadLine input texts k
+
+-- the line, counted from 1, that is the first bad one of texts, of which the first stands on this line
+pub record IsBadAt (input : Input) (texts : List (List ℕ)) (first_line at : ℕ) : Type 0 where
+  pub k : ℕ
+  pub bad : IsBadLine input texts k
+  pub there : at ≡ first_line + k

@@ -1,0 +1,17 @@
+-- The pairs of a matching as lines.
+use Rattle.std.specs.Prelude.{ℕ, List, Option}
+use Rattle.std.specs.Option.{option_map}
+use Rattle.sm_instance.specs.Written.{Written, entry}
+use Rattle.sm_instance.specs.Matching.{held}
+use Rattle.sm_report.specs.Lines.{LineData}
+use Rattle.sm_given.specs.declared.matching_lines.PairWord.{PairWord}
+use Rattle.sm_given.specs.declared.matching_lines.PairWord.TheVariants as word
+
+abbrev pub pair_data : PairWord → ℕ → ℕ → LineData
+pair_data word.Pair p r = LineData.Pair p r
+pair_data word.Left p r = LineData.LeftPair p r
+pair_data word.Right p r = LineData.RightPair p r
+
+-- the pair of a proposer that is matched
+abbrev pub matching_line : PairWord → Written → List (Option ℕ) → ℕ → Option LineData
+matching_line word w places p = option_map (λ i. pair_data word p (entry w.proposers p i)) (held places p)

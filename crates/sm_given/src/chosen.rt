@@ -1,0 +1,122 @@
+//! The answers of `meet` and `join`.
+
+ghost use Rattle.std.specs.Prelude.{◌≡◌, ◌<◌, ℕ, List, length, IfOk};
+ghost use Rattle.sm_answer.specs.Giving.{HasRest};
+ghost use Rattle.sm_answer.specs.Printing.{IsShown};
+ghost use Rattle.sm_instance.specs.Matching.{IsAssignment};
+ghost use Rattle.sm_instance.specs.declared.inputs.Input.TheVariants.{Two};
+ghost use Rattle.sm_given.specs.Given.{AreFound};
+ghost use Rattle.sm_given.specs.Chosen.{chosen_places, head_for, IsChosenAnswer};
+ghost use Rattle.sm_report.specs.Heads.{head_of};
+
+use crate::given::Given;
+use crate::matching_lines::{MatchingLines, PairWord};
+use sm_answer::{Each, Lines, One, Printed, Then};
+use sm_instance::{Assignment, Input, Instance};
+use sm_lattice::{Choice, chosen_place};
+use sm_report::{Head, Line};
+use std::alloc::{AllocError, Global};
+
+/// The matching in which each proposer has the better of its two partners, or the worse, where being unmatched is worse than
+/// every partner (Gusfield and Irving 1989, section 1.3.1). Takes time and memory in proportion to the proposers.
+///
+/// # Errors
+///
+/// `AllocError` where memory ran out, and only then.
+pub fn choose_places(
+    alloc: Global,
+    instance: &Instance,
+    choice: Choice,
+    given: &Given,
+) -> Result<Assignment, AllocError>
+    requires left { IsAssignment instance.now given.now.left.places.items }
+    requires right { IsAssignment instance.now given.now.right.places.items }
+    ensures { IfOk result (λ a. a.places.items
+        ≡ chosen_places choice instance.now given.now.left.places.items given.now.right.places.items) }
+{
+    let proposers = instance.proposer_count() as usize;
+    let mut places = Vec::with_capacity(alloc, proposers)?;
+    for p in 0..proposers {
+        places.push(chosen_place(choice, given.left.places[p], given.right.places[p]))?;
+    }
+    Ok(Assignment { places })
+}
+
+/// The lines of the answers of `meet` and `join`.
+pub type ChosenLines<'a> = Printed<
+    'a,
+    Then<
+        One,
+        Then<
+            Each<MatchingLines<'a>>,
+            Then<Each<MatchingLines<'a>>, Then<Each<MatchingLines<'a>>, One>>,
+        >,
+    >,
+>;
+
+/// The head, the pairs of the two matchings and of the chosen one, each in the order of the proposers, and `end`.
+pub fn chosen_lines<'a>(
+    input: &'a Input,
+    instance: &'a Instance,
+    choice: Choice,
+    given: &'a Given,
+    chosen: &'a Assignment,
+) -> ChosenLines<'a>
+    ghost texts: { List (List ℕ) }
+    requires input { input.now ≡ Two instance.now }
+    requires given { AreFound instance.now texts given.now }
+    requires chosen { chosen.now.places.items
+        ≡ chosen_places choice instance.now given.now.left.places.items given.now.right.places.items }
+    ensures right { (lines : List (List ℕ)) → ⟦<ChosenLines<'a> as Lines>⟧.gives result lines
+        → IsShown input.now (IsChosenAnswer choice texts instance.now) lines }
+    ensures some { HasRest (⟦<ChosenLines<'a> as Lines>⟧.gives result) }
+{
+    let _count = instance.proposer_count();
+    Printed {
+        input,
+        answer: Then {
+            first: One(Some(Line::Answer(head_for(choice)))),
+            second: Then {
+                first: Each {
+                    items: MatchingLines {
+                        word: PairWord::Left,
+                        instance,
+                        matching: &given.left,
+                    },
+                    next: 0,
+                },
+                second: Then {
+                    first: Each {
+                        items: MatchingLines {
+                            word: PairWord::Right,
+                            instance,
+                            matching: &given.right,
+                        },
+                        next: 0,
+                    },
+                    second: Then {
+                        first: Each {
+                            items: MatchingLines {
+                                word: PairWord::Pair,
+                                instance,
+                                matching: chosen,
+                            },
+                            next: 0,
+                        },
+                        second: One(Some(Line::End)),
+                    },
+                },
+            },
+        },
+    }
+}
+
+// The head of an answer.
+fn head_for(choice: Choice) -> Head
+    ensures { head_of result ≡ head_for choice }
+{
+    match choice {
+        Choice::Better => Head::Meet,
+        Choice::Worse => Head::Join,
+    }
+}
