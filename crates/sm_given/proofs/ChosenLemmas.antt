@@ -100,17 +100,12 @@ lines_right choice w texts given found = record {
   shows = ap (λ m. chosen_lines choice w m given.right.places.items) found.left_is ∙ ap (λ n. chosen_lines choice w (places_in w found.left) n) found.right_is;
 }
 
--- the three are assignments
+-- the two are assignments
 pub found_left : (w : Written) (texts : List (List ℕ)) (given : Given) → AreFound w texts given → IsAssignment w given.left.places.items
 found_left w texts given found = subst (IsAssignment w) (sym found.left_is) found.left_stable.stable.matching.assigned
 
 pub found_right : (w : Written) (texts : List (List ℕ)) (given : Given) → AreFound w texts given → IsAssignment w given.right.places.items
 found_right w texts given found = subst (IsAssignment w) (sym found.right_is) found.right_stable.stable.matching.assigned
-
-pub found_chosen : (choice : Choice) (w : Written) (texts : List (List ℕ)) (given : Given) (places : List (Option ℕ)) → AreFound w texts given
-    → places ≡ chosen_places choice w given.left.places.items given.right.places.items → IsAssignment w places
-found_chosen choice w texts given places found is =
-    subst (IsAssignment w) (sym is) (chosen_assigned choice w given.left.places.items given.right.places.items (found_left w texts given found) (found_right w texts given found))
 
 -- the lines as they are given
 abbrev pub parts_given : HeadData → Written → (m n o : List (Option ℕ)) → List LineData

@@ -1,12 +1,16 @@
 -- Why two given matchings aren't stable.
-use Rattle.std.proofs.Common.{◌≡◌, ℕ, ◌+◌, List, length, Option, subst}
+use Rattle.std.proofs.Common.{◌≡◌, ℕ, ◌+◌, ◌<◌, List, length, Option, subst, sym}
 use Rattle.sm_instance.specs.Written.{Written}
 use Rattle.sm_instance.specs.Stable.{IsStable}
 use Rattle.sm_instance.specs.declared.inputs.Input.TheVariants.{Two}
-use Rattle.sm_given.specs.GivenText.{AreGiven}
+use Rattle.sm_instance.proofs.ListLemmas.{row_in_range}
+use Rattle.sm_report.specs.Sound.{ArePair}
+use Rattle.sm_given.specs.GivenText.{ArePairs, AreGiven}
 use Rattle.sm_given.specs.Held.{places_in, CanHold}
 use Rattle.sm_given.specs.Holding.{IsHoldFault}
-use Rattle.sm_given.specs.Refusing.{IsGivenFault, IsBlocking, IsUnstable}
+use Rattle.sm_given.specs.Refusing.{IsGivenFault, IsBlocking, IsBlockedBy, IsBreachIn, IsUnstable, AreUnstable}
+use Rattle.sm_given.specs.declared.faults.Which.{Which}
+use Rattle.sm_given.specs.declared.faults.Unstable.{Unstable}
 use Rattle.sm_given.specs.declared.faults.Which.TheVariants.{Left, Right}
 use Rattle.sm_given.specs.declared.faults.GivenFault.{GivenFault}
 use Rattle.sm_given.specs.declared.faults.GivenFault.TheVariants.{BadAnswer, NotStable, OutOfMemory}
@@ -35,3 +39,23 @@ module _ (w : Written) (texts : List (List ℕ)) (line : ℕ) (left right : List
         unstable = IsUnstable.right_blocked l r (subst (IsStable w) same_m st) (subst (λ xs. IsBlocking w xs Right (line + length left + length right) (NotStable u)) same_n h);
       }
   right_blocked OutOfMemory m n same_m same_n l r st h = absurd h
+
+-- the pair that keeps a matching from being stable is of agents that are there
+breach_there : (w : Written) (pairs : List (ℕ × ℕ)) (which : Which) (line : ℕ) (u : Unstable) → ArePairs (Two w) pairs → IsBreachIn w pairs which line u → ArePair (Two w) u.proposer u.reviewer
+breach_there w pairs which line u there b =
+    let in_range = there b.at (0, 0) b.first.breach.in_range in
+    (subst (λ p. p < length w.proposers) (sym b.proposer) in_range.0, subst (λ r. r < length w.reviewers) (sym b.reviewer) in_range.1)
+
+blocking_there : (w : Written) (places : List (Option ℕ)) (which : Which) (line : ℕ) (u : Unstable) → IsBlockedBy w places which line u → ArePair (Two w) u.proposer u.reviewer
+blocking_there w places which line u b =
+    let both = b.first.blocks.acceptable in
+    (row_in_range w.proposers u.proposer _ both.proposer_lists, row_in_range w.reviewers u.reviewer _ both.reviewer_lists)
+
+pub unstable_there : (w : Written) (texts : List (List ℕ)) (line : ℕ) (u : Unstable) → AreUnstable w texts line u → ArePair (Two w) u.proposer u.reviewer
+unstable_there w texts line u a = by_cause a.unstable
+  where
+    by_cause : IsUnstable w a.left a.right line u → ArePair (Two w) u.proposer u.reviewer
+    by_cause (IsUnstable.left_breach b) = breach_there w a.left Left line u a.given.left_there b
+    by_cause (IsUnstable.right_breach held b) = breach_there w a.right Right (line + length a.left) u a.given.right_there b
+    by_cause (IsUnstable.left_blocked l r b) = blocking_there w (places_in w a.left) Left (line + length a.left + length a.right) u b
+    by_cause (IsUnstable.right_blocked l r st b) = blocking_there w (places_in w a.right) Right (line + length a.left + length a.right) u b

@@ -62,12 +62,13 @@ pub fn chosen_lines<'a>(
     given: &'a Given,
     chosen: &'a Assignment,
 ) -> ChosenLines<'a>
-    ghost texts: { List (List ℕ) }
     requires input { input.now ≡ Two instance.now }
-    requires given { AreFound instance.now texts given.now }
+    requires left { IsAssignment instance.now given.now.left.places.items }
+    requires right { IsAssignment instance.now given.now.right.places.items }
     requires chosen { chosen.now.places.items
         ≡ chosen_places choice instance.now given.now.left.places.items given.now.right.places.items }
-    ensures right { (lines : List (List ℕ)) → ⟦<ChosenLines<'a> as Lines>⟧.gives result lines
+    ensures right { (texts : List (List ℕ)) → AreFound instance.now texts given.now
+        → (lines : List (List ℕ)) → ⟦<ChosenLines<'a> as Lines>⟧.gives result lines
         → IsShown input.now (IsChosenAnswer choice texts instance.now) lines }
     ensures some { HasRest (⟦<ChosenLines<'a> as Lines>⟧.gives result) }
 {

@@ -12,7 +12,7 @@ use Rattle.sm_instance.specs.declared.kinds.Kind.TheVariants.{Marriage, Hospital
 use Rattle.sm_instance.specs.declared.kinds.Side.{Side}
 use Rattle.sm_instance.specs.declared.kinds.Side.TheVariants.{Proposers}
 use Rattle.sm_reader.specs.InstanceText.{ReadText, Refusal}
-use Rattle.sm_words.specs.Jobs.{JobData, Solve, Reduced, Rotations, Pairs, Regret}
+use Rattle.sm_words.specs.Jobs.{JobData, Solve, Reduced, Rotations, Pairs, Regret, Meet, Join}
 use Rattle.sm_shown.specs.Answers.{IsSolution}
 use Rattle.sm_report.specs.Lines.{LineData}
 use Rattle.sm_partners.specs.RegretAnswer.{IsRegretAnswer, IsNoneAllowed}
@@ -40,6 +40,8 @@ takes_two Rotations kind two = two_sided kind two
 takes_two (JobData.List after limit) kind two = two_sided kind two
 takes_two Pairs kind two = two_sided kind two
 takes_two Regret kind two = two_sided kind two
+takes_two Meet kind two = two_sided kind two
+takes_two Join kind two = two_sided kind two
 
 -- so their seats alone are judged
 seats_judged : (job : JobData) (read : ReadText) (w : Written) → read.input ≡ Two w → w.kind ≢ Roommates → judged job read ≡ first_refusal (too_many_seats read ∷ []) read

@@ -6,20 +6,20 @@ use Rattle.sm_io.specs.Source.{Agrees}
 use Rattle.sm_io.specs.Sink.{Grows}
 use Rattle.sm_io.proofs.SinkLemmas.{Grows-nil}
 use Rattle.sm_answer.specs.Printing.{IsShown}
-use Rattle.sm_text.specs.declared.refusal.RefusalKind.TheVariants.{TooLong}
+use Rattle.sm_text.specs.declared.refusal.RefusalKind.TheVariants.{TooLong, NotStable}
 use Rattle.sm_instance.specs.Written.{Written}
 use Rattle.sm_instance.specs.declared.inputs.Input.{Input}
 use Rattle.sm_instance.specs.declared.inputs.Input.TheVariants.{Two, Room}
 use Rattle.sm_instance.specs.declared.kinds.Side.{Side}
 use Rattle.sm_reader.specs.InstanceText.{ReadText, instance_text}
 use Rattle.sm_report.specs.Lines.{LineData}
-use Rattle.sm_words.specs.Jobs.{JobData, Solve, Reduced, Rotations, Pairs, Regret}
+use Rattle.sm_words.specs.Jobs.{JobData, Solve, Reduced, Rotations, Pairs, Regret, Meet, Join}
 use Rattle.sm_words.specs.Words.{words_meaning}
 use Rattle.sm_top.specs.declared.status.Status.{Status}
 use Rattle.sm_top.specs.declared.status.Status.TheVariants.{Refused, Usage, OutOfMemory, ReadFault, WriteFault}
 use Rattle.sm_top.specs.declared.stop.Stop.{Stop}
 use Rattle.sm_top.specs.declared.stop.Stop.TheVariants as stop
-use Rattle.sm_top.specs.Texts.{RefusalData, plain, usage_line, refused_line}
+use Rattle.sm_top.specs.Texts.{RefusalData, plain, with_detail, fields_of, usage_line, refused_line}
 use Rattle.sm_top.specs.Stops.{StopsBy}
 use Rattle.sm_top.specs.Accepting.{accepted, behind_text}
 use Rattle.sm_top.specs.Outcome.{OfTwo, IsSolved, IsRegretted, IsAnswerOver, IsAnswer, IsRefused, Outcome, not_accepted, faulty_words, refused, answered}
@@ -30,12 +30,12 @@ use Rattle.sm_text.specs.Limits.{most_bytes}
 use Rattle.sm_top.specs.Wrote.{Ended, Wrote, With, whole, sink_failed, no_memory}
 use Rattle.sm_top.proofs.WritingLemmas.{wrote_for}
 
--- the lines of a right answer for an instance with two sides were written
-pub wrote_answer : (job : JobData) (bytes : List ℕ) (read : ReadText) (w : Written) (right : Written → List LineData → Type 0) (given : Status) (a b : Option (List ℕ)) (f g : ℕ) (status : Status)
+-- the lines of a right answer for an instance with two sides were written, where what is right may depend on what was read
+pub wrote_answer_by : (job : JobData) (bytes : List ℕ) (read : ReadText) (w : Written) (right : ReadText → Written → List LineData → Type 0) (given : Status) (a b : Option (List ℕ)) (f g : ℕ) (status : Status)
     → accepted job bytes ≡ Ok read → read.input ≡ Two w
-    → Wrote (With given (IsShown read.input (right w))) a b f g status → Wrote (λ s lines. (s ≡ given) × IsAnswerOver job bytes (λ read. OfTwo right read.input) lines) a b f g status
-wrote_answer job bytes read w right given a b f g status ok two =
-    wrote_for (With given (IsShown read.input (right w))) (λ s lines. (s ≡ given) × IsAnswerOver job bytes (λ read. OfTwo right read.input) lines) a b f g status
+    → Wrote (With given (IsShown read.input (right read w))) a b f g status → Wrote (λ s lines. (s ≡ given) × IsAnswerOver job bytes (λ read. OfTwo (right read) read.input) lines) a b f g status
+wrote_answer_by job bytes read w right given a b f g status ok two =
+    wrote_for (With given (IsShown read.input (right read w))) (λ s lines. (s ≡ given) × IsAnswerOver job bytes (λ read. OfTwo (right read) read.input) lines) a b f g status
     (λ s lines h. (
       h.same,
       record {
@@ -43,17 +43,23 @@ wrote_answer job bytes read w right given a b f g status ok two =
         ok = ok;
         shown = record {
           answer = h.given_lines.answer;
-          is_right = subst (λ (input : Input). OfTwo right input h.given_lines.answer) (sym two) h.given_lines.is_right;
+          is_right = subst (λ (input : Input). OfTwo (right read) input h.given_lines.answer) (sym two) h.given_lines.is_right;
           shows = h.given_lines.shows;
         };
       },
     ))
+
+pub wrote_answer : (job : JobData) (bytes : List ℕ) (read : ReadText) (w : Written) (right : Written → List LineData → Type 0) (given : Status) (a b : Option (List ℕ)) (f g : ℕ) (status : Status)
+    → accepted job bytes ≡ Ok read → read.input ≡ Two w
+    → Wrote (With given (IsShown read.input (right w))) a b f g status → Wrote (λ s lines. (s ≡ given) × IsAnswerOver job bytes (λ read. OfTwo right read.input) lines) a b f g status
+wrote_answer job bytes read w right = wrote_answer_by job bytes read w (λ _. right)
 
 -- what is known of a stop for one reason is known of it for another
 pub stops_for : (U U' : ℕ → Type 0) (R R' : RefusalData → Type 0) (F F' : Type 0) (s : Stop)
     → ((word : ℕ) → U word → U' word) → ((refusal : RefusalData) → R refusal → R' refusal) → (F → F') → StopsBy U R F s → StopsBy U' R' F' s
 stops_for U U' R R' F F' (stop.Usage word) u r f h = u word h
 stops_for U U' R R' F F' (stop.Refused kind at) u r f h = r (plain kind at) h
+stops_for U U' R R' F F' (stop.Unstable at fields) u r f h = r (with_detail NotStable at (fields_of fields)) h
 stops_for U U' R R' F F' stop.ReadFault u r f h = f h
 stops_for U U' R R' F F' stop.OutOfMemory u r f h = tt
 
@@ -168,6 +174,8 @@ answer_status Rotations bytes status lines h = ap is_answer h.0
 answer_status (JobData.List after limit) bytes status lines h = ap is_answer h.0
 answer_status Pairs bytes status lines h = ap is_answer h.0
 answer_status Regret bytes status lines h = regretted_status h.read.input status h.shown.answer h.shown.is_right
+answer_status Meet bytes status lines h = ap is_answer h.0
+answer_status Join bytes status lines h = ap is_answer h.0
 
 answer_whole : (status : Status) → is_answer status ≡ true → is_whole status ≡ true
 answer_whole (Refused kind at) h = refl
@@ -277,6 +285,13 @@ answers_stopped words before after a b f g h i (stop.Refused kind at) status ref
     (wrote_for (With (Refused kind at) (λ lines. lines ≡ refused_line (plain kind at) ∷ [])) (Outcome words r.bytes) a b f g status
     (λ s lines w. refused refusal.job (plain kind at) refusal.meaning r.refused w.same w.given_lines) says)
     (λ _ w short. r.read_whole (λ is. let same : status ≡ Refused kind at = with_whole (Refused kind at) _ a b f g status w says in let long : is_too_long status ≡ true = ap is_too_long same ∙ ap (λ k. is_too_long (Refused k at)) is in absurd cc))
+    (λ _. r.over) untouched
+answers_stopped words before after a b f g h i (stop.Unstable at fields) status refusal untouched says =
+    let r = refusal.for_job in
+    answers_wrote words r.bytes before after a b f g status r.read
+    (wrote_for (With (Refused NotStable at) (λ lines. lines ≡ refused_line (with_detail NotStable at (fields_of fields)) ∷ [])) (Outcome words r.bytes) a b f g status
+    (λ s lines w. refused refusal.job (with_detail NotStable at (fields_of fields)) refusal.meaning r.refused w.same w.given_lines) says)
+    (λ _ w short. r.read_whole (λ is. absurd cc))
     (λ _. r.over) untouched
 answers_stopped words before after a b f g h i stop.ReadFault status fault untouched says = answers_nothing words before after a b status (inr (says.0, fault.reading)) says.1 untouched
 answers_stopped words before after a b f g h i stop.OutOfMemory status none untouched says = answers_nothing words before after a b status (inl says.0) says.1 untouched

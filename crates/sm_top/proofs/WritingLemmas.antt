@@ -1,13 +1,15 @@
 -- What is written with a status.
-use Rattle.std.proofs.Common.{ℕ, List, ◌++◌, take, drop, Option, refl, sym, subst}
+use Rattle.std.proofs.Common.{◌≡◌, ℕ, List, [], ◌∷◌, ◌++◌, take, drop, Option, refl, sym, subst}
 use Rattle.std.proofs.Math.ListN.{take-append-drop}
 use Rattle.sm_io.specs.Faults.{Rose}
 use Rattle.sm_answer.specs.Printing.{IsShown}
 use Rattle.sm_answer.specs.Writing.{text_of, WroteAll, WroteFront}
 use Rattle.sm_instance.specs.declared.inputs.Input.{Input}
 use Rattle.sm_report.specs.Lines.{LineData}
+use Rattle.sm_text.specs.declared.refusal.RefusalKind.{RefusalKind}
 use Rattle.sm_top.specs.declared.status.Status.{Status}
-use Rattle.sm_top.specs.declared.status.Status.TheVariants.{OutOfMemory, WriteFault}
+use Rattle.sm_top.specs.declared.status.Status.TheVariants.{Refused, OutOfMemory, WriteFault}
+use Rattle.sm_top.specs.Texts.{with_detail, plain, refused_line}
 use Rattle.sm_top.specs.Running.{IsText, IsFront}
 use Rattle.sm_top.specs.Wrote.{Ended, Wrote, With, whole, sink_failed, no_memory}
 
@@ -65,3 +67,9 @@ pub wrote_shown : (given : Status) (gives : List (List ℕ) → Type 0) (input :
 wrote_shown given gives input right R a b f g status shows to =
     wrote_for (With given gives) (λ s. IsShown input (R s)) a b f g status
     (λ s lines h. let shown = shows lines h.given_lines in record { answer = shown.answer; is_right = subst (λ (s : Status). R s shown.answer) (sym h.same) (to shown.answer shown.is_right); shows = shown.shows })
+
+-- a refusal without fields is a plain one
+pub plain_said : (kind : RefusalKind) (at : ℕ) (fields : List (List ℕ)) (a b : Option (List ℕ)) (f g : ℕ) (status : Status) → fields ≡ []
+    → Wrote (With (Refused kind at) (λ lines. lines ≡ refused_line (with_detail kind at fields) ∷ [])) a b f g status
+    → Wrote (With (Refused kind at) (λ lines. lines ≡ refused_line (plain kind at) ∷ [])) a b f g status
+plain_said kind at fields a b f g status none w = subst (λ (fields : List (List ℕ)). Wrote (With (Refused kind at) (λ lines. lines ≡ refused_line (with_detail kind at fields) ∷ [])) a b f g status) none w

@@ -163,13 +163,14 @@ fn say_stop<K: Sink>(alloc: Global, sink: &mut K, stop: Stop) -> Status
             write(alloc, sink, Status::Refused(kind, at), lines)
         }
         Stop::Unstable(at, detail) => {
+            let kind = RefusalKind::NotStable;
             let lines = RefusedLine {
-                kind: RefusalKind::NotStable,
+                kind,
                 at,
                 detail,
                 is_said: false,
             };
-            write(alloc, sink, Status::Refused(RefusalKind::NotStable, at), lines)
+            write(alloc, sink, Status::Refused(kind, at), lines)
         }
         Stop::ReadFault => Status::ReadFault,
         Stop::OutOfMemory => Status::OutOfMemory,

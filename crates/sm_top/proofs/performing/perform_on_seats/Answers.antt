@@ -1,14 +1,19 @@
 use Rattle.sm_reader.specs.InstanceText.{read_of}
 use Rattle.std.proofs.lemmas.Result.{IfOk-weaker}
-use Rattle.sm_words.specs.Jobs.{JobData, Solve, Reduced, Rotations, Pairs, Regret}
+use Rattle.sm_words.specs.Jobs.{JobData, Solve, Reduced, Rotations, Pairs, Regret, Meet, Join}
 use Rattle.sm_shown.specs.Reduction.{IsReduction}
 use Rattle.sm_shown.specs.RotationAnswer.{IsRotationAnswer}
 use Rattle.sm_listing.specs.ListAnswer.{IsListAnswer}
 use Rattle.sm_listing.specs.Started.{cursor_in}
 use Rattle.sm_partners.specs.PairsAnswer.{IsPairsAnswer}
+use Rattle.sm_lattice.specs.declared.choice.Choice.TheVariants.{Better, Worse}
+use Rattle.sm_given.specs.GivenText.{texts_from}
+use Rattle.sm_given.specs.Chosen.{IsChosenAnswer}
 use Rattle.sm_top.specs.Outcome.{IsSolved, IsRegretted}
 use Rattle.sm_top.specs.declared.status.Status.TheVariants.{Done}
-use Rattle.sm_top.proofs.RunLemmas.{wrote_answer}
+use Rattle.sm_words.specs.Jobs.{job_of}
+use Rattle.sm_top.proofs.RefusingLemmas.{few_lines}
+use Rattle.sm_top.proofs.RunLemmas.{wrote_answer, wrote_answer_by}
 use Rattle.sm_top.proofs.KindLemmas.{answer_over, two_solved}
 use Rattle.sm_top.proofs.performing.perform_on_seats.Goals as goal
 
@@ -47,3 +52,21 @@ pub returns-in_ok-show_regret-in-Regret-clause-wrote : goal.returns-in_ok-show_r
 returns-in_ok-show_regret-in-Regret-clause-wrote g c =
     let ok = rw c.in-Regret.is at c.requires.accepted in
     rw c.in-Regret.is (answer_over Regret c.args.bytes.now (read_of c.args.given.now.read.now) IsRegretted _ _ _ _ _ ok c.in_ok-show_regret-in-Regret.ensures.wrote)
+
+pub choose-requires-clause-few : goal.choose-requires-clause-few
+choose-requires-clause-few g c = few_lines (job_of c.args.job.now) c.args.bytes.now (read_of c.args.given.now.read.now) c.requires.short c.requires.accepted
+
+pub choose-requires-in-Join-clause-few : goal.choose-requires-in-Join-clause-few
+choose-requires-in-Join-clause-few g c = few_lines (job_of c.args.job.now) c.args.bytes.now (read_of c.args.given.now.read.now) c.requires.short c.requires.accepted
+
+pub returns-in-Meet-clause-wrote : goal.returns-in-Meet-clause-wrote
+returns-in-Meet-clause-wrote g c =
+    let ok = rw c.in-Meet.is at c.requires.accepted in
+    let given = c.args.given.now in
+    rw c.in-Meet.is (IfOk-weaker c.choose.result _ _ (λ status w. wrote_answer_by Meet c.args.bytes.now (read_of given.read.now) given.instance.now (λ read. IsChosenAnswer Better (texts_from c.args.bytes.now read.rest)) Done _ _ _ _ status ok c.requires.seated.two w) c.choose.ensures.wrote)
+
+pub returns-in-Join-clause-wrote : goal.returns-in-Join-clause-wrote
+returns-in-Join-clause-wrote g c =
+    let ok = rw c.in-Join.is at c.requires.accepted in
+    let given = c.args.given.now in
+    rw c.in-Join.is (IfOk-weaker c.choose-in-Join.result _ _ (λ status w. wrote_answer_by Join c.args.bytes.now (read_of given.read.now) given.instance.now (λ read. IsChosenAnswer Worse (texts_from c.args.bytes.now read.rest)) Done _ _ _ _ status ok c.requires.seated.two w) c.choose-in-Join.ensures.wrote)

@@ -1,0 +1,8 @@
+use Rattle.sm_printed.specs.Lines.{lines_of}
+use Rattle.sm_printed.proofs.GivingLemmas.{line_given}
+use Rattle.sm_printed.proofs.giving.InstanceLinesLines.put_next.Goals as goal
+
+pub returns : goal.returns
+returns c =
+    let s = c.args.self.now in
+    line_given (lines_of s.input.now) s.count s.next _ _ c.in_ok-put_text_at.field-0 s.counted c.if-self.false c.in_ok-put_text_at.ensures

@@ -1,0 +1,36 @@
+-- The lines of an instance, by what they name.
+use Rattle.std.specs.Prelude.{ℕ, ◌<◌, List, length, codes}
+use Rattle.sm_instance.specs.Written.{agent_at}
+use Rattle.sm_instance.specs.Inputs.{kind_of, left_of, right_of}
+use Rattle.sm_instance.specs.declared.inputs.Input.{Input}
+use Rattle.sm_printed.specs.Names.{said_agent, said_pair, said_weight, said_of}
+use Rattle.sm_printed.specs.Printed.{header_line, proposer_line, reviewer_line, weight_line, force_line, forbid_line, printed_lines}
+use Rattle.sm_printed.specs.declared.finding.InstanceLine.{InstanceLine}
+use Rattle.sm_printed.specs.declared.finding.InstanceLine.TheVariants.{Header, Proposer, Reviewer, Weight, Force, Forbid, End}
+
+-- the lines of an instance that is printed
+abbrev pub lines_of : Input → List (List ℕ)
+lines_of input = printed_lines (kind_of input) (said_of input)
+
+-- the text of a line, without its end
+abbrev pub line_text : Input → InstanceLine → List ℕ
+line_text input Header = header_line (kind_of input)
+line_text input (Proposer p) = proposer_line (said_agent (right_of input) (agent_at (left_of input) p))
+line_text input (Reviewer r) = reviewer_line (kind_of input) (said_agent (left_of input) (agent_at (right_of input) r))
+line_text input (Weight p r weight) = weight_line (said_weight (left_of input) (right_of input) (p, r, weight))
+line_text input (Force p r) = force_line (said_pair (left_of input) (right_of input) (p, r))
+line_text input (Forbid p r) = forbid_line (said_pair (left_of input) (right_of input) (p, r))
+line_text input End = codes "end"
+
+-- the agents that a line names are there
+abbrev pub IsPair : Input → ℕ → ℕ → Type 0
+IsPair input p r = (p < length (left_of input)) × (r < length (right_of input))
+
+abbrev pub NamesAgents : Input → InstanceLine → Type 0
+NamesAgents input Header = Unit {0}
+NamesAgents input (Proposer p) = p < length (left_of input)
+NamesAgents input (Reviewer r) = r < length (right_of input)
+NamesAgents input (Weight p r weight) = IsPair input p r
+NamesAgents input (Force p r) = IsPair input p r
+NamesAgents input (Forbid p r) = IsPair input p r
+NamesAgents input End = Unit {0}

@@ -1,0 +1,50 @@
+-- Small instances and their lines, which were written by hand.
+use Rattle.std.specs.Prelude.{◌≡◌, ℕ, List, [], ◌∷◌, pos, negsuc, codes}
+use Rattle.sm_instance.specs.Written.{AgentData, Written}
+use Rattle.sm_instance.specs.declared.kinds.Kind.TheVariants.{Marriage, Hospitals}
+use Rattle.sm_instance.specs.declared.inputs.Input.TheVariants.{Two, Room}
+use Rattle.sm_printed.specs.Lines.{lines_of}
+
+abbrev pub agent : List ℕ → ℕ → List ℕ → AgentData
+agent name capacity entries = record { name = name; capacity = capacity; line = 0; entries = entries }
+
+-- two proposers and two reviewers, of whom one lists nobody
+abbrev pub marriage : Written
+marriage = record {
+  kind = Marriage;
+  proposers = agent (codes "a") 1 (1 ∷ 0 ∷ []) ∷ agent (codes "b-2") 1 (0 ∷ []) ∷ [];
+  reviewers = agent (codes "a") 1 (0 ∷ 1 ∷ []) ∷ agent (codes "y") 1 [] ∷ [];
+  weights = (1, 0, negsuc 11) ∷ (0, 1, pos 0) ∷ [];
+  forced = (0, 1) ∷ (0, 1) ∷ [];
+  forbidden = (1, 1) ∷ [];
+}
+
+abbrev pub MarriagePrinted : Type 0
+MarriagePrinted = lines_of (Two marriage) ≡
+    codes "stable 1 marriage"
+    ∷ codes "p a: y a" ∷ codes "p b-2: a"
+    ∷ codes "r a: a b-2" ∷ codes "r y:"
+    ∷ codes "weight b-2 a -12" ∷ codes "weight a y 0"
+    ∷ codes "force a y" ∷ codes "force a y"
+    ∷ codes "forbid b-2 y"
+    ∷ codes "end" ∷ []
+
+abbrev pub hospitals : Written
+hospitals = record {
+  kind = Hospitals;
+  proposers = agent (codes "a") 1 (0 ∷ []) ∷ [];
+  reviewers = agent (codes "h") 12 (0 ∷ []) ∷ agent (codes "i") 1 [] ∷ [];
+  weights = [];
+  forced = [];
+  forbidden = [];
+}
+
+abbrev pub HospitalsPrinted : Type 0
+HospitalsPrinted = lines_of (Two hospitals) ≡
+    codes "stable 1 hospitals" ∷ codes "p a: h" ∷ codes "r h[12]: a" ∷ codes "r i[1]:" ∷ codes "end" ∷ []
+
+abbrev pub persons : List AgentData
+persons = agent (codes "x") 1 (1 ∷ 0 ∷ []) ∷ agent (codes "z") 1 [] ∷ []
+
+abbrev pub RoommatesPrinted : Type 0
+RoommatesPrinted = lines_of (Room persons) ≡ codes "stable 1 roommates" ∷ codes "p x: z x" ∷ codes "p z:" ∷ codes "end" ∷ []

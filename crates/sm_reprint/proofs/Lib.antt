@@ -1,0 +1,12 @@
+pub mod CutLemmas
+pub mod LineLemmas
+pub mod VerdictLemmas
+pub mod SectionLemmas
+pub mod AgentLemmas
+pub mod PairLemmas
+pub mod ReadLemmas
+pub mod NameLemmas
+pub mod InputLemmas
+pub mod BackLemmas
+pub mod ReprintLemmas
+pub mod WitnessLemmas
