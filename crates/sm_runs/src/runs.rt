@@ -168,6 +168,135 @@ fn commands_answer(rt: HostRuntime) {
 }
 
 #[test]
+fn matchings_meet_and_join(rt: HostRuntime) {
+    let four =
+        "stable 1 marriage\np m1: a b\np m2: b a\np m3: c d\np m4: d c\nr a: m2 m1\nr b: m1 m2\nr c: m4 m3\nr d: m3 m4\nend\nleft m1 b\nleft m2 a\nleft m3 c\nleft m4 d\nright m4 c\nright m1 a\nright m2 b\nright m3 d\nend\n";
+    // r1 has the seat of h that r0 leaves; CR stands before LF, and as the last byte
+    let seats =
+        "stable 1 hospitals\np r0: h\np r1: h k\np r2: k h\nr h [2]: r2 r0 r1\nr k [1]: r1 r2\nend\nleft r2 k\r\nleft r0 h\r\nleft r1 h\r\nright r0 h\nright r1 k\nright r2 h\nend\r";
+    come_to(
+        &rt,
+        &[
+            done(
+                "meet",
+                four,
+                "answer meet\nleft m1 b\nleft m2 a\nleft m3 c\nleft m4 d\nright m1 a\nright m2 b\nright m3 d\nright m4 c\npair m1 a\npair m2 b\npair m3 c\npair m4 d\nend\n",
+            ),
+            done(
+                "join",
+                four,
+                "answer join\nleft m1 b\nleft m2 a\nleft m3 c\nleft m4 d\nright m1 a\nright m2 b\nright m3 d\nright m4 c\npair m1 b\npair m2 a\npair m3 d\npair m4 c\nend\n",
+            ),
+            done(
+                "join",
+                seats,
+                "answer join\nleft r0 h\nleft r1 h\nleft r2 k\nright r0 h\nright r1 k\nright r2 h\npair r0 h\npair r1 k\npair r2 h\nend\n",
+            ),
+        ],
+    );
+}
+
+#[test]
+fn given_matchings_are_refused(rt: HostRuntime) {
+    come_to(
+        &rt,
+        &[
+            refused(
+                "meet",
+                "stable 1 marriage\np m1: a b\np m2: b a\nr a: m2 m1\nr b: m1 m2\nend\n",
+                RefusalKind::BadAnswer,
+                7,
+                "refused BadAnswer 7\n",
+            ),
+            refused(
+                "meet",
+                "stable 1 marriage\np m1: a b\np m2: b a\nr a: m2 m1\nr b: m1 m2\nend\nleft m1 a\nleft m2 b\nright m1 a\nright m2 b\n",
+                RefusalKind::BadAnswer,
+                11,
+                "refused BadAnswer 11\n",
+            ),
+            refused(
+                "meet",
+                "stable 1 marriage\np m1: a b\np m2: b a\nr a: m2 m1\nr b: m1 m2\nend\n\nend\n",
+                RefusalKind::BadAnswer,
+                7,
+                "refused BadAnswer 7\n",
+            ),
+            refused(
+                "join",
+                "stable 1 marriage\np m1: a b\np m2: b a\nr a: m2 m1\nr b: m1 m2\nend\nright m1 a\nleft m1 a\nend\n",
+                RefusalKind::BadAnswer,
+                8,
+                "refused BadAnswer 8\n",
+            ),
+            refused(
+                "join",
+                "stable 1 marriage\np m1: a b\np m2: b a\nr a: m2 m1\nr b: m1 m2\nend\nleft m1 c\nend\n",
+                RefusalKind::BadAnswer,
+                7,
+                "refused BadAnswer 7\n",
+            ),
+            refused(
+                "join",
+                "stable 1 marriage\np m1: a b\np m2: b a\nr a: m2 m1\nr b: m1 m2\nend\nleft m1  a\nend\n",
+                RefusalKind::BadAnswer,
+                7,
+                "refused BadAnswer 7\n",
+            ),
+            refused(
+                "meet",
+                "stable 1 marriage\np m1: a b\np m2: b a\nr a: m2 m1\nr b: m1 m2\nend\nleft m1 a\nleft m1 a\nend\nend\n",
+                RefusalKind::BadAnswer,
+                10,
+                "refused BadAnswer 10\n",
+            ),
+            refused(
+                "meet",
+                "stable 1 marriage\np m1: a b\np m2: b a\nr a: m2 m1\nr b: m1 m2\nend\nleft m1 a\nright m1 a\nright m2 b\nend\n",
+                RefusalKind::NotStable,
+                10,
+                "refused NotStable 10 left blocks m2 b\n",
+            ),
+            refused(
+                "join",
+                "stable 1 marriage\np m1: a b\np m2: b a\nr a: m2 m1\nr b: m1 m2\nend\nleft m1 a\nleft m1 b\nright m1 a\nend\n",
+                RefusalKind::NotStable,
+                8,
+                "refused NotStable 8 left breach m1 b\n",
+            ),
+            refused(
+                "join",
+                "stable 1 marriage\np m1: a b\np m2: b a\nr a: m2 m1\nr b: m1 m2\nend\nleft m1 a\nright m1 a\nright m2 a\nend\n",
+                RefusalKind::NotStable,
+                9,
+                "refused NotStable 9 right breach m2 a\n",
+            ),
+            refused(
+                "meet",
+                "stable 1 marriage\np m1: a b\np m2: b a\nr a: m2 m1\nr b: m1 m2\nend\nleft m1 a\nleft m2 b\nend\n",
+                RefusalKind::NotStable,
+                9,
+                "refused NotStable 9 right blocks m1 a\n",
+            ),
+            refused(
+                "meet",
+                "stable 1 marriage\np m1: a b\nr a:\nr b: m1\nend\nleft m1 a\nend\n",
+                RefusalKind::NotStable,
+                6,
+                "refused NotStable 6 left breach m1 a\n",
+            ),
+            refused(
+                "join",
+                "stable 1 roommates\np 1: 2\np 2: 1\nend\nleft 1 2\nend\n",
+                RefusalKind::WrongKind,
+                1,
+                "refused WrongKind 1\n",
+            ),
+        ],
+    );
+}
+
+#[test]
 fn roommates_are_solved(rt: HostRuntime) {
     come_to(
         &rt,

@@ -49,6 +49,8 @@ fn words_ask_or_are_faulty(rt: HostRuntime) {
             ),
             ("pairs", Job::Pairs),
             ("regret", Job::Regret),
+            ("meet", Job::Meet),
+            ("join", Job::Join),
         ],
     );
     are_faulty(
@@ -72,6 +74,7 @@ fn words_ask_or_are_faulty(rt: HostRuntime) {
             ("pair", 1),
             ("pairs limit=1", 2),
             ("regret side=proposers", 2),
+            ("meet join", 2),
             ("list limit=0", 2),
             ("list limit=1000001", 2),
             ("list limit=1 limit=2", 3),

@@ -1,5 +1,5 @@
 -- Inputs of either kind: what is judged of them, and the answers of `solve` and `regret`.
-use Rattle.std.proofs.Common.{◌≡◌, ◌≢◌, ℕ, cond, Bool, true, false, List, [], ◌∷◌, Option, None, Some, Result, Ok, Err, inl, inr, refl, sym, ap, ◌∙◌, subst}
+use Rattle.std.proofs.Common.{◌≡◌, ◌≢◌, ℕ, cond, Bool, true, false, List, [], ◌∷◌, Option, None, Some, Ok, Err, inl, inr, refl, sym, ap, ◌∙◌, subst}
 use Rattle.std.specs.Option.{unwrap_or}
 use Rattle.sm_answer.specs.Printing.{IsShown}
 use Rattle.sm_text.specs.declared.refusal.RefusalKind.TheVariants.{WrongKind}
@@ -20,8 +20,8 @@ use Rattle.sm_rooming.specs.RoomAnswer.{IsMatched, IsUnmatchable}
 use Rattle.sm_top.specs.declared.status.Status.{Status}
 use Rattle.sm_top.specs.declared.status.Status.TheVariants.{Done, NoneExists}
 use Rattle.sm_top.specs.Texts.{RefusalData, plain}
-use Rattle.sm_top.specs.Accepting.{is_two_sided, takes_kind, wrong_kind, too_many_in, too_many_seats, first_refusal, judged, accepted, IsTooMany, IsUnaccepted}
-use Rattle.sm_top.specs.Outcome.{IsSolved, IsRegretted, IsAnswerOver, IsOwnRefusal, IsRefused, not_accepted, by_job}
+use Rattle.sm_top.specs.Accepting.{is_two_sided, takes_kind, too_many_in, too_many_seats, first_refusal, judged, accepted, IsTooMany}
+use Rattle.sm_top.specs.Outcome.{IsSolved, IsRegretted, IsAnswerOver, IsRefused, not_accepted}
 use Rattle.sm_top.specs.Wrote.{Wrote, With}
 use Rattle.sm_top.proofs.WritingLemmas.{wrote_for, wrote_shown}
 

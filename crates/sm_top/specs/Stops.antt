@@ -1,5 +1,5 @@
 -- Why there is no answer.
-use Rattle.std.specs.Prelude.{ℕ, map}
+use Rattle.std.specs.Prelude.{ℕ}
 use Rattle.sm_top.specs.declared.stop.Stop.{Stop}
 use Rattle.sm_top.specs.declared.stop.Stop.TheVariants.{Usage, Refused, Unstable, ReadFault, OutOfMemory}
 use Rattle.sm_text.specs.declared.refusal.RefusalKind.TheVariants.{NotStable}

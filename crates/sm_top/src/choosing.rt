@@ -43,7 +43,14 @@ pub(crate) fn choose<K: Sink>(
     ensures unwritten { OnErr result (sink.new ≡ sink.old) }
     ensures later { K.faults sink.old ≤ K.faults sink.new }
 {
-    match find_given(alloc, &read.input, instance, bytes, read.rest, read.rest_line) {
+    match find_given(
+        alloc,
+        &read.input,
+        instance,
+        bytes,
+        read.rest,
+        read.rest_line,
+    ) {
         Ok(given) => {
             let chosen = choose_places(alloc, instance, choice, &given)?;
             let lines = chosen_lines(&read.input, instance, choice, &given, &chosen);
@@ -68,22 +75,14 @@ fn unstable_fields(
     ensures { IfOk result (λ fields. fields_of fields ≡ unstable_fields input.now unstable) }
 {
     let mut fields = Vec::with_capacity(alloc, 4)?;
-    fields.push(copy(alloc, which_name(unstable.which).as_bytes())?)?;
-    fields.push(copy(alloc, flaw_name(unstable.flaw).as_bytes())?)?;
-    fields.push(copy(alloc, input.left_name(unstable.proposer))?)?;
-    fields.push(copy(alloc, input.right_name(unstable.reviewer))?)?;
+    fields.push(Vec::from_slice(alloc, which_name(unstable.which).as_bytes())?)?;
+    fields.push(Vec::from_slice(alloc, flaw_name(unstable.flaw).as_bytes())?)?;
+    fields.push(Vec::from_slice(alloc, input.left_name(unstable.proposer))?)?;
+    fields.push(Vec::from_slice(alloc, input.right_name(unstable.reviewer))?)?;
     Ok(fields)
 }
 
-// A copy of bytes.
-fn copy(alloc: Global, bytes: &[u8]) -> Result<Vec<u8>, AllocError>
-    ensures { IfOk result (λ copied. copied.items ≡ bytes.now) }
-{
-    let mut copied = Vec::with_capacity(alloc, bytes.len())?;
-    copied.extend_from_slice(bytes)?;
-    Ok(copied)
-}
-
+// Which of the two matchings.
 fn which_name(which: Which) -> &'static str
     ensures { result.now ≡ which_name which }
 {
@@ -93,6 +92,7 @@ fn which_name(which: Which) -> &'static str
     }
 }
 
+// Why.
 fn flaw_name(flaw: Flaw) -> &'static str
     ensures { result.now ≡ flaw_name flaw }
 {

@@ -25,8 +25,8 @@ use crate::status::Status;
 use crate::stop::Stop;
 use crate::writing::write;
 use sm_instance::{Input, Instance, Persons, Side};
-use sm_lattice::Choice;
 use sm_io::Sink;
+use sm_lattice::Choice;
 use sm_listing::{list_lines, start_list};
 use sm_partners::{find_pairs, find_regret, none_lines, pairs_lines, regret_lines};
 use sm_reader::Read;
@@ -118,8 +118,22 @@ fn perform_on_seats<K: Sink>(
         Job::List(after, limit) => list(alloc, given, after, *limit, sink),
         Job::Pairs => Ok(show_pairs(alloc, given, sink)?),
         Job::Regret => Ok(show_regret(alloc, given, sink)?),
-        Job::Meet => choose(alloc, given.read, given.instance, bytes, Choice::Better, sink),
-        Job::Join => choose(alloc, given.read, given.instance, bytes, Choice::Worse, sink),
+        Job::Meet => choose(
+            alloc,
+            given.read,
+            given.instance,
+            bytes,
+            Choice::Better,
+            sink,
+        ),
+        Job::Join => choose(
+            alloc,
+            given.read,
+            given.instance,
+            bytes,
+            Choice::Worse,
+            sink,
+        ),
     }
 }
 
