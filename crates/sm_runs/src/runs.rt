@@ -2,6 +2,7 @@
 
 use crate::made::{MEMORY, copy, words_in};
 use sm_io::{MemSink, MemSource, SteadySink, SteadySource};
+use sm_tally::{RegretTally, SumTally, Tally};
 use sm_text::RefusalKind;
 use sm_top::{Status, run};
 use std::alloc::Global;
@@ -28,7 +29,12 @@ fn come_to(rt: &(impl Abort + AllocGlobal), rows: &[Row]) {
         let mut source = MemSource::new(bytes, 7, copy(rt, row.failing_reads));
         let failing = copy(rt, row.failing_puts);
         let mut sink = MemSink::new(rt.alloc(), 1000, failing).expect(rt, MEMORY);
-        let status = run(rt.alloc(), &words, &mut source, &mut sink);
+        let mut tallies: Vec<Box<dyn Tally>> = Vec::new(rt.alloc());
+        let sum = Box::new(rt.alloc(), SumTally::new()).expect(rt, MEMORY);
+        tallies.push(sum).expect(rt, MEMORY);
+        let regret = Box::new(rt.alloc(), RegretTally::new()).expect(rt, MEMORY);
+        tallies.push(regret).expect(rt, MEMORY);
+        let status = run(rt.alloc(), &words, &mut source, &mut sink, tallies);
         assert!(rt; status == row.status, "{:?}", row.words);
         assert!(rt; sink.held() == row.written.as_bytes(), "{:?}", row.words);
     }
@@ -297,6 +303,66 @@ fn given_matchings_are_refused(rt: HostRuntime) {
 }
 
 #[test]
+fn tallies_are_fed(rt: HostRuntime) {
+    let three =
+        "stable 1 marriage\np m1: a b c\np m2: b c a\np m3: c a b\nr a: m2 m3 m1\nr b: m3 m1 m2\nr c: m1 m2 m3\nend\n";
+    come_to(
+        &rt,
+        &[
+            done(
+                "survey",
+                three,
+                "answer survey limit=100\nlisted 3\ntally 2 18\ntally 3 3 2 3\nend\n",
+            ),
+            done(
+                "survey limit=2",
+                three,
+                "answer survey limit=2\nlisted 2\ntally 2 9\ntally 3 2 2 3\nmore 2,2,2\n",
+            ),
+            // nobody is matched in the only matching, and no matching is allowed
+            done(
+                "survey",
+                "stable 1 marriage\np m1: a\nr a:\nend\n",
+                "answer survey limit=100\nlisted 1\ntally 2 2\ntally 3 1 0 0\nend\n",
+            ),
+            done(
+                "survey",
+                "stable 1 marriage\np m1: a\nr a: m1\nforbid m1 a\nend\n",
+                "answer survey limit=100\nlisted 0\ntally 2 0\ntally 3 0 0 0\nend\n",
+            ),
+        ],
+    );
+}
+
+#[test]
+fn instances_are_made(rt: HostRuntime) {
+    come_to(
+        &rt,
+        &[
+            // nothing is read: the source's first call would fail
+            Row {
+                words: "make shape=random size=2 seed=42",
+                text: "",
+                failing_reads: &[1],
+                failing_puts: &[],
+                status: Status::Done,
+                written: "stable 1 marriage\np p1: r1 r2\np p2: r1 r2\nr r1: p2 p1\nr r2: p1 p2\nend\n",
+            },
+            done(
+                "make shape=copies size=1 seed=0 show=summary",
+                "",
+                "answer survey limit=100\nlisted 2\ntally 2 6\ntally 3 2 2 2\nend\n",
+            ),
+            done(
+                "make shape=rooms size=2 seed=0 show=summary",
+                "",
+                "answer solve\npair p1 p2\nend\n",
+            ),
+        ],
+    );
+}
+
+#[test]
 fn roommates_are_solved(rt: HostRuntime) {
     come_to(
         &rt,
@@ -440,7 +506,13 @@ fn solves_over_a_steady_source_and_sink(rt: HostRuntime) {
     let words = words_in(&rt, "solve");
     let mut source = SteadySource::new(copy(&rt, TWO_BY_TWO.as_bytes()), 3);
     let mut sink = SteadySink::new(rt.alloc(), 1000).expect(&rt, MEMORY);
-    let status = run(rt.alloc(), &words, &mut source, &mut sink);
+    let status = run(
+        rt.alloc(),
+        &words,
+        &mut source,
+        &mut sink,
+        Vec::new(rt.alloc()),
+    );
     assert!(rt; status == Status::Done);
     assert!(rt; status.number() == 0);
     assert!(rt;
@@ -459,7 +531,13 @@ fn status_of(rt: &(impl Abort + AllocGlobal), len: usize) -> Status {
     let bytes = filled(rt.alloc(), len).expect(rt, MEMORY);
     let mut source = MemSource::new(bytes, 1_000_000, Vec::new(rt.alloc()));
     let mut sink = MemSink::new(rt.alloc(), 100, Vec::new(rt.alloc())).expect(rt, MEMORY);
-    run(rt.alloc(), &words, &mut source, &mut sink)
+    run(
+        rt.alloc(),
+        &words,
+        &mut source,
+        &mut sink,
+        Vec::new(rt.alloc()),
+    )
 }
 
 #[test]

@@ -2,6 +2,7 @@
 
 use crate::made::{copy, words_in};
 use sm_instance::Side;
+use sm_make::Shape;
 use sm_words::{Job, WordsFault, read_words};
 use std::process::Abort;
 
@@ -51,6 +52,20 @@ fn words_ask_or_are_faulty(rt: HostRuntime) {
             ("regret", Job::Regret),
             ("meet", Job::Meet),
             ("join", Job::Join),
+            ("survey", Job::Survey(100)),
+            ("survey limit=7", Job::Survey(7)),
+            (
+                "make shape=copies size=1 seed=0",
+                Job::Make(Shape::Copies, 1, 0, false),
+            ),
+            (
+                "make shape=rooms size=512 seed=18446744073709551615 show=summary",
+                Job::Make(Shape::Rooms, 512, u64::MAX, true),
+            ),
+            (
+                "make shape=copies size=2048 seed=1 show=text",
+                Job::Make(Shape::Copies, 2_048, 1, false),
+            ),
         ],
     );
     are_faulty(
@@ -84,6 +99,18 @@ fn words_ask_or_are_faulty(rt: HostRuntime) {
             ("list after=1,-", 2),
             ("list after=1,02", 2),
             ("list after=1,4294967296", 2),
+            ("survey after=1", 2),
+            ("survey limit=0", 2),
+            ("make", 2),
+            ("make shape=cycle size=600", 4),
+            ("make size=600 shape=cycle seed=1", 2),
+            ("make shape=cycle seed=1 size=513", 4),
+            ("make shape=copies size=2049 seed=1", 3),
+            ("make shape=copies size=0 seed=1", 3),
+            ("make shape=round", 2),
+            ("make shape=copies size=1 seed=18446744073709551616", 4),
+            ("make shape=copies size=1 seed=1 show=all", 5),
+            ("make shape=copies shape=copies", 3),
         ],
     );
 }

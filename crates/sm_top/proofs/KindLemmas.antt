@@ -12,7 +12,7 @@ use Rattle.sm_instance.specs.declared.kinds.Kind.TheVariants.{Marriage, Hospital
 use Rattle.sm_instance.specs.declared.kinds.Side.{Side}
 use Rattle.sm_instance.specs.declared.kinds.Side.TheVariants.{Proposers}
 use Rattle.sm_reader.specs.InstanceText.{ReadText, Refusal}
-use Rattle.sm_words.specs.Jobs.{JobData, Solve, Reduced, Rotations, Pairs, Regret, Meet, Join}
+use Rattle.sm_words.specs.Jobs.{JobData, Solve, Reduced, Rotations, Pairs, Regret, Meet, Join, Survey, Make}
 use Rattle.sm_shown.specs.Answers.{IsSolution}
 use Rattle.sm_report.specs.Lines.{LineData}
 use Rattle.sm_partners.specs.RegretAnswer.{IsRegretAnswer, IsNoneAllowed}
@@ -20,8 +20,12 @@ use Rattle.sm_rooming.specs.RoomAnswer.{IsMatched, IsUnmatchable}
 use Rattle.sm_top.specs.declared.status.Status.{Status}
 use Rattle.sm_top.specs.declared.status.Status.TheVariants.{Done, NoneExists}
 use Rattle.sm_top.specs.Texts.{RefusalData, plain}
-use Rattle.sm_top.specs.Accepting.{is_two_sided, takes_kind, too_many_in, too_many_seats, first_refusal, judged, accepted, IsTooMany}
-use Rattle.sm_top.specs.Outcome.{IsSolved, IsRegretted, IsAnswerOver, IsRefused, not_accepted}
+use Rattle.sm_top.specs.Accepting.{reads_input, is_two_sided, takes_kind, too_many_in, too_many_seats, first_refusal, judged, accepted, IsTooMany}
+use Rattle.sm_tally.specs.Fold.{Shown}
+use Rattle.sm_words.specs.Words.{usual_limit}
+use Rattle.sm_survey.specs.SurveyAnswer.{IsSurveyAnswer}
+use Rattle.sm_printed.specs.Lines.{lines_of}
+use Rattle.sm_top.specs.Outcome.{IsSummary, IsMade, IsSolved, IsRegretted, IsAnswerOver, IsRefused, not_accepted}
 use Rattle.sm_top.specs.Wrote.{Wrote, With}
 use Rattle.sm_top.proofs.WritingLemmas.{wrote_for, wrote_shown}
 
@@ -32,35 +36,37 @@ two_sided Marriage two = refl
 two_sided Hospitals two = refl
 two_sided Roommates two = absurd (two refl)
 
-takes_two : (job : JobData) (kind : Kind) → kind ≢ Roommates → takes_kind job kind ≡ true
-takes_two (Solve None) kind two = refl
-takes_two (Solve (Some side)) kind two = two_sided kind two
-takes_two Reduced kind two = two_sided kind two
-takes_two Rotations kind two = two_sided kind two
-takes_two (JobData.List after limit) kind two = two_sided kind two
-takes_two Pairs kind two = two_sided kind two
-takes_two Regret kind two = two_sided kind two
-takes_two Meet kind two = two_sided kind two
-takes_two Join kind two = two_sided kind two
+takes_two : (job : JobData) (kind : Kind) → reads_input job ≡ true → kind ≢ Roommates → takes_kind job kind ≡ true
+takes_two (Solve None) kind reading two = refl
+takes_two (Solve (Some side)) kind reading two = two_sided kind two
+takes_two Reduced kind reading two = two_sided kind two
+takes_two Rotations kind reading two = two_sided kind two
+takes_two (JobData.List after limit) kind reading two = two_sided kind two
+takes_two Pairs kind reading two = two_sided kind two
+takes_two Regret kind reading two = two_sided kind two
+takes_two Meet kind reading two = two_sided kind two
+takes_two Join kind reading two = two_sided kind two
+takes_two (Survey limit) kind reading two = two_sided kind two
+takes_two (Make shape size seed summary) kind reading two = absurd cc
 
 -- so their seats alone are judged
-seats_judged : (job : JobData) (read : ReadText) (w : Written) → read.input ≡ Two w → w.kind ≢ Roommates → judged job read ≡ first_refusal (too_many_seats read ∷ []) read
-seats_judged job read w is two =
-    let taken : takes_kind job (kind_of read.input) ≡ true = ap (λ (input : Input). takes_kind job (kind_of input)) is ∙ takes_two job w.kind two in
+seats_judged : (job : JobData) (read : ReadText) (w : Written) → reads_input job ≡ true → read.input ≡ Two w → w.kind ≢ Roommates → judged job read ≡ first_refusal (too_many_seats read ∷ []) read
+seats_judged job read w reading is two =
+    let taken : takes_kind job (kind_of read.input) ≡ true = ap (λ (input : Input). takes_kind job (kind_of input)) is ∙ takes_two job w.kind reading two in
     ap (λ t. first_refusal (cond t None (Some (WrongKind, read.header_line)) ∷ too_many_seats read ∷ []) read) taken
 
-pub two_refused : (job : JobData) (bytes : List ℕ) (read : ReadText) (w : Written) (refusal : RefusalData) → read.input ≡ Two w → w.kind ≢ Roommates → accepted job bytes ≡ judged job read → IsTooMany read.input refusal
+pub two_refused : (job : JobData) (bytes : List ℕ) (read : ReadText) (w : Written) (refusal : RefusalData) → reads_input job ≡ true → read.input ≡ Two w → w.kind ≢ Roommates → accepted job bytes ≡ judged job read → IsTooMany read.input refusal
     → IsRefused job bytes refusal
-two_refused job bytes read w refusal is two before too = not_accepted (record {
+two_refused job bytes read w refusal reading is two before too = not_accepted reading (record {
   kind = too.kind;
   at = too.at;
-  because = before ∙ seats_judged job read w is two ∙ ap (λ (o : Option Refusal). first_refusal (o ∷ []) read) too.because;
+  because = before ∙ seats_judged job read w reading is two ∙ ap (λ (o : Option Refusal). first_refusal (o ∷ []) read) too.because;
   says = too.says;
 })
 
-pub two_accepted : (job : JobData) (bytes : List ℕ) (read : ReadText) (w : Written) → read.input ≡ Two w → w.kind ≢ Roommates → accepted job bytes ≡ judged job read → too_many_in read.input ≡ None
+pub two_accepted : (job : JobData) (bytes : List ℕ) (read : ReadText) (w : Written) → reads_input job ≡ true → read.input ≡ Two w → w.kind ≢ Roommates → accepted job bytes ≡ judged job read → too_many_in read.input ≡ None
     → accepted job bytes ≡ Ok read
-two_accepted job bytes read w is two before few = before ∙ seats_judged job read w is two ∙ ap (λ (o : Option Refusal). first_refusal (o ∷ []) read) few
+two_accepted job bytes read w reading is two before few = before ∙ seats_judged job read w reading is two ∙ ap (λ (o : Option Refusal). first_refusal (o ∷ []) read) few
 
 -- Roommates: they have no seats.
 
@@ -76,9 +82,9 @@ kind_judged job read persons is = by_input read.input is ∙ by_test (takes_kind
     by_test true = refl
     by_test false = refl
 
-pub room_refused : (job : JobData) (bytes : List ℕ) (read : ReadText) (persons : List AgentData) → read.input ≡ Room persons → accepted job bytes ≡ judged job read → takes_kind job Roommates ≡ false
+pub room_refused : (job : JobData) (bytes : List ℕ) (read : ReadText) (persons : List AgentData) → reads_input job ≡ true → read.input ≡ Room persons → accepted job bytes ≡ judged job read → takes_kind job Roommates ≡ false
     → IsRefused job bytes (plain WrongKind read.header_line)
-room_refused job bytes read persons is before taken = not_accepted (record {
+room_refused job bytes read persons reading is before taken = not_accepted reading (record {
   kind = WrongKind;
   at = read.header_line;
   because = before ∙ kind_judged job read persons is ∙ ap (λ t. cond t (Ok read) (Err (WrongKind, read.header_line))) taken;
@@ -125,3 +131,24 @@ pub two_unallowed : (input : Input) (w : Written) (gives : List (List ℕ) → T
     → ((lines : List (List ℕ)) → gives lines → IsShown input (IsNoneAllowed w) lines) → Wrote (With NoneExists gives) a b f g status → Wrote (λ s. IsShown input (IsRegretted input s)) a b f g status
 two_unallowed input w gives a b f g status is right =
     wrote_shown NoneExists gives input (IsNoneAllowed w) (IsRegretted input) a b f g status right (λ answer h. subst (λ (input : Input). IsRegretted input NoneExists answer) (sym is) (inr (refl, h)))
+
+-- The summary of a made instance.
+pub two_summarized : (tallies : List Shown) (input : Input) (w : Written) (gives : List (List ℕ) → Type 0) (a b : Option (List ℕ)) (f g : ℕ) (status : Status) → input ≡ Two w
+    → ((lines : List (List ℕ)) → gives lines → IsShown input (IsSurveyAnswer tallies usual_limit w) lines) → Wrote (With Done gives) a b f g status → Wrote (λ s. IsShown input (IsSummary tallies input s)) a b f g status
+two_summarized tallies input w gives a b f g status is right =
+    wrote_shown Done gives input (IsSurveyAnswer tallies usual_limit w) (IsSummary tallies input) a b f g status right (λ answer h. subst (λ (input : Input). IsSummary tallies input Done answer) (sym is) (refl, h))
+
+pub room_summarized : (tallies : List Shown) (input : Input) (persons : List AgentData) (a b : Option (List ℕ)) (f g : ℕ) (status : Status) → input ≡ Room persons
+    → Wrote (λ s. IsShown input (IsSolved None input s)) a b f g status → Wrote (λ s. IsShown input (IsSummary tallies input s)) a b f g status
+room_summarized tallies input persons a b f g status is =
+    wrote_for (λ s. IsShown input (IsSolved None input s)) (λ s. IsShown input (IsSummary tallies input s)) a b f g status
+    (λ s lines shown. record {
+      answer = shown.answer;
+      is_right = subst (λ (i : Input). IsSummary tallies i s shown.answer) (sym is) (subst (λ (i : Input). IsSolved None i s shown.answer) is shown.is_right);
+      shows = shown.shows;
+    })
+
+-- the text of a made instance
+pub text_made : (tallies : List Shown) (input : Input) (gives : List (List ℕ) → Type 0) (a b : Option (List ℕ)) (f g : ℕ) (status : Status)
+    → ((lines : List (List ℕ)) → gives lines → lines ≡ lines_of input) → Wrote (With Done gives) a b f g status → Wrote (IsMade tallies input false) a b f g status
+text_made tallies input gives a b f g status right = wrote_for (With Done gives) (IsMade tallies input false) a b f g status (λ s lines h. (h.same, right lines h.given_lines))

@@ -1,5 +1,5 @@
 -- From what was read and written to what a run promises.
-use Rattle.std.proofs.Common.{◌≡◌, ℕ, ◌<◌, ◌⊎◌, true, false, List, [], ◌∷◌, ◌++◌, length, Option, None, Some, Result, Ok, Err, inl, inr, refl, sym, ap, ◌∙◌, subst, length-append, append-nil, arith}
+use Rattle.std.proofs.Common.{◌≡◌, ℕ, ◌<◌, ◌⊎◌, Bool, true, false, true≢false, List, [], ◌∷◌, ◌++◌, length, Option, None, Some, Result, Ok, Err, inl, inr, refl, sym, ap, ◌∙◌, subst, length-append, append-nil, arith}
 use Rattle.std.specs.Result.{IfOk, IfErr}
 use Rattle.std.proofs.lemmas.Bool.{lt-ltb}
 use Rattle.sm_io.specs.Source.{Agrees}
@@ -13,7 +13,7 @@ use Rattle.sm_instance.specs.declared.inputs.Input.TheVariants.{Two, Room}
 use Rattle.sm_instance.specs.declared.kinds.Side.{Side}
 use Rattle.sm_reader.specs.InstanceText.{ReadText, instance_text}
 use Rattle.sm_report.specs.Lines.{LineData}
-use Rattle.sm_words.specs.Jobs.{JobData, Solve, Reduced, Rotations, Pairs, Regret, Meet, Join}
+use Rattle.sm_words.specs.Jobs.{JobData, Solve, Reduced, Rotations, Pairs, Regret, Meet, Join, Survey, Make}
 use Rattle.sm_words.specs.Words.{words_meaning}
 use Rattle.sm_top.specs.declared.status.Status.{Status}
 use Rattle.sm_top.specs.declared.status.Status.TheVariants.{Refused, Usage, OutOfMemory, ReadFault, WriteFault}
@@ -21,8 +21,11 @@ use Rattle.sm_top.specs.declared.stop.Stop.{Stop}
 use Rattle.sm_top.specs.declared.stop.Stop.TheVariants as stop
 use Rattle.sm_top.specs.Texts.{RefusalData, plain, with_detail, fields_of, usage_line, refused_line}
 use Rattle.sm_top.specs.Stops.{StopsBy}
-use Rattle.sm_top.specs.Accepting.{accepted, behind_text}
-use Rattle.sm_top.specs.Outcome.{OfTwo, IsSolved, IsRegretted, IsAnswerOver, IsAnswer, IsRefused, Outcome, not_accepted, faulty_words, refused, answered}
+use Rattle.sm_tally.specs.Fold.{Shown}
+use Rattle.sm_make.specs.Made.{made_instance}
+use Rattle.sm_make.specs.declared.shape.Shape.{Shape}
+use Rattle.sm_top.specs.Accepting.{reads_input, accepted, behind_text}
+use Rattle.sm_top.specs.Outcome.{OfTwo, IsSolved, IsRegretted, IsSummary, IsMade, IsAnswerOver, IsAnswer, IsRefused, IsTooManyMade, IsUnsurveyed, unsurveyed, Outcome, not_accepted, faulty_words, refused, answered}
 use Rattle.sm_top.specs.Input.{IsReadWhole, ReadWhole, IsTooLong}
 use Rattle.sm_top.specs.Running.{IsBeingRead, Ends, Answers, AnswersAccepted, reads, asks_to_read, is_whole, is_answer, is_too_long}
 use Rattle.sm_top.specs.Steps.{IsRefusalFor, IsRefusal, IsReadFault, Serves, ServesWords, SaysStop}
@@ -107,15 +110,15 @@ not_read_yet None after refusal h reading = reading
 not_read_yet (Some all) None refusal h reading = reading
 not_read_yet (Some all) (Some rest) refusal h reading = omega (arith, h.long, length-append h.given rest, ap length h.consumed, reading.1)
 
-pub refused_too_long : (job : JobData) (before after : Option (List ℕ)) (refusal : RefusalData) → IsTooLong before after refusal → IsRefusalFor job before after refusal
-refused_too_long job before after refusal h =
+pub refused_too_long : (job : JobData) → reads_input job ≡ true → (before after : Option (List ℕ)) (refusal : RefusalData) → IsTooLong before after refusal → IsRefusalFor job before after refusal
+refused_too_long job reading before after refusal h =
     let had = had_too_many before after refusal h in
     record {
       bytes = had.bytes;
       read = had.agrees;
-      refused = not_accepted (record { kind = TooLong; at = 0; because = ap (behind_text job had.bytes) (too_long_text had.bytes had.long); says = h.says });
-      read_whole = λ other. absurd (other (ap (λ (r : RefusalData). r.kind) h.says));
-      over = not_read_yet before after refusal h;
+      refused = not_accepted reading (record { kind = TooLong; at = 0; because = ap (behind_text job had.bytes) (too_long_text had.bytes had.long); says = h.says });
+      read_whole = λ _ other. absurd (other (ap (λ (r : RefusalData). r.kind) h.says));
+      over = λ _. not_read_yet before after refusal h;
     }
 
 -- and one that was read whole may be
@@ -125,23 +128,20 @@ refused_whole job before after bytes refusal w why = record {
   bytes = bytes;
   read = whole_agrees before after bytes w;
   refused = why;
-  read_whole = λ _. w.over;
-  over = not_being_read before after w.over;
+  read_whole = λ _ _. w.over;
+  over = λ _. not_being_read before after w.over;
 }
 
-pub serves_whole : (job : JobData) (before after a b : Option (List ℕ)) (f g : ℕ) (bytes : List ℕ) (r : Result Status Stop) → ReadWhole before after bytes
-    → IfOk r (λ status. Wrote (IsAnswer job bytes) a b f g status) → IfOk r (λ status. Serves job before after a b f g status)
-serves_whole job before after a b f g bytes (Ok status) w wrote = record { bytes = bytes; read = whole_agrees before after bytes w; wrote = wrote; over = w.over }
-serves_whole job before after a b f g bytes (Err e) w wrote = tt
+pub serves_whole : (tallies : List Shown) (job : JobData) → reads_input job ≡ true → (before after a b : Option (List ℕ)) (f g : ℕ) (bytes : List ℕ) (r : Result Status Stop) → ReadWhole before after bytes
+    → IfOk r (λ status. Wrote (IsAnswer tallies job bytes) a b f g status) → IfOk r (λ status. Serves tallies job before after a b f g status)
+serves_whole tallies job reading before after a b f g bytes (Ok status) w wrote =
+    record { bytes = bytes; read = whole_agrees before after bytes w; wrote = wrote; over = λ _. w.over; untouched = λ none. absurd (true≢false (sym reading ∙ none)) }
+serves_whole tallies job reading before after a b f g bytes (Err e) w wrote = tt
 
 -- From a job to the words that ask for it.
 
-reads_of : (words : List (List ℕ)) (job : JobData) → words_meaning words ≡ Ok job → reads words ≡ true
+reads_of : (words : List (List ℕ)) (job : JobData) → words_meaning words ≡ Ok job → reads words ≡ reads_input job
 reads_of words job meaning = ap asks_to_read meaning
-
--- words that ask for a job ask to read
-pub reads_not : (words : List (List ℕ)) (job : JobData) → words_meaning words ≡ Ok job → reads words ≡ false → ⊥
-reads_not words job meaning none = let some = reads_of words job meaning in cc
 
 -- all bytes that a source tells
 bytes_of : Option (List ℕ) → List ℕ
@@ -167,15 +167,26 @@ regretted_status (Two w) status answer (inl h) = ap is_answer h.0
 regretted_status (Two w) status answer (inr h) = ap is_answer h.0
 regretted_status (Room persons) status answer h = absurd h
 
-answer_status : (job : JobData) (bytes : List ℕ) (status : Status) (lines : List (List ℕ)) → IsAnswer job bytes status lines → is_answer status ≡ true
-answer_status (Solve side) bytes status lines h = solved_status side h.read.input status h.shown.answer h.shown.is_right
-answer_status Reduced bytes status lines h = ap is_answer h.0
-answer_status Rotations bytes status lines h = ap is_answer h.0
-answer_status (JobData.List after limit) bytes status lines h = ap is_answer h.0
-answer_status Pairs bytes status lines h = ap is_answer h.0
-answer_status Regret bytes status lines h = regretted_status h.read.input status h.shown.answer h.shown.is_right
-answer_status Meet bytes status lines h = ap is_answer h.0
-answer_status Join bytes status lines h = ap is_answer h.0
+-- and of a summary
+summary_status : (tallies : List Shown) (input : Input) (status : Status) (answer : List LineData) → IsSummary tallies input status answer → is_answer status ≡ true
+summary_status tallies (Two w) status answer h = ap is_answer h.0
+summary_status tallies (Room persons) status answer h = solved_status None (Room persons) status answer h
+
+made_status : (tallies : List Shown) (input : Input) (summary : Bool) (status : Status) (lines : List (List ℕ)) → IsMade tallies input summary status lines → is_answer status ≡ true
+made_status tallies input false status lines h = ap is_answer h.0
+made_status tallies input true status lines h = summary_status tallies input status h.answer h.is_right
+
+answer_status : (tallies : List Shown) (job : JobData) (bytes : List ℕ) (status : Status) (lines : List (List ℕ)) → IsAnswer tallies job bytes status lines → is_answer status ≡ true
+answer_status tallies (Solve side) bytes status lines h = solved_status side h.read.input status h.shown.answer h.shown.is_right
+answer_status tallies Reduced bytes status lines h = ap is_answer h.0
+answer_status tallies Rotations bytes status lines h = ap is_answer h.0
+answer_status tallies (JobData.List after limit) bytes status lines h = ap is_answer h.0
+answer_status tallies Pairs bytes status lines h = ap is_answer h.0
+answer_status tallies Regret bytes status lines h = regretted_status h.read.input status h.shown.answer h.shown.is_right
+answer_status tallies Meet bytes status lines h = ap is_answer h.0
+answer_status tallies Join bytes status lines h = ap is_answer h.0
+answer_status tallies (Survey limit) bytes status lines h = ap is_answer h.0
+answer_status tallies (Make shape size seed summary) bytes status lines h = made_status tallies (made_instance shape size seed) summary status lines h
 
 answer_whole : (status : Status) → is_answer status ≡ true → is_whole status ≡ true
 answer_whole (Refused kind at) h = refl
@@ -185,18 +196,18 @@ answer_whole ReadFault h = absurd cc
 answer_whole WriteFault h = absurd cc
 answer_whole _ h = refl
 
-outcome_whole : (words : List (List ℕ)) (bytes : List ℕ) (status : Status) (lines : List (List ℕ)) → Outcome words bytes status lines → is_whole status ≡ true
-outcome_whole words bytes status lines (faulty_words word meaning is shows) = ap is_whole is
-outcome_whole words bytes status lines (refused job refusal meaning why is shows) = ap is_whole is
-outcome_whole words bytes status lines (answered job meaning right) = answer_whole status (answer_status job bytes status lines right)
+outcome_whole : {tallies : List Shown} (words : List (List ℕ)) (bytes : List ℕ) (status : Status) (lines : List (List ℕ)) → Outcome tallies words bytes status lines → is_whole status ≡ true
+outcome_whole {tallies} words bytes status lines (faulty_words word meaning is shows) = ap is_whole is
+outcome_whole {tallies} words bytes status lines (refused job refusal meaning why is shows) = ap is_whole is
+outcome_whole {tallies} words bytes status lines (answered job meaning right) = answer_whole status (answer_status tallies job bytes status lines right)
 
 -- a text was written, and what the source has left
-answers_wrote : (words : List (List ℕ)) (bytes : List ℕ) (before after a b : Option (List ℕ)) (f g : ℕ) (status : Status) → Agrees before bytes → Wrote (Outcome words bytes) a b f g status
+answers_wrote : {tallies : List Shown} (words : List (List ℕ)) (bytes : List ℕ) (before after a b : Option (List ℕ)) (f g : ℕ) (status : Status) → Agrees before bytes → Wrote (Outcome tallies words bytes) a b f g status
     → (reads words ≡ true → is_whole status ≡ true → is_too_long status ≡ false → IsReadWhole before after) → (reads words ≡ true → IsBeingRead before after → ⊥) → (reads words ≡ false → after ≡ before)
-    → Answers words before after a b status
-answers_wrote words bytes before after a b f g status agrees w read_whole over untouched =
+    → Answers tallies words before after a b status
+answers_wrote {tallies} words bytes before after a b f g status agrees w read_whole over untouched =
     record { bytes = bytes; text = w.text; read = agrees; written = w.grows; ends = by_end w.ended } where
-      by_end : Ended (Outcome words bytes) w.text f g status → Ends words bytes w.text before after status
+      by_end : Ended (Outcome tallies words bytes) w.text f g status → Ends tallies words bytes w.text before after status
       by_end (whole text) =
           let w : is_whole status ≡ true = outcome_whole words bytes status text.lines text.is_right in
           record {
@@ -227,12 +238,56 @@ answers_wrote words bytes before after a b f g status agrees w read_whole over u
         untouched = untouched;
       }
 
-pub answers_served : (words : List (List ℕ)) (before after a b : Option (List ℕ)) (f g : ℕ) (status : Status) → ServesWords words before after a b f g status → Answers words before after a b status
-answers_served words before after a b f g status h =
+pub answers_served : {tallies : List Shown} (words : List (List ℕ)) (before after a b : Option (List ℕ)) (f g : ℕ) (status : Status) → ServesWords tallies words before after a b f g status → Answers tallies words before after a b status
+answers_served {tallies} words before after a b f g status h =
     let s = h.serves in
     answers_wrote words s.bytes before after a b f g status s.read
-    (wrote_for (IsAnswer h.job s.bytes) (Outcome words s.bytes) a b f g status (λ s lines right. answered h.job h.meaning right) s.wrote)
-    (λ _ _ _. s.over) (λ _. not_being_read before after s.over) (λ none. absurd (reads_not words h.job h.meaning none))
+    (wrote_for (IsAnswer tallies h.job s.bytes) (Outcome tallies words s.bytes) a b f g status (λ s lines right. answered h.job h.meaning right) s.wrote)
+    (λ r _ _. s.over (sym (reads_of words h.job h.meaning) ∙ r)) (λ r. not_being_read before after (s.over (sym (reads_of words h.job h.meaning) ∙ r)))
+    (λ none. s.untouched (sym (reads_of words h.job h.meaning) ∙ none))
+
+-- a job that reads nothing
+pub serves_unread : {tallies : List Shown} (job : JobData) → reads_input job ≡ false → (left a b : Option (List ℕ)) (f g : ℕ) (status : Status) → ((bytes : List ℕ) → Wrote (IsAnswer tallies job bytes) a b f g status)
+    → Serves tallies job left left a b f g status
+serves_unread {tallies} job none left a b f g status wrote = record {
+  bytes = bytes_of left;
+  read = agrees_of left;
+  wrote = wrote (bytes_of left);
+  over = λ some. absurd (true≢false (sym some ∙ none));
+  untouched = λ _. refl;
+}
+
+pub refused_unread : (job : JobData) → reads_input job ≡ false → (left : Option (List ℕ)) (refusal : RefusalData) → IsUnsurveyed job refusal → IsRefusalFor job left left refusal
+refused_unread job none left refusal why = record {
+  bytes = bytes_of left;
+  read = agrees_of left;
+  refused = unsurveyed why;
+  read_whole = λ some _. absurd (true≢false (sym some ∙ none));
+  over = λ some. absurd (true≢false (sym some ∙ none));
+}
+
+-- made instances read nothing
+pub made_served : (tallies : List Shown) (words : List (List ℕ)) (shape : Shape) (size seed : ℕ) (summary : Bool) (input : Input) (left a b : Option (List ℕ)) (f g : ℕ) (r : Result Status Stop)
+    → words_meaning words ≡ Ok (Make shape size seed summary) → input ≡ made_instance shape size seed → IfOk r (λ s. Wrote (IsMade tallies input summary) a b f g s)
+    → IfOk r (λ s. ServesWords tallies words left left a b f g s)
+made_served tallies words shape size seed summary input left a b f g (Ok status) meaning same wrote = record {
+  job = Make shape size seed summary;
+  meaning = meaning;
+  serves = serves_unread (Make shape size seed summary) refl left a b f g status (λ bytes. subst (λ (i : Input). Wrote (IsMade tallies i summary) a b f g status) same wrote);
+}
+made_served tallies words shape size seed summary input left a b f g (Err stop) meaning same wrote = tt
+
+pub made_stopped : (words : List (List ℕ)) (shape : Shape) (size seed : ℕ) (summary : Bool) (input : Input) (left : Option (List ℕ)) (h i : ℕ) (r : Result Status Stop)
+    → words_meaning words ≡ Ok (Make shape size seed summary) → input ≡ made_instance shape size seed → IfErr r (λ s. StopsBy (λ _. ⊥) (IsTooManyMade input summary) ⊥ s)
+    → IfErr r (λ s. StopsBy (λ word. words_meaning words ≡ Err word) (IsRefusal words left left) (IsReadFault words h i) s)
+made_stopped words shape size seed summary input left h i r meaning same =
+    err_stops_for (λ _. ⊥) (λ word. words_meaning words ≡ Err word) (IsTooManyMade input summary) (IsRefusal words left left) ⊥ (IsReadFault words h i) r (λ word none. absurd none)
+    (λ refusal why. record {
+      job = Make shape size seed summary;
+      meaning = meaning;
+      for_job = refused_unread (Make shape size seed summary) refl left refusal (subst (λ (i : Input). IsTooManyMade i summary refusal) same why);
+    })
+    (λ none. absurd none)
 
 -- a status that says that the line of a stop was written is this one
 with_whole : (given : Status) (gives : List (List ℕ) → Type 0) (a b : Option (List ℕ)) (f g : ℕ) (status : Status) → is_whole status ≡ true → Wrote (With given gives) a b f g status → status ≡ given
@@ -243,9 +298,9 @@ with_whole given gives a b f g status h w = by_end w.ended where
   by_end (no_memory is front) = absurd (let k = ap is_whole is in cc)
 
 -- nothing was written, for want of memory, or since the source failed
-answers_nothing : (words : List (List ℕ)) (before after a b : Option (List ℕ)) (status : Status) → (status ≡ OutOfMemory) ⊎ ((status ≡ ReadFault) × (reads words ≡ true)) → b ≡ a
-    → (reads words ≡ false → after ≡ before) → Answers words before after a b status
-answers_nothing words before after a b status why same untouched = record {
+answers_nothing : {tallies : List Shown} (words : List (List ℕ)) (before after a b : Option (List ℕ)) (status : Status) → (status ≡ OutOfMemory) ⊎ ((status ≡ ReadFault) × (reads words ≡ true)) → b ≡ a
+    → (reads words ≡ false → after ≡ before) → Answers tallies words before after a b status
+answers_nothing {tallies} words before after a b status why same untouched = record {
   bytes = bytes_of before;
   text = [];
   read = agrees_of before;
@@ -273,37 +328,37 @@ answers_nothing words before after a b status why same untouched = record {
   read_fault (inr is) w = is.1
 
 -- what is said of a stop
-pub answers_stopped : (words : List (List ℕ)) (before after a b : Option (List ℕ)) (f g h i : ℕ) (s : Stop) (status : Status)
-    → StopsBy (λ word. words_meaning words ≡ Err word) (IsRefusal words before after) (IsReadFault words h i) s → (reads words ≡ false → after ≡ before) → SaysStop s a b f g status → Answers words before after a b status
-answers_stopped words before after a b f g h i (stop.Usage word) status faulty untouched says =
+pub answers_stopped : {tallies : List Shown} (words : List (List ℕ)) (before after a b : Option (List ℕ)) (f g h i : ℕ) (s : Stop) (status : Status)
+    → StopsBy (λ word. words_meaning words ≡ Err word) (IsRefusal words before after) (IsReadFault words h i) s → (reads words ≡ false → after ≡ before) → SaysStop s a b f g status → Answers tallies words before after a b status
+answers_stopped {tallies} words before after a b f g h i (stop.Usage word) status faulty untouched says =
     answers_wrote words (bytes_of before) before after a b f g status (agrees_of before)
-    (wrote_for (With (Usage word) (λ lines. lines ≡ usage_line word ∷ [])) (Outcome words (bytes_of before)) a b f g status (λ s lines w. faulty_words word faulty w.same w.given_lines) says)
+    (wrote_for (With (Usage word) (λ lines. lines ≡ usage_line word ∷ [])) (Outcome tallies words (bytes_of before)) a b f g status (λ s lines w. faulty_words word faulty w.same w.given_lines) says)
     (λ some. absurd (let none = ap asks_to_read faulty in cc)) (λ some. absurd (let none = ap asks_to_read faulty in cc)) untouched
-answers_stopped words before after a b f g h i (stop.Refused kind at) status refusal untouched says =
+answers_stopped {tallies} words before after a b f g h i (stop.Refused kind at) status refusal untouched says =
     let r = refusal.for_job in
     answers_wrote words r.bytes before after a b f g status r.read
-    (wrote_for (With (Refused kind at) (λ lines. lines ≡ refused_line (plain kind at) ∷ [])) (Outcome words r.bytes) a b f g status
+    (wrote_for (With (Refused kind at) (λ lines. lines ≡ refused_line (plain kind at) ∷ [])) (Outcome tallies words r.bytes) a b f g status
     (λ s lines w. refused refusal.job (plain kind at) refusal.meaning r.refused w.same w.given_lines) says)
-    (λ _ w short. r.read_whole (λ is. let same : status ≡ Refused kind at = with_whole (Refused kind at) _ a b f g status w says in let long : is_too_long status ≡ true = ap is_too_long same ∙ ap (λ k. is_too_long (Refused k at)) is in absurd cc))
-    (λ _. r.over) untouched
-answers_stopped words before after a b f g h i (stop.Unstable at fields) status refusal untouched says =
+    (λ reading w short. r.read_whole (sym (reads_of words refusal.job refusal.meaning) ∙ reading) (λ is. let same : status ≡ Refused kind at = with_whole (Refused kind at) _ a b f g status w says in let long : is_too_long status ≡ true = ap is_too_long same ∙ ap (λ k. is_too_long (Refused k at)) is in absurd cc))
+    (λ reading. r.over (sym (reads_of words refusal.job refusal.meaning) ∙ reading)) untouched
+answers_stopped {tallies} words before after a b f g h i (stop.Unstable at fields) status refusal untouched says =
     let r = refusal.for_job in
     answers_wrote words r.bytes before after a b f g status r.read
-    (wrote_for (With (Refused NotStable at) (λ lines. lines ≡ refused_line (with_detail NotStable at (fields_of fields)) ∷ [])) (Outcome words r.bytes) a b f g status
+    (wrote_for (With (Refused NotStable at) (λ lines. lines ≡ refused_line (with_detail NotStable at (fields_of fields)) ∷ [])) (Outcome tallies words r.bytes) a b f g status
     (λ s lines w. refused refusal.job (with_detail NotStable at (fields_of fields)) refusal.meaning r.refused w.same w.given_lines) says)
-    (λ _ w short. r.read_whole (λ is. absurd cc))
-    (λ _. r.over) untouched
-answers_stopped words before after a b f g h i stop.ReadFault status fault untouched says = answers_nothing words before after a b status (inr (says.0, fault.reading)) says.1 untouched
-answers_stopped words before after a b f g h i stop.OutOfMemory status none untouched says = answers_nothing words before after a b status (inl says.0) says.1 untouched
+    (λ reading w short. r.read_whole (sym (reads_of words refusal.job refusal.meaning) ∙ reading) (λ is. absurd cc))
+    (λ reading. r.over (sym (reads_of words refusal.job refusal.meaning) ∙ reading)) untouched
+answers_stopped {tallies} words before after a b f g h i stop.ReadFault status fault untouched says = answers_nothing words before after a b status (inr (says.0, fault.reading)) says.1 untouched
+answers_stopped {tallies} words before after a b f g h i stop.OutOfMemory status none untouched says = answers_nothing words before after a b status (inl says.0) says.1 untouched
 
 -- a run on bytes that aren't refused
-outcome_accepted : (words : List (List ℕ)) (bytes : List ℕ) (status : Status) (lines : List (List ℕ)) (job : JobData) → words_meaning words ≡ Ok job
-    → ((refusal : RefusalData) → ¬ IsRefused job bytes refusal) → Outcome words bytes status lines → is_answer status ≡ true
-outcome_accepted words bytes status lines job sound never (faulty_words word faulty is shows) = absurd cc
-outcome_accepted words bytes status lines job sound never (refused other refusal meaning why is shows) =
+outcome_accepted : {tallies : List Shown} (words : List (List ℕ)) (bytes : List ℕ) (status : Status) (lines : List (List ℕ)) (job : JobData) → words_meaning words ≡ Ok job
+    → ((refusal : RefusalData) → ¬ IsRefused job bytes refusal) → Outcome tallies words bytes status lines → is_answer status ≡ true
+outcome_accepted {tallies} words bytes status lines job sound never (faulty_words word faulty is shows) = absurd cc
+outcome_accepted {tallies} words bytes status lines job sound never (refused other refusal meaning why is shows) =
     let both : ◌≡◌ {A = Result JobData ℕ} (Ok other) (Ok job) = sym meaning ∙ sound in
     let same : other ≡ job = cc in absurd (never refusal (subst (λ (j : JobData). IsRefused j bytes refusal) same why))
-outcome_accepted words bytes status lines job sound never (answered other meaning right) = answer_status other bytes status lines right
+outcome_accepted {tallies} words bytes status lines job sound never (answered other meaning right) = answer_status tallies other bytes status lines right
 
 whole_or_not : (status : Status) → (is_whole status ≡ true) ⊎ ((status ≡ OutOfMemory) ⊎ ((status ≡ ReadFault) ⊎ (status ≡ WriteFault)))
 whole_or_not OutOfMemory = inr (inl refl)
@@ -311,14 +366,14 @@ whole_or_not ReadFault = inr (inr (inl refl))
 whole_or_not WriteFault = inr (inr (inr refl))
 whole_or_not _ = inl refl
 
-pub answers_accepted : (words : List (List ℕ)) (before after a b : Option (List ℕ)) (status : Status) → Answers words before after a b status → AnswersAccepted words before status
-answers_accepted words before after a b status answers bytes job sound told never no_read_fault no_write_fault =
+pub answers_accepted : {tallies : List Shown} (words : List (List ℕ)) (before after a b : Option (List ℕ)) (status : Status) → Answers tallies words before after a b status → AnswersAccepted words before status
+answers_accepted {tallies} words before after a b status answers bytes job sound told never no_read_fault no_write_fault =
     let same : answers.bytes ≡ bytes = sym (subst (λ (left : Option (List ℕ)). Agrees left answers.bytes) told answers.read) in
     by_status (whole_or_not status) same where
       by_status : (is_whole status ≡ true) ⊎ ((status ≡ OutOfMemory) ⊎ ((status ≡ ReadFault) ⊎ (status ≡ WriteFault))) → answers.bytes ≡ bytes → (is_answer status ≡ true) ⊎ (status ≡ OutOfMemory)
       by_status (inl w) same =
           let text = answers.ends.whole w in
-          inl (outcome_accepted words bytes status text.lines job sound never (subst (λ (t : List ℕ). Outcome words t status text.lines) same text.is_right))
+          inl (outcome_accepted words bytes status text.lines job sound never (subst (λ (t : List ℕ). Outcome tallies words t status text.lines) same text.is_right))
       by_status (inr (inl is)) same = inr is
       by_status (inr (inr (inl is))) same = absurd (no_read_fault is)
       by_status (inr (inr (inr is))) same = absurd (no_write_fault is)

@@ -13,10 +13,15 @@ use Rattle.sm_instance.specs.declared.kinds.Kind.{Kind}
 use Rattle.sm_instance.specs.declared.kinds.Kind.TheVariants.{Marriage, Hospitals, Roommates}
 use Rattle.sm_reader.specs.InstanceText.{ReadText, Refusal, instance_text}
 use Rattle.sm_seats.specs.SeatEntries.{first_too_many}
-use Rattle.sm_words.specs.Jobs.{JobData, Solve, Reduced, Rotations, Pairs, Regret, Meet, Join}
+use Rattle.sm_words.specs.Jobs.{JobData, Solve, Reduced, Rotations, Pairs, Regret, Meet, Join, Survey, Make}
 use Rattle.sm_top.specs.Texts.{RefusalData, plain}
 
 -- What a job takes.
+
+-- an input: every job but `make` reads one
+abbrev pub reads_input : JobData → Bool
+reads_input (Make shape size seed summary) = false
+reads_input job = true
 
 -- text behind `end`: `meet` and `join`
 abbrev pub takes_text : JobData → Bool
@@ -28,6 +33,8 @@ takes_text Pairs = false
 takes_text Regret = false
 takes_text Meet = true
 takes_text Join = true
+takes_text (Survey limit) = false
+takes_text (Make shape size seed summary) = false
 
 -- a kind: `solve` takes all where it names no side, and the others those with two sides
 abbrev pub is_two_sided : Kind → Bool
@@ -45,6 +52,8 @@ takes_kind Pairs kind = is_two_sided kind
 takes_kind Regret kind = is_two_sided kind
 takes_kind Meet kind = is_two_sided kind
 takes_kind Join kind = is_two_sided kind
+takes_kind (Survey limit) kind = is_two_sided kind
+takes_kind (Make shape size seed summary) kind = false
 
 -- The order of refusals.
 

@@ -1,5 +1,5 @@
 -- What may come of words and an input: the status and the lines that are written. This is what the program promises.
-use Rattle.std.specs.Prelude.{◌≡◌, ℕ, List, [], ◌∷◌, ◌⊎◌, length, Option, unwrap_or, Ok, Err, codes}
+use Rattle.std.specs.Prelude.{◌≡◌, ℕ, Bool, true, false, List, [], ◌∷◌, ◌⊎◌, length, Option, None, unwrap_or, Ok, Err, codes}
 use Rattle.sm_answer.specs.Printing.{IsShown}
 use Rattle.sm_instance.specs.Written.{Written}
 use Rattle.sm_instance.specs.declared.inputs.Input.{Input}
@@ -10,12 +10,12 @@ use Rattle.sm_reader.specs.InstanceText.{ReadText}
 use Rattle.sm_report.specs.Lines.{LineData}
 use Rattle.sm_report.specs.Texts.{left_name, right_name}
 use Rattle.sm_text.specs.declared.refusal.RefusalKind.TheVariants.{BadCursor, BadAnswer, NotStable}
-use Rattle.sm_words.specs.Jobs.{JobData, Solve, Reduced, Rotations, Pairs, Regret, Meet, Join}
-use Rattle.sm_words.specs.Words.{words_meaning}
+use Rattle.sm_words.specs.Jobs.{JobData, Solve, Reduced, Rotations, Pairs, Regret, Meet, Join, Survey, Make}
+use Rattle.sm_words.specs.Words.{usual_limit, words_meaning}
 use Rattle.sm_top.specs.declared.status.Status.{Status}
 use Rattle.sm_top.specs.declared.status.Status.TheVariants.{Done, Refused, Usage, NoneExists}
 use Rattle.sm_top.specs.Texts.{RefusalData, plain, with_detail, usage_line, refused_line}
-use Rattle.sm_top.specs.Accepting.{accepted, IsUnaccepted}
+use Rattle.sm_top.specs.Accepting.{reads_input, accepted, IsTooMany, IsUnaccepted}
 use Rattle.sm_shown.specs.Answers.{IsSolution}
 use Rattle.sm_shown.specs.Reduction.{IsReduction}
 use Rattle.sm_shown.specs.RotationAnswer.{IsRotationAnswer}
@@ -31,6 +31,10 @@ use Rattle.sm_given.specs.declared.faults.Which.TheVariants.{Left, Right}
 use Rattle.sm_given.specs.declared.faults.Flaw.{Flaw}
 use Rattle.sm_given.specs.declared.faults.Flaw.TheVariants.{Breach, Blocks}
 use Rattle.sm_given.specs.declared.faults.Unstable.{Unstable}
+use Rattle.sm_tally.specs.Fold.{Shown}
+use Rattle.sm_survey.specs.SurveyAnswer.{IsSurveyAnswer}
+use Rattle.sm_make.specs.Made.{made_instance}
+use Rattle.sm_printed.specs.Lines.{lines_of}
 use Rattle.sm_rooming.specs.RoomAnswer.{IsMatched, IsUnmatchable}
 
 -- a right answer for an instance with two sides
@@ -48,23 +52,36 @@ abbrev pub IsRegretted : Input → Status → List LineData → Type 0
 IsRegretted (Two w) status answer = ((status ≡ Done) × IsRegretAnswer w answer) ⊎ ((status ≡ NoneExists) × IsNoneAllowed w answer)
 IsRegretted (Room persons) status answer = ⊥
 
+-- a right answer to `make` with `show=summary`, with its status: what `survey` answers up to the usual limit, or, for roommates,
+-- what `solve` answers
+abbrev pub IsSummary : List Shown → Input → Status → List LineData → Type 0
+IsSummary tallies (Two w) status answer = (status ≡ Done) × IsSurveyAnswer tallies usual_limit w answer
+IsSummary tallies (Room persons) status answer = IsSolved None (Room persons) status answer
+
+-- a right answer to `make`, with its status: the text of the instance, or its summary
+abbrev pub IsMade : List Shown → Input → (summary : Bool) → Status → List (List ℕ) → Type 0
+IsMade tallies input false status lines = (status ≡ Done) × (lines ≡ lines_of input)
+IsMade tallies input true status lines = IsShown input (IsSummary tallies input status) lines
+
 -- an input was accepted for a job, and the lines are those of a right answer
 pub record IsAnswerOver (job : JobData) (bytes : List ℕ) (right : ReadText → List LineData → Type 0) (lines : List (List ℕ)) : Type 0 where
   pub read : ReadText
   pub ok : accepted job bytes ≡ Ok read
   pub shown : IsShown read.input (right read) lines
 
--- the right answers to a job, and the status that goes with them
-abbrev pub IsAnswer : JobData → List ℕ → Status → List (List ℕ) → Type 0
-IsAnswer (Solve side) bytes status lines = IsAnswerOver (Solve side) bytes (λ read. IsSolved side read.input status) lines
-IsAnswer Reduced bytes status lines = (status ≡ Done) × IsAnswerOver Reduced bytes (λ read. OfTwo IsReduction read.input) lines
-IsAnswer Rotations bytes status lines = (status ≡ Done) × IsAnswerOver Rotations bytes (λ read. OfTwo IsRotationAnswer read.input) lines
-IsAnswer (JobData.List after limit) bytes status lines =
+-- The right answers to a job, and the status that goes with them. The tallies showed this before.
+abbrev pub IsAnswer : List Shown → JobData → List ℕ → Status → List (List ℕ) → Type 0
+IsAnswer tallies (Solve side) bytes status lines = IsAnswerOver (Solve side) bytes (λ read. IsSolved side read.input status) lines
+IsAnswer tallies Reduced bytes status lines = (status ≡ Done) × IsAnswerOver Reduced bytes (λ read. OfTwo IsReduction read.input) lines
+IsAnswer tallies Rotations bytes status lines = (status ≡ Done) × IsAnswerOver Rotations bytes (λ read. OfTwo IsRotationAnswer read.input) lines
+IsAnswer tallies (JobData.List after limit) bytes status lines =
     (status ≡ Done) × IsAnswerOver (JobData.List after limit) bytes (λ read. OfTwo (IsListAnswer after limit) read.input) lines
-IsAnswer Pairs bytes status lines = (status ≡ Done) × IsAnswerOver Pairs bytes (λ read. OfTwo IsPairsAnswer read.input) lines
-IsAnswer Regret bytes status lines = IsAnswerOver Regret bytes (λ read. IsRegretted read.input status) lines
-IsAnswer Meet bytes status lines = (status ≡ Done) × IsAnswerOver Meet bytes (λ read. OfTwo (IsChosenAnswer Better (texts_from bytes read.rest)) read.input) lines
-IsAnswer Join bytes status lines = (status ≡ Done) × IsAnswerOver Join bytes (λ read. OfTwo (IsChosenAnswer Worse (texts_from bytes read.rest)) read.input) lines
+IsAnswer tallies Pairs bytes status lines = (status ≡ Done) × IsAnswerOver Pairs bytes (λ read. OfTwo IsPairsAnswer read.input) lines
+IsAnswer tallies Regret bytes status lines = IsAnswerOver Regret bytes (λ read. IsRegretted read.input status) lines
+IsAnswer tallies Meet bytes status lines = (status ≡ Done) × IsAnswerOver Meet bytes (λ read. OfTwo (IsChosenAnswer Better (texts_from bytes read.rest)) read.input) lines
+IsAnswer tallies Join bytes status lines = (status ≡ Done) × IsAnswerOver Join bytes (λ read. OfTwo (IsChosenAnswer Worse (texts_from bytes read.rest)) read.input) lines
+IsAnswer tallies (Survey limit) bytes status lines = (status ≡ Done) × IsAnswerOver (Survey limit) bytes (λ read. OfTwo (IsSurveyAnswer tallies limit) read.input) lines
+IsAnswer tallies (Make shape size seed summary) bytes status lines = IsMade tallies (made_instance shape size seed) summary status lines
 
 -- a cursor that hasn't an item for each proposer is refused, at no line
 abbrev pub IsBadCursor : Option (List ℕ) → Input → RefusalData → Type 0
@@ -102,16 +119,29 @@ IsOwnRefusal Pairs bytes read refusal = ⊥
 IsOwnRefusal Regret bytes read refusal = ⊥
 IsOwnRefusal Meet bytes read refusal = IsBadGiven read.input (texts_from bytes read.rest) read.rest_line refusal
 IsOwnRefusal Join bytes read refusal = IsBadGiven read.input (texts_from bytes read.rest) read.rest_line refusal
+IsOwnRefusal (Survey limit) bytes read refusal = ⊥
+IsOwnRefusal (Make shape size seed summary) bytes read refusal = ⊥
 
--- an input is refused
+-- a made instance isn't surveyed where its seats have too many entries
+abbrev pub IsTooManyMade : Input → (summary : Bool) → RefusalData → Type 0
+IsTooManyMade input true refusal = IsTooMany input refusal
+IsTooManyMade input false refusal = ⊥
+
+abbrev pub IsUnsurveyed : JobData → RefusalData → Type 0
+IsUnsurveyed (Make shape size seed summary) refusal = IsTooManyMade (made_instance shape size seed) summary refusal
+IsUnsurveyed job refusal = ⊥
+
+-- an input is refused, which `make` doesn't read
 pub data IsRefused (job : JobData) (bytes : List ℕ) (refusal : RefusalData) : Type 0 where
-  not_accepted : IsUnaccepted job bytes refusal → IsRefused job bytes refusal
+  not_accepted : reads_input job ≡ true → IsUnaccepted job bytes refusal → IsRefused job bytes refusal
   by_job : (read : ReadText) → accepted job bytes ≡ Ok read → IsOwnRefusal job bytes read refusal → IsRefused job bytes refusal
+  unsurveyed : IsUnsurveyed job refusal → IsRefused job bytes refusal
 
--- the words are faulty; or they ask for a job, and the input is refused; or the lines are those of a right answer
-pub data Outcome (words : List (List ℕ)) (bytes : List ℕ) (status : Status) (lines : List (List ℕ)) : Type 0 where
+-- The words are faulty; or they ask for a job, and the input is refused; or the lines are those of a right answer. The tallies
+-- showed this before.
+pub data Outcome (tallies : List Shown) (words : List (List ℕ)) (bytes : List ℕ) (status : Status) (lines : List (List ℕ)) : Type 0 where
   faulty_words : (word : ℕ) → words_meaning words ≡ Err word → status ≡ Usage word → lines ≡ usage_line word ∷ []
-      → Outcome words bytes status lines
+      → Outcome tallies words bytes status lines
   refused : (job : JobData) (refusal : RefusalData) → words_meaning words ≡ Ok job → IsRefused job bytes refusal
-      → status ≡ Refused refusal.kind refusal.at → lines ≡ refused_line refusal ∷ [] → Outcome words bytes status lines
-  answered : (job : JobData) → words_meaning words ≡ Ok job → IsAnswer job bytes status lines → Outcome words bytes status lines
+      → status ≡ Refused refusal.kind refusal.at → lines ≡ refused_line refusal ∷ [] → Outcome tallies words bytes status lines
+  answered : (job : JobData) → words_meaning words ≡ Ok job → IsAnswer tallies job bytes status lines → Outcome tallies words bytes status lines

@@ -9,13 +9,15 @@ use Rattle.sm_words.specs.Words.{words_meaning}
 use Rattle.sm_top.specs.declared.status.Status.{Status}
 use Rattle.sm_top.specs.declared.status.Status.TheVariants.{Refused, Usage, OutOfMemory, ReadFault, WriteFault}
 use Rattle.sm_text.specs.Limits.{most_bytes}
+use Rattle.sm_tally.specs.Fold.{Shown}
+use Rattle.sm_top.specs.Accepting.{reads_input}
 use Rattle.sm_top.specs.Input.{IsReadWhole}
 use Rattle.sm_top.specs.Texts.{RefusalData}
 use Rattle.sm_top.specs.Outcome.{Outcome, IsRefused}
 
--- what the words ask for reads an input: every job does, and faulty words don't
+-- what the words ask for reads an input: every job but `make` does, and faulty words don't
 abbrev pub asks_to_read : Result JobData ℕ → Bool
-asks_to_read (Ok job) = true
+asks_to_read (Ok job) = reads_input job
 asks_to_read (Err word) = false
 
 abbrev pub reads : List (List ℕ) → Bool
@@ -54,26 +56,26 @@ pub record IsFront (right : Status → List (List ℕ) → Type 0) (text : List 
   pub whole : IsText (right status) (text ++ rest)
 
 -- what the status says of the text that was written, and of what the source has left
-pub record Ends (words : List (List ℕ)) (bytes text : List ℕ) (left_before left_after : Option (List ℕ)) (status : Status) : Type 0 where
+pub record Ends (tallies : List Shown) (words : List (List ℕ)) (bytes text : List ℕ) (left_before left_after : Option (List ℕ)) (status : Status) : Type 0 where
   -- the whole text of an outcome was written; or nothing, or a front of one
-  pub whole : is_whole status ≡ true → IsText (Outcome words bytes status) text
-  pub front : is_whole status ≡ false → (text ≡ []) ⊎ IsFront (Outcome words bytes) text
+  pub whole : is_whole status ≡ true → IsText (Outcome tallies words bytes status) text
+  pub front : is_whole status ≡ false → (text ≡ []) ⊎ IsFront (Outcome tallies words bytes) text
   -- where the sink failed, a front; where the source failed, or where there was no memory while the input was read, nothing
-  pub write_fault : status ≡ WriteFault → IsFront (Outcome words bytes) text
+  pub write_fault : status ≡ WriteFault → IsFront (Outcome tallies words bytes) text
   pub read_fault : status ≡ ReadFault → (reads words ≡ true) × (text ≡ [])
   pub early : status ≡ OutOfMemory → reads words ≡ true → IsBeingRead left_before left_after → text ≡ []
   -- an input is read whole, unless it is too long; where none is asked for, nothing is read
   pub read_whole : reads words ≡ true → is_whole status ≡ true → is_too_long status ≡ false → IsReadWhole left_before left_after
   pub untouched : reads words ≡ false → left_after ≡ left_before
 
--- A run with these words: of all the bytes that the source had left, this text was written, which is added to what the sink
+-- A run with these words and with tallies that showed this: of all the bytes that the source had left, this text was written, which is added to what the sink
 -- held. Where a source or a sink doesn't tell its bytes, there are some of which this is true.
-pub record Answers (words : List (List ℕ)) (left_before left_after held_before held_after : Option (List ℕ)) (status : Status) : Type 0 where
+pub record Answers (tallies : List Shown) (words : List (List ℕ)) (left_before left_after held_before held_after : Option (List ℕ)) (status : Status) : Type 0 where
   pub bytes : List ℕ
   pub text : List ℕ
   pub read : Agrees left_before bytes
   pub written : Grows held_before held_after text
-  pub ends : Ends words bytes text left_before left_after status
+  pub ends : Ends tallies words bytes text left_before left_after status
 
 -- where words ask for a job and the source tells bytes that aren't refused, a run without faults comes to an answer, if there is memory
 abbrev pub AnswersAccepted : List (List ℕ) → Option (List ℕ) → Status → Type 0

@@ -1,5 +1,5 @@
 -- What is known between the parts of a run.
-use Rattle.std.specs.Prelude.{◌≡◌, ◌≢◌, ℕ, true, List, [], ◌∷◌, Option, Ok}
+use Rattle.std.specs.Prelude.{◌≡◌, ◌≢◌, ℕ, true, false, List, [], ◌∷◌, Option, Ok}
 use Rattle.sm_io.specs.Source.{Agrees}
 use Rattle.sm_io.specs.Faults.{Rose}
 use Rattle.sm_text.specs.declared.refusal.RefusalKind.TheVariants.{TooLong, NotStable}
@@ -9,6 +9,8 @@ use Rattle.sm_top.specs.declared.status.Status.{Status}
 use Rattle.sm_top.specs.declared.status.Status.TheVariants.{Refused, Usage, OutOfMemory, ReadFault}
 use Rattle.sm_top.specs.declared.stop.Stop.{Stop}
 use Rattle.sm_top.specs.declared.stop.Stop.TheVariants as stop
+use Rattle.sm_tally.specs.Fold.{Shown}
+use Rattle.sm_top.specs.Accepting.{reads_input}
 use Rattle.sm_top.specs.Input.{IsReadWhole}
 use Rattle.sm_top.specs.Texts.{RefusalData, plain, with_detail, fields_of, usage_line, refused_line}
 use Rattle.sm_top.specs.Outcome.{IsAnswer, IsRefused}
@@ -16,25 +18,26 @@ use Rattle.sm_top.specs.Running.{IsBeingRead, reads}
 use Rattle.sm_top.specs.Wrote.{Wrote, With}
 
 -- a job came to a status by writing an answer
-pub record Serves (job : JobData) (left_before left_after held_before held_after : Option (List ℕ)) (before after : ℕ) (status : Status) : Type 0 where
+pub record Serves (tallies : List Shown) (job : JobData) (left_before left_after held_before held_after : Option (List ℕ)) (before after : ℕ) (status : Status) : Type 0 where
   pub bytes : List ℕ
   pub read : Agrees left_before bytes
-  pub wrote : Wrote (IsAnswer job bytes) held_before held_after before after status
-  pub over : IsReadWhole left_before left_after
+  pub wrote : Wrote (IsAnswer tallies job bytes) held_before held_after before after status
+  pub over : reads_input job ≡ true → IsReadWhole left_before left_after
+  pub untouched : reads_input job ≡ false → left_after ≡ left_before
 
 -- and so did words that ask for a job
-pub record ServesWords (words : List (List ℕ)) (left_before left_after held_before held_after : Option (List ℕ)) (before after : ℕ) (status : Status) : Type 0 where
+pub record ServesWords (tallies : List Shown) (words : List (List ℕ)) (left_before left_after held_before held_after : Option (List ℕ)) (before after : ℕ) (status : Status) : Type 0 where
   pub job : JobData
   pub meaning : words_meaning words ≡ Ok job
-  pub serves : Serves job left_before left_after held_before held_after before after status
+  pub serves : Serves tallies job left_before left_after held_before held_after before after status
 
 -- a refusal for a job
 pub record IsRefusalFor (job : JobData) (left_before left_after : Option (List ℕ)) (refusal : RefusalData) : Type 0 where
   pub bytes : List ℕ
   pub read : Agrees left_before bytes
   pub refused : IsRefused job bytes refusal
-  pub read_whole : refusal.kind ≢ TooLong → IsReadWhole left_before left_after
-  pub over : ¬ IsBeingRead left_before left_after
+  pub read_whole : reads_input job ≡ true → refusal.kind ≢ TooLong → IsReadWhole left_before left_after
+  pub over : reads_input job ≡ true → ¬ IsBeingRead left_before left_after
 
 -- and for words that ask for one
 pub record IsRefusal (words : List (List ℕ)) (left_before left_after : Option (List ℕ)) (refusal : RefusalData) : Type 0 where

@@ -1,12 +1,13 @@
 //! The top call of the stable matching workbench: [`run`] does all that the program does.
 //!
-//! The words are read by [`read_words`]. For each job `sm_shown`, `sm_listing`, `sm_partners`, `sm_given` or `sm_rooming` makes its
+//! The words are read by [`read_words`]. For each job `sm_shown`, `sm_listing`, `sm_partners`, `sm_given`, `sm_survey` or `sm_rooming` makes its
 //! answer, a value that gives lines ([`sm_answer::Lines`]), and this crate writes it or says why there is none. How a command
 //! is added is told in the document `ADDING.md` of this repository.
 #![tactic(auto)]
 
 mod choosing;
 mod input;
+mod making;
 mod performing;
 mod refusing;
 mod running;

@@ -1,18 +1,20 @@
 //! Doing a job: an arm for each command, which makes its answer and writes it.
 
-ghost use Rattle.std.specs.Prelude.{◌≡◌, ◌≤◌, ◌↔◌, Ok, None, IfOk, IfErr, OnOk, OnErr, IsTrue, unwrap_or, length};
+ghost use Rattle.std.specs.Prelude.{◌≡◌, ◌≤◌, ◌↔◌, Ok, None, IfOk, IfErr, OnOk, OnErr, IsTrue, unwrap_or, length, map, true, List};
 ghost use Rattle.sm_answer.specs.Printing.{IsShown};
 ghost use Rattle.sm_instance.specs.Sound.{IsInstance};
 ghost use Rattle.sm_instance.specs.declared.inputs.Input.TheVariants.{Two, Room};
 ghost use Rattle.sm_reader.specs.InstanceText.{read_of};
 ghost use Rattle.sm_text.specs.Limits.{most_bytes};
 ghost use Rattle.sm_words.specs.Jobs.{job_of, IsInBounds, IsLimit};
-ghost use Rattle.sm_top.specs.Accepting.{judged, accepted, too_many_in, IsTooMany};
+ghost use Rattle.sm_top.specs.Accepting.{reads_input, judged, accepted, too_many_in, IsTooMany};
 ghost use Rattle.sm_top.specs.Seated.{IsSeated};
 ghost use Rattle.sm_shown.specs.Answers.{IsSolution};
 ghost use Rattle.sm_listing.specs.ListAnswer.{IsCursor, IsListAnswer};
 ghost use Rattle.sm_listing.specs.Started.{cursor_in};
 ghost use Rattle.sm_partners.specs.PairsAnswer.{IsPairsAnswer};
+ghost use Rattle.sm_tally.specs.Fold.{Shown, shown_as};
+ghost use Rattle.sm_survey.specs.SurveyAnswer.{IsSurveyAnswer};
 ghost use Rattle.sm_top.specs.Outcome.{IsSolved, IsRegretted, IsAnswer, IsBadCursor, IsOwnRefusal, IsRefused};
 ghost use Rattle.sm_shown.specs.Reduction.{IsReduction};
 ghost use Rattle.sm_shown.specs.RotationAnswer.{IsRotationAnswer};
@@ -36,6 +38,8 @@ use sm_shown::{
     find_reduction, find_rotations, find_solution, reduction_lines, rotation_answer_lines,
     solution_lines,
 };
+use sm_survey::survey_lines;
+use sm_tally::Tally;
 use sm_text::RefusalKind;
 use sm_words::Job;
 use std::alloc::{AllocError, Global};
@@ -54,12 +58,14 @@ pub(crate) fn perform<K: Sink>(
     job: &Job,
     bytes: &[u8],
     read: &Read,
+    tallies: &mut Vec<Box<dyn Tally>>,
     sink: &mut K,
 ) -> Result<Status, Stop>
+    requires reads { reads_input (job_of job.now) ≡ true }
     requires short { length bytes.now ≤ most_bytes }
     requires accepted { accepted (job_of job.now) bytes.now ≡ judged (job_of job.now) (read_of read.now) }
     requires bounds { IsInBounds (job_of job.now) }
-    ensures wrote { IfOk result (λ status. Wrote (IsAnswer (job_of job.now) bytes.now)
+    ensures wrote { IfOk result (λ status. Wrote (IsAnswer (map (λ t. shown_as (kind t) (shown t)) tallies.old.items) (job_of job.now) bytes.now)
         (K.held sink.old) (K.held sink.new) (K.faults sink.old) (K.faults sink.new) status) }
     ensures stop { IfErr result (λ stop. StopsBy (λ _. ⊥) (IsRefused (job_of job.now) bytes.now) ⊥ stop) }
     ensures unwritten { OnErr result (sink.new ≡ sink.old) }
@@ -68,7 +74,7 @@ pub(crate) fn perform<K: Sink>(
     match &read.input {
         Input::Two(instance) => {
             let given = with_seats(alloc, read, instance)?;
-            perform_on_seats(alloc, job, bytes, &given, sink)
+            perform_on_seats(alloc, job, bytes, &given, tallies, sink)
         }
         Input::Room(persons) => perform_on_persons(alloc, job, bytes, read, persons, sink),
     }
@@ -98,13 +104,15 @@ fn perform_on_seats<K: Sink>(
     job: &Job,
     bytes: &[u8],
     given: &Seated<'_>,
+    tallies: &mut Vec<Box<dyn Tally>>,
     sink: &mut K,
 ) -> Result<Status, Stop>
+    requires reads { reads_input (job_of job.now) ≡ true }
     requires short { length bytes.now ≤ most_bytes }
     requires accepted { accepted (job_of job.now) bytes.now ≡ Ok (read_of given.now.read.now) }
     requires seated { IsSeated given.now.read.now.input given.now.instance.now given.now.seats }
     requires bounds { IsInBounds (job_of job.now) }
-    ensures wrote { IfOk result (λ status. Wrote (IsAnswer (job_of job.now) bytes.now)
+    ensures wrote { IfOk result (λ status. Wrote (IsAnswer (map (λ t. shown_as (kind t) (shown t)) tallies.old.items) (job_of job.now) bytes.now)
         (K.held sink.old) (K.held sink.new) (K.faults sink.old) (K.faults sink.new) status) }
     ensures stop { IfErr result (λ stop.
         StopsBy (λ _. ⊥) (IsOwnRefusal (job_of job.now) bytes.now (read_of given.now.read.now)) ⊥ stop) }
@@ -134,6 +142,8 @@ fn perform_on_seats<K: Sink>(
             Choice::Worse,
             sink,
         ),
+        Job::Survey(limit) => Ok(survey(alloc, given, *limit, tallies, sink)?),
+        Job::Make(_, _, _, _) => unreachable!(),
     }
 }
 
@@ -146,9 +156,10 @@ fn perform_on_persons<K: Sink>(
     persons: &Persons,
     sink: &mut K,
 ) -> Result<Status, Stop>
+    requires reads { reads_input (job_of job.now) ≡ true }
     requires room { read.now.input ≡ Room persons.now }
     requires judged { accepted (job_of job.now) bytes.now ≡ judged (job_of job.now) (read_of read.now) }
-    ensures wrote { IfOk result (λ status. Wrote (IsAnswer (job_of job.now) bytes.now)
+    ensures wrote { (tallies : List Shown) → IfOk result (λ status. Wrote (IsAnswer tallies (job_of job.now) bytes.now)
         (K.held sink.old) (K.held sink.new) (K.faults sink.old) (K.faults sink.new) status) }
     ensures stop { IfErr result (λ stop. StopsBy (λ _. ⊥) (IsRefused (job_of job.now) bytes.now) ⊥ stop) }
     ensures unwritten { OnErr result (sink.new ≡ sink.old) }
@@ -164,7 +175,9 @@ fn perform_on_persons<K: Sink>(
         | Job::Pairs
         | Job::Regret
         | Job::Meet
-        | Job::Join => Err(Stop::Refused(RefusalKind::WrongKind, read.header_line)),
+        | Job::Join
+        | Job::Survey(_) => Err(Stop::Refused(RefusalKind::WrongKind, read.header_line)),
+        Job::Make(_, _, _, _) => unreachable!(),
     }
 }
 
@@ -187,8 +200,8 @@ fn solve<K: Sink>(
     Ok(write(alloc, sink, Status::Done, lines))
 }
 
-// Does `solve` on roommates.
-fn solve_roommates<K: Sink>(
+/// Does `solve` on roommates.
+pub(crate) fn solve_roommates<K: Sink>(
     alloc: Global,
     input: &Input,
     persons: &Persons,
@@ -318,6 +331,33 @@ fn show_regret<K: Sink>(
             Ok(write(alloc, sink, Status::NoneExists, none))
         }
     }
+}
+
+// Does `survey`.
+fn survey<K: Sink>(
+    alloc: Global,
+    given: &Seated<'_>,
+    limit: u32,
+    tallies: &mut Vec<Box<dyn Tally>>,
+    sink: &mut K,
+) -> Result<Status, AllocError>
+    requires seated { IsSeated given.now.read.now.input given.now.instance.now given.now.seats }
+    requires limit { IsLimit limit }
+    ensures wrote { IfOk result (λ status. Wrote
+        (With Status.Done (IsShown given.now.read.now.input (IsSurveyAnswer (map (λ t. shown_as (kind t) (shown t)) tallies.old.items) limit given.now.instance.now)))
+        (K.held sink.old) (K.held sink.new) (K.faults sink.old) (K.faults sink.new) status) }
+    ensures unwritten { OnErr result (sink.new ≡ sink.old) }
+    ensures later { K.faults sink.old ≤ K.faults sink.new }
+{
+    let lines = survey_lines(
+        alloc,
+        &given.read.input,
+        given.instance,
+        &given.seats,
+        limit,
+        tallies,
+    )?;
+    Ok(write(alloc, sink, Status::Done, lines))
 }
 
 // Has a cursor an item for each proposer, where there is one?

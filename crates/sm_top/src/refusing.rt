@@ -106,7 +106,9 @@ fn takes_text(job: &Job) -> bool
         | Job::Rotations
         | Job::List(_, _)
         | Job::Pairs
-        | Job::Regret => false,
+        | Job::Regret
+        | Job::Survey(_)
+        | Job::Make(_, _, _, _) => false,
         Job::Meet | Job::Join => true,
     }
 }

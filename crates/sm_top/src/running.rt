@@ -1,11 +1,13 @@
 //! The top call.
 
-ghost use Rattle.std.specs.Prelude.{◌≡◌, ◌≤◌, ◌≢◌, Ok, Err, IfOk, IfErr, OnErr, length, true, false};
+ghost use Rattle.std.specs.Prelude.{◌≡◌, ◌≤◌, ◌≢◌, Ok, Err, IfOk, IfErr, OnErr, length, map, true, false};
 ghost use Rattle.sm_text.specs.Limits.{most_bytes};
 ghost use Rattle.sm_io.specs.Faults.{Rose};
 ghost use Rattle.sm_reader.specs.InstanceText.{read_of};
 ghost use Rattle.sm_words.specs.Jobs.{job_of, IsInBounds};
 ghost use Rattle.sm_words.specs.Words.{texts, words_meaning};
+ghost use Rattle.sm_tally.specs.Fold.{shown_as};
+ghost use Rattle.sm_top.specs.Accepting.{reads_input};
 ghost use Rattle.sm_top.specs.Outcome.{IsAnswer, IsRefused};
 ghost use Rattle.sm_top.specs.Running.{reads, Answers, AnswersAccepted};
 ghost use Rattle.sm_top.specs.Steps.{Serves, ServesWords, IsRefusalFor, IsRefusal, IsReadFault, SaysStop};
@@ -13,20 +15,23 @@ ghost use Rattle.sm_top.specs.Stops.{StopsBy};
 ghost use Rattle.sm_top.specs.Wrote.{Wrote};
 
 use crate::input::read_all;
+use crate::making::show_made;
 use crate::performing::perform;
 use crate::refusing::read_for;
 use crate::status::Status;
 use crate::stop::{RefusedLine, Stop, UsageLine};
 use crate::writing::write;
 use sm_io::{Sink, Source};
+use sm_make::make;
+use sm_tally::Tally;
 use sm_text::RefusalKind;
 use sm_words::{Job, WordsFault, read_words};
 use std::alloc::Global;
 
 /// Does all that the program does, and says how it ended.
 ///
-/// The words are those of the command line behind the program's name. Where they are faulty nothing is read. Else the source
-/// is read to its end, or until it gave more than 16,777,216 bytes, and the answer is written to the sink, each line with
+/// The words are those of the command line behind the program's name. Where they are faulty nothing is read, nor for `make`.
+/// Else the source is read to its end, or until it gave more than 16,777,216 bytes, and the answer is written to the sink, each line with
 /// one put.
 ///
 /// - `Done`: the whole answer is written. For `solve` it is the pairs of the stable matching in which every agent of a
@@ -39,7 +44,10 @@ use std::alloc::Global;
 ///   all stable matchings, and which of them are in each (section 2.3.3 there); for `regret` the least regret of an allowed
 ///   stable matching, and of those that have it the pairs of the one that is best for all proposers (Gusfield 1987); for
 ///   `meet` and `join` the pairs of two stable matchings, which are read behind `end`, and those of the matching in which
-///   each proposer has the better of its two partners, or the worse (section 1.3.1 there).
+///   each proposer has the better of its two partners, or the worse (section 1.3.1 there); for `survey` how many allowed
+///   stable matchings are listed from the first on, up to the limit, and what the tallies show that were told of each of
+///   them; for `make` the text of the instance that is made, or what `survey` with a limit of 100, or for roommates `solve`,
+///   writes for it.
 /// - `Refused`: the input is refused for this reason, at this line; the one line `refused NAME LINE` is written. An input
 ///   that is too long comes first, then the faults of its lines from the top, then a missing `end`, then a name that isn't
 ///   declared, then text behind `end` where the command takes none, then a kind that the command doesn't take, then seats that have more than 1,048,576
@@ -49,10 +57,12 @@ use std::alloc::Global;
 ///   right one.
 /// - `NoneExists`: the whole answer is written, and says that there is no such matching. For `solve` it is `none`, where
 ///   roommates have no stable matching, and the parties of a stable partition that has an odd one of three or more (Tan
-///   1991); for `regret` it is `none` alone, where no stable matching is allowed.
+///   1991), and so for `make` with `show=summary`; for `regret` it is `none` alone, where no stable matching is allowed.
 /// - `Usage`: the words are faulty; the one line `usage WORD` is written.
 /// - `ReadFault`, `WriteFault`: the source or the sink failed. Nothing was written, or a front of the answer.
 /// - `OutOfMemory`: there was no memory. Nothing was written, or a front of the answer.
+///
+/// The tallies are fed by `survey`, and by `make` with `show=summary`, and dropped.
 ///
 /// What is written is added to what the sink held. It depends on the bytes that the source gave and not on how they were cut.
 /// Takes time and memory linear in the bytes for `solve`, `reduced`, `meet` and `join`, beside a look-up for each name. For the others those of [`sm_rotations::chain`] and
@@ -63,8 +73,9 @@ pub fn run<S: Source, K: Sink>(
     words: &[String],
     source: &mut S,
     sink: &mut K,
+    tallies: Vec<Box<dyn Tally>>,
 ) -> Status
-    ensures answer { Answers (texts words.now) (S.left source.old) (S.left source.new)
+    ensures answer { Answers (map (λ t. shown_as (kind t) (shown t)) tallies.items) (texts words.now) (S.left source.old) (S.left source.new)
         (K.held sink.old) (K.held sink.new) result }
     ensures accepted { AnswersAccepted (texts words.now) (S.left source.old) result }
     ensures untouched { reads (texts words.now) ≡ false → source.new ≡ source.old }
@@ -75,7 +86,8 @@ pub fn run<S: Source, K: Sink>(
     ensures source_later { S.faults source.old ≤ S.faults source.new }
     ensures sink_later { K.faults sink.old ≤ K.faults sink.new }
 {
-    match serve(alloc, words, source, sink) {
+    let mut tallies = tallies;
+    match serve(alloc, words, source, &mut tallies, sink) {
         Ok(status) => status,
         Err(stop) => say_stop(alloc, sink, stop),
     }
@@ -86,9 +98,10 @@ fn serve<S: Source, K: Sink>(
     alloc: Global,
     words: &[String],
     source: &mut S,
+    tallies: &mut Vec<Box<dyn Tally>>,
     sink: &mut K,
 ) -> Result<Status, Stop>
-    ensures served { IfOk result (λ status. ServesWords (texts words.now) (S.left source.old) (S.left source.new)
+    ensures served { IfOk result (λ status. ServesWords (map (λ t. shown_as (kind t) (shown t)) tallies.old.items) (texts words.now) (S.left source.old) (S.left source.new)
         (K.held sink.old) (K.held sink.new) (K.faults sink.old) (K.faults sink.new) status) }
     ensures stop { IfErr result (λ stop. StopsBy (λ word. words_meaning (texts words.now) ≡ Err word)
         (IsRefusal (texts words.now) (S.left source.old) (S.left source.new))
@@ -99,7 +112,11 @@ fn serve<S: Source, K: Sink>(
     ensures sink_later { K.faults sink.old ≤ K.faults sink.new }
 {
     match read_words(alloc, words) {
-        Ok(job) => read_and_answer(alloc, &job, source, sink),
+        Ok(Job::Make(shape, size, seed, is_summary)) => {
+            let input = make(alloc, shape, size, seed)?;
+            show_made(alloc, &input, is_summary, tallies, sink)
+        }
+        Ok(job) => read_and_answer(alloc, &job, source, tallies, sink),
         Err(WordsFault::Usage(word)) => Err(Stop::Usage(word)),
         Err(WordsFault::OutOfMemory) => Err(Stop::OutOfMemory),
     }
@@ -110,10 +127,12 @@ fn read_and_answer<S: Source, K: Sink>(
     alloc: Global,
     job: &Job,
     source: &mut S,
+    tallies: &mut Vec<Box<dyn Tally>>,
     sink: &mut K,
 ) -> Result<Status, Stop>
-    requires { IsInBounds (job_of job.now) }
-    ensures served { IfOk result (λ status. Serves (job_of job.now) (S.left source.old) (S.left source.new)
+    requires reads { reads_input (job_of job.now) ≡ true }
+    requires bounds { IsInBounds (job_of job.now) }
+    ensures served { IfOk result (λ status. Serves (map (λ t. shown_as (kind t) (shown t)) tallies.old.items) (job_of job.now) (S.left source.old) (S.left source.new)
         (K.held sink.old) (K.held sink.new) (K.faults sink.old) (K.faults sink.new) status) }
     ensures stop { IfErr result (λ stop. StopsBy (λ _. ⊥)
         (IsRefusalFor (job_of job.now) (S.left source.old) (S.left source.new))
@@ -123,21 +142,28 @@ fn read_and_answer<S: Source, K: Sink>(
     ensures sink_later { K.faults sink.old ≤ K.faults sink.new }
 {
     let bytes = read_all(alloc, source)?;
-    answer(alloc, job, &bytes, sink)
+    answer(alloc, job, &bytes, tallies, sink)
 }
 
 // Does a job on an input that was read whole.
-fn answer<K: Sink>(alloc: Global, job: &Job, bytes: &[u8], sink: &mut K) -> Result<Status, Stop>
+fn answer<K: Sink>(
+    alloc: Global,
+    job: &Job,
+    bytes: &[u8],
+    tallies: &mut Vec<Box<dyn Tally>>,
+    sink: &mut K,
+) -> Result<Status, Stop>
+    requires reads { reads_input (job_of job.now) ≡ true }
     requires short { length bytes.now ≤ most_bytes }
     requires bounds { IsInBounds (job_of job.now) }
-    ensures wrote { IfOk result (λ status. Wrote (IsAnswer (job_of job.now) bytes.now)
+    ensures wrote { IfOk result (λ status. Wrote (IsAnswer (map (λ t. shown_as (kind t) (shown t)) tallies.old.items) (job_of job.now) bytes.now)
         (K.held sink.old) (K.held sink.new) (K.faults sink.old) (K.faults sink.new) status) }
     ensures stop { IfErr result (λ stop. StopsBy (λ _. ⊥) (IsRefused (job_of job.now) bytes.now) ⊥ stop) }
     ensures unwritten { OnErr result (sink.new ≡ sink.old) }
     ensures later { K.faults sink.old ≤ K.faults sink.new }
 {
     let read = read_for(alloc, job, bytes)?;
-    perform(alloc, job, bytes, &read, sink)
+    perform(alloc, job, bytes, &read, tallies, sink)
 }
 
 // Says why there is no answer.

@@ -1,98 +1,96 @@
 -- The numbers of a job lie in their bounds.
-use Rattle.std.proofs.Common.{◌≡◌, ℕ, ◌+◌, ◌≤◌, Bool, true, false, cond, ◌&&◌, nat_lt, nat_le, List, [], ◌∷◌, length, Option, Some, None, option_map, Result, Ok, Err, IfOk, IfSome, refl, subst, arith, unwrap_or}
-use Rattle.std.specs.List.{position_or_len, before_first, after_first}
+use Rattle.std.proofs.Common.{◌≡◌, ℕ, ◌+◌, ◌≤◌, ◌<◌, ◌^◌, Bool, true, false, cond, List, [], ◌∷◌, length, Option, Some, None, option_map, Result, Ok, Err, IfOk, IfSome, refl, subst, arith, unwrap_or}
 use Rattle.std.specs.Option.{option_and_then, option_map_or}
-use Rattle.std.proofs.lemmas.Bool.{ltb-false, leb-true}
+use Rattle.std.proofs.lemmas.Bool.{ltb-false}
 use Rattle.std.proofs.lemmas.Option.{none-some, same_Some}
-use Rattle.sm_text.specs.Numbers.{number_of, is_number, value_of}
-use Rattle.sm_instance.specs.declared.kinds.Side.{Side}
+use Rattle.sm_make.specs.Made.{most_size}
+use Rattle.sm_report.specs.Meanings.{look_up}
+use Rattle.sm_report.specs.Vectors.{vector_in}
+use Rattle.sm_report.proofs.DecimalLemmas.{number_spelt}
+use Rattle.sm_report.proofs.InverseLemmas.{mapped, chained}
+use Rattle.sm_report.proofs.FieldInverses.{within_inverts}
 use Rattle.sm_words.specs.declared.operands.Command.{Command}
 use Rattle.sm_words.specs.declared.operands.Command.TheVariants as command
 use Rattle.sm_words.specs.declared.operands.Operand.{Operand}
 use Rattle.sm_words.specs.declared.operands.Operand.TheVariants as operand
 use Rattle.sm_words.specs.declared.jobs.Job.{Job}
 use Rattle.sm_words.specs.declared.jobs.WordsFault.{WordsFault}
-use Rattle.sm_words.specs.Jobs.{JobData, job_of, least_limit, most_limit, IsLimit, IsInBounds}
-use Rattle.sm_words.specs.Tables.{look_up, operands_of, sides, ValueData, OfSide, OfAfter, OfLimit, at_least, limit_named, value_named}
-use Rattle.sm_report.specs.Vectors.{vector_in}
-use Rattle.sm_words.specs.Operands.{GivenData, nothing, once, with_value, with_word, value_in, is_equals}
-use Rattle.sm_words.specs.Words.{read_operands, job_for, or_missing, asked, usual_limit}
+use Rattle.sm_words.specs.Jobs.{JobData, Make, job_of, least_limit, most_limit, IsLimit, least_size, greatest_size, most_seed, IsInBounds}
+use Rattle.sm_words.specs.Tables.{operands_of, sides, shapes, shows, ValueData, OfSide, OfAfter, OfLimit, OfShape, OfSize, OfSeed, OfShow, limit_named, size_named, seed_named, value_named}
+use Rattle.sm_words.specs.Operands.{GivenData, nothing, once, with_value, with_word, has_name, name_in, text_in, value_in}
+use Rattle.sm_words.specs.Words.{read_operands, job_for, or_missing, is_too_large, word_of_size, or_too_large, asked, usual_limit, usual_show}
 
--- a number that was read isn't above the greatest
-read_le : (test : Bool) (n m most : ℕ) → (test ≡ true → n ≤ most) → cond test (Some n) None ≡ Some m → m ≤ most
-read_le true n m most le e = let h : n ≤ most = le refl in let k : n ≡ m = same_Some _ _ e in omega arith
-read_le false n m most le e = absurd (none-some _ e)
+-- what holds of an option that was mapped, and of one that holds a known value
+mapped_to : {X Y : Type 0} (P : Y → Type 0) (f : X → Y) (o : Option X) (y : Y) → ((x : X) → o ≡ Some x → P (f x)) → option_map f o ≡ Some y → P y
+mapped_to P f o y h e = let m = mapped f o y e in subst P m.gives (h m.from m.is)
 
-both : (a b : Bool) → (a && b) ≡ true → b ≡ true
-both true b h = h
-both false b h = absurd cc
+held_by : {X : Type 0} (P : X → Type 0) (o : Option X) (x : X) → IfSome o P → o ≡ Some x → P x
+held_by P o x h e = subst (λ o. IfSome o P) e h
 
-number_le : (run : List ℕ) (most n : ℕ) → number_of run most ≡ Some n → n ≤ most
-number_le run most n e = read_le (is_number run && nat_le (value_of run) most) (value_of run) n most (λ h. leb-true (value_of run) most (both (is_number run) (nat_le (value_of run) most) h)) e
+-- The bounds of values, and of what words give. The size of a value isn't compared with its shape's yet.
+abbrev IsSomeSize : ℕ → Type 0
+IsSomeSize size = least_size ≤ size
 
--- a limit that was read lies in its bounds
-limit_in : (o : Option ℕ) (n : ℕ) → ((m : ℕ) → o ≡ Some m → m ≤ most_limit) → at_least least_limit o ≡ Some n → IsLimit n
-limit_in None n le e = absurd (none-some _ e)
-limit_in (Some m) n le e = by_test (nat_lt m least_limit) refl e where
-  by_test : (t : Bool) → nat_lt m least_limit ≡ t → cond t None (Some m) ≡ Some n → IsLimit n
-  by_test true is e = absurd (none-some _ e)
-  by_test false is e = let same : m ≡ n = same_Some _ _ e in let most : m ≤ most_limit = le m refl in let least : least_limit ≤ m = ltb-false m least_limit is in (omega arith, omega arith)
+abbrev IsSeed : ℕ → Type 0
+IsSeed seed = seed < 2 ^ 64
 
-limit_named_in : (text : List ℕ) (n : ℕ) → limit_named text ≡ Some n → IsLimit n
-limit_named_in text n e = limit_in (number_of text most_limit) n (λ m is. number_le text most_limit m is) e
-
--- The same is known of values, of what words give, and of jobs.
 abbrev IsValueInBounds : ValueData → Type 0
 IsValueInBounds (OfSide side) = Unit {0}
 IsValueInBounds (OfAfter after) = Unit {0}
 IsValueInBounds (OfLimit limit) = IsLimit limit
+IsValueInBounds (OfShape shape) = Unit {0}
+IsValueInBounds (OfSize size) = IsSomeSize size
+IsValueInBounds (OfSeed seed) = IsSeed seed
+IsValueInBounds (OfShow summary) = Unit {0}
 
 abbrev IsGivenInBounds : GivenData → Type 0
-IsGivenInBounds g = IfSome g.limit IsLimit
+IsGivenInBounds g = IfSome g.limit IsLimit × IfSome g.size IsSomeSize × IfSome g.seed IsSeed
+
+limit_named_in : (text : List ℕ) (n : ℕ) → limit_named text ≡ Some n → IsLimit n
+limit_named_in text n e = (within_inverts least_limit most_limit (omega arith)).sound text n e
+
+size_named_in : (text : List ℕ) (n : ℕ) → size_named text ≡ Some n → IsSomeSize n
+size_named_in text n e = ((within_inverts least_size greatest_size (omega arith)).sound text n e).0
+
+seed_named_in : (text : List ℕ) (n : ℕ) → seed_named text ≡ Some n → IsSeed n
+seed_named_in text n e = let h : n ≤ most_seed = (number_spelt text most_seed n (omega arith) e).within in omega arith
 
 value_in_bounds : (o : Operand) (text : List ℕ) (v : ValueData) → value_named o text ≡ Some v → IsValueInBounds v
-value_in_bounds operand.Side text v e = by_side (look_up sides text) e where
-  by_side : (o : Option Side) → option_map OfSide o ≡ Some v → IsValueInBounds v
-  by_side None e = absurd (none-some _ e)
-  by_side (Some s) e = subst IsValueInBounds (same_Some _ _ e) tt
-value_in_bounds operand.After text v e = by_after (vector_in text) e where
-  by_after : (o : Option (List ℕ)) → option_map OfAfter o ≡ Some v → IsValueInBounds v
-  by_after None e = absurd (none-some _ e)
-  by_after (Some s) e = subst IsValueInBounds (same_Some _ _ e) tt
-value_in_bounds operand.Limit text v e = by_limit (limit_named text) refl e where
-  by_limit : (o : Option ℕ) → limit_named text ≡ o → option_map OfLimit o ≡ Some v → IsValueInBounds v
-  by_limit None is e = absurd (none-some _ e)
-  by_limit (Some n) is e = subst IsValueInBounds (same_Some _ _ e) (limit_named_in text n is)
+value_in_bounds operand.Side text v e = mapped_to IsValueInBounds OfSide (look_up sides text) v (λ x is. tt) e
+value_in_bounds operand.After text v e = mapped_to IsValueInBounds OfAfter (vector_in text) v (λ x is. tt) e
+value_in_bounds operand.Limit text v e = mapped_to IsValueInBounds OfLimit (limit_named text) v (limit_named_in text) e
+value_in_bounds operand.Shape text v e = mapped_to IsValueInBounds OfShape (look_up shapes text) v (λ x is. tt) e
+value_in_bounds operand.Size text v e = mapped_to IsValueInBounds OfSize (size_named text) v (size_named_in text) e
+value_in_bounds operand.Seed text v e = mapped_to IsValueInBounds OfSeed (seed_named text) v (seed_named_in text) e
+value_in_bounds operand.Show text v e = mapped_to IsValueInBounds OfShow (look_up shows text) v (λ x is. tt) e
 
 -- one value more
+once_keeps : {X : Type 0} (P : X → Type 0) (old : Option X) (value : X) (slot : Option X) → P value → once old value ≡ Some slot → IfSome slot P
+once_keeps P None value slot h e = subst (λ o. IfSome o P) (same_Some _ _ e) h
+once_keeps P (Some x) value slot h e = absurd (none-some _ e)
+
 value_kept : (v : ValueData) (g h : GivenData) → IsValueInBounds v → IsGivenInBounds g → with_value v g ≡ Some h → IsGivenInBounds h
-value_kept (OfSide s) g h v b e = by_slot (once g.side s) e where
-  by_slot : (o : Option (Option Side)) → option_map (λ s. record g { side = s }) o ≡ Some h → IsGivenInBounds h
-  by_slot None e = absurd (none-some _ e)
-  by_slot (Some slot) e = subst IsGivenInBounds (same_Some _ _ e) b
-value_kept (OfAfter s) g h v b e = by_slot (once g.after s) e where
-  by_slot : (o : Option (Option (List ℕ))) → option_map (λ s. record g { after = s }) o ≡ Some h → IsGivenInBounds h
-  by_slot None e = absurd (none-some _ e)
-  by_slot (Some slot) e = subst IsGivenInBounds (same_Some _ _ e) b
-value_kept (OfLimit n) g h v b e = by_old g.limit e where
-  by_old : (o : Option ℕ) → option_map (λ s. record g { limit = s }) (once o n) ≡ Some h → IsGivenInBounds h
-  by_old None e = subst IsGivenInBounds (same_Some _ _ e) v
-  by_old (Some old) e = absurd (none-some _ e)
+value_kept (OfSide v) g h in_v in_g e = mapped_to IsGivenInBounds (λ s. record g { side = s }) (once g.side v) h (λ slot is. in_g) e
+value_kept (OfAfter v) g h in_v in_g e = mapped_to IsGivenInBounds (λ s. record g { after = s }) (once g.after v) h (λ slot is. in_g) e
+value_kept (OfLimit v) g h in_v in_g e =
+    mapped_to IsGivenInBounds (λ s. record g { limit = s }) (once g.limit v) h (λ slot is. (once_keeps IsLimit g.limit v slot in_v is, in_g.1, in_g.2)) e
+value_kept (OfShape v) g h in_v in_g e = mapped_to IsGivenInBounds (λ s. record g { shape = s }) (once g.shape v) h (λ slot is. in_g) e
+value_kept (OfSize v) g h in_v in_g e =
+    mapped_to IsGivenInBounds (λ s. record g { size = s }) (once g.size v) h (λ slot is. (in_g.0, once_keeps IsSomeSize g.size v slot in_v is, in_g.2)) e
+value_kept (OfSeed v) g h in_v in_g e =
+    mapped_to IsGivenInBounds (λ s. record g { seed = s }) (once g.seed v) h (λ slot is. (in_g.0, in_g.1, once_keeps IsSeed g.seed v slot in_v is)) e
+value_kept (OfShow v) g h in_v in_g e = mapped_to IsGivenInBounds (λ s. record g { show = s }) (once g.show v) h (λ slot is. in_g) e
 
 -- one word more
 word_kept : (c : Command) (word : List ℕ) (g h : GivenData) → IsGivenInBounds g → with_word c word g ≡ Some h → IsGivenInBounds h
-word_kept c word g h b e = by_value (value_in c word) refl e where
-  by_operand : (o : Option Operand) (v : ValueData) → option_and_then (λ operand. value_named operand (after_first is_equals word)) o ≡ Some v → IsValueInBounds v
-  by_operand None v e = absurd (none-some _ e)
-  by_operand (Some operand) v e = value_in_bounds operand (after_first is_equals word) v e
-
-  by_test : (t : Bool) (v : ValueData) → cond t (option_and_then (λ operand. value_named operand (after_first is_equals word)) (look_up (operands_of c) (before_first is_equals word))) None ≡ Some v → IsValueInBounds v
-  by_test true v e = by_operand (look_up (operands_of c) (before_first is_equals word)) v e
-  by_test false v e = absurd (none-some _ e)
-
-  by_value : (o : Option ValueData) → value_in c word ≡ o → option_and_then (λ value. with_value value g) o ≡ Some h → IsGivenInBounds h
-  by_value None is e = absurd (none-some _ e)
-  by_value (Some v) is e = value_kept v g h (by_test (nat_lt (position_or_len is_equals word) (length word)) v is) b e
+word_kept c word g h b e =
+    let given = chained (λ value. with_value value g) (value_in c word) h e in
+    value_kept given.from g h (by_test (has_name word) given.from given.is) b given.gives where
+      by_test : (t : Bool) (v : ValueData) → cond t (option_and_then (λ operand. value_named operand (text_in word)) (look_up (operands_of c) (name_in word))) None ≡ Some v → IsValueInBounds v
+      by_test true v e =
+          let named = chained (λ operand. value_named operand (text_in word)) (look_up (operands_of c) (name_in word)) v e in
+          value_in_bounds named.from (text_in word) v named.gives
+      by_test false v e = absurd (none-some _ e)
 
 -- all words
 words_kept : (c : Command) (n : ℕ) (words : List (List ℕ)) (g h : GivenData) → IsGivenInBounds g → read_operands c n g words ≡ Ok h → IsGivenInBounds h
@@ -103,29 +101,46 @@ words_kept c n (word ∷ more) g h b e = by_word (λ k. words_kept c (n + 1) mor
   by_word deep None is e = absurd cc
   by_word deep (Some k) is e = deep k (word_kept c word g k b is) e
 
--- what is asked for
-job_in_bounds : (c : Command) (g : GivenData) (job : JobData) → IsGivenInBounds g → job_for c g ≡ Some job → IsInBounds job
-job_in_bounds command.Solve g job b e = subst IsInBounds (same_Some _ _ e) tt
-job_in_bounds command.Reduced g job b e = subst IsInBounds (same_Some _ _ e) tt
-job_in_bounds command.Rotations g job b e = subst IsInBounds (same_Some _ _ e) tt
-job_in_bounds command.List g job b e = subst IsInBounds (same_Some _ _ e) (by_limit g.limit b) where
-  by_limit : (o : Option ℕ) → IfSome o IsLimit → IsLimit (unwrap_or o usual_limit)
-  by_limit None b = (omega arith, omega arith)
-  by_limit (Some n) b = b
-job_in_bounds command.Pairs g job b e = subst IsInBounds (same_Some _ _ e) tt
-job_in_bounds command.Regret g job b e = subst IsInBounds (same_Some _ _ e) tt
-job_in_bounds command.Meet g job b e = subst IsInBounds (same_Some _ _ e) tt
-job_in_bounds command.Join g job b e = subst IsInBounds (same_Some _ _ e) tt
+-- what is asked for, where its size isn't too large
+limit_or_usual : (o : Option ℕ) → IfSome o IsLimit → IsLimit (unwrap_or o usual_limit)
+limit_or_usual None b = (omega arith, omega arith)
+limit_or_usual (Some n) b = b
+
+making_in_bounds : (g : GivenData) (job : JobData) → IsGivenInBounds g → job_for command.Make g ≡ Some job → is_too_large job ≡ false → IsInBounds job
+making_in_bounds g job b e small =
+    let show = unwrap_or g.show usual_show in
+    let of_shape = chained (λ shape. option_and_then (λ size. option_map (λ seed. Make shape size seed show) g.seed) g.size) g.shape job e in
+    let of_size = chained (λ size. option_map (λ seed. Make of_shape.from size seed show) g.seed) g.size job of_shape.gives in
+    let of_seed = mapped (λ seed. Make of_shape.from of_size.from seed show) g.seed job of_size.gives in
+    subst (λ job. is_too_large job ≡ false → IsInBounds job) of_seed.gives
+    (λ small. (held_by IsSomeSize g.size of_size.from b.1 of_size.is, ltb-false (most_size of_shape.from) of_size.from small, held_by IsSeed g.seed of_seed.from b.2 of_seed.is))
+    small
+
+job_in_bounds : (c : Command) (g : GivenData) (job : JobData) → IsGivenInBounds g → job_for c g ≡ Some job → is_too_large job ≡ false → IsInBounds job
+job_in_bounds command.Solve g job b e small = subst IsInBounds (same_Some _ _ e) tt
+job_in_bounds command.Reduced g job b e small = subst IsInBounds (same_Some _ _ e) tt
+job_in_bounds command.Rotations g job b e small = subst IsInBounds (same_Some _ _ e) tt
+job_in_bounds command.List g job b e small = subst IsInBounds (same_Some _ _ e) (limit_or_usual g.limit b.0)
+job_in_bounds command.Pairs g job b e small = subst IsInBounds (same_Some _ _ e) tt
+job_in_bounds command.Regret g job b e small = subst IsInBounds (same_Some _ _ e) tt
+job_in_bounds command.Meet g job b e small = subst IsInBounds (same_Some _ _ e) tt
+job_in_bounds command.Join g job b e small = subst IsInBounds (same_Some _ _ e) tt
+job_in_bounds command.Survey g job b e small = subst IsInBounds (same_Some _ _ e) (limit_or_usual g.limit b.0)
+job_in_bounds command.Make g job b e small = making_in_bounds g job b e small
 
 asked_in_bounds : (c : Command) (operands : List (List ℕ)) (job : JobData) → asked c operands ≡ Ok job → IsInBounds job
 asked_in_bounds c operands job e = by_given (read_operands c 2 nothing operands) refl e where
-  by_job : (g : GivenData) (o : Option JobData) → IsGivenInBounds g → job_for c g ≡ o → option_map_or Ok o (Err (length operands + 2)) ≡ Ok job → IsInBounds job
-  by_job g None b is e = absurd cc
-  by_job g (Some j) b is e = let same : j ≡ job = cc in subst IsInBounds same (job_in_bounds c g j b is)
+  by_size : (j : JobData) (large : Bool) → is_too_large j ≡ large → (is_too_large j ≡ false → IsInBounds j) → cond large (Err (word_of_size operands)) (Ok j) ≡ Ok job → IsInBounds job
+  by_size j true is h e = absurd cc
+  by_size j false is h e = let same : j ≡ job = cc in subst IsInBounds same (h is)
 
-  by_given : (r : Result GivenData ℕ) → read_operands c 2 nothing operands ≡ r → or_missing c (length operands + 2) r ≡ Ok job → IsInBounds job
+  by_job : (g : GivenData) (o : Option JobData) → IsGivenInBounds g → job_for c g ≡ o → or_too_large operands (option_map_or Ok o (Err (length operands + 2))) ≡ Ok job → IsInBounds job
+  by_job g None b is e = absurd cc
+  by_job g (Some j) b is e = by_size j (is_too_large j) refl (job_in_bounds c g j b is) e
+
+  by_given : (r : Result GivenData ℕ) → read_operands c 2 nothing operands ≡ r → or_too_large operands (or_missing c (length operands + 2) r) ≡ Ok job → IsInBounds job
   by_given (Err word) is e = absurd cc
-  by_given (Ok g) is e = by_job g (job_for c g) (words_kept c 2 operands nothing g tt is) refl e
+  by_given (Ok g) is e = by_job g (job_for c g) (words_kept c 2 operands nothing g (tt, tt, tt) is) refl e
 
 -- and of a job that was read
 pub read_in_bounds : (c : Command) (operands : List (List ℕ)) (r : Result Job WordsFault) → IfOk r (λ job. asked c operands ≡ Ok (job_of job)) → IfOk r (λ job. IsInBounds (job_of job))

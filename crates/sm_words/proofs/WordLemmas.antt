@@ -3,8 +3,9 @@ use Rattle.std.proofs.Common.{◌≡◌, ℕ, suc, ◌+◌, ◌<◌, Bool, true,
 use Rattle.std.proofs.lemmas.List.{take_all}
 use Rattle.std.specs.Option.{option_map_or}
 use Rattle.std.specs.declared.alloc.Global.{Global}
+use Rattle.sm_report.specs.Meanings.{look_up}
 use Rattle.sm_words.specs.declared.operands.Command.{Command}
-use Rattle.sm_words.specs.Tables.{look_up, commands}
+use Rattle.sm_words.specs.Tables.{commands}
 use Rattle.sm_words.specs.Operands.{GivenData, with_word}
 use Rattle.sm_words.specs.Words.{read_operands, asked, words_meaning, texts}
 

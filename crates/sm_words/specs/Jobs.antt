@@ -1,7 +1,9 @@
 -- What words may ask for, as plain data.
-use Rattle.std.specs.Prelude.{◌≤◌, ℕ, List as Vector, Option}
+use Rattle.std.specs.Prelude.{◌≤◌, ◌<◌, ◌^◌, ℕ, Bool, List as Vector, Option}
 use Rattle.std.specs.Option.{option_map}
 use Rattle.sm_instance.specs.declared.kinds.Side.{Side}
+use Rattle.sm_make.specs.declared.shape.Shape.{Shape}
+use Rattle.sm_make.specs.Made.{most_size}
 use Rattle.sm_words.specs.declared.jobs.Job.{Job}
 use Rattle.sm_words.specs.declared.jobs.Job.TheVariants as job
 
@@ -14,6 +16,8 @@ pub data JobData : Type 0 where
   Regret : JobData
   Meet : JobData
   Join : JobData
+  Survey : ℕ → JobData
+  Make : Shape → ℕ → ℕ → Bool → JobData
 
 abbrev pub job_of : Job → JobData
 job_of (job.Solve side) = Solve side
@@ -24,6 +28,8 @@ job_of job.Pairs = Pairs
 job_of job.Regret = Regret
 job_of job.Meet = Meet
 job_of job.Join = Join
+job_of (job.Survey limit) = Survey limit
+job_of (job.Make shape size seed summary) = Make shape size seed summary
 
 -- a limit lies in its bounds
 abbrev pub least_limit : ℕ
@@ -35,6 +41,17 @@ most_limit = 1000000
 abbrev pub IsLimit : ℕ → Type 0
 IsLimit limit = (least_limit ≤ limit) × (limit ≤ most_limit)
 
+-- the least size, and the greatest of any shape; each shape has a greatest one of its own
+abbrev pub least_size : ℕ
+least_size = 1
+
+abbrev pub greatest_size : ℕ
+greatest_size = 2048
+
+-- the greatest seed
+abbrev pub most_seed : ℕ
+most_seed = 18446744073709551615
+
 -- the numbers of a job lie in their bounds
 abbrev pub IsInBounds : JobData → Type 0
 IsInBounds (Solve side) = Unit {0}
@@ -45,3 +62,5 @@ IsInBounds Pairs = Unit {0}
 IsInBounds Regret = Unit {0}
 IsInBounds Meet = Unit {0}
 IsInBounds Join = Unit {0}
+IsInBounds (Survey limit) = IsLimit limit
+IsInBounds (Make shape size seed summary) = (least_size ≤ size) × (size ≤ most_size shape) × (seed < 2 ^ 64)

@@ -3,21 +3,43 @@ use Rattle.std.specs.Prelude.{ℕ, ◌==◌, nat_lt, Bool, List, length, Option,
 use Rattle.std.specs.List.{before_first, after_first, position_or_len}
 use Rattle.std.specs.Option.{option_and_then}
 use Rattle.sm_instance.specs.declared.kinds.Side.{Side}
+use Rattle.sm_make.specs.declared.shape.Shape.{Shape}
+use Rattle.sm_report.specs.Meanings.{look_up}
 use Rattle.sm_words.specs.declared.operands.Command.{Command}
 use Rattle.sm_words.specs.declared.operands.Given.{Given}
-use Rattle.sm_words.specs.Tables.{look_up, operands_of, ValueData, OfSide, OfAfter, OfLimit, value_named}
+use Rattle.sm_words.specs.Tables.{operands_of, ValueData, OfSide, OfAfter, OfLimit, OfShape, OfSize, OfSeed, OfShow, value_named}
 
 -- the operands that were given: for each its value, if it stands
 pub record GivenData : Type 0 where
   pub side : Option Side
   pub after : Option (List ℕ)
   pub limit : Option ℕ
+  pub shape : Option Shape
+  pub size : Option ℕ
+  pub seed : Option ℕ
+  pub show : Option Bool
 
 abbrev pub given_of : Given → GivenData
-given_of g = record { side = g.side; after = option_map (λ v. v.items) g.after; limit = g.limit }
+given_of g = record {
+  side = g.side;
+  after = option_map (λ v. v.items) g.after;
+  limit = g.limit;
+  shape = g.shape;
+  size = g.size;
+  seed = g.seed;
+  show = g.show;
+}
 
 abbrev pub nothing : GivenData
-nothing = record { side = None; after = None; limit = None }
+nothing = record {
+  side = None;
+  after = None;
+  limit = None;
+  shape = None;
+  size = None;
+  seed = None;
+  show = None;
+}
 
 -- each operand stands at most once
 abbrev pub once : {T : Type 0} → Option T → T → Option (Option T)
@@ -28,17 +50,28 @@ abbrev pub with_value : ValueData → GivenData → Option GivenData
 with_value (OfSide v) g = option_map (λ s. record g { side = s }) (once g.side v)
 with_value (OfAfter v) g = option_map (λ s. record g { after = s }) (once g.after v)
 with_value (OfLimit v) g = option_map (λ s. record g { limit = s }) (once g.limit v)
+with_value (OfShape v) g = option_map (λ s. record g { shape = s }) (once g.shape v)
+with_value (OfSize v) g = option_map (λ s. record g { size = s }) (once g.size v)
+with_value (OfSeed v) g = option_map (λ s. record g { seed = s }) (once g.seed v)
+with_value (OfShow v) g = option_map (λ s. record g { show = s }) (once g.show v)
 
 -- a word is a name, `=` and a value, which is all behind the first `=`
 abbrev pub is_equals : ℕ → Bool
 is_equals b = b == 61
 
+abbrev pub has_name : List ℕ → Bool
+has_name word = nat_lt (position_or_len is_equals word) (length word)
+
+abbrev pub name_in : List ℕ → List ℕ
+name_in word = before_first is_equals word
+
+abbrev pub text_in : List ℕ → List ℕ
+text_in word = after_first is_equals word
+
 -- what a word gives to a command's operands
 abbrev pub value_in : Command → List ℕ → Option ValueData
 value_in command word =
-    if nat_lt (position_or_len is_equals word) (length word)
-    then option_and_then (λ operand. value_named operand (after_first is_equals word)) (look_up (operands_of command) (before_first is_equals word))
-    else None
+    if has_name word then option_and_then (λ operand. value_named operand (text_in word)) (look_up (operands_of command) (name_in word)) else None
 
 abbrev pub with_word : Command → List ℕ → GivenData → Option GivenData
 with_word command word given = option_and_then (λ value. with_value value given) (value_in command word)

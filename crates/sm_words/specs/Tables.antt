@@ -1,22 +1,19 @@
 -- The tables of the command line: its commands, the operands of each, and the values of each operand.
-use Rattle.std.specs.Prelude.{List, [], ◌∷◌, ℕ, nat_lt, codes, Option, Some, None, option_map, if◌then◌else◌}
-use Rattle.std.specs.Str.{bytes_eq}
+use Rattle.std.specs.Prelude.{List, [], ◌∷◌, ℕ, Bool, true, false, codes, Option, option_map}
 use Rattle.sm_instance.specs.declared.kinds.Side.{Side}
 use Rattle.sm_instance.specs.declared.kinds.Side.TheVariants.{Proposers, Reviewers}
 use Rattle.sm_text.specs.Numbers.{number_of}
+use Rattle.sm_make.specs.declared.shape.Shape.{Shape}
+use Rattle.sm_make.specs.declared.shape.Shape.TheVariants.{Copies, Cycle, Random, Hospitals, Rooms}
+use Rattle.sm_report.specs.Meanings.{look_up, number_within}
 use Rattle.sm_report.specs.Vectors.{vector_in}
-use Rattle.sm_words.specs.Jobs.{least_limit, most_limit}
+use Rattle.sm_words.specs.Jobs.{least_limit, most_limit, least_size, greatest_size, most_seed}
 use Rattle.sm_words.specs.declared.operands.Command.{Command}
 use Rattle.sm_words.specs.declared.operands.Command.TheVariants as command
 use Rattle.sm_words.specs.declared.operands.Operand.{Operand}
 use Rattle.sm_words.specs.declared.operands.Operand.TheVariants as operand
 use Rattle.sm_words.specs.declared.operands.Value.{Value}
 use Rattle.sm_words.specs.declared.operands.Value.TheVariants as value
-
--- what stands beside a name
-abbrev pub look_up : {X : Type 0} → List (List ℕ × X) → List ℕ → Option X
-look_up [] name = None
-look_up (row ∷ rows) name = if bytes_eq name row.0 then Some row.1 else look_up rows name
 
 abbrev pub commands : List (List ℕ × Command)
 commands =
@@ -28,6 +25,8 @@ commands =
     ∷ (codes "regret", command.Regret)
     ∷ (codes "meet", command.Meet)
     ∷ (codes "join", command.Join)
+    ∷ (codes "survey", command.Survey)
+    ∷ (codes "make", command.Make)
     ∷ []
 
 abbrev pub operands_of : Command → List (List ℕ × Operand)
@@ -39,31 +38,65 @@ operands_of command.Pairs = []
 operands_of command.Regret = []
 operands_of command.Meet = []
 operands_of command.Join = []
+operands_of command.Survey = (codes "limit", operand.Limit) ∷ []
+operands_of command.Make =
+    (codes "shape", operand.Shape)
+    ∷ (codes "size", operand.Size)
+    ∷ (codes "seed", operand.Seed)
+    ∷ (codes "show", operand.Show)
+    ∷ []
 
 abbrev pub sides : List (List ℕ × Side)
 sides = (codes "proposers", Proposers) ∷ (codes "reviewers", Reviewers) ∷ []
+
+abbrev pub shapes : List (List ℕ × Shape)
+shapes =
+    (codes "copies", Copies)
+    ∷ (codes "cycle", Cycle)
+    ∷ (codes "random", Random)
+    ∷ (codes "hospitals", Hospitals)
+    ∷ (codes "rooms", Rooms)
+    ∷ []
+
+-- whether the summary of an instance is shown in place of its text
+abbrev pub shows : List (List ℕ × Bool)
+shows = (codes "text", false) ∷ (codes "summary", true) ∷ []
 
 -- the value of an operand, as plain data
 pub data ValueData : Type 0 where
   OfSide : Side → ValueData
   OfAfter : List ℕ → ValueData
   OfLimit : ℕ → ValueData
+  OfShape : Shape → ValueData
+  OfSize : ℕ → ValueData
+  OfSeed : ℕ → ValueData
+  OfShow : Bool → ValueData
 
 abbrev pub value_of : Value → ValueData
 value_of (value.OfSide side) = OfSide side
 value_of (value.OfAfter after) = OfAfter after.items
 value_of (value.OfLimit limit) = OfLimit limit
+value_of (value.OfShape shape) = OfShape shape
+value_of (value.OfSize size) = OfSize size
+value_of (value.OfSeed seed) = OfSeed seed
+value_of (value.OfShow summary) = OfShow summary
 
--- the limit that a text spells
-abbrev pub at_least : ℕ → Option ℕ → Option ℕ
-at_least least None = None
-at_least least (Some n) = if nat_lt n least then None else Some n
-
+-- the numbers that a text may spell
 abbrev pub limit_named : List ℕ → Option ℕ
-limit_named text = at_least least_limit (number_of text most_limit)
+limit_named text = number_within least_limit most_limit text
+
+abbrev pub size_named : List ℕ → Option ℕ
+size_named text = number_within least_size greatest_size text
+
+abbrev pub seed_named : List ℕ → Option ℕ
+seed_named text = number_of text most_seed
 
 -- the value that a text gives to an operand
 abbrev pub value_named : Operand → List ℕ → Option ValueData
 value_named operand.Side text = option_map OfSide (look_up sides text)
 value_named operand.After text = option_map OfAfter (vector_in text)
 value_named operand.Limit text = option_map OfLimit (limit_named text)
+value_named operand.Shape text = option_map OfShape (look_up shapes text)
+value_named operand.Size text = option_map OfSize (size_named text)
+value_named operand.Seed text = option_map OfSeed (seed_named text)
+value_named operand.Show text = option_map OfShow (look_up shows text)

@@ -1,14 +1,18 @@
 -- What words mean.
-use Rattle.std.specs.Prelude.{◌≡◌, ℕ, ◌+◌, List, [], ◌∷◌, length, map, Option, Some, unwrap_or, Result, Ok, Err, string_bytes, String}
-use Rattle.std.specs.Option.{option_map_or}
+use Rattle.std.specs.Prelude.{◌≡◌, ℕ, ◌+◌, nat_lt, Bool, false, ◌&&◌, if◌then◌else◌, codes, List, [], ◌∷◌, length, map, Option, Some, option_map, unwrap_or, Result, Ok, Err, string_bytes, String}
+use Rattle.std.specs.List.{position_or_len}
+use Rattle.std.specs.Option.{option_map_or, option_and_then}
+use Rattle.std.specs.Str.{bytes_eq}
 use Rattle.std.specs.declared.alloc.Global.{Global}
+use Rattle.sm_make.specs.Made.{most_size}
+use Rattle.sm_report.specs.Meanings.{look_up}
 use Rattle.sm_words.specs.declared.operands.Command.{Command}
 use Rattle.sm_words.specs.declared.operands.Command.TheVariants as command
 use Rattle.sm_words.specs.declared.jobs.WordsFault.{WordsFault}
 use Rattle.sm_words.specs.declared.jobs.WordsFault.TheVariants.{Usage, OutOfMemory}
-use Rattle.sm_words.specs.Jobs.{JobData, Solve, Reduced, Rotations, Pairs, Regret, Meet, Join}
-use Rattle.sm_words.specs.Tables.{look_up, commands}
-use Rattle.sm_words.specs.Operands.{GivenData, nothing, with_word}
+use Rattle.sm_words.specs.Jobs.{JobData, Solve, Reduced, Rotations, Pairs, Regret, Meet, Join, Survey, Make}
+use Rattle.sm_words.specs.Tables.{commands}
+use Rattle.sm_words.specs.Operands.{GivenData, nothing, has_name, name_in, with_word}
 
 -- the bytes of each word
 abbrev pub texts : List (String Global) → List (List ℕ)
@@ -25,6 +29,10 @@ read_operands command number given (word ∷ more) =
 abbrev pub usual_limit : ℕ
 usual_limit = 100
 
+-- the text of an instance is shown where nothing is said
+abbrev pub usual_show : Bool
+usual_show = false
+
 -- Then, where there is no command or a required operand is missing, the word behind the last is faulty.
 abbrev pub job_for : Command → GivenData → Option JobData
 job_for command.Solve g = Some (Solve g.side)
@@ -35,14 +43,32 @@ job_for command.Pairs g = Some Pairs
 job_for command.Regret g = Some Regret
 job_for command.Meet g = Some Meet
 job_for command.Join g = Some Join
+job_for command.Survey g = Some (Survey (unwrap_or g.limit usual_limit))
+job_for command.Make g =
+    option_and_then (λ shape. option_and_then (λ size. option_map (λ seed. Make shape size seed (unwrap_or g.show usual_show)) g.seed) g.size) g.shape
 
 abbrev pub or_missing : Command → ℕ → Result GivenData ℕ → Result JobData ℕ
 or_missing command behind (Err word) = Err word
 or_missing command behind (Ok g) = option_map_or Ok (job_for command g) (Err behind)
 
+-- Last, where the size is too large for the shape, the word that gives the size is faulty.
+abbrev pub is_too_large : JobData → Bool
+is_too_large (Make shape size seed summary) = nat_lt (most_size shape) size
+is_too_large _ = false
+
+abbrev pub gives_size : List ℕ → Bool
+gives_size word = has_name word && bytes_eq (name_in word) (codes "size")
+
+abbrev pub word_of_size : List (List ℕ) → ℕ
+word_of_size operands = position_or_len gives_size operands + 2
+
+abbrev pub or_too_large : List (List ℕ) → Result JobData ℕ → Result JobData ℕ
+or_too_large operands (Err word) = Err word
+or_too_large operands (Ok job) = if is_too_large job then Err (word_of_size operands) else Ok job
+
 -- what a command asks for with the words behind it
 abbrev pub asked : Command → List (List ℕ) → Result JobData ℕ
-asked command operands = or_missing command (length operands + 2) (read_operands command 2 nothing operands)
+asked command operands = or_too_large operands (or_missing command (length operands + 2) (read_operands command 2 nothing operands))
 
 -- what words ask for, or the number of the faulty word, counted from 1
 abbrev pub words_meaning : List (List ℕ) → Result JobData ℕ

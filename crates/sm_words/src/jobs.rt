@@ -1,6 +1,7 @@
 //! What words may ask for, and why they ask for nothing.
 
 use sm_instance::Side;
+use sm_make::Shape;
 use std::alloc::AllocError;
 use thiserror::Error;
 
@@ -23,6 +24,11 @@ pub enum Job {
     Meet,
     /// The matching in which each proposer has the worse of them.
     Join,
+    /// What tallies say of the allowed stable matchings, of so many at most.
+    Survey(u32),
+    /// The instance that is made from a shape, a size and a seed: its text, or where the last is `true`, its summary, which
+    /// is what `survey` says of it with the usual limit, and `solve` of roommates.
+    Make(Shape, u32, u64, bool),
 }
 
 /// Why words ask for nothing.

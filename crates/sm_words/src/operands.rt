@@ -1,18 +1,25 @@
 //! The commands and their operands: a row for each name, and a reader for each value.
 
 ghost use Rattle.std.specs.Prelude.{◌≡◌, Some, None, IfOk, option_map, if◌then◌else◌};
-ghost use Rattle.sm_words.specs.Tables.{look_up, commands, operands_of, sides, ValueData, value_of, value_named, limit_named};
+ghost use Rattle.sm_report.specs.Meanings.{look_up, number_within};
+ghost use Rattle.sm_words.specs.Tables.{commands, operands_of, sides, shapes, shows, ValueData, value_of, value_named, limit_named, size_named, seed_named};
 ghost use Rattle.sm_words.specs.Operands.{given_of, once, with_value, with_word, nothing};
 
 use sm_instance::Side;
+use sm_make::Shape;
 use sm_report::vector;
 use sm_text::number;
 use std::alloc::{AllocError, Global};
 
 /// The bounds of a limit.
-const LEAST_LIMIT: u64 = 1;
+const LEAST_LIMIT: u32 = 1;
 
-const MOST_LIMIT: u64 = 1_000_000;
+const MOST_LIMIT: u32 = 1_000_000;
+
+/// The least size, and the greatest of any shape.
+const LEAST_SIZE: u32 = 1;
+
+pub(crate) const GREATEST_SIZE: u32 = 2_048;
 
 /// A command.
 #[derive(Clone, Copy, Debug, PartialEq, Eq)]
@@ -25,6 +32,8 @@ pub(crate) enum Command {
     Regret,
     Meet,
     Join,
+    Survey,
+    Make,
 }
 
 /// An operand.
@@ -33,6 +42,10 @@ pub(crate) enum Operand {
     Side,
     After,
     Limit,
+    Shape,
+    Size,
+    Seed,
+    Show,
 }
 
 /// The value of an operand.
@@ -41,6 +54,11 @@ pub(crate) enum Value {
     OfSide(Side),
     OfAfter(Vec<u32>),
     OfLimit(u32),
+    OfShape(Shape),
+    OfSize(u32),
+    OfSeed(u64),
+    /// Whether the summary is shown.
+    OfShow(bool),
 }
 
 /// The operands that were given: for each its value, if it stands.
@@ -49,6 +67,11 @@ pub(crate) struct Given {
     pub(crate) side: Option<Side>,
     pub(crate) after: Option<Vec<u32>>,
     pub(crate) limit: Option<u32>,
+    pub(crate) shape: Option<Shape>,
+    pub(crate) size: Option<u32>,
+    pub(crate) seed: Option<u64>,
+    /// Whether the summary is shown.
+    pub(crate) show: Option<bool>,
 }
 
 /// The command of this name.
@@ -64,6 +87,8 @@ pub(crate) fn command_named(name: &str) -> Option<Command>
         "regret" => Some(Command::Regret),
         "meet" => Some(Command::Meet),
         "join" => Some(Command::Join),
+        "survey" => Some(Command::Survey),
+        "make" => Some(Command::Make),
         _ => None,
     }
 }
@@ -76,6 +101,10 @@ pub(crate) fn nothing() -> Given
         side: None,
         after: None,
         limit: None,
+        shape: None,
+        size: None,
+        seed: None,
+        show: None,
     }
 }
 
@@ -121,6 +150,17 @@ fn operand_named(command: Command, name: &str) -> Option<Operand>
         Command::Regret => None,
         Command::Meet => None,
         Command::Join => None,
+        Command::Survey => match name {
+            "limit" => Some(Operand::Limit),
+            _ => None,
+        },
+        Command::Make => match name {
+            "shape" => Some(Operand::Shape),
+            "size" => Some(Operand::Size),
+            "seed" => Some(Operand::Seed),
+            "show" => Some(Operand::Show),
+            _ => None,
+        },
     }
 }
 
@@ -132,6 +172,10 @@ fn value_named(alloc: Global, operand: Operand, text: &str) -> Result<Option<Val
         Operand::Side => Ok(side_named(text).map(Value::OfSide)),
         Operand::After => Ok(vector(alloc, text)?.map(Value::OfAfter)),
         Operand::Limit => Ok(limit_named(text).map(Value::OfLimit)),
+        Operand::Shape => Ok(shape_named(text).map(Value::OfShape)),
+        Operand::Size => Ok(size_named(text).map(Value::OfSize)),
+        Operand::Seed => Ok(seed_named(text).map(Value::OfSeed)),
+        Operand::Show => Ok(show_named(text).map(Value::OfShow)),
     }
 }
 
@@ -150,11 +194,57 @@ fn side_named(name: &str) -> Option<Side>
 fn limit_named(text: &str) -> Option<u32>
     ensures { result ≡ limit_named text.now }
 {
-    let limit = number(text.as_bytes(), MOST_LIMIT)?;
-    if limit < LEAST_LIMIT {
+    number_within(text, LEAST_LIMIT, MOST_LIMIT)
+}
+
+// The shape of this name.
+fn shape_named(name: &str) -> Option<Shape>
+    ensures { result ≡ look_up shapes name.now }
+{
+    match name {
+        "copies" => Some(Shape::Copies),
+        "cycle" => Some(Shape::Cycle),
+        "random" => Some(Shape::Random),
+        "hospitals" => Some(Shape::Hospitals),
+        "rooms" => Some(Shape::Rooms),
+        _ => None,
+    }
+}
+
+// The size that a text spells.
+fn size_named(text: &str) -> Option<u32>
+    ensures { result ≡ size_named text.now }
+{
+    number_within(text, LEAST_SIZE, GREATEST_SIZE)
+}
+
+// The seed that a text spells.
+fn seed_named(text: &str) -> Option<u64>
+    ensures { result ≡ seed_named text.now }
+{
+    number(text.as_bytes(), u64::MAX)
+}
+
+// Whether the summary is shown, by the name of what is.
+fn show_named(name: &str) -> Option<bool>
+    ensures { result ≡ look_up shows name.now }
+{
+    match name {
+        "text" => Some(false),
+        "summary" => Some(true),
+        _ => None,
+    }
+}
+
+// The number that a text spells, from a least to a greatest one.
+fn number_within(text: &str, least: u32, most: u32) -> Option<u32>
+    ensures { result ≡ number_within least most text.now }
+{
+    let n = number(text.as_bytes(), u64::from(most))?;
+    if n < u64::from(least) {
         return None;
     }
-    Some(limit as u32)
+    Some(n as u32)
 }
 
 // Keeps a value, unless its operand stands already.
@@ -166,6 +256,10 @@ fn put(given: &mut Given, value: Value) -> bool
         Value::OfSide(side) => put_once(&mut given.side, side),
         Value::OfAfter(after) => put_once(&mut given.after, after),
         Value::OfLimit(limit) => put_once(&mut given.limit, limit),
+        Value::OfShape(shape) => put_once(&mut given.shape, shape),
+        Value::OfSize(size) => put_once(&mut given.size, size),
+        Value::OfSeed(seed) => put_once(&mut given.seed, seed),
+        Value::OfShow(summary) => put_once(&mut given.show, summary),
     }
 }
 

@@ -1,30 +1,45 @@
 //! Reading the words.
 
 ghost use Rattle.std.specs.Prelude.{◌≡◌, ◌+◌, length, IfOk, IfErr, Ok, option_map};
+ghost use Rattle.sm_make.specs.Made.{most_size};
 ghost use Rattle.sm_words.specs.Jobs.{job_of, IsInBounds};
 ghost use Rattle.sm_words.specs.Operands.{given_of, nothing};
-ghost use Rattle.sm_words.specs.Words.{texts, read_operands, job_for, asked, words_meaning, IsFaultBy, IsWordsFault, IsNoMemory};
+ghost use Rattle.sm_words.specs.Words.{texts, read_operands, job_for, is_too_large, gives_size, word_of_size, asked, words_meaning, IsFaultBy, IsWordsFault, IsNoMemory};
 
 use crate::jobs::{Job, WordsFault};
-use crate::operands::{Command, Given, command_named, nothing, take_word};
+use crate::operands::{Command, GREATEST_SIZE, Given, command_named, nothing, take_word};
+use sm_make::Shape;
 use std::alloc::Global;
+
+/// The number of the first operand's word.
+const FIRST_OPERAND: u32 = 2;
 
 /// The limit where none is given.
 const USUAL_LIMIT: u32 = 100;
+
+/// The text of a made instance is shown where nothing is said.
+const USUAL_SHOW: bool = false;
+
+/// The greatest size of a shape that isn't copies.
+const MOST_SIZE: u32 = 512;
 
 /// What the words ask for, which are those of the command line behind the program's name.
 ///
 /// The first word is a command. Each later word is `name=value`: an operand of the command and its value, which is all
 /// behind the first `=`. Each operand stands at most once, and they stand in any order. `solve` may have
 /// `side=proposers` or `side=reviewers`; `list` may have `after=` with the numbers of a vector, one comma between each two
-/// or `-` for none, and `limit=` with a number from 1 to 1,000,000, which is 100 where none is given; `reduced`,
-/// `rotations`, `pairs`, `regret`, `meet` and `join` have no operands. Takes time linear in the words, and memory for the vector alone.
+/// or `-` for none, and `limit=` with a number from 1 to 1,000,000, which is 100 where none is given; `survey` may have
+/// `limit=` alike; `reduced`, `rotations`, `pairs`, `regret`, `meet` and `join` have no operands. `make` has `shape=copies`,
+/// `cycle`, `random`, `hospitals` or `rooms`, `size=` with a number from 1 to 2,048, which has to be at most 512 where the
+/// shape isn't `copies`, and `seed=` with a number below 2^64, and may have `show=text` or `show=summary`, which is `text`
+/// where none is given. Takes time linear in the words, and memory for the vector alone.
 ///
 /// # Errors
 ///
 /// `Usage` with the number of the faulty word, counted from 1. The words are tried from the left, and the first that isn't
-/// what may stand there is faulty; where none is and a word is missing, it is the one behind the last. `OutOfMemory`
-/// where there was no memory for a vector, or where there are as many words as have no number.
+/// what may stand there is faulty; where none is and a word is missing, it is the one behind the last; and where none is
+/// missing and the size is too large for the shape, it is the word of the size. `OutOfMemory` where there was no memory for
+/// a vector, or where there are as many words as have no number.
 pub fn read_words(alloc: Global, words: &[String]) -> Result<Job, WordsFault>
     ensures job { IfOk result (λ job. words_meaning (texts words.now) ≡ Ok (job_of job)) }
     ensures bounds { IfOk result (λ job. IsInBounds (job_of job)) }
@@ -45,10 +60,13 @@ fn command_job(alloc: Global, command: Command, operands: &[String]) -> Result<J
     ensures fault { IfErr result (λ fault. IsFaultBy (asked command (texts operands.now)) fault) }
 {
     let given = operands_in(alloc, command, operands)?;
-    match job_for(command, given) {
-        Some(job) => Ok(job),
-        None => Err(WordsFault::Usage(number_behind(operands)?)),
+    let Some(job) = job_for(command, given) else {
+        return Err(WordsFault::Usage(number_behind(operands)?));
+    };
+    if is_too_large(&job) {
+        return Err(WordsFault::Usage(word_of_size(operands)?));
     }
+    Ok(job)
 }
 
 // The operands that words give, the first of which has the number 2.
@@ -57,7 +75,7 @@ fn operands_in(alloc: Global, command: Command, words: &[String]) -> Result<Give
     ensures fault { IfErr result (λ fault. IsFaultBy (read_operands command 2 nothing (texts words.now)) fault) }
 {
     let mut given = nothing();
-    let mut number: u32 = 2;
+    let mut number = FIRST_OPERAND;
     for word in words {
         if !take_word(alloc, command, word.as_str(), &mut given)? {
             return Err(WordsFault::Usage(number));
@@ -80,7 +98,63 @@ fn job_for(command: Command, given: Given) -> Option<Job>
         Command::Regret => Some(Job::Regret),
         Command::Meet => Some(Job::Meet),
         Command::Join => Some(Job::Join),
+        Command::Survey => Some(Job::Survey(given.limit.unwrap_or(USUAL_LIMIT))),
+        Command::Make => making(&given),
     }
+}
+
+// What `make` asks for with its operands; `None` where a required one is missing.
+fn making(given: &Given) -> Option<Job>
+    ensures { option_map job_of result ≡ job_for Command.Make (given_of given.now) }
+{
+    Some(Job::Make(
+        given.shape?,
+        given.size?,
+        given.seed?,
+        given.show.unwrap_or(USUAL_SHOW),
+    ))
+}
+
+// Whether a job asks for a size that is too large for its shape.
+fn is_too_large(job: &Job) -> bool
+    ensures { result ≡ is_too_large (job_of job.now) }
+{
+    match job {
+        Job::Make(shape, size, ..) => *size > most_size(*shape),
+        _ => false,
+    }
+}
+
+// The greatest size of a shape.
+fn most_size(shape: Shape) -> u32
+    ensures { result ≡ most_size shape }
+{
+    match shape {
+        Shape::Copies => GREATEST_SIZE,
+        Shape::Cycle | Shape::Random | Shape::Hospitals | Shape::Rooms => MOST_SIZE,
+    }
+}
+
+// The number of the word that gives the size, where the first of these has the number 2.
+fn word_of_size(operands: &[String]) -> Result<u32, WordsFault>
+    ensures number { IfOk result (λ number. number ≡ word_of_size (texts operands.now)) }
+    ensures fault { IfErr result IsNoMemory }
+{
+    let mut number = FIRST_OPERAND;
+    for word in operands {
+        if gives_size(word.as_str()) {
+            return Ok(number);
+        }
+        number = next_number(number)?;
+    }
+    Ok(number)
+}
+
+// Whether a word gives a size.
+fn gives_size(word: &str) -> bool
+    ensures { result ≡ gives_size word.now }
+{
+    matches!(word.split_once('='), Some(("size", _)))
 }
 
 // The number behind that of the last word, where the first of these has the number 2.

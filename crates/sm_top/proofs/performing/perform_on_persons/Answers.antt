@@ -6,7 +6,7 @@ use Rattle.sm_top.proofs.KindLemmas.{room_accepted, answer_over}
 use Rattle.sm_top.proofs.performing.perform_on_persons.Goals as goal
 
 pub returns-in_ok-solve_roommates-in-Solve-None-clause-wrote : goal.returns-in_ok-solve_roommates-in-Solve-None-clause-wrote
-returns-in_ok-solve_roommates-in-Solve-None-clause-wrote g c =
+returns-in_ok-solve_roommates-in-Solve-None-clause-wrote g c tallies =
     let none = rw c.in-Solve-None.is at c.in-Solve-None.field-0-is in
     let job : job_of c.args.job.now ≡ Solve None = ap job_of c.in-Solve-None.is ∙ ap Solve none in
     let read = read_of c.args.read.now in

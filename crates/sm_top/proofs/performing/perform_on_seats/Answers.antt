@@ -1,6 +1,6 @@
 use Rattle.sm_reader.specs.InstanceText.{read_of}
 use Rattle.std.proofs.lemmas.Result.{IfOk-weaker}
-use Rattle.sm_words.specs.Jobs.{JobData, Solve, Reduced, Rotations, Pairs, Regret, Meet, Join}
+use Rattle.sm_words.specs.Jobs.{JobData, Solve, Reduced, Rotations, Pairs, Regret, Meet, Join, Survey}
 use Rattle.sm_shown.specs.Reduction.{IsReduction}
 use Rattle.sm_shown.specs.RotationAnswer.{IsRotationAnswer}
 use Rattle.sm_listing.specs.ListAnswer.{IsListAnswer}
@@ -70,3 +70,9 @@ returns-in-Join-clause-wrote g c =
     let ok = rw c.in-Join.is at c.requires.accepted in
     let given = c.args.given.now in
     rw c.in-Join.is (IfOk-weaker c.choose-in-Join.result _ _ (λ status w. wrote_answer_by Join c.args.bytes.now (read_of given.read.now) given.instance.now (λ read. IsChosenAnswer Worse (texts_from c.args.bytes.now read.rest)) Done _ _ _ _ status ok c.requires.seated.two w) c.choose-in-Join.ensures.wrote)
+
+pub returns-in_ok-survey-in-Survey-clause-wrote : goal.returns-in_ok-survey-in-Survey-clause-wrote
+returns-in_ok-survey-in-Survey-clause-wrote g c =
+    let ok = rw c.in-Survey.is at c.requires.accepted in
+    let given = c.args.given.now in
+    rw c.in-Survey.is (wrote_answer (Survey c.in-Survey.limit) c.args.bytes.now (read_of given.read.now) given.instance.now _ Done _ _ _ _ _ ok c.requires.seated.two c.in_ok-survey-in-Survey.ensures.wrote)

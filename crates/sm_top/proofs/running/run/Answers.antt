@@ -1,4 +1,4 @@
-use Rattle.std.proofs.Common.{ap}
+use Rattle.std.proofs.Common.{[], ap}
 use Rattle.sm_words.specs.Words.{texts}
 use Rattle.sm_top.proofs.RunLemmas.{answers_served, answers_stopped, answers_accepted}
 use Rattle.sm_top.proofs.running.run.Goals as goal
@@ -10,13 +10,13 @@ pub returns-in-Ok-clause-accepted : goal.returns-in-Ok-clause-accepted
 returns-in-Ok-clause-accepted g c =
     answers_accepted (texts c.args.words.now) (g.S.Source.left c.args.source.now) _ _ _ c.in-Ok.status (answers_served _ _ _ _ _ _ _ _ c.in-Ok.ensures.served)
 
-pub returns-in-Err-clause-answer : goal.returns-in-Err-clause-answer
-returns-in-Err-clause-answer g c =
+pub returns-clause-answer : goal.returns-clause-answer
+returns-clause-answer g c =
     let says = rw c.in-Err.ensures.unwritten at c.say_stop.ensures.says in
     answers_stopped (texts c.args.words.now) _ _ _ _ _ _ _ _ c.in-Err.stop c.say_stop.result c.in-Err.ensures.stop (λ none. ap g.S.Source.left (c.in-Err.ensures.untouched none)) says
 
-pub returns-in-Err-clause-accepted : goal.returns-in-Err-clause-accepted
-returns-in-Err-clause-accepted g c =
+pub returns-clause-accepted : goal.returns-clause-accepted
+returns-clause-accepted g c =
     let says = rw c.in-Err.ensures.unwritten at c.say_stop.ensures.says in
-    answers_accepted (texts c.args.words.now) (g.S.Source.left c.args.source.now) _ _ _ c.say_stop.result
+    answers_accepted {tallies = []} (texts c.args.words.now) (g.S.Source.left c.args.source.now) _ _ _ c.say_stop.result
     (answers_stopped (texts c.args.words.now) _ _ _ _ _ _ _ _ c.in-Err.stop c.say_stop.result c.in-Err.ensures.stop (λ none. ap g.S.Source.left (c.in-Err.ensures.untouched none)) says)

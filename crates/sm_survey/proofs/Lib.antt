@@ -1,0 +1,3 @@
+pub mod RegretLemmas
+pub mod SurveyLemmas
+pub mod LineLemmas

@@ -1,0 +1,3 @@
+pub mod SurveyAnswer
+pub mod Surveying
+pub mod Given

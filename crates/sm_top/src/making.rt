@@ -1,0 +1,67 @@
+//! Made instances: their texts, and their summaries.
+
+ghost use Rattle.std.specs.Prelude.{◌≡◌, ◌≤◌, ℕ, List, map, IfOk, IfErr, OnErr};
+ghost use Rattle.sm_answer.specs.Printing.{IsShown};
+ghost use Rattle.sm_tally.specs.Fold.{shown_as};
+ghost use Rattle.sm_top.specs.Accepting.{IsTooMany};
+ghost use Rattle.sm_top.specs.Outcome.{IsMade, IsSummary, IsTooManyMade};
+ghost use Rattle.sm_top.specs.Stops.{StopsBy};
+ghost use Rattle.sm_top.specs.Wrote.{Wrote, With};
+
+use crate::performing::solve_roommates;
+use crate::refusing::seats_of;
+use crate::status::Status;
+use crate::stop::Stop;
+use crate::writing::write;
+use sm_instance::Input;
+use sm_io::Sink;
+use sm_printed::instance_lines;
+use sm_survey::survey_lines;
+use sm_tally::Tally;
+use std::alloc::Global;
+
+/// Up to how many matchings a summary lists: as many as `survey` without a limit.
+const SUMMARY_LIMIT: u32 = 100;
+
+/// Writes the text of a made instance, or its summary.
+pub(crate) fn show_made<K: Sink>(
+    alloc: Global,
+    input: &Input,
+    is_summary: bool,
+    tallies: &mut Vec<Box<dyn Tally>>,
+    sink: &mut K,
+) -> Result<Status, Stop>
+    ensures wrote { IfOk result (λ status. Wrote (IsMade (map (λ t. shown_as (kind t) (shown t)) tallies.old.items) input.now is_summary)
+        (K.held sink.old) (K.held sink.new) (K.faults sink.old) (K.faults sink.new) status) }
+    ensures stop { IfErr result (λ stop. StopsBy (λ _. ⊥) (IsTooManyMade input.now is_summary) ⊥ stop) }
+    ensures unwritten { OnErr result (sink.new ≡ sink.old) }
+    ensures later { K.faults sink.old ≤ K.faults sink.new }
+{
+    if is_summary {
+        return summarize(alloc, input, tallies, sink);
+    }
+    Ok(write(alloc, sink, Status::Done, instance_lines(input)))
+}
+
+// Writes what `survey` answers, or `solve` for roommates.
+fn summarize<K: Sink>(
+    alloc: Global,
+    input: &Input,
+    tallies: &mut Vec<Box<dyn Tally>>,
+    sink: &mut K,
+) -> Result<Status, Stop>
+    ensures wrote { IfOk result (λ status. Wrote (λ status. IsShown input.now (IsSummary (map (λ t. shown_as (kind t) (shown t)) tallies.old.items) input.now status))
+        (K.held sink.old) (K.held sink.new) (K.faults sink.old) (K.faults sink.new) status) }
+    ensures stop { IfErr result (λ stop. StopsBy (λ _. ⊥) (IsTooMany input.now) ⊥ stop) }
+    ensures unwritten { OnErr result (sink.new ≡ sink.old) }
+    ensures later { K.faults sink.old ≤ K.faults sink.new }
+{
+    match input {
+        Input::Two(instance) => {
+            let seats = seats_of(alloc, instance)?;
+            let lines = survey_lines(alloc, input, instance, &seats, SUMMARY_LIMIT, tallies)?;
+            Ok(write(alloc, sink, Status::Done, lines))
+        }
+        Input::Room(persons) => Ok(solve_roommates(alloc, input, persons, sink)?),
+    }
+}

@@ -1,0 +1,12 @@
+pub mod EdgeLemmas
+pub mod LineLemmas
+pub mod BridgeLemmas
+pub mod SpanLemmas
+pub mod NodeLemmas
+pub mod SizeLemmas
+pub mod CountLemmas
+pub mod GainLemmas
+pub mod BasisLemmas
+pub mod ShortLemmas
+pub mod LightestLemmas
+pub mod WitnessLemmas

@@ -1,0 +1,8 @@
+pub mod Edges
+pub mod Lines
+pub mod Spans
+pub mod Sizes
+pub mod Basis
+pub mod Lightest
+pub mod Laws
+pub mod Witnesses

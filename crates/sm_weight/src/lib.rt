@@ -1,0 +1,19 @@
+//! The lightest allowed stable matching, with the flow that shows that none is lighter.
+//!
+//! [`lightest`] makes a net of the gains of the rotations, of what they need and of the conditions. The cuts of the net are the
+//! closed sets whose matchings are allowed, and a least cut is one of a lightest matching (Irving, Leather and Gusfield 1987;
+//! Gusfield and Irving 1989, chapter 3). The set that a maximum flow reaches lies inside all least cuts, so its matching is the
+//! best for all proposers among the lightest ones (Ford and Fulkerson 1956; Picard 1976).
+#![tactic(auto)]
+
+mod basis;
+mod edges;
+mod flows;
+mod gains;
+pub mod laws;
+mod spans;
+mod weighing;
+pub mod witnesses;
+
+pub use flows::FlowLine;
+pub use weighing::{LightestFound, lightest};

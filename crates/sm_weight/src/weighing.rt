@@ -1,0 +1,80 @@
+//! The lightest allowed stable pairing.
+
+ghost use Rattle.std.specs.Prelude.{◌+◌, ◌<◌, ◌^◌, length, IfOk, MatchOption};
+ghost use Rattle.sm_market.specs.Vectors.{rows_of};
+ghost use Rattle.sm_theory.specs.Vectors.{AreLevels};
+ghost use Rattle.sm_board.specs.BoardOf.{AreInRange};
+ghost use Rattle.sm_weight.specs.Sizes.{weights_in, AreWeights};
+ghost use Rattle.sm_weight.specs.Lightest.{IsLightestFound, IsNothingAllowed};
+
+use crate::basis::{allows_nothing, net_edges};
+use crate::flows::{FlowLine, least_cut};
+use crate::gains::gains;
+use sm_poset::{Conditions, Poset};
+use sm_theory::ClosedSet;
+use std::alloc::{AllocError, Global};
+
+/// The closed set of a lightest allowed stable pairing, with a flow that shows that none is lighter.
+#[derive(Debug, Drop)]
+pub struct LightestFound {
+    /// The closed set of the lightest allowed stable pairing that is best for all proposers.
+    pub set: ClosedSet,
+    /// For each rotation the weight of its new pairs less that of its old ones.
+    pub gains: Vec<i64>,
+    /// A flow in the net of the gains, the needs and the conditions, ordered by the nodes from which the edges lead and then by
+    /// those to which they lead. Its residual steps reach exactly the members of the set.
+    pub flow: Vec<FlowLine>,
+    /// The value of the flow: the sum of the positive gains of members and of the sizes of the negative gains of the others.
+    pub cut: u64,
+}
+
+/// The stable pairing that is best for all proposers among the lightest that meet the conditions, by its closed set, and a flow
+/// whose value is the cut of that set. `None` exactly where no stable pairing meets the conditions.
+///
+/// `levels` has for each proposer one level per place and one more for being unmatched, never falling. `weights` has one weight per
+/// place, of size at most 1,000,000,000. The conditions name proposers that there are, and are fewer than 2^24.
+///
+/// The net has a node for each rotation. Edges lead from the source to the rotations with negative gains, from those with positive
+/// gains to the sink, from each rotation to its predecessors, and, for the conditions, between the rotations that bring a proposer to
+/// a level and take it from there. Takes time in proportion to the chain, to the needs and conditions with the logarithm of their
+/// number, and what a maximum flow takes (Irving, Leather and Gusfield 1987; Gusfield and Irving 1989, chapter 3).
+///
+/// # Errors
+///
+/// `AllocError` where memory ran out, and only then.
+pub fn lightest(
+    alloc: Global,
+    poset: &Poset,
+    levels: &[Vec<u32>],
+    weights: &[Vec<i64>],
+    conditions: &Conditions,
+) -> Result<Option<LightestFound>, AllocError>
+    requires levels { AreLevels poset.now.lists (rows_of levels.now) }
+    requires weights { AreWeights poset.now.lists (weights_in weights.now) }
+    requires forced { AreInRange (length poset.now.lists.proposers) conditions.now.forced.items }
+    requires forbidden { AreInRange (length poset.now.lists.proposers) conditions.now.forbidden.items }
+    requires few { length conditions.now.forced.items + length conditions.now.forbidden.items < 2 ^ 24 }
+    ensures { IfOk result (λ found. MatchOption found
+        (IsNothingAllowed poset.now (rows_of levels.now) conditions.now.forced.items conditions.now.forbidden.items)
+        (λ f. IsLightestFound poset.now (rows_of levels.now) (weights_in weights.now)
+        conditions.now.forced.items conditions.now.forbidden.items f)) }
+{
+    let market = poset.market();
+    let needs = poset.all_needs();
+    if allows_nothing(poset, levels, conditions) {
+        return Ok(None);
+    }
+    let gains = gains(alloc, market, poset.chain(), weights)?;
+    let edges = net_edges(alloc, poset, levels, needs, &gains, conditions)?;
+    match least_cut(alloc, gains.len() as u32, &edges)? {
+        None => Ok(None),
+        Some(found) => Ok(Some(LightestFound {
+            set: ClosedSet {
+                members: found.members,
+            },
+            gains,
+            flow: found.lines,
+            cut: found.value,
+        })),
+    }
+}
