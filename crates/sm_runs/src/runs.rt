@@ -303,6 +303,30 @@ fn given_matchings_are_refused(rt: HostRuntime) {
 }
 
 #[test]
+fn matchings_are_weighed(rt: HostRuntime) {
+    come_to(
+        &rt,
+        &[
+            done(
+                "weight by=ranks",
+                "stable 1 marriage\np m1: a b c\np m2: b c a\np m3: c a b\nr a: m2 m3 m1\nr b: m3 m1 m2\nr c: m1 m2 m3\nend\n",
+                "answer weight by=ranks\nfirst m1 a\nfirst m2 b\nfirst m3 c\nrotation 1 m1 a m2 b m3 c\nneeds 1 -\ngain 1 0\nrotation 2 m1 b m2 c m3 a\nneeds 2 1\ngain 2 0\ntaken -\nvalue 0\ncut 0\ntotal 12\npair m1 a\npair m2 b\npair m3 c\nend\n",
+            ),
+            done(
+                "weight by=given",
+                "stable 1 marriage\np m1: a b c\np m2: b c a\np m3: c a b\nr a: m2 m3 m1\nr b: m3 m1 m2\nr c: m1 m2 m3\nweight m1 b 4\nweight m1 c -10\nend\n",
+                "answer weight by=given\nfirst m1 a\nfirst m2 b\nfirst m3 c\nrotation 1 m1 a m2 b m3 c\nneeds 1 -\ngain 1 4\nrotation 2 m1 b m2 c m3 a\nneeds 2 1\ngain 2 -14\nflow S 2 4\nflow 1 T 4\nflow 2 1 4\ntaken 1 2\nvalue 4\ncut 4\ntotal -10\npair m1 c\npair m2 a\npair m3 b\nend\n",
+            ),
+            none_exists(
+                "weight by=ranks",
+                "stable 1 marriage\np m1: a b\np m2: b a\nr a: m2 m1\nr b: m1 m2\nforbid m1 a\nforbid m1 b\nend\n",
+                "answer weight by=ranks\nnone\nend\n",
+            ),
+        ],
+    );
+}
+
+#[test]
 fn tallies_are_fed(rt: HostRuntime) {
     let three =
         "stable 1 marriage\np m1: a b c\np m2: b c a\np m3: c a b\nr a: m2 m3 m1\nr b: m3 m1 m2\nr c: m1 m2 m3\nend\n";

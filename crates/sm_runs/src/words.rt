@@ -1,7 +1,7 @@
 //! Words that ask for a job, and words that are faulty.
 
 use crate::made::{copy, words_in};
-use sm_instance::Side;
+use sm_instance::{Measure, Side};
 use sm_make::Shape;
 use sm_words::{Job, WordsFault, read_words};
 use std::process::Abort;
@@ -50,6 +50,8 @@ fn words_ask_or_are_faulty(rt: HostRuntime) {
             ),
             ("pairs", Job::Pairs),
             ("regret", Job::Regret),
+            ("weight by=ranks", Job::Weight(Measure::Ranks)),
+            ("weight by=given", Job::Weight(Measure::Given)),
             ("meet", Job::Meet),
             ("join", Job::Join),
             ("survey", Job::Survey(100)),
@@ -89,6 +91,9 @@ fn words_ask_or_are_faulty(rt: HostRuntime) {
             ("pair", 1),
             ("pairs limit=1", 2),
             ("regret side=proposers", 2),
+            ("weight", 2),
+            ("weight by=rank", 2),
+            ("weight by=ranks by=given", 3),
             ("meet join", 2),
             ("list limit=0", 2),
             ("list limit=1000001", 2),

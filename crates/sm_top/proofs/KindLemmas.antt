@@ -9,10 +9,12 @@ use Rattle.sm_instance.specs.declared.inputs.Input.{Input}
 use Rattle.sm_instance.specs.declared.inputs.Input.TheVariants.{Two, Room}
 use Rattle.sm_instance.specs.declared.kinds.Kind.{Kind}
 use Rattle.sm_instance.specs.declared.kinds.Kind.TheVariants.{Marriage, Hospitals, Roommates}
+use Rattle.sm_lightest.specs.WeightAnswer.{IsWeightAnswer, IsNoneAllowed as IsNoneLightest}
+use Rattle.sm_instance.specs.declared.kinds.Measure.{Measure}
 use Rattle.sm_instance.specs.declared.kinds.Side.{Side}
 use Rattle.sm_instance.specs.declared.kinds.Side.TheVariants.{Proposers}
 use Rattle.sm_reader.specs.InstanceText.{ReadText, Refusal}
-use Rattle.sm_words.specs.Jobs.{JobData, Solve, Reduced, Rotations, Pairs, Regret, Meet, Join, Survey, Make}
+use Rattle.sm_words.specs.Jobs.{JobData, Solve, Reduced, Rotations, Pairs, Regret, Weight, Meet, Join, Survey, Make}
 use Rattle.sm_shown.specs.Answers.{IsSolution}
 use Rattle.sm_report.specs.Lines.{LineData}
 use Rattle.sm_partners.specs.RegretAnswer.{IsRegretAnswer, IsNoneAllowed}
@@ -25,7 +27,7 @@ use Rattle.sm_tally.specs.Fold.{Shown}
 use Rattle.sm_words.specs.Words.{usual_limit}
 use Rattle.sm_survey.specs.SurveyAnswer.{IsSurveyAnswer}
 use Rattle.sm_printed.specs.Lines.{lines_of}
-use Rattle.sm_top.specs.Outcome.{IsSummary, IsMade, IsSolved, IsRegretted, IsAnswerOver, IsRefused, not_accepted}
+use Rattle.sm_top.specs.Outcome.{IsWeighed, IsSummary, IsMade, IsSolved, IsRegretted, IsAnswerOver, IsRefused, not_accepted}
 use Rattle.sm_top.specs.Wrote.{Wrote, With}
 use Rattle.sm_top.proofs.WritingLemmas.{wrote_for, wrote_shown}
 
@@ -44,6 +46,7 @@ takes_two Rotations kind reading two = two_sided kind two
 takes_two (JobData.List after limit) kind reading two = two_sided kind two
 takes_two Pairs kind reading two = two_sided kind two
 takes_two Regret kind reading two = two_sided kind two
+takes_two (Weight by) kind reading two = two_sided kind two
 takes_two Meet kind reading two = two_sided kind two
 takes_two Join kind reading two = two_sided kind two
 takes_two (Survey limit) kind reading two = two_sided kind two
@@ -131,6 +134,17 @@ pub two_unallowed : (input : Input) (w : Written) (gives : List (List ℕ) → T
     → ((lines : List (List ℕ)) → gives lines → IsShown input (IsNoneAllowed w) lines) → Wrote (With NoneExists gives) a b f g status → Wrote (λ s. IsShown input (IsRegretted input s)) a b f g status
 two_unallowed input w gives a b f g status is right =
     wrote_shown NoneExists gives input (IsNoneAllowed w) (IsRegretted input) a b f g status right (λ answer h. subst (λ (input : Input). IsRegretted input NoneExists answer) (sym is) (inr (refl, h)))
+
+-- instances with an allowed stable matching, and such without, for `weight`
+pub two_weighed : (by : Measure) (input : Input) (w : Written) (gives : List (List ℕ) → Type 0) (a b : Option (List ℕ)) (f g : ℕ) (status : Status) → input ≡ Two w
+    → ((lines : List (List ℕ)) → gives lines → IsShown input (IsWeightAnswer by w) lines) → Wrote (With Done gives) a b f g status → Wrote (λ s. IsShown input (IsWeighed by input s)) a b f g status
+two_weighed by input w gives a b f g status is right =
+    wrote_shown Done gives input (IsWeightAnswer by w) (IsWeighed by input) a b f g status right (λ answer h. subst (λ (input : Input). IsWeighed by input Done answer) (sym is) (inl (refl, h)))
+
+pub two_unweighed : (by : Measure) (input : Input) (w : Written) (gives : List (List ℕ) → Type 0) (a b : Option (List ℕ)) (f g : ℕ) (status : Status) → input ≡ Two w
+    → ((lines : List (List ℕ)) → gives lines → IsShown input (IsNoneLightest by w) lines) → Wrote (With NoneExists gives) a b f g status → Wrote (λ s. IsShown input (IsWeighed by input s)) a b f g status
+two_unweighed by input w gives a b f g status is right =
+    wrote_shown NoneExists gives input (IsNoneLightest by w) (IsWeighed by input) a b f g status right (λ answer h. subst (λ (input : Input). IsWeighed by input NoneExists answer) (sym is) (inr (refl, h)))
 
 -- The summary of a made instance.
 pub two_summarized : (tallies : List Shown) (input : Input) (w : Written) (gives : List (List ℕ) → Type 0) (a b : Option (List ℕ)) (f g : ℕ) (status : Status) → input ≡ Two w

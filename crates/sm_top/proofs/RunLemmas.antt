@@ -10,10 +10,11 @@ use Rattle.sm_text.specs.declared.refusal.RefusalKind.TheVariants.{TooLong, NotS
 use Rattle.sm_instance.specs.Written.{Written}
 use Rattle.sm_instance.specs.declared.inputs.Input.{Input}
 use Rattle.sm_instance.specs.declared.inputs.Input.TheVariants.{Two, Room}
+use Rattle.sm_instance.specs.declared.kinds.Measure.{Measure}
 use Rattle.sm_instance.specs.declared.kinds.Side.{Side}
 use Rattle.sm_reader.specs.InstanceText.{ReadText, instance_text}
 use Rattle.sm_report.specs.Lines.{LineData}
-use Rattle.sm_words.specs.Jobs.{JobData, Solve, Reduced, Rotations, Pairs, Regret, Meet, Join, Survey, Make}
+use Rattle.sm_words.specs.Jobs.{JobData, Solve, Reduced, Rotations, Pairs, Regret, Weight, Meet, Join, Survey, Make}
 use Rattle.sm_words.specs.Words.{words_meaning}
 use Rattle.sm_top.specs.declared.status.Status.{Status}
 use Rattle.sm_top.specs.declared.status.Status.TheVariants.{Refused, Usage, OutOfMemory, ReadFault, WriteFault}
@@ -25,7 +26,7 @@ use Rattle.sm_tally.specs.Fold.{Shown}
 use Rattle.sm_make.specs.Made.{made_instance}
 use Rattle.sm_make.specs.declared.shape.Shape.{Shape}
 use Rattle.sm_top.specs.Accepting.{reads_input, accepted, behind_text}
-use Rattle.sm_top.specs.Outcome.{OfTwo, IsSolved, IsRegretted, IsSummary, IsMade, IsAnswerOver, IsAnswer, IsRefused, IsTooManyMade, IsUnsurveyed, unsurveyed, Outcome, not_accepted, faulty_words, refused, answered}
+use Rattle.sm_top.specs.Outcome.{OfTwo, IsSolved, IsRegretted, IsSummary, IsMade, IsWeighed, IsAnswerOver, IsAnswer, IsRefused, IsTooManyMade, IsUnsurveyed, unsurveyed, Outcome, not_accepted, faulty_words, refused, answered}
 use Rattle.sm_top.specs.Input.{IsReadWhole, ReadWhole, IsTooLong}
 use Rattle.sm_top.specs.Running.{IsBeingRead, Ends, Answers, AnswersAccepted, reads, asks_to_read, is_whole, is_answer, is_too_long}
 use Rattle.sm_top.specs.Steps.{IsRefusalFor, IsRefusal, IsReadFault, Serves, ServesWords, SaysStop}
@@ -167,6 +168,12 @@ regretted_status (Two w) status answer (inl h) = ap is_answer h.0
 regretted_status (Two w) status answer (inr h) = ap is_answer h.0
 regretted_status (Room persons) status answer h = absurd h
 
+-- and of a right answer to `weight`
+weighed_status : (by : Measure) (input : Input) (status : Status) (answer : List LineData) → IsWeighed by input status answer → is_answer status ≡ true
+weighed_status by (Two w) status answer (inl h) = ap is_answer h.0
+weighed_status by (Two w) status answer (inr h) = ap is_answer h.0
+weighed_status by (Room persons) status answer h = absurd h
+
 -- and of a summary
 summary_status : (tallies : List Shown) (input : Input) (status : Status) (answer : List LineData) → IsSummary tallies input status answer → is_answer status ≡ true
 summary_status tallies (Two w) status answer h = ap is_answer h.0
@@ -183,6 +190,7 @@ answer_status tallies Rotations bytes status lines h = ap is_answer h.0
 answer_status tallies (JobData.List after limit) bytes status lines h = ap is_answer h.0
 answer_status tallies Pairs bytes status lines h = ap is_answer h.0
 answer_status tallies Regret bytes status lines h = regretted_status h.read.input status h.shown.answer h.shown.is_right
+answer_status tallies (Weight by) bytes status lines h = weighed_status by h.read.input status h.shown.answer h.shown.is_right
 answer_status tallies Meet bytes status lines h = ap is_answer h.0
 answer_status tallies Join bytes status lines h = ap is_answer h.0
 answer_status tallies (Survey limit) bytes status lines h = ap is_answer h.0

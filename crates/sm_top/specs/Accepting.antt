@@ -13,7 +13,7 @@ use Rattle.sm_instance.specs.declared.kinds.Kind.{Kind}
 use Rattle.sm_instance.specs.declared.kinds.Kind.TheVariants.{Marriage, Hospitals, Roommates}
 use Rattle.sm_reader.specs.InstanceText.{ReadText, Refusal, instance_text}
 use Rattle.sm_seats.specs.SeatEntries.{first_too_many}
-use Rattle.sm_words.specs.Jobs.{JobData, Solve, Reduced, Rotations, Pairs, Regret, Meet, Join, Survey, Make}
+use Rattle.sm_words.specs.Jobs.{JobData, Solve, Reduced, Rotations, Pairs, Regret, Weight, Meet, Join, Survey, Make}
 use Rattle.sm_top.specs.Texts.{RefusalData, plain}
 
 -- What a job takes.
@@ -31,6 +31,7 @@ takes_text Rotations = false
 takes_text (JobData.List after limit) = false
 takes_text Pairs = false
 takes_text Regret = false
+takes_text (Weight by) = false
 takes_text Meet = true
 takes_text Join = true
 takes_text (Survey limit) = false
@@ -50,6 +51,7 @@ takes_kind Rotations kind = is_two_sided kind
 takes_kind (JobData.List after limit) kind = is_two_sided kind
 takes_kind Pairs kind = is_two_sided kind
 takes_kind Regret kind = is_two_sided kind
+takes_kind (Weight by) kind = is_two_sided kind
 takes_kind Meet kind = is_two_sided kind
 takes_kind Join kind = is_two_sided kind
 takes_kind (Survey limit) kind = is_two_sided kind

@@ -4,13 +4,14 @@ use Rattle.sm_answer.specs.Printing.{IsShown}
 use Rattle.sm_instance.specs.Written.{Written}
 use Rattle.sm_instance.specs.declared.inputs.Input.{Input}
 use Rattle.sm_instance.specs.declared.inputs.Input.TheVariants.{Two, Room}
+use Rattle.sm_instance.specs.declared.kinds.Measure.{Measure}
 use Rattle.sm_instance.specs.declared.kinds.Side.{Side}
 use Rattle.sm_instance.specs.declared.kinds.Side.TheVariants.{Proposers}
 use Rattle.sm_reader.specs.InstanceText.{ReadText}
 use Rattle.sm_report.specs.Lines.{LineData}
 use Rattle.sm_report.specs.Texts.{left_name, right_name}
 use Rattle.sm_text.specs.declared.refusal.RefusalKind.TheVariants.{BadCursor, BadAnswer, NotStable}
-use Rattle.sm_words.specs.Jobs.{JobData, Solve, Reduced, Rotations, Pairs, Regret, Meet, Join, Survey, Make}
+use Rattle.sm_words.specs.Jobs.{JobData, Solve, Reduced, Rotations, Pairs, Regret, Weight, Meet, Join, Survey, Make}
 use Rattle.sm_words.specs.Words.{usual_limit, words_meaning}
 use Rattle.sm_top.specs.declared.status.Status.{Status}
 use Rattle.sm_top.specs.declared.status.Status.TheVariants.{Done, Refused, Usage, NoneExists}
@@ -31,6 +32,7 @@ use Rattle.sm_given.specs.declared.faults.Which.TheVariants.{Left, Right}
 use Rattle.sm_given.specs.declared.faults.Flaw.{Flaw}
 use Rattle.sm_given.specs.declared.faults.Flaw.TheVariants.{Breach, Blocks}
 use Rattle.sm_given.specs.declared.faults.Unstable.{Unstable}
+use Rattle.sm_lightest.specs.WeightAnswer.{IsWeightAnswer, IsNoneAllowed as IsNoneLightest}
 use Rattle.sm_tally.specs.Fold.{Shown}
 use Rattle.sm_survey.specs.SurveyAnswer.{IsSurveyAnswer}
 use Rattle.sm_make.specs.Made.{made_instance}
@@ -63,6 +65,11 @@ abbrev pub IsMade : List Shown → Input → (summary : Bool) → Status → Lis
 IsMade tallies input false status lines = (status ≡ Done) × (lines ≡ lines_of input)
 IsMade tallies input true status lines = IsShown input (IsSummary tallies input status) lines
 
+-- a right answer to `weight`, with its status: the lightest allowed matching, or `none` where no stable matching is allowed
+abbrev pub IsWeighed : Measure → Input → Status → List LineData → Type 0
+IsWeighed by (Two w) status answer = ((status ≡ Done) × IsWeightAnswer by w answer) ⊎ ((status ≡ NoneExists) × IsNoneLightest by w answer)
+IsWeighed by (Room persons) status answer = ⊥
+
 -- an input was accepted for a job, and the lines are those of a right answer
 pub record IsAnswerOver (job : JobData) (bytes : List ℕ) (right : ReadText → List LineData → Type 0) (lines : List (List ℕ)) : Type 0 where
   pub read : ReadText
@@ -78,6 +85,7 @@ IsAnswer tallies (JobData.List after limit) bytes status lines =
     (status ≡ Done) × IsAnswerOver (JobData.List after limit) bytes (λ read. OfTwo (IsListAnswer after limit) read.input) lines
 IsAnswer tallies Pairs bytes status lines = (status ≡ Done) × IsAnswerOver Pairs bytes (λ read. OfTwo IsPairsAnswer read.input) lines
 IsAnswer tallies Regret bytes status lines = IsAnswerOver Regret bytes (λ read. IsRegretted read.input status) lines
+IsAnswer tallies (Weight by) bytes status lines = IsAnswerOver (Weight by) bytes (λ read. IsWeighed by read.input status) lines
 IsAnswer tallies Meet bytes status lines = (status ≡ Done) × IsAnswerOver Meet bytes (λ read. OfTwo (IsChosenAnswer Better (texts_from bytes read.rest)) read.input) lines
 IsAnswer tallies Join bytes status lines = (status ≡ Done) × IsAnswerOver Join bytes (λ read. OfTwo (IsChosenAnswer Worse (texts_from bytes read.rest)) read.input) lines
 IsAnswer tallies (Survey limit) bytes status lines = (status ≡ Done) × IsAnswerOver (Survey limit) bytes (λ read. OfTwo (IsSurveyAnswer tallies limit) read.input) lines
@@ -117,6 +125,7 @@ IsOwnRefusal Rotations bytes read refusal = ⊥
 IsOwnRefusal (JobData.List after limit) bytes read refusal = IsBadCursor after read.input refusal
 IsOwnRefusal Pairs bytes read refusal = ⊥
 IsOwnRefusal Regret bytes read refusal = ⊥
+IsOwnRefusal (Weight by) bytes read refusal = ⊥
 IsOwnRefusal Meet bytes read refusal = IsBadGiven read.input (texts_from bytes read.rest) read.rest_line refusal
 IsOwnRefusal Join bytes read refusal = IsBadGiven read.input (texts_from bytes read.rest) read.rest_line refusal
 IsOwnRefusal (Survey limit) bytes read refusal = ⊥

@@ -15,7 +15,7 @@ ghost use Rattle.sm_listing.specs.Started.{cursor_in};
 ghost use Rattle.sm_partners.specs.PairsAnswer.{IsPairsAnswer};
 ghost use Rattle.sm_tally.specs.Fold.{Shown, shown_as};
 ghost use Rattle.sm_survey.specs.SurveyAnswer.{IsSurveyAnswer};
-ghost use Rattle.sm_top.specs.Outcome.{IsSolved, IsRegretted, IsAnswer, IsBadCursor, IsOwnRefusal, IsRefused};
+ghost use Rattle.sm_top.specs.Outcome.{IsSolved, IsRegretted, IsWeighed, IsAnswer, IsBadCursor, IsOwnRefusal, IsRefused};
 ghost use Rattle.sm_shown.specs.Reduction.{IsReduction};
 ghost use Rattle.sm_shown.specs.RotationAnswer.{IsRotationAnswer};
 ghost use Rattle.sm_top.specs.Stops.{StopsBy};
@@ -26,9 +26,10 @@ use crate::refusing::seats_of;
 use crate::status::Status;
 use crate::stop::Stop;
 use crate::writing::write;
-use sm_instance::{Input, Instance, Persons, Side};
+use sm_instance::{Input, Instance, Measure, Persons, Side};
 use sm_io::Sink;
 use sm_lattice::Choice;
+use sm_lightest::{find_lightest, lightest_lines};
 use sm_listing::{list_lines, start_list};
 use sm_partners::{find_pairs, find_regret, none_lines, pairs_lines, regret_lines};
 use sm_reader::Read;
@@ -126,6 +127,7 @@ fn perform_on_seats<K: Sink>(
         Job::List(after, limit) => list(alloc, given, after, *limit, sink),
         Job::Pairs => Ok(show_pairs(alloc, given, sink)?),
         Job::Regret => Ok(show_regret(alloc, given, sink)?),
+        Job::Weight(by) => Ok(show_lightest(alloc, given, *by, sink)?),
         Job::Meet => choose(
             alloc,
             given.read,
@@ -174,6 +176,7 @@ fn perform_on_persons<K: Sink>(
         | Job::List(_, _)
         | Job::Pairs
         | Job::Regret
+        | Job::Weight(_)
         | Job::Meet
         | Job::Join
         | Job::Survey(_) => Err(Stop::Refused(RefusalKind::WrongKind, read.header_line)),
@@ -329,6 +332,32 @@ fn show_regret<K: Sink>(
         None => {
             let none = none_lines(&given.read.input, given.instance);
             Ok(write(alloc, sink, Status::NoneExists, none))
+        }
+    }
+}
+
+// Does `weight`.
+fn show_lightest<K: Sink>(
+    alloc: Global,
+    given: &Seated<'_>,
+    by: Measure,
+    sink: &mut K,
+) -> Result<Status, AllocError>
+    requires { IsSeated given.now.read.now.input given.now.instance.now given.now.seats }
+    ensures wrote { IfOk result (λ status. Wrote
+        (λ status. IsShown given.now.read.now.input (IsWeighed by given.now.read.now.input status))
+        (K.held sink.old) (K.held sink.new) (K.faults sink.old) (K.faults sink.new) status) }
+    ensures unwritten { OnErr result (sink.new ≡ sink.old) }
+    ensures later { K.faults sink.old ≤ K.faults sink.new }
+{
+    match find_lightest(alloc, given.instance, &given.seats, by)? {
+        Some(found) => {
+            let lines = lightest_lines(&given.read.input, given.instance, &given.seats, &found);
+            Ok(write(alloc, sink, Status::Done, lines))
+        }
+        None => {
+            let nothing = sm_lightest::none_lines(&given.read.input, given.instance, by);
+            Ok(write(alloc, sink, Status::NoneExists, nothing))
         }
     }
 }

@@ -107,6 +107,7 @@ fn takes_text(job: &Job) -> bool
         | Job::List(_, _)
         | Job::Pairs
         | Job::Regret
+        | Job::Weight(_)
         | Job::Survey(_)
         | Job::Make(_, _, _, _) => false,
         Job::Meet | Job::Join => true,

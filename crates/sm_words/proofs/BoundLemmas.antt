@@ -15,8 +15,8 @@ use Rattle.sm_words.specs.declared.operands.Operand.{Operand}
 use Rattle.sm_words.specs.declared.operands.Operand.TheVariants as operand
 use Rattle.sm_words.specs.declared.jobs.Job.{Job}
 use Rattle.sm_words.specs.declared.jobs.WordsFault.{WordsFault}
-use Rattle.sm_words.specs.Jobs.{JobData, Make, job_of, least_limit, most_limit, IsLimit, least_size, greatest_size, most_seed, IsInBounds}
-use Rattle.sm_words.specs.Tables.{operands_of, sides, shapes, shows, ValueData, OfSide, OfAfter, OfLimit, OfShape, OfSize, OfSeed, OfShow, limit_named, size_named, seed_named, value_named}
+use Rattle.sm_words.specs.Jobs.{JobData, Weight, Make, job_of, least_limit, most_limit, IsLimit, least_size, greatest_size, most_seed, IsInBounds}
+use Rattle.sm_words.specs.Tables.{operands_of, sides, measures, shapes, shows, ValueData, OfSide, OfAfter, OfLimit, OfBy, OfShape, OfSize, OfSeed, OfShow, limit_named, size_named, seed_named, value_named}
 use Rattle.sm_words.specs.Operands.{GivenData, nothing, once, with_value, with_word, has_name, name_in, text_in, value_in}
 use Rattle.sm_words.specs.Words.{read_operands, job_for, or_missing, is_too_large, word_of_size, or_too_large, asked, usual_limit, usual_show}
 
@@ -38,6 +38,7 @@ abbrev IsValueInBounds : ValueData → Type 0
 IsValueInBounds (OfSide side) = Unit {0}
 IsValueInBounds (OfAfter after) = Unit {0}
 IsValueInBounds (OfLimit limit) = IsLimit limit
+IsValueInBounds (OfBy by) = Unit {0}
 IsValueInBounds (OfShape shape) = Unit {0}
 IsValueInBounds (OfSize size) = IsSomeSize size
 IsValueInBounds (OfSeed seed) = IsSeed seed
@@ -59,6 +60,7 @@ value_in_bounds : (o : Operand) (text : List ℕ) (v : ValueData) → value_name
 value_in_bounds operand.Side text v e = mapped_to IsValueInBounds OfSide (look_up sides text) v (λ x is. tt) e
 value_in_bounds operand.After text v e = mapped_to IsValueInBounds OfAfter (vector_in text) v (λ x is. tt) e
 value_in_bounds operand.Limit text v e = mapped_to IsValueInBounds OfLimit (limit_named text) v (limit_named_in text) e
+value_in_bounds operand.By text v e = mapped_to IsValueInBounds OfBy (look_up measures text) v (λ x is. tt) e
 value_in_bounds operand.Shape text v e = mapped_to IsValueInBounds OfShape (look_up shapes text) v (λ x is. tt) e
 value_in_bounds operand.Size text v e = mapped_to IsValueInBounds OfSize (size_named text) v (size_named_in text) e
 value_in_bounds operand.Seed text v e = mapped_to IsValueInBounds OfSeed (seed_named text) v (seed_named_in text) e
@@ -74,6 +76,7 @@ value_kept (OfSide v) g h in_v in_g e = mapped_to IsGivenInBounds (λ s. record 
 value_kept (OfAfter v) g h in_v in_g e = mapped_to IsGivenInBounds (λ s. record g { after = s }) (once g.after v) h (λ slot is. in_g) e
 value_kept (OfLimit v) g h in_v in_g e =
     mapped_to IsGivenInBounds (λ s. record g { limit = s }) (once g.limit v) h (λ slot is. (once_keeps IsLimit g.limit v slot in_v is, in_g.1, in_g.2)) e
+value_kept (OfBy v) g h in_v in_g e = mapped_to IsGivenInBounds (λ s. record g { by = s }) (once g.by v) h (λ slot is. in_g) e
 value_kept (OfShape v) g h in_v in_g e = mapped_to IsGivenInBounds (λ s. record g { shape = s }) (once g.shape v) h (λ slot is. in_g) e
 value_kept (OfSize v) g h in_v in_g e =
     mapped_to IsGivenInBounds (λ s. record g { size = s }) (once g.size v) h (λ slot is. (in_g.0, once_keeps IsSomeSize g.size v slot in_v is, in_g.2)) e
@@ -123,6 +126,7 @@ job_in_bounds command.Rotations g job b e small = subst IsInBounds (same_Some _ 
 job_in_bounds command.List g job b e small = subst IsInBounds (same_Some _ _ e) (limit_or_usual g.limit b.0)
 job_in_bounds command.Pairs g job b e small = subst IsInBounds (same_Some _ _ e) tt
 job_in_bounds command.Regret g job b e small = subst IsInBounds (same_Some _ _ e) tt
+job_in_bounds command.Weight g job b e small = let of_by = mapped Weight g.by job e in subst IsInBounds of_by.gives tt
 job_in_bounds command.Meet g job b e small = subst IsInBounds (same_Some _ _ e) tt
 job_in_bounds command.Join g job b e small = subst IsInBounds (same_Some _ _ e) tt
 job_in_bounds command.Survey g job b e small = subst IsInBounds (same_Some _ _ e) (limit_or_usual g.limit b.0)

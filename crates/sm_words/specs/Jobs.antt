@@ -1,6 +1,7 @@
 -- What words may ask for, as plain data.
 use Rattle.std.specs.Prelude.{◌≤◌, ◌<◌, ◌^◌, ℕ, Bool, List as Vector, Option}
 use Rattle.std.specs.Option.{option_map}
+use Rattle.sm_instance.specs.declared.kinds.Measure.{Measure}
 use Rattle.sm_instance.specs.declared.kinds.Side.{Side}
 use Rattle.sm_make.specs.declared.shape.Shape.{Shape}
 use Rattle.sm_make.specs.Made.{most_size}
@@ -14,6 +15,7 @@ pub data JobData : Type 0 where
   List : Option (Vector ℕ) → ℕ → JobData
   Pairs : JobData
   Regret : JobData
+  Weight : Measure → JobData
   Meet : JobData
   Join : JobData
   Survey : ℕ → JobData
@@ -26,6 +28,7 @@ job_of job.Rotations = Rotations
 job_of (job.List after limit) = List (option_map (λ v. v.items) after) limit
 job_of job.Pairs = Pairs
 job_of job.Regret = Regret
+job_of (job.Weight by) = Weight by
 job_of job.Meet = Meet
 job_of job.Join = Join
 job_of (job.Survey limit) = Survey limit
@@ -60,6 +63,7 @@ IsInBounds Rotations = Unit {0}
 IsInBounds (List after limit) = IsLimit limit
 IsInBounds Pairs = Unit {0}
 IsInBounds Regret = Unit {0}
+IsInBounds (Weight by) = Unit {0}
 IsInBounds Meet = Unit {0}
 IsInBounds Join = Unit {0}
 IsInBounds (Survey limit) = IsLimit limit

@@ -2,18 +2,20 @@
 use Rattle.std.specs.Prelude.{ℕ, ◌==◌, nat_lt, Bool, List, length, Option, Some, None, option_map, if◌then◌else◌}
 use Rattle.std.specs.List.{before_first, after_first, position_or_len}
 use Rattle.std.specs.Option.{option_and_then}
+use Rattle.sm_instance.specs.declared.kinds.Measure.{Measure}
 use Rattle.sm_instance.specs.declared.kinds.Side.{Side}
 use Rattle.sm_make.specs.declared.shape.Shape.{Shape}
 use Rattle.sm_report.specs.Meanings.{look_up}
 use Rattle.sm_words.specs.declared.operands.Command.{Command}
 use Rattle.sm_words.specs.declared.operands.Given.{Given}
-use Rattle.sm_words.specs.Tables.{operands_of, ValueData, OfSide, OfAfter, OfLimit, OfShape, OfSize, OfSeed, OfShow, value_named}
+use Rattle.sm_words.specs.Tables.{operands_of, ValueData, OfSide, OfAfter, OfLimit, OfBy, OfShape, OfSize, OfSeed, OfShow, value_named}
 
 -- the operands that were given: for each its value, if it stands
 pub record GivenData : Type 0 where
   pub side : Option Side
   pub after : Option (List ℕ)
   pub limit : Option ℕ
+  pub by : Option Measure
   pub shape : Option Shape
   pub size : Option ℕ
   pub seed : Option ℕ
@@ -24,6 +26,7 @@ given_of g = record {
   side = g.side;
   after = option_map (λ v. v.items) g.after;
   limit = g.limit;
+  by = g.by;
   shape = g.shape;
   size = g.size;
   seed = g.seed;
@@ -35,6 +38,7 @@ nothing = record {
   side = None;
   after = None;
   limit = None;
+  by = None;
   shape = None;
   size = None;
   seed = None;
@@ -50,6 +54,7 @@ abbrev pub with_value : ValueData → GivenData → Option GivenData
 with_value (OfSide v) g = option_map (λ s. record g { side = s }) (once g.side v)
 with_value (OfAfter v) g = option_map (λ s. record g { after = s }) (once g.after v)
 with_value (OfLimit v) g = option_map (λ s. record g { limit = s }) (once g.limit v)
+with_value (OfBy v) g = option_map (λ s. record g { by = s }) (once g.by v)
 with_value (OfShape v) g = option_map (λ s. record g { shape = s }) (once g.shape v)
 with_value (OfSize v) g = option_map (λ s. record g { size = s }) (once g.size v)
 with_value (OfSeed v) g = option_map (λ s. record g { seed = s }) (once g.seed v)

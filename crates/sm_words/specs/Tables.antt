@@ -1,5 +1,7 @@
 -- The tables of the command line: its commands, the operands of each, and the values of each operand.
 use Rattle.std.specs.Prelude.{List, [], ◌∷◌, ℕ, Bool, true, false, codes, Option, option_map}
+use Rattle.sm_instance.specs.declared.kinds.Measure.{Measure}
+use Rattle.sm_instance.specs.declared.kinds.Measure.TheVariants.{Ranks, Given}
 use Rattle.sm_instance.specs.declared.kinds.Side.{Side}
 use Rattle.sm_instance.specs.declared.kinds.Side.TheVariants.{Proposers, Reviewers}
 use Rattle.sm_text.specs.Numbers.{number_of}
@@ -23,6 +25,7 @@ commands =
     ∷ (codes "list", command.List)
     ∷ (codes "pairs", command.Pairs)
     ∷ (codes "regret", command.Regret)
+    ∷ (codes "weight", command.Weight)
     ∷ (codes "meet", command.Meet)
     ∷ (codes "join", command.Join)
     ∷ (codes "survey", command.Survey)
@@ -36,6 +39,7 @@ operands_of command.Rotations = []
 operands_of command.List = (codes "after", operand.After) ∷ (codes "limit", operand.Limit) ∷ []
 operands_of command.Pairs = []
 operands_of command.Regret = []
+operands_of command.Weight = (codes "by", operand.By) ∷ []
 operands_of command.Meet = []
 operands_of command.Join = []
 operands_of command.Survey = (codes "limit", operand.Limit) ∷ []
@@ -48,6 +52,10 @@ operands_of command.Make =
 
 abbrev pub sides : List (List ℕ × Side)
 sides = (codes "proposers", Proposers) ∷ (codes "reviewers", Reviewers) ∷ []
+
+-- by which weights: the ranks of both, or those that are given
+abbrev pub measures : List (List ℕ × Measure)
+measures = (codes "ranks", Ranks) ∷ (codes "given", Given) ∷ []
 
 abbrev pub shapes : List (List ℕ × Shape)
 shapes =
@@ -67,6 +75,7 @@ pub data ValueData : Type 0 where
   OfSide : Side → ValueData
   OfAfter : List ℕ → ValueData
   OfLimit : ℕ → ValueData
+  OfBy : Measure → ValueData
   OfShape : Shape → ValueData
   OfSize : ℕ → ValueData
   OfSeed : ℕ → ValueData
@@ -76,6 +85,7 @@ abbrev pub value_of : Value → ValueData
 value_of (value.OfSide side) = OfSide side
 value_of (value.OfAfter after) = OfAfter after.items
 value_of (value.OfLimit limit) = OfLimit limit
+value_of (value.OfBy by) = OfBy by
 value_of (value.OfShape shape) = OfShape shape
 value_of (value.OfSize size) = OfSize size
 value_of (value.OfSeed seed) = OfSeed seed
@@ -96,6 +106,7 @@ abbrev pub value_named : Operand → List ℕ → Option ValueData
 value_named operand.Side text = option_map OfSide (look_up sides text)
 value_named operand.After text = option_map OfAfter (vector_in text)
 value_named operand.Limit text = option_map OfLimit (limit_named text)
+value_named operand.By text = option_map OfBy (look_up measures text)
 value_named operand.Shape text = option_map OfShape (look_up shapes text)
 value_named operand.Size text = option_map OfSize (size_named text)
 value_named operand.Seed text = option_map OfSeed (seed_named text)

@@ -1,6 +1,6 @@
 //! What words may ask for, and why they ask for nothing.
 
-use sm_instance::Side;
+use sm_instance::{Measure, Side};
 use sm_make::Shape;
 use std::alloc::AllocError;
 use thiserror::Error;
@@ -20,6 +20,8 @@ pub enum Job {
     Pairs,
     /// The allowed stable matching of the least regret.
     Regret,
+    /// The lightest allowed stable matching by this measure, with a flow that certifies it.
+    Weight(Measure),
     /// The matching in which each proposer has the better of its partners in two stable matchings that are given.
     Meet,
     /// The matching in which each proposer has the worse of them.

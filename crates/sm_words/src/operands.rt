@@ -2,10 +2,10 @@
 
 ghost use Rattle.std.specs.Prelude.{◌≡◌, Some, None, IfOk, option_map, if◌then◌else◌};
 ghost use Rattle.sm_report.specs.Meanings.{look_up, number_within};
-ghost use Rattle.sm_words.specs.Tables.{commands, operands_of, sides, shapes, shows, ValueData, value_of, value_named, limit_named, size_named, seed_named};
+ghost use Rattle.sm_words.specs.Tables.{commands, operands_of, sides, measures, shapes, shows, ValueData, value_of, value_named, limit_named, size_named, seed_named};
 ghost use Rattle.sm_words.specs.Operands.{given_of, once, with_value, with_word, nothing};
 
-use sm_instance::Side;
+use sm_instance::{Measure, Side};
 use sm_make::Shape;
 use sm_report::vector;
 use sm_text::number;
@@ -30,6 +30,7 @@ pub(crate) enum Command {
     List,
     Pairs,
     Regret,
+    Weight,
     Meet,
     Join,
     Survey,
@@ -42,6 +43,7 @@ pub(crate) enum Operand {
     Side,
     After,
     Limit,
+    By,
     Shape,
     Size,
     Seed,
@@ -54,6 +56,7 @@ pub(crate) enum Value {
     OfSide(Side),
     OfAfter(Vec<u32>),
     OfLimit(u32),
+    OfBy(Measure),
     OfShape(Shape),
     OfSize(u32),
     OfSeed(u64),
@@ -67,6 +70,7 @@ pub(crate) struct Given {
     pub(crate) side: Option<Side>,
     pub(crate) after: Option<Vec<u32>>,
     pub(crate) limit: Option<u32>,
+    pub(crate) by: Option<Measure>,
     pub(crate) shape: Option<Shape>,
     pub(crate) size: Option<u32>,
     pub(crate) seed: Option<u64>,
@@ -85,6 +89,7 @@ pub(crate) fn command_named(name: &str) -> Option<Command>
         "list" => Some(Command::List),
         "pairs" => Some(Command::Pairs),
         "regret" => Some(Command::Regret),
+        "weight" => Some(Command::Weight),
         "meet" => Some(Command::Meet),
         "join" => Some(Command::Join),
         "survey" => Some(Command::Survey),
@@ -101,6 +106,7 @@ pub(crate) fn nothing() -> Given
         side: None,
         after: None,
         limit: None,
+        by: None,
         shape: None,
         size: None,
         seed: None,
@@ -148,6 +154,10 @@ fn operand_named(command: Command, name: &str) -> Option<Operand>
         },
         Command::Pairs => None,
         Command::Regret => None,
+        Command::Weight => match name {
+            "by" => Some(Operand::By),
+            _ => None,
+        },
         Command::Meet => None,
         Command::Join => None,
         Command::Survey => match name {
@@ -172,6 +182,7 @@ fn value_named(alloc: Global, operand: Operand, text: &str) -> Result<Option<Val
         Operand::Side => Ok(side_named(text).map(Value::OfSide)),
         Operand::After => Ok(vector(alloc, text)?.map(Value::OfAfter)),
         Operand::Limit => Ok(limit_named(text).map(Value::OfLimit)),
+        Operand::By => Ok(measure_named(text).map(Value::OfBy)),
         Operand::Shape => Ok(shape_named(text).map(Value::OfShape)),
         Operand::Size => Ok(size_named(text).map(Value::OfSize)),
         Operand::Seed => Ok(seed_named(text).map(Value::OfSeed)),
@@ -195,6 +206,17 @@ fn limit_named(text: &str) -> Option<u32>
     ensures { result ≡ limit_named text.now }
 {
     number_within(text, LEAST_LIMIT, MOST_LIMIT)
+}
+
+// The measure of this name.
+fn measure_named(name: &str) -> Option<Measure>
+    ensures { result ≡ look_up measures name.now }
+{
+    match name {
+        "ranks" => Some(Measure::Ranks),
+        "given" => Some(Measure::Given),
+        _ => None,
+    }
 }
 
 // The shape of this name.
@@ -256,6 +278,7 @@ fn put(given: &mut Given, value: Value) -> bool
         Value::OfSide(side) => put_once(&mut given.side, side),
         Value::OfAfter(after) => put_once(&mut given.after, after),
         Value::OfLimit(limit) => put_once(&mut given.limit, limit),
+        Value::OfBy(by) => put_once(&mut given.by, by),
         Value::OfShape(shape) => put_once(&mut given.shape, shape),
         Value::OfSize(size) => put_once(&mut given.size, size),
         Value::OfSeed(seed) => put_once(&mut given.seed, seed),

@@ -1,6 +1,6 @@
 use Rattle.sm_reader.specs.InstanceText.{read_of}
 use Rattle.std.proofs.lemmas.Result.{IfOk-weaker}
-use Rattle.sm_words.specs.Jobs.{JobData, Solve, Reduced, Rotations, Pairs, Regret, Meet, Join, Survey}
+use Rattle.sm_words.specs.Jobs.{JobData, Solve, Reduced, Rotations, Pairs, Regret, Weight, Meet, Join, Survey}
 use Rattle.sm_shown.specs.Reduction.{IsReduction}
 use Rattle.sm_shown.specs.RotationAnswer.{IsRotationAnswer}
 use Rattle.sm_listing.specs.ListAnswer.{IsListAnswer}
@@ -9,7 +9,7 @@ use Rattle.sm_partners.specs.PairsAnswer.{IsPairsAnswer}
 use Rattle.sm_lattice.specs.declared.choice.Choice.TheVariants.{Better, Worse}
 use Rattle.sm_given.specs.GivenText.{texts_from}
 use Rattle.sm_given.specs.Chosen.{IsChosenAnswer}
-use Rattle.sm_top.specs.Outcome.{IsSolved, IsRegretted}
+use Rattle.sm_top.specs.Outcome.{IsSolved, IsRegretted, IsWeighed}
 use Rattle.sm_top.specs.declared.status.Status.TheVariants.{Done}
 use Rattle.sm_words.specs.Jobs.{job_of}
 use Rattle.sm_top.proofs.RefusingLemmas.{few_lines}
@@ -76,3 +76,8 @@ returns-in_ok-survey-in-Survey-clause-wrote g c =
     let ok = rw c.in-Survey.is at c.requires.accepted in
     let given = c.args.given.now in
     rw c.in-Survey.is (wrote_answer (Survey c.in-Survey.limit) c.args.bytes.now (read_of given.read.now) given.instance.now _ Done _ _ _ _ _ ok c.requires.seated.two c.in_ok-survey-in-Survey.ensures.wrote)
+
+pub returns-in_ok-show_lightest-in-Weight-clause-wrote : goal.returns-in_ok-show_lightest-in-Weight-clause-wrote
+returns-in_ok-show_lightest-in-Weight-clause-wrote g c =
+    let ok = rw c.in-Weight.is at c.requires.accepted in
+    rw c.in-Weight.is (answer_over (Weight c.in-Weight.by) c.args.bytes.now (read_of c.args.given.now.read.now) (IsWeighed c.in-Weight.by) _ _ _ _ _ ok c.in_ok-show_lightest-in-Weight.ensures.wrote)

@@ -1,0 +1,7 @@
+pub mod PlaceLemmas
+pub mod MemberLemmas
+pub mod SizeLemmas
+pub mod RowLemmas
+pub mod GainLemmas
+pub mod RightLemmas
+pub mod LineLemmas

@@ -1,0 +1,151 @@
+-- The lines of the answer of `weight` are lines of the instance.
+use Rattle.std.proofs.Common.{◌≡◌, ℕ, zero, suc, true, false, ◌+◌, ◌-◌, ◌<◌, ◌≤◌, ◌^◌, List, [], ◌∷◌, ◌++◌, length, get_or, map, slice_index_or, Some, ℤ, pos, refl, sym, ap, ◌∙◌, subst, arith}
+use Rattle.std.specs.List.{All, flat_map, range_with_len}
+use Rattle.std.specs.Int.RustNames.{unsigned_abs}
+use Rattle.std.proofs.lemmas.List.{get_or_append_left, get_or-append_right, get_or-map, length-append}
+use Rattle.std.proofs.lemmas.List.Elements.{All-append, All-cons, All-map}
+use Rattle.sm_answer.specs.Lines.{line_or_none, lines_from}
+use Rattle.sm_answer.proofs.AnswerLemmas.{lines_all, one_all}
+use Rattle.sm_instance.specs.Written.{Written}
+use Rattle.sm_instance.specs.Sound.{IsInstance}
+use Rattle.sm_instance.specs.declared.inputs.Input.{Input}
+use Rattle.sm_instance.specs.declared.inputs.Input.TheVariants.{Two}
+use Rattle.sm_instance.specs.declared.kinds.Measure.{Measure}
+use Rattle.sm_instance.specs.declared.kinds.Side.TheVariants.{Proposers}
+use Rattle.sm_market.specs.Lists.{Lists}
+use Rattle.sm_market.specs.Matching.{Places}
+use Rattle.sm_market.specs.Stable.{IsStable}
+use Rattle.sm_report.specs.Heads.{HeadData}
+use Rattle.sm_report.specs.Lines.{LineData}
+use Rattle.sm_report.specs.Sound.{IsLineOf}
+use Rattle.sm_theory.specs.Chains.{rotation_at, IsPrintedChain}
+use Rattle.sm_theory.specs.Weights.{weight_of, gain_of}
+use Rattle.sm_rotations.specs.Graph.{AreNeeds}
+use Rattle.sm_poset.specs.Posets.{IsPoset}
+use Rattle.sm_seats.specs.Seating.{Seating, written_of}
+use Rattle.sm_seats.specs.Correspondence.{IsSeating, weights_of}
+use Rattle.sm_weight.specs.declared.flows.FlowLine.{FlowLine}
+use Rattle.sm_weight.specs.Lightest.{set_matching}
+use Rattle.sm_weight.proofs.CountLemmas.{pairs_of_few}
+use Rattle.sm_shown.specs.Reduction.{seat_line}
+use Rattle.sm_shown.specs.GivenLines.{two_lines, seated_pair_line, lines_of_rotations}
+use Rattle.sm_shown.proofs.SolveLemmas.{pair_alike, pair_sound, end_sound}
+use Rattle.sm_shown.proofs.RotationLemmas.{rotations_given_sound}
+use Rattle.sm_lightest.specs.WeightAnswer.{member_numbers, none_lines}
+use Rattle.sm_lightest.specs.Found.{IsFound, IsFlowLine}
+use Rattle.sm_lightest.specs.Rows.{shown_row}
+use Rattle.sm_lightest.specs.Given.{gain_line, three_lines, edge_line, figure_line, weight_given}
+use Rattle.sm_lightest.specs.declared.lightest_parts.Lightest.{Lightest}
+use Rattle.sm_lightest.proofs.MemberLemmas.{are_rotations}
+use Rattle.sm_lightest.proofs.SizeLemmas.{gain_size, weight_size}
+
+left_all : {X : Type 0} (P : X → Type 0) (xs ys : List X) → All P (xs ++ ys) → All P xs
+left_all P xs ys a = λ k d l. subst P (get_or_append_left xs ys d k l) (a k d (omega (arith, l, length-append xs ys)))
+
+right_all : {X : Type 0} (P : X → Type 0) (xs ys : List X) → All P (xs ++ ys) → All P ys
+right_all P xs ys a = λ k d l.
+    let back : length xs + k - length xs ≡ k = omega arith in
+    subst P (get_or-append_right xs ys (length xs) (length xs + k) d refl (omega arith) ∙ ap (λ i. get_or ys i d) back) (a (length xs + k) d (omega (arith, l, length-append xs ys)))
+
+-- gains behind the lines of rotations
+three_all : (P : LineData → Type 0) (s : Seating) (rotations : List (List (ℕ × ℕ))) (needs : List (List ℕ)) (gains : List ℤ) (a n : ℕ) → All P (flat_map (two_lines s rotations needs) (range_with_len a n))
+    → ((k : ℕ) → k < a + n → P (gain_line gains k)) → All P (flat_map (three_lines s rotations needs gains) (range_with_len a n))
+three_all P s rotations needs gains a zero twos each = λ k d l. absurd (omega arith)
+three_all P s rotations needs gains a (suc n) twos each =
+    let later : All P (flat_map (two_lines s rotations needs) (range_with_len (a + 1) n)) = λ k d l. twos (suc (suc k)) d (omega (arith, l)) in
+    let rest = flat_map (three_lines s rotations needs gains) (range_with_len (a + 1) n) in
+    All-cons P (shown_row false s rotations needs a) (shown_row true s rotations needs a ∷ gain_line gains a ∷ rest) (twos 0 LineData.End (omega arith))
+    (All-cons P (shown_row true s rotations needs a) (gain_line gains a ∷ rest) (twos 1 LineData.End (omega arith))
+    (All-cons P (gain_line gains a) rest (each a (omega arith))
+    (three_all P s rotations needs gains (a + 1) n later (λ k l. each k (omega (arith, l))))))
+
+-- a line of a flow
+edge_sound : (w : Written) (line : FlowLine) → IsFlowLine line → IsLineOf (Two w) (edge_line line)
+edge_sound w line x = record { printable = tt; seats = λ k d l. absurd (omega arith); numbers = (x.from, x.to, x.amount); head = tt }
+
+module _ {w : Written} {s : Seating} (i : IsInstance w) (h : IsSeating w s) (found : Lightest) (f : IsFound w s found) (p : IsPoset found.basis.poset) where
+  gain_light : (k : ℕ) → k < length found.basis.poset.rotations → unsigned_abs (slice_index_or found.gains.items k (pos 0)) ≤ 9223372036854775807
+  gain_light k here =
+      let poset = found.basis.poset in
+      let g = gain_of poset.lists (weights_of found.by w s) in
+      let is : slice_index_or found.gains.items k (pos 0) ≡ g (rotation_at poset.rotations k) =
+      ap (λ (xs : List ℤ). slice_index_or xs k (pos 0)) (f.gains ∙ f.lightest.gains) ∙ get_or-map g poset.rotations k [] (pos 0) here in
+      let size = gain_size poset.lists (weights_of found.by w s) f.light (rotation_at poset.rotations k) in
+      let few = pairs_of_few p.market p.printed.chain p.limits k here in
+      subst (λ z. unsigned_abs z ≤ 9223372036854775807) (sym is) (omega (arith, size, few))
+
+  total_light : unsigned_abs found.total ≤ 9223372036854775807
+  total_light =
+      let m = found.matching.places in
+      let is : found.total ≡ weight_of s.market (weights_of found.by w s) m = f.total ∙ sym (h.weights found.by m f.made.matching) in
+      let size = weight_size s.market (weights_of found.by w s) f.light m in
+      let many = ap (λ (l : Lists). length l.proposers) f.market in
+      subst (λ z. unsigned_abs z ≤ 9223372036854775807) (sym is) (omega (arith, size, many, p.limits.proposers))
+
+  stable_there : IsStable s.market found.matching.places
+  stable_there =
+      let poset = found.basis.poset in
+      subst (λ (l : Lists). IsStable l found.matching.places) f.market
+      (subst (IsStable poset.lists) (sym (f.places ∙ ap (set_matching poset) f.taken)) f.lightest.lightest.stable)
+
+  few_taken : length found.taken.members.items < 2 ^ 24
+  few_taken = let long = ap length f.taken in omega (arith, long, f.lightest.closed.one_each, p.few)
+
+  pub given_sound : (needs : List (List ℕ)) → AreNeeds found.basis.poset.lists found.basis.poset.rotations needs
+      → All (IsLineOf (Two w)) (weight_given s found found.basis.poset.first.places found.basis.poset.rotations needs)
+  given_sound needs n =
+      let P = IsLineOf (Two w) in
+      let poset = found.basis.poset in
+      let first = poset.first.places in
+      let rotations = poset.rotations in
+      let gains = found.gains.items in
+      let m = found.matching.places in
+      let printed : IsPrintedChain s.market first rotations = subst (λ (l : Lists). IsPrintedChain l first rotations) f.market p.printed in
+      let needed : AreNeeds s.market rotations needs = subst (λ (l : Lists). AreNeeds l rotations needs) f.market n in
+      let whole = rotations_given_sound (Two w) i h first rotations needs refl printed p.few needed.each in
+      let firsts_given = lines_from (seat_line Proposers s first) 0 (length s.market.proposers - 0) in
+      let twos_given = lines_of_rotations s rotations needs 0 in
+      let behind : All P (firsts_given ++ (twos_given ++ LineData.End ∷ [])) = λ k d l. whole (suc k) d (omega (arith, l)) in
+      let firsts = left_all P firsts_given (twos_given ++ LineData.End ∷ []) behind in
+      let twos = left_all P twos_given (LineData.End ∷ []) (right_all P firsts_given (twos_given ++ LineData.End ∷ []) behind) in
+      let threes = three_all P s rotations needs gains 0 (length rotations - 0) twos (λ k l. record {
+        printable = tt;
+        seats = λ k d l. absurd (omega arith);
+        numbers = (record { least = omega arith; greatest = omega (arith, l, p.few) }, gain_light k (omega (arith, l)));
+        head = tt;
+      }) in
+      let flow = All-map P edge_line found.flow.items (λ k d l. edge_sound w (get_or found.flow.items k d) (f.numbers k d l)) in
+      let taken = LineData.Taken (member_numbers found.taken.members.items (length found.taken.members.items)) in
+      let value = LineData.Value found.value in
+      let cut = LineData.Cut found.value in
+      let total = LineData.Total found.total in
+      let figures : All P (lines_from (λ i. Some (figure_line found i)) 0 (4 - 0)) =
+      All-cons P taken (value ∷ cut ∷ total ∷ []) (record { printable = tt; seats = λ k d l. absurd (omega arith); numbers = are_rotations found.taken.members.items (length found.taken.members.items) few_taken; head = tt })
+      (All-cons P value (cut ∷ total ∷ []) (record { printable = tt; seats = λ k d l. absurd (omega arith); numbers = found.large; head = tt })
+      (All-cons P cut (total ∷ []) (record { printable = tt; seats = λ k d l. absurd (omega arith); numbers = found.large; head = tt })
+      (one_all P total (record { printable = tt; seats = λ k d l. absurd (omega arith); numbers = total_light; head = tt })))) in
+      let pairs = lines_all P (seated_pair_line s m) (λ p. subst (λ o. All P (line_or_none o)) (sym (pair_alike h m stable_there p)) (pair_sound w (written_of s m.proposers) (h.forgotten m stable_there).matching p)) 0 (length s.market.proposers - 0) in
+      let figures_given = lines_from (λ i. Some (figure_line found i)) 0 (4 - 0) in
+      let pairs_given = lines_from (seated_pair_line s m) 0 (length s.market.proposers - 0) in
+      let ends = LineData.End ∷ [] in
+      All-cons P (LineData.Answer (HeadData.Weight found.by)) _ (record { printable = tt; seats = λ k d l. absurd (omega arith); numbers = tt; head = tt })
+      (All-append P _ _ firsts (All-append P _ _ threes (All-append P (map edge_line found.flow.items) (figures_given ++ (pairs_given ++ ends)) flow
+      (All-append P figures_given (pairs_given ++ ends) figures (All-append P pairs_given ends pairs (one_all P LineData.End (end_sound (Two w))))))))
+
+-- by the values from which they are read
+pub weight_sound : (input : Input) (w : Written) (s : Seating) (found : Lightest) (first : Places) (rotations : List (List (ℕ × ℕ))) (needs : List (List ℕ)) → input ≡ Two w → IsInstance w → IsSeating w s → IsFound w s found
+    → IsPoset found.basis.poset → first ≡ found.basis.poset.first.places → rotations ≡ found.basis.poset.rotations → AreNeeds found.basis.poset.lists found.basis.poset.rotations needs
+    → All (IsLineOf input) (weight_given s found first rotations needs)
+weight_sound input w s found first rotations needs two i h f p ef er n =
+    subst (λ (i : Input). All (IsLineOf i) (weight_given s found first rotations needs)) (sym two)
+    (subst (λ (x : Places). All (IsLineOf (Two w)) (weight_given s found x rotations needs)) (sym ef)
+    (subst (λ (x : List (List (ℕ × ℕ))). All (IsLineOf (Two w)) (weight_given s found found.basis.poset.first.places x needs)) (sym er) (given_sound i h found f p needs n)))
+
+-- that nothing is allowed is said by lines of the instance
+pub none_sound : (by : Measure) (input : Input) (w : Written) → input ≡ Two w → All (IsLineOf input) (none_lines by)
+none_sound by input w two =
+    let P = IsLineOf (Two w) in
+    subst (λ (i : Input). All (IsLineOf i) (none_lines by)) (sym two)
+    (All-cons P (LineData.Answer (HeadData.Weight by)) (LineData.Nothing ∷ LineData.End ∷ []) (record { printable = tt; seats = λ k d l. absurd (omega arith); numbers = tt; head = tt })
+    (All-cons P LineData.Nothing (LineData.End ∷ []) (record { printable = tt; seats = λ k d l. absurd (omega arith); numbers = tt; head = tt })
+    (one_all P LineData.End (end_sound (Two w)))))

@@ -1,0 +1,50 @@
+-- How great weights and gains can be.
+use Rattle.std.proofs.Common.{ℕ, zero, suc, ◌*◌, ◌≤◌, List, [], length, get_or, ℤ, pos, ◌+ℤ◌, ◌-ℤ◌, sym, subst, arith, inl, inr}
+use Rattle.std.specs.Int.RustNames.{unsigned_abs}
+use Rattle.std.proofs.lemmas.Bool.{cases_lt}
+use Rattle.std.proofs.lemmas.Int.{ints}
+use Rattle.std.proofs.lemmas.List.{get_or_past}
+use Rattle.sm_market.specs.Lists.{Lists, place_of}
+use Rattle.sm_market.specs.Matching.{Places, held}
+use Rattle.sm_theory.specs.Rotations.{proposer_at, reviewer_at, target_at}
+use Rattle.sm_theory.specs.Weights.{total, weight_at, weight_of, weight_of_place, gain_of}
+use Rattle.std.proofs.Common.{Option, Some, None}
+use Rattle.sm_lightest.specs.PlaceWeights.{IsLight, AreLight}
+use Rattle.sm_lightest.proofs.PlaceLemmas.{light_at}
+
+sum_size : (a b : ℤ) (n : ℕ) → unsigned_abs a ≤ 2000000000 * n → unsigned_abs b ≤ 2000000000 → unsigned_abs (a +ℤ b) ≤ 2000000000 * suc n
+sum_size a b n x y = omega (arith, ints)
+
+less_size : (a b : ℤ) → IsLight a → IsLight b → unsigned_abs (a -ℤ b) ≤ 2000000000
+less_size a b x y = omega (arith, ints)
+
+pub total_size : (f : ℕ → ℤ) (n : ℕ) → ((i : ℕ) → unsigned_abs (f i) ≤ 2000000000) → unsigned_abs (total f n) ≤ 2000000000 * n
+total_size f zero each = omega (arith, ints)
+total_size f (suc n) each = sum_size (total f n) (f n) n (total_size f n each) (each n)
+
+-- a place that isn't there weighs nothing
+light_any : (weights : List (List ℤ)) → AreLight weights → (p i : ℕ) → IsLight (weight_at weights p i)
+light_any weights light p i = elim (cases_lt i (length (get_or weights p []))) [
+  | inl on ↦ light_at weights light p i on
+  | inr past ↦ subst IsLight (sym (get_or_past (get_or weights p []) i (pos 0) past)) none
+]
+  where
+    none : IsLight (pos 0)
+    none = omega arith
+
+light_of_place : (weights : List (List ℤ)) → AreLight weights → (p : ℕ) (o : Option ℕ) → IsLight (weight_of_place weights p o)
+light_of_place weights light p None = omega arith
+light_of_place weights light p (Some i) = light_any weights light p i
+
+twice : (z : ℤ) → IsLight z → unsigned_abs z ≤ 2000000000
+twice z light = omega arith
+
+pub gain_size : (l : Lists) (weights : List (List ℤ)) → AreLight weights → (rotation : List (ℕ × ℕ)) → unsigned_abs (gain_of l weights rotation) ≤ 2000000000 * length rotation
+gain_size l weights light rotation = total_size _ (length rotation) (λ i. less_size
+    (weight_at weights (proposer_at rotation i) (place_of l.proposers (proposer_at rotation i) (target_at rotation i)))
+    (weight_at weights (proposer_at rotation i) (place_of l.proposers (proposer_at rotation i) (reviewer_at rotation i)))
+    (light_any weights light (proposer_at rotation i) (place_of l.proposers (proposer_at rotation i) (target_at rotation i)))
+    (light_any weights light (proposer_at rotation i) (place_of l.proposers (proposer_at rotation i) (reviewer_at rotation i))))
+
+pub weight_size : (l : Lists) (weights : List (List ℤ)) → AreLight weights → (m : Places) → unsigned_abs (weight_of l weights m) ≤ 2000000000 * length l.proposers
+weight_size l weights light m = total_size _ (length l.proposers) (λ p. twice (weight_of_place weights p (held m.proposers p)) (light_of_place weights light p (held m.proposers p)))

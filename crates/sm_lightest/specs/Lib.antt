@@ -1,0 +1,6 @@
+pub mod WeightAnswer
+pub mod PlaceWeights
+pub mod Found
+pub mod Rows
+pub mod Given
+pub mod Witnesses

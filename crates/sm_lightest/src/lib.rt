@@ -1,0 +1,19 @@
+//! The answer of `weight`.
+//!
+//! [`find_lightest`] finds the lightest stable matching that the conditions of an instance allow, with a flow that shows that
+//! none is lighter; [`lightest_lines`] lends them as lines. [`none_lines`] says that nothing is allowed.
+#![tactic(auto)]
+
+mod answer;
+mod figures;
+mod finding;
+mod gained_lines;
+mod lightest_parts;
+mod place_weights;
+pub mod witnesses;
+
+pub use answer::{LightestLines, NoneLines, lightest_lines, none_lines};
+pub use figures::{Figures, FlowLines};
+pub use finding::find_lightest;
+pub use gained_lines::{GainedLines, Part};
+pub use lightest_parts::Lightest;
