@@ -1,5 +1,7 @@
 """`draw` on the examples against stored pictures, and against all stable matchings found by trying all matchings."""
+import itertools
 import os
+import random
 import re
 import subprocess
 import sys
@@ -54,6 +56,27 @@ def copies(count):
         firsts += [f'first {p} {a}', f'first {q} {b}']
         rotations += [f'rotation {i} {p} {a} {q} {b}', f'needs {i} -']
     return '\n'.join(['stable 1 marriage', *lines, 'end', '']), '\n'.join(['answer rotations', *firsts, *rotations, 'end', ''])
+
+
+def sets_of(answer, conditions):
+    """The sets of rotations, as tuples, whose matchings are stable and allowed, by an answer of `rotations` alone."""
+    first, rotations, needs = {}, {}, {}
+    for line in answer.splitlines():
+        keyword, *fields = line.split(' ')
+        if keyword == 'first':
+            first[fields[0]] = fields[1]
+        elif keyword == 'rotation':
+            rotations[int(fields[0])] = dict(zip(fields[1::2], fields[4::2] + fields[2:3]))
+        elif keyword == 'needs':
+            needs[int(fields[0])] = {int(it) for it in fields[1:] if it != '-'}
+    for chosen in itertools.product((False, True), repeat=len(rotations)):
+        closed = {i for i, it in enumerate(chosen, 1) if it}
+        has = dict(first)
+        for i in sorted(closed):
+            has.update(rotations[i])
+        held = {(p, seat.split('/')[0]) for p, seat in has.items()}
+        if all(needs[i] <= closed for i in closed) and all(((p, r) in held) == (it == 'force') for it, p, r in conditions):
+            yield tuple(sorted(closed))
 
 
 class Draw(unittest.TestCase):
@@ -236,6 +259,80 @@ class Draw(unittest.TestCase):
         answer = example('two_by_two.rotations').replace('\n', '\r\n')
         self.assertEqual(draw(other, answer, '--lattice'), draw(text, example('two_by_two.rotations'), '--lattice'))
 
+    def test_net(self):
+        """By hand: the source gives rotation 2 what rotation 1, which it needs, takes to the sink."""
+        status, picture, fault = draw(example('weighed.txt'), example('weighed.weight_given'), '--net')
+        self.assertEqual((status, fault), (0, ''))
+        self.assertEqual(picture, text_of(os.path.join(HERE, 'weighed_net.dot')))
+        self.assertEqual(edges_of(picture), {('S', '2'): 'label=" 4 of 14"', ('2', '1'): 'label=" 4"',
+                                             ('1', 'T'): 'label=" 4 of 4", color="#c0392b"'})
+        self.assertIn('label="flow 4, cut 4, weight -10";', picture)
+        self.assertEqual(edges_of(draw(example('weighed.txt'), example('weighed.weight_ranks'), '--net')[1]),
+                         {('2', '1'): 'style=dashed'})
+        status, picture, fault = draw(example('forbidden.txt'), example('forbidden.weight_ranks'), '--net')
+        self.assertEqual((status, picture), (1, ''))
+        self.assertIn('no stable matching is allowed', fault)
+
+    def conditions_agree(self, text, answer, seed):
+        """The sets that no edge without a bound leaves are those of the matchings that some conditions allow."""
+        chance = random.Random(seed)
+        names = [re.findall(rf'^{side} (\w+)', text, re.M) for side in 'pr']
+        conditions = [(chance.choice(('force', 'forbid', 'forbid')), *map(chance.choice, names)) for _ in range(2)]
+        allowed = set(sets_of(answer, conditions))
+        if not allowed:
+            return 0
+        text = text.replace('end\n', ''.join(' '.join(it) + '\n' for it in conditions) + 'end\n')
+        count = answer.count('needs ')
+        for i in range(count):
+            answer = re.sub(rf'^(needs {i + 1} .*)$', rf'\1\ngain {i + 1} 0', answer, flags=re.M)
+        taken = ' '.join(map(str, min(allowed))) or '-'
+        answer = answer.replace('answer rotations', 'answer weight by=ranks')
+        answer = answer.replace('end\n', f'taken {taken}\nvalue 0\ncut 0\ntotal 0\nend\n')
+        status, picture, fault = draw(text, answer, '--net')
+        self.assertEqual((status, fault), (0, ''))
+        edges = [(tail, head) for tail, head in edges_of(picture)]
+        found = set()
+        for chosen in itertools.product((False, True), repeat=count):
+            inside = {'S', *(str(i) for i, it in enumerate(chosen, 1) if it)}
+            if not any(tail in inside and head not in inside for tail, head in edges):
+                found.add(tuple(i for i, it in enumerate(chosen, 1) if it))
+        self.assertEqual(found, allowed, (text, answer))
+        return len(allowed)
+
+    def test_conditions(self):
+        counts = set()
+        for seed in range(40):
+            text = brute.made(seed)
+            counts.add(self.conditions_agree(text, brute.answer_of(brute.Market(text)), seed))
+            text = brute.made_hospitals(seed)
+            answer = brute.answer_of(brute.seated(brute.Market(text))).replace('.', '/')
+            counts.add(self.conditions_agree(text, answer, seed))
+        self.assertTrue({0, 1, 2, 3} <= counts, counts)
+
+    def test_wrong_nets(self):
+        """Each with the line at which it is refused, where there is one."""
+        right = example('weighed.weight_given')
+        for old, new, line, what in (
+                ('answer weight', 'answer rotations', 1, 'not of `weight`'),
+                ('gain 2 -14\n', '', None, 'has one `gain` line'),
+                ('flow S 2 4', 'flow S 1 4', 11, 'no edge from S to 1'),
+                ('flow S 2 4', 'flow S 2 15', 11, 'from 1 to its room'),
+                ('flow 1 T 4', 'flow 1 T 0', 12, 'from 1 to its room'),
+                ('flow 1 T 4', 'flow 1 T 3', None, 'flows into rotation 1'),
+                ('flow 1 T 4', 'flow U T 4', 12, 'no line of an answer'),
+                ('taken 1 2', 'taken 1 3', 14, 'there are 2 rotations'),
+                ('taken 1 2', 'taken 2', 14, 'without a bound'),
+                ('taken 1 2\n', '', None, '0 `taken` lines'),
+                ('value 4', 'value 5', 15, '4 flows'),
+                ('cut 4', 'cut 14', 16, 'room for 4'),
+                ('total -10\npair m1 c', 'pair m1 c\ntotal -10', 18, 'out of its place'),
+        ):
+            status, picture, fault = draw(example('weighed.txt'), right.replace(old, new, 1), '--net')
+            self.assertEqual((status, picture), (1, ''), new)
+            self.assertIn(what, fault)
+            if line:
+                self.assertIn(f'standard input:{line}: ', fault)
+
     def test_svg(self):
         """Without `dot` it says what to install; a graph is drawn where it is there."""
         with tempfile.TemporaryDirectory() as folder:
@@ -249,7 +346,7 @@ class Draw(unittest.TestCase):
                 self.assertIn('m1: a to b', text_of(file))
 
     def test_words(self):
-        for words in (['--most', '0'], ['--most', 'x'], ['--latt'], ['--net'], ['a', 'b']):
+        for words in (['--most', '0'], ['--most', 'x'], ['--latt'], ['--net', '--lattice'], ['a', 'b']):
             self.assertEqual(draw(example('two_by_two.txt'), '', *words)[0], 2, words)
 
 
