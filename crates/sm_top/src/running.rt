@@ -43,6 +43,9 @@ use std::alloc::Global;
 ///   behind the cursor, in their order and at most so many as the limit (after section 3.3 there); for `pairs` the pairs of
 ///   all stable matchings, and which of them are in each (section 2.3.3 there); for `regret` the least regret of an allowed
 ///   stable matching, and of those that have it the pairs of the one that is best for all proposers (Gusfield 1987); for
+///   `weight` what `rotations` has, the gain of each rotation, a greatest flow in the net that needs, gains and conditions
+///   make, with the rotations that it takes and a cut of its value, and the total and the pairs of the lightest allowed
+///   stable matching, of several the one that is best for all proposers (Irving, Leather and Gusfield 1987); for
 ///   `meet` and `join` the pairs of two stable matchings, which are read behind `end`, and those of the matching in which
 ///   each proposer has the better of its two partners, or the worse (section 1.3.1 there); for `survey` how many allowed
 ///   stable matchings are listed from the first on, up to the limit, and what the tallies show that were told of each of
@@ -50,14 +53,14 @@ use std::alloc::Global;
 ///   writes for it.
 /// - `Refused`: the input is refused for this reason, at this line; the one line `refused NAME LINE` is written. An input
 ///   that is too long comes first, then the faults of its lines from the top, then a missing `end`, then a name that isn't
-///   declared, then text behind `end` where the command takes none, then a kind that the command doesn't take, then seats that have more than 1,048,576
-///   entries. Then come a cursor that hasn't a number for each proposer, for `list`; and for `meet` and `join` the first
+///   declared, then text behind `end` where the command takes none, then a kind that the command doesn't take, then seats
+///   that have more than 1,048,576 entries. Then come a cursor that hasn't a number for each proposer, for `list`; and for `meet` and `join` the first
 ///   line behind `end` that can't stand where it stands, then, with four more fields, the first pair that can't be held
 ///   beside those before it, then, at the closing `end`, a pair that blocks the left matching, then one that blocks the
 ///   right one.
 /// - `NoneExists`: the whole answer is written, and says that there is no such matching. For `solve` it is `none`, where
 ///   roommates have no stable matching, and the parties of a stable partition that has an odd one of three or more (Tan
-///   1991), and so for `make` with `show=summary`; for `regret` it is `none` alone, where no stable matching is allowed.
+///   1991), and so for `make` with `show=summary`; for `regret` and `weight` it is `none` alone, where no stable matching is allowed.
 /// - `Usage`: the words are faulty; the one line `usage WORD` is written.
 /// - `ReadFault`, `WriteFault`: the source or the sink failed. Nothing was written, or a front of the answer.
 /// - `OutOfMemory`: there was no memory. Nothing was written, or a front of the answer.
@@ -65,9 +68,11 @@ use std::alloc::Global;
 /// The tallies are fed by `survey`, and by `make` with `show=summary`, and dropped.
 ///
 /// What is written is added to what the sink held. It depends on the bytes that the source gave and not on how they were cut.
-/// Takes time and memory linear in the bytes for `solve`, `reduced`, `meet` and `join`, beside a look-up for each name. For the others those of [`sm_rotations::chain`] and
-/// [`sm_poset::Poset::of`] come besides, and then those of [`sm_listing::start_list`] and of each step for `list`, and of
-/// [`sm_partners::find_pairs`] and [`sm_partners::find_regret`] for `pairs` and `regret`.
+/// Takes time and memory linear in the bytes for `solve`, `reduced`, `meet` and `join`, beside a look-up for each name, and
+/// for `make` in those that are written. For the others those of [`sm_rotations::chain`] and [`sm_poset::Poset::of`] come
+/// besides, and then those of [`sm_listing::start_list`] and of each step for `list` and `survey`, of
+/// [`sm_partners::find_pairs`] and [`sm_partners::find_regret`] for `pairs` and `regret`, and of
+/// [`sm_lightest::find_lightest`] for `weight`.
 pub fn run<S: Source, K: Sink>(
     alloc: Global,
     words: &[String],
