@@ -5,3 +5,5 @@ pub mod Sets
 pub mod Places
 pub mod Marks
 pub mod Links
+pub mod Best
+pub mod NoneBelow

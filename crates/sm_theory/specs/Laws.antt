@@ -4,7 +4,7 @@ use Rattle.sm_market.specs.Lists.{Lists, row, entry, place_of, IsMarket, reverse
 use Rattle.sm_market.specs.Matching.{Places, held, standing, reversed}
 use Rattle.sm_market.specs.Stable.{IsStable, IsProposersBest, IsReviewersBest}
 use Rattle.sm_theory.specs.Lattice.{meet_of, join_of}
-use Rattle.sm_theory.specs.Rotations.{proposer_at, target_at, IsExposed, eliminated}
+use Rattle.sm_theory.specs.Rotations.{proposer_at, target_at, IsExposed, IsNoneBelow, eliminated}
 use Rattle.sm_theory.specs.Chains.{rotation_at, IsCompleteChain, IsNeededBy}
 use Rattle.sm_theory.specs.ClosedSets.{IsClosed, matching_of, Correspondence, IsReady, IsSameCycle}
 use Rattle.sm_theory.specs.Vectors.{level_vector_of, IsAllowed, IsWithin}
@@ -51,6 +51,17 @@ NothingExposed = (l : Lists) (m : Places) → IsMarket l → IsStable l m → ((
 abbrev pub NothingExposedBack : Type 0
 NothingExposedBack = (l : Lists) (m : Places) → IsMarket l → IsStable l m → ((rotation : List (ℕ × ℕ)) → ¬ IsExposed (reversed_lists l) (reversed m) rotation)
     → IsProposersBest l m
+
+-- a stable matching at which a rotation is exposed isn't the reviewers' best, and with the sides exchanged it isn't the
+-- proposers' best (Gusfield and Irving 1989, section 2.5)
+abbrev pub ExposedIsNotBest : Type 0
+ExposedIsNotBest = (l : Lists) (m : Places) (rotation : List (ℕ × ℕ)) → IsMarket l → IsStable l m
+    → (IsExposed l m rotation → ¬ IsReviewersBest l m)
+    × (IsExposed (reversed_lists l) (reversed m) rotation → ¬ IsProposersBest l m)
+
+-- where no exposed rotation has a proposer below their number, none is exposed
+abbrev pub NoneBelowAll : Type 0
+NoneBelowAll = (l : Lists) (m : Places) → IsMarket l → IsStable l m → IsNoneBelow l m (length l.proposers) → (rotation : List (ℕ × ℕ)) → ¬ IsExposed l m rotation
 
 -- there is no more than one best matching for each side
 abbrev pub BestIsUnique : Type 0

@@ -34,6 +34,10 @@ pub record IsExposed (l : Lists) (m : Places) (rotation : List (ℕ × ℕ)) : T
 pub record IsNothingExposed (l : Lists) (m : Places) : Type 0 where
   pub none : (other : List (ℕ × ℕ)) → ¬ IsExposed l m other
 
+-- no exposed rotation has a proposer below the bound
+pub record IsNoneBelow (l : Lists) (m : Places) (bound : ℕ) : Type 0 where
+  pub none : (other : List (ℕ × ℕ)) → IsExposed l m other → (i : ℕ) → i < length other → bound ≤ proposer_at other i
+
 -- an exposed rotation that begins with the lowest-numbered proposer of all exposed rotations
 pub record IsLowestExposed (l : Lists) (m : Places) (rotation : List (ℕ × ℕ)) : Type 0 where
   pub exposed : IsExposed l m rotation

@@ -7,7 +7,7 @@ ghost use Rattle.sm_theory.specs.LawsFlows.{NoFlowAboveCut, ReachIsLeastCut, Cut
 ghost use Rattle.sm_theory.specs.LawsListing.{SetsAreOrdered, MovesFollow, NextMoveIsIn, JoinKeepsBounds, VectorsAreOrdered, NextVector, ListingExists, OneListing, ListingResumes};
 ghost use Rattle.sm_theory.specs.LawsPairs.{StablePlaces, RegretByBound};
 ghost use Rattle.sm_theory.specs.LawsRooms.{OddPartyExcludes, SameOddParties, SamePersons, PartiesPair, EvenPartiesPair, RestIsStable};
-ghost use Rattle.sm_theory.specs.Laws.{MeetIsStable, JoinIsStable, PairIsDivided, Dichotomy, EliminationIsStable, NothingExposed, NothingExposedBack, BestIsUnique, PredecessorIsEarlier, SetsAreMatchings, ExposedWhereReady, AllInTheChain, MeetKeepsBounds, WeightIsSumOfGains, LevelsDetermine};
+ghost use Rattle.sm_theory.specs.Laws.{MeetIsStable, JoinIsStable, PairIsDivided, Dichotomy, EliminationIsStable, NothingExposed, NothingExposedBack, ExposedIsNotBest, NoneBelowAll, BestIsUnique, PredecessorIsEarlier, SetsAreMatchings, ExposedWhereReady, AllInTheChain, MeetKeepsBounds, WeightIsSumOfGains, LevelsDetermine};
 
 /// The meet of two stable matchings is stable, and each proposer stands in it as in the better of the two
 /// (Gusfield and Irving 1989, theorem 1.3.2).
@@ -52,6 +52,17 @@ pub fn nothing_exposed()
 /// A stable matching at which no rotation is exposed once the sides are exchanged is the proposers' best.
 pub fn nothing_exposed_back()
     ensures { NothingExposedBack }
+{}
+
+/// A stable matching at which a rotation is exposed isn't the reviewers' best, and one at which a rotation is exposed once
+/// the sides are exchanged isn't the proposers' best.
+pub fn exposed_is_not_best()
+    ensures { ExposedIsNotBest }
+{}
+
+/// Where no exposed rotation has a proposer below the number of the proposers, no rotation is exposed.
+pub fn none_below_all()
+    ensures { NoneBelowAll }
 {}
 
 /// There is no more than one proposers' best matching, and no more than one reviewers' best.
