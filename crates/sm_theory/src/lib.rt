@@ -4,10 +4,12 @@
 //! given matching what the laws speak of (Gusfield and Irving 1989, chapters 1 to 3).
 #![tactic(auto)]
 
+mod flow_lines;
 pub mod laws;
 mod rotations;
 mod sets;
 pub mod witnesses;
 
+pub use flow_lines::FlowLine;
 pub use rotations::{Rotation, is_exposed, successor};
 pub use sets::{Chain, ClosedSet};
