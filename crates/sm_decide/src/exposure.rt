@@ -1,0 +1,1 @@
+//! Which rotations are exposed at a pairing, by the plain definition.
