@@ -7,3 +7,6 @@
 #![tactic(auto)]
 
 mod exposure;
+mod trail;
+
+pub use exposure::Search;

@@ -48,8 +48,7 @@ impl Trail {
 
     /// How many numbers were come by.
     pub(crate) fn len(&self) -> u32
-        ensures count { result ≡ length self.now.items }
-        ensures trail { IsTrail self.now }
+        ensures { result ≡ length self.now.items }
     {
         self.count
     }
@@ -77,6 +76,7 @@ impl Trail {
         requires has { Contains self.now.items p }
         ensures in_trail { result < length self.now.items }
         ensures is { slice_index self.now.items result ≡ p }
+        ensures trail { IsTrail self.now }
     {
         self.spots[p as usize]
     }
