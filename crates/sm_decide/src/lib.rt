@@ -7,6 +7,8 @@
 #![tactic(auto)]
 
 mod exposure;
+mod flow_sums;
 mod trail;
 
 pub use exposure::Search;
+pub use flow_sums::{amount_from_source, is_conserved};
