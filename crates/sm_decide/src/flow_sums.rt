@@ -1,8 +1,8 @@
 //! What the lines of a flow carry from the nodes and to them.
 
 ghost use Rattle.std.specs.Prelude.{◌≡◌, ℕ, ◌+◌, ◌<◌, ◌^◌, ◌↔◌, length, slice_index, IfOk, IsTrue};
-ghost use Rattle.sm_theory.specs.FlowLines.{amount_on, amount_from, amount_to, IsConserved};
-ghost use Rattle.sm_decide.specs.FlowSums.{AreOnSome, AreSums, carried_from, carried_to};
+ghost use Rattle.sm_theory.specs.FlowLines.{amount_on, amount_from, amount_to, AreOnNodes, IsConserved};
+ghost use Rattle.sm_decide.specs.FlowSums.{AreSums, carried_from, carried_to};
 
 use sm_theory::FlowLine;
 use std::alloc::{AllocError, Global};
@@ -29,7 +29,7 @@ pub fn amount_from_source(lines: &[FlowLine]) -> u128
 /// `AllocError` where memory ran out, and only then.
 pub fn is_conserved(alloc: Global, size: u32, lines: &[FlowLine]) -> Result<bool, AllocError>
     requires few { size + 2 < 2 ^ 32 }
-    requires nodes { AreOnSome (size + 2) lines.now }
+    requires nodes { AreOnNodes (size + 2) lines.now }
     ensures { IfOk result (λ answer. IsTrue answer ↔ IsConserved size lines.now) }
 {
     let come = amounts_to(alloc, size + 2, lines)?;
@@ -53,7 +53,7 @@ fn are_equal_inside(size: u32, come: &[u128], left: &[u128]) -> bool
 
 /// What comes to each node.
 fn amounts_to(alloc: Global, nodes: u32, lines: &[FlowLine]) -> Result<Vec<u128>, AllocError>
-    requires nodes { AreOnSome nodes lines.now }
+    requires nodes { AreOnNodes nodes lines.now }
     ensures { IfOk result (λ sums. AreSums nodes (amount_to lines.now) sums.items) }
 {
     let mut sums = vec![in alloc; 0; nodes as usize]?;
@@ -65,7 +65,7 @@ fn amounts_to(alloc: Global, nodes: u32, lines: &[FlowLine]) -> Result<Vec<u128>
 
 /// What leaves each node.
 fn amounts_from(alloc: Global, nodes: u32, lines: &[FlowLine]) -> Result<Vec<u128>, AllocError>
-    requires nodes { AreOnSome nodes lines.now }
+    requires nodes { AreOnNodes nodes lines.now }
     ensures { IfOk result (λ sums. AreSums nodes (amount_from lines.now) sums.items) }
 {
     let mut sums = vec![in alloc; 0; nodes as usize]?;
@@ -82,7 +82,7 @@ pub(crate) fn amounts_from_node(
     lines: &[FlowLine],
     from: u32,
 ) -> Result<Vec<u128>, AllocError>
-    requires nodes { AreOnSome nodes lines.now }
+    requires nodes { AreOnNodes nodes lines.now }
     ensures { IfOk result (λ sums. AreSums nodes (amount_on lines.now from) sums.items) }
 {
     let mut sums = vec![in alloc; 0; nodes as usize]?;
@@ -99,7 +99,7 @@ pub(crate) fn amounts_to_node(
     lines: &[FlowLine],
     to: u32,
 ) -> Result<Vec<u128>, AllocError>
-    requires nodes { AreOnSome nodes lines.now }
+    requires nodes { AreOnNodes nodes lines.now }
     ensures { IfOk result (λ sums. AreSums nodes (λ from. amount_on lines.now from to) sums.items) }
 {
     let mut sums = vec![in alloc; 0; nodes as usize]?;
