@@ -2,3 +2,4 @@ pub mod TrailLemmas
 pub mod SafeLemmas
 pub mod PathLemmas
 pub mod FlowLemmas
+pub mod PairLemmas

@@ -1,3 +1,5 @@
 pub mod Trails
 pub mod Exposure
 pub mod FlowSums
+pub mod Pairs
+pub mod CheckedNets

@@ -8,7 +8,10 @@
 
 mod exposure;
 mod flow_sums;
+mod net;
+mod pairs;
 mod trail;
 
 pub use exposure::Search;
+pub use net::CheckedNet;
 pub use flow_sums::{amount_from_source, is_conserved};
