@@ -3,3 +3,6 @@ pub mod SafeLemmas
 pub mod PathLemmas
 pub mod FlowLemmas
 pub mod PairLemmas
+pub mod NetLemmas
+pub mod RepeatLemmas
+pub mod ReachLemmas

@@ -3,3 +3,5 @@ pub mod Exposure
 pub mod FlowSums
 pub mod Pairs
 pub mod CheckedNets
+pub mod Repeats
+pub mod Reaching

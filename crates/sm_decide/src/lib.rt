@@ -10,8 +10,11 @@ mod exposure;
 mod flow_sums;
 mod net;
 mod pairs;
+mod reaching;
+mod repeats;
 mod trail;
 
 pub use exposure::Search;
 pub use net::CheckedNet;
+pub use repeats::repeated_lines;
 pub use flow_sums::{amount_from_source, is_conserved};
