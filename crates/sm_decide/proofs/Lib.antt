@@ -6,3 +6,5 @@ pub mod PairLemmas
 pub mod NetLemmas
 pub mod RepeatLemmas
 pub mod ReachLemmas
+pub mod PairListLemmas
+pub mod ResidualLemmas

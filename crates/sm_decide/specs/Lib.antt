@@ -5,3 +5,4 @@ pub mod Pairs
 pub mod CheckedNets
 pub mod Repeats
 pub mod Reaching
+pub mod Residual

@@ -12,9 +12,11 @@ mod net;
 mod pairs;
 mod reaching;
 mod repeats;
+mod residual;
 mod trail;
 
 pub use exposure::Search;
+pub use flow_sums::{amount_from_source, is_conserved};
 pub use net::CheckedNet;
 pub use repeats::repeated_lines;
-pub use flow_sums::{amount_from_source, is_conserved};
+pub use residual::is_residual_reach;
