@@ -7,36 +7,27 @@ use Rattle.sm_market.specs.Lists.{Lists, entry, place_of, IsMarket}
 use Rattle.sm_market.specs.Matching.{Places, held, IsMatching}
 use Rattle.sm_market.specs.Pairing.{Paired, IsPairingOf}
 use Rattle.sm_lists.proofs.Counting.{lt_or_le, eq_or_ne, Twice, pigeonhole}
-use Rattle.sm_market.proofs.Core.{Pair, pair_at, one_proposer, one_reviewer}
+use Rattle.sm_market.proofs.Core.{Pair, one_proposer, one_reviewer}
 use Rattle.sm_market.proofs.PlaceLemmas.{place_of-entry}
-use Rattle.sm_lists.proofs.PlaceLemmas.{entry-place_of}
-use Rattle.sm_market.proofs.Bridge.{sides_of, stand_of, fit_of, standing-some}
+use Rattle.sm_market.proofs.Bridge.{sides_of, stand_of}
 use Rattle.sm_market.proofs.PairingLemmas.{held_in_range}
 use Rattle.sm_theory.specs.Rotations.{IsSuccessor, IsLink, IsExposed, proposer_at, reviewer_at, target_at, next_in, IsNothingExposed, IsLowestExposed}
 use Rattle.sm_theory.proofs.Core.Cycle.{Succ, succ_unique, turn, turn_in, turn_last, turn_more}
-use Rattle.sm_theory.proofs.Bridge.Rotation.{succ_of, exposed_of}
+use Rattle.sm_theory.proofs.Bridge.Rotation.{exposed_of}
+-- pairs and successors at their reviewers, passed on
+pub use Rattle.sm_theory.proofs.Bridge.Rotation.{pair_of_held, succ_at}
 use Rattle.sm_theory.proofs.Chains.Links.{exposed_of_links, successor_named}
 use Rattle.sm_rotations.specs.Following.{IsStep, IsWalk, IsRotationFrom, IsInNone}
 
 module _ {l : Lists} (h : IsMarket l) {m : Places} (f : IsMatching l m) where
-  -- whom p holds, as a pair, and its successor
-  pub pair_of_held : (p r : ℕ) → held m.proposers p ≡ Some (place_of l.proposers p r) → Pair (sides_of l h) (stand_of l m) p r
-  pair_of_held p r e =
-      let at = standing-some l.proposers m.proposers p (place_of l.proposers p r) e in
-      let on = f.proposers.on_list p (place_of l.proposers p r) e in
-      pair_at p r (fit_of h f) (omega arith) (sym at)
-
-  pub succ_at : (p r : ℕ) → IsSuccessor l m p (place_of l.proposers p r) → Succ (sides_of l h) (stand_of l m) p r
-  succ_at p r x = rw (entry-place_of l.proposers p r x.on_list) at (succ_of h f p (place_of l.proposers p r) x)
-
   -- a step along a rotation
   step_along : {other : List (ℕ × ℕ)} → IsExposed l m other → (j p r q : ℕ) → j < length other → proposer_at other j ≡ p → IsStep l m p r q → proposer_at other (next_in other j) ≡ q
   step_along {other} x j p r q inside is s =
       let y = exposed_of h f x in
       let one : Succ (sides_of l h) (stand_of l m) p (target_at other j) = rw is at (y.next j inside) in
-      let same : target_at other j ≡ s.target = succ_unique one (succ_at p s.target s.next) in
+      let same : target_at other j ≡ s.target = succ_unique one (succ_at h f p s.target s.next) in
       let here : Pair (sides_of l h) (stand_of l m) (proposer_at other (next_in other j)) s.target = rw same at (y.paired (turn (length other) j) (turn_in (length other) j inside)) in
-      one_proposer here (pair_of_held q s.target s.has)
+      one_proposer here (pair_of_held h f q s.target s.has)
 
   -- the number j stands k numbers behind i round a cycle of n
   record Spot (n i k j : ℕ) : Type 0 where
@@ -113,7 +104,7 @@ module _ {l : Lists} (h : IsMarket l) {m : Places} (f : IsMatching l m) where
   -- the walk goes on, or comes back
   link_of_steps : {p r q r' q' : ℕ} → IsStep l m p r q → IsStep l m q r' q' → IsLink l m p r r'
   link_of_steps {p} {r} {q} {r'} s t =
-      let same : s.target ≡ r' = one_reviewer (pair_of_held q s.target s.has) (pair_of_held q r' t.paired) in
+      let same : s.target ≡ r' = one_reviewer (pair_of_held h f q s.target s.has) (pair_of_held h f q r' t.paired) in
       record { paired = s.paired; next = rw same at s.next }
 
   module _ {p : ℕ} {pairs : List (ℕ × ℕ)} {q : ℕ} (w : IsWalk l m p pairs q) (r next : ℕ) (s : IsStep l m q r next) where

@@ -1,12 +1,10 @@
 -- Pairs that are left once each matched reviewer's list is cut behind its partner: the second one of a matched proposer
 -- tells its successor.
 use Rattle.std.proofs.Common.{◌≡◌, ℕ, ◌<◌, ◌≤◌, inl, inr, arith, refl, sym, ap, ◌∙◌, List, length, Option, Some, None, IsSome, MatchOption}
-use Rattle.std.specs.Option.{option_map}
 use Rattle.std.proofs.lemmas.Option.{same_Some}
 use Rattle.sm_market.specs.Lists.{Lists, row, entry, place_of, IsMarket}
 use Rattle.sm_market.specs.Matching.{Places, held, IsMatching}
 use Rattle.sm_market.specs.Pairing.{Paired, IsPairingOf}
-use Rattle.sm_market.proofs.PairingLemmas.{held_in_range}
 use Rattle.sm_lists.proofs.Counting.{eq_or_ne, less_same_more}
 use Rattle.sm_market.proofs.PlaceLemmas.{place_of-entry}
 use Rattle.sm_lists.proofs.PlaceLemmas.{entry-place_of}
@@ -14,6 +12,8 @@ use Rattle.sm_market.proofs.Bridge.{held_cases, standing-some}
 use Rattle.sm_theory.specs.Rotations.{IsSuccessor, WouldTake}
 use Rattle.sm_accept.specs.Linking.{IsHeld, IsHeldBehind, IsFront}
 use Rattle.sm_theory.proofs.Chains.Links.{successor_named}
+-- whom a reviewer has, passed on
+pub use Rattle.sm_theory.proofs.Chains.Holders.{holder_none, holder_some, next_in_range}
 use Rattle.sm_rotations.specs.Walking.{IsNext}
 
 module _ {l : Lists} (h : IsMarket l) {m : Places} (f : IsMatching l m) {ends : List ℕ} (x : IsFront l m ends) where
@@ -75,41 +75,10 @@ module _ {l : Lists} (h : IsMarket l) {m : Places} (f : IsMatching l m) {ends : 
       no_some None s e = grind (arith, s)
       no_some (Some x) s e = grind arith
 
--- whom a reviewer has, as it is read
-pub record HasHolder (l : Lists) (m : Places) (r q : ℕ) : Type 0 where
-  pub matched : IsSome (held m.reviewers r)
-  pub has : held m.proposers q ≡ Some (place_of l.proposers q r)
-
 module _ {l : Lists} {m : Paired} (made : IsPairingOf l m) where
-  some_is : {x y : ℕ} → Some x ≡ Some y → x ≡ y
-  some_is e = cc
-
-  none_is : {x : ℕ} → ◌≡◌ {A = Option ℕ} None (Some x) → ⊥
-  none_is e = grind arith
-
-  pub holder_none : (r : ℕ) → held m.holders r ≡ None → held m.places.reviewers r ≡ None
-  holder_none r e = go (held m.places.reviewers r) refl
-    where
-      go : (o : Option ℕ) → held m.places.reviewers r ≡ o → held m.places.reviewers r ≡ None
-      go None is = is
-      go (Some k) is = absurd (none_is (sym e ∙ made.names r ∙ ap (option_map (entry l.reviewers r)) is))
-
-  pub holder_some : (r q : ℕ) → held m.holders r ≡ Some q → HasHolder l m.places r q
-  holder_some r q e = go (held m.places.reviewers r) refl
-    where
-      go : (o : Option ℕ) → held m.places.reviewers r ≡ o → HasHolder l m.places r q
-      go None is = absurd (none_is (sym (ap (option_map (entry l.reviewers r)) is) ∙ sym (made.names r) ∙ e))
-      go (Some k) is =
-          let same : q ≡ entry l.reviewers r k = some_is (sym e ∙ made.names r ∙ ap (option_map (entry l.reviewers r)) is) in
-          record { matched = rw is refl; has = rw same (made.matching.reviewers.in_turn r k is) }
-
   pub next_answer : (h : IsMarket l) {ends : List ℕ} → IsFront l m.places ends → (p i j : ℕ) → held m.places.proposers p ≡ Some i → IsHeldBehind l ends p i j → (o : Option ℕ) → held m.holders (entry l.proposers p j) ≡ o
       → MatchOption o ((k : ℕ) → ¬ IsSuccessor l m.places p k) (λ q. IsNext l m.places p q)
-  next_answer h x p i j e w None is = λ k. no_successor_past h made.matching x p i j e w (holder_none (entry l.proposers p j) is) k
+  next_answer h x p i j e w None is = λ k. no_successor_past h made.matching x p i j e w (holder_none made (entry l.proposers p j) is) k
   next_answer h x p i j e w (Some q) is =
-      let v = holder_some (entry l.proposers p j) q is in
+      let v = holder_some made (entry l.proposers p j) q is in
       record { target = entry l.proposers p j; next = successor_named l m.places p j (entry l.proposers p j) h (successor_of h made.matching x p i j e w v.matched) refl; has = v.has }
-
-  pub next_in_range : (r : ℕ) (o : Option ℕ) → held m.holders r ≡ o → MatchOption o (Unit {0}) (λ q. q < length l.proposers)
-  next_in_range r None is = tt
-  next_in_range r (Some q) is = let v = holder_some r q is in held_in_range made.matching.proposers q (place_of l.proposers q r) v.has

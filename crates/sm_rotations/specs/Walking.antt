@@ -3,16 +3,12 @@ use Rattle.std.specs.Prelude.{◌≡◌, ℕ, ◌+◌, ◌<◌, ◌≤◌, ◌�
 use Rattle.sm_market.specs.Lists.{Lists, place_of}
 use Rattle.sm_market.specs.Matching.{Places, held, standing}
 use Rattle.sm_market.specs.Stable.{IsStable}
-use Rattle.sm_theory.specs.Rotations.{IsSuccessor, IsExposed, proposer_at, reviewer_at}
+use Rattle.sm_theory.specs.Rotations.{IsExposed, proposer_at, reviewer_at}
+-- who has whose successor, passed on
+pub use Rattle.sm_theory.specs.Rotations.{IsNext}
 use Rattle.sm_theory.specs.Chains.{rotation_at, stage}
 use Rattle.sm_rotations.specs.declared.walk.WalkStep.{WalkStep}
 use Rattle.sm_rotations.specs.declared.walk.WalkStep.TheVariants.{Over, On, Back}
-
--- q has p's successor
-pub record IsNext (l : Lists) (m : Places) (p q : ℕ) : Type 0 where
-  pub target : ℕ
-  pub next : IsSuccessor l m p (place_of l.proposers p target)
-  pub has : held m.proposers q ≡ Some (place_of l.proposers q target)
 
 -- no stable matching is worse for p
 pub record IsAtWorst (l : Lists) (m : Places) (p : ℕ) : Type 0 where

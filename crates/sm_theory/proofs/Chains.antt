@@ -5,5 +5,6 @@ pub mod Sets
 pub mod Places
 pub mod Marks
 pub mod Links
+pub mod Holders
 pub mod Best
 pub mod NoneBelow

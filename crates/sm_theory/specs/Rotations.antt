@@ -22,6 +22,12 @@ pub record IsSuccessor (l : Lists) (m : Places) (p i : ℕ) : Type 0 where
   pub first : (j : ℕ) → standing l.proposers m.proposers p < j → j < i → ¬ WouldTake l m p j
   pub matched : IsSome (held m.reviewers (entry l.proposers p i))
 
+-- q has p's successor
+pub record IsNext (l : Lists) (m : Places) (p q : ℕ) : Type 0 where
+  pub target : ℕ
+  pub next : IsSuccessor l m p (place_of l.proposers p target)
+  pub has : held m.proposers q ≡ Some (place_of l.proposers q target)
+
 -- a rotation exposed at a matching: a cycle of its pairs in which each proposer's successor is the reviewer of the
 -- next pair (Gusfield and Irving 1989, section 2.5)
 pub record IsExposed (l : Lists) (m : Places) (rotation : List (ℕ × ℕ)) : Type 0 where

@@ -8,7 +8,7 @@ use Rattle.sm_market.specs.Stable.{IsStable}
 use Rattle.sm_market.proofs.CycleLemmas as Cycles
 use Rattle.sm_market.proofs.CycleLemmas.{AreDistinct}
 use Rattle.sm_lists.proofs.Counting.{lt_or_le, less_same_more}
-use Rattle.sm_market.proofs.Core.{pair_at}
+use Rattle.sm_market.proofs.Core.{Pair, pair_at}
 use Rattle.sm_market.proofs.PlaceLemmas.{place_of-entry}
 use Rattle.sm_lists.proofs.PlaceLemmas.{entry-place_of}
 use Rattle.sm_market.proofs.Bridge.{sides_of, stand_of, fit_of, stable_of, unblocked_of, held_cases, held_at, standing-some}
@@ -55,6 +55,16 @@ module _ {l : Lists} (h : IsMarket l) {m : Places} where
       here : entry l.proposers p (place_of l.proposers p r) ≡ r
       here = entry-place_of l.proposers p r x.on
 
+  -- whom p holds, as a pair, and its successor
+  pub pair_of_held : IsMatching l m → (p r : ℕ) → held m.proposers p ≡ Some (place_of l.proposers p r) → Pair (sides_of l h) (stand_of l m) p r
+  pair_of_held f p r e =
+      let at = standing-some l.proposers m.proposers p (place_of l.proposers p r) e in
+      let on = f.proposers.on_list p (place_of l.proposers p r) e in
+      pair_at p r (fit_of h f) (omega arith) (sym at)
+
+  pub succ_at : IsMatching l m → (p r : ℕ) → IsSuccessor l m p (place_of l.proposers p r) → Succ (sides_of l h) (stand_of l m) p r
+  succ_at f p r x = rw (entry-place_of l.proposers p r x.on_list) at (succ_of f p (place_of l.proposers p r) x)
+
   pub exposed_of : IsMatching l m → {rotation : List (ℕ × ℕ)} → IsExposed l m rotation → Exposed (sides_of l h) (stand_of l m) (cycle_of rotation)
   exposed_of f {rotation} x = record {
     some = x.not_empty;
@@ -62,15 +72,8 @@ module _ {l : Lists} (h : IsMarket l) {m : Places} where
       | inl k ↦ absurd (x.distinct i j k b e)
       | inr d ↦ elim d [ inl k ↦ k | inr k ↦ absurd (x.distinct j i k a (sym e)) ]
     ];
-    paired = λ i a.
-        let p : ℕ = proposer_at rotation i in
-        let r : ℕ = reviewer_at rotation i in
-        let at = standing-some l.proposers m.proposers p (place_of l.proposers p r) (x.paired i a) in
-        let on = f.proposers.on_list p (place_of l.proposers p r) (x.paired i a) in
-        pair_at p r (fit_of h f) (omega arith) (sym at);
-    next = λ i a.
-        let p : ℕ = proposer_at rotation i in
-        rw (entry-place_of l.proposers p (target_at rotation i) (x.next i a).on_list) at (succ_of f p (place_of l.proposers p (target_at rotation i)) (x.next i a));
+    paired = λ i a. pair_of_held f (proposer_at rotation i) (reviewer_at rotation i) (x.paired i a);
+    next = λ i a. succ_at f (proposer_at rotation i) (target_at rotation i) (x.next i a);
   }
 
   pub exposed_back : (rotation : List (ℕ × ℕ)) → Exposed (sides_of l h) (stand_of l m) (cycle_of rotation) → IsExposed l m rotation

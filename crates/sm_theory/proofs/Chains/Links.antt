@@ -4,13 +4,13 @@ use Rattle.std.proofs.lemmas.Option.{same_Some}
 use Rattle.sm_market.specs.Lists.{Lists, entry, place_of, IsMarket}
 use Rattle.sm_market.specs.Matching.{Places, held, IsMatching}
 use Rattle.sm_lists.proofs.Counting.{eq_or_ne, less_same_more}
-use Rattle.sm_market.proofs.Core.{Sides, Stand, Pair, pair_at, one_proposer}
+use Rattle.sm_market.proofs.Core.{Sides, Stand, Pair, one_proposer}
 use Rattle.sm_market.proofs.PlaceLemmas.{place_of-entry}
 use Rattle.sm_lists.proofs.PlaceLemmas.{entry-place_of}
-use Rattle.sm_market.proofs.Bridge.{sides_of, stand_of, fit_of, standing-some}
+use Rattle.sm_market.proofs.Bridge.{sides_of, stand_of}
 use Rattle.sm_theory.specs.Rotations.{IsSuccessor, IsLink, IsExposed, proposer_at, reviewer_at, target_at}
 use Rattle.sm_theory.proofs.Core.Cycle.{Cycle, turn, turn_in, turn_last, turn_more, target, Succ, succ_unique}
-use Rattle.sm_theory.proofs.Bridge.Rotation.{cycle_of, succ_of}
+use Rattle.sm_theory.proofs.Bridge.Rotation.{cycle_of, pair_of_held, succ_at}
 
 -- there is no more than one successor
 successor_once : {l : Lists} {m : Places} {p i j : ℕ} → IsSuccessor l m p i → IsSuccessor l m p j → i ≡ j
@@ -65,17 +65,10 @@ exposed_of_links l m rotation h f some links alone = record {
 }
   where
     paired : (i : ℕ) → i < length rotation → Pair (sides_of l h) (stand_of l m) (proposer_at rotation i) (reviewer_at rotation i)
-    paired i a =
-        let p : ℕ = proposer_at rotation i in
-        let r : ℕ = reviewer_at rotation i in
-        let at = standing-some l.proposers m.proposers p (place_of l.proposers p r) (links i a).paired in
-        let on = f.proposers.on_list p (place_of l.proposers p r) (links i a).paired in
-        pair_at p r (fit_of h f) (omega arith) (sym at)
+    paired i a = pair_of_held h f (proposer_at rotation i) (reviewer_at rotation i) (links i a).paired
 
-    next : (i : ℕ) → i < length rotation → Succ (sides_of l h) (stand_of l m) (proposer_at rotation i) (target_at rotation i)
-    next i a =
-        let p : ℕ = proposer_at rotation i in
-        rw (entry-place_of l.proposers p (target_at rotation i) (links i a).next.on_list) at (succ_of h f p (place_of l.proposers p (target_at rotation i)) (links i a).next)
+    next : (i : ℕ) → i < length rotation → Succ (sides_of l h) (stand_of l m) (proposer_at rotation i) (target (cycle_of rotation) i)
+    next i a = succ_at h f (proposer_at rotation i) (target_at rotation i) (links i a).next
 
 -- all pairs tried: exposed exactly where there is a pair
 pub exposed_end : (l : Lists) (m : Places) (pairs rotation : List (ℕ × ℕ)) (n : ℕ) (b : Bool) → IsMatching l m → pairs ≡ rotation → length pairs ≤ n

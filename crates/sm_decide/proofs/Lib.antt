@@ -1,0 +1,3 @@
+pub mod TrailLemmas
+pub mod SafeLemmas
+pub mod PathLemmas
