@@ -13,16 +13,17 @@ use Rattle.sm_instance.specs.Matching.{held, IsAssignment}
 use Rattle.sm_instance.specs.declared.inputs.Input.{Input}
 use Rattle.sm_instance.specs.declared.inputs.Input.TheVariants.{Two}
 use Rattle.sm_instance.proofs.ListLemmas.{row_in_range}
-use Rattle.sm_lattice.specs.Choices.{chosen}
-use Rattle.sm_lattice.specs.declared.choice.Choice.{Choice}
-use Rattle.sm_lattice.specs.declared.choice.Choice.TheVariants.{Better, Worse}
+use Rattle.sm_theory.specs.Choices.{chosen}
+use Rattle.sm_theory.specs.declared.choice.Choice.{Choice}
+use Rattle.sm_theory.specs.declared.choice.Choice.TheVariants.{Better, Worse}
 use Rattle.sm_report.specs.Heads.{HeadData}
 use Rattle.sm_report.specs.Lines.{LineData}
 use Rattle.sm_report.specs.Sound.{IsLineOf}
 use Rattle.sm_given.specs.MatchingLines.{pair_data, matching_line}
-use Rattle.sm_given.specs.Held.{places_in}
+use Rattle.sm_pairs.specs.Held.{places_in}
 use Rattle.sm_given.specs.Given.{AreFound}
-use Rattle.sm_given.specs.Chosen.{chosen_places, pair_lines, head_for, chosen_lines, IsChosenAnswer}
+use Rattle.sm_pairs.specs.Chosen.{chosen_places}
+use Rattle.sm_given.specs.Chosen.{pair_lines, head_for, chosen_lines, IsChosenAnswer}
 use Rattle.sm_given.specs.declared.given.Given.{Given}
 use Rattle.sm_given.specs.declared.matching_lines.PairWord.{PairWord}
 use Rattle.sm_given.specs.declared.matching_lines.PairWord.TheVariants as word

@@ -1,13 +1,16 @@
 //! The theory of the lattice of stable matchings: rotations, closed sets and the laws that tie them.
 //!
 //! [`laws`] states what holds of all markets, by functions that do nothing. [`successor`] and [`is_exposed`] tell of a
-//! given matching what the laws speak of (Gusfield and Irving 1989, chapters 1 to 3).
+//! given matching what the laws speak of (Gusfield and Irving 1989, chapters 1 to 3), and [`chosen_place`] gives the better or
+//! the worse of two places.
 #![tactic(auto)]
 
+mod choice;
 pub mod laws;
 mod rotations;
 mod sets;
 pub mod witnesses;
 
+pub use choice::{Choice, chosen_place};
 pub use rotations::{Rotation, is_exposed, successor};
 pub use sets::{Chain, ClosedSet};

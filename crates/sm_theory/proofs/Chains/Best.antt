@@ -3,7 +3,7 @@ use Rattle.std.proofs.Common.{◌≡◌, ℕ, zero, suc, ◌+◌, ◌<◌, ◌�
 use Rattle.sm_market.specs.Lists.{Lists, IsMarket, reversed_lists}
 use Rattle.sm_market.specs.Matching.{Places, standing, reversed}
 use Rattle.sm_market.specs.Stable.{IsStable, IsProposersBest, IsReviewersBest}
-use Rattle.sm_market.proofs.Bridge.{sides_of, stand_of, stable_of, IsMarket-reversed, IsStable-reversed}
+use Rattle.sm_market.proofs.Bridge.{sides_of, stand_of, fit_of, stable_of, IsMarket-reversed, IsStable-reversed}
 use Rattle.sm_market.proofs.CoreLaws.{opposed}
 use Rattle.sm_theory.specs.Rotations.{IsExposed, eliminated, proposer_at}
 use Rattle.sm_theory.proofs.Core.Rotation.{goes_down}
@@ -13,7 +13,7 @@ use Rattle.sm_theory.specs.Laws.{ExposedIsNotBest}
 -- eliminating a rotation is worse for its first proposer
 first_is_worse : (l : Lists) (m : Places) (rotation : List (ℕ × ℕ)) (h : IsMarket l) (s : IsStable l m) (x : IsExposed l m rotation)
     → standing l.proposers m.proposers (proposer_at rotation 0) < standing l.proposers (eliminated l m rotation).proposers (proposer_at rotation 0)
-first_is_worse l m rotation h s x = goes_down (stable_of h s) (exposed_of h s.matching x) (elim_of h s.matching x) 0 x.not_empty
+first_is_worse l m rotation h s x = goes_down (fit_of h s.matching) (exposed_of h s.matching x) (elim_of h s.matching x) 0 x.not_empty
 
 pub exposed_is_not_best : ExposedIsNotBest
 exposed_is_not_best l m rotation h s = (

@@ -20,18 +20,22 @@ safe_none none = record { safe = λ c x i h e j k. absurd (none (target c i) (rw
 
 -- whoever is followed by somebody safe is safe
 pub safe_back : {s : Sides} {m : Stand} {bound p q r : ℕ} → Succ s m p r → Pair s m q r → Safe s m bound q → Safe s m bound p
-safe_back {s} {m} {bound} {p} {q} {r} succ pair w = record { safe = λ c x i h e j k.
-    let next : Succ s m p (target c i) = rw e at (x.next i h) in
-    let same : target c i ≡ r = succ_unique next succ in
-    let inside = turn_in c.size i h in
-    let has : Pair s m (c.who (turn c.size i)) r = rw same at (x.paired (turn c.size i) inside) in
-    w.safe c x (turn c.size i) inside (one_proposer has pair) j k }
+safe_back {s} {m} {bound} {p} {q} {r} succ pair w = record {
+  safe = λ c x i h e j k.
+      let next : Succ s m p (target c i) = rw e at (x.next i h) in
+      let same : target c i ≡ r = succ_unique next succ in
+      let inside = turn_in c.size i h in
+      let has : Pair s m (c.who (turn c.size i)) r = rw same at (x.paired (turn c.size i) inside) in
+      w.safe c x (turn c.size i) inside (one_proposer has pair) j k;
+}
 
 -- the members of a rotation without a proposer below the bound are safe
 pub safe_round : {s : Sides} {m : Stand} {bound : ℕ} {d : Cycle} → Exposed s m d → ((i : ℕ) → i < d.size → bound ≤ d.who i) → (i : ℕ) → i < d.size → Safe s m bound (d.who i)
-safe_round {s} {m} {bound} {d} y all i h = record { safe = λ c x a b e j k.
-    let w = same_cycle x y a i b h (sym e) j k in
-    rw w.who_is at (all w.at w.below) }
+safe_round {s} {m} {bound} {d} y all i h = record {
+  safe = λ c x a b e j k.
+      let w = same_cycle x y a i b h (sym e) j k in
+      rw w.who_is at (all w.at w.below);
+}
 
 -- where all below the bound are safe, no exposed rotation has a proposer below it
 pub none_below : {s : Sides} {m : Stand} {bound : ℕ} → ((p : ℕ) → p < bound → Safe s m bound p) → (c : Cycle) → Exposed s m c → (j : ℕ) → j < c.size → bound ≤ c.who j

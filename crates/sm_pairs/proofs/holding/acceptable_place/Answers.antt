@@ -1,6 +1,6 @@
 use Rattle.std.proofs.Common.{true, false, Some, None, refl, sym, arith}
 use Rattle.sm_instance.proofs.AcceptLemmas.{acceptable_at, cross_some, entry_cross}
-use Rattle.sm_given.proofs.holding.acceptable_place.Goals as goal
+use Rattle.sm_pairs.proofs.holding.acceptable_place.Goals as goal
 
 pub returns-in-Some : goal.returns-in-Some
 returns-in-Some c =

@@ -3,11 +3,7 @@ use Rattle.std.specs.Prelude.{◌≡◌, ℕ, ◌<◌, ◌≤◌, Bool, true, fa
 use Rattle.std.specs.List.{range_with_len}
 use Rattle.sm_instance.specs.Written.{Written, row, entry, place_of, capacity_of, IsAcceptable}
 use Rattle.sm_instance.specs.Matching.{held, load, IsMatching}
-use Rattle.sm_given.specs.Refusing.{IsBreachIn}
-use Rattle.sm_given.specs.declared.faults.Which.{Which}
-use Rattle.sm_given.specs.declared.faults.GivenFault.{GivenFault}
-use Rattle.sm_given.specs.declared.faults.GivenFault.TheVariants.{BadAnswer, NotStable, OutOfMemory}
-use Rattle.sm_given.specs.declared.holding.Holding.{Holding}
+use Rattle.sm_pairs.specs.declared.holding.Holding.{Holding}
 
 -- the place of r on the list of p, to which it is acceptable
 pub record IsAcceptableAt (w : Written) (p r place : ℕ) : Type 0 where
@@ -41,9 +37,3 @@ pub record Added (w : Written) (before after : Holding) (p r : ℕ) : Type 0 whe
 abbrev pub Adds : Written → (before after : Holding) → (p r : ℕ) → Bool → Type 0
 Adds w before after p r true = Added w before after p r
 Adds w before after p r false = CantAdd w before.places.items p r
-
--- why pairs make no matching; want of memory says nothing
-abbrev pub IsHoldFault : Written → List (ℕ × ℕ) → Which → ℕ → GivenFault → Type 0
-IsHoldFault w pairs which line (BadAnswer at) = ⊥
-IsHoldFault w pairs which line (NotStable u) = IsBreachIn w pairs which line u
-IsHoldFault w pairs which line OutOfMemory = Unit {0}

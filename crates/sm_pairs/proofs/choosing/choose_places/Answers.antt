@@ -3,14 +3,14 @@ use Rattle.std.specs.List.{range_with_len}
 use Rattle.std.proofs.lemmas.List.{get_or_default}
 use Rattle.std.proofs.lemmas.List.FromFn.{map-range_with_len_more}
 use Rattle.sm_instance.specs.Matching.{held}
-use Rattle.sm_lattice.specs.Choices.{chosen}
-use Rattle.sm_given.proofs.chosen.choose_places.Goals as goal
+use Rattle.sm_theory.specs.Choices.{chosen}
+use Rattle.sm_pairs.proofs.choosing.choose_places.Goals as goal
 
 pub loop-p-preserved : goal.loop-p-preserved
 loop-p-preserved c =
     let p : ℕ = c.loop-p.p in
-    let m = c.args.given.now.left.places.items in
-    let n = c.args.given.now.right.places.items in
+    let m = c.args.left.now.places.items in
+    let n = c.args.right.now.places.items in
     let f : ℕ → Option ℕ = λ p. chosen c.args.choice (held m p) (held n p) in
     let one_m = c.requires.left.one_each in
     let one_n = c.requires.right.one_each in

@@ -1,10 +1,10 @@
 use Rattle.std.proofs.Common.{◌≡◌, ◌+◌, ◌<◌, ◌∙◌, ap, sym, arith, set, length, Some, None, ℕ}
 use Rattle.sm_instance.specs.Written.{capacity_of}
 use Rattle.sm_instance.specs.Matching.{held, load}
-use Rattle.sm_given.specs.Holding.{taken, full, loads_of}
-use Rattle.sm_given.proofs.HoldingLemmas.{loads_long, load_is, some_there, none_there, loads_later, matching_later}
-use Rattle.sm_given.proofs.holding.Holding.add.Goals.{then-is_some-via-then-is_some, then-is_some-via-else-is_some+then-index-capacity}
-use Rattle.sm_given.proofs.holding.Holding.add.Goals as goal
+use Rattle.sm_pairs.specs.Holding.{taken, full, loads_of}
+use Rattle.sm_pairs.proofs.HoldingLemmas.{loads_long, load_is, some_there, none_there, loads_later, matching_later}
+use Rattle.sm_pairs.proofs.holding.Holding.add.Goals.{then-is_some-via-then-is_some, then-is_some-via-else-is_some+then-index-capacity}
+use Rattle.sm_pairs.proofs.holding.Holding.add.Goals as goal
 
 pub index-requires-else-is_some : goal.index-requires-else-is_some
 index-requires-else-is_some c =

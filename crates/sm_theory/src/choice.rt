@@ -2,7 +2,7 @@
 
 ghost use Rattle.std.specs.Prelude.{◌≡◌};
 ghost use Rattle.sm_theory.specs.Lattice.{better, worse};
-ghost use Rattle.sm_lattice.specs.Choices.{chosen};
+ghost use Rattle.sm_theory.specs.Choices.{chosen};
 
 /// Which of its two partners a proposer gets: the better one in a meet, and the worse one in a join.
 #[derive(Clone, Copy, Debug, PartialEq, Eq)]

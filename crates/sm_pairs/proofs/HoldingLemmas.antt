@@ -10,9 +10,9 @@ use Rattle.sm_instance.specs.Written.{Written, row, entry, place_of, capacity_of
 use Rattle.sm_instance.specs.Matching.{held, leads_to, is_at, load_before, load, IsMatching}
 use Rattle.sm_instance.proofs.LoadLemmas.{load_more}
 use Rattle.std.proofs.Math.Seq.{take-suc}
-use Rattle.sm_given.specs.Held.{partner_in, place_in, places_in, pair_at, CantJoin, IsBreach}
-use Rattle.sm_given.specs.Holding.{loads_of, CantAdd, Added}
-use Rattle.sm_given.specs.declared.holding.Holding.{Holding}
+use Rattle.sm_pairs.specs.Held.{partner_in, place_in, places_in, pair_at, CantJoin, IsBreach}
+use Rattle.sm_pairs.specs.Holding.{loads_of, CantAdd, Added}
+use Rattle.sm_pairs.specs.declared.holding.Holding.{Holding}
 
 -- a list by numbers in which one item is changed
 alike : {X : Type 0} (f g : ℕ → X) (a n : ℕ) → ((q : ℕ) → a ≤ q → g q ≡ f q) → map f (range_with_len a n) ≡ map g (range_with_len a n)
