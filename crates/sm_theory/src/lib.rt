@@ -6,11 +6,13 @@
 #![tactic(auto)]
 
 mod choice;
+mod flow_lines;
 pub mod laws;
 mod rotations;
 mod sets;
 pub mod witnesses;
 
 pub use choice::{Choice, chosen_place};
+pub use flow_lines::FlowLine;
 pub use rotations::{Rotation, is_exposed, successor};
 pub use sets::{Chain, ClosedSet};

@@ -1,6 +1,6 @@
 -- How it is decided that no exposed rotation has a proposer below a bound: a proposer is safe where each exposed rotation that
 -- has it has no proposer below the bound.
-use Rattle.std.proofs.Common.{◌≡◌, ℕ, ◌<◌, ◌≤◌, List, length, inl, inr, arith, refl, sym, ap, ◌∙◌}
+use Rattle.std.proofs.Common.{◌≡◌, ℕ, ◌<◌, ◌≤◌, List, length, inl, inr, arith, refl, sym}
 use Rattle.sm_lists.proofs.Counting.{lt_or_le}
 use Rattle.sm_market.proofs.Core.{Sides, Stand, Pair, one_proposer}
 use Rattle.sm_market.specs.Lists.{Lists, IsMarket}

@@ -1,13 +1,13 @@
--- The flow of the worked net, by its lines.
+-- The flow of the worked net, by its lines, and other lines.
 use Rattle.std.proofs.Common.{◌≡◌, ℕ, zero, suc, ◌<◌, ◌≤◌, inl, inr, arith, refl, subst, ne_eqb}
+use Rattle.std.specs.List.{All}
 use Rattle.std.proofs.lemmas.Bool.{false≢true}
-use Rattle.sm_theory.specs.Net.{sink_of}
+use Rattle.sm_theory.specs.Net.{sink_of, HasEdge}
 use Rattle.sm_theory.specs.Flows.{IsFlow}
 use Rattle.sm_theory.specs.WitnessesFlows.{three_cycle_net, three_cycle_flow}
 use Rattle.sm_theory.proofs.Flow.Witness.{worked_net}
-use Rattle.sm_weight.specs.Edges.{HasEdge}
-use Rattle.sm_weight.specs.Lines.{line_at, amount_on, IsLineBefore, AreLines}
-use Rattle.sm_weight.specs.Witnesses.{three_cycle_lines, WorkedLines}
+use Rattle.sm_theory.specs.FlowLines.{line_at, amount_on, IsConserved, HaveSameEnds, IsLineBefore, AreLines}
+use Rattle.sm_theory.specs.WitnessesLines.{line, three_cycle_lines, broken_lines, WorkedLines, EachLine}
 
 lines_are : AreLines three_cycle_net three_cycle_lines
 lines_are = record { rising = rising; positive = positive; edges = edges; nodes = nodes }
@@ -71,4 +71,29 @@ worked_lines = (
   refl,
   (λ f. let over : 15 ≤ 14 = f.within 0 2 (λ u. false≢true u) in omega arith),
   (λ f. let none : ◌≡◌ {A = ℕ} 0 4 = f.conserved 0 (omega arith) in omega (arith, none)),
+)
+
+conserved : IsConserved 2 three_cycle_lines
+conserved zero h = refl
+conserved (suc zero) h = refl
+conserved (suc (suc k)) h = absurd (omega arith)
+
+new_line : All (λ other. ¬ HaveSameEnds other (line 2 1 3)) broken_lines
+new_line zero d less = λ e. omega (arith, e.0)
+new_line (suc zero) d less = λ e. omega (arith, e.0)
+new_line (suc (suc k)) d less = absurd (omega arith)
+
+pub each_line : EachLine
+each_line = (
+  conserved,
+  (λ f. let none : ◌≡◌ {A = ℕ} 0 4 = f 0 (omega arith) in omega (arith, none)),
+  record { not_through = λ e. omega (arith, e.0); edge = inl refl; new = new_line },
+  record { not_through = λ e. omega (arith, e.1); edge = inr (omega arith); new = λ k d less. absurd (omega arith) },
+  (λ n. n.new 0 (line 0 0 0) (omega arith) (refl, refl)),
+  (λ n. elim n.edge [ inl u ↦ false≢true u | inr more ↦ omega arith ]),
+  (λ n. n.not_through (refl, refl)),
+  record { positive = omega arith; within = inr (omega arith) },
+  (λ w. elim w.within [ inl u ↦ false≢true u | inr more ↦ omega arith ]),
+  (λ w. let more = w.positive in omega arith),
+  record { positive = omega arith; within = inl refl },
 )

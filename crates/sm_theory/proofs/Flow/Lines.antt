@@ -7,9 +7,9 @@ use Rattle.sm_lists.proofs.Counting.{eq_or_ne}
 use Rattle.sm_lists.proofs.Sums.{sum_same, sum_none, sum_plus}
 use Rattle.sm_theory.specs.Net.{sink_of}
 use Rattle.sm_theory.proofs.Flow.Cuts.{none_leaves, value_is_cut}
-use Rattle.sm_weight.specs.declared.flows.FlowLine.{FlowLine}
-use Rattle.sm_weight.specs.Lines.{line_at, amount_on, amount_from, amount_to}
-use Rattle.sm_weight.specs.Laws.{FullCutsAreUnleft, FlowOfLines}
+use Rattle.sm_theory.specs.declared.flow_lines.FlowLine.{FlowLine}
+use Rattle.sm_theory.specs.FlowLines.{line_at, amount_on, amount_from, amount_to}
+use Rattle.sm_theory.specs.LawsFlows.{FullCutsAreUnleft, FlowOfLines}
 
 -- a sum over all nodes of what one line has
 none_before : (a n v : ℕ) (b : Bool) → n ≤ a → sum_to (λ i. if a == i && b then v else 0) n ≡ 0
