@@ -1,3 +1,5 @@
 pub mod TrailLemmas
 pub mod SafeLemmas
 pub mod PathLemmas
+pub mod RoomLemmas
+pub mod PartyLemmas

@@ -1,2 +1,4 @@
 pub mod Trails
 pub mod Exposure
+pub mod Rooms
+pub mod RoomsKept
