@@ -9,5 +9,5 @@ mod rotations;
 mod sets;
 pub mod witnesses;
 
-pub use rotations::{Rotation, is_exposed, successor};
+pub use rotations::{Rotation, is_exposed, successor, would_take};
 pub use sets::{Chain, ClosedSet};
