@@ -14,5 +14,5 @@ pub mod witnesses;
 
 pub use choice::{Choice, chosen_place};
 pub use flow_lines::FlowLine;
-pub use rotations::{Rotation, is_exposed, successor};
+pub use rotations::{Rotation, is_exposed, successor, would_take};
 pub use sets::{Chain, ClosedSet};
