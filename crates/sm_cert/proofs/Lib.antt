@@ -1,0 +1,6 @@
+mod VerdictLaws
+mod LayoutLemmas
+mod JudgingLemmas
+mod ListingLemmas
+mod VectorLemmas
+mod WitnessLemmas

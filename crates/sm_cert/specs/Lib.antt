@@ -1,0 +1,16 @@
+pub mod Keywords
+pub mod Layouts
+pub mod Seats
+pub mod Forms
+pub mod Verdicts
+pub mod Said
+pub mod Pairs
+pub mod SeatMatchings
+pub mod Chain
+pub mod Flows
+pub mod Vectors
+pub mod Rooming
+pub mod Judging
+pub mod Listing
+pub mod Laws
+pub mod Witnesses

@@ -1,0 +1,14 @@
+//! Worked answers of which the verdict is known by hand, computed. Each function does nothing: its contract is what is
+//! computed.
+
+ghost use Rattle.sm_cert.specs.Witnesses.{OddAnswers, FirstIsntBest};
+
+/// By an odd party there is no stable matching of five persons; in another order it is no party of a stable partition.
+pub fn odd_answers()
+    ensures { OddAnswers }
+{}
+
+/// A stable matching that isn't the proposers' best, and behind which no rotation is exposed.
+pub fn first_isnt_best()
+    ensures { FirstIsntBest }
+{}
