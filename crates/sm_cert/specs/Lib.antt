@@ -11,6 +11,7 @@ pub mod Flows
 pub mod Vectors
 pub mod Rooming
 pub mod Judging
+pub mod Judges
 pub mod Listing
 pub mod Laws
 pub mod Witnesses
