@@ -1,3 +1,4 @@
 pub mod TrailLemmas
 pub mod SafeLemmas
 pub mod PathLemmas
+pub mod BestLemmas
