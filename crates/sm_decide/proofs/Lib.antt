@@ -1,4 +1,6 @@
 pub mod TrailLemmas
 pub mod SafeLemmas
+pub mod SearchLemmas
 pub mod PathLemmas
 pub mod BestLemmas
+pub mod ReducedLemmas

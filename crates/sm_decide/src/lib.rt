@@ -4,12 +4,16 @@
 //! (McConnell, Mehlhorn, Näher and Schweitzer 2011).
 //!
 //! [`Search`] tells of a stable pairing which rotations are exposed at it, and [`is_proposers_best`] and [`is_reviewers_best`]
-//! whether it is the best of a side.
+//! whether it is the best of a side. [`is_reduced_proposer_list`] and [`is_reduced_reviewer_list`] tell of a list whether it is
+//! one of the reduced lists.
 #![tactic(auto)]
 
 mod best;
 mod exposure;
+pub mod laws;
+mod reduced;
 mod trail;
 
 pub use best::{is_proposers_best, is_reviewers_best};
 pub use exposure::Search;
+pub use reduced::{is_reduced_proposer_list, is_reduced_reviewer_list};

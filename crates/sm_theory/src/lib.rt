@@ -1,13 +1,16 @@
 //! The theory of the lattice of stable matchings: rotations, closed sets and the laws that tie them.
 //!
 //! [`laws`] states what holds of all markets, by functions that do nothing. [`successor`] and [`is_exposed`] tell of a
-//! given matching what the laws speak of (Gusfield and Irving 1989, chapters 1 to 3).
+//! given matching what the laws speak of, and [`eliminate`] goes from one to the next (Gusfield and Irving 1989, chapters 1
+//! to 3).
 #![tactic(auto)]
 
+mod elimination;
 pub mod laws;
 mod rotations;
 mod sets;
 pub mod witnesses;
 
+pub use elimination::{eliminate, move_round};
 pub use rotations::{Rotation, is_exposed, successor, would_take};
 pub use sets::{Chain, ClosedSet};
