@@ -6,3 +6,4 @@ pub mod BestLemmas
 pub mod ReducedLemmas
 pub mod RoomLemmas
 pub mod PartyLemmas
+pub mod FlowLemmas

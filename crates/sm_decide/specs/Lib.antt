@@ -3,3 +3,4 @@ pub mod Exposure
 pub mod Laws
 pub mod Rooms
 pub mod RoomsKept
+pub mod FlowSums
