@@ -3,4 +3,5 @@ mod LayoutLemmas
 mod JudgingLemmas
 mod ListingLemmas
 mod VectorLemmas
+mod LeftLemmas
 mod WitnessLemmas

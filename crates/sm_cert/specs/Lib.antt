@@ -1,6 +1,7 @@
 pub mod Keywords
 pub mod Layouts
 pub mod Seats
+pub mod Lefts
 pub mod Forms
 pub mod Verdicts
 pub mod Said
