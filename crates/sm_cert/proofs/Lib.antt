@@ -4,3 +4,6 @@ mod JudgingLemmas
 mod ListingLemmas
 mod VectorLemmas
 mod WitnessLemmas
+mod AnswerLemmas
+mod PairLemmas
+mod RegretLemmas

@@ -12,5 +12,8 @@ pub mod Vectors
 pub mod Rooming
 pub mod Judging
 pub mod Listing
+pub mod Walking
+pub mod PairsKept
+pub mod Regrets
 pub mod Laws
 pub mod Witnesses
