@@ -5,3 +5,6 @@ mod ListingLemmas
 mod VectorLemmas
 mod LeftLemmas
 mod WitnessLemmas
+mod AnswerLemmas
+mod PairLemmas
+mod RegretLemmas

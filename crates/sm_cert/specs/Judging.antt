@@ -10,11 +10,11 @@ use Rattle.sm_cert.specs.declared.verdicts.Reason.{Reason}
 use Rattle.sm_cert.specs.declared.verdicts.Verdict.{Verdict}
 use Rattle.sm_cert.specs.Verdicts.{AtLine, IsVerdict}
 use Rattle.sm_cert.specs.Forms.{AreAnswer, IsMisplaced}
-use Rattle.sm_cert.specs.Said.{pairs_in, lefts_in, rights_in, parties_in, regret_in, first_said}
+use Rattle.sm_cert.specs.Said.{pairs_in, lefts_in, rights_in, parties_in}
 use Rattle.sm_cert.specs.Pairs.{SolveHolds, ChosenHold}
 use Rattle.sm_cert.specs.Chain.{ReducedHold, RotationsHold}
 use Rattle.sm_cert.specs.Flows.{WeightHolds}
-use Rattle.sm_cert.specs.Vectors.{ListClauses, RegretHolds}
+use Rattle.sm_cert.specs.Vectors.{ListClauses, RegretClauses}
 use Rattle.sm_cert.specs.Rooming.{CouplesHold, PartiesHold}
 
 -- at a line with those above it, in an answer with this head over an instance with two sides
@@ -23,7 +23,7 @@ TwoClauses w (HeadData.Solve (Some side)) above line why = SolveHolds w side (pa
 TwoClauses w HeadData.Reduced above line why = ReducedHold w above line why
 TwoClauses w HeadData.Rotations above line why = RotationsHold w above line why
 TwoClauses w (HeadData.List after limit) above line why = ListClauses w after limit above line why
-TwoClauses w HeadData.Regret above line why = RegretHolds w (first_said 0 regret_in above) (pairs_in above) line why
+TwoClauses w HeadData.Regret above line why = RegretClauses w above line why
 TwoClauses w (HeadData.Weight by) above line why = WeightHolds w by above line why
 TwoClauses w HeadData.Meet above line why = ChosenHold Better w (lefts_in above) (rights_in above) (pairs_in above) line why
 TwoClauses w HeadData.Join above line why = ChosenHold Worse w (lefts_in above) (rights_in above) (pairs_in above) line why

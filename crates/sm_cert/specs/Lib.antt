@@ -14,5 +14,8 @@ pub mod Rooming
 pub mod Judging
 pub mod Judges
 pub mod Listing
+pub mod Walking
+pub mod PairsKept
+pub mod Regrets
 pub mod Laws
 pub mod Witnesses

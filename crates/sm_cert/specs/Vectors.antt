@@ -10,7 +10,7 @@ use Rattle.sm_theory.specs.Listings.{IsBehind, end_of}
 use Rattle.sm_report.specs.Lines.{LineData}
 use Rattle.sm_cert.specs.declared.verdicts.Reason.{Reason}
 use Rattle.sm_cert.specs.declared.verdicts.Reason.TheVariants as reason
-use Rattle.sm_cert.specs.Said.{pair_in, vectors_in, IsEnd}
+use Rattle.sm_cert.specs.Said.{pair_in, pairs_in, vectors_in, regret_in, first_said, IsEnd}
 use Rattle.sm_pairs.specs.Held.{places_in}
 use Rattle.sm_cert.specs.Pairs.{IsFree}
 
@@ -60,3 +60,6 @@ RegretHolds w regret pairs line reason.Blocked = IsEnd line → IsStable w (plac
 RegretHolds w regret pairs line reason.NotAllowed = IsEnd line → IsAllowed w (places_in w pairs)
 RegretHolds w regret pairs line reason.WrongRegret = IsEnd line → regret ≡ regret_of w (places_in w pairs)
 RegretHolds w regret pairs line _ = Unit {0}
+
+abbrev pub RegretClauses : Written → List LineData → LineData → Reason → Type 0
+RegretClauses w above line why = RegretHolds w (first_said 0 regret_in above) (pairs_in above) line why

@@ -9,8 +9,11 @@ mod keywords;
 pub mod laws;
 mod layouts;
 mod listing;
+mod pairs;
+mod regret;
 mod verdicts;
 pub mod witnesses;
 
 pub use listing::list_verdict;
+pub use regret::regret_verdict;
 pub use verdicts::{Reason, Verdict};
