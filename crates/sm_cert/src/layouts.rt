@@ -116,8 +116,16 @@ fn fit_part(part: Part, line: Opening) -> Fit
     ensures { IsFit part line result }
 {
     match part {
-        Part::One(word) => if is_same(line.keyword, word) { Fit::Takes } else { Fit::Ends },
-        Part::Many(word) => if is_same(line.keyword, word) { Fit::Takes } else { Fit::Passes },
+        Part::One(word) => if is_same(line.keyword, word) {
+            Fit::Takes
+        } else {
+            Fit::Ends
+        },
+        Part::Many(word) => if is_same(line.keyword, word) {
+            Fit::Takes
+        } else {
+            Fit::Passes
+        },
         Part::Blocks(turn) => fit_block(turn, line),
     }
 }
@@ -127,9 +135,17 @@ fn fit_block(turn: Turn, line: Opening) -> Fit
     ensures { IsFit (Part.Blocks turn) line result }
 {
     if is_same(line.keyword, keyword_at(turn.place)) {
-        if line.number == turn.number { Fit::Takes } else { Fit::Ends }
+        if line.number == turn.number {
+            Fit::Takes
+        } else {
+            Fit::Ends
+        }
     } else {
-        if turn.place == 0 { Fit::Passes } else { Fit::Ends }
+        if turn.place == 0 {
+            Fit::Passes
+        } else {
+            Fit::Ends
+        }
     }
 }
 
@@ -264,7 +280,10 @@ fn layouts_of_two(alloc: Global, head: &Head) -> Result<(Layout, Layout), AllocE
         Head::Reduced => Ok((reduced_layout(alloc)?, Layout::none(alloc))),
         Head::Rotations => Ok((rotations_layout(alloc)?, Layout::none(alloc))),
         Head::List(_, _) => {
-            Ok((list_layout(alloc, Keyword::End)?, list_layout(alloc, Keyword::More)?))
+            Ok((
+                list_layout(alloc, Keyword::End)?,
+                list_layout(alloc, Keyword::More)?,
+            ))
         }
         Head::Regret => Ok((regret_layout(alloc)?, Layout::none(alloc))),
         Head::Weight(_) => Ok((weight_layout(alloc)?, Layout::none(alloc))),
@@ -292,10 +311,7 @@ fn solve_layout(alloc: Global) -> Result<Layout, AllocError>
     ensures left { IfOk result (λ layout. lefts_of layout ≡ solve_layout ∷ []) }
     ensures running { IfOk result (λ layout. IsRunning layout) }
 {
-    Ok(Layout::of(vec![in alloc;
-        Part::Many(Keyword::Pair),
-        Part::One(Keyword::End),
-    ]?))
+    Ok(Layout::of(vec![in alloc; Part::Many(Keyword::Pair), Part::One(Keyword::End)]?))
 }
 
 // The layout of parties.
@@ -341,10 +357,7 @@ fn list_layout(alloc: Global, last: Keyword) -> Result<Layout, AllocError>
     ensures left { IfOk result (λ layout. lefts_of layout ≡ list_layout last ∷ []) }
     ensures running { IfOk result (λ layout. IsRunning layout) }
 {
-    Ok(Layout::of(vec![in alloc;
-        Part::Many(Keyword::Vector),
-        Part::One(last),
-    ]?))
+    Ok(Layout::of(vec![in alloc; Part::Many(Keyword::Vector), Part::One(last)]?))
 }
 
 // The layout of `regret`.

@@ -12,17 +12,17 @@
 mod best;
 mod couples;
 mod exposure;
+mod flow_sums;
 pub mod laws;
 mod partitions;
 mod reduced;
 mod room_lists;
-mod flow_sums;
 mod trail;
 
 pub use best::{is_proposers_best, is_reviewers_best};
 pub use couples::is_room_stable;
 pub use exposure::Search;
+pub use flow_sums::{amount_from_source, is_conserved};
 pub use partitions::is_stable_partition;
 pub use reduced::{is_reduced_proposer_list, is_reduced_reviewer_list};
 pub use room_lists::RoomLists;
-pub use flow_sums::{amount_from_source, is_conserved};

@@ -15,7 +15,6 @@ ghost use Rattle.sm_rotations.specs.Graph.{AreFollowers};
 ghost use Rattle.sm_rotations.specs.Marking.{marks_in, marks_of, mark_at, note_of, AreMarksFor, AreMoved, AreMarked, IsSpanMarked, IsBetween, Adds};
 ghost use Rattle.sm_rotations.specs.Footings.{footing_at, AreFootings, AreSteps, IsFoundAlong};
 
-
 use crate::graph::{add_once, empty_lists, needs_by_followers};
 use sm_market::{Market, Pairing, next_in};
 use sm_theory::{Chain, move_round};
