@@ -1,5 +1,5 @@
 -- How an answer is judged line by line.
-use Rattle.std.specs.Prelude.{◌≡◌, ◌∷◌, ◌++◌, [], true, List, Option, None, Some}
+use Rattle.std.specs.Prelude.{◌≡◌, ◌∷◌, ◌++◌, [], true, List, Option}
 use Rattle.sm_instance.specs.declared.inputs.Input.{Input}
 use Rattle.sm_instance.specs.declared.inputs.Input.TheVariants.{Two, Room}
 use Rattle.sm_report.specs.Lines.{LineData}
@@ -7,7 +7,7 @@ use Rattle.sm_report.specs.Sound.{IsLineOf}
 use Rattle.sm_cert.specs.declared.verdicts.Reason.{Reason}
 use Rattle.sm_cert.specs.Forms.{fits}
 use Rattle.sm_cert.specs.Judging.{Subject, answer, couples, parties, Clauses}
-use Rattle.sm_cert.specs.Verdicts.{Finds}
+use Rattle.sm_cert.specs.Walking.{FindsOrKeeps}
 
 -- the instance of which an answer speaks
 abbrev pub input_of : Subject → Input
@@ -20,12 +20,7 @@ pub record IsOwnLine (subject : Subject) (line : LineData) : Type 0 where
   pub right : IsLineOf (input_of subject) line
   pub fitting : fits (input_of subject) line ≡ true
 
--- no clause fails, and something is known; or this one is the first that fails
-abbrev pub FindsOrKnows : (Reason → Type 0) → Type 0 → Option Reason → Type 0
-FindsOrKnows Holds Known None = Finds Holds None × Known
-FindsOrKnows Holds Known (Some why) = Finds Holds (Some why)
-
 -- what is found at a line behind those of which all is known, and what is known with it then
 abbrev pub Judges : Subject → (known knows : List LineData → Type 0) → LineData → Option Reason → Type 0
 Judges subject known knows line why =
-    (above : List LineData) → known above → FindsOrKnows (Clauses subject above line) (knows (above ++ line ∷ [])) why
+    (above : List LineData) → known above → FindsOrKeeps (Clauses subject above line) (knows (above ++ line ∷ [])) why
