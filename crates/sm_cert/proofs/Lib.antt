@@ -8,3 +8,4 @@ mod WitnessLemmas
 mod AnswerLemmas
 mod PairLemmas
 mod RegretLemmas
+pub mod WantedLemmas

@@ -16,6 +16,7 @@ pub mod Judges
 pub mod Listing
 pub mod Walking
 pub mod PairsKept
+pub mod WantedKept
 pub mod Regrets
 pub mod Laws
 pub mod Witnesses

@@ -4,6 +4,7 @@
 //! first that fails is the verdict. What the clauses say stands in `specs`, by the definitions of the field alone.
 #![tactic(auto)]
 
+mod chosen;
 mod judging;
 mod keywords;
 pub mod laws;
@@ -12,8 +13,10 @@ mod listing;
 mod pairs;
 mod regret;
 mod verdicts;
+mod wanted;
 pub mod witnesses;
 
+pub use chosen::chosen_verdict;
 pub use listing::list_verdict;
 pub use regret::regret_verdict;
 pub use verdicts::{Reason, Verdict};
