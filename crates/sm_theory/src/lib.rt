@@ -7,10 +7,12 @@
 
 mod elimination;
 pub mod laws;
+mod marks;
 mod rotations;
 mod sets;
 pub mod witnesses;
 
 pub use elimination::{eliminate, move_round};
+pub use marks::{mark_span, no_marks, note_movers};
 pub use rotations::{Rotation, is_exposed, successor, would_take};
 pub use sets::{Chain, ClosedSet};

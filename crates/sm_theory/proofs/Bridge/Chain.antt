@@ -70,7 +70,7 @@ module _ {l : Lists} (h : IsMarket l) {first : Places} {rotations : List (List (
   }
 
 pub eliminable_of : {l : Lists} {first : Places} {rotations : List (List (ℕ × ℕ))} → IsCompleteChain l first rotations → AreEliminable l first rotations
-eliminable_of chain = record { exposed = chain.exposed; complete = chain.complete }
+eliminable_of chain = record { exposed = chain.exposed }
 
 -- rotations that can be eliminated lead from matching to matching
 module _ {l : Lists} (h : IsMarket l) {first : Places} (f : IsMatching l first) {rotations : List (List (ℕ × ℕ))} (chain : AreEliminable l first rotations) where
