@@ -4,3 +4,5 @@ pub mod SearchLemmas
 pub mod PathLemmas
 pub mod BestLemmas
 pub mod ReducedLemmas
+pub mod AmongLemmas
+pub mod NotingLemmas

@@ -1,3 +1,4 @@
 pub mod Trails
 pub mod Exposure
+pub mod Noting
 pub mod Laws

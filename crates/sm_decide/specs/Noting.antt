@@ -16,8 +16,8 @@ pub record Noted : Type 0 where
 
 -- all that is noted and marked is below a number
 pub record AreBelow (n : ℕ) (last : List (Option ℕ)) (marks : List (List (Option ℕ))) : Type 0 where
-  pub last : (p i : ℕ) → note_of last p ≡ Some i → i < n
-  pub marks : (p x i : ℕ) → mark_at marks p x ≡ Some i → i < n
+  pub noted : (p i : ℕ) → note_of last p ≡ Some i → i < n
+  pub marked : (p x i : ℕ) → mark_at marks p x ≡ Some i → i < n
 
 -- there is a note for each proposer of these lists, and a mark for each entry
 pub record IsNotesFor (l : Lists) (n : Noted) : Type 0 where
@@ -36,4 +36,3 @@ pub record AreNoted (l : Lists) (first : Places) (rotations : List (List (ℕ ×
   pub marks : AreMarks l rotations (length rotations) n.marks
   pub sound : (i : ℕ) → Contains n.found i → (i < length rotations) × IsNeededBy l (rotation_at rotations i) (rotation_at rotations (length rotations - 1))
   pub all : (i : ℕ) → i < length rotations → IsNeededBy l (rotation_at rotations i) (rotation_at rotations (length rotations - 1)) → Contains n.found i
-  pub once : (a b : ℕ) → a < b → b < length n.found → slice_index n.found a ≢ slice_index n.found b

@@ -5,15 +5,17 @@
 //!
 //! [`Search`] tells of a stable pairing which rotations are exposed at it, and [`is_proposers_best`] and [`is_reviewers_best`]
 //! whether it is the best of a side. [`is_reduced_proposer_list`] and [`is_reduced_reviewer_list`] tell of a list whether it is
-//! one of the reduced lists.
+//! one of the reduced lists, and [`Notes`] what each rotation of a chain needs.
 #![tactic(auto)]
 
 mod best;
 mod exposure;
 pub mod laws;
+mod needs;
 mod reduced;
 mod trail;
 
 pub use best::{is_proposers_best, is_reviewers_best};
 pub use exposure::Search;
+pub use needs::Notes;
 pub use reduced::{is_reduced_proposer_list, is_reduced_reviewer_list};

@@ -2,7 +2,7 @@
 
 ghost use Rattle.std.specs.Prelude.{◌≡◌, ◌≢◌, ℕ, ◌+◌, ◌-◌, ◌<◌, ◌≤◌, ◌++◌, ◌∷◌, [], ◌↔◌, List, length, slice_index, IsTrue, IfOk, Contains};
 ghost use Rattle.sm_market.specs.Lists.{Lists, IsMarket, place_of, row};
-ghost use Rattle.sm_market.specs.Matching.{Places};
+ghost use Rattle.sm_market.specs.Matching.{Places, IsMatching};
 ghost use Rattle.sm_market.specs.Pairing.{IsPairingOf};
 ghost use Rattle.sm_theory.specs.Rotations.{IsExposed, proposer_at, reviewer_at, target_at};
 ghost use Rattle.sm_theory.specs.Chains.{stage, AreNeedsOf};
@@ -35,11 +35,11 @@ impl Model for Notes {
     ghost Value = { Noted };
 
     ghost view = { λ n. record {
-        most = n.found.bound;
-        count = n.count;
-        last = n.last.items;
-        marks = marks_in n.marks.items;
-        found = n.found.items;
+      most = n.found.bound;
+      count = n.count;
+      last = n.last.items;
+      marks = marks_in n.marks.items;
+      found = n.found.items;
     } };
 }
 
@@ -54,7 +54,7 @@ impl Notes {
     pub fn of(alloc: Global, market: &Market, most: u32) -> Result<Notes, AllocError>
         ensures notes { IfOk result (λ notes. IsNotesFor market.now notes) }
         ensures most { IfOk result (λ notes. notes.most ≡ most) }
-        ensures none { IfOk result (λ notes. (first : Places) → AreNoted market.now first [] notes) }
+        ensures none { IfOk result (λ notes. (first : Places) → IsMatching market.now first → AreNoted market.now first [] notes) }
     {
         Ok(Notes {
             last: vec![in alloc; None; market.proposers() as usize]?,
@@ -79,6 +79,7 @@ impl Notes {
             → m.now.places ≡ stage market.now first rotations (length rotations)
             → AreNoted market.now first (rotations ++ rotation.now.pairs.items ∷ []) self.new }
     {
+        prove!(self.count < self.found.bound());
         let pairs = rotation.pairs.as_slice();
         find(market, m, pairs, &self.last, &self.marks, &mut self.found);
         mark_moves(market, m, pairs, self.count, &mut self.marks);
@@ -105,14 +106,19 @@ fn are_rising_in(needs: &[u32], found: &Trail) -> bool
         × ((a : ℕ) → a < length needs.now → Contains found.now.items (slice_index needs.now a))) }
 {
     for a in 0..needs.len() {
-        if 0 < a && needs[a] <= needs[a - 1] {
-            return false;
-        }
-        if !is_among(found, needs[a]) {
+        if !is_risen(needs, a) || !is_among(found, needs[a]) {
             return false;
         }
     }
     true
+}
+
+/// Whether a number is greater than the one before it, if there is one.
+fn is_risen(needs: &[u32], a: usize) -> bool
+    requires { a < length needs.now }
+    ensures { IsTrue result ↔ (0 < a → slice_index needs.now (a - 1) < slice_index needs.now a) }
+{
+    a == 0 || needs[a - 1] < needs[a]
 }
 
 /// Whether any number was come by.
@@ -144,7 +150,7 @@ fn find(
     for i in 0..pairs.len() {
         let p = pairs[i].0;
         let from = market.proposer_standing(m, p);
-        let to = place_behind(market, m, p);
+        let to = place_behind(market, m, pairs, i);
         add(last[p as usize], found);
         add_between(&marks[p as usize], from, to, found);
     }
@@ -188,25 +194,27 @@ fn mark_moves(
     requires made { IsPairingOf market.now m.now }
     requires exposed { IsExposed market.now m.now.places pairs.now }
     requires for_entries { AreMarksFor market.now (marks_in marks.old) }
-    ensures { AreMarked market.now pairs.now (length pairs.now) j (marks_in marks.old) (marks_in marks.new) }
+    ensures marked { AreMarked market.now pairs.now (length pairs.now) j (marks_in marks.old) (marks_in marks.new) }
+    ensures market { IsMarket market.now }
 {
     prove!(market.proposers() < 1 << 24);
     for i in 0..pairs.len() {
         let p = pairs[i].0;
         let r = pairs[next_in(i, pairs.len())].1;
-        let better = market.cross(p, place_behind(market, m, p));
+        let better = market.cross(p, place_behind(market, m, pairs, i));
         mark_span(market, r, better, market.reviewer_standing(m, r), j, marks);
     }
 }
 
-/// The place of the successor of a proposer that has one.
-fn place_behind(market: &Market, m: &Pairing, p: u32) -> u32
-    requires in_range { p < length market.now.proposers }
+/// The place to which the proposer of a pair of an exposed rotation moves.
+fn place_behind(market: &Market, m: &Pairing, pairs: &[(u32, u32)], i: usize) -> u32
+    requires in_range { i < length pairs.now }
     requires made { IsPairingOf market.now m.now }
-    requires some { ¬ ((i : ℕ) → ¬ IsSuccessor market.now m.now.places p i) }
-    ensures { IsSuccessor market.now m.now.places p result }
+    requires exposed { IsExposed market.now m.now.places pairs.now }
+    ensures { result ≡ place_of market.now.proposers (proposer_at pairs.now i) (target_at pairs.now i) }
 {
-    let Some(place) = successor(market, m, p) else {
+    prove!(market.proposers() < 1 << 24);
+    let Some(place) = successor(market, m, pairs[i].0) else {
         unreachable!()
     };
     place
