@@ -7,3 +7,5 @@ pub mod ReducedLemmas
 pub mod RoomLemmas
 pub mod PartyLemmas
 pub mod FlowLemmas
+pub mod AmongLemmas
+pub mod NotingLemmas

@@ -1,5 +1,6 @@
 pub mod Trails
 pub mod Exposure
+pub mod Noting
 pub mod Laws
 pub mod Rooms
 pub mod RoomsKept

@@ -1,7 +1,7 @@
 use Rattle.std.proofs.Common.{◌≡◌, ℕ, ◌<◌, length, replicate, None}
 use Rattle.sm_market.specs.Lists.{row}
-use Rattle.sm_rotations.specs.Marking.{marks_in, marks_of}
-use Rattle.sm_rotations.proofs.predecessors.no_marks.Given as goal
+use Rattle.sm_theory.specs.Marks.{marks_in, marks_of}
+use Rattle.sm_theory.proofs.marks.no_marks.Given as goal
 
 abbrev pub invariant-loop-p : goal.invariant-loop-p
 invariant-loop-p l = record {
