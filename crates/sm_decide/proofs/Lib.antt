@@ -9,3 +9,7 @@ pub mod PartyLemmas
 pub mod FlowLemmas
 pub mod AmongLemmas
 pub mod NotingLemmas
+pub mod PairLemmas
+pub mod NetLemmas
+pub mod RepeatLemmas
+pub mod ReachLemmas

@@ -5,3 +5,7 @@ pub mod Laws
 pub mod Rooms
 pub mod RoomsKept
 pub mod FlowSums
+pub mod Pairs
+pub mod CheckedNets
+pub mod Repeats
+pub mod Reaching
