@@ -4,4 +4,6 @@ mod JudgingLemmas
 mod ListingLemmas
 mod VectorLemmas
 mod LeftLemmas
+mod TakingLemmas
+mod SeatLemmas
 mod WitnessLemmas

@@ -3,6 +3,7 @@ pub mod Layouts
 pub mod Seats
 pub mod Lefts
 pub mod Forms
+pub mod Taking
 pub mod Verdicts
 pub mod Said
 pub mod Pairs

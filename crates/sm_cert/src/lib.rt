@@ -4,12 +4,18 @@
 //! first that fails is the verdict. What the clauses say stands in `specs`, by the definitions of the field alone.
 #![tactic(auto)]
 
+mod answers;
+mod faults;
+mod forms;
 mod keywords;
 pub mod laws;
 mod layouts;
 mod listing;
+mod reading;
 mod verdicts;
 pub mod witnesses;
 
+pub use faults::AnswerFault;
 pub use listing::list_verdict;
+pub use reading::read_answer;
 pub use verdicts::{Reason, Verdict};
