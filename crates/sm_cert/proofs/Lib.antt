@@ -6,4 +6,5 @@ mod VectorLemmas
 mod LeftLemmas
 mod TakingLemmas
 mod SeatLemmas
+mod YesLemmas
 mod WitnessLemmas

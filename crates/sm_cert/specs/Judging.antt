@@ -39,7 +39,8 @@ PartiesClauses persons above line why = PartiesHold persons (parties_in above) l
 -- what the clause of a reason says at line k of an answer
 abbrev pub Holds : Input → List LineData → ℕ → Reason → Type 0
 Holds (Two w) (LineData.Answer head ∷ lines) k why = AtLine (TwoClauses w head) (LineData.Answer head ∷ lines) k why
-Holds (Room persons) (head ∷ LineData.Nothing ∷ lines) k why = AtLine (PartiesClauses persons) (head ∷ LineData.Nothing ∷ lines) k why
+Holds (Room persons) (head ∷ LineData.Nothing ∷ lines) k why =
+    AtLine (PartiesClauses persons) (head ∷ LineData.Nothing ∷ lines) k why
 Holds (Room persons) lines k why = AtLine (CouplesClauses persons) lines k why
 Holds (Two w) lines k why = Unit {0}
 

@@ -15,4 +15,5 @@ pub mod Rooming
 pub mod Judging
 pub mod Listing
 pub mod Laws
+pub mod Yes
 pub mod Witnesses

@@ -60,7 +60,8 @@ pub record TookText (input : Input) (before after : Answer) (text : List ℕ) : 
 
 abbrev pub TakesText : Input → (before after : Answer) → List ℕ → Bool → Type 0
 TakesText input before after text true = TookText input before after text
-TakesText input before after text false = (line : LineData) → HasText input text line → may_stand input (lines_in before) line ≡ false
+TakesText input before after text false =
+    (line : LineData) → HasText input text line → may_stand input (lines_in before) line ≡ false
 
 -- why no answer is read; want of memory says nothing
 abbrev pub IsAnswerFault : Input → List (List ℕ) → AnswerFault → Type 0
