@@ -7,4 +7,6 @@ mod LeftLemmas
 mod TakingLemmas
 mod SeatLemmas
 mod YesLemmas
+mod LinewiseLemmas
 mod WitnessLemmas
+mod WeightLemmas

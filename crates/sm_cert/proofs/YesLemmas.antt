@@ -1,14 +1,12 @@
 -- What a yes on an answer of `list` means.
-use Rattle.std.proofs.Common.{◌≡◌, ℕ, zero, suc, ◌+◌, ◌<◌, ◌≤◌, ◌⊎◌, inl, inr, arith, refl, sym, ap, ◌∙◌, Bool, true, false, List, [], ◌∷◌, ◌++◌, length, map, take, slice_index_or, Option, None, Some, length-append, subst, take_all, append-nil}
-use Rattle.std.specs.Prelude.{filter_map, IfSome}
+use Rattle.std.proofs.Common.{◌≡◌, ℕ, zero, suc, ◌+◌, ◌<◌, ◌≤◌, inl, inr, arith, refl, sym, ap, ◌∙◌, List, [], ◌∷◌, ◌++◌, length, take, slice_index_or, Option, None, Some, length-append, subst, take_all, append-nil}
+use Rattle.std.specs.Prelude.{IfSome}
 use Rattle.std.specs.List.{cons_option, slice_get}
 use Rattle.std.proofs.lemmas.Option.{slice_get-get_or}
-use Rattle.sm_instance.specs.Stable.{IsStable}
-use Rattle.sm_instance.specs.Allowed.{IsAllowed}
-use Rattle.sm_instance.specs.Ranks.{rank_vector_of, IsBefore}
+use Rattle.sm_instance.specs.Ranks.{IsBefore}
 use Rattle.std.proofs.Math.Seq.{take-suc}
 use Rattle.std.proofs.lemmas.List.Elements.{filter_map-append}
-use Rattle.sm_lists.proofs.Counting.{lt_or_le, eq_or_ne}
+use Rattle.sm_lists.proofs.Counting.{lt_or_le}
 use Rattle.sm_instance.specs.Written.{Written}
 use Rattle.sm_instance.specs.declared.inputs.Input.TheVariants.{Two}
 use Rattle.sm_theory.specs.Listings.{IsBehind, end_of}
@@ -21,7 +19,7 @@ use Rattle.sm_cert.specs.Verdicts.{AtLine}
 use Rattle.sm_cert.specs.Said.{vector_in, vectors_in}
 use Rattle.sm_cert.specs.Vectors.{ListHolds, VectorHolds, ListClauses, order_of, places_of_ranks}
 use Rattle.sm_cert.specs.Judging.{Holds}
-use Rattle.sm_cert.specs.Yes.{AreListed, GetsYes, ListYes}
+use Rattle.sm_cert.specs.Yes.{AreListed, ListYes}
 
 some_same : {X : Type 0} {x y : X} → Some x ≡ Some y → x ≡ y
 some_same e = cc

@@ -17,3 +17,4 @@ pub mod Listing
 pub mod Laws
 pub mod Yes
 pub mod Witnesses
+pub mod WitnessesWeight
