@@ -4,8 +4,13 @@ mod JudgingLemmas
 mod ListingLemmas
 mod VectorLemmas
 mod LeftLemmas
+mod TakingLemmas
+mod SeatLemmas
+mod YesLemmas
+mod LinewiseLemmas
 mod WitnessLemmas
 mod AnswerLemmas
 mod PairLemmas
 mod RegretLemmas
 pub mod WantedLemmas
+mod WeightLemmas

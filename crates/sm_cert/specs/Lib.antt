@@ -3,6 +3,7 @@ pub mod Layouts
 pub mod Seats
 pub mod Lefts
 pub mod Forms
+pub mod Taking
 pub mod Verdicts
 pub mod Said
 pub mod Pairs
@@ -19,4 +20,6 @@ pub mod PairsKept
 pub mod WantedKept
 pub mod Regrets
 pub mod Laws
+pub mod Yes
 pub mod Witnesses
+pub mod WitnessesWeight

@@ -4,19 +4,25 @@
 //! first that fails is the verdict. What the clauses say stands in `specs`, by the definitions of the field alone.
 #![tactic(auto)]
 
+mod answers;
 mod chosen;
+mod faults;
+mod forms;
 mod judging;
 mod keywords;
 pub mod laws;
 mod layouts;
 mod listing;
 mod pairs;
+mod reading;
 mod regret;
 mod verdicts;
 mod wanted;
 pub mod witnesses;
 
 pub use chosen::chosen_verdict;
+pub use faults::AnswerFault;
 pub use listing::list_verdict;
+pub use reading::read_answer;
 pub use regret::regret_verdict;
 pub use verdicts::{Reason, Verdict};
