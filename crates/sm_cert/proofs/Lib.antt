@@ -7,3 +7,5 @@ mod WitnessLemmas
 mod AnswerLemmas
 mod PairLemmas
 mod RegretLemmas
+mod PersonLemmas
+mod CoupleLemmas

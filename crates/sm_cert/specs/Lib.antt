@@ -15,5 +15,6 @@ pub mod Listing
 pub mod Walking
 pub mod PairsKept
 pub mod Regrets
+pub mod CouplesKept
 pub mod Laws
 pub mod Witnesses

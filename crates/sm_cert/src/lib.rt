@@ -4,15 +4,18 @@
 //! first that fails is the verdict. What the clauses say stands in `specs`, by the definitions of the field alone.
 #![tactic(auto)]
 
+mod couples;
 mod keywords;
 pub mod laws;
 mod layouts;
 mod listing;
 mod pairs;
+mod persons;
 mod regret;
 mod verdicts;
 pub mod witnesses;
 
+pub use couples::couples_verdict;
 pub use listing::list_verdict;
 pub use regret::regret_verdict;
 pub use verdicts::{Reason, Verdict};
