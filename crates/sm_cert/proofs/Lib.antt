@@ -3,6 +3,7 @@ mod LayoutLemmas
 mod JudgingLemmas
 mod ListingLemmas
 mod VectorLemmas
+mod LeftLemmas
 mod WitnessLemmas
 mod AnswerLemmas
 mod PairLemmas

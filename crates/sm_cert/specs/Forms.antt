@@ -13,6 +13,7 @@ use Rattle.sm_cert.specs.declared.keywords.Keyword.TheVariants as keyword
 use Rattle.sm_cert.specs.Keywords.{keyword_of}
 use Rattle.sm_cert.specs.declared.layouts.Part.{Part}
 use Rattle.sm_cert.specs.declared.layouts.Part.TheVariants.{One, Many, Blocks}
+use Rattle.sm_cert.specs.declared.layouts.Turn.{Turn}
 use Rattle.sm_cert.specs.declared.layouts.Opening.{Opening}
 use Rattle.sm_cert.specs.Layouts.{is_begun, is_whole}
 use Rattle.sm_cert.specs.Seats.{is_seat}
@@ -23,8 +24,11 @@ abbrev pub closing : List Part
 closing = One keyword.End ∷ []
 
 -- blocks of so many lines, numbered from 1
+abbrev pub first_turn : ℕ → Turn
+first_turn lines = record { lines = lines; place = 0; number = 1 }
+
 abbrev pub blocks_of : ℕ → Part
-blocks_of lines = Blocks (record { lines = lines; place = 0; number = 1 })
+blocks_of lines = Blocks (first_turn lines)
 
 abbrev pub solve_layout : List Part
 solve_layout = Many keyword.Pair ∷ closing

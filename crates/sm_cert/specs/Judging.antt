@@ -29,18 +29,23 @@ TwoClauses w HeadData.Meet above line why = ChosenHold Better w (lefts_in above)
 TwoClauses w HeadData.Join above line why = ChosenHold Worse w (lefts_in above) (rights_in above) (pairs_in above) line why
 TwoClauses w _ above line why = Unit {0}
 
--- in one over roommates: of a matching, and of parties
-abbrev pub CouplesClauses : List AgentData → List LineData → LineData → Reason → Type 0
-CouplesClauses persons above line why = CouplesHold persons (pairs_in above) line why
+-- what an answer is judged as: one with this head over an instance with two sides; or, over roommates, a matching, or the
+-- parties by which there is none
+pub data Subject : Type 0 where
+  answer : Written → HeadData → Subject
+  couples : List AgentData → Subject
+  parties : List AgentData → Subject
 
-abbrev pub PartiesClauses : List AgentData → List LineData → LineData → Reason → Type 0
-PartiesClauses persons above line why = PartiesHold persons (parties_in above) line why
+abbrev pub Clauses : Subject → List LineData → LineData → Reason → Type 0
+Clauses (answer w head) above line why = TwoClauses w head above line why
+Clauses (couples persons) above line why = CouplesHold persons (pairs_in above) line why
+Clauses (parties persons) above line why = PartiesHold persons (parties_in above) line why
 
 -- what the clause of a reason says at line k of an answer
 abbrev pub Holds : Input → List LineData → ℕ → Reason → Type 0
-Holds (Two w) (LineData.Answer head ∷ lines) k why = AtLine (TwoClauses w head) (LineData.Answer head ∷ lines) k why
-Holds (Room persons) (head ∷ LineData.Nothing ∷ lines) k why = AtLine (PartiesClauses persons) (head ∷ LineData.Nothing ∷ lines) k why
-Holds (Room persons) lines k why = AtLine (CouplesClauses persons) lines k why
+Holds (Two w) (LineData.Answer head ∷ lines) k why = AtLine (Clauses (answer w head)) (LineData.Answer head ∷ lines) k why
+Holds (Room persons) (head ∷ LineData.Nothing ∷ lines) k why = AtLine (Clauses (parties persons)) (head ∷ LineData.Nothing ∷ lines) k why
+Holds (Room persons) lines k why = AtLine (Clauses (couples persons)) lines k why
 Holds (Two w) lines k why = Unit {0}
 
 -- the texts are an answer's lines, and this is the verdict on it

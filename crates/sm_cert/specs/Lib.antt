@@ -1,6 +1,7 @@
 pub mod Keywords
 pub mod Layouts
 pub mod Seats
+pub mod Lefts
 pub mod Forms
 pub mod Verdicts
 pub mod Said
@@ -11,6 +12,7 @@ pub mod Flows
 pub mod Vectors
 pub mod Rooming
 pub mod Judging
+pub mod Judges
 pub mod Listing
 pub mod Walking
 pub mod PairsKept

@@ -5,6 +5,7 @@
 #![tactic(auto)]
 
 mod couples;
+mod judging;
 mod keywords;
 pub mod laws;
 mod layouts;

@@ -1,5 +1,9 @@
 pub mod TrailLemmas
 pub mod SafeLemmas
+pub mod SearchLemmas
 pub mod PathLemmas
+pub mod BestLemmas
+pub mod ReducedLemmas
 pub mod RoomLemmas
 pub mod PartyLemmas
+pub mod FlowLemmas

@@ -4,12 +4,12 @@ ghost use Rattle.std.specs.Prelude.{◌≡◌, ℕ, ◌<◌, ◌≤◌, ◌↔�
 ghost use Rattle.sm_market.specs.Lists.{row, IsMarket};
 ghost use Rattle.sm_market.specs.Matching.{Places, standing};
 ghost use Rattle.sm_market.specs.Pairing.{IsPairingOf};
-ghost use Rattle.sm_theory.specs.Rotations.{WouldTake, IsSuccessor, IsNext, IsNoneBelow};
+ghost use Rattle.sm_theory.specs.Rotations.{WouldTake, IsSuccessor, IsNext, IsNoneBelow, IsNothingExposed, IsLowestExposed};
 ghost use Rattle.sm_decide.specs.Exposure.{IsSearchAt, IsSafe, AreSafe};
 
 use crate::trail::Trail;
 use sm_market::{Market, Pairing};
-use sm_theory::would_take;
+use sm_theory::{Rotation, is_exposed, would_take};
 use std::alloc::{AllocError, Global};
 use std::marker::Model;
 
@@ -66,6 +66,31 @@ impl Search {
         ensures decided { IsTrue result ↔ IsNoneBelow market.now m.now.places bound }
     {
         none_below(market, m, bound, &mut self.trail, &mut self.from)
+    }
+
+    /// Whether no rotation is exposed. Takes the time of [`Search::none_below`].
+    pub fn is_nothing_exposed(&mut self, market: &Market, m: &Pairing) -> bool
+        requires made { IsPairingOf market.now m.now }
+        requires search { IsSearchAt market.now m.now.places self.old }
+        ensures search { IsSearchAt market.now m.now.places self.new }
+        ensures decided { IsTrue result ↔ IsNothingExposed market.now m.now.places }
+        ensures market { IsMarket market.now }
+    {
+        self.none_below(market, m, market.proposers())
+    }
+
+    /// Whether a rotation is exposed, and begins with the lowest-numbered proposer of all exposed rotations. Any numbers may
+    /// stand in the rotation. Takes the time of [`is_exposed`] and [`Search::none_below`].
+    pub fn is_lowest_exposed(&mut self, market: &Market, m: &Pairing, rotation: &Rotation) -> bool
+        requires made { IsPairingOf market.now m.now }
+        requires search { IsSearchAt market.now m.now.places self.old }
+        ensures search { IsSearchAt market.now m.now.places self.new }
+        ensures decided { IsTrue result ↔ IsLowestExposed market.now m.now.places rotation.now.pairs.items }
+    {
+        if !is_exposed(market, m, rotation) {
+            return false;
+        }
+        self.none_below(market, m, rotation.pairs[0].0)
     }
 }
 

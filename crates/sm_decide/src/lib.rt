@@ -3,17 +3,26 @@
 //! Nothing here looks for an answer. Each function is given one, as values, and tells whether it is what it should be
 //! (McConnell, Mehlhorn, Näher and Schweitzer 2011).
 //!
-//! [`Search`] tells of a stable pairing whether rotations are exposed at it, and so whether it is the best of a side.
-//! [`is_room_stable`] and [`is_stable_partition`] tell of a matching and of a partition of roommates whether they are stable.
+//! [`Search`] tells of a stable pairing which rotations are exposed at it, and [`is_proposers_best`] and [`is_reviewers_best`]
+//! whether it is the best of a side. [`is_reduced_proposer_list`] and [`is_reduced_reviewer_list`] tell of a list whether it is
+//! one of the reduced lists. [`is_room_stable`] and [`is_stable_partition`] tell of a matching and of a partition of roommates
+//! whether they are stable. [`is_conserved`] and [`amount_from_source`] tell of the lines of a flow.
 #![tactic(auto)]
 
+mod best;
 mod couples;
 mod exposure;
+mod flow_sums;
+pub mod laws;
 mod partitions;
+mod reduced;
 mod room_lists;
 mod trail;
 
+pub use best::{is_proposers_best, is_reviewers_best};
 pub use couples::is_room_stable;
 pub use exposure::Search;
+pub use flow_sums::{amount_from_source, is_conserved};
 pub use partitions::is_stable_partition;
+pub use reduced::{is_reduced_proposer_list, is_reduced_reviewer_list};
 pub use room_lists::RoomLists;

@@ -15,10 +15,9 @@ ghost use Rattle.sm_rotations.specs.Graph.{AreFollowers};
 ghost use Rattle.sm_rotations.specs.Marking.{marks_in, marks_of, mark_at, note_of, AreMarksFor, AreMoved, AreMarked, IsSpanMarked, IsBetween, Adds};
 ghost use Rattle.sm_rotations.specs.Footings.{footing_at, AreFootings, AreSteps, IsFoundAlong};
 
-use crate::elimination::move_round;
 use crate::graph::{add_once, empty_lists, needs_by_followers};
 use sm_market::{Market, Pairing, next_in};
-use sm_theory::Chain;
+use sm_theory::{Chain, move_round};
 use std::alloc::{AllocError, Global};
 
 /// How the proposer of a pair of a rotation stands on its list, and the reviewer of the next pair on its own. An elimination

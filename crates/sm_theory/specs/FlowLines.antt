@@ -18,9 +18,9 @@ amount_from lines i = sum_by (λ line. if line.from == i then line.amount else 0
 abbrev pub amount_to : List FlowLine → ℕ → ℕ
 amount_to lines j = sum_by (λ line. if line.to == j then line.amount else 0) lines
 
--- the ends of the lines are nodes of the net
-abbrev pub AreOnNodes : Net → List FlowLine → Type 0
-AreOnNodes net lines = (a : ℕ) → a < length lines → ((line_at lines a).from < suc (sink_of net)) × ((line_at lines a).to < suc (sink_of net))
+-- the ends of the lines are among so many nodes
+abbrev pub AreOnNodes : (nodes : ℕ) → List FlowLine → Type 0
+AreOnNodes nodes lines = (a : ℕ) → a < length lines → ((line_at lines a).from < nodes) × ((line_at lines a).to < nodes)
 
 -- the amounts are within the rooms
 abbrev pub AreWithin : Net → List FlowLine → Type 0
@@ -56,4 +56,4 @@ pub record AreLines (net : Net) (lines : List FlowLine) : Type 0 where
   pub rising : (a b : ℕ) → a < b → b < length lines → IsLineBefore (line_at lines a) (line_at lines b)
   pub positive : (a : ℕ) → a < length lines → 0 < (line_at lines a).amount
   pub edges : (a : ℕ) → a < length lines → HasEdge net (line_at lines a).from (line_at lines a).to
-  pub nodes : AreOnNodes net lines
+  pub nodes : AreOnNodes (suc (sink_of net)) lines

@@ -1,5 +1,5 @@
 -- The laws of flows and of the lightest allowed matching. Each is the contract of a function of `laws`.
-use Rattle.std.specs.Prelude.{◌≡◌, ℕ, ◌≤◌, ◌⊎◌, ◌↔◌, Bool, true, false, List, ℤ}
+use Rattle.std.specs.Prelude.{◌≡◌, ℕ, suc, ◌≤◌, ◌⊎◌, ◌↔◌, Bool, true, false, List, ℤ}
 use Rattle.sm_market.specs.Lists.{Lists}
 use Rattle.sm_market.specs.Matching.{Places, standing}
 use Rattle.sm_market.specs.Stable.{IsStable}
@@ -22,7 +22,7 @@ FullCutsAreUnleft = (net : Net) (flow : ℕ → ℕ → ℕ) (set : List Bool) �
 
 -- amounts on lines are a flow exactly where they are within the rooms and conserved, and its value is what leaves the source
 abbrev pub FlowOfLines : Type 0
-FlowOfLines = (net : Net) (lines : List FlowLine) → AreOnNodes net lines
+FlowOfLines = (net : Net) (lines : List FlowLine) → AreOnNodes (suc (sink_of net)) lines
     → (IsFlow net (amount_on lines) ↔ (AreWithin net lines × IsConserved net.size lines))
     × (flow_value net (amount_on lines) ≡ amount_from lines 0)
 

@@ -1,8 +1,8 @@
 -- The lines of a maximum flow.
-use Rattle.std.specs.Prelude.{◌≡◌, ℕ, zero, suc, ◌==◌, ◌&&◌, ◌<◌, if◌then◌else◌, Bool, List, [], ◌∷◌, ◌++◌, length, slice_index_or, sum_by}
+use Rattle.std.specs.Prelude.{◌≡◌, ℕ, zero, suc, ◌<◌, Bool, List, [], ◌∷◌, ◌++◌, length}
 use Rattle.sm_flow.specs.Flowing.{amount, is_in}
 use Rattle.sm_theory.specs.ClosedSets.{is_member}
-use Rattle.sm_theory.specs.Net.{Net, sink_of, NoneLeaves}
+use Rattle.sm_theory.specs.Net.{Net, NoneLeaves}
 use Rattle.sm_theory.specs.FlowLines.{amount_on, AreLines}
 use Rattle.sm_theory.specs.declared.flow_lines.FlowLine.{FlowLine}
 use Rattle.sm_theory.specs.Flows.{IsFlow, flow_value, IsResidualStep, IsResidualReach}

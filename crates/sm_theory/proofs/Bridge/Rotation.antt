@@ -5,6 +5,8 @@ use Rattle.std.proofs.lemmas.Option.{same_Some, none-some}
 use Rattle.sm_market.specs.Lists.{Lists, row, entry, place_of, IsMarket}
 use Rattle.sm_market.specs.Matching.{Places, held, standing, IsMatching}
 use Rattle.sm_market.specs.Stable.{IsStable}
+use Rattle.sm_market.specs.Cycles.{places_after}
+use Rattle.sm_market.proofs.PairingLemmas.{one_matching}
 use Rattle.sm_market.proofs.CycleLemmas as Cycles
 use Rattle.sm_market.proofs.CycleLemmas.{AreDistinct}
 use Rattle.sm_lists.proofs.Counting.{lt_or_le, less_same_more}
@@ -142,3 +144,8 @@ module _ {l : Lists} (h : IsMarket l) {m : Places} where
 
   pub eliminated_stable : (s : IsStable l m) {rotation : List (ℕ × ℕ)} → IsExposed l m rotation → IsStable l (eliminated l m rotation)
   eliminated_stable s x = record { matching = eliminated_matching s.matching x; unblocked = unblocked_of h (elim_stable (stable_of h s) (exposed_of s.matching x) (elim_of s.matching x)) }
+
+-- the matching that a turn leaves
+pub turned_is : {l : Lists} {m n : Places} {rotation : List (ℕ × ℕ)} → IsMarket l → IsMatching l m → IsExposed l m rotation → IsMatching l n
+    → n.proposers ≡ places_after l m.proposers rotation → n ≡ eliminated l m rotation
+turned_is h f x g e = one_matching g (eliminated_matching h f x) e

@@ -1,14 +1,13 @@
 //! Eliminating a rotation.
 
-ghost use Rattle.std.specs.Prelude.{◌≡◌, length, IfOk, OnOk};
+ghost use Rattle.std.specs.Prelude.{◌≡◌};
 ghost use Rattle.sm_market.specs.Lists.{IsMarket};
 ghost use Rattle.sm_market.specs.Stable.{IsStable};
 ghost use Rattle.sm_market.specs.Pairing.{IsPairingOf};
 ghost use Rattle.sm_theory.specs.Rotations.{IsExposed, eliminated};
 
-use sm_market::{Market, Pairing, PairingFault};
-use sm_theory::Rotation;
-use std::alloc::{AllocError, Global};
+use crate::rotations::Rotation;
+use sm_market::{Market, Pairing};
 
 /// Moves each proposer of a rotation to the reviewer of the next pair, and the last one to that of the first pair. What
 /// comes out is stable again.
@@ -27,8 +26,8 @@ pub fn eliminate(market: &Market, m: &mut Pairing, rotation: &Rotation)
     move_round(market, m, rotation);
 }
 
-/// The same of a pairing that needn't be stable.
-pub(crate) fn move_round(market: &Market, m: &mut Pairing, rotation: &Rotation)
+/// The same of a pairing that needn't be stable, as [`eliminate`] does it.
+pub fn move_round(market: &Market, m: &mut Pairing, rotation: &Rotation)
     requires made { IsPairingOf market.now m.old }
     requires exposed { IsExposed market.now m.old.places rotation.now.pairs.items }
     ensures made { IsPairingOf market.now m.new }

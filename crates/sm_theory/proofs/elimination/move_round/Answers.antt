@@ -1,7 +1,7 @@
 use Rattle.std.proofs.Common.{◌≡◌}
 use Rattle.sm_market.specs.Cycles.{places_after}
-use Rattle.sm_rotations.proofs.EliminationLemmas.{turned_is}
-use Rattle.sm_rotations.proofs.elimination.move_round.Goals as goal
+use Rattle.sm_theory.proofs.Bridge.Rotation.{turned_is}
+use Rattle.sm_theory.proofs.elimination.move_round.Goals as goal
 
 pub returns-clause-moved : goal.returns-clause-moved
 returns-clause-moved c =
