@@ -1,5 +1,5 @@
 -- The walk through the lines of an answer: the clauses hold above a line, and something is kept for the lines below.
-use Rattle.std.proofs.Common.{◌≡◌, ℕ, ◌+◌, ◌<◌, ◌≤◌, arith, refl, sym, ap, ◌∙◌, subst, ⊎_elim, List, [], ◌∷◌, ◌++◌, length, map, take, get_or, Option, None, Some}
+use Rattle.std.proofs.Common.{◌≡◌, ℕ, ◌+◌, ◌<◌, ◌≤◌, arith, refl, sym, ap, ◌∙◌, subst, ⊎_elim, List, [], ◌∷◌, ◌++◌, length, map, take, get_or, Option, None, Some, lit≤}
 use Rattle.std.specs.Prelude.{IfSome, All, filter_map}
 use Rattle.std.specs.List.{slice_get, cons_option}
 use Rattle.std.specs.Option.{option_or}
@@ -10,8 +10,9 @@ use Rattle.std.proofs.lemmas.List.Elements.{filter_map-append, All-get_or}
 use Rattle.sm_report.specs.declared.lines.Line.{Line}
 use Rattle.sm_report.specs.Lines.{LineData, line_of}
 use Rattle.sm_cert.specs.declared.verdicts.Reason.{Reason}
+use Rattle.sm_cert.specs.declared.verdicts.Reason.TheVariants as reason
 use Rattle.sm_cert.specs.declared.verdicts.Verdict.TheVariants as verdict
-use Rattle.sm_cert.specs.Verdicts.{AtLine, IsVerdict, Finds}
+use Rattle.sm_cert.specs.Verdicts.{AtLine, IsVerdict, IsFirstThere, Finds, number_of_reason}
 use Rattle.sm_cert.proofs.JudgingLemmas.{first_failure, one_more, line_at, found_at, past_end, above_next}
 
 -- what holds of all lines, of one that is read
@@ -37,6 +38,37 @@ first_more said (y ∷ ys) x = refl
 pub found_by : {A B : Reason → Type 0} → ((why : Reason) → A why → B why) → ((why : Reason) → B why → A why) → (r : Option Reason) → Finds A r → Finds B r
 found_by to from None all = λ why. to why (all why)
 found_by to from (Some why) f = record { clauses_before = λ other l. to other (f.clauses_before other l); fails = λ h. f.fails (from why h) }
+
+-- the clause of the first reason, where it fails
+least_reason : (why : Reason) → 1 ≤ number_of_reason why
+least_reason reason.NotAMatching = lit≤ tt
+least_reason reason.Blocked = lit≤ tt
+least_reason reason.NotBest = lit≤ tt
+least_reason reason.WrongList = lit≤ tt
+least_reason reason.NotExposed = lit≤ tt
+least_reason reason.RotationMissing = lit≤ tt
+least_reason reason.WrongNeeds = lit≤ tt
+least_reason reason.WrongGain = lit≤ tt
+least_reason reason.NoEdge = lit≤ tt
+least_reason reason.OverRoom = lit≤ tt
+least_reason reason.NotConserved = lit≤ tt
+least_reason reason.NotClosed = lit≤ tt
+least_reason reason.WrongValue = lit≤ tt
+least_reason reason.WrongCut = lit≤ tt
+least_reason reason.CutDiffers = lit≤ tt
+least_reason reason.WrongTotal = lit≤ tt
+least_reason reason.WrongPair = lit≤ tt
+least_reason reason.NotLeast = lit≤ tt
+least_reason reason.NotRising = lit≤ tt
+least_reason reason.NotAllowed = lit≤ tt
+least_reason reason.OverLimit = lit≤ tt
+least_reason reason.WrongTail = lit≤ tt
+least_reason reason.WrongRegret = lit≤ tt
+least_reason reason.NotPartition = lit≤ tt
+least_reason reason.NoOddParty = lit≤ tt
+
+pub first_clause : {Holds : Reason → Type 0} → ¬ Holds reason.NotAMatching → IsFirstThere Holds reason.NotAMatching
+first_clause none = record { clauses_before = λ other l. absurd (omega (arith, least_reason other)); fails = none }
 
 -- the clauses hold at all lines above line k
 pub record HoldAbove (Clauses : List LineData → LineData → Reason → Type 0) (lines : List LineData) (k : ℕ) : Type 0 where

@@ -14,3 +14,5 @@ mod PairLemmas
 mod RegretLemmas
 pub mod WantedLemmas
 mod WeightLemmas
+mod PersonLemmas
+mod CoupleLemmas

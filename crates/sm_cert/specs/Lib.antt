@@ -19,6 +19,7 @@ pub mod Walking
 pub mod PairsKept
 pub mod WantedKept
 pub mod Regrets
+pub mod CouplesKept
 pub mod Laws
 pub mod Yes
 pub mod Witnesses

@@ -6,6 +6,7 @@
 
 mod answers;
 mod chosen;
+mod couples;
 mod faults;
 mod forms;
 mod judging;
@@ -14,6 +15,7 @@ pub mod laws;
 mod layouts;
 mod listing;
 mod pairs;
+mod persons;
 mod reading;
 mod regret;
 mod verdicts;
@@ -21,6 +23,7 @@ mod wanted;
 pub mod witnesses;
 
 pub use chosen::chosen_verdict;
+pub use couples::couples_verdict;
 pub use faults::AnswerFault;
 pub use listing::list_verdict;
 pub use reading::read_answer;
