@@ -2,12 +2,12 @@
 use Rattle.std.proofs.Common.{◌≡◌, ◌≢◌, ℕ, zero, suc, ◌+◌, ◌-◌, ◌<◌, ◌≤◌, inl, inr, arith, refl, sym, ap, ◌∙◌, List, [], ◌∷◌, ◌++◌, length, slice_index, Option, Some, None, IsSome, MatchOption}
 use Rattle.std.proofs.lemmas.List.{get_or_append_left, get_or_push, length_push}
 use Rattle.sm_lists.proofs.Counting.{lt_or_le, eq_or_ne, less_same_more}
-use Rattle.sm_market.specs.Lists.{Lists, entry, IsMarket}
+use Rattle.sm_market.specs.Lists.{Lists, row, entry, IsMarket}
 use Rattle.sm_market.specs.Matching.{Places, held, standing, IsMatching}
 use Rattle.sm_market.specs.Pairing.{Paired, IsPairingOf}
 use Rattle.sm_market.proofs.Core.{Pair, pair_of, one_reviewer}
 use Rattle.sm_market.proofs.Bridge.{sides_of, stand_of, fit_of}
-use Rattle.sm_theory.specs.Rotations.{IsSuccessor, IsNext, IsNoneBelow}
+use Rattle.sm_theory.specs.Rotations.{WouldTake, IsSuccessor, IsNext, IsNoneBelow}
 use Rattle.sm_theory.proofs.Core.Cycle.{Cycle, Succ, Exposed, target, turn, turn_in, turn_last, turn_more}
 use Rattle.sm_theory.proofs.Bridge.Rotation.{pair_of_held, succ_at}
 use Rattle.sm_theory.proofs.Chains.Links.{successor_named}
@@ -46,19 +46,28 @@ path_goes_on {l} {m} {items} {start} {p} {q} {next} w x = record {
     new : (k : ℕ) → k ≡ length items → slice_index (items ++ q ∷ []) k ≡ q
     new k e = get_or_push items q 0 k (sym e)
 
--- the proposer that has p's successor, as it is read
-pub next_answer : {l : Lists} {m : Paired} → IsMarket l → IsPairingOf l m → (p i : ℕ) → IsSuccessor l m.places p i → (o : Option ℕ) → held m.holders (entry l.proposers p i) ≡ o
-    → MatchOption o ((k : ℕ) → ¬ IsSuccessor l m.places p k) (λ q. IsNext l m.places p q)
-next_answer {l} {m} h made p i x None e = absurd (unmatched (held m.places.reviewers (entry l.proposers p i)) x.matched (holder_none made (entry l.proposers p i) e))
-  where
-    unmatched : (o : Option ℕ) → IsSome o → o ≡ None → ⊥
-    unmatched None s e = grind (arith, s)
-    unmatched (Some k) s e = grind arith
-next_answer {l} {m} h made p i x (Some q) e = record {
-  target = entry l.proposers p i;
-  next = successor_named l m.places p i (entry l.proposers p i) h x refl;
-  has = (holder_some made (entry l.proposers p i) q e).has;
-}
+-- the first reviewer behind p's partner that would take p, and the proposer that has it, as they are read
+module _ {l : Lists} {m : Paired} (h : IsMarket l) (made : IsPairingOf l m) (p i : ℕ) (on_list : i < length (row l.proposers p)) (behind : standing l.proposers m.places.proposers p < i)
+    (takes : WouldTake l m.places p i) (passed : (j : ℕ) → standing l.proposers m.places.proposers p < j → j < i → ¬ WouldTake l m.places p j) where
+  unmatched : (o : Option ℕ) → IsSome o → o ≡ None → ⊥
+  unmatched None s e = grind (arith, s)
+  unmatched (Some k) s e = grind arith
+
+  none_else : held m.places.reviewers (entry l.proposers p i) ≡ None → (k : ℕ) → ¬ IsSuccessor l m.places p k
+  none_else none k x = elim (less_same_more k i) [
+    | inl less ↦ passed k x.behind less x.takes
+    | inr d ↦ elim d [
+      | inl same ↦ unmatched (held m.places.reviewers (entry l.proposers p k)) x.matched (ap (λ k. held m.places.reviewers (entry l.proposers p k)) same ∙ none)
+      | inr more ↦ x.first i behind more takes
+    ]
+  ]
+
+  pub next_answer : (o : Option ℕ) → held m.holders (entry l.proposers p i) ≡ o → MatchOption o ((k : ℕ) → ¬ IsSuccessor l m.places p k) (λ q. IsNext l m.places p q)
+  next_answer None e = none_else (holder_none made (entry l.proposers p i) e)
+  next_answer (Some q) e =
+      let w = holder_some made (entry l.proposers p i) q e in
+      let x : IsSuccessor l m.places p i = record { on_list = on_list; behind = behind; takes = takes; first = passed; matched = w.matched } in
+      record { target = entry l.proposers p i; next = successor_named l m.places p i (entry l.proposers p i) h x refl; has = w.has }
 
 -- what was safe before stays so
 pub before_pushed : {l : Lists} {m : Places} {items : List ℕ} {start p q bound : ℕ} → IsPath l m items start p q → ((k : ℕ) → k < start → IsSafe l m bound (slice_index items k)) → (k : ℕ) → k < start → IsSafe l m bound (slice_index (items ++ q ∷ []) k)

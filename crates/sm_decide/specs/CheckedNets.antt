@@ -36,7 +36,7 @@ pub record AreRising (rows : List (List ℕ)) : Type 0 where
   pub rising : (k a b : ℕ) → a < b → b < length (row rows k) → slice_index (row rows k) a < slice_index (row rows k) b
 
 -- the numbers of each row are below n
-pub record AreBelow (n : ℕ) (rows : List (List ℕ)) : Type 0 where
+pub record AreNumbersBelow (n : ℕ) (rows : List (List ℕ)) : Type 0 where
   pub below : (k a : ℕ) → a < length (row rows k) → slice_index (row rows k) a < n
 
 -- what a net is kept by: a row of needs for each gain, of rotations that there are, rising
@@ -44,7 +44,7 @@ pub record IsKeptNet (parts : NetParts) : Type 0 where
   pub one_each : length parts.needs ≡ length parts.gains
   pub few : length parts.gains + 2 < 2 ^ 32
   pub rising : AreRising parts.needs
-  pub numbers : AreBelow (length parts.gains) parts.needs
+  pub numbers : AreNumbersBelow (length parts.gains) parts.needs
 
 -- a line is on an edge that leads not from the source to the sink
 pub record IsOnEdge (net : Net) (line : FlowLine) : Type 0 where

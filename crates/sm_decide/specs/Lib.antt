@@ -1,5 +1,9 @@
 pub mod Trails
 pub mod Exposure
+pub mod Noting
+pub mod Laws
+pub mod Rooms
+pub mod RoomsKept
 pub mod FlowSums
 pub mod Pairs
 pub mod CheckedNets

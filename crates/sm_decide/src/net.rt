@@ -6,7 +6,7 @@ ghost use Rattle.sm_lists.specs.Rows.{row, rows_of};
 ghost use Rattle.sm_theory.specs.Conditions.{rise_of, fall_of, leads_to_need};
 ghost use Rattle.sm_theory.specs.Net.{sink_of, room_of, is_unbounded, HasEdge, cut_of};
 ghost use Rattle.sm_theory.specs.FlowLines.{IsWithinRoom};
-ghost use Rattle.sm_decide.specs.CheckedNets.{net_in, HasParts, AreRising, AreBelow, IsOnEdge};
+ghost use Rattle.sm_decide.specs.CheckedNets.{net_in, HasParts, AreRising, AreNumbersBelow, IsOnEdge};
 ghost use Rattle.sm_decide.specs.Residual.{may_lead};
 
 use crate::pairs::Pairs;
@@ -43,7 +43,7 @@ impl CheckedNet {
         requires few { length gains.items + 2 < 2 ^ 32 }
         requires each { length needs.items ≡ length gains.items }
         requires rising { AreRising (rows_of needs.items) }
-        requires numbers { AreBelow (length gains.items) (rows_of needs.items) }
+        requires numbers { AreNumbersBelow (length gains.items) (rows_of needs.items) }
         ensures { HasParts result gains.items (rows_of needs.items) bonds.items }
     {
         CheckedNet {

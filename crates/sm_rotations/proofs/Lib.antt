@@ -1,4 +1,3 @@
-pub mod EliminationLemmas
 pub mod ChainLemmas
 pub mod MarkingLemmas
 pub mod CountLemmas

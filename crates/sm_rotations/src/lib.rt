@@ -6,7 +6,6 @@
 #![tactic(auto)]
 
 mod chains;
-mod elimination;
 mod exposure;
 mod graph;
 mod order;
@@ -14,7 +13,7 @@ mod predecessors;
 mod walk;
 
 pub use chains::{chain, chain_with_needs};
-pub use elimination::eliminate;
 pub use exposure::exposed;
 pub use order::ChainWithNeeds;
 pub use predecessors::needs;
+pub use sm_theory::eliminate;

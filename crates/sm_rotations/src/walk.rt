@@ -14,10 +14,9 @@ ghost use Rattle.sm_theory.specs.Values.{rotations_of};
 ghost use Rattle.sm_accept.specs.Linking.{IsLinkedOf, IsFront, IsFrontBut};
 ghost use Rattle.sm_rotations.specs.Walking.{IsLeftIn, IsNext, IsAtWorst, IsStack, ArePairsOf, AreTakenOff, is_finished, IsTopTakenOff, IsWalkStep, LeadsBack};
 
-use crate::elimination::eliminate;
 use sm_accept::{Linked, cut_to_partner, cut_to_partners};
 use sm_market::{Market, Pairing};
-use sm_theory::Rotation;
+use sm_theory::{Rotation, eliminate};
 use std::alloc::{AllocError, Global};
 
 /// What the walk does next.

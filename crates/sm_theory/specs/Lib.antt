@@ -1,5 +1,6 @@
 pub mod Market
 pub mod Lattice
+pub mod Choices
 pub mod Rotations
 pub mod Chains
 pub mod Marks

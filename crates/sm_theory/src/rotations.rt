@@ -42,8 +42,9 @@ pub fn successor(market: &Market, m: &Pairing, p: u32) -> Option<u32>
     None
 }
 
-/// Whether the reviewer at `place` of `p`'s list is unmatched or likes `p` more than its partner.
-fn would_take(market: &Market, m: &Pairing, p: u32, place: u32) -> bool
+/// Whether the reviewer at `place` of `p`'s list is unmatched or likes `p` more than its partner. The pairing has to be made
+/// for a market of these lists. Takes the same time for all.
+pub fn would_take(market: &Market, m: &Pairing, p: u32, place: u32) -> bool
     requires in_range { p < length market.now.proposers }
     requires on_list { place < length (row market.now.proposers p) }
     requires made { IsPairingOf market.now m.now }

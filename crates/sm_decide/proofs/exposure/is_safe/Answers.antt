@@ -14,6 +14,7 @@ pub steps-preserved : goal.steps-preserved
 steps-preserved c = rw c.push.ensures.pushed (record {
   proposers = c.steps.invariant.proposers;
   in_range = c.in-Some.ensures.in_range;
+  search = c.next_proposer.ensures.search;
   before = before_pushed c.steps.invariant.path c.steps.invariant.before;
   path = path_goes_on c.steps.invariant.path c.in-Some.ensures.next;
 })

@@ -6,6 +6,7 @@ use Rattle.sm_decide.proofs.exposure.none_below.Goals as goal
 pub loop-p-preserved : goal.loop-p-preserved
 loop-p-preserved c = record {
   proposers = c.is_safe.ensures.proposers ∙ c.loop-p.invariant.proposers;
+  search = c.is_safe.ensures.search;
   all = c.is_safe.ensures.all c.if-not-is_safe.false;
   before = λ q less. elim (eq_or_ne q c.loop-p.p) [
     | inl e ↦ rw e (c.is_safe.ensures.safe c.if-not-is_safe.false)
