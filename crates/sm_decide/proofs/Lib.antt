@@ -15,3 +15,4 @@ pub mod RepeatLemmas
 pub mod ReachLemmas
 pub mod PairListLemmas
 pub mod ResidualLemmas
+pub mod MoveLemmas

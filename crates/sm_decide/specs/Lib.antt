@@ -10,3 +10,4 @@ pub mod CheckedNets
 pub mod Repeats
 pub mod Reaching
 pub mod Residual
+pub mod Moves
