@@ -16,3 +16,5 @@ pub mod ReachLemmas
 pub mod PairListLemmas
 pub mod ResidualLemmas
 pub mod MoveLemmas
+pub mod ClosedLemmas
+pub mod SpanLemmas

@@ -11,3 +11,4 @@ pub mod Repeats
 pub mod Reaching
 pub mod Residual
 pub mod Moves
+pub mod Spans

@@ -1,0 +1,1 @@
+-- Where proposers come to levels and leave them.
