@@ -98,7 +98,7 @@ all_met i m e = record { one_each = m.said ∙ e; each = λ a less. m.each a (om
 
 -- a line that isn't repeated has other ends than all before it
 pub new_of : {lines : List FlowLine} {repeats : List Bool} (a : ℕ) → AreRepeats lines repeats → a < length lines → (IsMember repeats a → ⊥) → All (λ other. HaveSameEnds other (line_at lines a) → ⊥) (take a lines)
-new_of {lines} a r less fresh k d few = λ same. fresh ((r.each a less).1 (record { at = k; earlier = early; same = subst (λ x. HaveSameEnds x (line_at lines a)) (get_or-take a lines k d early ∙ get_or_default lines k d _ (omega arith)) same }))
+new_of {lines} a r less fresh k d few = λ same. fresh ((r.each a less).1 (record { at = k; earlier = early; same = subst (λ x. HaveSameEnds x (line_at lines a)) (get_or-take a lines k d early ∙ get_or_default lines k d _ (omega (arith, early))) same }))
   where
     early : k < a
     early = omega (arith, length-take-le a lines (omega arith), few)

@@ -1,6 +1,6 @@
 //! Where proposers come to levels and leave them, and the edges that conditions ask for.
 
-ghost use Rattle.std.specs.Prelude.{◌≡◌, ℕ, ◌+◌, ◌<◌, ◌^◌, ◌==◌, ◌&&◌, ◌++◌, length, slice_index, true, if◌then◌else◌, IfOk, List, Option};
+ghost use Rattle.std.specs.Prelude.{◌≡◌, ℕ, ◌+◌, ◌<◌, ◌^◌, ◌==◌, ◌&&◌, ◌++◌, length, slice_index, replicate, true, if◌then◌else◌, IfOk, List, Option};
 ghost use Rattle.std.specs.List.{flat_map};
 ghost use Rattle.sm_lists.specs.Rows.{row, rows_of};
 ghost use Rattle.sm_market.specs.Matching.{held};
@@ -103,9 +103,16 @@ fn exits(
     ensures { IfOk result (λ nodes. AreNodesFor keys.now (exit_by (rows_of levels.now) (moves_in moves.now)) nodes.items) }
 {
     let sink = moves.len() as u32 + 1;
-    let mut nodes = vec![in alloc; sink; keys.len()]?;
+    let mut nodes = all_at(alloc, keys.len(), sink)?;
     go_all(levels, moves, keys, sink, &mut nodes);
     Ok(nodes)
+}
+
+/// So many nodes that are this one.
+fn all_at(alloc: Global, count: usize, node: u32) -> Result<Vec<u32>, AllocError>
+    ensures { IfOk result (λ nodes. nodes.items ≡ replicate count node) }
+{
+    vec![in alloc; node; count]
 }
 
 /// The source for each pair whose proposer begins at its level, and the sink for all others.
