@@ -18,3 +18,4 @@ pub mod ResidualLemmas
 pub mod MoveLemmas
 pub mod ClosedLemmas
 pub mod SpanLemmas
+pub mod NetOfLemmas
