@@ -1,24 +1,24 @@
 -- The net that is looked up in is the net of gains, predecessors and conditions.
-use Rattle.std.proofs.Common.{◌≡◌, ◌≢◌, ℕ, zero, suc, ◌+◌, ◌<◌, ◌≤◌, ◌||◌, inl, inr, arith, refl, sym, ap, ◌∙◌, Bool, true, false, not, List, [], ◌∷◌, ◌++◌, length, map, get_or, Option, eqb-true, eq-eqb, ne_eqb, ℤ, pos}
+use Rattle.std.proofs.Common.{◌≡◌, ℕ, suc, ◌<◌, ◌≤◌, ◌||◌, inl, inr, arith, refl, sym, ap, ◌∙◌, Bool, true, false, not, List, [], ◌∷◌, length, map, get_or, eqb-true, eq-eqb, ne_eqb, pos}
 use Rattle.std.specs.Prelude.{◌==◌, ◌&&◌, nat_lt, if◌then◌else◌}
 use Rattle.std.specs.List.{list_any, position_or_len, flat_map}
-use Rattle.std.proofs.lemmas.Bool.{false≢true, lt-ltb, ltb-true}
+use Rattle.std.proofs.lemmas.Bool.{lt-ltb, ltb-true}
 use Rattle.std.proofs.lemmas.List.{length-map, get_or-map, get_or_past}
 use Rattle.std.proofs.lemmas.List.Folds.{list_any_at, list_any-append}
 use Rattle.std.proofs.lemmas.List.Sums.{position_or_len_is, fails_before_first, passes_at_first, prefix_len-le-length}
-use Rattle.sm_lists.proofs.Counting.{eq_or_ne, lt_or_le}
+use Rattle.sm_lists.proofs.Counting.{lt_or_le}
 use Rattle.sm_market.specs.Lists.{Lists, place_of}
 use Rattle.sm_market.specs.Matching.{Places, held}
 use Rattle.sm_theory.specs.Rotations.{proposer_at, reviewer_at, target_at, pair_of}
 use Rattle.sm_theory.specs.Chains.{rotation_at}
 use Rattle.sm_theory.specs.Weights.{gain_of}
-use Rattle.sm_theory.specs.Conditions.{level_at, has_level, moves_to, moves_off, entry_node, exit_node, forces, forbids, leads_to_need, rise_of, fall_of, net_of}
-use Rattle.sm_theory.proofs.Net.Tests.{and_parts, and_true, not_true, true_or_false, some_passes}
+use Rattle.sm_theory.specs.Conditions.{level_at, has_level, moves_to, moves_off, entry_node, exit_node, forces, forbids, leads_to_need, rise_of, fall_of}
+use Rattle.sm_theory.proofs.Net.Tests.{and_parts, and_true, some_passes}
 use Rattle.sm_decide.specs.declared.moves.Move.{Move}
-use Rattle.sm_decide.specs.Moves.{move_at, row_of_moves, AreMovesOf, AreMoves}
+use Rattle.sm_decide.specs.Moves.{move_at, AreMovesOf, AreMoves}
 use Rattle.sm_decide.specs.Pairs.{has_pair}
-use Rattle.sm_decide.specs.Spans.{comes_to, goes_off, some_come, some_go, entry_by, exit_by, forced_pairs, forbidden_pairs, bonds_of}
-use Rattle.sm_decide.specs.CheckedNets.{NetParts, net_in, gain_at, HasParts}
+use Rattle.sm_decide.specs.Spans.{comes_to, goes_off, some_come, some_go, entry_by, exit_by, forced_pairs, forbidden_pairs}
+use Rattle.sm_decide.specs.CheckedNets.{gain_at}
 use Rattle.sm_decide.specs.Laws.{NetIsOf}
 
 -- two tests are the same where each passes when the other does
@@ -134,8 +134,12 @@ module _ {l : Lists} {rotations : List (List (ℕ × ℕ))} {rows : List (List M
 
 pub net_is : NetIsOf
 net_is l levels weights forced forbidden first rotations needs rows parts m h =
-    (λ t. record { size = size t; supply = λ k. fall_of (gain k t); drain = λ k. rise_of (gain k t);
-      unbounded = λ i j. not (i == j) && (not (i == 0 && j == suc (size t)) && (leads_to_need (h.same_needs t) i j || bond i j t)) })
+    (λ t. record {
+      size = size t;
+      supply = λ k. fall_of (gain k t);
+      drain = λ k. rise_of (gain k t);
+      unbounded = λ i j. not (i == j) && (not (i == 0 && j == suc (size t)) && (leads_to_need (h.same_needs t) i j || bond i j t));
+    })
   where
     size : length parts.gains ≡ length rotations
     size = ap length h.same_gains ∙ length-map rotations (gain_of l weights)

@@ -1,5 +1,5 @@
 -- Where proposers come to levels and leave them.
-use Rattle.std.proofs.Common.{◌≡◌, ◌≢◌, ℕ, zero, suc, ◌+◌, ◌<◌, ◌≤◌, ◌||◌, inl, inr, arith, refl, sym, ap, ◌∙◌, subst, Bool, true, false, List, [], ◌∷◌, ◌++◌, length, take, slice_index, Option, eqb-true, eq-eqb, ne_eqb}
+use Rattle.std.proofs.Common.{◌≡◌, ◌≢◌, ℕ, zero, suc, ◌+◌, ◌<◌, ◌≤◌, ◌||◌, inl, inr, arith, refl, sym, ap, ◌∙◌, Bool, true, false, List, [], ◌++◌, length, take, slice_index, Option, eqb-true, eq-eqb, ne_eqb}
 use Rattle.std.specs.Prelude.{◌==◌, ◌&&◌, if◌then◌else◌}
 use Rattle.std.specs.List.{list_any, position_or_len, flat_map}
 use Rattle.std.proofs.lemmas.List.{flat_map_more, take_more}

@@ -1,6 +1,6 @@
 -- The nodes at which proposers come to levels and leave them, by the moves of the rotations, and the bonds that conditions
 -- ask for.
-use Rattle.std.specs.Prelude.{◌≡◌, ℕ, zero, suc, ◌<◌, ◌==◌, ◌&&◌, not, if◌then◌else◌, Bool, Option, Some, List, [], ◌∷◌, ◌++◌, length, map, slice_index}
+use Rattle.std.specs.Prelude.{◌≡◌, ℕ, zero, suc, ◌<◌, ◌==◌, ◌&&◌, not, if◌then◌else◌, Bool, Option, Some, List, [], ◌∷◌, ◌++◌, length, slice_index}
 use Rattle.std.specs.List.{list_any, position_or_len, flat_map}
 use Rattle.sm_lists.specs.Rows.{row}
 use Rattle.sm_market.specs.Matching.{held}

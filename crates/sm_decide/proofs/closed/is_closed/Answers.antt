@@ -1,5 +1,5 @@
 use Rattle.std.proofs.Common.{arith, refl}
-use Rattle.sm_decide.proofs.ClosedLemmas.{closed_of, keeps_of}
+use Rattle.sm_decide.proofs.ClosedLemmas.{closed_of}
 use Rattle.sm_decide.proofs.closed.is_closed.Goals as goal
 
 pub returns : goal.returns

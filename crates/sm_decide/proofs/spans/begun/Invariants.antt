@@ -10,5 +10,5 @@ abbrev pub invariant-loop-x : goal.invariant-loop-x
 invariant-loop-x l = record {
   one_each : length l.nodes.items ≡ l.x;
   each : (x : ℕ) → x < l.x → slice_index l.nodes.items x
-  ≡ (if has_level (rows_of l.levels) (pair_at l.keys x).0 (pair_at l.keys x).1 (held l.first.places.proposers (pair_at l.keys x).0) then 0 else l.sink);
+      ≡ (if has_level (rows_of l.levels) (pair_at l.keys x).0 (pair_at l.keys x).1 (held l.first.places.proposers (pair_at l.keys x).0) then 0 else l.sink);
 }

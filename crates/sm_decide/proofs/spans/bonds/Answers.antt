@@ -1,4 +1,4 @@
-use Rattle.std.proofs.Common.{ap, ◌∙◌, ◌++◌, List, ℕ}
+use Rattle.std.proofs.Common.{ap, ◌∙◌, List, ℕ}
 use Rattle.sm_decide.specs.Pairs.{has_pair}
 use Rattle.sm_decide.proofs.SpanLemmas.{first_below}
 use Rattle.sm_decide.proofs.spans.bonds.Goals as goal

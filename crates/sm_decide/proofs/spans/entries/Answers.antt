@@ -1,12 +1,8 @@
-use Rattle.std.proofs.Common.{◌≡◌, ℕ, arith, sym, ap, ◌∙◌, subst, List, length}
-use Rattle.std.specs.Prelude.{if◌then◌else◌}
+use Rattle.std.proofs.Common.{◌≡◌, arith, sym, length}
 use Rattle.std.proofs.lemmas.List.{length-map}
 use Rattle.sm_lists.specs.Rows.{rows_of}
 use Rattle.sm_lists.proofs.ResultLemmas.{take-append_at_length}
-use Rattle.sm_market.specs.Matching.{held}
-use Rattle.sm_theory.specs.Conditions.{has_level}
 use Rattle.sm_decide.specs.Moves.{moves_in}
-use Rattle.sm_decide.specs.Spans.{AreNodesFor}
 use Rattle.sm_decide.proofs.SpanLemmas.{entries_are}
 use Rattle.sm_decide.proofs.spans.entries.Goals as goal
 
