@@ -19,3 +19,4 @@ pub mod MoveLemmas
 pub mod ClosedLemmas
 pub mod SpanLemmas
 pub mod NetOfLemmas
+pub mod SetPlaceLemmas

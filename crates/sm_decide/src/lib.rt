@@ -27,6 +27,7 @@ mod reduced;
 mod repeats;
 mod residual;
 mod room_lists;
+mod set_matching;
 mod spans;
 mod trail;
 
@@ -43,4 +44,5 @@ pub use reduced::{is_reduced_proposer_list, is_reduced_reviewer_list};
 pub use repeats::repeated_lines;
 pub use residual::is_residual_reach;
 pub use room_lists::RoomLists;
+pub use set_matching::set_places;
 pub use spans::bonds;
