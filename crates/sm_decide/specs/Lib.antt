@@ -2,3 +2,4 @@ pub mod Trails
 pub mod Exposure
 pub mod Noting
 pub mod Laws
+pub mod Witnesses

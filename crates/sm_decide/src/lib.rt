@@ -14,6 +14,7 @@ pub mod laws;
 mod needs;
 mod reduced;
 mod trail;
+pub mod witnesses;
 
 pub use best::{is_proposers_best, is_reviewers_best};
 pub use exposure::Search;
