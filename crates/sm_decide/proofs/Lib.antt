@@ -4,5 +4,12 @@ pub mod SearchLemmas
 pub mod PathLemmas
 pub mod BestLemmas
 pub mod ReducedLemmas
+pub mod RoomLemmas
+pub mod PartyLemmas
+pub mod FlowLemmas
 pub mod AmongLemmas
 pub mod NotingLemmas
+pub mod PairLemmas
+pub mod NetLemmas
+pub mod RepeatLemmas
+pub mod ReachLemmas

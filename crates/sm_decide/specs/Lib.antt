@@ -3,3 +3,10 @@ pub mod Exposure
 pub mod Noting
 pub mod Laws
 pub mod Witnesses
+pub mod Rooms
+pub mod RoomsKept
+pub mod FlowSums
+pub mod Pairs
+pub mod CheckedNets
+pub mod Repeats
+pub mod Reaching

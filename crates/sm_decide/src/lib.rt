@@ -5,18 +5,34 @@
 //!
 //! [`Search`] tells of a stable pairing which rotations are exposed at it, and [`is_proposers_best`] and [`is_reviewers_best`]
 //! whether it is the best of a side. [`is_reduced_proposer_list`] and [`is_reduced_reviewer_list`] tell of a list whether it is
-//! one of the reduced lists, and [`Notes`] what each rotation of a chain needs.
+//! one of the reduced lists, and [`Notes`] what each rotation of a chain needs. [`is_room_stable`] and [`is_stable_partition`]
+//! tell of a matching and of a partition of roommates whether they are stable. [`is_conserved`] and [`amount_from_source`] tell
+//! of the lines of a flow.
 #![tactic(auto)]
 
 mod best;
+mod couples;
 mod exposure;
-pub mod laws;
+mod flow_sums;
 mod needs;
+mod net;
+mod pairs;
+mod partitions;
+mod reaching;
 mod reduced;
+mod repeats;
+mod room_lists;
+pub mod laws;
 mod trail;
 pub mod witnesses;
 
 pub use best::{is_proposers_best, is_reviewers_best};
+pub use couples::is_room_stable;
 pub use exposure::Search;
+pub use net::CheckedNet;
+pub use repeats::repeated_lines;
+pub use flow_sums::{amount_from_source, is_conserved};
+pub use partitions::is_stable_partition;
 pub use needs::Notes;
 pub use reduced::{is_reduced_proposer_list, is_reduced_reviewer_list};
+pub use room_lists::RoomLists;

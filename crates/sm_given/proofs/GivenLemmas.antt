@@ -6,8 +6,8 @@ use Rattle.sm_instance.specs.declared.inputs.Input.TheVariants.{Two}
 use Rattle.sm_instance.proofs.ListLemmas.{row_in_range}
 use Rattle.sm_report.specs.Sound.{ArePair}
 use Rattle.sm_given.specs.GivenText.{ArePairs, AreGiven}
-use Rattle.sm_given.specs.Held.{places_in, CanHold}
-use Rattle.sm_given.specs.Holding.{IsHoldFault}
+use Rattle.sm_pairs.specs.Held.{places_in, CanHold}
+use Rattle.sm_given.specs.Refusing.{IsHoldFault}
 use Rattle.sm_given.specs.Refusing.{IsGivenFault, IsBlocking, IsBlockedBy, IsBreachIn, IsUnstable, AreUnstable}
 use Rattle.sm_given.specs.declared.faults.Which.{Which}
 use Rattle.sm_given.specs.declared.faults.Unstable.{Unstable}

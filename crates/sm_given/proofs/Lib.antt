@@ -1,4 +1,3 @@
-pub mod HoldingLemmas
 pub mod ReadingLemmas
 pub mod GivenLemmas
 pub mod ChosenLemmas

@@ -5,29 +5,18 @@ use Rattle.sm_answer.specs.Lines.{lines_from}
 use Rattle.sm_instance.specs.Written.{Written}
 use Rattle.sm_instance.specs.Matching.{held}
 use Rattle.sm_instance.specs.declared.inputs.Input.TheVariants.{Two}
-use Rattle.sm_lattice.specs.Choices.{chosen}
-use Rattle.sm_lattice.specs.declared.choice.Choice.{Choice}
-use Rattle.sm_lattice.specs.declared.choice.Choice.TheVariants.{Better, Worse}
-use Rattle.sm_report.specs.Heads.{HeadData}
+use Rattle.sm_theory.specs.declared.choice.Choice.{Choice}
 use Rattle.sm_report.specs.Lines.{LineData}
+use Rattle.sm_pairs.specs.Chosen.{chosen_places, head_for}
+use Rattle.sm_pairs.specs.Held.{places_in, GiveStable}
 use Rattle.sm_given.specs.GivenText.{AreGiven}
-use Rattle.sm_given.specs.Held.{places_in, GiveStable}
 use Rattle.sm_given.specs.MatchingLines.{matching_line}
 use Rattle.sm_given.specs.declared.matching_lines.PairWord.{PairWord}
 use Rattle.sm_given.specs.declared.matching_lines.PairWord.TheVariants as word
 
--- each proposer has the chosen one of its partners in two matchings: the better in the meet, the worse in the join; to be
--- unmatched is worse than every partner (Gusfield and Irving 1989, section 1.3.1)
-abbrev pub chosen_places : Choice → Written → (m n : List (Option ℕ)) → List (Option ℕ)
-chosen_places choice w m n = map (λ p. chosen choice (held m p) (held n p)) (range_with_len 0 (length w.proposers))
-
 -- the pairs of a matching in the order of the proposers
 abbrev pub pair_lines : PairWord → Written → List (Option ℕ) → List LineData
 pair_lines word w places = lines_from (matching_line word w places) 0 (length w.proposers)
-
-abbrev pub head_for : Choice → HeadData
-head_for Better = HeadData.Meet
-head_for Worse = HeadData.Join
 
 -- the two matchings and the chosen one, each in the order of the proposers
 abbrev pub chosen_lines : Choice → Written → (m n : List (Option ℕ)) → List LineData

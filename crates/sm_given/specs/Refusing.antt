@@ -4,7 +4,7 @@ use Rattle.sm_instance.specs.Written.{Written}
 use Rattle.sm_instance.specs.Stable.{IsStable, IsFirstBlocking}
 use Rattle.sm_instance.specs.declared.inputs.Input.TheVariants.{Two}
 use Rattle.sm_given.specs.GivenText.{AreGiven, IsBadAt}
-use Rattle.sm_given.specs.Held.{places_in, pair_at, IsFirstBreach, CanHold}
+use Rattle.sm_pairs.specs.Held.{places_in, pair_at, IsFirstBreach, CanHold}
 use Rattle.sm_given.specs.declared.faults.Which.{Which}
 use Rattle.sm_given.specs.declared.faults.Which.TheVariants.{Left, Right}
 use Rattle.sm_given.specs.declared.faults.Flaw.TheVariants.{Breach, Blocks}
@@ -37,6 +37,12 @@ pub data IsUnstable (w : Written) (left right : List (ℕ × ℕ)) (line : ℕ) 
   left_blocked : CanHold w left → CanHold w right → IsBlockedBy w (places_in w left) Left (line + length left + length right) u → IsUnstable w left right line u
   right_blocked : CanHold w left → CanHold w right → IsStable w (places_in w left) → IsBlockedBy w (places_in w right) Right (line + length left + length right) u
       → IsUnstable w left right line u
+
+-- why pairs make no matching; want of memory says nothing
+abbrev pub IsHoldFault : Written → List (ℕ × ℕ) → Which → ℕ → GivenFault → Type 0
+IsHoldFault w pairs which line (BadAnswer at) = ⊥
+IsHoldFault w pairs which line (NotStable u) = IsBreachIn w pairs which line u
+IsHoldFault w pairs which line OutOfMemory = Unit {0}
 
 -- texts, of which the first stands on the line of this number, are those of two matchings, and one isn't stable
 pub record AreUnstable (w : Written) (texts : List (List ℕ)) (line : ℕ) (u : Unstable) : Type 0 where

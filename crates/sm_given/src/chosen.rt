@@ -1,46 +1,21 @@
 //! The answers of `meet` and `join`.
 
-ghost use Rattle.std.specs.Prelude.{◌≡◌, ◌<◌, ℕ, List, length, IfOk};
+ghost use Rattle.std.specs.Prelude.{◌≡◌, ◌<◌, ℕ, List, length};
 ghost use Rattle.sm_answer.specs.Giving.{HasRest};
 ghost use Rattle.sm_answer.specs.Printing.{IsShown};
 ghost use Rattle.sm_instance.specs.Matching.{IsAssignment};
 ghost use Rattle.sm_instance.specs.declared.inputs.Input.TheVariants.{Two};
 ghost use Rattle.sm_given.specs.Given.{AreFound};
-ghost use Rattle.sm_given.specs.Chosen.{chosen_places, head_for, IsChosenAnswer};
+ghost use Rattle.sm_pairs.specs.Chosen.{chosen_places, head_for};
+ghost use Rattle.sm_given.specs.Chosen.{IsChosenAnswer};
 ghost use Rattle.sm_report.specs.Heads.{head_of};
 
 use crate::given::Given;
 use crate::matching_lines::{MatchingLines, PairWord};
 use sm_answer::{Each, Lines, One, Printed, Then};
 use sm_instance::{Assignment, Input, Instance};
-use sm_lattice::{Choice, chosen_place};
 use sm_report::{Head, Line};
-use std::alloc::{AllocError, Global};
-
-/// The matching in which each proposer has the better of its two partners, or the worse, where being unmatched is worse than
-/// every partner (Gusfield and Irving 1989, section 1.3.1). Takes time and memory in proportion to the proposers.
-///
-/// # Errors
-///
-/// `AllocError` where memory ran out, and only then.
-pub fn choose_places(
-    alloc: Global,
-    instance: &Instance,
-    choice: Choice,
-    given: &Given,
-) -> Result<Assignment, AllocError>
-    requires left { IsAssignment instance.now given.now.left.places.items }
-    requires right { IsAssignment instance.now given.now.right.places.items }
-    ensures { IfOk result (λ a. a.places.items
-        ≡ chosen_places choice instance.now given.now.left.places.items given.now.right.places.items) }
-{
-    let proposers = instance.proposer_count() as usize;
-    let mut places = Vec::with_capacity(alloc, proposers)?;
-    for p in 0..proposers {
-        places.push(chosen_place(choice, given.left.places[p], given.right.places[p]))?;
-    }
-    Ok(Assignment { places })
-}
+use sm_theory::Choice;
 
 /// The lines of the answers of `meet` and `join`.
 pub type ChosenLines<'a> = Printed<

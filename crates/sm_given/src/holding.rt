@@ -1,23 +1,16 @@
 //! The matching that given pairs make, one pair after another.
 
-ghost use Rattle.std.specs.Prelude.{◌≡◌, ◌+◌, ◌<◌, ◌^◌, length, replicate, None, IfOk, IfErr, OnOk, MatchOption};
-ghost use Rattle.sm_instance.specs.Written.{IsAcceptable};
+ghost use Rattle.std.specs.Prelude.{◌≡◌, ◌+◌, ◌<◌, ◌^◌, length, IfOk, IfErr, OnOk};
 ghost use Rattle.sm_instance.specs.Matching.{IsMatching};
 ghost use Rattle.sm_instance.specs.declared.inputs.Input.TheVariants.{Two};
+ghost use Rattle.sm_pairs.specs.Held.{places_in, CanHold};
 ghost use Rattle.sm_given.specs.GivenText.{ArePairs};
-ghost use Rattle.sm_given.specs.Held.{places_in, CanHold};
-ghost use Rattle.sm_given.specs.Holding.{IsHolding, Adds, IsHoldFault, IsAcceptableAt};
+ghost use Rattle.sm_given.specs.Refusing.{IsHoldFault};
 
 use crate::faults::{Flaw, GivenFault, Unstable, Which};
 use sm_instance::{Assignment, Instance};
-use std::alloc::{AllocError, Global};
-
-/// A matching that grows: the place of each proposer, and how many proposers each reviewer has.
-#[derive(Drop)]
-pub(crate) struct Holding {
-    pub(crate) places: Vec<Option<u32>>,
-    pub(crate) loads: Vec<u32>,
-}
+use sm_pairs::Holding;
+use std::alloc::Global;
 
 /// The matching that pairs make, of which the first stands on this line, where all can be held. Takes time in proportion to
 /// the agents and the pairs, and a look-up for each pair.
@@ -51,52 +44,4 @@ pub(crate) fn hold(
     Ok(Assignment {
         places: holding.places,
     })
-}
-
-impl Holding {
-    // Nobody is matched.
-    fn none(alloc: Global, instance: &Instance) -> Result<Holding, AllocError>
-        ensures places { IfOk result (λ holding. holding.places.items ≡ replicate (length instance.now.proposers) None) }
-        ensures loads { IfOk result (λ holding. holding.loads.items ≡ replicate (length instance.now.reviewers) 0) }
-    {
-        Ok(Holding {
-            places: vec![in alloc; None; instance.proposer_count() as usize]?,
-            loads: vec![in alloc; 0; instance.reviewer_count() as usize]?,
-        })
-    }
-
-    // Adds a pair, and answers `false` where it can't be held.
-    fn add(&mut self, instance: &Instance, p: u32, r: u32) -> bool
-        requires proposer { p < length instance.now.proposers }
-        requires reviewer { r < length instance.now.reviewers }
-        requires held { IsHolding instance.now self.old }
-        ensures { Adds instance.now self.old self.new p r result }
-    {
-        match acceptable_place(instance, p, r) {
-            Some(place) => {
-                if self.places[p as usize].is_some()
-                    || self.loads[r as usize] >= instance.capacity(r)
-                {
-                    return false;
-                }
-                self.places[p as usize] = Some(place);
-                self.loads[r as usize] += 1;
-                true
-            }
-            None => false,
-        }
-    }
-}
-
-// The place of a reviewer on a proposer's list, where they are acceptable to each other.
-fn acceptable_place(instance: &Instance, p: u32, r: u32) -> Option<u32>
-    requires proposer { p < length instance.now.proposers }
-    requires reviewer { r < length instance.now.reviewers }
-    ensures { MatchOption result (¬ IsAcceptable instance.now p r) (λ place. IsAcceptableAt instance.now p r place) }
-{
-    let place = instance.place(p, r)?;
-    match instance.cross(p, place) {
-        Some(_) => Some(place),
-        None => None,
-    }
 }

@@ -1,7 +1,7 @@
 //! Two matchings given behind `end`, and the answers of `meet` and `join`.
 //!
-//! [`find_given`] reads them, and refuses what is no text of two matchings, or a matching that isn't stable. [`choose_places`]
-//! gives each proposer the better or the worse of its two partners, and [`chosen_lines`] lends all three matchings as lines.
+//! [`find_given`] reads them, and refuses what is no text of two matchings, or a matching that isn't stable. [`chosen_lines`]
+//! lends them as lines, with the matching in which each proposer has the better or the worse of its two partners.
 #![tactic(auto)]
 
 mod chosen;
@@ -12,7 +12,7 @@ mod matching_lines;
 mod pairs;
 mod reading;
 
-pub use chosen::{ChosenLines, choose_places, chosen_lines};
+pub use chosen::{ChosenLines, chosen_lines};
 pub use faults::{Flaw, GivenFault, Unstable, Which};
 pub use given::{Given, find_given};
 pub use matching_lines::{MatchingLines, PairWord};

@@ -6,12 +6,13 @@ ghost use Rattle.sm_market.specs.Matching.{held};
 ghost use Rattle.sm_market.specs.Pairing.{IsPairingOf};
 ghost use Rattle.sm_market.specs.Stable.{IsStable};
 ghost use Rattle.sm_theory.specs.Lattice.{meet_of, join_of};
-ghost use Rattle.sm_lattice.specs.Choices.{chosen, chosen_of};
+ghost use Rattle.sm_theory.specs.Choices.{chosen};
+ghost use Rattle.sm_lattice.specs.Choices.{chosen_of};
 ghost use Rattle.sm_lattice.specs.Faults.{IsFault, IsBlocked, AreStable};
 
-use crate::choice::{Choice, chosen_place};
 use crate::faults::LatticeFault;
 use sm_market::{Market, Pairing};
+use sm_theory::{Choice, chosen_place};
 use std::alloc::{AllocError, Global};
 
 /// The meet of two stable pairings: each proposer gets the better of its two partners, where being unmatched is worse than every

@@ -5,13 +5,11 @@
 //! stable pairing of least regret among those that conditions allow.
 #![tactic(auto)]
 
-mod choice;
 mod faults;
 mod lattice;
 mod levels;
 mod regret;
 
-pub use choice::{Choice, chosen_place};
 pub use faults::LatticeFault;
 pub use lattice::{join, meet};
 pub use levels::stable_levels;

@@ -24,7 +24,7 @@ use Rattle.sm_rotations.specs.Graph.{AreNeeds}
 use Rattle.sm_poset.specs.Posets.{IsPoset}
 use Rattle.sm_seats.specs.Seating.{Seating, written_of}
 use Rattle.sm_seats.specs.Correspondence.{IsSeating, weights_of}
-use Rattle.sm_weight.specs.declared.flows.FlowLine.{FlowLine}
+use Rattle.sm_theory.specs.declared.flow_lines.FlowLine.{FlowLine}
 use Rattle.sm_weight.specs.Lightest.{set_matching}
 use Rattle.sm_weight.proofs.CountLemmas.{pairs_of_few}
 use Rattle.sm_shown.specs.Reduction.{seat_line}

@@ -27,7 +27,7 @@ use Rattle.sm_seats.specs.Seating.{Seating, seating_of, written_of, levels_of}
 use Rattle.sm_seats.specs.Correspondence.{IsSeating, leveled, weights_of}
 use Rattle.sm_seats.proofs.SeatingLaws.{as_well}
 use Rattle.sm_seats.proofs.VectorLaws.{allowed_seats, lightest_written}
-use Rattle.sm_weight.specs.declared.flows.FlowLine.{FlowLine}
+use Rattle.sm_theory.specs.declared.flow_lines.FlowLine.{FlowLine}
 use Rattle.sm_weight.specs.Lightest.{IsFullFlow, IsLightestFound, set_matching}
 use Rattle.sm_shown.specs.Answers.{pair_line}
 use Rattle.sm_shown.specs.Reduction.{seat_of, best_seat, seat_line}

@@ -6,7 +6,7 @@ use Rattle.sm_market.specs.Pairing.{IsPairingOf}
 use Rattle.sm_report.specs.Sound.{IsSmall, IsLarge}
 use Rattle.sm_seats.specs.Seating.{Seating, written_of, levels_of}
 use Rattle.sm_seats.specs.Correspondence.{leveled, weights_of}
-use Rattle.sm_weight.specs.declared.flows.FlowLine.{FlowLine}
+use Rattle.sm_theory.specs.declared.flow_lines.FlowLine.{FlowLine}
 use Rattle.sm_weight.specs.declared.weighing.LightestFound.{LightestFound}
 use Rattle.sm_weight.specs.Lightest.{IsLightestFound, set_matching}
 use Rattle.sm_lightest.specs.WeightAnswer.{shown_node}

@@ -7,7 +7,7 @@ use Rattle.sm_market.specs.Matching.{Places}
 use Rattle.sm_report.specs.Heads.{HeadData}
 use Rattle.sm_report.specs.Lines.{LineData}
 use Rattle.sm_seats.specs.Seating.{Seating}
-use Rattle.sm_weight.specs.declared.flows.FlowLine.{FlowLine}
+use Rattle.sm_theory.specs.declared.flow_lines.FlowLine.{FlowLine}
 use Rattle.sm_shown.specs.Reduction.{seat_line}
 use Rattle.sm_shown.specs.GivenLines.{seated_pair_line}
 use Rattle.sm_lightest.specs.Rows.{shown_row}

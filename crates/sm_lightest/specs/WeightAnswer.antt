@@ -22,8 +22,8 @@ use Rattle.sm_theory.specs.Conditions.{net_of}
 use Rattle.sm_seats.specs.SeatMarket.{seat_market}
 use Rattle.sm_seats.specs.Seating.{seating_of, written_of, levels_of}
 use Rattle.sm_seats.specs.Correspondence.{leveled, weights_of}
-use Rattle.sm_weight.specs.declared.flows.FlowLine.{FlowLine}
-use Rattle.sm_weight.specs.Lines.{amount_on, AreLines}
+use Rattle.sm_theory.specs.declared.flow_lines.FlowLine.{FlowLine}
+use Rattle.sm_theory.specs.FlowLines.{amount_on, AreLines}
 use Rattle.sm_shown.specs.Answers.{pair_line}
 use Rattle.sm_shown.specs.RotationLines.{Shown, first_line, pairs_at, rotation_lines, shown_of}
 use Rattle.sm_shown.specs.RotationAnswer.{pairs_of, AreNeeds, IsCorrespondence}

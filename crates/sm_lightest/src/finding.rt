@@ -18,7 +18,7 @@ use sm_listing::conditions_of;
 use sm_poset::Conditions;
 use sm_seats::Seats;
 use sm_shown::Basis;
-use sm_weight::{FlowLine, LightestFound};
+use sm_weight::LightestFound;
 use std::alloc::{AllocError, Global};
 
 /// The lightest stable matching among those that the conditions of an instance allow, and of those of its weight the one that is

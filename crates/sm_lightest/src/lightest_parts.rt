@@ -5,8 +5,7 @@ ghost use Rattle.sm_report.specs.Sound.{IsLarge};
 use sm_instance::Measure;
 use sm_market::Pairing;
 use sm_shown::Basis;
-use sm_theory::ClosedSet;
-use sm_weight::FlowLine;
+use sm_theory::{ClosedSet, FlowLine};
 
 /// The lightest allowed stable matching, with a flow that shows that none is lighter.
 #[derive(Drop)]

@@ -1,7 +1,7 @@
 //! The weights of the places of an instance's seats.
 
 ghost use Rattle.std.specs.Prelude.{◌≡◌, ℕ, ◌<◌, All, length, IfOk, Some};
-ghost use Rattle.sm_instance.specs.Written.{row, entry, IsAcceptable};
+ghost use Rattle.sm_instance.specs.Written.{row, entry, given_weight, IsAcceptable};
 ghost use Rattle.sm_instance.specs.Ranks.{pair_weight};
 ghost use Rattle.sm_market.specs.Lists.{row as market_row};
 ghost use Rattle.sm_market.specs.Vectors.{rows_of};
@@ -69,9 +69,24 @@ fn pair_weight(instance: &Instance, by: Measure, p: u32, place: u32) -> i64
     ensures weight { result ≡ pair_weight by instance.now p (Some place) }
     ensures light { IsLight result }
 {
-    let back = instance.rank_back(p, place);
     match by {
-        Measure::Ranks => i64::from(place + 1 + back),
-        Measure::Given => instance.weight(p, instance.reviewer_at(p, place)),
+        Measure::Ranks => {
+            let back = instance.rank_back(p, place);
+            i64::from(place + 1 + back)
+        }
+        Measure::Given => given_weight(instance, p, instance.reviewer_at(p, place)),
     }
+}
+
+/// The weight that is given to a pair, without a look where no pair has one.
+fn given_weight(instance: &Instance, p: u32, r: u32) -> i64
+    requires proposer { p < length instance.now.proposers }
+    requires reviewer { r < length instance.now.reviewers }
+    ensures weight { result ≡ given_weight instance.now p r }
+    ensures light { IsLight result }
+{
+    if instance.weights().is_empty() {
+        return 0;
+    }
+    instance.weight(p, r)
 }

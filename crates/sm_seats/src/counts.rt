@@ -13,17 +13,24 @@ use sm_instance::Instance;
 use sm_text::MOST_SEAT_ENTRIES;
 use std::alloc::{AllocError, Global};
 
-/// The number of the first seat of each reviewer, and behind them how many seats there are; the numbers of all seats; and
-/// how many proposers are acceptable to each reviewer.
+/// What is counted of the seats of an instance.
 #[derive(Drop)]
-pub(crate) struct SeatCounts {
-    pub(crate) firsts: Vec<u32>,
-    pub(crate) numbers: Vec<u32>,
-    pub(crate) acceptable: Vec<u32>,
+pub struct SeatCounts {
+    /// The number of the first seat of each reviewer, and behind them how many seats there are.
+    pub firsts: Vec<u32>,
+    /// The numbers of all seats, from 0.
+    pub numbers: Vec<u32>,
+    /// How many proposers are acceptable to each reviewer.
+    pub acceptable: Vec<u32>,
 }
 
-/// Counts the seats, and the acceptable proposers of each reviewer.
-pub(crate) fn seat_counts(alloc: Global, instance: &Instance) -> Result<SeatCounts, SeatsFault>
+/// Counts the seats, and the acceptable proposers of each reviewer. Takes time in proportion to the agents and the entries of
+/// the reviewers, and memory in proportion to the reviewers and seats.
+///
+/// # Errors
+///
+/// Those of [`crate::Seats::of`].
+pub fn seat_counts(alloc: Global, instance: &Instance) -> Result<SeatCounts, SeatsFault>
     ensures instance { IsInstance instance.now }
     ensures firsts { IfOk result (λ counts. counts.firsts.items ≡ first_seats_of instance.now) }
     ensures numbers { IfOk result (λ counts. counts.numbers.items ≡ seat_numbers_of instance.now) }

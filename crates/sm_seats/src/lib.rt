@@ -17,5 +17,6 @@ mod seats;
 mod taking;
 pub mod witnesses;
 
+pub use counts::{SeatCounts, seat_counts};
 pub use faults::SeatsFault;
 pub use seats::Seats;

@@ -1,5 +1,5 @@
 -- The laws of flows and of the lightest allowed matching. Each is the contract of a function of `laws`.
-use Rattle.std.specs.Prelude.{◌≡◌, ℕ, ◌≤◌, ◌⊎◌, ◌↔◌, Bool, true, false, List, ℤ}
+use Rattle.std.specs.Prelude.{◌≡◌, ℕ, suc, ◌≤◌, ◌⊎◌, ◌↔◌, Bool, true, false, List, ℤ}
 use Rattle.sm_market.specs.Lists.{Lists}
 use Rattle.sm_market.specs.Matching.{Places, standing}
 use Rattle.sm_market.specs.Stable.{IsStable}
@@ -7,11 +7,24 @@ use Rattle.sm_theory.specs.ClosedSets.{IsMember, IsClosed, matching_of}
 use Rattle.sm_theory.specs.Vectors.{IsAllowed}
 use Rattle.sm_theory.specs.Net.{Net, sink_of, IsUnbounded, NoneLeaves, IsCut, cut_of, IsLeastCut, IsReachable}
 use Rattle.sm_theory.specs.Flows.{IsFlow, flow_value, IsResidualStep, IsResidualReach}
+use Rattle.sm_theory.specs.FlowLines.{amount_on, amount_from, AreOnNodes, AreWithin, IsConserved}
+use Rattle.sm_theory.specs.declared.flow_lines.FlowLine.{FlowLine}
 use Rattle.sm_theory.specs.Conditions.{allows_nothing, net_of, IsNetGround, IsLightestAllowed}
 
 -- no flow is greater than a cut (Ford and Fulkerson 1956)
 abbrev pub NoFlowAboveCut : Type 0
 NoFlowAboveCut = (net : Net) (flow : ℕ → ℕ → ℕ) (set : List Bool) → IsFlow net flow → IsCut net set → flow_value net flow ≤ cut_of net set
+
+-- a flow's value is the room of a cut exactly where no residual step leaves the cut (Ford and Fulkerson 1956)
+abbrev pub FullCutsAreUnleft : Type 0
+FullCutsAreUnleft = (net : Net) (flow : ℕ → ℕ → ℕ) (set : List Bool) → IsFlow net flow → IsCut net set
+    → (flow_value net flow ≡ cut_of net set) ↔ NoneLeaves net (IsResidualStep net flow) set
+
+-- amounts on lines are a flow exactly where they are within the rooms and conserved, and its value is what leaves the source
+abbrev pub FlowOfLines : Type 0
+FlowOfLines = (net : Net) (lines : List FlowLine) → AreOnNodes (suc (sink_of net)) lines
+    → (IsFlow net (amount_on lines) ↔ (AreWithin net lines × IsConserved net.size lines))
+    × (flow_value net (amount_on lines) ≡ amount_from lines 0)
 
 -- where no residual step leaves the reach of a flow, the reach is a least cut, its cut is the flow's value, and it lies
 -- inside every least cut (Ford and Fulkerson 1956)

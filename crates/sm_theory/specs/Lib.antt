@@ -1,5 +1,6 @@
 pub mod Market
 pub mod Lattice
+pub mod Choices
 pub mod Rotations
 pub mod Chains
 pub mod Marks
@@ -17,10 +18,12 @@ pub mod LawsListing
 pub mod LawsPairs
 pub mod Net
 pub mod Flows
+pub mod FlowLines
 pub mod Conditions
 pub mod LawsFlows
 pub mod Witnesses
 pub mod WitnessesFlows
+pub mod WitnessesLines
 pub mod WitnessesRooms
 pub mod WitnessesSeats
 pub mod WitnessesListing

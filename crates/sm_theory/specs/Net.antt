@@ -1,7 +1,7 @@
 -- Nets whose cuts are sets of rotations. The nodes are the source, one inner node for each rotation, and the sink.
 -- Bounded edges lead from the source and to the sink alone. From one node to another there is at most one edge: where an
 -- unbounded one is there, a bounded one counts for nothing.
-use Rattle.std.specs.Prelude.{◌≡◌, ℕ, zero, suc, ◌+◌, ◌<◌, ◌≤◌, nat_lt, ◌==◌, if◌then◌else◌, Bool, true, false, List, [], ◌∷◌, length}
+use Rattle.std.specs.Prelude.{◌≡◌, ℕ, zero, suc, ◌<◌, ◌≤◌, ◌⊎◌, nat_lt, ◌==◌, if◌then◌else◌, Bool, true, false, List, [], ◌∷◌, length}
 use Rattle.sm_theory.specs.ClosedSets.{is_member}
 use Rattle.sm_lists.specs.Sums.{sum_to}
 
@@ -31,6 +31,10 @@ is_unbounded net i (suc k) = net.unbounded i (suc k)
 
 abbrev pub IsUnbounded : Net → ℕ → ℕ → Type 0
 IsUnbounded net i j = is_unbounded net i j ≡ true
+
+-- there is an edge from one node to another
+abbrev pub HasEdge : Net → ℕ → ℕ → Type 0
+HasEdge net i j = IsUnbounded net i j ⊎ (0 < room_of net i j)
 
 -- the nodes of a set of rotations: the source is one of them, and the sink isn't
 abbrev pub is_in : List Bool → ℕ → Bool

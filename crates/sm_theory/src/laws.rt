@@ -3,7 +3,7 @@
 //! over the definitions alone, for all markets and all matchings.
 
 ghost use Rattle.sm_market.specs.Laws.{SameAgents};
-ghost use Rattle.sm_theory.specs.LawsFlows.{NoFlowAboveCut, ReachIsLeastCut, CutsAreAllowed, LeastCutIsLightest, ReachIsBestLightest, PathWhereNothing};
+ghost use Rattle.sm_theory.specs.LawsFlows.{NoFlowAboveCut, FullCutsAreUnleft, FlowOfLines, ReachIsLeastCut, CutsAreAllowed, LeastCutIsLightest, ReachIsBestLightest, PathWhereNothing};
 ghost use Rattle.sm_theory.specs.LawsListing.{SetsAreOrdered, MovesFollow, NextMoveIsIn, JoinKeepsBounds, VectorsAreOrdered, NextVector, ListingExists, OneListing, ListingResumes};
 ghost use Rattle.sm_theory.specs.LawsPairs.{StablePlaces, RegretByBound};
 ghost use Rattle.sm_theory.specs.LawsRooms.{OddPartyExcludes, SameOddParties, SamePersons, PartiesPair, EvenPartiesPair, RestIsStable};
@@ -112,6 +112,17 @@ pub fn levels_determine()
 /// No flow is greater than a cut (Ford and Fulkerson 1956).
 pub fn no_flow_above_cut()
     ensures { NoFlowAboveCut }
+{}
+
+/// A flow's value is the room of a cut exactly where no residual step leaves the cut (Ford and Fulkerson 1956).
+pub fn full_cuts_are_unleft()
+    ensures { FullCutsAreUnleft }
+{}
+
+/// Amounts on lines are a flow exactly where they are within the rooms and as much comes to each inner node as leaves it, and the
+/// value of the flow is what leaves the source (Ford and Fulkerson 1956).
+pub fn flow_of_lines()
+    ensures { FlowOfLines }
 {}
 
 /// Where no residual step leaves the reach of a flow, the reach is a least cut, its cut is the flow's value, and it lies

@@ -2,17 +2,21 @@
 //!
 //! [`laws`] states what holds of all markets, by functions that do nothing. [`successor`] and [`is_exposed`] tell of a
 //! given matching what the laws speak of, and [`eliminate`] goes from one to the next (Gusfield and Irving 1989, chapters 1
-//! to 3).
+//! to 3). [`chosen_place`] gives the better or the worse of two places.
 #![tactic(auto)]
 
+mod choice;
 mod elimination;
+mod flow_lines;
 pub mod laws;
 mod marks;
 mod rotations;
 mod sets;
 pub mod witnesses;
 
+pub use choice::{Choice, chosen_place};
 pub use elimination::{eliminate, move_round};
+pub use flow_lines::FlowLine;
 pub use marks::{mark_span, no_marks, note_movers};
 pub use rotations::{Rotation, is_exposed, successor, would_take};
 pub use sets::{Chain, ClosedSet};

@@ -3,6 +3,7 @@
 
 ghost use Rattle.sm_theory.specs.Witnesses.{ThreeCycle, PassedSeat, LeftOver};
 ghost use Rattle.sm_theory.specs.WitnessesFlows.{WorkedNet, BarredNet, MiddleLevel};
+ghost use Rattle.sm_theory.specs.WitnessesLines.{WorkedLines, EachLine};
 ghost use Rattle.sm_theory.specs.WitnessesListing.{TwoPairs};
 ghost use Rattle.sm_theory.specs.WitnessesRooms.{OddParty, EvenParty};
 ghost use Rattle.sm_theory.specs.WitnessesSeats.{Seats};
@@ -28,6 +29,16 @@ pub fn left_over()
 /// A net with a flow of value 4, whose reach has both rotations and a cut of 4; the matching weighs -10.
 pub fn worked_net()
     ensures { WorkedNet }
+{}
+
+/// The flow of value 4 in that net, by its three lines, and lines that are no flow.
+pub fn worked_lines()
+    ensures { WorkedLines }
+{}
+
+/// Single lines in that net: which of them are on new edges and within the rooms.
+pub fn each_line()
+    ensures { EachLine }
 {}
 
 /// The same market where the first proposer may have no level: a path of unbounded edges leads from the source to the sink.

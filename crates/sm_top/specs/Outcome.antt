@@ -23,7 +23,7 @@ use Rattle.sm_shown.specs.RotationAnswer.{IsRotationAnswer}
 use Rattle.sm_listing.specs.ListAnswer.{IsCursor, IsListAnswer}
 use Rattle.sm_partners.specs.PairsAnswer.{IsPairsAnswer}
 use Rattle.sm_partners.specs.RegretAnswer.{IsRegretAnswer, IsNoneAllowed}
-use Rattle.sm_lattice.specs.declared.choice.Choice.TheVariants.{Better, Worse}
+use Rattle.sm_theory.specs.declared.choice.Choice.TheVariants.{Better, Worse}
 use Rattle.sm_given.specs.GivenText.{texts_from, IsBadAt}
 use Rattle.sm_given.specs.Chosen.{IsChosenAnswer}
 use Rattle.sm_given.specs.Refusing.{AreUnstable}

@@ -16,12 +16,13 @@ ghost use Rattle.sm_top.specs.Wrote.{Wrote, With};
 use crate::status::Status;
 use crate::stop::Stop;
 use crate::writing::write;
-use sm_given::{Flaw, GivenFault, Unstable, Which, choose_places, chosen_lines, find_given};
+use sm_given::{Flaw, GivenFault, Unstable, Which, chosen_lines, find_given};
 use sm_instance::{Input, Instance};
 use sm_io::Sink;
-use sm_lattice::Choice;
+use sm_pairs::choose_places;
 use sm_reader::Read;
 use sm_text::RefusalKind;
+use sm_theory::Choice;
 use std::alloc::{AllocError, Global};
 
 /// Does `meet` or `join` on an instance with two sides and the two matchings behind its `end`.
@@ -52,7 +53,7 @@ pub(crate) fn choose<K: Sink>(
         read.rest_line,
     ) {
         Ok(given) => {
-            let chosen = choose_places(alloc, instance, choice, &given)?;
+            let chosen = choose_places(alloc, instance, choice, &given.left, &given.right)?;
             let lines = chosen_lines(&read.input, instance, choice, &given, &chosen);
             Ok(write(alloc, sink, Status::Done, lines))
         }

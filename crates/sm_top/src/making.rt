@@ -18,10 +18,8 @@ use sm_io::Sink;
 use sm_printed::instance_lines;
 use sm_survey::survey_lines;
 use sm_tally::Tally;
+use sm_words::USUAL_LIMIT;
 use std::alloc::Global;
-
-/// Up to how many matchings a summary lists: as many as `survey` without a limit.
-const SUMMARY_LIMIT: u32 = 100;
 
 /// Writes the text of a made instance, or its summary.
 pub(crate) fn show_made<K: Sink>(
@@ -43,7 +41,7 @@ pub(crate) fn show_made<K: Sink>(
     Ok(write(alloc, sink, Status::Done, instance_lines(input)))
 }
 
-// Writes what `survey` answers, or `solve` for roommates.
+// Writes what `survey` answers without a limit, or `solve` for roommates.
 fn summarize<K: Sink>(
     alloc: Global,
     input: &Input,
@@ -59,7 +57,7 @@ fn summarize<K: Sink>(
     match input {
         Input::Two(instance) => {
             let seats = seats_of(alloc, instance)?;
-            let lines = survey_lines(alloc, input, instance, &seats, SUMMARY_LIMIT, tallies)?;
+            let lines = survey_lines(alloc, input, instance, &seats, USUAL_LIMIT, tallies)?;
             Ok(write(alloc, sink, Status::Done, lines))
         }
         Input::Room(persons) => Ok(solve_roommates(alloc, input, persons, sink)?),

@@ -28,7 +28,6 @@ use crate::stop::Stop;
 use crate::writing::write;
 use sm_instance::{Input, Instance, Measure, Persons, Side};
 use sm_io::Sink;
-use sm_lattice::Choice;
 use sm_lightest::{find_lightest, lightest_lines};
 use sm_listing::{list_lines, start_list};
 use sm_partners::{find_pairs, find_regret, none_lines, pairs_lines, regret_lines};
@@ -42,6 +41,7 @@ use sm_shown::{
 use sm_survey::survey_lines;
 use sm_tally::Tally;
 use sm_text::RefusalKind;
+use sm_theory::Choice;
 use sm_words::Job;
 use std::alloc::{AllocError, Global};
 

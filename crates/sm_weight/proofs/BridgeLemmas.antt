@@ -15,13 +15,14 @@ use Rattle.sm_flow.specs.Flowing.{Flowing, amount, at_node, coming, leaving, IsW
 use Rattle.sm_flow.specs.Answer.{IsAnswer}
 use Rattle.sm_flow.specs.declared.net.Edge.{Edge as GraphEdge}
 use Rattle.sm_flow.specs.declared.net.Room.TheVariants.{Bounded, Unbounded}
-use Rattle.sm_theory.specs.Net.{Net, sink_of, room_of, IsUnbounded, is_in, NoneLeaves, IsPath, IsReachable}
+use Rattle.sm_theory.specs.Net.{Net, sink_of, room_of, IsUnbounded, HasEdge, is_in, NoneLeaves, IsPath, IsReachable}
 use Rattle.sm_theory.specs.Flows.{IsFlow, flow_value, IsResidualStep, IsResidualReach}
 use Rattle.sm_weight.specs.declared.edges.Edge.{Edge}
-use Rattle.sm_weight.specs.declared.flows.FlowLine.{FlowLine}
-use Rattle.sm_weight.specs.Edges.{edge_at, graph_of, graph_edge, room_in, HaveSameEnds, IsBefore as IsEdgeBefore, AreRising, IsRoomOf, HasEdge, AreEdges}
-use Rattle.sm_weight.specs.Lines.{line_at, line_of, lines_to, amount_on, amount_from, amount_to, IsLineBefore, AreLines, AreReached, IsCutFound}
-use Rattle.sm_weight.proofs.LineLemmas.{flow_of_lines}
+use Rattle.sm_theory.specs.declared.flow_lines.FlowLine.{FlowLine}
+use Rattle.sm_weight.specs.Edges.{edge_at, graph_of, graph_edge, room_in, HaveSameEnds, IsBefore as IsEdgeBefore, AreRising, IsRoomOf, AreEdges}
+use Rattle.sm_weight.specs.Lines.{line_of, lines_to, AreReached, IsCutFound}
+use Rattle.sm_theory.specs.FlowLines.{line_at, amount_on, amount_from, amount_to, IsLineBefore, AreLines}
+use Rattle.sm_theory.proofs.Flow.Lines.{flow_of_lines}
 
 -- the two kinds of room
 either : (net : Net) (i j : ℕ) (room : Option ℕ) → IsRoomOf net i j room

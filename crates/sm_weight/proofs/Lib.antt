@@ -1,5 +1,4 @@
 pub mod EdgeLemmas
-pub mod LineLemmas
 pub mod BridgeLemmas
 pub mod SpanLemmas
 pub mod NodeLemmas
@@ -9,4 +8,3 @@ pub mod GainLemmas
 pub mod BasisLemmas
 pub mod ShortLemmas
 pub mod LightestLemmas
-pub mod WitnessLemmas

@@ -9,7 +9,8 @@ use Rattle.sm_theory.proofs.Weighing.Lightest.{least_cut_is_lightest, reach_is_b
 use Rattle.sm_rotations.specs.Graph.{AreNeeds}
 use Rattle.sm_poset.specs.Posets.{RotationPoset, IsPoset}
 use Rattle.sm_weight.specs.Basis.{poset_net}
-use Rattle.sm_weight.specs.Lines.{amount_on, IsCutFound}
+use Rattle.sm_weight.specs.Lines.{IsCutFound}
+use Rattle.sm_theory.specs.FlowLines.{amount_on}
 use Rattle.sm_weight.specs.Lightest.{IsNothingAllowed, IsFullFlow, IsLightestFound}
 use Rattle.sm_weight.specs.declared.weighing.LightestFound.{LightestFound}
 

@@ -4,7 +4,8 @@ use Rattle.sm_flow.specs.Graph.{Graph}
 use Rattle.sm_flow.specs.declared.net.Edge.{Edge as GraphEdge}
 use Rattle.sm_flow.specs.declared.net.Room.{Room}
 use Rattle.sm_flow.specs.declared.net.Room.TheVariants.{Bounded, Unbounded}
-use Rattle.sm_theory.specs.Net.{Net, sink_of, room_of, IsUnbounded}
+use Rattle.sm_theory.specs.Net.{Net, sink_of, room_of, IsUnbounded, HasEdge}
+use Rattle.sm_theory.specs.FlowLines.{AreEndsBefore}
 use Rattle.sm_weight.specs.declared.edges.Edge.{Edge}
 
 -- the edge with a number
@@ -26,10 +27,7 @@ room_total edges = sum_by (λ e. room_size e.room) edges
 abbrev pub HaveSameEnds : Edge → Edge → Type 0
 HaveSameEnds x y = (x.from ≡ y.from) × (x.to ≡ y.to)
 
--- the ends of one edge are before those of another: it leads from an earlier node, or from the same one to an earlier node
-abbrev pub AreEndsBefore : (from to other_from other_to : ℕ) → Type 0
-AreEndsBefore from to other_from other_to = (from < other_from) ⊎ ((from ≡ other_from) × (to < other_to))
-
+-- the ends of one are before those of another
 abbrev pub IsBefore : Edge → Edge → Type 0
 IsBefore x y = AreEndsBefore x.from x.to y.from y.to
 
@@ -78,10 +76,6 @@ graph_of nodes edges = record { nodes = nodes; edges = map graph_edge edges }
 abbrev pub IsRoomOf : Net → ℕ → ℕ → Option ℕ → Type 0
 IsRoomOf net i j None = IsUnbounded net i j
 IsRoomOf net i j (Some bound) = (¬ IsUnbounded net i j) × (room_of net i j ≡ bound) × (0 < bound)
-
--- there is an edge from one node to another
-abbrev pub HasEdge : Net → ℕ → ℕ → Type 0
-HasEdge net i j = IsUnbounded net i j ⊎ (0 < room_of net i j)
 
 -- the edges of a net, in the order of their ends (Ford and Fulkerson 1956)
 pub record AreEdges (net : Net) (edges : List Edge) : Type 0 where

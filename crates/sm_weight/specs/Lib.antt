@@ -4,5 +4,3 @@ pub mod Spans
 pub mod Sizes
 pub mod Basis
 pub mod Lightest
-pub mod Laws
-pub mod Witnesses

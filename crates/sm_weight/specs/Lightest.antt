@@ -10,7 +10,7 @@ use Rattle.sm_theory.specs.Conditions.{IsLightestAllowed}
 use Rattle.sm_rotations.specs.Graph.{AreNeeds}
 use Rattle.sm_poset.specs.Posets.{RotationPoset}
 use Rattle.sm_weight.specs.Basis.{poset_net, AreGains}
-use Rattle.sm_weight.specs.Lines.{amount_on, AreLines}
+use Rattle.sm_theory.specs.FlowLines.{amount_on, AreLines}
 use Rattle.sm_weight.specs.declared.weighing.LightestFound.{LightestFound}
 
 -- no stable matching meets the conditions

@@ -1,36 +1,13 @@
--- Flows by their lines: amounts on edges.
-use Rattle.std.specs.Prelude.{◌≡◌, ℕ, zero, suc, ◌==◌, ◌&&◌, ◌<◌, if◌then◌else◌, Bool, List, [], ◌∷◌, ◌++◌, length, slice_index_or, sum_by}
+-- The lines of a maximum flow.
+use Rattle.std.specs.Prelude.{◌≡◌, ℕ, zero, suc, ◌<◌, Bool, List, [], ◌∷◌, ◌++◌, length}
 use Rattle.sm_flow.specs.Flowing.{amount, is_in}
 use Rattle.sm_theory.specs.ClosedSets.{is_member}
-use Rattle.sm_theory.specs.Net.{Net, sink_of, NoneLeaves}
+use Rattle.sm_theory.specs.Net.{Net, NoneLeaves}
+use Rattle.sm_theory.specs.FlowLines.{amount_on, AreLines}
+use Rattle.sm_theory.specs.declared.flow_lines.FlowLine.{FlowLine}
 use Rattle.sm_theory.specs.Flows.{IsFlow, flow_value, IsResidualStep, IsResidualReach}
 use Rattle.sm_weight.specs.declared.edges.Edge.{Edge}
-use Rattle.sm_weight.specs.declared.flows.FlowLine.{FlowLine}
-use Rattle.sm_weight.specs.Edges.{edge_at, AreEndsBefore, HasEdge}
-
--- the line with a number
-abbrev pub line_at : List FlowLine → ℕ → FlowLine
-line_at lines k = slice_index_or lines k (record { from = 0; to = 0; amount = 0 })
-
--- the amount from one node to another, that from a node, and that to a node
-abbrev pub amount_on : List FlowLine → ℕ → ℕ → ℕ
-amount_on lines i j = sum_by (λ line. if line.from == i && line.to == j then line.amount else 0) lines
-
-abbrev pub amount_from : List FlowLine → ℕ → ℕ
-amount_from lines i = sum_by (λ line. if line.from == i then line.amount else 0) lines
-
-abbrev pub amount_to : List FlowLine → ℕ → ℕ
-amount_to lines j = sum_by (λ line. if line.to == j then line.amount else 0) lines
-
-abbrev pub IsLineBefore : FlowLine → FlowLine → Type 0
-IsLineBefore x y = AreEndsBefore x.from x.to y.from y.to
-
--- positive amounts on edges of a net, in the order of their ends, so that each edge comes once
-pub record AreLines (net : Net) (lines : List FlowLine) : Type 0 where
-  pub rising : (a b : ℕ) → a < b → b < length lines → IsLineBefore (line_at lines a) (line_at lines b)
-  pub positive : (a : ℕ) → a < length lines → 0 < (line_at lines a).amount
-  pub edges : (a : ℕ) → a < length lines → HasEdge net (line_at lines a).from (line_at lines a).to
-  pub nodes : (a : ℕ) → a < length lines → ((line_at lines a).from < suc (sink_of net)) × ((line_at lines a).to < suc (sink_of net))
+use Rattle.sm_weight.specs.Edges.{edge_at}
 
 -- the line of an amount on an edge, unless it is 0, and those of the first n amounts
 abbrev pub line_of : Edge → ℕ → List FlowLine

@@ -7,18 +7,8 @@ ghost use Rattle.sm_weight.specs.Lines.{line_of, lines_to, AreReached, IsCutFoun
 
 use crate::edges::{Edge, net};
 use sm_flow::{Flow, FlowFault, max_flow};
+use sm_theory::FlowLine;
 use std::alloc::{AllocError, Global};
-
-/// A positive amount on an edge of a net.
-#[derive(Debug, Clone, Copy, PartialEq, Eq)]
-pub struct FlowLine {
-    /// The node from which the edge leads: 0 is the source, and rotations are numbered from 1.
-    pub from: u32,
-    /// The node to which it leads: the number of the rotations plus one is the sink.
-    pub to: u32,
-    /// The amount, in the unit of the weights.
-    pub amount: u64,
-}
 
 /// A maximum flow with what it reaches: its value is the cut of that.
 #[derive(Debug, Drop)]

@@ -10,10 +10,7 @@ mod basis;
 mod edges;
 mod flows;
 mod gains;
-pub mod laws;
 mod spans;
 mod weighing;
-pub mod witnesses;
 
-pub use flows::FlowLine;
 pub use weighing::{LightestFound, lightest};

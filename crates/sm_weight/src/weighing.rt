@@ -8,10 +8,10 @@ ghost use Rattle.sm_weight.specs.Sizes.{weights_in, AreWeights};
 ghost use Rattle.sm_weight.specs.Lightest.{IsLightestFound, IsNothingAllowed};
 
 use crate::basis::{allows_nothing, net_edges};
-use crate::flows::{FlowLine, least_cut};
+use crate::flows::least_cut;
 use crate::gains::gains;
 use sm_poset::{Conditions, Poset};
-use sm_theory::ClosedSet;
+use sm_theory::{ClosedSet, FlowLine};
 use std::alloc::{AllocError, Global};
 
 /// The closed set of a lightest allowed stable pairing, with a flow that shows that none is lighter.

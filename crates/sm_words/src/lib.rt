@@ -10,4 +10,4 @@ mod operands;
 mod reading;
 
 pub use jobs::{Job, WordsFault};
-pub use reading::read_words;
+pub use reading::{USUAL_LIMIT, read_words};

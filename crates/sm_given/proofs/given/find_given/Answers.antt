@@ -3,8 +3,8 @@ use Rattle.sm_instance.specs.declared.inputs.Input.{Input}
 use Rattle.sm_instance.proofs.FaultLemmas.{on_err}
 use Rattle.sm_given.specs.declared.faults.Which.TheVariants.{Left, Right}
 use Rattle.sm_given.specs.GivenText.{texts_from, AreGiven}
-use Rattle.sm_given.specs.Held.{places_in, CanHold}
-use Rattle.sm_given.specs.Holding.{IsHoldFault}
+use Rattle.sm_pairs.specs.Held.{places_in, CanHold}
+use Rattle.sm_given.specs.Refusing.{IsHoldFault}
 use Rattle.sm_given.specs.Refusing.{IsGivenFault, IsBlocking}
 use Rattle.sm_given.proofs.GivenLemmas.{right_breach, left_blocked, right_blocked}
 use Rattle.sm_given.proofs.given.find_given.Goals as goal

@@ -1,6 +1,6 @@
 use Rattle.std.proofs.Common.{◌≡◌, ℕ, ◌<◌, take}
-use Rattle.sm_given.specs.Held.{places_in, IsBreach}
-use Rattle.sm_given.specs.Holding.{IsHolding}
+use Rattle.sm_pairs.specs.Held.{places_in, IsBreach}
+use Rattle.sm_pairs.specs.Holding.{IsHolding}
 use Rattle.sm_given.proofs.holding.hold.Given as goal
 
 -- the pairs so far are held

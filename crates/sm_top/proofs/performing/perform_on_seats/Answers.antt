@@ -6,7 +6,7 @@ use Rattle.sm_shown.specs.RotationAnswer.{IsRotationAnswer}
 use Rattle.sm_listing.specs.ListAnswer.{IsListAnswer}
 use Rattle.sm_listing.specs.Started.{cursor_in}
 use Rattle.sm_partners.specs.PairsAnswer.{IsPairsAnswer}
-use Rattle.sm_lattice.specs.declared.choice.Choice.TheVariants.{Better, Worse}
+use Rattle.sm_theory.specs.declared.choice.Choice.TheVariants.{Better, Worse}
 use Rattle.sm_given.specs.GivenText.{texts_from}
 use Rattle.sm_given.specs.Chosen.{IsChosenAnswer}
 use Rattle.sm_top.specs.Outcome.{IsSolved, IsRegretted, IsWeighed}

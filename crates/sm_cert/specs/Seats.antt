@@ -1,0 +1,26 @@
+-- The seats that lines name, and their numbers in the market of seats.
+use Rattle.std.specs.Prelude.{ℕ, ◌+◌, ◌-◌, ◌&&◌, nat_le, Bool, List, map}
+use Rattle.sm_instance.specs.Written.{Written}
+use Rattle.sm_report.specs.declared.lines.Seat.{Seat}
+use Rattle.sm_seats.specs.SeatMarket.{seat_count, seats_before}
+
+-- the reviewer has a seat of this number
+abbrev pub is_seat : Written → Seat → Bool
+is_seat w seat = nat_le 1 seat.number && nat_le seat.number (seat_count w seat.reviewer)
+
+abbrev pub pair_has_seat : Written → ℕ × Seat → Bool
+pair_has_seat w pair = is_seat w pair.1
+
+-- which seat of the market it is
+abbrev pub seat_number : Written → Seat → ℕ
+seat_number w seat = seats_before w seat.reviewer + (seat.number - 1)
+
+abbrev pub seat_numbers : Written → List Seat → List ℕ
+seat_numbers w seats = map (seat_number w) seats
+
+-- a proposer's pairs with seats, by the numbers of these
+abbrev pub numbered : Written → ℕ × Seat → ℕ × ℕ
+numbered w pair = (pair.0, seat_number w pair.1)
+
+abbrev pub all_numbered : Written → List (ℕ × Seat) → List (ℕ × ℕ)
+all_numbered w pairs = map (numbered w) pairs

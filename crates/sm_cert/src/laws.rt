@@ -1,0 +1,25 @@
+//! The laws of verdicts and layouts, and what a yes means. Each function does nothing: its contract is the law, a statement
+//! over the definitions alone.
+
+ghost use Rattle.sm_cert.specs.Laws.{OneVerdict, WholeIsBegun, WholeEnds};
+ghost use Rattle.sm_cert.specs.Yes.{ListYes};
+
+/// There is no more than one verdict on an answer.
+pub fn one_verdict()
+    ensures { OneVerdict }
+{}
+
+/// The first lines of a whole answer begin an answer.
+pub fn whole_is_begun()
+    ensures { WholeIsBegun }
+{}
+
+/// A whole answer ends with a closing line.
+pub fn whole_ends()
+    ensures { WholeEnds }
+{}
+
+/// Where an answer of `list` gets a yes, its vectors are those of allowed stable matchings, and rise from the cursor.
+pub fn list_yes()
+    ensures { ListYes }
+{}

@@ -1,0 +1,31 @@
+//! Whether a finished answer is right: the form of an answer, and the verdict on it by a table of clauses.
+//!
+//! An answer is judged line by line. At each line the clauses of the table are tried in the order of their reasons, and the
+//! first that fails is the verdict. What the clauses say stands in `specs`, by the definitions of the field alone.
+#![tactic(auto)]
+
+mod answers;
+mod chosen;
+mod couples;
+mod faults;
+mod forms;
+mod judging;
+mod keywords;
+pub mod laws;
+mod layouts;
+mod listing;
+mod pairs;
+mod persons;
+mod reading;
+mod regret;
+mod verdicts;
+mod wanted;
+pub mod witnesses;
+
+pub use chosen::chosen_verdict;
+pub use couples::couples_verdict;
+pub use faults::AnswerFault;
+pub use listing::list_verdict;
+pub use reading::read_answer;
+pub use regret::regret_verdict;
+pub use verdicts::{Reason, Verdict};

@@ -1,0 +1,119 @@
+//! Answers of `regret`.
+
+ghost use Rattle.std.specs.Prelude.{◌≡◌, ℕ, ◌+◌, ◌<◌, ◌^◌, ◌∷◌, ◌++◌, [], List, All, Option, None, unwrap_or, length, map, IfOk};
+ghost use Rattle.sm_instance.specs.declared.inputs.Input.TheVariants.{Two};
+ghost use Rattle.sm_pairs.specs.Holding.{IsHolding};
+ghost use Rattle.sm_report.specs.Lines.{LineData, line_of};
+ghost use Rattle.sm_report.specs.Sound.{IsLineOf};
+ghost use Rattle.sm_cert.specs.Verdicts.{AtLine, Finds, IsVerdict};
+ghost use Rattle.sm_cert.specs.Said.{pairs_in, regret_in};
+ghost use Rattle.sm_cert.specs.Vectors.{RegretHolds, RegretClauses};
+ghost use Rattle.sm_cert.specs.Regrets.{EndOfRegret};
+ghost use Rattle.sm_cert.specs.Walking.{FindsOrKeeps};
+ghost use Rattle.sm_instance.specs.Matching.{IsMatching};
+ghost use Rattle.sm_cert.specs.PairsKept.{ArePairsHeld};
+
+use crate::pairs::{joins, no_pairs};
+use crate::verdicts::{Reason, Verdict};
+use sm_instance::{Assignment, Instance};
+use sm_pairs::Holding;
+use sm_report::Line;
+use std::alloc::{AllocError, Global};
+
+/// The verdict on an answer of `regret`, of which the first line has this number. Takes time in proportion to the agents, the
+/// entries and the lines, and a look-up for each pair, and memory in proportion to the agents.
+///
+/// # Errors
+///
+/// `AllocError` where memory ran out, and only then.
+pub fn regret_verdict(
+    alloc: Global,
+    instance: &Instance,
+    lines: &[Line],
+    first_line: u32,
+) -> Result<Verdict, AllocError>
+    requires few { first_line + length lines.now < 2 ^ 32 }
+    requires right { All (IsLineOf (Two instance.now)) (map line_of lines.now) }
+    ensures { IfOk result (λ v. IsVerdict (AtLine (RegretClauses instance.now) (map line_of lines.now)) first_line v) }
+{
+    let mut holding = no_pairs(alloc, instance)?;
+    let mut regret = None;
+    for k in 0..lines.len() {
+        let line = &lines[k];
+        if let Some(why) = line_fault(alloc, instance, &mut holding, regret, line)? {
+            return Ok(Verdict::No(first_line + k as u32, why));
+        }
+        regret = regret.or(regret_in(line));
+    }
+    Ok(Verdict::Yes)
+}
+
+/// The regret that a line says.
+fn regret_in(line: &Line) -> Option<u32>
+    ensures { result ≡ regret_in (line_of line.now) }
+{
+    match line {
+        Line::Regret(regret) => Some(*regret),
+        _ => None,
+    }
+}
+
+/// The first clause that fails at a line, behind these pairs and this regret. The pair of the line is held too.
+fn line_fault(
+    alloc: Global,
+    instance: &Instance,
+    holding: &mut Holding,
+    regret: Option<u32>,
+    line: &Line,
+) -> Result<Option<Reason>, AllocError>
+    requires line { IsLineOf (Two instance.now) (line_of line.now) }
+    requires held { IsHolding instance.now holding.old }
+    ensures { IfOk result (λ why. (pairs : List (ℕ × ℕ)) → ArePairsHeld instance.now pairs holding.old
+        → FindsOrKeeps (RegretHolds instance.now (unwrap_or regret 0) pairs (line_of line.now))
+        (ArePairsHeld instance.now (pairs ++ pairs_in (line_of line.now ∷ [])) holding.new) why) }
+{
+    match line {
+        Line::Pair(p, r) => {
+            if !joins(holding, instance, *p, *r) {
+                return Ok(Some(Reason::NotAMatching));
+            }
+            Ok(None)
+        }
+        Line::End => end_fault(alloc, instance, holding, regret),
+        _ => Ok(None),
+    }
+}
+
+/// The first clause that fails at the end, behind these pairs and this regret.
+fn end_fault(
+    alloc: Global,
+    instance: &Instance,
+    holding: &Holding,
+    regret: Option<u32>,
+) -> Result<Option<Reason>, AllocError>
+    requires { IsHolding instance.now holding.now }
+    ensures { IfOk result (λ why. (pairs : List (ℕ × ℕ)) → ArePairsHeld instance.now pairs holding.now
+        → Finds (RegretHolds instance.now (unwrap_or regret 0) pairs LineData.End) why) }
+{
+    let a = Assignment {
+        places: Vec::from_slice(alloc, &holding.places)?,
+    };
+    Ok(matching_fault(instance, &a, regret.unwrap_or(0)))
+}
+
+/// The first clause that fails of the matching.
+fn matching_fault(instance: &Instance, a: &Assignment, regret: u32) -> Option<Reason>
+    requires { IsMatching instance.now a.now.places.items }
+    ensures { Finds (EndOfRegret instance.now regret a.now.places.items) result }
+{
+    if instance.first_blocking(a).is_some() {
+        return Some(Reason::Blocked);
+    }
+    if !instance.allowed(a) {
+        return Some(Reason::NotAllowed);
+    }
+    if regret != instance.regret(a) {
+        return Some(Reason::WrongRegret);
+    }
+    None
+}
