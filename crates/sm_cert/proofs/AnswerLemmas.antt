@@ -1,6 +1,6 @@
 -- The walk through the lines of an answer: the clauses hold above a line, and something is kept for the lines below.
-use Rattle.std.proofs.Common.{◌≡◌, ℕ, ◌+◌, ◌<◌, ◌≤◌, arith, refl, sym, ap, ◌∙◌, subst, ⊎_elim, List, [], ◌∷◌, ◌++◌, length, map, take, get_or, Option, None, Some, lit≤}
-use Rattle.std.specs.Prelude.{IfSome, All, filter_map}
+use Rattle.std.proofs.Common.{◌≡◌, ℕ, ◌+◌, ◌<◌, ◌≤◌, arith, refl, ap, ◌∙◌, subst, ⊎_elim, List, [], ◌∷◌, ◌++◌, length, map, take, get_or, Option, None, Some, lit≤}
+use Rattle.std.specs.Prelude.{All, filter_map}
 use Rattle.std.specs.List.{slice_get, cons_option}
 use Rattle.std.specs.Option.{option_or}
 use Rattle.std.proofs.lemmas.Bool.{cases_lt}

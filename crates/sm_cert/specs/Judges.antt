@@ -20,6 +20,11 @@ pub record IsOwnLine (subject : Subject) (line : LineData) : Type 0 where
   pub right : IsLineOf (input_of subject) line
   pub fitting : fits (input_of subject) line ≡ true
 
+-- there are lines of which this is known
+pub record IsKnown (knows : List LineData → Type 0) : Type 0 where
+  pub above : List LineData
+  pub known : knows above
+
 -- what is found at a line behind those of which all is known, and what is known with it then
 abbrev pub Judges : Subject → (known knows : List LineData → Type 0) → LineData → Option Reason → Type 0
 Judges subject known knows line why =

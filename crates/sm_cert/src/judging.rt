@@ -15,7 +15,7 @@ pub(crate) trait Judge {
     ghost use Rattle.std.specs.Prelude.{◌≡◌, List, IfOk};
     ghost use Rattle.sm_report.specs.Lines.{LineData, line_of};
     ghost use Rattle.sm_cert.specs.Judging.{Subject};
-    ghost use Rattle.sm_cert.specs.Judges.{IsOwnLine, Judges};
+    ghost use Rattle.sm_cert.specs.Judges.{IsKnown, IsOwnLine, Judges};
 
     /// What is judged.
     ghost subject: { Self → Subject };
@@ -29,7 +29,8 @@ pub(crate) trait Judge {
     ///
     /// `AllocError` where memory ran out, and only then; nothing is said of what is kept then.
     fn find_fault(&mut self, alloc: Global, line: &Line) -> Result<Option<Reason>, AllocError>
-        requires { IsOwnLine (subject self.old) (line_of line.now) }
+        requires own { IsOwnLine (subject self.old) (line_of line.now) }
+        requires known { IsKnown (knows self.old) }
         ensures subject { subject self.new ≡ subject self.old }
         ensures found { IfOk result (λ why. Judges (subject self.old) (knows self.old) (knows self.new) (line_of line.now) why) };
 }

@@ -1,15 +1,15 @@
-use Rattle.std.proofs.Common.{◌∙◌, ◌++◌, ◌∷◌, [], arith, length, map, sym, subst, take}
+use Rattle.std.proofs.Common.{◌∙◌, ◌++◌, ◌∷◌, [], arith, map, sym, subst, take}
 use Rattle.std.proofs.lemmas.List.{length-map}
 use Rattle.sm_report.specs.Lines.{line_of}
 use Rattle.sm_cert.specs.Judges.{IsOwnLine}
-use Rattle.sm_cert.specs.Judging.{Subject, Clauses}
+use Rattle.sm_cert.specs.Judging.{Clauses}
 use Rattle.sm_cert.specs.Walking.{FindsOrKeeps}
 use Rattle.sm_cert.proofs.JudgingLemmas.{line_at, above_next}
-use Rattle.sm_cert.proofs.AnswerLemmas.{line_right, none_above, hold_more, verdict_no, verdict_yes}
+use Rattle.sm_cert.proofs.AnswerLemmas.{line_right, hold_more, verdict_no, verdict_yes}
 use Rattle.sm_cert.proofs.judging.judge_lines.Goals as goal
 
-pub find_fault-requires : goal.find_fault-requires
-find_fault-requires g c =
+pub find_fault-requires-clause-own : goal.find_fault-requires-clause-own
+find_fault-requires-clause-own g c =
     subst (λ s. IsOwnLine s (line_of c.index-lines-k.result)) (sym c.loop-k.invariant.subject)
     (line_right (IsOwnLine (g.J.Judge.subject c.args.judge)) c.args.lines.now c.loop-k.k c.index-lines-k.result c.loop-k-test.true c.index-lines-k.is c.requires.own)
 
@@ -20,7 +20,7 @@ returns-in-Some g c =
     let above = take c.loop-k.k lines in
     let at = line_at c.args.lines.now c.loop-k.k c.index-lines-k.result c.loop-k-test.true c.index-lines-k.is in
     let found = subst (λ s. FindsOrKeeps (Clauses s above x) (g.J.Judge.knows c.find_fault.new.self (above ++ x ∷ [])) c.in_ok-why.field-0) c.loop-k.invariant.subject
-        (c.in_ok-why.ensures.found above c.loop-k.invariant.knows) in
+    (c.in_ok-why.ensures.found above c.loop-k.invariant.knows) in
     verdict_no x c.in-Some.why c.args.first_line c.loop-k.invariant.above at (rw c.in-Some.is at found)
 
 pub loop-k-preserved : goal.loop-k-preserved
@@ -30,7 +30,7 @@ loop-k-preserved g c =
     let above = take c.loop-k.k lines in
     let at = line_at c.args.lines.now c.loop-k.k c.index-lines-k.result c.loop-k-test.true c.index-lines-k.is in
     let found = subst (λ s. FindsOrKeeps (Clauses s above x) (g.J.Judge.knows c.find_fault.new.self (above ++ x ∷ [])) c.in_ok-why.field-0) c.loop-k.invariant.subject
-        (c.in_ok-why.ensures.found above c.loop-k.invariant.knows) in
+    (c.in_ok-why.ensures.found above c.loop-k.invariant.knows) in
     let here = rw c.in_default.is at found in
     record {
       subject = c.in_ok-why.ensures.subject ∙ c.loop-k.invariant.subject;
