@@ -18,7 +18,8 @@ use Rattle.sm_cert.specs.Said.{pair_in, pairs_in}
 use Rattle.sm_cert.specs.Rooming.{persons_of, both_ways, mates_in, IsFreeCouple, CouplesHold}
 use Rattle.sm_cert.specs.CouplesKept.{AreCouplesHeld, AreCouplesKept, HasCoupled}
 use Rattle.sm_cert.specs.Walking.{FindsOrKeeps}
-use Rattle.sm_cert.proofs.PersonLemmas.{is_among, among_of, of_among}
+use Rattle.sm_cert.proofs.PersonLemmas.{among_of, of_among}
+use Rattle.sm_cert.specs.PartiesKept.{is_among}
 
 -- whom pairs give somebody that has nobody in the first of them
 partner_behind : (xs ys : List (ℕ × ℕ)) (z : ℕ) → partner_in (xs ++ ys) z ≡ option_or (partner_in xs z) (partner_in ys z)

@@ -10,3 +10,4 @@ mod PairLemmas
 mod RegretLemmas
 mod PersonLemmas
 mod CoupleLemmas
+mod PartyLemmas

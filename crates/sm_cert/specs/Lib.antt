@@ -18,5 +18,6 @@ pub mod Walking
 pub mod PairsKept
 pub mod Regrets
 pub mod CouplesKept
+pub mod PartiesKept
 pub mod Laws
 pub mod Witnesses

@@ -11,6 +11,7 @@ pub mod laws;
 mod layouts;
 mod listing;
 mod pairs;
+mod parties;
 mod persons;
 mod regret;
 mod verdicts;
@@ -18,5 +19,6 @@ pub mod witnesses;
 
 pub use couples::couples_verdict;
 pub use listing::list_verdict;
+pub use parties::parties_verdict;
 pub use regret::regret_verdict;
 pub use verdicts::{Reason, Verdict};
