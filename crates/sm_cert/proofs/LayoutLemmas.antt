@@ -20,7 +20,7 @@ none_left : (lines : List Opening) → left_behind [] lines ≡ []
 none_left [] = refl
 none_left (line ∷ lines) = none_left lines
 
-left_on : (layouts : List (List Part)) (xs ys : List Opening) → left_behind layouts (xs ++ ys) ≡ left_behind (left_behind layouts xs) ys
+pub left_on : (layouts : List (List Part)) (xs ys : List Opening) → left_behind layouts (xs ++ ys) ≡ left_behind (left_behind layouts xs) ys
 left_on layouts [] ys = refl
 left_on layouts (x ∷ xs) ys = left_on (filter_map (λ parts. behind parts x) layouts) xs ys
 

@@ -1,15 +1,13 @@
 -- What is left of a layout behind its parts, one after another.
-use Rattle.std.proofs.Common.{◌≡◌, ℕ, ◌+◌, ◌<◌, ◌≤◌, inl, inr, arith, refl, sym, ap, ◌∙◌, true, false, Bool, List, [], ◌∷◌, drop, length, Option, None, Some, slice_index_or, if◌then◌else◌, nat_eq, ne_eqb, eq-eqb, subst}
+use Rattle.std.proofs.Common.{◌≡◌, ℕ, ◌≤◌, inl, inr, arith, sym, ap, ◌∙◌, true, false, List, [], ◌∷◌, drop, length, if◌then◌else◌, nat_eq, ne_eqb, eq-eqb}
 use Rattle.std.specs.Prelude.{◌||◌}
 use Rattle.std.specs.List.{list_any}
 use Rattle.std.proofs.lemmas.List.{drop_more, drop_all}
 use Rattle.sm_lists.proofs.Counting.{lt_or_le}
 use Rattle.sm_cert.specs.declared.layouts.Part.{Part}
-use Rattle.sm_cert.specs.declared.layouts.Opening.{Opening}
 use Rattle.sm_cert.specs.declared.layouts.Layout.{Layout}
-use Rattle.sm_cert.specs.declared.layouts.Fit.TheVariants as fit
-use Rattle.sm_cert.specs.Layouts.{behind, is_empty}
-use Rattle.sm_cert.specs.Lefts.{IsFit, IsTaken, part_at, left_of, lefts_of, HasNumber}
+use Rattle.sm_cert.specs.Layouts.{is_empty}
+use Rattle.sm_cert.specs.Lefts.{part_at, lefts_of}
 
 -- nothing is left past the last part
 pub none_left : (parts : List Part) (at : ℕ) → at ≤ length parts → nat_eq at (length parts) ≡ (is_empty (drop at parts) || false)

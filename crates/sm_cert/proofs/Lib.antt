@@ -4,10 +4,17 @@ mod JudgingLemmas
 mod ListingLemmas
 mod VectorLemmas
 mod LeftLemmas
+mod TakingLemmas
+mod SeatLemmas
+mod YesLemmas
+mod LinewiseLemmas
 mod WitnessLemmas
 mod AnswerLemmas
 mod PairLemmas
 mod RegretLemmas
+pub mod WantedLemmas
+mod WeightLemmas
 mod PersonLemmas
 mod CoupleLemmas
 mod PartyLemmas
+pub mod ChosenLemmas

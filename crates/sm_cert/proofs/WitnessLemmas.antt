@@ -1,9 +1,6 @@
 -- The worked answers.
-use Rattle.std.proofs.Common.{◌≡◌, ℕ, zero, suc, ◌<◌, inl, inr, arith, refl, sym, ◌∙◌, None, List, [], ◌∷◌, ◌++◌, length, take, append-nil, append_assoc, Some, subst, true, false}
+use Rattle.std.proofs.Common.{◌≡◌, ℕ, zero, suc, ◌<◌, arith, refl, sym, ◌∙◌, None, List, [], ◌∷◌, take, Some, subst, false}
 use Rattle.std.specs.Prelude.{codes, Contains, count_by, ◌==◌, IfSome, All}
-use Rattle.std.specs.List.{slice_get}
-use Rattle.std.proofs.lemmas.Bool.{false≢true}
-use Rattle.sm_lists.proofs.Counting.{lt_or_le}
 use Rattle.sm_instance.specs.declared.inputs.Input.TheVariants.{Room}
 use Rattle.sm_market.specs.Lists.{Lists, reversed_lists}
 use Rattle.sm_market.specs.Matching.{Places, reversed}
@@ -17,33 +14,14 @@ use Rattle.sm_report.specs.Lines.{LineData}
 use Rattle.sm_report.specs.Sound.{IsLineOf}
 use Rattle.sm_cert.specs.declared.verdicts.Reason.{Reason}
 use Rattle.sm_cert.specs.declared.verdicts.Reason.TheVariants as reason
-use Rattle.sm_cert.specs.Verdicts.{AtLine, number_of_reason}
+use Rattle.sm_cert.specs.Verdicts.{number_of_reason}
 use Rattle.sm_cert.specs.Forms.{AreAnswer}
 use Rattle.sm_cert.specs.Said.{party_in, is_end}
 use Rattle.sm_cert.specs.Chain.{RotationsHold}
 use Rattle.sm_cert.specs.Rooming.{PartiesHold, AreNew, IsWholePartition, HasOddParty, members_of}
 use Rattle.sm_cert.specs.Judging.{Subject, Clauses}
 use Rattle.sm_cert.specs.Witnesses.{five, odd_answer, odd_lines, OddAnswers, two_by_two, worst_first, FirstIsntBest, seat}
-use Rattle.sm_cert.proofs.JudgingLemmas.{past_end}
-
--- all clauses hold at each of the lines behind those above
-abbrev AllHold : (List LineData → LineData → Reason → Type 0) → (above lines : List LineData) → Type 0
-AllHold Clauses above [] = Unit {0}
-AllHold Clauses above (x ∷ xs) = ((why : Reason) → Clauses above x why) × AllHold Clauses (above ++ x ∷ []) xs
-
-hold_at : (Clauses : List LineData → LineData → Reason → Type 0) (above front rest : List LineData) → AllHold Clauses above front → (k : ℕ) (why : Reason) → k < length front
-    → IfSome (slice_get (front ++ rest) k) (λ x. Clauses (above ++ take k (front ++ rest)) x why)
-hold_at Clauses above [] rest h k why lt = absurd (omega (arith, lt))
-hold_at Clauses above (x ∷ xs) rest h zero why lt = subst (λ a. Clauses a x why) (sym (append-nil above)) (h.0 why)
-hold_at Clauses above (x ∷ xs) rest h (suc k) why lt =
-    subst (λ a. IfSome (slice_get (xs ++ rest) k) (λ y. Clauses a y why)) (append_assoc above (x ∷ []) (take k (xs ++ rest)))
-    (hold_at Clauses (above ++ x ∷ []) xs rest h.1 k why (omega (arith, lt)))
-
-all_hold : (Clauses : List LineData → LineData → Reason → Type 0) (lines : List LineData) → AllHold Clauses [] lines → (k : ℕ) (why : Reason) → AtLine Clauses lines k why
-all_hold Clauses lines h k why = elim (lt_or_le k (length lines)) [
-  | inl less ↦ subst (λ xs. AtLine Clauses xs k why) (append-nil lines) (hold_at Clauses [] lines [] h k why less)
-  | inr more ↦ past_end Clauses lines k why more
-]
+use Rattle.sm_cert.proofs.LinewiseLemmas.{AllHold, hold_at, all_hold, no_end}
 
 -- The odd party.
 none_of : (P : Seat → Type 0) → All P []
@@ -75,9 +53,6 @@ wrong_answer : AreAnswer (Room five) (odd_answer (codes "party 1 3 2")) (odd_lin
 wrong_answer = record { read = refl; right = lines_of (0 ∷ 2 ∷ 1 ∷ []) (three_of (λ p. p < 5) 0 2 1 (omega arith) (omega arith) (omega arith)); fitting = refl; placed = refl }
 
 -- at a line that is no party and no end nothing is tried; at a party it is tried whether its members are new
-no_end : {P : Type 0} → false ≡ true → P
-no_end e = absurd (false≢true e)
-
 head_holds : (parties : List (List ℕ)) (head : LineData) → party_in head ≡ None → is_end head ≡ false → (why : Reason) → PartiesHold five parties head why
 head_holds parties head none open_still reason.NotPartition = (subst (λ o. IfSome o (AreNew parties)) (sym none) tt, λ e. no_end (sym open_still ∙ e))
 head_holds parties head none open_still reason.NoOddParty = λ e. no_end (sym open_still ∙ e)

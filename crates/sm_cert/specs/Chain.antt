@@ -56,8 +56,10 @@ last_rotation w lines = length (rotations_in w lines) - 1
 -- rotations above.
 abbrev pub ChainHolds : Written → List LineData → LineData → Reason → Type 0
 ChainHolds w above line reason.NotExposed = IfSome (rotation_in w line) (IsLowestExposed (seat_market w) (reached w above))
-ChainHolds w above line reason.RotationMissing = IsFirstBehind is_up_to_rotations above line → IsNothingExposed (seat_market w) (reached w above)
-ChainHolds w above line reason.WrongNeeds = IfSome (needs_in line) (AreNeedsOf (seat_market w) (rotations_in w above) (last_rotation w above))
+ChainHolds w above line reason.RotationMissing =
+    IsFirstBehind is_up_to_rotations above line → IsNothingExposed (seat_market w) (reached w above)
+ChainHolds w above line reason.WrongNeeds =
+    IfSome (needs_in line) (AreNeedsOf (seat_market w) (rotations_in w above) (last_rotation w above))
 ChainHolds w above line _ = Unit {0}
 
 -- `rotations`

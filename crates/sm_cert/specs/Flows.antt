@@ -31,8 +31,8 @@ size_in w lines = length (rotations_in w lines)
 
 abbrev pub net_in : Written → Measure → List LineData → Net
 net_in w by lines =
-    net_of (seat_market w) (levels_of (seating_of w)) (weights_of by w (seating_of w)) (leveled w w.forced) (leveled w w.forbidden)
-    (first_of w lines) (rotations_in w lines) (all_needs_in lines)
+    net_of (seat_market w) (levels_of (seating_of w)) (weights_of by w (seating_of w))
+    (leveled w w.forced) (leveled w w.forbidden) (first_of w lines) (rotations_in w lines) (all_needs_in lines)
 
 -- the node of an end that a line of flow names: the number of a rotation, or the sink; no node where there is no such rotation
 abbrev pub node_of : ℕ → ℕ → ℕ
@@ -50,7 +50,8 @@ abbrev pub taken_set : Written → List LineData → List Bool
 taken_set w lines = set_of_numbers (size_in w lines) (first_said [] taken_in lines)
 
 abbrev pub matching_of_set : Written → List LineData → List Bool → List (Option ℕ)
-matching_of_set w lines set = written_of (seating_of w) (matching_of (seat_market w) (first_of w lines) (rotations_in w lines) set).proposers
+matching_of_set w lines set =
+    written_of (seating_of w) (matching_of (seat_market w) (first_of w lines) (rotations_in w lines) set).proposers
 
 abbrev pub taken_matching : Written → List LineData → List (Option ℕ)
 taken_matching w lines = matching_of_set w lines (taken_set w lines)
@@ -92,21 +93,27 @@ flow_of w level lines = map (on_nodes (size_in w lines)) (filter_map level.flow 
 -- its gains, flow, value, cut and total
 abbrev pub LevelHolds : Written → Level → List LineData → LineData → Reason → Type 0
 LevelHolds w level above line reason.WrongGain =
-    IfSome (level.gain line) (λ gain. gain ≡ gain_of (seat_market w) level.weights (rotation_at (rotations_in w above) (last_rotation w above)))
+    IfSome (level.gain line)
+    (λ gain. gain ≡ gain_of (seat_market w) level.weights (rotation_at (rotations_in w above) (last_rotation w above)))
 LevelHolds w level above line reason.NoEdge =
     IfSome (level.flow line) (λ flow. IsNewEdge level.net (flow_of w level above) (on_nodes (size_in w above) flow))
-LevelHolds w level above line reason.OverRoom = IfSome (level.flow line) (λ flow. IsWithinRoom level.net (on_nodes (size_in w above) flow))
-LevelHolds w level above line reason.NotConserved = IfSome (taken_in line) (λ _. IsConserved (size_in w above) (flow_of w level above))
-LevelHolds w level above line reason.WrongValue = IfSome (level.value line) (λ value. value ≡ amount_from (flow_of w level above) 0)
+LevelHolds w level above line reason.OverRoom =
+    IfSome (level.flow line) (λ flow. IsWithinRoom level.net (on_nodes (size_in w above) flow))
+LevelHolds w level above line reason.NotConserved =
+    IfSome (taken_in line) (λ _. IsConserved (size_in w above) (flow_of w level above))
+LevelHolds w level above line reason.WrongValue =
+    IfSome (level.value line) (λ value. value ≡ amount_from (flow_of w level above) 0)
 LevelHolds w level above line reason.WrongCut = IfSome (level.cut line) (λ cut. cut ≡ cut_of level.net (taken_set w above))
 LevelHolds w level above line reason.CutDiffers = IfSome (level.cut line) (λ cut. cut ≡ first_said 0 level.value above)
-LevelHolds w level above line reason.WrongTotal = IfSome (level.total line) (λ total. total ≡ level.weight (taken_matching w above))
+LevelHolds w level above line reason.WrongTotal =
+    IfSome (level.total line) (λ total. total ≡ level.weight (taken_matching w above))
 LevelHolds w level above line _ = Unit {0}
 
 -- the set that is taken: the reach in the net of the last level
 abbrev pub TakenHolds : Written → Level → List LineData → LineData → Reason → Type 0
 TakenHolds w level above line reason.NotClosed = IfSome (taken_in line) (IsAllowedSet w above)
-TakenHolds w level above line reason.NotLeast = IsEnd line → IsResidualReach level.net (amount_on (flow_of w level above)) (taken_set w above)
+TakenHolds w level above line reason.NotLeast =
+    IsEnd line → IsResidualReach level.net (amount_on (flow_of w level above)) (taken_set w above)
 TakenHolds w level above line _ = Unit {0}
 
 -- `weight`

@@ -128,7 +128,8 @@ is_placed test input (LineData.Answer head ∷ lines) = test (layouts_of input h
 is_placed test input _ = false
 
 -- these texts are those of lines of an instance that are the first lines of an answer, or a whole answer
-pub record AreLines (test : List (List Part) → List Opening → Bool) (input : Input) (texts : List (List ℕ)) (lines : List LineData) : Type 0 where
+pub record AreLines (test : List (List Part) → List Opening → Bool)
+    (input : Input) (texts : List (List ℕ)) (lines : List LineData) : Type 0 where
   pub read : map (text_of_line input) lines ≡ texts
   pub right : All (IsLineOf input) lines
   pub fitting : list_all (fits input) lines ≡ true

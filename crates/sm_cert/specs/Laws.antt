@@ -21,7 +21,8 @@ OneVerdict = (input : Input) (lines : List LineData) (first_line : ℕ) (v w : V
 
 -- the lines of a whole answer begin one
 abbrev pub WholeIsBegun : Type 0
-WholeIsBegun = (layouts : List (List Part)) (lines : List Opening) (k : ℕ) → is_whole layouts lines ≡ true → is_begun layouts (take k lines) ≡ true
+WholeIsBegun = (layouts : List (List Part)) (lines : List Opening) (k : ℕ)
+    → is_whole layouts lines ≡ true → is_begun layouts (take k lines) ≡ true
 
 -- the keywords of the closing line
 abbrev pub closing_of : HeadData → List Keyword
@@ -37,4 +38,5 @@ pub record EndsWith (words : List Keyword) (lines : List Opening) : Type 0 where
 
 -- a whole answer ends with a closing line
 abbrev pub WholeEnds : Type 0
-WholeEnds = (input : Input) (head : HeadData) (lines : List Opening) → is_whole (layouts_of input head) lines ≡ true → EndsWith (closing_of head) lines
+WholeEnds = (input : Input) (head : HeadData) (lines : List Opening)
+    → is_whole (layouts_of input head) lines ≡ true → EndsWith (closing_of head) lines

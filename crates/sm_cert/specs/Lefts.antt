@@ -1,11 +1,12 @@
 -- What is left of a layout, as it is kept.
-use Rattle.std.specs.Prelude.{◌≡◌, ℕ, ◌+◌, ◌<◌, ◌≤◌, if◌then◌else◌, List, [], ◌∷◌, drop, length, All, None, Some, slice_index_or}
+use Rattle.std.specs.Prelude.{◌≡◌, ℕ, ◌+◌, ◌<◌, ◌≤◌, if◌then◌else◌, List, [], ◌∷◌, ◌++◌, drop, length, All, None, Some, slice_index_or}
 use Rattle.sm_cert.specs.declared.keywords.Keyword.TheVariants as keyword
 use Rattle.sm_cert.specs.declared.layouts.Part.{Part}
 use Rattle.sm_cert.specs.declared.layouts.Part.TheVariants.{One, Many, Blocks}
 use Rattle.sm_cert.specs.declared.layouts.Turn.{Turn}
 use Rattle.sm_cert.specs.declared.layouts.Opening.{Opening}
 use Rattle.sm_cert.specs.declared.layouts.Layout.{Layout}
+use Rattle.sm_cert.specs.declared.layouts.Places.{Places}
 use Rattle.sm_cert.specs.declared.layouts.Fit.{Fit}
 use Rattle.sm_cert.specs.declared.layouts.Fit.TheVariants as fit
 use Rattle.sm_cert.specs.Layouts.{behind, later}
@@ -62,3 +63,11 @@ pub record IsRunning (layout : Layout) : Type 0 where
 -- what is left of a layout, where the lines fit
 abbrev pub lefts_of : Layout → List (List Part)
 lefts_of layout = if layout.fits then drop layout.at layout.parts.items ∷ [] else []
+
+-- what is left of both layouts
+abbrev pub lefts_in : Places → List (List Part)
+lefts_in places = lefts_of places.one ++ lefts_of places.other
+
+pub record AreRunning (places : Places) : Type 0 where
+  pub one : IsRunning places.one
+  pub other : IsRunning places.other

@@ -3,6 +3,7 @@ pub mod Layouts
 pub mod Seats
 pub mod Lefts
 pub mod Forms
+pub mod Taking
 pub mod Verdicts
 pub mod Said
 pub mod Pairs
@@ -16,8 +17,11 @@ pub mod Judges
 pub mod Listing
 pub mod Walking
 pub mod PairsKept
+pub mod WantedKept
 pub mod Regrets
 pub mod CouplesKept
 pub mod PartiesKept
 pub mod Laws
+pub mod Yes
 pub mod Witnesses
+pub mod WitnessesWeight

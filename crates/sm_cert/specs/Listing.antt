@@ -20,7 +20,8 @@ pub record ArePlaced (w : Written) (v : List ℕ) (p : ℕ) (places : List (Opti
   pub ranks : IsTrue are_ranks ↔ ((q : ℕ) → q < p → IsRank w v q)
 
 -- the clauses at the lines above line k hold, and so many vectors stand there, of which this is the last, or else the cursor
-pub record AreJudged (w : Written) (after : Option (List ℕ)) (limit : ℕ) (lines : List LineData) (k : ℕ) (before : Option (List ℕ)) (count : ℕ) : Type 0 where
+pub record AreJudged (w : Written) (after : Option (List ℕ)) (limit : ℕ)
+    (lines : List LineData) (k : ℕ) (before : Option (List ℕ)) (count : ℕ) : Type 0 where
   pub above : (j : ℕ) (why : Reason) → j < k → AtLine (ListClauses w after limit) lines j why
   pub before_is : before ≡ end_of after (vectors_in (take k lines))
   pub count_is : count ≡ length (vectors_in (take k lines))

@@ -37,7 +37,8 @@ SolveHolds w side pairs line _ = Unit {0}
 
 -- the two matchings of `meet` and `join`, at a line behind these pairs of each
 abbrev pub GivenHold : Written → (lefts rights : List (ℕ × ℕ)) → LineData → Reason → Type 0
-GivenHold w lefts rights line reason.NotAMatching = IfSome (left_in line) (IsFree w lefts) × IfSome (right_in line) (IsFree w rights)
+GivenHold w lefts rights line reason.NotAMatching =
+    IfSome (left_in line) (IsFree w lefts) × IfSome (right_in line) (IsFree w rights)
 GivenHold w lefts rights line reason.Blocked = IsEnd line → IsStable w (places_in w lefts) × IsStable w (places_in w rights)
 GivenHold w lefts rights line _ = Unit {0}
 
@@ -52,10 +53,12 @@ AreAllThere wanted pairs = (p : ℕ) → IsSome (held wanted p) → IsSome (part
 
 -- the pairs are those of the matching that is wanted: each stands once, and none is missing
 abbrev pub WantedHold : Written → List (Option ℕ) → List (ℕ × ℕ) → LineData → Reason → Type 0
-WantedHold w wanted pairs line reason.WrongPair = IfSome (pair_in line) (IsWanted w wanted pairs) × (IsEnd line → AreAllThere wanted pairs)
+WantedHold w wanted pairs line reason.WrongPair =
+    IfSome (pair_in line) (IsWanted w wanted pairs) × (IsEnd line → AreAllThere wanted pairs)
 WantedHold w wanted pairs line _ = Unit {0}
 
 -- `meet` and `join`
 abbrev pub ChosenHold : Choice → Written → (lefts rights pairs : List (ℕ × ℕ)) → LineData → Reason → Type 0
 ChosenHold choice w lefts rights pairs line why =
-    GivenHold w lefts rights line why × WantedHold w (chosen_places choice w (places_in w lefts) (places_in w rights)) pairs line why
+    GivenHold w lefts rights line why
+    × WantedHold w (chosen_places choice w (places_in w lefts) (places_in w rights)) pairs line why

@@ -39,7 +39,9 @@ abbrev pub members_of : List (List ℕ) → List ℕ
 members_of parties = flat_map (λ party. party) parties
 
 abbrev pub next_in_party : ℕ → List ℕ → ℕ
-next_in_party x party = let i = position_or_len (λ y. y == x) party in if i + 1 == length party then slice_index party 0 else slice_index party (i + 1)
+next_in_party x party =
+    let i = position_or_len (λ y. y == x) party in
+    if i + 1 == length party then slice_index party 0 else slice_index party (i + 1)
 
 abbrev pub next_of : List (List ℕ) → ℕ → ℕ
 next_of parties x = option_map_or (next_in_party x) (find (λ party. list_any (λ y. y == x) party) parties) x
@@ -66,6 +68,7 @@ pub record HasOddParty (parties : List (List ℕ)) : Type 0 where
 
 -- parties, at a line behind these
 abbrev pub PartiesHold : List AgentData → List (List ℕ) → LineData → Reason → Type 0
-PartiesHold persons parties line reason.NotPartition = IfSome (party_in line) (AreNew parties) × (IsEnd line → IsWholePartition persons parties)
+PartiesHold persons parties line reason.NotPartition =
+    IfSome (party_in line) (AreNew parties) × (IsEnd line → IsWholePartition persons parties)
 PartiesHold persons parties line reason.NoOddParty = IsEnd line → HasOddParty parties
 PartiesHold persons parties line _ = Unit {0}

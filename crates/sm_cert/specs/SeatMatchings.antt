@@ -22,7 +22,8 @@ pub record IsFreeSeat (l : Lists) (before : List (ℕ × ℕ)) (pair : ℕ × �
 
 -- the matching of pairs
 abbrev pub seat_places_in : Lists → List (ℕ × ℕ) → Places
-seat_places_in l pairs = with_proposers l (map (λ p. option_map (place_of l.proposers p) (partner_in pairs p)) (agents l.proposers))
+seat_places_in l pairs =
+    with_proposers l (map (λ p. option_map (place_of l.proposers p) (partner_in pairs p)) (agents l.proposers))
 
 -- the matchings that the first and the last seats write
 abbrev pub first_of : Written → List LineData → Places
@@ -35,12 +36,14 @@ last_of w lines = seat_places_in (seat_market w) (lasts_in w lines)
 abbrev pub FirstsHold : Written → List LineData → LineData → Reason → Type 0
 FirstsHold w above line reason.NotAMatching = IfSome (first_in w line) (IsFreeSeat (seat_market w) (firsts_in w above))
 FirstsHold w above line reason.Blocked = IsFirstBehind is_up_to_firsts above line → IsStable (seat_market w) (first_of w above)
-FirstsHold w above line reason.NotBest = IsFirstBehind is_up_to_firsts above line → IsProposersBest (seat_market w) (first_of w above)
+FirstsHold w above line reason.NotBest =
+    IsFirstBehind is_up_to_firsts above line → IsProposersBest (seat_market w) (first_of w above)
 FirstsHold w above line _ = Unit {0}
 
 -- the last seats are the reviewers' best one
 abbrev pub LastsHold : Written → List LineData → LineData → Reason → Type 0
 LastsHold w above line reason.NotAMatching = IfSome (last_in w line) (IsFreeSeat (seat_market w) (lasts_in w above))
 LastsHold w above line reason.Blocked = IsFirstBehind is_up_to_lasts above line → IsStable (seat_market w) (last_of w above)
-LastsHold w above line reason.NotBest = IsFirstBehind is_up_to_lasts above line → IsReviewersBest (seat_market w) (last_of w above)
+LastsHold w above line reason.NotBest =
+    IsFirstBehind is_up_to_lasts above line → IsReviewersBest (seat_market w) (last_of w above)
 LastsHold w above line _ = Unit {0}

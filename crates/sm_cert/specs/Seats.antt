@@ -8,6 +8,9 @@ use Rattle.sm_seats.specs.SeatMarket.{seat_count, seats_before}
 abbrev pub is_seat : Written → Seat → Bool
 is_seat w seat = nat_le 1 seat.number && nat_le seat.number (seat_count w seat.reviewer)
 
+abbrev pub pair_has_seat : Written → ℕ × Seat → Bool
+pair_has_seat w pair = is_seat w pair.1
+
 -- which seat of the market it is
 abbrev pub seat_number : Written → Seat → ℕ
 seat_number w seat = seats_before w seat.reviewer + (seat.number - 1)

@@ -51,7 +51,8 @@ ListHolds w before count limit (LineData.More v) why = MoreHolds before count li
 ListHolds w before count limit _ why = Unit {0}
 
 abbrev pub ListClauses : Written → Option (List ℕ) → ℕ → List LineData → LineData → Reason → Type 0
-ListClauses w after limit above line why = ListHolds w (end_of after (vectors_in above)) (length (vectors_in above)) limit line why
+ListClauses w after limit above line why =
+    ListHolds w (end_of after (vectors_in above)) (length (vectors_in above)) limit line why
 
 -- `regret`: at a line behind these pairs, of whose matching the regret is said to be this one
 abbrev pub RegretHolds : Written → (regret : ℕ) → List (ℕ × ℕ) → LineData → Reason → Type 0

@@ -2,6 +2,7 @@
 //! over the definitions alone.
 
 ghost use Rattle.sm_cert.specs.Laws.{OneVerdict, WholeIsBegun, WholeEnds};
+ghost use Rattle.sm_cert.specs.Yes.{ListYes};
 
 /// There is no more than one verdict on an answer.
 pub fn one_verdict()
@@ -16,4 +17,9 @@ pub fn whole_is_begun()
 /// A whole answer ends with a closing line.
 pub fn whole_ends()
     ensures { WholeEnds }
+{}
+
+/// Where an answer of `list` gets a yes, its vectors are those of allowed stable matchings, and rise from the cursor.
+pub fn list_yes()
+    ensures { ListYes }
 {}

@@ -7,7 +7,7 @@ ghost use Rattle.sm_report.specs.Heads.{head_of};
 ghost use Rattle.sm_report.specs.Lines.{line_of};
 ghost use Rattle.sm_cert.specs.Layouts.{behind, keyword_at, later, is_empty};
 ghost use Rattle.sm_cert.specs.Forms.{opening_of, number_in, layouts_of, layouts_of_two, layouts_of_room, first_turn, solve_layout, parties_layout, reduced_layout, rotations_layout, list_layout, regret_layout, weight_layout, given_layout};
-ghost use Rattle.sm_cert.specs.Lefts.{IsFit, IsTurn, AreTurns, IsTaken, IsRunning, lefts_of};
+ghost use Rattle.sm_cert.specs.Lefts.{IsFit, IsTurn, AreTurns, IsTaken, IsRunning, AreRunning, lefts_of, lefts_in};
 
 use crate::keywords::{Keyword, is_same, keyword_of};
 use sm_instance::Input;
@@ -166,7 +166,7 @@ fn taking_part(parts: &[Part], from: usize, line: Opening) -> Option<usize>
     None
 }
 
-/// What is left of a layout behind some lines, if they fit there.
+// What is left of a layout behind some lines, if they fit there.
 #[derive(Drop)]
 pub(crate) struct Layout {
     parts: Vec<Part>,
@@ -188,8 +188,8 @@ impl Layout {
         }
     }
 
-    /// No layout.
-    pub(crate) fn none(alloc: Global) -> Layout
+    // No layout.
+    fn none(alloc: Global) -> Layout
         ensures left { lefts_of result ≡ [] }
         ensures running { IsRunning result }
     {
@@ -200,8 +200,8 @@ impl Layout {
         }
     }
 
-    /// Takes the next line, where it fits.
-    pub(crate) fn take(&mut self, line: Opening)
+    // Goes behind the next line, where it fits.
+    fn take(&mut self, line: Opening)
         requires running { IsRunning self.old }
         requires number { line.number ≤ 4294967294 }
         ensures left { lefts_of self.new ≡ filter_map (λ parts. behind parts line) (lefts_of self.old) }
@@ -235,15 +235,8 @@ impl Layout {
         }
     }
 
-    /// Whether the lines fit so far.
-    pub(crate) fn fits(&self) -> bool
-        ensures { result ≡ (if is_empty (lefts_of self.now) then false else true) }
-    {
-        self.fits
-    }
-
-    /// Whether they are a whole answer.
-    pub(crate) fn is_whole(&self) -> bool
+    // Whether they are a whole answer.
+    fn is_whole(&self) -> bool
         requires { IsRunning self.now }
         ensures { result ≡ list_any is_empty (lefts_of self.now) }
     {
@@ -251,58 +244,113 @@ impl Layout {
     }
 }
 
-/// The layouts of an answer with this head over an instance: one, two, or none where the answer can't be checked.
-///
-/// # Errors
-///
-/// `AllocError` where memory ran out, and only then.
-pub(crate) fn layouts_of(
-    alloc: Global,
-    input: &Input,
-    head: &Head,
-) -> Result<(Layout, Layout), AllocError>
-    ensures left { IfOk result (λ two. lefts_of two.0 ++ lefts_of two.1 ≡ layouts_of input.now (head_of head.now)) }
-    ensures running { IfOk result (λ two. IsRunning two.0 × IsRunning two.1) }
-{
-    match input {
-        Input::Two(_) => layouts_of_two(alloc, head),
-        Input::Room(_) => layouts_of_room(alloc, head),
+/// What is left of the layouts of an answer behind some lines. An answer has two layouts at most.
+#[derive(Drop)]
+pub(crate) struct Places {
+    one: Layout,
+    other: Layout,
+}
+
+impl Places {
+    /// No layout.
+    pub(crate) fn none(alloc: Global) -> Places
+        ensures left { lefts_in result ≡ [] }
+        ensures running { AreRunning result }
+    {
+        Places {
+            one: Layout::none(alloc),
+            other: Layout::none(alloc),
+        }
+    }
+
+    /// The layouts of an answer with this head over an instance, of which there are none where it can't be checked.
+    ///
+    /// # Errors
+    ///
+    /// `AllocError` where memory ran out, and only then.
+    pub(crate) fn of(alloc: Global, input: &Input, head: &Head) -> Result<Places, AllocError>
+        ensures left { IfOk result (λ places. lefts_in places ≡ layouts_of input.now (head_of head.now)) }
+        ensures running { IfOk result (λ places. AreRunning places) }
+    {
+        match input {
+            Input::Two(_) => places_of_two(alloc, head),
+            Input::Room(_) => places_of_room(alloc, head),
+        }
+    }
+
+    /// Goes behind the next line.
+    pub(crate) fn take(&mut self, line: Opening)
+        requires running { AreRunning self.old }
+        requires number { line.number ≤ 4294967294 }
+        ensures left { lefts_in self.new ≡ filter_map (λ parts. behind parts line) (lefts_in self.old) }
+        ensures running { AreRunning self.new }
+    {
+        self.one.take(line);
+        self.other.take(line);
+    }
+
+    /// Whether the lines begin an answer.
+    pub(crate) fn are_begun(&self) -> bool
+        ensures { result ≡ (if is_empty (lefts_in self.now) then false else true) }
+    {
+        self.one.fits || self.other.fits
+    }
+
+    /// Whether they are a whole one.
+    pub(crate) fn are_whole(&self) -> bool
+        requires { AreRunning self.now }
+        ensures { result ≡ list_any is_empty (lefts_in self.now) }
+    {
+        self.one.is_whole() || self.other.is_whole()
     }
 }
 
 // Those over an instance with two sides.
-fn layouts_of_two(alloc: Global, head: &Head) -> Result<(Layout, Layout), AllocError>
-    ensures left { IfOk result (λ two. lefts_of two.0 ++ lefts_of two.1 ≡ layouts_of_two (head_of head.now)) }
-    ensures running { IfOk result (λ two. IsRunning two.0 × IsRunning two.1) }
+fn places_of_two(alloc: Global, head: &Head) -> Result<Places, AllocError>
+    ensures left { IfOk result (λ places. lefts_in places ≡ layouts_of_two (head_of head.now)) }
+    ensures running { IfOk result (λ places. AreRunning places) }
 {
     match head {
-        Head::Solve(_) => Ok((solve_layout(alloc)?, Layout::none(alloc))),
-        Head::Reduced => Ok((reduced_layout(alloc)?, Layout::none(alloc))),
-        Head::Rotations => Ok((rotations_layout(alloc)?, Layout::none(alloc))),
-        Head::List(_, _) => {
-            Ok((
-                list_layout(alloc, Keyword::End)?,
-                list_layout(alloc, Keyword::More)?,
-            ))
-        }
-        Head::Regret => Ok((regret_layout(alloc)?, Layout::none(alloc))),
-        Head::Weight(_) => Ok((weight_layout(alloc)?, Layout::none(alloc))),
-        Head::Meet => Ok((given_layout(alloc)?, Layout::none(alloc))),
-        Head::Join => Ok((given_layout(alloc)?, Layout::none(alloc))),
-        Head::Pairs => Ok((Layout::none(alloc), Layout::none(alloc))),
-        Head::Survey(_) => Ok((Layout::none(alloc), Layout::none(alloc))),
-        Head::Check => Ok((Layout::none(alloc), Layout::none(alloc))),
+        Head::Solve(_) => Ok(only(alloc, solve_layout(alloc)?)),
+        Head::Reduced => Ok(only(alloc, reduced_layout(alloc)?)),
+        Head::Rotations => Ok(only(alloc, rotations_layout(alloc)?)),
+        Head::List(_, _) => Ok(Places {
+            one: list_layout(alloc, Keyword::End)?,
+            other: list_layout(alloc, Keyword::More)?,
+        }),
+        Head::Regret => Ok(only(alloc, regret_layout(alloc)?)),
+        Head::Weight(_) => Ok(only(alloc, weight_layout(alloc)?)),
+        Head::Meet => Ok(only(alloc, given_layout(alloc)?)),
+        Head::Join => Ok(only(alloc, given_layout(alloc)?)),
+        Head::Pairs => Ok(Places::none(alloc)),
+        Head::Survey(_) => Ok(Places::none(alloc)),
+        Head::Check => Ok(Places::none(alloc)),
     }
 }
 
 // Those over one of roommates.
-fn layouts_of_room(alloc: Global, head: &Head) -> Result<(Layout, Layout), AllocError>
-    ensures left { IfOk result (λ two. lefts_of two.0 ++ lefts_of two.1 ≡ layouts_of_room (head_of head.now)) }
-    ensures running { IfOk result (λ two. IsRunning two.0 × IsRunning two.1) }
+fn places_of_room(alloc: Global, head: &Head) -> Result<Places, AllocError>
+    ensures left { IfOk result (λ places. lefts_in places ≡ layouts_of_room (head_of head.now)) }
+    ensures running { IfOk result (λ places. AreRunning places) }
 {
     match head {
-        Head::Solve(_) => Ok((solve_layout(alloc)?, parties_layout(alloc)?)),
-        _ => Ok((Layout::none(alloc), Layout::none(alloc))),
+        Head::Solve(_) => Ok(Places {
+            one: solve_layout(alloc)?,
+            other: parties_layout(alloc)?,
+        }),
+        _ => Ok(Places::none(alloc)),
+    }
+}
+
+// A single layout.
+fn only(alloc: Global, layout: Layout) -> Places
+    requires { IsRunning layout }
+    ensures left { lefts_in result ≡ lefts_of layout }
+    ensures running { AreRunning result }
+{
+    Places {
+        one: layout,
+        other: Layout::none(alloc),
     }
 }
 

@@ -4,7 +4,11 @@
 //! first that fails is the verdict. What the clauses say stands in `specs`, by the definitions of the field alone.
 #![tactic(auto)]
 
+mod answers;
+mod chosen;
 mod couples;
+mod faults;
+mod forms;
 mod judging;
 mod keywords;
 pub mod laws;
@@ -13,12 +17,17 @@ mod listing;
 mod pairs;
 mod parties;
 mod persons;
+mod reading;
 mod regret;
 mod verdicts;
+mod wanted;
 pub mod witnesses;
 
+pub use chosen::chosen_verdict;
 pub use couples::couples_verdict;
+pub use faults::AnswerFault;
 pub use listing::list_verdict;
 pub use parties::parties_verdict;
+pub use reading::read_answer;
 pub use regret::regret_verdict;
 pub use verdicts::{Reason, Verdict};

@@ -66,7 +66,8 @@ fn last_vector<'a>(
 ) -> Option<&'a [u32]>
     requires fits { fits_two instance.now (line_of line.now) ≡ true }
     requires before_each { IfSome before (λ b. length b.now ≡ length instance.now.proposers) }
-    ensures last { option_map (λ b. b.now) result ≡ end_of (option_map (λ b. b.now) before.entry) (vectors_in (line_of line.now ∷ [])) }
+    ensures last { option_map (λ b. b.now) result
+        ≡ end_of (option_map (λ b. b.now) before.entry) (vectors_in (line_of line.now ∷ [])) }
     ensures each { IfSome (option_map (λ b. b.now) result) (λ b. length b ≡ length instance.now.proposers) }
 {
     match line {

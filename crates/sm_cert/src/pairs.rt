@@ -1,10 +1,11 @@
 //! Matchings that an answer writes by pairs.
 
-ghost use Rattle.std.specs.Prelude.{◌≡◌, ℕ, ◌<◌, [], List, length, IfOk};
+ghost use Rattle.std.specs.Prelude.{◌≡◌, ℕ, ◌<◌, ◌↔◌, [], List, length, IsTrue, IfOk};
+ghost use Rattle.sm_instance.specs.Stable.{IsStable};
 ghost use Rattle.sm_pairs.specs.Holding.{IsHolding};
 ghost use Rattle.sm_cert.specs.PairsKept.{ArePairsHeld, Joins};
 
-use sm_instance::Instance;
+use sm_instance::{Assignment, Instance};
 use sm_pairs::Holding;
 use std::alloc::{AllocError, Global};
 
@@ -25,4 +26,20 @@ pub(crate) fn joins(holding: &mut Holding, instance: &Instance, p: u32, r: u32) 
         → Joins instance.now pairs (p, r) holding.new result }
 {
     holding.add(instance, p, r)
+}
+
+/// Whether no pair blocks the matching of the pairs that are held. Takes time in proportion to the agents and entries, and
+/// memory in proportion to the proposers.
+pub(crate) fn is_unblocked(
+    alloc: Global,
+    instance: &Instance,
+    holding: &Holding,
+) -> Result<bool, AllocError>
+    requires { IsHolding instance.now holding.now }
+    ensures { IfOk result (λ stable. IsTrue stable ↔ IsStable instance.now holding.now.places.items) }
+{
+    let matching = Assignment {
+        places: Vec::from_slice(alloc, &holding.places)?,
+    };
+    Ok(instance.first_blocking(&matching).is_none())
 }

@@ -7,3 +7,12 @@ pub mod ReducedLemmas
 pub mod RoomLemmas
 pub mod PartyLemmas
 pub mod FlowLemmas
+pub mod AmongLemmas
+pub mod NotingLemmas
+pub mod PairLemmas
+pub mod NetLemmas
+pub mod RepeatLemmas
+pub mod ReachLemmas
+pub mod PairListLemmas
+pub mod ResidualLemmas
+pub mod MoveLemmas

@@ -1,6 +1,13 @@
 pub mod Trails
 pub mod Exposure
+pub mod Noting
 pub mod Laws
 pub mod Rooms
 pub mod RoomsKept
 pub mod FlowSums
+pub mod Pairs
+pub mod CheckedNets
+pub mod Repeats
+pub mod Reaching
+pub mod Residual
+pub mod Moves

@@ -8,6 +8,7 @@ pub record Trail : Type 0 where
 
 -- each is below the bound, and none comes twice
 pub record IsTrail (t : Trail) : Type 0 where
+  pub few : t.bound < 2 ^ 32
   pub below : (k : ℕ) → k < length t.items → slice_index t.items k < t.bound
   pub distinct : (i j : ℕ) → i < j → j < length t.items → slice_index t.items i ≢ slice_index t.items j
 

@@ -46,9 +46,18 @@ impl Trail {
         self.count = 0;
     }
 
+    /// Below which bound the numbers are.
+    pub(crate) fn bound(&self) -> u32
+        ensures bound { result ≡ self.now.bound }
+        ensures trail { IsTrail self.now }
+    {
+        self.order.len() as u32
+    }
+
     /// How many numbers were come by.
     pub(crate) fn len(&self) -> u32
-        ensures { result ≡ length self.now.items }
+        ensures count { result ≡ length self.now.items }
+        ensures trail { IsTrail self.now }
     {
         self.count
     }

@@ -22,43 +22,13 @@ use Rattle.sm_report.specs.Sound.{IsLineOf}
 use Rattle.sm_given.specs.MatchingLines.{pair_data, matching_line}
 use Rattle.sm_pairs.specs.Held.{places_in}
 use Rattle.sm_given.specs.Given.{AreFound}
-use Rattle.sm_pairs.specs.Chosen.{chosen_places}
-use Rattle.sm_given.specs.Chosen.{pair_lines, head_for, chosen_lines, IsChosenAnswer}
+use Rattle.sm_pairs.specs.Chosen.{chosen_places, head_for}
+use Rattle.sm_pairs.proofs.ChoiceLemmas.{chosen_assigned}
+use Rattle.sm_given.specs.Chosen.{pair_lines, chosen_lines, IsChosenAnswer}
 use Rattle.sm_given.specs.declared.given.Given.{Given}
 use Rattle.sm_given.specs.declared.matching_lines.PairWord.{PairWord}
 use Rattle.sm_given.specs.declared.matching_lines.PairWord.TheVariants as word
 use Rattle.sm_given.proofs.ReadingLemmas.{end_line}
-
--- a chosen place is one of the two
-either : (P : ℕ → Type 0) (x y z : ℕ) → P x → P y → (z ≡ x) ⊎ (z ≡ y) → P z
-either P x y z hx hy (inl e) = subst P (sym e) hx
-either P x y z hx hy (inr e) = subst P (sym e) hy
-
-least_in : (x y : ℕ) → (min x y ≡ x) ⊎ (min x y ≡ y)
-least_in x y = ⊎_elim (λ l. inl (let e : min x y ≡ x = omega (arith, l) in e)) (λ g. inr (let e : min x y ≡ y = omega (arith, g) in e)) (cases_lt x y)
-
-greatest_in : (x y : ℕ) → (max x y ≡ x) ⊎ (max x y ≡ y)
-greatest_in x y = ⊎_elim (λ l. inr (let e : max x y ≡ y = omega (arith, l) in e)) (λ g. inl (let e : max x y ≡ x = omega (arith, g) in e)) (cases_lt x y)
-
-chosen_in : (P : ℕ → Type 0) (choice : Choice) (a b : Option ℕ) → ((i : ℕ) → a ≡ Some i → P i) → ((i : ℕ) → b ≡ Some i → P i) → (i : ℕ) → chosen choice a b ≡ Some i → P i
-chosen_in P Better None b ha hb i e = hb i e
-chosen_in P Better (Some x) None ha hb i e = ha i e
-chosen_in P Better (Some x) (Some y) ha hb i e = subst P (let s : min x y ≡ i = cc in s) (either P x y (min x y) (ha x refl) (hb y refl) (least_in x y))
-chosen_in P Worse None b ha hb i e = absurd cc
-chosen_in P Worse (Some x) None ha hb i e = absurd cc
-chosen_in P Worse (Some x) (Some y) ha hb i e = subst P (let s : max x y ≡ i = cc in s) (either P x y (max x y) (ha x refl) (hb y refl) (greatest_in x y))
-
-held_chosen : (choice : Choice) (w : Written) (m n : List (Option ℕ)) (p : ℕ) → p < length w.proposers → held (chosen_places choice w m n) p ≡ chosen choice (held m p) (held n p)
-held_chosen choice w m n p l = get_or-map-range_with_len (λ p. chosen choice (held m p) (held n p)) 0 (length w.proposers) p p None l (omega arith)
-
-pub chosen_assigned : (choice : Choice) (w : Written) (m n : List (Option ℕ)) → IsAssignment w m → IsAssignment w n → IsAssignment w (chosen_places choice w m n)
-chosen_assigned choice w m n hm hn = record {
-  one_each = length-map-range_with_len (λ p. chosen choice (held m p) (held n p)) 0 (length w.proposers);
-  on_lists = λ p i e. ⊎_elim
-      (λ l. chosen_in (λ i. i < length (row w.proposers p)) choice (held m p) (held n p) (hm.on_lists p) (hn.on_lists p) i (sym (held_chosen choice w m n p l) ∙ e))
-      (λ g. absurd (let out = sym (get_or_past (chosen_places choice w m n) p None (let long = length-map-range_with_len (λ p. chosen choice (held m p) (held n p)) 0 (length w.proposers) in omega (arith, g, long))) ∙ e in cc))
-      (cases_lt p (length w.proposers));
-}
 
 -- a pair of an assignment is a line of the instance
 pair_sound : (by : PairWord) (w : Written) (places : List (Option ℕ)) → IsInstance w → IsAssignment w places → (p : ℕ) → All (IsLineOf (Two w)) (line_or_none (matching_line by w places p))

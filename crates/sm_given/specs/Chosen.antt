@@ -6,10 +6,8 @@ use Rattle.sm_instance.specs.Written.{Written}
 use Rattle.sm_instance.specs.Matching.{held}
 use Rattle.sm_instance.specs.declared.inputs.Input.TheVariants.{Two}
 use Rattle.sm_theory.specs.declared.choice.Choice.{Choice}
-use Rattle.sm_theory.specs.declared.choice.Choice.TheVariants.{Better, Worse}
-use Rattle.sm_report.specs.Heads.{HeadData}
 use Rattle.sm_report.specs.Lines.{LineData}
-use Rattle.sm_pairs.specs.Chosen.{chosen_places}
+use Rattle.sm_pairs.specs.Chosen.{chosen_places, head_for}
 use Rattle.sm_pairs.specs.Held.{places_in, GiveStable}
 use Rattle.sm_given.specs.GivenText.{AreGiven}
 use Rattle.sm_given.specs.MatchingLines.{matching_line}
@@ -19,10 +17,6 @@ use Rattle.sm_given.specs.declared.matching_lines.PairWord.TheVariants as word
 -- the pairs of a matching in the order of the proposers
 abbrev pub pair_lines : PairWord → Written → List (Option ℕ) → List LineData
 pair_lines word w places = lines_from (matching_line word w places) 0 (length w.proposers)
-
-abbrev pub head_for : Choice → HeadData
-head_for Better = HeadData.Meet
-head_for Worse = HeadData.Join
 
 -- the two matchings and the chosen one, each in the order of the proposers
 abbrev pub chosen_lines : Choice → Written → (m n : List (Option ℕ)) → List LineData

@@ -6,8 +6,8 @@ ghost use Rattle.sm_answer.specs.Printing.{IsShown};
 ghost use Rattle.sm_instance.specs.Matching.{IsAssignment};
 ghost use Rattle.sm_instance.specs.declared.inputs.Input.TheVariants.{Two};
 ghost use Rattle.sm_given.specs.Given.{AreFound};
-ghost use Rattle.sm_pairs.specs.Chosen.{chosen_places};
-ghost use Rattle.sm_given.specs.Chosen.{head_for, IsChosenAnswer};
+ghost use Rattle.sm_pairs.specs.Chosen.{chosen_places, head_for};
+ghost use Rattle.sm_given.specs.Chosen.{IsChosenAnswer};
 ghost use Rattle.sm_report.specs.Heads.{head_of};
 
 use crate::given::Given;

@@ -28,7 +28,7 @@ changed f g a (suc n) (suc k) x here other =
     ap (λ y. y ∷ set (map f (range_with_len (a + 1) n)) k x) (sym (other a (λ e. omega (arith, e))))
     ∙ ap (λ xs. g a ∷ xs) (changed f g (a + 1) n k x (ap g (let e : a + 1 + k ≡ a + suc k = omega arith in e) ∙ here) (λ q ne. other q (λ e. ne (omega (arith, e)))))
 
-changed_at : {X : Type 0} (f g : ℕ → X) (n k : ℕ) (x : X) → g k ≡ x → ((q : ℕ) → q ≢ k → g q ≡ f q) → set (map f (range_with_len 0 n)) k x ≡ map g (range_with_len 0 n)
+pub changed_at : {X : Type 0} (f g : ℕ → X) (n k : ℕ) (x : X) → g k ≡ x → ((q : ℕ) → q ≢ k → g q ≡ f q) → set (map f (range_with_len 0 n)) k x ≡ map g (range_with_len 0 n)
 changed_at f g n k x here other = changed f g 0 n k x (ap g (let e : 0 + k ≡ k = omega arith in e) ∙ here) (λ q ne. other q (λ e. ne (omega (arith, e))))
 
 -- what pairs give where one more stands behind them
@@ -43,10 +43,10 @@ later (pair ∷ pairs) p r q none = by_first (later pairs p r q) (pair.0 == q) r
     by_first deep true ea false eb n =
         ap (λ t. cond t (Some r) (Some pair.1)) (sym (ne_eqb p q (λ e. eqb-false pair.0 p eb (eqb-true pair.0 q ea ∙ sym e))))
 
-here_later : (before : List (ℕ × ℕ)) (p r : ℕ) → partner_in before p ≡ None → partner_in (before ++ (p, r) ∷ []) p ≡ Some r
+pub here_later : (before : List (ℕ × ℕ)) (p r : ℕ) → partner_in before p ≡ None → partner_in (before ++ (p, r) ∷ []) p ≡ Some r
 here_later before p r none = later before p r p none ∙ ap (λ t. cond t (Some r) (partner_in before p)) (eq-eqb p p refl)
 
-other_later : (before : List (ℕ × ℕ)) (p r q : ℕ) → partner_in before p ≡ None → q ≢ p → partner_in (before ++ (p, r) ∷ []) q ≡ partner_in before q
+pub other_later : (before : List (ℕ × ℕ)) (p r q : ℕ) → partner_in before p ≡ None → q ≢ p → partner_in (before ++ (p, r) ∷ []) q ≡ partner_in before q
 other_later before p r q none ne = later before p r q none ∙ ap (λ t. cond t (Some r) (partner_in before q)) (ne_eqb p q (λ e. ne (sym e)))
 
 pub places_later : (w : Written) (before : List (ℕ × ℕ)) (p r : ℕ) → partner_in before p ≡ None

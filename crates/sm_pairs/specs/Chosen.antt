@@ -5,8 +5,15 @@ use Rattle.sm_instance.specs.Written.{Written}
 use Rattle.sm_instance.specs.Matching.{held}
 use Rattle.sm_theory.specs.Choices.{chosen}
 use Rattle.sm_theory.specs.declared.choice.Choice.{Choice}
+use Rattle.sm_theory.specs.declared.choice.Choice.TheVariants.{Better, Worse}
+use Rattle.sm_report.specs.Heads.{HeadData}
 
 -- each proposer has the chosen one of its partners in two matchings: the better in the meet, the worse in the join; to be
 -- unmatched is worse than every partner (Gusfield and Irving 1989, section 1.3.1)
 abbrev pub chosen_places : Choice → Written → (m n : List (Option ℕ)) → List (Option ℕ)
 chosen_places choice w m n = map (λ p. chosen choice (held m p) (held n p)) (range_with_len 0 (length w.proposers))
+
+-- what the better and the worse are the answers to
+abbrev pub head_for : Choice → HeadData
+head_for Better = HeadData.Meet
+head_for Worse = HeadData.Join

@@ -1,6 +1,6 @@
 -- A chain grows rotation by rotation.
-use Rattle.std.proofs.Common.{◌≡◌, ℕ, zero, suc, ◌-◌, ◌<◌, ◌≤◌, ◌^◌, inl, inr, arith, refl, sym, ap, ◌∙◌, List, [], ◌∷◌, ◌++◌, length}
-use Rattle.std.proofs.lemmas.List.{get_or_append_left, get_or_push, length_push}
+use Rattle.std.proofs.Common.{◌≡◌, ℕ, suc, ◌-◌, ◌<◌, ◌≤◌, ◌^◌, inl, inr, arith, refl, sym, ap, ◌∙◌, List, [], ◌∷◌, ◌++◌, length}
+use Rattle.std.proofs.lemmas.List.{length_push}
 use Rattle.sm_market.specs.Lists.{Lists, row, IsMarket}
 use Rattle.sm_market.specs.Matching.{Places, standing}
 use Rattle.sm_market.specs.Limits.{IsWithinLimits}
@@ -8,23 +8,15 @@ use Rattle.sm_market.specs.Stable.{IsStable, IsProposersBest}
 use Rattle.sm_lists.proofs.Counting.{lt_or_le, eq_or_ne}
 use Rattle.sm_market.proofs.Bridge.{sides_of, stable_of}
 use Rattle.sm_theory.specs.Rotations.{proposer_at, IsExposed, eliminated, IsNothingExposed, IsLowestExposed}
-use Rattle.sm_theory.specs.Chains.{rotation_at, stage, IsPrintedChain}
+use Rattle.sm_theory.specs.Chains.{stage, IsPrintedChain}
 use Rattle.sm_theory.specs.Values.{rotations_of}
 use Rattle.sm_theory.specs.declared.rotations.Rotation.{Rotation}
 use Rattle.sm_theory.proofs.Core.Rotation.{goes_down, never_up, elim_stable}
 use Rattle.sm_theory.proofs.Bridge.Rotation.{exposed_of, elim_of}
+-- a chain with one more rotation, passed on
+pub use Rattle.sm_theory.proofs.Bridge.Chain.{rotation_before, rotation_new, stage_before}
 use Rattle.sm_rotations.specs.Chaining.{LeadsTo}
 use Rattle.sm_rotations.proofs.CountLemmas.{sum_below, sums_le, sums_less, sum_of_lengths}
-
-pub rotation_before : (xs : List (List (ℕ × ℕ))) (x : List (ℕ × ℕ)) (k : ℕ) → k < length xs → rotation_at (xs ++ x ∷ []) k ≡ rotation_at xs k
-rotation_before xs x k less = get_or_append_left xs (x ∷ []) [] k less
-
-pub rotation_new : (xs : List (List (ℕ × ℕ))) (x : List (ℕ × ℕ)) (k : ℕ) → k ≡ length xs → rotation_at (xs ++ x ∷ []) k ≡ x
-rotation_new xs x k e = get_or_push xs x [] k (sym e)
-
-pub stage_before : (l : Lists) (first : Places) (xs : List (List (ℕ × ℕ))) (x : List (ℕ × ℕ)) (k : ℕ) → k ≤ length xs → stage l first (xs ++ x ∷ []) k ≡ stage l first xs k
-stage_before l first xs x zero le = refl
-stage_before l first xs x (suc k) le = ap (λ m. eliminated l m (rotation_at (xs ++ x ∷ []) k)) (stage_before l first xs x k (omega arith)) ∙ ap (eliminated l (stage l first xs k)) (rotation_before xs x k (omega arith))
 
 pub leads_start : (l : Lists) (first m : Places) → m ≡ first → LeadsTo l first [] m
 leads_start l first m e = record { lowest = λ k less. absurd (omega arith); at_end = e }

@@ -4,13 +4,13 @@ use Rattle.std.proofs.lemmas.List.{get_or_append_left, get_or_push, length_push}
 use Rattle.sm_market.specs.Lists.{Lists, row, place_of, IsMarket}
 use Rattle.sm_market.specs.Matching.{Places, standing, IsMatching}
 use Rattle.sm_market.proofs.Bridge.{fit_of}
-use Rattle.sm_market.proofs.PairingLemmas.{held_in_range}
 use Rattle.sm_lists.proofs.Counting.{eq_or_ne}
-use Rattle.sm_lists.proofs.RowLemmas.{row_in_range}
 use Rattle.sm_theory.specs.Rotations.{IsExposed, proposer_at, reviewer_at, target_at, next_in, eliminated}
 use Rattle.sm_theory.proofs.Core.Cycle.{turn, turn_in}
 use Rattle.sm_theory.proofs.Core.Rotation.{new_pair}
 use Rattle.sm_theory.proofs.Bridge.Rotation.{exposed_of, elim_of}
+-- whom an exposed rotation moves, passed on
+pub use Rattle.sm_theory.proofs.Bridge.Rotation.{proposer_in, target_in}
 use Rattle.sm_rotations.specs.Marking.{IsFound}
 use Rattle.sm_rotations.specs.Footings.{footing_at, AreFootings, AreSteps, IsFoundAlong}
 use Rattle.sm_rotations.specs.declared.predecessors.Footing.{Footing}
@@ -39,16 +39,6 @@ footings_more {i = i} {footings} f one two a = record {
 pub steps_of : {l : Lists} {m n : Places} {rotation : List (ℕ × ℕ)} {before after : List Footing} → IsMatching l m → IsExposed l m rotation → AreFootings l m rotation (length rotation) before
     → n ≡ eliminated l m rotation → AreFootings l n rotation (length rotation) after → AreSteps l rotation before after
 steps_of {m = m} f x b is a = record { was = m; matching = f; exposed = x; before_are = b; after_are = rw is at a }
-
--- whom an exposed rotation moves
-module _ {l : Lists} (h : IsMarket l) {m : Places} {rotation : List (ℕ × ℕ)} (f : IsMatching l m) (x : IsExposed l m rotation) where
-  pub proposer_in : (i : ℕ) → i < length rotation → proposer_at rotation i < length l.proposers
-  proposer_in i a = held_in_range f.proposers (proposer_at rotation i) (place_of l.proposers (proposer_at rotation i) (reviewer_at rotation i)) (x.paired i a)
-
-  pub target_in : (i : ℕ) → i < length rotation → target_at rotation i < length l.reviewers
-  target_in i a =
-      let pair = (exposed_of h f x).paired (turn (length rotation) i) (turn_in (length rotation) i a) in
-      row_in_range l.reviewers (target_at rotation i) (standing l.reviewers m.reviewers (target_at rotation i)) pair.matched'
 
 module _ {l : Lists} (h : IsMarket l) {rotation : List (ℕ × ℕ)} {before after : List Footing} (w : AreSteps l rotation before after) (i : ℕ) (a : i < length rotation) where
   -- its proposers go down from the reviewers of their pairs to the next ones

@@ -17,7 +17,7 @@ ghost use Rattle.sm_rotations.specs.Footings.{footing_at, AreFootings, AreSteps,
 
 use crate::graph::{add_once, empty_lists, needs_by_followers};
 use sm_market::{Market, Pairing, next_in};
-use sm_theory::{Chain, move_round};
+use sm_theory::{Chain, mark_span, move_round, no_marks, note_movers};
 use std::alloc::{AllocError, Global};
 
 /// How the proposer of a pair of a rotation stands on its list, and the reviewer of the next pair on its own. An elimination
@@ -35,9 +35,8 @@ struct Footing {
 /// proposer to somebody better (Gusfield and Irving 1989, chapter 3, in a form of this project's own).
 ///
 /// The rotations have to be such that they can be eliminated one after the other from the first matching, in any order that
-/// allows it, with none exposed at the end. Rotations are numbered from 0. Takes time
-/// and memory in proportion to the agents and entries: what is found is noted with the rotation that is needed, so that
-/// nothing has to be sorted.
+/// allows it. Rotations are numbered from 0. Takes time and memory in proportion to the agents and entries: what is found is
+/// noted with the rotation that is needed, so that nothing has to be sorted.
 ///
 /// # Errors
 ///
@@ -89,18 +88,6 @@ pub(crate) fn followers(
         mark_moves(market, pairs, &before, &after, j, marks);
     }
     Ok(followers)
-}
-
-/// A place for a mark beside each entry of the proposers' lists, and no mark.
-fn no_marks(alloc: Global, market: &Market) -> Result<Vec<Vec<Option<u32>>>, AllocError>
-    ensures for_entries { IfOk result (λ marks. AreMarksFor market.now (marks_in marks.items)) }
-    ensures none { IfOk result (λ marks. (p x : ℕ) → mark_at (marks_in marks.items) p x ≡ None) }
-{
-    let mut marks = Vec::with_capacity(alloc, market.proposers() as usize)?;
-    for p in 0..market.proposers() {
-        marks.push(vec![in alloc; None; market.proposer_len(p) as usize]?)?;
-    }
-    Ok(marks)
 }
 
 /// Finds how those whom a rotation moves stand in a pairing, pair by pair, in place of what was found for another.
@@ -183,16 +170,6 @@ fn add_between(
     Ok(())
 }
 
-/// Notes a rotation with each proposer that it moves.
-fn note_movers(pairs: &[(u32, u32)], j: u32, last: &mut [Option<u32>])
-    requires in_range { (i : ℕ) → i < length pairs.now → proposer_at pairs.now i < length last.old }
-    ensures { AreMoved pairs.now (length pairs.now) j last.old last.new }
-{
-    for i in 0..pairs.len() {
-        last[pairs[i].0 as usize] = Some(j);
-    }
-}
-
 /// Marks with a rotation each entry over which it moves the entry's reviewer.
 fn mark_moves(
     market: &Market,
@@ -211,40 +188,4 @@ fn mark_moves(
         let r = pairs[next_in(i, pairs.len())].1;
         mark_span(market, r, after[i].reviewer, before[i].reviewer, j, marks);
     }
-}
-
-/// Marks a reviewer's entries behind one place of its list and before another.
-fn mark_span(
-    market: &Market,
-    r: u32,
-    better: u32,
-    worse: u32,
-    j: u32,
-    marks: &mut [Vec<Option<u32>>],
-)
-    requires market { IsMarket market.now }
-    requires in_range { r < length market.now.reviewers }
-    requires gains { better < worse }
-    requires on_list { worse ≤ length (row market.now.reviewers r) }
-    requires for_entries { AreMarksFor market.now (marks_in marks.old) }
-    ensures { IsSpanMarked market.now r better worse j (marks_in marks.old) (marks_in marks.new) }
-{
-    for place in better + 1..worse {
-        set_mark(
-            marks,
-            market.proposer_at(r, place),
-            market.reviewer_cross(r, place),
-            j,
-        );
-    }
-}
-
-/// Marks one entry.
-fn set_mark(marks: &mut [Vec<Option<u32>>], p: u32, place: u32, j: u32)
-    requires in_range { p < length marks.old }
-    requires on_list { place < length (marks_of (marks_in marks.old) p) }
-    ensures { marks_in marks.new ≡ slice_set (marks_in marks.old) p
-        (slice_set (marks_of (marks_in marks.old) p) place (Some j)) }
-{
-    marks[p as usize][place as usize] = Some(j);
 }

@@ -4,6 +4,7 @@ pub mod Rotations
 pub mod Sets
 pub mod Places
 pub mod Marks
+pub mod Marking
 pub mod Links
 pub mod Holders
 pub mod Best

@@ -13,10 +13,9 @@ abbrev pub stage : Lists → Places → List (List (ℕ × ℕ)) → ℕ → Pla
 stage l first rotations zero = first
 stage l first rotations (suc k) = eliminated l (stage l first rotations k) (rotation_at rotations k)
 
--- rotations that can be eliminated one after the other from a matching, after which none is exposed
+-- rotations that can be eliminated one after the other from a matching
 pub record AreEliminable (l : Lists) (first : Places) (rotations : List (List (ℕ × ℕ))) : Type 0 where
   pub exposed : (k : ℕ) → k < length rotations → IsExposed l (stage l first rotations k) (rotation_at rotations k)
-  pub complete : (other : List (ℕ × ℕ)) → ¬ IsExposed l (stage l first rotations (length rotations)) other
 
 -- a chain from the proposers' best, each rotation exposed at its turn, and none exposed at the end
 -- (Gusfield and Irving 1989, section 2.5)

@@ -1,6 +1,7 @@
 -- What is noted of the rotations of a chain, one after another, and tells what each one needs: which one moved each proposer
 -- last, and which one moved a reviewer past each proposer of its list.
-use Rattle.std.specs.Prelude.{◌≡◌, ℕ, ◌<◌, ◌⊎◌, List, [], Option, Some, None, IsSome, length, slice_index_or}
+use Rattle.std.specs.Prelude.{◌≡◌, ℕ, ◌<◌, ◌⊎◌, List, [], Option, Some, None, IsSome, length, slice_index_or, map, Vec, Contains}
+use Rattle.std.specs.declared.alloc.Global.{Global}
 use Rattle.sm_market.specs.Lists.{Lists, row, entry, place_of}
 use Rattle.sm_theory.specs.Rotations.{proposer_at, reviewer_at, target_at, next_in}
 use Rattle.sm_theory.specs.Chains.{rotation_at}
@@ -86,3 +87,27 @@ pub record IsPassedBy (l : Lists) (rotation : List (ℕ × ℕ)) (n : ℕ) (mark
 -- what the first n pairs of a rotation are found to need
 abbrev pub IsFound : Lists → List (ℕ × ℕ) → ℕ → List (Option ℕ) → List (List (Option ℕ)) → ℕ → Type 0
 IsFound l rotation n notes marks i = IsLastOf rotation n notes i ⊎ IsPassedBy l rotation n marks i
+
+-- what each of the vectors holds
+abbrev pub marks_in : List (Vec (Option ℕ) Global) → List (List (Option ℕ))
+marks_in vectors = map (λ v. v.items) vectors
+
+-- r stands at place x of p's list, and p on r's list behind the place `better` and before the place `worse`
+pub record IsSpan (l : Lists) (r better worse p x : ℕ) : Type 0 where
+  pub place : ℕ
+  pub behind : better < place
+  pub before : place < worse
+  pub proposer : p ≡ entry l.reviewers r place
+  pub at : x ≡ place_of l.proposers p r
+
+-- these entries are marked with the number j, and all else stays
+pub record IsSpanMarked (l : Lists) (r better worse j : ℕ) (before after : List (List (Option ℕ))) : Type 0 where
+  pub for_entries : AreMarksFor l after
+  pub marked : (p x : ℕ) → IsSpan l r better worse p x → mark_at after p x ≡ Some j
+  pub only : (p x : ℕ) → (mark_at after p x ≡ mark_at before p x) ⊎ ((mark_at after p x ≡ Some j) × IsSpan l r better worse p x)
+
+-- a list holds what it held and in addition all numbers that are P
+pub record Adds (P : ℕ → Type 0) (before after : List ℕ) : Type 0 where
+  pub kept : (i : ℕ) → Contains before i → Contains after i
+  pub added : (i : ℕ) → P i → Contains after i
+  pub only : (i : ℕ) → Contains after i → Contains before i ⊎ P i

@@ -1,7 +1,8 @@
 -- Complete chains and the matchings of sets, between the definitions over lists and the functions of Core.
 pub use Rattle.sm_market.proofs.Bridge.{places_equal, stable_equal}
-use Rattle.std.proofs.Common.{◌≡◌, ℕ, zero, suc, ◌<◌, ◌≤◌, inl, inr, arith, refl, sym, ap, ◌∙◌, List, length, map, Bool, true, false, slice_index_or}
+use Rattle.std.proofs.Common.{◌≡◌, ℕ, zero, suc, ◌<◌, ◌≤◌, inl, inr, arith, refl, sym, ap, ◌∙◌, List, [], ◌∷◌, ◌++◌, length, map, Bool, true, false, slice_index_or}
 use Rattle.std.specs.List.{range_with_len}
+use Rattle.std.proofs.lemmas.List.{get_or_append_left, get_or_push}
 use Rattle.std.proofs.lemmas.List.FromFn.{get_or-map-range_with_len, length-map-range_with_len}
 use Rattle.sm_market.specs.Lists.{Lists, IsMarket}
 use Rattle.sm_market.specs.Matching.{Places, standing, IsMatching}
@@ -9,7 +10,7 @@ use Rattle.sm_market.specs.Stable.{IsStable}
 use Rattle.sm_lists.proofs.Counting.{Decided, lt_or_le}
 use Rattle.sm_market.proofs.Core.{Sides, Stand, Stable}
 use Rattle.sm_market.proofs.Bridge.{sides_of, stand_of, fit_of, stable_of}
-use Rattle.sm_theory.specs.Rotations.{proposer_at, reviewer_at, IsExposed}
+use Rattle.sm_theory.specs.Rotations.{proposer_at, reviewer_at, IsExposed, eliminated}
 use Rattle.sm_theory.specs.Chains.{rotation_at, stage, AreEliminable, IsCompleteChain, IsNeededBy}
 use Rattle.sm_theory.specs.ClosedSets.{is_member, IsMember, IsClosed}
 use Rattle.sm_theory.proofs.Core.Cycle.{Cycle, turn, turn_in, target, Exposed}
@@ -70,7 +71,18 @@ module _ {l : Lists} (h : IsMarket l) {first : Places} {rotations : List (List (
   }
 
 pub eliminable_of : {l : Lists} {first : Places} {rotations : List (List (ℕ × ℕ))} → IsCompleteChain l first rotations → AreEliminable l first rotations
-eliminable_of chain = record { exposed = chain.exposed; complete = chain.complete }
+eliminable_of chain = record { exposed = chain.exposed }
+
+-- one more rotation behind others
+pub rotation_before : (xs : List (List (ℕ × ℕ))) (x : List (ℕ × ℕ)) (k : ℕ) → k < length xs → rotation_at (xs ++ x ∷ []) k ≡ rotation_at xs k
+rotation_before xs x k less = get_or_append_left xs (x ∷ []) [] k less
+
+pub rotation_new : (xs : List (List (ℕ × ℕ))) (x : List (ℕ × ℕ)) (k : ℕ) → k ≡ length xs → rotation_at (xs ++ x ∷ []) k ≡ x
+rotation_new xs x k e = get_or_push xs x [] k (sym e)
+
+pub stage_before : (l : Lists) (first : Places) (xs : List (List (ℕ × ℕ))) (x : List (ℕ × ℕ)) (k : ℕ) → k ≤ length xs → stage l first (xs ++ x ∷ []) k ≡ stage l first xs k
+stage_before l first xs x zero le = refl
+stage_before l first xs x (suc k) le = ap (λ m. eliminated l m (rotation_at (xs ++ x ∷ []) k)) (stage_before l first xs x k (omega arith)) ∙ ap (eliminated l (stage l first xs k)) (rotation_before xs x k (omega arith))
 
 -- rotations that can be eliminated lead from matching to matching
 module _ {l : Lists} (h : IsMarket l) {first : Places} (f : IsMatching l first) {rotations : List (List (ℕ × ℕ))} (chain : AreEliminable l first rotations) where

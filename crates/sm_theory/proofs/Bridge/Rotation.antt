@@ -6,17 +6,18 @@ use Rattle.sm_market.specs.Lists.{Lists, row, entry, place_of, IsMarket}
 use Rattle.sm_market.specs.Matching.{Places, held, standing, IsMatching}
 use Rattle.sm_market.specs.Stable.{IsStable}
 use Rattle.sm_market.specs.Cycles.{places_after}
-use Rattle.sm_market.proofs.PairingLemmas.{one_matching}
+use Rattle.sm_market.proofs.PairingLemmas.{held_in_range, one_matching}
 use Rattle.sm_market.proofs.CycleLemmas as Cycles
 use Rattle.sm_market.proofs.CycleLemmas.{AreDistinct}
 use Rattle.sm_lists.proofs.Counting.{lt_or_le, less_same_more}
+use Rattle.sm_lists.proofs.RowLemmas.{row_in_range}
 use Rattle.sm_market.proofs.Core.{Pair, pair_at}
 use Rattle.sm_market.proofs.PlaceLemmas.{place_of-entry}
 use Rattle.sm_lists.proofs.PlaceLemmas.{entry-place_of}
 use Rattle.sm_market.proofs.Bridge.{sides_of, stand_of, fit_of, stable_of, unblocked_of, held_cases, held_at, standing-some}
 use Rattle.sm_theory.specs.Lattice.{agents}
 use Rattle.sm_theory.specs.Rotations.{IsSuccessor, proposer_at, reviewer_at, target_at, IsExposed, pair_of, place_after, eliminated}
-use Rattle.sm_theory.proofs.Core.Cycle.{Cycle, Succ, Exposed, Moves, moves_or_not}
+use Rattle.sm_theory.proofs.Core.Cycle.{Cycle, turn, turn_in, Succ, Exposed, Moves, moves_or_not}
 use Rattle.sm_theory.proofs.Core.Rotation.{Elim, elim_fit, elim_stable}
 use Rattle.sm_theory.proofs.Bridge.Places.{held_map, held_map_past, standing_map, standing_map_past, row_past, seats_with, matching_with}
 
@@ -108,15 +109,18 @@ module _ {l : Lists} (h : IsMarket l) {m : Places} where
     core : Exposed (sides_of l h) (stand_of l m) (cycle_of rotation)
     core = exposed_of f x
 
-    in_range : (i : ℕ) → i < length rotation → proposer_at rotation i < length l.proposers
-    in_range i a = elim (lt_or_le (proposer_at rotation i) (length l.proposers)) [
-      | inl k ↦ k
-      | inr k ↦ absurd (omega (arith, row_past l.proposers (proposer_at rotation i) k, (core.paired i a).matched))
-    ]
+    -- whom it moves, and where to
+    pub proposer_in : (i : ℕ) → i < length rotation → proposer_at rotation i < length l.proposers
+    proposer_in i a = held_in_range f.proposers (proposer_at rotation i) (place_of l.proposers (proposer_at rotation i) (reviewer_at rotation i)) (x.paired i a)
+
+    pub target_in : (i : ℕ) → i < length rotation → target_at rotation i < length l.reviewers
+    target_in i a =
+        let pair = core.paired (turn (length rotation) i) (turn_in (length rotation) i a) in
+        row_in_range l.reviewers (target_at rotation i) (standing l.reviewers m.reviewers (target_at rotation i)) pair.matched'
 
     pub elim_of : Elim (sides_of l h) (stand_of l m) (cycle_of rotation) (stand_of l (eliminated l m rotation))
     elim_of = record {
-      moved = λ i a. standing_map l.proposers (place_after l m.proposers rotation) (proposer_at rotation i) (in_range i a) ∙ ap (λ o. unwrap_or o (length (row l.proposers (proposer_at rotation i)))) (after_in i a);
+      moved = λ i a. standing_map l.proposers (place_after l m.proposers rotation) (proposer_at rotation i) (proposer_in i a) ∙ ap (λ o. unwrap_or o (length (row l.proposers (proposer_at rotation i)))) (after_in i a);
       still = λ p none. elim (lt_or_le p (length l.proposers)) [
         | inl k ↦ standing_map l.proposers (place_after l m.proposers rotation) p k ∙ ap (λ o. unwrap_or o (length (row l.proposers p))) (after_out p none)
         | inr k ↦ omega (arith, standing_map_past l.proposers (place_after l m.proposers rotation) p k, row_past l.proposers p k, (fit_of h f).left.within p)

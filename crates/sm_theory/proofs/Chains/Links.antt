@@ -13,7 +13,7 @@ use Rattle.sm_theory.proofs.Core.Cycle.{Cycle, turn, turn_in, turn_last, turn_mo
 use Rattle.sm_theory.proofs.Bridge.Rotation.{cycle_of, pair_of_held, succ_at}
 
 -- there is no more than one successor
-successor_once : {l : Lists} {m : Places} {p i j : ℕ} → IsSuccessor l m p i → IsSuccessor l m p j → i ≡ j
+pub successor_once : {l : Lists} {m : Places} {p i j : ℕ} → IsSuccessor l m p i → IsSuccessor l m p j → i ≡ j
 successor_once {l} {m} {p} {i} {j} x y = elim (less_same_more i j) [
   | inl h ↦ absurd (y.first i x.behind h x.takes)
   | inr d ↦ elim d [ inl h ↦ h | inr h ↦ absurd (x.first j y.behind h y.takes) ]

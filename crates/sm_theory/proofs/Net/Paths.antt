@@ -16,7 +16,7 @@ path_on : (Step : ℕ → ℕ → Type 0) (path : List ℕ) (i j k : ℕ) → Is
 path_on Step [] i j k w s = (rw (sym w) at s, refl)
 path_on Step (n ∷ path) i j k w s = (w.0, path_on Step path n j k w.1 s)
 
-reach_on : {Step : ℕ → ℕ → Type 0} {i j k : ℕ} → IsReachable Step i j → Step j k → IsReachable Step i k
+pub reach_on : {Step : ℕ → ℕ → Type 0} {i j k : ℕ} → IsReachable Step i j → Step j k → IsReachable Step i k
 reach_on {Step} {i} {j} {k} w s = record { path = w.path ++ k ∷ []; is = path_on Step w.path i j k w.is s }
 
 Decided-false : (b : Bool) → Decided (b ≡ false)

@@ -1,0 +1,124 @@
+-- What a yes on an answer of `list` means.
+use Rattle.std.proofs.Common.{◌≡◌, ℕ, zero, suc, ◌+◌, ◌<◌, ◌≤◌, inl, inr, arith, refl, sym, ap, ◌∙◌, List, [], ◌∷◌, ◌++◌, length, take, slice_index_or, Option, None, Some, length-append, subst, take_all, append-nil}
+use Rattle.std.specs.Prelude.{IfSome}
+use Rattle.std.specs.List.{cons_option, slice_get}
+use Rattle.std.proofs.lemmas.Option.{slice_get-get_or}
+use Rattle.sm_instance.specs.Ranks.{IsBefore}
+use Rattle.std.proofs.Math.Seq.{take-suc}
+use Rattle.std.proofs.lemmas.List.Elements.{filter_map-append}
+use Rattle.sm_lists.proofs.Counting.{lt_or_le}
+use Rattle.sm_instance.specs.Written.{Written}
+use Rattle.sm_instance.specs.declared.inputs.Input.TheVariants.{Two}
+use Rattle.sm_theory.specs.Listings.{IsBehind, end_of}
+use Rattle.sm_report.specs.Heads.{HeadData}
+use Rattle.sm_report.specs.Lines.{LineData}
+use Rattle.sm_cert.specs.declared.verdicts.Reason.{Reason}
+use Rattle.sm_cert.specs.declared.verdicts.Reason.TheVariants as reason
+use Rattle.sm_seats.specs.Vectors.{IsAllowedRankVector}
+use Rattle.sm_cert.specs.Verdicts.{AtLine}
+use Rattle.sm_cert.specs.Said.{vector_in, vectors_in}
+use Rattle.sm_cert.specs.Vectors.{ListHolds, VectorHolds, ListClauses, order_of, places_of_ranks}
+use Rattle.sm_cert.specs.Judging.{Holds}
+use Rattle.sm_cert.specs.Yes.{AreListed, ListYes}
+
+some_same : {X : Type 0} {x y : X} → Some x ≡ Some y → x ≡ y
+some_same e = cc
+
+none_some : {x : List ℕ} → ◌≡◌ {A = Option (List ℕ)} None (Some x) → ⊥
+none_some e = grind arith
+
+at_end : {X : Type 0} (xs : List X) (y : X) (d : X) → slice_index_or (xs ++ y ∷ []) (length xs) d ≡ y
+at_end [] y d = refl
+at_end (x ∷ xs) y d = at_end xs y d
+
+before_end : {X : Type 0} (xs : List X) (y : X) (d : X) (k : ℕ) → k < length xs → slice_index_or (xs ++ y ∷ []) k d ≡ slice_index_or xs k d
+before_end [] y d k h = absurd (omega arith)
+before_end (x ∷ xs) y d zero h = refl
+before_end (x ∷ xs) y d (suc k) h = before_end xs y d k (omega arith)
+
+last_at : (x : Option (List ℕ)) (xs : List (List ℕ)) (d : List ℕ) (k : ℕ) → k + 1 ≡ length xs → end_of x xs ≡ Some (slice_index_or xs k d)
+last_at x [] d k e = absurd (omega (arith, e))
+last_at x (y ∷ []) d k e = let z : k ≡ 0 = omega (arith, e) in ap (λ n. Some (slice_index_or (y ∷ []) n d)) (sym z)
+last_at x (y ∷ z ∷ xs) d zero e = absurd (omega (arith, e))
+last_at x (y ∷ z ∷ xs) d (suc k) e = last_at (Some y) (z ∷ xs) d k (omega (arith, e))
+
+module _ (w : Written) (after : Option (List ℕ)) (limit : ℕ) where
+  abbrev One : List ℕ → Type 0
+  One v = IsAllowedRankVector w v
+
+  abbrev Rise : List ℕ → List ℕ → Type 0
+  Rise u v = IsBefore (order_of w) u v
+
+  one_more : (vs : List (List ℕ)) (v : List ℕ) → AreListed w after limit vs → ((why : Reason) → VectorHolds w (end_of after vs) (length vs) limit v why) → AreListed w after limit (vs ++ v ∷ [])
+  one_more vs v a h = record {
+    limited = omega (arith, h reason.OverLimit, count);
+    each = λ k b. elim (lt_or_le k (length vs)) [
+      | inl less ↦ subst One (sym (before_end vs v [] k less)) (a.each k less)
+      | inr more ↦ let e : length vs ≡ k = omega (arith, b, count, more) in subst One (sym (ap (λ n. slice_index_or (vs ++ v ∷ []) n []) (sym e) ∙ at_end vs v [])) (here h)
+    ];
+    begins = λ b. elim (lt_or_le 0 (length vs)) [
+      | inl less ↦ subst (IsBehind (IsBefore (order_of w)) after) (sym (before_end vs v [] 0 less)) (a.begins less)
+      | inr more ↦ first vs (omega (arith, more)) (h reason.NotRising)
+    ];
+    rises = λ k b. elim (lt_or_le (k + 1) (length vs)) [
+      | inl less ↦ subst (λ u. Rise u (slice_index_or (vs ++ v ∷ []) (k + 1) [])) (sym (before_end vs v [] k (omega (arith, less)))) (subst (Rise (slice_index_or vs k [])) (sym (before_end vs v [] (k + 1) less)) (a.rises k less))
+      | inr more ↦
+          let e : k + 1 ≡ length vs = omega (arith, b, count, more) in
+          subst (λ u. Rise u (slice_index_or (vs ++ v ∷ []) (k + 1) [])) (sym (before_end vs v [] k (omega (arith, e))))
+          (subst (Rise (slice_index_or vs k [])) (sym (ap (λ n. slice_index_or (vs ++ v ∷ []) n []) e ∙ at_end vs v []))
+          (subst (λ (o : Option (List ℕ)). IsBehind (IsBefore (order_of w)) o v) (last_at after vs [] k e) (h reason.NotRising)))
+    ];
+  }
+    where
+      count : length (vs ++ v ∷ []) ≡ length vs + 1
+      count = length-append vs (v ∷ [])
+
+      here : ((why : Reason) → VectorHolds w (end_of after vs) (length vs) limit v why) → One v
+      here h = record { places = places_of_ranks w v; stable = h reason.Blocked; allowed = h reason.NotAllowed; vector = sym (h reason.NotAMatching).ranks }
+
+      first : (vs : List (List ℕ)) → length vs ≡ 0 → IsBehind (IsBefore (order_of w)) (end_of after vs) v → IsBehind (IsBefore (order_of w)) after (slice_index_or (vs ++ v ∷ []) 0 [])
+      first [] e b = b
+      first (u ∷ us) e b = absurd (omega (arith, e))
+
+  -- the vectors of the first k lines
+  module _ (lines : List LineData) (all : (k : ℕ) (why : Reason) → AtLine (ListClauses w after limit) lines k why) where
+    none_yet : AreListed w after limit []
+    none_yet = record { limited = omega arith; each = λ k h. absurd (omega arith); begins = λ h. absurd (omega arith); rises = λ k h. absurd (omega arith) }
+
+    add : (vs : List (List ℕ)) (x : LineData) → AreListed w after limit vs → ((why : Reason) → ListHolds w (end_of after vs) (length vs) limit x why) → AreListed w after limit (vs ++ vectors_in (x ∷ []))
+    add vs x a h = go (vector_in x) refl
+      where
+        go : (o : Option (List ℕ)) → vector_in x ≡ o → AreListed w after limit (vs ++ cons_option o [])
+        go None e = subst (AreListed w after limit) (sym (append-nil vs)) a
+        go (Some v) e = one_more vs v a (λ why. is_vector x v e why (h why))
+          where
+            is_vector : (x : LineData) (v : List ℕ) → vector_in x ≡ Some v → (why : Reason) → ListHolds w (end_of after vs) (length vs) limit x why → VectorHolds w (end_of after vs) (length vs) limit v why
+            is_vector (LineData.Vector u) v e why b = let f : u ≡ v = some_same e in subst (λ z. VectorHolds w (end_of after vs) (length vs) limit z why) f b
+            is_vector _ v e why b = absurd (none_some e)
+
+    front : (k : ℕ) → k ≤ length lines → AreListed w after limit (vectors_in (take k lines))
+    front zero h = none_yet
+    front (suc k) h =
+        let x = slice_index_or lines k LineData.Yes in
+        let there : slice_get lines k ≡ Some x = slice_get-get_or lines k LineData.Yes (omega (arith, h)) in
+        let more : vectors_in (take (suc k) lines) ≡ vectors_in (take k lines) ++ vectors_in (x ∷ []) =
+        ap vectors_in (take-suc lines k LineData.Yes (omega (arith, h))) ∙ filter_map-append vector_in (take k lines) (x ∷ []) in
+        subst (AreListed w after limit) (sym more)
+        (add (vectors_in (take k lines)) x (front k (omega (arith, h)))
+        (λ why. subst (λ o. IfSome o (λ line. ListClauses w after limit (take k lines) line why)) there (all k why)))
+
+    whole : AreListed w after limit (vectors_in lines)
+    whole = subst (λ (ls : List LineData). AreListed w after limit (vectors_in ls)) (take_all (length lines) lines (omega arith)) (front (length lines) (omega arith))
+
+pub list_yes : ListYes
+list_yes w after limit lines g = whole w after limit lines (claims lines g.head_is g.yes)
+  where
+    claims : (lines : List LineData) → slice_get lines 0 ≡ Some (LineData.Answer (HeadData.List after limit)) → ((k : ℕ) (why : Reason) → Holds (Two w) lines k why)
+        → (k : ℕ) (why : Reason) → AtLine (ListClauses w after limit) lines k why
+    claims [] e h k why = absurd (no_line e)
+      where
+        no_line : ◌≡◌ {A = Option LineData} None (Some (LineData.Answer (HeadData.List after limit))) → ⊥
+        no_line e = grind arith
+    claims (x ∷ xs) e h k why =
+        let f : x ≡ LineData.Answer (HeadData.List after limit) = some_same e in
+        subst (λ y. AtLine (ListClauses w after limit) (y ∷ xs) k why) (sym f) (subst (λ y. Holds (Two w) (y ∷ xs) k why) f (h k why))

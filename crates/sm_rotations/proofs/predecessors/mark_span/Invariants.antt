@@ -1,5 +1,0 @@
-use Rattle.sm_rotations.specs.Marking.{marks_in, IsSpanMarked}
-use Rattle.sm_rotations.proofs.predecessors.mark_span.Given as goal
-
-abbrev pub invariant-loop-place : goal.invariant-loop-place
-invariant-loop-place l = IsSpanMarked l.market l.r l.better l.place l.j (marks_in l.fn.marks) (marks_in l.marks)

@@ -1,5 +1,0 @@
-use Rattle.sm_rotations.specs.Marking.{AreMoved}
-use Rattle.sm_rotations.proofs.predecessors.note_movers.Given as goal
-
-abbrev pub invariant-loop-i : goal.invariant-loop-i
-invariant-loop-i l = AreMoved l.pairs l.i l.j l.fn.last l.last

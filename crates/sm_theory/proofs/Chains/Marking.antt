@@ -1,0 +1,165 @@
+-- Writing notes and marks, one after another, and collecting them.
+use Rattle.std.proofs.Common.{◌≡◌, ℕ, zero, suc, ◌+◌, ◌<◌, ◌≤◌, ◌⊎◌, inl, inr, arith, refl, sym, ap, ◌∙◌, List, [], ◌∷◌, ◌++◌, Vec, length, Option, None, Some, get_or, set, replicate, slice_index_or}
+use Rattle.std.specs.List.{Contains}
+use Rattle.std.specs.Vec.{with_item}
+use Rattle.std.specs.declared.alloc.Global.{Global}
+use Rattle.std.proofs.lemmas.List.{get_or-map, map-set, get_or_past, get_or-replicate, length-replicate, length-map}
+use Rattle.std.proofs.lemmas.List.Elements.{Contains-append_left, Contains-append_right, Contains-append_cases}
+use Rattle.sm_market.specs.Lists.{Lists, row, entry, place_of, IsMarket}
+use Rattle.sm_lists.proofs.Counting.{lt_or_le, eq_or_ne}
+use Rattle.sm_market.proofs.PlaceLemmas.{place_of-entry}
+use Rattle.sm_lists.proofs.PlaceLemmas.{entry-place_of}
+use Rattle.sm_theory.specs.Rotations.{proposer_at, target_at, next_in}
+use Rattle.sm_theory.specs.Marks.{note_of, marks_of, mark_at, MovesOver, AreLastMoves, AreMarksFor, AreMarks, AreMarked, IsBetween, marks_in, IsSpan, IsSpanMarked, Adds}
+
+module _ {l : Lists} (h : IsMarket l) where
+  returns_to : (r k : ℕ) → k < length (row l.reviewers r) → let p = entry l.reviewers r k in place_of l.proposers p r < length (row l.proposers p)
+  returns_to r k on = h.reviewers.returned r k on
+
+  -- the entries over which one pair moves its reviewer are a span
+  over_of_span : (rotation : List (ℕ × ℕ)) (i : ℕ) {better old p x : ℕ} → let r = target_at rotation i in
+      better ≡ place_of l.reviewers r (proposer_at rotation i) → old ≡ place_of l.reviewers r (proposer_at rotation (next_in rotation i)) → old ≤ length (row l.reviewers r)
+      → IsSpan l r better old p x → MovesOver l rotation (i + 1) p x
+  over_of_span rotation i {better} {old} {p} {x} low high fits w =
+      let r : ℕ = target_at rotation i in
+      let on : w.place < length (row l.reviewers r) = omega (arith, w.before) in
+      let rank : place_of l.reviewers r p ≡ w.place = rw w.proposer (place_of-entry h.reviewers r w.place on) in
+      let listed : place_of l.proposers p r < length (row l.proposers p) = rw w.proposer (returns_to r w.place on) in
+      let is : entry l.proposers p x ≡ r = rw w.at (entry-place_of l.proposers p r listed) in
+      record { pair = i; pair_in = omega arith; reviewer = sym is; gains = rw is (omega (arith, rank, w.behind)); loses = rw is (omega (arith, rank, w.before)) }
+
+  span_of_over : (rotation : List (ℕ × ℕ)) {better old p x : ℕ} (i : ℕ) → let r = target_at rotation i in
+      better ≡ place_of l.reviewers r (proposer_at rotation i) → old ≡ place_of l.reviewers r (proposer_at rotation (next_in rotation i))
+      → x < length (row l.proposers p) → r ≡ entry l.proposers p x
+      → place_of l.reviewers (entry l.proposers p x) (proposer_at rotation i) < place_of l.reviewers (entry l.proposers p x) p
+      → place_of l.reviewers (entry l.proposers p x) p < place_of l.reviewers (entry l.proposers p x) (proposer_at rotation (next_in rotation i))
+      → IsSpan l r better old p x
+  span_of_over rotation {better} {old} {p} {x} i low high on is gains loses =
+      let r : ℕ = target_at rotation i in
+      let gains' : place_of l.reviewers r (proposer_at rotation i) < place_of l.reviewers r p = rw is gains in
+      let loses' : place_of l.reviewers r p < place_of l.reviewers r (proposer_at rotation (next_in rotation i)) = rw is loses in
+      let listed : place_of l.reviewers r p < length (row l.reviewers r) = rw is (h.proposers.returned p x on) in
+      record {
+        place = place_of l.reviewers r p;
+        behind = omega arith;
+        before = omega arith;
+        proposer = sym (entry-place_of l.reviewers r p listed);
+        at = sym (ap (place_of l.proposers p) is ∙ place_of-entry h.proposers p x on);
+      }
+
+  over_wider : {rotation : List (ℕ × ℕ)} {n p x : ℕ} → MovesOver l rotation n p x → MovesOver l rotation (n + 1) p x
+  over_wider w = record { pair = w.pair; pair_in = omega (arith, w.pair_in); reviewer = w.reviewer; gains = w.gains; loses = w.loses }
+
+  pub marked_more : {rotation : List (ℕ × ℕ)} {i j : ℕ} {before marks after : List (List (Option ℕ))} (better old : ℕ) → let r = target_at rotation i in
+      better ≡ place_of l.reviewers r (proposer_at rotation i) → old ≡ place_of l.reviewers r (proposer_at rotation (next_in rotation i)) → old ≤ length (row l.reviewers r)
+      → AreMarked l rotation i j before marks → IsSpanMarked l r better old j marks after → AreMarked l rotation (i + 1) j before after
+  marked_more {rotation} {i} {j} {before} {marks} {after} better old low high fits m s = record {
+    for_entries = s.for_entries;
+    marked = λ p x on w. elim (eq_or_ne w.pair i) [
+      | inl e ↦ s.marked p x (span_of_over rotation i low high on (rw e at w.reviewer) (rw e at w.gains) (rw e at w.loses))
+      | inr e ↦ elim (s.only p x) [
+        | inr v ↦ v.0
+        | inl same ↦ same ∙ m.marked p x on (record { pair = w.pair; pair_in = omega (arith, w.pair_in); reviewer = w.reviewer; gains = w.gains; loses = w.loses })
+      ]
+    ];
+    only = λ p x. elim (s.only p x) [
+      | inr v ↦ inr (v.0, over_of_span rotation i low high fits v.1)
+      | inl same ↦ elim (m.only p x) [
+        | inl same' ↦ inl (same ∙ same')
+        | inr v ↦ inr (same ∙ v.0, over_wider v.1)
+      ]
+    ];
+  }
+
+  pub marked_step : {rotation : List (ℕ × ℕ)} {i j : ℕ} {before marks after : List (List (Option ℕ))} (r better old : ℕ) → r ≡ target_at rotation i
+      → better ≡ place_of l.reviewers (target_at rotation i) (proposer_at rotation i) → old ≡ place_of l.reviewers (target_at rotation i) (proposer_at rotation (next_in rotation i)) → old ≤ length (row l.reviewers r)
+      → AreMarked l rotation i j before marks → IsSpanMarked l r better old j marks after → AreMarked l rotation (i + 1) j before after
+  marked_step {rotation} {i} {j} {before} {marks} {after} r better old is low high fits m s =
+      let fits' : old ≤ length (row l.reviewers (target_at rotation i)) = rw is at fits in
+      let s' : IsSpanMarked l (target_at rotation i) better old j marks after = rw is at s in
+      marked_more better old low high fits' m s'
+
+-- collecting
+pub adds_none : (P : ℕ → Type 0) (xs : List ℕ) → ((i : ℕ) → P i → ⊥) → Adds P xs xs
+adds_none P xs none = record { kept = λ i w. w; added = λ i w. absurd (none i w); only = λ i w. inl w }
+
+pub adds_one : (P : ℕ → Type 0) (xs : List ℕ) (x : ℕ) → P x → ((i : ℕ) → P i → i ≡ x) → Adds P xs (xs ++ x ∷ [])
+adds_one P xs x here one = record {
+  kept = λ i w. Contains-append_left xs (x ∷ []) i w;
+  added = λ i w. rw (one i w) (Contains-append_right xs (x ∷ []) x (0, omega arith, refl));
+  only = λ i w. elim (Contains-append_cases xs (x ∷ []) i w) [
+    | inl v ↦ inl v
+    | inr v ↦ inr (rw (single x i v) here)
+  ];
+}
+  where
+    single : (x i : ℕ) → Contains (x ∷ []) i → i ≡ x
+    single x i v = go v.0 v.1 v.2
+      where
+        go : (k : ℕ) → k < 1 → slice_index_or (x ∷ []) k i ≡ i → i ≡ x
+        go zero _ e = sym e
+        go (suc k) less e = absurd (omega arith)
+
+pub adds_join : {P Q : ℕ → Type 0} (R : ℕ → Type 0) {xs ys zs : List ℕ} → Adds P xs ys → Adds Q ys zs → ((i : ℕ) → P i → R i) → ((i : ℕ) → Q i → R i) → ((i : ℕ) → R i → P i ⊎ Q i) → Adds R xs zs
+adds_join R a b p q back = record {
+  kept = λ i w. b.kept i (a.kept i w);
+  added = λ i w. elim (back i w) [ inl v ↦ b.kept i (a.added i v) | inr v ↦ b.added i v ];
+  only = λ i w. elim (b.only i w) [
+    | inr v ↦ inr (q i v)
+    | inl v ↦ elim (a.only i v) [ inl u ↦ inl u | inr u ↦ inr (p i u) ]
+  ];
+}
+
+-- what stands between two places, place by place
+pub between_wider : {marks : List (Option ℕ)} {from to i : ℕ} → IsBetween marks from to i → IsBetween marks from (to + 1) i
+between_wider w = record { place = w.place; behind = w.behind; before = omega (arith, w.before); marked = w.marked }
+
+pub between_split : {marks : List (Option ℕ)} {from to : ℕ} (i : ℕ) → IsBetween marks from (to + 1) i → IsBetween marks from to i ⊎ (note_of marks to ≡ Some i)
+between_split {marks} {from} {to} i w = elim (eq_or_ne w.place to) [
+  | inl e ↦ inr (rw e at w.marked)
+  | inr e ↦ inl (record { place = w.place; behind = w.behind; before = omega (arith, w.before); marked = w.marked })
+]
+
+-- the same by other words
+pub adds_like : {P Q : ℕ → Type 0} {xs ys : List ℕ} → ((i : ℕ) → P i → Q i) → ((i : ℕ) → Q i → P i) → Adds P xs ys → Adds Q xs ys
+adds_like forth back a = record {
+  kept = a.kept;
+  added = λ i q. a.added i (back i q);
+  only = λ i w. elim (a.only i w) [ inl v ↦ inl v | inr v ↦ inr (forth i v) ];
+}
+
+-- the items of a vector of marks, read and written
+pub marks_read : (marks : List (Vec (Option ℕ) Global)) (p : ℕ) (v : Vec (Option ℕ) Global) → p < length marks → v ≡ get_or marks p v → v.items ≡ marks_of (marks_in marks) p
+marks_read marks p v inside is = ap (λ (v : Vec (Option ℕ) Global). v.items) is ∙ sym (get_or-map (λ (v : Vec (Option ℕ) Global). v.items) marks p v [] inside)
+
+pub marks_written : (marks : List (Vec (Option ℕ) Global)) (p x : ℕ) (j : Option ℕ) (d : Vec (Option ℕ) Global) → p < length marks
+    → marks_in (set marks p (with_item (get_or marks p d) x j)) ≡ set (marks_in marks) p (set (marks_of (marks_in marks) p) x j)
+marks_written marks p x j d inside =
+    map-set (λ (v : Vec (Option ℕ) Global). v.items) marks p (with_item (get_or marks p d) x j)
+    ∙ ap (λ row. set (marks_in marks) p (set row x j)) (sym (get_or-map (λ (v : Vec (Option ℕ) Global). v.items) marks p d [] inside))
+
+pub as_many_marks : (marks : List (Vec (Option ℕ) Global)) → length (marks_in marks) ≡ length marks
+as_many_marks marks = length-map marks (λ (v : Vec (Option ℕ) Global). v.items)
+
+-- nothing noted and nothing marked
+pub last_start : (rotations : List (List (ℕ × ℕ))) (notes : List (Option ℕ)) → ((p : ℕ) → note_of notes p ≡ None) → AreLastMoves rotations 0 notes
+last_start rotations notes none = record {
+  below = λ p i e. let n = none p in absurd cc;
+  moves = λ p i e. let n = none p in absurd cc;
+  last = λ p i k e less below w. omega arith;
+  noted = λ p i below w. absurd (omega arith);
+}
+
+pub marks_start : {l : Lists} {rotations : List (List (ℕ × ℕ))} {marks : List (List (Option ℕ))} → AreMarksFor l marks → ((p x : ℕ) → mark_at marks p x ≡ None) → AreMarks l rotations 0 marks
+marks_start f none = record {
+  for_entries = f;
+  below = λ p x i e. let n = none p x in absurd cc;
+  moves = λ p x i e. let n = none p x in absurd cc;
+  all = λ p x i on below w. absurd (omega arith);
+}
+
+pub none_noted : (n p : ℕ) → note_of (replicate n None) p ≡ None
+none_noted n p = elim (lt_or_le p n) [
+  | inl h ↦ get_or-replicate n p None None h
+  | inr h ↦ get_or_past (replicate n None) p None (omega (arith, length-replicate {A = Option ℕ} n None))
+]
