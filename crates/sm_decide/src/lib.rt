@@ -27,6 +27,7 @@ mod repeats;
 mod residual;
 mod room_lists;
 mod trail;
+pub mod witnesses;
 
 pub use best::{is_proposers_best, is_reviewers_best};
 pub use couples::is_room_stable;
