@@ -16,4 +16,5 @@ pub mod WantedLemmas
 mod WeightLemmas
 mod PersonLemmas
 mod CoupleLemmas
+mod PartyLemmas
 pub mod ChosenLemmas

@@ -20,6 +20,7 @@ pub mod PairsKept
 pub mod WantedKept
 pub mod Regrets
 pub mod CouplesKept
+pub mod PartiesKept
 pub mod Laws
 pub mod Yes
 pub mod Witnesses
