@@ -16,3 +16,4 @@ pub mod WantedLemmas
 mod WeightLemmas
 mod PersonLemmas
 mod CoupleLemmas
+mod SolvingLemmas
