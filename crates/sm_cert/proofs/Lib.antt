@@ -2,6 +2,7 @@ mod VerdictLaws
 mod LayoutLemmas
 mod JudgingLemmas
 mod ListingLemmas
+mod SolvingLemmas
 mod VectorLemmas
 mod LeftLemmas
 mod TakingLemmas
@@ -16,4 +17,4 @@ pub mod WantedLemmas
 mod WeightLemmas
 mod PersonLemmas
 mod CoupleLemmas
-mod SolvingLemmas
+pub mod ChosenLemmas

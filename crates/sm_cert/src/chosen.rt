@@ -1,6 +1,6 @@
 //! Answers of `meet` and `join`.
 
-ghost use Rattle.std.specs.Prelude.{◌≡◌, ◌+◌, ◌<◌, ◌^◌, All, IfOk, length, map, slice_set};
+ghost use Rattle.std.specs.Prelude.{◌≡◌, ◌+◌, ◌<◌, ◌^◌, All, IfOk, length, map, replicate, slice_set, None};
 ghost use Rattle.sm_instance.specs.Matching.{held};
 ghost use Rattle.sm_theory.specs.Choices.{chosen};
 ghost use Rattle.sm_pairs.specs.Chosen.{head_for};
@@ -55,7 +55,7 @@ pub fn chosen_verdict(
         choice,
         left: no_pairs(alloc, instance)?,
         right: no_pairs(alloc, instance)?,
-        wanted: vec![in alloc; None; instance.proposer_count() as usize]?,
+        wanted: nobody_wanted(alloc, instance)?,
         stood: Stood::nobody(alloc, instance)?,
     };
     judge_lines(alloc, judge, lines, first_line)
@@ -118,4 +118,11 @@ fn choose_at(choice: Choice, left: &Holding, right: &Holding, wanted: &mut [Opti
         (chosen choice (held left.now.places.items p) (held right.now.places.items p)) }
 {
     wanted[p as usize] = chosen_place(choice, left.places[p as usize], right.places[p as usize]);
+}
+
+/// The matching of nobody.
+fn nobody_wanted(alloc: Global, instance: &Instance) -> Result<Vec<Option<u32>>, AllocError>
+    ensures { IfOk result (λ wanted. wanted.items ≡ replicate (length instance.now.proposers) None) }
+{
+    Ok(vec![in alloc; None; instance.proposer_count() as usize]?)
 }

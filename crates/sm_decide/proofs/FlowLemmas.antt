@@ -1,6 +1,6 @@
 -- Sums over the first lines of a flow, for each node.
-use Rattle.std.proofs.Common.{◌≡◌, ◌≢◌, ℕ, ◌+◌, ◌*◌, ◌<◌, ◌≤◌, ◌==◌, ◌&&◌, Bool, true, false, arith, refl, ap, ◌∙◌, List, length, take, set, get_or, replicate}
-use Rattle.std.proofs.lemmas.List.{length-replicate, get_or-replicate, length-set, take_all}
+use Rattle.std.proofs.Common.{◌≡◌, ◌≢◌, ℕ, ◌+◌, ◌*◌, ◌<◌, ◌≤◌, ◌==◌, ◌&&◌, Bool, true, false, arith, refl, ap, ◌∙◌, List, length, take, set, get_or}
+use Rattle.std.proofs.lemmas.List.{length-set, take_all}
 use Rattle.std.proofs.lemmas.List.Sums.{sum_by_more}
 use Rattle.std.specs.Prelude.{if◌then◌else◌}
 use Rattle.std.proofs.lemmas.Grind.{get_or_default_zero}
@@ -74,3 +74,7 @@ to_summed {lines = lines} to i s all = record {
     both true false n = refl
     both false true n = refl
     both false false n = refl
+
+-- an amount that is read
+pub amount_at : {nodes : ℕ} {amount : ℕ → ℕ} {sums : List ℕ} → AreSums nodes amount sums → (v : ℕ) → v < nodes → {x : ℕ} → x ≡ get_or sums v x → x ≡ amount v
+amount_at {sums = sums} s v less {x} is = is ∙ get_or_default_zero sums v x (omega (arith, s.one_each)) ∙ s.each v less

@@ -13,3 +13,6 @@ pub mod PairLemmas
 pub mod NetLemmas
 pub mod RepeatLemmas
 pub mod ReachLemmas
+pub mod PairListLemmas
+pub mod ResidualLemmas
+pub mod MoveLemmas

@@ -1,5 +1,5 @@
 -- What is looked up in the net of gains, needs and bonds.
-use Rattle.std.proofs.Common.{◌≡◌, ℕ, zero, suc, ◌+◌, ◌-◌, ◌<◌, ◌≤◌, inl, inr, arith, refl, sym, ap, ◌∙◌, Bool, true, false, List, length, get_or, slice_index, eqb, eqb-true, eq-eqb, ne_eqb, nat_cmp, Result, Ok, Err}
+use Rattle.std.proofs.Common.{◌≡◌, ℕ, zero, suc, ◌-◌, ◌<◌, ◌≤◌, inl, inr, arith, sym, ap, List, length, get_or, slice_index, eqb-true, eq-eqb, nat_cmp, Result, Ok, Err}
 use Rattle.std.specs.Prelude.{◌==◌}
 use Rattle.std.specs.List.{list_any}
 use Rattle.std.specs.Result.{is_ok, MatchResult}

@@ -1,14 +1,14 @@
 -- What is reached over steps that are given by their pairs of nodes.
-use Rattle.std.proofs.Common.{◌≡◌, ◌≢◌, ℕ, zero, suc, ◌+◌, ◌<◌, ◌≤◌, ◌⊎◌, ◌↔◌, inl, inr, arith, refl, sym, ap, ◌∙◌, subst, Bool, true, false, List, [], ◌∷◌, ◌++◌, length, slice_index, get_or, eqb-true, eq-eqb, Contains}
+use Rattle.std.proofs.Common.{◌≡◌, ◌≢◌, ℕ, zero, suc, ◌+◌, ◌<◌, ◌≤◌, inl, inr, arith, refl, sym, ap, ◌∙◌, subst, List, [], ◌∷◌, ◌++◌, length, slice_index, eqb-true, eq-eqb, Contains}
 use Rattle.std.specs.Prelude.{◌==◌, ◌&&◌}
 use Rattle.std.proofs.lemmas.List.{get_or_append_left, get_or_push, length_push, get_or_default}
-use Rattle.std.proofs.lemmas.List.Elements.{Contains-push, Contains-append_left, Contains-push_cases}
+use Rattle.std.proofs.lemmas.List.Elements.{Contains-push, Contains-append_left}
 use Rattle.std.proofs.lemmas.List.Folds.{list_any_at}
 use Rattle.sm_lists.proofs.Counting.{eq_or_ne, lt_or_le}
 use Rattle.sm_theory.specs.Net.{IsPath, IsReachable}
 use Rattle.sm_theory.proofs.Net.Paths.{reach_on}
 use Rattle.sm_theory.proofs.Net.Tests.{and_parts, and_true, some_passes}
-use Rattle.sm_decide.specs.Pairs.{pair_at, has_pair, IsBelow, IsUpTo, AreOrdered, IsParted}
+use Rattle.sm_decide.specs.Pairs.{pair_at, AreOrdered, IsParted}
 use Rattle.sm_decide.specs.Trails.{Trail}
 use Rattle.sm_decide.specs.Reaching.{IsStepOf, GoesOn, IsReachedTrail}
 
@@ -98,7 +98,7 @@ going_ends {steps} {from} {start} {k} {before} {after} o p g come other = record
       where
         behind : (a : ℕ) → (pair_at steps a).0 ≡ from → start ≤ a
         behind a e = elim (lt_or_le a start) [
-          | inl h ↦ elim (p.lower a h) [ | inl less ↦ absurd (omega (arith, e)) | inr same ↦ absurd (let x = same.1 in omega arith) ]
+          | inl h ↦ elim (p.lower a h) [ inl less ↦ absurd (omega (arith, e)) | inr same ↦ absurd (let x = same.1 in omega arith) ]
           | inr h ↦ h
         ]
 
@@ -111,11 +111,11 @@ going_ends {steps} {from} {start} {k} {before} {after} o p g come other = record
             at_least : k ≤ a → (pair_at steps k).0 ≤ from
             at_least h = elim (eq_or_ne k a) [
               | inl same ↦ omega (arith, e, ap (λ b. (pair_at steps b).0) same)
-              | inr ne ↦ elim (o.ordered k a (omega arith) less) [ | inl x ↦ omega (arith, e) | inr x ↦ omega (arith, e, x.0) ]
+              | inr ne ↦ elim (o.ordered k a (omega arith) less) [ inl x ↦ omega (arith, e) | inr x ↦ omega (arith, e, x.0) ]
             ]
 
             at_most : k ≤ a → from ≤ (pair_at steps k).0
-            at_most h = elim (p.higher k come (omega arith)) [ | inl x ↦ omega arith | inr x ↦ omega (arith, x.0) ]
+            at_most h = elim (p.higher k come (omega arith)) [ inl x ↦ omega arith | inr x ↦ omega (arith, x.0) ]
 
             same_from : k ≤ a → (pair_at steps k).0 ≡ from
             same_from h = omega (arith, at_least h, at_most h)

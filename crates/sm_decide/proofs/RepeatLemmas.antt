@@ -1,5 +1,5 @@
 -- Lines of a flow with the ends of earlier ones.
-use Rattle.std.proofs.Common.{◌≡◌, ℕ, ◌+◌, ◌<◌, ◌≤◌, ◌↔◌, inl, inr, arith, refl, sym, ap, ◌∙◌, subst, Bool, true, false, List, [], ◌∷◌, ◌++◌, length, map, set, get_or, replicate, eq-eqb}
+use Rattle.std.proofs.Common.{◌≡◌, ℕ, ◌+◌, ◌<◌, ◌↔◌, inl, inr, arith, refl, sym, ◌∙◌, subst, Bool, true, false, List, [], ◌∷◌, ◌++◌, length, map, set, get_or, replicate, eq-eqb}
 use Rattle.std.specs.Prelude.{◌==◌, ◌&&◌}
 use Rattle.std.proofs.lemmas.Bool.{false≢true}
 use Rattle.std.proofs.lemmas.List.{length-map, length-set, length_push, length-replicate, get_or-replicate, get_or-map, get_or_append_left, get_or_push, get_or_default}
@@ -9,8 +9,8 @@ use Rattle.sm_lists.proofs.ItemLemmas.{set_cases}
 use Rattle.sm_theory.proofs.Net.Tests.{and_true}
 use Rattle.sm_theory.specs.ClosedSets.{IsMember}
 use Rattle.sm_theory.specs.declared.flow_lines.FlowLine.{FlowLine}
-use Rattle.sm_theory.specs.FlowLines.{line_at, HaveSameEnds}
-use Rattle.sm_decide.specs.Pairs.{pair_at, has_pair, IsFirstAt}
+use Rattle.sm_theory.specs.FlowLines.{line_at}
+use Rattle.sm_decide.specs.Pairs.{has_pair, IsFirstAt}
 use Rattle.sm_decide.specs.Repeats.{ends_of, IsRepeated, AreRepeats}
 
 -- one of the first i lines has its ends at this place
@@ -86,7 +86,7 @@ one_met {lines} {ends} {met} {repeats} i k was m less f is = record {
     same_place : {x : ℕ × ℕ} {a b : ℕ} → IsFirstAt ends x a → IsFirstAt ends x b → a ≡ b
     same_place {x} {a} {b} v w = elim (lt_or_le a b) [
       | inl h ↦ absurd (w.new a h v.is)
-      | inr h ↦ elim (eq_or_ne a b) [ | inl e ↦ e | inr ne ↦ absurd (v.new b (omega arith) w.is) ]
+      | inr h ↦ elim (eq_or_ne a b) [ inl e ↦ e | inr ne ↦ absurd (v.new b (omega arith) w.is) ]
     ]
 
     met_is : IsMetAt lines ends i k → IsRepeated lines i

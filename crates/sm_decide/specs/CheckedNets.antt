@@ -1,5 +1,5 @@
 -- The net of gains, needs and bonds. A bond is an unbounded edge that a condition asks for.
-use Rattle.std.specs.Prelude.{◌≡◌, ℕ, suc, ◌<◌, ◌==◌, ◌&&◌, ◌||◌, not, List, length, slice_index, slice_index_or, ℤ, pos}
+use Rattle.std.specs.Prelude.{◌≡◌, ℕ, suc, ◌+◌, ◌^◌, ◌<◌, ◌==◌, ◌&&◌, ◌||◌, not, List, length, slice_index, slice_index_or, ℤ, pos}
 use Rattle.sm_lists.specs.Rows.{row}
 use Rattle.sm_theory.specs.Net.{Net, sink_of, HasEdge}
 use Rattle.sm_theory.specs.declared.flow_lines.FlowLine.{FlowLine}
@@ -35,10 +35,16 @@ pub record HasParts (parts : NetParts) (gains : List ℤ) (needs : List (List �
 pub record AreRising (rows : List (List ℕ)) : Type 0 where
   pub rising : (k a b : ℕ) → a < b → b < length (row rows k) → slice_index (row rows k) a < slice_index (row rows k) b
 
--- what a net is kept by: a row of needs for each gain, rising
+-- the numbers of each row are below n
+pub record AreNumbersBelow (n : ℕ) (rows : List (List ℕ)) : Type 0 where
+  pub below : (k a : ℕ) → a < length (row rows k) → slice_index (row rows k) a < n
+
+-- what a net is kept by: a row of needs for each gain, of rotations that there are, rising
 pub record IsKeptNet (parts : NetParts) : Type 0 where
   pub one_each : length parts.needs ≡ length parts.gains
+  pub few : length parts.gains + 2 < 2 ^ 32
   pub rising : AreRising parts.needs
+  pub numbers : AreNumbersBelow (length parts.gains) parts.needs
 
 -- a line is on an edge that leads not from the source to the sink
 pub record IsOnEdge (net : Net) (line : FlowLine) : Type 0 where

@@ -9,3 +9,5 @@ pub mod Pairs
 pub mod CheckedNets
 pub mod Repeats
 pub mod Reaching
+pub mod Residual
+pub mod Moves

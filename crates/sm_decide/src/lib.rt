@@ -6,14 +6,17 @@
 //! [`Search`] tells of a stable pairing which rotations are exposed at it, and [`is_proposers_best`] and [`is_reviewers_best`]
 //! whether it is the best of a side. [`is_reduced_proposer_list`] and [`is_reduced_reviewer_list`] tell of a list whether it is
 //! one of the reduced lists, and [`Notes`] what each rotation of a chain needs. [`is_room_stable`] and [`is_stable_partition`]
-//! tell of a matching and of a partition of roommates whether they are stable. [`is_conserved`] and [`amount_from_source`] tell
-//! of the lines of a flow.
+//! tell of a matching and of a partition of roommates whether they are stable. [`CheckedNet`] tells of the lines of a flow whether
+//! they are on its edges and within their rooms, and [`repeated_lines`], [`is_conserved`], [`amount_from_source`] and
+//! [`is_residual_reach`] what they are together.
 #![tactic(auto)]
 
 mod best;
 mod couples;
 mod exposure;
 mod flow_sums;
+pub mod laws;
+mod moves;
 mod needs;
 mod net;
 mod pairs;
@@ -21,17 +24,19 @@ mod partitions;
 mod reaching;
 mod reduced;
 mod repeats;
+mod residual;
 mod room_lists;
-pub mod laws;
 mod trail;
 
 pub use best::{is_proposers_best, is_reviewers_best};
 pub use couples::is_room_stable;
 pub use exposure::Search;
-pub use net::CheckedNet;
-pub use repeats::repeated_lines;
 pub use flow_sums::{amount_from_source, is_conserved};
-pub use partitions::is_stable_partition;
+pub use moves::{Move, gain, moves_of};
 pub use needs::Notes;
+pub use net::CheckedNet;
+pub use partitions::is_stable_partition;
 pub use reduced::{is_reduced_proposer_list, is_reduced_reviewer_list};
+pub use repeats::repeated_lines;
+pub use residual::is_residual_reach;
 pub use room_lists::RoomLists;

@@ -207,7 +207,7 @@ fn mark_moves(
 }
 
 /// The place to which the proposer of a pair of an exposed rotation moves.
-fn place_behind(market: &Market, m: &Pairing, pairs: &[(u32, u32)], i: usize) -> u32
+pub(crate) fn place_behind(market: &Market, m: &Pairing, pairs: &[(u32, u32)], i: usize) -> u32
     requires in_range { i < length pairs.now }
     requires made { IsPairingOf market.now m.now }
     requires exposed { IsExposed market.now m.now.places pairs.now }

@@ -1,12 +1,13 @@
 //! The net of gains, needs and conditions, as it is looked up in.
 
-ghost use Rattle.std.specs.Prelude.{◌≡◌, ◌<◌, ◌↔◌, ◌==◌, ℕ, length, slice_index, IsTrue, if◌then◌else◌};
+ghost use Rattle.std.specs.Prelude.{◌≡◌, ◌+◌, ◌<◌, ◌^◌, ◌↔◌, ◌==◌, ◌&&◌, ℕ, length, slice_index, IsTrue, if◌then◌else◌};
 ghost use Rattle.std.specs.List.{list_any};
-ghost use Rattle.sm_lists.specs.Rows.{rows_of};
+ghost use Rattle.sm_lists.specs.Rows.{row, rows_of};
 ghost use Rattle.sm_theory.specs.Conditions.{rise_of, fall_of, leads_to_need};
 ghost use Rattle.sm_theory.specs.Net.{sink_of, room_of, is_unbounded, HasEdge, cut_of};
 ghost use Rattle.sm_theory.specs.FlowLines.{IsWithinRoom};
-ghost use Rattle.sm_decide.specs.CheckedNets.{net_in, HasParts, AreRising, IsOnEdge};
+ghost use Rattle.sm_decide.specs.CheckedNets.{net_in, HasParts, AreRising, AreNumbersBelow, IsOnEdge};
+ghost use Rattle.sm_decide.specs.Residual.{may_lead};
 
 use crate::pairs::Pairs;
 use sm_lists::list_at;
@@ -39,8 +40,10 @@ impl CheckedNet {
     ///
     /// Takes time in proportion to the bonds and the logarithm of their number.
     pub fn of(gains: Vec<i64>, needs: Vec<Vec<u32>>, bonds: Vec<(u32, u32)>) -> CheckedNet
+        requires few { length gains.items + 2 < 2 ^ 32 }
         requires each { length needs.items ≡ length gains.items }
         requires rising { AreRising (rows_of needs.items) }
+        requires numbers { AreNumbersBelow (length gains.items) (rows_of needs.items) }
         ensures { HasParts result gains.items (rows_of needs.items) bonds.items }
     {
         CheckedNet {
@@ -51,10 +54,42 @@ impl CheckedNet {
     }
 
     /// How many rotations there are.
-    pub fn size(&self) -> usize
-        ensures { result ≡ (net_in self.now).size }
+    pub fn size(&self) -> u32
+        ensures size { result ≡ (net_in self.now).size }
+        ensures few { (net_in self.now).size + 2 < 2 ^ 32 }
+        ensures each { length self.now.needs ≡ length self.now.gains }
     {
-        self.gains.len()
+        self.gains.len() as u32
+    }
+
+    /// How many nodes there are: the rotations, the source and the sink.
+    pub(crate) fn nodes(&self) -> u32
+        ensures { result ≡ (net_in self.now).size + 2 }
+    {
+        self.size() + 2
+    }
+
+    /// The numbers of the rotations that a rotation needs.
+    pub fn needs(&self, k: u32) -> &[u32]
+        requires { k < (net_in self.now).size }
+        ensures needs { result.now ≡ row self.now.needs k }
+        ensures numbers { (a : ℕ) → a < length result.now → slice_index result.now a < (net_in self.now).size }
+    {
+        list_at(&self.needs, k)
+    }
+
+    /// The bonds in order.
+    pub(crate) fn bonds(&self) -> &[(u32, u32)]
+        ensures { result.now ≡ self.now.bonds }
+    {
+        self.bonds.all()
+    }
+
+    /// Whether an unbounded edge may lead from one node to another.
+    pub(crate) fn may_lead(&self, from: u32, to: u32) -> bool
+        ensures { result ≡ may_lead (net_in self.now) from to }
+    {
+        to != 0 && to < self.nodes() && from != to && !self.is_through(from, to)
     }
 
     /// Whether an unbounded edge leads from one node to another. Takes time in proportion to the logarithm of the numbers of
@@ -70,7 +105,7 @@ impl CheckedNet {
 
     /// Whether the first of two nodes is the source and the second one the sink.
     fn is_through(&self, from: u32, to: u32) -> bool
-        ensures { IsTrue result ↔ ((from ≡ 0) × (to ≡ sink_of (net_in self.now))) }
+        ensures { result ≡ (from == 0 && to == sink_of (net_in self.now)) }
     {
         from == 0 && to as usize == self.gains.len() + 1
     }
@@ -152,7 +187,11 @@ impl CheckedNet {
     fn room_out(&self, k: usize, is_member: bool) -> u64
         ensures { result ≡ (if is_member then (net_in self.now).drain k else (net_in self.now).supply k) }
     {
-        if is_member { self.drain(k) } else { self.supply(k) }
+        if is_member {
+            self.drain(k)
+        } else {
+            self.supply(k)
+        }
     }
 }
 

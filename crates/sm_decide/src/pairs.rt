@@ -39,6 +39,13 @@ impl Pairs {
         self.pairs.len()
     }
 
+    /// All pairs in order.
+    pub(crate) fn all(&self) -> &[(u32, u32)]
+        ensures { result.now ≡ self.now }
+    {
+        &self.pairs
+    }
+
     /// The pair at a place.
     pub(crate) fn at(&self, k: usize) -> (u32, u32)
         requires { k < length self.now }

@@ -8,6 +8,7 @@ pub mod ClosedSets
 pub mod Vectors
 pub mod Listings
 pub mod Weights
+pub mod Sizes
 pub mod StablePlaces
 pub mod Regrets
 pub mod Laws

@@ -1,4 +1,4 @@
--- Sizes of integers, and weights that are read.
+-- Weights that are read.
 use Rattle.std.proofs.Common.{◌≡◌, ℕ, suc, ◌+◌, ◌<◌, ◌≤◌, arith, ap, ◌∙◌, List, Vec, length, slice_index_or, ℤ, pos, negsuc, ◌+ℤ◌, neg_ℤ, ◌≤ℤ◌, to_z, of_z, w64}
 use Rattle.std.specs.declared.alloc.Global.{Global}
 use Rattle.std.specs.Int.RustNames.{unsigned_abs}
@@ -8,15 +8,6 @@ use Rattle.sm_theory.specs.Weights.{total, weight_at}
 use Rattle.sm_board.proofs.MakeLemmas.{row_read}
 use Rattle.sm_weight.specs.Sizes.{weights_in, weights_of}
 
--- a size within a bound, from both sides
-pub above_of : (z : ℤ) (n : ℕ) → unsigned_abs z ≤ n → neg_ℤ (pos n) ≤ℤ z
-above_of (pos k) n h = omega (arith, ints)
-above_of (negsuc k) n h = omega (arith, ints)
-
-pub below_of : (z : ℤ) (n : ℕ) → unsigned_abs z ≤ n → z ≤ℤ pos n
-below_of (pos k) n h = omega (arith, ints)
-below_of (negsuc k) n h = omega (arith, ints)
-
 -- the weight of a place, where it is read
 pub weight_long : (weights : List (Vec ℤ Global)) (p : ℕ) (v : Vec ℤ Global) → p < length weights → v ≡ slice_index_or weights p v → length v.items ≡ length (weights_of (weights_in weights) p)
 weight_long weights p v less is = ap (λ (v : Vec ℤ Global). length v.items) is ∙ ap length (row_read weights p v less)
@@ -25,11 +16,3 @@ pub weight_read : (weights : List (Vec ℤ Global)) (p i : ℕ) (v : Vec ℤ Glo
 weight_read weights p i v z less is inside read =
     read ∙ get_or_default v.items i z (pos 0) inside
     ∙ ap (λ (xs : List ℤ). slice_index_or xs i (pos 0)) (ap (λ (v : Vec ℤ Global). v.items) is ∙ row_read weights p v less)
-
--- a small number is itself in 64 bits
-pub small_is : (z : ℤ) → unsigned_abs z ≤ 1000000000 → to_z w64 (of_z w64 z) ≡ z
-small_is z h = to_z-of_z w64 z (fits_signed_from_abs w64 z (omega arith))
-
--- one more value in a sum
-pub total_more : (f : ℕ → ℤ) (n : ℕ) → total f (n + 1) ≡ total f n +ℤ f n
-total_more f n = ap (total f) (let e : n + 1 ≡ suc n = omega arith in e)

@@ -1,4 +1,4 @@
-use Rattle.std.specs.Prelude.{◌==◌, ◌&&◌, if◌then◌else◌}
+use Rattle.std.specs.Prelude.{◌==◌, if◌then◌else◌}
 use Rattle.sm_decide.proofs.FlowLemmas.{AreSummed}
 use Rattle.sm_decide.proofs.flow_sums.amounts_from.Given as goal
 

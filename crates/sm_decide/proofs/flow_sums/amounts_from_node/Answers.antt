@@ -1,4 +1,4 @@
-use Rattle.std.proofs.Common.{◌≡◌, ℕ, ◌<◌, arith, refl, sym, eq-eqb, ne_eqb}
+use Rattle.std.proofs.Common.{ℕ, arith, refl, sym, eq-eqb, ne_eqb}
 use Rattle.sm_theory.specs.FlowLines.{line_at}
 use Rattle.sm_theory.specs.declared.flow_lines.FlowLine.{FlowLine}
 use Rattle.sm_decide.proofs.FlowLemmas.{one_summed, from_summed}

@@ -1,5 +1,5 @@
 use Rattle.std.proofs.Common.{arith}
-use Rattle.sm_decide.proofs.PairLemmas.{lower_half, upper_half}
+use Rattle.sm_decide.proofs.PairLemmas.{lower_half}
 use Rattle.sm_decide.proofs.pairs.parting.Goals as goal
 
 pub halves-preserved-then-is_below : goal.halves-preserved-then-is_below

@@ -8,7 +8,7 @@ use Rattle.sm_market.specs.Lists.{Lists, row}
 use Rattle.sm_seats.specs.Seating.{written_place}
 use Rattle.sm_seats.proofs.SeatingLemmas.{level_is}
 use Rattle.sm_seats.proofs.SeatingLaws.{written_on}
-use Rattle.sm_weight.proofs.SizeLemmas.{small_is}
+use Rattle.sm_theory.proofs.Weighing.Sizes.{small_is}
 use Rattle.sm_lightest.specs.PlaceWeights.{IsLight}
 use Rattle.sm_lightest.proofs.place_weights.weights_at.Goals as goal
 

@@ -4,7 +4,7 @@ use Rattle.sm_market.specs.Matching.{Places}
 use Rattle.sm_theory.specs.Rotations.{eliminated}
 use Rattle.sm_theory.specs.Weights.{gain_of}
 use Rattle.sm_weight.specs.Sizes.{weights_in, weight_held}
-use Rattle.sm_weight.proofs.SizeLemmas.{above_of, below_of}
+use Rattle.sm_theory.proofs.Weighing.Sizes.{above_of, below_of}
 use Rattle.sm_weight.proofs.GainLemmas.{held_after, places_weighed, gain_is}
 use Rattle.sm_weight.proofs.gains.turn.Goals as goal
 

@@ -4,7 +4,7 @@ use Rattle.sm_market.specs.Matching.{held}
 use Rattle.sm_theory.specs.Rotations.{proposer_at}
 use Rattle.sm_theory.specs.Weights.{weight_of_place}
 use Rattle.sm_weight.specs.Sizes.{weights_in}
-use Rattle.sm_weight.proofs.SizeLemmas.{total_more, above_of, below_of}
+use Rattle.sm_theory.proofs.Weighing.Sizes.{total_more, above_of, below_of}
 use Rattle.sm_weight.proofs.gains.weight_held.Goals as goal
 
 pub loop-p-preserved : goal.loop-p-preserved

@@ -4,7 +4,8 @@ use Rattle.sm_market.specs.Matching.{held}
 use Rattle.sm_poset.proofs.MoveLemmas.{some_in_range}
 use Rattle.sm_theory.specs.Weights.{weight_at, weight_of_place}
 use Rattle.sm_weight.specs.Sizes.{weights_in, weights_of}
-use Rattle.sm_weight.proofs.SizeLemmas.{weight_long, weight_read, small_is}
+use Rattle.sm_theory.proofs.Weighing.Sizes.{small_is}
+use Rattle.sm_weight.proofs.SizeLemmas.{weight_long, weight_read}
 use Rattle.sm_weight.proofs.gains.weight_of.Goals as goal
 
 pub index-requires : goal.index-requires

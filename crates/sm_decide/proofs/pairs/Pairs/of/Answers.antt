@@ -1,5 +1,4 @@
 use Rattle.std.proofs.Common.{sym}
-use Rattle.std.specs.Prelude.{◌==◌, ◌&&◌}
 use Rattle.std.proofs.lemmas.List.Sorted.{list_any-IsPermutation}
 use Rattle.sm_decide.proofs.PairLemmas.{ordered_of}
 use Rattle.sm_decide.proofs.pairs.Pairs.of.Goals as goal
