@@ -8,6 +8,6 @@ use Rattle.sm_cert.specs.PairsKept.{ArePairsHeld}
 use Rattle.sm_cert.specs.Said.{pairs_in}
 
 -- the pairs so far, beside the seats of the instance
-pub record IsSolveKept (w : Written) (s : Seating) (above : List LineData) (pairs : Holding) : Type 0 where
+pub record IsSolveKept (w : Written) (s : Seating) (above : List LineData) (holding : Holding) : Type 0 where
   pub seats : s ≡ seating_of w
-  pub pairs : ArePairsHeld w (pairs_in above) pairs
+  pub pairs : ArePairsHeld w (pairs_in above) holding

@@ -1,12 +1,17 @@
 //! Answers of `solve` over an instance with two sides.
 
-ghost use Rattle.std.specs.Prelude.{◌≡◌, ℕ, ◌+◌, ◌<◌, ◌^◌, ◌↔◌, List, All, Some, length, map, IsTrue, IfOk};
+ghost use Rattle.std.specs.Prelude.{◌≡◌, ℕ, ◌+◌, ◌<◌, ◌^◌, ◌↔◌, ◌∷◌, ◌++◌, [], List, All, Some, length, map, IsTrue, IfOk};
+ghost use Rattle.sm_instance.specs.Written.{Written};
 ghost use Rattle.sm_instance.specs.Stable.{IsStable};
 ghost use Rattle.sm_seats.specs.Seating.{seating_of};
 ghost use Rattle.sm_pairs.specs.Holding.{IsHolding};
+ghost use Rattle.sm_instance.specs.declared.inputs.Input.TheVariants.{Two};
 ghost use Rattle.sm_report.specs.Heads.{HeadData};
 ghost use Rattle.sm_report.specs.Lines.{LineData, line_of};
+ghost use Rattle.sm_report.specs.Sound.{IsLineOf};
 ghost use Rattle.sm_cert.specs.Judges.{IsOwnLine};
+ghost use Rattle.sm_cert.specs.Said.{pairs_in};
+ghost use Rattle.sm_cert.specs.Walking.{FindsOrKeeps};
 ghost use Rattle.sm_cert.specs.Judging.{answer, Clauses};
 ghost use Rattle.sm_cert.specs.Pairs.{IsBestOf, SolveHolds};
 ghost use Rattle.sm_cert.specs.PairsKept.{ArePairsHeld};
@@ -72,16 +77,42 @@ impl<'a> Judge for SolveJudge<'a> {
     ghost knows = { λ j above. IsSolveKept j.instance.now j.seats.now above j.pairs };
 
     fn find_fault(&mut self, alloc: Global, line: &Line) -> Result<Option<Reason>, AllocError> {
-        match line {
-            Line::Pair(p, r) => {
-                if !joins(&mut self.pairs, self.instance, *p, *r) {
-                    return Ok(Some(Reason::NotAMatching));
-                }
-                Ok(None)
+        line_fault(
+            alloc,
+            self.instance,
+            self.seats,
+            self.side,
+            &mut self.pairs,
+            line,
+        )
+    }
+}
+
+/// The first clause that fails at a line, behind these pairs. The pair of the line is held too.
+fn line_fault(
+    alloc: Global,
+    instance: &Instance,
+    seats: &Seats,
+    side: Side,
+    pairs: &mut Holding,
+    line: &Line,
+) -> Result<Option<Reason>, AllocError>
+    requires seats { seats.now ≡ seating_of instance.now }
+    requires own { IsLineOf (Two instance.now) (line_of line.now) }
+    requires held { IsHolding instance.now pairs.old }
+    ensures { IfOk result (λ why. (said : List (ℕ × ℕ)) → ArePairsHeld instance.now said pairs.old
+        → FindsOrKeeps (SolveHolds instance.now side said (line_of line.now))
+        (ArePairsHeld instance.now (said ++ pairs_in (line_of line.now ∷ [])) pairs.new) why) }
+{
+    match line {
+        Line::Pair(p, r) => {
+            if !joins(pairs, instance, *p, *r) {
+                return Ok(Some(Reason::NotAMatching));
             }
-            Line::End => end_fault(alloc, self.instance, self.seats, self.side, &self.pairs),
-            _ => Ok(None),
+            Ok(None)
         }
+        Line::End => end_fault(alloc, instance, seats, side, pairs),
+        _ => Ok(None),
     }
 }
 
@@ -118,9 +149,11 @@ fn is_best(
     side: Side,
     matching: &Assignment,
 ) -> Result<bool, AllocError>
-    requires seats { seats.now ≡ seating_of instance.now }
-    requires stable { IsStable instance.now matching.now.places.items }
-    ensures { IfOk result (λ best. IsTrue best ↔ IsBestOf side instance.now matching.now.places.items) }
+    ghost written: { Written }
+    requires written { written ≡ instance.now }
+    requires seats { seats.now ≡ seating_of written }
+    requires stable { IsStable written matching.now.places.items }
+    ensures { IfOk result (λ best. IsTrue best ↔ IsBestOf side written matching.now.places.items) }
 {
     prove!(instance.proposer_count() < 1 << 24);
     let seated = seats.to_seats(alloc, matching)?;
