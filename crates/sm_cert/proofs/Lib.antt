@@ -2,6 +2,7 @@ mod VerdictLaws
 mod LayoutLemmas
 mod JudgingLemmas
 mod ListingLemmas
+mod SolvingLemmas
 mod VectorLemmas
 mod LeftLemmas
 mod TakingLemmas
