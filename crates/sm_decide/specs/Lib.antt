@@ -12,3 +12,4 @@ pub mod Repeats
 pub mod Reaching
 pub mod Residual
 pub mod Moves
+pub mod Spans
