@@ -2,6 +2,7 @@ mod VerdictLaws
 mod LayoutLemmas
 mod JudgingLemmas
 mod ListingLemmas
+mod SolvingLemmas
 mod VectorLemmas
 mod LeftLemmas
 mod TakingLemmas
@@ -16,3 +17,5 @@ pub mod WantedLemmas
 mod WeightLemmas
 mod PersonLemmas
 mod CoupleLemmas
+mod PartyLemmas
+pub mod ChosenLemmas

@@ -1,5 +1,5 @@
 -- What is found of an answer of `regret`.
-use Rattle.std.proofs.Common.{◌≡◌, ℕ, ◌++◌, List, Option, None, Some, refl, sym, ap, ◌∙◌, subst}
+use Rattle.std.proofs.Common.{◌≡◌, ℕ, List, Option, refl, ap, ◌∙◌, subst}
 use Rattle.std.specs.Prelude.{unwrap_or, filter_map}
 use Rattle.std.specs.List.{slice_get}
 use Rattle.std.proofs.lemmas.Bool.{false≢true}
@@ -10,7 +10,7 @@ use Rattle.sm_pairs.specs.declared.holding.Holding.{Holding}
 use Rattle.sm_cert.specs.declared.verdicts.Reason.{Reason}
 use Rattle.sm_cert.specs.declared.verdicts.Reason.TheVariants as reason
 use Rattle.sm_cert.specs.Verdicts.{Finds}
-use Rattle.sm_cert.specs.Said.{pairs_in, regret_in, first_said}
+use Rattle.sm_cert.specs.Said.{pairs_in, regret_in}
 use Rattle.sm_pairs.specs.Held.{places_in}
 use Rattle.sm_cert.specs.Pairs.{IsFree}
 use Rattle.sm_cert.specs.Vectors.{RegretHolds, RegretClauses}

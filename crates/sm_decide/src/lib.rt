@@ -30,6 +30,7 @@ mod room_lists;
 mod set_matching;
 mod spans;
 mod trail;
+pub mod witnesses;
 
 pub use best::{is_proposers_best, is_reviewers_best};
 pub use closed::is_closed;

@@ -15,6 +15,7 @@ pub mod LevelLaws
 pub mod WorthLaws
 pub mod CorrespondenceLaws
 pub mod SeatingLaws
+pub mod BestLaws
 pub mod LawsProved
 pub mod WitnessLemmas
 pub mod VectorLaws

@@ -1,10 +1,11 @@
 -- The laws of seats that the crates above stand on. Each is the contract of a function of `laws`.
+use Rattle.std.specs.Prelude.{◌↔◌}
 use Rattle.sm_instance.specs.Written.{Written}
 use Rattle.sm_instance.specs.Sound.{IsInstance}
 use Rattle.sm_instance.specs.Stable.{IsProposersBest as IsWrittenProposersBest, IsReviewersBest as IsWrittenReviewersBest}
 use Rattle.sm_market.specs.Limits.{IsWithinLimits}
 use Rattle.sm_market.specs.Matching.{Places}
-use Rattle.sm_market.specs.Stable.{IsProposersBest, IsReviewersBest}
+use Rattle.sm_market.specs.Stable.{IsStable, IsProposersBest, IsReviewersBest}
 use Rattle.sm_seats.specs.SeatMarket.{seat_market}
 use Rattle.sm_seats.specs.SeatEntries.{AreFewSeats}
 use Rattle.sm_seats.specs.Seating.{Seating, seating_of, written_of}
@@ -19,8 +20,8 @@ SeatsCorrespond = (w : Written) → IsInstance w → IsSeating w (seating_of w)
 abbrev pub FewSeatsFit : Type 0
 FewSeatsFit = (w : Written) → IsInstance w → AreFewSeats w → IsWithinLimits (seat_market w)
 
--- the best stable matchings of the seats are those of the instance
+-- a stable matching of the seats is the best of a side exactly where that of the instance is
 abbrev pub BestsCorrespond : Type 0
-BestsCorrespond = (w : Written) (s : Seating) (m : Places) → IsSeating w s
-    → (IsProposersBest s.market m → IsWrittenProposersBest w (written_of s m.proposers))
-    × (IsReviewersBest s.market m → IsWrittenReviewersBest w (written_of s m.proposers))
+BestsCorrespond = (w : Written) (s : Seating) (m : Places) → IsSeating w s → IsStable s.market m
+    → (IsProposersBest s.market m ↔ IsWrittenProposersBest w (written_of s m.proposers))
+    × (IsReviewersBest s.market m ↔ IsWrittenReviewersBest w (written_of s m.proposers))

@@ -14,7 +14,7 @@ pub fn few_seats_fit()
     ensures { FewSeatsFit }
 {}
 
-/// The best stable matchings of the seats are those of the instance.
+/// A stable matching of the seats is the best of a side exactly where that of the instance is.
 pub fn bests_correspond()
     ensures { BestsCorrespond }
 {}

@@ -7,6 +7,6 @@ judge_lines-requires-clause-knows c =
     record {
       lefts = c.in_ok-no_pairs.ensures;
       rights = c.in_ok-no_pairs-2.ensures;
-      chosen = chosen_none c.args.choice c.args.instance.now _ _ _ c.in_ok-no_pairs.ensures c.in_ok-no_pairs-2.ensures (c.in_ok-vec.ensures.items) c.proposer_count.ensures.count;
+      chosen = chosen_none c.args.choice c.args.instance.now _ _ _ c.in_ok-no_pairs.ensures c.in_ok-no_pairs-2.ensures c.in_ok-nobody_wanted.ensures;
       pairs = c.in_ok-nobody.ensures;
     }

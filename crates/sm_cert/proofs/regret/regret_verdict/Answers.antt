@@ -1,4 +1,4 @@
-use Rattle.std.proofs.Common.{◌≡◌, ℕ, ◌<◌, List, map, take, length, sym, ap, ◌∙◌, subst, arith}
+use Rattle.std.proofs.Common.{ℕ, List, map, take, sym, ap, ◌∙◌, subst, arith}
 use Rattle.std.specs.Option.{option_or}
 use Rattle.std.specs.List.{slice_get}
 use Rattle.std.proofs.lemmas.List.{length-map}
@@ -6,11 +6,9 @@ use Rattle.sm_instance.specs.declared.inputs.Input.TheVariants.{Two}
 use Rattle.sm_report.specs.Lines.{line_of}
 use Rattle.sm_report.specs.Sound.{IsLineOf}
 use Rattle.sm_cert.specs.Said.{pair_in, pairs_in, regret_in}
-use Rattle.sm_cert.specs.Walking.{FindsOrKeeps}
-use Rattle.sm_cert.specs.Vectors.{RegretClauses}
 use Rattle.sm_cert.specs.PairsKept.{ArePairsHeld}
 use Rattle.sm_cert.proofs.JudgingLemmas.{line_at}
-use Rattle.sm_cert.proofs.AnswerLemmas.{line_right, said_more, first_more, hold_more, verdict_no, verdict_yes, none_above}
+use Rattle.sm_cert.proofs.AnswerLemmas.{line_right, said_more, first_more, hold_more, verdict_no, verdict_yes}
 use Rattle.sm_cert.proofs.RegretLemmas.{said_above}
 use Rattle.sm_cert.proofs.regret.regret_verdict.Goals as goal
 
