@@ -20,3 +20,4 @@ pub mod ClosedLemmas
 pub mod SpanLemmas
 pub mod NetOfLemmas
 pub mod SetPlaceLemmas
+pub mod NetWitness

@@ -14,3 +14,4 @@ pub mod Residual
 pub mod Moves
 pub mod Spans
 pub mod SetPlaces
+pub mod WitnessesNets
