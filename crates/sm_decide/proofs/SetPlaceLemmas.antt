@@ -1,11 +1,11 @@
 -- The matching of a set of rotations, by the moves of these.
-use Rattle.std.proofs.Common.{◌≡◌, ◌≢◌, ℕ, zero, suc, ◌+◌, ◌<◌, ◌≤◌, inl, inr, arith, refl, sym, ap, ◌∙◌, subst, Bool, true, false, List, [], length, Option, None, Some, get_or, max, eqb-true, eq-eqb, ne_eqb, lt-ltb, le-ltb}
-use Rattle.std.specs.Prelude.{◌==◌, ◌&&◌, nat_lt, if◌then◌else◌}
+use Rattle.std.proofs.Common.{◌≡◌, ◌≢◌, ℕ, zero, suc, ◌≤◌, inl, inr, arith, refl, sym, ap, ◌∙◌, Bool, true, false, List, [], length, Option, None, Some, max, eq-eqb, ne_eqb, lt-ltb, le-ltb}
+use Rattle.std.specs.Prelude.{◌&&◌, nat_lt, if◌then◌else◌}
 use Rattle.std.specs.Option.{option_map}
 use Rattle.std.proofs.lemmas.List.{ext_get_or}
 use Rattle.std.proofs.lemmas.List.FromFn.{length-map-range_with_len}
 use Rattle.sm_lists.proofs.Counting.{eq_or_ne, lt_or_le}
-use Rattle.sm_market.specs.Lists.{Lists, place_of, agents}
+use Rattle.sm_market.specs.Lists.{Lists, place_of}
 use Rattle.sm_market.specs.Matching.{Places, held}
 use Rattle.sm_theory.specs.Rotations.{proposer_at, target_at, pair_of}
 use Rattle.sm_theory.specs.Chains.{rotation_at}

@@ -1,5 +1,5 @@
 -- The places of the proposers in the matching of a set of rotations, by the moves of these.
-use Rattle.std.specs.Prelude.{◌≡◌, ℕ, zero, suc, ◌<◌, ◌==◌, if◌then◌else◌, max, Bool, Option, List, length}
+use Rattle.std.specs.Prelude.{◌≡◌, ℕ, zero, suc, ◌==◌, if◌then◌else◌, max, Bool, Option, List, length}
 use Rattle.std.specs.Option.{option_map}
 use Rattle.sm_market.specs.Matching.{held}
 use Rattle.sm_theory.specs.ClosedSets.{is_member}

@@ -1,5 +1,5 @@
 -- The moves and the net of three proposers who go round in a cycle.
-use Rattle.std.specs.Prelude.{◌≡◌, ℕ, true, false, List, [], ◌∷◌, ◌++◌, ℤ, pos, negsuc, map}
+use Rattle.std.specs.Prelude.{◌≡◌, ℕ, true, false, List, [], ◌∷◌, ◌++◌, pos, negsuc, map}
 use Rattle.sm_theory.specs.Witnesses.{three_cycle, three_cycle_first, three_cycle_chain}
 use Rattle.sm_theory.specs.WitnessesFlows.{three_cycle_levels, three_cycle_weights, three_cycle_needs, middle}
 use Rattle.sm_theory.specs.WitnessesLines.{line, three_cycle_lines}
