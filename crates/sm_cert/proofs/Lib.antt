@@ -3,6 +3,7 @@ mod JudgedLaws
 mod LayoutLemmas
 mod JudgingLemmas
 mod ListingLemmas
+mod SolvingLemmas
 mod VectorLemmas
 mod LeftLemmas
 mod TakingLemmas
@@ -17,4 +18,5 @@ pub mod WantedLemmas
 mod WeightLemmas
 mod PersonLemmas
 mod CoupleLemmas
+mod PartyLemmas
 pub mod ChosenLemmas

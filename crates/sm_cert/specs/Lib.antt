@@ -18,8 +18,10 @@ pub mod Listing
 pub mod Walking
 pub mod PairsKept
 pub mod WantedKept
+pub mod Solving
 pub mod Regrets
 pub mod CouplesKept
+pub mod PartiesKept
 pub mod Laws
 pub mod Yes
 pub mod Witnesses
