@@ -9,6 +9,8 @@ mod LeftLemmas
 mod TakingLemmas
 mod SeatLemmas
 mod YesLemmas
+mod YesLines
+mod SolveYes
 mod LinewiseLemmas
 mod WitnessLemmas
 mod AnswerLemmas
