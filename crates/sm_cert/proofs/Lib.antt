@@ -1,4 +1,5 @@
 mod VerdictLaws
+mod JudgedLaws
 mod LayoutLemmas
 mod JudgingLemmas
 mod ListingLemmas
