@@ -2,11 +2,14 @@ mod VerdictLaws
 mod LayoutLemmas
 mod JudgingLemmas
 mod ListingLemmas
+mod SolvingLemmas
 mod VectorLemmas
 mod LeftLemmas
 mod TakingLemmas
 mod SeatLemmas
 mod YesLemmas
+mod YesLines
+mod SolveYes
 mod LinewiseLemmas
 mod WitnessLemmas
 mod AnswerLemmas

@@ -18,6 +18,7 @@ pub mod Listing
 pub mod Walking
 pub mod PairsKept
 pub mod WantedKept
+pub mod Solving
 pub mod Regrets
 pub mod CouplesKept
 pub mod PartiesKept

@@ -1,13 +1,10 @@
 -- The gain of a rotation by its moves.
-use Rattle.std.proofs.Common.{◌≡◌, ℕ, suc, ◌+◌, ◌<◌, ◌≤◌, arith, sym, ap, ◌∙◌, List, length, ℤ, pos, negsuc, ◌+ℤ◌, ◌-ℤ◌, neg_ℤ, ◌≤ℤ◌}
-use Rattle.std.specs.Int.RustNames.{unsigned_abs}
-use Rattle.std.proofs.lemmas.Int.{ints}
+use Rattle.std.proofs.Common.{◌≡◌, ℕ, ap, ◌∙◌, List, length, ℤ, ◌-ℤ◌}
 use Rattle.sm_market.specs.Lists.{Lists}
-use Rattle.sm_theory.specs.Rotations.{proposer_at, reviewer_at, target_at}
 use Rattle.sm_theory.specs.Weights.{total, weight_at, gain_of}
 use Rattle.sm_theory.proofs.Weighing.Totals.{total_same}
 use Rattle.sm_decide.specs.declared.moves.Move.{Move}
-use Rattle.sm_decide.specs.Moves.{move_at, move_gain, moves_gain, IsMoveOf, AreMovesOf}
+use Rattle.sm_decide.specs.Moves.{move_at, move_gain, moves_gain, AreMovesOf}
 
 -- the sum over the moves is the gain
 pub gain_is : {l : Lists} {rotation : List (ℕ × ℕ)} {moves : List Move} (weights : List (List ℤ)) → AreMovesOf l rotation moves → moves_gain weights moves ≡ gain_of l weights rotation

@@ -1,12 +1,25 @@
 -- The laws of what decides. Each is the contract of a function of `laws`.
-use Rattle.std.specs.Prelude.{ℕ, List}
+use Rattle.std.specs.Prelude.{◌≡◌, ℕ, List, map, ℤ}
 use Rattle.sm_market.specs.Lists.{Lists, IsMarket}
 use Rattle.sm_market.specs.Matching.{Places}
 use Rattle.sm_market.specs.Stable.{IsStable}
 use Rattle.sm_theory.specs.Rotations.{IsExposed, eliminated}
+use Rattle.sm_theory.specs.Weights.{gain_of}
+use Rattle.sm_theory.specs.Conditions.{net_of}
+use Rattle.sm_decide.specs.declared.moves.Move.{Move}
+use Rattle.sm_decide.specs.Moves.{AreMoves}
+use Rattle.sm_decide.specs.Spans.{bonds_of}
+use Rattle.sm_decide.specs.CheckedNets.{NetParts, net_in, HasParts}
 use Rattle.sm_decide.specs.Exposure.{IsSearchAt}
 
 -- once an exposed rotation is eliminated, a search goes on from where it was
 abbrev pub SearchGoesOn : Type 0
 SearchGoesOn = (l : Lists) (m : Places) (rotation : List (ℕ × ℕ)) (from : List ℕ) → IsMarket l → IsStable l m → IsExposed l m rotation
     → IsSearchAt l m from → IsSearchAt l (eliminated l m rotation) from
+
+-- by the moves of the rotations of a chain, the gains, the needs and the bonds make the net of gains, predecessors and conditions
+abbrev pub NetIsOf : Type 0
+NetIsOf = (l : Lists) (levels : List (List ℕ)) (weights : List (List ℤ)) (forced forbidden : List (ℕ × ℕ)) (first : Places) (rotations : List (List (ℕ × ℕ))) (needs : List (List ℕ)) (rows : List (List Move)) (parts : NetParts)
+    → AreMoves l rotations rows
+    → HasParts parts (map (gain_of l weights) rotations) needs (bonds_of levels first.proposers rows forced forbidden)
+    → net_in parts ≡ net_of l levels weights forced forbidden first rotations needs

@@ -12,3 +12,6 @@ pub mod Repeats
 pub mod Reaching
 pub mod Residual
 pub mod Moves
+pub mod Spans
+pub mod SetPlaces
+pub mod WitnessesNets

@@ -1,8 +1,13 @@
-//! A law of searches. Each function does nothing: its contract is the law, a statement over the definitions alone.
+//! Laws of searches and of nets. Each function does nothing: its contract is the law, a statement over the definitions alone.
 
-ghost use Rattle.sm_decide.specs.Laws.{SearchGoesOn};
+ghost use Rattle.sm_decide.specs.Laws.{SearchGoesOn, NetIsOf};
 
 /// Once an exposed rotation is eliminated, a search goes on from where it was.
 pub fn search_goes_on()
     ensures { SearchGoesOn }
+{}
+
+/// By the moves of the rotations of a chain, the gains, the needs and the bonds make the net of gains, predecessors and conditions.
+pub fn net_is_of()
+    ensures { NetIsOf }
 {}

@@ -12,6 +12,7 @@
 #![tactic(auto)]
 
 mod best;
+mod closed;
 mod couples;
 mod exposure;
 mod flow_sums;
@@ -26,10 +27,13 @@ mod reduced;
 mod repeats;
 mod residual;
 mod room_lists;
+mod set_matching;
+mod spans;
 mod trail;
 pub mod witnesses;
 
 pub use best::{is_proposers_best, is_reviewers_best};
+pub use closed::is_closed;
 pub use couples::is_room_stable;
 pub use exposure::Search;
 pub use flow_sums::{amount_from_source, is_conserved};
@@ -41,3 +45,5 @@ pub use reduced::{is_reduced_proposer_list, is_reduced_reviewer_list};
 pub use repeats::repeated_lines;
 pub use residual::is_residual_reach;
 pub use room_lists::RoomLists;
+pub use set_matching::set_places;
+pub use spans::bonds;
