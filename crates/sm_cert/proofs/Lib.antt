@@ -3,6 +3,8 @@ mod LayoutLemmas
 mod JudgingLemmas
 mod ListingLemmas
 mod SolvingLemmas
+mod SeatPairLemmas
+mod WalkLemmas
 mod VectorLemmas
 mod LeftLemmas
 mod TakingLemmas

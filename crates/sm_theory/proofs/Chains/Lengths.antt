@@ -60,10 +60,14 @@ module _ {s : Sides} {t : ℕ} {M : ℕ → Stand} {c : ℕ → Cycle} (ch : Way
   pub chain_short : t ≤ sum_below s.len s.bound
   chain_short = omega (arith, stage_sum t (omega arith), sums_le ((M t).a) s.len s.bound (λ p. (ch.fit t (omega arith)).left.within p))
 
-pub few_eliminable : {l : Lists} {first : Places} {rotations : List (List (ℕ × ℕ))} → IsMarket l → IsWithinLimits l → IsMatching l first → AreEliminable l first rotations → length rotations < 2 ^ 24
-few_eliminable {l} {first} {rotations} h limits f chain =
+-- rotations that can be eliminated one after the other are no more than the entries of the proposers' lists
+pub short_eliminable : {l : Lists} {first : Places} {rotations : List (List (ℕ × ℕ))} → IsMarket l → IsMatching l first → AreEliminable l first rotations → length rotations ≤ sum_by (λ list. length list) l.proposers
+short_eliminable {l} {first} {rotations} h f chain =
     let short : length rotations ≤ sum_below (λ p. length (row l.proposers p)) (length l.proposers) = chain_short (way_along h f chain) in
-    omega (arith, sum_of_lengths l.proposers (length l.proposers) (omega arith), limits.proposers.entries)
+    omega (arith, sum_of_lengths l.proposers (length l.proposers) (omega arith))
+
+pub few_eliminable : {l : Lists} {first : Places} {rotations : List (List (ℕ × ℕ))} → IsMarket l → IsWithinLimits l → IsMatching l first → AreEliminable l first rotations → length rotations < 2 ^ 24
+few_eliminable h limits f chain = omega (arith, short_eliminable h f chain, limits.proposers.entries)
 
 pub few_rotations : {l : Lists} {first : Places} {rotations : List (List (ℕ × ℕ))} → IsMarket l → IsWithinLimits l → IsCompleteChain l first rotations → length rotations < 2 ^ 24
 few_rotations h limits chain = few_eliminable h limits chain.from_best.stable.matching (eliminable_of chain)
