@@ -1,6 +1,6 @@
 -- The walk through the lines of an answer: the clauses hold above a line, and something is kept for the lines below.
-use Rattle.std.proofs.Common.{◌≡◌, ℕ, ◌+◌, ◌<◌, ◌≤◌, arith, refl, sym, ap, ◌∙◌, subst, ⊎_elim, List, [], ◌∷◌, ◌++◌, length, map, take, get_or, Option, None, Some, lit≤}
-use Rattle.std.specs.Prelude.{IfSome, All, filter_map}
+use Rattle.std.proofs.Common.{◌≡◌, ℕ, ◌+◌, ◌<◌, ◌≤◌, arith, refl, ap, ◌∙◌, subst, ⊎_elim, List, [], ◌∷◌, ◌++◌, length, map, take, get_or, Option, None, Some, lit≤}
+use Rattle.std.specs.Prelude.{All, filter_map}
 use Rattle.std.specs.List.{slice_get, cons_option}
 use Rattle.std.specs.Option.{option_or}
 use Rattle.std.proofs.lemmas.Bool.{cases_lt}
@@ -13,6 +13,7 @@ use Rattle.sm_cert.specs.declared.verdicts.Reason.{Reason}
 use Rattle.sm_cert.specs.declared.verdicts.Reason.TheVariants as reason
 use Rattle.sm_cert.specs.declared.verdicts.Verdict.TheVariants as verdict
 use Rattle.sm_cert.specs.Verdicts.{AtLine, IsVerdict, IsFirstThere, Finds, number_of_reason}
+use Rattle.sm_cert.specs.Walking.{FindsOrKeeps}
 use Rattle.sm_cert.proofs.JudgingLemmas.{first_failure, one_more, line_at, found_at, past_end, above_next}
 
 -- what holds of all lines, of one that is read
@@ -38,6 +39,11 @@ first_more said (y ∷ ys) x = refl
 pub found_by : {A B : Reason → Type 0} → ((why : Reason) → A why → B why) → ((why : Reason) → B why → A why) → (r : Option Reason) → Finds A r → Finds B r
 found_by to from None all = λ why. to why (all why)
 found_by to from (Some why) f = record { clauses_before = λ other l. to other (f.clauses_before other l); fails = λ h. f.fails (from why h) }
+
+-- what is kept is kept as anything that follows of it
+pub kept_as : (Holds : Reason → Type 0) {A B : Type 0} → (A → B) → (r : Option Reason) → FindsOrKeeps Holds A r → FindsOrKeeps Holds B r
+kept_as Holds f None found = (found.0, f found.1)
+kept_as Holds f (Some why) found = found
 
 -- the clause of the first reason, where it fails
 least_reason : (why : Reason) → 1 ≤ number_of_reason why

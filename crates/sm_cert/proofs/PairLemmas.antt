@@ -1,13 +1,12 @@
 -- The pairs that are written so far, and one more.
-use Rattle.std.proofs.Common.{◌≡◌, ◌≢◌, ℕ, ◌+◌, ◌<◌, ◌≤◌, ◌==◌, cond, Bool, true, false, List, [], ◌∷◌, ◌++◌, Option, Some, None, IsSome, length, map, get_or, set, replicate, refl, sym, ap, ◌∙◌, subst, arith}
+use Rattle.std.proofs.Common.{◌≡◌, ℕ, ◌+◌, ◌<◌, ◌==◌, cond, Bool, true, false, List, [], ◌∷◌, ◌++◌, Some, None, IsSome, length, get_or, set, replicate, sym, ap, ◌∙◌, subst, arith}
 use Rattle.std.specs.List.{sum_by}
 use Rattle.std.proofs.lemmas.List.{get_or-replicate}
 use Rattle.std.proofs.lemmas.List.Sums.{sum_by-append, sum_by-cons}
-use Rattle.std.specs.Option.{option_map}
-use Rattle.sm_instance.specs.Written.{Written, entry, place_of, capacity_of, IsAcceptable}
-use Rattle.sm_instance.specs.Matching.{held, load, load_before, IsMatching}
+use Rattle.sm_instance.specs.Written.{Written, entry, place_of}
+use Rattle.sm_instance.specs.Matching.{held, load, IsMatching}
 use Rattle.sm_lists.proofs.PlaceLemmas.{get_or-place_on}
-use Rattle.sm_pairs.specs.Holding.{IsHolding, loads_of, CantAdd, Added, Adds}
+use Rattle.sm_pairs.specs.Holding.{loads_of, CantAdd, Added, Adds}
 use Rattle.sm_pairs.specs.declared.holding.Holding.{Holding}
 use Rattle.sm_pairs.proofs.HoldingLemmas.{no_places, no_loads, nobody, load_at, load_set, none_given, some_given, places_later}
 use Rattle.sm_pairs.specs.Held.{partner_in, places_in}

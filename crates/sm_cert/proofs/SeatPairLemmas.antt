@@ -1,6 +1,6 @@
 -- The pairs of a proposer and a seat that are written so far, and one more.
-use Rattle.std.proofs.Common.{◌≡◌, ◌≢◌, ℕ, zero, suc, ◌+◌, ◌<◌, ◌≤◌, ◌==◌, ◌⊎◌, inl, inr, cond, not, Bool, true, false, List, [], ◌∷◌, ◌++◌, Option, Some, None, IsSome, length, map, get_or, set, replicate, refl, sym, ap, ◌∙◌, subst, arith, eqb-true, eq-eqb}
-use Rattle.std.specs.List.{range_with_len, sum_by}
+use Rattle.std.proofs.Common.{◌≡◌, ◌≢◌, ℕ, zero, suc, ◌+◌, ◌<◌, ◌==◌, ◌⊎◌, inl, inr, cond, not, Bool, true, false, List, [], ◌∷◌, ◌++◌, Option, Some, None, IsSome, length, map, get_or, set, replicate, refl, sym, ap, ◌∙◌, subst, arith, eqb-true, eq-eqb}
+use Rattle.std.specs.List.{range_with_len}
 use Rattle.std.specs.Option.{option_map}
 use Rattle.std.proofs.lemmas.Bool.{cases_lt, false≢true, ne_eqb}
 use Rattle.std.proofs.lemmas.Bool.Decides.{eqb_tells}
@@ -8,8 +8,8 @@ use Rattle.std.proofs.lemmas.Option.{none-some}
 use Rattle.std.proofs.lemmas.List.{get_or-replicate, get_or_past, length-set, get_or-set_same, get_or-set_other, length-replicate}
 use Rattle.std.proofs.lemmas.List.Sums.{sum_by-cons}
 use Rattle.sm_lists.proofs.PlaceLemmas.{get_or-place_on}
-use Rattle.sm_market.specs.Lists.{Lists, row, entry, place_of, agents, IsMarket}
-use Rattle.sm_market.specs.Matching.{Places, held, standing}
+use Rattle.sm_market.specs.Lists.{Lists, row, entry, place_of, IsMarket}
+use Rattle.sm_market.specs.Matching.{held, standing}
 use Rattle.sm_market.specs.Pairing.{Paired, IsPairingOf}
 use Rattle.sm_market.specs.PairingFaults.{AreHeld, IsPastList, IsTaken}
 use Rattle.sm_market.specs.Stable.{IsStable}
@@ -195,14 +195,8 @@ module _ {l : Lists} {pairs : List (ℕ × ℕ)} {before : SeatPairs} (k : AreSe
             get_or-set_other before.taken.items s r true false x.1 ∙ k.taken r r_in ∙ ap (λ n. not (n == 0)) (sym same)
 
     -- or it can't stand there
-    pub not_listed : place_of l.proposers p s ≡ length (row l.proposers p) → ¬ IsFreeSeat l pairs (p, s)
-    not_listed e free = omega (arith, e, free.acceptable)
-
     pub not_alone : IsSome (held before.places.items p) → ¬ IsFreeSeat l pairs (p, s)
     not_alone some free = let none = held_is p p_in ∙ ap (option_map (place_of l.proposers p)) free.proposer_free in let x = subst IsSome none some in cc
-
-    pub not_free : get_or before.taken.items s false ≡ true → ¬ IsFreeSeat l pairs (p, s)
-    not_free e free = false≢true (sym (ap (λ n. not (n == 0)) free.seat_free) ∙ sym (k.taken s s_in) ∙ e)
 
   -- the matching that is made of the places that are kept
   pub made_is : IsMarket l → (m : Paired) → IsPairingOf l m → m.places.proposers ≡ before.places.items → m.places ≡ seat_places_in l pairs

@@ -114,7 +114,10 @@ impl Walk {
         ensures { (first : Places) (rotations : List (List (ℕ × ℕ))) → IsWalk market.now first rotations self.old
             → StepsAlong market.now first rotations rotation.now.pairs.items self.old self.new result }
     {
-        if !self.search.is_lowest_exposed(market, &self.matching, rotation) {
+        if !self
+            .search
+            .is_lowest_exposed(market, &self.matching, rotation)
+        {
             return false;
         }
         self.notes.note(market, &self.matching, rotation);

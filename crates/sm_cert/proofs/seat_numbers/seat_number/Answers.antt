@@ -1,4 +1,4 @@
-use Rattle.std.proofs.Common.{◌≡◌, ◌+◌, ◌-◌, arith, ap}
+use Rattle.std.proofs.Common.{◌+◌, ◌-◌, arith, ap}
 use Rattle.sm_cert.proofs.SeatLemmas.{firsts_long, number_is, number_below, number_there, seat_bounds}
 use Rattle.sm_cert.proofs.seat_numbers.seat_number.Goals as goal
 

@@ -1,5 +1,5 @@
-use Rattle.std.proofs.Common.{◌≡◌, sym, ◌∙◌, arith}
-use Rattle.sm_market.specs.Lists.{row, place_of}
+use Rattle.std.proofs.Common.{sym, ◌∙◌, arith}
+use Rattle.sm_market.specs.Lists.{row}
 use Rattle.sm_lists.proofs.PlaceLemmas.{place_on_is, place_on-none}
 use Rattle.sm_cert.proofs.seat_pairs.place_of.Goals as goal
 

@@ -1,4 +1,4 @@
-use Rattle.std.proofs.Common.{◌≡◌, ◌≢◌, ℕ, ◌<◌}
+use Rattle.std.proofs.Common.{◌≢◌, ℕ, ◌<◌}
 use Rattle.sm_market.specs.Lists.{entry}
 use Rattle.sm_cert.proofs.seat_pairs.place_of.Given as goal
 

@@ -1,4 +1,4 @@
-use Rattle.std.proofs.Common.{◌≡◌, ◌<◌, ◌∙◌, length, get_or, true, false, refl, sym, arith}
+use Rattle.std.proofs.Common.{◌<◌, ◌∙◌, length, false, refl, sym, arith}
 use Rattle.std.proofs.lemmas.List.{get_or_default}
 use Rattle.sm_pairs.proofs.HoldingLemmas.{some_there, none_there}
 use Rattle.sm_cert.proofs.SeatPairLemmas.{takes, not_alone}

@@ -1,5 +1,4 @@
 use Rattle.std.proofs.Common.{◌∙◌}
-use Rattle.std.proofs.lemmas.Result.{IfOk-weaker}
 use Rattle.sm_lists.proofs.ResultLemmas.{IfOk-both}
 use Rattle.sm_cert.proofs.SeatPairLemmas.{made_is}
 use Rattle.sm_cert.proofs.seat_pairs.SeatPairs.pairing.Goals as goal

@@ -1,4 +1,4 @@
-use Rattle.std.proofs.Common.{◌≡◌, refl, ◌∙◌}
+use Rattle.std.proofs.Common.{refl, ◌∙◌}
 use Rattle.sm_cert.proofs.walk.Walk.of.Goals as goal
 
 pub returns-clause-walk : goal.returns-clause-walk

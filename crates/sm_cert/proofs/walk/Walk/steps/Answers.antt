@@ -1,4 +1,4 @@
-use Rattle.std.proofs.Common.{◌≡◌, refl}
+use Rattle.std.proofs.Common.{refl}
 use Rattle.sm_cert.proofs.WalkLemmas.{room, stepped}
 use Rattle.sm_cert.proofs.walk.Walk.steps.Goals as goal
 
