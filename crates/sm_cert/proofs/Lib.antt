@@ -4,6 +4,9 @@ mod LayoutLemmas
 mod JudgingLemmas
 mod ListingLemmas
 mod SolvingLemmas
+mod SeatPairLemmas
+mod ChainLengths
+mod WalkLemmas
 mod VectorLemmas
 mod LeftLemmas
 mod TakingLemmas

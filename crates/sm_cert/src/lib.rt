@@ -5,6 +5,7 @@
 #![tactic(auto)]
 
 mod answers;
+mod chain;
 mod chosen;
 mod couples;
 mod faults;
@@ -19,11 +20,15 @@ mod parties;
 mod persons;
 mod reading;
 mod regret;
+mod seat_numbers;
+mod seat_pairs;
 mod solving;
 mod verdicts;
+mod walk;
 mod wanted;
 pub mod witnesses;
 
+pub use chain::rotations_verdict;
 pub use chosen::chosen_verdict;
 pub use couples::couples_verdict;
 pub use faults::AnswerFault;
