@@ -1,4 +1,5 @@
 mod VerdictLaws
+mod JudgedLaws
 mod LayoutLemmas
 mod JudgingLemmas
 mod ListingLemmas
@@ -8,6 +9,8 @@ mod LeftLemmas
 mod TakingLemmas
 mod SeatLemmas
 mod YesLemmas
+mod YesLines
+mod SolveYes
 mod LinewiseLemmas
 mod WitnessLemmas
 mod AnswerLemmas

@@ -1,6 +1,6 @@
 //! Answers of `list`.
 
-ghost use Rattle.std.specs.Prelude.{◌≡◌, ℕ, ◌<◌, ◌≤◌, ◌+◌, ◌-◌, ◌^◌, ◌↔◌, ◌∷◌, [], true, length, IsTrue, IfOk, IfSome, map, take, nat_le, if◌then◌else◌, Some, None, slice_index};
+ghost use Rattle.std.specs.Prelude.{All, ◌≡◌, ℕ, ◌<◌, ◌≤◌, ◌+◌, ◌-◌, ◌^◌, ◌↔◌, ◌∷◌, [], true, length, IsTrue, IfOk, IfSome, map, take, nat_le, if◌then◌else◌, Some, None, slice_index};
 ghost use Rattle.std.specs.Option.{option_map};
 ghost use Rattle.sm_instance.specs.Written.{row};
 ghost use Rattle.sm_instance.specs.Matching.{IsAssignment};
@@ -10,8 +10,10 @@ ghost use Rattle.sm_cert.specs.Verdicts.{Finds, AtLine, IsVerdict};
 ghost use Rattle.sm_report.specs.Lines.{line_of};
 ghost use Rattle.sm_cert.specs.Said.{vectors_in};
 ghost use Rattle.sm_cert.specs.Forms.{fits_two};
-ghost use Rattle.std.specs.List.{list_all};
-ghost use Rattle.sm_cert.specs.Vectors.{ListClauses, ListHolds, MoreHolds, VectorHolds, places_of_ranks, order_of};
+ghost use Rattle.sm_report.specs.Heads.HeadData.{List as ListHead};
+ghost use Rattle.sm_cert.specs.Judges.{IsOwnLine};
+ghost use Rattle.sm_cert.specs.Judging.{answer, Clauses};
+ghost use Rattle.sm_cert.specs.Vectors.{ListHolds, MoreHolds, VectorHolds, places_of_ranks, order_of};
 
 use crate::verdicts::{Reason, Verdict};
 use sm_instance::{Assignment, Instance};
@@ -36,10 +38,11 @@ pub fn list_verdict(
     first_line: u32,
 ) -> Result<Verdict, AllocError>
     requires few { first_line + length lines.now < 2 ^ 32 }
-    requires fitting { list_all (fits_two instance.now) (map line_of lines.now) ≡ true }
+    requires own { All (IsOwnLine (answer instance.now (ListHead (option_map (λ b. b.now) after) limit)))
+        (map line_of lines.now) }
     requires after_each { IfSome after (λ b. length b.now ≡ length instance.now.proposers) }
     ensures { IfOk result (λ v. IsVerdict
-        (AtLine (ListClauses instance.now (option_map (λ b. b.now) after.entry) limit)
+        (AtLine (Clauses (answer instance.now (ListHead (option_map (λ b. b.now) after.entry) limit)))
         (map line_of lines.now)) first_line v) }
 {
     let mut a = Assignment {

@@ -2,21 +2,20 @@ use Rattle.std.proofs.Common.{refl, map, subst}
 use Rattle.std.specs.Option.{option_map}
 use Rattle.sm_report.specs.Lines.{line_of}
 use Rattle.sm_cert.specs.Verdicts.{AtLine, Finds}
-use Rattle.sm_cert.specs.Forms.{fits_two}
+use Rattle.sm_cert.specs.Judges.{IsOwnLine}
 use Rattle.sm_cert.specs.Vectors.{ListClauses}
-use Rattle.sm_cert.proofs.JudgingLemmas.{first_failure, line_at, passes_at}
+use Rattle.sm_cert.proofs.AnswerLemmas.{line_right}
+use Rattle.sm_cert.proofs.JudgingLemmas.{first_failure, line_at}
 use Rattle.sm_cert.proofs.ListingLemmas.{list_found, list_step}
 use Rattle.sm_cert.proofs.listing.list_verdict.Goals as goal
 
 pub line_fault-requires-clause-fits : goal.line_fault-requires-clause-fits
 line_fault-requires-clause-fits c =
-    passes_at (fits_two c.args.instance.now) (map line_of c.args.lines.now) c.loop-k.k (line_of c.index-lines-k.result) c.requires.fitting
-    (line_at c.args.lines.now c.loop-k.k c.index-lines-k.result c.loop-k-test.true c.index-lines-k.is)
+    (line_right (IsOwnLine _) c.args.lines.now c.loop-k.k c.index-lines-k.result c.loop-k-test.true c.index-lines-k.is c.requires.own).fitting
 
 pub last_vector-before-requires-clause-fits : goal.last_vector-before-requires-clause-fits
 last_vector-before-requires-clause-fits c =
-    passes_at (fits_two c.args.instance.now) (map line_of c.args.lines.now) c.loop-k.k (line_of c.index-lines-k.result) c.requires.fitting
-    (line_at c.args.lines.now c.loop-k.k c.index-lines-k.result c.loop-k-test.true c.index-lines-k.is)
+    (line_right (IsOwnLine _) c.args.lines.now c.loop-k.k c.index-lines-k.result c.loop-k-test.true c.index-lines-k.is c.requires.own).fitting
 
 pub returns-in-Some : goal.returns-in-Some
 returns-in-Some c =
