@@ -8,7 +8,7 @@ use Rattle.sm_market.proofs.PairingLemmas.{held_in_range}
 use Rattle.sm_theory.specs.Rotations.{proposer_at, IsExposed}
 use Rattle.sm_decide.specs.Laws.{MovesHaveWeights, MovesHaveLevels}
 use Rattle.sm_decide.specs.declared.moves.Move.{Move}
-use Rattle.sm_decide.specs.Moves.{move_at, move_gain, moves_gain, IsMoveOf, IsOnList, AreMovesOf, AreOnLists}
+use Rattle.sm_decide.specs.Moves.{move_at, move_gain, moves_gain, IsMoveOf, IsOnList, AreMovesOf}
 
 -- the sum over the moves is the gain
 pub gain_is : {l : Lists} {rotation : List (ℕ × ℕ)} {moves : List Move} (weights : List (List ℤ)) → AreMovesOf l rotation moves → moves_gain weights moves ≡ gain_of l weights rotation
