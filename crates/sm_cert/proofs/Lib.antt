@@ -10,6 +10,8 @@ mod SeatLemmas
 mod YesLemmas
 mod YesLines
 mod SolveYes
+mod CouplesYes
+mod NoneYes
 mod LinewiseLemmas
 mod WitnessLemmas
 mod AnswerLemmas

@@ -31,7 +31,7 @@ only_one {X} {x} {y} c = go c.0 c.1 c.2
     go zero l e = e
     go (suc k) l e = absurd (omega (arith, l))
 
-no_partner : {r : ℕ} → ◌≡◌ {A = Option ℕ} None (Some r) → ⊥
+pub no_partner : {r : ℕ} → ◌≡◌ {A = Option ℕ} None (Some r) → ⊥
 no_partner e = grind arith
 
 -- whom pairs give somebody stands with it in one of them

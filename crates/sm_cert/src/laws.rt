@@ -2,7 +2,7 @@
 //! over the definitions alone.
 
 ghost use Rattle.sm_cert.specs.Laws.{OneVerdict, WholeIsBegun, WholeEnds};
-ghost use Rattle.sm_cert.specs.Yes.{ListYes, SolveYes};
+ghost use Rattle.sm_cert.specs.Yes.{ListYes, SolveYes, CouplesYes, NoneYes};
 
 /// There is no more than one verdict on an answer.
 pub fn one_verdict()
@@ -28,4 +28,15 @@ pub fn list_yes()
 /// best for the side it names: each pair of that matching stands once, and no other pair does.
 pub fn solve_yes()
     ensures { SolveYes }
+{}
+
+/// Where an answer of `solve` over roommates writes a matching and gets a yes, its pairs are the couples of a stable matching:
+/// each couple stands once, its lower-numbered person first, and no other pair does.
+pub fn couples_yes()
+    ensures { CouplesYes }
+{}
+
+/// Where an answer of `solve` over roommates says that there is no stable matching and gets a yes, there is none.
+pub fn none_yes()
+    ensures { NoneYes }
 {}
