@@ -24,7 +24,7 @@ use Rattle.sm_cert.specs.Yes.{AreApart, IsCoupled, CouplesYes}
 use Rattle.sm_cert.proofs.PersonLemmas.{of_among}
 use Rattle.sm_cert.proofs.JudgingLemmas.{passes_at}
 use Rattle.sm_cert.proofs.CoupleLemmas.{partner_behind, partner_there, none_where}
-use Rattle.sm_cert.proofs.SolveYes.{held_there, only_one, no_partner, given_there, pair_there, apart_more}
+use Rattle.sm_cert.proofs.YesPairs.{held_there, only_one, no_partner, given_there, pair_there, apart_more}
 use Rattle.sm_cert.proofs.YesLines.{IsRight, right_couples, at_closing, said_above, grown}
 
 -- Couples of which each was free behind those before it.

@@ -9,6 +9,8 @@ mod TakingLemmas
 mod SeatLemmas
 mod YesLemmas
 mod YesLines
+mod YesPairs
+mod GroupLemmas
 mod SolveYes
 mod CouplesYes
 mod NoneYes

@@ -22,7 +22,7 @@ use Rattle.sm_cert.specs.PartiesKept.{is_among, follower}
 use Rattle.sm_cert.specs.Yes.{NoneYes}
 use Rattle.sm_cert.proofs.PersonLemmas.{among_of, of_among}
 use Rattle.sm_cert.proofs.PartyLemmas.{times_more, once_least, twice_least, stands_at, among_at, next_there, next_other, follows}
-use Rattle.sm_cert.proofs.SolveYes.{only_one}
+use Rattle.sm_cert.proofs.YesPairs.{only_one}
 use Rattle.sm_cert.proofs.YesLines.{IsRight, right_parties, at_closing, said_above, each_line, grown}
 
 -- Parties each of which was new behind those before it.

@@ -1,14 +1,15 @@
 -- What a yes on an answer means.
 use Rattle.std.specs.Prelude.{◌≡◌, ◌≢◌, ℕ, ◌+◌, ◌<◌, ◌≤◌, ◌↔◌, List, [], ◌∷◌, length, filter_map, Option, None, Some, slice_index_or, Contains}
 use Rattle.std.specs.List.{slice_get}
-use Rattle.sm_instance.specs.Written.{Written, AgentData, place_of, lists_of}
-use Rattle.sm_instance.specs.Matching.{held}
+use Rattle.sm_instance.specs.Written.{Written, AgentData, lists_of}
 use Rattle.sm_instance.specs.Stable.{IsStable}
 use Rattle.sm_instance.specs.Allowed.{IsAllowed}
 use Rattle.sm_instance.specs.Ranks.{IsBefore, regret_of}
 use Rattle.sm_instance.specs.declared.kinds.Side.{Side}
 use Rattle.sm_instance.specs.declared.inputs.Input.{Input}
 use Rattle.sm_instance.specs.declared.inputs.Input.TheVariants.{Two, Room}
+use Rattle.sm_market.specs.Lists.{place_of}
+use Rattle.sm_market.specs.Matching.{held}
 use Rattle.sm_theory.specs.Listings.{IsBehind}
 use Rattle.sm_theory.specs.Rooms.{mate_of, IsRoomStable}
 use Rattle.sm_theory.specs.declared.choice.Choice.{Choice}
@@ -50,16 +51,16 @@ ListYes = (w : Written) (after : Option (List ℕ)) (limit : ℕ) (lines : List 
 abbrev pub AreApart : List (ℕ × ℕ) → Type 0
 AreApart pairs = (i j : ℕ) → i < j → j < length pairs → (pair_at pairs i).0 ≢ (pair_at pairs j).0
 
--- the pairs are those of a matching: each of them stands, once, and no other does
-pub record ArePairsOf (w : Written) (places : List (Option ℕ)) (pairs : List (ℕ × ℕ)) : Type 0 where
-  pub each : (p r : ℕ) → Contains pairs (p, r) ↔ (held places p ≡ Some (place_of w.proposers p r))
+-- over the proposers' lists the pairs are those of a matching: each of them stands, once, and no other does
+pub record ArePairsOf (rows : List (List ℕ)) (places : List (Option ℕ)) (pairs : List (ℕ × ℕ)) : Type 0 where
+  pub each : (p r : ℕ) → Contains pairs (p, r) ↔ (held places p ≡ Some (place_of rows p r))
   pub once : AreApart pairs
 
 -- a side's best stable matching
 pub record IsSolved (w : Written) (side : Side) (pairs : List (ℕ × ℕ)) : Type 0 where
   pub places : List (Option ℕ)
   pub best : IsBestOf side w places
-  pub written : ArePairsOf w places pairs
+  pub written : ArePairsOf (lists_of w.proposers) places pairs
 
 -- a yes on `solve`
 abbrev pub SolveYes : Type 0
@@ -72,7 +73,7 @@ pub record HasRegret (w : Written) (regrets : List ℕ) (pairs : List (ℕ × �
   pub stable : IsStable w places
   pub allowed : IsAllowed w places
   pub regret : regrets ≡ regret_of w places ∷ []
-  pub written : ArePairsOf w places pairs
+  pub written : ArePairsOf (lists_of w.proposers) places pairs
 
 -- a yes on `regret`
 abbrev pub RegretYes : Type 0
@@ -85,9 +86,9 @@ pub record IsChosen (choice : Choice) (w : Written) (lefts rights pairs : List (
   pub right : List (Option ℕ)
   pub left_stable : IsStable w left
   pub right_stable : IsStable w right
-  pub left_written : ArePairsOf w left lefts
-  pub right_written : ArePairsOf w right rights
-  pub written : ArePairsOf w (chosen_places choice w left right) pairs
+  pub left_written : ArePairsOf (lists_of w.proposers) left lefts
+  pub right_written : ArePairsOf (lists_of w.proposers) right rights
+  pub written : ArePairsOf (lists_of w.proposers) (chosen_places choice w left right) pairs
 
 -- a yes on `meet`, and one on `join`
 abbrev pub MeetYes : Type 0

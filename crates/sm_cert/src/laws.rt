@@ -2,7 +2,7 @@
 //! over the definitions alone.
 
 ghost use Rattle.sm_cert.specs.Laws.{OneVerdict, WholeIsBegun, WholeEnds};
-ghost use Rattle.sm_cert.specs.Yes.{ListYes, SolveYes, CouplesYes, NoneYes};
+ghost use Rattle.sm_cert.specs.Yes.{ListYes, SolveYes, CouplesYes, NoneYes, RegretYes};
 
 /// There is no more than one verdict on an answer.
 pub fn one_verdict()
@@ -39,4 +39,10 @@ pub fn couples_yes()
 /// Where an answer of `solve` over roommates says that there is no stable matching and gets a yes, there is none.
 pub fn none_yes()
     ensures { NoneYes }
+{}
+
+/// Where an answer of `regret` gets a yes, its pairs are those of a stable matching that the conditions allow, and the one
+/// regret that it names is that of this matching. It says nothing of whether another matching has a lower one.
+pub fn regret_yes()
+    ensures { RegretYes }
 {}
