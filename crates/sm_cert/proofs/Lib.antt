@@ -12,6 +12,7 @@ mod YesLines
 mod YesPairs
 mod GroupLemmas
 mod SolveYes
+mod ChosenYes
 mod CouplesYes
 mod NoneYes
 mod LinewiseLemmas

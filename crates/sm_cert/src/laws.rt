@@ -2,7 +2,7 @@
 //! over the definitions alone.
 
 ghost use Rattle.sm_cert.specs.Laws.{OneVerdict, WholeIsBegun, WholeEnds};
-ghost use Rattle.sm_cert.specs.Yes.{ListYes, SolveYes, CouplesYes, NoneYes, RegretYes};
+ghost use Rattle.sm_cert.specs.Yes.{ListYes, SolveYes, CouplesYes, NoneYes, RegretYes, MeetYes, JoinYes};
 
 /// There is no more than one verdict on an answer.
 pub fn one_verdict()
@@ -45,4 +45,16 @@ pub fn none_yes()
 /// regret that it names is that of this matching. It says nothing of whether another matching has a lower one.
 pub fn regret_yes()
     ensures { RegretYes }
+{}
+
+/// Where an answer of `meet` gets a yes, its two matchings are stable, and its pairs give each proposer the better of its two
+/// partners: each pair of that matching stands once, and no other pair does.
+pub fn meet_yes()
+    ensures { MeetYes }
+{}
+
+/// Where an answer of `join` gets a yes, its two matchings are stable, and its pairs give each proposer the worse of its two
+/// partners: each pair of that matching stands once, and no other pair does.
+pub fn join_yes()
+    ensures { JoinYes }
 {}
