@@ -12,6 +12,8 @@ mod YesLines
 mod YesPairs
 mod GroupLemmas
 mod SolveYes
+mod SeatYes
+mod ReducedYes
 mod ChosenYes
 mod CouplesYes
 mod NoneYes

@@ -5,15 +5,20 @@ use Rattle.sm_instance.specs.Written.{Written, AgentData, lists_of}
 use Rattle.sm_instance.specs.Stable.{IsStable}
 use Rattle.sm_instance.specs.Allowed.{IsAllowed}
 use Rattle.sm_instance.specs.Ranks.{IsBefore, regret_of}
+use Rattle.sm_instance.specs.Sound.{IsInstance}
 use Rattle.sm_instance.specs.declared.kinds.Side.{Side}
 use Rattle.sm_instance.specs.declared.inputs.Input.{Input}
 use Rattle.sm_instance.specs.declared.inputs.Input.TheVariants.{Two, Room}
 use Rattle.sm_market.specs.Lists.{place_of}
-use Rattle.sm_market.specs.Matching.{held}
+use Rattle.sm_market.specs.Matching.{Places, held}
+use Rattle.sm_market.specs.Stable.{IsProposersBest, IsReviewersBest}
+use Rattle.sm_market.specs.Reduced.{reduced_lists_of}
+use Rattle.sm_theory.specs.Chains.{IsPrintedChain, AreNeedsOf}
 use Rattle.sm_theory.specs.Listings.{IsBehind}
 use Rattle.sm_theory.specs.Rooms.{mate_of, IsRoomStable}
 use Rattle.sm_theory.specs.declared.choice.Choice.{Choice}
 use Rattle.sm_theory.specs.declared.choice.Choice.TheVariants.{Better, Worse}
+use Rattle.sm_seats.specs.SeatMarket.{seat_market}
 use Rattle.sm_seats.specs.Vectors.{IsAllowedRankVector}
 use Rattle.sm_pairs.specs.Held.{pair_at}
 use Rattle.sm_pairs.specs.Chosen.{chosen_places}
@@ -22,8 +27,9 @@ use Rattle.sm_report.specs.Lines.{LineData}
 use Rattle.sm_cert.specs.declared.verdicts.Verdict.TheVariants as verdict
 use Rattle.sm_cert.specs.Verdicts.{IsVerdict}
 use Rattle.sm_cert.specs.Forms.{AreAnswer}
-use Rattle.sm_cert.specs.Said.{pairs_in, lefts_in, rights_in, regret_in, vectors_in}
+use Rattle.sm_cert.specs.Said.{pairs_in, firsts_in, lasts_in, proposer_lists_in, reviewer_lists_in, rotations_in, all_needs_in, lefts_in, rights_in, regret_in, vectors_in}
 use Rattle.sm_cert.specs.Pairs.{IsBestOf}
+use Rattle.sm_cert.specs.Chain.{HasOneEach, owners, IsRowOf}
 use Rattle.sm_cert.specs.Vectors.{order_of}
 use Rattle.sm_cert.specs.Judging.{Holds}
 
@@ -115,3 +121,37 @@ CouplesYes = (persons : List AgentData) (lines : List LineData) → GetsYes (Roo
 abbrev pub NoneYes : Type 0
 NoneYes = (persons : List AgentData) (lines : List LineData) → GetsYes (Room persons) (HeadData.Solve None) lines
     → slice_get lines 1 ≡ Some LineData.Nothing → (mates : List (Option ℕ)) → ¬ IsRoomStable (lists_of persons) mates
+
+-- the lists are those of all agents, each of them once
+pub record AreListsOf (rows : List (List ℕ)) (lists : List (ℕ × List ℕ)) : Type 0 where
+  pub each : (list : ℕ × List ℕ) → Contains lists list → IsRowOf rows list
+  pub once : HasOneEach (length rows) (owners lists)
+
+-- in the market of seats the best matching of each side, and the reduced lists between the two
+pub record IsReduced (w : Written) (lines : List LineData) : Type 0 where
+  pub first : Places
+  pub last : Places
+  pub first_best : IsProposersBest (seat_market w) first
+  pub last_best : IsReviewersBest (seat_market w) last
+  pub first_written : ArePairsOf (seat_market w).proposers first.proposers (firsts_in w lines)
+  pub last_written : ArePairsOf (seat_market w).proposers last.proposers (lasts_in w lines)
+  pub proposer_lists : AreListsOf (reduced_lists_of (seat_market w) first last).proposers (proposer_lists_in w lines)
+  pub reviewer_lists : AreListsOf (reduced_lists_of (seat_market w) first last).reviewers (reviewer_lists_in w lines)
+
+-- a yes on `reduced`
+abbrev pub ReducedYes : Type 0
+ReducedYes = (w : Written) (lines : List LineData) → GetsYes (Two w) HeadData.Reduced lines → IsReduced w lines
+
+-- in the market of seats the proposers' best matching, the chain of rotations from it as it is printed, and what each of the
+-- rotations needs
+pub record IsChainWritten (w : Written) (lines : List LineData) : Type 0 where
+  pub first : Places
+  pub first_written : ArePairsOf (seat_market w).proposers first.proposers (firsts_in w lines)
+  pub chain : IsPrintedChain (seat_market w) first (rotations_in w lines)
+  pub one_each : length (all_needs_in lines) ≡ length (rotations_in w lines)
+  pub needs : (j : ℕ) → j < length (rotations_in w lines)
+      → AreNeedsOf (seat_market w) (rotations_in w lines) j (slice_index_or (all_needs_in lines) j [])
+
+-- a yes on `rotations`
+abbrev pub RotationsYes : Type 0
+RotationsYes = (w : Written) (lines : List LineData) → IsInstance w → GetsYes (Two w) HeadData.Rotations lines → IsChainWritten w lines

@@ -2,7 +2,7 @@
 //! over the definitions alone.
 
 ghost use Rattle.sm_cert.specs.Laws.{OneVerdict, WholeIsBegun, WholeEnds};
-ghost use Rattle.sm_cert.specs.Yes.{ListYes, SolveYes, CouplesYes, NoneYes, RegretYes, MeetYes, JoinYes};
+ghost use Rattle.sm_cert.specs.Yes.{ListYes, SolveYes, CouplesYes, NoneYes, RegretYes, MeetYes, JoinYes, ReducedYes};
 
 /// There is no more than one verdict on an answer.
 pub fn one_verdict()
@@ -57,4 +57,10 @@ pub fn meet_yes()
 /// partners: each pair of that matching stands once, and no other pair does.
 pub fn join_yes()
     ensures { JoinYes }
+{}
+
+/// Where an answer of `reduced` gets a yes, its first and last seats are the proposers' and the reviewers' best matching of the
+/// market of seats, and each proposer and each seat has one line, with its reduced list between the two.
+pub fn reduced_yes()
+    ensures { ReducedYes }
 {}
