@@ -14,6 +14,8 @@ mod GroupLemmas
 mod SolveYes
 mod SeatYes
 mod ReducedYes
+mod RotationLines
+mod RotationsYes
 mod ChosenYes
 mod CouplesYes
 mod NoneYes

@@ -2,7 +2,7 @@
 //! over the definitions alone.
 
 ghost use Rattle.sm_cert.specs.Laws.{OneVerdict, WholeIsBegun, WholeEnds};
-ghost use Rattle.sm_cert.specs.Yes.{ListYes, SolveYes, CouplesYes, NoneYes, RegretYes, MeetYes, JoinYes, ReducedYes};
+ghost use Rattle.sm_cert.specs.Yes.{ListYes, SolveYes, CouplesYes, NoneYes, RegretYes, MeetYes, JoinYes, ReducedYes, RotationsYes};
 
 /// There is no more than one verdict on an answer.
 pub fn one_verdict()
@@ -63,4 +63,11 @@ pub fn join_yes()
 /// market of seats, and each proposer and each seat has one line, with its reduced list between the two.
 pub fn reduced_yes()
     ensures { ReducedYes }
+{}
+
+/// Where an answer of `rotations` gets a yes, its first seats are the proposers' best matching of the market of seats, its
+/// rotations are the whole chain from there, each the one that begins with the lowest proposer at its turn, and behind each
+/// stand the numbers of all rotations that it needs, and no others.
+pub fn rotations_yes()
+    ensures { RotationsYes }
 {}
