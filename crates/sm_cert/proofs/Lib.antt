@@ -13,7 +13,16 @@ mod TakingLemmas
 mod SeatLemmas
 mod YesLemmas
 mod YesLines
+mod YesPairs
+mod GroupLemmas
 mod SolveYes
+mod SeatYes
+mod ReducedYes
+mod RotationLines
+mod RotationsYes
+mod ChosenYes
+mod CouplesYes
+mod NoneYes
 mod LinewiseLemmas
 mod WitnessLemmas
 mod AnswerLemmas
