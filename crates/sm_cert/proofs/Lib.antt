@@ -5,6 +5,8 @@ mod ListingLemmas
 mod SolvingLemmas
 mod SeatPairLemmas
 mod WalkLemmas
+mod SeatListLemmas
+mod ReducedLemmas
 mod VectorLemmas
 mod LeftLemmas
 mod TakingLemmas
