@@ -1,27 +1,28 @@
 -- The couples that are written so far, and one more.
-use Rattle.std.proofs.Common.{◌≡◌, ◌≢◌, ℕ, ◌+◌, ◌<◌, ◌≤◌, ◌||◌, cond, eqb, Bool, true, false, List, [], ◌∷◌, ◌++◌, Option, Some, None, IsSome, is_some, length, map, get_or, set, replicate, refl, sym, ap, ◌∙◌, subst, arith, eq-eqb, ne_eqb, ⊎_elim}
+use Rattle.std.proofs.Common.{◌≡◌, ◌≢◌, ℕ, ◌<◌, ◌||◌, cond, eqb, Bool, true, false, List, [], ◌∷◌, ◌++◌, Option, Some, None, is_some, length, set, refl, sym, ap, ◌∙◌, subst, arith, eq-eqb, ne_eqb, ⊎_elim}
 use Rattle.std.specs.Prelude.{Contains}
-use Rattle.std.specs.List.{flat_map, list_any, range_with_len}
 use Rattle.std.specs.Option.{option_or}
-use Rattle.std.proofs.lemmas.Bool.{false≢true, cases_eq, cases_lt}
+use Rattle.std.proofs.lemmas.Bool.{false≢true, cases_eq}
 use Rattle.std.proofs.lemmas.Grind.{flat_map-append}
-use Rattle.std.proofs.lemmas.List.{length-map, length-set, get_or-set_same, get_or-set_other, get_or_past, get_or-replicate, length-replicate}
+use Rattle.std.proofs.lemmas.List.{length-map, length-set, get_or-set_same, get_or-set_other}
+use Rattle.std.proofs.lemmas.List.Elements.{filter_map-append}
 use Rattle.std.proofs.lemmas.List.FromFn.{fill_by_all}
 use Rattle.sm_instance.specs.Written.{AgentData, lists_of}
 use Rattle.sm_theory.specs.Rooms.{IsAcceptable, IsRoomMatching, IsRoomStable, mate_of}
 use Rattle.sm_pairs.specs.Held.{partner_in}
-use Rattle.sm_instance.specs.declared.inputs.Input.TheVariants.{Room}
 use Rattle.sm_report.specs.Lines.{LineData}
-use Rattle.sm_report.specs.Sound.{IsLineOf, IsPrintable}
 use Rattle.sm_cert.specs.declared.verdicts.Reason.{Reason}
 use Rattle.sm_cert.specs.declared.verdicts.Reason.TheVariants as reason
-use Rattle.sm_cert.specs.Verdicts.{IsFirstThere, number_of_reason}
+use Rattle.sm_cert.specs.Verdicts.{IsFirstThere, Finds, number_of_reason}
+use Rattle.sm_cert.specs.Said.{pair_in, pairs_in}
 use Rattle.sm_cert.specs.Rooming.{persons_of, both_ways, mates_in, IsFreeCouple, CouplesHold}
-use Rattle.sm_cert.specs.CouplesKept.{AreThere, AreCouplesHeld, HasCoupled}
-use Rattle.sm_cert.proofs.PersonLemmas.{is_among, among_of, of_among}
+use Rattle.sm_cert.specs.CouplesKept.{AreCouplesHeld, AreCouplesKept, HasCoupled}
+use Rattle.sm_cert.specs.Walking.{FindsOrKeeps}
+use Rattle.sm_cert.proofs.PersonLemmas.{among_of, of_among}
+use Rattle.sm_cert.specs.PartiesKept.{is_among}
 
 -- whom pairs give somebody that has nobody in the first of them
-partner_behind : (xs ys : List (ℕ × ℕ)) (z : ℕ) → partner_in (xs ++ ys) z ≡ option_or (partner_in xs z) (partner_in ys z)
+pub partner_behind : (xs ys : List (ℕ × ℕ)) (z : ℕ) → partner_in (xs ++ ys) z ≡ option_or (partner_in xs z) (partner_in ys z)
 partner_behind [] ys z = refl
 partner_behind (x ∷ xs) ys z = go (eqb x.0 z) (partner_behind xs ys z)
   where
@@ -31,7 +32,7 @@ partner_behind (x ∷ xs) ys z = go (eqb x.0 z) (partner_behind xs ys z)
     go false e = e
 
 -- a person has somebody where it stands in a pair
-partner_there : (pairs : List (ℕ × ℕ)) (z : ℕ) → is_some (partner_in (both_ways pairs) z) ≡ is_among z (persons_of pairs)
+pub partner_there : (pairs : List (ℕ × ℕ)) (z : ℕ) → is_some (partner_in (both_ways pairs) z) ≡ is_among z (persons_of pairs)
 partner_there [] z = refl
 partner_there (x ∷ pairs) z = go (eqb x.0 z) (eqb x.1 z) (partner_there pairs z)
   where
@@ -41,7 +42,7 @@ partner_there (x ∷ pairs) z = go (eqb x.0 z) (eqb x.1 z) (partner_there pairs 
     go false true e = refl
     go false false e = e
 
-none_where : (o : Option ℕ) → is_some o ≡ false → o ≡ None
+pub none_where : (o : Option ℕ) → is_some o ≡ false → o ≡ None
 none_where None e = refl
 none_where (Some x) e = absurd (false≢true (sym e))
 
@@ -163,27 +164,16 @@ couple_holds persons pairs x y free reason.NotAMatching = free
 couple_holds persons pairs x y free reason.Blocked = λ e. absurd (false≢true e)
 couple_holds persons pairs x y free _ = tt
 
--- no couple so far
-pub none_coupled : (rows : List (List ℕ)) (mates : List (Option ℕ)) → mates ≡ replicate (length rows) None → AreCouplesHeld rows [] mates
-none_coupled rows mates is = record {
-  matching = record {
-    one_each = ap length is ∙ length-replicate (length rows) None;
-    acceptable = λ x y e. absurd (none_some (sym (nobody x) ∙ e));
-    in_turn = λ x y e. absurd (none_some (sym (nobody x) ∙ e));
-  };
-  partners = λ z _. nobody z;
-}
-  where
-    nobody : (z : ℕ) → mate_of mates z ≡ None
-    nobody z = ap (λ (m : List (Option ℕ)). mate_of m z) is ∙ ⊎_elim
-        (λ inside. get_or-replicate (length rows) z None None inside)
-        (λ past. get_or_past (replicate (length rows) None) z None (let long = length-replicate {A = Option ℕ} (length rows) None in omega arith))
-        (cases_lt z (length rows))
-
--- the persons of a couple are there
-pub couple_there : (persons : List AgentData) (n : ℕ) → n ≡ length persons → (line : LineData) → IsLineOf (Room persons) line → AreThere n line
-couple_there persons n long line sound = go line sound.printable
-  where
-    go : (line : LineData) → IsPrintable (Room persons) line → AreThere n line
-    go (LineData.Pair x y) p = let l = p.0 in let r = p.1 in (omega (arith, long), omega (arith, long))
-    go _ p = tt
+-- what is found at a line, and what is kept then
+pub couples_judged : {persons : List AgentData} {rows : List (List ℕ)} (line : LineData) (old new : List (Option ℕ)) (why : Option Reason)
+    → ((ps : List AgentData) (pairs : List (ℕ × ℕ)) → rows ≡ lists_of ps → AreCouplesHeld rows pairs old → Finds (CouplesHold ps pairs line) why)
+    → ((pairs : List (ℕ × ℕ)) → AreCouplesHeld rows pairs old → why ≡ None → AreCouplesHeld rows (pairs ++ pairs_in (line ∷ [])) new)
+    → (above : List LineData) → AreCouplesKept persons rows above old → FindsOrKeeps (CouplesHold persons (pairs_in above) line) (AreCouplesKept persons rows (above ++ line ∷ []) new) why
+couples_judged {persons} line old new (Some why) found held above k = found persons (pairs_in above) k.lists k.held
+couples_judged {persons} {rows} line old new None found held above k = (
+  found persons (pairs_in above) k.lists k.held,
+  record {
+    lists = k.lists;
+    held = subst (λ (pairs : List (ℕ × ℕ)). AreCouplesHeld rows pairs new) (sym (filter_map-append pair_in above (line ∷ []))) (held (pairs_in above) k.held refl);
+  },
+)

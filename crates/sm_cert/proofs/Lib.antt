@@ -1,9 +1,11 @@
 mod VerdictLaws
+mod JudgedLaws
 mod LayoutLemmas
 mod JudgingLemmas
 mod ListingLemmas
 mod SolvingLemmas
 mod SeatPairLemmas
+mod ChainLengths
 mod WalkLemmas
 mod SeatListLemmas
 mod ReducedLemmas
@@ -12,6 +14,17 @@ mod LeftLemmas
 mod TakingLemmas
 mod SeatLemmas
 mod YesLemmas
+mod YesLines
+mod YesPairs
+mod GroupLemmas
+mod SolveYes
+mod SeatYes
+mod ReducedYes
+mod RotationLines
+mod RotationsYes
+mod ChosenYes
+mod CouplesYes
+mod NoneYes
 mod LinewiseLemmas
 mod WitnessLemmas
 mod AnswerLemmas
@@ -21,4 +34,5 @@ pub mod WantedLemmas
 mod WeightLemmas
 mod PersonLemmas
 mod CoupleLemmas
+mod PartyLemmas
 pub mod ChosenLemmas

@@ -1,7 +1,6 @@
 -- The lists of persons are those of roommates, and who stands among whom.
-use Rattle.std.proofs.Common.{◌≡◌, ℕ, zero, suc, ◌<◌, ◌≤◌, ◌||◌, eqb, Bool, true, false, List, [], ◌∷◌, length, get_or, refl, sym, ap, ◌∙◌, arith, eq-eqb, ne_eqb, ⊎_elim}
+use Rattle.std.proofs.Common.{◌≡◌, ℕ, zero, suc, ◌<◌, ◌||◌, eqb, Bool, true, false, List, [], ◌∷◌, length, get_or, refl, sym, ap, ◌∙◌, arith, eq-eqb, ne_eqb, ⊎_elim}
 use Rattle.std.specs.Prelude.{Contains}
-use Rattle.std.specs.List.{list_any}
 use Rattle.std.proofs.lemmas.Bool.{false≢true, cases_eq}
 use Rattle.std.proofs.lemmas.List.{length-map}
 use Rattle.sm_lists.specs.Limits.{AreWithinLimits}
@@ -9,6 +8,7 @@ use Rattle.sm_instance.specs.Written.{AgentData, lists_of}
 use Rattle.sm_instance.specs.Sound.{ArePersons}
 use Rattle.sm_instance.proofs.CrossLemmas.{row-lists_of, lists_within}
 use Rattle.sm_theory.specs.Rooms.{AreRoomLists}
+use Rattle.sm_cert.specs.PartiesKept.{is_among}
 
 pub persons_within : {persons : List AgentData} → ArePersons persons → AreWithinLimits (lists_of persons)
 persons_within {persons} h = lists_within persons h.limits.proposers (let few = h.limits.entries in omega arith)
@@ -25,9 +25,6 @@ persons_listed {persons} h = record {
 }
 
 -- whether a person stands among some
-abbrev pub is_among : ℕ → List ℕ → Bool
-is_among z xs = list_any (λ y. eqb y z) xs
-
 pub among_of : (xs : List ℕ) (z : ℕ) → Contains xs z → is_among z xs ≡ true
 among_of xs z c = go xs c.0 c.1 c.2
   where

@@ -9,13 +9,16 @@ use Rattle.std.proofs.lemmas.List.{get_or-replicate, get_or_past, length-set, ge
 use Rattle.std.proofs.lemmas.List.Sums.{sum_by-cons}
 use Rattle.sm_lists.proofs.PlaceLemmas.{get_or-place_on}
 use Rattle.sm_market.specs.Lists.{Lists, row, entry, place_of, IsMarket}
-use Rattle.sm_market.specs.Matching.{held, standing}
+use Rattle.sm_market.specs.Matching.{Places, IsMatching, held, standing}
 use Rattle.sm_market.specs.Pairing.{Paired, IsPairingOf}
 use Rattle.sm_market.specs.PairingFaults.{AreHeld, IsPastList, IsTaken}
 use Rattle.sm_market.specs.Stable.{IsStable}
-use Rattle.sm_market.proofs.Bridge.{standing-none}
+use Rattle.sm_market.proofs.Bridge.{sides_of, stand_of, fit_of, standing-none}
+use Rattle.sm_market.proofs.Core.{Fit, pair_at, one_proposer}
+use Rattle.sm_market.proofs.PairingLemmas.{one_matching}
 use Rattle.sm_theory.specs.Lattice.{with_proposers}
-use Rattle.sm_theory.proofs.Bridge.Places.{row_past, held_map, with_proposers_is}
+use Rattle.sm_theory.proofs.Core.Seats.{fit_of_seats}
+use Rattle.sm_theory.proofs.Bridge.Places.{row_past, held_map, matching_with, seats_with}
 use Rattle.sm_pairs.specs.Held.{partner_in}
 use Rattle.sm_pairs.proofs.HoldingLemmas.{changed_at, here_later, other_later}
 use Rattle.sm_cert.specs.Pairs.{times_second}
@@ -23,6 +26,13 @@ use Rattle.sm_cert.specs.SeatMatchings.{IsFreeSeat, seat_places_in}
 use Rattle.sm_cert.specs.SeatPairsKept.{AreSeatPairs, HasTakenSeat}
 use Rattle.sm_cert.specs.declared.seat_pairs.SeatPairs.{SeatPairs}
 use Rattle.sm_cert.proofs.PairLemmas.{second_more}
+
+-- a matching is the one that is made of the places of its proposers
+with_proposers_is : {l : Lists} (h : IsMarket l) {m : Places} → IsMatching l m → with_proposers l m.proposers ≡ m
+with_proposers_is {l} h {m} f = one_matching (matching_with h m.proposers f.proposers.one_each f.proposers.on_list fit) f refl
+  where
+    fit : Fit (sides_of l h) (stand_of l (with_proposers l m.proposers))
+    fit = fit_of_seats (fit_of h f).left.within (λ p q r on on' e e'. one_proposer (pair_at p r (fit_of h f) on e) (pair_at q r (fit_of h f) on' e')) (seats_with h m.proposers)
 
 nothing : {X : Type 0} (x : X) (n a : ℕ) → replicate n x ≡ map (λ _. x) (range_with_len a n)
 nothing x zero a = refl

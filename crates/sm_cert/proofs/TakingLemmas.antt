@@ -149,6 +149,17 @@ parse input h (x ∷ a) (y ∷ b) rest sa sb e =
     (let t : map (text_of_line input) a ++ rest ≡ map (text_of_line input) b = cc in t) in
     record { more = deep.more; is = ap (λ z. z ∷ b) (sym same) ∙ ap (λ xs. x ∷ xs) deep.is; texts = deep.texts; sound = deep.sound }
 
+-- so a text is that of one answer alone
+pub same_lines : (input : Input) → IsInput input → (texts : List (List ℕ)) (a b : List LineData) → AreAnswer input texts a → AreAnswer input texts b → a ≡ b
+same_lines input h texts a b x y = by_rest (parse input h a b [] x.right y.right (append-nil (map (text_of_line input) a) ∙ x.read ∙ sym y.read))
+  where
+    by_more : (more : List LineData) → b ≡ a ++ more → [] ≡ map (text_of_line input) more → a ≡ b
+    by_more [] is e = sym (is ∙ append-nil a)
+    by_more (z ∷ more) is e = absurd cc
+
+    by_rest : IsRest input a b [] → a ≡ b
+    by_rest r = by_more r.more r.is r.texts
+
 -- the lines so far begin an answer
 front_of : (input : Input) (lines : List LineData) → All (IsLineOf input) lines → list_all (fits input) lines ≡ true → IsBegun input lines
     → IsFront input (map (text_of_line input) lines)

@@ -13,7 +13,6 @@ use Rattle.sm_market.specs.Stable.{IsStable}
 use Rattle.sm_theory.specs.Rotations.{IsExposed, IsLowestExposed, IsNothingExposed, eliminated}
 use Rattle.sm_theory.specs.Chains.{stage, rotation_at, AreNeedsOf}
 use Rattle.sm_theory.proofs.Bridge.Chain.{stage_before, rotation_new}
-use Rattle.sm_theory.proofs.Chains.Lengths.{short_eliminable}
 use Rattle.sm_decide.specs.Exposure.{IsSearchAt}
 use Rattle.sm_decide.specs.Noting.{IsNotesFor, AreNoted}
 use Rattle.sm_decide.proofs.NotingLemmas.{eliminable_more}
@@ -22,6 +21,7 @@ use Rattle.sm_seats.specs.SeatMarket.{seat_market}
 use Rattle.sm_report.specs.declared.lines.Seat.{Seat}
 use Rattle.sm_report.specs.declared.lines.Line.{Line}
 use Rattle.sm_report.specs.Lines.{LineData, line_of}
+use Rattle.sm_cert.proofs.ChainLengths.{short_eliminable}
 use Rattle.sm_cert.specs.declared.verdicts.Reason.{Reason}
 use Rattle.sm_cert.specs.declared.verdicts.Reason.TheVariants as reason
 use Rattle.sm_cert.specs.declared.walk.Walk.{Walk}

@@ -19,7 +19,7 @@ use Rattle.sm_cert.specs.Forms.{AreAnswer}
 use Rattle.sm_cert.specs.Said.{party_in, is_end}
 use Rattle.sm_cert.specs.Chain.{RotationsHold}
 use Rattle.sm_cert.specs.Rooming.{PartiesHold, AreNew, IsWholePartition, HasOddParty, members_of}
-use Rattle.sm_cert.specs.Judging.{parties, Clauses}
+use Rattle.sm_cert.specs.Judging.{Subject, Clauses}
 use Rattle.sm_cert.specs.Witnesses.{five, odd_answer, odd_lines, OddAnswers, two_by_two, worst_first, FirstIsntBest, seat}
 use Rattle.sm_cert.proofs.LinewiseLemmas.{AllHold, hold_at, all_hold, no_end}
 
@@ -72,7 +72,7 @@ module _ (a b c : ℕ) (first_new : AreNew [] (a ∷ b ∷ c ∷ [])) (three_new
   new_four x (zero, h, e) = rw (sym e) four_new
   new_four x (suc k, h, e) = absurd (omega (arith, h))
 
-  front_holds : AllHold (Clauses (parties five)) [] (take 5 (odd_lines (a ∷ b ∷ c ∷ [])))
+  front_holds : AllHold (Clauses (Subject.parties five)) [] (take 5 (odd_lines (a ∷ b ∷ c ∷ [])))
   front_holds = (
     head_holds [] (LineData.Answer (HeadData.Solve None)) refl refl,
     (
@@ -121,7 +121,7 @@ end_holds reason.NotPartition = (tt, λ _. whole)
 end_holds reason.NoOddParty = λ _. odd 0 1 2
 end_holds _ = tt
 
-right_holds : AllHold (Clauses (parties five)) [] (odd_lines (0 ∷ 1 ∷ 2 ∷ []))
+right_holds : AllHold (Clauses (Subject.parties five)) [] (odd_lines (0 ∷ 1 ∷ 2 ∷ []))
 right_holds = (
   head_holds [] (LineData.Answer (HeadData.Solve None)) refl refl,
   (
@@ -146,7 +146,7 @@ odd_answers = (
   record {
     lines = odd_lines (0 ∷ 1 ∷ 2 ∷ []);
     answer = right_answer;
-    judged = all_hold (Clauses (parties five)) (odd_lines (0 ∷ 1 ∷ 2 ∷ [])) right_holds;
+    judged = all_hold (Clauses (Subject.parties five)) (odd_lines (0 ∷ 1 ∷ 2 ∷ [])) right_holds;
   },
   record {
     lines = odd_lines (0 ∷ 2 ∷ 1 ∷ []);
@@ -155,7 +155,7 @@ odd_answers = (
       5,
       refl,
       record {
-        lines_above = λ j other h. hold_at (Clauses (parties five)) [] (take 5 (odd_lines (0 ∷ 2 ∷ 1 ∷ []))) (LineData.End ∷ []) (front_holds 0 2 1 once_turned refl refl) j other h;
+        lines_above = λ j other h. hold_at (Clauses (Subject.parties five)) [] (take 5 (odd_lines (0 ∷ 2 ∷ 1 ∷ []))) (LineData.End ∷ []) (front_holds 0 2 1 once_turned refl refl) j other h;
         clauses_before = before_last;
         fails = λ w. not_whole (w.1 refl);
       },

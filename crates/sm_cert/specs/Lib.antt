@@ -25,6 +25,7 @@ pub mod ListsKept
 pub mod ReducedKept
 pub mod Regrets
 pub mod CouplesKept
+pub mod PartiesKept
 pub mod Laws
 pub mod Yes
 pub mod Witnesses

@@ -1,6 +1,6 @@
 //! Answers of `meet` and `join`.
 
-ghost use Rattle.std.specs.Prelude.{◌≡◌, ◌+◌, ◌<◌, ◌^◌, All, IfOk, length, map, replicate, slice_set, None};
+ghost use Rattle.std.specs.Prelude.{◌≡◌, ◌+◌, ◌<◌, ◌^◌, All, IfOk, length, map, replicate, None};
 ghost use Rattle.sm_instance.specs.Matching.{held};
 ghost use Rattle.sm_theory.specs.Choices.{chosen};
 ghost use Rattle.sm_pairs.specs.Chosen.{head_for};
@@ -76,14 +76,14 @@ impl<'a> Judge for ChosenJudge<'a> {
                 if !joins(&mut self.left, self.instance, *p, *r) {
                     return Ok(Some(Reason::NotAMatching));
                 }
-                choose_at(self.choice, &self.left, &self.right, &mut self.wanted, *p);
+                self.wanted[*p as usize] = chosen_at(self.choice, &self.left, &self.right, *p);
                 Ok(None)
             }
             Line::RightPair(p, r) => {
                 if !joins(&mut self.right, self.instance, *p, *r) {
                     return Ok(Some(Reason::NotAMatching));
                 }
-                choose_at(self.choice, &self.left, &self.right, &mut self.wanted, *p);
+                self.wanted[*p as usize] = chosen_at(self.choice, &self.left, &self.right, *p);
                 Ok(None)
             }
             Line::Pair(p, r) => {
@@ -109,15 +109,13 @@ impl<'a> Judge for ChosenJudge<'a> {
     }
 }
 
-/// Chooses between what a proposer has in the two matchings.
-fn choose_at(choice: Choice, left: &Holding, right: &Holding, wanted: &mut [Option<u32>], p: u32)
+/// The chosen one of the two places that a proposer has.
+fn chosen_at(choice: Choice, left: &Holding, right: &Holding, p: u32) -> Option<u32>
     requires in_left { p < length left.now.places.items }
     requires in_right { p < length right.now.places.items }
-    requires in_range { p < length wanted.old }
-    ensures { wanted.new ≡ slice_set wanted.old p
-        (chosen choice (held left.now.places.items p) (held right.now.places.items p)) }
+    ensures { result ≡ chosen choice (held left.now.places.items p) (held right.now.places.items p) }
 {
-    wanted[p as usize] = chosen_place(choice, left.places[p as usize], right.places[p as usize]);
+    chosen_place(choice, left.places[p as usize], right.places[p as usize])
 }
 
 /// The matching of nobody.

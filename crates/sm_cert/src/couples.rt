@@ -2,22 +2,30 @@
 
 ghost use Rattle.std.specs.Prelude.{◌≡◌, ℕ, ◌+◌, ◌<◌, ◌^◌, ◌∷◌, ◌++◌, [], List, All, None, length, map, replicate, IfOk};
 ghost use Rattle.sm_instance.specs.Written.{AgentData, lists_of};
-ghost use Rattle.sm_instance.specs.declared.inputs.Input.TheVariants.{Room};
 ghost use Rattle.sm_theory.specs.Rooms.{IsRoomMatching};
 ghost use Rattle.sm_report.specs.Lines.{LineData, line_of};
-ghost use Rattle.sm_report.specs.Sound.{IsLineOf};
 ghost use Rattle.sm_cert.specs.Verdicts.{AtLine, Finds, IsVerdict};
 ghost use Rattle.sm_cert.specs.Said.{pairs_in};
 ghost use Rattle.sm_cert.specs.Rooming.{CouplesHold};
 ghost use Rattle.sm_cert.specs.Judging.{couples, Clauses};
+ghost use Rattle.sm_cert.specs.Judges.{IsOwnLine};
 ghost use Rattle.sm_cert.specs.CouplesKept.{AreThere, AreCouplesHeld, Couples};
 
+use crate::judging::{Judge, judge_lines};
 use crate::persons::room_lists;
 use crate::verdicts::{Reason, Verdict};
 use sm_decide::{RoomLists, is_room_stable};
 use sm_instance::Persons;
 use sm_report::Line;
 use std::alloc::{AllocError, Global};
+
+/// What is kept of an answer that writes a matching: the mate of each person so far.
+#[derive(Drop)]
+struct CouplesJudge<'a> {
+    persons: &'a Persons,
+    rooms: RoomLists<'a>,
+    mates: Vec<Option<u32>>,
+}
 
 /// The verdict on an answer of `solve` for roommates that writes a matching, of which the first line has this number. Takes
 /// time in proportion to the persons, the entries and the lines, and memory in proportion to the persons and entries.
@@ -32,12 +40,17 @@ pub fn couples_verdict(
     first_line: u32,
 ) -> Result<Verdict, AllocError>
     requires few { first_line + length lines.now < 2 ^ 32 }
-    requires right { All (IsLineOf (Room persons.now)) (map line_of lines.now) }
+    requires own { All (IsOwnLine (couples persons.now)) (map line_of lines.now) }
     ensures { IfOk result (λ v. IsVerdict (AtLine (Clauses (couples persons.now)) (map line_of lines.now)) first_line v) }
 {
     let rooms = room_lists(alloc, persons)?;
-    let mut mates = no_mates(alloc, &rooms)?;
-    judge(alloc, &rooms, &mut mates, lines, first_line)
+    let mates = no_mates(alloc, &rooms)?;
+    let judge = CouplesJudge {
+        persons,
+        rooms,
+        mates,
+    };
+    judge_lines(alloc, judge, lines, first_line)
 }
 
 /// Nobody has a mate.
@@ -47,26 +60,17 @@ fn no_mates(alloc: Global, rooms: &RoomLists) -> Result<Vec<Option<u32>>, AllocE
     Ok(vec![in alloc; None; rooms.persons() as usize]?)
 }
 
-/// The verdict on an answer over these lists, where nobody has a mate yet.
-fn judge(
-    alloc: Global,
-    rooms: &RoomLists,
-    mates: &mut [Option<u32>],
-    lines: &[Line],
-    first_line: u32,
-) -> Result<Verdict, AllocError>
-    requires few { first_line + length lines.now < 2 ^ 32 }
-    requires in_range { All (AreThere (length rooms.now)) (map line_of lines.now) }
-    requires none { mates.old ≡ replicate (length rooms.now) None }
-    ensures { IfOk result (λ v. (persons : List AgentData) → rooms.now ≡ lists_of persons
-        → IsVerdict (AtLine (Clauses (couples persons)) (map line_of lines.now)) first_line v) }
-{
-    for k in 0..lines.len() {
-        if let Some(why) = line_fault(alloc, rooms, mates, &lines[k])? {
-            return Ok(Verdict::No(first_line + k as u32, why));
-        }
+impl<'a> Judge for CouplesJudge<'a> {
+    ghost use Rattle.sm_cert.specs.Judging.{couples};
+    ghost use Rattle.sm_cert.specs.CouplesKept.{AreCouplesKept};
+
+    ghost subject = { λ j. couples j.persons.now };
+
+    ghost knows = { λ j above. AreCouplesKept j.persons.now j.rooms above j.mates.items };
+
+    fn find_fault(&mut self, alloc: Global, line: &Line) -> Result<Option<Reason>, AllocError> {
+        line_fault(alloc, &self.rooms, &mut self.mates, line)
     }
-    Ok(Verdict::Yes)
 }
 
 /// The first clause that fails at a line, behind these couples. The couple of the line is kept too.

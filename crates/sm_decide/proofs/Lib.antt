@@ -16,3 +16,9 @@ pub mod ReachLemmas
 pub mod PairListLemmas
 pub mod ResidualLemmas
 pub mod MoveLemmas
+pub mod ClosedLemmas
+pub mod SpanLemmas
+pub mod NetOfLemmas
+pub mod SetPlaceLemmas
+pub mod NetWitness
+pub mod EdgeLemmas

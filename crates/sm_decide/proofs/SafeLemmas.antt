@@ -1,15 +1,14 @@
 -- Proposers that are in no exposed rotation with a proposer below a bound.
-use Rattle.std.proofs.Common.{◌≡◌, ℕ, ◌<◌, ◌≤◌, inl, inr, arith, refl, ap, ◌∙◌, length}
+use Rattle.std.proofs.Common.{◌≡◌, ℕ, ◌<◌, ◌≤◌, arith, ap, ◌∙◌, length}
 use Rattle.std.proofs.lemmas.List.FromFn.{length-map-range_with_len}
-use Rattle.sm_lists.proofs.Counting.{lt_or_le}
-use Rattle.sm_market.specs.Lists.{Lists, IsMarket}
+use Rattle.sm_market.specs.Lists.{Lists, place_of, IsMarket}
 use Rattle.sm_market.specs.Matching.{Places, IsMatching}
 use Rattle.sm_market.proofs.Bridge.{sides_of, stand_of}
 use Rattle.sm_theory.specs.Rotations.{IsSuccessor, IsNext, IsNoneBelow, proposer_at}
 use Rattle.sm_theory.proofs.Core.Cycle.{Cycle, Exposed}
-use Rattle.sm_theory.proofs.Bridge.Rotation.{cycle_of, exposed_of, exposed_back, pair_of_held, succ_at}
+use Rattle.sm_theory.proofs.Bridge.Rotation.{cycle_of, exposed_of, exposed_back, pair_of_held, succ_at, succ_back}
 use Rattle.sm_theory.proofs.Bridge.Chain.{listed, at_listed, exposed_listed}
-use Rattle.sm_theory.proofs.Chains.NoneBelow.{Safe, safe_back, safe_round}
+use Rattle.sm_theory.proofs.Chains.NoneBelow.{Safe, safe_none, safe_back, safe_round, none_below}
 use Rattle.sm_decide.specs.Exposure.{IsSafe}
 
 -- a cycle as a list
@@ -46,15 +45,10 @@ module _ {l : Lists} (h : IsMarket l) {m : Places} where
     pub safe_in_round : {bound : ℕ} {c : Cycle} → Exposed (sides_of l h) (stand_of l m) c → ((i : ℕ) → i < c.size → bound ≤ c.who i) → (i : ℕ) → i < c.size → IsSafe l m bound (c.who i)
     safe_in_round x all i less = list_safe (safe_round x all i less)
 
--- who has no successor is safe
-pub safe_at_end : {l : Lists} {m : Places} {bound p : ℕ} → ((i : ℕ) → ¬ IsSuccessor l m p i) → IsSafe l m bound p
-safe_at_end none = record { none = λ other x i less e j inside. absurd (none _ (rw e at (x.next i less))) }
+    -- who has no successor is safe
+    pub safe_at_end : {bound p : ℕ} → ((i : ℕ) → ¬ IsSuccessor l m p i) → IsSafe l m bound p
+    safe_at_end {bound} {p} none = list_safe (safe_none (λ r x. none (place_of l.proposers p r) (succ_back h {m = m} p r x)))
 
--- where all below the bound are safe, no exposed rotation has a proposer below it; and then everybody is safe
-pub none_of_safe : {l : Lists} {m : Places} {bound : ℕ} → ((p : ℕ) → p < bound → IsSafe l m bound p) → IsNoneBelow l m bound
-none_of_safe {l} {m} {bound} all = record {
-  none = λ other x i less. elim (lt_or_le (proposer_at other i) bound) [
-    | inr more ↦ more
-    | inl k ↦ (all (proposer_at other i) k).none other x i less refl i less
-  ];
-}
+    -- where all below the bound are safe, no exposed rotation has a proposer below it
+    pub none_of_safe : {bound : ℕ} → ((p : ℕ) → p < bound → IsSafe l m bound p) → IsNoneBelow l m bound
+    none_of_safe all = record { none = λ other x i less. none_below (λ p k. core_safe (all p k)) (cycle_of other) (exposed_of h f x) i less }

@@ -3,6 +3,8 @@ use Rattle.std.specs.Prelude.{◌≡◌, ℕ, suc, ◌+◌, ◌^◌, ◌<◌, �
 use Rattle.sm_lists.specs.Rows.{row}
 use Rattle.sm_theory.specs.Net.{Net, sink_of, HasEdge}
 use Rattle.sm_theory.specs.declared.flow_lines.FlowLine.{FlowLine}
+use Rattle.sm_market.specs.Lists.{Lists}
+use Rattle.sm_theory.specs.Chains.{AreNeedsOf}
 use Rattle.sm_theory.specs.Conditions.{rise_of, fall_of, leads_to_need}
 use Rattle.sm_decide.specs.Pairs.{has_pair}
 
@@ -45,6 +47,11 @@ pub record IsKeptNet (parts : NetParts) : Type 0 where
   pub few : length parts.gains + 2 < 2 ^ 32
   pub rising : AreRising parts.needs
   pub numbers : AreNumbersBelow (length parts.gains) parts.needs
+
+-- the needs are the predecessors of the rotations
+pub record NeedsAreOf (l : Lists) (rotations : List (List (ℕ × ℕ))) (parts : NetParts) : Type 0 where
+  pub one_each : length rotations ≡ length parts.gains
+  pub each : (j : ℕ) → j < length rotations → AreNeedsOf l rotations j (row parts.needs j)
 
 -- a line is on an edge that leads not from the source to the sink
 pub record IsOnEdge (net : Net) (line : FlowLine) : Type 0 where

@@ -2,6 +2,7 @@ pub mod Trails
 pub mod Exposure
 pub mod Noting
 pub mod Laws
+pub mod Witnesses
 pub mod Rooms
 pub mod RoomsKept
 pub mod FlowSums
@@ -11,3 +12,6 @@ pub mod Repeats
 pub mod Reaching
 pub mod Residual
 pub mod Moves
+pub mod Spans
+pub mod SetPlaces
+pub mod WitnessesNets

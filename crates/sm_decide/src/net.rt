@@ -1,12 +1,13 @@
 //! The net of gains, needs and conditions, as it is looked up in.
 
-ghost use Rattle.std.specs.Prelude.{◌≡◌, ◌+◌, ◌<◌, ◌^◌, ◌↔◌, ◌==◌, ◌&&◌, ℕ, length, slice_index, IsTrue, if◌then◌else◌};
+ghost use Rattle.std.specs.Prelude.{◌≡◌, ◌+◌, ◌<◌, ◌^◌, ◌↔◌, ◌==◌, ◌&&◌, ℕ, length, slice_index, take, IsTrue, if◌then◌else◌};
 ghost use Rattle.std.specs.List.{list_any};
 ghost use Rattle.sm_lists.specs.Rows.{row, rows_of};
 ghost use Rattle.sm_theory.specs.Conditions.{rise_of, fall_of, leads_to_need};
 ghost use Rattle.sm_theory.specs.Net.{sink_of, room_of, is_unbounded, HasEdge, cut_of};
-ghost use Rattle.sm_theory.specs.FlowLines.{IsWithinRoom};
+ghost use Rattle.sm_theory.specs.FlowLines.{line_at, IsNewEdge, IsWithinRoom};
 ghost use Rattle.sm_decide.specs.CheckedNets.{net_in, HasParts, AreRising, AreNumbersBelow, IsOnEdge};
+ghost use Rattle.sm_decide.specs.Repeats.{AreRepeats};
 ghost use Rattle.sm_decide.specs.Residual.{may_lead};
 
 use crate::pairs::Pairs;
@@ -154,11 +155,21 @@ impl CheckedNet {
         self.is_unbounded(from, to) || self.room(from, to) > 0
     }
 
-    /// Whether a line is on an edge that leads not from the source to the sink. Where no line before is on it, it is a new one.
-    pub fn is_on_edge(&self, line: FlowLine) -> bool
+    /// Whether a line is on an edge that leads not from the source to the sink.
+    fn is_on_edge(&self, line: FlowLine) -> bool
         ensures { IsTrue result ↔ IsOnEdge (net_in self.now) line }
     {
         !self.is_through(line.from, line.to) && self.has_edge(line.from, line.to)
+    }
+
+    /// Whether a line is on an edge of the net that no line before it is on, where of each line it is known whether an earlier
+    /// one leads from the same node to the same node.
+    pub fn is_new_edge(&self, lines: &[FlowLine], repeats: &[bool], a: usize) -> bool
+        requires in_range { a < length lines.now }
+        requires repeats { AreRepeats lines.now repeats.now }
+        ensures { IsTrue result ↔ IsNewEdge (net_in self.now) (take a lines.now) (line_at lines.now a) }
+    {
+        !repeats[a] && self.is_on_edge(lines[a])
     }
 
     /// Whether the amount of a line is positive and within the room of its edge.

@@ -1,5 +1,6 @@
 pub mod ChainLemmas
 pub mod MarkingLemmas
+pub mod CountLemmas
 pub mod NeedsLemmas
 pub mod FootingLemmas
 pub mod FollowingLemmas

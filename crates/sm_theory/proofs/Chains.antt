@@ -9,4 +9,3 @@ pub mod Links
 pub mod Holders
 pub mod Best
 pub mod NoneBelow
-pub mod Lengths

@@ -10,11 +10,10 @@ use Rattle.sm_market.specs.Lists.{Lists, row, entry, place_of, IsMarket}
 use Rattle.sm_market.specs.Matching.{Places, held, standing, IsMatching}
 use Rattle.sm_market.specs.Stable.{IsStable}
 use Rattle.sm_lists.proofs.Counting.{lt_or_le}
-use Rattle.sm_market.proofs.Core.{Stand, Fit, Stable, pair_at, one_proposer}
-use Rattle.sm_market.proofs.PairingLemmas.{one_matching}
-use Rattle.sm_market.proofs.Bridge.{sides_of, stand_of, fit_of, unblocked_of, held_in_turn_of, standing-some}
+use Rattle.sm_market.proofs.Core.{Stand, Fit, Stable}
+use Rattle.sm_market.proofs.Bridge.{sides_of, stand_of, unblocked_of, held_in_turn_of, standing-some}
 use Rattle.sm_theory.specs.Lattice.{agents, with_proposers}
-use Rattle.sm_theory.proofs.Core.Seats.{Seats, fit_of_seats, same_stable}
+use Rattle.sm_theory.proofs.Core.Seats.{Seats, same_stable}
 
 -- nobody past the last agent has a list
 pub row_past : (rows : List (List ℕ)) (a : ℕ) → length rows ≤ a → length (row rows a) ≡ 0
@@ -133,10 +132,3 @@ tabled {l} h {n} s = record { places = with_proposers l list; stable = stable_wi
       | inl k ↦ choose_on (n.a p) (length (row l.proposers p)) i (sym (held_map l.proposers (λ p. choose (n.a p) (length (row l.proposers p))) p k) ∙ e)
       | inr k ↦ let x : ◌≡◌ {A = Option ℕ} None (Some i) = sym (held_map_past l.proposers (λ p. choose (n.a p) (length (row l.proposers p))) p k) ∙ e in absurd cc
     ]
-
--- a matching is the one that is made of the places of its proposers
-pub with_proposers_is : {l : Lists} (h : IsMarket l) {m : Places} → IsMatching l m → with_proposers l m.proposers ≡ m
-with_proposers_is {l} h {m} f = one_matching (matching_with h m.proposers f.proposers.one_each f.proposers.on_list fit) f refl
-  where
-    fit : Fit (sides_of l h) (stand_of l (with_proposers l m.proposers))
-    fit = fit_of_seats (fit_of h f).left.within (λ p q r on on' e e'. one_proposer (pair_at p r (fit_of h f) on e) (pair_at q r (fit_of h f) on' e')) (seats_with h m.proposers)

@@ -1,4 +1,4 @@
-use Rattle.std.proofs.Common.{ℕ, List, subst, None, Some, Option, ◌≡◌}
+use Rattle.std.proofs.Common.{ℕ, List, subst}
 use Rattle.sm_cert.specs.Rooming.{IsFreeCouple}
 use Rattle.sm_cert.proofs.AnswerLemmas.{first_clause}
 use Rattle.sm_cert.proofs.CoupleLemmas.{couple_holds}

@@ -1,11 +1,11 @@
-use Rattle.std.proofs.Common.{◌∙◌, ◌++◌, ◌∷◌, [], arith, length, map, sym, subst, take}
+use Rattle.std.proofs.Common.{◌∙◌, ◌++◌, ◌∷◌, [], arith, map, sym, subst, take}
 use Rattle.std.proofs.lemmas.List.{length-map}
 use Rattle.sm_report.specs.Lines.{line_of}
 use Rattle.sm_cert.specs.Judges.{IsOwnLine}
-use Rattle.sm_cert.specs.Judging.{Subject, Clauses}
+use Rattle.sm_cert.specs.Judging.{Clauses}
 use Rattle.sm_cert.specs.Walking.{FindsOrKeeps}
 use Rattle.sm_cert.proofs.JudgingLemmas.{line_at, above_next}
-use Rattle.sm_cert.proofs.AnswerLemmas.{line_right, none_above, hold_more, verdict_no, verdict_yes}
+use Rattle.sm_cert.proofs.AnswerLemmas.{line_right, hold_more, verdict_no, verdict_yes}
 use Rattle.sm_cert.proofs.judging.judge_lines.Goals as goal
 
 pub find_fault-requires-clause-own : goal.find_fault-requires-clause-own

@@ -1,7 +1,4 @@
-use Rattle.std.proofs.Common.{◌∙◌, subst, ℕ, sym}
-use Rattle.sm_report.specs.Lines.{LineData}
-use Rattle.sm_cert.specs.Verdicts.{Finds}
-use Rattle.sm_cert.specs.Regrets.{EndOfRegret}
+use Rattle.std.proofs.Common.{◌∙◌}
 use Rattle.sm_cert.proofs.RegretLemmas.{found_at_end}
 use Rattle.sm_cert.proofs.regret.end_fault.Goals as goal
 

@@ -5,10 +5,10 @@ use Rattle.sm_decide.proofs.exposure.is_safe.Goals as goal
 
 pub returns-in_default-clause-all : goal.returns-in_default-clause-all
 returns-in_default-clause-all c = λ _. rw c.push.ensures.pushed
-    (all_pushed c.requires.market c.requires.made.matching c.steps.invariant.path c.steps.invariant.before (safe_at_end c.in_default.ensures.next))
+    (all_pushed c.requires.market c.requires.made.matching c.steps.invariant.path c.steps.invariant.before (safe_at_end c.requires.market c.requires.made.matching c.in_default.ensures.next))
 
 pub returns-in_default-clause-safe : goal.returns-in_default-clause-safe
-returns-in_default-clause-safe c = λ _. begin_safe c.requires.market c.requires.made.matching c.steps.invariant.path (safe_at_end c.in_default.ensures.next)
+returns-in_default-clause-safe c = λ _. begin_safe c.requires.market c.requires.made.matching c.steps.invariant.path (safe_at_end c.requires.market c.requires.made.matching c.in_default.ensures.next)
 
 pub steps-preserved : goal.steps-preserved
 steps-preserved c = rw c.push.ensures.pushed (record {

@@ -16,6 +16,6 @@ loop-p-preserved c = record {
 
 pub returns-clause-decided : goal.returns-clause-decided
 returns-clause-decided c = (
-  (λ _. none_of_safe (λ p less. c.loop-p.invariant.before p (omega (arith, c.loop-p-test.false)))),
+  (λ _. none_of_safe c.proposers.ensures.market c.requires.made.matching (λ p less. c.loop-p.invariant.before p (omega (arith, c.loop-p-test.false)))),
   (λ _. refl),
 )

@@ -1,4 +1,4 @@
-use Rattle.std.proofs.Common.{ℕ, ◌≡◌, ◌∙◌, arith, length, ap}
+use Rattle.std.proofs.Common.{◌≡◌, ◌∙◌, arith, length, ap}
 use Rattle.std.proofs.lemmas.Int.{ints, to_z-of_z}
 use Rattle.sm_theory.specs.Sizes.{weights_in}
 use Rattle.sm_theory.specs.Weights.{total}

@@ -13,7 +13,7 @@ use Rattle.sm_rotations.proofs.FootingLemmas.{steps_of, proposer_in, target_in, 
 use Rattle.sm_rotations.proofs.MarkingLemmas.{adds_like}
 use Rattle.sm_rotations.proofs.AddingLemmas.{empty_row}
 use Rattle.sm_rotations.proofs.TurnedBackLemmas.{followers_start, followers_lower}
-use Rattle.sm_theory.proofs.Chains.Lengths.{few_eliminable}
+use Rattle.sm_rotations.proofs.CountLemmas.{few_eliminable}
 use Rattle.sm_rotations.proofs.NeedsLemmas.{pairs_read, as_many, as_many_marks, last_start, marks_start, none_noted, exposed_here, next_stage}
 use Rattle.sm_rotations.proofs.predecessors.followers.Goals as goal
 

@@ -27,7 +27,7 @@ returns-clause-stands c = λ pairs k.
     let w = c.args.instance.now in
     let inside : c.args.p < length c.args.self.now.stood.items = (let one = c.requires.one_each in let l = c.requires.proposer in omega (arith, one, l)) in
     let none = none_stands w pairs c.args.self.now.stood.items c.args.p k c.requires.proposer
-        (sym (get_or_default c.args.self.now.stood.items c.args.p c.index.result.now false inside) ∙ sym c.index.ensures ∙ c.if-index.false) in
+    (sym (get_or_default c.args.self.now.stood.items c.args.p c.index.result.now false inside) ∙ sym c.index.ensures ∙ c.if-index.false) in
     let on : c.in-Some.place < length (row w.proposers c.args.p) = c.requires.wanted.on_lists c.args.p c.in-Some.place c.in-Some.is in
     let place : place_of w.proposers c.args.p c.args.r ≡ c.in-Some.place = place_of-entry c.proposer_count-proposers.ensures.instance.proposer_entries c.args.p c.args.r c.in-Some.place on (sym c.reviewer_at.ensures.named ∙ c.if-reviewer_at-r.false) in
     record {

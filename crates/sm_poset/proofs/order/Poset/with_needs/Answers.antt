@@ -4,7 +4,7 @@ use Rattle.sm_market.specs.Vectors.{rows_of}
 use Rattle.sm_theory.specs.Values.{rotations_of}
 use Rattle.sm_poset.specs.Posets.{poset_of}
 use Rattle.sm_poset.specs.Kept.{moves_in, AreMoves, AreLeaders, IsKept}
-use Rattle.sm_theory.proofs.Chains.Lengths.{few_rotations}
+use Rattle.sm_rotations.proofs.CountLemmas.{few_rotations}
 use Rattle.sm_poset.proofs.order.Poset.with_needs.Goals as goal
 
 pub invariant_of-result : goal.invariant_of-result
