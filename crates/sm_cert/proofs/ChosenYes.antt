@@ -1,15 +1,15 @@
 -- What a yes on an answer of `meet` and of `join` means.
-use Rattle.std.proofs.Common.{◌≡◌, ◌≢◌, ℕ, ◌+◌, ◌<◌, ◌⊎◌, ◌||◌, ◌==◌, inl, inr, arith, refl, sym, ap, ◌∙◌, Bool, true, false, List, [], ◌∷◌, ◌++◌, length, take, Option, Some, None, IsSome, subst}
-use Rattle.std.specs.Prelude.{Contains, IfSome, filter_map}
+use Rattle.std.proofs.Common.{◌≡◌, ℕ, ◌⊎◌, ◌||◌, ◌==◌, inl, inr, arith, refl, sym, ap, ◌∙◌, Bool, true, false, List, [], ◌∷◌, ◌++◌, length, take, Option, Some, None, IsSome, subst}
+use Rattle.std.specs.Prelude.{Contains, IfSome}
 use Rattle.std.specs.List.{slice_get}
 use Rattle.std.proofs.lemmas.Bool.{false≢true}
 use Rattle.std.proofs.lemmas.List.Elements.{Contains-append_cases}
-use Rattle.sm_instance.specs.Written.{Written, row, place_of, lists_of}
+use Rattle.sm_instance.specs.Written.{Written, place_of, lists_of}
 use Rattle.sm_instance.specs.Matching.{held, IsAssignment}
 use Rattle.sm_instance.specs.Stable.{IsStable}
 use Rattle.sm_instance.specs.declared.inputs.Input.TheVariants.{Two}
 use Rattle.sm_instance.proofs.CrossLemmas.{row-lists_of}
-use Rattle.sm_market.specs.Lists.{place_of as place_in_rows, row as row_in_rows}
+use Rattle.sm_market.specs.Lists.{place_of as place_in_rows}
 use Rattle.sm_theory.specs.declared.choice.Choice.{Choice}
 use Rattle.sm_theory.specs.declared.choice.Choice.TheVariants.{Better, Worse}
 use Rattle.sm_pairs.specs.Held.{partner_in, places_in}
@@ -17,7 +17,6 @@ use Rattle.sm_pairs.specs.Chosen.{chosen_places, head_for}
 use Rattle.sm_pairs.proofs.ChoiceLemmas.{chosen_assigned}
 use Rattle.sm_report.specs.Lines.{LineData}
 use Rattle.sm_cert.specs.declared.keywords.Keyword.TheVariants as keyword
-use Rattle.sm_cert.specs.declared.verdicts.Reason.{Reason}
 use Rattle.sm_cert.specs.declared.verdicts.Reason.TheVariants as reason
 use Rattle.sm_cert.specs.Keywords.{keyword_of, number_of}
 use Rattle.sm_cert.specs.Forms.{layouts_of, given_layout}

@@ -1,7 +1,7 @@
 -- What a yes on an answer of `solve` over roommates means, where a matching is written.
-use Rattle.std.proofs.Common.{◌≡◌, ◌≢◌, ℕ, zero, suc, ◌+◌, ◌<◌, ◌≤◌, ◌⊎◌, inl, inr, arith, refl, sym, ap, ◌∙◌, cond, eqb, Bool, true, false, List, [], ◌∷◌, ◌++◌, length, get_or, take, map, Option, Some, None, is_some, subst, eq-eqb, ne_eqb, ⊎_elim, append-nil}
-use Rattle.std.specs.Prelude.{Contains, IfSome, nat_lt}
-use Rattle.std.specs.List.{slice_get, list_all, range_with_len}
+use Rattle.std.proofs.Common.{◌≡◌, ℕ, zero, suc, ◌<◌, ◌⊎◌, inl, inr, arith, refl, sym, ap, ◌∙◌, cond, Bool, true, false, List, [], ◌∷◌, ◌++◌, length, get_or, take, Option, Some, None, is_some, subst, eq-eqb}
+use Rattle.std.specs.Prelude.{Contains, IfSome}
+use Rattle.std.specs.List.{slice_get, list_all}
 use Rattle.std.specs.Option.{option_or}
 use Rattle.std.proofs.lemmas.Bool.{ltb-true}
 use Rattle.std.proofs.lemmas.Grind.{flat_map-append}
@@ -10,8 +10,8 @@ use Rattle.std.proofs.lemmas.List.FromFn.{length-map-range_with_len, get_or-map-
 use Rattle.std.proofs.lemmas.List.Elements.{Contains-append_right, Contains-append_cases}
 use Rattle.sm_lists.proofs.RowLemmas.{row_in_range}
 use Rattle.sm_instance.specs.Written.{AgentData, lists_of}
-use Rattle.sm_instance.specs.declared.inputs.Input.TheVariants.{Two, Room}
-use Rattle.sm_market.specs.Lists.{row, place_of}
+use Rattle.sm_instance.specs.declared.inputs.Input.TheVariants.{Room}
+use Rattle.sm_market.specs.Lists.{place_of}
 use Rattle.sm_theory.specs.Rooms.{IsAcceptable, IsRoomStable, mate_of}
 use Rattle.sm_pairs.specs.Held.{partner_in, pair_at}
 use Rattle.sm_report.specs.Lines.{LineData}
@@ -19,13 +19,12 @@ use Rattle.sm_cert.specs.declared.verdicts.Reason.TheVariants as reason
 use Rattle.sm_cert.specs.Forms.{fits}
 use Rattle.sm_cert.specs.Said.{pair_in, pairs_in}
 use Rattle.sm_cert.specs.Rooming.{persons_of, both_ways, mates_in, IsFreeCouple}
-use Rattle.sm_cert.specs.PartiesKept.{is_among}
-use Rattle.sm_cert.specs.Yes.{AreApart, IsCoupled, CouplesYes}
+use Rattle.sm_cert.specs.Yes.{AreApart, CouplesYes}
 use Rattle.sm_cert.proofs.PersonLemmas.{of_among}
 use Rattle.sm_cert.proofs.JudgingLemmas.{passes_at}
 use Rattle.sm_cert.proofs.CoupleLemmas.{partner_behind, partner_there, none_where}
 use Rattle.sm_cert.proofs.YesPairs.{held_there, only_one, no_partner, given_there, pair_there, apart_more}
-use Rattle.sm_cert.proofs.YesLines.{IsRight, right_couples, at_closing, said_above, grown}
+use Rattle.sm_cert.proofs.YesLines.{right_couples, at_closing, said_above, grown}
 
 -- Couples of which each was free behind those before it.
 

@@ -1,14 +1,14 @@
 -- The lines of an answer by groups: those that stand in its first groups, and those behind them.
-use Rattle.std.proofs.Common.{◌≡◌, ◌≢◌, ℕ, zero, suc, ◌+◌, ◌<◌, ◌≤◌, ◌⊎◌, ◌==◌, ◌&&◌, inl, inr, arith, refl, sym, ap, ◌∙◌, cond, eqb, not, Bool, true, false, List, [], ◌∷◌, ◌++◌, length, map, take, drop, get_or, Option, Some, None, if◌then◌else◌, subst, append-nil, length-append, ⊎_elim}
-use Rattle.std.specs.Prelude.{IfSome, IsTrue, filter_map}
+use Rattle.std.proofs.Common.{◌≡◌, ℕ, zero, suc, ◌+◌, ◌<◌, ◌≤◌, ◌⊎◌, ◌==◌, ◌&&◌, inl, inr, arith, refl, sym, ap, ◌∙◌, not, Bool, true, false, List, [], ◌∷◌, ◌++◌, length, map, take, get_or, Option, Some, None, if◌then◌else◌, subst, append-nil, length-append, ⊎_elim}
+use Rattle.std.specs.Prelude.{IfSome, filter_map}
 use Rattle.std.specs.List.{cons_option, list_any, list_all, slice_get}
 use Rattle.std.proofs.lemmas.Bool.{false≢true, eqb-true, cases_lt}
 use Rattle.std.proofs.lemmas.List.{get_or_append_left}
 use Rattle.std.proofs.lemmas.List.Folds.{list_all_at}
 use Rattle.std.proofs.lemmas.List.Elements.{filter_map-append}
-use Rattle.std.proofs.lemmas.Option.{slice_get_within, get_or_from_slice_get}
+use Rattle.std.proofs.lemmas.Option.{get_or_from_slice_get}
 use Rattle.sm_instance.specs.Written.{Written}
-use Rattle.sm_instance.specs.declared.inputs.Input.TheVariants.{Two, Room}
+use Rattle.sm_instance.specs.declared.inputs.Input.TheVariants.{Two}
 use Rattle.sm_report.specs.Heads.{HeadData}
 use Rattle.sm_report.specs.Lines.{LineData}
 use Rattle.sm_cert.specs.declared.keywords.Keyword.{Keyword}
@@ -18,7 +18,7 @@ use Rattle.sm_cert.specs.declared.layouts.Part.TheVariants.{One, Many, Blocks}
 use Rattle.sm_cert.specs.declared.layouts.Opening.{Opening}
 use Rattle.sm_cert.specs.declared.verdicts.Reason.{Reason}
 use Rattle.sm_cert.specs.Keywords.{keyword_of, number_of}
-use Rattle.sm_cert.specs.Layouts.{begins, keyword_at, later, behind, left_behind, is_empty, is_whole}
+use Rattle.sm_cert.specs.Layouts.{begins, keyword_at, behind, left_behind, is_empty, is_whole}
 use Rattle.sm_cert.specs.Forms.{layouts_of, opening_of}
 use Rattle.sm_cert.specs.Verdicts.{AtLine}
 use Rattle.sm_cert.specs.Said.{IsFirstBehind}
@@ -66,7 +66,7 @@ module _ (group : ℕ → Bool) where
   abbrev of_line : Opening → ℕ
   of_line line = number_of line.keyword
 
-  abbrev OutStep : Opening → Option (List Part) → Type 0
+  abbrev pub OutStep : Opening → Option (List Part) → Type 0
   OutStep line None = Unit {0}
   OutStep line (Some left) = IsOutside (of_line line) × AllOut left
 
@@ -93,7 +93,7 @@ module _ (group : ℕ → Bool) where
   step_if line true o p x y = x refl
   step_if line false o p x y = y
 
-  out_step : (line : Opening) (parts : List Part) → AllOut parts → OutStep line (behind parts line)
+  pub out_step : (line : Opening) (parts : List Part) → AllOut parts → OutStep line (behind parts line)
   out_step line [] h = tt
   out_step line (One word ∷ parts) h = out_if line (begins line word) _ _ (λ e. (by_word IsOutside line word e h.0, h.1)) tt
   out_step line (Many word ∷ parts) h = out_if line (begins line word) _ _ (λ e. (by_word IsOutside line word e h.0, h)) (out_step line parts h.1)
@@ -125,13 +125,13 @@ pub record Tells (group : ℕ → Bool) (up : LineData → Bool) : Type 0 where
   pub same : (x : LineData) → (up x ≡ group (number_of (keyword_of x))) ⊎ (number_of (keyword_of x) ≡ 21)
 
 module _ {group : ℕ → Bool} {up : LineData → Bool} (t : Tells group up) where
-  is_up : (x : LineData) → group (number_of (keyword_of x)) ≡ true → up x ≡ true
+  pub is_up : (x : LineData) → group (number_of (keyword_of x)) ≡ true → up x ≡ true
   is_up x e = elim (t.same x) [
     | inl same ↦ same ∙ e
     | inr head ↦ absurd (false≢true (sym t.other ∙ ap group (sym head) ∙ e))
   ]
 
-  is_down : (x : LineData) → IsOutside group (number_of (keyword_of x)) → up x ≡ false
+  pub is_down : (x : LineData) → IsOutside group (number_of (keyword_of x)) → up x ≡ false
   is_down x h = elim (t.same x) [
     | inl same ↦ same ∙ h.0
     | inr head ↦ absurd (let less = h.1 in omega arith)

@@ -1,7 +1,7 @@
 -- What a yes on an answer of `solve` over roommates means, where there is said to be no stable matching.
-use Rattle.std.proofs.Common.{◌≡◌, ◌≢◌, ℕ, zero, suc, ◌+◌, ◌*◌, ◌<◌, ◌≤◌, ◌||◌, ◌==◌, inl, inr, arith, refl, sym, ap, ◌∙◌, cond, eqb, Bool, true, false, List, [], ◌∷◌, ◌++◌, length, get_or, take, Option, Some, None, subst, ne_eqb, eq-eqb, ⊎_elim}
+use Rattle.std.proofs.Common.{◌≡◌, ◌≢◌, ℕ, zero, suc, ◌+◌, ◌*◌, ◌<◌, ◌||◌, ◌==◌, inl, inr, arith, refl, sym, ap, ◌∙◌, cond, Bool, true, false, List, [], ◌∷◌, ◌++◌, length, get_or, take, Option, Some, None, subst, ne_eqb, eq-eqb}
 use Rattle.std.specs.Prelude.{Contains, IfSome, All, count_by}
-use Rattle.std.specs.List.{slice_get, list_any}
+use Rattle.std.specs.List.{slice_get}
 use Rattle.std.proofs.lemmas.Bool.{false≢true}
 use Rattle.std.proofs.lemmas.List.{length-map}
 use Rattle.std.proofs.lemmas.List.FromFn.{get_or-map-range_with_len}
@@ -9,9 +9,8 @@ use Rattle.std.proofs.lemmas.List.Folds.{list_any-append}
 use Rattle.std.proofs.lemmas.List.Elements.{Contains-append_cases, All-get_or}
 use Rattle.std.proofs.lemmas.Option.{slice_get_within, get_or_from_slice_get}
 use Rattle.sm_instance.specs.Written.{AgentData, lists_of}
-use Rattle.sm_instance.specs.declared.inputs.Input.TheVariants.{Two, Room}
-use Rattle.sm_theory.specs.Partitions.{successor_in, after, IsStablePartition, IsInOddParty}
-use Rattle.sm_theory.specs.Rooms.{IsRoomStable}
+use Rattle.sm_instance.specs.declared.inputs.Input.TheVariants.{Room}
+use Rattle.sm_theory.specs.Partitions.{successor_in, after, IsInOddParty}
 use Rattle.sm_theory.proofs.Room.Partitions.{odd_party_excludes}
 use Rattle.sm_report.specs.Lines.{LineData}
 use Rattle.sm_report.specs.Sound.{IsLineOf, IsLeft}
@@ -20,10 +19,10 @@ use Rattle.sm_cert.specs.Said.{party_in, parties_in}
 use Rattle.sm_cert.specs.Rooming.{members_of, next_of, nexts_of, AreNew, IsWholePartition, HasOddParty}
 use Rattle.sm_cert.specs.PartiesKept.{is_among, follower}
 use Rattle.sm_cert.specs.Yes.{NoneYes}
-use Rattle.sm_cert.proofs.PersonLemmas.{among_of, of_among}
+use Rattle.sm_cert.proofs.PersonLemmas.{of_among}
 use Rattle.sm_cert.proofs.PartyLemmas.{times_more, once_least, twice_least, stands_at, among_at, next_there, next_other, follows}
 use Rattle.sm_cert.proofs.YesPairs.{only_one}
-use Rattle.sm_cert.proofs.YesLines.{IsRight, right_parties, at_closing, said_above, each_line, grown}
+use Rattle.sm_cert.proofs.YesLines.{right_parties, at_closing, said_above, each_line, grown}
 
 -- Parties each of which was new behind those before it.
 

@@ -1,11 +1,10 @@
 -- What a yes on an answer of `reduced` means.
-use Rattle.std.proofs.Common.{◌≡◌, ℕ, ◌<◌, inl, inr, arith, refl, sym, ap, ◌∙◌, Bool, true, false, List, [], ◌∷◌, length, take, Option, Some, None, subst}
-use Rattle.std.specs.Prelude.{IfSome, filter_map}
+use Rattle.std.proofs.Common.{◌≡◌, ℕ, inl, inr, arith, refl, sym, false, List, length, take, Option, Some, None, subst}
+use Rattle.std.specs.Prelude.{IfSome}
 use Rattle.std.specs.List.{slice_get}
 use Rattle.std.proofs.lemmas.List.FromFn.{length-map-range_with_len}
 use Rattle.sm_instance.specs.Written.{Written}
-use Rattle.sm_market.specs.Lists.{Lists, row}
-use Rattle.sm_market.specs.Matching.{Places}
+use Rattle.sm_market.specs.Lists.{Lists}
 use Rattle.sm_market.specs.Stable.{IsProposersBest, IsReviewersBest}
 use Rattle.sm_market.specs.Reduced.{reduced_row, reduced_lists_of}
 use Rattle.sm_seats.specs.SeatMarket.{seat_market}

@@ -1,7 +1,7 @@
--- The lines of rotations and of what they need, which take turns.
-use Rattle.std.proofs.Common.{◌≡◌, ℕ, zero, suc, ◌+◌, ◌<◌, ◌≤◌, ◌==◌, arith, refl, sym, ap, ◌∙◌, cond, Bool, true, false, List, [], ◌∷◌, ◌++◌, length, map, take, Option, Some, None, IsSome, if◌then◌else◌, subst, append-nil, append_assoc, length-append}
+-- The lines of rotations and of what they need, which take turns; and those behind them.
+use Rattle.std.proofs.Common.{◌≡◌, ℕ, zero, suc, ◌+◌, ◌<◌, ◌≤◌, ◌==◌, ◌||◌, ◌⊎◌, inl, inr, arith, refl, sym, ap, ◌∙◌, Bool, true, false, List, [], ◌∷◌, ◌++◌, length, map, take, Option, Some, None, IsSome, if◌then◌else◌, subst, append-nil, append_assoc, length-append}
 use Rattle.std.specs.Prelude.{filter_map}
-use Rattle.std.specs.List.{cons_option, slice_get}
+use Rattle.std.specs.List.{cons_option, list_any, slice_get}
 use Rattle.std.proofs.lemmas.Bool.{false≢true}
 use Rattle.std.proofs.lemmas.List.Elements.{filter_map-append}
 use Rattle.sm_instance.specs.Written.{Written}
@@ -9,24 +9,42 @@ use Rattle.sm_report.specs.Lines.{LineData}
 use Rattle.sm_cert.specs.declared.keywords.Keyword.TheVariants as keyword
 use Rattle.sm_cert.specs.declared.layouts.Part.{Part}
 use Rattle.sm_cert.specs.declared.layouts.Part.TheVariants.{One, Many, Blocks}
-use Rattle.sm_cert.specs.Layouts.{behind, is_whole}
-use Rattle.sm_cert.specs.Forms.{rotations_layout, closing, opening_of}
-use Rattle.sm_cert.specs.Said.{rotation_in, rotations_in, needs_in, all_needs_in}
-use Rattle.sm_cert.proofs.GroupLemmas.{goes}
+use Rattle.sm_cert.specs.Keywords.{keyword_of, number_of}
+use Rattle.sm_cert.specs.Layouts.{behind, is_whole, is_empty, left_behind}
+use Rattle.sm_cert.specs.Forms.{blocks_of, opening_of}
+use Rattle.sm_cert.specs.Said.{first_in, rotation_in, rotations_in, needs_in, all_needs_in, is_up_to_rotations}
+use Rattle.sm_cert.proofs.GroupLemmas.{Tells, AllOut, AreDown, goes, out_step, OutStep, is_down, all_down, none_said}
 use Rattle.sm_cert.proofs.YesLines.{some_same, no_line}
 
--- what is left of the layout: all of it, or from a rotation on, or from what it needs on, or nothing
+abbrev pub rotation_words : ℕ → Bool
+rotation_words n = (n == 3) || ((n == 7) || ((n == 8) || (n == 9)))
+
+pub rotations_tell : Tells rotation_words is_up_to_rotations
+rotations_tell = record { other = refl; same = same }
+  where
+    same : (x : LineData) → (is_up_to_rotations x ≡ rotation_words (number_of (keyword_of x))) ⊎ (number_of (keyword_of x) ≡ 21)
+    same (LineData.Answer head) = inr refl
+    same _ = inl refl
+
+pub no_needs : (x : LineData) → is_up_to_rotations x ≡ false → needs_in x ≡ None
+no_needs (LineData.Needs i needed) e = absurd (false≢true (sym e))
+no_needs _ e = refl
+
+module _ (w : Written) where
+  pub first_up : (x : LineData) → is_up_to_rotations x ≡ false → first_in w x ≡ None
+  first_up (LineData.First p seat) e = absurd (false≢true (sym e))
+  first_up _ e = refl
+
+  pub rotation_up : (x : LineData) → is_up_to_rotations x ≡ false → rotation_in w x ≡ None
+  rotation_up (LineData.Rotation i pairs) e = absurd (false≢true (sym e))
+  rotation_up _ e = refl
+
+-- where the next line stands: among the first seats, or at a line of the block with a number
 pub data Spot : Type 0 where
   firsts : Spot
   rotation : ℕ → Spot
   needs : ℕ → Spot
-  closed : Spot
-
-abbrev pub left_at : Spot → List Part
-left_at firsts = rotations_layout
-left_at (rotation i) = Blocks (record { lines = 2; place = 0; number = i }) ∷ closing
-left_at (needs i) = Blocks (record { lines = 2; place = 1; number = i }) ∷ closing
-left_at closed = []
+  gains : ℕ → Spot
 
 -- how many rotations still want what they need
 abbrev pub owed : Spot → ℕ
@@ -36,87 +54,156 @@ owed _ = 0
 no_parts : {left : List Part} → ◌≡◌ {A = Option (List Part)} None (Some left) → ⊥
 no_parts e = grind arith
 
-module _ (w : Written) where
+abbrev no_list : Option (List ℕ)
+no_list = None
+
+not_some : {P : Type 0} → IsSome no_list → P
+not_some e = absurd cc
+
+-- blocks with gains have three lines, others two
+abbrev lines_of : Bool → ℕ
+lines_of true = 3
+lines_of false = 2
+
+abbrev gains_place : Bool → ℕ
+gains_place true = 2
+gains_place false = 0
+
+down_at : (up : LineData → Bool) (lines : List LineData) (j : ℕ) (y : LineData) → AreDown up lines → slice_get lines j ≡ Some y → up y ≡ false
+down_at up [] j y h e = absurd (no_line e)
+down_at up (x ∷ xs) zero y h e = ap up (sym (some_same e)) ∙ h.0
+down_at up (x ∷ xs) (suc j) y h e = down_at up xs j y h.1 e
+
+-- the lines of the rest of a layout behind lines of it
+pub record Splits (rest : List Part) (lines : List LineData) : Type 0 where
+  pub before : List LineData
+  pub below : List LineData
+  pub is : lines ≡ before ++ below
+  pub whole : is_whole (rest ∷ []) (map opening_of below) ≡ true
+
+pub one_split : (rest : List Part) (x : LineData) (lines : List LineData) → Splits rest lines → Splits rest (x ∷ lines)
+one_split rest x lines s = record { before = x ∷ s.before; below = s.below; is = ap (λ (ls : List LineData). x ∷ ls) s.is; whole = s.whole }
+
+module _ (w : Written) (rest : List Part) (out : AllOut rotation_words rest) where
+  -- what is left of the layout there
+  abbrev pub left_at : Bool → Spot → List Part
+  left_at three firsts = Many keyword.First ∷ blocks_of (lines_of three) ∷ rest
+  left_at three (rotation i) = Blocks (record { lines = lines_of three; place = 0; number = i }) ∷ rest
+  left_at three (needs i) = Blocks (record { lines = lines_of three; place = 1; number = i }) ∷ rest
+  left_at three (gains i) = Blocks (record { lines = lines_of three; place = gains_place three; number = i }) ∷ rest
+
   abbrev rotations_of : LineData → ℕ
   rotations_of x = length (cons_option (rotation_in w x) [])
 
   abbrev needs_of : LineData → ℕ
   needs_of x = length (cons_option (needs_in x) [])
 
-  record Moves (spot : Spot) (x : LineData) (left : List Part) : Type 0 where
+  record Stays (three : Bool) (spot : Spot) (x : LineData) (left : List Part) : Type 0 where
     to : Spot
-    is : left ≡ left_at to
+    is : left ≡ left_at three to
     counts : needs_of x + owed to ≡ owed spot + rotations_of x
     needed : IsSome (needs_in x) → owed spot ≡ 1
 
-  turned : (spot to : Spot) (x : LineData) (left : List Part) (t : Bool) → (if t then Some (left_at to) else None) ≡ Some left → needs_of x + owed to ≡ owed spot + rotations_of x → (IsSome (needs_in x) → owed spot ≡ 1) → Moves spot x left
-  turned spot to x left true e counts needed = record { to = to; is = sym (some_same e); counts = counts; needed = needed }
-  turned spot to x left false e counts needed = absurd (no_parts e)
+  record Leaves (spot : Spot) (x : LineData) (left : List Part) : Type 0 where
+    is : behind rest (opening_of x) ≡ Some left
+    none : owed spot ≡ 0
 
-  abbrev no_list : Option (List ℕ)
-  no_list = None
+  abbrev Moves : Bool → Spot → LineData → List Part → Type 0
+  Moves three spot x left = Stays three spot x left ⊎ Leaves spot x left
 
-  not_some : {P : Type 0} → IsSome (no_list) → P
-  not_some e = absurd cc
+  stays : (three : Bool) (spot to : Spot) (x : LineData) (left : List Part) (t : Bool) → (if t then Some (left_at three to) else None) ≡ Some left → needs_of x + owed to ≡ owed spot + rotations_of x → (IsSome (needs_in x) → owed spot ≡ 1)
+      → Moves three spot x left
+  stays three spot to x left true e counts needed = inl (record { to = to; is = sym (some_same e); counts = counts; needed = needed })
+  stays three spot to x left false e counts needed = absurd (no_parts e)
 
-  moves : (spot : Spot) (x : LineData) (left : List Part) → behind (left_at spot) (opening_of x) ≡ Some left → Moves spot x left
-  moves firsts (LineData.First p seat) left e = turned firsts firsts (LineData.First p seat) left true e refl (λ some. not_some some)
-  moves firsts (LineData.Rotation i pairs) left e = turned firsts (needs 1) (LineData.Rotation i pairs) left (i == 1) e refl (λ some. not_some some)
-  moves firsts LineData.End left e = turned firsts closed LineData.End left true e refl (λ some. not_some some)
-  moves firsts _ left e = absurd (no_parts e)
-  moves (rotation n) (LineData.Rotation i pairs) left e = turned (rotation n) (needs n) (LineData.Rotation i pairs) left (i == n) e refl (λ some. not_some some)
-  moves (rotation n) LineData.End left e = turned (rotation n) closed LineData.End left true e refl (λ some. not_some some)
-  moves (rotation n) _ left e = absurd (no_parts e)
-  moves (needs n) (LineData.Needs i needed) left e = turned (needs n) (rotation (n + 1)) (LineData.Needs i needed) left (i == n) e refl (λ some. refl)
-  moves (needs n) _ left e = absurd (no_parts e)
-  moves closed _ left e = absurd (no_parts e)
+  leaves : (three : Bool) (spot : Spot) (x : LineData) (left : List Part) → behind rest (opening_of x) ≡ Some left → owed spot ≡ 0 → Moves three spot x left
+  leaves three spot x left e none = inr (record { is = e; none = none })
+
+  moves : (three : Bool) (spot : Spot) (x : LineData) (left : List Part) → behind (left_at three spot) (opening_of x) ≡ Some left → Moves three spot x left
+  moves three firsts (LineData.First p seat) left e = stays three firsts firsts (LineData.First p seat) left true e refl (λ some. not_some some)
+  moves true firsts (LineData.Rotation i pairs) left e = stays true firsts (needs 1) (LineData.Rotation i pairs) left (i == 1) e refl (λ some. not_some some)
+  moves false firsts (LineData.Rotation i pairs) left e = stays false firsts (needs 1) (LineData.Rotation i pairs) left (i == 1) e refl (λ some. not_some some)
+  moves three firsts x left e = leaves three firsts x left e refl
+  moves true (rotation n) (LineData.Rotation i pairs) left e = stays true (rotation n) (needs n) (LineData.Rotation i pairs) left (i == n) e refl (λ some. not_some some)
+  moves false (rotation n) (LineData.Rotation i pairs) left e = stays false (rotation n) (needs n) (LineData.Rotation i pairs) left (i == n) e refl (λ some. not_some some)
+  moves three (rotation n) x left e = leaves three (rotation n) x left e refl
+  moves true (needs n) (LineData.Needs i needed) left e = stays true (needs n) (gains n) (LineData.Needs i needed) left (i == n) e refl (λ some. refl)
+  moves false (needs n) (LineData.Needs i needed) left e = stays false (needs n) (rotation (n + 1)) (LineData.Needs i needed) left (i == n) e refl (λ some. refl)
+  moves three (needs n) _ left e = absurd (no_parts e)
+  moves true (gains n) (LineData.Gain i gain) left e = stays true (gains n) (rotation (n + 1)) (LineData.Gain i gain) left (i == n) e refl (λ some. not_some some)
+  moves true (gains n) _ left e = absurd (no_parts e)
+  moves false (gains n) (LineData.Rotation i pairs) left e = stays false (gains n) (needs n) (LineData.Rotation i pairs) left (i == n) e refl (λ some. not_some some)
+  moves false (gains n) x left e = leaves false (gains n) x left e refl
 
   -- at each line with what a rotation needs, that rotation is the last one above, and all others above have theirs
-  pub record Turns (above rest : List LineData) : Type 0 where
-    pub at : (j : ℕ) (x : LineData) → slice_get rest j ≡ Some x → IsSome (needs_in x) → length (all_needs_in (above ++ take j rest)) + 1 ≡ length (rotations_in w (above ++ take j rest))
-    pub all : length (all_needs_in (above ++ rest)) ≡ length (rotations_in w (above ++ rest))
-
-  nothing_owed : (spot : Spot) → is_whole (left_at spot ∷ []) [] ≡ true → owed spot ≡ 0
-  nothing_owed firsts e = refl
-  nothing_owed (rotation i) e = refl
-  nothing_owed (needs i) e = absurd (false≢true e)
-  nothing_owed closed e = refl
+  pub record Turns (above lines : List LineData) : Type 0 where
+    pub at : (j : ℕ) (x : LineData) → slice_get lines j ≡ Some x → IsSome (needs_in x) → length (all_needs_in (above ++ take j lines)) + 1 ≡ length (rotations_in w (above ++ take j lines))
+    pub all : length (all_needs_in (above ++ lines)) ≡ length (rotations_in w (above ++ lines))
+    pub splits : Splits rest lines
 
   said_more : {X : Type 0} (said : LineData → Option X) (above : List LineData) (x : LineData) → length (filter_map said (above ++ x ∷ [])) ≡ length (filter_map said above) + length (cons_option (said x) [])
   said_more said above x = ap (λ xs. length xs) (filter_map-append said above (x ∷ [])) ∙ length-append (filter_map said above) (cons_option (said x) [])
 
-  pub turns : (spot : Spot) (above rest : List LineData) → is_whole (left_at spot ∷ []) (map opening_of rest) ≡ true → length (all_needs_in above) + owed spot ≡ length (rotations_in w above) → Turns above rest
-  turns spot above [] e h = record {
-    at = λ j x none. absurd (no_line none);
-    all = ap (λ ls. length (all_needs_in ls)) (append-nil above) ∙ (let o = nothing_owed spot e in let same : length (all_needs_in above) ≡ length (rotations_in w above) = omega arith in same)
-        ∙ sym (ap (λ ls. length (rotations_in w ls)) (append-nil above));
+  -- behind the rotations
+  out_turns : (above lines : List LineData) → is_whole (rest ∷ []) (map opening_of lines) ≡ true → length (all_needs_in above) ≡ length (rotations_in w above) → Turns above lines
+  out_turns above lines whole same = record {
+    at = λ j x there some. absurd (let none = subst IsSome (no_needs x (down_at is_up_to_rotations lines j x down there)) some in cc);
+    all = ap (λ xs. length xs) (said_down needs_in no_needs) ∙ same ∙ sym (ap (λ xs. length xs) (said_down (rotation_in w) (rotation_up w)));
+    splits = record { before = []; below = lines; is = refl; whole = whole };
   }
-  turns spot above (x ∷ xs) e h =
-      let g = goes (left_at spot) (opening_of x) (map opening_of xs) e in
-      let m = moves spot x g.left g.is in
-      let one = said_more needs_in above x in
-      let other = said_more (rotation_in w) above x in
-      let c = m.counts in
-      let deep = turns m.to (above ++ x ∷ []) xs (subst (λ (left : List Part). is_whole (left ∷ []) (map opening_of xs) ≡ true) m.is g.whole) (omega arith) in
-      let so : (ls : List LineData) → (above ++ x ∷ []) ++ ls ≡ above ++ x ∷ ls = λ ls. append_assoc above (x ∷ []) ls in
-      record {
-        at = λ j y there some. go m deep j y there some;
-        all = subst (λ (ls : List LineData). length (all_needs_in ls) ≡ length (rotations_in w ls)) (so xs) deep.all;
-      }
     where
-      go : {left : List Part} → Moves spot x left → Turns (above ++ x ∷ []) xs → (j : ℕ) (y : LineData) → slice_get (x ∷ xs) j ≡ Some y → IsSome (needs_in y)
-          → length (all_needs_in (above ++ take j (x ∷ xs))) + 1 ≡ length (rotations_in w (above ++ take j (x ∷ xs)))
-      go m deep zero y there some =
-          let same : x ≡ y = some_same there in
-          let o = m.needed (subst (λ (z : LineData). IsSome (needs_in z)) (sym same) some) in
-          subst (λ (ls : List LineData). length (all_needs_in ls) + 1 ≡ length (rotations_in w ls)) (sym (append-nil above)) (omega (arith, o, h))
-      go m deep (suc j) y there some =
-          subst (λ (ls : List LineData). length (all_needs_in ls) + 1 ≡ length (rotations_in w ls)) (append_assoc above (x ∷ []) (take j xs)) (deep.at j y there some)
+      down : AreDown is_up_to_rotations lines
+      down = all_down rotations_tell rest lines out whole
+
+      said_down : {X : Type 0} (said : LineData → Option X) → ((x : LineData) → is_up_to_rotations x ≡ false → said x ≡ None) → filter_map said (above ++ lines) ≡ filter_map said above
+      said_down said none =
+          filter_map-append said above lines
+          ∙ ap (λ xs. filter_map said above ++ xs) (none_said is_up_to_rotations said none lines down) ∙ append-nil (filter_map said above)
+
+  pub turns : (three : Bool) (spot : Spot) (above lines : List LineData) → is_whole (left_at three spot ∷ []) (map opening_of lines) ≡ true → length (all_needs_in above) + owed spot ≡ length (rotations_in w above) → Turns above lines
+  turns three spot above [] e h = absurd (not_empty spot e)
+    where
+      not_empty : (spot : Spot) → is_whole (left_at three spot ∷ []) [] ≡ true → ⊥
+      not_empty firsts e = false≢true e
+      not_empty (rotation i) e = false≢true e
+      not_empty (needs i) e = false≢true e
+      not_empty (gains i) e = false≢true e
+  turns three spot above (x ∷ xs) e h =
+      let g = goes (left_at three spot) (opening_of x) (map opening_of xs) e in
+      elim (moves three spot x g.left g.is) [
+        | inl m ↦ on m (turns three m.to (above ++ x ∷ []) xs (subst (λ (left : List Part). is_whole (left ∷ []) (map opening_of xs) ≡ true) m.is g.whole) (counted m))
+        | inr m ↦ out_turns above (x ∷ xs) (back g.left m.is g.whole) (let o = m.none in omega (arith, h, o))
+      ]
+    where
+      back : (left : List Part) → behind rest (opening_of x) ≡ Some left → is_whole (left ∷ []) (map opening_of xs) ≡ true → is_whole (rest ∷ []) (map opening_of (x ∷ xs)) ≡ true
+      back left is whole = ap (λ (o : Option (List Part)). list_any is_empty (left_behind (cons_option o []) (map opening_of xs))) is ∙ whole
+
+      counted : {left : List Part} (m : Stays three spot x left) → length (all_needs_in (above ++ x ∷ [])) + owed m.to ≡ length (rotations_in w (above ++ x ∷ []))
+      counted m =
+          let one = said_more needs_in above x in
+          let other = said_more (rotation_in w) above x in
+          let c = m.counts in
+          omega (arith, h)
+
+      on : {left : List Part} → Stays three spot x left → Turns (above ++ x ∷ []) xs → Turns above (x ∷ xs)
+      on m deep = record {
+        at = at;
+        all = subst (λ (ls : List LineData). length (all_needs_in ls) ≡ length (rotations_in w ls)) (append_assoc above (x ∷ []) xs) deep.all;
+        splits = one_split rest x xs deep.splits;
+      }
+        where
+          at : (j : ℕ) (y : LineData) → slice_get (x ∷ xs) j ≡ Some y → IsSome (needs_in y) → length (all_needs_in (above ++ take j (x ∷ xs))) + 1 ≡ length (rotations_in w (above ++ take j (x ∷ xs)))
+          at zero y there some =
+              let same : x ≡ y = some_same there in
+              let o = m.needed (subst (λ (z : LineData). IsSome (needs_in z)) (sym same) some) in
+              subst (λ (ls : List LineData). length (all_needs_in ls) + 1 ≡ length (rotations_in w ls)) (sym (append-nil above)) (omega (arith, o, h))
+          at (suc j) y there some =
+              subst (λ (ls : List LineData). length (all_needs_in ls) + 1 ≡ length (rotations_in w ls)) (append_assoc above (x ∷ []) (take j xs)) (deep.at j y there some)
 
   -- one more line above, which tells of no rotation
-  pub turns_from : (x : LineData) {rest : List LineData} → rotation_in w x ≡ None → needs_in x ≡ None → Turns (x ∷ []) rest → Turns [] (x ∷ rest)
-  turns_from x {rest} a b t = record { at = at; all = t.all }
+  pub turns_from : (x : LineData) {lines : List LineData} → rotation_in w x ≡ None → needs_in x ≡ None → Turns (x ∷ []) lines → Turns [] (x ∷ lines)
+  turns_from x {lines} a b t = record { at = at; all = t.all; splits = one_split rest x lines t.splits }
     where
-      at : (j : ℕ) (y : LineData) → slice_get (x ∷ rest) j ≡ Some y → IsSome (needs_in y) → length (all_needs_in (take j (x ∷ rest))) + 1 ≡ length (rotations_in w (take j (x ∷ rest)))
+      at : (j : ℕ) (y : LineData) → slice_get (x ∷ lines) j ≡ Some y → IsSome (needs_in y) → length (all_needs_in (take j (x ∷ lines))) + 1 ≡ length (rotations_in w (take j (x ∷ lines)))
       at zero y there some = absurd (let same : x ≡ y = some_same there in let none = subst IsSome b (subst (λ (z : LineData). IsSome (needs_in z)) (sym same) some) in cc)
       at (suc j) y there some = t.at j y there some

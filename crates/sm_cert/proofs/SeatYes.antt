@@ -1,5 +1,5 @@
 -- The first and the last seats of an answer that gets a yes.
-use Rattle.std.proofs.Common.{◌≡◌, ◌≢◌, ℕ, ◌+◌, ◌<◌, ◌⊎◌, ◌||◌, ◌==◌, inl, inr, arith, refl, sym, ap, ◌∙◌, Bool, true, false, List, [], ◌∷◌, ◌++◌, length, map, take, Option, Some, None, subst}
+use Rattle.std.proofs.Common.{◌≡◌, ℕ, ◌⊎◌, ◌||◌, ◌==◌, inl, inr, arith, refl, sym, Bool, false, List, [], ◌∷◌, length, map, take, Option, None, subst}
 use Rattle.std.specs.Prelude.{Contains, IfSome, filter_map}
 use Rattle.std.specs.List.{slice_get, range_with_len}
 use Rattle.std.specs.Option.{option_map}
@@ -8,16 +8,11 @@ use Rattle.std.proofs.lemmas.List.FromFn.{length-map-range_with_len, get_or-map-
 use Rattle.std.proofs.lemmas.List.Elements.{Contains-append_cases}
 use Rattle.sm_instance.specs.Written.{Written}
 use Rattle.sm_market.specs.Lists.{Lists, place_of}
-use Rattle.sm_market.specs.Stable.{IsProposersBest, IsReviewersBest}
-use Rattle.sm_seats.specs.SeatMarket.{seat_market}
 use Rattle.sm_pairs.specs.Held.{partner_in}
-use Rattle.sm_report.specs.Heads.{HeadData}
 use Rattle.sm_report.specs.Lines.{LineData}
-use Rattle.sm_cert.specs.declared.keywords.Keyword.TheVariants as keyword
-use Rattle.sm_cert.specs.declared.verdicts.Reason.TheVariants as reason
 use Rattle.sm_cert.specs.Keywords.{keyword_of, number_of}
-use Rattle.sm_cert.specs.Said.{first_in, firsts_in, last_in, lasts_in, is_up_to_firsts, is_up_to_lasts}
-use Rattle.sm_cert.specs.SeatMatchings.{IsFreeSeat, seat_places_in, first_of, last_of}
+use Rattle.sm_cert.specs.Said.{first_in, last_in, is_up_to_firsts, is_up_to_lasts}
+use Rattle.sm_cert.specs.SeatMatchings.{IsFreeSeat, seat_places_in}
 use Rattle.sm_cert.specs.Yes.{ArePairsOf}
 use Rattle.sm_cert.proofs.GroupLemmas.{Tells}
 use Rattle.sm_cert.proofs.YesLines.{grown}

@@ -1,5 +1,5 @@
 -- What a yes on an answer of `solve` and of `regret` means over an instance with two sides.
-use Rattle.std.proofs.Common.{◌≡◌, ℕ, ◌<◌, arith, refl, sym, ap, ◌∙◌, List, [], ◌∷◌, ◌++◌, length, map, take, Option, Some, None, subst, Bool, false, true, ◌==◌, ◌⊎◌, inl, inr, if◌then◌else◌, slice_index_or}
+use Rattle.std.proofs.Common.{◌≡◌, ℕ, arith, refl, sym, ap, ◌∙◌, List, [], ◌∷◌, ◌++◌, length, map, take, Option, Some, None, subst, Bool, false, true, ◌==◌, ◌⊎◌, inl, if◌then◌else◌, slice_index_or}
 use Rattle.std.specs.Prelude.{IfSome, filter_map}
 use Rattle.std.specs.List.{slice_get, cons_option}
 use Rattle.std.specs.Option.{option_map}
@@ -7,12 +7,12 @@ use Rattle.std.proofs.lemmas.Bool.{false≢true}
 use Rattle.std.proofs.lemmas.List.{length-map}
 use Rattle.std.proofs.lemmas.List.FromFn.{length-map-range_with_len}
 use Rattle.sm_lists.specs.Rows.{place_on}
-use Rattle.sm_instance.specs.Written.{Written, place_of, row, lists_of}
+use Rattle.sm_instance.specs.Written.{Written, place_of, lists_of}
 use Rattle.sm_instance.specs.Stable.{IsStable}
 use Rattle.sm_instance.specs.Allowed.{IsAllowed}
 use Rattle.sm_instance.specs.Ranks.{regret_of}
 use Rattle.sm_instance.proofs.CrossLemmas.{row-lists_of}
-use Rattle.sm_market.specs.Lists.{place_of as place_in_rows, row as row_in_rows}
+use Rattle.sm_market.specs.Lists.{place_of as place_in_rows}
 use Rattle.sm_pairs.specs.Held.{partner_in, place_in, places_in}
 use Rattle.sm_pairs.proofs.HoldingLemmas.{held_place}
 use Rattle.sm_report.specs.Heads.{HeadData}
@@ -20,13 +20,13 @@ use Rattle.sm_report.specs.Lines.{LineData}
 use Rattle.sm_cert.specs.declared.verdicts.Reason.TheVariants as reason
 use Rattle.sm_cert.specs.declared.keywords.Keyword.TheVariants as keyword
 use Rattle.sm_cert.specs.declared.layouts.Part.{Part}
-use Rattle.sm_cert.specs.declared.layouts.Part.TheVariants.{One, Many}
+use Rattle.sm_cert.specs.declared.layouts.Part.TheVariants.{Many}
 use Rattle.sm_cert.specs.Keywords.{keyword_of, number_of}
 use Rattle.sm_cert.specs.Forms.{closing, regret_layout, opening_of}
 use Rattle.sm_cert.specs.Layouts.{is_whole, begins}
 use Rattle.sm_cert.specs.Said.{pair_in, pairs_in, regret_in, first_said}
 use Rattle.sm_cert.specs.Pairs.{IsFree, IsBestOf}
-use Rattle.sm_cert.specs.Yes.{ArePairsOf, IsSolved, SolveYes, HasRegret, RegretYes}
+use Rattle.sm_cert.specs.Yes.{ArePairsOf, SolveYes, RegretYes}
 use Rattle.sm_cert.proofs.GroupLemmas.{Tells, goes, all_down, none_said}
 use Rattle.sm_cert.proofs.YesLines.{some_same, right_two, by_head, at_closing, said_above, grown}
 use Rattle.sm_cert.proofs.YesPairs.{AreGiven, none_given, one_given, pairs_of}

@@ -1,5 +1,5 @@
 -- The lines of an answer that gets a yes: all clauses hold at each, and the last one closes it.
-use Rattle.std.proofs.Common.{◌≡◌, ◌≢◌, ℕ, zero, suc, ◌+◌, ◌<◌, ◌≤◌, ◌||◌, arith, refl, sym, ap, ◌∙◌, Bool, true, false, List, [], ◌∷◌, ◌++◌, length, map, take, slice_index_or, Option, Some, None, subst, append-nil, length-append, take_all}
+use Rattle.std.proofs.Common.{◌≡◌, ◌≢◌, ℕ, zero, suc, ◌≤◌, ◌||◌, arith, refl, sym, ap, ◌∙◌, Bool, true, false, List, [], ◌∷◌, ◌++◌, length, map, take, slice_index_or, Option, Some, None, subst, append-nil, length-append, take_all}
 use Rattle.std.specs.Prelude.{IfSome, filter_map}
 use Rattle.std.specs.List.{cons_option, list_any, slice_get}
 use Rattle.std.proofs.lemmas.Bool.{false≢true}
@@ -12,7 +12,6 @@ use Rattle.sm_instance.specs.declared.inputs.Input.{Input}
 use Rattle.sm_instance.specs.declared.inputs.Input.TheVariants.{Two, Room}
 use Rattle.sm_report.specs.Heads.{HeadData}
 use Rattle.sm_report.specs.Lines.{LineData}
-use Rattle.sm_cert.specs.declared.keywords.Keyword.{Keyword}
 use Rattle.sm_cert.specs.declared.keywords.Keyword.TheVariants as keyword
 use Rattle.sm_cert.specs.declared.layouts.Opening.{Opening}
 use Rattle.sm_cert.specs.declared.verdicts.Reason.{Reason}
