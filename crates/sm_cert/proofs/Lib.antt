@@ -7,6 +7,7 @@ mod SolvingLemmas
 mod VectorLemmas
 mod LeftLemmas
 mod TakingLemmas
+mod CheckLemmas
 mod SeatLemmas
 mod YesLemmas
 mod LinewiseLemmas

@@ -5,6 +5,7 @@
 #![tactic(auto)]
 
 mod answers;
+mod checking;
 mod chosen;
 mod couples;
 mod faults;
@@ -20,13 +21,15 @@ mod persons;
 mod reading;
 mod regret;
 mod solving;
+mod stubs;
 mod verdicts;
 mod wanted;
 pub mod witnesses;
 
+pub use checking::check;
 pub use chosen::chosen_verdict;
 pub use couples::couples_verdict;
-pub use faults::AnswerFault;
+pub use faults::{AnswerFault, CertFault};
 pub use listing::list_verdict;
 pub use parties::parties_verdict;
 pub use reading::read_answer;
