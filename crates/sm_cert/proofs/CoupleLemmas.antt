@@ -22,7 +22,7 @@ use Rattle.sm_cert.proofs.PersonLemmas.{among_of, of_among}
 use Rattle.sm_cert.specs.PartiesKept.{is_among}
 
 -- whom pairs give somebody that has nobody in the first of them
-partner_behind : (xs ys : List (ℕ × ℕ)) (z : ℕ) → partner_in (xs ++ ys) z ≡ option_or (partner_in xs z) (partner_in ys z)
+pub partner_behind : (xs ys : List (ℕ × ℕ)) (z : ℕ) → partner_in (xs ++ ys) z ≡ option_or (partner_in xs z) (partner_in ys z)
 partner_behind [] ys z = refl
 partner_behind (x ∷ xs) ys z = go (eqb x.0 z) (partner_behind xs ys z)
   where

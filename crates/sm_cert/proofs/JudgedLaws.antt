@@ -1,5 +1,5 @@
 -- A text is judged once, and isn't bad then.
-use Rattle.std.proofs.Common.{◌≡◌, ℕ, suc, ◌+◌, ◌<◌, inl, inr, arith, sym, ap, ◌∙◌, subst, Bool, true, false, List, [], ◌∷◌, length, map, take, drop}
+use Rattle.std.proofs.Common.{◌≡◌, ℕ, suc, ◌+◌, inl, inr, arith, sym, ap, ◌∙◌, subst, Bool, true, List, [], ◌∷◌, length, map, take, drop}
 use Rattle.std.specs.List.{list_all}
 use Rattle.std.proofs.lemmas.Bool.{false≢true}
 use Rattle.std.proofs.lemmas.List.{take-map, take-append-drop}

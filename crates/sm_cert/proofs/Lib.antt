@@ -10,6 +10,8 @@ mod TakingLemmas
 mod CheckLemmas
 mod SeatLemmas
 mod YesLemmas
+mod YesLines
+mod SolveYes
 mod LinewiseLemmas
 mod WitnessLemmas
 mod AnswerLemmas

@@ -1,18 +1,28 @@
 -- What a yes on an answer means.
-use Rattle.std.specs.Prelude.{◌≡◌, ℕ, ◌+◌, ◌<◌, ◌≤◌, List, [], length, Option, Some, slice_index_or}
+use Rattle.std.specs.Prelude.{◌≡◌, ◌≢◌, ℕ, ◌+◌, ◌<◌, ◌≤◌, ◌↔◌, List, [], ◌∷◌, length, filter_map, Option, None, Some, slice_index_or, Contains}
 use Rattle.std.specs.List.{slice_get}
-use Rattle.sm_instance.specs.Written.{Written}
-use Rattle.sm_instance.specs.Ranks.{IsBefore}
+use Rattle.sm_instance.specs.Written.{Written, AgentData, place_of, lists_of}
+use Rattle.sm_instance.specs.Matching.{held}
+use Rattle.sm_instance.specs.Stable.{IsStable}
+use Rattle.sm_instance.specs.Allowed.{IsAllowed}
+use Rattle.sm_instance.specs.Ranks.{IsBefore, regret_of}
+use Rattle.sm_instance.specs.declared.kinds.Side.{Side}
 use Rattle.sm_instance.specs.declared.inputs.Input.{Input}
-use Rattle.sm_instance.specs.declared.inputs.Input.TheVariants.{Two}
+use Rattle.sm_instance.specs.declared.inputs.Input.TheVariants.{Two, Room}
 use Rattle.sm_theory.specs.Listings.{IsBehind}
+use Rattle.sm_theory.specs.Rooms.{mate_of, IsRoomStable}
+use Rattle.sm_theory.specs.declared.choice.Choice.{Choice}
+use Rattle.sm_theory.specs.declared.choice.Choice.TheVariants.{Better, Worse}
 use Rattle.sm_seats.specs.Vectors.{IsAllowedRankVector}
+use Rattle.sm_pairs.specs.Held.{pair_at}
+use Rattle.sm_pairs.specs.Chosen.{chosen_places}
 use Rattle.sm_report.specs.Heads.{HeadData}
 use Rattle.sm_report.specs.Lines.{LineData}
 use Rattle.sm_cert.specs.declared.verdicts.Verdict.TheVariants as verdict
 use Rattle.sm_cert.specs.Verdicts.{IsVerdict}
 use Rattle.sm_cert.specs.Forms.{AreAnswer}
-use Rattle.sm_cert.specs.Said.{vectors_in}
+use Rattle.sm_cert.specs.Said.{pairs_in, lefts_in, rights_in, regret_in, vectors_in}
+use Rattle.sm_cert.specs.Pairs.{IsBestOf}
 use Rattle.sm_cert.specs.Vectors.{order_of}
 use Rattle.sm_cert.specs.Judging.{Holds}
 
@@ -35,3 +45,72 @@ pub record AreListed (w : Written) (after : Option (List ℕ)) (limit : ℕ) (ve
 abbrev pub ListYes : Type 0
 ListYes = (w : Written) (after : Option (List ℕ)) (limit : ℕ) (lines : List LineData)
     → GetsYes (Two w) (HeadData.List after limit) lines → AreListed w after limit (vectors_in lines)
+
+-- no two pairs begin with one agent
+abbrev pub AreApart : List (ℕ × ℕ) → Type 0
+AreApart pairs = (i j : ℕ) → i < j → j < length pairs → (pair_at pairs i).0 ≢ (pair_at pairs j).0
+
+-- the pairs are those of a matching: each of them stands, once, and no other does
+pub record ArePairsOf (w : Written) (places : List (Option ℕ)) (pairs : List (ℕ × ℕ)) : Type 0 where
+  pub each : (p r : ℕ) → Contains pairs (p, r) ↔ (held places p ≡ Some (place_of w.proposers p r))
+  pub once : AreApart pairs
+
+-- a side's best stable matching
+pub record IsSolved (w : Written) (side : Side) (pairs : List (ℕ × ℕ)) : Type 0 where
+  pub places : List (Option ℕ)
+  pub best : IsBestOf side w places
+  pub written : ArePairsOf w places pairs
+
+-- a yes on `solve`
+abbrev pub SolveYes : Type 0
+SolveYes = (w : Written) (side : Side) (lines : List LineData)
+    → GetsYes (Two w) (HeadData.Solve (Some side)) lines → IsSolved w side (pairs_in lines)
+
+-- an allowed stable matching and its regret. Nothing is said of whether it is the least.
+pub record HasRegret (w : Written) (regrets : List ℕ) (pairs : List (ℕ × ℕ)) : Type 0 where
+  pub places : List (Option ℕ)
+  pub stable : IsStable w places
+  pub allowed : IsAllowed w places
+  pub regret : regrets ≡ regret_of w places ∷ []
+  pub written : ArePairsOf w places pairs
+
+-- a yes on `regret`
+abbrev pub RegretYes : Type 0
+RegretYes = (w : Written) (lines : List LineData)
+    → GetsYes (Two w) HeadData.Regret lines → HasRegret w (filter_map regret_in lines) (pairs_in lines)
+
+-- two stable matchings, and the better or the worse of them for each proposer
+pub record IsChosen (choice : Choice) (w : Written) (lefts rights pairs : List (ℕ × ℕ)) : Type 0 where
+  pub left : List (Option ℕ)
+  pub right : List (Option ℕ)
+  pub left_stable : IsStable w left
+  pub right_stable : IsStable w right
+  pub left_written : ArePairsOf w left lefts
+  pub right_written : ArePairsOf w right rights
+  pub written : ArePairsOf w (chosen_places choice w left right) pairs
+
+-- a yes on `meet`, and one on `join`
+abbrev pub MeetYes : Type 0
+MeetYes = (w : Written) (lines : List LineData)
+    → GetsYes (Two w) HeadData.Meet lines → IsChosen Better w (lefts_in lines) (rights_in lines) (pairs_in lines)
+
+abbrev pub JoinYes : Type 0
+JoinYes = (w : Written) (lines : List LineData)
+    → GetsYes (Two w) HeadData.Join lines → IsChosen Worse w (lefts_in lines) (rights_in lines) (pairs_in lines)
+
+-- a stable matching of roommates: each couple stands once, its lower-numbered person first
+pub record IsCoupled (persons : List AgentData) (pairs : List (ℕ × ℕ)) : Type 0 where
+  pub mates : List (Option ℕ)
+  pub stable : IsRoomStable (lists_of persons) mates
+  pub each : (x y : ℕ) → Contains pairs (x, y) ↔ ((x < y) × (mate_of mates x ≡ Some y))
+  pub once : AreApart pairs
+
+-- a yes on `solve` over roommates, where a matching is written
+abbrev pub CouplesYes : Type 0
+CouplesYes = (persons : List AgentData) (lines : List LineData) → GetsYes (Room persons) (HeadData.Solve None) lines
+    → slice_get lines 1 ≢ Some LineData.Nothing → IsCoupled persons (pairs_in lines)
+
+-- and where there is said to be none
+abbrev pub NoneYes : Type 0
+NoneYes = (persons : List AgentData) (lines : List LineData) → GetsYes (Room persons) (HeadData.Solve None) lines
+    → slice_get lines 1 ≡ Some LineData.Nothing → (mates : List (Option ℕ)) → ¬ IsRoomStable (lists_of persons) mates

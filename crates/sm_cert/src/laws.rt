@@ -2,7 +2,7 @@
 //! over the definitions alone.
 
 ghost use Rattle.sm_cert.specs.Laws.{OneVerdict, OneJudgement, JudgedIsntBad, WholeIsBegun, WholeEnds};
-ghost use Rattle.sm_cert.specs.Yes.{ListYes};
+ghost use Rattle.sm_cert.specs.Yes.{ListYes, SolveYes};
 
 /// There is no more than one verdict on an answer.
 pub fn one_verdict()
@@ -32,4 +32,10 @@ pub fn whole_ends()
 /// Where an answer of `list` gets a yes, its vectors are those of allowed stable matchings, and rise from the cursor.
 pub fn list_yes()
     ensures { ListYes }
+{}
+
+/// Where an answer of `solve` over an instance with two sides gets a yes, its pairs are those of the stable matching that is
+/// best for the side it names: each pair of that matching stands once, and no other pair does.
+pub fn solve_yes()
+    ensures { SolveYes }
 {}

@@ -187,7 +187,7 @@ fn go_all(levels: &[Vec<u32>], moves: &[Vec<Move>], keys: &Pairs, sink: u32, nod
 }
 
 /// The moves of a rotation.
-fn moves_at(moves: &[Vec<Move>], k: usize) -> &[Move]
+pub(crate) fn moves_at(moves: &[Vec<Move>], k: usize) -> &[Move]
     requires { k < length moves.now }
     ensures { result.now ≡ row_of_moves (moves_in moves.now) k }
 {
