@@ -8,6 +8,7 @@ ghost use Rattle.sm_instance.specs.declared.inputs.Input.TheVariants.{Two, Room}
 ghost use Rattle.sm_report.specs.Heads.{HeadData, head_of};
 ghost use Rattle.sm_report.specs.Lines.{line_of};
 ghost use Rattle.sm_seats.specs.SeatEntries.{IsSeatsFault};
+ghost use Rattle.sm_seats.specs.Tables.{first_seats_of};
 ghost use Rattle.sm_cert.specs.Forms.{AreAnswer};
 ghost use Rattle.sm_cert.specs.Taking.{AreFirsts};
 ghost use Rattle.sm_cert.specs.Verdicts.{AtLine, IsVerdict};
@@ -54,29 +55,9 @@ pub fn check(
     ensures few { OnOk result (HasFewSeats input.now) }
     ensures fault { IfErr result (λ f. IsCertFault input.now (map content (lines answer.now)) first_line f) }
 {
-    let lines = read_lines(alloc, input, answer, first_line)?;
-    Ok(judge(alloc, input, &lines, first_line)?)
-}
-
-// The lines of an answer, of which the first has this number, where the seats aren't too many.
-fn read_lines(
-    alloc: Global,
-    input: &Input,
-    answer: &[u8],
-    first_line: u32,
-) -> Result<Vec<Line>, CertFault>
-    requires short { length answer.now ≤ most_bytes }
-    requires first_line { first_line ≤ most_bytes + 1 }
-    ensures lines { IfOk result (λ found. AreAnswer input.now (map content (lines answer.now)) (map line_of found.items)) }
-    ensures few { OnOk result (HasFewSeats input.now) }
-    ensures fault { IfErr result (λ f. IsCertFault input.now (map content (lines answer.now)) first_line f) }
-{
     let firsts = first_seats(alloc, input)?;
-    match read_answer(alloc, input, &firsts, answer) {
-        Ok(lines) => Ok(lines),
-        Err(AnswerFault::Misplaced(k)) => Err(CertFault::BadAnswer(first_line + k)),
-        Err(AnswerFault::OutOfMemory) => Err(CertFault::OutOfMemory),
-    }
+    let lines = read_lines(alloc, input, &firsts, answer, first_line)?;
+    Ok(judge(alloc, input, &firsts, &lines, first_line)?)
 }
 
 // The first seat of each reviewer, over two sides.
@@ -94,20 +75,44 @@ fn first_seats(alloc: Global, input: &Input) -> Result<Vec<u32>, SeatsFault>
     }
 }
 
+// The lines of an answer, of which the first has this number.
+fn read_lines(
+    alloc: Global,
+    input: &Input,
+    firsts: &[u32],
+    answer: &[u8],
+    first_line: u32,
+) -> Result<Vec<Line>, CertFault>
+    requires firsts { AreFirsts input.now firsts.now }
+    requires few { HasFewSeats input.now }
+    requires short { length answer.now ≤ most_bytes }
+    requires first_line { first_line ≤ most_bytes + 1 }
+    ensures lines { IfOk result (λ found. AreAnswer input.now (map content (lines answer.now)) (map line_of found.items)) }
+    ensures fault { IfErr result (λ f. IsCertFault input.now (map content (lines answer.now)) first_line f) }
+{
+    match read_answer(alloc, input, firsts, answer) {
+        Ok(lines) => Ok(lines),
+        Err(AnswerFault::Misplaced(k)) => Err(CertFault::BadAnswer(first_line + k)),
+        Err(AnswerFault::OutOfMemory) => Err(CertFault::OutOfMemory),
+    }
+}
+
 // The verdict on an answer.
 fn judge(
     alloc: Global,
     input: &Input,
+    firsts: &[u32],
     lines: &[Line],
     first_line: u32,
 ) -> Result<Verdict, SeatsFault>
     requires few { first_line + length lines.now < 2 ^ 32 }
+    requires firsts { AreFirsts input.now firsts.now }
     requires own { (subject : Subject) → input_of subject ≡ input.now → All (IsOwnLine subject) (map line_of lines.now) }
     ensures verdict { IfOk result (λ v. IsVerdict (Holds input.now (map line_of lines.now)) first_line v) }
     ensures fault { IfErr result (λ f. HasSeatsFault input.now f) }
 {
     match input {
-        Input::Two(instance) => judge_two(alloc, instance, lines, first_line),
+        Input::Two(instance) => judge_two(alloc, instance, firsts, lines, first_line),
         Input::Room(persons) => Ok(judge_room(alloc, persons, lines, first_line)?),
     }
 }
@@ -116,16 +121,18 @@ fn judge(
 fn judge_two(
     alloc: Global,
     instance: &Instance,
+    firsts: &[u32],
     lines: &[Line],
     first_line: u32,
 ) -> Result<Verdict, SeatsFault>
     requires few { first_line + length lines.now < 2 ^ 32 }
+    requires firsts { firsts.now ≡ first_seats_of instance.now }
     requires own { (head : HeadData) → All (IsOwnLine (answer instance.now head)) (map line_of lines.now) }
     ensures verdict { IfOk result (λ v. IsVerdict (Holds (Two instance.now) (map line_of lines.now)) first_line v) }
     ensures fault { IfErr result (λ f. IsSeatsFault instance.now f) }
 {
     match head_in(lines) {
-        Some(head) => judge_head(alloc, instance, head, lines, first_line),
+        Some(head) => judge_head(alloc, instance, firsts, head, lines, first_line),
         None => Ok(Verdict::Yes),
     }
 }
@@ -144,11 +151,13 @@ fn head_in(lines: &[Line]) -> Option<&Head>
 fn judge_head(
     alloc: Global,
     instance: &Instance,
+    firsts: &[u32],
     head: &Head,
     lines: &[Line],
     first_line: u32,
 ) -> Result<Verdict, SeatsFault>
     requires few { first_line + length lines.now < 2 ^ 32 }
+    requires firsts { firsts.now ≡ first_seats_of instance.now }
     requires own { (head : HeadData) → All (IsOwnLine (answer instance.now head)) (map line_of lines.now) }
     requires head { first_head (map line_of lines.now) ≡ Some (head_of head.now) }
     ensures verdict { IfOk result (λ v. IsVerdict
@@ -162,11 +171,11 @@ fn judge_head(
         }
         Head::Reduced => {
             let seats = Seats::of(alloc, instance)?;
-            Ok(reduced_verdict(alloc, instance, &seats, lines, first_line)?)
+            Ok(reduced_verdict(alloc, instance, &seats, firsts, lines, first_line)?)
         }
         Head::Rotations => {
             let seats = Seats::of(alloc, instance)?;
-            Ok(rotations_verdict(alloc, instance, &seats, lines, first_line)?)
+            Ok(rotations_verdict(alloc, instance, &seats, firsts, lines, first_line)?)
         }
         Head::List(after, limit) => {
             let after = after.as_deref();

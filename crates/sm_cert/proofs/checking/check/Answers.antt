@@ -14,10 +14,10 @@ judge-requires-clause-few c =
     let many = as_many c.args.input.now (map content (lines bytes)) (map line_of items) c.in_ok-lines.ensures.lines in
     let read = length-map items line_of in
     let texts = length-map (lines bytes) content in
-    let same = ap length c.deref.ensures.value in
+    let same = ap length c.deref-3.ensures.value in
     omega (arith, many, read, texts, same, length-lines-le bytes, c.requires.short, c.requires.first_line)
 
 pub judge-requires-clause-own : goal.judge-requires-clause-own
 judge-requires-clause-own c = λ subject is.
-    subst (λ (found : List Line). All (IsOwnLine subject) (map line_of found)) (sym c.deref.ensures.value)
+    subst (λ (found : List Line). All (IsOwnLine subject) (map line_of found)) (sym c.deref-3.ensures.value)
     (own_lines c.args.input.now (map content (lines c.args.answer.now)) (map line_of c.in_ok-lines.lines.items) c.in_ok-lines.ensures.lines subject is)
