@@ -21,3 +21,4 @@ pub mod SpanLemmas
 pub mod NetOfLemmas
 pub mod SetPlaceLemmas
 pub mod NetWitness
+pub mod EdgeLemmas
