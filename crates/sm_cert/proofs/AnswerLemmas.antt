@@ -1,5 +1,5 @@
 -- The walk through the lines of an answer: the clauses hold above a line, and something is kept for the lines below.
-use Rattle.std.proofs.Common.{◌≡◌, ℕ, ◌+◌, ◌<◌, ◌≤◌, arith, refl, subst, ⊎_elim, List, [], ◌∷◌, ◌++◌, length, map, take, get_or, Option, None, Some, lit≤}
+use Rattle.std.proofs.Common.{◌≡◌, ℕ, ◌+◌, ◌<◌, ◌≤◌, arith, refl, ap, ◌∙◌, subst, ⊎_elim, List, [], ◌∷◌, ◌++◌, length, map, take, get_or, Option, None, Some, lit≤}
 use Rattle.std.specs.Prelude.{All, filter_map}
 use Rattle.std.specs.List.{slice_get, cons_option}
 use Rattle.std.specs.Option.{option_or}
@@ -14,7 +14,7 @@ use Rattle.sm_cert.specs.declared.verdicts.Reason.TheVariants as reason
 use Rattle.sm_cert.specs.declared.verdicts.Verdict.TheVariants as verdict
 use Rattle.sm_cert.specs.Verdicts.{AtLine, IsVerdict, IsFirstThere, Finds, number_of_reason}
 use Rattle.sm_cert.specs.Walking.{FindsOrKeeps}
-use Rattle.sm_cert.proofs.JudgingLemmas.{first_failure, one_more, line_at, found_at, past_end}
+use Rattle.sm_cert.proofs.JudgingLemmas.{first_failure, one_more, line_at, found_at, past_end, above_next}
 
 -- what holds of all lines, of one that is read
 pub line_right : (P : LineData → Type 0) (lines : List Line) (k : ℕ) (x : Line) → k < length lines → x ≡ get_or lines k x → All P (map line_of lines) → P (line_of x)
@@ -40,6 +40,11 @@ found_by to from (Some why) f = record { clauses_before = λ other l. to other (
 pub finds_keeping : (Holds : Reason → Type 0) (Kept : Type 0) (r : Option Reason) → Finds Holds r → Kept → FindsOrKeeps Holds Kept r
 finds_keeping Holds Kept None f k = (f, k)
 finds_keeping Holds Kept (Some why) f k = f
+
+-- what is kept is kept as anything that follows of it
+pub kept_as : (Holds : Reason → Type 0) {A B : Type 0} → (A → B) → (r : Option Reason) → FindsOrKeeps Holds A r → FindsOrKeeps Holds B r
+kept_as Holds f None found = (found.0, f found.1)
+kept_as Holds f (Some why) found = found
 
 -- the clause of the first reason, where it fails
 least_reason : (why : Reason) → 1 ≤ number_of_reason why

@@ -32,7 +32,7 @@ partner_behind (x ∷ xs) ys z = go (eqb x.0 z) (partner_behind xs ys z)
     go false e = e
 
 -- a person has somebody where it stands in a pair
-partner_there : (pairs : List (ℕ × ℕ)) (z : ℕ) → is_some (partner_in (both_ways pairs) z) ≡ is_among z (persons_of pairs)
+pub partner_there : (pairs : List (ℕ × ℕ)) (z : ℕ) → is_some (partner_in (both_ways pairs) z) ≡ is_among z (persons_of pairs)
 partner_there [] z = refl
 partner_there (x ∷ pairs) z = go (eqb x.0 z) (eqb x.1 z) (partner_there pairs z)
   where
@@ -42,7 +42,7 @@ partner_there (x ∷ pairs) z = go (eqb x.0 z) (eqb x.1 z) (partner_there pairs 
     go false true e = refl
     go false false e = e
 
-none_where : (o : Option ℕ) → is_some o ≡ false → o ≡ None
+pub none_where : (o : Option ℕ) → is_some o ≡ false → o ≡ None
 none_where None e = refl
 none_where (Some x) e = absurd (false≢true (sym e))
 

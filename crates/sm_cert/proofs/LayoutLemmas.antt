@@ -16,7 +16,7 @@ use Rattle.sm_cert.specs.Layouts.{begins, keyword_at, later, behind, left_behind
 use Rattle.sm_cert.specs.Forms.{layouts_of}
 use Rattle.sm_cert.specs.Laws.{WholeIsBegun, closing_of, EndsWith, WholeEnds}
 
-none_left : (lines : List Opening) → left_behind [] lines ≡ []
+pub none_left : (lines : List Opening) → left_behind [] lines ≡ []
 none_left [] = refl
 none_left (line ∷ lines) = none_left lines
 

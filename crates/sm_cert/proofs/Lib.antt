@@ -4,6 +4,9 @@ mod LayoutLemmas
 mod JudgingLemmas
 mod ListingLemmas
 mod SolvingLemmas
+mod SeatPairLemmas
+mod ChainLengths
+mod WalkLemmas
 mod VectorLemmas
 mod LeftLemmas
 mod TakingLemmas
@@ -11,7 +14,16 @@ mod CheckLemmas
 mod SeatLemmas
 mod YesLemmas
 mod YesLines
+mod YesPairs
+mod GroupLemmas
 mod SolveYes
+mod SeatYes
+mod ReducedYes
+mod RotationLines
+mod RotationsYes
+mod ChosenYes
+mod CouplesYes
+mod NoneYes
 mod LinewiseLemmas
 mod WitnessLemmas
 mod AnswerLemmas

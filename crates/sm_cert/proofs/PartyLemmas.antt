@@ -45,27 +45,27 @@ none_times x (y ∷ ys) e = ⊎_elim
     (cases_eq y x)
 
 -- at least once, and at least twice
-once_least : (x : ℕ) (xs : List ℕ) (i : ℕ) → i < length xs → get_or xs i 0 ≡ x → 1 ≤ count_by (λ z. z == x) xs
+pub once_least : (x : ℕ) (xs : List ℕ) (i : ℕ) → i < length xs → get_or xs i 0 ≡ x → 1 ≤ count_by (λ z. z == x) xs
 once_least x [] i l e = absurd (omega arith)
 once_least x (y ∷ ys) zero l e = omega (arith, times_here x y ys e)
 once_least x (y ∷ ys) (suc i) l e = omega (arith, once_least x ys i (omega (arith, l)) e, times_next x y ys)
 
-twice_least : (x : ℕ) (xs : List ℕ) (i j : ℕ) → i < j → j < length xs → get_or xs i 0 ≡ x → get_or xs j 0 ≡ x → 2 ≤ count_by (λ z. z == x) xs
+pub twice_least : (x : ℕ) (xs : List ℕ) (i j : ℕ) → i < j → j < length xs → get_or xs i 0 ≡ x → get_or xs j 0 ≡ x → 2 ≤ count_by (λ z. z == x) xs
 twice_least x [] i j i_j l a b = absurd (omega arith)
 twice_least x (y ∷ ys) i zero i_j l a b = absurd (omega arith)
 twice_least x (y ∷ ys) zero (suc j) i_j l a b = omega (arith, times_here x y ys a, once_least x ys j (omega (arith, l)) b)
 twice_least x (y ∷ ys) (suc i) (suc j) i_j l a b = omega (arith, twice_least x ys i j (omega (arith, i_j)) (omega (arith, l)) a b, times_next x y ys)
 
 -- a person that stands among some stands at a place
-record StandsAt (x : ℕ) (xs : List ℕ) : Type 0 where
-  at : ℕ
-  on_list : at < length xs
-  is : get_or xs at 0 ≡ x
+pub record StandsAt (x : ℕ) (xs : List ℕ) : Type 0 where
+  pub at : ℕ
+  pub on_list : at < length xs
+  pub is : get_or xs at 0 ≡ x
 
-stands_at : (x : ℕ) (xs : List ℕ) → Contains xs x → StandsAt x xs
+pub stands_at : (x : ℕ) (xs : List ℕ) → Contains xs x → StandsAt x xs
 stands_at x xs c = record { at = c.0; on_list = c.1; is = get_or_default xs c.0 0 x c.1 ∙ c.2 }
 
-among_at : (xs : List ℕ) (i : ℕ) → i < length xs → is_among (get_or xs i 0) xs ≡ true
+pub among_at : (xs : List ℕ) (i : ℕ) → i < length xs → is_among (get_or xs i 0) xs ≡ true
 among_at xs i l = among_of xs (get_or xs i 0) (i, l, get_or_default xs i (get_or xs i 0) 0 l)
 
 not_among : (x : ℕ) (xs : List ℕ) → ((i : ℕ) → i < length xs → get_or xs i 0 ≢ x) → is_among x xs ≡ false
@@ -97,7 +97,7 @@ or_false : (b : Bool) → (b || false) ≡ b
 or_false true = refl
 or_false false = refl
 
-times_more : (parties : List (List ℕ)) (party : List ℕ) (x : ℕ) → count_by (λ z. z == x) (members_of (parties ++ party ∷ [])) ≡ count_by (λ z. z == x) (members_of parties) + count_by (λ z. z == x) party
+pub times_more : (parties : List (List ℕ)) (party : List ℕ) (x : ℕ) → count_by (λ z. z == x) (members_of (parties ++ party ∷ [])) ≡ count_by (λ z. z == x) (members_of parties) + count_by (λ z. z == x) party
 times_more parties party x =
     let f : ℕ → ℕ = λ z. cond (eqb z x) 1 0 in
     let all = ap (sum_by f) (flat_map-append (λ (p : List ℕ). p) parties (party ∷ [])) ∙ sum_by-append f (members_of parties) (party ++ []) in
@@ -124,14 +124,14 @@ none_found None e = refl
 none_found (Some p) e = absurd (false≢true (sym e))
 
 -- who follows a member of one more party, and anybody else
-next_there : (parties : List (List ℕ)) (party : List ℕ) (z : ℕ) → is_among z (members_of parties) ≡ false → is_among z party ≡ true → next_of (parties ++ party ∷ []) z ≡ next_in_party z party
+pub next_there : (parties : List (List ℕ)) (party : List ℕ) (z : ℕ) → is_among z (members_of parties) ≡ false → is_among z party ≡ true → next_of (parties ++ party ∷ []) z ≡ next_in_party z party
 next_there parties party z not_before now =
     ap (λ (o : Option (List ℕ)). option_map_or (next_in_party z) o z)
     (find-append (is_among z) parties (party ∷ [])
     ∙ ap (λ (o : Option (List ℕ)). option_or o (cond (is_among z party) (Some party) None)) (none_found (find (is_among z) parties) (found_in parties z ∙ not_before))
     ∙ ap (λ b. cond b (Some party) None) now)
 
-next_other : (parties : List (List ℕ)) (party : List ℕ) (z : ℕ) → is_among z party ≡ false → next_of (parties ++ party ∷ []) z ≡ next_of parties z
+pub next_other : (parties : List (List ℕ)) (party : List ℕ) (z : ℕ) → is_among z party ≡ false → next_of (parties ++ party ∷ []) z ≡ next_of parties z
 next_other parties party z none =
     ap (λ (o : Option (List ℕ)). option_map_or (next_in_party z) o z)
     (find-append (is_among z) parties (party ∷ []) ∙ ap (λ b. option_or (find (is_among z) parties) (cond b (Some party) None)) none ∙ or_none (find (is_among z) parties))
@@ -140,7 +140,7 @@ next_other parties party z none =
     or_none None = refl
     or_none (Some p) = refl
 
-follows : (party : List ℕ) → ((i j : ℕ) → i < j → j < length party → get_or party i 0 ≢ get_or party j 0) → (j : ℕ) → j < length party → next_in_party (get_or party j 0) party ≡ follower party j
+pub follows : (party : List ℕ) → ((i j : ℕ) → i < j → j < length party → get_or party i 0 ≢ get_or party j 0) → (j : ℕ) → j < length party → next_in_party (get_or party j 0) party ≡ follower party j
 follows party apart j l =
     ap (λ i. if i + 1 == length party then get_or party 0 0 else get_or party (i + 1) 0) (place_on_is party (get_or party j 0) j l refl (λ k lower. apart k j lower l))
     ∙ by_last (eqb (j + 1) (length party))

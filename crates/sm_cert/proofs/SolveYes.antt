@@ -1,136 +1,57 @@
--- What a yes on an answer of `solve` means.
-use Rattle.std.proofs.Common.{◌≡◌, ◌≢◌, ℕ, zero, suc, ◌+◌, ◌<◌, ◌≤◌, inl, inr, arith, refl, sym, ap, ◌∙◌, cond, eqb, Bool, true, false, List, [], ◌∷◌, ◌++◌, length, take, get_or, Option, Some, None, subst, length-append, eq-eqb, ne_eqb, ⊎_elim}
-use Rattle.std.specs.Prelude.{Contains, IfSome, filter_map}
-use Rattle.std.specs.List.{slice_get}
-use Rattle.std.specs.Option.{option_map, option_or}
-use Rattle.std.proofs.lemmas.Bool.{cases_eq, cases_lt}
-use Rattle.std.proofs.lemmas.List.{get_or_append_left, get_or-append-add, get_or_past, get_or_default}
+-- What a yes on an answer of `solve` and of `regret` means over an instance with two sides.
+use Rattle.std.proofs.Common.{◌≡◌, ℕ, ◌<◌, arith, refl, sym, ap, ◌∙◌, List, [], ◌∷◌, ◌++◌, length, map, take, Option, Some, None, subst, Bool, false, true, ◌==◌, ◌⊎◌, inl, inr, if◌then◌else◌, slice_index_or}
+use Rattle.std.specs.Prelude.{IfSome, filter_map}
+use Rattle.std.specs.List.{slice_get, cons_option}
+use Rattle.std.specs.Option.{option_map}
+use Rattle.std.proofs.lemmas.Bool.{false≢true}
+use Rattle.std.proofs.lemmas.List.{length-map}
 use Rattle.std.proofs.lemmas.List.FromFn.{length-map-range_with_len}
-use Rattle.std.proofs.lemmas.List.Elements.{Contains-append_left, Contains-append_right, Contains-append_cases}
-use Rattle.sm_lists.proofs.PlaceLemmas.{get_or-place_on}
-use Rattle.sm_instance.specs.Written.{Written, row, entry, place_of, IsAcceptable}
-use Rattle.sm_instance.specs.Matching.{held}
-use Rattle.sm_instance.proofs.ListLemmas.{row_in_range}
-use Rattle.sm_pairs.specs.Held.{partner_in, place_in, places_in, pair_at}
-use Rattle.sm_pairs.proofs.HoldingLemmas.{here_later, held_place}
+use Rattle.sm_lists.specs.Rows.{place_on}
+use Rattle.sm_instance.specs.Written.{Written, place_of, row, lists_of}
+use Rattle.sm_instance.specs.Stable.{IsStable}
+use Rattle.sm_instance.specs.Allowed.{IsAllowed}
+use Rattle.sm_instance.specs.Ranks.{regret_of}
+use Rattle.sm_instance.proofs.CrossLemmas.{row-lists_of}
+use Rattle.sm_market.specs.Lists.{place_of as place_in_rows, row as row_in_rows}
+use Rattle.sm_pairs.specs.Held.{partner_in, place_in, places_in}
+use Rattle.sm_pairs.proofs.HoldingLemmas.{held_place}
 use Rattle.sm_report.specs.Heads.{HeadData}
 use Rattle.sm_report.specs.Lines.{LineData}
 use Rattle.sm_cert.specs.declared.verdicts.Reason.TheVariants as reason
-use Rattle.sm_cert.specs.Said.{pair_in, pairs_in}
+use Rattle.sm_cert.specs.declared.keywords.Keyword.TheVariants as keyword
+use Rattle.sm_cert.specs.declared.layouts.Part.{Part}
+use Rattle.sm_cert.specs.declared.layouts.Part.TheVariants.{One, Many}
+use Rattle.sm_cert.specs.Keywords.{keyword_of, number_of}
+use Rattle.sm_cert.specs.Forms.{closing, regret_layout, opening_of}
+use Rattle.sm_cert.specs.Layouts.{is_whole, begins}
+use Rattle.sm_cert.specs.Said.{pair_in, pairs_in, regret_in, first_said}
 use Rattle.sm_cert.specs.Pairs.{IsFree, IsBestOf}
-use Rattle.sm_cert.specs.Yes.{AreApart, ArePairsOf, IsSolved, SolveYes}
-use Rattle.sm_cert.proofs.CoupleLemmas.{partner_behind}
-use Rattle.sm_cert.proofs.YesLines.{some_same, IsRight, right_two, at_closing, said_above, each_line, grown}
+use Rattle.sm_cert.specs.Yes.{ArePairsOf, IsSolved, SolveYes, HasRegret, RegretYes}
+use Rattle.sm_cert.proofs.GroupLemmas.{Tells, goes, all_down, none_said}
+use Rattle.sm_cert.proofs.YesLines.{some_same, right_two, by_head, at_closing, said_above, grown}
+use Rattle.sm_cert.proofs.YesPairs.{AreGiven, none_given, one_given, pairs_of}
 
--- Pairs of which each was free behind those before it.
+-- an agent's place for another, among its list and among all
+pub same_places : (w : Written) (p r : ℕ) → place_in_rows (lists_of w.proposers) p r ≡ place_of w.proposers p r
+same_places w p r = ap (λ list. place_on list r) (row-lists_of w.proposers p)
 
-pub only_one : {X : Type 0} {x y : X} → Contains (x ∷ []) y → x ≡ y
-only_one {X} {x} {y} c = go c.0 c.1 c.2
-  where
-    go : (k : ℕ) → k < 1 → get_or (x ∷ []) k y ≡ y → x ≡ y
-    go zero l e = e
-    go (suc k) l e = absurd (omega (arith, l))
-
-no_partner : {r : ℕ} → ◌≡◌ {A = Option ℕ} None (Some r) → ⊥
-no_partner e = grind arith
-
--- whom pairs give somebody stands with it in one of them
-pub given_there : (pairs : List (ℕ × ℕ)) (p r : ℕ) → partner_in pairs p ≡ Some r → Contains pairs (p, r)
-given_there [] p r e = absurd (no_partner e)
-given_there (x ∷ pairs) p r e = ⊎_elim
-    (λ (is : x.0 ≡ p).
-    let one : Some x.1 ≡ Some r = ap (λ t. cond t (Some x.1) (partner_in pairs p)) (sym (eq-eqb x.0 p is)) ∙ e in
-    let same : x ≡ (p, r) = (λ i. (is i, some_same one i)) in
-    let c : Contains (x ∷ pairs) (p, r) = (0, omega arith, same) in c)
-    (λ other.
-    let rest = given_there pairs p r (ap (λ t. cond t (Some x.1) (partner_in pairs p)) (sym (ne_eqb x.0 p other)) ∙ e) in
-    let c : Contains (x ∷ pairs) (p, r) = (suc rest.0, (let l = rest.1 in omega arith), rest.2) in c)
-    (cases_eq x.0 p)
-
--- a pair stands at its place
-pub pair_there : (pairs : List (ℕ × ℕ)) (k : ℕ) → k < length pairs → Contains pairs (pair_at pairs k)
-pair_there pairs k l = (k, l, get_or_default pairs k (pair_at pairs k) (0, 0) l)
-
--- no two begin with one agent, where one more begins with another
-pub apart_more : (pairs : List (ℕ × ℕ)) (x : ℕ × ℕ) → AreApart pairs → ((k : ℕ) → k < length pairs → (pair_at pairs k).0 ≢ x.0) → AreApart (pairs ++ x ∷ [])
-apart_more pairs x apart other i j i_j l =
-    let long = length-append pairs (x ∷ []) in
-    let left = get_or_append_left pairs (x ∷ []) (0, 0) in
-    ⊎_elim
-    (λ (below : j < length pairs). λ e. apart i j i_j below (ap (λ (y : ℕ × ℕ). y.0) (sym (left i (omega (arith, below, i_j)))) ∙ e ∙ ap (λ (y : ℕ × ℕ). y.0) (left j below)))
-    (λ (past : length pairs ≤ j).
-    let last : j ≡ length pairs + 0 = omega (arith, past, l, long) in
-    let here : pair_at (pairs ++ x ∷ []) j ≡ x = ap (pair_at (pairs ++ x ∷ [])) last ∙ get_or-append-add pairs (x ∷ []) 0 (0, 0) in
-    let before : i < length pairs = omega (arith, last, i_j) in
-    λ e. other i before (ap (λ (y : ℕ × ℕ). y.0) (sym (left i before)) ∙ e ∙ ap (λ (y : ℕ × ℕ). y.0) here))
-    (cases_lt j (length pairs))
-
-pub record AreFree (w : Written) (pairs : List (ℕ × ℕ)) : Type 0 where
-  pub acceptable : (p r : ℕ) → Contains pairs (p, r) → IsAcceptable w p r
-  pub given : (p r : ℕ) → Contains pairs (p, r) → partner_in pairs p ≡ Some r
-  pub apart : AreApart pairs
-
-none_free : (w : Written) → AreFree w []
-none_free w = record {
-  acceptable = λ p r c. absurd (let l = c.1 in omega arith);
-  given = λ p r c. absurd (let l = c.1 in omega arith);
-  apart = λ i j i_j l. absurd (omega arith);
-}
-
-one_free : (w : Written) (pairs : List (ℕ × ℕ)) (x : ℕ × ℕ) → AreFree w pairs → IsFree w pairs x → AreFree w (pairs ++ x ∷ [])
-one_free w pairs x k f = record {
-  acceptable = λ p r c. elim (Contains-append_cases pairs (x ∷ []) (p, r) c) [
-    | inl had ↦ k.acceptable p r had
-    | inr now ↦ subst (λ (y : ℕ × ℕ). IsAcceptable w y.0 y.1) (only_one now) f.acceptable
-  ];
-  given = λ p r c. elim (Contains-append_cases pairs (x ∷ []) (p, r) c) [
-    | inl had ↦ partner_behind pairs (x ∷ []) p ∙ ap (λ (o : Option ℕ). option_or o (partner_in (x ∷ []) p)) (k.given p r had)
-    | inr now ↦ subst (λ (y : ℕ × ℕ). partner_in (pairs ++ x ∷ []) y.0 ≡ Some y.1) (only_one now) (here_later pairs x.0 x.1 f.proposer_free)
-  ];
-  apart = apart_more pairs x k.apart (λ j l e.
-      no_partner (sym f.proposer_free ∙ ap (partner_in pairs) (sym e) ∙ k.given (pair_at pairs j).0 (pair_at pairs j).1 (pair_there pairs j l)));
-}
-
--- two reviewers with one place on a list, where the first is on it
-pub same_place : (w : Written) (p r s : ℕ) → place_of w.proposers p s < length (row w.proposers p) → place_of w.proposers p s ≡ place_of w.proposers p r → s ≡ r
-same_place w p r s l e =
-    sym (get_or-place_on (row w.proposers p) s l) ∙ ap (entry w.proposers p) e
-    ∙ get_or-place_on (row w.proposers p) r (omega (arith, l, e))
-
--- a matched proposer is there
-pub held_there : (places : List (Option ℕ)) (p i : ℕ) → held places p ≡ Some i → p < length places
-held_there places p i e = ⊎_elim (λ l. l) (λ (past : length places ≤ p). absurd (no_partner (sym (get_or_past places p None past) ∙ e))) (cases_lt p (length places))
-
-pub pairs_of : (w : Written) (pairs : List (ℕ × ℕ)) → AreFree w pairs → ArePairsOf w (places_in w pairs) pairs
-pairs_of w pairs k = record {
-  each = λ p r. (there p r, back p r);
-  once = k.apart;
-}
-  where
-    there : (p r : ℕ) → Contains pairs (p, r) → held (places_in w pairs) p ≡ Some (place_of w.proposers p r)
-    there p r c =
-        let a = k.acceptable p r c in
-        held_place w pairs p (row_in_range w.proposers p (place_of w.proposers p r) a.proposer_lists) ∙ ap (option_map (place_of w.proposers p)) (k.given p r c)
-
-    back : (p r : ℕ) → held (places_in w pairs) p ≡ Some (place_of w.proposers p r) → Contains pairs (p, r)
-    back p r e =
-        let inside : p < length w.proposers = (
-        let l = held_there (places_in w pairs) p (place_of w.proposers p r) e in
-        let long = length-map-range_with_len (place_in w pairs) 0 (length w.proposers) in
-        omega arith) in
-        go (partner_in pairs p) refl (sym (held_place w pairs p inside) ∙ e)
-      where
-        go : (o : Option ℕ) → partner_in pairs p ≡ o → option_map (place_of w.proposers p) o ≡ Some (place_of w.proposers p r) → Contains pairs (p, r)
-        go None is e = absurd (no_partner e)
-        go (Some s) is e =
-            let c = given_there pairs p s is in
-            let a = k.acceptable p s c in
-            subst (λ z. Contains pairs (p, z)) (same_place w p r s a.proposer_lists (some_same e)) c
+one_free : (w : Written) (pairs : List (ℕ × ℕ)) (x : ℕ × ℕ) → AreGiven (lists_of w.proposers) pairs → IsFree w pairs x → AreGiven (lists_of w.proposers) (pairs ++ x ∷ [])
+one_free w pairs x k f =
+    let place = same_places w x.0 x.1 in
+    let long = ap (λ (list : List ℕ). length list) (row-lists_of w.proposers x.0) in
+    let on = f.acceptable.proposer_lists in
+    one_given (lists_of w.proposers) pairs x k (omega arith) f.proposer_free
 
 -- the pairs of lines at each of which they are free
-pub all_free : (w : Written) (said : LineData → Option (ℕ × ℕ)) (lines : List LineData)
-    → ((k : ℕ) → IfSome (slice_get lines k) (λ line. IfSome (said line) (IsFree w (filter_map said (take k lines))))) → AreFree w (filter_map said lines)
-all_free w said lines at = grown said (AreFree w) (IsFree w) lines (none_free w) (one_free w) at
+pub free_pairs : (w : Written) (said : LineData → Option (ℕ × ℕ)) (lines : List LineData)
+    → ((k : ℕ) → IfSome (slice_get lines k) (λ line. IfSome (said line) (IsFree w (filter_map said (take k lines)))))
+    → ArePairsOf (lists_of w.proposers) (places_in w (filter_map said lines)) (filter_map said lines)
+free_pairs w said lines at =
+    let pairs = filter_map said lines in
+    let all = length-map w.proposers (λ agent. agent.entries) in
+    let long = length-map-range_with_len (place_in w pairs) 0 (length w.proposers) in
+    pairs_of (lists_of w.proposers) (places_in w pairs) pairs (grown said (AreGiven (lists_of w.proposers)) (IsFree w) lines (none_given (lists_of w.proposers)) (one_free w) at) (omega arith)
+    (λ p l. held_place w pairs p (omega arith) ∙ ap (λ list. option_map (place_on list) (partner_in pairs p)) (sym (row-lists_of w.proposers p)))
 
 pub solve_yes : SolveYes
 solve_yes w side lines g =
@@ -139,5 +60,67 @@ solve_yes w side lines g =
     record {
       places = places_in w (pairs_in lines);
       best = subst (λ (pairs : List (ℕ × ℕ)). IsBestOf side w (places_in w pairs)) same (at_closing r reason.NotBest refl);
-      written = pairs_of w (pairs_in lines) (all_free w pair_in lines (λ k. r.holds k reason.NotAMatching));
+      written = free_pairs w pair_in lines (λ k. r.holds k reason.NotAMatching);
+    }
+
+-- An answer of `regret` has one line with a regret.
+
+regrets : ℕ → Bool
+regrets n = n == 17
+
+abbrev is_regret : LineData → Bool
+is_regret (LineData.Regret regret) = true
+is_regret _ = false
+
+tells : Tells regrets is_regret
+unfolding regrets
+tells = record { other = refl; same = same }
+  where
+    same : (x : LineData) → (is_regret x ≡ regrets (number_of (keyword_of x))) ⊎ (number_of (keyword_of x) ≡ 21)
+    same (LineData.Regret regret) = inl refl
+    same _ = inl refl
+
+not_said : (x : LineData) → is_regret x ≡ false → regret_in x ≡ None
+not_said (LineData.Regret regret) e = absurd (false≢true (sym e))
+not_said _ e = refl
+
+opens : (x : LineData) → begins (opening_of x) keyword.Regret ≡ true → regret_in x ≡ Some (first_said 0 regret_in (x ∷ []))
+opens (LineData.Regret regret) e = refl
+opens _ e = absurd (false≢true e)
+
+one_regret : (rest : List LineData) → is_whole (regret_layout ∷ []) (map opening_of rest) ≡ true → filter_map regret_in rest ≡ first_said 0 regret_in rest ∷ []
+unfolding regrets
+one_regret [] e = absurd (false≢true e)
+one_regret (x ∷ xs) e =
+    let g = goes regret_layout (opening_of x) (map opening_of xs) e in
+    go (begins (opening_of x) keyword.Regret) refl g.left g.is g.whole
+  where
+    go : (t : Bool) → begins (opening_of x) keyword.Regret ≡ t → (left : List Part) → (if t then Some (Many keyword.Pair ∷ closing) else None) ≡ Some left → is_whole (left ∷ []) (map opening_of xs) ≡ true
+        → filter_map regret_in (x ∷ xs) ≡ first_said 0 regret_in (x ∷ xs) ∷ []
+    go false b left is whole = absurd (no_parts is)
+      where
+        no_parts : ◌≡◌ {A = Option (List Part)} None (Some left) → ⊥
+        no_parts e = grind arith
+    go true b left is whole =
+        let behind : is_whole ((Many keyword.Pair ∷ closing) ∷ []) (map opening_of xs) ≡ true = subst (λ (parts : List Part). is_whole (parts ∷ []) (map opening_of xs) ≡ true) (sym (some_same is)) whole in
+        let down = all_down tells (Many keyword.Pair ∷ closing) xs ((refl, omega arith), ((refl, omega arith), tt)) behind in
+        let rest : filter_map regret_in xs ≡ [] = none_said is_regret regret_in not_said xs down in
+        let here = opens x b in
+        let all : filter_map regret_in (x ∷ xs) ≡ first_said 0 regret_in (x ∷ []) ∷ [] = ap (λ (o : Option ℕ). cons_option o (filter_map regret_in xs)) here ∙ ap (λ ns. first_said 0 regret_in (x ∷ []) ∷ ns) rest in
+        all ∙ ap (λ (ns : List ℕ). slice_index_or ns 0 0 ∷ []) (sym all)
+
+pub regret_yes : RegretYes
+regret_yes w lines g =
+    let r = right_two {w = w} {head = HeadData.Regret} refl g in
+    let same : pairs_in r.front ≡ pairs_in lines = said_above pair_in r refl in
+    let said : filter_map regret_in r.front ≡ filter_map regret_in lines = said_above regret_in r refl in
+    let one : filter_map regret_in lines ≡ first_said 0 regret_in lines ∷ [] =
+    by_head (λ (ls : List LineData). filter_map regret_in ls ≡ first_said 0 regret_in ls ∷ []) g (λ rest placed _. one_regret rest placed) in
+    record {
+      places = places_in w (pairs_in lines);
+      stable = subst (λ (pairs : List (ℕ × ℕ)). IsStable w (places_in w pairs)) same (at_closing r reason.Blocked refl);
+      allowed = subst (λ (pairs : List (ℕ × ℕ)). IsAllowed w (places_in w pairs)) same (at_closing r reason.NotAllowed refl);
+      regret = one ∙ ap (λ (n : ℕ). n ∷ [])
+          (ap (λ (ns : List ℕ). slice_index_or ns 0 0) (sym said) ∙ at_closing r reason.WrongRegret refl ∙ ap (λ (pairs : List (ℕ × ℕ)). regret_of w (places_in w pairs)) same);
+      written = free_pairs w pair_in lines (λ k. r.holds k reason.NotAMatching);
     }

@@ -52,11 +52,11 @@ not_empty [] h e = absurd (omega (arith, h))
 not_empty (x ∷ items) h e = cc
 
 -- tests of several lines
-and_left : (a b : Bool) → (a && b) ≡ true → a ≡ true
+pub and_left : (a b : Bool) → (a && b) ≡ true → a ≡ true
 and_left true b e = refl
 and_left false b e = e
 
-and_right : (a b : Bool) → (a && b) ≡ true → b ≡ true
+pub and_right : (a b : Bool) → (a && b) ≡ true → b ≡ true
 and_right true b e = e
 and_right false b e = absurd (false≢true e)
 
@@ -64,7 +64,7 @@ both : (a b : Bool) → a ≡ true → b ≡ true → (a && b) ≡ true
 both true b e f = f
 both false b e f = absurd (false≢true e)
 
-all_more : (p : LineData → Bool) (xs : List LineData) (x : LineData) → list_all p xs ≡ true → p x ≡ true → list_all p (xs ++ x ∷ []) ≡ true
+pub all_more : (p : LineData → Bool) (xs : List LineData) (x : LineData) → list_all p xs ≡ true → p x ≡ true → list_all p (xs ++ x ∷ []) ≡ true
 all_more p [] x h e = both (p x) true e refl
 all_more p (y ∷ xs) x h e = both (p y) (list_all p (xs ++ x ∷ [])) (and_left (p y) (list_all p xs) h) (all_more p xs x (and_right (p y) (list_all p xs) h) e)
 

@@ -86,7 +86,7 @@ right input subject head rest c placed holds =
     record { front = LineData.Answer head ∷ l.front; ends = ap (λ (ls : List LineData). LineData.Answer head ∷ ls) l.is; holds = holds }
 
 -- what is so of an answer's lines behind its head
-by_head : {input : Input} {head : HeadData} {lines : List LineData} (P : List LineData → Type 0) → GetsYes input head lines
+pub by_head : {input : Input} {head : HeadData} {lines : List LineData} (P : List LineData → Type 0) → GetsYes input head lines
     → ((rest : List LineData) → is_whole (layouts_of input head) (map opening_of rest) ≡ true
     → ((k : ℕ) (why : Reason) → Holds input (LineData.Answer head ∷ rest) k why) → P (LineData.Answer head ∷ rest)) → P lines
 by_head {input} {head} {lines} P g f = go lines g.head_is g.answer.placed g.yes
@@ -129,18 +129,18 @@ right_parties {persons} g =
 
 -- At the closing line.
 
-got_last : (xs : List LineData) (y : LineData) → slice_get (xs ++ y ∷ []) (length xs) ≡ Some y
-got_last [] y = refl
-got_last (x ∷ xs) y = got_last xs y
+pub got_at : (xs : List LineData) (y : LineData) (ys : List LineData) → slice_get (xs ++ y ∷ ys) (length xs) ≡ Some y
+got_at [] y ys = refl
+got_at (x ∷ xs) y ys = got_at xs y ys
 
-taken_front : (xs ys : List LineData) → take (length xs) (xs ++ ys) ≡ xs
+pub taken_front : (xs ys : List LineData) → take (length xs) (xs ++ ys) ≡ xs
 taken_front [] ys = refl
 taken_front (x ∷ xs) ys = ap (λ (zs : List LineData). x ∷ zs) (taken_front xs ys)
 
 pub at_closing : {subject : Subject} {lines : List LineData} (r : IsRight subject lines) (why : Reason) → Clauses subject r.front LineData.End why
 at_closing {subject} {lines} r why =
     let all = subst (λ (ls : List LineData). AtLine (Clauses subject) ls (length r.front) why) r.ends (r.holds (length r.front) why) in
-    let here = subst (λ o. IfSome o (λ line. Clauses subject (take (length r.front) (r.front ++ LineData.End ∷ [])) line why)) (got_last r.front LineData.End) all in
+    let here = subst (λ o. IfSome o (λ line. Clauses subject (take (length r.front) (r.front ++ LineData.End ∷ [])) line why)) (got_at r.front LineData.End []) all in
     subst (λ (ls : List LineData). Clauses subject ls LineData.End why) (taken_front r.front (LineData.End ∷ [])) here
 
 pub said_above : {X : Type 0} (said : LineData → Option X) {subject : Subject} {lines : List LineData} (r : IsRight subject lines) → said LineData.End ≡ None → filter_map said r.front ≡ filter_map said lines

@@ -20,6 +20,8 @@ pub mod Walking
 pub mod PairsKept
 pub mod WantedKept
 pub mod Solving
+pub mod SeatPairsKept
+pub mod Walks
 pub mod Regrets
 pub mod CouplesKept
 pub mod PartiesKept

@@ -1,18 +1,24 @@
 -- What a yes on an answer means.
 use Rattle.std.specs.Prelude.{◌≡◌, ◌≢◌, ℕ, ◌+◌, ◌<◌, ◌≤◌, ◌↔◌, List, [], ◌∷◌, length, filter_map, Option, None, Some, slice_index_or, Contains}
 use Rattle.std.specs.List.{slice_get}
-use Rattle.sm_instance.specs.Written.{Written, AgentData, place_of, lists_of}
-use Rattle.sm_instance.specs.Matching.{held}
+use Rattle.sm_instance.specs.Written.{Written, AgentData, lists_of}
 use Rattle.sm_instance.specs.Stable.{IsStable}
 use Rattle.sm_instance.specs.Allowed.{IsAllowed}
 use Rattle.sm_instance.specs.Ranks.{IsBefore, regret_of}
+use Rattle.sm_instance.specs.Sound.{IsInstance}
 use Rattle.sm_instance.specs.declared.kinds.Side.{Side}
 use Rattle.sm_instance.specs.declared.inputs.Input.{Input}
 use Rattle.sm_instance.specs.declared.inputs.Input.TheVariants.{Two, Room}
+use Rattle.sm_market.specs.Lists.{place_of}
+use Rattle.sm_market.specs.Matching.{Places, held}
+use Rattle.sm_market.specs.Stable.{IsProposersBest, IsReviewersBest}
+use Rattle.sm_market.specs.Reduced.{reduced_lists_of}
+use Rattle.sm_theory.specs.Chains.{IsPrintedChain, AreNeedsOf}
 use Rattle.sm_theory.specs.Listings.{IsBehind}
 use Rattle.sm_theory.specs.Rooms.{mate_of, IsRoomStable}
 use Rattle.sm_theory.specs.declared.choice.Choice.{Choice}
 use Rattle.sm_theory.specs.declared.choice.Choice.TheVariants.{Better, Worse}
+use Rattle.sm_seats.specs.SeatMarket.{seat_market}
 use Rattle.sm_seats.specs.Vectors.{IsAllowedRankVector}
 use Rattle.sm_pairs.specs.Held.{pair_at}
 use Rattle.sm_pairs.specs.Chosen.{chosen_places}
@@ -21,8 +27,9 @@ use Rattle.sm_report.specs.Lines.{LineData}
 use Rattle.sm_cert.specs.declared.verdicts.Verdict.TheVariants as verdict
 use Rattle.sm_cert.specs.Verdicts.{IsVerdict}
 use Rattle.sm_cert.specs.Forms.{AreAnswer}
-use Rattle.sm_cert.specs.Said.{pairs_in, lefts_in, rights_in, regret_in, vectors_in}
+use Rattle.sm_cert.specs.Said.{pairs_in, firsts_in, lasts_in, proposer_lists_in, reviewer_lists_in, rotations_in, all_needs_in, lefts_in, rights_in, regret_in, vectors_in}
 use Rattle.sm_cert.specs.Pairs.{IsBestOf}
+use Rattle.sm_cert.specs.Chain.{HasOneEach, owners, IsRowOf}
 use Rattle.sm_cert.specs.Vectors.{order_of}
 use Rattle.sm_cert.specs.Judging.{Holds}
 
@@ -50,16 +57,16 @@ ListYes = (w : Written) (after : Option (List ℕ)) (limit : ℕ) (lines : List 
 abbrev pub AreApart : List (ℕ × ℕ) → Type 0
 AreApart pairs = (i j : ℕ) → i < j → j < length pairs → (pair_at pairs i).0 ≢ (pair_at pairs j).0
 
--- the pairs are those of a matching: each of them stands, once, and no other does
-pub record ArePairsOf (w : Written) (places : List (Option ℕ)) (pairs : List (ℕ × ℕ)) : Type 0 where
-  pub each : (p r : ℕ) → Contains pairs (p, r) ↔ (held places p ≡ Some (place_of w.proposers p r))
+-- over the proposers' lists the pairs are those of a matching: each of them stands, once, and no other does
+pub record ArePairsOf (rows : List (List ℕ)) (places : List (Option ℕ)) (pairs : List (ℕ × ℕ)) : Type 0 where
+  pub each : (p r : ℕ) → Contains pairs (p, r) ↔ (held places p ≡ Some (place_of rows p r))
   pub once : AreApart pairs
 
 -- a side's best stable matching
 pub record IsSolved (w : Written) (side : Side) (pairs : List (ℕ × ℕ)) : Type 0 where
   pub places : List (Option ℕ)
   pub best : IsBestOf side w places
-  pub written : ArePairsOf w places pairs
+  pub written : ArePairsOf (lists_of w.proposers) places pairs
 
 -- a yes on `solve`
 abbrev pub SolveYes : Type 0
@@ -72,7 +79,7 @@ pub record HasRegret (w : Written) (regrets : List ℕ) (pairs : List (ℕ × �
   pub stable : IsStable w places
   pub allowed : IsAllowed w places
   pub regret : regrets ≡ regret_of w places ∷ []
-  pub written : ArePairsOf w places pairs
+  pub written : ArePairsOf (lists_of w.proposers) places pairs
 
 -- a yes on `regret`
 abbrev pub RegretYes : Type 0
@@ -85,9 +92,9 @@ pub record IsChosen (choice : Choice) (w : Written) (lefts rights pairs : List (
   pub right : List (Option ℕ)
   pub left_stable : IsStable w left
   pub right_stable : IsStable w right
-  pub left_written : ArePairsOf w left lefts
-  pub right_written : ArePairsOf w right rights
-  pub written : ArePairsOf w (chosen_places choice w left right) pairs
+  pub left_written : ArePairsOf (lists_of w.proposers) left lefts
+  pub right_written : ArePairsOf (lists_of w.proposers) right rights
+  pub written : ArePairsOf (lists_of w.proposers) (chosen_places choice w left right) pairs
 
 -- a yes on `meet`, and one on `join`
 abbrev pub MeetYes : Type 0
@@ -114,3 +121,37 @@ CouplesYes = (persons : List AgentData) (lines : List LineData) → GetsYes (Roo
 abbrev pub NoneYes : Type 0
 NoneYes = (persons : List AgentData) (lines : List LineData) → GetsYes (Room persons) (HeadData.Solve None) lines
     → slice_get lines 1 ≡ Some LineData.Nothing → (mates : List (Option ℕ)) → ¬ IsRoomStable (lists_of persons) mates
+
+-- the lists are those of all agents, each of them once
+pub record AreListsOf (rows : List (List ℕ)) (lists : List (ℕ × List ℕ)) : Type 0 where
+  pub each : (list : ℕ × List ℕ) → Contains lists list → IsRowOf rows list
+  pub once : HasOneEach (length rows) (owners lists)
+
+-- in the market of seats the best matching of each side, and the reduced lists between the two
+pub record IsReduced (w : Written) (lines : List LineData) : Type 0 where
+  pub first : Places
+  pub last : Places
+  pub first_best : IsProposersBest (seat_market w) first
+  pub last_best : IsReviewersBest (seat_market w) last
+  pub first_written : ArePairsOf (seat_market w).proposers first.proposers (firsts_in w lines)
+  pub last_written : ArePairsOf (seat_market w).proposers last.proposers (lasts_in w lines)
+  pub proposer_lists : AreListsOf (reduced_lists_of (seat_market w) first last).proposers (proposer_lists_in w lines)
+  pub reviewer_lists : AreListsOf (reduced_lists_of (seat_market w) first last).reviewers (reviewer_lists_in w lines)
+
+-- a yes on `reduced`
+abbrev pub ReducedYes : Type 0
+ReducedYes = (w : Written) (lines : List LineData) → GetsYes (Two w) HeadData.Reduced lines → IsReduced w lines
+
+-- in the market of seats the proposers' best matching, the chain of rotations from it as it is printed, and what each of the
+-- rotations needs
+pub record IsChainWritten (w : Written) (lines : List LineData) : Type 0 where
+  pub first : Places
+  pub first_written : ArePairsOf (seat_market w).proposers first.proposers (firsts_in w lines)
+  pub chain : IsPrintedChain (seat_market w) first (rotations_in w lines)
+  pub one_each : length (all_needs_in lines) ≡ length (rotations_in w lines)
+  pub needs : (j : ℕ) → j < length (rotations_in w lines)
+      → AreNeedsOf (seat_market w) (rotations_in w lines) j (slice_index_or (all_needs_in lines) j [])
+
+-- a yes on `rotations`
+abbrev pub RotationsYes : Type 0
+RotationsYes = (w : Written) (lines : List LineData) → IsInstance w → GetsYes (Two w) HeadData.Rotations lines → IsChainWritten w lines

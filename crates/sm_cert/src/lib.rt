@@ -5,6 +5,7 @@
 #![tactic(auto)]
 
 mod answers;
+mod chain;
 mod checking;
 mod chosen;
 mod couples;
@@ -20,12 +21,16 @@ mod parties;
 mod persons;
 mod reading;
 mod regret;
+mod seat_numbers;
+mod seat_pairs;
 mod solving;
 mod stubs;
 mod verdicts;
+mod walk;
 mod wanted;
 pub mod witnesses;
 
+pub use chain::rotations_verdict;
 pub use checking::check;
 pub use chosen::chosen_verdict;
 pub use couples::couples_verdict;

@@ -1,6 +1,6 @@
 -- The edges of the net of gains, predecessors and conditions lead between its nodes.
-use Rattle.std.proofs.Common.{◌≡◌, ◌≢◌, ℕ, zero, suc, ◌+◌, ◌<◌, ◌≤◌, ◌||◌, inl, inr, arith, refl, sym, ap, ◌∙◌, Bool, true, false, not, List, [], length, get_or, eqb-true, eq-eqb, ne_eqb, lt-ltb, le-ltb, ℤ}
-use Rattle.std.specs.Prelude.{◌==◌, ◌&&◌, if◌then◌else◌, Option}
+use Rattle.std.proofs.Common.{◌≡◌, ℕ, zero, suc, ◌+◌, ◌<◌, ◌≤◌, inl, inr, arith, ap, Bool, true, false, not, List, [], length, get_or, eqb-true, eq-eqb, ne_eqb, le-ltb}
+use Rattle.std.specs.Prelude.{◌==◌, ◌&&◌, if◌then◌else◌}
 use Rattle.std.specs.List.{list_any, position_or_len}
 use Rattle.std.proofs.lemmas.Bool.{false≢true}
 use Rattle.std.proofs.lemmas.List.{get_or_past}
@@ -56,7 +56,7 @@ need_below n needs long below (suc k) (suc x) h =
     ]
 
 pub edges_are_on_nodes : EdgesAreOnNodes
-edges_are_on_nodes l levels weights forced forbidden first rotations needs long below i j edge = elim edge [ | inl u ↦ by_unbounded i j u | inr room ↦ by_room i j room ]
+edges_are_on_nodes l levels weights forced forbidden first rotations needs long below i j edge = elim edge [ inl u ↦ by_unbounded i j u | inr room ↦ by_room i j room ]
   where
     by_unbounded : (i j : ℕ) → IsUnbounded (net_of l levels weights forced forbidden first rotations needs) i j → (i < length rotations + 2) × (j < length rotations + 2)
     by_unbounded i zero u = absurd (false≢true u)

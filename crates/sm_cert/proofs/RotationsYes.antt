@@ -1,0 +1,211 @@
+-- What a yes on an answer of `rotations` means.
+use Rattle.std.proofs.Common.{◌≡◌, ℕ, zero, suc, pred, ◌+◌, ◌-◌, ◌<◌, ◌≤◌, ◌⊎◌, ◌||◌, ◌==◌, inl, inr, arith, refl, sym, ap, ◌∙◌, Bool, true, false, List, [], ◌∷◌, ◌++◌, length, map, take, drop, get_or, Option, Some, None, IsSome, subst, length-append, ⊎_elim}
+use Rattle.std.specs.Prelude.{Contains, IfSome, filter_map, slice_index}
+use Rattle.std.specs.List.{slice_get}
+use Rattle.std.proofs.lemmas.Bool.{false≢true, cases_lt}
+use Rattle.std.proofs.lemmas.List.{take-append-drop, get_or_append_left, get_or_push}
+use Rattle.std.proofs.lemmas.List.Elements.{filter_map-append}
+use Rattle.sm_instance.specs.Written.{Written}
+use Rattle.sm_instance.specs.Sound.{IsInstance}
+use Rattle.sm_market.specs.Lists.{Lists, IsMarket}
+use Rattle.sm_market.specs.Matching.{Places}
+use Rattle.sm_market.specs.Stable.{IsProposersBest}
+use Rattle.sm_theory.specs.Rotations.{IsNothingExposed, IsLowestExposed}
+use Rattle.sm_theory.specs.Chains.{rotation_at, stage, IsCompleteChain, IsPrintedChain, IsNeededBy, AreNeedsOf}
+use Rattle.sm_theory.proofs.Bridge.Chain.{rotation_before, rotation_new, stage_before}
+use Rattle.sm_theory.proofs.Chains.Rotations.{predecessor_is_earlier}
+use Rattle.sm_seats.specs.SeatMarket.{seat_market}
+use Rattle.sm_seats.proofs.MarketLaws.{is_market}
+use Rattle.sm_seats.proofs.CorrespondenceLaws.{sound_entries}
+use Rattle.sm_report.specs.Heads.{HeadData}
+use Rattle.sm_report.specs.Lines.{LineData}
+use Rattle.sm_cert.specs.declared.verdicts.Reason.{Reason}
+use Rattle.sm_cert.specs.declared.verdicts.Reason.TheVariants as reason
+use Rattle.sm_cert.specs.Keywords.{keyword_of, number_of}
+use Rattle.sm_cert.specs.Layouts.{is_whole}
+use Rattle.sm_cert.specs.Forms.{rotations_layout, opening_of}
+use Rattle.sm_cert.specs.Said.{first_in, firsts_in, rotation_in, rotations_in, needs_in, all_needs_in, is_up_to_firsts, is_up_to_rotations}
+use Rattle.sm_cert.specs.SeatMatchings.{IsFreeSeat, seat_places_in, first_of}
+use Rattle.sm_cert.specs.Chain.{reached, last_rotation}
+use Rattle.sm_cert.specs.Seats.{all_numbered}
+use Rattle.sm_cert.specs.Judging.{answer, Clauses}
+use Rattle.sm_cert.specs.Yes.{RotationsYes}
+use Rattle.sm_cert.proofs.GroupLemmas.{Tells, Begins, Parted, parted_behind, said_up, said_then, stands_behind}
+use Rattle.sm_cert.proofs.SeatYes.{first_words, firsts_tell, no_first, free_seats}
+use Rattle.sm_cert.proofs.RotationLines.{Spot, Turns, turns, turns_from}
+use Rattle.sm_cert.proofs.YesLines.{IsRight, by_head, right_two, each_line, grown}
+
+-- The lines up to the rotations.
+
+abbrev rotation_words : ℕ → Bool
+rotation_words n = (n == 3) || ((n == 7) || ((n == 8) || (n == 9)))
+
+rotations_tell : Tells rotation_words is_up_to_rotations
+rotations_tell = record { other = refl; same = same }
+  where
+    same : (x : LineData) → (is_up_to_rotations x ≡ rotation_words (number_of (keyword_of x))) ⊎ (number_of (keyword_of x) ≡ 21)
+    same (LineData.Answer head) = inr refl
+    same _ = inl refl
+
+firsts_begin : Begins first_words rotations_layout
+firsts_begin = inl (refl, inr (((refl, omega arith), (refl, omega arith), (refl, omega arith)), ((refl, omega arith), tt)))
+
+rotations_begin : Begins rotation_words rotations_layout
+rotations_begin = inl (refl, inl ((refl, refl, refl), inr ((refl, omega arith), tt)))
+
+module _ (w : Written) where
+  first_up : (x : LineData) → is_up_to_rotations x ≡ false → first_in w x ≡ None
+  first_up (LineData.First p seat) e = absurd (false≢true (sym e))
+  first_up _ e = refl
+
+  rotation_up : (x : LineData) → is_up_to_rotations x ≡ false → rotation_in w x ≡ None
+  rotation_up (LineData.Rotation i pairs) e = absurd (false≢true (sym e))
+  rotation_up _ e = refl
+
+-- Each rotation is the next one at its turn.
+module _ (l : Lists) (first : Places) where
+  abbrev AllLowest : List (List (ℕ × ℕ)) → Type 0
+  AllLowest rotations = (k : ℕ) → k < length rotations → IsLowestExposed l (stage l first rotations k) (rotation_at rotations k)
+
+  abbrev IsNextLowest : List (List (ℕ × ℕ)) → List (ℕ × ℕ) → Type 0
+  IsNextLowest rotations x = IsLowestExposed l (stage l first rotations (length rotations)) x
+
+  one_lowest : (rotations : List (List (ℕ × ℕ))) (x : List (ℕ × ℕ)) → AllLowest rotations → IsNextLowest rotations x → AllLowest (rotations ++ x ∷ [])
+  one_lowest rotations x all h k less =
+      let long = length-append rotations (x ∷ []) in
+      ⊎_elim
+      (λ (below : k < length rotations).
+      subst (λ (y : List (ℕ × ℕ)). IsLowestExposed l (stage l first (rotations ++ x ∷ []) k) y) (sym (rotation_before rotations x k below))
+      (subst (λ (m : Places). IsLowestExposed l m (rotation_at rotations k)) (sym (stage_before l first rotations x k (omega arith))) (all k below)))
+      (λ (past : length rotations ≤ k).
+      let e : k ≡ length rotations = omega arith in
+      subst (λ (y : List (ℕ × ℕ)). IsLowestExposed l (stage l first (rotations ++ x ∷ []) k) y) (sym (rotation_new rotations x k e))
+      (subst (λ (m : Places). IsLowestExposed l m x) (sym (stage_before l first rotations x k (omega arith)))
+      (subst (λ (n : ℕ). IsLowestExposed l (stage l first rotations n) x) (sym e) h)))
+      (cases_lt k (length rotations))
+
+  -- what a rotation needs of those before it and itself, it needs of all
+  needs_of_all : IsMarket l → (front more : List (List (ℕ × ℕ))) (j : ℕ) (needs : List ℕ) → IsCompleteChain l first (front ++ more) → j < length front
+      → AreNeedsOf l front j needs → AreNeedsOf l (front ++ more) j needs
+  needs_of_all market front more j needs chain inside n = record {
+    rising = n.rising;
+    sound = λ a less. omega (arith, n.sound a less, long);
+    each = λ a less. to (slice_index needs a) (n.sound a less) (n.each a less);
+    all = λ i less need.
+        let early = predecessor_is_earlier l first (front ++ more) i j market chain less (omega (arith, inside, long)) need in
+        n.all i (omega arith) (back i (omega arith) need);
+  }
+    where
+      long : length (front ++ more) ≡ length front + length more
+      long = length-append front more
+
+      at : (i : ℕ) → i < length front → rotation_at (front ++ more) i ≡ rotation_at front i
+      at i less = get_or_append_left front more [] i less
+
+      to : (i : ℕ) → i < length front → IsNeededBy l (rotation_at front i) (rotation_at front j) → IsNeededBy l (rotation_at (front ++ more) i) (rotation_at (front ++ more) j)
+      to i less h =
+          subst (λ (y : List (ℕ × ℕ)). IsNeededBy l (rotation_at (front ++ more) i) y) (sym (at j inside))
+          (subst (λ (x : List (ℕ × ℕ)). IsNeededBy l x (rotation_at front j)) (sym (at i less)) h)
+
+      back : (i : ℕ) → i < length front → IsNeededBy l (rotation_at (front ++ more) i) (rotation_at (front ++ more) j) → IsNeededBy l (rotation_at front i) (rotation_at front j)
+      back i less h =
+          subst (λ (y : List (ℕ × ℕ)). IsNeededBy l (rotation_at front i) y) (at j inside)
+          (subst (λ (x : List (ℕ × ℕ)). IsNeededBy l x (rotation_at (front ++ more) j)) (at i less) h)
+
+  abbrev AllNeeds : List (List (ℕ × ℕ)) → List (List ℕ) → Type 0
+  AllNeeds rotations all = (j : ℕ) → j < length all → AreNeedsOf l rotations j (get_or all j [])
+
+  one_needs : (rotations : List (List (ℕ × ℕ))) (all : List (List ℕ)) (needs : List ℕ) → AllNeeds rotations all → AreNeedsOf l rotations (length all) needs → AllNeeds rotations (all ++ needs ∷ [])
+  one_needs rotations all needs h n j less =
+      let long = length-append all (needs ∷ []) in
+      ⊎_elim
+      (λ (below : j < length all). subst (AreNeedsOf l rotations j) (sym (get_or_append_left all (needs ∷ []) [] j below)) (h j below))
+      (λ (past : length all ≤ j).
+      let e : length all ≡ j = omega arith in
+      subst (AreNeedsOf l rotations j) (sym (get_or_push all needs [] j e)) (subst (λ (i : ℕ). AreNeedsOf l rotations i needs) e n))
+      (cases_lt j (length all))
+
+module _ (w : Written) (lines : List LineData) (r : IsRight (answer w HeadData.Rotations) lines) (p : Parted is_up_to_firsts lines) where
+  abbrev Clause : Reason → ℕ → LineData → Type 0
+  Clause why k line = Clauses (answer w HeadData.Rotations) (take k lines) line why
+
+  next_then : (k : ℕ) (x : LineData) → slice_get lines k ≡ Some x → IfSome (rotation_in w x) (IsLowestExposed (seat_market w) (reached w (take k lines)))
+      → IfSome (rotation_in w x) (IsNextLowest (seat_market w) (first_of w lines) (rotations_in w (take k lines)))
+  next_then k (LineData.Rotation i pairs) e h =
+      subst (λ (firsts : List (ℕ × ℕ)). IsNextLowest (seat_market w) (seat_places_in (seat_market w) firsts) (rotations_in w (take k lines)) (all_numbered w pairs))
+      (said_then p (first_in w) (no_first w) k (LineData.Rotation i pairs) e refl) h
+  next_then k _ e h = tt
+
+  next_at : (k : ℕ) → IfSome (slice_get lines k) (λ line. IfSome (rotation_in w line) (IsNextLowest (seat_market w) (first_of w lines) (rotations_in w (take k lines))))
+  next_at k = go (slice_get lines k) refl (r.holds k reason.NotExposed)
+    where
+      go : (o : Option LineData) → slice_get lines k ≡ o → IfSome o (Clause reason.NotExposed k) → IfSome o (λ line. IfSome (rotation_in w line) (IsNextLowest (seat_market w) (first_of w lines) (rotations_in w (take k lines))))
+      go None e h = tt
+      go (Some x) e h = next_then k x e h.1
+
+  lowest : AllLowest (seat_market w) (first_of w lines) (rotations_in w lines)
+  lowest = grown (rotation_in w) (AllLowest (seat_market w) (first_of w lines)) (IsNextLowest (seat_market w) (first_of w lines)) lines (λ k less. absurd (omega arith))
+      (one_lowest (seat_market w) (first_of w lines)) next_at
+
+  module _ (market : IsMarket (seat_market w)) (chain : IsCompleteChain (seat_market w) (first_of w lines) (rotations_in w lines)) (t : Turns w [] lines) where
+    abbrev IsNextNeeds : List (List ℕ) → List ℕ → Type 0
+    IsNextNeeds all needs = AreNeedsOf (seat_market w) (rotations_in w lines) (length all) needs
+
+    needs_then : (k : ℕ) (x : LineData) → slice_get lines k ≡ Some x → (needs : List ℕ) → needs_in x ≡ Some needs → AreNeedsOf (seat_market w) (rotations_in w (take k lines)) (last_rotation w (take k lines)) needs
+        → IsNextNeeds (all_needs_in (take k lines)) needs
+    needs_then k x e needs some n =
+        let one = t.at k x e (subst IsSome (sym some) refl) in
+        let j : last_rotation w (take k lines) ≡ length (all_needs_in (take k lines)) = omega arith in
+        let parts : rotations_in w lines ≡ rotations_in w (take k lines) ++ rotations_in w (drop k lines) =
+        ap (rotations_in w) (sym (take-append-drop k lines)) ∙ filter_map-append (rotation_in w) (take k lines) (drop k lines) in
+        subst (λ (i : ℕ). AreNeedsOf (seat_market w) (rotations_in w lines) i needs) j
+        (subst (λ (rotations : List (List (ℕ × ℕ))). AreNeedsOf (seat_market w) rotations (last_rotation w (take k lines)) needs) (sym parts)
+        (needs_of_all (seat_market w) (first_of w lines) market (rotations_in w (take k lines)) (rotations_in w (drop k lines)) (last_rotation w (take k lines)) needs
+        (subst (IsCompleteChain (seat_market w) (first_of w lines)) parts chain) (omega arith) n))
+
+    needs_at : (k : ℕ) → IfSome (slice_get lines k) (λ line. IfSome (needs_in line) (IsNextNeeds (all_needs_in (take k lines))))
+    needs_at k = go (slice_get lines k) refl (r.holds k reason.WrongNeeds)
+      where
+        by_needs : (x : LineData) → slice_get lines k ≡ Some x → (o : Option (List ℕ)) → needs_in x ≡ o
+            → IfSome o (AreNeedsOf (seat_market w) (rotations_in w (take k lines)) (last_rotation w (take k lines))) → IfSome o (IsNextNeeds (all_needs_in (take k lines)))
+        by_needs x e None some h = tt
+        by_needs x e (Some needs) some h = needs_then k x e needs some h
+
+        go : (o : Option LineData) → slice_get lines k ≡ o → IfSome o (Clause reason.WrongNeeds k) → IfSome o (λ line. IfSome (needs_in line) (IsNextNeeds (all_needs_in (take k lines))))
+        go None e h = tt
+        go (Some x) e h = by_needs x e (needs_in x) refl h.1
+
+    all_needs : AllNeeds (seat_market w) (first_of w lines) (rotations_in w lines) (all_needs_in lines)
+    all_needs = grown needs_in (AllNeeds (seat_market w) (first_of w lines) (rotations_in w lines)) IsNextNeeds lines (λ j less. absurd (omega arith))
+        (one_needs (seat_market w) (first_of w lines) (rotations_in w lines)) needs_at
+
+-- behind the head
+turns_behind : (w : Written) (rest : List LineData) → is_whole (rotations_layout ∷ []) (map opening_of rest) ≡ true → Turns w [] (LineData.Answer HeadData.Rotations ∷ rest)
+turns_behind w rest placed = turns_from w (LineData.Answer HeadData.Rotations) refl refl (turns w Spot.firsts (LineData.Answer HeadData.Rotations ∷ []) rest placed refl)
+
+pub rotations_yes : RotationsYes
+rotations_yes w lines i g =
+    let r = right_two {w = w} {head = HeadData.Rotations} refl g in
+    let p : Parted is_up_to_firsts lines = parted_behind firsts_tell {w = w} {head = HeadData.Rotations} rotations_layout refl firsts_begin refl g in
+    let q : Parted is_up_to_rotations lines = parted_behind rotations_tell {w = w} {head = HeadData.Rotations} rotations_layout refl rotations_begin refl g in
+    let one = stands_behind refl r p reason.NotBest in
+    let other = stands_behind refl r q reason.RotationMissing in
+    let low = lowest w lines r p in
+    let t : Turns w [] lines = by_head (Turns w []) g (λ rest placed _. turns_behind w rest placed) in
+    let complete : IsNothingExposed (seat_market w) (reached w lines) =
+    subst (λ (rotations : List (List (ℕ × ℕ))). IsNothingExposed (seat_market w) (stage (seat_market w) (first_of w lines) rotations (length rotations))) (said_up q (rotation_in w) (rotation_up w))
+    (subst (λ (firsts : List (ℕ × ℕ)). IsNothingExposed (seat_market w) (stage (seat_market w) (seat_places_in (seat_market w) firsts) (rotations_in w q.above) (length (rotations_in w q.above)))) (said_up q (first_in w) (first_up w))
+    (other.holds.1 other.first)) in
+    let chain : IsCompleteChain (seat_market w) (first_of w lines) (rotations_in w lines) = record {
+      from_best = subst (λ (pairs : List (ℕ × ℕ)). IsProposersBest (seat_market w) (seat_places_in (seat_market w) pairs)) (said_up p (first_in w) (no_first w)) (one.holds.0 one.first);
+      exposed = λ k less. (low k less).exposed;
+      complete = complete.none;
+    } in
+    record {
+      first = first_of w lines;
+      first_written = free_seats (seat_market w) (first_in w) lines
+          (λ k. each_line r reason.NotAMatching {Q = λ above line. IfSome (first_in w line) (IsFreeSeat (seat_market w) (firsts_in w above))} (λ above line h. h.0) k);
+      chain = record { chain = chain; lowest = low };
+      one_each = t.all;
+      needs = λ j less. all_needs w lines r p (is_market (sound_entries i)) chain t j (let same = t.all in omega arith);
+    }
