@@ -7,6 +7,8 @@ mod SolvingLemmas
 mod SeatPairLemmas
 mod ChainLengths
 mod WalkLemmas
+mod SeatListLemmas
+mod ReducedLemmas
 mod VectorLemmas
 mod LeftLemmas
 mod TakingLemmas

@@ -58,11 +58,11 @@ no_seat_pairs l kept places taken = record {
 }
 
 -- what a test adds to a count
-counted : (b : Bool) → b ≡ true → 0 + cond b 1 0 ≡ 1
+pub counted : (b : Bool) → b ≡ true → 0 + cond b 1 0 ≡ 1
 counted true e = refl
 counted false e = absurd (false≢true e)
 
-passed_over : (b : Bool) → b ≡ false → 0 + cond b 1 0 ≡ 0
+pub passed_over : (b : Bool) → b ≡ false → 0 + cond b 1 0 ≡ 0
 passed_over false e = refl
 passed_over true e = absurd (false≢true (sym e))
 

@@ -22,6 +22,8 @@ pub mod WantedKept
 pub mod Solving
 pub mod SeatPairsKept
 pub mod Walks
+pub mod ListsKept
+pub mod ReducedKept
 pub mod Regrets
 pub mod CouplesKept
 pub mod PartiesKept

@@ -46,3 +46,26 @@ pub(crate) fn rotation_of(
     }
     Ok(Rotation { pairs: numbered })
 }
+
+/// The numbers of seats, one after another.
+///
+/// # Errors
+///
+/// `AllocError` where memory ran out, and only then.
+pub(crate) fn seat_numbers(
+    alloc: Global,
+    instance: &Instance,
+    firsts: &[u32],
+    seats: &[Seat],
+) -> Result<Vec<u32>, AllocError>
+    requires firsts { firsts.now ≡ first_seats_of instance.now }
+    requires there { All (λ seat. seat.reviewer < length instance.now.reviewers) seats.now }
+    requires seats { list_all (is_seat instance.now) seats.now ≡ true }
+    ensures { IfOk result (λ numbers. numbers.items ≡ seat_numbers instance.now seats.now) }
+{
+    let mut numbers = Vec::with_capacity(alloc, seats.len())?;
+    for k in 0..seats.len() {
+        numbers.push(seat_number(instance, firsts, seats[k]))?;
+    }
+    Ok(numbers)
+}
