@@ -16,15 +16,17 @@ ghost use Rattle.sm_cert.specs.Judging.{Subject, answer, couples, parties, Claus
 ghost use Rattle.sm_cert.specs.Judges.{IsOwnLine, input_of};
 ghost use Rattle.sm_cert.specs.Checking.{HasFewSeats, IsCertFault, HasSeatsFault, first_head, says_none};
 
+use crate::chain::rotations_verdict;
 use crate::chosen::chosen_verdict;
 use crate::couples::couples_verdict;
 use crate::faults::{AnswerFault, CertFault};
 use crate::listing::list_verdict;
 use crate::parties::parties_verdict;
 use crate::reading::read_answer;
+use crate::reduced::reduced_verdict;
 use crate::regret::regret_verdict;
 use crate::solving::solve_verdict;
-use crate::stubs::{reduced_verdict, rotations_verdict, weight_verdict};
+use crate::stubs::weight_verdict;
 use crate::verdicts::Verdict;
 use sm_instance::{Input, Instance, Persons};
 use sm_report::{Head, Line};
