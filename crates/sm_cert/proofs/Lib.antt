@@ -12,6 +12,7 @@ mod ReducedLemmas
 mod VectorLemmas
 mod LeftLemmas
 mod TakingLemmas
+mod CheckLemmas
 mod SeatLemmas
 mod YesLemmas
 mod YesLines

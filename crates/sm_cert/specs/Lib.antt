@@ -14,6 +14,7 @@ pub mod Vectors
 pub mod Rooming
 pub mod Judging
 pub mod Judges
+pub mod Checking
 pub mod Listing
 pub mod Walking
 pub mod PairsKept

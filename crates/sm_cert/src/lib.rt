@@ -6,6 +6,7 @@
 
 mod answers;
 mod chain;
+mod checking;
 mod chosen;
 mod couples;
 mod faults;
@@ -25,15 +26,17 @@ mod seat_lists;
 mod seat_numbers;
 mod seat_pairs;
 mod solving;
+mod stubs;
 mod verdicts;
 mod walk;
 mod wanted;
 pub mod witnesses;
 
 pub use chain::rotations_verdict;
+pub use checking::check;
 pub use chosen::chosen_verdict;
 pub use couples::couples_verdict;
-pub use faults::AnswerFault;
+pub use faults::{AnswerFault, CertFault};
 pub use listing::list_verdict;
 pub use parties::parties_verdict;
 pub use reading::read_answer;
