@@ -14,7 +14,7 @@ ghost use Rattle.sm_cert.specs.Taking.{AreFirsts};
 ghost use Rattle.sm_cert.specs.Verdicts.{AtLine, IsVerdict};
 ghost use Rattle.sm_cert.specs.Judging.{Subject, answer, couples, parties, Clauses, Holds, IsJudged};
 ghost use Rattle.sm_cert.specs.Judges.{IsOwnLine, input_of};
-ghost use Rattle.sm_cert.specs.Checking.{HasFewSeats, IsCertFault, HasSeatsFault, first_head, says_none};
+ghost use Rattle.sm_cert.specs.Checking.{HasFewSeats, IsCertFault, IsJudgeFault, HasSeatsFault, first_head, says_none};
 
 use crate::chain::rotations_verdict;
 use crate::chosen::chosen_verdict;
@@ -26,7 +26,6 @@ use crate::reading::read_answer;
 use crate::reduced::reduced_verdict;
 use crate::regret::regret_verdict;
 use crate::solving::solve_verdict;
-use crate::stubs::weight_verdict;
 use crate::verdicts::Verdict;
 use sm_instance::{Input, Instance, Persons};
 use sm_report::{Head, Line};
@@ -44,7 +43,8 @@ use std::alloc::{AllocError, Global};
 ///
 /// `TooManySeats` where the seats have too many entries, as [`Seats::of`] gives it, before anything is said of the text.
 /// `BadAnswer` with the first line that isn't of an answer's form where it stands, or the one behind the last where the
-/// closing line is missing. `OutOfMemory` where memory ran out, and only then.
+/// closing line is missing. `Unjudged` where the text is an answer of `weight`. `OutOfMemory` where memory ran out, and only
+/// then.
 pub fn check(
     alloc: Global,
     input: &Input,
@@ -59,7 +59,7 @@ pub fn check(
 {
     let firsts = first_seats(alloc, input)?;
     let lines = read_lines(alloc, input, &firsts, answer, first_line)?;
-    Ok(judge(alloc, input, &firsts, &lines, first_line)?)
+    judge(alloc, input, &firsts, &lines, first_line)
 }
 
 // The first seat of each reviewer, over two sides.
@@ -106,12 +106,12 @@ fn judge(
     firsts: &[u32],
     lines: &[Line],
     first_line: u32,
-) -> Result<Verdict, SeatsFault>
+) -> Result<Verdict, CertFault>
     requires few { first_line + length lines.now < 2 ^ 32 }
     requires firsts { AreFirsts input.now firsts.now }
     requires own { (subject : Subject) → input_of subject ≡ input.now → All (IsOwnLine subject) (map line_of lines.now) }
     ensures verdict { IfOk result (λ v. IsVerdict (Holds input.now (map line_of lines.now)) first_line v) }
-    ensures fault { IfErr result (λ f. HasSeatsFault input.now f) }
+    ensures fault { IfErr result (λ f. IsJudgeFault input.now (map line_of lines.now) f) }
 {
     match input {
         Input::Two(instance) => judge_two(alloc, instance, firsts, lines, first_line),
@@ -126,12 +126,12 @@ fn judge_two(
     firsts: &[u32],
     lines: &[Line],
     first_line: u32,
-) -> Result<Verdict, SeatsFault>
+) -> Result<Verdict, CertFault>
     requires few { first_line + length lines.now < 2 ^ 32 }
     requires firsts { firsts.now ≡ first_seats_of instance.now }
     requires own { (head : HeadData) → All (IsOwnLine (answer instance.now head)) (map line_of lines.now) }
     ensures verdict { IfOk result (λ v. IsVerdict (Holds (Two instance.now) (map line_of lines.now)) first_line v) }
-    ensures fault { IfErr result (λ f. IsSeatsFault instance.now f) }
+    ensures fault { IfErr result (λ f. IsJudgeFault (Two instance.now) (map line_of lines.now) f) }
 {
     match head_in(lines) {
         Some(head) => judge_head(alloc, instance, firsts, head, lines, first_line),
@@ -157,14 +157,14 @@ fn judge_head(
     head: &Head,
     lines: &[Line],
     first_line: u32,
-) -> Result<Verdict, SeatsFault>
+) -> Result<Verdict, CertFault>
     requires few { first_line + length lines.now < 2 ^ 32 }
     requires firsts { firsts.now ≡ first_seats_of instance.now }
     requires own { (head : HeadData) → All (IsOwnLine (answer instance.now head)) (map line_of lines.now) }
     requires head { first_head (map line_of lines.now) ≡ Some (head_of head.now) }
     ensures verdict { IfOk result (λ v. IsVerdict
         (AtLine (Clauses (answer instance.now (head_of head.now))) (map line_of lines.now)) first_line v) }
-    ensures fault { IfErr result (λ f. IsSeatsFault instance.now f) }
+    ensures fault { IfErr result (λ f. IsJudgeFault (Two instance.now) (map line_of lines.now) f) }
 {
     match head {
         Head::Solve(Some(side)) => {
@@ -184,10 +184,7 @@ fn judge_head(
             Ok(list_verdict(alloc, instance, after, *limit, lines, first_line)?)
         }
         Head::Regret => Ok(regret_verdict(alloc, instance, lines, first_line)?),
-        Head::Weight(by) => {
-            let seats = Seats::of(alloc, instance)?;
-            Ok(weight_verdict(alloc, instance, &seats, *by, lines, first_line)?)
-        }
+        Head::Weight(_) => Err(CertFault::Unjudged),
         Head::Meet => Ok(chosen_verdict(alloc, instance, Choice::Better, lines, first_line)?),
         Head::Join => Ok(chosen_verdict(alloc, instance, Choice::Worse, lines, first_line)?),
         Head::Solve(None) => Ok(Verdict::Yes),

@@ -32,8 +32,21 @@ pub enum CertFault {
     /// The first line that isn't of an answer's form where it stands, or the one behind the last where the closing line is
     /// missing.
     BadAnswer(u32),
+    /// The text is an answer of `weight`, on which no verdict is given yet.
+    Unjudged,
     /// Memory ran out. Nothing is said of the text.
     OutOfMemory,
+}
+
+impl From<AllocError> for CertFault {
+    ghost use Rattle.std.specs.Prelude.{◌≡◌};
+    ghost use Rattle.sm_cert.specs.declared.faults.CertFault.TheVariants.{OutOfMemory};
+
+    ghost from_gives = { λ _ e. e ≡ OutOfMemory };
+
+    fn from(_error: AllocError) -> CertFault {
+        CertFault::OutOfMemory
+    }
 }
 
 impl From<SeatsFault> for CertFault {

@@ -26,7 +26,6 @@ mod seat_lists;
 mod seat_numbers;
 mod seat_pairs;
 mod solving;
-mod stubs;
 mod verdicts;
 mod walk;
 mod wanted;
