@@ -1,8 +1,10 @@
 -- From what is found at one line after another to the verdict on an answer.
-use Rattle.std.proofs.Common.{◌≡◌, ℕ, suc, ◌+◌, ◌<◌, ◌≤◌, inl, inr, arith, refl, sym, ap, ◌∙◌, List, [], ◌∷◌, ◌++◌, length, map, take, slice_index_or, Option, Some, subst}
+use Rattle.std.proofs.Common.{◌≡◌, ℕ, suc, ◌+◌, ◌<◌, ◌≤◌, inl, inr, arith, refl, sym, ap, ◌∙◌, Bool, true, false, List, [], ◌∷◌, ◌++◌, length, map, take, slice_index_or, Option, Some, subst}
 use Rattle.std.specs.Prelude.{IfSome, option_map}
-use Rattle.std.specs.List.{slice_get}
+use Rattle.std.specs.List.{list_all, slice_get}
 use Rattle.std.proofs.lemmas.Option.{slice_get_past, slice_get_within, slice_get_read, slice_get-map, get_or_from_slice_get}
+use Rattle.std.proofs.lemmas.List.Folds.{list_all_at}
+use Rattle.std.proofs.lemmas.Bool.{false≢true}
 use Rattle.std.proofs.Math.Seq.{take-suc}
 use Rattle.sm_lists.proofs.Counting.{lt_or_le}
 use Rattle.sm_report.specs.declared.lines.Line.{Line}
@@ -38,3 +40,11 @@ above_next lines k x e =
     let one : k + 1 ≡ suc k = omega arith in
     ap (λ n. take n lines) one ∙ take-suc lines k LineData.Yes (slice_get_within lines k x e)
     ∙ ap (λ y. take k lines ++ y ∷ []) (get_or_from_slice_get lines k x LineData.Yes e)
+
+-- a test that all items pass
+pub passes_at : {X : Type 0} (p : X → Bool) (xs : List X) (k : ℕ) (x : X) → list_all p xs ≡ true → slice_get xs k ≡ Some x → p x ≡ true
+passes_at p xs k x all e = go (p x) refl
+  where
+    go : (b : Bool) → p x ≡ b → b ≡ true
+    go true f = refl
+    go false f = absurd (false≢true (sym (list_all_at p xs k x (slice_get_within xs k x e) (ap p (get_or_from_slice_get xs k x x e) ∙ f)) ∙ all))
