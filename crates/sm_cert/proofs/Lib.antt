@@ -16,6 +16,9 @@ mod SeatYes
 mod ReducedYes
 mod RotationLines
 mod RotationsYes
+mod FlowYes
+mod WeightLines
+mod WeightYes
 mod ChosenYes
 mod CouplesYes
 mod NoneYes
