@@ -7,10 +7,10 @@ mod VectorLemmas
 mod LeftLemmas
 mod TakingLemmas
 mod SeatLemmas
-mod YesLemmas
 mod YesLines
 mod YesPairs
 mod GroupLemmas
+mod ListYes
 mod SolveYes
 mod SeatYes
 mod ReducedYes
