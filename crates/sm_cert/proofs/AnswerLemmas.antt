@@ -6,7 +6,7 @@ use Rattle.std.specs.Option.{option_or}
 use Rattle.std.proofs.lemmas.Bool.{cases_lt}
 use Rattle.std.proofs.lemmas.Option.{get_or_from_slice_get}
 use Rattle.std.proofs.lemmas.List.{length-map}
-use Rattle.std.proofs.lemmas.List.Elements.{filter_map-append, All-get_or}
+use Rattle.std.proofs.lemmas.List.Elements.{All-get_or}
 use Rattle.sm_report.specs.declared.lines.Line.{Line}
 use Rattle.sm_report.specs.Lines.{LineData, line_of}
 use Rattle.sm_cert.specs.declared.verdicts.Reason.{Reason}
@@ -22,11 +22,7 @@ line_right P lines k x inside is all =
     subst P (get_or_from_slice_get (map line_of lines) k (line_of x) (line_of x) (line_at lines k x inside is))
     (All-get_or P (map line_of lines) k (line_of x) (let long = length-map lines line_of in omega arith) all)
 
--- what is said above the next line, and of it the first
-pub said_more : {X : Type 0} (said : LineData → Option X) (lines : List LineData) (k : ℕ) (x : LineData) → slice_get lines k ≡ Some x
-    → filter_map said (take (k + 1) lines) ≡ filter_map said (take k lines) ++ filter_map said (x ∷ [])
-said_more said lines k x is = ap (filter_map said) (above_next lines k x is) ∙ filter_map-append said (take k lines) (x ∷ [])
-
+-- the first that is said, with one line more
 pub first_more : {X : Type 0} (said : LineData → Option X) (xs : List X) (x : LineData) → slice_get (xs ++ filter_map said (x ∷ [])) 0 ≡ option_or (slice_get xs 0) (said x)
 first_more {X} said [] x = go (said x)
   where
@@ -44,6 +40,11 @@ found_by to from (Some why) f = record { clauses_before = λ other l. to other (
 pub finds_keeping : (Holds : Reason → Type 0) (Kept : Type 0) (r : Option Reason) → Finds Holds r → Kept → FindsOrKeeps Holds Kept r
 finds_keeping Holds Kept None f k = (f, k)
 finds_keeping Holds Kept (Some why) f k = f
+
+-- what is kept is kept as anything that follows of it
+pub kept_as : (Holds : Reason → Type 0) {A B : Type 0} → (A → B) → (r : Option Reason) → FindsOrKeeps Holds A r → FindsOrKeeps Holds B r
+kept_as Holds f None found = (found.0, f found.1)
+kept_as Holds f (Some why) found = found
 
 -- the clause of the first reason, where it fails
 least_reason : (why : Reason) → 1 ≤ number_of_reason why
@@ -81,9 +82,6 @@ pub record HoldAbove (Clauses : List LineData → LineData → Reason → Type 0
   pub hold : (j : ℕ) (why : Reason) → j < k → AtLine Clauses lines j why
 
 module _ {Clauses : List LineData → LineData → Reason → Type 0} {lines : List LineData} where
-  pub none_above : HoldAbove Clauses lines 0
-  none_above = record { hold = λ j why l. absurd (omega arith) }
-
   -- where all hold at line k too
   pub hold_more : {k : ℕ} (x : LineData) → HoldAbove Clauses lines k → slice_get lines k ≡ Some x → Finds (Clauses (take k lines) x) None → HoldAbove Clauses lines (k + 1)
   hold_more {k} x above is here = record { hold = one_more k above.hold (found_at Clauses lines k x None is here) }

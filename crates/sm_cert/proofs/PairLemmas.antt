@@ -29,7 +29,7 @@ none_held w holding is loads =
     }
 
 -- one second more
-second_more : (pairs : List (ℕ × ℕ)) (p r s : ℕ) → times_second (pairs ++ (p, r) ∷ []) s ≡ times_second pairs s + cond (r == s) 1 0
+pub second_more : (pairs : List (ℕ × ℕ)) (p r s : ℕ) → times_second (pairs ++ (p, r) ∷ []) s ≡ times_second pairs s + cond (r == s) 1 0
 second_more pairs p r s =
     let f : ℕ × ℕ → ℕ = λ (pair : ℕ × ℕ). cond (pair.1 == s) 1 0 in
     let all = sum_by-append f pairs ((p, r) ∷ []) in

@@ -52,11 +52,11 @@ not_empty [] h e = absurd (omega (arith, h))
 not_empty (x ∷ items) h e = cc
 
 -- tests of several lines
-and_left : (a b : Bool) → (a && b) ≡ true → a ≡ true
+pub and_left : (a b : Bool) → (a && b) ≡ true → a ≡ true
 and_left true b e = refl
 and_left false b e = e
 
-and_right : (a b : Bool) → (a && b) ≡ true → b ≡ true
+pub and_right : (a b : Bool) → (a && b) ≡ true → b ≡ true
 and_right true b e = e
 and_right false b e = absurd (false≢true e)
 
@@ -64,7 +64,7 @@ both : (a b : Bool) → a ≡ true → b ≡ true → (a && b) ≡ true
 both true b e f = f
 both false b e f = absurd (false≢true e)
 
-all_more : (p : LineData → Bool) (xs : List LineData) (x : LineData) → list_all p xs ≡ true → p x ≡ true → list_all p (xs ++ x ∷ []) ≡ true
+pub all_more : (p : LineData → Bool) (xs : List LineData) (x : LineData) → list_all p xs ≡ true → p x ≡ true → list_all p (xs ++ x ∷ []) ≡ true
 all_more p [] x h e = both (p x) true e refl
 all_more p (y ∷ xs) x h e = both (p y) (list_all p (xs ++ x ∷ [])) (and_left (p y) (list_all p xs) h) (all_more p xs x (and_right (p y) (list_all p xs) h) e)
 
@@ -148,6 +148,17 @@ parse input h (x ∷ a) (y ∷ b) rest sa sb e =
     let deep = parse input h a b rest (All-tail (IsLineOf input) x a sa) (All-tail (IsLineOf input) y b sb)
     (let t : map (text_of_line input) a ++ rest ≡ map (text_of_line input) b = cc in t) in
     record { more = deep.more; is = ap (λ z. z ∷ b) (sym same) ∙ ap (λ xs. x ∷ xs) deep.is; texts = deep.texts; sound = deep.sound }
+
+-- so a text is that of one answer alone
+pub same_lines : (input : Input) → IsInput input → (texts : List (List ℕ)) (a b : List LineData) → AreAnswer input texts a → AreAnswer input texts b → a ≡ b
+same_lines input h texts a b x y = by_rest (parse input h a b [] x.right y.right (append-nil (map (text_of_line input) a) ∙ x.read ∙ sym y.read))
+  where
+    by_more : (more : List LineData) → b ≡ a ++ more → [] ≡ map (text_of_line input) more → a ≡ b
+    by_more [] is e = sym (is ∙ append-nil a)
+    by_more (z ∷ more) is e = absurd cc
+
+    by_rest : IsRest input a b [] → a ≡ b
+    by_rest r = by_more r.more r.is r.texts
 
 -- the lines so far begin an answer
 front_of : (input : Input) (lines : List LineData) → All (IsLineOf input) lines → list_all (fits input) lines ≡ true → IsBegun input lines

@@ -1,9 +1,6 @@
 -- The places of ranks, and which vector stands behind which.
 use Rattle.std.proofs.Common.{◌≡◌, ℕ, ◌+◌, ◌-◌, ◌<◌, ◌≤◌, ◌⊎◌, inl, inr, arith, refl, sym, ap, ◌∙◌, Bool, true, false, List, length, slice_index, slice_index_or, Option, None, Some, ext_get_or, unwrap_or, leb-true, leb-false, eq-eqb}
 use Rattle.std.specs.Prelude.{nat_le, if◌then◌else◌, MatchOption, is_some}
-use Rattle.sm_cert.specs.declared.verdicts.Reason.{Reason}
-use Rattle.sm_cert.specs.declared.verdicts.Reason.TheVariants as reason
-use Rattle.sm_cert.specs.Verdicts.{IsFirstThere, number_of_reason}
 use Rattle.std.specs.List.{range_with_len}
 use Rattle.std.proofs.lemmas.List.FromFn.{get_or-map-range_with_len, length-map-range_with_len, get_or-range_with_len, length-range_with_len}
 use Rattle.std.proofs.lemmas.List.{get_or_past}
@@ -13,7 +10,7 @@ use Rattle.sm_instance.specs.Matching.{held, standing, IsAssignment, IsMatching,
 use Rattle.sm_instance.proofs.LoadLemmas.{load_more_yes}
 use Rattle.sm_instance.proofs.BreachLemmas.{load_mono}
 use Rattle.sm_instance.specs.Ranks.{rank_vector_of, IsBefore}
-use Rattle.sm_cert.specs.Vectors.{place_of_rank, places_of_ranks, VectorHolds}
+use Rattle.sm_cert.specs.Vectors.{place_of_rank, places_of_ranks}
 use Rattle.sm_cert.specs.Listing.{ArePlaced, IsRank}
 
 module _ (w : Written) (v : List ℕ) where
@@ -127,14 +124,3 @@ not_matching w places None m s k = none s
     none : false ≡ true → ⊥
     none e = grind arith
 not_matching w places (Some p) m s k = breach_fails w places p m k
-
-pub first_clause : (w : Written) (before : Option (List ℕ)) (count limit : ℕ) (v : List ℕ) → (IsMatching w (places_of_ranks w v) → ⊥) → IsFirstThere (VectorHolds w before count limit v) reason.NotAMatching
-first_clause w before count limit v n = record { clauses_before = none; fails = λ m. n m.matching }
-  where
-    none : (other : Reason) → number_of_reason other < 1 → VectorHolds w before count limit v other
-    none reason.NotAMatching h = absurd (omega (arith, h))
-    none reason.Blocked h = absurd (omega (arith, h))
-    none reason.NotRising h = absurd (omega (arith, h))
-    none reason.NotAllowed h = absurd (omega (arith, h))
-    none reason.OverLimit h = absurd (omega (arith, h))
-    none _ h = tt

@@ -14,11 +14,16 @@ pub mod Vectors
 pub mod Rooming
 pub mod Judging
 pub mod Judges
+pub mod Checking
 pub mod Listing
 pub mod Walking
 pub mod PairsKept
 pub mod WantedKept
 pub mod Solving
+pub mod SeatPairsKept
+pub mod Walks
+pub mod ListsKept
+pub mod ReducedKept
 pub mod Regrets
 pub mod CouplesKept
 pub mod PartiesKept

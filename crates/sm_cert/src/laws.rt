@@ -1,12 +1,22 @@
 //! The laws of verdicts and layouts, and what a yes means. Each function does nothing: its contract is the law, a statement
 //! over the definitions alone.
 
-ghost use Rattle.sm_cert.specs.Laws.{OneVerdict, WholeIsBegun, WholeEnds};
+ghost use Rattle.sm_cert.specs.Laws.{OneVerdict, OneJudgement, JudgedIsntBad, WholeIsBegun, WholeEnds};
 ghost use Rattle.sm_cert.specs.Yes.{ListYes, SolveYes, CouplesYes, NoneYes, RegretYes, MeetYes, JoinYes, ReducedYes, RotationsYes, WeightYes};
 
 /// There is no more than one verdict on an answer.
 pub fn one_verdict()
     ensures { OneVerdict }
+{}
+
+/// There is no more than one verdict on a text.
+pub fn one_judgement()
+    ensures { OneJudgement }
+{}
+
+/// A text on which there is a verdict is of the form of an answer.
+pub fn judged_isnt_bad()
+    ensures { JudgedIsntBad }
 {}
 
 /// The first lines of a whole answer begin an answer.

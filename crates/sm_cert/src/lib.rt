@@ -5,6 +5,8 @@
 #![tactic(auto)]
 
 mod answers;
+mod chain;
+mod checking;
 mod chosen;
 mod couples;
 mod faults;
@@ -18,18 +20,26 @@ mod pairs;
 mod parties;
 mod persons;
 mod reading;
+mod reduced;
 mod regret;
+mod seat_lists;
+mod seat_numbers;
+mod seat_pairs;
 mod solving;
 mod verdicts;
+mod walk;
 mod wanted;
 pub mod witnesses;
 
+pub use chain::rotations_verdict;
+pub use checking::check;
 pub use chosen::chosen_verdict;
 pub use couples::couples_verdict;
-pub use faults::AnswerFault;
+pub use faults::{AnswerFault, CertFault};
 pub use listing::list_verdict;
 pub use parties::parties_verdict;
 pub use reading::read_answer;
+pub use reduced::reduced_verdict;
 pub use regret::regret_verdict;
 pub use solving::solve_verdict;
 pub use verdicts::{Reason, Verdict};

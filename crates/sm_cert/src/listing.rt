@@ -1,22 +1,34 @@
 //! Answers of `list`.
 
-ghost use Rattle.std.specs.Prelude.{◌≡◌, ℕ, ◌<◌, ◌≤◌, ◌+◌, ◌-◌, ◌^◌, ◌↔◌, ◌∷◌, [], true, length, IsTrue, IfOk, IfSome, map, take, nat_le, if◌then◌else◌, Some, None, slice_index};
+ghost use Rattle.std.specs.Prelude.{◌≡◌, ◌<◌, ◌≤◌, ◌+◌, ◌-◌, ◌^◌, ◌↔◌, All, Some, None, IsTrue, IfOk, IfSome, length, map, nat_le, if◌then◌else◌};
 ghost use Rattle.std.specs.Option.{option_map};
-ghost use Rattle.sm_instance.specs.Written.{row};
 ghost use Rattle.sm_instance.specs.Matching.{IsAssignment};
 ghost use Rattle.sm_instance.specs.Ranks.{rank_vector_of, IsBefore};
-ghost use Rattle.sm_theory.specs.Listings.{IsBehind, end_of};
-ghost use Rattle.sm_cert.specs.Verdicts.{Finds, AtLine, IsVerdict};
+ghost use Rattle.sm_theory.specs.Listings.{IsBehind};
+ghost use Rattle.sm_report.specs.Heads.HeadData.{List as ListHead};
 ghost use Rattle.sm_report.specs.Lines.{line_of};
-ghost use Rattle.sm_cert.specs.Said.{vectors_in};
-ghost use Rattle.sm_cert.specs.Forms.{fits_two};
-ghost use Rattle.std.specs.List.{list_all};
-ghost use Rattle.sm_cert.specs.Vectors.{ListClauses, ListHolds, MoreHolds, VectorHolds, places_of_ranks, order_of};
+ghost use Rattle.sm_cert.specs.Verdicts.{AtLine, Finds, IsVerdict};
+ghost use Rattle.sm_cert.specs.Vectors.{MoreHolds, VectorHolds, places_of_ranks, order_of};
+ghost use Rattle.sm_cert.specs.Listing.{last_or};
+ghost use Rattle.sm_cert.specs.Judges.{IsOwnLine};
+ghost use Rattle.sm_cert.specs.Judging.{answer, Clauses};
 
+use crate::judging::{Judge, judge_lines};
 use crate::verdicts::{Reason, Verdict};
 use sm_instance::{Assignment, Instance};
 use sm_report::Line;
 use std::alloc::{AllocError, Global};
+
+/// What is kept of an answer of `list`: how many vectors it has so far, and the last of them; and room for a vector's matching.
+#[derive(Drop)]
+struct ListJudge<'a> {
+    instance: &'a Instance,
+    after: Option<&'a [u32]>,
+    limit: u32,
+    count: u32,
+    last: Vec<u32>,
+    matching: Assignment,
+}
 
 /// The verdict on an answer of `list` from this cursor up to this limit, whose lines are of their form and whose first line has
 /// this number. That nothing is missing, and that `end` is right, isn't decided.
@@ -36,76 +48,79 @@ pub fn list_verdict(
     first_line: u32,
 ) -> Result<Verdict, AllocError>
     requires few { first_line + length lines.now < 2 ^ 32 }
-    requires fitting { list_all (fits_two instance.now) (map line_of lines.now) ≡ true }
+    requires own { All (IsOwnLine (answer instance.now (ListHead (option_map (λ b. b.now) after) limit)))
+        (map line_of lines.now) }
     requires after_each { IfSome after (λ b. length b.now ≡ length instance.now.proposers) }
     ensures { IfOk result (λ v. IsVerdict
-        (AtLine (ListClauses instance.now (option_map (λ b. b.now) after.entry) limit)
+        (AtLine (Clauses (answer instance.now (ListHead (option_map (λ b. b.now) after.entry) limit)))
         (map line_of lines.now)) first_line v) }
 {
-    let mut a = Assignment {
-        places: vec![in alloc; None; instance.proposer_count() as usize]?,
+    let proposers = instance.proposer_count() as usize;
+    let judge = ListJudge {
+        instance,
+        after,
+        limit,
+        count: 0,
+        last: vec![in alloc; 0; proposers]?,
+        matching: Assignment {
+            places: vec![in alloc; None; proposers]?,
+        },
     };
-    let mut before = after;
-    let mut count = 0;
-    for k in 0..lines.len() {
-        let line = &lines[k];
-        if let Some(why) = line_fault(instance, &mut a, before, count, limit, line) {
-            return Ok(Verdict::No(first_line + k as u32, why));
+    judge_lines(alloc, judge, lines, first_line)
+}
+
+impl<'a> Judge for ListJudge<'a> {
+    ghost use Rattle.std.specs.Option.{option_map};
+    ghost use Rattle.sm_report.specs.Heads.HeadData.{List as ListHead};
+    ghost use Rattle.sm_cert.specs.Judging.{answer};
+    ghost use Rattle.sm_cert.specs.Listing.{AreVectorsKept};
+
+    ghost subject = { λ j. answer j.instance.now (ListHead (option_map (λ b. b.now) j.after) j.limit) };
+
+    ghost knows = { λ j above. AreVectorsKept j.instance.now (option_map (λ b. b.now) j.after)
+        above j.count j.last.items j.matching.places.items };
+
+    fn find_fault(&mut self, _alloc: Global, line: &Line) -> Result<Option<Reason>, AllocError> {
+        let before = last_vector(self.after, self.count, &self.last);
+        match line {
+            Line::Vector(v) => {
+                let a = &mut self.matching;
+                if let Some(why) = vector_fault(
+                    self.instance,
+                    a,
+                    before,
+                    self.count,
+                    self.limit,
+                    v,
+                ) {
+                    return Ok(Some(why));
+                }
+                self.last.copy_from_slice(v);
+                self.count += 1;
+                Ok(None)
+            }
+            Line::More(v) => Ok(more_fault(before, self.count, self.limit, v)),
+            _ => Ok(None),
         }
-        before = last_vector(instance, before, line);
-        count += vectors_of(line);
-    }
-    Ok(Verdict::Yes)
-}
-
-// The last vector behind a line.
-fn last_vector<'a>(
-    instance: &Instance,
-    before: Option<&'a [u32]>,
-    line: &'a Line,
-) -> Option<&'a [u32]>
-    requires fits { fits_two instance.now (line_of line.now) ≡ true }
-    requires before_each { IfSome before (λ b. length b.now ≡ length instance.now.proposers) }
-    ensures last { option_map (λ b. b.now) result
-        ≡ end_of (option_map (λ b. b.now) before.entry) (vectors_in (line_of line.now ∷ [])) }
-    ensures each { IfSome (option_map (λ b. b.now) result) (λ b. length b ≡ length instance.now.proposers) }
-{
-    match line {
-        Line::Vector(v) => Some(v.as_slice()),
-        _ => before,
     }
 }
 
-// How many vectors a line has.
-fn vectors_of(line: &Line) -> u32
-    ensures count { result ≡ length (vectors_in (line_of line.now ∷ [])) }
-    ensures one { result ≤ 1 }
-{
-    match line {
-        Line::Vector(_) => 1,
-        _ => 0,
-    }
-}
-
-// The first clause that fails at a line.
-fn line_fault(
-    instance: &Instance,
-    a: &mut Assignment,
-    before: Option<&[u32]>,
+// The last vector of so many, or else the cursor.
+fn last_vector<'a, 'b: 'a>(
+    after: Option<&'b [u32]>,
     count: u32,
-    limit: u32,
-    line: &Line,
-) -> Option<Reason>
-    requires fits { fits_two instance.now (line_of line.now) ≡ true }
-    requires before_each { IfSome before (λ b. length b.now ≡ length instance.now.proposers) }
-    requires places_each { length a.old.places.items ≡ length instance.now.proposers }
-    ensures found { Finds (ListHolds instance.now (option_map (λ b. b.now) before.entry) count limit (line_of line.now)) result }
-    ensures places_each { length a.new.places.items ≡ length instance.now.proposers }
+    last: &'a [u32],
+) -> Option<&'a [u32]>
+    requires after_each { IfSome after (λ b. length b.now ≡ length last.now) }
+    ensures last { option_map (λ b. b.now) result ≡ last_or count last.now (option_map (λ b. b.now) after.entry) }
+    ensures each { IfSome result (λ b. length b.now ≡ length last.now) }
 {
-    match line {
-        Line::Vector(v) => vector_fault(instance, a, before, count, limit, v),
-        Line::More(v) => more_fault(before, count, limit, v),
-        _ => None,
+    if count > 0 {
+        return Some(last);
+    }
+    match after {
+        Some(after) => Some(after),
+        None => None,
     }
 }
 

@@ -1,7 +1,6 @@
 //! Answers of `solve` for roommates that write parties.
 
-ghost use Rattle.std.specs.Prelude.{◌≡◌, ◌≢◌, ◌⊎◌, ℕ, ◌+◌, ◌*◌, ◌<◌, ◌^◌, ◌↔◌, ◌∷◌, ◌++◌, [], List, All, length, map, slice_index, IsTrue, IfOk, EachIndex, false, true, replicate};
-ghost use Rattle.std.specs.List.{range_with_len};
+ghost use Rattle.std.specs.Prelude.{◌≡◌, ◌≢◌, ◌⊎◌, ℕ, ◌+◌, ◌<◌, ◌^◌, ◌↔◌, [], List, All, length, map, slice_index, IsTrue, IfOk, EachIndex, false, true, replicate};
 ghost use Rattle.sm_instance.specs.Written.{AgentData, lists_of};
 ghost use Rattle.sm_report.specs.Lines.{LineData, line_of};
 ghost use Rattle.sm_cert.specs.Verdicts.{AtLine, Finds, IsVerdict};
@@ -67,7 +66,8 @@ impl<'a> Judge for PartiesJudge<'a> {
 
     ghost subject = { λ j. parties j.persons.now };
 
-    ghost knows = { λ j above. ArePartiesKept j.persons.now j.rooms above j.parties.next.items j.parties.met.items j.parties.odd };
+    ghost knows = { λ j above. ArePartiesKept j.persons.now j.rooms above
+        j.parties.next.items j.parties.met.items j.parties.odd };
 
     fn find_fault(&mut self, alloc: Global, line: &Line) -> Result<Option<Reason>, AllocError> {
         match line {
@@ -132,7 +132,8 @@ impl Parties {
     fn add(&mut self, party: &[u32]) -> bool
         requires in_range { EachIndex party.now (λ j. slice_index party.now j < length self.old.met.items) }
         requires as_many { length self.old.next.items ≡ length self.old.met.items }
-        ensures { (parties : List (List ℕ)) → ArePartiesHeld (length self.old.met.items) parties self.old.next.items self.old.met.items self.old.odd
+        ensures { (parties : List (List ℕ))
+            → ArePartiesHeld (length self.old.met.items) parties self.old.next.items self.old.met.items self.old.odd
             → Parts parties party.now (length self.old.met.items) self.new.next.items self.new.met.items self.new.odd result }
     {
         if !meet(&mut self.met, party) {

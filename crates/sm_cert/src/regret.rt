@@ -7,18 +7,30 @@ ghost use Rattle.sm_report.specs.Lines.{LineData, line_of};
 ghost use Rattle.sm_report.specs.Sound.{IsLineOf};
 ghost use Rattle.sm_cert.specs.Verdicts.{AtLine, Finds, IsVerdict};
 ghost use Rattle.sm_cert.specs.Said.{pairs_in, regret_in};
-ghost use Rattle.sm_cert.specs.Vectors.{RegretHolds, RegretClauses};
+ghost use Rattle.sm_cert.specs.Vectors.{RegretHolds};
+ghost use Rattle.sm_report.specs.Heads.HeadData.{Regret};
+ghost use Rattle.sm_cert.specs.Judges.{IsOwnLine};
+ghost use Rattle.sm_cert.specs.Judging.{answer, Clauses};
 ghost use Rattle.sm_cert.specs.Regrets.{EndOfRegret};
 ghost use Rattle.sm_cert.specs.Walking.{FindsOrKeeps};
 ghost use Rattle.sm_instance.specs.Matching.{IsMatching};
 ghost use Rattle.sm_cert.specs.PairsKept.{ArePairsHeld};
 
+use crate::judging::{Judge, judge_lines};
 use crate::pairs::{joins, no_pairs};
 use crate::verdicts::{Reason, Verdict};
 use sm_instance::{Assignment, Instance};
 use sm_pairs::Holding;
 use sm_report::Line;
 use std::alloc::{AllocError, Global};
+
+/// What is kept of an answer of `regret`: the matching that it writes, and the regret that it says.
+#[derive(Drop)]
+struct RegretJudge<'a> {
+    instance: &'a Instance,
+    holding: Holding,
+    regret: Option<u32>,
+}
 
 /// The verdict on an answer of `regret`, of which the first line has this number. Takes time in proportion to the agents, the
 /// entries and the lines, and a look-up for each pair, and memory in proportion to the agents.
@@ -33,19 +45,31 @@ pub fn regret_verdict(
     first_line: u32,
 ) -> Result<Verdict, AllocError>
     requires few { first_line + length lines.now < 2 ^ 32 }
-    requires right { All (IsLineOf (Two instance.now)) (map line_of lines.now) }
-    ensures { IfOk result (λ v. IsVerdict (AtLine (RegretClauses instance.now) (map line_of lines.now)) first_line v) }
+    requires own { All (IsOwnLine (answer instance.now Regret)) (map line_of lines.now) }
+    ensures { IfOk result (λ v. IsVerdict (AtLine (Clauses (answer instance.now Regret)) (map line_of lines.now)) first_line v) }
 {
-    let mut holding = no_pairs(alloc, instance)?;
-    let mut regret = None;
-    for k in 0..lines.len() {
-        let line = &lines[k];
-        if let Some(why) = line_fault(alloc, instance, &mut holding, regret, line)? {
-            return Ok(Verdict::No(first_line + k as u32, why));
-        }
-        regret = regret.or(regret_in(line));
+    let judge = RegretJudge {
+        instance,
+        holding: no_pairs(alloc, instance)?,
+        regret: None,
+    };
+    judge_lines(alloc, judge, lines, first_line)
+}
+
+impl<'a> Judge for RegretJudge<'a> {
+    ghost use Rattle.sm_report.specs.Heads.HeadData.{Regret};
+    ghost use Rattle.sm_cert.specs.Judging.{answer};
+    ghost use Rattle.sm_cert.specs.Regrets.{AreRegretsKept};
+
+    ghost subject = { λ j. answer j.instance.now Regret };
+
+    ghost knows = { λ j above. AreRegretsKept j.instance.now above j.holding j.regret };
+
+    fn find_fault(&mut self, alloc: Global, line: &Line) -> Result<Option<Reason>, AllocError> {
+        let why = line_fault(alloc, self.instance, &mut self.holding, self.regret, line)?;
+        self.regret = self.regret.or(regret_in(line));
+        Ok(why)
     }
-    Ok(Verdict::Yes)
 }
 
 /// The regret that a line says.

@@ -12,9 +12,3 @@ closed_of {set = set} n long keeps = record {
   one_each = omega (arith, long, n.one_each);
   closed = λ i j hi hj m needed. let c = (n.each j hj).all i hi needed in subst (IsMember set) (get_or_default _ c.0 0 i c.1 ∙ c.2) (keeps j (omega (arith, n.one_each)) m c.0 c.1);
 }
-
-pub keeps_of : {l : Lists} {rotations : List (List (ℕ × ℕ))} {parts : NetParts} {set : List Bool} → NeedsAreOf l rotations parts → IsClosed l rotations set
-    → (j : ℕ) → j < length parts.gains → IsMember set j → (a : ℕ) → a < length (row parts.needs j) → IsMember set (slice_index (row parts.needs j) a)
-keeps_of {rotations = rotations} n c j less m a few =
-    let hj : j < length rotations = omega (arith, n.one_each) in
-    c.closed _ j ((n.each j hj).sound a few) hj m ((n.each j hj).each a few)

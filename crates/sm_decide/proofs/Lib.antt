@@ -19,3 +19,6 @@ pub mod MoveLemmas
 pub mod ClosedLemmas
 pub mod SpanLemmas
 pub mod NetOfLemmas
+pub mod SetPlaceLemmas
+pub mod NetWitness
+pub mod EdgeLemmas

@@ -42,12 +42,12 @@ same_first t s xs ys d e long same =
     most = prefix_len-le-length _ ys
 
 module _ {l : Lists} {rotation : List (ℕ × ℕ)} {moves : List Move} (m : AreMovesOf l rotation moves) (levels : List (List ℕ)) (p level : ℕ) where
-  pair_is : (a : ℕ) → a < length rotation → proposer_at rotation a ≡ p → pair_of rotation p ≡ a
+  pub pair_is : (a : ℕ) → a < length rotation → proposer_at rotation a ≡ p → pair_of rotation p ≡ a
   pair_is a less e = position_or_len_is (λ (pair : ℕ × ℕ). pair.0 == p) rotation a (0, 0) (omega arith)
       (λ k few. ne_eqb (proposer_at rotation k) p (λ f. m.distinct k a few less (f ∙ sym e)))
       (λ _. eq-eqb (proposer_at rotation a) p e)
 
-  moved : pair_of rotation p < length rotation → proposer_at rotation (pair_of rotation p) ≡ p
+  pub moved : pair_of rotation p < length rotation → proposer_at rotation (pair_of rotation p) ≡ p
   moved less = eqb-true _ p (passes_at_first (λ (pair : ℕ × ℕ). pair.0 == p) rotation (0, 0) less)
 
   -- where a move of p leads and from where

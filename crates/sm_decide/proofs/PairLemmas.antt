@@ -1,12 +1,11 @@
 -- Pairs of numbers in order.
-use Rattle.std.proofs.Common.{◌≡◌, ℕ, zero, suc, ◌+◌, ◌<◌, ◌≤◌, inl, inr, arith, refl, sym, ap, ◌∙◌, subst, true, false, List, length, nat_cmp, is_lt, Ordering, get_or, eqb-true, eq-eqb}
+use Rattle.std.proofs.Common.{◌≡◌, ℕ, zero, suc, ◌+◌, ◌<◌, ◌≤◌, inl, inr, arith, refl, sym, ap, ◌∙◌, subst, false, List, length, nat_cmp, is_lt, Ordering, get_or, eqb-true}
 use Rattle.std.specs.Prelude.{◌==◌, ◌&&◌}
 use Rattle.std.specs.Ordering.{ordering_then}
 use Rattle.std.proofs.lemmas.Bool.{false≢true}
 use Rattle.std.proofs.lemmas.Cmp.{ranked, by_ranked}
-use Rattle.std.proofs.lemmas.List.Folds.{list_any_at}
 use Rattle.sm_lists.proofs.Counting.{eq_or_ne, lt_or_le}
-use Rattle.sm_theory.proofs.Net.Tests.{and_parts, and_true, some_passes, not_true}
+use Rattle.sm_theory.proofs.Net.Tests.{and_parts, some_passes, not_true}
 use Rattle.sm_decide.specs.Pairs.{pair_at, has_pair, IsBelow, IsUpTo, AreOrdered, IsParted, IsFirstAt}
 
 -- what the order of pairs says
@@ -56,15 +55,6 @@ below_of x y z (inl a) (inr b) = inl (omega (arith, b.0))
 below_of x y z (inr a) (inl b) = inl (omega (arith, a.0))
 below_of x y z (inr a) (inr b) = inr (a.0 ∙ b.0, omega (arith, a.1, b.1))
 
-pub not_below_of : (x y : ℕ × ℕ) → (IsBelow x y → ⊥) → IsUpTo y x
-not_below_of x y never = by_ranked (x.0 < y.0) (x.0 ≡ y.0) (y.0 < x.0) (nat_cmp x.0 y.0) (ranked x.0 y.0 _ refl)
-    (λ _ less. absurd (never (inl less)))
-    (λ _ same. by_ranked (x.1 < y.1) (x.1 ≡ y.1) (y.1 < x.1) (nat_cmp x.1 y.1) (ranked x.1 y.1 _ refl)
-    (λ _ less. absurd (never (inr (same, less))))
-    (λ _ also. inr (sym same, omega arith))
-    (λ _ more. inr (sym same, omega arith)))
-    (λ _ more. inl more)
-
 both_up : (x y : ℕ × ℕ) → IsUpTo x y → IsUpTo y x → x ≡ y
 both_up x y (inl a) (inl b) = absurd (omega arith)
 both_up x y (inl a) (inr b) = absurd (omega (arith, b.0))
@@ -76,12 +66,6 @@ pub lower_half : {pairs : List (ℕ × ℕ)} {pair : ℕ × ℕ} (middle : ℕ) 
 lower_half {pairs} {pair} middle o less here a few = elim (eq_or_ne a middle) [
   | inl e ↦ subst (λ k. IsBelow (pair_at pairs k) pair) (sym e) here
   | inr ne ↦ below_of (pair_at pairs a) (pair_at pairs middle) pair (o.ordered a middle (omega arith) less) here
-]
-
-pub upper_half : {pairs : List (ℕ × ℕ)} {pair : ℕ × ℕ} (middle : ℕ) → AreOrdered pairs → (IsBelow (pair_at pairs middle) pair → ⊥) → (a : ℕ) → middle ≤ a → a < length pairs → IsUpTo pair (pair_at pairs a)
-upper_half {pairs} {pair} middle o never a more less = elim (eq_or_ne middle a) [
-  | inl e ↦ subst (λ k. IsUpTo pair (pair_at pairs k)) e (not_below_of (pair_at pairs middle) pair never)
-  | inr ne ↦ up_trans pair (pair_at pairs middle) (pair_at pairs a) (not_below_of (pair_at pairs middle) pair never) (o.ordered middle a (omega arith) less)
 ]
 
 is_pair : (x : ℕ × ℕ) (i j : ℕ) → x.0 ≡ i → x.1 ≡ j → x ≡ (i, j)
@@ -115,9 +99,3 @@ none_of {pairs} {i} {j} {k} o p never = not_true (has_pair pairs i j) (λ has.
           | inl same ↦ let is : pair_at pairs k ≡ (i, j) = ap (pair_at pairs) same ∙ e in inr ((λ t. (is t).0), (let f : (pair_at pairs k).1 ≡ j = (λ t. (is t).1) in omega arith))
           | inr ne ↦ subst (IsUpTo (pair_at pairs k)) e (o.ordered k a (omega arith) less)
         ]
-
--- one that is found there is one of them
-pub one_of : {pairs : List (ℕ × ℕ)} {i j k : ℕ} → IsFirstAt pairs (i, j) k → has_pair pairs i j ≡ true
-one_of {pairs} {i} {j} {k} f =
-    list_any_at (λ (x : ℕ × ℕ). x.0 == i && x.1 == j) pairs k (0, 0) f.there
-    (and_true _ _ (eq-eqb _ i (λ t. (f.is t).0)) (eq-eqb _ j (λ t. (f.is t).1)))

@@ -1,5 +1,5 @@
 -- What is reached over steps that are given by their pairs of nodes.
-use Rattle.std.proofs.Common.{◌≡◌, ◌≢◌, ℕ, zero, suc, ◌+◌, ◌<◌, ◌≤◌, inl, inr, arith, refl, sym, ap, ◌∙◌, subst, List, [], ◌∷◌, ◌++◌, length, slice_index, eqb-true, eq-eqb, Contains}
+use Rattle.std.proofs.Common.{◌≡◌, ◌≢◌, ℕ, ◌+◌, ◌<◌, ◌≤◌, inl, inr, arith, refl, sym, ap, ◌∙◌, subst, List, [], ◌∷◌, ◌++◌, length, slice_index, eqb-true, eq-eqb, Contains}
 use Rattle.std.specs.Prelude.{◌==◌, ◌&&◌}
 use Rattle.std.proofs.lemmas.List.{get_or_append_left, get_or_push, length_push, get_or_default}
 use Rattle.std.proofs.lemmas.List.Elements.{Contains-push, Contains-append_left}
@@ -27,16 +27,6 @@ pub record IsGoing (steps : List (ℕ × ℕ)) (from start k : ℕ) (before afte
   pub new : (j : ℕ) → length before.items ≤ j → j < length after.items → IsStepOf steps from (slice_index after.items j)
   pub done : (a : ℕ) → start ≤ a → a < k → Contains after.items (pair_at steps a).1
   pub within : length after.items ≤ after.bound
-
-pub going_begins : (steps : List (ℕ × ℕ)) (from start : ℕ) (t : Trail) → length t.items ≤ t.bound → IsGoing steps from start start t t
-going_begins steps from start t within = record {
-  same_bound = refl;
-  longer = omega arith;
-  kept = λ j less. refl;
-  new = λ j more less. absurd (omega arith);
-  done = λ a more less. absurd (omega arith);
-  within = within;
-}
 
 -- a step to a node that the trail has
 pub going_known : {steps : List (ℕ × ℕ)} {from start k : ℕ} {before after : Trail} → IsGoing steps from start k before after → Contains after.items (pair_at steps k).1 → IsGoing steps from start (k + 1) before after
@@ -128,20 +118,6 @@ pub record IsFollowing (bound : ℕ) (steps : List (ℕ × ℕ)) (trail : Trail)
   pub passed : (k : ℕ) → k < next → k < length trail.items → (j : ℕ) → IsStepOf steps (slice_index trail.items k) j → Contains trail.items j
   pub within : length trail.items ≤ bound
   pub come : next ≤ length trail.items
-
-pub following_begins : (steps : List (ℕ × ℕ)) (trail : Trail) → trail.items ≡ 0 ∷ [] → 0 < trail.bound → IsFollowing trail.bound steps trail 0
-following_begins steps trail e some = record {
-  same_bound = refl;
-  begins = rw e (omega arith, refl);
-  sound = rw e first;
-  passed = λ k less. absurd (omega arith);
-  within = rw e (omega arith);
-  come = omega arith;
-}
-  where
-    first : (k : ℕ) → k < 1 → IsReachable (IsStepOf steps) 0 (slice_index (0 ∷ []) k)
-    first zero less = record { path = []; is = refl }
-    first (suc k) less = absurd (omega arith)
 
 keeps : {steps : List (ℕ × ℕ)} {from : ℕ} {before after : Trail} → GoesOn steps from before after → (v : ℕ) → Contains before.items v → Contains after.items v
 keeps {after = after} g v c = subst (Contains after.items) (g.kept c.0 c.1 ∙ get_or_default _ c.0 0 v c.1 ∙ c.2) (contained after.items c.0 (omega (arith, g.longer, c.1)))

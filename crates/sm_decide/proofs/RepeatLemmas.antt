@@ -1,9 +1,8 @@
 -- Lines of a flow with the ends of earlier ones.
-use Rattle.std.proofs.Common.{◌≡◌, ℕ, ◌+◌, ◌<◌, ◌↔◌, inl, inr, arith, refl, sym, ◌∙◌, subst, Bool, true, false, List, [], ◌∷◌, ◌++◌, length, map, set, get_or, replicate, take, eq-eqb}
+use Rattle.std.proofs.Common.{◌≡◌, ℕ, ◌+◌, ◌<◌, ◌↔◌, inl, inr, arith, refl, sym, ◌∙◌, subst, Bool, true, false, List, [], ◌∷◌, ◌++◌, length, map, set, get_or, take, eq-eqb}
 use Rattle.std.specs.Prelude.{◌==◌, ◌&&◌}
 use Rattle.std.specs.List.{All}
-use Rattle.std.proofs.lemmas.Bool.{false≢true}
-use Rattle.std.proofs.lemmas.List.{length-map, length-set, length_push, length-replicate, get_or-replicate, get_or-map, get_or_append_left, get_or_push, get_or_default, get_or-take, length-take-le}
+use Rattle.std.proofs.lemmas.List.{length-map, length-set, length_push, get_or-map, get_or_append_left, get_or_push, get_or_default, get_or-take, length-take-le}
 use Rattle.std.proofs.lemmas.List.Folds.{list_any_at}
 use Rattle.sm_lists.proofs.Counting.{eq_or_ne, lt_or_le}
 use Rattle.sm_lists.proofs.ItemLemmas.{set_cases}
@@ -35,14 +34,6 @@ ends_in lines j less =
   where
     here : get_or (map ends_of lines) j (0, 0) ≡ ends_of (line_at lines j)
     here = get_or-map ends_of lines j (record { from = 0; to = 0; amount = 0 }) (0, 0) less
-
-pub none_met : (lines : List FlowLine) (ends : List (ℕ × ℕ)) → AreMet lines ends (replicate (length ends) false) [] 0
-none_met lines ends = record {
-  one_each = length-replicate (length ends) false;
-  said = refl;
-  known = λ k less. ((λ m. absurd (false≢true (sym (get_or-replicate (length ends) k false false less) ∙ m))), (λ m. absurd (let e = m.earlier in omega arith)));
-  each = λ a less. absurd (omega arith);
-}
 
 -- one line more, whose ends are first met at this place
 pub one_met : {lines : List FlowLine} {ends : List (ℕ × ℕ)} {met repeats : List Bool} (i k : ℕ) (was : Bool) → AreMet lines ends met repeats i → i < length lines → IsFirstAt ends (ends_of (line_at lines i)) k → was ≡ get_or met k was
@@ -92,9 +83,6 @@ one_met {lines} {ends} {met} {repeats} i k was m less f is = record {
 
     met_is : IsMetAt lines ends i k → IsRepeated lines i
     met_is w = let e : ends_of (line_at lines w.at) ≡ ends_of (line_at lines i) = sym w.there.is ∙ f.is in record { at = w.at; earlier = w.earlier; same = ((λ t. (e t).0), (λ t. (e t).1)) }
-
-pub all_met : {lines : List FlowLine} {ends : List (ℕ × ℕ)} {met repeats : List Bool} (i : ℕ) → AreMet lines ends met repeats i → i ≡ length lines → AreRepeats lines repeats
-all_met i m e = record { one_each = m.said ∙ e; each = λ a less. m.each a (omega arith) }
 
 -- a line that isn't repeated has other ends than all before it
 pub new_of : {lines : List FlowLine} {repeats : List Bool} (a : ℕ) → AreRepeats lines repeats → a < length lines → (IsMember repeats a → ⊥) → All (λ other. HaveSameEnds other (line_at lines a) → ⊥) (take a lines)

@@ -14,7 +14,7 @@ use Rattle.sm_decide.specs.Moves.{move_at, row_of_moves}
 use Rattle.sm_decide.specs.Pairs.{pair_at, has_pair, IsFirstAt}
 use Rattle.sm_decide.specs.Spans.{some_come, some_go, entry_by, exit_by, AreNodesFor, marked, marks, AreFirstBelow}
 use Rattle.sm_decide.proofs.ReachLemmas.{step_at}
-use Rattle.sm_decide.proofs.PairListLemmas.{in_either, left_has, right_has}
+use Rattle.sm_decide.proofs.PairListLemmas.{in_either}
 
 -- the sink is replaced, and nothing else
 mark_there : (node sink v : ℕ) → v ≡ sink → marked true node sink v ≡ node
@@ -118,13 +118,6 @@ exits_are levels rows begun n sink count is each all long m = record {
 -- one more pair's bonds
 pub flat_more : (f : ℕ × ℕ → List (ℕ × ℕ)) (before pairs : List (ℕ × ℕ)) (n : ℕ) → n < length pairs → (before ++ flat_map f (take n pairs)) ++ f (pair_at pairs n) ≡ before ++ flat_map f (take (n + 1) pairs)
 flat_more f before pairs n less = flat_map_more f before (take n pairs) (pair_at pairs n) ∙ ap (λ xs. before ++ flat_map f xs) (sym (take_more pairs n (0, 0) less))
-
--- the pairs of two lists are among them, and have what all of both have
-pub left_among : (xs ys : List (ℕ × ℕ)) (c : ℕ) → c < length xs → has_pair (xs ++ ys) (pair_at xs c).0 (pair_at xs c).1 ≡ true
-left_among xs ys c less = left_has xs ys _ _ (step_at xs c _ less refl)
-
-pub right_among : (xs ys : List (ℕ × ℕ)) (c : ℕ) → c < length ys → has_pair (xs ++ ys) (pair_at ys c).0 (pair_at ys c).1 ≡ true
-right_among xs ys c less = right_has xs ys _ _ (step_at ys c _ less refl)
 
 pub first_below : {n : ℕ} (keys xs ys : List (ℕ × ℕ)) → ((i j : ℕ) → has_pair keys i j ≡ has_pair (xs ++ ys) i j) → AreFirstBelow n xs → AreFirstBelow n ys → AreFirstBelow n keys
 first_below {n} keys xs ys same a b c less = elim (in_either xs ys i j (sym (same i j) ∙ step_at keys c i less refl)) [

@@ -13,3 +13,5 @@ pub mod Reaching
 pub mod Residual
 pub mod Moves
 pub mod Spans
+pub mod SetPlaces
+pub mod WitnessesNets

@@ -1,7 +1,7 @@
 -- How rotations move their proposers, by places.
 use Rattle.std.specs.Prelude.{◌≡◌, ◌≢◌, ℕ, ◌<◌, List, [], Vec, length, map, slice_index_or, ℤ, ◌-ℤ◌}
 use Rattle.std.specs.declared.alloc.Global.{Global}
-use Rattle.sm_market.specs.Lists.{Lists, place_of}
+use Rattle.sm_market.specs.Lists.{Lists, row, place_of}
 use Rattle.sm_theory.specs.Rotations.{proposer_at, reviewer_at, target_at}
 use Rattle.sm_theory.specs.Chains.{rotation_at}
 use Rattle.sm_theory.specs.Weights.{total, weight_at}
@@ -16,6 +16,15 @@ pub record IsMoveOf (l : Lists) (rotation : List (ℕ × ℕ)) (i : ℕ) (step :
   pub proposer : step.proposer ≡ proposer_at rotation i
   pub from : step.from ≡ place_of l.proposers (proposer_at rotation i) (reviewer_at rotation i)
   pub to : step.to ≡ place_of l.proposers (proposer_at rotation i) (target_at rotation i)
+
+-- a move leads from a place of a proposer's list to one of that list
+pub record IsOnList (l : Lists) (step : Move) : Type 0 where
+  pub proposer : step.proposer < length l.proposers
+  pub from : step.from < length (row l.proposers step.proposer)
+  pub to : step.to < length (row l.proposers step.proposer)
+
+abbrev pub AreOnLists : Lists → List Move → Type 0
+AreOnLists l moves = (i : ℕ) → i < length moves → IsOnList l (move_at moves i)
 
 -- how a rotation moves all its proposers, which differ
 pub record AreMovesOf (l : Lists) (rotation : List (ℕ × ℕ)) (moves : List Move) : Type 0 where

@@ -6,7 +6,7 @@ ghost use Rattle.sm_market.specs.Pairing.{IsPairingOf};
 ghost use Rattle.sm_theory.specs.Rotations.{IsExposed};
 ghost use Rattle.sm_theory.specs.Weights.{gain_of};
 ghost use Rattle.sm_theory.specs.Sizes.{weights_in, weights_of, AreSmall};
-ghost use Rattle.sm_decide.specs.Moves.{move_at, move_gain, IsMoveOf, AreMovesOf, HaveWeights};
+ghost use Rattle.sm_decide.specs.Moves.{move_at, move_gain, IsMoveOf, IsOnList, AreMovesOf, AreOnLists, HaveWeights};
 
 use crate::needs::place_behind;
 use sm_market::{Market, Pairing};
@@ -37,7 +37,8 @@ pub fn moves_of(
 ) -> Result<Vec<Move>, AllocError>
     requires made { IsPairingOf market.now m.now }
     requires exposed { IsExposed market.now m.now.places rotation.now.pairs.items }
-    ensures { IfOk result (λ moves. AreMovesOf market.now rotation.now.pairs.items moves.items) }
+    ensures moves { IfOk result (λ moves. AreMovesOf market.now rotation.now.pairs.items moves.items) }
+    ensures on_lists { IfOk result (λ moves. AreOnLists market.now moves.items) }
 {
     let pairs = rotation.pairs.as_slice();
     let mut moves = Vec::with_capacity(alloc, pairs.len())?;
@@ -52,7 +53,8 @@ fn move_of(market: &Market, m: &Pairing, pairs: &[(u32, u32)], i: usize) -> Move
     requires in_range { i < length pairs.now }
     requires made { IsPairingOf market.now m.now }
     requires exposed { IsExposed market.now m.now.places pairs.now }
-    ensures { IsMoveOf market.now pairs.now i result }
+    ensures is { IsMoveOf market.now pairs.now i result }
+    ensures on_list { IsOnList market.now result }
 {
     prove!(market.proposers() < 1 << 24);
     let proposer = pairs[i].0;

@@ -87,12 +87,12 @@ impl Notes {
         self.count += 1;
     }
 
-    /// Whether these are the numbers of all predecessors of the newest rotation, rising. Rotations are numbered from 0, and any
-    /// numbers may stand there.
+    /// Whether these are the numbers of all predecessors of the newest rotation, rising; of no rotation there are none.
+    /// Rotations are numbered from 0, and any numbers may stand there.
     ///
     /// Takes time in proportion to the numbers (Gusfield and Irving 1989, chapter 3, in a form of this project's own).
     pub fn are_needs(&self, needs: &[u32]) -> bool
-        ensures { (l : Lists) (first : Places) (rotations : List (List (ℕ × ℕ))) → 0 < length rotations
+        ensures { (l : Lists) (first : Places) (rotations : List (List (ℕ × ℕ)))
             → AreNoted l first rotations self.now → IsTrue result ↔ AreNeedsOf l rotations (length rotations - 1) needs.now }
     {
         needs.len() == self.found.len() as usize && are_rising_in(needs, &self.found)

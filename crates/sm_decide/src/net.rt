@@ -162,8 +162,8 @@ impl CheckedNet {
         !self.is_through(line.from, line.to) && self.has_edge(line.from, line.to)
     }
 
-    /// Whether a line is on an edge of the net that no line before it is on, where of each line it is known whether an earlier one
-    /// leads from the same node to the same node.
+    /// Whether a line is on an edge of the net that no line before it is on, where of each line it is known whether an earlier
+    /// one leads from the same node to the same node.
     pub fn is_new_edge(&self, lines: &[FlowLine], repeats: &[bool], a: usize) -> bool
         requires in_range { a < length lines.now }
         requires repeats { AreRepeats lines.now repeats.now }

@@ -18,8 +18,8 @@ use std::alloc::{AllocError, Global};
 /// The unbounded edges that conditions ask for, where the moves of the rotations of a chain are given, and its first matching.
 /// Conditions are pairs of a proposer and a level, and the levels are one for each place of each proposer.
 ///
-/// A forced pair asks for an edge from the source to its entry, and one from its exit to the sink, and a forbidden one for an edge
-/// from its entry to its exit. The entry is the source where the proposer begins at the level, else the first rotation that moves
+/// A forced pair asks for an edge from the source to its entry, and one from its exit to the sink, and a forbidden one for an
+/// edge from its entry to its exit. The entry is the source where the proposer begins at the level, else the first rotation that moves
 /// it there, else the sink. The exit is the first rotation that moves it from the level to another, else the sink.
 ///
 /// Takes time in proportion to the moves and conditions and the logarithm of their number, and memory in proportion to the
@@ -164,7 +164,8 @@ fn come_all(levels: &[Vec<u32>], moves: &[Vec<Move>], keys: &Pairs, sink: u32, n
     requires one_each { length nodes.old ≡ length keys.now }
     ensures one_each { length nodes.new ≡ length nodes.old }
     ensures marked { (x i j : ℕ) → IsFirstAt keys.now (i, j) x → slice_index nodes.new x
-        ≡ marks (λ k. some_come (rows_of levels.now) i j (row_of_moves (moves_in moves.now) k)) (length moves.now) sink (slice_index nodes.old x) }
+        ≡ marks (λ k. some_come (rows_of levels.now) i j (row_of_moves (moves_in moves.now) k))
+        (length moves.now) sink (slice_index nodes.old x) }
 {
     for k in 0..moves.len() {
         come(levels, moves_at(moves, k), keys, k as u32 + 1, sink, nodes);
@@ -179,7 +180,8 @@ fn go_all(levels: &[Vec<u32>], moves: &[Vec<Move>], keys: &Pairs, sink: u32, nod
     requires one_each { length nodes.old ≡ length keys.now }
     ensures one_each { length nodes.new ≡ length nodes.old }
     ensures marked { (x i j : ℕ) → IsFirstAt keys.now (i, j) x → slice_index nodes.new x
-        ≡ marks (λ k. some_go (rows_of levels.now) i j (row_of_moves (moves_in moves.now) k)) (length moves.now) sink (slice_index nodes.old x) }
+        ≡ marks (λ k. some_go (rows_of levels.now) i j (row_of_moves (moves_in moves.now) k))
+        (length moves.now) sink (slice_index nodes.old x) }
 {
     for k in 0..moves.len() {
         go(levels, moves_at(moves, k), keys, k as u32 + 1, sink, nodes);
@@ -187,7 +189,7 @@ fn go_all(levels: &[Vec<u32>], moves: &[Vec<Move>], keys: &Pairs, sink: u32, nod
 }
 
 /// The moves of a rotation.
-fn moves_at(moves: &[Vec<Move>], k: usize) -> &[Move]
+pub(crate) fn moves_at(moves: &[Vec<Move>], k: usize) -> &[Move]
     requires { k < length moves.now }
     ensures { result.now ≡ row_of_moves (moves_in moves.now) k }
 {
@@ -274,10 +276,12 @@ fn add_forced(
     forced: &[(u32, u32)],
     bonds: &mut Vec<(u32, u32)>,
 ) -> Result<(), AllocError>
-    requires keys { (c : ℕ) → c < length forced.now → has_pair keys.now (pair_at forced.now c).0 (pair_at forced.now c).1 ≡ true }
+    requires keys { (c : ℕ) → c < length forced.now
+        → has_pair keys.now (pair_at forced.now c).0 (pair_at forced.now c).1 ≡ true }
     requires entries { length entries.now ≡ length keys.now }
     requires exits { length exits.now ≡ length keys.now }
-    ensures { IfOk result (λ _. (entry exit : ℕ → ℕ → ℕ) → AreNodesFor keys.now entry entries.now → AreNodesFor keys.now exit exits.now
+    ensures { IfOk result (λ _. (entry exit : ℕ → ℕ → ℕ)
+        → AreNodesFor keys.now entry entries.now → AreNodesFor keys.now exit exits.now
         → bonds.new.items ≡ bonds.old.items ++ flat_map (forced_pairs entry exit sink) forced.now) }
 {
     for &(p, level) in forced {
@@ -295,10 +299,12 @@ fn add_forbidden(
     forbidden: &[(u32, u32)],
     bonds: &mut Vec<(u32, u32)>,
 ) -> Result<(), AllocError>
-    requires keys { (c : ℕ) → c < length forbidden.now → has_pair keys.now (pair_at forbidden.now c).0 (pair_at forbidden.now c).1 ≡ true }
+    requires keys { (c : ℕ) → c < length forbidden.now
+        → has_pair keys.now (pair_at forbidden.now c).0 (pair_at forbidden.now c).1 ≡ true }
     requires entries { length entries.now ≡ length keys.now }
     requires exits { length exits.now ≡ length keys.now }
-    ensures { IfOk result (λ _. (entry exit : ℕ → ℕ → ℕ) → AreNodesFor keys.now entry entries.now → AreNodesFor keys.now exit exits.now
+    ensures { IfOk result (λ _. (entry exit : ℕ → ℕ → ℕ)
+        → AreNodesFor keys.now entry entries.now → AreNodesFor keys.now exit exits.now
         → bonds.new.items ≡ bonds.old.items ++ flat_map (forbidden_pairs entry exit) forbidden.now) }
 {
     for &(p, level) in forbidden {

@@ -11,7 +11,7 @@ use Rattle.sm_report.specs.Lines.{LineData}
 use Rattle.sm_report.specs.Texts.{SOURCE, SINK}
 use Rattle.sm_theory.specs.Witnesses.{three_cycle_first, three_cycle_chain}
 use Rattle.sm_theory.specs.WitnessesFlows.{three_cycle_needs}
-use Rattle.sm_weight.specs.Witnesses.{three_cycle_lines}
+use Rattle.sm_theory.specs.WitnessesLines.{three_cycle_lines}
 use Rattle.sm_lightest.specs.WeightAnswer.{Parts, weight_lines}
 
 abbrev pub three_proposers : Written

@@ -18,6 +18,7 @@ use sm_listing::conditions_of;
 use sm_poset::Conditions;
 use sm_seats::Seats;
 use sm_shown::Basis;
+use sm_theory::FlowLine;
 use sm_weight::LightestFound;
 use std::alloc::{AllocError, Global};
 

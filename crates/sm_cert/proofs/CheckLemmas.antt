@@ -1,0 +1,117 @@
+-- From the form of an answer to the clauses that are tried on it.
+use Rattle.std.proofs.Common.{◌≡◌, ◌==◌, cond, ℕ, ◌+◌, ◌≤◌, ◌∙◌, arith, refl, sym, ap, subst, Bool, true, false, All, List, [], ◌∷◌, length, get_or, Option, None, Some, eqb-true}
+use Rattle.std.specs.Prelude.{IfSome}
+use Rattle.std.specs.List.{onto_first, slice_get}
+use Rattle.std.specs.Option.{option_map}
+use Rattle.std.proofs.lemmas.Bool.{false≢true}
+use Rattle.std.proofs.lemmas.List.{length-map}
+use Rattle.std.proofs.lemmas.List.Folds.{list_all_at}
+use Rattle.sm_text.specs.Lines.{LF, lines}
+use Rattle.sm_instance.specs.Written.{Written, AgentData}
+use Rattle.sm_instance.specs.declared.inputs.Input.{Input}
+use Rattle.sm_instance.specs.declared.inputs.Input.TheVariants.{Two, Room}
+use Rattle.sm_report.specs.Heads.{HeadData}
+use Rattle.sm_report.specs.Lines.{LineData}
+use Rattle.sm_report.specs.Sound.{IsLineOf}
+use Rattle.sm_report.specs.Texts.{text_of_line}
+use Rattle.sm_seats.specs.declared.faults.SeatsFault.{SeatsFault}
+use Rattle.sm_seats.specs.declared.faults.SeatsFault.TheVariants as seats
+use Rattle.sm_cert.specs.declared.verdicts.Verdict.{Verdict}
+use Rattle.sm_cert.specs.declared.verdicts.Verdict.TheVariants as verdict
+use Rattle.sm_cert.specs.Forms.{fits, fits_two, AreAnswer}
+use Rattle.sm_cert.specs.Verdicts.{AtLine, IsVerdict}
+use Rattle.sm_cert.specs.Judging.{Subject, answer, couples, parties, Clauses, Holds}
+use Rattle.sm_cert.specs.Judges.{IsOwnLine, input_of}
+use Rattle.sm_cert.specs.Checking.{HasSeatsFault, IsCertFault, of_seats, first_head, says_none}
+
+-- a text has no more lines than bytes
+pub length-lines-le : (bytes : List ℕ) → length (lines bytes) ≤ length bytes
+length-lines-le [] = omega arith
+length-lines-le (b ∷ bytes) = by_test (b == LF) (length-lines-le bytes) (by_parts (lines bytes) (length-lines-le bytes))
+  where
+    by_parts : (parts : List (List ℕ)) → length parts ≤ length bytes → length (onto_first b parts) ≤ length bytes + 1
+    by_parts [] h = omega arith
+    by_parts (part ∷ parts) h = omega arith
+
+    by_test : (t : Bool) → length (lines bytes) ≤ length bytes → length (onto_first b (lines bytes)) ≤ length bytes + 1
+        → length (cond t ((b ∷ []) ∷ lines bytes) (onto_first b (lines bytes))) ≤ length (b ∷ bytes)
+    by_test true h k = omega arith
+    by_test false h k = omega arith
+
+-- each line of an answer is one of the instance, and of its form
+pub own_lines : (input : Input) (texts : List (List ℕ)) (lines : List LineData) → AreAnswer input texts lines
+    → (subject : Subject) → input_of subject ≡ input → All (IsOwnLine subject) lines
+own_lines input texts lines a subject is k d inside = record {
+  right = subst (λ (i : Input). IsLineOf i (get_or lines k d)) (sym is) (a.right k d inside);
+  fitting = ap (λ (i : Input). fits i (get_or lines k d)) is ∙ go (fits input (get_or lines k d)) refl;
+}
+  where
+    go : (t : Bool) → fits input (get_or lines k d) ≡ t → t ≡ true
+    go true e = refl
+    go false e = absurd (false≢true (sym (list_all_at (fits input) lines k d inside e) ∙ a.fitting))
+
+-- an answer has as many lines as texts
+pub as_many : (input : Input) (texts : List (List ℕ)) (lines : List LineData) → AreAnswer input texts lines → length lines ≡ length texts
+as_many input texts lines a = sym (length-map lines (text_of_line input)) ∙ ap length a.read
+
+-- over two sides the head says which clauses are tried
+pub by_head : (w : Written) (lines : List LineData) (head : HeadData) (first_line : ℕ) (v : Verdict) → first_head lines ≡ Some head
+    → IsVerdict (AtLine (Clauses (answer w head)) lines) first_line v → IsVerdict (Holds (Two w) lines) first_line v
+by_head w [] head first_line v e j = absurd cc
+by_head w (LineData.Answer other ∷ lines) head first_line v e j =
+    let same : head ≡ other = cc in
+    subst (λ h. IsVerdict (AtLine (Clauses (answer w h)) (LineData.Answer other ∷ lines)) first_line v) same j
+by_head w (_ ∷ lines) head first_line v e j = absurd cc
+
+pub without_head : (w : Written) (lines : List LineData) (first_line : ℕ) → first_head lines ≡ None → IsVerdict (Holds (Two w) lines) first_line verdict.Yes
+without_head w [] first_line e = λ k why. tt
+without_head w (LineData.Answer head ∷ lines) first_line e = absurd cc
+without_head w (_ ∷ lines) first_line e = λ k why. tt
+
+-- a cursor has one number for each proposer
+cursor_long : (w : Written) (lines : List LineData) (after : Option (List ℕ)) (limit : ℕ) → first_head lines ≡ Some (HeadData.List after limit)
+    → ((head : HeadData) → All (IsOwnLine (answer w head)) lines) → IfSome after (λ v. length v ≡ length w.proposers)
+cursor_long w [] after limit e own = absurd cc
+cursor_long w (LineData.Answer head ∷ lines) None limit e own = tt
+cursor_long w (LineData.Answer head ∷ lines) (Some after) limit e own =
+    let same : head ≡ HeadData.List (Some after) limit = cc in
+    let own_head = own head 0 (LineData.Answer head) (omega arith) in
+    eqb-true (length after) (length w.proposers) (subst (λ h. fits_two w (LineData.Answer h) ≡ true) same own_head.fitting)
+cursor_long w (_ ∷ lines) after limit e own = absurd cc
+
+of_map : {X Y : Type 0} (f : X → Y) (P : Y → Type 0) (o : Option X) → IfSome (option_map f o) P → IfSome o (λ x. P (f x))
+of_map f P None h = tt
+of_map f P (Some x) h = h
+
+pub cursor_each : {X : Type 0} (w : Written) (lines : List LineData) (numbers : X → List ℕ) (after : Option X) (limit : ℕ)
+    → first_head lines ≡ Some (HeadData.List (option_map numbers after) limit) → ((head : HeadData) → All (IsOwnLine (answer w head)) lines)
+    → IfSome after (λ v. length (numbers v) ≡ length w.proposers)
+cursor_each w lines numbers after limit e own = of_map numbers (λ v. length v ≡ length w.proposers) after (cursor_long w lines (option_map numbers after) limit e own)
+
+-- clauses that ask for nothing
+pub nothing_asked : (lines : List LineData) (k : ℕ) → IfSome (slice_get lines k) (λ _. Unit {0})
+nothing_asked lines k = go (slice_get lines k)
+  where
+    go : (o : Option LineData) → IfSome o (λ _. Unit {0})
+    go None = tt
+    go (Some x) = tt
+
+-- over roommates it is the second line that does
+pub by_parties : (persons : List AgentData) (lines : List LineData) (first_line : ℕ) (v : Verdict) → says_none lines ≡ true
+    → IsVerdict (AtLine (Clauses (parties persons)) lines) first_line v → IsVerdict (Holds (Room persons) lines) first_line v
+by_parties persons [] first_line v e j = absurd (false≢true e)
+by_parties persons (head ∷ []) first_line v e j = absurd (false≢true e)
+by_parties persons (head ∷ LineData.Nothing ∷ lines) first_line v e j = j
+by_parties persons (head ∷ _ ∷ lines) first_line v e j = absurd (false≢true e)
+
+pub by_couples : (persons : List AgentData) (lines : List LineData) (first_line : ℕ) (v : Verdict) → says_none lines ≡ false
+    → IsVerdict (AtLine (Clauses (couples persons)) lines) first_line v → IsVerdict (Holds (Room persons) lines) first_line v
+by_couples persons [] first_line v e j = j
+by_couples persons (head ∷ []) first_line v e j = j
+by_couples persons (head ∷ LineData.Nothing ∷ lines) first_line v e j = absurd (false≢true (sym e))
+by_couples persons (head ∷ _ ∷ lines) first_line v e j = j
+
+-- too many seats
+pub seats_fault : (input : Input) (texts : List (List ℕ)) (first_line : ℕ) (f : SeatsFault) → HasSeatsFault input f → IsCertFault input texts first_line (of_seats f)
+seats_fault input texts first_line (seats.TooManySeats r) h = h
+seats_fault input texts first_line seats.OutOfMemory h = tt

@@ -1,0 +1,63 @@
+-- A text is judged once, and isn't bad then.
+use Rattle.std.proofs.Common.{◌≡◌, ℕ, suc, ◌+◌, inl, inr, arith, sym, ap, ◌∙◌, subst, Bool, true, List, [], ◌∷◌, length, map, take, drop}
+use Rattle.std.specs.List.{list_all}
+use Rattle.std.proofs.lemmas.Bool.{false≢true}
+use Rattle.std.proofs.lemmas.List.{take-map, take-append-drop}
+use Rattle.std.proofs.lemmas.List.Elements.{All-take}
+use Rattle.std.proofs.lemmas.List.Folds.{list_all-append}
+use Rattle.sm_lists.proofs.Counting.{lt_or_le}
+use Rattle.sm_theory.proofs.Tests.Pairs.{and_left}
+use Rattle.sm_instance.specs.declared.inputs.Input.{Input}
+use Rattle.sm_report.specs.Lines.{LineData}
+use Rattle.sm_report.specs.Sound.{IsLineOf}
+use Rattle.sm_report.specs.Texts.{text_of_line}
+use Rattle.sm_cert.specs.Layouts.{is_begun, is_whole}
+use Rattle.sm_cert.specs.Forms.{layouts_of, opening_of, fits, is_placed, AreFront, AreAnswer, IsFront, IsMisplaced}
+use Rattle.sm_cert.specs.Verdicts.{IsVerdict}
+use Rattle.sm_cert.specs.Judging.{Holds}
+use Rattle.sm_cert.specs.Laws.{JudgedIsntBad, OneJudgement}
+use Rattle.sm_cert.proofs.LayoutLemmas.{whole_is_begun}
+use Rattle.sm_cert.proofs.TakingLemmas.{same_lines}
+use Rattle.sm_cert.proofs.VerdictLaws.{one_verdict}
+
+-- all of the first lines pass a test that all lines pass
+all_of_first : (p : LineData → Bool) (n : ℕ) (lines : List LineData) → list_all p lines ≡ true → list_all p (take n lines) ≡ true
+all_of_first p n lines h =
+    and_left (list_all p (take n lines)) (list_all p (drop n lines))
+    (sym (list_all-append p (take n lines) (drop n lines)) ∙ ap (list_all p) (take-append-drop n lines) ∙ h)
+
+module _ (input : Input) where
+  first_placed : (n : ℕ) (lines : List LineData) → is_placed is_whole input lines ≡ true → is_placed is_begun input (take (suc n) lines) ≡ true
+  first_placed n [] e = absurd (false≢true e)
+  first_placed n (LineData.Answer head ∷ lines) e =
+      ap (is_begun (layouts_of input head)) (sym (take-map opening_of n lines)) ∙ whole_is_begun (layouts_of input head) (map opening_of lines) n e
+  first_placed n (_ ∷ lines) e = absurd (false≢true e)
+
+  -- the first lines of an answer begin one
+  front_of_whole : (n : ℕ) (texts : List (List ℕ)) (lines : List LineData) → AreAnswer input texts lines → AreFront input (take (suc n) texts) (take (suc n) lines)
+  front_of_whole n texts lines a = record {
+    read = sym (take-map (text_of_line input) (suc n) lines) ∙ ap (take (suc n)) a.read;
+    right = All-take (IsLineOf input) (suc n) lines a.right;
+    fitting = all_of_first (fits input) (suc n) lines a.fitting;
+    placed = first_placed n lines a.placed;
+  }
+
+  is_front : (n : ℕ) (texts : List (List ℕ)) (lines : List LineData) → AreFront input (take (suc n) texts) (take (suc n) lines) → IsFront input (take (suc n) texts)
+  is_front n [] lines f = tt
+  is_front n (text ∷ texts) lines f = (take (suc n) lines, f)
+
+  not_misplaced : (texts : List (List ℕ)) (lines : List LineData) (k : ℕ) → AreAnswer input texts lines → IsMisplaced input texts k → ⊥
+  not_misplaced texts lines k a m = elim (lt_or_le k (length texts)) [
+    | inl less ↦
+        let one : k + 1 ≡ suc k = omega arith in
+        m.here less (subst (λ n. IsFront input (take n texts)) (sym one) (is_front k texts lines (front_of_whole k texts lines a)))
+    | inr more ↦ m.missing (omega (arith, more, m.within)) lines a
+  ]
+
+pub judged_isnt_bad : JudgedIsntBad
+judged_isnt_bad input texts first_line v line j b = not_misplaced input texts j.lines b.number j.answer b.misplaced
+
+pub one_judgement : OneJudgement
+one_judgement input texts first_line v w sound a b =
+    let same : a.lines ≡ b.lines = same_lines input sound texts a.lines b.lines a.answer b.answer in
+    one_verdict input b.lines first_line v w (subst (λ lines. IsVerdict (Holds input lines) first_line v) same a.judged) b.judged

@@ -1,0 +1,223 @@
+//! Checking the text of an answer.
+
+ghost use Rattle.std.specs.Prelude.{◌≡◌, ◌+◌, ◌<◌, ◌≤◌, ◌^◌, All, length, map, IfOk, IfErr, OnOk};
+ghost use Rattle.std.specs.Option.{option_map};
+ghost use Rattle.sm_text.specs.Limits.{most_bytes};
+ghost use Rattle.sm_text.specs.Lines.{lines, content};
+ghost use Rattle.sm_instance.specs.declared.inputs.Input.TheVariants.{Two, Room};
+ghost use Rattle.sm_report.specs.Heads.{HeadData, head_of};
+ghost use Rattle.sm_report.specs.Lines.{line_of};
+ghost use Rattle.sm_seats.specs.SeatEntries.{IsSeatsFault};
+ghost use Rattle.sm_seats.specs.Tables.{first_seats_of};
+ghost use Rattle.sm_cert.specs.Forms.{AreAnswer};
+ghost use Rattle.sm_cert.specs.Taking.{AreFirsts};
+ghost use Rattle.sm_cert.specs.Verdicts.{AtLine, IsVerdict};
+ghost use Rattle.sm_cert.specs.Judging.{Subject, answer, couples, parties, Clauses, Holds, IsJudged};
+ghost use Rattle.sm_cert.specs.Judges.{IsOwnLine, input_of};
+ghost use Rattle.sm_cert.specs.Checking.{HasFewSeats, IsCertFault, IsJudgeFault, HasSeatsFault, first_head, says_none};
+
+use crate::chain::rotations_verdict;
+use crate::chosen::chosen_verdict;
+use crate::couples::couples_verdict;
+use crate::faults::{AnswerFault, CertFault};
+use crate::listing::list_verdict;
+use crate::parties::parties_verdict;
+use crate::reading::read_answer;
+use crate::reduced::reduced_verdict;
+use crate::regret::regret_verdict;
+use crate::solving::solve_verdict;
+use crate::verdicts::Verdict;
+use sm_instance::{Input, Instance, Persons};
+use sm_report::{Head, Line};
+use sm_seats::{Seats, SeatsFault, seat_counts};
+use sm_theory::Choice;
+use std::alloc::{AllocError, Global};
+
+/// The verdict on the text of an answer over an instance, of which the first line has this number. It stands on no solver:
+/// the clauses of the answer's head are tried line by line.
+///
+/// Takes memory in proportion to the text and, where the head asks for seats, to the entries on their lists. Time: as the
+/// verdict on an answer with that head, and linear in the text.
+///
+/// # Errors
+///
+/// `TooManySeats` where the seats have too many entries, as [`Seats::of`] gives it, before anything is said of the text.
+/// `BadAnswer` with the first line that isn't of an answer's form where it stands, or the one behind the last where the
+/// closing line is missing. `Unjudged` where the text is an answer of `weight`. `OutOfMemory` where memory ran out, and only
+/// then.
+pub fn check(
+    alloc: Global,
+    input: &Input,
+    answer: &[u8],
+    first_line: u32,
+) -> Result<Verdict, CertFault>
+    requires short { length answer.now ≤ most_bytes }
+    requires first_line { first_line ≤ most_bytes + 1 }
+    ensures judged { IfOk result (λ v. IsJudged input.now (map content (lines answer.now)) first_line v) }
+    ensures few { OnOk result (HasFewSeats input.now) }
+    ensures fault { IfErr result (λ f. IsCertFault input.now (map content (lines answer.now)) first_line f) }
+{
+    let firsts = first_seats(alloc, input)?;
+    let lines = read_lines(alloc, input, &firsts, answer, first_line)?;
+    judge(alloc, input, &firsts, &lines, first_line)
+}
+
+// The first seat of each reviewer, over two sides.
+fn first_seats(alloc: Global, input: &Input) -> Result<Vec<u32>, SeatsFault>
+    ensures firsts { IfOk result (λ firsts. AreFirsts input.now firsts.items) }
+    ensures few { OnOk result (HasFewSeats input.now) }
+    ensures fault { IfErr result (λ f. HasSeatsFault input.now f) }
+{
+    match input {
+        Input::Two(instance) => {
+            let counts = seat_counts(alloc, instance)?;
+            Ok(counts.firsts)
+        }
+        Input::Room(_) => Ok(Vec::new(alloc)),
+    }
+}
+
+// The lines of an answer, of which the first has this number.
+fn read_lines(
+    alloc: Global,
+    input: &Input,
+    firsts: &[u32],
+    answer: &[u8],
+    first_line: u32,
+) -> Result<Vec<Line>, CertFault>
+    requires firsts { AreFirsts input.now firsts.now }
+    requires few { HasFewSeats input.now }
+    requires short { length answer.now ≤ most_bytes }
+    requires first_line { first_line ≤ most_bytes + 1 }
+    ensures lines { IfOk result (λ found. AreAnswer input.now (map content (lines answer.now)) (map line_of found.items)) }
+    ensures fault { IfErr result (λ f. IsCertFault input.now (map content (lines answer.now)) first_line f) }
+{
+    match read_answer(alloc, input, firsts, answer) {
+        Ok(lines) => Ok(lines),
+        Err(AnswerFault::Misplaced(k)) => Err(CertFault::BadAnswer(first_line + k)),
+        Err(AnswerFault::OutOfMemory) => Err(CertFault::OutOfMemory),
+    }
+}
+
+// The verdict on an answer.
+fn judge(
+    alloc: Global,
+    input: &Input,
+    firsts: &[u32],
+    lines: &[Line],
+    first_line: u32,
+) -> Result<Verdict, CertFault>
+    requires few { first_line + length lines.now < 2 ^ 32 }
+    requires firsts { AreFirsts input.now firsts.now }
+    requires own { (subject : Subject) → input_of subject ≡ input.now → All (IsOwnLine subject) (map line_of lines.now) }
+    ensures verdict { IfOk result (λ v. IsVerdict (Holds input.now (map line_of lines.now)) first_line v) }
+    ensures fault { IfErr result (λ f. IsJudgeFault input.now (map line_of lines.now) f) }
+{
+    match input {
+        Input::Two(instance) => judge_two(alloc, instance, firsts, lines, first_line),
+        Input::Room(persons) => Ok(judge_room(alloc, persons, lines, first_line)?),
+    }
+}
+
+// The same over an instance with two sides. Lines without a head have no clauses.
+fn judge_two(
+    alloc: Global,
+    instance: &Instance,
+    firsts: &[u32],
+    lines: &[Line],
+    first_line: u32,
+) -> Result<Verdict, CertFault>
+    requires few { first_line + length lines.now < 2 ^ 32 }
+    requires firsts { firsts.now ≡ first_seats_of instance.now }
+    requires own { (head : HeadData) → All (IsOwnLine (answer instance.now head)) (map line_of lines.now) }
+    ensures verdict { IfOk result (λ v. IsVerdict (Holds (Two instance.now) (map line_of lines.now)) first_line v) }
+    ensures fault { IfErr result (λ f. IsJudgeFault (Two instance.now) (map line_of lines.now) f) }
+{
+    match head_in(lines) {
+        Some(head) => judge_head(alloc, instance, firsts, head, lines, first_line),
+        None => Ok(Verdict::Yes),
+    }
+}
+
+// What an answer answers.
+fn head_in(lines: &[Line]) -> Option<&Head>
+    ensures { option_map (λ head. head_of head.now) result ≡ first_head (map line_of lines.now) }
+{
+    match lines.first() {
+        Some(Line::Answer(head)) => Some(head),
+        _ => None,
+    }
+}
+
+// The verdict on an answer with this head. An answer that can't be checked has no clauses.
+fn judge_head(
+    alloc: Global,
+    instance: &Instance,
+    firsts: &[u32],
+    head: &Head,
+    lines: &[Line],
+    first_line: u32,
+) -> Result<Verdict, CertFault>
+    requires few { first_line + length lines.now < 2 ^ 32 }
+    requires firsts { firsts.now ≡ first_seats_of instance.now }
+    requires own { (head : HeadData) → All (IsOwnLine (answer instance.now head)) (map line_of lines.now) }
+    requires head { first_head (map line_of lines.now) ≡ Some (head_of head.now) }
+    ensures verdict { IfOk result (λ v. IsVerdict
+        (AtLine (Clauses (answer instance.now (head_of head.now))) (map line_of lines.now)) first_line v) }
+    ensures fault { IfErr result (λ f. IsJudgeFault (Two instance.now) (map line_of lines.now) f) }
+{
+    match head {
+        Head::Solve(Some(side)) => {
+            let seats = Seats::of(alloc, instance)?;
+            Ok(solve_verdict(alloc, instance, &seats, *side, lines, first_line)?)
+        }
+        Head::Reduced => {
+            let seats = Seats::of(alloc, instance)?;
+            Ok(reduced_verdict(alloc, instance, &seats, firsts, lines, first_line)?)
+        }
+        Head::Rotations => {
+            let seats = Seats::of(alloc, instance)?;
+            Ok(rotations_verdict(alloc, instance, &seats, firsts, lines, first_line)?)
+        }
+        Head::List(after, limit) => {
+            let after = after.as_deref();
+            Ok(list_verdict(alloc, instance, after, *limit, lines, first_line)?)
+        }
+        Head::Regret => Ok(regret_verdict(alloc, instance, lines, first_line)?),
+        Head::Weight(_) => Err(CertFault::Unjudged),
+        Head::Meet => Ok(chosen_verdict(alloc, instance, Choice::Better, lines, first_line)?),
+        Head::Join => Ok(chosen_verdict(alloc, instance, Choice::Worse, lines, first_line)?),
+        Head::Solve(None) => Ok(Verdict::Yes),
+        Head::Pairs => Ok(Verdict::Yes),
+        Head::Survey(_) => Ok(Verdict::Yes),
+        Head::Check => Ok(Verdict::Yes),
+    }
+}
+
+// The verdict on an answer over roommates.
+fn judge_room(
+    alloc: Global,
+    persons: &Persons,
+    lines: &[Line],
+    first_line: u32,
+) -> Result<Verdict, AllocError>
+    requires few { first_line + length lines.now < 2 ^ 32 }
+    requires couples { All (IsOwnLine (couples persons.now)) (map line_of lines.now) }
+    requires parties { All (IsOwnLine (parties persons.now)) (map line_of lines.now) }
+    ensures { IfOk result (λ v. IsVerdict (Holds (Room persons.now) (map line_of lines.now)) first_line v) }
+{
+    if says_none(lines) {
+        return parties_verdict(alloc, persons, lines, first_line);
+    }
+    couples_verdict(alloc, persons, lines, first_line)
+}
+
+// Whether an answer over roommates says that there is no stable matching.
+fn says_none(lines: &[Line]) -> bool
+    ensures { result ≡ says_none (map line_of lines.now) }
+{
+    match lines.get(1) {
+        Some(Line::Nothing) => true,
+        _ => false,
+    }
+}
