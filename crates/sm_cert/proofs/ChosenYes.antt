@@ -36,14 +36,14 @@ module _ (w : Written) (wanted : List (Option ℕ)) (on_lists : IsAssignment w w
   abbrev rows : List (List ℕ)
   rows = lists_of w.proposers
 
-  record AreWanted (pairs : List (ℕ × ℕ)) : Type 0 where
-    given : AreGiven rows pairs
-    in_matching : (p r : ℕ) → Contains pairs (p, r) → held wanted p ≡ Some (place_of w.proposers p r)
+  pub record AreWanted (pairs : List (ℕ × ℕ)) : Type 0 where
+    pub given : AreGiven rows pairs
+    pub in_matching : (p r : ℕ) → Contains pairs (p, r) → held wanted p ≡ Some (place_of w.proposers p r)
 
-  none_wanted : AreWanted []
+  pub none_wanted : AreWanted []
   none_wanted = record { given = none_given rows; in_matching = λ p r c. absurd (let l = c.1 in omega arith) }
 
-  one_wanted : (pairs : List (ℕ × ℕ)) (x : ℕ × ℕ) → AreWanted pairs → IsWanted w wanted pairs x → AreWanted (pairs ++ x ∷ [])
+  pub one_wanted : (pairs : List (ℕ × ℕ)) (x : ℕ × ℕ) → AreWanted pairs → IsWanted w wanted pairs x → AreWanted (pairs ++ x ∷ [])
   one_wanted pairs x k f = record {
     given =
         let on = on_lists.on_lists x.0 (place_of w.proposers x.0 x.1) f.in_matching in
@@ -56,7 +56,7 @@ module _ (w : Written) (wanted : List (Option ℕ)) (on_lists : IsAssignment w w
     ];
   }
 
-  all_wanted : (pairs : List (ℕ × ℕ)) → AreWanted pairs → AreAllThere wanted pairs → ArePairsOf rows wanted pairs
+  pub all_wanted : (pairs : List (ℕ × ℕ)) → AreWanted pairs → AreAllThere wanted pairs → ArePairsOf rows wanted pairs
   all_wanted pairs k all = record {
     each = λ p r. (λ c. k.in_matching p r c ∙ ap (λ (i : ℕ). Some i) (sym (same_places w p r)), λ e. back p r e);
     once = k.given.apart;

@@ -24,6 +24,7 @@ use Rattle.sm_cert.specs.Verdicts.{AtLine}
 use Rattle.sm_cert.specs.Said.{IsFirstBehind}
 use Rattle.sm_cert.specs.Judging.{Subject, Clauses}
 use Rattle.sm_cert.specs.Yes.{GetsYes}
+use Rattle.sm_theory.proofs.Net.Tests.{and_parts}
 use Rattle.sm_cert.proofs.LayoutLemmas.{none_left}
 use Rattle.sm_cert.proofs.YesLines.{IsRight, by_head, got_at, taken_front}
 
@@ -232,6 +233,13 @@ module _ {up : LineData → Bool} {lines : List LineData} (p : Parted up lines) 
         split zero b le = (b, omega arith)
         split (suc a) zero le = absurd (omega arith)
         split (suc a) (suc b) le = let d = split a b (omega arith) in (d.0, (let e = d.1 in omega arith))
+
+-- and lines that are up to somewhere say nothing of what stands behind it
+pub none_up : {X : Type 0} (up : LineData → Bool) (said : LineData → Option X) → ((x : LineData) → up x ≡ true → said x ≡ None) → (lines : List LineData) → list_all up lines ≡ true → filter_map said lines ≡ []
+none_up up said none [] h = refl
+none_up {X} up said none (x ∷ xs) h =
+    let parts = and_parts (up x) (list_all up xs) h in
+    ap (λ (o : Option X). cons_option o (filter_map said xs)) (none x parts.0) ∙ none_up up said none xs parts.1
 
 -- The first line behind, and its clauses.
 pub record StandsBehind (up : LineData → Bool) (subject : Subject) (above : List LineData) (why : Reason) : Type 0 where

@@ -1,7 +1,7 @@
 -- The lines of rotations and of what they need, which take turns; and those behind them.
-use Rattle.std.proofs.Common.{◌≡◌, ℕ, zero, suc, ◌+◌, ◌<◌, ◌≤◌, ◌==◌, ◌||◌, ◌⊎◌, inl, inr, arith, refl, sym, ap, ◌∙◌, Bool, true, false, List, [], ◌∷◌, ◌++◌, length, map, take, Option, Some, None, IsSome, if◌then◌else◌, subst, append-nil, append_assoc, length-append}
+use Rattle.std.proofs.Common.{◌≡◌, ℕ, zero, suc, ◌+◌, ◌<◌, ◌≤◌, ◌==◌, ◌||◌, ◌&&◌, ◌⊎◌, inl, inr, arith, refl, sym, ap, ◌∙◌, Bool, true, false, List, [], ◌∷◌, ◌++◌, length, map, take, Option, Some, None, IsSome, if◌then◌else◌, subst, append-nil, append_assoc, length-append}
 use Rattle.std.specs.Prelude.{filter_map}
-use Rattle.std.specs.List.{cons_option, list_any, slice_get}
+use Rattle.std.specs.List.{cons_option, list_all, list_any, slice_get}
 use Rattle.std.proofs.lemmas.Bool.{false≢true}
 use Rattle.std.proofs.lemmas.List.Elements.{filter_map-append}
 use Rattle.sm_instance.specs.Written.{Written}
@@ -74,15 +74,22 @@ down_at up [] j y h e = absurd (no_line e)
 down_at up (x ∷ xs) zero y h e = ap up (sym (some_same e)) ∙ h.0
 down_at up (x ∷ xs) (suc j) y h e = down_at up xs j y h.1 e
 
--- the lines of the rest of a layout behind lines of it
-pub record Splits (rest : List Part) (lines : List LineData) : Type 0 where
+-- the lines of the rest of a layout behind those that are up to somewhere
+pub record Splits (up : LineData → Bool) (rest : List Part) (lines : List LineData) : Type 0 where
   pub before : List LineData
   pub below : List LineData
   pub is : lines ≡ before ++ below
+  pub ups : list_all up before ≡ true
   pub whole : is_whole (rest ∷ []) (map opening_of below) ≡ true
 
-pub one_split : (rest : List Part) (x : LineData) (lines : List LineData) → Splits rest lines → Splits rest (x ∷ lines)
-one_split rest x lines s = record { before = x ∷ s.before; below = s.below; is = ap (λ (ls : List LineData). x ∷ ls) s.is; whole = s.whole }
+pub one_split : (up : LineData → Bool) (rest : List Part) (x : LineData) (lines : List LineData) → up x ≡ true → Splits up rest lines → Splits up rest (x ∷ lines)
+one_split up rest x lines e s = record {
+  before = x ∷ s.before;
+  below = s.below;
+  is = ap (λ (ls : List LineData). x ∷ ls) s.is;
+  ups = ap (λ b. b && list_all up s.before) e ∙ s.ups;
+  whole = s.whole;
+}
 
 module _ (w : Written) (rest : List Part) (out : AllOut rotation_words rest) where
   -- what is left of the layout there
@@ -103,6 +110,7 @@ module _ (w : Written) (rest : List Part) (out : AllOut rotation_words rest) whe
     is : left ≡ left_at three to
     counts : needs_of x + owed to ≡ owed spot + rotations_of x
     needed : IsSome (needs_in x) → owed spot ≡ 1
+    up : is_up_to_rotations x ≡ true
 
   record Leaves (spot : Spot) (x : LineData) (left : List Part) : Type 0 where
     is : behind rest (opening_of x) ≡ Some left
@@ -111,35 +119,35 @@ module _ (w : Written) (rest : List Part) (out : AllOut rotation_words rest) whe
   abbrev Moves : Bool → Spot → LineData → List Part → Type 0
   Moves three spot x left = Stays three spot x left ⊎ Leaves spot x left
 
-  stays : (three : Bool) (spot to : Spot) (x : LineData) (left : List Part) (t : Bool) → (if t then Some (left_at three to) else None) ≡ Some left → needs_of x + owed to ≡ owed spot + rotations_of x → (IsSome (needs_in x) → owed spot ≡ 1)
+  stays : (three : Bool) (spot to : Spot) (x : LineData) (left : List Part) (t : Bool) → (if t then Some (left_at three to) else None) ≡ Some left → needs_of x + owed to ≡ owed spot + rotations_of x → (IsSome (needs_in x) → owed spot ≡ 1) → is_up_to_rotations x ≡ true
       → Moves three spot x left
-  stays three spot to x left true e counts needed = inl (record { to = to; is = sym (some_same e); counts = counts; needed = needed })
-  stays three spot to x left false e counts needed = absurd (no_parts e)
+  stays three spot to x left true e counts needed up = inl (record { to = to; is = sym (some_same e); counts = counts; needed = needed; up = up })
+  stays three spot to x left false e counts needed up = absurd (no_parts e)
 
   leaves : (three : Bool) (spot : Spot) (x : LineData) (left : List Part) → behind rest (opening_of x) ≡ Some left → owed spot ≡ 0 → Moves three spot x left
   leaves three spot x left e none = inr (record { is = e; none = none })
 
   moves : (three : Bool) (spot : Spot) (x : LineData) (left : List Part) → behind (left_at three spot) (opening_of x) ≡ Some left → Moves three spot x left
-  moves three firsts (LineData.First p seat) left e = stays three firsts firsts (LineData.First p seat) left true e refl (λ some. not_some some)
-  moves true firsts (LineData.Rotation i pairs) left e = stays true firsts (needs 1) (LineData.Rotation i pairs) left (i == 1) e refl (λ some. not_some some)
-  moves false firsts (LineData.Rotation i pairs) left e = stays false firsts (needs 1) (LineData.Rotation i pairs) left (i == 1) e refl (λ some. not_some some)
+  moves three firsts (LineData.First p seat) left e = stays three firsts firsts (LineData.First p seat) left true e refl (λ some. not_some some) refl
+  moves true firsts (LineData.Rotation i pairs) left e = stays true firsts (needs 1) (LineData.Rotation i pairs) left (i == 1) e refl (λ some. not_some some) refl
+  moves false firsts (LineData.Rotation i pairs) left e = stays false firsts (needs 1) (LineData.Rotation i pairs) left (i == 1) e refl (λ some. not_some some) refl
   moves three firsts x left e = leaves three firsts x left e refl
-  moves true (rotation n) (LineData.Rotation i pairs) left e = stays true (rotation n) (needs n) (LineData.Rotation i pairs) left (i == n) e refl (λ some. not_some some)
-  moves false (rotation n) (LineData.Rotation i pairs) left e = stays false (rotation n) (needs n) (LineData.Rotation i pairs) left (i == n) e refl (λ some. not_some some)
+  moves true (rotation n) (LineData.Rotation i pairs) left e = stays true (rotation n) (needs n) (LineData.Rotation i pairs) left (i == n) e refl (λ some. not_some some) refl
+  moves false (rotation n) (LineData.Rotation i pairs) left e = stays false (rotation n) (needs n) (LineData.Rotation i pairs) left (i == n) e refl (λ some. not_some some) refl
   moves three (rotation n) x left e = leaves three (rotation n) x left e refl
-  moves true (needs n) (LineData.Needs i needed) left e = stays true (needs n) (gains n) (LineData.Needs i needed) left (i == n) e refl (λ some. refl)
-  moves false (needs n) (LineData.Needs i needed) left e = stays false (needs n) (rotation (n + 1)) (LineData.Needs i needed) left (i == n) e refl (λ some. refl)
+  moves true (needs n) (LineData.Needs i needed) left e = stays true (needs n) (gains n) (LineData.Needs i needed) left (i == n) e refl (λ some. refl) refl
+  moves false (needs n) (LineData.Needs i needed) left e = stays false (needs n) (rotation (n + 1)) (LineData.Needs i needed) left (i == n) e refl (λ some. refl) refl
   moves three (needs n) _ left e = absurd (no_parts e)
-  moves true (gains n) (LineData.Gain i gain) left e = stays true (gains n) (rotation (n + 1)) (LineData.Gain i gain) left (i == n) e refl (λ some. not_some some)
+  moves true (gains n) (LineData.Gain i gain) left e = stays true (gains n) (rotation (n + 1)) (LineData.Gain i gain) left (i == n) e refl (λ some. not_some some) refl
   moves true (gains n) _ left e = absurd (no_parts e)
-  moves false (gains n) (LineData.Rotation i pairs) left e = stays false (gains n) (needs n) (LineData.Rotation i pairs) left (i == n) e refl (λ some. not_some some)
+  moves false (gains n) (LineData.Rotation i pairs) left e = stays false (gains n) (needs n) (LineData.Rotation i pairs) left (i == n) e refl (λ some. not_some some) refl
   moves false (gains n) x left e = leaves false (gains n) x left e refl
 
   -- at each line with what a rotation needs, that rotation is the last one above, and all others above have theirs
   pub record Turns (above lines : List LineData) : Type 0 where
     pub at : (j : ℕ) (x : LineData) → slice_get lines j ≡ Some x → IsSome (needs_in x) → length (all_needs_in (above ++ take j lines)) + 1 ≡ length (rotations_in w (above ++ take j lines))
     pub all : length (all_needs_in (above ++ lines)) ≡ length (rotations_in w (above ++ lines))
-    pub splits : Splits rest lines
+    pub splits : Splits is_up_to_rotations rest lines
 
   said_more : {X : Type 0} (said : LineData → Option X) (above : List LineData) (x : LineData) → length (filter_map said (above ++ x ∷ [])) ≡ length (filter_map said above) + length (cons_option (said x) [])
   said_more said above x = ap (λ xs. length xs) (filter_map-append said above (x ∷ [])) ∙ length-append (filter_map said above) (cons_option (said x) [])
@@ -149,7 +157,7 @@ module _ (w : Written) (rest : List Part) (out : AllOut rotation_words rest) whe
   out_turns above lines whole same = record {
     at = λ j x there some. absurd (let none = subst IsSome (no_needs x (down_at is_up_to_rotations lines j x down there)) some in cc);
     all = ap (λ xs. length xs) (said_down needs_in no_needs) ∙ same ∙ sym (ap (λ xs. length xs) (said_down (rotation_in w) (rotation_up w)));
-    splits = record { before = []; below = lines; is = refl; whole = whole };
+    splits = record { before = []; below = lines; is = refl; ups = refl; whole = whole };
   }
     where
       down : AreDown is_up_to_rotations lines
@@ -189,7 +197,7 @@ module _ (w : Written) (rest : List Part) (out : AllOut rotation_words rest) whe
       on m deep = record {
         at = at;
         all = subst (λ (ls : List LineData). length (all_needs_in ls) ≡ length (rotations_in w ls)) (append_assoc above (x ∷ []) xs) deep.all;
-        splits = one_split rest x xs deep.splits;
+        splits = one_split is_up_to_rotations rest x xs m.up deep.splits;
       }
         where
           at : (j : ℕ) (y : LineData) → slice_get (x ∷ xs) j ≡ Some y → IsSome (needs_in y) → length (all_needs_in (above ++ take j (x ∷ xs))) + 1 ≡ length (rotations_in w (above ++ take j (x ∷ xs)))
@@ -201,8 +209,8 @@ module _ (w : Written) (rest : List Part) (out : AllOut rotation_words rest) whe
               subst (λ (ls : List LineData). length (all_needs_in ls) + 1 ≡ length (rotations_in w ls)) (append_assoc above (x ∷ []) (take j xs)) (deep.at j y there some)
 
   -- one more line above, which tells of no rotation
-  pub turns_from : (x : LineData) {lines : List LineData} → rotation_in w x ≡ None → needs_in x ≡ None → Turns (x ∷ []) lines → Turns [] (x ∷ lines)
-  turns_from x {lines} a b t = record { at = at; all = t.all; splits = one_split rest x lines t.splits }
+  pub turns_from : (x : LineData) {lines : List LineData} → is_up_to_rotations x ≡ true → rotation_in w x ≡ None → needs_in x ≡ None → Turns (x ∷ []) lines → Turns [] (x ∷ lines)
+  turns_from x {lines} u a b t = record { at = at; all = t.all; splits = one_split is_up_to_rotations rest x lines u t.splits }
     where
       at : (j : ℕ) (y : LineData) → slice_get (x ∷ lines) j ≡ Some y → IsSome (needs_in y) → length (all_needs_in (take j (x ∷ lines))) + 1 ≡ length (rotations_in w (take j (x ∷ lines)))
       at zero y there some = absurd (let same : x ≡ y = some_same there in let none = subst IsSome b (subst (λ (z : LineData). IsSome (needs_in z)) (sym same) some) in cc)

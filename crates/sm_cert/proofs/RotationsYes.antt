@@ -200,7 +200,7 @@ closing_out = ((refl, omega arith), tt)
 -- behind the head
 turns_behind : (w : Written) (rest : List LineData) → is_whole (rotations_layout ∷ []) (map opening_of rest) ≡ true → Turns w closing closing_out [] (LineData.Answer HeadData.Rotations ∷ rest)
 turns_behind w rest placed =
-    turns_from w closing closing_out (LineData.Answer HeadData.Rotations) refl refl
+    turns_from w closing closing_out (LineData.Answer HeadData.Rotations) refl refl refl
     (turns w closing closing_out false Spot.firsts (LineData.Answer HeadData.Rotations ∷ []) rest placed refl)
 
 pub rotations_yes : RotationsYes

@@ -147,6 +147,13 @@ said_above {X} said r none =
     sym (ap (filter_map said) r.ends ∙ filter_map-append said r.front (LineData.End ∷ [])
     ∙ ap (λ (o : Option X). filter_map said r.front ++ cons_option o []) none ∙ append-nil (filter_map said r.front))
 
+-- at a line that stands behind others
+pub at_line : {subject : Subject} {lines : List LineData} (r : IsRight subject lines) (above : List LineData) (x : LineData) (below : List LineData) → lines ≡ above ++ x ∷ below → (why : Reason) → Clauses subject above x why
+at_line {subject} {lines} r above x below is why =
+    let all = subst (λ (ls : List LineData). AtLine (Clauses subject) ls (length above) why) is (r.holds (length above) why) in
+    let here = subst (λ o. IfSome o (λ line. Clauses subject (take (length above) (above ++ x ∷ below)) line why)) (got_at above x below) all in
+    subst (λ (ls : List LineData). Clauses subject ls x why) (taken_front above (x ∷ below)) here
+
 -- At all lines.
 
 if_some : {X : Type 0} {P Q : X → Type 0} (o : Option X) → IfSome o P → ((x : X) → P x → Q x) → IfSome o Q

@@ -1,10 +1,12 @@
 -- What a yes on an answer means.
-use Rattle.std.specs.Prelude.{◌≡◌, ◌≢◌, ℕ, ◌+◌, ◌<◌, ◌≤◌, ◌↔◌, List, [], ◌∷◌, length, filter_map, Option, None, Some, slice_index_or, Contains}
+use Rattle.std.specs.Prelude.{◌≡◌, ◌≢◌, ℕ, ◌+◌, ◌<◌, ◌≤◌, ◌↔◌, List, [], ◌∷◌, length, filter_map, Option, None, Some, slice_index_or, Contains, ℤ, ◌≤ℤ◌}
 use Rattle.std.specs.List.{slice_get}
 use Rattle.sm_instance.specs.Written.{Written, AgentData, lists_of}
 use Rattle.sm_instance.specs.Stable.{IsStable}
 use Rattle.sm_instance.specs.Allowed.{IsAllowed}
-use Rattle.sm_instance.specs.Ranks.{IsBefore, regret_of}
+use Rattle.sm_instance.specs.Matching.{standing}
+use Rattle.sm_instance.specs.Ranks.{IsBefore, regret_of, weight_of}
+use Rattle.sm_instance.specs.declared.kinds.Measure.{Measure}
 use Rattle.sm_instance.specs.Sound.{IsInstance}
 use Rattle.sm_instance.specs.declared.kinds.Side.{Side}
 use Rattle.sm_instance.specs.declared.inputs.Input.{Input}
@@ -27,7 +29,7 @@ use Rattle.sm_report.specs.Lines.{LineData}
 use Rattle.sm_cert.specs.declared.verdicts.Verdict.TheVariants as verdict
 use Rattle.sm_cert.specs.Verdicts.{IsVerdict}
 use Rattle.sm_cert.specs.Forms.{AreAnswer}
-use Rattle.sm_cert.specs.Said.{pairs_in, firsts_in, lasts_in, proposer_lists_in, reviewer_lists_in, rotations_in, all_needs_in, lefts_in, rights_in, regret_in, vectors_in}
+use Rattle.sm_cert.specs.Said.{pairs_in, firsts_in, lasts_in, proposer_lists_in, reviewer_lists_in, rotations_in, all_needs_in, lefts_in, rights_in, regret_in, total_in, vectors_in}
 use Rattle.sm_cert.specs.Pairs.{IsBestOf}
 use Rattle.sm_cert.specs.Chain.{HasOneEach, owners, IsRowOf}
 use Rattle.sm_cert.specs.Vectors.{order_of}
@@ -155,3 +157,24 @@ pub record IsChainWritten (w : Written) (lines : List LineData) : Type 0 where
 -- a yes on `rotations`
 abbrev pub RotationsYes : Type 0
 RotationsYes = (w : Written) (lines : List LineData) → IsInstance w → GetsYes (Two w) HeadData.Rotations lines → IsChainWritten w lines
+
+-- an allowed stable matching of the least weight, and of those that have it the one that is best for all proposers
+-- (Irving, Leather and Gusfield 1987; Gusfield and Irving 1989, section 3.6)
+pub record IsLightest (by : Measure) (w : Written) (places : List (Option ℕ)) : Type 0 where
+  pub stable : IsStable w places
+  pub allowed : IsAllowed w places
+  pub lightest : (others : List (Option ℕ)) → IsStable w others → IsAllowed w others → weight_of by w places ≤ℤ weight_of by w others
+  pub best : (others : List (Option ℕ)) → IsStable w others → IsAllowed w others → weight_of by w others ≡ weight_of by w places
+      → (p : ℕ) → standing w places p ≤ standing w others p
+
+-- and its weight
+pub record IsWeighed (by : Measure) (w : Written) (totals : List ℤ) (pairs : List (ℕ × ℕ)) : Type 0 where
+  pub places : List (Option ℕ)
+  pub lightest : IsLightest by w places
+  pub total : totals ≡ weight_of by w places ∷ []
+  pub written : ArePairsOf (lists_of w.proposers) places pairs
+
+-- a yes on `weight`
+abbrev pub WeightYes : Type 0
+WeightYes = (w : Written) (by : Measure) (lines : List LineData) → IsInstance w
+    → GetsYes (Two w) (HeadData.Weight by) lines → IsWeighed by w (filter_map total_in lines) (pairs_in lines)

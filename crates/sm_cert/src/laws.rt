@@ -2,7 +2,7 @@
 //! over the definitions alone.
 
 ghost use Rattle.sm_cert.specs.Laws.{OneVerdict, OneJudgement, JudgedIsntBad, WholeIsBegun, WholeEnds};
-ghost use Rattle.sm_cert.specs.Yes.{ListYes, SolveYes, CouplesYes, NoneYes, RegretYes, MeetYes, JoinYes, ReducedYes, RotationsYes};
+ghost use Rattle.sm_cert.specs.Yes.{ListYes, SolveYes, CouplesYes, NoneYes, RegretYes, MeetYes, JoinYes, ReducedYes, RotationsYes, WeightYes};
 
 /// There is no more than one verdict on an answer.
 pub fn one_verdict()
@@ -80,4 +80,10 @@ pub fn reduced_yes()
 /// stand the numbers of all rotations that it needs, and no others.
 pub fn rotations_yes()
     ensures { RotationsYes }
+{}
+
+/// Where an answer of `weight` gets a yes, its pairs are those of a stable matching that the conditions allow and than which no
+/// other is lighter, and of the lightest ones that which is best for all proposers; and its total is the weight of it.
+pub fn weight_yes()
+    ensures { WeightYes }
 {}

@@ -1,4 +1,4 @@
-use Rattle.sm_cert.proofs.YesLemmas.{list_yes}
+use Rattle.sm_cert.proofs.ListYes.{list_yes}
 use Rattle.sm_cert.proofs.laws.list_yes.Goals as goal
 
 pub returns : goal.returns

@@ -20,12 +20,7 @@ use Rattle.sm_cert.specs.Said.{vector_in, vectors_in}
 use Rattle.sm_cert.specs.Vectors.{ListHolds, VectorHolds, ListClauses, order_of, places_of_ranks}
 use Rattle.sm_cert.specs.Judging.{Holds}
 use Rattle.sm_cert.specs.Yes.{AreListed, ListYes}
-
-some_same : {X : Type 0} {x y : X} → Some x ≡ Some y → x ≡ y
-some_same e = cc
-
-none_some : {x : List ℕ} → ◌≡◌ {A = Option (List ℕ)} None (Some x) → ⊥
-none_some e = grind arith
+use Rattle.sm_cert.proofs.YesLines.{by_head, grown}
 
 at_end : {X : Type 0} (xs : List X) (y : X) (d : X) → slice_index_or (xs ++ y ∷ []) (length xs) d ≡ y
 at_end [] y d = refl
@@ -80,45 +75,26 @@ module _ (w : Written) (after : Option (List ℕ)) (limit : ℕ) where
       first [] e b = b
       first (u ∷ us) e b = absurd (omega (arith, e))
 
-  -- the vectors of the first k lines
-  module _ (lines : List LineData) (all : (k : ℕ) (why : Reason) → AtLine (ListClauses w after limit) lines k why) where
-    none_yet : AreListed w after limit []
-    none_yet = record { limited = omega arith; each = λ k h. absurd (omega arith); begins = λ h. absurd (omega arith); rises = λ k h. absurd (omega arith) }
+  abbrev AreNext : List (List ℕ) → List ℕ → Type 0
+  AreNext vs v = (why : Reason) → VectorHolds w (end_of after vs) (length vs) limit v why
 
-    add : (vs : List (List ℕ)) (x : LineData) → AreListed w after limit vs → ((why : Reason) → ListHolds w (end_of after vs) (length vs) limit x why) → AreListed w after limit (vs ++ vectors_in (x ∷ []))
-    add vs x a h = go (vector_in x) refl
-      where
-        go : (o : Option (List ℕ)) → vector_in x ≡ o → AreListed w after limit (vs ++ cons_option o [])
-        go None e = subst (AreListed w after limit) (sym (append-nil vs)) a
-        go (Some v) e = one_more vs v a (λ why. is_vector x v e why (h why))
-          where
-            is_vector : (x : LineData) (v : List ℕ) → vector_in x ≡ Some v → (why : Reason) → ListHolds w (end_of after vs) (length vs) limit x why → VectorHolds w (end_of after vs) (length vs) limit v why
-            is_vector (LineData.Vector u) v e why b = let f : u ≡ v = some_same e in subst (λ z. VectorHolds w (end_of after vs) (length vs) limit z why) f b
-            is_vector _ v e why b = absurd (none_some e)
+  none_yet : AreListed w after limit []
+  none_yet = record { limited = omega arith; each = λ k h. absurd (omega arith); begins = λ h. absurd (omega arith); rises = λ k h. absurd (omega arith) }
 
-    front : (k : ℕ) → k ≤ length lines → AreListed w after limit (vectors_in (take k lines))
-    front zero h = none_yet
-    front (suc k) h =
-        let x = slice_index_or lines k LineData.Yes in
-        let there : slice_get lines k ≡ Some x = slice_get-get_or lines k LineData.Yes (omega (arith, h)) in
-        let more : vectors_in (take (suc k) lines) ≡ vectors_in (take k lines) ++ vectors_in (x ∷ []) =
-        ap vectors_in (take-suc lines k LineData.Yes (omega (arith, h))) ∙ filter_map-append vector_in (take k lines) (x ∷ []) in
-        subst (AreListed w after limit) (sym more)
-        (add (vectors_in (take k lines)) x (front k (omega (arith, h)))
-        (λ why. subst (λ o. IfSome o (λ line. ListClauses w after limit (take k lines) line why)) there (all k why)))
-
-    whole : AreListed w after limit (vectors_in lines)
-    whole = subst (λ (ls : List LineData). AreListed w after limit (vectors_in ls)) (take_all (length lines) lines (omega arith)) (front (length lines) (omega arith))
+  -- a line with a vector
+  of_line : (vs : List (List ℕ)) (x : LineData) → ((why : Reason) → ListHolds w (end_of after vs) (length vs) limit x why) → IfSome (vector_in x) (AreNext vs)
+  of_line vs (LineData.Vector v) h = h
+  of_line vs _ h = tt
 
 pub list_yes : ListYes
-list_yes w after limit lines g = whole w after limit lines (claims lines g.head_is g.yes)
+list_yes w after limit lines g = grown vector_in (AreListed w after limit) (AreNext w after limit) lines (none_yet w after limit) (one_more w after limit) next_at
   where
-    claims : (lines : List LineData) → slice_get lines 0 ≡ Some (LineData.Answer (HeadData.List after limit)) → ((k : ℕ) (why : Reason) → Holds (Two w) lines k why)
-        → (k : ℕ) (why : Reason) → AtLine (ListClauses w after limit) lines k why
-    claims [] e h k why = absurd (no_line e)
+    claims : (k : ℕ) (why : Reason) → AtLine (ListClauses w after limit) lines k why
+    claims = by_head (λ (ls : List LineData). (k : ℕ) (why : Reason) → AtLine (ListClauses w after limit) ls k why) g (λ rest placed h. h)
+
+    next_at : (k : ℕ) → IfSome (slice_get lines k) (λ line. IfSome (vector_in line) (AreNext w after limit (vectors_in (take k lines))))
+    next_at k = go (slice_get lines k) (claims k)
       where
-        no_line : ◌≡◌ {A = Option LineData} None (Some (LineData.Answer (HeadData.List after limit))) → ⊥
-        no_line e = grind arith
-    claims (x ∷ xs) e h k why =
-        let f : x ≡ LineData.Answer (HeadData.List after limit) = some_same e in
-        subst (λ y. AtLine (ListClauses w after limit) (y ∷ xs) k why) (sym f) (subst (λ y. Holds (Two w) (y ∷ xs) k why) f (h k why))
+        go : (o : Option LineData) → ((why : Reason) → IfSome o (λ line. ListClauses w after limit (take k lines) line why)) → IfSome o (λ line. IfSome (vector_in line) (AreNext w after limit (vectors_in (take k lines))))
+        go None h = tt
+        go (Some x) h = of_line w after limit (vectors_in (take k lines)) x h

@@ -1,0 +1,238 @@
+-- The lines of an answer of `weight` behind its flow.
+use Rattle.std.proofs.Common.{◌≡◌, ℕ, ◌+◌, ◌<◌, ◌==◌, ◌||◌, ◌&&◌, ◌⊎◌, inl, inr, arith, refl, sym, ap, ◌∙◌, Bool, true, false, List, [], ◌∷◌, ◌++◌, map, Option, Some, None, if◌then◌else◌, subst, append_assoc, append-nil, ℤ}
+use Rattle.std.specs.Prelude.{filter_map}
+use Rattle.std.specs.List.{cons_option, list_all, list_any}
+use Rattle.std.proofs.lemmas.Bool.{false≢true}
+use Rattle.std.proofs.lemmas.List.Folds.{list_all-append}
+use Rattle.std.proofs.lemmas.List.Elements.{filter_map-append}
+use Rattle.sm_theory.proofs.Net.Tests.{and_parts, and_true}
+use Rattle.sm_report.specs.Lines.{LineData}
+use Rattle.sm_cert.specs.declared.keywords.Keyword.{Keyword}
+use Rattle.sm_cert.specs.declared.keywords.Keyword.TheVariants as keyword
+use Rattle.sm_cert.specs.declared.layouts.Part.{Part}
+use Rattle.sm_cert.specs.declared.layouts.Part.TheVariants.{One, Many}
+use Rattle.sm_cert.specs.Keywords.{keyword_of, number_of}
+use Rattle.sm_cert.specs.Layouts.{begins, behind, left_behind, is_empty, is_whole}
+use Rattle.sm_cert.specs.Forms.{closing, opening_of}
+use Rattle.sm_cert.specs.Said.{taken_in, value_in, total_in, is_up_to_rotations}
+use Rattle.sm_cert.proofs.GroupLemmas.{Tells, AllOut, Parted, goes, all_down, none_said, none_up}
+use Rattle.sm_cert.proofs.RotationLines.{rotation_words, Splits, one_split}
+use Rattle.sm_cert.proofs.YesLines.{some_same}
+
+-- Parts of a layout, one after the other.
+
+no_parts : {left : List Part} → ◌≡◌ {A = Option (List Part)} None (Some left) → ⊥
+no_parts e = grind arith
+
+many_split : (word : Keyword) (up : LineData → Bool) (rest : List Part) (lines : List LineData) → ((x : LineData) → begins (opening_of x) word ≡ true → up x ≡ true)
+    → is_whole ((Many word ∷ rest) ∷ []) (map opening_of lines) ≡ true → Splits up rest lines
+many_split word up rest [] ups e = absurd (false≢true e)
+many_split word up rest (x ∷ xs) ups e =
+    let g = goes (Many word ∷ rest) (opening_of x) (map opening_of xs) e in
+    go (begins (opening_of x) word) refl g.left g.is g.whole (λ whole. many_split word up rest xs ups whole)
+  where
+    go : (t : Bool) → begins (opening_of x) word ≡ t → (left : List Part) → (if t then Some (Many word ∷ rest) else behind rest (opening_of x)) ≡ Some left → is_whole (left ∷ []) (map opening_of xs) ≡ true
+        → (is_whole ((Many word ∷ rest) ∷ []) (map opening_of xs) ≡ true → Splits up rest xs) → Splits up rest (x ∷ xs)
+    go true b left is whole deep = one_split up rest x xs (ups x b) (deep (subst (λ (parts : List Part). is_whole (parts ∷ []) (map opening_of xs) ≡ true) (sym (some_same is)) whole))
+    go false b left is whole deep = record {
+      before = [];
+      below = x ∷ xs;
+      is = refl;
+      ups = refl;
+      whole = ap (λ (o : Option (List Part)). list_any is_empty (left_behind (cons_option o []) (map opening_of xs))) is ∙ whole;
+    }
+
+record Peels (word : Keyword) (rest : List Part) (lines : List LineData) : Type 0 where
+  line : LineData
+  others : List LineData
+  is : lines ≡ line ∷ others
+  opens : begins (opening_of line) word ≡ true
+  whole : is_whole (rest ∷ []) (map opening_of others) ≡ true
+
+one_peel : (word : Keyword) (rest : List Part) (lines : List LineData) → is_whole ((One word ∷ rest) ∷ []) (map opening_of lines) ≡ true → Peels word rest lines
+one_peel word rest [] e = absurd (false≢true e)
+one_peel word rest (x ∷ xs) e =
+    let g = goes (One word ∷ rest) (opening_of x) (map opening_of xs) e in
+    go (begins (opening_of x) word) refl g.left g.is g.whole
+  where
+    go : (t : Bool) → begins (opening_of x) word ≡ t → (left : List Part) → (if t then Some rest else None) ≡ Some left → is_whole (left ∷ []) (map opening_of xs) ≡ true → Peels word rest (x ∷ xs)
+    go true b left is whole = record { line = x; others = xs; is = refl; opens = b; whole = subst (λ (parts : List Part). is_whole (parts ∷ []) (map opening_of xs) ≡ true) (sym (some_same is)) whole }
+    go false b left is whole = absurd (no_parts is)
+
+-- The lines up to the flow, and those up to the total.
+
+abbrev pub flow_words : ℕ → Bool
+flow_words n = (n == 3) || ((n == 7) || ((n == 8) || ((n == 9) || (n == 10))))
+
+abbrev pub is_up_to_flows : LineData → Bool
+is_up_to_flows (LineData.Flow from to amount) = true
+is_up_to_flows line = is_up_to_rotations line
+
+pub flows_tell : Tells flow_words is_up_to_flows
+flows_tell = record { other = refl; same = same }
+  where
+    same : (x : LineData) → (is_up_to_flows x ≡ flow_words (number_of (keyword_of x))) ⊎ (number_of (keyword_of x) ≡ 21)
+    same (LineData.Answer head) = inr refl
+    same _ = inl refl
+
+abbrev pub total_words : ℕ → Bool
+total_words n = flow_words n || ((n == 11) || ((n == 12) || ((n == 13) || (n == 14))))
+
+abbrev pub is_up_to_totals : LineData → Bool
+is_up_to_totals (LineData.Taken taken) = true
+is_up_to_totals (LineData.Value value) = true
+is_up_to_totals (LineData.Cut value) = true
+is_up_to_totals (LineData.Total weight) = true
+is_up_to_totals line = is_up_to_flows line
+
+pub totals_tell : Tells total_words is_up_to_totals
+totals_tell = record { other = refl; same = same }
+  where
+    same : (x : LineData) → (is_up_to_totals x ≡ total_words (number_of (keyword_of x))) ⊎ (number_of (keyword_of x) ≡ 21)
+    same (LineData.Answer head) = inr refl
+    same _ = inl refl
+
+opens_flow : (x : LineData) → begins (opening_of x) keyword.Flow ≡ true → is_up_to_flows x ≡ true
+opens_flow (LineData.Flow from to amount) e = refl
+opens_flow _ e = absurd (false≢true e)
+
+flow_too : (x : LineData) → is_up_to_rotations x ≡ true → is_up_to_flows x ≡ true
+flow_too (LineData.Answer head) e = refl
+flow_too (LineData.First p seat) e = refl
+flow_too (LineData.Rotation i pairs) e = refl
+flow_too (LineData.Needs i needed) e = refl
+flow_too (LineData.Gain i gain) e = refl
+flow_too _ e = absurd (false≢true e)
+
+opens_taken : (x : LineData) → begins (opening_of x) keyword.Taken ≡ true → (t : List ℕ) × (x ≡ LineData.Taken t)
+opens_taken (LineData.Taken t) e = (t, refl)
+opens_taken _ e = absurd (false≢true e)
+
+opens_value : (x : LineData) → begins (opening_of x) keyword.Value ≡ true → (v : ℕ) × (x ≡ LineData.Value v)
+opens_value (LineData.Value v) e = (v, refl)
+opens_value _ e = absurd (false≢true e)
+
+opens_cut : (x : LineData) → begins (opening_of x) keyword.Cut ≡ true → (v : ℕ) × (x ≡ LineData.Cut v)
+opens_cut (LineData.Cut v) e = (v, refl)
+opens_cut _ e = absurd (false≢true e)
+
+opens_total : (x : LineData) → begins (opening_of x) keyword.Total ≡ true → (z : ℤ) × (x ≡ LineData.Total z)
+opens_total (LineData.Total z) e = (z, refl)
+opens_total _ e = absurd (false≢true e)
+
+all_too : (p q : LineData → Bool) (xs : List LineData) → ((x : LineData) → p x ≡ true → q x ≡ true) → list_all p xs ≡ true → list_all q xs ≡ true
+all_too p q [] more h = refl
+all_too p q (x ∷ xs) more h = let parts = and_parts (p x) (list_all p xs) h in and_true (q x) (list_all q xs) (more x parts.0) (all_too p q xs more parts.1)
+
+all_both : (q : LineData → Bool) (xs ys : List LineData) → list_all q xs ≡ true → list_all q ys ≡ true → list_all q (xs ++ ys) ≡ true
+all_both q xs ys a b = list_all-append q xs ys ∙ and_true (list_all q xs) (list_all q ys) a b
+
+-- The four lines behind the flow.
+
+abbrev pub pairs_left : List Part
+pairs_left = Many keyword.Pair ∷ closing
+
+abbrev pub behind_flow : List Part
+behind_flow = One keyword.Taken ∷ One keyword.Value ∷ One keyword.Cut ∷ One keyword.Total ∷ pairs_left
+
+pub record FourLines (lines : List LineData) : Type 0 where
+  pub above : List LineData
+  pub taken : List ℕ
+  pub value : ℕ
+  pub cut : ℕ
+  pub total : ℤ
+  pub below : List LineData
+  pub is : lines ≡ above ++ LineData.Taken taken ∷ LineData.Value value ∷ LineData.Cut cut ∷ LineData.Total total ∷ below
+  pub ups : list_all is_up_to_flows above ≡ true
+  pub whole : is_whole (pairs_left ∷ []) (map opening_of below) ≡ true
+
+four_of : (lines : List LineData) → Splits is_up_to_flows behind_flow lines → FourLines lines
+four_of lines s =
+    let a = one_peel keyword.Taken (One keyword.Value ∷ One keyword.Cut ∷ One keyword.Total ∷ pairs_left) s.below s.whole in
+    let b = one_peel keyword.Value (One keyword.Cut ∷ One keyword.Total ∷ pairs_left) a.others a.whole in
+    let c = one_peel keyword.Cut (One keyword.Total ∷ pairs_left) b.others b.whole in
+    let d = one_peel keyword.Total pairs_left c.others c.whole in
+    let t = opens_taken a.line a.opens in
+    let v = opens_value b.line b.opens in
+    let u = opens_cut c.line c.opens in
+    let z = opens_total d.line d.opens in
+    record {
+      above = s.before;
+      taken = t.0;
+      value = v.0;
+      cut = u.0;
+      total = z.0;
+      below = d.others;
+      is = s.is ∙ ap (λ (ls : List LineData). s.before ++ ls)
+          (a.is ∙ (λ i. t.1 i ∷ (b.is ∙ (λ j. v.1 j ∷ (c.is ∙ (λ k. u.1 k ∷ (d.is ∙ (λ m. z.1 m ∷ d.others)) k)) j)) i));
+      ups = s.ups;
+      whole = d.whole;
+    }
+
+pub four_lines : (lines : List LineData) → Splits is_up_to_rotations (Many keyword.Flow ∷ behind_flow) lines → FourLines lines
+four_lines lines s =
+    let f = many_split keyword.Flow is_up_to_flows behind_flow s.below opens_flow s.whole in
+    four_of lines (record {
+      before = s.before ++ f.before;
+      below = f.below;
+      is = s.is ∙ ap (λ (ls : List LineData). s.before ++ ls) f.is ∙ sym (append_assoc s.before f.before f.below);
+      ups = all_both is_up_to_flows s.before f.before (all_too is_up_to_rotations is_up_to_flows s.before flow_too s.ups) f.ups;
+      whole = f.whole;
+    })
+
+-- One total is said, and the first set that is taken is that of its line.
+
+totals : ℕ → Bool
+totals n = n == 14
+
+abbrev is_total : LineData → Bool
+is_total (LineData.Total weight) = true
+is_total _ = false
+
+total_tells : Tells totals is_total
+unfolding totals
+total_tells = record { other = refl; same = same }
+  where
+    same : (x : LineData) → (is_total x ≡ totals (number_of (keyword_of x))) ⊎ (number_of (keyword_of x) ≡ 21)
+    same (LineData.Total weight) = inl refl
+    same _ = inl refl
+
+no_total : (x : LineData) → is_total x ≡ false → total_in x ≡ None
+no_total (LineData.Total weight) e = absurd (false≢true (sym e))
+no_total _ e = refl
+
+no_total_up : (x : LineData) → is_up_to_flows x ≡ true → total_in x ≡ None
+no_total_up (LineData.Total weight) e = absurd (false≢true e)
+no_total_up _ e = refl
+
+no_value_up : (x : LineData) → is_up_to_flows x ≡ true → value_in x ≡ None
+no_value_up (LineData.Value value) e = absurd (false≢true e)
+no_value_up _ e = refl
+
+no_taken_up : (x : LineData) → is_up_to_flows x ≡ true → taken_in x ≡ None
+no_taken_up (LineData.Taken taken) e = absurd (false≢true e)
+no_taken_up _ e = refl
+
+module _ {lines : List LineData} (f : FourLines lines) where
+  pub no_taken_above : filter_map taken_in f.above ≡ []
+  no_taken_above = none_up is_up_to_flows taken_in no_taken_up f.above f.ups
+
+  pub no_value_above : filter_map value_in f.above ≡ []
+  no_value_above = none_up is_up_to_flows value_in no_value_up f.above f.ups
+
+  pub one_total : filter_map total_in lines ≡ f.total ∷ []
+  unfolding totals
+  one_total =
+      ap (filter_map total_in) f.is
+      ∙ filter_map-append total_in f.above (LineData.Taken f.taken ∷ LineData.Value f.value ∷ LineData.Cut f.cut ∷ LineData.Total f.total ∷ f.below)
+      ∙ ap (λ xs. xs ++ f.total ∷ filter_map total_in f.below) (none_up is_up_to_flows total_in no_total_up f.above f.ups)
+      ∙ ap (λ xs. f.total ∷ xs) (none_said is_total total_in no_total f.below (all_down total_tells pairs_left f.below ((refl, omega arith), ((refl, omega arith), tt)) f.whole))
+
+  abbrev pub flows_parted : Parted is_up_to_flows lines
+  flows_parted = record {
+    above = f.above;
+    below = LineData.Taken f.taken ∷ LineData.Value f.value ∷ LineData.Cut f.cut ∷ LineData.Total f.total ∷ f.below;
+    is = f.is;
+    ups = f.ups;
+    downs = (refl, (refl, (refl, (refl, all_down flows_tell pairs_left f.below ((refl, omega arith), ((refl, omega arith), tt)) f.whole))));
+  }
