@@ -24,20 +24,6 @@ use Rattle.sm_cert.specs.Judging.{Subject, answer, couples, parties, Clauses, Ho
 use Rattle.sm_cert.specs.Judges.{IsOwnLine, input_of}
 use Rattle.sm_cert.specs.Checking.{HasSeatsFault, IsCertFault, of_seats, first_head, says_none}
 
--- a text has no more lines than bytes
-pub length-lines-le : (bytes : List ℕ) → length (lines bytes) ≤ length bytes
-length-lines-le [] = omega arith
-length-lines-le (b ∷ bytes) = by_test (b == LF) (length-lines-le bytes) (by_parts (lines bytes) (length-lines-le bytes))
-  where
-    by_parts : (parts : List (List ℕ)) → length parts ≤ length bytes → length (onto_first b parts) ≤ length bytes + 1
-    by_parts [] h = omega arith
-    by_parts (part ∷ parts) h = omega arith
-
-    by_test : (t : Bool) → length (lines bytes) ≤ length bytes → length (onto_first b (lines bytes)) ≤ length bytes + 1
-        → length (cond t ((b ∷ []) ∷ lines bytes) (onto_first b (lines bytes))) ≤ length (b ∷ bytes)
-    by_test true h k = omega arith
-    by_test false h k = omega arith
-
 -- each line of an answer is one of the instance, and of its form
 pub own_lines : (input : Input) (texts : List (List ℕ)) (lines : List LineData) → AreAnswer input texts lines
     → (subject : Subject) → input_of subject ≡ input → All (IsOwnLine subject) lines

@@ -1,10 +1,10 @@
 -- The first line of a list of bytes, and what it holds.
-use Rattle.std.proofs.Common.{zero, suc, ◌≡◌, ◌≢◌, ℕ, ◌+◌, ◌-◌, ◌<◌, ◌≤◌, cond, eqb, Bool, true, false, List, [], ◌∷◌, length, get_or, take, drop, refl, sym, ap, ◌∙◌, arith}
+use Rattle.std.proofs.Common.{zero, suc, ◌≡◌, ◌≢◌, ℕ, ◌+◌, ◌-◌, ◌<◌, ◌≤◌, ◌==◌, cond, eqb, Bool, true, false, List, [], ◌∷◌, length, get_or, take, drop, refl, sym, ap, ◌∙◌, arith}
 use Rattle.std.proofs.lemmas.List.{take-take, drop-drop, length-drop}
 use Rattle.std.specs.List.{onto_first}
 use Rattle.std.proofs.lemmas.Bool.Decides.{nat_tests}
 use Rattle.std.proofs.lemmas.Bool.{eq-eqb, ne_eqb}
-use Rattle.sm_text.specs.Lines.{first_line, without_last, content, lines, IsLineAt}
+use Rattle.sm_text.specs.Lines.{LF, first_line, without_last, content, lines, IsLineAt}
 use Rattle.sm_text.specs.declared.lines.LineSpan.{LineSpan}
 
 -- the line ends at the first LF, or with the text
@@ -30,6 +30,20 @@ first_line_taken (b ∷ bytes) = elim (eqb b 10) as (λ t. take (length (cond t 
 pub length-first_line-le : (bytes : List ℕ) → length (first_line bytes) ≤ length bytes
 length-first_line-le [] = omega arith
 length-first_line-le (b ∷ bytes) = elim (eqb b 10) as (λ t. length (cond t (b ∷ []) (b ∷ first_line bytes)) ≤ length (b ∷ bytes)) [ true ↦ omega arith | false ↦ omega (arith, length-first_line-le bytes) ]
+
+-- a text has no more lines than bytes
+pub length-lines-le : (bytes : List ℕ) → length (lines bytes) ≤ length bytes
+length-lines-le [] = omega arith
+length-lines-le (b ∷ bytes) = by_test (b == LF) (length-lines-le bytes) (by_parts (lines bytes) (length-lines-le bytes))
+  where
+    by_parts : (parts : List (List ℕ)) → length parts ≤ length bytes → length (onto_first b parts) ≤ length bytes + 1
+    by_parts [] h = omega arith
+    by_parts (part ∷ parts) h = omega arith
+
+    by_test : (t : Bool) → length (lines bytes) ≤ length bytes → length (onto_first b (lines bytes)) ≤ length bytes + 1
+        → length (cond t ((b ∷ []) ∷ lines bytes) (onto_first b (lines bytes))) ≤ length (b ∷ bytes)
+    by_test true h k = omega arith
+    by_test false h k = omega arith
 
 -- in front of a list that is chosen
 front_cond : (t : Bool) (b : ℕ) (u v : List ℕ) → b ∷ cond t u v ≡ cond t (b ∷ u) (b ∷ v)

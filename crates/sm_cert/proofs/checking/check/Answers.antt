@@ -4,7 +4,8 @@ use Rattle.sm_text.specs.Lines.{lines, content}
 use Rattle.sm_report.specs.declared.lines.Line.{Line}
 use Rattle.sm_report.specs.Lines.{line_of}
 use Rattle.sm_cert.specs.Judges.{IsOwnLine}
-use Rattle.sm_cert.proofs.CheckLemmas.{as_many, length-lines-le, own_lines}
+use Rattle.sm_text.proofs.LineLemmas.{length-lines-le}
+use Rattle.sm_cert.proofs.CheckLemmas.{as_many, own_lines}
 use Rattle.sm_cert.proofs.checking.check.Goals as goal
 
 pub judge-requires-clause-few : goal.judge-requires-clause-few

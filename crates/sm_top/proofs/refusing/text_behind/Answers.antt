@@ -1,6 +1,7 @@
 use Rattle.std.proofs.Common.{drop, length-drop, arith}
 use Rattle.sm_reader.specs.InstanceText.{read_of}
-use Rattle.sm_top.proofs.RefusingLemmas.{rest_line_le, length-lines-le}
+use Rattle.sm_text.proofs.LineLemmas.{length-lines-le}
+use Rattle.sm_top.proofs.RefusingLemmas.{rest_line_le}
 use Rattle.sm_top.proofs.refusing.text_behind.Goals as goal
 
 pub first_saying-requires : goal.first_saying-requires
