@@ -18,27 +18,11 @@ use Rattle.sm_lists.proofs.RowLemmas.{row_in_range}
 use Rattle.sm_accept.specs.Linking.{IsHeld, IsFirstHeld, IsHeldBehind, IsFront}
 use Rattle.sm_accept.specs.Reducing.{KeepsStablePairs}
 
--- the test of a place against the one that is held
-pub no_worse_is : (rows : List (List ℕ)) (places : List (Option ℕ)) (a b place : ℕ) (t : Bool) → place ≡ place_of rows a b
-    → MatchOption (held places a) (t ≡ false) (λ worst. t ≡ nat_le place worst) → t ≡ is_no_worse rows places a b
-no_worse_is rows places a b place t e h = go (held places a) refl h
-  where
-    go : (o : Option ℕ) → held places a ≡ o → MatchOption o (t ≡ false) (λ worst. t ≡ nat_le place worst) → t ≡ is_no_worse rows places a b
-    go None is h = rw is h
-    go (Some worst) is h = rw (is, sym e) h
-
 pub and_comm : (s t : Bool) → (s && t) ≡ (t && s)
 and_comm true true = refl
 and_comm true false = refl
 and_comm false true = refl
 and_comm false false = refl
-
--- a test that passes its first half, and one that doesn't
-pub and_true : (a s t : Bool) → a ≡ true → a ≡ s → (s && t) ≡ t
-and_true a s t passes is = rw (sym is ∙ passes) refl
-
-pub and_false : (a s t : Bool) → a ≡ false → a ≡ s → (s && t) ≡ false
-and_false a s t fails is = rw (sym is ∙ fails) refl
 
 -- one more element of a filtered list
 pub filter_step : (test : ℕ → Bool) (xs : List ℕ) (i x : ℕ) (t : Bool) (before after : List ℕ) → i < length xs → x ≡ get_or xs i 0 → t ≡ test x

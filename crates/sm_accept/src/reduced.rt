@@ -13,7 +13,7 @@ ghost use Rattle.sm_accept.specs.Reducing.{KeepsStablePairs};
 use crate::accept::{proposer_best, reviewer_best};
 use crate::fronts::cut_to_partners;
 use crate::linked::Linked;
-use sm_market::{Market, Pairing};
+use sm_market::{Market, Pairing, is_between};
 use std::alloc::{AllocError, Global};
 
 /// The reduced lists of both sides, best first, by the numbers of the agents.
@@ -196,29 +196,4 @@ fn push_if(row: &mut Vec<u32>, stays: bool, agent: u32) -> Result<(), AllocError
         row.push(agent)?;
     }
     Ok(())
-}
-
-/// Whether the reviewer at `place` of `p`'s list stands between the pairings: `p` likes it no less than its partner in
-/// `last`, and it likes `p` no less than its partner in `first`.
-fn is_between(market: &Market, first: &Pairing, last: &Pairing, p: u32, place: u32) -> bool
-    requires in_range { p < length market.now.proposers }
-    requires on_list { place < length (row market.now.proposers p) }
-    requires first { IsPairingOf market.now first.now }
-    requires last { IsPairingOf market.now last.now }
-    ensures { let r = entry market.now.proposers p place in
-        result ≡ (is_no_worse market.now.proposers last.now.places.proposers p r
-        && is_no_worse market.now.reviewers first.now.places.reviewers r p) }
-{
-    let r = market.reviewer_at(p, place);
-    is_as_good(place, last.place(p)) && is_as_good(market.cross(p, place), first.reviewer_place(r))
-}
-
-/// Whether a place is as good as the one that an agent holds. None is where the agent is unmatched.
-fn is_as_good(place: u32, held: Option<u32>) -> bool
-    ensures { MatchOption held (result ≡ false) (λ worst. result ≡ nat_le place worst) }
-{
-    match held {
-        Some(worst) => place <= worst,
-        None => false,
-    }
 }

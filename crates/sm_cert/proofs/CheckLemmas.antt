@@ -16,12 +16,12 @@ use Rattle.sm_report.specs.Sound.{IsLineOf}
 use Rattle.sm_report.specs.Texts.{text_of_line}
 use Rattle.sm_seats.specs.declared.faults.SeatsFault.{SeatsFault}
 use Rattle.sm_seats.specs.declared.faults.SeatsFault.TheVariants as seats
-use Rattle.sm_cert.specs.declared.verdicts.Verdict.{Verdict}
-use Rattle.sm_cert.specs.declared.verdicts.Verdict.TheVariants as verdict
-use Rattle.sm_cert.specs.Forms.{fits, fits_two, AreAnswer}
-use Rattle.sm_cert.specs.Verdicts.{AtLine, IsVerdict}
-use Rattle.sm_cert.specs.Judging.{Subject, answer, couples, parties, Clauses, Holds}
-use Rattle.sm_cert.specs.Judges.{IsOwnLine, input_of}
+use Rattle.sm_judge.specs.declared.verdicts.Verdict.{Verdict}
+use Rattle.sm_judge.specs.declared.verdicts.Verdict.TheVariants as verdict
+use Rattle.sm_forms.specs.Forms.{fits, fits_two, AreAnswer}
+use Rattle.sm_judge.specs.Verdicts.{AtLine, IsVerdict}
+use Rattle.sm_judge.specs.Judging.{Subject, answer, couples, parties, Clauses, Holds}
+use Rattle.sm_judge.specs.Judges.{IsOwnLine, input_of}
 use Rattle.sm_cert.specs.Checking.{HasSeatsFault, IsCertFault, of_seats, first_head, says_none}
 
 -- each line of an answer is one of the instance, and of its form

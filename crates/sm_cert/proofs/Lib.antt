@@ -1,19 +1,6 @@
 mod VerdictLaws
 mod JudgedLaws
-mod LayoutLemmas
-mod JudgingLemmas
-mod ListingLemmas
-mod SolvingLemmas
-mod SeatPairLemmas
-mod ChainLengths
-mod WalkLemmas
-mod SeatListLemmas
-mod ReducedLemmas
-mod VectorLemmas
-mod LeftLemmas
-mod TakingLemmas
 mod CheckLemmas
-mod SeatLemmas
 mod YesLines
 mod YesPairs
 mod GroupLemmas
@@ -31,12 +18,4 @@ mod CouplesYes
 mod NoneYes
 mod LinewiseLemmas
 mod WitnessLemmas
-mod AnswerLemmas
-mod PairLemmas
-mod RegretLemmas
-pub mod WantedLemmas
 mod WeightLemmas
-mod PersonLemmas
-mod CoupleLemmas
-mod PartyLemmas
-pub mod ChosenLemmas

@@ -5,9 +5,9 @@ use Rattle.std.specs.List.{slice_get}
 use Rattle.std.proofs.lemmas.Bool.{false≢true}
 use Rattle.sm_lists.proofs.Counting.{lt_or_le}
 use Rattle.sm_report.specs.Lines.{LineData}
-use Rattle.sm_cert.specs.declared.verdicts.Reason.{Reason}
-use Rattle.sm_cert.specs.Verdicts.{AtLine}
-use Rattle.sm_cert.proofs.JudgingLemmas.{past_end}
+use Rattle.sm_judge.specs.declared.verdicts.Reason.{Reason}
+use Rattle.sm_judge.specs.Verdicts.{AtLine}
+use Rattle.sm_judge.proofs.JudgingLemmas.{past_end}
 
 -- all clauses hold at each of the lines behind those above
 abbrev pub AllHold : (List LineData → LineData → Reason → Type 0) → (above lines : List LineData) → Type 0

@@ -12,13 +12,13 @@ use Rattle.sm_instance.specs.declared.inputs.Input.TheVariants.{Two}
 use Rattle.sm_theory.specs.Listings.{IsBehind, end_of}
 use Rattle.sm_report.specs.Heads.{HeadData}
 use Rattle.sm_report.specs.Lines.{LineData}
-use Rattle.sm_cert.specs.declared.verdicts.Reason.{Reason}
-use Rattle.sm_cert.specs.declared.verdicts.Reason.TheVariants as reason
+use Rattle.sm_judge.specs.declared.verdicts.Reason.{Reason}
+use Rattle.sm_judge.specs.declared.verdicts.Reason.TheVariants as reason
 use Rattle.sm_seats.specs.Vectors.{IsAllowedRankVector}
-use Rattle.sm_cert.specs.Verdicts.{AtLine}
-use Rattle.sm_cert.specs.Said.{vector_in, vectors_in}
-use Rattle.sm_cert.specs.Vectors.{ListHolds, VectorHolds, ListClauses, order_of, places_of_ranks}
-use Rattle.sm_cert.specs.Judging.{Holds}
+use Rattle.sm_judge.specs.Verdicts.{AtLine}
+use Rattle.sm_judge.specs.Said.{vector_in, vectors_in}
+use Rattle.sm_judge.specs.Vectors.{ListHolds, VectorHolds, ListClauses, order_of, places_of_ranks}
+use Rattle.sm_judge.specs.Judging.{Holds}
 use Rattle.sm_cert.specs.Yes.{AreListed, ListYes}
 use Rattle.sm_cert.proofs.YesLines.{by_head, grown}
 

@@ -6,13 +6,13 @@ use Rattle.std.proofs.lemmas.Bool.{false≢true}
 use Rattle.std.proofs.lemmas.List.Elements.{filter_map-append}
 use Rattle.sm_instance.specs.Written.{Written}
 use Rattle.sm_report.specs.Lines.{LineData}
-use Rattle.sm_cert.specs.declared.keywords.Keyword.TheVariants as keyword
-use Rattle.sm_cert.specs.declared.layouts.Part.{Part}
-use Rattle.sm_cert.specs.declared.layouts.Part.TheVariants.{One, Many, Blocks}
-use Rattle.sm_cert.specs.Keywords.{keyword_of, number_of}
-use Rattle.sm_cert.specs.Layouts.{behind, is_whole, is_empty, left_behind}
-use Rattle.sm_cert.specs.Forms.{blocks_of, opening_of}
-use Rattle.sm_cert.specs.Said.{first_in, rotation_in, rotations_in, needs_in, all_needs_in, is_up_to_rotations}
+use Rattle.sm_forms.specs.declared.keywords.Keyword.TheVariants as keyword
+use Rattle.sm_forms.specs.declared.layouts.Part.{Part}
+use Rattle.sm_forms.specs.declared.layouts.Part.TheVariants.{One, Many, Blocks}
+use Rattle.sm_forms.specs.Keywords.{keyword_of, number_of}
+use Rattle.sm_forms.specs.Layouts.{behind, is_whole, is_empty, left_behind}
+use Rattle.sm_forms.specs.Forms.{blocks_of, opening_of}
+use Rattle.sm_judge.specs.Said.{first_in, rotation_in, rotations_in, needs_in, all_needs_in, is_up_to_rotations}
 use Rattle.sm_cert.proofs.GroupLemmas.{Tells, AllOut, AreDown, goes, out_step, OutStep, is_down, all_down, none_said}
 use Rattle.sm_cert.proofs.YesLines.{some_same, no_line}
 

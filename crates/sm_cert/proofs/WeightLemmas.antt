@@ -22,14 +22,14 @@ use Rattle.sm_report.specs.declared.lines.Seat.{Seat}
 use Rattle.sm_report.specs.Heads.{HeadData}
 use Rattle.sm_report.specs.Lines.{LineData}
 use Rattle.sm_report.specs.Texts.{SINK}
-use Rattle.sm_cert.specs.declared.verdicts.Reason.{Reason}
-use Rattle.sm_cert.specs.declared.verdicts.Reason.TheVariants as reason
-use Rattle.sm_cert.specs.Verdicts.{number_of_reason}
-use Rattle.sm_cert.specs.Said.{first_in, firsts_in, rotation_in, rotations_in, needs_in, gain_in, taken_in, pair_in, pairs_in, is_end, is_up_to_firsts, is_up_to_rotations, IsFirstBehind}
-use Rattle.sm_cert.specs.Pairs.{IsWanted, WantedHold, AreAllThere}
-use Rattle.sm_cert.specs.SeatMatchings.{IsFreeSeat, FirstsHold, first_of}
-use Rattle.sm_cert.specs.Chain.{reached, last_rotation, ChainHolds}
-use Rattle.sm_cert.specs.Flows.{net_in, first_level, LevelHolds, TakenHolds, IsAllowedSet, taken_matching, WeightHolds}
+use Rattle.sm_judge.specs.declared.verdicts.Reason.{Reason}
+use Rattle.sm_judge.specs.declared.verdicts.Reason.TheVariants as reason
+use Rattle.sm_judge.specs.Verdicts.{number_of_reason}
+use Rattle.sm_judge.specs.Said.{first_in, firsts_in, rotation_in, rotations_in, needs_in, gain_in, taken_in, pair_in, pairs_in, is_end, is_up_to_firsts, is_up_to_rotations, IsFirstBehind}
+use Rattle.sm_judge.specs.Pairs.{IsWanted, WantedHold, AreAllThere}
+use Rattle.sm_judge.specs.SeatMatchings.{IsFreeSeat, FirstsHold, first_of}
+use Rattle.sm_judge.specs.Chain.{reached, last_rotation, ChainHolds}
+use Rattle.sm_judge.specs.Flows.{net_in, first_level, LevelHolds, TakenHolds, IsAllowedSet, taken_matching, WeightHolds}
 use Rattle.sm_cert.specs.Witnesses.{seat}
 use Rattle.sm_cert.specs.WitnessesWeight.{three_by_three, weight_lines, WeightAnswers}
 use Rattle.sm_cert.proofs.LinewiseLemmas.{AllHold, hold_at, hold_append, all_hold, no_end}

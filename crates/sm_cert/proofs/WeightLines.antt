@@ -7,14 +7,14 @@ use Rattle.std.proofs.lemmas.List.Folds.{list_all-append}
 use Rattle.std.proofs.lemmas.List.Elements.{filter_map-append}
 use Rattle.sm_theory.proofs.Net.Tests.{and_parts, and_true}
 use Rattle.sm_report.specs.Lines.{LineData}
-use Rattle.sm_cert.specs.declared.keywords.Keyword.{Keyword}
-use Rattle.sm_cert.specs.declared.keywords.Keyword.TheVariants as keyword
-use Rattle.sm_cert.specs.declared.layouts.Part.{Part}
-use Rattle.sm_cert.specs.declared.layouts.Part.TheVariants.{One, Many}
-use Rattle.sm_cert.specs.Keywords.{keyword_of, number_of}
-use Rattle.sm_cert.specs.Layouts.{begins, behind, left_behind, is_empty, is_whole}
-use Rattle.sm_cert.specs.Forms.{closing, opening_of}
-use Rattle.sm_cert.specs.Said.{taken_in, value_in, total_in, is_up_to_rotations}
+use Rattle.sm_forms.specs.declared.keywords.Keyword.{Keyword}
+use Rattle.sm_forms.specs.declared.keywords.Keyword.TheVariants as keyword
+use Rattle.sm_forms.specs.declared.layouts.Part.{Part}
+use Rattle.sm_forms.specs.declared.layouts.Part.TheVariants.{One, Many}
+use Rattle.sm_forms.specs.Keywords.{keyword_of, number_of}
+use Rattle.sm_forms.specs.Layouts.{begins, behind, left_behind, is_empty, is_whole}
+use Rattle.sm_forms.specs.Forms.{closing, opening_of}
+use Rattle.sm_judge.specs.Said.{taken_in, value_in, total_in, is_up_to_rotations}
 use Rattle.sm_cert.proofs.GroupLemmas.{Tells, AllOut, Parted, goes, all_down, none_said, none_up}
 use Rattle.sm_cert.proofs.RotationLines.{rotation_words, Splits, one_split}
 use Rattle.sm_cert.proofs.YesLines.{some_same}

@@ -12,16 +12,16 @@ use Rattle.sm_instance.specs.declared.inputs.Input.{Input}
 use Rattle.sm_instance.specs.declared.inputs.Input.TheVariants.{Two, Room}
 use Rattle.sm_report.specs.Heads.{HeadData}
 use Rattle.sm_report.specs.Lines.{LineData}
-use Rattle.sm_cert.specs.declared.keywords.Keyword.TheVariants as keyword
-use Rattle.sm_cert.specs.declared.layouts.Opening.{Opening}
-use Rattle.sm_cert.specs.declared.verdicts.Reason.{Reason}
-use Rattle.sm_cert.specs.Layouts.{begins, is_whole}
-use Rattle.sm_cert.specs.Forms.{layouts_of, opening_of, is_placed}
-use Rattle.sm_cert.specs.Verdicts.{AtLine}
-use Rattle.sm_cert.specs.Judging.{Subject, answer, couples, parties, Clauses, Holds}
-use Rattle.sm_cert.specs.Laws.{closing_of, EndsWith}
+use Rattle.sm_forms.specs.declared.keywords.Keyword.TheVariants as keyword
+use Rattle.sm_forms.specs.declared.layouts.Opening.{Opening}
+use Rattle.sm_judge.specs.declared.verdicts.Reason.{Reason}
+use Rattle.sm_forms.specs.Layouts.{begins, is_whole}
+use Rattle.sm_forms.specs.Forms.{layouts_of, opening_of, is_placed}
+use Rattle.sm_judge.specs.Verdicts.{AtLine}
+use Rattle.sm_judge.specs.Judging.{Subject, answer, couples, parties, Clauses, Holds}
+use Rattle.sm_forms.specs.Laws.{closing_of, EndsWith}
 use Rattle.sm_cert.specs.Yes.{GetsYes}
-use Rattle.sm_cert.proofs.LayoutLemmas.{whole_ends}
+use Rattle.sm_forms.proofs.LayoutLemmas.{whole_ends}
 
 pub some_same : {X : Type 0} {x y : X} → Some x ≡ Some y → x ≡ y
 some_same e = cc

@@ -12,7 +12,7 @@ use Rattle.sm_market.specs.Matching.{held}
 use Rattle.sm_pairs.specs.Held.{partner_in, pair_at}
 use Rattle.sm_pairs.proofs.HoldingLemmas.{here_later}
 use Rattle.sm_cert.specs.Yes.{AreApart, ArePairsOf}
-use Rattle.sm_cert.proofs.CoupleLemmas.{partner_behind}
+use Rattle.sm_judge.proofs.CoupleLemmas.{partner_behind}
 use Rattle.sm_cert.proofs.YesLines.{some_same}
 
 pub only_one : {X : Type 0} {x y : X} → Contains (x ∷ []) y → x ≡ y

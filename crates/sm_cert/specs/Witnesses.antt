@@ -6,10 +6,10 @@ use Rattle.sm_instance.specs.declared.kinds.Kind.TheVariants.{Marriage}
 use Rattle.sm_report.specs.declared.lines.Seat.{Seat}
 use Rattle.sm_report.specs.Heads.{HeadData}
 use Rattle.sm_report.specs.Lines.{LineData}
-use Rattle.sm_cert.specs.declared.verdicts.Reason.TheVariants as reason
-use Rattle.sm_cert.specs.declared.verdicts.Verdict.TheVariants as verdict
-use Rattle.sm_cert.specs.Verdicts.{IsVerdict}
-use Rattle.sm_cert.specs.Judging.{Holds, IsJudged}
+use Rattle.sm_judge.specs.declared.verdicts.Reason.TheVariants as reason
+use Rattle.sm_judge.specs.declared.verdicts.Verdict.TheVariants as verdict
+use Rattle.sm_judge.specs.Verdicts.{IsVerdict}
+use Rattle.sm_judge.specs.Judging.{Holds, IsJudged}
 
 abbrev pub agent : List ℕ → ℕ → List ℕ → AgentData
 agent name line entries = record { name = name; capacity = 1; line = line; entries = entries }

@@ -12,14 +12,14 @@ use Rattle.sm_theory.specs.WitnessesFlows.{three_cycle_weights, three_cycle_leve
 use Rattle.sm_seats.specs.SeatMarket.{seat_market}
 use Rattle.sm_seats.specs.Seating.{seating_of, levels_of}
 use Rattle.sm_seats.specs.Correspondence.{weights_of}
-use Rattle.sm_cert.specs.declared.verdicts.Reason.TheVariants as reason
-use Rattle.sm_cert.specs.declared.verdicts.Verdict.TheVariants as verdict
-use Rattle.sm_cert.specs.Layouts.{is_whole}
-use Rattle.sm_cert.specs.Forms.{is_placed}
-use Rattle.sm_cert.specs.Verdicts.{IsVerdict}
-use Rattle.sm_cert.specs.Said.{rotations_in, all_needs_in}
-use Rattle.sm_cert.specs.SeatMatchings.{first_of}
-use Rattle.sm_cert.specs.Judging.{Holds}
+use Rattle.sm_judge.specs.declared.verdicts.Reason.TheVariants as reason
+use Rattle.sm_judge.specs.declared.verdicts.Verdict.TheVariants as verdict
+use Rattle.sm_forms.specs.Layouts.{is_whole}
+use Rattle.sm_forms.specs.Forms.{is_placed}
+use Rattle.sm_judge.specs.Verdicts.{IsVerdict}
+use Rattle.sm_judge.specs.Said.{rotations_in, all_needs_in}
+use Rattle.sm_judge.specs.SeatMatchings.{first_of}
+use Rattle.sm_judge.specs.Judging.{Holds}
 use Rattle.sm_cert.specs.Witnesses.{agent, seat}
 
 -- each proposer likes another reviewer best, and each reviewer another proposer; the first proposer weighs 4 with b and -10

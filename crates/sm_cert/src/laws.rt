@@ -1,7 +1,8 @@
-//! The laws of verdicts and layouts, and what a yes means. Each function does nothing: its contract is the law, a statement
+//! The laws of verdicts, and what a yes means. Each function does nothing: its contract is the law, a statement
 //! over the definitions alone.
 
-ghost use Rattle.sm_cert.specs.Laws.{OneVerdict, OneJudgement, JudgedIsntBad, WholeIsBegun, WholeEnds};
+ghost use Rattle.sm_forms.specs.Laws.{WholeIsBegun, WholeEnds};
+ghost use Rattle.sm_cert.specs.Laws.{OneVerdict, OneJudgement, JudgedIsntBad};
 ghost use Rattle.sm_cert.specs.Yes.{ListYes, SolveYes, CouplesYes, NoneYes, RegretYes, MeetYes, JoinYes, ReducedYes, RotationsYes, WeightYes};
 
 /// There is no more than one verdict on an answer.
@@ -17,16 +18,6 @@ pub fn one_judgement()
 /// A text on which there is a verdict is of the form of an answer.
 pub fn judged_isnt_bad()
     ensures { JudgedIsntBad }
-{}
-
-/// The first lines of a whole answer begin an answer.
-pub fn whole_is_begun()
-    ensures { WholeIsBegun }
-{}
-
-/// A whole answer ends with a closing line.
-pub fn whole_ends()
-    ensures { WholeEnds }
 {}
 
 /// Where an answer of `list` gets a yes, its vectors are those of allowed stable matchings, and rise from the cursor.

@@ -80,22 +80,6 @@ pub row_is : (rows others : List (List ℕ)) (worst theirs : List (Option ℕ)) 
     → row (map (reduced_row rows others worst theirs) (range_with_len 0 (length rows))) a ≡ filter (stays rows others worst theirs a) (row rows a)
 row_is rows others worst theirs a less = get_or-map-range_with_len (reduced_row rows others worst theirs) 0 (length rows) a a [] less (omega arith)
 
--- a place that is as good as the one that is held
-pub as_good_is : (rows : List (List ℕ)) (places : List (Option ℕ)) (a b place : ℕ) (t : Bool) → place ≡ place_of rows a b
-    → MatchOption (held places a) (t ≡ false) (λ worst. t ≡ nat_le place worst) → t ≡ is_no_worse rows places a b
-as_good_is rows places a b place t e h = go (held places a) refl h
-  where
-    go : (o : Option ℕ) → held places a ≡ o → MatchOption o (t ≡ false) (λ worst. t ≡ nat_le place worst) → t ≡ is_no_worse rows places a b
-    go None is h = rw is h
-    go (Some worst) is h = rw (is, sym e) h
-
--- both halves of a test
-pub both : {s : Bool} (t : Bool) → s ≡ true → (s && t) ≡ t
-both t e = rw e refl
-
-pub not_both : {s : Bool} (t : Bool) → s ≡ false → (s && t) ≡ false
-not_both t e = rw e refl
-
 -- the test of a proposer's place is that of the reviewer who stands there
 pub seen_back : (proposers reviewers : List (List ℕ)) (last first : List (Option ℕ)) (p r : ℕ) {at : ℕ} {t : Bool} → at < length (row proposers p) → at ≡ place_of proposers p r
     → t ≡ (is_no_worse proposers last p (entry proposers p at) && is_no_worse reviewers first (entry proposers p at) p) → stays reviewers proposers first last r p ≡ t

@@ -5,13 +5,3 @@ pub mod Laws
 pub mod Witnesses
 pub mod Rooms
 pub mod RoomsKept
-pub mod FlowSums
-pub mod Pairs
-pub mod CheckedNets
-pub mod Repeats
-pub mod Reaching
-pub mod Residual
-pub mod Moves
-pub mod Spans
-pub mod SetPlaces
-pub mod WitnessesNets

@@ -206,8 +206,9 @@ fn mark_moves(
     }
 }
 
-/// The place to which the proposer of a pair of an exposed rotation moves.
-pub(crate) fn place_behind(market: &Market, m: &Pairing, pairs: &[(u32, u32)], i: usize) -> u32
+/// The place to which the proposer of a pair of an exposed rotation moves, places and pairs counted from 0. Takes time in
+/// proportion to the places by which it moves down its list (Gusfield and Irving 1989, section 2.5).
+pub fn place_behind(market: &Market, m: &Pairing, pairs: &[(u32, u32)], i: usize) -> u32
     requires in_range { i < length pairs.now }
     requires made { IsPairingOf market.now m.now }
     requires exposed { IsExposed market.now m.now.places pairs.now }

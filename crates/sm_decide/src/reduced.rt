@@ -5,7 +5,7 @@ ghost use Rattle.sm_market.specs.Lists.{row, entry};
 ghost use Rattle.sm_market.specs.Pairing.{IsPairingOf};
 ghost use Rattle.sm_market.specs.Reduced.{is_no_worse, reduced_lists_of};
 
-use sm_market::{Market, Pairing};
+use sm_market::{Market, Pairing, is_between};
 
 /// Whether a list is that of a proposer in the reduced lists of a market, where `first` is the proposers' best and `last` the
 /// reviewers' best.
@@ -28,7 +28,7 @@ pub fn is_reduced_proposer_list(
     let mut next = 0;
     for place in 0..market.proposer_len(p) {
         let r = market.reviewer_at(p, place);
-        if is_kept(market, first, last, p, place) {
+        if is_between(market, first, last, p, place) {
             if !stands_at(list, next, r) {
                 return false;
             }
@@ -38,7 +38,8 @@ pub fn is_reduced_proposer_list(
     next == list.len()
 }
 
-/// The same of a reviewer's list.
+/// Whether a list is that of a reviewer in the reduced lists of a market, as [`is_reduced_proposer_list`] says it of a
+/// proposer. Takes time in proportion to the reviewer's list in the market.
 pub fn is_reduced_reviewer_list(
     market: &Market,
     first: &Pairing,
@@ -55,7 +56,7 @@ pub fn is_reduced_reviewer_list(
     let mut next = 0;
     for place in 0..market.reviewer_len(r) {
         let p = market.proposer_at(r, place);
-        if is_kept(market, first, last, p, market.reviewer_cross(r, place)) {
+        if is_between(market, first, last, p, market.reviewer_cross(r, place)) {
             if !stands_at(list, next, p) {
                 return false;
             }
@@ -63,30 +64,6 @@ pub fn is_reduced_reviewer_list(
         }
     }
     next == list.len()
-}
-
-/// Whether a proposer and the reviewer at a place of its list keep each other on the reduced lists.
-fn is_kept(market: &Market, first: &Pairing, last: &Pairing, p: u32, place: u32) -> bool
-    requires in_range { p < length market.now.proposers }
-    requires on_list { place < length (row market.now.proposers p) }
-    requires first { IsPairingOf market.now first.now }
-    requires last { IsPairingOf market.now last.now }
-    ensures { let r = entry market.now.proposers p place in
-        result ≡ (is_no_worse market.now.proposers last.now.places.proposers p r
-        && is_no_worse market.now.reviewers first.now.places.reviewers r p) }
-{
-    let r = market.reviewer_at(p, place);
-    is_as_good(place, last.place(p)) && is_as_good(market.cross(p, place), first.reviewer_place(r))
-}
-
-/// Whether a place is as good as the one that an agent holds. `None` is where the agent is unmatched.
-fn is_as_good(place: u32, held: Option<u32>) -> bool
-    ensures { MatchOption held (result ≡ false) (λ worst. result ≡ nat_le place worst) }
-{
-    match held {
-        Some(worst) => place <= worst,
-        None => false,
-    }
 }
 
 /// Whether a number stands at a place of a list.

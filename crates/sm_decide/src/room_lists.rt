@@ -47,7 +47,7 @@ impl<'a> RoomLists<'a> {
         })
     }
 
-    /// How many persons there are.
+    /// How many persons there are. Takes constant time.
     pub fn persons(&self) -> u32
         ensures count { result ≡ length self.now }
         ensures lists { AreRoomLists self.now }
@@ -57,7 +57,7 @@ impl<'a> RoomLists<'a> {
         self.lists.len() as u32
     }
 
-    /// A person's list, best first.
+    /// A person's list, best first. Takes constant time.
     pub fn list(&self, x: u32) -> &[u32]
         requires { x < length self.now }
         ensures list { result.now ≡ row self.now x }
@@ -67,7 +67,7 @@ impl<'a> RoomLists<'a> {
         self.lists[x as usize]
     }
 
-    /// How many entries a person's list has.
+    /// How many entries a person's list has. Takes constant time.
     pub fn len(&self, x: u32) -> u32
         requires { x < length self.now }
         ensures count { result ≡ length (row self.now x) }
@@ -76,7 +76,7 @@ impl<'a> RoomLists<'a> {
         self.list(x).len() as u32
     }
 
-    /// The person at a place of a person's list.
+    /// The person at a place of a person's list, places counted from 0. Takes constant time.
     pub fn at(&self, x: u32, place: u32) -> u32
         requires in_range { x < length self.now }
         requires on_list { place < length (row self.now x) }
@@ -103,7 +103,8 @@ impl<'a> RoomLists<'a> {
         entry_at(&self.crosses, x, place).place()
     }
 
-    /// The place of `y` on `x`'s list, or the length of that list where it isn't on it. Looks through the list.
+    /// The place of `y` on `x`'s list, or the length of that list where it isn't on it. Looks through the list, so it takes
+    /// time in proportion to it.
     pub fn place(&self, x: u32, y: u32) -> u32
         requires { x < length self.now }
         ensures place { result ≡ place_of self.now x y }
@@ -116,7 +117,7 @@ impl<'a> RoomLists<'a> {
         self.len(x)
     }
 
-    /// Whether two persons list each other. Looks through `x`'s list.
+    /// Whether two persons list each other. Looks through `x`'s list, so it takes time in proportion to it.
     pub fn is_acceptable(&self, x: u32, y: u32) -> bool
         requires { x < length self.now }
         ensures { IsTrue result ↔ IsAcceptable self.now x y }

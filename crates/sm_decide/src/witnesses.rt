@@ -1,8 +1,7 @@
-//! Small markets and a net of which the checker computes what the definitions say, so that they are not about nothing. Each
-//! function does nothing: its contract is the statement.
+//! Small markets of which the checker computes what the definitions say, so that they are not about nothing. Each function does
+//! nothing: its contract is the statement.
 
 ghost use Rattle.sm_decide.specs.Witnesses.{SeatIsPassed, RotationIsFound};
-ghost use Rattle.sm_decide.specs.WitnessesNets.{WorkedMoves, WorkedSteps, LastIsRepeated};
 
 /// How far the search for successors may have gone at two matchings.
 pub fn seat_is_passed()
@@ -12,19 +11,4 @@ pub fn seat_is_passed()
 /// Who is in an exposed rotation with whom.
 pub fn rotation_is_found()
     ensures { RotationIsFound }
-{}
-
-/// How the rotations of three proposers move them, with their gains, the bonds of conditions, and places of sets.
-pub fn worked_moves()
-    ensures { WorkedMoves }
-{}
-
-/// The residual steps of the flow of value 4 in their net.
-pub fn worked_steps()
-    ensures { WorkedSteps }
-{}
-
-/// Which of four lines has the ends of an earlier one.
-pub fn last_is_repeated()
-    ensures { LastIsRepeated }
 {}

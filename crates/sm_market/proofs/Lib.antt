@@ -2,6 +2,7 @@ pub mod PlaceLemmas
 pub mod WalkLemmas
 pub mod SeatLemmas
 pub mod PairingLemmas
+pub mod ReducedLemmas
 pub mod CycleLemmas
 pub mod TurnLemmas
 pub mod CheckLemmas

@@ -15,8 +15,10 @@ mod faults;
 pub mod laws;
 mod lists;
 mod pairs;
+mod reduced;
 pub mod witnesses;
 
 pub use faults::{MarketFault, PairingFault, Side};
 pub use lists::Market;
 pub use pairs::{Pairing, next_in};
+pub use reduced::is_between;

@@ -16,7 +16,7 @@ use Rattle.sm_theory.proofs.Bridge.Rotation.{exposed_of, elim_of}
 -- a chain with one more rotation, passed on
 pub use Rattle.sm_theory.proofs.Bridge.Chain.{rotation_before, rotation_new, stage_before}
 use Rattle.sm_rotations.specs.Chaining.{LeadsTo}
-use Rattle.sm_rotations.proofs.CountLemmas.{sum_below, sums_le, sums_less, sum_of_lengths}
+use Rattle.sm_theory.proofs.Chains.Length.{sum_below, sums_le, sums_less, sum_of_lengths}
 
 pub leads_start : (l : Lists) (first m : Places) → m ≡ first → LeadsTo l first [] m
 leads_start l first m e = record { lowest = λ k less. absurd (omega arith); at_end = e }

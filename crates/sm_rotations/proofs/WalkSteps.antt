@@ -14,7 +14,7 @@ use Rattle.sm_rotations.specs.Walking.{IsNext, IsAtWorst, IsStack, ArePairsOf, s
 use Rattle.sm_rotations.proofs.WalkLemmas.{worst_at_end, worst_before, stack_exposed}
 use Rattle.sm_rotations.proofs.StackLemmas.{walk_finishes, walk_goes_on, walk_takes_off}
 use Rattle.sm_rotations.proofs.ChainingLemmas.{places_below}
-use Rattle.sm_rotations.proofs.CountLemmas.{sum_below, sum_below-zero, sum_below-suc, sums_le, sums_less}
+use Rattle.sm_theory.proofs.Chains.Length.{sum_below, sum_below-zero, sum_below-suc, sums_le, sums_less}
 
 false_true : ◌≡◌ {A = Bool} false true → ⊥
 false_true e = grind arith

@@ -9,3 +9,4 @@ pub mod Links
 pub mod Holders
 pub mod Best
 pub mod NoneBelow
+pub mod Length

@@ -11,7 +11,8 @@ pub enum Choice {
     Worse,
 }
 
-/// The chosen one of two places on a list, where being unmatched is worse than every place.
+/// The chosen one of two places on a list, where being unmatched is worse than every place. Places count from 0, and `None` is
+/// where a proposer is unmatched. Takes constant time (Gusfield and Irving 1989, section 1.3.1).
 pub fn chosen_place(choice: Choice, first: Option<u32>, second: Option<u32>) -> Option<u32>
     ensures { result ≡ chosen choice first second }
 {

@@ -9,7 +9,12 @@ ghost use Rattle.sm_theory.specs.Marks.{marks_in, marks_of, mark_at, AreMarksFor
 use sm_market::Market;
 use std::alloc::{AllocError, Global};
 
-/// A place for a mark beside each entry of the proposers' lists, and no mark.
+/// A place for a mark beside each entry of the proposers' lists, and no mark. Takes time and memory in proportion to the agents
+/// and entries.
+///
+/// # Errors
+///
+/// `AllocError` where memory ran out, and only then.
 pub fn no_marks(alloc: Global, market: &Market) -> Result<Vec<Vec<Option<u32>>>, AllocError>
     ensures for_entries { IfOk result (λ marks. AreMarksFor market.now (marks_in marks.items)) }
     ensures none { IfOk result (λ marks. (p x : ℕ) → mark_at (marks_in marks.items) p x ≡ None) }
@@ -21,7 +26,8 @@ pub fn no_marks(alloc: Global, market: &Market) -> Result<Vec<Vec<Option<u32>>>,
     Ok(marks)
 }
 
-/// Notes a rotation with each proposer that it moves.
+/// Notes a rotation, by its number `j`, with each proposer that it moves: `last[p]` is `j` afterwards where `p` is in the
+/// rotation, and what it was before elsewhere. Takes time in proportion to the rotation's pairs.
 pub fn note_movers(pairs: &[(u32, u32)], j: u32, last: &mut [Option<u32>])
     requires in_range { (i : ℕ) → i < length pairs.now → proposer_at pairs.now i < length last.old }
     ensures { AreMoved pairs.now (length pairs.now) j last.old last.new }
@@ -31,7 +37,8 @@ pub fn note_movers(pairs: &[(u32, u32)], j: u32, last: &mut [Option<u32>])
     }
 }
 
-/// Marks a reviewer's entries behind one place of its list and before another.
+/// Marks a reviewer's entries behind one place of its list and before another with a rotation's number `j`, each at its place
+/// on the proposer's list. Places count from 0. Takes time in proportion to the entries that are marked.
 pub fn mark_span(
     market: &Market,
     r: u32,

@@ -3,7 +3,7 @@ use Rattle.std.proofs.lemmas.List.{length-map}
 use Rattle.sm_text.specs.Lines.{lines, content}
 use Rattle.sm_report.specs.declared.lines.Line.{Line}
 use Rattle.sm_report.specs.Lines.{line_of}
-use Rattle.sm_cert.specs.Judges.{IsOwnLine}
+use Rattle.sm_judge.specs.Judges.{IsOwnLine}
 use Rattle.sm_text.proofs.LineLemmas.{length-lines-le}
 use Rattle.sm_cert.proofs.CheckLemmas.{as_many, own_lines}
 use Rattle.sm_cert.proofs.checking.check.Goals as goal

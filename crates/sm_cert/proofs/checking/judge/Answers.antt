@@ -1,5 +1,5 @@
 use Rattle.std.proofs.Common.{sym}
-use Rattle.sm_cert.specs.Judging.{answer, couples, parties}
+use Rattle.sm_judge.specs.Judging.{answer, couples, parties}
 use Rattle.sm_cert.proofs.checking.judge.Goals as goal
 
 pub judge_two-requires-clause-own : goal.judge_two-requires-clause-own

@@ -1,5 +1,0 @@
-use Rattle.sm_decide.proofs.MoveLemmas.{moves_have_levels}
-use Rattle.sm_decide.proofs.laws.moves_have_levels.Goals as goal
-
-pub returns : goal.returns
-returns c = moves_have_levels

@@ -1,0 +1,4 @@
+pub mod LayoutLemmas
+pub mod LeftLemmas
+pub mod TakingLemmas
+pub mod SeatLemmas

@@ -1,0 +1,155 @@
+-- The form of an answer: its layouts by its head, and what each of its lines has to be on its own.
+use Rattle.std.specs.Prelude.{◌≡◌, ℕ, suc, ◌+◌, ◌<◌, ◌==◌, nat_lt, nat_le, Bool, true, false, List, [], ◌∷◌, map, take, length, Some, All}
+use Rattle.std.specs.List.{list_all}
+use Rattle.sm_instance.specs.Written.{Written}
+use Rattle.sm_instance.specs.declared.inputs.Input.{Input}
+use Rattle.sm_instance.specs.declared.inputs.Input.TheVariants.{Two, Room}
+use Rattle.sm_report.specs.Heads.{HeadData}
+use Rattle.sm_report.specs.Lines.{LineData}
+use Rattle.sm_report.specs.Texts.{text_of_line}
+use Rattle.sm_report.specs.Sound.{seats_of, IsLineOf}
+use Rattle.sm_forms.specs.declared.keywords.Keyword.{Keyword}
+use Rattle.sm_forms.specs.declared.keywords.Keyword.TheVariants as keyword
+use Rattle.sm_forms.specs.Keywords.{keyword_of}
+use Rattle.sm_forms.specs.declared.layouts.Part.{Part}
+use Rattle.sm_forms.specs.declared.layouts.Part.TheVariants.{One, Many, Blocks}
+use Rattle.sm_forms.specs.declared.layouts.Turn.{Turn}
+use Rattle.sm_forms.specs.declared.layouts.Opening.{Opening}
+use Rattle.sm_forms.specs.Layouts.{is_begun, is_whole}
+use Rattle.sm_forms.specs.Seats.{is_seat}
+
+-- The layouts of an answer behind its head. An answer that can't be checked has none.
+
+abbrev pub closing : List Part
+closing = One keyword.End ∷ []
+
+-- blocks of so many lines, numbered from 1
+abbrev pub first_turn : ℕ → Turn
+first_turn lines = record { lines = lines; place = 0; number = 1 }
+
+abbrev pub blocks_of : ℕ → Part
+blocks_of lines = Blocks (first_turn lines)
+
+abbrev pub solve_layout : List Part
+solve_layout = Many keyword.Pair ∷ closing
+
+abbrev pub parties_layout : List Part
+parties_layout = One keyword.Nothing ∷ Many keyword.Party ∷ closing
+
+abbrev pub reduced_layout : List Part
+reduced_layout = Many keyword.First ∷ Many keyword.Last ∷ Many keyword.Proposer ∷ Many keyword.Reviewer ∷ closing
+
+abbrev pub rotations_layout : List Part
+rotations_layout = Many keyword.First ∷ blocks_of 2 ∷ closing
+
+abbrev pub list_layout : Keyword → List Part
+list_layout last = Many keyword.Vector ∷ One last ∷ []
+
+abbrev pub regret_layout : List Part
+regret_layout = One keyword.Regret ∷ Many keyword.Pair ∷ closing
+
+abbrev pub weight_layout : List Part
+weight_layout =
+    Many keyword.First
+    ∷ blocks_of 3
+    ∷ Many keyword.Flow
+    ∷ One keyword.Taken
+    ∷ One keyword.Value
+    ∷ One keyword.Cut
+    ∷ One keyword.Total
+    ∷ Many keyword.Pair
+    ∷ closing
+
+abbrev pub given_layout : List Part
+given_layout = Many keyword.Left ∷ Many keyword.Right ∷ Many keyword.Pair ∷ closing
+
+-- over an instance with two sides
+abbrev pub layouts_of_two : HeadData → List (List Part)
+layouts_of_two (HeadData.Solve side) = solve_layout ∷ []
+layouts_of_two HeadData.Reduced = reduced_layout ∷ []
+layouts_of_two HeadData.Rotations = rotations_layout ∷ []
+layouts_of_two (HeadData.List after limit) = list_layout keyword.End ∷ list_layout keyword.More ∷ []
+layouts_of_two HeadData.Regret = regret_layout ∷ []
+layouts_of_two (HeadData.Weight by) = weight_layout ∷ []
+layouts_of_two HeadData.Meet = given_layout ∷ []
+layouts_of_two HeadData.Join = given_layout ∷ []
+layouts_of_two _ = []
+
+-- over one of roommates: a matching, or the parties by which there is none
+abbrev pub layouts_of_room : HeadData → List (List Part)
+layouts_of_room (HeadData.Solve side) = solve_layout ∷ parties_layout ∷ []
+layouts_of_room _ = []
+
+abbrev pub layouts_of : Input → HeadData → List (List Part)
+layouts_of (Two w) head = layouts_of_two head
+layouts_of (Room persons) head = layouts_of_room head
+
+-- a line as layouts see it
+abbrev pub number_in : LineData → ℕ
+number_in (LineData.Rotation i pairs) = i
+number_in (LineData.Needs i needed) = i
+number_in (LineData.Gain i gain) = i
+number_in _ = 0
+
+abbrev pub opening_of : LineData → Opening
+opening_of line = record { keyword = keyword_of line; number = number_in line }
+
+-- What a line has to be on its own.
+
+abbrev pub has_one_each : Written → List ℕ → Bool
+has_one_each w v = length v == length w.proposers
+
+-- it has the seats of the instance alone, and one number for each proposer where it has a vector
+abbrev pub fits_two : Written → LineData → Bool
+fits_two w (LineData.Answer (HeadData.List (Some after) limit)) = has_one_each w after
+fits_two w (LineData.Vector v) = has_one_each w v
+fits_two w (LineData.More v) = has_one_each w v
+fits_two w line = list_all (is_seat w) (seats_of line)
+
+-- the lower-numbered person of a pair comes first, and the lowest of a party
+abbrev pub begins_with_lowest : List ℕ → Bool
+begins_with_lowest [] = false
+begins_with_lowest (x ∷ xs) = list_all (nat_le x) xs
+
+abbrev pub fits_room : LineData → Bool
+fits_room (LineData.Pair x y) = nat_lt x y
+fits_room (LineData.Party persons) = begins_with_lowest persons
+fits_room _ = true
+
+abbrev pub fits : Input → LineData → Bool
+fits (Two w) line = fits_two w line
+fits (Room persons) line = fits_room line
+
+-- The form of an answer, and the first of its lines that isn't of it.
+
+-- the lines are the first of an answer, or a whole one
+abbrev pub is_placed : (List (List Part) → List Opening → Bool) → Input → List LineData → Bool
+is_placed test input (LineData.Answer head ∷ lines) = test (layouts_of input head) (map opening_of lines)
+is_placed test input _ = false
+
+-- these texts are those of lines of an instance that are the first lines of an answer, or a whole answer
+pub record AreLines (test : List (List Part) → List Opening → Bool)
+    (input : Input) (texts : List (List ℕ)) (lines : List LineData) : Type 0 where
+  pub read : map (text_of_line input) lines ≡ texts
+  pub right : All (IsLineOf input) lines
+  pub fitting : list_all (fits input) lines ≡ true
+  pub placed : is_placed test input lines ≡ true
+
+abbrev pub AreFront : Input → List (List ℕ) → List LineData → Type 0
+AreFront input texts lines = AreLines is_begun input texts lines
+
+abbrev pub AreAnswer : Input → List (List ℕ) → List LineData → Type 0
+AreAnswer input texts lines = AreLines is_whole input texts lines
+
+-- some lines are the first of an answer; there may be none
+abbrev pub IsFront : Input → List (List ℕ) → Type 0
+IsFront input [] = Unit {0}
+IsFront input (text ∷ texts) = (lines : List LineData) × AreFront input (text ∷ texts) lines
+
+-- text k is the first that isn't of the form: those before it begin an answer, and with it they don't. Where all of them
+-- begin one and aren't a whole one, it is the one that is missing.
+pub record IsMisplaced (input : Input) (texts : List (List ℕ)) (k : ℕ) : Type 0 where
+  pub within : k < suc (length texts)
+  pub before : IsFront input (take k texts)
+  pub here : k < length texts → ¬ IsFront input (take (k + 1) texts)
+  pub missing : k ≡ length texts → (lines : List LineData) → ¬ AreAnswer input texts lines

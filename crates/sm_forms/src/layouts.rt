@@ -1,0 +1,463 @@
+//! Layouts: which lines of an answer follow which.
+
+ghost use Rattle.std.specs.Prelude.{◌≡◌, ◌∷◌, ◌≤◌, ◌<◌, ◌++◌, [], true, false, None, if◌then◌else◌, filter_map, drop, length, IfOk, MatchOption};
+ghost use Rattle.std.specs.List.{list_any};
+ghost use Rattle.sm_instance.specs.declared.inputs.Input.TheVariants.{Two, Room};
+ghost use Rattle.sm_report.specs.Heads.{head_of};
+ghost use Rattle.sm_report.specs.Lines.{line_of};
+ghost use Rattle.sm_forms.specs.Layouts.{behind, keyword_at, later, is_empty};
+ghost use Rattle.sm_forms.specs.Forms.{opening_of, number_in, layouts_of, layouts_of_two, layouts_of_room, first_turn, solve_layout, parties_layout, reduced_layout, rotations_layout, list_layout, regret_layout, weight_layout, given_layout};
+ghost use Rattle.sm_forms.specs.Lefts.{IsFit, IsTurn, AreTurns, IsTaken, IsRunning, AreRunning, lefts_of, lefts_in};
+
+use crate::keywords::{Keyword, is_same, keyword_of};
+use sm_instance::Input;
+use sm_report::{Head, Line};
+use std::alloc::{AllocError, Global};
+
+/// Whose turn it is among blocks of two lines, `rotation` and `needs`, or of three, with `gain` behind them.
+#[derive(Clone, Copy, Debug)]
+pub(crate) struct Turn {
+    /// How many lines a block has.
+    pub(crate) lines: u32,
+    /// The place in the block of the line that comes next, from 0.
+    pub(crate) place: u32,
+    /// The number of the rotation of the block.
+    pub(crate) number: u32,
+}
+
+/// A part of a layout.
+#[derive(Clone, Copy, Debug)]
+pub(crate) enum Part {
+    /// One line with this keyword.
+    One(Keyword),
+    /// Any number of lines with this keyword.
+    Many(Keyword),
+    /// Any number of blocks.
+    Blocks(Turn),
+}
+
+/// How a line begins: its keyword, and the number of a rotation behind that, 0 where there is none.
+#[derive(Clone, Copy, Debug)]
+pub(crate) struct Opening {
+    pub(crate) keyword: Keyword,
+    pub(crate) number: u32,
+}
+
+/// How a line begins.
+pub(crate) fn opening_of(line: &Line) -> Opening
+    ensures { result ≡ opening_of (line_of line.now) }
+{
+    Opening {
+        keyword: keyword_of(line),
+        number: number_in(line),
+    }
+}
+
+// The number of the rotation with which a line begins.
+fn number_in(line: &Line) -> u32
+    ensures { result ≡ number_in (line_of line.now) }
+{
+    match line {
+        Line::Rotation(i, _) => *i,
+        Line::Needs(i, _) => *i,
+        Line::Gain(i, _) => *i,
+        _ => 0,
+    }
+}
+
+// The keyword of the line at a place of a block.
+fn keyword_at(place: u32) -> Keyword
+    ensures { result ≡ keyword_at place }
+{
+    if place == 0 {
+        Keyword::Rotation
+    } else if place == 1 {
+        Keyword::Needs
+    } else {
+        Keyword::Gain
+    }
+}
+
+// Whose turn it is behind the line whose turn it was.
+fn later(turn: Turn) -> Turn
+    requires turn { IsTurn turn }
+    requires number { turn.number ≤ 4294967294 }
+    ensures later { result ≡ later turn }
+    ensures turn { IsTurn result }
+{
+    if turn.place + 1 == turn.lines {
+        Turn {
+            lines: turn.lines,
+            place: 0,
+            number: turn.number + 1,
+        }
+    } else {
+        Turn {
+            lines: turn.lines,
+            place: turn.place + 1,
+            number: turn.number,
+        }
+    }
+}
+
+// What a part does with a line.
+#[derive(Clone, Copy)]
+enum Fit {
+    // It takes the line.
+    Takes,
+    // It leaves the line to the parts behind it.
+    Passes,
+    // No part may take it.
+    Ends,
+}
+
+// What a part does with a line.
+fn fit_part(part: Part, line: Opening) -> Fit
+    ensures { IsFit part line result }
+{
+    match part {
+        Part::One(word) => if is_same(line.keyword, word) {
+            Fit::Takes
+        } else {
+            Fit::Ends
+        },
+        Part::Many(word) => if is_same(line.keyword, word) {
+            Fit::Takes
+        } else {
+            Fit::Passes
+        },
+        Part::Blocks(turn) => fit_block(turn, line),
+    }
+}
+
+// What blocks do with it.
+fn fit_block(turn: Turn, line: Opening) -> Fit
+    ensures { IsFit (Part.Blocks turn) line result }
+{
+    if is_same(line.keyword, keyword_at(turn.place)) {
+        if line.number == turn.number {
+            Fit::Takes
+        } else {
+            Fit::Ends
+        }
+    } else {
+        if turn.place == 0 {
+            Fit::Passes
+        } else {
+            Fit::Ends
+        }
+    }
+}
+
+// The part that takes a line, of those from a place on.
+fn taking_part(parts: &[Part], from: usize, line: Opening) -> Option<usize>
+    requires { from ≤ length parts.now }
+    ensures { MatchOption result
+        (behind (drop from parts.now) line ≡ None)
+        (λ at. IsTaken parts.now from line at) }
+{
+    for at in from..parts.len() {
+        match fit_part(parts[at], line) {
+            Fit::Takes => return Some(at),
+            Fit::Passes => {}
+            Fit::Ends => return None,
+        }
+    }
+    None
+}
+
+// What is left of a layout behind some lines, if they fit there.
+#[derive(Drop)]
+pub(crate) struct Layout {
+    parts: Vec<Part>,
+    at: usize,
+    fits: bool,
+}
+
+impl Layout {
+    // A layout of which all is left.
+    fn of(parts: Vec<Part>) -> Layout
+        requires { AreTurns parts.items }
+        ensures left { lefts_of result ≡ parts.items ∷ [] }
+        ensures running { IsRunning result }
+    {
+        Layout {
+            parts,
+            at: 0,
+            fits: true,
+        }
+    }
+
+    // No layout.
+    fn none(alloc: Global) -> Layout
+        ensures left { lefts_of result ≡ [] }
+        ensures running { IsRunning result }
+    {
+        Layout {
+            parts: Vec::new(alloc),
+            at: 0,
+            fits: false,
+        }
+    }
+
+    // Goes behind the next line, where it fits.
+    fn take(&mut self, line: Opening)
+        requires running { IsRunning self.old }
+        requires number { line.number ≤ 4294967294 }
+        ensures left { lefts_of self.new ≡ filter_map (λ parts. behind parts line) (lefts_of self.old) }
+        ensures running { IsRunning self.new }
+    {
+        if !self.fits {
+            return;
+        }
+        match taking_part(&self.parts, self.at, line) {
+            Some(at) => self.take_at(at, line),
+            None => self.fits = false,
+        }
+    }
+
+    // Takes a line at a part that takes it.
+    fn take_at(&mut self, at: usize, line: Opening)
+        requires running { IsRunning self.old }
+        requires number { line.number ≤ 4294967294 }
+        requires taken { IsTaken self.old.parts.items self.old.at line at }
+        requires fits { self.old.fits ≡ true }
+        ensures left { lefts_of self.new ≡ filter_map (λ parts. behind parts line) (lefts_of self.old) }
+        ensures running { IsRunning self.new }
+    {
+        match self.parts[at] {
+            Part::One(_) => self.at = at + 1,
+            Part::Many(_) => self.at = at,
+            Part::Blocks(turn) => {
+                self.parts[at] = Part::Blocks(later(turn));
+                self.at = at;
+            }
+        }
+    }
+
+    // Whether they are a whole answer.
+    fn is_whole(&self) -> bool
+        requires { IsRunning self.now }
+        ensures { result ≡ list_any is_empty (lefts_of self.now) }
+    {
+        self.fits && self.at == self.parts.len()
+    }
+}
+
+/// What is left of the layouts of an answer behind some lines. An answer has two layouts at most.
+#[derive(Drop)]
+pub(crate) struct Places {
+    one: Layout,
+    other: Layout,
+}
+
+impl Places {
+    /// No layout.
+    pub(crate) fn none(alloc: Global) -> Places
+        ensures left { lefts_in result ≡ [] }
+        ensures running { AreRunning result }
+    {
+        Places {
+            one: Layout::none(alloc),
+            other: Layout::none(alloc),
+        }
+    }
+
+    /// The layouts of an answer with this head over an instance, of which there are none where it can't be checked.
+    ///
+    /// # Errors
+    ///
+    /// `AllocError` where memory ran out, and only then.
+    pub(crate) fn of(alloc: Global, input: &Input, head: &Head) -> Result<Places, AllocError>
+        ensures left { IfOk result (λ places. lefts_in places ≡ layouts_of input.now (head_of head.now)) }
+        ensures running { IfOk result (λ places. AreRunning places) }
+    {
+        match input {
+            Input::Two(_) => places_of_two(alloc, head),
+            Input::Room(_) => places_of_room(alloc, head),
+        }
+    }
+
+    /// Goes behind the next line.
+    pub(crate) fn take(&mut self, line: Opening)
+        requires running { AreRunning self.old }
+        requires number { line.number ≤ 4294967294 }
+        ensures left { lefts_in self.new ≡ filter_map (λ parts. behind parts line) (lefts_in self.old) }
+        ensures running { AreRunning self.new }
+    {
+        self.one.take(line);
+        self.other.take(line);
+    }
+
+    /// Whether the lines begin an answer.
+    pub(crate) fn are_begun(&self) -> bool
+        ensures { result ≡ (if is_empty (lefts_in self.now) then false else true) }
+    {
+        self.one.fits || self.other.fits
+    }
+
+    /// Whether they are a whole one.
+    pub(crate) fn are_whole(&self) -> bool
+        requires { AreRunning self.now }
+        ensures { result ≡ list_any is_empty (lefts_in self.now) }
+    {
+        self.one.is_whole() || self.other.is_whole()
+    }
+}
+
+// Those over an instance with two sides.
+fn places_of_two(alloc: Global, head: &Head) -> Result<Places, AllocError>
+    ensures left { IfOk result (λ places. lefts_in places ≡ layouts_of_two (head_of head.now)) }
+    ensures running { IfOk result (λ places. AreRunning places) }
+{
+    match head {
+        Head::Solve(_) => Ok(only(alloc, solve_layout(alloc)?)),
+        Head::Reduced => Ok(only(alloc, reduced_layout(alloc)?)),
+        Head::Rotations => Ok(only(alloc, rotations_layout(alloc)?)),
+        Head::List(_, _) => Ok(Places {
+            one: list_layout(alloc, Keyword::End)?,
+            other: list_layout(alloc, Keyword::More)?,
+        }),
+        Head::Regret => Ok(only(alloc, regret_layout(alloc)?)),
+        Head::Weight(_) => Ok(only(alloc, weight_layout(alloc)?)),
+        Head::Meet => Ok(only(alloc, given_layout(alloc)?)),
+        Head::Join => Ok(only(alloc, given_layout(alloc)?)),
+        Head::Pairs => Ok(Places::none(alloc)),
+        Head::Survey(_) => Ok(Places::none(alloc)),
+        Head::Check => Ok(Places::none(alloc)),
+    }
+}
+
+// Those over one of roommates.
+fn places_of_room(alloc: Global, head: &Head) -> Result<Places, AllocError>
+    ensures left { IfOk result (λ places. lefts_in places ≡ layouts_of_room (head_of head.now)) }
+    ensures running { IfOk result (λ places. AreRunning places) }
+{
+    match head {
+        Head::Solve(_) => Ok(Places {
+            one: solve_layout(alloc)?,
+            other: parties_layout(alloc)?,
+        }),
+        _ => Ok(Places::none(alloc)),
+    }
+}
+
+// A single layout.
+fn only(alloc: Global, layout: Layout) -> Places
+    requires { IsRunning layout }
+    ensures left { lefts_in result ≡ lefts_of layout }
+    ensures running { AreRunning result }
+{
+    Places {
+        one: layout,
+        other: Layout::none(alloc),
+    }
+}
+
+// The layout of a matching.
+fn solve_layout(alloc: Global) -> Result<Layout, AllocError>
+    ensures left { IfOk result (λ layout. lefts_of layout ≡ solve_layout ∷ []) }
+    ensures running { IfOk result (λ layout. IsRunning layout) }
+{
+    Ok(Layout::of(vec![in alloc; Part::Many(Keyword::Pair), Part::One(Keyword::End)]?))
+}
+
+// The layout of parties.
+fn parties_layout(alloc: Global) -> Result<Layout, AllocError>
+    ensures left { IfOk result (λ layout. lefts_of layout ≡ parties_layout ∷ []) }
+    ensures running { IfOk result (λ layout. IsRunning layout) }
+{
+    Ok(Layout::of(vec![in alloc;
+        Part::One(Keyword::Nothing),
+        Part::Many(Keyword::Party),
+        Part::One(Keyword::End),
+    ]?))
+}
+
+// The layout of `reduced`.
+fn reduced_layout(alloc: Global) -> Result<Layout, AllocError>
+    ensures left { IfOk result (λ layout. lefts_of layout ≡ reduced_layout ∷ []) }
+    ensures running { IfOk result (λ layout. IsRunning layout) }
+{
+    Ok(Layout::of(vec![in alloc;
+        Part::Many(Keyword::First),
+        Part::Many(Keyword::Last),
+        Part::Many(Keyword::Proposer),
+        Part::Many(Keyword::Reviewer),
+        Part::One(Keyword::End),
+    ]?))
+}
+
+// The layout of `rotations`.
+fn rotations_layout(alloc: Global) -> Result<Layout, AllocError>
+    ensures left { IfOk result (λ layout. lefts_of layout ≡ rotations_layout ∷ []) }
+    ensures running { IfOk result (λ layout. IsRunning layout) }
+{
+    Ok(Layout::of(vec![in alloc;
+        Part::Many(Keyword::First),
+        Part::Blocks(first_turn(2)),
+        Part::One(Keyword::End),
+    ]?))
+}
+
+// The layout of `list` with this last line.
+fn list_layout(alloc: Global, last: Keyword) -> Result<Layout, AllocError>
+    ensures left { IfOk result (λ layout. lefts_of layout ≡ list_layout last ∷ []) }
+    ensures running { IfOk result (λ layout. IsRunning layout) }
+{
+    Ok(Layout::of(vec![in alloc; Part::Many(Keyword::Vector), Part::One(last)]?))
+}
+
+// The layout of `regret`.
+fn regret_layout(alloc: Global) -> Result<Layout, AllocError>
+    ensures left { IfOk result (λ layout. lefts_of layout ≡ regret_layout ∷ []) }
+    ensures running { IfOk result (λ layout. IsRunning layout) }
+{
+    Ok(Layout::of(vec![in alloc;
+        Part::One(Keyword::Regret),
+        Part::Many(Keyword::Pair),
+        Part::One(Keyword::End),
+    ]?))
+}
+
+// The layout of `weight`.
+fn weight_layout(alloc: Global) -> Result<Layout, AllocError>
+    ensures left { IfOk result (λ layout. lefts_of layout ≡ weight_layout ∷ []) }
+    ensures running { IfOk result (λ layout. IsRunning layout) }
+{
+    Ok(Layout::of(vec![in alloc;
+        Part::Many(Keyword::First),
+        Part::Blocks(first_turn(3)),
+        Part::Many(Keyword::Flow),
+        Part::One(Keyword::Taken),
+        Part::One(Keyword::Value),
+        Part::One(Keyword::Cut),
+        Part::One(Keyword::Total),
+        Part::Many(Keyword::Pair),
+        Part::One(Keyword::End),
+    ]?))
+}
+
+// The layout of `meet` and `join`.
+fn given_layout(alloc: Global) -> Result<Layout, AllocError>
+    ensures left { IfOk result (λ layout. lefts_of layout ≡ given_layout ∷ []) }
+    ensures running { IfOk result (λ layout. IsRunning layout) }
+{
+    Ok(Layout::of(vec![in alloc;
+        Part::Many(Keyword::Left),
+        Part::Many(Keyword::Right),
+        Part::Many(Keyword::Pair),
+        Part::One(Keyword::End),
+    ]?))
+}
+
+// The turn of the first line of the first of blocks of so many lines.
+fn first_turn(lines: u32) -> Turn
+    ensures { result ≡ first_turn lines }
+{
+    Turn {
+        lines,
+        place: 0,
+        number: 1,
+    }
+}

@@ -1,0 +1,16 @@
+pub mod JudgingLemmas
+pub mod ListingLemmas
+pub mod SolvingLemmas
+pub mod SeatPairLemmas
+pub mod WalkLemmas
+pub mod SeatListLemmas
+pub mod ReducedLemmas
+pub mod VectorLemmas
+pub mod AnswerLemmas
+pub mod PairLemmas
+pub mod RegretLemmas
+pub mod WantedLemmas
+pub mod PersonLemmas
+pub mod CoupleLemmas
+pub mod PartyLemmas
+pub mod ChosenLemmas

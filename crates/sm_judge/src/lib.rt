@@ -1,0 +1,32 @@
+//! Which clause an answer breaks: the verdict on the lines of an answer by a table of clauses, one judge for each head.
+//!
+//! An answer is judged line by line. At each line the clauses of the table are tried in the order of their reasons, and the
+//! first that fails is the verdict. What the clauses say stands in `specs`, by the definitions of the field alone.
+#![tactic(auto)]
+
+mod chain;
+mod chosen;
+mod couples;
+mod judging;
+mod listing;
+mod pairs;
+mod parties;
+mod persons;
+mod reduced;
+mod regret;
+mod seat_lists;
+mod seat_pairs;
+mod solving;
+mod verdicts;
+mod walk;
+mod wanted;
+
+pub use chain::rotations_verdict;
+pub use chosen::chosen_verdict;
+pub use couples::couples_verdict;
+pub use listing::list_verdict;
+pub use parties::parties_verdict;
+pub use reduced::reduced_verdict;
+pub use regret::regret_verdict;
+pub use solving::solve_verdict;
+pub use verdicts::{Reason, Verdict};

@@ -1,0 +1,14 @@
+pub mod FlowLemmas
+pub mod PairLemmas
+pub mod NetLemmas
+pub mod RepeatLemmas
+pub mod ReachLemmas
+pub mod PairListLemmas
+pub mod ResidualLemmas
+pub mod MoveLemmas
+pub mod ClosedLemmas
+pub mod SpanLemmas
+pub mod NetOfLemmas
+pub mod SetPlaceLemmas
+pub mod NetWitness
+pub mod EdgeLemmas

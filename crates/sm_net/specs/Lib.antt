@@ -1,0 +1,11 @@
+pub mod FlowSums
+pub mod Pairs
+pub mod CheckedNets
+pub mod Repeats
+pub mod Reaching
+pub mod Residual
+pub mod Moves
+pub mod Spans
+pub mod SetPlaces
+pub mod Laws
+pub mod Witnesses

@@ -1,0 +1,19 @@
+//! A small net of which the checker computes what the definitions say, so that they are not about nothing. Each function does
+//! nothing: its contract is the statement.
+
+ghost use Rattle.sm_net.specs.Witnesses.{WorkedMoves, WorkedSteps, LastIsRepeated};
+
+/// How the rotations of three proposers move them, with their gains, the bonds of conditions, and places of sets.
+pub fn worked_moves()
+    ensures { WorkedMoves }
+{}
+
+/// The residual steps of the flow of value 4 in their net.
+pub fn worked_steps()
+    ensures { WorkedSteps }
+{}
+
+/// Which of four lines has the ends of an earlier one.
+pub fn last_is_repeated()
+    ensures { LastIsRepeated }
+{}
