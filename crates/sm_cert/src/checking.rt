@@ -16,19 +16,13 @@ ghost use Rattle.sm_judge.specs.Judging.{Subject, answer, couples, parties, Clau
 ghost use Rattle.sm_judge.specs.Judges.{IsOwnLine, input_of};
 ghost use Rattle.sm_cert.specs.Checking.{HasFewSeats, IsCertFault, IsJudgeFault, HasSeatsFault, first_head, says_none};
 
-use sm_judge::rotations_verdict;
-use sm_judge::chosen_verdict;
-use sm_judge::couples_verdict;
 use crate::faults::CertFault;
-use sm_forms::AnswerFault;
-use sm_judge::list_verdict;
-use sm_judge::parties_verdict;
-use sm_forms::read_answer;
-use sm_judge::reduced_verdict;
-use sm_judge::regret_verdict;
-use sm_judge::solve_verdict;
-use sm_judge::Verdict;
+use sm_forms::{AnswerFault, read_answer};
 use sm_instance::{Input, Instance, Persons};
+use sm_judge::{
+    Verdict, chosen_verdict, couples_verdict, list_verdict, parties_verdict, reduced_verdict,
+    regret_verdict, rotations_verdict, solve_verdict,
+};
 use sm_report::{Head, Line};
 use sm_seats::{Seats, SeatsFault, seat_counts};
 use sm_theory::Choice;

@@ -1,14 +1,11 @@
 -- Predecessors, and stable partitions by the places of predecessors.
-use Rattle.std.proofs.Common.{◌≡◌, ◌≢◌, ℕ, ◌+◌, ◌<◌, ◌≤◌, eqb, Bool, true, false, if◌then◌else◌, IsTrue, ◌↔◌, List, [], ◌∷◌, ◌++◌, length, get_or, set, refl, sym, ap, subst, ◌∙◌, arith, ⊎_elim, eq-eqb, ne_eqb}
-use Rattle.std.proofs.lemmas.Bool.{cases_lt, cases_eq}
-use Rattle.std.proofs.lemmas.List.{length-set}
+use Rattle.std.proofs.Common.{◌≡◌, ℕ, ◌<◌, ◌≤◌, eqb, Bool, true, false, if◌then◌else◌, IsTrue, ◌↔◌, List, length, get_or, sym, ap, ◌∙◌, arith, ⊎_elim, eq-eqb, ne_eqb}
+use Rattle.std.proofs.lemmas.Bool.{cases_lt}
 use Rattle.std.proofs.lemmas.List.Sums.{position_or_len_is}
-use Rattle.sm_lists.specs.Rows.{row, entry, place_of}
-use Rattle.sm_lists.proofs.ItemLemmas.{set_cases}
+use Rattle.sm_lists.specs.Rows.{row, place_of}
 use Rattle.sm_lists.proofs.PlaceLemmas.{place_of-le}
-use Rattle.sm_theory.specs.Rooms.{IsAcceptable}
 use Rattle.sm_theory.specs.Partitions.{successor_in, predecessor_in, party_place, IsStablePartition}
-use Rattle.sm_decide.specs.Rooms.{AreDistinct, ArePredecessors, ArePartyPlaces, PrefersSuccessor, IsUnblockedAt}
+use Rattle.sm_decide.specs.Rooms.{ArePredecessors, ArePartyPlaces, PrefersSuccessor, IsUnblockedAt}
 use Rattle.sm_decide.proofs.RoomLemmas.{accepting_in_range}
 
 -- the first x persons stand before their successors, and nobody else before anybody

@@ -1,5 +1,5 @@
 -- A list is compared with what a test lets through of another, place by place.
-use Rattle.std.proofs.Common.{◌≡◌, ℕ, suc, ◌+◌, ◌-◌, ◌<◌, ◌≤◌, ◌↔◌, arith, refl, sym, ap, ◌∙◌, Bool, true, false, ◌&&◌, nat_le, cond, List, [], ◌∷◌, length, get_or, map, drop, filter, Option, Some, None, MatchOption, slice_index}
+use Rattle.std.proofs.Common.{◌≡◌, ℕ, suc, ◌+◌, ◌-◌, ◌<◌, ◌≤◌, ◌↔◌, arith, sym, ap, ◌∙◌, Bool, true, false, ◌&&◌, cond, List, [], ◌∷◌, length, get_or, map, drop, filter, Option, slice_index}
 use Rattle.std.specs.List.{range_with_len}
 use Rattle.std.proofs.Math.Bool.{and_comm}
 use Rattle.std.proofs.Math.Seq.{drop-cons}
@@ -7,7 +7,6 @@ use Rattle.std.proofs.Math.ListN.{drop_of_length-le}
 use Rattle.std.proofs.lemmas.List.{get_or-drop, length-drop}
 use Rattle.std.proofs.lemmas.List.FromFn.{get_or-map-range_with_len}
 use Rattle.sm_market.specs.Lists.{row, entry, place_of}
-use Rattle.sm_market.specs.Matching.{held}
 use Rattle.sm_lists.proofs.PlaceLemmas.{entry-place_of}
 use Rattle.sm_market.specs.Reduced.{is_no_worse, reduced_row}
 

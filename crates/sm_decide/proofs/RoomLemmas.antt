@@ -1,5 +1,5 @@
 -- Cross places of roommates, and whether persons at places of their lists block.
-use Rattle.std.proofs.Common.{◌≡◌, ◌≢◌, ℕ, ◌+◌, ◌<◌, ◌≤◌, ◌^◌, ◌↔◌, Bor, List, [], Vec, Option, Some, None, is_some, MatchOption, IsTrue, length, map, get_or, refl, sym, ap, subst, ◌∙◌, arith, ⊎_elim}
+use Rattle.std.proofs.Common.{◌≡◌, ◌≢◌, ℕ, ◌<◌, ◌≤◌, ◌^◌, ◌↔◌, Bor, List, [], Vec, Option, Some, None, is_some, MatchOption, IsTrue, length, map, get_or, refl, sym, ap, ◌∙◌, arith, ⊎_elim}
 use Rattle.std.proofs.lemmas.Bool.{cases_lt, false≢true}
 use Rattle.std.proofs.lemmas.List.{length-map, get_or_past, get_or-map}
 use Rattle.std.specs.declared.alloc.Global.{Global}
@@ -11,9 +11,9 @@ use Rattle.sm_lists.proofs.RowLemmas.{row_in_range, row_fits}
 use Rattle.sm_lists.proofs.PlaceLemmas.{entry-place_of, place_of-le, place_on-le-at, place_on-lt}
 use Rattle.sm_lists.proofs.FoundLemmas.{found_on-some, place_on-unfound}
 use Rattle.sm_market.proofs.WalkLemmas.{cross_at, crosses_read}
-use Rattle.sm_theory.specs.Rooms.{AreRoomLists, IsAcceptable, IsRoomMatching, IsRoomStable, mate_of, place_of_mate}
+use Rattle.sm_theory.specs.Rooms.{AreRoomLists, IsAcceptable, place_of_mate}
 use Rattle.sm_decide.specs.RoomsKept.{AreRoomsKept}
-use Rattle.sm_decide.specs.Rooms.{IsAcceptedAt, AreStandings, LikesMore, IsUnblockedAt, AreMatePlaces}
+use Rattle.sm_decide.specs.Rooms.{IsAcceptedAt, AreStandings, LikesMore, IsUnblockedAt}
 
 -- a list that is lent
 pub lent_fits : (lent : List (Bor (List ℕ))) → AreWithinLimits (lists_in lent) → (x : ℕ) (list : Bor (List ℕ)) → x < length (lists_in lent) → list ≡ get_or lent x list → length list.now < 2 ^ 24

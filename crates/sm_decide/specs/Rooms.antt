@@ -1,6 +1,6 @@
 -- Roommates who stand at places of their lists.
 use Rattle.std.specs.Prelude.{◌≡◌, ◌≢◌, ℕ, ◌<◌, ◌≤◌, List, Option, length, slice_index}
-use Rattle.sm_market.specs.Lists.{row, entry, place_of}
+use Rattle.sm_market.specs.Lists.{row, place_of}
 use Rattle.sm_theory.specs.Rooms.{IsAcceptable, mate_of, place_of_mate}
 use Rattle.sm_theory.specs.Partitions.{successor_in, predecessor_in, party_place}
 

@@ -10,9 +10,9 @@ mod forms;
 mod keywords;
 pub mod laws;
 mod layouts;
+mod numbering;
 mod reading;
-mod seat_numbers;
 
 pub use answer_fault::AnswerFault;
+pub use numbering::{rotation_of, seat_number, seat_numbers};
 pub use reading::read_answer;
-pub use seat_numbers::{rotation_of, seat_number, seat_numbers};

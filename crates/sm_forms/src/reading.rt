@@ -7,8 +7,8 @@ ghost use Rattle.sm_report.specs.Lines.{line_of};
 ghost use Rattle.sm_forms.specs.Forms.{AreAnswer};
 ghost use Rattle.sm_forms.specs.Taking.{AreFirsts, IsAnswerFault, TakesText, IsSoFar};
 
-use crate::answers::Answer;
 use crate::answer_fault::AnswerFault;
+use crate::answers::Answer;
 use sm_instance::Input;
 use sm_report::{Line, LineFault, read_line};
 use sm_text::line_at;

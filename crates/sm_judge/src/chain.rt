@@ -16,11 +16,11 @@ ghost use Rattle.sm_judge.specs.Walking.{FindsOrKeeps};
 ghost use Rattle.sm_judge.specs.Walks.{AreFirstsKept, IsChainAt};
 
 use crate::judging::{Judge, judge_lines};
-use sm_forms::seat_number;
 use crate::seat_pairs::{SeatPairs, is_unblocked};
 use crate::verdicts::{Reason, Verdict};
 use crate::walk::Walk;
 use sm_decide::is_proposers_best;
+use sm_forms::seat_number;
 use sm_instance::Instance;
 use sm_market::Market;
 use sm_report::Line;

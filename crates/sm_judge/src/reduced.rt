@@ -21,10 +21,10 @@ ghost use Rattle.sm_judge.specs.Walking.{FindsOrKeeps};
 
 use crate::judging::{Judge, judge_lines};
 use crate::seat_lists::SeatLists;
-use sm_forms::seat_number;
 use crate::seat_pairs::{SeatPairs, is_unblocked};
 use crate::verdicts::{Reason, Verdict};
 use sm_decide::{is_proposers_best, is_reviewers_best};
+use sm_forms::seat_number;
 use sm_instance::Instance;
 use sm_market::Market;
 use sm_report::Line;

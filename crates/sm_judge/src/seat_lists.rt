@@ -12,9 +12,9 @@ ghost use Rattle.sm_judge.specs.Judging.{answer};
 ghost use Rattle.sm_judge.specs.ListsKept.{AreTimes, AreLists, AreListsOf, AreListsBehind};
 ghost use Rattle.sm_judge.specs.Walking.{FindsOrKeeps};
 
-use sm_forms::{seat_number, seat_numbers};
 use crate::verdicts::Reason;
 use sm_decide::{is_reduced_proposer_list, is_reduced_reviewer_list};
+use sm_forms::{seat_number, seat_numbers};
 use sm_instance::Instance;
 use sm_market::{Market, Pairing};
 use sm_report::Line;

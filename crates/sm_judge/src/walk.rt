@@ -20,9 +20,9 @@ ghost use Rattle.sm_judge.specs.Said.{is_up_to_rotations};
 ghost use Rattle.sm_judge.specs.Walking.{FindsOrKeeps};
 ghost use Rattle.sm_judge.specs.Walks.{IsWalk, IsWalkOf, HasWalked, StepsAlong};
 
-use sm_forms::rotation_of;
 use crate::verdicts::Reason;
 use sm_decide::{Notes, Search};
+use sm_forms::rotation_of;
 use sm_instance::Instance;
 use sm_market::{Market, Pairing};
 use sm_report::Line;

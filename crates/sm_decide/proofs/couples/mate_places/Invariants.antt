@@ -1,4 +1,4 @@
-use Rattle.std.proofs.Common.{◌≡◌, ℕ, ◌<◌, length, get_or, vec_len}
+use Rattle.std.proofs.Common.{◌≡◌, ℕ, ◌<◌, length, get_or}
 use Rattle.sm_theory.specs.Rooms.{mate_of, place_of_mate}
 use Rattle.sm_decide.proofs.couples.mate_places.Given as goal
 

@@ -1,4 +1,4 @@
-use Rattle.std.proofs.Common.{◌≡◌, ℕ, ◌<◌, ◌↔◌, length, get_or, IsTrue, rules}
+use Rattle.std.proofs.Common.{ℕ, ◌<◌, ◌↔◌, length, get_or, IsTrue, rules}
 use Rattle.sm_decide.specs.Rooms.{ArePredecessors, PrefersSuccessor, IsUnblockedAt}
 use Rattle.sm_decide.proofs.PartyLemmas.{partition_decided}
 use Rattle.sm_decide.proofs.partitions.is_stable_partition.Goals as goal

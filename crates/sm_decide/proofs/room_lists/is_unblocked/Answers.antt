@@ -1,4 +1,4 @@
-use Rattle.std.proofs.Common.{false, arith, ⊎_elim, rules}
+use Rattle.std.proofs.Common.{arith}
 use Rattle.std.proofs.lemmas.Bool.{false≢true}
 use borrow.Author.Count.{below_more}
 use Rattle.sm_decide.proofs.RoomLemmas.{blocked, unblocked_step}

@@ -1,4 +1,4 @@
-use Rattle.std.proofs.Common.{◌≡◌, ℕ, ◌<◌, get_or}
+use Rattle.std.proofs.Common.{ℕ, ◌<◌, get_or}
 use Rattle.sm_lists.specs.Rows.{entry, place_of}
 use Rattle.sm_theory.specs.Rooms.{IsAcceptable}
 use Rattle.sm_decide.specs.Rooms.{LikesMore}

@@ -1,4 +1,4 @@
-use Rattle.std.proofs.Common.{◌≡◌, ap, ◌∙◌, arith}
+use Rattle.std.proofs.Common.{ap, ◌∙◌, arith}
 use Rattle.sm_lists.specs.Rows.{entry}
 use Rattle.sm_lists.proofs.PlaceLemmas.{entry-place_of}
 use Rattle.sm_decide.proofs.RoomLemmas.{accepted}

@@ -1,4 +1,4 @@
-use Rattle.std.proofs.Common.{◌≡◌, ◌≢◌, ℕ, ◌<◌}
+use Rattle.std.proofs.Common.{◌≢◌, ℕ, ◌<◌}
 use Rattle.sm_lists.specs.Rows.{entry}
 use Rattle.sm_decide.proofs.room_lists.RoomLists.place.Given as goal
 

@@ -1,6 +1,6 @@
 use Rattle.std.proofs.Common.{◌+◌, ◌-◌, arith, ap}
 use Rattle.sm_forms.proofs.SeatLemmas.{firsts_long, number_is, number_below, number_there, seat_bounds}
-use Rattle.sm_forms.proofs.seat_numbers.seat_number.Goals as goal
+use Rattle.sm_forms.proofs.numbering.seat_number.Goals as goal
 
 pub bounds-firsts-seat : goal.bounds-firsts-seat
 bounds-firsts-seat c = omega (arith, c.requires.there, firsts_long c.args.instance.now c.args.firsts.now c.requires.firsts c.args.seat.reviewer c.requires.there)
