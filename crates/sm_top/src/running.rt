@@ -14,10 +14,11 @@ ghost use Rattle.sm_top.specs.Steps.{Serves, ServesWords, IsRefusalFor, IsRefusa
 ghost use Rattle.sm_top.specs.Stops.{StopsBy};
 ghost use Rattle.sm_top.specs.Wrote.{Wrote};
 
+use crate::checking::check_answer;
 use crate::input::read_all;
 use crate::making::show_made;
 use crate::performing::perform;
-use crate::refusing::read_for;
+use crate::refusing::{judges_answer, read_for};
 use crate::status::Status;
 use crate::stop::{RefusedLine, Stop, UsageLine};
 use crate::writing::write;
@@ -168,6 +169,9 @@ fn answer<K: Sink>(
     ensures later { K.faults sink.old ≤ K.faults sink.new }
 {
     let read = read_for(alloc, job, bytes)?;
+    if judges_answer(job) {
+        return check_answer(alloc, bytes, &read, sink);
+    }
     perform(alloc, job, bytes, &read, tallies, sink)
 }
 
