@@ -1,7 +1,6 @@
 use Rattle.std.proofs.Common.{◌≡◌, ℕ, ◌-◌, ◌++◌, ◌∷◌, [], ◌∙◌, List, ap, sym, subst, arith, get_or, length, Some, All}
-use Rattle.std.proofs.lemmas.List.Elements.{All-append}
+use Rattle.std.proofs.lemmas.List.Elements.{All-push}
 use Rattle.std.proofs.lemmas.List.FromFn.{map-range_with_len_more}
-use Rattle.sm_answer.proofs.AnswerLemmas.{one_all}
 use Rattle.sm_instance.specs.Written.{entry, IsAcceptable}
 use Rattle.sm_instance.specs.Ranks.{pair_weight}
 use Rattle.sm_market.specs.Lists.{Lists, row}
@@ -9,8 +8,8 @@ use Rattle.sm_seats.specs.Seating.{written_place}
 use Rattle.sm_seats.proofs.SeatingLemmas.{level_is}
 use Rattle.sm_seats.proofs.SeatingLaws.{written_on}
 use Rattle.sm_theory.proofs.Weighing.Sizes.{small_is}
-use Rattle.sm_lightest.specs.PlaceWeights.{IsLight}
-use Rattle.sm_lightest.proofs.place_weights.weights_at.Goals as goal
+use Rattle.sm_placed.specs.PlaceWeights.{IsLight}
+use Rattle.sm_placed.proofs.place_weights.weights_at.Goals as goal
 
 pub overflow_sub-levels : goal.overflow_sub-levels
 overflow_sub-levels c =
@@ -51,5 +50,5 @@ loop-i-preserved c =
           items ∙ ap (λ z. c.loop-i.weights.items ++ z ∷ []) weight
           ∙ ap (λ xs. xs ++ pair_weight by w p (Some (written_place s p i)) ∷ []) c.loop-i.invariant.weights
           ∙ sym (map-range_with_len_more (λ i. pair_weight by w p (Some (written_place s p i))) 0 i i (omega arith));
-      light = subst (All IsLight) (sym items) (All-append IsLight c.loop-i.weights.items (c.pair_weight.result ∷ []) c.loop-i.invariant.light (one_all IsLight c.pair_weight.result c.pair_weight.ensures.light));
+      light = subst (All IsLight) (sym items) (All-push IsLight c.loop-i.weights.items c.pair_weight.result c.loop-i.invariant.light c.pair_weight.ensures.light);
     }

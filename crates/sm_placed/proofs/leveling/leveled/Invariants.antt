@@ -1,6 +1,6 @@
 use Rattle.std.proofs.Common.{◌≡◌, take}
 use Rattle.sm_seats.specs.Correspondence.{leveled}
-use Rattle.sm_listing.proofs.search.leveled.Given as goal
+use Rattle.sm_placed.proofs.leveling.leveled.Given as goal
 
 -- the levels so far
 abbrev pub invariant-loop-pair : goal.invariant-loop-pair

@@ -2,8 +2,8 @@ use Rattle.std.proofs.Common.{◌≡◌, All, map, Some}
 use Rattle.std.specs.List.{range_with_len}
 use Rattle.sm_instance.specs.Ranks.{pair_weight}
 use Rattle.sm_seats.specs.Seating.{written_place}
-use Rattle.sm_lightest.specs.PlaceWeights.{IsLight}
-use Rattle.sm_lightest.proofs.place_weights.weights_at.Given as goal
+use Rattle.sm_placed.specs.PlaceWeights.{IsLight}
+use Rattle.sm_placed.proofs.place_weights.weights_at.Given as goal
 
 -- the weights of the places so far
 abbrev pub invariant-loop-i : goal.invariant-loop-i

@@ -7,16 +7,21 @@ ghost use Rattle.sm_market.specs.Lists.{row as market_row};
 ghost use Rattle.sm_market.specs.Vectors.{rows_of};
 ghost use Rattle.sm_seats.specs.Seating.{seating_of, levels_of, at_places};
 ghost use Rattle.sm_seats.specs.Correspondence.{IsSeating, weights_of};
-ghost use Rattle.sm_weight.specs.Sizes.{weights_in};
-ghost use Rattle.sm_lightest.specs.PlaceWeights.{IsLight, AreLight, AreAcceptableAt};
+ghost use Rattle.sm_theory.specs.Sizes.{weights_in};
+ghost use Rattle.sm_placed.specs.PlaceWeights.{IsLight, AreLight, AreAcceptableAt};
 
 use sm_instance::{Instance, Measure};
 use sm_seats::Seats;
 use std::alloc::{AllocError, Global};
 
-/// For each place of each proposer the weight of the proposer and the reviewer of the place's seat. Takes time and memory in
-/// proportion to the places.
-pub(crate) fn place_weights(
+/// For each place of each proposer the weight of the proposer and the reviewer of the place's seat, by ranks or as it is given.
+/// The seats have to be those of the instance, and these their levels. Takes time and memory in proportion to the places, and a
+/// look-up for each where there are weights.
+///
+/// # Errors
+///
+/// `AllocError` where memory ran out, and only then.
+pub fn weights_of_places(
     alloc: Global,
     instance: &Instance,
     seats: &Seats,

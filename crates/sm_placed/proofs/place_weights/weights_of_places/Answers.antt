@@ -2,15 +2,14 @@ use Rattle.std.proofs.Common.{◌≡◌, ◌++◌, ◌∷◌, [], ◌∙◌, ap,
 use Rattle.std.specs.List.{range_with_len}
 use Rattle.std.specs.declared.alloc.Global.{Global}
 use Rattle.std.proofs.lemmas.List.{map_push}
-use Rattle.std.proofs.lemmas.List.Elements.{All-append}
+use Rattle.std.proofs.lemmas.List.Elements.{All-push}
 use Rattle.std.proofs.lemmas.List.FromFn.{map-range_with_len_more}
-use Rattle.sm_answer.proofs.AnswerLemmas.{one_all}
 use Rattle.sm_instance.specs.Ranks.{pair_weight}
 use Rattle.sm_seats.specs.Seating.{at_places}
-use Rattle.sm_weight.specs.Sizes.{weights_in}
-use Rattle.sm_lightest.specs.PlaceWeights.{IsLight, AreLight}
-use Rattle.sm_lightest.proofs.PlaceLemmas.{are_acceptable}
-use Rattle.sm_lightest.proofs.place_weights.place_weights.Goals as goal
+use Rattle.sm_theory.specs.Sizes.{weights_in}
+use Rattle.sm_placed.specs.PlaceWeights.{IsLight, AreLight}
+use Rattle.sm_placed.proofs.PlaceLemmas.{are_acceptable}
+use Rattle.sm_placed.proofs.place_weights.weights_of_places.Goals as goal
 
 pub weights_at-requires-clause-acceptable : goal.weights_at-requires-clause-acceptable
 weights_at-requires-clause-acceptable c = are_acceptable c.proposer_count-p-end.ensures.instance c.requires.seats c.loop-p.p
@@ -28,5 +27,5 @@ loop-p-preserved c =
           rows ∙ ap (λ t. t ++ row ∷ []) c.loop-p.invariant.weights
           ∙ ap (λ r. map f (range_with_len 0 p) ++ r ∷ []) c.in_ok-weights_at.ensures.weights
           ∙ sym (map-range_with_len_more f 0 p p (omega arith));
-      light = subst AreLight (sym rows) (All-append (All IsLight) before (row ∷ []) c.loop-p.invariant.light (one_all (All IsLight) row c.in_ok-weights_at.ensures.light));
+      light = subst AreLight (sym rows) (All-push (All IsLight) before row c.loop-p.invariant.light c.in_ok-weights_at.ensures.light);
     }

@@ -18,8 +18,8 @@ use Rattle.sm_seats.proofs.SeatPlaces.{seat_on}
 use Rattle.sm_seats.proofs.MutualLemmas.{mutual_acceptable}
 use Rattle.sm_seats.proofs.WrittenLemmas.{written_is}
 use Rattle.sm_seats.proofs.CorrespondenceLaws.{sound_entries}
-use Rattle.sm_weight.specs.Sizes.{AreWeights}
-use Rattle.sm_lightest.specs.PlaceWeights.{IsLight, AreLight, AreAcceptableAt}
+use Rattle.sm_theory.specs.Sizes.{AreWeights}
+use Rattle.sm_placed.specs.PlaceWeights.{IsLight, AreLight, AreAcceptableAt}
 
 -- whom a seat's place leads to is acceptable
 pub are_acceptable : {w : Written} {s : Seating} → IsInstance w → s ≡ seating_of w → (p : ℕ) → AreAcceptableAt w s p

@@ -1,7 +1,7 @@
 use Rattle.std.proofs.Common.{◌+◌, ◌∙◌, sym, ap, arith}
 use Rattle.sm_instance.specs.Written.{row}
 use Rattle.sm_lists.proofs.FoundLemmas.{found_on-some, place_on-unfound}
-use Rattle.sm_listing.proofs.search.level_of.Goals as goal
+use Rattle.sm_placed.proofs.leveling.level_of.Goals as goal
 
 pub overflow_add-result : goal.overflow_add-result
 overflow_add-result c =

@@ -2,9 +2,9 @@ use Rattle.std.proofs.Common.{◌≡◌, map, Some}
 use Rattle.std.specs.List.{range_with_len}
 use Rattle.sm_instance.specs.Ranks.{pair_weight}
 use Rattle.sm_seats.specs.Seating.{at_places}
-use Rattle.sm_weight.specs.Sizes.{weights_in}
-use Rattle.sm_lightest.specs.PlaceWeights.{AreLight}
-use Rattle.sm_lightest.proofs.place_weights.place_weights.Given as goal
+use Rattle.sm_theory.specs.Sizes.{weights_in}
+use Rattle.sm_placed.specs.PlaceWeights.{AreLight}
+use Rattle.sm_placed.proofs.place_weights.weights_of_places.Given as goal
 
 -- the weights of the proposers so far
 abbrev pub invariant-loop-p : goal.invariant-loop-p
