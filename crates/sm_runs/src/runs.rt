@@ -4,7 +4,7 @@ use crate::made::{MEMORY, copy, words_in};
 use sm_io::{MemSink, MemSource, SteadySink, SteadySource};
 use sm_tally::{RegretTally, SumTally, Tally};
 use sm_text::RefusalKind;
-use sm_top::{Status, run};
+use sm_top::{Reason, Status, run};
 use std::alloc::Global;
 use std::process::Abort;
 
@@ -414,6 +414,75 @@ fn roommates_are_solved(rt: HostRuntime) {
                 "answer solve\npair ann bob\nend\n",
             ),
             done("solve", "stable 1 roommates\nend\n", "answer solve\nend\n"),
+        ],
+    );
+}
+
+// A run without faults that answers that an answer isn't right.
+fn checked_no<'a>(text: &'a str, line: u32, why: Reason, written: &'a str) -> Row<'a> {
+    Row {
+        words: "check",
+        text,
+        failing_reads: &[],
+        failing_puts: &[],
+        status: Status::CheckedNo(line, why),
+        written,
+    }
+}
+
+#[test]
+fn answers_are_checked(rt: HostRuntime) {
+    come_to(
+        &rt,
+        &[
+            done(
+                "check",
+                "stable 1 marriage\np m1: a b c\np m2: b c a\np m3: c a b\nr a: m2 m3 m1\nr b: m3 m1 m2\nr c: m1 m2 m3\nweight m1 b 4\nweight m1 c -10\nend\nanswer weight by=given\nfirst m1 a\nfirst m2 b\nfirst m3 c\nrotation 1 m1 a m2 b m3 c\nneeds 1 -\ngain 1 4\nrotation 2 m1 b m2 c m3 a\nneeds 2 1\ngain 2 -14\nflow S 2 4\nflow 1 T 4\nflow 2 1 4\ntaken 1 2\nvalue 4\ncut 4\ntotal -10\npair m1 c\npair m2 a\npair m3 b\nend\n",
+                "answer check\nyes\nend\n",
+            ),
+            checked_no(
+                "stable 1 marriage\np m1: a b c\np m2: b c a\np m3: c a b\nr a: m2 m3 m1\nr b: m3 m1 m2\nr c: m1 m2 m3\nweight m1 b 4\nweight m1 c -10\nend\nanswer weight by=given\nfirst m1 a\nfirst m2 b\nfirst m3 c\nrotation 1 m1 a m2 b m3 c\nneeds 1 -\ngain 1 4\nrotation 2 m1 b m2 c m3 a\nneeds 2 1\ngain 2 -14\nflow S 2 3\nflow 1 T 4\nflow 2 1 4\ntaken 1 2\nvalue 4\ncut 4\ntotal -10\npair m1 c\npair m2 a\npair m3 b\nend\n",
+                24,
+                Reason::NotConserved,
+                "answer check\nno 24 NotConserved\nend\n",
+            ),
+            checked_no(
+                "stable 1 marriage\np m1: a b c\np m2: b c a\np m3: c a b\nr a: m2 m3 m1\nr b: m3 m1 m2\nr c: m1 m2 m3\nweight m1 b 4\nweight m1 c -10\nend\nanswer weight by=given\nfirst m1 a\nfirst m2 b\nfirst m3 c\nrotation 1 m1 a m2 b m3 c\nneeds 1 -\ngain 1 4\nrotation 2 m1 b m2 c m3 a\nneeds 2 1\ngain 2 -14\nflow S 2 3\nflow 1 T 3\nflow 2 1 3\ntaken 1 2\nvalue 3\ncut 4\ntotal -10\npair m1 c\npair m2 a\npair m3 b\nend\n",
+                26,
+                Reason::CutDiffers,
+                "answer check\nno 26 CutDiffers\nend\n",
+            ),
+            done(
+                "check",
+                "stable 1 roommates\np 1: 2 3 4\np 2: 3 1 4\np 3: 1 2 4\np 4: 1 2 3\nend\nanswer solve\nnone\nparty 1 2 3\nparty 4\nend\n",
+                "answer check\nyes\nend\n",
+            ),
+            checked_no(
+                "stable 1 roommates\np 1: 2 3 4\np 2: 3 1 4\np 3: 1 2 4\np 4: 1 2 3\nend\nanswer solve\nnone\nparty 1 3 2\nparty 4\nend\n",
+                11,
+                Reason::NotPartition,
+                "answer check\nno 11 NotPartition\nend\n",
+            ),
+            checked_no(
+                "stable 1 marriage\np m1: a b\np m2: b a\nr a: m2 m1\nr b: m1 m2\nend\nanswer rotations\nfirst m1 a\nfirst m2 b\nrotation 1 m2 b m1 a\nneeds 1 -\nend\n",
+                10,
+                Reason::NotExposed,
+                "answer check\nno 10 NotExposed\nend\n",
+            ),
+            refused(
+                "check",
+                "stable 1 marriage\np m1: a b\np m2: b a\nr a: m2 m1\nr b: m1 m2\nend\nanswer solve side=proposers\npair m1 a\npair m2 b\n",
+                RefusalKind::BadAnswer,
+                10,
+                "refused BadAnswer 10\n",
+            ),
+            refused(
+                "check",
+                TWO_BY_TWO,
+                RefusalKind::BadAnswer,
+                7,
+                "refused BadAnswer 7\n",
+            ),
         ],
     );
 }

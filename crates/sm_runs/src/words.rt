@@ -56,6 +56,7 @@ fn words_ask_or_are_faulty(rt: HostRuntime) {
             ("join", Job::Join),
             ("survey", Job::Survey(100)),
             ("survey limit=7", Job::Survey(7)),
+            ("check", Job::Check),
             (
                 "make shape=copies size=1 seed=0",
                 Job::Make(Shape::Copies, 1, 0, false),
@@ -95,6 +96,7 @@ fn words_ask_or_are_faulty(rt: HostRuntime) {
             ("weight by=rank", 2),
             ("weight by=ranks by=given", 3),
             ("meet join", 2),
+            ("check x", 2),
             ("list limit=0", 2),
             ("list limit=1000001", 2),
             ("list limit=1 limit=2", 3),

@@ -14,7 +14,7 @@ use Rattle.sm_instance.specs.declared.kinds.Measure.{Measure}
 use Rattle.sm_instance.specs.declared.kinds.Side.{Side}
 use Rattle.sm_instance.specs.declared.kinds.Side.TheVariants.{Proposers}
 use Rattle.sm_reader.specs.InstanceText.{ReadText, Refusal}
-use Rattle.sm_words.specs.Jobs.{JobData, Solve, Reduced, Rotations, Pairs, Regret, Weight, Meet, Join, Survey, Make}
+use Rattle.sm_words.specs.Jobs.{JobData, Solve, Reduced, Rotations, Pairs, Regret, Weight, Meet, Join, Survey, Check, Make}
 use Rattle.sm_shown.specs.Answers.{IsSolution}
 use Rattle.sm_report.specs.Lines.{LineData}
 use Rattle.sm_partners.specs.RegretAnswer.{IsRegretAnswer, IsNoneAllowed}
@@ -50,6 +50,7 @@ takes_two (Weight by) kind reading two = two_sided kind two
 takes_two Meet kind reading two = two_sided kind two
 takes_two Join kind reading two = two_sided kind two
 takes_two (Survey limit) kind reading two = two_sided kind two
+takes_two Check kind reading two = refl
 takes_two (Make shape size seed summary) kind reading two = absurd cc
 
 -- so their seats alone are judged

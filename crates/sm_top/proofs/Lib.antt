@@ -5,3 +5,4 @@ pub mod RefusingLemmas
 pub mod RunLemmas
 pub mod SeatLemmas
 pub mod KindLemmas
+pub mod CheckLemmas

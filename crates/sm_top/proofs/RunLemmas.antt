@@ -14,7 +14,7 @@ use Rattle.sm_instance.specs.declared.kinds.Measure.{Measure}
 use Rattle.sm_instance.specs.declared.kinds.Side.{Side}
 use Rattle.sm_reader.specs.InstanceText.{ReadText, instance_text}
 use Rattle.sm_report.specs.Lines.{LineData}
-use Rattle.sm_words.specs.Jobs.{JobData, Solve, Reduced, Rotations, Pairs, Regret, Weight, Meet, Join, Survey, Make}
+use Rattle.sm_words.specs.Jobs.{JobData, Solve, Reduced, Rotations, Pairs, Regret, Weight, Meet, Join, Survey, Check, Make}
 use Rattle.sm_words.specs.Words.{words_meaning}
 use Rattle.sm_top.specs.declared.status.Status.{Status}
 use Rattle.sm_top.specs.declared.status.Status.TheVariants.{Refused, Usage, OutOfMemory, ReadFault, WriteFault}
@@ -25,6 +25,9 @@ use Rattle.sm_top.specs.Stops.{StopsBy}
 use Rattle.sm_tally.specs.Fold.{Shown}
 use Rattle.sm_make.specs.Made.{made_instance}
 use Rattle.sm_make.specs.declared.shape.Shape.{Shape}
+use Rattle.sm_judge.specs.declared.verdicts.Verdict.{Verdict}
+use Rattle.sm_judge.specs.declared.verdicts.Verdict.TheVariants as verdict
+use Rattle.sm_top.specs.Checked.{status_by}
 use Rattle.sm_top.specs.Accepting.{reads_input, accepted, behind_text}
 use Rattle.sm_top.specs.Outcome.{OfTwo, IsSolved, IsRegretted, IsSummary, IsMade, IsWeighed, IsAnswerOver, IsAnswer, IsRefused, IsTooManyMade, IsUnsurveyed, unsurveyed, Outcome, not_accepted, faulty_words, refused, answered}
 use Rattle.sm_top.specs.Input.{IsReadWhole, ReadWhole, IsTooLong}
@@ -183,6 +186,11 @@ made_status : (tallies : List Shown) (input : Input) (summary : Bool) (status : 
 made_status tallies input false status lines h = ap is_answer h.0
 made_status tallies input true status lines h = summary_status tallies input status h.answer h.is_right
 
+-- and of a verdict
+verdict_status : (v : Verdict) → is_answer (status_by v) ≡ true
+verdict_status verdict.Yes = refl
+verdict_status (verdict.No line why) = refl
+
 answer_status : (tallies : List Shown) (job : JobData) (bytes : List ℕ) (status : Status) (lines : List (List ℕ)) → IsAnswer tallies job bytes status lines → is_answer status ≡ true
 answer_status tallies (Solve side) bytes status lines h = solved_status side h.read.input status h.shown.answer h.shown.is_right
 answer_status tallies Reduced bytes status lines h = ap is_answer h.0
@@ -194,6 +202,7 @@ answer_status tallies (Weight by) bytes status lines h = weighed_status by h.rea
 answer_status tallies Meet bytes status lines h = ap is_answer h.0
 answer_status tallies Join bytes status lines h = ap is_answer h.0
 answer_status tallies (Survey limit) bytes status lines h = ap is_answer h.0
+answer_status tallies Check bytes status lines h = ap is_answer h.shown.is_right.by_verdict ∙ verdict_status h.shown.is_right.verdict
 answer_status tallies (Make shape size seed summary) bytes status lines h = made_status tallies (made_instance shape size seed) summary status lines h
 
 answer_whole : (status : Status) → is_answer status ≡ true → is_whole status ≡ true

@@ -13,7 +13,7 @@ use Rattle.sm_instance.specs.declared.kinds.Kind.{Kind}
 use Rattle.sm_instance.specs.declared.kinds.Kind.TheVariants.{Marriage, Hospitals, Roommates}
 use Rattle.sm_reader.specs.InstanceText.{ReadText, Refusal, instance_text}
 use Rattle.sm_seats.specs.SeatEntries.{first_too_many}
-use Rattle.sm_words.specs.Jobs.{JobData, Solve, Reduced, Rotations, Pairs, Regret, Weight, Meet, Join, Survey, Make}
+use Rattle.sm_words.specs.Jobs.{JobData, Solve, Reduced, Rotations, Pairs, Regret, Weight, Meet, Join, Survey, Check, Make}
 use Rattle.sm_top.specs.Texts.{RefusalData, plain}
 
 -- What a job takes.
@@ -23,7 +23,7 @@ abbrev pub reads_input : JobData → Bool
 reads_input (Make shape size seed summary) = false
 reads_input job = true
 
--- text behind `end`: `meet` and `join`
+-- text behind `end`: `meet`, `join` and `check`
 abbrev pub takes_text : JobData → Bool
 takes_text (Solve side) = false
 takes_text Reduced = false
@@ -35,9 +35,15 @@ takes_text (Weight by) = false
 takes_text Meet = true
 takes_text Join = true
 takes_text (Survey limit) = false
+takes_text Check = true
 takes_text (Make shape size seed summary) = false
 
--- a kind: `solve` takes all where it names no side, and the others those with two sides
+-- an answer behind `end`, which is judged: `check` alone
+abbrev pub judges_answer : JobData → Bool
+judges_answer Check = true
+judges_answer job = false
+
+-- a kind: `check`, and `solve` where it names no side, take all, and the others those with two sides
 abbrev pub is_two_sided : Kind → Bool
 is_two_sided Marriage = true
 is_two_sided Hospitals = true
@@ -55,6 +61,7 @@ takes_kind (Weight by) kind = is_two_sided kind
 takes_kind Meet kind = is_two_sided kind
 takes_kind Join kind = is_two_sided kind
 takes_kind (Survey limit) kind = is_two_sided kind
+takes_kind Check kind = true
 takes_kind (Make shape size seed summary) kind = false
 
 -- The order of refusals.

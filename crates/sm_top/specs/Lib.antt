@@ -1,5 +1,6 @@
 pub mod Texts
 pub mod Accepting
+pub mod Checked
 pub mod Input
 pub mod Outcome
 pub mod Running

@@ -11,11 +11,12 @@ use Rattle.sm_reader.specs.InstanceText.{ReadText}
 use Rattle.sm_report.specs.Lines.{LineData}
 use Rattle.sm_report.specs.Texts.{left_name, right_name}
 use Rattle.sm_text.specs.declared.refusal.RefusalKind.TheVariants.{BadCursor, BadAnswer, NotStable}
-use Rattle.sm_words.specs.Jobs.{JobData, Solve, Reduced, Rotations, Pairs, Regret, Weight, Meet, Join, Survey, Make}
+use Rattle.sm_words.specs.Jobs.{JobData, Solve, Reduced, Rotations, Pairs, Regret, Weight, Meet, Join, Survey, Check, Make}
 use Rattle.sm_words.specs.Words.{usual_limit, words_meaning}
 use Rattle.sm_top.specs.declared.status.Status.{Status}
 use Rattle.sm_top.specs.declared.status.Status.TheVariants.{Done, Refused, Usage, NoneExists}
 use Rattle.sm_top.specs.Texts.{RefusalData, plain, with_detail, usage_line, refused_line}
+use Rattle.sm_top.specs.Checked.{IsChecked, IsUnreadable}
 use Rattle.sm_top.specs.Accepting.{reads_input, accepted, IsTooMany, IsUnaccepted}
 use Rattle.sm_shown.specs.Answers.{IsSolution}
 use Rattle.sm_shown.specs.Reduction.{IsReduction}
@@ -89,6 +90,7 @@ IsAnswer tallies (Weight by) bytes status lines = IsAnswerOver (Weight by) bytes
 IsAnswer tallies Meet bytes status lines = (status ≡ Done) × IsAnswerOver Meet bytes (λ read. OfTwo (IsChosenAnswer Better (texts_from bytes read.rest)) read.input) lines
 IsAnswer tallies Join bytes status lines = (status ≡ Done) × IsAnswerOver Join bytes (λ read. OfTwo (IsChosenAnswer Worse (texts_from bytes read.rest)) read.input) lines
 IsAnswer tallies (Survey limit) bytes status lines = (status ≡ Done) × IsAnswerOver (Survey limit) bytes (λ read. OfTwo (IsSurveyAnswer tallies limit) read.input) lines
+IsAnswer tallies Check bytes status lines = IsAnswerOver Check bytes (λ read. IsChecked read.input (texts_from bytes read.rest) read.rest_line status) lines
 IsAnswer tallies (Make shape size seed summary) bytes status lines = IsMade tallies (made_instance shape size seed) summary status lines
 
 -- a cursor that hasn't an item for each proposer is refused, at no line
@@ -129,6 +131,7 @@ IsOwnRefusal (Weight by) bytes read refusal = ⊥
 IsOwnRefusal Meet bytes read refusal = IsBadGiven read.input (texts_from bytes read.rest) read.rest_line refusal
 IsOwnRefusal Join bytes read refusal = IsBadGiven read.input (texts_from bytes read.rest) read.rest_line refusal
 IsOwnRefusal (Survey limit) bytes read refusal = ⊥
+IsOwnRefusal Check bytes read refusal = IsUnreadable read.input (texts_from bytes read.rest) read.rest_line refusal
 IsOwnRefusal (Make shape size seed summary) bytes read refusal = ⊥
 
 -- a made instance isn't surveyed where its seats have too many entries

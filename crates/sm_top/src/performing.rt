@@ -7,7 +7,7 @@ ghost use Rattle.sm_instance.specs.declared.inputs.Input.TheVariants.{Two, Room}
 ghost use Rattle.sm_reader.specs.InstanceText.{read_of};
 ghost use Rattle.sm_text.specs.Limits.{most_bytes};
 ghost use Rattle.sm_words.specs.Jobs.{job_of, IsInBounds, IsLimit};
-ghost use Rattle.sm_top.specs.Accepting.{reads_input, judged, accepted, too_many_in, IsTooMany};
+ghost use Rattle.sm_top.specs.Accepting.{reads_input, judges_answer, judged, accepted, too_many_in, IsTooMany};
 ghost use Rattle.sm_top.specs.Seated.{IsSeated};
 ghost use Rattle.sm_shown.specs.Answers.{IsSolution};
 ghost use Rattle.sm_listing.specs.ListAnswer.{IsCursor, IsListAnswer};
@@ -53,7 +53,7 @@ struct Seated<'a> {
     seats: Seats,
 }
 
-/// Does a job on an input that was read for it, where its kind and its seats aren't refused.
+/// Does a job, but `check`, on an input that was read for it, where its kind and its seats aren't refused.
 pub(crate) fn perform<K: Sink>(
     alloc: Global,
     job: &Job,
@@ -63,6 +63,7 @@ pub(crate) fn perform<K: Sink>(
     sink: &mut K,
 ) -> Result<Status, Stop>
     requires reads { reads_input (job_of job.now) ≡ true }
+    requires answers { judges_answer (job_of job.now) ≡ false }
     requires short { length bytes.now ≤ most_bytes }
     requires accepted { accepted (job_of job.now) bytes.now ≡ judged (job_of job.now) (read_of read.now) }
     requires bounds { IsInBounds (job_of job.now) }
@@ -109,6 +110,7 @@ fn perform_on_seats<K: Sink>(
     sink: &mut K,
 ) -> Result<Status, Stop>
     requires reads { reads_input (job_of job.now) ≡ true }
+    requires answers { judges_answer (job_of job.now) ≡ false }
     requires short { length bytes.now ≤ most_bytes }
     requires accepted { accepted (job_of job.now) bytes.now ≡ Ok (read_of given.now.read.now) }
     requires seated { IsSeated given.now.read.now.input given.now.instance.now given.now.seats }
@@ -145,7 +147,7 @@ fn perform_on_seats<K: Sink>(
             sink,
         ),
         Job::Survey(limit) => Ok(survey(alloc, given, *limit, tallies, sink)?),
-        Job::Make(_, _, _, _) => unreachable!(),
+        Job::Check | Job::Make(_, _, _, _) => unreachable!(),
     }
 }
 
@@ -159,6 +161,7 @@ fn perform_on_persons<K: Sink>(
     sink: &mut K,
 ) -> Result<Status, Stop>
     requires reads { reads_input (job_of job.now) ≡ true }
+    requires answers { judges_answer (job_of job.now) ≡ false }
     requires room { read.now.input ≡ Room persons.now }
     requires judged { accepted (job_of job.now) bytes.now ≡ judged (job_of job.now) (read_of read.now) }
     ensures wrote { (tallies : List Shown) → IfOk result (λ status. Wrote (IsAnswer tallies (job_of job.now) bytes.now)
@@ -180,7 +183,7 @@ fn perform_on_persons<K: Sink>(
         | Job::Meet
         | Job::Join
         | Job::Survey(_) => Err(Stop::Refused(RefusalKind::WrongKind, read.header_line)),
-        Job::Make(_, _, _, _) => unreachable!(),
+        Job::Check | Job::Make(_, _, _, _) => unreachable!(),
     }
 }
 

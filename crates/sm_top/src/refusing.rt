@@ -6,7 +6,7 @@ ghost use Rattle.sm_text.specs.declared.refusal.RefusalKind.TheVariants.{AfterEn
 ghost use Rattle.sm_text.specs.Lines.{lines};
 ghost use Rattle.sm_text.specs.Tokens.{tokens};
 ghost use Rattle.sm_reader.specs.InstanceText.{instance_text, read_of};
-ghost use Rattle.sm_top.specs.Accepting.{first_saying, has_tokens, takes_text, IsTooMany, judged, accepted, IsUnaccepted};
+ghost use Rattle.sm_top.specs.Accepting.{first_saying, has_tokens, takes_text, judges_answer, IsTooMany, judged, accepted, IsUnaccepted};
 ghost use Rattle.sm_top.specs.Seated.{AreSeatsOf};
 ghost use Rattle.sm_seats.specs.SeatEntries.{first_too_many};
 ghost use Rattle.sm_instance.specs.declared.inputs.Input.TheVariants.{Two};
@@ -25,6 +25,7 @@ use std::alloc::Global;
 pub(crate) fn read_for(alloc: Global, job: &Job, bytes: &[u8]) -> Result<Read, Stop>
     requires { length bytes.now ≤ most_bytes }
     ensures read { IfOk result (λ read. accepted (job_of job.now) bytes.now ≡ judged (job_of job.now) (read_of read)) }
+    ensures text { IfOk result (λ read. instance_text bytes.now ≡ Ok (read_of read)) }
     ensures stop { IfErr result (λ stop. StopsBy (λ _. ⊥) (IsUnaccepted (job_of job.now) bytes.now) ⊥ stop) }
 {
     match read_instance(alloc, bytes) {
@@ -110,6 +111,16 @@ fn takes_text(job: &Job) -> bool
         | Job::Weight(_)
         | Job::Survey(_)
         | Job::Make(_, _, _, _) => false,
-        Job::Meet | Job::Join => true,
+        Job::Meet | Job::Join | Job::Check => true,
+    }
+}
+
+/// Does a job judge the answer behind `end`?
+pub(crate) fn judges_answer(job: &Job) -> bool
+    ensures { result ≡ judges_answer (job_of job.now) }
+{
+    match job {
+        Job::Check => true,
+        _ => false,
     }
 }

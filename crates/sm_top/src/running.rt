@@ -14,10 +14,11 @@ ghost use Rattle.sm_top.specs.Steps.{Serves, ServesWords, IsRefusalFor, IsRefusa
 ghost use Rattle.sm_top.specs.Stops.{StopsBy};
 ghost use Rattle.sm_top.specs.Wrote.{Wrote};
 
+use crate::checking::check_answer;
 use crate::input::read_all;
 use crate::making::show_made;
 use crate::performing::perform;
-use crate::refusing::read_for;
+use crate::refusing::{judges_answer, read_for};
 use crate::status::Status;
 use crate::stop::{RefusedLine, Stop, UsageLine};
 use crate::writing::write;
@@ -49,7 +50,8 @@ use std::alloc::Global;
 ///   `meet` and `join` the pairs of two stable matchings, which are read behind `end`, and those of the matching in which
 ///   each proposer has the better of its two partners, or the worse (section 1.3.1 there); for `survey` how many allowed
 ///   stable matchings are listed from the first on, up to the limit, and what the tallies show that were told of each of
-///   them; for `make` the text of the instance that is made, or what `survey` with a limit of 100, or for roommates `solve`,
+///   them; for `check` that the answer which is read behind `end` is right: each clause holds at each of its lines, and what that
+///   means of the instance is said in [`sm_cert::laws`]; for `make` the text of the instance that is made, or what `survey` with a limit of 100, or for roommates `solve`,
 ///   writes for it.
 /// - `Refused`: the input is refused for this reason, at this line; the one line `refused NAME LINE` is written. An input
 ///   that is too long comes first, then the faults of its lines from the top, then a missing `end`, then a name that isn't
@@ -57,10 +59,13 @@ use std::alloc::Global;
 ///   that have more than 1,048,576 entries. Then come a cursor that hasn't a number for each proposer, for `list`; and for `meet` and `join` the first
 ///   line behind `end` that can't stand where it stands, then, with four more fields, the first pair that can't be held
 ///   beside those before it, then, at the closing `end`, a pair that blocks the left matching, then one that blocks the
-///   right one.
+///   right one; and for `check` the first line behind `end` that isn't of the form of an answer where it stands.
 /// - `NoneExists`: the whole answer is written, and says that there is no such matching. For `solve` it is `none`, where
 ///   roommates have no stable matching, and the parties of a stable partition that has an odd one of three or more (Tan
 ///   1991), and so for `make` with `show=summary`; for `regret` and `weight` it is `none` alone, where no stable matching is allowed.
+/// - `CheckedNo`: the whole answer is written, and says that the answer behind `end`, for `check`, isn't right: at this line, counted
+///   over the whole input, a clause fails for this reason. At the lines before it none does, nor at it for a reason that comes
+///   before.
 /// - `Usage`: the words are faulty; the one line `usage WORD` is written.
 /// - `ReadFault`, `WriteFault`: the source or the sink failed. Nothing was written, or a front of the answer.
 /// - `OutOfMemory`: there was no memory. Nothing was written, or a front of the answer.
@@ -72,7 +77,7 @@ use std::alloc::Global;
 /// for `make` in those that are written. For the others those of [`sm_rotations::chain`] and [`sm_poset::Poset::of`] come
 /// besides, and then those of [`sm_listing::start_list`] and of each step for `list` and `survey`, of
 /// [`sm_partners::find_pairs`] and [`sm_partners::find_regret`] for `pairs` and `regret`, and of
-/// [`sm_lightest::find_lightest`] for `weight`.
+/// [`sm_lightest::find_lightest`] for `weight`. `check` takes those of [`sm_cert::check`].
 pub fn run<S: Source, K: Sink>(
     alloc: Global,
     words: &[String],
@@ -168,6 +173,9 @@ fn answer<K: Sink>(
     ensures later { K.faults sink.old ≤ K.faults sink.new }
 {
     let read = read_for(alloc, job, bytes)?;
+    if judges_answer(job) {
+        return check_answer(alloc, bytes, &read, sink);
+    }
     perform(alloc, job, bytes, &read, tallies, sink)
 }
 

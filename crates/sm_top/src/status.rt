@@ -3,6 +3,7 @@
 ghost use Rattle.std.specs.Prelude.{◌≡◌};
 ghost use Rattle.sm_top.specs.Statuses.{number_of_status};
 
+use sm_judge::Reason;
 use sm_text::RefusalKind;
 
 /// How a run ended.
@@ -22,6 +23,9 @@ pub enum Status {
     ReadFault,
     /// The sink failed.
     WriteFault,
+    /// The answer is written: the answer that was given isn't right. The first line at which a clause fails, counted from 1, and
+    /// why.
+    CheckedNo(u32, Reason),
 }
 
 impl Status {
@@ -37,6 +41,7 @@ impl Status {
             Status::OutOfMemory => 4,
             Status::ReadFault => 5,
             Status::WriteFault => 6,
+            Status::CheckedNo(_, _) => 7,
         }
     }
 }

@@ -130,6 +130,7 @@ job_in_bounds command.Weight g job b e small = let of_by = mapped Weight g.by jo
 job_in_bounds command.Meet g job b e small = subst IsInBounds (same_Some _ _ e) tt
 job_in_bounds command.Join g job b e small = subst IsInBounds (same_Some _ _ e) tt
 job_in_bounds command.Survey g job b e small = subst IsInBounds (same_Some _ _ e) (limit_or_usual g.limit b.0)
+job_in_bounds command.Check g job b e small = subst IsInBounds (same_Some _ _ e) tt
 job_in_bounds command.Make g job b e small = making_in_bounds g job b e small
 
 asked_in_bounds : (c : Command) (operands : List (List ℕ)) (job : JobData) → asked c operands ≡ Ok job → IsInBounds job

@@ -19,6 +19,7 @@ pub data JobData : Type 0 where
   Meet : JobData
   Join : JobData
   Survey : ℕ → JobData
+  Check : JobData
   Make : Shape → ℕ → ℕ → Bool → JobData
 
 abbrev pub job_of : Job → JobData
@@ -32,6 +33,7 @@ job_of (job.Weight by) = Weight by
 job_of job.Meet = Meet
 job_of job.Join = Join
 job_of (job.Survey limit) = Survey limit
+job_of job.Check = Check
 job_of (job.Make shape size seed summary) = Make shape size seed summary
 
 -- a limit lies in its bounds
@@ -67,4 +69,5 @@ IsInBounds (Weight by) = Unit {0}
 IsInBounds Meet = Unit {0}
 IsInBounds Join = Unit {0}
 IsInBounds (Survey limit) = IsLimit limit
+IsInBounds Check = Unit {0}
 IsInBounds (Make shape size seed summary) = (least_size ≤ size) × (size ≤ most_size shape) × (seed < 2 ^ 64)

@@ -29,6 +29,7 @@ commands =
     ∷ (codes "meet", command.Meet)
     ∷ (codes "join", command.Join)
     ∷ (codes "survey", command.Survey)
+    ∷ (codes "check", command.Check)
     ∷ (codes "make", command.Make)
     ∷ []
 
@@ -43,6 +44,7 @@ operands_of command.Weight = (codes "by", operand.By) ∷ []
 operands_of command.Meet = []
 operands_of command.Join = []
 operands_of command.Survey = (codes "limit", operand.Limit) ∷ []
+operands_of command.Check = []
 operands_of command.Make =
     (codes "shape", operand.Shape)
     ∷ (codes "size", operand.Size)

@@ -10,7 +10,7 @@ use Rattle.sm_words.specs.declared.operands.Command.{Command}
 use Rattle.sm_words.specs.declared.operands.Command.TheVariants as command
 use Rattle.sm_words.specs.declared.jobs.WordsFault.{WordsFault}
 use Rattle.sm_words.specs.declared.jobs.WordsFault.TheVariants.{Usage, OutOfMemory}
-use Rattle.sm_words.specs.Jobs.{JobData, Solve, Reduced, Rotations, Pairs, Regret, Weight, Meet, Join, Survey, Make}
+use Rattle.sm_words.specs.Jobs.{JobData, Solve, Reduced, Rotations, Pairs, Regret, Weight, Meet, Join, Survey, Check, Make}
 use Rattle.sm_words.specs.Tables.{commands}
 use Rattle.sm_words.specs.Operands.{GivenData, nothing, has_name, name_in, with_word}
 
@@ -45,6 +45,7 @@ job_for command.Weight g = option_map Weight g.by
 job_for command.Meet g = Some Meet
 job_for command.Join g = Some Join
 job_for command.Survey g = Some (Survey (unwrap_or g.limit usual_limit))
+job_for command.Check g = Some Check
 job_for command.Make g =
     option_and_then (λ shape. option_and_then (λ size. option_map (λ seed. Make shape size seed (unwrap_or g.show usual_show)) g.seed) g.size) g.shape
 

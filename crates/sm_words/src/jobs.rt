@@ -28,6 +28,8 @@ pub enum Job {
     Join,
     /// What tallies say of the allowed stable matchings, of so many at most.
     Survey(u32),
+    /// The verdict on an answer that is given.
+    Check,
     /// The instance that is made from a shape, a size and a seed: its text, or where the last is `true`, its summary, which
     /// is what `survey` says of it with the usual limit, and `solve` of roommates.
     Make(Shape, u32, u64, bool),

@@ -34,6 +34,7 @@ pub(crate) enum Command {
     Meet,
     Join,
     Survey,
+    Check,
     Make,
 }
 
@@ -93,6 +94,7 @@ pub(crate) fn command_named(name: &str) -> Option<Command>
         "meet" => Some(Command::Meet),
         "join" => Some(Command::Join),
         "survey" => Some(Command::Survey),
+        "check" => Some(Command::Check),
         "make" => Some(Command::Make),
         _ => None,
     }
@@ -164,6 +166,7 @@ fn operand_named(command: Command, name: &str) -> Option<Operand>
             "limit" => Some(Operand::Limit),
             _ => None,
         },
+        Command::Check => None,
         Command::Make => match name {
             "shape" => Some(Operand::Shape),
             "size" => Some(Operand::Size),
