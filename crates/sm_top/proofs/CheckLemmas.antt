@@ -1,5 +1,5 @@
 -- What is checked of an input: its seats, the text behind `end`, and the verdict on it.
-use Rattle.std.proofs.Common.{◌≡◌, ◌∙◌, ℕ, ◌<◌, arith, true, All, List, [], ◌∷◌, length, Option, None, Some, Ok, refl, ap}
+use Rattle.std.proofs.Common.{◌≡◌, ◌∙◌, ℕ, ◌<◌, arith, true, All, List, [], ◌∷◌, length, Option, None, Ok, refl, ap}
 use Rattle.std.specs.Option.{option_map}
 use Rattle.std.proofs.lemmas.List.Elements.{All-cons}
 use Rattle.sm_answer.specs.Printing.{IsShown}

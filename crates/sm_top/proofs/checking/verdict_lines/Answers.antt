@@ -1,8 +1,6 @@
-use Rattle.std.proofs.Common.{All, List, [], ◌∷◌, ap, sym, subst, arith}
-use Rattle.sm_instance.specs.declared.inputs.Input.{Input}
+use Rattle.std.proofs.Common.{[], ◌∷◌}
 use Rattle.sm_report.specs.Heads.{HeadData}
 use Rattle.sm_report.specs.Lines.{LineData, line_of}
-use Rattle.sm_report.specs.Sound.{IsLineOf}
 use Rattle.sm_answer.proofs.AnswerLemmas.{same_some, same_is, joined_some, joined_is, given_some}
 use Rattle.sm_top.proofs.CheckLemmas.{answer_sound}
 use Rattle.sm_top.proofs.checking.verdict_lines.Goals as goal
