@@ -431,7 +431,7 @@ fn checked_no<'a>(text: &'a str, line: u32, why: Reason, written: &'a str) -> Ro
 }
 
 #[test]
-fn answers_are_checked(rt: HostRuntime) {
+fn answers_of_weight_are_checked(rt: HostRuntime) {
     come_to(
         &rt,
         &[
@@ -452,6 +452,15 @@ fn answers_are_checked(rt: HostRuntime) {
                 Reason::CutDiffers,
                 "answer check\nno 26 CutDiffers\nend\n",
             ),
+        ],
+    );
+}
+
+#[test]
+fn answers_are_checked(rt: HostRuntime) {
+    come_to(
+        &rt,
+        &[
             done(
                 "check",
                 "stable 1 roommates\np 1: 2 3 4\np 2: 3 1 4\np 3: 1 2 4\np 4: 1 2 3\nend\nanswer solve\nnone\nparty 1 2 3\nparty 4\nend\n",

@@ -1,14 +1,18 @@
 -- What is checked of an input: its seats, the text behind `end`, and the verdict on it.
-use Rattle.std.proofs.Common.{◌≡◌, ◌∙◌, ℕ, ◌<◌, true, List, [], ◌∷◌, length, Option, None, Some, Ok, refl, ap}
+use Rattle.std.proofs.Common.{◌≡◌, ◌∙◌, ℕ, ◌<◌, arith, true, All, List, [], ◌∷◌, length, Option, None, Ok, refl, ap}
 use Rattle.std.specs.Option.{option_map}
+use Rattle.std.proofs.lemmas.List.Elements.{All-cons}
 use Rattle.sm_answer.specs.Printing.{IsShown}
+use Rattle.sm_answer.proofs.AnswerLemmas.{one_all}
 use Rattle.sm_text.specs.declared.refusal.RefusalKind.TheVariants.{TooManySeats, BadAnswer}
 use Rattle.sm_instance.specs.Inputs.{right_of}
 use Rattle.sm_instance.specs.Written.{agent_at}
 use Rattle.sm_instance.specs.declared.inputs.Input.{Input}
 use Rattle.sm_instance.specs.declared.inputs.Input.TheVariants.{Two, Room}
 use Rattle.sm_reader.specs.InstanceText.{ReadText, Refusal}
+use Rattle.sm_report.specs.Heads.{HeadData}
 use Rattle.sm_report.specs.Lines.{LineData}
+use Rattle.sm_report.specs.Sound.{IsLineOf}
 use Rattle.sm_seats.proofs.LimitLaws.{none_is}
 use Rattle.sm_cert.specs.Checking.{HasFewSeats, HasTooManyAt}
 use Rattle.sm_given.specs.GivenText.{texts_from}
@@ -75,3 +79,10 @@ wrote_verdict tallies bytes read v gives a b f g status ok is_judged right =
       ok = ok;
       shown = record { answer = shown.answer; is_right = record { verdict = v; judged = is_judged; by_verdict = h.same; shows = shown.is_right }; shows = shown.shows };
     })
+
+-- the answer has lines of every instance
+pub answer_sound : (input : Input) (line : LineData) → IsLineOf input line → All (IsLineOf input) (LineData.Answer HeadData.Check ∷ line ∷ LineData.End ∷ [])
+answer_sound input line sound =
+    All-cons (IsLineOf input) (LineData.Answer HeadData.Check) (line ∷ LineData.End ∷ []) (record { printable = tt; seats = λ k d l. absurd (omega (arith, l)); numbers = tt; head = tt })
+    (All-cons (IsLineOf input) line (LineData.End ∷ []) sound
+    (one_all (IsLineOf input) LineData.End (record { printable = tt; seats = λ k d l. absurd (omega (arith, l)); numbers = tt; head = tt })))

@@ -51,8 +51,8 @@ use std::alloc::Global;
 ///   each proposer has the better of its two partners, or the worse (section 1.3.1 there); for `survey` how many allowed
 ///   stable matchings are listed from the first on, up to the limit, and what the tallies show that were told of each of
 ///   them; for `check` that the answer which is read behind `end` is right: each clause holds at each of its lines, and what that
-///   means of the instance is said in [`sm_cert::laws`]; for `make` the text of the instance that is made, or what `survey` with a limit of 100, or for roommates `solve`,
-///   writes for it.
+///   means of the instance is said in [`sm_cert::laws`]; for `make` the text of the instance that is made, or what `survey`
+///   with a limit of 100, or for roommates `solve`, writes for it.
 /// - `Refused`: the input is refused for this reason, at this line; the one line `refused NAME LINE` is written. An input
 ///   that is too long comes first, then the faults of its lines from the top, then a missing `end`, then a name that isn't
 ///   declared, then text behind `end` where the command takes none, then a kind that the command doesn't take, then seats
