@@ -16,6 +16,5 @@ mod WeightYes
 mod ChosenYes
 mod CouplesYes
 mod NoneYes
-mod LinewiseLemmas
 mod WitnessLemmas
 mod WeightLemmas

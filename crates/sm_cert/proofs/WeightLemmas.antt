@@ -32,7 +32,7 @@ use Rattle.sm_judge.specs.Chain.{reached, last_rotation, ChainHolds}
 use Rattle.sm_judge.specs.Flows.{net_in, first_level, LevelHolds, TakenHolds, IsAllowedSet, taken_matching, WeightHolds}
 use Rattle.sm_cert.specs.Witnesses.{seat}
 use Rattle.sm_cert.specs.WitnessesWeight.{three_by_three, weight_lines, WeightAnswers}
-use Rattle.sm_cert.proofs.LinewiseLemmas.{AllHold, hold_at, hold_append, all_hold, no_end}
+use Rattle.sm_judge.proofs.LinewiseLemmas.{AllHold, hold_at, hold_append, all_hold, no_end}
 
 -- The clauses at lines that are none of theirs.
 NotFirst : (above : List LineData) (x : LineData) → (is_up_to : LineData → Bool) → is_up_to x ≡ true → IsFirstBehind is_up_to above x → ⊥

@@ -21,7 +21,7 @@ use Rattle.sm_judge.specs.Chain.{RotationsHold}
 use Rattle.sm_judge.specs.Rooming.{PartiesHold, AreNew, IsWholePartition, HasOddParty, members_of}
 use Rattle.sm_judge.specs.Judging.{Subject, Clauses}
 use Rattle.sm_cert.specs.Witnesses.{five, odd_answer, odd_lines, OddAnswers, two_by_two, worst_first, FirstIsntBest, seat}
-use Rattle.sm_cert.proofs.LinewiseLemmas.{AllHold, hold_at, all_hold, no_end}
+use Rattle.sm_judge.proofs.LinewiseLemmas.{AllHold, hold_at, all_hold, no_end}
 
 -- The odd party.
 none_of : (P : Seat → Type 0) → All P []

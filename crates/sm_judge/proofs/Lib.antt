@@ -1,4 +1,5 @@
 pub mod JudgingLemmas
+pub mod LinewiseLemmas
 pub mod ListingLemmas
 pub mod SolvingLemmas
 pub mod SeatPairLemmas

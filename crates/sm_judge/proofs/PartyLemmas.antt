@@ -68,7 +68,7 @@ stands_at x xs c = record { at = c.0; on_list = c.1; is = get_or_default xs c.0 
 pub among_at : (xs : List ℕ) (i : ℕ) → i < length xs → is_among (get_or xs i 0) xs ≡ true
 among_at xs i l = among_of xs (get_or xs i 0) (i, l, get_or_default xs i (get_or xs i 0) 0 l)
 
-not_among : (x : ℕ) (xs : List ℕ) → ((i : ℕ) → i < length xs → get_or xs i 0 ≢ x) → is_among x xs ≡ false
+pub not_among : (x : ℕ) (xs : List ℕ) → ((i : ℕ) → i < length xs → get_or xs i 0 ≢ x) → is_among x xs ≡ false
 not_among x xs none = go (is_among x xs) refl
   where
     go : (b : Bool) → is_among x xs ≡ b → b ≡ false
@@ -104,11 +104,21 @@ times_more parties party x =
     let last = sum_by-append f party [] in
     omega arith
 
-members_more : (parties : List (List ℕ)) (party : List ℕ) (z : ℕ) → is_among z (members_of (parties ++ party ∷ [])) ≡ (is_among z (members_of parties) || is_among z party)
+pub members_more : (parties : List (List ℕ)) (party : List ℕ) (z : ℕ) → is_among z (members_of (parties ++ party ∷ [])) ≡ (is_among z (members_of parties) || is_among z party)
 members_more parties party z =
     ap (is_among z) (flat_map-append (λ (p : List ℕ). p) parties (party ∷ []))
     ∙ list_any-append (λ y. y == z) (members_of parties) (party ++ [])
     ∙ ap (λ b. is_among z (members_of parties) || b) (list_any-append (λ y. y == z) party [] ∙ or_false (is_among z party))
+
+-- a party is new whose members are apart and stand in none of these
+pub new_where : (parties : List (List ℕ)) (party : List ℕ) → ((i j : ℕ) → i < j → j < length party → get_or party i 0 ≢ get_or party j 0)
+    → ((j : ℕ) → j < length party → is_among (get_or party j 0) (members_of parties) ≡ false) → AreNew parties party
+new_where parties party apart not_before x c =
+    let s = stands_at x party c in
+    let all = times_more parties party x in
+    let before = none_times x (members_of parties) (ap (λ z. is_among z (members_of parties)) (sym s.is) ∙ not_before s.at s.on_list) in
+    let now = once x party apart (among_of party x c) in
+    omega arith
 
 -- a party of a member is found
 found_in : (parties : List (List ℕ)) (z : ℕ) → is_some (find (is_among z) parties) ≡ is_among z (members_of parties)
@@ -161,14 +171,6 @@ module _ {n : ℕ} {parties : List (List ℕ)} {next : List ℕ} {met : List Boo
     -- a member of it stood in none before
     not_before : (j : ℕ) → j < length party → is_among (get_or party j 0) (members_of parties) ≡ false
     not_before j on = sym (k.stand (get_or party j 0) (within j on)) ∙ m.fresh j on
-
-    are_new : AreNew parties party
-    are_new x c =
-        let s = stands_at x party c in
-        let all = times_more parties party x in
-        let before = none_times x (members_of parties) (ap (λ z. is_among z (members_of parties)) (sym s.is) ∙ not_before s.at s.on_list) in
-        let now = once x party m.distinct (among_of party x c) in
-        omega arith
 
     next_now : (z : ℕ) → z < n → (b : Bool) → is_among z party ≡ b → (get_or next' z 0 ≡ next_of (parties ++ party ∷ []) z) × (get_or next' z 0 < n)
     next_now z inside true e =
@@ -223,7 +225,7 @@ module _ {n : ℕ} {parties : List (List ℕ)} {next : List ℕ} {met : List Boo
 
     pub parted : HasParted parties party n next' met' odd'
     parted = record {
-      fresh = are_new;
+      fresh = new_where parties party m.distinct not_before;
       held = record {
         next_each = l.one_each ∙ k.next_each;
         met_each = m.one_each ∙ k.met_each;

@@ -109,7 +109,7 @@ head_sound : (w : Written) (after : Option (List ℕ)) (limit : ℕ) → IfSome 
 head_sound w after limit small least greatest =
     record { printable = tt; seats = λ k d l. absurd (omega arith); numbers = tt; head = (small, record { least = least; greatest = greatest }) }
 
-list_sound : {w : Written} {after : Option (List ℕ)} (limit : ℕ) → IsInstance w → IfSome after (All IsSmall) → 1 ≤ limit → limit ≤ 1000000 → (answer : List LineData) → IsListAnswer after limit w answer → All (IsLineOf (Two w)) answer
+pub list_sound : {w : Written} {after : Option (List ℕ)} (limit : ℕ) → IsInstance w → IfSome after (All IsSmall) → 1 ≤ limit → limit ≤ 1000000 → (answer : List LineData) → IsListAnswer after limit w answer → All (IsLineOf (Two w)) answer
 list_sound {w} {after} limit i small least greatest answer a =
     let P = IsLineOf (Two w) in
     let vectors : All (All IsSmall) a.out = all_listed (All IsSmall) a.out (λ k l. vector_small _ i (a.listing.sound k l)) in

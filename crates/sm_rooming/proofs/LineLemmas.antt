@@ -70,6 +70,11 @@ pub couples_sound : {input : Input} {persons : List AgentData} {mates : List (Op
 couples_sound {input} {persons} {mates} room stable =
     answer_sound [] (couple_line mates) (length mates) room (none_left (IsLineOf (Room persons))) (λ x l. couple_sound persons mates stable.matching x)
 
+pub all_parties_sound : {persons : List AgentData} (parties : List (List ℕ)) → AreExcluding (lists_of persons) parties → All (IsLineOf (Room persons)) (party_lines parties)
+all_parties_sound {persons} parties e =
+    answer_sound (LineData.Nothing ∷ []) (party_line parties) (length parties) refl (one_all (IsLineOf (Room persons)) LineData.Nothing (none_sound persons))
+    (λ k l. party_sound persons e.next parties e.all (e.partition.one_each ∙ many persons) k l)
+
 abbrev parties_given : List (Vec ℕ Global) → List LineData
 parties_given parties = answer_lines (LineData.Nothing ∷ []) (party_line (rows_of parties)) (length parties)
 

@@ -70,7 +70,7 @@ names_side Hospitals side two = refl
 names_side Roommates side two = absurd (two refl)
 
 -- the answer of `solve` has lines of the instance alone
-solve_sound : (w : Written) (places : List (Option ℕ)) (side : Side) → IsInstance w → IsMatching w places → All (IsLineOf (Two w)) (solve_lines side w places)
+pub solve_sound : (w : Written) (places : List (Option ℕ)) (side : Side) → IsInstance w → IsMatching w places → All (IsLineOf (Two w)) (solve_lines side w places)
 solve_sound w places side h m =
     let P = IsLineOf (Two w) in
     All-cons P (LineData.Answer (HeadData.Solve (Some side))) (lines_from (pair_line w places) 0 (length w.proposers) ++ (LineData.End ∷ []))
