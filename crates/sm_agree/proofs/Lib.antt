@@ -6,3 +6,4 @@ pub mod CouplesAgree
 pub mod ChosenAgree
 pub mod PartiesAgree
 pub mod RegretAgree
+pub mod WitnessLemmas
