@@ -1,18 +1,20 @@
 -- A chain of rotations as an answer writes it, one line after another.
-use Rattle.std.proofs.Common.{◌≡◌, ℕ, suc, ◌<◌, List, [], ◌∷◌, ◌++◌, append-nil, length, map, Option, None, Some, Vec, Global, true, false, ◌&&◌, refl, sym, ap, ◌∙◌, subst, arith}
+use Rattle.std.proofs.Common.{◌≡◌, ℕ, suc, ◌<◌, inl, inr, List, [], ◌∷◌, ◌++◌, append-nil, length, map, Option, None, Some, Vec, Global, true, false, ◌&&◌, refl, sym, ap, ◌∙◌, subst, arith}
 use Rattle.std.specs.Prelude.{IfSome, filter_map, not, pred}
 use Rattle.std.specs.List.{list_all, cons_option}
-use Rattle.std.proofs.lemmas.Bool.{false≢true}
-use Rattle.std.proofs.lemmas.List.{length_push}
+use Rattle.std.proofs.lemmas.Bool.{false≢true, cases_lt}
+use Rattle.std.proofs.lemmas.List.{length_push, get_or_past, get_or_push, get_or_append_left}
 use Rattle.std.proofs.lemmas.List.Elements.{filter_map-append}
 use Rattle.sm_instance.specs.Written.{Written}
 use Rattle.sm_market.specs.Lists.{Lists}
 use Rattle.sm_market.specs.Matching.{Places}
-use Rattle.sm_market.specs.Pairing.{IsPairingOf}
+use Rattle.sm_market.specs.Pairing.{Paired, IsPairingOf}
 use Rattle.sm_market.specs.Stable.{IsStable}
 use Rattle.sm_theory.specs.Rotations.{IsExposed, IsLowestExposed, IsNothingExposed, eliminated}
 use Rattle.sm_theory.specs.Chains.{stage, rotation_at, AreNeedsOf}
-use Rattle.sm_theory.proofs.Bridge.Chain.{stage_before, rotation_new}
+use Rattle.sm_theory.proofs.Bridge.Chain.{stage_before, rotation_before, rotation_new}
+use Rattle.sm_net.specs.declared.moves.Move.{Move}
+use Rattle.sm_net.specs.Moves.{moves_in, row_of_moves, AreMovesOf, AreOnLists}
 use Rattle.sm_decide.specs.Exposure.{IsSearchAt}
 use Rattle.sm_decide.specs.Noting.{IsNotesFor, AreNoted}
 use Rattle.sm_decide.proofs.NotingLemmas.{eliminable_more}
@@ -32,7 +34,7 @@ use Rattle.sm_judge.specs.Chain.{RotationsHold, reached, last_rotation}
 use Rattle.sm_judge.specs.SeatPairsKept.{AreSeatPairs, HasTakenSeat}
 use Rattle.sm_judge.specs.declared.seat_pairs.SeatPairs.{SeatPairs}
 use Rattle.sm_report.specs.Heads.{HeadData}
-use Rattle.sm_judge.specs.Walks.{IsWalk, IsWalkOf, HasStepped, AreFirstsKept}
+use Rattle.sm_judge.specs.Walks.{AreChainMoves, IsWalk, IsWalkOf, HasStepped, AreFirstsKept}
 use Rattle.sm_judge.specs.Verdicts.{IsFirstThere}
 use Rattle.sm_judge.proofs.AnswerLemmas.{first_clause}
 use Rattle.sm_forms.proofs.TakingLemmas.{and_left, and_right, all_more}
@@ -54,6 +56,40 @@ stage_new l first xs x =
     ∙ ap (λ (m : Places). eliminated l m (rotation_at (xs ++ x ∷ []) (length xs))) (stage_before l first xs x (length xs) (omega arith))
     ∙ ap (eliminated l (stage l first xs (length xs))) (rotation_new xs x (length xs) refl)
 
+-- the moves of one more rotation
+pub no_moves : (l : Lists) → AreChainMoves l [] []
+no_moves l = record {
+  moves = record { one_each = refl; each = λ k less. absurd (omega arith) };
+  on_lists = λ k i less. absurd (let none : length (row_of_moves [] k) ≡ 0 = ap (λ (m : List Move). length m) (get_or_past {X = List Move} [] k [] (omega arith)) in omega (arith, none, less));
+}
+
+pub moves_more : {l : Lists} {rotations : List (List (ℕ × ℕ))} {rows : List (List Move)} → AreChainMoves l rotations rows → (rotation : List (ℕ × ℕ)) (moves : List Move) → AreMovesOf l rotation moves → AreOnLists l moves
+    → AreChainMoves l (rotations ++ rotation ∷ []) (rows ++ moves ∷ [])
+moves_more {l} {rotations} {rows} c rotation moves is on = record {
+  moves = record { one_each = omega (arith, c.moves.one_each, length_push rotations rotation, length_push rows moves); each = each };
+  on_lists = on_lists;
+}
+  where
+    each : (k : ℕ) → k < length (rotations ++ rotation ∷ []) → AreMovesOf l (rotation_at (rotations ++ rotation ∷ []) k) (row_of_moves (rows ++ moves ∷ []) k)
+    each k less = elim (cases_lt k (length rotations)) [
+      | inl below ↦ subst (AreMovesOf l (rotation_at (rotations ++ rotation ∷ []) k)) (sym (get_or_append_left rows (moves ∷ []) [] k (omega (arith, c.moves.one_each, below))))
+          (subst (λ (r : List (ℕ × ℕ)). AreMovesOf l r (row_of_moves rows k)) (sym (rotation_before rotations rotation k below)) (c.moves.each k below))
+      | inr past ↦
+          let e : k ≡ length rotations = omega (arith, past, less, length_push rotations rotation) in
+          let f : length rows ≡ k = omega (arith, e, c.moves.one_each) in
+          subst (AreMovesOf l (rotation_at (rotations ++ rotation ∷ []) k)) (sym (get_or_push rows moves [] k f))
+          (subst (λ (r : List (ℕ × ℕ)). AreMovesOf l r moves) (sym (rotation_new rotations rotation k e)) is)
+    ]
+
+    on_lists : (k : ℕ) → AreOnLists l (row_of_moves (rows ++ moves ∷ []) k)
+    on_lists k = elim (cases_lt k (length rows)) [
+      | inl below ↦ subst (AreOnLists l) (sym (get_or_append_left rows (moves ∷ []) [] k below)) (c.on_lists k)
+      | inr past ↦ elim (cases_lt (length rows) k) [
+        | inl over ↦ λ i less. absurd (let none : length (row_of_moves (rows ++ moves ∷ []) k) ≡ 0 = ap (λ (m : List Move). length m) (get_or_past (rows ++ moves ∷ []) k [] (omega (arith, over, length_push rows moves))) in omega (arith, none, less))
+        | inr same ↦ subst (AreOnLists l) (sym (get_or_push rows moves [] k (omega (arith, past, same)))) on
+      ]
+    ]
+
 module _ {l : Lists} {first : Places} {rotations : List (List (ℕ × ℕ))} {walk : Walk} (k : IsWalk l first rotations walk) (rotation : List (ℕ × ℕ)) where
   -- there is room for one more that is exposed
   pub room : IsExposed l walk.matching.places rotation → walk.notes.count < walk.notes.most
@@ -61,13 +97,16 @@ module _ {l : Lists} {first : Places} {rotations : List (List (ℕ × ℕ))} {wa
       let short = short_eliminable k.market k.best.stable.matching (eliminable_more rotation k.noted.eliminable k.reached x) in
       omega (arith, short, length_push rotations rotation, k.noted.count, k.most)
 
-  pub stepped : (after : Walk) → IsLowestExposed l walk.matching.places rotation → IsSearchAt l walk.matching.places after.search → IsPairingOf l after.matching → after.matching.places ≡ eliminated l walk.matching.places rotation
+  pub stepped : (after : Walk) → after.first ≡ walk.first → AreChainMoves l (rotations ++ rotation ∷ []) (moves_in after.moves.items) → IsLowestExposed l walk.matching.places rotation → IsSearchAt l walk.matching.places after.search → IsPairingOf l after.matching → after.matching.places ≡ eliminated l walk.matching.places rotation
       → IsStable l after.matching.places → IsNotesFor l after.notes → after.notes.most ≡ walk.notes.most → AreNoted l first (rotations ++ rotation ∷ []) after.notes → after.is_whole ≡ walk.is_whole → HasStepped l first rotations rotation walk after
-  stepped after lowest search made moved stable notes most noted same = record {
+  stepped after from moves lowest search made moved stable notes most noted same = record {
     lowest = lowest;
     is_walk = record {
       market = k.market;
       best = k.best;
+      first_made = subst (IsPairingOf l) (sym from) k.first_made;
+      first_is = ap (λ (m : Paired). m.places) from ∙ k.first_is;
+      moves = moves;
       made = made;
       reached = moved ∙ ap (λ (m : Places). eliminated l m rotation) k.reached ∙ sym (stage_new l first rotations rotation);
       stable = stable;
@@ -224,3 +263,7 @@ module _ {w : Written} {above : List LineData} {pairs : SeatPairs} (k : AreFirst
           kept = subst (λ (said : List (ℕ × ℕ)). AreSeatPairs (seat_market w) said after) (sym (said_one (first_in w) above x (p, seat_number w seat) refl)) one.kept;
         },
       )
+
+-- how the rotations so far move their proposers
+pub none_rotated : {w : Written} {above : List LineData} {pairs : SeatPairs} → AreFirstsKept w above pairs → AreChainMoves (seat_market w) (rotations_in w above) []
+none_rotated {w} {above} k = subst (λ (rotations : List (List (ℕ × ℕ))). AreChainMoves (seat_market w) rotations []) (sym (all_up_to w above k.up_to).1) (no_moves (seat_market w))

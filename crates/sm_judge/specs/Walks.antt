@@ -10,6 +10,8 @@ use Rattle.sm_theory.specs.Rotations.{IsNothingExposed, IsLowestExposed}
 use Rattle.sm_theory.specs.Chains.{stage}
 use Rattle.sm_decide.specs.Exposure.{IsSearchAt}
 use Rattle.sm_decide.specs.Noting.{IsNotesFor, AreNoted}
+use Rattle.sm_net.specs.declared.moves.Move.{Move}
+use Rattle.sm_net.specs.Moves.{moves_in, row_of_moves, AreMoves, AreOnLists}
 use Rattle.sm_seats.specs.SeatMarket.{seat_market}
 use Rattle.sm_seats.specs.Tables.{first_seats_of}
 use Rattle.sm_report.specs.Lines.{LineData}
@@ -19,11 +21,20 @@ use Rattle.sm_judge.specs.SeatPairsKept.{AreSeatPairs}
 use Rattle.sm_judge.specs.declared.seat_pairs.SeatPairs.{SeatPairs}
 use Rattle.sm_judge.specs.declared.walk.Walk.{Walk}
 
--- rotations were eliminated one after the other from the proposers' best matching: the matching that is reached, how far it was
--- searched for exposed rotations, and the notes of what was eliminated, which have room for a rotation for each entry
+-- how each of some rotations moves its proposers on these lists
+pub record AreChainMoves (l : Lists) (rotations : List (List (ℕ × ℕ))) (rows : List (List Move)) : Type 0 where
+  pub moves : AreMoves l rotations rows
+  pub on_lists : (k : ℕ) → AreOnLists l (row_of_moves rows k)
+
+-- rotations were eliminated one after the other from the proposers' best matching: how each moves its proposers, the matching
+-- that is reached, how far it was searched for exposed rotations, and the notes of what was eliminated, which have room for a
+-- rotation for each entry
 pub record IsWalk (l : Lists) (first : Places) (rotations : List (List (ℕ × ℕ))) (walk : Walk) : Type 0 where
   pub market : IsMarket l
   pub best : IsProposersBest l first
+  pub first_made : IsPairingOf l walk.first
+  pub first_is : walk.first.places ≡ first
+  pub moves : AreChainMoves l rotations (moves_in walk.moves.items)
   pub made : IsPairingOf l walk.matching
   pub reached : walk.matching.places ≡ stage l first rotations (length rotations)
   pub stable : IsStable l walk.matching.places

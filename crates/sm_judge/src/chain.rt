@@ -11,9 +11,10 @@ ghost use Rattle.sm_judge.specs.Judges.{IsKnown, IsOwnLine};
 ghost use Rattle.sm_judge.specs.Judging.{answer, Clauses};
 ghost use Rattle.sm_judge.specs.Verdicts.{AtLine, IsVerdict};
 ghost use Rattle.sm_judge.specs.Chain.{RotationsHold};
-ghost use Rattle.sm_judge.specs.Said.{is_up_to_firsts};
+ghost use Rattle.sm_judge.specs.Said.{rotations_in, is_up_to_firsts};
 ghost use Rattle.sm_judge.specs.Walking.{FindsOrKeeps};
-ghost use Rattle.sm_judge.specs.Walks.{AreFirstsKept, IsChainAt};
+ghost use Rattle.sm_judge.specs.Walks.{AreChainMoves, AreFirstsKept, IsChainAt, IsChainKept};
+ghost use Rattle.sm_net.specs.Moves.{moves_in};
 
 use crate::judging::{Judge, judge_lines};
 use crate::seat_pairs::{SeatPairs, is_unblocked};
@@ -23,6 +24,7 @@ use sm_decide::is_proposers_best;
 use sm_forms::seat_number;
 use sm_instance::Instance;
 use sm_market::Market;
+use sm_net::Move;
 use sm_report::Line;
 use sm_seats::Seats;
 use std::alloc::{AllocError, Global};
@@ -30,12 +32,12 @@ use std::alloc::{AllocError, Global};
 /// What is kept of the first matching that an answer writes, and of the rotations from it on: its pairs while they are
 /// written, and then, once the matching was tried, the rotations that were eliminated from it.
 #[derive(Drop)]
-pub(crate) struct Chain<'a> {
-    pub(crate) instance: &'a Instance,
-    pub(crate) market: &'a Market,
-    pub(crate) firsts: &'a [u32],
-    pub(crate) pairs: SeatPairs,
-    pub(crate) walk: Option<Walk>,
+pub struct Chain<'a> {
+    pub instance: &'a Instance,
+    pub market: &'a Market,
+    pub firsts: &'a [u32],
+    pub pairs: SeatPairs,
+    pub walk: Option<Walk>,
 }
 
 /// The verdict on an answer of `rotations`, of which the first line has this number. The seats, and the first seats of the
@@ -60,14 +62,7 @@ pub fn rotations_verdict(
     ensures { IfOk result (λ v. IsVerdict
         (AtLine (Clauses (answer instance.now HeadData.Rotations)) (map line_of lines.now)) first_line v) }
 {
-    let market = seats.market();
-    let judge = Chain {
-        instance,
-        market,
-        firsts,
-        pairs: SeatPairs::none(alloc, market)?,
-        walk: None,
-    };
+    let judge = Chain::none(alloc, instance, seats.market(), firsts)?;
     judge_lines(alloc, judge, lines, first_line)
 }
 
@@ -89,6 +84,45 @@ impl<'a> Judge for Chain<'a> {
 }
 
 impl<'a> Chain<'a> {
+    /// No line so far. The market has to be that of the seats of the instance, and `firsts` has the number of the first seat of
+    /// each reviewer. Takes time and memory in proportion to the agents of the market.
+    ///
+    /// # Errors
+    ///
+    /// `AllocError` where memory ran out, and only then.
+    pub fn none(
+        alloc: Global,
+        instance: &'a Instance,
+        market: &'a Market,
+        firsts: &'a [u32],
+    ) -> Result<Chain<'a>, AllocError>
+        requires market { market.now ≡ seat_market instance.now }
+        requires firsts { firsts.now ≡ first_seats_of instance.now }
+        ensures instance { IfOk result (λ chain. chain.instance ≡ instance.entry) }
+        ensures market { IfOk result (λ chain. chain.market ≡ market.entry) }
+        ensures firsts { IfOk result (λ chain. chain.firsts ≡ firsts.entry) }
+        ensures known { IfOk result (λ chain. IsChainKept instance.now market.now firsts.now [] chain.pairs chain.walk) }
+    {
+        Ok(Chain {
+            instance,
+            market,
+            firsts,
+            pairs: SeatPairs::none(alloc, market)?,
+            walk: None,
+        })
+    }
+
+    /// How each rotation so far moves its proposers.
+    pub fn moves(&self) -> &[Vec<Move>]
+        ensures { (above : List LineData) → IsChainAt self.now.instance.now above self.now.pairs self.now.walk
+            → AreChainMoves (seat_market self.now.instance.now) (rotations_in self.now.instance.now above) (moves_in result.now) }
+    {
+        match &self.walk {
+            Some(walk) => &walk.moves,
+            None => &[],
+        }
+    }
+
     /// The same while the first matching is written.
     fn first_fault(&mut self, alloc: Global, line: &Line) -> Result<Option<Reason>, AllocError>
         requires market { self.old.market.now ≡ seat_market self.old.instance.now }

@@ -11,7 +11,7 @@ use sm_report::Line;
 use std::alloc::{AllocError, Global};
 
 /// What judges the lines of an answer, one after another, by what it keeps of those above.
-pub(crate) trait Judge {
+pub trait Judge {
     ghost use Rattle.std.specs.Prelude.{◌≡◌, List, IfOk};
     ghost use Rattle.sm_report.specs.Lines.{LineData, line_of};
     ghost use Rattle.sm_judge.specs.Judging.{Subject};
@@ -40,7 +40,7 @@ pub(crate) trait Judge {
 /// # Errors
 ///
 /// `AllocError` where memory ran out, and only then.
-pub(crate) fn judge_lines<J: Judge + Drop>(
+pub fn judge_lines<J: Judge + Drop>(
     alloc: Global,
     judge: J,
     lines: &[Line],

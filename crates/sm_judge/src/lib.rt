@@ -21,12 +21,16 @@ mod verdicts;
 mod walk;
 mod wanted;
 
-pub use chain::rotations_verdict;
+pub use chain::{Chain, rotations_verdict};
 pub use chosen::chosen_verdict;
 pub use couples::couples_verdict;
+pub use judging::{Judge, judge_lines};
 pub use listing::list_verdict;
 pub use parties::parties_verdict;
 pub use reduced::reduced_verdict;
 pub use regret::regret_verdict;
+pub use seat_pairs::SeatPairs;
 pub use solving::solve_verdict;
 pub use verdicts::{Reason, Verdict};
+pub use walk::{Walk, from_zero, is_up_to_rotations};
+pub use wanted::Stood;

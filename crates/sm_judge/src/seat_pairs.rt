@@ -13,9 +13,9 @@ use std::alloc::{AllocError, Global};
 
 /// A matching of seats that grows: the place of each proposer's seat on its list, and which seats are taken.
 #[derive(Drop)]
-pub(crate) struct SeatPairs {
-    pub(crate) places: Vec<Option<u32>>,
-    pub(crate) taken: Vec<bool>,
+pub struct SeatPairs {
+    pub places: Vec<Option<u32>>,
+    pub taken: Vec<bool>,
 }
 
 impl SeatPairs {

@@ -25,18 +25,21 @@ use sm_decide::{Notes, Search};
 use sm_forms::rotation_of;
 use sm_instance::Instance;
 use sm_market::{Market, Pairing};
+use sm_net::{Move, moves_of};
 use sm_report::Line;
 use sm_theory::{Rotation, eliminate};
 use std::alloc::{AllocError, Global};
 
-/// What is kept of rotations that are eliminated one after another from the first matching: the matching that is reached, and
-/// whether it is known that nothing is exposed there.
+/// What is kept of rotations that are eliminated one after another from the first matching: how each moves its proposers, the
+/// matching that is reached, and whether it is known that nothing is exposed there.
 #[derive(Drop)]
-pub(crate) struct Walk {
-    pub(crate) matching: Pairing,
-    pub(crate) search: Search,
-    pub(crate) notes: Notes,
-    pub(crate) is_whole: bool,
+pub struct Walk {
+    pub first: Pairing,
+    pub moves: Vec<Vec<Move>>,
+    pub matching: Pairing,
+    pub search: Search,
+    pub notes: Notes,
+    pub is_whole: bool,
 }
 
 impl Walk {
@@ -53,7 +56,11 @@ impl Walk {
     {
         let search = Search::of(alloc, market)?;
         let notes = Notes::of(alloc, market, entry_count(market))?;
+        let kept = first.copy(alloc)?;
+        let moves = Vec::new(alloc);
         Ok(Walk {
+            first: kept,
+            moves,
             matching: first,
             search,
             notes,
@@ -93,7 +100,7 @@ impl Walk {
             Line::First(_, _) => Ok(Some(Reason::NotAMatching)),
             Line::Rotation(_, pairs) => {
                 let rotation = rotation_of(alloc, instance, firsts, pairs)?;
-                if !self.steps(market, &rotation) {
+                if !self.steps(alloc, market, &rotation)? {
                     return Ok(Some(Reason::NotExposed));
                 }
                 Ok(None)
@@ -109,20 +116,28 @@ impl Walk {
     }
 
     /// Whether a rotation is the next one. It is eliminated then.
-    fn steps(&mut self, market: &Market, rotation: &Rotation) -> bool
+    fn steps(
+        &mut self,
+        alloc: Global,
+        market: &Market,
+        rotation: &Rotation,
+    ) -> Result<bool, AllocError>
         requires { HasWalked market.now self.old }
-        ensures { (first : Places) (rotations : List (List (ℕ × ℕ))) → IsWalk market.now first rotations self.old
-            → StepsAlong market.now first rotations rotation.now.pairs.items self.old self.new result }
+        ensures { IfOk result (λ steps. (first : Places) (rotations : List (List (ℕ × ℕ)))
+            → IsWalk market.now first rotations self.old
+            → StepsAlong market.now first rotations rotation.now.pairs.items self.old self.new steps) }
     {
         if !self
             .search
             .is_lowest_exposed(market, &self.matching, rotation)
         {
-            return false;
+            return Ok(false);
         }
+        let moves = moves_of(alloc, market, &self.matching, rotation)?;
+        self.moves.push(moves)?;
         self.notes.note(market, &self.matching, rotation);
         eliminate(market, &mut self.matching, rotation);
-        true
+        Ok(true)
     }
 
     /// Whether no rotation is exposed any more.
@@ -152,8 +167,8 @@ impl Walk {
     }
 }
 
-/// Whether a line is one of the rotations, or one above them.
-fn is_up_to_rotations(line: &Line) -> bool
+/// Whether a line is one of the rotations, with what they need and add, or one above them. Takes constant time.
+pub fn is_up_to_rotations(line: &Line) -> bool
     ensures { result ≡ is_up_to_rotations (line_of line.now) }
 {
     match line {
@@ -166,8 +181,12 @@ fn is_up_to_rotations(line: &Line) -> bool
     }
 }
 
-/// Numbers that count from 1, as they count from 0.
-fn from_zero(alloc: Global, numbers: &[u32]) -> Result<Vec<u32>, AllocError>
+/// Numbers that count from 1, as they count from 0. Takes time and memory in proportion to them.
+///
+/// # Errors
+///
+/// `AllocError` where memory ran out, and only then.
+pub fn from_zero(alloc: Global, numbers: &[u32]) -> Result<Vec<u32>, AllocError>
     ensures { IfOk result (λ less. less.items ≡ map pred numbers.now) }
 {
     let mut less = Vec::with_capacity(alloc, numbers.len())?;

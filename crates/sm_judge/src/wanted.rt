@@ -8,15 +8,19 @@ ghost use Rattle.sm_judge.specs.WantedKept.{AreStood, Stands};
 use sm_instance::Instance;
 use std::alloc::{AllocError, Global};
 
-/// The proposers that stand in pairs so far.
+/// The proposers that stand in pairs so far, whether each does, from proposer 0 on.
 #[derive(Drop)]
-pub(crate) struct Stood {
-    pub(crate) stood: Vec<bool>,
+pub struct Stood {
+    pub stood: Vec<bool>,
 }
 
 impl Stood {
-    /// Nobody stands in a pair.
-    pub(crate) fn nobody(alloc: Global, instance: &Instance) -> Result<Stood, AllocError>
+    /// Nobody stands in a pair. Takes time and memory in proportion to the proposers.
+    ///
+    /// # Errors
+    ///
+    /// `AllocError` where memory ran out, and only then.
+    pub fn nobody(alloc: Global, instance: &Instance) -> Result<Stood, AllocError>
         ensures { IfOk result (λ nobody. AreStood instance.now [] nobody.stood.items) }
     {
         Ok(Stood {
@@ -24,14 +28,9 @@ impl Stood {
         })
     }
 
-    /// Whether a pair is one of the matching that is wanted, and its proposer stood in none before. Then it stands too.
-    pub(crate) fn add(
-        &mut self,
-        instance: &Instance,
-        wanted: &[Option<u32>],
-        p: u32,
-        r: u32,
-    ) -> bool
+    /// Whether a pair is one of the matching that is wanted, and its proposer stood in none before. Then it stands too. Agents are
+    /// numbered from 0. Takes constant time.
+    pub fn add(&mut self, instance: &Instance, wanted: &[Option<u32>], p: u32, r: u32) -> bool
         requires proposer { p < length instance.now.proposers }
         requires one_each { length self.old.stood.items ≡ length instance.now.proposers }
         requires wanted { IsAssignment instance.now wanted.now }
@@ -50,8 +49,9 @@ impl Stood {
         true
     }
 
-    /// Whether each proposer that is matched in the matching that is wanted stands in a pair.
-    pub(crate) fn are_all_there(&self, instance: &Instance, wanted: &[Option<u32>]) -> bool
+    /// Whether each proposer that is matched in the matching that is wanted stands in a pair. Takes time in
+    /// proportion to the proposers.
+    pub fn are_all_there(&self, instance: &Instance, wanted: &[Option<u32>]) -> bool
         requires one_each { length self.now.stood.items ≡ length instance.now.proposers }
         requires wanted { IsAssignment instance.now wanted.now }
         ensures { (pairs : List (ℕ × ℕ)) → AreStood instance.now pairs self.now.stood.items

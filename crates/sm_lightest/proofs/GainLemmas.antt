@@ -20,7 +20,7 @@ use Rattle.sm_shown.specs.RotationLines.{seated_pairs}
 use Rattle.sm_shown.specs.RotationAnswer.{pairs_of}
 use Rattle.sm_shown.proofs.SeatingLemmas.{place_of-reviewer_of}
 use Rattle.sm_lightest.specs.WeightAnswer.{weight_with, gain_of_pairs}
-use Rattle.sm_lightest.proofs.PlaceLemmas.{weights_at}
+use Rattle.sm_placed.proofs.PlaceLemmas.{weights_at}
 
 -- a proposer with its seat's reviewer
 abbrev with_reviewer : Seating → (ℕ × ℕ) → (ℕ × ℕ)

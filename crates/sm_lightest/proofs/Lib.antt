@@ -1,4 +1,3 @@
-pub mod PlaceLemmas
 pub mod MemberLemmas
 pub mod SizeLemmas
 pub mod RowLemmas

@@ -9,8 +9,8 @@ use Rattle.sm_market.specs.Matching.{Places, held}
 use Rattle.sm_theory.specs.Rotations.{proposer_at, reviewer_at, target_at}
 use Rattle.sm_theory.specs.Weights.{total, weight_at, weight_of, weight_of_place, gain_of}
 use Rattle.std.proofs.Common.{Option, Some, None}
-use Rattle.sm_lightest.specs.PlaceWeights.{IsLight, AreLight}
-use Rattle.sm_lightest.proofs.PlaceLemmas.{light_at}
+use Rattle.sm_placed.specs.PlaceWeights.{IsLight, AreLight}
+use Rattle.sm_placed.proofs.PlaceLemmas.{light_at}
 
 sum_size : (a b : ℤ) (n : ℕ) → unsigned_abs a ≤ 2000000000 * n → unsigned_abs b ≤ 2000000000 → unsigned_abs (a +ℤ b) ≤ 2000000000 * suc n
 sum_size a b n x y = omega (arith, ints)

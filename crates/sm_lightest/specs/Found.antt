@@ -10,7 +10,7 @@ use Rattle.sm_theory.specs.declared.flow_lines.FlowLine.{FlowLine}
 use Rattle.sm_weight.specs.declared.weighing.LightestFound.{LightestFound}
 use Rattle.sm_weight.specs.Lightest.{IsLightestFound, set_matching}
 use Rattle.sm_lightest.specs.WeightAnswer.{shown_node}
-use Rattle.sm_lightest.specs.PlaceWeights.{AreLight}
+use Rattle.sm_placed.specs.PlaceWeights.{AreLight}
 use Rattle.sm_lightest.specs.declared.lightest_parts.Lightest.{Lightest}
 
 -- a line of a flow with its ends as lines of answers name them

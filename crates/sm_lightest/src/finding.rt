@@ -7,14 +7,14 @@ ghost use Rattle.sm_instance.specs.Allowed.{IsAllowed};
 ghost use Rattle.sm_seats.specs.Seating.{seating_of, levels_of};
 ghost use Rattle.sm_seats.specs.Correspondence.{IsSeating, leveled, weights_of};
 ghost use Rattle.sm_weight.specs.Lightest.{IsLightestFound};
-ghost use Rattle.sm_lightest.specs.PlaceWeights.{AreLight};
+ghost use Rattle.sm_placed.specs.PlaceWeights.{AreLight};
 ghost use Rattle.sm_lightest.specs.WeightAnswer.{shown_node};
 ghost use Rattle.sm_lightest.specs.Found.{IsFound, IsFlowLine, shown_ends};
 
 use crate::lightest_parts::Lightest;
-use crate::place_weights::place_weights;
 use sm_instance::{Instance, Measure};
 use sm_listing::conditions_of;
+use sm_placed::weights_of_places;
 use sm_poset::Conditions;
 use sm_seats::Seats;
 use sm_shown::Basis;
@@ -44,7 +44,7 @@ pub fn find_lightest(
 {
     let basis = Basis::of(alloc, seats)?;
     let levels = seats.levels(alloc)?;
-    let weights = place_weights(alloc, instance, seats, by, &levels)?;
+    let weights = weights_of_places(alloc, instance, seats, by, &levels)?;
     let conditions = few_conditions(alloc, instance)?;
     match sm_weight::lightest(alloc, &basis.poset, &levels, &weights, &conditions)? {
         Some(found) => Ok(Some(read_off(alloc, instance, seats, by, basis, found)?)),

@@ -9,7 +9,6 @@ mod figures;
 mod finding;
 mod gained_lines;
 mod lightest_parts;
-mod place_weights;
 pub mod witnesses;
 
 pub use answer::{LightestLines, NoneLines, lightest_lines, none_lines};

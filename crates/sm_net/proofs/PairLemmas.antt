@@ -1,5 +1,7 @@
 -- Pairs of numbers in order.
-use Rattle.std.proofs.Common.{◌≡◌, ℕ, zero, suc, ◌+◌, ◌<◌, ◌≤◌, inl, inr, arith, refl, sym, ap, ◌∙◌, subst, false, List, length, nat_cmp, is_lt, Ordering, get_or, eqb-true}
+use Rattle.std.proofs.Common.{◌≡◌, ℕ, zero, suc, ◌+◌, ◌<◌, ◌≤◌, inl, inr, arith, refl, sym, ap, ◌∙◌, subst, Bool, true, false, ◌||◌, ltb, List, length, nat_cmp, is_lt, Ordering, get_or, eqb-true, ltb-true, lt-ltb, le-ltb, eq-eqb}
+use Rattle.std.proofs.lemmas.List.{get_or_default}
+use Rattle.std.specs.List.Sorted.{IsPartitionPoint, IsPartitionedBy}
 use Rattle.std.specs.Prelude.{◌==◌, ◌&&◌}
 use Rattle.std.specs.Ordering.{ordering_then}
 use Rattle.std.proofs.lemmas.Bool.{false≢true}
@@ -61,12 +63,57 @@ both_up x y (inl a) (inr b) = absurd (omega (arith, b.0))
 both_up x y (inr a) (inl b) = absurd (omega (arith, a.0))
 both_up x y (inr a) (inr b) = let e : x.1 ≡ y.1 = omega (arith, a.1, b.1) in (λ k. (a.0 k, e k))
 
--- one half of a bisection, and the other
-pub lower_half : {pairs : List (ℕ × ℕ)} {pair : ℕ × ℕ} (middle : ℕ) → AreOrdered pairs → middle < length pairs → IsBelow (pair_at pairs middle) pair → (a : ℕ) → a < middle + 1 → IsBelow (pair_at pairs a) pair
-lower_half {pairs} {pair} middle o less here a few = elim (eq_or_ne a middle) [
-  | inl e ↦ subst (λ k. IsBelow (pair_at pairs k) pair) (sym e) here
-  | inr ne ↦ below_of (pair_at pairs a) (pair_at pairs middle) pair (o.ordered a middle (omega arith) less) here
+-- the test of whether a pair comes before this one
+abbrev pub comes_before : ℕ → ℕ → ℕ × ℕ → Bool
+comes_before i j x = ltb x.0 i || (x.0 == i && ltb x.1 j)
+
+before_of : (i j : ℕ) (x : ℕ × ℕ) → comes_before i j x ≡ true → IsBelow x (i, j)
+before_of i j x t = elim (lt_or_le x.0 i) [
+  | inl less ↦ inl less
+  | inr le ↦
+      let rest : (x.0 == i && ltb x.1 j) ≡ true = rw (le-ltb x.0 i le) at t in
+      let both = and_parts (x.0 == i) (ltb x.1 j) rest in
+      inr (eqb-true x.0 i both.0, ltb-true x.1 j both.1)
 ]
+
+or_true : (t : Bool) → (t || true) ≡ true
+or_true true = refl
+or_true false = refl
+
+is_before : (i j : ℕ) (x : ℕ × ℕ) → IsBelow x (i, j) → comes_before i j x ≡ true
+is_before i j x (inl less) = rw (lt-ltb x.0 i less) refl
+is_before i j x (inr same) = rw (eq-eqb x.0 i same.0, lt-ltb x.1 j same.1) (or_true (ltb x.0 i))
+
+not_before : (i j : ℕ) (x : ℕ × ℕ) → comes_before i j x ≡ false → IsUpTo (i, j) x
+not_before i j x f = elim (lt_or_le x.0 i) [
+  | inl less ↦ absurd (false≢true (sym f ∙ is_before i j x (inl less)))
+  | inr le ↦ elim (eq_or_ne x.0 i) [
+    | inl e ↦ elim (lt_or_le x.1 j) [
+      | inl less ↦ absurd (false≢true (sym f ∙ is_before i j x (inr (e, less))))
+      | inr more ↦ inr (sym e, more)
+    ]
+    | inr ne ↦ inl (omega (arith, le, ne))
+  ]
+]
+
+-- no pair that comes before this one stands behind one that doesn't, and so they part there
+pub parted_before : (pairs : List (ℕ × ℕ)) (i j : ℕ) → AreOrdered pairs → IsPartitionedBy (comes_before i j) pairs
+parted_before pairs i j o a b d le less t = elim (eq_or_ne a b) [
+  | inl e ↦ rw e t
+  | inr ne ↦
+      is_before i j (get_or pairs a d)
+      (below_of (get_or pairs a d) (get_or pairs b d) (i, j) (up_at a b d (omega arith) less) (before_of i j (get_or pairs b d) t))
+]
+  where
+    up_at : (a b : ℕ) (d : ℕ × ℕ) → a < b → b < length pairs → IsUpTo (get_or pairs a d) (get_or pairs b d)
+    up_at a b d few less = rw (get_or_default pairs a d (0, 0) (omega arith), get_or_default pairs b d (0, 0) less) (o.ordered a b few less)
+
+pub parted_of : (pairs : List (ℕ × ℕ)) (i j n : ℕ) → n ≤ length pairs → IsPartitionPoint (λ y. comes_before i j y ≡ true) (λ y. comes_before i j y ≡ false) pairs n → IsParted pairs (i, j) n
+parted_of pairs i j n few point = record {
+  few = few;
+  lower = λ a less. before_of i j (pair_at pairs a) (point.0 a (0, 0) (omega arith) less);
+  higher = λ a more less. not_before i j (pair_at pairs a) (point.1 a (0, 0) more less);
+}
 
 is_pair : (x : ℕ × ℕ) (i j : ℕ) → x.0 ≡ i → x.1 ≡ j → x ≡ (i, j)
 is_pair x i j a b = (λ k. (a k, b k))

@@ -59,7 +59,8 @@ impl Pairs {
         ensures parted { IsParted self.now (from, to) result }
         ensures ordered { AreOrdered self.now }
     {
-        parting(&self.pairs, from, to)
+        self.pairs
+            .partition_point(|pair| pair.0 < from || pair.0 == from && pair.1 < to)
     }
 
     /// The first place at which a pair stands.
@@ -91,29 +92,4 @@ impl Pairs {
     {
         self.place(from, to).is_some()
     }
-}
-
-/// How many of these pairs come before this one.
-fn parting(pairs: &[(u32, u32)], from: u32, to: u32) -> usize
-    requires { AreOrdered pairs.now }
-    ensures { IsParted pairs.now (from, to) result }
-{
-    let mut low = 0;
-    let mut high = pairs.len();
-    'halves: while low < high {
-        let middle = low + (high - low) / 2;
-        if is_below(pairs[middle], from, to) {
-            low = middle + 1;
-        } else {
-            high = middle;
-        }
-    }
-    low
-}
-
-/// Whether a pair comes before this one.
-fn is_below(pair: (u32, u32), from: u32, to: u32) -> bool
-    ensures { IsTrue result ↔ IsBelow pair (from, to) }
-{
-    pair.0 < from || pair.0 == from && pair.1 < to
 }

@@ -2,8 +2,8 @@ use Rattle.std.proofs.Common.{◌∙◌, ap, length, sym, subst}
 use Rattle.sm_market.specs.Lists.{Lists}
 use Rattle.sm_weight.specs.Sizes.{weights_in}
 use Rattle.sm_listing.proofs.StartLemmas.{forced_named, forbidden_named}
-use Rattle.sm_lightest.specs.PlaceWeights.{AreLight}
-use Rattle.sm_lightest.proofs.PlaceLemmas.{are_weights}
+use Rattle.sm_placed.specs.PlaceWeights.{AreLight}
+use Rattle.sm_placed.proofs.PlaceLemmas.{are_weights}
 use Rattle.sm_lightest.proofs.finding.find_lightest.Goals as goal
 
 pub lightest-requires-clause-weights : goal.lightest-requires-clause-weights

@@ -10,6 +10,7 @@ use Rattle.sm_report.specs.Lines.{line_of}
 use Rattle.sm_forms.specs.Seats.{is_seat, pair_has_seat, all_numbered}
 use Rattle.sm_judge.specs.Said.{rotations_in}
 use Rattle.sm_judge.specs.SeatMatchings.{first_of}
+use Rattle.sm_judge.specs.Walks.{StepsAlong}
 use Rattle.sm_judge.proofs.WalkLemmas.{still, past, along, none_more, needed, other_line}
 use Rattle.sm_judge.proofs.walk.Walk.find_fault.Goals as goal
 
@@ -28,18 +29,19 @@ rotation_of-requires-clause-seats c =
 pub returns-in-First : goal.returns-in-First
 returns-in-First c = λ above k. rw c.in-First.is (none_more k c.in-First.field-0 c.in-First.field-1)
 
-pub returns-else-not-steps : goal.returns-else-not-steps
-returns-else-not-steps c = λ above k.
-    let w = c.args.instance.now in
-    rw c.in-Rotation.is (along k c.in-Rotation.field-0 c.in-Rotation.pairs.items c.in_ok-rotation-in-Rotation.rotation.pairs.items
-    (c.in_ok-rotation-in-Rotation.ensures ∙ ap (all_numbered w) c.deref.ensures.value) c.steps.new.self
-    ((rw c.requires.market at c.if-not-steps.ensures) (first_of w above) (rotations_in w above) k.is_walk))
-
 pub returns-else-not-branch : goal.returns-else-not-branch
 returns-else-not-branch c = λ above k.
     let w = c.args.instance.now in
+    rw c.in-Rotation.is (along k c.in-Rotation.field-0 c.in-Rotation.pairs.items c.in_ok-rotation-in-Rotation.rotation.pairs.items
+    (c.in_ok-rotation-in-Rotation.ensures ∙ ap (all_numbered w) c.deref.ensures.value) c.steps.new.self
+    (subst (StepsAlong (seat_market w) (first_of w above) (rotations_in w above) c.in_ok-rotation-in-Rotation.rotation.pairs.items c.args.self.now c.steps.new.self) c.if-not-branch.false
+    ((rw c.requires.market at c.in_ok-steps-in-Rotation.ensures) (first_of w above) (rotations_in w above) k.is_walk)))
+
+pub returns-else-not-branch-2 : goal.returns-else-not-branch-2
+returns-else-not-branch-2 c = λ above k.
+    let w = c.args.instance.now in
     let right = c.in_ok-are_needs-in-Needs.ensures (seat_market w) (first_of w above) (rotations_in w above) k.is_walk.noted in
-    rw c.in-Needs.is (needed k c.in-Needs.field-0 c.in-Needs.needed.items (rw c.deref-in-Needs.ensures.value at (right.0 c.if-not-branch.false)))
+    rw c.in-Needs.is (needed k c.in-Needs.field-0 c.in-Needs.needed.items (rw c.deref-in-Needs.ensures.value at (right.0 c.if-not-branch-2.false)))
 
 pub returns-in_default : goal.returns-in_default
 returns-in_default c = λ above k.

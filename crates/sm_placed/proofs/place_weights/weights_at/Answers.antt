@@ -1,0 +1,54 @@
+use Rattle.std.proofs.Common.{◌≡◌, ℕ, ◌-◌, ◌++◌, ◌∷◌, [], ◌∙◌, List, ap, sym, subst, arith, get_or, length, Some, All}
+use Rattle.std.proofs.lemmas.List.Elements.{All-push}
+use Rattle.std.proofs.lemmas.List.FromFn.{map-range_with_len_more}
+use Rattle.sm_instance.specs.Written.{entry, IsAcceptable}
+use Rattle.sm_instance.specs.Ranks.{pair_weight}
+use Rattle.sm_market.specs.Lists.{Lists, row}
+use Rattle.sm_seats.specs.Seating.{written_place}
+use Rattle.sm_seats.proofs.SeatingLemmas.{level_is}
+use Rattle.sm_seats.proofs.SeatingLaws.{written_on}
+use Rattle.sm_theory.proofs.Weighing.Sizes.{small_is}
+use Rattle.sm_placed.specs.PlaceWeights.{IsLight}
+use Rattle.sm_placed.proofs.place_weights.weights_at.Goals as goal
+
+pub overflow_sub-levels : goal.overflow_sub-levels
+overflow_sub-levels c =
+    let same = ap (λ (l : Lists). length (row l.proposers c.args.p)) c.market.ensures in
+    let is = ap (λ (xs : List ℕ). get_or xs c.loop-i.i 0) c.requires.levels ∙ level_is c.args.seats.now c.args.p c.loop-i.i (omega (arith, same)) in
+    omega (arith, is)
+
+pub pair_weight-requires-clause-on_list : goal.pair_weight-requires-clause-on_list
+pair_weight-requires-clause-on_list c =
+    let same = ap (λ (l : Lists). length (row l.proposers c.args.p)) c.market.ensures in
+    let is = ap (λ (xs : List ℕ). get_or xs c.loop-i.i 0) c.requires.levels ∙ level_is c.args.seats.now c.args.p c.loop-i.i (omega (arith, same)) in
+    omega (arith, is, written_on c.requires.seating c.args.p c.loop-i.i (omega (arith, same)))
+
+pub pair_weight-requires-clause-acceptable : goal.pair_weight-requires-clause-acceptable
+pair_weight-requires-clause-acceptable c =
+    let same = ap (λ (l : Lists). length (row l.proposers c.args.p)) c.market.ensures in
+    let i = c.loop-i.i in
+    let is = ap (λ (xs : List ℕ). get_or xs i 0) c.requires.levels ∙ level_is c.args.seats.now c.args.p i (omega (arith, same)) in
+    let place : get_or c.args.levels.now i 0 - 1 ≡ written_place c.args.seats.now c.args.p i = omega (arith, is) in
+    subst (λ k. IsAcceptable c.args.instance.now c.args.p (entry c.args.instance.now.proposers c.args.p k)) (sym place) (c.requires.acceptable i (omega (arith, same)))
+
+pub loop-i-preserved : goal.loop-i-preserved
+loop-i-preserved c =
+    let same = ap (λ (l : Lists). length (row l.proposers c.args.p)) c.market.ensures in
+    let i = c.loop-i.i in
+    let w = c.args.instance.now in
+    let s = c.args.seats.now in
+    let p = c.args.p in
+    let by = c.args.by in
+    let level = get_or c.args.levels.now i 0 in
+    let is = ap (λ (xs : List ℕ). get_or xs i 0) c.requires.levels ∙ level_is s p i (omega (arith, same)) in
+    let place : level - 1 ≡ written_place s p i = omega (arith, is) in
+    let weight : c.pair_weight.result ≡ pair_weight by w p (Some (written_place s p i)) = c.pair_weight.ensures.weight ∙ ap (λ k. pair_weight by w p (Some k)) place in
+    let items : c.push.new.self.items ≡ c.loop-i.weights.items ++ c.pair_weight.result ∷ [] =
+    c.in_ok-push.ensures.items ∙ ap (λ z. c.loop-i.weights.items ++ z ∷ []) (small_is c.pair_weight.result c.pair_weight.ensures.light) in
+    record {
+      weights =
+          items ∙ ap (λ z. c.loop-i.weights.items ++ z ∷ []) weight
+          ∙ ap (λ xs. xs ++ pair_weight by w p (Some (written_place s p i)) ∷ []) c.loop-i.invariant.weights
+          ∙ sym (map-range_with_len_more (λ i. pair_weight by w p (Some (written_place s p i))) 0 i i (omega arith));
+      light = subst (All IsLight) (sym items) (All-push IsLight c.loop-i.weights.items c.pair_weight.result c.loop-i.invariant.light c.pair_weight.ensures.light);
+    }

@@ -1,0 +1,97 @@
+//! The weights of the places of an instance's seats.
+
+ghost use Rattle.std.specs.Prelude.{◌≡◌, ℕ, ◌<◌, All, length, IfOk, Some};
+ghost use Rattle.sm_instance.specs.Written.{row, entry, given_weight, IsAcceptable};
+ghost use Rattle.sm_instance.specs.Ranks.{pair_weight};
+ghost use Rattle.sm_market.specs.Lists.{row as market_row};
+ghost use Rattle.sm_market.specs.Vectors.{rows_of};
+ghost use Rattle.sm_seats.specs.Seating.{seating_of, levels_of, at_places};
+ghost use Rattle.sm_seats.specs.Correspondence.{IsSeating, weights_of};
+ghost use Rattle.sm_theory.specs.Sizes.{weights_in};
+ghost use Rattle.sm_placed.specs.PlaceWeights.{IsLight, AreLight, AreAcceptableAt};
+
+use sm_instance::{Instance, Measure};
+use sm_seats::Seats;
+use std::alloc::{AllocError, Global};
+
+/// For each place of each proposer the weight of the proposer and the reviewer of the place's seat, by ranks or as it is given.
+/// The seats have to be those of the instance, and these their levels. Takes time and memory in proportion to the places, and a
+/// look-up for each where there are weights.
+///
+/// # Errors
+///
+/// `AllocError` where memory ran out, and only then.
+pub fn weights_of_places(
+    alloc: Global,
+    instance: &Instance,
+    seats: &Seats,
+    by: Measure,
+    levels: &[Vec<u32>],
+) -> Result<Vec<Vec<i64>>, AllocError>
+    requires seats { seats.now ≡ seating_of instance.now }
+    requires seating { IsSeating instance.now seats.now }
+    requires levels { rows_of levels.now ≡ levels_of seats.now }
+    ensures weights { IfOk result (λ weights. weights_in weights.items ≡ weights_of by instance.now seats.now) }
+    ensures light { IfOk result (λ weights. AreLight (weights_in weights.items)) }
+{
+    let mut weights = Vec::with_capacity(alloc, levels.len())?;
+    for p in 0..instance.proposer_count() {
+        weights.push(weights_at(alloc, instance, seats, by, p, &levels[p as usize])?)?;
+    }
+    Ok(weights)
+}
+
+/// The same for the places of one proposer, whose levels these are.
+fn weights_at(
+    alloc: Global,
+    instance: &Instance,
+    seats: &Seats,
+    by: Measure,
+    p: u32,
+    levels: &[u32],
+) -> Result<Vec<i64>, AllocError>
+    requires seating { IsSeating instance.now seats.now }
+    requires in_range { p < length instance.now.proposers }
+    requires levels { levels.now ≡ market_row (levels_of seats.now) p }
+    requires acceptable { AreAcceptableAt instance.now seats.now p }
+    ensures weights { IfOk result (λ weights. weights.items
+        ≡ at_places seats.now (λ p i. pair_weight by instance.now p (Some i)) p) }
+    ensures light { IfOk result (λ weights. All IsLight weights.items) }
+{
+    let places = seats.market().proposer_len(p);
+    let mut weights = Vec::with_capacity(alloc, places as usize)?;
+    for i in 0..places {
+        weights.push(pair_weight(instance, by, p, levels[i as usize] - 1))?;
+    }
+    Ok(weights)
+}
+
+/// The weight of a proposer and the reviewer at a place of its list, who are acceptable to each other.
+fn pair_weight(instance: &Instance, by: Measure, p: u32, place: u32) -> i64
+    requires in_range { p < length instance.now.proposers }
+    requires on_list { place < length (row instance.now.proposers p) }
+    requires acceptable { IsAcceptable instance.now p (entry instance.now.proposers p place) }
+    ensures weight { result ≡ pair_weight by instance.now p (Some place) }
+    ensures light { IsLight result }
+{
+    match by {
+        Measure::Ranks => {
+            let back = instance.rank_back(p, place);
+            i64::from(place + 1 + back)
+        }
+        Measure::Given => given_weight(instance, p, instance.reviewer_at(p, place)),
+    }
+}
+
+/// The weight that is given to a pair, without a look where no pair has one.
+fn given_weight(instance: &Instance, p: u32, r: u32) -> i64
+    requires proposer { p < length instance.now.proposers }
+    requires reviewer { r < length instance.now.reviewers }
+    ensures weight { result ≡ given_weight instance.now p r }
+    ensures light { IsLight result }
+{
+    if instance.weights().is_empty() {
+        return 0;
+    }
+    instance.weight(p, r)
+}
