@@ -1,0 +1,9 @@
+pub mod LineLemmas
+pub mod PairLemmas
+pub mod SolveAgree
+pub mod ListAgree
+pub mod CouplesAgree
+pub mod ChosenAgree
+pub mod PartiesAgree
+pub mod RegretAgree
+pub mod WitnessLemmas

@@ -1,0 +1,168 @@
+-- The answers of specs/Witnesses.antt.
+use Rattle.std.proofs.Common.{◌≡◌, ℕ, zero, suc, ◌<◌, ◌≤◌, inl, true, false, List, [], ◌∷◌, length, slice_index_or, Option, Some, None, refl, sym, ap, ◌∙◌, subst, arith}
+use Rattle.std.specs.List.{All}
+use Rattle.std.proofs.lemmas.Bool.{false≢true}
+use Rattle.std.proofs.lemmas.Bool.Decides.{nat_tests}
+use Rattle.std.proofs.lemmas.Option.{same_Some, none-some}
+use Rattle.sm_text.specs.Name as name
+use Rattle.sm_instance.specs.Written.{Written, row, entry, capacity_of, IsAcceptable}
+use Rattle.sm_instance.specs.Matching.{held, standing, load, IsMatching}
+use Rattle.sm_instance.specs.Stable.{Blocks, IsStable, IsProposersBest, IsReviewersBest}
+use Rattle.sm_instance.specs.Allowed.{IsAllowed}
+use Rattle.sm_instance.specs.Ranks.{rank_vector_of, regret_of, IsBefore}
+use Rattle.sm_instance.specs.Sound.{IsInstance, IsSoundAgent, IsSoundEntry}
+use Rattle.sm_instance.specs.declared.inputs.Input.TheVariants.{Two}
+use Rattle.sm_answer.proofs.AnswerLemmas.{one_all}
+use Rattle.sm_report.specs.Sound.{ArePair}
+use Rattle.sm_theory.specs.Listings.{IsBehind, IsListing}
+use Rattle.sm_theory.specs.WitnessesRooms.{even_party_mates}
+use Rattle.sm_theory.proofs.Room.Witness.{even_party_is}
+use Rattle.sm_seats.specs.Vectors.{IsAllowedRankVector}
+use Rattle.sm_listing.specs.ListAnswer.{order_of}
+use Rattle.sm_partners.specs.RegretAnswer.{IsLeastRegret}
+use Rattle.sm_pairs.specs.Held.{CantJoin, IsBreach, GiveStable}
+use Rattle.sm_given.specs.GivenText.{AreGiven}
+use Rattle.sm_rooming.specs.Witnesses.{odd_parties}
+use Rattle.sm_rooming.proofs.WitnessLemmas.{odd_parties_shown}
+use Rattle.sm_agree.specs.Witnesses.{one_pair, together, given_twice, OnePair, Circles}
+
+abbrev w : Written
+w = one_pair
+
+acceptable : IsAcceptable w 0 0
+acceptable = record { proposer_lists = omega arith; reviewer_lists = omega arith }
+
+within : (r : ℕ) → load w together r ≤ capacity_of w.reviewers r
+within zero = omega arith
+within (suc r) = grind (arith, nat_tests)
+
+on_list : (p i : ℕ) → held together p ≡ Some i → i < length (row w.proposers p)
+on_list zero i e = let z = same_Some 0 i e in omega (arith, z)
+on_list (suc p) i e = absurd (none-some i e)
+
+both_list : (p i : ℕ) → held together p ≡ Some i → IsAcceptable w p (entry w.proposers p i)
+both_list zero i e = subst (λ k. IsAcceptable w 0 (entry w.proposers 0 k)) (same_Some 0 i e) acceptable
+both_list (suc p) i e = absurd (none-some i e)
+
+matching : IsMatching w together
+matching = record { assigned = record { one_each = refl; on_lists = on_list }; acceptable = both_list; within = within }
+
+unblocked : (p r : ℕ) → ¬ Blocks w together p r
+unblocked zero r b = omega (arith, b.proposer_gains)
+unblocked (suc p) r b = omega (arith, b.acceptable.proposer_lists)
+
+stable : IsStable w together
+stable = record { matching = matching; unblocked = unblocked }
+
+allowed : IsAllowed w together
+allowed = record { matching = matching; forced = λ k d l. absurd (omega arith); forbidden = λ k d l. absurd (omega arith) }
+
+-- no other is stable
+only : (places : List (Option ℕ)) → IsStable w places → together ≡ places
+only [] s = absurd (let e = s.matching.assigned.one_each in omega (arith, e))
+only (None ∷ []) s = absurd (s.unblocked 0 0 (record { acceptable = acceptable; proposer_gains = omega arith; reviewer_gains = inl (omega arith) }))
+only (Some i ∷ []) s = let on = s.matching.assigned.on_lists 0 i refl in ap (λ k. Some k ∷ []) (let z : 0 ≡ i = omega (arith, on) in z)
+only (o ∷ u ∷ us) s = absurd (let e = s.matching.assigned.one_each in omega (arith, e))
+
+proposers_best : IsProposersBest w together
+proposers_best = record { stable = stable; best = λ others s p. subst (λ o. standing w together p ≤ standing w o p) (only others s) (omega arith) }
+
+reviewers_best : IsReviewersBest w together
+reviewers_best = record { stable = stable; worst = λ others s p. subst (λ o. standing w o p ≤ standing w together p) (only others s) (omega arith) }
+
+least : IsLeastRegret w together
+least = record {
+  stable = stable;
+  allowed = allowed;
+  least = λ others s a. subst (λ o. regret_of w together ≤ regret_of w o) (only others s) (omega arith);
+  best = λ others s a e p. subst (λ o. standing w together p ≤ standing w o p) (only others s) (omega arith);
+}
+
+-- a vector that is listed is that of the matching
+only_vector : (v : List ℕ) → IsAllowedRankVector w v → 1 ∷ [] ≡ v
+only_vector v one = ap (rank_vector_of w) (only one.places one.stable) ∙ sym one.vector
+
+listing : IsListing (IsBefore (order_of w)) (IsAllowedRankVector w) None 1 ((1 ∷ []) ∷ []) false
+listing = record {
+  begins = λ l. tt;
+  rises = λ k l. absurd (omega (arith, l));
+  sound = sound;
+  whole = λ v one b. inl (0, omega arith, only_vector v one);
+  limited = omega arith;
+  ended = ((λ e v one b. none v one b), (λ none. refl));
+  cut = λ e. absurd (false≢true e);
+}
+  where
+    sound : (k : ℕ) → k < 1 → IsAllowedRankVector w (slice_index_or ((1 ∷ []) ∷ []) k [])
+    sound zero l = record { places = together; stable = stable; allowed = allowed; vector = refl }
+    sound (suc k) l = absurd (omega (arith, l))
+
+    none : (v : List ℕ) → IsAllowedRankVector w v → IsBehind (IsBefore (order_of w)) (Some (1 ∷ [])) v → ⊥
+    none v one b = let same = subst (IsBefore (order_of w) (1 ∷ [])) (sym (only_vector v one)) b in omega (arith, same.smaller)
+
+-- the pair that is given
+can_hold : (k : ℕ) → ¬ IsBreach w ((0, 0) ∷ []) k
+can_hold zero b = go b.cause
+  where
+    go : CantJoin w [] 0 0 → ⊥
+    go (CantJoin.unacceptable h) = h acceptable
+    go (CantJoin.taken h) = false≢true h
+    go (CantJoin.full h) = omega (arith, h)
+can_hold (suc k) b = let l = b.in_range in omega (arith, l)
+
+gives_stable : GiveStable w ((0, 0) ∷ [])
+gives_stable = record { can_hold = can_hold; stable = stable }
+
+given : AreGiven (Two w) given_twice ((0, 0) ∷ []) ((0, 0) ∷ [])
+given = record { left_there = there; right_there = there; spelled = refl }
+  where
+    there : All (λ (pair : ℕ × ℕ). ArePair (Two w) pair.0 pair.1) ((0, 0) ∷ [])
+    there = one_all (λ (pair : ℕ × ℕ). ArePair (Two w) pair.0 pair.1) (0, 0) (omega arith, omega arith)
+
+-- the instance
+instance : IsInstance w
+unfolding name.begins_name name.is_name_byte
+instance = record {
+  two_sided = λ e. cc;
+  limits = record { proposers = omega arith; reviewers = omega arith; entries = omega arith };
+  proposers = record { sound = proposers };
+  reviewers = record { sound = reviewers };
+  proposer_entries = record { sound = proposer_entries };
+  reviewer_entries = record { sound = reviewer_entries };
+  items = λ n l. absurd (omega (arith, l));
+}
+  where
+    proposers : (a : ℕ) → a < 1 → IsSoundAgent w.proposers true a
+    proposers zero l = record { name = refl; fresh = λ b l. absurd (omega arith); capacity = omega arith; one = λ t. refl }
+    proposers (suc a) l = absurd (omega (arith, l))
+
+    reviewers : (a : ℕ) → a < 1 → IsSoundAgent w.reviewers true a
+    reviewers zero l = record { name = refl; fresh = λ b l. absurd (omega arith); capacity = omega arith; one = λ t. refl }
+    reviewers (suc a) l = absurd (omega (arith, l))
+
+    proposer_entries : (a i : ℕ) → i < length (row w.proposers a) → IsSoundEntry w.proposers 1 a i
+    proposer_entries zero zero l = record { in_range = omega arith; fresh = λ j less. absurd (omega arith) }
+    proposer_entries zero (suc i) l = absurd (omega (arith, l))
+    proposer_entries (suc a) i l = absurd (omega (arith, l))
+
+    reviewer_entries : (a i : ℕ) → i < length (row w.reviewers a) → IsSoundEntry w.reviewers 1 a i
+    reviewer_entries zero zero l = record { in_range = omega arith; fresh = λ j less. absurd (omega arith) }
+    reviewer_entries zero (suc i) l = absurd (omega (arith, l))
+    reviewer_entries (suc a) i l = absurd (omega (arith, l))
+
+pub one_pair_is : OnePair
+one_pair_is = (
+  instance,
+  record { places = together; best = proposers_best; shows = refl },
+  record { places = together; best = reviewers_best; shows = refl },
+  record { out = (1 ∷ []) ∷ []; more = false; cursor = tt; listing = listing; shows = refl },
+  record { places = together; least = least; shows = refl },
+  record { left = (0, 0) ∷ []; right = (0, 0) ∷ []; given = given; first = gives_stable; second = gives_stable; shows = refl },
+  record { left = (0, 0) ∷ []; right = (0, 0) ∷ []; given = given; first = gives_stable; second = gives_stable; shows = refl },
+)
+
+pub circles_are : Circles
+circles_are = (
+  record { mates = even_party_mates; stable = even_party_is.2; shows = refl },
+  record { parties = odd_parties; excluding = odd_parties_shown.0; shows = refl },
+)

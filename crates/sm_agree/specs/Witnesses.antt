@@ -1,0 +1,60 @@
+-- Right answers that are known by hand, so that no law is about nothing.
+use Rattle.std.specs.Prelude.{ℕ, List, [], ◌∷◌, Option, None, Some, codes}
+use Rattle.sm_instance.specs.Written.{AgentData, Written}
+use Rattle.sm_instance.specs.Sound.{IsInstance}
+use Rattle.sm_instance.specs.Witnesses.{agent}
+use Rattle.sm_instance.specs.declared.kinds.Kind.TheVariants.{Marriage}
+use Rattle.sm_instance.specs.declared.kinds.Side.TheVariants.{Proposers, Reviewers}
+use Rattle.sm_theory.specs.declared.choice.Choice.TheVariants.{Better, Worse}
+use Rattle.sm_report.specs.Heads.{HeadData}
+use Rattle.sm_report.specs.Lines.{LineData}
+use Rattle.sm_shown.specs.Answers.{IsSolution}
+use Rattle.sm_listing.specs.ListAnswer.{IsListAnswer}
+use Rattle.sm_partners.specs.RegretAnswer.{IsRegretAnswer}
+use Rattle.sm_given.specs.Chosen.{IsChosenAnswer}
+use Rattle.sm_rooming.specs.RoomAnswer.{IsMatched, IsUnmatchable}
+
+-- a proposer m and a reviewer w, who list each other
+abbrev pub one_pair : Written
+one_pair = record {
+  kind = Marriage;
+  proposers = agent 109 1 (0 ∷ []) ∷ [];
+  reviewers = agent 119 1 (0 ∷ []) ∷ [];
+  weights = [];
+  forced = [];
+  forbidden = [];
+}
+
+-- their only stable matching
+abbrev pub together : List (Option ℕ)
+together = Some 0 ∷ []
+
+-- it is given twice
+abbrev pub given_twice : List (List ℕ)
+given_twice = codes "left m w" ∷ codes "right m w" ∷ codes "end" ∷ []
+
+abbrev pub given_answer : HeadData → List LineData
+given_answer head = LineData.Answer head ∷ LineData.LeftPair 0 0 ∷ LineData.RightPair 0 0 ∷ LineData.Pair 0 0 ∷ LineData.End ∷ []
+
+-- the right answers of each command
+abbrev pub OnePair : Type 0
+OnePair = IsInstance one_pair
+    × IsSolution Proposers one_pair (LineData.Answer (HeadData.Solve (Some Proposers)) ∷ LineData.Pair 0 0 ∷ LineData.End ∷ [])
+    × IsSolution Reviewers one_pair (LineData.Answer (HeadData.Solve (Some Reviewers)) ∷ LineData.Pair 0 0 ∷ LineData.End ∷ [])
+    × IsListAnswer None 1 one_pair (LineData.Answer (HeadData.List None 1) ∷ LineData.Vector (1 ∷ []) ∷ LineData.End ∷ [])
+    × IsRegretAnswer one_pair (LineData.Answer HeadData.Regret ∷ LineData.Regret 1 ∷ LineData.Pair 0 0 ∷ LineData.End ∷ [])
+    × IsChosenAnswer Better given_twice one_pair (given_answer HeadData.Meet)
+    × IsChosenAnswer Worse given_twice one_pair (given_answer HeadData.Join)
+
+-- four persons in a circle, each of whom lists the next and then the one before, and one more, who lists one of them
+abbrev pub circle : List AgentData
+circle = agent 97 1 (1 ∷ 3 ∷ []) ∷ agent 98 1 (2 ∷ 0 ∷ []) ∷ agent 99 1 (3 ∷ 1 ∷ []) ∷ agent 100 1 (0 ∷ 2 ∷ []) ∷ agent 101 1 (2 ∷ []) ∷ []
+
+-- three in a circle, of whom a fourth is the last, and one more, who lists one of them and itself
+abbrev pub odd_circle : List AgentData
+odd_circle = agent 97 1 (1 ∷ 2 ∷ 3 ∷ []) ∷ agent 98 1 (2 ∷ 0 ∷ 3 ∷ []) ∷ agent 99 1 (0 ∷ 1 ∷ 3 ∷ []) ∷ agent 100 1 (0 ∷ 1 ∷ 2 ∷ []) ∷ agent 101 1 (0 ∷ 4 ∷ []) ∷ []
+
+-- the couples of the one, and the parties of the other
+abbrev pub Circles : Type 0
+Circles = IsMatched circle (LineData.Answer (HeadData.Solve None) ∷ LineData.Pair 0 1 ∷ LineData.Pair 2 3 ∷ LineData.End ∷ [])
+    × IsUnmatchable odd_circle (LineData.Answer (HeadData.Solve None) ∷ LineData.Nothing ∷ LineData.Party (0 ∷ 1 ∷ 2 ∷ []) ∷ LineData.Party (3 ∷ []) ∷ LineData.Party (4 ∷ []) ∷ LineData.End ∷ [])

@@ -1,0 +1,14 @@
+//! Right answers that are known by hand, of which the laws speak. Each function does nothing: its contract is what is
+//! computed.
+
+ghost use Rattle.sm_agree.specs.Witnesses.{OnePair, Circles};
+
+/// The right answers over a proposer and a reviewer who list each other.
+pub fn one_pair()
+    ensures { OnePair }
+{}
+
+/// A matching of roommates, and the parties by which there is none.
+pub fn circles()
+    ensures { Circles }
+{}
