@@ -61,8 +61,7 @@ pub(crate) fn check_answer<K: Sink>(
             Err(Stop::Refused(RefusalKind::TooManySeats, line))
         }
         Err(CertFault::BadAnswer(line)) => Err(Stop::Refused(RefusalKind::BadAnswer, line)),
-        // The one goal that isn't proved: it goes with the variant.
-        Err(CertFault::Unjudged) => unreachable!(),
+        Err(CertFault::Unjudged) => Err(Stop::Refused(RefusalKind::BadAnswer, read.rest_line)),
         Err(CertFault::OutOfMemory) => Err(Stop::OutOfMemory),
     }
 }
