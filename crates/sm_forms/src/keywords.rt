@@ -8,7 +8,7 @@ use sm_report::Line;
 
 /// The keyword of a line that has a place in a layout.
 #[derive(Clone, Copy, Debug, PartialEq, Eq)]
-pub(crate) enum Keyword {
+pub enum Keyword {
     Pair,
     Nothing,
     Party,

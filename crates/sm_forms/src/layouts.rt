@@ -16,18 +16,18 @@ use std::alloc::{AllocError, Global};
 
 /// Whose turn it is among blocks of two lines, `rotation` and `needs`, or of three, with `gain` behind them.
 #[derive(Clone, Copy, Debug)]
-pub(crate) struct Turn {
+pub struct Turn {
     /// How many lines a block has.
-    pub(crate) lines: u32,
+    pub lines: u32,
     /// The place in the block of the line that comes next, from 0.
-    pub(crate) place: u32,
+    pub place: u32,
     /// The number of the rotation of the block.
-    pub(crate) number: u32,
+    pub number: u32,
 }
 
 /// A part of a layout.
 #[derive(Clone, Copy, Debug)]
-pub(crate) enum Part {
+pub enum Part {
     /// One line with this keyword.
     One(Keyword),
     /// Any number of lines with this keyword.
@@ -38,9 +38,9 @@ pub(crate) enum Part {
 
 /// How a line begins: its keyword, and the number of a rotation behind that, 0 where there is none.
 #[derive(Clone, Copy, Debug)]
-pub(crate) struct Opening {
-    pub(crate) keyword: Keyword,
-    pub(crate) number: u32,
+pub struct Opening {
+    pub keyword: Keyword,
+    pub number: u32,
 }
 
 /// How a line begins.

@@ -14,5 +14,7 @@ mod numbering;
 mod reading;
 
 pub use answer_fault::AnswerFault;
+pub use keywords::Keyword;
+pub use layouts::{Opening, Part, Turn};
 pub use numbering::{rotation_of, seat_number, seat_numbers};
 pub use reading::read_answer;
