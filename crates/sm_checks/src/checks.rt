@@ -1,8 +1,8 @@
 //! Answers by hand, right ones and such as were changed, with their verdicts.
 
 use sm_cert::{CertFault, check};
-use sm_judge::{Reason, Verdict};
 use sm_instance::Input;
+use sm_judge::{Reason, Verdict};
 use sm_reader::read_instance;
 use std::process::Abort;
 
