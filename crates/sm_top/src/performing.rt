@@ -1,6 +1,6 @@
 //! Doing a job: an arm for each command, which makes its answer and writes it.
 
-ghost use Rattle.std.specs.Prelude.{◌≡◌, ◌≤◌, ◌↔◌, Ok, None, IfOk, IfErr, OnOk, OnErr, IsTrue, unwrap_or, length, map, true, List};
+ghost use Rattle.std.specs.Prelude.{◌≡◌, ◌≤◌, ◌↔◌, Ok, None, IfOk, IfErr, OnOk, OnErr, IsTrue, unwrap_or, length, map, true, false, List};
 ghost use Rattle.sm_answer.specs.Printing.{IsShown};
 ghost use Rattle.sm_instance.specs.Sound.{IsInstance};
 ghost use Rattle.sm_instance.specs.declared.inputs.Input.TheVariants.{Two, Room};
