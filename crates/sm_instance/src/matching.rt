@@ -104,8 +104,8 @@ impl Instance {
         None
     }
 
-    // How many proposers a reviewer has.
-    fn load(&self, a: &Assignment, r: u32) -> u32
+    /// How many proposers an assignment gives to a reviewer. Takes time in proportion to those who list the reviewer.
+    pub fn load(&self, a: &Assignment, r: u32) -> u32
         requires assignment { IsAssignment self.now a.now.places.items }
         requires in_range { r < length self.now.reviewers }
         ensures { result ≡ load self.now a.now.places.items r }
@@ -140,8 +140,11 @@ impl Instance {
         worst
     }
 
-    /// Which proposers on its list a reviewer would rather have than stay as it stands: those before this place.
-    pub(crate) fn gain_limit(&self, a: &Assignment, r: u32) -> u32
+    /// Which proposers on its list a reviewer would rather have than stay as it stands: those before this place. That is the
+    /// length of its list where it has a free place, and else the place of the one that it likes least of those it has.
+    ///
+    /// [`Instance::breach`] has to be `None`. Takes time in proportion to those who list the reviewer.
+    pub fn gain_limit(&self, a: &Assignment, r: u32) -> u32
         requires matching { IsMatching self.now a.now.places.items }
         requires in_range { r < length self.now.reviewers }
         ensures { IsGainLimit self.now a.now.places.items r result }

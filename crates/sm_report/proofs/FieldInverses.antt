@@ -147,11 +147,7 @@ pub right_is_name : (input : Input) → IsInput input → (r : ℕ) → IsRight 
 right_is_name (Two w) s r within = agent_is_name w.reviewers _ s.reviewers r within
 right_is_name (Room persons) s r within = agent_is_name persons true s.agents r within
 
--- a name holds no space and no slash
-space_no_name : is_name_byte 32 ≡ false
-unfolding is_name_byte begins_name
-space_no_name = refl
-
+-- a name holds no slash
 slash_no_name : is_name_byte 47 ≡ false
 unfolding is_name_byte begins_name
 slash_no_name = refl
@@ -160,11 +156,8 @@ pub dash_no_name : is_name (codes "-") ≡ false
 unfolding begins_name
 dash_no_name = refl
 
-name_bytes : (run : List ℕ) → is_name run ≡ true → list_all is_name_byte run ≡ true
+pub name_bytes : (run : List ℕ) → is_name run ≡ true → list_all is_name_byte run ≡ true
 name_bytes run h = second_true (nat_le 1 (length run) && nat_le (length run) most_name_bytes && begins_name (slice_index run 0)) (list_all is_name_byte run) h
-
-pub name_without_space : (run : List ℕ) → is_name run ≡ true → is_free 32 run ≡ true
-name_without_space run h = free_of is_name_byte 32 space_no_name run (name_bytes run h)
 
 pub name_without_slash : (run : List ℕ) → is_name run ≡ true → is_free 47 run ≡ true
 name_without_slash run h = free_of is_name_byte 47 slash_no_name run (name_bytes run h)
@@ -313,7 +306,7 @@ reason_inverts = record { again = again; sound = sound; same = same } where
       ap (λ i. get_or reasons i []) place ∙ sym (text_same text (get_or reasons m.from []) p.1)
 
 -- vectors
-pub digits_without : (c : ℕ) → is_digit c ≡ false → (n : ℕ) → n < 2 ^ 64 → is_free c (decimal n) ≡ true
+digits_without : (c : ℕ) → is_digit c ≡ false → (n : ℕ) → n < 2 ^ 64 → is_free c (decimal n) ≡ true
 digits_without c other n small = free_of is_digit c other (decimal n) (digits_of_decimal n small)
 
 decimals_without : (c : ℕ) → is_digit c ≡ false → (ns : List ℕ) → All IsSmall ns → list_all (is_free c) (map decimal ns) ≡ true

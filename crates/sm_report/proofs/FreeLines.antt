@@ -1,11 +1,12 @@
--- No field of a line of an input holds a space, so the fields of its text are the line's.
-use Rattle.std.proofs.Common.{◌≡◌, ℕ, zero, suc, ◌-◌, ◌<◌, ◌≤◌, ◌^◌, ◌==◌, if◌then◌else◌, Bool, true, false, List, [], ◌∷◌, ◌++◌, map, All, get_or, Some, None, refl, ap, ◌∙◌, arith, codes, decimal, ℤ, pos, negsuc}
+-- The fields of a line of an input hold no space, so the fields of its text are the line's; and its text holds no end of a line.
+use Rattle.std.proofs.Common.{◌≡◌, ℕ, zero, suc, ◌-◌, ◌<◌, ◌≤◌, ◌^◌, ◌==◌, ◌||◌, ◌&&◌, nat_le, eqb-true, leb-true, le-leb, not, if◌then◌else◌, Bool, true, false, List, [], ◌∷◌, ◌++◌, map, All, get_or, Some, None, refl, ap, ◌∙◌, arith, codes, decimal, ℤ, pos, negsuc}
 use Rattle.std.specs.Fmt.{signed_decimal}
 use Rattle.std.specs.Int.RustNames.{unsigned_abs}
 use Rattle.std.specs.List.{flat_map, list_all, join_with_byte}
 use Rattle.std.proofs.lemmas.List.Elements.{All-head, All-tail}
 use Rattle.std.proofs.lemmas.List.Folds.{list_all-append}
 use Rattle.std.proofs.lemmas.Option.{none-some}
+use Rattle.sm_text.specs.Name.{begins_name, is_digit, is_letter, is_name, is_name_byte}
 use Rattle.sm_instance.specs.Inputs.{IsInput, kind_of}
 use Rattle.sm_instance.specs.declared.inputs.Input.{Input}
 use Rattle.sm_instance.specs.declared.kinds.Kind.{Kind}
@@ -19,75 +20,120 @@ use Rattle.sm_report.specs.Reasons.{reasons, name_of_reason}
 use Rattle.sm_report.specs.Sound.{IsLineOf, IsLeft, IsRight, IsSmall, IsLarge, IsRotation, IsLimit, IsSeatNumber, IsHeadOf}
 use Rattle.sm_report.specs.Texts.{left_name, right_name, seat_text, seat_text_in, listed, lefts, seats, seated_pairs, numbers, vector_text, end_text, limit_text, fields_of, fields_of_head, text_of_line, SOURCE, SINK}
 use Rattle.sm_report.specs.Meanings.{fields_in, line_in, headed_of}
-use Rattle.sm_report.proofs.DecimalLemmas.{both_true, first_true, second_true}
-use Rattle.sm_report.proofs.FreeLemmas.{is_free, free-append, split_joined}
-use Rattle.sm_report.proofs.FieldInverses.{left_is_name, right_is_name, name_without_space, digits_without}
+use Rattle.sm_report.proofs.DecimalLemmas.{both_true, first_true, second_true, digits_of_decimal}
+use Rattle.sm_report.proofs.FreeLemmas.{is_free, free_of, free-append, split_joined}
+use Rattle.sm_report.proofs.FieldInverses.{left_is_name, right_is_name, name_bytes}
 use Rattle.sm_report.proofs.LineInverses.{All-of_map, line_again}
 
--- fields that hold no space
+-- the bytes of fields: from `!` to `~`
+abbrev is_field_byte : ℕ → Bool
+is_field_byte b = nat_le 33 b && nat_le b 126
+
+abbrev in_field : List ℕ → Bool
+in_field text = list_all is_field_byte text
+
+free_where : (p : ℕ → Bool) → ((b : ℕ) → p b ≡ true → is_field_byte b ≡ true) → (text : List ℕ) → list_all p text ≡ true → in_field text ≡ true
+free_where p to [] h = refl
+free_where p to (b ∷ text) h =
+    both_true (is_field_byte b) (in_field text) (to b (first_true (p b) (list_all p text) h)) (free_where p to text (second_true (p b) (list_all p text) h))
+
+between : (low high b : ℕ) → 33 ≤ low → high ≤ 126 → (nat_le low b && nat_le b high) ≡ true → is_field_byte b ≡ true
+between low high b least most h =
+    let above = leb-true low b (first_true (nat_le low b) (nat_le b high) h) in
+    let below = leb-true b high (second_true (nat_le low b) (nat_le b high) h) in
+    both_true (nat_le 33 b) (nat_le b 126) (le-leb 33 b (omega (arith, least, above))) (le-leb b 126 (omega (arith, most, below)))
+
+same_byte : (b c : ℕ) → is_field_byte c ≡ true → (b == c) ≡ true → is_field_byte b ≡ true
+same_byte b c in_range e = ap is_field_byte (eqb-true b c e) ∙ in_range
+
+one_of : {X : Type 0} (s t : Bool) → (s ≡ true → X) → (t ≡ true → X) → (s || t) ≡ true → X
+one_of true t left right h = left refl
+one_of false t left right h = right h
+
+digit_in_field : (b : ℕ) → is_digit b ≡ true → is_field_byte b ≡ true
+digit_in_field b e = between 48 57 b (omega arith) (omega arith) e
+
+name_byte_in_field : (b : ℕ) → is_name_byte b ≡ true → is_field_byte b ≡ true
+unfolding is_name_byte begins_name
+name_byte_in_field b e =
+    one_of ((is_letter b || is_digit b || b == 95) || b == 46) (b == 45)
+    (one_of (is_letter b || is_digit b || b == 95) (b == 46)
+    (one_of (is_letter b || is_digit b) (b == 95)
+    (one_of (is_letter b) (is_digit b)
+    (one_of (nat_le 65 b && nat_le b 90) (nat_le 97 b && nat_le b 122) (between 65 90 b (omega arith) (omega arith)) (between 97 122 b (omega arith) (omega arith)))
+    (digit_in_field b))
+    (same_byte b 95 refl)) (same_byte b 46 refl)) (same_byte b 45 refl) e
+
+free_name : (name : List ℕ) → is_name name ≡ true → in_field name ≡ true
+free_name name h = free_where is_name_byte name_byte_in_field name (name_bytes name h)
+
+-- fields of such bytes
 abbrev are_free : List (List ℕ) → Bool
-are_free fields = list_all (is_free 32) fields
+are_free fields = list_all in_field fields
 
-free_one : (a : List ℕ) → is_free 32 a ≡ true → are_free (a ∷ []) ≡ true
-free_one a h = both_true (is_free 32 a) true h refl
+free_both : (xs ys : List ℕ) → in_field xs ≡ true → in_field ys ≡ true → in_field (xs ++ ys) ≡ true
+free_both xs ys h k = list_all-append is_field_byte xs ys ∙ both_true (in_field xs) (in_field ys) h k
 
-free_on : (a : List ℕ) (more : List (List ℕ)) → is_free 32 a ≡ true → are_free more ≡ true → are_free (a ∷ more) ≡ true
-free_on a more h k = both_true (is_free 32 a) (are_free more) h k
+free_one : (a : List ℕ) → in_field a ≡ true → are_free (a ∷ []) ≡ true
+free_one a h = both_true (in_field a) true h refl
+
+free_on : (a : List ℕ) (more : List (List ℕ)) → in_field a ≡ true → are_free more ≡ true → are_free (a ∷ more) ≡ true
+free_on a more h k = both_true (in_field a) (are_free more) h k
 
 free_listed : (fields : List (List ℕ)) → are_free fields ≡ true → are_free (listed fields) ≡ true
 free_listed [] h = refl
 free_listed (x ∷ xs) h = h
 
-free_map : {X : Type 0} (S : X → Type 0) (w : X → List ℕ) → ((x : X) → S x → is_free 32 (w x) ≡ true) → (xs : List X) → All S xs → are_free (map w xs) ≡ true
+free_map : {X : Type 0} (S : X → Type 0) (w : X → List ℕ) → ((x : X) → S x → in_field (w x) ≡ true) → (xs : List X) → All S xs → are_free (map w xs) ≡ true
 free_map S w free [] h = refl
 free_map S w free (x ∷ xs) h = free_on (w x) (map w xs) (free x (All-head S x xs h)) (free_map S w free xs (All-tail S x xs h))
 
 free_flat_map : {X : Type 0} (S : X → Type 0) (w : X → List (List ℕ)) → ((x : X) → S x → are_free (w x) ≡ true) → (xs : List X) → All S xs → are_free (flat_map w xs) ≡ true
 free_flat_map S w free [] h = refl
 free_flat_map S w free (x ∷ xs) h =
-    list_all-append (is_free 32) (w x) (flat_map w xs) ∙ both_true (are_free (w x)) (are_free (flat_map w xs)) (free x (All-head S x xs h)) (free_flat_map S w free xs (All-tail S x xs h))
+    list_all-append (in_field) (w x) (flat_map w xs) ∙ both_true (are_free (w x)) (are_free (flat_map w xs)) (free x (All-head S x xs h)) (free_flat_map S w free xs (All-tail S x xs h))
 
 -- numbers
-free_number : (n : ℕ) → n < 2 ^ 64 → is_free 32 (decimal n) ≡ true
-free_number n small = digits_without 32 refl n small
+free_number : (n : ℕ) → n < 2 ^ 64 → in_field (decimal n) ≡ true
+free_number n small = free_where is_digit digit_in_field (decimal n) (digits_of_decimal n small)
 
-free_small : (n : ℕ) → IsSmall n → is_free 32 (decimal n) ≡ true
+free_small : (n : ℕ) → IsSmall n → in_field (decimal n) ≡ true
 free_small n small = let h : n < 2 ^ 32 = small in free_number n (omega arith)
 
-free_rotation : (n : ℕ) → IsRotation n → is_free 32 (decimal n) ≡ true
+free_rotation : (n : ℕ) → IsRotation n → in_field (decimal n) ≡ true
 free_rotation n h = free_number n (omega (arith, h.greatest))
 
-free_signed : (z : ℤ) → unsigned_abs z ≤ 9223372036854775807 → is_free 32 (signed_decimal z) ≡ true
+free_signed : (z : ℤ) → unsigned_abs z ≤ 9223372036854775807 → in_field (signed_decimal z) ≡ true
 free_signed (pos n) h = free_number n (omega (arith, h))
 free_signed (negsuc n) h = free_number (suc n) (omega (arith, h))
 
-free_end : (n : ℕ) → IsSmall n → is_free 32 (end_text n) ≡ true
+free_end : (n : ℕ) → IsSmall n → in_field (end_text n) ≡ true
 free_end n small = by_source (n == SOURCE) (n == SINK) where
-  by_source : (a b : Bool) → is_free 32 (if a then codes "S" else (if b then codes "T" else decimal n)) ≡ true
+  by_source : (a b : Bool) → in_field (if a then codes "S" else (if b then codes "T" else decimal n)) ≡ true
   by_source true b = refl
   by_source false true = refl
   by_source false false = free_small n small
 
-free_at : (xs : List (List ℕ)) (i : ℕ) → are_free xs ≡ true → is_free 32 (get_or xs i []) ≡ true
+free_at : (xs : List (List ℕ)) (i : ℕ) → are_free xs ≡ true → in_field (get_or xs i []) ≡ true
 free_at [] i h = refl
-free_at (x ∷ xs) zero h = first_true (is_free 32 x) (are_free xs) h
-free_at (x ∷ xs) (suc i) h = free_at xs i (second_true (is_free 32 x) (are_free xs) h)
+free_at (x ∷ xs) zero h = first_true (in_field x) (are_free xs) h
+free_at (x ∷ xs) (suc i) h = free_at xs i (second_true (in_field x) (are_free xs) h)
 
-free_reason : (n : ℕ) → is_free 32 (name_of_reason n) ≡ true
+free_reason : (n : ℕ) → in_field (name_of_reason n) ≡ true
 free_reason n = free_at reasons (n - 1) refl
 
-free_joined : (x : List ℕ) (xs : List (List ℕ)) → are_free (x ∷ xs) ≡ true → is_free 32 (join_with_byte 44 (x ∷ xs)) ≡ true
-free_joined x [] h = first_true (is_free 32 x) true h
+free_joined : (x : List ℕ) (xs : List (List ℕ)) → are_free (x ∷ xs) ≡ true → in_field (join_with_byte 44 (x ∷ xs)) ≡ true
+free_joined x [] h = first_true (in_field x) true h
 free_joined x (y ∷ ys) h =
-    free-append 32 x (44 ∷ join_with_byte 44 (y ∷ ys)) (first_true (is_free 32 x) (are_free (y ∷ ys)) h) (free_joined y ys (second_true (is_free 32 x) (are_free (y ∷ ys)) h))
+    free_both x (44 ∷ join_with_byte 44 (y ∷ ys)) (first_true (in_field x) (are_free (y ∷ ys)) h) (free_joined y ys (second_true (in_field x) (are_free (y ∷ ys)) h))
 
-free_vector : (v : List ℕ) → All IsSmall v → is_free 32 (vector_text v) ≡ true
+free_vector : (v : List ℕ) → All IsSmall v → in_field (vector_text v) ≡ true
 free_vector [] h = refl
 free_vector (n ∷ ns) h = free_joined (decimal n) (map decimal ns) (free_map IsSmall decimal free_small (n ∷ ns) h)
 
 -- first lines
-free_limit : (n : ℕ) → IsLimit n → is_free 32 (limit_text n) ≡ true
-free_limit n h = free-append 32 (codes "limit=") (decimal n) refl (free_number n (omega (arith, h.greatest)))
+free_limit : (n : ℕ) → IsLimit n → in_field (limit_text n) ≡ true
+free_limit n h = free_both (codes "limit=") (decimal n) refl (free_number n (omega (arith, h.greatest)))
 
 free_head : (kind : Kind) (head : HeadData) → IsHeadOf kind head → are_free (fields_of_head head) ≡ true
 free_head kind (HeadData.Solve None) h = refl
@@ -98,7 +144,7 @@ free_head kind HeadData.Rotations h = refl
 free_head kind HeadData.Pairs h = refl
 free_head kind (HeadData.List None limit) h = free_one (limit_text limit) (free_limit limit h.1)
 free_head kind (HeadData.List (Some v) limit) h =
-    free_on (codes "after=" ++ vector_text v) (limit_text limit ∷ []) (free-append 32 (codes "after=") (vector_text v) refl (free_vector v h.0)) (free_one (limit_text limit) (free_limit limit h.1))
+    free_on (codes "after=" ++ vector_text v) (limit_text limit ∷ []) (free_both (codes "after=") (vector_text v) refl (free_vector v h.0)) (free_one (limit_text limit) (free_limit limit h.1))
 free_head kind HeadData.Regret h = refl
 free_head kind (HeadData.Weight Ranks) h = refl
 free_head kind (HeadData.Weight Given) h = refl
@@ -108,20 +154,33 @@ free_head kind (HeadData.Survey limit) h = free_one (limit_text limit) (free_lim
 free_head kind HeadData.Check h = refl
 
 -- seats
-free_seat_in : (kind : Kind) (name : List ℕ) (n : ℕ) → is_free 32 name ≡ true → IsSeatNumber kind n → is_free 32 (seat_text_in kind name n) ≡ true
+free_seat_in : (kind : Kind) (name : List ℕ) (n : ℕ) → in_field name ≡ true → IsSeatNumber kind n → in_field (seat_text_in kind name n) ≡ true
 free_seat_in Marriage name n h k = h
-free_seat_in Hospitals name n h k = let small : n < 2 ^ 32 = k.1 in free-append 32 (name ++ codes "/") (decimal n) (free-append 32 name (codes "/") h refl) (free_number n (omega arith))
+free_seat_in Hospitals name n h k = let small : n < 2 ^ 32 = k.1 in free_both (name ++ codes "/") (decimal n) (free_both name (codes "/") h refl) (free_number n (omega arith))
 free_seat_in Roommates name n h k = h
+
+-- texts of such fields
+all_without : (c : ℕ) → is_field_byte c ≡ false → (fields : List (List ℕ)) → are_free fields ≡ true → list_all (is_free c) fields ≡ true
+all_without c other [] h = refl
+all_without c other (x ∷ xs) h =
+    both_true (is_free c x) (list_all (is_free c) xs) (free_of is_field_byte c other x (first_true (in_field x) (are_free xs) h)) (all_without c other xs (second_true (in_field x) (are_free xs) h))
+
+joined_without : (c : ℕ) → is_field_byte c ≡ false → not (32 == c) ≡ true → (fields : List (List ℕ)) → are_free fields ≡ true → is_free c (join_with_byte 32 fields) ≡ true
+joined_without c other no_space [] h = refl
+joined_without c other no_space (x ∷ []) h = free_of is_field_byte c other x (first_true (in_field x) true h)
+joined_without c other no_space (x ∷ y ∷ ys) h =
+    free-append c x (32 ∷ join_with_byte 32 (y ∷ ys)) (free_of is_field_byte c other x (first_true (in_field x) (are_free (y ∷ ys)) h))
+    (both_true (not (32 == c)) (is_free c (join_with_byte 32 (y ∷ ys))) no_space (joined_without c other no_space (y ∷ ys) (second_true (in_field x) (are_free (y ∷ ys)) h)))
 
 -- the lines of an input
 module _ (input : Input) (sound : IsInput input) where
-  free_left : (p : ℕ) → IsLeft input p → is_free 32 (left_name input p) ≡ true
-  free_left p h = name_without_space (left_name input p) (left_is_name input sound p h)
+  free_left : (p : ℕ) → IsLeft input p → in_field (left_name input p) ≡ true
+  free_left p h = free_name (left_name input p) (left_is_name input sound p h)
 
-  free_right : (r : ℕ) → IsRight input r → is_free 32 (right_name input r) ≡ true
-  free_right r h = name_without_space (right_name input r) (right_is_name input sound r h)
+  free_right : (r : ℕ) → IsRight input r → in_field (right_name input r) ≡ true
+  free_right r h = free_name (right_name input r) (right_is_name input sound r h)
 
-  free_seat : (s : Seat) → IsRight input s.reviewer → IsSeatNumber (kind_of input) s.number → is_free 32 (seat_text input s) ≡ true
+  free_seat : (s : Seat) → IsRight input s.reviewer → IsSeatNumber (kind_of input) s.number → in_field (seat_text input s) ≡ true
   free_seat s h k = free_seat_in (kind_of input) (right_name input s.reviewer) s.number (free_right s.reviewer h) k
 
   free_pair : (p r : ℕ) → IsLeft input p → IsRight input r → are_free (left_name input p ∷ right_name input r ∷ []) ≡ true
@@ -133,7 +192,7 @@ module _ (input : Input) (sound : IsInput input) where
   free_lefts : (ps : List ℕ) → All (IsLeft input) ps → are_free (lefts input ps) ≡ true
   free_lefts ps h = free_listed (map (left_name input) ps) (free_map (IsLeft input) (left_name input) free_left ps h)
 
-  free_numbers : (S : ℕ → Type 0) → ((n : ℕ) → S n → is_free 32 (decimal n) ≡ true) → (ns : List ℕ) → All S ns → are_free (numbers ns) ≡ true
+  free_numbers : (S : ℕ → Type 0) → ((n : ℕ) → S n → in_field (decimal n) ≡ true) → (ns : List ℕ) → All S ns → are_free (numbers ns) ≡ true
   free_numbers S free ns h = free_listed (map decimal ns) (free_map S decimal free ns h)
 
   one_number : (s : Seat) → All (λ (y : Seat). IsSeatNumber (kind_of input) y.number) (s ∷ []) → IsSeatNumber (kind_of input) s.number
@@ -183,9 +242,15 @@ module _ (input : Input) (sound : IsInput input) where
   cut_again : (fields : List (List ℕ)) (line : LineData) → line_in input fields ≡ Some line → are_free fields ≡ true → fields_in (join_with_byte 32 fields) ≡ fields
   unfolding headed_of
   cut_again [] line e h = absurd (none-some line e)
-  cut_again (x ∷ xs) line e h = split_joined 32 x xs h
+  cut_again (x ∷ xs) line e h = split_joined 32 x xs (all_without 32 refl (x ∷ xs) h)
 
   pub text_again : (line : LineData) → IsLineOf input line → line_in input (fields_in (text_of_line input line)) ≡ Some line
   text_again line s =
       let again = line_again input sound line s in
       ap (line_in input) (cut_again (fields_of input line) line again (free_line line s)) ∙ again
+
+  -- and it holds no end of a line
+  pub line_free : (line : LineData) → IsLineOf input line → (is_free 10 (text_of_line input line) ≡ true) × (is_free 13 (text_of_line input line) ≡ true)
+  line_free line s =
+      let free = free_line line s in
+      (joined_without 10 refl refl (fields_of input line) free, joined_without 13 refl refl (fields_of input line) free)
