@@ -1,5 +1,5 @@
 -- The walk through the lines of an answer: the clauses hold above a line, and something is kept for the lines below.
-use Rattle.std.proofs.Common.{◌≡◌, ℕ, ◌+◌, ◌<◌, ◌≤◌, arith, refl, ap, ◌∙◌, subst, ⊎_elim, List, [], ◌∷◌, ◌++◌, length, map, take, get_or, Option, None, Some, lit≤}
+use Rattle.std.proofs.Common.{◌≡◌, ℕ, ◌+◌, ◌<◌, ◌≤◌, arith, refl, subst, ⊎_elim, List, [], ◌∷◌, ◌++◌, length, map, take, get_or, Option, None, Some, lit≤}
 use Rattle.std.specs.Prelude.{All, filter_map}
 use Rattle.std.specs.List.{slice_get, cons_option}
 use Rattle.std.specs.Option.{option_or}
@@ -14,7 +14,7 @@ use Rattle.sm_judge.specs.declared.verdicts.Reason.TheVariants as reason
 use Rattle.sm_judge.specs.declared.verdicts.Verdict.TheVariants as verdict
 use Rattle.sm_judge.specs.Verdicts.{AtLine, IsVerdict, IsFirstThere, Finds, number_of_reason}
 use Rattle.sm_judge.specs.Walking.{FindsOrKeeps}
-use Rattle.sm_judge.proofs.JudgingLemmas.{first_failure, one_more, line_at, found_at, past_end, above_next}
+use Rattle.sm_judge.proofs.JudgingLemmas.{first_failure, one_more, line_at, found_at, past_end}
 
 -- what holds of all lines, of one that is read
 pub line_right : (P : LineData → Type 0) (lines : List Line) (k : ℕ) (x : Line) → k < length lines → x ≡ get_or lines k x → All P (map line_of lines) → P (line_of x)

@@ -17,14 +17,13 @@ use Rattle.sm_pairs.proofs.HoldingLemmas.{places_later}
 use Rattle.sm_pairs.proofs.ChoiceLemmas.{chosen_assigned, left_changed, right_changed}
 use Rattle.sm_report.specs.Lines.{LineData, line_of}
 use Rattle.sm_report.specs.declared.lines.Line.{Line}
-use Rattle.sm_report.specs.declared.lines.Line.TheVariants as Line
 use Rattle.sm_judge.specs.declared.verdicts.Reason.{Reason}
 use Rattle.sm_judge.specs.declared.verdicts.Reason.TheVariants as reason
 use Rattle.sm_judge.specs.Judging.{TwoClauses}
 use Rattle.sm_judge.specs.Pairs.{IsFree, IsWanted, AreAllThere, ChosenHold}
 use Rattle.sm_judge.specs.PairsKept.{ArePairsHeld, HasJoined}
 use Rattle.sm_judge.specs.Said.{pair_in, left_in, right_in, pairs_in, lefts_in, rights_in}
-use Rattle.sm_judge.specs.Verdicts.{number_of_reason, IsFirstThere}
+use Rattle.sm_judge.specs.Verdicts.{number_of_reason}
 use Rattle.sm_judge.specs.WantedKept.{AreChosenKept, AreStood}
 
 -- what is wanted is on the proposers' lists

@@ -76,7 +76,7 @@ not_among x xs none = go (is_among x xs) refl
     go true e = let s = stands_at x xs (of_among xs x e) in absurd (none s.at s.on_list s.is)
 
 -- once, where no two are the same
-once : (x : ℕ) (xs : List ℕ) → ((i j : ℕ) → i < j → j < length xs → get_or xs i 0 ≢ get_or xs j 0) → is_among x xs ≡ true → count_by (λ z. z == x) xs ≡ 1
+pub once : (x : ℕ) (xs : List ℕ) → ((i j : ℕ) → i < j → j < length xs → get_or xs i 0 ≢ get_or xs j 0) → is_among x xs ≡ true → count_by (λ z. z == x) xs ≡ 1
 once x [] apart c = absurd (false≢true c)
 once x (y ∷ ys) apart c = ⊎_elim
     (λ (is : y ≡ x). omega (

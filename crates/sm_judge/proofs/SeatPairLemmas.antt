@@ -28,7 +28,7 @@ use Rattle.sm_judge.specs.declared.seat_pairs.SeatPairs.{SeatPairs}
 use Rattle.sm_judge.proofs.PairLemmas.{second_more}
 
 -- a matching is the one that is made of the places of its proposers
-with_proposers_is : {l : Lists} (h : IsMarket l) {m : Places} → IsMatching l m → with_proposers l m.proposers ≡ m
+pub with_proposers_is : {l : Lists} (h : IsMarket l) {m : Places} → IsMatching l m → with_proposers l m.proposers ≡ m
 with_proposers_is {l} h {m} f = one_matching (matching_with h m.proposers f.proposers.one_each f.proposers.on_list fit) f refl
   where
     fit : Fit (sides_of l h) (stand_of l (with_proposers l m.proposers))

@@ -1,12 +1,11 @@
 -- The pairs of a matching that is wanted, and one more.
-use Rattle.std.proofs.Common.{◌≡◌, ◌≢◌, ℕ, zero, suc, map, replicate, ◌+◌, ◌<◌, ◌≤◌, ◌==◌, ◌⊎◌, inl, inr, Bool, true, false, List, [], ◌∷◌, ◌++◌, Option, Some, None, IsSome, length, get_or, set, refl, sym, ap, ◌∙◌, subst, arith, ⊎_elim}
+use Rattle.std.proofs.Common.{◌≡◌, ◌≢◌, ℕ, zero, suc, map, replicate, ◌+◌, ◌<◌, ◌==◌, ◌⊎◌, inl, inr, Bool, true, false, List, [], ◌∷◌, ◌++◌, Option, Some, None, length, get_or, set, refl, sym, ap, ◌∙◌, arith}
 use Rattle.std.specs.List.{range_with_len}
 use Rattle.std.specs.Option.{is_some}
 use Rattle.std.proofs.lemmas.Bool.Decides.{eqb_tells}
 use Rattle.std.proofs.lemmas.List.{length-set, get_or-set_same, get_or-set_other}
-use Rattle.sm_instance.specs.Written.{Written, row, entry, place_of}
-use Rattle.sm_instance.specs.Matching.{held, IsAssignment}
-use Rattle.sm_lists.proofs.PlaceLemmas.{get_or-place_on}
+use Rattle.sm_instance.specs.Written.{Written}
+use Rattle.sm_instance.specs.Matching.{held}
 use Rattle.sm_theory.specs.Choices.{chosen}
 use Rattle.sm_theory.specs.declared.choice.Choice.{Choice}
 use Rattle.sm_theory.specs.declared.choice.Choice.TheVariants.{Better, Worse}
@@ -14,9 +13,8 @@ use Rattle.sm_pairs.specs.Held.{partner_in}
 use Rattle.sm_pairs.specs.Chosen.{chosen_places}
 use Rattle.sm_pairs.specs.declared.holding.Holding.{Holding}
 use Rattle.sm_pairs.proofs.HoldingLemmas.{here_later, other_later, no_places}
-use Rattle.sm_judge.specs.Pairs.{IsWanted, AreAllThere}
 use Rattle.sm_judge.specs.PairsKept.{ArePairsHeld}
-use Rattle.sm_judge.specs.WantedKept.{AreStood, HasStood}
+use Rattle.sm_judge.specs.WantedKept.{AreStood}
 
 -- one more proposer stands
 pub stood_more : (w : Written) (pairs : List (ℕ × ℕ)) (stood : List Bool) (p r : ℕ) → AreStood w pairs stood → p < length w.proposers → partner_in pairs p ≡ None

@@ -4,7 +4,9 @@ use Rattle.sm_instance.specs.Written.{Written, row}
 use Rattle.sm_theory.specs.Listings.{end_of}
 use Rattle.sm_report.specs.Lines.{LineData}
 use Rattle.sm_judge.specs.Said.{vectors_in}
-use Rattle.sm_judge.specs.Vectors.{place_of_rank}
+use Rattle.sm_judge.specs.Vectors.{place_of_rank, places_of_ranks}
+use Rattle.sm_judge.specs.Again.{HasRoom, IsTried}
+use Rattle.sm_judge.specs.declared.again.Tried.{Tried}
 
 -- the number is a rank of p, that of being unmatched included
 pub record IsRank (w : Written) (v : List ℕ) (p : ℕ) : Type 0 where
@@ -21,10 +23,11 @@ pub record ArePlaced (w : Written) (v : List ℕ) (p : ℕ) (places : List (Opti
 abbrev pub last_or : ℕ → List ℕ → Option (List ℕ) → Option (List ℕ)
 last_or count last after = if nat_lt 0 count then Some last else after
 
--- of the lines of an answer of `list` behind a cursor: so many vectors, of which this is the last
-pub record AreVectorsKept (w : Written) (after : Option (List ℕ)) (above : List LineData) (count : ℕ) (last : List ℕ) (places : List (Option ℕ)) : Type 0 where
+-- of the lines of an answer of `list` behind a cursor: so many vectors, of which this is the last, with its matching
+pub record AreVectorsKept (w : Written) (after : Option (List ℕ)) (above : List LineData) (count : ℕ) (last : List ℕ) (tried : Tried) : Type 0 where
   pub counted : count ≡ length (vectors_in above)
   pub last_is : last_or count last after ≡ end_of after (vectors_in above)
   pub one_each : length last ≡ length w.proposers
   pub after_each : IfSome after (λ b. length b ≡ length w.proposers)
-  pub places_each : length places ≡ length w.proposers
+  pub room : HasRoom w tried
+  pub kept : 0 < count → IsTried w (places_of_ranks w last) tried

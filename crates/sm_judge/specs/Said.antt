@@ -109,10 +109,6 @@ vector_in _ = None
 abbrev pub vectors_in : List LineData → List (List ℕ)
 vectors_in lines = filter_map vector_in lines
 
-abbrev pub more_in : LineData → Option (List ℕ)
-more_in (LineData.More v) = Some v
-more_in _ = None
-
 abbrev pub regret_in : LineData → Option ℕ
 regret_in (LineData.Regret regret) = Some regret
 regret_in _ = None

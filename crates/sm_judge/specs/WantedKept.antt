@@ -2,7 +2,6 @@
 use Rattle.std.specs.Prelude.{◌≡◌, ℕ, ◌<◌, ◌++◌, ◌∷◌, [], Bool, true, false, List, length, Option, slice_index_or}
 use Rattle.std.specs.Option.{is_some}
 use Rattle.sm_instance.specs.Written.{Written}
-use Rattle.sm_instance.specs.Matching.{held}
 use Rattle.sm_theory.specs.declared.choice.Choice.{Choice}
 use Rattle.sm_pairs.specs.declared.holding.Holding.{Holding}
 use Rattle.sm_pairs.specs.Chosen.{chosen_places}

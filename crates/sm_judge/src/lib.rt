@@ -4,6 +4,7 @@
 //! first that fails is the verdict. What the clauses say stands in `specs`, by the definitions of the field alone.
 #![tactic(auto)]
 
+mod again;
 mod chain;
 mod chosen;
 mod couples;

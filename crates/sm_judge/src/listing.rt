@@ -10,16 +10,18 @@ ghost use Rattle.sm_report.specs.Lines.{line_of};
 ghost use Rattle.sm_judge.specs.Verdicts.{AtLine, Finds, IsVerdict};
 ghost use Rattle.sm_judge.specs.Vectors.{MoreHolds, VectorHolds, places_of_ranks, order_of};
 ghost use Rattle.sm_judge.specs.Listing.{last_or};
+ghost use Rattle.sm_judge.specs.Again.{HasRoom, IsTried};
 ghost use Rattle.sm_judge.specs.Judges.{IsOwnLine};
 ghost use Rattle.sm_judge.specs.Judging.{answer, Clauses};
 
+use crate::again::{Tried, stability_fault};
 use crate::judging::{Judge, judge_lines};
 use crate::verdicts::{Reason, Verdict};
 use sm_instance::{Assignment, Instance};
 use sm_report::Line;
 use std::alloc::{AllocError, Global};
 
-/// What is kept of an answer of `list`: how many vectors it has so far, and the last of them; and room for a vector's matching.
+/// What is kept of an answer of `list`: how many vectors it has so far, and the last of them with its matching.
 #[derive(Drop)]
 struct ListJudge<'a> {
     instance: &'a Instance,
@@ -27,14 +29,15 @@ struct ListJudge<'a> {
     limit: u32,
     count: u32,
     last: Vec<u32>,
-    matching: Assignment,
+    tried: Tried,
 }
 
 /// The verdict on an answer of `list` from this cursor up to this limit, whose lines are of their form and whose first line has
 /// this number. That nothing is missing, and that `end` is right, isn't decided.
 ///
-/// Takes memory in proportion to the proposers, and time in proportion to the lines and, for each vector, to the agents,
-/// entries and conditions.
+/// Takes memory in proportion to the agents, and time in proportion to the lines, to the entries and, for each vector, to the
+/// agents and conditions, to the lists of the reviewers that have other proposers than in the vector before, and to the places
+/// between the old and the new partner of each proposer.
 ///
 /// # Errors
 ///
@@ -56,14 +59,22 @@ pub fn list_verdict(
         (map line_of lines.now)) first_line v) }
 {
     let proposers = instance.proposer_count() as usize;
+    let reviewers = instance.reviewer_count() as usize;
     let judge = ListJudge {
         instance,
         after,
         limit,
         count: 0,
         last: vec![in alloc; 0; proposers]?,
-        matching: Assignment {
-            places: vec![in alloc; None; proposers]?,
+        tried: Tried {
+            matching: Assignment {
+                places: vec![in alloc; None; proposers]?,
+            },
+            next: Assignment {
+                places: vec![in alloc; None; proposers]?,
+            },
+            limits: vec![in alloc; 0; reviewers]?,
+            touched: vec![in alloc; false; reviewers]?,
         },
     };
     judge_lines(alloc, judge, lines, first_line)
@@ -78,16 +89,16 @@ impl<'a> Judge for ListJudge<'a> {
     ghost subject = { λ j. answer j.instance.now (ListHead (option_map (λ b. b.now) j.after) j.limit) };
 
     ghost knows = { λ j above. AreVectorsKept j.instance.now (option_map (λ b. b.now) j.after)
-        above j.count j.last.items j.matching.places.items };
+        above j.count j.last.items j.tried };
 
     fn find_fault(&mut self, _alloc: Global, line: &Line) -> Result<Option<Reason>, AllocError> {
         let before = last_vector(self.after, self.count, &self.last);
         match line {
             Line::Vector(v) => {
-                let a = &mut self.matching;
+                let tried = &mut self.tried;
                 if let Some(why) = vector_fault(
                     self.instance,
-                    a,
+                    tried,
                     before,
                     self.count,
                     self.limit,
@@ -124,10 +135,10 @@ fn last_vector<'a, 'b: 'a>(
     }
 }
 
-// The first clause that fails at a vector's line.
+// The first clause that fails at a vector's line. Where none does, its matching is kept for the next one.
 fn vector_fault(
     instance: &Instance,
-    a: &mut Assignment,
+    tried: &mut Tried,
     before: Option<&[u32]>,
     count: u32,
     limit: u32,
@@ -135,23 +146,22 @@ fn vector_fault(
 ) -> Option<Reason>
     requires one_each { length v.now ≡ length instance.now.proposers }
     requires before_each { IfSome before (λ b. length b.now ≡ length instance.now.proposers) }
-    requires places_each { length a.old.places.items ≡ length instance.now.proposers }
+    requires room { HasRoom instance.now tried.old }
+    requires kept { 0 < count → IsTried instance.now tried.old.matching.places.items tried.old }
     ensures found { Finds (VectorHolds instance.now (option_map (λ b. b.now) before.entry) count limit v.now) result }
-    ensures places_each { length a.new.places.items ≡ length instance.now.proposers }
+    ensures room { HasRoom instance.now tried.new }
+    ensures kept { result ≡ None → IsTried instance.now (places_of_ranks instance.now v.now) tried.new }
 {
-    if !set_places(instance, a, v) {
+    if !set_places(instance, &mut tried.next, v) {
         return Some(Reason::NotAMatching);
     }
-    if instance.breach(a).is_some() {
-        return Some(Reason::NotAMatching);
-    }
-    if instance.first_blocking(a).is_some() {
-        return Some(Reason::Blocked);
+    if let Some(why) = stability_fault(instance, tried, count) {
+        return Some(why);
     }
     if !is_behind(instance, before, v) {
         return Some(Reason::NotRising);
     }
-    if !instance.allowed(a) {
+    if !instance.allowed(&tried.next) {
         return Some(Reason::NotAllowed);
     }
     if count >= limit {

@@ -1,4 +1,3 @@
-use Rattle.std.proofs.Common.{◌≡◌, refl}
 use Rattle.sm_judge.proofs.WantedLemmas.{chosen_none}
 use Rattle.sm_judge.proofs.chosen.chosen_verdict.Goals as goal
 

@@ -1,13 +1,11 @@
-use Rattle.std.proofs.Common.{◌≡◌, ℕ, ◌∙◌, List, Option, refl, sym, subst}
+use Rattle.std.proofs.Common.{ℕ, ◌∙◌, List, Option, refl, sym, subst}
 use Rattle.sm_instance.specs.Matching.{IsAssignment}
 use Rattle.sm_instance.specs.Stable.{IsStable}
-use Rattle.sm_pairs.specs.Held.{places_in}
 use Rattle.std.proofs.lemmas.Bool.{false≢true}
 use Rattle.sm_report.specs.Lines.{LineData, line_of}
 use Rattle.sm_judge.specs.declared.verdicts.Reason.TheVariants as reason
 use Rattle.sm_judge.specs.Pairs.{IsWanted, AreAllThere}
 use Rattle.sm_judge.specs.Said.{pairs_in, lefts_in, rights_in}
-use Rattle.sm_judge.specs.WantedKept.{AreChosenKept}
 use Rattle.sm_judge.proofs.ChosenLemmas.{wanted_assigned, to_clauses, of_clauses, left_holds, right_holds, pair_holds, end_before, end_holds, left_kept, right_kept, pair_kept, other_kept, others_hold, others_say, wanted_is}
 use Rattle.sm_judge.proofs.chosen.ChosenJudgeJudge.find_fault.Goals as goal
 
