@@ -18,3 +18,4 @@ mod CouplesYes
 mod NoneYes
 mod WitnessLemmas
 mod WeightLemmas
+mod OrderLemmas

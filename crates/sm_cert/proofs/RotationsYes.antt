@@ -1,8 +1,8 @@
 -- What a yes on an answer of `rotations` means.
-use Rattle.std.proofs.Common.{◌≡◌, ℕ, ◌+◌, ◌<◌, ◌≤◌, ◌⊎◌, ◌||◌, ◌==◌, inl, inr, arith, refl, sym, ap, ◌∙◌, Bool, true, false, List, [], ◌∷◌, ◌++◌, length, map, take, drop, get_or, Option, Some, None, IsSome, subst, length-append, ⊎_elim}
-use Rattle.std.specs.Prelude.{IfSome, slice_index}
+use Rattle.std.proofs.Common.{◌≡◌, ℕ, ◌+◌, ◌<◌, ◌≤◌, ◌⊎◌, inl, inr, arith, refl, sym, ap, ◌∙◌, true, false, List, [], ◌∷◌, ◌++◌, length, map, take, drop, get_or, Option, Some, None, IsSome, subst, length-append, ⊎_elim}
+use Rattle.std.specs.Prelude.{IfSome}
 use Rattle.std.specs.List.{slice_get}
-use Rattle.std.proofs.lemmas.Bool.{false≢true, cases_lt}
+use Rattle.std.proofs.lemmas.Bool.{cases_lt}
 use Rattle.std.proofs.lemmas.List.{take-append-drop, get_or_append_left, get_or_push}
 use Rattle.std.proofs.lemmas.List.Elements.{filter_map-append}
 use Rattle.sm_instance.specs.Written.{Written}
@@ -10,9 +10,8 @@ use Rattle.sm_market.specs.Lists.{Lists, IsMarket}
 use Rattle.sm_market.specs.Matching.{Places}
 use Rattle.sm_market.specs.Stable.{IsProposersBest}
 use Rattle.sm_theory.specs.Rotations.{IsNothingExposed, IsLowestExposed}
-use Rattle.sm_theory.specs.Chains.{rotation_at, stage, IsCompleteChain, IsPrintedChain, IsNeededBy, AreNeedsOf}
+use Rattle.sm_theory.specs.Chains.{rotation_at, stage, IsCompleteChain, IsPrintedChain, AreNeedsOf}
 use Rattle.sm_theory.proofs.Bridge.Chain.{rotation_before, rotation_new, stage_before}
-use Rattle.sm_theory.proofs.Chains.Rotations.{predecessor_is_earlier}
 use Rattle.sm_seats.specs.SeatMarket.{seat_market}
 use Rattle.sm_seats.proofs.MarketLaws.{is_market}
 use Rattle.sm_seats.proofs.CorrespondenceLaws.{sound_entries}
@@ -20,7 +19,6 @@ use Rattle.sm_report.specs.Heads.{HeadData}
 use Rattle.sm_report.specs.Lines.{LineData}
 use Rattle.sm_judge.specs.declared.verdicts.Reason.{Reason}
 use Rattle.sm_judge.specs.declared.verdicts.Reason.TheVariants as reason
-use Rattle.sm_forms.specs.Keywords.{keyword_of, number_of}
 use Rattle.sm_forms.specs.declared.layouts.Part.{Part}
 use Rattle.sm_forms.specs.Layouts.{is_whole}
 use Rattle.sm_forms.specs.Forms.{closing, rotations_layout, opening_of}
@@ -29,6 +27,7 @@ use Rattle.sm_judge.specs.SeatMatchings.{FirstsHold, IsFreeSeat, seat_places_in,
 use Rattle.sm_judge.specs.Chain.{ChainHolds, reached, last_rotation}
 use Rattle.sm_forms.specs.Seats.{all_numbered}
 use Rattle.sm_judge.specs.Judging.{Subject, answer, Clauses}
+use Rattle.sm_weigh.proofs.NeedsLemmas.{needs_of_all}
 use Rattle.sm_cert.specs.Yes.{ArePairsOf, RotationsYes}
 use Rattle.sm_cert.proofs.GroupLemmas.{AllOut, Begins, Parted, parted_behind, said_up, said_then, stands_behind}
 use Rattle.sm_cert.proofs.SeatYes.{first_words, firsts_tell, no_first, free_seats}
@@ -62,34 +61,6 @@ module _ (l : Lists) (first : Places) where
       (subst (λ (m : Places). IsLowestExposed l m x) (sym (stage_before l first rotations x k (omega arith)))
       (subst (λ (n : ℕ). IsLowestExposed l (stage l first rotations n) x) (sym e) h)))
       (cases_lt k (length rotations))
-
-  -- what a rotation needs of those before it and itself, it needs of all
-  needs_of_all : IsMarket l → (front more : List (List (ℕ × ℕ))) (j : ℕ) (needs : List ℕ) → IsCompleteChain l first (front ++ more) → j < length front
-      → AreNeedsOf l front j needs → AreNeedsOf l (front ++ more) j needs
-  needs_of_all market front more j needs chain inside n = record {
-    rising = n.rising;
-    sound = λ a less. omega (arith, n.sound a less, long);
-    each = λ a less. to (slice_index needs a) (n.sound a less) (n.each a less);
-    all = λ i less need.
-        let early = predecessor_is_earlier l first (front ++ more) i j market chain less (omega (arith, inside, long)) need in
-        n.all i (omega arith) (back i (omega arith) need);
-  }
-    where
-      long : length (front ++ more) ≡ length front + length more
-      long = length-append front more
-
-      at : (i : ℕ) → i < length front → rotation_at (front ++ more) i ≡ rotation_at front i
-      at i less = get_or_append_left front more [] i less
-
-      to : (i : ℕ) → i < length front → IsNeededBy l (rotation_at front i) (rotation_at front j) → IsNeededBy l (rotation_at (front ++ more) i) (rotation_at (front ++ more) j)
-      to i less h =
-          subst (λ (y : List (ℕ × ℕ)). IsNeededBy l (rotation_at (front ++ more) i) y) (sym (at j inside))
-          (subst (λ (x : List (ℕ × ℕ)). IsNeededBy l x (rotation_at front j)) (sym (at i less)) h)
-
-      back : (i : ℕ) → i < length front → IsNeededBy l (rotation_at (front ++ more) i) (rotation_at (front ++ more) j) → IsNeededBy l (rotation_at front i) (rotation_at front j)
-      back i less h =
-          subst (λ (y : List (ℕ × ℕ)). IsNeededBy l (rotation_at front i) y) (at j inside)
-          (subst (λ (x : List (ℕ × ℕ)). IsNeededBy l x (rotation_at (front ++ more) j)) (at i less) h)
 
   abbrev AllNeeds : List (List (ℕ × ℕ)) → List (List ℕ) → Type 0
   AllNeeds rotations all = (j : ℕ) → j < length all → AreNeedsOf l rotations j (get_or all j [])

@@ -145,7 +145,7 @@ firsts_begin = inl (refl, inr (((refl, omega arith), (refl, omega arith), (refl,
     behind : AllOut first_words (Many keyword.Flow ∷ behind_flow)
     behind = ((refl, omega arith), ((refl, omega arith), ((refl, omega arith), ((refl, omega arith), ((refl, omega arith), ((refl, omega arith), ((refl, omega arith), tt)))))))
 
-flow_out : AllOut rotation_words (Many keyword.Flow ∷ behind_flow)
+pub flow_out : AllOut rotation_words (Many keyword.Flow ∷ behind_flow)
 flow_out = ((refl, omega arith), ((refl, omega arith), ((refl, omega arith), ((refl, omega arith), ((refl, omega arith), ((refl, omega arith), ((refl, omega arith), tt)))))))
 
 rotations_begin : Begins rotation_words weight_layout
@@ -194,7 +194,7 @@ taken_total (LineData.Taken taken) e = absurd (false≢true (sym e))
 taken_total _ e = refl
 
 -- behind the head
-turns_behind : (w : Written) (by : Measure) (rest : List LineData) → is_whole (weight_layout ∷ []) (map opening_of rest) ≡ true → Turns w (Many keyword.Flow ∷ behind_flow) flow_out [] (LineData.Answer (HeadData.Weight by) ∷ rest)
+pub turns_behind : (w : Written) (by : Measure) (rest : List LineData) → is_whole (weight_layout ∷ []) (map opening_of rest) ≡ true → Turns w (Many keyword.Flow ∷ behind_flow) flow_out [] (LineData.Answer (HeadData.Weight by) ∷ rest)
 turns_behind w by rest placed =
     turns_from w (Many keyword.Flow ∷ behind_flow) flow_out (LineData.Answer (HeadData.Weight by)) refl refl refl
     (turns w (Many keyword.Flow ∷ behind_flow) flow_out true Spot.firsts (LineData.Answer (HeadData.Weight by) ∷ []) rest placed refl)

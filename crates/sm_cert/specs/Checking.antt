@@ -2,15 +2,13 @@
 use Rattle.std.specs.Prelude.{◌≡◌, ℕ, ◌∷◌, Bool, true, false, List, Option, None, Some}
 use Rattle.sm_instance.specs.declared.inputs.Input.{Input}
 use Rattle.sm_instance.specs.declared.inputs.Input.TheVariants.{Two, Room}
-use Rattle.sm_instance.specs.declared.kinds.Measure.{Measure}
 use Rattle.sm_report.specs.Heads.{HeadData}
 use Rattle.sm_report.specs.Lines.{LineData}
 use Rattle.sm_seats.specs.SeatEntries.{AreFewSeats, IsFirstTooMany}
 use Rattle.sm_seats.specs.declared.faults.SeatsFault.{SeatsFault}
 use Rattle.sm_seats.specs.declared.faults.SeatsFault.TheVariants as seats
 use Rattle.sm_cert.specs.declared.faults.CertFault.{CertFault}
-use Rattle.sm_cert.specs.declared.faults.CertFault.TheVariants.{TooManySeats, BadAnswer, Unjudged, OutOfMemory}
-use Rattle.sm_forms.specs.Forms.{AreAnswer}
+use Rattle.sm_cert.specs.declared.faults.CertFault.TheVariants.{TooManySeats, BadAnswer, OutOfMemory}
 use Rattle.sm_judge.specs.Judging.{IsBadAt}
 
 -- the seats of an instance with two sides have few enough entries; or this is the first reviewer with whom they have too many
@@ -27,22 +25,10 @@ abbrev pub first_head : List LineData → Option HeadData
 first_head (LineData.Answer head ∷ lines) = Some head
 first_head _ = None
 
--- lines that answer `weight`
-pub record AreOfWeight (lines : List LineData) : Type 0 where
-  pub by : Measure
-  pub head : first_head lines ≡ Some (HeadData.Weight by)
-
--- the texts are an answer of `weight`
-pub record IsAnswerOfWeight (input : Input) (texts : List (List ℕ)) : Type 0 where
-  pub lines : List LineData
-  pub answer : AreAnswer input texts lines
-  pub of_weight : AreOfWeight lines
-
 -- what a fault says: a text that isn't of the form of an answer yields to too many seats, and want of memory says nothing
 abbrev pub IsCertFault : Input → List (List ℕ) → ℕ → CertFault → Type 0
 IsCertFault input texts first_line (TooManySeats r) = HasTooManyAt input r
 IsCertFault input texts first_line (BadAnswer line) = HasFewSeats input × IsBadAt input texts first_line line
-IsCertFault input texts first_line Unjudged = HasFewSeats input × IsAnswerOfWeight input texts
 IsCertFault input texts first_line OutOfMemory = Unit {0}
 
 -- a fault of seats, and what it says
@@ -58,7 +44,6 @@ HasSeatsFault input seats.OutOfMemory = Unit {0}
 abbrev pub IsJudgeFault : Input → List LineData → CertFault → Type 0
 IsJudgeFault input lines (TooManySeats r) = HasTooManyAt input r
 IsJudgeFault input lines (BadAnswer line) = ⊥
-IsJudgeFault input lines Unjudged = AreOfWeight lines
 IsJudgeFault input lines OutOfMemory = Unit {0}
 
 -- an answer over roommates says that there is no stable matching

@@ -1,6 +1,6 @@
 //! Checking the text of an answer.
 
-ghost use Rattle.std.specs.Prelude.{◌≡◌, ◌+◌, ◌<◌, ◌≤◌, ◌^◌, All, length, map, IfOk, IfErr, OnOk};
+ghost use Rattle.std.specs.Prelude.{◌≡◌, ◌+◌, ◌<◌, ◌≤◌, ◌^◌, All, length, map, true, Some, IfOk, IfErr, OnOk};
 ghost use Rattle.std.specs.Option.{option_map};
 ghost use Rattle.sm_text.specs.Limits.{most_bytes};
 ghost use Rattle.sm_text.specs.Lines.{lines, content};
@@ -9,7 +9,8 @@ ghost use Rattle.sm_report.specs.Heads.{HeadData, head_of};
 ghost use Rattle.sm_report.specs.Lines.{line_of};
 ghost use Rattle.sm_seats.specs.SeatEntries.{IsSeatsFault};
 ghost use Rattle.sm_seats.specs.Tables.{first_seats_of};
-ghost use Rattle.sm_forms.specs.Forms.{AreAnswer};
+ghost use Rattle.sm_forms.specs.Forms.{AreAnswer, is_placed};
+ghost use Rattle.sm_forms.specs.Layouts.{is_whole};
 ghost use Rattle.sm_forms.specs.Taking.{AreFirsts};
 ghost use Rattle.sm_judge.specs.Verdicts.{AtLine, IsVerdict};
 ghost use Rattle.sm_judge.specs.Judging.{Subject, answer, couples, parties, Clauses, Holds, IsJudged};
@@ -26,6 +27,7 @@ use sm_judge::{
 use sm_report::{Head, Line};
 use sm_seats::{Seats, SeatsFault, seat_counts};
 use sm_theory::Choice;
+use sm_weigh::{Weighed, weight_verdict};
 use std::alloc::{AllocError, Global};
 
 /// The verdict on the text of an answer over an instance, of which the first line has this number. It stands on no solver:
@@ -38,8 +40,7 @@ use std::alloc::{AllocError, Global};
 ///
 /// `TooManySeats` where the seats have too many entries, as [`Seats::of`] gives it, before anything is said of the text.
 /// `BadAnswer` with the first line that isn't of an answer's form where it stands, or the one behind the last where the
-/// closing line is missing. `Unjudged` where the text is an answer of `weight`. `OutOfMemory` where memory ran out, and only
-/// then.
+/// closing line is missing. `OutOfMemory` where memory ran out, and only then.
 pub fn check(
     alloc: Global,
     input: &Input,
@@ -105,6 +106,7 @@ fn judge(
     requires few { first_line + length lines.now < 2 ^ 32 }
     requires firsts { AreFirsts input.now firsts.now }
     requires own { (subject : Subject) → input_of subject ≡ input.now → All (IsOwnLine subject) (map line_of lines.now) }
+    requires placed { is_placed is_whole input.now (map line_of lines.now) ≡ true }
     ensures verdict { IfOk result (λ v. IsVerdict (Holds input.now (map line_of lines.now)) first_line v) }
     ensures fault { IfErr result (λ f. IsJudgeFault input.now (map line_of lines.now) f) }
 {
@@ -125,6 +127,7 @@ fn judge_two(
     requires few { first_line + length lines.now < 2 ^ 32 }
     requires firsts { firsts.now ≡ first_seats_of instance.now }
     requires own { (head : HeadData) → All (IsOwnLine (answer instance.now head)) (map line_of lines.now) }
+    requires placed { is_placed is_whole (Two instance.now) (map line_of lines.now) ≡ true }
     ensures verdict { IfOk result (λ v. IsVerdict (Holds (Two instance.now) (map line_of lines.now)) first_line v) }
     ensures fault { IfErr result (λ f. IsJudgeFault (Two instance.now) (map line_of lines.now) f) }
 {
@@ -156,6 +159,7 @@ fn judge_head(
     requires few { first_line + length lines.now < 2 ^ 32 }
     requires firsts { firsts.now ≡ first_seats_of instance.now }
     requires own { (head : HeadData) → All (IsOwnLine (answer instance.now head)) (map line_of lines.now) }
+    requires placed { is_placed is_whole (Two instance.now) (map line_of lines.now) ≡ true }
     requires head { first_head (map line_of lines.now) ≡ Some (head_of head.now) }
     ensures verdict { IfOk result (λ v. IsVerdict
         (AtLine (Clauses (answer instance.now (head_of head.now))) (map line_of lines.now)) first_line v) }
@@ -179,7 +183,15 @@ fn judge_head(
             Ok(list_verdict(alloc, instance, after, *limit, lines, first_line)?)
         }
         Head::Regret => Ok(regret_verdict(alloc, instance, lines, first_line)?),
-        Head::Weight(_) => Err(CertFault::Unjudged),
+        Head::Weight(by) => {
+            let seats = Seats::of(alloc, instance)?;
+            let weighed = Weighed {
+                instance,
+                seats: &seats,
+                by: *by,
+            };
+            Ok(weight_verdict(alloc, &weighed, firsts, lines, first_line)?)
+        }
         Head::Meet => Ok(chosen_verdict(alloc, instance, Choice::Better, lines, first_line)?),
         Head::Join => Ok(chosen_verdict(alloc, instance, Choice::Worse, lines, first_line)?),
         Head::Solve(None) => Ok(Verdict::Yes),

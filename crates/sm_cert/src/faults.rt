@@ -11,8 +11,6 @@ pub enum CertFault {
     /// The first line that isn't of an answer's form where it stands, or the one behind the last where the closing line is
     /// missing.
     BadAnswer(u32),
-    /// The text is an answer of `weight`, on which no verdict is given yet.
-    Unjudged,
     /// Memory ran out. Nothing is said of the text.
     OutOfMemory,
 }

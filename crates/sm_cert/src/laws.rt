@@ -1,7 +1,6 @@
 //! The laws of verdicts, and what a yes means. Each function does nothing: its contract is the law, a statement
 //! over the definitions alone.
 
-ghost use Rattle.sm_forms.specs.Laws.{WholeIsBegun, WholeEnds};
 ghost use Rattle.sm_cert.specs.Laws.{OneVerdict, OneJudgement, JudgedIsntBad};
 ghost use Rattle.sm_cert.specs.Yes.{ListYes, SolveYes, CouplesYes, NoneYes, RegretYes, MeetYes, JoinYes, ReducedYes, RotationsYes, WeightYes};
 

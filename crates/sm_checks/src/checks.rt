@@ -11,6 +11,9 @@ const PAIR: &str = "stable 1 marriage\np m1: a b\np m2: b a\nr a: m2 m1\nr b: m1
 const CYCLE: &str = "stable 1 marriage\np m1: a b c\np m2: b c a\np m3: c a b\n\
     r a: m2 m3 m1\nr b: m3 m1 m2\nr c: m1 m2 m3\nend\n";
 
+const WEIGHED: &str = "stable 1 marriage\np m1: a b c\np m2: b c a\np m3: c a b\n\
+    r a: m2 m3 m1\nr b: m3 m1 m2\nr c: m1 m2 m3\nweight m1 b 4\nweight m1 c -10\nend\n";
+
 const FORCED: &str = "stable 1 marriage\np m1: a b\np m2: b a\np m3: c d\np m4: d c\n\
     r a: m2 m1\nr b: m1 m2\nr c: m4 m3\nr d: m3 m4\nforce m1 b\nend\n";
 
@@ -51,7 +54,6 @@ fn comes_to(rt: &(impl Abort + AllocGlobal), input: &Input, answer: &str, found:
     match check(rt.alloc(), input, bytes, 1) {
         Ok(Verdict::Yes) => found == Found::Yes,
         Ok(Verdict::No(line, why)) => found == Found::No(line, why),
-        Err(CertFault::Unjudged) => false,
         Err(CertFault::BadAnswer(line)) => found == Found::Bad(line),
         Err(CertFault::TooManySeats(_)) => false,
         Err(CertFault::OutOfMemory) => false,
@@ -249,6 +251,126 @@ fn other_answers_are_checked(rt: HostRuntime) {
             (
                 "answer solve\nnone\nparty 1 2 3 4\nend\n",
                 Found::No(4, Reason::NoOddParty),
+            ),
+        ],
+    );
+}
+
+#[test]
+fn lightest_matchings_are_checked(rt: HostRuntime) {
+    come_to(
+        &rt,
+        WEIGHED,
+        &[
+            (
+                "answer weight by=given\nfirst m1 a\nfirst m2 b\nfirst m3 c\nrotation 1 m1 a m2 b m3 c\n\
+                 needs 1 -\ngain 1 4\nrotation 2 m1 b m2 c m3 a\nneeds 2 1\ngain 2 -14\nflow S 2 4\nflow 1 T 4\n\
+                 flow 2 1 4\ntaken 1 2\nvalue 4\ncut 4\ntotal -10\npair m1 c\npair m2 a\npair m3 b\nend\n",
+                Found::Yes,
+            ),
+            (
+                "answer weight by=given\nfirst m1 a\nfirst m2 b\nfirst m3 c\nrotation 1 m1 a m2 b m3 c\n\
+                 needs 1 -\ngain 1 4\nrotation 2 m1 b m2 c m3 a\nneeds 2 1\ngain 2 -13\nflow S 2 4\nflow 1 T 4\n\
+                 flow 2 1 4\ntaken 1 2\nvalue 4\ncut 4\ntotal -10\npair m1 c\npair m2 a\npair m3 b\nend\n",
+                Found::No(10, Reason::WrongGain),
+            ),
+            (
+                "answer weight by=given\nfirst m1 a\nfirst m2 b\nfirst m3 c\nrotation 1 m1 a m2 b m3 c\n\
+                 needs 1 -\ngain 1 4\nrotation 2 m1 b m2 c m3 a\nneeds 2 -\ngain 2 -14\nflow S 2 4\nflow 1 T 4\n\
+                 flow 2 1 4\ntaken 1 2\nvalue 4\ncut 4\ntotal -10\npair m1 c\npair m2 a\npair m3 b\nend\n",
+                Found::No(9, Reason::WrongNeeds),
+            ),
+            (
+                "answer weight by=given\nfirst m1 a\nfirst m2 b\nfirst m3 c\nrotation 1 m1 a m2 b m3 c\n\
+                 needs 1 -\ngain 1 4\nflow S 2 4\nflow 1 T 4\nflow 2 1 4\ntaken 1 2\nvalue 4\ncut 4\ntotal -10\n\
+                 pair m1 c\npair m2 a\npair m3 b\nend\n",
+                Found::No(8, Reason::RotationMissing),
+            ),
+            (
+                "answer weight by=given\nfirst m1 a\nfirst m2 b\nfirst m3 c\nrotation 1 m1 a m2 b m3 c\n\
+                 needs 1 -\ngain 1 4\nrotation 2 m1 b m2 c m3 a\nneeds 2 1\ngain 2 -14\nflow S 1 4\nflow 1 T 4\n\
+                 flow 2 1 4\ntaken 1 2\nvalue 4\ncut 4\ntotal -10\npair m1 c\npair m2 a\npair m3 b\nend\n",
+                Found::No(11, Reason::NoEdge),
+            ),
+            (
+                "answer weight by=given\nfirst m1 a\nfirst m2 b\nfirst m3 c\nrotation 1 m1 a m2 b m3 c\n\
+                 needs 1 -\ngain 1 4\nrotation 2 m1 b m2 c m3 a\nneeds 2 1\ngain 2 -14\nflow S 2 4\nflow 1 T 4\n\
+                 flow 2 1 4\nflow S 2 1\ntaken 1 2\nvalue 4\ncut 4\ntotal -10\npair m1 c\npair m2 a\npair m3 b\n\
+                 end\n",
+                Found::No(14, Reason::NoEdge),
+            ),
+            (
+                "answer weight by=given\nfirst m1 a\nfirst m2 b\nfirst m3 c\nrotation 1 m1 a m2 b m3 c\n\
+                 needs 1 -\ngain 1 4\nrotation 2 m1 b m2 c m3 a\nneeds 2 1\ngain 2 -14\nflow S 2 4\nflow 1 T 4\n\
+                 flow 3 1 4\ntaken 1 2\nvalue 4\ncut 4\ntotal -10\npair m1 c\npair m2 a\npair m3 b\nend\n",
+                Found::No(13, Reason::NoEdge),
+            ),
+            (
+                "answer weight by=given\nfirst m1 a\nfirst m2 b\nfirst m3 c\nrotation 1 m1 a m2 b m3 c\n\
+                 needs 1 -\ngain 1 4\nrotation 2 m1 b m2 c m3 a\nneeds 2 1\ngain 2 -14\n\
+                 flow S 2 18446744073709551615\nflow 1 T 4\nflow 2 1 4\ntaken 1 2\nvalue 4\ncut 4\ntotal -10\n\
+                 pair m1 c\npair m2 a\npair m3 b\nend\n",
+                Found::No(11, Reason::OverRoom),
+            ),
+            (
+                "answer weight by=given\nfirst m1 a\nfirst m2 b\nfirst m3 c\nrotation 1 m1 a m2 b m3 c\n\
+                 needs 1 -\ngain 1 4\nrotation 2 m1 b m2 c m3 a\nneeds 2 1\ngain 2 -14\nflow S 2 3\nflow 1 T 4\n\
+                 flow 2 1 4\ntaken 1 2\nvalue 4\ncut 4\ntotal -10\npair m1 c\npair m2 a\npair m3 b\nend\n",
+                Found::No(14, Reason::NotConserved),
+            ),
+            (
+                "answer weight by=given\nfirst m1 a\nfirst m2 b\nfirst m3 c\nrotation 1 m1 a m2 b m3 c\n\
+                 needs 1 -\ngain 1 4\nrotation 2 m1 b m2 c m3 a\nneeds 2 1\ngain 2 -14\nflow S 2 4\nflow 1 T 4\n\
+                 flow 2 1 4\ntaken 2\nvalue 4\ncut 4\ntotal -10\npair m1 c\npair m2 a\npair m3 b\nend\n",
+                Found::No(14, Reason::NotClosed),
+            ),
+            (
+                "answer weight by=given\nfirst m1 a\nfirst m2 b\nfirst m3 c\nrotation 1 m1 a m2 b m3 c\n\
+                 needs 1 -\ngain 1 4\nrotation 2 m1 b m2 c m3 a\nneeds 2 1\ngain 2 -14\nflow S 2 4\nflow 1 T 4\n\
+                 flow 2 1 4\ntaken 1 2 3\nvalue 4\ncut 4\ntotal -10\npair m1 c\npair m2 a\npair m3 b\nend\n",
+                Found::No(14, Reason::NotClosed),
+            ),
+            (
+                "answer weight by=given\nfirst m1 a\nfirst m2 b\nfirst m3 c\nrotation 1 m1 a m2 b m3 c\n\
+                 needs 1 -\ngain 1 4\nrotation 2 m1 b m2 c m3 a\nneeds 2 1\ngain 2 -14\nflow S 2 4\nflow 1 T 4\n\
+                 flow 2 1 4\ntaken 1 2\nvalue 3\ncut 4\ntotal -10\npair m1 c\npair m2 a\npair m3 b\nend\n",
+                Found::No(15, Reason::WrongValue),
+            ),
+            (
+                "answer weight by=given\nfirst m1 a\nfirst m2 b\nfirst m3 c\nrotation 1 m1 a m2 b m3 c\n\
+                 needs 1 -\ngain 1 4\nrotation 2 m1 b m2 c m3 a\nneeds 2 1\ngain 2 -14\nflow S 2 4\nflow 1 T 4\n\
+                 flow 2 1 4\ntaken -\nvalue 4\ncut 4\ntotal -10\npair m1 c\npair m2 a\npair m3 b\nend\n",
+                Found::No(16, Reason::WrongCut),
+            ),
+            (
+                "answer weight by=given\nfirst m1 a\nfirst m2 b\nfirst m3 c\nrotation 1 m1 a m2 b m3 c\n\
+                 needs 1 -\ngain 1 4\nrotation 2 m1 b m2 c m3 a\nneeds 2 1\ngain 2 -14\nflow S 2 3\nflow 1 T 3\n\
+                 flow 2 1 3\ntaken 1 2\nvalue 3\ncut 4\ntotal -10\npair m1 c\npair m2 a\npair m3 b\nend\n",
+                Found::No(16, Reason::CutDiffers),
+            ),
+            (
+                "answer weight by=given\nfirst m1 a\nfirst m2 b\nfirst m3 c\nrotation 1 m1 a m2 b m3 c\n\
+                 needs 1 -\ngain 1 4\nrotation 2 m1 b m2 c m3 a\nneeds 2 1\ngain 2 -14\nflow S 2 4\nflow 1 T 4\n\
+                 flow 2 1 4\ntaken 1 2\nvalue 4\ncut 4\ntotal -9\npair m1 c\npair m2 a\npair m3 b\nend\n",
+                Found::No(17, Reason::WrongTotal),
+            ),
+            (
+                "answer weight by=given\nfirst m1 a\nfirst m2 b\nfirst m3 c\nrotation 1 m1 a m2 b m3 c\n\
+                 needs 1 -\ngain 1 4\nrotation 2 m1 b m2 c m3 a\nneeds 2 1\ngain 2 -14\nflow S 2 4\nflow 1 T 4\n\
+                 flow 2 1 4\ntaken 1 2\nvalue 4\ncut 4\ntotal -10\npair m1 c\npair m2 b\npair m3 b\nend\n",
+                Found::No(19, Reason::WrongPair),
+            ),
+            (
+                "answer weight by=given\nfirst m1 a\nfirst m2 b\nfirst m3 c\nrotation 1 m1 a m2 b m3 c\n\
+                 needs 1 -\ngain 1 4\nrotation 2 m1 b m2 c m3 a\nneeds 2 1\ngain 2 -14\nflow S 2 4\nflow 1 T 4\n\
+                 flow 2 1 4\ntaken 1 2\nvalue 4\ncut 4\ntotal -10\npair m1 c\npair m2 a\nend\n",
+                Found::No(20, Reason::WrongPair),
+            ),
+            (
+                "answer weight by=ranks\nfirst m1 a\nfirst m2 b\nfirst m3 c\nrotation 1 m1 a m2 b m3 c\n\
+                 needs 1 -\ngain 1 0\nrotation 2 m1 b m2 c m3 a\nneeds 2 1\ngain 2 0\ntaken 1\nvalue 0\ncut 0\n\
+                 total 12\npair m1 b\npair m2 c\npair m3 a\nend\n",
+                Found::No(18, Reason::NotLeast),
             ),
         ],
     );

@@ -431,6 +431,32 @@ fn checked_no<'a>(text: &'a str, line: u32, why: Reason, written: &'a str) -> Ro
 }
 
 #[test]
+fn answers_of_weight_are_checked(rt: HostRuntime) {
+    come_to(
+        &rt,
+        &[
+            done(
+                "check",
+                "stable 1 marriage\np m1: a b c\np m2: b c a\np m3: c a b\nr a: m2 m3 m1\nr b: m3 m1 m2\nr c: m1 m2 m3\nweight m1 b 4\nweight m1 c -10\nend\nanswer weight by=given\nfirst m1 a\nfirst m2 b\nfirst m3 c\nrotation 1 m1 a m2 b m3 c\nneeds 1 -\ngain 1 4\nrotation 2 m1 b m2 c m3 a\nneeds 2 1\ngain 2 -14\nflow S 2 4\nflow 1 T 4\nflow 2 1 4\ntaken 1 2\nvalue 4\ncut 4\ntotal -10\npair m1 c\npair m2 a\npair m3 b\nend\n",
+                "answer check\nyes\nend\n",
+            ),
+            checked_no(
+                "stable 1 marriage\np m1: a b c\np m2: b c a\np m3: c a b\nr a: m2 m3 m1\nr b: m3 m1 m2\nr c: m1 m2 m3\nweight m1 b 4\nweight m1 c -10\nend\nanswer weight by=given\nfirst m1 a\nfirst m2 b\nfirst m3 c\nrotation 1 m1 a m2 b m3 c\nneeds 1 -\ngain 1 4\nrotation 2 m1 b m2 c m3 a\nneeds 2 1\ngain 2 -14\nflow S 2 3\nflow 1 T 4\nflow 2 1 4\ntaken 1 2\nvalue 4\ncut 4\ntotal -10\npair m1 c\npair m2 a\npair m3 b\nend\n",
+                24,
+                Reason::NotConserved,
+                "answer check\nno 24 NotConserved\nend\n",
+            ),
+            checked_no(
+                "stable 1 marriage\np m1: a b c\np m2: b c a\np m3: c a b\nr a: m2 m3 m1\nr b: m3 m1 m2\nr c: m1 m2 m3\nweight m1 b 4\nweight m1 c -10\nend\nanswer weight by=given\nfirst m1 a\nfirst m2 b\nfirst m3 c\nrotation 1 m1 a m2 b m3 c\nneeds 1 -\ngain 1 4\nrotation 2 m1 b m2 c m3 a\nneeds 2 1\ngain 2 -14\nflow S 2 3\nflow 1 T 3\nflow 2 1 3\ntaken 1 2\nvalue 3\ncut 4\ntotal -10\npair m1 c\npair m2 a\npair m3 b\nend\n",
+                26,
+                Reason::CutDiffers,
+                "answer check\nno 26 CutDiffers\nend\n",
+            ),
+        ],
+    );
+}
+
+#[test]
 fn answers_are_checked(rt: HostRuntime) {
     come_to(
         &rt,
@@ -465,13 +491,6 @@ fn answers_are_checked(rt: HostRuntime) {
                 RefusalKind::BadAnswer,
                 7,
                 "refused BadAnswer 7\n",
-            ),
-            refused(
-                "check",
-                "stable 1 marriage\np m1: a\nr a: m1\nend\nanswer weight by=ranks\nfirst m1 a\ntaken -\nvalue 0\ncut 0\ntotal 2\npair m1 a\nend\n",
-                RefusalKind::BadAnswer,
-                5,
-                "refused BadAnswer 5\n",
             ),
         ],
     );

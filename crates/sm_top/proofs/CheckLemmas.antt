@@ -1,5 +1,5 @@
 -- What is checked of an input: its seats, the text behind `end`, and the verdict on it.
-use Rattle.std.proofs.Common.{◌≡◌, ◌∙◌, ℕ, ◌<◌, arith, inl, inr, true, All, List, [], ◌∷◌, length, Option, None, Ok, refl, ap}
+use Rattle.std.proofs.Common.{◌≡◌, ◌∙◌, ℕ, ◌<◌, arith, true, All, List, [], ◌∷◌, length, Option, None, Ok, refl, ap}
 use Rattle.std.specs.Option.{option_map}
 use Rattle.std.proofs.lemmas.List.Elements.{All-cons}
 use Rattle.sm_answer.specs.Printing.{IsShown}
@@ -14,7 +14,7 @@ use Rattle.sm_report.specs.Heads.{HeadData}
 use Rattle.sm_report.specs.Lines.{LineData}
 use Rattle.sm_report.specs.Sound.{IsLineOf}
 use Rattle.sm_seats.proofs.LimitLaws.{none_is}
-use Rattle.sm_cert.specs.Checking.{HasFewSeats, HasTooManyAt, IsAnswerOfWeight}
+use Rattle.sm_cert.specs.Checking.{HasFewSeats, HasTooManyAt}
 use Rattle.sm_given.specs.GivenText.{texts_from}
 use Rattle.sm_judge.specs.Judging.{IsJudged, IsBadAt}
 use Rattle.sm_judge.specs.declared.verdicts.Verdict.{Verdict}
@@ -65,12 +65,7 @@ seats_refused bytes read r line before too at =
 -- a text that isn't an answer's is refused
 pub text_refused : (bytes : List ℕ) (read : ReadText) (at : ℕ) → accepted Check bytes ≡ judged Check read → HasFewSeats read.input → IsBadAt read.input (texts_from bytes read.rest) read.rest_line at
     → IsRefused Check bytes (plain BadAnswer at)
-text_refused bytes read at before few bad = by_job read (check_accepted bytes read before few) (inl (record { at = at; bad = bad; says = refl }))
-
--- and so is an answer of `weight`
-pub weight_refused : (bytes : List ℕ) (read : ReadText) → accepted Check bytes ≡ judged Check read → HasFewSeats read.input → IsAnswerOfWeight read.input (texts_from bytes read.rest)
-    → IsRefused Check bytes (plain BadAnswer read.rest_line)
-weight_refused bytes read before few of_weight = by_job read (check_accepted bytes read before few) (inr (record { of_weight = of_weight; says = refl }))
+text_refused bytes read at before few bad = by_job read (check_accepted bytes read before few) (record { at = at; bad = bad; says = refl })
 
 -- the lines of the verdict were written
 pub wrote_verdict : (tallies : List Shown) (bytes : List ℕ) (read : ReadText) (v : Verdict) (gives : List (List ℕ) → Type 0) (a b : Option (List ℕ)) (f g : ℕ) (status : Status)

@@ -90,7 +90,7 @@ whole_agrees (Some all) None bytes w = absurd w.given
 whole_agrees (Some all) (Some rest) bytes w = w.given ∙ ap (λ t. bytes ++ t) w.over ∙ append-nil bytes
 
 -- an input that is too long is refused
-too_long_text : (bytes : List ℕ) → most_bytes < length bytes → instance_text bytes ≡ Err (TooLong, 0)
+pub too_long_text : (bytes : List ℕ) → most_bytes < length bytes → instance_text bytes ≡ Err (TooLong, 0)
 unfolding instance_text
 too_long_text bytes long = rw (lt-ltb most_bytes (length bytes) long) refl
 

@@ -1,7 +1,6 @@
 -- What `check` answers.
 use Rattle.std.specs.Prelude.{◌≡◌, ℕ, List, [], ◌∷◌}
 use Rattle.sm_instance.specs.declared.inputs.Input.{Input}
-use Rattle.sm_cert.specs.Checking.{IsAnswerOfWeight}
 use Rattle.sm_judge.specs.Judging.{IsJudged, IsBadAt}
 use Rattle.sm_judge.specs.Verdicts.{number_of_reason}
 use Rattle.sm_judge.specs.declared.verdicts.Verdict.{Verdict}
@@ -37,8 +36,3 @@ pub record IsUnreadable (input : Input) (texts : List (List ℕ)) (first_line : 
   pub at : ℕ
   pub bad : IsBadAt input texts first_line at
   pub says : refusal ≡ plain BadAnswer at
-
--- they are an answer of `weight`, which isn't judged yet: refused at its first line
-pub record IsUntaken (input : Input) (texts : List (List ℕ)) (first_line : ℕ) (refusal : RefusalData) : Type 0 where
-  pub of_weight : IsAnswerOfWeight input texts
-  pub says : refusal ≡ plain BadAnswer first_line

@@ -16,7 +16,7 @@ use Rattle.sm_words.specs.Words.{usual_limit, words_meaning}
 use Rattle.sm_top.specs.declared.status.Status.{Status}
 use Rattle.sm_top.specs.declared.status.Status.TheVariants.{Done, Refused, Usage, NoneExists}
 use Rattle.sm_top.specs.Texts.{RefusalData, plain, with_detail, usage_line, refused_line}
-use Rattle.sm_top.specs.Checked.{IsChecked, IsUnreadable, IsUntaken}
+use Rattle.sm_top.specs.Checked.{IsChecked, IsUnreadable}
 use Rattle.sm_top.specs.Accepting.{reads_input, accepted, IsTooMany, IsUnaccepted}
 use Rattle.sm_shown.specs.Answers.{IsSolution}
 use Rattle.sm_shown.specs.Reduction.{IsReduction}
@@ -131,8 +131,7 @@ IsOwnRefusal (Weight by) bytes read refusal = ⊥
 IsOwnRefusal Meet bytes read refusal = IsBadGiven read.input (texts_from bytes read.rest) read.rest_line refusal
 IsOwnRefusal Join bytes read refusal = IsBadGiven read.input (texts_from bytes read.rest) read.rest_line refusal
 IsOwnRefusal (Survey limit) bytes read refusal = ⊥
-IsOwnRefusal Check bytes read refusal =
-    IsUnreadable read.input (texts_from bytes read.rest) read.rest_line refusal ⊎ IsUntaken read.input (texts_from bytes read.rest) read.rest_line refusal
+IsOwnRefusal Check bytes read refusal = IsUnreadable read.input (texts_from bytes read.rest) read.rest_line refusal
 IsOwnRefusal (Make shape size seed summary) bytes read refusal = ⊥
 
 -- a made instance isn't surveyed where its seats have too many entries

@@ -61,7 +61,6 @@ pub(crate) fn check_answer<K: Sink>(
             Err(Stop::Refused(RefusalKind::TooManySeats, line))
         }
         Err(CertFault::BadAnswer(line)) => Err(Stop::Refused(RefusalKind::BadAnswer, line)),
-        Err(CertFault::Unjudged) => Err(Stop::Refused(RefusalKind::BadAnswer, read.rest_line)),
         Err(CertFault::OutOfMemory) => Err(Stop::OutOfMemory),
     }
 }

@@ -59,8 +59,7 @@ use std::alloc::Global;
 ///   that have more than 1,048,576 entries. Then come a cursor that hasn't a number for each proposer, for `list`; and for `meet` and `join` the first
 ///   line behind `end` that can't stand where it stands, then, with four more fields, the first pair that can't be held
 ///   beside those before it, then, at the closing `end`, a pair that blocks the left matching, then one that blocks the
-///   right one; and for `check` the first line behind `end` that isn't of the form of an answer where it stands, or the first of
-///   an answer of `weight`, which isn't judged yet.
+///   right one; and for `check` the first line behind `end` that isn't of the form of an answer where it stands.
 /// - `NoneExists`: the whole answer is written, and says that there is no such matching. For `solve` it is `none`, where
 ///   roommates have no stable matching, and the parties of a stable partition that has an odd one of three or more (Tan
 ///   1991), and so for `make` with `show=summary`; for `regret` and `weight` it is `none` alone, where no stable matching is allowed.

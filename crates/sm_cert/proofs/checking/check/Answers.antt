@@ -1,9 +1,11 @@
-use Rattle.std.proofs.Common.{All, List, ap, arith, length, map, subst, sym}
+use Rattle.std.proofs.Common.{◌≡◌, true, All, List, ap, arith, length, map, subst, sym}
 use Rattle.std.proofs.lemmas.List.{length-map}
 use Rattle.sm_text.specs.Lines.{lines, content}
 use Rattle.sm_report.specs.declared.lines.Line.{Line}
 use Rattle.sm_report.specs.Lines.{line_of}
 use Rattle.sm_judge.specs.Judges.{IsOwnLine}
+use Rattle.sm_forms.specs.Forms.{is_placed}
+use Rattle.sm_forms.specs.Layouts.{is_whole}
 use Rattle.sm_text.proofs.LineLemmas.{length-lines-le}
 use Rattle.sm_cert.proofs.CheckLemmas.{as_many, own_lines}
 use Rattle.sm_cert.proofs.checking.check.Goals as goal
@@ -22,3 +24,7 @@ pub judge-requires-clause-own : goal.judge-requires-clause-own
 judge-requires-clause-own c = λ subject is.
     subst (λ (found : List Line). All (IsOwnLine subject) (map line_of found)) (sym c.deref-3.ensures.value)
     (own_lines c.args.input.now (map content (lines c.args.answer.now)) (map line_of c.in_ok-lines.lines.items) c.in_ok-lines.ensures.lines subject is)
+
+pub judge-requires-clause-placed : goal.judge-requires-clause-placed
+judge-requires-clause-placed c =
+    subst (λ (found : List Line). is_placed is_whole c.args.input.now (map line_of found) ≡ true) (sym c.deref-3.ensures.value) c.in_ok-lines.ensures.lines.placed

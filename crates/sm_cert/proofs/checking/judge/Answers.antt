@@ -10,3 +10,6 @@ judge_room-requires-clause-couples c = c.requires.own (couples c.in-Room.persons
 
 pub judge_room-requires-clause-parties : goal.judge_room-requires-clause-parties
 judge_room-requires-clause-parties c = c.requires.own (parties c.in-Room.persons) (sym c.in-Room.is)
+
+pub judge_two-requires-clause-placed : goal.judge_two-requires-clause-placed
+judge_two-requires-clause-placed c = rw (← c.in-Two.is) c.requires.placed

@@ -5,6 +5,7 @@ use Rattle.sm_report.specs.Lines.{line_of}
 use Rattle.sm_judge.specs.Verdicts.{AtLine, IsVerdict}
 use Rattle.sm_judge.specs.Judging.{answer, Clauses}
 use Rattle.sm_cert.proofs.CheckLemmas.{cursor_each}
+use Rattle.sm_cert.proofs.OrderLemmas.{weight_order}
 use Rattle.sm_cert.proofs.checking.judge_head.Goals as goal
 
 pub list_verdict-requires-clause-after_each : goal.list_verdict-requires-clause-after_each
@@ -20,3 +21,7 @@ returns-in_ok-list_verdict-in-List-clause-verdict c =
     let same = ap (λ after. HeadData.List after c.in-List.limit) c.as_deref-after.ensures.value ∙ sym (ap head_of c.in-List.is) in
     subst (λ head. IsVerdict (AtLine (Clauses (answer c.args.instance.now head)) (map line_of c.args.lines.now)) c.args.first_line c.in_ok-list_verdict-in-List.field-0)
     same c.in_ok-list_verdict-in-List.ensures
+
+pub weight_verdict-requires-clause-in_order : goal.weight_verdict-requires-clause-in_order
+weight_verdict-requires-clause-in_order c =
+    weight_order c.args.instance.now (map line_of c.args.lines.now) c.requires.placed c.in-Weight.by (c.requires.head ∙ ap (λ head. Some (head_of head)) c.in-Weight.is)

@@ -2,7 +2,7 @@ use Rattle.std.proofs.Common.{arith}
 use Rattle.sm_reader.specs.InstanceText.{read_of}
 use Rattle.sm_text.proofs.LineLemmas.{length-lines-le}
 use Rattle.sm_top.proofs.RefusingLemmas.{rest_line_le}
-use Rattle.sm_top.proofs.CheckLemmas.{too_many_there, seats_refused, text_refused, weight_refused, check_accepted, wrote_verdict}
+use Rattle.sm_top.proofs.CheckLemmas.{too_many_there, seats_refused, text_refused, check_accepted, wrote_verdict}
 use Rattle.sm_top.proofs.checking.check_answer.Goals as goal
 
 pub check-requires-clause-first_line : goal.check-requires-clause-first_line
@@ -24,13 +24,6 @@ returns-in-Err-BadAnswer-clause-stop g c =
     let read = read_of c.args.read.now in
     let fault = rw (c.in-Err-BadAnswer.field-0-is, c.text_from-answer.ensures) at c.in-Err-BadAnswer.ensures.fault in
     rw c.in-Err-BadAnswer.field-0-is (text_refused bytes read c.in-Err-BadAnswer.line c.requires.accepted fault.0 fault.1)
-
-pub returns-in-Err-Unjudged-clause-stop : goal.returns-in-Err-Unjudged-clause-stop
-returns-in-Err-Unjudged-clause-stop g c =
-    let bytes = c.args.bytes.now in
-    let read = read_of c.args.read.now in
-    let fault = rw (c.in-Err-Unjudged.field-0-is, c.text_from-answer.ensures) at c.in-Err-Unjudged.ensures.fault in
-    weight_refused bytes read c.requires.accepted fault.0 fault.1
 
 pub right_line-line-requires : goal.right_line-line-requires
 right_line-line-requires g c =

@@ -1,0 +1,73 @@
+-- The rotations above a line behind them: all were eliminated.
+use Rattle.std.proofs.Common.{◌≡◌, ℕ, List, [], ◌∷◌, ◌++◌, length, Option, None, Some, Bool, true, false, refl, sym, ap, ◌∙◌, subst}
+use Rattle.std.specs.Prelude.{IfSome, IsSome}
+use Rattle.std.specs.List.{list_all}
+use Rattle.std.proofs.lemmas.Bool.{false≢true}
+use Rattle.sm_instance.specs.Written.{Written}
+use Rattle.sm_seats.specs.SeatMarket.{seat_market}
+use Rattle.sm_report.specs.Heads.{HeadData}
+use Rattle.sm_report.specs.Lines.{LineData}
+use Rattle.sm_forms.proofs.TakingLemmas.{and_left, and_right}
+use Rattle.sm_judge.specs.Judges.{IsOwnLine}
+use Rattle.sm_judge.specs.Judging.{Subject, answer}
+use Rattle.sm_judge.specs.Said.{first_in, rotation_in, rotations_in, all_needs_in, is_up_to_firsts, is_up_to_rotations}
+use Rattle.sm_judge.specs.SeatMatchings.{first_of, seat_places_in}
+use Rattle.sm_judge.specs.Walks.{IsWalk, IsWalkOf, IsChainAt}
+use Rattle.sm_judge.specs.declared.seat_pairs.SeatPairs.{SeatPairs}
+use Rattle.sm_judge.specs.declared.walk.Walk.{Walk}
+use Rattle.sm_judge.proofs.WalkLemmas.{said_same, none_said, up_to_firsts}
+use Rattle.sm_weigh.specs.Kept.{AreNeedsSoFar, IsWholeWalk, IsGround}
+
+-- a line of an instance is one of each answer over it, and such an answer has one instance
+pub own_too : {w : Written} {head : HeadData} {x : LineData} (other : HeadData) → IsOwnLine (answer w head) x → IsOwnLine (answer w other) x
+own_too other o = record { right = o.right; fitting = o.fitting }
+
+abbrev instance_in : Written → Subject → Written
+instance_in w (answer v head) = v
+instance_in w _ = w
+
+pub one_instance : (v w : Written) (head : HeadData) → answer v head ≡ answer w head → v ≡ w
+one_instance v w head e = ap (instance_in w) e
+
+-- the last of lines that all pass a test
+last_passes : (p : LineData → Bool) (above : List LineData) (x : LineData) → list_all p (above ++ x ∷ []) ≡ true → p x ≡ true
+last_passes p [] x e = and_left (p x) true e
+last_passes p (y ∷ above) x e = last_passes p above x (and_right (p y) (list_all p (above ++ x ∷ [])) e)
+
+-- not all lines are up to the rotations where the last isn't
+pub not_all : (above : List LineData) (x : LineData) → is_up_to_rotations x ≡ false → list_all is_up_to_rotations (above ++ x ∷ []) ≡ false
+not_all above x behind = go (list_all is_up_to_rotations (above ++ x ∷ [])) refl
+  where
+    go : (b : Bool) → list_all is_up_to_rotations (above ++ x ∷ []) ≡ b → b ≡ false
+    go true e = absurd (false≢true (sym behind ∙ last_passes is_up_to_rotations above x e))
+    go false e = refl
+
+module _ (w : Written) (above : List LineData) (x : LineData) (behind : is_up_to_rotations x ≡ false) where
+  -- the walk
+  whole_above : (walk : Walk) → IsWalkOf w (above ++ x ∷ []) walk → IsWholeWalk w above walk
+  whole_above walk k = record {
+    is_walk = record {
+      is_walk =
+          subst (λ (said : List (ℕ × ℕ)). IsWalk (seat_market w) (seat_places_in (seat_market w) said) (rotations_in w above) walk) (said_same (first_in w) above x (none_said w x behind).0)
+          (subst (λ (rotations : List (List (ℕ × ℕ))). IsWalk (seat_market w) (first_of w (above ++ x ∷ [])) rotations walk) (said_same (rotation_in w) above x (none_said w x behind).1) k.is_walk);
+      going = λ e. absurd (false≢true (sym e ∙ whole));
+      whole = k.whole;
+    };
+    whole = whole;
+  }
+    where
+      go : (b : Bool) → walk.is_whole ≡ b → b ≡ true
+      go true e = refl
+      go false e = absurd (false≢true (sym (not_all above x behind) ∙ k.going e))
+
+      whole : walk.is_whole ≡ true
+      whole = go walk.is_whole refl
+
+  pub walked : (pairs : SeatPairs) (walk : Option Walk) → IsChainAt w (above ++ x ∷ []) pairs walk → IsSome walk
+  walked pairs None k = absurd (false≢true (sym behind ∙ (up_to_firsts w x (last_passes is_up_to_firsts above x k.up_to)).0))
+  walked pairs (Some walk) k = refl
+
+  pub grounded : (pairs : SeatPairs) (walk : Option Walk) → IsChainAt w (above ++ x ∷ []) pairs walk → length (all_needs_in above) ≡ length (rotations_in w above)
+      → AreNeedsSoFar (seat_market w) (rotations_in w above) (all_needs_in above) → IfSome walk (IsGround w above)
+  grounded pairs None k one needs = tt
+  grounded pairs (Some walk) k one needs = record { walk_of = whole_above walk k; one_each = one; needs = needs }

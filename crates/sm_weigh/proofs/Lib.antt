@@ -1,0 +1,16 @@
+pub mod ClauseLemmas
+pub mod NeedsLemmas
+pub mod WholeLemmas
+pub mod MoveLemmas
+pub mod GainLemmas
+pub mod ClaimLemmas
+pub mod KeptLemmas
+pub mod SetLemmas
+pub mod SaidLemmas
+pub mod EndLemmas
+pub mod EmptyLemmas
+pub mod OrderLemmas
+pub mod GroundLemmas
+pub mod JudgeLemmas
+pub mod NetLemmas
+pub mod BeginLemmas
