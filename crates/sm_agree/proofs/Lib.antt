@@ -1,9 +1,13 @@
 pub mod LineLemmas
 pub mod PairLemmas
+pub mod SeatLemmas
+pub mod BlockLemmas
 pub mod SolveAgree
 pub mod ListAgree
 pub mod CouplesAgree
 pub mod ChosenAgree
 pub mod PartiesAgree
 pub mod RegretAgree
+pub mod ReducedAgree
+pub mod RotationsAgree
 pub mod WitnessLemmas

@@ -1,30 +1,47 @@
 -- The answers of specs/Witnesses.antt.
-use Rattle.std.proofs.Common.{◌≡◌, ℕ, zero, suc, ◌<◌, ◌≤◌, inl, true, false, List, [], ◌∷◌, length, slice_index_or, Option, Some, None, refl, sym, ap, ◌∙◌, subst, arith}
+use Rattle.std.proofs.Common.{◌≡◌, ◌≢◌, ℕ, zero, suc, ◌+◌, ◌<◌, ◌≤◌, inl, true, false, List, [], ◌∷◌, length, slice_index, slice_index_or, Option, Some, None, refl, sym, ap, ◌∙◌, subst, arith}
+use Rattle.std.specs.Prelude.{IsTrue}
 use Rattle.std.specs.List.{All}
 use Rattle.std.proofs.lemmas.Bool.{false≢true}
 use Rattle.std.proofs.lemmas.Bool.Decides.{nat_tests}
 use Rattle.std.proofs.lemmas.Option.{same_Some, none-some}
 use Rattle.sm_text.specs.Name as name
-use Rattle.sm_instance.specs.Written.{Written, row, entry, capacity_of, IsAcceptable}
+use Rattle.sm_instance.specs.Written.{AgentData, Written, agent_at, row, entry, capacity_of, IsAcceptable}
 use Rattle.sm_instance.specs.Matching.{held, standing, load, IsMatching}
 use Rattle.sm_instance.specs.Stable.{Blocks, IsStable, IsProposersBest, IsReviewersBest}
 use Rattle.sm_instance.specs.Allowed.{IsAllowed}
 use Rattle.sm_instance.specs.Ranks.{rank_vector_of, regret_of, IsBefore}
 use Rattle.sm_instance.specs.Sound.{IsInstance, IsSoundAgent, IsSoundEntry}
+use Rattle.sm_instance.specs.Witnesses.{agent}
 use Rattle.sm_instance.specs.declared.inputs.Input.TheVariants.{Two}
+use Rattle.sm_market.specs.Matching.{Places}
+use Rattle.sm_market.specs.Stable.{IsStable as IsSeatStable, IsProposersBest as IsSeatProposersBest, IsReviewersBest as IsSeatReviewersBest}
 use Rattle.sm_answer.proofs.AnswerLemmas.{one_all}
 use Rattle.sm_report.specs.Sound.{ArePair}
+use Rattle.sm_theory.specs.Lattice.{with_proposers}
 use Rattle.sm_theory.specs.Listings.{IsBehind, IsListing}
+use Rattle.sm_theory.specs.Witnesses.{three_cycle_first, three_cycle_chain}
+use Rattle.sm_theory.specs.WitnessesFlows.{three_cycle_needs}
 use Rattle.sm_theory.specs.WitnessesRooms.{even_party_mates}
+use Rattle.sm_theory.proofs.Tests.Markets.{three_cycle_is}
+use Rattle.sm_theory.proofs.Flow.Witness.{worked_net}
 use Rattle.sm_theory.proofs.Room.Witness.{even_party_is}
+use Rattle.sm_seats.specs.SeatMarket.{seat_market}
+use Rattle.sm_seats.specs.Seating.{seating_of, written_of}
+use Rattle.sm_seats.specs.Taken.{places_taken}
 use Rattle.sm_seats.specs.Vectors.{IsAllowedRankVector}
+use Rattle.sm_seats.proofs.CorrespondenceLaws.{is_seating, sound_entries}
+use Rattle.sm_seats.proofs.TakenLaws.{stable_taken, taken_forgotten}
+use Rattle.sm_seats.proofs.BestLaws.{seats_proposers_best, seats_reviewers_best}
+use Rattle.sm_shown.specs.RotationAnswer.{IsRotationAnswer}
+use Rattle.sm_shown.proofs.ShownLemmas.{correspondence}
 use Rattle.sm_listing.specs.ListAnswer.{order_of}
 use Rattle.sm_partners.specs.RegretAnswer.{IsLeastRegret}
 use Rattle.sm_pairs.specs.Held.{CantJoin, IsBreach, GiveStable}
 use Rattle.sm_given.specs.GivenText.{AreGiven}
 use Rattle.sm_rooming.specs.Witnesses.{odd_parties}
 use Rattle.sm_rooming.proofs.WitnessLemmas.{odd_parties_shown}
-use Rattle.sm_agree.specs.Witnesses.{one_pair, together, given_twice, OnePair, Circles}
+use Rattle.sm_agree.specs.Witnesses.{one_pair, together, given_twice, OnePair, Circles, three_by_three, two_rotations, ThreeByThree}
 
 abbrev w : Written
 w = one_pair
@@ -150,11 +167,28 @@ instance = record {
     reviewer_entries zero (suc i) l = absurd (omega (arith, l))
     reviewer_entries (suc a) i l = absurd (omega (arith, l))
 
+-- the pair at its seat
+abbrev seated : Places
+seated = with_proposers (seat_market w) (places_taken w together)
+
+seated_stable : IsSeatStable (seat_market w) seated
+seated_stable = stable_taken (sound_entries instance) together stable
+
+unseated : written_of (seating_of w) seated.proposers ≡ together
+unseated = taken_forgotten (sound_entries instance) together matching
+
+seats_first : IsSeatProposersBest (seat_market w) seated
+seats_first = seats_proposers_best (is_seating (sound_entries instance)) seated_stable (subst (IsProposersBest w) (sym unseated) proposers_best)
+
+seats_last : IsSeatReviewersBest (seat_market w) seated
+seats_last = seats_reviewers_best (is_seating (sound_entries instance)) seated_stable (subst (IsReviewersBest w) (sym unseated) reviewers_best)
+
 pub one_pair_is : OnePair
 one_pair_is = (
   instance,
   record { places = together; best = proposers_best; shows = refl },
   record { places = together; best = reviewers_best; shows = refl },
+  record { first = seated; last = seated; proposers_best = seats_first; reviewers_best = seats_last; shows = refl },
   record { out = (1 ∷ []) ∷ []; more = false; cursor = tt; listing = listing; shows = refl },
   record { places = together; least = least; shows = refl },
   record { left = (0, 0) ∷ []; right = (0, 0) ∷ []; given = given; first = gives_stable; second = gives_stable; shows = refl },
@@ -166,3 +200,97 @@ circles_are = (
   record { mates = even_party_mates; stable = even_party_is.2; shows = refl },
   record { parties = odd_parties; excluding = odd_parties_shown.0; shows = refl },
 )
+
+-- Three proposers and three reviewers.
+
+-- a number below 3
+below_three : (P : ℕ → Type 0) → P 0 → P 1 → P 2 → (i : ℕ) → i < 3 → P i
+below_three P a b c zero h = a
+below_three P a b c (suc zero) h = b
+below_three P a b c (suc (suc zero)) h = c
+below_three P a b c (suc (suc (suc i))) h = absurd (omega (arith, h))
+
+-- three different entries below 3
+three_entries : (agents : List AgentData) (a x y z : ℕ) → row agents a ≡ x ∷ y ∷ z ∷ [] → (x + y) + z ≡ 3 → x ≢ y → x ≢ z → y ≢ z → (i : ℕ) → i < length (row agents a) → IsSoundEntry agents 3 a i
+three_entries agents a x y z is sum e f g i less =
+    let three : length (row agents a) ≡ 3 = ap (λ (xs : List ℕ). length xs) is in
+    below_three (IsSoundEntry agents 3 a)
+    (record { in_range = omega (arith, at 0, sum, e, f, g); fresh = λ j l. absurd (omega (arith, l)) })
+    (record { in_range = omega (arith, at 1, sum, e, f, g); fresh = before_one })
+    (record { in_range = omega (arith, at 2, sum, e, f, g); fresh = before_two }) i (omega (arith, less, three))
+  where
+    at : (j : ℕ) → entry agents a j ≡ slice_index (x ∷ y ∷ z ∷ []) j
+    at j = ap (λ (xs : List ℕ). slice_index xs j) is
+
+    before_one : (j : ℕ) → j < 1 → entry agents a j ≢ entry agents a 1
+    before_one zero l same = e (sym (at 0) ∙ same ∙ at 1)
+    before_one (suc j) l same = omega (arith, l)
+
+    before_two : (j : ℕ) → j < 2 → entry agents a j ≢ entry agents a 2
+    before_two zero l same = f (sym (at 0) ∙ same ∙ at 2)
+    before_two (suc zero) l same = g (sym (at 1) ∙ same ∙ at 2)
+    before_two (suc (suc j)) l same = omega (arith, l)
+
+-- three different names of a letter
+three_agents : (x y z : ℕ) (p q r : List ℕ) → IsTrue (name.is_name (x ∷ [])) → IsTrue (name.is_name (y ∷ [])) → IsTrue (name.is_name (z ∷ [])) → x ≢ y → x ≢ z → y ≢ z
+    → (a : ℕ) → a < 3 → IsSoundAgent (agent x 1 p ∷ agent y 1 q ∷ agent z 1 r ∷ []) true a
+three_agents x y z p q r b c d e f g =
+    below_three (IsSoundAgent all true)
+    (record { name = b; fresh = λ j l. absurd (omega (arith, l)); capacity = omega arith; one = λ t. refl })
+    (record { name = c; fresh = before_one; capacity = omega arith; one = λ t. refl })
+    (record { name = d; fresh = before_two; capacity = omega arith; one = λ t. refl })
+  where
+    all : List AgentData
+    all = agent x 1 p ∷ agent y 1 q ∷ agent z 1 r ∷ []
+
+    letter : List ℕ → ℕ
+    letter xs = slice_index xs 0
+
+    before_one : (j : ℕ) → j < 1 → (agent_at all j).name ≢ (agent_at all 1).name
+    before_one zero l same = e (ap letter same)
+    before_one (suc j) l same = omega (arith, l)
+
+    before_two : (j : ℕ) → j < 2 → (agent_at all j).name ≢ (agent_at all 2).name
+    before_two zero l same = f (ap letter same)
+    before_two (suc zero) l same = g (ap letter same)
+    before_two (suc (suc j)) l same = omega (arith, l)
+
+-- the instance
+three_instance : IsInstance three_by_three
+unfolding name.begins_name name.is_name_byte
+three_instance = record {
+  two_sided = λ e. cc;
+  limits = record { proposers = omega arith; reviewers = omega arith; entries = omega arith };
+  proposers = record { sound = three_agents 109 110 111 _ _ _ refl refl refl (omega arith) (omega arith) (omega arith) };
+  reviewers = record { sound = three_agents 97 98 99 _ _ _ refl refl refl (omega arith) (omega arith) (omega arith) };
+  proposer_entries = record { sound = proposer_entries };
+  reviewer_entries = record { sound = reviewer_entries };
+  items = λ n l. absurd (omega (arith, l));
+}
+  where
+    proposer_entries : (a i : ℕ) → i < length (row three_by_three.proposers a) → IsSoundEntry three_by_three.proposers 3 a i
+    proposer_entries zero i l = three_entries three_by_three.proposers 0 0 1 2 refl refl (omega arith) (omega arith) (omega arith) i l
+    proposer_entries (suc zero) i l = three_entries three_by_three.proposers 1 1 2 0 refl refl (omega arith) (omega arith) (omega arith) i l
+    proposer_entries (suc (suc zero)) i l = three_entries three_by_three.proposers 2 2 0 1 refl refl (omega arith) (omega arith) (omega arith) i l
+    proposer_entries (suc (suc (suc a))) i l = absurd (omega (arith, l))
+
+    reviewer_entries : (a i : ℕ) → i < length (row three_by_three.reviewers a) → IsSoundEntry three_by_three.reviewers 3 a i
+    reviewer_entries zero i l = three_entries three_by_three.reviewers 0 1 2 0 refl refl (omega arith) (omega arith) (omega arith) i l
+    reviewer_entries (suc zero) i l = three_entries three_by_three.reviewers 1 2 0 1 refl refl (omega arith) (omega arith) (omega arith) i l
+    reviewer_entries (suc (suc zero)) i l = three_entries three_by_three.reviewers 2 0 1 2 refl refl (omega arith) (omega arith) (omega arith) i l
+    reviewer_entries (suc (suc (suc a))) i l = absurd (omega (arith, l))
+
+-- its seats are those of a market whose chain is known
+two_rotations_are : IsRotationAnswer three_by_three two_rotations
+two_rotations_are = record {
+  first = three_cycle_first;
+  rotations = three_cycle_chain;
+  needs = three_cycle_needs;
+  printed = three_cycle_is.1;
+  needed = record { one_each = refl; of = worked_net.0.each };
+  shows = refl;
+  corresponds = correspondence three_cycle_needs (is_seating (sound_entries three_instance)) three_cycle_is.1.chain worked_net.0.each;
+}
+
+pub three_by_three_is : ThreeByThree
+three_by_three_is = (three_instance, omega arith, two_rotations_are)

@@ -10,7 +10,10 @@ use Rattle.sm_report.specs.Heads.{HeadData}
 use Rattle.sm_report.specs.Lines.{LineData}
 use Rattle.sm_report.specs.Sound.{IsHeadOf}
 use Rattle.sm_report.specs.Texts.{text_of_line}
+use Rattle.sm_seats.specs.SeatEntries.{AreFewSeats}
 use Rattle.sm_shown.specs.Answers.{IsSolution}
+use Rattle.sm_shown.specs.Reduction.{IsReduction}
+use Rattle.sm_shown.specs.RotationAnswer.{IsRotationAnswer}
 use Rattle.sm_listing.specs.ListAnswer.{IsListAnswer}
 use Rattle.sm_partners.specs.RegretAnswer.{IsRegretAnswer}
 use Rattle.sm_given.specs.Chosen.{IsChosenAnswer}
@@ -25,6 +28,14 @@ GetYes input lines = (first_line : ℕ) → IsJudged input (map (text_of_line in
 -- a right answer of `solve` over an instance with two sides
 abbrev pub SolveAgrees : Type 0
 SolveAgrees = (w : Written) (side : Side) (lines : List LineData) → IsInstance w → IsSolution side w lines → GetYes (Two w) lines
+
+-- one of `reduced`
+abbrev pub ReducedAgrees : Type 0
+ReducedAgrees = (w : Written) (lines : List LineData) → IsInstance w → IsReduction w lines → GetYes (Two w) lines
+
+-- one of `rotations`, where the seats are few, so that every rotation has a number
+abbrev pub RotationsAgree : Type 0
+RotationsAgree = (w : Written) (lines : List LineData) → IsInstance w → AreFewSeats w → IsRotationAnswer w lines → GetYes (Two w) lines
 
 -- one of `list`, behind a cursor of small numbers and up to a limit
 abbrev pub ListAgrees : Type 0

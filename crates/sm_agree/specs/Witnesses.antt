@@ -6,9 +6,13 @@ use Rattle.sm_instance.specs.Witnesses.{agent}
 use Rattle.sm_instance.specs.declared.kinds.Kind.TheVariants.{Marriage}
 use Rattle.sm_instance.specs.declared.kinds.Side.TheVariants.{Proposers, Reviewers}
 use Rattle.sm_theory.specs.declared.choice.Choice.TheVariants.{Better, Worse}
+use Rattle.sm_seats.specs.SeatEntries.{AreFewSeats}
+use Rattle.sm_report.specs.declared.lines.Seat.{Seat}
 use Rattle.sm_report.specs.Heads.{HeadData}
 use Rattle.sm_report.specs.Lines.{LineData}
 use Rattle.sm_shown.specs.Answers.{IsSolution}
+use Rattle.sm_shown.specs.Reduction.{IsReduction}
+use Rattle.sm_shown.specs.RotationAnswer.{IsRotationAnswer}
 use Rattle.sm_listing.specs.ListAnswer.{IsListAnswer}
 use Rattle.sm_partners.specs.RegretAnswer.{IsRegretAnswer}
 use Rattle.sm_given.specs.Chosen.{IsChosenAnswer}
@@ -29,6 +33,20 @@ one_pair = record {
 abbrev pub together : List (Option ℕ)
 together = Some 0 ∷ []
 
+-- w's only seat, and the reduced lists
+abbrev pub only_seat : Seat
+only_seat = record { reviewer = 0; number = 1 }
+
+abbrev pub reduced_answer : List LineData
+reduced_answer =
+    LineData.Answer HeadData.Reduced ∷
+    LineData.First 0 only_seat ∷
+    LineData.Last 0 only_seat ∷
+    LineData.ProposerList 0 (only_seat ∷ []) ∷
+    LineData.ReviewerList only_seat (0 ∷ []) ∷
+    LineData.End ∷
+    []
+
 -- it is given twice
 abbrev pub given_twice : List (List ℕ)
 given_twice = codes "left m w" ∷ codes "right m w" ∷ codes "end" ∷ []
@@ -41,6 +59,7 @@ abbrev pub OnePair : Type 0
 OnePair = IsInstance one_pair
     × IsSolution Proposers one_pair (LineData.Answer (HeadData.Solve (Some Proposers)) ∷ LineData.Pair 0 0 ∷ LineData.End ∷ [])
     × IsSolution Reviewers one_pair (LineData.Answer (HeadData.Solve (Some Reviewers)) ∷ LineData.Pair 0 0 ∷ LineData.End ∷ [])
+    × IsReduction one_pair reduced_answer
     × IsListAnswer None 1 one_pair (LineData.Answer (HeadData.List None 1) ∷ LineData.Vector (1 ∷ []) ∷ LineData.End ∷ [])
     × IsRegretAnswer one_pair (LineData.Answer HeadData.Regret ∷ LineData.Regret 1 ∷ LineData.Pair 0 0 ∷ LineData.End ∷ [])
     × IsChosenAnswer Better given_twice one_pair (given_answer HeadData.Meet)
@@ -58,3 +77,35 @@ odd_circle = agent 97 1 (1 ∷ 2 ∷ 3 ∷ []) ∷ agent 98 1 (2 ∷ 0 ∷ 3 ∷
 abbrev pub Circles : Type 0
 Circles = IsMatched circle (LineData.Answer (HeadData.Solve None) ∷ LineData.Pair 0 1 ∷ LineData.Pair 2 3 ∷ LineData.End ∷ [])
     × IsUnmatchable odd_circle (LineData.Answer (HeadData.Solve None) ∷ LineData.Nothing ∷ LineData.Party (0 ∷ 1 ∷ 2 ∷ []) ∷ LineData.Party (3 ∷ []) ∷ LineData.Party (4 ∷ []) ∷ LineData.End ∷ [])
+
+-- three proposers, each of whom likes another reviewer best, and three reviewers, each of whom likes another proposer best
+abbrev pub three_by_three : Written
+three_by_three = record {
+  kind = Marriage;
+  proposers = agent 109 1 (0 ∷ 1 ∷ 2 ∷ []) ∷ agent 110 1 (1 ∷ 2 ∷ 0 ∷ []) ∷ agent 111 1 (2 ∷ 0 ∷ 1 ∷ []) ∷ [];
+  reviewers = agent 97 1 (1 ∷ 2 ∷ 0 ∷ []) ∷ agent 98 1 (2 ∷ 0 ∷ 1 ∷ []) ∷ agent 99 1 (0 ∷ 1 ∷ 2 ∷ []) ∷ [];
+  weights = [];
+  forced = [];
+  forbidden = [];
+}
+
+-- the first seat of each, and two rotations, of which the second needs the first
+abbrev pub first_seat_of : ℕ → Seat
+first_seat_of r = record { reviewer = r; number = 1 }
+
+abbrev pub two_rotations : List LineData
+two_rotations =
+    LineData.Answer HeadData.Rotations ∷
+    LineData.First 0 (first_seat_of 0) ∷
+    LineData.First 1 (first_seat_of 1) ∷
+    LineData.First 2 (first_seat_of 2) ∷
+    LineData.Rotation 1 ((0, first_seat_of 0) ∷ (1, first_seat_of 1) ∷ (2, first_seat_of 2) ∷ []) ∷
+    LineData.Needs 1 [] ∷
+    LineData.Rotation 2 ((0, first_seat_of 1) ∷ (1, first_seat_of 2) ∷ (2, first_seat_of 0) ∷ []) ∷
+    LineData.Needs 2 (1 ∷ []) ∷
+    LineData.End ∷
+    []
+
+-- a right answer of `rotations`
+abbrev pub ThreeByThree : Type 0
+ThreeByThree = IsInstance three_by_three × AreFewSeats three_by_three × IsRotationAnswer three_by_three two_rotations

@@ -1,7 +1,7 @@
 //! The text of a right answer gets a yes. Each function does nothing: its contract is the law, a statement over the
 //! definitions alone.
 
-ghost use Rattle.sm_agree.specs.Agree.{SolveAgrees, CouplesAgree, PartiesAgree, ListAgrees, RegretAgrees, MeetAgrees, JoinAgrees};
+ghost use Rattle.sm_agree.specs.Agree.{SolveAgrees, CouplesAgree, PartiesAgree, ReducedAgrees, RotationsAgree, ListAgrees, RegretAgrees, MeetAgrees, JoinAgrees};
 
 /// The text of a right answer of `solve` over an instance with two sides gets a yes.
 pub fn solve_agrees()
@@ -16,6 +16,16 @@ pub fn couples_agree()
 /// The text of a right answer of `solve` over roommates gets a yes, where it says that there is no stable matching.
 pub fn parties_agree()
     ensures { PartiesAgree }
+{}
+
+/// The text of a right answer of `reduced` gets a yes.
+pub fn reduced_agrees()
+    ensures { ReducedAgrees }
+{}
+
+/// The text of a right answer of `rotations` gets a yes, where the lists of the seats have no more entries than `check` takes.
+pub fn rotations_agree()
+    ensures { RotationsAgree }
 {}
 
 /// The text of a right answer of `list` gets a yes.

@@ -1,7 +1,7 @@
 //! Right answers that are known by hand, of which the laws speak. Each function does nothing: its contract is what is
 //! computed.
 
-ghost use Rattle.sm_agree.specs.Witnesses.{OnePair, Circles};
+ghost use Rattle.sm_agree.specs.Witnesses.{OnePair, Circles, ThreeByThree};
 
 /// The right answers over a proposer and a reviewer who list each other.
 pub fn one_pair()
@@ -11,4 +11,9 @@ pub fn one_pair()
 /// A matching of roommates, and the parties by which there is none.
 pub fn circles()
     ensures { Circles }
+{}
+
+/// Two rotations over three proposers and three reviewers, of which the second needs the first.
+pub fn three_by_three()
+    ensures { ThreeByThree }
 {}
