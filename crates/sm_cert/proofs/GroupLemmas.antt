@@ -189,7 +189,7 @@ pub none_said : {X : Type 0} (up : LineData → Bool) (said : LineData → Optio
 none_said up said none [] h = refl
 none_said {X} up said none (x ∷ xs) h = ap (λ (o : Option X). cons_option o (filter_map said xs)) (none x h.0) ∙ none_said up said none xs h.1
 
-down_taken : (up : LineData → Bool) (k : ℕ) (lines : List LineData) → AreDown up lines → AreDown up (take k lines)
+pub down_taken : (up : LineData → Bool) (k : ℕ) (lines : List LineData) → AreDown up lines → AreDown up (take k lines)
 down_taken up zero lines h = tt
 down_taken up (suc k) [] h = tt
 down_taken up (suc k) (x ∷ xs) h = (h.0, down_taken up k xs h.1)
