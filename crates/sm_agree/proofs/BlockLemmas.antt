@@ -52,10 +52,10 @@ blocks_pass test block each a (suc n) = pass_append test (block a) (flat_map blo
 -- The layout.
 
 -- what is left behind a line, if anything, is that of a whole answer
-abbrev Whole : Option (List Part) → List Opening → Type 0
+abbrev pub Whole : Option (List Part) → List Opening → Type 0
 Whole left lines = list_any is_empty (left_behind (cons_option left []) lines) ≡ true
 
-if_whole : (t : Bool) (left : List Part) (lines : List Opening) → t ≡ true → Whole (Some left) lines → Whole (if t then Some left else None) lines
+pub if_whole : (t : Bool) (left : List Part) (lines : List Opening) → t ≡ true → Whole (Some left) lines → Whole (if t then Some left else None) lines
 if_whole true left lines e whole = whole
 if_whole false left lines e whole = absurd (false≢true e)
 
@@ -75,12 +75,12 @@ module _ (s : Seating) (rotations : List (List (ℕ × ℕ))) (needs : List (Lis
 
 -- The lines that are shown.
 
-lines_same : (f g : ℕ → Option LineData) (a n : ℕ) → ((i : ℕ) → i < a + n → f i ≡ g i) → lines_from f a n ≡ lines_from g a n
+pub lines_same : (f g : ℕ → Option LineData) (a n : ℕ) → ((i : ℕ) → i < a + n → f i ≡ g i) → lines_from f a n ≡ lines_from g a n
 lines_same f g a zero e = refl
 lines_same f g a (suc n) e =
     ap (λ o. line_or_none o ++ lines_from f (a + 1) n) (e a (omega arith)) ∙ ap (λ t. line_or_none (g a) ++ t) (lines_same f g (a + 1) n (λ i less. e i (omega arith)))
 
-blocks_same : (f g : ℕ → List LineData) → ((k : ℕ) → f k ≡ g k) → (xs : List ℕ) → flat_map f xs ≡ flat_map g xs
+pub blocks_same : (f g : ℕ → List LineData) → ((k : ℕ) → f k ≡ g k) → (xs : List ℕ) → flat_map f xs ≡ flat_map g xs
 blocks_same f g e [] = refl
 blocks_same f g e (x ∷ xs) = ap (λ t. t ++ flat_map f xs) (e x) ∙ ap (λ t. g x ++ t) (blocks_same f g e xs)
 

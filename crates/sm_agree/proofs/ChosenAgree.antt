@@ -1,20 +1,16 @@
 -- The right answers of `meet` and of `join` get a yes.
-use Rattle.std.proofs.Common.{◌≡◌, ℕ, ◌&&◌, arith, refl, sym, ap, ◌∙◌, Bool, true, List, [], ◌∷◌, ◌++◌, length, map, Option, Some, None, IsSome, subst}
+use Rattle.std.proofs.Common.{◌≡◌, ℕ, ◌&&◌, refl, sym, ap, ◌∙◌, Bool, true, List, [], ◌∷◌, ◌++◌, length, map, Option, subst}
 use Rattle.std.specs.List.{list_all}
-use Rattle.std.specs.Option.{option_map}
-use Rattle.std.proofs.lemmas.Bool.{false≢true}
 use Rattle.sm_instance.specs.Written.{Written, entry}
-use Rattle.sm_instance.specs.Matching.{held, IsAssignment}
+use Rattle.sm_instance.specs.Matching.{IsAssignment}
 use Rattle.sm_instance.specs.Sound.{IsInstance}
 use Rattle.sm_instance.specs.Stable.{IsStable}
 use Rattle.sm_instance.specs.declared.inputs.Input.TheVariants.{Two}
-use Rattle.sm_instance.proofs.ListLemmas.{row_in_range}
-use Rattle.sm_instance.proofs.PlaceLemmas.{place_of-entry}
 use Rattle.sm_theory.specs.declared.choice.Choice.{Choice}
 use Rattle.sm_theory.specs.declared.choice.Choice.TheVariants.{Better, Worse}
 use Rattle.sm_report.specs.Heads.{HeadData}
 use Rattle.sm_report.specs.Lines.{LineData}
-use Rattle.sm_pairs.specs.Held.{partner_in, places_in}
+use Rattle.sm_pairs.specs.Held.{places_in}
 use Rattle.sm_pairs.specs.Chosen.{chosen_places}
 use Rattle.sm_pairs.proofs.ChoiceLemmas.{chosen_assigned}
 use Rattle.sm_given.specs.Chosen.{chosen_lines}
@@ -30,7 +26,7 @@ use Rattle.sm_judge.specs.Pairs.{IsFree, IsWanted, AreAllThere, ChosenHold}
 use Rattle.sm_judge.proofs.LinewiseLemmas.{AllHold, all_hold, hold_append, no_end}
 use Rattle.sm_agree.specs.Agree.{GetYes, MeetAgrees, JoinAgrees}
 use Rattle.sm_agree.proofs.LineLemmas.{Held, pass_append, has_word, has_other, group_whole, same_said, yes_of}
-use Rattle.sm_agree.proofs.PairLemmas.{AreBelow, free_below, all_below, lines_with, Above, pairs_hold, pairs_pass}
+use Rattle.sm_agree.proofs.PairLemmas.{AreBelow, free_below, all_below, wanted_pair, all_wanted, lines_with, Above, pairs_hold, pairs_pass}
 
 -- The clauses.
 
@@ -71,24 +67,6 @@ module _ (choice : Choice) (w : Written) where
   end_holds above left right there reason.Blocked = ((λ _. (left, right)), tt)
   end_holds above left right there reason.WrongPair = (tt, (tt, (λ _. there)))
   end_holds above left right there _ = (tt, tt)
-
-  -- The pairs of a matching are those that are wanted.
-
-  module _ (i : IsInstance w) (wanted : List (Option ℕ)) (a : IsAssignment w wanted) where
-    pub wanted_pair : (pairs : List (ℕ × ℕ)) (p k : ℕ) → AreBelow w wanted p pairs → held wanted p ≡ Some k → IsWanted w wanted pairs (p, entry w.proposers p k)
-    wanted_pair pairs p k below e = record {
-      in_matching = e ∙ ap Some (sym (place_of-entry i.proposer_entries p (entry w.proposers p k) k (a.on_lists p k e) refl));
-      once = below.past p (omega arith);
-    }
-
-    pub all_wanted : (pairs : List (ℕ × ℕ)) → AreBelow w wanted (length w.proposers) pairs → AreAllThere wanted pairs
-    all_wanted pairs below p some = go (held wanted p) refl some
-      where
-        go : (o : Option ℕ) → held wanted p ≡ o → IsSome o → IsSome (partner_in pairs p)
-        go None e s = absurd (false≢true s)
-        go (Some k) e s =
-            let inside = row_in_range w.proposers p k (a.on_lists p k e) in
-            subst IsSome (sym (below.below p inside ∙ ap (option_map (entry w.proposers p)) e)) refl
 
   module _ (i : IsInstance w) (m n : List (Option ℕ)) (left : IsStable w m) (right : IsStable w n) (head : HeadData) where
     abbrev count : ℕ

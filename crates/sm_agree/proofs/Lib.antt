@@ -10,4 +10,10 @@ pub mod PartiesAgree
 pub mod RegretAgree
 pub mod ReducedAgree
 pub mod RotationsAgree
+pub mod FlowLemmas
+pub mod WeightLines
+pub mod WeightBlocks
+pub mod WeightFigures
+pub mod WeightAgree
 pub mod WitnessLemmas
+pub mod WeightWitness

@@ -1,15 +1,16 @@
 -- The pairs of a matching in the order of the proposers: each may stand behind those before it, and they give the matching.
 -- Their lines in an answer, whatever word they begin with.
-use Rattle.std.proofs.Common.{◌≡◌, ℕ, ◌&&◌, ◌+◌, ◌<◌, ◌≤◌, ◌==◌, arith, refl, sym, ap, ◌∙◌, cond, Bool, true, List, [], ◌∷◌, ◌++◌, length, Option, Some, None, subst, inl, inr, ext_get_or, eq-eqb}
+use Rattle.std.proofs.Common.{◌≡◌, ℕ, ◌&&◌, ◌+◌, ◌<◌, ◌≤◌, ◌==◌, arith, refl, sym, ap, ◌∙◌, cond, Bool, true, List, [], ◌∷◌, ◌++◌, length, Option, Some, None, IsSome, subst, inl, inr, ext_get_or, eq-eqb}
 use Rattle.std.specs.Prelude.{filter_map}
 use Rattle.std.specs.List.{list_all}
 use Rattle.std.specs.Option.{option_map}
+use Rattle.std.proofs.lemmas.Bool.{false≢true}
 use Rattle.std.proofs.lemmas.List.Sums.{sum_by-append}
 use Rattle.std.proofs.lemmas.List.FromFn.{length-map-range_with_len}
 use Rattle.sm_lists.proofs.Counting.{eq_or_ne}
 use Rattle.sm_instance.specs.Written.{Written, entry, place_of}
 use Rattle.sm_instance.specs.Matching.{held, leads_to, load_before, IsAssignment, IsMatching}
-use Rattle.sm_instance.specs.Sound.{AreSoundEntries}
+use Rattle.sm_instance.specs.Sound.{IsInstance, AreSoundEntries}
 use Rattle.sm_instance.proofs.ListLemmas.{row_in_range}
 use Rattle.sm_instance.proofs.LoadLemmas.{load_more}
 use Rattle.sm_instance.proofs.BreachLemmas.{load_mono}
@@ -19,7 +20,7 @@ use Rattle.sm_pairs.proofs.HoldingLemmas.{here_later, other_later, held_place}
 use Rattle.sm_report.specs.Lines.{LineData}
 use Rattle.sm_answer.specs.Lines.{line_or_none, lines_from}
 use Rattle.sm_judge.specs.declared.verdicts.Reason.{Reason}
-use Rattle.sm_judge.specs.Pairs.{times_second, IsFree}
+use Rattle.sm_judge.specs.Pairs.{times_second, IsFree, IsWanted, AreAllThere}
 use Rattle.sm_agree.proofs.LineLemmas.{Steps, Held, numbers_hold, numbers_pass, more_said}
 
 -- the reviewer that a proposer has
@@ -97,6 +98,23 @@ all_below {w} {places} {pairs} k sound a =
 
     at : (p : ℕ) → p < length w.proposers → held (places_in w pairs) p ≡ held places p
     at p l = held_place w pairs p l ∙ ap (option_map (place_of w.proposers p)) (k.below p l) ∙ back p (held places p) refl
+
+-- The pairs of a matching are those that are wanted.
+module _ {w : Written} (i : IsInstance w) (wanted : List (Option ℕ)) (a : IsAssignment w wanted) where
+  pub wanted_pair : (pairs : List (ℕ × ℕ)) (p k : ℕ) → AreBelow w wanted p pairs → held wanted p ≡ Some k → IsWanted w wanted pairs (p, entry w.proposers p k)
+  wanted_pair pairs p k below e = record {
+    in_matching = e ∙ ap Some (sym (place_of-entry i.proposer_entries p (entry w.proposers p k) k (a.on_lists p k e) refl));
+    once = below.past p (omega arith);
+  }
+
+  pub all_wanted : (pairs : List (ℕ × ℕ)) → AreBelow w wanted (length w.proposers) pairs → AreAllThere wanted pairs
+  all_wanted pairs below p some = go (held wanted p) refl some
+    where
+      go : (o : Option ℕ) → held wanted p ≡ o → IsSome o → IsSome (partner_in pairs p)
+      go None e s = absurd (false≢true s)
+      go (Some k) e s =
+          let inside = row_in_range w.proposers p k (a.on_lists p k e) in
+          subst IsSome (sym (below.below p inside ∙ ap (option_map (entry w.proposers p)) e)) refl
 
 -- The lines of the pairs.
 

@@ -49,16 +49,16 @@ use Rattle.sm_agree.proofs.BlockLemmas.{blocks_hold, blocks_pass, blocks_whole, 
 -- The first rotations of a chain.
 
 module _ (l : Lists) (first : Places) (rotations : List (List (ℕ × ℕ))) (n : ℕ) where
-  same_rotation : (k : ℕ) → k < n → rotation_at (take n rotations) k ≡ rotation_at rotations k
+  pub same_rotation : (k : ℕ) → k < n → rotation_at (take n rotations) k ≡ rotation_at rotations k
   same_rotation k less = get_or-take n rotations k [] less
 
   -- they lead to where the chain does
-  same_stage : (k : ℕ) → k ≤ n → stage l first (take n rotations) k ≡ stage l first rotations k
+  pub same_stage : (k : ℕ) → k ≤ n → stage l first (take n rotations) k ≡ stage l first rotations k
   same_stage zero le = refl
   same_stage (suc k) le = ap (λ m. eliminated l m (rotation_at (take n rotations) k)) (same_stage k (omega arith)) ∙ ap (eliminated l (stage l first rotations k)) (same_rotation k (omega arith))
 
   -- what one of them needs of all it needs of them, since a predecessor stands earlier
-  needs_of_front : IsMarket l → IsCompleteChain l first rotations → n ≤ length rotations → (j : ℕ) (needs : List ℕ) → j < n → AreNeedsOf l rotations j needs → AreNeedsOf l (take n rotations) j needs
+  pub needs_of_front : IsMarket l → IsCompleteChain l first rotations → n ≤ length rotations → (j : ℕ) (needs : List ℕ) → j < n → AreNeedsOf l rotations j needs → AreNeedsOf l (take n rotations) j needs
   needs_of_front market chain within j needs inside needed = record {
     rising = needed.rising;
     sound = λ a less. omega (arith, early a less, long);
@@ -85,12 +85,12 @@ module _ (l : Lists) (first : Places) (rotations : List (List (ℕ × ℕ))) (n 
 -- What the lines of a rotation say.
 
 -- numbers from 1, and from 0 again
-numbers_back : (needed : List ℕ) → map pred (numbers_of needed) ≡ needed
+pub numbers_back : (needed : List ℕ) → map pred (numbers_of needed) ≡ needed
 numbers_back [] = refl
 numbers_back (k ∷ needed) = ap (λ n. n ∷ map pred (numbers_of needed)) (let e : pred (k + 1) ≡ k = omega arith in e) ∙ ap (λ xs. k ∷ xs) (numbers_back needed)
 
 -- its seats are there
-pairs_fit : (w : Written) (pairs : List (ℕ × ℕ)) → All (λ (pair : ℕ × ℕ). pair.1 < length (seats_of w)) pairs → list_all (is_seat w) (map (λ pair. pair.1) (seated_pairs (seating_of w) pairs)) ≡ true
+pub pairs_fit : (w : Written) (pairs : List (ℕ × ℕ)) → All (λ (pair : ℕ × ℕ). pair.1 < length (seats_of w)) pairs → list_all (is_seat w) (map (λ pair. pair.1) (seated_pairs (seating_of w) pairs)) ≡ true
 pairs_fit w [] there = refl
 pairs_fit w (pair ∷ pairs) there =
     ap (λ t. t && list_all (is_seat w) (map (λ pair. pair.1) (seated_pairs (seating_of w) pairs))) (is_seat_shown w pair.1 (there 0 (0, 0) (omega arith)))

@@ -256,7 +256,7 @@ three_agents x y z p q r b c d e f g =
     before_two (suc (suc j)) l same = omega (arith, l)
 
 -- the instance
-three_instance : IsInstance three_by_three
+pub three_instance : IsInstance three_by_three
 unfolding name.begins_name name.is_name_byte
 three_instance = record {
   two_sided = λ e. cc;

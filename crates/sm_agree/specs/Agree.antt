@@ -1,14 +1,15 @@
 -- Right answers, by a command's own relation, get a yes.
-use Rattle.std.specs.Prelude.{ℕ, List, map, Option}
+use Rattle.std.specs.Prelude.{ℕ, List, map, All, Option}
 use Rattle.sm_instance.specs.Written.{AgentData, Written}
 use Rattle.sm_instance.specs.Sound.{IsInstance}
 use Rattle.sm_instance.specs.declared.inputs.Input.{Input}
 use Rattle.sm_instance.specs.declared.inputs.Input.TheVariants.{Two, Room}
+use Rattle.sm_instance.specs.declared.kinds.Measure.{Measure}
 use Rattle.sm_instance.specs.declared.kinds.Side.{Side}
 use Rattle.sm_theory.specs.declared.choice.Choice.TheVariants.{Better, Worse}
 use Rattle.sm_report.specs.Heads.{HeadData}
 use Rattle.sm_report.specs.Lines.{LineData}
-use Rattle.sm_report.specs.Sound.{IsHeadOf}
+use Rattle.sm_report.specs.Sound.{IsHeadOf, IsLineOf}
 use Rattle.sm_report.specs.Texts.{text_of_line}
 use Rattle.sm_seats.specs.SeatEntries.{AreFewSeats}
 use Rattle.sm_shown.specs.Answers.{IsSolution}
@@ -16,6 +17,7 @@ use Rattle.sm_shown.specs.Reduction.{IsReduction}
 use Rattle.sm_shown.specs.RotationAnswer.{IsRotationAnswer}
 use Rattle.sm_listing.specs.ListAnswer.{IsListAnswer}
 use Rattle.sm_partners.specs.RegretAnswer.{IsRegretAnswer}
+use Rattle.sm_lightest.specs.WeightAnswer.{IsWeightAnswer}
 use Rattle.sm_given.specs.Chosen.{IsChosenAnswer}
 use Rattle.sm_rooming.specs.RoomAnswer.{IsMatched, IsUnmatchable}
 use Rattle.sm_judge.specs.declared.verdicts.Verdict.TheVariants as verdict
@@ -45,6 +47,12 @@ ListAgrees = (w : Written) (after : Option (List ℕ)) (limit : ℕ) (lines : Li
 -- one of `regret` that isn't `none`
 abbrev pub RegretAgrees : Type 0
 RegretAgrees = (w : Written) (lines : List LineData) → IsInstance w → IsRegretAnswer w lines → GetYes (Two w) lines
+
+-- one of `weight`, where the seats are few, whose lines are of the instance: unbounded edges may lead in a circle, and a flow may
+-- go round it with any amount, also with one that has no 64 bits
+abbrev pub WeightAgrees : Type 0
+WeightAgrees = (w : Written) (by : Measure) (lines : List LineData) → IsInstance w → AreFewSeats w → All (IsLineOf (Two w)) lines → IsWeightAnswer by w lines
+    → GetYes (Two w) lines
 
 -- those of `meet` and of `join` of the two matchings that these texts give
 abbrev pub MeetAgrees : Type 0

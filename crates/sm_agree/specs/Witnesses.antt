@@ -1,20 +1,25 @@
 -- Right answers that are known by hand, so that no law is about nothing.
-use Rattle.std.specs.Prelude.{ℕ, List, [], ◌∷◌, Option, None, Some, codes}
+use Rattle.std.specs.Prelude.{ℕ, List, [], ◌∷◌, All, Option, None, Some, codes, pos, negsuc}
 use Rattle.sm_instance.specs.Written.{AgentData, Written}
 use Rattle.sm_instance.specs.Sound.{IsInstance}
 use Rattle.sm_instance.specs.Witnesses.{agent}
 use Rattle.sm_instance.specs.declared.kinds.Kind.TheVariants.{Marriage}
+use Rattle.sm_instance.specs.declared.inputs.Input.TheVariants.{Two}
+use Rattle.sm_instance.specs.declared.kinds.Measure.TheVariants.{Given}
 use Rattle.sm_instance.specs.declared.kinds.Side.TheVariants.{Proposers, Reviewers}
 use Rattle.sm_theory.specs.declared.choice.Choice.TheVariants.{Better, Worse}
 use Rattle.sm_seats.specs.SeatEntries.{AreFewSeats}
 use Rattle.sm_report.specs.declared.lines.Seat.{Seat}
 use Rattle.sm_report.specs.Heads.{HeadData}
 use Rattle.sm_report.specs.Lines.{LineData}
+use Rattle.sm_report.specs.Sound.{IsLineOf}
+use Rattle.sm_report.specs.Texts.{SOURCE, SINK}
 use Rattle.sm_shown.specs.Answers.{IsSolution}
 use Rattle.sm_shown.specs.Reduction.{IsReduction}
 use Rattle.sm_shown.specs.RotationAnswer.{IsRotationAnswer}
 use Rattle.sm_listing.specs.ListAnswer.{IsListAnswer}
 use Rattle.sm_partners.specs.RegretAnswer.{IsRegretAnswer}
+use Rattle.sm_lightest.specs.WeightAnswer.{IsWeightAnswer}
 use Rattle.sm_given.specs.Chosen.{IsChosenAnswer}
 use Rattle.sm_rooming.specs.RoomAnswer.{IsMatched, IsUnmatchable}
 
@@ -109,3 +114,44 @@ two_rotations =
 -- a right answer of `rotations`
 abbrev pub ThreeByThree : Type 0
 ThreeByThree = IsInstance three_by_three × AreFewSeats three_by_three × IsRotationAnswer three_by_three two_rotations
+
+-- the same, of whom the first proposer weighs 4 with its second choice and -10 with its third one
+abbrev pub weighed_three : Written
+weighed_three = record {
+  kind = Marriage;
+  proposers = three_by_three.proposers;
+  reviewers = three_by_three.reviewers;
+  weights = (0, 1, pos 4) ∷ (0, 2, negsuc 9) ∷ [];
+  forced = [];
+  forbidden = [];
+}
+
+-- both rotations are taken; a flow of 4 goes from the source by the second and the first to the sink
+abbrev pub weighed_answer : List LineData
+weighed_answer =
+    LineData.Answer (HeadData.Weight Given) ∷
+    LineData.First 0 (first_seat_of 0) ∷
+    LineData.First 1 (first_seat_of 1) ∷
+    LineData.First 2 (first_seat_of 2) ∷
+    LineData.Rotation 1 ((0, first_seat_of 0) ∷ (1, first_seat_of 1) ∷ (2, first_seat_of 2) ∷ []) ∷
+    LineData.Needs 1 [] ∷
+    LineData.Gain 1 (pos 4) ∷
+    LineData.Rotation 2 ((0, first_seat_of 1) ∷ (1, first_seat_of 2) ∷ (2, first_seat_of 0) ∷ []) ∷
+    LineData.Needs 2 (1 ∷ []) ∷
+    LineData.Gain 2 (negsuc 13) ∷
+    LineData.Flow SOURCE 2 4 ∷
+    LineData.Flow 1 SINK 4 ∷
+    LineData.Flow 2 1 4 ∷
+    LineData.Taken (1 ∷ 2 ∷ []) ∷
+    LineData.Value 4 ∷
+    LineData.Cut 4 ∷
+    LineData.Total (negsuc 9) ∷
+    LineData.Pair 0 2 ∷
+    LineData.Pair 1 0 ∷
+    LineData.Pair 2 1 ∷
+    LineData.End ∷
+    []
+
+-- a right answer of `weight`
+abbrev pub WeighedThree : Type 0
+WeighedThree = IsInstance weighed_three × AreFewSeats weighed_three × All (IsLineOf (Two weighed_three)) weighed_answer × IsWeightAnswer Given weighed_three weighed_answer

@@ -1,7 +1,7 @@
 //! The text of a right answer gets a yes. Each function does nothing: its contract is the law, a statement over the
 //! definitions alone.
 
-ghost use Rattle.sm_agree.specs.Agree.{SolveAgrees, CouplesAgree, PartiesAgree, ReducedAgrees, RotationsAgree, ListAgrees, RegretAgrees, MeetAgrees, JoinAgrees};
+ghost use Rattle.sm_agree.specs.Agree.{SolveAgrees, CouplesAgree, PartiesAgree, ReducedAgrees, RotationsAgree, ListAgrees, RegretAgrees, WeightAgrees, MeetAgrees, JoinAgrees};
 
 /// The text of a right answer of `solve` over an instance with two sides gets a yes.
 pub fn solve_agrees()
@@ -36,6 +36,11 @@ pub fn list_agrees()
 /// The text of a right answer of `regret` gets a yes, where it isn't `none`.
 pub fn regret_agrees()
     ensures { RegretAgrees }
+{}
+
+/// The text of a right answer of `weight` gets a yes, where its lines are of the instance.
+pub fn weight_agrees()
+    ensures { WeightAgrees }
 {}
 
 /// The text of a right answer of `meet` gets a yes.

@@ -29,6 +29,7 @@ use Rattle.sm_words.specs.Jobs.{JobData, Solve, Reduced, Rotations, Pairs, Regre
 use Rattle.sm_theory.specs.declared.choice.Choice.TheVariants.{Better, Worse}
 use Rattle.sm_theory.proofs.Bridge.Places.{position_cases}
 use Rattle.sm_seats.specs.SeatEntries.{seat_entries_before, AreFewSeats, first_too_many}
+use Rattle.sm_seats.proofs.LimitLaws.{none_is}
 use Rattle.sm_shown.specs.Reduction.{IsReduction}
 use Rattle.sm_shown.specs.RotationAnswer.{IsRotationAnswer}
 use Rattle.sm_listing.specs.ListAnswer.{IsListAnswer}
@@ -45,6 +46,7 @@ use Rattle.sm_agree.proofs.CouplesAgree.{couples_agree}
 use Rattle.sm_agree.proofs.PartiesAgree.{parties_agree}
 use Rattle.sm_agree.proofs.ListAgree.{list_agrees}
 use Rattle.sm_agree.proofs.RegretAgree.{regret_agrees}
+use Rattle.sm_agree.proofs.WeightAgree.{weight_agrees}
 use Rattle.sm_agree.proofs.ChosenAgree.{meet_agrees, join_agrees}
 use Rattle.sm_top.specs.declared.status.Status.{Status}
 use Rattle.sm_top.specs.declared.status.Status.TheVariants.{Done, NoneExists}
@@ -52,7 +54,7 @@ use Rattle.sm_top.specs.Accepting.{accepted, behind_text, first_refusal, after_e
 use Rattle.sm_top.specs.Checked.{IsChecked, verdict_lines}
 use Rattle.sm_top.specs.Outcome.{OfTwo, IsSolved, IsRegretted, IsAnswerOver, IsAnswer}
 use Rattle.sm_top.proofs.RunLemmas.{too_long_text}
-use Rattle.sm_round.specs.Round.{IsInstanceText, IsTaken, WrittenIsChecked}
+use Rattle.sm_round.specs.Round.{IsInstanceText, IsTaken, WrittenIsChecked, WeightIsChecked}
 use Rattle.sm_round.proofs.BehindLemmas.{read_more, answer_behind}
 
 -- where no reviewer is the first with whom they are too many, the seats are few
@@ -207,3 +209,9 @@ written_is_checked tallies others Pairs text behind read status lines t taken a 
 written_is_checked tallies others (Survey limit) text behind read status lines t taken a le = absurd taken
 written_is_checked tallies others Check text behind read status lines t taken a le = absurd taken
 written_is_checked tallies others (Make shape size seed summary) text behind read status lines t taken a le = absurd taken
+
+pub weight_is_checked : WeightIsChecked
+weight_is_checked others by text read w answer t same few sound h le =
+    checked others text read t answer (ap too_many_in same ∙ ap (option_map (λ (r : ℕ). (TooManySeats, (agent_at w.reviewers r).line))) (none_is w few))
+    (subst (λ (input : Input). GetYes input answer) (sym same) (weight_agrees w by answer (subst IsInput same t.sound) few sound h))
+    (map (text_of_line (Two w)) answer) (ap (λ (input : Input). map (text_of_line input) answer) (sym same)) le
