@@ -41,11 +41,12 @@ some_lines (b ∷ front) = by_end (b == LF) refl
 
 lines_behind : (front more : List ℕ) → lines (front ++ LF ∷ more) ≡ lines (front ++ LF ∷ []) ++ lines more
 lines_behind [] more = refl
-lines_behind (b ∷ front) more = by_end (b == LF) refl
+lines_behind (b ∷ front) more = by_end (lines_behind front more) (b == LF) refl
   where
-    by_end : (t : Bool) → (b == LF) ≡ t → lines ((b ∷ front) ++ LF ∷ more) ≡ lines ((b ∷ front) ++ LF ∷ []) ++ lines more
-    by_end true e = rw e (ap (λ ls. (b ∷ []) ∷ ls) (lines_behind front more))
-    by_end false e = rw e (ap (onto_first b) (lines_behind front more) ∙ onto_append b (lines (front ++ LF ∷ [])) (lines more) (some_lines front))
+    by_end : lines (front ++ LF ∷ more) ≡ lines (front ++ LF ∷ []) ++ lines more → (t : Bool) → (b == LF) ≡ t
+        → lines ((b ∷ front) ++ LF ∷ more) ≡ lines ((b ∷ front) ++ LF ∷ []) ++ lines more
+    by_end deep true e = rw e (ap (λ ls. (b ∷ []) ∷ ls) deep)
+    by_end deep false e = rw e (ap (onto_first b) deep ∙ onto_append b (lines (front ++ LF ∷ [])) (lines more) (some_lines front))
 
 -- reading ends on the line `end`
 behind_header_more : (kind : Kind) (header_line : ℕ) (said : Said) (number place : ℕ) (ls more : List (List ℕ)) (read : ReadText)

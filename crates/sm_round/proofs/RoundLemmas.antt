@@ -83,7 +83,7 @@ few_seats w none = by_count (length w.reviewers) refl
 few_in : (w : Written) → too_many_in (Two w) ≡ None → AreFewSeats w
 few_in w none = by_first (first_too_many w) refl none
   where
-    by_first : (o : Option ℕ) → first_too_many w ≡ o → option_map (λ (r : ℕ). (TooManySeats, (agent_at w.reviewers r).line)) o ≡ None → AreFewSeats w
+    by_first : (o : Option ℕ) → first_too_many w ≡ o → option_map {U = Refusal} (λ (r : ℕ). (TooManySeats, (agent_at w.reviewers r).line)) o ≡ None → AreFewSeats w
     by_first None e h = few_seats w e
     by_first (Some r) e h = absurd (none-some _ (sym h))
 
@@ -141,8 +141,8 @@ module _ (others : List Shown) (text : List ℕ) (read : ReadText) (t : IsInstan
   -- the answer to `check`
   checked : (answer : List LineData) → too_many_seats read ≡ None → GetYes read.input answer → (lines : List (List ℕ)) → lines ≡ map (text_of_line read.input) answer
       → length (text ++ text_of lines) ≤ most_bytes → IsAnswer others Check (text ++ text_of lines) Done (map (text_of_line read.input) (verdict_lines verdict.Yes))
-  checked answer few yes lines are le =
-      let judged = yes read.rest_line in
+  checked answer few agrees lines are le =
+      let judged = agrees read.rest_line in
       let right = subst (λ (texts : List (List ℕ)). texts_from (text ++ text_of texts) (length text) ≡ texts) judged.answer.read (answer_behind read.input t.sound text judged.lines judged.answer.right) in
       let there : texts_from (text ++ text_of lines) read.rest ≡ map (text_of_line read.input) answer =
       ap (texts_from (text ++ text_of lines)) t.whole ∙ ap (λ (ls : List (List ℕ)). texts_from (text ++ text_of ls) (length text)) are ∙ right in
@@ -168,7 +168,8 @@ module _ (others : List Shown) (text : List ℕ) (read : ReadText) (t : IsInstan
   over job behind right lines agree fits a le =
       let is = accepted_as job (text ++ behind) read a.read (read_on behind fits) a.ok in
       let shown = subst (λ (r : ReadText). IsShown r.input (right r) lines) (sym is.same) a.shown in
-      checked shown.answer is.few (agree shown.answer is.few shown.is_right) lines shown.shows le
+      let few : too_many_seats read ≡ None = ap too_many_seats is.same ∙ is.few in
+      checked shown.answer few (agree shown.answer few shown.is_right) lines shown.shows le
 
 -- what was accepted is short enough
 fits : (job : JobData) (bytes : List ℕ) (read : ReadText) → accepted job bytes ≡ Ok read → length bytes ≤ most_bytes
@@ -212,6 +213,6 @@ written_is_checked tallies others (Make shape size seed summary) text behind rea
 
 pub weight_is_checked : WeightIsChecked
 weight_is_checked others by text read w answer t same few sound h le =
-    checked others text read t answer (ap too_many_in same ∙ ap (option_map (λ (r : ℕ). (TooManySeats, (agent_at w.reviewers r).line))) (none_is w few))
+    checked others text read t answer (ap too_many_in same ∙ ap (option_map {U = Refusal} (λ (r : ℕ). (TooManySeats, (agent_at w.reviewers r).line))) (none_is w few))
     (subst (λ (input : Input). GetYes input answer) (sym same) (weight_agrees w by answer (subst IsInput same t.sound) few sound h))
     (map (text_of_line (Two w)) answer) (ap (λ (input : Input). map (text_of_line input) answer) (sym same)) le
