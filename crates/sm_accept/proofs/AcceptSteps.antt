@@ -250,6 +250,7 @@ pub record GoesOn (l : Lists) (b q : ℕ) (next standings : List ℕ) : Type 0 w
   pub progress : IsProgress l b q next standings
   pub down : IsTurnedDown l q next standings
 
+-- after an answer to a proposal the proposals go on from whom it leaves without a partner
 pub answered : {l : Lists} {b q other : ℕ} {next standings after : List ℕ} → IsMarket l → IsProgress l b q next standings → q < b → get_or next q 0 < length (row l.proposers q)
     → (let r = entry l.proposers q (get_or next q 0) in IsTakenFor l q r other standings after ⊎ IsRefused l q r other standings after) → GoesOn l b other next after
 answered {l} {b} {q} {other} {next} {standings} {after} market g begun on (inl t) =

@@ -1,7 +1,7 @@
 -- Linked numbers: where they stand, which follow which, and what taking one out leaves.
 use Rattle.std.proofs.Common.{◌≡◌, ◌≢◌, ℕ, zero, suc, ◌+◌, ◌-◌, ◌<◌, ◌≤◌, ◌⊎◌, inl, inr, arith, refl, ap, List, Option, Some, None, MatchOption, length, get_or}
 use Rattle.sm_market.specs.Lists.{Lists, row}
-use Rattle.sm_lists.proofs.Counting.{eq_or_ne, less_same_more}
+use Rattle.sm_lists.proofs.Counting.{less_same_more}
 use Rattle.sm_accept.specs.Linking.{IsHeld, IsFirstHeld, IsHeldBehind, IsIn, Follows, AreStarts}
 
 module _ {l : Lists} {starts : List ℕ} (s : AreStarts l starts) where
@@ -14,6 +14,7 @@ module _ {l : Lists} {starts : List ℕ} (s : AreStarts l starts) where
       let e : p + suc (suc d) ≡ p + suc d + 1 = omega arith in
       rw e (omega arith)
 
+  -- the numbers of a proposer stand before those of a later one
   pub starts_below : (p q : ℕ) → p < q → q ≤ length l.proposers → get_or starts p 0 + (length (row l.proposers p) + 2) ≤ get_or starts q 0
   starts_below p q less h =
       let e : p + suc (q - suc p) ≡ q = omega arith in
@@ -74,6 +75,7 @@ pub first_answer : {l : Lists} {ends : List ℕ} {p k : ℕ} → Follows l ends 
 first_answer f None past = λ i. none_behind f past i (omega arith)
 first_answer f (Some i) at = first_held f at.0 at.1
 
+-- the number that follows tells the next held place behind a place, or that there is none
 pub behind_answer : {l : Lists} {ends : List ℕ} {p k : ℕ} (i : ℕ) → Follows l ends p (i + 1) k → (o : Option ℕ) → MatchOption o (length (row l.proposers p) < k) (λ n. (k ≤ length (row l.proposers p)) × (k ≡ n + 1))
     → MatchOption o ((n : ℕ) → i < n → ¬ IsHeld l ends p n) (λ n. IsHeldBehind l ends p i n)
 behind_answer i f None past = λ n more. none_behind f past n (omega arith)
@@ -86,6 +88,7 @@ follows_once {k = k} {n = n} x y = elim (less_same_more k n) [
   | inr d ↦ elim d [ inl e ↦ e | inr more ↦ absurd (x.between n y.rising more y.upper) ]
 ]
 
+-- a number follows no more than one
 pub followed_once : {l : Lists} {ends : List ℕ} {p j k n : ℕ} → Follows l ends p j k → Follows l ends p n k → j ≡ n
 followed_once {j = j} {n = n} x y = elim (less_same_more j n) [
   | inl less ↦ absurd (x.between n less y.rising y.lower)
@@ -99,13 +102,6 @@ pub record IsTakenOut (l : Lists) (ends ends' : List ℕ) (p x : ℕ) : Type 0 w
   pub stays : (q j : ℕ) → IsIn l ends q j → (q ≢ p) ⊎ (j ≢ x) → IsIn l ends' q j
 
 module _ {l : Lists} {ends ends' : List ℕ} {p x : ℕ} (t : IsTakenOut l ends ends' p x) where
-  -- a number that is left isn't the one that is taken out
-  pub left : (q j : ℕ) → IsIn l ends' q j → (q ≢ p) ⊎ (j ≢ x)
-  left q j h = elim (eq_or_ne q p) [
-    | inr other ↦ inl other
-    | inl same ↦ inr (λ e. t.gone (rw (same, e) at h))
-  ]
-
   -- the ones on both sides of it follow each other
   pub follows_join : {b n : ℕ} → Follows l ends p b x → Follows l ends p x n → Follows l ends' p b n
   follows_join {b} {n} f g = let lower = f.rising in let upper = g.rising in record {

@@ -17,6 +17,7 @@ pub record AreLinkedTo (l : Lists) (starts : List ℕ) (p k : ℕ) (next before 
   pub forward : (q j : ℕ) → q < length l.proposers → j ≤ length (row l.proposers q) → IsReached p k q j → link_at starts next q j ≡ j + 1
   pub back : (q j : ℕ) → q < length l.proposers → j ≤ length (row l.proposers q) → IsReached p k q j → link_at starts before q (j + 1) ≡ j
 
+-- before the first number is linked nothing is to be said of links
 pub link_none : (l : Lists) (starts next before : List ℕ) → AreLinkedTo l starts 0 0 next before
 link_none l starts next before = record { forward = λ q j _ _ w. absurd (none w); back = λ q j _ _ w. absurd (none w) }
   where
@@ -58,6 +59,7 @@ link_row {l} {p = p} {k = k} all t = record { forward = λ q j hq hj w. t.forwar
     ]
     reached q j hj (inr w) = let lt = w.1 in absurd (omega arith)
 
+-- once all proposers' numbers are linked, all are
 pub link_end : {l : Lists} {starts : List ℕ} {p k : ℕ} {next before : List ℕ} → length l.proposers ≤ p → AreLinkedTo l starts p k next before → AreAllLinked l starts next before
 link_end all t = record { forward = λ q j hq hj. t.forward q j hq hj (inl (omega arith)); back = λ q j hq hj. t.back q j hq hj (inl (omega arith)) }
 
@@ -84,6 +86,7 @@ module _ {l : Lists} (market : IsMarket l) where
   follows_all : (p j : ℕ) → j ≤ length (row l.proposers p) → Follows l (all_ends l) p j (j + 1)
   follows_all p j h = record { lower = all_in p j (omega arith); upper = all_in p (j + 1) (omega arith); rising = omega arith; between = λ x more less _. omega arith }
 
+  -- numbers that are all linked are the links of the set of all pairs
   pub all_linked : {starts next before : List ℕ} → AreStarts l starts → length next ≡ get_or starts (length l.proposers) 0 → length before ≡ get_or starts (length l.proposers) 0
       → AreAllLinked l starts next before → IsLinkedOf l (record { ends = all_ends l; starts = starts; next = next; before = before })
   all_linked {starts} {next} {before} s long long' t = record {
@@ -101,6 +104,7 @@ module _ {l : Lists} (market : IsMarket l) where
 
 -- taking out the last pair that is held of r's list
 module _ {l : Lists} {v : Linking} {r : ℕ} (last : ℕ) (market : IsMarket l) (made : IsLinkedOf l v) (hr : r < length l.reviewers) (end_is : get_or v.ends r 0 ≡ last + 1) where
+  -- the last pair's place is on r's list
   pub last_on_list : last < length (row l.reviewers r)
   last_on_list = omega (arith, made.ends_on_lists r)
 
@@ -119,6 +123,7 @@ module _ {l : Lists} {v : Linking} {r : ℕ} (last : ℕ) (market : IsMarket l) 
   in_ends : r < length v.ends
   in_ends = omega (arith, made.ends_each)
 
+  -- and the pair is held
   pub last_held : IsHeld l v.ends (entry l.reviewers r last) (place_of l.proposers (entry l.reviewers r last) r)
   last_held = record { on_list = listed; in_front = rw there (omega (arith, rank)) }
 
@@ -154,6 +159,7 @@ module _ {l : Lists} {v : Linking} {r : ℕ} (last : ℕ) (market : IsMarket l) 
           let place_is : j ≡ place_of l.proposers (entry l.reviewers r last) r = sym (place_of-entry market.proposers q j h.on_list) ∙ ap (place_of l.proposers q) e ∙ ap (λ x. place_of l.proposers x r) who_is in
           elim other [ inl ne ↦ ne who_is | inr ne ↦ ne place_is ]
 
+  -- with the end of r's list one less this pair alone is taken out
   pub taken_out : IsTakenOut l v.ends (set v.ends r last) (entry l.reviewers r last) (place_of l.proposers (entry l.reviewers r last) r + 1)
   taken_out = record { still_in = still; gone = gone; stays = stays }
     where
@@ -174,17 +180,21 @@ module _ {l : Lists} {v : Linking} {r : ℕ} (last : ℕ) (market : IsMarket l) 
   pub last_before : Follows l v.ends (entry l.reviewers r last) (link_at v.starts v.before (entry l.reviewers r last) (place_of l.proposers (entry l.reviewers r last) r + 1)) (place_of l.proposers (entry l.reviewers r last) r + 1)
   last_before = made.before _ _ who_in_range (omega arith) (omega (arith, listed)) (held_in last_held)
 
+  -- what follows the number of the pair
   pub last_next : Follows l v.ends (entry l.reviewers r last) (place_of l.proposers (entry l.reviewers r last) r + 1) (link_at v.starts v.next (entry l.reviewers r last) (place_of l.proposers (entry l.reviewers r last) r + 1))
   last_next = made.next _ _ who_in_range (omega (arith, listed)) (held_in last_held)
 
   -- the same where the pair's proposer and number are known by other names
   module _ {p k : ℕ} (is_p : p ≡ entry l.reviewers r last) (is_k : k ≡ place_of l.proposers (entry l.reviewers r last) r) where
+    -- what it follows
     pub ahead : {b : ℕ} → b ≡ link_at v.starts v.before p (k + 1) → Follows l v.ends p b (place_of l.proposers p r + 1)
     ahead is_b = rw (is_b, is_k, is_p) last_before
 
+    -- what follows it
     pub behind : {n : ℕ} → n ≡ link_at v.starts v.next p (k + 1) → Follows l v.ends p (place_of l.proposers p r + 1) n
     behind is_n = rw (is_n, is_k, is_p) last_next
 
+    -- its number is among the links
     pub number_fits : get_or v.starts p 0 + (k + 1) < get_or v.starts (length l.proposers) 0
     number_fits = rw (is_k, is_p) (link_in_range made.starts (entry l.reviewers r last) (place_of l.proposers (entry l.reviewers r last) r + 1) who_in_range (omega (arith, listed)))
 
@@ -198,12 +208,15 @@ module _ {l : Lists} {v : Linking} {r : ℕ} (last : ℕ) (market : IsMarket l) 
     out : IsTakenOut l v.ends (set v.ends r last) p (place_of l.proposers p r + 1)
     out = rw is_p taken_out
 
+    -- the link of the number before it is there
     pub before_in_range : get_or v.starts p 0 + b < length v.next
     before_in_range = let rising = f.rising in omega (arith, made.next_each, on_list, link_in_range made.starts p b hp (omega (arith, on_list)))
 
+    -- the link of the number behind it is there
     pub next_in_range : get_or v.starts p 0 + n < length v.before
     next_in_range = omega (arith, made.before_each, link_in_range made.starts p n hp (omega (arith, in_le g.upper)))
 
+    -- once these two are linked with each other, the links are those of the set without the pair
     pub unlinked : IsLinkedOf l (record { ends = set v.ends r last; starts = v.starts; next = set v.next (get_or v.starts p 0 + b) n; before = set v.before (get_or v.starts p 0 + n) b })
     unlinked = record {
       ends_each = length-set v.ends r last ∙ made.ends_each;

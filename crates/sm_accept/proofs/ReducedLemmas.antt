@@ -18,6 +18,7 @@ use Rattle.sm_lists.proofs.RowLemmas.{row_in_range}
 use Rattle.sm_accept.specs.Linking.{IsHeld, IsFirstHeld, IsHeldBehind, IsFront}
 use Rattle.sm_accept.specs.Reducing.{KeepsStablePairs}
 
+-- two tests pass together in either order
 pub and_comm : (s t : Bool) → (s && t) ≡ (t && s)
 and_comm true true = refl
 and_comm true false = refl
@@ -44,6 +45,7 @@ filter_skip test xs i (suc d) h fails =
     ∙ append-nil (filter test (take (i + d) xs))
     ∙ filter_skip test xs i d (omega arith) (λ j a b. fails j a (omega arith)))
 
+-- where no item between two places passes, the fronts up to them keep the same
 pub filter_to : (test : ℕ → Bool) (xs : List ℕ) (i k : ℕ) → i ≤ k → k ≤ length xs → ((j : ℕ) → i ≤ j → j < k → test (get_or xs j 0) ≡ false)
     → filter test (take k xs) ≡ filter test (take i xs)
 filter_to test xs i k le on fails =
@@ -72,6 +74,7 @@ not_front_fails {l} {first} last {ends} f p j on out = and_right (is_no_worse l.
 abbrev pub kept_of : Lists → (first last : Places) → ℕ → ℕ → Bool
 kept_of l first last p = λ r. is_no_worse l.proposers last.proposers p r && is_no_worse l.reviewers first.reviewers r p
 
+-- what is kept so far is what is to be kept of the front before the next held place
 pub record IsKeptTo (l : Lists) (first last : Places) (ends : List ℕ) (p : ℕ) (next : Option ℕ) (kept : List ℕ) : Type 0 where
   pub so_far : kept ≡ filter (kept_of l first last p) (take (unwrap_or next (length (row l.proposers p))) (row l.proposers p))
   pub held : MatchOption next (Unit {0}) (λ i. IsHeld l ends p i)
@@ -87,10 +90,12 @@ module _ {l : Lists} {first last : Places} {ends : List ℕ} {p : ℕ} (f : IsFr
     held = held;
   }
 
+  -- before the first held place nothing is kept
   pub kept_first : (next : Option ℕ) (kept : List ℕ) → kept ≡ [] → MatchOption next ((i : ℕ) → ¬ IsHeld l ends p i) (λ i. IsFirstHeld l ends p i) → IsKeptTo l first last ends p next kept
   kept_first None kept is none = kept_on 0 None kept (omega arith) (omega arith) (λ j a b. none j) tt is
   kept_first (Some i) kept is w = kept_on 0 (Some i) kept (omega arith) (omega (arith, w.held.on_list)) (λ j a b. w.earlier j b) w.held is
 
+  -- the item at a held place is kept or not, and the next held place comes
   pub kept_next : (i x : ℕ) (t : Bool) (before after : List ℕ) (next : Option ℕ) → IsKeptTo l first last ends p (Some i) before → x ≡ entry l.proposers p i → t ≡ kept_of l first last p x
       → after ≡ before ++ cond t (x ∷ []) [] → MatchOption next ((k : ℕ) → i < k → ¬ IsHeld l ends p k) (λ k. IsHeldBehind l ends p i k) → IsKeptTo l first last ends p next after
   kept_next i x t before after next w is tested added behind = go next behind
@@ -108,6 +113,7 @@ pub record AreFilled (count : ℕ) (full : ℕ → List ℕ) (n : ℕ) (rows : L
   pub filled : (q : ℕ) → q < n → q < count → row rows q ≡ full q
   pub left : (q : ℕ) → n ≤ q → q < count → row rows q ≡ []
 
+-- at first no list is filled
 pub none_filled : (count : ℕ) (full : ℕ → List ℕ) (rows : List (List ℕ)) → rows ≡ replicate count [] → AreFilled count full 0 rows
 none_filled count full rows is = record {
   one_each = ap length is ∙ length-replicate count [];
@@ -115,6 +121,7 @@ none_filled count full rows is = record {
   left = λ q _ less. ap (λ (rows : List (List ℕ)). row rows q) is ∙ get_or-replicate count q [] [] less;
 }
 
+-- the next list is filled
 pub filled_one : {count : ℕ} {full : ℕ → List ℕ} {n : ℕ} {rows : List (List ℕ)} (list : List ℕ) → AreFilled count full n rows → n < count → list ≡ full n
     → AreFilled count full (n + 1) (set rows n list)
 filled_one {count} {full} {n} {rows} list f less is = record {
@@ -126,6 +133,7 @@ filled_one {count} {full} {n} {rows} list f less is = record {
   left = λ q a b. get_or-set_other rows n q list [] (λ e. omega arith) ∙ f.left q (omega arith) b;
 }
 
+-- once all lists are filled, they are the full ones
 pub all_filled : {count : ℕ} {full : ℕ → List ℕ} {rows : List (List ℕ)} (n : ℕ) → count ≤ n → AreFilled count full n rows → rows ≡ map full (range_with_len 0 count)
 all_filled {count} {full} {rows} n all f =
     ext_get_or [] rows (map full (range_with_len 0 count)) (f.one_each ∙ sym (length-map-range_with_len full 0 count))
@@ -162,6 +170,7 @@ module _ {l : Lists} {first last n : Places} (h : IsMarket l) (f : IsProposersBe
     | inr w ↦ no_worse_at l.reviewers first.reviewers r b w.place w.held_is (omega (arith, proposers_best_is_worst l first n h f s r, w.standing_is, standing-some l.reviewers n.reviewers r k e))
   ]
 
+  -- a stable pair stays on the list of its proposer
   pub proposer_kept : (p i : ℕ) → held n.proposers p ≡ Some i → Contains (row (reduced_lists_of l first last).proposers p) (entry l.proposers p i)
   proposer_kept p i e =
       let on = s.matching.proposers.on_list p i e in
@@ -171,6 +180,7 @@ module _ {l : Lists} {first last n : Places} (h : IsMarket l) (f : IsProposersBe
       (filter-contains (λ b. is_no_worse l.proposers last.proposers p b && is_no_worse l.reviewers first.reviewers b p) (row l.proposers p) i r on refl
       (rw (proposer_keeps p i r e (place_of-entry h.proposers p i on), reviewer_keeps r (place_of l.reviewers r p) p turn refl) refl))
 
+  -- and on that of its reviewer
   pub reviewer_kept : (r k : ℕ) → held n.reviewers r ≡ Some k → Contains (row (reduced_lists_of l first last).reviewers r) (entry l.reviewers r k)
   reviewer_kept r k e =
       let on = s.matching.reviewers.on_list r k e in
@@ -180,5 +190,6 @@ module _ {l : Lists} {first last n : Places} (h : IsMarket l) (f : IsProposersBe
       (filter-contains (λ b. is_no_worse l.reviewers first.reviewers r b && is_no_worse l.proposers last.proposers b r) (row l.reviewers r) k p on refl
       (rw (reviewer_keeps r k p e (place_of-entry h.reviewers r k on), proposer_keeps p (place_of l.proposers p r) r turn refl) refl))
 
+-- the reduced lists between the two best matchings keep each stable pair
 pub keeps_stable_pairs : {l : Lists} {first last : Places} → IsMarket l → IsProposersBest l first → IsReviewersBest l last → KeepsStablePairs l (reduced_lists_of l first last)
 keeps_stable_pairs h f g = record { proposers = λ n s p i e. proposer_kept h f g s p i e; reviewers = λ n s r k e. reviewer_kept h f g s r k e }

@@ -58,6 +58,7 @@ pub record IsHeldNumber (l : Lists) (ends : List ℕ) (p j : ℕ) : Type 0 where
   pub number : j ≡ place + 1
   pub held : IsHeld l ends p place
 
+-- number j of p's list is in: it is the first or the last, or its place is held
 abbrev pub IsIn : Lists → List ℕ → (p j : ℕ) → Type 0
 IsIn l ends p j = ((j ≡ 0) ⊎ (j ≡ length (row l.proposers p) + 1)) ⊎ IsHeldNumber l ends p j
 

@@ -119,7 +119,8 @@ fn propose(market: &Market, p: u32, place: u32, standings: &mut [u32]) -> Option
     requires in_range { p < length market.now.proposers }
     requires on_list { place < length (row market.now.proposers p) }
     requires one_each { length standings.old ≡ length market.now.reviewers }
-    requires standing_on_list { (r : ℕ) → slice_index standings.old r ≤ length (row market.now.reviewers r) }
+    requires standing_on_list { (r : ℕ) → slice_index standings.old r
+        ≤ length (row market.now.reviewers r) }
     ensures { let r = entry market.now.proposers p place in MatchOption result
         (IsTakenIn market.now p r standings.old standings.new)
         (λ q. IsTakenFor market.now p r q standings.old standings.new

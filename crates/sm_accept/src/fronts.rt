@@ -35,7 +35,8 @@ pub fn cut_to_partner(market: &Market, m: &Pairing, r: u32, linked: &mut Linked)
     requires made { IsPairingOf market.now m.now }
     requires linked { IsLinkedOf market.now linked.old }
     ensures linked { IsLinkedOf market.now linked.new }
-    ensures cut { (k : ℕ) → held m.now.places.reviewers r ≡ Some k → linked.new.ends ≡ cut_ends linked.old.ends r k }
+    ensures cut { (k : ℕ) → held m.now.places.reviewers r ≡ Some k → linked.new.ends
+        ≡ cut_ends linked.old.ends r k }
     ensures kept { held m.now.places.reviewers r ≡ None → linked.new.ends ≡ linked.old.ends }
 {
     if let Some(place) = m.reviewer_place(r) {

@@ -18,6 +18,12 @@ pub struct Linked {
     ends: Vec<u32>,
     /// Where each proposer's links begin, and behind the last of them.
     starts: Vec<u32>,
+    links: Links,
+}
+
+/// How the held places of each proposer's list are linked.
+#[derive(Debug, Drop)]
+struct Links {
     /// For each number of each proposer's list, the next one that is in: number 0 stands in front of the list, `i + 1`
     /// for place `i`, and one more behind the list.
     next: Vec<u32>,
@@ -30,7 +36,8 @@ impl Model for Linked {
 
     ghost Value = { Linking };
 
-    ghost view = { λ v. linking v.ends.items v.starts.items v.next.items v.before.items };
+    ghost view = { λ v. linking v.ends.items v.starts.items v.links.next.items
+        v.links.before.items };
 }
 
 impl Linked {
@@ -48,15 +55,15 @@ impl Linked {
         let mut ends = vec![in alloc; 0; market.reviewers() as usize]?;
         let mut starts = vec![in alloc; 0; market.proposers() as usize + 1]?;
         end_all(market, &mut ends);
-        let links = start_all(market, &mut starts);
-        let mut next = vec![in alloc; 0; links as usize]?;
-        let mut before = vec![in alloc; 0; links as usize]?;
+        let count = start_all(market, &mut starts);
+        let mut next = vec![in alloc; 0; count as usize]?;
+        let mut before = vec![in alloc; 0; count as usize]?;
         link_all(market, &starts, &mut next, &mut before);
+        let links = Links { next, before };
         Ok(Linked {
             ends,
             starts,
-            next,
-            before,
+            links,
         })
     }
 
@@ -70,7 +77,7 @@ impl Linked {
             ((i : ℕ) → ¬ IsHeld market.now self.now.ends p i)
             (λ i. IsFirstHeld market.now self.now.ends p i) }
     {
-        let number = link_of(&self.starts, &self.next, p, 0);
+        let number = self.links.behind(&self.starts, p, 0);
         place_of_number(number, market.proposer_len(p))
     }
 
@@ -86,7 +93,7 @@ impl Linked {
             (λ i. IsHeldBehind market.now self.now.ends p place i) }
     {
         let places = market.proposer_len(p);
-        let number = link_of(&self.starts, &self.next, p, place + 1);
+        let number = self.links.behind(&self.starts, p, place + 1);
         place_of_number(number, places)
     }
 
@@ -104,12 +111,45 @@ impl Linked {
         cut_links(
             market,
             &self.starts,
+            &mut self.links,
             &mut self.ends,
-            &mut self.next,
-            &mut self.before,
             r,
             place,
         );
+    }
+}
+
+impl Links {
+    /// The next number of `p`'s list that is in, behind one that is.
+    fn behind(&self, starts: &[u32], p: u32, number: u32) -> u32
+        requires in_range { p < length starts.now }
+        requires there { slice_index starts.now p + number < length self.now.next.items }
+        ensures { result ≡ link_at starts.now self.now.next.items p number }
+    {
+        link_of(starts, &self.next, p, number)
+    }
+
+    /// The last number of `p`'s list that is in, ahead of one that is.
+    fn ahead(&self, starts: &[u32], p: u32, number: u32) -> u32
+        requires in_range { p < length starts.now }
+        requires there { slice_index starts.now p + number < length self.now.before.items }
+        ensures { result ≡ link_at starts.now self.now.before.items p number }
+    {
+        link_of(starts, &self.before, p, number)
+    }
+
+    /// Links a number of `p`'s list with one behind it, in both directions.
+    fn join(&mut self, starts: &[u32], p: u32, number: u32, behind: u32)
+        requires in_range { p < length starts.now }
+        requires next { slice_index starts.now p + number < length self.old.next.items }
+        requires before { slice_index starts.now p + behind < length self.old.before.items }
+        ensures next { self.new.next.items ≡ slice_set self.old.next.items (slice_index starts.now p
+            + number) behind }
+        ensures before { self.new.before.items
+            ≡ slice_set self.old.before.items (slice_index starts.now p + behind) number }
+    {
+        set_link(starts, &mut self.next, p, number, behind);
+        set_link(starts, &mut self.before, p, behind, number);
     }
 }
 
@@ -117,22 +157,23 @@ impl Linked {
 fn cut_links(
     market: &Market,
     starts: &[u32],
+    links: &mut Links,
     ends: &mut [u32],
-    next: &mut [u32],
-    before: &mut [u32],
     r: u32,
     place: u32,
 )
     requires in_range { r < length market.now.reviewers }
-    requires made { IsLinkedOf market.now (linking ends.old starts.now next.old before.old) }
-    ensures made { IsLinkedOf market.now (linking ends.new starts.now next.new before.new) }
+    requires made { IsLinkedOf market.now (linking ends.old starts.now links.old.next.items
+        links.old.before.items) }
+    ensures made { IsLinkedOf market.now (linking ends.new starts.now links.new.next.items
+        links.new.before.items) }
     ensures cut { ends.new ≡ cut_ends ends.old r place }
 {
     let kept = place.saturating_add(1);
     let mut end = ends[r as usize];
     while kept < end {
         end -= 1;
-        take_last(market, starts, ends, next, before, r, end);
+        take_last(market, starts, links, ends, r, end);
     }
 }
 
@@ -140,31 +181,32 @@ fn cut_links(
 fn take_last(
     market: &Market,
     starts: &[u32],
+    links: &mut Links,
     ends: &mut [u32],
-    next: &mut [u32],
-    before: &mut [u32],
     r: u32,
     last: u32,
 )
     requires in_range { r < length market.now.reviewers }
-    requires made { IsLinkedOf market.now (linking ends.old starts.now next.old before.old) }
+    requires made { IsLinkedOf market.now (linking ends.old starts.now links.old.next.items
+        links.old.before.items) }
     requires last { slice_index ends.old r ≡ last + 1 }
-    ensures made { IsLinkedOf market.now (linking ends.new starts.now next.new before.new) }
+    ensures made { IsLinkedOf market.now (linking ends.new starts.now links.new.next.items
+        links.new.before.items) }
     ensures taken { ends.new ≡ slice_set ends.old r last }
 {
     let p = market.proposer_at(r, last);
     let number = market.reviewer_cross(r, last) + 1;
-    let behind = link_of(starts, next, p, number);
-    let ahead = link_of(starts, before, p, number);
-    set_link(starts, next, p, ahead, behind);
-    set_link(starts, before, p, behind, ahead);
+    let behind = links.behind(starts, p, number);
+    let ahead = links.ahead(starts, p, number);
+    links.join(starts, p, ahead, behind);
     ends[r as usize] = last;
 }
 
 /// The place with a number of a list, `None` for the number behind the list.
 fn place_of_number(number: u32, places: u32) -> Option<u32>
     requires { 0 < number }
-    ensures { MatchOption result (places < number) (λ place. (number ≤ places) × (number ≡ place + 1)) }
+    ensures { MatchOption result (places < number) (λ place. (number ≤ places) × (number ≡ place
+        + 1)) }
 {
     (number <= places).then_some(number - 1)
 }
@@ -215,7 +257,8 @@ fn start_all(market: &Market, starts: &mut [u32]) -> u32
 fn link_all(market: &Market, starts: &[u32], next: &mut [u32], before: &mut [u32])
     requires starts { AreStarts market.now starts.now }
     requires next_each { length next.old ≡ slice_index starts.now (length market.now.proposers) }
-    requires before_each { length before.old ≡ slice_index starts.now (length market.now.proposers) }
+    requires before_each { length before.old
+        ≡ slice_index starts.now (length market.now.proposers) }
     ensures { AreAllLinked market.now starts.now next.new before.new }
 {
     for p in 0..market.proposers() {

@@ -38,9 +38,11 @@ pub struct Reduced {
 pub fn reduced_lists(alloc: Global, market: &Market) -> Result<Reduced, AllocError>
     ensures reduced { IfOk result (λ reduced.
         (first last : Places) → IsProposersBest market.now first → IsReviewersBest market.now last
-        → lists_of reduced.proposers.items reduced.reviewers.items ≡ reduced_lists_of market.now first last) }
+        → lists_of reduced.proposers.items reduced.reviewers.items
+        ≡ reduced_lists_of market.now first last) }
     ensures keeps { IfOk result
-        (λ reduced. KeepsStablePairs market.now (lists_of reduced.proposers.items reduced.reviewers.items)) }
+        (λ reduced. KeepsStablePairs market.now (lists_of reduced.proposers.items
+        reduced.reviewers.items)) }
 {
     let first = proposer_best(alloc, market)?;
     let last = reviewer_best(alloc, market)?;
@@ -67,7 +69,8 @@ pub fn reduced_between(
 ) -> Result<Reduced, AllocError>
     requires first { IsPairingOf market.now first.now }
     requires last { IsPairingOf market.now last.now }
-    ensures reduced { IfOk result (λ reduced. lists_of reduced.proposers.items reduced.reviewers.items
+    ensures reduced { IfOk result (λ reduced. lists_of reduced.proposers.items
+        reduced.reviewers.items
         ≡ reduced_lists_of market.now first.now.places last.now.places) }
     ensures market { OnOk result (IsMarket market.now) }
 {
@@ -81,8 +84,10 @@ pub fn reduced_between(
 
 /// Empty lists, with room for as many agents as each agent of the market lists.
 fn room_for(alloc: Global, market: &Market) -> Result<Reduced, AllocError>
-    ensures proposers { IfOk result (λ reduced. rows_of reduced.proposers.items ≡ replicate (length market.now.proposers) []) }
-    ensures reviewers { IfOk result (λ reduced. rows_of reduced.reviewers.items ≡ replicate (length market.now.reviewers) []) }
+    ensures proposers { IfOk result (λ reduced. rows_of reduced.proposers.items
+        ≡ replicate (length market.now.proposers) []) }
+    ensures reviewers { IfOk result (λ reduced. rows_of reduced.reviewers.items
+        ≡ replicate (length market.now.reviewers) []) }
     ensures market { OnOk result (IsMarket market.now) }
 {
     let mut proposers = Vec::with_capacity(alloc, market.proposers() as usize)?;
@@ -112,7 +117,8 @@ fn fill_proposers(
     requires front { IsFront market.now first.now.places linked.now.ends }
     requires first { IsPairingOf market.now first.now }
     requires last { IsPairingOf market.now last.now }
-    ensures filled { OnOk result (rows_of rows.new ≡ (reduced_lists_of market.now first.now.places last.now.places).proposers) }
+    ensures filled { OnOk result (rows_of rows.new
+        ≡ (reduced_lists_of market.now first.now.places last.now.places).proposers) }
 {
     for p in 0..market.proposers() {
         add_reviewers(&mut rows[p as usize], market, linked, first, last, p)?;
@@ -130,7 +136,8 @@ fn fill_reviewers(
     requires empty { rows_of rows.old ≡ replicate (length market.now.reviewers) [] }
     requires first { IsPairingOf market.now first.now }
     requires last { IsPairingOf market.now last.now }
-    ensures filled { OnOk result (rows_of rows.new ≡ (reduced_lists_of market.now first.now.places last.now.places).reviewers) }
+    ensures filled { OnOk result (rows_of rows.new
+        ≡ (reduced_lists_of market.now first.now.places last.now.places).reviewers) }
 {
     for r in 0..market.reviewers() {
         add_proposers(&mut rows[r as usize], market, first, last, r)?;

@@ -13,6 +13,7 @@ use Rattle.sm_answer.specs.Giving.{HasRest, Gave, IsOver, PutLine, GivesNext, Ar
 use Rattle.sm_answer.specs.Lines.{line_left, line_or_none, lines_from}
 use Rattle.sm_answer.specs.Printing.{IsShown, IsPrinted}
 
+-- the line that is left, if there is one, is given, and then none is left
 pub one_given : (line : Option Line) → GivesNext (λ rest. rest ≡ line_left line) (λ rest. rest ≡ line_left None) (length (line_left line)) (length (line_left None)) (Ok line)
 one_given None = record { none_left = refl; none_more = refl; over = λ rest none. none; no_more = omega arith }
 one_given (Some line) = record { first = λ rest none. ap (λ t. line_of line ∷ t) none; more = record { lines = []; given = refl }; fewer = omega arith }
@@ -23,6 +24,7 @@ one_given (Some line) = record { first = λ rest none. ap (λ t. line_of line �
 pub rest_in_front : {X : Type 0} (P Q : List X → Type 0) → HasRest (AreJoined P Q) → HasRest P
 rest_in_front P Q h = record { lines = h.given.front; given = h.given.in_front }
 
+-- there are lines behind
 pub rest_behind : {X : Type 0} (P Q : List X → Type 0) → HasRest (AreJoined P Q) → HasRest Q
 rest_behind P Q h = record { lines = h.given.back; given = h.given.behind }
 
@@ -117,16 +119,20 @@ lines_passed f a n (Some line) h e none = absurd cc
 
 -- There are lines that an answer of several parts may give.
 
+-- exactly these lines
 pub same_some : {X : Type 0} (xs : List X) → HasRest (λ (rest : List X). rest ≡ xs)
 same_some xs = record { lines = xs; given = refl }
 
+-- where there are lines in front and lines behind, there are both together
 pub joined_some : {X : Type 0} (P Q : List X → Type 0) → HasRest P → HasRest Q → HasRest (AreJoined P Q)
 joined_some P Q p q = record { lines = p.lines ++ q.lines; given = record { front = p.lines; back = q.lines; in_front = p.given; behind = q.given; whole = refl } }
 
+-- where there are lines of the instance, there are their texts
 pub printed_some : (input : Input) (P : List LineData → Type 0) → HasRest P → ((other : List LineData) → P other → All (IsLineOf input) other) → HasRest (IsPrinted input P)
 printed_some input P p sound =
     record { lines = map (text_of_line input) p.lines; given = record { answer = p.lines; is_right = p.given; shows = refl; sound = sound } }
 
+-- what holds of one line holds of each of a list of it
 pub one_all : {X : Type 0} (R : X → Type 0) (x : X) → R x → All R (x ∷ [])
 one_all R x r = All-cons R x [] r (λ k d l. absurd (omega arith))
 
@@ -135,6 +141,7 @@ pub lines_all : (P : LineData → Type 0) (f : ℕ → Option LineData) → ((i 
 lines_all P f each a zero = λ k d l. absurd (omega arith)
 lines_all P f each a (suc n) = All-append P (line_or_none (f a)) (lines_from f (a + 1) n) (each a) (lines_all P f each (a + 1) n)
 
+-- what holds of the lines of each number holds of the lines of all
 pub lines_each : (P : LineData → Type 0) (f : ℕ → Option LineData) (a n : ℕ) → ((i : ℕ) → i < a + n → All P (line_or_none (f i))) → All P (lines_from f a n)
 lines_each P f a zero each = λ k d l. absurd (omega arith)
 lines_each P f a (suc n) each =
@@ -162,18 +169,22 @@ gave_none lines n is = record { none_left = sym is; none_more = sym is; over = �
 
 -- An answer whose parts are lists gives one list.
 
+-- lines that are these are these
 pub same_is : {X : Type 0} (xs : List X) → (rest : List X) → rest ≡ xs → rest ≡ xs
 same_is xs rest is = is
 
+-- where the lines in front are known and those behind, those of both together are
 pub joined_is : {X : Type 0} (P Q : List X → Type 0) (xs ys : List X) → ((rest : List X) → P rest → rest ≡ xs) → ((rest : List X) → Q rest → rest ≡ ys)
     → (rest : List X) → AreJoined P Q rest → rest ≡ xs ++ ys
 joined_is P Q xs ys p q rest j = j.whole ∙ ap (λ t. t ++ j.back) (p j.front j.in_front) ∙ ap (λ t. xs ++ t) (q j.back j.behind)
 
+-- lines that are known and right are shown as right ones
 pub given_right : (input : Input) (P right : List LineData → Type 0) (given : List LineData) → ((rest : List LineData) → P rest → rest ≡ given) → right given
     → (lines : List (List ℕ)) → IsPrinted input P lines → IsShown input right lines
 given_right input P right given all is lines printed =
     record { answer = printed.answer; is_right = subst right (sym (all printed.answer printed.is_right)) is; shows = printed.shows }
 
+-- where the known lines are of the instance, there are their texts
 pub given_some : (input : Input) (P : List LineData → Type 0) (given : List LineData) → HasRest P → ((rest : List LineData) → P rest → rest ≡ given) → All (IsLineOf input) given
     → HasRest (IsPrinted input P)
 given_some input P given some all sound = printed_some input P some (λ other right. subst (All (IsLineOf input)) (sym (all other right)) sound)

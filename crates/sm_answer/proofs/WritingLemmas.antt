@@ -17,6 +17,7 @@ pub record IsWrittenSoFar (all left : List (List ℕ) → Type 0) (before now : 
   pub written : Grows before now (text_of done)
   pub later : f ≤ g
 
+-- before the first line nothing is written
 pub nothing_written : (all : List (List ℕ) → Type 0) (a : Option (List ℕ)) (f : ℕ) → HasRest all → IsWrittenSoFar all all a a f f
 nothing_written all a f more = record { done = []; sound = λ rest given. given; more = more; written = Grows-nil a; later = omega arith }
 

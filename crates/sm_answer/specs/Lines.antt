@@ -10,6 +10,7 @@ abbrev pub line_or_none : Option LineData → List LineData
 line_or_none None = []
 line_or_none (Some line) = line ∷ []
 
+-- the lines of n numbers from a on, of which some have none
 abbrev pub lines_from : (ℕ → Option LineData) → (a n : ℕ) → List LineData
 lines_from line a n = flat_map (λ i. line_or_none (line i)) (range_with_len a n)
 

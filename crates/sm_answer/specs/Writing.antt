@@ -17,6 +17,7 @@ pub record WroteAll (right : List (List ℕ) → Type 0) (before after : Option 
   pub is_right : right lines
   pub written : Grows before after (text_of lines)
 
+-- a front of the text of some right lines was written
 pub record WroteFront (right : List (List ℕ) → Type 0) (before after : Option (List ℕ)) : Type 0 where
   pub lines : List (List ℕ)
   pub is_right : right lines

@@ -22,7 +22,8 @@ pub trait Answer {
     /// `AllocError` where memory ran out, and only then; nothing is said of what is left then.
     fn next(&mut self, alloc: Global) -> Result<Option<Line>, AllocError>
         requires { HasRest (gives self.old) }
-        ensures { GivesNext (gives self.old) (gives self.new) (most self.old) (most self.new) result };
+        ensures { GivesNext (gives self.old) (gives self.new) (most self.old) (most self.new)
+            result };
 }
 
 /// One line, until it is given.

@@ -44,9 +44,11 @@ pub contained : (xs : List ℕ) (x : ℕ) (c : Contains xs x) → slice_index xs
 contained xs x c = sym (get_or_default xs c.0 x 0 c.1) ∙ c.2
 
 module _ {l : Lists} {levels : List (List ℕ)} {first : Places} {rotations : List (List (ℕ × ℕ))} {needs : List (List ℕ)} {moves : List (List (ℕ × ℕ))} (ground : IsGround l levels first rotations needs moves) where
+  -- the board of the market
   abbrev pub board : Board
   board = board_of l levels first rotations needs moves
 
+  -- the place of stay a of p
   abbrev pub place : ℕ → ℕ → ℕ
   place p a = slice_index (places_at l first moves p) a
 

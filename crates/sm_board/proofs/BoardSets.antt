@@ -4,6 +4,7 @@ use Rattle.std.specs.Option.{option_map}
 use Rattle.std.proofs.lemmas.Bool.{false≢true}
 use Rattle.std.proofs.lemmas.List.{get_or_past}
 use Rattle.std.proofs.lemmas.List.FromFn.{get_or-map-range_with_len, length-map-range_with_len}
+use Rattle.std.proofs.lemmas.Option.{none-some}
 use Rattle.sm_market.specs.Lists.{Lists, row}
 use Rattle.sm_market.specs.Matching.{Places, held, standing}
 use Rattle.sm_market.specs.Stable.{IsStable}
@@ -25,9 +26,6 @@ use Rattle.sm_board.specs.BoardOf.{IsGround, IsAllowedStay, IsLeastWithin, Board
 use Rattle.sm_board.proofs.MemberLemmas.{members_few}
 use Rattle.sm_board.proofs.BoardLemmas.{members_are_first}
 use Rattle.sm_board.proofs.BoardBridge.{contained, board, place, all_moves, leave_is, leaves_long, many, levels_long, stay_level_is, stands, movers, place_up, found, is_board}
-
-none_some : {x : ℕ} → ◌≡◌ {A = Option ℕ} None (Some x) → ⊥
-none_some e = grind arith
 
 -- a member is one of the set
 pub member_below : (C : List Bool) (j : ℕ) → IsMember C j → j < length C
@@ -121,7 +119,7 @@ module _ {l : Lists} {levels : List (List ℕ)} {first : Places} {rotations : Li
     -- a level that p has in the matching of a set is that of its stay
     pub has_level : (p L : ℕ) → HasLevel levels (matching_of l first rotations C) p L → (slice_index_or (board ground).matched p false ≡ true) × (level (board ground) C p ≡ L)
     has_level p L w = elim (lt_or_le p (length l.proposers)) [
-      | inr past ↦ absurd (none_some (sym (held_map_past l.proposers (λ p. option_map (λ i. worst_place l rotations C p i (length rotations)) (held first.proposers p)) p past) ∙ w.holds))
+      | inr past ↦ absurd (none-some _ (sym (held_map_past l.proposers (λ p. option_map (λ i. worst_place l rotations C p i (length rotations)) (held first.proposers p)) p past) ∙ w.holds))
       | inl less ↦ (
         matched_is p less ∙ some (held first.proposers p) (sym (held_is p less) ∙ w.holds),
         sym (level_is p less) ∙ ap (slice_index (row levels p)) (standing-some l.proposers (matching_of l first rotations C).proposers p w.place w.holds) ∙ w.at_level,
@@ -129,7 +127,7 @@ module _ {l : Lists} {levels : List (List ℕ)} {first : Places} {rotations : Li
     ]
       where
         some : (o : Option ℕ) → option_map (λ i. worst_place l rotations C p i (length rotations)) o ≡ Some w.place → is_some o ≡ true
-        some None e = absurd (none_some e)
+        some None e = absurd (none-some _ e)
         some (Some i) e = refl
 
     -- and back

@@ -1,11 +1,11 @@
 -- The first positions in an order whose levels the rotations change, and what enters with regard to them.
-use Rattle.std.proofs.Common.{◌≡◌, ℕ, ◌+◌, ◌<◌, ◌≤◌, ◌++◌, ◌∷◌, inl, inr, arith, refl, sym, ap, ◌∙◌, subst, List, [], Bool, true, length, slice_index, set, take}
+use Rattle.std.proofs.Common.{◌≡◌, ℕ, ◌+◌, ◌<◌, ◌≤◌, ◌++◌, ◌∷◌, inl, inr, arith, refl, sym, ap, ◌∙◌, subst, List, [], true, length, slice_index, set, take}
 use Rattle.std.proofs.lemmas.List.{length_push}
 use Rattle.sm_market.specs.Lists.{row}
 use Rattle.sm_lists.proofs.Counting.{Decided, Decided-eq, Decided-lt, Decided-and, search_below, eq_or_ne}
 use Rattle.sm_board.specs.Board.{Board, leave, stay_level, Changes, IsFirstChange}
 use Rattle.sm_theory.specs.ClosedSets.{IsMember}
-use Rattle.sm_board.specs.Courses.{Course, IsCourse, AreFirstFrom, Held, IsHeld, Grows, IsBroken}
+use Rattle.sm_board.specs.Courses.{Course, IsCourse, AreFirstFrom, Held, IsHeld, Grows}
 use Rattle.sm_board.proofs.MemberLemmas.{entered, others_same}
 
 -- whether a rotation changes the level of p is found by a look at each of p's stays
@@ -71,14 +71,3 @@ grows_enter {t} {bar} {h} {k} y course w v less sets logs free = record {
     take-append : (xs ys : List ℕ) → take (length xs) (xs ++ ys) ≡ xs
     take-append [] ys = refl
     take-append (x ∷ xs) ys = ap (λ zs. x ∷ zs) (take-append xs ys)
-
--- a rotation that changes a level before the bar, in a set that has it
-pub broken_at : {t : Course} {bar : ℕ} {C D : List Bool} (y : ℕ) → IsCourse t → bar ≤ length t.order → y < length t.board.needs → slice_index t.first y < bar → IsMember D y → (IsMember C y → ⊥) → IsBroken t bar C D
-broken_at {t} {bar} y course few less early m out = record {
-  rotation = y;
-  member = m;
-  new = out;
-  position = slice_index t.first y;
-  early = omega arith;
-  changes = (course.first_are y less).changes (omega arith);
-}

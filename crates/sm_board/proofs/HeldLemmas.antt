@@ -28,9 +28,11 @@ on_or_off (x ∷ xs) p = elim (eq_or_ne x p) [
     behind ne none zero h = ne
     behind ne none (suc a) h = none a (omega arith)
 
+-- who stands at a place of a list is on it
 pub contains_at : (xs : List ℕ) (a p : ℕ) → a < length xs → slice_index xs a ≡ p → Contains xs p
 contains_at xs a p h e = (a, h, get_or_default xs a p 0 h ∙ e)
 
+-- who is on a list stands at some place
 pub contained_at : (xs : List ℕ) (p : ℕ) (c : Contains xs p) → slice_index xs c.0 ≡ p
 contained_at xs p c = sym (get_or_default xs c.0 p 0 c.1) ∙ c.2
 
@@ -90,6 +92,7 @@ moved_on_more {b} {at} {now} {later} {then} x i L h less at_in now_in w e = reco
     own : (slice_index later p ≡ slice_index at p) × (slice_index then p ≡ slice_index now p)
     own = w.stays p (λ a k. h.movers_once x a i k less)
 
+-- one more proposer of the rotation goes back to the stay before
 pub moved_back_more : {b : Board} {at now later then : List ℕ} (x i L : ℕ) → IsBoard b → i < length (row b.movers x) → let p = slice_index (row b.movers x) i in p < length at → p < length now → 0 < slice_index at p → IsMovedBack b (row b.movers x) i at now later then → L ≡ stay_level b p (slice_index later p - 1) → IsMovedBack b (row b.movers x) (i + 1) at now (set later p (slice_index later p - 1)) (set then p L)
 moved_back_more {b} {at} {now} {later} {then} x i L h less at_in now_in some w e = record {
   at_each = length-set later p (slice_index later p - 1) ∙ w.at_each;

@@ -83,6 +83,7 @@ entered C x h = get_or-set_same C x true false h
 pub others_same : (C : List Bool) (x y : ℕ) → y ≢ x → is_member (set C x true) y ≡ is_member C y
 others_same C x y ne = get_or-set_other C x y true false ne
 
+-- the items of a list are distinct
 abbrev pub Differ : List ℕ → Type 0
 Differ xs = (a c : ℕ) → a < c → c < length xs → slice_index xs a ≢ slice_index xs c
 

@@ -5,8 +5,8 @@ use Rattle.std.proofs.lemmas.List.{get_or-replicate, get_or_past, length-replica
 use Rattle.sm_lists.proofs.Counting.{lt_or_le}
 use Rattle.sm_market.specs.Lists.{row}
 use Rattle.sm_theory.specs.ClosedSets.{IsMember}
-use Rattle.sm_board.specs.Board.{Board, IsClosedIn, stay_level, members_in}
-use Rattle.sm_board.specs.Courses.{Held, IsHeld}
+use Rattle.sm_board.specs.Board.{Board, stay_level, members_in}
+use Rattle.sm_board.specs.Courses.{IsHeld}
 use Rattle.sm_board.proofs.MemberLemmas.{passed}
 
 -- no rotation is a member of a set of none
@@ -38,11 +38,4 @@ nothing_held {b} levels long are = record {
   now_each = long;
   at_is = λ p less. get_or-replicate (length b.leaves) p 0 0 less ∙ sym (none_in (length b.needs) (row b.leaves p));
   now_is = λ p less. are p less ∙ ap (stay_level b p) (sym (none_in (length b.needs) (row b.leaves p)));
-}
-
--- where nothing has entered the set is closed
-pub nothing_closed : {b : Board} {h : Held} → IsHeld b h → h.log ≡ [] → IsClosedIn b h.set
-nothing_closed {b} {h} w e = record {
-  one_each = w.logged.one_each;
-  closed = λ i j m need. let c = w.logged.all j m in absurd (omega (arith, c.1, ap length e));
 }

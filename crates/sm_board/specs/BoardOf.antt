@@ -15,6 +15,7 @@ use Rattle.sm_board.specs.Board.{is_shut, Board, IsBoard, stay, level, stay_leve
 abbrev pub places_at : Lists → Places → List (List (ℕ × ℕ)) → ℕ → List ℕ
 places_at l first moves p = standing l.proposers first.proposers p ∷ map (λ m. m.1) (moves_at moves p)
 
+-- the board of a market with levels, by its first matching, its rotations, and their predecessors and moves
 abbrev pub board_of : Lists → List (List ℕ) → Places → List (List (ℕ × ℕ)) → List (List ℕ) → List (List (ℕ × ℕ)) → Board
 board_of l levels first rotations needs moves = record {
   needs = needs;

@@ -12,6 +12,7 @@ pub record Course : Type 0 where
   pub order : List ℕ
   pub first : List ℕ
 
+-- a sound course: a board, and for each rotation the first position whose level it changes
 pub record IsCourse (t : Course) : Type 0 where
   pub board : IsBoard t.board
   pub few : length t.board.leaves < 2 ^ 32
@@ -34,6 +35,7 @@ pub record Held : Type 0 where
   pub stays : List ℕ
   pub levels : List ℕ
 
+-- the log is that of the set, and the stays and levels are those of its matching
 pub record IsHeld (b : Board) (h : Held) : Type 0 where
   pub logged : IsLogOf b h.log h.set
   pub room : h.room ≡ length b.needs
@@ -73,6 +75,7 @@ pub record IsMovedOn (b : Board) (movers : List ℕ) (i : ℕ) (at now later the
   pub stays : (p : ℕ) → ((a : ℕ) → a < i → slice_index movers a ≢ p)
       → (slice_index later p ≡ slice_index at p) × (slice_index then p ≡ slice_index now p)
 
+-- the first i proposers of a list have gone back to the stay before, and all others stay
 pub record IsMovedBack (b : Board) (movers : List ℕ) (i : ℕ) (at now later then : List ℕ) : Type 0 where
   pub at_each : length later ≡ length at
   pub now_each : length then ≡ length now

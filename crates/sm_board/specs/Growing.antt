@@ -34,6 +34,7 @@ abbrev pub LogGrows : Type 0
 LogGrows = (b : Board) (log : List ℕ) (C : List Bool) (x : ℕ) → IsLogOf b log C → x < length b.needs
     → ¬ IsMember C x → IsLogOf b (log ++ x ∷ []) (set C x true)
 
+-- without the last that entered the log is that of the set without it
 abbrev pub LogFalls : Type 0
 LogFalls = (b : Board) (log : List ℕ) (C : List Bool) (x : ℕ) → IsLogOf b (log ++ x ∷ []) C
     → IsLogOf b log (set C x false)
@@ -59,6 +60,7 @@ abbrev pub ShutLeaveIsIn : Type 0
 ShutLeaveIsIn = (b : Board) (g : Gates) (C D : List Bool) (p : ℕ) → IsBoard b → IsInside C D
     → Fits b g D → p < length b.leaves → ¬ IsOpen g p (stay b C p) → IsMember D (leave b p (stay b C p))
 
+-- so may what ends a stay whose level is too low
 abbrev pub LowLeaveIsIn : Type 0
 LowLeaveIsIn = (b : Board) (C D : List Bool) (p wanted : ℕ) → IsBoard b → IsInside C D → IsClosedIn b D
     → level b C p < wanted → wanted ≤ level b D p → IsMember D (leave b p (stay b C p))
@@ -77,6 +79,7 @@ FreeKeepsLevels = (b : Board) (order : List ℕ) (C D : List Bool) (bar : ℕ) �
     → ((x j : ℕ) → IsMember D x → ¬ IsMember C x → j < bar → ¬ Changes b x (slice_index order j))
     → (j : ℕ) → j < bar → level b D (slice_index order j) ≡ level b C (slice_index order j)
 
+-- where a new member changes a level before position `bar`, some level there is another
 abbrev pub BarredChangesLevels : Type 0
 BarredChangesLevels = (b : Board) (order : List ℕ) (C D : List Bool) (bar x j : ℕ) → IsBoard b
     → IsOrder (length b.leaves) order → bar ≤ length order → IsInside C D → IsClosedIn b C
@@ -97,6 +100,7 @@ pub record IsSought (b : Board) (g : Gates) (C : List Bool) (p wanted : ℕ) (D 
   pub more : IsInside C D
   pub reaches : wanted ≤ level b D p
 
+-- what has been brought in is in each set that is looked for
 abbrev pub IsForced : Board → Gates → List Bool → (p wanted : ℕ) → List Bool → Type 0
 IsForced b g C p wanted now = (D : List Bool) → IsSought b g C p wanted D → IsInside now D
 

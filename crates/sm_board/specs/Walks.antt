@@ -19,6 +19,7 @@ abbrev pub Agrees : Board → (order v : List ℕ) → ℕ → List Bool → Typ
 Agrees b order v t C = (j : ℕ) → j < t
     → level b C (slice_index order j) ≡ slice_index v (slice_index order j)
 
+-- at the first t positions a set has no lower levels than v
 abbrev pub Reaches : Board → (order v : List ℕ) → ℕ → List Bool → Type 0
 Reaches b order v t C = (j : ℕ) → j < t
     → slice_index v (slice_index order j) ≤ level b C (slice_index order j)

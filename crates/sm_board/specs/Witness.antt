@@ -10,9 +10,11 @@ use Rattle.sm_board.specs.Walks.{IsRaised, IsNotRaised, IsWalk, IsFirst, IsNextU
 abbrev pub two_needs : List (List ℕ)
 two_needs = [] ∷ [] ∷ []
 
+-- the moves of the four proposers, each by one rotation to its second place
 abbrev pub two_moves : List (List (ℕ × ℕ))
 two_moves = ((0, 1) ∷ []) ∷ ((0, 1) ∷ []) ∷ ((1, 1) ∷ []) ∷ ((1, 1) ∷ []) ∷ []
 
+-- the board of this market
 abbrev pub two_board : Board
 two_board = record {
   needs = two_needs;
@@ -26,6 +28,7 @@ two_board = record {
 abbrev pub two_forbidden : List (ℕ × ℕ)
 two_forbidden = (0, 2) ∷ []
 
+-- so proposer 0 may have its first stay alone
 abbrev pub two_gates : Gates
 two_gates = record { until = 1 ∷ 2 ∷ 2 ∷ 2 ∷ []; shut = [] }
 

@@ -177,7 +177,8 @@ fn find_first(board: &Board, order: &[u32], first: &mut [u32])
     requires few { length board.now.leaves < 2 ^ 32 }
     requires first_each { length first.old ≡ length board.now.needs }
     ensures first_each { length first.new ≡ length first.old }
-    ensures first_are { (x : ℕ) → x < length board.now.needs → IsFirstChange board.now order.now x (slice_index first.new x) }
+    ensures first_are { (x : ℕ) → x < length board.now.needs → IsFirstChange board.now order.now x
+        (slice_index first.new x) }
 {
     let mut j = order.len();
     first.fill(j as u32);
@@ -194,7 +195,8 @@ fn mark_changes(board: &Board, p: u32, number: u32, first: &mut [u32])
     requires first_each { length first.old ≡ length board.now.needs }
     ensures first_each { length first.new ≡ length first.old }
     ensures marked { (x : ℕ) → Changes board.now x p → slice_index first.new x ≡ number }
-    ensures others { (x : ℕ) → ¬ Changes board.now x p → slice_index first.new x ≡ slice_index first.old x }
+    ensures others { (x : ℕ) → ¬ Changes board.now x p → slice_index first.new x
+        ≡ slice_index first.old x }
 {
     for a in 1..board.stays(p) {
         if board.level(p, a - 1) < board.level(p, a) {

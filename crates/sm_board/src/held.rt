@@ -166,7 +166,8 @@ impl Held {
 fn first_levels(alloc: Global, levels: &[Vec<u32>]) -> Result<Vec<u32>, AllocError>
     requires { (p : ℕ) → p < length levels.now → 0 < length (row (rows_of levels.now) p) }
     ensures level_each { IfOk result (λ first. length first.items ≡ length levels.now) }
-    ensures levels { IfOk result (λ first. (p : ℕ) → p < length levels.now → slice_index first.items p ≡ slice_index (row (rows_of levels.now) p) 0) }
+    ensures levels { IfOk result (λ first. (p : ℕ) → p < length levels.now
+        → slice_index first.items p ≡ slice_index (row (rows_of levels.now) p) 0) }
 {
     let mut first = Vec::with_capacity(alloc, levels.len())?;
     for p in 0..levels.len() {
@@ -182,7 +183,8 @@ fn enter(members: &mut [bool], log: &mut [u32], count: usize, x: u32)
     requires fresh { ¬ IsMember members.now x }
     ensures member { members.new ≡ set members.old x true }
     ensures logged { log.new ≡ set log.old count x }
-    ensures held { (b : Board) → IsLogOf b (take count log.old) members.old → IsLogOf b (take (count + 1) log.new) members.new }
+    ensures held { (b : Board) → IsLogOf b (take count log.old) members.old → IsLogOf b (take (count
+        + 1) log.new) members.new }
 {
     members[x as usize] = true;
     log[count] = x;
@@ -193,7 +195,8 @@ fn leave(members: &mut [bool], log: &[u32], count: usize)
     requires some { count < length log.now }
     requires number { slice_index log.now count < length members.now }
     ensures member { members.new ≡ set members.old (slice_index log.now count) false }
-    ensures held { (b : Board) → IsLogOf b (take (count + 1) log.now) members.old → IsLogOf b (take count log.now) members.new }
+    ensures held { (b : Board) → IsLogOf b (take (count + 1) log.now) members.old
+        → IsLogOf b (take count log.now) members.new }
 {
     members[log[count] as usize] = false;
 }
@@ -204,9 +207,11 @@ fn move_on(board: &Board, x: u32, at: &mut [usize], now: &mut [u32])
     requires number { x < length board.now.needs }
     requires at_each { length at.old ≡ length board.now.leaves }
     requires now_each { length now.old ≡ length board.now.leaves }
-    requires room { (a : ℕ) → a < length (row board.now.movers x) → let p = slice_index (row board.now.movers x) a in
+    requires room { (a : ℕ) → a < length (row board.now.movers x)
+        → let p = slice_index (row board.now.movers x) a in
         slice_index at.old p < length (row board.now.leaves p) }
-    ensures { let movers = row board.now.movers x in IsMovedOn board.now movers (length movers) at.old now.old at.new now.new }
+    ensures { let movers = row board.now.movers x in IsMovedOn board.now movers (length movers)
+        at.old now.old at.new now.new }
 {
     for &p in board.movers(x) {
         let _few = board.stays(p);
@@ -220,9 +225,11 @@ fn move_back(board: &Board, x: u32, at: &mut [usize], now: &mut [u32])
     requires number { x < length board.now.needs }
     requires at_each { length at.old ≡ length board.now.leaves }
     requires now_each { length now.old ≡ length board.now.leaves }
-    requires some { (a : ℕ) → a < length (row board.now.movers x) → let p = slice_index (row board.now.movers x) a in
+    requires some { (a : ℕ) → a < length (row board.now.movers x)
+        → let p = slice_index (row board.now.movers x) a in
         (0 < slice_index at.old p) × (slice_index at.old p ≤ length (row board.now.leaves p)) }
-    ensures { let movers = row board.now.movers x in IsMovedBack board.now movers (length movers) at.old now.old at.new now.new }
+    ensures { let movers = row board.now.movers x in IsMovedBack board.now movers (length movers)
+        at.old now.old at.new now.new }
 {
     for &p in board.movers(x) {
         set_stay(board, p, at[p as usize] - 1, at, now);

@@ -29,7 +29,8 @@ fn firsts(alloc: Global, pairs: &[(u32, u32)]) -> Result<Vec<u32>, AllocError>
 
 /// The proposers that each rotation moves.
 fn movers_of(alloc: Global, rotations: &[Rotation]) -> Result<Vec<Vec<u32>>, AllocError>
-    ensures { IfOk result (λ movers. rows_of movers.items ≡ map (λ rotation. map (λ pair. pair.0) rotation) (rotations_of rotations.now)) }
+    ensures { IfOk result (λ movers. rows_of movers.items
+        ≡ map (λ rotation. map (λ pair. pair.0) rotation) (rotations_of rotations.now)) }
 {
     let mut movers = Vec::with_capacity(alloc, rotations.len())?;
     for rotation in rotations {
@@ -40,7 +41,8 @@ fn movers_of(alloc: Global, rotations: &[Rotation]) -> Result<Vec<Vec<u32>>, All
 
 /// The rotations that move each proposer.
 fn leaves_of(alloc: Global, moves: &[Vec<(u32, u32)>]) -> Result<Vec<Vec<u32>>, AllocError>
-    ensures { IfOk result (λ leaves. rows_of leaves.items ≡ map (λ ms. map (λ m. m.0) ms) (moves_in moves.now)) }
+    ensures { IfOk result (λ leaves. rows_of leaves.items
+        ≡ map (λ ms. map (λ m. m.0) ms) (moves_in moves.now)) }
 {
     let mut leaves = Vec::with_capacity(alloc, moves.len())?;
     for row in moves {
@@ -58,7 +60,8 @@ fn levels_at(
 ) -> Result<Vec<u32>, AllocError>
     requires first { first < length levels.now }
     requires places { (a : ℕ) → a < length moves.now → place_to moves.now a < length levels.now }
-    ensures { IfOk result (λ at. at.items ≡ map (λ i. slice_index levels.now i) (first ∷ map (λ m. m.1) moves.now)) }
+    ensures { IfOk result (λ at. at.items ≡ map (λ i. slice_index levels.now i) (first ∷ map
+        (λ m. m.1) moves.now)) }
 {
     let mut at = Vec::with_capacity(alloc, moves.len() + 1)?;
     at.push(levels[first as usize])?;
@@ -71,7 +74,8 @@ fn levels_at(
 /// For each proposer whether it is matched.
 fn matched(alloc: Global, poset: &Poset) -> Result<Vec<bool>, AllocError>
     ensures { IfOk result (λ matched. matched.items
-        ≡ map (λ p. is_some (held poset.now.first.places.proposers p)) (agents poset.now.lists.proposers)) }
+        ≡ map (λ p. is_some (held poset.now.first.places.proposers p))
+        (agents poset.now.lists.proposers)) }
 {
     let first = &poset.chain().first;
     let proposers = poset.market().proposers();
@@ -90,7 +94,8 @@ fn stay_levels(
     moves: &[Vec<(u32, u32)>],
 ) -> Result<Vec<Vec<u32>>, AllocError>
     requires levels { AreLevels poset.now.lists (rows_of levels.now) }
-    requires moves { AreMoves poset.now.lists poset.now.rotations (length poset.now.rotations) (moves_in moves.now) }
+    requires moves { AreMoves poset.now.lists poset.now.rotations (length poset.now.rotations)
+        (moves_in moves.now) }
     ensures { IfOk result (λ made. rows_of made.items ≡ map
         (λ p. map (λ i. slice_index (row (rows_of levels.now) p) i)
         (places_at poset.now.lists poset.now.first.places (moves_in moves.now) p))

@@ -2,15 +2,15 @@
 use Rattle.std.proofs.Common.{◌≡◌, ◌≢◌, ℕ, ◌+◌, ◌==◌, arith, refl, Bool, true, false, cond, eq-eqb, ne_eqb}
 use Rattle.sm_flow.specs.Flowing.{at_node}
 
-pub at_here : (v n : ℕ) → at_node v v n ≡ n
-at_here v n = rw (eq-eqb v v refl) refl
-
+-- the same where the node is v by an equation
 pub at_same : (v w n : ℕ) → w ≡ v → at_node v w n ≡ n
 at_same v w n e = rw (eq-eqb w v e) refl
 
+-- an amount at another node counts nothing
 pub at_other : (v w n : ℕ) → w ≢ v → at_node v w n ≡ 0
 at_other v w n e = rw (ne_eqb w v e) refl
 
+-- a sum counts as the sum of what its parts count
 pub at_plus : (v w m n : ℕ) → at_node v w (m + n) ≡ at_node v w m + at_node v w n
 at_plus v w m n = go (w == v)
   where
@@ -18,6 +18,7 @@ at_plus v w m n = go (w == v)
     go true = refl
     go false = omega arith
 
+-- nothing counts nothing
 pub at_none : (v w : ℕ) → at_node v w 0 ≡ 0
 at_none v w = go (w == v)
   where

@@ -122,6 +122,7 @@ first_two_cut = record {
   bounded = λ e h u i. absurd (false≢true (ap (is_in first_two) (sym (unbounded_from e h u)) ∙ i));
 }
 
+-- the maximum flow of the small net is as said
 pub maximum_is : HasMaximumFlow
 maximum_is = (
   net_is,
@@ -137,6 +138,7 @@ maximum_is = (
   },
 )
 
+-- the flows that are no maximum ones, and those that are none, are as said
 pub others_are : OthersAreNone
 others_are = (
   record { one_each = refl; within = zeros_within; conserved = zeros_conserved; carries = refl },
@@ -155,6 +157,7 @@ others_are = (
       );
     })
 
+-- the paths of unbounded edges are as said
 pub unbounded_is : HasUnboundedPath
 unbounded_is = (
   record { path = 3 ∷ []; all = refl; is = (record { edge = 3; in_range = omega arith; begins = refl; ends = refl; unbounded = refl }, refl) },

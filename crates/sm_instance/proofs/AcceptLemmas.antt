@@ -25,6 +25,7 @@ cross_some agents a b i h =
     let x = some_pick (ltb (place_of agents a b) (length (row agents a))) (place_of agents a b) i h in
     (x.1, grind (arith, nat_tests, x.0))
 
+-- who has no cross place on a's list isn't on it
 pub cross_none : (agents : List AgentData) (a b : ℕ) → (let none : Option ℕ = None in cross_place agents a b ≡ none) → length (row agents a) ≤ place_of agents a b
 cross_none agents a b h = ⊎_elim (λ l. absurd (let on : ltb (place_of agents a b) (length (row agents a)) ≡ true = grind (arith, nat_tests) in let e = ap (λ t. cond t (Some (place_of agents a b)) None) on in cc)) (λ g. g) (cases_lt (place_of agents a b) (length (row agents a)))
 
@@ -57,6 +58,7 @@ pub accepts_at : {w : Written} → IsInstance w → (p i k : ℕ) → i < length
 accepts_at {w} inst p i k on c =
     record { proposer_lists = place_on-lt (row w.proposers p) (entry w.proposers p i) i on refl; reviewer_lists = (cross_some w.reviewers (entry w.proposers p i) p k (sym c)).1 }
 
+-- a reviewer whom p lists, and who doesn't list p, isn't acceptable to p
 pub one_sided_at : (w : Written) (p i : ℕ) → (let none : Option ℕ = None in none ≡ cross_place w.reviewers (entry w.proposers p i) p) → IsAcceptable w p (entry w.proposers p i) → ⊥
 one_sided_at w p i c a = let le = cross_none w.reviewers (entry w.proposers p i) p (sym c) in let lt = a.reviewer_lists in omega arith
 
@@ -65,13 +67,16 @@ pub held_on : {w : Written} {places : List (Option ℕ)} → IsAssignment w plac
 held_on assigned p None h = tt
 held_on assigned p (Some i) h = assigned.on_lists p i (sym h)
 
+-- an option that has something has some item
 pub is_none_not : (o : Option ℕ) → is_some o ≡ true → (k : ℕ) × (o ≡ Some k)
 is_none_not None h = cc
 is_none_not (Some k) h = (k, refl)
 
+-- what is less passes the test of being less
 pub lt_true : (a b : ℕ) → a < b → ltb a b ≡ true
 lt_true a b l = grind (arith, nat_tests)
 
+-- what passes it is less
 pub true_lt : (a b : ℕ) → ltb a b ≡ true → a < b
 true_lt a b h = grind (arith, nat_tests, h)
 

@@ -13,6 +13,7 @@ use Rattle.sm_instance.specs.Sound.{entries_of}
 use Rattle.sm_instance.specs.Vectors.{agent_of, agents_of}
 use Rattle.sm_instance.proofs.ListLemmas.{get_or-names, length-names}
 
+-- as plain data there are as many agents
 pub length-agents : (agents : List Agent) → length (agents_of agents) ≡ length agents
 length-agents agents = length-map agents agent_of
 
@@ -27,6 +28,7 @@ entries_more agents i agent below here =
     sum_by_more (λ (x : AgentData). length x.entries) (agents_of agents) i no_agent (omega (arith, length-agents agents))
     ∙ ap (λ (x : AgentData). entries_of (take i (agents_of agents)) + length x.entries) (agent_here agents i agent below here)
 
+-- the first agents have no more entries than all
 pub entries_front : (agents : List Agent) (i : ℕ) → entries_of (take i (agents_of agents)) ≤ entries_of (agents_of agents)
 entries_front agents i = sum_by-take-le (λ (x : AgentData). length x.entries) (agents_of agents) i
 

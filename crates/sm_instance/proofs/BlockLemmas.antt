@@ -39,6 +39,7 @@ blocking_named {w} {places} {r} {all} named e le none q before h =
     (λ g. let lt = before n.at g n.there in let by = n.by in omega arith)
     (cases_lt n.at e)
 
+-- where no earlier naming of r blocks and this one does, it is the first that blocks with r
 pub first_at : {w : Written} {places : List (Option ℕ)} {r : ℕ} {all : List Naming} → IsInstance w → AreNamingsOf w.proposers r all → (e : ℕ) → e < length all → ((f : ℕ) → f < e → ¬ Blocks w places (naming_at all f).by r)
     → Blocks w places (naming_at all e).by (entry w.proposers (naming_at all e).by (naming_at all e).place) → IsFirstAt w places r (naming_at all e)
 first_at {w} {places} {r} {all} inst named e l none h =
@@ -49,13 +50,9 @@ first_at {w} {places} {r} {all} inst named e l none h =
       earlier = λ q lt. blocking_named named e (omega arith) none q (λ f ge inside. ⊎_elim (λ less. let up = named.rising e f less inside in omega arith) (λ past. let same : e ≡ f = omega arith in let s = ap (λ g. (naming_at all g).by) same in omega arith) (cases_lt e f));
     }
 
+-- where none of the namings of r blocks, nobody blocks with r
 pub none_at : {w : Written} {places : List (Option ℕ)} {r : ℕ} {all : List Naming} → AreNamingsOf w.proposers r all → (e : ℕ) → length all ≡ e → ((f : ℕ) → f < e → ¬ Blocks w places (naming_at all f).by r) → (q : ℕ) → ¬ Blocks w places q r
 none_at named e whole none q = blocking_named named e (omega arith) none q (λ f ge inside. absurd (omega arith))
-
--- two agents that stand at one place of a list are one
-same_reviewer : {w : Written} {places : List (Option ℕ)} {p r s : ℕ} → Blocks w places p r → Blocks w places p s → place_of w.proposers p r ≡ place_of w.proposers p s → r ≡ s
-same_reviewer {w} {places} {p} {r} {s} a b same =
-    sym (get_or-place_on (row w.proposers p) r a.acceptable.proposer_lists) ∙ ap (entry w.proposers p) same ∙ get_or-place_on (row w.proposers p) s b.acceptable.proposer_lists
 
 -- the order of pairs
 sooner_true : (n m : Naming) → is_sooner n m ≡ true → (n.by < m.by) ⊎ ((n.by ≡ m.by) × (n.place < m.place))
@@ -90,6 +87,7 @@ module _ (w : Written) (places : List (Option ℕ)) (r : ℕ) where
         earlier_places = λ s l lt b. ⊎_elim (λ less. here s less lt b) (λ ge. let same : s ≡ r = omega arith in let at = ap (place_of w.proposers n.by) same in let e = h.at in absurd (omega arith)) (cases_lt s r);
       }
 
+  -- one more reviewer: the sooner of the pair found so far and of its own
   pub first_more : (a b : Option Naming) → IsFirstBelow w places r a → MatchOption b ((p : ℕ) → ¬ Blocks w places p r) (λ n. IsFirstAt w places r n) → IsFirstBelow w places (r + 1) (sooner_of a b)
   first_more None None h k = λ p s l b. ⊎_elim (λ less. h p s less b) (λ ge. let same : s ≡ r = omega arith in k p (let Q : ℕ → Type 0 = λ t. Blocks w places p t in subst Q same b)) (cases_lt s r)
   first_more None (Some n) h k = takes_first n k (λ q s l lt. h q s l) (λ s l lt. h n.by s l)
@@ -109,6 +107,7 @@ module _ (w : Written) (places : List (Option ℕ)) (r : ℕ) where
           (λ x. let same = x.0 in let le = x.1 in let at = k.at in let there = ap (λ p. place_of w.proposers p r) same in absurd (omega arith))
           (sooner_false n m e))
 
+-- once all reviewers are asked, the pair that was found is the first that blocks; without one the matching is stable
 pub first_end : {w : Written} {places : List (Option ℕ)} → IsInstance w → IsMatching w places → (o : Option Naming) → IsFirstBelow w places (length w.reviewers) o
     → MatchOption o (IsStable w places) (λ n. IsFirstBlocking w places n.by (entry w.proposers n.by n.place))
 first_end {w} {places} inst matching None h = record { matching = matching; unblocked = λ p r b. h p r (reviewer_below inst b) b }

@@ -25,6 +25,7 @@ first_merge P Q (Some p) (Some q) h k =
     (λ g. let e : q ≡ min p q = omega arith in subst R e (inr k.0, λ r lt. ⊎_elim (h.1 r (omega arith)) (k.1 r lt)))
     (cases_lt p q)
 
+-- the first of one kind is the first of another that holds of the same numbers
 pub first_along : (P Q : ℕ → Type 0) → ((p : ℕ) → P p → Q p) → ((p : ℕ) → Q p → P p) → (o : Option ℕ) → IsFirstOf P o → IsFirstOf Q o
 first_along P Q to from None h = λ p q. h p (from p q)
 first_along P Q to from (Some p) h = (to p h.0, λ q l x. h.1 q l (from q x))
@@ -89,6 +90,7 @@ module _ {w : Written} {places : List (Option ℕ)} (i : IsInstance w) (assigned
       (λ full. inr (record { reviewer = entry w.proposers p b.at; below = entry_in_range p b.at b.holds; overfull = record { at = b.at; holds = b.holds; there = refl; full = full } }))
       b.cause
 
+  -- once all reviewers are asked, what was found is the first breach; without one it is a matching
   pub breach_end : (o : Option ℕ) → IsFirstOf (λ p. IsUnacceptable w places p ⊎ IsOverfullBelow w places (length w.reviewers) p) o
       → MatchOption o (IsMatching w places) (λ p. IsFirstBreach w places p)
   breach_end None h =
@@ -109,6 +111,7 @@ breach_more w places r a b h k =
     (λ g. let same : x.reviewer ≡ r = (let l = x.below in omega arith) in inr (let Q : ℕ → Type 0 = λ s. IsOverfull w places s p in subst Q same x.overfull)) (cases_lt x.reviewer r)))
     (earlier_of a b) (first_merge (λ p. IsUnacceptable w places p ⊎ IsOverfullBelow w places r p) (IsOverfull w places r) a b h k)
 
+-- before any reviewer is asked, who can't be where it is holds an unacceptable place
 pub breach_start : (w : Written) (places : List (Option ℕ)) (a : Option ℕ) → IsFirstOf (IsUnacceptable w places) a → IsFirstOf (λ p. IsUnacceptable w places p ⊎ IsOverfullBelow w places 0 p) a
 breach_start w places a h = first_along (IsUnacceptable w places) (λ p. IsUnacceptable w places p ⊎ IsOverfullBelow w places 0 p) (λ p u. inl u) (λ p. ⊎_elim (λ u. u) (λ x. absurd (let l = x.below in omega arith))) a h
 
@@ -116,6 +119,7 @@ breach_start w places a h = first_along (IsUnacceptable w places) (λ p. IsUnacc
 pub accepted : {w : Written} {places : List (Option ℕ)} (p at : ℕ) → held places p ≡ Some at → IsAcceptable w p (entry w.proposers p at) → ¬ IsUnacceptable w places p
 accepted {w} p at h a u = let same : at ≡ u.at = (let e = u.holds in cc) in u.one_sided (subst (λ i. IsAcceptable w p (entry w.proposers p i)) same a)
 
+-- who is unmatched holds no unacceptable place
 pub unmatched : {w : Written} {places : List (Option ℕ)} (p : ℕ) → (let none : Option ℕ = None in held places p ≡ none) → ¬ IsUnacceptable w places p
 unmatched p h u = let e = u.holds in cc
 
@@ -125,6 +129,7 @@ module _ {w : Written} {places : List (Option ℕ)} {r : ℕ} {all : List Naming
   rising_ge zero l = omega arith
   rising_ge (suc e) l = let up = named.rising e (suc e) (omega arith) l in let ge = rising_ge e (omega arith) in omega arith
 
+  -- nobody is named by more agents than there may be
   pub few_named : (e : ℕ) → e < length all → e < most_agents
   few_named e l = let ge = rising_ge e l in let lt = row_in_range w.proposers (naming_at all e).by (naming_at all e).place (named.on_list e l) in let few = i.limits.proposers in omega arith
 
@@ -137,6 +142,7 @@ module _ {w : Written} {places : List (Option ℕ)} {r : ℕ} {all : List Naming
         λ q lt o. overfull_passes o (naming_at all e).by lt (omega arith),
       )
 
+  -- where no more proposers are counted at r than its capacity, none is too many
   pub overfull_none : {e count : ℕ} → IsCounted w places r all e count → length all ≡ e → count ≤ capacity_of w.reviewers r → (q : ℕ) → ¬ IsOverfull w places r q
   overfull_none {e} {count} c whole within q o =
       let whole_load = counted_end assigned i.proposer_entries named c whole in
@@ -154,6 +160,7 @@ module _ {w : Written} {places : List (Option ℕ)} {r : ℕ} {all : List Naming
         attained = λ p lt. ⊎_elim (λ less. s.attained p less) (λ ge. record { other = (naming_at all e).by; at = (naming_at all e).place; holds = h; there = there; worse = omega arith }) (cases_lt (place_of w.reviewers r p) worst);
       }
 
+  -- a naming by a proposer that isn't at r leaves the worst as it is
   pub worst_skip : {e worst : ℕ} → IsWorstSoFar w places r all e worst → (held places (naming_at all e).by ≡ Some (naming_at all e).place → ⊥) → IsWorstSoFar w places r all (e + 1) worst
   worst_skip {e} {worst} s none =
       record {
@@ -162,6 +169,7 @@ module _ {w : Written} {places : List (Option ℕ)} {r : ℕ} {all : List Naming
         attained = s.attained;
       }
 
+  -- the worst of all namings is the worst of the proposers of r
   pub worst_end : {e worst : ℕ} → IsWorstSoFar w places r all e worst → length all ≡ e → IsWorst w places r worst
   worst_end {e} {worst} s whole =
       record {
@@ -175,6 +183,7 @@ module _ {w : Written} {places : List (Option ℕ)} {r : ℕ} {all : List Naming
         attained = s.attained;
       }
 
+-- before any naming is asked the worst place is the first
 pub worst_start : (w : Written) (places : List (Option ℕ)) (r : ℕ) (all : List Naming) → IsWorstSoFar w places r all 0 0
 worst_start w places r all = record { above = λ f lt. absurd (omega arith); attained = λ p lt. absurd (omega arith) }
 

@@ -37,6 +37,7 @@ lists_within agents few short =
     let sum = sum_by-lists_of agents in
     record { agents = omega arith; entries = omega arith }
 
+-- sound lists are no longer than a side may have agents
 pub lists_short : {agents : List AgentData} {others : ℕ} → AreSoundEntries agents others → length agents ≤ most_agents → others ≤ most_agents → AreShort (lists_of agents) most_agents
 lists_short {agents} sound few fit =
     let long = length-map agents (λ (x : AgentData). x.entries) in
@@ -110,6 +111,7 @@ of_known {agents} {others} {r} all sound m =
           record { at = w.at; there = let l = w.there in omega arith; by = ap (λ (y : Known). y.by) (sym (read w.at)) ∙ w.by; place = ap (λ (y : Known). y.place) (sym (read w.at)) ∙ w.place };
     }
 
+-- the namings of plain lists are those of the agents
 pub namings_known : {agents : List AgentData} {others : ℕ} (vectors : List (Vec Naming Global)) → AreSoundEntries agents others
     → AreKnown (lists_of agents) others (length (lists_of agents)) 0 (held_in (λ (n : Naming). record { by = n.by; place = n.place }) vectors) → AreNamings agents others (namings_of vectors)
 namings_known {agents} {others} vectors sound n =

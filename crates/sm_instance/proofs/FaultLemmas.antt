@@ -13,6 +13,7 @@ pub on_err : {T E : Type 0} (P : E → Type 0) (e : E) (r : Result T E) → IsEr
 on_err P e (Ok x) h k = absurd h
 on_err P e (Err f) h k = subst P (sym h) k
 
+-- the first weight that isn't sound is the first item that isn't
 pub weights_faulty : (weights : List (ℕ × ℕ × ℤ)) (forced forbidden : List (ℕ × ℕ)) (p r : ℕ) (f : InstanceFault) → IsItemFault p r weights (map weighed weights) f → IsItemFault p r weights (items_of weights forced forbidden) f
 weights_faulty weights forced forbidden p r TooMany h = h
 weights_faulty weights forced forbidden p r (BadAgent side a) h = h

@@ -18,6 +18,7 @@ same_pair (a, b) (c, d) h = join a b c d (eqb a c) refl h
     join a b c d true e h = let f = eqb-true a c e in let g = eqb-true b d h in cc
     join a b c d false e h = cc
 
+-- equal pairs pass the test of being one
 pub pair_same : (x y : ℕ × ℕ) → x ≡ y → is_same_pair x y ≡ true
 pair_same (a, b) (c, d) h = let f : a ≡ c = ap (λ (z : ℕ × ℕ). z.0) h in let g : b ≡ d = ap (λ (z : ℕ × ℕ). z.1) h in let e = eq-eqb a c f in let e' = eq-eqb b d g in rw (e, e') refl
 
@@ -50,13 +51,16 @@ pair_is_new all n pairs pair below told is fresh = by_test (list_any (is_same_pa
     by_test true among = absurd (stale_pair all n pairs pair below told is among fresh)
     by_test false _ = refl
 
+-- the first n pairs and the next are the first n + 1
 pub pairs_more : (all : List (ℕ × ℕ)) (n : ℕ) (pairs : List (ℕ × ℕ)) (pair : ℕ × ℕ) → n < length all → pairs ≡ take n all → pair ≡ pair_at all n → pairs ++ pair ∷ [] ≡ take (n + 1) all
 pairs_more all n pairs pair below told is =
     ap (λ t. t ++ pair ∷ []) told ∙ ap (λ t. take n all ++ t ∷ []) is ∙ sym (take_more all n (0, 0) below)
 
+-- there are as many weighed pairs as weights
 pub length-weighed : (weights : List (ℕ × ℕ × ℤ)) → length (map weighed weights) ≡ length weights
 length-weighed weights = length-map weights weighed
 
+-- weighed pair n is the pair of weight n
 pub pair_at-weighed : (weights : List (ℕ × ℕ × ℤ)) (n : ℕ) → n < length weights → pair_at (map weighed weights) n ≡ weighed (get_or weights n (0, 0, pos 0))
 pair_at-weighed weights n l = get_or-map weighed weights n (0, 0, pos 0) (0, 0) l
 
@@ -64,26 +68,31 @@ module _ (weights : List (ℕ × ℕ × ℤ)) (forced forbidden : List (ℕ × �
   items : List (ℕ × ℕ)
   items = items_of weights forced forbidden
 
+  -- there are as many items as weights and forced and forbidden pairs
   pub length-items : length (items_of weights forced forbidden) ≡ length weights + length forced + length forbidden
   length-items = length-append (map weighed weights ++ forced) forbidden ∙ ap (λ n. n + length forbidden) (length-append (map weighed weights) forced ∙ ap (λ n. n + length forced) (length-weighed weights))
 
+  -- the first items are the weighed pairs
   pub item_first : (n : ℕ) → n < length weights → pair_at (items_of weights forced forbidden) n ≡ pair_at (map weighed weights) n
   item_first n l =
       let long = length-weighed weights in let more = length-append (map weighed weights) forced in
       get_or_append_left (map weighed weights ++ forced) forbidden (0, 0) n (omega arith) ∙ get_or_append_left (map weighed weights) forced (0, 0) n (omega arith)
 
+  -- behind them stand the forced pairs
   pub item_second : (j : ℕ) → j < length forced → pair_at (items_of weights forced forbidden) (length weights + j) ≡ pair_at forced j
   item_second j l =
       let long = length-weighed weights in let more = length-append (map weighed weights) forced in
       get_or_append_left (map weighed weights ++ forced) forbidden (0, 0) (length weights + j) (omega arith)
       ∙ ap (λ n. get_or (map weighed weights ++ forced) (n + j) (0, 0)) (sym long) ∙ get_or-append-add (map weighed weights) forced j (0, 0)
 
+  -- and behind these the forbidden ones
   pub item_third : (j : ℕ) → pair_at (items_of weights forced forbidden) (length weights + length forced + j) ≡ pair_at forbidden j
   item_third j =
       let long : length weights + length forced ≡ length (map weighed weights ++ forced) = sym (length-append (map weighed weights) forced ∙ ap (λ n. n + length forced) (length-weighed weights)) in
       ap (λ n. get_or (items_of weights forced forbidden) (n + j) (0, 0)) long ∙ get_or-append-add (map weighed weights ++ forced) forbidden j (0, 0)
 
   module _ (p r : ℕ) where
+    -- what is sound among the weights is sound among the items
     pub sound_first : (n : ℕ) → n < length weights → IsSoundItem p r weights (map weighed weights) n → IsSoundItem p r weights (items_of weights forced forbidden) n
     sound_first n l s = record {
       pair = subst (IsPairOf p r) (sym (item_first n l)) s.pair;
@@ -91,6 +100,7 @@ module _ (weights : List (ℕ × ℕ × ℤ)) (forced forbidden : List (ℕ × �
       fresh = λ lt k before same. s.fresh lt k before (sym (item_first k (omega arith)) ∙ same ∙ item_first n l);
     }
 
+    -- and the other way round
     pub first_sound : (n : ℕ) → n < length weights → IsSoundItem p r weights (items_of weights forced forbidden) n → IsSoundItem p r weights (map weighed weights) n
     first_sound n l s = record {
       pair = subst (IsPairOf p r) (item_first n l) s.pair;
@@ -110,6 +120,7 @@ module _ (weights : List (ℕ × ℕ × ℤ)) (forced forbidden : List (ℕ × �
         sound_past n ge (subst (IsPairOf p r) (sym (item_second (n - length weights) (omega arith)) ∙ ap (pair_at (items_of weights forced forbidden)) at) (fs (n - length weights) (omega arith))))
         (cases_lt n (length weights))
 
+    -- where weights and forced pairs are sound, so are all items up to the first forbidden pair that isn't
     pub sound_forbidden : ((n : ℕ) → n < length weights → IsSoundItem p r weights (map weighed weights) n) → ((k : ℕ) → k < length forced → IsPairOf p r (pair_at forced k)) → (j : ℕ) → ((k : ℕ) → k < j → IsPairOf p r (pair_at forbidden k))
         → (n : ℕ) → n < length weights + length forced + j → IsSoundItem p r weights (items_of weights forced forbidden) n
     sound_forbidden ws fs j bs n l =
@@ -125,11 +136,13 @@ module _ (weights : List (ℕ × ℕ × ℤ)) (forced forbidden : List (ℕ × �
         let inside : n < length weights = omega arith in
         record { there = omega arith; bad = λ s. b.bad (first_sound n inside s); earlier = λ k l. sound_first k (omega arith) (b.earlier k l) }
 
+    -- the first bad forced pair is the first bad item where all weights are sound
     pub bad_forced : ((n : ℕ) → n < length weights → IsSoundItem p r weights (map weighed weights) n) → (j : ℕ) → IsFirstBadPair p r forced j → IsFirstBadItem p r weights (items_of weights forced forbidden) (length weights + j)
     bad_forced ws j b =
         let all = length-items in let there = b.there in
         record { there = omega arith; bad = λ s. b.bad (subst (IsPairOf p r) (item_second j there) s.pair); earlier = sound_forced ws j (omega arith) b.earlier }
 
+    -- the first bad forbidden pair is the first bad item where the weights and the forced pairs are sound
     pub bad_forbidden : ((n : ℕ) → n < length weights → IsSoundItem p r weights (map weighed weights) n) → ((k : ℕ) → k < length forced → IsPairOf p r (pair_at forced k)) → (j : ℕ) → IsFirstBadPair p r forbidden j
         → IsFirstBadItem p r weights (items_of weights forced forbidden) (length weights + length forced + j)
     bad_forbidden ws fs j b =
@@ -142,6 +155,7 @@ forced_in_range {w} i n l =
     let all = length-items w.weights w.forced w.forbidden in
     subst (IsPairOf (length w.proposers) (length w.reviewers)) (item_second w.weights w.forced w.forbidden n l) (i.items (length w.weights + n) (omega arith)).pair
 
+-- the forbidden pairs of an instance are of its agents
 pub forbidden_in_range : {w : Written} → IsInstance w → (n : ℕ) → n < length w.forbidden → IsPairOf (length w.proposers) (length w.reviewers) (pair_at w.forbidden n)
 forbidden_in_range {w} i n l =
     let all = length-items w.weights w.forced w.forbidden in

@@ -22,9 +22,11 @@ load_more w places k r =
     let one : ℕ → ℕ = λ q. cond (is_at w places q r) 1 0 in
     ap sum (map-range_with_len_more one 0 k k (omega arith)) ∙ sum_push (map one (range_with_len 0 k)) (one k)
 
+-- a proposer at r adds one to its load
 pub load_more_yes : (w : Written) (places : List (Option ℕ)) (k r : ℕ) → is_at w places k r ≡ true → load_before w places (k + 1) r ≡ load_before w places k r + 1
 load_more_yes w places k r at = load_more w places k r ∙ ap (λ b. load_before w places k r + cond b 1 0) at
 
+-- another proposer adds nothing
 pub load_more_no : (w : Written) (places : List (Option ℕ)) (k r : ℕ) → is_at w places k r ≡ false → load_before w places (k + 1) r ≡ load_before w places k r
 load_more_no w places k r at = load_more w places k r ∙ ap (λ b. load_before w places k r + cond b 1 0) at ∙ (let e : load_before w places k r + 0 ≡ load_before w places k r = omega arith in e)
 
@@ -49,6 +51,7 @@ pub place_at : (w : Written) (p r : ℕ) (o : Option ℕ) → leads_to w p r o �
 place_at w p r None h = cc
 place_at w p r (Some i) h = (i, refl, eqb-true _ _ h)
 
+-- who holds the place of r on its list is at r
 pub at_place : (w : Written) (places : List (Option ℕ)) (p r i : ℕ) → held places p ≡ Some i → entry w.proposers p i ≡ r → is_at w places p r ≡ true
 at_place w places p r i h there = ap (leads_to w p r) h ∙ eq-eqb _ _ there
 
@@ -91,6 +94,7 @@ module _ {w : Written} {places : List (Option ℕ)} {r : ℕ} {all : List Naming
       (λ no. no)
       (test_cases (is_at w places q r))
 
+  -- before any naming nobody is counted
   pub counted_start : IsCounted w places r all 0 0
   counted_start = record { is = λ k before behind. load_same w places r 0 k (omega arith) (none_between 0 k (λ f l. inr (behind f (omega arith) l))) }
 
@@ -111,6 +115,7 @@ module _ {w : Written} {places : List (Option ℕ)} {r : ℕ} {all : List Naming
       (λ ge. inr (behind f ge inside))
       (cases_lt f (e + 1))))
 
+  -- a naming by a proposer that is there counts
   pub counted_yes : {e count : ℕ} → IsCounted w places r all e count → e < length all → held places (naming_at all e).by ≡ Some (naming_at all e).place → IsCounted w places r all (e + 1) (count + 1)
   counted_yes {e} {count} c l h =
       record {
@@ -119,6 +124,7 @@ module _ {w : Written} {places : List (Option ℕ)} {r : ℕ} {all : List Naming
             ∙ ap (λ n. n + 1) (load_next c l);
       }
 
+  -- another naming doesn't count
   pub counted_no : {e count : ℕ} → IsCounted w places r all e count → e < length all → (held places (naming_at all e).by ≡ Some (naming_at all e).place → ⊥) → IsCounted w places r all (e + 1) count
   counted_no {e} {count} c l h =
       record {
@@ -130,5 +136,6 @@ module _ {w : Written} {places : List (Option ℕ)} {r : ℕ} {all : List Naming
   by_in_range : (f : ℕ) → f < length all → (naming_at all f).by < length w.proposers
   by_in_range f l = row_in_range w.proposers (naming_at all f).by (naming_at all f).place (named.on_list f l)
 
+  -- what is counted over all namings of r is its load
   pub counted_end : {e count : ℕ} → IsCounted w places r all e count → length all ≡ e → load w places r ≡ count
   counted_end {e} {count} c whole = c.is (length w.proposers) (λ f l. by_in_range f (omega arith)) (λ f le l. absurd (omega arith))

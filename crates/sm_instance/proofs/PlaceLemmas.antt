@@ -28,5 +28,6 @@ place_of-entry {agents} sound a b i h e = place_on_is (row agents a) b i h e (λ
 pub place_found : {agents : List AgentData} {others : ℕ} → AreSoundEntries agents others → (a b i : ℕ) → i < length (row agents a) → entry agents a i ≡ b → Some i ≡ cross_place agents a b
 place_found {agents} sound a b i on there = let place : place_of agents a b ≡ i = place_of-entry sound a b i on there in grind (arith, nat_tests)
 
+-- who is at no place of a's list has no cross place there
 pub place_missing : (agents : List AgentData) (a b : ℕ) → ((i : ℕ) → i < length (row agents a) → entry agents a i ≢ b) → let none : Option ℕ = None in none ≡ cross_place agents a b
 place_missing agents a b unlisted = let place : place_of agents a b ≡ length (row agents a) = place_on-none (row agents a) b unlisted in grind (arith, nat_tests)

@@ -122,12 +122,15 @@ worse_resident_blocks_is = (
   λ a. a.forbidden 0 (0, 0) (omega arith) refl,
 )
 
+-- the assignments that are said to be no matchings are none
 pub no_matchings_are : NoMatchings
 no_matchings_are = ((λ m. let a = m.acceptable 2 1 refl in omega (arith, a.reviewer_lists)), (λ m. omega (arith, m.within 0)))
 
+-- an inert entry counts as said
 pub inert_entry_is : InertEntryCounts
 inert_entry_is = (refl, refl, refl)
 
+-- persons may list themselves
 pub own_name_is : OwnName
 unfolding name.begins_name name.is_name_byte
 own_name_is = record { limits = record { proposers = omega arith; reviewers = omega arith; entries = omega arith }; agents = record { sound = agents }; entries = record { sound = entries } }

@@ -66,6 +66,7 @@ AreAgentsFaulty left right single (BadEntry s a i) = ⊥
 AreAgentsFaulty left right single (BadPair n) = ⊥
 AreAgentsFaulty left right single OutOfMemory = Unit {0}
 
+-- the first entry of both sides that isn't sound; the proposers' side comes first
 abbrev pub AreEntriesFaulty : List AgentData → List AgentData → InstanceFault → Type 0
 AreEntriesFaulty left right TooMany = ⊥
 AreEntriesFaulty left right (BadAgent s a) = ⊥

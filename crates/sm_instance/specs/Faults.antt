@@ -42,6 +42,7 @@ pub record HasSoundAgents (w : Written) : Type 0 where
   pub proposers : AreSoundAgents w.proposers true
   pub reviewers : AreSoundAgents w.reviewers (is_single w.kind)
 
+-- all entries of both sides are sound
 pub record HasSoundEntries (w : Written) : Type 0 where
   pub proposers : AreSoundEntries w.proposers (length w.reviewers)
   pub reviewers : AreSoundEntries w.reviewers (length w.proposers)

@@ -12,6 +12,7 @@ abbrev pub IsInput : Input → Type 0
 IsInput (Two w) = IsInstance w
 IsInput (Room persons) = ArePersons persons
 
+-- the kind of an instance
 abbrev pub kind_of : Input → Kind
 kind_of (Two w) = w.kind
 kind_of (Room _) = Roommates
@@ -21,6 +22,7 @@ abbrev pub left_of : Input → List AgentData
 left_of (Two w) = w.proposers
 left_of (Room persons) = persons
 
+-- the agents of the right: the reviewers, or the persons
 abbrev pub right_of : Input → List AgentData
 right_of (Two w) = w.reviewers
 right_of (Room persons) = persons

@@ -9,6 +9,7 @@ pub use Rattle.sm_instance.specs.Crosses.{cross_place, AreCrossPlacesOf, AreCros
 abbrev pub no_naming : Naming
 no_naming = record { by = 0; place = 0 }
 
+-- the naming with number e
 abbrev pub naming_at : List Naming → ℕ → Naming
 naming_at namings e = slice_index_or namings e no_naming
 
@@ -42,6 +43,7 @@ pub record IsKept (w : Written) (crosses reviewer_crosses : List (List (Option �
   pub rights : right ≡ names_of w.reviewers
   pub weighed_pairs : pairs ≡ map weighed w.weights
 
+-- what is kept beside persons: their names
 pub record ArePersonsKept (persons : List AgentData) (names : List (List ℕ)) : Type 0 where
   pub sound : ArePersons persons
   pub named : names ≡ names_of persons

@@ -55,6 +55,7 @@ pub record IsFirstPairBelow (w : Written) (places : List (Option ℕ)) (k : ℕ)
   pub earlier_proposers : (q s : ℕ) → s < k → q < n.by → ¬ Blocks w places q s
   pub earlier_places : (s : ℕ) → s < k → place_of w.proposers n.by s < n.place → ¬ Blocks w places n.by s
 
+-- the first pair that blocks with a reviewer below k, if there is one
 abbrev pub IsFirstBelow : Written → List (Option ℕ) → ℕ → Option Naming → Type 0
 IsFirstBelow w places k None = (p s : ℕ) → s < k → ¬ Blocks w places p s
 IsFirstBelow w places k (Some n) = IsFirstPairBelow w places k n
@@ -63,6 +64,7 @@ IsFirstBelow w places k (Some n) = IsFirstPairBelow w places k n
 abbrev pub is_sooner : Naming → Naming → Bool
 is_sooner m n = nat_lt m.by n.by || m.by == n.by && nat_lt m.place n.place
 
+-- the sooner of two pairs, where either may be missing
 abbrev pub sooner_of : Option Naming → Option Naming → Option Naming
 sooner_of None b = b
 sooner_of (Some m) None = Some m

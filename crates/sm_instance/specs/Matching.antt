@@ -29,6 +29,7 @@ is_at w places p r = leads_to w p r (held places p)
 abbrev pub load_before : Written → List (Option ℕ) → ℕ → ℕ → ℕ
 load_before w places k r = sum (map (λ q. if is_at w places q r then 1 else 0) (range_with_len 0 k))
 
+-- how many of all proposers are at r
 abbrev pub load : Written → List (Option ℕ) → ℕ → ℕ
 load w places r = load_before w places (length w.proposers) r
 
@@ -45,6 +46,7 @@ pub record IsBreach (w : Written) (places : List (Option ℕ)) (p : ℕ) : Type 
   pub holds : held places p ≡ Some at
   pub cause : let r = entry w.proposers p at in (¬ IsAcceptable w p r) ⊎ (capacity_of w.reviewers r ≤ load_before w places p r)
 
+-- p is the first proposer that can't be where it is
 pub record IsFirstBreach (w : Written) (places : List (Option ℕ)) (p : ℕ) : Type 0 where
   pub breach : IsBreach w places p
   pub earlier_proposers : (q : ℕ) → q < p → ¬ IsBreach w places q

@@ -35,9 +35,11 @@ pub record Said : Type 0 where
 abbrev pub nothing : Said
 nothing = record { proposers = []; reviewers = []; weights = []; forced = []; forbidden = [] }
 
+-- the names of some agents
 abbrev pub names_of : List SaidAgent → List (List ℕ)
 names_of agents = map (λ (agent : SaidAgent). agent.name) agents
 
+-- the agents of a side
 abbrev pub agents_on : Side → Said → List SaidAgent
 agents_on Proposers said = said.proposers
 agents_on Reviewers said = said.reviewers
@@ -46,6 +48,7 @@ agents_on Reviewers said = said.reviewers
 abbrev pub entries_of : List SaidAgent → ℕ
 entries_of agents = sum_by (λ (agent : SaidAgent). length agent.entries) agents
 
+-- how many entries the lists of both sides have together
 abbrev pub all_entries : Said → ℕ
 all_entries said = entries_of said.proposers + entries_of said.reviewers
 

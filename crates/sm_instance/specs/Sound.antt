@@ -8,6 +8,7 @@ use Rattle.sm_instance.specs.Written.{AgentData, Written, agent_at, row, entry, 
 use Rattle.sm_instance.specs.declared.kinds.Kind.{Kind}
 use Rattle.sm_instance.specs.declared.kinds.Kind.TheVariants.{Marriage, Hospitals, Roommates}
 
+-- how many entries the lists of some agents have together
 abbrev pub entries_of : List AgentData → ℕ
 entries_of agents = sum_by (λ agent. length agent.entries) agents
 
@@ -25,6 +26,7 @@ pub record IsSoundAgent (agents : List AgentData) (single : Bool) (a : ℕ) : Ty
   pub capacity : (agent_at agents a).capacity ≤ most_capacity
   pub one : IsTrue single → (agent_at agents a).capacity ≡ 1
 
+-- all agents of a side are sound
 pub record AreSoundAgents (agents : List AgentData) (single : Bool) : Type 0 where
   pub sound : (a : ℕ) → a < length agents → IsSoundAgent agents single a
 
@@ -33,6 +35,7 @@ pub record IsSoundEntry (agents : List AgentData) (others : ℕ) (a i : ℕ) : T
   pub in_range : entry agents a i < others
   pub fresh : (j : ℕ) → j < i → entry agents a j ≢ entry agents a i
 
+-- all entries of a side are sound
 pub record AreSoundEntries (agents : List AgentData) (others : ℕ) : Type 0 where
   pub sound : (a i : ℕ) → i < length (row agents a) → IsSoundEntry agents others a i
 
@@ -41,6 +44,7 @@ pub record IsPairOf (proposers reviewers : ℕ) (pair : ℕ × ℕ) : Type 0 whe
   pub proposer : pair.0 < proposers
   pub reviewer : pair.1 < reviewers
 
+-- pair n of a list
 abbrev pub pair_at : List (ℕ × ℕ) → ℕ → ℕ × ℕ
 pair_at pairs n = slice_index_or pairs n (0, 0)
 

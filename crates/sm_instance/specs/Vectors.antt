@@ -7,15 +7,19 @@ use Rattle.sm_instance.specs.declared.agents.Agent.{Agent}
 use Rattle.sm_instance.specs.declared.namings.Naming.{Naming}
 use Rattle.sm_instance.specs.declared.parts.Parts.{Parts}
 
+-- an agent as plain data
 abbrev pub agent_of : Agent → AgentData
 agent_of agent = record { name = agent.name.items; capacity = agent.capacity; line = agent.line; entries = agent.entries.items }
 
+-- some agents as plain data
 abbrev pub agents_of : List Agent → List AgentData
 agents_of agents = map agent_of agents
 
+-- the cross places of a side as plain data
 abbrev pub crosses_of : List (Vec (Option ℕ) Global) → List (List (Option ℕ))
 crosses_of vectors = map (λ v. v.items) vectors
 
+-- the namings of a side as plain data
 abbrev pub namings_of : List (Vec Naming Global) → List (List Naming)
 namings_of vectors = map (λ v. v.items) vectors
 
@@ -28,5 +32,6 @@ abbrev pub written_of : Kind → List Agent → List Agent → List (ℕ × ℕ 
 written_of kind proposers reviewers weights forced forbidden =
     record { kind = kind; proposers = agents_of proposers; reviewers = agents_of reviewers; weights = weights; forced = forced; forbidden = forbidden }
 
+-- the instance that some parts make
 abbrev pub written_in : Parts → Written
 written_in parts = written_of parts.kind parts.proposers.items parts.reviewers.items parts.weights.items parts.forced.items parts.forbidden.items

@@ -83,6 +83,7 @@ inert_entry = record {
   forbidden = [];
 }
 
+-- the ranks and the regret of its matchings by hand
 abbrev pub InertEntryCounts : Type 0
 InertEntryCounts = (rank_vector_of inert_entry (None ∷ Some 0 ∷ []) ≡ 3 ∷ 1 ∷ [])
     × (rank_vector_of inert_entry (Some 1 ∷ None ∷ []) ≡ 2 ∷ 2 ∷ [])
@@ -92,5 +93,6 @@ InertEntryCounts = (rank_vector_of inert_entry (None ∷ Some 0 ∷ []) ≡ 3 �
 abbrev pub persons : List AgentData
 persons = agent 49 1 (1 ∷ 0 ∷ []) ∷ agent 50 1 (0 ∷ []) ∷ []
 
+-- these are an instance of roommates
 abbrev pub OwnName : Type 0
 OwnName = ArePersons persons

@@ -26,6 +26,7 @@ pub record Written : Type 0 where
 abbrev pub no_agent : AgentData
 no_agent = record { name = []; capacity = 0; line = 0; entries = [] }
 
+-- agent a of a side
 abbrev pub agent_at : List AgentData → ℕ → AgentData
 agent_at agents a = slice_index_or agents a no_agent
 
@@ -33,9 +34,11 @@ agent_at agents a = slice_index_or agents a no_agent
 abbrev pub row : List AgentData → ℕ → List ℕ
 row agents a = (agent_at agents a).entries
 
+-- whom a's list names at place i
 abbrev pub entry : List AgentData → ℕ → ℕ → ℕ
 entry agents a i = slice_index (row agents a) i
 
+-- the place of b on a's list, which is its length where b isn't on it
 abbrev pub place_of : List AgentData → ℕ → ℕ → ℕ
 place_of agents a b = place_on (row agents a) b
 
@@ -43,9 +46,11 @@ place_of agents a b = place_on (row agents a) b
 abbrev pub lists_of : List AgentData → List (List ℕ)
 lists_of agents = map (λ agent. agent.entries) agents
 
+-- how many places agent a has
 abbrev pub capacity_of : List AgentData → ℕ → ℕ
 capacity_of agents a = (agent_at agents a).capacity
 
+-- the names of some agents
 abbrev pub names_of : List AgentData → List (List ℕ)
 names_of agents = map (λ agent. agent.name) agents
 
@@ -59,6 +64,7 @@ pub record IsAcceptable (w : Written) (p r : ℕ) : Type 0 where
 abbrev pub weighed : (ℕ × ℕ × ℤ) → (ℕ × ℕ)
 weighed x = (x.0, x.1)
 
+-- two pairs are one
 abbrev pub is_same_pair : (ℕ × ℕ) → (ℕ × ℕ) → Bool
 is_same_pair x y = x.0 == y.0 && x.1 == y.1
 

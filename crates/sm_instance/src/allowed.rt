@@ -19,7 +19,7 @@ impl Instance {
         self.holds_forced(a) && self.holds_no_forbidden(a)
     }
 
-    // Is a proposer at a reviewer?
+    /// Is a proposer at a reviewer?
     fn is_at(&self, a: &Assignment, p: u32, r: u32) -> bool
         requires matching { IsMatching self.now a.now.places.items }
         requires in_range { p < length self.now.proposers }
@@ -31,11 +31,12 @@ impl Instance {
         }
     }
 
-    // Does a matching hold every forced pair?
+    /// Does a matching hold every forced pair?
     fn holds_forced(&self, a: &Assignment) -> bool
         requires matching { IsMatching self.now a.now.places.items }
         ensures { IsTrue result
-            ↔ All (λ pair. IsTrue (is_at self.now a.now.places.items pair.0 pair.1)) self.now.forced }
+            ↔ All (λ pair. IsTrue (is_at self.now a.now.places.items pair.0 pair.1))
+            self.now.forced }
     {
         let forced = self.forced();
         for n in 0..forced.len() {
@@ -47,11 +48,12 @@ impl Instance {
         true
     }
 
-    // Does a matching hold no forbidden pair?
+    /// Does a matching hold no forbidden pair?
     fn holds_no_forbidden(&self, a: &Assignment) -> bool
         requires matching { IsMatching self.now a.now.places.items }
         ensures { IsTrue result
-            ↔ All (λ pair. ¬ IsTrue (is_at self.now a.now.places.items pair.0 pair.1)) self.now.forbidden }
+            ↔ All (λ pair. ¬ IsTrue (is_at self.now a.now.places.items pair.0 pair.1))
+            self.now.forbidden }
     {
         let forbidden = self.forbidden();
         for n in 0..forbidden.len() {

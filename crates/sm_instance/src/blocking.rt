@@ -28,7 +28,7 @@ impl Instance {
         }
     }
 
-    // Whether a proposer and the reviewer at a place of its list block, where the reviewer gains before this limit.
+    /// Whether a proposer and the reviewer at a place of its list block, where the reviewer gains before this limit.
     fn blocks_at(&self, a: &Assignment, p: u32, place: u32, limit: u32) -> bool
         requires matching { IsMatching self.now a.now.places.items }
         requires proposer { p < length self.now.proposers }
@@ -67,7 +67,7 @@ impl Instance {
         }
     }
 
-    // The first proposer that blocks with a reviewer.
+    /// The first proposer that blocks with a reviewer.
     fn first_blocking_at(&self, a: &Assignment, r: u32) -> Option<Naming>
         requires matching { IsMatching self.now a.now.places.items }
         requires reviewer { r < length self.now.reviewers }
@@ -87,7 +87,7 @@ impl Instance {
     }
 }
 
-// The sooner of two pairs, by proposer and then by place.
+/// The sooner of two pairs, by proposer and then by place.
 fn sooner(a: Option<Naming>, b: Option<Naming>) -> Option<Naming>
     ensures { result ≡ sooner_of a b }
 {

@@ -6,13 +6,14 @@ ghost use Rattle.sm_instance.specs.Written.{row, names_of, weighed};
 ghost use Rattle.sm_instance.specs.Sound.{is_single as is_single_kind, IsInstance, entries_of, IsWithinLimits, AreSoundAgents, AreSoundEntries, IsSoundEntry, IsPairOf, pair_at, IsSoundItem, items_of};
 ghost use Rattle.sm_instance.specs.Checks.{IsAgentFault, IsEntryFault, IsFirstBadPlace, IsFirstBadPair, IsItemFault, AreAgentsFaulty, AreEntriesFaulty};
 ghost use Rattle.sm_instance.specs.Faults.{IsFault};
-ghost use Rattle.sm_instance.specs.Vectors.{agents_of, written_of};
+ghost use Rattle.sm_instance.specs.Vectors.{agents_of, written_in};
 
 use crate::agents::{Agent, capacity_at, list_at, name_at};
 use crate::faults::InstanceFault;
 use crate::kinds::{Kind, Side};
 use crate::names::Names;
 use crate::pairs::Pairs;
+use crate::parts::Parts;
 use sm_text::{Digest, MOST_AGENTS, MOST_CAPACITY, MOST_ENTRIES, MOST_WEIGHT, TextHash, is_name};
 use std::alloc::Global;
 
@@ -29,7 +30,7 @@ pub(crate) fn are_within_limits(left: &[Agent], right: &[Agent]) -> bool
     }
 }
 
-// How many of so many entries these agents leave; `None` where they have more.
+/// How many of so many entries these agents leave; `None` where they have more.
 fn entries_left(agents: &[Agent], most: usize) -> Option<usize>
     ensures { MatchOption result
         (most < entries_of (agents_of agents.now))
@@ -73,7 +74,7 @@ pub(crate) fn checked_names(
     Ok(names)
 }
 
-// Hashes for the names of a side, which no name can choose.
+/// Hashes for the names of a side, which no name can choose.
 fn hash_of_names(agents: &[Agent]) -> TextHash {
     let mut digest = Digest::new();
     for agent in agents {
@@ -104,8 +105,8 @@ pub(crate) fn check_entries(
     Ok(())
 }
 
-// The place of the first entry of a list that isn't sound. Agents that were met on the list get its stamp, one more than
-// the number of its owner.
+/// The place of the first entry of a list that isn't sound. Agents that were met on the list get its stamp, one more than
+/// the number of its owner.
 fn first_bad_place(agents: &[Agent], a: u32, met: &mut [u32]) -> Option<u32>
     requires in_range { a < length agents.now }
     requires agents { length agents.now ≤ most_agents }
@@ -129,7 +130,7 @@ fn first_bad_place(agents: &[Agent], a: u32, met: &mut [u32]) -> Option<u32>
     None
 }
 
-// The first pair that names a proposer or a reviewer that isn't there.
+/// The first pair that names a proposer or a reviewer that isn't there.
 fn first_bad_pair(pairs: &[(u32, u32)], proposers: u32, reviewers: u32) -> Option<u32>
     requires { length pairs.now < 2 ^ 24 }
     ensures { MatchOption result
@@ -145,7 +146,7 @@ fn first_bad_pair(pairs: &[(u32, u32)], proposers: u32, reviewers: u32) -> Optio
     None
 }
 
-// Hashes for the pairs that are weighed, which no pair can choose.
+/// Hashes for the pairs that are weighed, which no pair can choose.
 fn hash_of_weights(weights: &[(u32, u32, i64)]) -> TextHash {
     let mut digest = Digest::new();
     for (p, r, _) in weights {
@@ -155,7 +156,7 @@ fn hash_of_weights(weights: &[(u32, u32, i64)]) -> TextHash {
     digest.hash()
 }
 
-// The pairs that are weighed, or the first weight that isn't sound.
+/// The pairs that are weighed, or the first weight that isn't sound.
 fn checked_weights(
     alloc: Global,
     proposers: u32,
@@ -210,39 +211,37 @@ pub(crate) fn checked_items(
 }
 
 /// The names of both sides and the pairs that are weighed, or the first thing that stands in the way of an instance.
-pub(crate) fn checked(
-    alloc: Global,
-    kind: Kind,
-    proposers: &[Agent],
-    reviewers: &[Agent],
-    weights: &[(u32, u32, i64)],
-    forced: &[(u32, u32)],
-    forbidden: &[(u32, u32)],
-) -> Result<(Names, Names, Pairs), InstanceFault>
-    requires two_sided { kind ≢ Kind.Roommates }
-    requires few { length weights.now + length forced.now + length forbidden.now < 2 ^ 24 }
-    ensures instance { OnOk result
-        (IsInstance (written_of kind proposers.now reviewers.now weights.now forced.now
-        forbidden.now)) }
-    ensures left { IfOk result (λ kept. kept.0 ≡ names_of (agents_of proposers.now)) }
-    ensures right { IfOk result (λ kept. kept.1 ≡ names_of (agents_of reviewers.now)) }
-    ensures weighed { IfOk result (λ kept. kept.2 ≡ map weighed weights.now) }
-    ensures fault { IfErr result
-        (λ f. IsFault (written_of kind proposers.now reviewers.now weights.now forced.now
-        forbidden.now) f) }
+pub(crate) fn checked(alloc: Global, parts: &Parts) -> Result<(Names, Names, Pairs), InstanceFault>
+    requires two_sided { parts.now.kind ≢ Kind.Roommates }
+    requires few { length parts.now.weights.items + length parts.now.forced.items
+        + length parts.now.forbidden.items < 2 ^ 24 }
+    ensures instance { OnOk result (IsInstance (written_in parts.now)) }
+    ensures left { IfOk result (λ kept. kept.0 ≡ names_of (agents_of parts.now.proposers.items)) }
+    ensures right { IfOk result (λ kept. kept.1 ≡ names_of (agents_of parts.now.reviewers.items)) }
+    ensures weighed { IfOk result (λ kept. kept.2 ≡ map weighed parts.now.weights.items) }
+    ensures fault { IfErr result (λ f. IsFault (written_in parts.now) f) }
 {
+    let proposers = parts.proposers.as_slice();
+    let reviewers = parts.reviewers.as_slice();
     if !are_within_limits(proposers, reviewers) {
         return Err(InstanceFault::TooMany);
     }
-    let (left, right) = checked_agents(alloc, kind, proposers, reviewers)?;
+    let (left, right) = checked_agents(alloc, parts.kind, proposers, reviewers)?;
     let lefts = proposers.len() as u32;
     let rights = reviewers.len() as u32;
     check_lists(alloc, proposers, reviewers)?;
-    let weighed = checked_items(alloc, lefts, rights, weights, forced, forbidden)?;
+    let weighed = checked_items(
+        alloc,
+        lefts,
+        rights,
+        &parts.weights,
+        &parts.forced,
+        &parts.forbidden,
+    )?;
     Ok((left, right, weighed))
 }
 
-// The names of both sides, or the first agent that isn't sound.
+/// The names of both sides, or the first agent that isn't sound.
 fn checked_agents(
     alloc: Global,
     kind: Kind,
@@ -252,7 +251,8 @@ fn checked_agents(
     requires proposers { length proposers.now ≤ most_agents }
     requires reviewers { length reviewers.now ≤ most_agents }
     ensures proposers { OnOk result (AreSoundAgents (agents_of proposers.now) true) }
-    ensures reviewers { OnOk result (AreSoundAgents (agents_of reviewers.now) (is_single_kind kind)) }
+    ensures reviewers { OnOk result (AreSoundAgents (agents_of reviewers.now)
+        (is_single_kind kind)) }
     ensures left { IfOk result (λ kept. kept.0 ≡ names_of (agents_of proposers.now)) }
     ensures right { IfOk result (λ kept. kept.1 ≡ names_of (agents_of reviewers.now)) }
     ensures fault { IfErr result
@@ -264,7 +264,7 @@ fn checked_agents(
     Ok((left, right))
 }
 
-// Whether all entries of both sides are sound; if not, the first that isn't.
+/// Whether all entries of both sides are sound; if not, the first that isn't.
 fn check_lists(alloc: Global, proposers: &[Agent], reviewers: &[Agent]) -> Result<(), InstanceFault>
     requires { IsWithinLimits (agents_of proposers.now) (agents_of reviewers.now) }
     ensures proposers { OnOk result (AreSoundEntries (agents_of proposers.now)
@@ -278,7 +278,7 @@ fn check_lists(alloc: Global, proposers: &[Agent], reviewers: &[Agent]) -> Resul
     check_entries(alloc, Side::Reviewers, reviewers, proposers.len() as u32)
 }
 
-// Has every reviewer a single place, in an instance of this kind?
+/// Has every reviewer a single place, in an instance of this kind?
 fn is_single(kind: Kind) -> bool
     ensures { result ≡ is_single_kind kind }
 {

@@ -21,13 +21,18 @@ pub(crate) fn crossings(
     reviewers: &[Agent],
 ) -> Result<CrossPlaces<Cross, Naming>, AllocError>
     requires limits { IsWithinLimits (agents_of proposers.now) (agents_of reviewers.now) }
-    requires proposers { AreSoundEntries (agents_of proposers.now) (length (agents_of reviewers.now)) }
-    requires reviewers { AreSoundEntries (agents_of reviewers.now) (length (agents_of proposers.now)) }
+    requires proposers { AreSoundEntries (agents_of proposers.now)
+        (length (agents_of reviewers.now)) }
+    requires reviewers { AreSoundEntries (agents_of reviewers.now)
+        (length (agents_of proposers.now)) }
     ensures proposers { IfOk result
-        (λ c. AreCrossPlaces (agents_of proposers.now) (agents_of reviewers.now) (crosses_of c.rows.items)) }
+        (λ c. AreCrossPlaces (agents_of proposers.now) (agents_of reviewers.now)
+        (crosses_of c.rows.items)) }
     ensures reviewers { IfOk result
-        (λ c. AreCrossPlaces (agents_of reviewers.now) (agents_of proposers.now) (crosses_of c.others.items)) }
-    ensures namings { IfOk result (λ c. AreNamings (agents_of proposers.now) (length (agents_of reviewers.now))
+        (λ c. AreCrossPlaces (agents_of reviewers.now) (agents_of proposers.now)
+        (crosses_of c.others.items)) }
+    ensures namings { IfOk result (λ c. AreNamings (agents_of proposers.now)
+        (length (agents_of reviewers.now))
         (namings_of c.namings.items)) }
 {
     let proposers = lists(alloc, proposers)?;

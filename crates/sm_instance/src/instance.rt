@@ -53,7 +53,8 @@ impl Model for Instance {
 
     ghost Value = { Written };
 
-    ghost view = { λ i. written_of i.kind i.proposers.items i.reviewers.items i.weights.items i.forced.items i.forbidden.items };
+    ghost view = { λ i. written_of i.kind i.proposers.items i.reviewers.items i.weights.items
+        i.forced.items i.forbidden.items };
 
     ghost invariant = { λ i. IsKept
         (written_of i.kind i.proposers.items i.reviewers.items i.weights.items i.forced.items
@@ -85,7 +86,8 @@ impl Instance {
         forbidden: Vec<(u32, u32)>,
     ) -> Result<Instance, InstanceFault>
         requires two_sided { kind ≢ Kind.Roommates }
-        requires few { length weights.items + length forced.items + length forbidden.items < 2 ^ 24 }
+        requires few { length weights.items + length forced.items + length forbidden.items
+            < 2 ^ 24 }
         ensures written { IfOk result (λ i. i ≡ written_of kind
             proposers.items reviewers.items weights.items forced.items forbidden.items) }
         ensures instance { OnOk result (IsInstance (written_of kind
@@ -93,9 +95,6 @@ impl Instance {
         ensures fault { IfErr result (λ f. IsFault (written_of kind
             proposers.items reviewers.items weights.items forced.items forbidden.items) f) }
     {
-        let (left, right, weighed) = checked(
-            alloc, kind, &proposers, &reviewers, &weights, &forced, &forbidden,
-        )?;
         let parts = Parts {
             kind,
             proposers,
@@ -104,6 +103,7 @@ impl Instance {
             forced,
             forbidden,
         };
+        let (left, right, weighed) = checked(alloc, &parts)?;
         Ok(of_parts(alloc, parts, left, right, weighed)?)
     }
 
@@ -247,7 +247,8 @@ impl Instance {
     pub fn cross(&self, p: u32, place: u32) -> Option<u32>
         requires in_range { p < length self.now.proposers }
         requires on_list { place < length (row self.now.proposers p) }
-        ensures cross { result ≡ cross_place self.now.reviewers (entry self.now.proposers p place) p }
+        ensures cross { result ≡ cross_place self.now.reviewers (entry self.now.proposers p place)
+            p }
         ensures fits { IfSome result (λ back. back < most_agents) }
         ensures place_fits { place < most_agents }
     {
@@ -272,11 +273,12 @@ impl Instance {
         &self.reviewer_crosses[r as usize]
     }
 
-    // The cross place that is kept.
+    /// The cross place that is kept.
     fn kept_cross(&self, p: u32, place: u32) -> Option<u32>
         requires in_range { p < length self.now.proposers }
         requires on_list { place < length (row self.now.proposers p) }
-        ensures cross { result ≡ cross_place self.now.reviewers (entry self.now.proposers p place) p }
+        ensures cross { result ≡ cross_place self.now.reviewers (entry self.now.proposers p place)
+            p }
         ensures instance { IsInstance self.now }
     {
         self.crosses[p as usize][place as usize].place()

@@ -23,7 +23,7 @@ pub(crate) fn holds(a: &Assignment, naming: Naming) -> bool
     }
 }
 
-// The place that a proposer holds.
+/// The place that a proposer holds.
 fn held_place(a: &Assignment, p: u32) -> Option<u32>
     requires { p < length a.now.places.items }
     ensures { result ≡ held a.now.places.items p }
@@ -68,7 +68,7 @@ impl Instance {
         true
     }
 
-    // The first proposer whose pair isn't acceptable.
+    /// The first proposer whose pair isn't acceptable.
     fn first_unacceptable(&self, a: &Assignment) -> Option<u32>
         requires { IsAssignment self.now a.now.places.items }
         ensures { IsFirstOf (IsUnacceptable self.now a.now.places.items) result }
@@ -83,7 +83,7 @@ impl Instance {
         None
     }
 
-    // The first proposer that finds a reviewer full with earlier ones.
+    /// The first proposer that finds a reviewer full with earlier ones.
     fn first_overfull(&self, a: &Assignment, r: u32) -> Option<u32>
         requires assignment { IsAssignment self.now a.now.places.items }
         requires in_range { r < length self.now.reviewers }
@@ -121,7 +121,7 @@ impl Instance {
         load
     }
 
-    // The place, on a reviewer's list, of the one that it likes least of the proposers that it has; 0 where it has none.
+    /// The place, on a reviewer's list, of the one that it likes least of the proposers that it has; 0 where it has none.
     fn worst(&self, a: &Assignment, r: u32) -> u32
         requires matching { IsMatching self.now a.now.places.items }
         requires in_range { r < length self.now.reviewers }

@@ -74,7 +74,7 @@ impl Persons {
         Ok(Persons { persons, names })
     }
 
-    // The kind. The read is for the proof alone: it shows what is kept of the persons.
+    /// The kind. The read is for the proof alone: it shows what is kept of the persons.
     pub(crate) fn kind(&self) -> Kind
         ensures kind { result ≡ Kind.Roommates }
         ensures sound { ArePersons self.now }

@@ -72,7 +72,7 @@ impl Instance {
         }
     }
 
-    // The greater of the ranks that a proposer and its partner give each other.
+    /// The greater of the ranks that a proposer and its partner give each other.
     fn worse_rank(&self, a: &Assignment, p: u32) -> u32
         requires matching { IsMatching self.now a.now.places.items }
         requires in_range { p < length self.now.proposers }
@@ -87,7 +87,7 @@ impl Instance {
         }
     }
 
-    // The weight of a proposer and its partner.
+    /// The weight of a proposer and its partner.
     fn pair_weight(&self, a: &Assignment, p: u32, by: Measure) -> i64
         requires matching { IsMatching self.now a.now.places.items }
         requires in_range { p < length self.now.proposers }

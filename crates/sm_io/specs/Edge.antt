@@ -13,6 +13,7 @@ use Rattle.sm_io.specs.declared.edge.WriteSink.{WriteSink}
 abbrev pub reader_of : {R : Type 0} → ReadSource R → R
 reader_of s = s.inner
 
+-- how many calls of a source failed
 abbrev pub source_faults : {R : Type 0} → ReadSource R → ℕ
 source_faults s = s.faults
 
@@ -20,6 +21,7 @@ source_faults s = s.faults
 abbrev pub writer_of : {W : Type 0} → WriteSink W → W
 writer_of s = s.inner
 
+-- how many calls of a sink failed
 abbrev pub sink_faults : {W : Type 0} → WriteSink W → ℕ
 sink_faults s = s.faults
 
@@ -29,6 +31,7 @@ CountsTaken old new Failed = new ≡ next_count old
 CountsTaken old new (Got n) = new ≡ old
 CountsTaken old new End = new ≡ old
 
+-- a call that was refused counts one fault, and another none
 abbrev pub CountsPut : ℕ → ℕ → Put → Type 0
 CountsPut old new Refused = new ≡ next_count old
 CountsPut old new Done = new ≡ old

@@ -47,6 +47,7 @@ cut_of s = option_map (λ pair. pair.1) (find (λ pair. pair.0 == s.calls + 1) s
 abbrev pub after_put : SinkInMemory → List ℕ → SinkInMemory
 after_put s part = record s { held = s.held ++ part; calls = next_count s.calls }
 
+-- the sink after a call that took these bytes and failed
 abbrev pub after_fault : SinkInMemory → List ℕ → SinkInMemory
 after_fault s part = record s { held = s.held ++ part; calls = next_count s.calls; faults = next_count s.faults }
 

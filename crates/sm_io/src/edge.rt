@@ -93,7 +93,7 @@ impl<W: Write> Sink for WriteSink<W> {
     }
 }
 
-// Writes the whole piece and flushes. `Failed` comes at the first error, and at a write of no bytes.
+/// Writes the whole piece and flushes. `Failed` comes at the first error, and at a write of no bytes.
 fn write_out<W: Write>(writer: &mut W, piece: &[u8]) -> Put
     ensures { Writes (W.contents writer.old) (W.contents writer.new) result piece.now }
 {

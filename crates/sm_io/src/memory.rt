@@ -9,14 +9,14 @@ use crate::{Put, Sink, Source, Taken};
 use std::alloc::{AllocError, Global};
 use std::marker::Model;
 
-// Whether a call's number is in the list.
+/// Whether a call's number is in the list.
 fn is_listed(failing: &[u64], call: u128) -> bool
     ensures { result ≡ list_any (λ number. number == call) failing.now }
 {
     failing.iter().any(|number| u128::from(*number) == call)
 }
 
-// The second part of the first pair with a call's number.
+/// The second part of the first pair with a call's number.
 fn first_cut(failing: &[(u64, u32)], call: u128) -> Option<u32>
     ensures { result ≡ option_map (λ pair. pair.1) (find (λ pair. pair.0 == call) failing.now) }
 {
@@ -75,7 +75,8 @@ impl Source for MemSource {
     /// Fails exactly at the chosen calls. Another call gives as many bytes as are left, fit `into` and are allowed a call,
     /// and `End` where that is none.
     fn take(&mut self, into: &mut [u8]) -> Taken
-        ensures taken { Takes (Some self.old.pieces.left) (Some self.new.pieces.left) result into.new }
+        ensures taken { Takes (Some self.old.pieces.left) (Some self.new.pieces.left) result
+            into.new }
         ensures later { self.old.faults ≤ self.new.faults }
         ensures failed { result ≡ Taken.Failed → Rose self.old.faults self.new.faults }
         ensures exact { TakesInMemory self.old self.new result into.new }
@@ -106,7 +107,13 @@ impl Model for MemSink {
 
     ghost Value = { SinkInMemory };
 
-    ghost view = { λ s. record { held = s.bytes.items; room = s.room; failing = s.failing.items; calls = s.calls; faults = s.faults } };
+    ghost view = { λ s. record {
+      held = s.bytes.items;
+      room = s.room;
+      failing = s.failing.items;
+      calls = s.calls;
+      faults = s.faults;
+    } };
 
     ghost invariant = { λ s. (vec_len s.bytes ≤ s.room) × (s.room ≤ vec_capacity s.bytes) };
 }

@@ -80,7 +80,8 @@ fn choose(
     requires first { IsPairingOf market.now m.now }
     requires second { IsPairingOf market.now n.now }
     ensures pairing { IfOk result (λ o. IsPairingOf market.now o) }
-    ensures chosen { IfOk result (λ o. o.places ≡ chosen_of choice market.now m.now.places n.now.places) }
+    ensures chosen { IfOk result (λ o. o.places
+        ≡ chosen_of choice market.now m.now.places n.now.places) }
     ensures stable { IfOk result (λ o. IsStable market.now o.places) }
     ensures arguments { OnOk result (AreStable market.now m.now.places n.now.places) }
     ensures fault { IfErr result (λ f. IsFault market.now m.now.places n.now.places f) }
@@ -115,7 +116,8 @@ fn chosen_places(
     requires first { IsPairingOf market.now m.now }
     requires second { IsPairingOf market.now n.now }
     ensures places { IfOk result (λ places. places.items ≡ map
-        (λ p. chosen choice (held m.now.places.proposers p) (held n.now.places.proposers p)) (agents market.now.proposers)) }
+        (λ p. chosen choice (held m.now.places.proposers p) (held n.now.places.proposers p))
+        (agents market.now.proposers)) }
     ensures market { OnOk result (IsMarket market.now) }
 {
     let proposers = market.proposers();

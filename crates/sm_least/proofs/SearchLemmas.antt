@@ -70,10 +70,6 @@ vector_for {poset} {levels} {b} C v w closed long are =
     ext_get_or 0 v (vector b C) (long ∙ sym (vector_long b C)) (λ p less. are p (omega (arith, long)) ∙ sym (vector_at b C p (omega (arith, long))))
     ∙ ap (λ d. vector d C) w.is ∙ vector_is w.ground closed
 
--- a closed set of the poset has an item for each rotation of the board
-pub one_each_for : {poset : RotationPoset} {levels : List (List ℕ)} {b : Board} (C : List Bool) → IsBoardFor poset levels b → IsClosed poset.lists poset.rotations C → length C ≡ length b.needs
-one_each_for {poset} {levels} {b} C w closed = closed.one_each ∙ sym w.ground.needs_each ∙ sym (ap (λ (d : Board). length d.needs) w.is)
-
 -- the proposers of the poset are those of the board
 pub proposers_for : {poset : RotationPoset} {levels : List (List ℕ)} {b : Board} → IsBoardFor poset levels b → length b.leaves ≡ length poset.lists.proposers
 proposers_for {poset} {levels} {b} w = ap (λ (d : Board). length d.leaves) w.is ∙ many w.ground

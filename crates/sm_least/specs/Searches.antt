@@ -10,6 +10,7 @@ use Rattle.sm_board.specs.Courses.{Course, IsCourse, Held, IsHeld}
 use Rattle.sm_least.specs.Steps.{AreGatesOf}
 use Rattle.sm_least.specs.declared.least.Parts.{Parts}
 
+-- a poset with levels, its board with an order, gates, and what is held
 pub record Search : Type 0 where
   pub poset : RotationPoset
   pub levels : List (List ℕ)
@@ -27,6 +28,7 @@ search_of parts = record {
   held = parts.held;
 }
 
+-- these are made for each other, and the set that is held is closed
 pub record IsSearch (s : Search) : Type 0 where
   pub poset : IsPoset s.poset
   pub board : IsBoardFor s.poset s.levels s.course.board

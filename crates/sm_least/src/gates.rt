@@ -33,7 +33,8 @@ impl Model for Gates {
 
     ghost view = { λ s. record { until = s.until.items; shut = map (λ v. v.items) s.shut.items } };
 
-    ghost invariant = { λ s. (length s.low.items ≡ length s.until.items) × (length s.high.items ≡ length s.until.items) };
+    ghost invariant = { λ s. (length s.low.items ≡ length s.until.items) × (length s.high.items
+        ≡ length s.until.items) };
 }
 
 impl Gates {
@@ -58,7 +59,8 @@ impl Gates {
         requires forced { AreInRange (length board.now.leaves) conditions.now.forced.items }
         requires forbidden { AreInRange (length board.now.leaves) conditions.now.forbidden.items }
         ensures gates { AreGatesOf board.now self.new }
-        ensures open { AreUnbounded board.now conditions.now.forced.items conditions.now.forbidden.items self.new }
+        ensures open { AreUnbounded board.now conditions.now.forced.items
+            conditions.now.forbidden.items self.new }
     {
         fill_unbounded(
             board,
@@ -83,7 +85,8 @@ impl Gates {
         requires gates { AreGatesOf board.now self.old }
         requires ranked { IsRanked board.now (rows_of levels.now) (rows_of ranks.now) }
         ensures gates { AreGatesOf board.now self.new }
-        ensures open { AreBelow board.now (rows_of levels.now) (rows_of ranks.now) bound self.old self.new }
+        ensures open { AreBelow board.now (rows_of levels.now) (rows_of ranks.now) bound self.old
+            self.new }
     {
         cut(board, levels, ranks, bound, &mut self.shut, &mut self.until);
     }
@@ -98,7 +101,8 @@ impl Gates {
         requires forced { AreInRange (length board.now.leaves) conditions.now.forced.items }
         requires forbidden { AreInRange (length board.now.leaves) conditions.now.forbidden.items }
         ensures gates { AreGatesOf board.now self.new }
-        ensures open { AreGates board.now low.now high.now conditions.now.forced.items conditions.now.forbidden.items self.new }
+        ensures open { AreGates board.now low.now high.now conditions.now.forced.items
+            conditions.now.forbidden.items self.new }
     {
         self.low.copy_from_slice(low);
         self.high.copy_from_slice(high);
@@ -143,7 +147,8 @@ impl Gates {
 /// A mark for each stay of each proposer, with all shut.
 fn closed_rows(alloc: Global, levels: &[Vec<u32>]) -> Result<Vec<Vec<bool>>, AllocError>
     ensures rows { IfOk result (λ rows. AreRowsFor (rows_of levels.now) (rows_in rows.items)) }
-    ensures shut { IfOk result (λ rows. (p a : ℕ) → p < length levels.now → a < length (row (rows_of levels.now) p)
+    ensures shut { IfOk result (λ rows. (p a : ℕ) → p < length levels.now → a
+        < length (row (rows_of levels.now) p)
         → slice_index_or (slice_index_or (rows_in rows.items) p []) a false ≡ true) }
 {
     let mut rows = Vec::with_capacity(alloc, levels.len())?;
@@ -159,7 +164,8 @@ fn write_highest(levels: &[Vec<u32>], high: &mut [u32])
     requires some { (p : ℕ) → p < length levels.now → 0 < length (row (rows_of levels.now) p) }
     ensures high_each { length high.new ≡ length high.old }
     ensures highest { (p : ℕ) → p < length levels.now
-        → slice_index high.new p ≡ slice_index (row (rows_of levels.now) p) (length (row (rows_of levels.now) p) - 1) }
+        → slice_index high.new p ≡ slice_index (row (rows_of levels.now) p)
+        (length (row (rows_of levels.now) p) - 1) }
 {
     for p in 0..levels.len() {
         high[p] = levels[p][levels[p].len() - 1];
@@ -216,7 +222,8 @@ fn fill(
     ensures shut_each { length shut.new ≡ length shut.old }
     ensures until_each { length until.new ≡ length until.old }
     ensures gates { AreGatesOf board.now (record { until = until.new; shut = rows_in shut.new }) }
-    ensures open { AreGates board.now low.old high.old conditions.now.forced.items conditions.now.forbidden.items
+    ensures open { AreGates board.now low.old high.old conditions.now.forced.items
+        conditions.now.forbidden.items
         (record { until = until.new; shut = rows_in shut.new }) }
 {
     let matched = board.matched();
@@ -232,7 +239,8 @@ fn narrow(matched: &[bool], forced: &[(u32, u32)], low: &mut [u32], high: &mut [
     requires low_each { length low.old ≡ length matched.now }
     requires high_each { length high.old ≡ length matched.now }
     requires in_range { AreInRange (length matched.now) forced.now }
-    ensures { IsNarrowed matched.now forced.now (length forced.now) low.old high.old low.new high.new }
+    ensures { IsNarrowed matched.now forced.now (length forced.now) low.old high.old low.new
+        high.new }
 {
     for &(p, level) in forced {
         narrow_one(
@@ -246,7 +254,8 @@ fn narrow(matched: &[bool], forced: &[(u32, u32)], low: &mut [u32], high: &mut [
 
 /// One forced level of a proposer.
 fn narrow_one(matched: bool, level: u32, low: &mut u32, high: &mut u32)
-    ensures { (v : ℕ) → (low.new ≤ v) × (v ≤ high.new) ↔ (low.old ≤ v) × (v ≤ high.old) × (matched ≡ true) × (v ≡ level) }
+    ensures { (v : ℕ) → (low.new ≤ v) × (v ≤ high.new) ↔ (low.old ≤ v) × (v ≤ high.old)
+        × (matched ≡ true) × (v ≡ level) }
 {
     if !matched {
         *low = u32::MAX;
@@ -272,7 +281,8 @@ fn shut_level(levels: &[u32], level: u32, shut: &mut [bool])
     requires one_each { length shut.old ≡ length levels.now }
     requires rising { NeverFall levels.now }
     ensures one_each { length shut.new ≡ length shut.old }
-    ensures shut { (a : ℕ) → a < length levels.now → (slice_index_or shut.new a false ≡ false) ↔ (slice_index_or shut.old a false ≡ false) × (slice_index levels.now a ≢ level) }
+    ensures shut { (a : ℕ) → a < length levels.now → (slice_index_or shut.new a false ≡ false)
+        ↔ (slice_index_or shut.old a false ≡ false) × (slice_index levels.now a ≢ level) }
 {
     let mut a = lower(levels, level);
     'stays: while a < levels.len() && levels[a] == level {
@@ -302,7 +312,8 @@ fn lower(levels: &[u32], level: u32) -> usize
 /// The place behind the last stay that isn't shut.
 fn last_open(shut: &[bool]) -> usize
     ensures few { result ≤ length shut.now }
-    ensures past { (a : ℕ) → result ≤ a → a < length shut.now → slice_index_or shut.now a false ≡ true }
+    ensures past { (a : ℕ) → result ≤ a → a < length shut.now → slice_index_or shut.now a false
+        ≡ true }
 {
     let mut until = shut.len();
     while until > 0 && shut[until - 1] {
@@ -318,7 +329,8 @@ fn shut_rows(levels: &[Vec<u32>], low: &[u32], high: &[u32], shut: &mut [Vec<boo
     requires rows { AreRowsFor (rows_of levels.now) (rows_in shut.old) }
     ensures rows { AreRowsFor (rows_of levels.now) (rows_in shut.new) }
     ensures shut { (p : ℕ) → p < length levels.now → AreShut (row (rows_of levels.now) p)
-        (λ v. (slice_index low.now p ≤ v) × (v ≤ slice_index high.now p)) (slice_index_or (rows_in shut.new) p []) }
+        (λ v. (slice_index low.now p ≤ v) × (v ≤ slice_index high.now p)) (slice_index_or
+        (rows_in shut.new) p []) }
 {
     for p in 0..levels.len() {
         shut_row(&levels[p], low[p], high[p], &mut shut[p]);
@@ -337,7 +349,8 @@ fn shut_forbidden(
     requires in_range { AreInRange (length levels.now) forbidden.now }
     requires rows { AreRowsFor (rows_of levels.now) (rows_in shut.old) }
     requires rising { (p : ℕ) → p < length levels.now → NeverFall (row (rows_of levels.now) p) }
-    ensures { AreAvoided matched.now (rows_of levels.now) forbidden.now (length forbidden.now) (rows_in shut.old) (rows_in shut.new) }
+    ensures { AreAvoided matched.now (rows_of levels.now) forbidden.now (length forbidden.now)
+        (rows_in shut.old) (rows_in shut.new) }
 {
     for &(p, level) in forbidden {
         shut_if(
@@ -355,7 +368,8 @@ fn shut_if(matched: bool, levels: &[u32], level: u32, shut: &mut [bool])
     requires rising { NeverFall levels.now }
     ensures one_each { length shut.new ≡ length shut.old }
     ensures shut { (a : ℕ) → a < length levels.now → (slice_index_or shut.new a false ≡ false)
-        ↔ (slice_index_or shut.old a false ≡ false) × (matched ≡ true → slice_index levels.now a ≢ level) }
+        ↔ (slice_index_or shut.old a false ≡ false) × (matched ≡ true → slice_index levels.now a
+        ≢ level) }
 {
     if matched {
         shut_level(levels, level, shut);
@@ -395,7 +409,8 @@ fn shut_ranks(
     requires board { IsBoard board.now }
     requires ranked { IsRanked board.now (rows_of levels.now) (rows_of ranks.now) }
     requires rows { AreRowsFor board.now.levels (rows_in shut.old) }
-    ensures { AreCut board.now (rows_of levels.now) (rows_of ranks.now) bound (length board.now.leaves) (rows_in shut.old) (rows_in shut.new) }
+    ensures { AreCut board.now (rows_of levels.now) (rows_of ranks.now) bound
+        (length board.now.leaves) (rows_in shut.old) (rows_in shut.new) }
 {
     for p in 0..board.proposers() {
         if board.matched()[p] {
@@ -415,10 +430,12 @@ fn shut_row_above(stays: &[u32], levels: &[u32], ranks: &[u32], bound: u32, shut
     requires one_each { length shut.old ≡ length stays.now }
     requires rising { NeverFall levels.now }
     requires few { length ranks.now ≤ length levels.now }
-    requires some { (a : ℕ) → a < length stays.now → place_on levels.now (slice_index stays.now a) < length ranks.now }
+    requires some { (a : ℕ) → a < length stays.now → place_on levels.now (slice_index stays.now a)
+        < length ranks.now }
     ensures one_each { length shut.new ≡ length shut.old }
     ensures shut { (a : ℕ) → a < length stays.now → (slice_index_or shut.new a false ≡ false)
-        ↔ (slice_index_or shut.old a false ≡ false) × (rank_of_level levels.now ranks.now (slice_index stays.now a) ≤ bound) }
+        ↔ (slice_index_or shut.old a false ≡ false)
+        × (rank_of_level levels.now ranks.now (slice_index stays.now a) ≤ bound) }
 {
     for a in 0..stays.len() {
         if bound < rank_of(levels, ranks, stays[a]) {
@@ -441,7 +458,8 @@ pub(crate) fn rank_of(levels: &[u32], ranks: &[u32], level: u32) -> u32
 fn find_last(shut: &[Vec<bool>], until: &mut [usize])
     requires { length until.old ≡ length shut.now }
     ensures one_each { length until.new ≡ length shut.now }
-    ensures few { (p : ℕ) → p < length shut.now → slice_index until.new p ≤ length (slice_index_or (rows_in shut.now) p []) }
+    ensures few { (p : ℕ) → p < length shut.now → slice_index until.new p
+        ≤ length (slice_index_or (rows_in shut.now) p []) }
     ensures past { (p a : ℕ) → p < length shut.now → slice_index until.new p ≤ a
         → a < length (slice_index_or (rows_in shut.now) p [])
         → slice_index_or (slice_index_or (rows_in shut.now) p []) a false ≡ true }

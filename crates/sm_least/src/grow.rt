@@ -37,8 +37,10 @@ fn enter_needs(course: &Course, held: &mut Held, x: u32, bar: u32) -> bool
     requires member { IsMember held.old.set x }
     ensures grows { Grows course.now bar held.old held.new }
     ensures in_all { IsInAll (IsClosedIn course.now.board) held.old.set held.new.set }
-    ensures entered { result ≡ true → (i : ℕ) → Contains (row course.now.board.needs x) i → IsMember held.new.set i }
-    ensures barred { result ≡ false → Breaks (IsClosedIn course.now.board) course.now bar held.old.set }
+    ensures entered { result ≡ true → (i : ℕ) → Contains (row course.now.board.needs x) i
+        → IsMember held.new.set i }
+    ensures barred { result ≡ false → Breaks (IsClosedIn course.now.board) course.now bar
+        held.old.set }
 {
     for &y in course.needs(x) {
         if !need(course, held, y, bar) {
@@ -58,7 +60,8 @@ fn close(course: &Course, held: &mut Held, start: usize, bar: u32) -> bool
     ensures grows { Grows course.now bar held.old held.new }
     ensures in_all { IsInAll (IsClosedIn course.now.board) held.old.set held.new.set }
     ensures closed { result ≡ true → IsClosedIn course.now.board held.new.set }
-    ensures barred { result ≡ false → Breaks (IsClosedIn course.now.board) course.now bar held.old.set }
+    ensures barred { result ≡ false → Breaks (IsClosedIn course.now.board) course.now bar
+        held.old.set }
 {
     let mut place = start;
     while place < held.count() {
@@ -81,7 +84,8 @@ fn bring(course: &Course, held: &mut Held, x: u32, bar: u32) -> bool
     ensures in_all { IsInAll (HasRotation course.now.board x) held.old.set held.new.set }
     ensures member { result ≡ true → IsMember held.new.set x }
     ensures closed { result ≡ true → IsClosedIn course.now.board held.new.set }
-    ensures barred { result ≡ false → Breaks (HasRotation course.now.board x) course.now bar held.old.set }
+    ensures barred { result ≡ false → Breaks (HasRotation course.now.board x) course.now bar
+        held.old.set }
 {
     let start = held.count();
     course.enter(held, x, bar) && close(course, held, start, bar)
@@ -98,7 +102,8 @@ fn open(course: &Course, gates: &Gates, held: &mut Held, p: u32, bar: u32) -> bo
     ensures in_all { IsInAll (Fits course.now.board gates.now) held.old.set held.new.set }
     ensures closed { result ≡ true → IsClosedIn course.now.board held.new.set }
     ensures opened { result ≡ true → IsOpen gates.now p (stay course.now.board held.new.set p) }
-    ensures barred { result ≡ false → Breaks (Fits course.now.board gates.now) course.now bar held.old.set }
+    ensures barred { result ≡ false → Breaks (Fits course.now.board gates.now) course.now bar
+        held.old.set }
 {
     let _board = course.board();
     'stays: while held.stay(p) < gates.until(p) {
@@ -124,11 +129,13 @@ fn settle(course: &Course, gates: &Gates, held: &mut Held, start: usize, bar: u3
     requires positions { bar ≤ length course.now.order }
     requires gates { AreGatesOf course.now.board gates.now }
     requires start { start ≤ length held.old.log }
-    requires settled { AreSettled course.now.board gates.now held.old start (length course.now.board.leaves) }
+    requires settled { AreSettled course.now.board gates.now held.old start
+        (length course.now.board.leaves) }
     ensures grows { Grows course.now bar held.old held.new }
     ensures in_all { IsInAll (Fits course.now.board gates.now) held.old.set held.new.set }
     ensures fits { result ≡ true → Fits course.now.board gates.now held.new.set }
-    ensures barred { result ≡ false → Breaks (Fits course.now.board gates.now) course.now bar held.old.set }
+    ensures barred { result ≡ false → Breaks (Fits course.now.board gates.now) course.now bar
+        held.old.set }
 {
     let _board = course.board();
     let mut place = start;
@@ -153,7 +160,8 @@ fn open_movers(course: &Course, gates: &Gates, held: &mut Held, x: u32, bar: u32
     ensures closed { result ≡ true → IsClosedIn course.now.board held.new.set }
     ensures opened { result ≡ true → let movers = row course.now.board.movers x in
         AreOpened course.now.board gates.now held.new (length held.old.log) movers (length movers) }
-    ensures barred { result ≡ false → Breaks (Fits course.now.board gates.now) course.now bar held.old.set }
+    ensures barred { result ≡ false → Breaks (Fits course.now.board gates.now) course.now bar
+        held.old.set }
 {
     for &p in course.movers(x) {
         if !open(course, gates, held, p, bar) {
@@ -172,10 +180,12 @@ fn lift(course: &Course, gates: &Gates, held: &mut Held, p: u32, wanted: u64, ba
     requires proposer { p < length course.now.board.leaves }
     requires gates { AreGatesOf course.now.board gates.now }
     ensures grows { Grows course.now bar held.old held.new }
-    ensures in_all { IsInAll (IsHigh course.now.board gates.now p wanted) held.old.set held.new.set }
+    ensures in_all { IsInAll (IsHigh course.now.board gates.now p wanted) held.old.set
+        held.new.set }
     ensures closed { result ≡ true → IsClosedIn course.now.board held.new.set }
     ensures high { result ≡ true → wanted ≤ level course.now.board held.new.set p }
-    ensures barred { result ≡ false → Breaks (IsHigh course.now.board gates.now p wanted) course.now bar held.old.set }
+    ensures barred { result ≡ false → Breaks (IsHigh course.now.board gates.now p wanted) course.now
+        bar held.old.set }
 {
     let _board = course.board();
     'stays: while u64::from(held.level(p)) < wanted {
@@ -235,8 +245,10 @@ pub fn raise(course: &Course, gates: &Gates, held: &mut Held, p: u32, wanted: u6
     requires gates { AreGatesOf course.now.board gates.now }
     ensures held { IsHeld course.now.board held.new }
     ensures front { take (length held.old.log) held.new.log ≡ held.old.log }
-    ensures raised { result ≡ true → IsRaised course.now.board gates.now course.now.order held.old.set p wanted bar held.new.set }
-    ensures nothing { result ≡ false → IsNotRaised course.now.board gates.now course.now.order held.old.set p wanted bar }
+    ensures raised { result ≡ true → IsRaised course.now.board gates.now course.now.order
+        held.old.set p wanted bar held.new.set }
+    ensures nothing { result ≡ false → IsNotRaised course.now.board gates.now course.now.order
+        held.old.set p wanted bar }
     ensures same { result ≡ false → held.new.log ≡ held.old.log }
 {
     let start = held.count();
@@ -256,8 +268,10 @@ fn grow_to(course: &Course, gates: &Gates, held: &mut Held, p: u32, wanted: u64,
     requires proposer { p < length course.now.board.leaves }
     requires gates { AreGatesOf course.now.board gates.now }
     ensures grows { Grows course.now bar held.old held.new }
-    ensures raised { result ≡ true → IsRaised course.now.board gates.now course.now.order held.old.set p wanted bar held.new.set }
-    ensures nothing { result ≡ false → IsNotRaised course.now.board gates.now course.now.order held.old.set p wanted bar }
+    ensures raised { result ≡ true → IsRaised course.now.board gates.now course.now.order
+        held.old.set p wanted bar held.new.set }
+    ensures nothing { result ≡ false → IsNotRaised course.now.board gates.now course.now.order
+        held.old.set p wanted bar }
 {
     let _board = course.board();
     let start = held.count();

@@ -66,7 +66,8 @@ impl Model for Least {
     ghost Value = { Search };
 
     ghost view = { λ s. record {
-      poset = poset_of s.market.value s.chain.value.first (rotations_of s.chain.value.rotations.items);
+      poset = poset_of s.market.value s.chain.value.first
+          (rotations_of s.chain.value.rotations.items);
       levels = rows_of s.levels.items;
       course = s.course;
       gates = s.gates;
@@ -74,7 +75,8 @@ impl Model for Least {
     } };
 
     ghost invariant = { λ s. IsSearch (record {
-      poset = poset_of s.market.value s.chain.value.first (rotations_of s.chain.value.rotations.items);
+      poset = poset_of s.market.value s.chain.value.first
+          (rotations_of s.chain.value.rotations.items);
       levels = rows_of s.levels.items;
       course = s.course;
       gates = s.gates;
@@ -130,15 +132,20 @@ impl Least {
     pub fn least(&mut self, low: &[u32], high: &[u32], conditions: &Conditions) -> bool
         requires low_each { length low.now ≡ length self.old.poset.lists.proposers }
         requires high_each { length high.now ≡ length self.old.poset.lists.proposers }
-        requires forced { AreInRange (length self.old.poset.lists.proposers) conditions.now.forced.items }
-        requires forbidden { AreInRange (length self.old.poset.lists.proposers) conditions.now.forbidden.items }
+        requires forced { AreInRange (length self.old.poset.lists.proposers)
+            conditions.now.forced.items }
+        requires forbidden { AreInRange (length self.old.poset.lists.proposers)
+            conditions.now.forbidden.items }
         ensures same { IsSame self.old self.new }
-        ensures found { result ≡ true → IsLeastWithin self.new.poset.lists self.new.levels low.now high.now
+        ensures found { result ≡ true → IsLeastWithin self.new.poset.lists self.new.levels low.now
+            high.now
             conditions.now.forced.items conditions.now.forbidden.items
-            (matching_of self.new.poset.lists self.new.poset.first.places self.new.poset.rotations self.new.held.set) }
+            (matching_of self.new.poset.lists self.new.poset.first.places self.new.poset.rotations
+            self.new.held.set) }
         ensures none { result ≡ false → (m : Places) → IsStable self.new.poset.lists m
             → IsWithin self.new.poset.lists self.new.levels low.now high.now m
-            → ¬ IsAllowed self.new.levels conditions.now.forced.items conditions.now.forbidden.items m }
+            → ¬ IsAllowed self.new.levels conditions.now.forced.items conditions.now.forbidden.items
+            m }
     {
         self.gates.set(self.course.board(), low, high, conditions);
         find(&self.course, &self.gates, &mut self.held)
@@ -149,13 +156,18 @@ impl Least {
     ///
     /// The conditions name proposers that there are. Takes no memory, and time as [`Least::least`].
     pub fn best_allowed(&mut self, conditions: &Conditions) -> bool
-        requires forced { AreInRange (length self.old.poset.lists.proposers) conditions.now.forced.items }
-        requires forbidden { AreInRange (length self.old.poset.lists.proposers) conditions.now.forbidden.items }
+        requires forced { AreInRange (length self.old.poset.lists.proposers)
+            conditions.now.forced.items }
+        requires forbidden { AreInRange (length self.old.poset.lists.proposers)
+            conditions.now.forbidden.items }
         ensures same { IsSame self.old self.new }
-        ensures found { result ≡ true → IsBestAllowed self.new.poset.lists self.new.levels conditions.now.forced.items conditions.now.forbidden.items
-            (matching_of self.new.poset.lists self.new.poset.first.places self.new.poset.rotations self.new.held.set) }
+        ensures found { result ≡ true → IsBestAllowed self.new.poset.lists self.new.levels
+            conditions.now.forced.items conditions.now.forbidden.items
+            (matching_of self.new.poset.lists self.new.poset.first.places self.new.poset.rotations
+            self.new.held.set) }
         ensures none { result ≡ false → (m : Places) → IsStable self.new.poset.lists m
-            → ¬ IsAllowed self.new.levels conditions.now.forced.items conditions.now.forbidden.items m }
+            → ¬ IsAllowed self.new.levels conditions.now.forced.items conditions.now.forbidden.items
+            m }
     {
         self.gates.set_unbounded(self.course.board(), conditions);
         find(&self.course, &self.gates, &mut self.held)
@@ -169,12 +181,16 @@ impl Least {
     /// time as [`Least::least`], and for each stay the logarithm of its proposer's places (Gusfield 1987).
     pub fn least_below(&mut self, conditions: &Conditions, ranks: &[Vec<u32>], bound: u32) -> bool
         requires ranks { AreRanks self.old.poset.lists self.old.levels (rows_of ranks.now) }
-        requires forced { AreInRange (length self.old.poset.lists.proposers) conditions.now.forced.items }
-        requires forbidden { AreInRange (length self.old.poset.lists.proposers) conditions.now.forbidden.items }
+        requires forced { AreInRange (length self.old.poset.lists.proposers)
+            conditions.now.forced.items }
+        requires forbidden { AreInRange (length self.old.poset.lists.proposers)
+            conditions.now.forbidden.items }
         ensures same { IsSame self.old self.new }
-        ensures found { result ≡ true → IsBestBelow self.new.poset.lists self.new.levels (rows_of ranks.now) bound
+        ensures found { result ≡ true → IsBestBelow self.new.poset.lists self.new.levels
+            (rows_of ranks.now) bound
             conditions.now.forced.items conditions.now.forbidden.items
-            (matching_of self.new.poset.lists self.new.poset.first.places self.new.poset.rotations self.new.held.set) }
+            (matching_of self.new.poset.lists self.new.poset.first.places self.new.poset.rotations
+            self.new.held.set) }
         ensures none { result ≡ false → (m : Places) → IsStable self.new.poset.lists m
             → IsAllowed self.new.levels conditions.now.forced.items conditions.now.forbidden.items m
             → bound < regret_of self.new.poset.lists (rows_of ranks.now) m }
@@ -192,7 +208,8 @@ impl Least {
     pub fn greatest(&self, ranks: &[Vec<u32>]) -> u32
         requires { AreRanks self.now.poset.lists self.now.levels (rows_of ranks.now) }
         ensures { result ≡ regret_of self.now.poset.lists (rows_of ranks.now)
-            (matching_of self.now.poset.lists self.now.poset.first.places self.now.poset.rotations self.now.held.set) }
+            (matching_of self.now.poset.lists self.now.poset.first.places self.now.poset.rotations
+            self.now.held.set) }
     {
         greatest_rank(self.course.board(), &self.levels, ranks, self.held.levels())
     }
@@ -204,17 +221,25 @@ impl Least {
     /// The conditions name proposers that there are. Takes no memory, and time as [`Least::least`].
     pub fn begin(&mut self, order: &[u32], conditions: &Conditions) -> bool
         requires order { IsOrder (length self.old.poset.lists.proposers) order.now }
-        requires forced { AreInRange (length self.old.poset.lists.proposers) conditions.now.forced.items }
-        requires forbidden { AreInRange (length self.old.poset.lists.proposers) conditions.now.forbidden.items }
+        requires forced { AreInRange (length self.old.poset.lists.proposers)
+            conditions.now.forced.items }
+        requires forbidden { AreInRange (length self.old.poset.lists.proposers)
+            conditions.now.forbidden.items }
         ensures same { IsSame self.old self.new }
         ensures order { self.new.course.order ≡ order.now }
-        ensures gates { AreUnbounded self.new.course.board conditions.now.forced.items conditions.now.forbidden.items self.new.gates }
-        ensures found { result ≡ true → IsBestAllowed self.new.poset.lists self.new.levels conditions.now.forced.items conditions.now.forbidden.items
-            (matching_of self.new.poset.lists self.new.poset.first.places self.new.poset.rotations self.new.held.set) }
+        ensures gates { AreUnbounded self.new.course.board conditions.now.forced.items
+            conditions.now.forbidden.items self.new.gates }
+        ensures found { result ≡ true → IsBestAllowed self.new.poset.lists self.new.levels
+            conditions.now.forced.items conditions.now.forbidden.items
+            (matching_of self.new.poset.lists self.new.poset.first.places self.new.poset.rotations
+            self.new.held.set) }
         ensures not_allowed { result ≡ false → (m : Places) → IsStable self.new.poset.lists m
-            → ¬ IsAllowed self.new.levels conditions.now.forced.items conditions.now.forbidden.items m }
-        ensures least { result ≡ true → IsLeast (Fits self.new.course.board self.new.gates) self.new.held.set }
-        ensures none { result ≡ false → (D : List Bool) → ¬ Fits self.new.course.board self.new.gates D }
+            → ¬ IsAllowed self.new.levels conditions.now.forced.items conditions.now.forbidden.items
+            m }
+        ensures least { result ≡ true → IsLeast (Fits self.new.course.board self.new.gates)
+            self.new.held.set }
+        ensures none { result ≡ false → (D : List Bool)
+            → ¬ Fits self.new.course.board self.new.gates D }
         ensures nothing { result ≡ false → self.new.held.log ≡ [] }
     {
         self.course.set_order(order);
@@ -225,10 +250,12 @@ impl Least {
     /// Writes the levels of all proposers in the matching of a closed set. The slice has an item for each proposer. Takes no
     /// memory, and time in proportion to the stays.
     pub fn levels_of(&self, set: &ClosedSet, into: &mut [u32])
-        requires closed { IsClosed self.now.poset.lists self.now.poset.rotations set.now.members.items }
+        requires closed { IsClosed self.now.poset.lists self.now.poset.rotations
+            set.now.members.items }
         requires level_each { length into.old ≡ length self.now.poset.lists.proposers }
         ensures { into.new ≡ level_vector_of self.now.poset.lists self.now.levels
-            (matching_of self.now.poset.lists self.now.poset.first.places self.now.poset.rotations set.now.members.items) }
+            (matching_of self.now.poset.lists self.now.poset.first.places self.now.poset.rotations
+            set.now.members.items) }
     {
         let _ = &self.market;
         write_levels(self.course.board(), &set.members, into);
@@ -237,7 +264,8 @@ impl Least {
     /// The closed set that is held: after a call of [`Least::least`] that answered true the one that it found.
     pub fn held(&self) -> &ClosedSet
         ensures set { result.now.members.items ≡ self.now.held.set }
-        ensures closed { IsClosed self.now.poset.lists self.now.poset.rotations result.now.members.items }
+        ensures closed { IsClosed self.now.poset.lists self.now.poset.rotations
+            result.now.members.items }
     {
         self.held.set()
     }
@@ -256,8 +284,10 @@ impl Least {
         ensures course { self.new.course ≡ self.old.course }
         ensures gates { self.new.gates ≡ self.old.gates }
         ensures front { take (length self.old.held.log) self.new.held.log ≡ self.old.held.log }
-        ensures raised { result ≡ true → IsRaised self.old.course.board self.old.gates self.old.course.order self.old.held.set p wanted bar self.new.held.set }
-        ensures nothing { result ≡ false → IsNotRaised self.old.course.board self.old.gates self.old.course.order self.old.held.set p wanted bar }
+        ensures raised { result ≡ true → IsRaised self.old.course.board self.old.gates
+            self.old.course.order self.old.held.set p wanted bar self.new.held.set }
+        ensures nothing { result ≡ false → IsNotRaised self.old.course.board self.old.gates
+            self.old.course.order self.old.held.set p wanted bar }
         ensures still { result ≡ false → self.new.held.log ≡ self.old.held.log }
     {
         raise(&self.course, &self.gates, &mut self.held, p, wanted, bar)
@@ -267,7 +297,9 @@ impl Least {
     /// [`Least::count`] gave this number. Takes no memory, and time in proportion to the proposers whom they move.
     pub fn back(&mut self, count: usize)
         requires some { count ≤ length self.old.held.log }
-        requires closed { (C : List Bool) → IsLogOf self.old.course.board (take count self.old.held.log) C → IsClosedIn self.old.course.board C }
+        requires closed { (C : List Bool)
+            → IsLogOf self.old.course.board (take count self.old.held.log) C
+            → IsClosedIn self.old.course.board C }
         ensures same { IsSame self.old self.new }
         ensures course { self.new.course ≡ self.old.course }
         ensures gates { self.new.gates ≡ self.old.gates }
@@ -314,7 +346,8 @@ fn greatest_rank(board: &Board, levels: &[Vec<u32>], ranks: &[Vec<u32>], now: &[
     requires few { length board.now.leaves < 2 ^ 32 }
     requires ranked { IsRanked board.now (rows_of levels.now) (rows_of ranks.now) }
     requires now { AreAtStays board.now now.now }
-    ensures { result ≡ greatest_of (rank_now board.now (rows_of levels.now) (rows_of ranks.now) now.now) (length board.now.leaves) }
+    ensures { result ≡ greatest_of (rank_now board.now (rows_of levels.now) (rows_of ranks.now)
+        now.now) (length board.now.leaves) }
 {
     let mut greatest = 0;
     for p in 0..board.proposers() {
@@ -332,7 +365,8 @@ fn write_levels(board: &Board, members: &[bool], into: &mut [u32])
     requires few { length board.now.leaves < 2 ^ 32 }
     requires level_each { length into.old ≡ length board.now.leaves }
     ensures level_each { length into.new ≡ length into.old }
-    ensures levels { (p : ℕ) → p < length board.now.leaves → slice_index into.new p ≡ level board.now members.now p }
+    ensures levels { (p : ℕ) → p < length board.now.leaves → slice_index into.new p
+        ≡ level board.now members.now p }
 {
     for p in 0..into.len() {
         let p = p as u32;
@@ -343,7 +377,8 @@ fn write_levels(board: &Board, members: &[bool], into: &mut [u32])
 
 /// How many of these rotations are members.
 fn count_members(members: &[bool], rotations: &[u32]) -> usize
-    requires { (a : ℕ) → a < length rotations.now → slice_index rotations.now a < length members.now }
+    requires { (a : ℕ) → a < length rotations.now → slice_index rotations.now a
+        < length members.now }
     ensures { result ≡ members_in members.now rotations.now }
 {
     let mut count = 0;

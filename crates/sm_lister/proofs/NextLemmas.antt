@@ -37,6 +37,7 @@ module _ {poset : RotationPoset} {levels : List (List ℕ)} {forced forbidden : 
   fits_closed C f = subst (λ b. AreGates b w.low w.high forced forbidden g → Fits b g C → IsClosed poset.lists poset.rotations C) (sym w.board.is)
       (λ a f. ((gates_mean_conditions poset.lists levels poset.first.places poset.rotations w.board.needs w.board.moves w.low w.high forced forbidden g C w.board.ground w.in_range a).0 f).0) w.gates f
 
+  -- the levels of a set that fits are the level vector of its matching
   pub vector_shown : (C : List Bool) → Fits t.board g C → vector t.board C ≡ level_vector_of poset.lists levels (matching_of poset.lists poset.first.places poset.rotations C)
   vector_shown C f = subst (λ b. vector b C ≡ level_vector_of poset.lists levels (matching_of poset.lists poset.first.places poset.rotations C)) (sym w.board.is) (vector_is w.board.ground (fits_closed C f))
 

@@ -41,6 +41,7 @@ none_lost : (w : Bool) (s t : Lister) {n : ℕ} {v : List ℕ} {out : List (List
 none_lost false s t {n} {v} next at e rest = same_lists e (rest s.cursor v at (same_next e next))
 none_lost true s t {n} {v} is at e rest = λ c u f next. same_lists e (rest c v at (same_next e (subst (λ x. IsNext (IsBefore s.order) (IsListed s) c x) (one_cursor f is) next)))
 
+-- each item of the iterator is the first of what was left
 pub listing_gives : ListingGives
 listing_gives s t limit out more = (
   (λ v g rest. item_first s.waits s.lister g.1 (rest_behind t.waits s.lister t.lister g.2 g.3 g.4 rest)),

@@ -14,6 +14,7 @@ pub record FrontSet (b : Board) (log : List ℕ) (n : ℕ) : Type 0 where
   pub set : List Bool
   pub logged : IsLogOf b (take n log) set
 
+-- the first n of a log are the log of a set
 pub front_set : {b : Board} {log : List ℕ} {C : List Bool} → IsLogOf b log C → (k n : ℕ) → n + k ≡ length log → FrontSet b log n
 front_set {b} {log} {C} w zero n e = record { set = C; logged = subst (λ front. IsLogOf b front C) (sym (take_all n log (omega arith))) w }
 front_set {b} {log} {C} w (suc k) n e =

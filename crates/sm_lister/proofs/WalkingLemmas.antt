@@ -149,14 +149,6 @@ reached_first {t} {g} {h} {w} {marks} old board order held gates long least e ea
     begins : IsWalk t.board g t.order (vector t.board h.set) (length t.order) (λ _. h.set) × IsFirst t.board g t.order h.set
     begins = walk_begins t.board g t.order h.set board order least
 
--- a vector is followed from the least set
-pub along_start : {t : Course} {g : Gates} {h : Held} {v marks : List ℕ} → IsMadeFor t g h v marks → IsLeast (Fits t.board g) h.set → IsAlong t g h v marks 0
-along_start made least = record {
-  made = made;
-  are = record { few = λ j y. absurd (omega arith); rising = λ j k a y. absurd (omega arith); are = λ j C y. absurd (omega arith) };
-  mark = record { fits = least.one; agrees = λ j y. absurd (omega arith); least = λ D f reach. least.least D f };
-}
-
 -- the marks below a position stay where the front of the log up to its own stays
 pub marks_below : {t : Course} {g : Gates} {v log then marks : List ℕ} (i : ℕ) → AreMarks t g v log marks (i + 1) → take (slice_index marks i) then ≡ take (slice_index marks i) log → slice_index marks i ≤ length then → AreMarks t g v then marks i
 marks_below {t} {g} {v} {log} {then} {marks} i w same long = marks_keep i (slice_index marks i) w (omega arith) (λ j x. w.rising j i (omega arith) (omega arith)) same long
@@ -220,5 +212,6 @@ followed {t} {g} {k} {v} {w} {marks} (Some e) d n is all reached under = subst (
 pub under_way_same : {t : Course} {g : Gates} {k : Held} {v w marks then : List ℕ} {d : ℕ} → IsUnderWay t g k v marks d → w ≡ v → then ≡ marks → IsUnderWay t g k w then d
 under_way_same {t} {g} {k} {v} {w} {marks} {then} {d} u ev em = subst (λ x. IsUnderWay t g k x then d) (sym ev) (subst (λ x. IsUnderWay t g k v x d) (sym em) u)
 
+-- what was made for a vector and marks was made for equal ones
 pub made_same : {t : Course} {g : Gates} {k : Held} {v w marks then : List ℕ} → IsMadeFor t g k v marks → w ≡ v → then ≡ marks → IsMadeFor t g k w then
 made_same {t} {g} {k} {v} {w} {marks} {then} u ev em = subst (λ x. IsMadeFor t g k x then) (sym ev) (subst (λ x. IsMadeFor t g k v x) (sym em) u)

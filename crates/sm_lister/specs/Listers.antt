@@ -34,6 +34,7 @@ IsListed s v = IsAllowedVector s.poset.lists s.levels s.forced s.forbidden v
 abbrev pub IsNextOf : Lister → List ℕ → Type 0
 IsNextOf s v = IsNext (IsBefore s.order) (IsListed s) s.cursor v
 
+-- no vector in question is behind the cursor
 abbrev pub IsAtEnd : Lister → Type 0
 IsAtEnd s = IsNoneBehind (IsBefore s.order) (IsListed s) s.cursor
 
@@ -87,6 +88,7 @@ abbrev pub ComesFrom : Bool → Lister → List ℕ → Type 0
 ComesFrom true s v = s.cursor ≡ Some v
 ComesFrom false s v = IsNextOf s v
 
+-- the vector that comes next in a listing
 abbrev pub ComesNext : Listing → List ℕ → Type 0
 ComesNext s v = ComesFrom s.waits s.lister v
 

@@ -16,6 +16,7 @@ RestFrom false s limit out more = Lists s s.cursor limit out more
 RestFrom true s limit out more = (c : Option (List ℕ)) (v : List ℕ) → s.cursor ≡ Some v
     → IsNext (IsBefore s.order) (IsListed s) c v → Lists s c limit out more
 
+-- what a listing has left up to a limit
 abbrev pub IsRest : Listing → ℕ → List (List ℕ) → Bool → Type 0
 IsRest s limit out more = RestFrom s.waits s.lister limit out more
 

@@ -44,7 +44,8 @@ impl Model for Lister {
     ghost Value = { Plain };
 
     ghost view = { λ s. record {
-      poset = poset_of s.market.value s.chain.value.first (rotations_of s.chain.value.rotations.items);
+      poset = poset_of s.market.value s.chain.value.first
+          (rotations_of s.chain.value.rotations.items);
       levels = rows_of s.levels.items;
       forced = s.conditions.forced.items;
       forbidden = s.conditions.forbidden.items;
@@ -85,10 +86,13 @@ impl Lister {
         after: Option<Vec<u32>>,
     ) -> Result<Lister, AllocError>
         requires order { IsOrder (length least.poset.lists.proposers) order.items }
-        requires after { MatchOption after (Unit {0}) (λ v. length v.items ≡ length least.poset.lists.proposers) }
+        requires after { MatchOption after (Unit {0}) (λ v. length v.items
+            ≡ length least.poset.lists.proposers) }
         requires forced { AreInRange (length least.poset.lists.proposers) conditions.forced.items }
-        requires forbidden { AreInRange (length least.poset.lists.proposers) conditions.forbidden.items }
-        ensures { IfOk result (λ s. IsStarted least conditions.forced.items conditions.forbidden.items order.items (option_map (λ v. v.items) after) s) }
+        requires forbidden { AreInRange (length least.poset.lists.proposers)
+            conditions.forbidden.items }
+        ensures { IfOk result (λ s. IsStarted least conditions.forced.items
+            conditions.forbidden.items order.items (option_map (λ v. v.items) after) s) }
     {
         let mut least = least;
         let any = least.begin(&order, &conditions);
@@ -122,7 +126,8 @@ impl Lister {
     /// needs and proposers, and to the proposers.
     pub fn advance(&mut self) -> bool
         ensures same { IsSameLister self.old self.new }
-        ensures next { result ≡ true → (v : List ℕ) × (self.new.cursor ≡ Some v) × IsNextOf self.old v }
+        ensures next { result ≡ true → (v : List ℕ) × (self.new.cursor ≡ Some v)
+            × IsNextOf self.old v }
         ensures none { result ≡ false → IsAtEnd self.old × (self.new.cursor ≡ self.old.cursor) }
         ensures here { self.new.here ≡ result }
     {
@@ -146,7 +151,8 @@ impl Lister {
     /// `AllocError` where memory ran out, and only then.
     pub(crate) fn copied(&self) -> Result<Vec<u32>, AllocError>
         requires { self.now.here ≡ true }
-        ensures { (v : List ℕ) × (self.now.cursor ≡ Some v) × IfOk result (λ vector. vector.items ≡ v) }
+        ensures { (v : List ℕ) × (self.now.cursor ≡ Some v) × IfOk result (λ vector. vector.items
+            ≡ v) }
     {
         Vec::from_slice(self.alloc, self.current())
     }
@@ -155,7 +161,8 @@ impl Lister {
     /// memory.
     pub fn set(&self) -> &ClosedSet
         requires { self.now.here ≡ true }
-        ensures closed { IsClosed self.now.poset.lists self.now.poset.rotations result.now.members.items }
+        ensures closed { IsClosed self.now.poset.lists self.now.poset.rotations
+            result.now.members.items }
         ensures vector { self.now.cursor ≡ Some (vector_of self.now result.now.members.items) }
     {
         let _ = self.here;

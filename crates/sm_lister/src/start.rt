@@ -21,10 +21,13 @@ impl Walk {
         any: bool,
     ) -> Result<Walk, AllocError>
         requires order { IsOrder (length course.now.board.leaves) course.now.order }
-        requires after { MatchOption after (Unit {0}) (λ v. length v.items ≡ length course.now.board.leaves) }
+        requires after { MatchOption after (Unit {0}) (λ v. length v.items
+            ≡ length course.now.board.leaves) }
         ensures cursor { IfOk result (λ w. cursor_of w ≡ option_map (λ v. v.items) after) }
-        ensures walking { IfOk result (λ w. (g : PlainGates) (h : PlainHeld) → IsHeld course.now.board h → AreGatesOf course.now.board g
-            → (any ≡ true → IsLeast (Fits course.now.board g) h.set) → (any ≡ false → (D : List Bool) → ¬ Fits course.now.board g D)
+        ensures walking { IfOk result (λ w. (g : PlainGates) (h : PlainHeld)
+            → IsHeld course.now.board h → AreGatesOf course.now.board g
+            → (any ≡ true → IsLeast (Fits course.now.board g) h.set) → (any ≡ false
+            → (D : List Bool) → ¬ Fits course.now.board g D)
             → IsWalking course.now g h w) }
     {
         let n = course.proposers() as usize;
@@ -49,7 +52,8 @@ impl Walk {
 /// For each depth the one behind the last position before it that is the first whose level some rotation changes.
 fn skips(alloc: Global, course: &Course) -> Result<Vec<u32>, AllocError>
     requires order { IsOrder (length course.now.board.leaves) course.now.order }
-    ensures skip_each { IfOk result (λ skip. length skip.items ≡ length course.now.board.leaves + 1) }
+    ensures skip_each { IfOk result (λ skip. length skip.items ≡ length course.now.board.leaves
+        + 1) }
     ensures skips { IfOk result (λ skip. AreSkips course.now.board course.now.order skip.items) }
 {
     let mut changes = vec![in alloc; false; course.proposers() as usize]?;
@@ -71,8 +75,10 @@ fn note_first_changes(course: &Course, changes: &mut [bool])
 /// Marks a position, where there is one.
 fn note_first_change(changes: &mut [bool], position: u32)
     ensures change_each { length changes.new ≡ length changes.old }
-    ensures marked { position < length changes.old → slice_index_or changes.new position false ≡ true }
-    ensures others { (j : ℕ) → slice_index_or changes.old j false ≡ true → slice_index_or changes.new j false ≡ true }
+    ensures marked { position < length changes.old → slice_index_or changes.new position false
+        ≡ true }
+    ensures others { (j : ℕ) → slice_index_or changes.old j false ≡ true
+        → slice_index_or changes.new j false ≡ true }
 {
     if (position as usize) < changes.len() {
         changes[position as usize] = true;

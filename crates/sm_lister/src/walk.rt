@@ -44,7 +44,8 @@ enum Met {
 pub(crate) fn advance(course: &Course, gates: &Gates, held: &mut Held, walk: &mut Walk) -> bool
     requires walking { IsWalking course.now gates.now held.old walk.old }
     ensures walking { IsWalking course.now gates.now held.new walk.new }
-    ensures reached { result ≡ true → IsReached course.now gates.now (cursor_of walk.old) held.new walk.new.vector.items walk.new.marks.items }
+    ensures reached { result ≡ true → IsReached course.now gates.now (cursor_of walk.old) held.new
+        walk.new.vector.items walk.new.marks.items }
     ensures given { result ≡ true → walk.new.given ≡ true }
     ensures none { result ≡ false → NoneLeft course.now gates.now (cursor_of walk.old) }
     ensures same { result ≡ false → cursor_of walk.new ≡ cursor_of walk.old }
@@ -62,7 +63,8 @@ fn first_step(course: &Course, gates: &Gates, held: &mut Held, walk: &mut Walk) 
     requires fresh { walk.old.fresh ≡ true }
     ensures walking { IsWalking course.now gates.now held.new walk.new }
     ensures over { walk.new.fresh ≡ false }
-    ensures reached { result ≡ true → IsReached course.now gates.now (cursor_of walk.old) held.new walk.new.vector.items walk.new.marks.items }
+    ensures reached { result ≡ true → IsReached course.now gates.now (cursor_of walk.old) held.new
+        walk.new.vector.items walk.new.marks.items }
     ensures given { walk.new.given ≡ true }
     ensures same { result ≡ false → cursor_of walk.new ≡ cursor_of walk.old }
 {
@@ -82,7 +84,8 @@ fn next_step(course: &Course, gates: &Gates, held: &mut Held, walk: &mut Walk) -
     requires over { walk.old.fresh ≡ false }
     ensures walking { IsWalking course.now gates.now held.new walk.new }
     ensures over { walk.new.fresh ≡ false }
-    ensures reached { result ≡ true → IsReached course.now gates.now (cursor_of walk.old) held.new walk.new.vector.items walk.new.marks.items }
+    ensures reached { result ≡ true → IsReached course.now gates.now (cursor_of walk.old) held.new
+        walk.new.vector.items walk.new.marks.items }
     ensures given { walk.new.given ≡ walk.old.given }
     ensures some { result ≡ true → walk.new.given ≡ true }
     ensures none { result ≡ false → NoneLeft course.now gates.now (cursor_of walk.old) }
@@ -103,9 +106,11 @@ fn next_step(course: &Course, gates: &Gates, held: &mut Held, walk: &mut Walk) -
 
 /// The least set is the first one of all.
 fn begin(course: &Course, gates: &Gates, held: &Held, walk: &mut Walk)
-    requires made { IsMadeFor course.now gates.now held.now walk.old.vector.items walk.old.marks.items }
+    requires made { IsMadeFor course.now gates.now held.now walk.old.vector.items
+        walk.old.marks.items }
     requires least { IsLeast (Fits course.now.board gates.now) held.now.set }
-    ensures reached { IsReached course.now gates.now None held.now walk.new.vector.items walk.new.marks.items }
+    ensures reached { IsReached course.now gates.now None held.now walk.new.vector.items
+        walk.new.marks.items }
     ensures given { walk.new.given ≡ true }
     ensures depth { walk.new.depth ≡ length course.now.board.leaves }
     ensures fresh { walk.new.fresh ≡ walk.old.fresh }
@@ -123,7 +128,8 @@ fn keep(held: &Held, vector: &mut [u32], marks: &mut [usize], i: u32)
     ensures vector { vector.new ≡ held.now.levels }
     ensures mark_each { length marks.new ≡ length marks.old }
     ensures before { (j : ℕ) → j < i → slice_index marks.new j ≡ slice_index marks.old j }
-    ensures behind { (j : ℕ) → i ≤ j → j < length marks.old → slice_index marks.new j ≡ length held.now.log }
+    ensures behind { (j : ℕ) → i ≤ j → j < length marks.old → slice_index marks.new j
+        ≡ length held.now.log }
 {
     vector.copy_from_slice(held.levels());
     fill_from(marks, i as usize, held.count());
@@ -163,8 +169,10 @@ fn go_up(
     ensures held { IsHeld course.now.board held.new }
     ensures front { take mark held.new.log ≡ take mark held.old.log }
     ensures longer { mark ≤ length held.new.log }
-    ensures up { result ≡ true → IsNextUp course.now.board gates.now course.now.order vector.now i held.new.set }
-    ensures nothing { result ≡ false → NoneFrom course.now.board gates.now course.now.order vector.now i }
+    ensures up { result ≡ true → IsNextUp course.now.board gates.now course.now.order vector.now i
+        held.new.set }
+    ensures nothing { result ≡ false → NoneFrom course.now.board gates.now course.now.order
+        vector.now i }
 {
     let _board = course.board();
     let p = course.proposer_at(i);
@@ -182,8 +190,10 @@ fn step(
     i: u32,
 ) -> bool
     requires under_way { IsUnderWay course.now gates.now held.old vector.old marks.old (i + 1) }
-    ensures reached { result ≡ true → IsReached course.now gates.now (Some vector.old) held.new vector.new marks.new }
-    ensures under_way { result ≡ false → IsUnderWay course.now gates.now held.new vector.new marks.new i }
+    ensures reached { result ≡ true → IsReached course.now gates.now (Some vector.old) held.new
+        vector.new marks.new }
+    ensures under_way { result ≡ false → IsUnderWay course.now gates.now held.new vector.new
+        marks.new i }
     ensures same { result ≡ false → vector.new ≡ vector.old }
 {
     let _board = course.board();
@@ -206,9 +216,12 @@ fn go_on(
 ) -> bool
     requires skips { AreSkips course.now.board course.now.order skip.now }
     requires some { 0 < length skip.now }
-    requires under_way { IsUnderWay course.now gates.now held.old vector.old marks.old (length skip.now - 1) }
-    ensures reached { result ≡ true → IsReached course.now gates.now (Some vector.old) held.new vector.new marks.new }
-    ensures under_way { result ≡ false → IsUnderWay course.now gates.now held.new vector.new marks.new 0 }
+    requires under_way { IsUnderWay course.now gates.now held.old vector.old marks.old
+        (length skip.now - 1) }
+    ensures reached { result ≡ true → IsReached course.now gates.now (Some vector.old) held.new
+        vector.new marks.new }
+    ensures under_way { result ≡ false → IsUnderWay course.now gates.now held.new vector.new
+        marks.new 0 }
     ensures same { result ≡ false → vector.new ≡ vector.old }
 {
     let _board = course.board();
@@ -234,8 +247,10 @@ fn follow(
 ) -> Option<u32>
     requires made { IsMadeFor course.now gates.now held.old vector.old marks.old }
     requires least { IsLeast (Fits course.now.board gates.now) held.old.set }
-    ensures reached { result ≡ None → IsReached course.now gates.now (Some vector.old) held.new vector.new marks.new }
-    ensures under_way { (d : ℕ) → result ≡ Some d → IsUnderWay course.now gates.now held.new vector.new marks.new d }
+    ensures reached { result ≡ None → IsReached course.now gates.now (Some vector.old) held.new
+        vector.new marks.new }
+    ensures under_way { (d : ℕ) → result ≡ Some d
+        → IsUnderWay course.now gates.now held.new vector.new marks.new d }
     ensures same { (d : ℕ) → result ≡ Some d → vector.new ≡ vector.old }
 {
     for i in 0..course.proposers() {
@@ -259,9 +274,12 @@ fn meet(
 ) -> Met
     requires along { IsAlong course.now gates.now held.old vector.old marks.old i }
     requires position { i < length course.now.board.leaves }
-    ensures along { result ≡ Met.Level → IsAlong course.now gates.now held.new vector.new marks.new (i + 1) }
-    ensures reached { result ≡ Met.Above → IsReached course.now gates.now (Some vector.old) held.new vector.new marks.new }
-    ensures under_way { result ≡ Met.Nothing → IsUnderWay course.now gates.now held.new vector.new marks.new i }
+    ensures along { result ≡ Met.Level → IsAlong course.now gates.now held.new vector.new marks.new
+        (i + 1) }
+    ensures reached { result ≡ Met.Above → IsReached course.now gates.now (Some vector.old) held.new
+        vector.new marks.new }
+    ensures under_way { result ≡ Met.Nothing → IsUnderWay course.now gates.now held.new vector.new
+        marks.new i }
     ensures same { ¬ (result ≡ Met.Above) → vector.new ≡ vector.old }
 {
     let _board = course.board();

@@ -6,33 +6,42 @@ use Rattle.std.proofs.lemmas.Bool.{false≢true}
 abbrev pub Decided : Type 0 → Type 0
 Decided P = P ⊎ (P → ⊥)
 
+-- of two numbers the first is below the second, or it is not
 pub lt_or_le : (a b : ℕ) → (a < b) ⊎ (b ≤ a)
 lt_or_le a b = grind arith
 
+-- two numbers are the same or they are not
 pub eq_or_ne : (a b : ℕ) → (a ≡ b) ⊎ (a ≢ b)
 eq_or_ne a b = grind arith
 
+-- of two numbers the first is below, the same or above
 pub less_same_more : (a b : ℕ) → (a < b) ⊎ ((a ≡ b) ⊎ (b < a))
 less_same_more a b = grind arith
 
+-- whether one number is below another is decided
 pub Decided-lt : (a b : ℕ) → Decided (a < b)
 Decided-lt a b = elim (lt_or_le a b) [ inl h ↦ inl h | inr h ↦ inr (λ k. omega arith) ]
 
+-- whether one number is at most another is decided
 pub Decided-le : (a b : ℕ) → Decided (a ≤ b)
 Decided-le a b = elim (lt_or_le b a) [ inl h ↦ inr (λ k. omega arith) | inr h ↦ inl h ]
 
+-- whether two numbers are the same is decided
 pub Decided-eq : (a b : ℕ) → Decided (a ≡ b)
 Decided-eq a b = elim (eq_or_ne a b) [ inl h ↦ inl h | inr h ↦ inr h ]
 
+-- what is decided stays so under "and"
 pub Decided-and : {P Q : Type 0} → Decided P → Decided Q → Decided (P × Q)
 Decided-and (inl p) (inl q) = inl (p, q)
 Decided-and (inl p) (inr q) = inr (λ w. q w.1)
 Decided-and (inr p) _ = inr (λ w. p w.0)
 
+-- what is decided stays so under "not"
 pub Decided-not : {P : Type 0} → Decided P → Decided (P → ⊥)
 Decided-not (inl p) = inr (λ h. h p)
 Decided-not (inr p) = inl p
 
+-- whether a test passes is decided
 pub Decided-true : (b : Bool) → Decided (b ≡ true)
 Decided-true true = inl refl
 Decided-true false = inr (λ e. false≢true e)
@@ -49,6 +58,7 @@ pub record First (n : ℕ) (P : ℕ → Type 0) : Type 0 where
   pub holds : P at
   pub earlier : (j : ℕ) → j < at → P j → ⊥
 
+-- the first number below n with a decided property, or none below n has it
 pub search_below : (n : ℕ) (P : ℕ → Type 0) → ((i : ℕ) → i < n → Decided (P i)) → First n P ⊎ ((i : ℕ) → i < n → P i → ⊥)
 search_below zero P d = inr (λ i h _. omega arith)
 search_below (suc n) P d = go (search_below n P (λ i h. d i (omega arith))) (d n (omega arith))
@@ -65,6 +75,7 @@ pub record Last (n : ℕ) (P : ℕ → Type 0) : Type 0 where
   pub holds : P at
   pub later : (j : ℕ) → at < j → j < n → P j → ⊥
 
+-- the last number below n with a decided property, or none below n has it
 pub last_below : (n : ℕ) (P : ℕ → Type 0) → ((i : ℕ) → i < n → Decided (P i)) → Last n P ⊎ ((i : ℕ) → i < n → P i → ⊥)
 last_below zero P d = inr (λ i h _. omega arith)
 last_below (suc n) P d = go (last_below n P (λ i h. d i (omega arith))) (d n (omega arith))
@@ -74,6 +85,7 @@ last_below (suc n) P d = go (last_below n P (λ i h. d i (omega arith))) (d n (o
     go (inl w) (inr p) = inl (record { at = w.at; below = omega (arith, w.below); holds = w.holds; later = λ j h k x. elim (eq_or_ne j n) [ inl e ↦ p (rw e at x) | inr e ↦ w.later j h (omega arith) x ] })
     go (inr none) (inr p) = inr (λ i h x. elim (eq_or_ne i n) [ inl e ↦ p (rw e at x) | inr e ↦ none i (omega arith) x ])
 
+-- whether some number below n has a decided property is decided
 pub Decided-some : (n : ℕ) (P : ℕ → Type 0) → ((i : ℕ) → i < n → Decided (P i)) → Decided (First n P)
 Decided-some n P d = elim (search_below n P d) [ inl w ↦ inl w | inr none ↦ inr (λ w. none w.at w.below w.holds) ]
 
@@ -101,6 +113,7 @@ moved_cases f n v i = go (eq_or_ne (f i) n)
     go (inl e) = inl (e, refl)
     go (inr e) = inr (e, refl)
 
+-- of n + 1 values below n two are the same
 pub pigeonhole : (n : ℕ) (f : ℕ → ℕ) → ((i : ℕ) → i ≤ n → f i < n) → Twice f n
 pigeonhole zero f h = absurd (omega (arith, h 0 (omega arith)))
 pigeonhole (suc n) f h = go (search_below (suc n) (λ i. f i ≡ f (suc n)) (λ i _. Decided-eq (f i) (f (suc n)))) (pigeonhole n (moved f n (f (suc n))))
@@ -139,10 +152,12 @@ pub iterate : (f : ℕ → ℕ) (k x : ℕ) → ℕ
 iterate f zero x = x
 iterate f (suc k) x = f (iterate f k x)
 
+-- f applied no times changes nothing
 pub iterate-zero : (f : ℕ → ℕ) (x : ℕ) → iterate f zero x ≡ x
 unfolding iterate
 iterate-zero f x = refl
 
+-- f applied once more
 pub iterate-suc : (f : ℕ → ℕ) (k x : ℕ) → iterate f (suc k) x ≡ f (iterate f k x)
 unfolding iterate
 iterate-suc f k x = refl
@@ -152,6 +167,7 @@ pub iterate_stays : (P : ℕ → Type 0) (f : ℕ → ℕ) → ((x : ℕ) → P 
 iterate_stays P f stays zero x p = rw (iterate-zero f x) p
 iterate_stays P f stays (suc k) x p = rw (iterate-suc f k x) (stays _ (iterate_stays P f stays k x p))
 
+-- f applied j times and then k times is f applied k + j times
 pub iterate-add : (f : ℕ → ℕ) (k j x : ℕ) → iterate f (k + j) x ≡ iterate f k (iterate f j x)
 iterate-add f zero j x = rw (iterate-zero f (iterate f j x)) (ap (λ z. iterate f z x) (omega arith))
 iterate-add f (suc k) j x = rw (iterate-suc f k (iterate f j x), ← iterate-add f k j x, ← iterate-suc f (k + j) x) (ap (λ z. iterate f z x) (omega arith))
@@ -160,6 +176,7 @@ iterate-add f (suc k) j x = rw (iterate-suc f k (iterate f j x), ← iterate-add
 pub find_cycle : (n : ℕ) (P : ℕ → Type 0) (f : ℕ → ℕ) → ((x : ℕ) → P x → x < n) → ((x : ℕ) → P x → P (f x)) → (x : ℕ) → P x → Twice (λ k. iterate f k x) n
 find_cycle n P f inside stays x p = pigeonhole n (λ k. iterate f k x) (λ k _. inside _ (iterate_stays P f stays k x p))
 
+-- y is the value of f at something with the property
 pub record Reached (P : ℕ → Type 0) (f : ℕ → ℕ) (y : ℕ) : Type 0 where
   pub from : ℕ
   pub holds : P from
@@ -180,6 +197,7 @@ onto_itself n P f inside stays injective y p =
     go (suc i) zero h _ = absurd (omega arith)
     go (suc i) (suc j) h e = go i j (omega arith) (injective _ _ (it i) (it j) (rw (← iterate-suc f i y, ← iterate-suc f j y) e))
 
+-- f takes P onto R, and g takes R onto P
 pub record BothOnto (P R : ℕ → Type 0) (f g : ℕ → ℕ) : Type 0 where
   pub left : (r : ℕ) → R r → Reached P f r
   pub right : (p : ℕ) → P p → Reached R g p

@@ -52,10 +52,6 @@ pub record AreWritten (rows others : List (List ℕ)) (b : ℕ) (namings : List 
   pub later : (a i : ℕ) → b < entry rows a i → get_or (get_or crosses a []) i None ≡ None
   pub here : (e : ℕ) → e < n → get_or (get_or crosses (naming_at namings e).by []) (naming_at namings e).place None ≡ cross_place others b (naming_at namings e).by
 
-pub written_start : {rows others : List (List ℕ)} {b : ℕ} {crosses : List (List (Option ℕ))} (namings : List Naming) → ArePlacesBefore rows others b crosses → AreWritten rows others b namings 0 crosses
-written_start namings s =
-    record { one_each = s.one_each; as_long = s.as_long; earlier = s.written; later = λ a i l. s.unwritten a i (omega arith); here = λ e l. absurd (omega arith) }
-
 -- the next naming of b
 pub written_more : {rows others : List (List ℕ)} {b n : ℕ} {namings : List Naming} {crosses : List (List (Option ℕ))} (o : Option ℕ)
     → AreNamingsOf rows (length rows) 0 b namings → n < length namings → AreWritten rows others b namings n crosses → o ≡ cross_place others b (naming_at namings n).by
@@ -165,6 +161,7 @@ length-held_in_push {X} {Y} f vectors v =
     let of : Vec X Global → List Y = λ v. map f v.items in
     ap length (map_push of vectors v) ∙ length_push (held_in f vectors) (of v)
 
+-- one more vector of cross places, for the next agent
 pub found_more : {X : Type 0} {rows others : List (List ℕ)} {b : ℕ} (f : X → Option ℕ) (vectors : List (Vec X Global)) (v : Vec X Global) → length (held_in f vectors) ≡ b
     → ((c : ℕ) → c < b → AreCrossPlacesOf others rows c (get_or (held_in f vectors) c [])) → AreCrossPlacesOf others rows b (map f v.items)
     → (c : ℕ) → c < b + 1 → AreCrossPlacesOf others rows c (get_or (held_in f (vectors ++ v ∷ [])) c [])

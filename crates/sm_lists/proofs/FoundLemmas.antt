@@ -11,6 +11,7 @@ use Rattle.sm_lists.proofs.PlaceLemmas.{place_on_is, place_on-le, place_on-none,
 pub found_on_is : (list : List ℕ) (b i : ℕ) → i < length list → get_or list i 0 ≡ b → ((k : ℕ) → k < i → get_or list k 0 ≢ b) → Some i ≡ found_on list b
 found_on_is list b i on there before = let place : place_on list b ≡ i = place_on_is list b i on there before in grind (arith, nat_tests)
 
+-- a number that is at no place of a list isn't found on it
 pub found_on-none : (list : List ℕ) (b : ℕ) → ((i : ℕ) → i < length list → get_or list i 0 ≢ b) → let none : Option ℕ = None in none ≡ found_on list b
 found_on-none list b none = let place : place_on list b ≡ length list = place_on-none list b none in grind (arith, nat_tests)
 
@@ -31,6 +32,7 @@ found_on-some list b i is =
     (λ ge. absurd (none-some i (found_on-none list b (λ j on there. let lt = place_on-lt list b j on there in omega arith) ∙ is)))
     (cases_lt (place_on list b) (length list))
 
+-- what isn't found on a list has the list's length as its place
 pub place_on-unfound : (list : List ℕ) (b : ℕ) → (let none : Option ℕ = None in none ≡ found_on list b) → place_on list b ≡ length list
 place_on-unfound list b is =
     let le = place_on-le list b in

@@ -1,7 +1,7 @@
 -- What holds of the items of a list once one of them is replaced or added, or once some are gone.
-use Rattle.std.proofs.Common.{◌≡◌, ◌≢◌, ◌∷◌, ◌++◌, ◌+◌, set, ℕ, ◌<◌, List, [], length, get_or, drop, sym, ap, subst, ◌∙◌, arith, ⊎_elim}
+use Rattle.std.proofs.Common.{◌≡◌, ◌≢◌, ◌∷◌, ◌++◌, ◌+◌, set, ℕ, ◌<◌, List, [], length, get_or, sym, subst, arith, ⊎_elim}
 use Rattle.std.proofs.lemmas.Bool.{cases_lt, cases_eq}
-use Rattle.std.proofs.lemmas.List.{get_or-set_same, get_or-set_other, get_or_append_left, get_or_push, get_or-drop, drop-drop, length_push}
+use Rattle.std.proofs.lemmas.List.{get_or-set_same, get_or-set_other, get_or_append_left, get_or_push, length_push}
 
 -- what holds at each index of a list after one item is replaced
 pub set_cases : {X : Type 0} (P : ℕ → X → Type 0) (xs : List X) (i : ℕ) (y d : X) → i < length xs → P i y → ((j : ℕ) → j ≢ i → P j (get_or xs j d)) → (j : ℕ) → P j (get_or (set xs i y) j d)
@@ -22,12 +22,3 @@ push_cases {X} P xs y d here there j h =
     let R : X → Type 0 = λ x. P j x in
     subst R (sym (get_or_push xs y d j e)) (let Q : ℕ → Type 0 = λ k. P k y in subst Q e here))
     (cases_lt j (length xs))
-
--- what is left of a list behind its first a items: the first of it, and the rest
-pub left_first : {X : Type 0} {left rest : List X} {x : X} (all : List X) (a : ℕ) → left ≡ x ∷ rest → left ≡ drop a all → x ≡ get_or all a x
-left_first {x = x} all a is left =
-    let here : a + 0 ≡ a = omega arith in
-    subst (λ n. x ≡ get_or all n x) here (ap (λ xs. get_or xs 0 x) (sym is ∙ left) ∙ get_or-drop a all 0 x)
-
-pub left_rest : {X : Type 0} {left rest : List X} {x : X} (all : List X) (a : ℕ) → left ≡ x ∷ rest → left ≡ drop a all → rest ≡ drop (a + 1) all
-left_rest all a is left = ap (drop 1) (sym is ∙ left) ∙ drop-drop 1 a all

@@ -9,24 +9,6 @@ use Rattle.sm_lists.specs.Held.{held_in}
 use Rattle.sm_lists.specs.declared.naming.Naming.{Naming}
 use Rattle.sm_lists.proofs.ItemLemmas.{set_cases, push_cases}
 
--- before the first list there is no naming
-pub namings_start : (rows : List (List ℕ)) (others : ℕ) (lists : List (List Naming)) → length lists ≡ others → ((b : ℕ) → get_or lists b [] ≡ []) → AreNamings rows others 0 0 lists
-namings_start rows others lists long empty =
-    record {
-      one_each = long;
-      of = λ b _. rw (empty b)
-          (record {
-            on_list = λ e l. absurd (omega arith);
-            names = λ e l. absurd (omega arith);
-            reached = λ e l. absurd (omega arith);
-            here = λ e l. absurd (omega arith);
-            rising = λ e f l m. absurd (omega arith);
-            ordered = λ e f l m. absurd (omega arith);
-            earlier_named = λ c i l. absurd (omega arith);
-            here_named = λ i l. absurd (omega arith);
-          });
-    }
-
 module _ {rows : List (List ℕ)} {a k b : ℕ} {namings : List Naming} (n : AreNamingsOf rows a k b namings) where
   -- an entry that names another agent adds no naming
   naming_passes : entry rows a k ≢ b → AreNamingsOf rows a (k + 1) b namings
@@ -98,9 +80,11 @@ naming_next {rows} {a} {b} {namings} n =
     }
 
 module _ {others a k : ℕ} {rows : List (List ℕ)} {lists : List (List Naming)} (n : AreNamings rows others a k lists) where
+  -- an entry that names nobody is passed by
   pub namings_pass : others ≤ entry rows a k → AreNamings rows others a (k + 1) lists
   namings_pass past = record { one_each = n.one_each; of = λ b lt. naming_passes (n.of b lt) (λ is. absurd (omega arith)) }
 
+  -- an entry that names somebody is added to the namings of whom it names
   pub namings_add : (named : ℕ) → k < length (row rows a) → named ≡ entry rows a k → named < others
       → AreNamings rows others a (k + 1) (set lists named (get_or lists named [] ++ record { by = a; place = k } ∷ []))
   namings_add named on is lt =
@@ -112,6 +96,7 @@ module _ {others a k : ℕ} {rows : List (List ℕ)} {lists : List (List Naming)
             (λ b other lt. naming_passes (n.of b lt) (λ same. other (sym (is ∙ same))));
       }
 
+-- the namings up to the end of a's list are those before the next list
 pub namings_next : {others a : ℕ} {rows : List (List ℕ)} {lists : List (List Naming)} → AreNamings rows others a (length (row rows a)) lists → AreNamings rows others (a + 1) 0 lists
 namings_next n = record { one_each = n.one_each; of = λ b lt. naming_next (n.of b lt) }
 

@@ -63,5 +63,6 @@ length-le-range list n within apart = one_to_one-le (length list) n (λ i. get_o
 pub place_of-le : (rows : List (List ℕ)) (a b : ℕ) → place_of rows a b ≤ length (row rows a)
 place_of-le rows a b = place_on-le (row rows a) b
 
+-- at the place of b on a's list stands b
 pub entry-place_of : (rows : List (List ℕ)) (a b : ℕ) → place_of rows a b < length (row rows a) → entry rows a (place_of rows a b) ≡ b
 entry-place_of rows a b h = get_or-place_on (row rows a) b h

@@ -4,18 +4,22 @@ use Rattle.std.proofs.lemmas.Bool.{cases_eq}
 use Rattle.sm_lists.specs.Sums.{sum_to}
 use Rattle.sm_lists.proofs.Counting.{eq_or_ne}
 
+-- terms that are the same have the same sum
 pub sum_same : (n : ℕ) (f g : ℕ → ℕ) → ((i : ℕ) → i < n → f i ≡ g i) → sum_to f n ≡ sum_to g n
 sum_same zero f g e = refl
 sum_same (suc n) f g e = omega (arith, sum_same n f g (λ i h. e i (omega arith)), e n (omega arith))
 
+-- terms that are no greater have no greater sum
 pub sum_le : (n : ℕ) (f g : ℕ → ℕ) → ((i : ℕ) → i < n → f i ≤ g i) → sum_to f n ≤ sum_to g n
 sum_le zero f g e = omega arith
 sum_le (suc n) f g e = omega (arith, sum_le n f g (λ i h. e i (omega arith)), e n (omega arith))
 
+-- a sum of zeros is zero
 pub sum_none : (n : ℕ) (f : ℕ → ℕ) → ((i : ℕ) → i < n → f i ≡ 0) → sum_to f n ≡ 0
 sum_none zero f e = refl
 sum_none (suc n) f e = omega (arith, sum_none n f (λ i h. e i (omega arith)), e n (omega arith))
 
+-- the sum of sums is the sum of both
 pub sum_plus : (n : ℕ) (f g : ℕ → ℕ) → sum_to (λ i. f i + g i) n ≡ sum_to f n + sum_to g n
 sum_plus zero f g = omega arith
 sum_plus (suc n) f g = omega (arith, sum_plus n f g)
@@ -31,6 +35,7 @@ sum_one (suc n) k f g d lt same here = elim (cases_eq n k) [
   | inr e ↦ omega (arith, sum_one n k f g d (omega arith) (λ i h x. same i (omega arith) x) here, same n (omega arith) e)
 ]
 
+-- the first term and the sum of the later ones
 pub sum_first : (n : ℕ) (f : ℕ → ℕ) → sum_to f (suc n) ≡ f 0 + sum_to (λ k. f (suc k)) n
 sum_first zero f = omega arith
 sum_first (suc n) f = omega (arith, sum_first n f)

@@ -50,7 +50,8 @@ pub fn cross_places<C: KeptPlace, N: KeptNaming>(
         (held_in C.kept c.rows.items)) }
     ensures others { IfOk result (λ c. AreCrossPlaces (lists_in others.now) (lists_in rows.now)
         (held_in C.kept c.others.items)) }
-    ensures namings { IfOk result (λ c. AreNamings (lists_in rows.now) (length (lists_in others.now))
+    ensures namings { IfOk result (λ c. AreNamings (lists_in rows.now)
+        (length (lists_in others.now))
         (length (lists_in rows.now)) 0 (held_in N.kept c.namings.items)) }
 {
     let namings: Vec<Vec<N>> = namings(alloc, rows, others)?;
@@ -120,7 +121,8 @@ fn add_namings<N: KeptNaming>(
     requires limits { AreWithinLimits (lists_in rows.now) }
     requires few { AreShort (lists_in rows.now) N.most }
     requires in_range { by < length rows.now }
-    requires before { AreNamings (lists_in rows.now) (length namings.old) by 0 (held_in N.kept namings.old) }
+    requires before { AreNamings (lists_in rows.now) (length namings.old) by 0
+        (held_in N.kept namings.old) }
     ensures after { OnOk result (AreNamings (lists_in rows.now) (length namings.old) (by + 1) 0
         (held_in N.kept namings.new)) }
 {
@@ -152,7 +154,8 @@ fn note_list(list: &[u32], notes: &mut Notes)
     requires short { length list.now < 2 ^ 24 }
     ensures round { notes.new.rounds ≡ notes.old.rounds + 1 }
     ensures one_each { length notes.new.places ≡ length notes.old.places }
-    ensures found { (a : ℕ) → a < length notes.old.places → noted_of notes.new.places a ≡ found_on list.now a }
+    ensures found { (a : ℕ) → a < length notes.old.places → noted_of notes.new.places a
+        ≡ found_on list.now a }
 {
     notes.clear();
     for place in 0..list.len() as u32 {
@@ -165,8 +168,10 @@ fn note_namings<N: KeptNaming>(namings: &[N], notes: &mut Notes)
     requires { notes.old.rounds + 1 < 2 ^ 32 }
     ensures round { notes.new.rounds ≡ notes.old.rounds + 1 }
     ensures one_each { length notes.new.places ≡ length notes.old.places }
-    ensures found { (rows : List (List ℕ)) (b : ℕ) → AreNamingsOf rows (length rows) 0 b (map N.kept namings.now)
-        → (a : ℕ) → a < length notes.old.places → noted_of notes.new.places a ≡ cross_place rows a b }
+    ensures found { (rows : List (List ℕ)) (b : ℕ) → AreNamingsOf rows (length rows) 0 b
+        (map N.kept namings.now)
+        → (a : ℕ) → a < length notes.old.places → noted_of notes.new.places a
+        ≡ cross_place rows a b }
 {
     notes.clear();
     for naming in namings {
@@ -180,10 +185,13 @@ fn note_namings<N: KeptNaming>(namings: &[N], notes: &mut Notes)
 fn write_places<C: KeptPlace, N: KeptNaming>(namings: &[N], notes: &Notes, crosses: &mut [Vec<C>])
     requires by { (e : ℕ) → e < length namings.now
         → (naming_at (map N.kept namings.now) e).by < length crosses.old }
-    requires on_list { (e : ℕ) → e < length namings.now → (naming_at (map N.kept namings.now) e).place
-        < length (slice_index_or (held_in C.kept crosses.old) (naming_at (map N.kept namings.now) e).by []) }
+    requires on_list { (e : ℕ) → e < length namings.now
+        → (naming_at (map N.kept namings.now) e).place
+        < length (slice_index_or (held_in C.kept crosses.old)
+        (naming_at (map N.kept namings.now) e).by []) }
     requires fits { (a : ℕ) → IfSome (noted_of notes.now.places a) (λ place. place < C.most) }
-    ensures { (rows others : List (List ℕ)) (b : ℕ) → AreNamingsOf rows (length rows) 0 b (map N.kept namings.now)
+    ensures { (rows others : List (List ℕ)) (b : ℕ) → AreNamingsOf rows (length rows) 0 b
+        (map N.kept namings.now)
         → ((a : ℕ) → a < length rows → noted_of notes.now.places a ≡ cross_place others b a)
         → ArePlacesBefore rows others b (held_in C.kept crosses.old)
         → ArePlacesBefore rows others (b + 1) (held_in C.kept crosses.new) }
@@ -197,7 +205,8 @@ fn write_places<C: KeptPlace, N: KeptNaming>(namings: &[N], notes: &Notes, cross
 /// The cross places of a list, where `notes` has what each agent's cross place is.
 fn places_of<C: KeptPlace>(alloc: Global, list: &[u32], notes: &Notes) -> Result<Vec<C>, AllocError>
     requires { (a : ℕ) → IfSome (noted_of notes.now.places a) (λ place. place < C.most) }
-    ensures { IfOk result (λ crosses. map C.kept crosses.items ≡ map (noted_of notes.now.places) list.now) }
+    ensures { IfOk result (λ crosses. map C.kept crosses.items
+        ≡ map (noted_of notes.now.places) list.now) }
 {
     let mut crosses = Vec::with_capacity(alloc, list.len())?;
     for named in list {

@@ -28,7 +28,8 @@ impl Model for Notes {
 
     ghost view = { λ n. record { rounds = n.round; places = map (noted_in n.round) n.notes.items } };
 
-    ghost invariant = { λ n. (1 ≤ n.round) × ((a : ℕ) → (slice_index_or n.notes.items a no_note).stamp ≤ n.round) };
+    ghost invariant = { λ n. (1 ≤ n.round)
+        × ((a : ℕ) → (slice_index_or n.notes.items a no_note).stamp ≤ n.round) };
 }
 
 impl Notes {
@@ -51,7 +52,8 @@ impl Notes {
     /// Notes a place for an agent, unless one is noted or the agent isn't of this side.
     pub(crate) fn note(&mut self, a: u32, place: u32)
         ensures rounds { self.new.rounds ≡ self.old.rounds }
-        ensures places { self.new.places ≡ first_noted (noted_of self.old.places a) self.old.places a place }
+        ensures places { self.new.places ≡ first_noted (noted_of self.old.places a) self.old.places
+            a place }
     {
         let at = a as usize;
         if at < self.notes.len() && self.notes[at].stamp != self.round {

@@ -18,6 +18,7 @@ same_range f h a (suc n) e =
     ap (λ x. x ∷ map f (range_with_len (a + 1) n)) (e a (omega arith))
     ∙ ap (λ t. h a ∷ t) (same_range f h (a + 1) n (λ k l. e k (omega arith)))
 
+-- sides whose agents have the same lists are the same
 pub same_agents : (letter capacity count : ℕ) (f h : ℕ → List ℕ) → ((k : ℕ) → k < count → f k ≡ h k) → agents_made letter capacity f count ≡ agents_made letter capacity h count
 same_agents letter capacity count f h e =
     same_range (agent letter capacity f) (agent letter capacity h) 0 count
@@ -41,17 +42,20 @@ drawn m behind t a g xs long h =
     ∙ ap (λ k. shuffled (words k (after (behind + a * m) g)) xs) (sym long)
     ∙ sym (shuffled_behind (behind + a * m) t g xs (omega (arith, long, h)))
 
+-- the lists that are drawn behind some words are those of the words
 pub drawn_lists : (letter capacity count n behind t : ℕ) (g : Lcg) → behind + count * (n - 1) ≤ t
     → agents_made letter capacity (drawn_list n (after behind g)) count ≡ agents_made letter capacity (shuffled_list n behind (words t g)) count
 drawn_lists letter capacity count n behind t g h =
     same_agents letter capacity count _ _
     (λ a l. drawn (n - 1) behind t a g (rising n) (ap (λ k. k - 1) (length-rising n)) (omega (arith, h, times_le a count (n - 1) l)))
 
+-- the same of lists that are drawn first
 pub drawn_firsts : (letter capacity count n t : ℕ) (g : Lcg) → count * (n - 1) ≤ t
     → agents_made letter capacity (drawn_list n g) count ≡ agents_made letter capacity (shuffled_list n 0 (words t g)) count
 drawn_firsts letter capacity count n t g h =
     ap (λ g'. agents_made letter capacity (drawn_list n g') count) (sym (after_none g)) ∙ drawn_lists letter capacity count n 0 t g (omega (arith, h))
 
+-- the same of the lists of roommates
 pub drawn_rooms : (letter n : ℕ) (g : Lcg)
     → agents_made letter 1 (drawn_others n g) n ≡ agents_made letter 1 (shuffled_others n (words (n * (n - 1 - 1)) g)) n
 drawn_rooms letter n g =
@@ -67,6 +71,7 @@ pub drawn_first : (letter capacity count n t seed : ℕ) {g : Lcg} {agents : Lis
 drawn_first letter capacity count n t seed side start few =
     side ∙ ap (λ g. agents_made letter capacity (drawn_list n g) count) start ∙ drawn_firsts letter capacity count n t (of_seed seed) few
 
+-- the side that is drawn behind some words from a seed
 pub drawn_second : (letter capacity count n behind t seed : ℕ) {g h : Lcg} {agents : List AgentData} → agents ≡ agents_made letter capacity (drawn_list n h) count → h ≡ after behind g → g ≡ of_seed seed
     → behind + count * (n - 1) ≤ t → agents ≡ agents_made letter capacity (shuffled_list n behind (words t (of_seed seed))) count
 drawn_second letter capacity count n behind t seed side later start few =

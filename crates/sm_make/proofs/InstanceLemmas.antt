@@ -81,6 +81,7 @@ module _ (letter capacity count others most : ℕ) (list : ℕ → List ℕ) (s 
 
 -- two sides of letters p and r
 module _ (kind : Kind) (capacity n m k l : ℕ) (f g : ℕ → List ℕ) (a : IsSoundSide n m k f) (b : IsSoundSide m n l g) where
+  -- two sides with sound lists, within the limits, are an instance
   pub two_sides : kind ≢ Roommates → capacity ≤ most_capacity → (IsTrue (is_single kind) → capacity ≡ 1) → n * k + m * l ≤ most_entries
       → IsInstance (record { kind = kind; proposers = agents_made proposer_letter 1 f n; reviewers = agents_made reviewer_letter capacity g m; weights = []; forced = []; forbidden = [] })
   two_sides two fits one few =
@@ -105,9 +106,11 @@ has_two_sides Roommates = false
 has_two_sides Marriage = true
 has_two_sides Hospitals = true
 
+-- a marriage has two sides
 pub marriage_has_two : Marriage ≢ Roommates
 marriage_has_two e = true≢false (ap has_two_sides e)
 
+-- hospitals have two sides
 pub hospitals_have_two : Hospitals ≢ Roommates
 hospitals_have_two e = true≢false (ap has_two_sides e)
 
@@ -125,6 +128,7 @@ times n m k l h i =
     let b = mul-le-mul_left k i in
     omega (arith, a, b)
 
+-- up to 2,048 copies are an instance
 pub copies_are_instance : (n : ℕ) → n ≤ 2048
     → IsInstance (record { kind = Marriage; proposers = agents_made proposer_letter 1 copy_list (2 * n); reviewers = agents_made reviewer_letter 1 copy_list_back (2 * n); weights = []; forced = []; forbidden = [] })
 copies_are_instance n few =
@@ -135,6 +139,7 @@ copies_are_instance n few =
     (side copy_list_back (λ a there. (copies_are_sound n a there).1) (λ a. refl))
     marriage_has_two (omega arith) (λ _. refl) (omega arith)
 
+-- a cycle of up to 512 is an instance
 pub cycles_are_instance : (n : ℕ) → n ≤ 512
     → IsInstance (record { kind = Marriage; proposers = agents_made proposer_letter 1 (turn_from n) n; reviewers = agents_made reviewer_letter 1 (λ a. turn_from n (a + 1)) n; weights = []; forced = []; forbidden = [] })
 cycles_are_instance n few =
@@ -152,9 +157,11 @@ shuffled_are_instance kind capacity n m behind back words two fits one few few' 
     (whole_side m n (shuffled_list n back words) (omega arith) (λ a there. shuffles_are_whole n _))
     two fits one (let t = times n m 512 512 few few' in let u = times m n 512 512 few' few in omega (arith, t, u))
 
+-- up to 512 residents have up to 512 hospitals
 pub hospitals_are_few : (n : ℕ) → n ≤ 512 → hospitals_for n ≤ 512
 hospitals_are_few n few = let q = div-le_of_le-mul 8 {m = n} {n = 64} (omega arith) in omega (arith, q)
 
+-- up to 512 persons with shuffled lists are an instance of roommates
 pub rooms_are_persons : (n : ℕ) (words : List ℕ) → n ≤ 512 → ArePersons (agents_made proposer_letter 1 (shuffled_others n words) n)
 rooms_are_persons n words few =
     let side : IsSoundSide n n n (shuffled_others n words) = record {
@@ -178,5 +185,6 @@ two_are_instance {kind} {xs} {ys} {left} {right} e f i =
     subst (λ xs. IsInstance (record { kind = kind; proposers = xs; reviewers = ys; weights = []; forced = []; forbidden = [] })) (sym e)
     (subst (λ ys. IsInstance (record { kind = kind; proposers = left; reviewers = ys; weights = []; forced = []; forbidden = [] })) (sym f) i)
 
+-- instances with the same sides, and nothing else, are the same
 pub plain_of : {kind : Kind} {xs ys left right : List AgentData} → xs ≡ left → ys ≡ right → plain kind xs ys ≡ plain kind left right
 plain_of {kind} {xs} {ys} {left} {right} e f = ap (λ xs. plain kind xs ys) e ∙ ap (λ ys. plain kind left ys) f

@@ -18,6 +18,7 @@ pub record IsWhole (n : ℕ) (xs : List ℕ) : Type 0 where
   pub long : length xs ≡ n
   pub sound : IsSoundList n xs
 
+-- a shuffle of n agents names each of them once
 abbrev pub ShufflesAreWhole : Type 0
 ShufflesAreWhole = (n : ℕ) (words : List ℕ) → IsWhole n (shuffled words (rising n))
 

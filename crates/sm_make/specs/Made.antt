@@ -15,6 +15,7 @@ use Rattle.sm_make.specs.declared.shape.Shape.TheVariants.{Copies, Cycle, Random
 abbrev pub proposer_letter : ℕ
 proposer_letter = 112
 
+-- the letter r
 abbrev pub reviewer_letter : ℕ
 reviewer_letter = 114
 
@@ -30,6 +31,7 @@ agents_made letter capacity list count = map (agent letter capacity list) (range
 abbrev pub plain : Kind → List AgentData → List AgentData → Input
 plain kind proposers reviewers = Two (record { kind = kind; proposers = proposers; reviewers = reviewers; weights = []; forced = []; forbidden = [] })
 
+-- how many hospitals stand for so many residents
 abbrev pub hospitals_for : ℕ → ℕ
 hospitals_for n = max (n / 8) 1
 
@@ -41,6 +43,7 @@ words_for Random n = n * (n - 1) + n * (n - 1)
 words_for HospitalsShape n = n * (hospitals_for n - 1) + hospitals_for n * (n - 1)
 words_for Rooms n = n * (n - 1 - 1)
 
+-- the instance of a shape and a size that a list of words gives
 abbrev pub made : Shape → ℕ → List ℕ → Input
 made Copies n words = plain Marriage (agents_made proposer_letter 1 copy_list (2 * n)) (agents_made reviewer_letter 1 copy_list_back (2 * n))
 made Cycle n words = plain Marriage (agents_made proposer_letter 1 (turn_from n) n) (agents_made reviewer_letter 1 (λ a. turn_from n (a + 1)) n)

@@ -18,7 +18,8 @@ pub(crate) fn two(
     reviewers: Vec<Agent>,
 ) -> Result<Input, AllocError>
     requires { IsInstance (written_of kind proposers.items reviewers.items [] [] []) }
-    ensures { IfOk result (λ input. input ≡ plain kind (agents_of proposers.items) (agents_of reviewers.items)) }
+    ensures { IfOk result (λ input. input ≡ plain kind (agents_of proposers.items)
+        (agents_of reviewers.items)) }
 {
     let parts = Parts {
         kind,

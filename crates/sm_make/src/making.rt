@@ -40,7 +40,7 @@ pub fn make(alloc: Global, shape: Shape, size: u32, seed: u64) -> Result<Input, 
     }
 }
 
-// So many copies of two proposers and two reviewers.
+/// So many copies of two proposers and two reviewers.
 fn copies(alloc: Global, size: u32) -> Result<Input, AllocError>
     requires { size ≤ 2048 }
     ensures { IfOk result (λ input. input ≡ made Shape.Copies size []) }
@@ -51,7 +51,7 @@ fn copies(alloc: Global, size: u32) -> Result<Input, AllocError>
     Ok(input)
 }
 
-// A cycle of so many on each side.
+/// A cycle of so many on each side.
 fn cycle(alloc: Global, size: u32) -> Result<Input, AllocError>
     requires { size ≤ 512 }
     ensures { IfOk result (λ input. input ≡ made Shape.Cycle size []) }
@@ -62,7 +62,7 @@ fn cycle(alloc: Global, size: u32) -> Result<Input, AllocError>
     Ok(input)
 }
 
-// A marriage of so many on each side.
+/// A marriage of so many on each side.
 fn random(alloc: Global, size: u32, seed: u64) -> Result<Input, AllocError>
     requires { size ≤ 512 }
     ensures { IfOk result (λ input. input ≡ made_instance Shape.Random size seed) }
@@ -74,7 +74,7 @@ fn random(alloc: Global, size: u32, seed: u64) -> Result<Input, AllocError>
     Ok(input)
 }
 
-// So many residents, and a hospital for every eight of them.
+/// So many residents, and a hospital for every eight of them.
 fn hospitals(alloc: Global, size: u32, seed: u64) -> Result<Input, AllocError>
     requires { size ≤ 512 }
     ensures { IfOk result (λ input. input ≡ made_instance Shape.Hospitals size seed) }
@@ -87,7 +87,7 @@ fn hospitals(alloc: Global, size: u32, seed: u64) -> Result<Input, AllocError>
     Ok(input)
 }
 
-// So many persons.
+/// So many persons.
 fn rooms(alloc: Global, size: u32, seed: u64) -> Result<Input, AllocError>
     requires { size ≤ 512 }
     ensures { IfOk result (λ input. input ≡ made_instance Shape.Rooms size seed) }

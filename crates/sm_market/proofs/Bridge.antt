@@ -8,9 +8,11 @@ use Rattle.sm_lists.proofs.PlaceLemmas.{entry-place_of}
 use Rattle.sm_market.proofs.PlaceLemmas.{place_of-entry}
 use Rattle.sm_market.proofs.Core.{Half, Sides, Stand, Kept, Fit, Stable, Stable-turned, same_reviewers}
 
+-- who is on a's list has a on its own
 pub place_back : {rows others : List (List ℕ)} → AreMutual rows others → (a b : ℕ) → place_of rows a b < length (row rows a) → place_of others b a < length (row others b)
 place_back {rows} {others} h a b on = rw (entry-place_of rows a b on) at (h.returned a (place_of rows a b) on)
 
+-- the lists of one side, over lists, are a half as functions
 pub half_of : {rows others : List (List ℕ)} → AreMutual rows others → Half (length rows) (λ a. length (row rows a)) (place_of rows) (entry rows) (λ a. length (row others a)) (place_of others)
 half_of {rows} {others} h = record {
   few = λ p past. ap length (get_or_past rows p [] past);
@@ -19,6 +21,7 @@ half_of {rows} {others} h = record {
   back = place_back h;
 }
 
+-- the two sides of a market as functions on numbers
 abbrev pub sides_of : (l : Lists) → IsMarket l → Sides
 sides_of l h = record {
   bound = length l.proposers;
@@ -33,12 +36,15 @@ sides_of l h = record {
   right = half_of h.reviewers;
 }
 
+-- the standings of both sides in a matching
 abbrev pub stand_of : Lists → Places → Stand
 stand_of l m = record { a = standing l.proposers m.proposers; b = standing l.reviewers m.reviewers }
 
+-- a market with its sides exchanged is a market
 abbrev pub IsMarket-reversed : {l : Lists} → IsMarket l → IsMarket (reversed_lists l)
 IsMarket-reversed h = record { proposers = h.reviewers; reviewers = h.proposers }
 
+-- a matching with its sides exchanged is a matching
 abbrev pub IsMatching-reversed : {l : Lists} {m : Places} → IsMatching l m → IsMatching (reversed_lists l) (reversed m)
 IsMatching-reversed h = record { proposers = h.reviewers; reviewers = h.proposers }
 
@@ -48,10 +54,12 @@ pub record HoldsPlace (rows : List (List ℕ)) (places : List (Option ℕ)) (a :
   pub held_is : held places a ≡ Some place
   pub standing_is : standing rows places a ≡ place
 
+-- a is unmatched, and so stands past its list
 pub record HoldsNone (rows : List (List ℕ)) (places : List (Option ℕ)) (a : ℕ) : Type 0 where
   pub held_is : held places a ≡ None
   pub standing_is : standing rows places a ≡ length (row rows a)
 
+-- an agent holds no place or some place
 pub held_cases : (rows : List (List ℕ)) (places : List (Option ℕ)) (a : ℕ) → HoldsNone rows places a ⊎ HoldsPlace rows places a
 held_cases rows places a = go (held places a) refl
   where
@@ -59,9 +67,11 @@ held_cases rows places a = go (held places a) refl
     go None e = inl (record { held_is = e; standing_is = rw e })
     go (Some i) e = inr (record { place = i; held_is = e; standing_is = rw e })
 
+-- who holds a place stands there
 pub standing-some : (rows : List (List ℕ)) (places : List (Option ℕ)) (a i : ℕ) → held places a ≡ Some i → standing rows places a ≡ i
 standing-some rows places a i e = rw e
 
+-- who is unmatched stands at the length of its list
 pub standing-none : (rows : List (List ℕ)) (places : List (Option ℕ)) (a : ℕ) → held places a ≡ None → standing rows places a ≡ length (row rows a)
 standing-none rows places a e = rw e
 
@@ -72,12 +82,14 @@ held_at rows places a h = elim (held_cases rows places a) [
   | inr w ↦ w.held_is ∙ ap Some (sym w.standing_is)
 ]
 
+-- who stands past its list is unmatched
 pub held_none : {rows others : List (List ℕ)} {places theirs : List (Option ℕ)} → AreHeldInTurn rows others places theirs → (a : ℕ) → length (row rows a) ≤ standing rows places a → held places a ≡ None
 held_none {rows} {others} {places} h a past = elim (held_cases rows places a) [
   | inl w ↦ w.held_is
   | inr w ↦ absurd (omega (arith, w.standing_is, h.on_list a w.place w.held_is))
 ]
 
+-- one side of a matching over lists, as functions
 pub kept_of : {rows others : List (List ℕ)} {places theirs : List (Option ℕ)} → AreHeldInTurn rows others places theirs → Kept (λ a. length (row rows a)) (place_of rows) (place_of others) (standing rows places) (standing others theirs)
 kept_of {rows} {others} {places} {theirs} h = record {
   within = λ p. elim (held_cases rows places p) [ inl w ↦ omega (arith, w.standing_is) | inr w ↦ omega (arith, w.standing_is, h.on_list p w.place w.held_is) ];
@@ -88,9 +100,11 @@ kept_of {rows} {others} {places} {theirs} h = record {
       sym (standing-some others theirs r _ turn);
 }
 
+-- a matching over lists is one as functions
 pub fit_of : {l : Lists} (h : IsMarket l) {m : Places} → IsMatching l m → Fit (sides_of l h) (stand_of l m)
 fit_of h f = record { left = kept_of f.proposers; right = kept_of f.reviewers }
 
+-- a stable matching over lists is one as functions
 pub stable_of : {l : Lists} (h : IsMarket l) {m : Places} → IsStable l m → Stable (sides_of l h) (stand_of l m)
 stable_of {l} h {m} f = record {
   fit = fit_of h f.matching;
@@ -115,6 +129,7 @@ held_in_turn_of {rows} {others} {places} {theirs} lists one on k = record {
       held_at others theirs (entry rows a i) (omega (arith, theirs_is, back)) ∙ ap Some (sym theirs_is);
 }
 
+-- what is stable as functions has no blocking pair over lists
 pub unblocked_of : {l : Lists} (h : IsMarket l) {m : Places} → Stable (sides_of l h) (stand_of l m) → (p i : ℕ) → ¬ Blocks l m p i
 unblocked_of {l} h {m} s p i b =
     let e = place_of-entry h.proposers p i b.on_list in
@@ -148,5 +163,6 @@ places_equal {l} {m} {n} hm hn left right = λ i. record { proposers = one i; re
     two : m.reviewers ≡ n.reviewers
     two = ext_get_or None m.reviewers n.reviewers (hm.reviewers.one_each ∙ sym hn.reviewers.one_each) (λ i _. same l.reviewers m.reviewers n.reviewers i (hm.reviewers.on_list i) (hn.reviewers.on_list i) (right i))
 
+-- two stable matchings in which each proposer stands alike are one
 pub stable_equal : {l : Lists} (h : IsMarket l) {m n : Places} → IsStable l m → IsStable l n → ((p : ℕ) → standing l.proposers m.proposers p ≡ standing l.proposers n.proposers p) → m ≡ n
 stable_equal h hm hn alike = places_equal hm.matching hn.matching alike (same_reviewers (fit_of h hm.matching) (fit_of h hn.matching) alike)

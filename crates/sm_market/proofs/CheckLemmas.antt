@@ -13,6 +13,7 @@ abbrev pub all_below : ℕ → (ℕ → Bool) → Bool
 all_below zero p = true
 all_below (suc n) p = all_below n p && p n
 
+-- what passes for all numbers below n passes for each
 pub all_below_at : (n : ℕ) (p : ℕ → Bool) → all_below n p ≡ true → (k : ℕ) → k < n → p k ≡ true
 all_below_at zero p h k l = absurd (omega arith)
 all_below_at (suc n) p h k l =
@@ -23,15 +24,18 @@ all_below_at (suc n) p h k l =
 abbrev pub all_entries : List (List ℕ) → (ℕ → ℕ → Bool) → Bool
 all_entries rows p = all_below (length rows) (λ a. all_below (length (row rows a)) (p a))
 
+-- what passes for all entries passes for each
 pub all_entries_at : (rows : List (List ℕ)) (p : ℕ → ℕ → Bool) → all_entries rows p ≡ true → (a i : ℕ) → i < length (row rows a) → p a i ≡ true
 all_entries_at rows p h a i l =
     all_below_at (length (row rows a)) (p a) (all_below_at (length rows) (λ a. all_below (length (row rows a)) (p a)) h a (row_in_range rows a i l)) i l
 
+-- the test that one side's lists are in range, without repeats and returned
 abbrev pub are_mutual : List (List ℕ) → List (List ℕ) → Bool
 are_mutual rows others =
     all_entries rows (λ a i. let b = entry rows a i in
     ltb b (length others) && (all_below i (λ j. not (eqb (entry rows a j) b)) && ltb (place_of others b a) (length (row others b))))
 
+-- where the test passes the lists are mutual
 pub mutual_from_test : (rows others : List (List ℕ)) → are_mutual rows others ≡ true → AreMutual rows others
 mutual_from_test rows others h =
     let at : (a i : ℕ) → i < length (row rows a) → (ltb (entry rows a i) (length others) && (all_below i (λ j. not (eqb (entry rows a j) (entry rows a i))) && ltb (place_of others (entry rows a i) a) (length (row others (entry rows a i))))) ≡ true =
@@ -62,9 +66,11 @@ abbrev pub is_in_turn : List (List ℕ) → List (List ℕ) → List (Option ℕ
 is_in_turn rows others theirs a None = true
 is_in_turn rows others theirs a (Some i) = ltb i (length (row rows a)) && is_number (held theirs (entry rows a i)) (place_of others (entry rows a i) a)
 
+-- the test that each agent that holds a place is held in turn
 abbrev pub are_in_turn : List (List ℕ) → List (List ℕ) → List (Option ℕ) → List (Option ℕ) → Bool
 are_in_turn rows others places theirs = eqb (length places) (length rows) && all_below (length rows) (λ a. is_in_turn rows others theirs a (held places a))
 
+-- where the test passes each is held in turn
 pub in_turn_from_test : (rows others : List (List ℕ)) (places theirs : List (Option ℕ)) → are_in_turn rows others places theirs ≡ true → AreHeldInTurn rows others places theirs
 in_turn_from_test rows others places theirs h =
     let each : (eqb (length places) (length rows) ≡ true) × (all_below (length rows) (λ a. is_in_turn rows others theirs a (held places a)) ≡ true) = and_parts _ _ h in
@@ -84,6 +90,7 @@ in_turn_from_test rows others places theirs h =
 pub matching_from_test : (l : Lists) (m : Places) → are_in_turn l.proposers l.reviewers m.proposers m.reviewers ≡ true → are_in_turn l.reviewers l.proposers m.reviewers m.proposers ≡ true → IsMatching l m
 matching_from_test l m h g = record { proposers = in_turn_from_test l.proposers l.reviewers m.proposers m.reviewers h; reviewers = in_turn_from_test l.reviewers l.proposers m.reviewers m.proposers g }
 
+-- the test that no pair blocks
 abbrev pub is_unblocked : Lists → Places → Bool
 is_unblocked l m =
     all_entries l.proposers (λ p i. let r = entry l.proposers p i in

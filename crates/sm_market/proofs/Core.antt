@@ -11,6 +11,7 @@ pub record Half (bound : ℕ) (len : ℕ → ℕ) (place at : ℕ → ℕ → �
   pub at_place : (p r : ℕ) → place p r < len p → at p (place p r) ≡ r
   pub back : (p r : ℕ) → place p r < len p → rank r p < len' r
 
+-- the lists of both sides; `rank` is a place on a reviewer's list, and what has a dash is the reviewers'
 pub record Sides : Type 0 where
   pub bound : ℕ
   pub len : ℕ → ℕ
@@ -28,9 +29,11 @@ pub record Stand : Type 0 where
   pub a : ℕ → ℕ
   pub b : ℕ → ℕ
 
+-- the sides exchanged
 abbrev pub flip : Sides → Sides
 flip s = record { bound = s.bound'; len = s.len'; place = s.rank; at = s.at'; bound' = s.bound; len' = s.len; rank = s.place; at' = s.at; left = s.right; right = s.left }
 
+-- the standings of the two sides exchanged
 abbrev pub turned : Stand → Stand
 turned m = record { a = m.b; b = m.a }
 
@@ -39,10 +42,12 @@ pub record Kept (len : ℕ → ℕ) (place rank : ℕ → ℕ → ℕ) (a b : �
   pub within : (p : ℕ) → a p ≤ len p
   pub kept : (p r : ℕ) → a p < len p → place p r ≡ a p → rank r p ≡ b r
 
+-- a matching: the agents of both sides are held in turn
 pub record Fit (s : Sides) (m : Stand) : Type 0 where
   pub left : Kept s.len s.place s.rank m.a m.b
   pub right : Kept s.len' s.rank s.place m.b m.a
 
+-- a matching without a blocking pair
 pub record Stable (s : Sides) (m : Stand) : Type 0 where
   pub fit : Fit s m
   pub unblocked : (p r : ℕ) → s.place p r < s.len p → s.place p r < m.a p → s.rank r p < m.b r → ⊥
@@ -54,24 +59,31 @@ pub record Pair (s : Sides) (m : Stand) (p r : ℕ) : Type 0 where
   pub rank_is : s.rank r p ≡ m.b r
   pub matched' : m.b r < s.len' r
 
+-- a matching is one with the sides exchanged
 pub Fit-turned : {s : Sides} {m : Stand} → Fit s m → Fit (flip s) (turned m)
 Fit-turned f = record { left = f.right; right = f.left }
 
+-- a stable matching is stable with the sides exchanged
 pub Stable-turned : {s : Sides} {m : Stand} → Stable s m → Stable (flip s) (turned m)
 Stable-turned {s} h = record { fit = Fit-turned h.fit; unblocked = λ r p on better gains. h.unblocked p r (s.right.back r p on) gains better }
 
+-- partners are partners with the sides exchanged
 pub Pair-turned : {s : Sides} {m : Stand} {p r : ℕ} → Pair s m p r → Pair (flip s) (turned m) r p
 Pair-turned h = record { place_is = h.rank_is; matched = h.matched'; rank_is = h.place_is; matched' = h.matched }
 
+-- whom a matched proposer has at its standing is its partner
 pub pair_at : {s : Sides} {m : Stand} (p r : ℕ) → Fit s m → m.a p < s.len p → s.place p r ≡ m.a p → Pair s m p r
 pair_at {s} {m} p r f h e = let k = f.left.kept p r h e in record { place_is = e; matched = h; rank_is = k; matched' = rw k at (s.left.back p r (omega arith)) }
 
+-- a matched proposer and whom its list names at its standing are partners
 pub pair_of : {s : Sides} {m : Stand} (p : ℕ) → Fit s m → m.a p < s.len p → Pair s m p (s.at p (m.a p))
 pair_of {s} {m} p f h = pair_at p (s.at p (m.a p)) f h (s.left.place_at p (m.a p) h)
 
+-- the same of a reviewer and whom it has at its standing
 pub pair_at' : {s : Sides} {m : Stand} (p r : ℕ) → Fit s m → m.b r < s.len' r → s.rank r p ≡ m.b r → Pair s m p r
 pair_at' {s} {m} p r f h e = Pair-turned (pair_at r p (Fit-turned f) h e)
 
+-- a matched reviewer and whom its list names at its standing are partners
 pub pair_of' : {s : Sides} {m : Stand} (r : ℕ) → Fit s m → m.b r < s.len' r → Pair s m (s.at' r (m.b r)) r
 pair_of' r f h = Pair-turned (pair_of r (Fit-turned f) h)
 
@@ -80,6 +92,7 @@ pub one_reviewer : {s : Sides} {m : Stand} {p r q : ℕ} → Pair s m p r → Pa
 one_reviewer {s} {m} {p} {r} {q} h k =
     sym (s.left.at_place p r (omega (arith, h.place_is, h.matched))) ∙ ap (s.at p) (h.place_is ∙ sym k.place_is) ∙ s.left.at_place p q (omega (arith, k.place_is, k.matched))
 
+-- no reviewer has two proposers
 pub one_proposer : {s : Sides} {m : Stand} {p q r : ℕ} → Pair s m p r → Pair s m q r → p ≡ q
 one_proposer h k = one_reviewer (Pair-turned h) (Pair-turned k)
 
@@ -87,6 +100,7 @@ one_proposer h k = one_reviewer (Pair-turned h) (Pair-turned k)
 pub same_place : {s : Sides} {m n : Stand} {p r : ℕ} → Fit s n → Pair s m p r → m.a p ≡ n.a p → Pair s n p r
 same_place {s} {m} {n} {p} {r} f h e = pair_at p r f (omega (arith, h.matched)) (h.place_is ∙ e)
 
+-- the same of a reviewer that stands alike
 pub same_rank : {s : Sides} {m n : Stand} {p r : ℕ} → Fit s n → Pair s m p r → m.b r ≡ n.b r → Pair s n p r
 same_rank f h e = Pair-turned (same_place (Fit-turned f) (Pair-turned h) e)
 
@@ -101,6 +115,7 @@ easy {s} {m} {n} {p} {r} h pair less = elim (lt_or_le (n.b r) (m.b r)) [
   ]
 ]
 
+-- the same from the reviewers' side
 pub easy' : {s : Sides} {m n : Stand} {p r : ℕ} → Stable s n → Pair s m p r → m.b r < n.b r → n.a p < m.a p
 easy' h pair less = easy (Stable-turned h) (Pair-turned pair) less
 

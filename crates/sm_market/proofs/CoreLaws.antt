@@ -9,6 +9,7 @@ pub record Crossed (s : Sides) (m n : Stand) (p : ℕ) : Type 0 where
   pub pair : Pair s n p seat
   pub prefers : n.b seat < m.b seat
 
+-- opposition: who prefers m to n has a partner in n that prefers n to m, by counting both
 pub whole : {s : Sides} {m n : Stand} → Stable s m → Stable s n → (p : ℕ) → m.a p < n.a p → Crossed s m n p
 whole {s} {m} {n} hm hn p less = let w = onto.right p less in
     record { seat = w.from; pair = rw w.arrives at (theirs w.from w.holds); prefers = w.holds }
@@ -27,6 +28,7 @@ whole {s} {m} {n} hm hn p less = let w = onto.right p less in
         (λ r h. easy' hm (theirs r h) h)
         (λ r q h k e. one_reviewer (theirs r h) (rw (← e) at (theirs q k)))
 
+-- a reviewer that prefers n to m has a partner in m, and that proposer prefers m to n
 pub record Crossed' (s : Sides) (m n : Stand) (r : ℕ) : Type 0 where
   pub proposer : ℕ
   pub pair : Pair s m proposer r
@@ -37,9 +39,11 @@ pub whole' : {s : Sides} {m n : Stand} → Stable s m → Stable s n → (r : �
 whole' hm hn r less = let w = whole (Stable-turned hn) (Stable-turned hm) r less in
     record { proposer = w.seat; pair = Pair-turned w.pair; prefers = w.prefers }
 
+-- a proposer that is matched in one stable matching is matched in each
 pub same_matched : {s : Sides} {m n : Stand} → Stable s m → Stable s n → (p : ℕ) → m.a p < s.len p → n.a p < s.len p
 same_matched {s} {m} {n} hm hn p h = elim (lt_or_le (m.a p) (n.a p)) [ inl k ↦ (whole hm hn p k).pair.matched | inr k ↦ omega arith ]
 
+-- a reviewer that is matched in one stable matching is matched in each
 pub same_matched' : {s : Sides} {m n : Stand} → Stable s m → Stable s n → (r : ℕ) → m.b r < s.len' r → n.b r < s.len' r
 same_matched' hm hn r h = same_matched (Stable-turned hm) (Stable-turned hn) r h
 
@@ -50,6 +54,7 @@ opposed {s} {m} {n} hm hn all r = elim (lt_or_le (m.b r) (n.b r)) [
   | inr h ↦ h
 ]
 
+-- where no reviewer prefers n to m, no proposer prefers m to n
 pub opposed' : {s : Sides} {m n : Stand} → Stable s m → Stable s n → ((r : ℕ) → m.b r ≤ n.b r) → (p : ℕ) → n.a p ≤ m.a p
 opposed' hm hn all p = opposed (Stable-turned hm) (Stable-turned hn) all p
 

@@ -18,6 +18,7 @@ pair_held {l} h {m} s p i e =
     let here = place_of-entry h.proposers p i on in
     pair_at p (entry l.proposers p i) (stable_of h s).fit (omega arith) (omega arith)
 
+-- a reviewer and whom it holds are partners
 pub pair_held' : {l : Lists} (h : IsMarket l) {m : Places} → IsStable l m → (r k : ℕ) → held m.reviewers r ≡ Some k → Pair (sides_of l h) (stand_of l m) (entry l.reviewers r k) r
 pair_held' {l} h {m} s r k e =
     let at = standing-some l.reviewers m.reviewers r k e in
@@ -25,12 +26,14 @@ pair_held' {l} h {m} s r k e =
     let here = place_of-entry h.reviewers r k on in
     pair_at' (entry l.reviewers r k) r (stable_of h s).fit (omega arith) (omega arith)
 
+-- who prefers its partner in one stable matching to what it has in another has a partner that prefers the other
 pub opposition_of_interests : OppositionOfInterests
 opposition_of_interests l m n h hm hn = (
   (λ p i e less. easy (stable_of h hn) (pair_held h hm p i e) (omega (arith, standing-some l.proposers m.proposers p i e))),
   (λ r k e less. easy' (stable_of h hn) (pair_held' h hm r k e) (omega (arith, standing-some l.reviewers m.reviewers r k e))),
 )
 
+-- the same agents are matched in all stable matchings
 pub same_agents : SameAgents
 same_agents l m n h hm hn = (
   (λ p e. held_none hn.matching.proposers p (elim (lt_or_le (standing l.proposers n.proposers p) ((sides_of l h).len p)) [
@@ -43,8 +46,10 @@ same_agents l m n h hm hn = (
   ])),
 )
 
+-- the proposers' best is the reviewers' worst
 pub proposers_best_is_worst : ProposersBestIsWorst
 proposers_best_is_worst l m n h hm hn r = opposed (stable_of h hm.stable) (stable_of h hn) (hm.best n hn) r
 
+-- in the reviewers' best each reviewer is at its best
 pub reviewers_best_is_best : ReviewersBestIsBest
 reviewers_best_is_best l m n h hm hn r = opposed (stable_of h hn) (stable_of h hm.stable) (hm.worst n hn) r

@@ -17,5 +17,6 @@ no_worse_is rows places a b place t e h = go (held places a) refl h
 pub and_true : (a s t : Bool) → a ≡ true → a ≡ s → (s && t) ≡ t
 and_true a s t passes is = rw (sym is ∙ passes) refl
 
+-- where the first test fails, so do both together
 pub and_false : (a s t : Bool) → a ≡ false → a ≡ s → (s && t) ≡ false
 and_false a s t fails is = rw (sym is ∙ fails) refl

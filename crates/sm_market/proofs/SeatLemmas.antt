@@ -1,7 +1,7 @@
 -- Seating the proposers at their places, one after another.
-use Rattle.std.proofs.Common.{◌≡◌, ◌≢◌, ℕ, ◌+◌, ◌<◌, ◌≤◌, ◌⊎◌, true, false, List, Option, Some, None, length, set, replicate, refl, sym, ap, subst, ◌∙◌, arith, ⊎_elim, inl, inr}
+use Rattle.std.proofs.Common.{◌≡◌, ◌≢◌, ℕ, ◌+◌, ◌<◌, ◌≤◌, ◌⊎◌, true, false, List, Option, Some, None, length, set, refl, sym, ap, subst, ◌∙◌, arith, ⊎_elim, inl, inr}
 use Rattle.std.proofs.lemmas.Bool.{cases_lt, cases_eq, false_from_ne_true}
-use Rattle.std.proofs.lemmas.List.{get_or_past, get_or-replicate, length-replicate, get_or-set_same, get_or-set_other, length-set}
+use Rattle.std.proofs.lemmas.List.{get_or_past, get_or-set_same, get_or-set_other, length-set}
 use Rattle.std.specs.Option.{option_map, is_some}
 use Rattle.sm_market.specs.Lists.{Lists, row, entry, place_of, IsMarket}
 use Rattle.sm_market.specs.Matching.{held}
@@ -15,9 +15,11 @@ use Rattle.sm_lists.proofs.RowLemmas.{row_in_range}
 pub same_place : {o : Option ℕ} {i j : ℕ} → o ≡ Some i → o ≡ Some j → i ≡ j
 same_place e f = cc
 
+-- a proposer at a place on its list isn't past it
 pub not_past_at : (l : Lists) (places : List (Option ℕ)) (p at : ℕ) → held places p ≡ Some at → at < length (row l.proposers p) → ¬ IsPastList l places p
 not_past_at l places p at is lt h = let same = same_place is h.holds in let past = h.past in omega arith
 
+-- nor is one that holds no place
 pub not_past_none : (l : Lists) (places : List (Option ℕ)) (p : ℕ) → held places p ≡ None → ¬ IsPastList l places p
 not_past_none l places p is h = let some = h.holds in cc
 
@@ -40,6 +42,7 @@ pub some_of : (o : Option ℕ) → is_some o ≡ true → (q : ℕ) × (o ≡ So
 some_of None e = cc
 some_of (Some q) e = (q, refl)
 
+-- an option without an item is None
 pub none_of : (o : Option ℕ) → is_some o ≡ false → o ≡ None
 none_of None e = refl
 none_of (Some q) e = cc
@@ -60,10 +63,6 @@ pub record IsSeated (l : Lists) (places : List (Option ℕ)) (p : ℕ) (reviewer
   pub unheld : (r : ℕ) → held holders r ≡ None → held reviewers r ≡ None
   pub seated : (q i : ℕ) → q < p → held places q ≡ Some i → held holders (entry l.proposers q i) ≡ Some q
   pub untaken : (q : ℕ) → q < p → ¬ IsTaken l places q
-
-none_at : (n r : ℕ) → held (replicate n None) r ≡ None
-none_at n r =
-    ⊎_elim (λ l. get_or-replicate n r None None l) (λ l. get_or_past (replicate n None) r None (let none : Option ℕ = None in let long = length-replicate n none in omega arith)) (cases_lt r n)
 
 module _ {l : Lists} {places reviewers holders : List (Option ℕ)} {p : ℕ} (s : IsSeated l places p reviewers holders) where
   later : (r q : ℕ) → IsSeatedAt l places reviewers p r q → IsSeatedAt l places reviewers (p + 1) r q

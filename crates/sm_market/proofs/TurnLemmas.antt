@@ -56,12 +56,14 @@ module _ {l : Lists} {m : Paired} {cycle : List (ℕ × ℕ)} (market : IsMarket
   one_target i j a b e = turn_once (length cycle) i j a b
       (one_reviewer (next_in cycle i) (next_in cycle j) (turn_in (length cycle) i a) (turn_in (length cycle) j b) e)
 
+  -- the proposers of the cycle are those of the market
   pub in_range : (i : ℕ) → i < length cycle → proposer_at cycle i < length l.proposers
   in_range i a = held_in_range made.matching.proposers (proposer_at cycle i) _ (can.paired i a)
 
   target_entry : (i : ℕ) → i < length cycle → entry l.proposers (proposer_at cycle i) (place_of l.proposers (proposer_at cycle i) (target_at cycle i)) ≡ target_at cycle i
   target_entry i a = entry-place_of l.proposers (proposer_at cycle i) (target_at cycle i) (can.listed i a)
 
+  -- the reviewers to which they move are those of the market
   pub target_in_range : (i : ℕ) → i < length cycle → target_at cycle i < length l.reviewers
   target_in_range i a = rw (target_entry i a) at (market.proposers.in_range (proposer_at cycle i) _ (can.listed i a))
 
@@ -145,6 +147,7 @@ module _ {l : Lists} {m : Paired} {cycle : List (ℕ × ℕ)} (market : IsMarket
         ∙ entry-place_of l.proposers (entry l.reviewers r k) r (made.matching.proposers.on_list _ _ turn_back) in
         none before.at before.below (ap (reviewer_at cycle) before.is ∙ is)
 
+    -- once all pairs are moved it is a matching again, with its holders
     pub turn_made : IsPairingOf l (paired places reviewers holders)
     turn_made = record {
       matching = record {

@@ -86,6 +86,7 @@ place_in-some n i is = go (eqb n 4294967295) is
     go true e = absurd (none-some i e)
     go false e = same_Some n i e
 
+-- the cross places that are found on sound lists are their cross positions
 pub crosses_sound : {rows others : List (List ℕ)} (vectors : List (Vec ℕ Global)) → AreCrossPlaces rows others (held_in place_in vectors) → AreSound rows others → AreCrosses rows others (rows_of vectors)
 crosses_sound {rows} {others} vectors c sound =
     let long : length (rows_of vectors) ≡ length rows = length-map vectors (λ v. v.items) ∙ sym (length-map vectors (λ v. map place_in v.items)) ∙ c.one_each in

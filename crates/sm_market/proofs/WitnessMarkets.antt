@@ -10,12 +10,15 @@ use Rattle.sm_market.proofs.CheckLemmas.{market_from_test, matching_from_test, s
 use Rattle.sm_market.proofs.PairingLemmas.{reviewers_same, one_partner}
 use Rattle.sm_market.proofs.SeatLemmas.{option_cases}
 
+-- the lists of two and two are a market
 pub two_by_two_market : IsMarket two_by_two
 two_by_two_market = market_from_test two_by_two refl refl
 
+-- that each proposer has its first choice is stable
 pub first_choices_stable : IsStable two_by_two first_choices
 first_choices_stable = stable_from_test two_by_two first_choices (matching_from_test two_by_two first_choices refl refl) refl
 
+-- that each proposer has its second choice is stable
 pub second_choices_stable : IsStable two_by_two second_choices
 second_choices_stable = stable_from_test two_by_two second_choices (matching_from_test two_by_two second_choices refl refl) refl
 
@@ -92,6 +95,7 @@ first_choices_best = record { stable = first_choices_stable; best = λ n s p. no
     none_better n (suc zero) = omega arith
     none_better n (suc (suc p)) = omega arith
 
+-- that each proposer has its second choice is the reviewers' best
 pub second_choices_best : IsReviewersBest two_by_two second_choices
 second_choices_best = record { stable = second_choices_stable; worst = λ n s. ⊎_elim (λ e. below n first_choices e.0 first) (λ e. below n second_choices e.0 second) (two_stable_matchings n s) }
   where
@@ -107,12 +111,15 @@ second_choices_best = record { stable = second_choices_stable; worst = λ n s. �
     second : (p : ℕ) → standing two_by_two.proposers second_choices.proposers p ≤ standing two_by_two.proposers second_choices.proposers p
     second p = omega arith
 
+-- the lists with one reviewer for two proposers are a market
 pub two_for_one_market : IsMarket two_for_one
 two_for_one_market = market_from_test two_for_one refl refl
 
+-- its one pair is a stable matching
 pub one_pair_stable : IsStable two_for_one one_pair
 one_pair_stable = stable_from_test two_for_one one_pair (matching_from_test two_for_one one_pair refl refl) refl
 
+-- what is said of the market of two and two holds
 pub two_by_two_is : TwoByTwo
 two_by_two_is = (
   two_by_two_market,
@@ -122,5 +129,6 @@ two_by_two_is = (
   refl,
 )
 
+-- what is said of the market with one reviewer for two holds
 pub two_for_one_is : TwoForOne
 two_for_one_is = (two_for_one_market, one_pair_stable, refl)

@@ -8,9 +8,11 @@ use Rattle.sm_market.specs.Matching.{Places, held}
 abbrev pub proposer_at : List (ℕ × ℕ) → ℕ → ℕ
 proposer_at cycle i = (slice_index_or cycle i (0, 0)).0
 
+-- the reviewer of pair i of a cycle
 abbrev pub reviewer_at : List (ℕ × ℕ) → ℕ → ℕ
 reviewer_at cycle i = (slice_index_or cycle i (0, 0)).1
 
+-- the number of the pair behind pair i, going round
 abbrev pub next_in : List (ℕ × ℕ) → ℕ → ℕ
 next_in cycle i = if i + 1 == length cycle then 0 else i + 1
 

@@ -13,6 +13,7 @@ two_by_two = record { proposers = (0 ∷ 1 ∷ []) ∷ (1 ∷ 0 ∷ []) ∷ []; 
 abbrev pub first_choices : Places
 first_choices = record { proposers = Some 0 ∷ Some 0 ∷ []; reviewers = Some 1 ∷ Some 1 ∷ [] }
 
+-- each proposer has its second choice
 abbrev pub second_choices : Places
 second_choices = record { proposers = Some 1 ∷ Some 1 ∷ []; reviewers = Some 0 ∷ Some 0 ∷ [] }
 

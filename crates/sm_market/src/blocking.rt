@@ -7,8 +7,8 @@ ghost use Rattle.sm_market.specs.Stable.{Blocks};
 ghost use Rattle.sm_market.specs.Pairing.{IsPairingOf};
 ghost use Rattle.sm_market.specs.Blocking.{IsUnblocked, IsFirstBlocking};
 
-use crate::lists::Market;
-use crate::pairs::Pairing;
+use crate::market::Market;
+use crate::pairing::Pairing;
 
 impl Market {
     /// How a proposer stands: the place that it holds, or the length of its list where it is unmatched. Lower is
@@ -49,7 +49,8 @@ impl Market {
         requires listed { place_of self.now.reviewers r p < length (row self.now.reviewers r) }
         requires made { IsPairingOf self.now m.now }
         ensures { IsTrue result
-            ↔ (place_of self.now.reviewers r p < standing self.now.reviewers m.now.places.reviewers r) }
+            ↔ (place_of self.now.reviewers r p
+            < standing self.now.reviewers m.now.places.reviewers r) }
     {
         let standing = self.reviewer_standing(m, r) as usize;
         self.reviewer_list(r)[..standing].contains(&p)

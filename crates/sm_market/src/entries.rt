@@ -24,10 +24,13 @@ pub(crate) fn check_entries(
     crosses: &[Vec<u32>],
 ) -> Result<(), MarketFault>
     requires rows { AreWithinLimits (rows_of rows.now) }
-    requires crosses { AreCrossPlaces (rows_of rows.now) (rows_of others.now) (held_in place_in crosses.now) }
+    requires crosses { AreCrossPlaces (rows_of rows.now) (rows_of others.now)
+        (held_in place_in crosses.now) }
     ensures sound { OnOk result (AreSound (rows_of rows.now) (rows_of others.now)) }
-    ensures crosses { OnOk result (AreCrosses (rows_of rows.now) (rows_of others.now) (rows_of crosses.now)) }
-    ensures fault { IfErr result (λ f. IsFirstFaultOf side (rows_of rows.now) (rows_of others.now) f) }
+    ensures crosses { OnOk result (AreCrosses (rows_of rows.now) (rows_of others.now)
+        (rows_of crosses.now)) }
+    ensures fault { IfErr result (λ f. IsFirstFaultOf side (rows_of rows.now)
+        (rows_of others.now) f) }
 {
     let mut met = vec![in alloc; 0; others.len()]?;
     let met = met.as_mut_slice();
@@ -50,13 +53,15 @@ fn check_list(
     requires limits { AreWithinLimits (rows_of rows.now) }
     requires earlier_agents { (c j : ℕ) → c < a → j < length (row (rows_of rows.now) c)
         → IsSound (rows_of rows.now) (rows_of others.now) c j }
-    requires crosses { AreCrossPlacesOf (rows_of rows.now) (rows_of others.now) a (map place_in crosses.now) }
+    requires crosses { AreCrossPlacesOf (rows_of rows.now) (rows_of others.now) a
+        (map place_in crosses.now) }
     requires one_each { length met.old ≡ length (rows_of others.now) }
     requires met { (b : ℕ) → slice_index met.old b ≤ a }
     ensures met { OnOk result ((b : ℕ) → slice_index met.new b ≤ a + 1) }
     ensures sound { OnOk result ((i : ℕ) → i < length (row (rows_of rows.now) a)
         → IsSound (rows_of rows.now) (rows_of others.now) a i) }
-    ensures fault { IfErr result (λ f. IsFirstFaultOf side (rows_of rows.now) (rows_of others.now) f) }
+    ensures fault { IfErr result (λ f. IsFirstFaultOf side (rows_of rows.now)
+        (rows_of others.now) f) }
 {
     let stamp = a + 1;
     let list = list_at(rows, a);

@@ -13,12 +13,12 @@ mod blocking;
 mod entries;
 mod faults;
 pub mod laws;
-mod lists;
-mod pairs;
+mod market;
+mod pairing;
 mod reduced;
 pub mod witnesses;
 
 pub use faults::{MarketFault, PairingFault, Side};
-pub use lists::Market;
-pub use pairs::{Pairing, next_in};
+pub use market::Market;
+pub use pairing::{Pairing, next_in};
 pub use reduced::is_between;

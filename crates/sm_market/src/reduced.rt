@@ -5,8 +5,8 @@ ghost use Rattle.sm_market.specs.Lists.{row, entry};
 ghost use Rattle.sm_market.specs.Pairing.{IsPairingOf};
 ghost use Rattle.sm_market.specs.Reduced.{is_no_worse};
 
-use crate::lists::Market;
-use crate::pairs::Pairing;
+use crate::market::Market;
+use crate::pairing::Pairing;
 
 /// Whether the reviewer at `place` of `p`'s list stands between two pairings: `p` likes it no less than its partner in
 /// `last`, and it likes `p` no less than its partner in `first`. Where these are the reviewers' best and the proposers' best,

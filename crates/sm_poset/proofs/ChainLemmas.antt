@@ -30,6 +30,7 @@ module _ {l : Lists} (h : IsMarket l) {first : Places} {rotations : List (List (
       held_map l.proposers (place_after l (stage l first rotations k).proposers (rotation_at rotations k)) (proposer_at (rotation_at rotations k) i) (in_range k i a b)
       ∙ after_in h (stage_stable h chain k (omega arith)).matching (chain.exposed k a) i b
 
+  -- whom rotation k moves to place i holds this place behind it
   pub move_holds : (p k i : ℕ) → k < length rotations → IsMove l rotations p k i → held (stage l first rotations (suc k)).proposers p ≡ Some i
   move_holds p k i a w =
       let there : held (stage l first rotations (suc k)).proposers p ≡ Some (place_of l.proposers p (target_at (rotation_at rotations k) (pair_of (rotation_at rotations k) p))) =
@@ -40,6 +41,7 @@ module _ {l : Lists} (h : IsMarket l) {first : Places} {rotations : List (List (
   pub move_stands : (p k i : ℕ) → k < length rotations → IsMove l rotations p k i → standing l.proposers (stage l first rotations (suc k)).proposers p ≡ i
   move_stands p k i a w = standing-some l.proposers (stage l first rotations (suc k)).proposers p i (move_holds p k i a w)
 
+  -- a move leads to a place on the list
   pub move_on_list : (p k i : ℕ) → k < length rotations → IsMove l rotations p k i → i < length (row l.proposers p)
   move_on_list p k i a w = (stage_stable h chain (suc k) a).matching.proposers.on_list p i (move_holds p k i a w)
 

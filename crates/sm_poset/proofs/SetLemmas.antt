@@ -140,6 +140,7 @@ closed_from needs set long are all = record {
       subst (IsMember set) c.2 (all j (omega arith) member c.0 i c.1);
 }
 
+-- in a closed set all predecessors of each member are members
 pub closed_gives : {l : Lists} {rotations : List (List (ℕ × ℕ))} (needs : List (List ℕ)) (set : List Bool) → ((j : ℕ) → j < length rotations → AreNeedsOf l rotations j (row needs j))
     → IsClosed l rotations set → (j : ℕ) → j < length set → IsMember set j → All (IsMember set) (row needs j)
 closed_gives {l} {rotations} needs set are closed j h member a d less =
@@ -186,6 +187,7 @@ pub record IsSetOf (l : Lists) (first m : Places) (rotations : List (List (ℕ �
   pub matching : matching_of l first rotations set ≡ m
   pub one : (other : List Bool) → IsClosed l rotations other → matching_of l first rotations other ≡ m → other ≡ set
 
+-- the rotations whose leaders stand no better than their new place are the set of a stable matching
 pub reached_set_is : {l : Lists} (h : IsMarket l) {first : Places} {rotations : List (List (ℕ × ℕ))} (chain : IsCompleteChain l first rotations) {m : Places} → IsStable l m → (leaders : List (ℕ × ℕ)) → AreLeaders l rotations (length rotations) leaders
     → IsSetOf l first m rotations (reached_set l m leaders)
 reached_set_is {l} h {first} {rotations} chain {m} stable leaders w =
@@ -215,6 +217,7 @@ pub record IsMatchingOf (poset : RotationPoset) (set : List Bool) (places : List
   pub stable : IsStable poset.lists (matching_of poset.lists poset.first.places poset.rotations set)
   pub places_are : places ≡ (matching_of poset.lists poset.first.places poset.rotations set).proposers
 
+-- the worst places by the moves that are kept of a poset make the matching of a closed set
 pub matching_made : {poset : RotationPoset} {needs : List (List ℕ)} {moves : List (List (ℕ × ℕ))} {leaders : List (ℕ × ℕ)} → IsKept poset needs moves leaders → (set : List Bool) → IsClosed poset.lists poset.rotations set → (places : List (Option ℕ)) → length places ≡ length moves
     → ((p : ℕ) → p < length moves → IsWorstPlace (held poset.first.places.proposers p) (moves_at moves p) set (held places p)) → IsMatchingOf poset set places
 matching_made {poset} kept set closed places long each = record {

@@ -18,11 +18,13 @@ pub record IsStep (l : Lists) (first : Places) (rotations : List (List (ℕ × �
   pub pairs_are : pairs ≡ rotation_at rotations k
   pub after : n ≡ stage l first rotations (suc k)
 
+-- eliminating rotation k at its stage is a step down the chain
 pub step_of : {l : Lists} {first : Places} {rotations : List (List (ℕ × ℕ))} {k : ℕ} {m n : Places} {pairs : List (ℕ × ℕ)} → k < length rotations → pairs ≡ rotation_at rotations k → m ≡ stage l first rotations k → n ≡ eliminated l m pairs
     → IsStep l first rotations k pairs n
 step_of {l} {first} {rotations} {k} {m} {n} {pairs} h e before is =
     record { less = h; pairs_are = e; after = is ∙ ap (λ m. eliminated l m pairs) before ∙ ap (eliminated l (stage l first rotations k)) e }
 
+-- what is left is the next stage
 pub stage_next : {l : Lists} {first : Places} {rotations : List (List (ℕ × ℕ))} {k : ℕ} {pairs : List (ℕ × ℕ)} {n : Places} → IsStep l first rotations k pairs n → n ≡ stage l first rotations (k + 1)
 stage_next {l} {first} {rotations} {k} s = s.after ∙ ap (stage l first rotations) (sym (add-one k))
 
@@ -38,9 +40,11 @@ module _ {l : Lists} (h : IsMarket l) {first : Places} {rotations : List (List (
         (subst (λ (m : Places). (i : ℕ) → i < length (rotation_at rotations k) → IsSome (held m.proposers (proposer_at (rotation_at rotations k) i))) (sym s.after)
         (λ i a. some_left _ _ (holds_after h chain k i s.less a)))
 
+    -- its proposers are distinct
     pub distinct : (i j : ℕ) → i < j → j < length pairs → proposer_at pairs i ≢ proposer_at pairs j
     distinct = subst (λ (x : List (ℕ × ℕ)). (i j : ℕ) → i < j → j < length x → proposer_at x i ≢ proposer_at x j) (sym s.pairs_are) (chain.exposed k s.less).distinct
 
+    -- it has a pair
     pub not_empty : 0 < length pairs
     not_empty = let some = (chain.exposed k s.less).not_empty in let e = ap length s.pairs_are in omega arith
 
@@ -93,5 +97,6 @@ moves_start l rotations lists n long e = record {
   of = λ p h. subst (AreMovesOf l rotations 0 p) (sym (ap (λ x. moves_at x p) e ∙ get_or-replicate n p [] [] (omega arith))) (no_moves_yet l rotations p);
 }
 
+-- before the first rotation there is no leader
 pub leaders_start : (l : Lists) (rotations : List (List (ℕ × ℕ))) (leaders : List (ℕ × ℕ)) → leaders ≡ [] → AreLeaders l rotations 0 leaders
 leaders_start l rotations leaders e = record { one_each = ap length e; in_range = λ k h. absurd (omega arith); leads = λ k h. absurd (omega arith) }

@@ -14,6 +14,7 @@ pub record IsMove (l : Lists) (rotations : List (List (ℕ × ℕ))) (p k i : �
 abbrev pub rotation_of : List (ℕ × ℕ) → ℕ → ℕ
 rotation_of moves a = (slice_index_or moves a (0, 0)).0
 
+-- the place to which move a leads
 abbrev pub place_to : List (ℕ × ℕ) → ℕ → ℕ
 place_to moves a = (slice_index_or moves a (0, 0)).1
 

@@ -12,6 +12,7 @@ pub record RotationPoset : Type 0 where
   pub first : Paired
   pub rotations : List (List (ℕ × ℕ))
 
+-- the poset of a market with its first matching and the rotations of its chain
 abbrev pub poset_of : Lists → Paired → List (List (ℕ × ℕ)) → RotationPoset
 poset_of lists first rotations = record { lists = lists; first = first; rotations = rotations }
 

@@ -8,8 +8,8 @@
 
 mod conditions;
 mod moves;
-mod order;
+mod poset;
 mod sets;
 
 pub use conditions::Conditions;
-pub use order::Poset;
+pub use poset::Poset;

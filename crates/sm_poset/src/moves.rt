@@ -26,10 +26,12 @@ pub(crate) struct Moves {
 /// Follows a chain from its first matching to its last and notes what its rotations move.
 pub(crate) fn follow(alloc: Global, market: &Market, chain: &Chain) -> Result<Moves, AllocError>
     requires made { IsPairingOf market.now chain.now.first }
-    requires complete { IsCompleteChain market.now chain.now.first.places (rotations_of chain.now.rotations.items) }
+    requires complete { IsCompleteChain market.now chain.now.first.places
+        (rotations_of chain.now.rotations.items) }
     ensures moves { IfOk result (λ m. AreMoves market.now (rotations_of chain.now.rotations.items)
         (length chain.now.rotations.items) (moves_in m.of_proposers.items)) }
-    ensures leaders { IfOk result (λ m. AreLeaders market.now (rotations_of chain.now.rotations.items)
+    ensures leaders { IfOk result (λ m. AreLeaders market.now
+        (rotations_of chain.now.rotations.items)
         (length chain.now.rotations.items) m.leaders.items) }
     ensures market { OnOk result (IsMarket market.now) }
     ensures limits { OnOk result (IsWithinLimits market.now) }
@@ -69,9 +71,12 @@ fn add_moves(
     moves: &mut [Vec<(u32, u32)>],
 ) -> Result<(), AllocError>
     requires one_each { length m.now.places.proposers ≡ length moves.old }
-    requires matched { (i : ℕ) → i < length rotation.now → IsSome (held m.now.places.proposers (proposer_at rotation.now i)) }
-    requires distinct { (i j : ℕ) → i < j → j < length rotation.now → proposer_at rotation.now i ≢ proposer_at rotation.now j }
-    ensures { OnOk result ((p : ℕ) → IsMovedOn k rotation.now m.now.places.proposers (length rotation.now) p
+    requires matched { (i : ℕ) → i < length rotation.now
+        → IsSome (held m.now.places.proposers (proposer_at rotation.now i)) }
+    requires distinct { (i j : ℕ) → i < j → j < length rotation.now → proposer_at rotation.now i
+        ≢ proposer_at rotation.now j }
+    ensures { OnOk result ((p : ℕ) → IsMovedOn k rotation.now m.now.places.proposers
+        (length rotation.now) p
         (moves_at (moves_in moves.old) p) (moves_at (moves_in moves.new) p)) }
 {
     for &(p, _) in rotation {
@@ -85,8 +90,5 @@ fn place_in(m: &Pairing, p: u32) -> u32
     requires { IsSome (held m.now.places.proposers p) }
     ensures { Some result ≡ held m.now.places.proposers p }
 {
-    match m.place(p) {
-        Some(place) => place,
-        None => unreachable!(),
-    }
+    m.place(p).unwrap()
 }

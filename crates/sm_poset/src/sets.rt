@@ -48,7 +48,8 @@ pub(crate) fn worst_places(
         → rotation_of (moves_at (moves_in moves.now) p) a < length members.now }
     ensures one_each { IfOk result (λ places. length places.items ≡ length moves.now) }
     ensures worst { IfOk result (λ places. (p : ℕ) → p < length moves.now
-        → IsWorstPlace (held first.now.places.proposers p) (moves_at (moves_in moves.now) p) members.now (held places.items p)) }
+        → IsWorstPlace (held first.now.places.proposers p) (moves_at (moves_in moves.now) p)
+        members.now (held places.items p)) }
 {
     let mut places = Vec::with_capacity(alloc, moves.len())?;
     for p in 0..moves.len() as u32 {
@@ -87,9 +88,11 @@ pub(crate) fn reached(
     leaders: &[(u32, u32)],
 ) -> Result<Vec<bool>, AllocError>
     requires made { IsPairingOf market.now m.now }
-    requires in_range { (k : ℕ) → k < length leaders.now → (slice_index_or leaders.now k (0, 0)).0 < length market.now.proposers }
+    requires in_range { (k : ℕ) → k < length leaders.now → (slice_index_or leaders.now k (0, 0)).0
+        < length market.now.proposers }
     ensures { IfOk result (λ members. members.items
-        ≡ map (λ leader. nat_le leader.1 (standing market.now.proposers m.now.places.proposers leader.0)) leaders.now) }
+        ≡ map (λ leader. nat_le leader.1 (standing market.now.proposers m.now.places.proposers
+        leader.0)) leaders.now) }
 {
     let mut members = Vec::with_capacity(alloc, leaders.len())?;
     for &(p, place) in leaders {

@@ -40,10 +40,12 @@ lists_there held others agents them a agent are same there is sound i on =
     let below : entry agents a i < length them = sound i (omega (arith, ap length list)) in
     omega (arith, ap length same, length-map others agent_of)
 
+-- the agents that a left agent lists are there
 pub left_lists : (input : Input) (held others : List Agent) (p : ℕ) (agent : Agent) → IsInput input → agents_of held ≡ left_of input → agents_of others ≡ right_of input
     → p < length (left_of input) → agent ≡ get_or held p agent → (i : ℕ) → i < length agent.entries.items → slice_index agent.entries.items i < length others
 left_lists input held others p agent sound are same there is = lists_there held others (left_of input) (right_of input) p agent are same there is (left_entry input sound p)
 
+-- and those that a right agent lists
 pub right_lists : (input : Input) (held others : List Agent) (r : ℕ) (agent : Agent) → IsInput input → agents_of held ≡ right_of input → agents_of others ≡ left_of input
     → r < length (right_of input) → agent ≡ get_or held r agent → (i : ℕ) → i < length agent.entries.items → slice_index agent.entries.items i < length others
 right_lists input held others r agent sound are same there is = lists_there held others (right_of input) (left_of input) r agent are same there is (right_entry input sound r)
@@ -62,6 +64,7 @@ module _ (w : Written) where
   abbrev reviewer_part : List (List ℕ)
   reviewer_part = map (reviewer_line w.kind) (map reviewer_said w.reviewers) ++ item_part
 
+  -- the lines of the proposers come first
   pub proposer_text : (place : ℕ) → place < length w.proposers
       → Some (proposer_line (said_agent w.reviewers (agent_at w.proposers place))) ≡ slice_get (agent_lines w.kind (said_of (Two w))) place
   proposer_text place below = sym (part_before proposer_line proposer_said w.proposers reviewer_part place no_agent below)
@@ -70,11 +73,13 @@ module _ (w : Written) where
   past_proposers n place count past =
       ap (λ k. slice_get reviewer_part (place - k)) count ∙ sym (part_behind proposer_line proposer_said w.proposers reviewer_part place (omega arith))
 
+  -- behind them come those of the reviewers
   pub reviewer_text : (n place : ℕ) → n ≡ length w.proposers → n ≤ place → place - n < length w.reviewers
       → Some (reviewer_line w.kind (said_agent w.proposers (agent_at w.reviewers (place - n)))) ≡ slice_get (agent_lines w.kind (said_of (Two w))) place
   reviewer_text n place count past below =
       sym (part_before (reviewer_line w.kind) reviewer_said w.reviewers item_part (place - n) no_agent below) ∙ past_proposers n place count past
 
+  -- and behind these those of the pairs
   pub item_text : (n m place : ℕ) → n ≡ length w.proposers → m ≡ length w.reviewers → n ≤ place → m ≤ place - n
       → slice_get (item_lines (said_of (Two w))) (place - n - m) ≡ slice_get (agent_lines w.kind (said_of (Two w))) place
   item_text n m place count more past behind =
@@ -83,6 +88,7 @@ module _ (w : Written) where
 
 -- those of persons
 module _ (persons : List AgentData) where
+  -- in roommates the lines of the persons come first
   pub person_text : (place : ℕ) → place < length persons
       → Some (proposer_line (said_agent persons (agent_at persons place))) ≡ slice_get (agent_lines Roommates (said_of (Room persons))) place
   person_text place below = sym (part_before proposer_line (said_agent persons) persons (codes "end" ∷ []) place no_agent below)
@@ -90,8 +96,10 @@ module _ (persons : List AgentData) where
   past_persons : (place : ℕ) → length persons ≤ place → slice_get (codes "end" ∷ []) (place - length persons) ≡ slice_get (agent_lines Roommates (said_of (Room persons))) place
   past_persons place past = sym (part_behind proposer_line (said_agent persons) persons (codes "end" ∷ []) place past)
 
+  -- behind them comes the line `end`
   pub persons_end : (place : ℕ) → place ≡ length persons → Some (codes "end") ≡ slice_get (agent_lines Roommates (said_of (Room persons))) place
   persons_end place here = let none : 0 ≡ place - length persons = omega arith in ap (slice_get (codes "end" ∷ [])) none ∙ past_persons place (omega arith)
 
+  -- and behind that none
   pub past_end : (place : ℕ) → length persons < place → None ≡ slice_get (agent_lines Roommates (said_of (Room persons))) place
   past_end place past = sym (past_one (codes "end") (place - length persons) (omega arith)) ∙ past_persons place (omega arith)

@@ -84,6 +84,7 @@ module _ (w : Written) where
       let none : 0 ≡ place - length weights - length forced - length forbidden = omega arith in
       ap (slice_get end_part) none ∙ past_forbidden weights forced forbidden are same equal place past behind (omega arith)
 
+  -- behind the line `end` there is none
   pub no_text : (weights : List (ℕ × ℕ × ℤ)) (forced forbidden : List (ℕ × ℕ)) → weights ≡ w.weights → forced ≡ w.forced → forbidden ≡ w.forbidden
       → (place : ℕ) → length weights ≤ place → length forced ≤ place - length weights → length forbidden < place - length weights - length forced
       → None ≡ slice_get (item_lines (said_of (Two w))) place
@@ -99,17 +100,20 @@ module _ (w : Written) where
     count : length w.weights + length w.forced + length w.forbidden ≡ length (map weighed w.weights ++ w.forced ++ w.forbidden)
     count = sym (length-items w.weights w.forced w.forbidden)
 
+    -- each weight is of a pair of agents
     pub weight_there : (weights : List (ℕ × ℕ × ℤ)) → weights ≡ w.weights → (n : ℕ) → n < length weights → IsPairOf (length w.proposers) (length w.reviewers) (weighed (get_or weights n (0, 0, pos 0)))
     weight_there weights are n below =
         let inside : n < length w.weights = omega (arith, ap length are) in
         subst IsThere (item_first w.weights w.forced w.forbidden n inside ∙ pair_at-weighed w.weights n inside ∙ ap (λ xs. weighed (weight_in xs n)) (sym are))
         (sound.items n (omega (arith, count))).pair
 
+    -- each forced pair is one of agents
     pub force_there : (forced : List (ℕ × ℕ)) → forced ≡ w.forced → (n : ℕ) → n < length forced → IsPairOf (length w.proposers) (length w.reviewers) (get_or forced n (0, 0))
     force_there forced are n below =
         let inside : n < length w.forced = omega (arith, ap length are) in
         subst IsThere (item_second w.weights w.forced w.forbidden n inside ∙ ap (λ xs. pair_at xs n) (sym are)) (sound.items (length w.weights + n) (omega (arith, count))).pair
 
+    -- each forbidden pair is one of agents
     pub forbid_there : (forbidden : List (ℕ × ℕ)) → forbidden ≡ w.forbidden → (n : ℕ) → n < length forbidden → IsPairOf (length w.proposers) (length w.reviewers) (get_or forbidden n (0, 0))
     forbid_there forbidden are n below =
         let inside : n < length w.forbidden = omega (arith, ap length are) in

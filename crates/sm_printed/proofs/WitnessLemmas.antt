@@ -3,13 +3,16 @@ use Rattle.std.proofs.Common.{refl}
 use Rattle.std.specs.Fmt as fmt
 use Rattle.sm_printed.specs.Witnesses.{MarriagePrinted, HospitalsPrinted, RoommatesPrinted}
 
+-- the marriage has the lines that were written by hand
 pub marriage_printed : MarriagePrinted
 unfolding fmt.digits
 marriage_printed = refl
 
+-- so have the hospitals
 pub hospitals_printed : HospitalsPrinted
 unfolding fmt.digits
 hospitals_printed = refl
 
+-- and the roommates
 pub roommates_printed : RoommatesPrinted
 roommates_printed = refl

@@ -26,6 +26,7 @@ line_text input End = codes "end"
 abbrev pub IsPair : Input → ℕ → ℕ → Type 0
 IsPair input p r = (p < length (left_of input)) × (r < length (right_of input))
 
+-- each agent that a line names is there
 abbrev pub NamesAgents : Input → InstanceLine → Type 0
 NamesAgents input Header = Unit {0}
 NamesAgents input (Proposer p) = p < length (left_of input)

@@ -5,6 +5,7 @@ use Rattle.sm_instance.specs.Named.{SaidAgent, SaidPair, SaidWeight, Said, nothi
 use Rattle.sm_instance.specs.declared.inputs.Input.{Input}
 use Rattle.sm_instance.specs.declared.inputs.Input.TheVariants.{Two, Room}
 
+-- the name of agent a
 abbrev pub name_of : List AgentData → ℕ → List ℕ
 name_of agents a = (agent_at agents a).name
 
@@ -16,6 +17,7 @@ said_agent others agent = record { name = agent.name; capacity = agent.capacity;
 abbrev pub said_pair : (lefts rights : List AgentData) → ℕ × ℕ → SaidPair
 said_pair lefts rights pair = record { proposer = name_of lefts pair.0; reviewer = name_of rights pair.1; line = 0 }
 
+-- a pair of two names, with a weight
 abbrev pub said_weight : (lefts rights : List AgentData) → ℕ × ℕ × ℤ → SaidWeight
 said_weight lefts rights x = record { pair = said_pair lefts rights (x.0, x.1); weight = x.2 }
 

@@ -7,6 +7,7 @@ use Rattle.sm_instance.specs.declared.kinds.Kind.{Kind}
 use Rattle.sm_instance.specs.declared.kinds.Kind.TheVariants.{Marriage, Hospitals, Roommates}
 use Rattle.sm_report.specs.Fields.{spaced}
 
+-- the header of each kind
 abbrev pub header_line : Kind → List ℕ
 header_line Marriage = codes "stable 1 marriage"
 header_line Hospitals = codes "stable 1 hospitals"
@@ -22,21 +23,27 @@ capacity_text Marriage capacity = []
 capacity_text Hospitals capacity = codes "[" ++ decimal capacity ++ codes "]"
 capacity_text Roommates capacity = []
 
+-- the line of a proposer, and in roommates of a person
 abbrev pub proposer_line : SaidAgent → List ℕ
 proposer_line agent = codes "p " ++ agent.name ++ list_text agent.entries
 
+-- the line of a reviewer
 abbrev pub reviewer_line : Kind → SaidAgent → List ℕ
 reviewer_line kind agent = codes "r " ++ agent.name ++ capacity_text kind agent.capacity ++ list_text agent.entries
 
+-- the names of a pair
 abbrev pub pair_text : SaidPair → List ℕ
 pair_text pair = pair.proposer ++ codes " " ++ pair.reviewer
 
+-- the line of a weight
 abbrev pub weight_line : SaidWeight → List ℕ
 weight_line x = codes "weight " ++ pair_text x.pair ++ codes " " ++ signed_decimal x.weight
 
+-- the line of a forced pair
 abbrev pub force_line : SaidPair → List ℕ
 force_line pair = codes "force " ++ pair_text pair
 
+-- the line of a forbidden pair
 abbrev pub forbid_line : SaidPair → List ℕ
 forbid_line pair = codes "forbid " ++ pair_text pair
 
@@ -44,6 +51,7 @@ forbid_line pair = codes "forbid " ++ pair_text pair
 abbrev pub item_lines : Said → List (List ℕ)
 item_lines said = map weight_line said.weights ++ (map force_line said.forced ++ (map forbid_line said.forbidden ++ codes "end" ∷ []))
 
+-- the lines behind the header
 abbrev pub agent_lines : Kind → Said → List (List ℕ)
 agent_lines kind said = map proposer_line said.proposers ++ (map (reviewer_line kind) said.reviewers ++ item_lines said)
 

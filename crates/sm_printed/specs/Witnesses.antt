@@ -5,6 +5,7 @@ use Rattle.sm_instance.specs.declared.kinds.Kind.TheVariants.{Marriage, Hospital
 use Rattle.sm_instance.specs.declared.inputs.Input.TheVariants.{Two, Room}
 use Rattle.sm_printed.specs.Lines.{lines_of}
 
+-- an agent with a name, a capacity and a list
 abbrev pub agent : List ℕ → ℕ → List ℕ → AgentData
 agent name capacity entries = record { name = name; capacity = capacity; line = 0; entries = entries }
 
@@ -19,6 +20,7 @@ marriage = record {
   forbidden = (1, 1) ∷ [];
 }
 
+-- the lines of the marriage, by hand
 abbrev pub MarriagePrinted : Type 0
 MarriagePrinted = lines_of (Two marriage) ≡
     codes "stable 1 marriage"
@@ -29,6 +31,7 @@ MarriagePrinted = lines_of (Two marriage) ≡
     ∷ codes "forbid b-2 y"
     ∷ codes "end" ∷ []
 
+-- one resident and two hospitals, of which one lists nobody
 abbrev pub hospitals : Written
 hospitals = record {
   kind = Hospitals;
@@ -39,12 +42,15 @@ hospitals = record {
   forbidden = [];
 }
 
+-- the lines of the hospitals, by hand
 abbrev pub HospitalsPrinted : Type 0
 HospitalsPrinted = lines_of (Two hospitals) ≡
     codes "stable 1 hospitals" ∷ codes "p a: h" ∷ codes "r h[12]: a" ∷ codes "r i[1]:" ∷ codes "end" ∷ []
 
+-- two persons, of whom one lists itself and the other nobody
 abbrev pub persons : List AgentData
 persons = agent (codes "x") 1 (1 ∷ 0 ∷ []) ∷ agent (codes "z") 1 [] ∷ []
 
+-- the lines of the roommates, by hand
 abbrev pub RoommatesPrinted : Type 0
 RoommatesPrinted = lines_of (Room persons) ≡ codes "stable 1 roommates" ∷ codes "p x: z x" ∷ codes "p z:" ∷ codes "end" ∷ []

@@ -43,7 +43,7 @@ pub(crate) fn line_at(input: &Input, place: usize) -> Option<InstanceLine>
     }
 }
 
-// The line at a place behind the header of an instance with two sides.
+/// The line at a place behind the header of an instance with two sides.
 fn agent_line_at(instance: &Instance, place: usize) -> Option<InstanceLine>
     ensures text { option_map (line_text (Two instance.now)) result
         ≡ slice_get (agent_lines instance.now.kind (said_of (Two instance.now))) place }
@@ -61,7 +61,7 @@ fn agent_line_at(instance: &Instance, place: usize) -> Option<InstanceLine>
     item_line_at(instance, place - reviewers)
 }
 
-// The line at a place behind those of the agents.
+/// The line at a place behind those of the agents.
 fn item_line_at(instance: &Instance, place: usize) -> Option<InstanceLine>
     ensures text { option_map (line_text (Two instance.now)) result
         ≡ slice_get (item_lines (said_of (Two instance.now))) place }
@@ -90,7 +90,7 @@ fn item_line_at(instance: &Instance, place: usize) -> Option<InstanceLine>
     None
 }
 
-// The line at a place behind the header of roommates.
+/// The line at a place behind the header of roommates.
 fn person_line_at(persons: &Persons, place: usize) -> Option<InstanceLine>
     ensures text { option_map (line_text (Room persons.now)) result
         ≡ slice_get (agent_lines Roommates (said_of (Room persons.now))) place }
@@ -116,7 +116,7 @@ pub(crate) fn line_count(input: &Input) -> usize
     }
 }
 
-// How many lines an instance with two sides has behind the header.
+/// How many lines an instance with two sides has behind the header.
 fn agent_line_count(instance: &Instance) -> usize
     ensures count { result ≡ length (agent_lines instance.now.kind (said_of (Two instance.now))) }
     ensures few { result < 2 ^ 63 }

@@ -68,7 +68,7 @@ pub(crate) fn put_reviewer(
     put_list(into, others, &agent.entries)
 }
 
-// Puts the capacity of a reviewer, in hospitals.
+/// Puts the capacity of a reviewer, in hospitals.
 fn put_capacity(into: &mut LineWriter, kind: Kind, capacity: u32) -> Result<(), AllocError>
     ensures { PutsText into.old into.new (capacity_text kind capacity) result }
 {
@@ -78,7 +78,7 @@ fn put_capacity(into: &mut LineWriter, kind: Kind, capacity: u32) -> Result<(), 
     }
 }
 
-// Puts a number between `[` and `]`.
+/// Puts a number between `[` and `]`.
 fn put_bracketed(into: &mut LineWriter, capacity: u32) -> Result<(), AllocError>
     ensures { PutsText into.old into.new (codes "[" ++ decimal capacity ++ codes "]") result }
 {
@@ -87,7 +87,7 @@ fn put_bracketed(into: &mut LineWriter, capacity: u32) -> Result<(), AllocError>
     into.put_bytes(b"]")
 }
 
-// Puts `:` and the names of those on a list.
+/// Puts `:` and the names of those on a list.
 fn put_list(into: &mut LineWriter, others: &[Agent], list: &[u32]) -> Result<(), AllocError>
     requires { (i : ℕ) → i < length list.now → slice_index list.now i < length others.now }
     ensures { PutsText into.old into.new (list_text
@@ -97,7 +97,7 @@ fn put_list(into: &mut LineWriter, others: &[Agent], list: &[u32]) -> Result<(),
     put_names(into, others, list)
 }
 
-// Puts the names of agents, each behind a space.
+/// Puts the names of agents, each behind a space.
 fn put_names(into: &mut LineWriter, others: &[Agent], list: &[u32]) -> Result<(), AllocError>
     requires { (i : ℕ) → i < length list.now → slice_index list.now i < length others.now }
     ensures { PutsText into.old into.new (spaced
@@ -109,7 +109,7 @@ fn put_names(into: &mut LineWriter, others: &[Agent], list: &[u32]) -> Result<()
     Ok(())
 }
 
-// Puts the name of an agent behind a space.
+/// Puts the name of an agent behind a space.
 fn put_name(into: &mut LineWriter, others: &[Agent], a: u32) -> Result<(), AllocError>
     requires { a < length others.now }
     ensures { PutsText into.old into.new (32 ∷ name_of (agents_of others.now) a) result }

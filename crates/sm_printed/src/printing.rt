@@ -56,7 +56,7 @@ pub(crate) fn put_text_at(
     }
 }
 
-// Puts a line.
+/// Puts a line.
 fn put_line(into: &mut LineWriter, input: &Input, line: InstanceLine) -> Result<(), AllocError>
     requires { NamesAgents input.now line }
     ensures { PutsText into.old into.new (line_text input.now line) result }
@@ -79,7 +79,7 @@ fn put_line(into: &mut LineWriter, input: &Input, line: InstanceLine) -> Result<
     }
 }
 
-// Puts the header.
+/// Puts the header.
 fn put_header(into: &mut LineWriter, kind: Kind) -> Result<(), AllocError>
     ensures { PutsText into.old into.new (header_line kind) result }
 {
@@ -90,7 +90,7 @@ fn put_header(into: &mut LineWriter, kind: Kind) -> Result<(), AllocError>
     }
 }
 
-// Puts the weight of a pair.
+/// Puts the weight of a pair.
 fn put_weight(
     into: &mut LineWriter,
     input: &Input,
@@ -107,7 +107,7 @@ fn put_weight(
     into.put_signed(weight)
 }
 
-// Puts a word and the names of a pair.
+/// Puts a word and the names of a pair.
 fn put_pair(
     into: &mut LineWriter,
     input: &Input,

@@ -1,12 +1,10 @@
 -- The names at the end of tokens.
-use Rattle.std.proofs.Common.{◌≡◌, ℕ, zero, suc, ◌+◌, ◌-◌, ◌<◌, ◌≤◌, ◌&&◌, nat_le, true, false, ◌++◌, ⊎_elim, List, [], ◌∷◌, length, take, drop, refl, sym, ap, subst, ◌∙◌, arith}
+use Rattle.std.proofs.Common.{◌≡◌, ℕ, zero, suc, ◌+◌, ◌-◌, ◌<◌, ◌≤◌, nat_le, true, false, ⊎_elim, List, [], ◌∷◌, length, take, drop, refl, sym, ap, subst, ◌∙◌, arith}
 use Rattle.std.specs.List.{list_all}
 use Rattle.std.specs.Borrow.{Bor}
 use Rattle.std.proofs.lemmas.Bool.{cases_lt}
 use Rattle.std.proofs.lemmas.Bool.Decides.{nat_tests}
-use Rattle.std.proofs.lemmas.List.Folds.{list_all-append}
-use Rattle.sm_reader.proofs.BadLemmas.{and_false}
-use Rattle.std.proofs.lemmas.List.{drop-append-le, take_rest, drop-drop, drop-map, drop_all, length-map, length-drop}
+use Rattle.std.proofs.lemmas.List.{take_rest, drop-drop, drop-map, drop_all, length-map, length-drop}
 use Rattle.sm_text.specs.Name.{is_name, is_name_byte}
 use Rattle.sm_text.specs.Tokens.{begins_run}
 use Rattle.sm_instance.specs.declared.kinds.Kind.{Kind}
@@ -58,19 +56,6 @@ names_from place tokens h other within = record { are = λ k. ⊎_elim (earlier 
         let yes : nat_le (length (drop k tokens)) (length tokens - place) ≡ true = grind (arith, nat_tests, length-drop k tokens) in
         ap (λ n. list_all is_name (drop n tokens)) (sym e) ∙ ap (list_all is_name) (sym (drop-drop (k - place) place tokens)) ∙ names_drop (k - place) (drop place tokens) h
         ∙ sym yes
-
--- one more token, which is a name or isn't
-module _ (texts : List (List ℕ)) (t : List ℕ) (others : ℕ) where
-  -- a name changes nothing for those before
-  pub other_before_name : ((k : ℕ) → k < others → list_all is_name (drop k texts) ≡ false) → others ≤ length texts → (k : ℕ) → k < others → list_all is_name (drop k (texts ++ t ∷ [])) ≡ false
-  other_before_name other within k before =
-      ap (list_all is_name) (drop-append-le k texts (t ∷ []) (omega arith)) ∙ list_all-append is_name (drop k texts) (t ∷ []) ∙ ap (λ s. s && list_all is_name (t ∷ [])) (other k before)
-
-  -- what isn't a name ends them
-  pub other_at_end : is_name t ≡ false → (k : ℕ) → k < length texts + 1 → list_all is_name (drop k (texts ++ t ∷ [])) ≡ false
-  other_at_end isnt k before =
-      ap (list_all is_name) (drop-append-le k texts (t ∷ []) (omega arith)) ∙ list_all-append is_name (drop k texts) (t ∷ []) ∙ ap (λ s. list_all is_name (drop k texts) && (s && true)) isnt
-      ∙ and_false (list_all is_name (drop k texts))
 
 -- names are runs
 name_begins : (token : List ℕ) → is_name token ≡ true → begins_run token ≡ true

@@ -222,6 +222,7 @@ sides_said kind line d draft other n are =
         let y : Written = record { kind = k; proposers = a'; reviewers = b'; weights = w'; forced = f'; forbidden = g' } in x ≡ y
     five k h1 h2 h3 h4 h5 = cc
 
+-- the numbered parts of a draft make the two sides that it says
 pub parts_said : (kind : Kind) (line : ℕ) (d : Draft) → IsDraft kind line d → kind ≢ Roommates → (parts : Parts) → parts.kind ≡ kind → NumbersSides d parts → written_in parts ≡ two_sides kind (said_of kind d)
 parts_said kind line d draft other parts same are =
     ap (λ k. written_of k parts.proposers.items parts.reviewers.items parts.weights.items parts.forced.items parts.forbidden.items) same ∙ sides_said kind line d draft other parts are

@@ -14,14 +14,17 @@ unfolding form.is_bad form.list_form form.capacity_form form.weight_form form.pa
     token.is_blank token.is_mark
 texts_mean = (refl, refl, refl, refl, refl, refl, refl, refl)
 
+-- a text of a byte too many is refused
 pub long_refused : LongRefused
 unfolding text.instance_text
 long_refused bytes long = rw long refl
 
+-- agents are counted as said
 pub agents_counted : AgentsCounted
 unfolding judge.fault_of name.begins_name name.is_name_byte
 agents_counted = (refl, refl)
 
+-- entries are counted as said
 pub entries_counted : EntriesCounted
 unfolding judge.fault_of name.begins_name name.is_name_byte
 entries_counted = ((λ entries long. rw long refl), (λ entries long. rw long refl))

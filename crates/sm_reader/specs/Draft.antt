@@ -57,9 +57,11 @@ listed_side _ Reviewers = Proposers
 abbrev pub agent_in : List (List ℕ) → Declared → SaidAgent
 agent_in texts a = record { name = a.name.now; capacity = a.capacity; line = a.line; entries = map (text_at texts) a.entries.items }
 
+-- a pair with the names of its indexes
 abbrev pub pair_in : List (List ℕ) → List (List ℕ) → Pair → SaidPair
 pair_in proposers reviewers x = record { proposer = text_at proposers x.proposer; reviewer = text_at reviewers x.reviewer; line = x.line }
 
+-- a weight with the names of its pair
 abbrev pub given_in : List (List ℕ) → List (List ℕ) → Weight → SaidWeight
 given_in proposers reviewers w = record { pair = pair_in proposers reviewers w.pair; weight = w.weight }
 
@@ -81,17 +83,21 @@ abbrev pub AreAgentsBelow : ℕ → List Declared → Type 0
 AreAgentsBelow n [] = Unit {0}
 AreAgentsBelow n (a ∷ agents) = AreBelow n a.entries.items × AreAgentsBelow n agents
 
+-- the indexes of a pair are in range
 pub record IsPairBelow (proposers reviewers : ℕ) (x : Pair) : Type 0 where
   pub proposer : x.proposer < proposers
   pub reviewer : x.reviewer < reviewers
 
+-- those of each pair are
 abbrev pub ArePairsBelow : ℕ → ℕ → List Pair → Type 0
 ArePairsBelow proposers reviewers [] = Unit {0}
 ArePairsBelow proposers reviewers (x ∷ pairs) = IsPairBelow proposers reviewers x × ArePairsBelow proposers reviewers pairs
 
+-- the pairs that have weights
 abbrev pub pairs_of : List Weight → List Pair
 pairs_of weights = map (λ (w : Weight). w.pair) weights
 
+-- the pair of a weight by its indexes
 abbrev pub key_of : Weight → ℕ × ℕ
 key_of w = (w.pair.proposer, w.pair.reviewer)
 
@@ -131,6 +137,7 @@ abbrev pub Judges : Kind → ℕ → List (List ℕ) → Draft → Draft → Ste
 Judges kind line tokens old new Goes = (verdict_on kind (said_of kind old) line tokens ≡ goes (said_of kind new)) × IsDraft kind (line + 1) new
 Judges kind line tokens old new Stops = (verdict_on kind (said_of kind old) line tokens ≡ stops) × (new ≡ old)
 
+-- a verdict refuses the line for this fault; want of memory says nothing
 abbrev pub IsRefusedBy : Verdict → ℕ → TextFault → Type 0
 IsRefusedBy verdict line (Refused kind at) = (verdict ≡ refuses kind) × (at ≡ line)
 IsRefusedBy verdict line OutOfMemory = Unit {0}
@@ -140,9 +147,11 @@ IsRefusedBy verdict line OutOfMemory = Unit {0}
 abbrev pub run_fault : List ℕ → Option (List ℕ) → List (List ℕ) → Option RefusalKind
 run_fault name capacity entries = first_fault (run_rows name capacity entries)
 
+-- the first fault against the limits of one more agent with so many entries
 abbrev pub limit_fault : ℕ → ℕ → ℕ → Option RefusalKind
 limit_fault agents entries more = first_fault (limit_rows agents entries more)
 
+-- the first fault of names and limits of an agent's line
 abbrev pub name_fault : List (List ℕ) → List ℕ → List (List ℕ) → ℕ → ℕ → Option RefusalKind
 name_fault declared name entries agents all = first_fault (name_rows declared name entries ++ limit_rows agents all (length entries))
 
@@ -156,6 +165,7 @@ abbrev pub table_on : Side → Draft → Table
 table_on Proposers d = d.proposer_names
 table_on Reviewers d = d.reviewer_names
 
+-- the agents of a side that are declared
 abbrev pub declared_on : Side → Draft → List Declared
 declared_on Proposers d = d.proposers.items
 declared_on Reviewers d = d.reviewers.items
@@ -205,6 +215,7 @@ pub record PairsOf (old new : Draft) (proposer reviewer : List ℕ) (line : ℕ)
 abbrev pub weights_in : Draft → List SaidWeight
 weights_in d = map (given_in d.proposer_names.texts d.reviewer_names.texts) d.weights.items
 
+-- the first fault of a weight's line
 abbrev pub weight_fault : List SaidWeight → List ℕ → List ℕ → List ℕ → Option RefusalKind
 weight_fault weights proposer reviewer weight = first_fault (weight_rows weights proposer reviewer weight)
 

@@ -24,6 +24,7 @@ unfoldable pub is_bad : List ℕ → Bool
 is_bad [] = false
 is_bad (b ∷ _) = not (is_name_byte b || is_mark b)
 
+-- the token is a colon
 abbrev pub is_colon : List ℕ → Bool
 is_colon token = bytes_eq token (codes ":")
 

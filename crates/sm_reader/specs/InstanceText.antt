@@ -35,6 +35,7 @@ is_unknown names name = not (list_any (bytes_eq name) names)
 abbrev pub lines_with_unknown : List (List ℕ) → List SaidAgent → List ℕ
 lines_with_unknown names agents = map (λ (a : SaidAgent). a.line) (filter (λ (a : SaidAgent). list_any (is_unknown names) a.entries) agents)
 
+-- the lines of the pairs that name an undeclared agent
 abbrev pub pairs_with_unknown : List (List ℕ) → List (List ℕ) → List SaidPair → List ℕ
 pairs_with_unknown proposers reviewers pairs =
     map (λ (x : SaidPair). x.line) (filter (λ (x : SaidPair). is_unknown proposers x.proposer || is_unknown reviewers x.reviewer) pairs)
@@ -61,9 +62,11 @@ least (n ∷ ns) = Some (option_map_or (min n) (least ns) n)
 abbrev pub number_in : List (List ℕ) → List ℕ → ℕ
 number_in names name = position_or_len (bytes_eq name) names
 
+-- an agent with numbers for the names on its list
 abbrev pub numbered : List (List ℕ) → SaidAgent → AgentData
 numbered names agent = record { name = agent.name; capacity = agent.capacity; line = agent.line; entries = map (number_in names) agent.entries }
 
+-- a pair with numbers for its names
 abbrev pub numbered_pair : Said → SaidPair → ℕ × ℕ
 numbered_pair said pair = (number_in (names_of said.proposers) pair.proposer, number_in (names_of said.reviewers) pair.reviewer)
 
@@ -78,6 +81,7 @@ two_sides kind said = record {
   forbidden = map (numbered_pair said) said.forbidden;
 }
 
+-- the instance that is said
 abbrev pub input_of : Kind → Said → Input
 input_of Marriage said = Two (two_sides Marriage said)
 input_of Hospitals said = Two (two_sides Hospitals said)

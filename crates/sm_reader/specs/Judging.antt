@@ -25,6 +25,7 @@ first_fault (row ∷ rows) = if row.0 then Some row.1 else first_fault rows
 abbrev pub capacity_in : List ℕ → Option ℕ
 capacity_in run = number_of run most_capacity
 
+-- the weight that a run spells, within its limits
 abbrev pub weight_in : List ℕ → Option ℤ
 weight_in run = signed_of run most_weight
 
@@ -43,15 +44,19 @@ is_bad_capacity (Some run) = is_none (capacity_in run)
 abbrev pub run_rows : List ℕ → Option (List ℕ) → List (List ℕ) → List (Bool × RefusalKind)
 run_rows name capacity entries = (not (list_all is_name (name ∷ entries)), BadName) ∷ (is_bad_capacity capacity, BadNumber) ∷ []
 
+-- the faults of names: the agent was declared above, or its list has a name twice
 abbrev pub name_rows : (declared : List (List ℕ)) → List ℕ → List (List ℕ) → List (Bool × RefusalKind)
 name_rows declared name entries = (list_any (bytes_eq name) declared, Redeclared) ∷ (has_repeated entries, RepeatedEntry) ∷ []
 
+-- the faults against the limits: too many agents, or too many entries
 abbrev pub limit_rows : (agents entries more : ℕ) → List (Bool × RefusalKind)
 limit_rows agents entries more = (nat_le most_agents agents, TooManyAgents) ∷ (nat_lt most_entries (entries + more), TooManyEntries) ∷ []
 
+-- the fault of a pair: a run is no name
 abbrev pub pair_rows : (proposer reviewer : List ℕ) → List (Bool × RefusalKind)
 pair_rows proposer reviewer = (not (list_all is_name (proposer ∷ reviewer ∷ [])), BadName) ∷ []
 
+-- the faults of a weight: of its pair, no number, or a pair that has a weight
 abbrev pub weight_rows : List SaidWeight → (proposer reviewer weight : List ℕ) → List (Bool × RefusalKind)
 weight_rows weights proposer reviewer weight = pair_rows proposer reviewer
     ++ (is_none (weight_in weight), BadNumber) ∷ (list_any (is_given_to proposer reviewer) weights, RepeatedWeight) ∷ []

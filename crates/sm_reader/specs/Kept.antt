@@ -18,6 +18,7 @@ texts_of slices = map (λ (x : Bor (List ℕ)). x.now) slices
 abbrev pub text_of : Key → List ℕ
 text_of key = key.text.now
 
+-- the names that are keys
 abbrev pub key_texts : List Key → List (List ℕ)
 key_texts keys = map text_of keys
 
@@ -42,9 +43,11 @@ pub record Table : Type 0 where
   pub stamps : List ℕ
   pub declared : List (List ℕ)
 
+-- the names of a side by keys, numbers, stamps and declared names
 abbrev pub table_from : List Key → List (Option ℕ) → List ℕ → List (Bor (List ℕ)) → Table
 table_from keys numbers stamps declared = record { texts = key_texts keys; numbers = numbers; stamps = stamps; declared = texts_of declared }
 
+-- a side without names
 abbrev pub no_names : Table
 no_names = record { texts = []; numbers = []; stamps = []; declared = [] }
 
@@ -102,6 +105,7 @@ pub record HasStamp (old new : Table) (name : List ℕ) (stamp : ℕ) : Type 0 w
   pub names : text_at new.texts at ≡ name
   pub stamped : slice_index old.stamps at ≡ stamp
 
+-- a name has an index and gets the stamp, or had it before
 abbrev pub Meets : Table → Table → List ℕ → ℕ → Option ℕ → Type 0
 Meets old new name stamp None = HasStamp old new name stamp
 Meets old new name stamp (Some i) = IsStamped old new name stamp i
@@ -120,6 +124,7 @@ pub record IsListed (old new : Table) (entries : List (List ℕ)) (stamp : ℕ) 
   pub names : map (text_at new.texts) indexes ≡ entries
   pub stamps : (k : ℕ) → slice_index new.stamps k ≤ stamp
 
+-- the names of a list have indexes, or some name comes twice
 abbrev pub Lists : Table → Table → List (List ℕ) → ℕ → Option (Vec ℕ Global) → Type 0
 Lists old new entries stamp None = has_repeated entries ≡ true
 Lists old new entries stamp (Some list) = IsListed old new entries stamp list.items

@@ -23,6 +23,7 @@ line_if counts line = if counts then Some line else None
 abbrev pub pair_among : List (List ℕ) → List (List ℕ) → SaidPair → ℕ × ℕ
 pair_among proposers reviewers x = (number_in proposers x.proposer, number_in reviewers x.reviewer)
 
+-- a weight with numbers for the names of its pair
 abbrev pub weight_among : List (List ℕ) → List (List ℕ) → SaidWeight → ℕ × ℕ × ℤ
 weight_among proposers reviewers w = (number_in proposers w.pair.proposer, number_in reviewers w.pair.reviewer, w.weight)
 

@@ -30,6 +30,7 @@ abbrev pub heading_is : Option Kind → Heading
 heading_is None = passes
 heading_is (Some kind) = heads kind
 
+-- the fault of a heading; want of memory says nothing
 abbrev pub IsHeadingFault : Heading → ℕ → TextFault → Type 0
 IsHeadingFault heading line (Refused kind at) = (heading ≡ faces kind) × (at ≡ line)
 IsHeadingFault heading line OutOfMemory = Unit {0}

@@ -20,6 +20,7 @@ text_of lines = flat_map (λ line. line ++ LF ∷ []) lines
 abbrev pub Row : Type 0
 Row = List (List ℕ) × RefusalKind × ℕ
 
+-- each text is refused for the kind and at the line beside it
 abbrev pub AreRefused : List Row → Type 0
 AreRefused rows =
     map (λ (row : Row). instance_text (text_of row.0)) rows ≡ map (λ (row : Row). Err (row.1, row.2)) rows
@@ -28,9 +29,11 @@ AreRefused rows =
 abbrev pub under : List ℕ → List Row → List Row
 under header rows = map (λ (row : Row). (header ∷ row.0, row.1, row.2)) rows
 
+-- the header of a marriage
 abbrev pub marriage : List ℕ
 marriage = codes "stable 1 marriage"
 
+-- the header of hospitals
 abbrev pub hospitals : List ℕ
 hospitals = codes "stable 1 hospitals"
 
@@ -80,6 +83,7 @@ FirstRefused = AreRefused (under marriage (
     ∷ (codes "weight a x 1" ∷ codes "weight a x 01" ∷ [], BadNumber, 3)
     ∷ (codes "p a:" ∷ codes "p a: x x" ∷ [], Redeclared, 3) ∷ []))
 
+-- of two faults of a line of hospitals the first counts too
 abbrev pub HospitalsRefused : Type 0
 HospitalsRefused = AreRefused (under hospitals (
     (codes "r h [x]: ;" ∷ [], BadByte, 2)
@@ -113,6 +117,7 @@ lister entries = record { name = codes "a"; capacity = 1; line = 2; entries = en
 abbrev pub full_sides : Said
 full_sides = record nothing { proposers = replicate 4096 (lister []); reviewers = replicate 4096 (lister []) }
 
+-- one more agent on a full side is refused, and one on a side with one less isn't
 abbrev pub AgentsCounted : Type 0
 AgentsCounted = (map (fault_of full_sides) (
     declares Proposers (codes "-b") None [] ∷ declares Reviewers (codes "b") (Some (codes "01")) []
@@ -126,6 +131,7 @@ abbrev pub fault_behind : List (List ℕ) → Option RefusalKind
 fault_behind entries = fault_of (record nothing { proposers = lister entries ∷ [] })
     (declares Reviewers (codes "x") None (codes "a" ∷ []))
 
+-- one more entry behind 524,288 is refused, and behind one less it isn't
 abbrev pub EntriesCounted : Type 0
 EntriesCounted = ((entries : List (List ℕ)) → length entries ≡ 524287 → fault_behind entries ≡ None)
     × ((entries : List (List ℕ)) → length entries ≡ 524288 → fault_behind entries ≡ Some TooManyEntries)
@@ -138,6 +144,7 @@ hospitals_text = text_of (
     ∷ codes "weight m1 h2 7" ∷ codes "force m2 h1" ∷ codes "p m1: h2 h1 # tail" ∷ codes "r h1 [2]: m1" ∷ codes "p m2: h1"
     ∷ codes "weight m2 h1 -3" ∷ codes "r h2:" ∷ codes "forbid m1 h1" ∷ codes "end" ∷ codes ";;" ∷ [])
 
+-- the instance that this text means
 abbrev pub HospitalsRead : Type 0
 HospitalsRead = instance_text hospitals_text ≡ Ok (record {
   input = Two (record {

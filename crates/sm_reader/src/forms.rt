@@ -51,7 +51,7 @@ pub(crate) fn header_of(tokens: &[&[u8]]) -> Option<Kind>
     }
 }
 
-// The kind that a word names.
+/// The kind that a word names.
 fn kind_named(word: &[u8]) -> Option<Kind>
     ensures { result ≡ kind_named word.now }
 {
@@ -98,7 +98,7 @@ pub(crate) fn form_behind<'a, 'b>(
     }
 }
 
-// The form of a line in a marriage or in hospitals, beside that of a proposer.
+/// The form of a line in a marriage or in hospitals, beside that of a proposer.
 #[tactic(auto, unfolding(crate::specs::Forms::two_sided_form))]
 fn two_sided_form<'a, 'b>(
     kind: Kind,
@@ -122,7 +122,7 @@ fn two_sided_form<'a, 'b>(
     }
 }
 
-// A reviewer, whose capacity may be written in hospitals alone.
+/// A reviewer, whose capacity may be written in hospitals alone.
 #[tactic(auto, unfolding(crate::specs::Forms::reviewer_form))]
 fn reviewer_form<'a, 'b>(kind: Kind, rest: &'b [&'a [u8]], names: usize) -> Option<Form<'a, 'b>>
     requires { AreNamesAtEnd names (texts_of rest.now) }
@@ -135,7 +135,7 @@ fn reviewer_form<'a, 'b>(kind: Kind, rest: &'b [&'a [u8]], names: usize) -> Opti
     }
 }
 
-// A name, a colon and a list.
+/// A name, a colon and a list.
 #[tactic(auto, unfolding(crate::specs::Forms::list_form))]
 fn list_form<'a, 'b>(side: Side, rest: &'b [&'a [u8]], names: usize) -> Option<Form<'a, 'b>>
     requires { AreNamesAtEnd names (texts_of rest.now) }
@@ -155,7 +155,7 @@ fn list_form<'a, 'b>(side: Side, rest: &'b [&'a [u8]], names: usize) -> Option<F
     }
 }
 
-// A name, a number in brackets, a colon and a list.
+/// A name, a number in brackets, a colon and a list.
 #[tactic(auto, unfolding(crate::specs::Forms::capacity_form))]
 fn capacity_form<'a, 'b>(rest: &'b [&'a [u8]], names: usize) -> Option<Form<'a, 'b>>
     requires { AreNamesAtEnd names (texts_of rest.now) }
@@ -180,7 +180,7 @@ fn capacity_form<'a, 'b>(rest: &'b [&'a [u8]], names: usize) -> Option<Form<'a, 
     }
 }
 
-// Two names and a weight.
+/// Two names and a weight.
 #[tactic(auto, unfolding(crate::specs::Forms::weight_form))]
 fn weight_form<'a, 'b>(rest: &'b [&'a [u8]]) -> Option<Form<'a, 'b>>
     ensures { option_map form_of result ≡ weight_form (texts_of rest.now) }
@@ -197,7 +197,7 @@ fn weight_form<'a, 'b>(rest: &'b [&'a [u8]]) -> Option<Form<'a, 'b>>
     }
 }
 
-// Two names of a pair of which something is asked.
+/// Two names of a pair of which something is asked.
 #[tactic(auto, unfolding(crate::specs::Forms::pair_form))]
 fn pair_form<'a, 'b>(condition: Condition, rest: &'b [&'a [u8]]) -> Option<Form<'a, 'b>>
     ensures { option_map form_of result ≡ pair_form condition (texts_of rest.now) }
@@ -212,7 +212,7 @@ fn pair_form<'a, 'b>(condition: Condition, rest: &'b [&'a [u8]]) -> Option<Form<
     }
 }
 
-// Are all these tokens runs? The last `names` of them are names, and no more.
+/// Are all these tokens runs? The last `names` of them are names, and no more.
 fn are_runs(tokens: &[&[u8]], names: usize) -> bool
     requires { AreNamesAtEnd names (texts_of tokens.now) }
     ensures { result ≡ list_all begins_run (texts_of tokens.now) }
@@ -228,7 +228,7 @@ fn are_runs(tokens: &[&[u8]], names: usize) -> bool
     true
 }
 
-// Is the token this text?
+/// Is the token this text?
 fn is(token: &[u8], text: &[u8]) -> bool
     ensures { result ≡ bytes_eq token.now text.now }
 {

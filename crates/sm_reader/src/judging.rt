@@ -22,7 +22,7 @@ use sm_text::{
 };
 use std::alloc::{AllocError, Global};
 
-// An agent as its line declares it, with its capacity and the names on its list.
+/// An agent as its line declares it, with its capacity and the names on its list.
 #[derive(Clone, Copy)]
 struct Stated<'a, 'b> {
     side: Side,
@@ -75,7 +75,7 @@ pub(crate) fn judge<'a>(
     }
 }
 
-// Adds what a line of this form says, unless it has a fault. The last `names` runs on its list are names, and no more.
+/// Adds what a line of this form says, unless it has a fault. The last `names` runs on its list are names, and no more.
 fn add<'a>(
     alloc: Global,
     kind: Kind,
@@ -119,7 +119,7 @@ fn add<'a>(
     }
 }
 
-// The capacity that the line of an agent says, which is 1 where it says none.
+/// The capacity that the line of an agent says, which is 1 where it says none.
 fn checked_capacity(
     name: &[u8],
     capacity: Option<&[u8]>,
@@ -131,7 +131,8 @@ fn checked_capacity(
     ensures checked { IfOk result (λ n. IsChecked name.now
         (option_map (λ x. x.now) capacity.entry) (texts_of entries.now) n) }
     ensures fault { IfErr result (λ f. IsLineFault
-        (run_fault name.now (option_map (λ x. x.now) capacity.entry) (texts_of entries.now)) line f) }
+        (run_fault name.now (option_map (λ x. x.now) capacity.entry) (texts_of entries.now))
+        line f) }
 {
     if !is_name(name) || !are_names(entries, names) {
         return Err(TextFault::Refused(RefusalKind::BadName, line));
@@ -145,7 +146,7 @@ fn checked_capacity(
     }
 }
 
-// Are all these runs names? The last `names` of them are, and no more.
+/// Are all these runs names? The last `names` of them are, and no more.
 #[tactic(auto, using(crate::proofs::NameLemmas::all_names))]
 fn are_names(runs: &[&[u8]], names: usize) -> bool
     requires { AreNamesAtEnd names (texts_of runs.now) }
@@ -154,7 +155,7 @@ fn are_names(runs: &[&[u8]], names: usize) -> bool
     runs.len() <= names
 }
 
-// Adds an agent with its list.
+/// Adds an agent with its list.
 fn add_agent<'a>(
     alloc: Global,
     kind: Kind,
@@ -187,7 +188,7 @@ fn add_agent<'a>(
     put_agent(draft, side, agent)
 }
 
-// The side that the agents of a side list.
+/// The side that the agents of a side list.
 fn listed_side(kind: Kind, side: Side) -> Side
     ensures { result ≡ listed_side kind side }
 {
@@ -198,7 +199,7 @@ fn listed_side(kind: Kind, side: Side) -> Side
     }
 }
 
-// Declares a name that isn't declared yet on its side.
+/// Declares a name that isn't declared yet on its side.
 fn declare<'a>(
     draft: &mut Draft<'a>,
     side: Side,
@@ -221,7 +222,7 @@ fn declare<'a>(
     }
 }
 
-// The indexes on a side of the names on a list, on which none stands twice.
+/// The indexes on a side of the names on a list, on which none stands twice.
 fn listed<'a>(
     alloc: Global,
     draft: &mut Draft<'a>,
@@ -245,7 +246,7 @@ fn listed<'a>(
     }
 }
 
-// Puts an agent behind the others of its side, within the limits.
+/// Puts an agent behind the others of its side, within the limits.
 fn put_agent<'a>(draft: &mut Draft<'a>, side: Side, agent: Declared<'a>) -> Result<(), TextFault>
     requires { draft.old.entries ≤ most_entries }
     ensures put { IfOk result (λ _. PutsOn side draft.old draft.new agent.entry) }
@@ -272,7 +273,7 @@ fn put_agent<'a>(draft: &mut Draft<'a>, side: Side, agent: Declared<'a>) -> Resu
     Ok(())
 }
 
-// The pair of two names.
+/// The pair of two names.
 fn pair_of<'a>(
     draft: &mut Draft<'a>,
     line: u32,
@@ -296,7 +297,7 @@ fn pair_of<'a>(
     })
 }
 
-// Adds the weight of a pair that has none yet.
+/// Adds the weight of a pair that has none yet.
 fn add_weight<'a>(
     draft: &mut Draft<'a>,
     line: u32,
@@ -323,7 +324,7 @@ fn add_weight<'a>(
     Ok(())
 }
 
-// Adds a pair of which something is asked.
+/// Adds a pair of which something is asked.
 fn add_condition<'a>(
     draft: &mut Draft<'a>,
     line: u32,
@@ -341,7 +342,7 @@ fn add_condition<'a>(
     Ok(())
 }
 
-// Puts a pair behind the others of which the same is asked.
+/// Puts a pair behind the others of which the same is asked.
 fn put_pair(draft: &mut Draft<'_>, condition: Condition, pair: Pair) -> Result<(), AllocError>
     ensures { IfOk result (λ _. PutsPair condition draft.old draft.new pair) }
 {

@@ -50,7 +50,7 @@ impl<'a> Hash for Key<'a> {
     }
 }
 
-// Are four to eight bytes the same? They are where the last four are and the first four.
+/// Are four to eight bytes the same? They are where the last four are and the first four.
 #[inline(always)]
 fn equal_by_fours(a: &[u8], b: &[u8]) -> bool
     requires same_len { length a.now ≡ length b.now }
@@ -61,7 +61,7 @@ fn equal_by_fours(a: &[u8], b: &[u8]) -> bool
     last_four(a) == last_four(b) && first_four(a) == first_four(b)
 }
 
-// Are eight to sixteen bytes the same? They are where the first eight are and the last eight.
+/// Are eight to sixteen bytes the same? They are where the first eight are and the last eight.
 #[inline(always)]
 fn equal_by_eights(a: &[u8], b: &[u8]) -> bool
     requires same_len { length a.now ≡ length b.now }
@@ -73,7 +73,7 @@ fn equal_by_eights(a: &[u8], b: &[u8]) -> bool
     equal_by_fours(&a[..8], &b[..8]) && equal_by_fours(&a[behind..], &b[behind..])
 }
 
-// The first four bytes.
+/// The first four bytes.
 fn first_four(text: &[u8]) -> &[u8; 4]
     requires { 4 ≤ length text.now }
     ensures { result.now ≡ take 4 text.now }
@@ -81,7 +81,7 @@ fn first_four(text: &[u8]) -> &[u8; 4]
     text.first_chunk().unwrap()
 }
 
-// The last four bytes.
+/// The last four bytes.
 fn last_four(text: &[u8]) -> &[u8; 4]
     requires { 4 ≤ length text.now }
     ensures { result.now ≡ drop (length text.now - 4) text.now }

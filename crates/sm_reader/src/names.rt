@@ -37,7 +37,8 @@ impl<'a> Model for Names<'a> {
 
     ghost view = { λ n. table_from (keys n.texts) n.numbers.items n.stamps.items n.declared.items };
 
-    ghost invariant = { λ n. IsTable (table_from (keys n.texts) n.numbers.items n.stamps.items n.declared.items) };
+    ghost invariant = { λ n. IsTable (table_from (keys n.texts) n.numbers.items n.stamps.items
+        n.declared.items) };
 }
 
 impl<'a> Names<'a> {
@@ -66,7 +67,7 @@ impl<'a> Names<'a> {
         }
     }
 
-    // The index that a name is guessed to have, where the name has it. Always inlined, as `intern` is.
+    /// The index that a name is guessed to have, where the name has it. Always inlined, as `intern` is.
     #[inline(always)]
     fn recall(&self, name: &[u8]) -> Option<u32>
         ensures { IfSome result (λ i. Interns self.now self.now name.now i) }
@@ -80,8 +81,8 @@ impl<'a> Names<'a> {
         }
     }
 
-    // The index of a name by its hash; a name that isn't found is added. Never inlined, so that a name whose index is
-    // guessed pays nothing for it.
+    /// The index of a name by its hash; a name that isn't found is added. Never inlined, so that a name whose index is
+    /// guessed pays nothing for it.
     #[inline(never)]
     fn insert(&mut self, name: &'a [u8]) -> Result<u32, AllocError>
         ensures { IfOk result (λ i. Interns self.old self.new name.now i) }
@@ -91,8 +92,8 @@ impl<'a> Names<'a> {
         Ok(index)
     }
 
-    // The index of a name by its hash; one that isn't found is added with its number and its stamp, for which there is room
-    // by then, so that each name has them.
+    /// The index of a name by its hash; one that isn't found is added with its number and its stamp, for which there is room
+    /// by then, so that each name has them.
     fn place(&mut self, name: &'a [u8]) -> Result<u32, AllocError>
         ensures { IfOk result (λ i. Interns self.old self.new name.now i) }
     {

@@ -32,11 +32,12 @@ pub(crate) fn first_unknown(kind: Kind, draft: &Draft<'_>) -> Option<u32>
     earlier(of_forced, in_forbidden)
 }
 
-// The first line whose proposer lists a name that isn't declared.
+/// The first line whose proposer lists a name that isn't declared.
 fn first_in_proposers(kind: Kind, draft: &Draft<'_>) -> Option<u32>
     requires { IsReady kind draft.now }
     ensures { let t = listed_table kind draft.now.proposer_names draft.now.reviewer_names in
-        result ≡ least (lines_with_unknown t.declared (map (agent_in t.texts) draft.now.proposers.items)) }
+        result ≡ least (lines_with_unknown t.declared (map (agent_in t.texts)
+        draft.now.proposers.items)) }
 {
     match kind {
         Kind::Roommates => first_in_lists(&draft.proposer_names, &draft.proposers),
@@ -44,7 +45,7 @@ fn first_in_proposers(kind: Kind, draft: &Draft<'_>) -> Option<u32>
     }
 }
 
-// The first line whose list has a name that isn't declared.
+/// The first line whose list has a name that isn't declared.
 fn first_in_lists(names: &Names<'_>, agents: &[Declared<'_>]) -> Option<u32>
     requires { AreAgentsBelow (length names.now.texts) agents.now }
     ensures { result ≡ least (lines_with_unknown names.now.declared
@@ -60,14 +61,14 @@ fn first_in_lists(names: &Names<'_>, agents: &[Declared<'_>]) -> Option<u32>
     first
 }
 
-// A line, if it counts.
+/// A line, if it counts.
 fn line_if(line: u32, counts: bool) -> Option<u32>
     ensures { result ≡ line_if counts line }
 {
     if counts { Some(line) } else { None }
 }
 
-// Is one of these names not declared?
+/// Is one of these names not declared?
 fn has_unknown(names: &Names<'_>, indexes: &[u32]) -> bool
     requires { AreBelow (length names.now.texts) indexes.now }
     ensures { result ≡ list_any (is_unknown names.now.declared)
@@ -81,7 +82,7 @@ fn has_unknown(names: &Names<'_>, indexes: &[u32]) -> bool
     false
 }
 
-// The first line that says something of a pair of which one isn't declared.
+/// The first line that says something of a pair of which one isn't declared.
 fn first_in_pairs<X: OfPair>(
     proposers: &Names<'_>,
     reviewers: &Names<'_>,
@@ -103,10 +104,11 @@ fn first_in_pairs<X: OfPair>(
     first
 }
 
-// Is one of a pair not declared?
+/// Is one of a pair not declared?
 fn is_unknown(proposers: &Names<'_>, reviewers: &Names<'_>, pair: Pair) -> bool
     requires { IsPairBelow (length proposers.now.texts) (length reviewers.now.texts) pair }
-    ensures { result ≡ (is_unknown proposers.now.declared (text_at proposers.now.texts pair.proposer)
+    ensures { result ≡ (is_unknown proposers.now.declared (text_at proposers.now.texts
+        pair.proposer)
         || is_unknown reviewers.now.declared (text_at reviewers.now.texts pair.reviewer)) }
 {
     !proposers.is_declared(pair.proposer) || !reviewers.is_declared(pair.reviewer)
@@ -162,7 +164,7 @@ pub(crate) fn numbered_sides(
     })
 }
 
-// The agents of a side, with numbers for the names on their lists.
+/// The agents of a side, with numbers for the names on their lists.
 fn number_agents(
     alloc: Global,
     names: &Names<'_>,
@@ -180,7 +182,7 @@ fn number_agents(
     Ok(agents)
 }
 
-// An agent, with numbers for the names on its list.
+/// An agent, with numbers for the names on its list.
 fn number_agent(
     alloc: Global,
     names: &Names<'_>,
@@ -207,7 +209,7 @@ fn number_agent(
     })
 }
 
-// Puts the numbers of names in the place of their indexes.
+/// Puts the numbers of names in the place of their indexes.
 fn number_names(names: &Names<'_>, entries: &mut [u32])
     requires few { length names.now.declared < 2 ^ 32 }
     requires in_range { AreBelow (length names.now.texts) entries.old }
@@ -219,7 +221,7 @@ fn number_names(names: &Names<'_>, entries: &mut [u32])
     }
 }
 
-// A pair by number.
+/// A pair by number.
 fn number_pair(proposers: &Names<'_>, reviewers: &Names<'_>, pair: Pair) -> (u32, u32)
     requires few_proposers { length proposers.now.declared < 2 ^ 32 }
     requires few_reviewers { length reviewers.now.declared < 2 ^ 32 }
@@ -232,7 +234,7 @@ fn number_pair(proposers: &Names<'_>, reviewers: &Names<'_>, pair: Pair) -> (u32
     (proposer, reviewer)
 }
 
-// Pairs by number.
+/// Pairs by number.
 fn number_pairs(
     alloc: Global,
     proposers: &Names<'_>,
@@ -243,7 +245,8 @@ fn number_pairs(
     requires few_reviewers { length reviewers.now.declared < 2 ^ 32 }
     requires in_range { ArePairsBelow (length proposers.now.texts) (length reviewers.now.texts)
         pairs.now }
-    ensures { IfOk result (λ v. v.items ≡ map (pair_among proposers.now.declared reviewers.now.declared)
+    ensures { IfOk result (λ v. v.items
+        ≡ map (pair_among proposers.now.declared reviewers.now.declared)
         (map (pair_in proposers.now.texts reviewers.now.texts) pairs.now)) }
 {
     let mut numbers = Vec::with_capacity(alloc, pairs.len())?;
@@ -253,7 +256,7 @@ fn number_pairs(
     Ok(numbers)
 }
 
-// Weights of pairs by number.
+/// Weights of pairs by number.
 fn number_weights(
     alloc: Global,
     proposers: &Names<'_>,

@@ -62,7 +62,7 @@ pub fn read_instance(alloc: Global, bytes: &[u8]) -> Result<Read, TextFault>
     read_lines(alloc, bytes, header)
 }
 
-// The header.
+/// The header.
 fn read_header(alloc: Global, bytes: &[u8]) -> Result<Header, TextFault>
     requires { length bytes.now ≤ most_bytes }
     ensures header { IfOk result (λ header. IsHeaded bytes.now header) }
@@ -82,7 +82,7 @@ fn read_header(alloc: Global, bytes: &[u8]) -> Result<Header, TextFault>
     Err(TextFault::Refused(RefusalKind::BadHeader, line))
 }
 
-// The kind that a line names which stands before the header or is it, `None` where it has no token.
+/// The kind that a line names which stands before the header or is it, `None` where it has no token.
 fn heading(tokens: &[&[u8]], bad: bool, line: u32) -> Result<Option<Kind>, TextFault>
     requires { bad ≡ list_any is_bad (texts_of tokens.now) }
     ensures heading { IfOk result (λ kind. heading_of (texts_of tokens.now) ≡ heading_is kind) }
@@ -100,7 +100,7 @@ fn heading(tokens: &[&[u8]], bad: bool, line: u32) -> Result<Option<Kind>, TextF
     }
 }
 
-// Reads the lines behind the header.
+/// Reads the lines behind the header.
 fn read_lines(alloc: Global, bytes: &[u8], header: Header) -> Result<Read, TextFault>
     requires short { length bytes.now ≤ most_bytes }
     requires headed { IsHeaded bytes.now header }
@@ -136,7 +136,7 @@ fn read_lines(alloc: Global, bytes: &[u8], header: Header) -> Result<Read, TextF
     Err(TextFault::Refused(RefusalKind::MissingEnd, line))
 }
 
-// The instance that a text says whose lines have no fault.
+/// The instance that a text says whose lines have no fault.
 fn finished(alloc: Global, hash: TextHash, kind: Kind, draft: Draft<'_>) -> Result<Input, TextFault>
     requires { IsReady kind draft }
     ensures finished { IfOk result (λ input. Finishes kind draft.entry input) }
@@ -151,7 +151,7 @@ fn finished(alloc: Global, hash: TextHash, kind: Kind, draft: Draft<'_>) -> Resu
     }
 }
 
-// The persons.
+/// The persons.
 fn persons(alloc: Global, hash: TextHash, draft: Draft<'_>) -> Result<Input, AllocError>
     requires ready { IsReady Kind.Roommates draft }
     requires known { least (unknown_lines Kind.Roommates (said_of Kind.Roommates draft)) ≡ None }
@@ -163,7 +163,7 @@ fn persons(alloc: Global, hash: TextHash, draft: Draft<'_>) -> Result<Input, All
     Ok(Input::Room(Persons::held(alloc, hash, persons)?))
 }
 
-// The two sides, with their weights and conditions.
+/// The two sides, with their weights and conditions.
 fn two_sides(
     alloc: Global,
     hash: TextHash,

@@ -49,7 +49,7 @@ impl Recent {
     }
 }
 
-// The slot of a name: by all its bytes where there are at most eight, and else by a hash of them.
+/// The slot of a name: by all its bytes where there are at most eight, and else by a hash of them.
 #[inline(always)]
 fn slot_of(name: &[u8]) -> usize {
     let word = match name.len() {
@@ -60,7 +60,7 @@ fn slot_of(name: &[u8]) -> usize {
     (word.wrapping_mul(ODD) >> (64 - SLOT_BITS)) as usize
 }
 
-// The first four bytes of a name and its last four, which may overlap.
+/// The first four bytes of a name and its last four, which may overlap.
 #[inline(always)]
 fn ends(name: &[u8]) -> u64 {
     match (name.first_chunk(), name.last_chunk()) {
@@ -71,7 +71,7 @@ fn ends(name: &[u8]) -> u64 {
     }
 }
 
-// At most three bytes.
+/// At most three bytes.
 #[inline(always)]
 fn few(name: &[u8]) -> u64 {
     let word = match name {
@@ -83,7 +83,7 @@ fn few(name: &[u8]) -> u64 {
     u64::from(word)
 }
 
-// A hash of all bytes.
+/// A hash of all bytes.
 #[inline(never)]
 fn hash(name: &[u8]) -> u64 {
     let mut hasher = FoldHasher::default();

@@ -19,14 +19,14 @@ pub(crate) struct Found {
     pub(crate) names: usize,
 }
 
-// Where a token stands on a line, and what it was found to be.
+/// Where a token stands on a line, and what it was found to be.
 #[derive(Clone, Copy)]
 struct Token {
     start: usize,
     stop: usize,
-    // Is it a byte that no line of an instance holds?
+    /// Is it a byte that no line of an instance holds?
     bad: bool,
-    // Is it a name?
+    /// Is it a name?
     name: bool,
 }
 
@@ -64,7 +64,7 @@ pub(crate) fn cut<'a>(line: &'a [u8], into: &mut Vec<&'a [u8]>) -> Result<Found,
     })
 }
 
-// The first token at or behind a place of a line.
+/// The first token at or behind a place of a line.
 fn token_from(line: &[u8], from: usize) -> Option<Token>
     ensures places { MatchOption result (tokens (drop from line.now) ≡ [])
         (λ t. IsLeading line.now from t.start t.stop) }
@@ -106,7 +106,7 @@ pub(crate) fn is_run(token: &[u8]) -> bool
     }
 }
 
-// Is this run, which is name bytes all through, a name?
+/// Is this run, which is name bytes all through, a name?
 fn is_name_run(run: &[u8]) -> bool
     requires { list_all is_name_byte run.now ≡ true }
     ensures { result ≡ is_a_name run.now }
@@ -117,7 +117,7 @@ fn is_name_run(run: &[u8]) -> bool
     }
 }
 
-// Is it `.` or `-`, with which no name begins?
+/// Is it `.` or `-`, with which no name begins?
 fn is_inner(b: u8) -> bool
     ensures { result ≡ is_inner b }
 {

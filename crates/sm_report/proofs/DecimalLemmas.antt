@@ -1,7 +1,7 @@
 -- Numbers in decimal are the texts that spell them.
 use Rattle.std.proofs.Common.{◌≡◌, ℕ, suc, zero, ◌+◌, ◌-◌, ◌*◌, ◌/◌, ◌%◌, ◌^◌, ◌<◌, ◌≤◌, ◌==◌, ◌&&◌, cond, nat_le, Bool, true, false, List, [], ◌∷◌, ◌++◌, length, Option, Some, None, option_map, refl, sym, ap, ◌∙◌, subst, arith, append_assoc, append-nil, decimal, ℤ, pos, negsuc}
 use Rattle.std.proofs.lemmas.Bool.Decides.{nat_tests}
-use Rattle.std.proofs.lemmas.Bool.{leb-true}
+use Rattle.std.proofs.lemmas.Bool.{leb-true, and_from}
 use Rattle.std.proofs.lemmas.Fmt.{decimal_step, decimal_digit, decimal_by_steps, decimal_nonempty}
 use Rattle.std.proofs.lemmas.List.Folds.{list_all-append}
 use Rattle.std.proofs.lemmas.Option.{none-some, same_Some}
@@ -12,14 +12,12 @@ use Rattle.sm_text.specs.Name.{is_digit}
 use Rattle.sm_text.specs.Numbers.{is_number, value_behind, value_of, number_of, negated, signed_of}
 use Rattle.sm_text.proofs.NumberLemmas.{value_behind-ge}
 
--- both of two tests
-pub both_true : (a b : Bool) → a ≡ true → b ≡ true → (a && b) ≡ true
-both_true a b p q = ap (λ t. t && b) p ∙ q
-
+-- where two tests pass together, the first passes
 pub first_true : (a b : Bool) → (a && b) ≡ true → a ≡ true
 first_true true b h = refl
 first_true false b h = absurd cc
 
+-- and the second passes
 pub second_true : (a b : Bool) → (a && b) ≡ true → b ≡ true
 second_true true b h = h
 second_true false b h = absurd cc
@@ -66,13 +64,13 @@ one_digit n small =
     let here : is_digit (48 + n) ≡ true = is_digit-from (48 + n) (omega arith) (omega arith) in
     record {
       number = by_first ((48 + n) == 48) here;
-      digits = both_true (is_digit (48 + n)) true here refl;
+      digits = and_from (is_digit (48 + n)) true here refl;
       value = omega arith;
     }
   where
     by_first : (t : Bool) → is_digit (48 + n) ≡ true → cond t true (is_digit (48 + n) && true) ≡ true
     by_first true here = refl
-    by_first false here = both_true (is_digit (48 + n)) true here refl
+    by_first false here = and_from (is_digit (48 + n)) true here refl
 
 number_more : (ds : List ℕ) (c : ℕ) → is_number ds ≡ true → is_digit c ≡ true → 0 < value_of ds → is_number (ds ++ c ∷ []) ≡ true
 number_more [] c number last some = absurd cc
@@ -85,8 +83,8 @@ number_more (d ∷ ds) c number last some = by_first (d == 48) refl number where
       zero_spelt [] none is0 h = omega arith
       zero_spelt (x ∷ xs) none is0 h = omega arith
   by_first false is h =
-      both_true (is_digit d) (list_all is_digit (ds ++ c ∷ [])) (first_true (is_digit d) (list_all is_digit ds) h)
-      (list_all-append is_digit ds (c ∷ []) ∙ both_true (list_all is_digit ds) (is_digit c && true) (second_true (is_digit d) (list_all is_digit ds) h) (both_true (is_digit c) true last refl))
+      and_from (is_digit d) (list_all is_digit (ds ++ c ∷ [])) (first_true (is_digit d) (list_all is_digit ds) h)
+      (list_all-append is_digit ds (c ∷ []) ∙ and_from (list_all is_digit ds) (is_digit c && true) (second_true (is_digit d) (list_all is_digit ds) h) (and_from (is_digit c) true last refl))
 
 more_digits : (n : ℕ) (ds : List ℕ) → 10 ≤ n → Spells (n / 10) ds → Spells n (ds ++ (48 + n % 10) ∷ [])
 more_digits n ds large s =
@@ -94,7 +92,7 @@ more_digits n ds large s =
     let value : value_of ds ≡ n / 10 = s.value in
     record {
       number = number_more ds (48 + n % 10) s.number last (omega arith);
-      digits = list_all-append is_digit ds ((48 + n % 10) ∷ []) ∙ both_true (list_all is_digit ds) (is_digit (48 + n % 10) && true) s.digits (both_true (is_digit (48 + n % 10)) true last refl);
+      digits = list_all-append is_digit ds ((48 + n % 10) ∷ []) ∙ and_from (list_all is_digit ds) (is_digit (48 + n % 10) && true) s.digits (and_from (is_digit (48 + n % 10)) true last refl);
       value = value_behind-append 0 ds (48 + n % 10) ∙ omega (arith, value);
     }
 
@@ -110,7 +108,7 @@ pub number-decimal : (n most : ℕ) → n ≤ most → most < 2 ^ 64 → number_
 number-decimal n most within small =
     let s = decimal_spells n (omega arith) in
     let fits : nat_le (value_of (decimal n)) most ≡ true = by_value (value_of (decimal n)) s.value in
-    ap (λ t. cond t (Some (value_of (decimal n))) None) (both_true (is_number (decimal n)) (nat_le (value_of (decimal n)) most) s.number fits) ∙ ap (λ v. Some v) s.value
+    ap (λ t. cond t (Some (value_of (decimal n))) None) (and_from (is_number (decimal n)) (nat_le (value_of (decimal n)) most) s.number fits) ∙ ap (λ v. Some v) s.value
   where
     by_value : (v : ℕ) → v ≡ n → nat_le v most ≡ true
     by_value v e = grind (arith, nat_tests)
@@ -139,6 +137,7 @@ pub record SpeltNumber (run : List ℕ) (most n : ℕ) : Type 0 where
   pub within : n ≤ most
   pub same : decimal n ≡ run
 
+-- a text that is read as a number is its decimal, and the number is within the bound
 pub number_spelt : (run : List ℕ) (most n : ℕ) → most < 2 ^ 64 → number_of run most ≡ Some n → SpeltNumber run most n
 number_spelt run most n small e = by_test (is_number run && nat_le (value_of run) most) refl e where
   by_test : (t : Bool) → (is_number run && nat_le (value_of run) most) ≡ t → cond t (Some (value_of run)) None ≡ Some n → SpeltNumber run most n
@@ -164,6 +163,7 @@ signed-decimal (pos n) most within small = by_digits (decimal n) (decimal_nonemp
   by_digits (b ∷ run) some digits h = by_test b run (b == 45) refl (first_true (is_digit b) (list_all is_digit run) digits) h
 signed-decimal (negsuc n) most within small = ap negated (number-decimal (suc n) most within small)
 
+-- what a text that spells a signed number says
 pub record SpeltSigned (run : List ℕ) (most : ℕ) (z : ℤ) : Type 0 where
   pub within : unsigned_abs z ≤ most
   pub same : signed_decimal z ≡ run
@@ -181,6 +181,7 @@ positive_spelt run most z (Some n) small is e =
     let s = number_spelt run most n small is in
     subst (λ z. SpeltSigned run most z) (same_Some _ _ e) (record { within = s.within; same = s.same })
 
+-- a text that is read as a signed number is its decimal, and its size is within the bound
 pub signed_spelt : (run : List ℕ) (most : ℕ) (z : ℤ) → most < 2 ^ 64 → signed_of run most ≡ Some z → SpeltSigned run most z
 signed_spelt [] most z small e = absurd (none-some z e)
 signed_spelt (b ∷ run) most z small e = by_test (b == 45) refl e where

@@ -7,10 +7,10 @@ use Rattle.std.specs.List.Sorted.{IsStrictlyIncreasing}
 use Rattle.std.specs.Prelude.{slice_index}
 use Rattle.std.proofs.lemmas.List.Elements.{All-nil, All-cons, All-head, All-tail, All-get_or}
 use Rattle.std.proofs.lemmas.List.Splits.{length-slice_split, join_with_byte-slice_split}
-use Rattle.sm_text.specs.Limits.{most_name_bytes}
+use Rattle.sm_text.specs.Limits.{most_name_bytes, most_limit}
 use Rattle.std.specs.Option.{option_zip, option_and_then}
 use Rattle.std.specs.Str.{bytes_eq}
-use Rattle.std.proofs.lemmas.Bool.{eqb-true, ltb-true, ltb-false}
+use Rattle.std.proofs.lemmas.Bool.{eqb-true, ltb-true, ltb-false, and_from}
 use Rattle.std.proofs.lemmas.Bool.Decides.{nat_tests}
 use Rattle.std.proofs.lemmas.List.{get_or-map, length-map, drop_all}
 use Rattle.std.proofs.lemmas.List.FromFn.{get_or-map-range_with_len}
@@ -32,7 +32,7 @@ use Rattle.sm_report.specs.Sound.{IsLeft, IsRight, IsSeatNumber, IsSmall, IsLarg
 use Rattle.sm_report.specs.Texts.{left_name, right_name, seat_text, seat_text_in, vector_text, end_text, SOURCE, SINK}
 use Rattle.sm_report.specs.Vectors.{vector_in, numbers_in, is_comma}
 use Rattle.sm_report.specs.Meanings.{left_in, right_in, at_least, number_within, small_in, large_in, signed_in, rotation_in, rising_above, seat, seat_by, seat_in, numbered_seat_in, is_slash, end_in, reason_in}
-use Rattle.sm_report.proofs.DecimalLemmas.{both_true, second_true, digits_of_decimal, number-decimal, number_spelt, signed-decimal, signed_spelt}
+use Rattle.sm_report.proofs.DecimalLemmas.{second_true, digits_of_decimal, number-decimal, number_spelt, signed-decimal, signed_spelt}
 use Rattle.sm_report.proofs.InverseLemmas.{Inverts, mapped, chained, zipped, text_true, text_same, by_answer, each_inverts}
 use Rattle.sm_report.proofs.FreeLemmas.{is_free, free_of, cut_at_byte, split_joined}
 
@@ -48,9 +48,11 @@ number_inverts most small = record {
   same = λ text n e. (number_spelt text most n small e).same;
 }
 
+-- the reader of numbers of 32 bits is inverse to the decimal
 pub small_inverts : Inverts IsSmall decimal small_in
 small_inverts = in_words (λ n h. let k : n < 2 ^ 32 = omega arith in k) (λ n h. let k : n ≤ 4294967295 = omega arith in k) (number_inverts 4294967295 (omega arith))
 
+-- the reader of numbers of 64 bits is inverse to the decimal
 pub large_inverts : Inverts IsLarge decimal large_in
 large_inverts = in_words (λ n h. let k : n < 2 ^ 64 = omega arith in k) (λ n h. let k : n ≤ 18446744073709551615 = omega arith in k) (number_inverts 18446744073709551615 (omega arith))
 
@@ -68,6 +70,7 @@ at_least-is least n (Some m) e = by_test (nat_lt m least) refl e where
   by_test true is e = absurd (none-some n e)
   by_test false is e = let same : m ≡ n = same_Some _ _ e in let low : least ≤ m = ltb-false m least is in (omega arith, e)
 
+-- the reader of numbers within bounds is inverse to the decimal
 pub within_inverts : (least most : ℕ) → most < 2 ^ 64 → Inverts (λ n. (least ≤ n) × (n ≤ most)) decimal (number_within least most)
 within_inverts least most small = record {
   again = λ n h. at_least-again least n (number_of (decimal n) most) (number-decimal n most h.1 small) h.0;
@@ -75,12 +78,15 @@ within_inverts least most small = record {
   same = λ text n e. (number_spelt text most n small (at_least-is least n (number_of text most) e).1).same;
 }
 
+-- the reader of rotations is inverse to the decimal
 pub rotation_inverts : Inverts IsRotation decimal rotation_in
 rotation_inverts = in_words (λ n h. record { least = h.0; greatest = h.1 }) (λ n h. (h.least, h.greatest)) (within_inverts 1 4294967294 (omega arith))
 
-pub limit_inverts : Inverts IsLimit decimal (number_within 1 1000000)
-limit_inverts = in_words (λ n h. record { least = h.0; greatest = h.1 }) (λ n h. (h.least, h.greatest)) (within_inverts 1 1000000 (omega arith))
+-- the reader of limits is inverse to the decimal
+pub limit_inverts : Inverts IsLimit decimal (number_within 1 most_limit)
+limit_inverts = in_words (λ n h. record { least = h.0; greatest = h.1 }) (λ n h. (h.least, h.greatest)) (within_inverts 1 most_limit (omega arith))
 
+-- the reader of signed numbers is inverse to the signed decimal
 pub signed_inverts : Inverts (λ z. unsigned_abs z ≤ 9223372036854775807) signed_decimal signed_in
 signed_inverts = record {
   again = λ z within. signed-decimal z 9223372036854775807 within (omega arith);
@@ -134,15 +140,18 @@ unfolding left_in
 left_inverts (Two w) s = agent_inverts w.proposers true s.proposers
 left_inverts (Room persons) s = agent_inverts persons true s.agents
 
+-- the reader of reviewers is inverse to their names
 pub right_inverts : (input : Input) → IsInput input → Inverts (IsRight input) (right_name input) (right_in input)
 unfolding right_in
 right_inverts (Two w) s = agent_inverts w.reviewers _ s.reviewers
 right_inverts (Room persons) s = agent_inverts persons true s.agents
 
+-- each proposer's name is a name
 pub left_is_name : (input : Input) → IsInput input → (p : ℕ) → IsLeft input p → is_name (left_name input p) ≡ true
 left_is_name (Two w) s p within = agent_is_name w.proposers true s.proposers p within
 left_is_name (Room persons) s p within = agent_is_name persons true s.agents p within
 
+-- each reviewer's name is a name
 pub right_is_name : (input : Input) → IsInput input → (r : ℕ) → IsRight input r → is_name (right_name input r) ≡ true
 right_is_name (Two w) s r within = agent_is_name w.reviewers _ s.reviewers r within
 right_is_name (Room persons) s r within = agent_is_name persons true s.agents r within
@@ -152,13 +161,16 @@ slash_no_name : is_name_byte 47 ≡ false
 unfolding is_name_byte begins_name
 slash_no_name = refl
 
+-- a dash is no name
 pub dash_no_name : is_name (codes "-") ≡ false
 unfolding begins_name
 dash_no_name = refl
 
+-- a name has bytes of names alone
 pub name_bytes : (run : List ℕ) → is_name run ≡ true → list_all is_name_byte run ≡ true
 name_bytes run h = second_true (nat_le 1 (length run) && nat_le (length run) most_name_bytes && begins_name (slice_index run 0)) (list_all is_name_byte run) h
 
+-- a name holds no slash
 pub name_without_slash : (run : List ℕ) → is_name run ≡ true → is_free 47 run ≡ true
 name_without_slash run h = free_of is_name_byte 47 slash_no_name run (name_bytes run h)
 
@@ -230,9 +242,11 @@ seat_by_inverts Marriage R name named h free = one_seat_inverts R name named h
 seat_by_inverts Hospitals R name named h free = numbered_seat_inverts R name named h free
 seat_by_inverts Roommates R name named h free = one_seat_inverts R name named h
 
+-- a seat of the instance, with a number that its kind allows
 abbrev pub IsSeat : Input → Seat → Type 0
 IsSeat input s = IsRight input s.reviewer × IsSeatNumber (kind_of input) s.number
 
+-- the reader of seats is inverse to their texts
 pub seat_inverts : (input : Input) → IsInput input → Inverts (IsSeat input) (seat_text input) (seat_in input)
 seat_inverts input s = seat_by_inverts (kind_of input) (IsRight input) (right_name input) (right_in input) (right_inverts input s) (λ r h. name_without_slash (right_name input r) (right_is_name input s r h))
 
@@ -244,6 +258,7 @@ digit_text n text small other = by_answer (bytes_eq (decimal n) text)
     true_false : (t : Bool) → t ≡ true → t ≡ false → ⊥
     true_false t p q = cc
 
+-- the reader of the ends of flows is inverse to their texts
 pub end_inverts : Inverts IsSmall end_text end_in
 end_inverts = record { again = again; sound = sound; same = same } where
   again : (n : ℕ) → IsSmall n → end_in (end_text n) ≡ Some n
@@ -284,6 +299,7 @@ end_inverts = record { again = again; sound = sound; same = same } where
 reasons_again : map reason_in reasons ≡ map (λ n. Some n) (range_with_len 1 25)
 reasons_again = refl
 
+-- the reader of reasons is inverse to their names
 pub reason_inverts : Inverts IsReason name_of_reason reason_in
 reason_inverts = record { again = again; sound = sound; same = same } where
   again : (n : ℕ) → IsReason n → reason_in (name_of_reason n) ≡ Some n
@@ -313,8 +329,9 @@ decimals_without : (c : ℕ) → is_digit c ≡ false → (ns : List ℕ) → Al
 decimals_without c other [] small = refl
 decimals_without c other (n ∷ ns) small =
     let here : n < 2 ^ 32 = All-head IsSmall n ns small in
-    both_true (is_free c (decimal n)) (list_all (is_free c) (map decimal ns)) (digits_without c other n (omega arith)) (decimals_without c other ns (All-tail IsSmall n ns small))
+    and_from (is_free c (decimal n)) (list_all (is_free c) (map decimal ns)) (digits_without c other n (omega arith)) (decimals_without c other ns (All-tail IsSmall n ns small))
 
+-- the reader of vectors is inverse to their texts
 pub vector_inverts : Inverts (All IsSmall) vector_text vector_in
 vector_inverts = record { again = again; sound = sound; same = same } where
   each : Inverts (All IsSmall) (map decimal) numbers_in
@@ -400,6 +417,7 @@ rising_pairs last (n ∷ m ∷ ns) h (suc k) below =
     let P : ℕ → Type 0 = λ i. get_or (m ∷ ns) k 0 < get_or (n ∷ m ∷ ns) i 0 in
     subst P next deep
 
+-- the reader of rising lists of rotations is inverse to their decimals
 pub rising_inverts : Inverts AreRotations (map decimal) (rising_above 0)
 rising_inverts = in_words (λ ns h. record { each = rising_each 0 ns h; rising = rising_pairs 0 ns h })
     (λ ns h. rises_from 0 ns h.each h.rising (λ some. let one = All-get_or IsRotation ns 0 0 some h.each in omega (arith, one.least)))

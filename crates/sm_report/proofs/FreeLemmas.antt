@@ -1,12 +1,12 @@
 -- Texts without a byte that stands between texts.
 use Rattle.std.proofs.Common.{◌≡◌, ℕ, ◌+◌, ◌==◌, Bool, true, false, not, cond, List, [], ◌∷◌, ◌++◌, length, take, drop, All, refl, ap, ◌∙◌, arith, eq-eqb}
 use Rattle.std.specs.List.{list_all, slice_split, join_with_byte, position_or_len, before_first, after_first}
-use Rattle.std.proofs.lemmas.Bool.{eqb-true}
+use Rattle.std.proofs.lemmas.Bool.{eqb-true, and_from}
 use Rattle.std.proofs.lemmas.List.Elements.{All-nil, All-cons}
 use Rattle.std.proofs.lemmas.List.Folds.{list_all-append}
 use Rattle.std.proofs.lemmas.List.Splits.{slice_split_none, slice_split_at}
 use Rattle.std.proofs.Math.Seq.{take-append_seam, drop-append-add}
-use Rattle.sm_report.proofs.DecimalLemmas.{both_true, first_true, second_true}
+use Rattle.sm_report.proofs.DecimalLemmas.{first_true, second_true}
 use Rattle.sm_report.proofs.InverseLemmas.{by_answer}
 
 -- whether a byte stands nowhere in a text
@@ -17,15 +17,16 @@ is_free c text = list_all (λ b. not (b == c)) text
 pub free_of : (p : ℕ → Bool) (c : ℕ) → p c ≡ false → (text : List ℕ) → list_all p text ≡ true → is_free c text ≡ true
 free_of p c fails [] h = refl
 free_of p c fails (b ∷ text) h =
-    both_true (not (b == c)) (is_free c text)
+    and_from (not (b == c)) (is_free c text)
     (by_answer (b == c) (λ is. absurd (let same : b ≡ c = eqb-true b c is in let here = first_true (p b) (list_all p text) h in other (p b) here (ap p same ∙ fails))) (λ is. ap not is))
     (free_of p c fails text (second_true (p b) (list_all p text) h))
   where
     other : (t : Bool) → t ≡ true → t ≡ false → ⊥
     other t yes_ no_ = cc
 
+-- a byte that stands in neither of two texts doesn't stand in both joined
 pub free-append : (c : ℕ) (xs ys : List ℕ) → is_free c xs ≡ true → is_free c ys ≡ true → is_free c (xs ++ ys) ≡ true
-free-append c xs ys h k = list_all-append (λ b. not (b == c)) xs ys ∙ both_true (is_free c xs) (is_free c ys) h k
+free-append c xs ys h k = list_all-append (λ b. not (b == c)) xs ys ∙ and_from (is_free c xs) (is_free c ys) h k
 
 -- the same said of each place
 not_true : (t : Bool) → not t ≡ true → t ≡ false
@@ -52,10 +53,12 @@ place_of_byte c (x ∷ xs) ys h =
     let deep = place_of_byte c xs ys (second_true (not (x == c)) (is_free c xs) h) in
     ap (λ t. cond t (1 + position_or_len (λ b. b == c) (xs ++ c ∷ ys)) 0) (first_true (not (x == c)) (is_free c xs) h) ∙ omega (arith, deep)
 
+-- xs stands before the first such byte of a text, and ys behind it
 pub record IsCut (c : ℕ) (text xs ys : List ℕ) : Type 0 where
   pub before : before_first (λ b. b == c) text ≡ xs
   pub behind : after_first (λ b. b == c) text ≡ ys
 
+-- what was joined by a byte that the first part doesn't hold is cut there
 pub cut_at_byte : (c : ℕ) (xs ys : List ℕ) → is_free c xs ≡ true → IsCut c (xs ++ c ∷ ys) xs ys
 cut_at_byte c xs ys h =
     let at = place_of_byte c xs ys h in

@@ -6,6 +6,7 @@ use Rattle.std.specs.List.{flat_map, list_all, join_with_byte}
 use Rattle.std.proofs.lemmas.List.Elements.{All-head, All-tail}
 use Rattle.std.proofs.lemmas.List.Folds.{list_all-append}
 use Rattle.std.proofs.lemmas.Option.{none-some}
+use Rattle.std.proofs.lemmas.Bool.{and_from}
 use Rattle.sm_text.specs.Name.{begins_name, is_digit, is_letter, is_name, is_name_byte}
 use Rattle.sm_instance.specs.Inputs.{IsInput, kind_of}
 use Rattle.sm_instance.specs.declared.inputs.Input.{Input}
@@ -20,7 +21,7 @@ use Rattle.sm_report.specs.Reasons.{reasons, name_of_reason}
 use Rattle.sm_report.specs.Sound.{IsLineOf, IsLeft, IsRight, IsSmall, IsLarge, IsRotation, IsLimit, IsSeatNumber, IsHeadOf}
 use Rattle.sm_report.specs.Texts.{left_name, right_name, seat_text, seat_text_in, listed, lefts, seats, seated_pairs, numbers, vector_text, end_text, limit_text, fields_of, fields_of_head, text_of_line, SOURCE, SINK}
 use Rattle.sm_report.specs.Meanings.{fields_in, line_in, headed_of}
-use Rattle.sm_report.proofs.DecimalLemmas.{both_true, first_true, second_true, digits_of_decimal}
+use Rattle.sm_report.proofs.DecimalLemmas.{first_true, second_true, digits_of_decimal}
 use Rattle.sm_report.proofs.FreeLemmas.{is_free, free_of, free-append, split_joined}
 use Rattle.sm_report.proofs.FieldInverses.{left_is_name, right_is_name, name_bytes}
 use Rattle.sm_report.proofs.LineInverses.{All-of_map, line_again}
@@ -35,13 +36,13 @@ in_field text = list_all is_field_byte text
 free_where : (p : ℕ → Bool) → ((b : ℕ) → p b ≡ true → is_field_byte b ≡ true) → (text : List ℕ) → list_all p text ≡ true → in_field text ≡ true
 free_where p to [] h = refl
 free_where p to (b ∷ text) h =
-    both_true (is_field_byte b) (in_field text) (to b (first_true (p b) (list_all p text) h)) (free_where p to text (second_true (p b) (list_all p text) h))
+    and_from (is_field_byte b) (in_field text) (to b (first_true (p b) (list_all p text) h)) (free_where p to text (second_true (p b) (list_all p text) h))
 
 between : (low high b : ℕ) → 33 ≤ low → high ≤ 126 → (nat_le low b && nat_le b high) ≡ true → is_field_byte b ≡ true
 between low high b least most h =
     let above = leb-true low b (first_true (nat_le low b) (nat_le b high) h) in
     let below = leb-true b high (second_true (nat_le low b) (nat_le b high) h) in
-    both_true (nat_le 33 b) (nat_le b 126) (le-leb 33 b (omega (arith, least, above))) (le-leb b 126 (omega (arith, most, below)))
+    and_from (nat_le 33 b) (nat_le b 126) (le-leb 33 b (omega (arith, least, above))) (le-leb b 126 (omega (arith, most, below)))
 
 same_byte : (b c : ℕ) → is_field_byte c ≡ true → (b == c) ≡ true → is_field_byte b ≡ true
 same_byte b c in_range e = ap is_field_byte (eqb-true b c e) ∙ in_range
@@ -72,13 +73,13 @@ abbrev are_free : List (List ℕ) → Bool
 are_free fields = list_all in_field fields
 
 free_both : (xs ys : List ℕ) → in_field xs ≡ true → in_field ys ≡ true → in_field (xs ++ ys) ≡ true
-free_both xs ys h k = list_all-append is_field_byte xs ys ∙ both_true (in_field xs) (in_field ys) h k
+free_both xs ys h k = list_all-append is_field_byte xs ys ∙ and_from (in_field xs) (in_field ys) h k
 
 free_one : (a : List ℕ) → in_field a ≡ true → are_free (a ∷ []) ≡ true
-free_one a h = both_true (in_field a) true h refl
+free_one a h = and_from (in_field a) true h refl
 
 free_on : (a : List ℕ) (more : List (List ℕ)) → in_field a ≡ true → are_free more ≡ true → are_free (a ∷ more) ≡ true
-free_on a more h k = both_true (in_field a) (are_free more) h k
+free_on a more h k = and_from (in_field a) (are_free more) h k
 
 free_listed : (fields : List (List ℕ)) → are_free fields ≡ true → are_free (listed fields) ≡ true
 free_listed [] h = refl
@@ -91,7 +92,7 @@ free_map S w free (x ∷ xs) h = free_on (w x) (map w xs) (free x (All-head S x 
 free_flat_map : {X : Type 0} (S : X → Type 0) (w : X → List (List ℕ)) → ((x : X) → S x → are_free (w x) ≡ true) → (xs : List X) → All S xs → are_free (flat_map w xs) ≡ true
 free_flat_map S w free [] h = refl
 free_flat_map S w free (x ∷ xs) h =
-    list_all-append (in_field) (w x) (flat_map w xs) ∙ both_true (are_free (w x)) (are_free (flat_map w xs)) (free x (All-head S x xs h)) (free_flat_map S w free xs (All-tail S x xs h))
+    list_all-append (in_field) (w x) (flat_map w xs) ∙ and_from (are_free (w x)) (are_free (flat_map w xs)) (free x (All-head S x xs h)) (free_flat_map S w free xs (All-tail S x xs h))
 
 -- numbers
 free_number : (n : ℕ) → n < 2 ^ 64 → in_field (decimal n) ≡ true
@@ -163,14 +164,14 @@ free_seat_in Roommates name n h k = h
 all_without : (c : ℕ) → is_field_byte c ≡ false → (fields : List (List ℕ)) → are_free fields ≡ true → list_all (is_free c) fields ≡ true
 all_without c other [] h = refl
 all_without c other (x ∷ xs) h =
-    both_true (is_free c x) (list_all (is_free c) xs) (free_of is_field_byte c other x (first_true (in_field x) (are_free xs) h)) (all_without c other xs (second_true (in_field x) (are_free xs) h))
+    and_from (is_free c x) (list_all (is_free c) xs) (free_of is_field_byte c other x (first_true (in_field x) (are_free xs) h)) (all_without c other xs (second_true (in_field x) (are_free xs) h))
 
 joined_without : (c : ℕ) → is_field_byte c ≡ false → not (32 == c) ≡ true → (fields : List (List ℕ)) → are_free fields ≡ true → is_free c (join_with_byte 32 fields) ≡ true
 joined_without c other no_space [] h = refl
 joined_without c other no_space (x ∷ []) h = free_of is_field_byte c other x (first_true (in_field x) true h)
 joined_without c other no_space (x ∷ y ∷ ys) h =
     free-append c x (32 ∷ join_with_byte 32 (y ∷ ys)) (free_of is_field_byte c other x (first_true (in_field x) (are_free (y ∷ ys)) h))
-    (both_true (not (32 == c)) (is_free c (join_with_byte 32 (y ∷ ys))) no_space (joined_without c other no_space (y ∷ ys) (second_true (in_field x) (are_free (y ∷ ys)) h)))
+    (and_from (not (32 == c)) (is_free c (join_with_byte 32 (y ∷ ys))) no_space (joined_without c other no_space (y ∷ ys) (second_true (in_field x) (are_free (y ∷ ys)) h)))
 
 -- the lines of an input
 module _ (input : Input) (sound : IsInput input) where
@@ -244,6 +245,7 @@ module _ (input : Input) (sound : IsInput input) where
   cut_again [] line e h = absurd (none-some line e)
   cut_again (x ∷ xs) line e h = split_joined 32 x xs (all_without 32 refl (x ∷ xs) h)
 
+  -- each line of the input is read again from its text
   pub text_again : (line : LineData) → IsLineOf input line → line_in input (fields_in (text_of_line input line)) ≡ Some line
   text_again line s =
       let again = line_again input sound line s in

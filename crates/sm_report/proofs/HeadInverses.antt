@@ -4,6 +4,7 @@ use Rattle.std.specs.Option.{option_zip}
 use Rattle.std.specs.Str.{bytes_eq}
 use Rattle.std.proofs.lemmas.List.{take-append-drop}
 use Rattle.std.proofs.lemmas.Option.{none-some, same_Some}
+use Rattle.sm_text.specs.Limits.{most_limit}
 use Rattle.sm_instance.specs.declared.kinds.Kind.{Kind}
 use Rattle.sm_instance.specs.declared.kinds.Kind.TheVariants.{Marriage, Hospitals, Roommates}
 use Rattle.sm_instance.specs.declared.kinds.Side.{Side}
@@ -28,6 +29,7 @@ pub by_test_of : {X P : Type 0} (t : Bool) (a b : Option X) (x : X) → cond t a
 by_test_of true a b x e p q = p refl e
 by_test_of false a b x e p q = q refl e
 
+-- what holds of each row of a table holds of what is looked up in it
 pub looked_up : {X : Type 0} (P : List ℕ → X → Type 0) (rows : List (List ℕ × X)) → EachRow P rows → (name : List ℕ) (x : X) → look_up rows name ≡ Some x → P name x
 looked_up P [] each name x e = absurd (none-some x e)
 looked_up {X} P (row ∷ rows) each name x e = by_test_of (bytes_eq name row.0) (Some row.1) (look_up rows name) x e
@@ -43,8 +45,8 @@ behind_is name text rest e = by_test_of (bytes_eq (take (length name) text) name
 limit_text_inverts : Inverts IsLimit limit_text limit_in
 limit_text_inverts = record {
   again = λ n h. limit_inverts.again n h;
-  sound = λ text n e. let c = chained (number_within 1 1000000) (behind (codes "limit=") text) n e in limit_inverts.sound c.from n c.gives;
-  same = λ text n e. let c = chained (number_within 1 1000000) (behind (codes "limit=") text) n e in
+  sound = λ text n e. let c = chained (number_within 1 most_limit) (behind (codes "limit=") text) n e in limit_inverts.sound c.from n c.gives;
+  same = λ text n e. let c = chained (number_within 1 most_limit) (behind (codes "limit=") text) n e in
       ap (λ t. codes "limit=" ++ t) (limit_inverts.same c.from n c.gives) ∙ behind_is (codes "limit=") text c.from c.is;
 }
 
@@ -168,5 +170,6 @@ head_again kind HeadData.Join h = plain kind (codes "join") HeadData.Join refl r
 head_again kind (HeadData.Survey limit) h = ap (option_map HeadData.Survey) (limit_text_inverts.again limit h)
 head_again kind HeadData.Check h = plain kind (codes "check") HeadData.Check refl refl
 
+-- the reader of first lines is inverse to their fields
 pub head_inverts : (kind : Kind) → Inverts (IsHeadOf kind) fields_of_head (head_in kind)
 head_inverts kind = record { again = head_again kind; sound = λ fields head e. (head_read kind fields head e).sound; same = λ fields head e. (head_read kind fields head e).same }

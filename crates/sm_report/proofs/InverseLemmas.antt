@@ -22,23 +22,28 @@ pub record Mapped {X Y : Type 0} (f : X → Y) (o : Option X) (y : Y) : Type 0 w
   pub is : o ≡ Some from
   pub gives : f from ≡ y
 
+-- what was mapped came from an item
 pub mapped : {X Y : Type 0} (f : X → Y) (o : Option X) (y : Y) → option_map f o ≡ Some y → Mapped f o y
 mapped f None y e = absurd (none-some y e)
 mapped f (Some x) y e = record { from = x; is = refl; gives = same_Some _ _ e }
 
+-- what an option that was read in two steps holds
 pub record Chained {X Y : Type 0} (f : X → Option Y) (o : Option X) (y : Y) : Type 0 where
   pub from : X
   pub is : o ≡ Some from
   pub gives : f from ≡ Some y
 
+-- what was read in two steps passed both
 pub chained : {X Y : Type 0} (f : X → Option Y) (o : Option X) (y : Y) → option_and_then f o ≡ Some y → Chained f o y
 chained f None y e = absurd (none-some y e)
 chained f (Some x) y e = record { from = x; is = refl; gives = e }
 
+-- what a pair of options holds
 pub record Zipped {X Y : Type 0} (o : Option X) (p : Option Y) (z : X × Y) : Type 0 where
   pub first : o ≡ Some z.0
   pub second : p ≡ Some z.1
 
+-- what was paired was there on both sides
 pub zipped : {X Y : Type 0} (o : Option X) (p : Option Y) (z : X × Y) → option_zip o p ≡ Some z → Zipped o p z
 zipped None p z e = absurd (none-some z e)
 zipped (Some x) None z e = absurd (none-some z e)
@@ -50,6 +55,7 @@ zipped (Some x) (Some y) z e =
 pub text_true : (xs ys : List ℕ) → xs ≡ ys → bytes_eq xs ys ≡ true
 text_true xs ys e = (bytes_eq-Decides xs ys).1 e
 
+-- texts that compare equal are the same
 pub text_same : (xs ys : List ℕ) → bytes_eq xs ys ≡ true → xs ≡ ys
 text_same xs ys e = (bytes_eq-Decides xs ys).0 e
 
@@ -73,6 +79,7 @@ one_inverts {X} {Sound} {write} {read} h = record { again = λ x s. h.again x s;
   same (a ∷ []) x e = ap (λ t. t ∷ []) (h.same a x e)
   same (a ∷ b ∷ more) x e = absurd (none-some x e)
 
+-- two readers, each inverse to its writer, are so for two fields
 pub two_inverts : {X Y : Type 0} {S : X → Type 0} {v : X → List ℕ} {r : List ℕ → Option X} {T : Y → Type 0} {w : Y → List ℕ} {q : List ℕ → Option Y}
     → Inverts S v r → Inverts T w q
     → Inverts (λ (z : X × Y). S z.0 × T z.1) (λ z. v z.0 ∷ w z.1 ∷ []) (λ fields. option_and_then (λ x. option_zip (r x.0) (q x.1)) (two_of fields))

@@ -272,6 +272,7 @@ module _ (input : Input) (sound : IsInput input) where
   seat_of : (x : Seat) → IsRight input x.reviewer → All (λ (s : Seat). IsSeatNumber (kind_of input) s.number) (x ∷ []) → IsSeat input x
   seat_of x h k = (h, All-head (λ (s : Seat). IsSeatNumber (kind_of input) s.number) x [] k)
 
+  -- each line of the input is read again from its fields
   pub line_again : (line : LineData) → IsLineOf input line → line_in input (fields_of input line) ≡ Some line
   unfolding headed_of bare_in
   line_again (LineData.Answer head) s = again_as LineData.Answer (head_inverts (kind_of input)) head s.head

@@ -30,6 +30,7 @@ none_has_text input sound text e line h = none-some line (sym e ∙ text_is_read
 pub one_line : OneLineHasIt
 one_line input text a b sound h k = same_Some a b (sym (text_is_read input sound text a h) ∙ text_is_read input sound text b k)
 
+-- what was put for a line of an input is read as that line
 pub put_is_read : PutIsReadAgain
 put_is_read input line sound h =
     let own : HasText input (text_of_line input line) line = record { sound = h; spelled = refl } in

@@ -8,6 +8,7 @@ use Rattle.sm_report.specs.declared.fields.Field.TheVariants as field
 use Rattle.sm_report.specs.Texts.{left_name, right_name, seat_text, vector_text, end_text, limit_text}
 use Rattle.sm_report.specs.Sound.{IsLeft, IsRight}
 
+-- the text of a field
 abbrev pub text_of_field : Input → Field → List ℕ
 text_of_field input (field.Text text) = text.now
 text_of_field input (field.Left p) = left_name input p
@@ -27,6 +28,7 @@ IsShown input (field.Right r) = IsRight input r
 IsShown input (field.At seat) = IsRight input seat.reviewer
 IsShown input _ = Unit {0}
 
+-- each of some fields can be shown
 abbrev pub AreShown : Input → List Field → Type 0
 AreShown input [] = Unit {0}
 AreShown input (f ∷ fs) = IsShown input f × AreShown input fs

@@ -20,6 +20,7 @@ pub data HeadData : Type 0 where
   Survey : ℕ → HeadData
   Check : HeadData
 
+-- a first line as plain data
 abbrev pub head_of : Head → HeadData
 head_of (head.Solve side) = Solve side
 head_of head.Reduced = Reduced

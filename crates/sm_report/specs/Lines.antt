@@ -36,6 +36,7 @@ pub data LineData : Type 0 where
   No : ℕ → ℕ → LineData
   End : LineData
 
+-- a line as plain data
 abbrev pub line_of : Line → LineData
 line_of (line.Answer h) = Answer (head_of h)
 line_of (line.Pair p r) = Pair p r

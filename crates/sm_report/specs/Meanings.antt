@@ -4,6 +4,7 @@ use Rattle.std.specs.Borrow.{Bor}
 use Rattle.std.specs.List.{slice_split, before_first, after_first}
 use Rattle.std.specs.Option.{option_and_then, option_zip}
 use Rattle.std.specs.Str.{bytes_eq}
+use Rattle.sm_text.specs.Limits.{most_limit}
 use Rattle.sm_text.specs.Numbers.{number_of, signed_of}
 use Rattle.sm_instance.specs.Written.{names_of}
 use Rattle.sm_instance.specs.Inputs.{kind_of, left_of, right_of}
@@ -31,6 +32,7 @@ texts_of slices = map (λ (x : Bor (List ℕ)). x.now) slices
 abbrev pub is_space : ℕ → Bool
 is_space b = b == 32
 
+-- the fields of a text
 abbrev pub fields_in : List ℕ → List (List ℕ)
 fields_in text = slice_split is_space text
 
@@ -76,6 +78,7 @@ words =
 unfoldable pub left_in : Input → List ℕ → Option ℕ
 left_in input name = position (bytes_eq name) (names_of (left_of input))
 
+-- the reviewer with a name, in roommates the person
 unfoldable pub right_in : Input → List ℕ → Option ℕ
 right_in input name = position (bytes_eq name) (names_of (right_of input))
 
@@ -84,18 +87,23 @@ abbrev pub at_least : ℕ → Option ℕ → Option ℕ
 at_least least None = None
 at_least least (Some n) = if nat_lt n least then None else Some n
 
+-- the number that a text spells, where it is within bounds
 abbrev pub number_within : ℕ → ℕ → List ℕ → Option ℕ
 number_within least most text = at_least least (number_of text most)
 
+-- a number of 32 bits
 abbrev pub small_in : List ℕ → Option ℕ
 small_in text = number_of text 4294967295
 
+-- a number of 64 bits
 abbrev pub large_in : List ℕ → Option ℕ
 large_in text = number_of text 18446744073709551615
 
+-- a number with a sign, whose size fits 63 bits
 abbrev pub signed_in : List ℕ → Option ℤ
 signed_in text = signed_of text 9223372036854775807
 
+-- the number of a rotation
 abbrev pub rotation_in : List ℕ → Option ℕ
 rotation_in text = number_within 1 4294967294 text
 
@@ -103,18 +111,22 @@ rotation_in text = number_within 1 4294967294 text
 abbrev pub is_slash : ℕ → Bool
 is_slash b = b == 47
 
+-- a seat by its reviewer and its number
 abbrev pub seat : ℕ → ℕ → Seat
 seat reviewer number = record { reviewer = reviewer; number = number }
 
+-- a seat that is written with its number
 abbrev pub numbered_seat_in : (List ℕ → Option ℕ) → List ℕ → Option Seat
 numbered_seat_in named text =
     option_map (λ x. seat x.0 x.1) (option_zip (named (before_first is_slash text)) (number_within 1 4294967295 (after_first is_slash text)))
 
+-- a seat as each kind of instance writes it
 abbrev pub seat_by : Kind → (List ℕ → Option ℕ) → List ℕ → Option Seat
 seat_by Marriage named text = option_map (λ r. seat r 1) (named text)
 seat_by Hospitals named text = numbered_seat_in named text
 seat_by Roommates named text = option_map (λ r. seat r 1) (named text)
 
+-- a seat of an instance
 abbrev pub seat_in : Input → List ℕ → Option Seat
 seat_in input text = seat_by (kind_of input) (right_in input) text
 
@@ -131,14 +143,17 @@ unfoldable pub one_of : List (List ℕ) → Option (List ℕ)
 one_of (a ∷ []) = Some a
 one_of _ = None
 
+-- exactly two fields
 unfoldable pub two_of : List (List ℕ) → Option (List ℕ × List ℕ)
 two_of (a ∷ b ∷ []) = Some (a, b)
 two_of _ = None
 
+-- exactly three fields
 unfoldable pub three_of : List (List ℕ) → Option (List ℕ × List ℕ × List ℕ)
 three_of (a ∷ b ∷ c ∷ []) = Some (a, b, c)
 three_of _ = None
 
+-- a field, and those behind it
 unfoldable pub headed_of : List (List ℕ) → Option (List ℕ × List (List ℕ))
 headed_of [] = None
 headed_of (a ∷ more) = Some (a, more)
@@ -153,9 +168,11 @@ items_in (text ∷ next ∷ more) = Some (text ∷ next ∷ more)
 abbrev pub lefts_in : Input → List (List ℕ) → Option (List ℕ)
 lefts_in input fields = option_and_then (each_in (left_in input)) (items_in fields)
 
+-- a list of seats
 abbrev pub seats_in : Input → List (List ℕ) → Option (List Seat)
 seats_in input fields = option_and_then (each_in (seat_in input)) (items_in fields)
 
+-- a list of numbers of 64 bits
 abbrev pub figures_in : List (List ℕ) → Option (List ℕ)
 figures_in fields = option_and_then (each_in large_in) (items_in fields)
 
@@ -165,6 +182,7 @@ rising_above last [] = Some []
 rising_above last (text ∷ more) =
     option_and_then (λ n. option_map (λ ns. n ∷ ns) (rising_above n more)) (number_within (last + 1) 4294967294 text)
 
+-- a list of rotations, rising
 abbrev pub rising_in : List (List ℕ) → Option (List ℕ)
 rising_in fields = option_and_then (rising_above 0) (items_in fields)
 
@@ -175,6 +193,7 @@ each_pair_in read then_read (text ∷ []) = None
 each_pair_in read then_read (text ∷ next ∷ more) =
     option_and_then (λ x. option_map (λ xs. x ∷ xs) (each_pair_in read then_read more)) (option_zip (read text) (then_read next))
 
+-- a list of proposers, each with a seat
 abbrev pub seated_pairs_in : Input → List (List ℕ) → Option (List (ℕ × Seat))
 seated_pairs_in input fields = option_and_then (each_pair_in (left_in input) (seat_in input)) (items_in fields)
 
@@ -182,6 +201,7 @@ seated_pairs_in input fields = option_and_then (each_pair_in (left_in input) (se
 abbrev pub pair_in : Input → List (List ℕ) → Option (ℕ × ℕ)
 pair_in input fields = option_and_then (λ x. option_zip (left_in input x.0) (right_in input x.1)) (two_of fields)
 
+-- a proposer with a seat
 abbrev pub seated_in : Input → List (List ℕ) → Option (ℕ × Seat)
 seated_in input fields = option_and_then (λ x. option_zip (left_in input x.0) (seat_in input x.1)) (two_of fields)
 
@@ -189,15 +209,19 @@ seated_in input fields = option_and_then (λ x. option_zip (left_in input x.0) (
 abbrev pub proposer_in : Input → List (List ℕ) → Option (ℕ × List Seat)
 proposer_in input fields = option_and_then (λ x. option_zip (left_in input x.0) (seats_in input x.1)) (headed_of fields)
 
+-- a seat with a list of proposers
 abbrev pub reviewer_in : Input → List (List ℕ) → Option (Seat × List ℕ)
 reviewer_in input fields = option_and_then (λ x. option_zip (seat_in input x.0) (lefts_in input x.1)) (headed_of fields)
 
+-- a rotation with its pairs
 abbrev pub rotation_with_pairs_in : Input → List (List ℕ) → Option (ℕ × List (ℕ × Seat))
 rotation_with_pairs_in input fields = option_and_then (λ x. option_zip (rotation_in x.0) (seated_pairs_in input x.1)) (headed_of fields)
 
+-- a rotation with a list of rotations
 abbrev pub needs_in : List (List ℕ) → Option (ℕ × List ℕ)
 needs_in fields = option_and_then (λ x. option_zip (rotation_in x.0) (rising_in x.1)) (headed_of fields)
 
+-- a tag with a list of numbers
 abbrev pub tally_in : List (List ℕ) → Option (ℕ × List ℕ)
 tally_in fields = option_and_then (λ x. option_zip (small_in x.0) (figures_in x.1)) (headed_of fields)
 
@@ -205,12 +229,15 @@ tally_in fields = option_and_then (λ x. option_zip (small_in x.0) (figures_in x
 abbrev pub gain_in : List (List ℕ) → Option (ℕ × ℤ)
 gain_in fields = option_and_then (λ x. option_zip (rotation_in x.0) (signed_in x.1)) (two_of fields)
 
+-- two ends and an amount
 abbrev pub flow_of : (List ℕ × List ℕ × List ℕ) → Option ((ℕ × ℕ) × ℕ)
 flow_of x = option_zip (option_zip (end_in x.0) (end_in x.1)) (large_in x.2)
 
+-- what flows between two ends
 abbrev pub flow_in : List (List ℕ) → Option ((ℕ × ℕ) × ℕ)
 flow_in fields = option_and_then flow_of (three_of fields)
 
+-- the number of a line, and a reason
 abbrev pub no_in : List (List ℕ) → Option (ℕ × ℕ)
 no_in fields = option_and_then (λ x. option_zip (small_in x.0) (reason_in x.1)) (two_of fields)
 
@@ -218,18 +245,23 @@ no_in fields = option_and_then (λ x. option_zip (small_in x.0) (reason_in x.1))
 abbrev pub behind : List ℕ → List ℕ → Option (List ℕ)
 behind name text = if bytes_eq (take (length name) text) name then Some (drop (length name) text) else None
 
+-- the operand of how many are listed
 abbrev pub limit_in : List ℕ → Option ℕ
-limit_in operand = option_and_then (number_within 1 1000000) (behind (codes "limit=") operand)
+limit_in operand = option_and_then (number_within 1 most_limit) (behind (codes "limit=") operand)
 
+-- the operand of the vector behind which the list begins
 abbrev pub after_in : List ℕ → Option (List ℕ)
 after_in operand = option_and_then vector_in (behind (codes "after=") operand)
 
+-- the operands that name a side
 abbrev pub sides : List (List ℕ × Side)
 sides = (codes "side=proposers", Proposers) ∷ (codes "side=reviewers", Reviewers) ∷ []
 
+-- the operands that name a measure
 abbrev pub measures : List (List ℕ × Measure)
 measures = (codes "by=ranks", Ranks) ∷ (codes "by=given", Given) ∷ []
 
+-- the commands without an operand
 abbrev pub bare_heads : List (List ℕ × HeadData)
 bare_heads =
     (codes "reduced", HeadData.Reduced)
@@ -241,16 +273,19 @@ bare_heads =
     ∷ (codes "check", HeadData.Check)
     ∷ []
 
+-- a command that stands alone; in roommates `solve` is one
 abbrev pub bare_head_in : Kind → List ℕ → Option HeadData
 bare_head_in Marriage command = look_up bare_heads command
 bare_head_in Hospitals command = look_up bare_heads command
 bare_head_in Roommates command = look_up ((codes "solve", HeadData.Solve None) ∷ bare_heads) command
 
+-- the side that an operand names, where the instance has two
 abbrev pub side_in : Kind → List ℕ → Option Side
 side_in Marriage operand = look_up sides operand
 side_in Hospitals operand = look_up sides operand
 side_in Roommates operand = None
 
+-- a command with one operand
 abbrev pub operand_head_in : Kind → List ℕ → List ℕ → Option HeadData
 operand_head_in kind command operand =
     if bytes_eq command (codes "solve") then option_map (λ side. HeadData.Solve (Some side)) (side_in kind operand) else
@@ -258,10 +293,12 @@ operand_head_in kind command operand =
     (if bytes_eq command (codes "list") then option_map (HeadData.List None) (limit_in operand) else
     (if bytes_eq command (codes "survey") then option_map HeadData.Survey (limit_in operand) else None)))
 
+-- `list` with both its operands
 abbrev pub list_head_in : List ℕ → List ℕ → List ℕ → Option HeadData
 list_head_in command after limit =
     if bytes_eq command (codes "list") then option_map (λ x. HeadData.List (Some x.0) x.1) (option_zip (after_in after) (limit_in limit)) else None
 
+-- the first line that a command with its operands makes
 unfoldable pub head_in : Kind → List (List ℕ) → Option HeadData
 head_in kind (command ∷ []) = bare_head_in kind command
 head_in kind (command ∷ operand ∷ []) = operand_head_in kind command operand
@@ -273,6 +310,7 @@ unfoldable pub bare_in : LineData → List (List ℕ) → Option LineData
 bare_in line [] = Some line
 bare_in line (_ ∷ _) = None
 
+-- the line that a word and the fields behind it make
 abbrev pub line_behind : Input → Word → List (List ℕ) → Option LineData
 line_behind input word.Answer fields = option_map LineData.Answer (head_in (kind_of input) fields)
 line_behind input word.Pair fields = option_map (λ x. LineData.Pair x.0 x.1) (pair_in input fields)

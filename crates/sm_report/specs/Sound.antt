@@ -2,6 +2,7 @@
 use Rattle.std.specs.Prelude.{◌≡◌, ℕ, ◌<◌, ◌≤◌, ◌^◌, List, [], ◌∷◌, length, map, All, Option, None, IsSome, IfSome}
 use Rattle.std.specs.List.Sorted.{IsStrictlyIncreasing}
 use Rattle.std.specs.Int.RustNames.{unsigned_abs}
+use Rattle.sm_text.specs.Limits.{most_limit}
 use Rattle.sm_instance.specs.Inputs.{kind_of, left_of, right_of}
 use Rattle.sm_instance.specs.declared.inputs.Input.{Input}
 use Rattle.sm_instance.specs.declared.kinds.Kind.{Kind}
@@ -16,18 +17,23 @@ use Rattle.sm_report.specs.Reasons.{IsReason}
 abbrev pub IsLeft : Input → ℕ → Type 0
 IsLeft input p = p < length (left_of input)
 
+-- r is a reviewer, in roommates a person
 abbrev pub IsRight : Input → ℕ → Type 0
 IsRight input r = r < length (right_of input)
 
+-- p is a proposer and r a reviewer
 abbrev pub ArePair : Input → ℕ → ℕ → Type 0
 ArePair input p r = IsLeft input p × IsRight input r
 
+-- each pair is of a proposer and a seat of some reviewer
 abbrev pub AreSeatedPairs : Input → List (ℕ × Seat) → Type 0
 AreSeatedPairs input pairs = All (λ (pair : ℕ × Seat). ArePair input pair.0 pair.1.reviewer) pairs
 
+-- each is a seat of some reviewer
 abbrev pub AreSeats : Input → List Seat → Type 0
 AreSeats input seats = All (λ (seat : Seat). IsRight input seat.reviewer) seats
 
+-- a line names agents of the instance and known reasons alone
 abbrev pub IsPrintable : Input → LineData → Type 0
 IsPrintable input (LineData.Pair p r) = ArePair input p r
 IsPrintable input (LineData.Party persons) = All (IsLeft input) persons
@@ -63,9 +69,11 @@ pub record IsRotation (i : ℕ) : Type 0 where
   pub least : 1 ≤ i
   pub greatest : i ≤ 4294967294
 
+-- a number of 32 bits
 abbrev pub IsSmall : ℕ → Type 0
 IsSmall n = n < 2 ^ 32
 
+-- a number of 64 bits
 abbrev pub IsLarge : ℕ → Type 0
 IsLarge n = n < 2 ^ 64
 
@@ -77,7 +85,7 @@ pub record AreRotations (ns : List ℕ) : Type 0 where
 -- a limit on how many are listed
 pub record IsLimit (n : ℕ) : Type 0 where
   pub least : 1 ≤ n
-  pub greatest : n ≤ 1000000
+  pub greatest : n ≤ most_limit
 
 -- `solve` names a side exactly where the instance has two
 abbrev pub NamesSide : Kind → Option Side → Type 0
@@ -85,6 +93,7 @@ NamesSide Marriage side = IsSome side
 NamesSide Hospitals side = IsSome side
 NamesSide Roommates side = side ≡ None
 
+-- a first line that an instance of the kind can have
 abbrev pub IsHeadOf : Kind → HeadData → Type 0
 IsHeadOf kind (HeadData.Solve side) = NamesSide kind side
 IsHeadOf kind (HeadData.List after limit) = IfSome after (All IsSmall) × IsLimit limit
@@ -109,6 +118,7 @@ AreNumbers (LineData.TallyLine tag figures) = IsSmall tag × All IsLarge figures
 AreNumbers (LineData.No at reason) = IsSmall at
 AreNumbers _ = Unit {0}
 
+-- a line that is no first line, or one that an instance of the kind can have
 abbrev pub HasHeadOf : Kind → LineData → Type 0
 HasHeadOf kind (LineData.Answer head) = IsHeadOf kind head
 HasHeadOf kind _ = Unit {0}

@@ -2,7 +2,6 @@
 use Rattle.std.specs.Prelude.{ℕ, ◌==◌, List, [], ◌∷◌, ◌++◌, map, Some, None, codes, decimal, if◌then◌else◌}
 use Rattle.std.specs.List.{flat_map, join_with_byte}
 use Rattle.std.specs.Fmt.{signed_decimal}
-use Rattle.sm_text.specs.Lines.{LF}
 use Rattle.sm_instance.specs.Written.{agent_at}
 use Rattle.sm_instance.specs.Inputs.{kind_of, left_of, right_of}
 use Rattle.sm_instance.specs.declared.inputs.Input.{Input}
@@ -19,6 +18,7 @@ use Rattle.sm_report.specs.Reasons.{name_of_reason}
 abbrev pub left_name : Input → ℕ → List ℕ
 left_name input p = (agent_at (left_of input) p).name
 
+-- the name of a reviewer, in roommates of a person
 abbrev pub right_name : Input → ℕ → List ℕ
 right_name input r = (agent_at (right_of input) r).name
 
@@ -28,6 +28,7 @@ seat_text_in Marriage name number = name
 seat_text_in Hospitals name number = name ++ codes "/" ++ decimal number
 seat_text_in Roommates name number = name
 
+-- the text of a seat of an instance
 abbrev pub seat_text : Input → Seat → List ℕ
 seat_text input seat = seat_text_in (kind_of input) (right_name input seat.reviewer) seat.number
 
@@ -36,15 +37,19 @@ abbrev pub listed : List (List ℕ) → List (List ℕ)
 listed [] = codes "-" ∷ []
 listed (x ∷ xs) = x ∷ xs
 
+-- the fields of a list of proposers
 abbrev pub lefts : Input → List ℕ → List (List ℕ)
 lefts input proposers = listed (map (left_name input) proposers)
 
+-- the fields of a list of seats
 abbrev pub seats : Input → List Seat → List (List ℕ)
 seats input list = listed (map (seat_text input) list)
 
+-- the fields of a list of proposers, each with a seat
 abbrev pub seated_pairs : Input → List (ℕ × Seat) → List (List ℕ)
 seated_pairs input pairs = listed (flat_map (λ pair. left_name input pair.0 ∷ seat_text input pair.1 ∷ []) pairs)
 
+-- the fields of a list of numbers
 abbrev pub numbers : List ℕ → List (List ℕ)
 numbers ns = listed (map decimal ns)
 
@@ -57,9 +62,11 @@ vector_text (n ∷ ns) = join_with_byte 44 (map decimal (n ∷ ns))
 abbrev pub SOURCE : ℕ
 SOURCE = 0
 
+-- the number of the sink
 abbrev pub SINK : ℕ
 SINK = 4294967295
 
+-- the text of an end of a flow
 abbrev pub end_text : ℕ → List ℕ
 end_text n = if n == SOURCE then codes "S" else (if n == SINK then codes "T" else decimal n)
 
@@ -67,6 +74,7 @@ end_text n = if n == SOURCE then codes "S" else (if n == SINK then codes "T" els
 abbrev pub limit_text : ℕ → List ℕ
 limit_text limit = codes "limit=" ++ decimal limit
 
+-- the fields of a first line behind its word
 abbrev pub fields_of_head : HeadData → List (List ℕ)
 fields_of_head (HeadData.Solve None) = codes "solve" ∷ []
 fields_of_head (HeadData.Solve (Some Proposers)) = codes "solve" ∷ codes "side=proposers" ∷ []
@@ -118,6 +126,3 @@ fields_of input LineData.End = codes "end" ∷ []
 -- the text of a line, and of lines with their ends
 abbrev pub text_of_line : Input → LineData → List ℕ
 text_of_line input line = join_with_byte 32 (fields_of input line)
-
-abbrev pub texts_of_lines : Input → List LineData → List ℕ
-texts_of_lines input lines = flat_map (λ line. text_of_line input line ++ LF ∷ []) lines

@@ -32,6 +32,7 @@ two_sided kind capacity = Two (record {
 abbrev pub room : Input
 room = Room (agent (codes "x") 1 ∷ agent (codes "y") 1 ∷ [])
 
+-- a seat by its reviewer and its number
 abbrev pub seat : ℕ → ℕ → Seat
 seat reviewer number = record { reviewer = reviewer; number = number }
 
@@ -39,6 +40,7 @@ seat reviewer number = record { reviewer = reviewer; number = number }
 abbrev pub HaveTexts : Input → List (LineData × List ℕ) → Type 0
 HaveTexts input rows = map (λ row. text_of_line input row.0) rows ≡ map (λ row. row.1) rows
 
+-- each text is read as the line beside it
 abbrev pub AreRead : Input → List (LineData × List ℕ) → Type 0
 AreRead input rows = map (λ row. line_in input (fields_in row.1)) rows ≡ map (λ row. Some row.0) rows
 
@@ -61,6 +63,7 @@ marriage_lines =
     ∷ (LineData.ReviewerList (seat 1 1) [], codes "reviewer h2 -")
     ∷ (LineData.Rotation 12 ((0, seat 1 1) ∷ (1, seat 0 1) ∷ []), codes "rotation 12 a h2 b h1") ∷ []
 
+-- lines of hospitals, where a seat has its number
 abbrev pub hospital_lines : List (LineData × List ℕ)
 hospital_lines =
     (LineData.Pair 1 0, codes "pair b h1")
@@ -70,6 +73,7 @@ hospital_lines =
     ∷ (LineData.ReviewerList (seat 0 2) (1 ∷ 0 ∷ []), codes "reviewer h1/2 b a")
     ∷ (LineData.Rotation 1 ((0, seat 0 1) ∷ (1, seat 1 2) ∷ []), codes "rotation 1 a h1/1 b h2/2") ∷ []
 
+-- lines of roommates
 abbrev pub room_lines : List (LineData × List ℕ)
 room_lines =
     (LineData.Answer (HeadData.Solve None), codes "answer solve")
@@ -124,15 +128,19 @@ head_lines =
 abbrev pub MarriageTexts : Type 0
 MarriageTexts = HaveTexts (two_sided Marriage 1) marriage_lines × AreRead (two_sided Marriage 1) marriage_lines
 
+-- the lines of hospitals have their texts, and are read from them
 abbrev pub HospitalTexts : Type 0
 HospitalTexts = HaveTexts (two_sided Hospitals 3) hospital_lines × AreRead (two_sided Hospitals 3) hospital_lines
 
+-- the lines of roommates have theirs
 abbrev pub RoomTexts : Type 0
 RoomTexts = HaveTexts room room_lines × AreRead room room_lines
 
+-- the lines of words and numbers have theirs
 abbrev pub NumberTexts : Type 0
 NumberTexts = HaveTexts (two_sided Marriage 1) number_lines × AreRead (two_sided Marriage 1) number_lines
 
+-- the first lines have theirs
 abbrev pub HeadTexts : Type 0
 HeadTexts = HaveTexts (two_sided Marriage 1) head_lines × AreRead (two_sided Marriage 1) head_lines
 
@@ -150,10 +158,12 @@ BadTexts = AreRefused (two_sided Marriage 1) (
     ∷ codes "answer" ∷ codes "answer solve" ∷ codes "answer check limit=1" ∷ codes "answer list" ∷ codes "answer list limit=0"
     ∷ codes "answer list limit=2 after=1" ∷ codes "answer survey limit=1000001" ∷ codes "answer weight" ∷ [])
 
+-- texts of no line of hospitals: seats without a number, or with a bad one
 abbrev pub BadSeats : Type 0
 BadSeats = AreRefused (two_sided Hospitals 3) (
     codes "pair a h1/1" ∷ codes "first a h1" ∷ codes "first a h1/" ∷ codes "first a h1/0" ∷ codes "first a h1/01" ∷ codes "first a h1/1/1"
     ∷ codes "first a /1" ∷ codes "first a h3/1" ∷ [])
 
+-- texts of no line of roommates: a side, a name that nobody has, a party of nobody
 abbrev pub BadRooms : Type 0
 BadRooms = AreRefused room (codes "answer solve side=proposers" ∷ codes "party z" ∷ codes "party" ∷ [])

@@ -61,7 +61,7 @@ pub(crate) fn seat_in(input: &Input, text: &[u8]) -> Option<Seat>
     }
 }
 
-// The seat with a number that a text names.
+/// The seat with a number that a text names.
 fn numbered_seat_in(input: &Input, text: &[u8]) -> Option<Seat>
     ensures { result ≡ numbered_seat_in (right_in input.now) text.now }
 {

@@ -47,7 +47,8 @@ pub(crate) fn put_fields(
     fields: &[Field<'_>],
 ) -> Result<(), AllocError>
     requires { AreShown input.now fields.now }
-    ensures { PutsText into.old into.new (spaced (map (text_of_field input.now) fields.now)) result }
+    ensures { PutsText into.old into.new (spaced (map (text_of_field input.now) fields.now))
+        result }
 {
     for field in fields {
         put_field(into, input, *field)?;
@@ -68,7 +69,7 @@ pub(crate) fn put_field(
     put_field_text(into, input, field)
 }
 
-// Puts a field.
+/// Puts a field.
 fn put_field_text(into: &mut LineWriter, input: &Input, field: Field<'_>) -> Result<(), AllocError>
     requires { IsShown input.now field }
     ensures { PutsText into.old into.new (text_of_field input.now field.entry) result }
@@ -93,7 +94,7 @@ fn put_field_text(into: &mut LineWriter, input: &Input, field: Field<'_>) -> Res
     }
 }
 
-// Puts a seat: its reviewer's name, in hospitals with `/` and its number behind it.
+/// Puts a seat: its reviewer's name, in hospitals with `/` and its number behind it.
 fn put_seat(into: &mut LineWriter, input: &Input, seat: Seat) -> Result<(), AllocError>
     requires { IsRight input.now seat.reviewer }
     ensures { PutsText into.old into.new (seat_text input.now seat) result }
@@ -105,7 +106,7 @@ fn put_seat(into: &mut LineWriter, input: &Input, seat: Seat) -> Result<(), Allo
     }
 }
 
-// Puts the number of a seat behind `/`.
+/// Puts the number of a seat behind `/`.
 fn put_seat_number(into: &mut LineWriter, number: u32) -> Result<(), AllocError>
     ensures { PutsText into.old into.new (codes "/" ++ decimal number) result }
 {
@@ -113,7 +114,7 @@ fn put_seat_number(into: &mut LineWriter, number: u32) -> Result<(), AllocError>
     into.put_number(u64::from(number))
 }
 
-// Puts an end of a flow: `S` for the source, `T` for the sink, or a rotation's number.
+/// Puts an end of a flow: `S` for the source, `T` for the sink, or a rotation's number.
 fn put_flow_end(into: &mut LineWriter, end: u32) -> Result<(), AllocError>
     ensures { PutsText into.old into.new (end_text end) result }
 {
@@ -124,7 +125,7 @@ fn put_flow_end(into: &mut LineWriter, end: u32) -> Result<(), AllocError>
     }
 }
 
-// Puts numbers with commas between them, and `-` where there are none.
+/// Puts numbers with commas between them, and `-` where there are none.
 fn put_vector(into: &mut LineWriter, vector: &[u32]) -> Result<(), AllocError>
     ensures { PutsText into.old into.new (vector_text vector.now) result }
 {
@@ -138,7 +139,7 @@ fn put_vector(into: &mut LineWriter, vector: &[u32]) -> Result<(), AllocError>
     Ok(())
 }
 
-// Puts a number behind a comma.
+/// Puts a number behind a comma.
 fn put_behind_comma(into: &mut LineWriter, number: u32) -> Result<(), AllocError>
     ensures { PutsText into.old into.new (44 ∷ decimal number) result }
 {

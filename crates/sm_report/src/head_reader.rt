@@ -9,12 +9,11 @@ use crate::fields_of::is;
 use crate::heads::Head;
 use crate::vectors::vector_in;
 use sm_instance::{Kind, Measure, Side};
+use sm_text::MOST_LIMIT;
 use std::alloc::{AllocError, Global};
 
-/// The bounds of a limit.
+/// The least limit.
 const LEAST_LIMIT: u32 = 1;
-
-const MOST_LIMIT: u32 = 1_000_000;
 
 /// What the fields behind `answer` say: a command with its operands.
 #[tactic(auto, unfolding(crate::specs::Meanings::head_in))]
@@ -34,7 +33,7 @@ pub(crate) fn head_in(
     }
 }
 
-// A command without operands.
+/// A command without operands.
 fn bare_head_in(kind: Kind, command: &[u8]) -> Option<Head>
     ensures { bare_head_in kind command.now ≡ option_map head_of result }
 {
@@ -59,7 +58,7 @@ fn bare_head_in(kind: Kind, command: &[u8]) -> Option<Head>
     }
 }
 
-// A command with one operand.
+/// A command with one operand.
 fn operand_head_in(kind: Kind, command: &[u8], operand: &[u8]) -> Option<Head>
     ensures { operand_head_in kind command.now operand.now ≡ option_map head_of result }
 {
@@ -76,14 +75,15 @@ fn operand_head_in(kind: Kind, command: &[u8], operand: &[u8]) -> Option<Head>
     }
 }
 
-// `list` with the vector behind which it begins, and its limit.
+/// `list` with the vector behind which it begins, and its limit.
 fn list_head_in(
     alloc: Global,
     command: &[u8],
     after: &[u8],
     limit: &[u8],
 ) -> Result<Option<Head>, AllocError>
-    ensures { IfOk result (λ found. list_head_in command.now after.now limit.now ≡ option_map head_of found) }
+    ensures { IfOk result (λ found. list_head_in command.now after.now limit.now
+        ≡ option_map head_of found) }
 {
     if !is(command, b"list") {
         return Ok(None);
@@ -94,7 +94,7 @@ fn list_head_in(
     }
 }
 
-// The side that an operand of `solve` names, which an instance with two sides alone has.
+/// The side that an operand of `solve` names, which an instance with two sides alone has.
 fn side_in(kind: Kind, operand: &[u8]) -> Option<Side>
     ensures { result ≡ side_in kind operand.now }
 {
@@ -109,7 +109,7 @@ fn side_in(kind: Kind, operand: &[u8]) -> Option<Side>
     }
 }
 
-// The measure that an operand of `weight` names.
+/// The measure that an operand of `weight` names.
 fn measure_in(operand: &[u8]) -> Option<Measure>
     ensures { result ≡ look_up measures operand.now }
 {
@@ -122,14 +122,14 @@ fn measure_in(operand: &[u8]) -> Option<Measure>
     }
 }
 
-// The limit that an operand gives.
+/// The limit that an operand gives.
 fn limit_in(operand: &[u8]) -> Option<u32>
     ensures { result ≡ limit_in operand.now }
 {
     number_within(behind(operand, b"limit=")?, LEAST_LIMIT, MOST_LIMIT)
 }
 
-// The vector that an operand gives.
+/// The vector that an operand gives.
 fn after_in(alloc: Global, operand: &[u8]) -> Result<Option<Vec<u32>>, AllocError>
     ensures { IfOk result (λ found. after_in operand.now ≡ option_map (λ v. v.items) found) }
 {
@@ -139,9 +139,10 @@ fn after_in(alloc: Global, operand: &[u8]) -> Result<Option<Vec<u32>>, AllocErro
     }
 }
 
-// What stands behind an operand's name and `=`.
+/// What stands behind an operand's name and `=`.
 fn behind<'a>(operand: &'a [u8], name: &[u8]) -> Option<&'a [u8]>
-    ensures { MatchOption result (behind name.now operand.now ≡ None) (λ x. behind name.now operand.now ≡ Some x.now) }
+    ensures { MatchOption result (behind name.now operand.now
+        ≡ None) (λ x. behind name.now operand.now ≡ Some x.now) }
 {
     operand.strip_prefix(name)
 }

@@ -47,7 +47,7 @@ pub(crate) fn put_items(
     Ok(())
 }
 
-// How many items a list has.
+/// How many items a list has.
 fn item_count(items: Items<'_>) -> usize
     ensures { (input : Input) → result ≡ length (each_of input items.entry) }
 {
@@ -59,7 +59,7 @@ fn item_count(items: Items<'_>) -> usize
     }
 }
 
-// Puts the item at a place.
+/// Puts the item at a place.
 fn put_item(
     into: &mut LineWriter,
     input: &Input,

@@ -49,7 +49,8 @@ pub(crate) fn only_vector_in(
     alloc: Global,
     fields: &[&[u8]],
 ) -> Result<Option<Vec<u32>>, AllocError>
-    ensures { IfOk result (λ found. option_and_then vector_in (one_of (texts_of fields.now)) ≡ option_map (λ v. v.items) found) }
+    ensures { IfOk result (λ found. option_and_then vector_in (one_of (texts_of fields.now))
+        ≡ option_map (λ v. v.items) found) }
 {
     match one(fields) {
         Some(text) => vector_in(alloc, text),

@@ -18,7 +18,8 @@ pub(crate) fn lefts_in(
     input: &Input,
     fields: &[&[u8]],
 ) -> Result<Option<Vec<u32>>, AllocError>
-    ensures { IfOk result (λ found. lefts_in input.now (texts_of fields.now) ≡ option_map (λ v. v.items) found) }
+    ensures { IfOk result (λ found. lefts_in input.now (texts_of fields.now)
+        ≡ option_map (λ v. v.items) found) }
 {
     match items_in(fields) {
         Some(items) => each_left(alloc, input, items),
@@ -26,9 +27,10 @@ pub(crate) fn lefts_in(
     }
 }
 
-// The proposers that items name.
+/// The proposers that items name.
 fn each_left(alloc: Global, input: &Input, items: &[&[u8]]) -> Result<Option<Vec<u32>>, AllocError>
-    ensures { IfOk result (λ found. each_in (left_in input.now) (texts_of items.now) ≡ option_map (λ v. v.items) found) }
+    ensures { IfOk result (λ found. each_in (left_in input.now) (texts_of items.now)
+        ≡ option_map (λ v. v.items) found) }
 {
     let mut found = Vec::with_capacity(alloc, items.len())?;
     for item in items {
@@ -46,7 +48,8 @@ pub(crate) fn seats_in(
     input: &Input,
     fields: &[&[u8]],
 ) -> Result<Option<Vec<Seat>>, AllocError>
-    ensures { IfOk result (λ found. seats_in input.now (texts_of fields.now) ≡ option_map (λ v. v.items) found) }
+    ensures { IfOk result (λ found. seats_in input.now (texts_of fields.now)
+        ≡ option_map (λ v. v.items) found) }
 {
     match items_in(fields) {
         Some(items) => each_seat(alloc, input, items),
@@ -54,9 +57,10 @@ pub(crate) fn seats_in(
     }
 }
 
-// The seats that items name.
+/// The seats that items name.
 fn each_seat(alloc: Global, input: &Input, items: &[&[u8]]) -> Result<Option<Vec<Seat>>, AllocError>
-    ensures { IfOk result (λ found. each_in (seat_in input.now) (texts_of items.now) ≡ option_map (λ v. v.items) found) }
+    ensures { IfOk result (λ found. each_in (seat_in input.now) (texts_of items.now)
+        ≡ option_map (λ v. v.items) found) }
 {
     let mut found = Vec::with_capacity(alloc, items.len())?;
     for item in items {
@@ -70,7 +74,8 @@ fn each_seat(alloc: Global, input: &Input, items: &[&[u8]]) -> Result<Option<Vec
 
 /// The figures that a list spells.
 pub(crate) fn figures_in(alloc: Global, fields: &[&[u8]]) -> Result<Option<Vec<u64>>, AllocError>
-    ensures { IfOk result (λ found. figures_in (texts_of fields.now) ≡ option_map (λ v. v.items) found) }
+    ensures { IfOk result (λ found. figures_in (texts_of fields.now)
+        ≡ option_map (λ v. v.items) found) }
 {
     match items_in(fields) {
         Some(items) => each_figure(alloc, items),
@@ -78,9 +83,10 @@ pub(crate) fn figures_in(alloc: Global, fields: &[&[u8]]) -> Result<Option<Vec<u
     }
 }
 
-// The figures that items spell.
+/// The figures that items spell.
 fn each_figure(alloc: Global, items: &[&[u8]]) -> Result<Option<Vec<u64>>, AllocError>
-    ensures { IfOk result (λ found. each_in large_in (texts_of items.now) ≡ option_map (λ v. v.items) found) }
+    ensures { IfOk result (λ found. each_in large_in (texts_of items.now)
+        ≡ option_map (λ v. v.items) found) }
 {
     let mut found = Vec::with_capacity(alloc, items.len())?;
     for item in items {
@@ -94,7 +100,8 @@ fn each_figure(alloc: Global, items: &[&[u8]]) -> Result<Option<Vec<u64>>, Alloc
 
 /// The numbers of rotations that a list spells, each above the one before it.
 pub(crate) fn rising_in(alloc: Global, fields: &[&[u8]]) -> Result<Option<Vec<u32>>, AllocError>
-    ensures { IfOk result (λ found. rising_in (texts_of fields.now) ≡ option_map (λ v. v.items) found) }
+    ensures { IfOk result (λ found. rising_in (texts_of fields.now)
+        ≡ option_map (λ v. v.items) found) }
 {
     match items_in(fields) {
         Some(items) => each_rising(alloc, items),
@@ -102,9 +109,10 @@ pub(crate) fn rising_in(alloc: Global, fields: &[&[u8]]) -> Result<Option<Vec<u3
     }
 }
 
-// The numbers of rotations that items spell, each above the one before it.
+/// The numbers of rotations that items spell, each above the one before it.
 fn each_rising(alloc: Global, items: &[&[u8]]) -> Result<Option<Vec<u32>>, AllocError>
-    ensures { IfOk result (λ found. rising_above 0 (texts_of items.now) ≡ option_map (λ v. v.items) found) }
+    ensures { IfOk result (λ found. rising_above 0 (texts_of items.now)
+        ≡ option_map (λ v. v.items) found) }
 {
     let mut found = Vec::with_capacity(alloc, items.len())?;
     let mut last = 0;
@@ -126,7 +134,8 @@ pub(crate) fn seated_pairs_in(
     input: &Input,
     fields: &[&[u8]],
 ) -> Result<Option<Vec<(u32, Seat)>>, AllocError>
-    ensures { IfOk result (λ found. seated_pairs_in input.now (texts_of fields.now) ≡ option_map (λ v. v.items) found) }
+    ensures { IfOk result (λ found. seated_pairs_in input.now (texts_of fields.now)
+        ≡ option_map (λ v. v.items) found) }
 {
     match items_in(fields) {
         Some(items) => each_seated(alloc, input, items),
@@ -134,7 +143,7 @@ pub(crate) fn seated_pairs_in(
     }
 }
 
-// The proposers that items name, each with its seat.
+/// The proposers that items name, each with its seat.
 fn each_seated(
     alloc: Global,
     input: &Input,
@@ -158,7 +167,7 @@ fn each_seated(
     }
 }
 
-// A proposer and its seat.
+/// A proposer and its seat.
 fn seated(input: &Input, p: &[u8], seat: &[u8]) -> Option<(u32, Seat)>
     ensures { result ≡ option_zip (left_in input.now p.now) (seat_in input.now seat.now) }
 {

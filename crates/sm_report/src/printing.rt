@@ -34,13 +34,14 @@ use std::alloc::AllocError;
 /// `AllocError` where memory ran out, and only then. The writer then holds what it held and a front of the text.
 pub fn put_line(into: &mut LineWriter, input: &Input, line: &Line) -> Result<(), AllocError>
     requires { IsPrintable input.now (line_of line.now) }
-    ensures { PutsText into.old into.new (text_of_line input.now (line_of line.now) ++ LF ∷ []) result }
+    ensures { PutsText into.old into.new (text_of_line input.now (line_of line.now)
+        ++ LF ∷ []) result }
 {
     put_text(into, input, line)?;
     into.put_bytes(b"\n")
 }
 
-// Puts a word and fields, with a space between each two of them.
+/// Puts a word and fields, with a space between each two of them.
 fn put_words(
     into: &mut LineWriter,
     input: &Input,
@@ -55,7 +56,7 @@ fn put_words(
     put_fields(into, input, fields)
 }
 
-// Puts a word, fields and a list, with a space between each two of them.
+/// Puts a word, fields and a list, with a space between each two of them.
 fn put_list(
     into: &mut LineWriter,
     input: &Input,
@@ -66,7 +67,8 @@ fn put_list(
     requires shown { AreShown input.now fields.now }
     requires named { AreNamed input.now items }
     ensures { PutsText into.old into.new (join_with_byte 32 (word.now
-        ∷ (map (text_of_field input.now) fields.now ++ fields_of_items input.now items.entry))) result }
+        ∷ (map (text_of_field input.now) fields.now ++ fields_of_items input.now items.entry)))
+        result }
 {
     put_words(into, input, word, fields)?;
     put_items(into, input, items)
@@ -200,7 +202,7 @@ pub fn put_text(into: &mut LineWriter, input: &Input, line: &Line) -> Result<(),
     }
 }
 
-// Puts the text of a first line: the command, and its operands with what wasn't said filled in.
+/// Puts the text of a first line: the command, and its operands with what wasn't said filled in.
 fn put_head(into: &mut LineWriter, input: &Input, head: &Head) -> Result<(), AllocError>
     ensures { PutsText into.old into.new (join_with_byte 32
         (codes "answer" ∷ fields_of_head (head_of head.now))) result }
@@ -256,7 +258,7 @@ fn put_head(into: &mut LineWriter, input: &Input, head: &Head) -> Result<(), All
     }
 }
 
-// Puts `answer` and fields.
+/// Puts `answer` and fields.
 fn put_answer(into: &mut LineWriter, input: &Input, fields: &[Field<'_>]) -> Result<(), AllocError>
     requires { AreShown input.now fields.now }
     ensures { PutsText into.old into.new (join_with_byte 32

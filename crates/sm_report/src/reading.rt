@@ -42,7 +42,7 @@ pub fn read_line(alloc: Global, input: &Input, text: &[u8]) -> Result<Line, Line
     }
 }
 
-// The line that fields make.
+/// The line that fields make.
 fn line_in(
     alloc: Global,
     input: &Input,
@@ -50,7 +50,8 @@ fn line_in(
     fields: &[&[u8]],
 ) -> Result<Option<Line>, AllocError>
     requires { kind ≡ kind_of input.now }
-    ensures { IfOk result (λ found. line_in input.now (texts_of fields.now) ≡ option_map line_of found) }
+    ensures { IfOk result (λ found. line_in input.now (texts_of fields.now)
+        ≡ option_map line_of found) }
 {
     let Some((word, more)) = headed(fields) else {
         return Ok(None);
@@ -61,7 +62,7 @@ fn line_in(
     }
 }
 
-// The line that begins with a word and has these fields behind it.
+/// The line that begins with a word and has these fields behind it.
 fn line_behind(
     alloc: Global,
     input: &Input,
@@ -70,7 +71,8 @@ fn line_behind(
     fields: &[&[u8]],
 ) -> Result<Option<Line>, AllocError>
     requires { kind ≡ kind_of input.now }
-    ensures { IfOk result (λ found. line_behind input.now word (texts_of fields.now) ≡ option_map line_of found) }
+    ensures { IfOk result (λ found. line_behind input.now word (texts_of fields.now)
+        ≡ option_map line_of found) }
 {
     match word {
         Word::Answer => Ok(head_in(alloc, kind, fields)?.map(Line::Answer)),

@@ -33,9 +33,10 @@ pub(crate) fn vector_in(alloc: Global, text: &[u8]) -> Result<Option<Vec<u32>>, 
     numbers_in(alloc, text)
 }
 
-// The numbers that a text spells with commas between them.
+/// The numbers that a text spells with commas between them.
 fn numbers_in(alloc: Global, text: &[u8]) -> Result<Option<Vec<u32>>, AllocError>
-    ensures { IfOk result (λ found. numbers_in (slice_split is_comma text.now) ≡ option_map (λ v. v.items) found) }
+    ensures { IfOk result (λ found. numbers_in (slice_split is_comma text.now)
+        ≡ option_map (λ v. v.items) found) }
 {
     let mut numbers = Vec::new(alloc);
     let mut rest = text;
@@ -58,9 +59,11 @@ fn numbers_in(alloc: Global, text: &[u8]) -> Result<Option<Vec<u32>>, AllocError
 /// What stands before the first byte that is a mark, and what behind it.
 pub(crate) fn cut_at(text: &[u8], mark: u8) -> Option<(&[u8], &[u8])>
     ensures parts { MatchOption result (slice_split (λ b. b == mark) text.now ≡ text.now ∷ [])
-        (λ x. (slice_split (λ b. b == mark) text.now ≡ x.0.now ∷ slice_split (λ b. b == mark) x.1.now) × (length x.1.now < length text.now)) }
+        (λ x. (slice_split (λ b. b == mark) text.now ≡ x.0.now ∷ slice_split
+        (λ b. b == mark) x.1.now) × (length x.1.now < length text.now)) }
     ensures ends { MatchOption result (position_or_len (λ b. b == mark) text.now ≡ length text.now)
-        (λ x. (x.0.now ≡ before_first (λ b. b == mark) text.now) × (x.1.now ≡ after_first (λ b. b == mark) text.now)) }
+        (λ x. (x.0.now ≡ before_first (λ b. b == mark) text.now)
+        × (x.1.now ≡ after_first (λ b. b == mark) text.now)) }
 {
     let len = text.len();
     match mark_at(text, mark) {
@@ -69,7 +72,7 @@ pub(crate) fn cut_at(text: &[u8], mark: u8) -> Option<(&[u8], &[u8])>
     }
 }
 
-// The place of the first byte that is a mark.
+/// The place of the first byte that is a mark.
 fn mark_at(text: &[u8], mark: u8) -> Option<usize>
     ensures { result ≡ position (λ b. b == mark) text.now }
 {

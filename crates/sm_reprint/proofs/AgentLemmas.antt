@@ -51,6 +51,7 @@ pub record AreAgents (single : Bool) (others : ℕ) (done todo : List SaidAgent)
   pub few : length done + length todo ≤ most_agents
   pub fits : others + entries_of done + entries_of todo ≤ most_entries
 
+-- an agent that is declared on line n
 abbrev pub on_line : ℕ → SaidAgent → SaidAgent
 on_line n a = record a { line = n }
 
@@ -84,6 +85,7 @@ module _ (single : Bool) (others : ℕ) (done : List SaidAgent) (a : SaidAgent) 
 
 -- A line of a proposer.
 
+-- what is said while the lines of the proposers are read
 abbrev pub with_proposers : List SaidAgent → Said
 with_proposers done = record nothing { proposers = done }
 
@@ -101,6 +103,7 @@ module _ (kind : Kind) (done : List SaidAgent) (a : SaidAgent) (todo : List Said
         fits = fits_enough (entries_of done + 0) (length a.entries) (omega arith);
       }
 
+  -- the line of the next proposer goes on, and adds it
   pub proposer_step : (n : ℕ) → verdict_on kind (with_proposers done) n (tokens (proposer_line a)) ≡ goes (with_proposers (done ++ on_line n a ∷ []))
   unfolding said_with
   proposer_step n =
@@ -109,11 +112,13 @@ module _ (kind : Kind) (done : List SaidAgent) (a : SaidAgent) (todo : List Said
       ∙ proposer_goes (with_proposers done) a.name a.entries kind n proposer_faultless
       ∙ ap (λ (c : ℕ). goes (with_proposers (done ++ (record { name = a.name; capacity = c; line = n; entries = a.entries }) ∷ []))) (sym (own.one refl))
 
+-- the line of a proposer holds neither LF nor CR
 pub proposer_free : (a : SaidAgent) → IsOwn true a → IsFree (proposer_line a)
 proposer_free a own = both_free (both_free words_free.0 (name_free a.name own.name)) (list_free a.entries own.entries)
 
 -- A line of a reviewer.
 
+-- what is said while the lines of the reviewers are read
 abbrev pub with_reviewers : List SaidAgent → List SaidAgent → Said
 with_reviewers proposers done = record nothing { proposers = proposers; reviewers = done }
 
@@ -133,6 +138,7 @@ module _ (proposers done : List SaidAgent) (a : SaidAgent) (todo : List SaidAgen
   abbrev added : ℕ → ℕ → Said
   added n c = with_reviewers proposers (done ++ (record { name = a.name; capacity = c; line = n; entries = a.entries }) ∷ [])
 
+  -- the line of the next reviewer goes on, and adds it
   pub reviewer_step : (kind : Kind) (n : ℕ) → kind ≢ Roommates → AreAgents (is_single kind) (entries_of proposers) done (a ∷ todo)
       → verdict_on kind (with_reviewers proposers done) n (tokens (reviewer_line kind a)) ≡ goes (with_reviewers proposers (done ++ on_line n a ∷ []))
   unfolding said_with
@@ -154,6 +160,7 @@ module _ (proposers done : List SaidAgent) (a : SaidAgent) (todo : List SaidAgen
       (reviewer_faultless false are)
       ∙ ap (λ o. goes (added n (unwrap_or o 1))) spelt
 
+-- the line of a reviewer holds neither LF nor CR
 pub reviewer_free : (kind : Kind) (single : Bool) (a : SaidAgent) → IsOwn single a → IsFree (reviewer_line kind a)
 reviewer_free kind single a own =
     both_free (both_free (both_free words_free.1 (name_free a.name own.name)) (capacity_free kind a.capacity (omega (arith, own.capacity)))) (list_free a.entries own.entries)

@@ -71,6 +71,7 @@ module _ (lefts rights : List AgentData) (one two : Bool) (us : AreSoundAgents l
   none_marked_pair true x xs h none = absurd cc
   none_marked_pair false x xs h none = none
 
+  -- no pair names an unknown agent
   pub pairs_known : (pairs : List (ℕ × ℕ)) (n : ℕ) → ((k : ℕ) → k < length pairs → IsPairOf (length lefts) (length rights) (get_or pairs k (0, 0)))
       → pairs_with_unknown ps rs (lined pair_on_line n (map (said_pair lefts rights) pairs)) ≡ []
   pairs_known [] n there = refl
@@ -78,6 +79,7 @@ module _ (lefts rights : List AgentData) (one two : Bool) (us : AreSoundAgents l
       none_marked_pair (marks (said_pair lefts rights pair)) (pair_on_line n (said_pair lefts rights pair)) _ (known_pair pair (there 0 (omega arith)))
       (pairs_known pairs (n + 1) (λ k inside. there (suc k) (omega arith)))
 
+  -- and the pairs of numbers are the same again
   pub pairs_back : (pairs : List (ℕ × ℕ)) (n : ℕ) → ((k : ℕ) → k < length pairs → IsPairOf (length lefts) (length rights) (get_or pairs k (0, 0)))
       → map (λ (x : SaidPair). (number_in ps x.proposer, number_in rs x.reviewer)) (lined pair_on_line n (map (said_pair lefts rights) pairs)) ≡ pairs
   pairs_back [] n there = refl
@@ -85,6 +87,7 @@ module _ (lefts rights : List AgentData) (one two : Bool) (us : AreSoundAgents l
       ap (λ x. x ∷ map numbers (lined pair_on_line (n + 1) (map (said_pair lefts rights) pairs))) (pair_back pair (there 0 (omega arith)))
       ∙ ap (λ t. pair ∷ t) (pairs_back pairs (n + 1) (λ k inside. there (suc k) (omega arith)))
 
+  -- no weight names an unknown agent
   pub weights_known : (weights : List (ℕ × ℕ × ℤ)) (n : ℕ) → ((k : ℕ) → k < length weights → IsPairOf (length lefts) (length rights) (weighed (get_or weights k (0, 0, pos 0))))
       → pairs_with_unknown ps rs (map (λ (w : SaidWeight). w.pair) (lined weight_on_line n (map (said_weight lefts rights) weights))) ≡ []
   weights_known [] n there = refl
@@ -92,6 +95,7 @@ module _ (lefts rights : List AgentData) (one two : Bool) (us : AreSoundAgents l
       none_marked_pair (marks (said_pair lefts rights (weighed x))) (pair_on_line n (said_pair lefts rights (weighed x))) _ (known_pair (weighed x) (there 0 (omega arith)))
       (weights_known weights (n + 1) (λ k inside. there (suc k) (omega arith)))
 
+  -- and the weights are the same again
   pub weights_back : (weights : List (ℕ × ℕ × ℤ)) (n : ℕ) → ((k : ℕ) → k < length weights → IsPairOf (length lefts) (length rights) (weighed (get_or weights k (0, 0, pos 0))))
       → map (λ (w : SaidWeight). (number_in ps w.pair.proposer, number_in rs w.pair.reviewer, w.weight)) (lined weight_on_line n (map (said_weight lefts rights) weights)) ≡ weights
   weights_back [] n there = refl

@@ -43,6 +43,7 @@ without_CR [] free = refl
 without_CR (b ∷ []) free = let other : eqb b 13 ≡ false = is_not (b == 13) (first_true (not (b == 13)) true free) in rw other refl
 without_CR (b ∷ c ∷ line) free = ap (λ t. b ∷ t) (without_CR (c ∷ line) (second_true (not (b == 13)) (is_free CR (c ∷ line)) free))
 
+-- what a printed line holds is the line without its end
 pub content_of : (line : List ℕ) → is_free CR line ≡ true → content (with_end line) ≡ line
 content_of line free = ap (without_last CR) (without_LF line) ∙ without_CR line free
 
@@ -54,6 +55,7 @@ pub record IsRun (run : List ℕ) : Type 0 where
 name_parts : (run : List ℕ) → is_name run ≡ true → list_all is_name_byte run ≡ true
 name_parts run h = second_true _ (list_all is_name_byte run) h
 
+-- a name is a run of name bytes
 pub name_is_run : (name : List ℕ) → is_name name ≡ true → IsRun name
 name_is_run [] h = absurd cc
 name_is_run (b ∷ name) h = record { some = omega arith; bytes = name_parts (b ∷ name) h }
@@ -72,10 +74,12 @@ bytes_cut b (c ∷ run) rest bytes over =
     joins b ((c ∷ run) ++ rest) (first_true (is_name_byte b) (list_all is_name_byte (c ∷ run)) bytes) (first_true (is_name_byte c) (list_all is_name_byte run) behind)
     ∙ ap (onto_first b) (bytes_cut c run rest behind over)
 
+-- a run with no name byte behind it is a token, and behind it come those of the rest
 pub run_cut : (run rest : List ℕ) → IsRun run → begins_run rest ≡ false → tokens (run ++ rest) ≡ run ∷ tokens rest
 run_cut [] rest is over = absurd (omega (arith, is.some))
 run_cut (b ∷ run) rest is over = bytes_cut b run rest is.bytes over
 
+-- a run by itself is one token
 pub run_alone : (run : List ℕ) → IsRun run → tokens run ≡ run ∷ []
 run_alone run is = ap tokens (sym (append-nil run)) ∙ run_cut run [] is refl
 
@@ -84,10 +88,12 @@ pub mark_cut : (rest : List ℕ) → (tokens (58 ∷ rest) ≡ codes ":" ∷ tok
 unfolding is_blank begins_name is_name_byte
 mark_cut rest = (refl, refl, refl)
 
+-- a space in front is passed over
 pub blank_cut : (rest : List ℕ) → tokens (32 ∷ rest) ≡ tokens rest
 unfolding is_blank
 blank_cut rest = refl
 
+-- a space, a colon and brackets begin no run
 pub no_run : (rest : List ℕ) → (begins_run (32 ∷ rest) ≡ false) × (begins_run (58 ∷ rest) ≡ false) × (begins_run (91 ∷ rest) ≡ false) × (begins_run (93 ∷ rest) ≡ false)
 unfolding begins_name is_name_byte
 no_run rest = (refl, refl, refl, refl)
@@ -97,6 +103,7 @@ spaced_over : (names : List (List ℕ)) → begins_run (spaced names) ≡ false
 spaced_over [] = refl
 spaced_over (name ∷ names) = (no_run (name ++ spaced names)).0
 
+-- names behind spaces are cut into the names
 pub spaced_cut : (names : List (List ℕ)) → list_all is_name names ≡ true → tokens (spaced names) ≡ names
 spaced_cut [] are = refl
 spaced_cut (name ∷ names) are =

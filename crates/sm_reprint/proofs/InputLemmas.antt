@@ -52,6 +52,7 @@ module _ (agents others : List AgentData) (single theirs : Bool) (sound : AreSou
   all_own = All-map (IsOwn single) (said_agent others) agents
       (λ (k : ℕ) (d : AgentData) (below : k < length agents). subst (λ (a : AgentData). IsOwn single (said_agent others a)) (sym (get_or_default agents k d no_agent below)) (own_at k below))
 
+  -- the agents of a sound side may be read, one after another
   pub agents_good : (before : ℕ) → length agents ≤ most_agents → before + entries_in agents ≤ most_entries → AreAgents single before [] (map (said_agent others) agents)
   agents_good before few fits = record {
     own = all_own;
@@ -121,6 +122,7 @@ module _ (w : Written) (sound : IsInstance w) where
       (λ (k : ℕ) (d : ℕ × ℕ) (below : k < length w.forbidden). subst (λ (x : ℕ × ℕ). HasNames (pair_said x)) (sym (get_or_default w.forbidden k d (0, 0) below))
       (pair_names (get_or w.forbidden k (0, 0)) (forbid_there w sound w.forbidden refl k below)))
 
+  -- what an instance with two sides says may be read again
   pub two_good : IsPrintable w.kind (said_of (Two w))
   two_good = record {
     proposers = agents_good w.proposers w.reviewers true (is_single w.kind) sound.proposers sound.reviewers sound.proposer_entries 0 sound.limits.proposers (omega (arith, sound.limits.entries));

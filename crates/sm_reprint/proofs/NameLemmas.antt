@@ -2,7 +2,7 @@
 use Rattle.std.proofs.Common.{◌≡◌, ◌≢◌, ℕ, suc, ◌<◌, ◌||◌, Bool, true, false, not, List, [], ◌∷◌, length, map, get_or, AllPairs, refl, sym, ap, ◌∙◌, inl, inr, arith}
 use Rattle.std.specs.List.{list_all, list_any}
 use Rattle.std.specs.Str.{bytes_eq}
-use Rattle.std.proofs.lemmas.Bool.{cases_lt}
+use Rattle.std.proofs.lemmas.Bool.{cases_lt, and_from}
 use Rattle.std.proofs.lemmas.List.{length-map, get_or-map, get_or_default}
 use Rattle.std.proofs.lemmas.List.Elements.{All-map}
 use Rattle.std.proofs.lemmas.List.Folds.{list_any_at, list_any_none}
@@ -13,7 +13,6 @@ use Rattle.sm_instance.specs.Sound.{AreSoundAgents}
 use Rattle.sm_reader.specs.Judging.{has_repeated}
 use Rattle.sm_reader.specs.InstanceText.{is_unknown, number_in}
 use Rattle.sm_reader.proofs.TextLemmas.{same_text, other_text}
-use Rattle.sm_report.proofs.DecimalLemmas.{both_true}
 use Rattle.sm_printed.specs.Names.{name_of}
 
 -- numbers that are those of so many agents
@@ -36,9 +35,11 @@ module _ (agents : List AgentData) (single : Bool) (sound : AreSoundAgents agent
       let inside : j < length agents = omega (arith, count) in
       (sound.sound j inside).fresh i before (sym (name_here i d (omega arith)) ∙ same ∙ name_here j d inside)
 
+  -- the name of each agent is a name
   pub is_named : (a : ℕ) → a < length agents → is_name (name_of agents a) ≡ true
   is_named a below = (sound.sound a below).name
 
+  -- agents with one name are one
   pub same_number : (a b : ℕ) → a < length agents → b < length agents → name_of agents a ≡ name_of agents b → a ≡ b
   same_number a b there here same = elim (cases_lt a b) [
     | inl before ↦ absurd ((sound.sound b here).fresh a before same)
@@ -66,20 +67,23 @@ module _ (agents : List AgentData) (single : Bool) (sound : AreSoundAgents agent
   pub all_named : (entries : List ℕ) → AreBelow (length agents) entries → list_all is_name (map (name_of agents) entries) ≡ true
   all_named [] below = refl
   all_named (e ∷ entries) below =
-      both_true (is_name (name_of agents e)) (list_all is_name (map (name_of agents) entries)) (is_named e (below 0 (omega arith))) (all_named entries (below_tail (length agents) e entries below))
+      and_from (is_name (name_of agents e)) (list_all is_name (map (name_of agents) entries)) (is_named e (below 0 (omega arith))) (all_named entries (below_tail (length agents) e entries below))
 
+  -- the numbers of the names on a list are the list's entries
   pub all_back : (names : List (List ℕ)) → names ≡ names_in agents → (entries : List ℕ) → AreBelow (length agents) entries → map (number_in names) (map (name_of agents) entries) ≡ entries
   all_back names are [] below = refl
   all_back names are (e ∷ entries) below =
       ap (λ k. k ∷ map (number_in names) (map (name_of agents) entries)) (number_back names are e (below 0 (omega arith)))
       ∙ ap (λ t. e ∷ t) (all_back names are entries (below_tail (length agents) e entries below))
 
+  -- no name on a list is unknown
   pub all_known : (names : List (List ℕ)) → names ≡ names_in agents → (entries : List ℕ) → AreBelow (length agents) entries → list_any (is_unknown names) (map (name_of agents) entries) ≡ false
   all_known names are [] below = refl
   all_known names are (e ∷ entries) below =
       ap (λ t. t || list_any (is_unknown names) (map (name_of agents) entries)) (known_name names are e (below 0 (omega arith)))
       ∙ all_known names are entries (below_tail (length agents) e entries below)
 
+  -- where no entry is repeated, no name is
   pub none_repeated : (entries : List ℕ) → AreBelow (length agents) entries → ((i j : ℕ) → i < j → j < length entries → get_or entries i 0 ≢ get_or entries j 0)
       → has_repeated (map (name_of agents) entries) ≡ false
   none_repeated [] below differ = refl

@@ -23,6 +23,7 @@ use Rattle.sm_reprint.proofs.AgentLemmas.{fresh_in}
 
 -- A pair has two names.
 
+-- both parts of a pair are names
 pub record HasNames (pair : SaidPair) : Type 0 where
   pub proposer : is_name pair.proposer ≡ true
   pub reviewer : is_name pair.reviewer ≡ true
@@ -34,25 +35,31 @@ module _ (pair : SaidPair) (names : HasNames pair) where
   two_free : IsFree (pair_text pair)
   two_free = both_free (both_free (name_free pair.proposer names.proposer) words_free.5) (name_free pair.reviewer names.reviewer)
 
+-- a pair that stands on line n
 abbrev pub pair_on_line : ℕ → SaidPair → SaidPair
 pair_on_line n pair = record pair { line = n }
 
 -- The weights.
 
+-- the names of the pair of a weight
 abbrev pub key_of : SaidWeight → List ℕ × List ℕ
 key_of w = (w.pair.proposer, w.pair.reviewer)
 
+-- a weight by itself: two names, and a size within the limit
 pub record IsOwnWeight (w : SaidWeight) : Type 0 where
   pub names : HasNames w.pair
   pub size : unsigned_abs w.weight ≤ most_weight
 
+-- weights that are read and that are left, of different pairs
 pub record AreWeights (done todo : List SaidWeight) : Type 0 where
   pub own : All IsOwnWeight todo
   pub differ : AllPairs ◌≢◌ (map key_of done ++ map key_of todo)
 
+-- a weight that stands on line n
 abbrev pub weight_on_line : ℕ → SaidWeight → SaidWeight
 weight_on_line n w = record w { pair = pair_on_line n w.pair }
 
+-- the next weight moves from those that are left to those that are read
 pub weights_next : (done : List SaidWeight) (w : SaidWeight) (todo : List SaidWeight) (n : ℕ) → AreWeights done (w ∷ todo) → AreWeights (done ++ weight_on_line n w ∷ []) todo
 weights_next done w todo n are = record {
   own = All-tail IsOwnWeight w todo are.own;
@@ -79,6 +86,7 @@ module _ (p r : List ℕ) where
       same_pair e f = cc
 
 module _ (proposers reviewers : List SaidAgent) where
+  -- what is said while the lines of the weights are read
   abbrev pub with_weights : List SaidWeight → Said
   with_weights done = record nothing { proposers = proposers; reviewers = reviewers; weights = done }
 
@@ -95,6 +103,7 @@ module _ (proposers reviewers : List SaidAgent) where
         ∙ ap (λ t. codes "weight" ∷ t) (pair_cut w.pair.proposer w.pair.reviewer (codes " " ++ run) names.proposer names.reviewer (no_run run).0
         ∙ ap (λ t. w.pair.proposer ∷ w.pair.reviewer ∷ t) (blank_cut run ∙ run_alone run (signed_is_run w.weight (omega (arith, own_weight.size)))))
 
+    -- the line of the next weight goes on, and adds it
     pub weight_step : (n : ℕ) → kind ≢ Roommates
         → verdict_on kind (with_weights done) n (tokens (weight_line w)) ≡ goes (with_weights (done ++ weight_on_line n w ∷ []))
     weight_step n two =
@@ -109,30 +118,37 @@ module _ (proposers reviewers : List SaidAgent) where
   -- The forced and the forbidden pairs.
 
   module _ (weights : List SaidWeight) where
+    -- what is said while the lines of the forced pairs are read
     abbrev pub with_forced : List SaidPair → Said
     with_forced done = record nothing { proposers = proposers; reviewers = reviewers; weights = weights; forced = done }
 
+    -- what is said while the lines of the forbidden pairs are read
     abbrev pub with_forbidden : List SaidPair → List SaidPair → Said
     with_forbidden forced done = record nothing { proposers = proposers; reviewers = reviewers; weights = weights; forced = forced; forbidden = done }
 
     module _ (kind : Kind) (two : kind ≢ Roommates) (done : List SaidPair) (pair : SaidPair) (names : HasNames pair) where
+      -- the line of the next forced pair goes on, and adds it
       pub force_step : (n : ℕ) → verdict_on kind (with_forced done) n (tokens (force_line pair)) ≡ goes (with_forced (done ++ pair_on_line n pair ∷ []))
       force_step n =
           ap (verdict_on kind (with_forced done) n) ((words_cut (pair_text pair)).3 ∙ ap (λ t. codes "force" ∷ t) (two_cut pair names))
           ∙ force_goes (with_forced done) pair.proposer pair.reviewer names.proposer names.reviewer kind n two
 
+      -- the line of the next forbidden pair goes on, and adds it
       pub forbid_step : (forced : List SaidPair) (n : ℕ)
           → verdict_on kind (with_forbidden forced done) n (tokens (forbid_line pair)) ≡ goes (with_forbidden forced (done ++ pair_on_line n pair ∷ []))
       forbid_step forced n =
           ap (verdict_on kind (with_forbidden forced done) n) ((words_cut (pair_text pair)).4 ∙ ap (λ t. codes "forbid" ∷ t) (two_cut pair names))
           ∙ forbid_goes (with_forbidden forced done) pair.proposer pair.reviewer names.proposer names.reviewer kind n two
 
+-- the line of a forced pair holds neither LF nor CR
 pub force_free : (pair : SaidPair) → HasNames pair → IsFree (force_line pair)
 force_free pair names = both_free words_free.3 (two_free pair names)
 
+-- nor does that of a forbidden pair
 pub forbid_free : (pair : SaidPair) → HasNames pair → IsFree (forbid_line pair)
 forbid_free pair names = both_free words_free.4 (two_free pair names)
 
+-- nor does that of a weight
 pub weight_free : (w : SaidWeight) → IsOwnWeight w → IsFree (weight_line w)
 weight_free w own =
     let run = signed_decimal w.weight in

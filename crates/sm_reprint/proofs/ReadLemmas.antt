@@ -5,6 +5,7 @@ use Rattle.std.proofs.lemmas.Bool.Decides.{nat_tests}
 use Rattle.std.proofs.lemmas.List.Concat.{flat_map-append}
 use Rattle.std.proofs.lemmas.List.Elements.{All-head, All-tail}
 use Rattle.std.proofs.lemmas.List.Folds.{list_all-append}
+use Rattle.std.proofs.lemmas.Bool.{and_from}
 use Rattle.sm_text.specs.Limits.{most_bytes}
 use Rattle.sm_text.specs.Lines.{LF}
 use Rattle.sm_text.specs.Tokens.{tokens}
@@ -12,7 +13,6 @@ use Rattle.sm_instance.specs.Sound.{is_single}
 use Rattle.sm_instance.specs.declared.kinds.Kind.{Kind}
 use Rattle.sm_instance.specs.declared.kinds.Kind.TheVariants.{Roommates}
 use Rattle.sm_instance.specs.Named.{SaidAgent, SaidPair, SaidWeight, Said, nothing, entries_of}
-use Rattle.sm_report.proofs.DecimalLemmas.{both_true}
 use Rattle.sm_report.proofs.FreeLemmas.{is_free}
 use Rattle.sm_answer.specs.Writing.{text_of}
 use Rattle.sm_reader.specs.Judging.{verdict_on, heading_of}
@@ -114,6 +114,7 @@ last_line said = 2 + length said.proposers + length said.reviewers + length said
 
 -- all lines behind the header of an instance with two sides
 module _ (kind : Kind) (header : ℕ) (said : Said) (good : IsPrintable kind said) where
+  -- they are read to the end, and say what the instance says, on the lines of the print
   pub two_read : kind ≢ Roommates → (place : ℕ)
       → behind_header kind header nothing 2 place (map with_end (agent_lines kind said))
       ≡ ended kind header (lined_said said) (place + length (text_of (agent_lines kind said))) (last_line said)
@@ -172,12 +173,12 @@ lines_free kind said good =
     let w = section_free IsOwnWeight weight_line weight_free said.weights good.weights.own in
     let f = section_free HasNames force_line force_free said.forced good.forced in
     let g = section_free HasNames forbid_line forbid_free said.forbidden good.forbidden in
-    both_true _ _ (header_free kind).of_LF
+    and_from _ _ (header_free kind).of_LF
     (joined (map proposer_line said.proposers) _ a (joined (map (reviewer_line kind) said.reviewers) _ b (joined (map weight_line said.weights) _ w
     (joined (map force_line said.forced) _ f (joined (map forbid_line said.forbidden) (codes "end" ∷ []) g refl)))))
   where
     joined : (xs ys : List (List ℕ)) → list_all (is_free LF) xs ≡ true → list_all (is_free LF) ys ≡ true → list_all (is_free LF) (xs ++ ys) ≡ true
-    joined xs ys h k = list_all-append (is_free LF) xs ys ∙ both_true (list_all (is_free LF) xs) (list_all (is_free LF) ys) h k
+    joined xs ys h k = list_all-append (is_free LF) xs ys ∙ and_from (list_all (is_free LF) xs) (list_all (is_free LF) ys) h k
 
 -- a text whose first line is a header
 headed_read : (kind : Kind) (ls : List (List ℕ)) → before_header 1 0 (with_end (header_line kind) ∷ map with_end ls)
@@ -186,6 +187,7 @@ headed_read kind ls =
     let heading = ap (λ t. heading_of (tokens t)) (content_of (header_line kind) (header_free kind).of_CR) ∙ header_heads kind in
     rw heading refl
 
+-- a printed text means what stands behind its header
 pub text_read : (kind : Kind) (said : Said) → list_all (is_free LF) (printed_lines kind said) ≡ true → length (text_of (printed_lines kind said)) ≤ most_bytes
     → instance_text (text_of (printed_lines kind said)) ≡ behind_header kind 1 nothing 2 (0 + length (with_end (header_line kind))) (map with_end (agent_lines kind said))
 unfolding instance_text

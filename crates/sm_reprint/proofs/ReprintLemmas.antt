@@ -138,6 +138,7 @@ room_back persons sound short =
       same = ap (λ (x : List AgentData). Room x) (agents_back persons true sound.agents (names_of now.proposers) names persons 2 listed);
     }
 
+-- each printed instance that isn't too long is read back
 pub printed_is_read : PrintedIsRead
 printed_is_read (Two w) sound short = two_back w sound short
 printed_is_read (Room persons) sound short = room_back persons sound short

@@ -3,12 +3,12 @@ use Rattle.std.proofs.Common.{◌≡◌, ℕ, ◌+◌, List, [], ◌∷◌, ◌+
 use Rattle.std.specs.List.{list_all}
 use Rattle.std.proofs.lemmas.List.{map-append}
 use Rattle.std.proofs.lemmas.List.Elements.{All-head, All-tail}
+use Rattle.std.proofs.lemmas.Bool.{and_from}
 use Rattle.sm_text.specs.Lines.{LF, content}
 use Rattle.sm_text.specs.Tokens.{tokens}
 use Rattle.sm_instance.specs.declared.kinds.Kind.{Kind}
 use Rattle.sm_instance.specs.Named.{Said}
 use Rattle.sm_answer.specs.Writing.{text_of}
-use Rattle.sm_report.proofs.DecimalLemmas.{both_true}
 use Rattle.sm_report.proofs.FreeLemmas.{is_free}
 use Rattle.sm_reader.specs.Judging.{goes, verdict_on}
 use Rattle.sm_reader.specs.InstanceText.{behind_header}
@@ -46,6 +46,7 @@ module _ {X : Type 0} (kind : Kind) (header : ℕ) (line : X → List ℕ) (f : 
       ∙ same_reading kind header rest (ap state (append_assoc done (f n x ∷ []) (lined f (n + 1) todo))) (omega arith)
       (omega (arith, length-append (with_end (line x)) (text_of (map line todo))))
 
+  -- behind a section the lines of the rest are read, with all of its items said
   pub section_read : (rest : List (List ℕ)) (items : List X) (n place : ℕ) → Good [] items
       → behind_header kind header (state []) n place (map with_end (map line items ++ rest))
       ≡ behind_header kind header (state (lined f n items)) (n + length items) (place + length (text_of (map line items))) (map with_end rest)
@@ -56,4 +57,4 @@ module _ {X : Type 0} (kind : Kind) (header : ℕ) (line : X → List ℕ) (f : 
 pub section_free : {X : Type 0} (P : X → Type 0) (line : X → List ℕ) → ((x : X) → P x → IsFree (line x)) → (xs : List X) → All P xs → list_all (is_free LF) (map line xs) ≡ true
 section_free P line free [] all = refl
 section_free P line free (x ∷ xs) all =
-    both_true (is_free LF (line x)) (list_all (is_free LF) (map line xs)) (free x (All-head P x xs all)).of_LF (section_free P line free xs (All-tail P x xs all))
+    and_from (is_free LF (line x)) (list_all (is_free LF) (map line xs)) (free x (All-head P x xs all)).of_LF (section_free P line free xs (All-tail P x xs all))

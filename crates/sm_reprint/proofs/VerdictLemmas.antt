@@ -3,6 +3,7 @@ use Rattle.std.proofs.Common.{◌≡◌, ◌≢◌, ℕ, ◌+◌, ◌&&◌, ◌|
 use Rattle.std.specs.List.{list_all, list_any}
 use Rattle.std.specs.Option.{option_or}
 use Rattle.std.specs.Str.{bytes_eq}
+use Rattle.std.proofs.lemmas.Bool.{and_from}
 use Rattle.sm_text.specs.Limits.{most_agents, most_entries}
 use Rattle.sm_text.specs.Name.{begins_name, is_name_byte, is_name}
 use Rattle.sm_text.specs.Tokens.{is_mark, begins_run, tokens}
@@ -15,7 +16,7 @@ use Rattle.sm_instance.specs.Named.{SaidPair, SaidWeight, Said, names_of, agents
 use Rattle.sm_reader.specs.Forms.{Form, declares, weighs, is_bad, list_form, capacity_form, weight_form, pair_form, reviewer_form, two_sided_form, form_behind, is_end, header_of}
 use Rattle.sm_reader.specs.Judging.{goes, stops, heads, heading_of, verdict_on, first_fault, fault_of, said_with, is_bad_capacity, weight_in, has_repeated}
 use Rattle.sm_reader.proofs.NameLemmas.{names_begin}
-use Rattle.sm_report.proofs.DecimalLemmas.{first_true, both_true}
+use Rattle.sm_report.proofs.DecimalLemmas.{first_true}
 use Rattle.sm_printed.specs.Printed.{header_line}
 use Rattle.sm_reprint.proofs.LineLemmas.{headers_cut}
 
@@ -45,7 +46,7 @@ runs_good (t ∷ ts) h = rest_good (is_bad t) (run_good t (first_true (begins_ru
     behind false h = absurd cc
 
 name_begins : (name : List ℕ) → is_name name ≡ true → begins_run name ≡ true
-name_begins name h = first_true (begins_run name) true (names_begin (name ∷ []) (both_true (is_name name) true h refl))
+name_begins name h = first_true (begins_run name) true (names_begin (name ∷ []) (and_from (is_name name) true h refl))
 
 marks_good : (is_bad (codes ":") ≡ false) × (is_bad (codes "[") ≡ false) × (is_bad (codes "]") ≡ false)
 unfolding is_bad is_mark begins_name is_name_byte
@@ -113,11 +114,12 @@ unfolding fault_of
 no_fault said side name capacity entries ok number =
     agent_passes (is_name name && list_all is_name entries) (is_bad_capacity capacity) (list_any (bytes_eq name) (names_of (agents_on side said))) (has_repeated entries)
     (nat_le most_agents (length (agents_on side said))) (nat_lt most_entries (all_entries said + length entries))
-    (both_true (is_name name) (list_all is_name entries) ok.is ok.are) number ok.fresh ok.differ ok.few ok.fits
+    (and_from (is_name name) (list_all is_name entries) ok.is ok.are) number ok.fresh ok.differ ok.few ok.fits
 
 -- The verdicts on agents.
 
 module _ (said : Said) (name : List ℕ) (entries : List (List ℕ)) where
+  -- a faultless line of a proposer goes on, and declares it
   pub proposer_goes : (kind : Kind) (n : ℕ) → IsFaultless said Proposers name entries
       → verdict_on kind said n (codes "p" ∷ name ∷ codes ":" ∷ entries) ≡ goes (said_with said n (declares Proposers name None entries))
   proposer_goes kind n ok =
@@ -127,6 +129,7 @@ module _ (said : Said) (name : List ℕ) (entries : List (List ℕ)) where
       (let w = words_good.0 in let m = marks_good.0 in let a = run_good name is in let b = runs_good entries are in rw (w, a, m, b) refl)
       (no_end (codes "p") name (codes ":" ∷ entries)) (p_form name entries is are kind) (no_fault said Proposers name None entries ok refl)
 
+  -- in a marriage so does that of a reviewer
   pub reviewer_goes : (n : ℕ) → IsFaultless said Reviewers name entries
       → verdict_on Marriage said n (codes "r" ∷ name ∷ codes ":" ∷ entries) ≡ goes (said_with said n (declares Reviewers name None entries))
   reviewer_goes n ok =
@@ -136,6 +139,7 @@ module _ (said : Said) (name : List ℕ) (entries : List (List ℕ)) where
       (let w = words_good.1 in let m = marks_good.0 in let a = run_good name is in let b = runs_good entries are in rw (w, a, m, b) refl)
       (no_end (codes "r") name (codes ":" ∷ entries)) (r_form name entries is are) (no_fault said Reviewers name None entries ok refl)
 
+  -- in hospitals so does that of a reviewer with its capacity
   pub hospital_goes : (n : ℕ) (number : List ℕ) → begins_run number ≡ true → is_bad_capacity (Some number) ≡ false → IsFaultless said Reviewers name entries
       → verdict_on Hospitals said n (codes "r" ∷ name ∷ codes "[" ∷ number ∷ codes "]" ∷ codes ":" ∷ entries) ≡ goes (said_with said n (declares Reviewers name (Some number) entries))
   hospital_goes n number digits right ok =
@@ -183,12 +187,13 @@ module _ (said : Said) (proposer reviewer : List ℕ) (first : is_name proposer 
     unfolding fault_of
     weight_faultless =
         weight_passes (is_name proposer && (is_name reviewer && true)) (is_none (weight_in run)) (list_any (is_given_to proposer reviewer) said.weights)
-        (both_true (is_name proposer) (is_name reviewer && true) first (both_true (is_name reviewer) true second refl)) (ap is_none spelt) fresh
+        (and_from (is_name proposer) (is_name reviewer && true) first (and_from (is_name reviewer) true second refl)) (ap is_none spelt) fresh
 
     weight_said : (n : ℕ) → said_with said n (weighs proposer reviewer run) ≡ record said { weights = said.weights ++ weight_on n ∷ [] }
     unfolding said_with
     weight_said n = rw spelt refl
 
+    -- the line of a weight goes on, and adds it
     pub weight_goes : (kind : Kind) (n : ℕ) → kind ≢ Roommates
         → verdict_on kind said n (codes "weight" ∷ proposer ∷ reviewer ∷ run ∷ []) ≡ goes (record said { weights = said.weights ++ weight_on n ∷ [] })
     weight_goes kind n two =
@@ -202,6 +207,7 @@ module _ (said : Said) (proposer reviewer : List ℕ) (first : is_name proposer 
         (no_end (codes "weight") proposer (reviewer ∷ run ∷ [])) (weight_fault kind two a b) weight_faultless
         ∙ ap (λ s. goes s) (weight_said n)
 
+  -- the line of a forced pair goes on, and adds it
   pub force_goes : (kind : Kind) (n : ℕ) → kind ≢ Roommates
       → verdict_on kind said n (codes "force" ∷ proposer ∷ reviewer ∷ []) ≡ goes (record said { forced = said.forced ++ pair_on n ∷ [] })
   force_goes kind n two =
@@ -209,6 +215,7 @@ module _ (said : Said) (proposer reviewer : List ℕ) (first : is_name proposer 
       let b = name_begins reviewer second in
       force_of kind n two a b (run_good proposer a) (run_good reviewer b) words_good.3
 
+  -- the line of a forbidden pair goes on, and adds it
   pub forbid_goes : (kind : Kind) (n : ℕ) → kind ≢ Roommates
       → verdict_on kind said n (codes "forbid" ∷ proposer ∷ reviewer ∷ []) ≡ goes (record said { forbidden = said.forbidden ++ pair_on n ∷ [] })
   forbid_goes kind n two =
@@ -218,12 +225,14 @@ module _ (said : Said) (proposer reviewer : List ℕ) (first : is_name proposer 
 
 -- The header and the end.
 
+-- a printed header is the header of its kind
 pub header_heads : (kind : Kind) → heading_of (tokens (header_line kind)) ≡ heads kind
 unfolding heading_of header_of is_bad is_mark begins_name is_name_byte
 header_heads Marriage = ap heading_of headers_cut.0
 header_heads Hospitals = ap heading_of headers_cut.1
 header_heads Roommates = ap heading_of headers_cut.2
 
+-- the line `end` stops the reading
 pub end_stops : (kind : Kind) (said : Said) (n : ℕ) → verdict_on kind said n (tokens (codes "end")) ≡ stops
 unfolding verdict_on is_end is_bad is_mark begins_name is_name_byte
 end_stops kind said n = ap (verdict_on kind said n) headers_cut.3

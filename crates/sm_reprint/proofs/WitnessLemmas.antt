@@ -108,6 +108,7 @@ items_sound = below_five IsItem
     (record { pair = record { proposer = omega arith; reviewer = omega arith }; size = λ h. absurd (omega arith); fresh = λ h. absurd (omega arith) })
     (record { pair = record { proposer = omega arith; reviewer = omega arith }; size = λ h. absurd (omega arith); fresh = λ h. absurd (omega arith) })
 
+-- the marriage is one to which the law applies
 pub marriage_sound : MarriageIsSound
 unfolding fmt.digits
 marriage_sound = (

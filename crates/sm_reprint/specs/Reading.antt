@@ -13,6 +13,7 @@ use Rattle.sm_printed.specs.Lines.{lines_of}
 abbrev pub unlined : AgentData → AgentData
 unlined agent = record agent { line = 0 }
 
+-- an instance without the lines of its declarations
 abbrev pub without_lines : Input → Input
 without_lines (Two w) = Two (record w { proposers = map unlined w.proposers; reviewers = map unlined w.reviewers })
 without_lines (Room persons) = Room (map unlined persons)

@@ -44,6 +44,7 @@ module _ {rows : List (List ℕ)} {b : ℕ → ℕ} {p : ℕ → ℕ} {one end :
         record { who = p one; here = record { at = one; late = omega arith; early = w.order; is = ap p (omega arith) }; next = rw f at w.closes }
   ]
 
+  -- each person of the cycle has another before it and another after it
   pub round_of_walk : Round rows b (On p one end)
   round_of_walk = record { before = before_on; after = after_on }
 
@@ -61,6 +62,7 @@ module _ {rows : List (List ℕ)} {b : ℕ → ℕ} {p : ℕ → ℕ} {one end :
         let g : Has (p (suc (d + i))) = rw e at h in
         down d i late (omega (arith, early)) (has_two_back good round_of_walk _ g (p (d + i)) (on_walk (d + i) (omega (arith, late)) (omega (arith, early))) (w.steps (d + i) (omega (arith, late)) (omega (arith, early))))
 
+    -- where one of the cycle has two left, the last of the cycle, so has each
     pub all_have : (i : ℕ) → one ≤ i → i ≤ end → Has (p i) → (j : ℕ) → one ≤ j → j ≤ end → Has (p j)
     all_have i late early h j late' early' =
         let d : ℕ = i - one in
@@ -91,5 +93,6 @@ module _ {rows : List (List ℕ)} {b : ℕ → ℕ} {p : ℕ → ℕ} {one end :
           let m : IsNext rows b (p k) (p (one - d)) = rw up at n in
           before_inside good round_of_walk (p k) (p (one - d)) all_of m (to_start d (omega (arith, h)))
 
+      -- whoever the walk began with has two left, the last of the cycle
       pub start_has : Has (p 0)
       start_has = let e : one - one ≡ 0 = omega arith in all_of (p 0) (rw e at (to_start one (omega arith)))

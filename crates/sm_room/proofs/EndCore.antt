@@ -92,6 +92,7 @@ module _ (rows : List (List ℕ)) (b : ℕ → ℕ) (next : List ℕ) (good : Is
         ]
   ]
 
+  -- the firsts are the successors of a stable partition
   pub partition_at_end : IsStablePartition rows next
   partition_at_end = record {
     one_each = size;

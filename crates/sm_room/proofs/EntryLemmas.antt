@@ -67,8 +67,10 @@ room_kept {rows} vectors lists limits c =
 
 -- a cross place that is read is the place of the list's owner, and there is none where it has no place
 module _ {rows crosses : List (List ℕ)} (k : IsRoomKept rows crosses) (x i : ℕ) (on : i < length (row rows x)) where
+  -- a place that is read is the place of the list's owner
   pub cross-some : (n : ℕ) → Some n ≡ place_in (entry crosses x i) → n ≡ place_of rows (entry rows x i) x
   cross-some n is = sym (found_on-some (row rows (entry rows x i)) x n (sym (is ∙ k.places x i on))).0
 
+  -- where none is read, its place is the length of the list
   pub cross-none : (let none : Option ℕ = None in none ≡ place_in (entry crosses x i)) → length (row rows (entry rows x i)) ≡ place_of rows (entry rows x i) x
   cross-none is = sym (place_on-unfound (row rows (entry rows x i)) x (is ∙ k.places x i on))

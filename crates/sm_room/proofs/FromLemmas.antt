@@ -15,6 +15,7 @@ use Rattle.sm_room.proofs.LeftLemmas.{place_at}
 abbrev pub NoneBetween : List (List ℕ) → List ℕ → ℕ → ℕ → ℕ → Type 0
 NoneBetween rows bounds x from upto = (y : ℕ) → IsLeft rows (bound_in bounds) x y → from ≤ place_of rows x y → upto ≤ place_of rows x y
 
+-- an entry that isn't left leaves nothing left up to the next place
 pub none_further : (rows : List (List ℕ)) (bounds : List ℕ) (x from upto : ℕ) → NoneBetween rows bounds x from upto → (IsLeft rows (bound_in bounds) x (entry rows x upto) → ⊥)
     → NoneBetween rows bounds x from (upto + 1)
 none_further rows bounds x from upto none gone y l le = elim (eq_or_ne (place_of rows x y) upto) [
@@ -25,6 +26,7 @@ none_further rows bounds x from upto none gone y l le = elim (eq_or_ne (place_of
 -- from the hints on
 module _ {rows : List (List ℕ)} {bounds firsts seconds : List ℕ} (h : AreHints rows bounds firsts seconds) {x : ℕ} where
   module _ {i : ℕ} (lists : AreRoomLists rows) (f : IsLeftFrom rows bounds x (get_or firsts x 0) i) where
+    -- who is left first from the hint on is the first of the list
     pub first_is : IsFirst rows (bound_in bounds) x (entry rows x i)
     first_is = record { left = f.left; least = λ z l. omega (arith, place_at lists x i f.on_list, f.least z l (h.first x z l)) }
 
@@ -49,6 +51,7 @@ module _ {rows : List (List ℕ)} {bounds firsts seconds : List ℕ} (h : AreHin
             let e : w.next ≡ entry rows x j = one_at rows x w.next (entry rows x j) w.second.left.acc g.left.acc (omega (arith, ge, le, ej)) in
             rw e at w.second
 
+        -- who is left next from there on stands at the place of the second
         pub second_at : IsSecondPlace rows bounds x j
         second_at = record { on_list = g.on_list; at = place_at lists x j g.on_list; second = second_of }
 
@@ -70,11 +73,13 @@ hints_begin {rows} bounds firsts seconds a b = record {
   second = λ x y _. let z = zero_marks (length rows) x seconds b in omega arith;
 }
 
+-- on a good table a list with somebody left has its last at its bound
 pub last_at : {rows : List (List ℕ)} {b : ℕ → ℕ} {y x : ℕ} → IsGoodAt rows b → IsLeft rows b y x → (b y < length (row rows y)) × IsLast rows b y (entry rows y (b y))
 last_at {rows} {b} {y} {x} good i =
     let l = good.ends y x i in
     let e : l.last ≡ entry rows y (b y) = sym (entry-place_of rows y l.last l.final.left.acc.listed) ∙ ap (entry rows y) l.final.at in
     (omega (arith, l.final.at, l.final.left.acc.listed), rw e at l.final)
 
+-- who is left first from the beginning on is the first of the list
 pub first_at : {rows : List (List ℕ)} {bounds : List ℕ} {x i : ℕ} → AreRoomLists rows → IsLeftFrom rows bounds x 0 i → IsFirst rows (bound_in bounds) x (entry rows x i)
 first_at {rows} {bounds} {x} {i} h f = record { left = f.left; least = λ z l. omega (arith, place_at h x i f.on_list, f.least z l (omega arith)) }

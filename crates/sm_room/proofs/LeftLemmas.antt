@@ -16,6 +16,7 @@ use Rattle.sm_room.specs.Proposing.{IsListLeft}
 pub place_at : {rows : List (List ℕ)} → AreRoomLists rows → (x i : ℕ) → i < length (row rows x) → place_of rows x (entry rows x i) ≡ i
 place_at {rows} h x i on = place_on_is (row rows x) (entry rows x i) i on refl (λ k l. h.distinct x k i l on)
 
+-- an entry is left where both persons list each other within their bounds
 pub left_where : {rows : List (List ℕ)} (b : ℕ → ℕ) (x i y c : ℕ) → AreRoomLists rows → i < length (row rows x) → y ≡ entry rows x i → c ≡ place_of rows (entry rows x i) x
     → x ≢ y → c < length (row rows y) → i ≤ b x → c ≤ b y → IsLeft rows b x (entry rows x i)
 left_where {rows} b x i y c h on is cross apart listed here there =
@@ -28,12 +29,14 @@ left_where {rows} b x i y c h on is cross apart listed here there =
       there = omega (arith, cross, there');
     }
 
+-- x and y differ, y lists x, and both places are within the bounds
 pub record Where (rows : List (List ℕ)) (b : ℕ → ℕ) (x i y c : ℕ) : Type 0 where
   pub apart : x ≢ y
   pub listed : c < length (row rows y)
   pub here : i ≤ b x
   pub there : c ≤ b y
 
+-- and where it is left they do
 pub where_left : {rows : List (List ℕ)} (b : ℕ → ℕ) (x i y c : ℕ) → AreRoomLists rows → i < length (row rows x) → y ≡ entry rows x i → c ≡ place_of rows (entry rows x i) x
     → IsLeft rows b x (entry rows x i) → Where rows b x i y c
 where_left {rows} b x i y c h on is cross l =
@@ -44,6 +47,7 @@ module _ {rows : List (List ℕ)} {bounds : List ℕ} {x upto : ℕ} {list : Lis
   at_upto : (y : ℕ) → IsLeft rows (bound_in bounds) x y → place_of rows x y ≡ upto → y ≡ entry rows x upto
   at_upto y l e = sym (entry-place_of rows x y l.acc.listed) ∙ ap (entry rows x) e
 
+  -- an entry that isn't left is passed by
   pub list_passes : (IsLeft rows (bound_in bounds) x (entry rows x upto) → ⊥) → IsListLeft rows bounds x (upto + 1) list
   list_passes gone = record {
     left = g.left;
@@ -55,6 +59,7 @@ module _ {rows : List (List ℕ)} {bounds : List ℕ} {x upto : ℕ} {list : Lis
     ordered = g.ordered;
   }
 
+  -- an entry that is left stands behind the earlier ones
   pub list_takes : AreRoomLists rows → upto < length (row rows x) → (z : ℕ) → z ≡ entry rows x upto → IsLeft rows (bound_in bounds) x (entry rows x upto) → IsListLeft rows bounds x (upto + 1) (list ++ z ∷ [])
   list_takes h on z is new = record {
     left = push_cases (λ i y. IsLeft rows (bound_in bounds) x y) list z 0 (rw is new) g.left;
@@ -80,6 +85,7 @@ pub record AreListsLeft (rows : List (List ℕ)) (bounds : List ℕ) (upto : ℕ
   pub one_each : length table ≡ upto
   pub each : (x : ℕ) → x < upto → IsListLeft rows bounds x (length (row rows x)) (row table x)
 
+-- the list of one more person
 pub lists_take : {rows : List (List ℕ)} {bounds : List ℕ} {upto : ℕ} (table : List (List ℕ)) (list : List ℕ) → AreListsLeft rows bounds upto table
     → IsListLeft rows bounds upto (length (row rows upto)) list → AreListsLeft rows bounds (upto + 1) (table ++ list ∷ [])
 lists_take {rows} {bounds} {upto} table list g new =
@@ -89,6 +95,7 @@ lists_take {rows} {bounds} {upto} table list g new =
       each = λ x h. push_cases (λ y l. IsListLeft rows bounds y (length (row rows y)) l) table list [] (rw e new) (λ y k. g.each y (omega arith)) x (omega arith);
     }
 
+-- with a list for each person they are the lists of all who are left
 pub lists_end : {rows : List (List ℕ)} {bounds : List ℕ} {upto : ℕ} {table : List (List ℕ)} → AreListsLeft rows bounds upto table → upto ≡ length rows
     → ListsLeft rows (bound_in bounds) table
 lists_end {rows} {bounds} {upto} {table} g full = record {
@@ -108,6 +115,7 @@ place_missing rows x y n le none = elim (lt_or_le (place_of rows x y) (length (r
   | inr l ↦ omega (arith, l, place_of-le rows x y)
 ]
 
+-- the bounds that are read of each list of a table are those of the table
 pub are_bounds_of : (rows table : List (List ℕ)) (bounds : List ℕ) → IsTable rows table → length bounds ≡ length rows → ((x : ℕ) → x < length rows → IsBound rows table x (get_or bounds x 0))
     → AreBoundsOf rows table (bound_in bounds)
 are_bounds_of rows table bounds t long each = record {

@@ -1,5 +1,6 @@
 -- Pairing the persons of each party alternately.
 use Rattle.std.proofs.Common.{◌≡◌, ◌≢◌, ℕ, zero, suc, ◌+◌, ◌-◌, ◌*◌, ◌<◌, ◌≤◌, ◌⊎◌, inl, inr, arith, refl, sym, ap, ◌∙◌, List, length, Option, Some, None, MatchOption}
+use Rattle.std.proofs.lemmas.Option.{none-some, same_Some}
 use Rattle.sm_lists.proofs.Counting.{eq_or_ne, less_same_more}
 use Rattle.sm_theory.specs.Rooms.{mate_of}
 use Rattle.sm_theory.specs.Partitions.{successor_in, after, IsStablePartition, IsInOddParty, IsLowestOfOdd, PairsAlternately}
@@ -7,14 +8,8 @@ use Rattle.sm_theory.proofs.Room.Spots.{Spot, spot, after_plus, take_back}
 use Rattle.sm_room.specs.Pairing.{IsPaired, ArePaired, IsPartyPaired}
 use Rattle.sm_room.specs.Parties.{IsLeftOut, IsLowestInOdd}
 
-none_some : {x : ℕ} → ◌≡◌ {A = Option ℕ} None (Some x) → ⊥
-none_some e = grind arith
-
-some_same : {a b : ℕ} → Some a ≡ Some b → a ≡ b
-some_same e = cc
-
 paired_not : {next : List ℕ} {mates : List (Option ℕ)} {u : ℕ} → IsPaired next mates u → mate_of mates u ≡ None → ⊥
-paired_not w e = none_some (sym e ∙ w.is)
+paired_not w e = none-some _ (sym e ∙ w.is)
 
 -- sizes that are first returns are the same
 one_size : (next : List ℕ) (x m n : ℕ) → 0 < m → 0 < n → after next x m ≡ x → after next x n ≡ x → ((i : ℕ) → 0 < i → i < m → after next x i ≢ x) → ((i : ℕ) → 0 < i → i < n → after next x i ≢ x) → m ≡ n
@@ -62,7 +57,7 @@ module _ {rows : List (List ℕ)} {next : List ℕ} {x : ℕ} {old now : List (O
         let k = g.sound u v (sym s ∙ e) in
         elim (w.same k.mate) [
           | inl t ↦ record { mate = k.mate; is = s ∙ k.is; back = t ∙ k.back; apart = k.apart; near = k.near }
-          | inr t ↦ absurd (none_some (sym (w.fresh t.0 t.1) ∙ ap (mate_of old) t.2 ∙ k.back))
+          | inr t ↦ absurd (none-some _ (sym (w.fresh t.0 t.1) ∙ ap (mate_of old) t.2 ∙ k.back))
         ]
   ]
 
@@ -92,8 +87,8 @@ module _ {rows : List (List ℕ)} {next : List ℕ} {x : ℕ} {old now : List (O
   -- the lowest of the party, where it is paired, is with its successor
   lead_first : (v : ℕ) → mate_of now x ≡ Some v → v ≡ successor_in next x
   lead_first v e = elim w.lead [
-    | inl l ↦ some_same (sym e ∙ l.1)
-    | inr l ↦ absurd (none_some (sym l.1 ∙ e))
+    | inl l ↦ same_Some _ _ (sym e ∙ l.1)
+    | inr l ↦ absurd (none-some _ (sym l.1 ∙ e))
   ]
 
   lowest_first : (u v : ℕ) → ((k : ℕ) → u ≤ after next u k) → mate_of now u ≡ Some v → v ≡ successor_in next u
@@ -132,7 +127,7 @@ module _ {rows : List (List ℕ)} {next : List ℕ} {x : ℕ} {old now : List (O
     where
       at_x : mate_of now x ≡ None → (successor_in next x ≡ x) ⊎ IsLowestOfOdd rows next x
       at_x f = elim w.lead [
-        | inl v ↦ absurd (none_some (sym f ∙ v.1))
+        | inl v ↦ absurd (none-some _ (sym f ∙ v.1))
         | inr v ↦ elim (eq_or_ne w.half 0) [
           | inl z ↦ let one : w.size ≡ 1 = omega (arith, v.0, z) in inl (ap (after next x) (sym one) ∙ w.returns)
           | inr z ↦ inr (record {
@@ -148,6 +143,7 @@ module _ {rows : List (List ℕ)} {next : List ℕ} {x : ℕ} {old now : List (O
         ]
       ]
 
+  -- once the party of x is paired, the parties of the persons up to x are done
   pub pairs_step : x < length rows → ArePaired rows next (x + 1) now
   pairs_step inside = record { one_each = w.one_each; sound = sound; untouched = untouched; left_out = left_out; others = others inside; lowest_first = lowest_first }
 
@@ -166,6 +162,7 @@ module _ {rows : List (List ℕ)} {next : List ℕ} (h : IsStablePartition rows 
     pub lowest : IsLowestOfOdd rows next lead
     pub below : lead ≤ y
 
+  -- each odd party has a lowest person
   pub has_lead : (y : ℕ) → IsInOddParty rows next y → HasLead y
   has_lead y o = record {
     lead = s.lead;

@@ -1,6 +1,7 @@
 -- Pairing one party, backwards from its lowest.
 use Rattle.std.proofs.Common.{◌≡◌, ◌≢◌, ℕ, zero, suc, ◌+◌, ◌-◌, ◌*◌, ◌<◌, ◌≤◌, ◌⊎◌, inl, inr, arith, refl, sym, ap, ◌∙◌, List, length, set, Option, Some, None}
 use Rattle.std.proofs.lemmas.List.{get_or-set_same, get_or-set_other, length-set}
+use Rattle.std.proofs.lemmas.Option.{none-some}
 use Rattle.sm_lists.proofs.Counting.{eq_or_ne}
 use Rattle.sm_theory.specs.Rooms.{mate_of}
 use Rattle.sm_theory.specs.Partitions.{successor_in, predecessor_in, after, IsStablePartition}
@@ -8,14 +9,12 @@ use Rattle.sm_theory.proofs.Room.Bridge.{has_before, HasBefore}
 use Rattle.sm_theory.proofs.Room.Spots.{after_plus}
 use Rattle.sm_room.specs.Pairing.{IsPaired, ArePaired, IsPairing, IsPartyPaired}
 
-none_some : {x : ℕ} → ◌≡◌ {A = Option ℕ} None (Some x) → ⊥
-none_some e = grind arith
-
 shift : (next : List ℕ) (z y : ℕ) → successor_in next z ≡ y → (k : ℕ) → after next z (suc k) ≡ after next y k
 shift next z y e zero = e
 shift next z y e (suc k) = ap (successor_in next) (shift next z y e k)
 
 module _ {rows : List (List ℕ)} {next : List ℕ} {x : ℕ} {old : List (Option ℕ)} (h : IsStablePartition rows next) (g : ArePaired rows next x old) where
+  -- the pairing of a party begins at the person before its lowest
   pub pairing_begins : x < length rows → mate_of old x ≡ None → IsPairing rows next old x (predecessor_in next x) old
   pairing_begins there e =
       let w = has_before h x there in
@@ -77,6 +76,7 @@ module _ {rows : List (List ℕ)} {next : List ℕ} {x : ℕ} {old : List (Optio
       abbrev z : ℕ
       z = predecessor_in next y
 
+      -- z is a person
       pub z_there : z < length rows
       z_there = (has_before h y w.here).inside
 
@@ -86,18 +86,21 @@ module _ {rows : List (List ℕ)} {next : List ℕ} {x : ℕ} {old : List (Optio
       z_free : (x ≤ z) × (mate_of old z ≡ None)
       z_free = let le = w.above 0 (omega arith) in g.untouched z z_there (omega (arith, z_next, le)) (ap (mate_of old) z_next ∙ w.fresh 0 (omega arith))
 
+      -- y has no mate yet
       pub y_none : mate_of now y ≡ None
       y_none = elim (w.same y) [
         | inl s ↦ s ∙ w.fresh 0 (omega arith)
         | inr v ↦ absurd (no_return ne v.0 v.1 (let l = v.2 in omega arith) v.3)
       ]
 
+      -- nor has z
       pub z_none : mate_of now z ≡ None
       z_none = elim (w.same z) [
         | inl s ↦ s ∙ z_free.1
         | inr v ↦ absurd (no_return ne (suc v.0) (omega arith) (let l = v.2 in omega arith) (ap (successor_in next) v.3 ∙ z_next))
       ]
 
+      -- and z is another person than y
       pub apart : z ≢ y
       apart e = no_return ne 1 (omega arith) (omega arith) (ap (successor_in next) (sym e) ∙ z_next)
 
@@ -117,7 +120,7 @@ module _ {rows : List (List ℕ)} {next : List ℕ} {x : ℕ} {old : List (Optio
       at_other u a b = get_or-set_other (set now y (Some z)) z u (Some y) None b ∙ get_or-set_other now y u (Some z) None a
 
       some_other : (u v : ℕ) → mate_of now u ≡ Some v → mate_of new u ≡ Some v
-      some_other u v e = at_other u (λ f. none_some (sym y_none ∙ ap (mate_of now) (sym f) ∙ e)) (λ f. none_some (sym z_none ∙ ap (mate_of now) (sym f) ∙ e)) ∙ e
+      some_other u v e = at_other u (λ f. none-some _ (sym y_none ∙ ap (mate_of now) (sym f) ∙ e)) (λ f. none-some _ (sym z_none ∙ ap (mate_of now) (sym f) ∙ e)) ∙ e
 
       keep : (u : ℕ) → IsPaired next now u → IsPaired next new u
       keep u p = record { mate = p.mate; is = some_other u p.mate p.is; back = some_other p.mate u p.back; apart = p.apart; near = p.near }

@@ -8,10 +8,12 @@ use Rattle.sm_theory.specs.Rooms.{mate_of}
 use Rattle.sm_theory.specs.Partitions.{predecessor_in, IsStablePartition}
 use Rattle.sm_theory.proofs.Room.Bridge.{has_before, one_successor}
 
+-- what a person counts: one where it has no mate
 pub one_where_none : Option ℕ → ℕ
 one_where_none None = 1
 one_where_none (Some x) = 0
 
+-- how many persons have no mate
 abbrev pub unpaired : List (Option ℕ) → ℕ
 unpaired mates = sum_by one_where_none mates
 
@@ -32,9 +34,6 @@ unpaired_falls mates y z hy hz ne ey ez =
     let c : mate_of (set mates y (Some z)) z ≡ None = get_or-set_other mates y z (Some z) None ne ∙ ez in
     omega (arith, a, b, is_one (mate_of mates y) ey, is_one (mate_of (set mates y (Some z)) z) c, is_zero z, is_zero y)
 
-some_none : {x : ℕ} → ◌≡◌ {A = Option ℕ} None (Some x) → ⊥
-some_none e = grind arith
-
 module _ {rows : List (List ℕ)} {next : List ℕ} (h : IsStablePartition rows next) where
   -- each person's successor has it before it
   pub before_is : (before : List ℕ) → ((y : ℕ) → y < length rows → get_or before (get_or next y 0) 0 ≡ y) → (x : ℕ) → x < length rows → get_or before x 0 ≡ predecessor_in next x
@@ -42,6 +41,7 @@ module _ {rows : List (List ℕ)} {next : List ℕ} (h : IsStablePartition rows 
       let w = has_before h x there in
       ap (λ z. get_or before z 0) (sym w.next_is) ∙ all (predecessor_in next x) w.inside
 
+  -- one more person is written as the one before its successor
   pub before_step : (before : List ℕ) (x : ℕ) → length before ≡ length rows → x < length rows → ((y : ℕ) → y < x → get_or before (get_or next y 0) 0 ≡ y)
       → (y : ℕ) → y < x + 1 → get_or (set before (get_or next x 0) x) (get_or next y 0) 0 ≡ y
   before_step before x long there all y l = elim (eq_or_ne y x) [

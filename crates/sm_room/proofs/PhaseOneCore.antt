@@ -44,6 +44,7 @@ proposing_goes_on {rows} {b} {c} x y inv first apart cut kept = record { each = 
       ]
     ]
 
+-- somebody is left on x's list
 pub record HasLeft (rows : List (List ℕ)) (b : ℕ → ℕ) (x : ℕ) : Type 0 where
   pub who : ℕ
   pub left : IsLeft rows b x who
@@ -96,6 +97,7 @@ module _ {rows : List (List ℕ)} {b : ℕ → ℕ} (inv : IsProposing rows b) (
       let e : v ≡ w.from = one_final f (forth w.from u g) in
       rw e g
 
+  -- so the table is good
   pub good_at_end : IsGoodAt rows b
   good_at_end = record {
     ends = held;

@@ -12,6 +12,7 @@ pub record Before (rows : List (List ℕ)) (b : ℕ → ℕ) (C : ℕ → Type 0
   pub here : C who
   pub next : IsNext rows b who v
 
+-- somebody for whom C holds comes after x
 pub record After (rows : List (List ℕ)) (b : ℕ → ℕ) (C : ℕ → Type 0) (x : ℕ) : Type 0 where
   pub who : ℕ
   pub here : C who
@@ -52,9 +53,11 @@ module _ {rows : List (List ℕ)} {b : ℕ → ℕ} (good : IsGoodAt rows b) whe
         absurd (omega (arith, f.behind, first.least f.foremost f.first.left))
   ]
 
+  -- who comes next to x has x's second first
   pub next_first : {x v : ℕ} → (n : IsNext rows b x v) → IsFirst rows b v n.over
   next_first {x} {v} n = good.last_first n.over v n.final
 
+  -- somebody comes next to x, and has a second
   pub record Follows (x : ℕ) : Type 0 where
     pub who : ℕ
     pub next : IsNext rows b x who
@@ -93,6 +96,7 @@ module _ {rows : List (List ℕ)} {b : ℕ → ℕ} (good : IsGoodAt rows b) whe
         let last : IsLast rows b v.who u = good.first_last u v.who fu in
         (fu, record { here = v.here; there = t.here; second = sv; at = last.at })
 
+    -- u has two left, the last of the set
     pub record HasTwo (u : ℕ) : Type 0 where
       pub last : ℕ
       pub two : Two rows b C u last
@@ -124,12 +128,14 @@ module _ {rows : List (List ℕ)} {b : ℕ → ℕ} (good : IsGoodAt rows b) whe
 
     -- the cuts leave a good table, where nobody of the set has two and a last of the set
     module _ {c : ℕ → ℕ} (cuts : Cuts rows b c C) (none : (u w : ℕ) → Two rows b C u w → ⊥) where
+      -- no bound rises
       pub less : (y : ℕ) → c y ≤ b y
       less y = elim (cuts.other y) [
         | inl w ↦ omega (arith, w.bound, w.second.left.there)
         | inr e ↦ omega (arith, e)
       ]
 
+      -- who is left after the cuts was left before them
       pub before_cuts : {u v : ℕ} → IsLeft rows c u v → IsLeft rows b u v
       before_cuts {u} {v} h = left_before b c less h
 
@@ -166,9 +172,11 @@ module _ {rows : List (List ℕ)} {b : ℕ → ℕ} (good : IsGoodAt rows b) whe
             record { last = v; final = record { left = record { acc = h.final.left.acc; here = omega (arith, e, h.final.at); there = there }; at = omega (arith, e, h.final.at) } }
       ]
 
+      -- a list on which somebody was left has a last
       pub never_empty : (x y : ℕ) → IsLeft rows b x y → HasLast rows c x
       never_empty x y i = still_held x (good.ends x y i)
 
+      -- who is last on a list has its owner first
       pub last_first : (u v : ℕ) → IsLast rows c u v → IsFirst rows c v u
       last_first u v g = record { left = IsLeft-turn g.left; least = least }
         where
@@ -194,6 +202,7 @@ module _ {rows : List (List ℕ)} {b : ℕ → ℕ} (good : IsGoodAt rows b) whe
                 ]
           ]
 
+      -- who is first on a list has its owner last
       pub first_last : (u v : ℕ) → IsFirst rows c u v → IsLast rows c v u
       first_last u v f = go (has_first (before_cuts f.left))
         where
@@ -222,6 +231,7 @@ module _ {rows : List (List ℕ)} {b : ℕ → ℕ} (good : IsGoodAt rows b) whe
                 rw d at g
           ]
 
+      -- so the table is good
       pub good_again : IsGoodAt rows c
       good_again = record {
         ends = λ x y i. never_empty x y (before_cuts i);

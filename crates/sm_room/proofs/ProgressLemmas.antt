@@ -30,9 +30,11 @@ module _ {rows : List (List ℕ)} {b c : ℕ → ℕ} (x y : ℕ) (inv : IsPropo
     | inr e ↦ omega (arith, kept z e)
   ]
 
+  -- who is left after it was left before
   pub was_left : (u v : ℕ) → IsLeft rows c u v → IsLeft rows b u v
   was_left u v h = record { acc = h.acc; here = omega (arith, h.here, less u); there = omega (arith, h.there, less v) }
 
+  -- each whose list has been cut has a holder
   pub still_proposing : IsProposing rows c
   still_proposing = proposing_goes_on x y inv first first.left.acc.apart cut kept
 
@@ -40,6 +42,7 @@ module _ {rows : List (List ℕ)} {b c : ℕ → ℕ} (x y : ℕ) (inv : IsPropo
   pub last_now : IsLast rows c y x
   last_now = record { left = record { acc = turn rows x y first.left.acc; here = omega (arith, cut); there = omega (arith, kept x first.left.acc.apart, first.left.here) }; at = sym cut }
 
+  -- so x is last on the list of its first
   pub proposer_settled : (f : ℕ) → IsFirst rows c x f → IsLast rows c f x
   proposer_settled f g =
       let e : y ≡ f = one_first (last_first still_proposing last_now) g in
@@ -187,15 +190,18 @@ module _ {rows : List (List ℕ)} {begun away : ℕ} {passed bounds : List ℕ} 
       z_first : IsFirst rows b z y
       z_first = rw z_is at held.first
 
+      -- z is a person
       pub z_there : z < length rows
       z_there = inside_rows rows z y z_first.left.acc
 
+      -- z has begun to propose
       pub z_begun : z < begun
       z_begun = g.last_begun z y z_last
 
       z_apart : z ≢ away
       z_apart = g.last_rests z y z_last
 
+      -- z has places ahead on its list
       pub z_on : get_or passed z 0 < length (row rows z)
       z_on = omega (arith, g.all_passed z y z_first.left, z_first.left.acc.listed)
 
@@ -214,6 +220,7 @@ module _ {rows : List (List ℕ)} {begun away : ℕ} {passed bounds : List ℕ} 
             ]
           ]
 
+      -- now z is away, and has passed y
       pub progress_taken_for : IsProgress rows begun z (set passed z (get_or passed z 0 + 1)) after
       progress_taken_for = record {
         passed_each = length-set passed z (get_or passed z 0 + 1) ∙ g.passed_each;
@@ -259,6 +266,7 @@ progress_begins {p = p} g = record {
   last_rests = g.last_rests;
 }
 
+-- once all persons have proposed and nobody is away, the table is good
 pub progress_end : {rows : List (List ℕ)} {p : ℕ} {passed bounds : List ℕ} → IsProgress rows p p passed bounds → p ≡ length rows → IsGoodAt rows (bound_in bounds)
 progress_end {rows} {p} {passed} {bounds} g full = good_at_end g.proposing (λ x y f.
     let lt = inside_rows rows x y f.left.acc in
@@ -277,6 +285,7 @@ sums_le (list ∷ rows) (i ∷ next) long le =
     let rest = sums_le rows next (omega arith) (λ p. le (suc p)) in
     omega (arith, sum_by-cons (λ (list : List ℕ). length list) list rows, sum_by-cons (λ (i : ℕ). i) i next)
 
+-- who passes one more place leaves fewer ahead
 pub places_left_fall : {rows : List (List ℕ)} {begun away : ℕ} {after : List ℕ} (passed : List ℕ) (u : ℕ) → length passed ≡ length rows → u < length rows
     → IsProgress rows begun away (set passed u (get_or passed u 0 + 1)) after → places_left rows (set passed u (get_or passed u 0 + 1)) < places_left rows passed
 places_left_fall {rows} passed u long there g =
@@ -291,6 +300,7 @@ pub record GoesOn (rows : List (List ℕ)) (begun next : ℕ) (passed after : Li
   pub on : get_or passed next 0 < length (row rows next)
   pub progress : IsProgress rows begun next (set passed next (get_or passed next 0 + 1)) after
 
+-- after an answer the proposals go on from whom it leaves without a holder
 pub goes_on : {rows : List (List ℕ)} {begun away : ℕ} {passed bounds : List ℕ} (after : List ℕ) (z : ℕ) → IsProgress rows begun away passed bounds → away < begun → away < length rows
     → get_or passed away 0 < length (row rows away)
     → IsTakenFor rows away (get_or passed away 0) z bounds after ⊎ IsPassed rows away (get_or passed away 0) z bounds after → GoesOn rows begun z passed after
@@ -302,5 +312,6 @@ goes_on after z g in_ there on (inl t) = rw t.lets_go (record {
 })
 goes_on after z g in_ there on (inr t) = rw (t.who, t.same) (record { begun_is = in_; there = there; on = on; progress = progress_passes g there on t.gone })
 
+-- the place behind one of a list fits 32 bits
 pub next_fits : {rows : List (List ℕ)} → AreWithinLimits rows → (z i : ℕ) → i < length (row rows z) → Fits w32 (i + 1)
 next_fits limits z i on = let lt = row_fits limits z in omega arith

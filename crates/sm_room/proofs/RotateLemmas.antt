@@ -40,6 +40,7 @@ short_unless {rows} bounds x short = record {
       ];
 }
 
+-- who has its second at its bound is short
 pub short_two : {rows : List (List ℕ)} {bounds : List ℕ} {x z : ℕ} → IsSecond rows (bound_in bounds) x z → get_or bounds x 0 ≤ place_of rows x z → IsShort rows bounds x
 short_two {rows} {bounds} {x} {z} s le = record {
   each = λ y l. elim (lt_or_le (place_of rows x s.foremost) (place_of rows x y)) [
@@ -105,6 +106,7 @@ module _ {rows : List (List ℕ)} {bounds path places : List ℕ} {one : ℕ} (c
         ]
       ]
 
+  -- the second of one more person of the cycle is cut behind it
   pub cut_step : {i : ℕ} {now : List ℕ} (y v : ℕ) → AreCut rows bounds path one i now → one ≤ i → i < length path → length bounds ≡ length rows
       → y ≡ entry rows (p i) (get_or places i 0) → v ≡ place_of rows y (p i) → AreCut rows bounds path one (i + 1) (set now y v)
   cut_step {i} {now} y v g late h long is to = record { one_each = length-set now y v ∙ g.one_each; cut = cut; other = other }
@@ -169,6 +171,7 @@ module _ {rows : List (List ℕ)} {bounds path places : List ℕ} {one : ℕ} (c
     early two zero h = two
     early two (suc i) h = next_goes good (closed.steps i h (early two i (omega (arith, h))))
 
+    -- it has nobody left but a first and a last
     pub own_short : IsShort rows bounds (p 0)
     own_short = short_unless bounds (p 0) (λ two.
         let h = start_has walk_of good has (λ i l. closed.steps i (omega (arith, l, closed.order)) (early two i (omega (arith, l, closed.order)))) in
@@ -198,6 +201,7 @@ module _ {rows : List (List ℕ)} {bounds path places : List ℕ} {one : ℕ} (c
     lower : (y : ℕ) → get_or now y 0 ≤ get_or bounds y 0
     lower = less good round cuts none
 
+    -- once all round the cycle are cut, the table is good again, and has lost pairs
     pub cut_end : length bounds ≡ length rows → IsRotated rows bounds now
     cut_end long = record {
       one_each = g.one_each;
@@ -244,6 +248,7 @@ module _ {rows : List (List ℕ)} {bounds path places : List ℕ} {one : ℕ} (c
           tail_keeps walk_of good (λ a b l m. closed.distinct a b l (omega (arith, m, closed.order))) cuts none
           (omega (arith, h, is)) (closed.steps j (omega (arith, h, within)) two) still.second (closed.seconds j (omega (arith, h, within)) two).second
 
+      -- the path before the cycle is still a walk
       pub walk_back : IsWalk rows now (take keep path) (take keep places) (p keep)
       walk_back = record {
         steps = λ j h t. let l : j < keep = omega (arith, h, long) in let k = kept j l t in
@@ -254,6 +259,7 @@ module _ {rows : List (List ℕ)} {bounds path places : List ℕ} {one : ℕ} (c
         here = closed.inside keep within;
       }
 
+      -- and it begins with the same person
       pub starts_back : met (take keep path) (p keep) 0 ≡ p 0
       starts_back = at 0 (omega arith)
 

@@ -11,6 +11,7 @@ use Rattle.sm_room.proofs.TableCore.{IsLeft-turn, turn}
 use Rattle.sm_room.proofs.EndCore.{partition_at_end}
 
 module _ {rows : List (List ℕ)} {b : ℕ → ℕ} {table : List (List ℕ)} (h : ListsLeft rows b table) where
+  -- who stands first on a list of the table is the first that is left
   pub first_is : {x y : ℕ} → StandsFirst table x y → IsFirst rows b x y
   first_is {x} {y} f = rw f.is at here
     where
@@ -26,6 +27,7 @@ module _ {rows : List (List ℕ)} {b : ℕ → ℕ} {table : List (List ℕ)} (h
             ];
       }
 
+  -- and the first that is left stands first
   pub stands_first : {x y : ℕ} → IsFirst rows b x y → StandsFirst table x y
   stands_first {x} {y} f =
       let k = h.all x y f.left in
@@ -52,11 +54,13 @@ module _ {rows : List (List ℕ)} {b : ℕ → ℕ} {table : List (List ℕ)} (h
       ]
 
   module _ (tight : (x : ℕ) → 0 < length (row table x) → place_of rows x (entry table x (length (row table x) - 1)) ≡ b x) where
+    -- who stands last on a list of the table is at its bound
     pub last_is : {x y : ℕ} → StandsLast table x y → IsLast rows b x y
     last_is {x} {y} f =
         let here : IsLast rows b x (entry table x (length (row table x) - 1)) = record { left = h.left x (length (row table x) - 1) (omega (arith, f.some)); at = tight x f.some } in
         rw f.is at here
 
+    -- and who is at its bound stands last
     pub stands_last : {x y : ℕ} → IsLast rows b x y → StandsLast table x y
     stands_last {x} {y} f =
         let k = h.all x y f.left in
@@ -72,6 +76,7 @@ module _ {rows : List (List ℕ)} {b : ℕ → ℕ} {table : List (List ℕ)} (h
 
 -- what bounds leave of a good table is a good table
 module _ {rows : List (List ℕ)} {b : ℕ → ℕ} {table : List (List ℕ)} (good : IsGoodAt rows b) (h : ListsLeft rows b table) where
+  -- the last of each list stands at its bound
   pub bounds_tight : (x : ℕ) → 0 < length (row table x) → place_of rows x (entry table x (length (row table x) - 1)) ≡ b x
   bounds_tight x some =
       let i = h.left x (length (row table x) - 1) (omega (arith, some)) in
@@ -84,6 +89,7 @@ module _ {rows : List (List ℕ)} {b : ℕ → ℕ} {table : List (List ℕ)} (g
       let some : 0 < length (row table x) = let k = h.all x l.last l.final.left in omega (arith, k) in
       record { some = some; better = omega (arith, bounds_tight x some, less) }
 
+  -- so the table is good
   pub table_of_bounds : IsGood rows table
   table_of_bounds = record {
     whole = record {
@@ -123,6 +129,7 @@ module _ {rows : List (List ℕ)} {b : ℕ → ℕ} {table : List (List ℕ)} (g
   prefers_not : (x y : ℕ) → place_of rows x y ≤ b x → PrefersLast rows table x y → ⊥
   prefers_not x y le w = omega (arith, le, w.better, bounds.last x w.some)
 
+  -- the table has the lists of all who are left
   pub lists_left : ListsLeft rows b table
   lists_left = record {
     one_each = good.whole.one_each;
@@ -145,6 +152,7 @@ module _ {rows : List (List ℕ)} {b : ℕ → ℕ} {table : List (List ℕ)} (g
   has_last : (x : ℕ) → 0 < length (row table x) → HasLast rows b x
   has_last x some = record { last = _; final = last_is lists_left tight (record { some = some; is = refl }) }
 
+  -- and its bounds are those of a good table
   pub bounds_of_table : IsGoodAt rows b
   bounds_of_table = record {
     ends = λ x y i. has_last x (let k = lists_left.all x y i in omega (arith, k));
@@ -176,6 +184,7 @@ are_bounds rows table = record { empty = λ x e. empty x e (lt_or_le 0 (length (
     last x some (inl l) = refl
     last x some (inr l) = absurd (omega arith)
 
+-- where no list of a good table is longer than two, the firsts are the successors of a stable partition
 pub end_is_stable : (rows table : List (List ℕ)) (next : List ℕ) → IsGood rows table → ((x : ℕ) → length (row table x) ≤ 2)
     → length next ≡ length rows → ((x : ℕ) → x < length rows → GoesFirst table next x) → IsStablePartition rows next
 end_is_stable rows table next good short size goes = partition_at_end rows b next (bounds_of_table good bounds) size to two

@@ -73,5 +73,6 @@ module _ {rows : List (List ℕ)} {b : ℕ → ℕ} {p : ℕ → ℕ} {one end :
         least = λ z j l. f.least z (before_cuts good (round_of_walk w) cuts none j) l;
       }
 
+      -- who is before the cycle and keeps two left has the second that it had, with the same last
       pub tail_keeps : IsSecond rows c (p i) y × IsLast rows c y (p (suc i))
       tail_keeps = (second, keeps_last y (p (suc i)) uncut_second final)

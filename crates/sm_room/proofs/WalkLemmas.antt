@@ -17,6 +17,7 @@ pub one_where_zero : ℕ → ℕ
 one_where_zero zero = 1
 one_where_zero (suc i) = 0
 
+-- how many persons have no mark
 abbrev pub unmarked : List ℕ → ℕ
 unmarked marks = sum_by one_where_zero marks
 
@@ -29,6 +30,7 @@ unfolding one_where_zero
 is_zero zero h = absurd (omega arith)
 is_zero (suc i) h = refl
 
+-- one more mark leaves fewer without
 pub unmarked_falls : (marks : List ℕ) (x i : ℕ) → x < length marks → get_or marks x 0 ≡ 0 → 0 < i → unmarked (set marks x i) < unmarked marks
 unmarked_falls marks x i there e h =
     let w = sum_by-set one_where_zero marks x i 0 there in
@@ -43,6 +45,7 @@ zero_marks n z marks e =
       | inr l ↦ get_or_past (replicate n o) z o (omega (arith, l, length-replicate n o))
     ])
 
+-- an empty path is a walk to any person
 pub walk_begins : {rows : List (List ℕ)} {bounds : List ℕ} {x : ℕ} (path places : List ℕ) → path ≡ [] → x < length rows → IsWalk rows bounds path places x
 walk_begins {rows} {bounds} {x} path places p there = rw p (record {
   steps = λ i h. absurd (omega arith);
@@ -50,6 +53,7 @@ walk_begins {rows} {bounds} {x} path places p there = rw p (record {
   here = there;
 })
 
+-- one more person on the path changes nothing of where it begins
 pub starts_kept : (path : List ℕ) (x v : ℕ) → met (path ++ x ∷ []) v 0 ≡ met path x 0
 starts_kept path x v = get_or_append_left (path ++ x ∷ []) (v ∷ []) 0 0 (omega (arith, length_push path x))
 
@@ -163,6 +167,7 @@ module _ {rows : List (List ℕ)} {bounds path places : List ℕ} {x : ℕ} (goo
         let b : met path x (suc end) ≡ get_or path one 0 = ap (met path x) up ∙ at_end ∙ sym at_one.1 in
         rw (on_path end less, b) at n
 
+    -- the walk is closed at that index
     pub walk_closes : IsClosed rows bounds path places one
     walk_closes = record {
       order = order;
@@ -175,6 +180,7 @@ module _ {rows : List (List ℕ)} {bounds path places : List ℕ} {x : ℕ} (goo
       distinct = λ i j l h e. let p = kept.index i (omega (arith, l, h)) in let q = kept.index j h in omega (arith, ap (λ z. get_or marks z 0) e, p, q, l);
     }
 
+    -- and the path begins where the walk does
     pub starts_on : get_or path 0 0 ≡ met path x 0
     starts_on = sym (on_path 0 (omega (arith, order)))
 
@@ -242,6 +248,7 @@ module _ {rows : List (List ℕ)} {bounds path places marks : List ℕ} {one x p
   ends : (own : IsOwnParty rows bounds path one) → own.next ≡ entry rows x place
   ends own = let s : IsSecond rows (bound_in bounds) x own.next = rw begins own.second in one_second s second_begins.second
 
+  -- where the cycle is a party by itself, the second of its beginning stands at the bound
   pub own_at_bound : IsOwnParty rows bounds path one → place ≡ get_or bounds x 0
   own_at_bound own = let a = own.at in sym second_begins.at ∙ rw (ends own, sym begins) at a
 
@@ -249,6 +256,7 @@ module _ {rows : List (List ℕ)} {bounds path places marks : List ℕ} {one x p
     mark_of : mark ≡ get_or marks y 0
     mark_of = marked ∙ get_or_default_zero marks y mark (omega (arith, there, kept.mark_each))
 
+    -- and that second has the mark of an index of the cycle
     pub own_marked : IsOwnParty rows bounds path one → one < mark
     own_marked own =
         let o = own.here in
@@ -256,6 +264,7 @@ module _ {rows : List (List ℕ)} {bounds path places marks : List ℕ} {one x p
         let m : get_or marks y 0 ≡ o.at + 1 = rw e at (kept.index o.at o.early) in
         omega (arith, m, o.late, mark_of)
 
+    -- a second at the bound with such a mark makes the cycle a party by itself
     pub marked_own : get_or bounds x 0 ≤ place → one < mark → IsOwnParty rows bounds path one
     marked_own le more =
         let m = kept.marked y (λ e. omega (arith, e, more, mark_of)) in

@@ -28,6 +28,7 @@ pub record IsSecond (rows : List (List ℕ)) (b : ℕ → ℕ) (x y : ℕ) : Typ
   pub behind : place_of rows x foremost < place_of rows x y
   pub least : (z : ℕ) → IsLeft rows b x z → place_of rows x foremost < place_of rows x z → place_of rows x y ≤ place_of rows x z
 
+-- x's list has a last
 pub record HasLast (rows : List (List ℕ)) (b : ℕ → ℕ) (x : ℕ) : Type 0 where
   pub last : ℕ
   pub final : IsLast rows b x last

@@ -29,11 +29,13 @@ pub(crate) fn check_entries(alloc: Global, lists: &[Vec<u32>]) -> Result<(), Roo
 fn check_list(x: u32, lists: &[Vec<u32>], met: &mut [u32]) -> Result<(), RoomFault>
     requires in_range { x < length lists.now }
     requires limits { AreWithinLimits (rows_of lists.now) }
-    requires earlier { (z j : ℕ) → z < x → j < length (row (rows_of lists.now) z) → IsSound (rows_of lists.now) z j }
+    requires earlier { (z j : ℕ) → z < x → j < length (row (rows_of lists.now) z)
+        → IsSound (rows_of lists.now) z j }
     requires one_each { length met.old ≡ length (rows_of lists.now) }
     requires met { (y : ℕ) → slice_index met.old y ≤ x }
     ensures met { OnOk result ((y : ℕ) → slice_index met.new y ≤ x + 1) }
-    ensures sound { OnOk result ((i : ℕ) → i < length (row (rows_of lists.now) x) → IsSound (rows_of lists.now) x i) }
+    ensures sound { OnOk result ((i : ℕ) → i < length (row (rows_of lists.now) x)
+        → IsSound (rows_of lists.now) x i) }
     ensures fault { IfErr result (λ f. IsFirstFault (rows_of lists.now) f) }
 {
     let stamp = x + 1;

@@ -21,8 +21,10 @@ pub(crate) struct Hints {
 impl Hints {
     /// Nothing is known yet.
     pub(crate) fn new(alloc: Global, market: &RoomMarket) -> Result<Hints, AllocError>
-        ensures firsts { IfOk result (λ hints. hints.firsts.items ≡ replicate (length market.now) 0) }
-        ensures seconds { IfOk result (λ hints. hints.seconds.items ≡ replicate (length market.now) 0) }
+        ensures firsts { IfOk result (λ hints. hints.firsts.items
+            ≡ replicate (length market.now) 0) }
+        ensures seconds { IfOk result (λ hints. hints.seconds.items
+            ≡ replicate (length market.now) 0) }
     {
         let persons = market.persons() as usize;
         let firsts = vec![in alloc; 0; persons]?;

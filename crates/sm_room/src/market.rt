@@ -125,7 +125,8 @@ impl RoomMarket {
 /// The cross places of the lists, which are those of both sides.
 fn crosses_of(alloc: Global, lists: &[Vec<u32>]) -> Result<Vec<Vec<u32>>, AllocError>
     requires { AreWithinLimits (rows_of lists.now) }
-    ensures { IfOk result (λ c. AreCrossPlaces (rows_of lists.now) (rows_of lists.now) (held_in place_in c.items)) }
+    ensures { IfOk result (λ c. AreCrossPlaces (rows_of lists.now) (rows_of lists.now)
+        (held_in place_in c.items)) }
 {
     let lent = lent(alloc, lists)?;
     let crosses: CrossPlaces<u32, Naming> = cross_places(alloc, &lent, &lent)?;

@@ -31,7 +31,8 @@ pub(crate) fn rotate_all(
     requires good { IsGoodAt market.now (bound_in bounds.old) }
     ensures one_each { OnOk result (length bounds.new ≡ length market.now) }
     ensures good { OnOk result (IsGoodAt market.now (bound_in bounds.new)) }
-    ensures short { OnOk result ((x : ℕ) → x < length market.now → IsShort market.now bounds.new x) }
+    ensures short { OnOk result ((x : ℕ) → x < length market.now
+        → IsShort market.now bounds.new x) }
 {
     let mut hints = Hints::new(alloc, market)?;
     let mut walk = Walk::new(alloc, market)?;
@@ -55,14 +56,17 @@ fn shorten(
     requires good { IsGoodAt market.now (bound_in bounds.old) }
     requires hints { AreHints market.now bounds.old hints.old.firsts.items hints.old.seconds.items }
     requires empty { walk.old.path.items ≡ [] }
-    requires path { IsPath market.now walk.old.path.items walk.old.places.items walk.old.marks.items }
+    requires path { IsPath market.now walk.old.path.items walk.old.places.items
+        walk.old.marks.items }
     ensures one_each { OnOk result (length bounds.new ≡ length market.now) }
     ensures good { OnOk result (IsGoodAt market.now (bound_in bounds.new)) }
     ensures lower { OnOk result ((y : ℕ) → slice_index bounds.new y ≤ slice_index bounds.old y) }
     ensures short { OnOk result (IsShort market.now bounds.new x) }
-    ensures hints { OnOk result (AreHints market.now bounds.new hints.new.firsts.items hints.new.seconds.items) }
+    ensures hints { OnOk result (AreHints market.now bounds.new hints.new.firsts.items
+        hints.new.seconds.items) }
     ensures empty { OnOk result (walk.new.path.items ≡ []) }
-    ensures path { OnOk result (IsPath market.now walk.new.path.items walk.new.places.items walk.new.marks.items) }
+    ensures path { OnOk result (IsPath market.now walk.new.path.items walk.new.places.items
+        walk.new.marks.items) }
 {
     if !has_three(market, bounds, hints, x) {
         return Ok(());
@@ -90,10 +94,13 @@ fn next_cycle(
     requires one_each { length bounds.now ≡ length market.now }
     requires good { IsGoodAt market.now (bound_in bounds.now) }
     requires hints { AreHints market.now bounds.now hints.old.firsts.items hints.old.seconds.items }
-    requires path { IsPath market.now walk.old.path.items walk.old.places.items walk.old.marks.items }
+    requires path { IsPath market.now walk.old.path.items walk.old.places.items
+        walk.old.marks.items }
     requires walk { IsWalk market.now bounds.now walk.old.path.items walk.old.places.items from }
-    ensures hints { OnOk result (AreHints market.now bounds.now hints.new.firsts.items hints.new.seconds.items) }
-    ensures path { OnOk result (IsPath market.now walk.new.path.items walk.new.places.items walk.new.marks.items) }
+    ensures hints { OnOk result (AreHints market.now bounds.now hints.new.firsts.items
+        hints.new.seconds.items) }
+    ensures path { OnOk result (IsPath market.now walk.new.path.items walk.new.places.items
+        walk.new.marks.items) }
     ensures found { IfOk result (λ found. MatchOption found
         (IsShort market.now bounds.now (met walk.old.path.items from 0))
         (λ one. (slice_index walk.new.path.items 0 ≡ met walk.old.path.items from 0)

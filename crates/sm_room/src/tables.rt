@@ -45,7 +45,8 @@ pub(crate) fn bounds_of(
 ) -> Result<Vec<u32>, AllocError>
     requires { IsTable market.now table.now }
     ensures one_each { IfOk result (λ bounds. length bounds.items ≡ length market.now) }
-    ensures bounds { IfOk result (λ bounds. AreBoundsOf market.now table.now (bound_in bounds.items)) }
+    ensures bounds { IfOk result (λ bounds. AreBoundsOf market.now table.now
+        (bound_in bounds.items)) }
 {
     let mut bounds = Vec::with_capacity(alloc, market.persons() as usize)?;
     for x in 0..market.persons() {
@@ -102,7 +103,8 @@ fn lists_left(
     bounds: &[u32],
 ) -> Result<Vec<Vec<u32>>, AllocError>
     requires { length bounds.now ≡ length market.now }
-    ensures { IfOk result (λ lists. ListsLeft market.now (bound_in bounds.now) (rows_of lists.items)) }
+    ensures { IfOk result (λ lists. ListsLeft market.now (bound_in bounds.now)
+        (rows_of lists.items)) }
 {
     let mut lists = Vec::with_capacity(alloc, market.persons() as usize)?;
     for x in 0..market.persons() {
@@ -120,7 +122,8 @@ fn list_left(
 ) -> Result<Vec<u32>, AllocError>
     requires in_range { x < length market.now }
     requires one_each { length bounds.now ≡ length market.now }
-    ensures { IfOk result (λ list. IsListLeft market.now bounds.now x (length (row market.now x)) list.items) }
+    ensures { IfOk result (λ list. IsListLeft market.now bounds.now x (length (row market.now x))
+        list.items) }
 {
     let mut list = Vec::new(alloc);
     for place in 0..market.len(x) {

@@ -21,7 +21,8 @@ impl Walk {
     /// Nobody is on the path yet.
     pub(crate) fn new(alloc: Global, market: &RoomMarket) -> Result<Walk, AllocError>
         ensures empty { IfOk result (λ walk. walk.path.items ≡ []) }
-        ensures path { IfOk result (λ walk. IsPath market.now walk.path.items walk.places.items walk.marks.items) }
+        ensures path { IfOk result (λ walk. IsPath market.now walk.path.items walk.places.items
+            walk.marks.items) }
     {
         let persons = market.persons() as usize;
         let path = Vec::with_capacity(alloc, persons)?;
@@ -41,7 +42,8 @@ impl Walk {
         requires keep { keep ≤ length self.old.path.items }
         ensures path { self.new.path.items ≡ take keep self.old.path.items }
         ensures places { self.new.places.items ≡ take keep self.old.places.items }
-        ensures marks { AreUnmarked self.old.path.items keep (length self.old.path.items) self.old.marks.items
+        ensures marks { AreUnmarked self.old.path.items keep (length self.old.path.items)
+            self.old.marks.items
             self.new.marks.items }
     {
         unmark(&self.path, keep, self.marks.as_mut_slice());
@@ -73,10 +75,13 @@ pub(crate) fn go_round(
     requires one_each { length bounds.now ≡ length market.now }
     requires good { IsGoodAt market.now (bound_in bounds.now) }
     requires hints { AreHints market.now bounds.now hints.old.firsts.items hints.old.seconds.items }
-    requires path { IsPath market.now walk.old.path.items walk.old.places.items walk.old.marks.items }
+    requires path { IsPath market.now walk.old.path.items walk.old.places.items
+        walk.old.marks.items }
     requires walk { IsWalk market.now bounds.now walk.old.path.items walk.old.places.items from }
-    ensures hints { OnOk result (AreHints market.now bounds.now hints.new.firsts.items hints.new.seconds.items) }
-    ensures path { OnOk result (IsPath market.now walk.new.path.items walk.new.places.items walk.new.marks.items) }
+    ensures hints { OnOk result (AreHints market.now bounds.now hints.new.firsts.items
+        hints.new.seconds.items) }
+    ensures path { OnOk result (IsPath market.now walk.new.path.items walk.new.places.items
+        walk.new.marks.items) }
     ensures found { IfOk result (λ found. MatchOption found
         (¬ HasTwoLeft market.now bounds.now (met walk.old.path.items from 0))
         (λ one. (slice_index walk.new.path.items 0 ≡ met walk.old.path.items from 0)
@@ -100,7 +105,8 @@ pub(crate) fn go_round(
 /// Whether a cycle is a party by itself: each of its persons has two left, both of them on the cycle.
 pub(crate) fn is_own_party(market: &RoomMarket, bounds: &[u32], walk: &Walk, one: u32) -> bool
     requires one_each { length bounds.now ≡ length market.now }
-    requires path { IsPath market.now walk.now.path.items walk.now.places.items walk.now.marks.items }
+    requires path { IsPath market.now walk.now.path.items walk.now.places.items
+        walk.now.marks.items }
     requires closed { IsClosed market.now bounds.now walk.now.path.items walk.now.places.items one }
     ensures yes { IsTrue result → IsOwnParty market.now bounds.now walk.now.path.items one }
     ensures no { result ≡ false → ¬ IsOwnParty market.now bounds.now walk.now.path.items one }

@@ -18,9 +18,11 @@ pub use Rattle.sm_theory.proofs.Bridge.Chain.{rotation_before, rotation_new, sta
 use Rattle.sm_rotations.specs.Chaining.{LeadsTo}
 use Rattle.sm_theory.proofs.Chains.Length.{sum_below, sums_le, sums_less, sum_of_lengths}
 
+-- no rotation leads to the first matching itself
 pub leads_start : (l : Lists) (first m : Places) → m ≡ first → LeadsTo l first [] m
 leads_start l first m e = record { lowest = λ k less. absurd (omega arith); at_end = e }
 
+-- one more rotation, the lowest that is exposed, leads on to what is left once it is eliminated
 pub leads_on : {l : Lists} {first m n : Places} {xs : List (List (ℕ × ℕ))} (x : List (ℕ × ℕ)) → LeadsTo l first xs m → IsLowestExposed l m x → n ≡ eliminated l m x → LeadsTo l first (xs ++ x ∷ []) n
 leads_on {l} {first} {m} {n} {xs} x a low e = record {
   lowest = λ k less. elim (eq_or_ne k (length xs)) [
@@ -42,6 +44,7 @@ leads_on {l} {first} {m} {n} {xs} x a low e = record {
     there : (k : ℕ) → k ≡ length xs → stage l first (xs ++ x ∷ []) k ≡ m
     there k is = stage_before l first xs x k (omega arith) ∙ ap (stage l first xs) is ∙ sym a.at_end
 
+-- where nothing is exposed at the end, a chain from the proposers' best is the printed one
 pub leads_whole : {l : Lists} {first m : Places} {xs : List (List (ℕ × ℕ))} → IsProposersBest l first → LeadsTo l first xs m → IsNothingExposed l m → IsPrintedChain l first xs
 leads_whole {l} {first} {m} {xs} best a none = record {
   chain = record { from_best = best; exposed = λ k less. (a.lowest k less).exposed; complete = λ other x. none.none other (rw a.at_end x) };
@@ -52,6 +55,7 @@ leads_whole {l} {first} {m} {xs} best a none = record {
 pub places_below : Lists → Places → ℕ
 places_below l m = sum_below (λ p. length (row l.proposers p)) (length l.proposers) - sum_below (standing l.proposers m.proposers) (length l.proposers)
 
+-- eliminating a rotation leaves fewer places below the proposers
 pub places_fall : {l : Lists} {m n : Places} (x : List (ℕ × ℕ)) → IsMarket l → IsStable l m → IsExposed l m x → n ≡ eliminated l m x → places_below l n < places_below l m
 unfolding places_below
 places_fall {l} {m} {n} x h s y e =
@@ -66,10 +70,12 @@ places_fall {l} {m} {n} x h s y e =
     let fits = sums_le (standing l.proposers (eliminated l m x).proposers) (λ p. length (row l.proposers p)) (length l.proposers) (λ q. more.fit.left.within q) in
     rw e (omega arith)
 
+-- there are fewer than 2^24 places below the proposers
 pub few_places : {l : Lists} (m : Places) → IsWithinLimits l → places_below l m < 2 ^ 24
 unfolding places_below
 few_places {l} m limits = omega (arith, sum_of_lengths l.proposers (length l.proposers) (omega arith), limits.proposers.entries)
 
+-- one more rotation that is held is one more list of pairs
 pub pushed : (rotations : List Rotation) (r : Rotation) → rotations_of (rotations ++ r ∷ []) ≡ rotations_of rotations ++ r.pairs.items ∷ []
 pushed [] r = refl
 pushed (q ∷ rotations) r = ap (λ rest. q.pairs.items ∷ rest) (pushed rotations r)

@@ -43,6 +43,7 @@ front_left {l} h {m} s {ends} {pairs} f x = record {
     old_matched : (r i : ℕ) → i < length pairs → reviewer_at pairs i ≡ r → standing l.reviewers m.reviewers r < length (row l.reviewers r)
     old_matched r i a is = rw is at (((exposed_of h s.matching x).paired i a).matched')
 
+-- who is neither the reviewer of pair i nor that of a later one isn't left from pair i on
 pub fewer_left : (pairs : List (ℕ × ℕ)) (i r s : ℕ) → r ≡ reviewer_at pairs i → s ≢ r → (IsLeftIn pairs (i + 1) s → ⊥) → IsLeftIn pairs i s → ⊥
 fewer_left pairs i r s is ne out w = elim (eq_or_ne w.pair i) [
   | inl e ↦ ne (sym w.is ∙ ap (reviewer_at pairs) e ∙ sym is)

@@ -79,6 +79,7 @@ module _ {l : Lists} (h : IsMarket l) {m : Places} (f : IsMatching l m) where
       ]
     ]
 
+    -- q has a successor
     pub goes_on : ((i : ℕ) → ¬ IsSuccessor l m q i) → ⊥
     goes_on none =
         let v = along_last (length pairs) refl (omega (arith, not_past)) in
@@ -98,6 +99,7 @@ module _ {l : Lists} (h : IsMarket l) {m : Places} (f : IsMatching l m) where
   pub in_none_at : {p : ℕ} {pairs : List (ℕ × ℕ)} {q : ℕ} → IsWalk l m p pairs q → ((i : ℕ) → ¬ IsSuccessor l m q i) → IsInNone l m p
   in_none_at w none = record { absent = λ other x i inside has. goes_on w x i inside has none }
 
+  -- no exposed rotation has a proposer whose walk is as long as there are proposers
   pub in_none_after : {p : ℕ} {pairs : List (ℕ × ℕ)} {q : ℕ} → IsWalk l m p pairs q → length l.proposers ≤ length pairs → IsInNone l m p
   in_none_after w long = record { absent = λ other x i inside has. omega (arith, not_past w x i inside has, not_longer x) }
 
@@ -147,6 +149,7 @@ module _ {l : Lists} (h : IsMarket l) {m : Places} (f : IsMatching l m) where
       | inr x ↦ w.away k pos (omega arith) (sym (old_who k (omega arith)) ∙ e)
     ]
 
+    -- a step to another proposer than the first goes on
     pub walk_on : next ≢ p → IsWalk l m p (pairs ++ (q, r) ∷ []) next
     walk_on ne = record {
       empty = λ e. absurd (omega (arith, long));
@@ -157,6 +160,7 @@ module _ {l : Lists} (h : IsMarket l) {m : Places} (f : IsMatching l m) where
       still_away = λ _. ne;
     }
 
+    -- a step back to the first closes an exposed rotation
     pub walk_back : next ≡ p → IsRotationFrom l m p (pairs ++ (q, r) ∷ [])
     walk_back back = record { exposed = exposed_of_links l m (pairs ++ (q, r) ∷ []) h f (omega (arith, long)) links (λ k pos less e. away_on k pos (omega (arith, long)) (e ∙ first_is)); begins = first_is }
       where
@@ -189,6 +193,7 @@ step_read {l} {m} p place i q h made e x holder = record {
         let same : q ≡ entry l.reviewers (entry l.proposers p i) k = same_Some _ _ (sym holder ∙ named ∙ ap (option_map (entry l.reviewers (entry l.proposers p i))) some) in
         rw same (made.matching.reviewers.in_turn (entry l.proposers p i) k some)
 
+-- where no lower proposer is in any, the exposed rotation from p is the lowest
 pub lowest_of : {l : Lists} {m : Places} {p : ℕ} {pairs : List (ℕ × ℕ)} → ((q : ℕ) → q < p → IsInNone l m q) → IsRotationFrom l m p pairs → IsLowestExposed l m pairs
 lowest_of {l} {m} {p} {pairs} before w = record {
   exposed = w.exposed;
@@ -198,6 +203,7 @@ lowest_of {l} {m} {p} {pairs} before w = record {
   ];
 }
 
+-- where no proposer is in any exposed rotation, nothing is exposed
 pub nothing_of : {l : Lists} {m : Places} → IsMatching l m → ((q : ℕ) → q < length l.proposers → IsInNone l m q) → IsNothingExposed l m
 nothing_of {l} {m} f all = record {
   none = λ other x.

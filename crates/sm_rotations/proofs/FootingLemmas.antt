@@ -36,6 +36,7 @@ footings_more {i = i} {footings} f one two a = record {
     old : (k : ℕ) → k < i → footing_at (footings ++ f ∷ []) k ≡ footing_at footings k
     old k less = get_or_append_left footings (f ∷ []) (record { proposer = 0; reviewer = 0 }) k (omega (arith, a.one_each))
 
+-- the footings before and after an exposed rotation is eliminated are its steps
 pub steps_of : {l : Lists} {m n : Places} {rotation : List (ℕ × ℕ)} {before after : List Footing} → IsMatching l m → IsExposed l m rotation → AreFootings l m rotation (length rotation) before
     → n ≡ eliminated l m rotation → AreFootings l n rotation (length rotation) after → AreSteps l rotation before after
 steps_of {m = m} f x b is a = record { was = m; matching = f; exposed = x; before_are = b; after_are = rw is at a }
@@ -45,12 +46,15 @@ module _ {l : Lists} (h : IsMarket l) {rotation : List (ℕ × ℕ)} {before aft
   pub from_is : (footing_at before i).proposer ≡ place_of l.proposers (proposer_at rotation i) (reviewer_at rotation i)
   from_is = w.before_are.proposer i a ∙ sym (((exposed_of h w.matching w.exposed).paired i a).place_is)
 
+  -- a proposer comes to the reviewer of the next pair
   pub to_is : (footing_at after i).proposer ≡ place_of l.proposers (proposer_at rotation i) (target_at rotation i)
   to_is = w.after_are.proposer i a ∙ (elim_of h w.matching w.exposed).moved i a
 
+  -- which is further down its list
   pub down : (footing_at before i).proposer < (footing_at after i).proposer
   down = let next = (exposed_of h w.matching w.exposed).next i a in omega (arith, w.before_are.proposer i a, to_is, next.behind)
 
+  -- and a place of it
   pub on_list : (footing_at after i).proposer < length (row l.proposers (proposer_at rotation i))
   on_list = omega (arith, to_is, (w.exposed.next i a).on_list)
 
@@ -61,12 +65,15 @@ module _ {l : Lists} (h : IsMarket l) {rotation : List (ℕ × ℕ)} {before aft
       let rank : place_of l.reviewers (target_at rotation i) (proposer_at rotation (next_in rotation i)) ≡ standing l.reviewers w.was.reviewers (target_at rotation i) = pair.rank_is in
       w.before_are.reviewer i a ∙ sym rank
 
+  -- that reviewer comes to the proposer
   pub better_is : (footing_at after i).reviewer ≡ place_of l.reviewers (target_at rotation i) (proposer_at rotation i)
   better_is = w.after_are.reviewer i a ∙ sym ((new_pair (fit_of h w.matching) (exposed_of h w.matching w.exposed) (elim_of h w.matching w.exposed) i a).rank_is)
 
+  -- which is further up its list
   pub up : (footing_at after i).reviewer < (footing_at before i).reviewer
   up = let next = (exposed_of h w.matching w.exposed).next i a in omega (arith, w.before_are.reviewer i a, better_is, next.takes)
 
+  -- before, it stands no further down than the end of its list
   pub worse_on : (footing_at before i).reviewer ≤ length (row l.reviewers (target_at rotation i))
   worse_on =
       let pair = (exposed_of h w.matching w.exposed).paired (turn (length rotation) i) (turn_in (length rotation) i a) in
@@ -75,10 +82,12 @@ module _ {l : Lists} (h : IsMarket l) {rotation : List (ℕ × ℕ)} {before aft
 
 -- what they pass is what they are found to need
 module _ {l : Lists} (h : IsMarket l) {rotation : List (ℕ × ℕ)} {before after : List Footing} (w : AreSteps l rotation before after) {notes : List (Option ℕ)} {marks : List (List (Option ℕ))} where
+  -- what the footings find is what is found
   pub found_of_along : (i : ℕ) → IsFoundAlong rotation before after (length rotation) notes marks i → IsFound l rotation (length rotation) notes marks i
   found_of_along i (inl v) = inl v
   found_of_along i (inr v) = inr (record { pair = v.pair; pair_in = v.pair_in; between = rw (← from_is h w v.pair v.pair_in, ← to_is h w v.pair v.pair_in) v.between })
 
+  -- and what is found the footings find
   pub along_of_found : (i : ℕ) → IsFound l rotation (length rotation) notes marks i → IsFoundAlong rotation before after (length rotation) notes marks i
   along_of_found i (inl v) = inl v
   along_of_found i (inr v) = inr (record { pair = v.pair; pair_in = v.pair_in; between = rw (from_is h w v.pair v.pair_in, to_is h w v.pair v.pair_in) v.between })

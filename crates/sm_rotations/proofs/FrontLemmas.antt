@@ -46,6 +46,7 @@ module _ {l : Lists} (h : IsMarket l) {m : Places} (f : IsMatching l m) {ends : 
       r : ℕ
       r = entry l.proposers p j
 
+  -- a place whose reviewer would take the proposer is held
   pub takes_held : (p j : ℕ) → j < length (row l.proposers p) → WouldTake l m p j → IsHeld l ends p j
   takes_held p j on w = elim (held_cases l.reviewers m.reviewers (entry l.proposers p j)) [
     | inl v ↦ record { on_list = on; in_front = omega (arith, x.unmatched (entry l.proposers p j) v.held_is, h.proposers.returned p j on) }
@@ -62,6 +63,7 @@ module _ {l : Lists} (h : IsMarket l) {m : Places} (f : IsMatching l m) {ends : 
     matched = some;
   }
 
+  -- where the reviewer of the next held place is unmatched, there is no successor
   pub no_successor_past : (p i j : ℕ) → held m.proposers p ≡ Some i → IsHeldBehind l ends p i j → held m.reviewers (entry l.proposers p j) ≡ None → (k : ℕ) → ¬ IsSuccessor l m p k
   no_successor_past p i j e w none k y = elim (less_same_more k j) [
     | inl less ↦ w.between k (omega (arith, y.behind, standing-some l.proposers m.proposers p i e)) less (takes_held p k y.on_list y.takes)
@@ -76,6 +78,7 @@ module _ {l : Lists} (h : IsMarket l) {m : Places} (f : IsMatching l m) {ends : 
       no_some (Some x) s e = grind arith
 
 module _ {l : Lists} {m : Paired} (made : IsPairingOf l m) where
+  -- the holder of that reviewer is the next proposer, and without one there is no successor
   pub next_answer : (h : IsMarket l) {ends : List ℕ} → IsFront l m.places ends → (p i j : ℕ) → held m.places.proposers p ≡ Some i → IsHeldBehind l ends p i j → (o : Option ℕ) → held m.holders (entry l.proposers p j) ≡ o
       → MatchOption o ((k : ℕ) → ¬ IsSuccessor l m.places p k) (λ q. IsNext l m.places p q)
   next_answer h x p i j e w None is = λ k. no_successor_past h made.matching x p i j e w (holder_none made (entry l.proposers p j) is) k

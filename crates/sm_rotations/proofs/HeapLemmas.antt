@@ -24,20 +24,24 @@ not_before Less b e = e
 not_before Equal b e = refl
 not_before Greater b e = refl
 
+-- no other item has a lower proposer
 pub least_of_heap : (x : Reverse (ℕ × ℕ)) (xs : List (Reverse (ℕ × ℕ))) → IsUpperBound later_first x xs → All (λ y. x.0.0 ≤ y.0.0) xs
 least_of_heap x [] h = All-nil (λ y. x.0.0 ≤ y.0.0)
 least_of_heap x (y ∷ ys) h = All-cons (λ y. x.0.0 ≤ y.0.0) y ys (at_most y.0.0 x.0.0 (not_before _ _ h.0)) (least_of_heap x ys h.1)
 
 -- a rotation comes in
 module _ (x : Reverse (ℕ × ℕ)) (xs ys : List (Reverse (ℕ × ℕ))) (p : IsPermutation (x ∷ xs) ys) where
+  -- it stands there once more
   pub one_pushed : times_ready ys x.0.1 ≡ times_ready xs x.0.1 + 1
   one_pushed =
       omega (arith, num_true (nat_eq x.0.1 x.0.1) (eq-eqb x.0.1 x.0.1 refl), sum_by_pushed (λ z. cond (nat_eq z.0.1 x.0.1) 1 0) x xs ys p)
 
+  -- each other stands there as often as before
   pub others_pushed : (j : ℕ) → x.0.1 ≢ j → times_ready ys j ≡ times_ready xs j
   others_pushed j ne =
       omega (arith, num_false (nat_eq x.0.1 j) (ne_eqb x.0.1 j ne), sum_by_pushed (λ z. cond (nat_eq z.0.1 j) 1 0) x xs ys p)
 
+  -- so the heap has it once more
   pub one_more : (rotation : List (ℕ × ℕ)) (k : ℕ) → x.0.1 ≡ k → IsLead rotation x.0.0 → IsOneMore rotation k xs ys
   one_more rotation k is lead = record {
     others = λ j ne. others_pushed j (λ e. ne (sym e ∙ is));
@@ -50,22 +54,27 @@ module _ (x : Reverse (ℕ × ℕ)) (xs ys : List (Reverse (ℕ × ℕ))) (p : I
 
 -- a rotation goes out
 module _ (x : Reverse (ℕ × ℕ)) (xs ys : List (Reverse (ℕ × ℕ))) (p : IsPermutation xs (x ∷ ys)) where
+  -- it stands there once less
   pub one_popped : times_ready ys x.0.1 + 1 ≡ times_ready xs x.0.1
   one_popped =
       omega (arith, num_true (nat_eq x.0.1 x.0.1) (eq-eqb x.0.1 x.0.1 refl), sum_by_popped (λ z. cond (nat_eq z.0.1 x.0.1) 1 0) x xs ys p)
 
+  -- each other stands there as often as before
   pub others_popped : (j : ℕ) → j ≢ x.0.1 → times_ready ys j ≡ times_ready xs j
   others_popped j ne =
       omega (arith, num_false (nat_eq x.0.1 j) (ne_eqb x.0.1 j (λ e. ne (sym e))), sum_by_popped (λ z. cond (nat_eq z.0.1 j) 1 0) x xs ys p)
 
+  -- what goes out is a rotation with its lowest-numbered proposer
   pub entry_popped : (rotations : List (List (ℕ × ℕ))) → All (IsEntry rotations) xs → IsEntry rotations x
   entry_popped rotations all = All-head (IsEntry rotations) x ys (All-permutation (IsEntry rotations) xs (x ∷ ys) p all)
 
+  -- and so is each that stays
   pub entries_popped : (rotations : List (List (ℕ × ℕ))) → All (IsEntry rotations) xs → All (IsEntry rotations) ys
   entries_popped rotations all = All-tail (IsEntry rotations) x ys (All-permutation (IsEntry rotations) xs (x ∷ ys) p all)
 
 -- the heap at first, rotation after rotation
 module _ {rotations : List (List (ℕ × ℕ))} {unmet : List ℕ} where
+  -- a rotation that needs no other comes in
   pub first_more : {k : ℕ} {ready after : List (Reverse (ℕ × ℕ))} → k < length rotations → slice_index_or unmet k 0 ≡ 0 → AreReadyAtFirst rotations unmet k ready → IsOneMore (rotation_at rotations k) k ready after
       → AreReadyAtFirst rotations unmet (k + 1) after
   first_more {k} {ready} {after} g none r o = record {
@@ -81,6 +90,7 @@ module _ {rotations : List (List (ℕ × ℕ))} {unmet : List ℕ} where
     later = λ j a. omega (arith, o.others j (omega arith), r.later j (omega arith));
   }
 
+  -- one that needs others is passed over
   pub first_past : {k : ℕ} {ready : List (Reverse (ℕ × ℕ))} → slice_index_or unmet k 0 ≢ 0 → AreReadyAtFirst rotations unmet k ready → AreReadyAtFirst rotations unmet (k + 1) ready
   first_past {k} {ready} some r = record {
     entries = r.entries;
@@ -99,6 +109,7 @@ module _ {rotations : List (List (ℕ × ℕ))} {unmet : List ℕ} where
 module _ {rotations : List (List (ℕ × ℕ))} (followers : List ℕ) (before : List ℕ) (ready_before : List (Reverse (ℕ × ℕ))) where
   module _ {e j : ℕ} {unmet : List ℕ} {ready : List (Reverse (ℕ × ℕ))} (inside : e < length followers) (is : slice_index_or followers e 0 ≡ j) (within : j < length unmet)
       (r : IsReleased rotations (take e followers) before ready_before unmet ready) (enough : times followers j ≤ slice_index_or before j 0) where
+    -- a follower has an unmet need
     pub some_unmet : 0 < slice_index_or unmet j 0
     some_unmet = omega (arith, r.counts j, times_more followers e j inside is, times_part followers (e + 1) j)
 
@@ -114,6 +125,7 @@ module _ {rotations : List (List (ℕ × ℕ))} (followers : List ℕ) (before :
       | inr ne ↦ omega (arith, elsewhere n i ne, r.counts i, times_same followers e i inside (λ f. ne (sym f ∙ is)))
     ]
 
+    -- one need of a follower is met, and others are left
     pub release_kept : (n : ℕ) → n + 1 ≡ slice_index_or unmet j 0 → slice_index_or (set unmet j n) j 0 ≢ 0 → IsReleased rotations (take (e + 1) followers) before ready_before (set unmet j n) ready
     release_kept n less ne = record {
       counts = counts_on n less;
@@ -127,6 +139,7 @@ module _ {rotations : List (List (ℕ × ℕ))} (followers : List ℕ) (before :
       entries = r.entries;
     }
 
+    -- the last need of a follower is met, and it comes into the heap
     pub release_fallen : (n : ℕ) {after : List (Reverse (ℕ × ℕ))} → n + 1 ≡ slice_index_or unmet j 0 → slice_index_or (set unmet j n) j 0 ≡ 0 → j < length rotations → IsOneMore (rotation_at rotations j) j ready after
         → IsReleased rotations (take (e + 1) followers) before ready_before (set unmet j n) after
     release_fallen n {after} less none g o = record {

@@ -9,6 +9,7 @@ use Rattle.sm_rotations.specs.Marking.{note_of, marks_of, IsBetween, Adds}
 use Rattle.sm_rotations.specs.Footings.{footing_at, IsFoundAlong}
 use Rattle.sm_rotations.specs.declared.predecessors.Footing.{Footing}
 
+-- what is marked at the next place is added
 pub between_some : {marks : List (Option ℕ)} {from to : ℕ} {xs ys : List ℕ} (x : ℕ) → from < to → note_of marks to ≡ Some x → Adds (λ i. IsBetween marks from to i) xs ys → Adds (λ i. IsBetween marks from (to + 1) i) xs (ys ++ x ∷ [])
 between_some {marks} {from} {to} {xs} {ys} x low is a =
     adds_join (λ i. IsBetween marks from (to + 1) i) a (adds_one (λ i. note_of marks to ≡ Some i) ys x is (λ i e. same_Some _ _ (sym e ∙ is)))
@@ -16,6 +17,7 @@ between_some {marks} {from} {to} {xs} {ys} x low is a =
     (λ i e. record { place = to; behind = low; before = omega arith; marked = e })
     between_split
 
+-- where nothing is marked there, nothing is added
 pub between_none : {marks : List (Option ℕ)} {from to : ℕ} {xs ys : List ℕ} → note_of marks to ≡ None → Adds (λ i. IsBetween marks from to i) xs ys → Adds (λ i. IsBetween marks from (to + 1) i) xs ys
 between_none {marks} {from} {to} {xs} {ys} is a =
     adds_join (λ i. IsBetween marks from (to + 1) i) a (adds_none (λ i. note_of marks to ≡ Some i) ys (λ i e. none-some _ (sym is ∙ e)))
@@ -30,6 +32,7 @@ module _ {rotation : List (ℕ × ℕ)} {before after : List Footing} {notes : L
   found_wider (inr w) = inr (record { pair = w.pair; pair_in = omega (arith, w.pair_in); between = w.between })
 
   module _ {n : ℕ} (p : ℕ) (is : p ≡ proposer_at rotation n) {from to : ℕ} (from_is : from ≡ (footing_at before n).proposer) (to_is : to ≡ (footing_at after n).proposer) where
+    -- what the proposer of one more pair is found to need is added
     pub found_more : {xs ys zs ws : List ℕ} → Adds (λ i. IsFoundAlong rotation before after n notes marks i) xs ys → Adds (λ i. note_of notes p ≡ Some i) ys zs → Adds (λ i. IsBetween (marks_of marks p) from to i) zs ws
         → Adds (λ i. IsFoundAlong rotation before after (n + 1) notes marks i) xs ws
     found_more a b c = adds_join (λ i. IsFoundAlong rotation before after (n + 1) notes marks i)

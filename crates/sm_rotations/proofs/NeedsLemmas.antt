@@ -15,17 +15,21 @@ pub use Rattle.sm_theory.proofs.Chains.Marking.{marks_read, marks_written, as_ma
 pub pairs_read : (rotations : List Rotation) (j : ℕ) (r : Rotation) → j < length rotations → r ≡ get_or rotations j r → r.pairs.items ≡ rotation_at (rotations_of rotations) j
 pairs_read rotations j r inside is = ap (λ (r : Rotation). r.pairs.items) is ∙ sym (get_or-map (λ (r : Rotation). r.pairs.items) rotations j r [] inside)
 
+-- there is one list of pairs for each rotation that is held
 pub as_many : (rotations : List Rotation) → length (rotations_of rotations) ≡ length rotations
 as_many rotations = length-map rotations (λ (r : Rotation). r.pairs.items)
 
 -- a stage and the rotation exposed at it
 module _ {l : Lists} {first m : Places} {rotations : List (List (ℕ × ℕ))} (chain : AreEliminable l first rotations) {j : ℕ} (inside : j < length rotations) (is : m ≡ stage l first rotations j) where
+  -- rotation j is exposed at its stage
   pub exposed_here : (pairs : List (ℕ × ℕ)) → pairs ≡ rotation_at rotations j → IsExposed l m pairs
   exposed_here pairs e = rw (is, e) (chain.exposed j inside)
 
+  -- and eliminating it leads to the next stage
   pub next_stage : {n : Places} (pairs : List (ℕ × ℕ)) → pairs ≡ rotation_at rotations j → n ≡ eliminated l m pairs → n ≡ stage l first rotations (j + 1)
   next_stage pairs e n_is = let same : j + 1 ≡ suc j = omega arith in rw same (n_is ∙ ap (λ m. eliminated l m pairs) is ∙ ap (eliminated l (stage l first rotations j)) e)
 
+-- what follows from a property of a success holds of it
 pub IfOk-more : {X E : Type 0} (r : Result X E) (P Q : X → Type 0) → ((x : X) → P x → Q x) → IfOk r P → IfOk r Q
 IfOk-more (Ok x) P Q f p = f x p
 IfOk-more (Err e) P Q f p = tt

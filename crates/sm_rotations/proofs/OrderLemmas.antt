@@ -15,6 +15,7 @@ use Rattle.sm_theory.proofs.Core.Correspondence.{Reaches, Decided-reaches, reach
 use Rattle.sm_theory.proofs.Bridge.Rotation.{exposed_of, elim_of, eliminated_stable}
 
 module _ {s : Sides} {m k n : Stand} {c d : Cycle} (x : Exposed s m c) (y : Exposed s m d) (e : Elim s m c k) (f : Elim s m d n) (i j : ℕ) (h : i < c.size) (g : j < d.size) (same : d.who j ≡ c.who i) where
+  -- each proposer comes to the same place by either
   pub same_move : (p : ℕ) → k.a p ≡ n.a p
   same_move p = elim (moves_or_not c p) [
     | inl w ↦
@@ -30,6 +31,7 @@ module _ {s : Sides} {m k n : Stand} {c d : Cycle} (x : Exposed s m c) (y : Expo
     ]
   ]
 
+-- so eliminating either leaves the same matching
 pub same_elimination : {l : Lists} {m : Places} {c d : List (ℕ × ℕ)} → IsMarket l → IsStable l m → IsExposed l m c → IsExposed l m d → (i j : ℕ) → i < length c → j < length d → proposer_at d j ≡ proposer_at c i → eliminated l m c ≡ eliminated l m d
 same_elimination h s x y i j a b same = stable_equal h (eliminated_stable h s x) (eliminated_stable h s y)
     (same_move (exposed_of h s.matching x) (exposed_of h s.matching y) (elim_of h s.matching x) (elim_of h s.matching y) i j a b same)
@@ -47,11 +49,13 @@ module _ {s : Sides} {t : ℕ} {M : ℕ → Stand} {c : ℕ → Cycle} (ch : Cha
     exposed_ready ch (reaches_closed ch hn) (λ i _. Decided-reaches ch hn i) hn (reaches_of ch hn) k h x,
   )
 
+  -- what isn't reached, while all that it needs is, is exposed
   pub ready_is_exposed : {n : Stand} (hn : Stable s n) (k : ℕ) → k < t → (Reaches ch n k → ⊥) → ((i : ℕ) → i < t → Needs s (c i) (c k) → Reaches ch n i) → Exposed s n (c k)
   ready_is_exposed hn k h out ready = exposed_there ch (reaches_closed ch hn) hn (reaches_of ch hn) k h out ready
 
   -- eliminating one of the chain's rotations reaches that one in addition, and no other
   module _ {n m : Stand} (hn : Stable s n) (hm : Stable s m) (k : ℕ) (h : k < t) (x : Exposed s n (c k)) (e : Elim s n (c k) m) where
+    -- what was reached is reached still
     pub still_reached : (j : ℕ) → j < t → Reaches ch n j → Reaches ch m j
     still_reached j g r =
         let p : ℕ = (c j).who 0 in
@@ -70,12 +74,14 @@ module _ {s : Sides} {t : ℕ} {M : ℕ → Stand} {c : ℕ → Cycle} (ch : Cha
         let two : s.place p ((c k).has w.at) ≡ (M k).a p = rw w.holds at (((ch.exposed k h).paired w.at w.below).place_is) in
         sym one ∙ two
 
+    -- the rotation that was eliminated is reached now
     pub now_reached : Reaches ch m k
     now_reached =
         let p : ℕ = (c k).who 0 in
         let mv = moves_at (c k) 0 x.some in
         reached_by hm k p h mv (omega (arith, after_k p mv, up_at (way_of ch) k p h mv))
 
+    -- and no other that wasn't
     pub no_other : (j : ℕ) → j < t → j ≢ k → Reaches ch m j → Reaches ch n j
     no_other j g ne r =
         let p : ℕ = (c j).who 0 in

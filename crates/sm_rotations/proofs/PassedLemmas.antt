@@ -91,11 +91,14 @@ module _ {l : Lists} (h : IsMarket l) {first : Places} {rotations : List (List (
 
     -- eliminating one of the chain's rotations passes that one in addition, and no other
     module _ (k : ℕ) (g : k < length rotations) (x : IsExposed l m (rotation_at rotations k)) where
+      -- the rotation that was eliminated is passed
       pub now_passed : IsPassed l first rotations (eliminated l m (rotation_at rotations k)) k
       now_passed = of_reached (eliminated_stable h s x) k g (now_reached (chain_of h chain) (stable_of h s) (stable_of h (eliminated_stable h s x)) k g (exposed_of h s.matching x) (elim_of h s.matching x))
 
+      -- what was passed is passed still
       pub still_passed : (j : ℕ) → j < length rotations → IsPassed l first rotations m j → IsPassed l first rotations (eliminated l m (rotation_at rotations k)) j
       still_passed j a e = of_reached (eliminated_stable h s x) j a (still_reached (chain_of h chain) (stable_of h s) (stable_of h (eliminated_stable h s x)) k g (exposed_of h s.matching x) (elim_of h s.matching x) j a (to_reached s j a e))
 
+      -- and no other is passed now
       pub no_other_passed : (j : ℕ) → j < length rotations → j ≢ k → IsPassed l first rotations (eliminated l m (rotation_at rotations k)) j → IsPassed l first rotations m j
       no_other_passed j a ne e = of_reached s j a (no_other (chain_of h chain) (stable_of h s) (stable_of h (eliminated_stable h s x)) k g (exposed_of h s.matching x) (elim_of h s.matching x) j a ne (to_reached (eliminated_stable h s x) j a e))

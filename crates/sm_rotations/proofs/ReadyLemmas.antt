@@ -60,6 +60,7 @@ module _ {l : Lists} (h : IsMarket l) {first : Places} {rotations : List (List (
     in_heap_met : (k : ℕ) → k < length rotations → 0 < times_ready ready k → slice_index_or unmet k 0 ≡ 0
     in_heap_met k g some = elim (eq_or_ne (slice_index_or unmet k 0) 0) [ inl e ↦ e | inr ne ↦ absurd (omega (arith, r.waiting k g ne)) ]
 
+    -- what stands in the heap stands there once
     pub in_heap_once : (k : ℕ) → k < length rotations → 0 < times_ready ready k → times_ready ready k ≡ 1
     in_heap_once k g some = r.once k g (in_heap_out k g some) (in_heap_met k g some)
 
@@ -109,9 +110,11 @@ module _ {l : Lists} (h : IsMarket l) {first : Places} {rotations : List (List (
           (ap not (now_passed h chain s k g x))
           (λ i a ne. ap not (same_bool (is_passed l first rotations m i) (is_passed l first rotations (eliminated l m (rotation_at rotations k)) i) (still_passed h chain s k g x i a) (no_other_passed h chain s k g x i a ne)))
 
+      -- no rotation stands among the followers of the first more often than it has unmet needs
       pub enough : (j : ℕ) → j < length rotations → times (row followers k) j ≤ slice_index_or unmet j 0
       enough j a = omega (arith, fewer j, r.counts j a)
 
+      -- with the needs met that the first met, the heap is right for the matching behind it
       pub ready_more : {unmet_after : List ℕ} {rest ready_after : List (Reverse (ℕ × ℕ))}
           → ((j : ℕ) → j ≢ k → times_ready rest j ≡ times_ready ready j) → times_ready rest k + 1 ≡ times_ready ready k → All (IsEntry rotations) rest
           → length unmet_after ≡ length unmet → IsReleased rotations (row followers k) unmet rest unmet_after ready_after → AreReady l first rotations followers (eliminated l m (rotation_at rotations k)) unmet_after ready_after

@@ -37,9 +37,11 @@ renumbered_start {written = written} {noted} none none' long empty = rw (none, n
 
 -- one more number
 module _ (numbers : List ℕ) (k : ℕ) where
+  -- the earlier numbers stay
   pub number_before : (n : ℕ) → n < length numbers → number_at (numbers ++ k ∷ []) n ≡ number_at numbers n
   number_before n less = get_or_append_left numbers (k ∷ []) 0 n less
 
+  -- and the new one is the last
   pub number_new : (n : ℕ) → n ≡ length numbers → number_at (numbers ++ k ∷ []) n ≡ k
   number_new n e = get_or_push numbers k 0 n (sym e)
 
@@ -58,6 +60,7 @@ module _ (numbers : List ℕ) (k : ℕ) where
       (omega arith, rw (number_new (length numbers) refl) some)
       (λ i p ne. (omega (arith, p.0), p.1))
 
+  -- a rotation that doesn't need it keeps its list
   pub needs_without : (followers : List (List ℕ)) (j : ℕ) {list : List ℕ} → times (row followers k) j ≡ 0 → AreNewNeeds followers numbers (length numbers) j list
       → AreNewNeeds followers (numbers ++ k ∷ []) (length numbers + 1) j list
   needs_without followers j none f = rising_like (needs_before followers (length numbers) j (omega arith) f)
@@ -74,6 +77,7 @@ module _ {l : Lists} (h : IsMarket l) {first : Places} {rotations : List (List (
     {followers : List (List ℕ)} where
   -- a rotation is written, and its list is taken away
   module _ {m : Places} {written : List (List (ℕ × ℕ))} {noted needs : List (List ℕ)} (r : AreRenumbered l first rotations followers m written noted needs) (k : ℕ) (g : k < length rotations) where
+    -- all that is noted is still a number of what is written
     pub lower_still : (j a : ℕ) → a < length (row (set noted k []) j) → slice_index_or (row (set noted k []) j) a 0 < length written
     lower_still j a less = elim (eq_or_ne j k) [
       | inl same ↦ absurd (let none : length (row (set noted k []) j) ≡ 0 = ap (λ j. length (row (set noted k []) j)) same ∙ ap length (get_or-set_same noted k [] [] (omega (arith, r.noted_each))) in omega arith)
@@ -114,6 +118,7 @@ module _ {l : Lists} (h : IsMarket l) {first : Places} {rotations : List (List (
           old : AreNewNeeds followers r.numbers (length r.numbers) j (row noted j)
           old = rw r.numbers_each (r.noted_are j a (λ e. left (still_passed h chain s k g x j a e)))
 
+      -- with its followers noted, what is written, noted and needed is right behind it
       pub renumbered_more : {n : Places} {written_after : List (List (ℕ × ℕ))} {needs_after : List (List ℕ)} → n ≡ eliminated l m (rotation_at rotations k)
           → written_after ≡ written ++ turned ∷ [] → needs_after ≡ needs ++ row noted k ∷ [] → AreRenumbered l first rotations followers n written_after after needs_after
       renumbered_more to_is more more' = rw (to_is, more, more') (record {

@@ -17,6 +17,7 @@ use Rattle.sm_rotations.proofs.ChainingLemmas.{rotation_before, rotation_new, st
 
 -- the stack without its top
 module _ {l : Lists} {m : Places} {stack rest : List ℕ} {spots : List (Option ℕ)} (k : IsStack l m stack spots) (n : ℕ) (long : n + 1 ≡ length stack) (short : length rest ≡ n) (same : (j : ℕ) → j < n → slice_index rest j ≡ slice_index stack j) where
+  -- without its top a stack is one still
   pub stack_popped : IsStack l m rest (set spots (slice_index stack n) None)
   stack_popped = record {
     spots_each = length-set spots (slice_index stack n) None ∙ k.spots_each;

@@ -53,12 +53,10 @@ like_needs a b (inr w) =
     })
 
 module _ (rotation : List (ℕ × ℕ)) (from : ℕ) (inside : from < length rotation) where
-  abbrev begun : List (ℕ × ℕ)
-  begun = drop from rotation ++ take from rotation
-
   front_long : length (drop from rotation) ≡ length rotation - from
   front_long = length-drop from rotation
 
+  -- the cycle begun at another pair is as long
   pub begun_long : length (drop from rotation ++ take from rotation) ≡ length rotation
   begun_long = omega (arith, length-append (drop from rotation) (take from rotation), front_long, length-take-le from rotation (omega arith))
 
@@ -69,6 +67,7 @@ module _ (rotation : List (ℕ × ℕ)) (from : ℕ) (inside : from < length rot
     pub pair : slice_index_or (drop from rotation ++ take from rotation) i (0, 0) ≡ slice_index_or rotation at (0, 0)
     pub is : (at ≡ from + i) ⊎ (at + length rotation ≡ from + i)
 
+  -- each pair of the one has its spot on the other
   pub spot : (i : ℕ) → i < length rotation → Spot i
   spot i h = elim (lt_or_le (from + i) (length rotation)) [
     | inl less ↦ record {
@@ -129,6 +128,7 @@ module _ (rotation : List (ℕ × ℕ)) (from : ℕ) (inside : from < length rot
     ]
   ]
 
+  -- the pair behind a pair has the spot behind its spot
   pub spot_next : (i : ℕ) (v : Spot i) (w : Spot (turn (length rotation) i)) → i < length rotation → w.at ≡ turn (length rotation) v.at
   spot_next i v w h = same_spot w.at (turn (length rotation) v.at) (turn (length rotation) i) w.below (turn_in (length rotation) v.at v.below) w.is (turned_spot i v h)
 
@@ -148,6 +148,7 @@ module _ (rotation : List (ℕ × ℕ)) (from : ℕ) (inside : from < length rot
       let w = spot (turn (length rotation) i) (turn_in (length rotation) i h) in
       ap (λ n. proposer_at (drop from rotation ++ take from rotation) (turn n i)) begun_long ∙ who (turn (length rotation) i) w ∙ ap (proposer_at rotation) (spot_next i v w h)
 
+  -- each pair of the cycle begun there goes as one of the rotation
   pub begun_among : IsAmong rotation (drop from rotation ++ take from rotation)
   begun_among = record {
     each = λ i a.
@@ -162,6 +163,7 @@ module _ (rotation : List (ℕ × ℕ)) (from : ℕ) (inside : from < length rot
     | inr more ↦ record { at = k - from; below = omega arith; is = inl (omega arith) }
   ]
 
+  -- each pair of the rotation goes as one of the cycle begun there
   pub among_begun : IsAmong (drop from rotation ++ take from rotation) rotation
   among_begun = record {
     each = λ k a.
@@ -178,6 +180,7 @@ module _ (rotation : List (ℕ × ℕ)) (from : ℕ) (inside : from < length rot
         };
   }
 
+  -- where the rotation is exposed, so is the cycle begun at another pair
   pub begun_exposed : {l : Lists} {m : Places} → IsMarket l → IsMatching l m → IsExposed l m rotation → IsExposed l m (drop from rotation ++ take from rotation)
   begun_exposed {l} {m} h f x =
       let y = exposed_of h f x in
@@ -195,6 +198,7 @@ module _ (rotation : List (ℕ × ℕ)) (from : ℕ) (inside : from < length rot
             rw (who i v, goes_to i v (omega (arith, begun_long))) (y.next v.at v.below);
       })
 
+  -- its first proposer is that of the pair at which it begins
   pub begun_first : proposer_at (drop from rotation ++ take from rotation) 0 ≡ proposer_at rotation from
   begun_first =
       let v = spot 0 (omega arith) in
@@ -202,19 +206,24 @@ module _ (rotation : List (ℕ × ℕ)) (from : ℕ) (inside : from < length rot
       who 0 v ∙ ap (proposer_at rotation) e
 
 module _ {l : Lists} {m : Places} {rotation turned : List (ℕ × ℕ)} (h : IsMarket l) (s : IsStable l m) (x : IsExposed l m rotation) (t : IsTurned rotation turned) where
+  -- the turned rotation is exposed
   pub turned_exposed : IsExposed l m turned
   turned_exposed = rw t.is (begun_exposed rotation t.from t.lowest.inside h s.matching x)
 
+  -- it begins with the lowest-numbered proposer
   pub turned_first : proposer_at turned 0 ≡ proposer_at rotation t.from
   turned_first = rw t.is (begun_first rotation t.from t.lowest.inside)
 
+  -- and eliminating it leaves the same matching
   pub turned_eliminated : eliminated l m turned ≡ eliminated l m rotation
   turned_eliminated = sym (same_elimination h s x turned_exposed t.from 0 t.lowest.inside turned_exposed.not_empty turned_first)
 
 -- what is begun at another pair needs the same, and is needed by the same
 module _ {l : Lists} {early late early' late' : List (ℕ × ℕ)} (t : IsTurned early early') (v : IsTurned late late') where
+  -- where one needs another, so do they turned
   pub turned_needs : IsNeededBy l early late → IsNeededBy l early' late'
   turned_needs need = like_needs (rw t.is (among_begun early t.from t.lowest.inside)) (rw v.is (among_begun late v.from v.lowest.inside)) need
 
+  -- and the other way round
   pub needs_of_turned : IsNeededBy l early' late' → IsNeededBy l early late
   needs_of_turned need = like_needs (rw t.is (begun_among early t.from t.lowest.inside)) (rw v.is (begun_among late v.from v.lowest.inside)) need

@@ -38,6 +38,7 @@ pub same_number : (x : Option ℕ) (i : ℕ) → option_eq eqb x (Some i) ≡ tr
 same_number None i e = absurd (grind arith)
 same_number (Some a) i e = ap Some (eqb-true a i e)
 
+-- what compares different isn't the number
 pub other_number : (x : Option ℕ) (i : ℕ) → option_eq eqb x (Some i) ≡ false → x ≢ Some i
 other_number x i e is =
     let yes : option_eq eqb x (Some i) ≡ true = ap (λ x. option_eq eqb x (Some i)) is ∙ eq-eqb i i refl in
@@ -118,6 +119,7 @@ rising_push {P} {Q} {list} i f low forth here back = record {
     read_new : (a : ℕ) → length list ≡ a → slice_index (list ++ i ∷ []) a ≡ i
     read_new a e = get_or_push list i 0 a e
 
+-- a rising list of what has a property is one of what has another that holds of the same
 pub rising_like : {P Q : ℕ → Type 0} {list : List ℕ} → IsRisingListOf P list → ((k : ℕ) → P k → Q k) → ((k : ℕ) → Q k → P k) → IsRisingListOf Q list
 rising_like f forth back = record {
   rising = f.rising;
@@ -157,6 +159,7 @@ module _ {l : Lists} {rotations : List (List (ℕ × ℕ))} {followers : List (L
       let j : ℕ = slice_index_or (row followers i) a 0 in
       (f.sound i j (count_some (λ x. nat_eq x j) (row followers i) a 0 inside (eq-eqb j j refl))).0
 
+  -- the followers are numbers of lists
   pub followers_in_range : {n : ℕ} → AreFollowers l rotations n followers → n ≤ length rotations → (i a : ℕ) → a < length (row followers i) → slice_index_or (row followers i) a 0 < length followers
   followers_in_range f few i a inside = omega (arith, followers_lower f i a inside, f.one_each)
 

@@ -25,6 +25,7 @@ module _ {l : Lists} (h : IsMarket l) {m : Places} (s : IsStable l m) where
     ];
   }
 
+  -- where the proposer that has p's successor is at its worst, so is p
   pub worst_before : (p q : ℕ) → IsNext l m p q → IsAtWorst l m q → IsAtWorst l m p
   worst_before p q x w = record {
     worst = λ n sn. elim (lt_or_le (standing l.proposers m.proposers p) (standing l.proposers n.proposers p)) [
@@ -36,6 +37,7 @@ module _ {l : Lists} (h : IsMarket l) {m : Places} (s : IsStable l m) where
   }
 
   module _ {rotation : List (ℕ × ℕ)} (x : IsExposed l m rotation) where
+    -- who is at its worst stays there once a rotation is eliminated
     pub worst_kept : (p : ℕ) → IsAtWorst l m p → IsAtWorst l (eliminated l m rotation) p
     worst_kept p w = record { worst = λ n sn. omega (arith, w.worst n sn, never_up (stable_of h s).fit (exposed_of h s.matching x) (elim_of h s.matching x) p) }
 

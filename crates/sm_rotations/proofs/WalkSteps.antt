@@ -21,9 +21,11 @@ false_true e = grind arith
 
 -- where the top has no successor, or the one that has it is finished, no stable matching is worse for the top
 module _ {l : Lists} (h : IsMarket l) {m : Places} (s : IsStable l m) {stack : List ℕ} (top : ℕ) (last : top + 1 ≡ length stack) where
+  -- without a successor the top is at its worst
   pub over_at_end : ((i : ℕ) → ¬ IsSuccessor l m (slice_index stack top) i) → IsTopAtWorst l m stack
   over_at_end none = record { top = top; last = last; worst = worst_at_end h s (slice_index stack top) none }
 
+  -- so it is where the one that has its successor is
   pub over_before : (q : ℕ) → IsNext l m (slice_index stack top) q → IsAtWorst l m q → IsTopAtWorst l m stack
   over_before q x w = record { top = top; last = last; worst = worst_before h s (slice_index stack top) q x w }
 
@@ -57,25 +59,30 @@ begins {l} {first} n e s = record {
   };
 }
 
+-- with an empty stack, nobody finished and no rotation found, the walk begins at a stable matching
 pub walk_begins : {l : Lists} {first m : Places} {rotations : List (List (ℕ × ℕ))} {finished : List Bool} {stack : List ℕ} {spots : List (Option ℕ)} (n : ℕ) → n ≡ length l.proposers → IsStable l first
     → m ≡ first → rotations ≡ [] → finished ≡ replicate n false → stack ≡ [] → spots ≡ replicate n None → IsWalking l first m rotations finished stack spots
 walk_begins n e s same no_rotations none_finished no_stack no_spots = rw (same, no_rotations, none_finished, no_stack, no_spots) (begins n e s)
 
 -- each step goes on with the walk
 module _ {l : Lists} (h : IsMarket l) {first m : Places} {rotations : List (List (ℕ × ℕ))} {finished : List Bool} {stack : List ℕ} {spots : List (Option ℕ)} (w : IsWalking l first m rotations finished stack spots) where
+  -- the walk with the top taken off and finished
   pub walk_over : {rest : List ℕ} {after : List (Option ℕ)} {new : List Bool} → IsTopAtWorst l m stack → IsTopTakenOff stack rest spots after finished new → IsWalking l first m rotations new rest after
   walk_over a x =
       let same : a.top ≡ x.top = omega (arith, a.last, x.last) in
       let worst : IsAtWorst l m (slice_index stack x.top) = rw same at a.worst in
       rw (x.finished, x.spots) (walk_finishes h w x.top x.last x.short x.same worst)
 
+  -- the walk with one more on the stack
   pub walk_on : {more : List ℕ} {after : List (Option ℕ)} {q : ℕ} → GoesOn l m stack spots finished q → more ≡ stack ++ q ∷ [] → after ≡ set spots q (Some (length stack)) → IsWalking l first m rotations finished more after
   walk_on {more} {after} {q} x e f = rw (e, f) (walk_goes_on h w q x.in_range x.off x.next)
 
   module _ {from : ℕ} (b : LeadsBack l m stack from) {pairs : List (ℕ × ℕ)} (a : ArePairsOf l m stack from pairs) where
+    -- where the top leads back to a spot, the pairs from there on are exposed
     pub exposed_back : IsExposed l m pairs
     exposed_back = stack_exposed h w.stable from b.top w.on_stack a b.from_in b.last b.next
 
+    -- the walk with these pairs taken off and eliminated
     pub walk_back : {n : Places} {grown : List (List (ℕ × ℕ))} {rest : List ℕ} {after : List (Option ℕ)} → AreTakenOff stack from spots after → rest ≡ take from stack → n ≡ eliminated l m pairs → grown ≡ rotations ++ pairs ∷ []
         → IsWalking l first n grown finished rest after
     walk_back {n} {grown} {rest} {after} t cut e f =
@@ -135,6 +142,7 @@ pub steps_left : Lists → Places → List Bool → List ℕ → List (Option �
 steps_left l m finished stack spots = (2 * length l.proposers + 2) * places_below l m + 2 * sum_below (open_at finished spots) (length l.proposers) + length stack
 
 module _ {l : Lists} {m : Places} {finished : List Bool} {stack : List ℕ} {spots : List (Option ℕ)} (k : IsStack l m stack spots) where
+  -- taking off and finishing the top leaves fewer steps
   pub fewer_over : {rest : List ℕ} {after : List (Option ℕ)} {new : List Bool} → length finished ≡ length l.proposers → IsTopTakenOff stack rest spots after finished new
       → steps_left l m new rest after < steps_left l m finished stack spots
   unfolding steps_left open_at
@@ -165,10 +173,12 @@ module _ {l : Lists} {m : Places} {finished : List Bool} {stack : List ℕ} {spo
       ] in
       omega (arith, sums_less (open_at finished (set spots q (Some (length stack)))) (open_at finished spots) (length l.proposers) q le x.in_range less, length_push stack q)
 
+  -- one more on the stack leaves fewer steps
   pub fewer_on : {more : List ℕ} {after : List (Option ℕ)} {q : ℕ} → GoesOn l m stack spots finished q → more ≡ stack ++ q ∷ [] → after ≡ set spots q (Some (length stack))
       → steps_left l m finished more after < steps_left l m finished stack spots
   fewer_on x e f = rw (e, f) (on_fewer x)
 
+-- taking off a rotation and eliminating it leaves fewer steps
 pub fewer_back : {l : Lists} {m : Places} {stack : List ℕ} (n : Places) (finished : List Bool) (rest : List ℕ) (spots after : List (Option ℕ)) {from : ℕ} → places_below l n < places_below l m → LeadsBack l m stack from → rest ≡ take from stack
     → steps_left l n finished rest after < steps_left l m finished stack spots
 unfolding steps_left open_at

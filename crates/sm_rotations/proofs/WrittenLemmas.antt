@@ -38,12 +38,14 @@ pub record HasFollowers (l : Lists) (first : Places) (rotations : List (List (�
   pub chain : IsCompleteChain l first rotations
   pub are : AreFollowers l rotations (length rotations) followers
 
+-- a complete chain and the followers of its rotations, as they are held
 pub has_followers : {l : Lists} {first : Places} (values slice : List Rotation) (vectors lists : List (Vec ℕ Global)) → slice ≡ values → lists ≡ vectors → IsMarket l → IsCompleteChain l first (rotations_of values)
     → AreFollowers l (rotations_of values) (length values) (rows_of vectors) → HasFollowers l first (rotations_of slice) (rows_of lists)
 has_followers {l} {first} values slice vectors lists is same h chain are =
     rw (is, same) (record { market = h; chain = chain; are = rw (as_many values) are })
 
 module _ {l : Lists} {first : Places} {rotations : List (List (ℕ × ℕ))} {followers : List (List ℕ)} (u : HasFollowers l first rotations followers) where
+  -- with nothing written the heap has what is ready at first
   pub written_start : {written : List (List (ℕ × ℕ))} (unmet : List ℕ) (ready : List (Reverse (ℕ × ℕ))) → written ≡ [] → AreCounts followers (length followers) unmet → AreReadyAtFirst rotations unmet (length rotations) ready → AreWritten l first rotations followers written unmet ready
   written_start unmet ready none c r = rw none (record {
     stable = u.chain.from_best.stable;
@@ -61,21 +63,26 @@ module _ {l : Lists} {first : Places} {rotations : List (List (ℕ × ℕ))} {fo
       entry : IsEntry rotations x
       entry = entry_popped x ready rest popped rotations w.heap.entries
 
+      -- the heap's first is a rotation of the chain
       pub popped_in_range : x.0.1 < length rotations
       popped_in_range = entry.0
 
       stands : 0 < times_ready ready x.0.1
       stands = omega (arith, one_popped x ready rest popped)
 
+      -- the heap's first isn't passed
       pub popped_out : ¬ IsPassed l first rotations (stage l first written (length written)) x.0.1
       popped_out = in_heap_out u.market u.chain u.are w.stable w.heap x.0.1 entry.0 stands
 
+      -- the heap's first is exposed
       pub popped_exposed : IsExposed l (stage l first written (length written)) (rotation_at rotations x.0.1)
       popped_exposed = in_heap_exposed u.market u.chain u.are w.stable w.heap x.0.1 entry.0 stands
 
+      -- the heap's first has a pair
       pub popped_some : 0 < length (rotation_at rotations x.0.1)
       popped_some = popped_exposed.not_empty
 
+      -- no rotation stands among its followers more often than it has unmet needs
       pub enough_unmet : (j : ℕ) → times (row followers x.0.1) j ≤ slice_index_or unmet j 0
       enough_unmet j = elim (lt_or_le 0 (times (row followers x.0.1) j)) [
         | inl some ↦ enough u.market u.chain u.are w.stable w.heap x.0.1 entry.0 stands j (u.are.sound x.0.1 j some).0
@@ -89,12 +96,15 @@ module _ {l : Lists} {first : Places} {rotations : List (List (ℕ × ℕ))} {fo
         leads : LeadsTo l first (written ++ turned ∷ []) (eliminated l (stage l first written (length written)) turned)
         leads = leads_on turned w.leads low refl
 
+        -- writing it leaves fewer places below the proposers
         pub places_left : places_below l (stage l first written_after (length written_after)) < places_below l (stage l first written (length written))
         places_left = rw more (places_fall turned u.market w.stable low.exposed (sym leads.at_end))
 
+        -- writing it, turned, leads to what is left once it is eliminated
         pub next_is : stage l first written_after (length written_after) ≡ eliminated l (stage l first written (length written)) (rotation_at rotations x.0.1)
         next_is = rw more (sym leads.at_end ∙ turned_eliminated u.market w.stable popped_exposed t)
 
+        -- once its followers' needs are met, what is written and the heap are right again
         pub written_more : {unmet_after : List ℕ} {ready_after : List (Reverse (ℕ × ℕ))} → length unmet_after ≡ length unmet → IsReleased rotations (row followers x.0.1) unmet rest unmet_after ready_after
             → AreWritten l first rotations followers written_after unmet_after ready_after
         written_more {unmet_after} {ready_after} long released = rw more (record {

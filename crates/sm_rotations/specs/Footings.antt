@@ -6,6 +6,7 @@ use Rattle.sm_theory.specs.Rotations.{IsExposed, proposer_at, target_at, elimina
 use Rattle.sm_theory.specs.Marks.{marks_of, IsLastOf, IsBetween}
 use Rattle.sm_rotations.specs.declared.predecessors.Footing.{Footing}
 
+-- the footing of pair i
 abbrev pub footing_at : List Footing → ℕ → Footing
 footing_at footings i = slice_index_or footings i (record { proposer = 0; reviewer = 0 })
 

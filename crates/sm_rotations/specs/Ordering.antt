@@ -73,6 +73,7 @@ is_passed l first rotations m k =
     let p = proposer_at (rotation_at rotations k) 0 in
     nat_le (standing l.proposers (stage l first rotations (suc k)).proposers p) (standing l.proposers m.proposers p)
 
+-- a matching has passed rotation k
 abbrev pub IsPassed : Lists → Places → List (List (ℕ × ℕ)) → Places → ℕ → Type 0
 IsPassed l first rotations m k = is_passed l first rotations m k ≡ true
 

@@ -33,6 +33,7 @@ pub record ArePairsOf (l : Lists) (m : Places) (stack : List ℕ) (from : ℕ) (
   pub who : (k : ℕ) → k < length pairs → proposer_at pairs k ≡ slice_index stack (from + k)
   pub paired : (k : ℕ) → k < length pairs → held m.proposers (proposer_at pairs k) ≡ Some (place_of l.proposers (proposer_at pairs k) (reviewer_at pairs k))
 
+-- whether p is finished
 abbrev pub is_finished : List Bool → ℕ → Bool
 is_finished finished p = slice_index_or finished p false
 

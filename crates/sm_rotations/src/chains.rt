@@ -30,7 +30,8 @@ pub fn chain(alloc: Global, market: &Market, best: &Pairing) -> Result<Chain, Al
     requires best { IsProposersBest market.now best.now.places }
     ensures made { IfOk result (λ chain. IsPairingOf market.now chain.first) }
     ensures first { IfOk result (λ chain. chain.first.places ≡ best.now.places) }
-    ensures chain { IfOk result (λ chain. IsPrintedChain market.now best.now.places (rotations_of chain.rotations.items)) }
+    ensures chain { IfOk result (λ chain. IsPrintedChain market.now best.now.places
+        (rotations_of chain.rotations.items)) }
 {
     let ChainWithNeeds { chain, .. } = chain_with_needs(alloc, market, best)?;
     Ok(chain)
@@ -56,8 +57,10 @@ pub fn chain_with_needs(
     requires best { IsProposersBest market.now best.now.places }
     ensures made { IfOk result (λ found. IsPairingOf market.now found.chain.first) }
     ensures first { IfOk result (λ found. found.chain.first.places ≡ best.now.places) }
-    ensures chain { IfOk result (λ found. IsPrintedChain market.now best.now.places (rotations_of found.chain.rotations.items)) }
-    ensures needs { IfOk result (λ found. AreNeeds market.now (rotations_of found.chain.rotations.items) (rows_of found.needs.items)) }
+    ensures chain { IfOk result (λ found. IsPrintedChain market.now best.now.places
+        (rotations_of found.chain.rotations.items)) }
+    ensures needs { IfOk result (λ found. AreNeeds market.now
+        (rotations_of found.chain.rotations.items) (rows_of found.needs.items)) }
 {
     let found = Chain {
         first: best.copy(alloc)?,

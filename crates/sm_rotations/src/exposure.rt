@@ -46,7 +46,8 @@ fn leads_back(
 ) -> Result<bool, AllocError>
     requires in_range { p < length market.now.proposers }
     requires made { IsPairingOf market.now m.now }
-    ensures found { IfOk result (λ back. back ≡ true → IsRotationFrom market.now m.now.places p pairs.new.items) }
+    ensures found { IfOk result (λ back. back ≡ true
+        → IsRotationFrom market.now m.now.places p pairs.new.items) }
     ensures none { IfOk result (λ back. back ≡ false → IsInNone market.now m.now.places p) }
 {
     pairs.clear();

@@ -20,8 +20,10 @@ pub(crate) fn empty_lists(alloc: Global, rotations: usize) -> Result<Vec<Vec<u32
 
 /// Adds a number once to the list of each of those, which have only lower numbers before.
 pub(crate) fn add_once(number: u32, those: &[u32], lists: &mut [Vec<u32>]) -> Result<(), AllocError>
-    requires in_range { (a : ℕ) → a < length those.now → slice_index_or those.now a 0 < length lists.old }
-    requires lower { (j a : ℕ) → a < length (row (rows_of lists.old) j) → slice_index_or (row (rows_of lists.old) j) a 0 < number }
+    requires in_range { (a : ℕ) → a < length those.now → slice_index_or those.now a 0
+        < length lists.old }
+    requires lower { (j a : ℕ) → a < length (row (rows_of lists.old) j)
+        → slice_index_or (row (rows_of lists.old) j) a 0 < number }
     ensures { OnOk result (AreAddedTo number those.now (rows_of lists.old) (rows_of lists.new)) }
 {
     for &j in those {
@@ -39,8 +41,10 @@ pub(crate) fn needs_by_followers(
     followers: &[Vec<u32>],
 ) -> Result<Vec<Vec<u32>>, AllocError>
     requires few { length followers.now < 2 ^ 32 }
-    requires in_range { (i a : ℕ) → a < length (row (rows_of followers.now) i) → slice_index_or (row (rows_of followers.now) i) a 0 < length followers.now }
-    ensures { IfOk result (λ needs. AreTurnedBack (rows_of followers.now) (length followers.now) (rows_of needs.items)) }
+    requires in_range { (i a : ℕ) → a < length (row (rows_of followers.now) i)
+        → slice_index_or (row (rows_of followers.now) i) a 0 < length followers.now }
+    ensures { IfOk result (λ needs. AreTurnedBack (rows_of followers.now) (length followers.now)
+        (rows_of needs.items)) }
 {
     let mut needs = empty_lists(alloc, followers.len())?;
     for i in 0..followers.len() as u32 {
@@ -52,7 +56,8 @@ pub(crate) fn needs_by_followers(
 /// On how many of the lists each number stands. It stands on each at most once.
 pub(crate) fn counts(alloc: Global, lists: &[Vec<u32>]) -> Result<Vec<u32>, AllocError>
     requires few { length lists.now < 2 ^ 32 }
-    requires in_range { (i a : ℕ) → a < length (row (rows_of lists.now) i) → slice_index_or (row (rows_of lists.now) i) a 0 < length lists.now }
+    requires in_range { (i a : ℕ) → a < length (row (rows_of lists.now) i)
+        → slice_index_or (row (rows_of lists.now) i) a 0 < length lists.now }
     requires once { (i j : ℕ) → times (row (rows_of lists.now) i) j ≤ 1 }
     ensures { IfOk result (λ c. AreCounts (rows_of lists.now) (length lists.now) c.items) }
 {
@@ -65,7 +70,8 @@ pub(crate) fn counts(alloc: Global, lists: &[Vec<u32>]) -> Result<Vec<u32>, Allo
 
 /// Counts the numbers of a list.
 fn count(list: &[u32], counts: &mut [u32])
-    requires in_range { (a : ℕ) → a < length list.now → slice_index_or list.now a 0 < length counts.old }
+    requires in_range { (a : ℕ) → a < length list.now → slice_index_or list.now a 0
+        < length counts.old }
     requires room { (j : ℕ) → slice_index_or counts.old j 0 + times list.now j < 2 ^ 32 }
     ensures { AreCounted list.now counts.old counts.new }
 {

@@ -53,11 +53,14 @@ pub(crate) fn in_order(
     chain: &Chain,
 ) -> Result<ChainWithNeeds, AllocError>
     requires made { IsPairingOf market.now chain.now.first }
-    requires complete { IsCompleteChain market.now chain.now.first.places (rotations_of chain.now.rotations.items) }
+    requires complete { IsCompleteChain market.now chain.now.first.places
+        (rotations_of chain.now.rotations.items) }
     ensures made { IfOk result (λ c. IsPairingOf market.now c.chain.first) }
     ensures first { IfOk result (λ c. c.chain.first.places ≡ chain.now.first.places) }
-    ensures chain { IfOk result (λ c. IsPrintedChain market.now chain.now.first.places (rotations_of c.chain.rotations.items)) }
-    ensures needs { IfOk result (λ c. AreNeeds market.now (rotations_of c.chain.rotations.items) (rows_of c.needs.items)) }
+    ensures chain { IfOk result (λ c. IsPrintedChain market.now chain.now.first.places
+        (rotations_of c.chain.rotations.items)) }
+    ensures needs { IfOk result (λ c. AreNeeds market.now (rotations_of c.chain.rotations.items)
+        (rows_of c.needs.items)) }
 {
     let first = chain.first.copy(alloc)?;
     let Written { rotations, needs } = ordered(alloc, market, chain)?;
@@ -68,9 +71,12 @@ pub(crate) fn in_order(
 /// The rotations of a chain in the stated order, and what each one needs.
 fn ordered(alloc: Global, market: &Market, chain: &Chain) -> Result<Written, AllocError>
     requires made { IsPairingOf market.now chain.now.first }
-    requires complete { IsCompleteChain market.now chain.now.first.places (rotations_of chain.now.rotations.items) }
-    ensures chain { IfOk result (λ o. IsPrintedChain market.now chain.now.first.places (rotations_of o.rotations.items)) }
-    ensures needs { IfOk result (λ o. AreNeeds market.now (rotations_of o.rotations.items) (rows_of o.needs.items)) }
+    requires complete { IsCompleteChain market.now chain.now.first.places
+        (rotations_of chain.now.rotations.items) }
+    ensures chain { IfOk result (λ o. IsPrintedChain market.now chain.now.first.places
+        (rotations_of o.rotations.items)) }
+    ensures needs { IfOk result (λ o. AreNeeds market.now (rotations_of o.rotations.items)
+        (rows_of o.needs.items)) }
 {
     prove!(market.proposers() < 1 << 24);
     let followers = followers(alloc, market, chain)?;
@@ -130,9 +136,11 @@ fn ready_at_first(
 ) -> Result<BinaryHeap<Reverse<(u32, u32)>>, AllocError>
     requires few { length rotations.now < 2 ^ 32 }
     requires one_each { length unmet.now ≡ length rotations.now }
-    requires some { (k : ℕ) → k < length rotations.now → 0 < length (rotation_at (rotations_of rotations.now) k) }
+    requires some { (k : ℕ) → k < length rotations.now → 0
+        < length (rotation_at (rotations_of rotations.now) k) }
     ensures order { IfOk result (λ h. IsHeap later_first (heap_items h)) }
-    ensures ready { IfOk result (λ h. AreReadyAtFirst (rotations_of rotations.now) unmet.now (length rotations.now) (heap_items h)) }
+    ensures ready { IfOk result (λ h. AreReadyAtFirst (rotations_of rotations.now) unmet.now
+        (length rotations.now) (heap_items h)) }
 {
     let mut ready = BinaryHeap::new(alloc);
     for k in 0..rotations.len() as u32 {
@@ -152,7 +160,8 @@ fn add_ready(
     requires some { 0 < length pairs.now }
     requires order { IsHeap later_first (heap_items ready.old) }
     ensures order { OnOk result (IsHeap later_first (heap_items ready.new)) }
-    ensures added { OnOk result (IsOneMore pairs.now k (heap_items ready.old) (heap_items ready.new)) }
+    ensures added { OnOk result (IsOneMore pairs.now k (heap_items ready.old)
+        (heap_items ready.new)) }
 {
     let p = pairs[lowest(pairs)].0;
     ready.push(Reverse((p, k)))?;
@@ -167,13 +176,16 @@ fn release(
     ready: &mut BinaryHeap<Reverse<(u32, u32)>>,
 ) -> Result<(), AllocError>
     requires one_each { length unmet.old ≡ length rotations.now }
-    requires in_range { (a : ℕ) → a < length followers.now → slice_index_or followers.now a 0 < length rotations.now }
-    requires some { (k : ℕ) → k < length rotations.now → 0 < length (rotation_at (rotations_of rotations.now) k) }
+    requires in_range { (a : ℕ) → a < length followers.now → slice_index_or followers.now a 0
+        < length rotations.now }
+    requires some { (k : ℕ) → k < length rotations.now → 0
+        < length (rotation_at (rotations_of rotations.now) k) }
     requires enough { (j : ℕ) → times followers.now j ≤ slice_index_or unmet.old j 0 }
     requires order { IsHeap later_first (heap_items ready.old) }
     ensures one_each { OnOk result (length unmet.new ≡ length unmet.old) }
     ensures order { OnOk result (IsHeap later_first (heap_items ready.new)) }
-    ensures released { OnOk result (IsReleased (rotations_of rotations.now) followers.now unmet.old (heap_items ready.old) unmet.new (heap_items ready.new)) }
+    ensures released { OnOk result (IsReleased (rotations_of rotations.now) followers.now unmet.old
+        (heap_items ready.old) unmet.new (heap_items ready.new)) }
 {
     for &j in followers {
         unmet[j as usize] -= 1;

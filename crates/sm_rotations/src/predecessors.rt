@@ -43,10 +43,12 @@ struct Footing {
 /// `AllocError` where memory ran out, and only then.
 pub fn needs(alloc: Global, market: &Market, chain: &Chain) -> Result<Vec<Vec<u32>>, AllocError>
     requires made { IsPairingOf market.now chain.now.first }
-    requires eliminable { AreEliminable market.now chain.now.first.places (rotations_of chain.now.rotations.items) }
+    requires eliminable { AreEliminable market.now chain.now.first.places
+        (rotations_of chain.now.rotations.items) }
     ensures one_each { IfOk result (λ n. length n.items ≡ length chain.now.rotations.items) }
     ensures needs { IfOk result (λ n. (j : ℕ) → j < length chain.now.rotations.items
-        → AreNeedsOf market.now (rotations_of chain.now.rotations.items) j (row (rows_of n.items) j)) }
+        → AreNeedsOf market.now (rotations_of chain.now.rotations.items) j
+        (row (rows_of n.items) j)) }
 {
     let followers = followers(alloc, market, chain)?;
     needs_by_followers(alloc, &followers)
@@ -61,9 +63,11 @@ pub(crate) fn followers(
     chain: &Chain,
 ) -> Result<Vec<Vec<u32>>, AllocError>
     requires made { IsPairingOf market.now chain.now.first }
-    requires eliminable { AreEliminable market.now chain.now.first.places (rotations_of chain.now.rotations.items) }
+    requires eliminable { AreEliminable market.now chain.now.first.places
+        (rotations_of chain.now.rotations.items) }
     ensures few { OnOk result (length chain.now.rotations.items < 2 ^ 24) }
-    ensures followers { IfOk result (λ f. AreFollowers market.now (rotations_of chain.now.rotations.items)
+    ensures followers { IfOk result (λ f. AreFollowers market.now
+        (rotations_of chain.now.rotations.items)
         (length chain.now.rotations.items) (rows_of f.items)) }
 {
     let rotations = chain.rotations.as_slice();
@@ -98,9 +102,12 @@ fn find_footings(
     footings: &mut Vec<Footing>,
 ) -> Result<(), AllocError>
     requires made { IsPairingOf market.now m.now }
-    requires proposers { (i : ℕ) → i < length pairs.now → proposer_at pairs.now i < length market.now.proposers }
-    requires reviewers { (i : ℕ) → i < length pairs.now → target_at pairs.now i < length market.now.reviewers }
-    ensures { OnOk result (AreFootings market.now m.now.places pairs.now (length pairs.now) footings.new.items) }
+    requires proposers { (i : ℕ) → i < length pairs.now → proposer_at pairs.now i
+        < length market.now.proposers }
+    requires reviewers { (i : ℕ) → i < length pairs.now → target_at pairs.now i
+        < length market.now.reviewers }
+    ensures { OnOk result (AreFootings market.now m.now.places pairs.now (length pairs.now)
+        footings.new.items) }
 {
     footings.clear();
     for i in 0..pairs.len() {
@@ -124,12 +131,16 @@ fn find(
     requires before_each { length before.now ≡ length pairs.now }
     requires after_each { length after.now ≡ length pairs.now }
     requires in_last { (i : ℕ) → i < length pairs.now → proposer_at pairs.now i < length last.now }
-    requires in_marks { (i : ℕ) → i < length pairs.now → proposer_at pairs.now i < length marks.now }
-    requires down { (i : ℕ) → i < length pairs.now → (footing_at before.now i).proposer < (footing_at after.now i).proposer }
+    requires in_marks { (i : ℕ) → i < length pairs.now → proposer_at pairs.now i
+        < length marks.now }
+    requires down { (i : ℕ) → i < length pairs.now → (footing_at before.now i).proposer
+        < (footing_at after.now i).proposer }
     requires on_list { (i : ℕ) → i < length pairs.now
-        → (footing_at after.now i).proposer ≤ length (marks_of (marks_in marks.now) (proposer_at pairs.now i)) }
+        → (footing_at after.now i).proposer
+        ≤ length (marks_of (marks_in marks.now) (proposer_at pairs.now i)) }
     ensures { OnOk result (Adds
-        (λ i. IsFoundAlong pairs.now before.now after.now (length pairs.now) last.now (marks_in marks.now) i)
+        (λ i. IsFoundAlong pairs.now before.now after.now (length pairs.now) last.now
+        (marks_in marks.now) i)
         [] found.new.items) }
 {
     found.clear();
@@ -160,7 +171,8 @@ fn add_between(
 ) -> Result<(), AllocError>
     requires down { from < to }
     requires on_list { to ≤ length marks.now }
-    ensures { OnOk result (Adds (λ i. IsBetween marks.now from to i) found.old.items found.new.items) }
+    ensures { OnOk result (Adds (λ i. IsBetween marks.now from to i) found.old.items
+        found.new.items) }
 {
     for place in from + 1..to {
         if let Some(i) = marks[place as usize] {
@@ -182,7 +194,8 @@ fn mark_moves(
     requires market { IsMarket market.now }
     requires moved { AreSteps market.now pairs.now before.now after.now }
     requires for_entries { AreMarksFor market.now (marks_in marks.old) }
-    ensures { AreMarked market.now pairs.now (length pairs.now) j (marks_in marks.old) (marks_in marks.new) }
+    ensures { AreMarked market.now pairs.now (length pairs.now) j (marks_in marks.old)
+        (marks_in marks.new) }
 {
     for i in 0..pairs.len() {
         let r = pairs[next_in(i, pairs.len())].1;

@@ -3,7 +3,7 @@
 //! The walk goes over the pairs that are left of a market once each matched reviewer's list is cut behind its partner.
 //! There a matched proposer's first pair is its own one, and the second tells its successor.
 
-ghost use Rattle.std.specs.Prelude.{◌≡◌, ◌≢◌, ℕ, ◌<◌, ◌≤◌, ◌++◌, ◌∷◌, [], length, take, Some, None, true, false, MatchOption, IfOk, OnOk, slice_index, slice_set};
+ghost use Rattle.std.specs.Prelude.{◌≡◌, ◌≢◌, ℕ, ◌-◌, ◌<◌, ◌≤◌, ◌++◌, ◌∷◌, [], length, take, Some, None, true, false, MatchOption, IfOk, OnOk, replicate, slice_index, slice_set};
 ghost use Rattle.sm_market.specs.Lists.{place_of, IsMarket};
 ghost use Rattle.sm_market.specs.Matching.{held};
 ghost use Rattle.sm_market.specs.Stable.{IsStable, IsProposersBest};
@@ -12,7 +12,7 @@ ghost use Rattle.sm_theory.specs.Rotations.{IsSuccessor, reviewer_at};
 ghost use Rattle.sm_theory.specs.Chains.{IsCompleteChain};
 ghost use Rattle.sm_theory.specs.Values.{rotations_of};
 ghost use Rattle.sm_accept.specs.Linking.{IsLinkedOf, IsFront, IsFrontBut};
-ghost use Rattle.sm_rotations.specs.Walking.{IsLeftIn, IsNext, IsAtWorst, IsStack, ArePairsOf, AreTakenOff, is_finished, IsTopTakenOff, IsWalkStep, LeadsBack};
+ghost use Rattle.sm_rotations.specs.Walking.{IsLeftIn, IsNext, IsAtWorst, IsStack, ArePairsOf, AreTakenOff, is_finished, spot_of, IsTopTakenOff, IsWalkStep, LeadsBack};
 
 use sm_accept::{Linked, cut_to_partner, cut_to_partners};
 use sm_market::{Market, Pairing};
@@ -28,6 +28,17 @@ enum WalkStep {
     On(u32),
     /// The stack from a spot on is a rotation.
     Back(usize),
+}
+
+/// A walk's stack of proposers, and who is finished.
+#[derive(Drop)]
+struct Trail {
+    /// The proposers on the stack, of whom each is followed by the one that has its successor.
+    stack: Vec<u32>,
+    /// Where each proposer stands on the stack.
+    spots: Vec<Option<usize>>,
+    /// Which proposers are finished.
+    finished: Vec<bool>,
 }
 
 /// Some complete chain of rotations from the proposers' best stable matching to the reviewers' best.
@@ -50,25 +61,21 @@ pub(crate) fn walk(
 ) -> Result<Vec<Rotation>, AllocError>
     requires made { IsPairingOf market.now best.now }
     requires best { IsProposersBest market.now best.now.places }
-    ensures chain { IfOk result (λ rotations. IsCompleteChain market.now best.now.places (rotations_of rotations.items)) }
+    ensures chain { IfOk result (λ rotations. IsCompleteChain market.now best.now.places
+        (rotations_of rotations.items)) }
 {
-    let proposers = market.proposers() as usize;
     let mut m = best.copy(alloc)?;
     let mut linked = Linked::of(alloc, market)?;
     cut_to_partners(market, &m, &mut linked);
-    let mut stack = Vec::with_capacity(alloc, proposers)?;
-    let mut spots = vec![in alloc; None; proposers]?;
-    let mut finished = vec![in alloc; false; proposers]?;
+    let mut trail = Trail::new(alloc, market.proposers() as usize)?;
     let mut rotations = Vec::new(alloc);
-    let spots = spots.as_mut_slice();
-    let finished = finished.as_mut_slice();
     for p in 0..market.proposers() {
-        'steps: while !finished[p as usize] {
-            match walk_step(market, &m, &linked, &stack, spots, finished, p) {
-                WalkStep::Over => take_top_off(&mut stack, spots, finished),
-                WalkStep::On(q) => put_on(q, &mut stack, spots)?,
+        'steps: while !trail.is_finished(p) {
+            match walk_step(market, &m, &linked, &trail, p) {
+                WalkStep::Over => trail.take_top_off(),
+                WalkStep::On(q) => trail.put_on(q)?,
                 WalkStep::Back(from) => {
-                    let rotation = take_off(alloc, market, &m, from, &mut stack, spots)?;
+                    let rotation = trail.take_off(alloc, market, &m, from)?;
                     eliminate(market, &mut m, &rotation);
                     cut_to_new_partners(market, &m, &rotation.pairs, &mut linked);
                     rotations.push(rotation)?;
@@ -80,89 +87,129 @@ pub(crate) fn walk(
 }
 
 /// What the walk does next, while `p` isn't finished. Where the stack is empty, `p` is put on it.
-fn walk_step(
-    market: &Market,
-    m: &Pairing,
-    linked: &Linked,
-    stack: &[u32],
-    spots: &[Option<usize>],
-    finished: &[bool],
-    p: u32,
-) -> WalkStep
+fn walk_step(market: &Market, m: &Pairing, linked: &Linked, trail: &Trail, p: u32) -> WalkStep
     requires in_range { p < length market.now.proposers }
     requires market { IsMarket market.now }
     requires made { IsPairingOf market.now m.now }
     requires stable { IsStable market.now m.now.places }
     requires linked { IsLinkedOf market.now linked.now }
     requires front { IsFront market.now m.now.places linked.now.ends }
-    requires stack { IsStack market.now m.now.places stack.now spots.now }
-    requires finished_each { length finished.now ≡ length market.now.proposers }
-    requires at_worst { (q : ℕ) → is_finished finished.now q ≡ true → IsAtWorst market.now m.now.places q }
-    requires unfinished { is_finished finished.now p ≡ false }
-    ensures { IsWalkStep market.now m.now.places stack.now spots.now finished.now result }
+    requires stack { IsStack market.now m.now.places trail.now.stack.items trail.now.spots.items }
+    requires finished_each { length trail.now.finished.items ≡ length market.now.proposers }
+    requires at_worst { (q : ℕ) → is_finished trail.now.finished.items q ≡ true
+        → IsAtWorst market.now m.now.places q }
+    requires unfinished { is_finished trail.now.finished.items p ≡ false }
+    ensures { IsWalkStep market.now m.now.places trail.now.stack.items trail.now.spots.items
+        trail.now.finished.items result }
 {
-    if stack.is_empty() {
+    if trail.stack.is_empty() {
         return WalkStep::On(p);
     }
-    let top = stack[stack.len() - 1];
+    let top = trail.top();
     let Some(q) = holder_of_next(market, m, linked, top) else {
         return WalkStep::Over;
     };
-    if finished[q as usize] {
+    if trail.is_finished(q) {
         return WalkStep::Over;
     }
-    match spots[q as usize] {
+    match trail.spot(q) {
         None => WalkStep::On(q),
         Some(from) => WalkStep::Back(from),
     }
 }
 
-/// Takes the top off the stack and says that it is finished.
-fn take_top_off(stack: &mut Vec<u32>, spots: &mut [Option<usize>], finished: &mut [bool])
-    requires not_empty { 0 < length stack.old.items }
-    requires in_range { (k : ℕ) → k < length stack.old.items → slice_index stack.old.items k < length spots.old }
-    requires finished_each { length finished.old ≡ length spots.old }
-    ensures { IsTopTakenOff stack.old.items stack.new.items spots.old spots.new finished.old finished.new }
-{
-    let top = stack.len() - 1;
-    let p = stack[top] as usize;
-    spots[p] = None;
-    finished[p] = true;
-    stack.truncate(top);
-}
+impl Trail {
+    /// An empty stack, for so many proposers of whom none is finished.
+    fn new(alloc: Global, proposers: usize) -> Result<Trail, AllocError>
+        ensures stack { IfOk result (λ trail. trail.stack.items ≡ []) }
+        ensures spots { IfOk result (λ trail. trail.spots.items ≡ replicate proposers None) }
+        ensures finished { IfOk result (λ trail. trail.finished.items ≡ replicate proposers false) }
+    {
+        Ok(Trail {
+            stack: Vec::with_capacity(alloc, proposers)?,
+            spots: vec![in alloc; None; proposers]?,
+            finished: vec![in alloc; false; proposers]?,
+        })
+    }
 
-/// Puts a proposer on the stack.
-fn put_on(p: u32, stack: &mut Vec<u32>, spots: &mut [Option<usize>]) -> Result<(), AllocError>
-    requires in_range { p < length spots.old }
-    ensures stack { OnOk result (stack.new.items ≡ stack.old.items ++ p ∷ []) }
-    ensures spots { OnOk result (spots.new ≡ slice_set spots.old p (Some (length stack.old.items))) }
-{
-    spots[p as usize] = Some(stack.len());
-    stack.push(p)?;
-    Ok(())
-}
+    /// The proposer on top of the stack.
+    fn top(&self) -> u32
+        requires { 0 < length self.now.stack.items }
+        ensures { result ≡ slice_index self.now.stack.items (length self.now.stack.items - 1) }
+    {
+        self.stack[self.stack.len() - 1]
+    }
 
-/// Takes the stack from a spot on off, and gives it as a rotation, where the successors lead back to that spot.
-fn take_off(
-    alloc: Global,
-    market: &Market,
-    m: &Pairing,
-    from: usize,
-    stack: &mut Vec<u32>,
-    spots: &mut [Option<usize>],
-) -> Result<Rotation, AllocError>
-    requires market { IsMarket market.now }
-    requires made { IsPairingOf market.now m.now }
-    requires stack { IsStack market.now m.now.places stack.old.items spots.old }
-    requires back { LeadsBack market.now m.now.places stack.old.items from }
-    ensures pairs { IfOk result (λ rotation. ArePairsOf market.now m.now.places stack.old.items from rotation.pairs.items) }
-    ensures off { OnOk result (AreTakenOff stack.old.items from spots.old spots.new) }
-    ensures rest { OnOk result (stack.new.items ≡ take from stack.old.items) }
-{
-    let pairs = pairs_from(alloc, market, m, from, stack)?;
-    clear_spots(from, stack, spots);
-    stack.truncate(from);
-    Ok(Rotation { pairs })
+    /// Where a proposer stands on the stack.
+    fn spot(&self, p: u32) -> Option<usize>
+        requires { p < length self.now.spots.items }
+        ensures { result ≡ spot_of self.now.spots.items p }
+    {
+        self.spots[p as usize]
+    }
+
+    /// Whether a proposer is finished.
+    fn is_finished(&self, p: u32) -> bool
+        requires { p < length self.now.finished.items }
+        ensures { result ≡ is_finished self.now.finished.items p }
+    {
+        self.finished[p as usize]
+    }
+
+    /// Takes the top off the stack and says that it is finished.
+    fn take_top_off(&mut self)
+        requires not_empty { 0 < length self.old.stack.items }
+        requires in_range { (k : ℕ) → k < length self.old.stack.items
+            → slice_index self.old.stack.items k < length self.old.spots.items }
+        requires finished_each { length self.old.finished.items ≡ length self.old.spots.items }
+        ensures { IsTopTakenOff self.old.stack.items self.new.stack.items self.old.spots.items
+            self.new.spots.items
+            self.old.finished.items self.new.finished.items }
+    {
+        let top = self.stack.len() - 1;
+        let p = self.stack[top] as usize;
+        self.spots[p] = None;
+        self.finished[p] = true;
+        self.stack.truncate(top);
+    }
+
+    /// Puts a proposer on the stack.
+    fn put_on(&mut self, p: u32) -> Result<(), AllocError>
+        requires in_range { p < length self.old.spots.items }
+        ensures stack { OnOk result (self.new.stack.items ≡ self.old.stack.items ++ p ∷ []) }
+        ensures spots { OnOk result (self.new.spots.items
+            ≡ slice_set self.old.spots.items p (Some (length self.old.stack.items))) }
+        ensures finished { self.new.finished ≡ self.old.finished }
+    {
+        self.spots[p as usize] = Some(self.stack.len());
+        self.stack.push(p)?;
+        Ok(())
+    }
+
+    /// Takes the stack from a spot on off, and gives it as a rotation, where the successors lead back to that spot.
+    fn take_off(
+        &mut self,
+        alloc: Global,
+        market: &Market,
+        m: &Pairing,
+        from: usize,
+    ) -> Result<Rotation, AllocError>
+        requires market { IsMarket market.now }
+        requires made { IsPairingOf market.now m.now }
+        requires stack { IsStack market.now m.now.places self.old.stack.items self.old.spots.items }
+        requires back { LeadsBack market.now m.now.places self.old.stack.items from }
+        ensures pairs { IfOk result (λ rotation. ArePairsOf market.now m.now.places
+            self.old.stack.items from rotation.pairs.items) }
+        ensures off { OnOk result (AreTakenOff self.old.stack.items from self.old.spots.items
+            self.new.spots.items) }
+        ensures rest { OnOk result (self.new.stack.items ≡ take from self.old.stack.items) }
+        ensures finished { self.new.finished ≡ self.old.finished }
+    {
+        let pairs = pairs_from(alloc, market, m, from, &self.stack)?;
+        clear_spots(from, &self.stack, &mut self.spots);
+        self.stack.truncate(from);
+        Ok(Rotation { pairs })
+    }
 }
 
 /// The pairs of the proposers on the stack from a spot on.
@@ -175,8 +222,10 @@ fn pairs_from(
 ) -> Result<Vec<(u32, u32)>, AllocError>
     requires market { IsMarket market.now }
     requires made { IsPairingOf market.now m.now }
-    requires in_range { (k : ℕ) → k < length stack.now → slice_index stack.now k < length market.now.proposers }
-    requires matched { (k : ℕ) → from ≤ k → k < length stack.now → held m.now.places.proposers (slice_index stack.now k) ≢ None }
+    requires in_range { (k : ℕ) → k < length stack.now → slice_index stack.now k
+        < length market.now.proposers }
+    requires matched { (k : ℕ) → from ≤ k → k < length stack.now
+        → held m.now.places.proposers (slice_index stack.now k) ≢ None }
     requires from_in { from ≤ length stack.now }
     ensures { IfOk result (λ pairs. ArePairsOf market.now m.now.places stack.now from pairs.items) }
 {
@@ -194,18 +243,18 @@ fn pair_of(market: &Market, m: &Pairing, p: u32) -> (u32, u32)
     requires made { IsPairingOf market.now m.now }
     requires matched { held m.now.places.proposers p ≢ None }
     ensures who { result.0 ≡ p }
-    ensures paired { held m.now.places.proposers p ≡ Some (place_of market.now.proposers p result.1) }
+    ensures paired { held m.now.places.proposers p
+        ≡ Some (place_of market.now.proposers p result.1) }
 {
-    let Some(place) = m.place(p) else {
-        unreachable!()
-    };
+    let place = m.place(p).unwrap();
     (p, market.reviewer_at(p, place))
 }
 
 /// Notes that the proposers on the stack from a spot on are on it no more.
 fn clear_spots(from: usize, stack: &[u32], spots: &mut [Option<usize>])
     requires from_in { from ≤ length stack.now }
-    requires in_range { (k : ℕ) → k < length stack.now → slice_index stack.now k < length spots.old }
+    requires in_range { (k : ℕ) → k < length stack.now → slice_index stack.now k
+        < length spots.old }
     ensures { AreTakenOff stack.now from spots.old spots.new }
 {
     for k in from..stack.len() {
@@ -217,7 +266,8 @@ fn clear_spots(from: usize, stack: &[u32], spots: &mut [Option<usize>])
 fn cut_to_new_partners(market: &Market, m: &Pairing, pairs: &[(u32, u32)], linked: &mut Linked)
     requires market { IsMarket market.now }
     requires made { IsPairingOf market.now m.now }
-    requires in_range { (i : ℕ) → i < length pairs.now → reviewer_at pairs.now i < length market.now.reviewers }
+    requires in_range { (i : ℕ) → i < length pairs.now → reviewer_at pairs.now i
+        < length market.now.reviewers }
     requires linked { IsLinkedOf market.now linked.old }
     requires front { IsFrontBut market.now m.now.places linked.old.ends (IsLeftIn pairs.now 0) }
     ensures linked { IsLinkedOf market.now linked.new }

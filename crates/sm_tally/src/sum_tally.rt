@@ -44,7 +44,7 @@ impl Tally for SumTally {
     }
 }
 
-// The total with all ranks added.
+/// The total with all ranks added.
 fn add_all(total: u64, ranks: &[u32]) -> u64
     ensures { result ≡ capped (total + sum ranks.now) }
 {

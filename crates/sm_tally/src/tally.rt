@@ -21,7 +21,8 @@ pub trait Tally: Drop {
     /// proportion to `ranks` at most.
     fn feed(&mut self, ranks: &[u32], regret: u32)
         ensures tag { kind self.new ≡ kind self.old }
-        ensures figures { shown self.new ≡ figures_after (kind self.old) (shown self.old) ranks.now regret };
+        ensures figures { shown self.new ≡ figures_after (kind self.old) (shown self.old) ranks.now
+            regret };
 
     /// How many figures it has: 1 with the tags 1 and 2, and 3 with tag 3.
     fn figures(&self) -> u32

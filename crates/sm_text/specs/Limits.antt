@@ -25,6 +25,10 @@ most_capacity = 4096
 abbrev pub most_weight : ℕ
 most_weight = 1000000000
 
+-- how many matchings may be asked for at once
+abbrev pub most_limit : ℕ
+most_limit = 1000000
+
 -- bytes in a name
 abbrev pub most_name_bytes : ℕ
 most_name_bytes = 64

@@ -7,6 +7,7 @@ use Rattle.sm_text.specs.declared.lines.LineSpan.{LineSpan}
 abbrev pub LF : ℕ
 LF = 10
 
+-- the byte that may stand before LF
 abbrev pub CR : ℕ
 CR = 13
 

@@ -3,9 +3,11 @@ use Rattle.std.specs.Prelude.{ℕ, ◌==◌, ◌&&◌, ◌||◌, Bool, List, len
 use Rattle.std.specs.List.{list_all}
 use Rattle.sm_text.specs.Limits.{most_name_bytes}
 
+-- a letter, small or capital
 abbrev pub is_letter : ℕ → Bool
 is_letter b = (nat_le 65 b && nat_le b 90) || (nat_le 97 b && nat_le b 122)
 
+-- a decimal digit
 abbrev pub is_digit : ℕ → Bool
 is_digit b = nat_le 48 b && nat_le b 57
 

@@ -14,6 +14,7 @@ abbrev pub value_behind : ℕ → List ℕ → ℕ
 value_behind value [] = value
 value_behind value (d ∷ digits) = value_behind (10 * value + (d - 48)) digits
 
+-- the number that some digits spell
 abbrev pub value_of : List ℕ → ℕ
 value_of digits = value_behind 0 digits
 

@@ -35,6 +35,7 @@ tokens (b ∷ line) =
 abbrev pub blanks_end : List ℕ → ℕ → ℕ
 blanks_end line from = from + prefix_len is_blank (drop from line)
 
+-- where the run of name bytes that begins at a place ends
 abbrev pub run_end : List ℕ → ℕ → ℕ
 run_end line from = from + prefix_len is_name_byte (drop from line)
 

@@ -15,8 +15,8 @@ pub mod witnesses;
 mod writer;
 
 pub use limits::{
-    MOST_AGENTS, MOST_BYTES, MOST_CAPACITY, MOST_ENTRIES, MOST_NAME_BYTES, MOST_SEAT_ENTRIES,
-    MOST_WEIGHT,
+    MOST_AGENTS, MOST_BYTES, MOST_CAPACITY, MOST_ENTRIES, MOST_LIMIT, MOST_NAME_BYTES,
+    MOST_SEAT_ENTRIES, MOST_WEIGHT,
 };
 pub use lines::{LineSpan, line_at, line_count};
 pub use names::{is_name, is_name_byte};

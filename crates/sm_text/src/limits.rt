@@ -19,5 +19,8 @@ pub const MOST_CAPACITY: u32 = 4_096;
 /// The greatest size of a weight.
 pub const MOST_WEIGHT: i64 = 1_000_000_000;
 
+/// The greatest limit on how many matchings are listed.
+pub const MOST_LIMIT: u32 = 1_000_000;
+
 /// The greatest number of bytes in a name.
 pub const MOST_NAME_BYTES: usize = 64;

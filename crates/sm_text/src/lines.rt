@@ -52,7 +52,7 @@ pub fn line_count(bytes: &[u8]) -> u32
     count
 }
 
-// The first line, with its end.
+/// The first line, with its end.
 fn first_line(bytes: &[u8]) -> &[u8]
     ensures { result.now ≡ first_line bytes.now }
 {
@@ -62,14 +62,14 @@ fn first_line(bytes: &[u8]) -> &[u8]
     }
 }
 
-// What a line holds: the line without its end.
+/// What a line holds: the line without its end.
 fn content(line: &[u8]) -> &[u8]
     ensures { result.now ≡ content line.now }
 {
     without_last(CR, without_last(LF, line))
 }
 
-// The bytes without the last one, where that is b.
+/// The bytes without the last one, where that is b.
 #[tactic(auto, using(crate::proofs::LineLemmas::without_last_at))]
 fn without_last(b: u8, bytes: &[u8]) -> &[u8]
     ensures { result.now ≡ without_last b bytes.now }

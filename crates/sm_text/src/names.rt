@@ -15,14 +15,14 @@ pub fn is_name(run: &[u8]) -> bool
     !run.is_empty() && run.len() <= MOST_NAME_BYTES && begins_name(run[0]) && are_name_bytes(run)
 }
 
-// May a name hold each of these bytes?
+/// May a name hold each of these bytes?
 fn are_name_bytes(run: &[u8]) -> bool
     ensures { result ≡ list_all is_name_byte run.now }
 {
     run.iter().all(|b| is_name_byte(*b))
 }
 
-// May a name begin with this byte?
+/// May a name begin with this byte?
 #[tactic(auto, unfolding(crate::specs::Name::begins_name, crate::specs::Name::is_name_byte))]
 fn begins_name(b: u8) -> bool
     ensures { result ≡ begins_name b }
@@ -37,7 +37,7 @@ pub fn is_name_byte(b: u8) -> bool
     NAME_BYTES[b as usize]
 }
 
-// For each byte, whether a name may hold it. Most of a text is names, and one look takes less time than comparisons do.
+/// For each byte, whether a name may hold it. Most of a text is names, and one look takes less time than comparisons do.
 static NAME_BYTES: [bool; 256] = [
     false, false, false, false, false, false, false, false, false, false, false, false, false,
     false, false, false, false, false, false, false, false, false, false, false, false, false,

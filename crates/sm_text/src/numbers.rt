@@ -37,7 +37,7 @@ pub fn signed(run: &[u8], most: i64) -> Option<i64>
     }
 }
 
-// The value of digits, and `None` exactly where one of the bytes is no digit or the value is above `most`.
+/// The value of digits, and `None` exactly where one of the bytes is no digit or the value is above `most`.
 fn value(digits: &[u8], most: u64) -> Option<u64>
     ensures { result ≡ (if list_all is_digit digits.now && nat_le (value_of digits.now) most
         then Some (value_of digits.now) else None) }

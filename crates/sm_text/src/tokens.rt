@@ -39,7 +39,7 @@ pub fn token_at(line: &[u8], from: usize) -> TokenAt
     }
 }
 
-// Where the blanks end that begin at a place.
+/// Where the blanks end that begin at a place.
 fn blanks_end(line: &[u8], from: usize) -> usize
     ensures { result ≡ blanks_end line.now from }
 {
@@ -50,7 +50,7 @@ fn blanks_end(line: &[u8], from: usize) -> usize
     at
 }
 
-// Where a run of name bytes ends that goes on at a place, if it does.
+/// Where a run of name bytes ends that goes on at a place, if it does.
 fn run_end(line: &[u8], from: usize) -> usize
     ensures { result ≡ run_end line.now from }
 {
@@ -61,7 +61,7 @@ fn run_end(line: &[u8], from: usize) -> usize
     at
 }
 
-// Is it a space or a TAB?
+/// Is it a space or a TAB?
 #[tactic(auto, unfolding(crate::specs::Tokens::is_blank))]
 fn is_blank(b: u8) -> bool
     ensures { result ≡ is_blank b }
@@ -69,7 +69,7 @@ fn is_blank(b: u8) -> bool
     matches!(b, b' ' | b'\t')
 }
 
-// Is it `:`, `[` or `]`?
+/// Is it `:`, `[` or `]`?
 #[tactic(auto, unfolding(crate::specs::Tokens::is_mark))]
 fn is_mark(b: u8) -> bool
     ensures { result ≡ is_mark b }

@@ -84,10 +84,10 @@ impl LineWriter {
     }
 }
 
-// How many digits the greatest `u64` has.
+/// How many digits the greatest `u64` has.
 const MOST_DIGITS: usize = 20;
 
-// Writes a number in decimal to the end of `digits`, and answers where it begins.
+/// Writes a number in decimal to the end of `digits`, and answers where it begins.
 fn write_digits(value: u64, digits: &mut [u8]) -> usize
     requires { length digits.old ≡ MOST_DIGITS }
     ensures within { result < MOST_DIGITS }

@@ -5,6 +5,7 @@ use Rattle.sm_market.specs.Matching.{Places}
 use Rattle.sm_market.specs.Stable.{IsProposersBest}
 use Rattle.sm_theory.specs.Rotations.{proposer_at, reviewer_at, target_at, next_in, IsExposed, IsLowestExposed, eliminated}
 
+-- rotation k of a chain
 abbrev pub rotation_at : List (List (ℕ × ℕ)) → ℕ → List (ℕ × ℕ)
 rotation_at rotations k = slice_index_or rotations k []
 

@@ -8,9 +8,11 @@ use Rattle.sm_theory.specs.Lattice.{agents, with_proposers}
 use Rattle.sm_theory.specs.Rotations.{target_at, pair_of}
 use Rattle.sm_theory.specs.Chains.{rotation_at, IsNeededBy}
 
+-- whether rotation k is in a set
 abbrev pub is_member : List Bool → ℕ → Bool
 is_member set k = slice_index_or set k false
 
+-- rotation k is in a set
 abbrev pub IsMember : List Bool → ℕ → Type 0
 IsMember set k = is_member set k ≡ true
 

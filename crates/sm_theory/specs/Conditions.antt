@@ -62,6 +62,7 @@ abbrev pub rise_of : ℤ → ℕ
 rise_of (pos n) = n
 rise_of (negsuc n) = 0
 
+-- the size of a number where it is negative, and 0 elsewhere
 abbrev pub fall_of : ℤ → ℕ
 fall_of (pos n) = 0
 fall_of (negsuc n) = suc n

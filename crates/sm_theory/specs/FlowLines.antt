@@ -12,9 +12,11 @@ line_at lines k = slice_index_or lines k (record { from = 0; to = 0; amount = 0 
 abbrev pub amount_on : List FlowLine → ℕ → ℕ → ℕ
 amount_on lines i j = sum_by (λ line. if line.from == i && line.to == j then line.amount else 0) lines
 
+-- the amount that leaves a node
 abbrev pub amount_from : List FlowLine → ℕ → ℕ
 amount_from lines i = sum_by (λ line. if line.from == i then line.amount else 0) lines
 
+-- the amount that comes to a node
 abbrev pub amount_to : List FlowLine → ℕ → ℕ
 amount_to lines j = sum_by (λ line. if line.to == j then line.amount else 0) lines
 
@@ -30,6 +32,7 @@ AreWithin net lines = (i j : ℕ) → ¬ IsUnbounded net i j → amount_on lines
 abbrev pub IsConserved : (size : ℕ) → List FlowLine → Type 0
 IsConserved size lines = (k : ℕ) → k < size → amount_to lines (suc k) ≡ amount_from lines (suc k)
 
+-- two lines are on one edge
 abbrev pub HaveSameEnds : FlowLine → FlowLine → Type 0
 HaveSameEnds x y = (x.from ≡ y.from) × (x.to ≡ y.to)
 
@@ -48,6 +51,7 @@ pub record IsWithinRoom (net : Net) (line : FlowLine) : Type 0 where
 abbrev pub AreEndsBefore : (from to other_from other_to : ℕ) → Type 0
 AreEndsBefore from to other_from other_to = (from < other_from) ⊎ ((from ≡ other_from) × (to < other_to))
 
+-- the ends of one line are before those of another
 abbrev pub IsLineBefore : FlowLine → FlowLine → Type 0
 IsLineBefore x y = AreEndsBefore x.from x.to y.from y.to
 

@@ -20,6 +20,7 @@ better None o = o
 better (Some i) None = Some i
 better (Some i) (Some k) = Some (min i k)
 
+-- the worse of two places; being unmatched is worse than every place
 abbrev pub worse : Option ℕ → Option ℕ → Option ℕ
 worse None o = None
 worse (Some i) None = None

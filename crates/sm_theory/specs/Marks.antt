@@ -14,6 +14,7 @@ note_of notes p = slice_index_or notes p None
 abbrev pub marks_of : List (List (Option ℕ)) → ℕ → List (Option ℕ)
 marks_of marks p = slice_index_or marks p []
 
+-- the mark at place x of p's list
 abbrev pub mark_at : List (List (Option ℕ)) → (p x : ℕ) → Option ℕ
 mark_at marks p x = note_of (marks_of marks p) x
 

@@ -14,6 +14,7 @@ pub record Net : Type 0 where
   pub drain : ℕ → ℕ
   pub unbounded : ℕ → ℕ → Bool
 
+-- the sink comes behind the source and the inner nodes
 abbrev pub sink_of : Net → ℕ
 sink_of net = suc net.size
 
@@ -29,6 +30,7 @@ abbrev pub is_unbounded : Net → ℕ → ℕ → Bool
 is_unbounded net i zero = false
 is_unbounded net i (suc k) = net.unbounded i (suc k)
 
+-- the edge from i to j has no bound
 abbrev pub IsUnbounded : Net → ℕ → ℕ → Type 0
 IsUnbounded net i j = is_unbounded net i j ≡ true
 
@@ -65,6 +67,7 @@ abbrev pub IsPath : (ℕ → ℕ → Type 0) → ℕ → List ℕ → ℕ → Ty
 IsPath Step i [] j = i ≡ j
 IsPath Step i (k ∷ path) j = Step i k × IsPath Step k path j
 
+-- some path of such steps leads from i to j
 pub record IsReachable (Step : ℕ → ℕ → Type 0) (i j : ℕ) : Type 0 where
   pub path : List ℕ
   pub is : IsPath Step i path j

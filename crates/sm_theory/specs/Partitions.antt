@@ -8,6 +8,7 @@ use Rattle.sm_theory.specs.Rooms.{IsAcceptable, mate_of}
 abbrev pub successor_in : List ℕ → ℕ → ℕ
 successor_in next x = slice_index next x
 
+-- whose successor x is
 abbrev pub predecessor_in : List ℕ → ℕ → ℕ
 predecessor_in next x = position_or_len (λ y. y == x) next
 

@@ -63,8 +63,10 @@ eliminated l m rotation = with_proposers l (places_after l m.proposers rotation)
 abbrev pub DoesMove : List (ℕ × ℕ) → ℕ → Type 0
 DoesMove rotation p = pair_of rotation p < length rotation
 
+-- the reviewer from which a rotation moves p
 abbrev pub reviewer_before : List (ℕ × ℕ) → ℕ → ℕ
 reviewer_before rotation p = reviewer_at rotation (pair_of rotation p)
 
+-- the reviewer to which a rotation moves p
 abbrev pub reviewer_after : List (ℕ × ℕ) → ℕ → ℕ
 reviewer_after rotation p = target_at rotation (pair_of rotation p)

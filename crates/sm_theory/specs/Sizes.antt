@@ -8,6 +8,7 @@ use Rattle.sm_theory.specs.Weights.{weight_at}
 abbrev pub weights_in : List (Vec ℤ Global) → List (List ℤ)
 weights_in vectors = map (λ v. v.items) vectors
 
+-- the weights of the places of p
 abbrev pub weights_of : List (List ℤ) → ℕ → List ℤ
 weights_of weights p = slice_index_or weights p []
 

@@ -12,9 +12,11 @@ abbrev pub total : (ℕ → ℤ) → ℕ → ℤ
 total f zero = pos 0
 total f (suc n) = total f n +ℤ f n
 
+-- the weight of place i of p, and 0 where none is given
 abbrev pub weight_at : List (List ℤ) → ℕ → ℕ → ℤ
 weight_at weights p i = slice_index_or (slice_index_or weights p []) i (pos 0)
 
+-- the weight of what p holds; being unmatched weighs nothing
 abbrev pub weight_of_place : List (List ℤ) → ℕ → Option ℕ → ℤ
 weight_of_place weights p None = pos 0
 weight_of_place weights p (Some i) = weight_at weights p i
@@ -33,6 +35,7 @@ gain_of l weights rotation = total (λ i.
 abbrev pub gain_of_set : Lists → List (List ℤ) → List (List (ℕ × ℕ)) → List Bool → ℤ
 gain_of_set l weights rotations set = total (λ k. if is_member set k then gain_of l weights (rotation_at rotations k) else pos 0) (length rotations)
 
+-- the rank of what p holds; being unmatched counts as 0
 abbrev pub rank_of_place : List (List ℕ) → ℕ → Option ℕ → ℕ
 rank_of_place ranks p None = 0
 rank_of_place ranks p (Some i) = slice_index (row ranks p) i

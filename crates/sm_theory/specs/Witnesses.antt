@@ -14,9 +14,11 @@ three_cycle = record {
   reviewers = (1 ∷ 2 ∷ 0 ∷ []) ∷ (2 ∷ 0 ∷ 1 ∷ []) ∷ (0 ∷ 1 ∷ 2 ∷ []) ∷ [];
 }
 
+-- in its proposers' best each proposer has its first choice
 abbrev pub three_cycle_first : Places
 three_cycle_first = record { proposers = Some 0 ∷ Some 0 ∷ Some 0 ∷ []; reviewers = Some 2 ∷ Some 2 ∷ Some 2 ∷ [] }
 
+-- its complete chain: each proposer moves on by one place, twice
 abbrev pub three_cycle_chain : List (List (ℕ × ℕ))
 three_cycle_chain = ((0, 0) ∷ (1, 1) ∷ (2, 2) ∷ []) ∷ ((0, 1) ∷ (1, 2) ∷ (2, 0) ∷ []) ∷ []
 
@@ -43,9 +45,11 @@ passed_seat = record {
   reviewers = (1 ∷ 2 ∷ 0 ∷ []) ∷ (0 ∷ 1 ∷ []) ∷ (3 ∷ 2 ∷ []) ∷ (2 ∷ 3 ∷ []) ∷ [];
 }
 
+-- in its proposers' best each proposer has its first choice
 abbrev pub passed_seat_first : Places
 passed_seat_first = record { proposers = Some 0 ∷ Some 0 ∷ Some 0 ∷ Some 0 ∷ []; reviewers = Some 2 ∷ Some 1 ∷ Some 1 ∷ Some 1 ∷ [] }
 
+-- its complete chain: proposers 0 and 1 exchange their reviewers, and then 2 and 3
 abbrev pub passed_seat_chain : List (List (ℕ × ℕ))
 passed_seat_chain = ((0, 0) ∷ (1, 1) ∷ []) ∷ ((2, 2) ∷ (3, 3) ∷ []) ∷ []
 
@@ -67,12 +71,15 @@ left_over = record {
   reviewers = (1 ∷ 0 ∷ []) ∷ (0 ∷ 1 ∷ 2 ∷ []) ∷ (0 ∷ []) ∷ [];
 }
 
+-- its proposers' best: proposers 0 and 1 have their first choices
 abbrev pub left_over_first : Places
 left_over_first = record { proposers = Some 0 ∷ Some 0 ∷ None ∷ []; reviewers = Some 1 ∷ Some 1 ∷ None ∷ [] }
 
+-- its complete chain: proposers 0 and 1 exchange their reviewers
 abbrev pub left_over_chain : List (List (ℕ × ℕ))
 left_over_chain = ((0, 0) ∷ (1, 1) ∷ []) ∷ []
 
+-- its reviewers' best: proposers 0 and 1 have their second choices
 abbrev pub left_over_last : Places
 left_over_last = record { proposers = Some 1 ∷ Some 1 ∷ None ∷ []; reviewers = Some 0 ∷ Some 0 ∷ None ∷ [] }
 

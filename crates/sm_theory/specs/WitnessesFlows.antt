@@ -17,9 +17,11 @@ three_cycle_levels = (1 ∷ 2 ∷ 3 ∷ 4 ∷ []) ∷ (1 ∷ 2 ∷ 3 ∷ 4 ∷ [
 abbrev pub three_cycle_weights : List (List ℤ)
 three_cycle_weights = (pos 0 ∷ pos 4 ∷ negsuc 9 ∷ []) ∷ (pos 0 ∷ pos 0 ∷ pos 0 ∷ []) ∷ (pos 0 ∷ pos 0 ∷ pos 0 ∷ []) ∷ []
 
+-- the second rotation needs the first
 abbrev pub three_cycle_needs : List (List ℕ)
 three_cycle_needs = [] ∷ (0 ∷ []) ∷ []
 
+-- the net of these weights, without conditions
 abbrev pub three_cycle_net : Net
 three_cycle_net = net_of three_cycle three_cycle_levels three_cycle_weights [] [] three_cycle_first three_cycle_chain three_cycle_needs
 
@@ -44,6 +46,7 @@ WorkedNet = IsNetGround three_cycle three_cycle_levels three_cycle_first three_c
 abbrev pub barred_net : Net
 barred_net = net_of three_cycle three_cycle_levels three_cycle_weights [] ((0, 1) ∷ (0, 2) ∷ (0, 3) ∷ []) three_cycle_first three_cycle_chain three_cycle_needs
 
+-- some path of unbounded edges leads from the source to the sink
 abbrev pub BarredNet : Type 0
 BarredNet = IsReachable (IsUnbounded barred_net) 0 (sink_of barred_net)
 
@@ -52,9 +55,11 @@ BarredNet = IsReachable (IsUnbounded barred_net) 0 (sink_of barred_net)
 abbrev pub middle : List (ℕ × ℕ)
 middle = (0, 2) ∷ []
 
+-- the net with the level in the middle forced
 abbrev pub forced_net : Net
 forced_net = net_of three_cycle three_cycle_levels three_cycle_weights middle [] three_cycle_first three_cycle_chain three_cycle_needs
 
+-- the net with the level in the middle forbidden
 abbrev pub forbidden_net : Net
 forbidden_net = net_of three_cycle three_cycle_levels three_cycle_weights [] middle three_cycle_first three_cycle_chain three_cycle_needs
 

@@ -5,6 +5,7 @@ use Rattle.sm_theory.specs.WitnessesFlows.{three_cycle_net}
 use Rattle.sm_theory.specs.declared.flow_lines.FlowLine.{FlowLine}
 use Rattle.sm_theory.specs.FlowLines.{amount_on, amount_from, IsConserved, IsNewEdge, IsWithinRoom, AreLines}
 
+-- an amount from one node to another, as a line
 abbrev pub line : (from to amount : ℕ) → FlowLine
 line from to amount = record { from = from; to = to; amount = amount }
 

@@ -16,9 +16,11 @@ two_pairs = record {
   reviewers = (1 ∷ 0 ∷ []) ∷ (0 ∷ 1 ∷ []) ∷ (3 ∷ 2 ∷ []) ∷ (2 ∷ 3 ∷ []) ∷ [];
 }
 
+-- its proposers' best: each proposer has its first choice
 abbrev pub two_pairs_first : Places
 two_pairs_first = record { proposers = Some 0 ∷ Some 0 ∷ Some 0 ∷ Some 0 ∷ []; reviewers = Some 1 ∷ Some 1 ∷ Some 1 ∷ Some 1 ∷ [] }
 
+-- its complete chain: the first two proposers exchange their reviewers, and then the last two
 abbrev pub two_pairs_chain : List (List (ℕ × ℕ))
 two_pairs_chain = ((0, 0) ∷ (1, 1) ∷ []) ∷ ((2, 2) ∷ (3, 3) ∷ []) ∷ []
 
@@ -26,15 +28,19 @@ two_pairs_chain = ((0, 0) ∷ (1, 1) ∷ []) ∷ ((2, 2) ∷ (3, 3) ∷ []) ∷ 
 abbrev pub two_pairs_ranks : List (List ℕ)
 two_pairs_ranks = (1 ∷ 2 ∷ 3 ∷ []) ∷ (1 ∷ 2 ∷ 3 ∷ []) ∷ (1 ∷ 2 ∷ 3 ∷ []) ∷ (1 ∷ 2 ∷ 3 ∷ []) ∷ []
 
+-- the ranks of the matching in which all four have their first choices
 abbrev pub both_best : List ℕ
 both_best = 1 ∷ 1 ∷ 1 ∷ 1 ∷ []
 
+-- the ranks where the last two have their second choices
 abbrev pub second_worst : List ℕ
 second_worst = 1 ∷ 1 ∷ 2 ∷ 2 ∷ []
 
+-- the ranks where the first two have their second choices
 abbrev pub first_worst : List ℕ
 first_worst = 2 ∷ 2 ∷ 1 ∷ 1 ∷ []
 
+-- the ranks where all four have their second choices
 abbrev pub both_worst : List ℕ
 both_worst = 2 ∷ 2 ∷ 2 ∷ 2 ∷ []
 
@@ -76,6 +82,7 @@ OneMove = DoesMove (rotation_at two_pairs_chain 0) 0
     × (reviewer_after (rotation_at two_pairs_chain 0) 0 ≡ 1)
     × (¬ DoesMove (rotation_at two_pairs_chain 0) 2)
 
+-- all that is said of this market
 abbrev pub TwoPairs : Type 0
 TwoPairs = IsMarket two_pairs × IsPrintedChain two_pairs two_pairs_first two_pairs_chain × AreLevels two_pairs two_pairs_ranks
     × TwoApart × MeetAndJoin × Listed × Orders × NextOnes × OneMove

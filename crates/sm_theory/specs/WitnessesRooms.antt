@@ -8,9 +8,11 @@ use Rattle.sm_theory.specs.Partitions.{IsStablePartition, IsLowestOfOdd, PairsAl
 abbrev pub odd_party_rows : List (List ℕ)
 odd_party_rows = (1 ∷ 2 ∷ 3 ∷ []) ∷ (2 ∷ 0 ∷ 3 ∷ []) ∷ (0 ∷ 1 ∷ 3 ∷ []) ∷ (0 ∷ 1 ∷ 2 ∷ []) ∷ (0 ∷ 4 ∷ []) ∷ []
 
+-- its stable partition: a party of three, and two who are alone
 abbrev pub odd_party_next : List ℕ
 odd_party_next = 1 ∷ 2 ∷ 0 ∷ 3 ∷ 4 ∷ []
 
+-- the matching once the lowest of the odd party is left out
 abbrev pub odd_party_rest : List (Option ℕ)
 odd_party_rest = None ∷ Some 2 ∷ Some 1 ∷ None ∷ None ∷ []
 
@@ -23,9 +25,11 @@ OddParty = AreRoomLists odd_party_rows × IsStablePartition odd_party_rows odd_p
 abbrev pub even_party_rows : List (List ℕ)
 even_party_rows = (1 ∷ 3 ∷ []) ∷ (2 ∷ 0 ∷ []) ∷ (3 ∷ 1 ∷ []) ∷ (0 ∷ 2 ∷ []) ∷ (2 ∷ []) ∷ []
 
+-- its stable partition: a party of four, and one who is alone
 abbrev pub even_party_next : List ℕ
 even_party_next = 1 ∷ 2 ∷ 3 ∷ 0 ∷ 4 ∷ []
 
+-- the matching that pairs the four alternately
 abbrev pub even_party_mates : List (Option ℕ)
 even_party_mates = Some 1 ∷ Some 0 ∷ Some 3 ∷ Some 2 ∷ None ∷ []
 

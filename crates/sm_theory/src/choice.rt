@@ -22,7 +22,7 @@ pub fn chosen_place(choice: Choice, first: Option<u32>, second: Option<u32>) -> 
     }
 }
 
-// The better of two places.
+/// The better of two places.
 fn better(first: Option<u32>, second: Option<u32>) -> Option<u32>
     ensures { result ≡ better first second }
 {
@@ -33,7 +33,7 @@ fn better(first: Option<u32>, second: Option<u32>) -> Option<u32>
     }
 }
 
-// The worse of two places.
+/// The worse of two places.
 fn worse(first: Option<u32>, second: Option<u32>) -> Option<u32>
     ensures { result ≡ worse first second }
 {

@@ -5,18 +5,20 @@
 //! to 3). [`chosen_place`] gives the better or the worse of two places.
 #![tactic(auto)]
 
+mod chain;
 mod choice;
+mod closed_set;
 mod elimination;
 mod flow_lines;
 pub mod laws;
 mod marks;
 mod rotations;
-mod sets;
 pub mod witnesses;
 
+pub use chain::Chain;
 pub use choice::{Choice, chosen_place};
+pub use closed_set::ClosedSet;
 pub use elimination::{eliminate, move_round};
 pub use flow_lines::FlowLine;
 pub use marks::{mark_span, no_marks, note_movers};
 pub use rotations::{Rotation, is_exposed, successor, would_take};
-pub use sets::{Chain, ClosedSet};

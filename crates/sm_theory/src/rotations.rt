@@ -95,7 +95,8 @@ fn is_link_at(market: &Market, m: &Pairing, pairs: &[(u32, u32)], i: usize) -> b
     requires in_range { i < length pairs.now }
     requires made { IsPairingOf market.now m.now }
     ensures link { IsTrue result
-        ↔ IsLink market.now m.now.places (proposer_at pairs.now i) (reviewer_at pairs.now i) (target_at pairs.now i) }
+        ↔ IsLink market.now m.now.places (proposer_at pairs.now i) (reviewer_at pairs.now i)
+        (target_at pairs.now i) }
     ensures market { IsMarket market.now }
 {
     let (p, r) = pairs[i];

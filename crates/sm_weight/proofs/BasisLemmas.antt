@@ -2,7 +2,7 @@
 use Rattle.std.proofs.Common.{◌≡◌, ◌≢◌, ℕ, zero, suc, ◌+◌, ◌<◌, ◌≤◌, ◌⊎◌, ◌&&◌, ◌||◌, ◌==◌, inl, inr, arith, refl, sym, ap, ◌∙◌, subst, Bool, true, false, List, [], ◌∷◌, ◌++◌, length, map, Option, None, Some, slice_index, slice_index_or, get_or, eqb-true, eq-eqb, ne_eqb, lt-ltb, le-ltb, Contains, ℤ, pos, negsuc}
 use Rattle.std.specs.Prelude.{All}
 use Rattle.std.specs.List.{list_any, flat_map, position_or_len}
-use Rattle.std.proofs.lemmas.Bool.{false≢true}
+use Rattle.std.proofs.lemmas.Bool.{false≢true, and_from, or_left, or_right, false_from_ne_true, not_from_false}
 use Rattle.std.proofs.lemmas.List.{get_or_past, get_or_default, get_or-map, length-map}
 use Rattle.std.proofs.lemmas.List.Elements.{All-append, All-contains, Contains-append_left, Contains-append_right}
 use Rattle.std.proofs.lemmas.List.Sums.{prefix_len-le-length}
@@ -13,7 +13,7 @@ use Rattle.sm_theory.specs.Chains.{rotation_at, AreNeedsOf}
 use Rattle.sm_theory.specs.Weights.{gain_of}
 use Rattle.sm_theory.specs.Net.{Net, room_of, IsUnbounded, HasEdge}
 use Rattle.sm_theory.specs.Conditions.{has_level, moves_to, moves_off, entry_node, exit_node, forces, forbids, leads_to_need, rise_of, fall_of, allows_nothing, net_of}
-use Rattle.sm_theory.proofs.Net.Tests.{not_true, and_parts, and_true, or_parts, or_left, or_right, not_parts, not_is, not_same, Passes, some_passes}
+use Rattle.sm_theory.proofs.Net.Tests.{and_parts, or_parts, not_parts, not_same, Passes, some_passes}
 use Rattle.sm_rotations.specs.Graph.{AreNeeds}
 use Rattle.sm_weight.specs.declared.edges.Edge.{Edge}
 use Rattle.sm_weight.specs.Edges.{edge_at, loose, IsRoomOf, IsCovered, AreMerged, AreEdges}
@@ -114,7 +114,7 @@ module _ (l : Lists) (levels : List (List ℕ)) (weights : List (List ℤ)) (for
   unbounded_of : (i j : ℕ) → i ≢ j → 0 < j → ((i ≡ 0) × (j ≡ suc n) → ⊥) → edge i j ≡ true → IsUnbounded net i j
   unbounded_of i zero ne some across e = absurd (omega arith)
   unbounded_of i (suc k) ne some across e =
-      and_true _ _ (not_same i (suc k) ne) (and_true _ _ (not_is _ (not_true (i == 0 && suc k == suc n) (λ x. let w = and_parts _ _ x in across (eqb-true i 0 w.0, eqb-true (suc k) (suc n) w.1)))) e)
+      and_from _ _ (not_same i (suc k) ne) (and_from _ _ (not_from_false _ (false_from_ne_true (i == 0 && suc k == suc n) (λ x. let w = and_parts _ _ x in across (eqb-true i 0 w.0, eqb-true (suc k) (suc n) w.1)))) e)
 
   of_need : (i j : ℕ) → leads_to_need needs i j ≡ true → edge i j ≡ true
   of_need i j e = or_left (leads_to_need needs i j) (list_any (λ c. forces l levels first rotations c i j) forced || list_any (λ c. forbids l levels first rotations c i j) forbidden) e
@@ -158,7 +158,7 @@ module _ (l : Lists) (levels : List (List ℕ)) (weights : List (List ℤ)) (for
     not_always : (c : ℕ × ℕ) (k : ℕ) → k < length forbidden → get_or forbidden k (0, 0) ≡ c → (entry c ≡ 0) × (exit c ≡ suc n) → ⊥
     not_always c k less is e =
         none_at (λ c. forbids l levels first rotations c 0 (suc n)) forbidden k (0, 0) less (not_or_right _ _ allowed)
-        (subst (λ c. forbids l levels first rotations c 0 (suc n) ≡ true) (sym is) (and_true _ _ (eq-eqb _ _ (sym e.0)) (eq-eqb _ _ (sym e.1))))
+        (subst (λ c. forbids l levels first rotations c 0 (suc n) ≡ true) (sym is) (and_from _ _ (eq-eqb _ _ (sym e.0)) (eq-eqb _ _ (sym e.1))))
       where
         not_or_right : (a b : Bool) → (a || b) ≡ false → b ≡ false
         not_or_right true b e = absurd (false≢true (sym e))
@@ -225,7 +225,7 @@ module _ (l : Lists) (levels : List (List ℕ)) (weights : List (List ℤ)) (for
           from_in = let x = exit_le c in omega arith;
           to_in = omega arith;
           room_is = unbounded_of (exit c) (suc n) ne (omega arith) (λ x. omega (arith, x.0))
-              (of_forced (exit c) (suc n) (any_at (λ c. forces l levels first rotations c (exit (get_or forced k (0, 0))) (suc n)) forced k (0, 0) less (or_right _ _ (and_true _ _ (eq-eqb (exit c) (exit c) refl) (eq-eqb (suc n) (suc n) refl)))));
+              (of_forced (exit c) (suc n) (any_at (λ c. forces l levels first rotations c (exit (get_or forced k (0, 0))) (suc n)) forced k (0, 0) less (or_right _ _ (and_from _ _ (eq-eqb (exit c) (exit c) refl) (eq-eqb (suc n) (suc n) refl)))));
         }))
       where
         c : ℕ × ℕ
@@ -236,7 +236,7 @@ module _ (l : Lists) (levels : List (List ℕ)) (weights : List (List ℤ)) (for
       from_in = let x = entry_le c in omega arith;
       to_in = let x = exit_le c in omega arith;
       room_is = unbounded_of (entry c) (exit c) ne (exit_some c) (λ x. not_always c k less refl x)
-          (of_forbidden (entry c) (exit c) (any_at (λ c. forbids l levels first rotations c (entry (get_or forbidden k (0, 0))) (exit (get_or forbidden k (0, 0)))) forbidden k (0, 0) less (and_true _ _ (eq-eqb (entry c) (entry c) refl) (eq-eqb (exit c) (exit c) refl))));
+          (of_forbidden (entry c) (exit c) (any_at (λ c. forbids l levels first rotations c (entry (get_or forbidden k (0, 0))) (exit (get_or forbidden k (0, 0)))) forbidden k (0, 0) less (and_from _ _ (eq-eqb (entry c) (entry c) refl) (eq-eqb (exit c) (exit c) refl))));
     })
       where
         c : ℕ × ℕ

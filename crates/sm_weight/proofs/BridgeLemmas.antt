@@ -224,6 +224,7 @@ module _ (net : Net) (edges : List Edge) (are : AreEdges net edges) (flow : Flow
   unbounded_path [] u v w = w
   unbounded_path (k ∷ path) u v w = (unbounded_step u k w.0, unbounded_path path k v w.1)
 
+  -- a path of unbounded steps is one in the net
   pub unbounded_reach : (nodes : List ℕ) (u v : ℕ) → AreNodes (IsUnboundedStep g) u nodes v → IsReachable (IsUnbounded net) u v
   unbounded_reach nodes u v w = record { path = w.path; is = unbounded_path w.path u v w.is }
 
@@ -372,6 +373,7 @@ module _ (net : Net) (edges : List Edge) (are : AreEdges net edges) (flow : Flow
       unleft : NoneLeaves net (IsResidualStep net (amount_on lines)) members
       unleft i j a b x y s = outside j b y (let r = source_or i x in record { path = r.path ++ j ∷ []; is = path_on r.path 0 i j r.is s })
 
+      -- a maximum flow and what it reaches are a flow by lines and its least cut in the net
       pub found : IsCutFound net members lines flow.value
       found = record { ordered = lines_are; is_flow = flow_is; carries = value_is; reach = reach_is; unleft = unleft }
 
@@ -383,6 +385,7 @@ found_in net {edges} {flow} {members} size h written value are e is answer same 
     let same_of : AreReached flow.reached net.size members = rw e same in
     rw (w, v) (found net edges are flow answer_of members same_of)
 
+-- a path of unbounded edges in the graph leads in the net from the source to the sink
 pub path_in : (net : Net) {edges : List Edge} (size : ℕ) (h : Graph) (nodes : List ℕ) → AreEdges net edges → net.size ≡ size → h ≡ graph_of (size + 2) edges → AreNodes (IsUnboundedStep h) 0 nodes (size + 1)
     → IsReachable (IsUnbounded net) 0 (sink_of net)
 path_in net {edges} size h nodes are e is w =

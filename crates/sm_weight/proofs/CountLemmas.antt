@@ -34,6 +34,7 @@ total_pos f (suc n) = let before = total_pos f n in omega (arith, ints)
 less_by : (a b : ℕ) → b ≤ a → pos a -ℤ pos b ≡ pos (a - b)
 less_by a b le = omega (arith, ints)
 
+-- n times one is n
 pub ones : (n : ℕ) → sum_to (λ _. 1) n ≡ n
 ones zero = refl
 ones (suc n) = omega (arith, ones n)
@@ -112,6 +113,7 @@ module _ {l : Lists} (h : IsMarket l) {first : Places} {rotations : List (List (
   worth_all zero le = omega arith
   worth_all (suc t) le = omega (arith, worth_all t (omega arith), worth_more t (omega arith))
 
+  -- the rotations of a chain move proposers by fewer than 2^24 places together
   pub steps_few : IsWithinLimits l → sum_to steps (length rotations) < 2 ^ 24
   steps_few limits =
       let n : ℕ = length rotations in
@@ -123,12 +125,14 @@ module _ {l : Lists} (h : IsMarket l) {first : Places} {rotations : List (List (
   size_le : (k : ℕ) → k < length rotations → size k ≤ steps k
   size_le k g = omega (arith, ones (size k), sum_le (size k) (λ _. 1) (λ i. new_place k i - old_place k i) (λ i b. let x = goes_down k i g b in omega arith))
 
+  -- so they have fewer than 2^24 pairs
   pub pairs_few : IsWithinLimits l → sum_to size (length rotations) < 2 ^ 24
   pairs_few limits = omega (arith, sum_le (length rotations) size steps size_le, steps_few limits)
 
   one_le : (f : ℕ → ℕ) (n k : ℕ) → k < n → f k ≤ sum_to f n
   one_le f n k less = omega (arith, sum_grows f (suc k) n less)
 
+  -- and so has each of them
   pub pairs_of_few : IsWithinLimits l → (k : ℕ) → k < length rotations → size k < 2 ^ 24
   pairs_of_few limits k g = omega (arith, one_le size (length rotations) k g, pairs_few limits)
 
@@ -243,5 +247,6 @@ module _ {l : Lists} (h : IsMarket l) {first : Places} {rotations : List (List (
         let w = numbered b in_it in
         one_code j (slice_index needs a) (slice_index needs b) (are.rising a b less in_it) (are.sound b in_it) v.owner_is w.owner_is (sym v.code_is ∙ same ∙ w.code_is))
 
+  -- the rotations of a chain have fewer than 2^24 predecessors together
   pub needs_few : IsWithinLimits l → {needs : List (List ℕ)} → AreNeeds l rotations needs → sum_to (λ j. length (row needs j)) (length rotations) < 2 ^ 24
   needs_few limits {needs} are = omega (arith, sum_le (length rotations) (λ j. length (row needs j)) steps (λ j g. needs_le j g (are.each j g)), steps_few limits)

@@ -34,6 +34,7 @@ not_below x y = by_ranked (y.from < x.from) (y.from ≡ x.from) (x.from < y.from
         (λ e also h. inr ((sym same, sym also), rooms y.room x.room (ap (λ o. is_lt (ordering_then o (option_cmp nat_cmp y.room x.room))) (sym e) ∙ h)))
         (λ e more h. inl (inr (sym same, more)))
 
+-- where no neighbours compare the wrong way round, the edges are in order
 pub in_order : (edges : List Edge) → ((k : ℕ) (d : Edge) → 0 ≤ k → k + 1 < length edges
     → is_lt (ordering_then (nat_cmp (get_or edges (k + 1) d).from (get_or edges k d).from) (ordering_then (nat_cmp (get_or edges (k + 1) d).to (get_or edges k d).to) (option_cmp nat_cmp (get_or edges (k + 1) d).room (get_or edges k d).room))) ≡ false)
     → AreInOrder edges
@@ -62,6 +63,7 @@ pub record IsOnce (edges once : List Edge) (i : ℕ) : Type 0 where
   pub last : 0 < i → HaveSameEnds (edge_at once (length once - 1)) (edge_at edges (i - 1))
   pub small : room_total once ≤ room_total (take i edges)
 
+-- of no edges none is taken
 pub once_start : (edges : List Edge) → IsOnce edges [] 0
 once_start edges = record {
   few = omega arith;
@@ -162,6 +164,7 @@ once_same {edges} {once} i order w less some same = record {
           unbounded = λ none. v.unbounded (rooms (subst (λ j. IsUpTo (edge_at edges (i - 1)) (edge_at edges j)) e (order (i - 1) (omega arith))) none);
         }
 
+-- once all edges are looked at, those that were taken are the edges with different ends
 pub once_all : {edges once : List Edge} (i : ℕ) → i ≡ length edges → take i edges ≡ edges → IsOnce edges once i → AreMerged edges once
 once_all {edges} {once} i end whole w = record {
   rising = w.rising;
@@ -189,6 +192,7 @@ part_is : (room : Option ℕ) → bounded_part (room_in room) ≡ room_size room
 part_is None = refl
 part_is (Some n) = refl
 
+-- the rooms of the graph sum up to those of its edges
 pub sum_is : (nodes : ℕ) (edges : List Edge) → room_sum (graph_of nodes edges) ≡ room_total edges
 sum_is nodes [] = refl
 sum_is nodes (e ∷ es) = omega (
@@ -199,8 +203,10 @@ sum_is nodes (e ∷ es) = omega (
   sum_is nodes es,
 )
 
+-- the sum of the first i rooms and the next is that of the first i + 1
 pub part_more : (edges : List Edge) (i : ℕ) → i < length edges → room_total (take i edges) + bounded_part (room_in (edge_at edges i).room) ≡ room_total (take (i + 1) edges)
 part_more edges i less = omega (arith, totals edges i less, part_is (edge_at edges i).room)
 
+-- the graph of the first i edges with the next one is that of the first i + 1
 pub graph_more : (nodes : ℕ) (edges : List Edge) (i : ℕ) → i < length edges → with_edge (graph_of nodes (take i edges)) (graph_edge (edge_at edges i)) ≡ graph_of nodes (take (i + 1) edges)
 graph_more nodes edges i less = ap (λ es. record { nodes = nodes; edges = es }) (sym (map_more graph_edge edges i (record { from = 0; to = 0; room = None }) less))

@@ -30,9 +30,11 @@ module _ {l : Lists} (h : IsMarket l) {m : Places} (s : IsStable l m) {rotation 
       held_map l.proposers (place_after l m.proposers rotation) (proposer_at rotation i) (held_in_range s.matching.proposers (proposer_at rotation i) _ (x.paired i b))
       ∙ after_in h s.matching x i b
 
+  -- each proposer of the rotation is matched behind it
   pub held_after : (i : ℕ) → i < length rotation → IsSome (held (eliminated l m rotation).proposers (proposer_at rotation i))
   held_after i b = some_held (eliminated l m rotation).proposers (proposer_at rotation i) _ (after_is i b)
 
+  -- the weight of what they hold behind it less that of what they held before is the rotation's gain
   pub gain_is : (weights : List (List ℤ)) → weight_held weights (eliminated l m rotation).proposers rotation (length rotation) -ℤ weight_held weights m.proposers rotation (length rotation) ≡ gain_of l weights rotation
   gain_is weights =
       total_less _ _ (length rotation)

@@ -22,6 +22,7 @@ module _ {poset : RotationPoset} (is : IsPoset poset) {levels : List (List ℕ)}
   pub nothing_by_pair : {needs : List (List ℕ)} → AreNeeds poset.lists poset.rotations needs → allows_nothing poset.lists levels forced forbidden poset.first.places poset.rotations ≡ true → IsNothingAllowed poset levels forced forbidden
   nothing_by_pair {needs} are e = (path_where_nothing poset.lists levels weights forced forbidden poset.first.places poset.rotations needs (ground are)).0 (inl e)
 
+  -- where a path of unbounded edges leads from the source to the sink, nothing is allowed
   pub nothing_by_path : {needs : List (List ℕ)} → AreNeeds poset.lists poset.rotations needs → IsReachable (IsUnbounded (poset_net poset levels weights forced forbidden needs)) 0 (sink_of (poset_net poset levels weights forced forbidden needs))
       → IsNothingAllowed poset levels forced forbidden
   nothing_by_path {needs} are r = (path_where_nothing poset.lists levels weights forced forbidden poset.first.places poset.rotations needs (ground are)).0 (inr r)

@@ -1,7 +1,7 @@
 -- The nodes at which a proposer enters a level and leaves it, read of its moves.
 use Rattle.std.proofs.Common.{◌≡◌, ℕ, zero, suc, ◌<◌, ◌≤◌, inl, inr, arith, refl, sym, ap, ◌∙◌, Bool, true, List, [], length, Option, None, Some, slice_index, slice_index_or, eqb-true, eq-eqb, ne_eqb, lt-ltb}
 use Rattle.std.specs.List.{position_or_len}
-use Rattle.std.proofs.lemmas.Bool.{false≢true, ltb-true}
+use Rattle.std.proofs.lemmas.Bool.{false≢true, ltb-true, and_from, false_from_ne_true, not_from_false}
 use Rattle.std.proofs.lemmas.List.{get_or_read}
 use Rattle.std.proofs.lemmas.List.Sums.{position_or_len_is}
 use Rattle.sm_lists.proofs.Counting.{Decided-eq, Decided-and, Decided-not, search_below, lt_or_le, eq_or_ne}
@@ -14,7 +14,7 @@ use Rattle.sm_theory.specs.Vectors.{AreLevels}
 use Rattle.sm_theory.specs.Conditions.{level_at, has_level, moves_to, moves_off, entry_node, exit_node}
 use Rattle.sm_theory.proofs.Bridge.Chain.{stage_stable}
 use Rattle.sm_theory.proofs.Chains.Sets.{moves_follow}
-use Rattle.sm_theory.proofs.Net.Tests.{true_or_false, not_true, and_parts, and_true, not_parts, not_is}
+use Rattle.sm_theory.proofs.Net.Tests.{true_or_false, and_parts, not_parts}
 use Rattle.sm_poset.specs.Moves.{rotation_of, place_to, AreMovesOf, GoDown}
 use Rattle.sm_poset.proofs.ChainLemmas.{move_stands}
 use Rattle.sm_weight.specs.Spans.{level_to, place_before, BeginsAt, IsFirstTo, IsEntry, LeadsOff, IsExit}
@@ -102,8 +102,9 @@ module _ {l : Lists} (h : IsMarket l) {first : Places} {rotations : List (List (
         (w.at, w.there, w.rotation, ap (level_at levels p) w.place ∙ eqb-true _ _ parts.1)
 
     of_comes : (a : ℕ) → a < length moves → level_to (row levels p) moves a ≡ level → comes (rotation_at rotations (rotation_of moves a)) ≡ true
-    of_comes a x e = and_true _ _ (lt-ltb _ _ (are.each a x).moved) (eq-eqb _ _ (ap (level_at levels p) (sym (are.each a x).place) ∙ e))
+    of_comes a x e = and_from _ _ (lt-ltb _ _ (are.each a x).moved) (eq-eqb _ _ (ap (level_at levels p) (sym (are.each a x).place) ∙ e))
 
+    -- the node at which the moves come to the level is the entry of the net
     pub entry_is : IsEntry (row levels p) (held first.proposers p) moves level sink node → node ≡ entry_node l levels first rotations p level
     entry_is w = elim (true_or_false (has_level levels p level (held first.proposers p))) [
       | inl e ↦ rw e (w.begins (begins_of levels p level (held first.proposers p) e))
@@ -115,12 +116,12 @@ module _ {l : Lists} (h : IsMarket l) {first : Places} {rotations : List (List (
           | inl v ↦
               let one : IsFirstTo (row levels p) moves level v.at = record { there = v.below; leads = v.holds; earlier = v.earlier } in
               let at : position_or_len comes rotations ≡ rotation_of moves v.at = position_or_len_is comes rotations (rotation_of moves v.at) [] (omega (arith, are.sound v.at v.below))
-              (λ k less. not_true (comes (rotation_at rotations k)) (λ e. let c = comes_of k (omega (arith, are.sound v.at v.below)) e in v.earlier c.0 (earlier v.at c.0 v.below c.1 (omega (arith, c.2))) c.3))
+              (λ k less. false_from_ne_true (comes (rotation_at rotations k)) (λ e. let c = comes_of k (omega (arith, are.sound v.at v.below)) e in v.earlier c.0 (earlier v.at c.0 v.below c.1 (omega (arith, c.2))) c.3))
               (λ _. of_comes v.at v.below v.holds) in
               omega (arith, w.comes out v.at one, at)
           | inr none ↦
               let at : position_or_len comes rotations ≡ length rotations = position_or_len_is comes rotations (length rotations) [] (omega arith)
-              (λ k less. not_true (comes (rotation_at rotations k)) (λ e. let c = comes_of k less e in none c.0 c.1 c.3))
+              (λ k less. false_from_ne_true (comes (rotation_at rotations k)) (λ e. let c = comes_of k less e in none c.0 c.1 c.3))
               (λ less. absurd (omega arith)) in
               omega (arith, w.never out none, at, last)
         ]
@@ -135,20 +136,21 @@ module _ {l : Lists} (h : IsMarket l) {first : Places} {rotations : List (List (
         (w.at, w.there, w.rotation, (ap (level_at levels p) from ∙ eqb-true _ _ more.0, λ x. false≢true (sym (not_parts _ more.1) ∙ eq-eqb _ _ (ap (level_at levels p) (sym w.place) ∙ x))))
 
     of_leaves : (a : ℕ) → a < length moves → LeadsOff (row levels p) stands moves level a → leaves (rotation_at rotations (rotation_of moves a)) ≡ true
-    of_leaves a x off = and_true _ _ (lt-ltb _ _ (are.each a x).moved) (and_true _ _
+    of_leaves a x off = and_from _ _ (lt-ltb _ _ (are.each a x).moved) (and_from _ _
         (eq-eqb _ _ (ap (level_at levels p) (sym (from_is a x)) ∙ off.0))
-        (not_is _ (ne_eqb _ _ (λ e. off.1 (ap (level_at levels p) (are.each a x).place ∙ e)))))
+        (not_from_false _ (ne_eqb _ _ (λ e. off.1 (ap (level_at levels p) (are.each a x).place ∙ e)))))
 
+    -- the node at which the moves leave the level is the exit of the net
     pub exit_is : IsExit (row levels p) stands moves level sink node → node ≡ exit_node l levels rotations p level
     exit_is w = elim (search_below (length moves) (LeadsOff (row levels p) stands moves level) (λ a _. Decided-and (Decided-eq (slice_index (row levels p) (place_before stands moves a)) level) (Decided-not (Decided-eq (level_to (row levels p) moves a) level)))) [
       | inl v ↦
           let at : position_or_len leaves rotations ≡ rotation_of moves v.at = position_or_len_is leaves rotations (rotation_of moves v.at) [] (omega (arith, are.sound v.at v.below))
-          (λ k less. not_true (leaves (rotation_at rotations k)) (λ e. let c = leaves_of k (omega (arith, are.sound v.at v.below)) e in v.earlier c.0 (earlier v.at c.0 v.below c.1 (omega (arith, c.2))) c.3))
+          (λ k less. false_from_ne_true (leaves (rotation_at rotations k)) (λ e. let c = leaves_of k (omega (arith, are.sound v.at v.below)) e in v.earlier c.0 (earlier v.at c.0 v.below c.1 (omega (arith, c.2))) c.3))
           (λ _. of_leaves v.at v.below v.holds) in
           omega (arith, w.leaves v.at v.below v.holds, at)
       | inr none ↦
           let at : position_or_len leaves rotations ≡ length rotations = position_or_len_is leaves rotations (length rotations) [] (omega arith)
-          (λ k less. not_true (leaves (rotation_at rotations k)) (λ e. let c = leaves_of k less e in none c.0 c.1 c.3))
+          (λ k less. false_from_ne_true (leaves (rotation_at rotations k)) (λ e. let c = leaves_of k less e in none c.0 c.1 c.3))
           (λ less. absurd (omega arith)) in
           omega (arith, w.never none, at, last)
     ]

@@ -105,6 +105,7 @@ module _ (l : Lists) (levels : List (List ℕ)) (forced forbidden : List (ℕ ×
     loose_rooms (exit_node l levels rotations c.0 c.1) (suc n),
   )
 
+  -- there are no more edges than predecessors, gains, twice the forced pairs and the forbidden ones
   pub raw_few : length (raw_edges l levels forced forbidden first rotations needs gains) ≤ sum_to (λ k. length (row needs k)) (length needs) + length gains + 2 * length forced + length forbidden
   raw_few = omega (
     arith,
@@ -120,6 +121,7 @@ module _ (l : Lists) (levels : List (List ℕ)) (forced forbidden : List (ℕ ×
     flat_few (forbidden_edges l levels first rotations) 1 (λ c. loose_few (entry_node l levels first rotations c.0 c.1) (exit_node l levels rotations c.0 c.1)) forbidden,
   )
 
+  -- their rooms sum up to no more than the sizes of the gains
   pub raw_small : room_total (raw_edges l levels forced forbidden first rotations needs gains) ≤ sum_by unsigned_abs gains
   raw_small = omega (
     arith,

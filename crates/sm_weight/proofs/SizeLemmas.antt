@@ -12,6 +12,7 @@ use Rattle.sm_weight.specs.Sizes.{weights_in, weights_of}
 pub weight_long : (weights : List (Vec ℤ Global)) (p : ℕ) (v : Vec ℤ Global) → p < length weights → v ≡ slice_index_or weights p v → length v.items ≡ length (weights_of (weights_in weights) p)
 weight_long weights p v less is = ap (λ (v : Vec ℤ Global). length v.items) is ∙ ap length (row_read weights p v less)
 
+-- a weight that is read of the vectors is the weight of its place
 pub weight_read : (weights : List (Vec ℤ Global)) (p i : ℕ) (v : Vec ℤ Global) (z : ℤ) → p < length weights → v ≡ slice_index_or weights p v → i < length v.items → z ≡ slice_index_or v.items i z → z ≡ weight_at (weights_in weights) p i
 weight_read weights p i v z less is inside read =
     read ∙ get_or_default v.items i z (pos 0) inside

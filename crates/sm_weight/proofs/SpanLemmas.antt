@@ -9,6 +9,7 @@ pub before_is : (stands : ℕ) (moves : List (ℕ × ℕ)) (a : ℕ) → 0 < a �
 before_is stands moves zero some = absurd (omega arith)
 before_is stands moves (suc a) some = ap (place_to moves) (let e : a ≡ suc a - 1 = omega arith in e)
 
+-- before a move a proposer stands on its list of levels
 pub before_on_list : {levels : List ℕ} {moves : List (ℕ × ℕ)} (stands a : ℕ) → AreAlong levels moves → stands < length levels → a < length moves → place_before stands moves a < length levels
 before_on_list stands zero w less there = less
 before_on_list stands (suc a) w less there = w.on_list a (omega arith)
@@ -28,18 +29,21 @@ module _ {levels : List ℕ} {moves : List (ℕ × ℕ)} {level n : ℕ} (stands
     ]
   ]
 
+  -- where no move leads to a higher level, the level is never left
   pub exit_never : (sink : ℕ) → n ≡ length moves → IsExit levels stands moves level sink sink
   exit_never sink e = record {
     leaves = λ a there off. absurd (omega (arith, off_is a there off));
     never = λ none. refl;
   }
 
+  -- where the proposer stands on the level before the first move to a higher one, this move leaves it
   pub exit_found : (sink : ℕ) → n < length moves → slice_index levels (place_before stands moves n) ≡ level → IsExit levels stands moves level sink (rotation_of moves n + 1)
   exit_found sink there e = record {
     leaves = λ a inside off. let same = ap (rotation_of moves) (off_is a inside off) in omega arith;
     never = λ none. absurd (none n there (e, λ x. omega (arith, d.higher n (omega arith) there)));
   }
 
+  -- where it stands on another level there, the level is never left
   pub exit_not : (sink : ℕ) → n < length moves → slice_index levels (place_before stands moves n) ≢ level → IsExit levels stands moves level sink sink
   exit_not sink there ne = record {
     leaves = λ a inside off. absurd (ne (ap (λ b. slice_index levels (place_before stands moves b)) (sym (off_is a inside off)) ∙ off.0));

@@ -39,6 +39,7 @@ joined f (suc n) = joined f n ++ f n
 abbrev pub need_edges_of : ℕ → List ℕ → List Edge
 need_edges_of k needs = flat_map (λ i. loose (k + 1) (i + 1)) needs
 
+-- the edges from rotation k to its predecessors
 abbrev pub need_edges : List (List ℕ) → ℕ → List Edge
 need_edges needs k = need_edges_of k (row needs k)
 
@@ -48,6 +49,7 @@ gain_edge sink k (pos zero) = []
 gain_edge sink k (pos (suc n)) = record { from = k + 1; to = sink; room = Some (suc n) } ∷ []
 gain_edge sink k (negsuc n) = record { from = 0; to = k + 1; room = Some (suc n) } ∷ []
 
+-- the edge of the gain of rotation k
 abbrev pub gain_edges : ℕ → List ℤ → ℕ → List Edge
 gain_edges sink gains k = gain_edge sink k (slice_index_or gains k (pos 0))
 

@@ -21,9 +21,11 @@ abbrev pub room_size : Option ℕ → ℕ
 room_size None = 0
 room_size (Some bound) = bound
 
+-- the sum of the rooms of some edges
 abbrev pub room_total : List Edge → ℕ
 room_total edges = sum_by (λ e. room_size e.room) edges
 
+-- two edges lead from the same node to the same node
 abbrev pub HaveSameEnds : Edge → Edge → Type 0
 HaveSameEnds x y = (x.from ≡ y.from) × (x.to ≡ y.to)
 
@@ -58,6 +60,7 @@ pub record AreMerged (all once : List Edge) : Type 0 where
   pub short : length once ≤ length all
   pub small : room_total once ≤ room_total all
 
+-- the ends of all edges are among so many nodes
 abbrev pub AreOnNodes : ℕ → List Edge → Type 0
 AreOnNodes nodes edges = (e : ℕ) → e < length edges → ((edge_at edges e).from < nodes) × ((edge_at edges e).to < nodes)
 
@@ -66,9 +69,11 @@ abbrev pub room_in : Option ℕ → Room
 room_in None = Unbounded
 room_in (Some bound) = Bounded bound
 
+-- an edge as the graph of a flow has it
 abbrev pub graph_edge : Edge → GraphEdge
 graph_edge e = record { from = e.from; to = e.to; room = room_in e.room }
 
+-- the graph of some edges on so many nodes
 abbrev pub graph_of : ℕ → List Edge → Graph
 graph_of nodes edges = record { nodes = nodes; edges = map graph_edge edges }
 

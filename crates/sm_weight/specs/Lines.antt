@@ -14,6 +14,7 @@ abbrev pub line_of : Edge → ℕ → List FlowLine
 line_of e zero = []
 line_of e (suc n) = record { from = e.from; to = e.to; amount = suc n } ∷ []
 
+-- the lines of the amounts on the first n edges
 abbrev pub lines_to : List Edge → List ℕ → ℕ → List FlowLine
 lines_to edges amounts zero = []
 lines_to edges amounts (suc n) = lines_to edges amounts n ++ line_of (edge_at edges n) (amount amounts n)

@@ -22,8 +22,10 @@ use std::alloc::{AllocError, Global};
 pub(crate) fn allows_nothing(poset: &Poset, levels: &[Vec<u32>], conditions: &Conditions) -> bool
     requires levels { AreLevels poset.now.lists (rows_of levels.now) }
     requires forced { AreInRange (length poset.now.lists.proposers) conditions.now.forced.items }
-    requires forbidden { AreInRange (length poset.now.lists.proposers) conditions.now.forbidden.items }
-    ensures { result ≡ is_barred poset.now (rows_of levels.now) conditions.now.forced.items conditions.now.forbidden.items }
+    requires forbidden { AreInRange (length poset.now.lists.proposers)
+        conditions.now.forbidden.items }
+    ensures { result ≡ is_barred poset.now (rows_of levels.now) conditions.now.forced.items
+        conditions.now.forbidden.items }
 {
     any_in_none(poset, levels, &conditions.forced)
         || any_in_all(poset, levels, &conditions.forbidden)
@@ -33,7 +35,8 @@ pub(crate) fn allows_nothing(poset: &Poset, levels: &[Vec<u32>], conditions: &Co
 fn any_in_none(poset: &Poset, levels: &[Vec<u32>], pairs: &[(u32, u32)]) -> bool
     requires levels { AreLevels poset.now.lists (rows_of levels.now) }
     requires pairs { AreInRange (length poset.now.lists.proposers) pairs.now }
-    ensures { result ≡ list_any (λ c. forces poset.now.lists (rows_of levels.now) poset.now.first.places poset.now.rotations c
+    ensures { result ≡ list_any (λ c. forces poset.now.lists (rows_of levels.now)
+        poset.now.first.places poset.now.rotations c
         0 (suc (length poset.now.rotations))) pairs.now }
 {
     let sink = sink(poset);
@@ -49,7 +52,8 @@ fn any_in_none(poset: &Poset, levels: &[Vec<u32>], pairs: &[(u32, u32)]) -> bool
 fn any_in_all(poset: &Poset, levels: &[Vec<u32>], pairs: &[(u32, u32)]) -> bool
     requires levels { AreLevels poset.now.lists (rows_of levels.now) }
     requires pairs { AreInRange (length poset.now.lists.proposers) pairs.now }
-    ensures { result ≡ list_any (λ c. forbids poset.now.lists (rows_of levels.now) poset.now.first.places poset.now.rotations c
+    ensures { result ≡ list_any (λ c. forbids poset.now.lists (rows_of levels.now)
+        poset.now.first.places poset.now.rotations c
         0 (suc (length poset.now.rotations))) pairs.now }
 {
     let sink = sink(poset);
@@ -86,8 +90,10 @@ pub(crate) fn net_edges(
     requires gains { length gains.now ≡ length poset.now.rotations }
     requires small { sum_by unsigned_abs gains.now ≤ 2 ^ 55 }
     requires forced { AreInRange (length poset.now.lists.proposers) conditions.now.forced.items }
-    requires forbidden { AreInRange (length poset.now.lists.proposers) conditions.now.forbidden.items }
-    requires few { length conditions.now.forced.items + length conditions.now.forbidden.items < 2 ^ 24 }
+    requires forbidden { AreInRange (length poset.now.lists.proposers)
+        conditions.now.forbidden.items }
+    requires few { length conditions.now.forced.items + length conditions.now.forbidden.items
+        < 2 ^ 24 }
     ensures edges { IfOk result (λ edges. AreNetEdges poset.now (rows_of levels.now) gains.now
         conditions.now.forced.items conditions.now.forbidden.items edges.items) }
     ensures few { IfOk result (λ edges. length edges.items ≤ 2 ^ 30) }
@@ -106,8 +112,10 @@ pub(crate) fn net_edges(
 fn most_edges(needs: &[Vec<u32>], gains: &[i64], conditions: &Conditions) -> usize
     requires needs { sum_to (λ k. length (row (rows_of needs.now) k)) (length needs.now) < 2 ^ 24 }
     requires gains { length gains.now < 2 ^ 24 }
-    requires few { length conditions.now.forced.items + length conditions.now.forbidden.items < 2 ^ 24 }
-    ensures { result ≡ sum_to (λ k. length (row (rows_of needs.now) k)) (length needs.now) + length gains.now
+    requires few { length conditions.now.forced.items + length conditions.now.forbidden.items
+        < 2 ^ 24 }
+    ensures { result ≡ sum_to (λ k. length (row (rows_of needs.now) k)) (length needs.now)
+        + length gains.now
         + 2 * length conditions.now.forced.items + length conditions.now.forbidden.items }
 {
     count(needs) + gains.len() + 2 * conditions.forced.len() + conditions.forbidden.len()
@@ -128,8 +136,10 @@ fn count(lists: &[Vec<u32>]) -> usize
 /// Adds the edges from each rotation to those that it needs.
 fn add_needs(needs: &[Vec<u32>], edges: &mut Vec<Edge>) -> Result<(), AllocError>
     requires few { length needs.now < 2 ^ 24 }
-    requires numbers { (k a : ℕ) → a < length (row (rows_of needs.now) k) → slice_index (row (rows_of needs.now) k) a < 2 ^ 24 }
-    ensures { IfOk result (λ _. edges.new.items ≡ edges.old.items ++ joined (need_edges (rows_of needs.now)) (length needs.now)) }
+    requires numbers { (k a : ℕ) → a < length (row (rows_of needs.now) k)
+        → slice_index (row (rows_of needs.now) k) a < 2 ^ 24 }
+    ensures { IfOk result (λ _. edges.new.items ≡ edges.old.items
+        ++ joined (need_edges (rows_of needs.now)) (length needs.now)) }
 {
     for k in 0..needs.len() {
         add_needs_of(k as u32, &needs[k], edges)?;
@@ -153,7 +163,8 @@ fn add_needs_of(k: u32, needs: &[u32], edges: &mut Vec<Edge>) -> Result<(), Allo
 fn add_gains(gains: &[i64], sink: u32, edges: &mut Vec<Edge>) -> Result<(), AllocError>
     requires few { length gains.now < 2 ^ 24 }
     requires small { sum_by unsigned_abs gains.now ≤ 2 ^ 55 }
-    ensures { IfOk result (λ _. edges.new.items ≡ edges.old.items ++ joined (gain_edges sink gains.now) (length gains.now)) }
+    ensures { IfOk result (λ _. edges.new.items ≡ edges.old.items
+        ++ joined (gain_edges sink gains.now) (length gains.now)) }
 {
     for k in 0..gains.len() {
         add_gain(k as u32, gains[k], sink, edges)?;
@@ -188,7 +199,8 @@ fn add_forced(
     requires levels { AreLevels poset.now.lists (rows_of levels.now) }
     requires pairs { AreInRange (length poset.now.lists.proposers) pairs.now }
     ensures { IfOk result (λ _. edges.new.items ≡ edges.old.items
-        ++ flat_map (forced_edges poset.now.lists (rows_of levels.now) poset.now.first.places poset.now.rotations) pairs.now) }
+        ++ flat_map (forced_edges poset.now.lists (rows_of levels.now) poset.now.first.places
+        poset.now.rotations) pairs.now) }
 {
     let sink = sink(poset);
     for &(p, level) in pairs {
@@ -209,7 +221,8 @@ fn add_forbidden(
     requires levels { AreLevels poset.now.lists (rows_of levels.now) }
     requires pairs { AreInRange (length poset.now.lists.proposers) pairs.now }
     ensures { IfOk result (λ _. edges.new.items ≡ edges.old.items
-        ++ flat_map (forbidden_edges poset.now.lists (rows_of levels.now) poset.now.first.places poset.now.rotations) pairs.now) }
+        ++ flat_map (forbidden_edges poset.now.lists (rows_of levels.now) poset.now.first.places
+        poset.now.rotations) pairs.now) }
 {
     for &(p, level) in pairs {
         let span = span_of(poset, levels, p, level);

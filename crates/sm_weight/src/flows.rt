@@ -30,7 +30,8 @@ pub(crate) fn least_cut(
     requires nodes { AreOnNodes (size + 2) edges.now }
     requires few { length edges.now ≤ 2 ^ 30 }
     requires small { room_total edges.now ≤ 2 ^ 62 }
-    ensures { IfOk result (λ found. (net : Net) → net.size ≡ size → AreEdges net edges.now → MatchOption found
+    ensures { IfOk result (λ found. (net : Net) → net.size ≡ size → AreEdges net edges.now
+        → MatchOption found
         (IsReachable (IsUnbounded net) 0 (sink_of net))
         (λ f. IsCutFound net f.members.items f.lines.items f.value)) }
 {
@@ -63,7 +64,8 @@ fn reached(alloc: Global, size: u32, flow: &Flow) -> Result<Vec<bool>, AllocErro
 fn lines(alloc: Global, edges: &[Edge], flow: &Flow) -> Result<Vec<FlowLine>, AllocError>
     requires each { length flow.now.amounts ≡ length edges.now }
     requires few { length edges.now ≤ 2 ^ 30 }
-    ensures { IfOk result (λ lines. lines.items ≡ lines_to edges.now flow.now.amounts (length edges.now)) }
+    ensures { IfOk result (λ lines. lines.items ≡ lines_to edges.now flow.now.amounts
+        (length edges.now)) }
 {
     let mut lines = Vec::new(alloc);
     for e in 0..edges.len() {

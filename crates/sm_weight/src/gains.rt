@@ -30,10 +30,12 @@ pub(crate) fn gains(
     requires market { IsMarket market.now }
     requires limits { IsWithinLimits market.now }
     requires made { IsPairingOf market.now chain.now.first }
-    requires complete { IsCompleteChain market.now chain.now.first.places (rotations_of chain.now.rotations.items) }
+    requires complete { IsCompleteChain market.now chain.now.first.places
+        (rotations_of chain.now.rotations.items) }
     requires weights { AreWeights market.now (weights_in weights.now) }
     ensures gains { IfOk result (λ gains. gains.items
-        ≡ map (gain_of market.now (weights_in weights.now)) (rotations_of chain.now.rotations.items)) }
+        ≡ map (gain_of market.now (weights_in weights.now))
+        (rotations_of chain.now.rotations.items)) }
     ensures small { IfOk result (λ gains. sum_by unsigned_abs gains.items ≤ 2 ^ 55) }
 {
     let mut gains = Vec::with_capacity(alloc, chain.rotations.len())?;
@@ -66,10 +68,12 @@ fn turn(market: &Market, m: &mut Pairing, rotation: &Rotation, weights: &[Vec<i6
 fn weight_held(m: &Pairing, weights: &[Vec<i64>], pairs: &[(u32, u32)]) -> i64
     requires few { length pairs.now < 2 ^ 24 }
     requires each { length weights.now ≡ length m.now.places.proposers }
-    requires matched { (i : ℕ) → i < length pairs.now → IsSome (held m.now.places.proposers (proposer_at pairs.now i)) }
+    requires matched { (i : ℕ) → i < length pairs.now
+        → IsSome (held m.now.places.proposers (proposer_at pairs.now i)) }
     requires small { AreSmall (weights_in weights.now) }
     requires places { ArePlaces (weights_in weights.now) m.now.places.proposers }
-    ensures weight { result ≡ weight_held (weights_in weights.now) m.now.places.proposers pairs.now (length pairs.now) }
+    ensures weight { result ≡ weight_held (weights_in weights.now) m.now.places.proposers pairs.now
+        (length pairs.now) }
     ensures small { unsigned_abs result ≤ 1000000000 * length pairs.now }
 {
     let mut weight = 0;
@@ -85,11 +89,10 @@ fn weight_of(m: &Pairing, weights: &[Vec<i64>], p: u32) -> i64
     requires matched { IsSome (held m.now.places.proposers p) }
     requires small { AreSmall (weights_in weights.now) }
     requires places { ArePlaces (weights_in weights.now) m.now.places.proposers }
-    ensures weight { result ≡ weight_of_place (weights_in weights.now) p (held m.now.places.proposers p) }
+    ensures weight { result ≡ weight_of_place (weights_in weights.now) p
+        (held m.now.places.proposers p) }
     ensures small { unsigned_abs result ≤ 1000000000 }
 {
-    match m.place(p) {
-        Some(place) => weights[p as usize][place as usize],
-        None => unreachable!(),
-    }
+    let place = m.place(p).unwrap();
+    weights[p as usize][place as usize]
 }

@@ -21,8 +21,10 @@ pub(crate) struct Span {
 pub(crate) fn span_of(poset: &Poset, levels: &[Vec<u32>], p: u32, level: u32) -> Span
     requires proposer { p < length poset.now.lists.proposers }
     requires levels { AreLevels poset.now.lists (rows_of levels.now) }
-    ensures entry { result.entry ≡ entry_node poset.now.lists (rows_of levels.now) poset.now.first.places poset.now.rotations p level }
-    ensures exit { result.exit ≡ exit_node poset.now.lists (rows_of levels.now) poset.now.rotations p level }
+    ensures entry { result.entry ≡ entry_node poset.now.lists (rows_of levels.now)
+        poset.now.first.places poset.now.rotations p level }
+    ensures exit { result.exit ≡ exit_node poset.now.lists (rows_of levels.now) poset.now.rotations
+        p level }
 {
     let chain = poset.chain();
     let sink = chain.rotations.len() as u32 + 1;
@@ -73,7 +75,8 @@ fn begins_at(levels: &[u32], first: Option<u32>, level: u32) -> bool
 fn exit(levels: &[u32], stands: u32, moves: &[(u32, u32)], level: u32, sink: u32) -> u32
     requires along { AreAlong levels.now moves.now }
     requires stands { stands < length levels.now }
-    requires rises { 0 < length moves.now → slice_index levels.now stands ≤ level_to levels.now moves.now 0 }
+    requires rises { 0 < length moves.now → slice_index levels.now stands
+        ≤ level_to levels.now moves.now 0 }
     requires numbers { AreNumbers moves.now sink }
     ensures { IsExit levels.now stands moves.now level sink result }
 {

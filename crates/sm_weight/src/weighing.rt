@@ -52,10 +52,13 @@ pub fn lightest(
     requires levels { AreLevels poset.now.lists (rows_of levels.now) }
     requires weights { AreWeights poset.now.lists (weights_in weights.now) }
     requires forced { AreInRange (length poset.now.lists.proposers) conditions.now.forced.items }
-    requires forbidden { AreInRange (length poset.now.lists.proposers) conditions.now.forbidden.items }
-    requires few { length conditions.now.forced.items + length conditions.now.forbidden.items < 2 ^ 24 }
+    requires forbidden { AreInRange (length poset.now.lists.proposers)
+        conditions.now.forbidden.items }
+    requires few { length conditions.now.forced.items + length conditions.now.forbidden.items
+        < 2 ^ 24 }
     ensures { IfOk result (λ found. MatchOption found
-        (IsNothingAllowed poset.now (rows_of levels.now) conditions.now.forced.items conditions.now.forbidden.items)
+        (IsNothingAllowed poset.now (rows_of levels.now) conditions.now.forced.items
+        conditions.now.forbidden.items)
         (λ f. IsLightestFound poset.now (rows_of levels.now) (weights_in weights.now)
         conditions.now.forced.items conditions.now.forbidden.items f)) }
 {

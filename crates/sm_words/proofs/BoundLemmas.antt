@@ -3,6 +3,7 @@ use Rattle.std.proofs.Common.{◌≡◌, ℕ, ◌+◌, ◌≤◌, ◌<◌, ◌^�
 use Rattle.std.specs.Option.{option_and_then, option_map_or}
 use Rattle.std.proofs.lemmas.Bool.{ltb-false}
 use Rattle.std.proofs.lemmas.Option.{none-some, same_Some}
+use Rattle.sm_text.specs.Limits.{most_limit}
 use Rattle.sm_make.specs.Made.{most_size}
 use Rattle.sm_report.specs.Meanings.{look_up}
 use Rattle.sm_report.specs.Vectors.{vector_in}
@@ -15,7 +16,7 @@ use Rattle.sm_words.specs.declared.operands.Operand.{Operand}
 use Rattle.sm_words.specs.declared.operands.Operand.TheVariants as operand
 use Rattle.sm_words.specs.declared.jobs.Job.{Job}
 use Rattle.sm_words.specs.declared.jobs.WordsFault.{WordsFault}
-use Rattle.sm_words.specs.Jobs.{JobData, Weight, Make, job_of, least_limit, most_limit, IsLimit, least_size, greatest_size, most_seed, IsInBounds}
+use Rattle.sm_words.specs.Jobs.{JobData, Weight, Make, job_of, least_limit, IsLimit, least_size, greatest_size, most_seed, IsInBounds}
 use Rattle.sm_words.specs.Tables.{operands_of, sides, measures, shapes, shows, ValueData, OfSide, OfAfter, OfLimit, OfBy, OfShape, OfSize, OfSeed, OfShow, limit_named, size_named, seed_named, value_named}
 use Rattle.sm_words.specs.Operands.{GivenData, nothing, once, with_value, with_word, has_name, name_in, text_in, value_in}
 use Rattle.sm_words.specs.Words.{read_operands, job_for, or_missing, is_too_large, word_of_size, or_too_large, asked, usual_limit, usual_show}

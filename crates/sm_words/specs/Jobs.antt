@@ -1,6 +1,7 @@
 -- What words may ask for, as plain data.
 use Rattle.std.specs.Prelude.{◌≤◌, ◌<◌, ◌^◌, ℕ, Bool, List as Vector, Option}
 use Rattle.std.specs.Option.{option_map}
+use Rattle.sm_text.specs.Limits.{most_limit}
 use Rattle.sm_instance.specs.declared.kinds.Measure.{Measure}
 use Rattle.sm_instance.specs.declared.kinds.Side.{Side}
 use Rattle.sm_make.specs.declared.shape.Shape.{Shape}
@@ -8,6 +9,7 @@ use Rattle.sm_make.specs.Made.{most_size}
 use Rattle.sm_words.specs.declared.jobs.Job.{Job}
 use Rattle.sm_words.specs.declared.jobs.Job.TheVariants as job
 
+-- a command with the values of its operands
 pub data JobData : Type 0 where
   Solve : Option Side → JobData
   Reduced : JobData
@@ -22,6 +24,7 @@ pub data JobData : Type 0 where
   Check : JobData
   Make : Shape → ℕ → ℕ → Bool → JobData
 
+-- a job as plain data
 abbrev pub job_of : Job → JobData
 job_of (job.Solve side) = Solve side
 job_of job.Reduced = Reduced
@@ -40,9 +43,7 @@ job_of (job.Make shape size seed summary) = Make shape size seed summary
 abbrev pub least_limit : ℕ
 least_limit = 1
 
-abbrev pub most_limit : ℕ
-most_limit = 1000000
-
+-- a limit within its bounds
 abbrev pub IsLimit : ℕ → Type 0
 IsLimit limit = (least_limit ≤ limit) × (limit ≤ most_limit)
 
@@ -50,6 +51,7 @@ IsLimit limit = (least_limit ≤ limit) × (limit ≤ most_limit)
 abbrev pub least_size : ℕ
 least_size = 1
 
+-- the greatest size of any shape
 abbrev pub greatest_size : ℕ
 greatest_size = 2048
 

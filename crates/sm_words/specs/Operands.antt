@@ -21,6 +21,7 @@ pub record GivenData : Type 0 where
   pub seed : Option ℕ
   pub show : Option Bool
 
+-- the operands that were given, as plain data
 abbrev pub given_of : Given → GivenData
 given_of g = record {
   side = g.side;
@@ -33,6 +34,7 @@ given_of g = record {
   show = g.show;
 }
 
+-- no operand is given yet
 abbrev pub nothing : GivenData
 nothing = record {
   side = None;
@@ -50,6 +52,7 @@ abbrev pub once : {T : Type 0} → Option T → T → Option (Option T)
 once None value = Some (Some value)
 once (Some old) value = None
 
+-- one more operand is given, where it wasn't yet
 abbrev pub with_value : ValueData → GivenData → Option GivenData
 with_value (OfSide v) g = option_map (λ s. record g { side = s }) (once g.side v)
 with_value (OfAfter v) g = option_map (λ s. record g { after = s }) (once g.after v)
@@ -64,12 +67,15 @@ with_value (OfShow v) g = option_map (λ s. record g { show = s }) (once g.show 
 abbrev pub is_equals : ℕ → Bool
 is_equals b = b == 61
 
+-- a word has an `=`
 abbrev pub has_name : List ℕ → Bool
 has_name word = nat_lt (position_or_len is_equals word) (length word)
 
+-- what stands before the first `=`
 abbrev pub name_in : List ℕ → List ℕ
 name_in word = before_first is_equals word
 
+-- what stands behind it
 abbrev pub text_in : List ℕ → List ℕ
 text_in word = after_first is_equals word
 
@@ -78,5 +84,6 @@ abbrev pub value_in : Command → List ℕ → Option ValueData
 value_in command word =
     if has_name word then option_and_then (λ operand. value_named operand (text_in word)) (look_up (operands_of command) (name_in word)) else None
 
+-- one more word gives an operand of the command
 abbrev pub with_word : Command → List ℕ → GivenData → Option GivenData
 with_word command word given = option_and_then (λ value. with_value value given) (value_in command word)

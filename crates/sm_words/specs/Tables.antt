@@ -1,5 +1,6 @@
 -- The tables of the command line: its commands, the operands of each, and the values of each operand.
 use Rattle.std.specs.Prelude.{List, [], ◌∷◌, ℕ, Bool, true, false, codes, Option, option_map}
+use Rattle.sm_text.specs.Limits.{most_limit}
 use Rattle.sm_instance.specs.declared.kinds.Measure.{Measure}
 use Rattle.sm_instance.specs.declared.kinds.Measure.TheVariants.{Ranks, Given}
 use Rattle.sm_instance.specs.declared.kinds.Side.{Side}
@@ -9,7 +10,7 @@ use Rattle.sm_make.specs.declared.shape.Shape.{Shape}
 use Rattle.sm_make.specs.declared.shape.Shape.TheVariants.{Copies, Cycle, Random, Hospitals, Rooms}
 use Rattle.sm_report.specs.Meanings.{look_up, number_within}
 use Rattle.sm_report.specs.Vectors.{vector_in}
-use Rattle.sm_words.specs.Jobs.{least_limit, most_limit, least_size, greatest_size, most_seed}
+use Rattle.sm_words.specs.Jobs.{least_limit, least_size, greatest_size, most_seed}
 use Rattle.sm_words.specs.declared.operands.Command.{Command}
 use Rattle.sm_words.specs.declared.operands.Command.TheVariants as command
 use Rattle.sm_words.specs.declared.operands.Operand.{Operand}
@@ -17,6 +18,7 @@ use Rattle.sm_words.specs.declared.operands.Operand.TheVariants as operand
 use Rattle.sm_words.specs.declared.operands.Value.{Value}
 use Rattle.sm_words.specs.declared.operands.Value.TheVariants as value
 
+-- the commands by their names
 abbrev pub commands : List (List ℕ × Command)
 commands =
     (codes "solve", command.Solve)
@@ -33,6 +35,7 @@ commands =
     ∷ (codes "make", command.Make)
     ∷ []
 
+-- the operands of a command by their names
 abbrev pub operands_of : Command → List (List ℕ × Operand)
 operands_of command.Solve = (codes "side", operand.Side) ∷ []
 operands_of command.Reduced = []
@@ -52,6 +55,7 @@ operands_of command.Make =
     ∷ (codes "show", operand.Show)
     ∷ []
 
+-- the sides by their names
 abbrev pub sides : List (List ℕ × Side)
 sides = (codes "proposers", Proposers) ∷ (codes "reviewers", Reviewers) ∷ []
 
@@ -59,6 +63,7 @@ sides = (codes "proposers", Proposers) ∷ (codes "reviewers", Reviewers) ∷ []
 abbrev pub measures : List (List ℕ × Measure)
 measures = (codes "ranks", Ranks) ∷ (codes "given", Given) ∷ []
 
+-- the shapes by their names
 abbrev pub shapes : List (List ℕ × Shape)
 shapes =
     (codes "copies", Copies)
@@ -83,6 +88,7 @@ pub data ValueData : Type 0 where
   OfSeed : ℕ → ValueData
   OfShow : Bool → ValueData
 
+-- a value as plain data
 abbrev pub value_of : Value → ValueData
 value_of (value.OfSide side) = OfSide side
 value_of (value.OfAfter after) = OfAfter after.items
@@ -97,9 +103,11 @@ value_of (value.OfShow summary) = OfShow summary
 abbrev pub limit_named : List ℕ → Option ℕ
 limit_named text = number_within least_limit most_limit text
 
+-- a size that a text spells
 abbrev pub size_named : List ℕ → Option ℕ
 size_named text = number_within least_size greatest_size text
 
+-- a seed that a text spells
 abbrev pub seed_named : List ℕ → Option ℕ
 seed_named text = number_of text most_seed
 

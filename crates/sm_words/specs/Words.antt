@@ -49,6 +49,7 @@ job_for command.Check g = Some Check
 job_for command.Make g =
     option_and_then (λ shape. option_and_then (λ size. option_map (λ seed. Make shape size seed (unwrap_or g.show usual_show)) g.seed) g.size) g.shape
 
+-- the job of the operands that were read, or the word behind the last where a required one is missing
 abbrev pub or_missing : Command → ℕ → Result GivenData ℕ → Result JobData ℕ
 or_missing command behind (Err word) = Err word
 or_missing command behind (Ok g) = option_map_or Ok (job_for command g) (Err behind)
@@ -58,12 +59,15 @@ abbrev pub is_too_large : JobData → Bool
 is_too_large (Make shape size seed summary) = nat_lt (most_size shape) size
 is_too_large _ = false
 
+-- a word that gives the size
 abbrev pub gives_size : List ℕ → Bool
 gives_size word = has_name word && bytes_eq (name_in word) (codes "size")
 
+-- the number of the word that gives the size
 abbrev pub word_of_size : List (List ℕ) → ℕ
 word_of_size operands = position_or_len gives_size operands + 2
 
+-- the job, or the word of the size where this is too large for the shape
 abbrev pub or_too_large : List (List ℕ) → Result JobData ℕ → Result JobData ℕ
 or_too_large operands (Err word) = Err word
 or_too_large operands (Ok job) = if is_too_large job then Err (word_of_size operands) else Ok job
@@ -82,9 +86,11 @@ abbrev pub IsFaultBy : {A : Type 0} → Result A ℕ → WordsFault → Type 0
 IsFaultBy meaning (Usage word) = meaning ≡ Err word
 IsFaultBy meaning OutOfMemory = Unit {0}
 
+-- a fault of words is that of what they mean
 abbrev pub IsWordsFault : List (List ℕ) → WordsFault → Type 0
 IsWordsFault words fault = IsFaultBy (words_meaning words) fault
 
+-- a fault that is want of memory
 abbrev pub IsNoMemory : WordsFault → Type 0
 IsNoMemory (Usage word) = ⊥
 IsNoMemory OutOfMemory = Unit {0}

@@ -8,13 +8,11 @@ ghost use Rattle.sm_words.specs.Operands.{given_of, once, with_value, with_word,
 use sm_instance::{Measure, Side};
 use sm_make::Shape;
 use sm_report::vector;
-use sm_text::number;
+use sm_text::{MOST_LIMIT, number};
 use std::alloc::{AllocError, Global};
 
-/// The bounds of a limit.
+/// The least limit.
 const LEAST_LIMIT: u32 = 1;
-
-const MOST_LIMIT: u32 = 1_000_000;
 
 /// The least size, and the greatest of any shape.
 const LEAST_SIZE: u32 = 1;
@@ -138,7 +136,7 @@ pub(crate) fn take_word(
     }
 }
 
-// The operand of this name that a command takes.
+/// The operand of this name that a command takes.
 fn operand_named(command: Command, name: &str) -> Option<Operand>
     ensures { result ≡ look_up (operands_of command) name.now }
 {
@@ -177,7 +175,7 @@ fn operand_named(command: Command, name: &str) -> Option<Operand>
     }
 }
 
-// The value that a text gives to an operand.
+/// The value that a text gives to an operand.
 fn value_named(alloc: Global, operand: Operand, text: &str) -> Result<Option<Value>, AllocError>
     ensures { IfOk result (λ found. value_named operand text.now ≡ option_map value_of found) }
 {
@@ -193,7 +191,7 @@ fn value_named(alloc: Global, operand: Operand, text: &str) -> Result<Option<Val
     }
 }
 
-// The side of this name.
+/// The side of this name.
 fn side_named(name: &str) -> Option<Side>
     ensures { result ≡ look_up sides name.now }
 {
@@ -204,14 +202,14 @@ fn side_named(name: &str) -> Option<Side>
     }
 }
 
-// The limit that a text spells.
+/// The limit that a text spells.
 fn limit_named(text: &str) -> Option<u32>
     ensures { result ≡ limit_named text.now }
 {
     number_within(text, LEAST_LIMIT, MOST_LIMIT)
 }
 
-// The measure of this name.
+/// The measure of this name.
 fn measure_named(name: &str) -> Option<Measure>
     ensures { result ≡ look_up measures name.now }
 {
@@ -222,7 +220,7 @@ fn measure_named(name: &str) -> Option<Measure>
     }
 }
 
-// The shape of this name.
+/// The shape of this name.
 fn shape_named(name: &str) -> Option<Shape>
     ensures { result ≡ look_up shapes name.now }
 {
@@ -236,21 +234,21 @@ fn shape_named(name: &str) -> Option<Shape>
     }
 }
 
-// The size that a text spells.
+/// The size that a text spells.
 fn size_named(text: &str) -> Option<u32>
     ensures { result ≡ size_named text.now }
 {
     number_within(text, LEAST_SIZE, GREATEST_SIZE)
 }
 
-// The seed that a text spells.
+/// The seed that a text spells.
 fn seed_named(text: &str) -> Option<u64>
     ensures { result ≡ seed_named text.now }
 {
     number(text.as_bytes(), u64::MAX)
 }
 
-// Whether the summary is shown, by the name of what is.
+/// Whether the summary is shown, by the name of what is.
 fn show_named(name: &str) -> Option<bool>
     ensures { result ≡ look_up shows name.now }
 {
@@ -261,7 +259,7 @@ fn show_named(name: &str) -> Option<bool>
     }
 }
 
-// The number that a text spells, from a least to a greatest one.
+/// The number that a text spells, from a least to a greatest one.
 fn number_within(text: &str, least: u32, most: u32) -> Option<u32>
     ensures { result ≡ number_within least most text.now }
 {
@@ -272,7 +270,7 @@ fn number_within(text: &str, least: u32, most: u32) -> Option<u32>
     Some(n as u32)
 }
 
-// Keeps a value, unless its operand stands already.
+/// Keeps a value, unless its operand stands already.
 fn put(given: &mut Given, value: Value) -> bool
     ensures { with_value (value_of value) (given_of given.old)
         ≡ (if result then Some (given_of given.new) else None) }
@@ -289,7 +287,7 @@ fn put(given: &mut Given, value: Value) -> bool
     }
 }
 
-// Fills a slot, unless it is full.
+/// Fills a slot, unless it is full.
 fn put_once<T: Drop>(slot: &mut Option<T>, value: T) -> bool
     ensures { once slot.old value ≡ (if result then Some slot.new else None) }
 {

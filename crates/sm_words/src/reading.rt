@@ -54,7 +54,7 @@ pub fn read_words(alloc: Global, words: &[String]) -> Result<Job, WordsFault>
     }
 }
 
-// What a command asks for with its operands.
+/// What a command asks for with its operands.
 fn command_job(alloc: Global, command: Command, operands: &[String]) -> Result<Job, WordsFault>
     ensures job { IfOk result (λ job. asked command (texts operands.now) ≡ Ok (job_of job)) }
     ensures fault { IfErr result (λ fault. IsFaultBy (asked command (texts operands.now)) fault) }
@@ -69,10 +69,12 @@ fn command_job(alloc: Global, command: Command, operands: &[String]) -> Result<J
     Ok(job)
 }
 
-// The operands that words give, the first of which has the number 2.
+/// The operands that words give, the first of which has the number 2.
 fn operands_in(alloc: Global, command: Command, words: &[String]) -> Result<Given, WordsFault>
-    ensures given { IfOk result (λ given. read_operands command 2 nothing (texts words.now) ≡ Ok (given_of given)) }
-    ensures fault { IfErr result (λ fault. IsFaultBy (read_operands command 2 nothing (texts words.now)) fault) }
+    ensures given { IfOk result (λ given. read_operands command 2 nothing (texts words.now)
+        ≡ Ok (given_of given)) }
+    ensures fault { IfErr result (λ fault. IsFaultBy (read_operands command 2 nothing
+        (texts words.now)) fault) }
 {
     let mut given = nothing();
     let mut number = FIRST_OPERAND;
@@ -85,7 +87,7 @@ fn operands_in(alloc: Global, command: Command, words: &[String]) -> Result<Give
     Ok(given)
 }
 
-// The job of a command with its operands; `None` where a required one is missing.
+/// The job of a command with its operands; `None` where a required one is missing.
 fn job_for(command: Command, given: Given) -> Option<Job>
     ensures { option_map job_of result ≡ job_for command (given_of given) }
 {
@@ -105,7 +107,7 @@ fn job_for(command: Command, given: Given) -> Option<Job>
     }
 }
 
-// What `make` asks for with its operands; `None` where a required one is missing.
+/// What `make` asks for with its operands; `None` where a required one is missing.
 fn making(given: &Given) -> Option<Job>
     ensures { option_map job_of result ≡ job_for Command.Make (given_of given.now) }
 {
@@ -117,7 +119,7 @@ fn making(given: &Given) -> Option<Job>
     ))
 }
 
-// Whether a job asks for a size that is too large for its shape.
+/// Whether a job asks for a size that is too large for its shape.
 fn is_too_large(job: &Job) -> bool
     ensures { result ≡ is_too_large (job_of job.now) }
 {
@@ -127,7 +129,7 @@ fn is_too_large(job: &Job) -> bool
     }
 }
 
-// The greatest size of a shape.
+/// The greatest size of a shape.
 fn most_size(shape: Shape) -> u32
     ensures { result ≡ most_size shape }
 {
@@ -137,7 +139,7 @@ fn most_size(shape: Shape) -> u32
     }
 }
 
-// The number of the word that gives the size, where the first of these has the number 2.
+/// The number of the word that gives the size, where the first of these has the number 2.
 fn word_of_size(operands: &[String]) -> Result<u32, WordsFault>
     ensures number { IfOk result (λ number. number ≡ word_of_size (texts operands.now)) }
     ensures fault { IfErr result IsNoMemory }
@@ -152,14 +154,14 @@ fn word_of_size(operands: &[String]) -> Result<u32, WordsFault>
     Ok(number)
 }
 
-// Whether a word gives a size.
+/// Whether a word gives a size.
 fn gives_size(word: &str) -> bool
     ensures { result ≡ gives_size word.now }
 {
     matches!(word.split_once('='), Some(("size", _)))
 }
 
-// The number behind that of the last word, where the first of these has the number 2.
+/// The number behind that of the last word, where the first of these has the number 2.
 fn number_behind(operands: &[String]) -> Result<u32, WordsFault>
     ensures number { IfOk result (λ number. number ≡ length operands.now + 2) }
     ensures fault { IfErr result IsNoMemory }
@@ -173,7 +175,7 @@ fn number_behind(operands: &[String]) -> Result<u32, WordsFault>
     }
 }
 
-// The number of the next word. So many words as have no number would take more memory than there is.
+/// The number of the next word. So many words as have no number would take more memory than there is.
 fn next_number(number: u32) -> Result<u32, WordsFault>
     ensures next { IfOk result (λ next. next ≡ number + 1) }
     ensures fault { IfErr result IsNoMemory }

@@ -23,9 +23,11 @@ use Rattle.sm_theory.proofs.Bridge.Rotation.{cycle_of, exposed_of, exposed_back,
 abbrev pub listed : Cycle → List (ℕ × ℕ)
 listed c = map (λ i. (c.who i, c.has i)) (range_with_len 0 c.size)
 
+-- pair i of the list is pair i of the cycle
 pub at_listed : (c : Cycle) (i : ℕ) → i < c.size → slice_index_or (listed c) i (0, 0) ≡ (c.who i, c.has i)
 at_listed c i h = get_or-map-range_with_len (λ i. (c.who i, c.has i)) 0 c.size i i (0, 0) h (omega arith)
 
+-- an exposed cycle stays exposed once it is written as a list
 pub exposed_listed : {s : Sides} {m : Stand} {c : Cycle} → Exposed s m c → Exposed s m (cycle_of (listed c))
 exposed_listed {s} {m} {c} x = record {
   some = omega (arith, size, x.some);
@@ -57,10 +59,12 @@ nothing_below {l} h {m} s none n hn p = elim (lt_or_le (standing l.proposers m.p
 ]
 
 module _ {l : Lists} (h : IsMarket l) {first : Places} {rotations : List (List (ℕ × ℕ))} (chain : IsCompleteChain l first rotations) where
+  -- each stage of a complete chain is a stable matching
   pub stage_stable : (k : ℕ) → k ≤ length rotations → IsStable l (stage l first rotations k)
   stage_stable zero g = chain.from_best.stable
   stage_stable (suc k) g = eliminated_stable h (stage_stable k (omega arith)) (chain.exposed k (omega arith))
 
+  -- a complete chain over lists is one as functions
   pub chain_of : Chain (sides_of l h) (length rotations) (λ k. stand_of l (stage l first rotations k)) (λ k. cycle_of (rotation_at rotations k))
   chain_of = record {
     stable = λ k g. stable_of h (stage_stable k g);
@@ -70,6 +74,7 @@ module _ {l : Lists} (h : IsMarket l) {first : Places} {rotations : List (List (
     worst = nothing_below h (stage_stable (length rotations) (omega arith)) chain.complete;
   }
 
+-- the rotations of a complete chain can be eliminated in turn
 pub eliminable_of : {l : Lists} {first : Places} {rotations : List (List (ℕ × ℕ))} → IsCompleteChain l first rotations → AreEliminable l first rotations
 eliminable_of chain = record { exposed = chain.exposed }
 
@@ -77,19 +82,23 @@ eliminable_of chain = record { exposed = chain.exposed }
 pub rotation_before : (xs : List (List (ℕ × ℕ))) (x : List (ℕ × ℕ)) (k : ℕ) → k < length xs → rotation_at (xs ++ x ∷ []) k ≡ rotation_at xs k
 rotation_before xs x k less = get_or_append_left xs (x ∷ []) [] k less
 
+-- the rotation that is added is the last
 pub rotation_new : (xs : List (List (ℕ × ℕ))) (x : List (ℕ × ℕ)) (k : ℕ) → k ≡ length xs → rotation_at (xs ++ x ∷ []) k ≡ x
 rotation_new xs x k e = get_or_push xs x [] k (sym e)
 
+-- the stages up to there stay as they are
 pub stage_before : (l : Lists) (first : Places) (xs : List (List (ℕ × ℕ))) (x : List (ℕ × ℕ)) (k : ℕ) → k ≤ length xs → stage l first (xs ++ x ∷ []) k ≡ stage l first xs k
 stage_before l first xs x zero le = refl
 stage_before l first xs x (suc k) le = ap (λ m. eliminated l m (rotation_at (xs ++ x ∷ []) k)) (stage_before l first xs x k (omega arith)) ∙ ap (eliminated l (stage l first xs k)) (rotation_before xs x k (omega arith))
 
 -- rotations that can be eliminated lead from matching to matching
 module _ {l : Lists} (h : IsMarket l) {first : Places} (f : IsMatching l first) {rotations : List (List (ℕ × ℕ))} (chain : AreEliminable l first rotations) where
+  -- each stage is a matching
   pub stage_matching : (k : ℕ) → k ≤ length rotations → IsMatching l (stage l first rotations k)
   stage_matching zero g = f
   stage_matching (suc k) g = eliminated_matching h (stage_matching k (omega arith)) (chain.exposed k (omega arith))
 
+  -- such rotations over lists are a way as functions
   pub way_along : Way (sides_of l h) (length rotations) (λ k. stand_of l (stage l first rotations k)) (λ k. cycle_of (rotation_at rotations k))
   way_along = record {
     fit = λ k g. fit_of h (stage_matching k g);
@@ -102,13 +111,16 @@ pub needs_of : {l : Lists} (h : IsMarket l) {early late : List (ℕ × ℕ)} →
 needs_of h (inl w) = inl (record { at = w.pair; below = w.pair_in; at' = w.other; below' = w.other_in; who_is = w.same_proposer; has_is = w.same_reviewer })
 needs_of h (inr w) = inr (record { at = w.pair; below = w.pair_in; at' = w.other; below' = w.other_in; behind = w.behind; before = w.before; gains = w.gains; loses = w.loses })
 
+-- who is a predecessor as functions is one over lists
 pub needs_back : {l : Lists} (h : IsMarket l) (early late : List (ℕ × ℕ)) → Needs (sides_of l h) (cycle_of early) (cycle_of late) → IsNeededBy l early late
 needs_back h early late (inl w) = inl (record { pair = w.at; pair_in = w.below; other = w.at'; other_in = w.below'; same_proposer = w.who_is; same_reviewer = w.has_is })
 needs_back h early late (inr w) = inr (record { pair = w.at; pair_in = w.below; other = w.at'; other_in = w.below'; behind = w.behind; before = w.before; gains = w.gains; loses = w.loses })
 
+-- a closed set over lists is one as functions
 pub closed_of : {l : Lists} (h : IsMarket l) {rotations : List (List (ℕ × ℕ))} {set : List Bool} → IsClosed l rotations set → Closed (sides_of l h) (length rotations) (λ k. cycle_of (rotation_at rotations k)) (IsMember set)
 closed_of h {rotations} x i j a b member need = x.closed i j a b member (needs_back h (rotation_at rotations i) (rotation_at rotations j) need)
 
+-- whether a rotation is in a set is decided
 pub Decided-member : (set : List Bool) (k : ℕ) → Decided (IsMember set k)
 Decided-member set k = go (is_member set k)
   where

@@ -34,6 +34,7 @@ worse_on (Some j) None n i h g e = absurd (none-some _ e)
 worse_on (Some j) (Some k) n i h g e = let s : max j k ≡ i = same_Some _ _ e in omega (arith, h j refl, g k refl)
 
 module _ {l : Lists} (h : IsMarket l) {m n : Places} (hm : IsStable l m) (hn : IsStable l n) where
+  -- in the meet a proposer stands at the better of its two places
   pub standing_meet : (p : ℕ) → standing l.proposers (meet_of l m n).proposers p ≡ min (standing l.proposers m.proposers p) (standing l.proposers n.proposers p)
   standing_meet p = elim (lt_or_le p (length l.proposers)) [
     | inl k ↦ standing_map l.proposers (λ p. better (held m.proposers p) (held n.proposers p)) p k
@@ -41,6 +42,7 @@ module _ {l : Lists} (h : IsMarket l) {m n : Places} (hm : IsStable l m) (hn : I
     | inr k ↦ omega (arith, standing_map_past l.proposers (λ p. better (held m.proposers p) (held n.proposers p)) p k, row_past l.proposers p k, (fit_of h hm.matching).left.within p, (fit_of h hn.matching).left.within p)
   ]
 
+  -- in the join a proposer stands at the worse of its two places
   pub standing_join : (p : ℕ) → standing l.proposers (join_of l m n).proposers p ≡ max (standing l.proposers m.proposers p) (standing l.proposers n.proposers p)
   standing_join p = elim (lt_or_le p (length l.proposers)) [
     | inl k ↦ standing_map l.proposers (λ p. worse (held m.proposers p) (held n.proposers p)) p k
@@ -48,6 +50,7 @@ module _ {l : Lists} (h : IsMarket l) {m n : Places} (hm : IsStable l m) (hn : I
     | inr k ↦ omega (arith, standing_map_past l.proposers (λ p. worse (held m.proposers p) (held n.proposers p)) p k, row_past l.proposers p k, (fit_of h hm.matching).left.within p, (fit_of h hn.matching).left.within p)
   ]
 
+  -- the meet of two stable matchings is stable
   pub meet_of_stable : IsStable l (meet_of l m n)
   meet_of_stable = stable_with h (map (λ p. better (held m.proposers p) (held n.proposers p)) (agents l.proposers)) (length-map-range_with_len _ 0 (length l.proposers)) on
       (meet_stable (sides_of l h) (stand_of l m) (stand_of l n) (stand_of l (meet_of l m n)) (stable_of h hm) (stable_of h hn) (seats_with h (meet_of l m n).proposers) standing_meet)
@@ -58,6 +61,7 @@ module _ {l : Lists} (h : IsMarket l) {m n : Places} (hm : IsStable l m) (hn : I
         | inr k ↦ absurd (none-some _ (sym (held_map_past l.proposers (λ p. better (held m.proposers p) (held n.proposers p)) p k) ∙ e))
       ]
 
+  -- the join of two stable matchings is stable
   pub join_of_stable : IsStable l (join_of l m n)
   join_of_stable = stable_with h (map (λ p. worse (held m.proposers p) (held n.proposers p)) (agents l.proposers)) (length-map-range_with_len _ 0 (length l.proposers)) on
       (join_stable (sides_of l h) (stand_of l m) (stand_of l n) (stand_of l (join_of l m n)) (stable_of h hm) (stable_of h hn) (seats_with h (join_of l m n).proposers) standing_join)

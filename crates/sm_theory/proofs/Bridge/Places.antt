@@ -19,12 +19,15 @@ use Rattle.sm_theory.proofs.Core.Seats.{Seats, same_stable}
 pub row_past : (rows : List (List ℕ)) (a : ℕ) → length rows ≤ a → length (row rows a) ≡ 0
 row_past rows a h = ap length (get_or_past rows a [] h)
 
+-- what an agent holds in a table of a function is the function's value
 pub held_map : (rows : List (List ℕ)) (f : ℕ → Option ℕ) (a : ℕ) → a < length rows → held (map f (agents rows)) a ≡ f a
 held_map rows f a h = get_or-map-range_with_len f 0 (length rows) a a None h (omega arith)
 
+-- past the table nothing is held
 pub held_map_past : (rows : List (List ℕ)) (f : ℕ → Option ℕ) (a : ℕ) → length rows ≤ a → held (map f (agents rows)) a ≡ None
 held_map_past rows f a h = get_or_past (map f (agents rows)) a None (rw (length-map-range_with_len f 0 (length rows)) h)
 
+-- the standing in a table, where None is the list's length
 pub standing_map : (rows : List (List ℕ)) (f : ℕ → Option ℕ) (a : ℕ) → a < length rows → standing rows (map f (agents rows)) a ≡ unwrap_or (f a) (length (row rows a))
 standing_map rows f a h = rw (held_map rows f a h) refl
 
@@ -40,6 +43,7 @@ position_cases test xs = go (nat_lt (position_or_len test xs) (length xs)) refl
     go true e = inl (rw e refl, ltb-true _ _ e)
     go false e = inr (rw e refl, let h = ltb-false (position_or_len test xs) (length xs) e in let k = prefix_len-le-length (λ x. Rattle.std.proofs.Common.not (test x)) xs in omega arith)
 
+-- the first place that passes, or the length where none does
 pub unwrap_position : {X : Type 0} (test : X → Bool) (xs : List X) → unwrap_or (position test xs) (length xs) ≡ position_or_len test xs
 unwrap_position test xs = elim (position_cases test xs) [
   | inl w ↦ rw w.0 refl
@@ -53,6 +57,7 @@ module _ {l : Lists} (h : IsMarket l) (places : List (Option ℕ)) where
   seat_past : (r : ℕ) → length l.reviewers ≤ r → standing l.reviewers (with_proposers l places).reviewers r ≡ 0
   seat_past r k = standing_map_past l.reviewers (λ r. position (λ p. standing l.proposers places p == place_of l.proposers p r) (row l.reviewers r)) r k
 
+  -- each reviewer stands at the first proposer on its list that has it
   pub seats_with : Seats (sides_of l h) (stand_of l (with_proposers l places))
   seats_with = record { within = within; has = has; first = first }
     where
@@ -115,6 +120,7 @@ choose_on a len i e = elim (lt_or_le a len) [
   | inr k ↦ let x : ◌≡◌ {A = Option ℕ} None (Some i) = rw (le-ltb a len k) at e in absurd cc
 ]
 
+-- a stable matching as functions is that of some places over lists
 pub tabled : {l : Lists} (h : IsMarket l) {n : Stand} → Stable (sides_of l h) n → Tabled l n
 tabled {l} h {n} s = record { places = with_proposers l list; stable = stable_with h list (length-map-range_with_len _ 0 (length l.proposers)) on (same_stable s alike (seats_with h list)); alike = alike }
   where

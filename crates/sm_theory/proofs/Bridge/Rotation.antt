@@ -21,6 +21,7 @@ use Rattle.sm_theory.proofs.Core.Cycle.{Cycle, turn, turn_in, Succ, Exposed, Mov
 use Rattle.sm_theory.proofs.Core.Rotation.{Elim, elim_fit, elim_stable}
 use Rattle.sm_theory.proofs.Bridge.Places.{held_map, held_map_past, standing_map, standing_map_past, row_past, seats_with, matching_with}
 
+-- a rotation over lists as a cycle
 abbrev pub cycle_of : List (ℕ × ℕ) → Cycle
 cycle_of rotation = record { size = length rotation; who = proposer_at rotation; has = reviewer_at rotation }
 
@@ -44,6 +45,7 @@ module _ {l : Lists} (h : IsMarket l) {m : Places} where
       here : place_of l.proposers p (entry l.proposers p i) ≡ i
       here = place_of-entry h.proposers p i x.on_list
 
+  -- a successor as functions is one over lists
   pub succ_back : (p r : ℕ) → Succ (sides_of l h) (stand_of l m) p r → IsSuccessor l m p (place_of l.proposers p r)
   succ_back p r x = record {
     on_list = x.on;
@@ -65,9 +67,11 @@ module _ {l : Lists} (h : IsMarket l) {m : Places} where
       let on = f.proposers.on_list p (place_of l.proposers p r) e in
       pair_at p r (fit_of h f) (omega arith) (sym at)
 
+  -- a successor over lists is one as functions
   pub succ_at : IsMatching l m → (p r : ℕ) → IsSuccessor l m p (place_of l.proposers p r) → Succ (sides_of l h) (stand_of l m) p r
   succ_at f p r x = rw (entry-place_of l.proposers p r x.on_list) at (succ_of f p (place_of l.proposers p r) x)
 
+  -- an exposed rotation over lists is one as functions
   pub exposed_of : IsMatching l m → {rotation : List (ℕ × ℕ)} → IsExposed l m rotation → Exposed (sides_of l h) (stand_of l m) (cycle_of rotation)
   exposed_of f {rotation} x = record {
     some = x.not_empty;
@@ -79,6 +83,7 @@ module _ {l : Lists} (h : IsMarket l) {m : Places} where
     next = λ i a. succ_at f (proposer_at rotation i) (target_at rotation i) (x.next i a);
   }
 
+  -- an exposed cycle as functions is an exposed rotation over lists
   pub exposed_back : (rotation : List (ℕ × ℕ)) → Exposed (sides_of l h) (stand_of l m) (cycle_of rotation) → IsExposed l m rotation
   exposed_back rotation x = record {
     not_empty = x.some;
@@ -94,15 +99,19 @@ module _ {l : Lists} (h : IsMarket l) {m : Places} where
     distinct : AreDistinct rotation
     distinct = record { distinct = x.distinct }
 
+    -- the pair of the proposer of pair i is pair i
     pub pair_at_is : (i : ℕ) → i < length rotation → pair_of rotation (proposer_at rotation i) ≡ i
     pair_at_is i a = Cycles.pair_at_is distinct i a
 
+    -- a proposer in no pair gets the length of the rotation
     pub no_pair : (p : ℕ) → ((i : ℕ) → i < length rotation → proposer_at rotation i ≡ p → ⊥) → pair_of rotation p ≡ length rotation
     no_pair p none = Cycles.no_pair rotation p none
 
+    -- a proposer of the rotation moves to its next reviewer
     pub after_in : (i : ℕ) → i < length rotation → place_after l m.proposers rotation (proposer_at rotation i) ≡ Some (place_of l.proposers (proposer_at rotation i) (target_at rotation i))
     after_in i a = Cycles.after_in distinct l m.proposers i a
 
+    -- each other proposer stays where it is
     pub after_out : (p : ℕ) → ((i : ℕ) → i < length rotation → proposer_at rotation i ≡ p → ⊥) → place_after l m.proposers rotation p ≡ held m.proposers p
     after_out p none = Cycles.after_out l m.proposers rotation p none
 
@@ -113,11 +122,13 @@ module _ {l : Lists} (h : IsMarket l) {m : Places} where
     pub proposer_in : (i : ℕ) → i < length rotation → proposer_at rotation i < length l.proposers
     proposer_in i a = held_in_range f.proposers (proposer_at rotation i) (place_of l.proposers (proposer_at rotation i) (reviewer_at rotation i)) (x.paired i a)
 
+    -- the reviewers to which they move are those of the market
     pub target_in : (i : ℕ) → i < length rotation → target_at rotation i < length l.reviewers
     target_in i a =
         let pair = core.paired (turn (length rotation) i) (turn_in (length rotation) i a) in
         row_in_range l.reviewers (target_at rotation i) (standing l.reviewers m.reviewers (target_at rotation i)) pair.matched'
 
+    -- eliminating over lists is eliminating as functions
     pub elim_of : Elim (sides_of l h) (stand_of l m) (cycle_of rotation) (stand_of l (eliminated l m rotation))
     elim_of = record {
       moved = λ i a. standing_map l.proposers (place_after l m.proposers rotation) (proposer_at rotation i) (proposer_in i a) ∙ ap (λ o. unwrap_or o (length (row l.proposers (proposer_at rotation i)))) (after_in i a);
@@ -128,6 +139,7 @@ module _ {l : Lists} (h : IsMarket l) {m : Places} where
       seats = seats_with h (map (place_after l m.proposers rotation) (agents l.proposers));
     }
 
+  -- eliminating an exposed rotation leaves a matching
   pub eliminated_matching : (f : IsMatching l m) {rotation : List (ℕ × ℕ)} → IsExposed l m rotation → IsMatching l (eliminated l m rotation)
   eliminated_matching f {rotation} x = matching_with h (map (place_after l m.proposers rotation) (agents l.proposers)) (length-map-range_with_len _ 0 (length l.proposers)) on
       (elim_fit (fit_of h f) (exposed_of f x) (elim_of f x))
@@ -146,6 +158,7 @@ module _ {l : Lists} (h : IsMarket l) {m : Places} where
               omega arith
           after e (inr none) = f.proposers.on_list p i (sym (after_out f x p none) ∙ e)
 
+  -- eliminating an exposed rotation of a stable matching leaves a stable one
   pub eliminated_stable : (s : IsStable l m) {rotation : List (ℕ × ℕ)} → IsExposed l m rotation → IsStable l (eliminated l m rotation)
   eliminated_stable s x = record { matching = eliminated_matching s.matching x; unblocked = unblocked_of h (elim_stable (stable_of h s) (exposed_of s.matching x) (elim_of s.matching x)) }
 

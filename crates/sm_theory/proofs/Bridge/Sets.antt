@@ -103,6 +103,7 @@ module _ {l : Lists} (h : IsMarket l) {first : Places} {rotations : List (List (
   abbrev place : ℕ → Option ℕ
   place p = option_map (λ i. worst_place l rotations set p i (length rotations)) (held first.proposers p)
 
+  -- the matching of a set over lists is that of its members as functions
   pub set_is_of : IsOf (length rotations) (λ k. stand_of l (stage l first rotations k)) (λ k. cycle_of (rotation_at rotations k)) (IsMember set) (stand_of l (matching_of l first rotations set))
   set_is_of = record { low = λ p. low p (cases p); reach = λ p k g member mv. reach p k g member mv (cases p); attained = λ p. attained p (cases p) }
     where
@@ -148,6 +149,7 @@ module _ {l : Lists} (h : IsMarket l) {first : Places} {rotations : List (List (
           let u : standing l.proposers (stage l first rotations (suc x.at)).proposers p < length (row l.proposers p) = rw x.moves.holds at v.matched in
           omega (arith, x.is)
 
+  -- the matching of a closed set is stable
   pub set_stable : IsClosed l rotations set → IsStable l (matching_of l first rotations set)
   set_stable closed = stable_with h (matching_of l first rotations set).proposers (length-map-range_with_len _ 0 (length l.proposers)) on_list
       (same_stable w.stable (λ p. omega (arith, of_more (chain_of h chain) set_is_of w.of (λ k _ x. x) p, of_more (chain_of h chain) w.of set_is_of (λ k _ x. x) p)) (seats_with h (matching_of l first rotations set).proposers))

@@ -15,6 +15,7 @@ first_is_worse : (l : Lists) (m : Places) (rotation : List (ℕ × ℕ)) (h : Is
     → standing l.proposers m.proposers (proposer_at rotation 0) < standing l.proposers (eliminated l m rotation).proposers (proposer_at rotation 0)
 first_is_worse l m rotation h s x = goes_down (stable_of h s).fit (exposed_of h s.matching x) (elim_of h s.matching x) 0 x.not_empty
 
+-- a stable matching at which a rotation is exposed isn't the best of the side that gains by it
 pub exposed_is_not_best : ExposedIsNotBest
 exposed_is_not_best l m rotation h s = (
   (λ x best. omega (arith, first_is_worse l m rotation h s x, best.worst (eliminated l m rotation) (eliminated_stable h s x) (proposer_at rotation 0))),

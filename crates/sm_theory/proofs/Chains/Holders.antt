@@ -18,6 +18,7 @@ module _ {l : Lists} {m : Paired} (made : IsPairingOf l m) where
   none_is : {x : ℕ} → ◌≡◌ {A = Option ℕ} None (Some x) → ⊥
   none_is e = grind arith
 
+  -- a reviewer without a holder is unmatched
   pub holder_none : (r : ℕ) → held m.holders r ≡ None → held m.places.reviewers r ≡ None
   holder_none r e = go (held m.places.reviewers r) refl
     where
@@ -25,6 +26,7 @@ module _ {l : Lists} {m : Paired} (made : IsPairingOf l m) where
       go None is = is
       go (Some k) is = absurd (none_is (sym e ∙ made.names r ∙ ap (option_map (entry l.reviewers r)) is))
 
+  -- the holder of a reviewer holds it
   pub holder_some : (r q : ℕ) → held m.holders r ≡ Some q → HasHolder l m.places r q
   holder_some r q e = go (held m.places.reviewers r) refl
     where
@@ -34,6 +36,7 @@ module _ {l : Lists} {m : Paired} (made : IsPairingOf l m) where
           let same : q ≡ entry l.reviewers r k = some_is (sym e ∙ made.names r ∙ ap (option_map (entry l.reviewers r)) is) in
           record { matched = rw is refl; has = rw same (made.matching.reviewers.in_turn r k is) }
 
+  -- a holder is one of the proposers
   pub next_in_range : (r : ℕ) (o : Option ℕ) → held m.holders r ≡ o → MatchOption o (Unit {0}) (λ q. q < length l.proposers)
   next_in_range r None is = tt
   next_in_range r (Some q) is = let v = holder_some r q is in held_in_range made.matching.proposers q (place_of l.proposers q r) v.has

@@ -20,12 +20,15 @@ use Rattle.sm_theory.proofs.Bridge.Places.{held_map, held_map_past, row_past}
 use Rattle.sm_theory.proofs.Bridge.Meet.{meet_of_stable, join_of_stable, standing_meet, standing_join}
 use Rattle.sm_theory.proofs.Bridge.Chain.{stable_equal}
 
+-- the meet of two stable matchings is stable, and each proposer is at the better of its places
 pub meet_is_stable : MeetIsStable
 meet_is_stable l m n h hm hn = (meet_of_stable h hm hn, standing_meet h hm hn)
 
+-- their join is stable, and each proposer is at the worse of its places
 pub join_is_stable : JoinIsStable
 join_is_stable l m n h hm hn = (join_of_stable h hm hn, standing_join h hm hn)
 
+-- of a pair in one matching alone, one agent prefers that matching and one the other
 pub pair_is_divided : PairIsDivided
 pair_is_divided l m n h hm hn p i e other = rw (standing-some l.proposers m.proposers p i e) at
     (pair_law (stable_of h hm) (stable_of h hn) (pair_held h hm p i e) apart)
@@ -51,6 +54,7 @@ held_meet l m n hm hn p = elim (lt_or_le p (length l.proposers)) [
   | inr k ↦ inl (held_map_past l.proposers (λ p. better (held m.proposers p) (held n.proposers p)) p k ∙ sym (get_or_past m.proposers p None (omega (arith, hm.matching.proposers.one_each))))
 ]
 
+-- the meet keeps what is allowed and level bounds
 pub meet_keeps_bounds : MeetKeepsBounds
 meet_keeps_bounds l levels low high forced forbidden m n h hm hn wm wn am an = (within, record { holds = holds; avoids = avoids })
   where
@@ -87,6 +91,7 @@ held_join l m n hm hn p = elim (lt_or_le p (length l.proposers)) [
   | inr k ↦ inl (held_map_past l.proposers (λ p. worse (held m.proposers p) (held n.proposers p)) p k ∙ sym (get_or_past m.proposers p None (omega (arith, hm.matching.proposers.one_each))))
 ]
 
+-- the join keeps what is allowed and level bounds
 pub join_keeps_bounds : JoinKeepsBounds
 join_keeps_bounds l levels low high forced forbidden m n h hm hn wm wn am an = (within, record { holds = holds; avoids = avoids })
   where
@@ -108,6 +113,7 @@ join_keeps_bounds l levels low high forced forbidden m n h hm hn wm wn am an = (
       | inr e ↦ an.avoids c k (record { place = w.place; holds = sym e ∙ w.holds; at_level = w.at_level })
     ]
 
+-- where places of one level name reviewers with equal lists, a level vector determines its stable matching
 pub levels_determine : LevelsDetermine
 levels_determine l levels m n h seats hm hn same = stable_equal h hm hn (λ p. omega (arith, no_better (stable_of h hm) (stable_of h hn) alike p, no_better (stable_of h hn) (stable_of h hm) back p))
   where

@@ -16,18 +16,22 @@ pub sum_below : (ℕ → ℕ) → ℕ → ℕ
 sum_below f zero = 0
 sum_below f (suc n) = sum_below f n + f n
 
+-- the sum of no terms
 pub sum_below-zero : (f : ℕ → ℕ) → sum_below f zero ≡ 0
 unfolding sum_below
 sum_below-zero f = refl
 
+-- the sum of one more term
 pub sum_below-suc : (f : ℕ → ℕ) (n : ℕ) → sum_below f (suc n) ≡ sum_below f n + f n
 unfolding sum_below
 sum_below-suc f n = refl
 
+-- terms that are no greater have no greater sum
 pub sums_le : (f g : ℕ → ℕ) (n : ℕ) → ((p : ℕ) → f p ≤ g p) → sum_below f n ≤ sum_below g n
 sums_le f g zero le = omega (arith, sum_below-zero f, sum_below-zero g)
 sums_le f g (suc n) le = omega (arith, sum_below-suc f n, sum_below-suc g n, sums_le f g n le, le n)
 
+-- where one of them is less, the sum is less
 pub sums_less : (f g : ℕ → ℕ) (n q : ℕ) → ((p : ℕ) → f p ≤ g p) → q < n → f q < g q → sum_below f n < sum_below g n
 sums_less f g zero q le inside less = absurd (omega arith)
 sums_less f g (suc n) q le inside less = elim (eq_or_ne q n) [
@@ -35,6 +39,7 @@ sums_less f g (suc n) q le inside less = elim (eq_or_ne q n) [
   | inr e ↦ omega (arith, sum_below-suc f n, sum_below-suc g n, sums_less f g n q le (omega arith) less, le n)
 ]
 
+-- the lengths of the first n lists sum up to no more than those of all
 pub sum_of_lengths : (rows : List (List ℕ)) (n : ℕ) → n ≤ length rows → sum_below (λ p. length (row rows p)) n ≤ sum_by (λ list. length list) rows
 sum_of_lengths rows n fits = omega (arith, part n fits, sum_by-take-le (λ (list : List ℕ). length list) rows n)
   where

@@ -24,6 +24,7 @@ pub successor_named : (l : Lists) (m : Places) (p i r : ℕ) → IsMarket l → 
 successor_named l m p i r h x e = let here = place_of-entry h.proposers p i x.on_list in
     rw (sym here ∙ ap (place_of l.proposers p) e) at x
 
+-- the reviewer at whose place the successor stands is the successor
 pub successor_names : (l : Lists) (m : Places) (p i r : ℕ) → IsSuccessor l m p i → IsSuccessor l m p (place_of l.proposers p r) → entry l.proposers p i ≡ r
 successor_names l m p i r x y = ap (entry l.proposers p) (successor_once x y) ∙ entry-place_of l.proposers p r y.on_list
 
@@ -31,6 +32,7 @@ successor_names l m p i r x y = ap (entry l.proposers p) (successor_once x y) �
 pub held_named : (l : Lists) (m : Places) (p i r : ℕ) → IsMarket l → IsMatching l m → held m.proposers p ≡ Some i → entry l.proposers p i ≡ r → held m.proposers p ≡ Some (place_of l.proposers p r)
 held_named l m p i r h f e x = e ∙ ap Some (sym (place_of-entry h.proposers p i (f.proposers.on_list p i e)) ∙ ap (place_of l.proposers p) x)
 
+-- the reviewer at whose place p stands is whom it holds
 pub held_names : (l : Lists) (m : Places) (p i r : ℕ) → IsMatching l m → held m.proposers p ≡ Some i → held m.proposers p ≡ Some (place_of l.proposers p r) → entry l.proposers p i ≡ r
 held_names l m p i r f e x = ap (entry l.proposers p) (same_Some _ _ (sym e ∙ x)) ∙ entry-place_of l.proposers p r (f.proposers.on_list p (place_of l.proposers p r) x)
 
@@ -47,12 +49,14 @@ module _ {s : Sides} {m : Stand} (c : Cycle) (paired : (i : ℕ) → i < c.size 
   apart (suc d) i j h less e = apart d (i + 1) (j + 1) (omega arith) (omega arith)
       (ap c.who (sym (turn_more c.size i (omega arith))) ∙ onward i j (omega arith) (omega arith) e ∙ ap c.who (turn_more c.size j (omega arith)))
 
+  -- the proposers of such a cycle are distinct
   pub distinct_of : (i j : ℕ) → i < j → j < c.size → c.who i ≢ c.who j
   distinct_of i j less inside e = gap (c.size - suc j) (omega arith)
     where
       gap : (d : ℕ) → j + suc d ≡ c.size → ⊥
       gap d h = apart d i j h less e
 
+-- links that go round, without the first proposer again, are an exposed rotation
 pub exposed_of_links : (l : Lists) (m : Places) (rotation : List (ℕ × ℕ)) → IsMarket l → IsMatching l m → 0 < length rotation
     → ((i : ℕ) → i < length rotation → IsLink l m (proposer_at rotation i) (reviewer_at rotation i) (target_at rotation i))
     → ((i : ℕ) → 0 < i → i < length rotation → proposer_at rotation i ≢ proposer_at rotation 0)

@@ -50,6 +50,7 @@ module _ {l : Lists} (h : IsMarket l) where
   over_wider : {rotation : List (ℕ × ℕ)} {n p x : ℕ} → MovesOver l rotation n p x → MovesOver l rotation (n + 1) p x
   over_wider w = record { pair = w.pair; pair_in = omega (arith, w.pair_in); reviewer = w.reviewer; gains = w.gains; loses = w.loses }
 
+  -- the entries over which one more pair moves its reviewer are marked
   pub marked_more : {rotation : List (ℕ × ℕ)} {i j : ℕ} {before marks after : List (List (Option ℕ))} (better old : ℕ) → let r = target_at rotation i in
       better ≡ place_of l.reviewers r (proposer_at rotation i) → old ≡ place_of l.reviewers r (proposer_at rotation (next_in rotation i)) → old ≤ length (row l.reviewers r)
       → AreMarked l rotation i j before marks → IsSpanMarked l r better old j marks after → AreMarked l rotation (i + 1) j before after
@@ -71,6 +72,7 @@ module _ {l : Lists} (h : IsMarket l) where
     ];
   }
 
+  -- the same with the pair's reviewer and its two places as they are read
   pub marked_step : {rotation : List (ℕ × ℕ)} {i j : ℕ} {before marks after : List (List (Option ℕ))} (r better old : ℕ) → r ≡ target_at rotation i
       → better ≡ place_of l.reviewers (target_at rotation i) (proposer_at rotation i) → old ≡ place_of l.reviewers (target_at rotation i) (proposer_at rotation (next_in rotation i)) → old ≤ length (row l.reviewers r)
       → AreMarked l rotation i j before marks → IsSpanMarked l r better old j marks after → AreMarked l rotation (i + 1) j before after
@@ -83,6 +85,7 @@ module _ {l : Lists} (h : IsMarket l) where
 pub adds_none : (P : ℕ → Type 0) (xs : List ℕ) → ((i : ℕ) → P i → ⊥) → Adds P xs xs
 adds_none P xs none = record { kept = λ i w. w; added = λ i w. absurd (none i w); only = λ i w. inl w }
 
+-- one number that holds, and no other, is added
 pub adds_one : (P : ℕ → Type 0) (xs : List ℕ) (x : ℕ) → P x → ((i : ℕ) → P i → i ≡ x) → Adds P xs (xs ++ x ∷ [])
 adds_one P xs x here one = record {
   kept = λ i w. Contains-append_left xs (x ∷ []) i w;
@@ -100,6 +103,7 @@ adds_one P xs x here one = record {
         go zero _ e = sym e
         go (suc k) less e = absurd (omega arith)
 
+-- what is added in two steps is what either step adds
 pub adds_join : {P Q : ℕ → Type 0} (R : ℕ → Type 0) {xs ys zs : List ℕ} → Adds P xs ys → Adds Q ys zs → ((i : ℕ) → P i → R i) → ((i : ℕ) → Q i → R i) → ((i : ℕ) → R i → P i ⊎ Q i) → Adds R xs zs
 adds_join R a b p q back = record {
   kept = λ i w. b.kept i (a.kept i w);
@@ -114,6 +118,7 @@ adds_join R a b p q back = record {
 pub between_wider : {marks : List (Option ℕ)} {from to i : ℕ} → IsBetween marks from to i → IsBetween marks from (to + 1) i
 between_wider w = record { place = w.place; behind = w.behind; before = omega (arith, w.before); marked = w.marked }
 
+-- what stands up to one more place stands before it or there
 pub between_split : {marks : List (Option ℕ)} {from to : ℕ} (i : ℕ) → IsBetween marks from (to + 1) i → IsBetween marks from to i ⊎ (note_of marks to ≡ Some i)
 between_split {marks} {from} {to} i w = elim (eq_or_ne w.place to) [
   | inl e ↦ inr (rw e at w.marked)
@@ -132,12 +137,14 @@ adds_like forth back a = record {
 pub marks_read : (marks : List (Vec (Option ℕ) Global)) (p : ℕ) (v : Vec (Option ℕ) Global) → p < length marks → v ≡ get_or marks p v → v.items ≡ marks_of (marks_in marks) p
 marks_read marks p v inside is = ap (λ (v : Vec (Option ℕ) Global). v.items) is ∙ sym (get_or-map (λ (v : Vec (Option ℕ) Global). v.items) marks p v [] inside)
 
+-- a mark that is written into the vectors is written into the marks
 pub marks_written : (marks : List (Vec (Option ℕ) Global)) (p x : ℕ) (j : Option ℕ) (d : Vec (Option ℕ) Global) → p < length marks
     → marks_in (set marks p (with_item (get_or marks p d) x j)) ≡ set (marks_in marks) p (set (marks_of (marks_in marks) p) x j)
 marks_written marks p x j d inside =
     map-set (λ (v : Vec (Option ℕ) Global). v.items) marks p (with_item (get_or marks p d) x j)
     ∙ ap (λ row. set (marks_in marks) p (set row x j)) (sym (get_or-map (λ (v : Vec (Option ℕ) Global). v.items) marks p d [] inside))
 
+-- there is one list of marks for each vector
 pub as_many_marks : (marks : List (Vec (Option ℕ) Global)) → length (marks_in marks) ≡ length marks
 as_many_marks marks = length-map marks (λ (v : Vec (Option ℕ) Global). v.items)
 
@@ -150,6 +157,7 @@ last_start rotations notes none = record {
   noted = λ p i below w. absurd (omega arith);
 }
 
+-- where nothing is marked, the marks are those of no rotations
 pub marks_start : {l : Lists} {rotations : List (List (ℕ × ℕ))} {marks : List (List (Option ℕ))} → AreMarksFor l marks → ((p x : ℕ) → mark_at marks p x ≡ None) → AreMarks l rotations 0 marks
 marks_start f none = record {
   for_entries = f;
@@ -158,6 +166,7 @@ marks_start f none = record {
   all = λ p x i on below w. absurd (omega arith);
 }
 
+-- in a fresh list nothing is noted
 pub none_noted : (n p : ℕ) → note_of (replicate n None) p ≡ None
 none_noted n p = elim (lt_or_le p n) [
   | inl h ↦ get_or-replicate n p None None h

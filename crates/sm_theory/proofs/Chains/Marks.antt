@@ -17,6 +17,7 @@ use Rattle.sm_theory.proofs.Core.Chain.{rise, fall, up_at, moved_to, needs_lower
 use Rattle.sm_theory.proofs.Bridge.Rotation.{cycle_of}
 use Rattle.sm_theory.proofs.Bridge.Chain.{way_along, needs_of, needs_back}
 
+-- a rotation that moves p over lists moves it as a cycle
 pub moves_core : {rotation : List (ℕ × ℕ)} {p : ℕ} → Moves rotation (length rotation) p → CoreCycle.Moves (cycle_of rotation) p
 moves_core {rotation} w = rw w.is at (moves_at (cycle_of rotation) w.pair w.pair_in)
 
@@ -74,6 +75,7 @@ module _ {l : Lists} (h : IsMarket l) {first : Places} (f : IsMatching l first) 
     ];
   }
 
+  -- once all pairs of rotation j are marked, the marks are those of one rotation more
   pub marks_more : {j : ℕ} {before after : List (List (Option ℕ))} → j < length rotations → AreMarks l rotations j before → AreMarked l (rotation_at rotations j) (length (rotation_at rotations j)) j before after → AreMarks l rotations (j + 1) after
   marks_more {j} {before} {after} inside a m = record {
     for_entries = m.for_entries;
@@ -129,6 +131,7 @@ module _ {l : Lists} (h : IsMarket l) {first : Places} (f : IsMatching l first) 
           }),
         )
 
+    -- each rotation that is found is a predecessor of j
     pub found_is_need : (i : ℕ) → IsFound l (rotation_at rotations j) (length (rotation_at rotations j)) notes marks i → (i < length rotations) × IsNeededBy l (rotation_at rotations i) (rotation_at rotations j)
     found_is_need i (inl w) = last_is_need i w
     found_is_need i (inr w) = mark_is_need i w

@@ -11,6 +11,7 @@ use Rattle.sm_theory.proofs.Bridge.Places.{row_past}
 use Rattle.sm_theory.specs.Laws.{NoneBelowAll}
 use Rattle.sm_theory.proofs.Core.Cycle.{Cycle, turn, turn_in, target, Succ, succ_unique, Exposed, same_cycle}
 
+-- no exposed rotation that has x has a proposer below the bound
 pub record Safe (s : Sides) (m : Stand) (bound x : ℕ) : Type 0 where
   pub safe : (c : Cycle) → Exposed s m c → (i : ℕ) → i < c.size → c.who i ≡ x → (j : ℕ) → j < c.size → bound ≤ c.who j
 
@@ -50,5 +51,6 @@ in_list l m h s other x = elim (lt_or_le (proposer_at other 0) (length l.propose
   | inr k ↦ absurd (omega (arith, row_past l.proposers (proposer_at other 0) k, (x.next 0 x.not_empty).on_list))
 ]
 
+-- where no exposed rotation has a proposer below their number, none is exposed
 pub none_below_all : NoneBelowAll
 none_below_all l m h s n other x = omega (arith, in_list l m h s other x, n.none other x 0 x.not_empty)

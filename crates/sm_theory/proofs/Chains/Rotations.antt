@@ -23,18 +23,22 @@ use Rattle.sm_theory.proofs.Bridge.Rotation.{cycle_of, exposed_of, exposed_back,
 use Rattle.sm_theory.proofs.Bridge.Chain.{nothing_below, chain_of, needs_of, needs_back, closed_of, Decided-member, stable_equal}
 use Rattle.sm_theory.proofs.Bridge.Sets.{set_is_of, set_stable}
 
+-- of an exposed rotation, all proposers have their reviewer or better, or all the next or worse
 pub dichotomy_law : Dichotomy
 dichotomy_law l m n rotation h hm hn x = dichotomy (stable_of h hm) (stable_of h hn) (exposed_of h hm.matching x)
 
+-- eliminating an exposed rotation leaves a stable matching
 pub elimination_is_stable : EliminationIsStable
 elimination_is_stable l m rotation h hm x = eliminated_stable h hm x
 
+-- a stable matching at which nothing is exposed is the reviewers' best
 pub nothing_exposed : NothingExposed
 nothing_exposed l m h hm none = (record { stable = hm; worst = worst }, λ n hn r. opposed (stable_of h hn) (stable_of h hm) (worst n hn) r)
   where
     worst : (n : Places) → IsStable l n → (p : ℕ) → standing l.proposers n.proposers p ≤ standing l.proposers m.proposers p
     worst n hn p = nothing_below h hm none (stand_of l n) (stable_of h hn) p
 
+-- a stable matching at which nothing is exposed with the sides exchanged is the proposers' best
 pub nothing_exposed_back : NothingExposedBack
 nothing_exposed_back l m h hm none = record {
   stable = hm;
@@ -42,12 +46,14 @@ nothing_exposed_back l m h hm none = record {
       (λ r. nothing_below (IsMarket-reversed h) (IsStable-reversed h hm) none (stand_of (reversed_lists l) (reversed n)) (stable_of (IsMarket-reversed h) (IsStable-reversed h hn)) r) p;
 }
 
+-- each side has no more than one best matching
 pub best_is_unique : BestIsUnique
 best_is_unique l m n h = (
   (λ x y. stable_equal h x.stable y.stable (λ p. omega (arith, x.best n y.stable p, y.best m x.stable p))),
   (λ x y. stable_equal h x.stable y.stable (λ p. omega (arith, x.worst n y.stable p, y.worst m x.stable p))),
 )
 
+-- a predecessor stands earlier in the chain
 pub predecessor_is_earlier : PredecessorIsEarlier
 predecessor_is_earlier l first rotations i j h chain a b need = needs_lower (way_of (chain_of h chain)) i j a b (needs_of h need)
 
@@ -66,6 +72,7 @@ unfolding bool_of
 of_holds (inl p) _ = refl
 of_holds (inr p) x = absurd (p x)
 
+-- the closed sets and the stable matchings correspond one to one
 pub sets_are_matchings : SetsAreMatchings
 sets_are_matchings l first rotations h chain = record {
   stable = λ set closed. set_stable h chain set closed;
@@ -115,6 +122,7 @@ sets_are_matchings l first rotations h chain = record {
     different set other c d e = ext_get_or false set other (c.one_each ∙ sym d.one_each) (λ k g.
         same_bool (is_member set k) (is_member other k) (more set other d e k (omega (arith, c.one_each))) (more other set c (sym e) k (omega (arith, c.one_each))))
 
+-- at the matching of a closed set, what is exposed is what is ready
 pub exposed_where_ready : ExposedWhereReady
 exposed_where_ready l first rotations set k h chain closed g = (
   (λ x.
@@ -131,6 +139,7 @@ exposed_where_ready l first rotations set k h chain closed g = (
 pair_equal : (x y : ℕ × ℕ) → x.0 ≡ y.0 → x.1 ≡ y.1 → x ≡ y
 pair_equal x y p q = λ i. (p i, q i)
 
+-- each rotation that is exposed at a stable matching is one of the chain
 pub all_in_the_chain : AllInTheChain
 all_in_the_chain l first rotations m rotation h chain hm x =
     let w : InChain (chain_of h chain) (stand_of l m) (cycle_of rotation) = all_in_chain (chain_of h chain) (stable_of h hm) (exposed_of h hm.matching x) in (

@@ -20,6 +20,7 @@ pub record Way (s : Sides) (t : ℕ) (M : ℕ → Stand) (c : ℕ → Cycle) : T
   pub exposed : (k : ℕ) → k < t → Exposed s (M k) (c k)
   pub onward : (k : ℕ) → k < t → Elim s (M k) (c k) (M (suc k))
 
+-- a chain is a way
 pub way_of : {s : Sides} {t : ℕ} {M : ℕ → Stand} {c : ℕ → Cycle} → Chain s t M c → Way s t M c
 way_of ch = record { fit = λ k h. (ch.stable k h).fit; exposed = ch.exposed; onward = ch.onward }
 
@@ -43,12 +44,15 @@ pub record Passes (s : Sides) (early late : Cycle) : Type 0 where
   pub gains : s.rank (target early at) (early.who at) < s.rank (target early at) (late.who at')
   pub loses : s.rank (target early at) (late.who at') < s.rank (target early at) (early.who (turn early.size at))
 
+-- early is a predecessor of late, of the first or the second kind
 abbrev pub Needs : Sides → Cycle → Cycle → Type 0
 Needs s early late = Before early late ⊎ Passes s early late
 
+-- with each member C has its predecessors
 abbrev pub Closed : Sides → ℕ → (ℕ → Cycle) → (ℕ → Type 0) → Type 0
 Closed s t c C = (i j : ℕ) → i < t → j < t → C j → Needs s (c i) (c j) → C i
 
+-- p stands in n where some member of C takes it
 pub record Attained (t : ℕ) (M : ℕ → Stand) (c : ℕ → Cycle) (C : ℕ → Type 0) (n : Stand) (p : ℕ) : Type 0 where
   pub at : ℕ
   pub below : at < t
@@ -62,9 +66,11 @@ pub record IsOf (t : ℕ) (M : ℕ → Stand) (c : ℕ → Cycle) (C : ℕ → T
   pub reach : (p k : ℕ) → k < t → C k → Moves (c k) p → (M (suc k)).a p ≤ n.a p
   pub attained : (p : ℕ) → (n.a p ≡ (M 0).a p) ⊎ Attained t M c C n p
 
+-- whether a cycle has p is decided
 pub Decided-moves : (c : Cycle) (p : ℕ) → Decided (Moves c p)
 Decided-moves c p = elim (moves_or_not c p) [ inl w ↦ inl w | inr none ↦ inr (λ w. none w.at w.below w.holds) ]
 
+-- a cycle that doesn't have p has it at no place
 pub not_moves : (c : Cycle) (p : ℕ) → (Moves c p → ⊥) → (i : ℕ) → i < c.size → c.who i ≡ p → ⊥
 not_moves c p none i h e = none (rw e at (moves_at c i h))
 
@@ -84,12 +90,15 @@ seat_high {s} {m} {n} {p} {r} hm hn pair le = elim (lt_or_le (n.a p) (m.a p)) [
 ]
 
 module _ {s : Sides} {t : ℕ} {M : ℕ → Stand} {c : ℕ → Cycle} (ch : Way s t M c) where
+  -- a rotation that has p takes it down its list
   pub up_at : (k p : ℕ) → k < t → Moves (c k) p → (M k).a p < (M (suc k)).a p
   up_at k p h w = let less = goes_down (ch.fit k (omega arith)) (ch.exposed k h) (ch.onward k h) w.at w.below in rw w.holds at less
 
+  -- a rotation that hasn't p leaves it where it is
   pub stay : (k p : ℕ) → k < t → (Moves (c k) p → ⊥) → (M (suc k)).a p ≡ (M k).a p
   stay k p h none = (ch.onward k h).still p (not_moves (c k) p none)
 
+  -- along the way each proposer goes down its list or stays
   pub rise : (p i j : ℕ) → i ≤ j → j ≤ t → (M i).a p ≤ (M j).a p
   rise p i zero h g = le_of_eq (ap (λ k. (M k).a p) (omega arith))
   rise p i (suc j) h g = elim (eq_or_ne i (suc j)) [
@@ -97,6 +106,7 @@ module _ {s : Sides} {t : ℕ} {M : ℕ → Stand} {c : ℕ → Cycle} (ch : Way
     | inr e ↦ le_trans (rise p i j (omega arith) (omega arith)) (never_up (ch.fit j (omega arith)) (ch.exposed j (omega arith)) (ch.onward j (omega arith)) p)
   ]
 
+  -- and each reviewer goes up its list or stays
   pub fall : (r i j : ℕ) → i ≤ j → j ≤ t → (M j).b r ≤ (M i).b r
   fall r i zero h g = le_of_eq (ap (λ k. (M k).b r) (omega arith))
   fall r i (suc j) h g = elim (eq_or_ne i (suc j)) [
@@ -112,12 +122,15 @@ module _ {s : Sides} {t : ℕ} {M : ℕ → Stand} {c : ℕ → Cycle} (ch : Way
     | inr e ↦ stay j p (omega arith) (none j (omega arith) (omega arith)) ∙ quiet p i j (omega arith) (omega arith) (λ k x y. none k x (omega arith))
   ]
 
+  -- the last rotation before k that has p, or none has
   pub last_move : (p k : ℕ) → Last k (λ j. Moves (c j) p) ⊎ ((j : ℕ) → j < k → Moves (c j) p → ⊥)
   last_move p k = last_below k (λ j. Moves (c j) p) (λ j _. Decided-moves (c j) p)
 
+  -- after its last move p stays
   pub since_last : (p k : ℕ) → k ≤ t → (w : Last k (λ j. Moves (c j) p)) → (M k).a p ≡ (M (suc w.at)).a p
   since_last p k h w = quiet p (suc w.at) k w.below h (λ j x y. w.later j x y)
 
+  -- where no rotation before k has p, it is where it began
   pub since_start : (p k : ℕ) → k ≤ t → ((j : ℕ) → j < k → Moves (c j) p → ⊥) → (M k).a p ≡ (M 0).a p
   since_start p k h none = quiet p 0 k (omega arith) h (λ j _ y. none j y)
 

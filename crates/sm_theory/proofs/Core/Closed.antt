@@ -11,6 +11,7 @@ use Rattle.sm_theory.proofs.Core.Exposure.{exposed_there, same_before}
 abbrev pub Under : (ℕ → Type 0) → ℕ → ℕ → Type 0
 Under C i k = C k × (k < i)
 
+-- a stable matching that is the matching of the members of C
 pub record Built (s : Sides) (t : ℕ) (M : ℕ → Stand) (c : ℕ → Cycle) (C : ℕ → Type 0) : Type 0 where
   pub stand : Stand
   pub stable : Stable s stand
@@ -28,6 +29,7 @@ module _ {s : Sides} {t : ℕ} {M : ℕ → Stand} {c : ℕ → Cycle} (ch : Cha
     Closed-under : (i : ℕ) → Closed s t c (Under C i)
     Closed-under i a b h g member need = (closed a b h g member.0 need, omega (arith, needs_lower (way_of ch) a b h g need, member.1))
 
+    -- one more member: its elimination gives the matching of the members with it
     pub added : (i : ℕ) → i < t → C i → Built s t M c (Under C i) → Built s t M c (Under C (suc i))
     added i h member w = record { stand = next; stable = elim_stable w.stable x e; of = record { low = λ p. le_trans (w.of.low p) (up p); reach = reach; attained = λ p. attained p (Decided-moves (c i) p) } }
       where
@@ -62,11 +64,13 @@ module _ {s : Sides} {t : ℕ} {M : ℕ → Stand} {c : ℕ → Cycle} (ch : Cha
     added_before i h member w p mv = same_before ch (Closed-under i) w.stable w.of i h (λ out. omega (arith, out.1))
         (λ j g need. (closed j i g h member need, needs_lower (way_of ch) j i g h need)) p mv
 
+    -- the matching with one more member is the one without it, once that member is eliminated
     pub added_elim : (i : ℕ) (h : i < t) (member : C i) (w : Built s t M c (Under C i)) → Elim s w.stand (c i) (added i h member w).stand
     unfolding added
     added_elim i h member w = Elim-eliminate (exposed_there ch (Closed-under i) w.stable w.of i h (λ out. omega (arith, out.1))
         (λ j g need. (closed j i g h member need, needs_lower (way_of ch) j i g h need)))
 
+    -- one rotation more that isn't a member: the matching stays
     pub passed_by : (i : ℕ) → i < t → (C i → ⊥) → Built s t M c (Under C i) → Built s t M c (Under C (suc i))
     passed_by i h out w = record { stand = w.stand; stable = w.stable; of = record { low = w.of.low; reach = reach; attained = attained } }
       where
@@ -82,6 +86,7 @@ module _ {s : Sides} {t : ℕ} {M : ℕ → Stand} {c : ℕ → Cycle} (ch : Cha
           | inr a ↦ inr (record { at = a.at; below = a.below; member = (a.member.0, omega (arith, a.member.1)); moves = a.moves; is = a.is })
         ]
 
+    -- and is the same as before
     pub passed_stand : (i : ℕ) (h : i < t) (out : C i → ⊥) (w : Built s t M c (Under C i)) → (passed_by i h out w).stand ≡ w.stand
     unfolding passed_by
     passed_stand i h out w = refl
@@ -105,6 +110,7 @@ module _ {s : Sides} {t : ℕ} {M : ℕ → Stand} {c : ℕ → Cycle} (ch : Cha
       | inr out ↦ passed_by i (omega arith) out (built_to i (omega arith))
     ]
 
+    -- a closed set has a stable matching
     pub built : Built s t M c C
     built = let w = built_to t (omega arith) in record {
       stand = w.stand;

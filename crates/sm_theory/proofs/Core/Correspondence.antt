@@ -15,6 +15,7 @@ module _ {s : Sides} {t : ℕ} {M : ℕ → Stand} {c : ℕ → Cycle} (ch : Cha
   Reaches n k = (M (suc k)).a ((c k).who 0) ≤ n.a ((c k).who 0)
 
   module _ {n : Stand} (hn : Stable s n) where
+    -- whether n reaches a rotation is decided
     pub Decided-reaches : (k : ℕ) → Decided (Reaches n k)
     unfolding Reaches
     Decided-reaches k = Decided-le ((M (suc k)).a ((c k).who 0)) (n.a ((c k).who 0))
@@ -90,6 +91,7 @@ module _ {s : Sides} {t : ℕ} {M : ℕ → Stand} {c : ℕ → Cycle} (ch : Cha
         let mv = moves_at (c k) 0 x.some in
         omega (arith, of.reach ((c k).who 0) k h inside mv, up_at (way_of ch) k ((c k).who 0) h mv, (x.paired 0 x.some).place_is, ((ch.exposed k h).paired 0 x.some).place_is)
 
+    -- the predecessors of what is exposed at the matching of a closed set are inside
     pub exposed_ready : (k : ℕ) → k < t → Exposed s n (c k) → (i : ℕ) → i < t → Needs s (c i) (c k) → C i
     exposed_ready k h x i g (inl w) = by_contradiction (known i g) (λ out.
         let p : ℕ = (c i).who w.at in

@@ -30,11 +30,13 @@ go_round n P step i h p = up
     up zero k = start
     up (suc j) k = let e : turn n j ≡ suc j = turn_more n j (omega arith) ∙ omega arith in rw e at (step j (omega arith) (up j (omega arith)))
 
+-- pairs of a proposer and whom it has, in a circle
 pub record Cycle : Type 0 where
   pub size : ℕ
   pub who : ℕ → ℕ
   pub has : ℕ → ℕ
 
+-- whom the next proposer of the circle has
 abbrev pub target : Cycle → ℕ → ℕ
 target c i = c.has (turn c.size i)
 
@@ -46,6 +48,7 @@ pub record Succ (s : Sides) (m : Stand) (p r : ℕ) : Type 0 where
   pub first : (q : ℕ) → m.a p < s.place p q → s.place p q < s.place p r → m.b q ≤ s.rank q p
   pub matched : m.b r < s.len' r
 
+-- there is no more than one successor
 pub succ_unique : {s : Sides} {m : Stand} {p r q : ℕ} → Succ s m p r → Succ s m p q → r ≡ q
 succ_unique {s} {m} {p} {r} {q} x y =
     sym (s.left.at_place p r x.on) ∙ ap (s.at p) same ∙ s.left.at_place p q y.on
@@ -59,6 +62,7 @@ succ_unique {s} {m} {p} {r} {q} x y =
       ]
     ]
 
+-- a cycle of distinct proposers, each with its partner, whose successor is the next one's partner
 pub record Exposed (s : Sides) (m : Stand) (c : Cycle) : Type 0 where
   pub some : 0 < c.size
   pub distinct : (i j : ℕ) → i < c.size → j < c.size → c.who i ≡ c.who j → i ≡ j
@@ -69,12 +73,15 @@ pub record Exposed (s : Sides) (m : Stand) (c : Cycle) : Type 0 where
 abbrev pub Moves : Cycle → ℕ → Type 0
 Moves c p = First c.size (λ i. c.who i ≡ p)
 
+-- a proposer is in the cycle or it is not
 pub moves_or_not : (c : Cycle) (p : ℕ) → Moves c p ⊎ ((i : ℕ) → i < c.size → c.who i ≡ p → ⊥)
 moves_or_not c p = search_below c.size (λ i. c.who i ≡ p) (λ i _. Decided-eq (c.who i) p)
 
+-- a reviewer is in the cycle or it is not
 pub gives_or_not : (c : Cycle) (r : ℕ) → First c.size (λ i. c.has i ≡ r) ⊎ ((i : ℕ) → i < c.size → c.has i ≡ r → ⊥)
 gives_or_not c r = search_below c.size (λ i. c.has i ≡ r) (λ i _. Decided-eq (c.has i) r)
 
+-- the proposer of each pair is in the cycle
 pub moves_at : (c : Cycle) (i : ℕ) → i < c.size → Moves c (c.who i)
 moves_at c i h = elim (moves_or_not c (c.who i)) [ inl w ↦ w | inr none ↦ absurd (none i h refl) ]
 
@@ -85,6 +92,7 @@ pub record Among (c d : Cycle) (i : ℕ) : Type 0 where
   pub who_is : d.who at ≡ c.who i
   pub has_is : d.has at ≡ c.has i
 
+-- where two exposed cycles share a proposer, each pair of one is a pair of the other
 pub same_cycle : {s : Sides} {m : Stand} {c d : Cycle} → Exposed s m c → Exposed s m d → (i j : ℕ) → i < c.size → j < d.size → d.who j ≡ c.who i → (k : ℕ) → k < c.size → Among c d k
 same_cycle {s} {m} {c} {d} x y i j h g e = go_round c.size (Among c d) step i h (record { at = j; below = g; who_is = e; has_is = has j i g h e })
   where

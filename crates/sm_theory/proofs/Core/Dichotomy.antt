@@ -18,6 +18,7 @@ pub record Step (s : Sides) (m n : Stand) (p : ℕ) : Type 0 where
 abbrev Fits : Sides → Stand → ℕ → ℕ → Type 0
 Fits s m p i = (m.a p < i) × (s.rank (s.at p i) p < m.b (s.at p i))
 
+-- the step lemma: who does better in m than in n has a successor at m, no worse than what it has in n
 pub step : {s : Sides} {m n : Stand} → Stable s m → Stable s n → (p : ℕ) → m.a p < n.a p → Step s m n p
 step {s} {m} {n} hm hn p less = go (search_below (s.len p) (Fits s m p) (λ i _. Decided-and (Decided-lt (m.a p) i) (Decided-lt (s.rank (s.at p i) p) (m.b (s.at p i)))))
   where
@@ -67,6 +68,7 @@ step {s} {m} {n} hm hn p less = go (search_below (s.len p) (Fits s m p) (λ i _.
 pub step_low : {s : Sides} {m n : Stand} {p r : ℕ} → Stable s m → Stable s n → Succ s m p r → m.a p < n.a p → s.place p r ≤ n.a p
 step_low {s} {m} {n} {p} hm hn x less = let w = step hm hn p less in rw (succ_unique w.succ x) at w.low
 
+-- where p does better in m than in n, so does the proposer that has p's successor
 pub step_on : {s : Sides} {m n : Stand} {p q r : ℕ} → Stable s m → Stable s n → Succ s m p r → Pair s m q r → m.a p < n.a p → m.a q < n.a q
 step_on {s} {m} {n} {p} hm hn x pair less = let w = step hm hn p less in
     rw (one_proposer w.pair (rw (succ_unique x w.succ) at pair)) at w.prefers
@@ -106,6 +108,7 @@ followed {s} {m} {n} hm hn p less = go (Decided-lt (m.a p) (n.a p))
     go (inl h) = let w = step hm hn p h in record { seat = w.seat; succ = w.succ; pair = w.pair; prefers = w.prefers }
     go (inr h) = absurd (h less)
 
+-- some cycle that is exposed at m
 pub record Found (s : Sides) (m : Stand) : Type 0 where
   pub cycle : Cycle
   pub exposed : Exposed s m cycle

@@ -84,6 +84,7 @@ module _ {s : Sides} {t : ℕ} {M : ℕ → Stand} {c : ℕ → Cycle} (ch : Cha
         go j less high low (inr none) = absurd (omega (arith, keeps (ch.stable j (omega arith)).fit (ch.exposed j (omega arith)) (ch.onward j (omega arith)) r none))
         go j less high low (inl f) = let w = follows (c j).size f.at f.below in by j w.at less high low w.below (ap (c j).has w.is ∙ f.holds)
 
+    -- a rotation outside a closed set whose predecessors are all inside is exposed at the set's matching
     pub exposed_there : Exposed s n (c k)
     exposed_there = record {
       some = (ch.exposed k h).some;

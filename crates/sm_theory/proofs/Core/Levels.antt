@@ -41,6 +41,7 @@ module _ {s : Sides} {m n : Stand} (hm : Stable s m) (hn : Stable s n) (alike : 
   descent zero p r small mp less = omega arith
   descent (suc d) p r small mp less = let w = lower_one p r mp less in descent d w.other w.seat (omega (arith, w.lower)) w.pair w.less
 
+  -- so no proposer does better in m than in n
   pub no_better : (p : ℕ) → n.a p ≤ m.a p
   no_better p = elim (lt_or_le (m.a p) (n.a p)) [
     | inr h ↦ h

@@ -48,6 +48,7 @@ module _ (s : Sides) (m n k : Stand) (hm : Stable s m) (hn : Stable s n) (seats 
       ]
     ]
 
+    -- the meet is a matching
     pub meet_fit : Fit s k
     meet_fit = fit_of_seats (λ p. omega (arith, meets p, hm.fit.left.within p)) meet_once seats
 
@@ -89,6 +90,7 @@ module _ (s : Sides) (m n k : Stand) (hm : Stable s m) (hn : Stable s n) (seats 
           ]
         ]
 
+    -- the meet is stable
     pub meet_stable : Stable s k
     meet_stable = record {
       fit = meet_fit;
@@ -115,6 +117,7 @@ module _ (s : Sides) (m n k : Stand) (hm : Stable s m) (hn : Stable s n) (seats 
       ]
     ]
 
+    -- the join is a matching
     pub join_fit : Fit s k
     join_fit = fit_of_seats (λ p. omega (arith, joins p, hm.fit.left.within p, hn.fit.left.within p)) join_once seats
 
@@ -151,6 +154,7 @@ module _ (s : Sides) (m n k : Stand) (hm : Stable s m) (hn : Stable s n) (seats 
               omega (arith, in_m mq (omega (arith, joins (s.at' r (m.b r)))))
         ]
 
+    -- the join is stable
     pub join_stable : Stable s k
     join_stable = record {
       fit = join_fit;

@@ -16,6 +16,7 @@ module _ {s : Sides} {m : Stand} {c : Cycle} {k : Stand} (hm : Fit s m) (x : Exp
   pub goes_down : (i : ℕ) → i < c.size → m.a (c.who i) < k.a (c.who i)
   goes_down i h = omega (arith, e.moved i h, (x.next i h).behind)
 
+  -- no proposer does better once the cycle is eliminated
   pub never_up : (p : ℕ) → m.a p ≤ k.a p
   never_up p = elim (moves_or_not c p) [
     | inl w ↦ let h = goes_down w.at w.below in let h' : m.a p < k.a p = rw w.holds at h in omega arith
@@ -55,6 +56,7 @@ module _ {s : Sides} {m : Stand} {c : Cycle} {k : Stand} (hm : Fit s m) (x : Exp
           let inside = turn_in c.size w.at w.below in
           none (turn c.size w.at) inside (one_proposer (rw (there w on is) at (x.paired (turn c.size w.at) inside)) (stays none on' is'))
 
+  -- what is left is a matching
   pub elim_fit : Fit s k
   elim_fit = fit_of_seats low once e.seats
     where
@@ -69,6 +71,7 @@ module _ {s : Sides} {m : Stand} {c : Cycle} {k : Stand} (hm : Fit s m) (x : Exp
   pub new_pair : (i : ℕ) → i < c.size → Pair s k (c.who i) (target c i)
   new_pair i h = pair_at (c.who i) (target c i) elim_fit (omega (arith, e.moved i h, (x.next i h).on)) (sym (e.moved i h))
 
+  -- each reviewer of the cycle does better
   pub gains : (i : ℕ) → i < c.size → k.b (target c i) < m.b (target c i)
   gains i h = omega (arith, (new_pair i h).rank_is, (x.next i h).takes)
 
@@ -97,6 +100,7 @@ module _ {s : Sides} {m : Stand} {c : Cycle} {k : Stand} (hm : Fit s m) (x : Exp
         | inr out ↦ let v : Pair s k q r = pair_at q r elim_fit (omega (arith, w.matched, e.still q out)) (w.place_is ∙ sym (e.still q out)) in omega (arith, v.rank_is, w.rank_is)
       ]
 
+  -- no reviewer does worse
   pub never_worse : (r : ℕ) → k.b r ≤ m.b r
   never_worse r = elim (gives_or_not c r) [
     | inl w ↦
@@ -110,6 +114,7 @@ module _ {s : Sides} {m : Stand} {c : Cycle} {k : Stand} (hm : Stable s m) (x : 
   falls : (r : ℕ) → k.b r ≤ m.b r
   falls r = never_worse hm.fit x e r
 
+  -- what is left is stable where it was stable
   pub elim_stable : Stable s k
   elim_stable = record { fit = elim_fit hm.fit x e; unblocked = blocked }
     where
@@ -134,12 +139,15 @@ after_go : {X Y : Type 0} → (X → ℕ) → ℕ → X ⊎ Y → ℕ
 after_go f n (inl w) = f w
 after_go f n (inr _) = n
 
+-- where p stands once the cycle is eliminated
 pub after : Sides → Stand → Cycle → ℕ → ℕ
 after s m c p = after_go (λ w. s.place p (target c w.at)) (m.a p) (moves_or_not c p)
 
+-- the standings of both sides once the cycle is eliminated
 pub eliminate : Sides → Stand → Cycle → Stand
 eliminate s m c = record { a = after s m c; b = seat_of s (after s m c) }
 
+-- and these are m with the cycle eliminated
 pub Elim-eliminate : {s : Sides} {m : Stand} {c : Cycle} → Exposed s m c → Elim s m c (eliminate s m c)
 unfolding eliminate after after_go
 Elim-eliminate {s} {m} {c} x = record { moved = λ i h. moved i h (moves_or_not c (c.who i)); still = λ p none. still p none (moves_or_not c p); seats = Seats-seat_of s (after s m c) }

@@ -14,6 +14,7 @@ pub record Seats (s : Sides) (m : Stand) : Type 0 where
 abbrev pub NoTwice : Sides → Stand → Type 0
 NoTwice s m = (p q r : ℕ) → m.a p < s.len p → m.a q < s.len q → s.place p r ≡ m.a p → s.place q r ≡ m.a q → p ≡ q
 
+-- proposers' standings in which no reviewer is had twice, with its seats, are a matching
 pub fit_of_seats : {s : Sides} {m : Stand} → ((p : ℕ) → m.a p ≤ s.len p) → NoTwice s m → Seats s m → Fit s m
 fit_of_seats {s} {m} low once seats = record {
   left = record { within = low; kept = left };
@@ -48,9 +49,11 @@ seat_go : {X Y : Type 0} → (X → ℕ) → ℕ → X ⊎ Y → ℕ
 seat_go f n (inl w) = f w
 seat_go f n (inr _) = n
 
+-- the first place on a reviewer's list whose proposer has it, or the list's length
 pub seat_of : Sides → (ℕ → ℕ) → ℕ → ℕ
 seat_of s a r = seat_go (λ w. w.at) (s.len' r) (search_below (s.len' r) (λ k. s.place (s.at' r k) r ≡ a (s.at' r k)) (λ k _. Decided-eq (s.place (s.at' r k) r) (a (s.at' r k))))
 
+-- these are the seats of the standings
 pub Seats-seat_of : (s : Sides) (a : ℕ → ℕ) → Seats s (record { a = a; b = seat_of s a })
 unfolding seat_of seat_go
 Seats-seat_of s a = record {

@@ -14,6 +14,7 @@ use Rattle.sm_theory.proofs.Weighing.Totals.{total_same, total_changes}
 abbrev pub weight : Sides → (ℕ → ℕ → ℤ) → Stand → ℤ
 weight s weigh n = total (λ p. weigh p (n.a p)) s.bound
 
+-- the weight of a cycle's new pairs less that of its old ones
 abbrev pub gain : Sides → (ℕ → ℕ → ℤ) → Cycle → ℤ
 gain s weigh c = total (λ i. weigh (c.who i) (s.place (c.who i) (target c i)) -ℤ weigh (c.who i) (s.place (c.who i) (c.has i))) c.size
 
@@ -69,6 +70,7 @@ module _ {s : Sides} {t : ℕ} {M : ℕ → Stand} {c : ℕ → Cycle} (ch : Cha
               omega (arith, ints);
         }
 
+    -- the matching of a closed set weighs what the first one weighs and the gains of the members
     pub weight_of_set : {n : Stand} → IsOf t M c C n → weight s weigh n ≡ weight s weigh (M 0) +ℤ total (λ k. cond (set k) (gain s weigh (c k)) (pos 0)) t
     weight_of_set {n} of = total_same s.bound (λ p. weigh p (n.a p)) (λ p. weigh p (w.of.stand.a p)) (λ p _. ap (weigh p) (same p)) ∙ w.is
       where

@@ -178,6 +178,7 @@ module _ (net : Net) (set : List Bool) (one : length set ≡ net.size) where
     leaving_le : IsCut net set → leaving ≤ both_sums (nodes net) (out_of x (room_of net))
     leaving_le c = sum_le (nodes net) _ _ (λ i a. sum_le (nodes net) _ _ (λ j b. over_cut c i j a b))
 
+    -- the value of a flow is no greater than a cut
     pub below_cut : IsCut net set → flow_value net flow ≤ cut_of net set
     below_cut c = omega (arith, balance, leaving_le c, cut_is)
 
@@ -231,6 +232,7 @@ module _ (net : Net) (set : List Bool) (one : length set ≡ net.size) where
         go (inr (inl less)) = omega (arith, full)
         go (inr (inr more)) = omega (arith, empty)
 
+-- no flow is greater than a cut
 pub no_flow_above_cut : NoFlowAboveCut
 no_flow_above_cut net flow set h c = below_cut net set c.one_each flow h c
 
@@ -244,6 +246,7 @@ path_stays net Step set range none (k ∷ path) i j a p w = go (is_in set k) ref
     go true e on = on e
     go false e on = absurd (none i k a (range i k w.0) p e w.0)
 
+-- where no residual step leaves the reach of a flow, the reach is the least of the least cuts
 pub reach_is_least_cut : ReachIsLeastCut
 reach_is_least_cut net flow set h r none = (
   record { cut = cut; least = λ other c. omega (arith, value, below_cut net other c.one_each flow h c) },

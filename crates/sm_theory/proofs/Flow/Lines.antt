@@ -66,6 +66,7 @@ out_of_node n i (x ∷ xs) all =
     ∙ sum_plus n (λ j. if x.from == i && x.to == j then x.amount else 0) (amount_on xs i)
     ∙ (λ k. one_node_back x.to n x.amount (x.from == i) ((ends n x xs all).1) k + out_of_node n i xs (rest n x xs all) k) ∙ sym (sum_by-cons (λ (f : FlowLine). if f.from == i then f.amount else 0) x xs)
 
+-- amounts on lines are a flow exactly where they are within the rooms and conserved
 pub flow_of_lines : FlowOfLines
 flow_of_lines net lines all = (
   (
@@ -81,6 +82,7 @@ flow_of_lines net lines all = (
     ok : AreBelow n lines
     ok = below n lines all
 
+-- a flow's value is a cut exactly where no residual step leaves the cut
 pub full_cuts_are_unleft : FullCutsAreUnleft
 full_cuts_are_unleft net flow set f c = (
   (λ e. none_leaves net set c.one_each flow f c (omega (arith, e))),

@@ -63,6 +63,7 @@ is_flow =
     let all : ◌≡◌ {A = ℕ → ℕ → ℕ} three_cycle_flow (amount_on three_cycle_lines) = (λ t i j. same i j t) in
     subst (IsFlow three_cycle_net) all worked_net.1
 
+-- the lines of the worked net are its flow
 pub worked_lines : WorkedLines
 worked_lines = (
   lines_are,
@@ -83,6 +84,7 @@ new_line zero d less = λ e. omega (arith, e.0)
 new_line (suc zero) d less = λ e. omega (arith, e.0)
 new_line (suc (suc k)) d less = absurd (omega arith)
 
+-- what is asked of each line holds of these, and not of others
 pub each_line : EachLine
 each_line = (
   conserved,

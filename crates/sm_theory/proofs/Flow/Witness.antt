@@ -1,6 +1,7 @@
 -- The net of specs/WitnessesFlows.antt.
-use Rattle.std.proofs.Common.{◌≡◌, ℕ, zero, suc, ◌+◌, ◌<◌, ◌≤◌, arith, refl, sym, ap, ◌∙◌, inl, inr, [], ◌∷◌, Bool, true, false, not, ◌&&◌, List, length, Option, Some, slice_index, slice_index_or}
-use Rattle.std.proofs.lemmas.Bool.{false≢true}
+use Rattle.std.proofs.Common.{◌≡◌, ℕ, zero, suc, ◌<◌, ◌≤◌, arith, refl, sym, ap, ◌∙◌, inl, inr, [], ◌∷◌, Bool, true, false, not, ◌&&◌, List, length, slice_index, slice_index_or}
+use Rattle.std.proofs.lemmas.Bool.{false≢true, and_from}
+use Rattle.std.proofs.lemmas.Option.{same_Some}
 use Rattle.sm_market.specs.Lists.{row}
 use Rattle.sm_theory.specs.Chains.{stage, rotation_at, IsNeededBy, AreNeedsOf}
 use Rattle.sm_theory.specs.Vectors.{HasLevel}
@@ -10,7 +11,7 @@ use Rattle.sm_theory.specs.Flows.{IsFlow, IsResidualStep, IsResidualReach}
 use Rattle.sm_theory.specs.Conditions.{IsNetGround}
 use Rattle.sm_theory.specs.WitnessesFlows.{three_cycle_levels, three_cycle_needs, three_cycle_net, three_cycle_flow, WorkedNet, BarredNet, middle, forced_net, forbidden_net, MiddleLevel}
 use Rattle.sm_theory.proofs.Chains.Rotations.{predecessor_is_earlier}
-use Rattle.sm_theory.proofs.Tests.Pairs.{all_below, passes, not_true, both, levels_pass}
+use Rattle.sm_theory.proofs.Tests.Pairs.{all_below, passes, not_true, levels_pass}
 use Rattle.sm_theory.proofs.Tests.Markets.{below_two, three_cycle_is}
 
 needs_are : (j : ℕ) → j < 2 → AreNeedsOf three_cycle three_cycle_chain j (row three_cycle_needs j)
@@ -81,9 +82,11 @@ none_leaves (suc (suc zero)) (suc (suc (suc zero))) a b p q s = elim s.step [ in
 none_leaves (suc (suc (suc i))) (suc (suc (suc zero))) a b p q s = false≢true p
 none_leaves i (suc (suc (suc (suc j)))) a b p q s = omega arith
 
+-- the worked net has the flow and the cut that it is said to have
 pub worked_net : WorkedNet
 worked_net = (ground, flow_is, refl, reach_is, none_leaves, refl, refl)
 
+-- in the barred net unbounded edges lead from the source to the sink
 pub barred_net_is : BarredNet
 barred_net_is = record { path = 1 ∷ 2 ∷ 3 ∷ []; is = (refl, (refl, (refl, refl))) }
 
@@ -98,22 +101,19 @@ cut_pass : (net : Net) (set : List Bool) → length set ≡ net.size → cut_tes
 cut_pass net set one e = record {
   one_each = one;
   bounded = λ i j a b p q u. not_true (is_in set i && (not (is_in set j) && is_unbounded net i j)) (passes (suc (sink_of net)) (edge_test net set i) (passes (suc (sink_of net)) (λ i. all_below (suc (sink_of net)) (edge_test net set i)) e i a) j b)
-      (both _ _ p (both _ _ (ap not q) u));
+      (and_from _ _ p (and_from _ _ (ap not q) u));
 }
-
--- the level in the middle
-some_same : {x y : ℕ} → ◌≡◌ {A = Option ℕ} (Some x) (Some y) → x ≡ y
-some_same e = cc
 
 middle_has : HasLevel three_cycle_levels (stage three_cycle three_cycle_first three_cycle_chain 1) 0 2
 middle_has = record { place = 1; holds = refl; at_level = refl }
 
 first_has_not : HasLevel three_cycle_levels three_cycle_first 0 2 → ⊥
 first_has_not h =
-    let first : ◌≡◌ {A = ℕ} 0 h.place = some_same h.holds in
+    let first : ◌≡◌ {A = ℕ} 0 h.place = same_Some _ _ h.holds in
     let level : ◌≡◌ {A = ℕ} 1 2 = ap (slice_index (1 ∷ 2 ∷ 3 ∷ 4 ∷ [])) first ∙ h.at_level in
     omega (arith, level)
 
+-- what is said of the level in the middle holds
 pub middle_level_is : MiddleLevel
 middle_level_is = (
   refl,

@@ -1,7 +1,7 @@
 -- The sets that no unbounded edge leaves are the closed sets whose matching is allowed.
 use Rattle.std.proofs.Common.{◌≡◌, ◌≢◌, ℕ, zero, suc, ◌<◌, ◌⊎◌, inl, inr, arith, refl, sym, ap, ◌∙◌, Bool, true, false, not, ◌&&◌, ◌||◌, List, length, eqb, eqb-true, eq-eqb, ℤ, slice_index, slice_index_or}
 use Rattle.std.specs.List.{list_any, position_or_len}
-use Rattle.std.proofs.lemmas.Bool.{false≢true, false_from_ne_true}
+use Rattle.std.proofs.lemmas.Bool.{false≢true, false_from_ne_true, and_from, or_left, or_right}
 use Rattle.std.proofs.lemmas.List.{get_or_past}
 use Rattle.std.proofs.lemmas.List.Folds.{list_any_at}
 use Rattle.std.proofs.lemmas.List.Sums.{prefix_len-le-length}
@@ -16,7 +16,7 @@ use Rattle.sm_theory.specs.Conditions.{has_level, moves_to, moves_off, entry_nod
 use Rattle.sm_theory.specs.LawsFlows.{CutsAreAllowed}
 use Rattle.sm_theory.proofs.Bridge.Places.{row_past}
 use Rattle.sm_theory.proofs.Chains.Rotations.{predecessor_is_earlier}
-use Rattle.sm_theory.proofs.Net.Tests.{true_or_false, not_true, and_parts, and_true, or_parts, or_left, or_right, not_same, Passes, some_passes}
+use Rattle.sm_theory.proofs.Net.Tests.{true_or_false, and_parts, or_parts, not_same, Passes, some_passes}
 use Rattle.sm_theory.proofs.Net.Whole.{whole_net_of, net_is_whole, whole_across}
 use Rattle.sm_theory.proofs.Net.Entries.{entry_inside, exit_outside, level_between}
 
@@ -38,7 +38,7 @@ module _ (l : Lists) (levels : List (List ℕ)) (weights : List (List ℤ)) (for
 
   forces_exit : (d : ℕ × ℕ) → forces l levels first rotations d (exit d) (suc (length rotations)) ≡ true
   forces_exit d = or_right (eqb (exit d) 0 && eqb (suc (length rotations)) (entry d)) (eqb (exit d) (exit d) && eqb (suc (length rotations)) (suc (length rotations)))
-      (and_true (eqb (exit d) (exit d)) (eqb (suc (length rotations)) (suc (length rotations))) (eq-eqb (exit d) (exit d) refl) (eq-eqb (suc (length rotations)) (suc (length rotations)) refl))
+      (and_from (eqb (exit d) (exit d)) (eqb (suc (length rotations)) (suc (length rotations))) (eq-eqb (exit d) (exit d) refl) (eq-eqb (suc (length rotations)) (suc (length rotations)) refl))
 
   forces_parts : (d : ℕ × ℕ) (i j : ℕ) → forces l levels first rotations d i j ≡ true → (j ≡ entry d) ⊎ ((i ≡ exit d) × (j ≡ sink_of net))
   forces_parts d i j e = elim (or_parts (eqb i 0 && eqb j (entry d)) (eqb i (exit d) && eqb j (suc (length rotations))) e) [
@@ -47,7 +47,7 @@ module _ (l : Lists) (levels : List (List ℕ)) (weights : List (List ℤ)) (for
   ]
 
   forbids_exit : (d : ℕ × ℕ) → forbids l levels first rotations d (entry d) (exit d) ≡ true
-  forbids_exit d = and_true (eqb (entry d) (entry d)) (eqb (exit d) (exit d)) (eq-eqb (entry d) (entry d) refl) (eq-eqb (exit d) (exit d) refl)
+  forbids_exit d = and_from (eqb (entry d) (entry d)) (eqb (exit d) (exit d)) (eq-eqb (entry d) (entry d) refl) (eq-eqb (exit d) (exit d) refl)
 
   forbids_parts : (d : ℕ × ℕ) (i j : ℕ) → forbids l levels first rotations d i j ≡ true → (i ≡ entry d) × (j ≡ exit d)
   forbids_parts d i j e = let parts = and_parts (eqb i (entry d)) (eqb j (exit d)) e in (eqb-true i (entry d) parts.0, eqb-true j (exit d) parts.1)
@@ -56,7 +56,7 @@ module _ (l : Lists) (levels : List (List ℕ)) (weights : List (List ℤ)) (for
   edge_of : (i k : ℕ) → i ≢ suc k
       → (leads_to_need needs i (suc k) || rest_edge i (suc k)) ≡ true
       → IsUnbounded net i (suc k)
-  edge_of i k apart e = and_true (not (eqb i (suc k))) (leads_to_need needs i (suc k) || rest_edge i (suc k)) (not_same i (suc k) apart) e
+  edge_of i k apart e = and_from (not (eqb i (suc k))) (leads_to_need needs i (suc k) || rest_edge i (suc k)) (not_same i (suc k) apart) e
 
   entry_in_range : (c : ℕ × ℕ) → entry c < suc (sink_of net)
   entry_in_range c = go (true_or_false (has_level levels c.0 c.1 (held first.proposers c.0)))
@@ -89,6 +89,7 @@ module _ (l : Lists) (levels : List (List ℕ)) (weights : List (List ℤ)) (for
         | inr a ↦ absurd (omega (arith, w.below, row_past needs i (omega (arith, ground.one_each))))
       ]
 
+  -- unbounded edges lead to nodes of the net
   pub edge_in_range : (i j : ℕ) → IsUnbounded net i j → j < suc (sink_of net)
   edge_in_range i zero u = absurd (false≢true u)
   edge_in_range i (suc k) u = elim (edge_parts i k u) [
@@ -103,6 +104,7 @@ module _ (l : Lists) (levels : List (List ℕ)) (weights : List (List ℤ)) (for
   ]
 
   module _ (set : List Bool) where
+    -- the sink is in no set
     pub sink_out : length set ≡ length rotations → is_in set (sink_of net) ≡ false
     sink_out one = get_or_past set (length rotations) false (omega (arith, one))
 
@@ -125,7 +127,7 @@ module _ (l : Lists) (levels : List (List ℕ)) (weights : List (List ℤ)) (for
               (edge_of (suc j) i (λ e. omega arith) (or_left (leads_to_need needs (suc j) (suc i)) (rest_edge (suc j) (suc i)) test)))
 
       has_forced : (d : ℕ × ℕ) (k : ℕ) → k < length forced → slice_index_or forced k (0, 0) ≡ d → HasLevel levels (matching_of l first rotations set) d.0 d.1
-      has_forced d k a e = level_between ground.market ground.chain levels d.0 d.1 ground.rising set closed into (not_true (is_in set (exit d)) off)
+      has_forced d k a e = level_between ground.market ground.chain levels d.0 d.1 ground.rising set closed into (false_from_ne_true (is_in set (exit d)) off)
         where
           by_forced : (i j : ℕ) → forces l levels first rotations d i j ≡ true → rest_edge i j ≡ true
           by_forced i j x = or_left (list_any (λ c. forces l levels first rotations c i j) forced) (list_any (λ c. forbids l levels first rotations c i j) forbidden)
@@ -154,6 +156,7 @@ module _ (l : Lists) (levels : List (List ℕ)) (weights : List (List ℤ)) (for
           (or_right (list_any (λ c. forces l levels first rotations c (entry d) (exit d)) forced) (list_any (λ c. forbids l levels first rotations c (entry d) (exit d)) forbidden)
           (list_any_at (λ c. forbids l levels first rotations c (entry d) (exit d)) forbidden k (0, 0) a (ap (λ x. forbids l levels first rotations x (entry d) (exit d)) e ∙ forbids_exit d)))))
 
+      -- a set that no unbounded edge leaves is closed, and its matching is allowed
       pub allowed_of_cut : IsClosed l rotations set × IsAllowed levels forced forbidden (matching_of l first rotations set)
       allowed_of_cut = (
         closed,
@@ -195,6 +198,7 @@ module _ (l : Lists) (levels : List (List ℕ)) (weights : List (List ℤ)) (for
           let parts = forbids_parts d i j e in
           none (level_between ground.market ground.chain levels d.0 d.1 ground.rising set closed (rw parts.0 at p) (rw parts.1 at q))
 
+      -- no unbounded edge leaves a closed set whose matching is allowed
       pub cut_of_allowed : IsCut net set
       cut_of_allowed = record { one_each = closed.one_each; bounded = bounded }
         where
@@ -210,12 +214,14 @@ module _ (l : Lists) (levels : List (List ℕ)) (weights : List (List ℤ)) (for
 
 -- where a matching is allowed, each pair allows something
 module _ (l : Lists) (levels : List (List ℕ)) (weights : List (List ℤ)) (forced forbidden : List (ℕ × ℕ)) (first : Places) (rotations : List (List (ℕ × ℕ))) (needs : List (List ℕ)) (ground : IsNetGround l levels first rotations needs) where
+  -- where the matching of a closed set is allowed, no pair allows nothing by itself
   pub allowed_something : (set : List Bool) → IsClosed l rotations set → IsAllowed levels forced forbidden (matching_of l first rotations set) → allows_nothing l levels forced forbidden first rotations ≡ false
   allowed_something set closed allowed =
       let cut = cut_of_allowed l levels weights forced forbidden first rotations needs ground set closed allowed in
       false_from_ne_true _ (λ e. cut.bounded 0 (suc (length rotations)) (omega arith) (omega arith) refl (sink_out l levels weights forced forbidden first rotations needs ground set closed.one_each)
       (whole_across l levels weights forced forbidden first rotations needs e))
 
+-- where no pair allows nothing by itself, the cuts are the closed sets whose matching is allowed
 pub cuts_are_allowed : CutsAreAllowed
 cuts_are_allowed l levels weights forced forbidden first rotations needs set ground = (
   (λ c. allowed_of_cut l levels weights forced forbidden first rotations needs ground set (rw (net_is_whole l levels weights forced forbidden first rotations needs c.0) at c.1)),

@@ -1,7 +1,7 @@
 -- When a proposer has a level in the matching of a closed set: its entry to the level lies inside, and its exit outside.
 use Rattle.std.proofs.Common.{◌≡◌, ◌≢◌, ℕ, zero, suc, ◌<◌, ◌≤◌, ◌⊎◌, inl, inr, arith, refl, sym, ap, ◌∙◌, Bool, true, false, List, [], length, Option, None, Some, eqb-true, eq-eqb, ne_eqb, lt-ltb, le-ltb, nat_lt}
 use Rattle.std.specs.List.{position_or_len}
-use Rattle.std.proofs.lemmas.Bool.{false≢true}
+use Rattle.std.proofs.lemmas.Bool.{false≢true, and_from, false_from_ne_true, not_from_false}
 use Rattle.std.proofs.lemmas.List.{get_or_past}
 use Rattle.sm_market.specs.Lists.{Lists, row, place_of, IsMarket}
 use Rattle.sm_market.specs.Matching.{Places, held, standing}
@@ -19,7 +19,7 @@ use Rattle.sm_theory.proofs.Bridge.Places.{row_past}
 use Rattle.sm_theory.proofs.Bridge.Rotation.{cycle_of, pair_at_is, no_pair}
 use Rattle.sm_theory.proofs.Bridge.Chain.{chain_of, stage_stable, closed_of}
 use Rattle.sm_theory.proofs.Bridge.Sets.{set_is_of, set_stable}
-use Rattle.sm_theory.proofs.Net.Tests.{true_or_false, not_true, and_parts, and_true, not_parts, not_is, first_before, first_passes}
+use Rattle.sm_theory.proofs.Net.Tests.{true_or_false, and_parts, not_parts, first_before, first_passes}
 
 module _ {l : Lists} (h : IsMarket l) {first : Places} {rotations : List (List (ℕ × ℕ))} (chain : IsCompleteChain l first rotations) where
   -- where p stands at a stage, and whether a rotation moves it
@@ -73,7 +73,7 @@ module _ {l : Lists} (h : IsMarket l) {first : Places} {rotations : List (List (
     of_comes : (k : ℕ) → k < length rotations → Comes k → moves_to l levels p level (rotation_at rotations k) ≡ true
     of_comes k g w =
         let v = turn_at k p g w.moves in
-        and_true _ _ (lt-ltb _ _ (rw v.pair_is v.below))
+        and_from _ _ (lt-ltb _ _ (rw v.pair_is v.below))
         (eq-eqb _ _ (ap (λ i. level_at levels p (place_of l.proposers p (target_at (rotation_at rotations k) i))) v.pair_is ∙ ap (level_at levels p) (sym v.to) ∙ w.there))
 
     leaves_of : (k : ℕ) → k < length rotations → moves_off l levels p level (rotation_at rotations k) ≡ true → Leaves k
@@ -91,10 +91,10 @@ module _ {l : Lists} (h : IsMarket l) {first : Places} {rotations : List (List (
     of_leaves : (k : ℕ) → k < length rotations → Leaves k → moves_off l levels p level (rotation_at rotations k) ≡ true
     of_leaves k g w =
         let v = turn_at k p g w.moves in
-        and_true _ _ (lt-ltb _ _ (rw v.pair_is v.below))
-        (and_true _ _
+        and_from _ _ (lt-ltb _ _ (rw v.pair_is v.below))
+        (and_from _ _
         (eq-eqb _ _ (ap (λ i. level_at levels p (place_of l.proposers p (reviewer_at (rotation_at rotations k) i))) v.pair_is ∙ ap (level_at levels p) (sym v.from) ∙ w.here))
-        (not_is _ (ne_eqb _ _ (λ x. w.off (ap (level_at levels p) (v.to ∙ ap (λ i. place_of l.proposers p (target_at (rotation_at rotations k) i)) (sym v.pair_is)) ∙ x)))))
+        (not_from_false _ (ne_eqb _ _ (λ x. w.off (ap (level_at levels p) (v.to ∙ ap (λ i. place_of l.proposers p (target_at (rotation_at rotations k) i)) (sym v.pair_is)) ∙ x)))))
 
     -- between a stage at the level and a later one off it some rotation takes p from the level
     record Crossing (s e : ℕ) : Type 0 where
@@ -165,6 +165,7 @@ module _ {l : Lists} (h : IsMarket l) {first : Places} {rotations : List (List (
             held_is = w.holds ∙ ap Some (sym e);
           }
 
+      -- who has the level has its entry to it inside
       pub entry_inside : HasLevel levels (matching_of l first rotations set) p level → is_in set (entry_node l levels first rotations p level) ≡ true
       entry_inside w = go (true_or_false (has_level levels p level (held first.proposers p)))
         where
@@ -185,8 +186,9 @@ module _ {l : Lists} (h : IsMarket l) {first : Places} {rotations : List (List (
           go (inl e) = rw e refl
           go (inr e) = rw e (came e ((set_is_of h chain set).attained p))
 
+      -- who has the level has its exit from it outside
       pub exit_outside : HasLevel levels (matching_of l first rotations set) p level → is_in set (exit_node l levels rotations p level) ≡ false
-      exit_outside w = not_true (is_member set leaving) (λ m.
+      exit_outside w = false_from_ne_true (is_member set leaving) (λ m.
           let v = has_of w in
           let lt = member_below leaving m in
           let x = leaves_of leaving lt (first_passes (moves_off l levels p level) rotations [] lt) in
@@ -208,6 +210,7 @@ module _ {l : Lists} (h : IsMarket l) {first : Places} {rotations : List (List (
         level_is : level_at levels p (at_stage stage_at p) ≡ level
         reached : at_stage stage_at p ≤ here
 
+      -- with the entry inside and the exit outside the proposer has the level
       pub level_between : is_in set (entry_node l levels first rotations p level) ≡ true → is_in set (exit_node l levels rotations p level) ≡ false → HasLevel levels (matching_of l first rotations set) p level
       level_between entry out = finish start ((set_is_of h chain set).attained p)
         where

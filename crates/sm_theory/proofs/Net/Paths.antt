@@ -16,6 +16,7 @@ path_on : (Step : ℕ → ℕ → Type 0) (path : List ℕ) (i j k : ℕ) → Is
 path_on Step [] i j k w s = (rw (sym w) at s, refl)
 path_on Step (n ∷ path) i j k w s = (w.0, path_on Step path n j k w.1 s)
 
+-- one more step
 pub reach_on : {Step : ℕ → ℕ → Type 0} {i j k : ℕ} → IsReachable Step i j → Step j k → IsReachable Step i k
 reach_on {Step} {i} {j} {k} w s = record { path = w.path ++ k ∷ []; is = path_on Step w.path i j k w.is s }
 
@@ -30,6 +31,7 @@ sum_less n f g e i a less = elim (lt_or_le (sum_to f n) (sum_to g n)) [
   | inr k ↦ absurd (omega (arith, sum_tight n f g e k i a))
 ]
 
+-- a set that no unbounded edge leaves
 pub record Cut (net : Net) : Type 0 where
   pub members : List Bool
   pub is : IsCut net members
@@ -96,6 +98,7 @@ module _ (net : Net) where
         | inr e ↦ next k (omega arith) out r
       ]
 
+  -- some path of unbounded edges leads from the source to the sink, or there is a cut
   pub path_or_cut : IsReachable (IsUnbounded net) 0 (sink_of net) ⊎ Cut net
   path_or_cut = grow (suc (left_over none)) none (omega arith) (record { one_each = length-map-range_with_len _ 0 net.size; reached = reached })
     where

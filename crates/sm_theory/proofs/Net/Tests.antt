@@ -1,48 +1,33 @@
 -- Tests that come out true: conjunctions, disjunctions, and tests of some element of a list.
 use Rattle.std.proofs.Common.{◌≡◌, ◌≢◌, ℕ, suc, ◌<◌, ◌≤◌, ◌⊎◌, inl, inr, arith, refl, sym, ◌∙◌, Bool, true, false, not, ◌&&◌, ◌||◌, List, [], ◌∷◌, length, get_or, eqb, ne_eqb}
 use Rattle.std.specs.List.{list_any, position_or_len}
-use Rattle.std.proofs.lemmas.Bool.{false≢true}
+use Rattle.std.proofs.lemmas.Bool.{false≢true, not_from_false}
 use Rattle.std.proofs.lemmas.List.Sums.{passes_at_first, fails_before_first}
 use Rattle.sm_lists.proofs.Counting.{Decided, lt_or_le, First, search_below}
 
+-- a test passes or fails
 pub true_or_false : (b : Bool) → (b ≡ true) ⊎ (b ≡ false)
 true_or_false true = inl refl
 true_or_false false = inr refl
 
-pub not_true : (b : Bool) → (b ≡ true → ⊥) → b ≡ false
-not_true true h = absurd (h refl)
-not_true false h = refl
-
+-- where two tests pass together, each passes
 pub and_parts : (a b : Bool) → (a && b) ≡ true → (a ≡ true) × (b ≡ true)
 and_parts true b e = (refl, e)
 and_parts false b e = absurd (false≢true e)
 
-pub and_true : (a b : Bool) → a ≡ true → b ≡ true → (a && b) ≡ true
-and_true true b x y = y
-and_true false b x y = x
-
+-- where one of two passes, it is the first or the second
 pub or_parts : (a b : Bool) → (a || b) ≡ true → (a ≡ true) ⊎ (b ≡ true)
 or_parts true b e = inl refl
 or_parts false b e = inr e
 
-pub or_left : (a b : Bool) → a ≡ true → (a || b) ≡ true
-or_left true b e = refl
-or_left false b e = absurd (false≢true e)
-
-pub or_right : (a b : Bool) → b ≡ true → (a || b) ≡ true
-or_right true b e = refl
-or_right false b e = e
-
+-- where a test's opposite passes, it fails
 pub not_parts : (a : Bool) → not a ≡ true → a ≡ false
 not_parts true e = absurd (false≢true e)
 not_parts false e = refl
 
-pub not_is : (a : Bool) → a ≡ false → not a ≡ true
-not_is true e = absurd (false≢true (sym e))
-not_is false e = refl
-
+-- different numbers pass the test of being different
 pub not_same : (i j : ℕ) → i ≢ j → not (eqb i j) ≡ true
-not_same i j h = not_is (eqb i j) (ne_eqb i j h)
+not_same i j h = not_from_false (eqb i j) (ne_eqb i j h)
 
 -- an element that passes
 pub record Passes {X : Type 0} (test : X → Bool) (xs : List X) (d : X) : Type 0 where
@@ -50,6 +35,7 @@ pub record Passes {X : Type 0} (test : X → Bool) (xs : List X) (d : X) : Type 
   pub below : at < length xs
   pub holds : test (get_or xs at d) ≡ true
 
+-- where some item of a list passes, there is the place of one
 pub some_passes : {X : Type 0} (test : X → Bool) (xs : List X) (d : X) → list_any test xs ≡ true → Passes test xs d
 some_passes test [] d e = absurd (false≢true e)
 some_passes test (x ∷ xs) d e = go (or_parts (test x) (list_any test xs) e) (some_passes test xs d)
@@ -65,6 +51,7 @@ first_before test xs k d e = elim (lt_or_le k (position_or_len test xs)) [
   | inr h ↦ h
 ]
 
+-- the item at the first place that passes passes
 pub first_passes : {X : Type 0} (test : X → Bool) (xs : List X) (d : X) → position_or_len test xs < length xs → test (get_or xs (position_or_len test xs) d) ≡ true
 first_passes test xs d h = passes_at_first test xs d h
 

@@ -9,6 +9,7 @@ use Rattle.sm_theory.specs.Weights.{gain_of}
 use Rattle.sm_theory.specs.Net.{Net, IsUnbounded, IsPath, IsReachable}
 use Rattle.sm_theory.specs.Conditions.{forces, forbids, leads_to_need, rise_of, fall_of, allows_nothing, net_of}
 
+-- the net of gains, predecessors and conditions, also with the edge from the source to the sink
 abbrev pub whole_net_of : Lists → List (List ℕ) → List (List ℤ) → (forced forbidden : List (ℕ × ℕ)) → Places → List (List (ℕ × ℕ)) → List (List ℕ) → Net
 whole_net_of l levels weights forced forbidden first rotations needs = record {
   size = length rotations;
@@ -62,5 +63,6 @@ module _ (l : Lists) (levels : List (List ℕ)) (weights : List (List ℤ)) (for
   whole_path [] i j w = w
   whole_path (k ∷ path) i j w = (whole_edge i k w.0, whole_path path k j w.1)
 
+  -- what is reached in the net is reached in this one
   pub whole_reach : {i j : ℕ} → IsReachable (IsUnbounded (net_of l levels weights forced forbidden first rotations needs)) i j → IsReachable (IsUnbounded (whole_net_of l levels weights forced forbidden first rotations needs)) i j
   whole_reach {i} {j} w = record { path = w.path; is = whole_path w.path i j w.is }

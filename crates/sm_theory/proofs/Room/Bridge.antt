@@ -13,6 +13,7 @@ use Rattle.sm_theory.proofs.Room.Core.{Persons, Way, turned, Goes, Parting}
 pub listed_in_range : (rows : List (List ℕ)) (x i : ℕ) → i < length (row rows x) → x < length rows
 listed_in_range rows x i h = elim (lt_or_le x (length rows)) [ inl k ↦ k | inr k ↦ absurd (omega (arith, row_past rows x k)) ]
 
+-- lists of roommates as functions
 abbrev pub persons_of : List (List ℕ) → Persons
 persons_of rows = record {
   n = length rows;
@@ -30,6 +31,7 @@ pub mate_or : Option ℕ → ℕ → ℕ
 mate_or None x = x
 mate_or (Some y) x = y
 
+-- a matching of roommates as a way: each goes to its mate and back
 abbrev pub way_of_mates : List (List ℕ) → List (Option ℕ) → Way
 way_of_mates rows mates = record {
   to = λ x. mate_or (mate_of mates x) x;
@@ -69,6 +71,7 @@ goes_of_mates {rows} {mates} h = record { within = λ x. within x (mate_of mates
     theirs : (x : ℕ) → place_of_mate rows x (mate_of mates x) < length (row rows x) → place_of rows (mate_or (mate_of mates x) x) x ≡ place_of_mate rows (mate_or (mate_of mates x) x) (mate_of mates (mate_or (mate_of mates x) x))
     theirs x less = let w = some_mate rows mates x less in rw w.is (rw (h.in_turn x w.mate w.is) refl)
 
+-- a stable matching of roommates is a parting
 pub parting_of_mates : {rows : List (List ℕ)} {mates : List (Option ℕ)} → IsRoomStable rows mates → Parting (persons_of rows) (way_of_mates rows mates)
 parting_of_mates h = record {
   left = goes_of_mates h.matching;
@@ -81,10 +84,12 @@ parting_of_mates h = record {
 pub own_place : List (List ℕ) → ℕ → ℕ → ℕ
 own_place rows x y = cond (eqb y x) (length (row rows x)) (place_of rows x y)
 
+-- oneself is past one's list
 pub own_self : (rows : List (List ℕ)) (x y : ℕ) → y ≡ x → own_place rows x y ≡ length (row rows x)
 unfolding own_place
 own_self rows x y e = rw (eq-eqb y x e) refl
 
+-- another person is at its place
 pub own_other : (rows : List (List ℕ)) (x y : ℕ) → y ≢ x → own_place rows x y ≡ place_of rows x y
 unfolding own_place
 own_other rows x y e = rw (ne_eqb y x e) refl
@@ -102,6 +107,7 @@ party_place_is : (rows : List (List ℕ)) (next : List ℕ) (x : ℕ) → party_
 unfolding own_place
 party_place_is rows next x = refl
 
+-- a partition as a way: each goes to its successor
 abbrev pub way_of_parties : List (List ℕ) → List ℕ → Way
 way_of_parties rows next = record {
   to = successor_in next;
@@ -111,6 +117,7 @@ way_of_parties rows next = record {
 }
 
 module _ {rows : List (List ℕ)} {next : List ℕ} (h : IsStablePartition rows next) where
+  -- nobody is the successor of two persons
   pub one_successor : (x y : ℕ) → x < length rows → y < length rows → successor_in next x ≡ successor_in next y → x ≡ y
   one_successor x y a b e = elim (less_same_more x y) [
     | inl k ↦ absurd (h.distinct x y k b e)
@@ -120,15 +127,18 @@ module _ {rows : List (List ℕ)} {next : List ℕ} (h : IsStablePartition rows 
     ]
   ]
 
+  -- the predecessor of the successor is oneself
   pub before_next : (x : ℕ) → x < length rows → predecessor_in next (successor_in next x) ≡ x
   before_next x a = position_or_len_is (λ y. eqb y (successor_in next x)) next x 0 (omega (arith, h.one_each))
       (λ k less. ne_eqb _ _ (λ e. h.distinct k x less a e))
       (λ _. eq-eqb _ _ refl)
 
+  -- the predecessor of x is a person, and x is its successor
   pub record HasBefore (x : ℕ) : Type 0 where
     pub inside : predecessor_in next x < length rows
     pub next_is : successor_in next (predecessor_in next x) ≡ x
 
+  -- each person has a predecessor
   pub has_before : (x : ℕ) → x < length rows → HasBefore x
   has_before x a =
       let w = onto_itself (length rows) (λ y. y < length rows) (successor_in next) (λ y k. k) (λ y k. h.in_range y k) one_successor x a in
@@ -179,6 +189,7 @@ module _ {rows : List (List ℕ)} {next : List ℕ} (h : IsStablePartition rows 
     own_other rows x (predecessor_in next x) (λ e. ne (sym (ap (successor_in next) e) ∙ (has_before x a).next_is ∙ sym e)),
   )
 
+  -- a stable partition is a parting
   pub parting_of_parties : Parting (persons_of rows) (way_of_parties rows next)
   parting_of_parties = record {
     left = goes_to;
@@ -198,6 +209,7 @@ module _ {rows : List (List ℕ)} {next : List ℕ} (h : IsStablePartition rows 
   after_is x zero = iterate-zero (successor_in next) x
   after_is x (suc k) = iterate-suc (successor_in next) k x ∙ ap (successor_in next) (after_is x k)
 
+  -- whoever is met from a person on is a person
   pub after_inside : (x k : ℕ) → x < length rows → after next x k < length rows
   after_inside x zero a = a
   after_inside x (suc k) a = h.in_range (after next x k) (after_inside x k a)
@@ -207,6 +219,7 @@ module _ {rows : List (List ℕ)} {next : List ℕ} (h : IsStablePartition rows 
   two_apart {x} w zero e = w.first 2 (omega arith) (omega (arith, w.three)) e
   two_apart {x} w (suc k) e = two_apart w k (one_successor _ _ (after_inside x (suc (suc k)) w.in_range) (after_inside x k w.in_range) e)
 
+  -- in an odd party each likes its successor better than its predecessor
   pub odd_gap : {x : ℕ} → IsInOddParty rows next x → (k : ℕ) → own_place rows (after next x k) (successor_in next (after next x k)) < own_place rows (after next x k) (predecessor_in next (after next x k))
   odd_gap {x} w k = prefers_next (after next x k) (after_inside x k w.in_range)
       (λ e. two_apart w k (ap (successor_in next) e ∙ (has_before (after next x k) (after_inside x k w.in_range)).next_is))

@@ -22,9 +22,11 @@ pub record Way : Type 0 where
   pub a : ℕ → ℕ
   pub b : ℕ → ℕ
 
+-- a way gone the other way round
 abbrev pub turned : Way → Way
 turned w = record { to = w.from; from = w.to; a = w.b; b = w.a }
 
+-- each who isn't alone goes to somebody acceptable, who knows from whom
 pub record Goes (s : Persons) (w : Way) : Type 0 where
   pub within : (x : ℕ) → w.a x ≤ s.len x
   pub acc : (x : ℕ) → w.a x < s.len x → s.Acc x (w.to x)
@@ -32,11 +34,13 @@ pub record Goes (s : Persons) (w : Way) : Type 0 where
   pub back : (x : ℕ) → w.a x < s.len x → w.from (w.to x) ≡ x
   pub theirs : (x : ℕ) → w.a x < s.len x → s.place (w.to x) x ≡ w.b (w.to x)
 
+-- a way both of whose directions go, and that no two persons block
 pub record Cover (s : Persons) (w : Way) : Type 0 where
   pub left : Goes s w
   pub right : Goes s (turned w)
   pub unblocked : (x y : ℕ) → s.Acc x y → s.place x y < w.a x → s.place y x < w.b y → ⊥
 
+-- the other way round it is one too
 pub Cover-turned : {s : Persons} {w : Way} → Cover s w → Cover s (turned w)
 Cover-turned {s} c = record { left = c.right; right = c.left; unblocked = λ x y k f g. c.unblocked y x (s.turn x y k) g f }
 
@@ -47,6 +51,7 @@ pub record Parting (s : Persons) (w : Way) : Type 0 where
   pub le : (x : ℕ) → w.a x ≤ w.b x
   pub unblocked : (x y : ℕ) → s.Acc x y → s.place x y < w.b x → s.place y x < w.b y → ⊥
 
+-- a parting is one
 pub cover : {s : Persons} {w : Way} → Parting s w → Cover s w
 cover {s} {w} p = record { left = p.left; right = p.right; unblocked = λ x y k f g. p.unblocked x y k (omega (arith, p.le x)) g }
 
@@ -82,6 +87,7 @@ forth {s} {m} {n} hm hn x less = elim (lt_or_le (n.b y) (m.b y)) [
         let back : s.place x y ≡ n.a x = rw who at (hn.right.theirs y on') in
         omega (arith, back, at, less)
 
+-- in n x isn't alone, and goes to somebody who likes n better
 pub record Crossed (s : Persons) (m n : Way) (x : ℕ) : Type 0 where
   pub matched : n.a x < s.len x
   pub there : n.b (n.to x) < m.b (n.to x)
@@ -126,6 +132,7 @@ pub record Between (m n : Way) (x : ℕ) : Type 0 where
   pub out : m.a x < n.b x
   pub back : n.a x < m.b x
 
+-- the same seen from the other way
 pub Between-turned : {m n : Way} {x : ℕ} → Between m n x → Between n m x
 Between-turned w = record { out = w.back; back = w.out }
 
@@ -135,6 +142,7 @@ Decided-between m n x = elim (Decided-and (Decided-lt (m.a x) (n.b x)) (Decided-
   | inr w ↦ inr (λ v. w (v.out, v.back))
 ]
 
+-- a person has the same places in both ways
 pub record Same (m n : Way) (x : ℕ) : Type 0 where
   pub a_is : m.a x ≡ n.a x
   pub b_is : m.b x ≡ n.b x
@@ -173,12 +181,14 @@ module _ {s : Persons} {m n : Way} (hm : Parting s m) (hn : Parting s n) where
   ]
 
 module _ {s : Persons} {m n : Way} (hm : Parting s m) (hn : Parting s n) where
+  -- for a person both ways lie between, they give the same places
   pub between_same : (x : ℕ) → Between m n x → Same m n x
   between_same x w = record {
     a_is = omega (arith, lower hm hn x w, lower hn hm x (Between-turned w));
     b_is = omega (arith, upper hm hn x w, upper hn hm x (Between-turned w));
   }
 
+  -- and it goes to the same person
   pub same_to : (x : ℕ) → Between m n x → n.to x ≡ m.to x
   same_to x w =
       let e = between_same x w in
@@ -186,6 +196,7 @@ module _ {s : Persons} {m n : Way} (hm : Parting s m) (hn : Parting s n) where
       let on' : n.a x < s.len x = omega (arith, on, e.a_is) in
       s.one x (n.to x) (m.to x) (hn.left.acc x on') (hm.left.acc x on) (hn.left.at x on' ∙ sym e.a_is ∙ sym (hm.left.at x on))
 
+  -- and that one lies between too
   pub between_next : (x : ℕ) → Between m n x → Between m n (m.to x)
   between_next x w = record { out = rw (same_to x w) at (back_to hm hn x w.back); back = out_to hm hn x w.out }
 

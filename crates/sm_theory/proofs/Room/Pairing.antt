@@ -2,7 +2,7 @@
 use Rattle.std.proofs.Common.{◌≡◌, ◌≢◌, ℕ, zero, suc, ◌+◌, ◌-◌, ◌*◌, ◌<◌, ◌≤◌, ◌⊎◌, inl, inr, arith, refl, sym, ap, ◌∙◌, Bool, true, false, not, List, length, map, Option, None, Some}
 use Rattle.std.specs.List.{range_with_len}
 use Rattle.std.specs.Option.{option_map}
-use Rattle.std.proofs.lemmas.Bool.{false≢true}
+use Rattle.std.proofs.lemmas.Bool.{false≢true, not_from_false}
 use Rattle.std.proofs.lemmas.List.{get_or_past}
 use Rattle.std.proofs.lemmas.List.FromFn.{get_or-map-range_with_len, length-map-range_with_len}
 use Rattle.std.proofs.lemmas.Option.{same_Some, none-some}
@@ -12,7 +12,6 @@ use Rattle.sm_theory.specs.Partitions.{successor_in, predecessor_in, after, IsSt
 use Rattle.sm_theory.specs.LawsRooms.{PartiesPair}
 use Rattle.sm_theory.proofs.Room.Bridge.{before_next, after_inside}
 use Rattle.sm_theory.proofs.Room.Spots.{Spot, spot, spot_of_lowest, same_spot, after_plus}
-use Rattle.sm_theory.proofs.Net.Tests.{not_is}
 
 is_odd : ℕ → Bool
 is_odd zero = false
@@ -35,7 +34,7 @@ half_of (suc (suc n)) e = let w = half_of n (twice (is_odd n) e) in record { hal
 odd_of : (half : ℕ) → is_odd (2 * half + 1) ≡ true
 unfolding is_odd
 odd_of zero = refl
-odd_of (suc half) = let e : 2 * suc half + 1 ≡ suc (suc (2 * half + 1)) = omega arith in rw e (not_is _ (ap not (odd_of half)))
+odd_of (suc half) = let e : 2 * suc half + 1 ≡ suc (suc (2 * half + 1)) = omega arith in rw e (not_from_false _ (ap not (odd_of half)))
 
 -- the place round the party of the mate of whom stands at a place, in a party of even or odd size
 step_of : Bool → Bool → ℕ → Option ℕ
@@ -252,5 +251,6 @@ module _ {rows : List (List ℕ)} {next : List ℕ} (h : IsStablePartition rows 
         ]
       ]
 
+-- the parties of a stable partition can be paired alternately
 pub parties_pair : PartiesPair
 parties_pair rows next h = (mates h, record { alternately = pairs h; lowest_first = lowest_first h })

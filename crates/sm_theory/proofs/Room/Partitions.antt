@@ -17,12 +17,14 @@ between_in {rows} {next} h {n} hn {x} w k = rw (after_is h x k) at (all_between 
     (λ j. rw (after_is h x j) (odd_gap h w j))
     k)
 
+-- who have a stable partition with an odd party have no stable matching
 pub odd_party_excludes : OddPartyExcludes
 odd_party_excludes rows next x mates h w s =
     let b = between_in h (parting_of_mates s) w 0 in
     let e = between_same (parting_of_parties h) (parting_of_mates s) x b in
     omega (arith, b.out, b.back, e.a_is, e.b_is)
 
+-- two stable partitions have the same odd parties
 pub same_odd_parties : SameOddParties
 same_odd_parties rows next other x h g w = (
   record {
@@ -39,6 +41,7 @@ same_odd_parties rows next other x h g w = (
     same zero = refl
     same (suc k) = ap (successor_in other) (same k) ∙ same_to (parting_of_parties h) (parting_of_parties g) (after next x k) (between_in h (parting_of_parties g) w k)
 
+-- the same persons are matched in all stable matchings
 pub same_persons : SamePersons
 same_persons rows m n hm hn x e = go (mate_of n x) refl
   where
@@ -100,9 +103,11 @@ module _ {rows : List (List ℕ)} {next : List ℕ} {mates : List (Option ℕ)} 
         (omega (arith, b.second_gains, stays y (listed_in_range rows y _ b.acceptable.returned) sy)),
   )
 
+-- with the lowest of each odd party left out, no pair of those who stay blocks
 pub rest_is_stable : RestIsStable
 rest_is_stable rows next mates h p = rest h p
 
+-- where no party is odd, pairing each alternately is stable
 pub even_parties_pair : EvenPartiesPair
 even_parties_pair rows next mates h none p =
     let w = rest h p in

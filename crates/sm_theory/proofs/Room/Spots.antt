@@ -5,6 +5,7 @@ use Rattle.sm_theory.specs.Partitions.{successor_in, after, IsStablePartition}
 use Rattle.sm_theory.proofs.Room.Bridge.{one_successor, after_is, after_inside}
 use Rattle.sm_theory.proofs.Net.Tests.{some_first}
 
+-- x is so many steps behind the lowest of its party, which has so many members
 pub record Spot (rows : List (List ℕ)) (next : List ℕ) (x : ℕ) : Type 0 where
   pub lead : ℕ
   pub inside : lead < length rows
@@ -72,6 +73,7 @@ module _ {rows : List (List ℕ)} {next : List ℕ} (h : IsStablePartition rows 
         | inr e ↦ record { to = suc w.to; below = omega (arith, w.below); same = ap (successor_in next) w.same }
       ]
 
+  -- the persons met from x on before it comes again are distinct
   pub distinct_in : (x : ℕ) → x < length rows → (size : ℕ) → ((k : ℕ) → 0 < k → k < size → after next x k ≢ x) → (i j : ℕ) → i < j → j < size → after next x i ≢ after next x j
   distinct_in x a size first i j b c e =
       let k : ℕ = j - i in
@@ -86,6 +88,7 @@ module _ {rows : List (List ℕ)} {next : List ℕ} (h : IsStablePartition rows 
   Reaches : ℕ → ℕ → ℕ → Type 0
   Reaches x size v = First size (λ j. after next x j ≡ v)
 
+  -- each person has its place in its party
   pub spot : (x : ℕ) → x < length rows → Spot rows next x
   unfolding Reaches
   spot x a = go (some_first (length rows) (Reaches x p.size) (λ v _. Decided-some p.size (λ j. after next x j ≡ v) (λ j _. Decided-eq (after next x j) v)) x a (reach 0 p.some))
@@ -141,6 +144,7 @@ module _ {rows : List (List ℕ)} {next : List ℕ} (h : IsStablePartition rows 
       let le = s.lowest (rest + s.at) in
       omega arith
 
+  -- a person has one spot alone
   pub same_spot : {x : ℕ} (s t : Spot rows next x) → SameSpot s t
   same_spot {x} s t = record { lead = lead; at = at; size = size }
     where

@@ -2,14 +2,16 @@
 -- specs/WitnessesRooms.antt.
 use Rattle.std.proofs.Common.{◌≡◌, ◌≢◌, ℕ, zero, suc, ◌<◌, ◌⊎◌, ◌&&◌, ◌||◌, inl, inr, arith, refl, sym, ap, ◌∙◌, Bool, true, not, eqb, nat_lt, List, length, Option, None, Some, eqb-true, eq-eqb, ne_eqb, ltb-true, lt-ltb}
 use Rattle.std.proofs.lemmas.List.{get_or_past}
+use Rattle.std.proofs.lemmas.Option.{none-some, same_Some}
+use Rattle.std.proofs.lemmas.Bool.{and_from, not_from_false}
 use Rattle.sm_market.specs.Lists.{row, entry, place_of}
 use Rattle.sm_lists.proofs.Counting.{lt_or_le}
 use Rattle.sm_theory.specs.Rooms.{AreRoomLists, IsAcceptable, mate_of, place_of_mate, IsRoomStable}
 use Rattle.sm_theory.specs.Partitions.{successor_in, predecessor_in, after, party_place, IsStablePartition, IsLowestOfOdd}
 use Rattle.sm_theory.specs.WitnessesRooms.{odd_party_rows, odd_party_next, odd_party_rest, OddParty, even_party_rows, even_party_next, even_party_mates, EvenParty}
 use Rattle.sm_theory.proofs.Room.Bridge.{listed_in_range}
-use Rattle.sm_theory.proofs.Net.Tests.{and_parts, and_true, or_parts, not_is}
-use Rattle.sm_theory.proofs.Tests.Pairs.{all_below, passes, not_true, is_at, is_at_pass, none_some}
+use Rattle.sm_theory.proofs.Net.Tests.{and_parts, or_parts}
+use Rattle.sm_theory.proofs.Tests.Pairs.{all_below, passes, not_true, is_at, is_at_pass}
 
 -- lists
 abbrev rows_test : List (List ℕ) → Bool
@@ -45,7 +47,7 @@ unblocked_pass rows stands e x y h a b =
     (passes (length rows) (λ y. not (not (eqb x y) && (nat_lt (place_of rows x y) (stands x) && nat_lt (place_of rows y x) (stands y))))
     (passes (length rows) (λ x. all_below (length rows) (λ y. not (not (eqb x y) && (nat_lt (place_of rows x y) (stands x) && nat_lt (place_of rows y x) (stands y))))) e x (listed_in_range rows x _ h.listed))
     y (listed_in_range rows y _ h.returned))
-    (and_true _ _ (not_is _ (ne_eqb x y h.apart)) (and_true _ _ (lt-ltb _ _ a) (lt-ltb _ _ b)))
+    (and_from _ _ (not_from_false _ (ne_eqb x y h.apart)) (and_from _ _ (lt-ltb _ _ a) (lt-ltb _ _ b)))
 
 -- partitions
 abbrev person_test : List (List ℕ) → List ℕ → ℕ → Bool
@@ -104,8 +106,9 @@ mates_pass rows mates one each unblocked = record {
     test x y e = and_parts _ _ (ap (mate_test rows mates x) (sym e) ∙ passes (length rows) (λ x. mate_test rows mates x (mate_of mates x)) each x inside)
       where
         inside : x < length rows
-        inside = elim (lt_or_le x (length rows)) [ inl k ↦ k | inr k ↦ absurd (none_some (sym (get_or_past mates x None (omega (arith, one))) ∙ e)) ]
+        inside = elim (lt_or_le x (length rows)) [ inl k ↦ k | inr k ↦ absurd (none-some _ (sym (get_or_past mates x None (omega (arith, one))) ∙ e)) ]
 
+-- what is said of the persons with the party of four holds
 pub even_party_is : EvenParty
 even_party_is = (
   rows_pass even_party_rows refl,
@@ -135,6 +138,7 @@ others_not (suc (suc (suc zero))) w = refl
 others_not (suc (suc (suc (suc zero)))) w = refl
 others_not (suc (suc (suc (suc (suc x))))) w = refl
 
+-- what is said of the persons with the odd party holds
 pub odd_party_is : OddParty
 odd_party_is = (
   rows_pass odd_party_rows refl,
@@ -143,29 +147,26 @@ odd_party_is = (
   record { one_each = refl; neighbours = neighbours; in_turn = in_turn; left_out = others_not; others = others },
 )
   where
-    some_same : {x y : ℕ} → Some x ≡ Some y → x ≡ y
-    some_same e = cc
-
     neighbours : (x y : ℕ) → mate_of odd_party_rest x ≡ Some y → (y ≢ x) × ((y ≡ successor_in odd_party_next x) ⊎ (y ≡ predecessor_in odd_party_next x))
-    neighbours zero y e = absurd (none_some e)
-    neighbours (suc zero) y e = let f : 2 ≡ y = some_same e in ((λ g. omega arith), inl (sym f))
-    neighbours (suc (suc zero)) y e = let f : 1 ≡ y = some_same e in ((λ g. omega arith), inr (sym f))
-    neighbours (suc (suc (suc zero))) y e = absurd (none_some e)
-    neighbours (suc (suc (suc (suc zero)))) y e = absurd (none_some e)
-    neighbours (suc (suc (suc (suc (suc x))))) y e = absurd (none_some e)
+    neighbours zero y e = absurd (none-some _ e)
+    neighbours (suc zero) y e = let f : 2 ≡ y = same_Some _ _ e in ((λ g. omega arith), inl (sym f))
+    neighbours (suc (suc zero)) y e = let f : 1 ≡ y = same_Some _ _ e in ((λ g. omega arith), inr (sym f))
+    neighbours (suc (suc (suc zero))) y e = absurd (none-some _ e)
+    neighbours (suc (suc (suc (suc zero)))) y e = absurd (none-some _ e)
+    neighbours (suc (suc (suc (suc (suc x))))) y e = absurd (none-some _ e)
 
     in_turn : (x y : ℕ) → mate_of odd_party_rest x ≡ Some y → mate_of odd_party_rest y ≡ Some x
-    in_turn zero y e = absurd (none_some e)
-    in_turn (suc zero) y e = let f : 2 ≡ y = some_same e in ap (mate_of odd_party_rest) (sym f)
-    in_turn (suc (suc zero)) y e = let f : 1 ≡ y = some_same e in ap (mate_of odd_party_rest) (sym f)
-    in_turn (suc (suc (suc zero))) y e = absurd (none_some e)
-    in_turn (suc (suc (suc (suc zero)))) y e = absurd (none_some e)
-    in_turn (suc (suc (suc (suc (suc x))))) y e = absurd (none_some e)
+    in_turn zero y e = absurd (none-some _ e)
+    in_turn (suc zero) y e = let f : 2 ≡ y = same_Some _ _ e in ap (mate_of odd_party_rest) (sym f)
+    in_turn (suc (suc zero)) y e = let f : 1 ≡ y = same_Some _ _ e in ap (mate_of odd_party_rest) (sym f)
+    in_turn (suc (suc (suc zero))) y e = absurd (none-some _ e)
+    in_turn (suc (suc (suc (suc zero)))) y e = absurd (none-some _ e)
+    in_turn (suc (suc (suc (suc (suc x))))) y e = absurd (none-some _ e)
 
     others : (x : ℕ) → x < 5 → mate_of odd_party_rest x ≡ None → (successor_in odd_party_next x ≡ x) ⊎ IsLowestOfOdd odd_party_rows odd_party_next x
     others zero h e = inr lowest
-    others (suc zero) h e = absurd (none_some (sym e))
-    others (suc (suc zero)) h e = absurd (none_some (sym e))
+    others (suc zero) h e = absurd (none-some _ (sym e))
+    others (suc (suc zero)) h e = absurd (none-some _ (sym e))
     others (suc (suc (suc zero))) h e = inl refl
     others (suc (suc (suc (suc zero)))) h e = inl refl
     others (suc (suc (suc (suc (suc x))))) h e = absurd (omega arith)

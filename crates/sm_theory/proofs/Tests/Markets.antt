@@ -30,6 +30,7 @@ three_cycle_complete = record {
   complete = none_pass three_cycle (stage three_cycle three_cycle_first three_cycle_chain 2) refl;
 }
 
+-- what is said of the market of three proposers holds
 pub three_cycle_is : ThreeCycle
 three_cycle_is = (
   market_pass three_cycle refl,
@@ -76,6 +77,7 @@ apart i j a b e = omega (arith, low i a, high j b, e)
 second_needs_first : MakesItPass passed_seat (rotation_at passed_seat_chain 0) (rotation_at passed_seat_chain 1)
 second_needs_first = record { pair = 1; pair_in = omega arith; other = 0; other_in = omega arith; behind = omega arith; before = omega arith; gains = omega arith; loses = omega arith }
 
+-- what is said of the market with the reviewer that is passed holds
 pub passed_seat_is : PassedSeat
 passed_seat_is = (
   market,
@@ -104,6 +106,7 @@ left_over_complete = record {
   complete = none_pass left_over left_over_last refl;
 }
 
+-- what is said of the market with unmatched agents holds
 pub left_over_is : LeftOver
 left_over_is = (
   left_over_market,

@@ -1,6 +1,8 @@
 -- Tests that compute, and what passing them means: for markets, matchings and rotations that are written out.
 use Rattle.std.proofs.Common.{◌≡◌, ℕ, zero, suc, ◌+◌, ◌<◌, ◌≤◌, ◌&&◌, ◌||◌, inl, inr, arith, refl, sym, ap, ◌∙◌, Bool, true, false, not, eqb, nat_lt, List, length, slice_index, Option, None, Some, is_some, eqb-true, eq-eqb, ltb-true, lt-ltb}
 use Rattle.std.proofs.lemmas.List.{get_or_past}
+use Rattle.std.proofs.lemmas.Option.{none-some}
+use Rattle.std.proofs.lemmas.Bool.{and_from}
 use Rattle.sm_market.specs.Lists.{Lists, row, entry, place_of, AreMutual, IsMarket}
 use Rattle.sm_market.specs.Matching.{Places, held, standing, AreHeldInTurn, IsMatching}
 use Rattle.sm_market.specs.Stable.{IsStable, IsProposersBest}
@@ -12,18 +14,22 @@ use Rattle.sm_theory.specs.Vectors.{AreLevels}
 use Rattle.sm_theory.proofs.Bridge.Places.{row_past}
 use Rattle.sm_theory.proofs.Net.Tests.{or_parts}
 
+-- all numbers below n pass
 abbrev pub all_below : ℕ → (ℕ → Bool) → Bool
 all_below zero f = true
 all_below (suc n) f = all_below n f && f n
 
+-- where two tests pass together, the first passes
 pub and_left : (a b : Bool) → (a && b) ≡ true → a ≡ true
 and_left true b e = refl
 and_left false b e = e
 
+-- and the second passes
 pub and_right : (a b : Bool) → (a && b) ≡ true → b ≡ true
 and_right true b e = e
 and_right false b e = grind arith
 
+-- where all below n pass, each passes
 pub passes : (n : ℕ) (f : ℕ → Bool) → all_below n f ≡ true → (i : ℕ) → i < n → f i ≡ true
 passes zero f e i h = absurd (omega arith)
 passes (suc n) f e i h = elim (eq_or_ne i n) [
@@ -31,6 +37,7 @@ passes (suc n) f e i h = elim (eq_or_ne i n) [
   | inr x ↦ passes n f (and_left (all_below n f) (f n) e) i (omega arith)
 ]
 
+-- where a test's opposite passes, it doesn't
 pub not_true : (b : Bool) → not b ≡ true → b ≡ true → ⊥
 not_true true e x = grind arith
 not_true false e x = grind arith
@@ -40,6 +47,7 @@ abbrev entry_test : List (List ℕ) → List (List ℕ) → ℕ → ℕ → Bool
 entry_test rows others a i = nat_lt (entry rows a i) (length others)
     && (nat_lt (place_of others (entry rows a i) a) (length (row others (entry rows a i))) && all_below i (λ j. not (eqb (entry rows a j) (entry rows a i))))
 
+-- the test that one side's lists are in range, without repeats and returned
 abbrev pub lists_test : List (List ℕ) → List (List ℕ) → Bool
 lists_test rows others = all_below (length rows) (λ a. all_below (length (row rows a)) (entry_test rows others a))
 
@@ -56,6 +64,7 @@ lists_pass rows others e = record {
       | inr k ↦ absurd (omega (arith, row_past rows a k))
     ]
 
+-- lists of which and_from sides pass are a market
 pub market_pass : (l : Lists) → (lists_test l.proposers l.reviewers && lists_test l.reviewers l.proposers) ≡ true → IsMarket l
 market_pass l e = record { proposers = lists_pass l.proposers l.reviewers (and_left _ _ e); reviewers = lists_pass l.reviewers l.proposers (and_right _ _ e) }
 
@@ -64,6 +73,7 @@ abbrev pub is_at : Option ℕ → ℕ → Bool
 is_at None i = false
 is_at (Some k) i = eqb k i
 
+-- where it passes, the place is i
 pub is_at_pass : (o : Option ℕ) (i : ℕ) → is_at o i ≡ true → o ≡ Some i
 is_at_pass None i e = grind arith
 is_at_pass (Some k) i e = ap Some (eqb-true k i e)
@@ -72,11 +82,9 @@ abbrev place_test : List (List ℕ) → List (List ℕ) → List (Option ℕ) �
 place_test rows others theirs a None = true
 place_test rows others theirs a (Some i) = nat_lt i (length (row rows a)) && is_at (held theirs (entry rows a i)) (place_of others (entry rows a i) a)
 
+-- the test that one side's places are held in turn
 abbrev pub places_test : List (List ℕ) → List (List ℕ) → List (Option ℕ) → List (Option ℕ) → Bool
 places_test rows others places theirs = eqb (length places) (length rows) && all_below (length rows) (λ a. place_test rows others theirs a (held places a))
-
-pub none_some : {x : ℕ} → ◌≡◌ {A = Option ℕ} None (Some x) → ⊥
-none_some e = grind arith
 
 places_pass : (rows others : List (List ℕ)) (places theirs : List (Option ℕ)) → places_test rows others places theirs ≡ true → AreHeldInTurn rows others places theirs
 places_pass rows others places theirs e = record {
@@ -91,9 +99,10 @@ places_pass rows others places theirs e = record {
     test : (a i : ℕ) → held places a ≡ Some i → place_test rows others theirs a (Some i) ≡ true
     test a i x = elim (lt_or_le a (length rows)) [
       | inl k ↦ ap (place_test rows others theirs a) (sym x) ∙ passes (length rows) (λ a. place_test rows others theirs a (held places a)) (and_right _ _ e) a k
-      | inr k ↦ absurd (none_some (sym (get_or_past places a None (omega (arith, one))) ∙ x))
+      | inr k ↦ absurd (none-some _ (sym (get_or_past places a None (omega (arith, one))) ∙ x))
     ]
 
+-- places of which and_from sides pass are a matching
 pub matching_pass : (l : Lists) (m : Places) → (places_test l.proposers l.reviewers m.proposers m.reviewers && places_test l.reviewers l.proposers m.reviewers m.proposers) ≡ true → IsMatching l m
 matching_pass l m e = record { proposers = places_pass _ _ _ _ (and_left _ _ e); reviewers = places_pass _ _ _ _ (and_right _ _ e) }
 
@@ -141,11 +150,6 @@ abbrev successor_test : Lists → Places → ℕ → ℕ → Bool
 successor_test l m p i = nat_lt i (length (row l.proposers p)) && (nat_lt (standing l.proposers m.proposers p) i && (takes_test l m p i
     && (all_below i (λ j. not (nat_lt (standing l.proposers m.proposers p) j && takes_test l m p j)) && is_some (held m.reviewers (entry l.proposers p i)))))
 
-pub both : (a b : Bool) → a ≡ true → b ≡ true → (a && b) ≡ true
-both true true x y = refl
-both true false x y = y
-both false b x y = x
-
 three : (a b c : Bool) → (a && (b && c)) ≡ true → (a ≡ true) × (b ≡ true) × (c ≡ true)
 three a b c e = let f = and_right a (b && c) e in (and_left a (b && c) e, and_left b c f, and_right b c f)
 
@@ -154,7 +158,7 @@ successor_pass l m p i e = record {
   on_list = ltb-true _ _ whole.0;
   behind = ltb-true _ _ whole.1;
   takes = ltb-true _ _ rest.0;
-  first = λ j a b w. not_true _ (passes i (λ j. not (nat_lt (standing l.proposers m.proposers p) j && takes_test l m p j)) rest.1 j b) (both _ _ (lt-ltb _ _ a) (lt-ltb _ _ w));
+  first = λ j a b w. not_true _ (passes i (λ j. not (nat_lt (standing l.proposers m.proposers p) j && takes_test l m p j)) rest.1 j b) (and_from _ _ (lt-ltb _ _ a) (lt-ltb _ _ w));
   matched = rest.2;
 }
   where
@@ -171,9 +175,11 @@ abbrev pair_test : Lists → Places → List (ℕ × ℕ) → ℕ → Bool
 pair_test l m rotation i = is_at (held m.proposers (proposer_at rotation i)) (place_of l.proposers (proposer_at rotation i) (reviewer_at rotation i))
     && successor_test l m (proposer_at rotation i) (place_of l.proposers (proposer_at rotation i) (target_at rotation i))
 
+-- the test that a rotation is exposed
 abbrev pub exposed_test : Lists → Places → List (ℕ × ℕ) → Bool
 exposed_test l m rotation = nat_lt 0 (length rotation) && (all_below (length rotation) (apart_test rotation) && all_below (length rotation) (pair_test l m rotation))
 
+-- a rotation that passes is exposed
 pub exposed_pass : (l : Lists) (m : Places) (rotation : List (ℕ × ℕ)) → exposed_test l m rotation ≡ true → IsExposed l m rotation
 exposed_pass l m rotation e = record {
   not_empty = ltb-true _ _ whole.0;
@@ -192,6 +198,7 @@ exposed_pass l m rotation e = record {
 abbrev goes_test : Lists → Places → ℕ → ℕ → Bool
 goes_test l m p i = nat_lt (standing l.proposers m.proposers p) i && (takes_test l m p i && is_some (held m.reviewers (entry l.proposers p i)))
 
+-- the test that no proposer has a place to go to
 abbrev pub none_test : Lists → Places → Bool
 none_test l m = all_below (length l.proposers) (λ p. all_below (length (row l.proposers p)) (λ i. not (goes_test l m p i)))
 
@@ -206,7 +213,7 @@ none_pass l m e other x = go (x.next 0 x.not_empty)
     go w = elim (lt_or_le p (length l.proposers)) [
       | inl k ↦ not_true (goes_test l m p (place_of l.proposers p (target_at other 0)))
           (passes (length (row l.proposers p)) (λ i. not (goes_test l m p i)) (passes (length l.proposers) (λ p. all_below (length (row l.proposers p)) (λ i. not (goes_test l m p i))) e p k) (place_of l.proposers p (target_at other 0)) w.on_list)
-          (both _ _ (lt-ltb _ _ w.behind) (both _ _ (lt-ltb _ _ w.takes) w.matched))
+          (and_from _ _ (lt-ltb _ _ w.behind) (and_from _ _ (lt-ltb _ _ w.takes) w.matched))
       | inr k ↦ omega (arith, w.on_list, row_past l.proposers p k)
     ]
 
@@ -214,6 +221,7 @@ none_pass l m e other x = go (x.next 0 x.not_empty)
 abbrev rising_test : List ℕ → Bool
 rising_test levels = all_below (length levels) (λ j. all_below j (λ i. not (nat_lt (slice_index levels j) (slice_index levels i))))
 
+-- the test that levels are given for all places, rising
 abbrev pub levels_test : Lists → List (List ℕ) → Bool
 levels_test l levels = eqb (length levels) (length l.proposers)
     && (all_below (length l.proposers) (λ p. eqb (length (row levels p)) (length (row l.proposers p) + 1)) && all_below (length levels) (λ p. rising_test (row levels p)))
@@ -221,6 +229,7 @@ levels_test l levels = eqb (length levels) (length l.proposers)
 not_less : (a b : ℕ) → not (nat_lt a b) ≡ true → b ≤ a
 not_less a b e = elim (lt_or_le a b) [ inl h ↦ absurd (not_true _ e (lt-ltb _ _ h)) | inr h ↦ h ]
 
+-- levels that pass are levels of the market
 pub levels_pass : (l : Lists) (levels : List (List ℕ)) → levels_test l levels ≡ true → AreLevels l levels
 levels_pass l levels e = record {
   one_each = eqb-true _ _ whole.0;

@@ -40,6 +40,7 @@ one_hospital p i j h g e = elim (lt_or_le p 5) [
   | inr k ↦ absurd (omega (arith, h, row_past seats.proposers p k))
 ]
 
+-- what is said of the market of seats holds
 pub seats_are : Seats
 seats_are = (
   market_pass seats refl,

@@ -1,6 +1,7 @@
 -- What the definitions of closed sets and of conditions ask can be decided, and so can be searched for the set whose vector is
 -- the least.
 use Rattle.std.proofs.Common.{◌≡◌, ℕ, ◌<◌, ◌⊎◌, inl, inr, arith, refl, sym, ap, ◌∙◌, List, length, Option, None, Some, Bool, slice_index, slice_index_or}
+use Rattle.std.proofs.lemmas.Option.{none-some, same_Some}
 use Rattle.sm_market.specs.Lists.{Lists, row, place_of}
 use Rattle.sm_market.specs.Matching.{Places, held}
 use Rattle.sm_lists.proofs.Counting.{Decided, Decided-lt, Decided-eq, Decided-and, Decided-not, Decided-some, by_contradiction, First, search_below}
@@ -89,21 +90,15 @@ Decided-closed l rotations set = Decided-map
     Decided-all (length rotations) (λ j. IsMember set j → IsNeededBy l (rotation_at rotations i) (rotation_at rotations j) → IsMember set i) (λ j _.
     Decided-implies (Decided-member set j) (Decided-implies (Decided-needed l (rotation_at rotations i) (rotation_at rotations j)) (Decided-member set i))))))
 
-none_some : {x : ℕ} → ◌≡◌ {A = Option ℕ} None (Some x) → ⊥
-none_some e = grind arith
-
-some_same : {x y : ℕ} → Some x ≡ Some y → x ≡ y
-some_same e = cc
-
 -- whether p is matched at a place of a level
 pub Decided-level : (levels : List (List ℕ)) (m : Places) (p level : ℕ) → Decided (HasLevel levels m p level)
 Decided-level levels m p level = go (held m.proposers p) refl
   where
     go : (o : Option ℕ) → held m.proposers p ≡ o → Decided (HasLevel levels m p level)
-    go None e = inr (λ w. none_some (sym e ∙ w.holds))
+    go None e = inr (λ w. none-some _ (sym e ∙ w.holds))
     go (Some i) e = Decided-map
         (λ x. record { place = i; holds = e; at_level = x })
-        (λ (w : HasLevel levels m p level). ap (slice_index (row levels p)) (some_same (sym e ∙ w.holds)) ∙ w.at_level)
+        (λ (w : HasLevel levels m p level). ap (slice_index (row levels p)) (same_Some _ _ (sym e ∙ w.holds)) ∙ w.at_level)
         (Decided-eq (slice_index (row levels p) i) level)
 
 -- whether a matching meets the conditions

@@ -15,9 +15,11 @@ use Rattle.sm_theory.proofs.Chains.Rotations.{predecessor_is_earlier, sets_are_m
 use Rattle.sm_theory.proofs.Tests.Pairs.{market_pass, matching_pass, firsts_best, exposed_pass, none_pass, levels_pass}
 use Rattle.sm_theory.proofs.Tests.Markets.{below_two}
 
+-- the lists of twice two are a market
 pub market : IsMarket two_pairs
 market = market_pass two_pairs refl
 
+-- its chain is complete
 pub complete : IsCompleteChain two_pairs two_pairs_first two_pairs_chain
 complete = record {
   from_best = firsts_best two_pairs two_pairs_first (matching_pass two_pairs two_pairs_first refl) refl;
@@ -46,6 +48,7 @@ apart = below_two (λ i. (j : ℕ) → j < 2 → proposer_at (rotation_at two_pa
     (below_two _ (λ h. omega arith) (λ h. omega arith))
     (below_two _ (λ h. omega arith) (λ h. omega arith))
 
+-- neither rotation is a predecessor of the other, nor of itself
 pub none_needed : (i j : ℕ) → i < 2 → j < 2 → IsNeededBy two_pairs (rotation_at two_pairs_chain i) (rotation_at two_pairs_chain j) → ⊥
 none_needed zero zero a b w = omega (arith, predecessor_is_earlier two_pairs two_pairs_first two_pairs_chain 0 0 market complete a b w)
 none_needed zero (suc zero) a b (inl w) = apart w.pair w.pair_in w.other w.other_in w.same_proposer
@@ -99,6 +102,7 @@ below_three P a b c (suc zero) h = b
 below_three P a b c (suc (suc zero)) h = c
 below_three P a b c (suc (suc (suc i))) h = absurd (omega arith)
 
+-- what holds of 0, 1, 2 and 3 holds below 4
 pub below_four : (P : ℕ → Type 0) → P 0 → P 1 → P 2 → P 3 → (i : ℕ) → i < 4 → P i
 below_four P a b c d zero h = a
 below_four P a b c d (suc zero) h = b
@@ -232,6 +236,7 @@ orders = (
 next_ones : NextOnes
 next_ones = (first_is_next (irreflexive forth) (transitive forth) listed.2, listed.0.ended.0 refl)
 
+-- what is said of the market of twice two holds
 pub two_pairs_are : TwoPairs
 two_pairs_are = (
   market,

@@ -66,6 +66,7 @@ module _ (l : Lists) (levels : List (List ℕ)) (weights : List (List ℤ)) (for
   of_cut : (m : Places) → IsStable l m → IsOfCut m
   of_cut m s = let w = (sets_are_matchings l first rotations ground.market ground.chain).all m s in record { members = w.0; closed = w.1; is = w.2 }
 
+  -- a least cut is a closed set, and its matching a lightest allowed one
   pub lightest_of_least : (set : List Bool) → IsLeastCut net set → IsClosed l rotations set × IsLightestAllowed l levels weights forced forbidden (matching_of l first rotations set)
   lightest_of_least set least = (closed, record { stable = set_stable ground.market ground.chain set closed; allowed = both.1; lightest = lightest })
     where
@@ -85,6 +86,7 @@ module _ (l : Lists) (levels : List (List ℕ)) (weights : List (List ℤ)) (for
           let three : weight_of l weights (matching_of l first rotations w.members) ≡ weight_of l weights n = ap (weight_of l weights) w.is in
           omega (arith, ints)
 
+  -- the closed set of a lightest allowed matching is a least cut
   pub least_of_lightest : (set : List Bool) → IsClosed l rotations set → IsLightestAllowed l levels weights forced forbidden (matching_of l first rotations set) → IsLeastCut net set
   least_of_lightest set closed x = record {
     cut = cut_of_allowed l levels weights forced forbidden first rotations needs ground set closed x.allowed;
@@ -96,6 +98,7 @@ module _ (l : Lists) (levels : List (List ℕ)) (weights : List (List ℤ)) (for
         omega (arith, ints);
   }
 
+-- the least cuts are the sets of the lightest allowed matchings
 pub least_cut_is_lightest : LeastCutIsLightest
 least_cut_is_lightest l levels weights forced forbidden first rotations needs set ground = (
   (λ c. lightest_of_least l levels weights forced forbidden first rotations needs ground set (rw (net_is_whole l levels weights forced forbidden first rotations needs c.0) at c.1)),
@@ -104,6 +107,7 @@ least_cut_is_lightest l levels weights forced forbidden first rotations needs se
       (some, rw (net_is_whole l levels weights forced forbidden first rotations needs some) (least_of_lightest l levels weights forced forbidden first rotations needs ground set w.0 w.1))),
 )
 
+-- the matching of the reach is the best for all proposers among the lightest allowed ones
 pub reach_is_best_lightest : ReachIsBestLightest
 reach_is_best_lightest l levels weights forced forbidden first rotations needs flow set ground some h r none = (
   (lightest_of_least l levels weights forced forbidden first rotations needs ground set (whole_of set found.0)).1,
@@ -126,6 +130,7 @@ reach_is_best_lightest l levels weights forced forbidden first rotations needs f
         × ((other : List Bool) → IsLeastCut (net_of l levels weights forced forbidden first rotations needs) other → (k : ℕ) → IsMember set k → IsMember other k)
     found = reach_is_least_cut (net_of l levels weights forced forbidden first rotations needs) flow set h r none
 
+-- nothing is allowed exactly where a pair allows nothing by itself or unbounded edges lead to the sink
 pub path_where_nothing : PathWhereNothing
 path_where_nothing l levels weights forced forbidden first rotations needs ground = (there, back)
   where

@@ -9,6 +9,7 @@ pub above_of : (z : ℤ) (n : ℕ) → unsigned_abs z ≤ n → neg_ℤ (pos n) 
 above_of (pos k) n h = omega (arith, ints)
 above_of (negsuc k) n h = omega (arith, ints)
 
+-- a number of size at most n is at most n
 pub below_of : (z : ℤ) (n : ℕ) → unsigned_abs z ≤ n → z ≤ℤ pos n
 below_of (pos k) n h = omega (arith, ints)
 below_of (negsuc k) n h = omega (arith, ints)

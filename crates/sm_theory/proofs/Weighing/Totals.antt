@@ -4,6 +4,7 @@ use Rattle.std.proofs.lemmas.Int.{ints}
 use Rattle.sm_lists.proofs.Counting.{eq_or_ne, search_below, First, Decided-eq}
 use Rattle.sm_theory.specs.Weights.{total}
 
+-- terms that are the same have the same total
 pub total_same : (n : ℕ) (f g : ℕ → ℤ) → ((p : ℕ) → p < n → f p ≡ g p) → total f n ≡ total g n
 total_same zero f g same = refl
 total_same (suc n) f g same =
@@ -69,6 +70,7 @@ module _ (n : ℕ) (f g : ℕ → ℤ) (size : ℕ) (who : ℕ → ℕ) (inside 
         | inr none ↦ mixed_out f g who (suc k) p (λ i x e. elim (eq_or_ne i k) [ inl y ↦ ne (sym e ∙ ap who y) | inr y ↦ none i (omega arith) e ]) ∙ sym (mixed_out f g who k p none)
       ]
 
+  -- the totals differ by the changes at the places that differ
   pub total_changes : ((p : ℕ) → p < n → ((i : ℕ) → i < size → who i ≡ p → ⊥) → f p ≡ g p) → total f n ≡ total g n +ℤ total (λ i. f (who i) -ℤ g (who i)) size
   total_changes same = total_same n f (mixed f g who size) all ∙ total_mixed size (omega arith)
     where

@@ -41,6 +41,7 @@ gain_is {l} h weights {m} {rotation} s x =
     ap₂ ◌-ℤ◌ (sym (weigh_on l weights p (place_of l.proposers p (target_at rotation i)) (y.next i a).on))
     (sym (weigh_on l weights p (place_of l.proposers p (reviewer_at rotation i)) (omega (arith, pair.place_is, pair.matched)))))
 
+-- a closed set's matching weighs what the first one weighs and the gains of the members
 pub weight_is_sum_of_gains : WeightIsSumOfGains
 weight_is_sum_of_gains l first rotations set weights h chain closed =
     weight_is h weights (set_stable h chain set closed)

@@ -1,22 +1,34 @@
-use Rattle.std.proofs.Common.{ℕ, ◌≡◌, ◌<◌, length, sym, subst}
-use Rattle.sm_instance.specs.Sound.{items_of, IsSoundItem}
+use Rattle.std.proofs.Common.{ℕ, ◌≡◌, ◌<◌, length, sym, subst, true}
+use Rattle.sm_instance.specs.Sound.{items_of, is_single, IsSoundItem, IsWithinLimits, AreSoundAgents, AreSoundEntries}
 use Rattle.sm_instance.specs.Vectors.{agents_of}
 use Rattle.sm_instance.proofs.AgentLemmas.{length-agents}
 use Rattle.sm_instance.proofs.checks.checked.Goals as goal
 
 pub returns-clause-instance : goal.returns-clause-instance
 returns-clause-instance c =
-    let items = items_of c.args.weights.now c.args.forced.now c.args.forbidden.now in
-    let P : ℕ → ℕ → Type 0 = λ p r. (n : ℕ) → n < length items → IsSoundItem p r c.args.weights.now items n in
-    let left : length c.args.proposers.now ≡ length (agents_of c.args.proposers.now) = sym (length-agents c.args.proposers.now) in
-    let right : length c.args.reviewers.now ≡ length (agents_of c.args.reviewers.now) = sym (length-agents c.args.reviewers.now) in
+    let parts = c.args.parts.now in
+    let proposers = parts.proposers.items in
+    let reviewers = parts.reviewers.items in
+    let weights = parts.weights.items in
+    let items = items_of weights parts.forced.items parts.forbidden.items in
+    let P : ℕ → ℕ → Type 0 = λ p r. (n : ℕ) → n < length items → IsSoundItem p r weights items n in
+    let left : length proposers ≡ length (agents_of proposers) = sym (length-agents proposers) in
+    let right : length reviewers ≡ length (agents_of reviewers) = sym (length-agents reviewers) in
+    let p = c.as_slice-proposers.ensures.value in
+    let r = c.as_slice-reviewers.ensures.value in
+    let limits : IsWithinLimits (agents_of proposers) (agents_of reviewers) = rw (p, r) at (c.are_within_limits.ensures.0 c.if-not-are_within_limits.false) in
+    let proposers_sound : AreSoundAgents (agents_of proposers) true = rw p at c.in_ok-left.ensures.proposers in
+    let reviewers_sound : AreSoundAgents (agents_of reviewers) (is_single parts.kind) = rw r at c.in_ok-left.ensures.reviewers in
+    let proposer_entries : AreSoundEntries (agents_of proposers) (length (agents_of reviewers)) = rw (p, r) at c.in_ok-check_lists.ensures.proposers in
+    let reviewer_entries : AreSoundEntries (agents_of reviewers) (length (agents_of proposers)) = rw (p, r) at c.in_ok-check_lists.ensures.reviewers in
+    let sound : P (length proposers) (length reviewers) = rw (p, r, c.deref.ensures.value, c.deref-2.ensures.value, c.deref-3.ensures.value) at c.in_ok-weighed.ensures.sound in
     record {
       two_sided = c.requires.two_sided;
-      limits = c.are_within_limits.ensures.0 c.if-not-are_within_limits.false;
-      proposers = c.in_ok-left.ensures.proposers;
-      reviewers = c.in_ok-left.ensures.reviewers;
-      proposer_entries = c.in_ok-check_lists.ensures.proposers;
-      reviewer_entries = c.in_ok-check_lists.ensures.reviewers;
-      items = let Q : ℕ → Type 0 = λ p. P p (length (agents_of c.args.reviewers.now)) in
-          subst Q left (let R : ℕ → Type 0 = λ r. P (length c.args.proposers.now) r in subst R right c.in_ok-weighed.ensures.sound);
+      limits = limits;
+      proposers = proposers_sound;
+      reviewers = reviewers_sound;
+      proposer_entries = proposer_entries;
+      reviewer_entries = reviewer_entries;
+      items = let Q : ℕ → Type 0 = λ p. P p (length (agents_of reviewers)) in
+          subst Q left (let R : ℕ → Type 0 = λ r. P (length proposers) r in subst R right sound);
     }

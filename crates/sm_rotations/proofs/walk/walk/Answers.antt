@@ -1,4 +1,4 @@
-use Rattle.std.proofs.Common.{◌≡◌, ◌∙◌, ◌++◌, ◌∷◌, [], ap, inl, inr, arith, rules, None, false, replicate}
+use Rattle.std.proofs.Common.{◌≡◌, ◌∙◌, ◌++◌, ◌∷◌, [], ap, sym, inl, inr, arith}
 use Rattle.sm_market.specs.Pairing.{Paired}
 use Rattle.sm_lists.proofs.Counting.{eq_or_ne}
 use Rattle.sm_theory.specs.Values.{rotations_of}
@@ -11,13 +11,12 @@ use Rattle.sm_rotations.proofs.walk.walk.Goals as goal
 
 pub loop-p-init : goal.loop-p-init
 loop-p-init c =
-    let spots_is : c.as_mut_slice-spots.result.now ≡ replicate c.proposers-proposers.result None = search rules in
-    let finished_is : c.as_mut_slice-finished.result.now ≡ replicate c.proposers-proposers.result false = search rules in
+    let x = c.in_ok-trail.ensures in
     record {
       made = rw c.in_ok-m.ensures c.requires.made;
       linked = c.cut_to_partners.ensures.linked;
       front = c.cut_to_partners.ensures.front;
-      walking = walk_begins c.proposers-proposers.result c.proposers-proposers.ensures.count c.requires.best.stable (ap (λ (v : Paired). v.places) c.in_ok-m.ensures) (ap rotations_of c.new-rotations.ensures.items) finished_is c.in_ok-stack.ensures.items spots_is;
+      walking = walk_begins c.proposers.result c.proposers.ensures.count c.requires.best.stable (ap (λ (v : Paired). v.places) c.in_ok-m.ensures) (ap rotations_of c.new-rotations.ensures.items) x.finished x.stack x.spots;
       done = λ q less. absurd (omega arith);
     }
 
@@ -26,71 +25,75 @@ steps-smaller-in-Over c = fewer_over c.steps.invariant.walking.on_stack c.steps.
 
 pub steps-preserved-in-Over : goal.steps-preserved-in-Over
 steps-preserved-in-Over c =
-    let worst : IsTopAtWorst c.args.market.now c.steps.m.places c.steps.stack.items = rw c.deref.ensures.value at c.in-Over.ensures in
+    let worst : IsTopAtWorst c.args.market.now c.steps.m.places c.steps.trail.stack.items = c.in-Over.ensures in
     let x = c.take_top_off.ensures in
     let w = c.steps.invariant.walking in
     record {
       made = c.steps.invariant.made;
       linked = c.steps.invariant.linked;
       front = c.steps.invariant.front;
-      walking = walk_over c.proposers-proposers.ensures.market w worst x;
-      done = λ q less. rw x.finished (still_finished c.steps.finished _ q (omega (arith, w.finished_each, w.on_stack.in_range x.top (omega (arith, x.last)))) (c.steps.invariant.done q less));
+      walking = walk_over c.proposers.ensures.market w worst x;
+      done = λ q less. rw x.finished (still_finished c.steps.trail.finished.items _ q (omega (arith, w.finished_each, w.on_stack.in_range x.top (omega (arith, x.last)))) (c.steps.invariant.done q less));
     }
 
-pub steps-smaller-in-Continue-branch-6 : goal.steps-smaller-in-Continue-branch-6
-steps-smaller-in-Continue-branch-6 c =
-    let on : GoesOn c.args.market.now c.steps.m.places c.steps.stack.items c.steps.spots c.steps.finished c.in-On.q = rw c.deref.ensures.value at c.in-On.ensures in
-    fewer_on c.steps.invariant.walking.on_stack on c.in_ok-put_on-in-On.ensures.stack c.in_ok-put_on-in-On.ensures.spots
+pub steps-smaller-in-Continue-branch-4 : goal.steps-smaller-in-Continue-branch-4
+steps-smaller-in-Continue-branch-4 c =
+    let on : GoesOn c.args.market.now c.steps.m.places c.steps.trail.stack.items c.steps.trail.spots.items c.steps.trail.finished.items c.in-On.q = c.in-On.ensures in
+    let same : c.put_on.new.self.finished ≡ c.steps.trail.finished = c.put_on.ensures.finished in
+    rw same (fewer_on c.steps.invariant.walking.on_stack on c.in_ok-put_on-in-On.ensures.stack c.in_ok-put_on-in-On.ensures.spots)
 
-pub steps-preserved-in-Continue-branch-6 : goal.steps-preserved-in-Continue-branch-6
-steps-preserved-in-Continue-branch-6 c =
-    let on : GoesOn c.args.market.now c.steps.m.places c.steps.stack.items c.steps.spots c.steps.finished c.in-On.q = rw c.deref.ensures.value at c.in-On.ensures in
+pub steps-preserved-in-Continue-branch-4 : goal.steps-preserved-in-Continue-branch-4
+steps-preserved-in-Continue-branch-4 c =
+    let on : GoesOn c.args.market.now c.steps.m.places c.steps.trail.stack.items c.steps.trail.spots.items c.steps.trail.finished.items c.in-On.q = c.in-On.ensures in
+    let same : c.put_on.new.self.finished ≡ c.steps.trail.finished = c.put_on.ensures.finished in
     record {
       made = c.steps.invariant.made;
       linked = c.steps.invariant.linked;
       front = c.steps.invariant.front;
-      walking = walk_on c.proposers-proposers.ensures.market c.steps.invariant.walking on c.in_ok-put_on-in-On.ensures.stack c.in_ok-put_on-in-On.ensures.spots;
-      done = c.steps.invariant.done;
+      walking = rw same (walk_on c.proposers.ensures.market c.steps.invariant.walking on c.in_ok-put_on-in-On.ensures.stack c.in_ok-put_on-in-On.ensures.spots);
+      done = rw same c.steps.invariant.done;
     }
 
 pub eliminate-requires-clause-exposed : goal.eliminate-requires-clause-exposed
 eliminate-requires-clause-exposed c =
-    let back : LeadsBack c.args.market.now c.steps.m.places c.steps.stack.items c.in-Back.from = rw c.deref.ensures.value at c.in-Back.ensures in
-    exposed_back c.proposers-proposers.ensures.market c.steps.invariant.walking back c.in_ok-rotation-in-Back.ensures.pairs
+    let back : LeadsBack c.args.market.now c.steps.m.places c.steps.trail.stack.items c.in-Back.from = c.in-Back.ensures in
+    exposed_back c.proposers.ensures.market c.steps.invariant.walking back c.in_ok-rotation-in-Back.ensures.pairs
 
 pub cut_to_new_partners-requires-clause-in_range :
     goal.cut_to_new_partners-requires-clause-in_range
 cut_to_new_partners-requires-clause-in_range c =
-    let back : LeadsBack c.args.market.now c.steps.m.places c.steps.stack.items c.in-Back.from = rw c.deref.ensures.value at c.in-Back.ensures in
-    rw c.deref-in-Back.ensures.value (reviewers_there c.proposers-proposers.ensures.market c.steps.invariant.walking back c.in_ok-rotation-in-Back.ensures.pairs)
+    let back : LeadsBack c.args.market.now c.steps.m.places c.steps.trail.stack.items c.in-Back.from = c.in-Back.ensures in
+    rw c.deref.ensures.value (reviewers_there c.proposers.ensures.market c.steps.invariant.walking back c.in_ok-rotation-in-Back.ensures.pairs)
 
 pub cut_to_new_partners-requires-clause-front : goal.cut_to_new_partners-requires-clause-front
 cut_to_new_partners-requires-clause-front c =
-    let h = c.proposers-proposers.ensures.market in
-    let back : LeadsBack c.args.market.now c.steps.m.places c.steps.stack.items c.in-Back.from = rw c.deref.ensures.value at c.in-Back.ensures in
+    let h = c.proposers.ensures.market in
+    let back : LeadsBack c.args.market.now c.steps.m.places c.steps.trail.stack.items c.in-Back.from = c.in-Back.ensures in
     let exposed = exposed_back h c.steps.invariant.walking back c.in_ok-rotation-in-Back.ensures.pairs in
-    rw (c.eliminate.ensures.moved, c.deref-in-Back.ensures.value) (front_left h c.steps.invariant.walking.stable c.steps.invariant.front exposed)
+    rw (c.eliminate.ensures.moved, c.deref.ensures.value) (front_left h c.steps.invariant.walking.stable c.steps.invariant.front exposed)
 
 pub steps-smaller : goal.steps-smaller
 steps-smaller c =
-    let h = c.proposers-proposers.ensures.market in
+    let h = c.proposers.ensures.market in
     let w = c.steps.invariant.walking in
-    let back : LeadsBack c.args.market.now c.steps.m.places c.steps.stack.items c.in-Back.from = rw c.deref.ensures.value at c.in-Back.ensures in
+    let back : LeadsBack c.args.market.now c.steps.m.places c.steps.trail.stack.items c.in-Back.from = c.in-Back.ensures in
     let exposed = exposed_back h w back c.in_ok-rotation-in-Back.ensures.pairs in
-    fewer_back _ _ _ _ _ (places_fall c.in_ok-rotation-in-Back.rotation.pairs.items h w.stable exposed c.eliminate.ensures.moved) back c.in_ok-rotation-in-Back.ensures.rest
+    let same : c.take_off.new.self.finished ≡ c.steps.trail.finished = c.take_off.ensures.finished in
+    rw same (fewer_back _ _ _ _ _ (places_fall c.in_ok-rotation-in-Back.rotation.pairs.items h w.stable exposed c.eliminate.ensures.moved) back c.in_ok-rotation-in-Back.ensures.rest)
 
 pub steps-preserved : goal.steps-preserved
 steps-preserved c =
-    let h = c.proposers-proposers.ensures.market in
-    let back : LeadsBack c.args.market.now c.steps.m.places c.steps.stack.items c.in-Back.from = rw c.deref.ensures.value at c.in-Back.ensures in
+    let h = c.proposers.ensures.market in
+    let back : LeadsBack c.args.market.now c.steps.m.places c.steps.trail.stack.items c.in-Back.from = c.in-Back.ensures in
     let x = c.in_ok-rotation-in-Back.ensures in
     let grown : rotations_of c.push.new.self.items ≡ rotations_of c.steps.rotations.items ++ c.in_ok-rotation-in-Back.rotation.pairs.items ∷ [] = ap rotations_of c.in_ok-push-in-Back.ensures.items ∙ pushed c.steps.rotations.items c.in_ok-rotation-in-Back.rotation in
+    let same : c.take_off.new.self.finished ≡ c.steps.trail.finished = c.take_off.ensures.finished in
     record {
       made = c.eliminate.ensures.made;
       linked = c.cut_to_new_partners.ensures.linked;
       front = c.cut_to_new_partners.ensures.front;
-      walking = walk_back h c.steps.invariant.walking back x.pairs x.off x.rest c.eliminate.ensures.moved grown;
-      done = c.steps.invariant.done;
+      walking = rw same (walk_back h c.steps.invariant.walking back x.pairs x.off x.rest c.eliminate.ensures.moved grown);
+      done = rw same c.steps.invariant.done;
     }
 
 pub loop-p-preserved : goal.loop-p-preserved
@@ -100,10 +103,10 @@ loop-p-preserved c = record {
   front = c.steps.invariant.front;
   walking = c.steps.invariant.walking;
   done = λ q less. elim (eq_or_ne q c.loop-p.p) [
-    | inl e ↦ rw e c.steps-test.false
+    | inl e ↦ rw e (sym c.is_finished.ensures ∙ c.steps-test.false)
     | inr ne ↦ c.steps.invariant.done q (omega arith)
   ];
 }
 
 pub returns : goal.returns
-returns c = record { chain = walk_whole c.proposers-proposers.ensures.market c.loop-p.invariant.walking c.requires.best (λ p less. c.loop-p.invariant.done p (omega (arith, c.loop-p-test.false, c.proposers-p-end.ensures.count))) }
+returns c = record { chain = walk_whole c.proposers.ensures.market c.loop-p.invariant.walking c.requires.best (λ p less. c.loop-p.invariant.done p (omega (arith, c.loop-p-test.false, c.proposers-p-end.ensures.count))) }

@@ -11,8 +11,8 @@ invariant-loop-p l = record {
   made : IsPairingOf l.market l.m;
   linked : IsLinkedOf l.market l.linked;
   front : IsFront l.market l.m.places l.linked.ends;
-  walking : IsWalking l.market l.best.places l.m.places (rotations_of l.rotations.items) l.finished l.stack.items l.spots;
-  done : (q : ℕ) → q < l.p → is_finished l.finished q ≡ true;
+  walking : IsWalking l.market l.best.places l.m.places (rotations_of l.rotations.items) l.trail.finished.items l.trail.stack.items l.trail.spots.items;
+  done : (q : ℕ) → q < l.p → is_finished l.trail.finished.items q ≡ true;
 }
 
 abbrev pub invariant-steps : goal.invariant-steps
@@ -20,9 +20,9 @@ invariant-steps l = record {
   made : IsPairingOf l.market l.m;
   linked : IsLinkedOf l.market l.linked;
   front : IsFront l.market l.m.places l.linked.ends;
-  walking : IsWalking l.market l.best.places l.m.places (rotations_of l.rotations.items) l.finished l.stack.items l.spots;
-  done : (q : ℕ) → q < l.p → is_finished l.finished q ≡ true;
+  walking : IsWalking l.market l.best.places l.m.places (rotations_of l.rotations.items) l.trail.finished.items l.trail.stack.items l.trail.spots.items;
+  done : (q : ℕ) → q < l.p → is_finished l.trail.finished.items q ≡ true;
 }
 
 abbrev pub decreases-steps : goal.decreases-steps
-decreases-steps l = steps_left l.market l.m.places l.finished l.stack.items l.spots
+decreases-steps l = steps_left l.market l.m.places l.trail.finished.items l.trail.stack.items l.trail.spots.items

@@ -1,7 +1,7 @@
 use Rattle.std.proofs.Common.{suc, sym, ◌∙◌, eq-eqb, length}
+use Rattle.std.proofs.lemmas.Bool.{or_left}
 use Rattle.sm_market.specs.Vectors.{rows_of}
 use Rattle.sm_theory.specs.Conditions.{forces}
-use Rattle.sm_theory.proofs.Net.Tests.{or_left}
 use Rattle.sm_weight.proofs.BasisLemmas.{any_at}
 use Rattle.sm_weight.proofs.basis.any_in_none.Goals as goal
 

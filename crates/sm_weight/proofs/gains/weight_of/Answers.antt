@@ -11,29 +11,29 @@ use Rattle.sm_weight.proofs.gains.weight_of.Goals as goal
 pub index-requires : goal.index-requires
 index-requires c =
     let p : ℕ = c.args.p in
-    let there : held c.args.m.now.places.proposers p ≡ Some c.in-Some.place = sym c.place.ensures ∙ c.in-Some.is in
-    omega (arith, weight_long c.args.weights.now p c.index-weights-p.result (omega (arith, some_in_range c.args.m.now.places.proposers p c.requires.matched, c.requires.each)) c.index-weights-p.is, c.requires.places p c.in-Some.place there, c.index-weights-p.result.ok.0)
+    let there : held c.args.m.now.places.proposers p ≡ Some c.unwrap-place.result = sym c.place.ensures ∙ c.unwrap-place.ensures in
+    omega (arith, weight_long c.args.weights.now p c.index-weights-p.result (omega (arith, some_in_range c.args.m.now.places.proposers p c.requires.matched, c.requires.each)) c.index-weights-p.is, c.requires.places p c.unwrap-place.result there, c.index-weights-p.result.ok.0)
 
 pub returns-clause-weight : goal.returns-clause-weight
 returns-clause-weight c =
     let p : ℕ = c.args.p in
-    let there : held c.args.m.now.places.proposers p ≡ Some c.in-Some.place = sym c.place.ensures ∙ c.in-Some.is in
+    let there : held c.args.m.now.places.proposers p ≡ Some c.unwrap-place.result = sym c.place.ensures ∙ c.unwrap-place.ensures in
     let less : p < length c.args.weights.now = omega (arith, some_in_range c.args.m.now.places.proposers p c.requires.matched, c.requires.each) in
-    let on : c.in-Some.place < length (weights_of (weights_in c.args.weights.now) p) = c.requires.places p c.in-Some.place there in
-    let read : c.index.result.now ≡ weight_at (weights_in c.args.weights.now) p c.in-Some.place =
-    weight_read c.args.weights.now p c.in-Some.place c.index-weights-p.result c.index.result.now less c.index-weights-p.is (omega (arith, weight_long c.args.weights.now p c.index-weights-p.result less c.index-weights-p.is)) c.index.ensures in
-    let small : unsigned_abs c.index.result.now ≤ 1000000000 = rw read (c.requires.small p c.in-Some.place on) in
+    let on : c.unwrap-place.result < length (weights_of (weights_in c.args.weights.now) p) = c.requires.places p c.unwrap-place.result there in
+    let read : c.index.result.now ≡ weight_at (weights_in c.args.weights.now) p c.unwrap-place.result =
+    weight_read c.args.weights.now p c.unwrap-place.result c.index-weights-p.result c.index.result.now less c.index-weights-p.is (omega (arith, weight_long c.args.weights.now p c.index-weights-p.result less c.index-weights-p.is)) c.index.ensures in
+    let small : unsigned_abs c.index.result.now ≤ 1000000000 = rw read (c.requires.small p c.unwrap-place.result on) in
     let is = small_is c.index.result.now small in
     is ∙ read ∙ ap (weight_of_place (weights_in c.args.weights.now) p) (sym there)
 
 pub returns-clause-small : goal.returns-clause-small
 returns-clause-small c =
     let p : ℕ = c.args.p in
-    let there : held c.args.m.now.places.proposers p ≡ Some c.in-Some.place = sym c.place.ensures ∙ c.in-Some.is in
+    let there : held c.args.m.now.places.proposers p ≡ Some c.unwrap-place.result = sym c.place.ensures ∙ c.unwrap-place.ensures in
     let less : p < length c.args.weights.now = omega (arith, some_in_range c.args.m.now.places.proposers p c.requires.matched, c.requires.each) in
-    let on : c.in-Some.place < length (weights_of (weights_in c.args.weights.now) p) = c.requires.places p c.in-Some.place there in
-    let read : c.index.result.now ≡ weight_at (weights_in c.args.weights.now) p c.in-Some.place =
-    weight_read c.args.weights.now p c.in-Some.place c.index-weights-p.result c.index.result.now less c.index-weights-p.is (omega (arith, weight_long c.args.weights.now p c.index-weights-p.result less c.index-weights-p.is)) c.index.ensures in
-    let small : unsigned_abs c.index.result.now ≤ 1000000000 = rw read (c.requires.small p c.in-Some.place on) in
+    let on : c.unwrap-place.result < length (weights_of (weights_in c.args.weights.now) p) = c.requires.places p c.unwrap-place.result there in
+    let read : c.index.result.now ≡ weight_at (weights_in c.args.weights.now) p c.unwrap-place.result =
+    weight_read c.args.weights.now p c.unwrap-place.result c.index-weights-p.result c.index.result.now less c.index-weights-p.is (omega (arith, weight_long c.args.weights.now p c.index-weights-p.result less c.index-weights-p.is)) c.index.ensures in
+    let small : unsigned_abs c.index.result.now ≤ 1000000000 = rw read (c.requires.small p c.unwrap-place.result on) in
     let is = small_is c.index.result.now small in
     rw is small

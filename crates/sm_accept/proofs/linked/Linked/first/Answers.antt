@@ -3,16 +3,16 @@ use Rattle.sm_accept.specs.Linking.{Linking, link_at}
 use Rattle.sm_accept.proofs.LinkLemmas.{link_in_range, first_answer}
 use Rattle.sm_accept.proofs.linked.Linked.first.Goals as goal
 
-pub link_of-number-requires-clause-there : goal.link_of-number-requires-clause-there
-link_of-number-requires-clause-there c =
+pub behind-number-requires-clause-there : goal.behind-number-requires-clause-there
+behind-number-requires-clause-there c =
     let start = ap (λ (xs : List ℕ). get_or xs c.args.p 0) (c.deref.ensures.value ∙ ap (λ (v : Linking). v.starts) c.self.view_is) in
-    let long = ap length (c.deref-2.ensures.value ∙ ap (λ (v : Linking). v.next) c.self.view_is) in
+    let long = ap length (ap (λ (v : Linking). v.next) c.self.view_is) in
     omega (arith, link_in_range c.requires.made.starts c.args.p 0 c.requires.in_range (omega arith), c.requires.made.next_each)
 
 pub returns : goal.returns
 returns c =
     let starts = c.deref.ensures.value ∙ ap (λ (v : Linking). v.starts) c.self.view_is in
-    let next = c.deref-2.ensures.value ∙ ap (λ (v : Linking). v.next) c.self.view_is in
-    let is = c.link_of-number.ensures ∙ ap (λ (xs : List ℕ). link_at xs c.deref-2.result.now c.args.p 0) starts ∙ ap (λ (xs : List ℕ). link_at c.args.self.now.starts xs c.args.p 0) next in
+    let next = ap (λ (v : Linking). v.next) c.self.view_is in
+    let is = c.behind-number.ensures ∙ ap (λ (xs : List ℕ). link_at xs c.self.inside.links.next.items c.args.p 0) starts ∙ ap (λ (xs : List ℕ). link_at c.args.self.now.starts xs c.args.p 0) next in
     first_answer (c.requires.made.next c.args.p 0 c.requires.in_range (omega arith) (inl (inl refl))) c.place_of_number.result
     (rw (is, c.proposer_len.ensures) at c.place_of_number.ensures)

@@ -1,5 +1,0 @@
-use Rattle.sm_market.proofs.SeatLemmas.{IsSeated}
-use Rattle.sm_market.proofs.pairs.first_taken.Given as goal
-
-abbrev pub invariant-loop-p : goal.invariant-loop-p
-invariant-loop-p l = IsSeated l.market l.places l.p l.reviewer_places l.holders

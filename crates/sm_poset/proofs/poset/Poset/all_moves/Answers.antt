@@ -1,0 +1,10 @@
+use Rattle.std.proofs.Common.{subst}
+use Rattle.sm_market.specs.Vectors.{rows_of}
+use Rattle.sm_poset.specs.Posets.{RotationPoset}
+use Rattle.sm_poset.specs.Kept.{moves_in, IsKept}
+use Rattle.sm_poset.proofs.poset.Poset.all_moves.Goals as goal
+
+pub returns : goal.returns
+returns c =
+    let kept = subst (λ (poset : RotationPoset). IsKept poset (rows_of c.self.inside.needs.items) (moves_in c.self.inside.moves.items) c.self.inside.leaders.items) c.self.view_is c.self.invariant in
+    rw c.deref.ensures.value kept.moves_are
