@@ -1,12 +1,11 @@
 -- From the form of an answer to the clauses that are tried on it.
-use Rattle.std.proofs.Common.{◌≡◌, ◌==◌, cond, ℕ, ◌+◌, ◌≤◌, ◌∙◌, arith, refl, sym, ap, subst, Bool, true, false, All, List, [], ◌∷◌, length, get_or, Option, None, Some, eqb-true}
+use Rattle.std.proofs.Common.{◌≡◌, ℕ, ◌∙◌, arith, refl, sym, ap, subst, Bool, true, false, All, List, [], ◌∷◌, length, get_or, Option, None, Some, eqb-true}
 use Rattle.std.specs.Prelude.{IfSome}
-use Rattle.std.specs.List.{onto_first, slice_get}
 use Rattle.std.specs.Option.{option_map}
 use Rattle.std.proofs.lemmas.Bool.{false≢true}
 use Rattle.std.proofs.lemmas.List.{length-map}
 use Rattle.std.proofs.lemmas.List.Folds.{list_all_at}
-use Rattle.sm_text.specs.Lines.{LF, lines}
+use Rattle.sm_text.specs.Lines.{lines}
 use Rattle.sm_instance.specs.Written.{Written, AgentData}
 use Rattle.sm_instance.specs.declared.inputs.Input.{Input}
 use Rattle.sm_instance.specs.declared.inputs.Input.TheVariants.{Two, Room}
@@ -14,15 +13,12 @@ use Rattle.sm_report.specs.Heads.{HeadData}
 use Rattle.sm_report.specs.Lines.{LineData}
 use Rattle.sm_report.specs.Sound.{IsLineOf}
 use Rattle.sm_report.specs.Texts.{text_of_line}
-use Rattle.sm_seats.specs.declared.faults.SeatsFault.{SeatsFault}
-use Rattle.sm_seats.specs.declared.faults.SeatsFault.TheVariants as seats
 use Rattle.sm_judge.specs.declared.verdicts.Verdict.{Verdict}
-use Rattle.sm_judge.specs.declared.verdicts.Verdict.TheVariants as verdict
 use Rattle.sm_forms.specs.Forms.{fits, fits_two, AreAnswer}
 use Rattle.sm_judge.specs.Verdicts.{AtLine, IsVerdict}
 use Rattle.sm_judge.specs.Judging.{Subject, answer, couples, parties, Clauses, Holds}
 use Rattle.sm_judge.specs.Judges.{IsOwnLine, input_of}
-use Rattle.sm_cert.specs.Checking.{HasSeatsFault, IsCertFault, of_seats, first_head, says_none}
+use Rattle.sm_cert.specs.Checking.{first_head, says_none}
 
 -- each line of an answer is one of the instance, and of its form
 pub own_lines : (input : Input) (texts : List (List ℕ)) (lines : List LineData) → AreAnswer input texts lines
@@ -49,11 +45,6 @@ by_head w (LineData.Answer other ∷ lines) head first_line v e j =
     subst (λ h. IsVerdict (AtLine (Clauses (answer w h)) (LineData.Answer other ∷ lines)) first_line v) same j
 by_head w (_ ∷ lines) head first_line v e j = absurd cc
 
-pub without_head : (w : Written) (lines : List LineData) (first_line : ℕ) → first_head lines ≡ None → IsVerdict (Holds (Two w) lines) first_line verdict.Yes
-without_head w [] first_line e = λ k why. tt
-without_head w (LineData.Answer head ∷ lines) first_line e = absurd cc
-without_head w (_ ∷ lines) first_line e = λ k why. tt
-
 -- a cursor has one number for each proposer
 cursor_long : (w : Written) (lines : List LineData) (after : Option (List ℕ)) (limit : ℕ) → first_head lines ≡ Some (HeadData.List after limit)
     → ((head : HeadData) → All (IsOwnLine (answer w head)) lines) → IfSome after (λ v. length v ≡ length w.proposers)
@@ -69,18 +60,11 @@ of_map : {X Y : Type 0} (f : X → Y) (P : Y → Type 0) (o : Option X) → IfSo
 of_map f P None h = tt
 of_map f P (Some x) h = h
 
+-- so has the cursor of an answer of `list` whose lines are of the instance
 pub cursor_each : {X : Type 0} (w : Written) (lines : List LineData) (numbers : X → List ℕ) (after : Option X) (limit : ℕ)
     → first_head lines ≡ Some (HeadData.List (option_map numbers after) limit) → ((head : HeadData) → All (IsOwnLine (answer w head)) lines)
     → IfSome after (λ v. length (numbers v) ≡ length w.proposers)
 cursor_each w lines numbers after limit e own = of_map numbers (λ v. length v ≡ length w.proposers) after (cursor_long w lines (option_map numbers after) limit e own)
-
--- clauses that ask for nothing
-pub nothing_asked : (lines : List LineData) (k : ℕ) → IfSome (slice_get lines k) (λ _. Unit {0})
-nothing_asked lines k = go (slice_get lines k)
-  where
-    go : (o : Option LineData) → IfSome o (λ _. Unit {0})
-    go None = tt
-    go (Some x) = tt
 
 -- over roommates it is the second line that does
 pub by_parties : (persons : List AgentData) (lines : List LineData) (first_line : ℕ) (v : Verdict) → says_none lines ≡ true
@@ -90,14 +74,10 @@ by_parties persons (head ∷ []) first_line v e j = absurd (false≢true e)
 by_parties persons (head ∷ LineData.Nothing ∷ lines) first_line v e j = j
 by_parties persons (head ∷ _ ∷ lines) first_line v e j = absurd (false≢true e)
 
+-- where that line doesn't say `none` the clauses are those of couples
 pub by_couples : (persons : List AgentData) (lines : List LineData) (first_line : ℕ) (v : Verdict) → says_none lines ≡ false
     → IsVerdict (AtLine (Clauses (couples persons)) lines) first_line v → IsVerdict (Holds (Room persons) lines) first_line v
 by_couples persons [] first_line v e j = j
 by_couples persons (head ∷ []) first_line v e j = j
 by_couples persons (head ∷ LineData.Nothing ∷ lines) first_line v e j = absurd (false≢true (sym e))
 by_couples persons (head ∷ _ ∷ lines) first_line v e j = j
-
--- too many seats
-pub seats_fault : (input : Input) (texts : List (List ℕ)) (first_line : ℕ) (f : SeatsFault) → HasSeatsFault input f → IsCertFault input texts first_line (of_seats f)
-seats_fault input texts first_line (seats.TooManySeats r) h = h
-seats_fault input texts first_line seats.OutOfMemory h = tt

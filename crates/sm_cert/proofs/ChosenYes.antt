@@ -4,6 +4,7 @@ use Rattle.std.specs.Prelude.{Contains, IfSome}
 use Rattle.std.specs.List.{slice_get}
 use Rattle.std.proofs.lemmas.Bool.{false≢true}
 use Rattle.std.proofs.lemmas.List.Elements.{Contains-append_cases}
+use Rattle.std.proofs.lemmas.Option.{same_Some}
 use Rattle.sm_instance.specs.Written.{Written, place_of, lists_of}
 use Rattle.sm_instance.specs.Matching.{held, IsAssignment}
 use Rattle.sm_instance.specs.Stable.{IsStable}
@@ -28,7 +29,7 @@ use Rattle.sm_cert.specs.Yes.{GetsYes, ArePairsOf, IsChosen, MeetYes, JoinYes}
 use Rattle.sm_judge.proofs.ChosenLemmas.{of_clauses}
 use Rattle.sm_cert.proofs.GroupLemmas.{Tells, Begins, Parted, parted_behind, said_then}
 use Rattle.sm_cert.proofs.SolveYes.{same_places, free_pairs}
-use Rattle.sm_cert.proofs.YesLines.{some_same, IsRight, right_two, at_closing, said_above, each_line, grown}
+use Rattle.sm_cert.proofs.YesLines.{IsRight, right_two, at_closing, said_above, each_line, grown}
 use Rattle.sm_cert.proofs.YesPairs.{only_one, AreGiven, none_given, one_given, given_there, same_place}
 
 -- The pairs of a matching that is wanted.
@@ -36,13 +37,16 @@ module _ (w : Written) (wanted : List (Option ℕ)) (on_lists : IsAssignment w w
   abbrev rows : List (List ℕ)
   rows = lists_of w.proposers
 
+  -- pairs of the wanted matching, in which no proposer stands twice
   pub record AreWanted (pairs : List (ℕ × ℕ)) : Type 0 where
     pub given : AreGiven rows pairs
     pub in_matching : (p r : ℕ) → Contains pairs (p, r) → held wanted p ≡ Some (place_of w.proposers p r)
 
+  -- no pairs are such
   pub none_wanted : AreWanted []
   none_wanted = record { given = none_given rows; in_matching = λ p r c. absurd (let l = c.1 in omega arith) }
 
+  -- with one more that is wanted they are still such
   pub one_wanted : (pairs : List (ℕ × ℕ)) (x : ℕ × ℕ) → AreWanted pairs → IsWanted w wanted pairs x → AreWanted (pairs ++ x ∷ [])
   one_wanted pairs x k f = record {
     given =
@@ -56,6 +60,7 @@ module _ (w : Written) (wanted : List (Option ℕ)) (on_lists : IsAssignment w w
     ];
   }
 
+  -- where each matched proposer stands in one, they are the pairs of the matching
   pub all_wanted : (pairs : List (ℕ × ℕ)) → AreWanted pairs → AreAllThere wanted pairs → ArePairsOf rows wanted pairs
   all_wanted pairs k all = record {
     each = λ p r. (λ c. k.in_matching p r c ∙ ap (λ (i : ℕ). Some i) (sym (same_places w p r)), λ e. back p r e);
@@ -69,7 +74,7 @@ module _ (w : Written) (wanted : List (Option ℕ)) (on_lists : IsAssignment w w
           go None is some = absurd (let none = subst IsSome is some in cc)
           go (Some s) is some =
               let c = given_there pairs p s is in
-              let same : place_of w.proposers p s ≡ place_in_rows rows p r = some_same (sym (k.in_matching p s c) ∙ e) in
+              let same : place_of w.proposers p s ≡ place_in_rows rows p r = same_Some _ _ (sym (k.in_matching p s c) ∙ e) in
               subst (λ z. Contains pairs (p, z)) (same_place rows p r s (k.given.listed p s c) (same_places w p s ∙ same)) c
 
 -- The two matchings stand before the pairs.
@@ -160,8 +165,10 @@ chosen_yes choice w lines g =
           (grown pair_in (AreWanted w wanted on_lists) (IsWanted w wanted) lines (none_wanted w wanted on_lists) (one_wanted w wanted on_lists) (λ k. wanted_at choice w lines p k r)) all;
     }
 
+-- the law of a yes on `meet`
 pub meet_yes : MeetYes
 meet_yes w lines g = chosen_yes Better w lines g
 
+-- the law of a yes on `join`
 pub join_yes : JoinYes
 join_yes w lines g = chosen_yes Worse w lines g

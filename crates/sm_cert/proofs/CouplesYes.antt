@@ -28,6 +28,7 @@ use Rattle.sm_cert.proofs.YesLines.{right_couples, at_closing, said_above, grown
 
 -- Couples of which each was free behind those before it.
 
+-- a couple that may stand behind these, its lower-numbered person first
 abbrev pub IsNewCouple : List (List ℕ) → List (ℕ × ℕ) → ℕ × ℕ → Type 0
 IsNewCouple rows pairs x = IsFreeCouple rows pairs x × (x.0 < x.1)
 
@@ -141,6 +142,7 @@ free_at persons lines k all h = go (slice_get lines k) refl h
     go None e f = tt
     go (Some line) e f = free_line persons (take k lines) line (passes_at (fits (Room persons)) lines k line all e) f
 
+-- the law of a yes on couples of roommates
 pub couples_yes : CouplesYes
 couples_yes persons lines g some =
     let r = right_couples g some in

@@ -1,9 +1,9 @@
 -- The lines of a flow, each on a new edge and within its room, are within the rooms of the net.
-use Rattle.std.proofs.Common.{◌≡◌, ◌≢◌, ℕ, zero, suc, ◌+◌, ◌<◌, ◌≤◌, ◌==◌, ◌&&◌, ◌||◌, ◌⊎◌, inl, inr, arith, refl, sym, ap, ◌∙◌, not, cond, eqb, Bool, true, false, List, [], ◌∷◌, ◌++◌, length, map, get_or, Option, Some, None, if◌then◌else◌, subst, length-append, eq-eqb, ne_eqb, ⊎_elim}
-use Rattle.std.specs.Prelude.{All, sum_by, nat_le, nat_lt, ℤ}
+use Rattle.std.proofs.Common.{◌≡◌, ◌≢◌, ℕ, zero, suc, ◌+◌, ◌<◌, ◌≤◌, ◌==◌, ◌&&◌, ◌||◌, ◌⊎◌, inl, inr, arith, refl, sym, ap, ◌∙◌, not, eqb, Bool, true, false, List, [], ◌∷◌, ◌++◌, length, if◌then◌else◌, subst, length-append, eq-eqb, ne_eqb, ⊎_elim}
+use Rattle.std.specs.Prelude.{sum_by, nat_le, nat_lt, ℤ}
 use Rattle.std.specs.List.{list_any, position_or_len}
-use Rattle.std.proofs.lemmas.Bool.{false≢true, cases_lt, cases_eq, leb-true, ltb-true}
-use Rattle.std.proofs.lemmas.List.{map-append, get_or_append_left, get_or_push, get_or_past}
+use Rattle.std.proofs.lemmas.Bool.{false≢true, cases_lt, cases_eq, leb-true, ltb-true, and_from}
+use Rattle.std.proofs.lemmas.List.{get_or_append_left, get_or_push, get_or_past}
 use Rattle.std.proofs.lemmas.List.Sums.{sum_by-append, sum_by-cons, prefix_len-le-length}
 use Rattle.std.proofs.lemmas.List.Elements.{All-get_or}
 use Rattle.sm_market.specs.Lists.{Lists}
@@ -12,7 +12,7 @@ use Rattle.sm_theory.specs.Chains.{rotation_at}
 use Rattle.sm_theory.specs.Weights.{gain_of}
 use Rattle.sm_theory.specs.Conditions.{has_level, moves_to, moves_off, entry_node, exit_node, forces, forbids, leads_to_need, rise_of, net_of, IsNetGround}
 use Rattle.sm_theory.proofs.Net.Cuts.{edge_in_range}
-use Rattle.sm_theory.proofs.Net.Tests.{and_parts, and_true}
+use Rattle.sm_theory.proofs.Net.Tests.{and_parts}
 use Rattle.sm_theory.proofs.Net.Whole.{whole_net_of}
 use Rattle.sm_theory.specs.Net.{Net, sink_of, room_of, is_unbounded, IsUnbounded, HasEdge}
 use Rattle.sm_theory.specs.FlowLines.{line_at, amount_on, AreOnNodes, AreWithin, HaveSameEnds, IsNewEdge, IsWithinRoom}
@@ -37,13 +37,16 @@ none_on i j (x ∷ xs) none =
     nothing (inl a) (inr b) = rw (eq-eqb x.from i a) (rw (ne_eqb x.to j b) refl)
     nothing (inr a) b = rw (ne_eqb x.from i a) refl
 
+-- lines between nodes of the net, of which each edge has no more than its room
 pub record IsSoundFlow (net : Net) (lines : List FlowLine) : Type 0 where
   pub nodes : AreOnNodes (suc (sink_of net)) lines
   pub within : AreWithin net lines
 
+-- no lines are such
 pub no_flow : (net : Net) → IsSoundFlow net []
 no_flow net = record { nodes = λ a less. absurd (omega arith); within = λ i j bounded. omega arith }
 
+-- with one more, on a new edge and within its room, they are still such
 pub one_flow : (net : Net) (lines : List FlowLine) (x : FlowLine) → IsSoundFlow net lines → IsNewEdge net lines x → IsWithinRoom net x → x.from < suc (sink_of net) → x.to < suc (sink_of net) → IsSoundFlow net (lines ++ x ∷ [])
 one_flow net lines x k n r from to = record {
   nodes = λ a less.
@@ -155,7 +158,7 @@ module _ {l : Lists} {levels : List (List ℕ)} {first : Places} {rotations : Li
   whole_edge i k u =
       let one = and_parts (not (i == suc k)) _ u in
       let two = and_parts (not (i == 0 && suc k == suc (length rotations))) _ one.1 in
-      and_true (not (i == suc k)) _ one.0 two.1
+      and_from (not (i == suc k)) _ one.0 two.1
 
   small_not : (a b : ℕ) → b ≤ a → nat_lt a b ≡ false
   small_not a b le = go (nat_lt a b) refl
@@ -182,12 +185,14 @@ module _ {l : Lists} {levels : List (List ℕ)} {first : Places} {rotations : Li
       go false true e = let le = leb-true end (length rotations) e in omega arith
       go false false e = omega arith
 
+  -- where an edge leads from it
   pub from_node : (end j : ℕ) → HasEdge net (node_of (length rotations) end) j → node_of (length rotations) end < suc (sink_of net)
   from_node end j h = elim (cases_lt (node_of (length rotations) end) past) [
     | inl less ↦ less
     | inr ge ↦ absurd (not_from j (subst (λ (i : ℕ). HasEdge net i j) (let le = node_small end in let e : node_of (length rotations) end ≡ past = omega arith in e) h))
   ]
 
+  -- where an edge leads to it
   pub to_node : (i end : ℕ) → HasEdge net i (node_of (length rotations) end) → node_of (length rotations) end < suc (sink_of net)
   to_node i end h = elim (cases_lt (node_of (length rotations) end) past) [
     | inl less ↦ less

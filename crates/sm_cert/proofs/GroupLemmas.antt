@@ -34,6 +34,7 @@ pub record Goes (parts : List Part) (line : Opening) (lines : List Opening) : Ty
   pub is : behind parts line ≡ Some left
   pub whole : is_whole (left ∷ []) lines ≡ true
 
+-- the first line of a whole answer leaves a layout, of which the lines behind it are a whole answer
 pub goes : (parts : List Part) (line : Opening) (lines : List Opening) → is_whole (parts ∷ []) (line ∷ lines) ≡ true → Goes parts line lines
 goes parts line lines e = go (behind parts line) refl e
   where
@@ -43,23 +44,28 @@ goes parts line lines e = go (behind parts line) refl e
 
 -- Groups of keywords, by their numbers: the parts of a layout in a group, and those behind it.
 module _ (group : ℕ → Bool) where
+  -- a keyword that layouts name is outside the group
   abbrev pub IsOutside : ℕ → Type 0
   IsOutside n = (group n ≡ false) × (n < 21)
 
+  -- all lines of a part are in the group
   abbrev pub IsIn : Part → Type 0
   IsIn (One word) = group (number_of word) ≡ true
   IsIn (Many word) = group (number_of word) ≡ true
   IsIn (Blocks turn) = (group 7 ≡ true) × (group 8 ≡ true) × (group 9 ≡ true)
 
+  -- all lines of a part are outside the group
   abbrev pub IsOut : Part → Type 0
   IsOut (One word) = IsOutside (number_of word)
   IsOut (Many word) = IsOutside (number_of word)
   IsOut (Blocks turn) = IsOutside 7 × IsOutside 8 × IsOutside 9
 
+  -- the parts of a layout are all outside it
   abbrev pub AllOut : List Part → Type 0
   AllOut [] = Unit {0}
   AllOut (part ∷ parts) = IsOut part × AllOut parts
 
+  -- the first parts of a layout are in it, and the others outside it
   abbrev pub Begins : List Part → Type 0
   Begins [] = Unit {0}
   Begins (part ∷ parts) = (IsIn part × Begins parts) ⊎ (IsOut part × AllOut parts)
@@ -67,6 +73,7 @@ module _ (group : ℕ → Bool) where
   abbrev of_line : Opening → ℕ
   of_line line = number_of line.keyword
 
+  -- a line that a layout takes is outside, and so are all parts that are left
   abbrev pub OutStep : Opening → Option (List Part) → Type 0
   OutStep line None = Unit {0}
   OutStep line (Some left) = IsOutside (of_line line) × AllOut left
@@ -94,6 +101,7 @@ module _ (group : ℕ → Bool) where
   step_if line true o p x y = x refl
   step_if line false o p x y = y
 
+  -- a layout whose parts are all outside takes only lines outside
   pub out_step : (line : Opening) (parts : List Part) → AllOut parts → OutStep line (behind parts line)
   out_step line [] h = tt
   out_step line (One word ∷ parts) h = out_if line (begins line word) _ _ (λ e. (by_word IsOutside line word e h.0, h.1)) tt
@@ -126,18 +134,21 @@ pub record Tells (group : ℕ → Bool) (up : LineData → Bool) : Type 0 where
   pub same : (x : LineData) → (up x ≡ group (number_of (keyword_of x))) ⊎ (number_of (keyword_of x) ≡ 21)
 
 module _ {group : ℕ → Bool} {up : LineData → Bool} (t : Tells group up) where
+  -- a line in the group passes the test
   pub is_up : (x : LineData) → group (number_of (keyword_of x)) ≡ true → up x ≡ true
   is_up x e = elim (t.same x) [
     | inl same ↦ same ∙ e
     | inr head ↦ absurd (false≢true (sym t.other ∙ ap group (sym head) ∙ e))
   ]
 
+  -- a line outside it fails the test
   pub is_down : (x : LineData) → IsOutside group (number_of (keyword_of x)) → up x ≡ false
   is_down x h = elim (t.same x) [
     | inl same ↦ same ∙ h.0
     | inr head ↦ absurd (let less = h.1 in omega arith)
   ]
 
+-- all these lines fail the test
 abbrev pub AreDown : (LineData → Bool) → List LineData → Type 0
 AreDown up [] = Unit {0}
 AreDown up (x ∷ xs) = (up x ≡ false) × AreDown up xs
@@ -160,6 +171,7 @@ one_up up x lines e p = record {
 }
 
 module _ {group : ℕ → Bool} {up : LineData → Bool} (t : Tells group up) where
+  -- lines that are a whole answer of parts outside the group fail the test
   pub all_down : (parts : List Part) (lines : List LineData) → AllOut group parts → is_whole (parts ∷ []) (map opening_of lines) ≡ true → AreDown up lines
   all_down parts [] h e = tt
   all_down parts (x ∷ xs) h e =
@@ -167,6 +179,7 @@ module _ {group : ℕ → Bool} {up : LineData → Bool} (t : Tells group up) wh
       let s = subst (OutStep group (opening_of x)) g.is (out_step group (opening_of x) parts h) in
       (is_down t x s.0, all_down g.left xs s.1 g.whole)
 
+  -- a whole answer of a layout that begins with the group falls into the lines of the group and those behind it
   pub parted : (parts : List Part) (lines : List LineData) → Begins group parts → is_whole (parts ∷ []) (map opening_of lines) ≡ true → Parted up lines
   parted parts [] h e = record { above = []; below = []; is = refl; ups = refl; downs = tt }
   parted parts (x ∷ xs) h e =
@@ -185,10 +198,12 @@ module _ {group : ℕ → Bool} {up : LineData → Bool} (t : Tells group up) wh
 
 -- What lines up to somewhere say.
 
+-- lines behind say nothing of what only lines up to there say
 pub none_said : {X : Type 0} (up : LineData → Bool) (said : LineData → Option X) → ((x : LineData) → up x ≡ false → said x ≡ None) → (lines : List LineData) → AreDown up lines → filter_map said lines ≡ []
 none_said up said none [] h = refl
 none_said {X} up said none (x ∷ xs) h = ap (λ (o : Option X). cons_option o (filter_map said xs)) (none x h.0) ∙ none_said up said none xs h.1
 
+-- the first of the lines behind are behind too
 pub down_taken : (up : LineData → Bool) (k : ℕ) (lines : List LineData) → AreDown up lines → AreDown up (take k lines)
 down_taken up zero lines h = tt
 down_taken up (suc k) [] h = tt
@@ -202,6 +217,7 @@ taken_past (x ∷ xs) ys j =
 
 module _ {up : LineData → Bool} {lines : List LineData} (p : Parted up lines) where
   module _ {X : Type 0} (said : LineData → Option X) (none : (x : LineData) → up x ≡ false → said x ≡ None) where
+    -- all of it is said by the lines up to there
     pub said_up : filter_map said p.above ≡ filter_map said lines
     said_up =
         sym (ap (filter_map said) p.is ∙ filter_map-append said p.above p.below
@@ -247,6 +263,7 @@ pub record StandsBehind (up : LineData → Bool) (subject : Subject) (above : Li
   pub first : IsFirstBehind up above line
   pub holds : Clauses subject above line why
 
+-- the lines up to there have a line behind them, and the clauses of the answer hold at it
 pub stands_behind : {up : LineData → Bool} {subject : Subject} {lines : List LineData} → up LineData.End ≡ false → IsRight subject lines → (p : Parted up lines) (why : Reason) → StandsBehind up subject p.above why
 stands_behind {up} {subject} {lines} end r p why = go p.below p.is p.downs
   where

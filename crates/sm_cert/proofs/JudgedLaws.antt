@@ -54,9 +54,11 @@ module _ (input : Input) where
     | inr more ↦ m.missing (omega (arith, more, m.within)) lines a
   ]
 
+-- the law that a text with a verdict is of the form of an answer
 pub judged_isnt_bad : JudgedIsntBad
 judged_isnt_bad input texts first_line v line j b = not_misplaced input texts j.lines b.number j.answer b.misplaced
 
+-- the law that there is no more than one verdict on a text
 pub one_judgement : OneJudgement
 one_judgement input texts first_line v w sound a b =
     let same : a.lines ≡ b.lines = same_lines input sound texts a.lines b.lines a.answer b.answer in

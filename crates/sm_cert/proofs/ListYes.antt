@@ -1,16 +1,11 @@
 -- What a yes on an answer of `list` means.
-use Rattle.std.proofs.Common.{◌≡◌, ℕ, zero, suc, ◌+◌, ◌<◌, ◌≤◌, inl, inr, arith, refl, sym, ap, ◌∙◌, List, [], ◌∷◌, ◌++◌, length, take, slice_index_or, Option, None, Some, length-append, subst, take_all, append-nil}
+use Rattle.std.proofs.Common.{◌≡◌, ℕ, zero, suc, ◌+◌, ◌<◌, inl, inr, arith, refl, sym, ap, ◌∙◌, List, [], ◌∷◌, ◌++◌, length, take, slice_index_or, Option, None, Some, length-append, subst}
 use Rattle.std.specs.Prelude.{IfSome}
-use Rattle.std.specs.List.{cons_option, slice_get}
-use Rattle.std.proofs.lemmas.Option.{slice_get-get_or}
+use Rattle.std.specs.List.{slice_get}
 use Rattle.sm_instance.specs.Ranks.{IsBefore}
-use Rattle.std.proofs.Math.Seq.{take-suc}
-use Rattle.std.proofs.lemmas.List.Elements.{filter_map-append}
 use Rattle.sm_lists.proofs.Counting.{lt_or_le}
 use Rattle.sm_instance.specs.Written.{Written}
-use Rattle.sm_instance.specs.declared.inputs.Input.TheVariants.{Two}
 use Rattle.sm_theory.specs.Listings.{IsBehind, end_of}
-use Rattle.sm_report.specs.Heads.{HeadData}
 use Rattle.sm_report.specs.Lines.{LineData}
 use Rattle.sm_judge.specs.declared.verdicts.Reason.{Reason}
 use Rattle.sm_judge.specs.declared.verdicts.Reason.TheVariants as reason
@@ -18,7 +13,6 @@ use Rattle.sm_seats.specs.Vectors.{IsAllowedRankVector}
 use Rattle.sm_judge.specs.Verdicts.{AtLine}
 use Rattle.sm_judge.specs.Said.{vector_in, vectors_in}
 use Rattle.sm_judge.specs.Vectors.{ListHolds, VectorHolds, ListClauses, order_of, places_of_ranks}
-use Rattle.sm_judge.specs.Judging.{Holds}
 use Rattle.sm_cert.specs.Yes.{AreListed, ListYes}
 use Rattle.sm_cert.proofs.YesLines.{by_head, grown}
 
@@ -86,6 +80,7 @@ module _ (w : Written) (after : Option (List ℕ)) (limit : ℕ) where
   of_line vs (LineData.Vector v) h = h
   of_line vs _ h = tt
 
+-- the law of a yes on `list`
 pub list_yes : ListYes
 list_yes w after limit lines g = grown vector_in (AreListed w after limit) (AreNext w after limit) lines (none_yet w after limit) (one_more w after limit) next_at
   where

@@ -153,6 +153,7 @@ new_at persons lines k all h = go (slice_get lines k) refl h
     go (Some line) e f =
         one_line line (subst (IsLineOf (Room persons)) (get_or_from_slice_get lines k line line e) (All-get_or (IsLineOf (Room persons)) lines k line (slice_get_within lines k line e) all)) f
 
+-- the law of a yes on parties of roommates
 pub none_yes : NoneYes
 none_yes persons lines g none mates stable =
     let r = right_parties g none in

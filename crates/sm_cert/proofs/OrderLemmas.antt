@@ -1,11 +1,12 @@
 -- Behind each rotation of an answer of `weight` stands what it needs.
-use Rattle.std.proofs.Common.{◌≡◌, ℕ, zero, suc, ◌+◌, ◌-◌, ◌<◌, ◌≤◌, ◌&&◌, inl, inr, arith, refl, sym, ap, ◌∙◌, Bool, true, false, List, [], ◌∷◌, ◌++◌, length, take, Option, Some, None, append-nil, subst}
+use Rattle.std.proofs.Common.{◌≡◌, ℕ, zero, suc, ◌+◌, ◌-◌, ◌<◌, ◌≤◌, ◌&&◌, inl, inr, arith, refl, sym, ap, ◌∙◌, Bool, true, false, List, [], ◌∷◌, ◌++◌, length, take, Option, Some, None, append-nil}
 use Rattle.std.specs.Prelude.{filter_map}
 use Rattle.std.specs.List.{list_all, slice_get}
 use Rattle.std.proofs.Math.Seq.{take-append-add}
 use Rattle.std.proofs.lemmas.Bool.{false≢true, cases_lt}
 use Rattle.std.proofs.lemmas.List.Elements.{filter_map-append}
 use Rattle.std.proofs.lemmas.List.{take-append-le}
+use Rattle.std.proofs.lemmas.Option.{same_Some}
 use Rattle.sm_instance.specs.Written.{Written}
 use Rattle.sm_instance.specs.declared.inputs.Input.TheVariants.{Two}
 use Rattle.sm_instance.specs.declared.kinds.Measure.{Measure}
@@ -14,19 +15,18 @@ use Rattle.sm_report.specs.Lines.{LineData}
 use Rattle.sm_forms.specs.declared.layouts.Part.{Part}
 use Rattle.sm_forms.specs.Layouts.{is_whole}
 use Rattle.sm_forms.specs.Forms.{is_placed}
-use Rattle.sm_judge.specs.Said.{rotation_in, rotations_in, needs_in, all_needs_in, is_up_to_rotations}
+use Rattle.sm_judge.specs.Said.{rotation_in, needs_in, is_up_to_rotations}
 use Rattle.sm_weigh.specs.Order.{AreInOrder}
 use Rattle.sm_cert.specs.Checking.{first_head}
 use Rattle.sm_cert.proofs.GroupLemmas.{AllOut, AreDown, all_down, down_taken, none_said}
 use Rattle.sm_cert.proofs.RotationLines.{rotation_words, rotations_tell, no_needs, rotation_up, Splits, Turns}
 use Rattle.sm_forms.proofs.TakingLemmas.{and_left, and_right}
-use Rattle.sm_cert.proofs.YesLines.{some_same}
 use Rattle.sm_cert.proofs.WeightYes.{turns_behind}
 
 -- a line among those that are up to somewhere is up to there
 up_front : (up : LineData → Bool) (before below : List LineData) (k : ℕ) (x : LineData) → list_all up before ≡ true → slice_get (before ++ below) k ≡ Some x → k < length before → up x ≡ true
 up_front up [] below k x ups there less = absurd (omega arith)
-up_front up (y ∷ ys) below zero x ups there less = ap up (sym (some_same there)) ∙ and_left (up y) (list_all up ys) ups
+up_front up (y ∷ ys) below zero x ups there less = ap up (sym (same_Some _ _ there)) ∙ and_left (up y) (list_all up ys) ups
 up_front up (y ∷ ys) below (suc k) x ups there less = up_front up ys below k x (and_right (up y) (list_all up ys) ups) there (omega arith)
 
 -- the front of those that are up to somewhere
@@ -39,7 +39,7 @@ all_up up (y ∷ ys) (suc k) ups =
 -- a line behind those
 down_behind : (up : LineData → Bool) (before below : List LineData) → AreDown up below → (k : ℕ) (x : LineData) → length before ≤ k → slice_get (before ++ below) k ≡ Some x → up x ≡ false
 down_behind up [] [] downs k x more there = absurd cc
-down_behind up [] (y ∷ ys) downs zero x more there = ap up (sym (some_same there)) ∙ downs.0
+down_behind up [] (y ∷ ys) downs zero x more there = ap up (sym (same_Some _ _ there)) ∙ downs.0
 down_behind up [] (y ∷ ys) downs (suc k) x more there = down_behind up [] ys downs.1 k x (omega arith) there
 down_behind up (y ∷ ys) below downs zero x more there = absurd (omega (arith, more))
 down_behind up (y ∷ ys) below downs (suc k) x more there = down_behind up ys below downs k x (omega (arith, more)) there
@@ -83,6 +83,7 @@ module _ {w : Written} {rest : List Part} {out : AllOut rotation_words rest} {li
     | inr more ↦ absurd (false≢true (sym (down_behind is_up_to_rotations s.before s.below downs k x more (ap (λ (ls : List LineData). slice_get ls k) (sym s.is) ∙ there)) ∙ up))
   ]
 
+  -- lines in which rotations and what they need take turns are in order
   pub in_order : AreInOrder w lines
   in_order = record {
     at = t.at;

@@ -85,6 +85,7 @@ module _ (w : Written) (lines : List LineData) (r : IsRight (answer w HeadData.R
         ((at_closing r reason.WrongList).2.all_reviewers refl));
   }
 
+-- the law of a yes on `reduced`
 pub reduced_yes : ReducedYes
 reduced_yes w lines g =
     let r = right_two {w = w} {head = HeadData.Reduced} refl g in

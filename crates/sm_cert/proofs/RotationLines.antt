@@ -1,24 +1,27 @@
 -- The lines of rotations and of what they need, which take turns; and those behind them.
-use Rattle.std.proofs.Common.{◌≡◌, ℕ, zero, suc, ◌+◌, ◌<◌, ◌≤◌, ◌==◌, ◌||◌, ◌&&◌, ◌⊎◌, inl, inr, arith, refl, sym, ap, ◌∙◌, Bool, true, false, List, [], ◌∷◌, ◌++◌, length, map, take, Option, Some, None, IsSome, if◌then◌else◌, subst, append-nil, append_assoc, length-append}
+use Rattle.std.proofs.Common.{◌≡◌, ℕ, zero, suc, ◌+◌, ◌==◌, ◌||◌, ◌&&◌, ◌⊎◌, inl, inr, arith, refl, sym, ap, ◌∙◌, Bool, true, false, List, [], ◌∷◌, ◌++◌, length, map, take, Option, Some, None, IsSome, if◌then◌else◌, subst, append-nil, append_assoc, length-append}
 use Rattle.std.specs.Prelude.{filter_map}
 use Rattle.std.specs.List.{cons_option, list_all, list_any, slice_get}
 use Rattle.std.proofs.lemmas.Bool.{false≢true}
 use Rattle.std.proofs.lemmas.List.Elements.{filter_map-append}
+use Rattle.std.proofs.lemmas.Option.{same_Some}
 use Rattle.sm_instance.specs.Written.{Written}
 use Rattle.sm_report.specs.Lines.{LineData}
 use Rattle.sm_forms.specs.declared.keywords.Keyword.TheVariants as keyword
 use Rattle.sm_forms.specs.declared.layouts.Part.{Part}
-use Rattle.sm_forms.specs.declared.layouts.Part.TheVariants.{One, Many, Blocks}
+use Rattle.sm_forms.specs.declared.layouts.Part.TheVariants.{Many, Blocks}
 use Rattle.sm_forms.specs.Keywords.{keyword_of, number_of}
 use Rattle.sm_forms.specs.Layouts.{behind, is_whole, is_empty, left_behind}
 use Rattle.sm_forms.specs.Forms.{blocks_of, opening_of}
 use Rattle.sm_judge.specs.Said.{first_in, rotation_in, rotations_in, needs_in, all_needs_in, is_up_to_rotations}
-use Rattle.sm_cert.proofs.GroupLemmas.{Tells, AllOut, AreDown, goes, out_step, OutStep, is_down, all_down, none_said}
-use Rattle.sm_cert.proofs.YesLines.{some_same, no_line}
+use Rattle.sm_cert.proofs.GroupLemmas.{Tells, AllOut, AreDown, goes, all_down, none_said}
+use Rattle.sm_cert.proofs.YesLines.{no_line}
 
+-- the keywords up to the rotations: of first seats, and of rotations, needs and gains
 abbrev pub rotation_words : ℕ → Bool
 rotation_words n = (n == 3) || ((n == 7) || ((n == 8) || (n == 9)))
 
+-- the test of lines up to the rotations tells these
 pub rotations_tell : Tells rotation_words is_up_to_rotations
 rotations_tell = record { other = refl; same = same }
   where
@@ -26,15 +29,18 @@ rotations_tell = record { other = refl; same = same }
     same (LineData.Answer head) = inr refl
     same _ = inl refl
 
+-- a line behind the rotations doesn't say what one needs
 pub no_needs : (x : LineData) → is_up_to_rotations x ≡ false → needs_in x ≡ None
 no_needs (LineData.Needs i needed) e = absurd (false≢true (sym e))
 no_needs _ e = refl
 
 module _ (w : Written) where
+  -- nor a first seat
   pub first_up : (x : LineData) → is_up_to_rotations x ≡ false → first_in w x ≡ None
   first_up (LineData.First p seat) e = absurd (false≢true (sym e))
   first_up _ e = refl
 
+  -- nor a rotation
   pub rotation_up : (x : LineData) → is_up_to_rotations x ≡ false → rotation_in w x ≡ None
   rotation_up (LineData.Rotation i pairs) e = absurd (false≢true (sym e))
   rotation_up _ e = refl
@@ -71,7 +77,7 @@ gains_place false = 0
 
 down_at : (up : LineData → Bool) (lines : List LineData) (j : ℕ) (y : LineData) → AreDown up lines → slice_get lines j ≡ Some y → up y ≡ false
 down_at up [] j y h e = absurd (no_line e)
-down_at up (x ∷ xs) zero y h e = ap up (sym (some_same e)) ∙ h.0
+down_at up (x ∷ xs) zero y h e = ap up (sym (same_Some _ _ e)) ∙ h.0
 down_at up (x ∷ xs) (suc j) y h e = down_at up xs j y h.1 e
 
 -- the lines of the rest of a layout behind those that are up to somewhere
@@ -82,6 +88,7 @@ pub record Splits (up : LineData → Bool) (rest : List Part) (lines : List Line
   pub ups : list_all up before ≡ true
   pub whole : is_whole (rest ∷ []) (map opening_of below) ≡ true
 
+-- with one more line in front that is up to there they are split in the same way
 pub one_split : (up : LineData → Bool) (rest : List Part) (x : LineData) (lines : List LineData) → up x ≡ true → Splits up rest lines → Splits up rest (x ∷ lines)
 one_split up rest x lines e s = record {
   before = x ∷ s.before;
@@ -121,7 +128,7 @@ module _ (w : Written) (rest : List Part) (out : AllOut rotation_words rest) whe
 
   stays : (three : Bool) (spot to : Spot) (x : LineData) (left : List Part) (t : Bool) → (if t then Some (left_at three to) else None) ≡ Some left → needs_of x + owed to ≡ owed spot + rotations_of x → (IsSome (needs_in x) → owed spot ≡ 1) → is_up_to_rotations x ≡ true
       → Moves three spot x left
-  stays three spot to x left true e counts needed up = inl (record { to = to; is = sym (some_same e); counts = counts; needed = needed; up = up })
+  stays three spot to x left true e counts needed up = inl (record { to = to; is = sym (same_Some _ _ e); counts = counts; needed = needed; up = up })
   stays three spot to x left false e counts needed up = absurd (no_parts e)
 
   leaves : (three : Bool) (spot : Spot) (x : LineData) (left : List Part) → behind rest (opening_of x) ≡ Some left → owed spot ≡ 0 → Moves three spot x left
@@ -168,6 +175,7 @@ module _ (w : Written) (rest : List Part) (out : AllOut rotation_words rest) whe
           filter_map-append said above lines
           ∙ ap (λ xs. filter_map said above ++ xs) (none_said is_up_to_rotations said none lines down) ∙ append-nil (filter_map said above)
 
+  -- the lines of a layout from this spot on take turns, where above them as many rotations want their needs as the spot owes
   pub turns : (three : Bool) (spot : Spot) (above lines : List LineData) → is_whole (left_at three spot ∷ []) (map opening_of lines) ≡ true → length (all_needs_in above) + owed spot ≡ length (rotations_in w above) → Turns above lines
   turns three spot above [] e h = absurd (not_empty spot e)
     where
@@ -202,7 +210,7 @@ module _ (w : Written) (rest : List Part) (out : AllOut rotation_words rest) whe
         where
           at : (j : ℕ) (y : LineData) → slice_get (x ∷ xs) j ≡ Some y → IsSome (needs_in y) → length (all_needs_in (above ++ take j (x ∷ xs))) + 1 ≡ length (rotations_in w (above ++ take j (x ∷ xs)))
           at zero y there some =
-              let same : x ≡ y = some_same there in
+              let same : x ≡ y = same_Some _ _ there in
               let o = m.needed (subst (λ (z : LineData). IsSome (needs_in z)) (sym same) some) in
               subst (λ (ls : List LineData). length (all_needs_in ls) + 1 ≡ length (rotations_in w ls)) (sym (append-nil above)) (omega (arith, o, h))
           at (suc j) y there some =
@@ -213,5 +221,5 @@ module _ (w : Written) (rest : List Part) (out : AllOut rotation_words rest) whe
   turns_from x {lines} u a b t = record { at = at; all = t.all; splits = one_split is_up_to_rotations rest x lines u t.splits }
     where
       at : (j : ℕ) (y : LineData) → slice_get (x ∷ lines) j ≡ Some y → IsSome (needs_in y) → length (all_needs_in (take j (x ∷ lines))) + 1 ≡ length (rotations_in w (take j (x ∷ lines)))
-      at zero y there some = absurd (let same : x ≡ y = some_same there in let none = subst IsSome b (subst (λ (z : LineData). IsSome (needs_in z)) (sym same) some) in cc)
+      at zero y there some = absurd (let same : x ≡ y = same_Some _ _ there in let none = subst IsSome b (subst (λ (z : LineData). IsSome (needs_in z)) (sym same) some) in cc)
       at (suc j) y there some = t.at j y there some

@@ -81,6 +81,7 @@ pub record IsGround (w : Written) (lines : List LineData) : Type 0 where
   pub one_each : length (all_needs_in lines) ≡ length (rotations_in w lines)
   pub needs : (j : ℕ) → j < length (rotations_in w lines) → AreNeedsOf (seat_market w) (rotations_in w lines) j (get_or (all_needs_in lines) j [])
 
+-- the clauses of such an answer tell of its first seats and of its chain
 abbrev pub HasChain : Written → Subject → Type 0
 HasChain w subject = (above : List LineData) (line : LineData) (why : Reason) → Clauses subject above line why → FirstsHold w above line why × ChainHolds w above line why
 
@@ -104,6 +105,7 @@ module _ {subject : Subject} {lines : List LineData} (w : Written) (r : IsRight 
   lowest = grown (rotation_in w) (AllLowest (seat_market w) (first_of w lines)) (IsNextLowest (seat_market w) (first_of w lines)) lines (λ k less. absurd (omega arith))
       (one_lowest (seat_market w) (first_of w lines)) next_at
 
+  -- the first seats that are said are the pairs of their matching
   pub first_written : ArePairsOf (seat_market w).proposers (first_of w lines).proposers (firsts_in w lines)
   first_written = free_seats (seat_market w) (first_in w) lines
       (λ k. each_line r reason.NotAMatching {Q = λ above line. IfSome (first_in w line) (IsFreeSeat (seat_market w) (firsts_in w above))} (λ above line h. (has above line reason.NotAMatching h).0) k)
@@ -159,6 +161,7 @@ module _ {subject : Subject} {lines : List LineData} (w : Written) (r : IsRight 
           go None e h = tt
           go (Some x) e h = by_needs x e (needs_in x) refl (has (take k lines) x reason.WrongNeeds h).1
 
+      -- the chain and the needs that are said are those of the market of seats
       pub ground : IsGround w lines
       ground =
           let all = grown needs_in (AllNeeds (seat_market w) (first_of w lines) (rotations_in w lines)) IsNextNeeds lines (λ j less. absurd (omega arith))
@@ -174,6 +177,7 @@ turns_behind w rest placed =
     turns_from w closing closing_out (LineData.Answer HeadData.Rotations) refl refl refl
     (turns w closing closing_out false Spot.firsts (LineData.Answer HeadData.Rotations ∷ []) rest placed refl)
 
+-- the law of a yes on `rotations`
 pub rotations_yes : RotationsYes
 rotations_yes w lines i g =
     let r = right_two {w = w} {head = HeadData.Rotations} refl g in

@@ -20,12 +20,15 @@ use Rattle.sm_cert.proofs.YesPairs.{only_one, AreGiven, none_given, one_given, p
 
 -- The lines up to the first seats, and up to the last ones.
 
+-- the keyword of first seats
 abbrev pub first_words : ℕ → Bool
 first_words n = n == 3
 
+-- the keywords of first seats and of last seats
 abbrev pub last_words : ℕ → Bool
 last_words n = (n == 3) || (n == 4)
 
+-- the test of lines up to the first seats tells the one
 pub firsts_tell : Tells first_words is_up_to_firsts
 firsts_tell = record { other = refl; same = same }
   where
@@ -33,6 +36,7 @@ firsts_tell = record { other = refl; same = same }
     same (LineData.Answer head) = inr refl
     same _ = inl refl
 
+-- the test of lines up to the last seats tells the two
 pub lasts_tell : Tells last_words is_up_to_lasts
 lasts_tell = record { other = refl; same = same }
   where
@@ -41,14 +45,17 @@ lasts_tell = record { other = refl; same = same }
     same _ = inl refl
 
 module _ (w : Written) where
+  -- a line behind the first seats says none of them
   pub no_first : (x : LineData) → is_up_to_firsts x ≡ false → first_in w x ≡ None
   no_first (LineData.First p seat) e = absurd (false≢true (sym e))
   no_first _ e = refl
 
+  -- nor does a line behind the last seats
   pub no_first_then : (x : LineData) → is_up_to_lasts x ≡ false → first_in w x ≡ None
   no_first_then (LineData.First p seat) e = absurd (false≢true (sym e))
   no_first_then _ e = refl
 
+  -- a line behind the last seats says none of these
   pub no_last : (x : LineData) → is_up_to_lasts x ≡ false → last_in w x ≡ None
   no_last (LineData.Last p seat) e = absurd (false≢true (sym e))
   no_last _ e = refl

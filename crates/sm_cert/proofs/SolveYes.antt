@@ -6,6 +6,7 @@ use Rattle.std.specs.Option.{option_map}
 use Rattle.std.proofs.lemmas.Bool.{false≢true}
 use Rattle.std.proofs.lemmas.List.{length-map}
 use Rattle.std.proofs.lemmas.List.FromFn.{length-map-range_with_len}
+use Rattle.std.proofs.lemmas.Option.{same_Some}
 use Rattle.sm_lists.specs.Rows.{place_on}
 use Rattle.sm_instance.specs.Written.{Written, place_of, lists_of}
 use Rattle.sm_instance.specs.Stable.{IsStable}
@@ -28,7 +29,7 @@ use Rattle.sm_judge.specs.Said.{pair_in, pairs_in, regret_in, first_said}
 use Rattle.sm_judge.specs.Pairs.{IsFree, IsBestOf}
 use Rattle.sm_cert.specs.Yes.{ArePairsOf, SolveYes, RegretYes}
 use Rattle.sm_cert.proofs.GroupLemmas.{Tells, goes, all_down, none_said}
-use Rattle.sm_cert.proofs.YesLines.{some_same, right_two, by_head, at_closing, said_above, grown}
+use Rattle.sm_cert.proofs.YesLines.{right_two, by_head, at_closing, said_above, grown}
 use Rattle.sm_cert.proofs.YesPairs.{AreGiven, none_given, one_given, pairs_of}
 
 -- an agent's place for another, among its list and among all
@@ -53,6 +54,7 @@ free_pairs w said lines at =
     pairs_of (lists_of w.proposers) (places_in w pairs) pairs (grown said (AreGiven (lists_of w.proposers)) (IsFree w) lines (none_given (lists_of w.proposers)) (one_free w) at) (omega arith)
     (λ p l. held_place w pairs p (omega arith) ∙ ap (λ list. option_map (place_on list) (partner_in pairs p)) (sym (row-lists_of w.proposers p)))
 
+-- the law of a yes on `solve` over two sides
 pub solve_yes : SolveYes
 solve_yes w side lines g =
     let r = right_two {w = w} {head = HeadData.Solve (Some side)} refl g in
@@ -102,13 +104,14 @@ one_regret (x ∷ xs) e =
         no_parts : ◌≡◌ {A = Option (List Part)} None (Some left) → ⊥
         no_parts e = grind arith
     go true b left is whole =
-        let behind : is_whole ((Many keyword.Pair ∷ closing) ∷ []) (map opening_of xs) ≡ true = subst (λ (parts : List Part). is_whole (parts ∷ []) (map opening_of xs) ≡ true) (sym (some_same is)) whole in
+        let behind : is_whole ((Many keyword.Pair ∷ closing) ∷ []) (map opening_of xs) ≡ true = subst (λ (parts : List Part). is_whole (parts ∷ []) (map opening_of xs) ≡ true) (sym (same_Some _ _ is)) whole in
         let down = all_down tells (Many keyword.Pair ∷ closing) xs ((refl, omega arith), ((refl, omega arith), tt)) behind in
         let rest : filter_map regret_in xs ≡ [] = none_said is_regret regret_in not_said xs down in
         let here = opens x b in
         let all : filter_map regret_in (x ∷ xs) ≡ first_said 0 regret_in (x ∷ []) ∷ [] = ap (λ (o : Option ℕ). cons_option o (filter_map regret_in xs)) here ∙ ap (λ ns. first_said 0 regret_in (x ∷ []) ∷ ns) rest in
         all ∙ ap (λ (ns : List ℕ). slice_index_or ns 0 0 ∷ []) (sym all)
 
+-- the law of a yes on `regret`
 pub regret_yes : RegretYes
 regret_yes w lines g =
     let r = right_two {w = w} {head = HeadData.Regret} refl g in

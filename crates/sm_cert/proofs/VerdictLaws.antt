@@ -62,6 +62,7 @@ module _ (Holds : ℕ → Reason → Type 0) where
       let f' : IsFirstFailure Holds k a = rw e at f in
       (ap (λ n. first_line + n) e, same_reason a b (omega (arith, not_sooner k a b f' g, not_sooner k b a g f')))
 
+-- so two verdicts by the same clauses are one
 pub one : (Holds : ℕ → Reason → Type 0) (first_line : ℕ) (v w : Verdict) → IsVerdict Holds first_line v → IsVerdict Holds first_line w → v ≡ w
 one Holds first_line verdict.Yes verdict.Yes x y = refl
 one Holds first_line verdict.Yes (verdict.No line why) x y = absurd (y.2.fails (x y.0 why))
@@ -71,5 +72,6 @@ one Holds first_line (verdict.No line why) (verdict.No line' why') x y =
     let lines : line ≡ line' = x.1 ∙ same.0 ∙ sym y.1 in
     (λ i. verdict.No (lines i) (same.1 i))
 
+-- the law that there is no more than one verdict on an answer
 pub one_verdict : OneVerdict
 one_verdict input lines first_line v w x y = one (Holds input lines) first_line v w x y

@@ -1,6 +1,7 @@
 -- The worked answers of `weight`.
 use Rattle.std.proofs.Common.{◌≡◌, ℕ, zero, suc, ◌<◌, ◌≤◌, inl, inr, arith, refl, sym, List, [], ◌∷◌, take, drop, None, Some, Option, ℤ, pos, negsuc, true, false, subst, ne_eqb, length}
 use Rattle.std.specs.Prelude.{Contains, IfSome, ◌↔◌, ◌⊎◌, not, Bool, All}
+use Rattle.std.proofs.lemmas.Option.{none-some, same_Some}
 use Rattle.sm_instance.specs.declared.kinds.Measure.TheVariants.{Given}
 use Rattle.sm_instance.specs.Allowed.{IsAllowed}
 use Rattle.sm_instance.specs.Matching.{IsMatching, load, held}
@@ -157,12 +158,6 @@ conserved a (inr e) = subst (λ n. IsConserved 2 (edge 0 2 n ∷ edge 1 3 n ∷ 
 closed : IsClosed three_cycle three_cycle_chain (true ∷ true ∷ [])
 closed = record { one_each = refl; closed = λ i j x y member need. below_two (λ i. IsMember (true ∷ true ∷ []) i) refl refl i x }
 
-some_same : {x y : ℕ} → Some x ≡ Some y → x ≡ y
-some_same e = cc
-
-none_some : {x : ℕ} → ◌≡◌ {A = Option ℕ} None (Some x) → ⊥
-none_some e = grind arith
-
 abbrev lasts : List (Option ℕ)
 lasts = Some 2 ∷ Some 2 ∷ Some 2 ∷ []
 
@@ -170,16 +165,16 @@ last_matching : IsMatching three_by_three lasts
 last_matching = record { assigned = record { one_each = refl; on_lists = on_lists }; acceptable = acceptable; within = within }
   where
     on_lists : (p i : ℕ) → held lasts p ≡ Some i → i < length (row three_by_three.proposers p)
-    on_lists zero i e = let f : 2 ≡ i = some_same e in omega (arith, f)
-    on_lists (suc zero) i e = let f : 2 ≡ i = some_same e in omega (arith, f)
-    on_lists (suc (suc zero)) i e = let f : 2 ≡ i = some_same e in omega (arith, f)
-    on_lists (suc (suc (suc p))) i e = absurd (none_some e)
+    on_lists zero i e = let f : 2 ≡ i = same_Some _ _ e in omega (arith, f)
+    on_lists (suc zero) i e = let f : 2 ≡ i = same_Some _ _ e in omega (arith, f)
+    on_lists (suc (suc zero)) i e = let f : 2 ≡ i = same_Some _ _ e in omega (arith, f)
+    on_lists (suc (suc (suc p))) i e = absurd (none-some _ e)
 
     acceptable : (p i : ℕ) → held lasts p ≡ Some i → IsAcceptable three_by_three p (entry three_by_three.proposers p i)
-    acceptable zero i e = let f : 2 ≡ i = some_same e in rw (sym f) (record { proposer_lists = omega arith; reviewer_lists = omega arith })
-    acceptable (suc zero) i e = let f : 2 ≡ i = some_same e in rw (sym f) (record { proposer_lists = omega arith; reviewer_lists = omega arith })
-    acceptable (suc (suc zero)) i e = let f : 2 ≡ i = some_same e in rw (sym f) (record { proposer_lists = omega arith; reviewer_lists = omega arith })
-    acceptable (suc (suc (suc p))) i e = absurd (none_some e)
+    acceptable zero i e = let f : 2 ≡ i = same_Some _ _ e in rw (sym f) (record { proposer_lists = omega arith; reviewer_lists = omega arith })
+    acceptable (suc zero) i e = let f : 2 ≡ i = same_Some _ _ e in rw (sym f) (record { proposer_lists = omega arith; reviewer_lists = omega arith })
+    acceptable (suc (suc zero)) i e = let f : 2 ≡ i = same_Some _ _ e in rw (sym f) (record { proposer_lists = omega arith; reviewer_lists = omega arith })
+    acceptable (suc (suc (suc p))) i e = absurd (none-some _ e)
 
     within : (r : ℕ) → load three_by_three lasts r ≤ capacity_of three_by_three.reviewers r
     within zero = omega arith
@@ -469,6 +464,7 @@ low_before why h = (
   wanted_quiet (low_above 15) (LineData.Cut 4) refl refl why,
 )
 
+-- the verdicts on them are as they should be
 pub weight_answers : WeightAnswers
 weight_answers = (
   all_hold (WeightHolds three_by_three Given) (weight_lines 4 4 4 4)

@@ -1,11 +1,12 @@
 -- The lines of an answer of `weight` behind its flow.
-use Rattle.std.proofs.Common.{◌≡◌, ℕ, ◌+◌, ◌<◌, ◌==◌, ◌||◌, ◌&&◌, ◌⊎◌, inl, inr, arith, refl, sym, ap, ◌∙◌, Bool, true, false, List, [], ◌∷◌, ◌++◌, map, Option, Some, None, if◌then◌else◌, subst, append_assoc, append-nil, ℤ}
+use Rattle.std.proofs.Common.{◌≡◌, ℕ, ◌+◌, ◌==◌, ◌||◌, ◌⊎◌, inl, inr, arith, refl, sym, ap, ◌∙◌, Bool, true, false, List, [], ◌∷◌, ◌++◌, map, Option, Some, None, if◌then◌else◌, subst, append_assoc, ℤ}
 use Rattle.std.specs.Prelude.{filter_map}
 use Rattle.std.specs.List.{cons_option, list_all, list_any}
-use Rattle.std.proofs.lemmas.Bool.{false≢true}
+use Rattle.std.proofs.lemmas.Bool.{false≢true, and_from}
 use Rattle.std.proofs.lemmas.List.Folds.{list_all-append}
 use Rattle.std.proofs.lemmas.List.Elements.{filter_map-append}
-use Rattle.sm_theory.proofs.Net.Tests.{and_parts, and_true}
+use Rattle.std.proofs.lemmas.Option.{same_Some}
+use Rattle.sm_theory.proofs.Net.Tests.{and_parts}
 use Rattle.sm_report.specs.Lines.{LineData}
 use Rattle.sm_forms.specs.declared.keywords.Keyword.{Keyword}
 use Rattle.sm_forms.specs.declared.keywords.Keyword.TheVariants as keyword
@@ -15,9 +16,8 @@ use Rattle.sm_forms.specs.Keywords.{keyword_of, number_of}
 use Rattle.sm_forms.specs.Layouts.{begins, behind, left_behind, is_empty, is_whole}
 use Rattle.sm_forms.specs.Forms.{closing, opening_of}
 use Rattle.sm_judge.specs.Said.{taken_in, value_in, total_in, is_up_to_rotations}
-use Rattle.sm_cert.proofs.GroupLemmas.{Tells, AllOut, Parted, goes, all_down, none_said, none_up}
-use Rattle.sm_cert.proofs.RotationLines.{rotation_words, Splits, one_split}
-use Rattle.sm_cert.proofs.YesLines.{some_same}
+use Rattle.sm_cert.proofs.GroupLemmas.{Tells, Parted, goes, all_down, none_said, none_up}
+use Rattle.sm_cert.proofs.RotationLines.{Splits, one_split}
 
 -- Parts of a layout, one after the other.
 
@@ -33,7 +33,7 @@ many_split word up rest (x ∷ xs) ups e =
   where
     go : (t : Bool) → begins (opening_of x) word ≡ t → (left : List Part) → (if t then Some (Many word ∷ rest) else behind rest (opening_of x)) ≡ Some left → is_whole (left ∷ []) (map opening_of xs) ≡ true
         → (is_whole ((Many word ∷ rest) ∷ []) (map opening_of xs) ≡ true → Splits up rest xs) → Splits up rest (x ∷ xs)
-    go true b left is whole deep = one_split up rest x xs (ups x b) (deep (subst (λ (parts : List Part). is_whole (parts ∷ []) (map opening_of xs) ≡ true) (sym (some_same is)) whole))
+    go true b left is whole deep = one_split up rest x xs (ups x b) (deep (subst (λ (parts : List Part). is_whole (parts ∷ []) (map opening_of xs) ≡ true) (sym (same_Some _ _ is)) whole))
     go false b left is whole deep = record {
       before = [];
       below = x ∷ xs;
@@ -56,18 +56,21 @@ one_peel word rest (x ∷ xs) e =
     go (begins (opening_of x) word) refl g.left g.is g.whole
   where
     go : (t : Bool) → begins (opening_of x) word ≡ t → (left : List Part) → (if t then Some rest else None) ≡ Some left → is_whole (left ∷ []) (map opening_of xs) ≡ true → Peels word rest (x ∷ xs)
-    go true b left is whole = record { line = x; others = xs; is = refl; opens = b; whole = subst (λ (parts : List Part). is_whole (parts ∷ []) (map opening_of xs) ≡ true) (sym (some_same is)) whole }
+    go true b left is whole = record { line = x; others = xs; is = refl; opens = b; whole = subst (λ (parts : List Part). is_whole (parts ∷ []) (map opening_of xs) ≡ true) (sym (same_Some _ _ is)) whole }
     go false b left is whole = absurd (no_parts is)
 
 -- The lines up to the flow, and those up to the total.
 
+-- the keywords up to the flow
 abbrev pub flow_words : ℕ → Bool
 flow_words n = (n == 3) || ((n == 7) || ((n == 8) || ((n == 9) || (n == 10))))
 
+-- a line stands up to the flow
 abbrev pub is_up_to_flows : LineData → Bool
 is_up_to_flows (LineData.Flow from to amount) = true
 is_up_to_flows line = is_up_to_rotations line
 
+-- the test of lines up to the flow tells these keywords
 pub flows_tell : Tells flow_words is_up_to_flows
 flows_tell = record { other = refl; same = same }
   where
@@ -75,9 +78,11 @@ flows_tell = record { other = refl; same = same }
     same (LineData.Answer head) = inr refl
     same _ = inl refl
 
+-- the keywords up to the total
 abbrev pub total_words : ℕ → Bool
 total_words n = flow_words n || ((n == 11) || ((n == 12) || ((n == 13) || (n == 14))))
 
+-- a line stands up to the total
 abbrev pub is_up_to_totals : LineData → Bool
 is_up_to_totals (LineData.Taken taken) = true
 is_up_to_totals (LineData.Value value) = true
@@ -85,6 +90,7 @@ is_up_to_totals (LineData.Cut value) = true
 is_up_to_totals (LineData.Total weight) = true
 is_up_to_totals line = is_up_to_flows line
 
+-- the test of lines up to the total tells these keywords
 pub totals_tell : Tells total_words is_up_to_totals
 totals_tell = record { other = refl; same = same }
   where
@@ -122,19 +128,22 @@ opens_total _ e = absurd (false≢true e)
 
 all_too : (p q : LineData → Bool) (xs : List LineData) → ((x : LineData) → p x ≡ true → q x ≡ true) → list_all p xs ≡ true → list_all q xs ≡ true
 all_too p q [] more h = refl
-all_too p q (x ∷ xs) more h = let parts = and_parts (p x) (list_all p xs) h in and_true (q x) (list_all q xs) (more x parts.0) (all_too p q xs more parts.1)
+all_too p q (x ∷ xs) more h = let parts = and_parts (p x) (list_all p xs) h in and_from (q x) (list_all q xs) (more x parts.0) (all_too p q xs more parts.1)
 
 all_both : (q : LineData → Bool) (xs ys : List LineData) → list_all q xs ≡ true → list_all q ys ≡ true → list_all q (xs ++ ys) ≡ true
-all_both q xs ys a b = list_all-append q xs ys ∙ and_true (list_all q xs) (list_all q ys) a b
+all_both q xs ys a b = list_all-append q xs ys ∙ and_from (list_all q xs) (list_all q ys) a b
 
 -- The four lines behind the flow.
 
+-- the layout behind the total: the pairs and the end
 abbrev pub pairs_left : List Part
 pairs_left = Many keyword.Pair ∷ closing
 
+-- the layout behind the flow: the set that is taken, the value, the cut, the total and the rest
 abbrev pub behind_flow : List Part
 behind_flow = One keyword.Taken ∷ One keyword.Value ∷ One keyword.Cut ∷ One keyword.Total ∷ pairs_left
 
+-- lines up to the flow, the four lines one after another, and a whole rest
 pub record FourLines (lines : List LineData) : Type 0 where
   pub above : List LineData
   pub taken : List ℕ
@@ -169,6 +178,7 @@ four_of lines s =
       whole = d.whole;
     }
 
+-- the lines of an answer whose layout goes on with a flow have these four behind it
 pub four_lines : (lines : List LineData) → Splits is_up_to_rotations (Many keyword.Flow ∷ behind_flow) lines → FourLines lines
 four_lines lines s =
     let f = many_split keyword.Flow is_up_to_flows behind_flow s.below opens_flow s.whole in
@@ -214,12 +224,15 @@ no_taken_up (LineData.Taken taken) e = absurd (false≢true e)
 no_taken_up _ e = refl
 
 module _ {lines : List LineData} (f : FourLines lines) where
+  -- the lines above say no set
   pub no_taken_above : filter_map taken_in f.above ≡ []
   no_taken_above = none_up is_up_to_flows taken_in no_taken_up f.above f.ups
 
+  -- nor a value
   pub no_value_above : filter_map value_in f.above ≡ []
   no_value_above = none_up is_up_to_flows value_in no_value_up f.above f.ups
 
+  -- all lines together say one total
   pub one_total : filter_map total_in lines ≡ f.total ∷ []
   unfolding totals
   one_total =
@@ -228,6 +241,7 @@ module _ {lines : List LineData} (f : FourLines lines) where
       ∙ ap (λ xs. xs ++ f.total ∷ filter_map total_in f.below) (none_up is_up_to_flows total_in no_total_up f.above f.ups)
       ∙ ap (λ xs. f.total ∷ xs) (none_said is_total total_in no_total f.below (all_down total_tells pairs_left f.below ((refl, omega arith), ((refl, omega arith), tt)) f.whole))
 
+  -- the lines up to the flow, and those behind it
   abbrev pub flows_parted : Parted is_up_to_flows lines
   flows_parted = record {
     above = f.above;

@@ -1,5 +1,5 @@
 -- What a yes on an answer of `weight` means.
-use Rattle.std.proofs.Common.{◌≡◌, ℕ, zero, suc, ◌+◌, ◌<◌, ◌≤◌, ◌⊎◌, inl, inr, arith, refl, sym, ap, ◌∙◌, Bool, true, false, List, [], ◌∷◌, ◌++◌, length, map, take, Option, Some, None, subst, append-nil, append_assoc, ℤ}
+use Rattle.std.proofs.Common.{◌≡◌, ℕ, ◌+◌, ◌≤◌, inl, inr, arith, refl, sym, ap, ◌∙◌, Bool, true, false, List, [], ◌∷◌, ◌++◌, length, map, take, Option, Some, None, subst, append-nil, append_assoc, ℤ}
 use Rattle.std.specs.Prelude.{IfSome, filter_map, slice_index_or, ◌≤ℤ◌}
 use Rattle.std.specs.List.{slice_get}
 use Rattle.std.proofs.lemmas.Bool.{false≢true}
@@ -9,15 +9,12 @@ use Rattle.sm_instance.specs.Written.{Written, lists_of}
 use Rattle.sm_instance.specs.Matching.{IsAssignment, standing}
 use Rattle.sm_instance.specs.Allowed.{IsAllowed as IsWrittenAllowed}
 use Rattle.sm_instance.specs.Ranks.{weight_of as written_weight}
-use Rattle.sm_instance.specs.Sound.{IsInstance}
 use Rattle.sm_instance.specs.declared.kinds.Measure.{Measure}
 use Rattle.sm_market.specs.Matching.{Places}
-use Rattle.sm_theory.specs.Chains.{IsCompleteChain}
 use Rattle.sm_theory.specs.ClosedSets.{IsClosed, matching_of}
-use Rattle.sm_theory.specs.Vectors.{IsAllowed}
 use Rattle.sm_theory.specs.Weights.{weight_of}
-use Rattle.sm_theory.specs.Net.{Net, cut_of, NoneLeaves}
-use Rattle.sm_theory.specs.Flows.{IsFlow, flow_value, IsResidualStep, IsResidualReach}
+use Rattle.sm_theory.specs.Net.{Net, cut_of}
+use Rattle.sm_theory.specs.Flows.{IsResidualReach}
 use Rattle.sm_theory.specs.FlowLines.{amount_on, amount_from, IsNewEdge, IsWithinRoom, IsConserved}
 use Rattle.sm_theory.specs.Conditions.{net_of, IsNetGround, IsLightestAllowed}
 use Rattle.sm_theory.specs.declared.flow_lines.FlowLine.{FlowLine}
@@ -32,16 +29,15 @@ use Rattle.sm_seats.proofs.CorrespondenceLaws.{sound_entries, is_seating}
 use Rattle.sm_seats.proofs.MarketLaws.{is_market}
 use Rattle.sm_seats.proofs.SeatingLaws.{as_well}
 use Rattle.sm_seats.proofs.VectorLaws.{allowed_seats, lightest_written}
-use Rattle.sm_pairs.specs.Held.{partner_in}
 use Rattle.sm_report.specs.Heads.{HeadData}
 use Rattle.sm_report.specs.Lines.{LineData}
 use Rattle.sm_forms.specs.declared.keywords.Keyword.TheVariants as keyword
-use Rattle.sm_forms.specs.declared.layouts.Part.TheVariants.{One, Many}
+use Rattle.sm_forms.specs.declared.layouts.Part.TheVariants.{Many}
 use Rattle.sm_judge.specs.declared.verdicts.Reason.{Reason}
 use Rattle.sm_judge.specs.declared.verdicts.Reason.TheVariants as reason
 use Rattle.sm_forms.specs.Layouts.{is_whole}
 use Rattle.sm_forms.specs.Forms.{weight_layout, opening_of}
-use Rattle.sm_judge.specs.Said.{first_in, firsts_in, rotation_in, rotations_in, needs_in, all_needs_in, flow_in, flows_in, taken_in, value_in, total_in, pair_in, pairs_in, first_said, is_up_to_firsts, is_up_to_rotations}
+use Rattle.sm_judge.specs.Said.{first_in, firsts_in, rotation_in, rotations_in, needs_in, all_needs_in, flow_in, flows_in, taken_in, value_in, pair_in, pairs_in, first_said, is_up_to_firsts, is_up_to_rotations}
 use Rattle.sm_judge.specs.SeatMatchings.{seat_places_in, first_of}
 use Rattle.sm_judge.specs.Pairs.{IsWanted, AreAllThere}
 use Rattle.sm_judge.specs.Flows.{on_nodes, set_of_numbers, taken_matching}
@@ -51,8 +47,8 @@ use Rattle.sm_cert.proofs.ChosenYes.{AreWanted, none_wanted, one_wanted, all_wan
 use Rattle.sm_cert.proofs.FlowYes.{IsSoundFlow, no_flow, one_flow, from_node, to_node}
 use Rattle.sm_cert.proofs.GroupLemmas.{AllOut, Begins, Parted, parted_behind, said_up, said_then}
 use Rattle.sm_cert.proofs.RotationLines.{rotation_words, rotations_tell, no_needs, first_up, rotation_up, Spot, Turns, turns, turns_from}
-use Rattle.sm_cert.proofs.RotationsYes.{IsGround, HasChain, ground}
-use Rattle.sm_cert.proofs.SeatYes.{first_words, firsts_tell, no_first}
+use Rattle.sm_cert.proofs.RotationsYes.{HasChain, ground}
+use Rattle.sm_cert.proofs.SeatYes.{first_words, firsts_tell}
 use Rattle.sm_cert.proofs.WeightLines.{is_up_to_flows, total_words, is_up_to_totals, totals_tell, behind_flow, FourLines, four_lines, no_taken_above, no_value_above, one_total, flows_parted}
 use Rattle.sm_cert.proofs.YesLines.{IsRight, by_head, right_two, at_line, at_closing, said_above, grown}
 
@@ -145,6 +141,7 @@ firsts_begin = inl (refl, inr (((refl, omega arith), (refl, omega arith), (refl,
     behind : AllOut first_words (Many keyword.Flow ∷ behind_flow)
     behind = ((refl, omega arith), ((refl, omega arith), ((refl, omega arith), ((refl, omega arith), ((refl, omega arith), ((refl, omega arith), ((refl, omega arith), tt)))))))
 
+-- what stands behind the rotations in this layout is outside their group
 pub flow_out : AllOut rotation_words (Many keyword.Flow ∷ behind_flow)
 flow_out = ((refl, omega arith), ((refl, omega arith), ((refl, omega arith), ((refl, omega arith), ((refl, omega arith), ((refl, omega arith), ((refl, omega arith), tt)))))))
 
@@ -356,6 +353,7 @@ module _ (w : Written) (by : Measure) (lines : List LineData) (r : IsRight (answ
         all_wanted w (places_by w by whole) on_lists (pairs_in lines)
         (grown pair_in (AreWanted w (places_by w by whole) on_lists) (IsWanted w (places_by w by whole)) lines (none_wanted w (places_by w by whole) on_lists) (one_wanted w (places_by w by whole) on_lists) pair_at) all_there
 
+-- the law of a yes on `weight`
 pub weight_yes : WeightYes
 weight_yes w by lines i g =
     let head = HeadData.Weight by in

@@ -141,6 +141,7 @@ before_last reason.NotPartition h = absurd (omega (arith, h))
 before_last reason.NoOddParty h = λ _. odd 0 2 1
 before_last _ h = tt
 
+-- the party is right in one order and wrong in the other
 pub odd_answers : OddAnswers
 odd_answers = (
   record {
@@ -209,6 +210,7 @@ before_best reason.NotBest h = absurd (omega (arith, h))
 before_best reason.RotationMissing h = absurd (omega (arith, h))
 before_best _ h = (tt, tt)
 
+-- the matching is stable and isn't the best, which its verdict shows
 pub first_isnt_best : FirstIsntBest
 first_isnt_best = (
   3,

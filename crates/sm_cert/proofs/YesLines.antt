@@ -5,7 +5,7 @@ use Rattle.std.specs.List.{cons_option, list_any, slice_get}
 use Rattle.std.proofs.lemmas.Bool.{false≢true}
 use Rattle.std.proofs.lemmas.List.{map-append}
 use Rattle.std.proofs.lemmas.List.Elements.{filter_map-append}
-use Rattle.std.proofs.lemmas.Option.{slice_get-get_or}
+use Rattle.std.proofs.lemmas.Option.{slice_get-get_or, same_Some}
 use Rattle.std.proofs.Math.Seq.{take-suc}
 use Rattle.sm_instance.specs.Written.{Written, AgentData}
 use Rattle.sm_instance.specs.declared.inputs.Input.{Input}
@@ -23,9 +23,7 @@ use Rattle.sm_forms.specs.Laws.{closing_of, EndsWith}
 use Rattle.sm_cert.specs.Yes.{GetsYes}
 use Rattle.sm_forms.proofs.LayoutLemmas.{whole_ends}
 
-pub some_same : {X : Type 0} {x y : X} → Some x ≡ Some y → x ≡ y
-some_same e = cc
-
+-- a line isn't found where there is none
 pub no_line : {line : LineData} → ◌≡◌ {A = Option LineData} None (Some line) → ⊥
 no_line e = grind arith
 
@@ -93,14 +91,16 @@ by_head {input} {head} {lines} P g f = go lines g.head_is g.answer.placed g.yes
     go : (ls : List LineData) → slice_get ls 0 ≡ Some (LineData.Answer head) → is_placed is_whole input ls ≡ true → ((k : ℕ) (why : Reason) → Holds input ls k why) → P ls
     go [] e placed h = absurd (no_line e)
     go (x ∷ xs) e placed h =
-        let same : x ≡ LineData.Answer head = some_same e in
+        let same : x ≡ LineData.Answer head = same_Some _ _ e in
         subst (λ y. P (y ∷ xs)) (sym same)
         (f xs (subst (λ y. is_placed is_whole input (y ∷ xs) ≡ true) same placed)
         (subst (λ y. (k : ℕ) (why : Reason) → Holds input (y ∷ xs) k why) same h))
 
+-- over two sides an answer with a yes is right, where only `end` can close it
 pub right_two : {w : Written} {head : HeadData} {lines : List LineData} → closing_of head ≡ keyword.End ∷ [] → GetsYes (Two w) head lines → IsRight (answer w head) lines
 right_two {w} {head} c g = by_head (IsRight (answer w head)) g (λ rest placed h. right (Two w) (answer w head) head rest c placed h)
 
+-- over roommates an answer with a yes that doesn't say `none` is right by the clauses of couples
 pub right_couples : {persons : List AgentData} {lines : List LineData} → GetsYes (Room persons) (HeadData.Solve None) lines → slice_get lines 1 ≢ Some LineData.Nothing → IsRight (couples persons) lines
 right_couples {persons} g =
     by_head (λ (ls : List LineData). slice_get ls 1 ≢ Some LineData.Nothing → IsRight (couples persons) ls) g
@@ -112,6 +112,7 @@ right_couples {persons} g =
     claims (LineData.Nothing ∷ xs) some h = absurd (some refl)
     claims (x ∷ xs) some h = h
 
+-- over roommates an answer with a yes that says `none` is right by the clauses of parties
 pub right_parties : {persons : List AgentData} {lines : List LineData} → GetsYes (Room persons) (HeadData.Solve None) lines → slice_get lines 1 ≡ Some LineData.Nothing → IsRight (parties persons) lines
 right_parties {persons} g =
     by_head (λ (ls : List LineData). slice_get ls 1 ≡ Some LineData.Nothing → IsRight (parties persons) ls) g
@@ -121,27 +122,31 @@ right_parties {persons} g =
         → (k : ℕ) (why : Reason) → AtLine (Clauses (parties persons)) (LineData.Answer (HeadData.Solve None) ∷ rest) k why
     claims [] none h = absurd (no_line none)
     claims (x ∷ xs) none h =
-        let same : x ≡ LineData.Nothing = some_same none in
+        let same : x ≡ LineData.Nothing = same_Some _ _ none in
         let head : LineData = LineData.Answer (HeadData.Solve None) in
         subst (λ y. (k : ℕ) (why : Reason) → AtLine (Clauses (parties persons)) (head ∷ y ∷ xs) k why) (sym same)
         (subst (λ y. (k : ℕ) (why : Reason) → Holds (Room persons) (head ∷ y ∷ xs) k why) same h)
 
 -- At the closing line.
 
+-- behind the first lines stands the next one
 pub got_at : (xs : List LineData) (y : LineData) (ys : List LineData) → slice_get (xs ++ y ∷ ys) (length xs) ≡ Some y
 got_at [] y ys = refl
 got_at (x ∷ xs) y ys = got_at xs y ys
 
+-- as many lines as these, of these and more, are these
 pub taken_front : (xs ys : List LineData) → take (length xs) (xs ++ ys) ≡ xs
 taken_front [] ys = refl
 taken_front (x ∷ xs) ys = ap (λ (zs : List LineData). x ∷ zs) (taken_front xs ys)
 
+-- all clauses hold at the closing line
 pub at_closing : {subject : Subject} {lines : List LineData} (r : IsRight subject lines) (why : Reason) → Clauses subject r.front LineData.End why
 at_closing {subject} {lines} r why =
     let all = subst (λ (ls : List LineData). AtLine (Clauses subject) ls (length r.front) why) r.ends (r.holds (length r.front) why) in
     let here = subst (λ o. IfSome o (λ line. Clauses subject (take (length r.front) (r.front ++ LineData.End ∷ [])) line why)) (got_at r.front LineData.End []) all in
     subst (λ (ls : List LineData). Clauses subject ls LineData.End why) (taken_front r.front (LineData.End ∷ [])) here
 
+-- the lines above it say all that the answer says
 pub said_above : {X : Type 0} (said : LineData → Option X) {subject : Subject} {lines : List LineData} (r : IsRight subject lines) → said LineData.End ≡ None → filter_map said r.front ≡ filter_map said lines
 said_above {X} said r none =
     sym (ap (filter_map said) r.ends ∙ filter_map-append said r.front (LineData.End ∷ [])

@@ -5,6 +5,7 @@ use Rattle.std.specs.Option.{option_map, option_or}
 use Rattle.std.proofs.lemmas.Bool.{cases_eq, cases_lt}
 use Rattle.std.proofs.lemmas.List.{get_or_append_left, get_or-append-add, get_or_past, get_or_default}
 use Rattle.std.proofs.lemmas.List.Elements.{Contains-append_cases}
+use Rattle.std.proofs.lemmas.Option.{same_Some}
 use Rattle.sm_lists.proofs.PlaceLemmas.{get_or-place_on}
 use Rattle.sm_lists.proofs.RowLemmas.{row_in_range}
 use Rattle.sm_market.specs.Lists.{row, entry, place_of}
@@ -13,8 +14,8 @@ use Rattle.sm_pairs.specs.Held.{partner_in, pair_at}
 use Rattle.sm_pairs.proofs.HoldingLemmas.{here_later}
 use Rattle.sm_cert.specs.Yes.{AreApart, ArePairsOf}
 use Rattle.sm_judge.proofs.CoupleLemmas.{partner_behind}
-use Rattle.sm_cert.proofs.YesLines.{some_same}
 
+-- what a list of one item has is that item
 pub only_one : {X : Type 0} {x y : X} → Contains (x ∷ []) y → x ≡ y
 only_one {X} {x} {y} c = go c.0 c.1 c.2
   where
@@ -22,6 +23,7 @@ only_one {X} {x} {y} c = go c.0 c.1 c.2
     go zero l e = e
     go (suc k) l e = absurd (omega (arith, l))
 
+-- nobody is not somebody
 pub no_partner : {r : ℕ} → ◌≡◌ {A = Option ℕ} None (Some r) → ⊥
 no_partner e = grind arith
 
@@ -31,7 +33,7 @@ given_there [] p r e = absurd (no_partner e)
 given_there (x ∷ pairs) p r e = ⊎_elim
     (λ (is : x.0 ≡ p).
     let one : Some x.1 ≡ Some r = ap (λ t. cond t (Some x.1) (partner_in pairs p)) (sym (eq-eqb x.0 p is)) ∙ e in
-    let same : x ≡ (p, r) = (λ i. (is i, some_same one i)) in
+    let same : x ≡ (p, r) = (λ i. (is i, same_Some _ _ one i)) in
     let c : Contains (x ∷ pairs) (p, r) = (0, omega arith, same) in c)
     (λ other.
     let rest = given_there pairs p r (ap (λ t. cond t (Some x.1) (partner_in pairs p)) (sym (ne_eqb x.0 p other)) ∙ e) in
@@ -62,6 +64,7 @@ pub record AreGiven (rows : List (List ℕ)) (pairs : List (ℕ × ℕ)) : Type 
   pub given : (p r : ℕ) → Contains pairs (p, r) → partner_in pairs p ≡ Some r
   pub apart : AreApart pairs
 
+-- no pairs are such
 pub none_given : (rows : List (List ℕ)) → AreGiven rows []
 none_given rows = record {
   listed = λ p r c. absurd (let l = c.1 in omega arith);
@@ -69,6 +72,7 @@ none_given rows = record {
   apart = λ i j i_j l. absurd (omega arith);
 }
 
+-- one more is, whose reviewer is on the list of its proposer, and whose proposer is in none before it
 pub one_given : (rows : List (List ℕ)) (pairs : List (ℕ × ℕ)) (x : ℕ × ℕ) → AreGiven rows pairs → place_of rows x.0 x.1 < length (row rows x.0) → partner_in pairs x.0 ≡ None
     → AreGiven rows (pairs ++ x ∷ [])
 one_given rows pairs x k on none = record {
@@ -111,4 +115,4 @@ pairs_of rows places pairs k long is = record {
         go None is e = absurd (no_partner e)
         go (Some s) is e =
             let c = given_there pairs p s is in
-            subst (λ z. Contains pairs (p, z)) (same_place rows p r s (k.listed p s c) (some_same e)) c
+            subst (λ z. Contains pairs (p, z)) (same_place rows p r s (k.listed p s c) (same_Some _ _ e)) c

@@ -1,5 +1,5 @@
 -- Why no verdict is given on a text, and which clauses are tried on an answer.
-use Rattle.std.specs.Prelude.{◌≡◌, ℕ, ◌∷◌, Bool, true, false, List, Option, None, Some}
+use Rattle.std.specs.Prelude.{ℕ, ◌∷◌, Bool, true, false, List, Option, None, Some}
 use Rattle.sm_instance.specs.declared.inputs.Input.{Input}
 use Rattle.sm_instance.specs.declared.inputs.Input.TheVariants.{Two, Room}
 use Rattle.sm_report.specs.Heads.{HeadData}
@@ -16,6 +16,7 @@ abbrev pub HasFewSeats : Input → Type 0
 HasFewSeats (Two w) = AreFewSeats w
 HasFewSeats (Room persons) = Unit {0}
 
+-- this is the first reviewer with whom the seats of an instance with two sides have too many entries
 abbrev pub HasTooManyAt : Input → ℕ → Type 0
 HasTooManyAt (Two w) r = IsFirstTooMany w r
 HasTooManyAt (Room persons) r = ⊥
@@ -31,20 +32,10 @@ IsCertFault input texts first_line (TooManySeats r) = HasTooManyAt input r
 IsCertFault input texts first_line (BadAnswer line) = HasFewSeats input × IsBadAt input texts first_line line
 IsCertFault input texts first_line OutOfMemory = Unit {0}
 
--- a fault of seats, and what it says
+-- a fault of seats
 abbrev pub of_seats : SeatsFault → CertFault
 of_seats (seats.TooManySeats r) = TooManySeats r
 of_seats seats.OutOfMemory = OutOfMemory
-
-abbrev pub HasSeatsFault : Input → SeatsFault → Type 0
-HasSeatsFault input (seats.TooManySeats r) = HasTooManyAt input r
-HasSeatsFault input seats.OutOfMemory = Unit {0}
-
--- why there is no verdict on lines
-abbrev pub IsJudgeFault : Input → List LineData → CertFault → Type 0
-IsJudgeFault input lines (TooManySeats r) = HasTooManyAt input r
-IsJudgeFault input lines (BadAnswer line) = ⊥
-IsJudgeFault input lines OutOfMemory = Unit {0}
 
 -- an answer over roommates says that there is no stable matching
 abbrev pub says_none : List LineData → Bool

@@ -11,9 +11,11 @@ use Rattle.sm_judge.specs.declared.verdicts.Verdict.TheVariants as verdict
 use Rattle.sm_judge.specs.Verdicts.{IsVerdict}
 use Rattle.sm_judge.specs.Judging.{Holds, IsJudged}
 
+-- an agent of this name with one place, on a line of its own
 abbrev pub agent : List ℕ → ℕ → List ℕ → AgentData
 agent name line entries = record { name = name; capacity = 1; line = line; entries = entries }
 
+-- the first seat of a reviewer
 abbrev pub seat : ℕ → Seat
 seat r = record { reviewer = r; number = 1 }
 
@@ -31,6 +33,7 @@ five =
 abbrev pub odd_answer : List ℕ → List (List ℕ)
 odd_answer party = codes "answer solve" ∷ codes "none" ∷ party ∷ codes "party 4" ∷ codes "party 5" ∷ codes "end" ∷ []
 
+-- an answer that there is no stable matching, with this party and two of one person each
 abbrev pub odd_lines : List ℕ → List LineData
 odd_lines party =
     LineData.Answer (HeadData.Solve None)

@@ -103,6 +103,7 @@ abbrev pub MeetYes : Type 0
 MeetYes = (w : Written) (lines : List LineData)
     → GetsYes (Two w) HeadData.Meet lines → IsChosen Better w (lefts_in lines) (rights_in lines) (pairs_in lines)
 
+-- what a yes on `join` means
 abbrev pub JoinYes : Type 0
 JoinYes = (w : Written) (lines : List LineData)
     → GetsYes (Two w) HeadData.Join lines → IsChosen Worse w (lefts_in lines) (rights_in lines) (pairs_in lines)

@@ -7,15 +7,15 @@ ghost use Rattle.sm_text.specs.Lines.{lines, content};
 ghost use Rattle.sm_instance.specs.declared.inputs.Input.TheVariants.{Two, Room};
 ghost use Rattle.sm_report.specs.Heads.{HeadData, head_of};
 ghost use Rattle.sm_report.specs.Lines.{line_of};
-ghost use Rattle.sm_seats.specs.SeatEntries.{IsSeatsFault};
-ghost use Rattle.sm_seats.specs.Tables.{first_seats_of};
+ghost use Rattle.sm_seats.specs.Counted.{AreCounts};
+ghost use Rattle.sm_seats.specs.SeatEntries.{AreFewSeats};
 ghost use Rattle.sm_forms.specs.Forms.{AreAnswer, is_placed};
 ghost use Rattle.sm_forms.specs.Layouts.{is_whole};
 ghost use Rattle.sm_forms.specs.Taking.{AreFirsts};
 ghost use Rattle.sm_judge.specs.Verdicts.{AtLine, IsVerdict};
 ghost use Rattle.sm_judge.specs.Judging.{Subject, answer, couples, parties, Clauses, Holds, IsJudged};
 ghost use Rattle.sm_judge.specs.Judges.{IsOwnLine, input_of};
-ghost use Rattle.sm_cert.specs.Checking.{HasFewSeats, IsCertFault, IsJudgeFault, HasSeatsFault, first_head, says_none};
+ghost use Rattle.sm_cert.specs.Checking.{HasFewSeats, IsCertFault, first_head, says_none};
 
 use crate::faults::CertFault;
 use sm_forms::{AnswerFault, read_answer};
@@ -25,7 +25,7 @@ use sm_judge::{
     regret_verdict, rotations_verdict, solve_verdict,
 };
 use sm_report::{Head, Line};
-use sm_seats::{Seats, SeatsFault, seat_counts};
+use sm_seats::{SeatCounts, Seats, seat_counts};
 use sm_theory::Choice;
 use sm_weigh::{Weighed, weight_verdict};
 use std::alloc::{AllocError, Global};
@@ -39,7 +39,7 @@ use std::alloc::{AllocError, Global};
 /// # Errors
 ///
 /// `TooManySeats` where the seats have too many entries, as [`Seats::of`] gives it, before anything is said of the text.
-/// `BadAnswer` with the first line that isn't of an answer's form where it stands, or the one behind the last where the
+/// Else `BadAnswer` with the first line that isn't of an answer's form where it stands, or the one behind the last where the
 /// closing line is missing. `OutOfMemory` where memory ran out, and only then.
 pub fn check(
     alloc: Global,
@@ -49,31 +49,61 @@ pub fn check(
 ) -> Result<Verdict, CertFault>
     requires short { length answer.now ≤ most_bytes }
     requires first_line { first_line ≤ most_bytes + 1 }
-    ensures judged { IfOk result (λ v. IsJudged input.now (map content (lines answer.now)) first_line v) }
+    ensures judged { IfOk result (λ v. IsJudged input.now (map content (lines answer.now))
+        first_line v) }
     ensures few { OnOk result (HasFewSeats input.now) }
-    ensures fault { IfErr result (λ f. IsCertFault input.now (map content (lines answer.now)) first_line f) }
-{
-    let firsts = first_seats(alloc, input)?;
-    let lines = read_lines(alloc, input, &firsts, answer, first_line)?;
-    judge(alloc, input, &firsts, &lines, first_line)
-}
-
-// The first seat of each reviewer, over two sides.
-fn first_seats(alloc: Global, input: &Input) -> Result<Vec<u32>, SeatsFault>
-    ensures firsts { IfOk result (λ firsts. AreFirsts input.now firsts.items) }
-    ensures few { OnOk result (HasFewSeats input.now) }
-    ensures fault { IfErr result (λ f. HasSeatsFault input.now f) }
+    ensures fault { IfErr result (λ f. IsCertFault input.now (map content (lines answer.now))
+        first_line f) }
 {
     match input {
-        Input::Two(instance) => {
-            let counts = seat_counts(alloc, instance)?;
-            Ok(counts.firsts)
-        }
-        Input::Room(_) => Ok(Vec::new(alloc)),
+        Input::Two(instance) => check_two(alloc, input, instance, answer, first_line),
+        Input::Room(persons) => check_room(alloc, input, persons, answer, first_line),
     }
 }
 
-// The lines of an answer, of which the first has this number.
+/// The same over an instance with two sides.
+fn check_two(
+    alloc: Global,
+    input: &Input,
+    instance: &Instance,
+    answer: &[u8],
+    first_line: u32,
+) -> Result<Verdict, CertFault>
+    requires two { input.now ≡ Two instance.now }
+    requires short { length answer.now ≤ most_bytes }
+    requires first_line { first_line ≤ most_bytes + 1 }
+    ensures judged { IfOk result (λ v. IsJudged input.now (map content (lines answer.now))
+        first_line v) }
+    ensures few { OnOk result (HasFewSeats input.now) }
+    ensures fault { IfErr result (λ f. IsCertFault input.now (map content (lines answer.now))
+        first_line f) }
+{
+    let counts = seat_counts(alloc, instance)?;
+    let lines = read_lines(alloc, input, &counts.firsts, answer, first_line)?;
+    Ok(judge_two(alloc, instance, &counts, &lines, first_line)?)
+}
+
+/// The same over roommates, who have no seats.
+fn check_room(
+    alloc: Global,
+    input: &Input,
+    persons: &Persons,
+    answer: &[u8],
+    first_line: u32,
+) -> Result<Verdict, CertFault>
+    requires room { input.now ≡ Room persons.now }
+    requires short { length answer.now ≤ most_bytes }
+    requires first_line { first_line ≤ most_bytes + 1 }
+    ensures judged { IfOk result (λ v. IsJudged input.now (map content (lines answer.now))
+        first_line v) }
+    ensures fault { IfErr result (λ f. IsCertFault input.now (map content (lines answer.now))
+        first_line f) }
+{
+    let lines = read_lines(alloc, input, &[], answer, first_line)?;
+    Ok(judge_room(alloc, persons, &lines, first_line)?)
+}
+
+/// The lines of an answer, of which the first has this number.
 fn read_lines(
     alloc: Global,
     input: &Input,
@@ -85,8 +115,14 @@ fn read_lines(
     requires few { HasFewSeats input.now }
     requires short { length answer.now ≤ most_bytes }
     requires first_line { first_line ≤ most_bytes + 1 }
-    ensures lines { IfOk result (λ found. AreAnswer input.now (map content (lines answer.now)) (map line_of found.items)) }
-    ensures fault { IfErr result (λ f. IsCertFault input.now (map content (lines answer.now)) first_line f) }
+    ensures lines { IfOk result (λ found. AreAnswer input.now (map content (lines answer.now))
+        (map line_of found.items)) }
+    ensures few { IfOk result (λ found. first_line + length found.items < 2 ^ 32) }
+    ensures own { IfOk result (λ found.
+        (subject : Subject) → input_of subject ≡ input.now
+        → All (IsOwnLine subject) (map line_of found.items)) }
+    ensures fault { IfErr result (λ f. IsCertFault input.now (map content (lines answer.now))
+        first_line f) }
 {
     match read_answer(alloc, input, firsts, answer) {
         Ok(lines) => Ok(lines),
@@ -95,49 +131,30 @@ fn read_lines(
     }
 }
 
-// The verdict on an answer.
-fn judge(
-    alloc: Global,
-    input: &Input,
-    firsts: &[u32],
-    lines: &[Line],
-    first_line: u32,
-) -> Result<Verdict, CertFault>
-    requires few { first_line + length lines.now < 2 ^ 32 }
-    requires firsts { AreFirsts input.now firsts.now }
-    requires own { (subject : Subject) → input_of subject ≡ input.now → All (IsOwnLine subject) (map line_of lines.now) }
-    requires placed { is_placed is_whole input.now (map line_of lines.now) ≡ true }
-    ensures verdict { IfOk result (λ v. IsVerdict (Holds input.now (map line_of lines.now)) first_line v) }
-    ensures fault { IfErr result (λ f. IsJudgeFault input.now (map line_of lines.now) f) }
-{
-    match input {
-        Input::Two(instance) => judge_two(alloc, instance, firsts, lines, first_line),
-        Input::Room(persons) => Ok(judge_room(alloc, persons, lines, first_line)?),
-    }
-}
-
-// The same over an instance with two sides. Lines without a head have no clauses.
+/// The verdict on an answer over an instance with two sides. Lines without a head have no clauses.
 fn judge_two(
     alloc: Global,
     instance: &Instance,
-    firsts: &[u32],
+    counts: &SeatCounts,
     lines: &[Line],
     first_line: u32,
-) -> Result<Verdict, CertFault>
+) -> Result<Verdict, AllocError>
     requires few { first_line + length lines.now < 2 ^ 32 }
-    requires firsts { firsts.now ≡ first_seats_of instance.now }
-    requires own { (head : HeadData) → All (IsOwnLine (answer instance.now head)) (map line_of lines.now) }
+    requires counts { AreCounts instance.now counts.now }
+    requires few_seats { AreFewSeats instance.now }
+    requires own { (head : HeadData) → All (IsOwnLine (answer instance.now head))
+        (map line_of lines.now) }
     requires placed { is_placed is_whole (Two instance.now) (map line_of lines.now) ≡ true }
-    ensures verdict { IfOk result (λ v. IsVerdict (Holds (Two instance.now) (map line_of lines.now)) first_line v) }
-    ensures fault { IfErr result (λ f. IsJudgeFault (Two instance.now) (map line_of lines.now) f) }
+    ensures { IfOk result (λ v. IsVerdict (Holds (Two instance.now) (map line_of lines.now))
+        first_line v) }
 {
     match head_in(lines) {
-        Some(head) => judge_head(alloc, instance, firsts, head, lines, first_line),
+        Some(head) => judge_head(alloc, instance, counts, head, lines, first_line),
         None => Ok(Verdict::Yes),
     }
 }
 
-// What an answer answers.
+/// What an answer answers.
 fn head_in(lines: &[Line]) -> Option<&Head>
     ensures { option_map (λ head. head_of head.now) result ≡ first_head (map line_of lines.now) }
 {
@@ -147,53 +164,56 @@ fn head_in(lines: &[Line]) -> Option<&Head>
     }
 }
 
-// The verdict on an answer with this head. An answer that can't be checked has no clauses.
+/// The verdict on an answer with this head. An answer that can't be checked has no clauses.
 fn judge_head(
     alloc: Global,
     instance: &Instance,
-    firsts: &[u32],
+    counts: &SeatCounts,
     head: &Head,
     lines: &[Line],
     first_line: u32,
-) -> Result<Verdict, CertFault>
+) -> Result<Verdict, AllocError>
     requires few { first_line + length lines.now < 2 ^ 32 }
-    requires firsts { firsts.now ≡ first_seats_of instance.now }
-    requires own { (head : HeadData) → All (IsOwnLine (answer instance.now head)) (map line_of lines.now) }
+    requires counts { AreCounts instance.now counts.now }
+    requires few_seats { AreFewSeats instance.now }
+    requires own { (head : HeadData) → All (IsOwnLine (answer instance.now head))
+        (map line_of lines.now) }
     requires placed { is_placed is_whole (Two instance.now) (map line_of lines.now) ≡ true }
     requires head { first_head (map line_of lines.now) ≡ Some (head_of head.now) }
-    ensures verdict { IfOk result (λ v. IsVerdict
-        (AtLine (Clauses (answer instance.now (head_of head.now))) (map line_of lines.now)) first_line v) }
-    ensures fault { IfErr result (λ f. IsJudgeFault (Two instance.now) (map line_of lines.now) f) }
+    ensures { IfOk result (λ v. IsVerdict
+        (AtLine (Clauses (answer instance.now (head_of head.now))) (map line_of lines.now))
+        first_line v) }
 {
+    let firsts = counts.firsts.as_slice();
     match head {
         Head::Solve(Some(side)) => {
-            let seats = Seats::of(alloc, instance)?;
-            Ok(solve_verdict(alloc, instance, &seats, *side, lines, first_line)?)
+            let seats = Seats::counted(alloc, instance, counts)?;
+            solve_verdict(alloc, instance, &seats, *side, lines, first_line)
         }
         Head::Reduced => {
-            let seats = Seats::of(alloc, instance)?;
-            Ok(reduced_verdict(alloc, instance, &seats, firsts, lines, first_line)?)
+            let seats = Seats::counted(alloc, instance, counts)?;
+            reduced_verdict(alloc, instance, &seats, firsts, lines, first_line)
         }
         Head::Rotations => {
-            let seats = Seats::of(alloc, instance)?;
-            Ok(rotations_verdict(alloc, instance, &seats, firsts, lines, first_line)?)
+            let seats = Seats::counted(alloc, instance, counts)?;
+            rotations_verdict(alloc, instance, &seats, firsts, lines, first_line)
         }
         Head::List(after, limit) => {
             let after = after.as_deref();
-            Ok(list_verdict(alloc, instance, after, *limit, lines, first_line)?)
+            list_verdict(alloc, instance, after, *limit, lines, first_line)
         }
-        Head::Regret => Ok(regret_verdict(alloc, instance, lines, first_line)?),
+        Head::Regret => regret_verdict(alloc, instance, lines, first_line),
         Head::Weight(by) => {
-            let seats = Seats::of(alloc, instance)?;
+            let seats = Seats::counted(alloc, instance, counts)?;
             let weighed = Weighed {
                 instance,
                 seats: &seats,
                 by: *by,
             };
-            Ok(weight_verdict(alloc, &weighed, firsts, lines, first_line)?)
+            weight_verdict(alloc, &weighed, firsts, lines, first_line)
         }
-        Head::Meet => Ok(chosen_verdict(alloc, instance, Choice::Better, lines, first_line)?),
-        Head::Join => Ok(chosen_verdict(alloc, instance, Choice::Worse, lines, first_line)?),
+        Head::Meet => chosen_verdict(alloc, instance, Choice::Better, lines, first_line),
+        Head::Join => chosen_verdict(alloc, instance, Choice::Worse, lines, first_line),
         Head::Solve(None) => Ok(Verdict::Yes),
         Head::Pairs => Ok(Verdict::Yes),
         Head::Survey(_) => Ok(Verdict::Yes),
@@ -201,7 +221,7 @@ fn judge_head(
     }
 }
 
-// The verdict on an answer over roommates.
+/// The verdict on an answer over roommates.
 fn judge_room(
     alloc: Global,
     persons: &Persons,
@@ -211,7 +231,8 @@ fn judge_room(
     requires few { first_line + length lines.now < 2 ^ 32 }
     requires couples { All (IsOwnLine (couples persons.now)) (map line_of lines.now) }
     requires parties { All (IsOwnLine (parties persons.now)) (map line_of lines.now) }
-    ensures { IfOk result (λ v. IsVerdict (Holds (Room persons.now) (map line_of lines.now)) first_line v) }
+    ensures { IfOk result (λ v. IsVerdict (Holds (Room persons.now) (map line_of lines.now))
+        first_line v) }
 {
     if says_none(lines) {
         return parties_verdict(alloc, persons, lines, first_line);
@@ -219,7 +240,7 @@ fn judge_room(
     couples_verdict(alloc, persons, lines, first_line)
 }
 
-// Whether an answer over roommates says that there is no stable matching.
+/// Whether an answer over roommates says that there is no stable matching.
 fn says_none(lines: &[Line]) -> bool
     ensures { result ≡ says_none (map line_of lines.now) }
 {

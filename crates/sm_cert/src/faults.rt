@@ -6,10 +6,10 @@ use std::alloc::AllocError;
 /// Why no verdict is given on a text.
 #[derive(Clone, Copy, Debug, PartialEq, Eq)]
 pub enum CertFault {
-    /// The first reviewer, in the order of the file, with whom the seats' lists have more than 1,048,576 entries.
+    /// The first reviewer, from 0 in the order of the file, with whom the seats' lists have more than 1,048,576 entries.
     TooManySeats(u32),
-    /// The first line that isn't of an answer's form where it stands, or the one behind the last where the closing line is
-    /// missing.
+    /// The first line, from the number that the first one was given, that isn't of an answer's form where it stands, or the
+    /// one behind the last where the closing line is missing.
     BadAnswer(u32),
     /// Memory ran out. Nothing is said of the text.
     OutOfMemory,

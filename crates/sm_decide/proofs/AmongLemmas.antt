@@ -13,6 +13,7 @@ place_in xs x w = place_on-lt xs x w.0 w.1 (sym (get_or_default xs w.0 x 0 w.1) 
 contains_at : (xs : List ℕ) (x k : ℕ) → k < length xs → slice_index xs k ≡ x → Contains xs x
 contains_at xs x k less e = (k, less, get_or_default xs k x 0 less ∙ e)
 
+-- no number comes twice on a list
 pub record AreApart (xs : List ℕ) : Type 0 where
   pub apart : (i j : ℕ) → i < j → j < length xs → slice_index xs i ≢ slice_index xs j
 
@@ -53,6 +54,7 @@ all_among xs ys d among few y w = elim (lt_or_le (place_on xs y) (length xs)) [
 pub as_many : (xs ys : List ℕ) → AreApart xs → AreApart ys → ((i : ℕ) → i < length xs → Contains ys (slice_index xs i)) → ((i : ℕ) → i < length ys → Contains xs (slice_index ys i)) → length xs ≡ length ys
 as_many xs ys d e there back = let one = no_more xs ys d there in let two = no_more ys xs e back in omega arith
 
+-- numbers that rise don't come twice
 pub apart_rising : {xs : List ℕ} → ((a b : ℕ) → a < b → b < length xs → slice_index xs a < slice_index xs b) → AreApart xs
 apart_rising rising = record { apart = λ i j less inside e. omega (arith, rising i j less inside) }
 
@@ -66,5 +68,6 @@ rising_more xs a rising step x y less inside = elim (eq_or_ne y a) [
   ])
 ]
 
+-- one more of the first numbers is among the others
 pub among_more : (xs ys : List ℕ) (a : ℕ) → ((x : ℕ) → x < a → Contains ys (slice_index xs x)) → Contains ys (slice_index xs a) → (x : ℕ) → x < a + 1 → Contains ys (slice_index xs x)
 among_more xs ys a among new x less = elim (eq_or_ne x a) [ inl e ↦ rw e new | inr ne ↦ among x (omega arith) ]

@@ -3,7 +3,7 @@ use Rattle.std.proofs.Common.{◌≡◌, ◌≢◌, ℕ, ◌+◌, ◌-◌, ◌<�
 use Rattle.std.specs.List.{Contains}
 use Rattle.std.proofs.lemmas.List.{length_push, get_or_default}
 use Rattle.std.proofs.lemmas.Option.{same_Some}
-use Rattle.sm_market.specs.Lists.{Lists, row, entry, place_of, IsMarket}
+use Rattle.sm_market.specs.Lists.{Lists, entry, place_of, IsMarket}
 use Rattle.sm_market.specs.Matching.{Places, standing, IsMatching}
 use Rattle.sm_lists.proofs.Counting.{eq_or_ne}
 use Rattle.sm_lists.proofs.PlaceLemmas.{entry-place_of}
@@ -20,10 +20,7 @@ use Rattle.sm_theory.proofs.Chains.Marking.{adds_join, last_start, marks_start}
 use Rattle.sm_decide.proofs.AmongLemmas.{all_among, apart_rising, as_many}
 use Rattle.sm_decide.specs.Noting.{Noted, AreBelow, AreNoted}
 
--- what is below a number is below a greater one
-pub below_wider : {n k : ℕ} {last : List (Option ℕ)} {marks : List (List (Option ℕ))} → AreBelow n last marks → n ≤ k → AreBelow k last marks
-below_wider b le = record { noted = λ p i e. omega (arith, b.noted p i e); marked = λ p x i e. omega (arith, b.marked p x i e) }
-
+-- what is noted and marked after one more rotation is below the next number
 pub below_noted : {l : Lists} {rotation : List (ℕ × ℕ)} {n k j : ℕ} {last last' : List (Option ℕ)} {marks marks' : List (List (Option ℕ))}
     → AreBelow j last marks → AreMoved rotation n j last last' → AreMarked l rotation k j marks marks' → AreBelow (j + 1) last' marks'
 below_noted {j = j} b v m = record {
@@ -44,6 +41,7 @@ module _ {l : Lists} {rotation : List (ℕ × ℕ)} {notes : List (Option ℕ)} 
   found_wider (inr w) = inr (record { pair = w.pair; pair_in = omega (arith, w.pair_in); between = w.between })
 
   module _ (p from to : ℕ) (is : p ≡ proposer_at rotation n) (from_is : from ≡ place_of l.proposers p (reviewer_at rotation n)) (to_is : to ≡ place_of l.proposers p (target_at rotation n)) where
+    -- what is found for one more pair: the note of its proposer, and the marks between the places of its move
     pub found_more : {xs ys zs ws : List ℕ} → Adds (λ i. IsFound l rotation n notes marks i) xs ys → Adds (λ i. note_of notes p ≡ Some i) ys zs → Adds (λ i. IsBetween (marks_of marks p) from to i) zs ws
         → Adds (λ i. IsFound l rotation (n + 1) notes marks i) xs ws
     found_more a b c = adds_join (λ i. IsFound l rotation (n + 1) notes marks i)
@@ -86,6 +84,7 @@ marks_longer {l} {rotations} rotation {n} le a = record {
 
 -- one more rotation in the chain
 module _ {l : Lists} {first : Places} {rotations : List (List (ℕ × ℕ))} (rotation : List (ℕ × ℕ)) where
+  -- one that is exposed where the chain leads can be eliminated behind it
   pub eliminable_more : {m : Places} → AreEliminable l first rotations → m ≡ stage l first rotations (length rotations) → IsExposed l m rotation → AreEliminable l first (rotations ++ rotation ∷ [])
   eliminable_more {m} chain is x = record {
     exposed = λ k less. elim (eq_or_ne k (length rotations)) [
@@ -99,6 +98,7 @@ module _ {l : Lists} {first : Places} {rotations : List (List (ℕ × ℕ))} (ro
 
   module _ (h : IsMarket l) {m : Places} {last last' : List (Option ℕ)} {marks marks' : List (List (Option ℕ))} {most j most' j' : ℕ} {old found : List ℕ}
       (a : AreNoted l first rotations (record { most = most; count = j; last = last; marks = marks; found = old })) (is : m ≡ stage l first rotations (length rotations)) (x : IsExposed l m rotation) where
+    -- one more rotation is noted, and it is found what it needs
     pub noted_more : AreMoved rotation (length rotation) j last last' → AreMarked l rotation (length rotation) j marks marks' → Adds (λ i. IsFound l rotation (length rotation) last marks i) [] found → j' ≡ j + 1
         → AreNoted l first (rotations ++ rotation ∷ []) (record { most = most'; count = j'; last = last'; marks = marks'; found = found })
     noted_more moved marked adds count =
@@ -126,24 +126,22 @@ module _ {l : Lists} {first : Places} {rotations : List (List (ℕ × ℕ))} (ro
 
 -- the place to which a proposer of an exposed rotation moves, and what it means for the next reviewer
 module _ {l : Lists} (h : IsMarket l) {m : Places} (f : IsMatching l m) {rotation : List (ℕ × ℕ)} (x : IsExposed l m rotation) (i : ℕ) (inside : i < length rotation) where
+  -- the proposer's own place is that of the reviewer that it leaves
   pub from_is : standing l.proposers m.proposers (proposer_at rotation i) ≡ place_of l.proposers (proposer_at rotation i) (reviewer_at rotation i)
   from_is = sym ((exposed_of h f x).paired i inside).place_is
-
-  pub goes_behind : standing l.proposers m.proposers (proposer_at rotation i) < place_of l.proposers (proposer_at rotation i) (target_at rotation i)
-  goes_behind = (x.next i inside).behind
 
   next_pair : Pair (sides_of l h) (stand_of l m) (proposer_at rotation (next_in rotation i)) (target_at rotation i)
   next_pair = (exposed_of h f x).paired (turn (length rotation) i) (turn_in (length rotation) i inside)
 
+  -- the place of the next reviewer in the matching is that of the next proposer on its list
   pub worse_is : standing l.reviewers m.reviewers (target_at rotation i) ≡ place_of l.reviewers (target_at rotation i) (proposer_at rotation (next_in rotation i))
   worse_is = sym next_pair.rank_is
 
-  pub worse_on : standing l.reviewers m.reviewers (target_at rotation i) ≤ length (row l.reviewers (target_at rotation i))
-  worse_on = omega (arith, next_pair.matched')
-
+  -- the next reviewer likes the proposer more than its partner
   pub gains : place_of l.reviewers (target_at rotation i) (proposer_at rotation i) < standing l.reviewers m.reviewers (target_at rotation i)
   gains = ((exposed_of h f x).next i inside).takes
 
+  -- the next reviewer stands on the proposer's list, at the place to which it moves
   pub lands_on : entry l.proposers (proposer_at rotation i) (place_of l.proposers (proposer_at rotation i) (target_at rotation i)) ≡ target_at rotation i
   lands_on = entry-place_of l.proposers (proposer_at rotation i) (target_at rotation i) (x.next i inside).on_list
 
@@ -162,6 +160,7 @@ noted_none {last = last} most f for_entries unmarked unnoted = record {
 
 -- which numbers are the needs of the newest rotation
 module _ {l : Lists} {first : Places} {rotations : List (List (ℕ × ℕ))} {n : Noted} (a : AreNoted l first rotations n) where
+  -- numbers that rise, were found, and are as many as those that were found
   pub needs_of_found : (needs : List ℕ) → ((x y : ℕ) → x < y → y < length needs → slice_index needs x < slice_index needs y) → ((x : ℕ) → x < length needs → Contains n.found (slice_index needs x)) → length needs ≡ length n.found
       → AreNeedsOf l rotations (length rotations - 1) needs
   needs_of_found needs rising among as_long = record {
@@ -171,9 +170,11 @@ module _ {l : Lists} {first : Places} {rotations : List (List (ℕ × ℕ))} {n 
     all = λ i less need. all_among needs n.found (apart_rising rising) among (omega (arith, as_long)) i (a.all i less need);
   }
 
+  -- what the newest rotation needs has been found
   pub found_of_needs : {needs : List ℕ} → AreNeedsOf l rotations (length rotations - 1) needs → (x : ℕ) → x < length needs → Contains n.found (slice_index needs x)
   found_of_needs {needs} w x less = a.all (slice_index needs x) (w.sound x less) (w.each x less)
 
+  -- numbers that were found once each are as many as the needs of the newest rotation
   pub as_long_as : {needs : List ℕ} → AreNeedsOf l rotations (length rotations - 1) needs → ((x y : ℕ) → x < y → y < length n.found → slice_index n.found x ≢ slice_index n.found y) → length needs ≡ length n.found
   as_long_as {needs} w apart = as_many needs n.found (apart_rising w.rising) (record { apart = apart }) (found_of_needs w)
       (λ k less. let s = a.sound (slice_index n.found k) (k, less, get_or_default n.found k (slice_index n.found k) 0 less) in w.all (slice_index n.found k) s.0 s.1)

@@ -39,6 +39,7 @@ before_all {next} {before} b = record {
       (cases_lt (get_or before x 0) (length next));
 }
 
+-- a person's place in its party is on its list or just past it
 pub party_place-le : (rows : List (List ℕ)) (next : List ℕ) (x : ℕ) → party_place rows next x ≤ length (row rows x)
 party_place-le rows next x = go (eqb (predecessor_in next x) x)
   where
@@ -64,6 +65,7 @@ module _ {rows : List (List ℕ)} {next before : List ℕ} (p : ArePredecessors 
           u.unblocked x y h (rw ax first) (rw ay second);
     }
 
+    -- in a stable partition nobody blocks at these places
     pub partition_unblocked : IsStablePartition rows next → IsUnblockedAt rows standings
     partition_unblocked s = record {
       unblocked = λ x y h first second.

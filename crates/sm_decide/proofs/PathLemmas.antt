@@ -15,16 +15,7 @@ use Rattle.sm_theory.proofs.Chains.Holders.{holder_none, holder_some}
 use Rattle.sm_decide.specs.Exposure.{IsSafe, AreSafe, IsPath}
 use Rattle.sm_decide.proofs.SafeLemmas.{none_round, safe_before, safe_in_round}
 
--- a way begins, and goes on
-pub path_begins : {l : Lists} {m : Places} (items : List ℕ) (p : ℕ) → IsPath l m items (length items) p p
-path_begins items p = record {
-  start_in = omega arith;
-  empty = λ _. refl;
-  begins = λ less. absurd (omega arith);
-  next = λ k more less. absurd (omega arith);
-  last = λ k more less. absurd (omega arith);
-}
-
+-- a way goes on
 pub path_goes_on : {l : Lists} {m : Places} {items : List ℕ} {start p q next : ℕ} → IsPath l m items start p q → IsNext l m q next → IsPath l m (items ++ q ∷ []) start p next
 path_goes_on {l} {m} {items} {start} {p} {q} {next} w x = record {
   start_in = omega (arith, w.start_in, length_push items q);
@@ -62,12 +53,21 @@ module _ {l : Lists} {m : Paired} (h : IsMarket l) (made : IsPairingOf l m) (p i
     ]
   ]
 
+  -- the successor of p is the holder of this reviewer, and where nobody holds it p has none
   pub next_answer : (o : Option ℕ) → held m.holders (entry l.proposers p i) ≡ o → MatchOption o ((k : ℕ) → ¬ IsSuccessor l m.places p k) (λ q. IsNext l m.places p q)
   next_answer None e = none_else (holder_none made (entry l.proposers p i) e)
   next_answer (Some q) e =
       let w = holder_some made (entry l.proposers p i) q e in
       let x : IsSuccessor l m.places p i = record { on_list = on_list; behind = behind; takes = takes; first = passed; matched = w.matched } in
       record { target = entry l.proposers p i; next = successor_named l m.places p i (entry l.proposers p i) h x refl; has = w.has }
+
+-- the first behind p's partner that would take p is its successor, if it has one
+pub first_is : {l : Lists} {m : Places} {p i k : ℕ} → IsSuccessor l m p i → ((j : ℕ) → standing l.proposers m.proposers p < j → j < k → ¬ WouldTake l m p j)
+    → (k < length (row l.proposers p) → standing l.proposers m.proposers p < k) → (k < length (row l.proposers p) → WouldTake l m p k) → k ≡ i
+first_is {l} {m} {p} {i} {k} x passed behind takes = elim (less_same_more k i) [
+  | inl less ↦ let on : k < length (row l.proposers p) = omega (arith, x.on_list) in absurd (x.first k (behind on) less (takes on))
+  | inr d ↦ elim d [ inl same ↦ same | inr more ↦ absurd (passed i x.behind more x.takes) ]
+]
 
 -- what was safe before stays so
 pub before_pushed : {l : Lists} {m : Places} {items : List ℕ} {start p q bound : ℕ} → IsPath l m items start p q → ((k : ℕ) → k < start → IsSafe l m bound (slice_index items k)) → (k : ℕ) → k < start → IsSafe l m bound (slice_index (items ++ q ∷ []) k)
@@ -95,6 +95,7 @@ module _ {l : Lists} (h : IsMarket l) {m : Places} (f : IsMatching l m) {items :
   pub all_safe : {bound : ℕ} → ((k : ℕ) → k < start → IsSafe l m bound (slice_index items k)) → IsSafe l m bound q → AreSafe l m bound items
   all_safe before safe = record { safe = λ k less. elim (lt_or_le k start) [ inl early ↦ before k early | inr more ↦ path_safe safe k more less ] }
 
+  -- and all of the trail are safe with the end of the way put on it
   pub all_pushed : {bound : ℕ} → ((k : ℕ) → k < start → IsSafe l m bound (slice_index items k)) → IsSafe l m bound q → AreSafe l m bound (items ++ q ∷ [])
   all_pushed {bound} before safe = record {
     safe = λ k less. elim (eq_or_ne k (length items)) [
@@ -148,6 +149,7 @@ module _ {l : Lists} (h : IsMarket l) {m : Places} (f : IsMatching l m) {items :
         let first : slice_index items (spot + 0) ≡ q = ap (slice_index items) (omega arith) ∙ there in
         rw first at (safe_in_round h f exposed (λ i inside. all (spot + i) (omega arith) (omega arith)) 0 (omega arith))
 
+    -- where no exposed rotation has a proposer below the bound, nobody on the round is below it
     pub round_below : {bound : ℕ} → IsNoneBelow l m bound → (k : ℕ) → spot ≤ k → k < length items → bound ≤ slice_index items k
     round_below {bound} none k after inside =
         let here : spot + (k - spot) ≡ k = omega arith in

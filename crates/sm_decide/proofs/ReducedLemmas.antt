@@ -38,9 +38,11 @@ module _ {test : ℕ → Bool} {xs list : List ℕ} {place next : ℕ} (w : IsSa
     taken : test x ≡ true → filter test (drop place xs) ≡ x ∷ filter test (drop (place + 1) xs)
     taken passes = rest_of test xs place x less is ∙ ap (λ t. cond t (x ∷ filter test (drop (place + 1) xs)) (filter test (drop (place + 1) xs))) passes
 
+    -- where it fails, the comparison goes on behind it
     pub same_passes : test x ≡ false → IsSameFrom test xs list (place + 1) next
     same_passes fails = record { within = w.within; forth = λ e. w.forth e ∙ passed_by fails; back = λ e. w.back (e ∙ sym (passed_by fails)) }
 
+    -- where it passes and stands on the list as well, the comparison goes on behind both
     pub same_keeps : test x ≡ true → next < length list → slice_index list next ≡ x → IsSameFrom test xs list (place + 1) (next + 1)
     same_keeps passes inside there = record {
       within = omega arith;
@@ -71,6 +73,7 @@ module _ {test : ℕ → Bool} {xs list : List ℕ} {place next : ℕ} (w : IsSa
       none : filter test (drop place xs) ≡ []
       none = ap (filter test) (drop_of_length-le xs past)
 
+-- at the beginning all is still to be compared
 pub same_begins : (test : ℕ → Bool) (xs list : List ℕ) → IsSameFrom test xs list 0 0
 same_begins test xs list = record { within = omega arith; forth = λ e. e; back = λ e. e }
 

@@ -67,6 +67,7 @@ unblocked_step {rows} standings x none y h first second =
     let there = entry-place_of rows x y h.listed in
     none (place_of rows x y) first (rw there (record { acceptable = h; gains = second }))
 
+-- a person that stands before the place of another one and likes it more blocks with it
 pub blocked : {rows : List (List ℕ)} {standings : List ℕ} (x i : ℕ) → LikesMore rows standings x (entry rows x i) → i < get_or standings x 0 → ¬ IsUnblockedAt rows standings
 blocked {rows} x i w lower u =
     let le = place_on-le-at (row rows x) (entry rows x i) i refl in
@@ -87,6 +88,7 @@ standings_at {rows} {standings} f long is le = record {
       (cases_lt x (length rows));
 }
 
+-- the place of a mate is on the person's list or just past it
 pub mate_place-le : (rows : List (List ℕ)) (x : ℕ) (mate : Option ℕ) → place_of_mate rows x mate ≤ length (row rows x)
 mate_place-le rows x None = omega arith
 mate_place-le rows x (Some y) = place_of-le rows x y

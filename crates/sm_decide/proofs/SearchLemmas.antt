@@ -6,6 +6,7 @@ use Rattle.sm_theory.proofs.Core.Rotation.{never_up, never_worse}
 use Rattle.sm_theory.proofs.Bridge.Rotation.{exposed_of, elim_of}
 use Rattle.sm_decide.specs.Laws.{SearchGoesOn}
 
+-- what the search has passed would not take p later either, as reviewers only gain by an elimination
 pub search_goes_on : SearchGoesOn
 search_goes_on l m rotation from h s x w = record {
   one_each = w.one_each;

@@ -72,8 +72,10 @@ module _ {order spots : List ℕ} {count : ℕ} (w : IsKeptTrail order spots cou
   new_to_it : ¬ Contains (take count order) p
   new_to_it has = let items : take count order ≡ t.items = ap (λ (t : Trail). t.items) e in new (rw items at has)
 
+  -- there is room for one more number
   pub room_of : count < length order
   room_of = room w below_it new_to_it
 
+  -- the trail is kept with that number put on it
   pub kept_of : IsKeptTrail (set order count p) (set spots p count) (count + 1)
   kept_of = kept_on w below_it new_to_it

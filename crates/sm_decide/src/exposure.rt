@@ -85,7 +85,8 @@ impl Search {
         requires made { IsPairingOf market.now m.now }
         requires search { IsSearchAt market.now m.now.places self.old }
         ensures search { IsSearchAt market.now m.now.places self.new }
-        ensures decided { IsTrue result ↔ IsLowestExposed market.now m.now.places rotation.now.pairs.items }
+        ensures decided { IsTrue result
+            ↔ IsLowestExposed market.now m.now.places rotation.now.pairs.items }
     {
         if !is_exposed(market, m, rotation) {
             return false;
@@ -151,7 +152,8 @@ fn is_safe(
 
 /// Whether no proposer on a trail from a spot on is below the bound.
 fn none_is_below(trail: &Trail, from: u32, bound: u32) -> bool
-    ensures { IsTrue result ↔ ((k : ℕ) → from ≤ k → k < length trail.now.items → bound ≤ slice_index trail.now.items k) }
+    ensures { IsTrue result ↔ ((k : ℕ) → from ≤ k → k < length trail.now.items → bound
+        ≤ slice_index trail.now.items k) }
 {
     for k in from..trail.len() {
         if trail.at(k) < bound {
@@ -182,16 +184,19 @@ fn next_proposer(market: &Market, m: &Pairing, p: u32, from: &mut [u32]) -> Opti
 
 /// The first place behind `p`'s partner whose reviewer would take `p`, where there is none before the place `from`. The length
 /// of `p`'s list where there is none at all.
-fn first_taker(market: &Market, m: &Pairing, p: u32, from: u32) -> u32
+pub(crate) fn first_taker(market: &Market, m: &Pairing, p: u32, from: u32) -> u32
     requires in_range { p < length market.now.proposers }
     requires made { IsPairingOf market.now m.now }
-    requires passed { (i : ℕ) → standing market.now.proposers m.now.places.proposers p < i → i < from
+    requires passed { (i : ℕ) → standing market.now.proposers m.now.places.proposers p < i → i
+        < from
         → ¬ WouldTake market.now m.now.places p i }
-    ensures passed { (i : ℕ) → standing market.now.proposers m.now.places.proposers p < i → i < result
+    ensures passed { (i : ℕ) → standing market.now.proposers m.now.places.proposers p < i → i
+        < result
         → ¬ WouldTake market.now m.now.places p i }
     ensures behind { result < length (row market.now.proposers p)
         → standing market.now.proposers m.now.places.proposers p < result }
-    ensures takes { result < length (row market.now.proposers p) → WouldTake market.now m.now.places p result }
+    ensures takes { result < length (row market.now.proposers p)
+        → WouldTake market.now m.now.places p result }
 {
     let places = market.proposer_list(p).len() as u32;
     let behind = market.proposer_standing(m, p) + 1;

@@ -10,9 +10,10 @@ ghost use Rattle.sm_theory.specs.Marks.{marks_in, marks_of, note_of, mark_at, Is
 ghost use Rattle.sm_decide.specs.Noting.{IsNotesFor, AreNoted, AreBelow};
 ghost use Rattle.sm_decide.specs.Trails.{IsTrail};
 
+use crate::exposure::first_taker;
 use crate::trail::Trail;
 use sm_market::{Market, Pairing, next_in};
-use sm_theory::{Rotation, mark_span, no_marks, note_movers, successor};
+use sm_theory::{Rotation, mark_span, no_marks, note_movers};
 use std::alloc::{AllocError, Global};
 use std::marker::Model;
 
@@ -54,7 +55,8 @@ impl Notes {
     pub fn of(alloc: Global, market: &Market, most: u32) -> Result<Notes, AllocError>
         ensures notes { IfOk result (λ notes. IsNotesFor market.now notes) }
         ensures most { IfOk result (λ notes. notes.most ≡ most) }
-        ensures none { IfOk result (λ notes. (first : Places) → IsMatching market.now first → AreNoted market.now first [] notes) }
+        ensures none { IfOk result (λ notes. (first : Places) → IsMatching market.now first
+            → AreNoted market.now first [] notes) }
     {
         Ok(Notes {
             last: vec![in alloc; None; market.proposers() as usize]?,
@@ -75,7 +77,8 @@ impl Notes {
         requires room { self.old.count < self.old.most }
         ensures notes { IsNotesFor market.now self.new }
         ensures most { self.new.most ≡ self.old.most }
-        ensures noted { (first : Places) (rotations : List (List (ℕ × ℕ))) → AreNoted market.now first rotations self.old
+        ensures noted { (first : Places) (rotations : List (List (ℕ × ℕ)))
+            → AreNoted market.now first rotations self.old
             → m.now.places ≡ stage market.now first rotations (length rotations)
             → AreNoted market.now first (rotations ++ rotation.now.pairs.items ∷ []) self.new }
     {
@@ -93,7 +96,8 @@ impl Notes {
     /// Takes time in proportion to the numbers (Gusfield and Irving 1989, chapter 3, in a form of this project's own).
     pub fn are_needs(&self, needs: &[u32]) -> bool
         ensures { (l : Lists) (first : Places) (rotations : List (List (ℕ × ℕ)))
-            → AreNoted l first rotations self.now → IsTrue result ↔ AreNeedsOf l rotations (length rotations - 1) needs.now }
+            → AreNoted l first rotations self.now → IsTrue result
+            ↔ AreNeedsOf l rotations (length rotations - 1) needs.now }
     {
         needs.len() == self.found.len() as usize && are_rising_in(needs, &self.found)
     }
@@ -102,7 +106,8 @@ impl Notes {
 /// Whether numbers rise and are all on a trail.
 fn are_rising_in(needs: &[u32], found: &Trail) -> bool
     ensures { IsTrue result
-        ↔ (((a b : ℕ) → a < b → b < length needs.now → slice_index needs.now a < slice_index needs.now b)
+        ↔ (((a b : ℕ) → a < b → b < length needs.now → slice_index needs.now a
+        < slice_index needs.now b)
         × ((a : ℕ) → a < length needs.now → Contains found.now.items (slice_index needs.now a))) }
 {
     for a in 0..needs.len() {
@@ -143,7 +148,8 @@ fn find(
     requires for_entries { AreMarksFor market.now (marks_in marks.now) }
     requires below { AreBelow found.old.bound last.now (marks_in marks.now) }
     ensures bound { found.new.bound ≡ found.old.bound }
-    ensures found { Adds (λ i. IsFound market.now pairs.now (length pairs.now) last.now (marks_in marks.now) i) [] found.new.items }
+    ensures found { Adds (λ i. IsFound market.now pairs.now (length pairs.now) last.now
+        (marks_in marks.now) i) [] found.new.items }
 {
     found.clear();
     prove!(market.proposers() < 1 << 24);
@@ -194,7 +200,8 @@ fn mark_moves(
     requires made { IsPairingOf market.now m.now }
     requires exposed { IsExposed market.now m.now.places pairs.now }
     requires for_entries { AreMarksFor market.now (marks_in marks.old) }
-    ensures marked { AreMarked market.now pairs.now (length pairs.now) j (marks_in marks.old) (marks_in marks.new) }
+    ensures marked { AreMarked market.now pairs.now (length pairs.now) j (marks_in marks.old)
+        (marks_in marks.new) }
     ensures market { IsMarket market.now }
 {
     prove!(market.proposers() < 1 << 24);
@@ -212,11 +219,9 @@ pub fn place_behind(market: &Market, m: &Pairing, pairs: &[(u32, u32)], i: usize
     requires in_range { i < length pairs.now }
     requires made { IsPairingOf market.now m.now }
     requires exposed { IsExposed market.now m.now.places pairs.now }
-    ensures { result ≡ place_of market.now.proposers (proposer_at pairs.now i) (target_at pairs.now i) }
+    ensures { result ≡ place_of market.now.proposers (proposer_at pairs.now i)
+        (target_at pairs.now i) }
 {
     prove!(market.proposers() < 1 << 24);
-    let Some(place) = successor(market, m, pairs[i].0) else {
-        unreachable!()
-    };
-    place
+    first_taker(market, m, pairs[i].0, 0)
 }

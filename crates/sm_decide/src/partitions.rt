@@ -20,7 +20,8 @@ pub fn is_stable_partition(
     next: &[u32],
 ) -> Result<bool, AllocError>
     requires one_each { length next.now ≡ length lists.now }
-    requires in_range { (x : ℕ) → x < length lists.now → successor_in next.now x < length lists.now }
+    requires in_range { (x : ℕ) → x < length lists.now → successor_in next.now x
+        < length lists.now }
     ensures { IfOk result (λ stable. IsTrue stable ↔ IsStablePartition lists.now next.now) }
 {
     let _persons = lists.persons();
@@ -101,7 +102,8 @@ fn party_places(
 /// The place of a person's predecessor on its list; who is alone ranks itself last.
 fn party_place(lists: &RoomLists, x: u32, before: u32) -> u32
     requires { x < length lists.now }
-    ensures { result ≡ (if before == x then length (row lists.now x) else place_of lists.now x before) }
+    ensures { result ≡ (if before == x then length (row lists.now x) else place_of lists.now x
+        before) }
 {
     if before == x {
         lists.len(x)

@@ -23,7 +23,8 @@ pub fn is_reduced_proposer_list(
     requires first { IsPairingOf market.now first.now }
     requires last { IsPairingOf market.now last.now }
     ensures { IsTrue result
-        ↔ (list.now ≡ row (reduced_lists_of market.now first.now.places last.now.places).proposers p) }
+        ↔ (list.now ≡ row (reduced_lists_of market.now first.now.places last.now.places).proposers
+        p) }
 {
     let mut next = 0;
     for place in 0..market.proposer_len(p) {
@@ -51,7 +52,8 @@ pub fn is_reduced_reviewer_list(
     requires first { IsPairingOf market.now first.now }
     requires last { IsPairingOf market.now last.now }
     ensures { IsTrue result
-        ↔ (list.now ≡ row (reduced_lists_of market.now first.now.places last.now.places).reviewers r) }
+        ↔ (list.now ≡ row (reduced_lists_of market.now first.now.places last.now.places).reviewers
+        r) }
 {
     let mut next = 0;
     for place in 0..market.reviewer_len(r) {

@@ -6,6 +6,7 @@ use Rattle.sm_lists.specs.Rows.{row}
 use Rattle.sm_theory.specs.ClosedSets.{IsMember, IsClosed}
 use Rattle.sm_net.specs.CheckedNets.{NetParts, NeedsAreOf}
 
+-- a set that has all that its members need is closed
 pub closed_of : {l : Lists} {rotations : List (List (ℕ × ℕ))} {parts : NetParts} {set : List Bool} → NeedsAreOf l rotations parts → length set ≡ length parts.gains
     → ((j : ℕ) → j < length parts.gains → IsMember set j → (a : ℕ) → a < length (row parts.needs j) → IsMember set (slice_index (row parts.needs j) a)) → IsClosed l rotations set
 closed_of {set = set} n long keeps = record {

@@ -55,6 +55,7 @@ need_below n needs long below (suc k) (suc x) h =
       | inr past ↦ let none : row needs k ≡ [] = get_or_past needs k [] past in absurd (omega (arith, ap length none, less))
     ]
 
+-- the law that these edges lead between nodes
 pub edges_are_on_nodes : EdgesAreOnNodes
 edges_are_on_nodes l levels weights forced forbidden first rotations needs long below i j edge = elim edge [ inl u ↦ by_unbounded i j u | inr room ↦ by_room i j room ]
   where

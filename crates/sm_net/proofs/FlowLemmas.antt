@@ -61,6 +61,7 @@ from_summed {lines = lines} from i s all = record {
     both false true n = refl
     both false false n = refl
 
+-- and by the nodes from which lines lead to one node
 pub to_summed : {nodes : ℕ} {lines : List FlowLine} {sums : List ℕ} (to i : ℕ) → AreSummed nodes (λ v line. if line.from == v then carried_to to line else 0) lines i sums
     → length lines ≤ i → AreSums nodes (λ from. amount_on lines from to) sums
 unfolding carried_to

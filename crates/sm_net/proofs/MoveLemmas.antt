@@ -32,6 +32,7 @@ moves_have_weights l weights moves w on = record {
   to = λ i less. omega (arith, w.per_place _ (on i less).proposer, (on i less).to);
 }
 
+-- and so with levels
 pub moves_have_levels : MovesHaveLevels
 moves_have_levels l levels moves w on = record {
   proposers = λ i less. omega (arith, w.one_each, (on i less).proposer);

@@ -2,7 +2,7 @@
 use Rattle.std.proofs.Common.{◌≡◌, ℕ, suc, ◌<◌, ◌≤◌, ◌||◌, inl, inr, arith, refl, sym, ap, ◌∙◌, Bool, true, false, not, List, [], ◌∷◌, length, map, get_or, eqb-true, eq-eqb, ne_eqb, pos}
 use Rattle.std.specs.Prelude.{◌==◌, ◌&&◌, nat_lt, if◌then◌else◌}
 use Rattle.std.specs.List.{list_any, position_or_len, flat_map}
-use Rattle.std.proofs.lemmas.Bool.{lt-ltb, ltb-true}
+use Rattle.std.proofs.lemmas.Bool.{lt-ltb, ltb-true, and_from}
 use Rattle.std.proofs.lemmas.List.{length-map, get_or-map, get_or_past}
 use Rattle.std.proofs.lemmas.List.Folds.{list_any_at, list_any-append}
 use Rattle.std.proofs.lemmas.List.Sums.{position_or_len_is, fails_before_first, passes_at_first, prefix_len-le-length}
@@ -13,7 +13,7 @@ use Rattle.sm_theory.specs.Rotations.{proposer_at, reviewer_at, target_at, pair_
 use Rattle.sm_theory.specs.Chains.{rotation_at}
 use Rattle.sm_theory.specs.Weights.{gain_of}
 use Rattle.sm_theory.specs.Conditions.{level_at, has_level, moves_to, moves_off, entry_node, exit_node, forces, forbids, leads_to_need, rise_of, fall_of}
-use Rattle.sm_theory.proofs.Net.Tests.{and_parts, and_true, some_passes}
+use Rattle.sm_theory.proofs.Net.Tests.{and_parts, some_passes}
 use Rattle.sm_net.specs.declared.moves.Move.{Move}
 use Rattle.sm_net.specs.Moves.{move_at, AreMovesOf, AreMoves}
 use Rattle.sm_net.specs.Pairs.{has_pair}
@@ -42,11 +42,13 @@ same_first t s xs ys d e long same =
     most = prefix_len-le-length _ ys
 
 module _ {l : Lists} {rotation : List (ℕ × ℕ)} {moves : List Move} (m : AreMovesOf l rotation moves) (levels : List (List ℕ)) (p level : ℕ) where
+  -- the pair of a proposer in a rotation is the one that has it
   pub pair_is : (a : ℕ) → a < length rotation → proposer_at rotation a ≡ p → pair_of rotation p ≡ a
   pair_is a less e = position_or_len_is (λ (pair : ℕ × ℕ). pair.0 == p) rotation a (0, 0) (omega arith)
       (λ k few. ne_eqb (proposer_at rotation k) p (λ f. m.distinct k a few less (f ∙ sym e)))
       (λ _. eq-eqb (proposer_at rotation a) p e)
 
+  -- where a rotation moves a proposer, the pair that is looked for has it
   pub moved : pair_of rotation p < length rotation → proposer_at rotation (pair_of rotation p) ≡ p
   moved less = eqb-true _ p (passes_at_first (λ (pair : ℕ × ℕ). pair.0 == p) rotation (0, 0) less)
 
@@ -61,7 +63,7 @@ module _ {l : Lists} {rotation : List (ℕ × ℕ)} {moves : List Move} (m : Are
       let who : proposer_at rotation w.at ≡ p = sym one.proposer ∙ eqb-true _ p both.0 in
       let pair = pair_is w.at less who in
       let to : place_of l.proposers p (target_at rotation (pair_of rotation p)) ≡ (move_at moves w.at).to = (λ t. place_of l.proposers (sym who t) (target_at rotation (pair t))) ∙ sym one.to in
-      and_true _ _ (lt-ltb _ _ (omega (arith, pair, less))) ((λ t. level_at levels p (to t) == level) ∙ both.1))
+      and_from _ _ (lt-ltb _ _ (omega (arith, pair, less))) ((λ t. level_at levels p (to t) == level) ∙ both.1))
       (λ h.
       let both = and_parts (nat_lt (pair_of rotation p) (length rotation)) _ h in
       let less : pair_of rotation p < length rotation = ltb-true _ _ both.0 in
@@ -69,8 +71,9 @@ module _ {l : Lists} {rotation : List (ℕ × ℕ)} {moves : List Move} (m : Are
       let who = moved less in
       let to : (move_at moves (pair_of rotation p)).to ≡ place_of l.proposers p (target_at rotation (pair_of rotation p)) = one.to ∙ (λ t. place_of l.proposers (who t) (target_at rotation (pair_of rotation p))) in
       list_any_at (comes_to levels p level) moves (pair_of rotation p) (record { proposer = 0; from = 0; to = 0 }) (omega (arith, m.one_each, less))
-      (and_true _ _ (eq-eqb _ p (one.proposer ∙ who)) ((λ t. level_at levels p (to t) == level) ∙ both.1)))
+      (and_from _ _ (eq-eqb _ p (one.proposer ∙ who)) ((λ t. level_at levels p (to t) == level) ∙ both.1)))
 
+  -- and where p leaves the level
   pub go_is : some_go levels p level moves ≡ moves_off l levels p level rotation
   go_is = alike (some_go levels p level moves) (moves_off l levels p level rotation)
       (λ h.
@@ -82,7 +85,7 @@ module _ {l : Lists} {rotation : List (ℕ × ℕ)} {moves : List Move} (m : Are
       let pair = pair_is w.at less who in
       let from : place_of l.proposers p (reviewer_at rotation (pair_of rotation p)) ≡ (move_at moves w.at).from = (λ t. place_of l.proposers (sym who t) (reviewer_at rotation (pair t))) ∙ sym one.from in
       let to : place_of l.proposers p (target_at rotation (pair_of rotation p)) ≡ (move_at moves w.at).to = (λ t. place_of l.proposers (sym who t) (target_at rotation (pair t))) ∙ sym one.to in
-      and_true _ _ (lt-ltb _ _ (omega (arith, pair, less))) ((λ t. level_at levels p (from t) == level && not (level_at levels p (to t) == level)) ∙ both.1))
+      and_from _ _ (lt-ltb _ _ (omega (arith, pair, less))) ((λ t. level_at levels p (from t) == level && not (level_at levels p (to t) == level)) ∙ both.1))
       (λ h.
       let both = and_parts (nat_lt (pair_of rotation p) (length rotation)) _ h in
       let less : pair_of rotation p < length rotation = ltb-true _ _ both.0 in
@@ -91,7 +94,7 @@ module _ {l : Lists} {rotation : List (ℕ × ℕ)} {moves : List Move} (m : Are
       let from : (move_at moves (pair_of rotation p)).from ≡ place_of l.proposers p (reviewer_at rotation (pair_of rotation p)) = one.from ∙ (λ t. place_of l.proposers (who t) (reviewer_at rotation (pair_of rotation p))) in
       let to : (move_at moves (pair_of rotation p)).to ≡ place_of l.proposers p (target_at rotation (pair_of rotation p)) = one.to ∙ (λ t. place_of l.proposers (who t) (target_at rotation (pair_of rotation p))) in
       list_any_at (goes_off levels p level) moves (pair_of rotation p) (record { proposer = 0; from = 0; to = 0 }) (omega (arith, m.one_each, less))
-      (and_true _ _ (eq-eqb _ p (one.proposer ∙ who)) ((λ t. level_at levels p (from t) == level && not (level_at levels p (to t) == level)) ∙ both.1)))
+      (and_from _ _ (eq-eqb _ p (one.proposer ∙ who)) ((λ t. level_at levels p (from t) == level && not (level_at levels p (to t) == level)) ∙ both.1)))
 
 module _ {l : Lists} {rotations : List (List (ℕ × ℕ))} {rows : List (List Move)} (m : AreMoves l rotations rows) (levels : List (List ℕ)) (first : Places) where
   abbrev entry : ℕ → ℕ → ℕ
@@ -132,6 +135,7 @@ module _ {l : Lists} {rotations : List (List (ℕ × ℕ))} {rows : List (List M
           (λ t. entry_is c.0 c.1 t == i && exit_is c.0 c.1 t == j)
           ∙ (λ t. same_eq (entry_node l levels first rotations c.0 c.1) i t && same_eq (exit_node l levels rotations c.0 c.1) j t)
 
+-- the law that gains, needs and bonds make the net of gains, predecessors and conditions
 pub net_is : NetIsOf
 net_is l levels weights forced forbidden first rotations needs rows parts m h =
     (λ t. record {

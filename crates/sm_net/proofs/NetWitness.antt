@@ -31,6 +31,7 @@ second_is (suc zero) less = refl
 second_is (suc (suc zero)) less = refl
 second_is (suc (suc (suc i))) less = absurd (omega arith)
 
+-- these are the moves of the rotations of that chain
 pub moves_are : AreMoves three_cycle three_cycle_chain three_cycle_moves
 moves_are = record { one_each = refl; each = each }
   where
@@ -39,6 +40,7 @@ moves_are = record { one_each = refl; each = each }
     each (suc zero) less = record { one_each = refl; each = each_second; distinct = λ i j before few e. omega (arith, e, second_is i (omega arith), second_is j few) }
     each (suc (suc k)) less = absurd (omega arith)
 
+-- the last of the four lines has the ends of an earlier one, and the second has not
 pub last_is_repeated : LastIsRepeated
 last_is_repeated = (record { at = 0; earlier = omega arith; same = (refl, refl) }, (λ w. other w.at w.earlier w.same.0))
   where

@@ -4,10 +4,10 @@ use Rattle.std.proofs.lemmas.List.{get_or_default}
 use Rattle.std.specs.List.Sorted.{IsPartitionPoint, IsPartitionedBy}
 use Rattle.std.specs.Prelude.{◌==◌, ◌&&◌}
 use Rattle.std.specs.Ordering.{ordering_then}
-use Rattle.std.proofs.lemmas.Bool.{false≢true}
+use Rattle.std.proofs.lemmas.Bool.{false≢true, false_from_ne_true}
 use Rattle.std.proofs.lemmas.Cmp.{ranked, by_ranked}
 use Rattle.sm_lists.proofs.Counting.{eq_or_ne, lt_or_le}
-use Rattle.sm_theory.proofs.Net.Tests.{and_parts, some_passes, not_true}
+use Rattle.sm_theory.proofs.Net.Tests.{and_parts, some_passes}
 use Rattle.sm_net.specs.Pairs.{pair_at, has_pair, IsBelow, IsUpTo, AreOrdered, IsParted, IsFirstAt}
 
 -- what the order of pairs says
@@ -108,6 +108,7 @@ parted_before pairs i j o a b d le less t = elim (eq_or_ne a b) [
     up_at : (a b : ℕ) (d : ℕ × ℕ) → a < b → b < length pairs → IsUpTo (get_or pairs a d) (get_or pairs b d)
     up_at a b d few less = rw (get_or_default pairs a d (0, 0) (omega arith), get_or_default pairs b d (0, 0) less) (o.ordered a b few less)
 
+-- where the pairs part by this test, the first n come before this one and no other does
 pub parted_of : (pairs : List (ℕ × ℕ)) (i j n : ℕ) → n ≤ length pairs → IsPartitionPoint (λ y. comes_before i j y ≡ true) (λ y. comes_before i j y ≡ false) pairs n → IsParted pairs (i, j) n
 parted_of pairs i j n few point = record {
   few = few;
@@ -127,18 +128,18 @@ not_itself x i j e (inr a) = let f : x.1 ≡ j = (λ k. (e k).1) in omega (arith
 pub first_of : {pairs : List (ℕ × ℕ)} {i j k : ℕ} → IsParted pairs (i, j) k → (k < length pairs) × ((pair_at pairs k).0 ≡ i) × ((pair_at pairs k).1 ≡ j) → IsFirstAt pairs (i, j) k
 first_of {pairs} {i} {j} {k} p here = record { there = here.0; is = is_pair (pair_at pairs k) i j here.1 here.2; new = λ a few same. not_itself (pair_at pairs a) i j same (p.lower a few) }
 
--- a pair that isn't found there is none of them
-pub none_of : {pairs : List (ℕ × ℕ)} {i j k : ℕ} → AreOrdered pairs → IsParted pairs (i, j) k → ((k < length pairs) × ((pair_at pairs k).0 ≡ i) × ((pair_at pairs k).1 ≡ j) → ⊥) → has_pair pairs i j ≡ false
-none_of {pairs} {i} {j} {k} o p never = not_true (has_pair pairs i j) (λ has.
+-- a pair that is one of them stands there
+pub first_among : {pairs : List (ℕ × ℕ)} {i j k : ℕ} → AreOrdered pairs → IsParted pairs (i, j) k → has_pair pairs i j ≡ true → IsFirstAt pairs (i, j) k
+first_among {pairs} {i} {j} {k} o p has =
     let w = some_passes (λ (x : ℕ × ℕ). x.0 == i && x.1 == j) pairs (0, 0) has in
     let both = and_parts _ _ w.holds in
     let here : pair_at pairs w.at ≡ (i, j) = is_pair (pair_at pairs w.at) i j (eqb-true _ i both.0) (eqb-true _ j both.1) in
-    found w.at w.below here)
+    found w.at w.below here
   where
-    found : (a : ℕ) → a < length pairs → pair_at pairs a ≡ (i, j) → ⊥
+    found : (a : ℕ) → a < length pairs → pair_at pairs a ≡ (i, j) → IsFirstAt pairs (i, j) k
     found a less e = elim (lt_or_le a k) [
-      | inl before ↦ not_itself (pair_at pairs a) i j e (p.lower a before)
-      | inr behind ↦ let same : pair_at pairs k ≡ (i, j) = both_up (pair_at pairs k) (i, j) (up_to behind) (p.higher k (omega arith) (omega arith)) in never (omega arith, (λ t. (same t).0), (λ t. (same t).1))
+      | inl before ↦ absurd (not_itself (pair_at pairs a) i j e (p.lower a before))
+      | inr behind ↦ let same : pair_at pairs k ≡ (i, j) = both_up (pair_at pairs k) (i, j) (up_to behind) (p.higher k (omega arith) (omega arith)) in first_of p (omega arith, (λ t. (same t).0), (λ t. (same t).1))
     ]
       where
         up_to : k ≤ a → IsUpTo (pair_at pairs k) (i, j)
@@ -146,3 +147,7 @@ none_of {pairs} {i} {j} {k} o p never = not_true (has_pair pairs i j) (λ has.
           | inl same ↦ let is : pair_at pairs k ≡ (i, j) = ap (pair_at pairs) same ∙ e in inr ((λ t. (is t).0), (let f : (pair_at pairs k).1 ≡ j = (λ t. (is t).1) in omega arith))
           | inr ne ↦ subst (IsUpTo (pair_at pairs k)) e (o.ordered k a (omega arith) less)
         ]
+
+-- and one that isn't found there is none of them
+pub none_of : {pairs : List (ℕ × ℕ)} {i j k : ℕ} → AreOrdered pairs → IsParted pairs (i, j) k → ((k < length pairs) × ((pair_at pairs k).0 ≡ i) × ((pair_at pairs k).1 ≡ j) → ⊥) → has_pair pairs i j ≡ false
+none_of {pairs} {i} {j} o p never = false_from_ne_true (has_pair pairs i j) (λ has. let f = first_among o p has in never (f.there, (λ t. (f.is t).0), (λ t. (f.is t).1)))

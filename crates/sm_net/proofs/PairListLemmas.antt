@@ -2,18 +2,19 @@
 use Rattle.std.proofs.Common.{◌≡◌, ℕ, zero, suc, ◌<◌, ◌⊎◌, inl, inr, arith, refl, sym, ◌∙◌, subst, Bool, true, false, List, [], ◌∷◌, ◌++◌, length, get_or, eqb-true, eq-eqb}
 use Rattle.std.specs.Prelude.{◌==◌, ◌&&◌}
 use Rattle.std.specs.List.{flat_map}
-use Rattle.std.proofs.lemmas.Bool.{false≢true}
+use Rattle.std.proofs.lemmas.Bool.{false≢true, and_from, or_left, or_right}
 use Rattle.std.proofs.lemmas.List.Folds.{list_any-append}
 use Rattle.sm_lists.proofs.Counting.{eq_or_ne}
-use Rattle.sm_theory.proofs.Net.Tests.{and_parts, and_true, or_parts, or_left, or_right}
+use Rattle.sm_theory.proofs.Net.Tests.{and_parts, or_parts}
 use Rattle.sm_net.specs.Pairs.{has_pair}
 use Rattle.sm_net.specs.Residual.{pair_if, joined}
 
 -- one pair, where a test holds
 pub pair_if_has : (b : Bool) (x y i j : ℕ) → b ≡ true → x ≡ i → y ≡ j → has_pair (pair_if b x y) i j ≡ true
-pair_if_has true x y i j h a b = or_left _ false (and_true _ _ (eq-eqb x i a) (eq-eqb y j b))
+pair_if_has true x y i j h a b = or_left _ false (and_from _ _ (eq-eqb x i a) (eq-eqb y j b))
 pair_if_has false x y i j h a b = absurd (false≢true h)
 
+-- such a list has no other pair, and this one only where the test holds
 pub in_pair_if : (b : Bool) (x y i j : ℕ) → has_pair (pair_if b x y) i j ≡ true → (b ≡ true) × (x ≡ i) × (y ≡ j)
 in_pair_if true x y i j h = go (or_parts (x == i && y == j) false h)
   where
@@ -26,9 +27,11 @@ in_pair_if false x y i j h = absurd (false≢true h)
 pub in_either : (xs ys : List (ℕ × ℕ)) (i j : ℕ) → has_pair (xs ++ ys) i j ≡ true → (has_pair xs i j ≡ true) ⊎ (has_pair ys i j ≡ true)
 in_either xs ys i j h = or_parts _ _ (sym (list_any-append (λ (x : ℕ × ℕ). x.0 == i && x.1 == j) xs ys) ∙ h)
 
+-- the first list's pairs are among those of both
 pub left_has : (xs ys : List (ℕ × ℕ)) (i j : ℕ) → has_pair xs i j ≡ true → has_pair (xs ++ ys) i j ≡ true
 left_has xs ys i j h = list_any-append (λ (x : ℕ × ℕ). x.0 == i && x.1 == j) xs ys ∙ or_left _ _ h
 
+-- the second list's pairs are so too
 pub right_has : (xs ys : List (ℕ × ℕ)) (i j : ℕ) → has_pair ys i j ≡ true → has_pair (xs ++ ys) i j ≡ true
 right_has xs ys i j h = list_any-append (λ (x : ℕ × ℕ). x.0 == i && x.1 == j) xs ys ∙ or_right _ _ h
 
@@ -38,6 +41,7 @@ pub record IsInJoined (f : ℕ → List (ℕ × ℕ)) (n i j : ℕ) : Type 0 whe
   pub below : at < n
   pub has : has_pair (f at) i j ≡ true
 
+-- a pair of these is one of some list among them
 pub in_joined : (f : ℕ → List (ℕ × ℕ)) (n i j : ℕ) → has_pair (joined f n) i j ≡ true → IsInJoined f n i j
 in_joined f zero i j h = absurd (false≢true h)
 in_joined f (suc n) i j h = elim (in_either (joined f n) (f n) i j h) [
@@ -45,6 +49,7 @@ in_joined f (suc n) i j h = elim (in_either (joined f n) (f n) i j h) [
   | inr here ↦ record { at = n; below = omega arith; has = here }
 ]
 
+-- the pairs of each of them are there
 pub joined_has : (f : ℕ → List (ℕ × ℕ)) (n k i j : ℕ) → k < n → has_pair (f k) i j ≡ true → has_pair (joined f n) i j ≡ true
 joined_has f zero k i j less h = absurd (omega arith)
 joined_has f (suc n) k i j less h = elim (eq_or_ne k n) [
@@ -58,6 +63,7 @@ pub record IsInFlat {X : Type 0} (f : X → List (ℕ × ℕ)) (xs : List X) (d 
   pub below : at < length xs
   pub has : has_pair (f (get_or xs at d)) i j ≡ true
 
+-- a pair of these is one of some thing's list
 pub in_flat : {X : Type 0} (f : X → List (ℕ × ℕ)) (xs : List X) (d : X) (i j : ℕ) → has_pair (flat_map f xs) i j ≡ true → IsInFlat f xs d i j
 in_flat f [] d i j h = absurd (false≢true h)
 in_flat f (x ∷ xs) d i j h = elim (in_either (f x) (flat_map f xs) i j h) [
@@ -65,6 +71,7 @@ in_flat f (x ∷ xs) d i j h = elim (in_either (f x) (flat_map f xs) i j h) [
   | inr behind ↦ let w = in_flat f xs d i j behind in record { at = suc w.at; below = omega (arith, w.below); has = w.has }
 ]
 
+-- the pairs of each thing's list are there
 pub flat_has : {X : Type 0} (f : X → List (ℕ × ℕ)) (xs : List X) (d : X) (k i j : ℕ) → k < length xs → has_pair (f (get_or xs k d)) i j ≡ true → has_pair (flat_map f xs) i j ≡ true
 flat_has f [] d k i j less h = absurd (omega arith)
 flat_has f (x ∷ xs) d zero i j less h = left_has (f x) (flat_map f xs) i j h

@@ -4,10 +4,11 @@ use Rattle.std.specs.Prelude.{◌==◌, ◌&&◌}
 use Rattle.std.proofs.lemmas.List.{get_or_append_left, get_or_push, length_push, get_or_default}
 use Rattle.std.proofs.lemmas.List.Elements.{Contains-push, Contains-append_left}
 use Rattle.std.proofs.lemmas.List.Folds.{list_any_at}
+use Rattle.std.proofs.lemmas.Bool.{and_from}
 use Rattle.sm_lists.proofs.Counting.{eq_or_ne, lt_or_le}
 use Rattle.sm_theory.specs.Net.{IsPath, IsReachable}
 use Rattle.sm_theory.proofs.Net.Paths.{reach_on}
-use Rattle.sm_theory.proofs.Net.Tests.{and_parts, and_true, some_passes}
+use Rattle.sm_theory.proofs.Net.Tests.{and_parts, some_passes}
 use Rattle.sm_net.specs.Pairs.{pair_at, AreOrdered, IsParted}
 use Rattle.sm_decide.specs.Trails.{Trail}
 use Rattle.sm_net.specs.Reaching.{IsStepOf, GoesOn, IsReachedTrail}
@@ -17,7 +18,7 @@ contained items k less = (k, less, get_or_default items k (slice_index items k) 
 
 -- a pair at a place is a step
 pub step_at : (steps : List (ℕ × ℕ)) (k i : ℕ) → k < length steps → (pair_at steps k).0 ≡ i → IsStepOf steps i (pair_at steps k).1
-step_at steps k i less e = list_any_at (λ (x : ℕ × ℕ). x.0 == i && x.1 == (pair_at steps k).1) steps k (0, 0) less (and_true _ _ (eq-eqb _ i e) (eq-eqb _ _ refl))
+step_at steps k i less e = list_any_at (λ (x : ℕ × ℕ). x.0 == i && x.1 == (pair_at steps k).1) steps k (0, 0) less (and_from _ _ (eq-eqb _ i e) (eq-eqb _ _ refl))
 
 -- where the steps from one node are gone through, from the first of them to place k
 pub record IsGoing (steps : List (ℕ × ℕ)) (from start k : ℕ) (before after : Trail) : Type 0 where
@@ -122,6 +123,7 @@ pub record IsFollowing (bound : ℕ) (steps : List (ℕ × ℕ)) (trail : Trail)
 keeps : {steps : List (ℕ × ℕ)} {from : ℕ} {before after : Trail} → GoesOn steps from before after → (v : ℕ) → Contains before.items v → Contains after.items v
 keeps {after = after} g v c = subst (Contains after.items) (g.kept c.0 c.1 ∙ get_or_default _ c.0 0 v c.1 ∙ c.2) (contained after.items c.0 (omega (arith, g.longer, c.1)))
 
+-- the steps from one more node of the trail are followed
 pub following_on : {bound next : ℕ} {steps : List (ℕ × ℕ)} {before after : Trail} → IsFollowing bound steps before next → next < length before.items → GoesOn steps (slice_index before.items next) before after → IsFollowing bound steps after (next + 1)
 following_on {bound} {next} {steps} {before} {after} f less g = record {
   same_bound = g.same_bound ∙ f.same_bound;

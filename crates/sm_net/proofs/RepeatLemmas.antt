@@ -4,9 +4,9 @@ use Rattle.std.specs.Prelude.{◌==◌, ◌&&◌}
 use Rattle.std.specs.List.{All}
 use Rattle.std.proofs.lemmas.List.{length-map, length-set, length_push, get_or-map, get_or_append_left, get_or_push, get_or_default, get_or-take, length-take-le}
 use Rattle.std.proofs.lemmas.List.Folds.{list_any_at}
+use Rattle.std.proofs.lemmas.Bool.{and_from}
 use Rattle.sm_lists.proofs.Counting.{eq_or_ne, lt_or_le}
 use Rattle.sm_lists.proofs.ItemLemmas.{set_cases}
-use Rattle.sm_theory.proofs.Net.Tests.{and_true}
 use Rattle.sm_theory.specs.ClosedSets.{IsMember}
 use Rattle.sm_theory.specs.declared.flow_lines.FlowLine.{FlowLine}
 use Rattle.sm_theory.specs.FlowLines.{line_at, HaveSameEnds}
@@ -30,7 +30,7 @@ pub record AreMet (lines : List FlowLine) (ends : List (ℕ × ℕ)) (met repeat
 pub ends_in : (lines : List FlowLine) (j : ℕ) → j < length lines → has_pair (map ends_of lines) (line_at lines j).from (line_at lines j).to ≡ true
 ends_in lines j less =
     list_any_at (λ (x : ℕ × ℕ). x.0 == (line_at lines j).from && x.1 == (line_at lines j).to) (map ends_of lines) j (0, 0) (rw (length-map lines ends_of) less)
-    (and_true _ _ (eq-eqb _ _ (λ t. (here t).0)) (eq-eqb _ _ (λ t. (here t).1)))
+    (and_from _ _ (eq-eqb _ _ (λ t. (here t).0)) (eq-eqb _ _ (λ t. (here t).1)))
   where
     here : get_or (map ends_of lines) j (0, 0) ≡ ends_of (line_at lines j)
     here = get_or-map ends_of lines j (record { from = 0; to = 0; amount = 0 }) (0, 0) less
@@ -91,6 +91,7 @@ new_of {lines} a r less fresh k d few = λ same. fresh ((r.each a less).1 (recor
     early : k < a
     early = omega (arith, length-take-le a lines (omega arith), few)
 
+-- a line with other ends than all before it isn't repeated
 pub old_of : {lines : List FlowLine} {repeats : List Bool} (a : ℕ) → AreRepeats lines repeats → a < length lines → All (λ other. HaveSameEnds other (line_at lines a) → ⊥) (take a lines) → IsMember repeats a → ⊥
 old_of {lines} a r less all m =
     let w = (r.each a less).0 m in

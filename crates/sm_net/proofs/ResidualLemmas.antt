@@ -2,7 +2,7 @@
 use Rattle.std.proofs.Common.{◌≡◌, ◌≢◌, ℕ, zero, suc, ◌+◌, ◌<◌, ◌≤◌, ◌⊎◌, ◌↔◌, inl, inr, arith, refl, sym, ap, ◌∙◌, subst, Bool, true, not, List, [], ◌∷◌, ◌++◌, length, get_or, eqb-true, eq-eqb, ne_eqb, lt-ltb, le-ltb, Contains, pos}
 use Rattle.std.specs.Prelude.{◌==◌, ◌&&◌, nat_lt, if◌then◌else◌}
 use Rattle.std.specs.List.{list_any, sum_by}
-use Rattle.std.proofs.lemmas.Bool.{false≢true, ltb-true}
+use Rattle.std.proofs.lemmas.Bool.{false≢true, ltb-true, and_from, or_left, or_right}
 use Rattle.std.proofs.lemmas.List.{get_or_past}
 use Rattle.std.proofs.lemmas.List.Folds.{list_any_at}
 use Rattle.std.proofs.lemmas.List.Sums.{sum_by-cons, get_or-le-sum_by}
@@ -14,7 +14,7 @@ use Rattle.sm_theory.specs.Net.{Net, sink_of, room_of, IsUnbounded, IsPath}
 use Rattle.sm_theory.specs.Flows.{IsResidualStep, IsResidualReach}
 use Rattle.sm_theory.specs.declared.flow_lines.FlowLine.{FlowLine}
 use Rattle.sm_theory.specs.FlowLines.{line_at, amount_on, AreOnNodes}
-use Rattle.sm_theory.proofs.Net.Tests.{and_parts, and_true, or_parts, or_left, or_right, not_same, some_passes}
+use Rattle.sm_theory.proofs.Net.Tests.{and_parts, or_parts, not_same, some_passes}
 use Rattle.sm_net.specs.Pairs.{pair_at, has_pair}
 use Rattle.sm_net.specs.CheckedNets.{NetParts, net_in}
 use Rattle.sm_decide.specs.Trails.{Trail}
@@ -55,7 +55,7 @@ module _ (parts : NetParts) (lines : List FlowLine) where
       let whole = and_parts (not (suc j == 0)) _ m in
       let range = and_parts (nat_lt (suc j) (suc (sink_of net))) _ whole.1 in
       let ends = and_parts (not (i == suc j)) _ range.1 in
-      record { in_range = ltb-true _ _ range.0; step = inl (and_true _ _ ends.0 (and_true _ _ ends.1 (elim or [ inl a ↦ or_left _ _ a | inr b ↦ or_right (leads_to_need parts.needs i (suc j)) _ b ]))) }
+      record { in_range = ltb-true _ _ range.0; step = inl (and_from _ _ ends.0 (and_from _ _ ends.1 (elim or [ inl a ↦ or_left _ _ a | inr b ↦ or_right (leads_to_need parts.needs i (suc j)) _ b ]))) }
 
   from_need : (i j : ℕ) → has_pair (joined (need_steps net parts.needs) (length parts.needs)) i j ≡ true → Step i j
   from_need i j h =
@@ -176,7 +176,7 @@ module _ (parts : NetParts) (lines : List FlowLine) where
   unbounded_listed i (suc j) less u =
       let out = and_parts (not (i == suc j)) _ u in
       let through = and_parts (not (i == 0 && suc j == suc size)) _ out.1 in
-      let m : may_lead net i (suc j) ≡ true = and_true _ _ (not_same (suc j) 0 (λ e. omega (arith, e))) (and_true _ _ (lt-ltb _ _ less) (and_true _ _ out.0 through.0)) in
+      let m : may_lead net i (suc j) ≡ true = and_from _ _ (not_same (suc j) 0 (λ e. omega (arith, e))) (and_from _ _ (lt-ltb _ _ less) (and_from _ _ out.0 through.0)) in
       elim (or_parts (leads_to_need parts.needs i (suc j)) _ through.1) [ inl n ↦ need_listed i (suc j) m n | inr b ↦ bond_listed i (suc j) m b ]
 
   room_listed : (i j : ℕ) → i < suc (sink_of net) → amount_on lines i j < room_of net i j → Listed i j
@@ -241,6 +241,7 @@ module _ (parts : NetParts) (lines : List FlowLine) where
   ]
 
   module _ (steps : List (ℕ × ℕ)) (same : (i j : ℕ) → has_pair steps i j ≡ has_pair (residual_steps parts lines) i j) (on : AreOnNodes (size + 2) lines) where
+    -- the listed steps lead to nodes of the net
     pub steps_lead : (k : ℕ) → k < length steps → (pair_at steps k).1 < size + 2
     steps_lead k less =
         let i : ℕ = (pair_at steps k).0 in
@@ -256,6 +257,7 @@ module _ (parts : NetParts) (lines : List FlowLine) where
     back [] i j less w = w
     back (k ∷ path) i j less w = (same i k ∙ step_listed i k less w.0, back path k j w.0.in_range w.1)
 
+    -- a set is what is reached over residual steps exactly where it is what the trail of listed steps has
     pub reach_is : {trail : Trail} {set : List Bool} → IsReachedTrail (size + 2) steps trail → length set ≡ size
         → ((k : ℕ) → k < length set → IsMember set k ↔ Contains trail.items (k + 1)) ↔ IsResidualReach net (amount_on lines) set
     reach_is {trail} {set} r long = (

@@ -80,6 +80,7 @@ module _ (test : List Move → Bool) (rows : List (List Move)) where
       stays true = mark_elsewhere (suc m) sink (suc first) (λ e. omega (arith, e))
       stays false = refl
 
+  -- the node that is marked in the end is that of the first row which passes
   pub marks_first : (sink : ℕ) → sink ≡ length rows + 1 → marks at_row (length rows) sink sink ≡ suc first
   marks_first sink is = elim (lt_or_le first (length rows)) [
     | inl there ↦ once sink (length rows) (omega arith) there there
@@ -106,6 +107,7 @@ entries_are levels places rows {keys} {begun} {nodes} n sink all is b long m = r
     go i j true = marks_stay (λ k. some_come levels i j (row_of_moves rows k)) (length rows) sink 0 (λ e. omega (arith, e))
     go i j false = marks_first (some_come levels i j) rows sink (omega arith)
 
+-- and so with the nodes at which proposers leave levels
 pub exits_are : (levels : List (List ℕ)) (rows : List (List Move)) {keys : List (ℕ × ℕ)} {nodes : List ℕ} (begun : List ℕ) (n sink : ℕ) → n ≡ length rows → sink ≡ n + 1
     → length begun ≡ length keys → ((x : ℕ) → x < length keys → slice_index begun x ≡ sink) → length nodes ≡ length begun
     → ((x i j : ℕ) → IsFirstAt keys (i, j) x → slice_index nodes x ≡ marks (λ k. some_go levels i j (row_of_moves rows k)) n sink (slice_index begun x))
@@ -119,6 +121,7 @@ exits_are levels rows begun n sink count is each all long m = record {
 pub flat_more : (f : ℕ × ℕ → List (ℕ × ℕ)) (before pairs : List (ℕ × ℕ)) (n : ℕ) → n < length pairs → (before ++ flat_map f (take n pairs)) ++ f (pair_at pairs n) ≡ before ++ flat_map f (take (n + 1) pairs)
 flat_more f before pairs n less = flat_map_more f before (take n pairs) (pair_at pairs n) ∙ ap (λ xs. before ++ flat_map f xs) (sym (take_more pairs n (0, 0) less))
 
+-- keys that are the pairs of two lists have first numbers below n where both lists have
 pub first_below : {n : ℕ} (keys xs ys : List (ℕ × ℕ)) → ((i j : ℕ) → has_pair keys i j ≡ has_pair (xs ++ ys) i j) → AreFirstBelow n xs → AreFirstBelow n ys → AreFirstBelow n keys
 first_below {n} keys xs ys same a b c less = elim (in_either xs ys i j (sym (same i j) ∙ step_at keys c i less refl)) [
   | inl h ↦ below xs a h

@@ -8,6 +8,7 @@ use Rattle.sm_theory.specs.Chains.{AreNeedsOf}
 use Rattle.sm_theory.specs.Conditions.{rise_of, fall_of, leads_to_need}
 use Rattle.sm_net.specs.Pairs.{has_pair}
 
+-- the gain of rotation k
 abbrev pub gain_at : List ℤ → ℕ → ℤ
 gain_at gains k = slice_index_or gains k (pos 0)
 

@@ -29,5 +29,6 @@ EdgesAreOnNodes = (l : Lists) (levels : List (List ℕ)) (weights : List (List �
 abbrev pub MovesHaveWeights : Type 0
 MovesHaveWeights = (l : Lists) (weights : List (List ℤ)) (moves : List Move) → AreWeights l weights → AreOnLists l moves → HaveWeights weights moves
 
+-- where there are levels for all places of the lists, moves on them have levels
 abbrev pub MovesHaveLevels : Type 0
 MovesHaveLevels = (l : Lists) (levels : List (List ℕ)) (moves : List Move) → AreLevels l levels → AreOnLists l moves → HaveLevels levels moves

@@ -8,6 +8,7 @@ use Rattle.sm_theory.specs.Weights.{total, weight_at}
 use Rattle.sm_theory.specs.Sizes.{weights_of}
 use Rattle.sm_net.specs.declared.moves.Move.{Move}
 
+-- move i of these
 abbrev pub move_at : List Move → ℕ → Move
 move_at moves i = slice_index_or moves i (record { proposer = 0; from = 0; to = 0 })
 
@@ -23,6 +24,7 @@ pub record IsOnList (l : Lists) (step : Move) : Type 0 where
   pub from : step.from < length (row l.proposers step.proposer)
   pub to : step.to < length (row l.proposers step.proposer)
 
+-- each of these moves is on the lists
 abbrev pub AreOnLists : Lists → List Move → Type 0
 AreOnLists l moves = (i : ℕ) → i < length moves → IsOnList l (move_at moves i)
 
@@ -36,6 +38,7 @@ pub record AreMovesOf (l : Lists) (rotation : List (ℕ × ℕ)) (moves : List M
 abbrev pub moves_in : List (Vec Move Global) → List (List Move)
 moves_in vectors = map (λ v. v.items) vectors
 
+-- the moves of rotation k
 abbrev pub row_of_moves : List (List Move) → ℕ → List Move
 row_of_moves rows k = slice_index_or rows k []
 
@@ -54,5 +57,6 @@ pub record HaveWeights (weights : List (List ℤ)) (moves : List Move) : Type 0 
 abbrev pub move_gain : List (List ℤ) → Move → ℤ
 move_gain weights step = weight_at weights step.proposer step.to -ℤ weight_at weights step.proposer step.from
 
+-- what all these moves gain together
 abbrev pub moves_gain : List (List ℤ) → List Move → ℤ
 moves_gain weights moves = total (λ i. move_gain weights (move_at moves i)) (length moves)

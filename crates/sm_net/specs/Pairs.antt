@@ -3,6 +3,7 @@ use Rattle.std.specs.Prelude.{◌≡◌, ℕ, ◌<◌, ◌≤◌, ◌⊎◌, ◌
 use Rattle.std.specs.List.{list_any}
 use Rattle.sm_theory.specs.FlowLines.{AreEndsBefore}
 
+-- pair k of these
 abbrev pub pair_at : List (ℕ × ℕ) → ℕ → ℕ × ℕ
 pair_at pairs k = slice_index_or pairs k (0, 0)
 
@@ -14,6 +15,7 @@ has_pair pairs i j = list_any (λ pair. pair.0 == i && pair.1 == j) pairs
 abbrev pub IsBelow : ℕ × ℕ → ℕ × ℕ → Type 0
 IsBelow x y = AreEndsBefore x.0 x.1 y.0 y.1
 
+-- a pair comes before another or has the same numbers
 abbrev pub IsUpTo : ℕ × ℕ → ℕ × ℕ → Type 0
 IsUpTo x y = (x.0 < y.0) ⊎ ((x.0 ≡ y.0) × (x.1 ≤ y.1))
 

@@ -5,6 +5,7 @@ use Rattle.sm_theory.specs.Net.{IsReachable}
 use Rattle.sm_net.specs.Pairs.{pair_at, has_pair}
 use Rattle.sm_decide.specs.Trails.{Trail}
 
+-- one of the steps leads from the one node to the other
 abbrev pub IsStepOf : List (ℕ × ℕ) → ℕ → ℕ → Type 0
 IsStepOf steps i j = has_pair steps i j ≡ true
 

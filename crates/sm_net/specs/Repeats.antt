@@ -4,6 +4,7 @@ use Rattle.sm_theory.specs.ClosedSets.{IsMember}
 use Rattle.sm_theory.specs.declared.flow_lines.FlowLine.{FlowLine}
 use Rattle.sm_theory.specs.FlowLines.{line_at, HaveSameEnds}
 
+-- the nodes from which and to which a line leads
 abbrev pub ends_of : FlowLine → ℕ × ℕ
 ends_of line = (line.from, line.to)
 

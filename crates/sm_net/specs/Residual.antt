@@ -24,9 +24,11 @@ may_lead net i j = not (j == 0) && (nat_lt j (suc (sink_of net)) && (not (i == j
 abbrev pub need_steps_of : Net → ℕ → List ℕ → List (ℕ × ℕ)
 need_steps_of net k needs = flat_map (λ i. pair_if (may_lead net (k + 1) (i + 1)) (k + 1) (i + 1)) needs
 
+-- the steps from rotation k to what it needs
 abbrev pub need_steps : Net → List (List ℕ) → ℕ → List (ℕ × ℕ)
 need_steps net needs k = need_steps_of net k (row needs k)
 
+-- the steps along the bonds
 abbrev pub bond_steps : Net → List (ℕ × ℕ) → List (ℕ × ℕ)
 bond_steps net bonds = flat_map (λ bond. pair_if (may_lead net bond.0 bond.1) bond.0 bond.1) bonds
 
@@ -38,6 +40,7 @@ back_steps lines = flat_map (λ line. pair_if (nat_lt 0 line.amount) line.to lin
 abbrev pub supply_steps : Net → List FlowLine → ℕ → List (ℕ × ℕ)
 supply_steps net lines k = pair_if (nat_lt (amount_on lines 0 (k + 1)) (net.supply k)) 0 (k + 1)
 
+-- the step from rotation k to the sink, where the edge has room left
 abbrev pub drain_steps : Net → List FlowLine → ℕ → List (ℕ × ℕ)
 drain_steps net lines k = pair_if (nat_lt (amount_on lines (k + 1) (sink_of net)) (net.drain k)) (k + 1) (sink_of net)
 

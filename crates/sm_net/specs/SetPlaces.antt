@@ -15,6 +15,7 @@ abbrev pub lowered_by : ℕ → List Move → (n i : ℕ) → ℕ
 lowered_by p moves zero i = i
 lowered_by p moves (suc n) i = lowered p (move_at moves n) (lowered_by p moves n i)
 
+-- the worst for p among place i and those to which the members among the first n rotations move it
 abbrev pub worst_by : ℕ → List (List Move) → List Bool → (n i : ℕ) → ℕ
 worst_by p rows set zero i = i
 worst_by p rows set (suc n) i =

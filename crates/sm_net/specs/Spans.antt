@@ -13,6 +13,7 @@ use Rattle.sm_net.specs.Pairs.{pair_at, IsFirstAt}
 abbrev pub comes_to : List (List ℕ) → ℕ → ℕ → Move → Bool
 comes_to levels p level step = step.proposer == p && level_at levels p step.to == level
 
+-- a move leads p from a place of the level to one of another
 abbrev pub goes_off : List (List ℕ) → ℕ → ℕ → Move → Bool
 goes_off levels p level step = step.proposer == p && (level_at levels p step.from == level && not (level_at levels p step.to == level))
 
@@ -20,6 +21,7 @@ goes_off levels p level step = step.proposer == p && (level_at levels p step.fro
 abbrev pub some_come : List (List ℕ) → ℕ → ℕ → List Move → Bool
 some_come levels p level moves = list_any (comes_to levels p level) moves
 
+-- one of the moves leads p off the level
 abbrev pub some_go : List (List ℕ) → ℕ → ℕ → List Move → Bool
 some_go levels p level moves = list_any (goes_off levels p level) moves
 
@@ -27,6 +29,7 @@ some_go levels p level moves = list_any (goes_off levels p level) moves
 abbrev pub entry_by : List (List ℕ) → List (Option ℕ) → List (List Move) → ℕ → ℕ → ℕ
 entry_by levels first rows p level = if has_level levels p level (held first p) then 0 else suc (position_or_len (some_come levels p level) rows)
 
+-- the node at which p leaves the level: that of the first rotation which leads p off it, else the sink
 abbrev pub exit_by : List (List ℕ) → List (List Move) → ℕ → ℕ → ℕ
 exit_by levels rows p level = suc (position_or_len (some_go levels p level) rows)
 
@@ -34,9 +37,11 @@ exit_by levels rows p level = suc (position_or_len (some_go levels p level) rows
 abbrev pub forced_pairs : (entry exit : ℕ → ℕ → ℕ) → (sink : ℕ) → ℕ × ℕ → List (ℕ × ℕ)
 forced_pairs entry exit sink c = (0, entry c.0 c.1) ∷ (exit c.0 c.1, sink) ∷ []
 
+-- the edge of a forbidden pair of a proposer and a level
 abbrev pub forbidden_pairs : (entry exit : ℕ → ℕ → ℕ) → ℕ × ℕ → List (ℕ × ℕ)
 forbidden_pairs entry exit c = (entry c.0 c.1, exit c.0 c.1) ∷ []
 
+-- the bonds that the forced and the forbidden pairs ask for
 abbrev pub bonds_of : List (List ℕ) → List (Option ℕ) → List (List Move) → (forced forbidden : List (ℕ × ℕ)) → List (ℕ × ℕ)
 bonds_of levels first rows forced forbidden =
     flat_map (forced_pairs (entry_by levels first rows) (exit_by levels rows) (suc (length rows))) forced

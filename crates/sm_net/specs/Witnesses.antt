@@ -12,6 +12,7 @@ use Rattle.sm_net.specs.CheckedNets.{NetParts}
 use Rattle.sm_net.specs.Repeats.{IsRepeated}
 use Rattle.sm_net.specs.Residual.{residual_steps}
 
+-- a move of a proposer from one place to another
 abbrev pub step : (proposer from to : ℕ) → Move
 step proposer from to = record { proposer = proposer; from = from; to = to }
 
@@ -19,6 +20,7 @@ step proposer from to = record { proposer = proposer; from = from; to = to }
 abbrev pub three_cycle_moves : List (List Move)
 three_cycle_moves = (step 0 0 1 ∷ step 1 0 1 ∷ step 2 0 1 ∷ []) ∷ (step 0 1 2 ∷ step 1 1 2 ∷ step 2 1 2 ∷ []) ∷ []
 
+-- the gains 4 and -14 of the two rotations with what each needs, without bonds
 abbrev pub three_cycle_parts : NetParts
 three_cycle_parts = record { gains = pos 4 ∷ negsuc 13 ∷ []; needs = three_cycle_needs; bonds = [] }
 
@@ -40,5 +42,6 @@ WorkedSteps = residual_steps three_cycle_parts three_cycle_lines ≡ (2, 1) ∷ 
 abbrev pub four_lines : List FlowLine
 four_lines = three_cycle_lines ++ line 0 2 1 ∷ []
 
+-- the last of four lines is repeated, and the second is not
 abbrev pub LastIsRepeated : Type 0
 LastIsRepeated = IsRepeated four_lines 3 × (¬ IsRepeated four_lines 1)

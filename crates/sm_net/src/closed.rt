@@ -27,7 +27,8 @@ pub fn is_closed(net: &CheckedNet, set: &[bool]) -> bool
 /// Whether all of these are members.
 fn are_members(set: &[bool], numbers: &[u32]) -> bool
     requires { (a : ℕ) → a < length numbers.now → slice_index numbers.now a < length set.now }
-    ensures { IsTrue result ↔ ((a : ℕ) → a < length numbers.now → IsMember set.now (slice_index numbers.now a)) }
+    ensures { IsTrue result ↔ ((a : ℕ) → a < length numbers.now
+        → IsMember set.now (slice_index numbers.now a)) }
 {
     for &i in numbers {
         if !set[i as usize] {

@@ -21,7 +21,8 @@ pub fn amount_from_source(lines: &[FlowLine]) -> u128
     amount
 }
 
-/// Whether as much comes to each of so many inner nodes as leaves it. The ends of the lines are nodes.
+/// Whether as much comes to each of so many inner nodes as leaves it. The inner nodes are counted from 1, between node 0, the
+/// source, and the sink, and the ends of the lines are nodes.
 ///
 /// Takes time and memory in proportion to the nodes and lines.
 ///
@@ -42,7 +43,8 @@ pub fn is_conserved(alloc: Global, size: u32, lines: &[FlowLine]) -> Result<bool
 fn are_equal_inside(size: u32, come: &[u128], left: &[u128]) -> bool
     requires come { length come.now ≡ size + 2 }
     requires left { length left.now ≡ size + 2 }
-    ensures { IsTrue result ↔ ((k : ℕ) → k < size → slice_index come.now (k + 1) ≡ slice_index left.now (k + 1)) }
+    ensures { IsTrue result ↔ ((k : ℕ) → k < size → slice_index come.now (k + 1)
+        ≡ slice_index left.now (k + 1)) }
 {
     for k in 0..size as usize {
         if come[k + 1] != left[k + 1] {

@@ -16,8 +16,11 @@ use std::alloc::{AllocError, Global};
 /// That a rotation moves a proposer from one place of its list to another. Proposers and places are numbered from 0.
 #[derive(Debug, Clone, Copy, PartialEq, Eq)]
 pub struct Move {
+    /// The proposer that is moved.
     pub proposer: u32,
+    /// The place that it leaves.
     pub from: u32,
+    /// The place to which it comes.
     pub to: u32,
 }
 
@@ -37,7 +40,8 @@ pub fn moves_of(
 ) -> Result<Vec<Move>, AllocError>
     requires made { IsPairingOf market.now m.now }
     requires exposed { IsExposed market.now m.now.places rotation.now.pairs.items }
-    ensures moves { IfOk result (λ moves. AreMovesOf market.now rotation.now.pairs.items moves.items) }
+    ensures moves { IfOk result (λ moves. AreMovesOf market.now rotation.now.pairs.items
+        moves.items) }
     ensures on_lists { IfOk result (λ moves. AreOnLists market.now moves.items) }
 {
     let pairs = rotation.pairs.as_slice();

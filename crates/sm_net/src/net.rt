@@ -37,7 +37,8 @@ impl Model for CheckedNet {
 
 impl CheckedNet {
     /// The net of these gains, of the numbers of the rotations that each rotation needs, rising, and of further unbounded edges,
-    /// the bonds. Loops and edges from the source to the sink count for nothing.
+    /// the bonds. Rotations are counted from 0 in the needs, and a bond leads from one node to another. Loops and edges from the
+    /// source to the sink count for nothing.
     ///
     /// Takes time in proportion to the bonds and the logarithm of their number.
     pub fn of(gains: Vec<i64>, needs: Vec<Vec<u32>>, bonds: Vec<(u32, u32)>) -> CheckedNet
@@ -74,7 +75,8 @@ impl CheckedNet {
     pub fn needs(&self, k: u32) -> &[u32]
         requires { k < (net_in self.now).size }
         ensures needs { result.now ≡ row self.now.needs k }
-        ensures numbers { (a : ℕ) → a < length result.now → slice_index result.now a < (net_in self.now).size }
+        ensures numbers { (a : ℕ) → a < length result.now → slice_index result.now a
+            < (net_in self.now).size }
     {
         list_at(&self.needs, k)
     }
@@ -163,12 +165,14 @@ impl CheckedNet {
         !self.is_through(line.from, line.to) && self.has_edge(line.from, line.to)
     }
 
-    /// Whether a line is on an edge of the net that no line before it is on, where of each line it is known whether an earlier
-    /// one leads from the same node to the same node. Takes time as [`has_edge`](CheckedNet::has_edge) does.
+    /// Whether the line of this number, counted from 0, is on an edge of the net that no line before it is on, where of each line
+    /// it is known whether an earlier one leads from the same node to the same node. Takes time as
+    /// [`has_edge`](CheckedNet::has_edge) does.
     pub fn is_new_edge(&self, lines: &[FlowLine], repeats: &[bool], a: usize) -> bool
         requires in_range { a < length lines.now }
         requires repeats { AreRepeats lines.now repeats.now }
-        ensures { IsTrue result ↔ IsNewEdge (net_in self.now) (take a lines.now) (line_at lines.now a) }
+        ensures { IsTrue result ↔ IsNewEdge (net_in self.now) (take a lines.now)
+            (line_at lines.now a) }
     {
         !repeats[a] && self.is_on_edge(lines[a])
     }
@@ -199,7 +203,8 @@ impl CheckedNet {
     /// The room of the bounded edge by which a rotation is left out of a cut: the one to the sink where the rotation is in the
     /// set, and else the one from the source.
     fn room_out(&self, k: usize, is_member: bool) -> u64
-        ensures { result ≡ (if is_member then (net_in self.now).drain k else (net_in self.now).supply k) }
+        ensures { result ≡ (if is_member then (net_in self.now).drain k else
+            (net_in self.now).supply k) }
     {
         if is_member {
             self.drain(k)
@@ -223,12 +228,13 @@ fn rise_of(gain: i64) -> u64
     if gain > 0 { gain.unsigned_abs() } else { 0 }
 }
 
-/// Whether a rotation needs another, by their nodes.
+/// Whether a rotation needs another, by their nodes, of which the second one is not the source.
 fn leads_to_need(needs: &[Vec<u32>], from: u32, to: u32) -> bool
-    requires { AreRising (rows_of needs.now) }
+    requires rising { AreRising (rows_of needs.now) }
+    requires to { 0 < to }
     ensures { result ≡ leads_to_need (rows_of needs.now) from to }
 {
-    if from == 0 || to == 0 || from as usize > needs.len() {
+    if from == 0 || from as usize > needs.len() {
         return false;
     }
     has_number(list_at(needs, from - 1), to - 1)
@@ -236,7 +242,8 @@ fn leads_to_need(needs: &[Vec<u32>], from: u32, to: u32) -> bool
 
 /// Whether a number is one of these, which rise.
 fn has_number(numbers: &[u32], j: u32) -> bool
-    requires { (a b : ℕ) → a < b → b < length numbers.now → slice_index numbers.now a < slice_index numbers.now b }
+    requires { (a b : ℕ) → a < b → b < length numbers.now → slice_index numbers.now a
+        < slice_index numbers.now b }
     ensures { result ≡ list_any (λ i. i == j) numbers.now }
 {
     numbers.binary_search(&j).is_ok()

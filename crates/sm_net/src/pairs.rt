@@ -1,6 +1,6 @@
 //! Pairs of numbers in order.
 
-ghost use Rattle.std.specs.Prelude.{◌≡◌, ℕ, ◌<◌, ◌↔◌, length, IsTrue, MatchOption, false};
+ghost use Rattle.std.specs.Prelude.{◌≡◌, ℕ, ◌<◌, ◌↔◌, length, IsTrue, MatchOption, false, true};
 ghost use Rattle.sm_net.specs.Pairs.{pair_at, has_pair, IsBelow, AreOrdered, IsParted, IsFirstAt};
 
 use std::marker::Model;
@@ -65,7 +65,8 @@ impl Pairs {
 
     /// The first place at which a pair stands.
     pub(crate) fn place(&self, from: u32, to: u32) -> Option<usize>
-        ensures { MatchOption result (has_pair self.now from to ≡ false) (λ k. IsFirstAt self.now (from, to) k) }
+        ensures { MatchOption result (has_pair self.now from to ≡ false)
+            (λ k. IsFirstAt self.now (from, to) k) }
     {
         let k = self.before(from, to);
         if self.stands_at(k, from, to) {
@@ -75,9 +76,18 @@ impl Pairs {
         }
     }
 
+    /// The first place at which a pair stands that is one of these.
+    pub(crate) fn place_of(&self, from: u32, to: u32) -> usize
+        requires { has_pair self.now from to ≡ true }
+        ensures { IsFirstAt self.now (from, to) result }
+    {
+        self.before(from, to)
+    }
+
     /// Whether a pair stands at a place.
     fn stands_at(&self, k: usize, from: u32, to: u32) -> bool
-        ensures { IsTrue result ↔ ((k < length self.now) × ((pair_at self.now k).0 ≡ from) × ((pair_at self.now k).1 ≡ to)) }
+        ensures { IsTrue result ↔ ((k < length self.now) × ((pair_at self.now k).0 ≡ from)
+            × ((pair_at self.now k).1 ≡ to)) }
     {
         if k >= self.len() {
             return false;

@@ -2,7 +2,7 @@
 
 ghost use Rattle.std.specs.Prelude.{◌≡◌, ℕ, ◌<◌, true, length, map, IfOk};
 ghost use Rattle.sm_theory.specs.FlowLines.{line_at};
-ghost use Rattle.sm_net.specs.Pairs.{has_pair, IsFirstAt};
+ghost use Rattle.sm_net.specs.Pairs.{has_pair};
 ghost use Rattle.sm_net.specs.Repeats.{ends_of, AreRepeats};
 
 use crate::pairs::Pairs;
@@ -25,13 +25,14 @@ pub fn repeated_lines(alloc: Global, lines: &[FlowLine]) -> Result<Vec<bool>, Al
 
 /// The same, where the ends of all lines are given.
 fn repeats_among(alloc: Global, lines: &[FlowLine], ends: &Pairs) -> Result<Vec<bool>, AllocError>
-    requires { (a : ℕ) → a < length lines.now → has_pair ends.now (line_at lines.now a).from (line_at lines.now a).to ≡ true }
+    requires { (a : ℕ) → a < length lines.now → has_pair ends.now (line_at lines.now a).from
+        (line_at lines.now a).to ≡ true }
     ensures { IfOk result (λ repeats. AreRepeats lines.now repeats.items) }
 {
     let mut met = vec![in alloc; false; ends.len()]?;
     let mut repeats = Vec::with_capacity(alloc, lines.len())?;
     for line in lines {
-        let k = place_of(ends, *line);
+        let k = ends.place_of(line.from, line.to);
         repeats.push(met[k])?;
         met[k] = true;
     }
@@ -47,15 +48,4 @@ fn all_ends(alloc: Global, lines: &[FlowLine]) -> Result<Vec<(u32, u32)>, AllocE
         ends.push((line.from, line.to))?;
     }
     Ok(ends)
-}
-
-/// The first place at which the ends of a line stand among those of all lines.
-fn place_of(ends: &Pairs, line: FlowLine) -> usize
-    requires { has_pair ends.now line.from line.to ≡ true }
-    ensures { IsFirstAt ends.now (ends_of line) result }
-{
-    match ends.place(line.from, line.to) {
-        Some(k) => k,
-        None => unreachable!(),
-    }
 }

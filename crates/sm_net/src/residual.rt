@@ -36,7 +36,8 @@ pub fn is_residual_reach(
     requires few { (net_in net.now).size + 2 < 2 ^ 32 }
     requires nodes { AreOnNodes ((net_in net.now).size + 2) lines.now }
     requires set { length set.now ≡ (net_in net.now).size }
-    ensures { IfOk result (λ answer. IsTrue answer ↔ IsResidualReach (net_in net.now) (amount_on lines.now) set.now) }
+    ensures { IfOk result (λ answer. IsTrue answer
+        ↔ IsResidualReach (net_in net.now) (amount_on lines.now) set.now) }
 {
     let steps = Pairs::of(residual_steps(alloc, net, lines)?);
     let trail = reached(alloc, net.nodes(), &steps)?;
@@ -47,7 +48,8 @@ pub fn is_residual_reach(
 fn has_members(trail: &Trail, set: &[bool]) -> bool
     requires few { length set.now + 2 < 2 ^ 32 }
     requires nodes { trail.now.bound ≡ length set.now + 2 }
-    ensures { IsTrue result ↔ ((k : ℕ) → k < length set.now → IsMember set.now k ↔ Contains trail.now.items (k + 1)) }
+    ensures { IsTrue result ↔ ((k : ℕ) → k < length set.now → IsMember set.now k
+        ↔ Contains trail.now.items (k + 1)) }
 {
     for k in 0..set.len() {
         if set[k] != trail.has(k as u32 + 1) {
@@ -108,7 +110,8 @@ fn add_needs_of(
     requires few { (net_in net.now).size + 2 < 2 ^ 32 }
     requires number { k + 1 < 2 ^ 32 }
     requires numbers { (a : ℕ) → a < length needs.now → slice_index needs.now a + 1 < 2 ^ 32 }
-    ensures { IfOk result (λ _. steps.new.items ≡ steps.old.items ++ need_steps_of (net_in net.now) k needs.now) }
+    ensures { IfOk result (λ _. steps.new.items ≡ steps.old.items
+        ++ need_steps_of (net_in net.now) k needs.now) }
 {
     for &i in needs {
         add_if(net.may_lead(k + 1, i + 1), k + 1, i + 1, steps)?;
@@ -118,7 +121,8 @@ fn add_needs_of(
 
 /// Adds the steps along bonds.
 fn add_bonds(net: &CheckedNet, steps: &mut Vec<(u32, u32)>) -> Result<(), AllocError>
-    ensures { IfOk result (λ _. steps.new.items ≡ steps.old.items ++ bond_steps (net_in net.now) net.now.bonds) }
+    ensures { IfOk result (λ _. steps.new.items ≡ steps.old.items
+        ++ bond_steps (net_in net.now) net.now.bonds) }
 {
     let bonds = net.bonds();
     for &(from, to) in bonds {

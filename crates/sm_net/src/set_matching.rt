@@ -32,7 +32,8 @@ pub fn set_places(
     requires set { length set.now ≡ length moves.now }
     requires proposers { (k i : ℕ) → i < length (row_of_moves (moves_in moves.now) k)
         → (move_at (row_of_moves (moves_in moves.now) k) i).proposer < length market.now.proposers }
-    ensures { IfOk result (λ places. (rotations : List (List (ℕ × ℕ))) → AreMoves market.now rotations (moves_in moves.now)
+    ensures { IfOk result (λ places. (rotations : List (List (ℕ × ℕ)))
+        → AreMoves market.now rotations (moves_in moves.now)
         → places.items ≡ (matching_of market.now first.now.places rotations set.now).proposers) }
 {
     let mut places = first_places(alloc, market, first)?;
@@ -61,7 +62,8 @@ fn lower_all(moves: &[Vec<Move>], set: &[bool], places: &mut [Option<u32>])
     requires set { length set.now ≡ length moves.now }
     requires proposers { (k i : ℕ) → i < length (row_of_moves (moves_in moves.now) k)
         → (move_at (row_of_moves (moves_in moves.now) k) i).proposer < length places.old }
-    ensures { AreMade places.old (λ p. worst_by p (moves_in moves.now) set.now (length moves.now)) places.new }
+    ensures { AreMade places.old (λ p. worst_by p (moves_in moves.now) set.now (length moves.now))
+        places.new }
 {
     for k in 0..moves.len() {
         lower_if(set[k], moves_at(moves, k), places);
@@ -71,7 +73,8 @@ fn lower_all(moves: &[Vec<Move>], set: &[bool], places: &mut [Option<u32>])
 /// The same for one rotation, if it is a member.
 fn lower_if(is_member: bool, moves: &[Move], places: &mut [Option<u32>])
     requires { (i : ℕ) → i < length moves.now → (move_at moves.now i).proposer < length places.old }
-    ensures { AreMade places.old (λ p i. if is_member then lowered_by p moves.now (length moves.now) i else i) places.new }
+    ensures { AreMade places.old (λ p i. if is_member then lowered_by p moves.now (length moves.now)
+        i else i) places.new }
 {
     if is_member {
         lower(moves, places);

@@ -38,12 +38,14 @@ pub fn bonds(
 ) -> Result<Vec<(u32, u32)>, AllocError>
     requires few { length moves.now + 2 < 2 ^ 32 }
     requires proposers { length first.now.places.proposers ≡ length levels.now }
-    requires moves { (k : ℕ) → k < length moves.now → HaveLevels (rows_of levels.now) (row_of_moves (moves_in moves.now) k) }
+    requires moves { (k : ℕ) → k < length moves.now
+        → HaveLevels (rows_of levels.now) (row_of_moves (moves_in moves.now) k) }
     requires first { HaveFirstLevels (rows_of levels.now) first.now.places.proposers }
     requires forced { AreFirstBelow (length levels.now) forced.now }
     requires forbidden { AreFirstBelow (length levels.now) forbidden.now }
     ensures { IfOk result (λ bonds. bonds.items
-        ≡ bonds_of (rows_of levels.now) first.now.places.proposers (moves_in moves.now) forced.now forbidden.now) }
+        ≡ bonds_of (rows_of levels.now) first.now.places.proposers (moves_in moves.now) forced.now
+        forbidden.now) }
 {
     let keys = Pairs::of(both(alloc, forced, forbidden)?);
     let entries = entries(alloc, levels, first, moves, &keys)?;
@@ -79,11 +81,13 @@ fn entries(
 ) -> Result<Vec<u32>, AllocError>
     requires few { length moves.now + 2 < 2 ^ 32 }
     requires proposers { length first.now.places.proposers ≡ length levels.now }
-    requires moves { (k : ℕ) → k < length moves.now → HaveLevels (rows_of levels.now) (row_of_moves (moves_in moves.now) k) }
+    requires moves { (k : ℕ) → k < length moves.now
+        → HaveLevels (rows_of levels.now) (row_of_moves (moves_in moves.now) k) }
     requires first { HaveFirstLevels (rows_of levels.now) first.now.places.proposers }
     requires keys { AreFirstBelow (length levels.now) keys.now }
     ensures { IfOk result (λ nodes. AreNodesFor keys.now
-        (entry_by (rows_of levels.now) first.now.places.proposers (moves_in moves.now)) nodes.items) }
+        (entry_by (rows_of levels.now) first.now.places.proposers (moves_in moves.now))
+        nodes.items) }
 {
     let sink = moves.len() as u32 + 1;
     let mut nodes = begun(alloc, levels, first, keys, sink)?;
@@ -99,8 +103,10 @@ fn exits(
     keys: &Pairs,
 ) -> Result<Vec<u32>, AllocError>
     requires few { length moves.now + 2 < 2 ^ 32 }
-    requires moves { (k : ℕ) → k < length moves.now → HaveLevels (rows_of levels.now) (row_of_moves (moves_in moves.now) k) }
-    ensures { IfOk result (λ nodes. AreNodesFor keys.now (exit_by (rows_of levels.now) (moves_in moves.now)) nodes.items) }
+    requires moves { (k : ℕ) → k < length moves.now
+        → HaveLevels (rows_of levels.now) (row_of_moves (moves_in moves.now) k) }
+    ensures { IfOk result (λ nodes. AreNodesFor keys.now (exit_by (rows_of levels.now)
+        (moves_in moves.now)) nodes.items) }
 {
     let sink = moves.len() as u32 + 1;
     let mut nodes = all_at(alloc, keys.len(), sink)?;
@@ -127,7 +133,8 @@ fn begun(
     requires first { HaveFirstLevels (rows_of levels.now) first.now.places.proposers }
     requires keys { AreFirstBelow (length levels.now) keys.now }
     ensures { IfOk result (λ nodes. AreNodesFor keys.now
-        (λ p level. if has_level (rows_of levels.now) p level (held first.now.places.proposers p) then 0 else sink) nodes.items) }
+        (λ p level. if has_level (rows_of levels.now) p level (held first.now.places.proposers p)
+        then 0 else sink) nodes.items) }
 {
     let mut nodes = Vec::with_capacity(alloc, keys.len())?;
     for x in 0..keys.len() {
@@ -142,7 +149,8 @@ fn begin(levels: &[Vec<u32>], first: &Pairing, p: u32, level: u32, sink: u32) ->
     requires in_range { p < length levels.now }
     requires proposers { length first.now.places.proposers ≡ length levels.now }
     requires first { HaveFirstLevels (rows_of levels.now) first.now.places.proposers }
-    ensures { result ≡ (if has_level (rows_of levels.now) p level (held first.now.places.proposers p) then 0 else sink) }
+    ensures { result ≡ (if has_level (rows_of levels.now) p level
+        (held first.now.places.proposers p) then 0 else sink) }
 {
     match first.place(p) {
         Some(place) => {
@@ -160,7 +168,8 @@ fn begin(levels: &[Vec<u32>], first: &Pairing, p: u32, level: u32, sink: u32) ->
 fn come_all(levels: &[Vec<u32>], moves: &[Vec<Move>], keys: &Pairs, sink: u32, nodes: &mut [u32])
     requires few { length moves.now + 2 < 2 ^ 32 }
     requires sink { sink ≡ length moves.now + 1 }
-    requires moves { (k : ℕ) → k < length moves.now → HaveLevels (rows_of levels.now) (row_of_moves (moves_in moves.now) k) }
+    requires moves { (k : ℕ) → k < length moves.now
+        → HaveLevels (rows_of levels.now) (row_of_moves (moves_in moves.now) k) }
     requires one_each { length nodes.old ≡ length keys.now }
     ensures one_each { length nodes.new ≡ length nodes.old }
     ensures marked { (x i j : ℕ) → IsFirstAt keys.now (i, j) x → slice_index nodes.new x
@@ -176,7 +185,8 @@ fn come_all(levels: &[Vec<u32>], moves: &[Vec<Move>], keys: &Pairs, sink: u32, n
 fn go_all(levels: &[Vec<u32>], moves: &[Vec<Move>], keys: &Pairs, sink: u32, nodes: &mut [u32])
     requires few { length moves.now + 2 < 2 ^ 32 }
     requires sink { sink ≡ length moves.now + 1 }
-    requires moves { (k : ℕ) → k < length moves.now → HaveLevels (rows_of levels.now) (row_of_moves (moves_in moves.now) k) }
+    requires moves { (k : ℕ) → k < length moves.now
+        → HaveLevels (rows_of levels.now) (row_of_moves (moves_in moves.now) k) }
     requires one_each { length nodes.old ≡ length keys.now }
     ensures one_each { length nodes.new ≡ length nodes.old }
     ensures marked { (x i j : ℕ) → IsFirstAt keys.now (i, j) x → slice_index nodes.new x
@@ -203,7 +213,8 @@ fn come(levels: &[Vec<u32>], moves: &[Move], keys: &Pairs, node: u32, sink: u32,
     requires node { node < sink }
     ensures one_each { length nodes.new ≡ length nodes.old }
     ensures marked { (x i j : ℕ) → IsFirstAt keys.now (i, j) x → slice_index nodes.new x
-        ≡ marked (some_come (rows_of levels.now) i j moves.now) node sink (slice_index nodes.old x) }
+        ≡ marked (some_come (rows_of levels.now) i j moves.now) node sink
+        (slice_index nodes.old x) }
 {
     for n in 0..moves.len() {
         come_by(levels, moves[n], keys, node, sink, nodes);
@@ -305,7 +316,8 @@ fn add_forbidden(
     requires exits { length exits.now ≡ length keys.now }
     ensures { IfOk result (λ _. (entry exit : ℕ → ℕ → ℕ)
         → AreNodesFor keys.now entry entries.now → AreNodesFor keys.now exit exits.now
-        → bonds.new.items ≡ bonds.old.items ++ flat_map (forbidden_pairs entry exit) forbidden.now) }
+        → bonds.new.items ≡ bonds.old.items
+        ++ flat_map (forbidden_pairs entry exit) forbidden.now) }
 {
     for &(p, level) in forbidden {
         bonds.push((
@@ -322,8 +334,5 @@ fn node_at(keys: &Pairs, nodes: &[u32], p: u32, level: u32) -> u32
     requires nodes { length nodes.now ≡ length keys.now }
     ensures { (node : ℕ → ℕ → ℕ) → AreNodesFor keys.now node nodes.now → result ≡ node p level }
 {
-    match keys.place(p, level) {
-        Some(x) => nodes[x],
-        None => unreachable!(),
-    }
+    nodes[keys.place_of(p, level)]
 }

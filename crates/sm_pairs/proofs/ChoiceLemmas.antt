@@ -1,6 +1,5 @@
 -- The matching that is chosen of two.
-use Rattle.std.proofs.Common.{◌≡◌, ℕ, ◌<◌, ◌⊎◌, inl, inr, List, Option, Some, None, length, map, min, max, refl, sym, ap, ◌∙◌, subst, arith, ⊎_elim, set}
-use Rattle.std.specs.List.{range_with_len}
+use Rattle.std.proofs.Common.{◌≡◌, ℕ, ◌<◌, ◌⊎◌, inl, inr, List, Option, Some, None, length, min, max, refl, sym, ap, ◌∙◌, subst, arith, ⊎_elim, set}
 use Rattle.std.proofs.lemmas.Bool.{cases_lt}
 use Rattle.std.proofs.lemmas.List.{get_or_past, get_or-set_same, get_or-set_other}
 use Rattle.std.proofs.lemmas.List.FromFn.{length-map-range_with_len, get_or-map-range_with_len}
@@ -34,6 +33,7 @@ chosen_in P Worse (Some x) (Some y) ha hb i e = subst P (let s : max x y ≡ i =
 held_chosen : (choice : Choice) (w : Written) (m n : List (Option ℕ)) (p : ℕ) → p < length w.proposers → held (chosen_places choice w m n) p ≡ chosen choice (held m p) (held n p)
 held_chosen choice w m n p l = get_or-map-range_with_len (λ p. chosen choice (held m p) (held n p)) 0 (length w.proposers) p p None l (omega arith)
 
+-- what is chosen of two assignments is one
 pub chosen_assigned : (choice : Choice) (w : Written) (m n : List (Option ℕ)) → IsAssignment w m → IsAssignment w n → IsAssignment w (chosen_places choice w m n)
 chosen_assigned choice w m n hm hn = record {
   one_each = length-map-range_with_len (λ p. chosen choice (held m p) (held n p)) 0 (length w.proposers);
@@ -51,6 +51,7 @@ left_changed choice w m n p o l =
     (ap (λ x. chosen choice x (held n p)) (get_or-set_same m p o None l))
     (λ q ne. ap (λ x. chosen choice x (held n q)) (get_or-set_other m p q o None ne))
 
+-- and so where it has another place in the other one
 pub right_changed : (choice : Choice) (w : Written) (m n : List (Option ℕ)) (p : ℕ) (o : Option ℕ) → p < length n
     → set (chosen_places choice w m n) p (chosen choice (held m p) o) ≡ chosen_places choice w m (set n p o)
 right_changed choice w m n p o l =

@@ -28,6 +28,7 @@ changed f g a (suc n) (suc k) x here other =
     ap (λ y. y ∷ set (map f (range_with_len (a + 1) n)) k x) (sym (other a (λ e. omega (arith, e))))
     ∙ ap (λ xs. g a ∷ xs) (changed f g (a + 1) n k x (ap g (let e : a + 1 + k ≡ a + suc k = omega arith in e) ∙ here) (λ q ne. other q (λ e. ne (omega (arith, e)))))
 
+-- with item k changed the list of a function is that of one which differs from it at k alone
 pub changed_at : {X : Type 0} (f g : ℕ → X) (n k : ℕ) (x : X) → g k ≡ x → ((q : ℕ) → q ≢ k → g q ≡ f q) → set (map f (range_with_len 0 n)) k x ≡ map g (range_with_len 0 n)
 changed_at f g n k x here other = changed f g 0 n k x (ap g (let e : 0 + k ≡ k = omega arith in e) ∙ here) (λ q ne. other q (λ e. ne (omega (arith, e))))
 
@@ -43,12 +44,15 @@ later (pair ∷ pairs) p r q none = by_first (later pairs p r q) (pair.0 == q) r
     by_first deep true ea false eb n =
         ap (λ t. cond t (Some r) (Some pair.1)) (sym (ne_eqb p q (λ e. eqb-false pair.0 p eb (eqb-true pair.0 q ea ∙ sym e))))
 
+-- a proposer to whom the pairs give nobody has the reviewer of the pair behind them
 pub here_later : (before : List (ℕ × ℕ)) (p r : ℕ) → partner_in before p ≡ None → partner_in (before ++ (p, r) ∷ []) p ≡ Some r
 here_later before p r none = later before p r p none ∙ ap (λ t. cond t (Some r) (partner_in before p)) (eq-eqb p p refl)
 
+-- any other proposer has whom it had
 pub other_later : (before : List (ℕ × ℕ)) (p r q : ℕ) → partner_in before p ≡ None → q ≢ p → partner_in (before ++ (p, r) ∷ []) q ≡ partner_in before q
 other_later before p r q none ne = later before p r q none ∙ ap (λ t. cond t (Some r) (partner_in before q)) (ne_eqb p q (λ e. ne (sym e)))
 
+-- so the matching of the pairs with one more is theirs with the place of that reviewer set
 pub places_later : (w : Written) (before : List (ℕ × ℕ)) (p r : ℕ) → partner_in before p ≡ None
     → set (places_in w before) p (Some (place_of w.proposers p r)) ≡ places_in w (before ++ (p, r) ∷ [])
 places_later w before p r none =
@@ -60,6 +64,7 @@ places_later w before p r none =
 pub held_place : (w : Written) (pairs : List (ℕ × ℕ)) (p : ℕ) → p < length w.proposers → held (places_in w pairs) p ≡ place_in w pairs p
 held_place w pairs p l = get_or-map-range_with_len (place_in w pairs) 0 (length w.proposers) p p None l (omega arith)
 
+-- who is unmatched there is in none of the pairs
 pub none_given : (w : Written) (pairs : List (ℕ × ℕ)) (p : ℕ) → p < length w.proposers → held (places_in w pairs) p ≡ None → partner_in pairs p ≡ None
 none_given w pairs p l none = by_partner (partner_in pairs p) refl
   where
@@ -67,6 +72,7 @@ none_given w pairs p l none = by_partner (partner_in pairs p) refl
     by_partner None e = e
     by_partner (Some r) e = let h = sym (held_place w pairs p l ∙ ap (option_map (place_of w.proposers p)) e) ∙ none in absurd cc
 
+-- who is matched there is in one of the pairs
 pub some_given : (w : Written) (pairs : List (ℕ × ℕ)) (p : ℕ) → p < length w.proposers → IsSome (held (places_in w pairs) p) → IsSome (partner_in pairs p)
 some_given w pairs p l some = by_partner (partner_in pairs p) refl
   where
@@ -94,6 +100,7 @@ low_set w places p i (suc k) r le =
     ∙ sym (load_more w places k r)
     ∙ ap (λ n. load_before w places n r) (let e : k + 1 ≡ suc k = omega arith in e)
 
+-- the load that the first proposers make counts the place set, where that is the reviewer's and its proposer is among them
 pub load_set : (w : Written) (places : List (Option ℕ)) (p i k r : ℕ) → p < length places → held places p ≡ None → p < k
     → load_before w (set places p (Some i)) k r ≡ load_before w places k r + cond (entry w.proposers p i == r) 1 0
 load_set w places p i zero r l free lt = absurd (omega (arith, lt))
@@ -115,6 +122,7 @@ load_set w places p i (suc k) r l free lt =
     ∙ ap (λ n. load_before w places n r + cond (entry w.proposers p i == r) 1 0) (let e : k + 1 ≡ suc k = omega arith in e))
     (cases_lt p k)
 
+-- so the load of the reviewer at the place is one more, and the other loads stay
 pub loads_later : (w : Written) (places : List (Option ℕ)) (p i : ℕ) → length places ≡ length w.proposers → p < length w.proposers → held places p ≡ None
     → set (loads_of w places) (entry w.proposers p i) (load w places (entry w.proposers p i) + 1) ≡ loads_of w (set places p (Some i))
 loads_later w places p i one l free =
@@ -187,6 +195,7 @@ no_load w (suc k) r =
     ∙ ap (λ b. load_before w (places_in w []) k r + cond b 1 0) (free_at w (places_in w []) k r (no_place w k))
     ∙ (let d = no_load w k r in let e : load_before w (places_in w []) k r + 0 ≡ 0 = omega (arith, d) in e)
 
+-- and the loads are none
 pub no_loads : (w : Written) → replicate (length w.reviewers) 0 ≡ loads_of w (places_in w [])
 no_loads w = each 0 (length w.reviewers)
   where
@@ -194,6 +203,7 @@ no_loads w = each 0 (length w.reviewers)
     each a zero = refl
     each a (suc n) = ap (λ x. x ∷ replicate n 0) (sym (no_load w (length w.proposers) a)) ∙ ap (λ xs. load w (places_in w []) a ∷ xs) (each (a + 1) n)
 
+-- nobody at all is a matching
 pub nobody : (w : Written) → IsMatching w (places_in w [])
 nobody w = record {
   assigned = record { one_each = length-map-range_with_len (place_in w []) 0 (length w.proposers); on_lists = λ p i h. absurd (free p i h) };
@@ -208,9 +218,11 @@ nobody w = record {
 pub loads_long : (w : Written) (places : List (Option ℕ)) → length (loads_of w places) ≡ length w.reviewers
 loads_long w places = length-map-range_with_len (load w places) 0 (length w.reviewers)
 
+-- the item of a reviewer is its load
 pub load_at : (w : Written) (places : List (Option ℕ)) (r d : ℕ) → r < length w.reviewers → get_or (loads_of w places) r d ≡ load w places r
 load_at w places r d l = get_or-map-range_with_len (load w places) 0 (length w.reviewers) r r d l (omega arith)
 
+-- and so it is where it is read of loads that are kept
 pub load_is : (w : Written) (places : List (Option ℕ)) (loads : List ℕ) (r n : ℕ) → loads ≡ loads_of w places → r < length w.reviewers → n ≡ get_or loads r n → n ≡ load w places r
 load_is w places loads r n same l e = e ∙ ap (λ xs. get_or xs r n) same ∙ load_at w places r n l
 
@@ -218,6 +230,7 @@ load_is w places loads r n same l e = e ∙ ap (λ xs. get_or xs r n) same ∙ l
 read_place : (places : List (Option ℕ)) (p : ℕ) (o : Option ℕ) → p < length places → o ≡ get_or places p o → o ≡ held places p
 read_place places p o l e = e ∙ get_or_default places p o None l
 
+-- where something was found the proposer is matched
 pub some_there : (places : List (Option ℕ)) (p : ℕ) (o : Option ℕ) → p < length places → o ≡ get_or places p o → is_some o ≡ true → IsSome (held places p)
 some_there places p o l e some = subst IsSome (read_place places p o l e) (by_case o some)
   where
@@ -225,6 +238,7 @@ some_there places p o l e some = subst IsSome (read_place places p o l e) (by_ca
     by_case None h = absurd cc
     by_case (Some i) h = refl
 
+-- where nothing was found the proposer is unmatched
 pub none_there : (places : List (Option ℕ)) (p : ℕ) (o : Option ℕ) → p < length places → o ≡ get_or places p o → is_some o ≡ false → held places p ≡ None
 none_there places p o l e none = sym (read_place places p o l e) ∙ by_case o none
   where
@@ -234,7 +248,7 @@ none_there places p o l e none = sym (read_place places p o l e) ∙ by_case o n
 
 -- the pairs up to one more
 pub pairs_more : (w : Written) (pairs : List (ℕ × ℕ)) (before after : Holding) (k p r : ℕ) → k < length pairs → pair_at pairs k ≡ (p, r) → p < length w.proposers
-    → before.places.items ≡ places_in w (take k pairs) → Added w before after p r → after.places.items ≡ places_in w (take (k + 1) pairs)
+    → before.matching.places.items ≡ places_in w (take k pairs) → Added w before after p r → after.matching.places.items ≡ places_in w (take (k + 1) pairs)
 pairs_more w pairs before after k p r l pair p_in places a =
     a.places
     ∙ ap (λ xs. set xs p (Some (place_of w.proposers p r))) places
@@ -253,8 +267,9 @@ is_breach w pairs places k p r l pair p_in same cant = record { in_range = l; ca
     by_cause (CantAdd.taken h) = CantJoin.taken (some_given w (take k pairs) p p_in (subst (λ xs. IsSome (held xs p)) same h))
     by_cause (CantAdd.full h) = CantJoin.full (subst (λ xs. capacity_of w.reviewers r ≤ load w xs r) same h)
 
+-- once a pair was added there is no breach up to it, where there was none before it
 pub none_more : (w : Written) (pairs : List (ℕ × ℕ)) (before after : Holding) (k p r : ℕ) → k < length pairs → pair_at pairs k ≡ (p, r) → p < length w.proposers
-    → before.places.items ≡ places_in w (take k pairs) → Added w before after p r → ((j : ℕ) → j < k → ¬ IsBreach w pairs j) → (j : ℕ) → j < k + 1 → ¬ IsBreach w pairs j
+    → before.matching.places.items ≡ places_in w (take k pairs) → Added w before after p r → ((j : ℕ) → j < k → ¬ IsBreach w pairs j) → (j : ℕ) → j < k + 1 → ¬ IsBreach w pairs j
 none_more w pairs before after k p r l pair p_in same a none j lt b = ⊎_elim
     (λ below. none j below b)
     (λ ge. let e : j ≡ k = omega (arith, ge, lt) in by_cause (subst (λ (x : ℕ × ℕ). CantJoin w (take k pairs) x.0 x.1) pair (subst (λ n. CantJoin w (take n pairs) (pair_at pairs n).0 (pair_at pairs n).1) e b.cause)))

@@ -15,6 +15,7 @@ partner_in (pair ∷ pairs) p = if pair.0 == p then Some pair.1 else partner_in 
 abbrev pub place_in : Written → List (ℕ × ℕ) → ℕ → Option ℕ
 place_in w pairs p = option_map (place_of w.proposers p) (partner_in pairs p)
 
+-- the places of all proposers
 abbrev pub places_in : Written → List (ℕ × ℕ) → List (Option ℕ)
 places_in w pairs = map (place_in w pairs) (range_with_len 0 (length w.proposers))
 
@@ -28,10 +29,12 @@ pub data CantJoin (w : Written) (before : List (ℕ × ℕ)) (p r : ℕ) : Type 
 abbrev pub pair_at : List (ℕ × ℕ) → ℕ → ℕ × ℕ
 pair_at pairs k = slice_index_or pairs k (0, 0)
 
+-- the pair of this number can't be held beside those before it
 pub record IsBreach (w : Written) (pairs : List (ℕ × ℕ)) (k : ℕ) : Type 0 where
   pub in_range : k < length pairs
   pub cause : CantJoin w (take k pairs) (pair_at pairs k).0 (pair_at pairs k).1
 
+-- and no earlier pair is one that can't be held
 pub record IsFirstBreach (w : Written) (pairs : List (ℕ × ℕ)) (k : ℕ) : Type 0 where
   pub breach : IsBreach w pairs k
   pub earlier : (j : ℕ) → j < k → ¬ IsBreach w pairs j

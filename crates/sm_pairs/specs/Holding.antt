@@ -12,13 +12,14 @@ pub record IsAcceptableAt (w : Written) (p r place : ℕ) : Type 0 where
   pub on_list : place < length (row w.proposers p)
   pub acceptable : IsAcceptable w p r
 
+-- the load of each reviewer
 abbrev pub loads_of : Written → List (Option ℕ) → List ℕ
 loads_of w places = map (load w places) (range_with_len 0 (length w.reviewers))
 
 -- a matching, with the loads of the reviewers
 pub record IsHolding (w : Written) (holding : Holding) : Type 0 where
-  pub matching : IsMatching w holding.places.items
-  pub loads : holding.loads.items ≡ loads_of w holding.places.items
+  pub matching : IsMatching w holding.matching.places.items
+  pub loads : holding.loads.items ≡ loads_of w holding.matching.places.items
 
 -- a pair can't be added: it isn't acceptable, its proposer is matched, or its reviewer is full
 pub data CantAdd (w : Written) (places : List (Option ℕ)) (p r : ℕ) : Type 0 where
@@ -29,11 +30,12 @@ pub data CantAdd (w : Written) (places : List (Option ℕ)) (p r : ℕ) : Type 0
 -- or it was added
 pub record Added (w : Written) (before after : Holding) (p r : ℕ) : Type 0 where
   pub acceptable : IsAcceptable w p r
-  pub free : held before.places.items p ≡ None
-  pub room : load w before.places.items r < capacity_of w.reviewers r
-  pub places : after.places.items ≡ slice_set before.places.items p (Some (place_of w.proposers p r))
+  pub free : held before.matching.places.items p ≡ None
+  pub room : load w before.matching.places.items r < capacity_of w.reviewers r
+  pub places : after.matching.places.items ≡ slice_set before.matching.places.items p (Some (place_of w.proposers p r))
   pub held : IsHolding w after
 
+-- true says that the pair was added, and false that it can't be
 abbrev pub Adds : Written → (before after : Holding) → (p r : ℕ) → Bool → Type 0
 Adds w before after p r true = Added w before after p r
-Adds w before after p r false = CantAdd w before.places.items p r
+Adds w before after p r false = CantAdd w before.matching.places.items p r

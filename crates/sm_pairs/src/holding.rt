@@ -4,13 +4,15 @@ ghost use Rattle.std.specs.Prelude.{◌≡◌, ◌<◌, length, replicate, None,
 ghost use Rattle.sm_instance.specs.Written.{IsAcceptable};
 ghost use Rattle.sm_pairs.specs.Holding.{IsHolding, Adds, IsAcceptableAt};
 
-use sm_instance::Instance;
+use sm_instance::{Assignment, Instance};
 use std::alloc::{AllocError, Global};
 
-/// A matching that grows: the place of each proposer on its written list, and how many proposers each reviewer has.
+/// A matching that grows. Agents are counted from 0.
 #[derive(Drop)]
 pub struct Holding {
-    pub places: Vec<Option<u32>>,
+    /// The place of each proposer's reviewer on its written list, counted from 0, where it has one.
+    pub matching: Assignment,
+    /// How many proposers each reviewer has.
     pub loads: Vec<u32>,
 }
 
@@ -21,17 +23,22 @@ impl Holding {
     ///
     /// `AllocError` where memory ran out, and only then.
     pub fn none(alloc: Global, instance: &Instance) -> Result<Holding, AllocError>
-        ensures places { IfOk result (λ holding. holding.places.items ≡ replicate (length instance.now.proposers) None) }
-        ensures loads { IfOk result (λ holding. holding.loads.items ≡ replicate (length instance.now.reviewers) 0) }
+        ensures places { IfOk result (λ holding. holding.matching.places.items
+            ≡ replicate (length instance.now.proposers) None) }
+        ensures loads { IfOk result (λ holding. holding.loads.items
+            ≡ replicate (length instance.now.reviewers) 0) }
     {
         Ok(Holding {
-            places: vec![in alloc; None; instance.proposer_count() as usize]?,
+            matching: Assignment {
+                places: vec![in alloc; None; instance.proposer_count() as usize]?,
+            },
             loads: vec![in alloc; 0; instance.reviewer_count() as usize]?,
         })
     }
 
-    /// Adds a pair, and answers `false` where it can't be held: the two aren't acceptable to each other, the proposer has a
-    /// reviewer, or the reviewer is full. Then nothing is changed. Takes a look-up for the pair.
+    /// Adds the pair of a proposer and a reviewer, counted from 0, and answers `false` where it can't be held: the two aren't
+    /// acceptable to each other, the proposer has a reviewer, or the reviewer is full. Then nothing is changed. Takes time in
+    /// proportion to the logarithm of how many list the reviewer.
     pub fn add(&mut self, instance: &Instance, p: u32, r: u32) -> bool
         requires proposer { p < length instance.now.proposers }
         requires reviewer { r < length instance.now.reviewers }
@@ -40,12 +47,12 @@ impl Holding {
     {
         match acceptable_place(instance, p, r) {
             Some(place) => {
-                if self.places[p as usize].is_some()
+                if self.matching.places[p as usize].is_some()
                     || self.loads[r as usize] >= instance.capacity(r)
                 {
                     return false;
                 }
-                self.places[p as usize] = Some(place);
+                self.matching.places[p as usize] = Some(place);
                 self.loads[r as usize] += 1;
                 true
             }
@@ -54,11 +61,12 @@ impl Holding {
     }
 }
 
-// The place of a reviewer on a proposer's list, where they are acceptable to each other.
+/// The place of a reviewer on a proposer's list, where they are acceptable to each other.
 fn acceptable_place(instance: &Instance, p: u32, r: u32) -> Option<u32>
     requires proposer { p < length instance.now.proposers }
     requires reviewer { r < length instance.now.reviewers }
-    ensures { MatchOption result (¬ IsAcceptable instance.now p r) (λ place. IsAcceptableAt instance.now p r place) }
+    ensures { MatchOption result (¬ IsAcceptable instance.now p r)
+        (λ place. IsAcceptableAt instance.now p r place) }
 {
     let place = instance.place(p, r)?;
     match instance.cross(p, place) {

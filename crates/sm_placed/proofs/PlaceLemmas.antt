@@ -32,6 +32,7 @@ are_acceptable {w} {s} instance is p = subst (λ (s : Seating). AreAcceptableAt 
 pub weights_at : (by : Measure) (w : Written) (s : Seating) (p : ℕ) → p < length s.market.proposers → get_or (weights_of by w s) p [] ≡ at_places s (λ p i. pair_weight by w p (Some i)) p
 weights_at by w s p here = get_or-map-range_with_len (at_places s (λ p i. pair_weight by w p (Some i))) 0 (length s.market.proposers) p p [] here (omega arith)
 
+-- the weight at each place of light weights is light
 pub light_at : (weights : List (List ℤ)) → AreLight weights → (p i : ℕ) → i < length (get_or weights p []) → IsLight (weight_at weights p i)
 light_at weights light p i on = elim (cases_lt p (length weights)) [
   | inl here ↦ All-get_or IsLight (get_or weights p []) i (pos 0) on (All-get_or (All IsLight) weights p [] here light)

@@ -9,6 +9,7 @@ use Rattle.sm_seats.specs.Seating.{Seating, written_place}
 abbrev pub IsLight : ℤ → Type 0
 IsLight weight = unsigned_abs weight ≤ 1000000000
 
+-- all weights of all proposers are light
 abbrev pub AreLight : List (List ℤ) → Type 0
 AreLight weights = All (All IsLight) weights
 

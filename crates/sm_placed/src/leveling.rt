@@ -20,7 +20,8 @@ pub fn leveled(
     pairs: &[(u32, u32)],
 ) -> Result<Vec<(u32, u32)>, AllocError>
     requires { (n : ℕ) → n < length pairs.now
-        → IsPairOf (length instance.now.proposers) (length instance.now.reviewers) (pair_at pairs.now n) }
+        → IsPairOf (length instance.now.proposers) (length instance.now.reviewers)
+        (pair_at pairs.now n) }
     ensures { IfOk result (λ levels. levels.items ≡ leveled instance.now pairs.now) }
 {
     let mut levels = Vec::with_capacity(alloc, pairs.len())?;

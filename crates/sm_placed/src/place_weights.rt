@@ -1,6 +1,6 @@
 //! The weights of the places of an instance's seats.
 
-ghost use Rattle.std.specs.Prelude.{◌≡◌, ℕ, ◌<◌, All, length, IfOk, Some};
+ghost use Rattle.std.specs.Prelude.{◌≡◌, ◌<◌, All, length, IfOk, Some};
 ghost use Rattle.sm_instance.specs.Written.{row, entry, given_weight, IsAcceptable};
 ghost use Rattle.sm_instance.specs.Ranks.{pair_weight};
 ghost use Rattle.sm_market.specs.Lists.{row as market_row};
@@ -31,7 +31,8 @@ pub fn weights_of_places(
     requires seats { seats.now ≡ seating_of instance.now }
     requires seating { IsSeating instance.now seats.now }
     requires levels { rows_of levels.now ≡ levels_of seats.now }
-    ensures weights { IfOk result (λ weights. weights_in weights.items ≡ weights_of by instance.now seats.now) }
+    ensures weights { IfOk result (λ weights. weights_in weights.items
+        ≡ weights_of by instance.now seats.now) }
     ensures light { IfOk result (λ weights. AreLight (weights_in weights.items)) }
 {
     let mut weights = Vec::with_capacity(alloc, levels.len())?;

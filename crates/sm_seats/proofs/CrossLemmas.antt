@@ -1,5 +1,5 @@
 -- What cross places tell of the lists without inert entries.
-use Rattle.std.proofs.Common.{◌≡◌, ℕ, suc, ◌+◌, ◌<◌, ◌++◌, ◌∷◌, [], ◌==◌, cond, Bool, true, false, List, Some, None, Option, length, take, get_or, is_some, refl, sym, ap, ◌∙◌, append-nil, nat_lt, arith, inl, inr}
+use Rattle.std.proofs.Common.{◌≡◌, ℕ, suc, ◌+◌, ◌<◌, ◌++◌, ◌∷◌, [], cond, Bool, true, false, List, Some, None, Option, length, take, get_or, is_some, refl, sym, ap, ◌∙◌, append-nil, nat_lt, arith, inl, inr}
 use Rattle.std.specs.List.{filter}
 use Rattle.std.proofs.lemmas.Bool.{eq-eqb, ne_eqb, cases_eq}
 use Rattle.std.proofs.lemmas.List.{get_or_read}
@@ -12,6 +12,7 @@ use Rattle.sm_instance.proofs.PlaceLemmas.{place_of-entry}
 use Rattle.sm_instance.proofs.LoadLemmas.{test_cases}
 use Rattle.sm_instance.proofs.AcceptLemmas.{cross_some}
 use Rattle.sm_seats.specs.Mutual.{lists_back}
+use Rattle.sm_seats.proofs.FilterLemmas.{place_here, place_behind, taken, left_out}
 use Rattle.sm_seats.proofs.MutualLemmas.{IsMutual}
 
 is_some_choice : (b : Bool) (i : ℕ) → is_some (cond b (Some i) None) ≡ b
@@ -32,9 +33,11 @@ module _ (agents others : List AgentData) (a i : ℕ) (on : i < length (row agen
   abbrev back_before : ℕ → List ℕ
   back_before n = filter (lists_back others a) (take n (row agents a))
 
+  -- where the agent at the place lists back, it is one more
   pub back_more : lists_back others a (entry agents a i) ≡ true → back_before (i + 1) ≡ back_before i ++ entry agents a i ∷ []
   back_more yes_ = filter_more (lists_back others a) (row agents a) i 0 on ∙ ap (λ b. back_before i ++ cond b (entry agents a i ∷ []) []) yes_
 
+  -- where it doesn't, they are the same
   pub back_same : lists_back others a (entry agents a i) ≡ false → back_before (i + 1) ≡ back_before i
   back_same no_ = filter_more (lists_back others a) (row agents a) i 0 on ∙ ap (λ b. back_before i ++ cond b (entry agents a i ∷ []) []) no_ ∙ append-nil (back_before i)
 
@@ -45,6 +48,7 @@ pub record IsCrossed (agents others : List AgentData) (a i j : ℕ) : Type 0 whe
   pub back : place_of others (entry agents a i) a ≡ j
   pub passes : lists_back others a (entry agents a i) ≡ true
 
+-- an entry with a cross place is of an agent that lists back at that place
 pub crossed_at : {agents others : List AgentData} {n a i j : ℕ} {o : Option ℕ} → AreSoundEntries agents n → i < length (row agents a) → o ≡ cross_place others (entry agents a i) a → o ≡ Some j → IsCrossed agents others a i j
 crossed_at {agents} {others} {n} {a} {i} {j} sound on is some_ =
     let place = place_of-entry sound a (entry agents a i) i on refl in
@@ -56,22 +60,11 @@ crossed_at {agents} {others} {n} {a} {i} {j} sound on is some_ =
       passes = cross_tells others a (entry agents a i) is (sym (ap is_some some_));
     }
 
+-- an entry without a cross place is of an agent that doesn't list back
 pub not_crossed : (agents others : List AgentData) (a i : ℕ) {o : Option ℕ} → o ≡ cross_place others (entry agents a i) a → o ≡ None → lists_back others a (entry agents a i) ≡ false
 not_crossed agents others a i is none_ = cross_tells others a (entry agents a i) is (sym (ap is_some none_))
 
 -- Places on a list of which some entries are left out.
-
-place_here : (x b : ℕ) (xs : List ℕ) → (x == b) ≡ true → place_on (x ∷ xs) b ≡ 0
-place_here x b xs e = rw e refl
-
-place_behind : (x b : ℕ) (xs : List ℕ) → (x == b) ≡ false → place_on (x ∷ xs) b ≡ place_on xs b + 1
-place_behind x b xs e = rw e (omega arith)
-
-taken : (t : ℕ → Bool) (x : ℕ) (xs : List ℕ) → t x ≡ true → filter t (x ∷ xs) ≡ x ∷ filter t xs
-taken t x xs e = rw e refl
-
-left_out : (t : ℕ → Bool) (x : ℕ) (xs : List ℕ) → t x ≡ false → filter t (x ∷ xs) ≡ filter t xs
-left_out t x xs e = rw e refl
 
 -- those who pass a test before b are those before b of all who pass it, where b does
 pub filter-take_place : (t : ℕ → Bool) (xs : List ℕ) (b : ℕ) → t b ≡ true → place_on xs b < length xs → filter t (take (place_on xs b) xs) ≡ take (place_on (filter t xs) b) (filter t xs)

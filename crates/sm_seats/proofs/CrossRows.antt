@@ -19,7 +19,7 @@ use Rattle.sm_seats.specs.ProposerRows.{cross_rows_of}
 use Rattle.sm_seats.specs.ReviewerRows.{seat_lists_before, seat_crosses_before}
 use Rattle.sm_seats.proofs.MutualLemmas.{IsMutual, mutual_turned, mutual_on_row, entry_mutual}
 use Rattle.sm_seats.proofs.PieceLemmas.{take-range}
-use Rattle.sm_seats.proofs.SeatLemmas.{IsSeatOf, has_seats, seat_found, length-named, length-reviewers, seat_list, listed_seat}
+use Rattle.sm_seats.proofs.SeatLemmas.{IsSeatOf, has_seats, seat_found, length-names, length-named, length-reviewers, seat_list, listed_seat}
 use Rattle.sm_seats.proofs.SeatPlaces.{partners, row_is, IsPlaced, seat_at_place, seat_on, seat_place}
 use Rattle.sm_seats.proofs.MarketLaws.{length-proposers, rank_is, length-list}
 use Rattle.sm_seats.proofs.TableLemmas.{begin_is}
@@ -39,6 +39,7 @@ flat_map_same : {X A : Type 0} (f g : X → List A) → ((x : X) → f x ≡ g x
 flat_map_same f g same [] = refl
 flat_map_same f g same (x ∷ xs) = ap (λ l. l ++ flat_map f xs) (same x) ∙ ap (λ l. g x ++ l) (flat_map_same f g same xs)
 
+-- functions that agree everywhere make the same list of a list
 pub map_same : {X A : Type 0} (f g : X → A) → ((x : X) → f x ≡ g x) → (xs : List X) → map f xs ≡ map g xs
 map_same f g same [] = refl
 map_same f g same (x ∷ xs) = ap (λ y. y ∷ map f xs) (same x) ∙ ap (λ l. g x ∷ l) (map_same f g same xs)
@@ -54,6 +55,7 @@ no_row f n a past = get_or_past (map f (range_with_len 0 n)) a [] (omega (arith,
 
 -- something that each reviewer has as often as it has seats, along p's list of seats
 module _ {w : Written} {p i r k : ℕ} (it : IsPlaced w p i r k) where
+  -- at the place of the k-th seat of r stands what r has for that seat
   pub along : (f : ℕ → List ℕ) → ((x : ℕ) → length (f x) ≡ seat_count w x) → get_or (flat_map f (partners w p)) i 0 ≡ get_or (f r) k 0
   along f same =
       let ps : List ℕ = partners w p in
@@ -73,6 +75,7 @@ length-along w p f same =
 length-crosses_at : (w : Written) (p r : ℕ) → length (crosses_at w p r) ≡ seat_count w r
 length-crosses_at w p r = length-replicate (seat_count w r) (place_on (mutual_row w.reviewers w.proposers r) p)
 
+-- the rows that are made for the proposers are their cross places in the market of seats
 pub proposers_crossed : {w : Written} → HasSoundEntries w → AreCrosses (seat_market w).proposers (seat_market w).reviewers (cross_rows_of w (length w.proposers))
 proposers_crossed {w} h = record {
   one_each = length-map-range_with_len (cross_row w) 0 (length w.proposers) ∙ sym (length-proposers w);
@@ -95,6 +98,7 @@ rows_named : (w : Written) (r a n : ℕ) → replicate n (mutual_row w.reviewers
 rows_named w r a zero = refl
 rows_named w r a (suc n) = ap (λ l. mutual_row w.reviewers w.proposers r ∷ l) (rows_named w r (a + 1) n)
 
+-- the lists that are made of the reviewers' seats are those of the market
 pub lists_made : (w : Written) → seat_lists_before w (length w.reviewers) ≡ (seat_market w).reviewers
 lists_made w =
     flat_map_same (lists_for w) (λ r. map (row_of_seat w) (named_seats w r)) (λ r. rows_named w r 1 (seat_count w r)) (range_with_len 0 (length w.reviewers))
@@ -114,12 +118,9 @@ raised_crosses w r n begins is =
 length-crosses_for : (w : Written) (r : ℕ) → length (crosses_for w r) ≡ seat_count w r
 length-crosses_for w r = length-map-range_with_len (seat_crosses w r) 0 (seat_count w r)
 
-length-named_seats : (w : Written) (r : ℕ) → length (named_seats w r) ≡ seat_count w r
-length-named_seats w r = length-map-range_with_len (λ (k : ℕ). (r, k)) 1 (seat_count w r)
-
 length-crosses : (w : Written) (n : ℕ) → length (seat_crosses_before w n) ≡ seats_before w n
 length-crosses w n =
-    length-flat_map_same (crosses_for w) (named_seats w) (λ r. length-crosses_for w r ∙ sym (length-named_seats w r)) (range_with_len 0 n) ∙ length-named w n
+    length-flat_map_same (crosses_for w) (named_seats w) (λ r. length-crosses_for w r ∙ sym (length-names w r)) (range_with_len 0 n) ∙ length-named w n
 
 -- the cross places of a seat
 crosses_of_seat : {w : Written} {seat r k : ℕ} → IsSeatOf w seat r k → row (seat_crosses_before w (length w.reviewers)) seat ≡ seat_crosses w r k
@@ -135,6 +136,7 @@ crosses_of_seat {w} {seat} {r} {k} s =
     ∙ ap (λ x. get_or (crosses_for w x) k []) this
     ∙ get_or-map-range_with_len (seat_crosses w r) 0 (seat_count w r) k k [] s.below (omega arith)
 
+-- the rows that are made for the reviewers' seats are their cross places in the market
 pub reviewers_crossed : {w : Written} → HasSoundEntries w → AreCrosses (seat_market w).reviewers (seat_market w).proposers (seat_crosses_before w (length w.reviewers))
 reviewers_crossed {w} h = record {
   one_each = length-crosses w (length w.reviewers) ∙ sym (length-reviewers w);

@@ -7,16 +7,18 @@ use Rattle.sm_lists.proofs.PlaceLemmas.{get_or-place_on, place_on-lt}
 use Rattle.sm_lists.proofs.Counting.{one_to_one-le}
 use Rattle.sm_instance.proofs.LoadLemmas.{test_cases}
 
-place_here : (x b : ℕ) (xs : List ℕ) → (x == b) ≡ true → place_on (x ∷ xs) b ≡ 0
+-- the place of the first item, and of one behind it
+pub place_here : (x b : ℕ) (xs : List ℕ) → (x == b) ≡ true → place_on (x ∷ xs) b ≡ 0
 place_here x b xs e = rw e refl
 
-place_behind : (x b : ℕ) (xs : List ℕ) → (x == b) ≡ false → place_on (x ∷ xs) b ≡ place_on xs b + 1
+pub place_behind : (x b : ℕ) (xs : List ℕ) → (x == b) ≡ false → place_on (x ∷ xs) b ≡ place_on xs b + 1
 place_behind x b xs e = rw e (omega arith)
 
-taken : (t : ℕ → Bool) (x : ℕ) (xs : List ℕ) → t x ≡ true → filter t (x ∷ xs) ≡ x ∷ filter t xs
+-- the first item passes the test or fails it
+pub taken : (t : ℕ → Bool) (x : ℕ) (xs : List ℕ) → t x ≡ true → filter t (x ∷ xs) ≡ x ∷ filter t xs
 taken t x xs e = rw e refl
 
-left_out : (t : ℕ → Bool) (x : ℕ) (xs : List ℕ) → t x ≡ false → filter t (x ∷ xs) ≡ filter t xs
+pub left_out : (t : ℕ → Bool) (x : ℕ) (xs : List ℕ) → t x ≡ false → filter t (x ∷ xs) ≡ filter t xs
 left_out t x xs e = rw e refl
 
 -- who passes the test keeps a place
@@ -90,6 +92,7 @@ kept_order_back t xs b c e f on h = elim (cases_lt (place_on xs b) (place_on xs 
   ]
 ]
 
+-- a list without repeats
 pub record AreDistinct (xs : List ℕ) : Type 0 where
   pub distinct : (i j : ℕ) → i < j → j < length xs → get_or xs i 0 ≢ get_or xs j 0
 

@@ -1,6 +1,7 @@
 -- A stable matching of seats is a stable matching of the instance, once seat numbers are forgotten.
-use Rattle.std.proofs.Common.{◌≡◌, ◌≢◌, ℕ, zero, suc, ◌+◌, ◌-◌, ◌<◌, ◌≤◌, ◌⊎◌, Bool, true, false, List, [], Option, Some, None, length, get_or, min, refl, sym, ap, ◌∙◌, arith, inl, inr}
+use Rattle.std.proofs.Common.{◌≡◌, ℕ, ◌+◌, ◌-◌, ◌<◌, ◌≤◌, false, List, Option, length, get_or, refl, sym, ap, ◌∙◌, arith, inl, inr}
 use Rattle.std.proofs.lemmas.Bool.{cases_lt}
+use Rattle.std.proofs.lemmas.Option.{none-some, same_Some}
 use Rattle.sm_lists.specs.Rows.{place_on}
 use Rattle.sm_lists.proofs.Counting.{one_to_one-le, search_below, Decided-le}
 use Rattle.sm_lists.proofs.PlaceLemmas.{get_or-place_on}
@@ -13,7 +14,7 @@ use Rattle.sm_instance.proofs.PlaceLemmas.{place_of-entry}
 use Rattle.sm_market.specs.Lists.{row, entry, place_of}
 use Rattle.sm_market.specs.Matching.{Places, standing, IsMatching}
 use Rattle.sm_market.specs.Stable.{IsStable}
-use Rattle.sm_market.proofs.Core.{Sides, Stand, Stable, Pair, pair_of', one_proposer, one_reviewer as same_seat}
+use Rattle.sm_market.proofs.Core.{Stable, Pair, pair_of', one_proposer, one_reviewer as same_seat}
 use Rattle.sm_market.proofs.Bridge.{sides_of, stand_of, fit_of, stable_of}
 use Rattle.sm_seats.specs.SeatMarket.{seat_count, seats_before, seat_market}
 use Rattle.sm_seats.specs.Seating.{seating_of, written_of}
@@ -25,37 +26,22 @@ use Rattle.sm_seats.proofs.MarketLaws.{is_market, rank_is, length-list}
 use Rattle.sm_seats.proofs.LoadLaws.{AreAcceptable, item_at, seated_distinct, sits, length-seated, seated-lt-row}
 use Rattle.sm_seats.proofs.WrittenLemmas.{written_there, length-written, SitsAt, seat_cases, sits_at, at_seat}
 
-none_some : {x : ℕ} → ◌≡◌ {A = Option ℕ} None (Some x) → ⊥
-none_some e = grind arith
-
-some_inj : {x y : ℕ} → ◌≡◌ {A = Option ℕ} (Some x) (Some y) → x ≡ y
-some_inj e = cc
-
 module _ {w : Written} (h : HasSoundEntries w) {m : Places} (f : IsMatching (seat_market w) m) where
-  abbrev forgotten_places : List (Option ℕ)
-  forgotten_places = written_of (seating_of w) m.proposers
-
-  abbrev sides : Sides
-  sides = sides_of (seat_market w) (is_market h)
-
-  abbrev stand : Stand
-  stand = stand_of (seat_market w) m
-
   -- each place that is left is on its list
   pub forgotten_assigned : IsAssignment w (written_of (seating_of w) m.proposers)
   forgotten_assigned = record {
     one_each = length-written w m.proposers;
     on_lists = λ p i e. elim (seat_cases h f p) [
-      | inl alone ↦ absurd (none_some (sym alone.written_held_is ∙ e))
-      | inr it ↦ omega (arith, some_inj (sym it.written_held_is ∙ e), it.at.mutual_.lists)
+      | inl alone ↦ absurd (none-some _ (sym alone.written_held_is ∙ e))
+      | inr it ↦ omega (arith, same_Some _ _ (sym it.written_held_is ∙ e), it.at.mutual_.lists)
     ];
   }
 
   -- and names a reviewer that is acceptable
   pub forgotten_acceptable : AreAcceptable w (written_of (seating_of w) m.proposers)
   forgotten_acceptable p i e = elim (seat_cases h f p) [
-    | inl alone ↦ absurd (none_some (sym alone.written_held_is ∙ e))
-    | inr it ↦ rw (sym (ap (written_entry w.proposers p) (some_inj (sym e ∙ it.written_held_is)) ∙ written_there w it.at.mutual_)) at (mutual_acceptable {w = w} it.at.mutual_)
+    | inl alone ↦ absurd (none-some _ (sym alone.written_held_is ∙ e))
+    | inr it ↦ rw (sym (ap (written_entry w.proposers p) (same_Some _ _ (sym e ∙ it.written_held_is)) ∙ written_there w it.at.mutual_)) at (mutual_acceptable {w = w} it.at.mutual_)
   ]
 
   -- the number, at r, of the seat of the i-th of its proposers
@@ -125,6 +111,7 @@ module _ {w : Written} (h : HasSoundEntries w) {m : Places} (f : IsMatching (sea
 
 -- p would rather have a seat of r than the one that it has, where it would rather have r on its written list
 module _ {w : Written} (h : HasSoundEntries w) {m : Places} (f : IsMatching (seat_market w) m) where
+  -- a seat of a reviewer that p would rather have stands before the seat that p has
   pub gains_seat : (p r k : ℕ) → IsMutual w.proposers w.reviewers p r → k < seat_count w r → written_place_of w.proposers p r < written_standing w (written_of (seating_of w) m.proposers) p
       → place_of (seat_market w).proposers p (seats_before w r + k) < standing (seat_market w).proposers m.proposers p
   gains_seat p r k both below gains =

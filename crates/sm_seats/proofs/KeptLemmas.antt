@@ -12,6 +12,7 @@ use Rattle.sm_seats.specs.Kept.{IsKept}
 use Rattle.sm_seats.proofs.CorrespondenceLaws.{sound_entries, is_seating}
 use Rattle.sm_seats.proofs.SeatingLaws.{list_of, rises}
 
+-- the seating of an instance can be kept
 pub seating_kept : {w : Written} → IsInstance w → IsKept (seating_of w)
 seating_kept {w} h =
     let it = is_seating (sound_entries h) in
@@ -34,6 +35,7 @@ pub record IsRead (s : Seating) (p place : ℕ) (list : List ℕ) (x : ℕ × �
   pub listed : place_on list x.0 < length list
   pub short : length list < 2 ^ 24
 
+-- it is so where the seat, its name and the list are read one after another
 pub place_read : {s : Seating} → IsKept s → (p place seat : ℕ) (list : List ℕ) (x : ℕ × ℕ) → place < length (row s.market.proposers p)
     → seat ≡ entry s.market.proposers p place → x ≡ get_or s.seats seat x → list ≡ row s.lists p → IsRead s p place list x
 place_read {s} kept p place seat list x on at read written =

@@ -2,6 +2,7 @@
 use Rattle.std.proofs.Common.{◌≡◌, ℕ, ◌+◌, ◌<◌, ◌≤◌, length, get_or, sym, ap, ◌∙◌, arith, inl, inr}
 use Rattle.std.proofs.lemmas.Bool.{cases_lt}
 use Rattle.std.proofs.lemmas.List.FromFn.{get_or-map-range_with_len, length-map-range_with_len, fill_by_all}
+use Rattle.sm_lists.proofs.RowLemmas.{row_in_range}
 use Rattle.sm_instance.specs.Written.{Written, row as written_row, entry as written_entry, place_of as written_place_of}
 use Rattle.sm_instance.specs.Faults.{HasSoundEntries}
 use Rattle.sm_instance.specs.Matching.{standing as written_standing}
@@ -16,7 +17,7 @@ use Rattle.sm_seats.specs.SeatMarket.{seat_market}
 use Rattle.sm_seats.specs.Seating.{seating_of, written_of, levels_at, levels_of}
 use Rattle.sm_seats.specs.Taken.{places_taken}
 use Rattle.sm_seats.specs.Correspondence.{AreLevelsOfSeats}
-use Rattle.sm_seats.proofs.SeatingLemmas.{row_there, length-levels, level_is, level_last}
+use Rattle.sm_seats.proofs.SeatingLemmas.{length-levels, level_is, level_last}
 use Rattle.sm_seats.proofs.SeatLemmas.{seat_list}
 use Rattle.sm_seats.proofs.SeatPlaces.{IsPlaced, seat_at_place, seat_on, places_order}
 use Rattle.sm_seats.proofs.MarketLaws.{is_market, length-proposers}
@@ -47,7 +48,7 @@ module _ {w : Written} (h : HasSoundEntries w) where
     per_place = length-levels (seating_of w);
     rising = λ p i j less on.
         let long = length-map-range_with_len (levels_at (seating_of w)) 0 (length (seat_market w).proposers) in
-        let here' = row_there (levels_of (seating_of w)) p j on in
+        let here' = row_in_range (levels_of (seating_of w)) p j on in
         let here : p < length (seat_market w).proposers = omega arith in
         let size = length-levels (seating_of w) p here in
         let a = seat_on h p i (omega arith) in

@@ -19,8 +19,6 @@ pub mod BestLaws
 pub mod LawsProved
 pub mod WitnessLemmas
 pub mod VectorLaws
-pub mod PairLaws
-pub mod LatticeLaws
 pub mod TakingLemmas
 pub mod CrossLemmas
 pub mod TableLemmas

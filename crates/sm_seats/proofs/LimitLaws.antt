@@ -1,12 +1,12 @@
 -- A market of few seats is within its limits.
-use Rattle.std.proofs.Common.{◌≡◌, ℕ, zero, suc, ◌+◌, ◌*◌, ◌<◌, ◌≤◌, ◌++◌, Bool, true, false, nat_lt, Option, Some, None, List, [], ◌∷◌, length, map, get_or, refl, sym, ap, ◌∙◌, arith, inl, inr}
+use Rattle.std.proofs.Common.{◌≡◌, ℕ, zero, suc, ◌+◌, ◌*◌, ◌<◌, ◌≤◌, ◌++◌, Bool, false, nat_lt, Some, None, List, [], ◌∷◌, length, map, get_or, ltb-false, refl, sym, ap, ◌∙◌, subst, arith, inl, inr}
 use Rattle.std.specs.List.{flat_map, range_with_len, sum_by, All}
 use Rattle.std.proofs.lemmas.List.Sums.{sum_by_push, sum_by-append, sum_by-le}
-use Rattle.std.proofs.lemmas.List.{map-append, length-map}
 use Rattle.std.proofs.lemmas.List.Concat.{flat_map-append}
 use Rattle.std.specs.List.{position_or_len}
 use Rattle.std.proofs.lemmas.Bool.{cases_eq, false≢true, le-ltb}
-use Rattle.std.proofs.lemmas.List.Sums.{position_or_len_is, passes_at_first}
+use Rattle.std.proofs.lemmas.List.Sums.{position_or_len_is, passes_at_first, fails_before_first}
+use Rattle.std.proofs.lemmas.Option.{none-some}
 use Rattle.std.proofs.lemmas.List.FromFn.{get_or-range_with_len, length-range_with_len}
 use Rattle.sm_text.specs.Limits.{most_seat_entries}
 use Rattle.sm_instance.proofs.AcceptLemmas.{lt_true}
@@ -139,4 +139,27 @@ none_is w few =
     elim (position_cases (is_past w) all) [
       | inr none ↦ none.0
       | inl found ↦ absurd (false≢true (sym (none_before w (length w.reviewers) (position_or_len (is_past w) all) 0 few (let l = found.1 in omega arith) (omega arith)) ∙ passes_at_first (is_past w) all 0 found.1))
+    ]
+
+-- and where none is found they are few
+pub few_where_none : (w : Written) → first_too_many w ≡ None → AreFewSeats w
+few_where_none w none = by_count (length w.reviewers) refl
+  where
+    past : ℕ → Bool
+    past r = nat_lt most_seat_entries (seat_entries_before w (r + 1))
+
+    all : List ℕ
+    all = range_with_len 0 (length w.reviewers)
+
+    by_count : (n : ℕ) → length w.reviewers ≡ n → AreFewSeats w
+    by_count zero e = rw e (omega arith)
+    by_count (suc n) e = elim (position_cases past all) [
+      | inl found ↦ absurd (none-some _ (sym none ∙ found.0))
+      | inr other ↦
+          let there : n < position_or_len past all = omega (arith, other.1, e, length-range_with_len 0 (length w.reviewers)) in
+          let at : get_or all n 0 ≡ n = get_or-range_with_len 0 (length w.reviewers) n 0 (omega (arith, e)) ∙ omega arith in
+          let fails : past n ≡ false = ap past (sym at) ∙ fails_before_first past all n 0 there in
+          let most = ltb-false most_seat_entries (seat_entries_before w (n + 1)) fails in
+          let same : length w.reviewers ≡ n + 1 = omega (arith, e) in
+          subst (λ (m : ℕ). seat_entries_before w m ≤ most_seat_entries) (sym same) most
     ]

@@ -21,6 +21,7 @@ mutual_turned m = record { lists = m.listed; listed = m.lists }
 pub acceptable_mutual : {w : Written} {p r : ℕ} → IsAcceptable w p r → IsMutual w.proposers w.reviewers p r
 acceptable_mutual h = record { lists = h.proposer_lists; listed = h.reviewer_lists }
 
+-- and those who list each other are acceptable to each other
 pub mutual_acceptable : {w : Written} {p r : ℕ} → IsMutual w.proposers w.reviewers p r → IsAcceptable w p r
 mutual_acceptable h = record { proposer_lists = h.lists; reviewer_lists = h.listed }
 

@@ -39,9 +39,11 @@ module _ {w : Written} (h : IsInstance w) (plain : IsPlain w) where
       let more : seats_before w (suc r) ≡ seats_before w r + seat_count w r = ap (seats_before w) (let e : suc r ≡ r + 1 = omega arith in e) ∙ seats_before_more w r in
       omega (arith, more, number_is r (omega arith), (plain.reviewers r (omega arith)).one)
 
+  -- it is the only seat of that reviewer
   pub seat_is : (r : ℕ) → r < length w.reviewers → seats_at w r ≡ r ∷ []
   seat_is r there = ap (range_with_len (seats_before w r)) (plain.reviewers r there).one ∙ ap (λ n. n ∷ []) (number_is r (omega arith))
 
+  -- and has the number 1 there
   pub named_is : (r : ℕ) → r < length w.reviewers → named_seats w r ≡ (r, 1) ∷ []
   named_is r there = ap (λ n. map (λ (k : ℕ). (r, k)) (range_with_len 1 n)) (plain.reviewers r there).one
 
@@ -57,6 +59,7 @@ module _ {w : Written} (h : IsInstance w) (plain : IsPlain w) where
       ∙ same_items (take n (row w.proposers p))
 
   module _ (p : ℕ) (there : p < length w.proposers) where
+    -- so a proposer's list of seats is its written list
     pub seat_row_is : seat_row w p ≡ row w.proposers p
     seat_row_is =
         let whole = take_all (length (row w.proposers p)) (row w.proposers p) (omega arith) in
@@ -76,6 +79,7 @@ module _ {w : Written} (h : IsInstance w) (plain : IsPlain w) where
         let it = plain.reviewers x (in_range p i on) in
         ap (λ n. replicate n (place_on (mutual_row w.reviewers w.proposers x) p)) it.one ∙ ap (λ l. place_on l p ∷ []) it.whole
 
+    -- so the cross places along its list of seats are those along its written list
     pub cross_row_is : (crosses : List (Option ℕ)) → AreCrossPlacesOf w.proposers w.reviewers p crosses → places_in crosses ≡ cross_row w p
     cross_row_is crosses are =
         let list : List ℕ = row w.proposers p in
@@ -91,6 +95,7 @@ module _ {w : Written} (h : IsInstance w) (plain : IsPlain w) where
         ∙ ap (flat_map (crosses_at w p)) (sym (plain.proposers p there))
 
   module _ (r : ℕ) (there : r < length w.reviewers) where
+    -- the list of its one seat is the written one
     pub lists_for_is : lists_for w r ≡ row w.reviewers r ∷ []
     lists_for_is = ap (λ n. replicate n (mutual_row w.reviewers w.proposers r)) (plain.reviewers r there).one ∙ ap (λ l. l ∷ []) (plain.reviewers r there).whole
 
@@ -111,6 +116,7 @@ module _ {w : Written} (h : IsInstance w) (plain : IsPlain w) where
         ∙ ap length (first_seats p i)
         ∙ length-take-le i (row w.proposers p) (let on = m.lists in omega arith)
 
+    -- so the cross places on the list of that seat are those on the written list
     pub crosses_for_is : (crosses : List (Option ℕ)) → AreCrossPlacesOf w.reviewers w.proposers r crosses → places_in crosses ∷ [] ≡ crosses_for w r
     crosses_for_is crosses are =
         let list : List ℕ = row w.reviewers r in

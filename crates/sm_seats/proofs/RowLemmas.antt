@@ -21,18 +21,6 @@ pub piece_pushed : {X Y : Type 0} (f : X → List Y) (xs : List X) (x : X) (ys z
 piece_pushed f xs x ys zs piece e joined is =
     joined ∙ ap (λ l. l ++ piece) e ∙ ap (λ l. flat_map f xs ++ l) is ∙ ap (λ l. flat_map f xs ++ l) (sym (append-nil (f x))) ∙ sym (flat_map-append f xs (x ∷ []))
 
--- an item where those before it are changed
-pub unchanged_at : {X : Type 0} (f : X → X) (xs : List X) (i : ℕ) (d : X) → i < length xs → get_or (map f (take i xs) ++ drop i xs) i d ≡ get_or xs i d
-unchanged_at f [] i d on = absurd (omega arith)
-unchanged_at f (x ∷ xs) zero d on = refl
-unchanged_at f (x ∷ xs) (suc i) d on = unchanged_at f xs i d (omega arith)
-
--- a list of one item
-pub only_item : {X : Type 0} (xs : List X) (d : X) → length xs ≡ 1 → xs ≡ get_or xs 0 d ∷ []
-only_item [] d one = absurd (omega arith)
-only_item (x ∷ []) d one = refl
-only_item (x ∷ y ∷ xs) d one = absurd (omega arith)
-
 -- one more item of a list is written over another list
 written_next : {X Y : Type 0} (f : X → Y) (xs : List X) (ys : List Y) (i : ℕ) (d : X) → i < length xs → length ys ≡ length xs
     → set (map f (take i xs) ++ drop i ys) i (f (get_or xs i d)) ≡ map f (take (suc i) xs) ++ drop (suc i) ys
@@ -41,6 +29,7 @@ written_next f (x ∷ xs) [] i d on long = absurd (omega arith)
 written_next f (x ∷ xs) (y ∷ ys) zero d on long = refl
 written_next f (x ∷ xs) (y ∷ ys) (suc i) d on long = ap (λ l. f x ∷ l) (written_next f xs ys i d (omega arith) (omega arith))
 
+-- with the changed items of the first i places written over a list, the next one is written at place i
 pub written_more : {X Y : Type 0} (f : X → Y) (xs : List X) (ys : List Y) (i : ℕ) (d : X) → i < length xs → length ys ≡ length xs
     → set (map f (take i xs) ++ drop i ys) i (f (get_or xs i d)) ≡ map f (take (i + 1) xs) ++ drop (i + 1) ys
 written_more f xs ys i d on long = written_next f xs ys i d on long ∙ ap (λ n. map f (take n xs) ++ drop n ys) (let e : suc i ≡ i + 1 = omega arith in e)

@@ -1,5 +1,5 @@
 -- Seats by number: of which reviewer a seat is.
-use Rattle.std.proofs.Common.{◌≡◌, ℕ, zero, suc, ◌+◌, ◌-◌, ◌<◌, ◌≤◌, ◌++◌, List, [], ◌∷◌, length, take, map, get_or, min, refl, sym, ap, ◌∙◌, arith, inl, inr}
+use Rattle.std.proofs.Common.{◌≡◌, ℕ, zero, suc, ◌+◌, ◌-◌, ◌<◌, ◌≤◌, ◌++◌, [], ◌∷◌, length, take, get_or, refl, sym, ap, ◌∙◌, arith, inl, inr}
 use Rattle.std.specs.List.{flat_map, range_with_len, sum_by}
 use Rattle.std.proofs.lemmas.Bool.{cases_lt, cases_eq}
 use Rattle.std.proofs.lemmas.List.{get_or_past, get_or-map, length-map}
@@ -62,6 +62,7 @@ one_reviewer {w} {seat} {r} {k} {s} {j} a b = elim (cases_lt r s) [
   ]
 ]
 
+-- and it has one number there
 pub one_number : {w : Written} {seat r k s j : ℕ} → IsSeatOf w seat r k → IsSeatOf w seat s j → k ≡ j
 one_number {w} a b = let same = ap (seats_before w) (one_reviewer a b) in omega (arith, a.is, b.is)
 

@@ -82,6 +82,7 @@ pub record HasSeat (w : Written) (p i : ℕ) : Type 0 where
   pub at : IsPlaced w p i reviewer number
 
 module _ {w : Written} (h : HasSoundEntries w) where
+  -- at each place of a proposer's list is a seat of some reviewer
   pub seat_on : (p i : ℕ) → i < length (row (seat_market w).proposers p) → HasSeat w p i
   seat_on p i on =
       let piece = in_piece (seats_at w) (partners w p) 0 i (let e = ap length (row_is w p) in omega arith) in

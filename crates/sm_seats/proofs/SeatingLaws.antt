@@ -4,6 +4,7 @@ use Rattle.std.proofs.lemmas.Bool.{cases_lt, cases_eq}
 use Rattle.std.proofs.lemmas.List.{get_or_past}
 use Rattle.std.proofs.lemmas.List.FromFn.{get_or-map-range_with_len}
 use Rattle.sm_lists.proofs.PlaceLemmas.{get_or-place_on}
+use Rattle.sm_lists.proofs.RowLemmas.{row_in_range}
 use Rattle.sm_instance.specs.Written.{AgentData, Written, no_agent, row as written_row, entry as written_entry}
 use Rattle.sm_instance.specs.Matching.{held as written_held, standing as written_standing}
 use Rattle.sm_instance.specs.Stable.{IsStable as IsWrittenStable, IsProposersBest as IsWrittenProposersBest, IsReviewersBest as IsWrittenReviewersBest}
@@ -14,7 +15,7 @@ use Rattle.sm_market.proofs.Bridge.{held_cases}
 use Rattle.sm_theory.specs.Vectors.{level_of}
 use Rattle.sm_seats.specs.Seating.{Seating, reviewer_of, written_place, written_of, levels_of}
 use Rattle.sm_seats.specs.Correspondence.{IsSeating}
-use Rattle.sm_seats.proofs.SeatingLemmas.{row_there, length-levels, level_is}
+use Rattle.sm_seats.proofs.SeatingLemmas.{length-levels, level_is}
 use Rattle.sm_seats.proofs.WrittenLemmas.{list_is}
 
 -- a proposer that isn't there stands at 0
@@ -33,6 +34,7 @@ module _ {w : Written} {s : Seating} (h : IsSeating w s) where
   pub written_on : (p i : ℕ) → i < length (row s.market.proposers p) → written_place s p i < length (written_row w.proposers p)
   written_on p i on = (let long = ap (λ (l : List ℕ). length l) (list_of p) in let below = h.on_lists p i on in omega arith)
 
+  -- at that written place the seat's reviewer is named
   pub written_names : (p i : ℕ) → i < length (row s.market.proposers p) → written_entry w.proposers p (written_place s p i) ≡ reviewer_of s (entry s.market.proposers p i)
   written_names p i on =
       ap (λ (l : List ℕ). get_or l (written_place s p i) 0) (sym (list_of p)) ∙ get_or-place_on (row s.lists p) (reviewer_of s (entry s.market.proposers p i)) (h.on_lists p i on)
@@ -42,7 +44,7 @@ module _ {w : Written} {s : Seating} (h : IsSeating w s) where
   rises p i j le on = elim (cases_eq i j) [
     | inl same ↦ (let e = ap (written_place s p) same in omega arith)
     | inr other ↦
-        let long = length-levels s p (row_there s.market.proposers p j on) in
+        let long = length-levels s p (row_in_range s.market.proposers p j on) in
         let up = h.levels.rising p i j (omega arith) (omega arith) in
         omega (arith, level_is s p i (omega arith), level_is s p j on)
   ]

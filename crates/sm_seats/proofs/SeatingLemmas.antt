@@ -5,6 +5,7 @@ use Rattle.std.proofs.lemmas.Bool.{cases_lt}
 use Rattle.std.proofs.lemmas.List.{get_or_past, get_or_append_left, get_or_push, length_push}
 use Rattle.std.proofs.lemmas.List.FromFn.{get_or-map-range_with_len, length-map-range_with_len}
 use Rattle.sm_lists.proofs.PlaceLemmas.{entry-place_of}
+use Rattle.sm_lists.proofs.RowLemmas.{row_in_range}
 use Rattle.sm_market.specs.Lists.{row, place_of}
 use Rattle.sm_market.specs.Matching.{held}
 use Rattle.sm_seats.specs.Seating.{Seating, reviewer_of, written_place, written_of, at_places, rank_of, levels_at, levels_of}
@@ -47,17 +48,10 @@ pub length-levels : (s : Seating) (p : ℕ) → p < length s.market.proposers �
 length-levels s p here =
     ap length (levels_row s p here) ∙ length_push (at_places s rank_of p) (length (row s.lists p) + 1) ∙ ap (λ n. n + 1) (length-at_places s rank_of p)
 
--- whoever lists somebody is there
-pub row_there : (rows : List (List ℕ)) (p i : ℕ) → i < length (row rows p) → p < length rows
-row_there rows p i h = elim (cases_lt p (length rows)) [
-  | inl here ↦ here
-  | inr past ↦ absurd (let e = ap length (get_or_past rows p [] past) in omega arith)
-]
-
 -- one more than the written place
 pub level_is : (s : Seating) (p i : ℕ) → i < length (row s.market.proposers p) → get_or (row (levels_of s) p) i 0 ≡ written_place s p i + 1
 level_is s p i on =
-    ap (λ l. get_or l i 0) (levels_row s p (row_there s.market.proposers p i on))
+    ap (λ l. get_or l i 0) (levels_row s p (row_in_range s.market.proposers p i on))
     ∙ get_or_append_left (at_places s rank_of p) ((length (row s.lists p) + 1) ∷ []) 0 i (omega (arith, length-at_places s rank_of p, on))
     ∙ at_place_is s rank_of 0 p i on
 

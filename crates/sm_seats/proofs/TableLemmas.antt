@@ -25,15 +25,18 @@ use Rattle.sm_seats.proofs.CrossLemmas.{back_more, back_same, filter-take_place}
 
 -- Counts along a list.
 
+-- so many of the first n on a list list its owner
 pub record IsCounted (agents others : List AgentData) (a n count : ℕ) : Type 0 where
   pub few : count ≤ n
   pub counted : count ≡ length (filter (lists_back others a) (take n (row agents a)))
 
+-- one more of them does
 pub count_more : {agents others : List AgentData} {a i count : ℕ} → i < length (row agents a) → lists_back others a (entry agents a i) ≡ true → IsCounted agents others a i count → IsCounted agents others a (i + 1) (count + 1)
 count_more {agents} {others} {a} {i} {count} on yes_ c =
     let long = ap length (back_more agents others a i on yes_) ∙ length_push (filter (lists_back others a) (take i (row agents a))) (entry agents a i) in
     record { few = omega (arith, c.few); counted = omega (arith, long, c.counted) }
 
+-- the next one doesn't
 pub count_same : {agents others : List AgentData} {a i count : ℕ} → i < length (row agents a) → lists_back others a (entry agents a i) ≡ false → IsCounted agents others a i count → IsCounted agents others a (i + 1) count
 count_same {agents} {others} {a} {i} {count} on no_ c =
     let long = ap length (back_same agents others a i on no_) in
@@ -52,21 +55,25 @@ seats_joined w xs r =
     ∙ ap (λ n. length (flat_map (seats_at w) xs) + n) (length-range_with_len (seats_before w r) (seat_count w r))
 
 module _ {w : Written} (h : IsInstance w) where
+  -- a capacity is at most 4096
   pub capacity-le : (r : ℕ) → capacity_of w.reviewers r ≤ 4096
   capacity-le r = elim (cases_lt r (length w.reviewers)) [
     | inl here ↦ (h.reviewers.sound r here).capacity
     | inr past ↦ let none : capacity_of w.reviewers r ≡ 0 = ap (λ (x : AgentData). x.capacity) (get_or_past w.reviewers r no_agent past) in omega arith
   ]
 
+  -- and so is the number of a reviewer's seats
   pub seat_count-le : (r : ℕ) → seat_count w r ≤ 4096
   seat_count-le r = omega (arith, seat_count-le-capacity w r, capacity-le r)
 
+  -- the next reviewer lists p, and adds its seats
   pub list_more : {p i count : ℕ} → i < length (row w.proposers p) → lists_back w.reviewers p (entry w.proposers p i) ≡ true → IsListed w p i count → IsListed w p (i + 1) (count + seat_count w (entry w.proposers p i))
   list_more {p} {i} {count} on yes_ c =
       let r = entry w.proposers p i in
       let more = ap (λ l. length (flat_map (seats_at w) l)) (back_more w.proposers w.reviewers p i on yes_) ∙ seats_joined w (reviewers_before w p i) r in
       record { few = omega (arith, c.few, seat_count-le r); counted = omega (arith, more, c.counted) }
 
+  -- the next reviewer doesn't list p, and adds none
   pub list_same : {p i count : ℕ} → i < length (row w.proposers p) → lists_back w.reviewers p (entry w.proposers p i) ≡ false → IsListed w p i count → IsListed w p (i + 1) count
   list_same {p} {i} {count} on no_ c =
       let same = ap (λ l. length (flat_map (seats_at w) l)) (back_same w.proposers w.reviewers p i on no_) in
@@ -89,14 +96,17 @@ module _ {w : Written} (h : IsInstance w) where
 
 -- What is read of the tables.
 
+-- the number of r's first seat, or behind the last reviewer how many seats there are
 pub first_seat_at : (w : Written) (r : ℕ) → r ≤ length w.reviewers → get_or (first_seats_of w) r 0 ≡ seats_before w r
 first_seat_at w r le = get_or-map-range_with_len (seats_before w) 0 (length w.reviewers + 1) r r 0 (omega arith) (omega arith)
 
+-- the row of a reviewer in the table of lists with inert entries
 pub inert_row_at : (w : Written) (r : ℕ) → r < length w.reviewers → table_row (inert_places_of w) r ≡ inert_places_at w r
 inert_row_at w r there = get_or-map-range_with_len (inert_places_at w) 0 (length w.reviewers) r r [] there (omega arith)
 
 -- the places that are read of a table of a list with inert entries, or without a table
 module _ (w : Written) (r j : ℕ) (on : j < length (row w.reviewers r)) where
+  -- where there is a table of its list, the place is read there
   pub mutual_place_read : j < length (inert_places_at w r) → get_or (inert_places_at w r) j 0 ≡ mutual_before w r j
   mutual_place_read there = elim (test_cases (nat_eq (acceptable_at w r) (length (row w.reviewers r)))) [
     | inl whole ↦
@@ -107,6 +117,7 @@ module _ (w : Written) (r j : ℕ) (on : j < length (row w.reviewers r)) where
         ∙ get_or-map-range_with_len (mutual_before w r) 0 (length (row w.reviewers r)) j j 0 on (omega arith)
   ]
 
+  -- without a table of its list the place is that of the written list
   pub mutual_place_same : length (inert_places_at w r) ≤ j → j ≡ mutual_before w r j
   mutual_place_same past = elim (test_cases (nat_eq (acceptable_at w r) (length (row w.reviewers r)))) [
     | inl whole ↦ sym (whole_before (lists_back w.proposers r) (row w.reviewers r) j (eqb-true _ _ whole) (omega (arith, on)))
@@ -115,11 +126,13 @@ module _ (w : Written) (r j : ℕ) (on : j < length (row w.reviewers r)) where
         omega (arith, long, past, on)
   ]
 
+-- the place where the seats of the reviewer at place i begin on p's list of seats
 pub seat_place_at : (w : Written) (p i : ℕ) → p < length w.proposers → i ≤ length (row w.proposers p) → table_entry (seat_places_of w) p i ≡ seats_listed w p i
 seat_place_at w p i there on =
     ap (λ l. get_or l i 0) (get_or-map-range_with_len (seat_places_at w) 0 (length w.proposers) p p [] there (omega arith))
     ∙ get_or-map-range_with_len (seats_listed w p) 0 (length (row w.proposers p) + 1) i i 0 (omega arith) (omega arith)
 
+-- all such places of p
 pub seat_row_at : (w : Written) (p : ℕ) → p < length w.proposers → table_row (seat_places_of w) p ≡ seat_places_at w p
 seat_row_at w p there = get_or-map-range_with_len (seat_places_at w) 0 (length w.proposers) p p [] there (omega arith)
 
@@ -149,6 +162,7 @@ pub record AreSeatsRead (w : Written) (firsts : List ℕ) (r : ℕ) : Type 0 whe
   pub count : get_or firsts (r + 1) 0 - get_or firsts r 0 ≡ seat_count w r
   pub within : get_or firsts (r + 1) 0 ≤ seats_before w (length w.reviewers)
 
+-- the numbers of r's first seat and of the one behind its last tell how many seats r has
 pub seats_read : (w : Written) {firsts : List ℕ} (r : ℕ) → firsts ≡ first_seats_of w → r < length w.reviewers → AreSeatsRead w firsts r
 seats_read w {firsts} r is there =
     let long = ap length is ∙ length-map-range_with_len (seats_before w) 0 (length w.reviewers + 1) in

@@ -4,6 +4,7 @@ use Rattle.std.specs.Option.{option_map}
 use Rattle.std.proofs.lemmas.Bool.{cases_lt, false≢true}
 use Rattle.std.proofs.lemmas.List.{get_or_past}
 use Rattle.std.proofs.lemmas.List.FromFn.{get_or-map-range_with_len, length-map-range_with_len}
+use Rattle.std.proofs.lemmas.Option.{none-some, same_Some}
 use Rattle.sm_lists.specs.Rows.{place_on}
 use Rattle.sm_lists.proofs.PlaceLemmas.{get_or-place_on, entry-place_of}
 use Rattle.sm_instance.specs.Written.{Written, row as written_row, entry as written_entry, place_of as written_place_of, capacity_of}
@@ -32,12 +33,6 @@ use Rattle.sm_seats.proofs.LoadLaws.{item_at, seated_distinct, seated-le-row, mu
 use Rattle.sm_seats.proofs.SeatingLemmas.{written_held}
 use Rattle.sm_seats.proofs.WrittenLemmas.{written_is, written_there}
 
-none_some : {x : ℕ} → ◌≡◌ {A = Option ℕ} None (Some x) → ⊥
-none_some e = grind arith
-
-some_inj : {x y : ℕ} → ◌≡◌ {A = Option ℕ} (Some x) (Some y) → x ≡ y
-some_inj e = cc
-
 -- a proposer is matched, and has a seat; or it is unmatched
 pub record DoesTake (w : Written) (places : List (Option ℕ)) (p : ℕ) : Type 0 where
   pub written : ℕ
@@ -51,12 +46,14 @@ pub record DoesTake (w : Written) (places : List (Option ℕ)) (p : ℕ) : Type 
   pub taken_is : held (places_taken w places) p ≡ Some place
   pub stands : standing (seat_market w).proposers (places_taken w places) p ≡ place
 
+-- a proposer that is unmatched has no seat, and stands past its list of seats
 pub record TakesNone (w : Written) (places : List (Option ℕ)) (p : ℕ) : Type 0 where
   pub held_is : held places p ≡ None
   pub taken_is : held (places_taken w places) p ≡ None
   pub stands : standing (seat_market w).proposers (places_taken w places) p ≡ length (row (seat_market w).proposers p)
 
 module _ {w : Written} (h : HasSoundEntries w) (places : List (Option ℕ)) (m : IsWrittenMatching w places) where
+  -- a proposer that is matched takes the place of its seat, and another one takes none
   pub taken_held : (p : ℕ) → held (places_taken w places) p ≡ option_map (place_taken w places p) (held places p)
   taken_held p =
       let each : ℕ → Option ℕ = λ p. option_map (place_taken w places p) (held places p) in
@@ -134,8 +131,8 @@ module _ {w : Written} (h : HasSoundEntries w) (places : List (Option ℕ)) (m :
   -- it is on its list
   pub taken_on : (p i : ℕ) → held (places_taken w places) p ≡ Some i → i < length (row (seat_market w).proposers p)
   taken_on p i e = elim (taken_cases p) [
-    | inl alone ↦ absurd (none_some (sym alone.taken_is ∙ e))
-    | inr it ↦ omega (arith, some_inj (sym it.taken_is ∙ e), it.placed_there.on)
+    | inl alone ↦ absurd (none-some _ (sym alone.taken_is ∙ e))
+    | inr it ↦ omega (arith, same_Some _ _ (sym it.taken_is ∙ e), it.placed_there.on)
   ]
 
   -- so the proposers can hold these places together
@@ -181,10 +178,10 @@ module _ {w : Written} (h : HasSoundEntries w) (places : List (Option ℕ)) (m :
   pub has_seat : (q r : ℕ) → is_at w places q r ≡ true
       → Pair (sides_of (seat_market w) (is_market h)) (stand_of (seat_market w) (with_proposers (seat_market w) (places_taken w places))) q (seats_before w r + place_on (seated w places r) q)
   has_seat q r at = elim (taken_cases q) [
-    | inl alone ↦ absurd (let x = place_at w q r (held places q) at in none_some (sym alone.held_is ∙ x.1))
+    | inl alone ↦ absurd (let x = place_at w q r (held places q) at in none-some _ (sym alone.held_is ∙ x.1))
     | inr it ↦
         let x = place_at w q r (held places q) at in
-        let r_is : it.reviewer ≡ r = sym it.there ∙ ap (written_entry w.proposers q) (some_inj (sym it.held_is ∙ x.1)) ∙ x.2 in
+        let r_is : it.reviewer ≡ r = sym it.there ∙ ap (written_entry w.proposers q) (same_Some _ _ (sym it.held_is ∙ x.1)) ∙ x.2 in
         let pair : Pair (sides_of (seat_market w) (is_market h)) (stand_of (seat_market w) (with_proposers (seat_market w) (places_taken w places))) q (seats_before w it.reviewer + place_on (seated w places it.reviewer) q) =
         pair_at {s = sides_of (seat_market w) (is_market h)} {m = stand_of (seat_market w) (with_proposers (seat_market w) (places_taken w places))} q _ taken_fit
         (omega (arith, it.stands, it.placed_there.on)) (place_is h it.placed_there ∙ sym it.stands) in
@@ -196,6 +193,7 @@ module _ {w : Written} (h : HasSoundEntries w) (places : List (Option ℕ)) (m :
     pub at : is_at w places q r ≡ true
     pub number_is : place_on (seated w places r) q ≡ k
 
+  -- whoever has the k-th seat of r sits as the k-th of those at r
   pub sits_as : (q seat r k : ℕ) → Pair (sides_of (seat_market w) (is_market h)) (stand_of (seat_market w) (with_proposers (seat_market w) (places_taken w places))) q seat
       → IsSeatOf w seat r k → SitsAs q r k
   sits_as q seat r k pair s = elim (taken_cases q) [

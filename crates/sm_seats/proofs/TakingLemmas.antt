@@ -1,9 +1,9 @@
 -- Seating the proposers of a matching, one reviewer after another and each in its order.
-use Rattle.std.proofs.Common.{◌≡◌, ◌≢◌, ℕ, zero, suc, ◌+◌, ◌<◌, ◌≤◌, ◌^◌, ◌++◌, ◌==◌, Bool, true, false, List, [], ◌∷◌, Option, Some, None, Vec, length, get_or, set, take, replicate, refl, sym, ap, ◌∙◌, subst, arith, inl, inr, ext_get_or}
+use Rattle.std.proofs.Common.{◌≡◌, ◌≢◌, ℕ, zero, suc, ◌+◌, ◌<◌, ◌≤◌, ◌++◌, ◌==◌, Bool, true, false, List, [], ◌∷◌, Option, Some, None, Vec, length, get_or, set, take, replicate, refl, sym, ap, ◌∙◌, subst, arith, inl, inr, ext_get_or}
 use Rattle.std.specs.List.{filter}
 use Rattle.std.specs.declared.alloc.Global.{Global}
 use Rattle.std.proofs.lemmas.Bool.{cases_lt, cases_eq, false≢true, eq-eqb}
-use Rattle.std.proofs.lemmas.List.{get_or_past, get_or-set_same, get_or-set_other, length-set, take_more, take_all, length-replicate, get_or-replicate}
+use Rattle.std.proofs.lemmas.List.{get_or_past, get_or-set_same, get_or-set_other, length-set, length-replicate, get_or-replicate}
 use Rattle.std.proofs.lemmas.List.Elements.{filter_more}
 use Rattle.sm_lists.specs.Rows.{place_on, rows_of, row as list_at}
 use Rattle.sm_lists.proofs.PlaceLemmas.{get_or-place_on}
@@ -18,7 +18,7 @@ use Rattle.sm_seats.specs.Seating.{written_lists}
 use Rattle.sm_seats.specs.Taken.{seated, place_taken, places_taken}
 use Rattle.sm_seats.specs.Taking.{AreSeatedBefore, AreSeatedAt, AreFirstSeatedAt}
 use Rattle.sm_seats.proofs.FilterLemmas.{AreDistinct}
-use Rattle.sm_seats.proofs.MutualLemmas.{IsMutual, mutual_distinct}
+use Rattle.sm_seats.proofs.MutualLemmas.{mutual_distinct}
 use Rattle.sm_seats.proofs.SeatLemmas.{IsSeatOf, one_reviewer, one_number, seat_found, seat_name, seat_list, seat_there, length-reviewers}
 use Rattle.sm_seats.proofs.SeatPlaces.{seat_place}
 use Rattle.sm_seats.proofs.MarketLaws.{length-proposers}
@@ -26,14 +26,12 @@ use Rattle.sm_seats.proofs.LoadLaws.{mutual_at, sits}
 use Rattle.sm_seats.proofs.WrittenLemmas.{list_is}
 use Rattle.sm_seats.proofs.TakenLaws.{taken_cases, taken_held, taken_long, below_count}
 
-none_some : {x : ℕ} → ◌≡◌ {A = Option ℕ} None (Some x) → ⊥
-none_some e = grind arith
-
 -- Lists that are held in vectors.
 
 list_same : (w : Written) (lists : List (Vec ℕ Global)) → rows_of lists ≡ written_lists w.proposers → (q : ℕ) → list_at (rows_of lists) q ≡ written_row w.proposers q
 list_same w lists e q = ap (λ (l : List (List ℕ)). list_at l q) e ∙ list_is w q
 
+-- the place at which a proposer is matched is on its list, as it is held in a vector
 pub place_listed : (w : Written) (places : List (Option ℕ)) (lists : List (Vec ℕ Global)) → rows_of lists ≡ written_lists w.proposers → IsAssignment w places → (q i : ℕ) → held places q ≡ Some i
     → i < length (list_at (rows_of lists) q)
 place_listed w places lists e a q i h = let long = ap (λ (l : List ℕ). length l) (list_same w lists e q) in let on = a.on_lists q i h in omega arith
@@ -98,6 +96,7 @@ module _ {w : Written} (h : HasSoundEntries w) {places : List (Option ℕ)} (m :
       let taken : place_taken w places q i ≡ place_of (seat_market w).proposers q (seats_before w r + k) = ap (λ y. place_of (seat_market w).proposers q (seats_before w y + place_on (seated w places y) q)) there in
       omega arith
 
+  -- one that is at r takes the next of its seats
   pub one_seated : {r j count x : ℕ} {before after : List (Option ℕ)} → length before ≡ length w.proposers → AreFirstSeatedAt w places r j count before after → j < length (mutual_row w.reviewers w.proposers r)
       → is_at w places (get_or (mutual_row w.reviewers w.proposers r) j 0) r ≡ true → x ≡ place_of (seat_market w).proposers (get_or (mutual_row w.reviewers w.proposers r) j 0) (seats_before w r)
       → AreFirstSeatedAt w places r (j + 1) (count + 1) before (set after (get_or (mutual_row w.reviewers w.proposers r) j 0) (Some (x + count)))
@@ -144,6 +143,7 @@ module _ {w : Written} (h : HasSoundEntries w) {places : List (Option ℕ)} (m :
             get_or-set_other after (get_or (mutual_row w.reviewers w.proposers r) j 0) (get_or (mutual_row w.reviewers w.proposers r) k 0) (Some (x + count)) None apart ∙ f.seated k i (omega arith) holds there
       ]
 
+  -- one that isn't at r is passed
   pub one_passed : {r j count : ℕ} {before after : List (Option ℕ)} → AreFirstSeatedAt w places r j count before after → j < length (mutual_row w.reviewers w.proposers r)
       → is_at w places (get_or (mutual_row w.reviewers w.proposers r) j 0) r ≡ false → AreFirstSeatedAt w places r (j + 1) count before after
   one_passed {r} {j} {count} {before} {after} f on no_ = record {
@@ -163,6 +163,7 @@ module _ {w : Written} (h : HasSoundEntries w) {places : List (Option ℕ)} (m :
     others = f.others;
   }
 
+  -- at the end of r's list all those at r have their seats
   pub all_seated : {r j count : ℕ} {before after : List (Option ℕ)} → AreFirstSeatedAt w places r j count before after → length (mutual_row w.reviewers w.proposers r) ≤ j → AreSeatedAt w places r before after
   all_seated {r} {j} {count} {before} {after} f past = record {
     long = f.long;
@@ -178,6 +179,7 @@ module _ {w : Written} (h : HasSoundEntries w) {places : List (Option ℕ)} (m :
 
   -- All reviewers.
 
+  -- before the first seat nobody is seated
   pub nobody_seated : AreSeatedBefore w places 0 (replicate (length (seat_market w).proposers) None)
   nobody_seated = record {
     long = length-replicate (length (seat_market w).proposers) _ ∙ length-proposers w;
@@ -223,6 +225,7 @@ module _ {w : Written} (h : HasSoundEntries w) {places : List (Option ℕ)} (m :
     ];
   }
 
+  -- behind the last seat everybody has the place that the matching takes
   pub everybody_seated : {seat : ℕ} {taken : List (Option ℕ)} → AreSeatedBefore w places seat taken → length (seat_market w).reviewers ≤ seat → taken ≡ places_taken w places
   everybody_seated {seat} {taken} b past = ext_get_or None taken (places_taken w places) (b.long ∙ sym (taken_long h places m ∙ length-proposers w)) (λ q _. elim (taken_cases h places m q) [
     | inl alone ↦ b.alone q alone.held_is ∙ sym alone.taken_is
@@ -246,12 +249,14 @@ seat_first w seat r number on is one =
     let zero_ : s.number ≡ 0 = omega arith in
     rw (sym r_is) at (rw zero_ at s.of)
 
+-- a seat that isn't the first of its reviewer
 pub record IsLater (w : Written) (seat : ℕ) : Type 0 where
   pub reviewer : ℕ
   pub number : ℕ
   pub of : IsSeatOf w seat reviewer number
   pub later : 0 < number
 
+-- a seat with another number than 1 is such a one
 pub seat_later : (w : Written) (seat r number : ℕ) → seat < length (seat_market w).reviewers → (r, number) ≡ get_or (seats_of w) seat (0, 0) → number ≢ 1 → IsLater w seat
 seat_later w seat r number on is other =
     let s = seat_found w seat (length w.reviewers) (omega (arith, length-reviewers w)) in
@@ -261,6 +266,7 @@ seat_later w seat r number on is other =
 -- The same of a market and of names of seats that are those of the instance.
 
 module _ (w : Written) (l : Lists) (is : l ≡ seat_market w) where
+  -- where r has a seat, its first one is there
   pub first_there : (seat r : ℕ) → seat ≡ seats_before w r → 0 < seat_count w r → seat < length l.reviewers
   first_there seat r first has =
       let s : IsSeatOf w seat r 0 = record { is = omega arith; below = has } in
@@ -269,23 +275,28 @@ module _ (w : Written) (l : Lists) (is : l ≡ seat_market w) where
       let same = ap (λ (l : Lists). length l.reviewers) is in
       omega arith
 
+  -- a proposer of the market is one of the instance
   pub proposer_there : (q : ℕ) → q < length l.proposers → q < length w.proposers
   proposer_there q here = (let same = ap (λ (l : Lists). length l.proposers) is in let count = length-proposers w in omega arith)
 
+  -- the list of r's first seat is that of r's acceptable proposers
   pub first_list : (seat r : ℕ) → seat ≡ seats_before w r → 0 < seat_count w r → row l.reviewers seat ≡ mutual_row w.reviewers w.proposers r
   first_list seat r first has =
       let s : IsSeatOf w seat r 0 = record { is = omega arith; below = has } in
       ap (λ (l : Lists). row l.reviewers seat) is ∙ seat_list s
 
+  -- a seat of the market is one of the instance's
   pub seat_below : (seat : ℕ) → seat < length l.reviewers → seat < length (seat_market w).reviewers
   seat_below seat on = (let same = ap (λ (l : Lists). length l.reviewers) is in omega arith)
 
   module _ (h : HasSoundEntries w) {places : List (Option ℕ)} (m : IsMatching w places) where
+    -- at first nobody is seated
     pub begin : (items : List (Option ℕ)) → items ≡ replicate (length l.proposers) None → AreSeatedBefore w places 0 items
     begin items e =
         let all : items ≡ replicate (length (seat_market w).proposers) None = e ∙ ap (λ k. replicate k None) (ap (λ (l : Lists). length l.proposers) is) in
         subst (AreSeatedBefore w places 0) (sym all) (nobody_seated h m)
 
+    -- one that is at r, as it is read of the list of r's first seat, takes the next seat of r
     pub step_yes : (seat r j count q x : ℕ) (before after : List (Option ℕ)) → seat ≡ seats_before w r → 0 < seat_count w r → length before ≡ length w.proposers → AreFirstSeatedAt w places r j count before after
         → j < length (row l.reviewers seat) → q ≡ get_or (row l.reviewers seat) j 0 → is_at w places q r ≡ true → x ≡ place_of l.proposers (get_or (row l.reviewers seat) j 0) seat
         → AreFirstSeatedAt w places r (j + 1) (count + 1) before (set after q (Some (x + count)))
@@ -298,6 +309,7 @@ module _ (w : Written) (l : Lists) (is : l ≡ seat_market w) where
         subst (λ y. AreFirstSeatedAt w places r (j + 1) (count + 1) before (set after y (Some (x + count)))) (sym who')
         (one_seated h m size f on' (ap (λ y. is_at w places y r) (sym who') ∙ at) place')
 
+    -- one that isn't at r is passed
     pub step_no : (seat r j count q : ℕ) (before after : List (Option ℕ)) → seat ≡ seats_before w r → 0 < seat_count w r → AreFirstSeatedAt w places r j count before after
         → j < length (row l.reviewers seat) → q ≡ get_or (row l.reviewers seat) j 0 → is_at w places q r ≡ false → AreFirstSeatedAt w places r (j + 1) count before after
     step_no seat r j count q before after first has f on who no_ =
@@ -306,12 +318,15 @@ module _ (w : Written) (l : Lists) (is : l ≡ seat_market w) where
         let who' : q ≡ get_or (mutual_row w.reviewers w.proposers r) j 0 = who ∙ ap (λ (l : List ℕ). get_or l j 0) list in
         one_passed h m f on' (ap (λ y. is_at w places y r) (sym who') ∙ no_)
 
+    -- at the end of that list all those at r have their seats
     pub row_seated : (seat r j count : ℕ) (before after : List (Option ℕ)) → seat ≡ seats_before w r → 0 < seat_count w r → AreFirstSeatedAt w places r j count before after
         → length (row l.reviewers seat) ≤ j → AreSeatedAt w places r before after
     row_seated seat r j count before after first has f past = all_seated h m f (let long = ap (λ (l : List ℕ). length l) (first_list seat r first has) in omega arith)
 
+-- a seat whose name has the number 1 is the first of its reviewer
 pub first_named : (w : Written) (seats : List (ℕ × ℕ)) (seat : ℕ) → seats ≡ seats_of w → seat < length (seat_market w).reviewers → (get_or seats seat (0, 0)).1 ≡ 1 → IsSeatOf w seat (get_or seats seat (0, 0)).0 0
 first_named w seats seat is on one = seat_first w seat (get_or seats seat (0, 0)).0 (get_or seats seat (0, 0)).1 on (ap (λ (l : List (ℕ × ℕ)). get_or l seat (0, 0)) is) one
 
+-- a seat whose name has another number is a later one of its reviewer
 pub later_named : (w : Written) (seats : List (ℕ × ℕ)) (seat : ℕ) → seats ≡ seats_of w → seat < length (seat_market w).reviewers → (get_or seats seat (0, 0)).1 ≢ 1 → IsLater w seat
 later_named w seats seat is on other = seat_later w seat (get_or seats seat (0, 0)).0 (get_or seats seat (0, 0)).1 on (ap (λ (l : List (ℕ × ℕ)). get_or l seat (0, 0)) is) other

@@ -41,6 +41,7 @@ pub record HasAllowedSeats (w : Written) (s : Seating) (places : List (Option �
   pub forgets : written_of s matching.proposers ≡ places
 
 module _ {w : Written} {s : Seating} (h : IsSeating w s) where
+  -- an allowed stable matching of the instance has its seats
   pub allowed_seats : {places : List (Option ℕ)} → IsWrittenStable w places → IsWrittenAllowed w places → HasAllowedSeats w s places
   allowed_seats {places} st a =
       let n = h.seated places st in
@@ -55,6 +56,7 @@ module _ {w : Written} {s : Seating} (h : IsSeating w s) where
     vector = a.vector ∙ h.ranks a.matching a.stable.matching;
   }
 
+  -- and the other way round
   pub vector_seated : (v : List ℕ) → IsAllowedRankVector w v → IsAllowedVector s.market (levels_of s) (leveled w w.forced) (leveled w w.forbidden) v
   vector_seated v a =
       let n = allowed_seats a.stable a.allowed in
@@ -65,10 +67,6 @@ module _ {w : Written} {s : Seating} (h : IsSeating w s) where
       → IsListing Before (IsAllowedVector s.market (levels_of s) (leveled w w.forced) (leveled w w.forbidden)) cursor limit out more
       → IsListing Before (IsAllowedRankVector w) cursor limit out more
   listing_written l = listing_alike vector_written vector_seated l
-
-  -- where nothing is allowed at the seats, nothing is in the instance
-  pub nothing_allowed : ((m : Places) → IsStable s.market m → ¬ IsAllowedSeated w s m) → (places : List (Option ℕ)) → IsWrittenStable w places → ¬ IsWrittenAllowed w places
-  nothing_allowed none places st a = let n = allowed_seats st a in none n.matching n.stable n.allowed
 
   -- the lightest that is allowed at the seats is no heavier than any that is allowed in the instance
   pub lightest_written : (by : Measure) (m : Places) → IsLightestAllowed s.market (levels_of s) (weights_of by w s) (leveled w w.forced) (leveled w w.forbidden) m

@@ -1,9 +1,10 @@
 -- Conditions, weights and regrets of matchings of seats are those of the instance.
-use Rattle.std.proofs.Common.{◌≡◌, ℕ, zero, suc, ◌+◌, ◌<◌, ◌↔◌, true, List, [], Option, Some, None, IsTrue, length, get_or, map, fold, max, ℤ, pos, ◌+ℤ◌, refl, sym, ap, ◌∙◌, arith, inl, inr}
+use Rattle.std.proofs.Common.{◌≡◌, ℕ, zero, suc, ◌+◌, ◌<◌, ◌↔◌, true, List, [], Some, IsTrue, length, get_or, map, fold, max, ℤ, pos, ◌+ℤ◌, refl, sym, ap, ◌∙◌, arith, inl, inr}
 use Rattle.std.specs.List.{range_with_len}
 use Rattle.std.proofs.lemmas.List.{get_or-map, length-map}
 use Rattle.std.proofs.lemmas.List.Elements.{All-get_or, All-from_get_or}
 use Rattle.std.proofs.lemmas.List.FromFn.{get_or-map-range_with_len, length-map-range_with_len, fill_by_all}
+use Rattle.std.proofs.lemmas.Option.{none-some, same_Some}
 use Rattle.sm_lists.proofs.PlaceLemmas.{get_or-place_on}
 use Rattle.sm_instance.specs.Written.{Written, row as written_row, entry as written_entry, place_of as written_place_of}
 use Rattle.sm_instance.specs.Faults.{HasSoundEntries}
@@ -27,12 +28,6 @@ use Rattle.sm_seats.proofs.ForgetLaws.{forgotten_matching}
 use Rattle.sm_seats.proofs.SeatingLemmas.{at_place_is}
 use Rattle.sm_seats.proofs.LevelLaws.{level_on}
 
-none_some : {x : ℕ} → ◌≡◌ {A = Option ℕ} None (Some x) → ⊥
-none_some e = grind arith
-
-some_inj : {x y : ℕ} → ◌≡◌ {A = Option ℕ} (Some x) (Some y) → x ≡ y
-some_inj e = cc
-
 abbrev level_of_pair : Written → (ℕ × ℕ) → (ℕ × ℕ)
 level_of_pair w pair = (pair.0, written_place_of w.proposers pair.0 pair.1 + 1)
 
@@ -50,9 +45,9 @@ module _ {w : Written} (h : HasSoundEntries w) {m : Places} (f : IsMatching (sea
   -- p holds a place of the level of r exactly where it is at r
   pub at_level : (p r : ℕ) → HasLevel (levels_of (seating_of w)) m p (written_place_of w.proposers p r + 1) → is_at w (written_of (seating_of w) m.proposers) p r ≡ true
   at_level p r has = elim (seat_cases h f p) [
-    | inl alone ↦ absurd (none_some (sym alone.held_is ∙ has.holds))
+    | inl alone ↦ absurd (none-some _ (sym alone.held_is ∙ has.holds))
     | inr it ↦
-        let place : it.place ≡ has.place = some_inj (sym it.held_is ∙ has.holds) in
+        let place : it.place ≡ has.place = same_Some _ _ (sym it.held_is ∙ has.holds) in
         let level = ap (λ i. get_or (row (levels_of (seating_of w)) p) i 0) place in
         let same : written_place_of w.proposers p it.reviewer ≡ written_place_of w.proposers p r = omega (arith, level, level_on it.at, has.at_level) in
         let r_is : it.reviewer ≡ r = sym (written_there w it.at.mutual_) ∙ ap (written_entry w.proposers p) same ∙ get_or-place_on (written_row w.proposers p) r (omega (arith, it.at.mutual_.lists)) in
@@ -64,9 +59,9 @@ module _ {w : Written} (h : HasSoundEntries w) {m : Places} (f : IsMatching (sea
   level_at p r at =
       let x = place_at w p r (held (written_of (seating_of w) m.proposers) p) at in
       elim (seat_cases h f p) [
-        | inl alone ↦ absurd (none_some (sym alone.written_held_is ∙ x.1))
+        | inl alone ↦ absurd (none-some _ (sym alone.written_held_is ∙ x.1))
         | inr it ↦
-            let i_is : written_place_of w.proposers p it.reviewer ≡ x.0 = some_inj (sym it.written_held_is ∙ x.1) in
+            let i_is : written_place_of w.proposers p it.reviewer ≡ x.0 = same_Some _ _ (sym it.written_held_is ∙ x.1) in
             let r_is : it.reviewer ≡ r = sym (written_there w it.at.mutual_) ∙ ap (written_entry w.proposers p) i_is ∙ x.2 in
             let place = ap (written_place_of w.proposers p) r_is in
             record { place = it.place; holds = it.held_is; at_level = omega (arith, level_on it.at, place) }

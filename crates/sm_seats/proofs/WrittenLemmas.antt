@@ -3,6 +3,7 @@ use Rattle.std.proofs.Common.{◌≡◌, ℕ, ◌+◌, ◌<◌, ◌⊎◌, true,
 use Rattle.std.specs.Option.{option_map}
 use Rattle.std.proofs.lemmas.Bool.{cases_lt}
 use Rattle.std.proofs.lemmas.List.{get_or_past, get_or-map, length-map}
+use Rattle.std.proofs.lemmas.Option.{none-some, same_Some}
 use Rattle.sm_lists.specs.Rows.{place_on}
 use Rattle.sm_lists.proofs.PlaceLemmas.{get_or-place_on}
 use Rattle.sm_instance.specs.Written.{AgentData, Written, no_agent, row as written_row, entry as written_entry, place_of as written_place_of}
@@ -62,6 +63,7 @@ pub record HasSeatIn (w : Written) (m : Places) (p : ℕ) : Type 0 where
   pub written_held_is : held (written_of (seating_of w) m.proposers) p ≡ Some (written_place_of w.proposers p reviewer)
   pub written_stands : written_standing w (written_of (seating_of w) m.proposers) p ≡ written_place_of w.proposers p reviewer
 
+-- a proposer without a seat in a matching is unmatched, and stands past its list of seats and past its written list
 pub record HasNoSeatIn (w : Written) (m : Places) (p : ℕ) : Type 0 where
   pub held_is : market_held m.proposers p ≡ None
   pub stands : standing (seat_market w).proposers m.proposers p ≡ length (row (seat_market w).proposers p)
@@ -74,12 +76,6 @@ pub record SitsAt (w : Written) (h : HasSoundEntries w) (m : Places) (p r : ℕ)
   pub below : number < seat_count w r
   pub mutual_ : IsMutual w.proposers w.reviewers p r
   pub pair : Pair (sides_of (seat_market w) (is_market h)) (stand_of (seat_market w) m) p (seats_before w r + number)
-
-none_some : {x : ℕ} → ◌≡◌ {A = Option ℕ} None (Some x) → ⊥
-none_some e = grind arith
-
-some_inj : {x y : ℕ} → ◌≡◌ {A = Option ℕ} (Some x) (Some y) → x ≡ y
-some_inj e = cc
 
 module _ {w : Written} (h : HasSoundEntries w) {m : Places} (f : IsMatching (seat_market w) m) where
   -- which of both
@@ -120,9 +116,9 @@ module _ {w : Written} (h : HasSoundEntries w) {m : Places} (f : IsMatching (sea
   sits_at p r at =
       let x = place_at w p r (held (written_of (seating_of w) m.proposers) p) at in
       elim (seat_cases p) [
-        | inl alone ↦ absurd (none_some (sym alone.written_held_is ∙ x.1))
+        | inl alone ↦ absurd (none-some _ (sym alone.written_held_is ∙ x.1))
         | inr it ↦
-            let i_is : written_place_of w.proposers p it.reviewer ≡ x.0 = some_inj (sym it.written_held_is ∙ x.1) in
+            let i_is : written_place_of w.proposers p it.reviewer ≡ x.0 = same_Some _ _ (sym it.written_held_is ∙ x.1) in
             let r_is : it.reviewer ≡ r = sym (written_there w it.at.mutual_) ∙ ap (written_entry w.proposers p) i_is ∙ x.2 in
             rw r_is at (sits_in p it)
       ]

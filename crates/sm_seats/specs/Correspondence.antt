@@ -18,6 +18,7 @@ use Rattle.sm_seats.specs.Taken.{places_taken}
 abbrev pub weights_of : Measure → Written → Seating → List (List ℤ)
 weights_of by w s = map (at_places s (λ p i. pair_weight by w p (Some i))) (agents s.market.proposers)
 
+-- the worse of the two ranks that a proposer and its seat's reviewer give each other, for each place of the lists
 abbrev pub worse_ranks_of : Written → Seating → List (List ℕ)
 worse_ranks_of w s = map (at_places s (λ p i. worse_rank w p (Some i))) (agents s.market.proposers)
 

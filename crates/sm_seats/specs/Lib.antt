@@ -11,6 +11,7 @@ pub mod Witnesses
 pub mod Vectors
 pub mod Taking
 pub mod Tables
+pub mod Counted
 pub mod ProposerRows
 pub mod ReviewerRows
 pub mod Plain

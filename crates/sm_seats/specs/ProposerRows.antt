@@ -5,8 +5,10 @@ use Rattle.sm_instance.specs.Written.{Written}
 use Rattle.sm_seats.specs.SeatMarket.{seat_row}
 use Rattle.sm_seats.specs.Tables.{cross_row}
 
+-- the lists of seats of the first n proposers
 abbrev pub seat_rows_of : Written → ℕ → List (List ℕ)
 seat_rows_of w n = map (seat_row w) (range_with_len 0 n)
 
+-- the cross places along these lists
 abbrev pub cross_rows_of : Written → ℕ → List (List ℕ)
 cross_rows_of w n = map (cross_row w) (range_with_len 0 n)

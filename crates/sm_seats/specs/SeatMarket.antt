@@ -22,6 +22,7 @@ seats_at w r = range_with_len (seats_before w r) (seat_count w r)
 abbrev pub named_seats : Written → ℕ → List (ℕ × ℕ)
 named_seats w r = map (λ k. (r, k)) (range_with_len 1 (seat_count w r))
 
+-- the names of all seats, each the reviewer and the seat's number there
 abbrev pub seats_of : Written → List (ℕ × ℕ)
 seats_of w = flat_map (named_seats w) (range_with_len 0 (length w.reviewers))
 

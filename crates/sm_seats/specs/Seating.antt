@@ -14,6 +14,7 @@ pub record Seating : Type 0 where
   pub market : Lists
   pub seats : List (ℕ × ℕ)
 
+-- the lists that agents wrote
 abbrev pub written_lists : List AgentData → List (List ℕ)
 written_lists agents = map (λ agent. agent.entries) agents
 
@@ -25,6 +26,7 @@ seating_of w = record { lists = written_lists w.proposers; market = seat_market 
 abbrev pub reviewer_of : Seating → ℕ → ℕ
 reviewer_of s seat = (slice_index_or s.seats seat (0, 0)).0
 
+-- the number of a seat at its reviewer
 abbrev pub number_of : Seating → ℕ → ℕ
 number_of s seat = (slice_index_or s.seats seat (0, 0)).1
 
@@ -45,8 +47,10 @@ at_places s f p = map (λ i. f p (written_place s p i)) (range_with_len 0 (lengt
 abbrev pub rank_of : ℕ → ℕ → ℕ
 rank_of p i = i + 1
 
+-- the levels of the places of p's list of seats, and of being unmatched
 abbrev pub levels_at : Seating → ℕ → List ℕ
 levels_at s p = at_places s rank_of p ++ (length (row s.lists p) + 1) ∷ []
 
+-- the levels of all proposers
 abbrev pub levels_of : Seating → List (List ℕ)
 levels_of s = map (levels_at s) (agents s.market.proposers)

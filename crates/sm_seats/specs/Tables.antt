@@ -18,6 +18,7 @@ seat_numbers_of w = range_with_len 0 (seats_before w (length w.reviewers))
 abbrev pub mutual_before : Written → ℕ → ℕ → ℕ
 mutual_before w r j = length (filter (lists_back w.proposers r) (take j (row w.reviewers r)))
 
+-- how many stand so before each place of r's written list
 abbrev pub mutual_places_at : Written → ℕ → List ℕ
 mutual_places_at w r = map (mutual_before w r) (range_with_len 0 (length (row w.reviewers r)))
 
@@ -25,6 +26,7 @@ mutual_places_at w r = map (mutual_before w r) (range_with_len 0 (length (row w.
 abbrev pub acceptable_at : Written → ℕ → ℕ
 acceptable_at w r = length (mutual_row w.reviewers w.proposers r)
 
+-- the number of acceptable proposers of each reviewer
 abbrev pub acceptable_of : Written → List ℕ
 acceptable_of w = map (acceptable_at w) (range_with_len 0 (length w.reviewers))
 
@@ -32,6 +34,7 @@ acceptable_of w = map (acceptable_at w) (range_with_len 0 (length w.reviewers))
 abbrev pub inert_places_at : Written → ℕ → List ℕ
 inert_places_at w r = cond (nat_eq (acceptable_at w r) (length (row w.reviewers r))) [] (mutual_places_at w r)
 
+-- these tables for all reviewers
 abbrev pub inert_places_of : Written → List (List ℕ)
 inert_places_of w = map (inert_places_at w) (range_with_len 0 (length w.reviewers))
 
@@ -39,6 +42,7 @@ inert_places_of w = map (inert_places_at w) (range_with_len 0 (length w.reviewer
 abbrev pub reviewers_before : Written → ℕ → ℕ → List ℕ
 reviewers_before w p i = filter (lists_back w.reviewers p) (take i (row w.proposers p))
 
+-- how many seats the acceptable reviewers before place i of p's written list have
 abbrev pub seats_listed : Written → ℕ → ℕ → ℕ
 seats_listed w p i = length (flat_map (seats_at w) (reviewers_before w p i))
 
@@ -46,6 +50,7 @@ seats_listed w p i = length (flat_map (seats_at w) (reviewers_before w p i))
 abbrev pub seat_places_at : Written → ℕ → List ℕ
 seat_places_at w p = map (seats_listed w p) (range_with_len 0 (length (row w.proposers p) + 1))
 
+-- these places for all proposers
 abbrev pub seat_places_of : Written → List (List ℕ)
 seat_places_of w = map (seat_places_at w) (range_with_len 0 (length w.proposers))
 
@@ -61,6 +66,7 @@ cross_row w p = flat_map (crosses_at w p) (mutual_row w.proposers w.reviewers p)
 abbrev pub begin_of : Written → ℕ → ℕ → ℕ
 begin_of w r p = seats_listed w p (place_of w.proposers p r)
 
+-- where seat k of r, from 0, stands on the lists of the proposers that are acceptable to r
 abbrev pub seat_crosses : Written → ℕ → ℕ → List ℕ
 seat_crosses w r k = map (λ p. begin_of w r p + k) (mutual_row w.reviewers w.proposers r)
 
@@ -68,5 +74,6 @@ seat_crosses w r k = map (λ p. begin_of w r p + k) (mutual_row w.reviewers w.pr
 abbrev pub lists_for : Written → ℕ → List (List ℕ)
 lists_for w r = replicate (seat_count w r) (mutual_row w.reviewers w.proposers r)
 
+-- the cross places of each of r's seats
 abbrev pub crosses_for : Written → ℕ → List (List ℕ)
 crosses_for w r = map (seat_crosses w r) (range_with_len 0 (seat_count w r))

@@ -45,6 +45,7 @@ turning_hospitals = record {
 abbrev pub firsts : Places
 firsts = record { proposers = Some 0 ∷ Some 1 ∷ Some 0 ∷ []; reviewers = Some 1 ∷ Some 2 ∷ Some 1 ∷ [] }
 
+-- r0, r1 and r2 at seat 2 of h, 1 of k and 1 of h
 abbrev pub lasts : Places
 lasts = record { proposers = Some 1 ∷ Some 2 ∷ Some 1 ∷ []; reviewers = Some 0 ∷ Some 1 ∷ Some 0 ∷ [] }
 

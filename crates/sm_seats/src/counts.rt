@@ -5,7 +5,7 @@ ghost use Rattle.std.specs.List.{range_with_len};
 ghost use Rattle.sm_text.specs.Limits.{most_agents};
 ghost use Rattle.sm_instance.specs.Sound.{IsInstance};
 ghost use Rattle.sm_seats.specs.Mutual.{mutual_row};
-ghost use Rattle.sm_seats.specs.Tables.{first_seats_of, seat_numbers_of, acceptable_of};
+ghost use Rattle.sm_seats.specs.Counted.{AreCounts};
 ghost use Rattle.sm_seats.specs.SeatEntries.{AreFewSeats, IsSeatsFault};
 
 use crate::faults::SeatsFault;
@@ -32,9 +32,7 @@ pub struct SeatCounts {
 /// Those of [`crate::Seats::of`].
 pub fn seat_counts(alloc: Global, instance: &Instance) -> Result<SeatCounts, SeatsFault>
     ensures instance { IsInstance instance.now }
-    ensures firsts { IfOk result (λ counts. counts.firsts.items ≡ first_seats_of instance.now) }
-    ensures numbers { IfOk result (λ counts. counts.numbers.items ≡ seat_numbers_of instance.now) }
-    ensures acceptable { IfOk result (λ counts. counts.acceptable.items ≡ acceptable_of instance.now) }
+    ensures counts { IfOk result (AreCounts instance.now) }
     ensures few { OnOk result (AreFewSeats instance.now) }
     ensures fault { IfErr result (λ f. IsSeatsFault instance.now f) }
 {
@@ -62,7 +60,7 @@ pub fn seat_counts(alloc: Global, instance: &Instance) -> Result<SeatCounts, Sea
     })
 }
 
-// So many numbers, from 0 on.
+/// So many numbers, from 0 on.
 fn numbers_below(alloc: Global, count: u32) -> Result<Vec<u32>, AllocError>
     ensures { IfOk result (λ numbers. numbers.items ≡ range_with_len 0 count) }
 {
@@ -73,7 +71,7 @@ fn numbers_below(alloc: Global, count: u32) -> Result<Vec<u32>, AllocError>
     Ok(numbers)
 }
 
-// How many proposers are acceptable to a reviewer.
+/// How many proposers are acceptable to a reviewer.
 fn acceptable_count(instance: &Instance, r: u32) -> u32
     requires { r < length instance.now.reviewers }
     ensures count { result ≡ length (mutual_row instance.now.reviewers instance.now.proposers r) }

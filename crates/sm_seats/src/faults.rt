@@ -5,7 +5,7 @@ use std::alloc::{AllocError, AllocFailed};
 /// Why an instance's seats aren't made.
 #[derive(Clone, Copy, Debug, PartialEq, Eq)]
 pub enum SeatsFault {
-    /// The first reviewer, in the order of the file, with whom the seats' lists have more than 1,048,576 entries.
+    /// The first reviewer, from 0 in the order of the file, with whom the seats' lists have more than 1,048,576 entries.
     TooManySeats(u32),
     /// Memory ran out. Nothing is said of the seats.
     OutOfMemory,

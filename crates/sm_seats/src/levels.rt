@@ -23,7 +23,8 @@ pub(crate) fn levels_along(
     requires short { length list.now < 2 ^ 24 }
     requires fits { length row.now < 2 ^ 24 }
     ensures { IfOk result (λ levels. levels.items
-        ≡ map (λ i. place_along list.now row.now seats.now i + 1) (range_with_len 0 (length row.now))
+        ≡ map (λ i. place_along list.now row.now seats.now i
+        + 1) (range_with_len 0 (length row.now))
         ++ (length list.now + 1) ∷ []) }
 {
     let mut levels = Vec::with_capacity(alloc, row.len() + 1)?;
@@ -44,10 +45,9 @@ pub(crate) fn place_from(list: &[u32], from: u32, r: u32) -> u32
     requires short { length list.now < 2 ^ 24 }
     ensures { result ≡ place_on list.now r }
 {
-    for place in from..list.len() as u32 {
-        if list[place as usize] == r {
-            return place;
-        }
+    let mut place = from;
+    while list[place as usize] != r {
+        place += 1;
     }
-    unreachable!()
+    place
 }

@@ -37,7 +37,7 @@ pub(crate) fn mutual_places(
     Ok(places)
 }
 
-// The same for one reviewer, with so many acceptable proposers.
+/// The same for one reviewer, with so many acceptable proposers.
 fn inert_places(
     alloc: Global,
     instance: &Instance,
@@ -70,7 +70,7 @@ pub(crate) fn mutual_place(instance: &Instance, places: &[Vec<u32>], r: u32, pla
     }
 }
 
-// How many acceptable proposers stand before each place of a reviewer's written list.
+/// How many acceptable proposers stand before each place of a reviewer's written list.
 fn mutual_places_of(alloc: Global, instance: &Instance, r: u32) -> Result<Vec<u32>, AllocError>
     requires { r < length instance.now.reviewers }
     ensures { IfOk result (λ places. places.items ≡ mutual_places_at instance.now r) }
@@ -104,7 +104,7 @@ pub(crate) fn seat_places(
     Ok(places)
 }
 
-// How many seats a proposer lists before those of the reviewer at each place, and at all.
+/// How many seats a proposer lists before those of the reviewer at each place, and at all.
 fn seat_places_of(
     alloc: Global,
     instance: &Instance,

@@ -27,11 +27,12 @@ pub(crate) fn is_plain(instance: &Instance, counts: &SeatCounts) -> bool
     have_one_seat(instance, counts) && have_whole_lists(instance)
 }
 
-// Have all reviewers one seat and no inert entries?
+/// Have all reviewers one seat and no inert entries?
 fn have_one_seat(instance: &Instance, counts: &SeatCounts) -> bool
     requires firsts { counts.now.firsts.items ≡ first_seats_of instance.now }
     requires acceptable { counts.now.acceptable.items ≡ acceptable_of instance.now }
-    ensures { IsTrue result ↔ ((r : ℕ) → r < length instance.now.reviewers → HasOneSeat instance.now r) }
+    ensures { IsTrue result ↔ ((r : ℕ) → r < length instance.now.reviewers
+        → HasOneSeat instance.now r) }
 {
     for r in 0..instance.reviewer_count() {
         if !has_one_seat(instance, counts, r) {
@@ -41,7 +42,7 @@ fn have_one_seat(instance: &Instance, counts: &SeatCounts) -> bool
     true
 }
 
-// Has a reviewer one seat and no inert entries?
+/// Has a reviewer one seat and no inert entries?
 fn has_one_seat(instance: &Instance, counts: &SeatCounts, r: u32) -> bool
     requires in_range { r < length instance.now.reviewers }
     requires firsts { counts.now.firsts.items ≡ first_seats_of instance.now }
@@ -57,10 +58,11 @@ fn has_one_seat(instance: &Instance, counts: &SeatCounts, r: u32) -> bool
     acceptable[r as usize] == instance.reviewer_len(r)
 }
 
-// Have all proposers no inert entries?
+/// Have all proposers no inert entries?
 fn have_whole_lists(instance: &Instance) -> bool
     ensures { IsTrue result ↔ ((p : ℕ) → p < length instance.now.proposers
-        → mutual_row instance.now.proposers instance.now.reviewers p ≡ row instance.now.proposers p) }
+        → mutual_row instance.now.proposers instance.now.reviewers p
+        ≡ row instance.now.proposers p) }
 {
     for p in 0..instance.proposer_count() {
         if acceptable_count(instance, p) != instance.proposer_len(p) {
@@ -70,7 +72,7 @@ fn have_whole_lists(instance: &Instance) -> bool
     true
 }
 
-// How many reviewers are acceptable to a proposer.
+/// How many reviewers are acceptable to a proposer.
 fn acceptable_count(instance: &Instance, p: u32) -> u32
     requires { p < length instance.now.proposers }
     ensures { result ≡ length (mutual_row instance.now.proposers instance.now.reviewers p) }
@@ -92,9 +94,11 @@ pub(crate) fn plain_proposers(
 ) -> Result<ProposerRows, AllocError>
     requires { IsPlain instance.now }
     ensures lists { IfOk result
-        (λ rows. rows_of rows.lists.items ≡ seat_rows_of instance.now (length instance.now.proposers)) }
+        (λ rows. rows_of rows.lists.items
+        ≡ seat_rows_of instance.now (length instance.now.proposers)) }
     ensures crosses { IfOk result
-        (λ rows. rows_of rows.crosses.items ≡ cross_rows_of instance.now (length instance.now.proposers)) }
+        (λ rows. rows_of rows.crosses.items
+        ≡ cross_rows_of instance.now (length instance.now.proposers)) }
 {
     let proposers = instance.proposer_count();
     let mut lists = Vec::with_capacity(alloc, proposers as usize)?;
@@ -111,9 +115,11 @@ pub(crate) fn plain_seats(alloc: Global, instance: &Instance) -> Result<Reviewer
     requires { IsPlain instance.now }
     ensures seats { IfOk result (λ rows. rows.seats.items ≡ seats_of instance.now) }
     ensures lists { IfOk result
-        (λ rows. rows_of rows.lists.items ≡ seat_lists_before instance.now (length instance.now.reviewers)) }
+        (λ rows. rows_of rows.lists.items
+        ≡ seat_lists_before instance.now (length instance.now.reviewers)) }
     ensures crosses { IfOk result
-        (λ rows. rows_of rows.crosses.items ≡ seat_crosses_before instance.now (length instance.now.reviewers)) }
+        (λ rows. rows_of rows.crosses.items
+        ≡ seat_crosses_before instance.now (length instance.now.reviewers)) }
 {
     let reviewers = instance.reviewer_count();
     let mut seats = Vec::with_capacity(alloc, reviewers as usize)?;
@@ -131,7 +137,7 @@ pub(crate) fn plain_seats(alloc: Global, instance: &Instance) -> Result<Reviewer
     })
 }
 
-// The cross places of a list without inert entries.
+/// The cross places of a list without inert entries.
 fn places_of(alloc: Global, crosses: &[Cross]) -> Result<Vec<u32>, AllocError>
     ensures { IfOk result (λ places. places.items ≡ places_in crosses.now) }
 {
@@ -140,7 +146,7 @@ fn places_of(alloc: Global, crosses: &[Cross]) -> Result<Vec<u32>, AllocError>
     Ok(places)
 }
 
-// Writes these cross places, one after another.
+/// Writes these cross places, one after another.
 fn write_places(crosses: &[Cross], places: &mut [u32])
     requires { length places.old ≡ length crosses.now }
     ensures { places.new ≡ places_in crosses.now }

@@ -40,9 +40,11 @@ pub(crate) fn proposer_rows(
     requires places { rows_of places.now ≡ inert_places_of instance.now }
     requires begins { rows_of begins.now ≡ seat_places_of instance.now }
     ensures lists { IfOk result
-        (λ rows. rows_of rows.lists.items ≡ seat_rows_of instance.now (length instance.now.proposers)) }
+        (λ rows. rows_of rows.lists.items
+        ≡ seat_rows_of instance.now (length instance.now.proposers)) }
     ensures crosses { IfOk result
-        (λ rows. rows_of rows.crosses.items ≡ cross_rows_of instance.now (length instance.now.proposers)) }
+        (λ rows. rows_of rows.crosses.items
+        ≡ cross_rows_of instance.now (length instance.now.proposers)) }
 {
     let proposers = instance.proposer_count();
     let mut lists = Vec::with_capacity(alloc, proposers as usize)?;
@@ -56,7 +58,7 @@ pub(crate) fn proposer_rows(
     Ok(ProposerRows { lists, crosses })
 }
 
-// The lists of one proposer, with room for so many seats.
+/// The lists of one proposer, with room for so many seats.
 fn proposer_row(
     alloc: Global,
     instance: &Instance,
@@ -92,7 +94,7 @@ fn proposer_row(
     Ok(row)
 }
 
-// Adds the seats of a reviewer, on the list of each of which the proposer has this place.
+/// Adds the seats of a reviewer, on the list of each of which the proposer has this place.
 fn add_seats(row: &mut ProposerRow, seats: &[u32], cross: u32) -> Result<(), AllocError>
     ensures list { OnOk result (row.new.list.items ≡ row.old.list.items ++ seats.now) }
     ensures crosses { OnOk result
@@ -107,7 +109,7 @@ fn add_seats(row: &mut ProposerRow, seats: &[u32], cross: u32) -> Result<(), All
     Ok(())
 }
 
-// Adds one seat.
+/// Adds one seat.
 fn add_seat(row: &mut ProposerRow, seat: u32, cross: u32) -> Result<(), AllocError>
     ensures list { OnOk result (row.new.list.items ≡ row.old.list.items ++ seat ∷ []) }
     ensures crosses { OnOk result (row.new.crosses.items ≡ row.old.crosses.items ++ cross ∷ []) }

@@ -44,9 +44,11 @@ pub(crate) fn reviewer_rows(
     requires begins { rows_of begins.now ≡ seat_places_of instance.now }
     ensures seats { IfOk result (λ rows. rows.seats.items ≡ seats_of instance.now) }
     ensures lists { IfOk result
-        (λ rows. rows_of rows.lists.items ≡ seat_lists_before instance.now (length instance.now.reviewers)) }
+        (λ rows. rows_of rows.lists.items
+        ≡ seat_lists_before instance.now (length instance.now.reviewers)) }
     ensures crosses { IfOk result
-        (λ rows. rows_of rows.crosses.items ≡ seat_crosses_before instance.now (length instance.now.reviewers)) }
+        (λ rows. rows_of rows.crosses.items
+        ≡ seat_crosses_before instance.now (length instance.now.reviewers)) }
 {
     let reviewers = instance.reviewer_count();
     let room = firsts[reviewers as usize] as usize;
@@ -66,7 +68,7 @@ pub(crate) fn reviewer_rows(
     Ok(rows)
 }
 
-// The list of a reviewer without inert entries, of which it has so many. It is copied where it has no others.
+/// The list of a reviewer without inert entries, of which it has so many. It is copied where it has no others.
 fn mutual_list(
     alloc: Global,
     instance: &Instance,
@@ -84,7 +86,7 @@ fn mutual_list(
     without_inert(alloc, instance, r, acceptable as usize)
 }
 
-// The list of a reviewer without inert entries, with room for so many.
+/// The list of a reviewer without inert entries, with room for so many.
 fn without_inert(
     alloc: Global,
     instance: &Instance,
@@ -106,7 +108,7 @@ fn without_inert(
     Ok(kept)
 }
 
-// Where the seats of a reviewer begin on the list of each acceptable proposer.
+/// Where the seats of a reviewer begin on the list of each acceptable proposer.
 fn mutual_begins(
     alloc: Global,
     instance: &Instance,
@@ -117,7 +119,8 @@ fn mutual_begins(
     requires in_range { r < length instance.now.reviewers }
     requires begins { rows_of begins.now ≡ seat_places_of instance.now }
     ensures begins { IfOk result (λ kept. kept.items
-        ≡ map (begin_of instance.now r) (mutual_row instance.now.reviewers instance.now.proposers r)) }
+        ≡ map (begin_of instance.now r) (mutual_row instance.now.reviewers
+        instance.now.proposers r)) }
     ensures small { IfOk result (λ kept. (i : ℕ) → slice_index kept.items i ≤ 2 ^ 24) }
 {
     let list = instance.reviewer_list(r);
@@ -131,7 +134,7 @@ fn mutual_begins(
     Ok(kept)
 }
 
-// Adds so many seats of a reviewer. The last one takes the row, so that a single seat copies nothing.
+/// Adds so many seats of a reviewer. The last one takes the row, so that a single seat copies nothing.
 fn add_seats(
     alloc: Global,
     rows: &mut ReviewerRows,
@@ -142,11 +145,14 @@ fn add_seats(
     requires count { count ≤ 4096 }
     requires small { (i : ℕ) → slice_index row.begins.items i ≤ 2 ^ 24 }
     ensures seats { OnOk result
-        (rows.new.seats.items ≡ rows.old.seats.items ++ map (λ k. (r, k)) (range_with_len 1 count)) }
+        (rows.new.seats.items ≡ rows.old.seats.items
+        ++ map (λ k. (r, k)) (range_with_len 1 count)) }
     ensures lists { OnOk result
-        (rows_of rows.new.lists.items ≡ rows_of rows.old.lists.items ++ replicate count row.list.items) }
+        (rows_of rows.new.lists.items ≡ rows_of rows.old.lists.items
+        ++ replicate count row.list.items) }
     ensures crosses { OnOk result (rows_of rows.new.crosses.items
-        ≡ rows_of rows.old.crosses.items ++ map (λ k. map (λ n. n + k) row.begins.items) (range_with_len 0 count)) }
+        ≡ rows_of rows.old.crosses.items ++ map (λ k. map (λ n. n + k) row.begins.items)
+        (range_with_len 0 count)) }
 {
     if count == 0 {
         return Ok(());
@@ -156,7 +162,7 @@ fn add_seats(
     Ok(())
 }
 
-// Adds so many seats of a reviewer, with copies of its row.
+/// Adds so many seats of a reviewer, with copies of its row.
 fn add_copies(
     alloc: Global,
     rows: &mut ReviewerRows,
@@ -167,11 +173,14 @@ fn add_copies(
     requires count { count ≤ 4096 }
     requires small { (i : ℕ) → slice_index row.now.begins.items i ≤ 2 ^ 24 }
     ensures seats { OnOk result
-        (rows.new.seats.items ≡ rows.old.seats.items ++ map (λ k. (r, k)) (range_with_len 1 count)) }
+        (rows.new.seats.items ≡ rows.old.seats.items
+        ++ map (λ k. (r, k)) (range_with_len 1 count)) }
     ensures lists { OnOk result
-        (rows_of rows.new.lists.items ≡ rows_of rows.old.lists.items ++ replicate count row.now.list.items) }
+        (rows_of rows.new.lists.items ≡ rows_of rows.old.lists.items
+        ++ replicate count row.now.list.items) }
     ensures crosses { OnOk result (rows_of rows.new.crosses.items
-        ≡ rows_of rows.old.crosses.items ++ map (λ k. map (λ n. n + k) row.now.begins.items) (range_with_len 0 count)) }
+        ≡ rows_of rows.old.crosses.items ++ map (λ k. map (λ n. n + k) row.now.begins.items)
+        (range_with_len 0 count)) }
 {
     for k in 0..count {
         rows.seats.push((r, k + 1))?;
@@ -181,13 +190,14 @@ fn add_copies(
     Ok(())
 }
 
-// Adds a reviewer's last seat, which takes the row.
+/// Adds a reviewer's last seat, which takes the row.
 fn add_last(rows: &mut ReviewerRows, seat: (u32, u32), row: ReviewerRow) -> Result<(), AllocError>
     requires number { 0 < seat.1 }
     requires count { seat.1 ≤ 4096 }
     requires small { (i : ℕ) → slice_index row.begins.items i ≤ 2 ^ 24 }
     ensures seats { OnOk result (rows.new.seats.items ≡ rows.old.seats.items ++ seat ∷ []) }
-    ensures lists { OnOk result (rows_of rows.new.lists.items ≡ rows_of rows.old.lists.items ++ row.list.items ∷ []) }
+    ensures lists { OnOk result (rows_of rows.new.lists.items ≡ rows_of rows.old.lists.items
+        ++ row.list.items ∷ []) }
     ensures crosses { OnOk result (rows_of rows.new.crosses.items
         ≡ rows_of rows.old.crosses.items ++ map (λ n. n + (seat.1 - 1)) row.begins.items ∷ []) }
 {
@@ -199,7 +209,7 @@ fn add_last(rows: &mut ReviewerRows, seat: (u32, u32), row: ReviewerRow) -> Resu
     Ok(())
 }
 
-// Each number raised by so much.
+/// Each number raised by so much.
 fn raised(alloc: Global, numbers: &[u32], by: u32) -> Result<Vec<u32>, AllocError>
     requires small { (i : ℕ) → slice_index numbers.now i ≤ 2 ^ 24 }
     requires by { by ≤ 4096 }
@@ -210,7 +220,7 @@ fn raised(alloc: Global, numbers: &[u32], by: u32) -> Result<Vec<u32>, AllocErro
     Ok(raised)
 }
 
-// Raises each number by so much.
+/// Raises each number by so much.
 fn raise(numbers: &mut [u32], by: u32)
     requires small { (i : ℕ) → slice_index numbers.old i ≤ 2 ^ 24 }
     requires by { by ≤ 4096 }

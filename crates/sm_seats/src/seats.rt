@@ -14,7 +14,7 @@ ghost use Rattle.sm_seats.specs.SeatEntries.{AreFewSeats, IsSeatsFault};
 ghost use Rattle.sm_seats.specs.Seating.{seating_of, written_lists, written_place, written_of, levels_at, levels_of};
 ghost use Rattle.sm_seats.specs.Taken.{places_taken};
 ghost use Rattle.sm_seats.specs.Correspondence.{IsSeating};
-ghost use Rattle.sm_seats.specs.Tables.{first_seats_of, seat_numbers_of, acceptable_of};
+ghost use Rattle.sm_seats.specs.Counted.{AreCounts};
 ghost use Rattle.sm_seats.specs.ProposerRows.{seat_rows_of, cross_rows_of};
 ghost use Rattle.sm_seats.specs.ReviewerRows.{seat_lists_before, seat_crosses_before};
 
@@ -65,9 +65,9 @@ impl Seats {
     ///
     /// # Errors
     ///
-    /// `TooManySeats` with the first reviewer, in the order of the file, with whom the lists of the seats have more than
-    /// 1,048,576 entries: each reviewer adds the product of its seats and its acceptable proposers. `OutOfMemory` where
-    /// memory ran out.
+    /// `TooManySeats` with the first reviewer, numbered from 0 in the order of the file, with whom the lists of the seats
+    /// have more than 1,048,576 entries, and only then: each reviewer adds the product of its seats and its acceptable
+    /// proposers. `OutOfMemory` where memory ran out, and only then.
     pub fn of(alloc: Global, instance: &Instance) -> Result<Seats, SeatsFault>
         ensures instance { IsInstance instance.now }
         ensures seats { IfOk result (λ seats. seats ≡ seating_of instance.now) }
@@ -76,10 +76,39 @@ impl Seats {
         ensures fault { IfErr result (λ f. IsSeatsFault instance.now f) }
     {
         let counts = seat_counts(alloc, instance)?;
-        Ok(seats_from(alloc, instance, &counts)?)
+        Ok(Seats::counted(alloc, instance, &counts)?)
     }
 
-    /// The market of the seats. Its lists have acceptable entries alone.
+    /// The same, by what [`seat_counts`] counted of the instance. Takes time and memory as [`Seats::of`] does.
+    ///
+    /// # Errors
+    ///
+    /// `AllocError` where memory ran out, and only then.
+    pub fn counted(
+        alloc: Global,
+        instance: &Instance,
+        counts: &SeatCounts,
+    ) -> Result<Seats, AllocError>
+        requires counts { AreCounts instance.now counts.now }
+        requires few { AreFewSeats instance.now }
+        ensures seats { IfOk result (λ seats. seats ≡ seating_of instance.now) }
+        ensures seating { IfOk result (λ seats. IsSeating instance.now seats) }
+    {
+        if is_plain(instance, counts) {
+            let proposers = plain_proposers(alloc, instance)?;
+            let reviewers = plain_seats(alloc, instance)?;
+            return seats_held(alloc, instance, proposers, reviewers);
+        }
+        let firsts = counts.firsts.as_slice();
+        let places = mutual_places(alloc, instance, &counts.acceptable)?;
+        let begins = seat_places(alloc, instance, firsts)?;
+        let proposers = proposer_rows(alloc, instance, counts, &places, &begins)?;
+        let reviewers = reviewer_rows(alloc, instance, firsts, &counts.acceptable, &begins)?;
+        seats_held(alloc, instance, proposers, reviewers)
+    }
+
+    /// The market of the seats: its proposers are those of the instance, and its reviewers the seats, both from 0. Its lists
+    /// have acceptable entries alone. Takes constant time.
     pub fn market(&self) -> &Market
         ensures { result.now ≡ self.now.market }
     {
@@ -97,7 +126,7 @@ impl Seats {
         Ok(self.market.clone()?)
     }
 
-    /// The reviewer of a seat, and the number of the seat there, from 1.
+    /// The reviewer, from 0, of a seat of the market, and the number of the seat there, from 1. Takes constant time.
     pub fn seat(&self, at: u32) -> (u32, u32)
         requires { at < length self.now.seats }
         ensures { result ≡ slice_index_or self.now.seats at (0, 0) }
@@ -105,8 +134,8 @@ impl Seats {
         self.seats[at as usize]
     }
 
-    /// The level of a place of a proposer's list of seats: the rank of the seat's reviewer on the proposer's written list,
-    /// from 1. Takes time in proportion to the rank.
+    /// The level of a place, from 0, of a proposer's list of seats: the rank, from 1, of the seat's reviewer on the proposer's
+    /// written list. Takes time in proportion to the rank.
     pub fn level(&self, p: u32, place: u32) -> u32
         requires in_range { p < length self.now.market.proposers }
         requires on_list { place < length (row self.now.market.proposers p) }
@@ -134,7 +163,7 @@ impl Seats {
         Ok(levels)
     }
 
-    // The levels of one proposer.
+    /// The levels of one proposer.
     fn levels_at(&self, alloc: Global, p: u32) -> Result<Vec<u32>, AllocError>
         requires { p < length self.now.market.proposers }
         ensures { IfOk result (λ levels. levels.items ≡ levels_at self.now p) }
@@ -165,7 +194,7 @@ impl Seats {
         Ok(Assignment { places })
     }
 
-    // The place on its written list that a proposer holds by its seat.
+    /// The place on its written list that a proposer holds by its seat.
     fn written_place(&self, m: &Pairing, p: u32) -> Option<u32>
         requires pairing { IsPairingOf self.now.market m.now }
         requires in_range { p < length self.now.market.proposers }
@@ -190,7 +219,8 @@ impl Seats {
         requires seats { self.now ≡ seating_of written }
         requires matching { IsMatching written a.now.places.items }
         ensures pairing { IfOk result (λ m. IsPairingOf self.now.market m) }
-        ensures places { IfOk result (λ m. m.places.proposers ≡ places_taken written a.now.places.items) }
+        ensures places { IfOk result (λ m. m.places.proposers
+            ≡ places_taken written a.now.places.items) }
     {
         let market = self.market.as_ref();
         let places = taken_places(alloc, &self.lists, market, &self.seats, a)?;
@@ -198,36 +228,13 @@ impl Seats {
     }
 }
 
-// The seats of an instance, by what was counted of it.
-fn seats_from(alloc: Global, instance: &Instance, counts: &SeatCounts) -> Result<Seats, AllocError>
-    requires firsts { counts.now.firsts.items ≡ first_seats_of instance.now }
-    requires numbers { counts.now.numbers.items ≡ seat_numbers_of instance.now }
-    requires acceptable { counts.now.acceptable.items ≡ acceptable_of instance.now }
-    requires instance { IsInstance instance.now }
-    requires few { AreFewSeats instance.now }
-    ensures { IfOk result (λ seats. seats ≡ seating_of instance.now) }
-{
-    if is_plain(instance, counts) {
-        let proposers = plain_proposers(alloc, instance)?;
-        let reviewers = plain_seats(alloc, instance)?;
-        return seats_held(alloc, instance, proposers, reviewers);
-    }
-    let firsts = counts.firsts.as_slice();
-    let places = mutual_places(alloc, instance, &counts.acceptable)?;
-    let begins = seat_places(alloc, instance, firsts)?;
-    let proposers = proposer_rows(alloc, instance, counts, &places, &begins)?;
-    let reviewers = reviewer_rows(alloc, instance, firsts, &counts.acceptable, &begins)?;
-    seats_held(alloc, instance, proposers, reviewers)
-}
-
-// The seats with these lists, beside the lists that the proposers wrote.
+/// The seats with these lists, beside the lists that the proposers wrote.
 fn seats_held(
     alloc: Global,
     instance: &Instance,
     proposers: ProposerRows,
     reviewers: ReviewerRows,
 ) -> Result<Seats, AllocError>
-    requires instance { IsInstance instance.now }
     requires few { AreFewSeats instance.now }
     requires proposers { rows_of proposers.lists.items
         ≡ seat_rows_of instance.now (length instance.now.proposers) }
@@ -238,7 +245,8 @@ fn seats_held(
         ≡ seat_lists_before instance.now (length instance.now.reviewers) }
     requires reviewer_crosses { rows_of reviewers.crosses.items
         ≡ seat_crosses_before instance.now (length instance.now.reviewers) }
-    ensures { IfOk result (λ seats. seats ≡ seating_of instance.now) }
+    ensures seats { IfOk result (λ seats. seats ≡ seating_of instance.now) }
+    ensures seating { IfOk result (λ seats. IsSeating instance.now seats) }
 {
     let lists = lists_of(alloc, instance)?;
     let market = Market::held(
@@ -255,9 +263,11 @@ fn seats_held(
     })
 }
 
-// The proposers' written lists.
+/// The proposers' written lists.
 fn lists_of(alloc: Global, instance: &Instance) -> Result<Vec<Vec<u32>>, AllocError>
-    ensures { IfOk result (λ lists. rows_of lists.items ≡ written_lists instance.now.proposers) }
+    ensures instance { IsInstance instance.now }
+    ensures lists { IfOk result (λ lists. rows_of lists.items
+        ≡ written_lists instance.now.proposers) }
 {
     let mut lists = Vec::with_capacity(alloc, instance.proposer_count() as usize)?;
     for p in 0..instance.proposer_count() {

@@ -42,7 +42,7 @@ pub(crate) fn taken_places(
     Ok(places)
 }
 
-// Seats the proposers at each reviewer, one reviewer after another.
+/// Seats the proposers at each reviewer, one reviewer after another.
 fn seat_all(
     lists: &[Vec<u32>],
     market: &Market,
@@ -68,7 +68,7 @@ fn seat_all(
     }
 }
 
-// Seats those at a reviewer in its order, from its first seat on. The first seat is given with its reviewer.
+/// Seats those at a reviewer in its order, from its first seat on. The first seat is given with its reviewer.
 fn seat_in_order(
     lists: &[Vec<u32>],
     market: &Market,
@@ -98,7 +98,7 @@ fn seat_in_order(
     }
 }
 
-// The place that a proposer holds.
+/// The place that a proposer holds.
 fn held_place(a: &Assignment, q: u32) -> Option<u32>
     requires { q < length a.now.places.items }
     ensures { result ≡ held a.now.places.items q }
@@ -106,7 +106,7 @@ fn held_place(a: &Assignment, q: u32) -> Option<u32>
     a.places[q as usize]
 }
 
-// Is a proposer at a reviewer?
+/// Is a proposer at a reviewer?
 fn is_at(lists: &[Vec<u32>], a: &Assignment, q: u32, r: u32) -> bool
     ghost written: { Written }
     requires lists { rows_of lists.now ≡ written_lists written.proposers }

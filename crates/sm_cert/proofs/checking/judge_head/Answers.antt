@@ -1,4 +1,5 @@
 use Rattle.std.proofs.Common.{◌∙◌, ap, map, Some, subst, sym}
+use Rattle.std.specs.Prelude.{IfOk}
 use Rattle.std.specs.Option.{option_map}
 use Rattle.sm_report.specs.Heads.{HeadData, head_of}
 use Rattle.sm_report.specs.Lines.{line_of}
@@ -16,11 +17,11 @@ list_verdict-requires-clause-after_each c =
 pub list_verdict-requires-clause-own : goal.list_verdict-requires-clause-own
 list_verdict-requires-clause-own c = c.requires.own (HeadData.List (option_map (λ b. b.now) c.as_deref-after.result) c.in-List.limit)
 
-pub returns-in_ok-list_verdict-in-List-clause-verdict : goal.returns-in_ok-list_verdict-in-List-clause-verdict
-returns-in_ok-list_verdict-in-List-clause-verdict c =
+pub returns-in-List : goal.returns-in-List
+returns-in-List c =
     let same = ap (λ after. HeadData.List after c.in-List.limit) c.as_deref-after.ensures.value ∙ sym (ap head_of c.in-List.is) in
-    subst (λ head. IsVerdict (AtLine (Clauses (answer c.args.instance.now head)) (map line_of c.args.lines.now)) c.args.first_line c.in_ok-list_verdict-in-List.field-0)
-    same c.in_ok-list_verdict-in-List.ensures
+    subst (λ head. IfOk c.list_verdict.result (λ v. IsVerdict (AtLine (Clauses (answer c.args.instance.now head)) (map line_of c.args.lines.now)) c.args.first_line v))
+    same c.list_verdict.ensures
 
 pub weight_verdict-requires-clause-in_order : goal.weight_verdict-requires-clause-in_order
 weight_verdict-requires-clause-in_order c =

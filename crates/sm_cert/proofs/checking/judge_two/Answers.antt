@@ -6,9 +6,9 @@ use Rattle.sm_report.specs.Lines.{line_of}
 use Rattle.sm_cert.proofs.CheckLemmas.{by_head}
 use Rattle.sm_cert.proofs.checking.judge_two.Goals as goal
 
-pub returns-in-Some-clause-verdict : goal.returns-in-Some-clause-verdict
-returns-in-Some-clause-verdict c =
+pub returns-in-Some : goal.returns-in-Some
+returns-in-Some c =
     let head = sym c.head_in.ensures ∙ ap (option_map (λ head. head_of head.now)) c.in-Some.is in
     IfOk-weaker c.judge_head.result _ _
     (λ v judged. by_head c.args.instance.now (map line_of c.args.lines.now) (head_of c.in-Some.head.now) c.args.first_line v head judged)
-    c.judge_head.ensures.verdict
+    c.judge_head.ensures

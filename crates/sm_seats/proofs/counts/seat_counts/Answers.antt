@@ -44,22 +44,16 @@ loop-r-preserved c =
       few = c.if-entries-gt-MOST_SEAT_ENTRIES.false;
     }
 
-pub returns-clause-firsts : goal.returns-clause-firsts
-returns-clause-firsts c =
+pub returns-clause-counts : goal.returns-clause-counts
+returns-clause-counts c =
     let w = c.args.instance.now in
     let r = c.loop-r.r in
     let end : r ≡ length w.reviewers = omega (arith, c.loop-r-test.false, c.reviewer_count-reviewers.ensures.count) in
-    c.in_ok-push-3.ensures.items ∙ ap (λ (front : List ℕ). front ++ c.loop-r.seats ∷ []) c.loop-r.invariant.firsts
-    ∙ ap (λ (n : ℕ). map (seats_before w) (range_with_len 0 r) ++ n ∷ []) c.loop-r.invariant.seats
-    ∙ sym (map-range_with_len_more (seats_before w) 0 r r (omega arith))
-    ∙ ap (λ n. map (seats_before w) (range_with_len 0 (n + 1))) end
-
-pub returns-clause-acceptable : goal.returns-clause-acceptable
-returns-clause-acceptable c =
-    let end : c.loop-r.r ≡ length c.args.instance.now.reviewers = omega (arith, c.loop-r-test.false, c.reviewer_count-reviewers.ensures.count) in
-    c.loop-r.invariant.acceptable ∙ ap (λ n. map (acceptable_at c.args.instance.now) (range_with_len 0 n)) end
-
-pub returns-clause-numbers : goal.returns-clause-numbers
-returns-clause-numbers c =
-    let end : c.loop-r.r ≡ length c.args.instance.now.reviewers = omega (arith, c.loop-r-test.false, c.reviewer_count-reviewers.ensures.count) in
-    c.in_ok-numbers_below.ensures ∙ ap (range_with_len 0) (c.loop-r.invariant.seats ∙ ap (seats_before c.args.instance.now) end)
+    record {
+      firsts = c.in_ok-push-3.ensures.items ∙ ap (λ (front : List ℕ). front ++ c.loop-r.seats ∷ []) c.loop-r.invariant.firsts
+          ∙ ap (λ (n : ℕ). map (seats_before w) (range_with_len 0 r) ++ n ∷ []) c.loop-r.invariant.seats
+          ∙ sym (map-range_with_len_more (seats_before w) 0 r r (omega arith))
+          ∙ ap (λ n. map (seats_before w) (range_with_len 0 (n + 1))) end;
+      numbers = c.in_ok-numbers_below.ensures ∙ ap (range_with_len 0) (c.loop-r.invariant.seats ∙ ap (seats_before w) end);
+      acceptable = c.loop-r.invariant.acceptable ∙ ap (λ n. map (acceptable_at w) (range_with_len 0 n)) end;
+    }

@@ -8,13 +8,13 @@ use Rattle.sm_pairs.proofs.holding.Holding.add.Goals as goal
 
 pub index-requires-else-is_some : goal.index-requires-else-is_some
 index-requires-else-is_some c =
-    let long = ap length c.requires.held.loads ∙ loads_long c.args.instance.now c.args.self.now.places.items in
+    let long = ap length c.requires.held.loads ∙ loads_long c.args.instance.now c.args.self.now.matching.places.items in
     omega (arith, long, c.requires.reviewer)
 
 pub returns-then-is_some : goal.returns-then-is_some
 returns-then-is_some c =
     let w = c.args.instance.now in
-    let places = c.args.self.now.places.items in
+    let places = c.args.self.now.matching.places.items in
     let inside : c.args.p < length places = (let one = c.requires.held.matching.assigned.one_each in omega (arith, one, c.requires.proposer)) in
     elim c.then-is_some.branch [
       | then-is_some-via-then-is_some v ↦ taken (some_there places c.args.p c.index.result.now inside c.index.ensures (sym v.if-is_some.ensures))
@@ -25,13 +25,13 @@ returns-then-is_some c =
 
 pub index_mut-requires-in-Some : goal.index_mut-requires-in-Some
 index_mut-requires-in-Some c =
-    let long = ap length c.requires.held.loads ∙ loads_long c.args.instance.now c.args.self.now.places.items in
+    let long = ap length c.requires.held.loads ∙ loads_long c.args.instance.now c.args.self.now.matching.places.items in
     omega (arith, long, c.requires.reviewer)
 
 pub overflow_add-index_mut : goal.overflow_add-index_mut
 overflow_add-index_mut c =
     let w = c.args.instance.now in
-    let places = c.args.self.now.places.items in
+    let places = c.args.self.now.matching.places.items in
     let before = load_is w places c.args.self.now.loads.items c.args.r c.index-else-is_some.result.now c.requires.held.loads c.requires.reviewer c.index-else-is_some.ensures in
     let now = load_is w places c.args.self.now.loads.items c.args.r c.index_mut-in-Some.result.now c.requires.held.loads c.requires.reviewer c.index_mut-in-Some.ensures.value in
     omega (arith, before, now, c.if-index-capacity.false, c.capacity.type_inv)
@@ -39,7 +39,7 @@ overflow_add-index_mut c =
 pub returns-else-index-capacity : goal.returns-else-index-capacity
 returns-else-index-capacity c =
     let w = c.args.instance.now in
-    let places = c.args.self.now.places.items in
+    let places = c.args.self.now.matching.places.items in
     let p = c.args.p in
     let r = c.args.r in
     let place = c.in-Some.place in
