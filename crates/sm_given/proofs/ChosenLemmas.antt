@@ -1,10 +1,7 @@
 -- The answers of `meet` and `join` have lines of the instance alone.
-use Rattle.std.proofs.Common.{◌≡◌, ℕ, ◌-◌, ◌<◌, ◌++◌, ◌∷◌, [], All, List, Option, Some, None, length, refl, sym, ap, ◌∙◌, subst, arith, max, min, ◌⊎◌, inl, inr, ⊎_elim}
+use Rattle.std.proofs.Common.{◌≡◌, ℕ, ◌-◌, ◌<◌, ◌++◌, ◌∷◌, [], All, List, Option, Some, None, length, refl, sym, ap, ◌∙◌, subst, arith}
 use Rattle.std.specs.Option.{option_map}
-use Rattle.std.proofs.lemmas.Bool.{cases_lt}
-use Rattle.std.proofs.lemmas.List.{get_or_past}
 use Rattle.std.proofs.lemmas.List.Elements.{All-append, All-cons}
-use Rattle.std.proofs.lemmas.List.FromFn.{length-map-range_with_len, get_or-map-range_with_len}
 use Rattle.sm_answer.specs.Lines.{lines_from, line_or_none}
 use Rattle.sm_answer.proofs.AnswerLemmas.{one_all, lines_all}
 use Rattle.sm_instance.specs.Written.{Written, row, entry}
@@ -43,6 +40,7 @@ pair_sound by w places h assigned p = by_place (held places p) refl
     by_place None e = λ k d l. absurd (omega (arith, l))
     by_place (Some i) e = one_all (IsLineOf (Two w)) (pair_data by p (entry w.proposers p i)) (by_word by i (assigned.on_lists p i e))
 
+-- the lines of two assignments and of the one that is chosen of them are lines of the instance
 pub lines_sound : (choice : Choice) (w : Written) (m n : List (Option ℕ)) (input : Input) → input ≡ Two w → IsInstance w → IsAssignment w m → IsAssignment w n
     → All (IsLineOf input) (chosen_lines choice w m n)
 lines_sound choice w m n input two h hm hn =
@@ -71,13 +69,6 @@ lines_right choice w texts given found = record {
   shows = ap (λ m. chosen_lines choice w m given.right.places.items) found.left_is ∙ ap (λ n. chosen_lines choice w (places_in w found.left) n) found.right_is;
 }
 
--- the two are assignments
-pub found_left : (w : Written) (texts : List (List ℕ)) (given : Given) → AreFound w texts given → IsAssignment w given.left.places.items
-found_left w texts given found = subst (IsAssignment w) (sym found.left_is) found.left_stable.stable.matching.assigned
-
-pub found_right : (w : Written) (texts : List (List ℕ)) (given : Given) → AreFound w texts given → IsAssignment w given.right.places.items
-found_right w texts given found = subst (IsAssignment w) (sym found.right_is) found.right_stable.stable.matching.assigned
-
 -- the lines as they are given
 abbrev pub parts_given : HeadData → Written → (m n o : List (Option ℕ)) → List LineData
 parts_given head w m n o =
@@ -85,6 +76,7 @@ parts_given head w m n o =
     (LineData.Answer head ∷ [])
     ++ (lines_from (matching_line word.Left w m) 0 count ++ (lines_from (matching_line word.Right w n) 0 count ++ (lines_from (matching_line word.Pair w o) 0 count ++ (LineData.End ∷ []))))
 
+-- they are the lines of the answer
 pub parts_are : (choice : Choice) (head : HeadData) (w : Written) (m n o : List (Option ℕ)) → head ≡ head_for choice → o ≡ chosen_places choice w m n → parts_given head w m n o ≡ chosen_lines choice w m n
 parts_are choice head w m n o h chosen =
     let count : length w.proposers - 0 ≡ length w.proposers = omega arith in

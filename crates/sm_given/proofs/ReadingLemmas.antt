@@ -88,6 +88,7 @@ left_behind pairs l r more e =
     let b = behind_right a.left a.right rs (end_so_far pairs.group ++ more) a.same in
     record { left = b.left; right = b.right; same = b.same; late = b.late }
 
+-- the line that stands next in the lines of two matchings may stand there
 pub has_place : (pairs : GivenPairs) (l r : List (ℕ × ℕ)) (x : LineData) (rest : List LineData) → AreInTurn pairs → given_lines l r ≡ lines_so_far pairs ++ x ∷ rest → HasPlace pairs.group x
 has_place pairs l r x rest turn e = by_group pairs.group turn (left_behind pairs l r (x ∷ rest) e)
   where
@@ -96,6 +97,7 @@ has_place pairs l r x rest turn e = by_group pairs.group turn (left_behind pairs
     by_group Right fits b = first_right b.right x rest (ap (λ l'. given_lines l' b.right) (sym (b.late fits)) ∙ b.same)
     by_group Ended fits b = absurd (nothing_behind b.left b.right x rest b.same)
 
+-- these lines aren't all there while the end is missing
 pub not_ended : (pairs : GivenPairs) (l r : List (ℕ × ℕ)) → given_lines l r ≡ lines_so_far pairs → end_so_far pairs.group ≡ [] → ⊥
 not_ended pairs l r e none = let b = left_behind pairs l r [] (e ∙ sym (append-nil (lines_so_far pairs))) in some_given b.left b.right (b.same ∙ ap (λ m. m ++ []) none)
 
@@ -110,12 +112,7 @@ pub record AreTaken (input : Input) (texts : List (List ℕ)) (pairs : GivenPair
   pub sound : All (IsLineOf input) (lines_so_far pairs)
   pub spelled : texts ≡ map (text_of_line input) (lines_so_far pairs) ++ rest
 
-pub taken_none : (input : Input) (pairs : GivenPairs) (texts : List (List ℕ)) → lines_so_far pairs ≡ [] → AreTaken input texts pairs texts
-taken_none input pairs texts none = record {
-  sound = subst (All (IsLineOf input)) (sym none) (λ k d l. absurd (omega (arith, l)));
-  spelled = ap (λ lines. map (text_of_line input) lines ++ texts) (sym none);
-}
-
+-- one text more was taken
 pub taken_more : (input : Input) (texts : List (List ℕ)) (before after : GivenPairs) (text : List ℕ) (rest : List (List ℕ))
     → AreTaken input texts before (text ∷ rest) → TookText input before after text → AreTaken input texts after rest
 taken_more input texts before after text rest t k =
@@ -134,9 +131,11 @@ taken_more input texts before after text rest t k =
 pub texts_step : (bytes : List ℕ) (at : ℕ) (span : LineSpan) → IsLineAt bytes at span → texts_from bytes at ≡ take (span.stop - span.start) (drop span.start bytes) ∷ texts_from bytes span.next
 texts_step bytes at span h = ap (map content) h.leads ∙ ap (λ t. t ∷ texts_from bytes span.next) (sym (line_text bytes at span h))
 
+-- and behind it there is one line less
 pub fewer_lines : (bytes : List ℕ) (at : ℕ) (span : LineSpan) → IsLineAt bytes at span → length (lines (drop at bytes)) ≡ length (lines (drop span.next bytes)) + 1
 fewer_lines bytes at span h = let e : length (lines (drop at bytes)) ≡ length (first_line (drop at bytes) ∷ lines (drop span.next bytes)) = ap length h.leads in omega (arith, e)
 
+-- past the end there are none
 pub texts_over : (bytes : List ℕ) (at : ℕ) → length bytes ≤ at → texts_from bytes at ≡ []
 texts_over bytes at le = ap (λ rest. map content (lines rest)) (drop_all at bytes le)
 
@@ -278,5 +277,6 @@ all_given input texts pairs t ended =
           ∙ ap (λ e. map (text_of_line input) (map left_pair pairs.left.items ++ map right_pair pairs.right.items ++ e)) ended;
     }
 
+-- there is one line more behind a line that was taken
 pub taken_long : (before after : GivenPairs) (line : LineData) → Took before after line → length (lines_so_far after) ≡ length (lines_so_far before) + 1
 taken_long before after line t = ap length t.lines ∙ length-append (lines_so_far before) (line ∷ [])

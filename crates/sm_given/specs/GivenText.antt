@@ -14,9 +14,11 @@ texts_from bytes from = map content (lines (drop from bytes))
 abbrev pub left_pair : ℕ × ℕ → LineData
 left_pair pair = LineData.LeftPair pair.0 pair.1
 
+-- the line of a pair of the right matching
 abbrev pub right_pair : ℕ × ℕ → LineData
 right_pair pair = LineData.RightPair pair.0 pair.1
 
+-- all lines of two matchings
 abbrev pub given_lines : (left right : List (ℕ × ℕ)) → List LineData
 given_lines left right = map left_pair left ++ map right_pair right ++ LineData.End ∷ []
 

@@ -7,6 +7,7 @@ use Rattle.sm_report.specs.Lines.{LineData}
 use Rattle.sm_given.specs.declared.matching_lines.PairWord.{PairWord}
 use Rattle.sm_given.specs.declared.matching_lines.PairWord.TheVariants as word
 
+-- a pair behind one of the words `pair`, `left` and `right`
 abbrev pub pair_data : PairWord → ℕ → ℕ → LineData
 pair_data word.Pair p r = LineData.Pair p r
 pair_data word.Left p r = LineData.LeftPair p r

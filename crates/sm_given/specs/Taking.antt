@@ -16,6 +16,7 @@ end_so_far Left = []
 end_so_far Right = []
 end_so_far Ended = LineData.End ∷ []
 
+-- the lines that were taken
 abbrev pub lines_so_far : GivenPairs → List LineData
 lines_so_far pairs = map left_pair pairs.left.items ++ map right_pair pairs.right.items ++ end_so_far pairs.group
 
@@ -25,6 +26,7 @@ FitsGroup Left right = right ≡ []
 FitsGroup Right right = right ≢ []
 FitsGroup Ended right = Unit {0}
 
+-- no left line stands behind a right one
 abbrev pub AreInTurn : GivenPairs → Type 0
 AreInTurn pairs = FitsGroup pairs.group pairs.right.items
 
@@ -42,6 +44,7 @@ pub record Took (before after : GivenPairs) (line : LineData) : Type 0 where
   pub lines : lines_so_far after ≡ lines_so_far before ++ line ∷ []
   pub in_turn : AreInTurn after
 
+-- true says that the line was taken, and false that it may not stand there
 abbrev pub Takes : (before after : GivenPairs) → LineData → Bool → Type 0
 Takes before after line true = Took before after line
 Takes before after line false = ¬ HasPlace before.group line
@@ -52,6 +55,7 @@ pub record TookText (input : Input) (before after : GivenPairs) (text : List ℕ
   pub has : HasText input text line
   pub took : Took before after line
 
+-- true says that a line with the text was taken, and false that none may stand there
 abbrev pub TakesText : Input → (before after : GivenPairs) → List ℕ → Bool → Type 0
 TakesText input before after text true = TookText input before after text
 TakesText input before after text false = (line : LineData) → HasText input text line → ¬ HasPlace before.group line

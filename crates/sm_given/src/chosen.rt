@@ -1,6 +1,6 @@
 //! The answers of `meet` and `join`.
 
-ghost use Rattle.std.specs.Prelude.{◌≡◌, ◌<◌, ℕ, List, length};
+ghost use Rattle.std.specs.Prelude.{◌≡◌, ◌<◌, ℕ, List};
 ghost use Rattle.sm_answer.specs.Giving.{HasRest};
 ghost use Rattle.sm_answer.specs.Printing.{IsShown};
 ghost use Rattle.sm_instance.specs.Matching.{IsAssignment};
@@ -41,7 +41,8 @@ pub fn chosen_lines<'a>(
     requires left { IsAssignment instance.now given.now.left.places.items }
     requires right { IsAssignment instance.now given.now.right.places.items }
     requires chosen { chosen.now.places.items
-        ≡ chosen_places choice instance.now given.now.left.places.items given.now.right.places.items }
+        ≡ chosen_places choice instance.now given.now.left.places.items
+        given.now.right.places.items }
     ensures right { (texts : List (List ℕ)) → AreFound instance.now texts given.now
         → (lines : List (List ℕ)) → ⟦<ChosenLines<'a> as Lines>⟧.gives result lines
         → IsShown input.now (IsChosenAnswer choice texts instance.now) lines }
@@ -87,7 +88,7 @@ pub fn chosen_lines<'a>(
     }
 }
 
-// The head of an answer.
+/// The head of an answer.
 fn head_for(choice: Choice) -> Head
     ensures { head_of result ≡ head_for choice }
 {

@@ -5,7 +5,9 @@ use std::alloc::{AllocError, AllocFailed};
 /// One of two given matchings.
 #[derive(Clone, Copy, Debug, PartialEq, Eq)]
 pub enum Which {
+    /// The one of the `left` lines.
     Left,
+    /// The one of the `right` lines.
     Right,
 }
 
@@ -23,9 +25,13 @@ pub enum Flaw {
 pub struct Unstable {
     /// The line of the pair that can't be held, or the one of the closing `end`; lines are counted from 1.
     pub line: u32,
+    /// The matching that isn't stable.
     pub which: Which,
+    /// What keeps the pair from it.
     pub flaw: Flaw,
+    /// The proposer of the pair.
     pub proposer: u32,
+    /// The reviewer of the pair.
     pub reviewer: u32,
 }
 
@@ -33,7 +39,7 @@ pub struct Unstable {
 #[derive(Clone, Copy, Debug, PartialEq, Eq)]
 pub enum GivenFault {
     /// The text isn't that of two matchings: the first line that can't stand where it stands, or the one behind the last
-    /// where the closing `end` is missing.
+    /// where the closing `end` is missing. Lines are counted from 1.
     BadAnswer(u32),
     /// One of the matchings isn't stable.
     NotStable(Unstable),

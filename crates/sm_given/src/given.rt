@@ -18,7 +18,9 @@ use std::alloc::Global;
 /// Two stable matchings of an instance.
 #[derive(Drop)]
 pub struct Given {
+    /// The one of the `left` lines.
     pub left: Assignment,
+    /// The one of the `right` lines.
     pub right: Assignment,
 }
 
@@ -32,7 +34,7 @@ pub struct Given {
 /// `BadAnswer` exactly where the lines aren't those of two matchings: with the first line that can't stand where it stands, or
 /// the one behind the last where `end` is missing. `NotStable` exactly where they are, and one of them isn't stable: a pair that
 /// can't be held beside those before it comes first, then one that blocks the left matching, then one that blocks the right one.
-/// `OutOfMemory` where memory ran out.
+/// `OutOfMemory` where memory ran out, and only then.
 pub fn find_given(
     alloc: Global,
     input: &Input,
@@ -44,7 +46,8 @@ pub fn find_given(
     requires input { input.now ≡ Two instance.now }
     requires few { first_line + length (lines (drop from bytes.now)) < 2 ^ 32 }
     ensures given { IfOk result (λ given. AreFound instance.now (texts_from bytes.now from) given) }
-    ensures fault { IfErr result (λ f. IsGivenFault instance.now (texts_from bytes.now from) first_line f) }
+    ensures fault { IfErr result (λ f. IsGivenFault instance.now (texts_from bytes.now from)
+        first_line f) }
 {
     let _count = instance.proposer_count();
     let pairs = read_pairs(alloc, input, bytes, from, first_line)?;
@@ -57,7 +60,7 @@ pub fn find_given(
     Ok(Given { left, right })
 }
 
-// Refuses a matching that a pair blocks, at this line.
+/// Refuses a matching that a pair blocks, at this line.
 fn check_stable(
     instance: &Instance,
     matching: &Assignment,
@@ -66,7 +69,8 @@ fn check_stable(
 ) -> Result<(), GivenFault>
     requires { IsMatching instance.now matching.now.places.items }
     ensures stable { OnOk result (IsStable instance.now matching.now.places.items) }
-    ensures blocked { IfErr result (λ f. IsBlocking instance.now matching.now.places.items which line f) }
+    ensures blocked { IfErr result (λ f. IsBlocking instance.now matching.now.places.items which
+        line f) }
 {
     match instance.first_blocking(matching) {
         Some((proposer, reviewer)) => Err(GivenFault::NotStable(Unstable {

@@ -13,7 +13,7 @@ use sm_pairs::Holding;
 use std::alloc::Global;
 
 /// The matching that pairs make, of which the first stands on this line, where all can be held. Takes time in proportion to
-/// the agents and the pairs, and a look-up for each pair.
+/// the agents, and for each pair to the logarithm of how many list its reviewer.
 pub(crate) fn hold(
     alloc: Global,
     instance: &Instance,
@@ -41,7 +41,5 @@ pub(crate) fn hold(
             }));
         }
     }
-    Ok(Assignment {
-        places: holding.places,
-    })
+    Ok(holding.matching)
 }

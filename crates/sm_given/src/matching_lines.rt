@@ -31,7 +31,8 @@ impl Numbered for MatchingLines<'_> {
     ghost use Rattle.std.specs.Prelude.{length};
     ghost use Rattle.sm_given.specs.MatchingLines.{matching_line};
 
-    ghost line = { λ lines p. matching_line lines.word lines.instance.now lines.matching.now.places.items p };
+    ghost line = { λ lines p. matching_line lines.word lines.instance.now
+        lines.matching.now.places.items p };
 
     ghost count = { λ lines. length lines.instance.now.proposers };
 
@@ -50,7 +51,7 @@ impl Numbered for MatchingLines<'_> {
     }
 }
 
-// The line of a pair.
+/// The line of a pair.
 fn pair_line(word: PairWord, p: u32, r: u32) -> Line
     ensures { line_of result ≡ pair_data word p r }
 {

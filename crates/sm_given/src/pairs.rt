@@ -1,6 +1,6 @@
 //! The pairs of two given matchings, as their lines come.
 
-ghost use Rattle.std.specs.Prelude.{◌≡◌, ◌∷◌, ◌++◌, [], if◌then◌else◌, OnOk, IfOk};
+ghost use Rattle.std.specs.Prelude.{◌≡◌, [], IfOk};
 ghost use Rattle.sm_report.specs.Lines.{line_of, LineData};
 ghost use Rattle.sm_given.specs.Taking.{lines_so_far, Takes, AreInTurn};
 
@@ -52,7 +52,7 @@ impl GivenPairs {
         }
     }
 
-    // Takes a pair of the left matching.
+    /// Takes a pair of the left matching.
     fn take_left(&mut self, p: u32, r: u32) -> Result<bool, AllocFailed<(u32, u32)>>
         requires { AreInTurn self.old }
         ensures { IfOk result (λ fits. Takes self.old self.new (LineData.LeftPair p r) fits) }
@@ -66,7 +66,7 @@ impl GivenPairs {
         }
     }
 
-    // Takes a pair of the right matching.
+    /// Takes a pair of the right matching.
     fn take_right(&mut self, p: u32, r: u32) -> Result<bool, AllocFailed<(u32, u32)>>
         requires { AreInTurn self.old }
         ensures { IfOk result (λ fits. Takes self.old self.new (LineData.RightPair p r) fits) }
@@ -81,7 +81,7 @@ impl GivenPairs {
         }
     }
 
-    // Takes the closing line.
+    /// Takes the closing line.
     fn take_end(&mut self) -> bool
         requires { AreInTurn self.old }
         ensures { Takes self.old self.new LineData.End result }

@@ -1,6 +1,6 @@
 //! The lines of two given matchings, read to the end of a text.
 
-ghost use Rattle.std.specs.Prelude.{◌≡◌, ◌+◌, ◌<◌, ◌^◌, length, drop, if◌then◌else◌, IfOk, IfErr};
+ghost use Rattle.std.specs.Prelude.{◌+◌, ◌<◌, ◌^◌, length, drop, IfOk, IfErr};
 ghost use Rattle.sm_text.specs.Lines.{lines};
 ghost use Rattle.sm_instance.specs.Inputs.{IsInput};
 ghost use Rattle.sm_given.specs.GivenText.{texts_from, AreGiven};
@@ -23,8 +23,10 @@ pub(crate) fn read_pairs(
 ) -> Result<GivenPairs, GivenFault>
     requires input { IsInput input.now }
     requires few { first_line + length (lines (drop from bytes.now)) < 2 ^ 32 }
-    ensures given { IfOk result (λ g. AreGiven input.now (texts_from bytes.now from) g.left.items g.right.items) }
-    ensures fault { IfErr result (λ f. IsReadFault input.now (texts_from bytes.now from) first_line f) }
+    ensures given { IfOk result (λ g. AreGiven input.now (texts_from bytes.now from) g.left.items
+        g.right.items) }
+    ensures fault { IfErr result (λ f. IsReadFault input.now (texts_from bytes.now from)
+        first_line f) }
 {
     let mut pairs = GivenPairs::new(alloc);
     let mut at = from;
@@ -42,7 +44,7 @@ pub(crate) fn read_pairs(
     }
 }
 
-// Takes the text of the next line, and answers `false` where it can't stand there.
+/// Takes the text of the next line, and answers `false` where it can't stand there.
 fn take_text(
     alloc: Global,
     input: &Input,

@@ -1,16 +1,15 @@
 -- The lines of the answer of `weight` are lines of the instance.
-use Rattle.std.proofs.Common.{◌≡◌, ℕ, zero, suc, true, false, ◌+◌, ◌-◌, ◌<◌, ◌≤◌, ◌^◌, List, [], ◌∷◌, ◌++◌, length, get_or, map, slice_index_or, Some, ℤ, pos, refl, sym, ap, ◌∙◌, subst, arith}
-use Rattle.std.specs.List.{All, flat_map, range_with_len}
+use Rattle.std.proofs.Common.{◌≡◌, ℕ, ◌+◌, ◌-◌, ◌<◌, ◌≤◌, ◌^◌, List, [], ◌∷◌, ◌++◌, length, get_or, map, slice_index_or, Some, ℤ, pos, sym, ap, ◌∙◌, subst, arith}
+use Rattle.std.specs.List.{All}
 use Rattle.std.specs.Int.RustNames.{unsigned_abs}
-use Rattle.std.proofs.lemmas.List.{get_or_append_left, get_or-append_right, get_or-map, length-append}
+use Rattle.std.proofs.lemmas.List.{get_or-map}
 use Rattle.std.proofs.lemmas.List.Elements.{All-append, All-cons, All-map}
 use Rattle.sm_answer.specs.Lines.{line_or_none, lines_from}
-use Rattle.sm_answer.proofs.AnswerLemmas.{lines_all, one_all}
+use Rattle.sm_answer.proofs.AnswerLemmas.{lines_each, lines_all, one_all}
 use Rattle.sm_instance.specs.Written.{Written}
 use Rattle.sm_instance.specs.Sound.{IsInstance}
 use Rattle.sm_instance.specs.declared.inputs.Input.{Input}
 use Rattle.sm_instance.specs.declared.inputs.Input.TheVariants.{Two}
-use Rattle.sm_instance.specs.declared.kinds.Measure.{Measure}
 use Rattle.sm_instance.specs.declared.kinds.Side.TheVariants.{Proposers}
 use Rattle.sm_market.specs.Lists.{Lists}
 use Rattle.sm_market.specs.Matching.{Places}
@@ -28,36 +27,16 @@ use Rattle.sm_theory.specs.declared.flow_lines.FlowLine.{FlowLine}
 use Rattle.sm_weight.specs.Lightest.{set_matching}
 use Rattle.sm_weight.proofs.CountLemmas.{pairs_of_few}
 use Rattle.sm_shown.specs.Reduction.{seat_line}
-use Rattle.sm_shown.specs.GivenLines.{two_lines, seated_pair_line, lines_of_rotations}
+use Rattle.sm_shown.specs.GivenLines.{two_lines, seated_pair_line}
 use Rattle.sm_shown.proofs.SolveLemmas.{pair_alike, pair_sound, end_sound}
-use Rattle.sm_shown.proofs.RotationLemmas.{rotations_given_sound}
-use Rattle.sm_lightest.specs.WeightAnswer.{member_numbers, none_lines}
+use Rattle.sm_shown.proofs.ReduceLemmas.{seat_sound}
+use Rattle.sm_shown.proofs.RotationLemmas.{both_sound, flat_from}
+use Rattle.sm_lightest.specs.WeightAnswer.{member_numbers}
 use Rattle.sm_lightest.specs.Found.{IsFound, IsFlowLine}
-use Rattle.sm_lightest.specs.Rows.{shown_row}
 use Rattle.sm_lightest.specs.Given.{gain_line, three_lines, edge_line, figure_line, weight_given}
 use Rattle.sm_lightest.specs.declared.lightest_parts.Lightest.{Lightest}
 use Rattle.sm_lightest.proofs.MemberLemmas.{are_rotations}
 use Rattle.sm_lightest.proofs.SizeLemmas.{gain_size, weight_size}
-
-left_all : {X : Type 0} (P : X → Type 0) (xs ys : List X) → All P (xs ++ ys) → All P xs
-left_all P xs ys a = λ k d l. subst P (get_or_append_left xs ys d k l) (a k d (omega (arith, l, length-append xs ys)))
-
-right_all : {X : Type 0} (P : X → Type 0) (xs ys : List X) → All P (xs ++ ys) → All P ys
-right_all P xs ys a = λ k d l.
-    let back : length xs + k - length xs ≡ k = omega arith in
-    subst P (get_or-append_right xs ys (length xs) (length xs + k) d refl (omega arith) ∙ ap (λ i. get_or ys i d) back) (a (length xs + k) d (omega (arith, l, length-append xs ys)))
-
--- gains behind the lines of rotations
-three_all : (P : LineData → Type 0) (s : Seating) (rotations : List (List (ℕ × ℕ))) (needs : List (List ℕ)) (gains : List ℤ) (a n : ℕ) → All P (flat_map (two_lines s rotations needs) (range_with_len a n))
-    → ((k : ℕ) → k < a + n → P (gain_line gains k)) → All P (flat_map (three_lines s rotations needs gains) (range_with_len a n))
-three_all P s rotations needs gains a zero twos each = λ k d l. absurd (omega arith)
-three_all P s rotations needs gains a (suc n) twos each =
-    let later : All P (flat_map (two_lines s rotations needs) (range_with_len (a + 1) n)) = λ k d l. twos (suc (suc k)) d (omega (arith, l)) in
-    let rest = flat_map (three_lines s rotations needs gains) (range_with_len (a + 1) n) in
-    All-cons P (shown_row false s rotations needs a) (shown_row true s rotations needs a ∷ gain_line gains a ∷ rest) (twos 0 LineData.End (omega arith))
-    (All-cons P (shown_row true s rotations needs a) (gain_line gains a ∷ rest) (twos 1 LineData.End (omega arith))
-    (All-cons P (gain_line gains a) rest (each a (omega arith))
-    (three_all P s rotations needs gains (a + 1) n later (λ k l. each k (omega (arith, l))))))
 
 -- a line of a flow
 edge_sound : (w : Written) (line : FlowLine) → IsFlowLine line → IsLineOf (Two w) (edge_line line)
@@ -91,6 +70,7 @@ module _ {w : Written} {s : Seating} (i : IsInstance w) (h : IsSeating w s) (fou
   few_taken : length found.taken.members.items < 2 ^ 24
   few_taken = let long = ap length f.taken in omega (arith, long, f.lightest.closed.one_each, p.few)
 
+  -- the lines that are given of what was found are lines of the instance
   pub given_sound : (needs : List (List ℕ)) → AreNeeds found.basis.poset.lists found.basis.poset.rotations needs
       → All (IsLineOf (Two w)) (weight_given s found found.basis.poset.first.places found.basis.poset.rotations needs)
   given_sound needs n =
@@ -102,18 +82,16 @@ module _ {w : Written} {s : Seating} (i : IsInstance w) (h : IsSeating w s) (fou
       let m = found.matching.places in
       let printed : IsPrintedChain s.market first rotations = subst (λ (l : Lists). IsPrintedChain l first rotations) f.market p.printed in
       let needed : AreNeeds s.market rotations needs = subst (λ (l : Lists). AreNeeds l rotations needs) f.market n in
-      let whole = rotations_given_sound (Two w) i h first rotations needs refl printed p.few needed.each in
-      let firsts_given = lines_from (seat_line Proposers s first) 0 (length s.market.proposers - 0) in
-      let twos_given = lines_of_rotations s rotations needs 0 in
-      let behind : All P (firsts_given ++ (twos_given ++ LineData.End ∷ [])) = λ k d l. whole (suc k) d (omega (arith, l)) in
-      let firsts = left_all P firsts_given (twos_given ++ LineData.End ∷ []) behind in
-      let twos = left_all P twos_given (LineData.End ∷ []) (right_all P firsts_given (twos_given ++ LineData.End ∷ []) behind) in
-      let threes = three_all P s rotations needs gains 0 (length rotations - 0) twos (λ k l. record {
+      let firsts = lines_each P (seat_line Proposers s first) 0 (length s.market.proposers - 0) (λ q l. seat_sound i h Proposers first printed.chain.from_best.stable.matching q) in
+      let threes = flat_from P (three_lines s rotations needs gains) 0 (length rotations - 0) (λ k l.
+      let here : k < length rotations = omega (arith, l) in
+      All-append P (two_lines s rotations needs k) (gain_line gains k ∷ []) (both_sound i h first rotations needs printed.chain p.few needed.each k here)
+      (one_all P (gain_line gains k) (record {
         printable = tt;
         seats = λ k d l. absurd (omega arith);
-        numbers = (record { least = omega arith; greatest = omega (arith, l, p.few) }, gain_light k (omega (arith, l)));
+        numbers = (record { least = omega arith; greatest = omega (arith, here, p.few) }, gain_light k here);
         head = tt;
-      }) in
+      }))) in
       let flow = All-map P edge_line found.flow.items (λ k d l. edge_sound w (get_or found.flow.items k d) (f.numbers k d l)) in
       let taken = LineData.Taken (member_numbers found.taken.members.items (length found.taken.members.items)) in
       let value = LineData.Value found.value in
@@ -140,12 +118,3 @@ weight_sound input w s found first rotations needs two i h f p ef er n =
     subst (λ (i : Input). All (IsLineOf i) (weight_given s found first rotations needs)) (sym two)
     (subst (λ (x : Places). All (IsLineOf (Two w)) (weight_given s found x rotations needs)) (sym ef)
     (subst (λ (x : List (List (ℕ × ℕ))). All (IsLineOf (Two w)) (weight_given s found found.basis.poset.first.places x needs)) (sym er) (given_sound i h found f p needs n)))
-
--- that nothing is allowed is said by lines of the instance
-pub none_sound : (by : Measure) (input : Input) (w : Written) → input ≡ Two w → All (IsLineOf input) (none_lines by)
-none_sound by input w two =
-    let P = IsLineOf (Two w) in
-    subst (λ (i : Input). All (IsLineOf i) (none_lines by)) (sym two)
-    (All-cons P (LineData.Answer (HeadData.Weight by)) (LineData.Nothing ∷ LineData.End ∷ []) (record { printable = tt; seats = λ k d l. absurd (omega arith); numbers = tt; head = tt })
-    (All-cons P LineData.Nothing (LineData.End ∷ []) (record { printable = tt; seats = λ k d l. absurd (omega arith); numbers = tt; head = tt })
-    (one_all P LineData.End (end_sound (Two w)))))

@@ -1,23 +1,23 @@
 -- The lines of the answer of `weight` are right.
-use Rattle.std.proofs.Common.{◌≡◌, ℕ, zero, suc, ◌+◌, ◌-◌, ◌<◌, ◌≤◌, List, [], ◌∷◌, ◌++◌, Option, Some, None, length, map, slice_index_or, ℤ, pos, refl, sym, ap, ◌∙◌, subst, arith, inl, inr}
+use Rattle.std.proofs.Common.{◌≡◌, ℕ, suc, ◌+◌, ◌-◌, ◌<◌, ◌≤◌, List, [], ◌∷◌, ◌++◌, Option, length, map, slice_index_or, ℤ, pos, refl, sym, ap, ◌∙◌, subst, arith}
 use Rattle.std.specs.Prelude.{◌≤ℤ◌}
 use Rattle.std.specs.List.{flat_map, range_with_len}
-use Rattle.std.specs.Option.{option_map}
-use Rattle.std.proofs.lemmas.Bool.{cases_lt}
-use Rattle.std.proofs.lemmas.List.{get_or_past, get_or-map}
-use Rattle.std.proofs.lemmas.List.FromFn.{length-map-range_with_len, get_or-map-range_with_len}
+use Rattle.std.proofs.lemmas.List.{get_or-map}
+use Rattle.std.proofs.lemmas.List.FromFn.{length-map-range_with_len}
 use Rattle.sm_answer.specs.Lines.{lines_from}
 use Rattle.sm_answer.proofs.AnswerLemmas.{lines_alike}
 use Rattle.sm_instance.specs.Written.{Written}
 use Rattle.sm_instance.specs.Matching.{standing}
+use Rattle.sm_instance.specs.Sound.{IsInstance}
 use Rattle.sm_instance.specs.Ranks.{weight_of as written_weight}
+use Rattle.sm_instance.specs.declared.kinds.Measure.{Measure}
 use Rattle.sm_instance.specs.declared.kinds.Side.TheVariants.{Proposers}
-use Rattle.sm_market.specs.Lists.{Lists, row, entry, agents}
-use Rattle.sm_market.specs.Matching.{Places, held}
+use Rattle.sm_market.specs.Lists.{Lists, agents}
+use Rattle.sm_market.specs.Matching.{Places}
 use Rattle.sm_report.specs.declared.lines.Seat.{Seat}
 use Rattle.sm_report.specs.Heads.{HeadData}
 use Rattle.sm_report.specs.Lines.{LineData}
-use Rattle.sm_theory.specs.Chains.{IsPrintedChain}
+use Rattle.sm_theory.specs.Chains.{rotation_at, IsPrintedChain}
 use Rattle.sm_theory.specs.Weights.{weight_of, gain_of}
 use Rattle.sm_theory.specs.Conditions.{IsLightestAllowed}
 use Rattle.sm_rotations.specs.Graph.{AreNeeds}
@@ -30,42 +30,29 @@ use Rattle.sm_seats.proofs.VectorLaws.{allowed_seats, lightest_written}
 use Rattle.sm_theory.specs.declared.flow_lines.FlowLine.{FlowLine}
 use Rattle.sm_weight.specs.Lightest.{IsFullFlow, IsLightestFound, set_matching}
 use Rattle.sm_shown.specs.Answers.{pair_line}
-use Rattle.sm_shown.specs.Reduction.{seat_of, best_seat, seat_line}
-use Rattle.sm_shown.specs.RotationLines.{first_at, first_line, first_seat, seated_pairs, numbers_of, shown_of}
+use Rattle.sm_shown.specs.Reduction.{seat_line}
+use Rattle.sm_shown.specs.RotationLines.{first_line, first_seat, seated_pairs, shown_of}
 use Rattle.sm_shown.specs.RotationAnswer.{pairs_of}
-use Rattle.sm_shown.specs.GivenLines.{seated_pair_line}
-use Rattle.sm_shown.proofs.ShownLemmas.{pairs_at_shown, needs_shown, correspondence}
+use Rattle.sm_shown.specs.GivenLines.{seated_pair_line, two_lines}
+use Rattle.sm_shown.proofs.ShownLemmas.{pairs_at_shown, correspondence}
 use Rattle.sm_shown.proofs.SolveLemmas.{pair_alike}
+use Rattle.sm_shown.proofs.RotationLemmas.{flat_map_alike, lines_shown, first_shown}
 use Rattle.sm_lightest.specs.WeightAnswer.{gain_of_pairs, gain_in, IsLightest, Parts, net_in, matching_in, gained_lines, flow_line, member_numbers, weight_lines, IsWeightAnswer}
 use Rattle.sm_lightest.specs.Found.{IsFound, shown_ends}
-use Rattle.sm_lightest.specs.Given.{gain_line, three_lines, edge_line, weight_given}
+use Rattle.sm_lightest.specs.Given.{three_lines, edge_line, weight_given}
 use Rattle.sm_lightest.specs.declared.lightest_parts.Lightest.{Lightest}
 use Rattle.sm_lightest.proofs.GainLemmas.{gain_shown}
+use Rattle.sm_lightest.proofs.LineLemmas.{given_sound}
 
 -- Parts of the lines.
 
--- the first seats
-first_shown : (s : Seating) (first : Places) (rotations : List (List (ℕ × ℕ))) (needs : List (List ℕ)) → length first.proposers ≡ length s.market.proposers
-    → (p : ℕ) → seat_line Proposers s first p ≡ first_line (shown_of s first rotations needs) p
-first_shown s first rotations needs one p = by_place (held first.proposers p) refl ∙ ap (option_map (λ seat. LineData.First p seat)) (sym seat)
-  where
-    seat : first_at (shown_of s first rotations needs) p ≡ first_seat s first p
-    seat = elim (cases_lt p (length s.market.proposers)) [
-      | inl here ↦ get_or-map-range_with_len (first_seat s first) 0 (length s.market.proposers) p p None here (omega arith)
-      | inr past ↦
-          let long = length-map-range_with_len (first_seat s first) 0 (length s.market.proposers) in
-          get_or_past (map (first_seat s first) (agents s.market.proposers)) p None (omega arith)
-          ∙ ap (option_map (λ i. seat_of s (entry s.market.proposers p i))) (sym (get_or_past first.proposers p None (omega arith)))
-    ]
-
-    by_place : (o : Option ℕ) → held first.proposers p ≡ o
-        → option_map (λ i. best_seat Proposers p (seat_of s (entry s.market.proposers p i))) (held first.proposers p) ≡ option_map (λ seat. LineData.First p seat) (option_map (λ i. seat_of s (entry s.market.proposers p i)) (held first.proposers p))
-    by_place None e = rw e refl
-    by_place (Some i) e = rw e refl
-
-flat_alike : (f g : ℕ → List LineData) (a n : ℕ) → ((k : ℕ) → k < a + n → f k ≡ g k) → flat_map f (range_with_len a n) ≡ flat_map g (range_with_len a n)
-flat_alike f g a zero e = refl
-flat_alike f g a (suc n) e = ap (λ t. t ++ flat_map f (range_with_len (a + 1) n)) (e a (omega arith)) ∙ ap (λ t. g a ++ t) (flat_alike f g (a + 1) n (λ k l. e k (omega arith)))
+-- the three lines of a rotation
+pub gained_shown : (by : Measure) (w : Written) (parts : Parts) (k : ℕ) → gained_lines by w parts k
+    ≡ two_lines (seating_of w) parts.rotations parts.needs k ++ LineData.Gain (k + 1) (gain_of_pairs by w (pairs_of (seated_pairs (seating_of w) (rotation_at parts.rotations k)))) ∷ []
+gained_shown by w parts k =
+    let s = seating_of w in
+    ap (λ (t : List LineData). t ++ LineData.Gain (k + 1) (gain_in by w parts k) ∷ []) (sym (lines_shown s parts.first parts.rotations parts.needs k))
+    ∙ ap (λ (t : List (ℕ × Seat)). two_lines s parts.rotations parts.needs k ++ LineData.Gain (k + 1) (gain_of_pairs by w (pairs_of t)) ∷ []) (pairs_at_shown s parts.rotations k)
 
 -- the lines of a flow
 flow_shown : (sink : ℕ) (flow : List FlowLine) → map edge_line (map (shown_ends sink) flow) ≡ map (flow_line sink) flow
@@ -111,9 +98,6 @@ module _ {w : Written} (h : IsSeating w (seating_of w)) (found : Lightest) (f : 
   full_there : IsFullFlow (net_in found.by w (parts_in f needs)) f.source
   full_there = lightest_there.full needs needs_there
 
-  abbrev taken_matching : Places
-  taken_matching = set_matching (seated_poset w found) f.source.set.members.items
-
   places_there : found.matching.places ≡ set_matching (seated_poset w found) f.source.set.members.items
   places_there = f.places ∙ ap (λ (q : RotationPoset). set_matching q found.taken.members.items) same_poset ∙ ap (set_matching (seated_poset w found)) f.taken
 
@@ -147,12 +131,10 @@ module _ {w : Written} (h : IsSeating w (seating_of w)) (found : Lightest) (f : 
       let s = seating_of w in
       let rotations = found.basis.poset.rotations in
       let g = gain_of (seat_market w) (weights_of found.by w s) in
-      let gain : slice_index_or found.gains.items k (pos 0) ≡ gain_in found.by w (parts_in f needs) k =
+      let gain : slice_index_or found.gains.items k (pos 0) ≡ gain_of_pairs found.by w (pairs_of (seated_pairs s (rotation_at rotations k))) =
       ap (λ (xs : List ℤ). slice_index_or xs k (pos 0)) (f.gains ∙ lightest_there.gains) ∙ get_or-map g rotations k [] (pos 0) here
-      ∙ gain_shown h found.by printed_there.chain k here ∙ ap (λ (t : List (ℕ × Seat)). gain_of_pairs found.by w (pairs_of t)) (sym (pairs_at_shown s rotations k)) in
-      ap (λ (t : List (ℕ × Seat)). LineData.Rotation (k + 1) t ∷ LineData.Needs (k + 1) (numbers_of (row needs k)) ∷ gain_line found.gains.items k ∷ []) (sym (pairs_at_shown s rotations k))
-      ∙ ap (λ (t : List ℕ). LineData.Rotation (k + 1) (slice_index_or (map (seated_pairs s) rotations) k []) ∷ LineData.Needs (k + 1) t ∷ gain_line found.gains.items k ∷ []) (sym (needs_shown needs k))
-      ∙ ap (λ z. LineData.Rotation (k + 1) (slice_index_or (map (seated_pairs s) rotations) k []) ∷ LineData.Needs (k + 1) (slice_index_or (map numbers_of needs) k []) ∷ LineData.Gain (k + 1) z ∷ []) gain
+      ∙ gain_shown h found.by printed_there.chain k here in
+      ap (λ z. two_lines s rotations needs k ++ LineData.Gain (k + 1) z ∷ []) gain ∙ sym (gained_shown found.by w (parts_in f needs) k)
 
   -- the lines that are given are those of the answer
   given_is : weight_given (seating_of w) found found.basis.poset.first.places found.basis.poset.rotations needs ≡ weight_lines found.by w (parts_in f needs)
@@ -170,7 +152,7 @@ module _ {w : Written} (h : IsSeating w (seating_of w)) (found : Lightest) (f : 
       glued_alike (LineData.Answer (HeadData.Weight found.by)) _ _ _ _ _ _ _ _ _ _ _ _ _ _ _ _
       (ap (lines_from (seat_line Proposers s first) 0) count ∙ lines_alike (seat_line Proposers s first) (first_line shown) (first_shown s first rotations needs one) 0 (length shown.firsts))
       (ap (λ k. flat_map (three_lines s rotations needs found.gains.items) (range_with_len 0 k)) many
-      ∙ flat_alike (three_lines s rotations needs found.gains.items) (gained_lines found.by w parts) 0 (length rotations) (λ k l. rows_shown k (omega (arith, l))))
+      ∙ flat_map_alike (three_lines s rotations needs found.gains.items) (gained_lines found.by w parts) 0 (length rotations) (λ k l. rows_shown k (omega (arith, l))))
       (ap (map edge_line) f.flow ∙ flow_shown (suc (length rotations)) f.source.flow.items)
       (ap (λ set. LineData.Taken (member_numbers set (length set))) f.taken)
       (ap (λ v. LineData.Value v) (f.value ∙ sym full_there.value))
@@ -180,8 +162,8 @@ module _ {w : Written} (h : IsSeating w (seating_of w)) (found : Lightest) (f : 
       ∙ ap (lines_from (seated_pair_line s m) 0) all
       ∙ lines_alike (seated_pair_line s m) (pair_line w (written_of s m.proposers)) (pair_alike h m lightest_there.lightest.stable) 0 (length w.proposers))
 
-  right_there : IsWeightAnswer found.by w (weight_given (seating_of w) found found.basis.poset.first.places found.basis.poset.rotations needs)
-  right_there = record {
+  right_there : IsInstance w → IsWeightAnswer found.by w (weight_given (seating_of w) found found.basis.poset.first.places found.basis.poset.rotations needs)
+  right_there i = record {
     parts = parts_in f needs;
     printed = printed_there;
     needed = record { one_each = needs_there.one_each; of = needs_there.each };
@@ -190,14 +172,15 @@ module _ {w : Written} (h : IsSeating w (seating_of w)) (found : Lightest) (f : 
     closed = lightest_there.closed;
     lightest = lightest_in;
     shows = given_is;
+    sound = given_sound i h found f p needs n;
   }
 
 -- the lines are a right answer, by the values from which they are read
-pub weight_right : (w : Written) (s : Seating) (found : Lightest) (first : Places) (rotations : List (List (ℕ × ℕ))) (needs : List (List ℕ)) → s ≡ seating_of w → IsSeating w s → IsFound w s found → IsPoset found.basis.poset
+pub weight_right : (w : Written) (s : Seating) (found : Lightest) (first : Places) (rotations : List (List (ℕ × ℕ))) (needs : List (List ℕ)) → s ≡ seating_of w → IsInstance w → IsSeating w s → IsFound w s found → IsPoset found.basis.poset
     → first ≡ found.basis.poset.first.places → rotations ≡ found.basis.poset.rotations → AreNeeds found.basis.poset.lists found.basis.poset.rotations needs
     → IsWeightAnswer found.by w (weight_given s found first rotations needs)
-weight_right w s found first rotations needs is h f p ef er n =
+weight_right w s found first rotations needs is i h f p ef er n =
     subst (λ (x : Places). IsWeightAnswer found.by w (weight_given s found x rotations needs)) (sym ef)
     (subst (λ (x : List (List (ℕ × ℕ))). IsWeightAnswer found.by w (weight_given s found found.basis.poset.first.places x needs)) (sym er)
     (subst (λ (t : Seating). IsSeating w t → IsFound w t found → IsWeightAnswer found.by w (weight_given t found found.basis.poset.first.places found.basis.poset.rotations needs)) (sym is)
-    (λ h f. right_there h found f p needs n) h f))
+    (λ h f. right_there h found f p needs n i) h f))

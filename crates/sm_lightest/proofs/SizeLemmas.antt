@@ -18,6 +18,7 @@ sum_size a b n x y = omega (arith, ints)
 less_size : (a b : ℤ) → IsLight a → IsLight b → unsigned_abs (a -ℤ b) ≤ 2000000000
 less_size a b x y = omega (arith, ints)
 
+-- n numbers of at most two thousand million in size have a sum of at most n times that
 pub total_size : (f : ℕ → ℤ) (n : ℕ) → ((i : ℕ) → unsigned_abs (f i) ≤ 2000000000) → unsigned_abs (total f n) ≤ 2000000000 * n
 total_size f zero each = omega (arith, ints)
 total_size f (suc n) each = sum_size (total f n) (f n) n (total_size f n each) (each n)
@@ -39,6 +40,7 @@ light_of_place weights light p (Some i) = light_any weights light p i
 twice : (z : ℤ) → IsLight z → unsigned_abs z ≤ 2000000000
 twice z light = omega arith
 
+-- by light weights the gain of a rotation is at most so great for each of its pairs
 pub gain_size : (l : Lists) (weights : List (List ℤ)) → AreLight weights → (rotation : List (ℕ × ℕ)) → unsigned_abs (gain_of l weights rotation) ≤ 2000000000 * length rotation
 gain_size l weights light rotation = total_size _ (length rotation) (λ i. less_size
     (weight_at weights (proposer_at rotation i) (place_of l.proposers (proposer_at rotation i) (target_at rotation i)))
@@ -46,5 +48,6 @@ gain_size l weights light rotation = total_size _ (length rotation) (λ i. less_
     (light_any weights light (proposer_at rotation i) (place_of l.proposers (proposer_at rotation i) (target_at rotation i)))
     (light_any weights light (proposer_at rotation i) (place_of l.proposers (proposer_at rotation i) (reviewer_at rotation i))))
 
+-- and the weight of a matching for each proposer
 pub weight_size : (l : Lists) (weights : List (List ℤ)) → AreLight weights → (m : Places) → unsigned_abs (weight_of l weights m) ≤ 2000000000 * length l.proposers
 weight_size l weights light m = total_size _ (length l.proposers) (λ p. twice (weight_of_place weights p (held m.proposers p)) (light_of_place weights light p (held m.proposers p)))

@@ -1,5 +1,5 @@
 -- The lines of the answer of `weight` as they are given.
-use Rattle.std.specs.Prelude.{ℕ, ◌+◌, ◌-◌, ◌==◌, if◌then◌else◌, true, false, List, [], ◌∷◌, ◌++◌, length, drop, map, slice_index_or, Some, ℤ, pos}
+use Rattle.std.specs.Prelude.{ℕ, ◌+◌, ◌-◌, ◌==◌, if◌then◌else◌, List, [], ◌∷◌, ◌++◌, length, drop, map, slice_index_or, Some, ℤ, pos}
 use Rattle.std.specs.List.{flat_map, range_with_len}
 use Rattle.sm_answer.specs.Lines.{lines_from}
 use Rattle.sm_instance.specs.declared.kinds.Side.TheVariants.{Proposers}
@@ -9,8 +9,7 @@ use Rattle.sm_report.specs.Lines.{LineData}
 use Rattle.sm_seats.specs.Seating.{Seating}
 use Rattle.sm_theory.specs.declared.flow_lines.FlowLine.{FlowLine}
 use Rattle.sm_shown.specs.Reduction.{seat_line}
-use Rattle.sm_shown.specs.GivenLines.{seated_pair_line}
-use Rattle.sm_lightest.specs.Rows.{shown_row}
+use Rattle.sm_shown.specs.GivenLines.{seated_pair_line, rotation_line, needs_line}
 use Rattle.sm_lightest.specs.WeightAnswer.{member_numbers}
 use Rattle.sm_lightest.specs.declared.lightest_parts.Lightest.{Lightest}
 use Rattle.sm_lightest.specs.declared.gained_lines.Part.{Part}
@@ -20,8 +19,9 @@ use Rattle.sm_lightest.specs.declared.gained_lines.Part.TheVariants.{Pairs, Need
 abbrev pub gain_line : List ℤ → ℕ → LineData
 gain_line gains k = LineData.Gain (k + 1) (slice_index_or gains k (pos 0))
 
+-- a rotation, what it needs and what it gains
 abbrev pub three_lines : Seating → List (List (ℕ × ℕ)) → List (List ℕ) → List ℤ → ℕ → List LineData
-three_lines s rotations needs gains k = shown_row false s rotations needs k ∷ shown_row true s rotations needs k ∷ gain_line gains k ∷ []
+three_lines s rotations needs gains k = rotation_line s rotations k ∷ needs_line needs k ∷ gain_line gains k ∷ []
 
 -- those of the rotations from one on
 abbrev pub lines_of_gained : Seating → List (List (ℕ × ℕ)) → List (List ℕ) → List ℤ → ℕ → List LineData

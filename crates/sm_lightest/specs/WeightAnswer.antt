@@ -1,16 +1,18 @@
 -- The answer of `weight`.
 use Rattle.std.specs.Prelude.{◌≡◌, ℕ, zero, suc, ◌+◌, ◌≤◌, ◌==◌, if◌then◌else◌, Bool, List, [], ◌∷◌, ◌++◌, length, map, Option, Some, ℤ, ◌-ℤ◌, ◌≤ℤ◌}
-use Rattle.std.specs.List.{flat_map, range_with_len}
+use Rattle.std.specs.List.{All, flat_map, range_with_len}
 use Rattle.sm_answer.specs.Lines.{lines_from}
 use Rattle.sm_instance.specs.Written.{Written, place_of}
 use Rattle.sm_instance.specs.Matching.{standing}
 use Rattle.sm_instance.specs.Stable.{IsStable}
 use Rattle.sm_instance.specs.Allowed.{IsAllowed}
 use Rattle.sm_instance.specs.Ranks.{pair_weight, weight_of}
+use Rattle.sm_instance.specs.declared.inputs.Input.TheVariants.{Two}
 use Rattle.sm_instance.specs.declared.kinds.Measure.{Measure}
 use Rattle.sm_market.specs.Matching.{Places}
 use Rattle.sm_report.specs.Heads.{HeadData}
 use Rattle.sm_report.specs.Lines.{LineData}
+use Rattle.sm_report.specs.Sound.{IsLineOf}
 use Rattle.sm_report.specs.Texts.{SINK}
 use Rattle.sm_theory.specs.Chains.{IsPrintedChain}
 use Rattle.sm_theory.specs.ClosedSets.{is_member, IsClosed, matching_of}
@@ -54,6 +56,7 @@ pub record Parts : Type 0 where
   pub flow : List FlowLine
   pub taken : List Bool
 
+-- the first matching, the rotations and the needs as they are shown
 abbrev pub shown_in : Written → Parts → Shown
 shown_in w parts = shown_of (seating_of w) parts.first parts.rotations parts.needs
 
@@ -90,6 +93,7 @@ gained_lines by w parts k = rotation_lines (shown_in w parts) k ++ LineData.Gain
 abbrev pub shown_node : (sink node : ℕ) → ℕ
 shown_node sink node = if node == sink then SINK else node
 
+-- a line of a flow, with the nodes as lines name them
 abbrev pub flow_line : (sink : ℕ) → FlowLine → LineData
 flow_line sink line = LineData.Flow (shown_node sink line.from) (shown_node sink line.to) line.amount
 
@@ -115,7 +119,8 @@ weight_lines by w parts =
 
 -- The lines are the seats in the proposers' best matching, the printed chain of rotations from it on with what each of them
 -- needs and gains, a flow in the net with its residual reach, which is closed, and the pairs of the reach's matching, which is the
--- lightest that is allowed; and the stable matchings are those of the closed sets that are shown.
+-- lightest that is allowed; and the stable matchings are those of the closed sets that are shown. All are lines of the instance: where
+-- unbounded edges lead in a circle a flow may go round it with any amount, also with one that has no 64 bits.
 pub record IsWeightAnswer (by : Measure) (w : Written) (answer : List LineData) : Type 0 where
   pub parts : Parts
   pub printed : IsPrintedChain (seat_market w) parts.first parts.rotations
@@ -125,12 +130,4 @@ pub record IsWeightAnswer (by : Measure) (w : Written) (answer : List LineData) 
   pub closed : IsClosed (seat_market w) parts.rotations parts.taken
   pub lightest : IsLightest by w (matching_in w parts)
   pub shows : answer ≡ weight_lines by w parts
-
--- that nothing is allowed
-abbrev pub none_lines : Measure → List LineData
-none_lines by = LineData.Answer (HeadData.Weight by) ∷ LineData.Nothing ∷ LineData.End ∷ []
-
--- no stable matching is allowed, and the lines say so
-pub record IsNoneAllowed (by : Measure) (w : Written) (answer : List LineData) : Type 0 where
-  pub none : (places : List (Option ℕ)) → IsStable w places → ¬ IsAllowed w places
-  pub shows : answer ≡ none_lines by
+  pub sound : All (IsLineOf (Two w)) answer

@@ -14,6 +14,7 @@ use Rattle.sm_theory.specs.WitnessesFlows.{three_cycle_needs}
 use Rattle.sm_theory.specs.WitnessesLines.{three_cycle_lines}
 use Rattle.sm_lightest.specs.WeightAnswer.{Parts, weight_lines}
 
+-- these proposers and the three reviewers
 abbrev pub three_proposers : Written
 three_proposers = record {
   kind = Marriage;
@@ -24,9 +25,11 @@ three_proposers = record {
   forbidden = [];
 }
 
+-- their first matching, both rotations, what these need, and the flow, with both rotations taken
 abbrev pub three_parts : Parts
 three_parts = record { first = three_cycle_first; rotations = three_cycle_chain; needs = three_cycle_needs; flow = three_cycle_lines; taken = true ∷ true ∷ [] }
 
+-- the first seat of a reviewer
 abbrev pub seat : ℕ → Seat
 seat r = record { reviewer = r; number = 1 }
 

@@ -1,21 +1,19 @@
 //! The answer of `weight`.
 
-ghost use Rattle.std.specs.Prelude.{◌≡◌, ℕ, List, Option};
+ghost use Rattle.std.specs.Prelude.{◌≡◌, ℕ, List};
 ghost use Rattle.sm_answer.specs.Giving.{HasRest};
 ghost use Rattle.sm_answer.specs.Printing.{IsShown};
-ghost use Rattle.sm_instance.specs.Stable.{IsStable};
-ghost use Rattle.sm_instance.specs.Allowed.{IsAllowed};
 ghost use Rattle.sm_instance.specs.declared.inputs.Input.TheVariants.{Two};
 ghost use Rattle.sm_seats.specs.Seating.{seating_of};
 ghost use Rattle.sm_seats.specs.Correspondence.{IsSeating};
-ghost use Rattle.sm_lightest.specs.WeightAnswer.{IsWeightAnswer, IsNoneAllowed};
+ghost use Rattle.sm_lightest.specs.WeightAnswer.{IsWeightAnswer};
 ghost use Rattle.sm_lightest.specs.Found.{IsFound};
 
 use crate::figures::{Figures, FlowLines};
 use crate::gained_lines::{GainedLines, Part};
 use crate::lightest_parts::Lightest;
 use sm_answer::{Each, Lines, One, Printed, Then};
-use sm_instance::{Input, Instance, Measure, Side};
+use sm_instance::{Input, Instance, Side};
 use sm_report::{Head, Line};
 use sm_seats::Seats;
 use sm_shown::{PairLines, Rotations, SeatLines};
@@ -37,7 +35,7 @@ pub type LightestLines<'a> = Printed<
 
 /// The head; the first seats; for each rotation of the chain its pairs, what it needs and its gain; the flow; the set that the flow
 /// reaches, the flow's value and the set's cut; the weight of the set's matching and its pairs, in the order of the proposers; and
-/// `end`.
+/// `end`. Takes constant time; the lines together take time linear in what they show.
 pub fn lightest_lines<'a>(
     input: &'a Input,
     instance: &Instance,
@@ -99,29 +97,6 @@ pub fn lightest_lines<'a>(
                         },
                     },
                 },
-            },
-        },
-    }
-}
-
-/// The lines of the answer of `weight` where nothing is allowed.
-pub type NoneLines<'a> = Printed<'a, Then<One, Then<One, One>>>;
-
-/// The head, `none`, and `end`.
-pub fn none_lines<'a>(input: &'a Input, instance: &Instance, by: Measure) -> NoneLines<'a>
-    requires input { input.now ≡ Two instance.now }
-    requires none { (places : List (Option ℕ)) → IsStable instance.now places → ¬ IsAllowed instance.now places }
-    ensures right { (lines : List (List ℕ)) → ⟦<NoneLines<'a> as Lines>⟧.gives result lines
-        → IsShown input.now (IsNoneAllowed by instance.now) lines }
-    ensures some { HasRest (⟦<NoneLines<'a> as Lines>⟧.gives result) }
-{
-    Printed {
-        input,
-        answer: Then {
-            first: One(Some(Line::Answer(Head::Weight(by)))),
-            second: Then {
-                first: One(Some(Line::Nothing)),
-                second: One(Some(Line::End)),
             },
         },
     }

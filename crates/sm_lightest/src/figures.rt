@@ -69,7 +69,8 @@ impl Numbered for Figures<'_> {
 /// The numbers of the members of a set, from 1.
 fn member_numbers(alloc: Global, members: &[bool]) -> Result<Vec<u32>, AllocError>
     requires { length members.now < 2 ^ 24 }
-    ensures { IfOk result (λ numbers. numbers.items ≡ member_numbers members.now (length members.now)) }
+    ensures { IfOk result (λ numbers. numbers.items
+        ≡ member_numbers members.now (length members.now)) }
 {
     let mut numbers = Vec::new(alloc);
     for k in 0..members.len() {

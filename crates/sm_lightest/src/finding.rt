@@ -23,7 +23,7 @@ use sm_weight::LightestFound;
 use std::alloc::{AllocError, Global};
 
 /// The lightest stable matching among those that the conditions of an instance allow, and of those of its weight the one that is
-/// best for all proposers. `None` exactly where no stable matching is allowed.
+/// best for all proposers (Irving, Leather and Gusfield 1987). `None` exactly where no stable matching is allowed.
 ///
 /// Takes the time and the memory of [`Basis::of`] and of [`sm_weight::lightest`].
 ///
@@ -39,7 +39,8 @@ pub fn find_lightest(
     requires seats { seats.now ≡ seating_of instance.now }
     requires seating { IsSeating instance.now seats.now }
     ensures { IfOk result (λ found. MatchOption found
-        ((places : List (Option ℕ)) → IsStable instance.now places → ¬ IsAllowed instance.now places)
+        ((places : List (Option ℕ)) → IsStable instance.now places
+        → ¬ IsAllowed instance.now places)
         (λ f. (f.by ≡ by) × IsFound instance.now seats.now f)) }
 {
     let basis = Basis::of(alloc, seats)?;
@@ -55,9 +56,12 @@ pub fn find_lightest(
 /// The conditions of an instance. No instance can be built with 2^24 of them.
 fn few_conditions(alloc: Global, instance: &Instance) -> Result<Conditions, AllocError>
     ensures instance { IsInstance instance.now }
-    ensures forced { IfOk result (λ conditions. conditions.forced.items ≡ leveled instance.now instance.now.forced) }
-    ensures forbidden { IfOk result (λ conditions. conditions.forbidden.items ≡ leveled instance.now instance.now.forbidden) }
-    ensures few { IfOk result (λ conditions. length conditions.forced.items + length conditions.forbidden.items < 2 ^ 24) }
+    ensures forced { IfOk result (λ conditions. conditions.forced.items
+        ≡ leveled instance.now instance.now.forced) }
+    ensures forbidden { IfOk result (λ conditions. conditions.forbidden.items
+        ≡ leveled instance.now instance.now.forbidden) }
+    ensures few { IfOk result (λ conditions. length conditions.forced.items
+        + length conditions.forbidden.items < 2 ^ 24) }
 {
     let conditions = conditions_of(alloc, instance)?;
     if conditions.forced.len() + conditions.forbidden.len() < 1 << 24 {
@@ -79,8 +83,10 @@ fn read_off(
     requires seating { IsSeating instance.now seats.now }
     requires market { basis.poset.lists ≡ seats.now.market }
     requires light { AreLight (weights_of by instance.now seats.now) }
-    requires lightest { IsLightestFound basis.poset (levels_of seats.now) (weights_of by instance.now seats.now)
-        (leveled instance.now instance.now.forced) (leveled instance.now instance.now.forbidden) found }
+    requires lightest { IsLightestFound basis.poset (levels_of seats.now)
+        (weights_of by instance.now seats.now)
+        (leveled instance.now instance.now.forced) (leveled instance.now instance.now.forbidden)
+        found }
     ensures by { IfOk result (λ read. read.by ≡ by) }
     ensures found { IfOk result (λ read. IsFound instance.now seats.now read) }
 {

@@ -1,16 +1,11 @@
 //! The rotations of a chain as lines, each with what it needs and its gain.
 
-ghost use Rattle.std.specs.Prelude.{◌≡◌, ◌<◌, length, IfOk, Some};
-ghost use Rattle.std.specs.Option.{option_map};
-ghost use Rattle.sm_market.specs.Vectors.{rows_of};
-ghost use Rattle.sm_report.specs.Lines.{line_of};
-ghost use Rattle.sm_theory.specs.Values.{rotations_of};
-ghost use Rattle.sm_lightest.specs.Rows.{shown_row};
+ghost use Rattle.std.specs.Prelude.{◌≡◌, length};
 
 use crate::lightest_parts::Lightest;
 use sm_answer::Answer;
 use sm_report::Line;
-use sm_shown::{RotationLines, Rotations};
+use sm_shown::{Rotations, needs_line, rotation_line};
 use std::alloc::{AllocError, Global};
 
 /// The lines of a rotation, in turn.
@@ -38,7 +33,8 @@ impl Answer for GainedLines<'_> {
     ghost use Rattle.sm_theory.specs.Values.{rotations_of};
     ghost use Rattle.sm_lightest.specs.Given.{gained_left, most_gained};
 
-    ghost gives = { λ s rest. rest ≡ gained_left s.part s.rows.seats.now (rotations_of s.rows.rotations.now)
+    ghost gives = { λ s rest. rest ≡ gained_left s.part s.rows.seats.now
+        (rotations_of s.rows.rotations.now)
         (rows_of s.rows.needs.now) s.found.now.gains.items s.next };
 
     ghost most = { λ s. most_gained s.part (length s.rows.rotations.now - s.next) };
@@ -50,14 +46,14 @@ impl Answer for GainedLines<'_> {
         }
         match self.part {
             Part::Pairs => {
-                let line = shown_row(alloc, &self.rows, self.next, false)?;
+                let line = rotation_line(alloc, &self.rows, self.next)?;
                 self.part = Part::Needs;
-                Ok(line)
+                Ok(Some(line))
             }
             Part::Needs => {
-                let line = shown_row(alloc, &self.rows, self.next, true)?;
+                let line = needs_line(alloc, &self.rows, self.next)?;
                 self.part = Part::Gain;
-                Ok(line)
+                Ok(Some(line))
             }
             Part::Gain => {
                 let line = Line::Gain(self.next + 1, self.found.gains[self.next as usize]);
@@ -67,27 +63,4 @@ impl Answer for GainedLines<'_> {
             }
         }
     }
-}
-
-/// The line of a rotation's pairs, or the one behind it, of what the rotation needs, as they come without gains.
-fn shown_row(
-    alloc: Global,
-    rows: &Rotations,
-    k: u32,
-    halfway: bool,
-) -> Result<Option<Line>, AllocError>
-    requires { k < length rows.now.rotations.now }
-    ensures { IfOk result (λ line. option_map line_of line
-        ≡ Some (shown_row halfway rows.now.seats.now (rotations_of rows.now.rotations.now) (rows_of rows.now.needs.now) k)) }
-{
-    let mut lines = RotationLines {
-        rows: Rotations {
-            seats: rows.seats,
-            rotations: rows.rotations,
-            needs: rows.needs,
-        },
-        next: k,
-        halfway,
-    };
-    lines.next(alloc)
 }

@@ -1,7 +1,7 @@
 //! The answer of `weight`.
 //!
 //! [`find_lightest`] finds the lightest stable matching that the conditions of an instance allow, with a flow that shows that
-//! none is lighter; [`lightest_lines`] lends them as lines. [`none_lines`] says that nothing is allowed.
+//! none is lighter; [`lightest_lines`] lends them as lines.
 #![tactic(auto)]
 
 mod answer;
@@ -11,7 +11,7 @@ mod gained_lines;
 mod lightest_parts;
 pub mod witnesses;
 
-pub use answer::{LightestLines, NoneLines, lightest_lines, none_lines};
+pub use answer::{LightestLines, lightest_lines};
 pub use figures::{Figures, FlowLines};
 pub use finding::find_lightest;
 pub use gained_lines::{GainedLines, Part};

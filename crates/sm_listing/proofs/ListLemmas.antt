@@ -2,6 +2,7 @@
 use Rattle.std.proofs.Common.{◌≡◌, ℕ, suc, ◌+◌, ◌<◌, ◌≤◌, List, [], ◌∷◌, ◌++◌, Bool, true, false, Option, Some, None, IfSome, length, map, get_or, slice_index_or, refl, sym, ap, ◌∙◌, subst, arith, unwrap_or}
 use Rattle.std.specs.List.{All, range_with_len}
 use Rattle.std.proofs.lemmas.List.Elements.{All-append, All-cons, All-head, All-tail, All-map}
+use Rattle.sm_text.specs.Limits.{most_limit}
 use Rattle.sm_answer.specs.Giving.{HasRest, AreJoined}
 use Rattle.sm_answer.specs.Printing.{IsShown, IsPrinted}
 use Rattle.sm_answer.proofs.AnswerLemmas.{same_some, joined_some, printed_some}
@@ -55,6 +56,7 @@ list_is_right {w} {after} {s} limit head h is answer j =
       shows = j.whole ∙ ap (λ t. t ++ j.back) j.in_front ∙ ap (λ t. head ∷ t) (rest.shows ∙ ap (λ c. vector_lines c rest.out rest.more) h.cursor) ∙ ap (λ x. x ∷ vector_lines after rest.out rest.more) is;
     }
 
+-- lines that are printed behind the head show a right answer
 pub list_right : {w : Written} {after : Option (List ℕ)} {s : Lister} (input : Input) (limit : ℕ) (head : LineData) → IsListerOf w after s → head ≡ LineData.Answer (HeadData.List after limit)
     → (lines : List (List ℕ)) → IsPrinted input (AreJoined (λ rest. rest ≡ head ∷ []) (IsLeftOf false s limit)) lines → IsShown input (IsListAnswer after limit w) lines
 list_right input limit head h is lines printed = record { answer = printed.answer; is_right = list_is_right limit head h is printed.answer printed.is_right; shows = printed.shows }
@@ -105,11 +107,12 @@ end_small : (after : Option (List ℕ)) (limit : ℕ) (out : List (List ℕ)) (m
 end_small after limit [] more least all full e = absurd (let long = full e in omega arith)
 end_small after limit (v ∷ vs) more least all full e = end_listed (All IsSmall) v vs (All-head (All IsSmall) v vs all) (All-tail (All IsSmall) v vs all)
 
-head_sound : (w : Written) (after : Option (List ℕ)) (limit : ℕ) → IfSome after (All IsSmall) → 1 ≤ limit → limit ≤ 1000000 → IsLineOf (Two w) (LineData.Answer (HeadData.List after limit))
+head_sound : (w : Written) (after : Option (List ℕ)) (limit : ℕ) → IfSome after (All IsSmall) → 1 ≤ limit → limit ≤ most_limit → IsLineOf (Two w) (LineData.Answer (HeadData.List after limit))
 head_sound w after limit small least greatest =
     record { printable = tt; seats = λ k d l. absurd (omega arith); numbers = tt; head = (small, record { least = least; greatest = greatest }) }
 
-pub list_sound : {w : Written} {after : Option (List ℕ)} (limit : ℕ) → IsInstance w → IfSome after (All IsSmall) → 1 ≤ limit → limit ≤ 1000000 → (answer : List LineData) → IsListAnswer after limit w answer → All (IsLineOf (Two w)) answer
+-- a right answer is of lines of the instance
+pub list_sound : {w : Written} {after : Option (List ℕ)} (limit : ℕ) → IsInstance w → IfSome after (All IsSmall) → 1 ≤ limit → limit ≤ most_limit → (answer : List LineData) → IsListAnswer after limit w answer → All (IsLineOf (Two w)) answer
 list_sound {w} {after} limit i small least greatest answer a =
     let P = IsLineOf (Two w) in
     let vectors : All (All IsSmall) a.out = all_listed (All IsSmall) a.out (λ k l. vector_small _ i (a.listing.sound k l)) in
@@ -118,8 +121,9 @@ list_sound {w} {after} limit i small least greatest answer a =
     let lines : All P (map (λ v. LineData.Vector v) a.out) = All-map P (λ v. LineData.Vector v) a.out (λ k d l. vector_sound (Two w) _ (vectors k d l)) in
     subst (All P) (sym a.shows) (All-cons P (LineData.Answer (HeadData.List after limit)) (vector_lines after a.out a.more) (head_sound w after limit small least greatest) (All-append P (map (λ v. LineData.Vector v) a.out) (last ∷ []) lines ended))
 
+-- there is something to print
 pub list_has_rest : {w : Written} {after : Option (List ℕ)} {s : Lister} (input : Input) (limit : ℕ) (head : LineData) → IsInstance w → input ≡ Two w → IsListerOf w after s → head ≡ LineData.Answer (HeadData.List after limit)
-    → IfSome after (All IsSmall) → 1 ≤ limit → limit ≤ 1000000 → HasRest (IsPrinted input (AreJoined (λ rest. rest ≡ head ∷ []) (IsLeftOf false s limit)))
+    → IfSome after (All IsSmall) → 1 ≤ limit → limit ≤ most_limit → HasRest (IsPrinted input (AreJoined (λ rest. rest ≡ head ∷ []) (IsLeftOf false s limit)))
 list_has_rest {w} input limit head i two h is small least greatest =
     printed_some input _ (joined_some _ _ (same_some (head ∷ [])) (list_some limit h))
     (λ answer given. subst (λ (x : Input). All (IsLineOf x) answer) (sym two) (list_sound limit i small least greatest answer (list_is_right limit head h is answer given)))

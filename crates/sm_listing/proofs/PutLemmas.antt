@@ -24,6 +24,7 @@ ended : (cursor : Option (List ℕ)) → last_line cursor false ≡ LineData.End
 ended None = refl
 ended (Some v) = refl
 
+-- where the lister is at its end, the closing line is given
 pub end_given : (s t : Lister) (over : Bool) (n k : ℕ) → over ≡ false → IsAtEnd s
     → Gave LineData.End (IsLeftOf over s n) (IsLeftOf true t k) (most_lines over n) 0
 end_given s t true n k e end = absurd (false≢true (sym e))

@@ -1,11 +1,10 @@
 -- The text of a vector that is kept.
-use Rattle.std.proofs.Common.{◌≡◌, ℕ, zero, suc, ◌+◌, ◌-◌, ◌<◌, ◌≤◌, List, [], ◌∷◌, ◌++◌, map, length, take, drop, set, slice_index, decimal, inl, inr, refl, sym, ap, ◌∙◌, arith}
+use Rattle.std.proofs.Common.{◌≡◌, ℕ, zero, suc, ◌+◌, ◌-◌, ◌<◌, ◌≤◌, List, [], ◌∷◌, ◌++◌, map, length, take, drop, set, slice_index, decimal, refl, sym, ap, ◌∙◌, arith}
 use Rattle.std.specs.List.{join_with_byte}
-use Rattle.std.proofs.lemmas.List.{append_assoc, append-nil, length-append, length-take-le, length-set, length_push, get_or-take, take-take, take-append-le, take_more, take_more_set, take_all, ext_get_or, take-append-drop, set_split, get_or_append_left, get_or_push}
+use Rattle.std.proofs.lemmas.List.{append_assoc, append-nil, length-append, length-take-le, length-set, length_push, get_or-take, take-take, take_more, take-append-drop, set_split}
 use Rattle.std.proofs.lemmas.List.Concat.{flat_map-append}
 use Rattle.std.proofs.Math.Seq.{drop-append_seam}
 use Rattle.sm_lists.proofs.ResultLemmas.{take-append_at_length}
-use Rattle.sm_lists.proofs.Counting.{lt_or_le}
 use Rattle.sm_report.specs.Texts.{vector_text}
 use Rattle.sm_listing.specs.Spelled.{spelled, IsSpelled}
 
@@ -21,6 +20,7 @@ joined n (m ∷ ms) =
     ∙ ap (λ t. decimal n ++ 44 ∷ t) (joined m ms)
     ∙ sym (append_assoc (decimal n) (44 ∷ []) (spelled (m ∷ ms)))
 
+-- so it is where there are numbers
 pub text_shown : (numbers text : List ℕ) → text ≡ spelled numbers → 1 ≤ length text → take (length text - 1) text ≡ vector_text numbers
 text_shown [] text e some = absurd (omega (arith, ap length e))
 text_shown (n ∷ ns) text e some =
@@ -28,21 +28,9 @@ text_shown (n ∷ ns) text e some =
     let whole : text ≡ shown ++ 44 ∷ [] = e ∙ sym (joined n ns) in
     ap (take (length text - 1)) whole ∙ take-append_at_length (length text - 1) shown (44 ∷ []) (omega (arith, ap length whole, length_push shown 44))
 
-pub none_shown : (numbers text : List ℕ) → text ≡ spelled numbers → length text < 1 → vector_text numbers ≡ 45 ∷ []
-none_shown [] text e none = refl
-none_shown (n ∷ ns) text e none = absurd (omega (arith, ap length e, length-append (cell n) (spelled ns), length_push (decimal n) 44))
-
 -- the texts of those before a place and of all others
 spelled_parts : (numbers : List ℕ) (i : ℕ) → spelled numbers ≡ spelled (take i numbers) ++ spelled (drop i numbers)
 spelled_parts numbers i = ap spelled (sym (take-append-drop i numbers)) ∙ flat_map-append cell (take i numbers) (drop i numbers)
-
--- nothing is shown yet
-pub spelled_none : IsSpelled [] [] (0 ∷ [])
-spelled_none = record { text_is = refl; start_each = refl; starts_are = by_place }
-  where
-    by_place : (i : ℕ) → i ≤ 0 → slice_index (0 ∷ []) i ≡ length (spelled (take i []))
-    by_place zero le = refl
-    by_place (suc i) le = absurd (omega arith)
 
 -- the numbers at the front alone
 pub spelled_front : {numbers text starts : List ℕ} (count : ℕ) → count ≤ length numbers → IsSpelled numbers text starts → IsSpelled (take count numbers) (take (slice_index starts count) text) (take (count + 1) starts)
@@ -53,22 +41,6 @@ spelled_front {numbers} {text} {starts} count few w = record {
       let less : i ≤ count = omega (arith, length-take-le count numbers few) in
       get_or-take (count + 1) starts i 0 (omega arith) ∙ w.starts_are i (omega arith) ∙ ap (λ t. length (spelled t)) (sym (take-take i count numbers less));
 }
-
--- one more number
-pub spelled_more : {numbers text starts : List ℕ} (n : ℕ) (longer more : List ℕ) → IsSpelled numbers text starts → longer ≡ (text ++ decimal n) ++ 44 ∷ [] → more ≡ starts ++ length longer ∷ [] → IsSpelled (numbers ++ n ∷ []) longer more
-spelled_more {numbers} {text} {starts} n longer more w e f =
-    let whole : longer ≡ spelled (numbers ++ n ∷ []) =
-    e ∙ append_assoc text (decimal n) (44 ∷ []) ∙ ap (λ t. t ++ cell n) w.text_is ∙ ap (λ t. spelled numbers ++ t) (sym (append-nil (cell n))) ∙ sym (flat_map-append cell numbers (n ∷ [])) in
-    record {
-      text_is = whole;
-      start_each = ap length f ∙ length_push starts (length longer) ∙ ap (λ k. k + 1) w.start_each ∙ ap (λ k. k + 1) (sym (length_push numbers n));
-      starts_are = λ i le. elim (lt_or_le i (length numbers + 1)) [
-        | inl old ↦ ap (λ (s : List ℕ). slice_index s i) f ∙ get_or_append_left starts (length longer ∷ []) 0 i (omega (arith, w.start_each)) ∙ w.starts_are i (omega arith) ∙ ap (λ t. length (spelled t)) (sym (take-append-le i numbers (n ∷ []) (omega arith)))
-        | inr new ↦
-            let last : i ≡ length numbers + 1 = omega (arith, le, length_push numbers n) in
-            ap (λ (s : List ℕ). slice_index s i) f ∙ get_or_push starts (length longer) 0 i (omega (arith, w.start_each, last)) ∙ ap length whole ∙ ap (λ t. length (spelled t)) (sym (take_all i (numbers ++ n ∷ []) (omega (arith, length_push numbers n))))
-      ];
-    }
 
 -- a number whose text is as long as that of the one before leaves all as long
 same_long : (xs : List ℕ) (i n j : ℕ) → length (decimal n) ≡ length (decimal (slice_index xs i)) → length (spelled (take j (set xs i n))) ≡ length (spelled (take j xs))
@@ -88,9 +60,11 @@ cell_ends numbers i less =
     let front = spelled (take i numbers) in
     ap (λ t. length (spelled t)) (take_more numbers i 0 less) ∙ ap length (flat_map-append cell (take i numbers) (x ∷ [])) ∙ length-append front (cell x ++ []) ∙ ap (λ t. length front + length t) (append-nil (cell x)) ∙ ap (λ k. length front + k) (length_push (decimal x) 44)
 
+-- the text of each number ends no earlier than it begins
 pub starts_rise : {numbers text starts : List ℕ} (i : ℕ) → i < length numbers → IsSpelled numbers text starts → slice_index starts i ≤ slice_index starts (i + 1)
 starts_rise {numbers} i less w = omega (arith, cell_ends numbers i less, w.starts_are i (omega arith), w.starts_are (i + 1) (omega arith))
 
+-- and begins within the whole text
 pub starts_within : {numbers text starts : List ℕ} (i : ℕ) → i ≤ length numbers → IsSpelled numbers text starts → slice_index starts i ≤ length text
 starts_within {numbers} {text} {starts} i le w = omega (arith, w.starts_are i le, ap length w.text_is, ap length (spelled_parts numbers i), length-append (spelled (take i numbers)) (spelled (drop i numbers)))
 
@@ -121,22 +95,3 @@ spelled_over {numbers} {text} {starts} i n less e w =
     unchanged [] i = refl
     unchanged (x ∷ xs) zero = refl
     unchanged (x ∷ xs) (suc i) = ap (λ t. x ∷ t) (unchanged xs i)
-
--- two vectors that agree up to a place, and from there up to another one
-pub agree_further : (xs ys : List ℕ) (a b : ℕ) → b ≤ length xs → b ≤ length ys → take a xs ≡ take a ys → ((j : ℕ) → a ≤ j → j < b → slice_index xs j ≡ slice_index ys j) → take b xs ≡ take b ys
-agree_further xs ys a b few many e same = ext_get_or 0 (take b xs) (take b ys) (length-take-le b xs few ∙ sym (length-take-le b ys many)) each
-  where
-    at_place : (j : ℕ) → j < b → slice_index xs j ≡ slice_index ys j
-    at_place j less = elim (lt_or_le j a) [
-      | inl before ↦ sym (get_or-take a xs j 0 before) ∙ ap (λ (t : List ℕ). slice_index t j) e ∙ get_or-take a ys j 0 before
-      | inr behind ↦ same j behind less
-    ]
-
-    each : (j : ℕ) → j < length (take b xs) → slice_index (take b xs) j ≡ slice_index (take b ys) j
-    each j less =
-        let on : j < b = omega (arith, length-take-le b xs few) in
-        get_or-take b xs j 0 on ∙ at_place j on ∙ sym (get_or-take b ys j 0 on)
-
--- one more number of a vector is written over the one shown
-pub agree_over : (xs ys : List ℕ) (i n : ℕ) → i < length xs → i < length ys → n ≡ slice_index ys i → take i xs ≡ take i ys → take (i + 1) (set xs i n) ≡ take (i + 1) ys
-agree_over xs ys i n on there e same = take_more_set xs i n on ∙ ap (λ t. t ++ n ∷ []) same ∙ ap (λ m. take i ys ++ m ∷ []) e ∙ sym (take_more ys i 0 there)

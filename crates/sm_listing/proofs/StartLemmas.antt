@@ -32,9 +32,11 @@ named w pairs each c l =
     let on : c < length pairs = omega (arith, l, length-map pairs f) in
     subst (λ (pair : ℕ × ℕ). pair.0 < length w.proposers) (sym (get_or-map f pairs c (0, 0) (0, 0) on)) (each c on).proposer
 
+-- forced pairs name proposers of the instance
 pub forced_named : {w : Written} → IsInstance w → AreInRange (length w.proposers) (leveled w w.forced)
 forced_named {w} i = named w w.forced (forced_in_range i)
 
+-- forbidden pairs name proposers of the instance
 pub forbidden_named : {w : Written} → IsInstance w → AreInRange (length w.proposers) (leveled w w.forbidden)
 forbidden_named {w} i = named w w.forbidden (forbidden_in_range i)
 

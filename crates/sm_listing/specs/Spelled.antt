@@ -13,5 +13,6 @@ pub record IsSpelled (numbers text starts : List ℕ) : Type 0 where
   pub start_each : length starts ≡ length numbers + 1
   pub starts_are : (i : ℕ) → i ≤ length numbers → slice_index starts i ≡ length (spelled (take i numbers))
 
+-- the kept text is that of the kept numbers
 abbrev pub IsKept : VectorText → Type 0
 IsKept t = IsSpelled t.shown.items t.text.items t.starts.items

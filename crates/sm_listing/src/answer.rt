@@ -1,6 +1,7 @@
 //! The answer of `list`.
 
 ghost use Rattle.std.specs.Prelude.{◌≡◌, ◌≤◌, ℕ, List, IfOk};
+ghost use Rattle.sm_text.specs.Limits.{most_limit};
 ghost use Rattle.sm_answer.specs.Giving.{HasRest};
 ghost use Rattle.sm_answer.specs.Printing.{IsShown};
 ghost use Rattle.sm_instance.specs.declared.inputs.Input.TheVariants.{Two};
@@ -66,8 +67,9 @@ pub fn list_lines<'a>(
     requires input { input.now ≡ Two instance.now }
     requires lister { IsListerOf instance.now (cursor_in after.now) lister }
     requires least { 1 ≤ limit }
-    requires greatest { limit ≤ 1000000 }
-    ensures right { IfOk result (λ made. (lines : List (List ℕ)) → ⟦<ListLines<'a> as Lines>⟧.gives made lines
+    requires greatest { limit ≤ most_limit }
+    ensures right { IfOk result (λ made. (lines : List (List ℕ))
+        → ⟦<ListLines<'a> as Lines>⟧.gives made lines
         → IsShown input.now (IsListAnswer (cursor_in after.now) limit instance.now) lines) }
     ensures some { IfOk result (λ made. HasRest (⟦<ListLines<'a> as Lines>⟧.gives made)) }
 {

@@ -40,8 +40,10 @@ pub fn least_of(alloc: Global, basis: &Basis, seats: &Seats) -> Result<Least, Al
 /// `AllocError` where memory ran out, and only then.
 pub fn conditions_of(alloc: Global, instance: &Instance) -> Result<Conditions, AllocError>
     ensures instance { IsInstance instance.now }
-    ensures forced { IfOk result (λ conditions. conditions.forced.items ≡ leveled instance.now instance.now.forced) }
-    ensures forbidden { IfOk result (λ conditions. conditions.forbidden.items ≡ leveled instance.now instance.now.forbidden) }
+    ensures forced { IfOk result (λ conditions. conditions.forced.items
+        ≡ leveled instance.now instance.now.forced) }
+    ensures forbidden { IfOk result (λ conditions. conditions.forbidden.items
+        ≡ leveled instance.now instance.now.forbidden) }
 {
     Ok(Conditions {
         forced: leveled(alloc, instance, instance.forced())?,

@@ -43,7 +43,7 @@ pub fn start_list(
     Lister::start(alloc, least, conditions, order, after)
 }
 
-// The first numbers, from 0.
+/// The first numbers, from 0.
 fn first_numbers(alloc: Global, count: u32) -> Result<Vec<u32>, AllocError>
     ensures { IfOk result (λ numbers. numbers.items ≡ range_with_len 0 count) }
 {
@@ -54,7 +54,7 @@ fn first_numbers(alloc: Global, count: u32) -> Result<Vec<u32>, AllocError>
     Ok(numbers)
 }
 
-// A copy of a vector, if there is one.
+/// A copy of a vector, if there is one.
 pub(crate) fn copy_of_cursor(
     alloc: Global,
     after: &Option<Vec<u32>>,
@@ -68,7 +68,7 @@ pub(crate) fn copy_of_cursor(
     }
 }
 
-// A copy of numbers, all of which have 32 bits.
+/// A copy of numbers, all of which have 32 bits.
 fn small_copy(alloc: Global, numbers: &[u32]) -> Result<Vec<u32>, AllocError>
     ensures copied { IfOk result (λ copy. copy.items ≡ numbers.now) }
     ensures small { IfOk result (λ copy. All IsSmall copy.items) }
@@ -80,7 +80,7 @@ fn small_copy(alloc: Global, numbers: &[u32]) -> Result<Vec<u32>, AllocError>
     Ok(copy)
 }
 
-// Adds a number, which has 32 bits.
+/// Adds a number, which has 32 bits.
 fn push_small(copy: &mut Vec<u32>, n: u32) -> Result<(), AllocFailed<u32>>
     ensures pushed { OnOk result (copy.new.items ≡ copy.old.items ++ n ∷ []) }
     ensures small { IsSmall n }

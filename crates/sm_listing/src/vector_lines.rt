@@ -37,9 +37,11 @@ impl VectorLines {
         into: &mut LineWriter,
     ) -> Result<bool, AllocError>
         requires kept { IsKept self.old.text }
-        requires some { HasRest (IsPrinted input.now (IsLeftOf self.old.over self.old.lister self.old.left)) }
+        requires some { HasRest (IsPrinted input.now (IsLeftOf self.old.over self.old.lister
+            self.old.left)) }
         ensures kept { OnOk result (IsKept self.new.text) }
-        ensures put { PutsNext (IsPrinted input.now (IsLeftOf self.old.over self.old.lister self.old.left))
+        ensures put { PutsNext (IsPrinted input.now (IsLeftOf self.old.over self.old.lister
+            self.old.left))
             (IsPrinted input.now (IsLeftOf self.new.over self.new.lister self.new.left))
             (most_lines self.old.over self.old.left) (most_lines self.new.over self.new.left)
             into.old.bytes into.new.bytes result }
@@ -65,7 +67,7 @@ impl VectorLines {
     }
 }
 
-// The line behind the last vector that is wanted: the vector again where another one follows it.
+/// The line behind the last vector that is wanted: the vector again where another one follows it.
 fn last_line(alloc: Global, lister: &mut Lister) -> Result<Line, AllocError>
     ensures { IfOk result (λ line. IsLastLine lister.old (line_of line)) }
 {
@@ -79,10 +81,11 @@ fn last_line(alloc: Global, lister: &mut Lister) -> Result<Line, AllocError>
     }
 }
 
-// Puts the line of the vector that is shown.
+/// Puts the line of the vector that is shown.
 fn put_vector(into: &mut LineWriter, text: &VectorText) -> Result<(), AllocError>
     requires { IsKept text.now }
-    ensures { OnOk result (into.new.bytes ≡ into.old.bytes ++ (codes "vector " ++ vector_text text.now.shown.items)) }
+    ensures { OnOk result (into.new.bytes ≡ into.old.bytes ++ (codes "vector "
+        ++ vector_text text.now.shown.items)) }
 {
     into.put_bytes(b"vector ")?;
     text.put(into)

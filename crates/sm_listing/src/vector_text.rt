@@ -65,7 +65,8 @@ impl VectorText {
     fn write_over(&mut self, vector: &[u32]) -> Result<usize, AllocError>
         requires { IsKept self.old }
         ensures kept { OnOk result (IsKept self.new) }
-        ensures within { IfOk result (λ n. (n ≤ length self.new.shown.items) × (n ≤ length vector.now)) }
+        ensures within { IfOk result (λ n. (n ≤ length self.new.shown.items)
+            × (n ≤ length vector.now)) }
         ensures agreed { IfOk result (λ n. take n self.new.shown.items ≡ take n vector.now) }
     {
         let mut i = first_change(&self.shown, vector, 0);
@@ -83,8 +84,10 @@ impl VectorText {
         requires kept { IsKept self.old }
         requires place { i < length self.old.shown.items }
         ensures kept { OnOk result (IsKept self.new) }
-        ensures written { IfOk result (λ done. done ≡ true → self.new.shown.items ≡ set self.old.shown.items i number) }
-        ensures same { IfOk result (λ done. done ≡ false → self.new.shown.items ≡ self.old.shown.items) }
+        ensures written { IfOk result (λ done. done ≡ true → self.new.shown.items
+            ≡ set self.old.shown.items i number) }
+        ensures same { IfOk result (λ done. done ≡ false → self.new.shown.items
+            ≡ self.old.shown.items) }
     {
         self.digits.clear();
         self.digits.put_number(u64::from(number))?;
@@ -127,7 +130,8 @@ impl VectorText {
     /// Puts the text of the vector: its numbers with commas between them, and `-` where there are none.
     pub(crate) fn put(&self, into: &mut LineWriter) -> Result<(), AllocError>
         requires { IsKept self.now }
-        ensures { OnOk result (into.new.bytes ≡ into.old.bytes ++ vector_text self.now.shown.items) }
+        ensures { OnOk result (into.new.bytes ≡ into.old.bytes
+            ++ vector_text self.now.shown.items) }
     {
         let [text @ .., _comma] = self.text.as_slice() else {
             return into.put_bytes(b"-");
@@ -156,7 +160,8 @@ fn first_change(shown: &[u32], vector: &[u32], from: usize) -> usize
     ensures behind { from ≤ result }
     ensures shown_long { result ≤ length shown.now }
     ensures vector_long { result ≤ length vector.now }
-    ensures same { (j : ℕ) → from ≤ j → j < result → slice_index shown.now j ≡ slice_index vector.now j }
+    ensures same { (j : ℕ) → from ≤ j → j < result → slice_index shown.now j
+        ≡ slice_index vector.now j }
 {
     let mut i = from;
     'blocks: while i + BLOCK <= shown.len()
@@ -176,7 +181,8 @@ fn first_change(shown: &[u32], vector: &[u32], from: usize) -> usize
 fn are_same(shown: &[u32], vector: &[u32], from: usize, to: usize) -> bool
     requires shown_long { to ≤ length shown.now }
     requires vector_long { to ≤ length vector.now }
-    ensures { result ≡ true → (j : ℕ) → from ≤ j → j < to → slice_index shown.now j ≡ slice_index vector.now j }
+    ensures { result ≡ true → (j : ℕ) → from ≤ j → j < to → slice_index shown.now j
+        ≡ slice_index vector.now j }
 {
     let mut same = true;
     for j in from..to {
@@ -191,7 +197,8 @@ fn are_same(shown: &[u32], vector: &[u32], from: usize, to: usize) -> bool
 fn write_at(text: &mut [u8], at: usize, bytes: &[u8])
     requires { at + length bytes.now ≤ length text.old }
     ensures long { length text.new ≡ length text.old }
-    ensures written { text.new ≡ take at text.old ++ bytes.now ++ drop (at + length bytes.now) text.old }
+    ensures written { text.new ≡ take at text.old ++ bytes.now
+        ++ drop (at + length bytes.now) text.old }
 {
     text[at..at + bytes.len()].copy_from_slice(bytes);
 }

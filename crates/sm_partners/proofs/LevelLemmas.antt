@@ -60,6 +60,7 @@ module _ {w : Written} {s : Seating} (h : IsSeating w s) {rows : List (List ℕ)
       get_or_same : get_or (row rows p) k (get_or (row rows p) k 0) ≡ get_or (row rows p) k 0
       get_or_same = get_or_default (row rows p) k (get_or (row rows p) k 0) 0 l
 
+  -- levels count from 1
   pub some_levels : (k : ℕ) → k < length (row rows p) → 0 < get_or (row rows p) k 0
   some_levels k l = let x = level_in (get_or (row rows p) k 0) (at k l) in let e = x.stands in omega (arith, e)
 
@@ -74,6 +75,7 @@ module _ {w : Written} {s : Seating} (h : IsSeating w s) {rows : List (List ℕ)
       let made = m.made in
       record { places = x.places; stable = x.stable; holds = held_at w x.places p i (omega (arith, e, made)) (omega (arith, e, made, low)) }
 
+  -- and the places of stable partners are there
   pub place_in : (i : ℕ) → IsStablePlace w p i → Contains (places_of w p (row rows p)) i
   place_in i x =
       let stands : standing w x.places p ≡ i = ap (λ o. unwrap_or o (length (written_row w.proposers p))) x.holds in
@@ -82,6 +84,7 @@ module _ {w : Written} {s : Seating} (h : IsSeating w s) {rows : List (List ℕ)
       subst (Contains (places_of w p (row rows p))) (let e : i + 1 - 1 ≡ i = omega arith in e)
       (made_in (λ level. level - 1) _ (i + 1) (kept_in (λ level. nat_le level (length (written_row w.proposers p))) (row rows p) (i + 1) c (le-leb (i + 1) (length (written_row w.proposers p)) (omega (arith, on)))))
 
+  -- the places rise
   pub places_rise : IsStrictlyIncreasing (places_of w p (row rows p))
   places_rise =
       let kept = filter (λ level. nat_le level (length (written_row w.proposers p))) (row rows p) in
@@ -103,6 +106,7 @@ module _ {w : Written} {s : Seating} (h : IsSeating w s) {rows : List (List ℕ)
       only {y} c one = let zero : c.0 ≡ 0 = (let l = c.1 in omega (arith, l, one)) in
           get_or_default (row rows p) 0 0 y (omega (arith, one)) ∙ ap (λ k. get_or (row rows p) k y) (sym zero) ∙ c.2
 
+  -- where one place is held in all of them, there is one level
   pub fixed_one : (i : ℕ) → Contains (places_of w p (row rows p)) i → IsFixedPlace w p i → length (row rows p) ≡ 1
   fixed_one i c fixed = elim (lt_or_le 1 (length (row rows p))) [
     | inl two ↦ absurd (

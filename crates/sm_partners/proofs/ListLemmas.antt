@@ -4,12 +4,15 @@ use Rattle.std.specs.List.Sorted.{IsStrictlyIncreasing}
 use Rattle.std.specs.List.{flat_map, range_with_len}
 use Rattle.std.proofs.lemmas.List.{length-map, get_or-map}
 
+-- a list has its first item
 pub contains_first : {X : Type 0} (x : X) (xs : List X) → Contains (x ∷ xs) x
 contains_first x xs = (0, omega arith, refl)
 
+-- a list has what its rest has
 pub contains_later : {X : Type 0} (x y : X) (xs : List X) → Contains xs y → Contains (x ∷ xs) y
 contains_later x y xs c = (suc c.0, (let l = c.1 in omega arith), c.2)
 
+-- and nothing else
 pub contains_cases : {X : Type 0} (x y : X) (xs : List X) → Contains (x ∷ xs) y → (x ≡ y) ⊎ Contains xs y
 contains_cases x y xs (zero, l, e) = inl e
 contains_cases x y xs (suc k, l, e) = inr (k, omega (arith, l), e)
@@ -26,6 +29,7 @@ kept_more test x y xs false e c t rest = elim (contains_cases x y xs c) [
   | inr later ↦ rest later
 ]
 
+-- what a list has and a test passes is kept
 pub kept_in : (test : ℕ → Bool) (xs : List ℕ) (y : ℕ) → Contains xs y → test y ≡ true → Contains (filter test xs) y
 kept_in test [] y c t = absurd (let l = c.1 in omega arith)
 kept_in test (x ∷ xs) y c t = kept_more test x y xs (test x) refl c t (λ later. kept_in test xs y later t)
@@ -38,6 +42,7 @@ kept_less test x y xs true e c rest = elim (contains_cases x y (filter test xs) 
 ]
 kept_less test x y xs false e c rest = let k = rest c in (contains_later x y xs k.0, k.1)
 
+-- what is kept is of the list and passes
 pub kept_from : (test : ℕ → Bool) (xs : List ℕ) (y : ℕ) → Contains (filter test xs) y → Contains xs y × (test y ≡ true)
 kept_from test [] y c = absurd (let l = c.1 in omega arith)
 kept_from test (x ∷ xs) y c = kept_less test x y xs (test x) refl c (λ later. kept_from test xs y later)
@@ -46,11 +51,13 @@ kept_from test (x ∷ xs) y c = kept_less test x y xs (test x) refl c (λ later.
 pub made_in : (f : ℕ → ℕ) (xs : List ℕ) (x : ℕ) → Contains xs x → Contains (map f xs) (f x)
 made_in f xs x c = (c.0, (let l = c.1 in let e = length-map xs f in omega arith), get_or-map f xs c.0 x (f x) c.1 ∙ ap f c.2)
 
+-- an item is made of one of the list
 pub record IsMadeFrom (f : ℕ → ℕ) (xs : List ℕ) (y : ℕ) : Type 0 where
   pub from : ℕ
   pub there : Contains xs from
   pub made : f from ≡ y
 
+-- whatever is made is made of one
 pub made_from : (f : ℕ → ℕ) (xs : List ℕ) (y : ℕ) → Contains (map f xs) y → IsMadeFrom f xs y
 made_from f [] y c = absurd (let l = c.1 in omega arith)
 made_from f (x ∷ xs) y c = elim (contains_cases (f x) y (map f xs) c) [

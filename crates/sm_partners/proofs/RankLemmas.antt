@@ -1,20 +1,14 @@
 -- The ranks of the places of seats.
 use Rattle.std.proofs.Common.{◌≡◌, ℕ, ◌<◌, ◌∙◌, List, [], length, get_or, Some, sym, ap, subst, arith}
 use Rattle.std.proofs.lemmas.List.FromFn.{get_or-map-range_with_len, length-map-range_with_len}
-use Rattle.sm_lists.proofs.PlaceLemmas.{get_or-place_on}
-use Rattle.sm_instance.specs.Written.{Written, row as written_row, entry, IsAcceptable}
-use Rattle.sm_instance.specs.Sound.{IsInstance}
+use Rattle.sm_lists.proofs.RowLemmas.{row_in_range}
+use Rattle.sm_instance.specs.Written.{Written}
 use Rattle.sm_instance.specs.Ranks.{worse_rank}
 use Rattle.sm_market.specs.Lists.{Lists, row}
 use Rattle.sm_theory.specs.Regrets.{AreRanks}
-use Rattle.sm_seats.specs.Seating.{Seating, seating_of, written_place, at_places, levels_of}
+use Rattle.sm_seats.specs.Seating.{Seating, written_place, at_places, levels_of}
 use Rattle.sm_seats.specs.Correspondence.{worse_ranks_of}
-use Rattle.sm_seats.proofs.SeatingLemmas.{row_there, at_place_is, length-at_places, level_is}
-use Rattle.sm_seats.proofs.SeatPlaces.{seat_on}
-use Rattle.sm_seats.proofs.MutualLemmas.{mutual_acceptable}
-use Rattle.sm_seats.proofs.WrittenLemmas.{written_is}
-use Rattle.sm_seats.proofs.CorrespondenceLaws.{sound_entries}
-use Rattle.sm_partners.specs.RegretFound.{AreAcceptableAt}
+use Rattle.sm_seats.proofs.SeatingLemmas.{at_place_is, length-at_places, level_is}
 
 -- the ranks of one proposer
 pub ranks_at : (w : Written) (s : Seating) (p : ℕ) → p < length s.market.proposers → row (worse_ranks_of w s) p ≡ at_places s (λ p i. worse_rank w p (Some i)) p
@@ -29,19 +23,12 @@ are_ranks w s = record {
   one_each = length-map-range_with_len (at_places s (λ p i. worse_rank w p (Some i))) 0 (length s.market.proposers);
   per_place = λ p here. ap length (ranks_at w s p here) ∙ length-at_places s (λ p i. worse_rank w p (Some i)) p;
   alike = λ p i j on other same.
-      let here : p < length s.market.proposers = row_there s.market.proposers p i on in
+      let here : p < length s.market.proposers = row_in_range s.market.proposers p i on in
       let place : written_place s p i ≡ written_place s p j = omega (arith, level_is s p i on, level_is s p j other, same) in
       rank_at w s p i here on ∙ ap (λ k. worse_rank w p (Some k)) place ∙ sym (rank_at w s p j here other);
 }
 
--- whom a seat's place leads to is acceptable
-pub are_acceptable : {w : Written} {s : Seating} → IsInstance w → s ≡ seating_of w → (p : ℕ) → AreAcceptableAt w s p
-are_acceptable {w} {s} instance is p = subst (λ (s : Seating). AreAcceptableAt w s p) (sym is) (λ i on.
-    let seat = seat_on (sound_entries instance) p i on in
-    let both = mutual_acceptable seat.at.mutual_ in
-    subst (IsAcceptable w p) (sym (ap (entry w.proposers p) (written_is seat.at) ∙ get_or-place_on (written_row w.proposers p) seat.reviewer both.proposer_lists)) both)
-
--- so are those of a search at the levels of the seats
+-- so it is with those of a search at the levels of the seats
 pub are_ranks_of : (w : Written) (s : Seating) {l : Lists} {levels ranks : List (List ℕ)} → l ≡ s.market → levels ≡ levels_of s → ranks ≡ worse_ranks_of w s → AreRanks l levels ranks
 are_ranks_of w s {l} {levels} {ranks} same at given =
     subst (λ l. AreRanks l levels ranks) (sym same) (subst (λ x. AreRanks s.market x ranks) (sym at) (subst (AreRanks s.market (levels_of s)) (sym given) (are_ranks w s)))

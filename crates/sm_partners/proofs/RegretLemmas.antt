@@ -21,7 +21,7 @@ use Rattle.sm_seats.proofs.VectorLaws.{allowed_seats, least_regret_written}
 use Rattle.sm_shown.specs.Answers.{pair_line}
 use Rattle.sm_shown.specs.GivenLines.{seated_pair_line}
 use Rattle.sm_shown.proofs.SolveLemmas.{pair_alike, pair_sound, end_sound}
-use Rattle.sm_partners.specs.RegretAnswer.{IsLeastRegret as IsWrittenLeastRegret, IsRegretAnswer, regret_lines, none_lines}
+use Rattle.sm_partners.specs.RegretAnswer.{IsLeastRegret as IsWrittenLeastRegret, IsRegretAnswer, regret_lines}
 use Rattle.sm_partners.specs.RegretFound.{IsFound, regret_given}
 use Rattle.sm_partners.specs.declared.least_regret.LeastRegret.{LeastRegret}
 
@@ -55,6 +55,7 @@ module _ {w : Written} {s : Seating} (h : IsSeating w s) (found : LeastRegret) (
       ∙ ap (λ t. LineData.Answer HeadData.Regret ∷ LineData.Regret (written_regret w (written_of s m.proposers)) ∷ (t ++ (LineData.End ∷ [])))
       (ap (lines_from (seated_pair_line s m) 0) count ∙ lines_alike (seated_pair_line s m) (pair_line w (written_of s m.proposers)) (pair_alike h m f.least.stable) 0 (length w.proposers))
 
+  -- the lines say that matching with its regret, which is a right answer
   pub regret_right : IsRegretAnswer w (regret_given s found)
   regret_right = record { places = written_of s found.matching.places.proposers; least = least_written; shows = given_is }
 
@@ -70,12 +71,3 @@ module _ {w : Written} {s : Seating} (h : IsSeating w s) (found : LeastRegret) (
       (All-cons P (LineData.Regret (written_regret w (written_of s m.proposers))) (rest ++ LineData.End ∷ []) (record { printable = tt; seats = λ k d l. absurd (omega arith); numbers = subst IsSmall regret_is small; head = tt })
       (All-append P rest (LineData.End ∷ []) (lines_all P (pair_line w (written_of s m.proposers)) (pair_sound w (written_of s m.proposers) (h.forgotten m f.least.stable).matching) 0 (length w.proposers))
       (All-cons P LineData.End [] (end_sound (Two w)) (λ k d l. absurd (omega arith)))))))
-
--- that there is none is said by lines of the instance
-pub none_sound : (input : Input) (w : Written) → input ≡ Two w → All (IsLineOf input) none_lines
-none_sound input w two =
-    let P = IsLineOf (Two w) in
-    subst (λ (i : Input). All (IsLineOf i) none_lines) (sym two)
-    (All-cons P (LineData.Answer HeadData.Regret) (LineData.Nothing ∷ LineData.End ∷ []) (record { printable = tt; seats = λ k d l. absurd (omega arith); numbers = tt; head = tt })
-    (All-cons P LineData.Nothing (LineData.End ∷ []) (record { printable = tt; seats = λ k d l. absurd (omega arith); numbers = tt; head = tt })
-    (All-cons P LineData.End [] (end_sound (Two w)) (λ k d l. absurd (omega arith)))))

@@ -14,6 +14,7 @@ places_of w p levels = map (λ level. level - 1) (filter (λ level. nat_le level
 abbrev pub pairs_at_levels : Written → Bool → (p : ℕ) → (levels : List ℕ) → List StablePair
 pairs_at_levels w fixed p levels = pairs_of_proposer w fixed p (places_of w p levels)
 
+-- the stable pairs of the first n proposers by their levels
 abbrev pub pairs_by_levels : Written → (rows : List (List ℕ)) → (n : ℕ) → List StablePair
 pairs_by_levels w rows n = flat_map (λ p. pairs_at_levels w (length (row rows p) == 1) p (row rows p)) (range_with_len 0 n)
 

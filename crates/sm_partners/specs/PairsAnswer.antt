@@ -10,6 +10,7 @@ use Rattle.sm_partners.specs.declared.pairs.StablePair.{StablePair}
 abbrev pub partner_line : StablePair → LineData
 partner_line pair = if pair.fixed then LineData.AllPair pair.proposer pair.reviewer else LineData.SomePair pair.proposer pair.reviewer
 
+-- all lines of the answer
 abbrev pub pairs_lines : List StablePair → List LineData
 pairs_lines pairs = LineData.Answer HeadData.Pairs ∷ (map partner_line pairs ++ LineData.End ∷ [])
 

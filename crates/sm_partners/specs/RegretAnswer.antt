@@ -29,12 +29,3 @@ pub record IsRegretAnswer (w : Written) (answer : List LineData) : Type 0 where
   pub places : List (Option ℕ)
   pub least : IsLeastRegret w places
   pub shows : answer ≡ regret_lines w places
-
--- that there is no such matching
-abbrev pub none_lines : List LineData
-none_lines = LineData.Answer HeadData.Regret ∷ LineData.Nothing ∷ LineData.End ∷ []
-
--- no stable matching is allowed, and the lines say so
-pub record IsNoneAllowed (w : Written) (answer : List LineData) : Type 0 where
-  pub none : (places : List (Option ℕ)) → IsStable w places → ¬ IsAllowed w places
-  pub shows : answer ≡ none_lines

@@ -1,12 +1,11 @@
 -- The least regret by the seats of an instance.
-use Rattle.std.specs.Prelude.{ℕ, ◌-◌, ◌<◌, ◌++◌, ◌∷◌, [], List, length}
+use Rattle.std.specs.Prelude.{◌-◌, ◌++◌, ◌∷◌, [], List, length}
 use Rattle.sm_answer.specs.Lines.{lines_from}
-use Rattle.sm_instance.specs.Written.{Written, entry as written_entry, IsAcceptable}
-use Rattle.sm_market.specs.Lists.{row}
+use Rattle.sm_instance.specs.Written.{Written}
 use Rattle.sm_market.specs.Pairing.{IsPairingOf}
 use Rattle.sm_report.specs.Heads.{HeadData}
 use Rattle.sm_report.specs.Lines.{LineData}
-use Rattle.sm_seats.specs.Seating.{Seating, written_place, levels_of}
+use Rattle.sm_seats.specs.Seating.{Seating, levels_of}
 use Rattle.sm_seats.specs.Correspondence.{leveled, worse_ranks_of}
 use Rattle.sm_theory.specs.Regrets.{IsLeastRegret}
 use Rattle.sm_shown.specs.GivenLines.{seated_pair_line}
@@ -16,10 +15,6 @@ use Rattle.sm_partners.specs.declared.least_regret.LeastRegret.{LeastRegret}
 pub record IsFound (w : Written) (s : Seating) (found : LeastRegret) : Type 0 where
   pub made : IsPairingOf s.market found.matching
   pub least : IsLeastRegret s.market (levels_of s) (worse_ranks_of w s) (leveled w w.forced) (leveled w w.forbidden) found.matching.places found.regret
-
--- each place of p leads to a reviewer that is acceptable to it, and it to the reviewer
-abbrev pub AreAcceptableAt : Written → Seating → ℕ → Type 0
-AreAcceptableAt w s p = (i : ℕ) → i < length (row s.market.proposers p) → IsAcceptable w p (written_entry w.proposers p (written_place s p i))
 
 -- the lines as they are given
 abbrev pub regret_given : Seating → LeastRegret → List LineData

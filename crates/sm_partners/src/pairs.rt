@@ -5,7 +5,6 @@ ghost use Rattle.sm_report.specs.Lines.{line_of};
 ghost use Rattle.sm_answer.specs.Giving.{HasRest};
 ghost use Rattle.sm_answer.specs.Printing.{IsShown};
 ghost use Rattle.sm_instance.specs.declared.inputs.Input.TheVariants.{Two};
-ghost use Rattle.sm_market.specs.Vectors.{rows_of};
 ghost use Rattle.sm_seats.specs.Seating.{seating_of};
 ghost use Rattle.sm_seats.specs.Correspondence.{IsSeating};
 ghost use Rattle.sm_partners.specs.Partners.{AreStablePairs};
@@ -56,7 +55,7 @@ pub fn find_pairs(
     Ok(pairs)
 }
 
-// Adds the pairs of a proposer that has these levels in stable matchings.
+/// Adds the pairs of a proposer that has these levels in stable matchings.
 fn push_pairs(
     pairs: &mut Vec<StablePair>,
     instance: &Instance,
@@ -104,7 +103,7 @@ impl Answer for PairsLeft<'_> {
     }
 }
 
-// The line of a pair.
+/// The line of a pair.
 fn line_for(pair: StablePair) -> Line
     ensures { line_of result ≡ partner_line pair }
 {
@@ -118,7 +117,7 @@ fn line_for(pair: StablePair) -> Line
 /// The lines of the answer of `pairs`.
 pub type PairsLines<'a> = Printed<'a, Then<One, Then<PairsLeft<'a>, One>>>;
 
-/// The head, the stable pairs, and `end`.
+/// The head, the stable pairs, and `end`. Takes constant time; the lines together take time linear in the pairs.
 pub fn pairs_lines<'a>(
     input: &'a Input,
     instance: &Instance,

@@ -1,7 +1,6 @@
 //! The answer of `regret`.
 
-ghost use Rattle.std.specs.Prelude.{◌≡◌, ℕ, ◌<◌, List, Option, length, map, IfOk, MatchOption, Some};
-ghost use Rattle.std.specs.List.{range_with_len};
+ghost use Rattle.std.specs.Prelude.{◌≡◌, ℕ, ◌<◌, List, Option, length, IfOk, MatchOption, Some};
 ghost use Rattle.sm_answer.specs.Giving.{HasRest};
 ghost use Rattle.sm_answer.specs.Printing.{IsShown};
 ghost use Rattle.sm_instance.specs.Stable.{IsStable};
@@ -12,8 +11,9 @@ ghost use Rattle.sm_market.specs.Lists.{row};
 ghost use Rattle.sm_market.specs.Vectors.{rows_of};
 ghost use Rattle.sm_seats.specs.Seating.{seating_of, levels_of, at_places};
 ghost use Rattle.sm_seats.specs.Correspondence.{IsSeating, worse_ranks_of};
-ghost use Rattle.sm_partners.specs.RegretAnswer.{IsRegretAnswer, IsNoneAllowed};
-ghost use Rattle.sm_partners.specs.RegretFound.{IsFound, AreAcceptableAt};
+ghost use Rattle.sm_partners.specs.RegretAnswer.{IsRegretAnswer};
+ghost use Rattle.sm_placed.specs.PlaceWeights.{AreAcceptableAt};
+ghost use Rattle.sm_partners.specs.RegretFound.{IsFound};
 
 use crate::least_regret::LeastRegret;
 use sm_answer::{Each, Lines, One, Printed, Then};
@@ -26,7 +26,7 @@ use sm_shown::{Basis, PairLines};
 use std::alloc::{AllocError, Global};
 
 /// The stable matching of the least regret among those that the conditions of an instance allow, and of those that have it the
-/// one that is best for all proposers. `None` exactly where no stable matching is allowed.
+/// one that is best for all proposers (Gusfield 1987). `None` exactly where no stable matching is allowed.
 ///
 /// Takes the time and the memory of [`Basis::of`] and of a dozen searches, as those of [`sm_lattice::min_regret`].
 ///
@@ -41,13 +41,14 @@ pub fn find_regret(
     requires seats { seats.now ≡ seating_of instance.now }
     requires seating { IsSeating instance.now seats.now }
     ensures { IfOk result (λ found. MatchOption found
-        ((places : List (Option ℕ)) → IsStable instance.now places → ¬ IsAllowed instance.now places)
+        ((places : List (Option ℕ)) → IsStable instance.now places
+        → ¬ IsAllowed instance.now places)
         (λ f. IsFound instance.now seats.now f)) }
 {
     let basis = Basis::of(alloc, seats)?;
     let mut least = least_of(alloc, &basis, seats)?;
     let conditions = conditions_of(alloc, instance)?;
-    let ranks = worse_ranks(alloc, instance, seats)?;
+    let ranks = worse_ranks(alloc, instance, seats, least.levels())?;
     match min_regret(alloc, &mut least, &ranks, &conditions)? {
         Some((regret, set)) => {
             let matching = basis.poset.matching_of(alloc, &set)?;
@@ -57,17 +58,19 @@ pub fn find_regret(
     }
 }
 
-// For each place the greater of the ranks that the proposer and its seat's reviewer give each other.
+/// For each place the greater of the ranks that the proposer and its seat's reviewer give each other, from the levels of the
+/// places.
 fn worse_ranks(
     alloc: Global,
     instance: &Instance,
     seats: &Seats,
+    levels: &[Vec<u32>],
 ) -> Result<Vec<Vec<u32>>, AllocError>
     requires seats { seats.now ≡ seating_of instance.now }
     requires seating { IsSeating instance.now seats.now }
+    requires levels { rows_of levels.now ≡ levels_of seats.now }
     ensures { IfOk result (λ ranks. rows_of ranks.items ≡ worse_ranks_of instance.now seats.now) }
 {
-    let levels = seats.levels(alloc)?;
     let mut ranks = Vec::with_capacity(alloc, levels.len())?;
     for p in 0..instance.proposer_count() {
         ranks.push(ranks_of(alloc, instance, seats, p, &levels[p as usize])?)?;
@@ -75,7 +78,7 @@ fn worse_ranks(
     Ok(ranks)
 }
 
-// The same for the places of one proposer, whose levels these are.
+/// The same for the places of one proposer, whose levels these are.
 fn ranks_of(
     alloc: Global,
     instance: &Instance,
@@ -87,7 +90,8 @@ fn ranks_of(
     requires in_range { p < length instance.now.proposers }
     requires levels { levels.now ≡ row (levels_of seats.now) p }
     requires acceptable { AreAcceptableAt instance.now seats.now p }
-    ensures { IfOk result (λ ranks. ranks.items ≡ at_places seats.now (λ p i. worse_rank instance.now p (Some i)) p) }
+    ensures { IfOk result (λ ranks. ranks.items ≡ at_places seats.now
+        (λ p i. worse_rank instance.now p (Some i)) p) }
 {
     let places = seats.market().proposer_len(p);
     let mut ranks = Vec::with_capacity(alloc, places as usize)?;
@@ -102,7 +106,8 @@ fn ranks_of(
 /// The lines of the answer of `regret`.
 pub type RegretLines<'a> = Printed<'a, Then<One, Then<One, Then<Each<PairLines<'a>>, One>>>>;
 
-/// The head, the least regret, the pairs of its matching in the order of the proposers, and `end`.
+/// The head, the least regret, the pairs of its matching in the order of the proposers, and `end`. Takes constant time; the
+/// lines together take time linear in what they show.
 pub fn regret_lines<'a>(
     input: &'a Input,
     instance: &Instance,
@@ -133,29 +138,6 @@ pub fn regret_lines<'a>(
                     },
                     second: One(Some(Line::End)),
                 },
-            },
-        },
-    }
-}
-
-/// The lines of the answer of `regret` where nothing is allowed.
-pub type NoneLines<'a> = Printed<'a, Then<One, Then<One, One>>>;
-
-/// The head, `none`, and `end`.
-pub fn none_lines<'a>(input: &'a Input, instance: &Instance) -> NoneLines<'a>
-    requires input { input.now ≡ Two instance.now }
-    requires none { (places : List (Option ℕ)) → IsStable instance.now places → ¬ IsAllowed instance.now places }
-    ensures right { (lines : List (List ℕ)) → ⟦<NoneLines<'a> as Lines>⟧.gives result lines
-        → IsShown input.now (IsNoneAllowed instance.now) lines }
-    ensures some { HasRest (⟦<NoneLines<'a> as Lines>⟧.gives result) }
-{
-    Printed {
-        input,
-        answer: Then {
-            first: One(Some(Line::Answer(Head::Regret))),
-            second: Then {
-                first: One(Some(Line::Nothing)),
-                second: One(Some(Line::End)),
             },
         },
     }

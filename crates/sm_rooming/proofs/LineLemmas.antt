@@ -66,10 +66,12 @@ party_sound persons next parties all count k on =
     λ i d l. let lt = (all.each k on).inside i l in omega (arith, lt, count, get_or_default_zero (row parties k) i d l) in
     one_all (IsLineOf (Room persons)) (LineData.Party (row parties k)) (record { printable = inside; seats = λ k d l. absurd (omega arith); numbers = tt; head = tt })
 
+-- the couples of a stable matching are lines of the instance
 pub couples_sound : {input : Input} {persons : List AgentData} {mates : List (Option ℕ)} → input ≡ Room persons → IsRoomStable (lists_of persons) mates → All (IsLineOf input) (couple_lines mates)
 couples_sound {input} {persons} {mates} room stable =
     answer_sound [] (couple_line mates) (length mates) room (none_left (IsLineOf (Room persons))) (λ x l. couple_sound persons mates stable.matching x)
 
+-- the parties that exclude stable matchings are lines of the instance
 pub all_parties_sound : {persons : List AgentData} (parties : List (List ℕ)) → AreExcluding (lists_of persons) parties → All (IsLineOf (Room persons)) (party_lines parties)
 all_parties_sound {persons} parties e =
     answer_sound (LineData.Nothing ∷ []) (party_line parties) (length parties) refl (one_all (IsLineOf (Room persons)) LineData.Nothing (none_sound persons))
@@ -78,27 +80,33 @@ all_parties_sound {persons} parties e =
 abbrev parties_given : List (Vec ℕ Global) → List LineData
 parties_given parties = answer_lines (LineData.Nothing ∷ []) (party_line (rows_of parties)) (length parties)
 
+-- and so where the parties are held in vectors
 pub parties_sound : {input : Input} {persons : List AgentData} (parties : List (Vec ℕ Global)) → input ≡ Room persons → AreExcluding (lists_of persons) (rows_of parties) → All (IsLineOf input) (parties_given parties)
 parties_sound {input} {persons} parties room e =
     answer_sound (LineData.Nothing ∷ []) (party_line (rows_of parties)) (length parties) room (one_all (IsLineOf (Room persons)) LineData.Nothing (none_sound persons))
     (λ k l. party_sound persons e.next (rows_of parties) e.all (e.partition.one_each ∙ many persons) k (omega (arith, l, length-map parties (λ (v : Vec ℕ Global). v.items))))
 
+-- the lines of parties in vectors are those of the parties
 pub parties_are : (parties : List (Vec ℕ Global)) → parties_given parties ≡ party_lines (rows_of parties)
 parties_are parties = ap (answer_lines (LineData.Nothing ∷ []) (party_line (rows_of parties))) (sym (length-map parties (λ (v : Vec ℕ Global). v.items)))
 
 -- The lines that are given.
 
+-- the answer as it is given, piece by piece
 abbrev pub lines_given : List LineData → (ℕ → Option LineData) → ℕ → List LineData
 lines_given none line count = (LineData.Answer (HeadData.Solve None) ∷ []) ++ (none ++ (lines_from line 0 (count - 0) ++ (LineData.End ∷ [])))
 
+-- together these are all its lines
 pub given_is : (none : List LineData) (line : ℕ → Option LineData) (count : ℕ) → lines_given none line count ≡ answer_lines none line count
 given_is none line count = let n : count - 0 ≡ count = omega arith in ap (answer_lines none line) n
 
+-- so they are lines of the instance where those are
 pub given_sound : {input : Input} (none : List LineData) (line : ℕ → Option LineData) (count : ℕ) → All (IsLineOf input) (answer_lines none line count) → All (IsLineOf input) (lines_given none line count)
 given_sound {input} none line count sound = subst (All (IsLineOf input)) (sym (given_is none line count)) sound
 
 -- There are few of both.
 
+-- the persons of a matching are few
 pub mates_fit : {persons : List AgentData} {mates : List (Option ℕ)} → ArePersons persons → IsRoomStable (lists_of persons) mates → length mates < 2 ^ 32
 mates_fit {persons} h stable = omega (arith, h.limits.proposers, stable.matching.one_each, many persons)
 
@@ -107,6 +115,7 @@ first_above : {next : List ℕ} {parties : List (List ℕ)} → AreParties next 
 first_above all zero on = omega arith
 first_above all (suc k) on = let deep = first_above all k (omega arith) in let less = all.rising k (suc k) (omega arith) on in omega arith
 
+-- so the parties are few
 pub parties_fit : {persons : List AgentData} (parties : List (Vec ℕ Global)) → ArePersons persons → AreExcluding (lists_of persons) (rows_of parties) → length parties < 2 ^ 32
 parties_fit {persons} parties h e = fits (length (rows_of parties)) refl
   where

@@ -17,6 +17,7 @@ not_true : (b : Bool) → (b ≡ true → ⊥) → b ≡ false
 not_true true none = absurd (none refl)
 not_true false none = refl
 
+-- what one who isn't met counts
 pub one_where_not : Bool → ℕ
 one_where_not true = 0
 one_where_not false = 1
@@ -70,6 +71,7 @@ module _ {rows : List (List ℕ)} {next : List ℕ} (h : IsStablePartition rows 
     | inr le ↦ le
   ]
 
+  -- the front begins with x alone
   pub front_begins : IsFront next x before (set before x true) (x ∷ []) (successor_in next x)
   front_begins =
       let there : x < length before = omega (arith, here, one_each) in
@@ -85,6 +87,7 @@ module _ {rows : List (List ℕ)} {next : List ℕ} (h : IsStablePartition rows 
       }
 
   module _ {now : List Bool} {party : List ℕ} {y : ℕ} (w : IsFront next x before now party y) where
+    -- the next of the front is a person
     pub y_inside : y < length next
     y_inside = let lt = inside (length party) in omega (arith, w.comes, lt)
 
@@ -121,12 +124,14 @@ module _ {rows : List (List ℕ)} {next : List ℕ} (h : IsStablePartition rows 
             | inr p ↦ w.apart k (omega (arith, l)) (omega (arith, p, l)) (sym s)
           ]
 
+      -- the next was not met before
       pub y_unmet : is_met now y ≡ false
       y_unmet = not_true _ (λ m. elim (w.added y m) [
         | inl b ↦ false≢true (sym (fresh (length party)) ∙ ap (is_met before) (sym w.comes) ∙ b)
         | inr a ↦ twice a.at a.on_list (sym (w.steps a.at a.on_list) ∙ a.is ∙ w.comes)
       ])
 
+      -- it is put behind the others, and met
       pub front_goes_on : IsFront next x before (set now y true) (party ++ y ∷ []) (successor_in next y)
       front_goes_on =
           let there : y < length now = omega (arith, y_inside, w.one_each) in
@@ -158,6 +163,7 @@ none_met n y = elim (cases_lt y n) [
   | inr ge ↦ get_or_past (replicate n false) y false (omega (arith, ge, length-replicate n false))
 ]
 
+-- so no party is found
 pub none_found : (next : List ℕ) (met : List Bool) (n : ℕ) → met ≡ replicate n false → n ≡ length next → AreFound next 0 met []
 none_found next met n is count =
     let none : (y : ℕ) → is_met met y ≡ true → ⊥ = λ y m. false≢true (sym (none_met n y) ∙ ap (λ xs. is_met xs y) (sym is) ∙ m) in

@@ -11,9 +11,11 @@ use Rattle.sm_theory.proofs.Room.Partitions.{odd_party_excludes}
 use Rattle.sm_rooming.specs.Parties.{AreParties}
 use Rattle.sm_rooming.specs.RoomAnswer.{AreExcluding}
 
+-- the lists of persons are within the limits
 pub persons_within : {persons : List AgentData} → ArePersons persons → AreWithinLimits (lists_of persons)
 persons_within {persons} h = lists_within persons h.limits.proposers (let few = h.limits.entries in omega arith)
 
+-- no person stands twice on a list, and all who stand there are persons
 pub persons_listed : {persons : List AgentData} → ArePersons persons → AreRoomLists (lists_of persons)
 persons_listed {persons} h = record {
   in_range = λ x i on.
@@ -25,6 +27,7 @@ persons_listed {persons} h = record {
       sound.fresh i less (ap (λ list. get_or list i 0) (sym (row-lists_of persons x)) ∙ same ∙ ap (λ list. get_or list j 0) (row-lists_of persons x));
 }
 
+-- the parties of a stable partition with an odd one exclude stable matchings
 pub excluding : {rows parties : List (List ℕ)} {next : List ℕ} {x : ℕ} → IsStablePartition rows next → AreParties next parties → IsInOddParty rows next x → AreExcluding rows parties
 excluding {rows} {parties} {next} {x} h all odd = record {
   next = next;

@@ -64,5 +64,6 @@ parties = record { each = each; rising = rising; all = all }
     all (suc (suc (suc (suc zero)))) l = record { party = 2; at = 0; on_list = omega arith; is = refl }
     all (suc (suc (suc (suc (suc x))))) l = absurd (omega (arith, l))
 
+-- the parties of the five are shown as they should be
 pub odd_parties_shown : OddPartiesShown
 odd_parties_shown = let w = odd_party_is in (excluding w.1 parties w.2.odd, refl)

@@ -18,6 +18,7 @@ abbrev pub couple_with : ℕ → Option ℕ → Option LineData
 couple_with x None = None
 couple_with x (Some y) = if nat_lt x y then Some (LineData.Pair x y) else None
 
+-- the line of person x and its mate, if that has the higher number
 abbrev pub couple_line : List (Option ℕ) → ℕ → Option LineData
 couple_line mates x = couple_with x (mate_of mates x)
 

@@ -4,6 +4,7 @@ use Rattle.sm_lists.specs.Rows.{row, entry}
 use Rattle.sm_theory.specs.Partitions.{successor_in, after}
 use Rattle.sm_rooming.specs.Parties.{IsParty, IsMember}
 
+-- whether a person was met
 abbrev pub is_met : List Bool → ℕ → Bool
 is_met met x = slice_index_or met x false
 

@@ -9,6 +9,7 @@ use Rattle.sm_rooming.specs.RoomAnswer.{AreExcluding, couple_lines, party_lines}
 abbrev pub odd_parties : List (List ℕ)
 odd_parties = (0 ∷ 1 ∷ 2 ∷ []) ∷ (3 ∷ []) ∷ (4 ∷ []) ∷ []
 
+-- they exclude stable matchings, and the answer has a line for each
 abbrev pub OddPartiesShown : Type 0
 OddPartiesShown = AreExcluding odd_party_rows odd_parties
     × (party_lines odd_parties

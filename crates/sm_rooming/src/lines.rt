@@ -28,7 +28,8 @@ pub fn couple_lines<'a>(
 ) -> RoomLines<'a, CoupleLines<'a>>
     requires input { input.now ≡ Room persons.now }
     requires stable { IsRoomStable (lists_of persons.now) mates.now }
-    ensures right { (lines : List (List ℕ)) → ⟦<RoomLines<'a, CoupleLines<'a>> as Lines>⟧.gives result lines
+    ensures right { (lines : List (List ℕ)) → ⟦<RoomLines<'a, CoupleLines<'a>> as Lines>⟧.gives
+        result lines
         → IsShown input.now (IsMatched persons.now) lines }
     ensures some { HasRest (⟦<RoomLines<'a, CoupleLines<'a>> as Lines>⟧.gives result) }
 {
@@ -44,7 +45,8 @@ pub fn party_lines<'a>(
 ) -> RoomLines<'a, PartyLines<'a>>
     requires input { input.now ≡ Room persons.now }
     requires excluding { AreExcluding (lists_of persons.now) (rows_of parties.now) }
-    ensures right { (lines : List (List ℕ)) → ⟦<RoomLines<'a, PartyLines<'a>> as Lines>⟧.gives result lines
+    ensures right { (lines : List (List ℕ)) → ⟦<RoomLines<'a, PartyLines<'a>> as Lines>⟧.gives
+        result lines
         → IsShown input.now (IsUnmatchable persons.now) lines }
     ensures some { HasRest (⟦<RoomLines<'a, PartyLines<'a>> as Lines>⟧.gives result) }
 {
@@ -52,11 +54,13 @@ pub fn party_lines<'a>(
     room_lines(input, Some(Line::Nothing), PartyLines { parties })
 }
 
-// The head, what is said of there being no stable matching, the lines of the items, and `end`.
+/// The head, what is said of there being no stable matching, the lines of the items, and `end`.
 fn room_lines<'a, T: Numbered>(input: &'a Input, none: Option<Line>, items: T) -> RoomLines<'a, T>
-    requires sound { All (IsLineOf input.now) (answer_lines (line_left none) (T.line items) (T.count items)) }
+    requires sound { All (IsLineOf input.now) (answer_lines (line_left none) (T.line items)
+        (T.count items)) }
     ensures right { (lines : List (List ℕ)) → ⟦<RoomLines<'a, T> as Lines>⟧.gives result lines
-        → IsShown input.now (λ answer. answer ≡ answer_lines (line_left none) (T.line items) (T.count items)) lines }
+        → IsShown input.now (λ answer. answer ≡ answer_lines (line_left none) (T.line items)
+        (T.count items)) lines }
     ensures some { HasRest (⟦<RoomLines<'a, T> as Lines>⟧.gives result) }
 {
     Printed {

@@ -37,7 +37,7 @@ impl Numbered for CoupleLines<'_> {
     }
 }
 
-// The line of a person and its mate, where the mate has the higher number.
+/// The line of a person and its mate, where the mate has the higher number.
 fn couple(x: u32, y: u32) -> Option<Line>
     ensures { option_map line_of result ≡ couple_with x (Some y) }
 {

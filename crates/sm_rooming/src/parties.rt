@@ -35,7 +35,7 @@ pub fn parties_of(
     Ok(parties)
 }
 
-// The party of a person that isn't met yet, which is its lowest. All its members are met then.
+/// The party of a person that isn't met yet, which is its lowest. All its members are met then.
 fn party_of(
     alloc: Global,
     market: &RoomMarket,

@@ -34,6 +34,7 @@ use Rattle.sm_shown.specs.Reduction.{seat_of, best_seat, seat_line, proposer_lin
 use Rattle.sm_shown.specs.GivenLines.{seats_given, rows_given, reduced_given}
 use Rattle.sm_shown.proofs.SolveLemmas.{end_sound}
 
+-- whatever is asked of lines holds of no lines
 pub no_line : (P : LineData → Type 0) → All P []
 no_line P = λ k d l. absurd (omega arith)
 
@@ -60,6 +61,7 @@ pub record IsSeatOf (w : Written) (seat : Seat) : Type 0 where
   pub number : IsSeatNumber w.kind seat.number
 
 module _ {w : Written} {s : Seating} (i : IsInstance w) (h : IsSeating w s) where
+  -- seat k as it is shown is such a seat
   pub seat_is : (k : ℕ) → k < length s.seats → IsSeatOf w (seat_of s k)
   seat_is k on =
       let there = h.reviewers k on in
@@ -75,6 +77,7 @@ module _ {w : Written} {s : Seating} (i : IsInstance w) (h : IsSeating w s) wher
   side_sound Proposers p seat here there = record { printable = (here, there.reviewer); seats = All-cons (λ (seat : Seat). IsSeatNumber w.kind seat.number) seat [] there.number (λ k d l. absurd (omega arith)); numbers = tt; head = tt }
   side_sound Reviewers p seat here there = record { printable = (here, there.reviewer); seats = All-cons (λ (seat : Seat). IsSeatNumber w.kind seat.number) seat [] there.number (λ k d l. absurd (omega arith)); numbers = tt; head = tt }
 
+  -- the line of a proposer with its seat is one of the instance
   pub seat_sound : (side : Side) (m : Places) → IsMatching s.market m → (p : ℕ) → All (IsLineOf (Two w)) (line_or_none (seat_line side s m p))
   seat_sound side m f p = by_place (held m.proposers p) refl
     where
@@ -173,6 +176,7 @@ given_is s first last =
     ∙ ap (λ t. LineData.Answer HeadData.Reduced ∷ t) (append_assoc (lines_from firsts 0 (length l.proposers)) (lines_from lasts 0 (length l.proposers)) (rows_given s rows))
     ∙ ap (λ t. LineData.Answer HeadData.Reduced ∷ (lines_from firsts 0 (length l.proposers) ++ (lines_from lasts 0 (length l.proposers) ++ t))) others
 
+-- the lines that are given are a right answer
 pub reduced_right : (w : Written) (s : Seating) (first last : Places) (rows : Lists) → s ≡ seating_of w → IsProposersBest s.market first → IsReviewersBest s.market last
     → rows ≡ reduced_lists_of s.market first last → IsReduction w (reduced_given s first last rows)
 reduced_right w s first last rows is f g same = record {
@@ -201,6 +205,7 @@ module _ {w : Written} {s : Seating} (i : IsInstance w) (h : IsSeating w s) (fir
       let reviewers = lines_each P (reviewer_line s (reduced s first last).reviewers) 0 (length (reduced s first last).reviewers - 0) (λ k l. reviewer_sound i h first last k (omega arith)) in
       All-append P _ _ proposers (All-append P _ _ reviewers (one_all P LineData.End (end_sound (Two w))))
 
+  -- and they are lines of the instance
   pub reduced_given_sound : (input : Input) (rows : Lists) → input ≡ Two w → IsProposersBest s.market first → IsReviewersBest s.market last
       → rows ≡ reduced_lists_of s.market first last → All (IsLineOf input) (reduced_given s first last rows)
   reduced_given_sound input rows two f g same =
@@ -218,6 +223,7 @@ rows_each vectors others l first last same =
     let long = length-map-range_with_len (reduced_row l.proposers l.reviewers last.proposers first.reviewers) 0 (length l.proposers) in
     omega (arith, e, long, length-map vectors (λ (v : Vec ℕ Global). v.items))
 
+-- and so for the reviewers' lists
 pub back_rows : (vectors others : List (Vec ℕ Global)) (l : Lists) (first last : Places) → lists_of vectors others ≡ reduced_lists_of l first last → length others ≡ length l.reviewers
 back_rows vectors others l first last same =
     let e : length (rows_of others) ≡ length (reduced_lists_of l first last).reviewers = ap (λ (k : Lists). length k.reviewers) same in
@@ -231,6 +237,7 @@ proposers_given s v items same rest is =
     is ∙ ap (λ (v : List (Vec ℕ Global)). lines_from (proposer_line s (rows_of v)) 0 (length v - 0)) same
     ∙ ap (λ n. lines_from (proposer_line s (rows_of items)) 0 (n - 0)) (sym (length-map items (λ (v : Vec ℕ Global). v.items)))
 
+-- and so for the reviewers' lists
 pub reviewers_given : (s : Seating) (v items : List (Vec ℕ Global)) → v ≡ items → (rest : List LineData) → rest ≡ lines_from (reviewer_line s (rows_of v)) 0 (length v - 0)
     → rest ≡ lines_from (reviewer_line s (rows_of items)) 0 (length (rows_of items) - 0)
 reviewers_given s v items same rest is =

@@ -5,7 +5,7 @@ use Rattle.std.specs.List.Sorted.{IsStrictlyIncreasing}
 use Rattle.std.specs.Option.{option_map}
 use Rattle.std.specs.declared.alloc.Global.{Global}
 use Rattle.std.proofs.lemmas.Bool.{cases_lt}
-use Rattle.std.proofs.lemmas.List.{map-append, get_or_append_left, get_or_push, get_or-map, get_or_past, get_or_default, length-map}
+use Rattle.std.proofs.lemmas.List.{get_or-map, get_or_past, get_or_default, length-map}
 use Rattle.std.proofs.lemmas.List.FromFn.{length-map-range_with_len, get_or-map-range_with_len}
 use Rattle.std.proofs.lemmas.List.Elements.{All-append, All-cons, All-map}
 use Rattle.std.proofs.lemmas.Grind.{get_or_default_zero}
@@ -35,10 +35,10 @@ use Rattle.sm_answer.specs.Giving.{GivesNext}
 use Rattle.sm_answer.proofs.AnswerLemmas.{lines_each, lines_alike, one_all, gave_first, gave_none}
 use Rattle.sm_shown.specs.Reduction.{seat_of, best_seat, seat_line}
 use Rattle.sm_shown.specs.RotationLines.{first_at, first_line, rotation_lines, shown_lines, first_seat, seated_pair, seated_pairs, numbers_of, number_of, shown_of}
-use Rattle.sm_shown.specs.GivenLines.{two_lines, lines_of_rotations, lines_left, most_left, rotations_given}
+use Rattle.sm_shown.specs.GivenLines.{rotation_line, needs_line, two_lines, lines_of_rotations, lines_left, most_left, rotations_given}
 use Rattle.sm_market.specs.Pairing.{Paired}
+use Rattle.sm_rotations.specs.Graph.{AreNeeds}
 use Rattle.sm_poset.specs.Posets.{RotationPoset, IsPoset}
-use Rattle.sm_shown.specs.Needs.{AreNeedsIn}
 use Rattle.sm_shown.specs.RotationAnswer.{IsRotationAnswer, IsCorrespondence}
 use Rattle.sm_lists.proofs.PlaceLemmas.{get_or-place_on}
 use Rattle.sm_shown.proofs.SolveLemmas.{end_sound}
@@ -47,16 +47,20 @@ use Rattle.sm_shown.proofs.ShownLemmas.{pairs_at_shown, needs_shown, corresponde
 
 -- The whole answer.
 
-flat_map_alike : (f g : ℕ → List LineData) → ((k : ℕ) → f k ≡ g k) → (xs : List ℕ) → flat_map f xs ≡ flat_map g xs
-flat_map_alike f g e [] = refl
-flat_map_alike f g e (x ∷ xs) = ap (λ t. t ++ flat_map f xs) (e x) ∙ ap (λ t. g x ++ t) (flat_map_alike f g e xs)
+-- blocks of lines that are alike number by number
+pub flat_map_alike : (f g : ℕ → List LineData) (a n : ℕ) → ((k : ℕ) → k < a + n → f k ≡ g k) → flat_map f (range_with_len a n) ≡ flat_map g (range_with_len a n)
+flat_map_alike f g a zero e = refl
+flat_map_alike f g a (suc n) e =
+    ap (λ t. t ++ flat_map f (range_with_len (a + 1) n)) (e a (omega arith)) ∙ ap (λ t. g a ++ t) (flat_map_alike f g (a + 1) n (λ k l. e k (omega arith)))
 
-lines_shown : (s : Seating) (first : Places) (rotations : List (List (ℕ × ℕ))) (needs : List (List ℕ)) (k : ℕ) → two_lines s rotations needs k ≡ rotation_lines (shown_of s first rotations needs) k
+-- the two lines of a rotation
+pub lines_shown : (s : Seating) (first : Places) (rotations : List (List (ℕ × ℕ))) (needs : List (List ℕ)) (k : ℕ) → two_lines s rotations needs k ≡ rotation_lines (shown_of s first rotations needs) k
 lines_shown s first rotations needs k =
-    ap (λ (t : List (ℕ × Seat)). LineData.Rotation (k + 1) t ∷ LineData.Needs (k + 1) (numbers_of (row needs k)) ∷ []) (sym (pairs_at_shown s rotations k))
+    ap (λ (t : List (ℕ × Seat)). LineData.Rotation (k + 1) t ∷ needs_line needs k ∷ []) (sym (pairs_at_shown s rotations k))
     ∙ ap (λ (t : List ℕ). LineData.Rotation (k + 1) (slice_index_or (map (seated_pairs s) rotations) k []) ∷ LineData.Needs (k + 1) t ∷ []) (sym (needs_shown needs k))
 
-first_shown : (s : Seating) (first : Places) (rotations : List (List (ℕ × ℕ))) (needs : List (List ℕ)) → length first.proposers ≡ length s.market.proposers
+-- the first seat of a proposer
+pub first_shown : (s : Seating) (first : Places) (rotations : List (List (ℕ × ℕ))) (needs : List (List ℕ)) → length first.proposers ≡ length s.market.proposers
     → (p : ℕ) → seat_line Proposers s first p ≡ first_line (shown_of s first rotations needs) p
 first_shown s first rotations needs one p = by_place (held first.proposers p) refl
     ∙ ap (option_map (λ seat. LineData.First p seat)) (sym seat)
@@ -76,7 +80,7 @@ first_shown s first rotations needs one p = by_place (held first.proposers p) re
     by_place (Some i) e = rw e refl
 
 -- the lines that are given are those of the answer
-given_is : (s : Seating) (first : Places) (rotations : List (List (ℕ × ℕ))) (needs : List (List ℕ)) → length first.proposers ≡ length s.market.proposers
+pub given_is : (s : Seating) (first : Places) (rotations : List (List (ℕ × ℕ))) (needs : List (List ℕ)) → length first.proposers ≡ length s.market.proposers
     → rotations_given s first rotations needs ≡ shown_lines (shown_of s first rotations needs)
 given_is s first rotations needs one =
     let l = s.market in
@@ -87,7 +91,7 @@ given_is s first rotations needs one =
     ap (lines_from (seat_line Proposers s first) 0) n ∙ lines_alike (seat_line Proposers s first) (first_line shown) (first_shown s first rotations needs one) 0 (length shown.firsts) in
     let pairs : lines_of_rotations s rotations needs 0 ≡ flat_map (rotation_lines shown) (range_with_len 0 (length shown.rotations)) =
     ap (λ n. flat_map (two_lines s rotations needs) (range_with_len 0 n)) k
-    ∙ flat_map_alike (two_lines s rotations needs) (rotation_lines shown) (lines_shown s first rotations needs) (range_with_len 0 (length shown.rotations)) in
+    ∙ flat_map_alike (two_lines s rotations needs) (rotation_lines shown) 0 (length shown.rotations) (λ k l. lines_shown s first rotations needs k) in
     ap (λ (t : List LineData). LineData.Answer HeadData.Rotations ∷ (t ++ (lines_of_rotations s rotations needs 0 ++ LineData.End ∷ []))) firsts
     ∙ ap (λ (t : List LineData). LineData.Answer HeadData.Rotations ∷ (lines_from (first_line shown) 0 (length shown.firsts) ++ (t ++ LineData.End ∷ []))) pairs
 
@@ -149,13 +153,14 @@ needs_numbered l rotations j needed few h = record {
 
 module _ {w : Written} {s : Seating} (i : IsInstance w) (h : IsSeating w s) (first : Places) (rotations : List (List (ℕ × ℕ))) (needs : List (List ℕ)) (chain : IsCompleteChain s.market first rotations)
     (few : length rotations < 2 ^ 24) (of : (k : ℕ) → k < length rotations → AreNeedsOf s.market rotations k (row needs k)) where
-  both_sound : (k : ℕ) → k < length rotations → All (IsLineOf (Two w)) (two_lines s rotations needs k)
+  -- the two lines of a rotation
+  pub both_sound : (k : ℕ) → k < length rotations → All (IsLineOf (Two w)) (two_lines s rotations needs k)
   both_sound k here =
       let P = IsLineOf (Two w) in
       let number : IsRotation (k + 1) = record { least = omega arith; greatest = omega arith } in
       let pairs = rotation_at rotations k in
       let named = pairs_named s.market first rotations h.market chain k in
-      All-cons P (LineData.Rotation (k + 1) (seated_pairs s pairs)) (LineData.Needs (k + 1) (numbers_of (row needs k)) ∷ [])
+      All-cons P (rotation_line s rotations k) (needs_line needs k ∷ [])
       (record {
         printable = All-map (λ (pair : ℕ × Seat). ArePair (Two w) pair.0 pair.1.reviewer) (seated_pair s) pairs (λ j d on.
             let both = named j d on in
@@ -166,7 +171,7 @@ module _ {w : Written} {s : Seating} (i : IsInstance w) (h : IsSeating w s) (fir
         numbers = number;
         head = tt;
       })
-      (one_all P (LineData.Needs (k + 1) (numbers_of (row needs k))) (record {
+      (one_all P (needs_line needs k) (record {
         printable = tt;
         seats = no_seats;
         numbers = (number, needs_numbered s.market rotations k (row needs k) few (of k here));
@@ -177,10 +182,11 @@ module _ {w : Written} {s : Seating} (i : IsInstance w) (h : IsSeating w s) (fir
       no_seats = λ i d l. absurd (omega arith)
 
 -- what holds of the lines of each of some numbers holds of all
-flat_from : (P : LineData → Type 0) (f : ℕ → List LineData) (a n : ℕ) → ((k : ℕ) → k < a + n → All P (f k)) → All P (flat_map f (range_with_len a n))
+pub flat_from : (P : LineData → Type 0) (f : ℕ → List LineData) (a n : ℕ) → ((k : ℕ) → k < a + n → All P (f k)) → All P (flat_map f (range_with_len a n))
 flat_from P f a zero each = no_line P
 flat_from P f a (suc n) each = All-append P (f a) (flat_map f (range_with_len (a + 1) n)) (each a (omega arith)) (flat_from P f (a + 1) n (λ k l. each k (omega arith)))
 
+-- the lines that are given of a printed chain and its needs are lines of the instance
 pub rotations_given_sound : (input : Input) {w : Written} {s : Seating} → IsInstance w → IsSeating w s → (first : Places) (rotations : List (List (ℕ × ℕ))) (needs : List (List ℕ)) → input ≡ Two w
     → IsPrintedChain s.market first rotations → length rotations < 2 ^ 24 → ((k : ℕ) → k < length rotations → AreNeedsOf s.market rotations k (row needs k)) → All (IsLineOf input) (rotations_given s first rotations needs)
 rotations_given_sound input {w} {s} i h first rotations needs two printed few of =
@@ -200,18 +206,19 @@ lines_first s rotations needs k here =
     let count : length rotations - k ≡ suc (length rotations - (k + 1)) = omega arith in
     ap (λ n. flat_map (two_lines s rotations needs) (range_with_len k n)) count
 
-pub rotation_given : (s : Seating) (rotations : List (List (ℕ × ℕ))) (needs : List (List ℕ)) (k : ℕ) (line : Line) → k < length rotations → line_of line ≡ LineData.Rotation (k + 1) (seated_pairs s (rotation_at rotations k))
+pub rotation_given : (s : Seating) (rotations : List (List (ℕ × ℕ))) (needs : List (List ℕ)) (k : ℕ) (line : Line) → k < length rotations → line_of line ≡ rotation_line s rotations k
     → GivesNext (λ rest. rest ≡ lines_left false s rotations needs k) (λ rest. rest ≡ lines_left true s rotations needs k) (most_left false (length rotations - k)) (most_left true (length rotations - k)) (Ok (Some line))
 rotation_given s rotations needs k line here is =
     let all = lines_first s rotations needs k here in
-    gave_first _ _ line _ _ (all ∙ ap (λ t. t ∷ LineData.Needs (k + 1) (numbers_of (row needs k)) ∷ lines_of_rotations s rotations needs (k + 1)) (sym is) ∙ ap (λ t. line_of line ∷ t) (sym (ap (drop 1) all))) (omega arith)
+    gave_first _ _ line _ _ (all ∙ ap (λ t. t ∷ needs_line needs k ∷ lines_of_rotations s rotations needs (k + 1)) (sym is) ∙ ap (λ t. line_of line ∷ t) (sym (ap (drop 1) all))) (omega arith)
 
-pub needs_given : (s : Seating) (rotations : List (List (ℕ × ℕ))) (needs : List (List ℕ)) (k : ℕ) (line : Line) → k < length rotations → line_of line ≡ LineData.Needs (k + 1) (numbers_of (row needs k))
+pub needs_given : (s : Seating) (rotations : List (List (ℕ × ℕ))) (needs : List (List ℕ)) (k : ℕ) (line : Line) → k < length rotations → line_of line ≡ needs_line needs k
     → GivesNext (λ rest. rest ≡ lines_left true s rotations needs k) (λ rest. rest ≡ lines_left false s rotations needs (k + 1)) (most_left true (length rotations - k)) (most_left false (length rotations - (k + 1))) (Ok (Some line))
 needs_given s rotations needs k line here is =
     let all = lines_first s rotations needs k here in
     gave_first _ _ line _ _ (ap (drop 1) all ∙ ap (λ t. t ∷ lines_of_rotations s rotations needs (k + 1)) (sym is)) (omega arith)
 
+-- behind the last rotation nothing is given
 pub none_given : (s : Seating) (rotations : List (List (ℕ × ℕ))) (needs : List (List ℕ)) (halfway : Bool) (k n : ℕ) → length rotations ≤ k
     → GivesNext (λ rest. rest ≡ lines_left halfway s rotations needs k) (λ rest. rest ≡ lines_left halfway s rotations needs k) n n (Ok None)
 none_given s rotations needs halfway k n over =
@@ -230,6 +237,7 @@ rotations_long values = length-map values (λ (r : Rotation). r.pairs.items)
 rows_long : (vectors : List (Vec ℕ Global)) → length (rows_of vectors) ≡ length vectors
 rows_long vectors = length-map vectors (λ (v : Vec ℕ Global). v.items)
 
+-- what rotations need has small numbers, where the rotations are few
 pub small_needs : (l : Lists) (rotations : List (List (ℕ × ℕ))) (needs : List (List ℕ)) → length rotations < 2 ^ 24 → length needs ≡ length rotations
     → ((k : ℕ) → k < length rotations → AreNeedsOf l rotations k (row needs k)) → (k : ℕ) → All (λ i. i < 2 ^ 24) (row needs k)
 small_needs l rotations needs few one of k = elim (cases_lt k (length rotations)) [
@@ -239,27 +247,6 @@ small_needs l rotations needs few one of k = elim (cases_lt k (length rotations)
       λ a d on. absurd (omega arith)
 ]
 
--- what a rotation needs is read from its vector
-pub needs_read : (vectors : List (Vec ℕ Global)) (k : ℕ) (v : Vec ℕ Global) → k < length vectors → v ≡ get_or vectors k v → v.items ≡ row (rows_of vectors) k
-needs_read vectors k v h e = ap (λ (v : Vec ℕ Global). v.items) e ∙ sym (get_or-map (λ (v : Vec ℕ Global). v.items) vectors k v [] h)
-
--- what one more rotation needs
-pub needs_pushed : (l : Lists) (rotations : List (List (ℕ × ℕ))) (vectors : List (Vec ℕ Global)) (v : Vec ℕ Global) (k : ℕ) → length vectors ≡ k
-    → ((j : ℕ) → j < k → AreNeedsOf l rotations j (row (rows_of vectors) j)) → AreNeedsOf l rotations k v.items
-    → (j : ℕ) → j < k + 1 → AreNeedsOf l rotations j (row (rows_of (vectors ++ v ∷ [])) j)
-needs_pushed l rotations vectors v k long of last j less =
-    let rows : rows_of (vectors ++ v ∷ []) ≡ rows_of vectors ++ v.items ∷ [] = map-append (λ (x : Vec ℕ Global). x.items) vectors (v ∷ []) in
-    let many : length (rows_of vectors) ≡ k = rows_long vectors ∙ long in
-    elim (cases_lt j k) [
-      | inl here ↦
-          let e : row (rows_of (vectors ++ v ∷ [])) j ≡ row (rows_of vectors) j = ap (λ (t : List (List ℕ)). row t j) rows ∙ get_or_append_left (rows_of vectors) (v.items ∷ []) [] j (omega arith) in
-          subst (AreNeedsOf l rotations j) (sym e) (of j here)
-      | inr past ↦
-          let same : j ≡ k = omega arith in
-          let e : row (rows_of (vectors ++ v ∷ [])) k ≡ v.items = ap (λ (t : List (List ℕ)). row t k) rows ∙ get_or_push (rows_of vectors) v.items [] k many in
-          subst (λ (i : ℕ). AreNeedsOf l rotations i (row (rows_of (vectors ++ v ∷ [])) i)) (sym same) (subst (AreNeedsOf l rotations k) (sym e) last)
-    ]
-
 -- A poset's lists, first matching and rotations, as they are read from its values, and what each rotation needs.
 pub record AreShown (l : Lists) (first : Places) (rotations : List (List (ℕ × ℕ))) (needs : List (List ℕ)) : Type 0 where
   pub printed : IsPrintedChain l first rotations
@@ -267,23 +254,24 @@ pub record AreShown (l : Lists) (first : Places) (rotations : List (List (ℕ ×
   pub one_each : length needs ≡ length rotations
   pub of : (k : ℕ) → k < length rotations → AreNeedsOf l rotations k (row needs k)
 
-pub are_shown : (poset : RotationPoset) (l : Lists) (first : Paired) (rotations : List (List (ℕ × ℕ))) (needs held : List (List ℕ))
-    → poset.lists ≡ l → first ≡ poset.first → rotations ≡ poset.rotations → needs ≡ held → IsPoset poset → AreNeedsIn poset held → AreShown l first.places rotations needs
-are_shown poset l first rotations needs held e ef er en p n =
+pub are_shown : (poset : RotationPoset) (l : Lists) (first : Paired) (rotations : List (List (ℕ × ℕ))) (needs : List (List ℕ))
+    → poset.lists ≡ l → first ≡ poset.first → rotations ≡ poset.rotations → IsPoset poset → AreNeeds poset.lists poset.rotations needs → AreShown l first.places rotations needs
+are_shown poset l first rotations needs e ef er p n =
     let long : length rotations ≡ length poset.rotations = ap (λ (r : List (List (ℕ × ℕ))). length r) er in
     record {
       printed = subst (λ (r : List (List (ℕ × ℕ))). IsPrintedChain l first.places r) (sym er) (subst (λ (f : Paired). IsPrintedChain l f.places poset.rotations) (sym ef)
           (subst (λ (k : Lists). IsPrintedChain k poset.first.places poset.rotations) e p.printed));
       few = omega (arith, long, p.few);
-      one_each = ap (λ (t : List (List ℕ)). length t) en ∙ n.one_each ∙ sym long;
-      of = λ k here. subst (λ (r : List (List (ℕ × ℕ))). AreNeedsOf l r k (row needs k)) (sym er) (subst (λ (t : List (List ℕ)). AreNeedsOf l poset.rotations k (row t k)) (sym en)
-          (subst (λ (m : Lists). AreNeedsOf m poset.rotations k (row held k)) e (n.of k (omega (arith, here, long)))));
+      one_each = n.one_each ∙ sym long;
+      of = λ k here. subst (λ (r : List (List (ℕ × ℕ))). AreNeedsOf l r k (row needs k)) (sym er)
+          (subst (λ (m : Lists). AreNeedsOf m poset.rotations k (row needs k)) e (n.each k (omega (arith, here, long))));
     }
 
 -- the values are as many
 pub values_few : (l : Lists) (first : Places) (values : List Rotation) (needs : List (List ℕ)) → AreShown l first (rotations_of values) needs → length values < 2 ^ 24
 values_few l first values needs h = omega (arith, h.few, rotations_long values)
 
+-- and as many as the vectors of needs
 pub values_each : (l : Lists) (first : Places) (values : List Rotation) (vectors : List (Vec ℕ Global)) → AreShown l first (rotations_of values) (rows_of vectors) → length vectors ≡ length values
 values_each l first values vectors h = sym (rows_long vectors) ∙ h.one_each ∙ rotations_long values
 

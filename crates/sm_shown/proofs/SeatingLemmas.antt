@@ -16,6 +16,7 @@ pub record IsAlone (s : Seating) (m : Places) (p : ℕ) : Type 0 where
   pub held_is : held m.proposers p ≡ None
   pub written_is : held_there (written_of s m.proposers) p ≡ None
 
+-- the proposer has a seat, of the reviewer at its written place
 pub record HasSeat (w : Written) (s : Seating) (m : Places) (p : ℕ) : Type 0 where
   pub place : ℕ
   pub held_is : held m.proposers p ≡ Some place
@@ -27,6 +28,7 @@ module _ {w : Written} {s : Seating} (h : IsSeating w s) where
   pub place_of-list : (p r : ℕ) → written_place_of w.proposers p r ≡ place_of s.lists p r
   place_of-list p r = ap (λ (list : List ℕ). place_on list r) (sym (list_of h p))
 
+  -- the place of a seat's reviewer is the one that the seat's place stands for
   pub place_of-reviewer_of : (p seat : ℕ) → place_of s.market.proposers p seat < length (row s.market.proposers p)
       → written_place_of w.proposers p (reviewer_of s seat) ≡ written_place s p (place_of s.market.proposers p seat)
   place_of-reviewer_of p seat on = place_of-list p (reviewer_of s seat) ∙ sym (written_seat s p seat on)

@@ -35,6 +35,7 @@ pairs_shown : (s : Seating) (rotation : List (ℕ × ℕ)) → pairs_of (seated_
 pairs_shown s [] = refl
 pairs_shown s (pair ∷ rotation) = ap (λ (t : List (ℕ × ℕ)). reviewer_pair s pair ∷ t) (pairs_shown s rotation)
 
+-- the pairs of a shown rotation are those of the rotation with their seats
 pub pairs_at_shown : (s : Seating) (rotations : List (List (ℕ × ℕ))) (k : ℕ) → slice_index_or (map (seated_pairs s) rotations) k [] ≡ seated_pairs s (rotation_at rotations k)
 pairs_at_shown s rotations k = elim (cases_lt k (length rotations)) [
   | inl here ↦ get_or-map (seated_pairs s) rotations k [] [] here
@@ -43,6 +44,7 @@ pairs_at_shown s rotations k = elim (cases_lt k (length rotations)) [
       ∙ ap (seated_pairs s) (sym (get_or_past rotations k [] past))
 ]
 
+-- the shown numbers of what it needs are those of its needs, from 1
 pub needs_shown : (needs : List (List ℕ)) (k : ℕ) → slice_index_or (map numbers_of needs) k [] ≡ numbers_of (row needs k)
 needs_shown needs k = elim (cases_lt k (length needs)) [
   | inl here ↦ get_or-map numbers_of needs k [] [] here
@@ -240,6 +242,7 @@ module _ {w : Written} {s : Seating} (h : IsSeating w s) {first : Places} {rotat
           ∙ ap (λ o. option_map (written_place s p) o) (sym place)
           ∙ sym (get_or-map-range_with_len g 0 (length s.market.proposers) p p None inside (omega arith))
 
+-- the law that the closed sets that are shown and the stable matchings of the instance correspond
 pub correspondence : {w : Written} {s : Seating} {first : Places} {rotations : List (List (ℕ × ℕ))} (needs : List (List ℕ)) → IsSeating w s → IsCompleteChain s.market first rotations
     → ((k : ℕ) → k < length rotations → AreNeedsOf s.market rotations k (row needs k)) → IsCorrespondence w (shown_of s first rotations needs)
 correspondence {w} {s} {first} {rotations} needs h chain needed = record {

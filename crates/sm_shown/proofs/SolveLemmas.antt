@@ -1,4 +1,4 @@
--- The lines of the answer of `solve`.
+-- The lines of the answer of `solve`, and of the one that nothing is allowed.
 use Rattle.std.proofs.Common.{◌≡◌, ◌≢◌, ℕ, ◌-◌, ◌<◌, List, [], ◌∷◌, ◌++◌, Option, Some, None, length, refl, sym, ap, ◌∙◌, arith, subst, inl, inr}
 use Rattle.std.specs.List.{All}
 use Rattle.std.specs.Option.{option_map}
@@ -9,7 +9,7 @@ use Rattle.sm_instance.specs.declared.kinds.Kind.{Kind}
 use Rattle.sm_instance.specs.declared.kinds.Kind.TheVariants.{Marriage, Hospitals, Roommates}
 use Rattle.sm_instance.specs.declared.kinds.Side.TheVariants.{Proposers, Reviewers}
 use Rattle.sm_answer.specs.Lines.{line_or_none, lines_from}
-use Rattle.sm_answer.proofs.AnswerLemmas.{lines_alike, lines_all}
+use Rattle.sm_answer.proofs.AnswerLemmas.{lines_alike, lines_all, one_all}
 use Rattle.sm_instance.specs.Matching.{held, IsMatching}
 use Rattle.sm_instance.specs.declared.inputs.Input.{Input}
 use Rattle.sm_instance.specs.declared.inputs.Input.TheVariants.{Two}
@@ -20,11 +20,12 @@ use Rattle.sm_market.specs.Matching.{Places}
 use Rattle.sm_market.specs.Stable.{IsStable as IsMarketStable}
 use Rattle.sm_report.specs.Heads.{HeadData}
 use Rattle.sm_report.specs.Lines.{LineData}
-use Rattle.sm_report.specs.Sound.{IsLineOf, NamesSide}
+use Rattle.sm_report.specs.Sound.{IsLineOf, NamesSide, IsHeadOf}
 use Rattle.sm_seats.specs.Seating.{Seating, reviewer_of, written_of}
 use Rattle.sm_seats.specs.Correspondence.{IsSeating}
 use Rattle.sm_seats.proofs.SeatingLaws.{proposers_best, reviewers_best}
 use Rattle.sm_shown.specs.Answers.{pair_line, solve_lines, IsBestOf, IsSolution}
+use Rattle.sm_shown.specs.NoneAnswer.{none_lines}
 use Rattle.sm_shown.specs.GivenLines.{seated_pair_line, IsMarketBestOf, solve_given}
 use Rattle.sm_shown.proofs.SeatingLemmas.{seat_cases}
 
@@ -102,3 +103,12 @@ solve_given_sound input {w} {s} i h m side two best =
     let stable = best_stable s.market m side best in
     subst (λ (i : Input). All (IsLineOf i) (solve_given side s m)) (sym two)
     (subst (All (IsLineOf (Two w))) (sym (given_is h m side stable)) (solve_sound w (written_of s m.proposers) side i (h.forgotten m stable).matching))
+
+-- that nothing is allowed is said by lines of the instance
+pub none_sound : (head : HeadData) (input : Input) (w : Written) → input ≡ Two w → IsHeadOf w.kind head → All (IsLineOf input) (none_lines head)
+none_sound head input w two named =
+    let P = IsLineOf (Two w) in
+    subst (λ (i : Input). All (IsLineOf i) (none_lines head)) (sym two)
+    (All-cons P (LineData.Answer head) (LineData.Nothing ∷ LineData.End ∷ []) (record { printable = tt; seats = λ k d l. absurd (omega arith); numbers = tt; head = named })
+    (All-cons P LineData.Nothing (LineData.End ∷ []) (record { printable = tt; seats = λ k d l. absurd (omega arith); numbers = tt; head = tt })
+    (one_all P LineData.End (end_sound (Two w)))))

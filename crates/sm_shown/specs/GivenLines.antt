@@ -24,18 +24,26 @@ abbrev pub IsMarketBestOf : Side → Lists → Places → Type 0
 IsMarketBestOf Proposers l m = IsProposersBest l m
 IsMarketBestOf Reviewers l m = IsReviewersBest l m
 
--- the two lines of a rotation
+-- the two lines of a rotation: that of its pairs, and that of what it needs
+abbrev pub rotation_line : Seating → List (List (ℕ × ℕ)) → ℕ → LineData
+rotation_line s rotations k = LineData.Rotation (k + 1) (seated_pairs s (rotation_at rotations k))
+
+abbrev pub needs_line : List (List ℕ) → ℕ → LineData
+needs_line needs k = LineData.Needs (k + 1) (numbers_of (row needs k))
+
 abbrev pub two_lines : Seating → List (List (ℕ × ℕ)) → List (List ℕ) → ℕ → List LineData
-two_lines s rotations needs k = LineData.Rotation (k + 1) (seated_pairs s (rotation_at rotations k)) ∷ LineData.Needs (k + 1) (numbers_of (row needs k)) ∷ []
+two_lines s rotations needs k = rotation_line s rotations k ∷ needs_line needs k ∷ []
 
 -- those of the rotations from one on; without the first of them where that is given already
 abbrev pub lines_of_rotations : Seating → List (List (ℕ × ℕ)) → List (List ℕ) → ℕ → List LineData
 lines_of_rotations s rotations needs k = flat_map (two_lines s rotations needs) (range_with_len k (length rotations - k))
 
+-- all lines but the first, where that is given already
 abbrev pub without_first : Bool → List LineData → List LineData
 without_first true lines = drop 1 lines
 without_first false lines = lines
 
+-- the lines that are left from rotation k on, halfway if its pairs are given already
 abbrev pub lines_left : Bool → Seating → List (List (ℕ × ℕ)) → List (List ℕ) → ℕ → List LineData
 lines_left halfway s rotations needs k = without_first halfway (lines_of_rotations s rotations needs k)
 
@@ -51,20 +59,24 @@ solve_given side s m =
     ++ (lines_from (seated_pair_line s m) 0 (length s.market.proposers - 0)
     ++ (LineData.End ∷ []))
 
+-- both best matchings, of the proposers and of the reviewers, by their seats
 abbrev pub seats_given : Seating → (first last : Places) → List LineData
 seats_given s first last =
     lines_from (seat_line Proposers s first) 0 (length s.market.proposers - 0)
     ++ lines_from (seat_line Reviewers s last) 0 (length s.market.proposers - 0)
 
+-- the reduced lists of both sides, and the end
 abbrev pub rows_given : Seating → (rows : Lists) → List LineData
 rows_given s rows =
     lines_from (proposer_line s rows.proposers) 0 (length rows.proposers - 0)
     ++ (lines_from (reviewer_line s rows.reviewers) 0 (length rows.reviewers - 0)
     ++ (LineData.End ∷ []))
 
+-- the answer of `reduced`
 abbrev pub reduced_given : Seating → (first last : Places) → (rows : Lists) → List LineData
 reduced_given s first last rows = (LineData.Answer HeadData.Reduced ∷ []) ++ (seats_given s first last ++ rows_given s rows)
 
+-- the answer of `rotations`
 abbrev pub rotations_given : Seating → Places → List (List (ℕ × ℕ)) → List (List ℕ) → List LineData
 rotations_given s first rotations needs =
     (LineData.Answer HeadData.Rotations ∷ [])

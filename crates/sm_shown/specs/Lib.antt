@@ -3,5 +3,5 @@ pub mod Reduction
 pub mod RotationLines
 pub mod RotationAnswer
 pub mod GivenLines
-pub mod Needs
 pub mod Found
+pub mod NoneAnswer

@@ -25,6 +25,7 @@ abbrev pub best_seat : Side → ℕ → Seat → LineData
 best_seat Proposers p seat = LineData.First p seat
 best_seat Reviewers p seat = LineData.Last p seat
 
+-- the line of a proposer that has a seat
 abbrev pub seat_line : Side → Seating → Places → ℕ → Option LineData
 seat_line side s m p = option_map (λ i. best_seat side p (seat_of s (entry s.market.proposers p i))) (held m.proposers p)
 
@@ -32,6 +33,7 @@ seat_line side s m p = option_map (λ i. best_seat side p (seat_of s (entry s.ma
 abbrev pub proposer_line : Seating → List (List ℕ) → ℕ → Option LineData
 proposer_line s rows p = Some (LineData.ProposerList p (map (seat_of s) (row rows p)))
 
+-- the line of a seat with its list
 abbrev pub reviewer_line : Seating → List (List ℕ) → ℕ → Option LineData
 reviewer_line s rows k = Some (LineData.ReviewerList (seat_of s k) (row rows k))
 

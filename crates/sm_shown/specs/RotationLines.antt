@@ -18,12 +18,15 @@ pub record Shown : Type 0 where
   pub rotations : List (List (ℕ × Seat))
   pub needs : List (List ℕ)
 
+-- the first seat that is shown of p, if it has one
 abbrev pub first_at : Shown → ℕ → Option Seat
 first_at shown p = slice_index_or shown.firsts p None
 
+-- the pairs that are shown of rotation k
 abbrev pub pairs_at : Shown → ℕ → List (ℕ × Seat)
 pairs_at shown k = slice_index_or shown.rotations k []
 
+-- the numbers of what it is shown to need
 abbrev pub needs_at : Shown → ℕ → List ℕ
 needs_at shown k = slice_index_or shown.needs k []
 
@@ -31,9 +34,11 @@ needs_at shown k = slice_index_or shown.needs k []
 abbrev pub first_line : Shown → ℕ → Option LineData
 first_line shown p = option_map (λ seat. LineData.First p seat) (first_at shown p)
 
+-- the lines of a rotation: its pairs and its needs
 abbrev pub rotation_lines : Shown → ℕ → List LineData
 rotation_lines shown k = LineData.Rotation (k + 1) (pairs_at shown k) ∷ LineData.Needs (k + 1) (needs_at shown k) ∷ []
 
+-- all lines of the answer
 abbrev pub shown_lines : Shown → List LineData
 shown_lines shown =
     LineData.Answer HeadData.Rotations ∷
@@ -46,18 +51,23 @@ shown_lines shown =
 abbrev pub first_seat : Seating → Places → ℕ → Option Seat
 first_seat s first p = option_map (λ i. seat_of s (entry s.market.proposers p i)) (held first.proposers p)
 
+-- a proposer with the seat of a pair
 abbrev pub seated_pair : Seating → (ℕ × ℕ) → (ℕ × Seat)
 seated_pair s pair = (pair.0, seat_of s pair.1)
 
+-- the pairs of a rotation with their seats
 abbrev pub seated_pairs : Seating → List (ℕ × ℕ) → List (ℕ × Seat)
 seated_pairs s rotation = map (seated_pair s) rotation
 
+-- shown rotations are numbered from 1
 abbrev pub number_of : ℕ → ℕ
 number_of k = k + 1
 
+-- the shown numbers of some rotations
 abbrev pub numbers_of : List ℕ → List ℕ
 numbers_of needed = map number_of needed
 
+-- all that is shown of a chain
 abbrev pub shown_of : Seating → Places → List (List (ℕ × ℕ)) → List (List ℕ) → Shown
 shown_of s first rotations needs = record {
   firsts = map (first_seat s first) (agents s.market.proposers);

@@ -2,12 +2,13 @@
 //!
 //! For each command a function finds what its answer is read from, and another one lends that as lines
 //! ([`sm_answer::Lines`]): [`find_solution`] and [`solution_lines`], [`find_reduction`] and [`reduction_lines`],
-//! [`find_rotations`] and [`rotation_answer_lines`]. All but the first two stand on a [`Basis`]. Marriages and hospitals
-//! are alike here: both are known by their seats ([`sm_seats::Seats`]).
+//! [`Basis::of`] and [`rotation_answer_lines`]. Other commands stand on a [`Basis`] too, and say by [`none_lines`] that
+//! nothing is allowed. Marriages and hospitals are alike here: both are known by their seats ([`sm_seats::Seats`]).
 #![tactic(auto)]
 
 mod basis;
 mod list_lines;
+mod none_answer;
 mod pair_lines;
 mod reduction;
 mod rotation_answer;
@@ -17,11 +18,10 @@ mod solution;
 
 pub use basis::Basis;
 pub use list_lines::{ProposerLists, ReviewerLists};
+pub use none_answer::{NoneLines, none_lines};
 pub use pair_lines::PairLines;
 pub use reduction::{Reduction, ReductionLines, find_reduction, reduction_lines};
-pub use rotation_answer::{
-    RotationAnswer, RotationAnswerLines, find_rotations, rotation_answer_lines,
-};
-pub use rotation_lines::{RotationLines, Rotations};
+pub use rotation_answer::{RotationAnswerLines, rotation_answer_lines};
+pub use rotation_lines::{RotationLines, Rotations, needs_line, rotation_line};
 pub use seat_lines::SeatLines;
 pub use solution::{Solution, SolutionLines, find_solution, solution_lines};

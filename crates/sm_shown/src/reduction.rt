@@ -1,13 +1,9 @@
 //! The answer of `reduced`.
 
-ghost use Rattle.std.specs.Prelude.{◌≡◌, ◌<◌, ◌^◌, ℕ, List, length, IfOk};
+ghost use Rattle.std.specs.Prelude.{◌≡◌, ◌<◌, ℕ, List, length, IfOk};
 ghost use Rattle.sm_answer.specs.Giving.{HasRest};
 ghost use Rattle.sm_answer.specs.Printing.{IsShown};
-ghost use Rattle.sm_instance.specs.Sound.{IsInstance};
 ghost use Rattle.sm_instance.specs.declared.inputs.Input.TheVariants.{Two};
-ghost use Rattle.sm_market.specs.Pairing.{IsPairingOf};
-ghost use Rattle.sm_market.specs.Reduced.{reduced_lists_of};
-ghost use Rattle.sm_market.specs.Stable.{IsProposersBest, IsReviewersBest};
 ghost use Rattle.sm_market.specs.Vectors.{lists_of};
 ghost use Rattle.sm_report.specs.Lines.{LineData};
 ghost use Rattle.sm_shown.specs.GivenLines.{seats_given, rows_given};
@@ -29,8 +25,11 @@ use std::alloc::{AllocError, Global};
 /// The first and the last stable matching of seats, and the reduced lists.
 #[derive(Drop)]
 pub struct Reduction {
+    /// The matching that is best for all proposers.
     pub first: Pairing,
+    /// The one that is best for all reviewers.
     pub last: Pairing,
+    /// The reduced lists of both sides, between these two.
     pub lists: Reduced,
 }
 
@@ -59,7 +58,8 @@ type BothLists<'a> = Then<Each<ProposerLists<'a>>, Then<Each<ReviewerLists<'a>>,
 /// The lines of the answer of `reduced`.
 pub type ReductionLines<'a> = Printed<'a, Then<One, Then<BothSeats<'a>, BothLists<'a>>>>;
 
-/// The head, the first and the last seats, the reduced lists of both sides, and `end`.
+/// The head, the first and the last seats, the reduced lists of both sides, and `end`. Takes constant time; the lines together
+/// take time linear in what they show.
 pub fn reduction_lines<'a>(
     input: &'a Input,
     instance: &Instance,
@@ -87,7 +87,7 @@ pub fn reduction_lines<'a>(
     }
 }
 
-// The first seats, and the last seats.
+/// The first seats, and the last seats.
 fn both_seats<'a>(seats: &'a Seats, reduction: &'a Reduction) -> BothSeats<'a>
     requires one_each { length seats.now.market.reviewers ≡ length seats.now.seats }
     requires reduction { IsReductionOf seats.now.market reduction.now }
@@ -115,7 +115,7 @@ fn both_seats<'a>(seats: &'a Seats, reduction: &'a Reduction) -> BothSeats<'a>
     }
 }
 
-// The reduced lists of both sides, and the end.
+/// The reduced lists of both sides, and the end.
 fn both_lists<'a>(seats: &'a Seats, reduction: &'a Reduction) -> BothLists<'a>
     requires one_each { length seats.now.market.reviewers ≡ length seats.now.seats }
     requires reduction { IsReductionOf seats.now.market reduction.now }

@@ -22,7 +22,7 @@ pub struct SeatLines<'a> {
     ghost one_each: { length seats.now.market.reviewers ≡ length seats.now.seats },
 }
 
-/// A seat as it is shown: its reviewer, and its number there, from 1.
+/// A seat, numbered from 0, as it is shown: its reviewer, numbered from 0, and its number there, from 1. Takes constant time.
 pub fn seat_of(seats: &Seats, seat: u32) -> Seat
     requires { seat < length seats.now.seats }
     ensures { result ≡ seat_of seats.now seat }

@@ -3,7 +3,6 @@
 ghost use Rattle.std.specs.Prelude.{◌≡◌, ℕ, List, IfOk, unwrap_or};
 ghost use Rattle.sm_answer.specs.Giving.{HasRest};
 ghost use Rattle.sm_answer.specs.Printing.{IsShown};
-ghost use Rattle.sm_instance.specs.Sound.{IsInstance};
 ghost use Rattle.sm_instance.specs.declared.inputs.Input.TheVariants.{Two};
 ghost use Rattle.sm_market.specs.Pairing.{IsPairingOf};
 ghost use Rattle.sm_seats.specs.Seating.{seating_of};
@@ -41,7 +40,8 @@ pub fn find_solution(
 ) -> Result<Solution, AllocError>
     ensures side { IfOk result (λ solution. solution.side ≡ unwrap_or side Side.Proposers) }
     ensures made { IfOk result (λ solution. IsPairingOf seats.now.market solution.best) }
-    ensures best { IfOk result (λ solution. IsMarketBestOf solution.side seats.now.market solution.best.places) }
+    ensures best { IfOk result (λ solution. IsMarketBestOf solution.side seats.now.market
+        solution.best.places) }
 {
     let side = side.unwrap_or(Side::Proposers);
     let best = best_of(alloc, side, seats.market())?;
@@ -51,7 +51,8 @@ pub fn find_solution(
 /// The lines of the answer of `solve`.
 pub type SolutionLines<'a> = Printed<'a, Then<One, Then<Each<PairLines<'a>>, One>>>;
 
-/// The head, the pairs of the best stable matching of a side in the order of the proposers, and `end`.
+/// The head, the pairs of the best stable matching of a side in the order of the proposers, and `end`. Takes constant time;
+/// the lines together take time linear in what they show.
 pub fn solution_lines<'a>(
     input: &'a Input,
     instance: &Instance,
@@ -86,7 +87,7 @@ pub fn solution_lines<'a>(
     }
 }
 
-// The best stable matching of a side.
+/// The best stable matching of a side.
 fn best_of(alloc: Global, side: Side, market: &Market) -> Result<Pairing, AllocError>
     ensures made { IfOk result (λ m. IsPairingOf market.now m) }
     ensures best { IfOk result (λ m. IsMarketBestOf side market.now m.places) }

@@ -6,6 +6,7 @@ use Rattle.std.specs.declared.alloc.Global.{Global}
 use Rattle.std.specs.declared.vec.IntoIter.{IntoIter}
 use Rattle.std.specs.Vec.Iter.{into_iter_items, into_iter_len}
 use Rattle.std.proofs.lemmas.List.{length-map}
+use Rattle.sm_text.specs.Limits.{most_limit}
 use Rattle.sm_answer.specs.Giving.{HasRest}
 use Rattle.sm_tally.specs.Fold.{Feed, Shown, all_after_feeds}
 use Rattle.sm_instance.specs.Written.{Written}
@@ -55,7 +56,7 @@ last_sound input None numbers = record { printable = tt; seats = λ k d l. absur
 last_sound input (Some v) numbers = record { printable = tt; seats = λ k d l. absurd (omega arith); numbers = numbers; head = tt }
 
 -- and lines of the instance
-pub survey_sound : {w : Written} (input : Input) (limit listed : ℕ) (tallies : List Shown) (o : Option (List ℕ)) (last : LineData) → input ≡ Two w → 1 ≤ limit → limit ≤ 1000000 → listed ≤ limit
+pub survey_sound : {w : Written} (input : Input) (limit listed : ℕ) (tallies : List Shown) (o : Option (List ℕ)) (last : LineData) → input ≡ Two w → 1 ≤ limit → limit ≤ most_limit → listed ≤ limit
     → All AreNumbers (map tally_line tallies) → last ≡ last_line o true → AreNumbers last → All (IsLineOf input) (survey_lines limit listed tallies last)
 survey_sound {w} input limit listed tallies o last two least greatest few each is numbers =
     let P = IsLineOf (Two w) in
@@ -75,5 +76,6 @@ pub left_is : {it : IntoIter Line Global} (lines : List Line) (tallies : List Sh
     → (rest : List LineData) → AreLeft it rest → rest ≡ map tally_line tallies
 left_is lines tallies is shown rest left = left.are ∙ ap (map line_of) is ∙ shown
 
+-- there are lines that are left, if only none, where the iterator tells their number
 pub left_some : {it : IntoIter Line Global} → into_iter_len it ≡ length (into_iter_items it) → HasRest (AreLeft it)
 left_some {it} long = record { lines = map line_of (into_iter_items it); given = record { count = long; are = refl } }

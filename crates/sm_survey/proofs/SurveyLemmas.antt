@@ -52,6 +52,7 @@ same_one {s} {t} {v} e a =
 at_cursor : {c : Option (List ℕ)} {u v : List ℕ} → c ≡ Some u → c ≡ Some v → u ≡ v
 at_cursor e f = ap (λ o. unwrap_or o []) (sym e ∙ f)
 
+-- so that vector is of an allowed stable matching
 pub current_allowed : {w : Written} {s : Lister} {k : ℕ} {before after : List Shown} (t : Lister) (v : List ℕ) → IsUnderway w s k before after
     → (u : List ℕ) × (t.cursor ≡ Some u) × IsNextOf s u → t.cursor ≡ Some v → IsAllowedRankVector w v
 current_allowed {w} {s} t v h found at =

@@ -21,6 +21,7 @@ pub record IsFeedOf (w : Written) (feed : Feed) : Type 0 where
   pub vector : feed.vector ≡ rank_vector_of w places
   pub regret : feed.regret ≡ regret_of w places
 
+-- the rank vectors of what a tally is told
 abbrev pub vectors_of : List Feed → List (List ℕ)
 vectors_of feeds = map (λ feed. feed.vector) feeds
 

@@ -1,6 +1,7 @@
 //! The answer of `survey`.
 
 ghost use Rattle.std.specs.Prelude.{◌≡◌, ◌≤◌, ℕ, true, List, map, IfOk};
+ghost use Rattle.sm_text.specs.Limits.{most_limit};
 ghost use Rattle.sm_tally.specs.Fold.{shown_as};
 ghost use Rattle.sm_answer.specs.Giving.{HasRest};
 ghost use Rattle.sm_answer.specs.Printing.{IsShown};
@@ -45,9 +46,11 @@ pub fn survey_lines<'a>(
     requires seats { seats.now ≡ seating_of instance.now }
     requires seating { IsSeating instance.now seats.now }
     requires least { 1 ≤ limit }
-    requires greatest { limit ≤ 1000000 }
-    ensures right { IfOk result (λ made. (lines : List (List ℕ)) → ⟦<SurveyLines<'a> as Lines>⟧.gives made lines
-        → IsShown input.now (IsSurveyAnswer (map (λ t. shown_as (kind t) (shown t)) tallies.old.items) limit instance.now) lines) }
+    requires greatest { limit ≤ most_limit }
+    ensures right { IfOk result (λ made. (lines : List (List ℕ))
+        → ⟦<SurveyLines<'a> as Lines>⟧.gives made lines
+        → IsShown input.now (IsSurveyAnswer (map (λ t. shown_as (kind t) (shown t))
+        tallies.old.items) limit instance.now) lines) }
     ensures some { IfOk result (λ made. HasRest (⟦<SurveyLines<'a> as Lines>⟧.gives made)) }
 {
     let survey = take_survey(alloc, instance, seats, limit, tallies)?;
@@ -67,7 +70,7 @@ pub fn survey_lines<'a>(
     })
 }
 
-// The last line: `more` with a vector, else `end`.
+/// The last line: `more` with a vector, else `end`.
 fn more_or_end(last: Option<Vec<u32>>) -> Line
     ensures line { line_of result ≡ last_line (cursor_in last) true }
     ensures numbers { AreNumbers (line_of result) }
@@ -81,7 +84,7 @@ fn more_or_end(last: Option<Vec<u32>>) -> Line
     }
 }
 
-// The numbers of a vector have 32 bits. Nothing is done.
+/// The numbers of a vector have 32 bits. Nothing is done.
 fn fits_its_type(_vector: &[u32])
     ensures { AreNumbers (LineData.More _vector.now) }
 {}

@@ -36,7 +36,8 @@ pub fn take_survey(
 ) -> Result<Survey, AllocError>
     requires seats { seats.now ≡ seating_of instance.now }
     requires seating { IsSeating instance.now seats.now }
-    ensures { IfOk result (λ survey. IsSurvey instance.now limit (map (λ t. shown_as (kind t) (shown t)) tallies.old.items)
+    ensures { IfOk result (λ survey. IsSurvey instance.now limit (map
+        (λ t. shown_as (kind t) (shown t)) tallies.old.items)
         (map (λ t. shown_as (kind t) (shown t)) tallies.new.items) survey) }
 {
     let mut lister = start_list(alloc, instance, seats, &None)?;
@@ -49,7 +50,7 @@ pub fn take_survey(
     Ok(Survey { listed, last })
 }
 
-// Tells each tally of the matchings that a lister lists, at most so many, and says how many they are.
+/// Tells each tally of the matchings that a lister lists, at most so many, and says how many they are.
 fn feed_listed(
     lister: &mut Lister,
     instance: &Instance,
@@ -57,7 +58,8 @@ fn feed_listed(
     tallies: &mut Vec<Box<dyn Tally>>,
 ) -> u32
     requires { IsListerOf instance.now None lister.old }
-    ensures { AreTold instance.now limit lister.new result (map (λ t. shown_as (kind t) (shown t)) tallies.old.items)
+    ensures { AreTold instance.now limit lister.new result (map (λ t. shown_as (kind t) (shown t))
+        tallies.old.items)
         (map (λ t. shown_as (kind t) (shown t)) tallies.new.items) }
 {
     let mut listed = 0;
@@ -71,17 +73,18 @@ fn feed_listed(
     listed
 }
 
-// Tells each tally of the matching of a rank vector.
+/// Tells each tally of the matching of a rank vector.
 fn feed(tallies: &mut Vec<Box<dyn Tally>>, instance: &Instance, ranks: &[u32])
     requires { IsAllowedRankVector instance.now ranks.now }
-    ensures { IsFed instance.now ranks.now (map (λ t. shown_as (kind t) (shown t)) tallies.old.items)
+    ensures { IsFed instance.now ranks.now (map (λ t. shown_as (kind t) (shown t))
+        tallies.old.items)
         (map (λ t. shown_as (kind t) (shown t)) tallies.new.items) }
 {
     let regret = regret_at(instance, ranks);
     feed_each(tallies, ranks, regret);
 }
 
-// The last vector to which a lister came, where another one follows it.
+/// The last vector to which a lister came, where another one follows it.
 fn last_of(alloc: Global, lister: &mut Lister) -> Result<Option<Vec<u32>>, AllocError>
     ensures { IfOk result (λ last. IsLast lister.old last) }
 {

@@ -11,7 +11,8 @@ use sm_instance::Instance;
 /// nobody is matched (Gusfield and Irving 1989, section 3.4.1). Takes no memory, and time in proportion to the proposers.
 pub(crate) fn regret_at(instance: &Instance, ranks: &[u32]) -> u32
     requires { IsAllowedRankVector instance.now ranks.now }
-    ensures { (places : List (Option ℕ)) → IsMatching instance.now places → ranks.now ≡ rank_vector_of instance.now places
+    ensures { (places : List (Option ℕ)) → IsMatching instance.now places → ranks.now
+        ≡ rank_vector_of instance.now places
         → result ≡ regret_of instance.now places }
 {
     let mut regret = 0;
@@ -21,11 +22,12 @@ pub(crate) fn regret_at(instance: &Instance, ranks: &[u32]) -> u32
     regret
 }
 
-// The greater of the ranks that a proposer and its partner give each other, 0 where the proposer is unmatched.
+/// The greater of the ranks that a proposer and its partner give each other, 0 where the proposer is unmatched.
 fn worse_rank(instance: &Instance, ranks: &[u32], p: u32) -> u32
     requires vector { IsAllowedRankVector instance.now ranks.now }
     requires in_range { p < length instance.now.proposers }
-    ensures { (places : List (Option ℕ)) → IsMatching instance.now places → ranks.now ≡ rank_vector_of instance.now places
+    ensures { (places : List (Option ℕ)) → IsMatching instance.now places → ranks.now
+        ≡ rank_vector_of instance.now places
         → result ≡ worse_rank instance.now p (held places p) }
 {
     let rank = ranks[p as usize];

@@ -46,9 +46,10 @@ pub(crate) fn lines_of_tallies(
     Ok(lines)
 }
 
-// The line of what a tally shows.
+/// The line of what a tally shows.
 fn line_of_tally(alloc: Global, tally: &Box<dyn Tally>) -> Result<Line, AllocError>
-    ensures shown { IfOk result (λ line. line_of line ≡ tally_line (shown_as (kind tally.now) (shown tally.now))) }
+    ensures shown { IfOk result (λ line. line_of line
+        ≡ tally_line (shown_as (kind tally.now) (shown tally.now))) }
     ensures numbers { IfOk result (λ line. AreNumbers (line_of line)) }
 {
     let (tag, figures) = read_out(alloc, tally)?;
@@ -56,7 +57,7 @@ fn line_of_tally(alloc: Global, tally: &Box<dyn Tally>) -> Result<Line, AllocErr
     Ok(Line::TallyLine(tag, figures))
 }
 
-// A tag has 32 bits, and figures have 64. Nothing is done.
+/// A tag has 32 bits, and figures have 64. Nothing is done.
 fn fit_their_types(_tag: u32, _figures: &[u64])
     ensures { AreNumbers (LineData.TallyLine _tag _figures.now) }
 {}

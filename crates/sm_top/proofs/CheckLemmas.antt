@@ -39,6 +39,7 @@ few_in : (input : Input) → HasFewSeats input → too_many_in input ≡ None
 few_in (Two w) few = ap (option_map (λ r. (TooManySeats, (agent_at w.reviewers r).line))) (none_is w few)
 few_in (Room persons) few = refl
 
+-- where the seats are few, the input is accepted for `check`
 pub check_accepted : (bytes : List ℕ) (read : ReadText) → accepted Check bytes ≡ judged Check read → HasFewSeats read.input → accepted Check bytes ≡ Ok read
 check_accepted bytes read before few = before ∙ ap (λ (o : Option Refusal). first_refusal (o ∷ []) read) (few_in read.input few)
 
@@ -51,6 +52,7 @@ too_many_line : (input : Input) (r line : ℕ) → HasTooManyAt input r → line
 too_many_line (Two w) r line first at = too_many_at w r line first at
 too_many_line (Room persons) r line none at = absurd none
 
+-- where they are too many with a reviewer, it is refused on that one's line
 pub seats_refused : (bytes : List ℕ) (read : ReadText) (r line : ℕ) → accepted Check bytes ≡ judged Check read → HasTooManyAt read.input r → line ≡ (agent_at (right_of read.input) r).line
     → IsRefused Check bytes (plain TooManySeats line)
 seats_refused bytes read r line before too at =

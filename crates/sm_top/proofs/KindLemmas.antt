@@ -9,19 +9,21 @@ use Rattle.sm_instance.specs.declared.inputs.Input.{Input}
 use Rattle.sm_instance.specs.declared.inputs.Input.TheVariants.{Two, Room}
 use Rattle.sm_instance.specs.declared.kinds.Kind.{Kind}
 use Rattle.sm_instance.specs.declared.kinds.Kind.TheVariants.{Marriage, Hospitals, Roommates}
-use Rattle.sm_lightest.specs.WeightAnswer.{IsWeightAnswer, IsNoneAllowed as IsNoneLightest}
+use Rattle.sm_lightest.specs.WeightAnswer.{IsWeightAnswer}
 use Rattle.sm_instance.specs.declared.kinds.Measure.{Measure}
 use Rattle.sm_instance.specs.declared.kinds.Side.{Side}
 use Rattle.sm_instance.specs.declared.kinds.Side.TheVariants.{Proposers}
 use Rattle.sm_reader.specs.InstanceText.{ReadText, Refusal}
 use Rattle.sm_words.specs.Jobs.{JobData, Solve, Reduced, Rotations, Pairs, Regret, Weight, Meet, Join, Survey, Check, Make}
 use Rattle.sm_shown.specs.Answers.{IsSolution}
+use Rattle.sm_shown.specs.NoneAnswer.{IsNoneAllowed}
+use Rattle.sm_report.specs.Heads.{HeadData}
 use Rattle.sm_report.specs.Lines.{LineData}
-use Rattle.sm_partners.specs.RegretAnswer.{IsRegretAnswer, IsNoneAllowed}
+use Rattle.sm_partners.specs.RegretAnswer.{IsRegretAnswer}
 use Rattle.sm_rooming.specs.RoomAnswer.{IsMatched, IsUnmatchable}
 use Rattle.sm_top.specs.declared.status.Status.{Status}
 use Rattle.sm_top.specs.declared.status.Status.TheVariants.{Done, NoneExists}
-use Rattle.sm_top.specs.Texts.{RefusalData, plain}
+use Rattle.sm_top.specs.Texts.{RefusalData}
 use Rattle.sm_top.specs.Accepting.{reads_input, is_two_sided, takes_kind, too_many_in, too_many_seats, first_refusal, judged, accepted, IsTooMany}
 use Rattle.sm_tally.specs.Fold.{Shown}
 use Rattle.sm_words.specs.Words.{usual_limit}
@@ -59,6 +61,7 @@ seats_judged job read w reading is two =
     let taken : takes_kind job (kind_of read.input) ≡ true = ap (λ (input : Input). takes_kind job (kind_of input)) is ∙ takes_two job w.kind reading two in
     ap (λ t. first_refusal (cond t None (Some (WrongKind, read.header_line)) ∷ too_many_seats read ∷ []) read) taken
 
+-- an input that a job reads is refused where its seats are too many
 pub two_refused : (job : JobData) (bytes : List ℕ) (read : ReadText) (w : Written) (refusal : RefusalData) → reads_input job ≡ true → read.input ≡ Two w → w.kind ≢ Roommates → accepted job bytes ≡ judged job read → IsTooMany read.input refusal
     → IsRefused job bytes refusal
 two_refused job bytes read w refusal reading is two before too = not_accepted reading (record {
@@ -68,6 +71,7 @@ two_refused job bytes read w refusal reading is two before too = not_accepted re
   says = too.says;
 })
 
+-- and accepted where they aren't
 pub two_accepted : (job : JobData) (bytes : List ℕ) (read : ReadText) (w : Written) → reads_input job ≡ true → read.input ≡ Two w → w.kind ≢ Roommates → accepted job bytes ≡ judged job read → too_many_in read.input ≡ None
     → accepted job bytes ≡ Ok read
 two_accepted job bytes read w reading is two before few = before ∙ seats_judged job read w reading is two ∙ ap (λ (o : Option Refusal). first_refusal (o ∷ []) read) few
@@ -86,15 +90,7 @@ kind_judged job read persons is = by_input read.input is ∙ by_test (takes_kind
     by_test true = refl
     by_test false = refl
 
-pub room_refused : (job : JobData) (bytes : List ℕ) (read : ReadText) (persons : List AgentData) → reads_input job ≡ true → read.input ≡ Room persons → accepted job bytes ≡ judged job read → takes_kind job Roommates ≡ false
-    → IsRefused job bytes (plain WrongKind read.header_line)
-room_refused job bytes read persons reading is before taken = not_accepted reading (record {
-  kind = WrongKind;
-  at = read.header_line;
-  because = before ∙ kind_judged job read persons is ∙ ap (λ t. cond t (Ok read) (Err (WrongKind, read.header_line))) taken;
-  says = refl;
-})
-
+-- and accepted where it does
 pub room_accepted : (job : JobData) (bytes : List ℕ) (read : ReadText) (persons : List AgentData) → read.input ≡ Room persons → accepted job bytes ≡ judged job read → takes_kind job Roommates ≡ true
     → accepted job bytes ≡ Ok read
 room_accepted job bytes read persons is before taken = before ∙ kind_judged job read persons is ∙ ap (λ t. cond t (Ok read) (Err (WrongKind, read.header_line))) taken
@@ -107,6 +103,7 @@ pub answer_over : (job : JobData) (bytes : List ℕ) (read : ReadText) (right : 
 answer_over job bytes read right a b f g status ok =
     wrote_for (λ s. IsShown read.input (right read.input s)) (λ s lines. IsAnswerOver job bytes (λ read. right read.input s) lines) a b f g status (λ s lines shown. record { read = read; ok = ok; shown = shown })
 
+-- over two sides a right answer to `solve` is the best matching of the side, or of the proposers
 pub two_solved : (side : Option Side) (input : Input) (w : Written) (a b : Option (List ℕ)) (f g : ℕ) (status : Status) → input ≡ Two w
     → Wrote (With Done (IsShown input (IsSolution (unwrap_or side Proposers) w))) a b f g status → Wrote (λ s. IsShown input (IsSolved side input s)) a b f g status
 two_solved side input w a b f g status is =
@@ -120,6 +117,7 @@ pub room_solved : (input : Input) (persons : List AgentData) (gives : List (List
 room_solved input persons gives a b f g status is right =
     wrote_shown Done gives input (IsMatched persons) (IsSolved None input) a b f g status right (λ answer h. subst (λ (input : Input). IsSolved None input Done answer) (sym is) (inl (refl, h)))
 
+-- where roommates have none, a right answer to `solve` says so
 pub room_unsolved : (input : Input) (persons : List AgentData) (gives : List (List ℕ) → Type 0) (a b : Option (List ℕ)) (f g : ℕ) (status : Status) → input ≡ Room persons
     → ((lines : List (List ℕ)) → gives lines → IsShown input (IsUnmatchable persons) lines) → Wrote (With NoneExists gives) a b f g status → Wrote (λ s. IsShown input (IsSolved None input s)) a b f g status
 room_unsolved input persons gives a b f g status is right =
@@ -131,10 +129,11 @@ pub two_regretted : (input : Input) (w : Written) (gives : List (List ℕ) → T
 two_regretted input w gives a b f g status is right =
     wrote_shown Done gives input (IsRegretAnswer w) (IsRegretted input) a b f g status right (λ answer h. subst (λ (input : Input). IsRegretted input Done answer) (sym is) (inl (refl, h)))
 
+-- where none is allowed, a right answer to `regret` says so
 pub two_unallowed : (input : Input) (w : Written) (gives : List (List ℕ) → Type 0) (a b : Option (List ℕ)) (f g : ℕ) (status : Status) → input ≡ Two w
-    → ((lines : List (List ℕ)) → gives lines → IsShown input (IsNoneAllowed w) lines) → Wrote (With NoneExists gives) a b f g status → Wrote (λ s. IsShown input (IsRegretted input s)) a b f g status
+    → ((lines : List (List ℕ)) → gives lines → IsShown input (IsNoneAllowed HeadData.Regret w) lines) → Wrote (With NoneExists gives) a b f g status → Wrote (λ s. IsShown input (IsRegretted input s)) a b f g status
 two_unallowed input w gives a b f g status is right =
-    wrote_shown NoneExists gives input (IsNoneAllowed w) (IsRegretted input) a b f g status right (λ answer h. subst (λ (input : Input). IsRegretted input NoneExists answer) (sym is) (inr (refl, h)))
+    wrote_shown NoneExists gives input (IsNoneAllowed HeadData.Regret w) (IsRegretted input) a b f g status right (λ answer h. subst (λ (input : Input). IsRegretted input NoneExists answer) (sym is) (inr (refl, h)))
 
 -- instances with an allowed stable matching, and such without, for `weight`
 pub two_weighed : (by : Measure) (input : Input) (w : Written) (gives : List (List ℕ) → Type 0) (a b : Option (List ℕ)) (f g : ℕ) (status : Status) → input ≡ Two w
@@ -142,10 +141,11 @@ pub two_weighed : (by : Measure) (input : Input) (w : Written) (gives : List (Li
 two_weighed by input w gives a b f g status is right =
     wrote_shown Done gives input (IsWeightAnswer by w) (IsWeighed by input) a b f g status right (λ answer h. subst (λ (input : Input). IsWeighed by input Done answer) (sym is) (inl (refl, h)))
 
+-- where none is allowed, a right answer to `weight` says so
 pub two_unweighed : (by : Measure) (input : Input) (w : Written) (gives : List (List ℕ) → Type 0) (a b : Option (List ℕ)) (f g : ℕ) (status : Status) → input ≡ Two w
-    → ((lines : List (List ℕ)) → gives lines → IsShown input (IsNoneLightest by w) lines) → Wrote (With NoneExists gives) a b f g status → Wrote (λ s. IsShown input (IsWeighed by input s)) a b f g status
+    → ((lines : List (List ℕ)) → gives lines → IsShown input (IsNoneAllowed (HeadData.Weight by) w) lines) → Wrote (With NoneExists gives) a b f g status → Wrote (λ s. IsShown input (IsWeighed by input s)) a b f g status
 two_unweighed by input w gives a b f g status is right =
-    wrote_shown NoneExists gives input (IsNoneLightest by w) (IsWeighed by input) a b f g status right (λ answer h. subst (λ (input : Input). IsWeighed by input NoneExists answer) (sym is) (inr (refl, h)))
+    wrote_shown NoneExists gives input (IsNoneAllowed (HeadData.Weight by) w) (IsWeighed by input) a b f g status right (λ answer h. subst (λ (input : Input). IsWeighed by input NoneExists answer) (sym is) (inr (refl, h)))
 
 -- The summary of a made instance.
 pub two_summarized : (tallies : List Shown) (input : Input) (w : Written) (gives : List (List ℕ) → Type 0) (a b : Option (List ℕ)) (f g : ℕ) (status : Status) → input ≡ Two w
@@ -153,6 +153,7 @@ pub two_summarized : (tallies : List Shown) (input : Input) (w : Written) (gives
 two_summarized tallies input w gives a b f g status is right =
     wrote_shown Done gives input (IsSurveyAnswer tallies usual_limit w) (IsSummary tallies input) a b f g status right (λ answer h. subst (λ (input : Input). IsSummary tallies input Done answer) (sym is) (refl, h))
 
+-- of roommates it is what `solve` answers
 pub room_summarized : (tallies : List Shown) (input : Input) (persons : List AgentData) (a b : Option (List ℕ)) (f g : ℕ) (status : Status) → input ≡ Room persons
     → Wrote (λ s. IsShown input (IsSolved None input s)) a b f g status → Wrote (λ s. IsShown input (IsSummary tallies input s)) a b f g status
 room_summarized tallies input persons a b f g status is =

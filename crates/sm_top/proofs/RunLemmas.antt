@@ -56,6 +56,7 @@ wrote_answer_by job bytes read w right given a b f g status ok two =
       },
     ))
 
+-- the same where what is right doesn't depend on what was read
 pub wrote_answer : (job : JobData) (bytes : List ℕ) (read : ReadText) (w : Written) (right : Written → List LineData → Type 0) (given : Status) (a b : Option (List ℕ)) (f g : ℕ) (status : Status)
     → accepted job bytes ≡ Ok read → read.input ≡ Two w
     → Wrote (With given (IsShown read.input (right w))) a b f g status → Wrote (λ s lines. (s ≡ given) × IsAnswerOver job bytes (λ read. OfTwo right read.input) lines) a b f g status
@@ -70,6 +71,7 @@ stops_for U U' R R' F F' (stop.Unstable at fields) u r f h = r (with_detail NotS
 stops_for U U' R R' F F' stop.ReadFault u r f h = f h
 stops_for U U' R R' F F' stop.OutOfMemory u r f h = tt
 
+-- so it is of a run that may have stopped
 pub err_stops_for : (U U' : ℕ → Type 0) (R R' : RefusalData → Type 0) (F F' : Type 0) (r : Result Status Stop)
     → ((word : ℕ) → U word → U' word) → ((refusal : RefusalData) → R refusal → R' refusal) → (F → F')
     → IfErr r (λ s. StopsBy U R F s) → IfErr r (λ s. StopsBy U' R' F' s)
@@ -114,6 +116,7 @@ not_read_yet None after refusal h reading = reading
 not_read_yet (Some all) None refusal h reading = reading
 not_read_yet (Some all) (Some rest) refusal h reading = omega (arith, h.long, length-append h.given rest, ap length h.consumed, reading.1)
 
+-- a source that has too many bytes may be refused as too long
 pub refused_too_long : (job : JobData) → reads_input job ≡ true → (before after : Option (List ℕ)) (refusal : RefusalData) → IsTooLong before after refusal → IsRefusalFor job before after refusal
 refused_too_long job reading before after refusal h =
     let had = had_too_many before after refusal h in
@@ -136,6 +139,7 @@ refused_whole job before after bytes refusal w why = record {
   over = λ _. not_being_read before after w.over;
 }
 
+-- a source that was read whole is served by an answer to its bytes
 pub serves_whole : (tallies : List Shown) (job : JobData) → reads_input job ≡ true → (before after a b : Option (List ℕ)) (f g : ℕ) (bytes : List ℕ) (r : Result Status Stop) → ReadWhole before after bytes
     → IfOk r (λ status. Wrote (IsAnswer tallies job bytes) a b f g status) → IfOk r (λ status. Serves tallies job before after a b f g status)
 serves_whole tallies job reading before after a b f g bytes (Ok status) w wrote =
@@ -255,6 +259,7 @@ answers_wrote {tallies} words bytes before after a b f g status agrees w read_wh
         untouched = untouched;
       }
 
+-- a run that serves its words answers them as it promises
 pub answers_served : {tallies : List Shown} (words : List (List ℕ)) (before after a b : Option (List ℕ)) (f g : ℕ) (status : Status) → ServesWords tallies words before after a b f g status → Answers tallies words before after a b status
 answers_served {tallies} words before after a b f g status h =
     let s = h.serves in
@@ -274,6 +279,7 @@ serves_unread {tallies} job none left a b f g status wrote = record {
   untouched = λ _. refl;
 }
 
+-- a job that reads nothing may refuse what it makes
 pub refused_unread : (job : JobData) → reads_input job ≡ false → (left : Option (List ℕ)) (refusal : RefusalData) → IsUnsurveyed job refusal → IsRefusalFor job left left refusal
 refused_unread job none left refusal why = record {
   bytes = bytes_of left;
@@ -294,6 +300,7 @@ made_served tallies words shape size seed summary input left a b f g (Ok status)
 }
 made_served tallies words shape size seed summary input left a b f g (Err stop) meaning same wrote = tt
 
+-- a stop while an instance is made or surveyed is one that the words may come to
 pub made_stopped : (words : List (List ℕ)) (shape : Shape) (size seed : ℕ) (summary : Bool) (input : Input) (left : Option (List ℕ)) (h i : ℕ) (r : Result Status Stop)
     → words_meaning words ≡ Ok (Make shape size seed summary) → input ≡ made_instance shape size seed → IfErr r (λ s. StopsBy (λ _. ⊥) (IsTooManyMade input summary) ⊥ s)
     → IfErr r (λ s. StopsBy (λ word. words_meaning words ≡ Err word) (IsRefusal words left left) (IsReadFault words h i) s)
@@ -383,6 +390,7 @@ whole_or_not ReadFault = inr (inr (inl refl))
 whole_or_not WriteFault = inr (inr (inr refl))
 whole_or_not _ = inl refl
 
+-- a run that answers as it promises comes to an answer where the input isn't refused
 pub answers_accepted : {tallies : List Shown} (words : List (List ℕ)) (before after a b : Option (List ℕ)) (status : Status) → Answers tallies words before after a b status → AnswersAccepted words before status
 answers_accepted {tallies} words before after a b status answers bytes job sound told never no_read_fault no_write_fault =
     let same : answers.bytes ≡ bytes = sym (subst (λ (left : Option (List ℕ)). Agrees left answers.bytes) told answers.read) in

@@ -3,6 +3,7 @@ use Rattle.std.proofs.Common.{◌≡◌, ℕ, true, false, List, [], ◌∷◌, 
 use Rattle.sm_answer.specs.Giving.{PutsNext}
 use Rattle.sm_top.specs.Unsaid.{lines_unsaid, most_unsaid}
 
+-- once it is put, nothing is left to say
 pub line_said : (line held holds : List ℕ) → holds ≡ held ++ line
     → PutsNext (λ rest. rest ≡ lines_unsaid false line) (λ rest. rest ≡ lines_unsaid true line) (most_unsaid false) (most_unsaid true) held holds (Ok true)
 line_said line held holds put = record {

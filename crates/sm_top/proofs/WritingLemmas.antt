@@ -13,6 +13,7 @@ use Rattle.sm_top.specs.Texts.{with_detail, plain, refused_line}
 use Rattle.sm_top.specs.Running.{IsText, IsFront}
 use Rattle.sm_top.specs.Wrote.{Ended, Wrote, With, whole, sink_failed, no_memory}
 
+-- all lines were written
 pub wrote_whole : (status : Status) (gives : List (List ℕ) → Type 0) (a b : Option (List ℕ)) (f g : ℕ) → WroteAll gives a b → Wrote (With status gives) a b f g status
 wrote_whole status gives a b f g w = record {
   text = text_of w.lines;
@@ -27,6 +28,7 @@ front_of status gives a b w = record {
   whole = record { lines = w.lines; is_right = record { same = refl; given_lines = w.is_right }; shows = take-append-drop w.written.count (text_of w.lines) };
 }
 
+-- a front of them was, since the sink failed
 pub wrote_failed : (status : Status) (gives : List (List ℕ) → Type 0) (a b : Option (List ℕ)) (f g : ℕ) → WroteFront gives a b × Rose f g → Wrote (With status gives) a b f g WriteFault
 wrote_failed status gives a b f g w = record {
   text = take w.0.written.count (text_of w.0.lines);
@@ -34,6 +36,7 @@ wrote_failed status gives a b f g w = record {
   ended = sink_failed refl (front_of status gives a b w.0) w.1;
 }
 
+-- a front of them was, for want of memory
 pub wrote_cut : (status : Status) (gives : List (List ℕ) → Type 0) (a b : Option (List ℕ)) (f g : ℕ) → WroteFront gives a b → Wrote (With status gives) a b f g OutOfMemory
 wrote_cut status gives a b f g w = record {
   text = take w.written.count (text_of w.lines);
@@ -48,6 +51,7 @@ text_for P Q text to t = record { lines = t.lines; is_right = to t.lines t.is_ri
 front_for : (P Q : Status → List (List ℕ) → Type 0) (text : List ℕ) → ((status : Status) (lines : List (List ℕ)) → P status lines → Q status lines) → IsFront P text → IsFront Q text
 front_for P Q text to front = record { status = front.status; rest = front.rest; whole = text_for (P front.status) (Q front.status) (text ++ front.rest) (to front.status) front.whole }
 
+-- so what was written for the one was written for the other
 pub wrote_for : (P Q : Status → List (List ℕ) → Type 0) (a b : Option (List ℕ)) (f g : ℕ) (status : Status)
     → ((status : Status) (lines : List (List ℕ)) → P status lines → Q status lines) → Wrote P a b f g status → Wrote Q a b f g status
 wrote_for P Q a b f g status to w = record { text = w.text; grows = w.grows; ended = by_end w.ended } where
@@ -56,6 +60,7 @@ wrote_for P Q a b f g status to w = record { text = w.text; grows = w.grows; end
   by_end (sink_failed is front rose) = sink_failed is (front_for P Q w.text to front) rose
   by_end (no_memory is front) = no_memory is (front_for P Q w.text to front)
 
+-- and the same of lines with one status
 pub wrote_given : (given : Status) (P Q : List (List ℕ) → Type 0) (a b : Option (List ℕ)) (f g : ℕ) (status : Status)
     → ((lines : List (List ℕ)) → P lines → Q lines) → Wrote (With given P) a b f g status → Wrote (With given Q) a b f g status
 wrote_given given P Q a b f g status to = wrote_for (With given P) (With given Q) a b f g status (λ s lines w. record { same = w.same; given_lines = to lines w.given_lines })

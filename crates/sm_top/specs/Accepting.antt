@@ -49,6 +49,7 @@ is_two_sided Marriage = true
 is_two_sided Hospitals = true
 is_two_sided Roommates = false
 
+-- whether a job takes instances of a kind
 abbrev pub takes_kind : JobData → Kind → Bool
 takes_kind (Solve None) kind = true
 takes_kind (Solve (Some side)) kind = is_two_sided kind
@@ -71,6 +72,7 @@ abbrev pub has_tokens : List (List ℕ) → Bool
 has_tokens [] = false
 has_tokens (token ∷ more) = true
 
+-- a line says something in front of its comment
 abbrev pub says_something : List ℕ → Bool
 says_something line = has_tokens (tokens (content line))
 
@@ -93,6 +95,7 @@ abbrev pub too_many_in : Input → Option Refusal
 too_many_in (Two w) = option_map (λ r. (TooManySeats, (agent_at w.reviewers r).line)) (first_too_many w)
 too_many_in (Room persons) = None
 
+-- the same of an input that was read
 abbrev pub too_many_seats : ReadText → Option Refusal
 too_many_seats read = too_many_in read.input
 
@@ -119,6 +122,7 @@ abbrev pub behind_text : JobData → List ℕ → Result ReadText Refusal → Re
 behind_text job bytes (Err refusal) = Err refusal
 behind_text job bytes (Ok read) = first_refusal (after_end job bytes read ∷ wrong_kind job read ∷ too_many_seats read ∷ []) read
 
+-- what is read of the bytes of an input for a job, or why they are refused
 abbrev pub accepted : JobData → List ℕ → Result ReadText Refusal
 accepted job bytes = behind_text job bytes (instance_text bytes)
 

@@ -17,9 +17,11 @@ abbrev pub verdict_line : Verdict → LineData
 verdict_line verdict.Yes = LineData.Yes
 verdict_line (verdict.No line why) = LineData.No line (number_of_reason why)
 
+-- the whole answer with a verdict
 abbrev pub verdict_lines : Verdict → List LineData
 verdict_lines v = LineData.Answer HeadData.Check ∷ verdict_line v ∷ LineData.End ∷ []
 
+-- the status that goes with a verdict
 abbrev pub status_by : Verdict → Status
 status_by verdict.Yes = Done
 status_by (verdict.No line why) = CheckedNo line why

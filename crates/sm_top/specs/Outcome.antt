@@ -8,6 +8,7 @@ use Rattle.sm_instance.specs.declared.kinds.Measure.{Measure}
 use Rattle.sm_instance.specs.declared.kinds.Side.{Side}
 use Rattle.sm_instance.specs.declared.kinds.Side.TheVariants.{Proposers}
 use Rattle.sm_reader.specs.InstanceText.{ReadText}
+use Rattle.sm_report.specs.Heads.{HeadData}
 use Rattle.sm_report.specs.Lines.{LineData}
 use Rattle.sm_report.specs.Texts.{left_name, right_name}
 use Rattle.sm_text.specs.declared.refusal.RefusalKind.TheVariants.{BadCursor, BadAnswer, NotStable}
@@ -21,9 +22,10 @@ use Rattle.sm_top.specs.Accepting.{reads_input, accepted, IsTooMany, IsUnaccepte
 use Rattle.sm_shown.specs.Answers.{IsSolution}
 use Rattle.sm_shown.specs.Reduction.{IsReduction}
 use Rattle.sm_shown.specs.RotationAnswer.{IsRotationAnswer}
+use Rattle.sm_shown.specs.NoneAnswer.{IsNoneAllowed}
 use Rattle.sm_listing.specs.ListAnswer.{IsCursor, IsListAnswer}
 use Rattle.sm_partners.specs.PairsAnswer.{IsPairsAnswer}
-use Rattle.sm_partners.specs.RegretAnswer.{IsRegretAnswer, IsNoneAllowed}
+use Rattle.sm_partners.specs.RegretAnswer.{IsRegretAnswer}
 use Rattle.sm_theory.specs.declared.choice.Choice.TheVariants.{Better, Worse}
 use Rattle.sm_given.specs.GivenText.{texts_from, IsBadAt}
 use Rattle.sm_given.specs.Chosen.{IsChosenAnswer}
@@ -33,7 +35,7 @@ use Rattle.sm_given.specs.declared.faults.Which.TheVariants.{Left, Right}
 use Rattle.sm_given.specs.declared.faults.Flaw.{Flaw}
 use Rattle.sm_given.specs.declared.faults.Flaw.TheVariants.{Breach, Blocks}
 use Rattle.sm_given.specs.declared.faults.Unstable.{Unstable}
-use Rattle.sm_lightest.specs.WeightAnswer.{IsWeightAnswer, IsNoneAllowed as IsNoneLightest}
+use Rattle.sm_lightest.specs.WeightAnswer.{IsWeightAnswer}
 use Rattle.sm_tally.specs.Fold.{Shown}
 use Rattle.sm_survey.specs.SurveyAnswer.{IsSurveyAnswer}
 use Rattle.sm_make.specs.Made.{made_instance}
@@ -52,7 +54,7 @@ IsSolved side (Room persons) status answer = ((status ≡ Done) × IsMatched per
 
 -- a right answer to `regret`, with its status: a matching of the least regret, or `none` where no stable matching is allowed
 abbrev pub IsRegretted : Input → Status → List LineData → Type 0
-IsRegretted (Two w) status answer = ((status ≡ Done) × IsRegretAnswer w answer) ⊎ ((status ≡ NoneExists) × IsNoneAllowed w answer)
+IsRegretted (Two w) status answer = ((status ≡ Done) × IsRegretAnswer w answer) ⊎ ((status ≡ NoneExists) × IsNoneAllowed HeadData.Regret w answer)
 IsRegretted (Room persons) status answer = ⊥
 
 -- a right answer to `make` with `show=summary`, with its status: what `survey` answers up to the usual limit, or, for roommates,
@@ -68,7 +70,7 @@ IsMade tallies input true status lines = IsShown input (IsSummary tallies input 
 
 -- a right answer to `weight`, with its status: the lightest allowed matching, or `none` where no stable matching is allowed
 abbrev pub IsWeighed : Measure → Input → Status → List LineData → Type 0
-IsWeighed by (Two w) status answer = ((status ≡ Done) × IsWeightAnswer by w answer) ⊎ ((status ≡ NoneExists) × IsNoneLightest by w answer)
+IsWeighed by (Two w) status answer = ((status ≡ Done) × IsWeightAnswer by w answer) ⊎ ((status ≡ NoneExists) × IsNoneAllowed (HeadData.Weight by) w answer)
 IsWeighed by (Room persons) status answer = ⊥
 
 -- an input was accepted for a job, and the lines are those of a right answer
@@ -103,10 +105,12 @@ abbrev pub which_name : Which → List ℕ
 which_name Left = codes "left"
 which_name Right = codes "right"
 
+-- whether its pairs can't all be held, or a pair blocks
 abbrev pub flaw_name : Flaw → List ℕ
 flaw_name Breach = codes "breach"
 flaw_name Blocks = codes "blocks"
 
+-- which matching, why, and the two agents of the pair by their names
 abbrev pub unstable_fields : Input → Unstable → List (List ℕ)
 unstable_fields input u = which_name u.which ∷ flaw_name u.flaw ∷ left_name input u.proposer ∷ right_name input u.reviewer ∷ []
 
@@ -115,6 +119,7 @@ pub data IsGivenRefusal (w : Written) (texts : List (List ℕ)) (line : ℕ) (re
   bad : (at : ℕ) → IsBadAt (Two w) texts line at → refusal ≡ plain BadAnswer at → IsGivenRefusal w texts line refusal
   unstable : (u : Unstable) → AreUnstable w texts line u → refusal ≡ with_detail NotStable u.line (unstable_fields (Two w) u) → IsGivenRefusal w texts line refusal
 
+-- the texts behind an instance with two sides give no two stable matchings
 abbrev pub IsBadGiven : Input → List (List ℕ) → ℕ → RefusalData → Type 0
 IsBadGiven (Two w) texts line refusal = IsGivenRefusal w texts line refusal
 IsBadGiven (Room persons) texts line refusal = ⊥
@@ -139,6 +144,7 @@ abbrev pub IsTooManyMade : Input → (summary : Bool) → RefusalData → Type 0
 IsTooManyMade input true refusal = IsTooMany input refusal
 IsTooManyMade input false refusal = ⊥
 
+-- a job makes an instance to survey it, and its seats have too many entries
 abbrev pub IsUnsurveyed : JobData → RefusalData → Type 0
 IsUnsurveyed (Make shape size seed summary) refusal = IsTooManyMade (made_instance shape size seed) summary refusal
 IsUnsurveyed job refusal = ⊥

@@ -20,6 +20,7 @@ abbrev pub asks_to_read : Result JobData ℕ → Bool
 asks_to_read (Ok job) = reads_input job
 asks_to_read (Err word) = false
 
+-- these words ask for a job that reads an input
 abbrev pub reads : List (List ℕ) → Bool
 reads words = asks_to_read (words_meaning words)
 
@@ -30,11 +31,13 @@ is_whole ReadFault = false
 is_whole WriteFault = false
 is_whole status = true
 
+-- the statuses of an answer
 abbrev pub is_answer : Status → Bool
 is_answer (Refused kind at) = false
 is_answer (Usage word) = false
 is_answer status = is_whole status
 
+-- the status of an input that is too long
 abbrev pub is_too_long : Status → Bool
 is_too_long (Refused TooLong at) = true
 is_too_long status = false

@@ -11,9 +11,11 @@ pub record RefusalData : Type 0 where
   pub at : ℕ
   pub detail : List (List ℕ)
 
+-- a refusal with these fields
 abbrev pub with_detail : RefusalKind → ℕ → List (List ℕ) → RefusalData
 with_detail kind at detail = record { kind = kind; at = at; detail = detail }
 
+-- a refusal without fields
 abbrev pub plain : RefusalKind → ℕ → RefusalData
 plain kind at = with_detail kind at []
 

@@ -7,7 +7,7 @@ ghost use Rattle.sm_instance.specs.Inputs.{right_of};
 ghost use Rattle.sm_instance.specs.Written.{agent_at};
 ghost use Rattle.sm_instance.specs.declared.inputs.Input.{Input};
 ghost use Rattle.sm_reader.specs.InstanceText.{instance_text, read_of};
-ghost use Rattle.sm_report.specs.Lines.{LineData, line_of};
+ghost use Rattle.sm_report.specs.Lines.{line_of};
 ghost use Rattle.sm_report.specs.Sound.{IsLineOf};
 ghost use Rattle.sm_tally.specs.Fold.{Shown};
 ghost use Rattle.sm_text.specs.Limits.{most_bytes};
@@ -44,7 +44,8 @@ pub(crate) fn check_answer<K: Sink>(
     requires short { length bytes.now ≤ most_bytes }
     requires text { instance_text bytes.now ≡ Ok (read_of read.now) }
     requires accepted { accepted Check bytes.now ≡ judged Check (read_of read.now) }
-    ensures wrote { (tallies : List Shown) → IfOk result (λ status. Wrote (IsAnswer tallies Check bytes.now)
+    ensures wrote { (tallies : List Shown)
+        → IfOk result (λ status. Wrote (IsAnswer tallies Check bytes.now)
         (K.held sink.old) (K.held sink.new) (K.faults sink.old) (K.faults sink.new) status) }
     ensures stop { IfErr result (λ stop. StopsBy (λ _. ⊥) (IsRefused Check bytes.now) ⊥ stop) }
     ensures unwritten { OnErr result (sink.new ≡ sink.old) }
@@ -65,14 +66,14 @@ pub(crate) fn check_answer<K: Sink>(
     }
 }
 
-// The bytes from a place on.
+/// The bytes from a place on.
 fn text_from(bytes: &[u8], from: usize) -> &[u8]
     ensures { result.now ≡ drop from bytes.now }
 {
     &bytes[from.min(bytes.len())..]
 }
 
-// The line of a reviewer, or in roommates of a person.
+/// The line of a reviewer, or in roommates of a person.
 fn right_line(input: &Input, at: u32) -> u32
     requires { at < length (right_of input.now) }
     ensures { result ≡ (agent_at (right_of input.now) at).line }
@@ -84,7 +85,7 @@ fn right_line(input: &Input, at: u32) -> u32
     agents[at as usize].line
 }
 
-// The head, the verdict, and `end`.
+/// The head, the verdict, and `end`.
 fn verdict_lines<'a>(input: &'a Input, verdict: Verdict) -> VerdictLines<'a>
     ensures right { (lines : List (List ℕ)) → ⟦<VerdictLines<'a> as Lines>⟧.gives result lines
         → IsShown input.now (λ answer. answer ≡ verdict_lines verdict) lines }
@@ -102,7 +103,7 @@ fn verdict_lines<'a>(input: &'a Input, verdict: Verdict) -> VerdictLines<'a>
     }
 }
 
-// The line of a verdict.
+/// The line of a verdict.
 fn verdict_line(verdict: Verdict) -> Line
     ensures line { line_of result ≡ verdict_line verdict }
     ensures sound { (input : Input) → IsLineOf input (line_of result) }
@@ -113,7 +114,7 @@ fn verdict_line(verdict: Verdict) -> Line
     }
 }
 
-// The status that goes with a verdict.
+/// The status that goes with a verdict.
 fn status_by(verdict: Verdict) -> Status
     ensures { result ≡ status_by verdict }
 {

@@ -7,7 +7,6 @@ ghost use Rattle.sm_text.specs.Lines.{lines};
 ghost use Rattle.sm_report.specs.Sound.{ArePair};
 ghost use Rattle.sm_given.specs.GivenText.{texts_from};
 ghost use Rattle.sm_given.specs.Chosen.{IsChosenAnswer};
-ghost use Rattle.sm_given.specs.Refusing.{IsGivenFault};
 ghost use Rattle.sm_top.specs.Outcome.{IsGivenRefusal, which_name, flaw_name, unstable_fields};
 ghost use Rattle.sm_top.specs.Stops.{StopsBy};
 ghost use Rattle.sm_top.specs.Texts.{fields_of};
@@ -37,10 +36,12 @@ pub(crate) fn choose<K: Sink>(
     requires two { read.now.input ≡ Two instance.now }
     requires few { read.now.rest_line + length (lines (drop read.now.rest bytes.now)) < 2 ^ 32 }
     ensures wrote { IfOk result (λ status. Wrote
-        (With Status.Done (IsShown read.now.input (IsChosenAnswer choice (texts_from bytes.now read.now.rest) instance.now)))
+        (With Status.Done (IsShown read.now.input (IsChosenAnswer choice (texts_from bytes.now
+        read.now.rest) instance.now)))
         (K.held sink.old) (K.held sink.new) (K.faults sink.old) (K.faults sink.new) status) }
     ensures stop { IfErr result (λ stop. StopsBy (λ _. ⊥)
-        (IsGivenRefusal instance.now (texts_from bytes.now read.now.rest) read.now.rest_line) ⊥ stop) }
+        (IsGivenRefusal instance.now (texts_from bytes.now read.now.rest) read.now.rest_line) ⊥
+        stop) }
     ensures unwritten { OnErr result (sink.new ≡ sink.old) }
     ensures later { K.faults sink.old ≤ K.faults sink.new }
 {
@@ -66,7 +67,7 @@ pub(crate) fn choose<K: Sink>(
     }
 }
 
-// The fields that tell of a matching that isn't stable: which one, why, and the names of the pair.
+/// The fields that tell of a matching that isn't stable: which one, why, and the names of the pair.
 fn unstable_fields(
     alloc: Global,
     input: &Input,
@@ -83,7 +84,7 @@ fn unstable_fields(
     Ok(fields)
 }
 
-// Which of the two matchings.
+/// Which of the two matchings.
 fn which_name(which: Which) -> &'static str
     ensures { result.now ≡ which_name which }
 {
@@ -93,7 +94,7 @@ fn which_name(which: Which) -> &'static str
     }
 }
 
-// Why.
+/// Why.
 fn flaw_name(flaw: Flaw) -> &'static str
     ensures { result.now ≡ flaw_name flaw }
 {

@@ -15,8 +15,10 @@ const CHUNK: usize = 65_536;
 
 /// Reads a source to its end, or until it gave more bytes than are taken.
 pub(crate) fn read_all<S: Source>(alloc: Global, source: &mut S) -> Result<Vec<u8>, Stop>
-    ensures whole { IfOk result (λ bytes. ReadWhole (S.left source.old) (S.left source.new) bytes.items) }
-    ensures stop { IfErr result (λ stop. StopsBy (λ _. ⊥) (IsTooLong (S.left source.old) (S.left source.new))
+    ensures whole { IfOk result (λ bytes. ReadWhole (S.left source.old) (S.left source.new)
+        bytes.items) }
+    ensures stop { IfErr result (λ stop. StopsBy (λ _. ⊥) (IsTooLong (S.left source.old)
+        (S.left source.new))
         (Rose (S.faults source.old) (S.faults source.new)) stop) }
     ensures later { S.faults source.old ≤ S.faults source.new }
 {
@@ -32,7 +34,7 @@ pub(crate) fn read_all<S: Source>(alloc: Global, source: &mut S) -> Result<Vec<u
     Err(Stop::Refused(RefusalKind::TooLong, 0))
 }
 
-// So many zeros.
+/// So many zeros.
 fn zeros(alloc: Global, len: usize) -> Result<Vec<u8>, AllocError>
     ensures { IfOk result (λ v. vec_len v ≡ len) }
 {

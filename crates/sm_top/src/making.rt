@@ -1,12 +1,12 @@
 //! Made instances: their texts, and their summaries.
 
-ghost use Rattle.std.specs.Prelude.{◌≡◌, ◌≤◌, ℕ, List, map, IfOk, IfErr, OnErr};
+ghost use Rattle.std.specs.Prelude.{◌≡◌, ◌≤◌, map, IfOk, IfErr, OnErr};
 ghost use Rattle.sm_answer.specs.Printing.{IsShown};
 ghost use Rattle.sm_tally.specs.Fold.{shown_as};
 ghost use Rattle.sm_top.specs.Accepting.{IsTooMany};
 ghost use Rattle.sm_top.specs.Outcome.{IsMade, IsSummary, IsTooManyMade};
 ghost use Rattle.sm_top.specs.Stops.{StopsBy};
-ghost use Rattle.sm_top.specs.Wrote.{Wrote, With};
+ghost use Rattle.sm_top.specs.Wrote.{Wrote};
 
 use crate::performing::solve_roommates;
 use crate::refusing::seats_of;
@@ -29,9 +29,11 @@ pub(crate) fn show_made<K: Sink>(
     tallies: &mut Vec<Box<dyn Tally>>,
     sink: &mut K,
 ) -> Result<Status, Stop>
-    ensures wrote { IfOk result (λ status. Wrote (IsMade (map (λ t. shown_as (kind t) (shown t)) tallies.old.items) input.now is_summary)
+    ensures wrote { IfOk result (λ status. Wrote (IsMade (map (λ t. shown_as (kind t) (shown t))
+        tallies.old.items) input.now is_summary)
         (K.held sink.old) (K.held sink.new) (K.faults sink.old) (K.faults sink.new) status) }
-    ensures stop { IfErr result (λ stop. StopsBy (λ _. ⊥) (IsTooManyMade input.now is_summary) ⊥ stop) }
+    ensures stop { IfErr result (λ stop. StopsBy (λ _. ⊥) (IsTooManyMade input.now is_summary) ⊥
+        stop) }
     ensures unwritten { OnErr result (sink.new ≡ sink.old) }
     ensures later { K.faults sink.old ≤ K.faults sink.new }
 {
@@ -41,14 +43,15 @@ pub(crate) fn show_made<K: Sink>(
     Ok(write(alloc, sink, Status::Done, instance_lines(input)))
 }
 
-// Writes what `survey` answers without a limit, or `solve` for roommates.
+/// Writes what `survey` answers without a limit, or `solve` for roommates.
 fn summarize<K: Sink>(
     alloc: Global,
     input: &Input,
     tallies: &mut Vec<Box<dyn Tally>>,
     sink: &mut K,
 ) -> Result<Status, Stop>
-    ensures wrote { IfOk result (λ status. Wrote (λ status. IsShown input.now (IsSummary (map (λ t. shown_as (kind t) (shown t)) tallies.old.items) input.now status))
+    ensures wrote { IfOk result (λ status. Wrote (λ status. IsShown input.now (IsSummary (map
+        (λ t. shown_as (kind t) (shown t)) tallies.old.items) input.now status))
         (K.held sink.old) (K.held sink.new) (K.faults sink.old) (K.faults sink.new) status) }
     ensures stop { IfErr result (λ stop. StopsBy (λ _. ⊥) (IsTooMany input.now) ⊥ stop) }
     ensures unwritten { OnErr result (sink.new ≡ sink.old) }

@@ -30,12 +30,13 @@ use sm_instance::{Input, Instance, Measure, Persons, Side};
 use sm_io::Sink;
 use sm_lightest::{find_lightest, lightest_lines};
 use sm_listing::{list_lines, start_list};
-use sm_partners::{find_pairs, find_regret, none_lines, pairs_lines, regret_lines};
+use sm_partners::{find_pairs, find_regret, pairs_lines, regret_lines};
 use sm_reader::Read;
+use sm_report::Head;
 use sm_rooming::{RoomSolution, couple_lines, find_roommates, party_lines};
 use sm_seats::Seats;
 use sm_shown::{
-    find_reduction, find_rotations, find_solution, reduction_lines, rotation_answer_lines,
+    Basis, find_reduction, find_solution, none_lines, reduction_lines, rotation_answer_lines,
     solution_lines,
 };
 use sm_survey::survey_lines;
@@ -65,11 +66,14 @@ pub(crate) fn perform<K: Sink>(
     requires reads { reads_input (job_of job.now) ≡ true }
     requires answers { judges_answer (job_of job.now) ≡ false }
     requires short { length bytes.now ≤ most_bytes }
-    requires accepted { accepted (job_of job.now) bytes.now ≡ judged (job_of job.now) (read_of read.now) }
+    requires accepted { accepted (job_of job.now) bytes.now
+        ≡ judged (job_of job.now) (read_of read.now) }
     requires bounds { IsInBounds (job_of job.now) }
-    ensures wrote { IfOk result (λ status. Wrote (IsAnswer (map (λ t. shown_as (kind t) (shown t)) tallies.old.items) (job_of job.now) bytes.now)
+    ensures wrote { IfOk result (λ status. Wrote (IsAnswer (map (λ t. shown_as (kind t) (shown t))
+        tallies.old.items) (job_of job.now) bytes.now)
         (K.held sink.old) (K.held sink.new) (K.faults sink.old) (K.faults sink.new) status) }
-    ensures stop { IfErr result (λ stop. StopsBy (λ _. ⊥) (IsRefused (job_of job.now) bytes.now) ⊥ stop) }
+    ensures stop { IfErr result (λ stop. StopsBy (λ _. ⊥) (IsRefused (job_of job.now) bytes.now) ⊥
+        stop) }
     ensures unwritten { OnErr result (sink.new ≡ sink.old) }
     ensures later { K.faults sink.old ≤ K.faults sink.new }
 {
@@ -82,7 +86,7 @@ pub(crate) fn perform<K: Sink>(
     }
 }
 
-// An instance with its seats, where they aren't too many.
+/// An instance with its seats, where they aren't too many.
 fn with_seats<'a>(alloc: Global, read: &'a Read, instance: &'a Instance) -> Result<Seated<'a>, Stop>
     requires { read.now.input ≡ Two instance.now }
     ensures instance { IsInstance instance.now }
@@ -100,7 +104,7 @@ fn with_seats<'a>(alloc: Global, read: &'a Read, instance: &'a Instance) -> Resu
     })
 }
 
-// Does a job on an instance with two sides.
+/// Does a job on an instance with two sides.
 fn perform_on_seats<K: Sink>(
     alloc: Global,
     job: &Job,
@@ -115,10 +119,12 @@ fn perform_on_seats<K: Sink>(
     requires accepted { accepted (job_of job.now) bytes.now ≡ Ok (read_of given.now.read.now) }
     requires seated { IsSeated given.now.read.now.input given.now.instance.now given.now.seats }
     requires bounds { IsInBounds (job_of job.now) }
-    ensures wrote { IfOk result (λ status. Wrote (IsAnswer (map (λ t. shown_as (kind t) (shown t)) tallies.old.items) (job_of job.now) bytes.now)
+    ensures wrote { IfOk result (λ status. Wrote (IsAnswer (map (λ t. shown_as (kind t) (shown t))
+        tallies.old.items) (job_of job.now) bytes.now)
         (K.held sink.old) (K.held sink.new) (K.faults sink.old) (K.faults sink.new) status) }
     ensures stop { IfErr result (λ stop.
-        StopsBy (λ _. ⊥) (IsOwnRefusal (job_of job.now) bytes.now (read_of given.now.read.now)) ⊥ stop) }
+        StopsBy (λ _. ⊥) (IsOwnRefusal (job_of job.now) bytes.now (read_of given.now.read.now)) ⊥
+        stop) }
     ensures unwritten { OnErr result (sink.new ≡ sink.old) }
     ensures later { K.faults sink.old ≤ K.faults sink.new }
 {
@@ -151,7 +157,7 @@ fn perform_on_seats<K: Sink>(
     }
 }
 
-// Does a job on roommates, where it takes them.
+/// Does a job on roommates, where it takes them.
 fn perform_on_persons<K: Sink>(
     alloc: Global,
     job: &Job,
@@ -163,10 +169,13 @@ fn perform_on_persons<K: Sink>(
     requires reads { reads_input (job_of job.now) ≡ true }
     requires answers { judges_answer (job_of job.now) ≡ false }
     requires room { read.now.input ≡ Room persons.now }
-    requires judged { accepted (job_of job.now) bytes.now ≡ judged (job_of job.now) (read_of read.now) }
-    ensures wrote { (tallies : List Shown) → IfOk result (λ status. Wrote (IsAnswer tallies (job_of job.now) bytes.now)
+    requires judged { accepted (job_of job.now) bytes.now
+        ≡ judged (job_of job.now) (read_of read.now) }
+    ensures wrote { (tallies : List Shown)
+        → IfOk result (λ status. Wrote (IsAnswer tallies (job_of job.now) bytes.now)
         (K.held sink.old) (K.held sink.new) (K.faults sink.old) (K.faults sink.new) status) }
-    ensures stop { IfErr result (λ stop. StopsBy (λ _. ⊥) (IsRefused (job_of job.now) bytes.now) ⊥ stop) }
+    ensures stop { IfErr result (λ stop. StopsBy (λ _. ⊥) (IsRefused (job_of job.now) bytes.now) ⊥
+        stop) }
     ensures unwritten { OnErr result (sink.new ≡ sink.old) }
     ensures later { K.faults sink.old ≤ K.faults sink.new }
 {
@@ -187,7 +196,7 @@ fn perform_on_persons<K: Sink>(
     }
 }
 
-// Does `solve` on an instance with two sides.
+/// Does `solve` on an instance with two sides.
 fn solve<K: Sink>(
     alloc: Global,
     given: &Seated<'_>,
@@ -196,7 +205,8 @@ fn solve<K: Sink>(
 ) -> Result<Status, AllocError>
     requires { IsSeated given.now.read.now.input given.now.instance.now given.now.seats }
     ensures wrote { IfOk result (λ status. Wrote
-        (With Status.Done (IsShown given.now.read.now.input (IsSolution (unwrap_or side Side.Proposers) given.now.instance.now)))
+        (With Status.Done (IsShown given.now.read.now.input
+        (IsSolution (unwrap_or side Side.Proposers) given.now.instance.now)))
         (K.held sink.old) (K.held sink.new) (K.faults sink.old) (K.faults sink.new) status) }
     ensures unwritten { OnErr result (sink.new ≡ sink.old) }
     ensures later { K.faults sink.old ≤ K.faults sink.new }
@@ -214,7 +224,8 @@ pub(crate) fn solve_roommates<K: Sink>(
     sink: &mut K,
 ) -> Result<Status, AllocError>
     requires { input.now ≡ Room persons.now }
-    ensures wrote { IfOk result (λ status. Wrote (λ status. IsShown input.now (IsSolved None input.now status))
+    ensures wrote { IfOk result (λ status. Wrote
+        (λ status. IsShown input.now (IsSolved None input.now status))
         (K.held sink.old) (K.held sink.new) (K.faults sink.old) (K.faults sink.new) status) }
     ensures unwritten { OnErr result (sink.new ≡ sink.old) }
     ensures later { K.faults sink.old ≤ K.faults sink.new }
@@ -231,7 +242,7 @@ pub(crate) fn solve_roommates<K: Sink>(
     }
 }
 
-// Does `reduced`.
+/// Does `reduced`.
 fn reduce<K: Sink>(alloc: Global, given: &Seated<'_>, sink: &mut K) -> Result<Status, AllocError>
     requires { IsSeated given.now.read.now.input given.now.instance.now given.now.seats }
     ensures wrote { IfOk result (λ status. Wrote
@@ -245,7 +256,7 @@ fn reduce<K: Sink>(alloc: Global, given: &Seated<'_>, sink: &mut K) -> Result<St
     Ok(write(alloc, sink, Status::Done, lines))
 }
 
-// Does `rotations`.
+/// Does `rotations`.
 fn show_rotations<K: Sink>(
     alloc: Global,
     given: &Seated<'_>,
@@ -253,17 +264,18 @@ fn show_rotations<K: Sink>(
 ) -> Result<Status, AllocError>
     requires { IsSeated given.now.read.now.input given.now.instance.now given.now.seats }
     ensures wrote { IfOk result (λ status. Wrote
-        (With Status.Done (IsShown given.now.read.now.input (IsRotationAnswer given.now.instance.now)))
+        (With Status.Done (IsShown given.now.read.now.input
+        (IsRotationAnswer given.now.instance.now)))
         (K.held sink.old) (K.held sink.new) (K.faults sink.old) (K.faults sink.new) status) }
     ensures unwritten { OnErr result (sink.new ≡ sink.old) }
     ensures later { K.faults sink.old ≤ K.faults sink.new }
 {
-    let answer = find_rotations(alloc, &given.seats)?;
-    let lines = rotation_answer_lines(&given.read.input, given.instance, &given.seats, &answer);
+    let basis = Basis::of(alloc, &given.seats)?;
+    let lines = rotation_answer_lines(&given.read.input, given.instance, &given.seats, &basis);
     Ok(write(alloc, sink, Status::Done, lines))
 }
 
-// Does `list`.
+/// Does `list`.
 fn list<K: Sink>(
     alloc: Global,
     given: &Seated<'_>,
@@ -274,7 +286,8 @@ fn list<K: Sink>(
     requires seated { IsSeated given.now.read.now.input given.now.instance.now given.now.seats }
     requires limit { IsLimit limit }
     ensures wrote { IfOk result (λ status. Wrote
-        (With Status.Done (IsShown given.now.read.now.input (IsListAnswer (cursor_in after.now) limit given.now.instance.now)))
+        (With Status.Done (IsShown given.now.read.now.input (IsListAnswer (cursor_in after.now)
+        limit given.now.instance.now)))
         (K.held sink.old) (K.held sink.new) (K.faults sink.old) (K.faults sink.new) status) }
     ensures stop { IfErr result (λ stop.
         StopsBy (λ _. ⊥) (IsBadCursor (cursor_in after.now) (Two given.now.instance.now)) ⊥ stop) }
@@ -296,7 +309,7 @@ fn list<K: Sink>(
     Ok(write(alloc, sink, Status::Done, lines))
 }
 
-// Does `pairs`.
+/// Does `pairs`.
 fn show_pairs<K: Sink>(
     alloc: Global,
     given: &Seated<'_>,
@@ -314,7 +327,7 @@ fn show_pairs<K: Sink>(
     Ok(write(alloc, sink, Status::Done, lines))
 }
 
-// Does `regret`.
+/// Does `regret`.
 fn show_regret<K: Sink>(
     alloc: Global,
     given: &Seated<'_>,
@@ -333,13 +346,13 @@ fn show_regret<K: Sink>(
             Ok(write(alloc, sink, Status::Done, lines))
         }
         None => {
-            let none = none_lines(&given.read.input, given.instance);
+            let none = none_lines(&given.read.input, given.instance, Head::Regret);
             Ok(write(alloc, sink, Status::NoneExists, none))
         }
     }
 }
 
-// Does `weight`.
+/// Does `weight`.
 fn show_lightest<K: Sink>(
     alloc: Global,
     given: &Seated<'_>,
@@ -359,13 +372,13 @@ fn show_lightest<K: Sink>(
             Ok(write(alloc, sink, Status::Done, lines))
         }
         None => {
-            let nothing = sm_lightest::none_lines(&given.read.input, given.instance, by);
+            let nothing = none_lines(&given.read.input, given.instance, Head::Weight(by));
             Ok(write(alloc, sink, Status::NoneExists, nothing))
         }
     }
 }
 
-// Does `survey`.
+/// Does `survey`.
 fn survey<K: Sink>(
     alloc: Global,
     given: &Seated<'_>,
@@ -376,7 +389,8 @@ fn survey<K: Sink>(
     requires seated { IsSeated given.now.read.now.input given.now.instance.now given.now.seats }
     requires limit { IsLimit limit }
     ensures wrote { IfOk result (λ status. Wrote
-        (With Status.Done (IsShown given.now.read.now.input (IsSurveyAnswer (map (λ t. shown_as (kind t) (shown t)) tallies.old.items) limit given.now.instance.now)))
+        (With Status.Done (IsShown given.now.read.now.input (IsSurveyAnswer (map
+        (λ t. shown_as (kind t) (shown t)) tallies.old.items) limit given.now.instance.now)))
         (K.held sink.old) (K.held sink.new) (K.faults sink.old) (K.faults sink.new) status) }
     ensures unwritten { OnErr result (sink.new ≡ sink.old) }
     ensures later { K.faults sink.old ≤ K.faults sink.new }
@@ -392,7 +406,7 @@ fn survey<K: Sink>(
     Ok(write(alloc, sink, Status::Done, lines))
 }
 
-// Has a cursor an item for each proposer, where there is one?
+/// Has a cursor an item for each proposer, where there is one?
 fn is_cursor(instance: &Instance, after: &Option<Vec<u32>>) -> bool
     ensures { IsTrue result ↔ IsCursor (length instance.now.proposers) (cursor_in after.now) }
 {

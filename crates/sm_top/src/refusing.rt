@@ -24,9 +24,11 @@ use std::alloc::Global;
 /// Reads an input for a job, where it isn't refused before its kind and its seats are looked at.
 pub(crate) fn read_for(alloc: Global, job: &Job, bytes: &[u8]) -> Result<Read, Stop>
     requires { length bytes.now ≤ most_bytes }
-    ensures read { IfOk result (λ read. accepted (job_of job.now) bytes.now ≡ judged (job_of job.now) (read_of read)) }
+    ensures read { IfOk result (λ read. accepted (job_of job.now) bytes.now
+        ≡ judged (job_of job.now) (read_of read)) }
     ensures text { IfOk result (λ read. instance_text bytes.now ≡ Ok (read_of read)) }
-    ensures stop { IfErr result (λ stop. StopsBy (λ _. ⊥) (IsUnaccepted (job_of job.now) bytes.now) ⊥ stop) }
+    ensures stop { IfErr result (λ stop. StopsBy (λ _. ⊥) (IsUnaccepted (job_of job.now) bytes.now)
+        ⊥ stop) }
 {
     match read_instance(alloc, bytes) {
         Ok(read) => match text_behind(job, bytes, &read) {
@@ -54,7 +56,7 @@ pub(crate) fn seats_of(alloc: Global, instance: &Instance) -> Result<Seats, Stop
     }
 }
 
-// The line of text behind `end`, where a job takes none and there is some.
+/// The line of text behind `end`, where a job takes none and there is some.
 fn text_behind(job: &Job, bytes: &[u8], read: &Read) -> Option<u32>
     requires short { length bytes.now ≤ most_bytes }
     requires read { instance_text bytes.now ≡ Ok (read_of read.now) }
@@ -68,7 +70,7 @@ fn text_behind(job: &Job, bytes: &[u8], read: &Read) -> Option<u32>
     first_saying(bytes, read.rest, read.rest_line)
 }
 
-// The number of the first line from a place on that says something, where the line at that place has this number.
+/// The number of the first line from a place on that says something, where the line at that place has this number.
 fn first_saying(bytes: &[u8], from: usize, number: u32) -> Option<u32>
     requires few { number + length (lines (drop from bytes.now)) < 2 ^ 32 }
     ensures { result ≡ first_saying number (lines (drop from bytes.now)) }
@@ -85,7 +87,7 @@ fn first_saying(bytes: &[u8], from: usize, number: u32) -> Option<u32>
     None
 }
 
-// Is a line neither blank nor a comment?
+/// Is a line neither blank nor a comment?
 fn says_something(line: &[u8]) -> bool
     ensures { result ≡ has_tokens (tokens line.now) }
 {
@@ -97,7 +99,7 @@ fn says_something(line: &[u8]) -> bool
     }
 }
 
-// Does a job take text behind `end`?
+/// Does a job take text behind `end`?
 fn takes_text(job: &Job) -> bool
     ensures { result ≡ takes_text (job_of job.now) }
 {

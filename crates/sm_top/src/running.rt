@@ -3,7 +3,6 @@
 ghost use Rattle.std.specs.Prelude.{◌≡◌, ◌≤◌, ◌≢◌, Ok, Err, IfOk, IfErr, OnErr, length, map, true, false};
 ghost use Rattle.sm_text.specs.Limits.{most_bytes};
 ghost use Rattle.sm_io.specs.Faults.{Rose};
-ghost use Rattle.sm_reader.specs.InstanceText.{read_of};
 ghost use Rattle.sm_words.specs.Jobs.{job_of, IsInBounds};
 ghost use Rattle.sm_words.specs.Words.{texts, words_meaning};
 ghost use Rattle.sm_tally.specs.Fold.{shown_as};
@@ -85,14 +84,18 @@ pub fn run<S: Source, K: Sink>(
     sink: &mut K,
     tallies: Vec<Box<dyn Tally>>,
 ) -> Status
-    ensures answer { Answers (map (λ t. shown_as (kind t) (shown t)) tallies.items) (texts words.now) (S.left source.old) (S.left source.new)
+    ensures answer { Answers (map (λ t. shown_as (kind t) (shown t)) tallies.items)
+        (texts words.now) (S.left source.old) (S.left source.new)
         (K.held sink.old) (K.held sink.new) result }
     ensures accepted { AnswersAccepted (texts words.now) (S.left source.old) result }
     ensures untouched { reads (texts words.now) ≡ false → source.new ≡ source.old }
-    ensures faultless { (¬ Rose (S.faults source.old) (S.faults source.new)) → (¬ Rose (K.faults sink.old) (K.faults sink.new))
+    ensures faultless { (¬ Rose (S.faults source.old) (S.faults source.new))
+        → (¬ Rose (K.faults sink.old) (K.faults sink.new))
         → (result ≢ Status.ReadFault) × (result ≢ Status.WriteFault) }
-    ensures read_fault { result ≡ Status.ReadFault → Rose (S.faults source.old) (S.faults source.new) }
-    ensures write_fault { result ≡ Status.WriteFault → Rose (K.faults sink.old) (K.faults sink.new) }
+    ensures read_fault { result ≡ Status.ReadFault
+        → Rose (S.faults source.old) (S.faults source.new) }
+    ensures write_fault { result ≡ Status.WriteFault
+        → Rose (K.faults sink.old) (K.faults sink.new) }
     ensures source_later { S.faults source.old ≤ S.faults source.new }
     ensures sink_later { K.faults sink.old ≤ K.faults sink.new }
 {
@@ -103,7 +106,7 @@ pub fn run<S: Source, K: Sink>(
     }
 }
 
-// Does what the words ask for.
+/// Does what the words ask for.
 fn serve<S: Source, K: Sink>(
     alloc: Global,
     words: &[String],
@@ -111,9 +114,11 @@ fn serve<S: Source, K: Sink>(
     tallies: &mut Vec<Box<dyn Tally>>,
     sink: &mut K,
 ) -> Result<Status, Stop>
-    ensures served { IfOk result (λ status. ServesWords (map (λ t. shown_as (kind t) (shown t)) tallies.old.items) (texts words.now) (S.left source.old) (S.left source.new)
+    ensures served { IfOk result (λ status. ServesWords (map (λ t. shown_as (kind t) (shown t))
+        tallies.old.items) (texts words.now) (S.left source.old) (S.left source.new)
         (K.held sink.old) (K.held sink.new) (K.faults sink.old) (K.faults sink.new) status) }
-    ensures stop { IfErr result (λ stop. StopsBy (λ word. words_meaning (texts words.now) ≡ Err word)
+    ensures stop { IfErr result (λ stop. StopsBy (λ word. words_meaning (texts words.now)
+        ≡ Err word)
         (IsRefusal (texts words.now) (S.left source.old) (S.left source.new))
         (IsReadFault (texts words.now) (S.faults source.old) (S.faults source.new)) stop) }
     ensures untouched { reads (texts words.now) ≡ false → source.new ≡ source.old }
@@ -132,7 +137,7 @@ fn serve<S: Source, K: Sink>(
     }
 }
 
-// Reads the input, and does a job on it.
+/// Reads the input, and does a job on it.
 fn read_and_answer<S: Source, K: Sink>(
     alloc: Global,
     job: &Job,
@@ -142,7 +147,8 @@ fn read_and_answer<S: Source, K: Sink>(
 ) -> Result<Status, Stop>
     requires reads { reads_input (job_of job.now) ≡ true }
     requires bounds { IsInBounds (job_of job.now) }
-    ensures served { IfOk result (λ status. Serves (map (λ t. shown_as (kind t) (shown t)) tallies.old.items) (job_of job.now) (S.left source.old) (S.left source.new)
+    ensures served { IfOk result (λ status. Serves (map (λ t. shown_as (kind t) (shown t))
+        tallies.old.items) (job_of job.now) (S.left source.old) (S.left source.new)
         (K.held sink.old) (K.held sink.new) (K.faults sink.old) (K.faults sink.new) status) }
     ensures stop { IfErr result (λ stop. StopsBy (λ _. ⊥)
         (IsRefusalFor (job_of job.now) (S.left source.old) (S.left source.new))
@@ -155,7 +161,7 @@ fn read_and_answer<S: Source, K: Sink>(
     answer(alloc, job, &bytes, tallies, sink)
 }
 
-// Does a job on an input that was read whole.
+/// Does a job on an input that was read whole.
 fn answer<K: Sink>(
     alloc: Global,
     job: &Job,
@@ -166,9 +172,11 @@ fn answer<K: Sink>(
     requires reads { reads_input (job_of job.now) ≡ true }
     requires short { length bytes.now ≤ most_bytes }
     requires bounds { IsInBounds (job_of job.now) }
-    ensures wrote { IfOk result (λ status. Wrote (IsAnswer (map (λ t. shown_as (kind t) (shown t)) tallies.old.items) (job_of job.now) bytes.now)
+    ensures wrote { IfOk result (λ status. Wrote (IsAnswer (map (λ t. shown_as (kind t) (shown t))
+        tallies.old.items) (job_of job.now) bytes.now)
         (K.held sink.old) (K.held sink.new) (K.faults sink.old) (K.faults sink.new) status) }
-    ensures stop { IfErr result (λ stop. StopsBy (λ _. ⊥) (IsRefused (job_of job.now) bytes.now) ⊥ stop) }
+    ensures stop { IfErr result (λ stop. StopsBy (λ _. ⊥) (IsRefused (job_of job.now) bytes.now) ⊥
+        stop) }
     ensures unwritten { OnErr result (sink.new ≡ sink.old) }
     ensures later { K.faults sink.old ≤ K.faults sink.new }
 {
@@ -179,9 +187,10 @@ fn answer<K: Sink>(
     perform(alloc, job, bytes, &read, tallies, sink)
 }
 
-// Says why there is no answer.
+/// Says why there is no answer.
 fn say_stop<K: Sink>(alloc: Global, sink: &mut K, stop: Stop) -> Status
-    ensures says { SaysStop stop (K.held sink.old) (K.held sink.new) (K.faults sink.old) (K.faults sink.new) result }
+    ensures says { SaysStop stop (K.held sink.old) (K.held sink.new) (K.faults sink.old)
+        (K.faults sink.new) result }
     ensures later { K.faults sink.old ≤ K.faults sink.new }
 {
     match stop {

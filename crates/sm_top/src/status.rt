@@ -29,7 +29,7 @@ pub enum Status {
 }
 
 impl Status {
-    /// The status with which the program ends.
+    /// The number from 0 to 7 with which the program ends, one for each kind of end. Takes constant time.
     pub fn number(&self) -> u8
         ensures { result ≡ number_of_status self.now }
     {

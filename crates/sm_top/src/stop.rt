@@ -75,7 +75,8 @@ impl Lines for RefusedLine {
     ghost use Rattle.sm_top.specs.Unsaid.{lines_unsaid, most_unsaid};
     ghost use Rattle.std.specs.Prelude.{◌≡◌};
 
-    ghost gives = { λ s rest. rest ≡ lines_unsaid s.is_said (refused_line (with_detail s.kind s.at (fields_of s.detail))) };
+    ghost gives = { λ s rest. rest ≡ lines_unsaid s.is_said (refused_line (with_detail s.kind s.at
+        (fields_of s.detail))) };
 
     ghost most = { λ s. most_unsaid s.is_said };
 
@@ -91,7 +92,7 @@ impl Lines for RefusedLine {
     }
 }
 
-// Puts the line that names a faulty word.
+/// Puts the line that names a faulty word.
 fn put_usage(into: &mut LineWriter, word: u32) -> Result<(), AllocError>
     ensures { OnOk result (into.new.bytes ≡ into.old.bytes ++ usage_line word) }
 {
@@ -99,7 +100,7 @@ fn put_usage(into: &mut LineWriter, word: u32) -> Result<(), AllocError>
     into.put_number(u64::from(word))
 }
 
-// Puts why an input is refused, and where.
+/// Puts why an input is refused, and where.
 fn put_refused(into: &mut LineWriter, kind: RefusalKind, at: u32) -> Result<(), AllocError>
     ensures { OnOk result (into.new.bytes ≡ into.old.bytes ++ refused_line (plain kind at)) }
 {
@@ -109,7 +110,7 @@ fn put_refused(into: &mut LineWriter, kind: RefusalKind, at: u32) -> Result<(), 
     into.put_number(u64::from(at))
 }
 
-// Puts fields, each behind a space.
+/// Puts fields, each behind a space.
 fn put_fields(into: &mut LineWriter, fields: &Vec<Vec<u8>>) -> Result<(), AllocError>
     ensures { OnOk result (into.new.bytes ≡ into.old.bytes ++ spaced (fields_of fields.now)) }
 {

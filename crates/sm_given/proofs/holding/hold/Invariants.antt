@@ -7,6 +7,6 @@ use Rattle.sm_given.proofs.holding.hold.Given as goal
 abbrev pub invariant-loop-at : goal.invariant-loop-at
 invariant-loop-at l = record {
   held : IsHolding l.instance l.holding;
-  places : l.holding.places.items ≡ places_in l.instance (take l.at l.pairs);
+  places : l.holding.matching.places.items ≡ places_in l.instance (take l.at l.pairs);
   none : (j : ℕ) → j < l.at → ¬ IsBreach l.instance l.pairs j;
 }

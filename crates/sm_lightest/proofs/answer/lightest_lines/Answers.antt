@@ -1,4 +1,4 @@
-use Rattle.std.proofs.Common.{◌∙◌, refl, ap}
+use Rattle.std.proofs.Common.{◌∙◌, ap}
 use Rattle.sm_answer.proofs.AnswerLemmas.{same_some, same_is, joined_some, joined_is, given_right, given_some}
 use Rattle.sm_market.specs.Pairing.{Paired}
 use Rattle.sm_market.specs.Vectors.{rows_of}
@@ -16,8 +16,8 @@ invariant_of-result-2 c =
     let first = c.chain-chain.result.now.first in
     let values = c.deref.result.now in
     let vectors = c.all_needs-needs.result.now in
-    let x = are_shown poset s.market first (rotations_of values) (rows_of vectors) (rows_of vectors) c.requires.found.market c.chain-chain.ensures.first
-    (ap rotations_of c.deref.ensures.value ∙ c.chain-chain.ensures.rotations) refl c.chain-chain.ensures.poset (record { one_each = c.all_needs-needs.ensures.one_each; of = c.all_needs-needs.ensures.each }) in
+    let x = are_shown poset s.market first (rotations_of values) (rows_of vectors) c.requires.found.market c.chain-chain.ensures.first
+    (ap rotations_of c.deref.ensures.value ∙ c.chain-chain.ensures.rotations) c.chain-chain.ensures.poset c.all_needs-needs.ensures in
     record {
       few = values_few s.market first.places values (rows_of vectors) x;
       one_each = values_each s.market first.places values vectors x;
@@ -34,7 +34,7 @@ returns-clause-right c =
     let needs = rows_of c.all_needs-needs.result.now in
     given_right _ _ _ (weight_given s found first.places rotations needs)
     (joined_is _ _ _ _ (same_is _) (joined_is _ _ _ _ (same_is _) (joined_is _ _ _ _ (same_is _) (joined_is _ _ _ _ (same_is _) (joined_is _ _ _ _ (same_is _) (joined_is _ _ _ _ (same_is _) (same_is _)))))))
-    (weight_right c.args.instance.now s found first.places rotations needs c.requires.seats c.requires.seating c.requires.found c.chain-chain.ensures.poset
+    (weight_right c.args.instance.now s found first.places rotations needs c.requires.seats c.proposer_count-count.ensures.instance c.requires.seating c.requires.found c.chain-chain.ensures.poset
     (ap (λ (x : Paired). x.places) c.chain-chain.ensures.first) (ap rotations_of c.deref.ensures.value ∙ c.chain-chain.ensures.rotations) c.all_needs-needs.ensures)
 
 pub returns-clause-some : goal.returns-clause-some
