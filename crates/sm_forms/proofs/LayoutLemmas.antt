@@ -16,10 +16,12 @@ use Rattle.sm_forms.specs.Layouts.{begins, keyword_at, later, behind, left_behin
 use Rattle.sm_forms.specs.Forms.{layouts_of}
 use Rattle.sm_forms.specs.Laws.{WholeIsBegun, closing_of, EndsWith, WholeEnds}
 
+-- where no layout is left, none is left behind more lines
 pub none_left : (lines : List Opening) → left_behind [] lines ≡ []
 none_left [] = refl
 none_left (line ∷ lines) = none_left lines
 
+-- what is left behind lines and more of them is what the latter leave of what the former left
 pub left_on : (layouts : List (List Part)) (xs ys : List Opening) → left_behind layouts (xs ++ ys) ≡ left_behind (left_behind layouts xs) ys
 left_on layouts [] ys = refl
 left_on layouts (x ∷ xs) ys = left_on (filter_map (λ parts. behind parts x) layouts) xs ys
@@ -28,6 +30,7 @@ begun_of : (left : List (List Part)) (ys : List Opening) → list_any is_empty (
 begun_of [] ys e = absurd (false≢true (sym (ap (list_any is_empty) (none_left ys)) ∙ e))
 begun_of (x ∷ xs) ys e = refl
 
+-- the law that the lines of a whole answer begin one
 pub whole_is_begun : WholeIsBegun
 whole_is_begun layouts lines k e =
     begun_of (left_behind layouts (take k lines)) (drop k lines) (ap (list_any is_empty) (sym (left_on layouts (take k lines) (drop k lines)) ∙ ap (left_behind layouts) (take-append-drop k lines)) ∙ e)
@@ -147,6 +150,7 @@ all_end (Room persons) (HeadData.Solve side) = (
 )
 all_end (Room persons) _ = tt
 
+-- the law that a whole answer ends with a closing line
 pub whole_ends : WholeEnds
 whole_ends input head [] e = absurd (not_empty (closing_of head) (layouts_of input head) (all_end input head) e)
 whole_ends input head (line ∷ lines) e = ends_behind (closing_of head) [] line (filter_map (λ parts. behind parts line) (layouts_of input head)) lines (first_left (closing_of head) line (layouts_of input head) (all_end input head)) e

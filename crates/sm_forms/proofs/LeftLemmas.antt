@@ -16,5 +16,6 @@ none_left parts at h = elim (lt_or_le at (length parts)) [
   | inr more ↦ eq-eqb at (length parts) (omega (arith, h, more)) ∙ ap (λ ps. is_empty ps || false) (sym (drop_all at parts more))
 ]
 
+-- a layout is used up where the place in it is past its last part
 pub whole_left : (layout : Layout) → layout.fits ≡ true → layout.at ≤ length layout.parts.items → nat_eq layout.at (length layout.parts.items) ≡ list_any is_empty (lefts_of layout)
 whole_left layout fits h = none_left layout.parts.items layout.at h ∙ ap (λ t. list_any is_empty (if t then drop layout.at layout.parts.items ∷ [] else [])) (sym fits)

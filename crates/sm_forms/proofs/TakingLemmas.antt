@@ -31,22 +31,26 @@ left_next layouts lefts next lines line is e =
     e ∙ ap (filter_map (λ parts. behind parts (opening_of line))) is ∙ sym (left_on layouts (map opening_of lines) (opening_of line ∷ []))
     ∙ ap (left_behind layouts) (sym (map-append opening_of lines (line ∷ [])))
 
+-- they are the layouts that go on behind the line
 pub lefts_next : (input : Input) (lines : List LineData) (lefts next : List (List Part)) (line : LineData) → lines ≢ [] → HasLefts input lines lefts
     → next ≡ filter_map (λ parts. behind parts (opening_of line)) lefts → HasLefts input (lines ++ line ∷ []) next
 lefts_next input [] lefts next line some h e = absurd (some refl)
 lefts_next input (LineData.Answer head ∷ lines) lefts next line some h e = left_next (layouts_of input head) lefts next lines line h e
 lefts_next input (_ ∷ lines) lefts next line some h e = absurd h
 
+-- while some layout is left the lines begin an answer
 pub begun_next : (input : Input) (lines : List LineData) (lefts : List (List Part)) → lines ≢ [] → HasLefts input lines lefts
     → (if is_empty lefts then false else true) ≡ is_placed is_begun input lines
 begun_next input [] lefts some h = absurd (some refl)
 begun_next input (LineData.Answer head ∷ lines) lefts some h = ap (λ left. if is_empty left then false else true) h
 begun_next input (_ ∷ lines) lefts some h = absurd h
 
+-- with one more there are lines
 pub some_more : (lines : List LineData) (line : LineData) → lines ++ line ∷ [] ≢ []
 some_more [] line e = cc
 some_more (x ∷ lines) line e = cc
 
+-- lines that are read are there as data
 pub not_empty : (items : List Line) → 1 ≤ length items → map line_of items ≢ []
 not_empty [] h e = absurd (omega (arith, h))
 not_empty (x ∷ items) h e = cc
@@ -56,6 +60,7 @@ pub and_left : (a b : Bool) → (a && b) ≡ true → a ≡ true
 and_left true b e = refl
 and_left false b e = e
 
+-- the second of two tests that pass passes
 pub and_right : (a b : Bool) → (a && b) ≡ true → b ≡ true
 and_right true b e = e
 and_right false b e = absurd (false≢true e)
@@ -64,6 +69,7 @@ both : (a b : Bool) → a ≡ true → b ≡ true → (a && b) ≡ true
 both true b e f = f
 both false b e f = absurd (false≢true e)
 
+-- one more line that passes passes with those that do
 pub all_more : (p : LineData → Bool) (xs : List LineData) (x : LineData) → list_all p xs ≡ true → p x ≡ true → list_all p (xs ++ x ∷ []) ≡ true
 all_more p [] x h e = both (p x) true e refl
 all_more p (y ∷ xs) x h e = both (p y) (list_all p (xs ++ x ∷ [])) (and_left (p y) (list_all p xs) h) (all_more p xs x (and_right (p y) (list_all p xs) h) e)
@@ -88,6 +94,7 @@ begun : (input : Input) (lines : List LineData) → is_placed is_begun input lin
 begun input [] e = tt
 begun input (x ∷ lines) e = e
 
+-- the lines so far are of the form and have the first texts, and these others stand behind them
 pub record AreTaken (input : Input) (texts : List (List ℕ)) (answer : Answer) (rest : List (List ℕ)) : Type 0 where
   pub so_far : IsSoFar input answer
   pub sound : All (IsLineOf input) (lines_in answer)
@@ -95,6 +102,7 @@ pub record AreTaken (input : Input) (texts : List (List ℕ)) (answer : Answer) 
   pub placed : IsBegun input (lines_in answer)
   pub spelled : texts ≡ map (text_of_line input) (lines_in answer) ++ rest
 
+-- at first all texts stand behind them
 pub taken_none : (input : Input) (answer : Answer) (texts : List (List ℕ)) → IsSoFar input answer → lines_in answer ≡ [] → AreTaken input texts answer texts
 taken_none input answer texts so_far none = record {
   so_far = so_far;
@@ -104,6 +112,7 @@ taken_none input answer texts so_far none = record {
   spelled = ap (λ lines. map (text_of_line input) lines ++ texts) (sym none);
 }
 
+-- one text more was taken
 pub taken_more : (input : Input) (texts : List (List ℕ)) (before after : Answer) (text : List ℕ) (rest : List (List ℕ))
     → AreTaken input texts before (text ∷ rest) → TookText input before after text → AreTaken input texts after rest
 taken_more input texts before after text rest t k =
@@ -126,6 +135,7 @@ taken_more input texts before after text rest t k =
           ∙ ap (λ lines. map (text_of_line input) lines ++ rest) (sym more);
     }
 
+-- there is one line more behind a line that was taken
 pub taken_long : (input : Input) (before after : Answer) (line : LineData) → Took input before after line → length (lines_in after) ≡ length (lines_in before) + 1
 taken_long input before after line t = ap length t.lines ∙ length-append (lines_in before) (line ∷ [])
 
@@ -208,6 +218,7 @@ module _ (input : Input) (h : IsInput input) (texts : List (List ℕ)) (answer :
               let has : HasText input text x = record { sound = All-head (IsLineOf input) x [] s; spelled = (let u : text ≡ text_of_line input x = cc in sym u) } in
               false≢true (sym (cant x has) ∙ both (fits input x) (is_placed is_begun input (lines_in answer ++ x ∷ [])) fit place)
 
+  -- its text is the first that isn't of the form
   pub bad_line : (text : List ℕ) (rest : List (List ℕ)) → AreTaken input texts answer (text ∷ rest)
       → ((line : LineData) → HasText input text line → may_stand input (lines_in answer) line ≡ false) → IsMisplaced input texts (length (lines_in answer))
   bad_line text rest t cant =
@@ -242,22 +253,21 @@ module _ (input : Input) (h : IsInput input) (texts : List (List ℕ)) (answer :
           none_left [] e = refl
           none_left (x ∷ m) e = absurd cc
 
-  -- or the lines are a whole answer
-  pub all_taken : AreTaken input texts answer [] → is_placed is_whole input (lines_in answer) ≡ true → AreAnswer input texts (lines_in answer)
-  all_taken t whole = record { read = sym (t.spelled ∙ append-nil so_far); right = t.sound; fitting = t.fitting; placed = whole }
-
 -- one line more of a text
 abbrev pub texts_from : List ℕ → ℕ → List (List ℕ)
 texts_from bytes from = map content (lines (drop from bytes))
 
+-- the text of the line at a place stands in front of those behind it
 pub texts_step : (bytes : List ℕ) (at : ℕ) (span : LineSpan) → IsLineAt bytes at span
     → texts_from bytes at ≡ take (span.stop - span.start) (drop span.start bytes) ∷ texts_from bytes span.next
 texts_step bytes at span h = ap (map content) h.leads ∙ ap (λ t. t ∷ texts_from bytes span.next) (sym (line_text bytes at span h))
 
+-- and behind it there is one line less
 pub fewer_lines : (bytes : List ℕ) (at : ℕ) (span : LineSpan) → IsLineAt bytes at span → length (lines (drop at bytes)) ≡ length (lines (drop span.next bytes)) + 1
 fewer_lines bytes at span h =
     let e : length (lines (drop at bytes)) ≡ length (first_line (drop at bytes) ∷ lines (drop span.next bytes)) = ap length h.leads in
     omega (arith, e)
 
+-- past the end there are none
 pub texts_over : (bytes : List ℕ) (at : ℕ) → length bytes ≤ at → texts_from bytes at ≡ []
 texts_over bytes at le = ap (λ rest. map content (lines rest)) (drop_all at bytes le)

@@ -20,6 +20,7 @@ use Rattle.sm_forms.specs.Seats.{is_seat}
 
 -- The layouts of an answer behind its head. An answer that can't be checked has none.
 
+-- what closes an answer
 abbrev pub closing : List Part
 closing = One keyword.End ∷ []
 
@@ -27,27 +28,35 @@ closing = One keyword.End ∷ []
 abbrev pub first_turn : ℕ → Turn
 first_turn lines = record { lines = lines; place = 0; number = 1 }
 
+-- any number of such blocks
 abbrev pub blocks_of : ℕ → Part
 blocks_of lines = Blocks (first_turn lines)
 
+-- pairs
 abbrev pub solve_layout : List Part
 solve_layout = Many keyword.Pair ∷ closing
 
+-- `none`, and the parties that show it
 abbrev pub parties_layout : List Part
 parties_layout = One keyword.Nothing ∷ Many keyword.Party ∷ closing
 
+-- the first and the last seats, and the reduced lists of both sides
 abbrev pub reduced_layout : List Part
 reduced_layout = Many keyword.First ∷ Many keyword.Last ∷ Many keyword.Proposer ∷ Many keyword.Reviewer ∷ closing
 
+-- the first seats, and rotations with their needs
 abbrev pub rotations_layout : List Part
 rotations_layout = Many keyword.First ∷ blocks_of 2 ∷ closing
 
+-- vectors, and a last line with this keyword
 abbrev pub list_layout : Keyword → List Part
 list_layout last = Many keyword.Vector ∷ One last ∷ []
 
+-- the regret, and pairs
 abbrev pub regret_layout : List Part
 regret_layout = One keyword.Regret ∷ Many keyword.Pair ∷ closing
 
+-- the first seats, rotations with their needs and gains, the flow, the figures of the set that is taken, and pairs
 abbrev pub weight_layout : List Part
 weight_layout =
     Many keyword.First
@@ -60,6 +69,7 @@ weight_layout =
     ∷ Many keyword.Pair
     ∷ closing
 
+-- the pairs of two matchings, and those that are chosen of them
 abbrev pub given_layout : List Part
 given_layout = Many keyword.Left ∷ Many keyword.Right ∷ Many keyword.Pair ∷ closing
 
@@ -80,6 +90,7 @@ abbrev pub layouts_of_room : HeadData → List (List Part)
 layouts_of_room (HeadData.Solve side) = solve_layout ∷ parties_layout ∷ []
 layouts_of_room _ = []
 
+-- over an instance of either kind
 abbrev pub layouts_of : Input → HeadData → List (List Part)
 layouts_of (Two w) head = layouts_of_two head
 layouts_of (Room persons) head = layouts_of_room head
@@ -91,11 +102,13 @@ number_in (LineData.Needs i needed) = i
 number_in (LineData.Gain i gain) = i
 number_in _ = 0
 
+-- the keyword and the number of a line
 abbrev pub opening_of : LineData → Opening
 opening_of line = record { keyword = keyword_of line; number = number_in line }
 
 -- What a line has to be on its own.
 
+-- a vector has one number for each proposer
 abbrev pub has_one_each : Written → List ℕ → Bool
 has_one_each w v = length v == length w.proposers
 
@@ -111,11 +124,13 @@ abbrev pub begins_with_lowest : List ℕ → Bool
 begins_with_lowest [] = false
 begins_with_lowest (x ∷ xs) = list_all (nat_le x) xs
 
+-- what a line over roommates has to be
 abbrev pub fits_room : LineData → Bool
 fits_room (LineData.Pair x y) = nat_lt x y
 fits_room (LineData.Party persons) = begins_with_lowest persons
 fits_room _ = true
 
+-- what a line over an instance of either kind has to be
 abbrev pub fits : Input → LineData → Bool
 fits (Two w) line = fits_two w line
 fits (Room persons) line = fits_room line
@@ -135,9 +150,11 @@ pub record AreLines (test : List (List Part) → List Opening → Bool)
   pub fitting : list_all (fits input) lines ≡ true
   pub placed : is_placed test input lines ≡ true
 
+-- the texts are the first of an answer with these lines
 abbrev pub AreFront : Input → List (List ℕ) → List LineData → Type 0
 AreFront input texts lines = AreLines is_begun input texts lines
 
+-- the texts are those of an answer with these lines
 abbrev pub AreAnswer : Input → List (List ℕ) → List LineData → Type 0
 AreAnswer input texts lines = AreLines is_whole input texts lines
 

@@ -54,5 +54,6 @@ number_of keyword.Right = 19
 number_of keyword.End = 20
 number_of keyword.Other = 21
 
+-- whether two keywords are one
 abbrev pub is_same : Keyword → Keyword → Bool
 is_same a b = number_of a == number_of b

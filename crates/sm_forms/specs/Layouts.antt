@@ -10,6 +10,7 @@ use Rattle.sm_forms.specs.declared.layouts.Part.TheVariants.{One, Many, Blocks}
 use Rattle.sm_forms.specs.declared.layouts.Turn.{Turn}
 use Rattle.sm_forms.specs.declared.layouts.Opening.{Opening}
 
+-- a line begins with a keyword
 abbrev pub begins : Opening → Keyword → Bool
 begins line word = is_same line.keyword word
 
@@ -39,6 +40,7 @@ abbrev pub left_behind : List (List Part) → List Opening → List (List Part)
 left_behind layouts [] = layouts
 left_behind layouts (line ∷ lines) = left_behind (filter_map (λ parts. behind parts line) layouts) lines
 
+-- there is nothing in a list
 abbrev pub is_empty : {X : Type 0} → List X → Bool
 is_empty [] = true
 is_empty (x ∷ xs) = false
@@ -47,5 +49,6 @@ is_empty (x ∷ xs) = false
 abbrev pub is_begun : List (List Part) → List Opening → Bool
 is_begun layouts lines = if is_empty (left_behind layouts lines) then false else true
 
+-- the lines are a whole answer in one of the layouts
 abbrev pub is_whole : List (List Part) → List Opening → Bool
 is_whole layouts lines = list_any is_empty (left_behind layouts lines)

@@ -34,6 +34,7 @@ IsFit part line fit.Takes = TakesIt part line
 IsFit part line fit.Passes = (parts : List Part) → behind (part ∷ parts) line ≡ behind parts line
 IsFit part line fit.Ends = (parts : List Part) → behind (part ∷ parts) line ≡ None
 
+-- the part at a place
 abbrev pub part_at : List Part → ℕ → Part
 part_at parts at = slice_index_or parts at (One keyword.Other)
 
@@ -48,14 +49,17 @@ pub record IsTurn (turn : Turn) : Type 0 where
   pub within : turn.place < turn.lines
   pub few : turn.lines ≤ 3
 
+-- if a part is of blocks, its turn is one of a block
 abbrev pub IsTurnPart : Part → Type 0
 IsTurnPart (One word) = Unit {0}
 IsTurnPart (Many word) = Unit {0}
 IsTurnPart (Blocks turn) = IsTurn turn
 
+-- so it is of all parts
 abbrev pub AreTurns : List Part → Type 0
 AreTurns parts = All IsTurnPart parts
 
+-- the place in a layout is among its parts or just past them, and its blocks have their turns
 pub record IsRunning (layout : Layout) : Type 0 where
   pub within : layout.at ≤ length layout.parts.items
   pub turns : AreTurns layout.parts.items
@@ -68,6 +72,7 @@ lefts_of layout = if layout.fits then drop layout.at layout.parts.items ∷ [] e
 abbrev pub lefts_in : Places → List (List Part)
 lefts_in places = lefts_of places.one ++ lefts_of places.other
 
+-- so it is of both layouts
 pub record AreRunning (places : Places) : Type 0 where
   pub one : IsRunning places.one
   pub other : IsRunning places.other

@@ -8,6 +8,7 @@ use Rattle.sm_seats.specs.SeatMarket.{seat_count, seats_before}
 abbrev pub is_seat : Written → Seat → Bool
 is_seat w seat = nat_le 1 seat.number && nat_le seat.number (seat_count w seat.reviewer)
 
+-- the reviewer of a pair's seat has it
 abbrev pub pair_has_seat : Written → ℕ × Seat → Bool
 pair_has_seat w pair = is_seat w pair.1
 
@@ -15,6 +16,7 @@ pair_has_seat w pair = is_seat w pair.1
 abbrev pub seat_number : Written → Seat → ℕ
 seat_number w seat = seats_before w seat.reviewer + (seat.number - 1)
 
+-- the numbers of seats in the market
 abbrev pub seat_numbers : Written → List Seat → List ℕ
 seat_numbers w seats = map (seat_number w) seats
 
@@ -22,5 +24,6 @@ seat_numbers w seats = map (seat_number w) seats
 abbrev pub numbered : Written → ℕ × Seat → ℕ × ℕ
 numbered w pair = (pair.0, seat_number w pair.1)
 
+-- the same of several pairs
 abbrev pub all_numbered : Written → List (ℕ × Seat) → List (ℕ × ℕ)
 all_numbered w pairs = map (numbered w) pairs

@@ -18,6 +18,7 @@ abbrev pub AreFirsts : Input → List ℕ → Type 0
 AreFirsts (Two w) firsts = firsts ≡ first_seats_of w
 AreFirsts (Room persons) firsts = Unit {0}
 
+-- the lines that were taken, as data
 abbrev pub lines_in : Answer → List LineData
 lines_in answer = map line_of answer.lines.items
 
@@ -27,6 +28,7 @@ HasLefts input [] lefts = Unit {0}
 HasLefts input (LineData.Answer head ∷ lines) lefts = lefts ≡ left_behind (layouts_of input head) (map opening_of lines)
 HasLefts input _ lefts = ⊥
 
+-- what is known of an answer while its lines are taken
 pub record IsSoFar (input : Input) (answer : Answer) : Type 0 where
   pub lefts : HasLefts input (lines_in answer) (lefts_in answer.left)
   pub running : AreRunning answer.left
@@ -48,6 +50,7 @@ pub record Took (input : Input) (before after : Answer) (line : LineData) : Type
   pub stands : may_stand input (lines_in before) line ≡ true
   pub so_far : IsSoFar input after
 
+-- true says that the line was taken, and false that it may not stand there
 abbrev pub Takes : Input → (before after : Answer) → LineData → Bool → Type 0
 Takes input before after line true = Took input before after line
 Takes input before after line false = may_stand input (lines_in before) line ≡ false
@@ -58,6 +61,7 @@ pub record TookText (input : Input) (before after : Answer) (text : List ℕ) : 
   pub has : HasText input text line
   pub took : Took input before after line
 
+-- true says that a line with the text was taken, and false that none may stand there
 abbrev pub TakesText : Input → (before after : Answer) → List ℕ → Bool → Type 0
 TakesText input before after text true = TookText input before after text
 TakesText input before after text false =

@@ -1,6 +1,6 @@
 //! An answer, as its lines come.
 
-ghost use Rattle.std.specs.Prelude.{◌≡◌, ◌∷◌, [], map, IfOk};
+ghost use Rattle.std.specs.Prelude.{◌≡◌, [], IfOk};
 ghost use Rattle.sm_instance.specs.declared.inputs.Input.{Input};
 ghost use Rattle.sm_report.specs.Lines.{line_of};
 ghost use Rattle.sm_report.specs.Sound.{IsLineOf};
@@ -56,11 +56,12 @@ impl Answer {
         Ok(true)
     }
 
-    // Goes behind the next line, and tells whether it has a place there.
+    /// Goes behind the next line, and tells whether it has a place there.
     fn place(&mut self, alloc: Global, input: &Input, line: &Line) -> Result<bool, AllocError>
         requires so_far { IsSoFar input.now self.old }
         requires line { IsLineOf input.now (line_of line.now) }
-        ensures { IfOk result (λ placed. Placed input.now self.old self.new (line_of line.now) placed) }
+        ensures { IfOk result (λ placed. Placed input.now self.old self.new (line_of line.now)
+            placed) }
     {
         if self.lines.is_empty() {
             return self.begin(alloc, input, line);
@@ -69,11 +70,12 @@ impl Answer {
         Ok(self.left.are_begun())
     }
 
-    // Begins the layouts of a head, and tells whether the line is one and there are any.
+    /// Begins the layouts of a head, and tells whether the line is one and there are any.
     fn begin(&mut self, alloc: Global, input: &Input, line: &Line) -> Result<bool, AllocError>
         requires so_far { IsSoFar input.now self.old }
         requires none { self.old.lines.items ≡ [] }
-        ensures { IfOk result (λ placed. Placed input.now self.old self.new (line_of line.now) placed) }
+        ensures { IfOk result (λ placed. Placed input.now self.old self.new (line_of line.now)
+            placed) }
     {
         match line {
             Line::Answer(head) => {

@@ -30,7 +30,7 @@ pub(crate) fn fits(input: &Input, firsts: &[u32], line: &Line) -> bool
     }
 }
 
-// The same over an instance with two sides.
+/// The same over an instance with two sides.
 fn fits_two(instance: &Instance, firsts: &[u32], line: &Line) -> bool
     requires firsts { firsts.now ≡ first_seats_of instance.now }
     requires line { IsPrintable (Two instance.now) (line_of line.now) }
@@ -49,7 +49,7 @@ fn fits_two(instance: &Instance, firsts: &[u32], line: &Line) -> bool
     }
 }
 
-// Whether a head has one number for each proposer where it has a cursor.
+/// Whether a head has one number for each proposer where it has a cursor.
 fn cursor_fits(instance: &Instance, head: &Head) -> bool
     ensures { result ≡ fits_two instance.now (LineData.Answer (head_of head.now)) }
 {
@@ -59,14 +59,14 @@ fn cursor_fits(instance: &Instance, head: &Head) -> bool
     }
 }
 
-// Whether a vector has one number for each proposer.
+/// Whether a vector has one number for each proposer.
 fn has_one_each(instance: &Instance, v: &[u32]) -> bool
     ensures { result ≡ has_one_each instance.now v.now }
 {
     v.len() == instance.proposer_count() as usize
 }
 
-// Whether a seat is one of the instance.
+/// Whether a seat is one of the instance.
 fn is_seat(instance: &Instance, firsts: &[u32], seat: Seat) -> bool
     requires firsts { firsts.now ≡ first_seats_of instance.now }
     requires there { seat.reviewer < length instance.now.reviewers }
@@ -75,7 +75,7 @@ fn is_seat(instance: &Instance, firsts: &[u32], seat: Seat) -> bool
     1 <= seat.number && seat.number <= seat_count(instance, firsts, seat.reviewer)
 }
 
-// How many seats a reviewer has.
+/// How many seats a reviewer has.
 fn seat_count(instance: &Instance, firsts: &[u32], r: u32) -> u32
     requires firsts { firsts.now ≡ first_seats_of instance.now }
     requires there { r < length instance.now.reviewers }
@@ -85,7 +85,7 @@ fn seat_count(instance: &Instance, firsts: &[u32], r: u32) -> u32
     firsts[r as usize + 1] - firsts[r as usize]
 }
 
-// Whether all seats are of the instance.
+/// Whether all seats are of the instance.
 fn are_seats(instance: &Instance, firsts: &[u32], seats: &[Seat]) -> bool
     requires firsts { firsts.now ≡ first_seats_of instance.now }
     requires there { All (λ seat. seat.reviewer < length instance.now.reviewers) seats.now }
@@ -99,7 +99,7 @@ fn are_seats(instance: &Instance, firsts: &[u32], seats: &[Seat]) -> bool
     true
 }
 
-// Whether the seats of all pairs are.
+/// Whether the seats of all pairs are.
 fn have_seats(instance: &Instance, firsts: &[u32], pairs: &[(u32, Seat)]) -> bool
     requires firsts { firsts.now ≡ first_seats_of instance.now }
     requires there { All (λ pair. pair.1.reviewer < length instance.now.reviewers) pairs.now }
@@ -113,7 +113,7 @@ fn have_seats(instance: &Instance, firsts: &[u32], pairs: &[(u32, Seat)]) -> boo
     true
 }
 
-// Whether a line over roommates has its lowest person first.
+/// Whether a line over roommates has its lowest person first.
 fn fits_room(line: &Line) -> bool
     ensures { result ≡ fits_room (line_of line.now) }
 {
@@ -124,7 +124,7 @@ fn fits_room(line: &Line) -> bool
     }
 }
 
-// Whether the lowest person comes first.
+/// Whether the lowest person comes first.
 fn begins_with_lowest(persons: &[u32]) -> bool
     ensures { result ≡ begins_with_lowest persons.now }
 {
@@ -134,7 +134,7 @@ fn begins_with_lowest(persons: &[u32]) -> bool
     }
 }
 
-// Whether all persons are at least this one.
+/// Whether all persons are at least this one.
 fn are_above(lowest: u32, persons: &[u32]) -> bool
     ensures { result ≡ list_all (nat_le lowest) persons.now }
 {

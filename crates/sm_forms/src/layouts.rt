@@ -1,6 +1,6 @@
 //! Layouts: which lines of an answer follow which.
 
-ghost use Rattle.std.specs.Prelude.{◌≡◌, ◌∷◌, ◌≤◌, ◌<◌, ◌++◌, [], true, false, None, if◌then◌else◌, filter_map, drop, length, IfOk, MatchOption};
+ghost use Rattle.std.specs.Prelude.{◌≡◌, ◌∷◌, ◌≤◌, ◌<◌, [], true, false, None, if◌then◌else◌, filter_map, drop, length, IfOk, MatchOption};
 ghost use Rattle.std.specs.List.{list_any};
 ghost use Rattle.sm_instance.specs.declared.inputs.Input.TheVariants.{Two, Room};
 ghost use Rattle.sm_report.specs.Heads.{head_of};
@@ -53,7 +53,7 @@ pub(crate) fn opening_of(line: &Line) -> Opening
     }
 }
 
-// The number of the rotation with which a line begins.
+/// The number of the rotation with which a line begins.
 fn number_in(line: &Line) -> u32
     ensures { result ≡ number_in (line_of line.now) }
 {
@@ -65,7 +65,7 @@ fn number_in(line: &Line) -> u32
     }
 }
 
-// The keyword of the line at a place of a block.
+/// The keyword of the line at a place of a block.
 fn keyword_at(place: u32) -> Keyword
     ensures { result ≡ keyword_at place }
 {
@@ -78,7 +78,7 @@ fn keyword_at(place: u32) -> Keyword
     }
 }
 
-// Whose turn it is behind the line whose turn it was.
+/// Whose turn it is behind the line whose turn it was.
 fn later(turn: Turn) -> Turn
     requires turn { IsTurn turn }
     requires number { turn.number ≤ 4294967294 }
@@ -100,18 +100,18 @@ fn later(turn: Turn) -> Turn
     }
 }
 
-// What a part does with a line.
+/// What a part does with a line.
 #[derive(Clone, Copy)]
 enum Fit {
-    // It takes the line.
+    /// It takes the line.
     Takes,
-    // It leaves the line to the parts behind it.
+    /// It leaves the line to the parts behind it.
     Passes,
-    // No part may take it.
+    /// No part may take it.
     Ends,
 }
 
-// What a part does with a line.
+/// What a part does with a line.
 fn fit_part(part: Part, line: Opening) -> Fit
     ensures { IsFit part line result }
 {
@@ -130,7 +130,7 @@ fn fit_part(part: Part, line: Opening) -> Fit
     }
 }
 
-// What blocks do with it.
+/// What blocks do with it.
 fn fit_block(turn: Turn, line: Opening) -> Fit
     ensures { IsFit (Part.Blocks turn) line result }
 {
@@ -149,7 +149,7 @@ fn fit_block(turn: Turn, line: Opening) -> Fit
     }
 }
 
-// The part that takes a line, of those from a place on.
+/// The part that takes a line, of those from a place on.
 fn taking_part(parts: &[Part], from: usize, line: Opening) -> Option<usize>
     requires { from ≤ length parts.now }
     ensures { MatchOption result
@@ -166,7 +166,7 @@ fn taking_part(parts: &[Part], from: usize, line: Opening) -> Option<usize>
     None
 }
 
-// What is left of a layout behind some lines, if they fit there.
+/// What is left of a layout behind some lines, if they fit there.
 #[derive(Drop)]
 pub(crate) struct Layout {
     parts: Vec<Part>,
@@ -175,7 +175,7 @@ pub(crate) struct Layout {
 }
 
 impl Layout {
-    // A layout of which all is left.
+    /// A layout of which all is left.
     fn of(parts: Vec<Part>) -> Layout
         requires { AreTurns parts.items }
         ensures left { lefts_of result ≡ parts.items ∷ [] }
@@ -188,7 +188,7 @@ impl Layout {
         }
     }
 
-    // No layout.
+    /// No layout.
     fn none(alloc: Global) -> Layout
         ensures left { lefts_of result ≡ [] }
         ensures running { IsRunning result }
@@ -200,11 +200,12 @@ impl Layout {
         }
     }
 
-    // Goes behind the next line, where it fits.
+    /// Goes behind the next line, where it fits.
     fn take(&mut self, line: Opening)
         requires running { IsRunning self.old }
         requires number { line.number ≤ 4294967294 }
-        ensures left { lefts_of self.new ≡ filter_map (λ parts. behind parts line) (lefts_of self.old) }
+        ensures left { lefts_of self.new ≡ filter_map (λ parts. behind parts line)
+            (lefts_of self.old) }
         ensures running { IsRunning self.new }
     {
         if !self.fits {
@@ -216,13 +217,14 @@ impl Layout {
         }
     }
 
-    // Takes a line at a part that takes it.
+    /// Takes a line at a part that takes it.
     fn take_at(&mut self, at: usize, line: Opening)
         requires running { IsRunning self.old }
         requires number { line.number ≤ 4294967294 }
         requires taken { IsTaken self.old.parts.items self.old.at line at }
         requires fits { self.old.fits ≡ true }
-        ensures left { lefts_of self.new ≡ filter_map (λ parts. behind parts line) (lefts_of self.old) }
+        ensures left { lefts_of self.new ≡ filter_map (λ parts. behind parts line)
+            (lefts_of self.old) }
         ensures running { IsRunning self.new }
     {
         match self.parts[at] {
@@ -235,7 +237,7 @@ impl Layout {
         }
     }
 
-    // Whether they are a whole answer.
+    /// Whether they are a whole answer.
     fn is_whole(&self) -> bool
         requires { IsRunning self.now }
         ensures { result ≡ list_any is_empty (lefts_of self.now) }
@@ -269,7 +271,8 @@ impl Places {
     ///
     /// `AllocError` where memory ran out, and only then.
     pub(crate) fn of(alloc: Global, input: &Input, head: &Head) -> Result<Places, AllocError>
-        ensures left { IfOk result (λ places. lefts_in places ≡ layouts_of input.now (head_of head.now)) }
+        ensures left { IfOk result (λ places. lefts_in places
+            ≡ layouts_of input.now (head_of head.now)) }
         ensures running { IfOk result (λ places. AreRunning places) }
     {
         match input {
@@ -282,7 +285,8 @@ impl Places {
     pub(crate) fn take(&mut self, line: Opening)
         requires running { AreRunning self.old }
         requires number { line.number ≤ 4294967294 }
-        ensures left { lefts_in self.new ≡ filter_map (λ parts. behind parts line) (lefts_in self.old) }
+        ensures left { lefts_in self.new ≡ filter_map (λ parts. behind parts line)
+            (lefts_in self.old) }
         ensures running { AreRunning self.new }
     {
         self.one.take(line);
@@ -305,7 +309,7 @@ impl Places {
     }
 }
 
-// Those over an instance with two sides.
+/// Those over an instance with two sides.
 fn places_of_two(alloc: Global, head: &Head) -> Result<Places, AllocError>
     ensures left { IfOk result (λ places. lefts_in places ≡ layouts_of_two (head_of head.now)) }
     ensures running { IfOk result (λ places. AreRunning places) }
@@ -328,7 +332,7 @@ fn places_of_two(alloc: Global, head: &Head) -> Result<Places, AllocError>
     }
 }
 
-// Those over one of roommates.
+/// Those over one of roommates.
 fn places_of_room(alloc: Global, head: &Head) -> Result<Places, AllocError>
     ensures left { IfOk result (λ places. lefts_in places ≡ layouts_of_room (head_of head.now)) }
     ensures running { IfOk result (λ places. AreRunning places) }
@@ -342,7 +346,7 @@ fn places_of_room(alloc: Global, head: &Head) -> Result<Places, AllocError>
     }
 }
 
-// A single layout.
+/// A single layout.
 fn only(alloc: Global, layout: Layout) -> Places
     requires { IsRunning layout }
     ensures left { lefts_in result ≡ lefts_of layout }
@@ -354,7 +358,7 @@ fn only(alloc: Global, layout: Layout) -> Places
     }
 }
 
-// The layout of a matching.
+/// The layout of a matching.
 fn solve_layout(alloc: Global) -> Result<Layout, AllocError>
     ensures left { IfOk result (λ layout. lefts_of layout ≡ solve_layout ∷ []) }
     ensures running { IfOk result (λ layout. IsRunning layout) }
@@ -362,7 +366,7 @@ fn solve_layout(alloc: Global) -> Result<Layout, AllocError>
     Ok(Layout::of(vec![in alloc; Part::Many(Keyword::Pair), Part::One(Keyword::End)]?))
 }
 
-// The layout of parties.
+/// The layout of parties.
 fn parties_layout(alloc: Global) -> Result<Layout, AllocError>
     ensures left { IfOk result (λ layout. lefts_of layout ≡ parties_layout ∷ []) }
     ensures running { IfOk result (λ layout. IsRunning layout) }
@@ -374,7 +378,7 @@ fn parties_layout(alloc: Global) -> Result<Layout, AllocError>
     ]?))
 }
 
-// The layout of `reduced`.
+/// The layout of `reduced`.
 fn reduced_layout(alloc: Global) -> Result<Layout, AllocError>
     ensures left { IfOk result (λ layout. lefts_of layout ≡ reduced_layout ∷ []) }
     ensures running { IfOk result (λ layout. IsRunning layout) }
@@ -388,7 +392,7 @@ fn reduced_layout(alloc: Global) -> Result<Layout, AllocError>
     ]?))
 }
 
-// The layout of `rotations`.
+/// The layout of `rotations`.
 fn rotations_layout(alloc: Global) -> Result<Layout, AllocError>
     ensures left { IfOk result (λ layout. lefts_of layout ≡ rotations_layout ∷ []) }
     ensures running { IfOk result (λ layout. IsRunning layout) }
@@ -400,7 +404,7 @@ fn rotations_layout(alloc: Global) -> Result<Layout, AllocError>
     ]?))
 }
 
-// The layout of `list` with this last line.
+/// The layout of `list` with this last line.
 fn list_layout(alloc: Global, last: Keyword) -> Result<Layout, AllocError>
     ensures left { IfOk result (λ layout. lefts_of layout ≡ list_layout last ∷ []) }
     ensures running { IfOk result (λ layout. IsRunning layout) }
@@ -408,7 +412,7 @@ fn list_layout(alloc: Global, last: Keyword) -> Result<Layout, AllocError>
     Ok(Layout::of(vec![in alloc; Part::Many(Keyword::Vector), Part::One(last)]?))
 }
 
-// The layout of `regret`.
+/// The layout of `regret`.
 fn regret_layout(alloc: Global) -> Result<Layout, AllocError>
     ensures left { IfOk result (λ layout. lefts_of layout ≡ regret_layout ∷ []) }
     ensures running { IfOk result (λ layout. IsRunning layout) }
@@ -420,7 +424,7 @@ fn regret_layout(alloc: Global) -> Result<Layout, AllocError>
     ]?))
 }
 
-// The layout of `weight`.
+/// The layout of `weight`.
 fn weight_layout(alloc: Global) -> Result<Layout, AllocError>
     ensures left { IfOk result (λ layout. lefts_of layout ≡ weight_layout ∷ []) }
     ensures running { IfOk result (λ layout. IsRunning layout) }
@@ -438,7 +442,7 @@ fn weight_layout(alloc: Global) -> Result<Layout, AllocError>
     ]?))
 }
 
-// The layout of `meet` and `join`.
+/// The layout of `meet` and `join`.
 fn given_layout(alloc: Global) -> Result<Layout, AllocError>
     ensures left { IfOk result (λ layout. lefts_of layout ≡ given_layout ∷ []) }
     ensures running { IfOk result (λ layout. IsRunning layout) }
@@ -451,7 +455,7 @@ fn given_layout(alloc: Global) -> Result<Layout, AllocError>
     ]?))
 }
 
-// The turn of the first line of the first of blocks of so many lines.
+/// The turn of the first line of the first of blocks of so many lines.
 fn first_turn(lines: u32) -> Turn
     ensures { result ≡ first_turn lines }
 {

@@ -1,6 +1,6 @@
 //! The numbers of seats in the market of them.
 
-ghost use Rattle.std.specs.Prelude.{◌≡◌, ◌<◌, ◌≤◌, length, map, pred, true, IfOk};
+ghost use Rattle.std.specs.Prelude.{◌≡◌, ◌<◌, length, true, IfOk};
 ghost use Rattle.std.specs.List.{All, list_all};
 ghost use Rattle.sm_seats.specs.SeatMarket.{seat_market};
 ghost use Rattle.sm_seats.specs.Tables.{first_seats_of};
@@ -24,7 +24,9 @@ pub fn seat_number(instance: &Instance, firsts: &[u32], seat: Seat) -> u32
     firsts[seat.reviewer as usize] + (seat.number - 1)
 }
 
-/// A rotation by the numbers of its seats. Takes time and memory in proportion to its pairs.
+/// A rotation by the numbers of its seats in the market, where `firsts` has the number of the first seat of each reviewer.
+/// Proposers, reviewers and the seats of the market are counted from 0, and the seats of a reviewer from 1. Takes time and memory
+/// in proportion to its pairs.
 ///
 /// # Errors
 ///
@@ -48,7 +50,8 @@ pub fn rotation_of(
     Ok(Rotation { pairs: numbered })
 }
 
-/// The numbers of seats, one after another. Takes time and memory in proportion to them.
+/// The numbers of seats in the market, one after another, where `firsts` has the number of the first seat of each reviewer. Seats
+/// of a reviewer are counted from 1, and those of the market from 0. Takes time and memory in proportion to them.
 ///
 /// # Errors
 ///

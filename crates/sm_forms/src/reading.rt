@@ -1,6 +1,6 @@
 //! The lines of an answer, read to the end of a text.
 
-ghost use Rattle.std.specs.Prelude.{◌≡◌, ◌+◌, ◌<◌, ◌^◌, length, map, IfOk, IfErr};
+ghost use Rattle.std.specs.Prelude.{◌+◌, ◌<◌, ◌^◌, length, map, IfOk, IfErr};
 ghost use Rattle.sm_text.specs.Lines.{lines, content};
 ghost use Rattle.sm_instance.specs.Inputs.{IsInput};
 ghost use Rattle.sm_report.specs.Lines.{line_of};
@@ -30,7 +30,8 @@ pub fn read_answer(
 ) -> Result<Vec<Line>, AnswerFault>
     requires firsts { AreFirsts input.now firsts.now }
     requires few { length (lines answer.now) < 2 ^ 32 }
-    ensures lines { IfOk result (λ found. AreAnswer input.now (map content (lines answer.now)) (map line_of found.items)) }
+    ensures lines { IfOk result (λ found. AreAnswer input.now (map content (lines answer.now))
+        (map line_of found.items)) }
     ensures fault { IfErr result (λ f. IsAnswerFault input.now (map content (lines answer.now)) f) }
 {
     let _kind = input.kind();
@@ -57,7 +58,7 @@ pub fn read_answer(
     }
 }
 
-// Takes the text of the next line, and answers `false` where it can't stand there.
+/// Takes the text of the next line, and answers `false` where it can't stand there.
 fn take_text(
     alloc: Global,
     input: &Input,

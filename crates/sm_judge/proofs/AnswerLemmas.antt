@@ -1,12 +1,12 @@
 -- The walk through the lines of an answer: the clauses hold above a line, and something is kept for the lines below.
-use Rattle.std.proofs.Common.{◌≡◌, ℕ, ◌+◌, ◌<◌, ◌≤◌, arith, refl, subst, ⊎_elim, List, [], ◌∷◌, ◌++◌, length, map, take, get_or, Option, None, Some, lit≤}
+use Rattle.std.proofs.Common.{◌≡◌, ℕ, ◌+◌, ◌<◌, ◌≤◌, arith, refl, subst, ⊎_elim, List, [], ◌∷◌, ◌++◌, length, map, take, get_or, Option, None, Some, ap, ◌∙◌, append-nil, lit≤}
 use Rattle.std.specs.Prelude.{All, filter_map}
 use Rattle.std.specs.List.{slice_get, cons_option}
 use Rattle.std.specs.Option.{option_or}
 use Rattle.std.proofs.lemmas.Bool.{cases_lt}
 use Rattle.std.proofs.lemmas.Option.{get_or_from_slice_get}
 use Rattle.std.proofs.lemmas.List.{length-map}
-use Rattle.std.proofs.lemmas.List.Elements.{All-get_or}
+use Rattle.std.proofs.lemmas.List.Elements.{All-get_or, filter_map-append}
 use Rattle.sm_report.specs.declared.lines.Line.{Line}
 use Rattle.sm_report.specs.Lines.{LineData, line_of}
 use Rattle.sm_judge.specs.declared.verdicts.Reason.{Reason}
@@ -21,6 +21,14 @@ pub line_right : (P : LineData → Type 0) (lines : List Line) (k : ℕ) (x : Li
 line_right P lines k x inside is all =
     subst P (get_or_from_slice_get (map line_of lines) k (line_of x) (line_of x) (line_at lines k x inside is))
     (All-get_or P (map line_of lines) k (line_of x) (let long = length-map lines line_of in omega arith) all)
+
+-- what is said with a line that says nothing of the kind, and with one that does
+pub said_same : {X : Type 0} (said : LineData → Option X) (above : List LineData) (x : LineData) → said x ≡ None → filter_map said (above ++ x ∷ []) ≡ filter_map said above
+said_same {X} said above x e =
+    filter_map-append said above (x ∷ []) ∙ ap (λ (o : Option X). filter_map said above ++ cons_option o []) e ∙ append-nil (filter_map said above)
+
+pub said_one : {X : Type 0} (said : LineData → Option X) (above : List LineData) (x : LineData) (y : X) → said x ≡ Some y → filter_map said (above ++ x ∷ []) ≡ filter_map said above ++ y ∷ []
+said_one {X} said above x y e = filter_map-append said above (x ∷ []) ∙ ap (λ (o : Option X). filter_map said above ++ cons_option o []) e
 
 -- the first that is said, with one line more
 pub first_more : {X : Type 0} (said : LineData → Option X) (xs : List X) (x : LineData) → slice_get (xs ++ filter_map said (x ∷ [])) 0 ≡ option_or (slice_get xs 0) (said x)
@@ -74,6 +82,7 @@ least_reason reason.WrongRegret = lit≤ tt
 least_reason reason.NotPartition = lit≤ tt
 least_reason reason.NoOddParty = lit≤ tt
 
+-- where the clause of the first reason fails, no other fails before it
 pub first_clause : {Holds : Reason → Type 0} → ¬ Holds reason.NotAMatching → IsFirstThere Holds reason.NotAMatching
 first_clause none = record { clauses_before = λ other l. absurd (omega (arith, least_reason other)); fails = none }
 

@@ -7,6 +7,7 @@ use Rattle.std.proofs.lemmas.Grind.{flat_map-append}
 use Rattle.std.proofs.lemmas.List.{length-map, length-set, get_or-set_same, get_or-set_other}
 use Rattle.std.proofs.lemmas.List.Elements.{filter_map-append}
 use Rattle.std.proofs.lemmas.List.FromFn.{fill_by_all}
+use Rattle.std.proofs.lemmas.Option.{none-some, same_Some}
 use Rattle.sm_instance.specs.Written.{AgentData, lists_of}
 use Rattle.sm_theory.specs.Rooms.{IsAcceptable, IsRoomMatching, IsRoomStable, mate_of}
 use Rattle.sm_pairs.specs.Held.{partner_in}
@@ -42,18 +43,17 @@ partner_there (x ∷ pairs) z = go (eqb x.0 z) (eqb x.1 z) (partner_there pairs 
     go false true e = refl
     go false false e = e
 
+-- where nothing is there it is none
 pub none_where : (o : Option ℕ) → is_some o ≡ false → o ≡ None
 none_where None e = refl
 none_where (Some x) e = absurd (false≢true (sym e))
-
-none_some : {x : ℕ} → ◌≡◌ {A = Option ℕ} None (Some x) → ⊥
-none_some e = grind arith
 
 module _ {rows : List (List ℕ)} {pairs : List (ℕ × ℕ)} {mates : List (Option ℕ)} (k : AreCouplesHeld rows pairs mates) where
   -- who has a mate stands in a pair, and who has none stands in none
   pub stands : (z : ℕ) → z < length rows → true ≡ is_some (mate_of mates z) → Contains (persons_of pairs) z
   stands z inside some = of_among (persons_of pairs) z (sym (partner_there pairs z) ∙ ap is_some (sym (k.partners z inside)) ∙ sym some)
 
+  -- and who has none stands in none
   pub stands_not : (z : ℕ) → z < length rows → false ≡ is_some (mate_of mates z) → ¬ Contains (persons_of pairs) z
   stands_not z inside none c = false≢true (none ∙ ap is_some (k.partners z inside) ∙ partner_there pairs z ∙ among_of (persons_of pairs) z c)
 
@@ -86,22 +86,19 @@ module _ {rows : List (List ℕ)} {pairs : List (ℕ × ℕ)} {mates : List (Opt
         (cases_eq z y))
         (cases_eq z x)
 
-    some_same : {u v : ℕ} → Some u ≡ Some v → u ≡ v
-    some_same e = cc
-
     matching : IsRoomMatching rows new
     matching = record {
       one_each = length-set (set mates x (Some y)) y (Some x) ∙ length-set mates x (Some y) ∙ k.matching.one_each;
       acceptable = λ u v. by_person (λ z o. o ≡ Some v → IsAcceptable rows z v)
-          (λ e. subst (IsAcceptable rows x) (some_same e) h)
-          (λ e. subst (IsAcceptable rows y) (some_same e) (record { apart = λ f. h.apart (sym f); listed = h.returned; returned = h.listed }))
+          (λ e. subst (IsAcceptable rows x) (same_Some _ _ e) h)
+          (λ e. subst (IsAcceptable rows y) (same_Some _ _ e) (record { apart = λ f. h.apart (sym f); listed = h.returned; returned = h.listed }))
           (λ z _ _ e. k.matching.acceptable z v e) u;
       in_turn = λ u v. by_person (λ z o. o ≡ Some v → mate_of new v ≡ Some z)
-          (λ e. ap (mate_of new) (sym (some_same e)) ∙ at_y)
-          (λ e. ap (mate_of new) (sym (some_same e)) ∙ at_x)
+          (λ e. ap (mate_of new) (sym (same_Some _ _ e)) ∙ at_y)
+          (λ e. ap (mate_of new) (sym (same_Some _ _ e)) ∙ at_x)
           (λ z _ _ e.
           let back = k.matching.in_turn z v e in
-          at_other v (λ f. none_some (sym x_free ∙ ap (mate_of mates) (sym f) ∙ back)) (λ f. none_some (sym y_free ∙ ap (mate_of mates) (sym f) ∙ back)) ∙ back) u;
+          at_other v (λ f. none-some _ (sym x_free ∙ ap (mate_of mates) (sym f) ∙ back)) (λ f. none-some _ (sym y_free ∙ ap (mate_of mates) (sym f) ∙ back)) ∙ back) u;
     }
 
     partner_now : (z : ℕ) → partner_in (both_ways (pairs ++ (x, y) ∷ [])) z ≡ option_or (partner_in (both_ways pairs) z) (cond (eqb x z) (Some y) (cond (eqb y z) (Some x) None))
@@ -116,6 +113,7 @@ module _ {rows : List (List ℕ)} {pairs : List (ℕ × ℕ)} {mates : List (Opt
     option_or-none None = refl
     option_or-none (Some u) = refl
 
+    -- two who are acceptable to each other and have no mates are one more couple
     pub coupled : HasCoupled rows pairs (x, y) new
     coupled = record {
       free = record { acceptable = h; first_free = stands_not x x_in x_none; second_free = stands_not y y_in y_none };
@@ -139,17 +137,21 @@ module _ {rows : List (List ℕ)} {pairs : List (ℕ × ℕ)} {mates : List (Opt
       let same = ap (λ (r : List (List ℕ)). length r) is in
       fill_by_all (partner_in (both_ways pairs)) mates (length persons) None (omega arith) (λ z inside. k.partners z (omega arith))
 
+  -- where the kept mates are stable, those that are said are stable
   pub stable_said : (persons : List AgentData) → rows ≡ lists_of persons → IsRoomStable rows mates → IsRoomStable (lists_of persons) (mates_in persons pairs)
   stable_said persons is s = subst (λ (r : List (List ℕ)). IsRoomStable r (mates_in persons pairs)) is (subst (IsRoomStable rows) (same_mates persons is) s)
 
+  -- and the other way round
   pub said_stable : (persons : List AgentData) → rows ≡ lists_of persons → IsRoomStable (lists_of persons) (mates_in persons pairs) → IsRoomStable rows mates
   said_stable persons is s = subst (IsRoomStable rows) (sym (same_mates persons is)) (subst (λ (r : List (List ℕ)). IsRoomStable r (mates_in persons pairs)) (sym is) s)
 
+  -- where they are stable all clauses hold
   pub end_holds : (persons : List AgentData) → rows ≡ lists_of persons → IsRoomStable rows mates → (why : Reason) → CouplesHold persons pairs LineData.End why
   end_holds persons is s reason.NotAMatching = tt
   end_holds persons is s reason.Blocked = λ _. stable_said persons is s
   end_holds persons is s _ = tt
 
+  -- where they aren't the answer is blocked
   pub end_fails : (persons : List AgentData) → rows ≡ lists_of persons → ¬ IsRoomStable rows mates → IsFirstThere (CouplesHold persons pairs LineData.End) reason.Blocked
   end_fails persons is none = record { clauses_before = before; fails = λ h. none (said_stable persons is (h refl)) }
     where

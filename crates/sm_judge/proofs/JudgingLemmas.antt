@@ -16,6 +16,7 @@ use Rattle.sm_judge.specs.Verdicts.{AtLine, IsFirstFailure, IsFirstThere, Finds}
 pub first_failure : {Holds : ℕ → Reason → Type 0} (k : ℕ) (why : Reason) → ((j : ℕ) (other : Reason) → j < k → Holds j other) → IsFirstThere (Holds k) why → IsFirstFailure Holds k why
 first_failure k why above f = record { lines_above = above; clauses_before = f.clauses_before; fails = f.fails }
 
+-- where all clauses hold above a line and at it, they hold above the next one
 pub one_more : {Holds : ℕ → Reason → Type 0} (k : ℕ) → ((j : ℕ) (other : Reason) → j < k → Holds j other) → ((other : Reason) → Holds k other) → (j : ℕ) (other : Reason) → j < k + 1 → Holds j other
 one_more {Holds} k above here j other h = elim (lt_or_le j k) [
   | inl less ↦ above j other less

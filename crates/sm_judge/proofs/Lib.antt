@@ -6,7 +6,7 @@ pub mod SeatPairLemmas
 pub mod WalkLemmas
 pub mod SeatListLemmas
 pub mod ReducedLemmas
-pub mod AgainLemmas
+pub mod TriedLemmas
 pub mod VectorLemmas
 pub mod AnswerLemmas
 pub mod PairLemmas

@@ -14,6 +14,7 @@ abbrev pub AllHold : (List LineData → LineData → Reason → Type 0) → (abo
 AllHold Clauses above [] = Unit {0}
 AllHold Clauses above (x ∷ xs) = ((why : Reason) → Clauses above x why) × AllHold Clauses (above ++ x ∷ []) xs
 
+-- so each clause holds at a place of those lines, with others behind them
 pub hold_at : (Clauses : List LineData → LineData → Reason → Type 0) (above front rest : List LineData) → AllHold Clauses above front → (k : ℕ) (why : Reason) → k < length front
     → IfSome (slice_get (front ++ rest) k) (λ x. Clauses (above ++ take k (front ++ rest)) x why)
 hold_at Clauses above [] rest h k why lt = absurd (omega (arith, lt))
@@ -22,12 +23,14 @@ hold_at Clauses above (x ∷ xs) rest h (suc k) why lt =
     subst (λ a. IfSome (slice_get (xs ++ rest) k) (λ y. Clauses a y why)) (append_assoc above (x ∷ []) (take k (xs ++ rest)))
     (hold_at Clauses (above ++ x ∷ []) xs rest h.1 k why (omega (arith, lt)))
 
+-- and of all lines of an answer each clause holds at each
 pub all_hold : (Clauses : List LineData → LineData → Reason → Type 0) (lines : List LineData) → AllHold Clauses [] lines → (k : ℕ) (why : Reason) → AtLine Clauses lines k why
 all_hold Clauses lines h k why = elim (lt_or_le k (length lines)) [
   | inl less ↦ subst (λ xs. AtLine Clauses xs k why) (append-nil lines) (hold_at Clauses [] lines [] h k why less)
   | inr more ↦ past_end Clauses lines k why more
 ]
 
+-- where all hold at some lines and at those behind them, they hold at both together
 pub hold_append : (Clauses : List LineData → LineData → Reason → Type 0) (above front rest : List LineData) → AllHold Clauses above front → AllHold Clauses (above ++ front) rest
     → AllHold Clauses above (front ++ rest)
 hold_append Clauses above [] rest h k = subst (λ a. AllHold Clauses a rest) (append-nil above) k

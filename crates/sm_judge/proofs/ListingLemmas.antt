@@ -11,13 +11,14 @@ use Rattle.sm_judge.specs.declared.verdicts.Reason.{Reason}
 use Rattle.sm_judge.specs.Verdicts.{Finds}
 use Rattle.sm_judge.specs.Said.{vector_in, vectors_in}
 use Rattle.sm_judge.specs.Vectors.{places_of_ranks, VectorHolds, MoreHolds, ListHolds, ListClauses}
-use Rattle.sm_judge.specs.Again.{HasRoom, IsTried}
-use Rattle.sm_judge.specs.declared.again.Tried.{Tried}
+use Rattle.sm_judge.specs.Tried.{HasRoom, IsTried}
+use Rattle.sm_judge.specs.declared.tried.Tried.{Tried}
 use Rattle.sm_forms.specs.Forms.{fits_two}
 use Rattle.sm_judge.specs.Walking.{FindsOrKeeps}
 use Rattle.sm_judge.proofs.AnswerLemmas.{finds_keeping}
 use Rattle.sm_judge.specs.Listing.{last_or, AreVectorsKept}
 
+-- the last vector of two lists is that of the second, or else of the first
 pub end_of-append : (x : Option (List ℕ)) (xs ys : List (List ℕ)) → end_of x (xs ++ ys) ≡ end_of (end_of x xs) ys
 end_of-append x [] ys = refl
 end_of-append x (y ∷ xs) ys = end_of-append (Some y) xs ys

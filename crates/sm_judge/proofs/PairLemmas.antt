@@ -14,7 +14,7 @@ use Rattle.sm_judge.specs.Pairs.{times_second, IsFree}
 use Rattle.sm_judge.specs.PairsKept.{ArePairsHeld, HasJoined, Joins}
 
 -- no pair so far
-pub none_held : (w : Written) (holding : Holding) → holding.places.items ≡ replicate (length w.proposers) None → holding.loads.items ≡ replicate (length w.reviewers) 0
+pub none_held : (w : Written) (holding : Holding) → holding.matching.places.items ≡ replicate (length w.proposers) None → holding.loads.items ≡ replicate (length w.reviewers) 0
     → ArePairsHeld w [] holding
 none_held w holding is loads =
     let places = is ∙ no_places w in
@@ -55,17 +55,18 @@ module _ {w : Written} {pairs : List (ℕ × ℕ)} {before : Holding} (k : ArePa
               let long = k.held.matching.assigned.one_each in
               second_more pairs p r s
               ∙ ap (λ n. n + cond (r == s) 1 0) (k.seconds s s_in)
-              ∙ ap (λ (q : ℕ). load w before.places.items s + cond (q == s) 1 0) (sym there)
-              ∙ sym (load_set w before.places.items p i (length w.proposers) s (omega arith) a.free p_in)
+              ∙ ap (λ (q : ℕ). load w before.matching.places.items s + cond (q == s) 1 0) (sym there)
+              ∙ sym (load_set w before.matching.places.items p i (length w.proposers) s (omega arith) a.free p_in)
               ∙ ap (λ xs. load w xs s) (sym a.places);
         };
       }
 
-  cant_join : CantAdd w before.places.items p r → ¬ IsFree w pairs (p, r)
+  cant_join : CantAdd w before.matching.places.items p r → ¬ IsFree w pairs (p, r)
   cant_join (CantAdd.unacceptable h) f = h f.acceptable
   cant_join (CantAdd.taken h) f = let s = some_given w pairs p p_in (subst (λ xs. IsSome (held xs p)) k.places h) in let t = subst IsSome f.proposer_free s in cc
   cant_join (CantAdd.full h) f = let e = k.seconds r r_in in let l = f.place_free in omega arith
 
+  -- a pair that could be added may stand behind those, and one that couldn't may not
   pub joins_by : (after : Holding) (added : Bool) → Adds w before after p r added → Joins w pairs (p, r) after added
   joins_by after true a = joined after a
   joins_by after false a = cant_join a

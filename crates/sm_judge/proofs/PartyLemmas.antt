@@ -50,6 +50,7 @@ once_least x [] i l e = absurd (omega arith)
 once_least x (y ∷ ys) zero l e = omega (arith, times_here x y ys e)
 once_least x (y ∷ ys) (suc i) l e = omega (arith, once_least x ys i (omega (arith, l)) e, times_next x y ys)
 
+-- who stands at two places stands there twice or more
 pub twice_least : (x : ℕ) (xs : List ℕ) (i j : ℕ) → i < j → j < length xs → get_or xs i 0 ≡ x → get_or xs j 0 ≡ x → 2 ≤ count_by (λ z. z == x) xs
 twice_least x [] i j i_j l a b = absurd (omega arith)
 twice_least x (y ∷ ys) i zero i_j l a b = absurd (omega arith)
@@ -62,12 +63,15 @@ pub record StandsAt (x : ℕ) (xs : List ℕ) : Type 0 where
   pub on_list : at < length xs
   pub is : get_or xs at 0 ≡ x
 
+-- one that is contained has a place
 pub stands_at : (x : ℕ) (xs : List ℕ) → Contains xs x → StandsAt x xs
 stands_at x xs c = record { at = c.0; on_list = c.1; is = get_or_default xs c.0 0 x c.1 ∙ c.2 }
 
+-- who stands at a place is among them
 pub among_at : (xs : List ℕ) (i : ℕ) → i < length xs → is_among (get_or xs i 0) xs ≡ true
 among_at xs i l = among_of xs (get_or xs i 0) (i, l, get_or_default xs i (get_or xs i 0) 0 l)
 
+-- who stands at none isn't
 pub not_among : (x : ℕ) (xs : List ℕ) → ((i : ℕ) → i < length xs → get_or xs i 0 ≢ x) → is_among x xs ≡ false
 not_among x xs none = go (is_among x xs) refl
   where
@@ -97,6 +101,7 @@ or_false : (b : Bool) → (b || false) ≡ b
 or_false true = refl
 or_false false = refl
 
+-- how often a person is among the members with one more party
 pub times_more : (parties : List (List ℕ)) (party : List ℕ) (x : ℕ) → count_by (λ z. z == x) (members_of (parties ++ party ∷ [])) ≡ count_by (λ z. z == x) (members_of parties) + count_by (λ z. z == x) party
 times_more parties party x =
     let f : ℕ → ℕ = λ z. cond (eqb z x) 1 0 in
@@ -104,6 +109,7 @@ times_more parties party x =
     let last = sum_by-append f party [] in
     omega arith
 
+-- a person is among the members with one more party where it is among the others or in that one
 pub members_more : (parties : List (List ℕ)) (party : List ℕ) (z : ℕ) → is_among z (members_of (parties ++ party ∷ [])) ≡ (is_among z (members_of parties) || is_among z party)
 members_more parties party z =
     ap (is_among z) (flat_map-append (λ (p : List ℕ). p) parties (party ∷ []))
@@ -141,6 +147,7 @@ next_there parties party z not_before now =
     ∙ ap (λ (o : Option (List ℕ)). option_or o (cond (is_among z party) (Some party) None)) (none_found (find (is_among z) parties) (found_in parties z ∙ not_before))
     ∙ ap (λ b. cond b (Some party) None) now)
 
+-- nobody else has another follower
 pub next_other : (parties : List (List ℕ)) (party : List ℕ) (z : ℕ) → is_among z party ≡ false → next_of (parties ++ party ∷ []) z ≡ next_of parties z
 next_other parties party z none =
     ap (λ (o : Option (List ℕ)). option_map_or (next_in_party z) o z)
@@ -150,6 +157,7 @@ next_other parties party z none =
     or_none None = refl
     or_none (Some p) = refl
 
+-- the member at a place is followed by the next one, and the last by the first
 pub follows : (party : List ℕ) → ((i j : ℕ) → i < j → j < length party → get_or party i 0 ≢ get_or party j 0) → (j : ℕ) → j < length party → next_in_party (get_or party j 0) party ≡ follower party j
 follows party apart j l =
     ap (λ i. if i + 1 == length party then get_or party 0 0 else get_or party (i + 1) 0) (place_on_is party (get_or party j 0) j l refl (λ k lower. apart k j lower l))
@@ -223,6 +231,7 @@ module _ {n : ℕ} {parties : List (List ℕ)} {next : List ℕ} {met : List Boo
         only_one q (zero, i, e) = e
         only_one q (suc i, a, e) = absurd (omega arith)
 
+    -- so it may stand behind these, and is kept
     pub parted : HasParted parties party n next' met' odd'
     parted = record {
       fresh = new_where parties party m.distinct not_before;
@@ -299,14 +308,17 @@ module _ {rows parties : List (List ℕ)} {next : List ℕ} {met : List Bool} {o
       before reason.NoOddParty l = absurd (omega arith)
       before _ l = tt
 
+  -- where somebody wasn't met, the parties are no partition of all persons
   pub not_all_met : ¬ ((z : ℕ) → z < length met → is_met met z ≡ true) → IsFirstThere (PartiesHold persons parties LineData.End) reason.NotPartition
   not_all_met none = not_whole (λ w. none (λ z inside.
       let there : z < length rows = omega (arith, k.met_each, inside) in
       k.stand z there ∙ among_of (members_of parties) z (w.all z (omega (arith, long, there)))))
 
+  -- where the partition isn't stable, the first clause fails
   pub not_stable : ¬ IsStablePartition rows next → IsFirstThere (PartiesHold persons parties LineData.End) reason.NotPartition
   not_stable none = not_whole (λ w. none (said_stable w.partition))
 
+  -- where it is, and no party is odd, the second clause fails
   pub not_odd : ((z : ℕ) → z < length met → is_met met z ≡ true) → IsStablePartition rows next → odd ≡ false → IsFirstThere (PartiesHold persons parties LineData.End) reason.NoOddParty
   not_odd all s e = record { clauses_before = before; fails = λ h. false≢true (sym e ∙ k.has_odd.1 (h refl)) }
     where
@@ -315,6 +327,7 @@ module _ {rows parties : List (List ℕ)} {next : List ℕ} {met : List Bool} {o
       before reason.NoOddParty l = absurd (omega arith)
       before _ l = tt
 
+  -- where one is odd, all clauses hold
   pub all_hold : ((z : ℕ) → z < length met → is_met met z ≡ true) → IsStablePartition rows next → odd ≡ true → (why : Reason) → PartiesHold persons parties LineData.End why
   all_hold all s e reason.NotPartition = (tt, λ _. are_whole all s)
   all_hold all s e reason.NoOddParty = λ _. k.has_odd.0 e
@@ -326,6 +339,7 @@ party_holds persons parties party new reason.NotPartition = (new, λ e. absurd (
 party_holds persons parties party new reason.NoOddParty = λ e. absurd (false≢true e)
 party_holds persons parties party new _ = tt
 
+-- where the party isn't new, it can't be part of a partition
 pub party_fails : (persons : List AgentData) (parties : List (List ℕ)) (party : List ℕ) → ¬ AreNew parties party → IsFirstThere (PartiesHold persons parties (LineData.Party party)) reason.NotPartition
 party_fails persons parties party none = record { clauses_before = before; fails = λ h. none h.0 }
   where
@@ -342,6 +356,7 @@ others_hold persons parties _ a b reason.NotPartition = (tt, λ e. absurd (false
 others_hold persons parties _ a b reason.NoOddParty = λ e. absurd (false≢true e)
 others_hold persons parties _ a b _ = tt
 
+-- such a line says no party
 pub nothing_said : (line : Line) → ((party : Vec ℕ Global) → line ≢ Line.Party party) → party_in (line_of line) ≡ None
 nothing_said (Line.Party party) a = absurd (a party refl)
 nothing_said _ a = refl
@@ -354,6 +369,7 @@ kept_more {persons} {rows} {next} {met} {odd} above line is h = record {
   held = subst (λ (parties : List (List ℕ)). ArePartiesHeld (length rows) parties next met odd) (sym (filter_map-append party_in above (line ∷ []))) h;
 }
 
+-- and behind a line without a party
 pub kept_same : {persons : List AgentData} {rows : List (List ℕ)} {next : List ℕ} {met : List Bool} {odd : Bool} (above : List LineData) (line : LineData) → party_in line ≡ None
     → ArePartiesKept persons rows above next met odd → ArePartiesKept persons rows (above ++ line ∷ []) next met odd
 kept_same {persons} {rows} {next} {met} {odd} above line none k =

@@ -10,9 +10,11 @@ use Rattle.sm_instance.proofs.CrossLemmas.{row-lists_of, lists_within}
 use Rattle.sm_theory.specs.Rooms.{AreRoomLists}
 use Rattle.sm_judge.specs.PartiesKept.{is_among}
 
+-- the lists of persons are within the limits
 pub persons_within : {persons : List AgentData} → ArePersons persons → AreWithinLimits (lists_of persons)
 persons_within {persons} h = lists_within persons h.limits.proposers (let few = h.limits.entries in omega arith)
 
+-- no person stands twice on a list, and all who stand there are persons
 pub persons_listed : {persons : List AgentData} → ArePersons persons → AreRoomLists (lists_of persons)
 persons_listed {persons} h = record {
   in_range = λ x i on.
@@ -37,6 +39,7 @@ among_of xs z c = go xs c.0 c.1 c.2
         by_rest true r = refl
         by_rest false r = r
 
+-- who is told to be among them stands there
 pub of_among : (xs : List ℕ) (z : ℕ) → is_among z xs ≡ true → Contains xs z
 of_among [] z e = absurd (false≢true e)
 of_among (x ∷ xs) z e = ⊎_elim

@@ -27,11 +27,10 @@ use Rattle.sm_judge.specs.ListsKept.{AreLists, AreListsOf, AreListsBehind}
 use Rattle.sm_judge.specs.ReducedKept.{IsTriedFirst, IsGroupAt, IsReducedOf}
 use Rattle.sm_judge.specs.Verdicts.{IsFirstThere, Finds, number_of_reason}
 use Rattle.sm_judge.specs.Walking.{FindsOrKeeps}
-use Rattle.sm_judge.proofs.AnswerLemmas.{found_by}
+use Rattle.sm_judge.proofs.AnswerLemmas.{found_by, said_same, said_one}
 use Rattle.sm_forms.proofs.TakingLemmas.{and_left, and_right, all_more}
 use Rattle.sm_judge.proofs.SeatPairLemmas.{none_free}
 use Rattle.sm_judge.proofs.SeatListLemmas.{no_list}
-use Rattle.sm_judge.proofs.WalkLemmas.{said_same, said_one}
 
 -- a line that is up to the last seats says nothing of the lists, and one that isn't says nothing of the seats
 up_to_lasts : (w : Written) (x : LineData) → is_up_to_lasts x ≡ true → (proposer_list_in w x ≡ None) × (reviewer_list_in w x ≡ None) × (is_end x ≡ false)
@@ -195,9 +194,11 @@ module _ (w : Written) (above : List LineData) where
       from reason.NotBest h = h.0 (record { all_above = k.at; behind = refl })
       from _ h = tt
 
+      -- what is found of the first seats is found at this line
       pub last_tried : (r : Option Reason) → Finds (IsTriedFirst (seat_market w) (first_of w above)) r → Finds (ReducedHold w above (LineData.Last p seat)) r
       last_tried r f = found_by to from r f
 
+      -- where these are the proposers' best, the last seats begin with it
       pub last_begins : IsProposersBest (seat_market w) (first_of w above) → IsReducedOf w (above ++ LineData.Last p seat ∷ []) first after group.Last
       last_begins best = record {
         firsts = firsts_on (LineData.Last p seat) first refl k.firsts;
@@ -251,6 +252,7 @@ module _ (w : Written) (above : List LineData) where
           by_group group.Last no_lists h = absurd (not_best h.first_best)
           by_group (group.Lists lists) no_lists h = absurd (no_lists lists refl)
 
+      -- where the matching of the first seats isn't stable, the answer is blocked
       pub first_blocked : ¬ IsStable (seat_market w) (first_of w above) → IsFirstThere (ReducedHold w above x) reason.Blocked
       first_blocked unstable = record { clauses_before = before; fails = λ h. unstable (h.0 (first_behind (λ best. unstable best.stable))) }
         where
@@ -261,6 +263,7 @@ module _ (w : Written) (above : List LineData) where
           before reason.WrongList l = absurd (omega arith)
           before _ l = (tt, tt, tt)
 
+      -- where it is stable, and that of the last seats isn't, the answer is blocked too
       pub last_blocked : IsStable (seat_market w) (first_of w above) → ¬ IsStable (seat_market w) (last_of w above) → IsFirstThere (ReducedHold w above x) reason.Blocked
       last_blocked stable unstable = record { clauses_before = before; fails = λ h. unstable (h.1 last_behind) }
         where
@@ -278,12 +281,15 @@ module _ (w : Written) (above : List LineData) where
       stable_before stable stable' reason.WrongList l = absurd (omega arith)
       stable_before stable stable' _ l = (tt, tt, tt)
 
+      -- where both are stable, and the first isn't the proposers' best, that is what fails first
       pub first_not_best : IsStable (seat_market w) (first_of w above) → IsStable (seat_market w) (last_of w above) → ¬ IsProposersBest (seat_market w) (first_of w above) → IsFirstThere (ReducedHold w above x) reason.NotBest
       first_not_best stable stable' not_best = record { clauses_before = stable_before stable stable'; fails = λ h. not_best (h.0 (first_behind not_best)) }
 
+      -- and so where the last isn't the reviewers' best
       pub last_not_best : IsStable (seat_market w) (first_of w above) → IsStable (seat_market w) (last_of w above) → ¬ IsReviewersBest (seat_market w) (last_of w above) → IsFirstThere (ReducedHold w above x) reason.NotBest
       last_not_best stable stable' not_best = record { clauses_before = stable_before stable stable'; fails = λ h. not_best (h.1 last_behind) }
 
+      -- where both are the best, what is kept goes on with the lists
       pub lists_begin : (lists : SeatLists) → AreLists (seat_market w) (first_of w above) (last_of w above) [] [] lists → AreListsOf w above lists
       lists_begin lists made =
           let empty = no_lists_in w above last_behind.all_above in

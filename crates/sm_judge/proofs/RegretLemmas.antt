@@ -43,9 +43,8 @@ module _ (w : Written) (regret : ℕ) (pairs : List (ℕ × ℕ)) where
   of_end reason.WrongRegret h = h refl
   of_end _ h = tt
 
-  pub found_at_end : (holding : Holding) (places : List (Option ℕ)) (r : Option Reason) → ArePairsHeld w pairs holding → places ≡ holding.places.items → Finds (EndOfRegret w regret places) r
-      → Finds (RegretHolds w regret pairs LineData.End) r
-  found_at_end holding places r k is f = found_by at_end of_end r (subst (λ (m : List (Option ℕ)). Finds (EndOfRegret w regret m) r) (is ∙ k.places) f)
+  pub found_at_end : (holding : Holding) (r : Option Reason) → ArePairsHeld w pairs holding → Finds (EndOfRegret w regret holding.matching.places.items) r → Finds (RegretHolds w regret pairs LineData.End) r
+  found_at_end holding r k f = found_by at_end of_end r (subst (λ (m : List (Option ℕ)). Finds (EndOfRegret w regret m) r) k.places f)
 
 -- what is found at a line, and what is kept then
 pub regret_judged : {w : Written} {regret : Option ℕ} (line : LineData) (old new : Holding) (why : Option Reason)

@@ -23,7 +23,7 @@ use Rattle.sm_judge.specs.SeatMatchings.{first_of}
 use Rattle.sm_judge.specs.Chain.{HasOneEach, owners, reduced_of, IsRowOf, ListsAreRight, ListsHold}
 use Rattle.sm_judge.specs.ListsKept.{AreTimes, AreListsOf, AreListsBehind}
 use Rattle.sm_judge.specs.Verdicts.{IsFirstThere, number_of_reason}
-use Rattle.sm_judge.proofs.WalkLemmas.{said_same, said_one}
+use Rattle.sm_judge.proofs.AnswerLemmas.{said_same, said_one}
 use Rattle.sm_judge.proofs.SeatPairLemmas.{counted, passed_over}
 
 -- one owner more
@@ -34,6 +34,7 @@ count_more agents a b =
     let one : sum_by f (a ∷ []) ≡ cond (a == b) 1 0 + 0 = sum_by-cons f a [] in
     omega (arith, all, one)
 
+-- with one more list of an agent its count is one more, but two at most
 pub times_more : (n : ℕ) (agents : List ℕ) (times : List ℕ) (a : ℕ) → a < n → AreTimes n agents times → (more : ℕ) → more ≡ min 2 (get_or times a 0 + 1) → AreTimes n (agents ++ a ∷ []) (set times a more)
 times_more n agents times a inside k more is = record {
   one_each = length-set times a more ∙ k.one_each;
@@ -54,11 +55,13 @@ times_more n agents times a inside k more is = record {
 pub one_each_of : {n : ℕ} {agents times : List ℕ} → AreTimes n agents times → ((a : ℕ) → a < n → get_or times a 0 ≡ 1) → HasOneEach n agents
 one_each_of k all = λ x less. omega (arith, k.told x less, all x less)
 
+-- where some agent is told otherwise, not each had one list
 pub not_once : {n : ℕ} {agents times : List ℕ} → AreTimes n agents times → (a : ℕ) → a < n → get_or times a 0 ≢ 1 → ¬ HasOneEach n agents
 not_once k a less other all = other (omega (arith, k.told a less, all a less))
 
 -- whether all had one, as it is told of the times that are kept
 module _ (w : Written) (above : List LineData) {lists : SeatLists} (k : AreListsOf w above lists) (l : Lists) (is : l ≡ seat_market w) (times : List ℕ) where
+  -- of the proposers it is told by their times
   pub proposers_once : times ≡ lists.proposers.items → length lists.proposers.items ≡ length l.proposers → (all : Bool) → ((agents : List ℕ) → AreTimes (length times) agents times → IsTrue all ↔ HasOneEach (length times) agents)
       → IsTrue all ↔ HasOneEach (length (seat_market w).proposers) (owners (proposer_lists_in w above))
   proposers_once same one all decided =
@@ -66,6 +69,7 @@ module _ (w : Written) (above : List LineData) {lists : SeatLists} (k : AreLists
       let kept = subst (λ (ts : List ℕ). AreTimes (length (seat_market w).proposers) (owners (proposer_lists_in w above)) ts) (sym same) k.proposer_times in
       (rw long at decided) (owners (proposer_lists_in w above)) kept
 
+  -- and so for the seats
   pub seats_once : times ≡ lists.seats.items → length lists.seats.items ≡ length l.reviewers → (all : Bool) → ((agents : List ℕ) → AreTimes (length times) agents times → IsTrue all ↔ HasOneEach (length times) agents)
       → IsTrue all ↔ HasOneEach (length (seat_market w).reviewers) (owners (reviewer_lists_in w above))
   seats_once same one all decided =
@@ -78,6 +82,7 @@ module _ (w : Written) (above : List LineData) where
   lists_hold x right reason.WrongList = right
   lists_hold x right _ = tt
 
+  -- where a list isn't right, this is the first clause that fails
   pub lists_fail : (x : LineData) → ¬ ListsAreRight w above x → IsFirstThere (ListsHold w above x) reason.WrongList
   lists_fail x wrong = record { clauses_before = before; fails = wrong }
     where
@@ -158,6 +163,7 @@ module _ (w : Written) (above : List LineData) where
       },
     )
 
+-- nor does any line that is neither a list nor the end
 pub no_list_in : (w : Written) (x : Line) → ((p : ℕ) (seats : Vec Seat Global) → x ≡ Line.ProposerList p seats → ⊥) → ((seat : Seat) (proposers : Vec ℕ Global) → x ≡ Line.ReviewerList seat proposers → ⊥) → (x ≡ Line.End → ⊥)
     → (proposer_list_in w (line_of x) ≡ None) × (reviewer_list_in w (line_of x) ≡ None) × (is_end (line_of x) ≡ false)
 no_list_in w (Line.ProposerList p seats) a b c = absurd (a p seats refl)

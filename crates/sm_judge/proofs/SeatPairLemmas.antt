@@ -62,6 +62,7 @@ pub counted : (b : Bool) → b ≡ true → 0 + cond b 1 0 ≡ 1
 counted true e = refl
 counted false e = absurd (false≢true e)
 
+-- where it fails it adds nothing
 pub passed_over : (b : Bool) → b ≡ false → 0 + cond b 1 0 ≡ 0
 passed_over false e = refl
 passed_over true e = absurd (false≢true (sym e))

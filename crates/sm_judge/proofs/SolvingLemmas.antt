@@ -44,6 +44,7 @@ module _ {w : Written} {s : Seating} (i : IsInstance w) (is : s ≡ seating_of w
   same : m.places ≡ seated.matching
   same = one_matching made.matching seated.stable.matching (taken ∙ sym seated.taken)
 
+  -- the matching of the seats is stable
   pub seats_stable : IsStable s.market m.places
   seats_stable = subst (IsStable s.market) (sym same) seated.stable
 
@@ -54,6 +55,7 @@ module _ {w : Written} {s : Seating} (i : IsInstance w) (is : s ≡ seating_of w
   pub proposers_best_is : IsProposersBest s.market m.places ↔ IsBestOf Proposers w places
   proposers_best_is = subst (λ (x : List (Option ℕ)). IsProposersBest s.market m.places ↔ IsBestOf Proposers w x) back (bests_correspond w s m.places seating seats_stable).0
 
+  -- and so for the reviewers
   pub reviewers_best_is : IsReviewersBest s.market m.places ↔ IsBestOf Reviewers w places
   reviewers_best_is = subst (λ (x : List (Option ℕ)). IsReviewersBest s.market m.places ↔ IsBestOf Reviewers w x) back (bests_correspond w s m.places seating seats_stable).1
 

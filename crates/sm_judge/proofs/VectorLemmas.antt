@@ -4,6 +4,7 @@ use Rattle.std.specs.Prelude.{nat_le, if◌then◌else◌, MatchOption, is_some}
 use Rattle.std.specs.List.{range_with_len}
 use Rattle.std.proofs.lemmas.List.FromFn.{get_or-map-range_with_len, length-map-range_with_len, get_or-range_with_len, length-range_with_len}
 use Rattle.std.proofs.lemmas.List.{get_or_past}
+use Rattle.std.proofs.lemmas.Option.{none-some, same_Some}
 use Rattle.sm_lists.proofs.Counting.{lt_or_le, less_same_more}
 use Rattle.sm_instance.specs.Written.{Written, row, entry, capacity_of, IsAcceptable}
 use Rattle.sm_instance.specs.Matching.{held, standing, IsAssignment, IsMatching, IsBreach, IsFirstBreach, is_at, leads_to, load_before}
@@ -14,6 +15,7 @@ use Rattle.sm_judge.specs.Vectors.{place_of_rank, places_of_ranks}
 use Rattle.sm_judge.specs.Listing.{ArePlaced, IsRank}
 
 module _ (w : Written) (v : List ℕ) where
+  -- the places that are written for all proposers are those of the vector's ranks
   pub places_are : (places : List (Option ℕ)) (b : Bool) → ArePlaced w v (length w.proposers) places b → places ≡ places_of_ranks w v
   places_are places b a = ext_get_or None places (places_of_ranks w v) (a.one_each ∙ sym (length-map-range_with_len (place_of_rank w v) 0 (length w.proposers)))
       (λ p h. a.placed p (omega (arith, h, a.one_each)) ∙ sym (get_or-map-range_with_len (place_of_rank w v) 0 (length w.proposers) p p None (omega (arith, h, a.one_each)) (omega arith)))
@@ -39,30 +41,27 @@ module _ (w : Written) (v : List ℕ) where
   on_list : (rank len i : ℕ) → 1 ≤ rank → (if nat_le rank len then Some (rank - 1) else None) ≡ Some i → i < len
   on_list rank len i a f = go (nat_le rank len) refl f
     where
-      some_same : {x y : ℕ} → Some x ≡ Some y → x ≡ y
-      some_same e = cc
-
-      none_some : {x : ℕ} → ◌≡◌ {A = Option ℕ} None (Some x) → ⊥
-      none_some e = grind arith
-
       go : (t : Bool) → nat_le rank len ≡ t → (if t then Some (rank - 1) else None) ≡ Some i → i < len
-      go true e g = omega (arith, leb-true rank len e, some_same g)
-      go false e g = absurd (none_some g)
+      go true e g = omega (arith, leb-true rank len e, same_Some _ _ g)
+      go false e g = absurd (none-some _ g)
 
   standing_is : (p : ℕ) → p < length w.proposers → slice_index_or (rank_vector_of w (places_of_ranks w v)) p 0 ≡ unwrap_or (place_of_rank w v p) (length (row w.proposers p)) + 1
   standing_is p h = get_or-map-range_with_len (λ p. standing w (places_of_ranks w v) p + 1) 0 (length w.proposers) p p 0 h (omega arith)
       ∙ ap (λ o. unwrap_or o (length (row w.proposers p)) + 1) (held_is p h)
 
+  -- where all numbers are ranks, the vector is that of its places
   pub ranks_to : length v ≡ length w.proposers → ((q : ℕ) → q < length w.proposers → IsRank w v q) → rank_vector_of w (places_of_ranks w v) ≡ v
   ranks_to one all = ext_get_or 0 (rank_vector_of w (places_of_ranks w v)) v (length-map-range_with_len (λ p. standing w (places_of_ranks w v) p + 1) 0 (length w.proposers) ∙ sym one)
       (λ p h. let k : p < length w.proposers = omega (arith, h, length-map-range_with_len (λ p. standing w (places_of_ranks w v) p + 1) 0 (length w.proposers)) in
       let r = all p k in standing_is p k ∙ of_rank (slice_index v p) (length (row w.proposers p)) r.least r.greatest)
 
+  -- where it is that of its places, all its numbers are ranks
   pub ranks_from : rank_vector_of w (places_of_ranks w v) ≡ v → (q : ℕ) → q < length w.proposers → IsRank w v q
   ranks_from e q h =
       let r = back_rank (slice_index v q) (length (row w.proposers q)) (sym (standing_is q h) ∙ ap (λ (u : List ℕ). slice_index_or u q 0) e) in
       record { least = r.0; greatest = r.1 }
 
+  -- the places of ranks are on the lists of their proposers
   pub assigned : ((q : ℕ) → q < length w.proposers → IsRank w v q) → IsAssignment w (places_of_ranks w v)
   assigned all = record { one_each = length-map-range_with_len (place_of_rank w v) 0 (length w.proposers); on_lists = on_lists }
     where
@@ -80,6 +79,7 @@ module _ (n : ℕ) (u v : List ℕ) where
   order_at : (j : ℕ) → j < n → slice_index (range_with_len 0 n) j ≡ j
   order_at j h = get_or-range_with_len 0 n j 0 h ∙ omega arith
 
+  -- the one with the lower number there comes before the other
   pub behind_to : (p : ℕ) → p < n → ((q : ℕ) → q < p → slice_index u q ≡ slice_index v q) → slice_index u p < slice_index v p → IsBefore (range_with_len 0 n) u v
   behind_to p h same less = record {
     at = p;
@@ -88,6 +88,7 @@ module _ (n : ℕ) (u v : List ℕ) where
     alike = λ j k. rw (order_at j (omega (arith, h, k))) (same j k);
   }
 
+  -- the one that comes before the other has the lower number there
   pub behind_from : (p : ℕ) → p < n → ((q : ℕ) → q < p → slice_index u q ≡ slice_index v q) → (slice_index u p ≡ slice_index v p → ⊥) → IsBefore (range_with_len 0 n) u v → slice_index u p < slice_index v p
   behind_from p h same differ b =
       let k : b.at < n = omega (arith, b.within, length-range_with_len 0 n) in
@@ -108,16 +109,14 @@ breach_fails w places p f m = go b.cause
     there : is_at w places p (entry w.proposers p b.at) ≡ true
     there = ap (leads_to w p (entry w.proposers p b.at)) b.holds ∙ eq-eqb (entry w.proposers p b.at) (entry w.proposers p b.at) refl
 
-    none_some : {x : ℕ} → ◌≡◌ {A = Option ℕ} None (Some x) → ⊥
-    none_some e = grind arith
-
     in_range : p < length w.proposers
-    in_range = elim (lt_or_le p (length w.proposers)) [ inl h ↦ h | inr h ↦ absurd (none_some (sym (get_or_past places p None (omega (arith, h, m.assigned.one_each))) ∙ b.holds)) ]
+    in_range = elim (lt_or_le p (length w.proposers)) [ inl h ↦ h | inr h ↦ absurd (none-some _ (sym (get_or_past places p None (omega (arith, h, m.assigned.one_each))) ∙ b.holds)) ]
 
     go : (¬ IsAcceptable w p (entry w.proposers p b.at)) ⊎ (capacity_of w.reviewers (entry w.proposers p b.at) ≤ load_before w places p (entry w.proposers p b.at)) → ⊥
     go (inl n) = n (m.acceptable p b.at b.holds)
     go (inr full) = omega (arith, full, load_more_yes w places p (entry w.proposers p b.at) there, load_mono w places (entry w.proposers p b.at) (p + 1) (length w.proposers) (omega (arith, in_range)), m.within (entry w.proposers p b.at))
 
+-- where a breach was found the assignment isn't a matching
 pub not_matching : (w : Written) (places : List (Option ℕ)) (o : Option ℕ) → MatchOption o (IsMatching w places) (λ p. IsFirstBreach w places p) → is_some o ≡ true → IsMatching w places → ⊥
 not_matching w places None m s k = none s
   where

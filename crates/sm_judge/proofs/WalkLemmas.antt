@@ -1,10 +1,9 @@
 -- A chain of rotations as an answer writes it, one line after another.
-use Rattle.std.proofs.Common.{◌≡◌, ℕ, suc, ◌<◌, inl, inr, List, [], ◌∷◌, ◌++◌, append-nil, length, map, Option, None, Some, Vec, Global, true, false, ◌&&◌, refl, sym, ap, ◌∙◌, subst, arith}
-use Rattle.std.specs.Prelude.{IfSome, filter_map, not, pred}
+use Rattle.std.proofs.Common.{◌≡◌, ℕ, suc, ◌<◌, inl, inr, List, [], ◌∷◌, ◌++◌, length, map, Option, None, Vec, Global, true, false, ◌&&◌, refl, sym, ap, ◌∙◌, subst, arith}
+use Rattle.std.specs.Prelude.{IfSome, not, pred}
 use Rattle.std.specs.List.{list_all, cons_option}
 use Rattle.std.proofs.lemmas.Bool.{false≢true, cases_lt}
 use Rattle.std.proofs.lemmas.List.{length_push, get_or_past, get_or_push, get_or_append_left}
-use Rattle.std.proofs.lemmas.List.Elements.{filter_map-append}
 use Rattle.sm_instance.specs.Written.{Written}
 use Rattle.sm_market.specs.Lists.{Lists}
 use Rattle.sm_market.specs.Matching.{Places}
@@ -36,17 +35,9 @@ use Rattle.sm_judge.specs.declared.seat_pairs.SeatPairs.{SeatPairs}
 use Rattle.sm_report.specs.Heads.{HeadData}
 use Rattle.sm_judge.specs.Walks.{AreChainMoves, IsWalk, IsWalkOf, HasStepped, AreFirstsKept}
 use Rattle.sm_judge.specs.Verdicts.{IsFirstThere}
-use Rattle.sm_judge.proofs.AnswerLemmas.{first_clause}
+use Rattle.sm_judge.proofs.AnswerLemmas.{first_clause, said_same, said_one}
 use Rattle.sm_forms.proofs.TakingLemmas.{and_left, and_right, all_more}
 use Rattle.sm_judge.proofs.SeatPairLemmas.{none_free}
-
--- what is said with a line that says nothing of the kind, and with one that does
-pub said_same : {X : Type 0} (said : LineData → Option X) (above : List LineData) (x : LineData) → said x ≡ None → filter_map said (above ++ x ∷ []) ≡ filter_map said above
-said_same {X} said above x e =
-    filter_map-append said above (x ∷ []) ∙ ap (λ (o : Option X). filter_map said above ++ cons_option o []) e ∙ append-nil (filter_map said above)
-
-pub said_one : {X : Type 0} (said : LineData → Option X) (above : List LineData) (x : LineData) (y : X) → said x ≡ Some y → filter_map said (above ++ x ∷ []) ≡ filter_map said above ++ y ∷ []
-said_one {X} said above x y e = filter_map-append said above (x ∷ []) ∙ ap (λ (o : Option X). filter_map said above ++ cons_option o []) e
 
 -- the matching that is reached with one more rotation
 stage_new : (l : Lists) (first : Places) (xs : List (List (ℕ × ℕ))) (x : List (ℕ × ℕ)) → stage l first (xs ++ x ∷ []) (length (xs ++ x ∷ [])) ≡ eliminated l (stage l first xs (length xs)) x
@@ -63,6 +54,7 @@ no_moves l = record {
   on_lists = λ k i less. absurd (let none : length (row_of_moves [] k) ≡ 0 = ap (λ (m : List Move). length m) (get_or_past {X = List Move} [] k [] (omega arith)) in omega (arith, none, less));
 }
 
+-- its moves stand behind those before
 pub moves_more : {l : Lists} {rotations : List (List (ℕ × ℕ))} {rows : List (List Move)} → AreChainMoves l rotations rows → (rotation : List (ℕ × ℕ)) (moves : List Move) → AreMovesOf l rotation moves → AreOnLists l moves
     → AreChainMoves l (rotations ++ rotation ∷ []) (rows ++ moves ∷ [])
 moves_more {l} {rotations} {rows} c rotation moves is on = record {
@@ -97,6 +89,7 @@ module _ {l : Lists} {first : Places} {rotations : List (List (ℕ × ℕ))} {wa
       let short = short_eliminable k.market k.best.stable.matching (eliminable_more rotation k.noted.eliminable k.reached x) in
       omega (arith, short, length_push rotations rotation, k.noted.count, k.most)
 
+  -- the walk with all that is kept of it has taken one step more
   pub stepped : (after : Walk) → after.first ≡ walk.first → AreChainMoves l (rotations ++ rotation ∷ []) (moves_in after.moves.items) → IsLowestExposed l walk.matching.places rotation → IsSearchAt l walk.matching.places after.search → IsPairingOf l after.matching → after.matching.places ≡ eliminated l walk.matching.places rotation
       → IsStable l after.matching.places → IsNotesFor l after.notes → after.notes.most ≡ walk.notes.most → AreNoted l first (rotations ++ rotation ∷ []) after.notes → after.is_whole ≡ walk.is_whole → HasStepped l first rotations rotation walk after
   stepped after from moves lowest search made moved stable notes most noted same = record {
@@ -242,6 +235,7 @@ module _ {w : Written} {above : List LineData} {pairs : SeatPairs} (k : AreFirst
   written_holds x up free reason.WrongNeeds = (tt, subst (λ (o : Option (List ℕ)). IfSome o (AreNeedsOf (seat_market w) (rotations_in w above) (last_rotation w above))) (sym (up_to_firsts w x up).2) tt)
   written_holds x up free _ = (tt, tt)
 
+  -- all hold at the head
   pub head_line : (head : HeadData) → ((why : Reason) → RotationsHold w above (LineData.Answer head) why) × AreFirstsKept w (above ++ LineData.Answer head ∷ []) pairs
   head_line head =
       let x : LineData = LineData.Answer head in (
@@ -252,6 +246,7 @@ module _ {w : Written} {above : List LineData} {pairs : SeatPairs} (k : AreFirst
         },
       )
 
+  -- all hold at a first seat that may stand behind those before it
   pub first_line : (p : ℕ) (seat : Seat) (number : ℕ) → number ≡ seat_number w seat → (after : SeatPairs) → HasTakenSeat (seat_market w) (firsts_in w above) (p, number) after
       → ((why : Reason) → RotationsHold w above (LineData.First p seat) why) × AreFirstsKept w (above ++ LineData.First p seat ∷ []) after
   first_line p seat number is after t =

@@ -38,15 +38,16 @@ none_stands w pairs stood p k l e = go (partner_in pairs p) (sym (k.stands p l) 
     go None h = refl
     go (Some r) h = absurd cc
 
+-- who stands has one
 pub some_stands : (w : Written) (pairs : List (ℕ × ℕ)) (stood : List Bool) (p : ℕ) → AreStood w pairs stood → p < length w.proposers → get_or stood p false ≡ true → partner_in pairs p ≢ None
 some_stands w pairs stood p k l e none = let h = sym e ∙ k.stands p l ∙ ap is_some none in cc
 
 -- nothing is chosen where there is no pair
 pub chosen_none : (choice : Choice) (w : Written) (left right : Holding) (wanted : List (Option ℕ)) → ArePairsHeld w [] left → ArePairsHeld w [] right
-    → wanted ≡ replicate (length w.proposers) None → wanted ≡ chosen_places choice w left.places.items right.places.items
+    → wanted ≡ replicate (length w.proposers) None → wanted ≡ chosen_places choice w left.matching.places.items right.matching.places.items
 chosen_none choice w left right wanted l r e =
     e ∙ nothing (length w.proposers) 0
-    ∙ sym (ap (λ (m : List (Option ℕ)). chosen_places choice w m right.places.items) (l.places ∙ sym (no_places w)) ∙ ap (chosen_places choice w (replicate (length w.proposers) None)) (r.places ∙ sym (no_places w)))
+    ∙ sym (ap (λ (m : List (Option ℕ)). chosen_places choice w m right.matching.places.items) (l.places ∙ sym (no_places w)) ∙ ap (chosen_places choice w (replicate (length w.proposers) None)) (r.places ∙ sym (no_places w)))
   where
     none_chosen : (choice : Choice) → chosen choice None None ≡ None
     none_chosen Better = refl

@@ -36,6 +36,7 @@ pub record ListsAreRight (w : Written) (above : List LineData) (line : LineData)
   pub all_proposers : IsEnd line → HasOneEach (length (seat_market w).proposers) (owners (proposer_lists_in w above))
   pub all_reviewers : IsEnd line → HasOneEach (length (seat_market w).reviewers) (owners (reviewer_lists_in w above))
 
+-- the clause on lists
 abbrev pub ListsHold : Written → List LineData → LineData → Reason → Type 0
 ListsHold w above line reason.WrongList = ListsAreRight w above line
 ListsHold w above line _ = Unit {0}

@@ -21,6 +21,7 @@ pub record HasCoupled (rows : List (List ℕ)) (pairs : List (ℕ × ℕ)) (pair
   pub free : IsFreeCouple rows pairs pair
   pub held : AreCouplesHeld rows (pairs ++ pair ∷ []) after
 
+-- true says that the couple is kept, and false that it may not stand there
 abbrev pub Couples : List (List ℕ) → List (ℕ × ℕ) → ℕ × ℕ → List (Option ℕ) → Bool → Type 0
 Couples rows pairs pair after true = HasCoupled rows pairs pair after
 Couples rows pairs pair after false = ¬ IsFreeCouple rows pairs pair

@@ -29,6 +29,7 @@ use Rattle.sm_judge.specs.Pairs.{WantedHold}
 abbrev pub size_in : Written → List LineData → ℕ
 size_in w lines = length (rotations_in w lines)
 
+-- the net of gains, needs and conditions that the lines give
 abbrev pub net_in : Written → Measure → List LineData → Net
 net_in w by lines =
     net_of (seat_market w) (levels_of (seating_of w)) (weights_of by w (seating_of w))
@@ -38,6 +39,7 @@ net_in w by lines =
 abbrev pub node_of : ℕ → ℕ → ℕ
 node_of size end = if end == SINK then suc size else (if nat_le end size then end else suc (suc size))
 
+-- a line of flow with its ends as nodes of the net
 abbrev pub on_nodes : ℕ → FlowLine → FlowLine
 on_nodes size flow = record { from = node_of size flow.from; to = node_of size flow.to; amount = flow.amount }
 
@@ -49,10 +51,12 @@ set_of_numbers size taken = map (λ k. list_any (λ n. n == k + 1) taken) (range
 abbrev pub taken_set : Written → List LineData → List Bool
 taken_set w lines = set_of_numbers (size_in w lines) (first_said [] taken_in lines)
 
+-- the matching of a set of the written rotations, on the proposers' written lists
 abbrev pub matching_of_set : Written → List LineData → List Bool → List (Option ℕ)
 matching_of_set w lines set =
     written_of (seating_of w) (matching_of (seat_market w) (first_of w lines) (rotations_in w lines) set).proposers
 
+-- the matching of the set that is taken
 abbrev pub taken_matching : Written → List LineData → List (Option ℕ)
 taken_matching w lines = matching_of_set w lines (taken_set w lines)
 
@@ -74,6 +78,7 @@ pub record Level : Type 0 where
   pub weight : List (Option ℕ) → ℤ
   pub net : Net
 
+-- the level of an answer of `weight`
 abbrev pub first_level : Written → Measure → List LineData → Level
 first_level w by lines = record {
   gain = gain_in;

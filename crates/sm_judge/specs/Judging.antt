@@ -36,6 +36,7 @@ pub data Subject : Type 0 where
   couples : List AgentData → Subject
   parties : List AgentData → Subject
 
+-- the clauses of a subject at a line with those above it
 abbrev pub Clauses : Subject → List LineData → LineData → Reason → Type 0
 Clauses (answer w head) above line why = TwoClauses w head above line why
 Clauses (couples persons) above line why = CouplesHold persons (pairs_in above) line why

@@ -8,7 +8,7 @@ pub mod Vectors
 pub mod Rooming
 pub mod Judging
 pub mod Judges
-pub mod Again
+pub mod Tried
 pub mod Listing
 pub mod Walking
 pub mod PairsKept

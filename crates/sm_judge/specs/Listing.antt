@@ -5,8 +5,8 @@ use Rattle.sm_theory.specs.Listings.{end_of}
 use Rattle.sm_report.specs.Lines.{LineData}
 use Rattle.sm_judge.specs.Said.{vectors_in}
 use Rattle.sm_judge.specs.Vectors.{place_of_rank, places_of_ranks}
-use Rattle.sm_judge.specs.Again.{HasRoom, IsTried}
-use Rattle.sm_judge.specs.declared.again.Tried.{Tried}
+use Rattle.sm_judge.specs.Tried.{HasRoom, IsTried}
+use Rattle.sm_judge.specs.declared.tried.Tried.{Tried}
 
 -- the number is a rank of p, that of being unmatched included
 pub record IsRank (w : Written) (v : List ℕ) (p : ℕ) : Type 0 where

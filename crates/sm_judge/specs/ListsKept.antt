@@ -31,6 +31,7 @@ AreListsOf w above lists =
     AreLists (seat_market w) (first_of w above) (last_of w above)
     (owners (proposer_lists_in w above)) (owners (reviewer_lists_in w above)) lists
 
+-- those of the lines of an answer with one more
 abbrev pub AreListsBehind : Written → List LineData → LineData → SeatLists → Type 0
 AreListsBehind w above line lists =
     AreLists (seat_market w) (first_of w above) (last_of w above)

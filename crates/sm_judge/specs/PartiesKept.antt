@@ -10,6 +10,7 @@ use Rattle.sm_judge.specs.Rooming.{members_of, next_of, AreNew, HasOddParty}
 abbrev pub is_among : ℕ → List ℕ → Bool
 is_among z xs = list_any (λ y. y == z) xs
 
+-- whether a person was met
 abbrev pub is_met : List Bool → ℕ → Bool
 is_met met z = slice_index_or met z false
 
@@ -28,6 +29,7 @@ pub record IsRepeated (party : List ℕ) (old : List Bool) : Type 0 where
   pub on_list : at < length party
   pub before : (is_met old (slice_index party at) ≡ true) ⊎ ((j : ℕ) × (j < at) × (slice_index party j ≡ slice_index party at))
 
+-- true says that all persons of the party were met now for the first time, and false that one is repeated
 abbrev pub Meets : List ℕ → (old new : List Bool) → Bool → Type 0
 Meets party old new true = AreMet party old (length party) new
 Meets party old new false = IsRepeated party old
@@ -62,6 +64,7 @@ pub record HasParted (parties : List (List ℕ)) (party : List ℕ) (persons : �
   pub fresh : AreNew parties party
   pub held : ArePartiesHeld persons (parties ++ party ∷ []) next met odd
 
+-- true says that the party is kept, and false that it isn't new
 abbrev pub Parts : List (List ℕ) → List ℕ → (persons : ℕ) → (next : List ℕ) → (met : List Bool) → (odd result : Bool) → Type 0
 Parts parties party persons next met odd true = HasParted parties party persons next met odd
 Parts parties party persons next met odd false = ¬ AreNew parties party

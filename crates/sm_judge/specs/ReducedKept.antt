@@ -36,6 +36,7 @@ pub record AreListsGoing (w : Written) (above : List LineData) (lists : SeatList
   pub last_best : IsReviewersBest (seat_market w) (last_of w above)
   pub are_lists : AreListsOf w above lists
 
+-- where the next line stands: among the first seats, among the last ones, or among the lists
 abbrev pub IsGroupAt : Written → List LineData → Group → Type 0
 IsGroupAt w above group.First = list_all is_up_to_firsts above ≡ true
 IsGroupAt w above group.Last = AreLastsGoing w above
@@ -47,8 +48,8 @@ pub record IsReducedOf (w : Written) (above : List LineData) (first last : SeatP
   pub lasts : AreSeatPairs (seat_market w) (lasts_in w above) last
   pub at : IsGroupAt w above going
 
-pub record IsReducedKept (w : Written) (market : Lists) (seats : List ℕ) (above : List LineData) (first last : SeatPairs) (going : Group) : Type 0 where
+pub record IsReducedKept (w : Written) (market : Lists) (firsts : List ℕ) (above : List LineData) (first last : SeatPairs) (going : Group) : Type 0 where
   pub market_is : market ≡ seat_market w
   pub is_market : IsMarket (seat_market w)
-  pub seats_are : seats ≡ first_seats_of w
+  pub firsts_are : firsts ≡ first_seats_of w
   pub kept : IsReducedOf w above first last going

@@ -15,6 +15,7 @@ use Rattle.sm_pairs.specs.Held.{partner_in}
 abbrev pub persons_of : List (ℕ × ℕ) → List ℕ
 persons_of pairs = flat_map (λ (pair : ℕ × ℕ). pair.0 ∷ pair.1 ∷ []) pairs
 
+-- each pair, and behind it the same with its persons exchanged
 abbrev pub both_ways : List (ℕ × ℕ) → List (ℕ × ℕ)
 both_ways pairs = flat_map (λ (pair : ℕ × ℕ). pair ∷ (pair.1, pair.0) ∷ []) pairs
 
@@ -38,14 +39,17 @@ CouplesHold persons pairs line _ = Unit {0}
 abbrev pub members_of : List (List ℕ) → List ℕ
 members_of parties = flat_map (λ party. party) parties
 
+-- who follows a person in a party
 abbrev pub next_in_party : ℕ → List ℕ → ℕ
 next_in_party x party =
     let i = position_or_len (λ y. y == x) party in
     if i + 1 == length party then slice_index party 0 else slice_index party (i + 1)
 
+-- who follows a person in the party that has it; a person in no party follows itself
 abbrev pub next_of : List (List ℕ) → ℕ → ℕ
 next_of parties x = option_map_or (next_in_party x) (find (λ party. list_any (λ y. y == x) party) parties) x
 
+-- who follows each person
 abbrev pub nexts_of : List AgentData → List (List ℕ) → List ℕ
 nexts_of persons parties = map (next_of parties) (range_with_len 0 (length persons))
 

@@ -29,6 +29,7 @@ seat_places_in l pairs =
 abbrev pub first_of : Written → List LineData → Places
 first_of w lines = seat_places_in (seat_market w) (firsts_in w lines)
 
+-- the matching that the last seats write
 abbrev pub last_of : Written → List LineData → Places
 last_of w lines = seat_places_in (seat_market w) (lasts_in w lines)
 

@@ -18,6 +18,7 @@ pub record HasTakenSeat (l : Lists) (pairs : List (ℕ × ℕ)) (pair : ℕ × �
   pub free : IsFreeSeat l pairs pair
   pub kept : AreSeatPairs l (pairs ++ pair ∷ []) after
 
+-- true says that the pair is kept, and false that it may not stand there
 abbrev pub TakesSeat : Lists → List (ℕ × ℕ) → ℕ × ℕ → SeatPairs → Bool → Type 0
 TakesSeat l pairs pair after true = HasTakenSeat l pairs pair after
 TakesSeat l pairs pair after false = ¬ IsFreeSeat l pairs pair

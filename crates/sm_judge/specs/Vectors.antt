@@ -18,6 +18,7 @@ use Rattle.sm_judge.specs.Pairs.{IsFree}
 abbrev pub place_of_rank : Written → List ℕ → ℕ → Option ℕ
 place_of_rank w v p = let rank = slice_index v p in if nat_le rank (length (row w.proposers p)) then Some (rank - 1) else None
 
+-- the places of all proposers by a vector of ranks
 abbrev pub places_of_ranks : Written → List ℕ → List (Option ℕ)
 places_of_ranks w v = map (place_of_rank w v) (range_with_len 0 (length w.proposers))
 
@@ -50,6 +51,7 @@ ListHolds w before count limit (LineData.Vector v) why = VectorHolds w before co
 ListHolds w before count limit (LineData.More v) why = MoreHolds before count limit v why
 ListHolds w before count limit _ why = Unit {0}
 
+-- the clauses of `list` by the vectors of the lines above
 abbrev pub ListClauses : Written → Option (List ℕ) → ℕ → List LineData → LineData → Reason → Type 0
 ListClauses w after limit above line why =
     ListHolds w (end_of after (vectors_in above)) (length (vectors_in above)) limit line why
@@ -62,5 +64,6 @@ RegretHolds w regret pairs line reason.NotAllowed = IsEnd line → IsAllowed w (
 RegretHolds w regret pairs line reason.WrongRegret = IsEnd line → regret ≡ regret_of w (places_in w pairs)
 RegretHolds w regret pairs line _ = Unit {0}
 
+-- the clauses of `regret` by the regret and the pairs of the lines above
 abbrev pub RegretClauses : Written → List LineData → LineData → Reason → Type 0
 RegretClauses w above line why = RegretHolds w (first_said 0 regret_in above) (pairs_in above) line why

@@ -7,6 +7,7 @@ use Rattle.sm_judge.specs.declared.verdicts.Reason.TheVariants as reason
 use Rattle.sm_judge.specs.declared.verdicts.Verdict.{Verdict}
 use Rattle.sm_judge.specs.declared.verdicts.Verdict.TheVariants as verdict
 
+-- the number of a reason in the table
 abbrev pub number_of_reason : Reason → ℕ
 number_of_reason reason.NotAMatching = 1
 number_of_reason reason.Blocked = 2
@@ -58,6 +59,7 @@ pub record IsFirstThere (Holds : Reason → Type 0) (why : Reason) : Type 0 wher
   pub clauses_before : (other : Reason) → number_of_reason other < number_of_reason why → Holds other
   pub fails : ¬ Holds why
 
+-- none means that all clauses hold, and a reason that its clause is the first that fails
 abbrev pub Finds : (Reason → Type 0) → Option Reason → Type 0
 Finds Holds None = (why : Reason) → Holds why
 Finds Holds (Some why) = IsFirstThere Holds why

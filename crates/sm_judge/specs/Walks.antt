@@ -55,6 +55,7 @@ pub record HasStepped (l : Lists) (first : Places) (rotations : List (List (ℕ 
   pub is_walk : IsWalk l first (rotations ++ rotation ∷ []) after
   pub same : after.is_whole ≡ before.is_whole
 
+-- true says that the rotation is eliminated, and false that it isn't the next one
 abbrev pub StepsAlong : Lists → Places → List (List (ℕ × ℕ)) → List (ℕ × ℕ) → (before after : Walk) → Bool → Type 0
 StepsAlong l first rotations rotation before after true = HasStepped l first rotations rotation before after
 StepsAlong l first rotations rotation before after false = ¬ IsLowestExposed l before.matching.places rotation
@@ -75,6 +76,7 @@ abbrev pub IsChainAt : Written → List LineData → SeatPairs → Option Walk �
 IsChainAt w above pairs None = AreFirstsKept w above pairs
 IsChainAt w above pairs (Some walk) = IsWalkOf w above walk
 
+-- what is kept of the chain over the market of seats of an instance
 pub record IsChainKept (w : Written) (market : Lists) (firsts : List ℕ) (above : List LineData) (pairs : SeatPairs) (walk : Option Walk) : Type 0 where
   pub market_is : market ≡ seat_market w
   pub firsts_are : firsts ≡ first_seats_of w

@@ -21,6 +21,7 @@ pub record HasStood (w : Written) (wanted : List (Option ℕ)) (pairs : List (�
   pub wants : IsWanted w wanted pairs pair
   pub stood : AreStood w (pairs ++ pair ∷ []) after
 
+-- true says that the pair is kept, and false that it isn't wanted there
 abbrev pub Stands : Written → List (Option ℕ) → List (ℕ × ℕ) → ℕ × ℕ → List Bool → Bool → Type 0
 Stands w wanted pairs pair after true = HasStood w wanted pairs pair after
 Stands w wanted pairs pair after false = ¬ IsWanted w wanted pairs pair
@@ -29,5 +30,5 @@ Stands w wanted pairs pair after false = ¬ IsWanted w wanted pairs pair
 pub record AreChosenKept (choice : Choice) (w : Written) (above : List LineData) (left right : Holding) (wanted : List (Option ℕ)) (stood : List Bool) : Type 0 where
   pub lefts : ArePairsHeld w (lefts_in above) left
   pub rights : ArePairsHeld w (rights_in above) right
-  pub chosen : wanted ≡ chosen_places choice w left.places.items right.places.items
+  pub chosen : wanted ≡ chosen_places choice w left.matching.places.items right.matching.places.items
   pub pairs : AreStood w (pairs_in above) stood

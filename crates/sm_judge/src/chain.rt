@@ -1,6 +1,6 @@
 //! Answers of `rotations`: the first matching of seats, and the rotations from it on.
 
-ghost use Rattle.std.specs.Prelude.{◌≡◌, ℕ, ◌+◌, ◌<◌, ◌^◌, ◌++◌, ◌∷◌, [], List, length, map, None, false, IfOk};
+ghost use Rattle.std.specs.Prelude.{◌≡◌, ◌+◌, ◌<◌, ◌^◌, ◌++◌, ◌∷◌, [], List, length, map, None, false, IfOk};
 ghost use Rattle.std.specs.List.{All};
 ghost use Rattle.sm_seats.specs.SeatMarket.{seat_market};
 ghost use Rattle.sm_seats.specs.Seating.{seating_of};
@@ -33,10 +33,15 @@ use std::alloc::{AllocError, Global};
 /// written, and then, once the matching was tried, the rotations that were eliminated from it.
 #[derive(Drop)]
 pub struct Chain<'a> {
+    /// The instance.
     pub instance: &'a Instance,
+    /// The market of its seats.
     pub market: &'a Market,
+    /// The number of the first seat of each reviewer; reviewers and the seats of the market are counted from 0.
     pub firsts: &'a [u32],
+    /// The pairs of the first matching so far.
     pub pairs: SeatPairs,
+    /// The rotations, once the first matching was tried.
     pub walk: Option<Walk>,
 }
 
@@ -58,9 +63,11 @@ pub fn rotations_verdict(
     requires few { first_line + length lines.now < 2 ^ 32 }
     requires seats { seats.now ≡ seating_of instance.now }
     requires firsts { firsts.now ≡ first_seats_of instance.now }
-    requires own { All (IsOwnLine (answer instance.now HeadData.Rotations)) (map line_of lines.now) }
+    requires own { All (IsOwnLine (answer instance.now HeadData.Rotations))
+        (map line_of lines.now) }
     ensures { IfOk result (λ v. IsVerdict
-        (AtLine (Clauses (answer instance.now HeadData.Rotations)) (map line_of lines.now)) first_line v) }
+        (AtLine (Clauses (answer instance.now HeadData.Rotations)) (map line_of lines.now))
+        first_line v) }
 {
     let judge = Chain::none(alloc, instance, seats.market(), firsts)?;
     judge_lines(alloc, judge, lines, first_line)
@@ -73,7 +80,8 @@ impl<'a> Judge for Chain<'a> {
 
     ghost subject = { λ j. answer j.instance.now HeadData.Rotations };
 
-    ghost knows = { λ j above. IsChainKept j.instance.now j.market.now j.firsts.now above j.pairs j.walk };
+    ghost knows = { λ j above. IsChainKept j.instance.now j.market.now j.firsts.now above j.pairs
+        j.walk };
 
     fn find_fault(&mut self, alloc: Global, line: &Line) -> Result<Option<Reason>, AllocError> {
         match &mut self.walk {
@@ -101,7 +109,8 @@ impl<'a> Chain<'a> {
         ensures instance { IfOk result (λ chain. chain.instance ≡ instance.entry) }
         ensures market { IfOk result (λ chain. chain.market ≡ market.entry) }
         ensures firsts { IfOk result (λ chain. chain.firsts ≡ firsts.entry) }
-        ensures known { IfOk result (λ chain. IsChainKept instance.now market.now firsts.now [] chain.pairs chain.walk) }
+        ensures known { IfOk result (λ chain. IsChainKept instance.now market.now firsts.now []
+            chain.pairs chain.walk) }
     {
         Ok(Chain {
             instance,
@@ -112,10 +121,12 @@ impl<'a> Chain<'a> {
         })
     }
 
-    /// How each rotation so far moves its proposers.
+    /// How each rotation so far moves its proposers. Takes constant time.
     pub fn moves(&self) -> &[Vec<Move>]
-        ensures { (above : List LineData) → IsChainAt self.now.instance.now above self.now.pairs self.now.walk
-            → AreChainMoves (seat_market self.now.instance.now) (rotations_in self.now.instance.now above) (moves_in result.now) }
+        ensures { (above : List LineData) → IsChainAt self.now.instance.now above self.now.pairs
+            self.now.walk
+            → AreChainMoves (seat_market self.now.instance.now) (rotations_in self.now.instance.now
+            above) (moves_in result.now) }
     {
         match &self.walk {
             Some(walk) => &walk.moves,
@@ -127,15 +138,19 @@ impl<'a> Chain<'a> {
     fn first_fault(&mut self, alloc: Global, line: &Line) -> Result<Option<Reason>, AllocError>
         requires market { self.old.market.now ≡ seat_market self.old.instance.now }
         requires firsts { self.old.firsts.now ≡ first_seats_of self.old.instance.now }
-        requires own { IsOwnLine (answer self.old.instance.now HeadData.Rotations) (line_of line.now) }
-        requires known { IsKnown (λ above. AreFirstsKept self.old.instance.now above self.old.pairs) }
+        requires own { IsOwnLine (answer self.old.instance.now HeadData.Rotations)
+            (line_of line.now) }
+        requires known { IsKnown (λ above. AreFirstsKept self.old.instance.now above
+            self.old.pairs) }
         requires no_walk { self.old.walk ≡ None }
         ensures instance { self.new.instance ≡ self.old.instance }
         ensures market { self.new.market ≡ self.old.market }
         ensures firsts { self.new.firsts ≡ self.old.firsts }
-        ensures found { IfOk result (λ why. (above : List LineData) → AreFirstsKept self.old.instance.now above self.old.pairs
+        ensures found { IfOk result (λ why. (above : List LineData)
+            → AreFirstsKept self.old.instance.now above self.old.pairs
             → FindsOrKeeps (RotationsHold self.old.instance.now above (line_of line.now))
-            (IsChainAt self.old.instance.now (above ++ line_of line.now ∷ []) self.new.pairs self.new.walk) why) }
+            (IsChainAt self.old.instance.now (above ++ line_of line.now ∷ []) self.new.pairs
+            self.new.walk) why) }
     {
         match line {
             Line::Answer(_) => Ok(None),
@@ -154,15 +169,19 @@ impl<'a> Chain<'a> {
     fn behind_fault(&mut self, alloc: Global, line: &Line) -> Result<Option<Reason>, AllocError>
         requires market { self.old.market.now ≡ seat_market self.old.instance.now }
         requires firsts { self.old.firsts.now ≡ first_seats_of self.old.instance.now }
-        requires own { IsOwnLine (answer self.old.instance.now HeadData.Rotations) (line_of line.now) }
-        requires known { IsKnown (λ above. AreFirstsKept self.old.instance.now above self.old.pairs) }
+        requires own { IsOwnLine (answer self.old.instance.now HeadData.Rotations)
+            (line_of line.now) }
+        requires known { IsKnown (λ above. AreFirstsKept self.old.instance.now above
+            self.old.pairs) }
         requires behind { is_up_to_firsts (line_of line.now) ≡ false }
         ensures instance { self.new.instance ≡ self.old.instance }
         ensures market { self.new.market ≡ self.old.market }
         ensures firsts { self.new.firsts ≡ self.old.firsts }
-        ensures found { IfOk result (λ why. (above : List LineData) → AreFirstsKept self.old.instance.now above self.old.pairs
+        ensures found { IfOk result (λ why. (above : List LineData)
+            → AreFirstsKept self.old.instance.now above self.old.pairs
             → FindsOrKeeps (RotationsHold self.old.instance.now above (line_of line.now))
-            (IsChainAt self.old.instance.now (above ++ line_of line.now ∷ []) self.new.pairs self.new.walk) why) }
+            (IsChainAt self.old.instance.now (above ++ line_of line.now ∷ []) self.new.pairs
+            self.new.walk) why) }
     {
         let first = self.pairs.pairing(alloc, self.market)?;
         if !is_unblocked(self.market, &first) {

@@ -1,6 +1,6 @@
 //! Answers of `meet` and `join`.
 
-ghost use Rattle.std.specs.Prelude.{◌≡◌, ◌+◌, ◌<◌, ◌^◌, All, IfOk, length, map, replicate, None};
+ghost use Rattle.std.specs.Prelude.{◌≡◌, ◌+◌, ◌<◌, ◌^◌, All, IfOk, length, map};
 ghost use Rattle.sm_instance.specs.Matching.{held};
 ghost use Rattle.sm_theory.specs.Choices.{chosen};
 ghost use Rattle.sm_pairs.specs.Chosen.{head_for};
@@ -10,7 +10,7 @@ ghost use Rattle.sm_judge.specs.Judges.{IsOwnLine};
 ghost use Rattle.sm_judge.specs.Judging.{answer, Clauses};
 
 use crate::judging::{Judge, judge_lines};
-use crate::pairs::{is_unblocked, joins, no_pairs};
+use crate::pairs::{is_unblocked, joins};
 use crate::verdicts::{Reason, Verdict};
 use crate::wanted::Stood;
 use sm_instance::Instance;
@@ -33,7 +33,7 @@ struct ChosenJudge<'a> {
 
 /// The verdict on an answer of `meet`, where the better is chosen, or of `join`, of which the first line has this number. It is
 /// judged by the two matchings that the answer itself writes. Takes time in proportion to the agents, the entries and the
-/// lines, and a look-up for each pair, and memory in proportion to the agents.
+/// lines, and for each pair to the logarithm of how many list its reviewer, and memory in proportion to the agents.
 ///
 /// # Errors
 ///
@@ -48,14 +48,15 @@ pub fn chosen_verdict(
     requires few { first_line + length lines.now < 2 ^ 32 }
     requires own { All (IsOwnLine (answer instance.now (head_for choice))) (map line_of lines.now) }
     ensures { IfOk result (λ v. IsVerdict
-        (AtLine (Clauses (answer instance.now (head_for choice))) (map line_of lines.now)) first_line v) }
+        (AtLine (Clauses (answer instance.now (head_for choice))) (map line_of lines.now))
+        first_line v) }
 {
     let judge = ChosenJudge {
         instance,
         choice,
-        left: no_pairs(alloc, instance)?,
-        right: no_pairs(alloc, instance)?,
-        wanted: nobody_wanted(alloc, instance)?,
+        left: Holding::none(alloc, instance)?,
+        right: Holding::none(alloc, instance)?,
+        wanted: vec![in alloc; None; instance.proposer_count() as usize]?,
         stood: Stood::nobody(alloc, instance)?,
     };
     judge_lines(alloc, judge, lines, first_line)
@@ -68,9 +69,10 @@ impl<'a> Judge for ChosenJudge<'a> {
 
     ghost subject = { λ j. answer j.instance.now (head_for j.choice) };
 
-    ghost knows = { λ j above. AreChosenKept j.choice j.instance.now above j.left j.right j.wanted.items j.stood.stood.items };
+    ghost knows = { λ j above. AreChosenKept j.choice j.instance.now above j.left j.right
+        j.wanted.items j.stood.stood.items };
 
-    fn find_fault(&mut self, alloc: Global, line: &Line) -> Result<Option<Reason>, AllocError> {
+    fn find_fault(&mut self, _alloc: Global, line: &Line) -> Result<Option<Reason>, AllocError> {
         match line {
             Line::LeftPair(p, r) => {
                 if !joins(&mut self.left, self.instance, *p, *r) {
@@ -93,10 +95,10 @@ impl<'a> Judge for ChosenJudge<'a> {
                 Ok(None)
             }
             Line::End => {
-                if !is_unblocked(alloc, self.instance, &self.left)? {
+                if !is_unblocked(self.instance, &self.left) {
                     return Ok(Some(Reason::Blocked));
                 }
-                if !is_unblocked(alloc, self.instance, &self.right)? {
+                if !is_unblocked(self.instance, &self.right) {
                     return Ok(Some(Reason::Blocked));
                 }
                 if !self.stood.are_all_there(self.instance, &self.wanted) {
@@ -111,16 +113,11 @@ impl<'a> Judge for ChosenJudge<'a> {
 
 /// The chosen one of the two places that a proposer has.
 fn chosen_at(choice: Choice, left: &Holding, right: &Holding, p: u32) -> Option<u32>
-    requires in_left { p < length left.now.places.items }
-    requires in_right { p < length right.now.places.items }
-    ensures { result ≡ chosen choice (held left.now.places.items p) (held right.now.places.items p) }
+    requires in_left { p < length left.now.matching.places.items }
+    requires in_right { p < length right.now.matching.places.items }
+    ensures { result ≡ chosen choice (held left.now.matching.places.items p)
+        (held right.now.matching.places.items p) }
 {
-    chosen_place(choice, left.places[p as usize], right.places[p as usize])
-}
-
-/// The matching of nobody.
-fn nobody_wanted(alloc: Global, instance: &Instance) -> Result<Vec<Option<u32>>, AllocError>
-    ensures { IfOk result (λ wanted. wanted.items ≡ replicate (length instance.now.proposers) None) }
-{
-    Ok(vec![in alloc; None; instance.proposer_count() as usize]?)
+    let p = p as usize;
+    chosen_place(choice, left.matching.places[p], right.matching.places[p])
 }

@@ -41,7 +41,8 @@ pub fn couples_verdict(
 ) -> Result<Verdict, AllocError>
     requires few { first_line + length lines.now < 2 ^ 32 }
     requires own { All (IsOwnLine (couples persons.now)) (map line_of lines.now) }
-    ensures { IfOk result (λ v. IsVerdict (AtLine (Clauses (couples persons.now)) (map line_of lines.now)) first_line v) }
+    ensures { IfOk result (λ v. IsVerdict (AtLine (Clauses (couples persons.now))
+        (map line_of lines.now)) first_line v) }
 {
     let rooms = room_lists(alloc, persons)?;
     let mates = no_mates(alloc, &rooms)?;
@@ -82,9 +83,12 @@ fn line_fault(
 ) -> Result<Option<Reason>, AllocError>
     requires in_range { AreThere (length rooms.now) (line_of line.now) }
     requires matching { IsRoomMatching rooms.now mates.old }
-    ensures found { IfOk result (λ why. (persons : List AgentData) (pairs : List (ℕ × ℕ)) → rooms.now ≡ lists_of persons
-        → AreCouplesHeld rooms.now pairs mates.old → Finds (CouplesHold persons pairs (line_of line.now)) why) }
-    ensures held { IfOk result (λ why. (pairs : List (ℕ × ℕ)) → AreCouplesHeld rooms.now pairs mates.old → why ≡ None
+    ensures found { IfOk result (λ why. (persons : List AgentData) (pairs : List (ℕ × ℕ))
+        → rooms.now ≡ lists_of persons
+        → AreCouplesHeld rooms.now pairs mates.old
+        → Finds (CouplesHold persons pairs (line_of line.now)) why) }
+    ensures held { IfOk result (λ why. (pairs : List (ℕ × ℕ))
+        → AreCouplesHeld rooms.now pairs mates.old → why ≡ None
         → AreCouplesHeld rooms.now (pairs ++ pairs_in (line_of line.now ∷ [])) mates.new) }
 {
     match line {
@@ -106,8 +110,10 @@ fn end_fault(
     mates: &[Option<u32>],
 ) -> Result<Option<Reason>, AllocError>
     requires { IsRoomMatching rooms.now mates.now }
-    ensures { IfOk result (λ why. (persons : List AgentData) (pairs : List (ℕ × ℕ)) → rooms.now ≡ lists_of persons
-        → AreCouplesHeld rooms.now pairs mates.now → Finds (CouplesHold persons pairs LineData.End) why) }
+    ensures { IfOk result (λ why. (persons : List AgentData) (pairs : List (ℕ × ℕ)) → rooms.now
+        ≡ lists_of persons
+        → AreCouplesHeld rooms.now pairs mates.now → Finds (CouplesHold persons pairs LineData.End)
+        why) }
 {
     if is_room_stable(alloc, rooms, mates)? {
         return Ok(None);

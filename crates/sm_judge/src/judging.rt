@@ -23,7 +23,8 @@ pub trait Judge {
     /// These may be the lines above: no clause fails there, and what is kept is of them.
     ghost knows: { Self → List LineData → Type 0 };
 
-    /// The first clause that fails at the next line. Where none does, what is kept is of this line too.
+    /// The first clause that fails at the next line. Where none does, what is kept is of this line too. What all lines of an answer
+    /// take together is said at the verdict of its kind.
     ///
     /// # Errors
     ///
@@ -32,10 +33,12 @@ pub trait Judge {
         requires own { IsOwnLine (subject self.old) (line_of line.now) }
         requires known { IsKnown (knows self.old) }
         ensures subject { subject self.new ≡ subject self.old }
-        ensures found { IfOk result (λ why. Judges (subject self.old) (knows self.old) (knows self.new) (line_of line.now) why) };
+        ensures found { IfOk result (λ why. Judges (subject self.old) (knows self.old)
+            (knows self.new) (line_of line.now) why) };
 }
 
-/// The verdict on an answer of which the first line has this number.
+/// The verdict on an answer of which the first line has this number. Takes the time and memory of
+/// [`find_fault`](Judge::find_fault) for each line up to the first at which a clause fails.
 ///
 /// # Errors
 ///
@@ -49,7 +52,8 @@ pub fn judge_lines<J: Judge + Drop>(
     requires few { first_line + length lines.now < 2 ^ 32 }
     requires own { All (IsOwnLine (J.subject judge)) (map line_of lines.now) }
     requires knows { J.knows judge [] }
-    ensures { IfOk result (λ v. IsVerdict (AtLine (Clauses (J.subject judge)) (map line_of lines.now)) first_line v) }
+    ensures { IfOk result (λ v. IsVerdict (AtLine (Clauses (J.subject judge))
+        (map line_of lines.now)) first_line v) }
 {
     let mut judge = judge;
     for k in 0..lines.len() {

@@ -4,7 +4,6 @@
 //! first that fails is the verdict. What the clauses say stands in `specs`, by the definitions of the field alone.
 #![tactic(auto)]
 
-mod again;
 mod chain;
 mod chosen;
 mod couples;
@@ -18,6 +17,7 @@ mod regret;
 mod seat_lists;
 mod seat_pairs;
 mod solving;
+mod tried;
 mod verdicts;
 mod walk;
 mod wanted;

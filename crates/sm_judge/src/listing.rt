@@ -10,12 +10,12 @@ ghost use Rattle.sm_report.specs.Lines.{line_of};
 ghost use Rattle.sm_judge.specs.Verdicts.{AtLine, Finds, IsVerdict};
 ghost use Rattle.sm_judge.specs.Vectors.{MoreHolds, VectorHolds, places_of_ranks, order_of};
 ghost use Rattle.sm_judge.specs.Listing.{last_or};
-ghost use Rattle.sm_judge.specs.Again.{HasRoom, IsTried};
+ghost use Rattle.sm_judge.specs.Tried.{HasRoom, IsTried};
 ghost use Rattle.sm_judge.specs.Judges.{IsOwnLine};
 ghost use Rattle.sm_judge.specs.Judging.{answer, Clauses};
 
-use crate::again::{Tried, stability_fault};
 use crate::judging::{Judge, judge_lines};
+use crate::tried::{Tried, stability_fault};
 use crate::verdicts::{Reason, Verdict};
 use sm_instance::{Assignment, Instance};
 use sm_report::Line;
@@ -51,11 +51,13 @@ pub fn list_verdict(
     first_line: u32,
 ) -> Result<Verdict, AllocError>
     requires few { first_line + length lines.now < 2 ^ 32 }
-    requires own { All (IsOwnLine (answer instance.now (ListHead (option_map (λ b. b.now) after) limit)))
+    requires own { All (IsOwnLine (answer instance.now (ListHead (option_map (λ b. b.now) after)
+        limit)))
         (map line_of lines.now) }
     requires after_each { IfSome after (λ b. length b.now ≡ length instance.now.proposers) }
     ensures { IfOk result (λ v. IsVerdict
-        (AtLine (Clauses (answer instance.now (ListHead (option_map (λ b. b.now) after.entry) limit)))
+        (AtLine (Clauses (answer instance.now (ListHead (option_map (λ b. b.now) after.entry)
+        limit)))
         (map line_of lines.now)) first_line v) }
 {
     let proposers = instance.proposer_count() as usize;
@@ -86,7 +88,8 @@ impl<'a> Judge for ListJudge<'a> {
     ghost use Rattle.sm_judge.specs.Judging.{answer};
     ghost use Rattle.sm_judge.specs.Listing.{AreVectorsKept};
 
-    ghost subject = { λ j. answer j.instance.now (ListHead (option_map (λ b. b.now) j.after) j.limit) };
+    ghost subject = { λ j. answer j.instance.now (ListHead (option_map (λ b. b.now) j.after)
+        j.limit) };
 
     ghost knows = { λ j above. AreVectorsKept j.instance.now (option_map (λ b. b.now) j.after)
         above j.count j.last.items j.tried };
@@ -116,14 +119,15 @@ impl<'a> Judge for ListJudge<'a> {
     }
 }
 
-// The last vector of so many, or else the cursor.
+/// The last vector of so many, or else the cursor.
 fn last_vector<'a, 'b: 'a>(
     after: Option<&'b [u32]>,
     count: u32,
     last: &'a [u32],
 ) -> Option<&'a [u32]>
     requires after_each { IfSome after (λ b. length b.now ≡ length last.now) }
-    ensures last { option_map (λ b. b.now) result ≡ last_or count last.now (option_map (λ b. b.now) after.entry) }
+    ensures last { option_map (λ b. b.now) result ≡ last_or count last.now (option_map
+        (λ b. b.now) after.entry) }
     ensures each { IfSome result (λ b. length b.now ≡ length last.now) }
 {
     if count > 0 {
@@ -135,7 +139,7 @@ fn last_vector<'a, 'b: 'a>(
     }
 }
 
-// The first clause that fails at a vector's line. Where none does, its matching is kept for the next one.
+/// The first clause that fails at a vector's line. Where none does, its matching is kept for the next one.
 fn vector_fault(
     instance: &Instance,
     tried: &mut Tried,
@@ -148,9 +152,11 @@ fn vector_fault(
     requires before_each { IfSome before (λ b. length b.now ≡ length instance.now.proposers) }
     requires room { HasRoom instance.now tried.old }
     requires kept { 0 < count → IsTried instance.now tried.old.matching.places.items tried.old }
-    ensures found { Finds (VectorHolds instance.now (option_map (λ b. b.now) before.entry) count limit v.now) result }
+    ensures found { Finds (VectorHolds instance.now (option_map (λ b. b.now) before.entry) count
+        limit v.now) result }
     ensures room { HasRoom instance.now tried.new }
-    ensures kept { result ≡ None → IsTried instance.now (places_of_ranks instance.now v.now) tried.new }
+    ensures kept { result ≡ None → IsTried instance.now (places_of_ranks instance.now v.now)
+        tried.new }
 {
     if !set_places(instance, &mut tried.next, v) {
         return Some(Reason::NotAMatching);
@@ -170,7 +176,7 @@ fn vector_fault(
     None
 }
 
-// The first clause that fails at a line of `more`.
+/// The first clause that fails at a line of `more`.
 fn more_fault(before: Option<&[u32]>, count: u32, limit: u32, v: &[u32]) -> Option<Reason>
     ensures { Finds (MoreHolds (option_map (λ b. b.now) before.entry) count limit v.now) result }
 {
@@ -180,7 +186,7 @@ fn more_fault(before: Option<&[u32]>, count: u32, limit: u32, v: &[u32]) -> Opti
     Some(Reason::WrongTail)
 }
 
-// Whether there is a vector, and it is this one.
+/// Whether there is a vector, and it is this one.
 fn is_one(before: Option<&[u32]>, v: &[u32]) -> bool
     ensures { IsTrue result ↔ (option_map (λ b. b.now) before.entry ≡ Some v.now) }
 {
@@ -190,7 +196,7 @@ fn is_one(before: Option<&[u32]>, v: &[u32]) -> bool
     }
 }
 
-// The place of a rank on a list of so many, none for a rank past it.
+/// The place of a rank on a list of so many, none for a rank past it.
 fn place_of(rank: u32, len: u32) -> Option<u32>
     ensures { result ≡ (if nat_le rank len then Some (rank - 1) else None) }
 {
@@ -201,7 +207,7 @@ fn place_of(rank: u32, len: u32) -> Option<u32>
     }
 }
 
-// Whether a rank is of a list of so many, or that of being unmatched.
+/// Whether a rank is of a list of so many, or that of being unmatched.
 fn is_rank(rank: u32, len: u32) -> bool
     requires { len ≤ 524288 }
     ensures { IsTrue result ↔ ((1 ≤ rank) × (rank ≤ len + 1)) }
@@ -209,14 +215,16 @@ fn is_rank(rank: u32, len: u32) -> bool
     1 <= rank && rank <= len + 1
 }
 
-// Writes the places of ranks, and tells whether all are ranks.
+/// Writes the places of ranks, and tells whether all are ranks.
 fn set_places(instance: &Instance, a: &mut Assignment, v: &[u32]) -> bool
     requires one_each { length v.now ≡ length instance.now.proposers }
     requires places_each { length a.old.places.items ≡ length instance.now.proposers }
     ensures places_each { length a.new.places.items ≡ length instance.now.proposers }
     ensures places { a.new.places.items ≡ places_of_ranks instance.now v.now }
-    ensures ranks { IsTrue result ↔ (rank_vector_of instance.now (places_of_ranks instance.now v.now) ≡ v.now) }
-    ensures assigned { IsTrue result → IsAssignment instance.now (places_of_ranks instance.now v.now) }
+    ensures ranks { IsTrue result ↔ (rank_vector_of instance.now (places_of_ranks instance.now
+        v.now) ≡ v.now) }
+    ensures assigned { IsTrue result → IsAssignment instance.now (places_of_ranks instance.now
+        v.now) }
 {
     let mut are_ranks = true;
     for p in 0..instance.proposer_count() {
@@ -230,11 +238,12 @@ fn set_places(instance: &Instance, a: &mut Assignment, v: &[u32]) -> bool
     are_ranks
 }
 
-// Whether a vector stands behind another one, if there is one.
+/// Whether a vector stands behind another one, if there is one.
 fn is_behind(instance: &Instance, before: Option<&[u32]>, v: &[u32]) -> bool
     requires one_each { length v.now ≡ length instance.now.proposers }
     requires before_each { IfSome before (λ b. length b.now ≡ length instance.now.proposers) }
-    ensures { IsTrue result ↔ IsBehind (IsBefore (order_of instance.now)) (option_map (λ b. b.now) before.entry) v.now }
+    ensures { IsTrue result ↔ IsBehind (IsBefore (order_of instance.now)) (option_map
+        (λ b. b.now) before.entry) v.now }
 {
     let Some(before) = before else {
         return true;

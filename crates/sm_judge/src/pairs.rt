@@ -1,21 +1,12 @@
 //! Matchings that an answer writes by pairs.
 
-ghost use Rattle.std.specs.Prelude.{◌≡◌, ℕ, ◌<◌, ◌↔◌, [], List, length, IsTrue, IfOk};
+ghost use Rattle.std.specs.Prelude.{ℕ, ◌<◌, ◌↔◌, List, length, IsTrue};
 ghost use Rattle.sm_instance.specs.Stable.{IsStable};
 ghost use Rattle.sm_pairs.specs.Holding.{IsHolding};
 ghost use Rattle.sm_judge.specs.PairsKept.{ArePairsHeld, Joins};
 
-use sm_instance::{Assignment, Instance};
+use sm_instance::Instance;
 use sm_pairs::Holding;
-use std::alloc::{AllocError, Global};
-
-/// No pair so far.
-pub(crate) fn no_pairs(alloc: Global, instance: &Instance) -> Result<Holding, AllocError>
-    ensures { IfOk result (λ holding. ArePairsHeld instance.now [] holding) }
-{
-    let holding = Holding::none(alloc, instance)?;
-    Ok(holding)
-}
 
 /// Whether a pair may stand behind those that are held. It is held too then.
 pub(crate) fn joins(holding: &mut Holding, instance: &Instance, p: u32, r: u32) -> bool
@@ -28,18 +19,10 @@ pub(crate) fn joins(holding: &mut Holding, instance: &Instance, p: u32, r: u32) 
     holding.add(instance, p, r)
 }
 
-/// Whether no pair blocks the matching of the pairs that are held. Takes time in proportion to the agents and entries, and
-/// memory in proportion to the proposers.
-pub(crate) fn is_unblocked(
-    alloc: Global,
-    instance: &Instance,
-    holding: &Holding,
-) -> Result<bool, AllocError>
+/// Whether no pair blocks the matching of the pairs that are held. Takes time in proportion to the agents and entries.
+pub(crate) fn is_unblocked(instance: &Instance, holding: &Holding) -> bool
     requires { IsHolding instance.now holding.now }
-    ensures { IfOk result (λ stable. IsTrue stable ↔ IsStable instance.now holding.now.places.items) }
+    ensures { IsTrue result ↔ IsStable instance.now holding.now.matching.places.items }
 {
-    let matching = Assignment {
-        places: Vec::from_slice(alloc, &holding.places)?,
-    };
-    Ok(instance.first_blocking(&matching).is_none())
+    instance.first_blocking(&holding.matching).is_none()
 }

@@ -1,6 +1,6 @@
 //! Answers of `solve` for roommates that write parties.
 
-ghost use Rattle.std.specs.Prelude.{◌≡◌, ◌≢◌, ◌⊎◌, ℕ, ◌+◌, ◌<◌, ◌^◌, ◌↔◌, [], List, All, length, map, slice_index, IsTrue, IfOk, EachIndex, false, true, replicate};
+ghost use Rattle.std.specs.Prelude.{◌≡◌, ◌≢◌, ◌⊎◌, ℕ, ◌+◌, ◌<◌, ◌^◌, ◌↔◌, [], List, All, length, map, slice_index, IsTrue, IfOk, EachIndex, false, true};
 ghost use Rattle.sm_instance.specs.Written.{AgentData, lists_of};
 ghost use Rattle.sm_report.specs.Lines.{LineData, line_of};
 ghost use Rattle.sm_judge.specs.Verdicts.{AtLine, Finds, IsVerdict};
@@ -48,7 +48,8 @@ pub fn parties_verdict(
 ) -> Result<Verdict, AllocError>
     requires few { first_line + length lines.now < 2 ^ 32 }
     requires own { All (IsOwnLine (parties persons.now)) (map line_of lines.now) }
-    ensures { IfOk result (λ v. IsVerdict (AtLine (Clauses (parties persons.now)) (map line_of lines.now)) first_line v) }
+    ensures { IfOk result (λ v. IsVerdict (AtLine (Clauses (parties persons.now))
+        (map line_of lines.now)) first_line v) }
 {
     let rooms = room_lists(alloc, persons)?;
     let none = Parties::none(alloc, rooms.persons())?;
@@ -90,9 +91,12 @@ fn end_fault(
     parties: &Parties,
 ) -> Result<Option<Reason>, AllocError>
     requires one_each { length parties.now.next.items ≡ length rooms.now }
-    requires in_range { (x : ℕ) → x < length rooms.now → slice_index parties.now.next.items x < length rooms.now }
-    ensures { IfOk result (λ why. (persons : List AgentData) (parties_above : List (List ℕ)) → rooms.now ≡ lists_of persons
-        → ArePartiesHeld (length rooms.now) parties_above parties.now.next.items parties.now.met.items parties.now.odd
+    requires in_range { (x : ℕ) → x < length rooms.now → slice_index parties.now.next.items x
+        < length rooms.now }
+    ensures { IfOk result (λ why. (persons : List AgentData) (parties_above : List (List ℕ))
+        → rooms.now ≡ lists_of persons
+        → ArePartiesHeld (length rooms.now) parties_above parties.now.next.items
+        parties.now.met.items parties.now.odd
         → Finds (PartiesHold persons parties_above LineData.End) why) }
 {
     if !are_all_met(&parties.met) {
@@ -117,10 +121,11 @@ fn are_all_met(met: &[bool]) -> bool
 impl Parties {
     /// No party so far. Each person follows itself.
     fn none(alloc: Global, persons: u32) -> Result<Parties, AllocError>
-        ensures { IfOk result (λ none. ArePartiesHeld persons [] none.next.items none.met.items none.odd) }
+        ensures { IfOk result (λ none. ArePartiesHeld persons [] none.next.items none.met.items
+            none.odd) }
     {
         let next = themselves(alloc, persons)?;
-        let met = nobody_met(alloc, persons)?;
+        let met = vec![in alloc; false; persons as usize]?;
         Ok(Parties {
             next,
             met,
@@ -130,11 +135,14 @@ impl Parties {
 
     /// Whether a party may stand behind these. It stands among them then.
     fn add(&mut self, party: &[u32]) -> bool
-        requires in_range { EachIndex party.now (λ j. slice_index party.now j < length self.old.met.items) }
+        requires in_range { EachIndex party.now (λ j. slice_index party.now j
+            < length self.old.met.items) }
         requires as_many { length self.old.next.items ≡ length self.old.met.items }
         ensures { (parties : List (List ℕ))
-            → ArePartiesHeld (length self.old.met.items) parties self.old.next.items self.old.met.items self.old.odd
-            → Parts parties party.now (length self.old.met.items) self.new.next.items self.new.met.items self.new.odd result }
+            → ArePartiesHeld (length self.old.met.items) parties self.old.next.items
+            self.old.met.items self.old.odd
+            → Parts parties party.now (length self.old.met.items) self.new.next.items
+            self.new.met.items self.new.odd result }
     {
         if !meet(&mut self.met, party) {
             return false;
@@ -157,13 +165,6 @@ fn themselves(alloc: Global, persons: u32) -> Result<Vec<u32>, AllocError>
     Ok(numbers)
 }
 
-/// Nobody was met.
-fn nobody_met(alloc: Global, persons: u32) -> Result<Vec<bool>, AllocError>
-    ensures { IfOk result (λ met. met.items ≡ replicate persons false) }
-{
-    Ok(vec![in alloc; false; persons as usize]?)
-}
-
 /// Whether no person of a party was met before, nor stands in it twice. All of them are met then.
 pub(crate) fn meet(met: &mut [bool], party: &[u32]) -> bool
     requires { EachIndex party.now (λ j. slice_index party.now j < length met.old) }
@@ -182,7 +183,8 @@ pub(crate) fn meet(met: &mut [bool], party: &[u32]) -> bool
 /// Writes who follows whom in a party: the first person follows the last one.
 pub(crate) fn link(next: &mut [u32], party: &[u32])
     requires in_range { EachIndex party.now (λ j. slice_index party.now j < length next.old) }
-    requires distinct { (i j : ℕ) → i < j → j < length party.now → slice_index party.now i ≢ slice_index party.now j }
+    requires distinct { (i j : ℕ) → i < j → j < length party.now → slice_index party.now i
+        ≢ slice_index party.now j }
     ensures { AreLinked party.now next.old (length party.now) next.new }
 {
     for j in 0..party.len() {

@@ -36,7 +36,7 @@ use std::alloc::{AllocError, Global};
 struct ReducedJudge<'a> {
     instance: &'a Instance,
     market: &'a Market,
-    seats: &'a [u32],
+    firsts: &'a [u32],
     first: SeatPairs,
     last: SeatPairs,
     group: Group,
@@ -73,14 +73,15 @@ pub fn reduced_verdict(
     requires firsts { firsts.now ≡ first_seats_of instance.now }
     requires own { All (IsOwnLine (answer instance.now HeadData.Reduced)) (map line_of lines.now) }
     ensures { IfOk result (λ v. IsVerdict
-        (AtLine (Clauses (answer instance.now HeadData.Reduced)) (map line_of lines.now)) first_line v) }
+        (AtLine (Clauses (answer instance.now HeadData.Reduced)) (map line_of lines.now))
+        first_line v) }
 {
     let market = seats.market();
     prove!(market.proposers() < 1 << 24);
     let judge = ReducedJudge {
         instance,
         market,
-        seats: firsts,
+        firsts,
         first: SeatPairs::none(alloc, market)?,
         last: SeatPairs::none(alloc, market)?,
         group: Group::First,
@@ -95,20 +96,21 @@ impl<'a> Judge for ReducedJudge<'a> {
 
     ghost subject = { λ j. answer j.instance.now HeadData.Reduced };
 
-    ghost knows = { λ j above. IsReducedKept j.instance.now j.market.now j.seats.now above j.first j.last j.group };
+    ghost knows = { λ j above. IsReducedKept j.instance.now j.market.now j.firsts.now above j.first
+        j.last j.group };
 
     fn find_fault(&mut self, alloc: Global, line: &Line) -> Result<Option<Reason>, AllocError> {
         match line {
             Line::Answer(_) => Ok(None),
             Line::First(p, seat) => {
-                let number = seat_number(self.instance, self.seats, *seat);
+                let number = seat_number(self.instance, self.firsts, *seat);
                 if !self.first.add(self.market, *p, number) {
                     return Ok(Some(Reason::NotAMatching));
                 }
                 Ok(None)
             }
             Line::Last(p, seat) => {
-                let number = seat_number(self.instance, self.seats, *seat);
+                let number = seat_number(self.instance, self.firsts, *seat);
                 if !self.last.add(self.market, *p, number) {
                     return Ok(Some(Reason::NotAMatching));
                 }
@@ -125,7 +127,7 @@ impl<'a> Judge for ReducedJudge<'a> {
             }
             _ => match &mut self.group {
                 Group::Lists(lists) => {
-                    lists.find_fault(alloc, self.instance, self.market, self.seats, line)
+                    lists.find_fault(alloc, self.instance, self.market, self.firsts, line)
                 }
                 _ => self.behind_fault(alloc, line),
             },
@@ -136,18 +138,21 @@ impl<'a> Judge for ReducedJudge<'a> {
 impl<'a> ReducedJudge<'a> {
     /// The same at the first line behind both matchings, which are tried there.
     fn behind_fault(&mut self, alloc: Global, line: &Line) -> Result<Option<Reason>, AllocError>
-        requires own { IsOwnLine (answer self.old.instance.now HeadData.Reduced) (line_of line.now) }
-        requires known { IsKnown (λ above. IsReducedKept self.old.instance.now self.old.market.now self.old.seats.now above
+        requires own { IsOwnLine (answer self.old.instance.now HeadData.Reduced)
+            (line_of line.now) }
+        requires known { IsKnown (λ above. IsReducedKept self.old.instance.now self.old.market.now
+            self.old.firsts.now above
             self.old.first self.old.last self.old.group) }
         requires behind { is_up_to_lasts (line_of line.now) ≡ false }
         requires going { (lists : SeatLists) → self.old.group ≢ Lists lists }
         ensures instance { self.new.instance ≡ self.old.instance }
         ensures market { self.new.market ≡ self.old.market }
-        ensures seats { self.new.seats ≡ self.old.seats }
+        ensures firsts { self.new.firsts ≡ self.old.firsts }
         ensures found { IfOk result (λ why. (above : List LineData)
             → IsReducedOf self.old.instance.now above self.old.first self.old.last self.old.group
             → FindsOrKeeps (ReducedHold self.old.instance.now above (line_of line.now))
-            (IsReducedOf self.old.instance.now (above ++ line_of line.now ∷ []) self.new.first self.new.last self.new.group)
+            (IsReducedOf self.old.instance.now (above ++ line_of line.now ∷ []) self.new.first
+            self.new.last self.new.group)
             why) }
     {
         let first = self.first.pairing(alloc, self.market)?;
@@ -165,7 +170,7 @@ impl<'a> ReducedJudge<'a> {
             return Ok(Some(Reason::NotBest));
         }
         let mut lists = SeatLists::none(alloc, self.market, first, last)?;
-        let why = lists.find_fault(alloc, self.instance, self.market, self.seats, line)?;
+        let why = lists.find_fault(alloc, self.instance, self.market, self.firsts, line)?;
         self.group = Group::Lists(lists);
         Ok(why)
     }

@@ -17,7 +17,7 @@ ghost use Rattle.sm_instance.specs.Matching.{IsMatching};
 ghost use Rattle.sm_judge.specs.PairsKept.{ArePairsHeld};
 
 use crate::judging::{Judge, judge_lines};
-use crate::pairs::{joins, no_pairs};
+use crate::pairs::joins;
 use crate::verdicts::{Reason, Verdict};
 use sm_instance::{Assignment, Instance};
 use sm_pairs::Holding;
@@ -33,7 +33,8 @@ struct RegretJudge<'a> {
 }
 
 /// The verdict on an answer of `regret`, of which the first line has this number. Takes time in proportion to the agents, the
-/// entries and the lines, and a look-up for each pair, and memory in proportion to the agents.
+/// entries and the lines, and for each pair to the logarithm of how many list its reviewer, and memory in proportion to the
+/// agents.
 ///
 /// # Errors
 ///
@@ -46,11 +47,12 @@ pub fn regret_verdict(
 ) -> Result<Verdict, AllocError>
     requires few { first_line + length lines.now < 2 ^ 32 }
     requires own { All (IsOwnLine (answer instance.now Regret)) (map line_of lines.now) }
-    ensures { IfOk result (λ v. IsVerdict (AtLine (Clauses (answer instance.now Regret)) (map line_of lines.now)) first_line v) }
+    ensures { IfOk result (λ v. IsVerdict (AtLine (Clauses (answer instance.now Regret))
+        (map line_of lines.now)) first_line v) }
 {
     let judge = RegretJudge {
         instance,
-        holding: no_pairs(alloc, instance)?,
+        holding: Holding::none(alloc, instance)?,
         regret: None,
     };
     judge_lines(alloc, judge, lines, first_line)
@@ -65,8 +67,8 @@ impl<'a> Judge for RegretJudge<'a> {
 
     ghost knows = { λ j above. AreRegretsKept j.instance.now above j.holding j.regret };
 
-    fn find_fault(&mut self, alloc: Global, line: &Line) -> Result<Option<Reason>, AllocError> {
-        let why = line_fault(alloc, self.instance, &mut self.holding, self.regret, line)?;
+    fn find_fault(&mut self, _alloc: Global, line: &Line) -> Result<Option<Reason>, AllocError> {
+        let why = line_fault(self.instance, &mut self.holding, self.regret, line);
         self.regret = self.regret.or(regret_in(line));
         Ok(why)
     }
@@ -84,45 +86,36 @@ fn regret_in(line: &Line) -> Option<u32>
 
 /// The first clause that fails at a line, behind these pairs and this regret. The pair of the line is held too.
 fn line_fault(
-    alloc: Global,
     instance: &Instance,
     holding: &mut Holding,
     regret: Option<u32>,
     line: &Line,
-) -> Result<Option<Reason>, AllocError>
+) -> Option<Reason>
     requires line { IsLineOf (Two instance.now) (line_of line.now) }
     requires held { IsHolding instance.now holding.old }
-    ensures { IfOk result (λ why. (pairs : List (ℕ × ℕ)) → ArePairsHeld instance.now pairs holding.old
+    ensures { (pairs : List (ℕ × ℕ)) → ArePairsHeld instance.now pairs holding.old
         → FindsOrKeeps (RegretHolds instance.now (unwrap_or regret 0) pairs (line_of line.now))
-        (ArePairsHeld instance.now (pairs ++ pairs_in (line_of line.now ∷ [])) holding.new) why) }
+        (ArePairsHeld instance.now (pairs ++ pairs_in (line_of line.now ∷ [])) holding.new) result }
 {
     match line {
         Line::Pair(p, r) => {
             if !joins(holding, instance, *p, *r) {
-                return Ok(Some(Reason::NotAMatching));
+                return Some(Reason::NotAMatching);
             }
-            Ok(None)
+            None
         }
-        Line::End => end_fault(alloc, instance, holding, regret),
-        _ => Ok(None),
+        Line::End => end_fault(instance, holding, regret),
+        _ => None,
     }
 }
 
 /// The first clause that fails at the end, behind these pairs and this regret.
-fn end_fault(
-    alloc: Global,
-    instance: &Instance,
-    holding: &Holding,
-    regret: Option<u32>,
-) -> Result<Option<Reason>, AllocError>
+fn end_fault(instance: &Instance, holding: &Holding, regret: Option<u32>) -> Option<Reason>
     requires { IsHolding instance.now holding.now }
-    ensures { IfOk result (λ why. (pairs : List (ℕ × ℕ)) → ArePairsHeld instance.now pairs holding.now
-        → Finds (RegretHolds instance.now (unwrap_or regret 0) pairs LineData.End) why) }
+    ensures { (pairs : List (ℕ × ℕ)) → ArePairsHeld instance.now pairs holding.now
+        → Finds (RegretHolds instance.now (unwrap_or regret 0) pairs LineData.End) result }
 {
-    let a = Assignment {
-        places: Vec::from_slice(alloc, &holding.places)?,
-    };
-    Ok(matching_fault(instance, &a, regret.unwrap_or(0)))
+    matching_fault(instance, &holding.matching, regret.unwrap_or(0))
 }
 
 /// The first clause that fails of the matching.

@@ -75,7 +75,8 @@ impl SeatLists {
         requires last { IsPairingOf market.now self.old.last }
         requires proposers { length self.old.proposers.items ≡ length market.now.proposers }
         requires seats { length self.old.seats.items ≡ length market.now.reviewers }
-        ensures { IfOk result (λ why. (above : List LineData) → AreListsOf instance.now above self.old
+        ensures { IfOk result (λ why. (above : List LineData)
+            → AreListsOf instance.now above self.old
             → FindsOrKeeps (ListsHold instance.now above (line_of line.now))
             (AreListsBehind instance.now above (line_of line.now) self.new) why) }
     {

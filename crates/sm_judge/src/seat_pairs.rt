@@ -1,6 +1,6 @@
 //! Matchings of seats that an answer writes by pairs of a proposer and a seat.
 
-ghost use Rattle.std.specs.Prelude.{◌≡◌, ℕ, ◌<◌, ◌↔◌, [], List, length, replicate, false, None, IsTrue, IfOk, MatchOption};
+ghost use Rattle.std.specs.Prelude.{◌≡◌, ℕ, ◌<◌, ◌↔◌, [], List, length, IsTrue, IfOk, MatchOption};
 ghost use Rattle.sm_market.specs.Lists.{row, place_of};
 ghost use Rattle.sm_market.specs.Pairing.{IsPairingOf};
 ghost use Rattle.sm_market.specs.PairingFaults.{AreHeld};
@@ -24,8 +24,8 @@ impl SeatPairs {
         ensures { IfOk result (λ pairs. AreSeatPairs market.now [] pairs) }
     {
         Ok(SeatPairs {
-            places: no_places(alloc, market)?,
-            taken: none_taken(alloc, market)?,
+            places: vec![in alloc; None; market.proposers() as usize]?,
+            taken: vec![in alloc; false; market.reviewers() as usize]?,
         })
     }
 
@@ -60,7 +60,8 @@ impl SeatPairs {
     pub(crate) fn pairing(&self, alloc: Global, market: &Market) -> Result<Pairing, AllocError>
         requires { AreHeld market.now self.now.places.items }
         ensures pairing { IfOk result (λ m. IsPairingOf market.now m) }
-        ensures places { IfOk result (λ m. (pairs : List (ℕ × ℕ)) → AreSeatPairs market.now pairs self.now
+        ensures places { IfOk result (λ m. (pairs : List (ℕ × ℕ))
+            → AreSeatPairs market.now pairs self.now
             → m.places ≡ seat_places_in market.now pairs) }
     {
         prove!(market.proposers() < 1 << 24);
@@ -73,7 +74,8 @@ fn place_of(market: &Market, p: u32, seat: u32) -> Option<u32>
     requires { p < length market.now.proposers }
     ensures { MatchOption result
         (place_of market.now.proposers p seat ≡ length (row market.now.proposers p))
-        (λ place. (place ≡ place_of market.now.proposers p seat) × (place < length (row market.now.proposers p))) }
+        (λ place. (place ≡ place_of market.now.proposers p seat)
+        × (place < length (row market.now.proposers p))) }
 {
     for place in 0..market.proposer_len(p) {
         if market.reviewer_at(p, place) == seat {
@@ -81,20 +83,6 @@ fn place_of(market: &Market, p: u32, seat: u32) -> Option<u32>
         }
     }
     None
-}
-
-/// No proposer has a seat.
-fn no_places(alloc: Global, market: &Market) -> Result<Vec<Option<u32>>, AllocError>
-    ensures { IfOk result (λ places. places.items ≡ replicate (length market.now.proposers) None) }
-{
-    Ok(vec![in alloc; None; market.proposers() as usize]?)
-}
-
-/// No seat is taken.
-fn none_taken(alloc: Global, market: &Market) -> Result<Vec<bool>, AllocError>
-    ensures { IfOk result (λ taken. taken.items ≡ replicate (length market.now.reviewers) false) }
-{
-    Ok(vec![in alloc; false; market.reviewers() as usize]?)
 }
 
 /// Whether no pair of the market blocks a matching. Takes time in proportion to the agents and entries.

@@ -18,7 +18,7 @@ ghost use Rattle.sm_judge.specs.PairsKept.{ArePairsHeld};
 ghost use Rattle.sm_judge.specs.Verdicts.{AtLine, Finds, IsVerdict};
 
 use crate::judging::{Judge, judge_lines};
-use crate::pairs::{joins, no_pairs};
+use crate::pairs::joins;
 use crate::verdicts::{Reason, Verdict};
 use sm_decide::{is_proposers_best, is_reviewers_best};
 use sm_instance::{Assignment, Instance, Side};
@@ -37,8 +37,8 @@ struct SolveJudge<'a> {
 }
 
 /// The verdict on an answer of `solve` with the best matching of a side, of which the first line has this number. The seats
-/// have to be those of the instance. Takes time in proportion to the agents, the entries and the lines, and a look-up for
-/// each pair, and memory in proportion to the agents and the entries of the seats.
+/// have to be those of the instance. Takes time in proportion to the agents, the entries and the lines, and for each pair
+/// to the logarithm of how many list its reviewer, and memory in proportion to the agents and the entries of the seats.
 ///
 /// # Errors
 ///
@@ -53,15 +53,17 @@ pub fn solve_verdict(
 ) -> Result<Verdict, AllocError>
     requires few { first_line + length lines.now < 2 ^ 32 }
     requires seats { seats.now ≡ seating_of instance.now }
-    requires own { All (IsOwnLine (answer instance.now (HeadData.Solve (Some side)))) (map line_of lines.now) }
+    requires own { All (IsOwnLine (answer instance.now (HeadData.Solve (Some side))))
+        (map line_of lines.now) }
     ensures { IfOk result (λ v. IsVerdict
-        (AtLine (Clauses (answer instance.now (HeadData.Solve (Some side)))) (map line_of lines.now)) first_line v) }
+        (AtLine (Clauses (answer instance.now (HeadData.Solve (Some side))))
+        (map line_of lines.now)) first_line v) }
 {
     let judge = SolveJudge {
         instance,
         seats,
         side,
-        pairs: no_pairs(alloc, instance)?,
+        pairs: Holding::none(alloc, instance)?,
     };
     judge_lines(alloc, judge, lines, first_line)
 }
@@ -129,13 +131,10 @@ fn end_fault(
     ensures { IfOk result (λ why. (said : List (ℕ × ℕ)) → ArePairsHeld instance.now said pairs.now
         → Finds (SolveHolds instance.now side said LineData.End) why) }
 {
-    let matching = Assignment {
-        places: Vec::from_slice(alloc, &pairs.places)?,
-    };
-    if instance.first_blocking(&matching).is_some() {
+    if instance.first_blocking(&pairs.matching).is_some() {
         return Ok(Some(Reason::Blocked));
     }
-    if !is_best(alloc, instance, seats, side, &matching)? {
+    if !is_best(alloc, instance, seats, side, &pairs.matching)? {
         return Ok(Some(Reason::NotBest));
     }
     Ok(None)

@@ -60,7 +60,7 @@ pub enum Reason {
 }
 
 impl Reason {
-    /// The number of the reason, from 1.
+    /// The number of the reason, from 1. Takes constant time.
     pub fn number(self) -> u32
         ensures number { result ≡ number_of_reason self }
         ensures reason { IsReason result }
@@ -100,6 +100,7 @@ impl Reason {
 pub enum Verdict {
     /// No clause fails.
     Yes,
-    /// The first line at which one fails, and the first that fails there.
+    /// The first line at which one fails, and the first that fails there. Lines are counted from the number that the first line
+    /// of the answer was said to have.
     No(u32, Reason),
 }

@@ -1,7 +1,7 @@
 //! Rotations that an answer writes, eliminated one after another.
 
-ghost use Rattle.std.specs.Prelude.{◌≡◌, ℕ, ◌+◌, ◌-◌, ◌<◌, ◌++◌, ◌∷◌, [], ◌↔◌, List, length, map, pred, take, slice_index, true, false, IsTrue, IfOk};
-ghost use Rattle.std.specs.List.{All, list_all, sum_by};
+ghost use Rattle.std.specs.Prelude.{◌≡◌, ℕ, ◌+◌, ◌-◌, ◌<◌, ◌++◌, ◌∷◌, [], ◌↔◌, List, length, map, pred, true, false, IsTrue, IfOk};
+ghost use Rattle.std.specs.List.{sum_by};
 ghost use Rattle.sm_market.specs.Lists.{Lists, IsMarket};
 ghost use Rattle.sm_market.specs.Matching.{Places};
 ghost use Rattle.sm_market.specs.Pairing.{IsPairingOf};
@@ -34,11 +34,17 @@ use std::alloc::{AllocError, Global};
 /// matching that is reached, and whether it is known that nothing is exposed there.
 #[derive(Drop)]
 pub struct Walk {
+    /// The first matching.
     pub first: Pairing,
+    /// How each rotation moves its proposers.
     pub moves: Vec<Vec<Move>>,
+    /// The matching that is reached.
     pub matching: Pairing,
+    /// What it takes to look for rotations that are exposed there.
     pub search: Search,
+    /// What is noted of the rotations, to tell what each needs.
     pub notes: Notes,
+    /// Whether it is known that nothing is exposed there.
     pub is_whole: bool,
 }
 
@@ -125,7 +131,8 @@ impl Walk {
         requires { HasWalked market.now self.old }
         ensures { IfOk result (λ steps. (first : Places) (rotations : List (List (ℕ × ℕ)))
             → IsWalk market.now first rotations self.old
-            → StepsAlong market.now first rotations rotation.now.pairs.items self.old self.new steps) }
+            → StepsAlong market.now first rotations rotation.now.pairs.items self.old self.new
+            steps) }
     {
         if !self
             .search
@@ -143,8 +150,10 @@ impl Walk {
     /// Whether no rotation is exposed any more.
     fn ends(&mut self, market: &Market) -> bool
         requires walk { HasWalked market.now self.old }
-        requires whole { self.old.is_whole ≡ true → IsNothingExposed market.now self.old.matching.places }
-        ensures walk { (first : Places) (rotations : List (List (ℕ × ℕ))) → IsWalk market.now first rotations self.old
+        requires whole { self.old.is_whole ≡ true
+            → IsNothingExposed market.now self.old.matching.places }
+        ensures walk { (first : Places) (rotations : List (List (ℕ × ℕ)))
+            → IsWalk market.now first rotations self.old
             → IsWalk market.now first rotations self.new }
         ensures ended { IsTrue result ↔ IsNothingExposed market.now self.new.matching.places }
         ensures whole { self.new.is_whole ≡ result }
@@ -158,7 +167,8 @@ impl Walk {
 
     /// Whether these are the numbers, from 1, of what the newest rotation needs.
     fn are_needs(&self, alloc: Global, needed: &[u32]) -> Result<bool, AllocError>
-        ensures { IfOk result (λ right. (l : Lists) (first : Places) (rotations : List (List (ℕ × ℕ)))
+        ensures { IfOk result (λ right. (l : Lists) (first : Places) (rotations : List (List (ℕ
+            × ℕ)))
             → AreNoted l first rotations self.now.notes
             → IsTrue right ↔ AreNeedsOf l rotations (length rotations - 1) (map pred needed.now)) }
     {

@@ -11,6 +11,7 @@ use std::alloc::{AllocError, Global};
 /// The proposers that stand in pairs so far, whether each does, from proposer 0 on.
 #[derive(Drop)]
 pub struct Stood {
+    /// Whether each proposer stands in a pair.
     pub stood: Vec<bool>,
 }
 
@@ -29,7 +30,8 @@ impl Stood {
     }
 
     /// Whether a pair is one of the matching that is wanted, and its proposer stood in none before. Then it stands too. Agents are
-    /// numbered from 0. Takes constant time.
+    /// counted from 0, and `wanted` has for each proposer a place of its list, counted from 0, where it is matched. Takes constant
+    /// time.
     pub fn add(&mut self, instance: &Instance, wanted: &[Option<u32>], p: u32, r: u32) -> bool
         requires proposer { p < length instance.now.proposers }
         requires one_each { length self.old.stood.items ≡ length instance.now.proposers }
@@ -49,8 +51,8 @@ impl Stood {
         true
     }
 
-    /// Whether each proposer that is matched in the matching that is wanted stands in a pair. Takes time in
-    /// proportion to the proposers.
+    /// Whether each proposer that is matched in the matching that is wanted stands in a pair, where `wanted` has for each proposer
+    /// a place of its list, counted from 0, if it is matched. Takes time in proportion to the proposers.
     pub fn are_all_there(&self, instance: &Instance, wanted: &[Option<u32>]) -> bool
         requires one_each { length self.now.stood.items ≡ length instance.now.proposers }
         requires wanted { IsAssignment instance.now wanted.now }

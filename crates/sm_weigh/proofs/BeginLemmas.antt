@@ -38,15 +38,19 @@ unsaid {X} said none (x ∷ above) e =
     ∙ unsaid said none above (and_right (is_up_to_rotations x) (list_all is_up_to_rotations above) e)
 
 module _ (above : List LineData) (up_to : list_all is_up_to_rotations above ≡ true) where
+  -- they say no flow
   pub no_flows : flows_in above ≡ []
   no_flows = unsaid flow_in (λ x e. (up_to_unsaid x e).0) above up_to
 
+  -- they say no set
   pub none_taken : filter_map taken_in above ≡ []
   none_taken = unsaid taken_in (λ x e. (up_to_unsaid x e).1) above up_to
 
+  -- they say no value
   pub no_value : filter_map value_in above ≡ []
   no_value = unsaid value_in (λ x e. (up_to_unsaid x e).2) above up_to
 
+  -- they say no pair
   pub no_pairs : pairs_in above ≡ []
   no_pairs = unsaid pair_in (λ x e. (up_to_unsaid x e).3) above up_to
 
@@ -60,6 +64,7 @@ module _ (above : List LineData) (up_to : list_all is_up_to_rotations above ≡ 
     nodes = subst (λ (fs : List FlowLine). AreOnNodes (size + 2) (map (on_nodes size) fs)) (sym no_flows) (λ a less. absurd (omega (arith, less)));
   }
 
+  -- so nothing that is kept of a claim is there yet
   pub claim_begun : {w : Written} {by : Measure} {lines : List LineData} {claim : Claim} → net_of_parts claim.net ≡ net_in w by above → NeedsAreOf (seat_market w) (rotations_in w above) claim.net → IsFlowOf (size_in w above) lines above claim.flow
       → IsSetOf w (first_of w above) (rotations_in w above) [] claim.taken → claim.taken.is_said ≡ false → claim.value ≡ None → AreStood w [] claim.stood.stood.items → IsClaimOf w by lines above claim
   claim_begun {w} {by} {lines} {claim} net needs flow taken none value stood = record {

@@ -107,6 +107,7 @@ module _ (w : Written) (by : Measure) (above : List LineData) where
 
   -- the set that is taken, in the order of its clauses: the flow is conserved, and the set is closed and allowed
   module _ (numbers : List ℕ) where
+    -- where the flow isn't conserved, this is the first clause that fails
     pub taken_not_conserved : (IsConserved (size_in w above) (flow_of w (first_level w by above) above) → ⊥) → IsFirstThere (ClaimHolds w by above (LineData.Taken numbers)) reason.NotConserved
     taken_not_conserved none = record { clauses_before = before; fails = λ h. none h.0 }
       where
@@ -117,6 +118,7 @@ module _ (w : Written) (by : Measure) (above : List LineData) where
         before reason.NotLeast l = absurd (omega (arith, l))
         before _ l = (tt, tt, tt)
 
+    -- the flow is conserved, and the set isn't closed or not allowed
     pub taken_not_closed : IsConserved (size_in w above) (flow_of w (first_level w by above) above) → (IsAllowedSet w above numbers → ⊥) → IsFirstThere (ClaimHolds w by above (LineData.Taken numbers)) reason.NotClosed
     taken_not_closed conserved none = record { clauses_before = before; fails = λ h. none h.1 }
       where
@@ -127,6 +129,7 @@ module _ (w : Written) (by : Measure) (above : List LineData) where
         before reason.NotLeast l = absurd (omega (arith, l))
         before _ l = (tt, tt, tt)
 
+    -- the flow is conserved, and the set is closed and allowed
     pub taken_right : IsConserved (size_in w above) (flow_of w (first_level w by above) above) → IsAllowedSet w above numbers → (why : Reason) → ClaimHolds w by above (LineData.Taken numbers) why
     taken_right conserved allowed reason.NotConserved = (conserved, tt, tt)
     taken_right conserved allowed reason.NotClosed = (tt, allowed, tt)

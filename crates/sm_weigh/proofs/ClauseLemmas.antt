@@ -22,6 +22,7 @@ module _ (w : Written) (by : Measure) (above : List LineData) (x : LineData) whe
     fails = λ h. f.fails (h.2, h.3, h.4);
   }
 
+  -- by the reasons of rotations nothing is asked of what is claimed
   pub early : (why : Reason) → number_of_reason why < 8 → ClaimHolds w by above x why
   early reason.NotAMatching l = (tt, tt, tt)
   early reason.Blocked l = (tt, tt, tt)

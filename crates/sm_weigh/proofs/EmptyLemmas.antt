@@ -23,12 +23,14 @@ use Rattle.sm_weigh.proofs.SetLemmas.{length-set_of, none_taken}
 pub walk_size : {w : Written} {above : List LineData} {walk : Walk} → IsWholeWalk w above walk → length walk.moves.items ≡ length (rotations_in w above)
 walk_size {w} {above} {walk} k = sym (length-map walk.moves.items (λ v. v.items)) ∙ k.is_walk.is_walk.moves.moves.one_each
 
+-- the empty set of rotations is closed
 pub empty_closed : (l : Lists) (rotations : List (List (ℕ × ℕ))) (size : ℕ) → size ≡ length rotations → IsClosed l rotations (set_of_numbers size [])
 empty_closed l rotations size e = record {
   one_each = length-set_of size [] ∙ e;
   closed = λ i j inside less member needed. absurd (false≢true (sym (none_taken size j (omega (arith, e, less))) ∙ member));
 }
 
+-- a set with its numbers and with the matching that is made of it is kept as that set
 pub set_made : {w : Written} {above : List LineData} {walk : Walk} → IsWholeWalk w above walk → (numbers : List ℕ) (taken : Taken) → taken.set.items ≡ set_of_numbers (length walk.moves.items) numbers
     → taken.matching.places.items ≡ matching_of_set w above taken.set.items → IsMatching w taken.matching.places.items → IsSetOf w (first_of w above) (rotations_in w above) numbers taken
 set_made {w} {above} {walk} k numbers taken s m i =
@@ -47,6 +49,7 @@ module _ {w : Written} {above : List LineData} {walk : Walk} (k : IsWholeWalk w 
   pub allowed_closed : IsAllowedSet w above numbers → IsClosed (seat_market w) (rotations_in w above) set
   allowed_closed a = subst (IsClosed (seat_market w) (rotations_in w above)) (sym set_is) a.closed
 
+  -- and its matching is allowed
   pub allowed_matching : (matching : List (Option ℕ)) → matching ≡ matching_of_set w above set → IsAllowedSet w above numbers → IsAllowed w matching
   allowed_matching matching is a = subst (IsAllowed w) (sym (is ∙ ap (λ (set : List Bool). matching_of_set w above set) set_is)) a.allowed
 

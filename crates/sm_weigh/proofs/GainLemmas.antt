@@ -17,7 +17,7 @@ use Rattle.sm_market.specs.Lists.{Lists}
 use Rattle.sm_net.specs.declared.moves.Move.{Move}
 use Rattle.sm_net.specs.Moves.{AreMoves}
 use Rattle.sm_judge.specs.Walks.{AreChainMoves}
-use Rattle.sm_judge.proofs.WalkLemmas.{said_same}
+use Rattle.sm_judge.proofs.AnswerLemmas.{said_same}
 use Rattle.sm_judge.specs.Said.{rotation_in, rotations_in, gain_in, flow_in, taken_in, value_in, cut_in, total_in, pair_in, is_end, is_up_to_rotations}
 use Rattle.sm_judge.specs.Verdicts.{IsFirstThere}
 use Rattle.sm_weigh.specs.Kept.{ClaimHolds}
@@ -39,6 +39,7 @@ abbrev pub IsGainAbove : Written → Measure → List LineData → ℤ → Type 
 IsGainAbove w by above gain = gain ≡ gain_of (seat_market w) (weights_of by w (seating_of w)) (rotation_at (rotations_in w above) (last_rotation w above))
 
 module _ (w : Written) (by : Measure) (above : List LineData) where
+  -- nothing is asked for at such a line
   pub silent : (x : LineData) → IsSilent x → (why : Reason) → ClaimHolds w by above x why
   silent x s reason.WrongGain = (rw s.gain tt, tt, tt)
   silent x s reason.NoEdge = (rw s.flow tt, tt, tt)
@@ -53,12 +54,14 @@ module _ (w : Written) (by : Measure) (above : List LineData) where
   silent x s reason.NotLeast = (tt, (λ e. absurd (false≢true (sym s.goes_on ∙ e))), tt)
   silent x s _ = (tt, tt, tt)
 
+  -- all clauses hold at the gain of the newest rotation
   pub gain_right : (i : ℕ) (gain : ℤ) → IsGainAbove w by above gain → (why : Reason) → ClaimHolds w by above (LineData.Gain i gain) why
   gain_right i gain is reason.WrongGain = (is, tt, tt)
   gain_right i gain is reason.NotLeast = (tt, (λ e. absurd (false≢true e)), tt)
   gain_right i gain is reason.WrongPair = (tt, tt, (tt, λ e. absurd (false≢true e)))
   gain_right i gain is _ = (tt, tt, tt)
 
+  -- another gain is wrong, which is the first clause that fails
   pub gain_wrong : (i : ℕ) (gain : ℤ) → ¬ IsGainAbove w by above gain → IsFirstThere (ClaimHolds w by above (LineData.Gain i gain)) reason.WrongGain
   gain_wrong i gain isnt = record {
     clauses_before = λ other l. early w by above (LineData.Gain i gain) other (omega (arith, l));

@@ -15,7 +15,8 @@ use Rattle.sm_judge.specs.SeatMatchings.{first_of, seat_places_in}
 use Rattle.sm_judge.specs.Walks.{IsWalk, IsWalkOf, IsChainAt}
 use Rattle.sm_judge.specs.declared.seat_pairs.SeatPairs.{SeatPairs}
 use Rattle.sm_judge.specs.declared.walk.Walk.{Walk}
-use Rattle.sm_judge.proofs.WalkLemmas.{said_same, none_said, up_to_firsts}
+use Rattle.sm_judge.proofs.AnswerLemmas.{said_same}
+use Rattle.sm_judge.proofs.WalkLemmas.{none_said, up_to_firsts}
 use Rattle.sm_weigh.specs.Kept.{AreNeedsSoFar, IsWholeWalk, IsGround}
 
 -- a line of an instance is one of each answer over it, and such an answer has one instance
@@ -26,6 +27,7 @@ abbrev instance_in : Written → Subject → Written
 instance_in w (answer v head) = v
 instance_in w _ = w
 
+-- where two answers with one head are judged as the same, they are over one instance
 pub one_instance : (v w : Written) (head : HeadData) → answer v head ≡ answer w head → v ≡ w
 one_instance v w head e = ap (instance_in w) e
 
@@ -63,10 +65,12 @@ module _ (w : Written) (above : List LineData) (x : LineData) (behind : is_up_to
       whole : walk.is_whole ≡ true
       whole = go walk.is_whole refl
 
+  -- behind the rotations there is a walk through them
   pub walked : (pairs : SeatPairs) (walk : Option Walk) → IsChainAt w (above ++ x ∷ []) pairs walk → IsSome walk
   walked pairs None k = absurd (false≢true (sym behind ∙ (up_to_firsts w x (last_passes is_up_to_firsts above x k.up_to)).0))
   walked pairs (Some walk) k = refl
 
+  -- and it is through all of them, where what each needs was said
   pub grounded : (pairs : SeatPairs) (walk : Option Walk) → IsChainAt w (above ++ x ∷ []) pairs walk → length (all_needs_in above) ≡ length (rotations_in w above)
       → AreNeedsSoFar (seat_market w) (rotations_in w above) (all_needs_in above) → IfSome walk (IsGround w above)
   grounded pairs None k one needs = tt

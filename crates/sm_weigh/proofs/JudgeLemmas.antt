@@ -34,9 +34,11 @@ use Rattle.sm_weigh.proofs.OrderLemmas.{needs_on}
 pub read_is : (lines : List Line) (k : ℕ) (x : Line) → k < length lines → x ≡ get_or lines k x → line_of x ≡ get_or (map line_of lines) k LineData.End
 read_is lines k x inside e = sym (get_or_from_slice_get (map line_of lines) k (line_of x) LineData.End (line_at lines k x inside e))
 
+-- and so it is by any line in place of a missing one
 pub line_is : (lines : List Line) (k : ℕ) (d : Line) → k < length lines → line_of (get_or lines k d) ≡ get_or (map line_of lines) k LineData.End
 line_is lines k d inside = read_is lines k (get_or lines k d) inside (get_or_default lines k d (get_or lines k d) inside)
 
+-- there it is found
 pub stands_at : (lines : List Line) (k : ℕ) → k < length lines → slice_get (map line_of lines) k ≡ Some (get_or (map line_of lines) k LineData.End)
 stands_at lines k inside = slice_get-get_or (map line_of lines) k LineData.End (omega (arith, inside, length-map lines line_of))
 
@@ -74,6 +76,7 @@ module _ {w : Written} {by : Measure} {lines : List LineData} {k : ℕ} {judge :
       (subst (λ (b : Measure). P w b (map line_of judge.lines.now)) (sym known.by_is)
       (subst (P w by) (sym known.lines_are) h))
 
+  -- and what is said of those is said of it
   pub of_own : (P : Written → Measure → List LineData → Type 0) → P judge.weighed.now.instance.now judge.weighed.now.by (map line_of judge.lines.now) → P w by lines
   of_own P h =
       subst (P w by) known.lines_are

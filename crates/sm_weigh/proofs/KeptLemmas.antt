@@ -32,8 +32,8 @@ use Rattle.sm_judge.specs.Verdicts.{Finds}
 use Rattle.sm_judge.specs.Walking.{FindsOrKeeps}
 use Rattle.sm_judge.specs.WantedKept.{AreStood}
 use Rattle.sm_judge.specs.declared.walk.Walk.{Walk}
-use Rattle.sm_judge.proofs.AnswerLemmas.{first_more, finds_keeping}
-use Rattle.sm_judge.proofs.WalkLemmas.{said_same, said_one, none_said}
+use Rattle.sm_judge.proofs.AnswerLemmas.{first_more, finds_keeping, said_same, said_one}
+use Rattle.sm_judge.proofs.WalkLemmas.{none_said}
 use Rattle.sm_weigh.specs.declared.claims.Claim.{Claim}
 use Rattle.sm_weigh.specs.declared.flow_lines.Flow.{Flow}
 use Rattle.sm_weigh.specs.declared.taken.Taken.{Taken}
@@ -171,6 +171,7 @@ module _ {w : Written} {by : Measure} {lines above : List LineData} {claim : Cla
     pub unchanged : flow_in x ≡ None → taken_in x ≡ None → value_in x ≡ None → pair_in x ≡ None → IsClaimOf w by lines (above ++ x ∷ []) claim
     unchanged f t v p = kept claim.flow claim.taken claim.value claim.stood (flow_same f) (taken_same t) (said_before t) (value_same v) (stood_same p)
 
+  -- at a line that says nothing of all this all clauses hold, and the claim stays
   pub silent_judged : (x : LineData) → is_up_to_rotations x ≡ false → IsSilent x → ((why : Reason) → ClaimHolds w by above x why) × IsClaimOf w by lines (above ++ x ∷ []) claim
   silent_judged x behind s = (silent w by above x s, unchanged x behind s.flow s.taken s.value s.pair)
 
@@ -178,6 +179,7 @@ module _ {w : Written} {by : Measure} {lines above : List LineData} {claim : Cla
   flow_is : take claim.flow.count claim.flow.lines.items ≡ flow_of w (first_level w by above) above
   flow_is = k.flow.front
 
+  -- the first value that is said is kept
   pub value_judged : (value : ℕ) (after : Option ℕ) (r : Option Reason) → FindsOrKeeps (ValueHolds (take claim.flow.count claim.flow.lines.items) value) (after ≡ option_or claim.value (Some value)) r
       → FindsOrKeeps (ClaimHolds w by above (LineData.Value value)) (IsClaimOf w by lines (above ++ LineData.Value value ∷ []) (record { net = claim.net; flow = claim.flow; taken = claim.taken; value = after; stood = claim.stood })) r
   value_judged value after None found =
@@ -189,6 +191,7 @@ module _ {w : Written} {by : Measure} {lines above : List LineData} {claim : Cla
       )
   value_judged value after (Some why) found = value_found w by above value (Some why) (subst (λ (fs : List FlowLine). Finds (ValueHolds fs value) (Some why)) flow_is found)
 
+  -- at the cut nothing more is kept
   pub cut_judged : (cut : ℕ) (r : Option Reason) → Finds (CutHolds (net_of_parts claim.net) claim.taken.set.items (unwrap_or claim.value 0) cut) r
       → FindsOrKeeps (ClaimHolds w by above (LineData.Cut cut)) (IsClaimOf w by lines (above ++ LineData.Cut cut ∷ []) claim) r
   cut_judged cut r found = finds_keeping _ _ r
@@ -198,12 +201,14 @@ module _ {w : Written} {by : Measure} {lines above : List LineData} {claim : Cla
       (subst (λ (n : Net). Finds (CutHolds n claim.taken.set.items (unwrap_or claim.value 0) cut) r) k.net found))))
       (unchanged (LineData.Cut cut) refl refl refl refl refl)
 
+  -- at the weight nothing more is kept
   pub total_judged : (total : ℤ) (r : Option Reason) → Finds (TotalHolds w by claim.taken.matching.places.items total) r
       → FindsOrKeeps (ClaimHolds w by above (LineData.Total total)) (IsClaimOf w by lines (above ++ LineData.Total total ∷ []) claim) r
   total_judged total r found = finds_keeping _ _ r
       (total_found w by above total r (subst (λ (m : List (Option ℕ)). Finds (TotalHolds w by m total) r) k.taken.matching found))
       (unchanged (LineData.Total total) refl refl refl refl refl)
 
+  -- at the end nothing more is kept
   pub end_judged : (r : Option Reason) → Finds (EndHolds (net_of_parts claim.net) (take claim.flow.count claim.flow.lines.items) claim.taken.set.items claim.taken.matching.places.items (pairs_in above)) r
       → FindsOrKeeps (ClaimHolds w by above LineData.End) (IsClaimOf w by lines (above ++ LineData.End ∷ []) claim) r
   end_judged r found = finds_keeping _ _ r
@@ -214,6 +219,7 @@ module _ {w : Written} {by : Measure} {lines above : List LineData} {claim : Cla
       (subst (λ (n : Net). Finds (EndHolds n (take claim.flow.count claim.flow.lines.items) claim.taken.set.items claim.taken.matching.places.items (pairs_in above)) r) k.net found)))))
       (unchanged LineData.End refl refl refl refl refl)
 
+  -- one more pair is kept
   pub pair_judged : (p q : ℕ) (after : Stood) (r : Option Reason) → FindsOrKeeps (WantedHold w claim.taken.matching.places.items (pairs_in above) (LineData.Pair p q)) (AreStood w (pairs_in above ++ (p, q) ∷ []) after.stood.items) r
       → FindsOrKeeps (ClaimHolds w by above (LineData.Pair p q)) (IsClaimOf w by lines (above ++ LineData.Pair p q ∷ []) (record { net = claim.net; flow = claim.flow; taken = claim.taken; value = claim.value; stood = after })) r
   pair_judged p q after None found =
@@ -231,11 +237,13 @@ module _ {w : Written} {by : Measure} {lines above : List LineData} {claim : Cla
       let most = length-take claim.flow.count claim.flow.lines.items in
       omega (arith, judged, most, k.flow.count)
 
+  -- they are on nodes of the net
   pub flow_nodes : AreOnNodes ((net_of_parts claim.net).size + 2) (take claim.flow.count claim.flow.lines.items)
   flow_nodes =
       subst (λ (n : ℕ). AreOnNodes (n + 2) (take claim.flow.count claim.flow.lines.items)) k.needs.one_each
       (subst (AreOnNodes (size_in w above + 2)) (sym k.flow.front) k.flow.nodes)
 
+  -- they are conserved exactly where the flow is
   pub conserved_is : (size : ℕ) (said : List FlowLine) → size ≡ (net_of_parts claim.net).size → said ≡ take claim.flow.count claim.flow.lines.items
       → IsConserved size said ↔ IsConserved (size_in w above) (flow_of w (first_level w by above) above)
   conserved_is size said s f =
@@ -273,6 +281,7 @@ module _ {w : Written} {by : Measure} {lines above : List LineData} {claim : Cla
           (set_on x refl (first_said [] taken_in above) claim.taken (ap (λ (xs : List (List ℕ)). slice_index_or xs 0 []) all ∙ sym (ap (λ (xs : List (List ℕ)). slice_index_or xs 0 []) e)) k.taken)
           (said ∙ sym (ap (λ (xs : List (List ℕ)). not (is_empty xs)) all))
 
+  -- one more line of the flow is judged
   pub flow_judged : {walk : Walk} → IsGround w above walk → (from to amount : ℕ) → IsNext lines above (LineData.Flow from to amount) → (after : Flow) (r : Option Reason) → after.lines ≡ claim.flow.lines → after.repeats ≡ claim.flow.repeats
       → FindsOrKeeps (NextHolds (net_of_parts claim.net) (take claim.flow.count claim.flow.lines.items) (line_at claim.flow.lines.items claim.flow.count)) (after.count ≡ claim.flow.count + 1) r
       → FindsOrKeeps (ClaimHolds w by above (LineData.Flow from to amount)) (IsClaimOf w by lines (above ++ LineData.Flow from to amount ∷ []) (record { net = claim.net; flow = after; taken = claim.taken; value = claim.value; stood = claim.stood })) r

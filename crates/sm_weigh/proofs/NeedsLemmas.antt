@@ -52,6 +52,7 @@ pub needs_kept : {l : Lists} (rotations : List (List (ℕ × ℕ))) (rotation : 
 needs_kept {l} rotations rotation needs few so_far j less =
     subst (λ (xs : List (List (ℕ × ℕ))). AreNeedsOf l xs j (get_or needs j [])) (sym (take-append-le (j + 1) rotations (rotation ∷ []) (omega (arith, few, less)))) (so_far j less)
 
+-- what the newest rotation needs stands behind the other needs
 pub needs_more : {l : Lists} (rotations : List (List (ℕ × ℕ))) (needs : List (List ℕ)) (newest : List ℕ) → length needs + 1 ≡ length rotations → AreNeedsSoFar l rotations needs
     → AreNeedsOf l rotations (length rotations - 1) newest → AreNeedsSoFar l rotations (needs ++ newest ∷ [])
 needs_more {l} rotations needs newest last so_far n j less = elim (cases_lt j (length needs)) [

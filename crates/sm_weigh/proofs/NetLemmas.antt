@@ -42,9 +42,11 @@ named w n pairs long each c l =
     let on : c < length pairs = omega (arith, l, length-map pairs f) in
     subst (λ (pair : ℕ × ℕ). pair.0 < n) (sym (get_or-map f pairs c (0, 0) (0, 0) on)) (subst (λ (m : ℕ). (pair_at pairs c).0 < m) (sym long) (each c on).proposer)
 
+-- forced pairs name proposers that are there
 pub forced_below : {w : Written} {n : ℕ} {forced : List (ℕ × ℕ)} → IsInstance w → n ≡ length w.proposers → forced ≡ leveled w w.forced → AreFirstBelow n forced
 forced_below {w} {n} i long is = subst (AreFirstBelow n) (sym is) (named w n w.forced long (forced_in_range i))
 
+-- forbidden pairs name proposers that are there
 pub forbidden_below : {w : Written} {n : ℕ} {forbidden : List (ℕ × ℕ)} → IsInstance w → n ≡ length w.proposers → forbidden ≡ leveled w w.forbidden → AreFirstBelow n forbidden
 forbidden_below {w} {n} i long is = subst (AreFirstBelow n) (sym is) (named w n w.forbidden long (forbidden_in_range i))
 
@@ -65,6 +67,7 @@ module _ {w : Written} {above : List LineData} {walk : Walk} (g : IsGround w abo
   pub needs_of_each : (j : ℕ) → j < length (rotations_in w above) → AreNeedsOf (seat_market w) (rotations_in w above) j (row (all_needs_in above) j)
   needs_of_each = needs_at_end (seat_market w) (first_of w above) g.walk_of.is_walk.is_walk.market (rotations_in w above) (all_needs_in above) (complete g.walk_of) g.one_each g.needs
 
+  -- the numbers of what each needs rise
   pub needs_rise : AreRising (all_needs_in above)
   needs_rise = record { rising = each }
     where
@@ -74,12 +77,15 @@ module _ {w : Written} {above : List LineData} {walk : Walk} (g : IsGround w abo
         | inr past ↦ absurd (let none = ap (λ (xs : List ℕ). length xs) (get_or_past (all_needs_in above) k [] past) in omega (arith, none, on))
       ]
 
+  -- they are those of rotations that there are
   pub numbers_below : {n : ℕ} {needs : List (List ℕ)} → n ≡ length (rotations_in w above) → needs ≡ all_needs_in above → AreNumbersBelow n needs
   numbers_below {n} {needs} long same = subst (AreNumbersBelow n) (sym same) (subst (λ (m : ℕ). AreNumbersBelow m (all_needs_in above)) (sym long) (needs_below g))
 
+  -- there are as many lists of needs as rotations
   pub needs_long : (vectors : List (Vec ℕ Global)) → rows_of vectors ≡ all_needs_in above → length vectors ≡ length (rotations_in w above)
   needs_long vectors same = sym (length-map vectors (λ v. v.items)) ∙ ap (λ (xs : List (List ℕ)). length xs) same ∙ g.one_each
 
+  -- a net with these needs has the predecessors of the rotations
   pub needs_are : {gains : List ℤ} {bonds : List (ℕ × ℕ)} {needs : List (List ℕ)} {parts : NetParts} → needs ≡ all_needs_in above → length gains ≡ length (rotations_in w above) → HasParts parts gains needs bonds → NeedsAreOf (seat_market w) (rotations_in w above) parts
   needs_are {gains} {bonds} {needs} {parts} same long h = record {
     one_each = sym (ap (λ (xs : List ℤ). length xs) h.same_gains ∙ long);

@@ -14,7 +14,7 @@ use Rattle.sm_forms.proofs.TakingLemmas.{all_more}
 use Rattle.sm_judge.specs.Chain.{last_rotation}
 use Rattle.sm_judge.specs.Said.{rotation_in, rotations_in, needs_in, all_needs_in, is_up_to_rotations}
 use Rattle.sm_judge.proofs.JudgingLemmas.{above_next}
-use Rattle.sm_judge.proofs.WalkLemmas.{said_same, said_one}
+use Rattle.sm_judge.proofs.AnswerLemmas.{said_same, said_one}
 use Rattle.sm_weigh.specs.Kept.{AreNeedsSoFar, IsClaimAt}
 use Rattle.sm_weigh.specs.Order.{AreInOrder}
 use Rattle.sm_weigh.specs.declared.claims.Claim.{Claim}
@@ -68,6 +68,7 @@ module _ (w : Written) (above : List LineData) (x : LineData) where
       go (Some rotation) (Some needs) r n = absurd (not_both w x rotation needs r n)
 
 module _ {w : Written} {lines : List LineData} (order : AreInOrder w lines) where
+  -- above any line there are no more lists of needs than rotations
   pub few_above : (k : ℕ) → k ≤ length lines → length (all_needs_in (take k lines)) ≤ length (rotations_in w (take k lines))
   few_above zero h = omega arith
   few_above (suc k) h =

@@ -18,6 +18,7 @@ module _ {X : Type 0} (said : LineData → Option X) (lines : List Line) (i : �
   pub next_unsaid : said (line_of x) ≡ None → filter_map said (map line_of (take (i + 1) lines)) ≡ filter_map said (map line_of (take i lines))
   next_unsaid none = said_next ∙ ap (λ (o : Option X). filter_map said (map line_of (take i lines)) ++ cons_option o []) none ∙ append-nil (filter_map said (map line_of (take i lines)))
 
+  -- one that does says one thing more
   pub next_said : (y : X) → said (line_of x) ≡ Some y → filter_map said (map line_of (take (i + 1) lines)) ≡ filter_map said (map line_of (take i lines)) ++ y ∷ []
   next_said y one = said_next ∙ ap (λ (o : Option X). filter_map said (map line_of (take i lines)) ++ cons_option o []) one
 
@@ -26,6 +27,7 @@ pub no_needs : (x : Line) → ((i : ℕ) (needed : Vec ℕ Global) → x ≡ Lin
 no_needs (Line.Needs i needed) a = absurd (a i needed refl)
 no_needs _ a = refl
 
+-- a line that is none of a flow says none
 pub no_flow : (x : Line) → ((from to amount : ℕ) → x ≡ Line.Flow from to amount → ⊥) → flow_in (line_of x) ≡ None
 no_flow (Line.Flow from to amount) a = absurd (a from to amount refl)
 no_flow _ a = refl

@@ -11,6 +11,7 @@ use Rattle.sm_judge.specs.Flows.{set_of_numbers}
 abbrev is_taken : List ℕ → ℕ → Bool
 is_taken numbers k = list_any (λ n. n == k + 1) numbers
 
+-- a set by its numbers has an item for each rotation
 pub length-set_of : (size : ℕ) (numbers : List ℕ) → length (set_of_numbers size numbers) ≡ size
 length-set_of size numbers = length-map-range_with_len (is_taken numbers) 0 size
 
@@ -70,5 +71,6 @@ pub set_none : (size : ℕ) → replicate size false ≡ set_of_numbers size []
 set_none size = ext_get_or false _ _ (length-replicate size false ∙ sym (length-set_of size []))
     (λ k less. let inside : k < size = omega (arith, less, length-replicate size false) in get_or-replicate size k false false inside ∙ sym (at size [] k inside))
 
+-- so no rotation is a member
 pub none_taken : (size k : ℕ) → k < size → get_or (set_of_numbers size []) k false ≡ false
 none_taken size k less = at size [] k less

@@ -39,8 +39,10 @@ module _ {w : Written} {above : List LineData} {walk : Walk} (k : IsWholeWalk w 
       (rw same at found) (rotations_in w above) i.moves.moves ∙ ap (λ (m : Places). (matching_of (seat_market w) m (rotations_in w above) set).proposers) i.first_is
 
   module _ (set : List Bool) (closed : IsClosed (seat_market w) (rotations_in w above) set) where
+    -- the matching of a closed set is stable
     pub set_stable : IsStable (seat_market w) (matching_of (seat_market w) (first_of w above) (rotations_in w above) set)
     set_stable = (sets_are_matchings (seat_market w) (first_of w above) (rotations_in w above) k.is_walk.is_walk.market complete).stable set closed
 
+    -- and on the written lists it is a matching of the instance
     pub set_matching : IsSeating w (seating_of w) → IsWrittenMatching w (matching_of_set w above set)
     set_matching s = s.matched (matching_of (seat_market w) (first_of w above) (rotations_in w above) set) set_stable.matching

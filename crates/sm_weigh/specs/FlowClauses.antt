@@ -6,6 +6,7 @@ use Rattle.sm_theory.specs.declared.flow_lines.FlowLine.{FlowLine}
 use Rattle.sm_judge.specs.declared.verdicts.Reason.{Reason}
 use Rattle.sm_judge.specs.declared.verdicts.Reason.TheVariants as reason
 
+-- a line with this amount from one end to another
 abbrev pub flow_line : (from to amount : ℕ) → FlowLine
 flow_line from to amount = record { from = from; to = to; amount = amount }
 

@@ -48,13 +48,21 @@ impl Claim {
         line: &Line,
     ) -> Result<Option<Reason>, AllocError>
         requires seats { weighed.now.seats.now ≡ seating_of weighed.now.instance.now }
-        requires seating { IsSeating weighed.now.instance.now (seating_of weighed.now.instance.now) }
-        requires own { IsOwnLine (answer weighed.now.instance.now (HeadData.Weight weighed.now.by)) (line_of line.now) }
+        requires seating { IsSeating weighed.now.instance.now
+            (seating_of weighed.now.instance.now) }
+        requires own { IsOwnLine (answer weighed.now.instance.now (HeadData.Weight weighed.now.by))
+            (line_of line.now) }
         requires behind { is_up_to_rotations (line_of line.now) ≡ false }
-        requires known { HasClaim weighed.now.instance.now weighed.now.by (line_of line.now) walk.now self.old }
-        ensures { IfOk result (λ why. (lines above : List LineData) → IsClaimOf weighed.now.instance.now weighed.now.by lines above self.old → IsGround weighed.now.instance.now above walk.now
-            → IsNext lines above (line_of line.now) → FindsOrKeeps (ClaimHolds weighed.now.instance.now weighed.now.by above (line_of line.now))
-            (IsClaimOf weighed.now.instance.now weighed.now.by lines (above ++ (line_of line.now) ∷ []) self.new) why) }
+        requires known { HasClaim weighed.now.instance.now weighed.now.by (line_of line.now)
+            walk.now self.old }
+        ensures { IfOk result (λ why. (lines above : List LineData)
+            → IsClaimOf weighed.now.instance.now weighed.now.by lines above self.old
+            → IsGround weighed.now.instance.now above walk.now
+            → IsNext lines above (line_of line.now)
+            → FindsOrKeeps (ClaimHolds weighed.now.instance.now weighed.now.by above
+            (line_of line.now))
+            (IsClaimOf weighed.now.instance.now weighed.now.by lines (above
+            ++ (line_of line.now) ∷ []) self.new) why) }
     {
         match line {
             Line::Flow(_, _, _) => Ok(self.flow.next_fault(&self.net)),
@@ -77,11 +85,18 @@ impl Claim {
         numbers: &[u32],
     ) -> Result<Option<Reason>, AllocError>
         requires seats { weighed.now.seats.now ≡ seating_of weighed.now.instance.now }
-        requires seating { IsSeating weighed.now.instance.now (seating_of weighed.now.instance.now) }
-        requires known { HasClaim weighed.now.instance.now weighed.now.by (LineData.Taken numbers.now) walk.now self.old }
-        ensures { IfOk result (λ why. (lines above : List LineData) → IsClaimOf weighed.now.instance.now weighed.now.by lines above self.old → IsWholeWalk weighed.now.instance.now above walk.now
-            → IsNext lines above (LineData.Taken numbers.now) → FindsOrKeeps (ClaimHolds weighed.now.instance.now weighed.now.by above (LineData.Taken numbers.now))
-            (IsClaimOf weighed.now.instance.now weighed.now.by lines (above ++ (LineData.Taken numbers.now) ∷ []) self.new) why) }
+        requires seating { IsSeating weighed.now.instance.now
+            (seating_of weighed.now.instance.now) }
+        requires known { HasClaim weighed.now.instance.now weighed.now.by
+            (LineData.Taken numbers.now) walk.now self.old }
+        ensures { IfOk result (λ why. (lines above : List LineData)
+            → IsClaimOf weighed.now.instance.now weighed.now.by lines above self.old
+            → IsWholeWalk weighed.now.instance.now above walk.now
+            → IsNext lines above (LineData.Taken numbers.now)
+            → FindsOrKeeps (ClaimHolds weighed.now.instance.now weighed.now.by above
+            (LineData.Taken numbers.now))
+            (IsClaimOf weighed.now.instance.now weighed.now.by lines (above
+            ++ (LineData.Taken numbers.now) ∷ []) self.new) why) }
     {
         if !is_conserved(alloc, self.net.size(), self.flow.said())? {
             return Ok(Some(Reason::NotConserved));
@@ -99,8 +114,10 @@ impl Claim {
     fn value_fault(&mut self, value: u64) -> Option<Reason>
         requires { self.old.flow.count ≤ length self.old.flow.lines.items }
         ensures flow { self.new.flow ≡ self.old.flow }
-        ensures rest { (self.new.net ≡ self.old.net) × (self.new.taken ≡ self.old.taken) × (self.new.stood ≡ self.old.stood) }
-        ensures found { FindsOrKeeps (ValueHolds (take self.old.flow.count self.old.flow.lines.items) value)
+        ensures rest { (self.new.net ≡ self.old.net) × (self.new.taken ≡ self.old.taken)
+            × (self.new.stood ≡ self.old.stood) }
+        ensures found { FindsOrKeeps (ValueHolds (take self.old.flow.count
+            self.old.flow.lines.items) value)
             (self.new.value ≡ option_or self.old.value (Some value)) result }
     {
         if u128::from(value) != amount_from_source(self.flow.said()) {
@@ -113,7 +130,8 @@ impl Claim {
     /// The same of the cut of the set.
     fn cut_fault(&self, cut: u64) -> Option<Reason>
         requires { length self.now.taken.set.items ≡ (net_in self.now.net).size }
-        ensures { Finds (CutHolds (net_in self.now.net) self.now.taken.set.items (unwrap_or self.now.value 0) cut) result }
+        ensures { Finds (CutHolds (net_in self.now.net) self.now.taken.set.items
+            (unwrap_or self.now.value 0) cut) result }
     {
         if u128::from(cut) != self.net.cut(&self.taken.set) {
             return Some(Reason::WrongCut);
@@ -127,7 +145,8 @@ impl Claim {
     /// The same of the weight of the matching of the set.
     fn total_fault(&self, weighed: &Weighed, total: i64) -> Option<Reason>
         requires { IsMatching weighed.now.instance.now self.now.taken.matching.places.items }
-        ensures { Finds (TotalHolds weighed.now.instance.now weighed.now.by self.now.taken.matching.places.items total) result }
+        ensures { Finds (TotalHolds weighed.now.instance.now weighed.now.by
+            self.now.taken.matching.places.items total) result }
     {
         if total != weighed.instance.weigh(&self.taken.matching, weighed.by) {
             return Some(Reason::WrongTotal);
@@ -138,13 +157,19 @@ impl Claim {
     /// The same of a pair of the matching.
     fn pair_fault(&mut self, weighed: &Weighed, p: u32, r: u32) -> Option<Reason>
         requires proposer { p < length weighed.now.instance.now.proposers }
-        requires matching { IsMatching weighed.now.instance.now self.old.taken.matching.places.items }
-        requires one_each { length self.old.stood.stood.items ≡ length weighed.now.instance.now.proposers }
-        ensures rest { (self.new.net ≡ self.old.net) × (self.new.flow ≡ self.old.flow) × (self.new.taken ≡ self.old.taken)
+        requires matching { IsMatching weighed.now.instance.now
+            self.old.taken.matching.places.items }
+        requires one_each { length self.old.stood.stood.items
+            ≡ length weighed.now.instance.now.proposers }
+        ensures rest { (self.new.net ≡ self.old.net) × (self.new.flow ≡ self.old.flow)
+            × (self.new.taken ≡ self.old.taken)
             × (self.new.value ≡ self.old.value) }
-        ensures found { (pairs : List (ℕ × ℕ)) → AreStood weighed.now.instance.now pairs self.old.stood.stood.items
-            → FindsOrKeeps (WantedHold weighed.now.instance.now self.old.taken.matching.places.items pairs (LineData.Pair p r))
-            (AreStood weighed.now.instance.now (pairs ++ (p, r) ∷ []) self.new.stood.stood.items) result }
+        ensures found { (pairs : List (ℕ × ℕ))
+            → AreStood weighed.now.instance.now pairs self.old.stood.stood.items
+            → FindsOrKeeps (WantedHold weighed.now.instance.now self.old.taken.matching.places.items
+            pairs (LineData.Pair p r))
+            (AreStood weighed.now.instance.now (pairs ++ (p, r) ∷ []) self.new.stood.stood.items)
+            result }
     {
         if !self
             .stood
@@ -157,13 +182,18 @@ impl Claim {
 
     /// The same at the end.
     fn end_fault(&self, alloc: Global, weighed: &Weighed) -> Result<Option<Reason>, AllocError>
-        requires matching { IsMatching weighed.now.instance.now self.now.taken.matching.places.items }
-        requires one_each { length self.now.stood.stood.items ≡ length weighed.now.instance.now.proposers }
+        requires matching { IsMatching weighed.now.instance.now
+            self.now.taken.matching.places.items }
+        requires one_each { length self.now.stood.stood.items
+            ≡ length weighed.now.instance.now.proposers }
         requires count { self.now.flow.count ≤ length self.now.flow.lines.items }
-        requires nodes { AreOnNodes ((net_in self.now.net).size + 2) (take self.now.flow.count self.now.flow.lines.items) }
+        requires nodes { AreOnNodes ((net_in self.now.net).size
+            + 2) (take self.now.flow.count self.now.flow.lines.items) }
         requires set { length self.now.taken.set.items ≡ (net_in self.now.net).size }
-        ensures { IfOk result (λ why. (pairs : List (ℕ × ℕ)) → AreStood weighed.now.instance.now pairs self.now.stood.stood.items
-            → Finds (EndHolds (net_in self.now.net) (take self.now.flow.count self.now.flow.lines.items) self.now.taken.set.items
+        ensures { IfOk result (λ why. (pairs : List (ℕ × ℕ))
+            → AreStood weighed.now.instance.now pairs self.now.stood.stood.items
+            → Finds (EndHolds (net_in self.now.net) (take self.now.flow.count
+            self.now.flow.lines.items) self.now.taken.set.items
             self.now.taken.matching.places.items pairs) why) }
     {
         if !self

@@ -1,6 +1,6 @@
 //! The flow that an answer writes, on the nodes of the net.
 
-ghost use Rattle.std.specs.Prelude.{◌≡◌, ℕ, ◌+◌, ◌<◌, ◌≤◌, ◌^◌, length, map, take, IfOk};
+ghost use Rattle.std.specs.Prelude.{◌≡◌, ◌+◌, ◌<◌, ◌≤◌, ◌^◌, length, map, take, IfOk};
 ghost use Rattle.sm_theory.specs.FlowLines.{line_at};
 ghost use Rattle.sm_net.specs.CheckedNets.{net_in};
 ghost use Rattle.sm_net.specs.Repeats.{AreRepeats};
@@ -29,7 +29,8 @@ impl Flow {
     /// The lines of the flow among those of an answer with so many rotations.
     pub(crate) fn of(alloc: Global, size: u32, lines: &[Line]) -> Result<Flow, AllocError>
         requires few { size + 2 < 2 ^ 32 }
-        ensures lines { IfOk result (λ flow. flow.lines.items ≡ map (on_nodes size) (flows_in (map line_of lines.now))) }
+        ensures lines { IfOk result (λ flow. flow.lines.items
+            ≡ map (on_nodes size) (flows_in (map line_of lines.now))) }
         ensures repeats { IfOk result (λ flow. AreRepeats flow.lines.items flow.repeats.items) }
         ensures none { IfOk result (λ flow. flow.count ≡ 0) }
     {
@@ -56,8 +57,10 @@ impl Flow {
         requires repeats { AreRepeats self.old.lines.items self.old.repeats.items }
         ensures lines { self.new.lines ≡ self.old.lines }
         ensures repeats { self.new.repeats ≡ self.old.repeats }
-        ensures found { FindsOrKeeps (NextHolds (net_in net.now) (take self.old.count self.old.lines.items)
-            (line_at self.old.lines.items self.old.count)) (self.new.count ≡ self.old.count + 1) result }
+        ensures found { FindsOrKeeps (NextHolds (net_in net.now) (take self.old.count
+            self.old.lines.items)
+            (line_at self.old.lines.items self.old.count)) (self.new.count ≡ self.old.count
+            + 1) result }
     {
         let a = self.count;
         if !net.is_new_edge(&self.lines, &self.repeats, a) {
@@ -74,7 +77,8 @@ impl Flow {
 /// The lines of the flow on the nodes of a net of so many rotations.
 fn flow_lines(alloc: Global, size: u32, lines: &[Line]) -> Result<Vec<FlowLine>, AllocError>
     requires { size + 2 < 2 ^ 32 }
-    ensures { IfOk result (λ flow. flow.items ≡ map (on_nodes size) (flows_in (map line_of lines.now))) }
+    ensures { IfOk result (λ flow. flow.items
+        ≡ map (on_nodes size) (flows_in (map line_of lines.now))) }
 {
     let mut flow = Vec::new(alloc);
     for line in lines {

@@ -1,6 +1,6 @@
 //! What the rotations of an answer add to the weight, and what they need.
 
-ghost use Rattle.std.specs.Prelude.{◌≡◌, ℕ, ◌-◌, ◌<◌, List, length, map, pred, IfOk};
+ghost use Rattle.std.specs.Prelude.{◌≡◌, ℕ, ◌-◌, ◌<◌, List, length, map, IfOk};
 ghost use Rattle.sm_lists.specs.Rows.{rows_of};
 ghost use Rattle.sm_market.specs.Lists.{Lists};
 ghost use Rattle.sm_theory.specs.Chains.{rotation_at};
@@ -19,8 +19,10 @@ use std::alloc::{AllocError, Global};
 /// What the last of some rotations adds to the weight, 0 where there is none.
 pub(crate) fn last_gain(weights: &[Vec<i64>], moves: &[Vec<Move>]) -> i64
     requires { CanBeWeighed (weights_in weights.now) (moves_in moves.now) }
-    ensures { (l : Lists) (rotations : List (List (ℕ × ℕ))) → AreMoves l rotations (moves_in moves.now)
-        → result ≡ gain_of l (weights_in weights.now) (rotation_at rotations (length rotations - 1)) }
+    ensures { (l : Lists) (rotations : List (List (ℕ × ℕ)))
+        → AreMoves l rotations (moves_in moves.now)
+        → result ≡ gain_of l (weights_in weights.now) (rotation_at rotations
+        (length rotations - 1)) }
 {
     if moves.is_empty() {
         return 0;
@@ -35,7 +37,8 @@ pub(crate) fn gains_of(
     moves: &[Vec<Move>],
 ) -> Result<Vec<i64>, AllocError>
     requires { CanBeWeighed (weights_in weights.now) (moves_in moves.now) }
-    ensures { IfOk result (λ gains. (l : Lists) (rotations : List (List (ℕ × ℕ))) → AreMoves l rotations (moves_in moves.now)
+    ensures { IfOk result (λ gains. (l : Lists) (rotations : List (List (ℕ × ℕ)))
+        → AreMoves l rotations (moves_in moves.now)
         → gains.items ≡ map (gain_of l (weights_in weights.now)) rotations) }
 {
     let mut gains = Vec::with_capacity(alloc, moves.len())?;

@@ -34,8 +34,11 @@ use std::alloc::{AllocError, Global};
 /// An instance and its seats, and the measure by which its matchings are weighed.
 #[derive(Drop)]
 pub struct Weighed<'a> {
+    /// The instance.
     pub instance: &'a Instance,
+    /// Its seats.
     pub seats: &'a Seats,
+    /// The measure.
     pub by: Measure,
 }
 
@@ -59,7 +62,8 @@ struct WeightJudge<'a> {
 /// The verdict on an answer of `weight`, of which the first line has this number. The seats, and the first seats of the
 /// reviewers, have to be those of the instance, and behind each rotation has to stand what it needs, as in the form of such an
 /// answer. Takes time in proportion to the agents, the entries of the seats and the lines, and the logarithm of the numbers of
-/// edges, lines of flow and conditions, and memory in proportion to them.
+/// edges, lines of flow and conditions, and for each rotation at most to the agents too, and memory in proportion to the agents,
+/// the entries of the seats and the lines.
 ///
 /// # Errors
 ///
@@ -74,9 +78,11 @@ pub fn weight_verdict(
     requires few { first_line + length lines.now < 2 ^ 32 }
     requires seats { weighed.now.seats.now ≡ seating_of weighed.now.instance.now }
     requires firsts { firsts.now ≡ first_seats_of weighed.now.instance.now }
-    requires own { All (IsOwnLine (answer weighed.now.instance.now (HeadData.Weight weighed.now.by))) (map line_of lines.now) }
+    requires own { All (IsOwnLine (answer weighed.now.instance.now
+        (HeadData.Weight weighed.now.by))) (map line_of lines.now) }
     requires in_order { AreInOrder weighed.now.instance.now (map line_of lines.now) }
-    ensures { IfOk result (λ v. IsVerdict (AtLine (Clauses (answer weighed.now.instance.now (HeadData.Weight weighed.now.by)))
+    ensures { IfOk result (λ v. IsVerdict (AtLine (Clauses (answer weighed.now.instance.now
+        (HeadData.Weight weighed.now.by)))
         (map line_of lines.now)) first_line v) }
 {
     let mut judge = WeightJudge::none(alloc, weighed, firsts, lines)?;
@@ -100,7 +106,8 @@ impl<'a> WeightJudge<'a> {
         requires firsts { firsts.now ≡ first_seats_of weighed.now.instance.now }
         ensures weighed { IfOk result (λ judge. judge.weighed ≡ weighed.entry) }
         ensures lines { IfOk result (λ judge. judge.lines ≡ lines.entry) }
-        ensures known { IfOk result (λ judge. IsJudgeOf weighed.now.instance.now weighed.now.by (map line_of lines.now) 0 judge) }
+        ensures known { IfOk result (λ judge. IsJudgeOf weighed.now.instance.now weighed.now.by
+            (map line_of lines.now) 0 judge) }
     {
         let _proposers = weighed.instance.proposer_count();
         let levels = weighed.seats.levels(alloc)?;
@@ -125,16 +132,21 @@ impl<'a> WeightJudge<'a> {
     /// The first clause that fails at a line. Where none does, the line is kept too.
     fn find_fault(&mut self, alloc: Global, k: usize) -> Result<Option<Reason>, AllocError>
         requires within { k < length self.old.lines.now }
-        requires own { All (IsOwnLine (answer self.old.weighed.now.instance.now (HeadData.Weight self.old.weighed.now.by)))
+        requires own { All (IsOwnLine (answer self.old.weighed.now.instance.now
+            (HeadData.Weight self.old.weighed.now.by)))
             (map line_of self.old.lines.now) }
-        requires in_order { AreInOrder self.old.weighed.now.instance.now (map line_of self.old.lines.now) }
-        requires known { IsJudgeOf self.old.weighed.now.instance.now self.old.weighed.now.by (map line_of self.old.lines.now) k self.old }
+        requires in_order { AreInOrder self.old.weighed.now.instance.now
+            (map line_of self.old.lines.now) }
+        requires known { IsJudgeOf self.old.weighed.now.instance.now self.old.weighed.now.by
+            (map line_of self.old.lines.now) k self.old }
         ensures weighed { self.new.weighed ≡ self.old.weighed }
         ensures lines { self.new.lines ≡ self.old.lines }
         ensures found { IfOk result (λ why. FindsOrKeeps
-            (WeightHolds self.old.weighed.now.instance.now self.old.weighed.now.by (take k (map line_of self.old.lines.now))
+            (WeightHolds self.old.weighed.now.instance.now self.old.weighed.now.by
+            (take k (map line_of self.old.lines.now))
             (slice_index_or (map line_of self.old.lines.now) k LineData.End))
-            (IsJudgeOf self.old.weighed.now.instance.now self.old.weighed.now.by (map line_of self.old.lines.now) (k + 1) self.new)
+            (IsJudgeOf self.old.weighed.now.instance.now self.old.weighed.now.by
+            (map line_of self.old.lines.now) (k + 1) self.new)
             why) }
     {
         let line = &self.lines[k];
@@ -150,11 +162,15 @@ impl<'a> WeightJudge<'a> {
     /// The same of the gain of the newest rotation.
     fn gain_fault(&self, line: &Line) -> Option<Reason>
         requires up_to { is_up_to_rotations (line_of line.now) ≡ true }
-        requires tables { AreTables self.now.weighed.now.instance.now self.now.weighed.now.by self.now.tables }
+        requires tables { AreTables self.now.weighed.now.instance.now self.now.weighed.now.by
+            self.now.tables }
         requires chain_of { self.now.chain.instance.now ≡ self.now.weighed.now.instance.now }
-        requires known { IsKnown (λ above. IsChainAt self.now.weighed.now.instance.now above self.now.chain.pairs self.now.chain.walk) }
-        ensures { (above : List LineData) → IsChainAt self.now.weighed.now.instance.now (above ++ line_of line.now ∷ []) self.now.chain.pairs self.now.chain.walk
-            → Finds (ClaimHolds self.now.weighed.now.instance.now self.now.weighed.now.by above (line_of line.now)) result }
+        requires known { IsKnown (λ above. IsChainAt self.now.weighed.now.instance.now above
+            self.now.chain.pairs self.now.chain.walk) }
+        ensures { (above : List LineData) → IsChainAt self.now.weighed.now.instance.now (above
+            ++ line_of line.now ∷ []) self.now.chain.pairs self.now.chain.walk
+            → Finds (ClaimHolds self.now.weighed.now.instance.now self.now.weighed.now.by above
+            (line_of line.now)) result }
     {
         let _proposers = self.weighed.instance.proposer_count();
         match line {
@@ -171,24 +187,33 @@ impl<'a> WeightJudge<'a> {
     /// The same of what is claimed behind the rotations, all of which were eliminated.
     fn claim_fault(&mut self, alloc: Global, k: usize) -> Result<Option<Reason>, AllocError>
         requires within { k < length self.old.lines.now }
-        requires seats { self.old.weighed.now.seats.now ≡ seating_of self.old.weighed.now.instance.now }
-        requires seating { IsSeating self.old.weighed.now.instance.now (seating_of self.old.weighed.now.instance.now) }
-        requires tables { AreTables self.old.weighed.now.instance.now self.old.weighed.now.by self.old.tables }
-        requires own { IsOwnLine (answer self.old.weighed.now.instance.now (HeadData.Weight self.old.weighed.now.by))
+        requires seats { self.old.weighed.now.seats.now
+            ≡ seating_of self.old.weighed.now.instance.now }
+        requires seating { IsSeating self.old.weighed.now.instance.now
+            (seating_of self.old.weighed.now.instance.now) }
+        requires tables { AreTables self.old.weighed.now.instance.now self.old.weighed.now.by
+            self.old.tables }
+        requires own { IsOwnLine (answer self.old.weighed.now.instance.now
+            (HeadData.Weight self.old.weighed.now.by))
             (slice_index_or (map line_of self.old.lines.now) k LineData.End) }
-        requires behind { is_up_to_rotations (slice_index_or (map line_of self.old.lines.now) k LineData.End) ≡ false }
-        requires ground { IfSome self.old.chain.walk (IsGround self.old.weighed.now.instance.now (take k (map line_of self.old.lines.now))) }
+        requires behind { is_up_to_rotations (slice_index_or (map line_of self.old.lines.now) k
+            LineData.End) ≡ false }
+        requires ground { IfSome self.old.chain.walk (IsGround self.old.weighed.now.instance.now
+            (take k (map line_of self.old.lines.now))) }
         requires walked { IsSome self.old.chain.walk }
-        requires known { IsClaimAt self.old.weighed.now.instance.now self.old.weighed.now.by (map line_of self.old.lines.now)
+        requires known { IsClaimAt self.old.weighed.now.instance.now self.old.weighed.now.by
+            (map line_of self.old.lines.now)
             (take k (map line_of self.old.lines.now)) self.old.claim }
         ensures weighed { self.new.weighed ≡ self.old.weighed }
         ensures lines { self.new.lines ≡ self.old.lines }
         ensures tables { self.new.tables ≡ self.old.tables }
         ensures chain { self.new.chain ≡ self.old.chain }
         ensures found { IfOk result (λ why. FindsOrKeeps
-            (ClaimHolds self.old.weighed.now.instance.now self.old.weighed.now.by (take k (map line_of self.old.lines.now))
+            (ClaimHolds self.old.weighed.now.instance.now self.old.weighed.now.by
+            (take k (map line_of self.old.lines.now))
             (slice_index_or (map line_of self.old.lines.now) k LineData.End))
-            (IsClaimAt self.old.weighed.now.instance.now self.old.weighed.now.by (map line_of self.old.lines.now)
+            (IsClaimAt self.old.weighed.now.instance.now self.old.weighed.now.by
+            (map line_of self.old.lines.now)
             (take (k + 1) (map line_of self.old.lines.now)) self.new.claim) why) }
     {
         let weighed = self.weighed;
@@ -223,7 +248,8 @@ fn claim_of(
     requires tables { AreTables weighed.now.instance.now weighed.now.by tables.now }
     requires ground { IsGround weighed.now.instance.now (take k (map line_of lines.now)) walk.now }
     requires up_to { list_all is_up_to_rotations (take k (map line_of lines.now)) ≡ true }
-    ensures { IfOk result (λ claim. IsClaimOf weighed.now.instance.now weighed.now.by (map line_of lines.now)
+    ensures { IfOk result (λ claim. IsClaimOf weighed.now.instance.now weighed.now.by
+        (map line_of lines.now)
         (take k (map line_of lines.now)) claim) }
 {
     let net = net_of(alloc, weighed, tables, walk, &lines[..k])?;
@@ -250,7 +276,8 @@ fn net_of(
     requires seats { weighed.now.seats.now ≡ seating_of weighed.now.instance.now }
     requires tables { AreTables weighed.now.instance.now weighed.now.by tables.now }
     requires ground { IsGround weighed.now.instance.now (map line_of lines.now) walk.now }
-    ensures net { IfOk result (λ net. net_of_parts net ≡ net_in weighed.now.instance.now weighed.now.by (map line_of lines.now)) }
+    ensures net { IfOk result (λ net. net_of_parts net
+        ≡ net_in weighed.now.instance.now weighed.now.by (map line_of lines.now)) }
     ensures needs { IfOk result (λ net. NeedsAreOf (seat_market weighed.now.instance.now)
         (rotations_in weighed.now.instance.now (map line_of lines.now)) net) }
 {

@@ -31,9 +31,11 @@ impl Taken {
     /// No set is taken yet: the empty one stands in its place.
     pub(crate) fn none(alloc: Global, weighed: &Weighed, walk: &Walk) -> Result<Taken, AllocError>
         requires seats { weighed.now.seats.now ≡ seating_of weighed.now.instance.now }
-        requires seating { IsSeating weighed.now.instance.now (seating_of weighed.now.instance.now) }
+        requires seating { IsSeating weighed.now.instance.now
+            (seating_of weighed.now.instance.now) }
         requires walk { HasWholeWalk weighed.now.instance.now walk.now }
-        ensures set { IfOk result (λ taken. (above : List LineData) → IsWholeWalk weighed.now.instance.now above walk.now
+        ensures set { IfOk result (λ taken. (above : List LineData)
+            → IsWholeWalk weighed.now.instance.now above walk.now
             → IsSetOf weighed.now.instance.now (first_of weighed.now.instance.now above)
             (rotations_in weighed.now.instance.now above) [] taken) }
         ensures unsaid { IfOk result (λ taken. taken.is_said ≡ false) }
@@ -57,10 +59,13 @@ impl Taken {
         numbers: &[u32],
     ) -> Result<Option<Taken>, AllocError>
         requires seats { weighed.now.seats.now ≡ seating_of weighed.now.instance.now }
-        requires seating { IsSeating weighed.now.instance.now (seating_of weighed.now.instance.now) }
+        requires seating { IsSeating weighed.now.instance.now
+            (seating_of weighed.now.instance.now) }
         requires walk { HasNeededWalk weighed.now.instance.now walk.now net.now }
-        ensures { IfOk result (λ taken. (above : List LineData) → IsWholeWalk weighed.now.instance.now above walk.now
-            → NeedsAreOf (seat_market weighed.now.instance.now) (rotations_in weighed.now.instance.now above) net.now
+        ensures { IfOk result (λ taken. (above : List LineData)
+            → IsWholeWalk weighed.now.instance.now above walk.now
+            → NeedsAreOf (seat_market weighed.now.instance.now)
+            (rotations_in weighed.now.instance.now above) net.now
             → MatchOption taken (¬ IsAllowedSet weighed.now.instance.now above numbers.now) (λ t.
             IsAllowedSet weighed.now.instance.now above numbers.now
             × IsSetOf weighed.now.instance.now (first_of weighed.now.instance.now above)
@@ -129,7 +134,8 @@ fn matching_of(
     requires seats { weighed.now.seats.now ≡ seating_of weighed.now.instance.now }
     requires seating { IsSeating weighed.now.instance.now (seating_of weighed.now.instance.now) }
     requires set { HasClosedSet weighed.now.instance.now walk.now set.now }
-    ensures places { IfOk result (λ a. (above : List LineData) → IsWholeWalk weighed.now.instance.now above walk.now
+    ensures places { IfOk result (λ a. (above : List LineData)
+        → IsWholeWalk weighed.now.instance.now above walk.now
         → a.places.items ≡ matching_of_set weighed.now.instance.now above set.now) }
     ensures matching { IfOk result (λ a. IsMatching weighed.now.instance.now a.places.items) }
 {

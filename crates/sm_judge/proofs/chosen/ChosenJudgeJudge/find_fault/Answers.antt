@@ -19,8 +19,8 @@ pub returns-then-not-are_all_there-clause-found : goal.returns-then-not-are_all_
 returns-then-not-are_all_there-clause-found c = λ above k.
     let w = c.args.self.now.instance.now in
     let choice = c.args.self.now.choice in
-    let left = subst (IsStable w) k.lefts.places (c.in_ok-is_unblocked-in-End.ensures.0 c.if-not-branch.false) in
-    let right = subst (IsStable w) k.rights.places (c.in_ok-is_unblocked-in-End-2.ensures.0 c.if-not-branch-2.false) in
+    let left = subst (IsStable w) k.lefts.places (c.is_unblocked.ensures.0 c.if-not-is_unblocked.false) in
+    let right = subst (IsStable w) k.rights.places (c.is_unblocked-in-End.ensures.0 c.if-not-is_unblocked-2.false) in
     let same = c.deref-in-End.ensures.value ∙ wanted_is choice w above _ _ _ _ k in
     rw c.in-End.is (record {
       clauses_before = λ other l. to_clauses choice w above LineData.End other (end_before choice w (lefts_in above) (rights_in above) (pairs_in above) left right other l);
@@ -70,8 +70,8 @@ pub returns-else-not-are_all_there-clause-found : goal.returns-else-not-are_all_
 returns-else-not-are_all_there-clause-found c = λ above k.
     let w = c.args.self.now.instance.now in
     let choice = c.args.self.now.choice in
-    let left = subst (IsStable w) k.lefts.places (c.in_ok-is_unblocked-in-End.ensures.0 c.if-not-branch.false) in
-    let right = subst (IsStable w) k.rights.places (c.in_ok-is_unblocked-in-End-2.ensures.0 c.if-not-branch-2.false) in
+    let left = subst (IsStable w) k.lefts.places (c.is_unblocked.ensures.0 c.if-not-is_unblocked.false) in
+    let right = subst (IsStable w) k.rights.places (c.is_unblocked-in-End.ensures.0 c.if-not-is_unblocked-2.false) in
     let same = c.deref-in-End.ensures.value ∙ wanted_is choice w above _ _ _ _ k in
     let all = subst (λ (m : List (Option ℕ)). AreAllThere m (pairs_in above)) same ((c.if-not-are_all_there.ensures (pairs_in above) k.pairs).0 refl) in
     rw c.in-End.is (

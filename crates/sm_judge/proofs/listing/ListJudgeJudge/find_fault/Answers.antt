@@ -3,7 +3,7 @@ use Rattle.std.specs.Option.{option_map}
 use Rattle.sm_report.specs.Lines.{line_of}
 use Rattle.sm_judge.specs.declared.verdicts.Reason.TheVariants as reason
 use Rattle.sm_judge.specs.Listing.{last_or}
-use Rattle.sm_judge.proofs.AgainLemmas.{own_tried}
+use Rattle.sm_judge.proofs.TriedLemmas.{own_tried}
 use Rattle.sm_judge.proofs.ListingLemmas.{vector_judged, more_judged, other_judged}
 use Rattle.sm_judge.proofs.listing.ListJudgeJudge.find_fault.Goals as goal
 

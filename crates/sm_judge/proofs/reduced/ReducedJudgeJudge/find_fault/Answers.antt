@@ -25,7 +25,7 @@ pub returns-in-Answer-clause-found : goal.returns-in-Answer-clause-found
 returns-in-Answer-clause-found c = λ above k.
     let self = c.args.self.now in
     let h = head_line self.instance.now above _ self.first self.last self.group k.kept in
-    rw c.in-Answer.is (h.0, record { market_is = k.market_is; is_market = k.is_market; seats_are = k.seats_are; kept = h.1 })
+    rw c.in-Answer.is (h.0, record { market_is = k.market_is; is_market = k.is_market; firsts_are = k.firsts_are; kept = h.1 })
 
 pub returns-else-not-add-clause-found : goal.returns-else-not-add-clause-found
 returns-else-not-add-clause-found c = λ above k.
@@ -33,7 +33,7 @@ returns-else-not-add-clause-found c = λ above k.
     let w = self.instance.now in
     let h = first_line w above k.is_market c.in-First.p c.in-First.seat c.seat_number-number.result c.seat_number-number.ensures.number self.first c.add.new.self self.last self.group k.kept
     ((rw k.market_is at c.if-not-add.ensures) (firsts_in w above) k.kept.firsts) in
-    rw c.in-First.is (h.0, record { market_is = k.market_is; is_market = k.is_market; seats_are = k.seats_are; kept = h.1 })
+    rw c.in-First.is (h.0, record { market_is = k.market_is; is_market = k.is_market; firsts_are = k.firsts_are; kept = h.1 })
 
 pub returns-in-Some-clause-found : goal.returns-in-Some-clause-found
 returns-in-Some-clause-found c = λ above k.
@@ -55,7 +55,7 @@ returns-in_default-2-clause-found c = λ above k.
       record {
         market_is = k.market_is;
         is_market = k.is_market;
-        seats_are = k.seats_are;
+        firsts_are = k.firsts_are;
         kept = last_begins w above c.in-Last.p c.in-Last.seat c.seat_number-number-in-Last.result c.seat_number-number-in-Last.ensures.number self.first self.last c.add-in-Last.new.self t before (f reason.NotBest);
       },
     )
@@ -68,7 +68,7 @@ returns-in_default-group c = record {
       let w = self.instance.now in
       let h = last_line w above c.in-Last.p c.in-Last.seat c.seat_number-number-in-Last.result c.seat_number-number-in-Last.ensures.number self.first self.last c.add-in-Last.new.self
       ((rw k.market_is at c.if-not-add-2.ensures) (lasts_in w above) k.kept.lasts) k.is_market self.group c.in_default-group.not-First k.kept in
-      rw c.in-Last.is (h.0, record { market_is = k.market_is; is_market = k.is_market; seats_are = k.seats_are; kept = h.1 });
+      rw c.in-Last.is (h.0, record { market_is = k.market_is; is_market = k.is_market; firsts_are = k.firsts_are; kept = h.1 });
 }
 
 pub returns-in-Lists : goal.returns-in-Lists
@@ -82,7 +82,7 @@ returns-in-Lists c =
       found = IfOk-weaker c.find_fault.result _ _
           (λ why h above k.
           let g = rw c.in-Lists.is at k.kept.at in
-          kept_as _ (λ kept. record { market_is = k.market_is; is_market = k.is_market; seats_are = k.seats_are; kept = kept }) why
+          kept_as _ (λ kept. record { market_is = k.market_is; is_market = k.is_market; firsts_are = k.firsts_are; kept = kept }) why
           (lists_go w above x behind self.first self.last g.first_best g.last_best k.kept.firsts k.kept.lasts c.find_fault.new.self why (h above g.are_lists)))
           c.find_fault.ensures;
     }
@@ -92,6 +92,6 @@ returns-in_default-group-2 c = record {
   subject = rw c.behind_fault.ensures.instance refl;
   found = IfOk-weaker c.behind_fault.result _ _
       (λ why h above k.
-      kept_as _ (λ kept. rw (c.behind_fault.ensures.instance, c.behind_fault.ensures.market, c.behind_fault.ensures.seats) (record { market_is = k.market_is; is_market = k.is_market; seats_are = k.seats_are; kept = kept })) why (h above k.kept))
+      kept_as _ (λ kept. rw (c.behind_fault.ensures.instance, c.behind_fault.ensures.market, c.behind_fault.ensures.firsts) (record { market_is = k.market_is; is_market = k.is_market; firsts_are = k.firsts_are; kept = kept })) why (h above k.kept))
       c.behind_fault.ensures.found;
 }

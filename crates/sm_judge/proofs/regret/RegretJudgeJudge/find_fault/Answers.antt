@@ -11,6 +11,6 @@ pub returns-clause-found : goal.returns-clause-found
 returns-clause-found c = λ above k.
     let w = c.args.self.now.instance.now in
     let x = line_of c.args.line.now in
-    subst (λ said. FindsOrKeeps (RegretClauses w above x) (AreRegretsKept w (above ++ x ∷ []) c.line_fault.new.holding said) c.in_ok-why.why)
+    subst (λ said. FindsOrKeeps (RegretClauses w above x) (AreRegretsKept w (above ++ x ∷ []) c.line_fault-why.new.holding said) c.line_fault-why.result)
     (sym (c.or-self.ensures ∙ ap (option_or c.args.self.now.regret) c.regret_in.ensures))
-    (regret_judged x c.args.self.now.holding c.line_fault.new.holding c.in_ok-why.why (λ pairs h. c.in_ok-why.ensures pairs h) above k)
+    (regret_judged x c.args.self.now.holding c.line_fault-why.new.holding c.line_fault-why.result (λ pairs h. c.line_fault-why.ensures pairs h) above k)
