@@ -25,7 +25,8 @@ use Rattle.sm_judge.specs.Said.{pair_in, pairs_in, left_in, lefts_in, right_in, 
 use Rattle.sm_judge.specs.Pairs.{IsFree, IsWanted, AreAllThere, ChosenHold}
 use Rattle.sm_judge.proofs.LinewiseLemmas.{AllHold, all_hold, hold_append, no_end}
 use Rattle.sm_agree.specs.Agree.{GetYes, MeetAgrees, JoinAgrees}
-use Rattle.sm_agree.proofs.LineLemmas.{Held, pass_append, has_word, has_other, group_whole, same_said, yes_of}
+use Rattle.sm_judge.proofs.AnswerLemmas.{said_same}
+use Rattle.sm_agree.proofs.LineLemmas.{Held, pass_append, has_word, has_other, group_whole, yes_of}
 use Rattle.sm_agree.proofs.PairLemmas.{AreBelow, free_below, all_below, wanted_pair, all_wanted, lines_with, Above, pairs_hold, pairs_pass}
 
 -- The clauses.
@@ -103,13 +104,13 @@ module _ (choice : Choice) (w : Written) where
     lefts_hold : Held C (Above C w m left_in LineData.LeftPair (λ p r. refl) NoneBehind count) (LineData.Answer head ∷ []) lefts
     lefts_hold =
         pairs_hold C w m left_in LineData.LeftPair (λ p r. refl) NoneBehind
-        (λ above p r k. (same_said right_in (LineData.LeftPair p r) above refl ∙ k.0, same_said pair_in (LineData.LeftPair p r) above refl ∙ k.1))
+        (λ above p r k. (said_same right_in above (LineData.LeftPair p r) refl ∙ k.0, said_same pair_in above (LineData.LeftPair p r) refl ∙ k.1))
         (λ above p j k e. left_holds above p (entry w.proposers p j) (free_below k.0 left.matching j e)) (LineData.Answer head ∷ []) refl (refl, refl)
 
     rights_hold : Held C (Above C w n right_in LineData.RightPair (λ p r. refl) LeftsBehind count) (LineData.Answer head ∷ lefts) rights
     rights_hold =
         pairs_hold C w n right_in LineData.RightPair (λ p r. refl) LeftsBehind
-        (λ above p r k. (subst (AreBelow w m count) (sym (same_said left_in (LineData.RightPair p r) above refl)) k.0, same_said pair_in (LineData.RightPair p r) above refl ∙ k.1))
+        (λ above p r k. (subst (AreBelow w m count) (sym (said_same left_in above (LineData.RightPair p r) refl)) k.0, said_same pair_in above (LineData.RightPair p r) refl ∙ k.1))
         (λ above p j k e. right_holds above p (entry w.proposers p j) (free_below k.0 right.matching j e))
         (LineData.Answer head ∷ lefts) lefts_hold.1.1.0 (lefts_hold.1.0, lefts_hold.1.1.1)
 
@@ -127,8 +128,8 @@ module _ (choice : Choice) (w : Written) where
     pairs_are =
         pairs_hold C w chosen pair_in LineData.Pair (λ p r. refl) BothBehind
         (λ above p r k. (
-          subst (AreBelow w m count) (sym (same_said left_in (LineData.Pair p r) above refl)) k.0,
-          subst (AreBelow w n count) (sym (same_said right_in (LineData.Pair p r) above refl)) k.1,
+          subst (AreBelow w m count) (sym (said_same left_in above (LineData.Pair p r) refl)) k.0,
+          subst (AreBelow w n count) (sym (said_same right_in above (LineData.Pair p r) refl)) k.1,
         ))
         (λ above p j k e.
         pair_holds above p (entry w.proposers p j)
@@ -142,6 +143,7 @@ module _ (choice : Choice) (w : Written) where
         end_holds above (subst (IsStable w) (sym (left_is above k.1.0)) left) (subst (IsStable w) (sym (right_is above k.1.1)) right)
         (subst (λ x. AreAllThere x (pairs_in above)) (chosen_is above k.1) (all_wanted i chosen assigned (pairs_in above) k.0))
 
+    -- all clauses hold at the lines of a right answer
     pub all : AllHold C [] lines
     all = (
       head_holds head,
@@ -154,11 +156,13 @@ module _ (choice : Choice) (w : Written) where
     passing : (test : LineData → Bool) → ((p r : ℕ) → test (LineData.Pair p r) ≡ true) → test LineData.End ≡ true → list_all test (pairs ++ LineData.End ∷ []) ≡ true
     passing test each end = pass_append test pairs (LineData.End ∷ []) (pairs_pass LineData.Pair w chosen test each) (ap (λ t. t && true) end)
 
+    -- the lines behind the head are of their form
     pub behind_fits : list_all (fits (Two w)) (lefts ++ (rights ++ (pairs ++ LineData.End ∷ []))) ≡ true
     behind_fits =
         pass_append (fits (Two w)) lefts (rights ++ (pairs ++ LineData.End ∷ [])) (pairs_pass LineData.LeftPair w m (fits (Two w)) (λ p r. refl))
         (pass_append (fits (Two w)) rights (pairs ++ LineData.End ∷ []) (pairs_pass LineData.RightPair w n (fits (Two w)) (λ p r. refl)) (passing (fits (Two w)) (λ p r. refl) refl))
 
+    -- they are a whole answer
     pub placed : is_whole (given_layout ∷ []) (map opening_of (lefts ++ (rights ++ (pairs ++ LineData.End ∷ [])))) ≡ true
     placed =
         group_whole keyword.Left (Many keyword.Right) (Many keyword.Pair ∷ closing) lefts (rights ++ (pairs ++ LineData.End ∷ []))
@@ -169,20 +173,24 @@ module _ (choice : Choice) (w : Written) where
         (group_whole keyword.Pair (One keyword.End) [] pairs (LineData.End ∷ []) (pairs_pass LineData.Pair w chosen (has_word keyword.Pair) (λ p r. refl)) refl refl))
 
 module _ (w : Written) (i : IsInstance w) (m n : List (Option ℕ)) (left : IsStable w m) (right : IsStable w n) where
+  -- the right answer of `meet` gets a yes
   pub meet_yes : GetYes (Two w) (chosen_lines Better w m n)
   meet_yes =
       yes_of (Two w) (chosen_lines Better w m n) (lines_sound Better w m n (Two w) refl i left.matching.assigned right.matching.assigned)
       (behind_fits Better w i m n left right HeadData.Meet) (placed Better w i m n left right HeadData.Meet)
       (all_hold (C Better w) (chosen_lines Better w m n) (all Better w i m n left right HeadData.Meet))
 
+  -- the right answer of `join` gets a yes
   pub join_yes : GetYes (Two w) (chosen_lines Worse w m n)
   join_yes =
       yes_of (Two w) (chosen_lines Worse w m n) (lines_sound Worse w m n (Two w) refl i left.matching.assigned right.matching.assigned)
       (behind_fits Worse w i m n left right HeadData.Join) (placed Worse w i m n left right HeadData.Join)
       (all_hold (C Worse w) (chosen_lines Worse w m n) (all Worse w i m n left right HeadData.Join))
 
+-- the law for `meet`
 pub meet_agrees : MeetAgrees
 meet_agrees w texts answer i a = subst (GetYes (Two w)) (sym a.shows) (meet_yes w i (places_in w a.left) (places_in w a.right) a.first.stable a.second.stable)
 
+-- the law for `join`
 pub join_agrees : JoinAgrees
 join_agrees w texts answer i a = subst (GetYes (Two w)) (sym a.shows) (join_yes w i (places_in w a.left) (places_in w a.right) a.first.stable a.second.stable)

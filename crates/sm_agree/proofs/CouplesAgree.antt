@@ -8,6 +8,7 @@ use Rattle.std.proofs.lemmas.Grind.{flat_map-append}
 use Rattle.std.proofs.lemmas.List.{length-map}
 use Rattle.std.proofs.lemmas.List.Elements.{filter_map-append}
 use Rattle.std.proofs.lemmas.List.FromFn.{length-map-range_with_len, get_or-map-range_with_len}
+use Rattle.std.proofs.lemmas.Option.{same_Some}
 use Rattle.sm_lists.proofs.Counting.{eq_or_ne}
 use Rattle.sm_instance.specs.Written.{AgentData, lists_of}
 use Rattle.sm_instance.specs.declared.inputs.Input.TheVariants.{Room}
@@ -34,9 +35,6 @@ use Rattle.sm_judge.proofs.CoupleLemmas.{partner_behind, partner_there}
 use Rattle.sm_agree.specs.Agree.{GetYes, CouplesAgree}
 use Rattle.sm_agree.proofs.LineLemmas.{Steps, Held, numbers_hold, numbers_pass, pass_append, has_word, has_other, group_whole, first_whole, yes_of}
 
-some_same : {x y : ℕ} → Some x ≡ Some y → x ≡ y
-some_same e = cc
-
 no_mate : {x : ℕ} → ◌≡◌ {A = Option ℕ} None (Some x) → ⊥
 no_mate e = grind arith
 
@@ -45,6 +43,7 @@ pub record AreCouplesBelow (mates : List (Option ℕ)) (b : ℕ) (pairs : List (
   pub given : (x y : ℕ) → mate_of mates x ≡ Some y → (x < b) ⊎ (y < b) → partner_in (both_ways pairs) x ≡ Some y
   pub free : (x : ℕ) → ((y : ℕ) → mate_of mates x ≡ Some y → (x < b) ⊎ (y < b) → ⊥) → partner_in (both_ways pairs) x ≡ None
 
+-- before the first person there is no couple
 pub no_couples : (mates : List (Option ℕ)) → AreCouplesBelow mates 0 []
 no_couples mates = record { given = λ x y e l. elim l [ inl a ↦ absurd (omega (arith, a)) | inr a ↦ absurd (omega (arith, a)) ]; free = λ x none. refl }
 
@@ -53,10 +52,6 @@ stands_not : (pairs : List (ℕ × ℕ)) (x : ℕ) → partner_in (both_ways pai
 stands_not pairs x none c = false≢true (ap is_some (sym none) ∙ partner_there pairs x ∙ among_of (persons_of pairs) x c)
 
 module _ {rows : List (List ℕ)} {mates : List (Option ℕ)} (m : IsRoomMatching rows mates) where
-  -- two who have the same mate are one
-  same_mate : (x y z : ℕ) → mate_of mates x ≡ Some y → mate_of mates z ≡ Some y → z ≡ x
-  same_mate x y z e f = some_same (sym (m.in_turn z y f) ∙ m.in_turn x y e)
-
   module _ {b : ℕ} {pairs : List (ℕ × ℕ)} (k : AreCouplesBelow mates b pairs) where
     -- a person without a mate, or whose mate is below it, adds no couple
     pub same_couples : ((y : ℕ) → mate_of mates b ≡ Some y → y < b) → AreCouplesBelow mates (b + 1) pairs
@@ -80,11 +75,12 @@ module _ {rows : List (List ℕ)} {mates : List (Option ℕ)} (m : IsRoomMatchin
 
     module _ (y : ℕ) (e : mate_of mates b ≡ Some y) (up : b < y) where
       first_free : partner_in (both_ways pairs) b ≡ None
-      first_free = k.free b (λ z f l. elim l [ inl a ↦ absurd (omega (arith, a)) | inr a ↦ absurd (let s = some_same (sym e ∙ f) in omega (arith, a, s, up)) ])
+      first_free = k.free b (λ z f l. elim l [ inl a ↦ absurd (omega (arith, a)) | inr a ↦ absurd (let s = same_Some _ _ (sym e ∙ f) in omega (arith, a, s, up)) ])
 
       second_free : partner_in (both_ways pairs) y ≡ None
-      second_free = k.free y (λ z f l. elim l [ inl a ↦ absurd (omega (arith, a, up)) | inr a ↦ absurd (let s = some_same (sym (m.in_turn b y e) ∙ f) in omega (arith, a, s)) ])
+      second_free = k.free y (λ z f l. elim l [ inl a ↦ absurd (omega (arith, a, up)) | inr a ↦ absurd (let s = same_Some _ _ (sym (m.in_turn b y e) ∙ f) in omega (arith, a, s)) ])
 
+      -- its couple with a mate above it is free behind those before it
       pub free_couple : IsFreeCouple rows pairs (b, y)
       free_couple = record { acceptable = m.acceptable b y e; first_free = stands_not pairs b first_free; second_free = stands_not pairs y second_free }
 
@@ -115,6 +111,7 @@ module _ {rows : List (List ℕ)} {mates : List (Option ℕ)} (m : IsRoomMatchin
           plain None = refl
           plain (Some u) = refl
 
+      -- and is added to them
       pub one_couple : AreCouplesBelow mates (b + 1) (pairs ++ (b, y) ∷ [])
       one_couple = record { given = given; free = free }
         where
@@ -126,7 +123,7 @@ module _ {rows : List (List ℕ)} {mates : List (Option ℕ)} (m : IsRoomMatchin
               | inr other ↦ at_other x ne other ∙ k.given x z f (elim l [
                 | inl a ↦ inl (omega (arith, a, ne))
                 | inr a ↦ elim (eq_or_ne z b) [
-                  | inl is ↦ absurd (other (some_same (sym (ap (mate_of mates) (sym is) ∙ m.in_turn x z f) ∙ e)))
+                  | inl is ↦ absurd (other (same_Some _ _ (sym (ap (mate_of mates) (sym is) ∙ m.in_turn x z f) ∙ e)))
                   | inr n ↦ inr (omega (arith, a, n))
                 ]
               ])
@@ -199,7 +196,7 @@ module _ (persons : List AgentData) where
               subst (AreCouplesBelow mates (x + 1)) (sym (filter_map-append pair_in above (LineData.Pair x y ∷ []))) (one_couple stable.matching k y e less),
             )
         by_test y e false down =
-            same_couples stable.matching k (λ z f. let s = some_same (sym f ∙ e) in let n = (stable.matching.acceptable x z f).apart in let ge = ltb-false x y down in omega (arith, s, n, ge))
+            same_couples stable.matching k (λ z f. let s = same_Some _ _ (sym f ∙ e) in let n = (stable.matching.acceptable x z f).apart in let ge = ltb-false x y down in omega (arith, s, n, ge))
 
         go : (o : Option ℕ) → mate_of mates x ≡ o → Steps C (Below (x + 1)) above (couple_with x o)
         go None e = same_couples stable.matching k (λ y f. absurd (no_mate (sym e ∙ f)))
@@ -240,10 +237,12 @@ module _ (persons : List AgentData) where
     judged (LineData.Nothing ∷ rest) none h = absurd (false≢true none)
     judged (_ ∷ rest) none h = h
 
+    -- the lines of the couples get a yes
     pub couples_yes : GetYes (Room persons) (couple_lines mates)
     couples_yes =
         yes_of (Room persons) (couple_lines mates) (couples_sound refl stable) fitting placed
         (judged (pairs ++ LineData.End ∷ []) (pass_append (has_other keyword.Nothing) pairs (LineData.End ∷ []) (passing (has_other keyword.Nothing) (λ x y up. refl)) refl) (all_hold C (couple_lines mates) all))
 
+-- the law for couples of roommates
 pub couples_agree : CouplesAgree
 couples_agree persons lines a = subst (GetYes (Room persons)) (sym a.shows) (couples_yes persons a.mates a.stable)

@@ -41,9 +41,11 @@ node_back size n few inside = elim (eq_or_ne n (suc size)) [
 abbrev pub shown_on : (sink : ℕ) → FlowLine → FlowLine
 shown_on sink line = record { from = shown_node sink line.from; to = shown_node sink line.to; amount = line.amount }
 
+-- so a line is read back from how it is shown
 pub line_back : (size : ℕ) (x : FlowLine) → size < SINK → x.from < suc (suc size) → x.to < suc (suc size) → on_nodes size (shown_on (suc size) x) ≡ x
 line_back size x few from to = λ i. record { from = node_back size x.from few from i; to = node_back size x.to few to i; amount = x.amount }
 
+-- so are all lines between nodes
 pub lines_back : (size : ℕ) (xs : List FlowLine) → size < SINK → AreOnNodes (suc (suc size)) xs → map (on_nodes size) (map (shown_on (suc size)) xs) ≡ xs
 lines_back size [] few on = refl
 lines_back size (x ∷ xs) few on =
@@ -76,9 +78,11 @@ module _ (net : Net) (front back : List FlowLine) (x : FlowLine) where
   front_at : (a : ℕ) → a < length front → line_at whole a ≡ line_at front a
   front_at a less = get_or_append_left front (x ∷ back) no_line a less
 
+  -- they are between nodes, where all lines are
   pub front_nodes : (nodes : ℕ) → AreOnNodes nodes whole → AreOnNodes nodes front
   front_nodes nodes on a less = subst (λ (y : FlowLine). (y.from < nodes) × (y.to < nodes)) (front_at a less) (on a (omega (arith, less, long)))
 
+  -- and so is the line behind them
   pub here_nodes : (nodes : ℕ) → AreOnNodes nodes whole → (x.from < nodes) × (x.to < nodes)
   here_nodes nodes on = subst (λ (y : FlowLine). (y.from < nodes) × (y.to < nodes)) here (on (length front) (omega (arith, long)))
 
@@ -190,5 +194,6 @@ numbers_there set (suc n) =
     one true = All-cons (λ i. i ≤ suc n) (suc n) [] (omega arith) (λ k d less. absurd (omega (arith, less)))
     one false = λ k d less. absurd (omega (arith, less))
 
+-- the number of a member among the first n rotations is n at most
 pub number_there : (set : List Bool) (n i : ℕ) → Contains (member_numbers set n) i → i ≤ n
 number_there set n i c = let le = numbers_there set n c.0 i c.1 in omega (arith, le, c.2)

@@ -40,43 +40,38 @@ one_number Clauses P Q above rest (Some x) q go =
 
 module _ (Clauses : List LineData → LineData → Reason → Type 0) (P : ℕ → List LineData → Type 0) (line : ℕ → Option LineData) (b : ℕ)
     (step : (i : ℕ) (above : List LineData) → i < b → P i above → Steps Clauses (P (i + 1)) above (line i)) where
+  -- all clauses hold at the lines of numbers one after another, where they do at each
   pub numbers_hold : (a n : ℕ) (above : List LineData) → a + n ≡ b → P a above → Held Clauses (P b) above (lines_from line a n)
   numbers_hold a zero above e p = (tt, subst (P b) (sym (append-nil above)) (subst (λ k. P k above) (let f : a ≡ b = omega (arith, e) in f) p))
   numbers_hold a (suc n) above e p =
       one_number Clauses (P b) (P (a + 1)) above (lines_from line (a + 1) n) (line a) (step a above (omega (arith, e)) p)
       (λ now q. numbers_hold (a + 1) n now (omega (arith, e)) q)
 
--- What lines say.
-
--- a line of another kind says nothing more
-pub same_said : {X : Type 0} (said : LineData → Option X) (x : LineData) (lines : List LineData) → said x ≡ None → filter_map said (lines ++ x ∷ []) ≡ filter_map said lines
-same_said said x lines none =
-    filter_map-append said lines (x ∷ []) ∙ ap (λ o. filter_map said lines ++ cons_option o []) none ∙ append-nil (filter_map said lines)
-
--- one line that says something
-pub more_said : {X : Type 0} (said : LineData → Option X) (x : LineData) (a : X) (lines : List LineData) → said x ≡ Some a → filter_map said (lines ++ x ∷ []) ≡ filter_map said lines ++ a ∷ []
-more_said said x a lines is = filter_map-append said lines (x ∷ []) ∙ ap (λ o. filter_map said lines ++ cons_option o []) is
-
 -- Tests that lines pass.
 
+-- lines that pass, and others that do behind them, pass together
 pub pass_append : (test : LineData → Bool) (xs ys : List LineData) → list_all test xs ≡ true → list_all test ys ≡ true → list_all test (xs ++ ys) ≡ true
 pass_append test xs ys x y = list_all-append test xs ys ∙ ap (λ t. t && list_all test ys) x ∙ y
 
+-- where the line of each number passes, all lines of numbers do
 pub numbers_pass : (test : LineData → Bool) (line : ℕ → Option LineData) (b : ℕ) → ((i : ℕ) → i < b → list_all test (line_or_none (line i)) ≡ true)
     → (a n : ℕ) → a + n ≡ b → list_all test (lines_from line a n) ≡ true
 numbers_pass test line b each a zero e = refl
 numbers_pass test line b each a (suc n) e =
     pass_append test (line_or_none (line a)) (lines_from line (a + 1) n) (each a (omega (arith, e))) (numbers_pass test line b each (a + 1) n (omega (arith, e)))
 
+-- where each thing has a line that passes, all of them do
 pub map_pass : {X : Type 0} (test : LineData → Bool) (line : X → LineData) (xs : List X) → ((x : X) → test (line x) ≡ true) → list_all test (map line xs) ≡ true
 map_pass test line [] each = refl
 map_pass test line (x ∷ xs) each = ap (λ t. t && list_all test (map line xs)) (each x) ∙ map_pass test line xs each
 
 -- Layouts.
 
+-- a line begins with the word
 abbrev pub has_word : Keyword → LineData → Bool
 has_word word x = begins (opening_of x) word
 
+-- a line begins with another word
 abbrev pub has_other : Keyword → LineData → Bool
 has_other word x = not (has_word word x)
 
@@ -116,9 +111,11 @@ or_second false t e = e
 apart : (a b : List (List Part)) (lines : List Opening) → is_whole (a ++ b) lines ≡ (is_whole a lines || is_whole b lines)
 apart a b lines = ap (list_any is_empty) (left_apart a b lines) ∙ list_any-append is_empty (left_behind a lines) (left_behind b lines)
 
+-- lines that are whole by the first layouts are so by both
 pub first_whole : (a b : List (List Part)) (lines : List Opening) → is_whole a lines ≡ true → is_whole (a ++ b) lines ≡ true
 first_whole a b lines e = apart a b lines ∙ ap (λ t. t || is_whole b lines) e
 
+-- and so by the second layouts
 pub second_whole : (a b : List (List Part)) (lines : List Opening) → is_whole b lines ≡ true → is_whole (a ++ b) lines ≡ true
 second_whole a b lines e = apart a b lines ∙ or_second (is_whole a lines) (is_whole b lines) e
 

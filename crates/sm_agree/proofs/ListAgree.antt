@@ -44,6 +44,7 @@ module _ (w : Written) (places : List (Option ℕ)) (a : IsAssignment w places) 
   ranked : (p : ℕ) → p < length w.proposers → slice_index (rank_vector_of w places) p ≡ standing w places p + 1
   ranked p l = get_or-map-range_with_len (λ p. standing w places p + 1) 0 (length w.proposers) p p 0 l (omega arith)
 
+  -- the places that the ranks of an assignment name are its own
   pub places_again : places_of_ranks w (rank_vector_of w places) ≡ places
   places_again =
       let v = rank_vector_of w places in
@@ -59,6 +60,7 @@ abbrev pub AreRising : Written → Option (List ℕ) → List (List ℕ) → Typ
 AreRising w cursor [] = Unit {0}
 AreRising w cursor (v ∷ vs) = IsBehind (IsBefore (order_of w)) cursor v × AreRising w (Some v) vs
 
+-- each vector is of an allowed stable matching
 abbrev pub AreAllowed : Written → List (List ℕ) → Type 0
 AreAllowed w [] = Unit {0}
 AreAllowed w (v ∷ vs) = IsAllowedRankVector w v × AreAllowed w vs
@@ -172,12 +174,14 @@ module _ (w : Written) (after : Option (List ℕ)) (limit : ℕ) where
       head_fits None c = refl
       head_fits (Some v) c = eq-eqb (length v) (length w.proposers) c
 
+      -- the lines of a listing are of their form
       pub fitting : list_all (fits (Two w)) lines ≡ true
       fitting =
           let each = allowed w out listing.sound in
           ap (λ t. t && list_all (fits (Two w)) (vector_lines after out more)) (head_fits after cursor)
           ∙ pass_append (fits (Two w)) (of_vectors out) (last_line (end_of after out) more ∷ []) (vectors_fit out each) (last_fits (end_of after out) more (ends_long after out cursor each))
 
+-- the law for `list`
 pub list_agrees : ListAgrees
 list_agrees w after limit lines i h a =
     let x = head w after limit a.out a.more a.listing ∷ vector_lines after a.out a.more in

@@ -21,7 +21,8 @@ use Rattle.sm_report.specs.Lines.{LineData}
 use Rattle.sm_answer.specs.Lines.{line_or_none, lines_from}
 use Rattle.sm_judge.specs.declared.verdicts.Reason.{Reason}
 use Rattle.sm_judge.specs.Pairs.{times_second, IsFree, IsWanted, AreAllThere}
-use Rattle.sm_agree.proofs.LineLemmas.{Steps, Held, numbers_hold, numbers_pass, more_said}
+use Rattle.sm_judge.proofs.AnswerLemmas.{said_one}
+use Rattle.sm_agree.proofs.LineLemmas.{Steps, Held, numbers_hold, numbers_pass}
 
 -- the reviewer that a proposer has
 abbrev pub partner_of : Written → List (Option ℕ) → ℕ → Option ℕ
@@ -33,6 +34,7 @@ pub record AreBelow (w : Written) (places : List (Option ℕ)) (p : ℕ) (pairs 
   pub past : (q : ℕ) → p ≤ q → partner_in pairs q ≡ None
   pub times : (r : ℕ) → times_second pairs r ≡ load_before w places p r
 
+-- below the first proposer there are no pairs
 pub none_below : (w : Written) (places : List (Option ℕ)) → AreBelow w places 0 []
 none_below w places = record { below = λ q l. absurd (omega (arith, l)); past = λ q l. refl; times = λ r. refl }
 
@@ -101,12 +103,14 @@ all_below {w} {places} {pairs} k sound a =
 
 -- The pairs of a matching are those that are wanted.
 module _ {w : Written} (i : IsInstance w) (wanted : List (Option ℕ)) (a : IsAssignment w wanted) where
+  -- the pair of the next proposer is wanted behind those before it
   pub wanted_pair : (pairs : List (ℕ × ℕ)) (p k : ℕ) → AreBelow w wanted p pairs → held wanted p ≡ Some k → IsWanted w wanted pairs (p, entry w.proposers p k)
   wanted_pair pairs p k below e = record {
     in_matching = e ∙ ap Some (sym (place_of-entry i.proposer_entries p (entry w.proposers p k) k (a.on_lists p k e) refl));
     once = below.past p (omega arith);
   }
 
+  -- each proposer that is matched stands in one of them
   pub all_wanted : (pairs : List (ℕ × ℕ)) → AreBelow w wanted (length w.proposers) pairs → AreAllThere wanted pairs
   all_wanted pairs below p some = go (held wanted p) refl some
     where
@@ -122,6 +126,7 @@ module _ {w : Written} (i : IsInstance w) (wanted : List (Option ℕ)) (a : IsAs
 abbrev pub line_with : (ℕ → ℕ → LineData) → Written → List (Option ℕ) → ℕ → Option LineData
 line_with pair w places p = option_map (λ i. pair p (entry w.proposers p i)) (held places p)
 
+-- the lines of the pairs of all proposers
 abbrev pub lines_with : (ℕ → ℕ → LineData) → Written → List (Option ℕ) → List LineData
 lines_with pair w places = lines_from (line_with pair w places) 0 (length w.proposers)
 
@@ -142,9 +147,10 @@ module _ (Clauses : List LineData → LineData → Reason → Type 0) (w : Writt
         go (Some i) e =
             let r = entry w.proposers p i in (
               holds above p i k e,
-              (subst (AreBelow w places (p + 1)) (sym (more_said said (pair p r) (p, r) above (is_said p r))) (one_below k.0 i e), keep above p r k.1),
+              (subst (AreBelow w places (p + 1)) (sym (said_one said above (pair p r) (p, r) (is_said p r))) (one_below k.0 i e), keep above p r k.1),
             )
 
+    -- all clauses hold at the lines of the pairs, where they do at each behind the ones before it
     pub pairs_hold : (above : List LineData) → filter_map said above ≡ [] → Known above → Held Clauses (Above (length w.proposers)) above (lines_with pair w places)
     pairs_hold above none known =
         numbers_hold Clauses Above (line_with pair w places) (length w.proposers) (λ p now l k. step p now k) 0 (length w.proposers) above (omega arith)

@@ -34,7 +34,8 @@ use Rattle.sm_judge.proofs.LinewiseLemmas.{AllHold, all_hold, hold_append, no_en
 use Rattle.sm_judge.proofs.PersonLemmas.{of_among}
 use Rattle.sm_judge.proofs.PartyLemmas.{not_among, members_more, new_where, among_at, next_there, next_other, follows}
 use Rattle.sm_agree.specs.Agree.{GetYes, PartiesAgree}
-use Rattle.sm_agree.proofs.LineLemmas.{Steps, Held, numbers_hold, more_said, numbers_pass, pass_append, has_word, group_whole, second_whole, yes_of}
+use Rattle.sm_judge.proofs.AnswerLemmas.{said_one}
+use Rattle.sm_agree.proofs.LineLemmas.{Steps, Held, numbers_hold, numbers_pass, pass_append, has_word, group_whole, second_whole, yes_of}
 
 -- The parties of a permutation are apart, and give it.
 module _ {rows : List (List ℕ)} {next : List ℕ} {parties : List (List ℕ)} (h : IsStablePartition rows next) (a : AreParties next parties) where
@@ -91,6 +92,7 @@ module _ {rows : List (List ℕ)} {next : List ℕ} {parties : List (List ℕ)} 
       ∙ ap (λ b. b || is_among (who k j) (party q)) (none_before k j l on q (omega (arith, le)))
       ∙ not_in k j q l (omega (arith, le, l)) (λ e. omega (arith, e, le)) on
 
+  -- each party is new behind those before it
   pub new_party : (k : ℕ) → k < length parties → AreNew (take k parties) (party k)
   new_party k l = new_where (take k parties) (party k) (apart_in k l) (λ j on. none_before k j l on k (omega arith))
 
@@ -109,6 +111,7 @@ module _ {rows : List (List ℕ)} {next : List ℕ} {parties : List (List ℕ)} 
         | inr ne ↦ ap (λ b. b || is_among (who k j) (party q)) (there_behind k j l on q (omega (arith, lt, ne)) (omega (arith, le)))
       ]
 
+  -- each person is a member of a party
   pub all_there : (z : ℕ) → z < length next → Contains (members_of parties) z
   all_there z l =
       let m = a.all z l in
@@ -140,6 +143,7 @@ module _ {rows : List (List ℕ)} {next : List ℕ} {parties : List (List ℕ)} 
             ∙ next_behind k j l on q (omega (arith, lt, ne)) (omega (arith, le))
       ]
 
+  -- who follows a person in its party is its successor
   pub next_is : (z : ℕ) → z < length next → next_of parties z ≡ successor_in next z
   next_is z l =
       let m = a.all z l in
@@ -178,6 +182,7 @@ module _ {rows : List (List ℕ)} {next : List ℕ} {parties : List (List ℕ)} 
         let back = take_back h (who k 0) i 0 n (inside k 0 l (omega (arith, less))) same in
         apart_in k l 0 n some less (back ∙ steps k n l less)
 
+  -- where somebody is in an odd party of the permutation, there is an odd party among these
   pub odd_party : {x : ℕ} → IsInOddParty rows next x → HasOddParty parties
   odd_party {x} odd =
       let m = a.all x (omega (arith, odd.in_range, h.one_each)) in
@@ -261,7 +266,7 @@ module _ (persons : List AgentData) where
     step : (k : ℕ) (above : List LineData) → k < length parties → Taken k above → Steps C (Taken (k + 1)) above (party_line parties k)
     step k above l known = (
       party_holds above (row parties k) (subst (λ ps. AreNew ps (row parties k)) (sym known) (new_party e.partition e.all k l)),
-      more_said party_in (LineData.Party (row parties k)) (row parties k) above refl ∙ ap (λ ps. ps ++ row parties k ∷ []) known
+      said_one party_in above (LineData.Party (row parties k)) (row parties k) refl ∙ ap (λ ps. ps ++ row parties k ∷ []) known
           ∙ sym (take-suc parties k [] l) ∙ ap (λ n. take n parties) (let f : suc k ≡ k + 1 = omega arith in f),
     )
 
@@ -294,8 +299,10 @@ module _ (persons : List AgentData) where
         (group_whole keyword.Party (One keyword.End) [] shown (LineData.End ∷ [])
         (numbers_pass (has_word keyword.Party) (party_line parties) (length parties) (λ k l. refl) 0 (length parties) (omega arith)) refl refl)
 
+    -- the lines of the parties get a yes
     pub parties_yes : GetYes (Room persons) (party_lines parties)
     parties_yes = yes_of (Room persons) (party_lines parties) (all_parties_sound parties e) fitting placed (all_hold C (party_lines parties) every)
 
+-- the law for parties of roommates
 pub parties_agree : PartiesAgree
 parties_agree persons lines a = subst (GetYes (Room persons)) (sym a.shows) (parties_yes persons a.parties a.excluding)

@@ -40,7 +40,8 @@ use Rattle.sm_judge.proofs.LinewiseLemmas.{AllHold, all_hold, hold_append, no_en
 use Rattle.sm_judge.proofs.PartyLemmas.{among_at, once}
 use Rattle.sm_judge.specs.PartiesKept.{is_among}
 use Rattle.sm_agree.specs.Agree.{GetYes, ReducedAgrees}
-use Rattle.sm_agree.proofs.LineLemmas.{Steps, Held, numbers_hold, numbers_pass, pass_append, has_word, has_other, group_whole, same_said, more_said, yes_of}
+use Rattle.sm_judge.proofs.AnswerLemmas.{said_same, said_one}
+use Rattle.sm_agree.proofs.LineLemmas.{Steps, Held, numbers_hold, numbers_pass, pass_append, has_word, has_other, group_whole, yes_of}
 use Rattle.sm_agree.proofs.SeatLemmas.{seat_number_is, is_seat_shown, seat_numbers_are, are_seats_shown, all_seated, SeatsAbove, seats_hold, seats_pass}
 
 -- each number of a range stands once in it
@@ -156,21 +157,21 @@ module _ (w : Written) (i : IsInstance w) (first last : Places) (best : IsPropos
 
   -- a line that says nothing more
   same_first : (above : List LineData) (x : LineData) → first_in w x ≡ None → first_of w above ≡ first → first_of w (above ++ x ∷ []) ≡ first
-  same_first above x none is = ap (seat_places_in l) (same_said (first_in w) x above none) ∙ is
+  same_first above x none is = ap (seat_places_in l) (said_same (first_in w) above x none) ∙ is
 
   same_last : (above : List LineData) (x : LineData) → last_in w x ≡ None → last_of w above ≡ last → last_of w (above ++ x ∷ []) ≡ last
-  same_last above x none is = ap (seat_places_in l) (same_said (last_in w) x above none) ∙ is
+  same_last above x none is = ap (seat_places_in l) (said_same (last_in w) above x none) ∙ is
 
   both_same : (above : List LineData) (x : LineData) → first_in w x ≡ None → last_in w x ≡ None → AreSaid above → AreSaid (above ++ x ∷ [])
   both_same above x a b said = record { first_is = same_first above x a said.first_is; last_is = same_last above x b said.last_is }
 
   lists_same : (above : List LineData) (x : LineData) → proposer_list_in w x ≡ None → reviewer_list_in w x ≡ None → NoLists above → NoLists (above ++ x ∷ [])
-  lists_same above x a b none = (same_said (proposer_list_in w) x above a ∙ none.0, same_said (reviewer_list_in w) x above b ∙ none.1)
+  lists_same above x a b none = (said_same (proposer_list_in w) above x a ∙ none.0, said_same (reviewer_list_in w) above x b ∙ none.1)
 
   firsts_are : Held (C w) (SeatsAbove l first (first_in w) HeadBehind (length l.proposers)) (head ∷ []) firsts
   firsts_are =
       seats_hold w first market best.stable.matching Proposers (seat_line Proposers s first) (λ p less. refl) (C w) (first_in w) (λ p seat. refl) HeadBehind
-      (λ above p seat k. (same_said (last_in w) (LineData.First p seat) above refl ∙ k.0, lists_same above (LineData.First p seat) refl refl k.1))
+      (λ above p seat k. (said_same (last_in w) above (LineData.First p seat) refl ∙ k.0, lists_same above (LineData.First p seat) refl refl k.1))
       (λ above p seat k free. first_holds w above p seat free) (head ∷ []) refl (refl, (refl, refl))
 
   lasts_are : Held (C w) (SeatsAbove l last (last_in w) FirstsBehind (length l.proposers)) (head ∷ firsts) lasts
@@ -193,7 +194,7 @@ module _ (w : Written) (i : IsInstance w) (first last : Places) (best : IsPropos
       let x : LineData = LineData.ProposerList p (map (seat_of s) (row reduced.proposers p)) in
       let list = seat_numbers w (map (seat_of s) (row reduced.proposers p)) in
       let said_is : owners (proposer_lists_in w (above ++ x ∷ [])) ≡ owners (proposer_lists_in w above) ++ p ∷ [] =
-      ap owners (more_said (proposer_list_in w) x (p, list) above refl) ∙ map-append (λ (list : ℕ × List ℕ). list.0) (proposer_lists_in w above) ((p, list) ∷ []) in (
+      ap owners (said_one (proposer_list_in w) above x (p, list) refl) ∙ map-append (λ (list : ℕ × List ℕ). list.0) (proposer_lists_in w above) ((p, list) ∷ []) in (
         behind_both above k.0 x tt tt (record {
           proposer = seat_numbers_are w (row reduced.proposers p) (named p) ∙ ap (λ (r : Lists). row r.proposers p) (reduced_is above k.0);
           reviewer = tt;
@@ -203,7 +204,7 @@ module _ (w : Written) (i : IsInstance w) (first last : Places) (best : IsPropos
         (
           both_same above x refl refl k.0,
           said_is ∙ ap (λ xs. xs ++ p ∷ []) k.1 ∙ sym (range_more 0 p p (omega arith)),
-          same_said (reviewer_list_in w) x above refl ∙ k.2,
+          said_same (reviewer_list_in w) above x refl ∙ k.2,
         ),
       )
 
@@ -219,7 +220,7 @@ module _ (w : Written) (i : IsInstance w) (first last : Places) (best : IsPropos
       let x : LineData = LineData.ReviewerList (seat_of s k) list in
       let number = seat_number_is w k (there k less) in
       let said_is : owners (reviewer_lists_in w (above ++ x ∷ [])) ≡ owners (reviewer_lists_in w above) ++ seat_number w (seat_of s k) ∷ [] =
-      ap owners (more_said (reviewer_list_in w) x (seat_number w (seat_of s k), list) above refl)
+      ap owners (said_one (reviewer_list_in w) above x (seat_number w (seat_of s k), list) refl)
       ∙ map-append (λ (list : ℕ × List ℕ). list.0) (reviewer_lists_in w above) ((seat_number w (seat_of s k), list) ∷ []) in (
         behind_both above known.0 x tt tt (record {
           proposer = tt;
@@ -229,7 +230,7 @@ module _ (w : Written) (i : IsInstance w) (first last : Places) (best : IsPropos
         }),
         (
           both_same above x refl refl known.0,
-          ap owners (same_said (proposer_list_in w) x above refl) ∙ known.1,
+          ap owners (said_same (proposer_list_in w) above x refl) ∙ known.1,
           said_is ∙ ap (λ n. owners (reviewer_lists_in w above) ++ n ∷ []) number ∙ ap (λ xs. xs ++ k ∷ []) known.2 ∙ sym (range_more 0 k k (omega arith)),
         ),
       )
@@ -324,8 +325,10 @@ module _ (w : Written) (i : IsInstance w) (first last : Places) (best : IsPropos
   sound : All (IsLineOf (Two w)) (reduced_lines s first last)
   sound = subst (All (IsLineOf (Two w))) given (reduced_given_sound i seating first last (Two w) reduced refl best worst refl)
 
+  -- the lines of both matchings and of the reduced lists get a yes
   pub reduced_yes : GetYes (Two w) (reduced_lines s first last)
   reduced_yes = yes_of (Two w) (reduced_lines s first last) sound fitting placed (all_hold (C w) (reduced_lines s first last) all)
 
+-- the law for `reduced`
 pub reduced_agrees : ReducedAgrees
 reduced_agrees w lines i r = subst (GetYes (Two w)) (sym r.shows) (reduced_yes w i r.first r.last r.proposers_best r.reviewers_best)

@@ -31,7 +31,8 @@ use Rattle.sm_judge.specs.Pairs.{IsFree}
 use Rattle.sm_judge.specs.Judging.{answer, Clauses}
 use Rattle.sm_judge.proofs.LinewiseLemmas.{AllHold, all_hold, hold_append, no_end}
 use Rattle.sm_agree.specs.Agree.{GetYes, RegretAgrees}
-use Rattle.sm_agree.proofs.LineLemmas.{Held, same_said, pass_append, has_word, group_whole, yes_of}
+use Rattle.sm_judge.proofs.AnswerLemmas.{said_same}
+use Rattle.sm_agree.proofs.LineLemmas.{Held, pass_append, has_word, group_whole, yes_of}
 use Rattle.sm_agree.proofs.PairLemmas.{free_below, all_below, lines_with, Above, pairs_hold, pairs_pass}
 
 -- A regret is a small number.
@@ -105,7 +106,7 @@ module _ (w : Written) where
     pairs_are : Held C (Above C w places pair_in LineData.Pair (λ p r. refl) IsSaid (length w.proposers)) front pairs
     pairs_are =
         pairs_hold C w places pair_in LineData.Pair (λ p r. refl) IsSaid
-        (λ above p r k. ap (λ (ns : List ℕ). slice_index_or ns 0 0) (same_said regret_in (LineData.Pair p r) above refl) ∙ k)
+        (λ above p r k. ap (λ (ns : List ℕ). slice_index_or ns 0 0) (said_same regret_in above (LineData.Pair p r) refl) ∙ k)
         (λ above p j k e. pair_holds above p (entry w.proposers p j) (free_below k.0 stable.matching j e)) front refl refl
 
     same : places_in w (pairs_in (front ++ pairs)) ≡ places
@@ -137,8 +138,10 @@ module _ (w : Written) where
     placed : is_placed is_whole (Two w) (regret_lines w places) ≡ true
     placed = group_whole keyword.Pair (One keyword.End) [] pairs (LineData.End ∷ []) (pairs_pass LineData.Pair w places (has_word keyword.Pair) (λ p r. refl)) refl refl
 
+    -- the lines of the regret and of the pairs get a yes
     pub regret_yes : GetYes (Two w) (regret_lines w places)
     regret_yes = yes_of (Two w) (regret_lines w places) sound fitting placed (all_hold C (regret_lines w places) every)
 
+-- the law for `regret`
 pub regret_agrees : RegretAgrees
 regret_agrees w lines i a = subst (GetYes (Two w)) (sym a.shows) (regret_yes w a.places i a.least.stable a.least.allowed)

@@ -29,7 +29,7 @@ use Rattle.sm_seats.proofs.LawsProved.{few_seats_fit}
 use Rattle.sm_shown.specs.Reduction.{seat_of, seat_line}
 use Rattle.sm_shown.specs.RotationLines.{numbers_of, seated_pairs}
 use Rattle.sm_shown.specs.RotationAnswer.{AreNeeds}
-use Rattle.sm_shown.specs.GivenLines.{two_lines}
+use Rattle.sm_shown.specs.GivenLines.{rotation_line, needs_line, two_lines}
 use Rattle.sm_shown.proofs.RotationLemmas.{seats_named, rotations_given_sound}
 use Rattle.sm_forms.specs.Seats.{is_seat, seat_number, all_numbered}
 use Rattle.sm_forms.specs.declared.keywords.Keyword.TheVariants as keyword
@@ -42,13 +42,15 @@ use Rattle.sm_judge.specs.SeatMatchings.{IsFreeSeat, seat_places_in, first_of}
 use Rattle.sm_judge.specs.Chain.{reached, last_rotation, ChainHolds, RotationsHold}
 use Rattle.sm_judge.proofs.LinewiseLemmas.{AllHold, all_hold, hold_append, no_end}
 use Rattle.sm_agree.specs.Agree.{GetYes, RotationsAgree}
-use Rattle.sm_agree.proofs.LineLemmas.{Held, pass_append, has_word, has_other, group_whole, same_said, more_said, yes_of}
+use Rattle.sm_judge.proofs.AnswerLemmas.{said_same, said_one}
+use Rattle.sm_agree.proofs.LineLemmas.{Held, pass_append, has_word, has_other, group_whole, yes_of}
 use Rattle.sm_agree.proofs.SeatLemmas.{is_seat_shown, pair_numbers_are, all_seated, SeatsAbove, seats_hold, seats_pass, firsts_hold}
 use Rattle.sm_agree.proofs.BlockLemmas.{blocks_hold, blocks_pass, blocks_whole, lines_of, shown_is}
 
 -- The first rotations of a chain.
 
 module _ (l : Lists) (first : Places) (rotations : List (List (ℕ × ℕ))) (n : ℕ) where
+  -- they are the same rotations
   pub same_rotation : (k : ℕ) → k < n → rotation_at (take n rotations) k ≡ rotation_at rotations k
   same_rotation k less = get_or-take n rotations k [] less
 
@@ -177,59 +179,53 @@ module _ (w : Written) (i : IsInstance w) (few : AreFewSeats w) (first : Places)
 
   -- a line that says no first seat
   same_first : (above : List LineData) (x : LineData) → first_in w x ≡ None → first_of w above ≡ first → first_of w (above ++ x ∷ []) ≡ first
-  same_first above x none is = ap (seat_places_in l) (same_said (first_in w) x above none) ∙ is
-
-  abbrev rotation_line : ℕ → LineData
-  rotation_line k = LineData.Rotation (k + 1) (seated_pairs s (rotation_at rotations k))
-
-  abbrev needs_line : ℕ → LineData
-  needs_line k = LineData.Needs (k + 1) (numbers_of (row needs k))
+  same_first above x none is = ap (seat_places_in l) (said_same (first_in w) above x none) ∙ is
 
   module _ (k : ℕ) (less : k < m) (above : List LineData) where
-    rotation_holds : AreSaid k above → (why : Reason) → C w above (rotation_line k) why
+    rotation_holds : AreSaid k above → (why : Reason) → C w above (rotation_line s rotations k) why
     rotation_holds said =
         let lowest = printed.lowest k less in
         let at : IsLowestExposed l (reached w above) (rotation_at rotations k) = subst (λ f. IsLowestExposed l f (rotation_at rotations k)) (sym (reached_is k (omega arith) above said)) lowest in
-        all_clauses w above (rotation_line k) tt (λ _. best_above k (omega arith) above said) (subst (IsLowestExposed l (reached w above)) (sym (pair_numbers_are w (rotation_at rotations k) (there k))) at)
+        all_clauses w above (rotation_line s rotations k) tt (λ _. best_above k (omega arith) above said) (subst (IsLowestExposed l (reached w above)) (sym (pair_numbers_are w (rotation_at rotations k) (there k))) at)
         (λ b. no_end b.behind) tt
 
-    rotation_said : AreSaid k above → AreSaid (k + 1) (above ++ rotation_line k ∷ [])
+    rotation_said : AreSaid k above → AreSaid (k + 1) (above ++ rotation_line s rotations k ∷ [])
     rotation_said said = record {
-      first_is = same_first above (rotation_line k) refl said.first_is;
+      first_is = same_first above (rotation_line s rotations k) refl said.first_is;
       rotations_are =
-          more_said (rotation_in w) (rotation_line k) (all_numbered w (seated_pairs s (rotation_at rotations k))) above refl
+          said_one (rotation_in w) above (rotation_line s rotations k) (all_numbered w (seated_pairs s (rotation_at rotations k))) refl
           ∙ ap (λ x. rotations_in w above ++ x ∷ []) (pair_numbers_are w (rotation_at rotations k) (there k)) ∙ ap (λ xs. xs ++ rotation_at rotations k ∷ []) said.rotations_are
           ∙ sym (take_more rotations k [] less);
     }
 
-    needs_holds : AreSaid (k + 1) above → (why : Reason) → C w above (needs_line k) why
+    needs_holds : AreSaid (k + 1) above → (why : Reason) → C w above (needs_line needs k) why
     needs_holds said =
         let long = length-take-le (k + 1) rotations (omega arith) in
         let last : last_rotation w above ≡ k = (let e = ap (λ (xs : List (List (ℕ × ℕ))). length xs) said.rotations_are in omega (arith, e, long)) in
         let all = needs_of_front l first rotations (k + 1) market printed.chain (omega arith) k (row needs k) (omega arith) (needed.of k less) in
         let above_all : AreNeedsOf l (rotations_in w above) (last_rotation w above) (row needs k) =
         subst (λ j. AreNeedsOf l (rotations_in w above) j (row needs k)) (sym last) (subst (λ xs. AreNeedsOf l xs k (row needs k)) (sym said.rotations_are) all) in
-        all_clauses w above (needs_line k) tt (λ _. best_above (k + 1) (omega arith) above said) tt (λ b. no_end b.behind)
+        all_clauses w above (needs_line needs k) tt (λ _. best_above (k + 1) (omega arith) above said) tt (λ b. no_end b.behind)
         (subst (AreNeedsOf l (rotations_in w above) (last_rotation w above)) (sym (numbers_back (row needs k))) above_all)
 
-    needs_said : AreSaid (k + 1) above → AreSaid (k + 1) (above ++ needs_line k ∷ [])
+    needs_said : AreSaid (k + 1) above → AreSaid (k + 1) (above ++ needs_line needs k ∷ [])
     needs_said said = record {
-      first_is = same_first above (needs_line k) refl said.first_is;
-      rotations_are = same_said (rotation_in w) (needs_line k) above refl ∙ said.rotations_are;
+      first_is = same_first above (needs_line needs k) refl said.first_is;
+      rotations_are = said_same (rotation_in w) above (needs_line needs k) refl ∙ said.rotations_are;
     }
 
   block_step : (k : ℕ) (above : List LineData) → k < m → AreSaid k above → Held (C w) (AreSaid (k + 1)) above (two_lines s rotations needs k)
   block_step k above less said =
-      let now = above ++ rotation_line k ∷ [] in
+      let now = above ++ rotation_line s rotations k ∷ [] in
       let one = rotation_said k less above said in (
         (rotation_holds k less above said, (needs_holds k less now one, tt)),
-        subst (AreSaid (k + 1)) (append_assoc above (rotation_line k ∷ []) (needs_line k ∷ [])) (needs_said k less now one),
+        subst (AreSaid (k + 1)) (append_assoc above (rotation_line s rotations k ∷ []) (needs_line needs k ∷ [])) (needs_said k less now one),
       )
 
   firsts_are : Held (C w) (SeatsAbove l first (first_in w) (λ above. rotations_in w above ≡ []) n) (head ∷ []) firsts
   firsts_are =
       seats_hold w first market best.stable.matching Proposers (seat_line Proposers s first) (λ p less. refl) (C w) (first_in w) (λ p seat. refl) (λ above. rotations_in w above ≡ [])
-      (λ above p seat k. same_said (rotation_in w) (LineData.First p seat) above refl ∙ k) (λ above p seat k free. first_holds w above p seat free) (head ∷ []) refl refl
+      (λ above p seat k. said_same (rotation_in w) above (LineData.First p seat) refl ∙ k) (λ above p seat k free. first_holds w above p seat free) (head ∷ []) refl refl
 
   blocks_are : Held (C w) (AreSaid m) (head ∷ firsts) blocks
   blocks_are =
@@ -248,9 +244,9 @@ module _ (w : Written) (i : IsInstance w) (few : AreFewSeats w) (first : Places)
 
   -- Their form.
 
-  behind_pass : (test : LineData → Bool) → ((k : ℕ) → test (rotation_line k) ≡ true) → ((k : ℕ) → test (needs_line k) ≡ true) → test LineData.End ≡ true → list_all test (blocks ++ LineData.End ∷ []) ≡ true
+  behind_pass : (test : LineData → Bool) → ((k : ℕ) → test (rotation_line s rotations k) ≡ true) → ((k : ℕ) → test (needs_line needs k) ≡ true) → test LineData.End ≡ true → list_all test (blocks ++ LineData.End ∷ []) ≡ true
   behind_pass test a b end =
-      pass_append test blocks (LineData.End ∷ []) (blocks_pass test (two_lines s rotations needs) (λ k. ap (λ t. t && (test (needs_line k) && true)) (a k) ∙ ap (λ t. t && true) (b k)) 0 m) (ap (λ t. t && true) end)
+      pass_append test blocks (LineData.End ∷ []) (blocks_pass test (two_lines s rotations needs) (λ k. ap (λ t. t && (test (needs_line needs k) && true)) (a k) ∙ ap (λ t. t && true) (b k)) 0 m) (ap (λ t. t && true) end)
 
   firsts_pass : (test : LineData → Bool) → ((p k : ℕ) → k < length (seats_of w) → test (LineData.First p (seat_of s k)) ≡ true) → list_all test firsts ≡ true
   firsts_pass test each = seats_pass w first market best.stable.matching Proposers (seat_line Proposers s first) (λ p less. refl) test each
@@ -279,6 +275,7 @@ module _ (w : Written) (i : IsInstance w) (few : AreFewSeats w) (first : Places)
   rotations_yes : GetYes (Two w) (lines_of s first rotations needs n m)
   rotations_yes = yes_of (Two w) (lines_of s first rotations needs n m) sound fitting placed (all_hold (C w) (lines_of s first rotations needs n m) all)
 
+-- the law for `rotations`
 pub rotations_agree : RotationsAgree
 rotations_agree w lines i few a =
-    subst (GetYes (Two w)) (sym (a.shows ∙ shown_is (seating_of w) a.first a.rotations a.needs)) (rotations_yes w i few a.first a.rotations a.needs a.printed a.needed)
+    subst (GetYes (Two w)) (sym (a.shows ∙ shown_is (seating_of w) a.first a.rotations a.needs a.printed.chain.from_best.stable.matching.proposers.one_each)) (rotations_yes w i few a.first a.rotations a.needs a.printed a.needed)

@@ -7,12 +7,11 @@ use Rattle.std.specs.Option.{option_map}
 use Rattle.std.proofs.lemmas.Bool.{le-leb}
 use Rattle.std.proofs.lemmas.Option.{same_Some}
 use Rattle.std.proofs.lemmas.List.{length-map}
-use Rattle.std.proofs.lemmas.List.FromFn.{length-map-range_with_len, get_or-map-range_with_len}
+use Rattle.std.proofs.lemmas.List.FromFn.{length-map-range_with_len}
 use Rattle.sm_lists.proofs.Counting.{eq_or_ne}
 use Rattle.sm_lists.proofs.PlaceLemmas.{get_or-place_on}
 use Rattle.sm_instance.specs.Written.{Written}
 use Rattle.sm_instance.specs.declared.kinds.Side.{Side}
-use Rattle.sm_instance.specs.declared.kinds.Side.TheVariants.{Proposers}
 use Rattle.sm_market.specs.Lists.{Lists, row, entry, place_of, IsMarket}
 use Rattle.sm_market.specs.Matching.{Places, held, IsMatching}
 use Rattle.sm_market.specs.Stable.{IsProposersBest}
@@ -23,10 +22,10 @@ use Rattle.sm_report.specs.declared.lines.Seat.{Seat}
 use Rattle.sm_report.specs.Lines.{LineData}
 use Rattle.sm_answer.specs.Lines.{line_or_none, lines_from}
 use Rattle.sm_seats.specs.SeatMarket.{seat_market, seats_of, seats_before, seat_count, row_of_seat}
-use Rattle.sm_seats.specs.Seating.{Seating, seating_of}
+use Rattle.sm_seats.specs.Seating.{seating_of}
 use Rattle.sm_seats.proofs.SeatLemmas.{seat_found, seat_name, length-seats}
 use Rattle.sm_shown.specs.Reduction.{seat_of, best_seat, seat_line}
-use Rattle.sm_shown.specs.RotationLines.{first_seat, first_line, seated_pairs, shown_of}
+use Rattle.sm_shown.specs.RotationLines.{seated_pairs}
 use Rattle.sm_forms.specs.Seats.{is_seat, seat_number, seat_numbers, all_numbered}
 use Rattle.sm_pairs.specs.Held.{partner_in}
 use Rattle.sm_pairs.proofs.HoldingLemmas.{here_later, other_later}
@@ -37,7 +36,8 @@ use Rattle.sm_judge.specs.Said.{first_in, firsts_in, is_up_to_firsts, IsFirstBeh
 use Rattle.sm_judge.specs.SeatMatchings.{IsFreeSeat, seat_places_in, first_of, FirstsHold}
 use Rattle.sm_judge.proofs.PairLemmas.{second_more}
 use Rattle.sm_judge.proofs.SeatPairLemmas.{passed_over, with_proposers_is}
-use Rattle.sm_agree.proofs.LineLemmas.{Steps, Held, numbers_hold, numbers_pass, more_said}
+use Rattle.sm_judge.proofs.AnswerLemmas.{said_one}
+use Rattle.sm_agree.proofs.LineLemmas.{Steps, Held, numbers_hold, numbers_pass}
 
 -- Seats as they are shown.
 
@@ -63,6 +63,7 @@ seat_numbers_are w (x ∷ xs) there =
     ap (λ k. k ∷ seat_numbers w (map (seat_of (seating_of w)) xs)) (seat_number_is w x (there 0 0 (omega arith)))
     ∙ ap (λ ys. x ∷ ys) (seat_numbers_are w xs (λ k d l. there (suc k) d (omega (arith, l))))
 
+-- all seats that are shown are those of their reviewers
 pub are_seats_shown : (w : Written) (xs : List ℕ) → All (λ k. k < length (seats_of w)) xs → list_all (is_seat w) (map (seat_of (seating_of w)) xs) ≡ true
 are_seats_shown w [] there = refl
 are_seats_shown w (x ∷ xs) there =
@@ -96,6 +97,7 @@ pub record AreSeatedBelow (l : Lists) (m : Places) (p : ℕ) (pairs : List (ℕ 
   pub past : (q : ℕ) → p ≤ q → partner_in pairs q ≡ None
   pub second : (seat : ℕ) → 0 < times_second pairs seat → IsHeldBelow l m p seat
 
+-- below the first proposer there are no pairs
 pub none_seated : (l : Lists) (m : Places) → AreSeatedBelow l m 0 []
 none_seated l m = record { below = λ q less. absurd (omega (arith, less)); past = λ q le. refl; second = λ seat more. absurd (omega (arith, more)) }
 
@@ -212,11 +214,12 @@ module _ (w : Written) (m : Places) (h : IsMarket (seat_market w)) (f : IsMatchi
               let seat = shown (entry l.proposers p i) in
               let number = seat_number_is w (entry l.proposers p i) (seat_there w h f p i e) in
               let said_is : filter_map said (above ++ best_seat side p seat ∷ []) ≡ filter_map said above ++ (p, entry l.proposers p i) ∷ [] =
-              more_said said (best_seat side p seat) (p, seat_number w seat) above (is_said p seat) ∙ ap (λ s. filter_map said above ++ (p, s) ∷ []) number in (
+              said_one said above (best_seat side p seat) (p, seat_number w seat) (is_said p seat) ∙ ap (λ s. filter_map said above ++ (p, s) ∷ []) number in (
                 holds above p seat k.1 (subst (λ s. IsFreeSeat l (filter_map said above) (p, s)) (sym number) (free_seat k.0 h f i e)),
                 (subst (AreSeatedBelow l m (p + 1)) (sym said_is) (one_seated k.0 i e), keep above p seat k.1),
               )
 
+      -- all clauses hold at the lines of the seats, where they do at each behind the ones before it
       pub seats_hold : (above : List LineData) → filter_map said above ≡ [] → Known above → Held Clauses (Above (length l.proposers)) above (lines_from line 0 (length l.proposers))
       seats_hold above none known =
           numbers_hold Clauses Above line (length l.proposers) (λ p now less k. subst (Steps Clauses (Above (p + 1)) now) (sym (is_line p less)) (step p now k)) 0 (length l.proposers) above (omega arith)
@@ -231,18 +234,6 @@ module _ (w : Written) (m : Places) (h : IsMarket (seat_market w)) (f : IsMatchi
       go : (p : ℕ) (o : Option ℕ) → held m.proposers p ≡ o → list_all test (line_or_none (option_map (λ i. best_seat side p (shown (entry l.proposers p i))) o)) ≡ true
       go p None e = refl
       go p (Some i) e = ap (λ t. t && true) (each p (entry l.proposers p i) (seat_there w h f p i e))
-
--- the first seats that are shown beside rotations are lines of them
-pub shown_first_is : (s : Seating) (first : Places) (rotations : List (List (ℕ × ℕ))) (needs : List (List ℕ)) (p : ℕ) → p < length s.market.proposers
-    → first_line (shown_of s first rotations needs) p ≡ seat_line Proposers s first p
-shown_first_is s first rotations needs p less =
-    ap (option_map (λ (seat : Seat). LineData.First p seat)) (get_or-map-range_with_len (first_seat s first) 0 (length s.market.proposers) p p None less (omega arith))
-    ∙ both (held first.proposers p)
-  where
-    both : (o : Option ℕ) → option_map (λ (seat : Seat). LineData.First p seat) (option_map (λ i. seat_of s (entry s.market.proposers p i)) o)
-        ≡ option_map (λ i. LineData.First p (seat_of s (entry s.market.proposers p i))) o
-    both None = refl
-    both (Some i) = refl
 
 -- The clauses on first seats.
 pub firsts_hold : (w : Written) (above : List LineData) (line : LineData) → IfSome (first_in w line) (IsFreeSeat (seat_market w) (firsts_in w above))

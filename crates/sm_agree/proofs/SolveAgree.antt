@@ -83,8 +83,10 @@ module _ {w : Written} (side : Side) (places : List (Option ℕ)) (i : IsInstanc
   placed : is_placed is_whole (Two w) (solve_lines side w places) ≡ true
   placed = group_whole keyword.Pair (One keyword.End) [] pairs (LineData.End ∷ []) (pairs_pass LineData.Pair w places (has_word keyword.Pair) (λ p r. refl)) refl refl
 
+  -- the lines of the pairs of a side's best matching get a yes
   pub solve_yes : GetYes (Two w) (solve_lines side w places)
   solve_yes = yes_of (Two w) (solve_lines side w places) (solve_sound w places side i b.0.matching) fitting placed (all_hold C (solve_lines side w places) all)
 
+-- the law for `solve` over two sides
 pub solve_agrees : SolveAgrees
 solve_agrees w side lines i s = subst (GetYes (Two w)) (sym s.shows) (solve_yes side s.places i (best_is side w s.places s.best))

@@ -192,7 +192,8 @@ module _ (w : Written) (by : Measure) (parts : Parts) (i : IsInstance w) (few : 
   weight_yes : All (IsLineOf (Two w)) (lines_of by w parts) → GetYes (Two w) (lines_of by w parts)
   weight_yes sound = yes_of (Two w) (lines_of by w parts) sound fitting placed (all_hold (C w by) (lines_of by w parts) all)
 
+-- the law for `weight`
 pub weight_agrees : WeightAgrees
-weight_agrees w by lines i few sound a =
-    let is = a.shows ∙ weight_shown by w a.parts in
-    subst (GetYes (Two w)) (sym is) (weight_yes w by a.parts i few a.printed a.needed a.certificate a.closed a.lightest (subst (All (IsLineOf (Two w))) is sound))
+weight_agrees w by lines i few a =
+    let is = a.shows ∙ weight_shown by w a.parts a.printed.chain.from_best.stable.matching.proposers.one_each in
+    subst (GetYes (Two w)) (sym is) (weight_yes w by a.parts i few a.printed a.needed a.certificate a.closed a.lightest (subst (All (IsLineOf (Two w))) is a.sound))

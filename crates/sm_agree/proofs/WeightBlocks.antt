@@ -24,6 +24,7 @@ use Rattle.sm_seats.proofs.CorrespondenceLaws.{is_seating, sound_entries}
 use Rattle.sm_shown.specs.Reduction.{seat_of, seat_line}
 use Rattle.sm_shown.specs.RotationLines.{numbers_of, seated_pairs}
 use Rattle.sm_shown.specs.RotationAnswer.{pairs_of, AreNeeds}
+use Rattle.sm_shown.specs.GivenLines.{rotation_line, needs_line}
 use Rattle.sm_shown.proofs.RotationLemmas.{seats_named}
 use Rattle.sm_lightest.specs.WeightAnswer.{gain_of_pairs}
 use Rattle.sm_lightest.proofs.GainLemmas.{gain_shown}
@@ -37,7 +38,8 @@ use Rattle.sm_judge.specs.SeatMatchings.{IsFreeSeat, first_of}
 use Rattle.sm_judge.specs.Chain.{reached, ChainHolds}
 use Rattle.sm_judge.specs.Flows.{Level, first_level, LevelHolds, TakenHolds, taken_matching, WeightHolds}
 use Rattle.sm_judge.proofs.LinewiseLemmas.{no_end}
-use Rattle.sm_agree.proofs.LineLemmas.{Held, same_said}
+use Rattle.sm_judge.proofs.AnswerLemmas.{said_same}
+use Rattle.sm_agree.proofs.LineLemmas.{Held}
 use Rattle.sm_agree.proofs.SeatLemmas.{is_seat_shown, pair_numbers_are, all_seated, SeatsAbove, seats_hold, seats_pass, firsts_hold}
 use Rattle.sm_agree.proofs.BlockLemmas.{blocks_hold, blocks_pass}
 use Rattle.sm_agree.proofs.RotationsAgree.{same_rotation, same_stage, needs_of_front, numbers_back, pairs_fit}
@@ -46,13 +48,16 @@ use Rattle.sm_agree.proofs.WeightLines.{Said, said_in, with_line, said_one, AreS
 -- The clauses, by what holds at a line.
 
 module _ (w : Written) (by : Measure) where
+  -- all that the clause of a reason asks for at a line
   abbrev pub C : List LineData → LineData → Reason → Type 0
   C above line why = WeightHolds w by above line why
 
   module _ (above : List LineData) (line : LineData) where
+    -- what the lines above say of the flow and of the set
     abbrev pub level : Level
     level = first_level w by above
 
+    -- on the chain
     pub chain_holds : ChainHolds w above line reason.NotExposed → ChainHolds w above line reason.RotationMissing → ChainHolds w above line reason.WrongNeeds → (why : Reason) → ChainHolds w above line why
     chain_holds lowest complete needed reason.NotExposed = lowest
     chain_holds lowest complete needed reason.RotationMissing = complete
@@ -73,15 +78,18 @@ module _ (w : Written) (by : Measure) where
     flows_hold gain edge room conserved value cut differs total reason.WrongTotal = total
     flows_hold gain edge room conserved value cut differs total _ = tt
 
+    -- on the set that is taken
     pub taken_holds : TakenHolds w level above line reason.NotClosed → TakenHolds w level above line reason.NotLeast → (why : Reason) → TakenHolds w level above line why
     taken_holds closed least reason.NotClosed = closed
     taken_holds closed least reason.NotLeast = least
     taken_holds closed least _ = tt
 
+    -- on the pairs
     pub wanted_holds : WantedHold w (taken_matching w above) (pairs_in above) line reason.WrongPair → (why : Reason) → WantedHold w (taken_matching w above) (pairs_in above) line why
     wanted_holds wanted reason.WrongPair = wanted
     wanted_holds wanted _ = tt
 
+  -- nothing is asked for at the head
   pub head_holds : (why : Reason) → C [] (LineData.Answer (HeadData.Weight by)) why
   head_holds why =
       let x = LineData.Answer (HeadData.Weight by) in (
@@ -104,6 +112,7 @@ module _ (w : Written) (by : Measure) where
 
 -- What is known behind the first seats of a chain.
 module _ {w : Written} {first : Places} {rotations : List (List (ℕ × ℕ))} (chain : IsCompleteChain (seat_market w) first rotations) (d : Said) (above : List LineData) (said : AreSaid w first d above) where
+  -- the first seats that are said are the proposers' best matching
   pub best_above : IsProposersBest (seat_market w) (first_of w above)
   best_above = told w first (λ f d. IsProposersBest (seat_market w) f) d above said chain.from_best
 
@@ -142,12 +151,6 @@ module _ {w : Written} (by : Measure) {first : Places} {rotations : List (List (
   there : (k : ℕ) → All (λ (pair : ℕ × ℕ). pair.1 < length (seats_of w)) (rotation_at rotations k)
   there k = seats_named s first rotations market seating.seats printed.chain k
 
-  abbrev rotation_line : ℕ → LineData
-  rotation_line k = LineData.Rotation (k + 1) (seated_pairs s (rotation_at rotations k))
-
-  abbrev needs_line : ℕ → LineData
-  needs_line k = LineData.Needs (k + 1) (numbers_of (row needs k))
-
   abbrev gain_at : ℕ → LineData
   gain_at k = LineData.Gain (k + 1) (gain_of_pairs by w (pairs_of (seated_pairs s (rotation_at rotations k))))
 
@@ -155,9 +158,9 @@ module _ {w : Written} (by : Measure) {first : Places} {rotations : List (List (
     stage_is : stage l first (take k rotations) (length (take k rotations)) ≡ stage l first rotations k
     stage_is = ap (stage l first (take k rotations)) (length-take-le k rotations (omega (arith, less))) ∙ same_stage l first rotations k k (omega arith)
 
-    rotation_holds : Early w first (in_blocks rotations needs k k) above → (why : Reason) → C w by above (rotation_line k) why
+    rotation_holds : Early w first (in_blocks rotations needs k k) above → (why : Reason) → C w by above (rotation_line s rotations k) why
     rotation_holds said why =
-        let x = rotation_line k in
+        let x = rotation_line s rotations k in
         let lowest : IsLowestExposed l (stage l first (take k rotations) (length (take k rotations))) (rotation_at rotations k) =
         subst (λ (f : Places). IsLowestExposed l f (rotation_at rotations k)) (sym stage_is) (printed.lowest k less) in
         let numbered = subst (IsLowestExposed l (stage l first (take k rotations) (length (take k rotations)))) (sym (pair_numbers_are w (rotation_at rotations k) (there k))) lowest in (
@@ -170,20 +173,20 @@ module _ {w : Written} (by : Measure) {first : Places} {rotations : List (List (
           wanted_holds w by above x (tt, λ e. no_end e) why,
         )
 
-    rotation_said : Early w first (in_blocks rotations needs k k) above → Early w first (in_blocks rotations needs (k + 1) k) (above ++ rotation_line k ∷ [])
+    rotation_said : Early w first (in_blocks rotations needs k k) above → Early w first (in_blocks rotations needs (k + 1) k) (above ++ rotation_line s rotations k ∷ [])
     rotation_said said =
         let more : take k rotations ++ all_numbered w (seated_pairs s (rotation_at rotations k)) ∷ [] ≡ take (k + 1) rotations =
         ap (λ x. take k rotations ++ x ∷ []) (pair_numbers_are w (rotation_at rotations k) (there k)) ∙ sym (take_more rotations k [] less) in
-        early_as w first (with_line w (in_blocks rotations needs k k) (rotation_line k)) (in_blocks rotations needs (k + 1) k) (above ++ rotation_line k ∷ [])
+        early_as w first (with_line w (in_blocks rotations needs k k) (rotation_line s rotations k)) (in_blocks rotations needs (k + 1) k) (above ++ rotation_line s rotations k ∷ [])
         (λ i. record { rotations = more i; needs = take k needs; flows = []; taken = []; values = [] })
-        (early_more w first (in_blocks rotations needs k k) above (rotation_line k) refl refl said)
+        (early_more w first (in_blocks rotations needs k k) above (rotation_line s rotations k) refl refl said)
 
     last_is : length (take (k + 1) rotations) - 1 ≡ k
     last_is = omega (arith, length-take-le (k + 1) rotations (omega (arith, less)))
 
-    needs_hold : Early w first (in_blocks rotations needs (k + 1) k) above → (why : Reason) → C w by above (needs_line k) why
+    needs_hold : Early w first (in_blocks rotations needs (k + 1) k) above → (why : Reason) → C w by above (needs_line needs k) why
     needs_hold said why =
-        let x = needs_line k in
+        let x = needs_line needs k in
         let xs = take (k + 1) rotations in
         let all = needs_of_front l first rotations (k + 1) market printed.chain (omega (arith, less)) k (row needs k) (omega arith) (needed.of k less) in
         let of_last : AreNeedsOf l xs (length xs - 1) (map pred (numbers_of (row needs k))) =
@@ -196,13 +199,13 @@ module _ {w : Written} (by : Measure) {first : Places} {rotations : List (List (
           wanted_holds w by above x (tt, λ e. no_end e) why,
         )
 
-    needs_said : Early w first (in_blocks rotations needs (k + 1) k) above → Early w first (in_blocks rotations needs (k + 1) (k + 1)) (above ++ needs_line k ∷ [])
+    needs_said : Early w first (in_blocks rotations needs (k + 1) k) above → Early w first (in_blocks rotations needs (k + 1) (k + 1)) (above ++ needs_line needs k ∷ [])
     needs_said said =
         let more : take k needs ++ map pred (numbers_of (row needs k)) ∷ [] ≡ take (k + 1) needs =
         ap (λ x. take k needs ++ x ∷ []) (numbers_back (row needs k)) ∙ sym (take_more needs k [] (omega (arith, less, needed.one_each))) in
-        early_as w first (with_line w (in_blocks rotations needs (k + 1) k) (needs_line k)) (in_blocks rotations needs (k + 1) (k + 1)) (above ++ needs_line k ∷ [])
+        early_as w first (with_line w (in_blocks rotations needs (k + 1) k) (needs_line needs k)) (in_blocks rotations needs (k + 1) (k + 1)) (above ++ needs_line needs k ∷ [])
         (λ i. record { rotations = take (k + 1) rotations; needs = more i; flows = []; taken = []; values = [] })
-        (early_more w first (in_blocks rotations needs (k + 1) k) above (needs_line k) refl refl said)
+        (early_more w first (in_blocks rotations needs (k + 1) k) above (needs_line needs k) refl refl said)
 
     gain_holds : Early w first (in_blocks rotations needs (k + 1) (k + 1)) above → (why : Reason) → C w by above (gain_at k) why
     gain_holds said why =
@@ -223,12 +226,12 @@ module _ {w : Written} (by : Measure) {first : Places} {rotations : List (List (
 
   block_step : (k : ℕ) (above : List LineData) → k < m → Early w first (in_blocks rotations needs k k) above → Held (C w by) (Early w first (in_blocks rotations needs (k + 1) (k + 1))) above (three_lines by w rotations needs k)
   block_step k above less said =
-      let one = above ++ rotation_line k ∷ [] in
-      let two = one ++ needs_line k ∷ [] in
+      let one = above ++ rotation_line s rotations k ∷ [] in
+      let two = one ++ needs_line needs k ∷ [] in
       let said_one = rotation_said k less above said in
       let said_two = needs_said k less one said_one in
       let same : two ++ gain_at k ∷ [] ≡ above ++ three_lines by w rotations needs k =
-      append_assoc one (needs_line k ∷ []) (gain_at k ∷ []) ∙ append_assoc above (rotation_line k ∷ []) (needs_line k ∷ gain_at k ∷ []) in (
+      append_assoc one (needs_line needs k ∷ []) (gain_at k ∷ []) ∙ append_assoc above (rotation_line s rotations k ∷ []) (needs_line needs k ∷ gain_at k ∷ []) in (
         (rotation_holds k less above said, (needs_hold k less one said_one, (gain_holds k less two said_two, tt))),
         subst (Early w first (in_blocks rotations needs (k + 1) (k + 1))) same (gain_said k less two said_two),
       )
@@ -246,12 +249,14 @@ module _ {w : Written} (by : Measure) {first : Places} {rotations : List (List (
   abbrev NothingElse : List LineData → Type 0
   NothingElse above = (said_in w above ≡ in_blocks rotations needs 0 0) × (pairs_in above ≡ [])
 
+  -- all clauses hold at the first seats
   pub firsts_are : Held (C w by) (SeatsAbove l first (first_in w) NothingElse n) (head ∷ []) firsts
   firsts_are =
       seats_hold w first market matching Proposers (seat_line Proposers s first) (λ p less. refl) (C w by) (first_in w) (λ p seat. refl) NothingElse
-      (λ above p seat k. (said_one w above (LineData.First p seat) ∙ ap (λ (d : Said). with_line w d (LineData.First p seat)) k.0, same_said pair_in (LineData.First p seat) above refl ∙ k.1))
+      (λ above p seat k. (said_one w above (LineData.First p seat) ∙ ap (λ (d : Said). with_line w d (LineData.First p seat)) k.0, said_same pair_in above (LineData.First p seat) refl ∙ k.1))
       (λ above p seat k free. first_holds w by above p seat free) (head ∷ []) refl (refl, refl)
 
+  -- all clauses hold at the blocks behind them
   pub blocks_are : Held (C w by) (Early w first (in_blocks rotations needs m m)) (head ∷ firsts) blocks
   blocks_are =
       let k = firsts_are.1 in
@@ -260,16 +265,19 @@ module _ {w : Written} (by : Measure) {first : Places} {rotations : List (List (
 
   -- Tests that they pass.
 
+  -- the first seats pass a test that each of them passes
   pub firsts_pass : (test : LineData → Bool) → ((p k : ℕ) → k < length (seats_of w) → test (LineData.First p (seat_of s k)) ≡ true) → list_all test firsts ≡ true
   firsts_pass test each = seats_pass w first market matching Proposers (seat_line Proposers s first) (λ p less. refl) test each
 
-  pub three_pass : (test : LineData → Bool) → ((k : ℕ) → test (rotation_line k) ≡ true) → ((k : ℕ) → test (needs_line k) ≡ true) → ((k : ℕ) → test (gain_at k) ≡ true) → list_all test blocks ≡ true
+  pub three_pass : (test : LineData → Bool) → ((k : ℕ) → test (rotation_line s rotations k) ≡ true) → ((k : ℕ) → test (needs_line needs k) ≡ true) → ((k : ℕ) → test (gain_at k) ≡ true) → list_all test blocks ≡ true
   three_pass test a b c =
       blocks_pass test (three_lines by w rotations needs)
-      (λ k. ap (λ t. t && (test (needs_line k) && (test (gain_at k) && true))) (a k) ∙ ap (λ t. t && (test (gain_at k) && true)) (b k) ∙ ap (λ t. t && true) (c k)) 0 m
+      (λ k. ap (λ t. t && (test (needs_line needs k) && (test (gain_at k) && true))) (a k) ∙ ap (λ t. t && (test (gain_at k) && true)) (b k) ∙ ap (λ t. t && true) (c k)) 0 m
 
+  -- the first seats are of their form
   pub firsts_fit : list_all (fits (Two w)) firsts ≡ true
   firsts_fit = firsts_pass (fits (Two w)) (λ p k less. ap (λ t. t && true) (is_seat_shown w k less))
 
+  -- the blocks are of their form
   pub blocks_fit : list_all (fits (Two w)) blocks ≡ true
   blocks_fit = three_pass (fits (Two w)) (λ k. pairs_fit w (rotation_at rotations k) (there k)) (λ k. refl) (λ k. refl)

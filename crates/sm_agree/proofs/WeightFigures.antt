@@ -136,6 +136,7 @@ module _ {w : Written} {by : Measure} {parts : Parts} (right : IsRight w by part
         (λ i. record { rotations = rotations; needs = needs; flows = more i; taken = []; values = [] })
         (early_more w first (in_flow parts front) above line refl refl said)
 
+  -- all clauses hold at the lines of the flow
   pub edges_hold : (front back : List FlowLine) → front ++ back ≡ flow → (above : List LineData) → Early w first (in_flow parts front) above → Held (C w by) (Early w first (in_flow parts flow)) above (map (flow_line (suc m)) back)
   edges_hold front [] is above said =
       (tt, subst (Early w first (in_flow parts flow)) (sym (append-nil above)) (subst (λ (xs : List FlowLine). Early w first (in_flow parts xs) above) (sym (append-nil front) ∙ is) said))
@@ -166,6 +167,7 @@ module _ {w : Written} {by : Measure} {parts : Parts} (right : IsRight w by part
           (subst (λ (set : List Bool). IsAllowed w (written_of s (matching_of l first rotations set).proposers)) (sym set_is) right.allowed);
     }
 
+    -- all clauses hold at the line of the set
     pub taken_line_holds : Early w first (in_flow parts flow) above → (why : Reason) → C w by above (taken_line parts) why
     taken_line_holds said why = (
       firsts_hold w above (taken_line parts) tt (λ _. best_above right.chain (in_flow parts flow) above said.0) why,
@@ -175,6 +177,7 @@ module _ {w : Written} {by : Measure} {parts : Parts} (right : IsRight w by part
       wanted_holds w by above (taken_line parts) (tt, λ e. no_end e) why,
     )
 
+    -- at that of the value
     pub value_holds : Early w first (in_figures parts []) above → (why : Reason) → C w by above (value_line by w parts) why
     value_holds said why =
         let of_lines : value ≡ amount_from (map (on_nodes m) (map (shown_on (suc m)) flow)) 0 =
@@ -186,6 +189,7 @@ module _ {w : Written} {by : Measure} {parts : Parts} (right : IsRight w by part
           wanted_holds w by above (value_line by w parts) (tt, λ e. no_end e) why,
         )
 
+    -- at that of the cut
     pub cut_holds : Early w first (in_figures parts (value ∷ [])) above → (why : Reason) → C w by above (cut_line by w parts) why
     cut_holds said why =
         let d = in_figures parts (value ∷ []) in
@@ -204,6 +208,7 @@ module _ {w : Written} {by : Measure} {parts : Parts} (right : IsRight w by part
     matching_is said =
         told w first (λ f d. places ≡ places_by f d (set_by d)) (in_figures parts (value ∷ [])) above said (ap (λ (set : List Bool). written_of s (matching_of l first rotations set).proposers) (sym set_is))
 
+    -- at that of the total
     pub total_holds : Early w first (in_figures parts (value ∷ [])) above → (why : Reason) → C w by above (total_line by w parts) why
     total_holds said why =
         let d = in_figures parts (value ∷ []) in (
@@ -214,6 +219,7 @@ module _ {w : Written} {by : Measure} {parts : Parts} (right : IsRight w by part
           wanted_holds w by above (total_line by w parts) (tt, λ e. no_end e) why,
         )
 
+    -- at that of a pair which is wanted
     pub pair_holds : AreSaid w first (in_figures parts (value ∷ [])) above → (p r : ℕ) → IsWanted w places (pairs_in above) (p, r) → (why : Reason) → C w by above (LineData.Pair p r) why
     pair_holds said p r wanted why =
         let x = LineData.Pair p r in
@@ -225,6 +231,7 @@ module _ {w : Written} {by : Measure} {parts : Parts} (right : IsRight w by part
           wanted_holds w by above x (subst (λ (m : List (Option ℕ)). IsWanted w m (pairs_in above) (p, r)) (matching_is said) wanted, λ e. no_end e) why,
         )
 
+    -- at the end, where each matched proposer stands in a pair
     pub end_holds : AreSaid w first (in_figures parts (value ∷ [])) above → AreAllThere places (pairs_in above) → (why : Reason) → C w by above LineData.End why
     end_holds said all why =
         let d = in_figures parts (value ∷ []) in

@@ -1,5 +1,5 @@
 -- The lines of an answer of `weight`: what they say, line by line, and their form.
-use Rattle.std.proofs.Common.{◌≡◌, ℕ, zero, suc, ◌+◌, ◌==◌, arith, refl, sym, ap, ◌∙◌, eq-eqb, not, Bool, true, false, List, [], ◌∷◌, ◌++◌, length, map, take, Option, None, Some, if◌then◌else◌, slice_index_or, subst}
+use Rattle.std.proofs.Common.{◌≡◌, ℕ, zero, suc, ◌+◌, ◌==◌, refl, sym, ap, ◌∙◌, eq-eqb, not, Bool, true, false, List, [], ◌∷◌, ◌++◌, length, map, take, Option, None, Some, if◌then◌else◌, subst}
 use Rattle.std.specs.Prelude.{◌&&◌, filter_map}
 use Rattle.std.specs.List.{flat_map, range_with_len, list_all}
 use Rattle.std.proofs.lemmas.Bool.{false≢true}
@@ -8,25 +8,26 @@ use Rattle.sm_instance.specs.Written.{Written}
 use Rattle.sm_instance.specs.Ranks.{weight_of}
 use Rattle.sm_instance.specs.declared.kinds.Measure.{Measure}
 use Rattle.sm_instance.specs.declared.kinds.Side.TheVariants.{Proposers}
-use Rattle.sm_market.specs.Lists.{row}
 use Rattle.sm_market.specs.Matching.{Places}
 use Rattle.sm_theory.specs.Chains.{rotation_at}
 use Rattle.sm_theory.specs.Net.{cut_of}
 use Rattle.sm_theory.specs.Flows.{flow_value}
 use Rattle.sm_theory.specs.FlowLines.{amount_on}
 use Rattle.sm_theory.specs.declared.flow_lines.FlowLine.{FlowLine}
-use Rattle.sm_report.specs.declared.lines.Seat.{Seat}
 use Rattle.sm_report.specs.Heads.{HeadData}
 use Rattle.sm_report.specs.Lines.{LineData}
 use Rattle.sm_answer.specs.Lines.{lines_from}
+use Rattle.sm_answer.proofs.AnswerLemmas.{lines_alike}
 use Rattle.sm_seats.specs.SeatMarket.{seat_market}
 use Rattle.sm_seats.specs.Seating.{Seating, seating_of}
 use Rattle.sm_shown.specs.Answers.{pair_line}
 use Rattle.sm_shown.specs.Reduction.{seat_line}
-use Rattle.sm_shown.specs.RotationLines.{first_seat, first_line, seated_pairs, numbers_of}
+use Rattle.sm_shown.specs.RotationLines.{first_seat, first_line, seated_pairs}
 use Rattle.sm_shown.specs.RotationAnswer.{pairs_of}
-use Rattle.sm_shown.proofs.ShownLemmas.{pairs_at_shown, needs_shown}
+use Rattle.sm_shown.specs.GivenLines.{rotation_line, needs_line}
+use Rattle.sm_shown.proofs.RotationLemmas.{flat_map_alike, first_shown}
 use Rattle.sm_lightest.specs.WeightAnswer.{gain_of_pairs, Parts, shown_in, net_in, matching_in, gained_lines, flow_line, member_numbers, weight_lines}
+use Rattle.sm_lightest.proofs.RightLemmas.{gained_shown}
 use Rattle.sm_forms.specs.declared.keywords.Keyword.TheVariants as keyword
 use Rattle.sm_forms.specs.declared.layouts.Part.{Part}
 use Rattle.sm_forms.specs.declared.layouts.Part.TheVariants.{Blocks}
@@ -34,10 +35,10 @@ use Rattle.sm_forms.specs.Layouts.{behind, is_whole}
 use Rattle.sm_forms.specs.Forms.{opening_of}
 use Rattle.sm_judge.specs.Said.{first_in, rotation_in, rotations_in, needs_in, all_needs_in, flow_in, flows_in, taken_in, value_in, pair_in, pairs_in}
 use Rattle.sm_judge.specs.SeatMatchings.{seat_places_in, first_of}
-use Rattle.sm_agree.proofs.LineLemmas.{has_word, has_other, same_said, more_said}
-use Rattle.sm_agree.proofs.SeatLemmas.{shown_first_is}
+use Rattle.sm_judge.proofs.AnswerLemmas.{said_same, said_one as said_with}
+use Rattle.sm_agree.proofs.LineLemmas.{has_word, has_other}
 use Rattle.sm_agree.proofs.FlowLemmas.{shown_on}
-use Rattle.sm_agree.proofs.BlockLemmas.{Whole, if_whole, lines_same, blocks_same}
+use Rattle.sm_agree.proofs.BlockLemmas.{Whole, if_whole}
 
 -- What lines say.
 
@@ -49,6 +50,7 @@ pub record Said : Type 0 where
   pub taken : List (List ℕ)
   pub values : List ℕ
 
+-- what these lines say
 abbrev pub said_in : Written → List LineData → Said
 said_in w lines = record {
   rotations = rotations_in w lines;
@@ -63,6 +65,7 @@ abbrev pub grown : {X : Type 0} → List X → Option X → List X
 grown xs None = xs
 grown xs (Some x) = xs ++ x ∷ []
 
+-- what is said with one more line
 abbrev pub with_line : Written → Said → LineData → Said
 with_line w d x = record {
   rotations = grown d.rotations (rotation_in w x);
@@ -76,8 +79,8 @@ one_more : {X : Type 0} (said : LineData → Option X) (lines : List LineData) (
 one_more {X} said lines x = go (said x) refl
   where
     go : (o : Option X) → said x ≡ o → filter_map said (lines ++ x ∷ []) ≡ grown (filter_map said lines) o
-    go None e = same_said said x lines e
-    go (Some a) e = more_said said x a lines e
+    go None e = said_same said lines x e
+    go (Some a) e = said_with said lines x a e
 
 -- the lines above say this, and their first seats give the matching
 pub record AreSaid (w : Written) (first : Places) (d : Said) (above : List LineData) : Type 0 where
@@ -98,7 +101,7 @@ module _ (w : Written) (first : Places) where
   -- behind one more line, which is none of a first seat
   pub said_more : (d : Said) (above : List LineData) (x : LineData) → first_in w x ≡ None → AreSaid w first d above → AreSaid w first (with_line w d x) (above ++ x ∷ [])
   said_more d above x none said = record {
-    first_is = ap (seat_places_in (seat_market w)) (same_said (first_in w) x above none) ∙ said.first_is;
+    first_is = ap (seat_places_in (seat_market w)) (said_same (first_in w) above x none) ∙ said.first_is;
     said_is = said_one w above x ∙ ap (λ (d : Said). with_line w d x) said.said_is;
   }
 
@@ -110,8 +113,9 @@ module _ (w : Written) (first : Places) where
   abbrev pub Early : Said → List LineData → Type 0
   Early d above = AreSaid w first d above × (pairs_in above ≡ [])
 
+  -- behind one more line, which is none of a first seat or a pair, they say what it says too
   pub early_more : (d : Said) (above : List LineData) (x : LineData) → first_in w x ≡ None → pair_in x ≡ None → Early d above → Early (with_line w d x) (above ++ x ∷ [])
-  early_more d above x none no_pair said = (said_more d above x none said.0, same_said pair_in x above no_pair ∙ said.1)
+  early_more d above x none no_pair said = (said_more d above x none said.0, said_same pair_in above x no_pair ∙ said.1)
 
   -- the same in other words
   pub early_as : (d e : Said) (above : List LineData) → d ≡ e → Early d above → Early e above
@@ -119,12 +123,15 @@ module _ (w : Written) (first : Places) where
 
 -- What is said behind so many rotations and what so many of them need, behind lines of the flow, and behind the figures.
 
+-- behind so many rotations and what so many of them need
 abbrev pub in_blocks : List (List (ℕ × ℕ)) → List (List ℕ) → (j k : ℕ) → Said
 in_blocks rotations needs j k = record { rotations = take j rotations; needs = take k needs; flows = []; taken = []; values = [] }
 
+-- behind these lines of the flow
 abbrev pub in_flow : Parts → List FlowLine → Said
 in_flow parts front = record { rotations = parts.rotations; needs = parts.needs; flows = map (shown_on (suc (length parts.rotations))) front; taken = []; values = [] }
 
+-- behind the flow, the set that is taken and these values
 abbrev pub in_figures : Parts → List ℕ → Said
 in_figures parts values = record {
   rotations = parts.rotations;
@@ -136,10 +143,11 @@ in_figures parts values = record {
 
 -- Blocks of three lines.
 
+-- the lines of a rotation, of what it needs and of its gain
 abbrev pub three_lines : Measure → Written → List (List (ℕ × ℕ)) → List (List ℕ) → ℕ → List LineData
 three_lines by w rotations needs k =
-    LineData.Rotation (k + 1) (seated_pairs (seating_of w) (rotation_at rotations k))
-    ∷ LineData.Needs (k + 1) (numbers_of (row needs k))
+    rotation_line (seating_of w) rotations k
+    ∷ needs_line needs k
     ∷ LineData.Gain (k + 1) (gain_of_pairs by w (pairs_of (seated_pairs (seating_of w) (rotation_at rotations k))))
     ∷ []
 
@@ -158,12 +166,13 @@ module _ (by : Measure) (w : Written) (rotations : List (List (ℕ × ℕ))) (ne
       go true f = absurd (false≢true f)
       go false f = whole
 
+  -- the blocks of so many rotations, with others behind them, are a whole answer where these are
   pub threes_whole : (rest : List LineData) → list_all (has_other keyword.Rotation) rest ≡ true → is_whole ((part ∷ parts) ∷ []) (map opening_of rest) ≡ true
       → (k n : ℕ) → is_whole ((turn_at 0 (k + 1) ∷ part ∷ parts) ∷ []) (map opening_of (flat_map (three_lines by w rotations needs) (range_with_len k n) ++ rest)) ≡ true
   threes_whole rest others whole k zero = none_whole k rest others whole
   threes_whole rest others whole k (suc n) =
       let later = map opening_of (flat_map (three_lines by w rotations needs) (range_with_len (k + 1) n) ++ rest) in
-      let needed = opening_of (LineData.Needs (k + 1) (numbers_of (row needs k))) in
+      let needed = opening_of (needs_line needs k) in
       let gained = opening_of (LineData.Gain (k + 1) (gain_of_pairs by w (pairs_of (seated_pairs (seating_of w) (rotation_at rotations k))))) in
       let same : (k + 1 == k + 1) ≡ true = eq-eqb (k + 1) (k + 1) refl in
       if_whole (k + 1 == k + 1) (turn_at 1 (k + 1) ∷ part ∷ parts) (needed ∷ gained ∷ later) same
@@ -176,18 +185,23 @@ module _ (by : Measure) (w : Written) (rotations : List (List (ℕ × ℕ))) (ne
 abbrev pub taken_line : Parts → LineData
 taken_line parts = LineData.Taken (member_numbers parts.taken (length parts.taken))
 
+-- the value of the flow
 abbrev pub value_of : Measure → Written → Parts → ℕ
 value_of by w parts = flow_value (net_in by w parts) (amount_on parts.flow)
 
+-- the line of the value
 abbrev pub value_line : Measure → Written → Parts → LineData
 value_line by w parts = LineData.Value (value_of by w parts)
 
+-- the line of the cut
 abbrev pub cut_line : Measure → Written → Parts → LineData
 cut_line by w parts = LineData.Cut (cut_of (net_in by w parts) parts.taken)
 
+-- the line of the total
 abbrev pub total_line : Measure → Written → Parts → LineData
 total_line by w parts = LineData.Total (weight_of by w (matching_in w parts))
 
+-- the four lines of these figures, with others behind them
 abbrev pub figures_of : Measure → Written → Parts → List LineData → List LineData
 figures_of by w parts rest = taken_line parts ∷ value_line by w parts ∷ cut_line by w parts ∷ total_line by w parts ∷ rest
 
@@ -204,18 +218,8 @@ module _ (by : Measure) (w : Written) (parts : Parts) where
   abbrev s : Seating
   s = seating_of w
 
-  three_shown : (k : ℕ) → gained_lines by w parts k ≡ three_lines by w parts.rotations parts.needs k
-  three_shown k =
-      ap (λ (pairs : List (ℕ × Seat)).
-      LineData.Rotation (k + 1) pairs ∷ LineData.Needs (k + 1) (slice_index_or (map numbers_of parts.needs) k []) ∷ LineData.Gain (k + 1) (gain_of_pairs by w (pairs_of pairs)) ∷ [])
-      (pairs_at_shown s parts.rotations k)
-      ∙ ap (λ (needed : List ℕ).
-      LineData.Rotation (k + 1) (seated_pairs s (rotation_at parts.rotations k)) ∷ LineData.Needs (k + 1) needed
-      ∷ LineData.Gain (k + 1) (gain_of_pairs by w (pairs_of (seated_pairs s (rotation_at parts.rotations k)))) ∷ [])
-      (needs_shown parts.needs k)
-
-  pub weight_shown : weight_lines by w parts ≡ lines_of by w parts
-  weight_shown =
+  pub weight_shown : length parts.first.proposers ≡ length (seat_market w).proposers → weight_lines by w parts ≡ lines_of by w parts
+  weight_shown one =
       let shown = shown_in w parts in
       let n = length s.market.proposers in
       let flow = map (flow_line (suc (length parts.rotations))) parts.flow in
@@ -223,6 +227,6 @@ module _ (by : Measure) (w : Written) (parts : Parts) where
       let form : List LineData → List LineData → List LineData = (λ x y. LineData.Answer (HeadData.Weight by) ∷ (x ++ (y ++ (flow ++ rest)))) in
       let blocks = flat_map (gained_lines by w parts) (range_with_len 0 (length parts.rotations)) in
       let long : length shown.firsts ≡ n = length-map-range_with_len (first_seat s parts.first) 0 n in
-      let firsts = lines_same (first_line shown) (seat_line Proposers s parts.first) 0 n (λ p less. shown_first_is s parts.first parts.rotations parts.needs p (omega arith)) in
+      let firsts = sym (lines_alike (seat_line Proposers s parts.first) (first_line shown) (first_shown s parts.first parts.rotations parts.needs one) 0 n) in
       ap (λ k. form (lines_from (first_line shown) 0 k) blocks) long ∙ ap (λ x. form x blocks) firsts
-      ∙ ap (form (lines_from (seat_line Proposers s parts.first) 0 n)) (blocks_same (gained_lines by w parts) (three_lines by w parts.rotations parts.needs) three_shown (range_with_len 0 (length parts.rotations)))
+      ∙ ap (form (lines_from (seat_line Proposers s parts.first) 0 n)) (flat_map_alike (gained_lines by w parts) (three_lines by w parts.rotations parts.needs) 0 (length parts.rotations) (λ k l. gained_shown by w parts k))

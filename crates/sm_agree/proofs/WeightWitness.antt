@@ -131,18 +131,6 @@ lightest =
     let both = reach_is_best_lightest three_cycle three_cycle_levels three_cycle_weights [] [] three_cycle_first three_cycle_chain three_cycle_needs flow set worked_net.0 refl worked_lines.1 reach unleft in
     lightest_of weighed_three Given (matching_of three_cycle three_cycle_first three_cycle_chain set) seating both.0 both.1
 
-right : IsWeightAnswer Given weighed_three weighed_answer
-right = record {
-  parts = parts;
-  printed = three_cycle_is.1;
-  needed = record { one_each = refl; of = worked_net.0.each };
-  corresponds = correspondence three_cycle_needs seating three_cycle_is.1.chain worked_net.0.each;
-  certificate = record { lines = worked_lines.0; is_flow = worked_lines.1; reach = reach; full = refl };
-  closed = closed;
-  lightest = lightest;
-  shows = refl;
-}
-
 -- Its lines are of the instance.
 abbrev P : LineData → Type 0
 P line = IsLineOf (Two weighed_three) line
@@ -194,8 +182,22 @@ total_line = record { printable = tt; seats = no_seats; numbers = omega arith; h
 end_line : P LineData.End
 end_line = record { printable = tt; seats = no_seats; numbers = tt; head = tt }
 
-sound : All (IsLineOf (Two weighed_three)) weighed_answer
-sound = All-from_recursion P weighed_answer (head_line, (first_line 0 0 (omega arith) (omega arith), (first_line 1 1 (omega arith) (omega arith), (first_line 2 2 (omega arith) (omega arith), (rotation_line 1 0 1 2 (omega arith) (omega arith) (omega arith) (omega arith) (omega arith), (needs_line 1 [] 0 (omega arith) (omega arith) (omega arith), (gain_line 1 (pos 4) (omega arith) (omega arith) (omega arith), (rotation_line 2 1 2 0 (omega arith) (omega arith) (omega arith) (omega arith) (omega arith), (needs_line 2 (true ∷ []) 1 (omega arith) (omega arith) (omega arith), (gain_line 2 (negsuc 13) (omega arith) (omega arith) (omega arith), (flow_line 0 2 (omega arith) (omega arith), (flow_line 1 4294967295 (omega arith) (omega arith), (flow_line 2 1 (omega arith) (omega arith), (taken_line, (value_line, (cut_line, (total_line, (pair_line 0 2 (omega arith) (omega arith), (pair_line 1 0 (omega arith) (omega arith), (pair_line 2 1 (omega arith) (omega arith), (end_line, tt)))))))))))))))))))))
+weighed_sound : All (IsLineOf (Two weighed_three)) weighed_answer
+weighed_sound = All-from_recursion P weighed_answer (head_line, (first_line 0 0 (omega arith) (omega arith), (first_line 1 1 (omega arith) (omega arith), (first_line 2 2 (omega arith) (omega arith), (rotation_line 1 0 1 2 (omega arith) (omega arith) (omega arith) (omega arith) (omega arith), (needs_line 1 [] 0 (omega arith) (omega arith) (omega arith), (gain_line 1 (pos 4) (omega arith) (omega arith) (omega arith), (rotation_line 2 1 2 0 (omega arith) (omega arith) (omega arith) (omega arith) (omega arith), (needs_line 2 (true ∷ []) 1 (omega arith) (omega arith) (omega arith), (gain_line 2 (negsuc 13) (omega arith) (omega arith) (omega arith), (flow_line 0 2 (omega arith) (omega arith), (flow_line 1 4294967295 (omega arith) (omega arith), (flow_line 2 1 (omega arith) (omega arith), (taken_line, (value_line, (cut_line, (total_line, (pair_line 0 2 (omega arith) (omega arith), (pair_line 1 0 (omega arith) (omega arith), (pair_line 2 1 (omega arith) (omega arith), (end_line, tt)))))))))))))))))))))
 
+right : IsWeightAnswer Given weighed_three weighed_answer
+right = record {
+  parts = parts;
+  printed = three_cycle_is.1;
+  needed = record { one_each = refl; of = worked_net.0.each };
+  corresponds = correspondence three_cycle_needs seating three_cycle_is.1.chain worked_net.0.each;
+  certificate = record { lines = worked_lines.0; is_flow = worked_lines.1; reach = reach; full = refl };
+  closed = closed;
+  lightest = lightest;
+  shows = refl;
+  sound = weighed_sound;
+}
+
+-- that answer of `weight` is a right one
 pub weighed_three_is : WeighedThree
-weighed_three_is = (weighed_instance, omega arith, sound, right)
+weighed_three_is = (weighed_instance, omega arith, right)

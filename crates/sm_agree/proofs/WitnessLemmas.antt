@@ -41,7 +41,7 @@ use Rattle.sm_pairs.specs.Held.{CantJoin, IsBreach, GiveStable}
 use Rattle.sm_given.specs.GivenText.{AreGiven}
 use Rattle.sm_rooming.specs.Witnesses.{odd_parties}
 use Rattle.sm_rooming.proofs.WitnessLemmas.{odd_parties_shown}
-use Rattle.sm_agree.specs.Witnesses.{one_pair, together, given_twice, OnePair, Circles, three_by_three, two_rotations, ThreeByThree}
+use Rattle.sm_agree.specs.Witnesses.{placed, one_pair, together, given_twice, OnePair, Circles, three_by_three, two_rotations, ThreeByThree}
 
 abbrev w : Written
 w = one_pair
@@ -183,6 +183,7 @@ seats_first = seats_proposers_best (is_seating (sound_entries instance)) seated_
 seats_last : IsSeatReviewersBest (seat_market w) seated
 seats_last = seats_reviewers_best (is_seating (sound_entries instance)) seated_stable (subst (IsReviewersBest w) (sym unseated) reviewers_best)
 
+-- the right answers of each command over the one pair
 pub one_pair_is : OnePair
 one_pair_is = (
   instance,
@@ -195,6 +196,7 @@ one_pair_is = (
   record { left = (0, 0) ∷ []; right = (0, 0) ∷ []; given = given; first = gives_stable; second = gives_stable; shows = refl },
 )
 
+-- the right answers over both circles
 pub circles_are : Circles
 circles_are = (
   record { mates = even_party_mates; stable = even_party_is.2; shows = refl },
@@ -231,17 +233,17 @@ three_entries agents a x y z is sum e f g i less =
     before_two (suc zero) l same = g (sym (at 1) ∙ same ∙ at 2)
     before_two (suc (suc j)) l same = omega (arith, l)
 
--- three different names of a letter
-three_agents : (x y z : ℕ) (p q r : List ℕ) → IsTrue (name.is_name (x ∷ [])) → IsTrue (name.is_name (y ∷ [])) → IsTrue (name.is_name (z ∷ [])) → x ≢ y → x ≢ z → y ≢ z
-    → (a : ℕ) → a < 3 → IsSoundAgent (agent x 1 p ∷ agent y 1 q ∷ agent z 1 r ∷ []) true a
-three_agents x y z p q r b c d e f g =
+-- three different names of a letter, on lines that follow one another
+three_agents : (n x y z : ℕ) (p q r : List ℕ) → IsTrue (name.is_name (x ∷ [])) → IsTrue (name.is_name (y ∷ [])) → IsTrue (name.is_name (z ∷ [])) → x ≢ y → x ≢ z → y ≢ z
+    → (a : ℕ) → a < 3 → IsSoundAgent (placed n (agent x 1 p) ∷ placed (n + 1) (agent y 1 q) ∷ placed (n + 2) (agent z 1 r) ∷ []) true a
+three_agents n x y z p q r b c d e f g =
     below_three (IsSoundAgent all true)
     (record { name = b; fresh = λ j l. absurd (omega (arith, l)); capacity = omega arith; one = λ t. refl })
     (record { name = c; fresh = before_one; capacity = omega arith; one = λ t. refl })
     (record { name = d; fresh = before_two; capacity = omega arith; one = λ t. refl })
   where
     all : List AgentData
-    all = agent x 1 p ∷ agent y 1 q ∷ agent z 1 r ∷ []
+    all = placed n (agent x 1 p) ∷ placed (n + 1) (agent y 1 q) ∷ placed (n + 2) (agent z 1 r) ∷ []
 
     letter : List ℕ → ℕ
     letter xs = slice_index xs 0
@@ -261,8 +263,8 @@ unfolding name.begins_name name.is_name_byte
 three_instance = record {
   two_sided = λ e. cc;
   limits = record { proposers = omega arith; reviewers = omega arith; entries = omega arith };
-  proposers = record { sound = three_agents 109 110 111 _ _ _ refl refl refl (omega arith) (omega arith) (omega arith) };
-  reviewers = record { sound = three_agents 97 98 99 _ _ _ refl refl refl (omega arith) (omega arith) (omega arith) };
+  proposers = record { sound = three_agents 2 109 110 111 _ _ _ refl refl refl (omega arith) (omega arith) (omega arith) };
+  reviewers = record { sound = three_agents 5 97 98 99 _ _ _ refl refl refl (omega arith) (omega arith) (omega arith) };
   proposer_entries = record { sound = proposer_entries };
   reviewer_entries = record { sound = reviewer_entries };
   items = λ n l. absurd (omega (arith, l));
@@ -292,5 +294,6 @@ two_rotations_are = record {
   corresponds = correspondence three_cycle_needs (is_seating (sound_entries three_instance)) three_cycle_is.1.chain worked_net.0.each;
 }
 
+-- the right answer of `rotations` over the three
 pub three_by_three_is : ThreeByThree
 three_by_three_is = (three_instance, omega arith, two_rotations_are)

@@ -1,5 +1,5 @@
 -- Right answers, by a command's own relation, get a yes.
-use Rattle.std.specs.Prelude.{ℕ, List, map, All, Option}
+use Rattle.std.specs.Prelude.{ℕ, List, map, Option}
 use Rattle.sm_instance.specs.Written.{AgentData, Written}
 use Rattle.sm_instance.specs.Sound.{IsInstance}
 use Rattle.sm_instance.specs.declared.inputs.Input.{Input}
@@ -9,7 +9,7 @@ use Rattle.sm_instance.specs.declared.kinds.Side.{Side}
 use Rattle.sm_theory.specs.declared.choice.Choice.TheVariants.{Better, Worse}
 use Rattle.sm_report.specs.Heads.{HeadData}
 use Rattle.sm_report.specs.Lines.{LineData}
-use Rattle.sm_report.specs.Sound.{IsHeadOf, IsLineOf}
+use Rattle.sm_report.specs.Sound.{IsHeadOf}
 use Rattle.sm_report.specs.Texts.{text_of_line}
 use Rattle.sm_seats.specs.SeatEntries.{AreFewSeats}
 use Rattle.sm_shown.specs.Answers.{IsSolution}
@@ -48,16 +48,15 @@ ListAgrees = (w : Written) (after : Option (List ℕ)) (limit : ℕ) (lines : Li
 abbrev pub RegretAgrees : Type 0
 RegretAgrees = (w : Written) (lines : List LineData) → IsInstance w → IsRegretAnswer w lines → GetYes (Two w) lines
 
--- one of `weight`, where the seats are few, whose lines are of the instance: unbounded edges may lead in a circle, and a flow may
--- go round it with any amount, also with one that has no 64 bits
+-- one of `weight`, where the seats are few
 abbrev pub WeightAgrees : Type 0
-WeightAgrees = (w : Written) (by : Measure) (lines : List LineData) → IsInstance w → AreFewSeats w → All (IsLineOf (Two w)) lines → IsWeightAnswer by w lines
-    → GetYes (Two w) lines
+WeightAgrees = (w : Written) (by : Measure) (lines : List LineData) → IsInstance w → AreFewSeats w → IsWeightAnswer by w lines → GetYes (Two w) lines
 
 -- those of `meet` and of `join` of the two matchings that these texts give
 abbrev pub MeetAgrees : Type 0
 MeetAgrees = (w : Written) (texts : List (List ℕ)) (lines : List LineData) → IsInstance w → IsChosenAnswer Better texts w lines → GetYes (Two w) lines
 
+-- a right answer of `join` gets a yes
 abbrev pub JoinAgrees : Type 0
 JoinAgrees = (w : Written) (texts : List (List ℕ)) (lines : List LineData) → IsInstance w → IsChosenAnswer Worse texts w lines → GetYes (Two w) lines
 

@@ -1,10 +1,9 @@
 -- Right answers that are known by hand, so that no law is about nothing.
-use Rattle.std.specs.Prelude.{ℕ, List, [], ◌∷◌, All, Option, None, Some, codes, pos, negsuc}
+use Rattle.std.specs.Prelude.{ℕ, List, [], ◌∷◌, Option, None, Some, codes, pos, negsuc}
 use Rattle.sm_instance.specs.Written.{AgentData, Written}
 use Rattle.sm_instance.specs.Sound.{IsInstance}
 use Rattle.sm_instance.specs.Witnesses.{agent}
 use Rattle.sm_instance.specs.declared.kinds.Kind.TheVariants.{Marriage}
-use Rattle.sm_instance.specs.declared.inputs.Input.TheVariants.{Two}
 use Rattle.sm_instance.specs.declared.kinds.Measure.TheVariants.{Given}
 use Rattle.sm_instance.specs.declared.kinds.Side.TheVariants.{Proposers, Reviewers}
 use Rattle.sm_theory.specs.declared.choice.Choice.TheVariants.{Better, Worse}
@@ -12,7 +11,6 @@ use Rattle.sm_seats.specs.SeatEntries.{AreFewSeats}
 use Rattle.sm_report.specs.declared.lines.Seat.{Seat}
 use Rattle.sm_report.specs.Heads.{HeadData}
 use Rattle.sm_report.specs.Lines.{LineData}
-use Rattle.sm_report.specs.Sound.{IsLineOf}
 use Rattle.sm_report.specs.Texts.{SOURCE, SINK}
 use Rattle.sm_shown.specs.Answers.{IsSolution}
 use Rattle.sm_shown.specs.Reduction.{IsReduction}
@@ -23,12 +21,16 @@ use Rattle.sm_lightest.specs.WeightAnswer.{IsWeightAnswer}
 use Rattle.sm_given.specs.Chosen.{IsChosenAnswer}
 use Rattle.sm_rooming.specs.RoomAnswer.{IsMatched, IsUnmatchable}
 
+-- an agent on the line of its declaration
+abbrev pub placed : ℕ → AgentData → AgentData
+placed line agent = record agent { line = line }
+
 -- a proposer m and a reviewer w, who list each other
 abbrev pub one_pair : Written
 one_pair = record {
   kind = Marriage;
-  proposers = agent 109 1 (0 ∷ []) ∷ [];
-  reviewers = agent 119 1 (0 ∷ []) ∷ [];
+  proposers = placed 2 (agent 109 1 (0 ∷ [])) ∷ [];
+  reviewers = placed 3 (agent 119 1 (0 ∷ [])) ∷ [];
   weights = [];
   forced = [];
   forbidden = [];
@@ -42,6 +44,7 @@ together = Some 0 ∷ []
 abbrev pub only_seat : Seat
 only_seat = record { reviewer = 0; number = 1 }
 
+-- the right answer of `reduced`
 abbrev pub reduced_answer : List LineData
 reduced_answer =
     LineData.Answer HeadData.Reduced ∷
@@ -56,6 +59,7 @@ reduced_answer =
 abbrev pub given_twice : List (List ℕ)
 given_twice = codes "left m w" ∷ codes "right m w" ∷ codes "end" ∷ []
 
+-- the right answers of `meet` and of `join`, but for the head
 abbrev pub given_answer : HeadData → List LineData
 given_answer head = LineData.Answer head ∷ LineData.LeftPair 0 0 ∷ LineData.RightPair 0 0 ∷ LineData.Pair 0 0 ∷ LineData.End ∷ []
 
@@ -87,8 +91,8 @@ Circles = IsMatched circle (LineData.Answer (HeadData.Solve None) ∷ LineData.P
 abbrev pub three_by_three : Written
 three_by_three = record {
   kind = Marriage;
-  proposers = agent 109 1 (0 ∷ 1 ∷ 2 ∷ []) ∷ agent 110 1 (1 ∷ 2 ∷ 0 ∷ []) ∷ agent 111 1 (2 ∷ 0 ∷ 1 ∷ []) ∷ [];
-  reviewers = agent 97 1 (1 ∷ 2 ∷ 0 ∷ []) ∷ agent 98 1 (2 ∷ 0 ∷ 1 ∷ []) ∷ agent 99 1 (0 ∷ 1 ∷ 2 ∷ []) ∷ [];
+  proposers = placed 2 (agent 109 1 (0 ∷ 1 ∷ 2 ∷ [])) ∷ placed 3 (agent 110 1 (1 ∷ 2 ∷ 0 ∷ [])) ∷ placed 4 (agent 111 1 (2 ∷ 0 ∷ 1 ∷ [])) ∷ [];
+  reviewers = placed 5 (agent 97 1 (1 ∷ 2 ∷ 0 ∷ [])) ∷ placed 6 (agent 98 1 (2 ∷ 0 ∷ 1 ∷ [])) ∷ placed 7 (agent 99 1 (0 ∷ 1 ∷ 2 ∷ [])) ∷ [];
   weights = [];
   forced = [];
   forbidden = [];
@@ -98,6 +102,7 @@ three_by_three = record {
 abbrev pub first_seat_of : ℕ → Seat
 first_seat_of r = record { reviewer = r; number = 1 }
 
+-- the right answer of `rotations`
 abbrev pub two_rotations : List LineData
 two_rotations =
     LineData.Answer HeadData.Rotations ∷
@@ -154,4 +159,4 @@ weighed_answer =
 
 -- a right answer of `weight`
 abbrev pub WeighedThree : Type 0
-WeighedThree = IsInstance weighed_three × AreFewSeats weighed_three × All (IsLineOf (Two weighed_three)) weighed_answer × IsWeightAnswer Given weighed_three weighed_answer
+WeighedThree = IsInstance weighed_three × AreFewSeats weighed_three × IsWeightAnswer Given weighed_three weighed_answer

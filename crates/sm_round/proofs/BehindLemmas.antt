@@ -1,8 +1,9 @@
 -- An instance is read as it is, whatever stands behind its line `end`, and so is what stands there.
-use Rattle.std.proofs.Common.{◌≡◌, ℕ, zero, suc, ◌+◌, ◌<◌, ◌≤◌, ◌==◌, Bool, true, false, List, [], ◌∷◌, ◌++◌, length, map, drop, All, Ok, Err, refl, sym, ap, ◌∙◌, arith, subst, append_assoc, le-ltb, length-append}
+use Rattle.std.proofs.Common.{◌≡◌, ℕ, ◌+◌, ◌<◌, ◌≤◌, ◌==◌, Bool, true, false, List, [], ◌∷◌, ◌++◌, length, map, All, Ok, Err, refl, sym, ap, ◌∙◌, arith, append_assoc, le-ltb, length-append}
 use Rattle.std.specs.List.{onto_first, list_all}
 use Rattle.std.proofs.Math.Seq.{drop-append_seam}
 use Rattle.std.proofs.lemmas.List.Elements.{All-head, All-tail}
+use Rattle.std.proofs.lemmas.Bool.{and_from}
 use Rattle.sm_text.specs.Limits.{most_bytes}
 use Rattle.sm_text.specs.Lines.{LF, CR, lines, content}
 use Rattle.sm_text.specs.Tokens.{tokens}
@@ -15,7 +16,7 @@ use Rattle.sm_reader.specs.InstanceText.{ReadText, instance_text, before_header,
 use Rattle.sm_report.specs.Lines.{LineData}
 use Rattle.sm_report.specs.Sound.{IsLineOf}
 use Rattle.sm_report.specs.Texts.{text_of_line}
-use Rattle.sm_report.proofs.DecimalLemmas.{both_true, first_true, second_true}
+use Rattle.sm_report.proofs.DecimalLemmas.{first_true, second_true}
 use Rattle.sm_report.proofs.FreeLemmas.{is_free}
 use Rattle.sm_report.proofs.FreeLines.{line_free}
 use Rattle.sm_answer.specs.Writing.{text_of}
@@ -79,6 +80,7 @@ short : (bytes : List ℕ) → length bytes ≤ most_bytes → instance_text byt
 unfolding instance_text
 short bytes le = rw (le-ltb most_bytes (length bytes) le) refl
 
+-- the text of an instance that ends with a line break is read as the same with more behind it, where that is short enough
 pub read_more : (front more : List ℕ) (read : ReadText) → length ((front ++ LF ∷ []) ++ more) ≤ most_bytes → instance_text (front ++ LF ∷ []) ≡ Ok read → instance_text ((front ++ LF ∷ []) ++ more) ≡ Ok read
 read_more front more read le means =
     let long = length-append (front ++ LF ∷ []) more in
@@ -104,8 +106,9 @@ texts_free input sound [] all = (refl, refl)
 texts_free input sound (line ∷ answer) all =
     let first = line_free input sound line (All-head (IsLineOf input) line answer all) in
     let rest = texts_free input sound answer (All-tail (IsLineOf input) line answer all) in
-    (both_true (is_free LF (text_of_line input line)) _ first.0 rest.0, both_true (is_free CR (text_of_line input line)) _ first.1 rest.1)
+    (and_from (is_free LF (text_of_line input line)) _ first.0 rest.0, and_from (is_free CR (text_of_line input line)) _ first.1 rest.1)
 
+-- behind such a text stand the lines of the answer, as they were written
 pub answer_behind : (input : Input) → IsInput input → (front : List ℕ) (answer : List LineData) → All (IsLineOf input) answer
     → texts_from (front ++ text_of (map (text_of_line input) answer)) (length front) ≡ map (text_of_line input) answer
 answer_behind input sound front answer all =

@@ -1,41 +1,35 @@
 -- What is written for a command, put behind its instance, is judged with yes.
-use Rattle.std.proofs.Common.{◌≡◌, ℕ, zero, suc, ◌+◌, ◌<◌, ◌≤◌, true, false, get_or, ltb-false, ◌++◌, ◌∷◌, [], inl, inr, Bool, List, length, map, All, Option, None, Some, Result, Ok, Err, refl, sym, ap, ◌∙◌, arith, subst, unwrap_or}
+use Rattle.std.proofs.Common.{◌≡◌, ℕ, ◌+◌, ◌≤◌, ◌++◌, ◌∷◌, [], inl, inr, List, length, map, Option, None, Some, Result, Ok, Err, refl, sym, ap, ◌∙◌, arith, subst, unwrap_or}
 use Rattle.std.specs.Option.{option_map}
-use Rattle.std.specs.Prelude.{nat_lt}
-use Rattle.std.specs.List.{range_with_len, position_or_len}
 use Rattle.std.proofs.lemmas.Option.{none-some}
-use Rattle.std.proofs.lemmas.List.Sums.{fails_before_first}
-use Rattle.std.proofs.lemmas.List.FromFn.{get_or-range_with_len, length-range_with_len}
-use Rattle.sm_text.specs.Limits.{most_bytes, most_seat_entries}
-use Rattle.sm_text.specs.Lines.{LF}
+use Rattle.sm_text.specs.Limits.{most_bytes}
 use Rattle.sm_text.specs.declared.refusal.RefusalKind.TheVariants.{TooManySeats}
-use Rattle.sm_instance.specs.Written.{AgentData, Written, agent_at}
+use Rattle.sm_instance.specs.Written.{Written, agent_at}
 use Rattle.sm_lists.proofs.Counting.{lt_or_le}
 use Rattle.sm_instance.specs.Inputs.{IsInput, kind_of}
 use Rattle.sm_instance.specs.Sound.{IsInstance}
 use Rattle.sm_instance.specs.declared.inputs.Input.{Input}
 use Rattle.sm_instance.specs.declared.inputs.Input.TheVariants.{Two, Room}
+use Rattle.sm_instance.specs.declared.kinds.Measure.{Measure}
 use Rattle.sm_instance.specs.declared.kinds.Side.{Side}
 use Rattle.sm_instance.specs.declared.kinds.Side.TheVariants.{Proposers}
 use Rattle.sm_reader.specs.InstanceText.{ReadText, Refusal, instance_text}
 use Rattle.sm_report.specs.Heads.{HeadData}
 use Rattle.sm_report.specs.Lines.{LineData}
-use Rattle.sm_report.specs.Sound.{IsLineOf, IsHeadOf}
+use Rattle.sm_report.specs.Sound.{IsHeadOf}
 use Rattle.sm_report.specs.Texts.{text_of_line}
 use Rattle.sm_answer.specs.Printing.{IsShown}
 use Rattle.sm_answer.specs.Writing.{text_of}
 use Rattle.sm_tally.specs.Fold.{Shown}
 use Rattle.sm_words.specs.Jobs.{JobData, Solve, Reduced, Rotations, Pairs, Regret, Weight, Meet, Join, Survey, Check, Make}
 use Rattle.sm_theory.specs.declared.choice.Choice.TheVariants.{Better, Worse}
-use Rattle.sm_theory.proofs.Bridge.Places.{position_cases}
-use Rattle.sm_seats.specs.SeatEntries.{seat_entries_before, AreFewSeats, first_too_many}
-use Rattle.sm_seats.proofs.LimitLaws.{none_is}
+use Rattle.sm_seats.specs.SeatEntries.{AreFewSeats, first_too_many}
+use Rattle.sm_seats.proofs.LimitLaws.{few_where_none}
 use Rattle.sm_shown.specs.Reduction.{IsReduction}
 use Rattle.sm_shown.specs.RotationAnswer.{IsRotationAnswer}
 use Rattle.sm_listing.specs.ListAnswer.{IsListAnswer}
 use Rattle.sm_given.specs.GivenText.{texts_from}
 use Rattle.sm_given.specs.Chosen.{IsChosenAnswer}
-use Rattle.sm_forms.specs.Forms.{AreAnswer}
 use Rattle.sm_judge.specs.Judging.{IsJudged}
 use Rattle.sm_judge.specs.declared.verdicts.Verdict.TheVariants as verdict
 use Rattle.sm_agree.specs.Agree.{GetYes}
@@ -51,40 +45,18 @@ use Rattle.sm_agree.proofs.ChosenAgree.{meet_agrees, join_agrees}
 use Rattle.sm_top.specs.declared.status.Status.{Status}
 use Rattle.sm_top.specs.declared.status.Status.TheVariants.{Done, NoneExists}
 use Rattle.sm_top.specs.Accepting.{accepted, behind_text, first_refusal, after_end, wrong_kind, too_many_in, too_many_seats}
-use Rattle.sm_top.specs.Checked.{IsChecked, verdict_lines}
-use Rattle.sm_top.specs.Outcome.{OfTwo, IsSolved, IsRegretted, IsAnswerOver, IsAnswer}
+use Rattle.sm_top.specs.Checked.{verdict_lines}
+use Rattle.sm_top.specs.Outcome.{OfTwo, IsSolved, IsRegretted, IsWeighed, IsAnswerOver, IsAnswer}
 use Rattle.sm_top.proofs.RunLemmas.{too_long_text}
-use Rattle.sm_round.specs.Round.{IsInstanceText, IsTaken, WrittenIsChecked, WeightIsChecked}
+use Rattle.sm_round.specs.Round.{IsInstanceText, WrittenIsChecked}
 use Rattle.sm_round.proofs.BehindLemmas.{read_more, answer_behind}
 
--- where no reviewer is the first with whom they are too many, the seats are few
-few_seats : (w : Written) → first_too_many w ≡ None → AreFewSeats w
-few_seats w none = by_count (length w.reviewers) refl
-  where
-    past : ℕ → Bool
-    past r = nat_lt most_seat_entries (seat_entries_before w (r + 1))
-
-    all : List ℕ
-    all = range_with_len 0 (length w.reviewers)
-
-    by_count : (n : ℕ) → length w.reviewers ≡ n → AreFewSeats w
-    by_count zero e = rw e (omega arith)
-    by_count (suc n) e = elim (position_cases past all) [
-      | inl found ↦ absurd (none-some _ (sym none ∙ found.0))
-      | inr other ↦
-          let there : n < position_or_len past all = omega (arith, other.1, e, length-range_with_len 0 (length w.reviewers)) in
-          let at : get_or all n 0 ≡ n = get_or-range_with_len 0 (length w.reviewers) n 0 (omega (arith, e)) ∙ omega arith in
-          let fails : past n ≡ false = ap past (sym at) ∙ fails_before_first past all n 0 there in
-          let most = ltb-false most_seat_entries (seat_entries_before w (n + 1)) fails in
-          let same : length w.reviewers ≡ n + 1 = omega (arith, e) in
-          subst (λ (m : ℕ). seat_entries_before w m ≤ most_seat_entries) (sym same) most
-    ]
-
+-- an instance that isn't refused for its seats has few of them
 few_in : (w : Written) → too_many_in (Two w) ≡ None → AreFewSeats w
 few_in w none = by_first (first_too_many w) refl none
   where
     by_first : (o : Option ℕ) → first_too_many w ≡ o → option_map {U = Refusal} (λ (r : ℕ). (TooManySeats, (agent_at w.reviewers r).line)) o ≡ None → AreFewSeats w
-    by_first None e h = few_seats w e
+    by_first None e h = few_where_none w e
     by_first (Some r) e h = absurd (none-some _ (sym h))
 
 -- right answers get a yes
@@ -115,6 +87,12 @@ yes_on_regret : (input : Input) (status : Status) (answer : List LineData) → I
 yes_on_regret (Two w) status answer sound done (inl h) = regret_agrees w answer sound h.1
 yes_on_regret (Two w) status answer sound done (inr h) = absurd (done_is_other (sym done ∙ h.0))
 yes_on_regret (Room persons) status answer sound done h = absurd h
+
+yes_on_weight : (by : Measure) (input : Input) (status : Status) (answer : List LineData) → IsInput input → too_many_in input ≡ None → status ≡ Done
+    → IsWeighed by input status answer → GetYes input answer
+yes_on_weight by (Two w) status answer sound few done (inl h) = weight_agrees w by answer sound (few_in w few) h.1
+yes_on_weight by (Two w) status answer sound few done (inr h) = absurd (done_is_other (sym done ∙ h.0))
+yes_on_weight by (Room persons) status answer sound few done h = absurd h
 
 -- what was accepted was read as it is, and its seats aren't too many
 pub record IsAccepted (x read : ReadText) : Type 0 where
@@ -181,6 +159,7 @@ fits job bytes read ok = elim (lt_or_le most_bytes (length bytes)) [
     refused : {f : Refusal} → ◌≡◌ {A = Result ReadText Refusal} (Err f) (Ok read) → ⊥
     refused e = cc
 
+-- the law that what is written gets a yes
 pub written_is_checked : WrittenIsChecked
 written_is_checked tallies others (Solve side) text behind read status lines t taken a le =
     over others text read t (Solve side) behind (λ r. IsSolved side r.input status) lines (λ answer few h. yes_on_solve side read.input status answer t.sound h)
@@ -205,14 +184,10 @@ written_is_checked tallies others Reduced text behind read status lines t taken 
 written_is_checked tallies others Rotations text behind read status lines t taken a le =
     over others text read t Rotations behind (λ r. OfTwo IsRotationAnswer r.input) lines (λ answer few h. yes_on_few IsRotationAnswer rotations_agree read.input answer t.sound few h)
     (fits Rotations (text ++ behind) a.1.read a.1.ok) a.1 le
-written_is_checked tallies others (Weight by) text behind read status lines t taken a le = absurd taken
+written_is_checked tallies others (Weight by) text behind read status lines t taken a le =
+    over others text read t (Weight by) behind (λ r. IsWeighed by r.input status) lines (λ answer few h. yes_on_weight by read.input status answer t.sound few taken h)
+    (fits (Weight by) (text ++ behind) a.read a.ok) a le
 written_is_checked tallies others Pairs text behind read status lines t taken a le = absurd taken
 written_is_checked tallies others (Survey limit) text behind read status lines t taken a le = absurd taken
 written_is_checked tallies others Check text behind read status lines t taken a le = absurd taken
 written_is_checked tallies others (Make shape size seed summary) text behind read status lines t taken a le = absurd taken
-
-pub weight_is_checked : WeightIsChecked
-weight_is_checked others by text read w answer t same few sound h le =
-    checked others text read t answer (ap too_many_in same ∙ ap (option_map {U = Refusal} (λ (r : ℕ). (TooManySeats, (agent_at w.reviewers r).line))) (none_is w few))
-    (subst (λ (input : Input). GetYes input answer) (sym same) (weight_agrees w by answer (subst IsInput same t.sound) few sound h))
-    (map (text_of_line (Two w)) answer) (ap (λ (input : Input). map (text_of_line input) answer) (sym same)) le

@@ -1,21 +1,15 @@
 -- What is written for a command, put behind the instance, is judged with yes.
-use Rattle.std.specs.Prelude.{◌≡◌, ℕ, ◌≤◌, ◌++◌, ◌∷◌, [], List, length, map, All, Ok}
+use Rattle.std.specs.Prelude.{◌≡◌, ℕ, ◌≤◌, ◌++◌, ◌∷◌, [], List, length, map, Ok}
 use Rattle.sm_text.specs.Limits.{most_bytes}
 use Rattle.sm_text.specs.Lines.{LF}
-use Rattle.sm_instance.specs.Written.{Written}
-use Rattle.sm_instance.specs.declared.inputs.Input.TheVariants.{Two}
-use Rattle.sm_instance.specs.declared.kinds.Measure.{Measure}
 use Rattle.sm_instance.specs.Inputs.{IsInput, kind_of}
 use Rattle.sm_reader.specs.InstanceText.{ReadText, instance_text}
 use Rattle.sm_report.specs.Heads.{HeadData}
-use Rattle.sm_report.specs.Lines.{LineData}
-use Rattle.sm_report.specs.Sound.{IsHeadOf, IsLineOf}
+use Rattle.sm_report.specs.Sound.{IsHeadOf}
 use Rattle.sm_report.specs.Texts.{text_of_line}
 use Rattle.sm_answer.specs.Writing.{text_of}
-use Rattle.sm_seats.specs.SeatEntries.{AreFewSeats}
-use Rattle.sm_lightest.specs.WeightAnswer.{IsWeightAnswer}
 use Rattle.sm_tally.specs.Fold.{Shown}
-use Rattle.sm_words.specs.Jobs.{JobData, Solve, Reduced, Rotations, Regret, Meet, Join}
+use Rattle.sm_words.specs.Jobs.{JobData, Solve, Reduced, Rotations, Regret, Weight, Meet, Join}
 use Rattle.sm_judge.specs.declared.verdicts.Verdict.TheVariants as verdict
 use Rattle.sm_top.specs.declared.status.Status.{Status}
 use Rattle.sm_top.specs.declared.status.Status.TheVariants.{Done}
@@ -31,13 +25,14 @@ pub record IsInstanceText (text : List ℕ) (read : ReadText) : Type 0 where
   pub sound : IsInput read.input
 
 -- the commands whose answers `check` takes, with the status of those that it takes. The numbers of `list` are as words can give
--- them; `none` of `regret` shows nothing
+-- them; `none` of `regret` and of `weight` shows nothing
 abbrev pub IsTaken : JobData → ReadText → Status → Type 0
 IsTaken (Solve side) read status = Unit {0}
 IsTaken Reduced read status = Unit {0}
 IsTaken Rotations read status = Unit {0}
 IsTaken (JobData.List after limit) read status = IsHeadOf (kind_of read.input) (HeadData.List after limit)
 IsTaken Regret read status = status ≡ Done
+IsTaken (Weight by) read status = status ≡ Done
 IsTaken Meet read status = Unit {0}
 IsTaken Join read status = Unit {0}
 IsTaken job read status = ⊥
@@ -49,10 +44,3 @@ WrittenIsChecked = (tallies others : List Shown) (job : JobData) (text behind : 
     → IsInstanceText text read → IsTaken job read status → IsAnswer tallies job (text ++ behind) status lines
     → length (text ++ text_of lines) ≤ most_bytes
     → IsAnswer others JobData.Check (text ++ text_of lines) Done (map (text_of_line read.input) (verdict_lines verdict.Yes))
-
--- so it is with a right answer of `weight` whose lines are of the instance
-abbrev pub WeightIsChecked : Type 0
-WeightIsChecked = (others : List Shown) (by : Measure) (text : List ℕ) (read : ReadText) (w : Written) (answer : List LineData)
-    → IsInstanceText text read → read.input ≡ Two w → AreFewSeats w → All (IsLineOf (Two w)) answer → IsWeightAnswer by w answer
-    → length (text ++ text_of (map (text_of_line (Two w)) answer)) ≤ most_bytes
-    → IsAnswer others JobData.Check (text ++ text_of (map (text_of_line (Two w)) answer)) Done (map (text_of_line read.input) (verdict_lines verdict.Yes))
