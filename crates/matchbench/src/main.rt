@@ -40,12 +40,12 @@ fn main(rt: HostRuntime) -> ExitCode {
     ExitCode::from(run(alloc, &words, &mut source, &mut sink, tallies).number())
 }
 
-// The words behind the program's name.
+/// The words behind the program's name.
 fn words(rt: &HostRuntime) -> io::Result<Vec<String>> {
     Ok(env::args(rt)?.skip(1).collect(rt.alloc())?)
 }
 
-// The status where there are no words.
+/// The status where there are no words.
 fn status_of(kind: ErrorKind) -> u8 {
     match kind {
         ErrorKind::OutOfMemory => NO_MEMORY,

@@ -27,7 +27,7 @@ const ODD: &str = "stable 1 roommates\np 1: 2 3 4\np 2: 3 1 4\np 3: 1 2 4\np 4: 
 
 const EVEN: &str = "stable 1 roommates\np 1: 2 4\np 2: 3 1\np 3: 4 2\np 4: 1 3\nend\n";
 
-// What comes of a text, whose first line has the number 1.
+/// What comes of a text, whose first line has the number 1.
 #[derive(Clone, Copy, PartialEq, Eq)]
 enum Found {
     Yes,
@@ -35,7 +35,7 @@ enum Found {
     Bad(u32),
 }
 
-// Makes sure of what comes of some answers over an instance.
+/// Makes sure of what comes of some answers over an instance.
 fn come_to(rt: &(impl Abort + AllocGlobal), instance: &str, rows: &[(&str, Found)]) {
     match read_instance(rt.alloc(), instance.as_bytes()) {
         Ok(read) => {
@@ -47,7 +47,7 @@ fn come_to(rt: &(impl Abort + AllocGlobal), instance: &str, rows: &[(&str, Found
     }
 }
 
-// Whether this comes of an answer.
+/// Whether this comes of an answer.
 fn comes_to(rt: &(impl Abort + AllocGlobal), input: &Input, answer: &str, found: Found) -> bool {
     let bytes = answer.as_bytes();
     assert!(rt; bytes.len() <= 1000, "{answer:?}");

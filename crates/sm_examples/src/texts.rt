@@ -17,10 +17,9 @@ pub fn list(rt: &(impl Abort + AllocGlobal), text: &str) -> Vec<u32>
 {
     let mut list = Vec::new(rt.alloc());
     for byte in text.as_bytes() {
-        if list.len() < 99 {
-            list.push(u32::from(*byte).wrapping_sub(48))
-                .expect(rt, MEMORY);
-        }
+        assert!(rt; list.len() < 99);
+        list.push(u32::from(*byte).wrapping_sub(48))
+            .expect(rt, MEMORY);
     }
     list
 }
@@ -31,9 +30,8 @@ pub fn lists(rt: &(impl Abort + AllocGlobal), text: &str) -> Vec<Vec<u32>>
 {
     let mut lists = Vec::new(rt.alloc());
     for part in text.split('/') {
-        if lists.len() < 99 {
-            lists.push(list(rt, part)).expect(rt, MEMORY);
-        }
+        assert!(rt; lists.len() < 99);
+        lists.push(list(rt, part)).expect(rt, MEMORY);
     }
     lists
 }

@@ -10,7 +10,7 @@ use std::process::Abort;
 
 const TWO_BY_TWO: &str = "stable 1 marriage\np m1: a b\np m2: b a\nr a: m2 m1\nr b: m1 m2\nend\n";
 
-// A run: its words, the text that is read, the calls of the source and the puts that fail, and what comes of it.
+/// A run: its words, the text that is read, the calls of the source and the puts that fail, and what comes of it.
 #[derive(Clone, Copy)]
 struct Row<'a> {
     words: &'a str,
@@ -21,7 +21,7 @@ struct Row<'a> {
     written: &'a str,
 }
 
-// Makes sure of what comes of runs.
+/// Makes sure of what comes of runs.
 fn come_to(rt: &(impl Abort + AllocGlobal), rows: &[Row]) {
     for row in rows {
         let words = words_in(rt, row.words);
@@ -40,7 +40,7 @@ fn come_to(rt: &(impl Abort + AllocGlobal), rows: &[Row]) {
     }
 }
 
-// A run without faults that answers.
+/// A run without faults that answers.
 fn done<'a>(words: &'a str, text: &'a str, written: &'a str) -> Row<'a> {
     Row {
         words,
@@ -52,7 +52,7 @@ fn done<'a>(words: &'a str, text: &'a str, written: &'a str) -> Row<'a> {
     }
 }
 
-// A run without faults that answers that there is no such matching.
+/// A run without faults that answers that there is no such matching.
 fn none_exists<'a>(words: &'a str, text: &'a str, written: &'a str) -> Row<'a> {
     Row {
         words,
@@ -64,7 +64,7 @@ fn none_exists<'a>(words: &'a str, text: &'a str, written: &'a str) -> Row<'a> {
     }
 }
 
-// A run without faults whose input is refused.
+/// A run without faults whose input is refused.
 fn refused<'a>(
     words: &'a str,
     text: &'a str,
@@ -418,7 +418,7 @@ fn roommates_are_solved(rt: HostRuntime) {
     );
 }
 
-// A run without faults that answers that an answer isn't right.
+/// A run without faults that answers that an answer isn't right.
 fn checked_no<'a>(text: &'a str, line: u32, why: Reason, written: &'a str) -> Row<'a> {
     Row {
         words: "check",
@@ -620,32 +620,4 @@ fn solves_over_a_steady_source_and_sink(rt: HostRuntime) {
     assert!(rt;
         sink.held() == Some(b"answer solve side=proposers\npair m1 a\npair m2 b\nend\n".as_slice())
     );
-}
-
-// So many bytes.
-fn filled(alloc: Global, len: usize) -> Result<Vec<u8>, std::alloc::AllocError> {
-    vec![in alloc; b'#'; len]
-}
-
-// The status of `solve` for so many bytes.
-fn status_of(rt: &(impl Abort + AllocGlobal), len: usize) -> Status {
-    let words = words_in(rt, "solve");
-    let bytes = filled(rt.alloc(), len).expect(rt, MEMORY);
-    let mut source = MemSource::new(bytes, 1_000_000, Vec::new(rt.alloc()));
-    let mut sink = MemSink::new(rt.alloc(), 100, Vec::new(rt.alloc())).expect(rt, MEMORY);
-    run(
-        rt.alloc(),
-        &words,
-        &mut source,
-        &mut sink,
-        Vec::new(rt.alloc()),
-    )
-}
-
-#[test]
-fn too_many_bytes_are_refused(rt: HostRuntime) {
-    let most = status_of(&rt, 16_777_216);
-    assert!(rt; most == Status::Refused(RefusalKind::BadHeader, 2));
-    let more = status_of(&rt, 16_777_217);
-    assert!(rt; more == Status::Refused(RefusalKind::TooLong, 0));
 }

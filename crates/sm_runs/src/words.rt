@@ -6,7 +6,7 @@ use sm_make::Shape;
 use sm_words::{Job, WordsFault, read_words};
 use std::process::Abort;
 
-// Makes sure of what each of some words asks for.
+/// Makes sure of what each of some words asks for.
 fn ask(rt: &(impl Abort + AllocGlobal), rows: &[(&str, Job)]) {
     for (text, job) in rows {
         let words = words_in(rt, text);
@@ -17,7 +17,7 @@ fn ask(rt: &(impl Abort + AllocGlobal), rows: &[(&str, Job)]) {
     }
 }
 
-// Makes sure of which word of each is faulty.
+/// Makes sure of which word of each is faulty.
 fn are_faulty(rt: &(impl Abort + AllocGlobal), rows: &[(&str, u32)]) {
     for (text, number) in rows {
         let words = words_in(rt, text);

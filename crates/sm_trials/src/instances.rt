@@ -6,7 +6,7 @@ use crate::made::{agent, copy, one, three, two};
 use sm_instance::{Assignment, Input, Instance, InstanceFault, Kind, Measure, Persons, Side};
 use std::process::Abort;
 
-// The residents a: k h, b: z h and c: h k, who doesn't stand on k's list; h has two places, k one and z none.
+/// The residents a: k h, b: z h and c: h k, who doesn't stand on k's list; h has two places, k one and z none.
 pub fn small_hospitals(rt: &(impl Abort + AllocGlobal)) -> Instance {
     let residents = three(
         rt,
@@ -32,7 +32,7 @@ pub fn small_hospitals(rt: &(impl Abort + AllocGlobal)) -> Instance {
     .expect(rt, "an instance")
 }
 
-// Places of the three residents, what is found of them, and what they are worth where they are a matching.
+/// Places of the three residents, what is found of them, and what they are worth where they are a matching.
 struct Row {
     places: [Option<u32>; 3],
     breach: Option<u32>,
@@ -72,7 +72,7 @@ fn are_worth(rt: &(impl Abort + AllocGlobal), instance: &Instance, rows: &[Row])
     }
 }
 
-// What resident c and the hospitals are to each other.
+/// What resident c and the hospitals are to each other.
 fn knows_its_agents(rt: &impl Abort, instance: &Instance) {
     assert!(rt; instance.proposer_count() == 3);
     assert!(rt; instance.reviewer_count() == 3);
@@ -85,7 +85,7 @@ fn knows_its_agents(rt: &impl Abort, instance: &Instance) {
     assert!(rt; instance.capacity(2) == 0);
 }
 
-// Makes sure where the first resident stands that can't be where it is.
+/// Makes sure where the first resident stands that can't be where it is.
 fn breaks(rt: &(impl Abort + AllocGlobal), instance: &Instance, places: &[Option<u32>], p: u32) {
     let a = Assignment {
         places: copy(rt, places),
@@ -127,7 +127,7 @@ fn small_hospitals_are_worth(rt: HostRuntime) {
     breaks(&rt, &instance, &[None, Some(0), None], 1);
 }
 
-// A proposer m and the hospitals a and another: what may be wrong with them.
+/// A proposer m and the hospitals a and another: what may be wrong with them.
 #[derive(Clone, Copy)]
 struct Case {
     letter: u8,
@@ -236,13 +236,13 @@ fn each_fault_once(rt: HostRuntime) {
     );
 }
 
-// Two persons, of whom the first lists itself.
+/// Two persons, of whom the first lists itself.
 fn persons(rt: &(impl Abort + AllocGlobal), second: u8) -> Result<Persons, InstanceFault> {
     let both = two(rt, agent(rt, b'x', 1, &[1, 0]), agent(rt, second, 1, &[0]));
     Persons::build(rt.alloc(), both)
 }
 
-// Makes sure of the numbers of the left and of the right agent with this name.
+/// Makes sure of the numbers of the left and of the right agent with this name.
 fn finds(rt: &impl Abort, input: &Input, name: &[u8], left: Option<u32>, right: Option<u32>) {
     assert!(rt; input.find_left(name) == left);
     assert!(rt; input.find_right(name) == right);

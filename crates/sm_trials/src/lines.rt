@@ -11,7 +11,7 @@ use sm_report::{Head, Line, LineFault, Seat, put_line, put_text, read_line};
 use sm_text::LineWriter;
 use std::process::Abort;
 
-// The proposer `a`, and the reviewer `h` of three places.
+/// The proposer `a`, and the reviewer `h` of three places.
 fn hospitals(rt: &(impl Abort + AllocGlobal)) -> Input {
     let built = Instance::build(
         rt.alloc(),
@@ -43,7 +43,7 @@ fn right_count(input: &Input) -> u32
     }
 }
 
-// Makes sure that a line puts this text.
+/// Makes sure that a line puts this text.
 fn puts(rt: &(impl Abort + AllocGlobal), input: &Input, line: &Line, text: &str)
     requires { IsPrintable input.now (line_of line.now) }
 {
@@ -78,7 +78,7 @@ fn lines_are_put(rt: HostRuntime) {
     );
 }
 
-// Makes sure that a line is read from a text and has it.
+/// Makes sure that a line is read from a text and has it.
 fn reads(rt: &(impl Abort + AllocGlobal), input: &Input, text: &str) {
     let line = read_line(rt.alloc(), input, text.as_bytes()).expect(rt, "a line");
     let mut writer = LineWriter::new(rt.alloc(), 1).expect(rt, MEMORY);

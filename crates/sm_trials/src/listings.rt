@@ -15,7 +15,7 @@ use sm_shown::Basis;
 use std::alloc::AllocError;
 use std::process::Abort;
 
-// Each proposer's first choice likes it least.
+/// Each proposer's first choice likes it least.
 fn three_cycle(rt: &(impl Abort + AllocGlobal)) -> Instance {
     let proposers = three(
         rt,
@@ -41,7 +41,7 @@ fn three_cycle(rt: &(impl Abort + AllocGlobal)) -> Instance {
     .expect(rt, "an instance")
 }
 
-// A lister of the cycle.
+/// A lister of the cycle.
 fn lister(rt: &(impl Abort + AllocGlobal), after: &Option<Vec<u32>>) -> Lister
     requires { MatchOption after.now (Unit {0}) (λ v. length v.items ≡ 3) }
 {
@@ -51,7 +51,7 @@ fn lister(rt: &(impl Abort + AllocGlobal), after: &Option<Vec<u32>>) -> Lister
     start_list(rt.alloc(), &instance, &seats, after).expect(rt, MEMORY)
 }
 
-// Makes sure of the next vector, and of the rotations that lead to it.
+/// Makes sure of the next vector, and of the rotations that lead to it.
 fn comes_to(rt: &impl Abort, lister: &mut Lister, vector: &[u32], members: &[bool]) {
     let found = lister.advance();
     assert!(rt; found);
@@ -59,7 +59,7 @@ fn comes_to(rt: &impl Abort, lister: &mut Lister, vector: &[u32], members: &[boo
     assert!(rt; lister.set().members.as_slice() == members);
 }
 
-// Makes sure of the cursor.
+/// Makes sure of the cursor.
 fn stands_at(rt: &(impl Abort + AllocGlobal), lister: &Lister, vector: Option<&[u32]>) {
     let cursor = lister.cursor(rt.alloc()).expect(rt, MEMORY);
     assert!(rt; cursor.as_deref() == vector);
@@ -84,7 +84,7 @@ fn a_lister_behind_a_vector(rt: HostRuntime) {
     stands_at(&rt, &lister, Some(&[3, 3, 3]));
 }
 
-// Whether an item is this vector.
+/// Whether an item is this vector.
 fn is_vector(item: &Option<Result<Vec<u32>, AllocError>>, vector: &[u32]) -> bool {
     match item {
         Some(Ok(found)) => found.as_slice() == vector,
@@ -101,7 +101,7 @@ fn a_listing_up_to_its_limit(rt: HostRuntime) {
     assert!(rt; listing.next().is_none());
 }
 
-// Makes sure of the best vector within bounds, if there is one.
+/// Makes sure of the best vector within bounds, if there is one.
 fn finds(
     rt: &(impl Abort + AllocGlobal),
     least: &mut Least,

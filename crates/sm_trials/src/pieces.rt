@@ -10,7 +10,7 @@ use std::io;
 use std::io::{Read, Write};
 use std::process::Abort;
 
-// Moves a byte a call, but for the call of one number, from 1: this one fails, with an error or by writing nothing.
+/// Moves a byte a call, but for the call of one number, from 1: this one fails, with an error or by writing nothing.
 #[derive(Drop)]
 struct FailsOnce {
     calls: usize,
@@ -27,7 +27,7 @@ impl FailsOnce {
         }
     }
 
-    // How many bytes the next call moves.
+    /// How many bytes the next call moves.
     fn step(&mut self) -> io::Result<usize>
         ensures { IfOk result (λ count. count ≤ 1) }
     {
@@ -81,8 +81,8 @@ fn a_reader_is_read_and_its_error_told(rt: HostRuntime) {
     assert!(rt; source.take(&mut into) == Taken::Got(1));
 }
 
-// Puts a piece of two bytes, which takes a write for each and a flush, into a writer of which one call fails, and then puts
-// another. A second try of the one that failed would be done.
+/// Puts a piece of two bytes, which takes a write for each and a flush, into a writer of which one call fails, and then puts
+/// another. A second try of the one that failed would be done.
 fn puts_once_more(rt: &impl Abort, failing: usize, is_loud: bool) {
     let mut sink = WriteSink::new(FailsOnce::new(failing, is_loud));
     assert!(rt; sink.put(b"ab") == Put::Failed);

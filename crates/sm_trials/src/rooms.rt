@@ -16,10 +16,9 @@ fn list(rt: &(impl Abort + AllocGlobal), text: &str) -> Vec<u32>
 {
     let mut list = Vec::new(rt.alloc());
     for byte in text.as_bytes() {
-        if list.len() < 99 {
-            list.push(u32::from(*byte).wrapping_sub(48))
-                .expect(rt, MEMORY);
-        }
+        assert!(rt; list.len() < 99);
+        list.push(u32::from(*byte).wrapping_sub(48))
+            .expect(rt, MEMORY);
     }
     list
 }
@@ -30,9 +29,8 @@ fn lists(rt: &(impl Abort + AllocGlobal), text: &str) -> Vec<Vec<u32>>
 {
     let mut lists = Vec::new(rt.alloc());
     for part in text.split('/') {
-        if lists.len() < 99 {
-            lists.push(list(rt, part)).expect(rt, MEMORY);
-        }
+        assert!(rt; lists.len() < 99);
+        lists.push(list(rt, part)).expect(rt, MEMORY);
     }
     lists
 }

@@ -12,7 +12,7 @@ use sm_instance::{Assignment, Instance};
 use sm_seats::Seats;
 use std::process::Abort;
 
-// Who has which lists and levels. Hospital h has the seats 0 and 1, k has seat 2, and z, which has no place, has none.
+/// Who has which lists and levels. Hospital h has the seats 0 and 1, k has seat 2, and z, which has no place, has none.
 fn has_its_lists(rt: &(impl Abort + AllocGlobal), seats: &Seats)
     requires { length seats.now.market.reviewers ≡ length seats.now.seats }
 {
@@ -36,7 +36,7 @@ fn has_its_lists(rt: &(impl Abort + AllocGlobal), seats: &Seats)
     assert!(rt; levels[2].as_slice() == [1, 1, 3].as_slice());
 }
 
-// A matching of an instance takes these places on the lists of its seats, and is found again.
+/// A matching of an instance takes these places on the lists of its seats, and is found again.
 fn takes_seats(
     rt: &(impl Abort + AllocGlobal),
     instance: &Instance,
