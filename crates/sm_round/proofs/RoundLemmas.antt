@@ -1,5 +1,5 @@
 -- What is written for a command, put behind its instance, is judged with yes.
-use Rattle.std.proofs.Common.{◌≡◌, ℕ, ◌+◌, ◌≤◌, ◌++◌, ◌∷◌, [], inl, inr, List, length, map, Option, None, Some, Result, Ok, Err, refl, sym, ap, ◌∙◌, arith, subst, unwrap_or}
+use Rattle.std.proofs.Common.{◌≡◌, ℕ, ◌≤◌, ◌++◌, ◌∷◌, [], inl, inr, List, length, map, Option, None, Some, Result, Ok, Err, refl, sym, ap, ◌∙◌, subst, unwrap_or}
 use Rattle.std.specs.Option.{option_map}
 use Rattle.std.proofs.lemmas.Option.{none-some}
 use Rattle.sm_text.specs.Limits.{most_bytes}

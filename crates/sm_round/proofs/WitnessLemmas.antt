@@ -1,8 +1,10 @@
 -- The texts of specs/Witnesses.antt, computed.
-use Rattle.std.proofs.Common.{◌≡◌, inl, [], ◌∷◌, ◌++◌, take, None, Some, Ok, refl, ap, ◌∙◌, arith}
+use Rattle.std.proofs.Common.{◌≡◌, ℕ, ◌≤◌, inl, [], ◌∷◌, ◌++◌, length, map, take, None, Some, Ok, refl, sym, ap, ◌∙◌, subst, arith}
 use Rattle.std.specs.Fmt as fmt
+use Rattle.sm_text.specs.Limits.{most_bytes}
 use Rattle.sm_text.specs.Name as name
 use Rattle.sm_text.specs.Tokens as token
+use Rattle.sm_instance.specs.declared.inputs.Input.TheVariants.{Two}
 use Rattle.sm_instance.specs.declared.kinds.Measure.TheVariants.{Given}
 use Rattle.sm_instance.specs.declared.kinds.Side.TheVariants.{Proposers}
 use Rattle.sm_reader.specs.Forms as form
@@ -11,9 +13,10 @@ use Rattle.sm_reader.specs.InstanceText as text
 use Rattle.sm_reader.specs.InstanceText.{instance_text}
 use Rattle.sm_report.specs.Heads.{HeadData}
 use Rattle.sm_report.specs.Lines.{LineData}
+use Rattle.sm_report.specs.Texts.{text_of_line}
 use Rattle.sm_answer.specs.Writing.{text_of}
 use Rattle.sm_words.specs.Jobs.{Solve, Weight, Meet}
-use Rattle.sm_agree.specs.Witnesses.{given_twice, given_answer, weighed_answer}
+use Rattle.sm_agree.specs.Witnesses.{given_twice, given_answer, weighed_three, weighed_answer}
 use Rattle.sm_agree.proofs.WitnessLemmas.{one_pair_is}
 use Rattle.sm_agree.proofs.WeightWitness.{weighed_three_is}
 use Rattle.sm_top.specs.Accepting.{accepted, behind_text}
@@ -71,6 +74,11 @@ pair_is_written = (
 )
 
 -- three by three with two weights are, and have this right answer
+-- how long both texts are together
+weighed_length : length (weighed_text ++ text_of (map (text_of_line (Two weighed_three)) weighed_answer)) ≡ 353
+unfolding fmt.digits
+weighed_length = refl
+
 pub weighed_is_written : WeighedIsWritten
 weighed_is_written = record {
   instance = weighed_instance;
@@ -80,5 +88,5 @@ weighed_is_written = record {
     ok = weight_accepted;
     shown = record { answer = weighed_answer; is_right = inl (refl, weighed_three_is.2); shows = refl };
   };
-  short = omega arith;
+  short = subst (λ (n : ℕ). n ≤ most_bytes) (sym weighed_length) (omega arith);
 }
