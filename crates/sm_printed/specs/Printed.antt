@@ -20,7 +20,7 @@ list_text names = codes ":" ++ spaced names
 -- in hospitals each reviewer has its capacity behind its name
 abbrev pub capacity_text : Kind → ℕ → List ℕ
 capacity_text Marriage capacity = []
-capacity_text Hospitals capacity = codes "[" ++ decimal capacity ++ codes "]"
+capacity_text Hospitals capacity = codes " [" ++ decimal capacity ++ codes "]"
 capacity_text Roommates capacity = []
 
 -- the line of a proposer, and in roommates of a person

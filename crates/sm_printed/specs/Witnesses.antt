@@ -45,7 +45,7 @@ hospitals = record {
 -- the lines of the hospitals, by hand
 abbrev pub HospitalsPrinted : Type 0
 HospitalsPrinted = lines_of (Two hospitals) ≡
-    codes "stable 1 hospitals" ∷ codes "p a: h" ∷ codes "r h[12]: a" ∷ codes "r i[1]:" ∷ codes "end" ∷ []
+    codes "stable 1 hospitals" ∷ codes "p a: h" ∷ codes "r h [12]: a" ∷ codes "r i [1]:" ∷ codes "end" ∷ []
 
 -- two persons, of whom one lists itself and the other nobody
 abbrev pub persons : List AgentData

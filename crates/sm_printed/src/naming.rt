@@ -78,11 +78,11 @@ fn put_capacity(into: &mut LineWriter, kind: Kind, capacity: u32) -> Result<(), 
     }
 }
 
-/// Puts a number between `[` and `]`.
+/// Puts a number between `[` and `]`, behind a space.
 fn put_bracketed(into: &mut LineWriter, capacity: u32) -> Result<(), AllocError>
-    ensures { PutsText into.old into.new (codes "[" ++ decimal capacity ++ codes "]") result }
+    ensures { PutsText into.old into.new (codes " [" ++ decimal capacity ++ codes "]") result }
 {
-    into.put_bytes(b"[")?;
+    into.put_bytes(b" [")?;
     into.put_number(u64::from(capacity))?;
     into.put_bytes(b"]")
 }

@@ -21,7 +21,7 @@ use std::alloc::AllocError;
 ///
 /// The lines are the header `stable 1` with the kind, a line `p` for each proposer or person and a line `r` for each reviewer
 /// with their lists, lines `weight`, `force` and `forbid` in the order of the instance, and `end`. One space stands between
-/// tokens, but none before `:`. In hospitals each reviewer has its capacity, as in `r h[2]: a b`. Takes time in the length of
+/// tokens, but none before `:`. In hospitals each reviewer has its capacity, as in `r h [2]: a b`. Takes time in the length of
 /// what is written, and no memory but what the writer needs: none where the line fits the room that is left.
 ///
 /// # Errors

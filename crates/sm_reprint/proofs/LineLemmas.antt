@@ -87,7 +87,7 @@ list_free names are = let colon : IsFree (codes ":") = record { of_LF = refl; of
 pub capacity_free : (kind : Kind) (capacity : ℕ) → capacity < 2 ^ 64 → IsFree (capacity_text kind capacity)
 capacity_free Marriage capacity small = record { of_LF = refl; of_CR = refl }
 capacity_free Hospitals capacity small =
-    let opening : IsFree (codes "[") = record { of_LF = refl; of_CR = refl } in
+    let opening : IsFree (codes " [") = record { of_LF = refl; of_CR = refl } in
     let closing : IsFree (codes "]") = record { of_LF = refl; of_CR = refl } in
     both_free (both_free opening (run_free (decimal capacity) (decimal_is_run capacity small).bytes)) closing
 capacity_free Roommates capacity small = record { of_LF = refl; of_CR = refl }
@@ -148,8 +148,8 @@ bracketed_cut name capacity names is small are =
     let number = decimal capacity in
     let rest = codes "]" ++ list_text names in
     ap tokens (append_assoc name (capacity_text Hospitals capacity) (list_text names))
-    ∙ run_cut name (capacity_text Hospitals capacity ++ list_text names) (name_is_run name is) (no_run (number ++ codes "]" ++ list_text names)).2
-    ∙ ap (λ t. name ∷ t) ((mark_cut (number ++ codes "]" ++ list_text names)).1
+    ∙ run_cut name (capacity_text Hospitals capacity ++ list_text names) (name_is_run name is) (no_run (codes "[" ++ (number ++ codes "]" ++ list_text names))).0
+    ∙ ap (λ t. name ∷ t) (blank_cut (codes "[" ++ (number ++ codes "]" ++ list_text names)) ∙ (mark_cut (number ++ codes "]" ++ list_text names)).1
     ∙ ap (λ t. codes "[" ∷ tokens t) (append_assoc number (codes "]") (list_text names))
     ∙ ap (λ t. codes "[" ∷ t) (run_cut number rest (decimal_is_run capacity small) (no_run (list_text names)).3
     ∙ ap (λ t. number ∷ t) ((mark_cut (list_text names)).2 ∙ ap (λ t. codes "]" ∷ t) (list_cut names are))))

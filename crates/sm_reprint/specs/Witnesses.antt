@@ -36,7 +36,7 @@ hospitals_again = record hospitals {
 
 -- the text of the hospitals means these again
 abbrev pub HospitalsReadBack : Type 0
-HospitalsReadBack = instance_text (printed_text (Two hospitals)) ≡ Ok (record { input = Two hospitals_again; header_line = 1; rest = 49; rest_line = 6 })
+HospitalsReadBack = instance_text (printed_text (Two hospitals)) ≡ Ok (record { input = Two hospitals_again; header_line = 1; rest = 51; rest_line = 6 })
 
 -- the persons with the lines on which they are printed
 abbrev pub persons_again : List AgentData

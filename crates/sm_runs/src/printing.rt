@@ -32,7 +32,7 @@ fn lines_are_printed(rt: HostRuntime) {
 /// The lines of the instance above.
 fn has_lines(rt: &(impl Abort + AllocGlobal), input: &Input) {
     puts(rt, input, 1, "stable 1 hospitals\n");
-    puts(rt, input, 3, "r h[12]: a\n");
+    puts(rt, input, 3, "r h [12]: a\n");
     puts(rt, input, 5, "end\n");
     let mut writer = LineWriter::new(rt.alloc(), 1).expect(rt, MEMORY);
     let put = put_instance_line(&mut writer, input, 6).expect(rt, MEMORY);
