@@ -10,20 +10,20 @@ use Rattle.sm_lists.proofs.PlaceLemmas.{place_of-le, entry-place_of}
 use Rattle.sm_market.proofs.PlaceLemmas.{place_of-entry}
 use Rattle.sm_lists.proofs.RowLemmas.{row_in_range}
 use Rattle.sm_accept.proofs.BestLemmas.{worst_of_reviewers}
-use Rattle.sm_accept.specs.Accepting.{IsHolding, holds, IsProgress, IsEnd, AreEnds, AreBestPlaces}
+use Rattle.sm_accept.specs.Accepting.{IsHolding, holds, IsProgress, EndsAt, AreEnds, AreBestPlaces}
 
 -- the place at which a proposer ends is its next
-end_at : (len next : ℕ) (o : Option ℕ) (i : ℕ) → IsEnd len next o → o ≡ Some i → (i ≡ next) × (i < len)
+end_at : (len next : ℕ) (o : Option ℕ) (i : ℕ) → EndsAt len next o → o ≡ Some i → (i ≡ next) × (i < len)
 end_at len next None i end e = cc
 end_at len next (Some j) i end e = let same : j ≡ i = cc in (omega (arith, end.0), omega (arith, end.1))
 
 -- so it stands there
-end_stands : (len next : ℕ) (o : Option ℕ) → next ≤ len → IsEnd len next o → unwrap_or o len ≡ next
+end_stands : (len next : ℕ) (o : Option ℕ) → next ≤ len → EndsAt len next o → unwrap_or o len ≡ next
 end_stands len next None le end = omega arith
 end_stands len next (Some j) le end = end.0
 
 -- and holds it where it is on the list
-end_holds : (len next : ℕ) (o : Option ℕ) → next < len → IsEnd len next o → o ≡ Some next
+end_holds : (len next : ℕ) (o : Option ℕ) → next < len → EndsAt len next o → o ≡ Some next
 end_holds len next None lt end = absurd (omega arith)
 end_holds len next (Some j) lt end = ap Some end.0
 

@@ -13,7 +13,7 @@ use Rattle.sm_market.proofs.PlaceLemmas.{place_of-entry}
 use Rattle.sm_lists.proofs.RowLemmas.{row_fits}
 use Rattle.sm_lists.proofs.ItemLemmas.{set_cases}
 use Rattle.sm_market.proofs.SeatLemmas.{same_place}
-use Rattle.sm_accept.specs.Accepting.{IsHolding, holds, AreFree, IsProgress, Takes, IsTakenIn, IsTakenFor, IsRefused}
+use Rattle.sm_accept.specs.Accepting.{IsHolding, holds, AreFree, IsProgress, TakesProposal, IsTakenIn, IsTakenFor, IsRejected}
 
 zeros : (n p : ℕ) → let zero : ℕ = 0 in get_or (replicate n zero) p zero ≡ zero
 zeros n p =
@@ -166,7 +166,7 @@ module _ {l : Lists} {b q : ℕ} {next standings : List ℕ} (market : IsMarket 
         record { on_list = on; prefers = subst Q is (omega arith) }
 
     -- the reviewer takes q; `other` is then away
-    took : (other : ℕ) (after : List ℕ) → q < b → r < length l.reviewers → q ≢ other → Takes l q r standings after
+    took : (other : ℕ) (after : List ℕ) → q < b → r < length l.reviewers → q ≢ other → TakesProposal l q r standings after
         → ((s : ℕ) → s ≢ r → IsHolding l standings s → holds l standings s ≢ other)
         → ((p : ℕ) → p ≢ other → place_of l.reviewers r p < length (row l.reviewers r) → get_or standings r 0 ≢ place_of l.reviewers r p)
         → IsProgress l b other next after
@@ -252,7 +252,7 @@ pub record GoesOn (l : Lists) (b q : ℕ) (next standings : List ℕ) : Type 0 w
 
 -- after an answer to a proposal the proposals go on from whom it leaves without a partner
 pub answered : {l : Lists} {b q other : ℕ} {next standings after : List ℕ} → IsMarket l → IsProgress l b q next standings → q < b → get_or next q 0 < length (row l.proposers q)
-    → (let r = entry l.proposers q (get_or next q 0) in IsTakenFor l q r other standings after ⊎ IsRefused l q r other standings after) → GoesOn l b other next after
+    → (let r = entry l.proposers q (get_or next q 0) in IsTakenFor l q r other standings after ⊎ IsRejected l q r other standings after) → GoesOn l b other next after
 answered {l} {b} {q} {other} {next} {standings} {after} market g begun on (inl t) =
     let r : ℕ = entry l.proposers q (get_or next q 0) in
     let made = progress_taken_for market g refl on begun (market.proposers.in_range q (get_or next q 0) on) t in

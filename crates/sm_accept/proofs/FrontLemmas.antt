@@ -7,7 +7,7 @@ use Rattle.sm_market.specs.Matching.{Places, held, IsMatching}
 use Rattle.sm_lists.proofs.Counting.{lt_or_le, eq_or_ne}
 use Rattle.sm_lists.proofs.RowLemmas.{row_in_range}
 use Rattle.sm_market.proofs.Bridge.{held_cases}
-use Rattle.sm_accept.specs.Linking.{IsFront, IsFrontBut, all_ends, cut_ends}
+use Rattle.sm_accept.specs.Linking.{AreReducedEnds, AreReducedEndsBut, all_ends, cut_ends}
 
 all_ends_at : (l : Lists) (r : ℕ) → slice_index (all_ends l) r ≡ length (row l.reviewers r)
 all_ends_at l r = elim (lt_or_le r (length l.reviewers)) [
@@ -16,16 +16,16 @@ all_ends_at l r = elim (lt_or_le r (length l.reviewers)) [
 ]
 
 -- all pairs are held, and all reviewers are left
-pub front_of_all : {l : Lists} {m : Places} → IsMatching l m → IsFrontBut l m (all_ends l) (λ r. 0 ≤ r)
+pub front_of_all : {l : Lists} {m : Places} → IsMatching l m → AreReducedEndsBut l m (all_ends l) (λ r. 0 ≤ r)
 front_of_all {l} f = record {
   above = λ r k e. omega (arith, all_ends_at l r, f.reviewers.on_list r k e);
   tight = λ r k e out. absurd (out (omega arith));
   unmatched = λ r e. all_ends_at l r;
 }
 
-module _ {l : Lists} {m : Places} {ends : List ℕ} {left : ℕ → Type 0} (x : IsFrontBut l m ends left) where
+module _ {l : Lists} {m : Places} {ends : List ℕ} {left : ℕ → Type 0} (x : AreReducedEndsBut l m ends left) where
   -- one reviewer's list is cut
-  pub front_cut : (left' : ℕ → Type 0) (r k : ℕ) → r < length ends → held m.reviewers r ≡ Some k → ((s : ℕ) → s ≢ r → (left' s → ⊥) → left s → ⊥) → IsFrontBut l m (cut_ends ends r k) left'
+  pub front_cut : (left' : ℕ → Type 0) (r k : ℕ) → r < length ends → held m.reviewers r ≡ Some k → ((s : ℕ) → s ≢ r → (left' s → ⊥) → left s → ⊥) → AreReducedEndsBut l m (cut_ends ends r k) left'
   front_cut left' r k inside e fewer = record {
     above = λ s j g. elim (eq_or_ne s r) [
       | inl is ↦ let same : k ≡ j = same_Some _ _ (sym e ∙ ap (held m.reviewers) (sym is) ∙ g) in rw is (omega (arith, here))
@@ -48,7 +48,7 @@ module _ {l : Lists} {m : Places} {ends : List ℕ} {left : ℕ → Type 0} (x :
       there s ne = get_or-set_other ends r s (min (slice_index ends r) (k + 1)) 0 ne
 
   -- an unmatched reviewer's list stays
-  pub front_skip : (left' : ℕ → Type 0) (r : ℕ) → held m.reviewers r ≡ None → ((s : ℕ) → s ≢ r → (left' s → ⊥) → left s → ⊥) → IsFrontBut l m ends left'
+  pub front_skip : (left' : ℕ → Type 0) (r : ℕ) → held m.reviewers r ≡ None → ((s : ℕ) → s ≢ r → (left' s → ⊥) → left s → ⊥) → AreReducedEndsBut l m ends left'
   front_skip left' r e fewer = record {
     above = x.above;
     tight = λ s j g out. elim (eq_or_ne s r) [
@@ -60,14 +60,14 @@ module _ {l : Lists} {m : Places} {ends : List ℕ} {left : ℕ → Type 0} (x :
 
   -- whichever it is
   pub front_one : {ends' : List ℕ} (left' : ℕ → Type 0) (r : ℕ) → r < length ends → ((k : ℕ) → held m.reviewers r ≡ Some k → ends' ≡ cut_ends ends r k) → (held m.reviewers r ≡ None → ends' ≡ ends)
-      → ((s : ℕ) → s ≢ r → (left' s → ⊥) → left s → ⊥) → IsFrontBut l m ends' left'
+      → ((s : ℕ) → s ≢ r → (left' s → ⊥) → left s → ⊥) → AreReducedEndsBut l m ends' left'
   front_one left' r inside cut kept fewer = elim (held_cases l.reviewers m.reviewers r) [
     | inl v ↦ rw (kept v.held_is) (front_skip left' r v.held_is fewer)
     | inr v ↦ rw (cut v.place v.held_is) (front_cut left' r v.place inside v.held_is fewer)
   ]
 
   -- none is left
-  pub front_done : IsMatching l m → ((r : ℕ) → r < length l.reviewers → left r → ⊥) → IsFront l m ends
+  pub front_done : IsMatching l m → ((r : ℕ) → r < length l.reviewers → left r → ⊥) → AreReducedEnds l m ends
   front_done f none = record {
     matched = λ r k e. x.tight r k e (none r (row_in_range l.reviewers r k (f.reviewers.on_list r k e)));
     unmatched = x.unmatched;

@@ -2,7 +2,7 @@
 use Rattle.std.proofs.Common.{◌≡◌, ◌≢◌, ℕ, zero, suc, ◌+◌, ◌-◌, ◌<◌, ◌≤◌, ◌⊎◌, inl, inr, arith, refl, ap, List, Option, Some, None, MatchOption, length, get_or}
 use Rattle.sm_market.specs.Lists.{Lists, row}
 use Rattle.sm_lists.proofs.Counting.{less_same_more}
-use Rattle.sm_accept.specs.Linking.{IsHeld, IsFirstHeld, IsHeldBehind, IsIn, Follows, AreStarts}
+use Rattle.sm_accept.specs.Linking.{HoldsPair, IsFirstHeld, IsHeldBehind, IsNumberIn, Follows, AreStarts}
 
 module _ {l : Lists} {starts : List ℕ} (s : AreStarts l starts) where
   -- the links of a later proposer stand behind those of an earlier one
@@ -35,17 +35,17 @@ module _ {l : Lists} {starts : List ℕ} (s : AreStarts l starts) where
   link_in_range p j hp hj = omega (arith, starts_below p (length l.proposers) hp (omega arith))
 
 -- what is in is no further than behind the list
-pub in_le : {l : Lists} {ends : List ℕ} {p j : ℕ} → IsIn l ends p j → j ≤ length (row l.proposers p) + 1
+pub in_le : {l : Lists} {ends : List ℕ} {p j : ℕ} → IsNumberIn l ends p j → j ≤ length (row l.proposers p) + 1
 in_le (inl (inl e)) = omega arith
 in_le (inl (inr e)) = omega arith
 in_le (inr w) = let on = w.held.on_list in let e = w.number in omega arith
 
 -- a held place's number is in
-pub held_in : {l : Lists} {ends : List ℕ} {p i : ℕ} → IsHeld l ends p i → IsIn l ends p (i + 1)
+pub held_in : {l : Lists} {ends : List ℕ} {p i : ℕ} → HoldsPair l ends p i → IsNumberIn l ends p (i + 1)
 held_in {i = i} h = inr (record { place = i; number = refl; held = h })
 
 -- and a number on the list that is in has a held place
-pub in_held : {l : Lists} {ends : List ℕ} {p j : ℕ} → IsIn l ends p j → 0 < j → j ≤ length (row l.proposers p) → IsHeld l ends p (j - 1)
+pub in_held : {l : Lists} {ends : List ℕ} {p j : ℕ} → IsNumberIn l ends p j → 0 < j → j ≤ length (row l.proposers p) → HoldsPair l ends p (j - 1)
 in_held (inl (inl e)) some on = absurd (omega arith)
 in_held (inl (inr e)) some on = absurd (omega arith)
 in_held {l} {ends} {p} {j} (inr w) some on = let e : w.place ≡ j - 1 = let n = w.number in omega arith in rw e at w.held
@@ -66,18 +66,18 @@ held_behind {l} {ends} {p} {i} {k} {n} f on e = let e' : k - 1 ≡ n = omega ari
 }
 
 -- nothing is held behind where the end of the list follows
-none_behind : {l : Lists} {ends : List ℕ} {p n k : ℕ} → Follows l ends p n k → length (row l.proposers p) < k → (i : ℕ) → n ≤ i → ¬ IsHeld l ends p i
+none_behind : {l : Lists} {ends : List ℕ} {p n k : ℕ} → Follows l ends p n k → length (row l.proposers p) < k → (i : ℕ) → n ≤ i → ¬ HoldsPair l ends p i
 none_behind {l} {ends} {p} {n} {k} f past i more h = let on = h.on_list in f.between (i + 1) (omega arith) (omega arith) (held_in h)
 
 -- the answers that the number behind the front, or behind a held place, gives
 pub first_answer : {l : Lists} {ends : List ℕ} {p k : ℕ} → Follows l ends p 0 k → (o : Option ℕ) → MatchOption o (length (row l.proposers p) < k) (λ i. (k ≤ length (row l.proposers p)) × (k ≡ i + 1))
-    → MatchOption o ((i : ℕ) → ¬ IsHeld l ends p i) (λ i. IsFirstHeld l ends p i)
+    → MatchOption o ((i : ℕ) → ¬ HoldsPair l ends p i) (λ i. IsFirstHeld l ends p i)
 first_answer f None past = λ i. none_behind f past i (omega arith)
 first_answer f (Some i) at = first_held f at.0 at.1
 
 -- the number that follows tells the next held place behind a place, or that there is none
 pub behind_answer : {l : Lists} {ends : List ℕ} {p k : ℕ} (i : ℕ) → Follows l ends p (i + 1) k → (o : Option ℕ) → MatchOption o (length (row l.proposers p) < k) (λ n. (k ≤ length (row l.proposers p)) × (k ≡ n + 1))
-    → MatchOption o ((n : ℕ) → i < n → ¬ IsHeld l ends p n) (λ n. IsHeldBehind l ends p i n)
+    → MatchOption o ((n : ℕ) → i < n → ¬ HoldsPair l ends p n) (λ n. IsHeldBehind l ends p i n)
 behind_answer i f None past = λ n more. none_behind f past n (omega arith)
 behind_answer i f (Some n) at = held_behind f at.0 at.1
 
@@ -97,9 +97,9 @@ followed_once {j = j} {n = n} x y = elim (less_same_more j n) [
 
 -- number x of p's list is taken out, and all else stays
 pub record IsTakenOut (l : Lists) (ends ends' : List ℕ) (p x : ℕ) : Type 0 where
-  pub still_in : (q j : ℕ) → IsIn l ends' q j → IsIn l ends q j
-  pub gone : ¬ IsIn l ends' p x
-  pub stays : (q j : ℕ) → IsIn l ends q j → (q ≢ p) ⊎ (j ≢ x) → IsIn l ends' q j
+  pub still_in : (q j : ℕ) → IsNumberIn l ends' q j → IsNumberIn l ends q j
+  pub gone : ¬ IsNumberIn l ends' p x
+  pub stays : (q j : ℕ) → IsNumberIn l ends q j → (q ≢ p) ⊎ (j ≢ x) → IsNumberIn l ends' q j
 
 module _ {l : Lists} {ends ends' : List ℕ} {p x : ℕ} (t : IsTakenOut l ends ends' p x) where
   -- the ones on both sides of it follow each other
@@ -115,5 +115,5 @@ module _ {l : Lists} {ends ends' : List ℕ} {p x : ℕ} (t : IsTakenOut l ends 
   }
 
   -- and elsewhere nothing changes
-  pub follows_still : {q j k : ℕ} → Follows l ends q j k → IsIn l ends' q j → IsIn l ends' q k → Follows l ends' q j k
+  pub follows_still : {q j k : ℕ} → Follows l ends q j k → IsNumberIn l ends' q j → IsNumberIn l ends' q k → Follows l ends' q j k
   follows_still f lower upper = record { lower = lower; upper = upper; rising = f.rising; between = λ y more less h. f.between y more less (t.still_in _ y h) }

@@ -5,7 +5,7 @@ use Rattle.sm_market.specs.Lists.{Lists, row, entry, place_of, IsMarket}
 use Rattle.sm_lists.proofs.Counting.{lt_or_le, eq_or_ne}
 use Rattle.sm_lists.proofs.PlaceLemmas.{entry-place_of}
 use Rattle.sm_market.proofs.PlaceLemmas.{place_of-entry}
-use Rattle.sm_accept.specs.Linking.{Linking, IsHeld, IsIn, Follows, AreStarts, AreAllLinked, IsLinkedOf, link_at, all_ends}
+use Rattle.sm_accept.specs.Linking.{Linking, HoldsPair, IsNumberIn, Follows, AreStarts, AreAllLinked, IsLinkedOf, link_at, all_ends}
 use Rattle.sm_accept.proofs.LinkLemmas.{apart, link_in_range, in_le, held_in, follows_once, followed_once, IsTakenOut, follows_join, follows_still}
 
 -- number j of q's list stands before number k of p's
@@ -71,10 +71,10 @@ all_at l r = elim (lt_or_le r (length l.reviewers)) [
 ]
 
 module _ {l : Lists} (market : IsMarket l) where
-  all_held : (p i : ℕ) → i < length (row l.proposers p) → IsHeld l (all_ends l) p i
+  all_held : (p i : ℕ) → i < length (row l.proposers p) → HoldsPair l (all_ends l) p i
   all_held p i on = record { on_list = on; in_front = omega (arith, all_at l (entry l.proposers p i), market.proposers.returned p i on) }
 
-  all_in : (p j : ℕ) → j ≤ length (row l.proposers p) + 1 → IsIn l (all_ends l) p j
+  all_in : (p j : ℕ) → j ≤ length (row l.proposers p) + 1 → IsNumberIn l (all_ends l) p j
   all_in p j h = elim (eq_or_ne j 0) [
     | inl e ↦ inl (inl e)
     | inr some ↦ elim (eq_or_ne j (length (row l.proposers p) + 1)) [
@@ -124,10 +124,10 @@ module _ {l : Lists} {v : Linking} {r : ℕ} (last : ℕ) (market : IsMarket l) 
   in_ends = omega (arith, made.ends_each)
 
   -- and the pair is held
-  pub last_held : IsHeld l v.ends (entry l.reviewers r last) (place_of l.proposers (entry l.reviewers r last) r)
+  pub last_held : HoldsPair l v.ends (entry l.reviewers r last) (place_of l.proposers (entry l.reviewers r last) r)
   last_held = record { on_list = listed; in_front = rw there (omega (arith, rank)) }
 
-  held_still : (q j : ℕ) → IsHeld l (set v.ends r last) q j → IsHeld l v.ends q j
+  held_still : (q j : ℕ) → HoldsPair l (set v.ends r last) q j → HoldsPair l v.ends q j
   held_still q j h = record {
     on_list = h.on_list;
     in_front = let front = h.in_front in elim (eq_or_ne (entry l.proposers q j) r) [
@@ -137,10 +137,10 @@ module _ {l : Lists} {v : Linking} {r : ℕ} (last : ℕ) (market : IsMarket l) 
     ];
   }
 
-  held_gone : ¬ IsHeld l (set v.ends r last) (entry l.reviewers r last) (place_of l.proposers (entry l.reviewers r last) r)
+  held_gone : ¬ HoldsPair l (set v.ends r last) (entry l.reviewers r last) (place_of l.proposers (entry l.reviewers r last) r)
   held_gone h = let front = rw there at h.in_front in let now = get_or-set_same v.ends r last 0 in_ends in omega (arith, rank)
 
-  held_stays : (q j : ℕ) → IsHeld l v.ends q j → (q ≢ entry l.reviewers r last) ⊎ (j ≢ place_of l.proposers (entry l.reviewers r last) r) → IsHeld l (set v.ends r last) q j
+  held_stays : (q j : ℕ) → HoldsPair l v.ends q j → (q ≢ entry l.reviewers r last) ⊎ (j ≢ place_of l.proposers (entry l.reviewers r last) r) → HoldsPair l (set v.ends r last) q j
   held_stays q j h other = record {
     on_list = h.on_list;
     in_front = let front = h.in_front in elim (eq_or_ne (entry l.proposers q j) r) [
@@ -163,16 +163,16 @@ module _ {l : Lists} {v : Linking} {r : ℕ} (last : ℕ) (market : IsMarket l) 
   pub taken_out : IsTakenOut l v.ends (set v.ends r last) (entry l.reviewers r last) (place_of l.proposers (entry l.reviewers r last) r + 1)
   taken_out = record { still_in = still; gone = gone; stays = stays }
     where
-      still : (q j : ℕ) → IsIn l (set v.ends r last) q j → IsIn l v.ends q j
+      still : (q j : ℕ) → IsNumberIn l (set v.ends r last) q j → IsNumberIn l v.ends q j
       still q j (inl e) = inl e
       still q j (inr w) = inr (record { place = w.place; number = w.number; held = held_still q w.place w.held })
 
-      gone : ¬ IsIn l (set v.ends r last) (entry l.reviewers r last) (place_of l.proposers (entry l.reviewers r last) r + 1)
+      gone : ¬ IsNumberIn l (set v.ends r last) (entry l.reviewers r last) (place_of l.proposers (entry l.reviewers r last) r + 1)
       gone (inl (inl e)) = omega arith
       gone (inl (inr e)) = omega (arith, listed)
       gone (inr w) = let n = w.number in let same : w.place ≡ place_of l.proposers (entry l.reviewers r last) r = omega arith in held_gone (rw same at w.held)
 
-      stays : (q j : ℕ) → IsIn l v.ends q j → (q ≢ entry l.reviewers r last) ⊎ (j ≢ place_of l.proposers (entry l.reviewers r last) r + 1) → IsIn l (set v.ends r last) q j
+      stays : (q j : ℕ) → IsNumberIn l v.ends q j → (q ≢ entry l.reviewers r last) ⊎ (j ≢ place_of l.proposers (entry l.reviewers r last) r + 1) → IsNumberIn l (set v.ends r last) q j
       stays q j (inl e) _ = inl e
       stays q j (inr w) other = inr (record { place = w.place; number = w.number; held = held_stays q w.place w.held (elim other [ inl ne ↦ inl ne | inr ne ↦ inr (λ e. ne (w.number ∙ ap (λ x. x + 1) e)) ]) })
 
@@ -243,7 +243,7 @@ module _ {l : Lists} {v : Linking} {r : ℕ} (last : ℕ) (market : IsMarket l) 
         still_back : (q j : ℕ) → q < length l.proposers → j ≤ length (row l.proposers q) + 1 → ((q ≡ p) × (j ≡ n) → ⊥) → link_at v.starts (set v.before (get_or v.starts p 0 + n) b) q j ≡ link_at v.starts v.before q j
         still_back q j hq hj ne = get_or-set_other v.before (get_or v.starts p 0 + n) (get_or v.starts q 0 + j) b 0 (λ e. ne (apart made.starts q p j n hq hp (omega arith) n_le e))
 
-        forward : (q j : ℕ) → q < length l.proposers → j ≤ length (row l.proposers q) → IsIn l (set v.ends r last) q j → (q ≡ p) ⊎ (q ≢ p) → (j ≡ b) ⊎ (j ≢ b) → Follows l (set v.ends r last) q j (link_at v.starts (set v.next (get_or v.starts p 0 + b) n) q j)
+        forward : (q j : ℕ) → q < length l.proposers → j ≤ length (row l.proposers q) → IsNumberIn l (set v.ends r last) q j → (q ≡ p) ⊎ (q ≢ p) → (j ≡ b) ⊎ (j ≢ b) → Follows l (set v.ends r last) q j (link_at v.starts (set v.next (get_or v.starts p 0 + b) n) q j)
         forward q j hq hj h (inl same) (inl e) = rw (same, e, get_or-set_same v.next (get_or v.starts p 0 + b) n 0 before_in_range) (follows_join out f g)
         forward q j hq hj h (inl same) (inr ne) =
             let old = made.next q j hq hj (out.still_in q j h) in
@@ -253,7 +253,7 @@ module _ {l : Lists} {v : Linking} {r : ℕ} (last : ℕ) (market : IsMarket l) 
             let old = made.next q j hq hj (out.still_in q j h) in
             rw (still_forward q j hq hj (λ w. ne w.0)) (follows_still out old h (out.stays q _ old.upper (inl ne)))
 
-        back : (q j : ℕ) → q < length l.proposers → 0 < j → j ≤ length (row l.proposers q) + 1 → IsIn l (set v.ends r last) q j → (q ≡ p) ⊎ (q ≢ p) → (j ≡ n) ⊎ (j ≢ n) → Follows l (set v.ends r last) q (link_at v.starts (set v.before (get_or v.starts p 0 + n) b) q j) j
+        back : (q j : ℕ) → q < length l.proposers → 0 < j → j ≤ length (row l.proposers q) + 1 → IsNumberIn l (set v.ends r last) q j → (q ≡ p) ⊎ (q ≢ p) → (j ≡ n) ⊎ (j ≢ n) → Follows l (set v.ends r last) q (link_at v.starts (set v.before (get_or v.starts p 0 + n) b) q j) j
         back q j hq some hj h (inl same) (inl e) = rw (same, e, get_or-set_same v.before (get_or v.starts p 0 + n) b 0 next_in_range) (follows_join out f g)
         back q j hq some hj h (inl same) (inr ne) =
             let old = made.before q j hq some hj (out.still_in q j h) in

@@ -15,7 +15,7 @@ use Rattle.sm_lists.proofs.Counting.{lt_or_le, eq_or_ne}
 use Rattle.sm_market.proofs.LawsProved.{same_agents, proposers_best_is_worst}
 use Rattle.sm_market.proofs.PlaceLemmas.{place_of-entry}
 use Rattle.sm_lists.proofs.RowLemmas.{row_in_range}
-use Rattle.sm_accept.specs.Linking.{IsHeld, IsFirstHeld, IsHeldBehind, IsFront}
+use Rattle.sm_accept.specs.Linking.{HoldsPair, IsFirstHeld, IsHeldBehind, AreReducedEnds}
 use Rattle.sm_accept.specs.Reducing.{KeepsStablePairs}
 
 -- two tests pass together in either order
@@ -53,7 +53,7 @@ filter_to test xs i k le on fails =
     rw e at (filter_skip test xs i (k - i) (omega arith) (λ j a b. fails j a (omega arith)))
 
 -- whoever stands behind the front of a reviewer's list isn't kept
-pub not_front_fails : {l : Lists} {first : Places} (last : Places) {ends : List ℕ} → IsFront l first ends → (p j : ℕ) → j < length (row l.proposers p) → ¬ IsHeld l ends p j
+pub not_front_fails : {l : Lists} {first : Places} (last : Places) {ends : List ℕ} → AreReducedEnds l first ends → (p j : ℕ) → j < length (row l.proposers p) → ¬ HoldsPair l ends p j
     → let r = entry l.proposers p j in (is_no_worse l.proposers last.proposers p r && is_no_worse l.reviewers first.reviewers r p) ≡ false
 not_front_fails {l} {first} last {ends} f p j on out = and_right (is_no_worse l.proposers last.proposers p r) (is_no_worse l.reviewers first.reviewers r p) (worse (held_cases l.reviewers first.reviewers r))
   where
@@ -77,12 +77,12 @@ kept_of l first last p = λ r. is_no_worse l.proposers last.proposers p r && is_
 -- what is kept so far is what is to be kept of the front before the next held place
 pub record IsKeptTo (l : Lists) (first last : Places) (ends : List ℕ) (p : ℕ) (next : Option ℕ) (kept : List ℕ) : Type 0 where
   pub so_far : kept ≡ filter (kept_of l first last p) (take (unwrap_or next (length (row l.proposers p))) (row l.proposers p))
-  pub held : MatchOption next (Unit {0}) (λ i. IsHeld l ends p i)
+  pub held : MatchOption next (Unit {0}) (λ i. HoldsPair l ends p i)
 
-module _ {l : Lists} {first last : Places} {ends : List ℕ} {p : ℕ} (f : IsFront l first ends) where
+module _ {l : Lists} {first last : Places} {ends : List ℕ} {p : ℕ} (f : AreReducedEnds l first ends) where
   -- no place from `from` on is held before the next one
   kept_on : (from : ℕ) (next : Option ℕ) (kept : List ℕ) → from ≤ unwrap_or next (length (row l.proposers p)) → unwrap_or next (length (row l.proposers p)) ≤ length (row l.proposers p)
-      → ((j : ℕ) → from ≤ j → j < unwrap_or next (length (row l.proposers p)) → ¬ IsHeld l ends p j) → MatchOption next (Unit {0}) (λ i. IsHeld l ends p i)
+      → ((j : ℕ) → from ≤ j → j < unwrap_or next (length (row l.proposers p)) → ¬ HoldsPair l ends p j) → MatchOption next (Unit {0}) (λ i. HoldsPair l ends p i)
       → kept ≡ filter (kept_of l first last p) (take from (row l.proposers p)) → IsKeptTo l first last ends p next kept
   kept_on from next kept le on none held is = record {
     so_far = is ∙ sym (filter_to (kept_of l first last p) (row l.proposers p) from (unwrap_or next (length (row l.proposers p))) le on
@@ -91,19 +91,19 @@ module _ {l : Lists} {first last : Places} {ends : List ℕ} {p : ℕ} (f : IsFr
   }
 
   -- before the first held place nothing is kept
-  pub kept_first : (next : Option ℕ) (kept : List ℕ) → kept ≡ [] → MatchOption next ((i : ℕ) → ¬ IsHeld l ends p i) (λ i. IsFirstHeld l ends p i) → IsKeptTo l first last ends p next kept
+  pub kept_first : (next : Option ℕ) (kept : List ℕ) → kept ≡ [] → MatchOption next ((i : ℕ) → ¬ HoldsPair l ends p i) (λ i. IsFirstHeld l ends p i) → IsKeptTo l first last ends p next kept
   kept_first None kept is none = kept_on 0 None kept (omega arith) (omega arith) (λ j a b. none j) tt is
   kept_first (Some i) kept is w = kept_on 0 (Some i) kept (omega arith) (omega (arith, w.held.on_list)) (λ j a b. w.earlier j b) w.held is
 
   -- the item at a held place is kept or not, and the next held place comes
   pub kept_next : (i x : ℕ) (t : Bool) (before after : List ℕ) (next : Option ℕ) → IsKeptTo l first last ends p (Some i) before → x ≡ entry l.proposers p i → t ≡ kept_of l first last p x
-      → after ≡ before ++ cond t (x ∷ []) [] → MatchOption next ((k : ℕ) → i < k → ¬ IsHeld l ends p k) (λ k. IsHeldBehind l ends p i k) → IsKeptTo l first last ends p next after
+      → after ≡ before ++ cond t (x ∷ []) [] → MatchOption next ((k : ℕ) → i < k → ¬ HoldsPair l ends p k) (λ k. IsHeldBehind l ends p i k) → IsKeptTo l first last ends p next after
   kept_next i x t before after next w is tested added behind = go next behind
     where
       step : after ≡ filter (kept_of l first last p) (take (i + 1) (row l.proposers p))
       step = filter_step (kept_of l first last p) (row l.proposers p) i x t before after w.held.on_list is tested w.so_far added
 
-      go : (next : Option ℕ) → MatchOption next ((k : ℕ) → i < k → ¬ IsHeld l ends p k) (λ k. IsHeldBehind l ends p i k) → IsKeptTo l first last ends p next after
+      go : (next : Option ℕ) → MatchOption next ((k : ℕ) → i < k → ¬ HoldsPair l ends p k) (λ k. IsHeldBehind l ends p i k) → IsKeptTo l first last ends p next after
       go None none = kept_on (i + 1) None after (omega (arith, w.held.on_list)) (omega arith) (λ j a b. none j (omega arith)) tt step
       go (Some k) v = kept_on (i + 1) (Some k) after (omega (arith, v.behind)) (omega (arith, v.held.on_list)) (λ j a b. v.between j (omega arith) b) v.held step
 

@@ -38,36 +38,36 @@ pub record IsProgress (l : Lists) (begun away : ℕ) (next standings : List ℕ)
   pub best : (n : Places) → IsStable l n → (p : ℕ) → slice_index next p ≤ standing l.proposers n.proposers p
 
 -- the reviewer takes p in the place of whom it holds, if anybody
-pub record Takes (l : Lists) (p r : ℕ) (before after : List ℕ) : Type 0 where
+pub record TakesProposal (l : Lists) (p r : ℕ) (before after : List ℕ) : Type 0 where
   pub prefers : place_of l.reviewers r p < slice_index before r
   pub stands : after ≡ slice_set before r (place_of l.reviewers r p)
 
 -- a free reviewer takes p
 pub record IsTakenIn (l : Lists) (p r : ℕ) (before after : List ℕ) : Type 0 where
-  pub takes : Takes l p r before after
+  pub takes : TakesProposal l p r before after
   pub was_free : slice_index before r ≡ length (row l.reviewers r)
 
 -- the reviewer takes p and lets go of q
 pub record IsTakenFor (l : Lists) (p r q : ℕ) (before after : List ℕ) : Type 0 where
-  pub takes : Takes l p r before after
+  pub takes : TakesProposal l p r before after
   pub held_one : IsHolding l before r
   pub lets_go : q ≡ holds l before r
 
 -- the reviewer keeps whom it holds
-pub record IsRefused (l : Lists) (p r q : ℕ) (before after : List ℕ) : Type 0 where
+pub record IsRejected (l : Lists) (p r q : ℕ) (before after : List ℕ) : Type 0 where
   pub keeps : slice_index before r ≤ place_of l.reviewers r p
   pub same : after ≡ before
   pub refused : q ≡ p
 
 -- where a proposer with a list of this length ends: at its next place, or unmatched where that is past the list
-abbrev pub IsEnd : ℕ → ℕ → Option ℕ → Type 0
-IsEnd len next None = len ≤ next
-IsEnd len next (Some place) = (place ≡ next) × (place < len)
+abbrev pub EndsAt : ℕ → ℕ → Option ℕ → Type 0
+EndsAt len next None = len ≤ next
+EndsAt len next (Some place) = (place ≡ next) × (place < len)
 
 -- where all proposers end
 pub record AreEnds (l : Lists) (next : List ℕ) (places : List (Option ℕ)) : Type 0 where
   pub one_each : length places ≡ length l.proposers
-  pub ends : (p : ℕ) → p < length l.proposers → IsEnd (length (row l.proposers p)) (slice_index next p) (held places p)
+  pub ends : (p : ℕ) → p < length l.proposers → EndsAt (length (row l.proposers p)) (slice_index next p) (held places p)
 
 -- places that no two proposers share, on their lists, and that are those of the proposers' best, the worst of reviewers
 pub record AreBestPlaces (l : Lists) (places : List (Option ℕ)) : Type 0 where

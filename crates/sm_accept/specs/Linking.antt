@@ -16,7 +16,7 @@ abbrev pub linking : (ends starts next before : List ℕ) → Linking
 linking ends starts next before = record { ends = ends; starts = starts; next = next; before = before }
 
 -- a set with these ends holds the pair at place i of p's list
-pub record IsHeld (l : Lists) (ends : List ℕ) (p i : ℕ) : Type 0 where
+pub record HoldsPair (l : Lists) (ends : List ℕ) (p i : ℕ) : Type 0 where
   pub on_list : i < length (row l.proposers p)
   pub in_front : let r = entry l.proposers p i in place_of l.reviewers r p < slice_index ends r
 
@@ -30,23 +30,23 @@ cut_ends ends r place = slice_set ends r (min (slice_index ends r) (place + 1))
 
 -- i is p's first held place
 pub record IsFirstHeld (l : Lists) (ends : List ℕ) (p i : ℕ) : Type 0 where
-  pub held : IsHeld l ends p i
-  pub earlier : (j : ℕ) → j < i → ¬ IsHeld l ends p j
+  pub held : HoldsPair l ends p i
+  pub earlier : (j : ℕ) → j < i → ¬ HoldsPair l ends p j
 
 -- k is p's first held place behind its place i
 pub record IsHeldBehind (l : Lists) (ends : List ℕ) (p i k : ℕ) : Type 0 where
-  pub held : IsHeld l ends p k
+  pub held : HoldsPair l ends p k
   pub behind : i < k
-  pub between : (j : ℕ) → i < j → j < k → ¬ IsHeld l ends p j
+  pub between : (j : ℕ) → i < j → j < k → ¬ HoldsPair l ends p j
 
 -- ends that hold the front of each matched reviewer's list up to its partner, and the whole list of each unmatched one
 -- (Gusfield and Irving 1989, section 1.2.4)
-pub record IsFront (l : Lists) (m : Places) (ends : List ℕ) : Type 0 where
+pub record AreReducedEnds (l : Lists) (m : Places) (ends : List ℕ) : Type 0 where
   pub matched : (r k : ℕ) → held m.reviewers r ≡ Some k → slice_index ends r ≡ k + 1
   pub unmatched : (r : ℕ) → held m.reviewers r ≡ None → slice_index ends r ≡ length (row l.reviewers r)
 
 -- the front of each matched reviewer's list is held, and no more than that, save of those that are left to be cut
-pub record IsFrontBut (l : Lists) (m : Places) (ends : List ℕ) (left : ℕ → Type 0) : Type 0 where
+pub record AreReducedEndsBut (l : Lists) (m : Places) (ends : List ℕ) (left : ℕ → Type 0) : Type 0 where
   pub above : (r k : ℕ) → held m.reviewers r ≡ Some k → k + 1 ≤ slice_index ends r
   pub tight : (r k : ℕ) → held m.reviewers r ≡ Some k → (left r → ⊥) → slice_index ends r ≡ k + 1
   pub unmatched : (r : ℕ) → held m.reviewers r ≡ None → slice_index ends r ≡ length (row l.reviewers r)
@@ -56,18 +56,18 @@ pub record IsFrontBut (l : Lists) (m : Places) (ends : List ℕ) (left : ℕ →
 pub record IsHeldNumber (l : Lists) (ends : List ℕ) (p j : ℕ) : Type 0 where
   pub place : ℕ
   pub number : j ≡ place + 1
-  pub held : IsHeld l ends p place
+  pub held : HoldsPair l ends p place
 
 -- number j of p's list is in: it is the first or the last, or its place is held
-abbrev pub IsIn : Lists → List ℕ → (p j : ℕ) → Type 0
-IsIn l ends p j = ((j ≡ 0) ⊎ (j ≡ length (row l.proposers p) + 1)) ⊎ IsHeldNumber l ends p j
+abbrev pub IsNumberIn : Lists → List ℕ → (p j : ℕ) → Type 0
+IsNumberIn l ends p j = ((j ≡ 0) ⊎ (j ≡ length (row l.proposers p) + 1)) ⊎ IsHeldNumber l ends p j
 
 -- k follows j among the numbers that are in
 pub record Follows (l : Lists) (ends : List ℕ) (p j k : ℕ) : Type 0 where
-  pub lower : IsIn l ends p j
-  pub upper : IsIn l ends p k
+  pub lower : IsNumberIn l ends p j
+  pub upper : IsNumberIn l ends p k
   pub rising : j < k
-  pub between : (x : ℕ) → j < x → x < k → ¬ IsIn l ends p x
+  pub between : (x : ℕ) → j < x → x < k → ¬ IsNumberIn l ends p x
 
 -- the links of all proposers stand in one list, those of each behind those of the one before it
 pub record AreStarts (l : Lists) (starts : List ℕ) : Type 0 where
@@ -92,5 +92,5 @@ pub record IsLinkedOf (l : Lists) (v : Linking) : Type 0 where
   pub starts : AreStarts l v.starts
   pub next_each : length v.next ≡ slice_index v.starts (length l.proposers)
   pub before_each : length v.before ≡ slice_index v.starts (length l.proposers)
-  pub next : (p j : ℕ) → p < length l.proposers → j ≤ length (row l.proposers p) → IsIn l v.ends p j → Follows l v.ends p j (link_at v.starts v.next p j)
-  pub before : (p j : ℕ) → p < length l.proposers → 0 < j → j ≤ length (row l.proposers p) + 1 → IsIn l v.ends p j → Follows l v.ends p (link_at v.starts v.before p j) j
+  pub next : (p j : ℕ) → p < length l.proposers → j ≤ length (row l.proposers p) → IsNumberIn l v.ends p j → Follows l v.ends p j (link_at v.starts v.next p j)
+  pub before : (p j : ℕ) → p < length l.proposers → 0 < j → j ≤ length (row l.proposers p) + 1 → IsNumberIn l v.ends p j → Follows l v.ends p (link_at v.starts v.before p j) j

@@ -9,7 +9,7 @@ ghost use Rattle.sm_market.specs.Lists.{row, entry, IsMarket};
 ghost use Rattle.sm_market.specs.Limits.{IsWithinLimits};
 ghost use Rattle.sm_market.specs.Stable.{IsProposersBest, IsReviewersBest};
 ghost use Rattle.sm_market.specs.Pairing.{IsPairingOf};
-ghost use Rattle.sm_accept.specs.Accepting.{AreFree, IsProgress, IsTakenIn, IsTakenFor, IsRefused, AreEnds, AreBestPlaces};
+ghost use Rattle.sm_accept.specs.Accepting.{AreFree, IsProgress, IsTakenIn, IsTakenFor, IsRejected, AreEnds, AreBestPlaces};
 ghost use Rattle.sm_accept.specs.Bests.{IsWorstOfReviewers, IsBestOfReviewers};
 
 use sm_market::{Market, Pairing};
@@ -52,12 +52,12 @@ pub fn reviewer_best(alloc: Global, market: &Market) -> Result<Pairing, AllocErr
     let swapped = market.swapped(alloc)?;
     let best = proposer_best(alloc, &swapped)?;
     let mut places = vec![in alloc; None; market.proposers() as usize]?;
-    own_places(&swapped, &best, &mut places);
+    copy_places(&swapped, &best, &mut places);
     Pairing::held(alloc, market, &places)
 }
 
 /// Writes the place that each reviewer of a pairing holds.
-fn own_places(market: &Market, m: &Pairing, places: &mut [Option<u32>])
+fn copy_places(market: &Market, m: &Pairing, places: &mut [Option<u32>])
     requires made { IsPairingOf market.now m.now }
     requires one_each { length places.old ≡ length market.now.reviewers }
     ensures { places.new ≡ m.now.places.reviewers }
@@ -76,16 +76,16 @@ fn best_places(alloc: Global, market: &Market) -> Result<Vec<Option<u32>>, Alloc
     let mut places = vec![in alloc; None; market.proposers() as usize]?;
     let next = next.as_mut_slice();
     let standings = standings.as_mut_slice();
-    free_all(market, standings);
+    free_reviewers(market, standings);
     for p in 0..market.proposers() {
-        let_go(market, p, next, standings);
+        let_propose(market, p, next, standings);
     }
-    end_all(market, next, places.as_mut_slice());
+    set_places(market, next, places.as_mut_slice());
     Ok(places)
 }
 
 /// Sets every reviewer free, each one past its list.
-fn free_all(market: &Market, standings: &mut [u32])
+fn free_reviewers(market: &Market, standings: &mut [u32])
     requires { length standings.old ≡ length market.now.reviewers }
     ensures { AreFree market.now standings.new }
 {
@@ -96,7 +96,7 @@ fn free_all(market: &Market, standings: &mut [u32])
 
 /// Lets one more proposer propose, and in turn each one that is turned down, until a free reviewer takes one or one is
 /// at the end of its list.
-fn let_go(market: &Market, p: u32, next: &mut [u32], standings: &mut [u32])
+fn let_propose(market: &Market, p: u32, next: &mut [u32], standings: &mut [u32])
     requires in_range { p < length market.now.proposers }
     requires market { IsMarket market.now }
     requires limits { IsWithinLimits market.now }
@@ -124,7 +124,7 @@ fn propose(market: &Market, p: u32, place: u32, standings: &mut [u32]) -> Option
     ensures { let r = entry market.now.proposers p place in MatchOption result
         (IsTakenIn market.now p r standings.old standings.new)
         (λ q. IsTakenFor market.now p r q standings.old standings.new
-        ⊎ IsRefused market.now p r q standings.old standings.new) }
+        ⊎ IsRejected market.now p r q standings.old standings.new) }
 {
     let r = market.reviewer_at(p, place);
     let offered = market.cross(p, place);
@@ -141,7 +141,7 @@ fn propose(market: &Market, p: u32, place: u32, standings: &mut [u32]) -> Option
 }
 
 /// Ends each proposer at its next place, and those at the end of their lists unmatched.
-fn end_all(market: &Market, next: &[u32], places: &mut [Option<u32>])
+fn set_places(market: &Market, next: &[u32], places: &mut [Option<u32>])
     requires next_each { length next.now ≡ length market.now.proposers }
     requires places { places.old ≡ replicate (length market.now.proposers) None }
     ensures { AreEnds market.now next.now places.new }

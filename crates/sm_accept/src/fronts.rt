@@ -4,7 +4,7 @@ ghost use Rattle.std.specs.Prelude.{◌≡◌, ℕ, ◌<◌, length, Some, None}
 ghost use Rattle.sm_market.specs.Lists.{IsMarket};
 ghost use Rattle.sm_market.specs.Matching.{held};
 ghost use Rattle.sm_market.specs.Pairing.{IsPairingOf};
-ghost use Rattle.sm_accept.specs.Linking.{IsLinkedOf, IsFront, all_ends, cut_ends};
+ghost use Rattle.sm_accept.specs.Linking.{IsLinkedOf, AreReducedEnds, all_ends, cut_ends};
 
 use crate::linked::Linked;
 use sm_market::{Market, Pairing};
@@ -19,7 +19,7 @@ pub fn cut_to_partners(market: &Market, m: &Pairing, linked: &mut Linked)
     requires linked { IsLinkedOf market.now linked.old }
     requires all { linked.old.ends ≡ all_ends market.now }
     ensures linked { IsLinkedOf market.now linked.new }
-    ensures front { IsFront market.now m.now.places linked.new.ends }
+    ensures front { AreReducedEnds market.now m.now.places linked.new.ends }
 {
     for r in 0..market.reviewers() {
         cut_to_partner(market, m, r, linked);

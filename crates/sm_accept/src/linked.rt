@@ -2,7 +2,7 @@
 
 ghost use Rattle.std.specs.Prelude.{◌≡◌, ℕ, ◌+◌, ◌-◌, ◌<◌, ◌≤◌, length, slice_index, slice_set, replicate, IfOk, MatchOption};
 ghost use Rattle.sm_market.specs.Lists.{row, entry, place_of};
-ghost use Rattle.sm_accept.specs.Linking.{linking, IsHeld, IsFirstHeld, IsHeldBehind, IsLinkedOf, AreStarts, AreAllLinked, link_at, all_ends, cut_ends};
+ghost use Rattle.sm_accept.specs.Linking.{linking, HoldsPair, IsFirstHeld, IsHeldBehind, IsLinkedOf, AreStarts, AreAllLinked, link_at, all_ends, cut_ends};
 
 use sm_market::Market;
 use std::alloc::{AllocError, Global};
@@ -54,11 +54,11 @@ impl Linked {
     {
         let mut ends = vec![in alloc; 0; market.reviewers() as usize]?;
         let mut starts = vec![in alloc; 0; market.proposers() as usize + 1]?;
-        end_all(market, &mut ends);
-        let count = start_all(market, &mut starts);
+        set_ends(market, &mut ends);
+        let count = set_starts(market, &mut starts);
         let mut next = vec![in alloc; 0; count as usize]?;
         let mut before = vec![in alloc; 0; count as usize]?;
-        link_all(market, &starts, &mut next, &mut before);
+        set_links(market, &starts, &mut next, &mut before);
         let links = Links { next, before };
         Ok(Linked {
             ends,
@@ -74,7 +74,7 @@ impl Linked {
         requires in_range { p < length market.now.proposers }
         requires made { IsLinkedOf market.now self.now }
         ensures { MatchOption result
-            ((i : ℕ) → ¬ IsHeld market.now self.now.ends p i)
+            ((i : ℕ) → ¬ HoldsPair market.now self.now.ends p i)
             (λ i. IsFirstHeld market.now self.now.ends p i) }
     {
         let number = self.links.behind(&self.starts, p, 0);
@@ -87,9 +87,9 @@ impl Linked {
     pub fn behind(&self, market: &Market, p: u32, place: u32) -> Option<u32>
         requires in_range { p < length market.now.proposers }
         requires made { IsLinkedOf market.now self.now }
-        requires held { IsHeld market.now self.now.ends p place }
+        requires held { HoldsPair market.now self.now.ends p place }
         ensures { MatchOption result
-            ((i : ℕ) → place < i → ¬ IsHeld market.now self.now.ends p i)
+            ((i : ℕ) → place < i → ¬ HoldsPair market.now self.now.ends p i)
             (λ i. IsHeldBehind market.now self.now.ends p place i) }
     {
         let places = market.proposer_len(p);
@@ -230,7 +230,7 @@ fn set_link(starts: &[u32], links: &mut [u32], p: u32, number: u32, to: u32)
 }
 
 /// Sets the end of each reviewer's list behind all of it.
-fn end_all(market: &Market, ends: &mut [u32])
+fn set_ends(market: &Market, ends: &mut [u32])
     requires { length ends.old ≡ length market.now.reviewers }
     ensures { ends.new ≡ all_ends market.now }
 {
@@ -240,7 +240,7 @@ fn end_all(market: &Market, ends: &mut [u32])
 }
 
 /// Says where each proposer's links begin, and returns how many links there are.
-fn start_all(market: &Market, starts: &mut [u32]) -> u32
+fn set_starts(market: &Market, starts: &mut [u32]) -> u32
     requires zeros { starts.old ≡ replicate (length market.now.proposers + 1) 0 }
     ensures starts { AreStarts market.now starts.new }
     ensures count { result ≡ slice_index starts.new (length market.now.proposers) }
@@ -254,7 +254,7 @@ fn start_all(market: &Market, starts: &mut [u32]) -> u32
 }
 
 /// Links each number of each proposer's list with the ones before and behind it.
-fn link_all(market: &Market, starts: &[u32], next: &mut [u32], before: &mut [u32])
+fn set_links(market: &Market, starts: &[u32], next: &mut [u32], before: &mut [u32])
     requires starts { AreStarts market.now starts.now }
     requires next_each { length next.old ≡ slice_index starts.now (length market.now.proposers) }
     requires before_each { length before.old

@@ -7,7 +7,7 @@ ghost use Rattle.sm_market.specs.Vectors.{rows_of, lists_of};
 ghost use Rattle.sm_market.specs.Pairing.{IsPairingOf};
 ghost use Rattle.sm_market.specs.Stable.{IsProposersBest, IsReviewersBest};
 ghost use Rattle.sm_market.specs.Reduced.{is_no_worse, reduced_row, reduced_lists_of};
-ghost use Rattle.sm_accept.specs.Linking.{IsLinkedOf, IsFront};
+ghost use Rattle.sm_accept.specs.Linking.{IsLinkedOf, AreReducedEnds};
 ghost use Rattle.sm_accept.specs.Reducing.{KeepsStablePairs};
 
 use crate::accept::{proposer_best, reviewer_best};
@@ -114,7 +114,7 @@ fn fill_proposers(
 ) -> Result<(), AllocError>
     requires empty { rows_of rows.old ≡ replicate (length market.now.proposers) [] }
     requires linked { IsLinkedOf market.now linked.now }
-    requires front { IsFront market.now first.now.places linked.now.ends }
+    requires front { AreReducedEnds market.now first.now.places linked.now.ends }
     requires first { IsPairingOf market.now first.now }
     requires last { IsPairingOf market.now last.now }
     ensures filled { OnOk result (rows_of rows.new
@@ -156,7 +156,7 @@ fn add_reviewers(
 ) -> Result<(), AllocError>
     requires in_range { p < length market.now.proposers }
     requires linked { IsLinkedOf market.now linked.now }
-    requires front { IsFront market.now first.now.places linked.now.ends }
+    requires front { AreReducedEnds market.now first.now.places linked.now.ends }
     requires first { IsPairingOf market.now first.now }
     requires last { IsPairingOf market.now last.now }
     requires empty { row.old.items ≡ [] }

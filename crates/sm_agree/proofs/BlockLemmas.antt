@@ -13,8 +13,8 @@ use Rattle.sm_shown.specs.Reduction.{seat_line}
 use Rattle.sm_shown.specs.RotationLines.{numbers_of, shown_of, shown_lines}
 use Rattle.sm_shown.specs.GivenLines.{two_lines}
 use Rattle.sm_shown.proofs.RotationLemmas.{given_is}
-use Rattle.sm_forms.specs.declared.layouts.Part.{Part}
-use Rattle.sm_forms.specs.declared.layouts.Part.TheVariants.{Blocks}
+use Rattle.sm_forms.specs.declared.layouts.LayoutPart.{LayoutPart}
+use Rattle.sm_forms.specs.declared.layouts.LayoutPart.TheVariants.{Blocks}
 use Rattle.sm_forms.specs.declared.layouts.Opening.{Opening}
 use Rattle.sm_forms.specs.Layouts.{left_behind, is_empty, is_whole}
 use Rattle.sm_forms.specs.Forms.{opening_of, closing}
@@ -48,17 +48,17 @@ blocks_pass test block each a (suc n) = pass_append test (block a) (flat_map blo
 -- The layout.
 
 -- what is left behind a line, if anything, is that of a whole answer
-abbrev pub Whole : Option (List Part) → List Opening → Type 0
+abbrev pub Whole : Option (List LayoutPart) → List Opening → Type 0
 Whole left lines = list_any is_empty (left_behind (cons_option left []) lines) ≡ true
 
 -- where a test holds the parts that are left are those of a whole answer
-pub if_whole : (t : Bool) (left : List Part) (lines : List Opening) → t ≡ true → Whole (Some left) lines → Whole (if t then Some left else None) lines
+pub if_whole : (t : Bool) (left : List LayoutPart) (lines : List Opening) → t ≡ true → Whole (Some left) lines → Whole (if t then Some left else None) lines
 if_whole true left lines e whole = whole
 if_whole false left lines e whole = absurd (false≢true e)
 
 -- the blocks of some rotations, from any number on, and the end
 module _ (s : Seating) (rotations : List (List (ℕ × ℕ))) (needs : List (List ℕ)) where
-  abbrev turn_at : (place number : ℕ) → Part
+  abbrev turn_at : (place number : ℕ) → LayoutPart
   turn_at place number = Blocks (record { lines = 2; place = place; number = number })
 
   -- the blocks from any number on, and the end, are a whole answer

@@ -15,8 +15,8 @@ use Rattle.sm_pairs.specs.Chosen.{chosen_places}
 use Rattle.sm_pairs.proofs.ChoiceLemmas.{chosen_assigned}
 use Rattle.sm_given.specs.Chosen.{chosen_lines}
 use Rattle.sm_given.proofs.ChosenLemmas.{lines_sound}
-use Rattle.sm_forms.specs.declared.keywords.Keyword.TheVariants as keyword
-use Rattle.sm_forms.specs.declared.layouts.Part.TheVariants.{One, Many}
+use Rattle.sm_report.specs.declared.keywords.Keyword.TheVariants as keyword
+use Rattle.sm_forms.specs.declared.layouts.LayoutPart.TheVariants.{One, Many}
 use Rattle.sm_forms.specs.Layouts.{is_whole}
 use Rattle.sm_forms.specs.Forms.{fits, opening_of, closing, given_layout}
 use Rattle.sm_judge.specs.declared.verdicts.Reason.{Reason}
@@ -26,7 +26,7 @@ use Rattle.sm_judge.specs.Pairs.{IsFree, IsWanted, AreAllThere, ChosenHold}
 use Rattle.sm_judge.proofs.LinewiseLemmas.{AllHold, all_hold, hold_append, no_end}
 use Rattle.sm_agree.specs.Agree.{GetYes, MeetAgrees, JoinAgrees}
 use Rattle.sm_judge.proofs.AnswerLemmas.{said_same}
-use Rattle.sm_agree.proofs.LineLemmas.{Held, pass_append, has_word, has_other, group_whole, yes_of}
+use Rattle.sm_agree.proofs.LineLemmas.{Held, pass_append, has_word, has_other, is_whole-group, yes_of}
 use Rattle.sm_agree.proofs.PairLemmas.{AreBelow, free_below, all_below, wanted_pair, all_wanted, lines_with, Above, pairs_hold, pairs_pass}
 
 -- The clauses.
@@ -165,12 +165,12 @@ module _ (choice : Choice) (w : Written) where
     -- they are a whole answer
     pub placed : is_whole (given_layout ∷ []) (map opening_of (lefts ++ (rights ++ (pairs ++ LineData.End ∷ [])))) ≡ true
     placed =
-        group_whole keyword.Left (Many keyword.Right) (Many keyword.Pair ∷ closing) lefts (rights ++ (pairs ++ LineData.End ∷ []))
+        is_whole-group keyword.Left (Many keyword.Right) (Many keyword.Pair ∷ closing) lefts (rights ++ (pairs ++ LineData.End ∷ []))
         (pairs_pass LineData.LeftPair w m (has_word keyword.Left) (λ p r. refl))
         (pass_append (has_other keyword.Left) rights (pairs ++ LineData.End ∷ []) (pairs_pass LineData.RightPair w n (has_other keyword.Left) (λ p r. refl)) (passing (has_other keyword.Left) (λ p r. refl) refl))
-        (group_whole keyword.Right (Many keyword.Pair) closing rights (pairs ++ LineData.End ∷ []) (pairs_pass LineData.RightPair w n (has_word keyword.Right) (λ p r. refl))
+        (is_whole-group keyword.Right (Many keyword.Pair) closing rights (pairs ++ LineData.End ∷ []) (pairs_pass LineData.RightPair w n (has_word keyword.Right) (λ p r. refl))
         (passing (has_other keyword.Right) (λ p r. refl) refl)
-        (group_whole keyword.Pair (One keyword.End) [] pairs (LineData.End ∷ []) (pairs_pass LineData.Pair w chosen (has_word keyword.Pair) (λ p r. refl)) refl refl))
+        (is_whole-group keyword.Pair (One keyword.End) [] pairs (LineData.End ∷ []) (pairs_pass LineData.Pair w chosen (has_word keyword.Pair) (λ p r. refl)) refl refl))
 
 module _ (w : Written) (i : IsInstance w) (m n : List (Option ℕ)) (left : IsStable w m) (right : IsStable w n) where
   -- the right answer of `meet` gets a yes

@@ -18,8 +18,8 @@ use Rattle.sm_report.specs.Lines.{LineData}
 use Rattle.sm_answer.specs.Lines.{line_or_none, lines_from}
 use Rattle.sm_rooming.specs.RoomAnswer.{couple_with, couple_line, couple_lines}
 use Rattle.sm_rooming.proofs.LineLemmas.{couples_sound}
-use Rattle.sm_forms.specs.declared.keywords.Keyword.TheVariants as keyword
-use Rattle.sm_forms.specs.declared.layouts.Part.TheVariants.{One}
+use Rattle.sm_report.specs.declared.keywords.Keyword.TheVariants as keyword
+use Rattle.sm_forms.specs.declared.layouts.LayoutPart.TheVariants.{One}
 use Rattle.sm_forms.specs.Layouts.{is_whole}
 use Rattle.sm_forms.specs.Forms.{opening_of, fits, is_placed, solve_layout, parties_layout}
 use Rattle.sm_pairs.specs.Held.{partner_in}
@@ -31,9 +31,9 @@ use Rattle.sm_judge.specs.Verdicts.{AtLine}
 use Rattle.sm_judge.specs.Judging.{couples, Clauses, Holds}
 use Rattle.sm_judge.proofs.LinewiseLemmas.{AllHold, all_hold, hold_append, no_end}
 use Rattle.sm_judge.proofs.PersonLemmas.{among_of}
-use Rattle.sm_judge.proofs.CoupleLemmas.{partner_behind, partner_there}
+use Rattle.sm_judge.proofs.CoupleLemmas.{partner_in-append, partner_there}
 use Rattle.sm_agree.specs.Agree.{GetYes, CouplesAgree}
-use Rattle.sm_agree.proofs.LineLemmas.{Steps, Held, numbers_hold, numbers_pass, pass_append, has_word, has_other, group_whole, first_whole, yes_of}
+use Rattle.sm_agree.proofs.LineLemmas.{Steps, Held, numbers_hold, numbers_pass, pass_append, has_word, has_other, is_whole-group, is_whole-append_first, yes_of}
 
 no_mate : {x : ℕ} → ◌≡◌ {A = Option ℕ} None (Some x) → ⊥
 no_mate e = grind arith
@@ -87,7 +87,7 @@ module _ {rows : List (List ℕ)} {mates : List (Option ℕ)} (m : IsRoomMatchin
       partner_now : (z : ℕ) → partner_in (both_ways (pairs ++ (b, y) ∷ [])) z ≡ option_or (partner_in (both_ways pairs) z) (cond (eqb b z) (Some y) (cond (eqb y z) (Some b) None))
       partner_now z =
           ap (λ (ps : List (ℕ × ℕ)). partner_in ps z) (flat_map-append (λ (pair : ℕ × ℕ). pair ∷ (pair.1, pair.0) ∷ []) pairs ((b, y) ∷ []))
-          ∙ partner_behind (both_ways pairs) ((b, y) ∷ (y, b) ∷ []) z
+          ∙ partner_in-append (both_ways pairs) ((b, y) ∷ (y, b) ∷ []) z
 
       at_first : partner_in (both_ways (pairs ++ (b, y) ∷ [])) b ≡ Some y
       at_first =
@@ -228,8 +228,8 @@ module _ (persons : List AgentData) where
     fitting = pass_append (fits (Room persons)) pairs (LineData.End ∷ []) (passing (fits (Room persons)) (λ x y up. up)) refl
 
     placed : is_placed is_whole (Room persons) (couple_lines mates) ≡ true
-    placed = first_whole (solve_layout ∷ []) (parties_layout ∷ []) (map opening_of (pairs ++ LineData.End ∷ []))
-        (group_whole keyword.Pair (One keyword.End) [] pairs (LineData.End ∷ []) (passing (has_word keyword.Pair) (λ x y up. refl)) refl refl)
+    placed = is_whole-append_first (solve_layout ∷ []) (parties_layout ∷ []) (map opening_of (pairs ++ LineData.End ∷ []))
+        (is_whole-group keyword.Pair (One keyword.End) [] pairs (LineData.End ∷ []) (passing (has_word keyword.Pair) (λ x y up. refl)) refl refl)
 
     -- a matching is written, and no `none`
     judged : (rest : List LineData) → list_all (has_other keyword.Nothing) rest ≡ true → ((k : ℕ) (why : Reason) → AtLine C (head ∷ rest) k why) → (k : ℕ) (why : Reason) → Holds (Room persons) (head ∷ rest) k why

@@ -15,7 +15,7 @@ use Rattle.sm_market.specs.Matching.{Places}
 use Rattle.sm_theory.specs.ClosedSets.{is_member}
 use Rattle.sm_theory.specs.Net.{Net, sink_of, room_of, is_unbounded, IsUnbounded, HasEdge}
 use Rattle.sm_theory.specs.Flows.{IsFlow}
-use Rattle.sm_theory.specs.FlowLines.{line_at, amount_on, AreOnNodes, HaveSameEnds, IsNewEdge, IsWithinRoom, IsLineBefore, AreLines}
+use Rattle.sm_theory.specs.FlowLines.{line_at, amount_on, AreOnNodes, HaveSameEnds, IsNewEdge, IsWithinRoom, IsLineBefore, AreFlowLines}
 use Rattle.sm_theory.specs.Conditions.{net_of}
 use Rattle.sm_theory.specs.declared.flow_lines.FlowLine.{FlowLine}
 use Rattle.sm_theory.proofs.Net.Tests.{and_parts}
@@ -42,15 +42,15 @@ abbrev pub shown_on : (sink : ℕ) → FlowLine → FlowLine
 shown_on sink line = record { from = shown_node sink line.from; to = shown_node sink line.to; amount = line.amount }
 
 -- so a line is read back from how it is shown
-pub line_back : (size : ℕ) (x : FlowLine) → size < SINK → x.from < suc (suc size) → x.to < suc (suc size) → on_nodes size (shown_on (suc size) x) ≡ x
-line_back size x few from to = λ i. record { from = node_back size x.from few from i; to = node_back size x.to few to i; amount = x.amount }
+pub on_nodes-shown_on : (size : ℕ) (x : FlowLine) → size < SINK → x.from < suc (suc size) → x.to < suc (suc size) → on_nodes size (shown_on (suc size) x) ≡ x
+on_nodes-shown_on size x few from to = λ i. record { from = node_back size x.from few from i; to = node_back size x.to few to i; amount = x.amount }
 
 -- so are all lines between nodes
 pub lines_back : (size : ℕ) (xs : List FlowLine) → size < SINK → AreOnNodes (suc (suc size)) xs → map (on_nodes size) (map (shown_on (suc size)) xs) ≡ xs
 lines_back size [] few on = refl
 lines_back size (x ∷ xs) few on =
     let here = on 0 (omega arith) in
-    ap (λ y. y ∷ map (on_nodes size) (map (shown_on (suc size)) xs)) (line_back size x few here.0 here.1) ∙ ap (λ ys. x ∷ ys) (lines_back size xs few (λ a less. on (suc a) (omega (arith, less))))
+    ap (λ y. y ∷ map (on_nodes size) (map (shown_on (suc size)) xs)) (on_nodes-shown_on size x few here.0 here.1) ∙ ap (λ ys. x ∷ ys) (lines_back size xs few (λ a less. on (suc a) (omega (arith, less))))
 
 -- Lines of a flow.
 
@@ -86,7 +86,7 @@ module _ (net : Net) (front back : List FlowLine) (x : FlowLine) where
   pub here_nodes : (nodes : ℕ) → AreOnNodes nodes whole → (x.from < nodes) × (x.to < nodes)
   here_nodes nodes on = subst (λ (y : FlowLine). (y.from < nodes) × (y.to < nodes)) here (on (length front) (omega (arith, long)))
 
-  module _ (lines : AreLines net (front ++ x ∷ back)) where
+  module _ (lines : AreFlowLines net (front ++ x ∷ back)) where
     earlier : (a : ℕ) → a < length front → IsLineBefore (line_at front a) x
     earlier a less =
         subst (IsLineBefore (line_at front a)) here
@@ -177,8 +177,8 @@ module _ (set : List Bool) (k : ℕ) where
   ]
 
 -- the numbers of the members of a set give the set
-pub numbers_give : (set : List Bool) (size : ℕ) → length set ≡ size → set_of_numbers size (member_numbers set size) ≡ set
-numbers_give set size is =
+pub set_of_numbers-member_numbers : (set : List Bool) (size : ℕ) → length set ≡ size → set_of_numbers size (member_numbers set size) ≡ set
+set_of_numbers-member_numbers set size is =
     let test : ℕ → Bool = (λ k. list_any (λ n. n == k + 1) (member_numbers set size)) in
     let long = length-map-range_with_len test 0 size in
     ext_get_or false (map test (range_with_len 0 size)) set (omega (arith, long, is))

@@ -9,9 +9,9 @@ use Rattle.sm_instance.specs.declared.inputs.Input.{Input}
 use Rattle.sm_report.specs.Lines.{LineData}
 use Rattle.sm_report.specs.Sound.{IsLineOf}
 use Rattle.sm_answer.specs.Lines.{line_or_none, lines_from}
-use Rattle.sm_forms.specs.declared.keywords.Keyword.{Keyword}
-use Rattle.sm_forms.specs.declared.layouts.Part.{Part}
-use Rattle.sm_forms.specs.declared.layouts.Part.TheVariants.{Many}
+use Rattle.sm_report.specs.declared.keywords.Keyword.{Keyword}
+use Rattle.sm_forms.specs.declared.layouts.LayoutPart.{LayoutPart}
+use Rattle.sm_forms.specs.declared.layouts.LayoutPart.TheVariants.{Many}
 use Rattle.sm_forms.specs.declared.layouts.Opening.{Opening}
 use Rattle.sm_forms.specs.Layouts.{begins, behind, left_behind, is_empty, is_whole}
 use Rattle.sm_forms.specs.Forms.{opening_of, fits, is_placed}
@@ -76,19 +76,19 @@ abbrev pub has_other : Keyword → LineData → Bool
 has_other word x = not (has_word word x)
 
 -- what is left behind a line, if anything, is that of a whole answer
-abbrev Whole : Option (List Part) → List LineData → Type 0
+abbrev Whole : Option (List LayoutPart) → List LineData → Type 0
 Whole left lines = list_any is_empty (left_behind (cons_option left []) (map opening_of lines)) ≡ true
 
 -- lines of a group, and those behind it, of which none has the group's keyword
-pub group_whole : (word : Keyword) (part : Part) (parts : List Part) (xs ys : List LineData) → list_all (has_word word) xs ≡ true → list_all (has_other word) ys ≡ true
+pub is_whole-group : (word : Keyword) (part : LayoutPart) (parts : List LayoutPart) (xs ys : List LineData) → list_all (has_word word) xs ≡ true → list_all (has_other word) ys ≡ true
     → is_whole ((part ∷ parts) ∷ []) (map opening_of ys) ≡ true → is_whole ((Many word ∷ part ∷ parts) ∷ []) (map opening_of (xs ++ ys)) ≡ true
-group_whole word part parts [] [] all none whole = absurd (false≢true whole)
-group_whole word part parts [] (y ∷ ys) all none whole = go (has_word word y) none
+is_whole-group word part parts [] [] all none whole = absurd (false≢true whole)
+is_whole-group word part parts [] (y ∷ ys) all none whole = go (has_word word y) none
   where
     go : (t : Bool) → (not t && list_all (has_other word) ys) ≡ true → Whole (if t then Some (Many word ∷ part ∷ parts) else behind (part ∷ parts) (opening_of y)) ys
     go true f = absurd (false≢true f)
     go false f = whole
-group_whole word part parts (x ∷ xs) ys all none whole = go (has_word word x) all (λ rest. group_whole word part parts xs ys rest none whole)
+is_whole-group word part parts (x ∷ xs) ys all none whole = go (has_word word x) all (λ rest. is_whole-group word part parts xs ys rest none whole)
   where
     go : (t : Bool) → (t && list_all (has_word word) xs) ≡ true
         → (list_all (has_word word) xs ≡ true → is_whole ((Many word ∷ part ∷ parts) ∷ []) (map opening_of (xs ++ ys)) ≡ true)
@@ -98,7 +98,7 @@ group_whole word part parts (x ∷ xs) ys all none whole = go (has_word word x) 
 
 -- Of several layouts one is enough.
 
-left_apart : (a b : List (List Part)) (lines : List Opening) → left_behind (a ++ b) lines ≡ left_behind a lines ++ left_behind b lines
+left_apart : (a b : List (List LayoutPart)) (lines : List Opening) → left_behind (a ++ b) lines ≡ left_behind a lines ++ left_behind b lines
 left_apart a b [] = refl
 left_apart a b (line ∷ lines) =
     ap (λ layouts. left_behind layouts lines) (filter_map-append (λ parts. behind parts line) a b)
@@ -108,16 +108,16 @@ or_second : (s t : Bool) → t ≡ true → (s || t) ≡ true
 or_second true t e = refl
 or_second false t e = e
 
-apart : (a b : List (List Part)) (lines : List Opening) → is_whole (a ++ b) lines ≡ (is_whole a lines || is_whole b lines)
+apart : (a b : List (List LayoutPart)) (lines : List Opening) → is_whole (a ++ b) lines ≡ (is_whole a lines || is_whole b lines)
 apart a b lines = ap (list_any is_empty) (left_apart a b lines) ∙ list_any-append is_empty (left_behind a lines) (left_behind b lines)
 
 -- lines that are whole by the first layouts are so by both
-pub first_whole : (a b : List (List Part)) (lines : List Opening) → is_whole a lines ≡ true → is_whole (a ++ b) lines ≡ true
-first_whole a b lines e = apart a b lines ∙ ap (λ t. t || is_whole b lines) e
+pub is_whole-append_first : (a b : List (List LayoutPart)) (lines : List Opening) → is_whole a lines ≡ true → is_whole (a ++ b) lines ≡ true
+is_whole-append_first a b lines e = apart a b lines ∙ ap (λ t. t || is_whole b lines) e
 
 -- and so by the second layouts
-pub second_whole : (a b : List (List Part)) (lines : List Opening) → is_whole b lines ≡ true → is_whole (a ++ b) lines ≡ true
-second_whole a b lines e = apart a b lines ∙ or_second (is_whole a lines) (is_whole b lines) e
+pub is_whole-append_second : (a b : List (List LayoutPart)) (lines : List Opening) → is_whole b lines ≡ true → is_whole (a ++ b) lines ≡ true
+is_whole-append_second a b lines e = apart a b lines ∙ or_second (is_whole a lines) (is_whole b lines) e
 
 -- lines of the instance, of their form, that are a whole answer and at which all clauses hold
 pub yes_of : (input : Input) (lines : List LineData) → All (IsLineOf input) lines → list_all (fits input) lines ≡ true → is_placed is_whole input lines ≡ true

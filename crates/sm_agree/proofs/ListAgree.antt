@@ -9,17 +9,17 @@ use Rattle.sm_instance.specs.Written.{Written, row}
 use Rattle.sm_instance.specs.Matching.{held, standing, IsAssignment, IsMatching}
 use Rattle.sm_instance.specs.Stable.{IsStable}
 use Rattle.sm_instance.specs.Allowed.{IsAllowed}
-use Rattle.sm_instance.specs.Ranks.{rank_vector_of, IsBefore}
+use Rattle.sm_instance.specs.Ranks.{rank_vector_of, IsBefore, order_of}
 use Rattle.sm_instance.specs.declared.inputs.Input.TheVariants.{Two}
 use Rattle.sm_theory.specs.Listings.{IsBehind, end_of, IsListing}
 use Rattle.sm_seats.specs.Vectors.{IsAllowedRankVector}
 use Rattle.sm_report.specs.Heads.{HeadData}
 use Rattle.sm_report.specs.Lines.{LineData}
 use Rattle.sm_report.specs.Sound.{IsLineOf}
-use Rattle.sm_listing.specs.ListAnswer.{last_line, vector_lines, IsCursor, order_of}
+use Rattle.sm_listing.specs.ListAnswer.{last_line, vector_lines, IsCursor}
 use Rattle.sm_listing.proofs.ListLemmas.{list_sound}
-use Rattle.sm_forms.specs.declared.keywords.Keyword.TheVariants as keyword
-use Rattle.sm_forms.specs.declared.layouts.Part.TheVariants.{One}
+use Rattle.sm_report.specs.declared.keywords.Keyword.TheVariants as keyword
+use Rattle.sm_forms.specs.declared.layouts.LayoutPart.TheVariants.{One}
 use Rattle.sm_forms.specs.Layouts.{is_whole}
 use Rattle.sm_forms.specs.Forms.{opening_of, fits, is_placed, list_layout}
 use Rattle.sm_judge.specs.declared.verdicts.Reason.{Reason}
@@ -30,7 +30,7 @@ use Rattle.sm_judge.specs.Judging.{answer, Clauses}
 use Rattle.sm_judge.proofs.LinewiseLemmas.{AllHold, all_hold, hold_append}
 use Rattle.sm_judge.proofs.ListingLemmas.{end_of-append}
 use Rattle.sm_agree.specs.Agree.{GetYes, ListAgrees}
-use Rattle.sm_agree.proofs.LineLemmas.{Held, pass_append, map_pass, has_word, group_whole, first_whole, second_whole, yes_of}
+use Rattle.sm_agree.proofs.LineLemmas.{Held, pass_append, map_pass, has_word, is_whole-group, is_whole-append_first, is_whole-append_second, yes_of}
 
 -- The places of the ranks of a matching are its own.
 
@@ -145,9 +145,9 @@ module _ (w : Written) (after : Option (List ℕ)) (limit : ℕ) where
     -- the layouts
     with_end : (o : Option (List ℕ)) (more : Bool) → list_all (has_word keyword.Vector) (of_vectors out) ≡ true
         → is_placed is_whole (Two w) (head ∷ of_vectors out ++ last_line o more ∷ []) ≡ true
-    with_end None more e = first_whole (list_layout keyword.End ∷ []) (list_layout keyword.More ∷ []) (map opening_of (of_vectors out ++ LineData.End ∷ [])) (group_whole keyword.Vector (One keyword.End) [] (of_vectors out) (LineData.End ∷ []) e refl refl)
-    with_end (Some v) false e = first_whole (list_layout keyword.End ∷ []) (list_layout keyword.More ∷ []) (map opening_of (of_vectors out ++ LineData.End ∷ [])) (group_whole keyword.Vector (One keyword.End) [] (of_vectors out) (LineData.End ∷ []) e refl refl)
-    with_end (Some v) true e = second_whole (list_layout keyword.End ∷ []) (list_layout keyword.More ∷ []) (map opening_of (of_vectors out ++ LineData.More v ∷ [])) (group_whole keyword.Vector (One keyword.More) [] (of_vectors out) (LineData.More v ∷ []) e refl refl)
+    with_end None more e = is_whole-append_first (list_layout keyword.End ∷ []) (list_layout keyword.More ∷ []) (map opening_of (of_vectors out ++ LineData.End ∷ [])) (is_whole-group keyword.Vector (One keyword.End) [] (of_vectors out) (LineData.End ∷ []) e refl refl)
+    with_end (Some v) false e = is_whole-append_first (list_layout keyword.End ∷ []) (list_layout keyword.More ∷ []) (map opening_of (of_vectors out ++ LineData.End ∷ [])) (is_whole-group keyword.Vector (One keyword.End) [] (of_vectors out) (LineData.End ∷ []) e refl refl)
+    with_end (Some v) true e = is_whole-append_second (list_layout keyword.End ∷ []) (list_layout keyword.More ∷ []) (map opening_of (of_vectors out ++ LineData.More v ∷ [])) (is_whole-group keyword.Vector (One keyword.More) [] (of_vectors out) (LineData.More v ∷ []) e refl refl)
 
     placed : is_placed is_whole (Two w) lines ≡ true
     placed = with_end (end_of after out) more (map_pass (has_word keyword.Vector) (λ v. LineData.Vector v) out (λ v. refl))

@@ -12,11 +12,11 @@ use Rattle.sm_instance.specs.Written.{Written, entry, place_of}
 use Rattle.sm_instance.specs.Matching.{held, leads_to, load_before, IsAssignment, IsMatching}
 use Rattle.sm_instance.specs.Sound.{IsInstance, AreSoundEntries}
 use Rattle.sm_instance.proofs.ListLemmas.{row_in_range}
-use Rattle.sm_instance.proofs.LoadLemmas.{load_more}
+use Rattle.sm_instance.proofs.LoadLemmas.{load_before-suc}
 use Rattle.sm_instance.proofs.BreachLemmas.{load_mono}
 use Rattle.sm_instance.proofs.PlaceLemmas.{place_of-entry}
-use Rattle.sm_pairs.specs.Held.{partner_in, place_in, places_in}
-use Rattle.sm_pairs.proofs.HoldingLemmas.{here_later, other_later, held_place}
+use Rattle.sm_pairs.specs.Held.{partner_in, paired_place, places_in}
+use Rattle.sm_pairs.proofs.HoldingLemmas.{partner_in-push_same, partner_in-push_other, held_place}
 use Rattle.sm_report.specs.Lines.{LineData}
 use Rattle.sm_answer.specs.Lines.{line_or_none, lines_from}
 use Rattle.sm_judge.specs.declared.verdicts.Reason.{Reason}
@@ -51,13 +51,13 @@ module _ {w : Written} {places : List (Option ℕ)} {p : ℕ} {pairs : List (ℕ
       let none = k.past p (omega arith) in
       record {
         below = λ q l. elim (eq_or_ne q p) [
-          | inl is ↦ ap (partner_in (pairs ++ (p, r) ∷ [])) is ∙ here_later pairs p r none ∙ sym (ap (option_map (entry w.proposers p)) e) ∙ ap (partner_of w places) (sym is)
-          | inr ne ↦ other_later pairs p r q none ne ∙ k.below q (omega (arith, l, ne))
+          | inl is ↦ ap (partner_in (pairs ++ (p, r) ∷ [])) is ∙ partner_in-push_same pairs p r none ∙ sym (ap (option_map (entry w.proposers p)) e) ∙ ap (partner_of w places) (sym is)
+          | inr ne ↦ partner_in-push_other pairs p r q none ne ∙ k.below q (omega (arith, l, ne))
         ];
-        past = λ q l. other_later pairs p r q none (λ e. omega (arith, l, e)) ∙ k.past q (omega (arith, l));
+        past = λ q l. partner_in-push_other pairs p r q none (λ e. omega (arith, l, e)) ∙ k.past q (omega (arith, l));
         times = λ s.
             times_more pairs (p, r) s ∙ ap (λ n. n + cond (r == s) 1 0) (k.times s)
-            ∙ sym (load_more w places p s ∙ ap (λ o. load_before w places p s + cond (leads_to w p s o) 1 0) e);
+            ∙ sym (load_before-suc w places p s ∙ ap (λ o. load_before w places p s + cond (leads_to w p s o) 1 0) e);
       }
 
   -- who isn't has none
@@ -69,7 +69,7 @@ module _ {w : Written} {places : List (Option ℕ)} {p : ℕ} {pairs : List (ℕ
     ];
     past = λ q l. k.past q (omega (arith, l));
     times = λ s.
-        let more = load_more w places p s ∙ ap (λ o. load_before w places p s + cond (leads_to w p s o) 1 0) e in
+        let more = load_before-suc w places p s ∙ ap (λ o. load_before w places p s + cond (leads_to w p s o) 1 0) e in
         let z : load_before w places p s + 0 ≡ load_before w places p s = omega arith in
         k.times s ∙ sym (more ∙ z);
   }
@@ -80,7 +80,7 @@ module _ {w : Written} {places : List (Option ℕ)} {p : ℕ} {pairs : List (ℕ
       let r = entry w.proposers p i in
       let there = m.acceptable p i e in
       let inside = row_in_range w.proposers p (place_of w.proposers p r) there.proposer_lists in
-      let more = load_more w places p r ∙ ap (λ o. load_before w places p r + cond (leads_to w p r o) 1 0) e ∙ ap (λ t. load_before w places p r + cond t 1 0) (eq-eqb r r refl) in
+      let more = load_before-suc w places p r ∙ ap (λ o. load_before w places p r + cond (leads_to w p r o) 1 0) e ∙ ap (λ t. load_before w places p r + cond t 1 0) (eq-eqb r r refl) in
       record {
         acceptable = there;
         proposer_free = k.past p (omega arith);
@@ -91,7 +91,7 @@ module _ {w : Written} {places : List (Option ℕ)} {p : ℕ} {pairs : List (ℕ
 pub all_below : {w : Written} {places : List (Option ℕ)} {pairs : List (ℕ × ℕ)} → AreBelow w places (length w.proposers) pairs → AreSoundEntries w.proposers (length w.reviewers) → IsAssignment w places
     → places_in w pairs ≡ places
 all_below {w} {places} {pairs} k sound a =
-    let long = length-map-range_with_len (place_in w pairs) 0 (length w.proposers) in
+    let long = length-map-range_with_len (paired_place w pairs) 0 (length w.proposers) in
     ext_get_or None (places_in w pairs) places (omega (arith, long, a.one_each)) (λ p l. at p (omega (arith, l, long)))
   where
     back : (p : ℕ) (o : Option ℕ) → held places p ≡ o → option_map (place_of w.proposers p) (option_map (entry w.proposers p) o) ≡ o

@@ -20,8 +20,8 @@ use Rattle.sm_answer.specs.Lines.{lines_from}
 use Rattle.sm_rooming.specs.Parties.{IsParty, AreParties}
 use Rattle.sm_rooming.specs.RoomAnswer.{party_line, party_lines, AreExcluding}
 use Rattle.sm_rooming.proofs.LineLemmas.{all_parties_sound}
-use Rattle.sm_forms.specs.declared.keywords.Keyword.TheVariants as keyword
-use Rattle.sm_forms.specs.declared.layouts.Part.TheVariants.{One}
+use Rattle.sm_report.specs.declared.keywords.Keyword.TheVariants as keyword
+use Rattle.sm_forms.specs.declared.layouts.LayoutPart.TheVariants.{One}
 use Rattle.sm_forms.specs.Layouts.{is_whole}
 use Rattle.sm_forms.specs.Forms.{opening_of, fits, is_placed, solve_layout, parties_layout, begins_with_lowest}
 use Rattle.sm_judge.specs.declared.verdicts.Reason.{Reason}
@@ -32,10 +32,10 @@ use Rattle.sm_judge.specs.PartiesKept.{is_among, follower}
 use Rattle.sm_judge.specs.Judging.{Subject, Clauses}
 use Rattle.sm_judge.proofs.LinewiseLemmas.{AllHold, all_hold, hold_append, no_end}
 use Rattle.sm_judge.proofs.PersonLemmas.{of_among}
-use Rattle.sm_judge.proofs.PartyLemmas.{not_among, members_more, new_where, among_at, next_there, next_other, follows}
+use Rattle.sm_judge.proofs.PartyLemmas.{is_among-none, is_among-members_push, new_where, is_among-get_or, next_of-push_there, next_of-push_other, next_in_party-get_or}
 use Rattle.sm_agree.specs.Agree.{GetYes, PartiesAgree}
 use Rattle.sm_judge.proofs.AnswerLemmas.{said_one}
-use Rattle.sm_agree.proofs.LineLemmas.{Steps, Held, numbers_hold, numbers_pass, pass_append, has_word, group_whole, second_whole, yes_of}
+use Rattle.sm_agree.proofs.LineLemmas.{Steps, Held, numbers_hold, numbers_pass, pass_append, has_word, is_whole-group, is_whole-append_second, yes_of}
 
 -- The parties of a permutation are apart, and give it.
 module _ {rows : List (List ℕ)} {next : List ℕ} {parties : List (List ℕ)} (h : IsStablePartition rows next) (a : AreParties next parties) where
@@ -78,7 +78,7 @@ module _ {rows : List (List ℕ)} {next : List ℕ} {parties : List (List ℕ)} 
 
   -- a member of one party stands in no other
   not_in : (k j q : ℕ) → k < length parties → q < length parties → k ≢ q → j < length (party k) → is_among (who k j) (party q) ≡ false
-  not_in k j q l q_in ne on = not_among (who k j) (party q) (λ i on_i e. elim (less_same_more k q) [
+  not_in k j q l q_in ne on = is_among-none (who k j) (party q) (λ i on_i e. elim (less_same_more k q) [
     | inl less ↦ apart_from k q less q_in j i on on_i (sym e)
     | inr (inl same) ↦ ne same
     | inr (inr more) ↦ apart_from q k more l i j on_i on e
@@ -88,7 +88,7 @@ module _ {rows : List (List ℕ)} {next : List ℕ} {parties : List (List ℕ)} 
   none_before k j l on zero le = refl
   none_before k j l on (suc q) le =
       ap (λ ps. is_among (who k j) (members_of ps)) (take-suc parties q [] (omega (arith, le, l)))
-      ∙ members_more (take q parties) (party q) (who k j)
+      ∙ is_among-members_push (take q parties) (party q) (who k j)
       ∙ ap (λ b. b || is_among (who k j) (party q)) (none_before k j l on q (omega (arith, le)))
       ∙ not_in k j q l (omega (arith, le, l)) (λ e. omega (arith, e, le)) on
 
@@ -105,9 +105,9 @@ module _ {rows : List (List ℕ)} {next : List ℕ} {parties : List (List ℕ)} 
   there_behind k j l on zero lt le = absurd (omega (arith, lt))
   there_behind k j l on (suc q) lt le =
       ap (λ ps. is_among (who k j) (members_of ps)) (take-suc parties q [] (omega (arith, le)))
-      ∙ members_more (take q parties) (party q) (who k j)
+      ∙ is_among-members_push (take q parties) (party q) (who k j)
       ∙ elim (eq_or_ne k q) [
-        | inl is ↦ or_second (is_among (who k j) (members_of (take q parties))) (is_among (who k j) (party q)) (ap (λ n. is_among (who k j) (party n)) (sym is) ∙ among_at (party k) j on)
+        | inl is ↦ or_second (is_among (who k j) (members_of (take q parties))) (is_among (who k j) (party q)) (ap (λ n. is_among (who k j) (party n)) (sym is) ∙ is_among-get_or (party k) j on)
         | inr ne ↦ ap (λ b. b || is_among (who k j) (party q)) (there_behind k j l on q (omega (arith, lt, ne)) (omega (arith, le)))
       ]
 
@@ -136,10 +136,10 @@ module _ {rows : List (List ℕ)} {next : List ℕ} {parties : List (List ℕ)} 
       ∙ elim (eq_or_ne k q) [
         | inl is ↦
             ap (λ n. next_of (take n parties ++ party n ∷ []) (who k j)) (sym is)
-            ∙ next_there (take k parties) (party k) (who k j) (none_before k j l on k (omega arith)) (among_at (party k) j on)
-            ∙ follows (party k) (apart_in k l) j on
+            ∙ next_of-push_there (take k parties) (party k) (who k j) (none_before k j l on k (omega arith)) (is_among-get_or (party k) j on)
+            ∙ next_in_party-get_or (party k) (apart_in k l) j on
         | inr ne ↦
-            next_other (take q parties) (party q) (who k j) (not_in k j q l (omega (arith, le)) ne on)
+            next_of-push_other (take q parties) (party q) (who k j) (not_in k j q l (omega (arith, le)) ne on)
             ∙ next_behind k j l on q (omega (arith, lt, ne)) (omega (arith, le))
       ]
 
@@ -295,8 +295,8 @@ module _ (persons : List AgentData) where
 
     placed : is_placed is_whole (Room persons) (party_lines parties) ≡ true
     placed =
-        second_whole (solve_layout ∷ []) (parties_layout ∷ []) (map opening_of (LineData.Nothing ∷ shown ++ LineData.End ∷ []))
-        (group_whole keyword.Party (One keyword.End) [] shown (LineData.End ∷ [])
+        is_whole-append_second (solve_layout ∷ []) (parties_layout ∷ []) (map opening_of (LineData.Nothing ∷ shown ++ LineData.End ∷ []))
+        (is_whole-group keyword.Party (One keyword.End) [] shown (LineData.End ∷ [])
         (numbers_pass (has_word keyword.Party) (party_line parties) (length parties) (λ k l. refl) 0 (length parties) (omega arith)) refl refl)
 
     -- the lines of the parties get a yes

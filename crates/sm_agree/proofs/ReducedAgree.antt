@@ -26,9 +26,9 @@ use Rattle.sm_shown.specs.Reduction.{seat_of, seat_line, proposer_line, reviewer
 use Rattle.sm_shown.specs.GivenLines.{reduced_given}
 use Rattle.sm_shown.proofs.ReduceLemmas.{reduced_named, reduced_given_sound}
 use Rattle.sm_forms.specs.Seats.{is_seat, seat_number, seat_numbers}
-use Rattle.sm_forms.specs.declared.keywords.Keyword.{Keyword}
-use Rattle.sm_forms.specs.declared.keywords.Keyword.TheVariants as keyword
-use Rattle.sm_forms.specs.declared.layouts.Part.TheVariants.{One, Many}
+use Rattle.sm_report.specs.declared.keywords.Keyword.{Keyword}
+use Rattle.sm_report.specs.declared.keywords.Keyword.TheVariants as keyword
+use Rattle.sm_forms.specs.declared.layouts.LayoutPart.TheVariants.{One, Many}
 use Rattle.sm_forms.specs.Layouts.{is_whole}
 use Rattle.sm_forms.specs.Forms.{fits, is_placed, closing}
 use Rattle.sm_judge.specs.declared.verdicts.Reason.{Reason}
@@ -37,11 +37,11 @@ use Rattle.sm_judge.specs.Said.{first_in, firsts_in, last_in, lasts_in, proposer
 use Rattle.sm_judge.specs.SeatMatchings.{IsFreeSeat, seat_places_in, first_of, last_of}
 use Rattle.sm_judge.specs.Chain.{HasOneEach, owners, reduced_of, IsRowOf, ListsAreRight, ReducedHold}
 use Rattle.sm_judge.proofs.LinewiseLemmas.{AllHold, all_hold, hold_append, no_end}
-use Rattle.sm_judge.proofs.PartyLemmas.{among_at, once}
+use Rattle.sm_judge.proofs.PartyLemmas.{is_among-get_or, once}
 use Rattle.sm_judge.specs.PartiesKept.{is_among}
 use Rattle.sm_agree.specs.Agree.{GetYes, ReducedAgrees}
 use Rattle.sm_judge.proofs.AnswerLemmas.{said_same, said_one}
-use Rattle.sm_agree.proofs.LineLemmas.{Steps, Held, numbers_hold, numbers_pass, pass_append, has_word, has_other, group_whole, yes_of}
+use Rattle.sm_agree.proofs.LineLemmas.{Steps, Held, numbers_hold, numbers_pass, pass_append, has_word, has_other, is_whole-group, yes_of}
 use Rattle.sm_agree.proofs.SeatLemmas.{seat_number_is, is_seat_shown, seat_numbers_are, are_seats_shown, all_seated, SeatsAbove, seats_hold, seats_pass}
 
 -- each number of a range stands once in it
@@ -51,7 +51,7 @@ range_once n x less =
     let long = length-range_with_len 0 n in
     let at : (i : ℕ) → i < n → get_or all i 0 ≡ i = (λ i l. get_or-range_with_len 0 n i 0 l ∙ (let e : 0 + i ≡ i = omega arith in e)) in
     once x all (λ i j i_j l same. omega (arith, i_j, same, at i (omega (arith, i_j, l, long)), at j (omega (arith, l, long))))
-    (ap (λ y. is_among y all) (sym (at x less)) ∙ among_at all x (omega (arith, less, long)))
+    (ap (λ y. is_among y all) (sym (at x less)) ∙ is_among-get_or all x (omega (arith, less, long)))
 
 -- The clauses.
 
@@ -295,14 +295,14 @@ module _ (w : Written) (i : IsInstance w) (first last : Places) (best : IsPropos
 
   placed : is_placed is_whole (Two w) (reduced_lines s first last) ≡ true
   placed =
-      group_whole keyword.First (Many keyword.Last) (Many keyword.Proposer ∷ Many keyword.Reviewer ∷ closing) firsts (lasts ++ (rows ++ (columns ++ LineData.End ∷ [])))
+      is_whole-group keyword.First (Many keyword.Last) (Many keyword.Proposer ∷ Many keyword.Reviewer ∷ closing) firsts (lasts ++ (rows ++ (columns ++ LineData.End ∷ [])))
       (firsts_pass (has_word keyword.First) (λ p k less. refl))
       (pass_append (has_other keyword.First) lasts (rows ++ (columns ++ LineData.End ∷ [])) (lasts_pass (has_other keyword.First) (λ p k less. refl)) (rows_other keyword.First (λ p seats. refl) (λ seat xs. refl) refl))
-      (group_whole keyword.Last (Many keyword.Proposer) (Many keyword.Reviewer ∷ closing) lasts (rows ++ (columns ++ LineData.End ∷ []))
+      (is_whole-group keyword.Last (Many keyword.Proposer) (Many keyword.Reviewer ∷ closing) lasts (rows ++ (columns ++ LineData.End ∷ []))
       (lasts_pass (has_word keyword.Last) (λ p k less. refl)) (rows_other keyword.Last (λ p seats. refl) (λ seat xs. refl) refl)
-      (group_whole keyword.Proposer (Many keyword.Reviewer) closing rows (columns ++ LineData.End ∷ [])
+      (is_whole-group keyword.Proposer (Many keyword.Reviewer) closing rows (columns ++ LineData.End ∷ [])
       (rows_pass (has_word keyword.Proposer) (λ p xs each. refl)) (columns_pass (has_other keyword.Proposer) (λ k xs less. refl) refl)
-      (group_whole keyword.Reviewer (One keyword.End) [] columns (LineData.End ∷ []) columns_word refl refl)))
+      (is_whole-group keyword.Reviewer (One keyword.End) [] columns (LineData.End ∷ []) columns_word refl refl)))
     where
       columns_word : list_all (has_word keyword.Reviewer) columns ≡ true
       columns_word = numbers_pass (has_word keyword.Reviewer) (reviewer_line s reduced.reviewers) (length l.reviewers) (λ k less. refl) 0 (length l.reviewers) (omega arith)

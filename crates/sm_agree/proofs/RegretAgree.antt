@@ -19,8 +19,8 @@ use Rattle.sm_answer.proofs.AnswerLemmas.{one_all, lines_all}
 use Rattle.sm_shown.specs.Answers.{pair_line}
 use Rattle.sm_shown.proofs.SolveLemmas.{pair_sound, end_sound}
 use Rattle.sm_partners.specs.RegretAnswer.{regret_lines}
-use Rattle.sm_forms.specs.declared.keywords.Keyword.TheVariants as keyword
-use Rattle.sm_forms.specs.declared.layouts.Part.TheVariants.{One}
+use Rattle.sm_report.specs.declared.keywords.Keyword.TheVariants as keyword
+use Rattle.sm_forms.specs.declared.layouts.LayoutPart.TheVariants.{One}
 use Rattle.sm_forms.specs.Layouts.{is_whole}
 use Rattle.sm_forms.specs.Forms.{fits, is_placed}
 use Rattle.sm_pairs.specs.Held.{places_in}
@@ -32,7 +32,7 @@ use Rattle.sm_judge.specs.Judging.{answer, Clauses}
 use Rattle.sm_judge.proofs.LinewiseLemmas.{AllHold, all_hold, hold_append, no_end}
 use Rattle.sm_agree.specs.Agree.{GetYes, RegretAgrees}
 use Rattle.sm_judge.proofs.AnswerLemmas.{said_same}
-use Rattle.sm_agree.proofs.LineLemmas.{Held, pass_append, has_word, group_whole, yes_of}
+use Rattle.sm_agree.proofs.LineLemmas.{Held, pass_append, has_word, is_whole-group, yes_of}
 use Rattle.sm_agree.proofs.PairLemmas.{free_below, all_below, lines_with, Above, pairs_hold, pairs_pass}
 
 -- A regret is a small number.
@@ -136,7 +136,7 @@ module _ (w : Written) where
     fitting = pass_append (fits (Two w)) pairs (LineData.End ∷ []) (pairs_pass LineData.Pair w places (fits (Two w)) (λ p r. refl)) refl
 
     placed : is_placed is_whole (Two w) (regret_lines w places) ≡ true
-    placed = group_whole keyword.Pair (One keyword.End) [] pairs (LineData.End ∷ []) (pairs_pass LineData.Pair w places (has_word keyword.Pair) (λ p r. refl)) refl refl
+    placed = is_whole-group keyword.Pair (One keyword.End) [] pairs (LineData.End ∷ []) (pairs_pass LineData.Pair w places (has_word keyword.Pair) (λ p r. refl)) refl refl
 
     -- the lines of the regret and of the pairs get a yes
     pub regret_yes : GetYes (Two w) (regret_lines w places)

@@ -11,7 +11,7 @@ use Rattle.sm_market.specs.Lists.{Lists, row, IsMarket}
 use Rattle.sm_market.specs.Matching.{Places}
 use Rattle.sm_market.specs.Stable.{IsProposersBest}
 use Rattle.sm_theory.specs.Rotations.{IsNothingExposed, IsLowestExposed, eliminated}
-use Rattle.sm_theory.specs.Chains.{rotation_at, stage, IsCompleteChain, IsPrintedChain, IsNeededBy, AreNeedsOf}
+use Rattle.sm_theory.specs.Chains.{rotation_at, stage, IsCompleteChain, IsPrintedChain, IsNeededBy, AreNeedsOf, AreNeeds}
 use Rattle.sm_theory.proofs.Bridge.Chain.{eliminable_of}
 use Rattle.sm_theory.proofs.Chains.Length.{short_eliminable}
 use Rattle.sm_theory.proofs.Chains.Rotations.{predecessor_is_earlier}
@@ -27,12 +27,11 @@ use Rattle.sm_seats.specs.Correspondence.{IsSeating}
 use Rattle.sm_seats.proofs.CorrespondenceLaws.{is_seating, sound_entries}
 use Rattle.sm_seats.proofs.LawsProved.{few_seats_fit}
 use Rattle.sm_shown.specs.Reduction.{seat_of, seat_line}
-use Rattle.sm_shown.specs.RotationLines.{numbers_of, seated_pairs}
-use Rattle.sm_shown.specs.RotationAnswer.{AreNeeds}
-use Rattle.sm_shown.specs.GivenLines.{rotation_line, needs_line, two_lines}
+use Rattle.sm_shown.specs.RotationLines.{numbers_of, seated_rotation, rotation_line, needs_line}
+use Rattle.sm_shown.specs.GivenLines.{two_lines}
 use Rattle.sm_shown.proofs.RotationLemmas.{seats_named, rotations_given_sound}
 use Rattle.sm_forms.specs.Seats.{is_seat, seat_number, all_numbered}
-use Rattle.sm_forms.specs.declared.keywords.Keyword.TheVariants as keyword
+use Rattle.sm_report.specs.declared.keywords.Keyword.TheVariants as keyword
 use Rattle.sm_forms.specs.Layouts.{is_whole}
 use Rattle.sm_forms.specs.Forms.{fits, is_placed, blocks_of, closing}
 use Rattle.sm_judge.specs.declared.verdicts.Reason.{Reason}
@@ -43,8 +42,8 @@ use Rattle.sm_judge.specs.Chain.{reached, last_rotation, ChainHolds, RotationsHo
 use Rattle.sm_judge.proofs.LinewiseLemmas.{AllHold, all_hold, hold_append, no_end}
 use Rattle.sm_agree.specs.Agree.{GetYes, RotationsAgree}
 use Rattle.sm_judge.proofs.AnswerLemmas.{said_same, said_one}
-use Rattle.sm_agree.proofs.LineLemmas.{Held, pass_append, has_word, has_other, group_whole, yes_of}
-use Rattle.sm_agree.proofs.SeatLemmas.{is_seat_shown, pair_numbers_are, all_seated, SeatsAbove, seats_hold, seats_pass, firsts_hold}
+use Rattle.sm_agree.proofs.LineLemmas.{Held, pass_append, has_word, has_other, is_whole-group, yes_of}
+use Rattle.sm_agree.proofs.SeatLemmas.{is_seat_shown, all_numbered-seated, all_seated, SeatsAbove, seats_hold, seats_pass, firsts_hold}
 use Rattle.sm_agree.proofs.BlockLemmas.{blocks_hold, blocks_pass, blocks_whole, lines_of, shown_is}
 
 -- The first rotations of a chain.
@@ -92,10 +91,10 @@ numbers_back [] = refl
 numbers_back (k ∷ needed) = ap (λ n. n ∷ map pred (numbers_of needed)) (let e : pred (k + 1) ≡ k = omega arith in e) ∙ ap (λ xs. k ∷ xs) (numbers_back needed)
 
 -- its seats are there
-pub pairs_fit : (w : Written) (pairs : List (ℕ × ℕ)) → All (λ (pair : ℕ × ℕ). pair.1 < length (seats_of w)) pairs → list_all (is_seat w) (map (λ pair. pair.1) (seated_pairs (seating_of w) pairs)) ≡ true
+pub pairs_fit : (w : Written) (pairs : List (ℕ × ℕ)) → All (λ (pair : ℕ × ℕ). pair.1 < length (seats_of w)) pairs → list_all (is_seat w) (map (λ pair. pair.1) (seated_rotation (seating_of w) pairs)) ≡ true
 pairs_fit w [] there = refl
 pairs_fit w (pair ∷ pairs) there =
-    ap (λ t. t && list_all (is_seat w) (map (λ pair. pair.1) (seated_pairs (seating_of w) pairs))) (is_seat_shown w pair.1 (there 0 (0, 0) (omega arith)))
+    ap (λ t. t && list_all (is_seat w) (map (λ pair. pair.1) (seated_rotation (seating_of w) pairs))) (is_seat_shown w pair.1 (there 0 (0, 0) (omega arith)))
     ∙ pairs_fit w pairs (λ k d less. there (suc k) d (omega (arith, less)))
 
 -- The clauses.
@@ -128,7 +127,7 @@ module _ (w : Written) where
 -- The lines of a right answer.
 
 module _ (w : Written) (i : IsInstance w) (few : AreFewSeats w) (first : Places) (rotations : List (List (ℕ × ℕ))) (needs : List (List ℕ))
-    (printed : IsPrintedChain (seat_market w) first rotations) (needed : AreNeeds w rotations needs) where
+    (printed : IsPrintedChain (seat_market w) first rotations) (needed : AreNeeds (seat_market w) rotations needs) where
   abbrev l : Lists
   l = seat_market w
 
@@ -186,15 +185,15 @@ module _ (w : Written) (i : IsInstance w) (few : AreFewSeats w) (first : Places)
     rotation_holds said =
         let lowest = printed.lowest k less in
         let at : IsLowestExposed l (reached w above) (rotation_at rotations k) = subst (λ f. IsLowestExposed l f (rotation_at rotations k)) (sym (reached_is k (omega arith) above said)) lowest in
-        all_clauses w above (rotation_line s rotations k) tt (λ _. best_above k (omega arith) above said) (subst (IsLowestExposed l (reached w above)) (sym (pair_numbers_are w (rotation_at rotations k) (there k))) at)
+        all_clauses w above (rotation_line s rotations k) tt (λ _. best_above k (omega arith) above said) (subst (IsLowestExposed l (reached w above)) (sym (all_numbered-seated w (rotation_at rotations k) (there k))) at)
         (λ b. no_end b.behind) tt
 
     rotation_said : AreSaid k above → AreSaid (k + 1) (above ++ rotation_line s rotations k ∷ [])
     rotation_said said = record {
       first_is = same_first above (rotation_line s rotations k) refl said.first_is;
       rotations_are =
-          said_one (rotation_in w) above (rotation_line s rotations k) (all_numbered w (seated_pairs s (rotation_at rotations k))) refl
-          ∙ ap (λ x. rotations_in w above ++ x ∷ []) (pair_numbers_are w (rotation_at rotations k) (there k)) ∙ ap (λ xs. xs ++ rotation_at rotations k ∷ []) said.rotations_are
+          said_one (rotation_in w) above (rotation_line s rotations k) (all_numbered w (seated_rotation s (rotation_at rotations k))) refl
+          ∙ ap (λ x. rotations_in w above ++ x ∷ []) (all_numbered-seated w (rotation_at rotations k) (there k)) ∙ ap (λ xs. xs ++ rotation_at rotations k ∷ []) said.rotations_are
           ∙ sym (take_more rotations k [] less);
     }
 
@@ -202,7 +201,7 @@ module _ (w : Written) (i : IsInstance w) (few : AreFewSeats w) (first : Places)
     needs_holds said =
         let long = length-take-le (k + 1) rotations (omega arith) in
         let last : last_rotation w above ≡ k = (let e = ap (λ (xs : List (List (ℕ × ℕ))). length xs) said.rotations_are in omega (arith, e, long)) in
-        let all = needs_of_front l first rotations (k + 1) market printed.chain (omega arith) k (row needs k) (omega arith) (needed.of k less) in
+        let all = needs_of_front l first rotations (k + 1) market printed.chain (omega arith) k (row needs k) (omega arith) (needed.each k less) in
         let above_all : AreNeedsOf l (rotations_in w above) (last_rotation w above) (row needs k) =
         subst (λ j. AreNeedsOf l (rotations_in w above) j (row needs k)) (sym last) (subst (λ xs. AreNeedsOf l xs k (row needs k)) (sym said.rotations_are) all) in
         all_clauses w above (needs_line needs k) tt (λ _. best_above (k + 1) (omega arith) above said) tt (λ b. no_end b.behind)
@@ -258,7 +257,7 @@ module _ (w : Written) (i : IsInstance w) (few : AreFewSeats w) (first : Places)
 
   placed : is_placed is_whole (Two w) (lines_of s first rotations needs n m) ≡ true
   placed =
-      group_whole keyword.First (blocks_of 2) closing firsts (blocks ++ LineData.End ∷ []) (firsts_pass (has_word keyword.First) (λ p k less. refl))
+      is_whole-group keyword.First (blocks_of 2) closing firsts (blocks ++ LineData.End ∷ []) (firsts_pass (has_word keyword.First) (λ p k less. refl))
       (behind_pass (has_other keyword.First) (λ k. refl) (λ k. refl) refl) (blocks_whole s rotations needs 0 m)
 
   -- a chain is short
@@ -267,7 +266,7 @@ module _ (w : Written) (i : IsInstance w) (few : AreFewSeats w) (first : Places)
 
   sound : All (IsLineOf (Two w)) (lines_of s first rotations needs n m)
   sound =
-      let given = rotations_given_sound (Two w) i seating first rotations needs refl printed short needed.of in
+      let given = rotations_given_sound (Two w) i seating first rotations needs refl printed short needed.each in
       let a : n - 0 ≡ n = omega arith in
       let b : m - 0 ≡ m = omega arith in
       subst (λ k. All (IsLineOf (Two w)) (lines_of s first rotations needs n k)) b (subst (λ k. All (IsLineOf (Two w)) (lines_of s first rotations needs k (m - 0))) a given)

@@ -25,16 +25,16 @@ use Rattle.sm_seats.specs.SeatMarket.{seat_market, seats_of, seats_before, seat_
 use Rattle.sm_seats.specs.Seating.{seating_of}
 use Rattle.sm_seats.proofs.SeatLemmas.{seat_found, seat_name, length-seats}
 use Rattle.sm_shown.specs.Reduction.{seat_of, best_seat, seat_line}
-use Rattle.sm_shown.specs.RotationLines.{seated_pairs}
+use Rattle.sm_shown.specs.RotationLines.{seated_rotation}
 use Rattle.sm_forms.specs.Seats.{is_seat, seat_number, seat_numbers, all_numbered}
 use Rattle.sm_pairs.specs.Held.{partner_in}
-use Rattle.sm_pairs.proofs.HoldingLemmas.{here_later, other_later}
+use Rattle.sm_pairs.proofs.HoldingLemmas.{partner_in-push_same, partner_in-push_other}
 use Rattle.sm_judge.specs.declared.verdicts.Reason.{Reason}
 use Rattle.sm_judge.specs.declared.verdicts.Reason.TheVariants as reason
 use Rattle.sm_judge.specs.Pairs.{times_second}
 use Rattle.sm_judge.specs.Said.{first_in, firsts_in, is_up_to_firsts, IsFirstBehind}
 use Rattle.sm_judge.specs.SeatMatchings.{IsFreeSeat, seat_places_in, first_of, FirstsHold}
-use Rattle.sm_judge.proofs.PairLemmas.{second_more}
+use Rattle.sm_judge.proofs.PairLemmas.{times_second-push}
 use Rattle.sm_judge.proofs.SeatPairLemmas.{passed_over, with_proposers_is}
 use Rattle.sm_judge.proofs.AnswerLemmas.{said_one}
 use Rattle.sm_agree.proofs.LineLemmas.{Steps, Held, numbers_hold, numbers_pass}
@@ -71,11 +71,11 @@ are_seats_shown w (x ∷ xs) there =
     ∙ are_seats_shown w xs (λ k d l. there (suc k) d (omega (arith, l)))
 
 -- and of pairs of a proposer and a seat
-pub pair_numbers_are : (w : Written) (pairs : List (ℕ × ℕ)) → All (λ (pair : ℕ × ℕ). pair.1 < length (seats_of w)) pairs → all_numbered w (seated_pairs (seating_of w) pairs) ≡ pairs
-pair_numbers_are w [] there = refl
-pair_numbers_are w (pair ∷ pairs) there =
-    ap (λ k. (pair.0, k) ∷ all_numbered w (seated_pairs (seating_of w) pairs)) (seat_number_is w pair.1 (there 0 (0, 0) (omega arith)))
-    ∙ ap (λ xs. pair ∷ xs) (pair_numbers_are w pairs (λ k d l. there (suc k) d (omega (arith, l))))
+pub all_numbered-seated : (w : Written) (pairs : List (ℕ × ℕ)) → All (λ (pair : ℕ × ℕ). pair.1 < length (seats_of w)) pairs → all_numbered w (seated_rotation (seating_of w) pairs) ≡ pairs
+all_numbered-seated w [] there = refl
+all_numbered-seated w (pair ∷ pairs) there =
+    ap (λ k. (pair.0, k) ∷ all_numbered w (seated_rotation (seating_of w) pairs)) (seat_number_is w pair.1 (there 0 (0, 0) (omega arith)))
+    ∙ ap (λ xs. pair ∷ xs) (all_numbered-seated w pairs (λ k d l. there (suc k) d (omega (arith, l))))
 
 -- The pairs of a matching.
 
@@ -118,14 +118,14 @@ module _ {l : Lists} {m : Places} {p : ℕ} {pairs : List (ℕ × ℕ)} (k : Are
       let none = k.past p (omega arith) in
       record {
         below = λ q less. elim (eq_or_ne q p) [
-          | inl is ↦ ap (partner_in (pairs ++ (p, s) ∷ [])) is ∙ here_later pairs p s none ∙ sym (ap (option_map (entry l.proposers p)) e) ∙ ap (seat_held l m) (sym is)
-          | inr ne ↦ other_later pairs p s q none ne ∙ k.below q (omega (arith, less, ne))
+          | inl is ↦ ap (partner_in (pairs ++ (p, s) ∷ [])) is ∙ partner_in-push_same pairs p s none ∙ sym (ap (option_map (entry l.proposers p)) e) ∙ ap (seat_held l m) (sym is)
+          | inr ne ↦ partner_in-push_other pairs p s q none ne ∙ k.below q (omega (arith, less, ne))
         ];
-        past = λ q le. other_later pairs p s q none (λ e. omega (arith, le, e)) ∙ k.past q (omega (arith, le));
+        past = λ q le. partner_in-push_other pairs p s q none (λ e. omega (arith, le, e)) ∙ k.past q (omega (arith, le));
         second = λ seat more. elim (eq_or_ne s seat) [
           | inl is ↦ record { proposer = p; place = i; below = omega arith; holds = e; is = is }
           | inr ne ↦
-              let before = k.second seat (omega (arith, more, second_more pairs p s seat, passed_over (s == seat) (ne_eqb s seat ne))) in
+              let before = k.second seat (omega (arith, more, times_second-push pairs p s seat, passed_over (s == seat) (ne_eqb s seat ne))) in
               record { proposer = before.proposer; place = before.place; below = omega (arith, before.below); holds = before.holds; is = before.is }
         ];
       }

@@ -3,27 +3,27 @@ use Rattle.std.proofs.Common.{◌≡◌, ℕ, refl, sym, true, List, [], ◌∷�
 use Rattle.std.specs.List.{list_all}
 use Rattle.sm_instance.specs.Written.{Written, entry}
 use Rattle.sm_instance.specs.Sound.{IsInstance}
-use Rattle.sm_instance.specs.Stable.{IsStable}
+use Rattle.sm_instance.specs.Stable.{IsStable, IsBestOf}
 use Rattle.sm_instance.specs.declared.inputs.Input.TheVariants.{Two}
 use Rattle.sm_instance.specs.declared.kinds.Side.{Side}
 use Rattle.sm_instance.specs.declared.kinds.Side.TheVariants.{Proposers, Reviewers}
 use Rattle.sm_report.specs.Heads.{HeadData}
 use Rattle.sm_report.specs.Lines.{LineData}
-use Rattle.sm_shown.specs.Answers.{solve_lines, IsBestOf}
+use Rattle.sm_shown.specs.Answers.{solve_lines}
 use Rattle.sm_shown.proofs.SolveLemmas.{solve_sound}
-use Rattle.sm_forms.specs.declared.keywords.Keyword.TheVariants as keyword
-use Rattle.sm_forms.specs.declared.layouts.Part.TheVariants.{One}
+use Rattle.sm_report.specs.declared.keywords.Keyword.TheVariants as keyword
+use Rattle.sm_forms.specs.declared.layouts.LayoutPart.TheVariants.{One}
 use Rattle.sm_forms.specs.Layouts.{is_whole}
 use Rattle.sm_forms.specs.Forms.{fits, is_placed}
 use Rattle.sm_pairs.specs.Held.{places_in}
 use Rattle.sm_judge.specs.declared.verdicts.Reason.{Reason}
 use Rattle.sm_judge.specs.declared.verdicts.Reason.TheVariants as reason
 use Rattle.sm_judge.specs.Said.{pair_in, pairs_in}
-use Rattle.sm_judge.specs.Pairs.{IsFree, IsBestOf as IsJudgedBest}
+use Rattle.sm_judge.specs.Pairs.{IsFree}
 use Rattle.sm_judge.specs.Judging.{answer, Clauses}
 use Rattle.sm_judge.proofs.LinewiseLemmas.{AllHold, all_hold, hold_append, no_end}
 use Rattle.sm_agree.specs.Agree.{GetYes, SolveAgrees}
-use Rattle.sm_agree.proofs.LineLemmas.{Held, pass_append, has_word, group_whole, yes_of}
+use Rattle.sm_agree.proofs.LineLemmas.{Held, pass_append, has_word, is_whole-group, yes_of}
 use Rattle.sm_agree.proofs.PairLemmas.{free_below, all_below, lines_with, Above, pairs_hold, pairs_pass}
 
 module _ (w : Written) (side : Side) where
@@ -39,18 +39,21 @@ module _ (w : Written) (side : Side) where
   pair_holds above p r free reason.NotBest = λ e. no_end e
   pair_holds above p r free _ = tt
 
-  end_holds : (above : List LineData) → IsStable w (places_in w (pairs_in above)) → IsJudgedBest side w (places_in w (pairs_in above))
+  end_holds : (above : List LineData) → IsStable w (places_in w (pairs_in above)) → IsBestOf side w (places_in w (pairs_in above))
       → (why : Reason) → Clauses (answer w (HeadData.Solve (Some side))) above LineData.End why
   end_holds above stable best reason.NotAMatching = tt
   end_holds above stable best reason.Blocked = λ _. stable
   end_holds above stable best reason.NotBest = λ _. best
   end_holds above stable best _ = tt
 
-best_is : (side : Side) (w : Written) (places : List (Option ℕ)) → IsBestOf side w places → IsStable w places × IsJudgedBest side w places
-best_is Proposers w places b = (b.stable, b)
-best_is Reviewers w places b = (b.stable, b)
+stable_of : (side : Side) (w : Written) (places : List (Option ℕ)) → IsBestOf side w places → IsStable w places
+stable_of Proposers w places b = b.stable
+stable_of Reviewers w places b = b.stable
 
-module _ {w : Written} (side : Side) (places : List (Option ℕ)) (i : IsInstance w) (b : IsStable w places × IsJudgedBest side w places) where
+module _ {w : Written} (side : Side) (places : List (Option ℕ)) (i : IsInstance w) (best : IsBestOf side w places) where
+  stable : IsStable w places
+  stable = stable_of side w places best
+
   abbrev head : LineData
   head = LineData.Answer (HeadData.Solve (Some side))
 
@@ -66,13 +69,13 @@ module _ {w : Written} (side : Side) (places : List (Option ℕ)) (i : IsInstanc
   front : Held C (Above C w places pair_in LineData.Pair (λ p r. refl) Nothing (length w.proposers)) (head ∷ []) pairs
   front =
       pairs_hold C w places pair_in LineData.Pair (λ p r. refl) Nothing (λ above p r k. tt)
-      (λ above p i k e. pair_holds w side above p (entry w.proposers p i) (free_below k.0 b.0.matching i e)) (head ∷ []) refl tt
+      (λ above p i k e. pair_holds w side above p (entry w.proposers p i) (free_below k.0 stable.matching i e)) (head ∷ []) refl tt
 
   same : places_in w (pairs_in (head ∷ pairs)) ≡ places
-  same = all_below front.1.0 i.proposer_entries b.0.matching.assigned
+  same = all_below front.1.0 i.proposer_entries stable.matching.assigned
 
   ends : (why : Reason) → C (head ∷ pairs) LineData.End why
-  ends = end_holds w side (head ∷ pairs) (subst (IsStable w) (sym same) b.0) (subst (IsJudgedBest side w) (sym same) b.1)
+  ends = end_holds w side (head ∷ pairs) (subst (IsStable w) (sym same) stable) (subst (IsBestOf side w) (sym same) best)
 
   all : AllHold C [] (solve_lines side w places)
   all = (head_holds w side [], hold_append C (head ∷ []) pairs (LineData.End ∷ []) front.0 (ends, tt))
@@ -81,12 +84,12 @@ module _ {w : Written} (side : Side) (places : List (Option ℕ)) (i : IsInstanc
   fitting = pass_append (fits (Two w)) pairs (LineData.End ∷ []) (pairs_pass LineData.Pair w places (fits (Two w)) (λ p r. refl)) refl
 
   placed : is_placed is_whole (Two w) (solve_lines side w places) ≡ true
-  placed = group_whole keyword.Pair (One keyword.End) [] pairs (LineData.End ∷ []) (pairs_pass LineData.Pair w places (has_word keyword.Pair) (λ p r. refl)) refl refl
+  placed = is_whole-group keyword.Pair (One keyword.End) [] pairs (LineData.End ∷ []) (pairs_pass LineData.Pair w places (has_word keyword.Pair) (λ p r. refl)) refl refl
 
   -- the lines of the pairs of a side's best matching get a yes
   pub solve_yes : GetYes (Two w) (solve_lines side w places)
-  solve_yes = yes_of (Two w) (solve_lines side w places) (solve_sound w places side i b.0.matching) fitting placed (all_hold C (solve_lines side w places) all)
+  solve_yes = yes_of (Two w) (solve_lines side w places) (solve_sound w places side i stable.matching) fitting placed (all_hold C (solve_lines side w places) all)
 
 -- the law for `solve` over two sides
 pub solve_agrees : SolveAgrees
-solve_agrees w side lines i s = subst (GetYes (Two w)) (sym s.shows) (solve_yes side s.places i (best_is side w s.places s.best))
+solve_agrees w side lines i s = subst (GetYes (Two w)) (sym s.shows) (solve_yes side s.places i s.best)

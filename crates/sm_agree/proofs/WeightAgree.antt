@@ -9,7 +9,7 @@ use Rattle.sm_instance.specs.declared.inputs.Input.TheVariants.{Two}
 use Rattle.sm_instance.specs.declared.kinds.Measure.{Measure}
 use Rattle.sm_instance.specs.declared.kinds.Side.TheVariants.{Proposers}
 use Rattle.sm_market.specs.Matching.{Places}
-use Rattle.sm_theory.specs.Chains.{IsPrintedChain}
+use Rattle.sm_theory.specs.Chains.{IsPrintedChain, AreNeeds}
 use Rattle.sm_theory.specs.ClosedSets.{IsClosed}
 use Rattle.sm_theory.specs.declared.flow_lines.FlowLine.{FlowLine}
 use Rattle.sm_theory.proofs.Bridge.Chain.{eliminable_of}
@@ -24,17 +24,17 @@ use Rattle.sm_seats.specs.Seating.{Seating, seating_of}
 use Rattle.sm_seats.proofs.CorrespondenceLaws.{is_seating, sound_entries}
 use Rattle.sm_seats.proofs.LawsProved.{few_seats_fit}
 use Rattle.sm_shown.specs.Reduction.{seat_line}
-use Rattle.sm_shown.specs.RotationAnswer.{AreNeeds}
-use Rattle.sm_lightest.specs.WeightAnswer.{IsLightest, IsCertificate, Parts, net_in, matching_in, shown_node, flow_line}
-use Rattle.sm_forms.specs.declared.keywords.Keyword.TheVariants as keyword
-use Rattle.sm_forms.specs.declared.layouts.Part.TheVariants.{One, Many}
+use Rattle.sm_lightest.specs.WeightAnswer.{IsCertificate, WeightParts, net_in, matching_in, shown_node, flow_line}
+use Rattle.sm_instance.specs.Lightest.{IsLightest}
+use Rattle.sm_report.specs.declared.keywords.Keyword.TheVariants as keyword
+use Rattle.sm_forms.specs.declared.layouts.LayoutPart.TheVariants.{One, Many}
 use Rattle.sm_forms.specs.Layouts.{is_whole}
 use Rattle.sm_forms.specs.Forms.{fits, is_placed, blocks_of, closing}
 use Rattle.sm_judge.specs.declared.verdicts.Reason.{Reason}
 use Rattle.sm_judge.specs.Said.{pair_in, pairs_in}
 use Rattle.sm_judge.proofs.LinewiseLemmas.{AllHold, all_hold, hold_append}
 use Rattle.sm_agree.specs.Agree.{GetYes, WeightAgrees}
-use Rattle.sm_agree.proofs.LineLemmas.{Held, pass_append, map_pass, has_word, has_other, group_whole, yes_of}
+use Rattle.sm_agree.proofs.LineLemmas.{Held, pass_append, map_pass, has_word, has_other, is_whole-group, yes_of}
 use Rattle.sm_agree.proofs.PairLemmas.{wanted_pair, all_wanted, lines_with, Above, pairs_hold, pairs_pass}
 use Rattle.sm_agree.proofs.WeightLines.{AreSaid, said_more, Early, early_more, early_as, in_blocks, in_flow, in_figures, three_lines, threes_whole, taken_line, value_of, value_line, cut_line, total_line, figures_of, lines_of, weight_shown}
 use Rattle.sm_agree.proofs.WeightBlocks.{C, head_holds, firsts_are, blocks_are, firsts_pass, three_pass, firsts_fit, blocks_fit}
@@ -42,7 +42,7 @@ use Rattle.sm_agree.proofs.WeightFigures.{IsRight, edges_hold, taken_line_holds,
 
 -- The lines of a right answer.
 
-module _ (w : Written) (by : Measure) (parts : Parts) (i : IsInstance w) (few : AreFewSeats w) (printed : IsPrintedChain (seat_market w) parts.first parts.rotations) (needed : AreNeeds w parts.rotations parts.needs)
+module _ (w : Written) (by : Measure) (parts : WeightParts) (i : IsInstance w) (few : AreFewSeats w) (printed : IsPrintedChain (seat_market w) parts.first parts.rotations) (needed : AreNeeds (seat_market w) parts.rotations parts.needs)
     (certificate : IsCertificate (net_in by w parts) parts.flow parts.taken) (closed : IsClosed (seat_market w) parts.rotations parts.taken) (lightest : IsLightest by w (matching_in w parts)) where
   abbrev s : Seating
   s = seating_of w
@@ -179,15 +179,15 @@ module _ (w : Written) (by : Measure) (parts : Parts) (i : IsInstance w) (few : 
 
   placed : is_placed is_whole (Two w) (lines_of by w parts) ≡ true
   placed =
-      group_whole keyword.First (blocks_of 3) (Many keyword.Flow ∷ One keyword.Taken ∷ One keyword.Value ∷ One keyword.Cut ∷ One keyword.Total ∷ Many keyword.Pair ∷ closing) firsts (blocks ++ (edges ++ behind_flow))
+      is_whole-group keyword.First (blocks_of 3) (Many keyword.Flow ∷ One keyword.Taken ∷ One keyword.Value ∷ One keyword.Cut ∷ One keyword.Total ∷ Many keyword.Pair ∷ closing) firsts (blocks ++ (edges ++ behind_flow))
       (firsts_pass by i printed needed (has_word keyword.First) (λ p k less. refl))
       (pass_append (has_other keyword.First) blocks (edges ++ behind_flow) (three_pass by i printed needed (has_other keyword.First) (λ k. refl) (λ k. refl) (λ k. refl))
       (pass_append (has_other keyword.First) edges behind_flow (flow_pass (has_other keyword.First) (λ from to amount. refl)) (last_pass (has_other keyword.First) (λ p r. refl) refl)))
       (threes_whole by w rotations needs (Many keyword.Flow) (One keyword.Taken ∷ One keyword.Value ∷ One keyword.Cut ∷ One keyword.Total ∷ Many keyword.Pair ∷ closing) (edges ++ behind_flow)
       (pass_append (has_other keyword.Rotation) edges behind_flow (flow_pass (has_other keyword.Rotation) (λ from to amount. refl)) (last_pass (has_other keyword.Rotation) (λ p r. refl) refl))
-      (group_whole keyword.Flow (One keyword.Taken) (One keyword.Value ∷ One keyword.Cut ∷ One keyword.Total ∷ Many keyword.Pair ∷ closing) edges behind_flow
+      (is_whole-group keyword.Flow (One keyword.Taken) (One keyword.Value ∷ One keyword.Cut ∷ One keyword.Total ∷ Many keyword.Pair ∷ closing) edges behind_flow
       (flow_pass (has_word keyword.Flow) (λ from to amount. refl)) (last_pass (has_other keyword.Flow) (λ p r. refl) refl)
-      (group_whole keyword.Pair (One keyword.End) [] pairs (LineData.End ∷ []) (pairs_pass LineData.Pair w places (has_word keyword.Pair) (λ p r. refl)) refl refl)) 0 m)
+      (is_whole-group keyword.Pair (One keyword.End) [] pairs (LineData.End ∷ []) (pairs_pass LineData.Pair w places (has_word keyword.Pair) (λ p r. refl)) refl refl)) 0 m)
 
   weight_yes : All (IsLineOf (Two w)) (lines_of by w parts) → GetYes (Two w) (lines_of by w parts)
   weight_yes sound = yes_of (Two w) (lines_of by w parts) sound fitting placed (all_hold (C w by) (lines_of by w parts) all)

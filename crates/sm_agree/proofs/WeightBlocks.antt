@@ -11,7 +11,7 @@ use Rattle.sm_market.specs.Lists.{Lists, row, IsMarket}
 use Rattle.sm_market.specs.Matching.{Places, IsMatching}
 use Rattle.sm_market.specs.Stable.{IsProposersBest}
 use Rattle.sm_theory.specs.Rotations.{IsNothingExposed, IsLowestExposed}
-use Rattle.sm_theory.specs.Chains.{rotation_at, stage, IsCompleteChain, IsPrintedChain, AreNeedsOf}
+use Rattle.sm_theory.specs.Chains.{rotation_at, stage, IsCompleteChain, IsPrintedChain, AreNeedsOf, AreNeeds}
 use Rattle.sm_theory.specs.Weights.{gain_of}
 use Rattle.sm_report.specs.declared.lines.Seat.{Seat}
 use Rattle.sm_report.specs.Heads.{HeadData}
@@ -22,9 +22,8 @@ use Rattle.sm_seats.specs.Seating.{Seating, seating_of}
 use Rattle.sm_seats.specs.Correspondence.{IsSeating, weights_of}
 use Rattle.sm_seats.proofs.CorrespondenceLaws.{is_seating, sound_entries}
 use Rattle.sm_shown.specs.Reduction.{seat_of, seat_line}
-use Rattle.sm_shown.specs.RotationLines.{numbers_of, seated_pairs}
-use Rattle.sm_shown.specs.RotationAnswer.{pairs_of, AreNeeds}
-use Rattle.sm_shown.specs.GivenLines.{rotation_line, needs_line}
+use Rattle.sm_shown.specs.RotationLines.{numbers_of, seated_rotation, rotation_line, needs_line}
+use Rattle.sm_shown.specs.RotationAnswer.{pairs_of}
 use Rattle.sm_shown.proofs.RotationLemmas.{seats_named}
 use Rattle.sm_lightest.specs.WeightAnswer.{gain_of_pairs}
 use Rattle.sm_lightest.proofs.GainLemmas.{gain_shown}
@@ -40,7 +39,7 @@ use Rattle.sm_judge.specs.Flows.{Level, first_level, LevelHolds, TakenHolds, tak
 use Rattle.sm_judge.proofs.LinewiseLemmas.{no_end}
 use Rattle.sm_judge.proofs.AnswerLemmas.{said_same}
 use Rattle.sm_agree.proofs.LineLemmas.{Held}
-use Rattle.sm_agree.proofs.SeatLemmas.{is_seat_shown, pair_numbers_are, all_seated, SeatsAbove, seats_hold, seats_pass, firsts_hold}
+use Rattle.sm_agree.proofs.SeatLemmas.{is_seat_shown, all_numbered-seated, all_seated, SeatsAbove, seats_hold, seats_pass, firsts_hold}
 use Rattle.sm_agree.proofs.BlockLemmas.{blocks_hold, blocks_pass}
 use Rattle.sm_agree.proofs.RotationsAgree.{same_rotation, same_stage, needs_of_front, numbers_back, pairs_fit}
 use Rattle.sm_agree.proofs.WeightLines.{Said, said_in, with_line, said_one, AreSaid, told, Early, early_more, early_as, in_blocks, three_lines}
@@ -125,7 +124,7 @@ module _ {w : Written} {first : Places} {rotations : List (List (ℕ × ℕ))} (
 
 -- The first seats and the blocks of a chain.
 
-module _ {w : Written} (by : Measure) {first : Places} {rotations : List (List (ℕ × ℕ))} {needs : List (List ℕ)} (i : IsInstance w) (printed : IsPrintedChain (seat_market w) first rotations) (needed : AreNeeds w rotations needs) where
+module _ {w : Written} (by : Measure) {first : Places} {rotations : List (List (ℕ × ℕ))} {needs : List (List ℕ)} (i : IsInstance w) (printed : IsPrintedChain (seat_market w) first rotations) (needed : AreNeeds (seat_market w) rotations needs) where
   abbrev l : Lists
   l = seat_market w
 
@@ -152,7 +151,7 @@ module _ {w : Written} (by : Measure) {first : Places} {rotations : List (List (
   there k = seats_named s first rotations market seating.seats printed.chain k
 
   abbrev gain_at : ℕ → LineData
-  gain_at k = LineData.Gain (k + 1) (gain_of_pairs by w (pairs_of (seated_pairs s (rotation_at rotations k))))
+  gain_at k = LineData.Gain (k + 1) (gain_of_pairs by w (pairs_of (seated_rotation s (rotation_at rotations k))))
 
   module _ (k : ℕ) (less : k < m) (above : List LineData) where
     stage_is : stage l first (take k rotations) (length (take k rotations)) ≡ stage l first rotations k
@@ -163,10 +162,10 @@ module _ {w : Written} (by : Measure) {first : Places} {rotations : List (List (
         let x = rotation_line s rotations k in
         let lowest : IsLowestExposed l (stage l first (take k rotations) (length (take k rotations))) (rotation_at rotations k) =
         subst (λ (f : Places). IsLowestExposed l f (rotation_at rotations k)) (sym stage_is) (printed.lowest k less) in
-        let numbered = subst (IsLowestExposed l (stage l first (take k rotations) (length (take k rotations)))) (sym (pair_numbers_are w (rotation_at rotations k) (there k))) lowest in (
+        let numbered = subst (IsLowestExposed l (stage l first (take k rotations) (length (take k rotations)))) (sym (all_numbered-seated w (rotation_at rotations k) (there k))) lowest in (
           firsts_hold w above x tt (λ _. best_above printed.chain (in_blocks rotations needs k k) above said.0) why,
           chain_holds w by above x
-              (told w first (λ f d. IsLowestExposed l (stage l f d.rotations (length d.rotations)) (all_numbered w (seated_pairs s (rotation_at rotations k)))) (in_blocks rotations needs k k) above said.0 numbered)
+              (told w first (λ f d. IsLowestExposed l (stage l f d.rotations (length d.rotations)) (all_numbered w (seated_rotation s (rotation_at rotations k)))) (in_blocks rotations needs k k) above said.0 numbered)
               (λ b. no_end b.behind) tt why,
           flows_hold w by above x tt tt tt tt tt tt tt tt why,
           taken_holds w by above x tt (λ e. no_end e) why,
@@ -175,8 +174,8 @@ module _ {w : Written} (by : Measure) {first : Places} {rotations : List (List (
 
     rotation_said : Early w first (in_blocks rotations needs k k) above → Early w first (in_blocks rotations needs (k + 1) k) (above ++ rotation_line s rotations k ∷ [])
     rotation_said said =
-        let more : take k rotations ++ all_numbered w (seated_pairs s (rotation_at rotations k)) ∷ [] ≡ take (k + 1) rotations =
-        ap (λ x. take k rotations ++ x ∷ []) (pair_numbers_are w (rotation_at rotations k) (there k)) ∙ sym (take_more rotations k [] less) in
+        let more : take k rotations ++ all_numbered w (seated_rotation s (rotation_at rotations k)) ∷ [] ≡ take (k + 1) rotations =
+        ap (λ x. take k rotations ++ x ∷ []) (all_numbered-seated w (rotation_at rotations k) (there k)) ∙ sym (take_more rotations k [] less) in
         early_as w first (with_line w (in_blocks rotations needs k k) (rotation_line s rotations k)) (in_blocks rotations needs (k + 1) k) (above ++ rotation_line s rotations k ∷ [])
         (λ i. record { rotations = more i; needs = take k needs; flows = []; taken = []; values = [] })
         (early_more w first (in_blocks rotations needs k k) above (rotation_line s rotations k) refl refl said)
@@ -188,7 +187,7 @@ module _ {w : Written} (by : Measure) {first : Places} {rotations : List (List (
     needs_hold said why =
         let x = needs_line needs k in
         let xs = take (k + 1) rotations in
-        let all = needs_of_front l first rotations (k + 1) market printed.chain (omega (arith, less)) k (row needs k) (omega arith) (needed.of k less) in
+        let all = needs_of_front l first rotations (k + 1) market printed.chain (omega (arith, less)) k (row needs k) (omega arith) (needed.each k less) in
         let of_last : AreNeedsOf l xs (length xs - 1) (map pred (numbers_of (row needs k))) =
         subst (λ j. AreNeedsOf l xs j (map pred (numbers_of (row needs k)))) (sym last_is) (subst (AreNeedsOf l xs k) (sym (numbers_back (row needs k))) all) in (
           firsts_hold w above x tt (λ _. best_above printed.chain (in_blocks rotations needs (k + 1) k) above said.0) why,
@@ -210,7 +209,7 @@ module _ {w : Written} (by : Measure) {first : Places} {rotations : List (List (
     gain_holds : Early w first (in_blocks rotations needs (k + 1) (k + 1)) above → (why : Reason) → C w by above (gain_at k) why
     gain_holds said why =
         let x = gain_at k in
-        let gain = gain_of_pairs by w (pairs_of (seated_pairs s (rotation_at rotations k))) in
+        let gain = gain_of_pairs by w (pairs_of (seated_rotation s (rotation_at rotations k))) in
         let gained : List (ℕ × ℕ) → ℤ = gain_of l (weights_of by w s) in
         let right : gain ≡ gained (rotation_at (take (k + 1) rotations) (length (take (k + 1) rotations) - 1)) =
         sym (gain_shown seating by printed.chain k less) ∙ ap gained (sym (ap (rotation_at (take (k + 1) rotations)) last_is ∙ same_rotation l first rotations (k + 1) k (omega arith))) in (

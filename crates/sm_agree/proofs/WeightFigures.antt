@@ -11,7 +11,7 @@ use Rattle.sm_theory.specs.Chains.{IsCompleteChain}
 use Rattle.sm_theory.specs.ClosedSets.{IsClosed, matching_of}
 use Rattle.sm_theory.specs.Net.{Net, cut_of}
 use Rattle.sm_theory.specs.Flows.{IsFlow, IsResidualReach}
-use Rattle.sm_theory.specs.FlowLines.{amount_on, amount_from, AreOnNodes, IsNewEdge, IsWithinRoom, IsConserved, AreLines}
+use Rattle.sm_theory.specs.FlowLines.{amount_on, amount_from, AreOnNodes, IsNewEdge, IsWithinRoom, IsConserved, AreFlowLines}
 use Rattle.sm_theory.specs.Conditions.{net_of}
 use Rattle.sm_theory.specs.declared.flow_lines.FlowLine.{FlowLine}
 use Rattle.sm_theory.proofs.Flow.Lines.{flow_of_lines}
@@ -20,7 +20,7 @@ use Rattle.sm_report.specs.Texts.{SINK}
 use Rattle.sm_seats.specs.SeatMarket.{seat_market}
 use Rattle.sm_seats.specs.Seating.{Seating, seating_of, levels_of, written_of}
 use Rattle.sm_seats.specs.Correspondence.{leveled, weights_of}
-use Rattle.sm_lightest.specs.WeightAnswer.{IsCertificate, Parts, net_in, matching_in, flow_line, member_numbers}
+use Rattle.sm_lightest.specs.WeightAnswer.{IsCertificate, WeightParts, net_in, matching_in, flow_line, member_numbers}
 use Rattle.sm_judge.specs.declared.verdicts.Reason.{Reason}
 use Rattle.sm_judge.specs.Said.{pairs_in}
 use Rattle.sm_judge.specs.Pairs.{IsWanted, AreAllThere}
@@ -28,21 +28,21 @@ use Rattle.sm_judge.specs.Flows.{on_nodes, set_of_numbers, IsAllowedSet, taken_m
 use Rattle.sm_judge.proofs.LinewiseLemmas.{no_end}
 use Rattle.sm_agree.proofs.LineLemmas.{Held}
 use Rattle.sm_agree.proofs.SeatLemmas.{firsts_hold}
-use Rattle.sm_agree.proofs.FlowLemmas.{shown_on, line_back, lines_back, front_nodes, here_nodes, new_edge, within_room, none_through, numbers_give, number_there}
+use Rattle.sm_agree.proofs.FlowLemmas.{shown_on, on_nodes-shown_on, lines_back, front_nodes, here_nodes, new_edge, within_room, none_through, set_of_numbers-member_numbers, number_there}
 use Rattle.sm_agree.proofs.WeightLines.{Said, with_line, AreSaid, told, Early, early_more, early_as, in_flow, in_figures, taken_line, value_of, value_line, cut_line, total_line}
 use Rattle.sm_agree.proofs.WeightBlocks.{C, chain_holds, flows_hold, taken_holds, wanted_holds, best_above, none_above}
 
 -- The lines of the flow, and those of what is taken, of the value, the cut and the weight.
 
 -- the flow and the set that are shown, where the rotations are few
-pub record IsRight (w : Written) (by : Measure) (parts : Parts) : Type 0 where
+pub record IsRight (w : Written) (by : Measure) (parts : WeightParts) : Type 0 where
   pub few : length parts.rotations < SINK
   pub chain : IsCompleteChain (seat_market w) parts.first parts.rotations
   pub certificate : IsCertificate (net_in by w parts) parts.flow parts.taken
   pub closed : IsClosed (seat_market w) parts.rotations parts.taken
   pub allowed : IsAllowed w (matching_in w parts)
 
-module _ {w : Written} {by : Measure} {parts : Parts} (right : IsRight w by parts) where
+module _ {w : Written} {by : Measure} {parts : WeightParts} (right : IsRight w by parts) where
   abbrev l : Lists
   l = seat_market w
 
@@ -93,7 +93,7 @@ module _ {w : Written} {by : Measure} {parts : Parts} (right : IsRight w by part
 
   through : (front back : List FlowLine) (x : FlowLine) → front ++ x ∷ back ≡ flow → IsNewEdge net front x × IsWithinRoom net x
   through front back x is =
-      let lines = subst (AreLines net) (sym is) right.certificate.lines in (
+      let lines = subst (AreFlowLines net) (sym is) right.certificate.lines in (
         new_edge net front back x lines (none_through l (levels_of s) (weights_of by w s) (leveled w w.forced) (leveled w w.forbidden) first rotations needs),
         within_room net front back x lines (subst (λ (xs : List FlowLine). IsFlow net (amount_on xs)) (sym is) right.certificate.is_flow),
       )
@@ -112,7 +112,7 @@ module _ {w : Written} {by : Measure} {parts : Parts} (right : IsRight w by part
     front_back = lines_back m front right.few (front_nodes net front back x (suc (suc m)) (nodes_at front back x is))
 
     x_back : on_nodes m (shown_on (suc m) x) ≡ x
-    x_back = let on = here_nodes net front back x (suc (suc m)) (nodes_at front back x is) in line_back m x right.few on.0 on.1
+    x_back = let on = here_nodes net front back x (suc (suc m)) (nodes_at front back x is) in on_nodes-shown_on m x right.few on.0 on.1
 
     edge_holds : (why : Reason) → C w by above line why
     edge_holds why =
@@ -153,7 +153,7 @@ module _ {w : Written} {by : Measure} {parts : Parts} (right : IsRight w by part
   size_is = right.closed.one_each
 
   set_is : set_of_numbers m numbers ≡ parts.taken
-  set_is = ap (λ n. set_of_numbers m (member_numbers parts.taken n)) size_is ∙ numbers_give parts.taken m size_is
+  set_is = ap (λ n. set_of_numbers m (member_numbers parts.taken n)) size_is ∙ set_of_numbers-member_numbers parts.taken m size_is
 
   conserved : IsConserved m flow
   conserved = ((flow_of_lines net flow right.certificate.lines.nodes).0.0 right.certificate.is_flow).1

@@ -17,20 +17,19 @@ use Rattle.sm_theory.specs.declared.flow_lines.FlowLine.{FlowLine}
 use Rattle.sm_report.specs.Heads.{HeadData}
 use Rattle.sm_report.specs.Lines.{LineData}
 use Rattle.sm_answer.specs.Lines.{lines_from}
-use Rattle.sm_answer.proofs.AnswerLemmas.{lines_alike}
+use Rattle.sm_answer.proofs.AnswerLemmas.{lines_from-same}
 use Rattle.sm_seats.specs.SeatMarket.{seat_market}
 use Rattle.sm_seats.specs.Seating.{Seating, seating_of}
 use Rattle.sm_shown.specs.Answers.{pair_line}
 use Rattle.sm_shown.specs.Reduction.{seat_line}
-use Rattle.sm_shown.specs.RotationLines.{first_seat, first_line, seated_pairs}
+use Rattle.sm_shown.specs.RotationLines.{first_seat, first_seat_line, seated_rotation, rotation_line, needs_line}
 use Rattle.sm_shown.specs.RotationAnswer.{pairs_of}
-use Rattle.sm_shown.specs.GivenLines.{rotation_line, needs_line}
 use Rattle.sm_shown.proofs.RotationLemmas.{flat_map_alike, first_shown}
-use Rattle.sm_lightest.specs.WeightAnswer.{gain_of_pairs, Parts, shown_in, net_in, matching_in, gained_lines, flow_line, member_numbers, weight_lines}
+use Rattle.sm_lightest.specs.WeightAnswer.{gain_of_pairs, WeightParts, shown_in, net_in, matching_in, gained_lines, flow_line, member_numbers, weight_lines}
 use Rattle.sm_lightest.proofs.RightLemmas.{gained_shown}
-use Rattle.sm_forms.specs.declared.keywords.Keyword.TheVariants as keyword
-use Rattle.sm_forms.specs.declared.layouts.Part.{Part}
-use Rattle.sm_forms.specs.declared.layouts.Part.TheVariants.{Blocks}
+use Rattle.sm_report.specs.declared.keywords.Keyword.TheVariants as keyword
+use Rattle.sm_forms.specs.declared.layouts.LayoutPart.{LayoutPart}
+use Rattle.sm_forms.specs.declared.layouts.LayoutPart.TheVariants.{Blocks}
 use Rattle.sm_forms.specs.Layouts.{behind, is_whole}
 use Rattle.sm_forms.specs.Forms.{opening_of}
 use Rattle.sm_judge.specs.Said.{first_in, rotation_in, rotations_in, needs_in, all_needs_in, flow_in, flows_in, taken_in, value_in, pair_in, pairs_in}
@@ -128,11 +127,11 @@ abbrev pub in_blocks : List (List (ℕ × ℕ)) → List (List ℕ) → (j k : �
 in_blocks rotations needs j k = record { rotations = take j rotations; needs = take k needs; flows = []; taken = []; values = [] }
 
 -- behind these lines of the flow
-abbrev pub in_flow : Parts → List FlowLine → Said
+abbrev pub in_flow : WeightParts → List FlowLine → Said
 in_flow parts front = record { rotations = parts.rotations; needs = parts.needs; flows = map (shown_on (suc (length parts.rotations))) front; taken = []; values = [] }
 
 -- behind the flow, the set that is taken and these values
-abbrev pub in_figures : Parts → List ℕ → Said
+abbrev pub in_figures : WeightParts → List ℕ → Said
 in_figures parts values = record {
   rotations = parts.rotations;
   needs = parts.needs;
@@ -148,12 +147,12 @@ abbrev pub three_lines : Measure → Written → List (List (ℕ × ℕ)) → Li
 three_lines by w rotations needs k =
     rotation_line (seating_of w) rotations k
     ∷ needs_line needs k
-    ∷ LineData.Gain (k + 1) (gain_of_pairs by w (pairs_of (seated_pairs (seating_of w) (rotation_at rotations k))))
+    ∷ LineData.Gain (k + 1) (gain_of_pairs by w (pairs_of (seated_rotation (seating_of w) (rotation_at rotations k))))
     ∷ []
 
 -- Their layout, with others behind them, of which none begins a block.
-module _ (by : Measure) (w : Written) (rotations : List (List (ℕ × ℕ))) (needs : List (List ℕ)) (part : Part) (parts : List Part) where
-  abbrev turn_at : (place number : ℕ) → Part
+module _ (by : Measure) (w : Written) (rotations : List (List (ℕ × ℕ))) (needs : List (List ℕ)) (part : LayoutPart) (parts : List LayoutPart) where
+  abbrev turn_at : (place number : ℕ) → LayoutPart
   turn_at place number = Blocks (record { lines = 3; place = place; number = number })
 
   none_whole : (k : ℕ) (rest : List LineData) → list_all (has_other keyword.Rotation) rest ≡ true → is_whole ((part ∷ parts) ∷ []) (map opening_of rest) ≡ true
@@ -173,7 +172,7 @@ module _ (by : Measure) (w : Written) (rotations : List (List (ℕ × ℕ))) (ne
   threes_whole rest others whole k (suc n) =
       let later = map opening_of (flat_map (three_lines by w rotations needs) (range_with_len (k + 1) n) ++ rest) in
       let needed = opening_of (needs_line needs k) in
-      let gained = opening_of (LineData.Gain (k + 1) (gain_of_pairs by w (pairs_of (seated_pairs (seating_of w) (rotation_at rotations k))))) in
+      let gained = opening_of (LineData.Gain (k + 1) (gain_of_pairs by w (pairs_of (seated_rotation (seating_of w) (rotation_at rotations k))))) in
       let same : (k + 1 == k + 1) ≡ true = eq-eqb (k + 1) (k + 1) refl in
       if_whole (k + 1 == k + 1) (turn_at 1 (k + 1) ∷ part ∷ parts) (needed ∷ gained ∷ later) same
       (if_whole (k + 1 == k + 1) (turn_at 2 (k + 1) ∷ part ∷ parts) (gained ∷ later) same
@@ -182,31 +181,31 @@ module _ (by : Measure) (w : Written) (rotations : List (List (ℕ × ℕ))) (ne
 -- The lines that are shown.
 
 -- behind the lines of a flow
-abbrev pub taken_line : Parts → LineData
+abbrev pub taken_line : WeightParts → LineData
 taken_line parts = LineData.Taken (member_numbers parts.taken (length parts.taken))
 
 -- the value of the flow
-abbrev pub value_of : Measure → Written → Parts → ℕ
+abbrev pub value_of : Measure → Written → WeightParts → ℕ
 value_of by w parts = flow_value (net_in by w parts) (amount_on parts.flow)
 
 -- the line of the value
-abbrev pub value_line : Measure → Written → Parts → LineData
+abbrev pub value_line : Measure → Written → WeightParts → LineData
 value_line by w parts = LineData.Value (value_of by w parts)
 
 -- the line of the cut
-abbrev pub cut_line : Measure → Written → Parts → LineData
+abbrev pub cut_line : Measure → Written → WeightParts → LineData
 cut_line by w parts = LineData.Cut (cut_of (net_in by w parts) parts.taken)
 
 -- the line of the total
-abbrev pub total_line : Measure → Written → Parts → LineData
+abbrev pub total_line : Measure → Written → WeightParts → LineData
 total_line by w parts = LineData.Total (weight_of by w (matching_in w parts))
 
 -- the four lines of these figures, with others behind them
-abbrev pub figures_of : Measure → Written → Parts → List LineData → List LineData
+abbrev pub figures_of : Measure → Written → WeightParts → List LineData → List LineData
 figures_of by w parts rest = taken_line parts ∷ value_line by w parts ∷ cut_line by w parts ∷ total_line by w parts ∷ rest
 
 -- all of them
-abbrev pub lines_of : Measure → Written → Parts → List LineData
+abbrev pub lines_of : Measure → Written → WeightParts → List LineData
 lines_of by w parts =
     LineData.Answer (HeadData.Weight by) ∷
     (lines_from (seat_line Proposers (seating_of w) parts.first) 0 (length (seat_market w).proposers)
@@ -214,7 +213,7 @@ lines_of by w parts =
     ++ (map (flow_line (suc (length parts.rotations))) parts.flow
     ++ figures_of by w parts (lines_from (pair_line w (matching_in w parts)) 0 (length w.proposers) ++ LineData.End ∷ []))))
 
-module _ (by : Measure) (w : Written) (parts : Parts) where
+module _ (by : Measure) (w : Written) (parts : WeightParts) where
   abbrev s : Seating
   s = seating_of w
 
@@ -227,6 +226,6 @@ module _ (by : Measure) (w : Written) (parts : Parts) where
       let form : List LineData → List LineData → List LineData = (λ x y. LineData.Answer (HeadData.Weight by) ∷ (x ++ (y ++ (flow ++ rest)))) in
       let blocks = flat_map (gained_lines by w parts) (range_with_len 0 (length parts.rotations)) in
       let long : length shown.firsts ≡ n = length-map-range_with_len (first_seat s parts.first) 0 n in
-      let firsts = sym (lines_alike (seat_line Proposers s parts.first) (first_line shown) (first_shown s parts.first parts.rotations parts.needs one) 0 n) in
-      ap (λ k. form (lines_from (first_line shown) 0 k) blocks) long ∙ ap (λ x. form x blocks) firsts
+      let firsts = sym (lines_from-same (seat_line Proposers s parts.first) (first_seat_line shown) (first_shown s parts.first parts.rotations parts.needs one) 0 n) in
+      ap (λ k. form (lines_from (first_seat_line shown) 0 k) blocks) long ∙ ap (λ x. form x blocks) firsts
       ∙ ap (form (lines_from (seat_line Proposers s parts.first) 0 n)) (flat_map_alike (gained_lines by w parts) (three_lines by w parts.rotations parts.needs) 0 (length parts.rotations) (λ k l. gained_shown by w parts k))

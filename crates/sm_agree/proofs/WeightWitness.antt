@@ -7,7 +7,8 @@ use Rattle.std.proofs.lemmas.List.Elements.{All-cons, All-from_recursion}
 use Rattle.sm_instance.specs.Written.{Written}
 use Rattle.sm_instance.specs.Matching.{standing}
 use Rattle.sm_instance.specs.Ranks.{weight_of as written_weight}
-use Rattle.sm_instance.specs.Sound.{IsInstance, IsSoundItem, items_of, pair_at}
+use Rattle.sm_instance.specs.Sound.{IsInstance, IsSoundItem, items_of}
+use Rattle.sm_lists.specs.Pairs.{pair_at}
 use Rattle.sm_instance.specs.declared.inputs.Input.TheVariants.{Two}
 use Rattle.sm_instance.specs.declared.kinds.Measure.{Measure}
 use Rattle.sm_instance.specs.declared.kinds.Measure.TheVariants.{Given}
@@ -40,9 +41,12 @@ use Rattle.sm_seats.proofs.CorrespondenceLaws.{is_seating, sound_entries}
 use Rattle.sm_seats.proofs.SeatingLaws.{as_well}
 use Rattle.sm_seats.proofs.VectorLaws.{allowed_seats, lightest_written}
 use Rattle.sm_shown.proofs.ShownLemmas.{correspondence}
-use Rattle.sm_lightest.specs.WeightAnswer.{IsLightest, Parts, member_numbers, IsWeightAnswer}
+use Rattle.sm_lightest.specs.WeightAnswer.{WeightParts, member_numbers, IsWeightAnswer}
+use Rattle.sm_instance.specs.Lightest.{IsLightest}
 use Rattle.sm_lightest.proofs.MemberLemmas.{are_rotations}
-use Rattle.sm_agree.specs.Witnesses.{first_seat_of, weighed_three, weighed_answer, WeighedThree}
+use Rattle.sm_agree.specs.Witnesses.{weighed_three, WeighedThree}
+use Rattle.sm_report.specs.Witnesses.{first_seat_of}
+use Rattle.sm_lightest.specs.Witnesses.{worked_answer}
 use Rattle.sm_agree.proofs.WitnessLemmas.{three_instance}
 
 -- Its two weights are sound.
@@ -120,7 +124,7 @@ unleft =
     let cut = (cuts_are_allowed three_cycle three_cycle_levels three_cycle_weights [] [] three_cycle_first three_cycle_chain three_cycle_needs set worked_net.0).1 (closed, allowed) in
     (full_cuts_are_unleft three_cycle_net flow set worked_lines.1 cut.1).0 refl
 
-abbrev parts : Parts
+abbrev parts : WeightParts
 parts = record { first = three_cycle_first; rotations = three_cycle_chain; needs = three_cycle_needs; flow = three_cycle_lines; taken = set }
 
 seating : IsSeating weighed_three (seating_of weighed_three)
@@ -182,14 +186,14 @@ total_line = record { printable = tt; seats = no_seats; numbers = omega arith; h
 end_line : P LineData.End
 end_line = record { printable = tt; seats = no_seats; numbers = tt; head = tt }
 
-weighed_sound : All (IsLineOf (Two weighed_three)) weighed_answer
-weighed_sound = All-from_recursion P weighed_answer (head_line, (first_line 0 0 (omega arith) (omega arith), (first_line 1 1 (omega arith) (omega arith), (first_line 2 2 (omega arith) (omega arith), (rotation_line 1 0 1 2 (omega arith) (omega arith) (omega arith) (omega arith) (omega arith), (needs_line 1 [] 0 (omega arith) (omega arith) (omega arith), (gain_line 1 (pos 4) (omega arith) (omega arith) (omega arith), (rotation_line 2 1 2 0 (omega arith) (omega arith) (omega arith) (omega arith) (omega arith), (needs_line 2 (true ∷ []) 1 (omega arith) (omega arith) (omega arith), (gain_line 2 (negsuc 13) (omega arith) (omega arith) (omega arith), (flow_line 0 2 (omega arith) (omega arith), (flow_line 1 4294967295 (omega arith) (omega arith), (flow_line 2 1 (omega arith) (omega arith), (taken_line, (value_line, (cut_line, (total_line, (pair_line 0 2 (omega arith) (omega arith), (pair_line 1 0 (omega arith) (omega arith), (pair_line 2 1 (omega arith) (omega arith), (end_line, tt)))))))))))))))))))))
+weighed_sound : All (IsLineOf (Two weighed_three)) worked_answer
+weighed_sound = All-from_recursion P worked_answer (head_line, (first_line 0 0 (omega arith) (omega arith), (first_line 1 1 (omega arith) (omega arith), (first_line 2 2 (omega arith) (omega arith), (rotation_line 1 0 1 2 (omega arith) (omega arith) (omega arith) (omega arith) (omega arith), (needs_line 1 [] 0 (omega arith) (omega arith) (omega arith), (gain_line 1 (pos 4) (omega arith) (omega arith) (omega arith), (rotation_line 2 1 2 0 (omega arith) (omega arith) (omega arith) (omega arith) (omega arith), (needs_line 2 (true ∷ []) 1 (omega arith) (omega arith) (omega arith), (gain_line 2 (negsuc 13) (omega arith) (omega arith) (omega arith), (flow_line 0 2 (omega arith) (omega arith), (flow_line 1 4294967295 (omega arith) (omega arith), (flow_line 2 1 (omega arith) (omega arith), (taken_line, (value_line, (cut_line, (total_line, (pair_line 0 2 (omega arith) (omega arith), (pair_line 1 0 (omega arith) (omega arith), (pair_line 2 1 (omega arith) (omega arith), (end_line, tt)))))))))))))))))))))
 
-right : IsWeightAnswer Given weighed_three weighed_answer
+right : IsWeightAnswer Given weighed_three worked_answer
 right = record {
   parts = parts;
   printed = three_cycle_is.1;
-  needed = record { one_each = refl; of = worked_net.0.each };
+  needed = record { one_each = refl; each = worked_net.0.each };
   corresponds = correspondence three_cycle_needs seating three_cycle_is.1.chain worked_net.0.each;
   certificate = record { lines = worked_lines.0; is_flow = worked_lines.1; reach = reach; full = refl };
   closed = closed;

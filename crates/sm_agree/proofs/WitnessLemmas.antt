@@ -10,7 +10,7 @@ use Rattle.sm_instance.specs.Written.{AgentData, Written, agent_at, row, entry, 
 use Rattle.sm_instance.specs.Matching.{held, standing, load, IsMatching}
 use Rattle.sm_instance.specs.Stable.{Blocks, IsStable, IsProposersBest, IsReviewersBest}
 use Rattle.sm_instance.specs.Allowed.{IsAllowed}
-use Rattle.sm_instance.specs.Ranks.{rank_vector_of, regret_of, IsBefore}
+use Rattle.sm_instance.specs.Ranks.{rank_vector_of, regret_of, IsBefore, order_of}
 use Rattle.sm_instance.specs.Sound.{IsInstance, IsSoundAgent, IsSoundEntry}
 use Rattle.sm_instance.specs.Witnesses.{agent}
 use Rattle.sm_instance.specs.declared.inputs.Input.TheVariants.{Two}
@@ -35,7 +35,6 @@ use Rattle.sm_seats.proofs.TakenLaws.{stable_taken, taken_forgotten}
 use Rattle.sm_seats.proofs.BestLaws.{seats_proposers_best, seats_reviewers_best}
 use Rattle.sm_shown.specs.RotationAnswer.{IsRotationAnswer}
 use Rattle.sm_shown.proofs.ShownLemmas.{correspondence}
-use Rattle.sm_listing.specs.ListAnswer.{order_of}
 use Rattle.sm_partners.specs.RegretAnswer.{IsLeastRegret}
 use Rattle.sm_pairs.specs.Held.{CantJoin, IsBreach, GiveStable}
 use Rattle.sm_given.specs.GivenText.{AreGiven}
@@ -289,7 +288,7 @@ two_rotations_are = record {
   rotations = three_cycle_chain;
   needs = three_cycle_needs;
   printed = three_cycle_is.1;
-  needed = record { one_each = refl; of = worked_net.0.each };
+  needed = record { one_each = refl; each = worked_net.0.each };
   shows = refl;
   corresponds = correspondence three_cycle_needs (is_seating (sound_entries three_instance)) three_cycle_is.1.chain worked_net.0.each;
 }

@@ -11,13 +11,14 @@ use Rattle.sm_seats.specs.SeatEntries.{AreFewSeats}
 use Rattle.sm_report.specs.declared.lines.Seat.{Seat}
 use Rattle.sm_report.specs.Heads.{HeadData}
 use Rattle.sm_report.specs.Lines.{LineData}
-use Rattle.sm_report.specs.Texts.{SOURCE, SINK}
+use Rattle.sm_report.specs.Witnesses.{first_seat_of}
 use Rattle.sm_shown.specs.Answers.{IsSolution}
 use Rattle.sm_shown.specs.Reduction.{IsReduction}
 use Rattle.sm_shown.specs.RotationAnswer.{IsRotationAnswer}
 use Rattle.sm_listing.specs.ListAnswer.{IsListAnswer}
 use Rattle.sm_partners.specs.RegretAnswer.{IsRegretAnswer}
 use Rattle.sm_lightest.specs.WeightAnswer.{IsWeightAnswer}
+use Rattle.sm_lightest.specs.Witnesses.{worked_answer}
 use Rattle.sm_given.specs.Chosen.{IsChosenAnswer}
 use Rattle.sm_rooming.specs.RoomAnswer.{IsMatched, IsUnmatchable}
 
@@ -98,11 +99,7 @@ three_by_three = record {
   forbidden = [];
 }
 
--- the first seat of each, and two rotations, of which the second needs the first
-abbrev pub first_seat_of : ℕ → Seat
-first_seat_of r = record { reviewer = r; number = 1 }
-
--- the right answer of `rotations`
+-- the right answer of `rotations`: the first seat of each, and two rotations, of which the second needs the first
 abbrev pub two_rotations : List LineData
 two_rotations =
     LineData.Answer HeadData.Rotations ∷
@@ -131,32 +128,6 @@ weighed_three = record {
   forbidden = [];
 }
 
--- both rotations are taken; a flow of 4 goes from the source by the second and the first to the sink
-abbrev pub weighed_answer : List LineData
-weighed_answer =
-    LineData.Answer (HeadData.Weight Given) ∷
-    LineData.First 0 (first_seat_of 0) ∷
-    LineData.First 1 (first_seat_of 1) ∷
-    LineData.First 2 (first_seat_of 2) ∷
-    LineData.Rotation 1 ((0, first_seat_of 0) ∷ (1, first_seat_of 1) ∷ (2, first_seat_of 2) ∷ []) ∷
-    LineData.Needs 1 [] ∷
-    LineData.Gain 1 (pos 4) ∷
-    LineData.Rotation 2 ((0, first_seat_of 1) ∷ (1, first_seat_of 2) ∷ (2, first_seat_of 0) ∷ []) ∷
-    LineData.Needs 2 (1 ∷ []) ∷
-    LineData.Gain 2 (negsuc 13) ∷
-    LineData.Flow SOURCE 2 4 ∷
-    LineData.Flow 1 SINK 4 ∷
-    LineData.Flow 2 1 4 ∷
-    LineData.Taken (1 ∷ 2 ∷ []) ∷
-    LineData.Value 4 ∷
-    LineData.Cut 4 ∷
-    LineData.Total (negsuc 9) ∷
-    LineData.Pair 0 2 ∷
-    LineData.Pair 1 0 ∷
-    LineData.Pair 2 1 ∷
-    LineData.End ∷
-    []
-
 -- a right answer of `weight`
 abbrev pub WeighedThree : Type 0
-WeighedThree = IsInstance weighed_three × AreFewSeats weighed_three × IsWeightAnswer Given weighed_three weighed_answer
+WeighedThree = IsInstance weighed_three × AreFewSeats weighed_three × IsWeightAnswer Given weighed_three worked_answer

@@ -112,10 +112,10 @@ lines_first f a n h =
     ap (lines_from f a) count
 
 -- a number without a line is passed over
-pub lines_passed : (f : ℕ → Option LineData) (a n : ℕ) (found : Option Line) → a < n → option_map line_of found ≡ f a → is_some found ≡ false
+pub lines_from-suc : (f : ℕ → Option LineData) (a n : ℕ) (found : Option Line) → a < n → option_map line_of found ≡ f a → is_some found ≡ false
     → lines_from f (a + 1) (n - (a + 1)) ≡ lines_from f a (n - a)
-lines_passed f a n None h e none = sym (lines_first f a n h ∙ ap (λ o. line_or_none o ++ lines_from f (a + 1) (n - (a + 1))) (sym e))
-lines_passed f a n (Some line) h e none = absurd cc
+lines_from-suc f a n None h e none = sym (lines_first f a n h ∙ ap (λ o. line_or_none o ++ lines_from f (a + 1) (n - (a + 1))) (sym e))
+lines_from-suc f a n (Some line) h e none = absurd cc
 
 -- There are lines that an answer of several parts may give.
 
@@ -148,9 +148,9 @@ lines_each P f a (suc n) each =
     All-append P (line_or_none (f a)) (lines_from f (a + 1) n) (each a (omega arith)) (lines_each P f (a + 1) n (λ i l. each i (omega arith)))
 
 -- lines that are alike number by number
-pub lines_alike : (f g : ℕ → Option LineData) → ((i : ℕ) → f i ≡ g i) → (a n : ℕ) → lines_from f a n ≡ lines_from g a n
-lines_alike f g e a zero = refl
-lines_alike f g e a (suc n) = ap (λ o. line_or_none o ++ lines_from f (a + 1) n) (e a) ∙ ap (λ t. line_or_none (g a) ++ t) (lines_alike f g e (a + 1) n)
+pub lines_from-same : (f g : ℕ → Option LineData) → ((i : ℕ) → f i ≡ g i) → (a n : ℕ) → lines_from f a n ≡ lines_from g a n
+lines_from-same f g e a zero = refl
+lines_from-same f g e a (suc n) = ap (λ o. line_or_none o ++ lines_from f (a + 1) n) (e a) ∙ ap (λ t. line_or_none (g a) ++ t) (lines_from-same f g e (a + 1) n)
 
 -- What a list gives.
 

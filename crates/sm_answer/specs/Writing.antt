@@ -24,7 +24,7 @@ pub record WroteFront (right : List (List ℕ) → Type 0) (before after : Optio
   pub written : IsPart before after (text_of lines)
 
 -- all was written; or a front: the sink failed and its count of faults rose, or there was no memory
-abbrev pub Writes : (right : List (List ℕ) → Type 0) → (held_before held_after : Option (List ℕ)) → (before after : ℕ) → Result (Unit {0}) Unwritten → Type 0
-Writes right held_before held_after before after (Ok done) = WroteAll right held_before held_after
-Writes right held_before held_after before after (Err SinkFailed) = WroteFront right held_before held_after × Rose before after
-Writes right held_before held_after before after (Err NoMemory) = WroteFront right held_before held_after
+abbrev pub WritesAnswer : (right : List (List ℕ) → Type 0) → (held_before held_after : Option (List ℕ)) → (before after : ℕ) → Result (Unit {0}) Unwritten → Type 0
+WritesAnswer right held_before held_after before after (Ok done) = WroteAll right held_before held_after
+WritesAnswer right held_before held_after before after (Err SinkFailed) = WroteFront right held_before held_after × Rose before after
+WritesAnswer right held_before held_after before after (Err NoMemory) = WroteFront right held_before held_after

@@ -3,7 +3,7 @@
 ghost use Rattle.std.specs.Prelude.{◌≤◌, ◌∷◌, ◌++◌, [], OnOk};
 ghost use Rattle.sm_text.specs.Lines.{LF};
 ghost use Rattle.sm_answer.specs.Giving.{HasRest};
-ghost use Rattle.sm_answer.specs.Writing.{Writes};
+ghost use Rattle.sm_answer.specs.Writing.{WritesAnswer};
 
 use crate::lines::Lines;
 use sm_io::{Put, Sink};
@@ -48,7 +48,7 @@ pub fn write<K: Sink, L: Lines + Drop>(
     lines: L,
 ) -> Result<(), Unwritten>
     requires { HasRest (L.gives lines) }
-    ensures wrote { Writes (L.gives lines)
+    ensures wrote { WritesAnswer (L.gives lines)
         (K.held sink.old) (K.held sink.new) (K.faults sink.old) (K.faults sink.new) result }
     ensures later { K.faults sink.old ≤ K.faults sink.new }
 {

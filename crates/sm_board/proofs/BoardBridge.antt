@@ -13,9 +13,8 @@ use Rattle.sm_theory.proofs.Core.Chain.{way_of, last_needed, rise, up_at}
 use Rattle.sm_theory.proofs.Bridge.Rotation.{cycle_of}
 use Rattle.sm_theory.proofs.Bridge.Chain.{chain_of, needs_back}
 use Rattle.sm_theory.proofs.Chains.Sets.{does_move}
-use Rattle.sm_poset.specs.Moves.{rotation_of, place_to, AreMovesOf}
-use Rattle.sm_poset.specs.Kept.{moves_at}
-use Rattle.sm_poset.proofs.ChainLemmas.{pair_is, in_range, move_stands, moves_of_move}
+use Rattle.sm_poset.specs.Moves.{rotation_of, place_to, AreMovesOf, moves_at}
+use Rattle.sm_poset.proofs.ChainLemmas.{proposer_at-pair_of, in_range, move_stands, moves_of_move}
 use Rattle.sm_poset.proofs.MoveLemmas.{go_down}
 use Rattle.sm_board.specs.Board.{Board, IsBoard, leave, stay_level}
 use Rattle.sm_board.specs.BoardOf.{places_at, board_of, IsGround, BoardIsBoard}
@@ -62,7 +61,7 @@ module _ {l : Lists} {levels : List (List ℕ)} {first : Places} {rotations : Li
           rising = λ a b _ x. absurd (omega arith);
           sound = λ a x. absurd (omega arith);
           each = λ a x. absurd (omega arith);
-          all = λ k i g w. absurd (omega (arith, in_range ground.market ground.chain k (pair_of (rotation_at rotations k) p) g w.moved, pair_is (rotation_at rotations k) p w.moved));
+          all = λ k i g w. absurd (omega (arith, in_range ground.market ground.chain k (pair_of (rotation_at rotations k) p) g w.moved, proposer_at-pair_of (rotation_at rotations k) p w.moved));
         })
   ]
 
@@ -199,7 +198,7 @@ module _ {l : Lists} {levels : List (List ℕ)} {first : Places} {rotations : Li
       mover : (x p : ℕ) → pair_of (rotation_at rotations x) p < length (rotation_at rotations x) → Contains (row board.movers x) p
       mover x p m = contains_at (row board.movers x) (pair_of (rotation_at rotations x) p) p
           (omega (arith, ap length (mapped_row rotations x), length-map (rotation_at rotations x) (λ m. m.0)))
-          (ap (λ r. slice_index r (pair_of (rotation_at rotations x) p)) (mapped_row rotations x) ∙ first_of_pairs (rotation_at rotations x) (pair_of (rotation_at rotations x) p) ∙ pair_is (rotation_at rotations x) p m)
+          (ap (λ r. slice_index r (pair_of (rotation_at rotations x) p)) (mapped_row rotations x) ∙ first_of_pairs (rotation_at rotations x) (pair_of (rotation_at rotations x) p) ∙ proposer_at-pair_of (rotation_at rotations x) p m)
 
       back : (p x : ℕ) → Contains (row board.movers x) p → Contains (row board.leaves p) x
       back p x c = elim (lt_or_le x (length rotations)) [

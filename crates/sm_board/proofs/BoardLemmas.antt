@@ -6,7 +6,7 @@ use Rattle.sm_lists.proofs.Counting.{eq_or_ne, lt_or_le}
 use Rattle.sm_theory.specs.ClosedSets.{IsMember}
 use Rattle.sm_board.specs.Board.{Board, IsBoard, leave, stay_level, stay, IsClosedIn}
 use Rattle.sm_board.specs.BoardLaws.{MembersAreFirst, StaysGrow, LeaveIsIn, PastIsShut, LevelStays, LevelRises, EnterEndsStays}
-use Rattle.sm_board.proofs.MemberLemmas.{members_few, Chained, front, more_members, not_among, among}
+use Rattle.sm_board.proofs.MemberLemmas.{members_few, Chained, front, more_members, members_in-set_other, members_in-set_member}
 
 -- of the rotations that move p a closed set has with each the one before it
 pub chained : {b : Board} {C : List Bool} → IsBoard b → IsClosedIn b C → (p : ℕ) → Chained C (row b.leaves p)
@@ -91,6 +91,6 @@ level_rises b C D p x h inside c d less new out w =
 -- one more member is counted exactly for those that it moves
 pub enter_ends_stays : EnterEndsStays
 enter_ends_stays b C p x h less out = (
-  (λ moves. let w = h.back p x moves in among C x (row b.leaves p) less out (λ a c g k. h.once p a c g k) w.0 w.1 (sym (get_or_default (row b.leaves p) w.0 x 0 w.1) ∙ w.2)),
-  (λ idle. not_among C x (row b.leaves p) (λ a g e. idle (h.there p x (a, g, get_or_default (row b.leaves p) a x 0 g ∙ e)))),
+  (λ moves. let w = h.back p x moves in members_in-set_member C x (row b.leaves p) less out (λ a c g k. h.once p a c g k) w.0 w.1 (sym (get_or_default (row b.leaves p) w.0 x 0 w.1) ∙ w.2)),
+  (λ idle. members_in-set_other C x (row b.leaves p) (λ a g e. idle (h.there p x (a, g, get_or_default (row b.leaves p) a x 0 g ∙ e)))),
 )

@@ -19,8 +19,7 @@ use Rattle.sm_theory.proofs.Bridge.Rotation.{cycle_of}
 use Rattle.sm_theory.proofs.Bridge.Sets.{set_is_of}
 use Rattle.sm_theory.proofs.Chains.Sets.{sets_are_ordered}
 use Rattle.sm_theory.proofs.Chains.Rotations.{sets_are_matchings}
-use Rattle.sm_poset.specs.Moves.{rotation_of}
-use Rattle.sm_poset.specs.Kept.{moves_at}
+use Rattle.sm_poset.specs.Moves.{rotation_of, moves_at}
 use Rattle.sm_board.specs.Board.{Board, stay, level, IsClosedIn, Gates, IsOpen, Fits, IsLeast}
 use Rattle.sm_board.specs.BoardOf.{IsGround, IsAllowedStay, IsLeastWithin, BoardShowsSets, GatesMeanConditions, LeastIsBest, GatesFromTests}
 use Rattle.sm_board.proofs.MemberLemmas.{members_few}

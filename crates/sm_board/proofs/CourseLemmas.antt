@@ -5,8 +5,8 @@ use Rattle.sm_market.specs.Lists.{row}
 use Rattle.sm_lists.proofs.Counting.{Decided, Decided-eq, Decided-lt, Decided-and, search_below, eq_or_ne}
 use Rattle.sm_board.specs.Board.{Board, leave, stay_level, Changes, IsFirstChange}
 use Rattle.sm_theory.specs.ClosedSets.{IsMember}
-use Rattle.sm_board.specs.Courses.{Course, IsCourse, AreFirstFrom, Held, IsHeld, Grows}
-use Rattle.sm_board.proofs.MemberLemmas.{entered, others_same}
+use Rattle.sm_board.specs.Courses.{Course, IsCourse, AreFirstFrom, Held, IsHeld, HoldsMore}
+use Rattle.sm_board.proofs.MemberLemmas.{entered, is_member-set_other}
 
 -- whether a rotation changes the level of p is found by a look at each of p's stays
 pub Decided-changes : (b : Board) (x p : ℕ) → Decided (Changes b x p)
@@ -53,18 +53,18 @@ first_of_all {b} {order} {first} w x less = record {
 }
 
 -- a rotation enters that changes no level before the bar
-pub grows_enter : {t : Course} {bar : ℕ} {h k : Held} (y : ℕ) → IsCourse t → IsHeld t.board h → IsHeld t.board k → y < length t.board.needs → k.set ≡ set h.set y true → k.log ≡ h.log ++ y ∷ [] → bar ≤ slice_index t.first y → Grows t bar h k
+pub grows_enter : {t : Course} {bar : ℕ} {h k : Held} (y : ℕ) → IsCourse t → IsHeld t.board h → IsHeld t.board k → y < length t.board.needs → k.set ≡ set h.set y true → k.log ≡ h.log ++ y ∷ [] → bar ≤ slice_index t.first y → HoldsMore t bar h k
 grows_enter {t} {bar} {h} {k} y course w v less sets logs free = record {
   held = v;
   front = ap (take (length h.log)) logs ∙ take-append h.log (y ∷ []);
   longer = omega (arith, ap length logs, length_push h.log y);
   more = λ x m. elim (eq_or_ne x y) [
     | inl e ↦ subst (λ s. IsMember s x) (sym sets) (subst (IsMember (set h.set y true)) (sym e) (entered h.set y (omega (arith, w.logged.one_each))))
-    | inr ne ↦ subst (λ s. IsMember s x) (sym sets) (others_same h.set y x ne ∙ m)
+    | inr ne ↦ subst (λ s. IsMember s x) (sym sets) (is_member-set_other h.set y x ne ∙ m)
   ];
   free = λ x j m out early ch. elim (eq_or_ne x y) [
     | inl e ↦ (course.first_are y less).none_before j (omega arith) (subst (λ z. Changes t.board z (slice_index t.order j)) e ch)
-    | inr ne ↦ out (sym (others_same h.set y x ne) ∙ subst (λ s. IsMember s x) sets m)
+    | inr ne ↦ out (sym (is_member-set_other h.set y x ne) ∙ subst (λ s. IsMember s x) sets m)
   ];
 }
   where

@@ -9,7 +9,7 @@ use Rattle.sm_theory.specs.ClosedSets.{IsMember}
 use Rattle.sm_theory.proofs.Bridge.Chain.{Decided-member}
 use Rattle.sm_board.specs.Board.{Board, leave, stay_level, stay, IsInside, IsOpen, members_in}
 use Rattle.sm_board.specs.Growing.{IsLogOf, LogFits, LogGrows, LogFalls, ClosedWhenDone, NeedMayEnter, ShutLeaveIsIn, LowLeaveIsIn, IdleStays, FreeKeepsLevels, BarredChangesLevels, AskedIsIn, RaiseFinds, RaiseIsPast, RaiseIsLast, RaiseIsBarred, LeastIsFound, AskedIsClosed}
-use Rattle.sm_board.proofs.MemberLemmas.{entered, others_same, counted, passed, more_members}
+use Rattle.sm_board.proofs.MemberLemmas.{entered, is_member-set_other, members_in-member, members_in-other, more_members}
 use Rattle.sm_board.proofs.BoardLemmas.{members_are_first, past_is_shut, leave_is_in, level_stays, level_rises}
 
 contained : (xs : List ℕ) (x : ℕ) (c : Contains xs x) → slice_index xs c.0 ≡ x
@@ -37,12 +37,12 @@ log_grows b log C x w g out = record {
         out (subst (IsMember C) (sym (at_old log x a old) ∙ e ∙ at_new log x c (omega (arith, length_push log x))) (w.each a old))
   ];
   each = λ a h. elim (lt_or_le a (length log)) [
-    | inl k ↦ subst (IsMember (set C x true)) (sym (at_old log x a k)) (others_same C x (slice_index log a) (λ e. out (subst (IsMember C) e (w.each a k))) ∙ w.each a k)
+    | inl k ↦ subst (IsMember (set C x true)) (sym (at_old log x a k)) (is_member-set_other C x (slice_index log a) (λ e. out (subst (IsMember C) e (w.each a k))) ∙ w.each a k)
     | inr k ↦ subst (IsMember (set C x true)) (sym (at_new log x a (omega (arith, length_push log x)))) (entered C x (omega (arith, w.one_each)))
   ];
   all = λ y m. elim (eq_or_ne y x) [
     | inl e ↦ subst (Contains (log ++ x ∷ [])) (sym e) (Contains-push log x)
-    | inr ne ↦ Contains-append_left log (x ∷ []) y (w.all y (sym (others_same C x y ne) ∙ m))
+    | inr ne ↦ Contains-append_left log (x ∷ []) y (w.all y (sym (is_member-set_other C x y ne) ∙ m))
   ];
 }
 
@@ -90,7 +90,7 @@ closed_when_done b log C w done = record {
 pub inside_more : (C D : List Bool) (y : ℕ) → IsInside C D → IsMember D y → IsInside (set C y true) D
 inside_more C D y inside m k x = elim (eq_or_ne k y) [
   | inl e ↦ subst (IsMember D) (sym e) m
-  | inr ne ↦ inside k (sym (others_same C y k ne) ∙ x)
+  | inr ne ↦ inside k (sym (is_member-set_other C y k ne) ∙ x)
 ]
 
 -- a closed set has what its members need
@@ -108,8 +108,8 @@ low_leave_is_in b C D p wanted h inside d low high = leave_is_in b C D p h insid
 same_members : (C D : List Bool) (xs : List ℕ) → IsInside C D → ((a : ℕ) → a < length xs → IsMember D (slice_index xs a) → IsMember C (slice_index xs a)) → members_in D xs ≡ members_in C xs
 same_members C D [] inside old = refl
 same_members C D (x ∷ xs) inside old = elim (Decided-member D x) [
-  | inl m ↦ counted D x xs m ∙ ap suc (same_members C D xs inside (λ a h. old (suc a) (omega arith))) ∙ sym (counted C x xs (old 0 (omega arith) m))
-  | inr out ↦ passed D x xs out ∙ same_members C D xs inside (λ a h. old (suc a) (omega arith)) ∙ sym (passed C x xs (λ m. out (inside x m)))
+  | inl m ↦ members_in-member D x xs m ∙ ap suc (same_members C D xs inside (λ a h. old (suc a) (omega arith))) ∙ sym (members_in-member C x xs (old 0 (omega arith) m))
+  | inr out ↦ members_in-other D x xs out ∙ same_members C D xs inside (λ a h. old (suc a) (omega arith)) ∙ sym (members_in-other C x xs (λ m. out (inside x m)))
 ]
 
 -- no new member is counted

@@ -9,7 +9,7 @@ use Rattle.sm_theory.proofs.Bridge.Chain.{Decided-member}
 use Rattle.sm_board.specs.Board.{Board, IsBoard, members_in, stay, level, stay_level, IsInside}
 use Rattle.sm_board.specs.Growing.{IsLogOf}
 use Rattle.sm_board.specs.Courses.{Held, IsHeld, IsMovedOn, IsMovedBack}
-use Rattle.sm_board.proofs.MemberLemmas.{members_few, counted, passed}
+use Rattle.sm_board.proofs.MemberLemmas.{members_few, members_in-member, members_in-other}
 use Rattle.sm_board.proofs.BoardLemmas.{enter_ends_stays}
 use Rattle.sm_board.proofs.GrowLemmas.{log_grows, log_falls}
 
@@ -39,10 +39,10 @@ contained_at xs p c = sym (get_or_default xs c.0 p 0 c.1) ∙ c.2
 -- a member on a list is counted
 some_member : (C : List Bool) (xs : List ℕ) (a : ℕ) → a < length xs → IsMember C (slice_index xs a) → 0 < members_in C xs
 some_member C [] a h m = absurd (omega arith)
-some_member C (x ∷ xs) zero h m = omega (arith, counted C x xs m)
+some_member C (x ∷ xs) zero h m = omega (arith, members_in-member C x xs m)
 some_member C (x ∷ xs) (suc a) h m = elim (Decided-member C x) [
-  | inl k ↦ omega (arith, counted C x xs k)
-  | inr out ↦ omega (arith, passed C x xs out, some_member C xs a (omega arith) m)
+  | inl k ↦ omega (arith, members_in-member C x xs k)
+  | inr out ↦ omega (arith, members_in-other C x xs out, some_member C xs a (omega arith) m)
 ]
 
 -- a mover is a proposer of the board

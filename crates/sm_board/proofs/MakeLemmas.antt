@@ -6,7 +6,7 @@ use Rattle.sm_market.specs.Lists.{row, agents}
 use Rattle.sm_market.specs.Matching.{held}
 use Rattle.sm_theory.specs.Chains.{AreNeedsOf}
 use Rattle.sm_theory.specs.Vectors.{AreLevels}
-use Rattle.sm_poset.specs.Kept.{AreMoves}
+use Rattle.sm_poset.specs.Moves.{AreMoves}
 use Rattle.sm_poset.specs.Posets.{RotationPoset, IsPoset}
 use Rattle.sm_board.specs.BoardOf.{places_at, IsBoardFor}
 

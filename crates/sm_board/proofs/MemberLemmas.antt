@@ -10,19 +10,19 @@ is_false true out = absurd (out refl)
 is_false false out = refl
 
 -- one more in front: a member, or none
-pub counted : (C : List Bool) (x : ℕ) (xs : List ℕ) → IsMember C x → members_in C (x ∷ xs) ≡ suc (members_in C xs)
-counted C x xs e = rw e refl
+pub members_in-member : (C : List Bool) (x : ℕ) (xs : List ℕ) → IsMember C x → members_in C (x ∷ xs) ≡ suc (members_in C xs)
+members_in-member C x xs e = rw e refl
 
 -- and one that is no member counts for nothing
-pub passed : (C : List Bool) (x : ℕ) (xs : List ℕ) → (IsMember C x → ⊥) → members_in C (x ∷ xs) ≡ members_in C xs
-passed C x xs out = rw (is_false (is_member C x) out) refl
+pub members_in-other : (C : List Bool) (x : ℕ) (xs : List ℕ) → (IsMember C x → ⊥) → members_in C (x ∷ xs) ≡ members_in C xs
+members_in-other C x xs out = rw (is_false (is_member C x) out) refl
 
 -- no more members than entries
 pub members_few : (C : List Bool) (xs : List ℕ) → members_in C xs ≤ length xs
 members_few C [] = omega arith
 members_few C (x ∷ xs) = elim (Decided-member C x) [
-  | inl m ↦ omega (arith, counted C x xs m, members_few C xs)
-  | inr out ↦ omega (arith, passed C x xs out, members_few C xs)
+  | inl m ↦ omega (arith, members_in-member C x xs m, members_few C xs)
+  | inr out ↦ omega (arith, members_in-other C x xs out, members_few C xs)
 ]
 
 -- with each one the one before it is a member
@@ -41,7 +41,7 @@ none_behind C x (y ∷ ys) c out (suc a) h m = none_behind C y ys (chained_tail 
 
 none_counted : (C : List Bool) (xs : List ℕ) → ((a : ℕ) → a < length xs → IsMember C (slice_index xs a) → ⊥) → members_in C xs ≡ 0
 none_counted C [] none = refl
-none_counted C (x ∷ xs) none = passed C x xs (none 0 (omega arith)) ∙ none_counted C xs (λ a h. none (suc a) (omega arith))
+none_counted C (x ∷ xs) none = members_in-other C x xs (none 0 (omega arith)) ∙ none_counted C xs (λ a h. none (suc a) (omega arith))
 
 -- then the members are the first ones
 pub front : (C : List Bool) (xs : List ℕ) → Chained C xs → (a : ℕ) → a < length xs → (IsMember C (slice_index xs a) → a < members_in C xs) × (a < members_in C xs → IsMember C (slice_index xs a))
@@ -50,7 +50,7 @@ front C (x ∷ xs) c a h = elim (Decided-member C x) [
   | inl m ↦ inside m (front C xs (chained_tail C x xs c)) a h
   | inr out ↦ (
     (λ m. absurd (not_here out a h m)),
-    (λ less. absurd (omega (arith, passed C x xs out, none_counted C xs (none_behind C x xs c out)))),
+    (λ less. absurd (omega (arith, members_in-other C x xs out, none_counted C xs (none_behind C x xs c out)))),
   )
 ]
   where
@@ -59,19 +59,19 @@ front C (x ∷ xs) c a h = elim (Decided-member C x) [
     not_here out (suc a) h m = none_behind C x xs c out a (omega arith) m
 
     inside : IsMember C x → ((a : ℕ) → a < length xs → (IsMember C (slice_index xs a) → a < members_in C xs) × (a < members_in C xs → IsMember C (slice_index xs a))) → (a : ℕ) → a < length (x ∷ xs) → (IsMember C (slice_index (x ∷ xs) a) → a < members_in C (x ∷ xs)) × (a < members_in C (x ∷ xs) → IsMember C (slice_index (x ∷ xs) a))
-    inside m f zero h = ((λ _. omega (arith, counted C x xs m)), (λ _. m))
+    inside m f zero h = ((λ _. omega (arith, members_in-member C x xs m)), (λ _. m))
     inside m f (suc a) h =
         let w = f a (omega arith) in
-        ((λ k. omega (arith, counted C x xs m, w.0 k)), (λ less. w.1 (omega (arith, counted C x xs m))))
+        ((λ k. omega (arith, members_in-member C x xs m, w.0 k)), (λ less. w.1 (omega (arith, members_in-member C x xs m))))
 
 -- with more members more are counted
 pub more_members : (C D : List Bool) (xs : List ℕ) → IsInside C D → members_in C xs ≤ members_in D xs
 more_members C D [] inside = omega arith
 more_members C D (x ∷ xs) inside = elim (Decided-member C x) [
-  | inl m ↦ omega (arith, counted C x xs m, counted D x xs (inside x m), more_members C D xs inside)
+  | inl m ↦ omega (arith, members_in-member C x xs m, members_in-member D x xs (inside x m), more_members C D xs inside)
   | inr out ↦ elim (Decided-member D x) [
-    | inl k ↦ omega (arith, passed C x xs out, counted D x xs k, more_members C D xs inside)
-    | inr k ↦ omega (arith, passed C x xs out, passed D x xs k, more_members C D xs inside)
+    | inl k ↦ omega (arith, members_in-other C x xs out, members_in-member D x xs k, more_members C D xs inside)
+    | inr k ↦ omega (arith, members_in-other C x xs out, members_in-other D x xs k, more_members C D xs inside)
   ]
 ]
 
@@ -80,8 +80,8 @@ pub entered : (C : List Bool) (x : ℕ) → x < length C → IsMember (set C x t
 entered C x h = get_or-set_same C x true false h
 
 -- the others are members as before
-pub others_same : (C : List Bool) (x y : ℕ) → y ≢ x → is_member (set C x true) y ≡ is_member C y
-others_same C x y ne = get_or-set_other C x y true false ne
+pub is_member-set_other : (C : List Bool) (x y : ℕ) → y ≢ x → is_member (set C x true) y ≡ is_member C y
+is_member-set_other C x y ne = get_or-set_other C x y true false ne
 
 -- the items of a list are distinct
 abbrev pub Differ : List ℕ → Type 0
@@ -91,27 +91,27 @@ differ_tail : (x : ℕ) (xs : List ℕ) → Differ (x ∷ xs) → Differ xs
 differ_tail x xs d a c h g = d (suc a) (suc c) (omega arith) (omega arith)
 
 -- who isn't on the list changes no count
-pub not_among : (C : List Bool) (x : ℕ) (xs : List ℕ) → ((a : ℕ) → a < length xs → slice_index xs a ≢ x) → members_in (set C x true) xs ≡ members_in C xs
-not_among C x [] none = refl
-not_among C x (y ∷ ys) none =
-    let same : is_member (set C x true) y ≡ is_member C y = others_same C x y (none 0 (omega arith)) in
-    let rest : members_in (set C x true) ys ≡ members_in C ys = not_among C x ys (λ a h. none (suc a) (omega arith)) in
+pub members_in-set_other : (C : List Bool) (x : ℕ) (xs : List ℕ) → ((a : ℕ) → a < length xs → slice_index xs a ≢ x) → members_in (set C x true) xs ≡ members_in C xs
+members_in-set_other C x [] none = refl
+members_in-set_other C x (y ∷ ys) none =
+    let same : is_member (set C x true) y ≡ is_member C y = is_member-set_other C x y (none 0 (omega arith)) in
+    let rest : members_in (set C x true) ys ≡ members_in C ys = members_in-set_other C x ys (λ a h. none (suc a) (omega arith)) in
     elim (Decided-member C y) [
-      | inl m ↦ counted (set C x true) y ys (same ∙ m) ∙ ap suc rest ∙ sym (counted C y ys m)
-      | inr out ↦ passed (set C x true) y ys (λ m. out (sym same ∙ m)) ∙ rest ∙ sym (passed C y ys out)
+      | inl m ↦ members_in-member (set C x true) y ys (same ∙ m) ∙ ap suc rest ∙ sym (members_in-member C y ys m)
+      | inr out ↦ members_in-other (set C x true) y ys (λ m. out (sym same ∙ m)) ∙ rest ∙ sym (members_in-other C y ys out)
     ]
 
 -- who is on it once adds one
-pub among : (C : List Bool) (x : ℕ) (xs : List ℕ) → x < length C → (IsMember C x → ⊥) → Differ xs → (a : ℕ) → a < length xs → slice_index xs a ≡ x → members_in (set C x true) xs ≡ suc (members_in C xs)
-among C x [] less out d a h e = absurd (omega arith)
-among C x (y ∷ ys) less out d zero h e =
-    counted (set C x true) y ys (subst (IsMember (set C x true)) (sym e) (entered C x less))
-    ∙ ap suc (not_among C x ys (λ a g k. d 0 (suc a) (omega arith) (omega arith) (e ∙ sym k)))
-    ∙ ap suc (sym (passed C y ys (λ m. out (subst (IsMember C) e m))))
-among C x (y ∷ ys) less out d (suc a) h e =
-    let same : is_member (set C x true) y ≡ is_member C y = others_same C x y (λ k. d 0 (suc a) (omega arith) (omega arith) (k ∙ sym e)) in
-    let rest : members_in (set C x true) ys ≡ suc (members_in C ys) = among C x ys less out (differ_tail y ys d) a (omega arith) e in
+pub members_in-set_member : (C : List Bool) (x : ℕ) (xs : List ℕ) → x < length C → (IsMember C x → ⊥) → Differ xs → (a : ℕ) → a < length xs → slice_index xs a ≡ x → members_in (set C x true) xs ≡ suc (members_in C xs)
+members_in-set_member C x [] less out d a h e = absurd (omega arith)
+members_in-set_member C x (y ∷ ys) less out d zero h e =
+    members_in-member (set C x true) y ys (subst (IsMember (set C x true)) (sym e) (entered C x less))
+    ∙ ap suc (members_in-set_other C x ys (λ a g k. d 0 (suc a) (omega arith) (omega arith) (e ∙ sym k)))
+    ∙ ap suc (sym (members_in-other C y ys (λ m. out (subst (IsMember C) e m))))
+members_in-set_member C x (y ∷ ys) less out d (suc a) h e =
+    let same : is_member (set C x true) y ≡ is_member C y = is_member-set_other C x y (λ k. d 0 (suc a) (omega arith) (omega arith) (k ∙ sym e)) in
+    let rest : members_in (set C x true) ys ≡ suc (members_in C ys) = members_in-set_member C x ys less out (differ_tail y ys d) a (omega arith) e in
     elim (Decided-member C y) [
-      | inl m ↦ counted (set C x true) y ys (same ∙ m) ∙ ap suc rest ∙ sym (ap suc (counted C y ys m))
-      | inr o ↦ passed (set C x true) y ys (λ m. o (sym same ∙ m)) ∙ rest ∙ sym (ap suc (passed C y ys o))
+      | inl m ↦ members_in-member (set C x true) y ys (same ∙ m) ∙ ap suc rest ∙ sym (ap suc (members_in-member C y ys m))
+      | inr o ↦ members_in-other (set C x true) y ys (λ m. o (sym same ∙ m)) ∙ rest ∙ sym (ap suc (members_in-other C y ys o))
     ]

@@ -7,7 +7,7 @@ use Rattle.sm_market.specs.Lists.{row}
 use Rattle.sm_theory.specs.ClosedSets.{IsMember}
 use Rattle.sm_board.specs.Board.{Board, stay_level, members_in}
 use Rattle.sm_board.specs.Courses.{IsHeld}
-use Rattle.sm_board.proofs.MemberLemmas.{passed}
+use Rattle.sm_board.proofs.MemberLemmas.{members_in-other}
 
 -- no rotation is a member of a set of none
 pub not_a_member : (n x : ℕ) → IsMember (replicate n false) x → ⊥
@@ -19,7 +19,7 @@ not_a_member n x m = elim (lt_or_le x n) [
 -- and none is counted
 pub none_in : (n : ℕ) (xs : List ℕ) → members_in (replicate n false) xs ≡ 0
 none_in n [] = refl
-none_in n (x ∷ xs) = passed (replicate n false) x xs (not_a_member n x) ∙ none_in n xs
+none_in n (x ∷ xs) = members_in-other (replicate n false) x xs (not_a_member n x) ∙ none_in n xs
 
 -- a set of none, with the first stay of each proposer
 pub nothing_held : {b : Board} (levels : List ℕ) → length levels ≡ length b.leaves

@@ -7,7 +7,7 @@ use Rattle.sm_theory.specs.ClosedSets.{IsMember}
 use Rattle.sm_theory.specs.Vectors.{IsOrder, IsBefore}
 use Rattle.sm_theory.proofs.Vectors.Order.{compared, alike_equal, Less, More, Alike}
 use Rattle.sm_board.specs.Board.{Board, IsBoard, leave, stay_level, stay, level, IsInside, Gates, Fits, Changes}
-use Rattle.sm_board.specs.Walks.{vector, Agrees, Reaches, IsMark, IsUp, IsNextUp, NoneFrom, UpWhereRaised, NoneWhereNotRaised, NoneWithoutTurn, NextUpIsFirst, WalkGoesOn, WalkBegins, FollowOn, FollowEnds}
+use Rattle.sm_board.specs.Walks.{vector, AgreesUpTo, Reaches, IsMark, IsUp, IsNextUp, NoneFrom, UpWhereRaised, NoneWhereNotRaised, NoneWithoutTurn, NextUpIsFirst, WalkGoesOn, WalkBegins, FollowOn, FollowEnds}
 use Rattle.sm_board.proofs.MemberLemmas.{members_few}
 use Rattle.sm_board.proofs.BoardLemmas.{members_are_first, stays_grow, level_stays, level_rises}
 
@@ -213,7 +213,7 @@ follow_on b g order v i C new h o x m r = (
   )),
 )
   where
-    agrees : level b new (slice_index order i) ≡ slice_index v (slice_index order i) → Agrees b order v (i + 1) new
+    agrees : level b new (slice_index order i) ≡ slice_index v (slice_index order i) → AgreesUpTo b order v (i + 1) new
     agrees e j y = elim (eq_or_ne j i) [
       | inl k ↦ subst (λ a. level b new (slice_index order a) ≡ slice_index v (slice_index order a)) (sym k) e
       | inr ne ↦ r.same j (omega arith) ∙ m.agrees j (omega arith)

@@ -10,14 +10,13 @@ use Rattle.sm_theory.proofs.Bridge.Chain.{Decided-member}
 use Rattle.sm_theory.proofs.Tests.Markets.{below_two}
 use Rattle.sm_theory.proofs.Vectors.Witness.{market, complete, none_needed, below_four, orders}
 use Rattle.sm_theory.proofs.Tests.Pairs.{levels_pass}
-use Rattle.sm_poset.specs.Moves.{IsMove, AreMovesOf, rotation_of, place_to}
-use Rattle.sm_poset.specs.Kept.{moves_at}
+use Rattle.sm_poset.specs.Moves.{IsMove, AreMovesOf, rotation_of, place_to, moves_at}
 use Rattle.sm_board.specs.Board.{IsBoard, leave, IsLeast, Changes, stay, level, stay_level, IsClosedIn, IsInside, IsOpen, is_shut, Fits}
 use Rattle.sm_board.specs.BoardOf.{IsGround, IsAllowedStay, AreGates}
 use Rattle.sm_board.specs.Witness.{two_needs, two_moves, two_board, two_forbidden, two_gates, TwoWalk, TwoLog, TwoBoard}
 use Rattle.sm_board.specs.Growing.{IsLogOf}
-use Rattle.sm_board.specs.Walks.{IsRaised, IsWalk, IsFirst}
-use Rattle.sm_board.proofs.MemberLemmas.{passed}
+use Rattle.sm_board.specs.Walks.{IsRaised, IsVectorWalk, HasFirstVector}
+use Rattle.sm_board.proofs.MemberLemmas.{members_in-other}
 use Rattle.sm_board.proofs.BoardBridge.{board_is_board}
 use Rattle.sm_board.proofs.BoardSets.{least_is_best}
 use Rattle.sm_board.proofs.GrowLemmas.{log_grows}
@@ -150,7 +149,7 @@ raised = record {
     second_in D reaches zero m = absurd (false≢true m)
     second_in D reaches (suc zero) m = elim (Decided-member D 1) [
       | inl k ↦ k
-      | inr out ↦ let e : stay two_board D 2 ≡ 0 = passed D 1 [] out in absurd (omega (arith, ap (stay_level two_board 2) e))
+      | inr out ↦ let e : stay two_board D 2 ≡ 0 = members_in-other D 1 [] out in absurd (omega (arith, ap (stay_level two_board 2) e))
     ]
     second_in D reaches (suc (suc k)) m = absurd (false≢true m)
 
@@ -160,7 +159,7 @@ board = board_is_board two_pairs two_pairs_ranks two_pairs_first two_pairs_chain
 two_walk : TwoWalk
 two_walk = (begun.0, begun.1, up_where_raised two_board two_gates forth both_best 2 (false ∷ false ∷ []) (false ∷ true ∷ []) (begun.0.marks 3 (omega arith)) raised)
   where
-    begun : IsWalk two_board two_gates forth both_best 4 (λ _. false ∷ false ∷ []) × IsFirst two_board two_gates forth (false ∷ false ∷ [])
+    begun : IsVectorWalk two_board two_gates forth both_best 4 (λ _. false ∷ false ∷ []) × HasFirstVector two_board two_gates forth (false ∷ false ∷ [])
     begun = walk_begins two_board two_gates forth (false ∷ false ∷ []) board orders.0 least
 
 two_log : TwoLog

@@ -7,7 +7,7 @@ use Rattle.sm_market.specs.Stable.{IsStable}
 use Rattle.sm_theory.specs.Chains.{IsCompleteChain, AreNeedsOf}
 use Rattle.sm_theory.specs.ClosedSets.{IsClosed, matching_of}
 use Rattle.sm_theory.specs.Vectors.{AreLevels, level_of, IsAllowed, IsWithin, HasLevel}
-use Rattle.sm_poset.specs.Kept.{moves_at, AreMoves}
+use Rattle.sm_poset.specs.Moves.{AreMoves, moves_at}
 use Rattle.sm_poset.specs.Posets.{RotationPoset}
 use Rattle.sm_board.specs.Board.{is_shut, Board, IsBoard, stay, level, stay_level, IsClosedIn, Gates, IsOpen, Fits, IsLeast}
 

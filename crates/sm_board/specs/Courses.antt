@@ -45,7 +45,7 @@ pub record IsHeld (b : Board) (h : Held) : Type 0 where
   pub now_is : (p : ℕ) → p < length b.leaves → slice_index h.levels p ≡ level b h.set p
 
 -- more is held, behind what was held before, and nothing new changes a level before `bar`
-pub record Grows (t : Course) (bar : ℕ) (before after : Held) : Type 0 where
+pub record HoldsMore (t : Course) (bar : ℕ) (before after : Held) : Type 0 where
   pub held : IsHeld t.board after
   pub front : take (length before.log) after.log ≡ before.log
   pub longer : length before.log ≤ length after.log

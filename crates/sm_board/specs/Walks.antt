@@ -6,7 +6,7 @@ use Rattle.sm_market.specs.Lists.{Lists}
 use Rattle.sm_market.specs.Matching.{Places}
 use Rattle.sm_market.specs.Stable.{IsStable}
 use Rattle.sm_theory.specs.Vectors.{IsOrder, IsBefore, IsWithin, IsAllowedVector}
-use Rattle.sm_theory.specs.Listings.{IsNext, IsNoneBehind}
+use Rattle.sm_theory.specs.Listings.{IsNextListed, IsNoneBehind}
 use Rattle.sm_board.specs.Board.{Board, IsBoard, level, IsInside, Gates, Fits, IsLeast, IsFirstChange}
 use Rattle.sm_board.specs.BoardOf.{board_of, IsGround, AreGates, AreInRange}
 
@@ -15,8 +15,8 @@ abbrev pub vector : Board → List Bool → List ℕ
 vector b C = map (level b C) (range_with_len 0 (length b.leaves))
 
 -- at the first t positions a set has the levels of v, or no lower ones
-abbrev pub Agrees : Board → (order v : List ℕ) → ℕ → List Bool → Type 0
-Agrees b order v t C = (j : ℕ) → j < t
+abbrev pub AgreesUpTo : Board → (order v : List ℕ) → ℕ → List Bool → Type 0
+AgreesUpTo b order v t C = (j : ℕ) → j < t
     → level b C (slice_index order j) ≡ slice_index v (slice_index order j)
 
 -- at the first t positions a set has no lower levels than v
@@ -27,13 +27,13 @@ Reaches b order v t C = (j : ℕ) → j < t
 -- the least set that fits and is no lower than v at the first t positions; there it agrees with v
 pub record IsMark (b : Board) (g : Gates) (order v : List ℕ) (t : ℕ) (C : List Bool) : Type 0 where
   pub fits : Fits b g C
-  pub agrees : Agrees b order v t C
+  pub agrees : AgreesUpTo b order v t C
   pub least : (D : List Bool) → Fits b g D → Reaches b order v t D → IsInside C D
 
 -- a set that is above v first at position i
 pub record IsUp (b : Board) (g : Gates) (order v : List ℕ) (i : ℕ) (D : List Bool) : Type 0 where
   pub fits : Fits b g D
-  pub agrees : Agrees b order v i D
+  pub agrees : AgreesUpTo b order v i D
   pub above : slice_index v (slice_index order i) < level b D (slice_index order i)
 
 -- and the least one of these
@@ -63,13 +63,13 @@ IsNotRaised b g order C p wanted bar = (D : List Bool) → Fits b g D → IsInsi
     → ((j : ℕ) → j < bar → level b D (slice_index order j) ≡ level b C (slice_index order j)) → ⊥
 
 -- a walk at v: its marks for the first d positions, and none above v from there on
-pub record IsWalk (b : Board) (g : Gates) (order v : List ℕ) (d : ℕ) (mark : ℕ → List Bool) : Type 0 where
+pub record IsVectorWalk (b : Board) (g : Gates) (order v : List ℕ) (d : ℕ) (mark : ℕ → List Bool) : Type 0 where
   pub marks : (t : ℕ) → t ≤ d → IsMark b g order v t (mark t)
   pub none : NoneFrom b g order v d
 
 -- of the sets that fit none has a vector before that of C
-abbrev pub IsFirst : Board → Gates → (order : List ℕ) → List Bool → Type 0
-IsFirst b g order C = (D : List Bool) → Fits b g D → (vector b C ≡ vector b D)
+abbrev pub HasFirstVector : Board → Gates → (order : List ℕ) → List Bool → Type 0
+HasFirstVector b g order C = (D : List Bool) → Fits b g D → (vector b C ≡ vector b D)
     ⊎ IsBefore order (vector b C) (vector b D)
 
 -- of those above v none has a vector before that of C, which is above v
@@ -110,13 +110,13 @@ WalkGoesOn = (b : Board) (g : Gates) (order v : List ℕ) (i : ℕ) (mark then :
     → List Bool) (new : List Bool) → IsOrder (length b.leaves) order → i < length order
     → ((t : ℕ) → t ≤ i → IsMark b g order v t (mark t)) → IsNextUp b g order v i new
     → ((t : ℕ) → t ≤ i → then t ≡ mark t) → ((t : ℕ) → i < t → then t ≡ new)
-    → IsWalk b g order (vector b new) (length order) then
+    → IsVectorWalk b g order (vector b new) (length order) then
 
 -- a walk begins at the least set that fits
 abbrev pub WalkBegins : Type 0
 WalkBegins = (b : Board) (g : Gates) (order : List ℕ) (C : List Bool) → IsBoard b
     → IsOrder (length b.leaves) order → IsLeast (Fits b g) C
-    → IsWalk b g order (vector b C) (length order) (λ _. C) × IsFirst b g order C
+    → IsVectorWalk b g order (vector b C) (length order) (λ _. C) × HasFirstVector b g order C
 
 -- following a vector that is given: raised to its level at position i, the mark behind this position is found, or the next one
 -- up, behind which none is above v
@@ -148,10 +148,10 @@ WalkIsNext = (l : Lists) (levels : List (List ℕ)) (first : Places) (rotations 
     → let b = board_of l levels first rotations needs moves in
     AreGates b low high forced forbidden g → ExcludeNothing l levels low high
     → IsOrder (length l.proposers) order
-    → ((C : List Bool) → Fits b g C → IsFirst b g order C
-    → IsNext (IsBefore order) (IsAllowedVector l levels forced forbidden) None (vector b C))
+    → ((C : List Bool) → Fits b g C → HasFirstVector b g order C
+    → IsNextListed (IsBefore order) (IsAllowedVector l levels forced forbidden) None (vector b C))
     × ((v : List ℕ) (C : List Bool) → Fits b g C → IsFirstAbove b g order v C
-    → IsNext (IsBefore order) (IsAllowedVector l levels forced forbidden) (Some v) (vector b C))
+    → IsNextListed (IsBefore order) (IsAllowedVector l levels forced forbidden) (Some v) (vector b C))
     × (((C : List Bool) → ¬ Fits b g C)
     → IsNoneBehind (IsBefore order) (IsAllowedVector l levels forced forbidden) None)
     × ((v : List ℕ) → NoneFrom b g order v 0

@@ -4,7 +4,7 @@ use Rattle.sm_theory.specs.WitnessesListing.{two_pairs, two_pairs_first, two_pai
 use Rattle.sm_board.specs.Board.{Board, Gates, Fits, IsLeast, IsFirstChange}
 use Rattle.sm_board.specs.BoardOf.{board_of, IsGround, AreGates, IsLeastWithin}
 use Rattle.sm_board.specs.Growing.{IsLogOf, AreAskers}
-use Rattle.sm_board.specs.Walks.{IsRaised, IsNotRaised, IsWalk, IsFirst, IsNextUp}
+use Rattle.sm_board.specs.Walks.{IsRaised, IsNotRaised, IsVectorWalk, HasFirstVector, IsNextUp}
 
 -- neither rotation needs the other, and each moves two proposers to their second place
 abbrev pub two_needs : List (List ℕ)
@@ -34,8 +34,8 @@ two_gates = record { until = 1 ∷ 2 ∷ 2 ∷ 2 ∷ []; shut = [] }
 
 -- the walk begins at the empty set, whose vector is the first; the second rotation alone is the next one up at position 2
 abbrev pub TwoWalk : Type 0
-TwoWalk = IsWalk two_board two_gates (0 ∷ 1 ∷ 2 ∷ 3 ∷ []) both_best 4 (λ _. false ∷ false ∷ [])
-    × IsFirst two_board two_gates (0 ∷ 1 ∷ 2 ∷ 3 ∷ []) (false ∷ false ∷ [])
+TwoWalk = IsVectorWalk two_board two_gates (0 ∷ 1 ∷ 2 ∷ 3 ∷ []) both_best 4 (λ _. false ∷ false ∷ [])
+    × HasFirstVector two_board two_gates (0 ∷ 1 ∷ 2 ∷ 3 ∷ []) (false ∷ false ∷ [])
     × IsNextUp two_board two_gates (0 ∷ 1 ∷ 2 ∷ 3 ∷ []) both_best 2 (false ∷ true ∷ [])
 
 -- the second rotation entered for the first stay of proposer 2, which stands at the first position whose level it changes

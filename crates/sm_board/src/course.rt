@@ -5,7 +5,7 @@ ghost use Rattle.sm_market.specs.Lists.{row};
 ghost use Rattle.sm_theory.specs.ClosedSets.{IsMember};
 ghost use Rattle.sm_theory.specs.Vectors.{IsOrder};
 ghost use Rattle.sm_board.specs.Board.{IsBoard, Changes, IsFirstChange, leave};
-ghost use Rattle.sm_board.specs.Courses.{IsCourse, IsHeld, Grows, Breaks};
+ghost use Rattle.sm_board.specs.Courses.{IsCourse, IsHeld, HoldsMore, Breaks};
 
 use crate::board::Board;
 use crate::held::Held;
@@ -133,7 +133,7 @@ impl Course {
         requires positions { bar ≤ length self.now.order }
         requires number { x < length self.now.board.needs }
         requires fresh { ¬ IsMember held.old.set x }
-        ensures grows { Grows self.now bar held.old held.new }
+        ensures grows { HoldsMore self.now bar held.old held.new }
         ensures entered { result ≡ true → held.new.set ≡ set held.old.set x true }
         ensures logged { result ≡ true → held.new.log ≡ held.old.log ++ x ∷ [] }
         ensures barred { result ≡ false → Breaks (λ D. IsMember D x) self.now bar held.old.set }

@@ -6,8 +6,7 @@ ghost use Rattle.sm_market.specs.Vectors.{rows_of};
 ghost use Rattle.sm_market.specs.Matching.{held};
 ghost use Rattle.sm_theory.specs.Vectors.{AreLevels};
 ghost use Rattle.sm_theory.specs.Values.{rotations_of};
-ghost use Rattle.sm_poset.specs.Kept.{moves_in, AreMoves};
-ghost use Rattle.sm_poset.specs.Moves.{place_to};
+ghost use Rattle.sm_poset.specs.Moves.{AreMoves, moves_in, place_to};
 ghost use Rattle.sm_board.specs.BoardOf.{places_at, IsBoardFor};
 
 use crate::board::Board;

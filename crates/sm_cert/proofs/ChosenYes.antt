@@ -17,9 +17,10 @@ use Rattle.sm_pairs.specs.Held.{partner_in, places_in}
 use Rattle.sm_pairs.specs.Chosen.{chosen_places, head_for}
 use Rattle.sm_pairs.proofs.ChoiceLemmas.{chosen_assigned}
 use Rattle.sm_report.specs.Lines.{LineData}
-use Rattle.sm_forms.specs.declared.keywords.Keyword.TheVariants as keyword
+use Rattle.sm_report.specs.declared.keywords.Keyword.TheVariants as keyword
 use Rattle.sm_judge.specs.declared.verdicts.Reason.TheVariants as reason
-use Rattle.sm_forms.specs.Keywords.{keyword_of, number_of}
+use Rattle.sm_forms.specs.Keywords.{keyword_number}
+use Rattle.sm_report.specs.Keywords.{keyword_of}
 use Rattle.sm_forms.specs.Forms.{layouts_of, given_layout}
 use Rattle.sm_judge.specs.Said.{pair_in, pairs_in, left_in, lefts_in, right_in, rights_in}
 use Rattle.sm_judge.specs.Pairs.{IsFree, IsWanted, AreAllThere}
@@ -92,7 +93,7 @@ tells : Tells given_words is_up_to_rights
 unfolding given_words
 tells = record { other = refl; same = same }
   where
-    same : (x : LineData) → (is_up_to_rights x ≡ given_words (number_of (keyword_of x))) ⊎ (number_of (keyword_of x) ≡ 21)
+    same : (x : LineData) → (is_up_to_rights x ≡ given_words (keyword_number (keyword_of x))) ⊎ (keyword_number (keyword_of x) ≡ 21)
     same (LineData.Answer head) = inr refl
     same _ = inl refl
 

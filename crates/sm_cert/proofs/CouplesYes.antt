@@ -13,7 +13,8 @@ use Rattle.sm_instance.specs.Written.{AgentData, lists_of}
 use Rattle.sm_instance.specs.declared.inputs.Input.TheVariants.{Room}
 use Rattle.sm_market.specs.Lists.{place_of}
 use Rattle.sm_theory.specs.Rooms.{IsAcceptable, IsRoomStable, mate_of}
-use Rattle.sm_pairs.specs.Held.{partner_in, pair_at}
+use Rattle.sm_pairs.specs.Held.{partner_in}
+use Rattle.sm_lists.specs.Pairs.{pair_at}
 use Rattle.sm_report.specs.Lines.{LineData}
 use Rattle.sm_judge.specs.declared.verdicts.Reason.TheVariants as reason
 use Rattle.sm_forms.specs.Forms.{fits}
@@ -22,7 +23,7 @@ use Rattle.sm_judge.specs.Rooming.{persons_of, both_ways, mates_in, IsFreeCouple
 use Rattle.sm_cert.specs.Yes.{AreApart, CouplesYes}
 use Rattle.sm_judge.proofs.PersonLemmas.{of_among}
 use Rattle.sm_judge.proofs.JudgingLemmas.{passes_at}
-use Rattle.sm_judge.proofs.CoupleLemmas.{partner_behind, partner_there, none_where}
+use Rattle.sm_judge.proofs.CoupleLemmas.{partner_in-append, partner_there, none_where}
 use Rattle.sm_cert.proofs.YesPairs.{held_there, only_one, no_partner, given_there, pair_there, apart_more}
 use Rattle.sm_cert.proofs.YesLines.{right_couples, at_closing, said_above, grown}
 
@@ -78,7 +79,7 @@ one_couple rows pairs x k f = record {
     behind : (z : ℕ) → partner_in (both_ways (pairs ++ x ∷ [])) z ≡ option_or (partner_in (both_ways pairs) z) (partner_in (ways x) z)
     behind z =
         ap (λ (ps : List (ℕ × ℕ)). partner_in ps z) (flat_map-append (λ (pair : ℕ × ℕ). pair ∷ (pair.1, pair.0) ∷ []) pairs (x ∷ []))
-        ∙ partner_behind (both_ways pairs) (ways x) z
+        ∙ partner_in-append (both_ways pairs) (ways x) z
 
     none : partner_in (both_ways pairs) x.0 ≡ None
     none = nobody pairs x.0 f.0.first_free

@@ -11,13 +11,14 @@ use Rattle.sm_instance.specs.Written.{Written}
 use Rattle.sm_instance.specs.declared.inputs.Input.TheVariants.{Two}
 use Rattle.sm_report.specs.Heads.{HeadData}
 use Rattle.sm_report.specs.Lines.{LineData}
-use Rattle.sm_forms.specs.declared.keywords.Keyword.{Keyword}
-use Rattle.sm_forms.specs.declared.keywords.Keyword.TheVariants as keyword
-use Rattle.sm_forms.specs.declared.layouts.Part.{Part}
-use Rattle.sm_forms.specs.declared.layouts.Part.TheVariants.{One, Many, Blocks}
+use Rattle.sm_report.specs.declared.keywords.Keyword.{Keyword}
+use Rattle.sm_report.specs.declared.keywords.Keyword.TheVariants as keyword
+use Rattle.sm_forms.specs.declared.layouts.LayoutPart.{LayoutPart}
+use Rattle.sm_forms.specs.declared.layouts.LayoutPart.TheVariants.{One, Many, Blocks}
 use Rattle.sm_forms.specs.declared.layouts.Opening.{Opening}
 use Rattle.sm_judge.specs.declared.verdicts.Reason.{Reason}
-use Rattle.sm_forms.specs.Keywords.{keyword_of, number_of}
+use Rattle.sm_forms.specs.Keywords.{keyword_number}
+use Rattle.sm_report.specs.Keywords.{keyword_of}
 use Rattle.sm_forms.specs.Layouts.{begins, keyword_at, behind, left_behind, is_empty, is_whole}
 use Rattle.sm_forms.specs.Forms.{layouts_of, opening_of}
 use Rattle.sm_judge.specs.Verdicts.{AtLine}
@@ -25,21 +26,21 @@ use Rattle.sm_judge.specs.Said.{IsFirstBehind}
 use Rattle.sm_judge.specs.Judging.{Subject, Clauses}
 use Rattle.sm_cert.specs.Yes.{GetsYes}
 use Rattle.sm_theory.proofs.Net.Tests.{and_parts}
-use Rattle.sm_forms.proofs.LayoutLemmas.{none_left}
+use Rattle.sm_forms.proofs.LayoutLemmas.{left_behind-none}
 use Rattle.sm_cert.proofs.YesLines.{IsRight, by_head, got_at, taken_front}
 
 -- What is left of a layout behind a line of a whole answer.
-pub record Goes (parts : List Part) (line : Opening) (lines : List Opening) : Type 0 where
-  pub left : List Part
+pub record Goes (parts : List LayoutPart) (line : Opening) (lines : List Opening) : Type 0 where
+  pub left : List LayoutPart
   pub is : behind parts line ≡ Some left
   pub whole : is_whole (left ∷ []) lines ≡ true
 
 -- the first line of a whole answer leaves a layout, of which the lines behind it are a whole answer
-pub goes : (parts : List Part) (line : Opening) (lines : List Opening) → is_whole (parts ∷ []) (line ∷ lines) ≡ true → Goes parts line lines
+pub goes : (parts : List LayoutPart) (line : Opening) (lines : List Opening) → is_whole (parts ∷ []) (line ∷ lines) ≡ true → Goes parts line lines
 goes parts line lines e = go (behind parts line) refl e
   where
-    go : (o : Option (List Part)) → behind parts line ≡ o → list_any is_empty (left_behind (cons_option o []) lines) ≡ true → Goes parts line lines
-    go None is whole = absurd (false≢true (sym (ap (list_any is_empty) (none_left lines)) ∙ whole))
+    go : (o : Option (List LayoutPart)) → behind parts line ≡ o → list_any is_empty (left_behind (cons_option o []) lines) ≡ true → Goes parts line lines
+    go None is whole = absurd (false≢true (sym (ap (list_any is_empty) (left_behind-none lines)) ∙ whole))
     go (Some left) is whole = record { left = left; is = is; whole = whole }
 
 -- Groups of keywords, by their numbers: the parts of a layout in a group, and those behind it.
@@ -49,60 +50,60 @@ module _ (group : ℕ → Bool) where
   IsOutside n = (group n ≡ false) × (n < 21)
 
   -- all lines of a part are in the group
-  abbrev pub IsIn : Part → Type 0
-  IsIn (One word) = group (number_of word) ≡ true
-  IsIn (Many word) = group (number_of word) ≡ true
+  abbrev pub IsIn : LayoutPart → Type 0
+  IsIn (One word) = group (keyword_number word) ≡ true
+  IsIn (Many word) = group (keyword_number word) ≡ true
   IsIn (Blocks turn) = (group 7 ≡ true) × (group 8 ≡ true) × (group 9 ≡ true)
 
   -- all lines of a part are outside the group
-  abbrev pub IsOut : Part → Type 0
-  IsOut (One word) = IsOutside (number_of word)
-  IsOut (Many word) = IsOutside (number_of word)
+  abbrev pub IsOut : LayoutPart → Type 0
+  IsOut (One word) = IsOutside (keyword_number word)
+  IsOut (Many word) = IsOutside (keyword_number word)
   IsOut (Blocks turn) = IsOutside 7 × IsOutside 8 × IsOutside 9
 
   -- the parts of a layout are all outside it
-  abbrev pub AllOut : List Part → Type 0
+  abbrev pub AllOut : List LayoutPart → Type 0
   AllOut [] = Unit {0}
   AllOut (part ∷ parts) = IsOut part × AllOut parts
 
   -- the first parts of a layout are in it, and the others outside it
-  abbrev pub Begins : List Part → Type 0
+  abbrev pub Begins : List LayoutPart → Type 0
   Begins [] = Unit {0}
   Begins (part ∷ parts) = (IsIn part × Begins parts) ⊎ (IsOut part × AllOut parts)
 
   abbrev of_line : Opening → ℕ
-  of_line line = number_of line.keyword
+  of_line line = keyword_number line.keyword
 
   -- a line that a layout takes is outside, and so are all parts that are left
-  abbrev pub OutStep : Opening → Option (List Part) → Type 0
+  abbrev pub OutStep : Opening → Option (List LayoutPart) → Type 0
   OutStep line None = Unit {0}
   OutStep line (Some left) = IsOutside (of_line line) × AllOut left
 
-  abbrev Step : Opening → Option (List Part) → Type 0
+  abbrev Step : Opening → Option (List LayoutPart) → Type 0
   Step line None = Unit {0}
   Step line (Some left) = ((group (of_line line) ≡ true) × Begins left) ⊎ (IsOutside (of_line line) × AllOut left)
 
-  by_word : (P : ℕ → Type 0) (line : Opening) (word : Keyword) → begins line word ≡ true → P (number_of word) → P (of_line line)
-  by_word P line word e h = subst P (sym (eqb-true (of_line line) (number_of word) e)) h
+  by_word : (P : ℕ → Type 0) (line : Opening) (word : Keyword) → begins line word ≡ true → P (keyword_number word) → P (of_line line)
+  by_word P line word e h = subst P (sym (eqb-true (of_line line) (keyword_number word) e)) h
 
-  by_place : (P : ℕ → Type 0) (place : ℕ) → P 7 → P 8 → P 9 → P (number_of (keyword_at place))
+  by_place : (P : ℕ → Type 0) (place : ℕ) → P 7 → P 8 → P 9 → P (keyword_number (keyword_at place))
   by_place P place a b c = go (place == 0) (place == 1)
     where
-      go : (s t : Bool) → P (number_of (if s then keyword.Rotation else (if t then keyword.Needs else keyword.Gain)))
+      go : (s t : Bool) → P (keyword_number (if s then keyword.Rotation else (if t then keyword.Needs else keyword.Gain)))
       go true t = a
       go false true = b
       go false false = c
 
-  out_if : (line : Opening) (t : Bool) (o p : Option (List Part)) → (t ≡ true → OutStep line o) → OutStep line p → OutStep line (if t then o else p)
+  out_if : (line : Opening) (t : Bool) (o p : Option (List LayoutPart)) → (t ≡ true → OutStep line o) → OutStep line p → OutStep line (if t then o else p)
   out_if line true o p x y = x refl
   out_if line false o p x y = y
 
-  step_if : (line : Opening) (t : Bool) (o p : Option (List Part)) → (t ≡ true → Step line o) → Step line p → Step line (if t then o else p)
+  step_if : (line : Opening) (t : Bool) (o p : Option (List LayoutPart)) → (t ≡ true → Step line o) → Step line p → Step line (if t then o else p)
   step_if line true o p x y = x refl
   step_if line false o p x y = y
 
   -- a layout whose parts are all outside takes only lines outside
-  pub out_step : (line : Opening) (parts : List Part) → AllOut parts → OutStep line (behind parts line)
+  pub out_step : (line : Opening) (parts : List LayoutPart) → AllOut parts → OutStep line (behind parts line)
   out_step line [] h = tt
   out_step line (One word ∷ parts) h = out_if line (begins line word) _ _ (λ e. (by_word IsOutside line word e h.0, h.1)) tt
   out_step line (Many word ∷ parts) h = out_if line (begins line word) _ _ (λ e. (by_word IsOutside line word e h.0, h)) (out_step line parts h.1)
@@ -111,14 +112,14 @@ module _ (group : ℕ → Bool) where
       (λ e. out_if line (line.number == turn.number) _ _ (λ _. (by_word IsOutside line (keyword_at turn.place) e (by_place IsOutside turn.place h.0.0 h.0.1 h.0.2), h)) tt)
       (out_if line (turn.place == 0) _ _ (λ _. out_step line parts h.1) tt)
 
-  of_out : (line : Opening) (o : Option (List Part)) → OutStep line o → Step line o
+  of_out : (line : Opening) (o : Option (List LayoutPart)) → OutStep line o → Step line o
   of_out line None h = tt
   of_out line (Some left) h = inr h
 
   abbrev Inside : ℕ → Type 0
   Inside n = group n ≡ true
 
-  step : (line : Opening) (parts : List Part) → Begins parts → Step line (behind parts line)
+  step : (line : Opening) (parts : List LayoutPart) → Begins parts → Step line (behind parts line)
   step line [] h = tt
   step line (part ∷ parts) (inr h) = of_out line (behind (part ∷ parts) line) (out_step line (part ∷ parts) h)
   step line (One word ∷ parts) (inl h) = step_if line (begins line word) _ _ (λ e. inl (by_word Inside line word e h.0, h.1)) tt
@@ -131,18 +132,18 @@ module _ (group : ℕ → Bool) where
 -- a test of lines tells which are in a group, but for heads
 pub record Tells (group : ℕ → Bool) (up : LineData → Bool) : Type 0 where
   pub other : group 21 ≡ false
-  pub same : (x : LineData) → (up x ≡ group (number_of (keyword_of x))) ⊎ (number_of (keyword_of x) ≡ 21)
+  pub same : (x : LineData) → (up x ≡ group (keyword_number (keyword_of x))) ⊎ (keyword_number (keyword_of x) ≡ 21)
 
 module _ {group : ℕ → Bool} {up : LineData → Bool} (t : Tells group up) where
   -- a line in the group passes the test
-  pub is_up : (x : LineData) → group (number_of (keyword_of x)) ≡ true → up x ≡ true
+  pub is_up : (x : LineData) → group (keyword_number (keyword_of x)) ≡ true → up x ≡ true
   is_up x e = elim (t.same x) [
     | inl same ↦ same ∙ e
     | inr head ↦ absurd (false≢true (sym t.other ∙ ap group (sym head) ∙ e))
   ]
 
   -- a line outside it fails the test
-  pub is_down : (x : LineData) → IsOutside group (number_of (keyword_of x)) → up x ≡ false
+  pub is_down : (x : LineData) → IsOutside group (keyword_number (keyword_of x)) → up x ≡ false
   is_down x h = elim (t.same x) [
     | inl same ↦ same ∙ h.0
     | inr head ↦ absurd (let less = h.1 in omega arith)
@@ -172,7 +173,7 @@ one_up up x lines e p = record {
 
 module _ {group : ℕ → Bool} {up : LineData → Bool} (t : Tells group up) where
   -- lines that are a whole answer of parts outside the group fail the test
-  pub all_down : (parts : List Part) (lines : List LineData) → AllOut group parts → is_whole (parts ∷ []) (map opening_of lines) ≡ true → AreDown up lines
+  pub all_down : (parts : List LayoutPart) (lines : List LineData) → AllOut group parts → is_whole (parts ∷ []) (map opening_of lines) ≡ true → AreDown up lines
   all_down parts [] h e = tt
   all_down parts (x ∷ xs) h e =
       let g = goes parts (opening_of x) (map opening_of xs) e in
@@ -180,7 +181,7 @@ module _ {group : ℕ → Bool} {up : LineData → Bool} (t : Tells group up) wh
       (is_down t x s.0, all_down g.left xs s.1 g.whole)
 
   -- a whole answer of a layout that begins with the group falls into the lines of the group and those behind it
-  pub parted : (parts : List Part) (lines : List LineData) → Begins group parts → is_whole (parts ∷ []) (map opening_of lines) ≡ true → Parted up lines
+  pub parted : (parts : List LayoutPart) (lines : List LineData) → Begins group parts → is_whole (parts ∷ []) (map opening_of lines) ≡ true → Parted up lines
   parted parts [] h e = record { above = []; below = []; is = refl; ups = refl; downs = tt }
   parted parts (x ∷ xs) h e =
       let g = goes parts (opening_of x) (map opening_of xs) e in
@@ -190,7 +191,7 @@ module _ {group : ℕ → Bool} {up : LineData → Bool} (t : Tells group up) wh
       ]
 
   -- an answer with one layout that begins with the group
-  pub parted_behind : {w : Written} {head : HeadData} {lines : List LineData} (layout : List Part) → layouts_of (Two w) head ≡ layout ∷ [] → Begins group layout → up (LineData.Answer head) ≡ true
+  pub parted_behind : {w : Written} {head : HeadData} {lines : List LineData} (layout : List LayoutPart) → layouts_of (Two w) head ≡ layout ∷ [] → Begins group layout → up (LineData.Answer head) ≡ true
       → GetsYes (Two w) head lines → Parted up lines
   parted_behind {w} {head} layout one h e g =
       by_head (Parted up) g (λ rest placed _. one_up up (LineData.Answer head) rest e

@@ -12,7 +12,7 @@ use Rattle.sm_report.specs.Lines.{LineData}
 use Rattle.sm_report.specs.Sound.{IsLineOf}
 use Rattle.sm_report.specs.Texts.{text_of_line}
 use Rattle.sm_forms.specs.Layouts.{is_begun, is_whole}
-use Rattle.sm_forms.specs.Forms.{layouts_of, opening_of, fits, is_placed, AreFront, AreAnswer, IsFront, IsMisplaced}
+use Rattle.sm_forms.specs.Forms.{layouts_of, opening_of, fits, is_placed, AreFirstLines, AreAnswer, BeginAnAnswer, IsMisplaced}
 use Rattle.sm_judge.specs.Verdicts.{IsVerdict}
 use Rattle.sm_judge.specs.Judging.{Holds}
 use Rattle.sm_cert.specs.Laws.{JudgedIsntBad, OneJudgement}
@@ -34,7 +34,7 @@ module _ (input : Input) where
   first_placed n (_ ∷ lines) e = absurd (false≢true e)
 
   -- the first lines of an answer begin one
-  front_of_whole : (n : ℕ) (texts : List (List ℕ)) (lines : List LineData) → AreAnswer input texts lines → AreFront input (take (suc n) texts) (take (suc n) lines)
+  front_of_whole : (n : ℕ) (texts : List (List ℕ)) (lines : List LineData) → AreAnswer input texts lines → AreFirstLines input (take (suc n) texts) (take (suc n) lines)
   front_of_whole n texts lines a = record {
     read = sym (take-map (text_of_line input) (suc n) lines) ∙ ap (take (suc n)) a.read;
     right = All-take (IsLineOf input) (suc n) lines a.right;
@@ -42,7 +42,7 @@ module _ (input : Input) where
     placed = first_placed n lines a.placed;
   }
 
-  is_front : (n : ℕ) (texts : List (List ℕ)) (lines : List LineData) → AreFront input (take (suc n) texts) (take (suc n) lines) → IsFront input (take (suc n) texts)
+  is_front : (n : ℕ) (texts : List (List ℕ)) (lines : List LineData) → AreFirstLines input (take (suc n) texts) (take (suc n) lines) → BeginAnAnswer input (take (suc n) texts)
   is_front n [] lines f = tt
   is_front n (text ∷ texts) lines f = (take (suc n) lines, f)
 
@@ -50,7 +50,7 @@ module _ (input : Input) where
   not_misplaced texts lines k a m = elim (lt_or_le k (length texts)) [
     | inl less ↦
         let one : k + 1 ≡ suc k = omega arith in
-        m.here less (subst (λ n. IsFront input (take n texts)) (sym one) (is_front k texts lines (front_of_whole k texts lines a)))
+        m.here less (subst (λ n. BeginAnAnswer input (take n texts)) (sym one) (is_front k texts lines (front_of_whole k texts lines a)))
     | inr more ↦ m.missing (omega (arith, more, m.within)) lines a
   ]
 

@@ -2,7 +2,7 @@
 use Rattle.std.proofs.Common.{◌≡◌, ℕ, zero, suc, ◌+◌, ◌<◌, inl, inr, arith, refl, sym, ap, ◌∙◌, List, [], ◌∷◌, ◌++◌, length, take, slice_index_or, Option, None, Some, length-append, subst}
 use Rattle.std.specs.Prelude.{IfSome}
 use Rattle.std.specs.List.{slice_get}
-use Rattle.sm_instance.specs.Ranks.{IsBefore}
+use Rattle.sm_instance.specs.Ranks.{IsBefore, order_of}
 use Rattle.sm_lists.proofs.Counting.{lt_or_le}
 use Rattle.sm_instance.specs.Written.{Written}
 use Rattle.sm_theory.specs.Listings.{IsBehind, end_of}
@@ -12,7 +12,7 @@ use Rattle.sm_judge.specs.declared.verdicts.Reason.TheVariants as reason
 use Rattle.sm_seats.specs.Vectors.{IsAllowedRankVector}
 use Rattle.sm_judge.specs.Verdicts.{AtLine}
 use Rattle.sm_judge.specs.Said.{vector_in, vectors_in}
-use Rattle.sm_judge.specs.Vectors.{ListHolds, VectorHolds, ListClauses, order_of, places_of_ranks}
+use Rattle.sm_judge.specs.Vectors.{ListHolds, VectorHolds, ListClauses, places_of_ranks}
 use Rattle.sm_cert.specs.Yes.{AreListed, ListYes}
 use Rattle.sm_cert.proofs.YesLines.{by_head, grown}
 

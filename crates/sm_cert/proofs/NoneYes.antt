@@ -13,21 +13,21 @@ use Rattle.sm_instance.specs.declared.inputs.Input.TheVariants.{Room}
 use Rattle.sm_theory.specs.Partitions.{successor_in, after, IsInOddParty}
 use Rattle.sm_theory.proofs.Room.Partitions.{odd_party_excludes}
 use Rattle.sm_report.specs.Lines.{LineData}
-use Rattle.sm_report.specs.Sound.{IsLineOf, IsLeft}
+use Rattle.sm_report.specs.Sound.{IsLineOf, IsOnLeft}
 use Rattle.sm_judge.specs.declared.verdicts.Reason.TheVariants as reason
 use Rattle.sm_judge.specs.Said.{party_in, parties_in}
 use Rattle.sm_judge.specs.Rooming.{members_of, next_of, nexts_of, AreNew, IsWholePartition, HasOddParty}
 use Rattle.sm_judge.specs.PartiesKept.{is_among, follower}
 use Rattle.sm_cert.specs.Yes.{NoneYes}
 use Rattle.sm_judge.proofs.PersonLemmas.{of_among}
-use Rattle.sm_judge.proofs.PartyLemmas.{times_more, once_least, twice_least, stands_at, among_at, next_there, next_other, follows}
+use Rattle.sm_judge.proofs.PartyLemmas.{times_more, once_least, twice_least, stands_at, is_among-get_or, next_of-push_there, next_of-push_other, next_in_party-get_or}
 use Rattle.sm_cert.proofs.YesPairs.{only_one}
 use Rattle.sm_cert.proofs.YesLines.{right_parties, at_closing, said_above, each_line, grown}
 
 -- Parties each of which was new behind those before it.
 
 abbrev IsNewParty : List AgentData → List (List ℕ) → List ℕ → Type 0
-IsNewParty persons parties party = AreNew parties party × All (IsLeft (Room persons)) party
+IsNewParty persons parties party = AreNew parties party × All (IsOnLeft (Room persons)) party
 
 record AreNewParties (persons : List AgentData) (parties : List (List ℕ)) : Type 0 where
   within : (party : List ℕ) → Contains parties party → (j : ℕ) → j < length party → get_or party j 0 < length persons
@@ -57,21 +57,21 @@ one_party : (persons : List AgentData) (parties : List (List ℕ)) (party : List
 one_party persons parties party k f = record {
   within = λ q c. elim (Contains-append_cases parties (party ∷ []) q c) [
     | inl had ↦ k.within q had
-    | inr now ↦ subst (λ (y : List ℕ). (j : ℕ) → j < length y → get_or y j 0 < length persons) (only_one now) (λ j l. All-get_or (IsLeft (Room persons)) party j 0 l f.1)
+    | inr now ↦ subst (λ (y : List ℕ). (j : ℕ) → j < length y → get_or y j 0 < length persons) (only_one now) (λ j l. All-get_or (IsOnLeft (Room persons)) party j 0 l f.1)
   ];
   distinct = λ q c. elim (Contains-append_cases parties (party ∷ []) q c) [
     | inl had ↦ k.distinct q had
     | inr now ↦ subst (λ (y : List ℕ). (i j : ℕ) → i < j → j < length y → get_or y i 0 ≢ get_or y j 0) (only_one now) apart
   ];
   next = λ q c. elim (Contains-append_cases parties (party ∷ []) q c) [
-    | inl had ↦ λ j l. next_other parties party (get_or q j 0) (old (get_or q j 0) (among_members parties q (get_or q j 0) had (among_at q j l))) ∙ k.next q had j l
+    | inl had ↦ λ j l. next_of-push_other parties party (get_or q j 0) (old (get_or q j 0) (among_members parties q (get_or q j 0) had (is_among-get_or q j l))) ∙ k.next q had j l
     | inr now ↦ subst (λ (y : List ℕ). (j : ℕ) → j < length y → next_of (parties ++ party ∷ []) (get_or y j 0) ≡ follower y j) (only_one now)
-        (λ j l. next_there parties party (get_or party j 0) (not_before j l) (among_at party j l) ∙ follows party apart j l)
+        (λ j l. next_of-push_there parties party (get_or party j 0) (not_before j l) (is_among-get_or party j l) ∙ next_in_party-get_or party apart j l)
   ];
 }
   where
     one : (j : ℕ) → j < length party → count_by (λ y. y == get_or party j 0) (members_of (parties ++ party ∷ [])) ≡ 1
-    one j l = f.0 (get_or party j 0) (of_among party (get_or party j 0) (among_at party j l))
+    one j l = f.0 (get_or party j 0) (of_among party (get_or party j 0) (is_among-get_or party j l))
 
     apart : (i j : ℕ) → i < j → j < length party → get_or party i 0 ≢ get_or party j 0
     apart i j i_j l e =
@@ -100,7 +100,7 @@ one_party persons parties party k f = record {
       where
         go : (t : Bool) → is_among (get_or party j 0) (members_of parties) ≡ t → t ≡ false
         go false e = refl
-        go true e = absurd (false≢true (sym (old (get_or party j 0) e) ∙ among_at party j l))
+        go true e = absurd (false≢true (sym (old (get_or party j 0) e) ∙ is_among-get_or party j l))
 
 -- The first of an odd party stands in an odd party of the permutation.
 module _ (persons : List AgentData) (parties : List (List ℕ)) (k : AreNewParties persons parties) (party : List ℕ) (c : Contains parties party) (half : ℕ) (three : 0 < half) (odd : length party ≡ 2 * half + 1) where

@@ -12,14 +12,14 @@ use Rattle.sm_instance.specs.declared.inputs.Input.TheVariants.{Two}
 use Rattle.sm_instance.specs.declared.kinds.Measure.{Measure}
 use Rattle.sm_report.specs.Heads.{HeadData}
 use Rattle.sm_report.specs.Lines.{LineData}
-use Rattle.sm_forms.specs.declared.layouts.Part.{Part}
+use Rattle.sm_forms.specs.declared.layouts.LayoutPart.{LayoutPart}
 use Rattle.sm_forms.specs.Layouts.{is_whole}
 use Rattle.sm_forms.specs.Forms.{is_placed}
 use Rattle.sm_judge.specs.Said.{rotation_in, needs_in, is_up_to_rotations}
-use Rattle.sm_weigh.specs.Order.{AreInOrder}
+use Rattle.sm_weigh.specs.Order.{AreNeedsInOrder}
 use Rattle.sm_cert.specs.Checking.{first_head}
 use Rattle.sm_cert.proofs.GroupLemmas.{AllOut, AreDown, all_down, down_taken, none_said}
-use Rattle.sm_cert.proofs.RotationLines.{rotation_words, rotations_tell, no_needs, rotation_up, Splits, Turns}
+use Rattle.sm_cert.proofs.RotationLines.{rotation_words, rotations_tell, needs_in-none, rotation_up, Splits, Turns}
 use Rattle.sm_forms.proofs.TakingLemmas.{and_left, and_right}
 use Rattle.sm_cert.proofs.WeightYes.{turns_behind}
 
@@ -44,7 +44,7 @@ down_behind up [] (y ∷ ys) downs (suc k) x more there = down_behind up [] ys d
 down_behind up (y ∷ ys) below downs zero x more there = absurd (omega (arith, more))
 down_behind up (y ∷ ys) below downs (suc k) x more there = down_behind up ys below downs k x (omega (arith, more)) there
 
-module _ {w : Written} {rest : List Part} {out : AllOut rotation_words rest} {lines : List LineData} (t : Turns w rest out [] lines) where
+module _ {w : Written} {rest : List LayoutPart} {out : AllOut rotation_words rest} {lines : List LineData} (t : Turns w rest out [] lines) where
   abbrev s : Splits is_up_to_rotations rest lines
   s = t.splits
 
@@ -84,16 +84,16 @@ module _ {w : Written} {rest : List Part} {out : AllOut rotation_words rest} {li
   ]
 
   -- lines in which rotations and what they need take turns are in order
-  pub in_order : AreInOrder w lines
+  pub in_order : AreNeedsInOrder w lines
   in_order = record {
     at = t.at;
     up = near;
     behind = λ k x there down.
         let more = far k x there down in
-        ap (λ xs. length xs) (said_there needs_in no_needs k more) ∙ t.all ∙ sym (ap (λ xs. length xs) (said_there (rotation_in w) (rotation_up w) k more));
+        ap (λ xs. length xs) (said_there needs_in needs_in-none k more) ∙ t.all ∙ sym (ap (λ xs. length xs) (said_there (rotation_in w) (rotation_up w) k more));
   }
 
 -- so it is in any answer of `weight` in its form
-pub weight_order : (w : Written) (lines : List LineData) → is_placed is_whole (Two w) lines ≡ true → (by : Measure) → first_head lines ≡ Some (HeadData.Weight by) → AreInOrder w lines
+pub weight_order : (w : Written) (lines : List LineData) → is_placed is_whole (Two w) lines ≡ true → (by : Measure) → first_head lines ≡ Some (HeadData.Weight by) → AreNeedsInOrder w lines
 weight_order w (LineData.Answer (HeadData.Weight by) ∷ rest) placed by' head = in_order (turns_behind w by rest placed)
 weight_order w _ placed by head = absurd cc

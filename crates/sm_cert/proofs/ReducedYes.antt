@@ -16,7 +16,7 @@ use Rattle.sm_judge.specs.Said.{first_in, firsts_in, last_in, lasts_in, proposer
 use Rattle.sm_judge.specs.SeatMatchings.{IsFreeSeat, seat_places_in, first_of, last_of}
 use Rattle.sm_judge.specs.Chain.{HasOneEach, owners, reduced_of, IsRowOf}
 use Rattle.sm_judge.specs.Judging.{answer, Clauses}
-use Rattle.sm_cert.specs.Yes.{AreListsOf, ReducedYes}
+use Rattle.sm_cert.specs.Yes.{AreAllLists, ReducedYes}
 use Rattle.sm_cert.proofs.GroupLemmas.{Begins, Parted, parted_behind, said_up, said_then, stands_behind}
 use Rattle.sm_cert.proofs.SeatYes.{first_words, last_words, firsts_tell, lasts_tell, no_first, no_first_then, no_last, free_seats, each_said}
 use Rattle.sm_cert.proofs.YesLines.{IsRight, right_two, at_closing, said_above, each_line}
@@ -69,7 +69,7 @@ module _ (w : Written) (lines : List LineData) (r : IsRight (answer w HeadData.R
   long_reviewers : length (reduced_of w lines).reviewers ≡ length (seat_market w).reviewers
   long_reviewers = length-map-range_with_len (reduced_row (seat_market w).reviewers (seat_market w).proposers (first_of w lines).reviewers (last_of w lines).proposers) 0 (length (seat_market w).reviewers)
 
-  proposer_lists : AreListsOf (reduced_of w lines).proposers (proposer_lists_in w lines)
+  proposer_lists : AreAllLists (reduced_of w lines).proposers (proposer_lists_in w lines)
   proposer_lists = record {
     each = each_said (proposer_list_in w) (IsRowOf (reduced_of w lines).proposers) lines proposer_at;
     once = subst (λ (n : ℕ). HasOneEach n (owners (proposer_lists_in w lines))) (sym long_proposers)
@@ -77,7 +77,7 @@ module _ (w : Written) (lines : List LineData) (r : IsRight (answer w HeadData.R
         ((at_closing r reason.WrongList).2.all_proposers refl));
   }
 
-  reviewer_lists : AreListsOf (reduced_of w lines).reviewers (reviewer_lists_in w lines)
+  reviewer_lists : AreAllLists (reduced_of w lines).reviewers (reviewer_lists_in w lines)
   reviewer_lists = record {
     each = each_said (reviewer_list_in w) (IsRowOf (reduced_of w lines).reviewers) lines reviewer_at;
     once = subst (λ (n : ℕ). HasOneEach n (owners (reviewer_lists_in w lines))) (sym long_reviewers)

@@ -7,10 +7,11 @@ use Rattle.std.proofs.lemmas.List.Elements.{filter_map-append}
 use Rattle.std.proofs.lemmas.Option.{same_Some}
 use Rattle.sm_instance.specs.Written.{Written}
 use Rattle.sm_report.specs.Lines.{LineData}
-use Rattle.sm_forms.specs.declared.keywords.Keyword.TheVariants as keyword
-use Rattle.sm_forms.specs.declared.layouts.Part.{Part}
-use Rattle.sm_forms.specs.declared.layouts.Part.TheVariants.{Many, Blocks}
-use Rattle.sm_forms.specs.Keywords.{keyword_of, number_of}
+use Rattle.sm_report.specs.declared.keywords.Keyword.TheVariants as keyword
+use Rattle.sm_forms.specs.declared.layouts.LayoutPart.{LayoutPart}
+use Rattle.sm_forms.specs.declared.layouts.LayoutPart.TheVariants.{Many, Blocks}
+use Rattle.sm_forms.specs.Keywords.{keyword_number}
+use Rattle.sm_report.specs.Keywords.{keyword_of}
 use Rattle.sm_forms.specs.Layouts.{behind, is_whole, is_empty, left_behind}
 use Rattle.sm_forms.specs.Forms.{blocks_of, opening_of}
 use Rattle.sm_judge.specs.Said.{first_in, rotation_in, rotations_in, needs_in, all_needs_in, is_up_to_rotations}
@@ -25,14 +26,14 @@ rotation_words n = (n == 3) || ((n == 7) || ((n == 8) || (n == 9)))
 pub rotations_tell : Tells rotation_words is_up_to_rotations
 rotations_tell = record { other = refl; same = same }
   where
-    same : (x : LineData) → (is_up_to_rotations x ≡ rotation_words (number_of (keyword_of x))) ⊎ (number_of (keyword_of x) ≡ 21)
+    same : (x : LineData) → (is_up_to_rotations x ≡ rotation_words (keyword_number (keyword_of x))) ⊎ (keyword_number (keyword_of x) ≡ 21)
     same (LineData.Answer head) = inr refl
     same _ = inl refl
 
 -- a line behind the rotations doesn't say what one needs
-pub no_needs : (x : LineData) → is_up_to_rotations x ≡ false → needs_in x ≡ None
-no_needs (LineData.Needs i needed) e = absurd (false≢true (sym e))
-no_needs _ e = refl
+pub needs_in-none : (x : LineData) → is_up_to_rotations x ≡ false → needs_in x ≡ None
+needs_in-none (LineData.Needs i needed) e = absurd (false≢true (sym e))
+needs_in-none _ e = refl
 
 module _ (w : Written) where
   -- nor a first seat
@@ -57,7 +58,7 @@ abbrev pub owed : Spot → ℕ
 owed (needs i) = 1
 owed _ = 0
 
-no_parts : {left : List Part} → ◌≡◌ {A = Option (List Part)} None (Some left) → ⊥
+no_parts : {left : List LayoutPart} → ◌≡◌ {A = Option (List LayoutPart)} None (Some left) → ⊥
 no_parts e = grind arith
 
 abbrev no_list : Option (List ℕ)
@@ -81,7 +82,7 @@ down_at up (x ∷ xs) zero y h e = ap up (sym (same_Some _ _ e)) ∙ h.0
 down_at up (x ∷ xs) (suc j) y h e = down_at up xs j y h.1 e
 
 -- the lines of the rest of a layout behind those that are up to somewhere
-pub record Splits (up : LineData → Bool) (rest : List Part) (lines : List LineData) : Type 0 where
+pub record Splits (up : LineData → Bool) (rest : List LayoutPart) (lines : List LineData) : Type 0 where
   pub before : List LineData
   pub below : List LineData
   pub is : lines ≡ before ++ below
@@ -89,7 +90,7 @@ pub record Splits (up : LineData → Bool) (rest : List Part) (lines : List Line
   pub whole : is_whole (rest ∷ []) (map opening_of below) ≡ true
 
 -- with one more line in front that is up to there they are split in the same way
-pub one_split : (up : LineData → Bool) (rest : List Part) (x : LineData) (lines : List LineData) → up x ≡ true → Splits up rest lines → Splits up rest (x ∷ lines)
+pub one_split : (up : LineData → Bool) (rest : List LayoutPart) (x : LineData) (lines : List LineData) → up x ≡ true → Splits up rest lines → Splits up rest (x ∷ lines)
 one_split up rest x lines e s = record {
   before = x ∷ s.before;
   below = s.below;
@@ -98,9 +99,9 @@ one_split up rest x lines e s = record {
   whole = s.whole;
 }
 
-module _ (w : Written) (rest : List Part) (out : AllOut rotation_words rest) where
+module _ (w : Written) (rest : List LayoutPart) (out : AllOut rotation_words rest) where
   -- what is left of the layout there
-  abbrev pub left_at : Bool → Spot → List Part
+  abbrev pub left_at : Bool → Spot → List LayoutPart
   left_at three firsts = Many keyword.First ∷ blocks_of (lines_of three) ∷ rest
   left_at three (rotation i) = Blocks (record { lines = lines_of three; place = 0; number = i }) ∷ rest
   left_at three (needs i) = Blocks (record { lines = lines_of three; place = 1; number = i }) ∷ rest
@@ -112,29 +113,29 @@ module _ (w : Written) (rest : List Part) (out : AllOut rotation_words rest) whe
   abbrev needs_of : LineData → ℕ
   needs_of x = length (cons_option (needs_in x) [])
 
-  record Stays (three : Bool) (spot : Spot) (x : LineData) (left : List Part) : Type 0 where
+  record Stays (three : Bool) (spot : Spot) (x : LineData) (left : List LayoutPart) : Type 0 where
     to : Spot
     is : left ≡ left_at three to
     counts : needs_of x + owed to ≡ owed spot + rotations_of x
     needed : IsSome (needs_in x) → owed spot ≡ 1
     up : is_up_to_rotations x ≡ true
 
-  record Leaves (spot : Spot) (x : LineData) (left : List Part) : Type 0 where
+  record Leaves (spot : Spot) (x : LineData) (left : List LayoutPart) : Type 0 where
     is : behind rest (opening_of x) ≡ Some left
     none : owed spot ≡ 0
 
-  abbrev Moves : Bool → Spot → LineData → List Part → Type 0
+  abbrev Moves : Bool → Spot → LineData → List LayoutPart → Type 0
   Moves three spot x left = Stays three spot x left ⊎ Leaves spot x left
 
-  stays : (three : Bool) (spot to : Spot) (x : LineData) (left : List Part) (t : Bool) → (if t then Some (left_at three to) else None) ≡ Some left → needs_of x + owed to ≡ owed spot + rotations_of x → (IsSome (needs_in x) → owed spot ≡ 1) → is_up_to_rotations x ≡ true
+  stays : (three : Bool) (spot to : Spot) (x : LineData) (left : List LayoutPart) (t : Bool) → (if t then Some (left_at three to) else None) ≡ Some left → needs_of x + owed to ≡ owed spot + rotations_of x → (IsSome (needs_in x) → owed spot ≡ 1) → is_up_to_rotations x ≡ true
       → Moves three spot x left
   stays three spot to x left true e counts needed up = inl (record { to = to; is = sym (same_Some _ _ e); counts = counts; needed = needed; up = up })
   stays three spot to x left false e counts needed up = absurd (no_parts e)
 
-  leaves : (three : Bool) (spot : Spot) (x : LineData) (left : List Part) → behind rest (opening_of x) ≡ Some left → owed spot ≡ 0 → Moves three spot x left
+  leaves : (three : Bool) (spot : Spot) (x : LineData) (left : List LayoutPart) → behind rest (opening_of x) ≡ Some left → owed spot ≡ 0 → Moves three spot x left
   leaves three spot x left e none = inr (record { is = e; none = none })
 
-  moves : (three : Bool) (spot : Spot) (x : LineData) (left : List Part) → behind (left_at three spot) (opening_of x) ≡ Some left → Moves three spot x left
+  moves : (three : Bool) (spot : Spot) (x : LineData) (left : List LayoutPart) → behind (left_at three spot) (opening_of x) ≡ Some left → Moves three spot x left
   moves three firsts (LineData.First p seat) left e = stays three firsts firsts (LineData.First p seat) left true e refl (λ some. not_some some) refl
   moves true firsts (LineData.Rotation i pairs) left e = stays true firsts (needs 1) (LineData.Rotation i pairs) left (i == 1) e refl (λ some. not_some some) refl
   moves false firsts (LineData.Rotation i pairs) left e = stays false firsts (needs 1) (LineData.Rotation i pairs) left (i == 1) e refl (λ some. not_some some) refl
@@ -162,8 +163,8 @@ module _ (w : Written) (rest : List Part) (out : AllOut rotation_words rest) whe
   -- behind the rotations
   out_turns : (above lines : List LineData) → is_whole (rest ∷ []) (map opening_of lines) ≡ true → length (all_needs_in above) ≡ length (rotations_in w above) → Turns above lines
   out_turns above lines whole same = record {
-    at = λ j x there some. absurd (let none = subst IsSome (no_needs x (down_at is_up_to_rotations lines j x down there)) some in cc);
-    all = ap (λ xs. length xs) (said_down needs_in no_needs) ∙ same ∙ sym (ap (λ xs. length xs) (said_down (rotation_in w) (rotation_up w)));
+    at = λ j x there some. absurd (let none = subst IsSome (needs_in-none x (down_at is_up_to_rotations lines j x down there)) some in cc);
+    all = ap (λ xs. length xs) (said_down needs_in needs_in-none) ∙ same ∙ sym (ap (λ xs. length xs) (said_down (rotation_in w) (rotation_up w)));
     splits = record { before = []; below = lines; is = refl; ups = refl; whole = whole };
   }
     where
@@ -187,21 +188,21 @@ module _ (w : Written) (rest : List Part) (out : AllOut rotation_words rest) whe
   turns three spot above (x ∷ xs) e h =
       let g = goes (left_at three spot) (opening_of x) (map opening_of xs) e in
       elim (moves three spot x g.left g.is) [
-        | inl m ↦ on m (turns three m.to (above ++ x ∷ []) xs (subst (λ (left : List Part). is_whole (left ∷ []) (map opening_of xs) ≡ true) m.is g.whole) (counted m))
+        | inl m ↦ on m (turns three m.to (above ++ x ∷ []) xs (subst (λ (left : List LayoutPart). is_whole (left ∷ []) (map opening_of xs) ≡ true) m.is g.whole) (counted m))
         | inr m ↦ out_turns above (x ∷ xs) (back g.left m.is g.whole) (let o = m.none in omega (arith, h, o))
       ]
     where
-      back : (left : List Part) → behind rest (opening_of x) ≡ Some left → is_whole (left ∷ []) (map opening_of xs) ≡ true → is_whole (rest ∷ []) (map opening_of (x ∷ xs)) ≡ true
-      back left is whole = ap (λ (o : Option (List Part)). list_any is_empty (left_behind (cons_option o []) (map opening_of xs))) is ∙ whole
+      back : (left : List LayoutPart) → behind rest (opening_of x) ≡ Some left → is_whole (left ∷ []) (map opening_of xs) ≡ true → is_whole (rest ∷ []) (map opening_of (x ∷ xs)) ≡ true
+      back left is whole = ap (λ (o : Option (List LayoutPart)). list_any is_empty (left_behind (cons_option o []) (map opening_of xs))) is ∙ whole
 
-      counted : {left : List Part} (m : Stays three spot x left) → length (all_needs_in (above ++ x ∷ [])) + owed m.to ≡ length (rotations_in w (above ++ x ∷ []))
+      counted : {left : List LayoutPart} (m : Stays three spot x left) → length (all_needs_in (above ++ x ∷ [])) + owed m.to ≡ length (rotations_in w (above ++ x ∷ []))
       counted m =
           let one = said_more needs_in above x in
           let other = said_more (rotation_in w) above x in
           let c = m.counts in
           omega (arith, h)
 
-      on : {left : List Part} → Stays three spot x left → Turns (above ++ x ∷ []) xs → Turns above (x ∷ xs)
+      on : {left : List LayoutPart} → Stays three spot x left → Turns (above ++ x ∷ []) xs → Turns above (x ∷ xs)
       on m deep = record {
         at = at;
         all = subst (λ (ls : List LineData). length (all_needs_in ls) ≡ length (rotations_in w ls)) (append_assoc above (x ∷ []) xs) deep.all;

@@ -11,7 +11,7 @@ use Rattle.sm_market.specs.Matching.{Places}
 use Rattle.sm_market.specs.Stable.{IsProposersBest}
 use Rattle.sm_theory.specs.Rotations.{IsNothingExposed, IsLowestExposed}
 use Rattle.sm_theory.specs.Chains.{rotation_at, stage, IsCompleteChain, IsPrintedChain, AreNeedsOf}
-use Rattle.sm_theory.proofs.Bridge.Chain.{rotation_before, rotation_new, stage_before}
+use Rattle.sm_theory.proofs.Bridge.Chain.{rotation_at-push_before, rotation_at-push_new, stage_before}
 use Rattle.sm_seats.specs.SeatMarket.{seat_market}
 use Rattle.sm_seats.proofs.MarketLaws.{is_market}
 use Rattle.sm_seats.proofs.CorrespondenceLaws.{sound_entries}
@@ -19,7 +19,7 @@ use Rattle.sm_report.specs.Heads.{HeadData}
 use Rattle.sm_report.specs.Lines.{LineData}
 use Rattle.sm_judge.specs.declared.verdicts.Reason.{Reason}
 use Rattle.sm_judge.specs.declared.verdicts.Reason.TheVariants as reason
-use Rattle.sm_forms.specs.declared.layouts.Part.{Part}
+use Rattle.sm_forms.specs.declared.layouts.LayoutPart.{LayoutPart}
 use Rattle.sm_forms.specs.Layouts.{is_whole}
 use Rattle.sm_forms.specs.Forms.{closing, rotations_layout, opening_of}
 use Rattle.sm_judge.specs.Said.{first_in, firsts_in, rotation_in, rotations_in, needs_in, all_needs_in, is_up_to_firsts, is_up_to_rotations}
@@ -53,11 +53,11 @@ module _ (l : Lists) (first : Places) where
       let long = length-append rotations (x ∷ []) in
       ⊎_elim
       (λ (below : k < length rotations).
-      subst (λ (y : List (ℕ × ℕ)). IsLowestExposed l (stage l first (rotations ++ x ∷ []) k) y) (sym (rotation_before rotations x k below))
+      subst (λ (y : List (ℕ × ℕ)). IsLowestExposed l (stage l first (rotations ++ x ∷ []) k) y) (sym (rotation_at-push_before rotations x k below))
       (subst (λ (m : Places). IsLowestExposed l m (rotation_at rotations k)) (sym (stage_before l first rotations x k (omega arith))) (all k below)))
       (λ (past : length rotations ≤ k).
       let e : k ≡ length rotations = omega arith in
-      subst (λ (y : List (ℕ × ℕ)). IsLowestExposed l (stage l first (rotations ++ x ∷ []) k) y) (sym (rotation_new rotations x k e))
+      subst (λ (y : List (ℕ × ℕ)). IsLowestExposed l (stage l first (rotations ++ x ∷ []) k) y) (sym (rotation_at-push_new rotations x k e))
       (subst (λ (m : Places). IsLowestExposed l m x) (sym (stage_before l first rotations x k (omega arith)))
       (subst (λ (n : ℕ). IsLowestExposed l (stage l first rotations n) x) (sym e) h)))
       (cases_lt k (length rotations))
@@ -132,7 +132,7 @@ module _ {subject : Subject} {lines : List LineData} (w : Written) (r : IsRight 
           lowest = lowest;
         }
 
-    module _ (market : IsMarket (seat_market w)) (rest : List Part) (out : AllOut rotation_words rest) (t : Turns w rest out [] lines) where
+    module _ (market : IsMarket (seat_market w)) (rest : List LayoutPart) (out : AllOut rotation_words rest) (t : Turns w rest out [] lines) where
       abbrev IsNextNeeds : List (List ℕ) → List ℕ → Type 0
       IsNextNeeds all needs = AreNeedsOf (seat_market w) (rotations_in w lines) (length all) needs
 

@@ -10,7 +10,8 @@ use Rattle.sm_instance.specs.Written.{Written}
 use Rattle.sm_market.specs.Lists.{Lists, place_of}
 use Rattle.sm_pairs.specs.Held.{partner_in}
 use Rattle.sm_report.specs.Lines.{LineData}
-use Rattle.sm_forms.specs.Keywords.{keyword_of, number_of}
+use Rattle.sm_forms.specs.Keywords.{keyword_number}
+use Rattle.sm_report.specs.Keywords.{keyword_of}
 use Rattle.sm_judge.specs.Said.{first_in, last_in, is_up_to_firsts, is_up_to_lasts}
 use Rattle.sm_judge.specs.SeatMatchings.{IsFreeSeat, seat_places_in}
 use Rattle.sm_cert.specs.Yes.{ArePairsOf}
@@ -32,7 +33,7 @@ last_words n = (n == 3) || (n == 4)
 pub firsts_tell : Tells first_words is_up_to_firsts
 firsts_tell = record { other = refl; same = same }
   where
-    same : (x : LineData) → (is_up_to_firsts x ≡ first_words (number_of (keyword_of x))) ⊎ (number_of (keyword_of x) ≡ 21)
+    same : (x : LineData) → (is_up_to_firsts x ≡ first_words (keyword_number (keyword_of x))) ⊎ (keyword_number (keyword_of x) ≡ 21)
     same (LineData.Answer head) = inr refl
     same _ = inl refl
 
@@ -40,7 +41,7 @@ firsts_tell = record { other = refl; same = same }
 pub lasts_tell : Tells last_words is_up_to_lasts
 lasts_tell = record { other = refl; same = same }
   where
-    same : (x : LineData) → (is_up_to_lasts x ≡ last_words (number_of (keyword_of x))) ⊎ (number_of (keyword_of x) ≡ 21)
+    same : (x : LineData) → (is_up_to_lasts x ≡ last_words (keyword_number (keyword_of x))) ⊎ (keyword_number (keyword_of x) ≡ 21)
     same (LineData.Answer head) = inr refl
     same _ = inl refl
 

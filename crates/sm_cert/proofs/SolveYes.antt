@@ -9,24 +9,25 @@ use Rattle.std.proofs.lemmas.List.FromFn.{length-map-range_with_len}
 use Rattle.std.proofs.lemmas.Option.{same_Some}
 use Rattle.sm_lists.specs.Rows.{place_on}
 use Rattle.sm_instance.specs.Written.{Written, place_of, lists_of}
-use Rattle.sm_instance.specs.Stable.{IsStable}
+use Rattle.sm_instance.specs.Stable.{IsStable, IsBestOf}
 use Rattle.sm_instance.specs.Allowed.{IsAllowed}
 use Rattle.sm_instance.specs.Ranks.{regret_of}
 use Rattle.sm_instance.proofs.CrossLemmas.{row-lists_of}
 use Rattle.sm_market.specs.Lists.{place_of as place_in_rows}
-use Rattle.sm_pairs.specs.Held.{partner_in, place_in, places_in}
+use Rattle.sm_pairs.specs.Held.{partner_in, paired_place, places_in}
 use Rattle.sm_pairs.proofs.HoldingLemmas.{held_place}
 use Rattle.sm_report.specs.Heads.{HeadData}
 use Rattle.sm_report.specs.Lines.{LineData}
 use Rattle.sm_judge.specs.declared.verdicts.Reason.TheVariants as reason
-use Rattle.sm_forms.specs.declared.keywords.Keyword.TheVariants as keyword
-use Rattle.sm_forms.specs.declared.layouts.Part.{Part}
-use Rattle.sm_forms.specs.declared.layouts.Part.TheVariants.{Many}
-use Rattle.sm_forms.specs.Keywords.{keyword_of, number_of}
+use Rattle.sm_report.specs.declared.keywords.Keyword.TheVariants as keyword
+use Rattle.sm_forms.specs.declared.layouts.LayoutPart.{LayoutPart}
+use Rattle.sm_forms.specs.declared.layouts.LayoutPart.TheVariants.{Many}
+use Rattle.sm_forms.specs.Keywords.{keyword_number}
+use Rattle.sm_report.specs.Keywords.{keyword_of}
 use Rattle.sm_forms.specs.Forms.{closing, regret_layout, opening_of}
 use Rattle.sm_forms.specs.Layouts.{is_whole, begins}
 use Rattle.sm_judge.specs.Said.{pair_in, pairs_in, regret_in, first_said}
-use Rattle.sm_judge.specs.Pairs.{IsFree, IsBestOf}
+use Rattle.sm_judge.specs.Pairs.{IsFree}
 use Rattle.sm_cert.specs.Yes.{ArePairsOf, SolveYes, RegretYes}
 use Rattle.sm_cert.proofs.GroupLemmas.{Tells, goes, all_down, none_said}
 use Rattle.sm_cert.proofs.YesLines.{right_two, by_head, at_closing, said_above, grown}
@@ -50,7 +51,7 @@ pub free_pairs : (w : Written) (said : LineData → Option (ℕ × ℕ)) (lines 
 free_pairs w said lines at =
     let pairs = filter_map said lines in
     let all = length-map w.proposers (λ agent. agent.entries) in
-    let long = length-map-range_with_len (place_in w pairs) 0 (length w.proposers) in
+    let long = length-map-range_with_len (paired_place w pairs) 0 (length w.proposers) in
     pairs_of (lists_of w.proposers) (places_in w pairs) pairs (grown said (AreGiven (lists_of w.proposers)) (IsFree w) lines (none_given (lists_of w.proposers)) (one_free w) at) (omega arith)
     (λ p l. held_place w pairs p (omega arith) ∙ ap (λ list. option_map (place_on list) (partner_in pairs p)) (sym (row-lists_of w.proposers p)))
 
@@ -78,7 +79,7 @@ tells : Tells regrets is_regret
 unfolding regrets
 tells = record { other = refl; same = same }
   where
-    same : (x : LineData) → (is_regret x ≡ regrets (number_of (keyword_of x))) ⊎ (number_of (keyword_of x) ≡ 21)
+    same : (x : LineData) → (is_regret x ≡ regrets (keyword_number (keyword_of x))) ⊎ (keyword_number (keyword_of x) ≡ 21)
     same (LineData.Regret regret) = inl refl
     same _ = inl refl
 
@@ -97,14 +98,14 @@ one_regret (x ∷ xs) e =
     let g = goes regret_layout (opening_of x) (map opening_of xs) e in
     go (begins (opening_of x) keyword.Regret) refl g.left g.is g.whole
   where
-    go : (t : Bool) → begins (opening_of x) keyword.Regret ≡ t → (left : List Part) → (if t then Some (Many keyword.Pair ∷ closing) else None) ≡ Some left → is_whole (left ∷ []) (map opening_of xs) ≡ true
+    go : (t : Bool) → begins (opening_of x) keyword.Regret ≡ t → (left : List LayoutPart) → (if t then Some (Many keyword.Pair ∷ closing) else None) ≡ Some left → is_whole (left ∷ []) (map opening_of xs) ≡ true
         → filter_map regret_in (x ∷ xs) ≡ first_said 0 regret_in (x ∷ xs) ∷ []
     go false b left is whole = absurd (no_parts is)
       where
-        no_parts : ◌≡◌ {A = Option (List Part)} None (Some left) → ⊥
+        no_parts : ◌≡◌ {A = Option (List LayoutPart)} None (Some left) → ⊥
         no_parts e = grind arith
     go true b left is whole =
-        let behind : is_whole ((Many keyword.Pair ∷ closing) ∷ []) (map opening_of xs) ≡ true = subst (λ (parts : List Part). is_whole (parts ∷ []) (map opening_of xs) ≡ true) (sym (same_Some _ _ is)) whole in
+        let behind : is_whole ((Many keyword.Pair ∷ closing) ∷ []) (map opening_of xs) ≡ true = subst (λ (parts : List LayoutPart). is_whole (parts ∷ []) (map opening_of xs) ≡ true) (sym (same_Some _ _ is)) whole in
         let down = all_down tells (Many keyword.Pair ∷ closing) xs ((refl, omega arith), ((refl, omega arith), tt)) behind in
         let rest : filter_map regret_in xs ≡ [] = none_said is_regret regret_in not_said xs down in
         let here = opens x b in

@@ -31,7 +31,7 @@ use Rattle.sm_judge.specs.Pairs.{IsWanted, WantedHold, AreAllThere}
 use Rattle.sm_judge.specs.SeatMatchings.{IsFreeSeat, FirstsHold, first_of}
 use Rattle.sm_judge.specs.Chain.{reached, last_rotation, ChainHolds}
 use Rattle.sm_judge.specs.Flows.{net_in, first_level, LevelHolds, TakenHolds, IsAllowedSet, taken_matching, WeightHolds}
-use Rattle.sm_cert.specs.Witnesses.{seat}
+use Rattle.sm_report.specs.Witnesses.{first_seat_of}
 use Rattle.sm_cert.specs.WitnessesWeight.{three_by_three, weight_lines, WeightAnswers}
 use Rattle.sm_judge.proofs.LinewiseLemmas.{AllHold, hold_at, hold_append, all_hold, no_end}
 
@@ -222,7 +222,7 @@ module _ (above : List LineData) where
   abbrev Level : LineData → Reason → Type 0
   Level x why = LevelHolds three_by_three (first_level three_by_three Given above) above x why
 
-  at_first : (p r : ℕ) (why : Reason) → Level (LineData.First p (seat r)) why
+  at_first : (p r : ℕ) (why : Reason) → Level (LineData.First p (first_seat_of r)) why
   at_first p r reason.WrongGain = tt
   at_first p r _ = tt
 
@@ -319,19 +319,19 @@ module _ (a c d v : ℕ) (a_room : 0 < a × a ≤ 14) (c_room : 0 < c × c ≤ 4
   front_holds = (
     early 0 (LineData.Answer (HeadData.Weight Given)) refl tt refl tt tt refl refl refl (at_head []),
     (
-      early 1 (LineData.First 0 (seat 0)) refl (record { acceptable = omega arith; proposer_free = refl; seat_free = refl }) refl tt tt refl refl refl (at_first (up_to 1) 0 0),
+      early 1 (LineData.First 0 (first_seat_of 0)) refl (record { acceptable = omega arith; proposer_free = refl; seat_free = refl }) refl tt tt refl refl refl (at_first (up_to 1) 0 0),
       (
-        early 2 (LineData.First 1 (seat 1)) refl (record { acceptable = omega arith; proposer_free = refl; seat_free = refl }) refl tt tt refl refl refl (at_first (up_to 2) 1 1),
+        early 2 (LineData.First 1 (first_seat_of 1)) refl (record { acceptable = omega arith; proposer_free = refl; seat_free = refl }) refl tt tt refl refl refl (at_first (up_to 2) 1 1),
         (
-          early 3 (LineData.First 2 (seat 2)) refl (record { acceptable = omega arith; proposer_free = refl; seat_free = refl }) refl tt tt refl refl refl (at_first (up_to 3) 2 2),
+          early 3 (LineData.First 2 (first_seat_of 2)) refl (record { acceptable = omega arith; proposer_free = refl; seat_free = refl }) refl tt tt refl refl refl (at_first (up_to 3) 2 2),
           (
-            chained 4 (LineData.Rotation 1 ((0, seat 0) ∷ (1, seat 1) ∷ (2, seat 2) ∷ [])) refl refl refl next_first tt refl refl refl (at_rotation (up_to 4) 1 ((0, seat 0) ∷ (1, seat 1) ∷ (2, seat 2) ∷ [])),
+            chained 4 (LineData.Rotation 1 ((0, first_seat_of 0) ∷ (1, first_seat_of 1) ∷ (2, first_seat_of 2) ∷ [])) refl refl refl next_first tt refl refl refl (at_rotation (up_to 4) 1 ((0, first_seat_of 0) ∷ (1, first_seat_of 1) ∷ (2, first_seat_of 2) ∷ [])),
             (
               chained 5 (LineData.Needs 1 []) refl refl refl tt no_needs refl refl refl (at_needs (up_to 5) 1 []),
               (
                 chained 6 (LineData.Gain 1 (pos 4)) refl refl refl tt tt refl refl refl (at_gain (up_to 6) 1 (pos 4) refl),
                 (
-                  chained 7 (LineData.Rotation 2 ((0, seat 1) ∷ (1, seat 2) ∷ (2, seat 0) ∷ [])) refl refl refl next_second tt refl refl refl (at_rotation (up_to 7) 2 ((0, seat 1) ∷ (1, seat 2) ∷ (2, seat 0) ∷ [])),
+                  chained 7 (LineData.Rotation 2 ((0, first_seat_of 1) ∷ (1, first_seat_of 2) ∷ (2, first_seat_of 0) ∷ [])) refl refl refl next_second tt refl refl refl (at_rotation (up_to 7) 2 ((0, first_seat_of 1) ∷ (1, first_seat_of 2) ∷ (2, first_seat_of 0) ∷ [])),
                   (
                     chained 8 (LineData.Needs 2 (1 ∷ [])) refl refl refl tt (worked_net.0.each 1 (omega arith)) refl refl refl (at_needs (up_to 8) 2 (1 ∷ [])),
                     (

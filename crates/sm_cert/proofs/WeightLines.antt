@@ -8,11 +8,12 @@ use Rattle.std.proofs.lemmas.List.Elements.{filter_map-append}
 use Rattle.std.proofs.lemmas.Option.{same_Some}
 use Rattle.sm_theory.proofs.Net.Tests.{and_parts}
 use Rattle.sm_report.specs.Lines.{LineData}
-use Rattle.sm_forms.specs.declared.keywords.Keyword.{Keyword}
-use Rattle.sm_forms.specs.declared.keywords.Keyword.TheVariants as keyword
-use Rattle.sm_forms.specs.declared.layouts.Part.{Part}
-use Rattle.sm_forms.specs.declared.layouts.Part.TheVariants.{One, Many}
-use Rattle.sm_forms.specs.Keywords.{keyword_of, number_of}
+use Rattle.sm_report.specs.declared.keywords.Keyword.{Keyword}
+use Rattle.sm_report.specs.declared.keywords.Keyword.TheVariants as keyword
+use Rattle.sm_forms.specs.declared.layouts.LayoutPart.{LayoutPart}
+use Rattle.sm_forms.specs.declared.layouts.LayoutPart.TheVariants.{One, Many}
+use Rattle.sm_forms.specs.Keywords.{keyword_number}
+use Rattle.sm_report.specs.Keywords.{keyword_of}
 use Rattle.sm_forms.specs.Layouts.{begins, behind, left_behind, is_empty, is_whole}
 use Rattle.sm_forms.specs.Forms.{closing, opening_of}
 use Rattle.sm_judge.specs.Said.{taken_in, value_in, total_in, is_up_to_rotations}
@@ -21,42 +22,42 @@ use Rattle.sm_cert.proofs.RotationLines.{Splits, one_split}
 
 -- Parts of a layout, one after the other.
 
-no_parts : {left : List Part} → ◌≡◌ {A = Option (List Part)} None (Some left) → ⊥
+no_parts : {left : List LayoutPart} → ◌≡◌ {A = Option (List LayoutPart)} None (Some left) → ⊥
 no_parts e = grind arith
 
-many_split : (word : Keyword) (up : LineData → Bool) (rest : List Part) (lines : List LineData) → ((x : LineData) → begins (opening_of x) word ≡ true → up x ≡ true)
+many_split : (word : Keyword) (up : LineData → Bool) (rest : List LayoutPart) (lines : List LineData) → ((x : LineData) → begins (opening_of x) word ≡ true → up x ≡ true)
     → is_whole ((Many word ∷ rest) ∷ []) (map opening_of lines) ≡ true → Splits up rest lines
 many_split word up rest [] ups e = absurd (false≢true e)
 many_split word up rest (x ∷ xs) ups e =
     let g = goes (Many word ∷ rest) (opening_of x) (map opening_of xs) e in
     go (begins (opening_of x) word) refl g.left g.is g.whole (λ whole. many_split word up rest xs ups whole)
   where
-    go : (t : Bool) → begins (opening_of x) word ≡ t → (left : List Part) → (if t then Some (Many word ∷ rest) else behind rest (opening_of x)) ≡ Some left → is_whole (left ∷ []) (map opening_of xs) ≡ true
+    go : (t : Bool) → begins (opening_of x) word ≡ t → (left : List LayoutPart) → (if t then Some (Many word ∷ rest) else behind rest (opening_of x)) ≡ Some left → is_whole (left ∷ []) (map opening_of xs) ≡ true
         → (is_whole ((Many word ∷ rest) ∷ []) (map opening_of xs) ≡ true → Splits up rest xs) → Splits up rest (x ∷ xs)
-    go true b left is whole deep = one_split up rest x xs (ups x b) (deep (subst (λ (parts : List Part). is_whole (parts ∷ []) (map opening_of xs) ≡ true) (sym (same_Some _ _ is)) whole))
+    go true b left is whole deep = one_split up rest x xs (ups x b) (deep (subst (λ (parts : List LayoutPart). is_whole (parts ∷ []) (map opening_of xs) ≡ true) (sym (same_Some _ _ is)) whole))
     go false b left is whole deep = record {
       before = [];
       below = x ∷ xs;
       is = refl;
       ups = refl;
-      whole = ap (λ (o : Option (List Part)). list_any is_empty (left_behind (cons_option o []) (map opening_of xs))) is ∙ whole;
+      whole = ap (λ (o : Option (List LayoutPart)). list_any is_empty (left_behind (cons_option o []) (map opening_of xs))) is ∙ whole;
     }
 
-record Peels (word : Keyword) (rest : List Part) (lines : List LineData) : Type 0 where
+record Peels (word : Keyword) (rest : List LayoutPart) (lines : List LineData) : Type 0 where
   line : LineData
   others : List LineData
   is : lines ≡ line ∷ others
   opens : begins (opening_of line) word ≡ true
   whole : is_whole (rest ∷ []) (map opening_of others) ≡ true
 
-one_peel : (word : Keyword) (rest : List Part) (lines : List LineData) → is_whole ((One word ∷ rest) ∷ []) (map opening_of lines) ≡ true → Peels word rest lines
+one_peel : (word : Keyword) (rest : List LayoutPart) (lines : List LineData) → is_whole ((One word ∷ rest) ∷ []) (map opening_of lines) ≡ true → Peels word rest lines
 one_peel word rest [] e = absurd (false≢true e)
 one_peel word rest (x ∷ xs) e =
     let g = goes (One word ∷ rest) (opening_of x) (map opening_of xs) e in
     go (begins (opening_of x) word) refl g.left g.is g.whole
   where
-    go : (t : Bool) → begins (opening_of x) word ≡ t → (left : List Part) → (if t then Some rest else None) ≡ Some left → is_whole (left ∷ []) (map opening_of xs) ≡ true → Peels word rest (x ∷ xs)
-    go true b left is whole = record { line = x; others = xs; is = refl; opens = b; whole = subst (λ (parts : List Part). is_whole (parts ∷ []) (map opening_of xs) ≡ true) (sym (same_Some _ _ is)) whole }
+    go : (t : Bool) → begins (opening_of x) word ≡ t → (left : List LayoutPart) → (if t then Some rest else None) ≡ Some left → is_whole (left ∷ []) (map opening_of xs) ≡ true → Peels word rest (x ∷ xs)
+    go true b left is whole = record { line = x; others = xs; is = refl; opens = b; whole = subst (λ (parts : List LayoutPart). is_whole (parts ∷ []) (map opening_of xs) ≡ true) (sym (same_Some _ _ is)) whole }
     go false b left is whole = absurd (no_parts is)
 
 -- The lines up to the flow, and those up to the total.
@@ -74,7 +75,7 @@ is_up_to_flows line = is_up_to_rotations line
 pub flows_tell : Tells flow_words is_up_to_flows
 flows_tell = record { other = refl; same = same }
   where
-    same : (x : LineData) → (is_up_to_flows x ≡ flow_words (number_of (keyword_of x))) ⊎ (number_of (keyword_of x) ≡ 21)
+    same : (x : LineData) → (is_up_to_flows x ≡ flow_words (keyword_number (keyword_of x))) ⊎ (keyword_number (keyword_of x) ≡ 21)
     same (LineData.Answer head) = inr refl
     same _ = inl refl
 
@@ -94,7 +95,7 @@ is_up_to_totals line = is_up_to_flows line
 pub totals_tell : Tells total_words is_up_to_totals
 totals_tell = record { other = refl; same = same }
   where
-    same : (x : LineData) → (is_up_to_totals x ≡ total_words (number_of (keyword_of x))) ⊎ (number_of (keyword_of x) ≡ 21)
+    same : (x : LineData) → (is_up_to_totals x ≡ total_words (keyword_number (keyword_of x))) ⊎ (keyword_number (keyword_of x) ≡ 21)
     same (LineData.Answer head) = inr refl
     same _ = inl refl
 
@@ -136,11 +137,11 @@ all_both q xs ys a b = list_all-append q xs ys ∙ and_from (list_all q xs) (lis
 -- The four lines behind the flow.
 
 -- the layout behind the total: the pairs and the end
-abbrev pub pairs_left : List Part
+abbrev pub pairs_left : List LayoutPart
 pairs_left = Many keyword.Pair ∷ closing
 
 -- the layout behind the flow: the set that is taken, the value, the cut, the total and the rest
-abbrev pub behind_flow : List Part
+abbrev pub behind_flow : List LayoutPart
 behind_flow = One keyword.Taken ∷ One keyword.Value ∷ One keyword.Cut ∷ One keyword.Total ∷ pairs_left
 
 -- lines up to the flow, the four lines one after another, and a whole rest
@@ -203,7 +204,7 @@ total_tells : Tells totals is_total
 unfolding totals
 total_tells = record { other = refl; same = same }
   where
-    same : (x : LineData) → (is_total x ≡ totals (number_of (keyword_of x))) ⊎ (number_of (keyword_of x) ≡ 21)
+    same : (x : LineData) → (is_total x ≡ totals (keyword_number (keyword_of x))) ⊎ (keyword_number (keyword_of x) ≡ 21)
     same (LineData.Total weight) = inl refl
     same _ = inl refl
 

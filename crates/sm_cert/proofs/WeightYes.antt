@@ -31,8 +31,8 @@ use Rattle.sm_seats.proofs.SeatingLaws.{as_well}
 use Rattle.sm_seats.proofs.VectorLaws.{allowed_seats, lightest_written}
 use Rattle.sm_report.specs.Heads.{HeadData}
 use Rattle.sm_report.specs.Lines.{LineData}
-use Rattle.sm_forms.specs.declared.keywords.Keyword.TheVariants as keyword
-use Rattle.sm_forms.specs.declared.layouts.Part.TheVariants.{Many}
+use Rattle.sm_report.specs.declared.keywords.Keyword.TheVariants as keyword
+use Rattle.sm_forms.specs.declared.layouts.LayoutPart.TheVariants.{Many}
 use Rattle.sm_judge.specs.declared.verdicts.Reason.{Reason}
 use Rattle.sm_judge.specs.declared.verdicts.Reason.TheVariants as reason
 use Rattle.sm_forms.specs.Layouts.{is_whole}
@@ -42,11 +42,12 @@ use Rattle.sm_judge.specs.SeatMatchings.{seat_places_in, first_of}
 use Rattle.sm_judge.specs.Pairs.{IsWanted, AreAllThere}
 use Rattle.sm_judge.specs.Flows.{on_nodes, set_of_numbers, taken_matching}
 use Rattle.sm_judge.specs.Judging.{answer, Clauses}
-use Rattle.sm_cert.specs.Yes.{ArePairsOf, IsLightest, WeightYes}
+use Rattle.sm_cert.specs.Yes.{ArePairsOf, WeightYes}
+use Rattle.sm_instance.specs.Lightest.{IsLightest}
 use Rattle.sm_cert.proofs.ChosenYes.{AreWanted, none_wanted, one_wanted, all_wanted}
 use Rattle.sm_cert.proofs.FlowYes.{IsSoundFlow, no_flow, one_flow, from_node, to_node}
 use Rattle.sm_cert.proofs.GroupLemmas.{AllOut, Begins, Parted, parted_behind, said_up, said_then}
-use Rattle.sm_cert.proofs.RotationLines.{rotation_words, rotations_tell, no_needs, first_up, rotation_up, Spot, Turns, turns, turns_from}
+use Rattle.sm_cert.proofs.RotationLines.{rotation_words, rotations_tell, needs_in-none, first_up, rotation_up, Spot, Turns, turns, turns_from}
 use Rattle.sm_cert.proofs.RotationsYes.{HasChain, ground}
 use Rattle.sm_cert.proofs.SeatYes.{first_words, firsts_tell}
 use Rattle.sm_cert.proofs.WeightLines.{is_up_to_flows, total_words, is_up_to_totals, totals_tell, behind_flow, FourLines, four_lines, no_taken_above, no_value_above, one_total, flows_parted}
@@ -289,7 +290,7 @@ module _ (w : Written) (by : Measure) (lines : List LineData) (r : IsRight (answ
         let x = LineData.Flow from to amount in
         let line : FlowLine = record { from = from; to = to; amount = amount } in
         let same : record { firsts = firsts_in w (take k lines); rotations = rotations_in w (take k lines); needs = all_needs_in (take k lines); flows = flows_in lines; taken = f.taken } ≡ whole =
-        alike w by _ whole (said_then q (first_in w) (first_up w) k x e refl) (said_then q (rotation_in w) (rotation_up w) k x e refl) (said_then q needs_in no_needs k x e refl) refl refl in
+        alike w by _ whole (said_then q (first_in w) (first_up w) k x e refl) (said_then q (rotation_in w) (rotation_up w) k x e refl) (said_then q needs_in needs_in-none k x e refl) refl refl in
         subst (λ (d : Read). IsNewEdge (net_by w by d) (map (nodes_of w by d) (flows_in (take k lines))) (nodes_of w by d line) × IsWithinRoom (net_by w by d) (nodes_of w by d line)) same (a.2, b.2)
     flow_then k _ e a b = tt
 

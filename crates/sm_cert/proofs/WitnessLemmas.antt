@@ -20,7 +20,8 @@ use Rattle.sm_judge.specs.Said.{party_in, is_end}
 use Rattle.sm_judge.specs.Chain.{RotationsHold}
 use Rattle.sm_judge.specs.Rooming.{PartiesHold, AreNew, IsWholePartition, HasOddParty, members_of}
 use Rattle.sm_judge.specs.Judging.{Subject, Clauses}
-use Rattle.sm_cert.specs.Witnesses.{five, odd_answer, odd_lines, OddAnswers, two_by_two, worst_first, FirstIsntBest, seat}
+use Rattle.sm_cert.specs.Witnesses.{five, odd_answer, odd_lines, OddAnswers, two_by_two, worst_first, FirstIsntBest}
+use Rattle.sm_report.specs.Witnesses.{first_seat_of}
 use Rattle.sm_judge.proofs.LinewiseLemmas.{AllHold, hold_at, all_hold, no_end}
 
 -- The odd party.
@@ -189,14 +190,14 @@ answer_holds reason.NotBest = ((λ b. no_end b.behind), tt)
 answer_holds reason.RotationMissing = (tt, (λ b. no_end b.behind))
 answer_holds _ = (tt, tt)
 
-first_holds : (why : Reason) → RotationsHold two_by_two (take 1 worst_first) (LineData.First 0 (seat 1)) why
+first_holds : (why : Reason) → RotationsHold two_by_two (take 1 worst_first) (LineData.First 0 (first_seat_of 1)) why
 first_holds reason.NotAMatching = (record { acceptable = omega arith; proposer_free = refl; seat_free = refl }, tt)
 first_holds reason.Blocked = ((λ b. no_end b.behind), tt)
 first_holds reason.NotBest = ((λ b. no_end b.behind), tt)
 first_holds reason.RotationMissing = (tt, (λ b. no_end b.behind))
 first_holds _ = (tt, tt)
 
-second_holds : (why : Reason) → RotationsHold two_by_two (take 2 worst_first) (LineData.First 1 (seat 0)) why
+second_holds : (why : Reason) → RotationsHold two_by_two (take 2 worst_first) (LineData.First 1 (first_seat_of 0)) why
 second_holds reason.NotAMatching = (record { acceptable = omega arith; proposer_free = refl; seat_free = refl }, tt)
 second_holds reason.Blocked = ((λ b. no_end b.behind), tt)
 second_holds reason.NotBest = ((λ b. no_end b.behind), tt)

@@ -10,10 +10,11 @@ use Rattle.sm_lists.proofs.PlaceLemmas.{get_or-place_on}
 use Rattle.sm_lists.proofs.RowLemmas.{row_in_range}
 use Rattle.sm_market.specs.Lists.{row, entry, place_of}
 use Rattle.sm_market.specs.Matching.{held}
-use Rattle.sm_pairs.specs.Held.{partner_in, pair_at}
-use Rattle.sm_pairs.proofs.HoldingLemmas.{here_later}
+use Rattle.sm_pairs.specs.Held.{partner_in}
+use Rattle.sm_lists.specs.Pairs.{pair_at}
+use Rattle.sm_pairs.proofs.HoldingLemmas.{partner_in-push_same}
 use Rattle.sm_cert.specs.Yes.{AreApart, ArePairsOf}
-use Rattle.sm_judge.proofs.CoupleLemmas.{partner_behind}
+use Rattle.sm_judge.proofs.CoupleLemmas.{partner_in-append}
 
 -- what a list of one item has is that item
 pub only_one : {X : Type 0} {x y : X} → Contains (x ∷ []) y → x ≡ y
@@ -81,8 +82,8 @@ one_given rows pairs x k on none = record {
     | inr now ↦ subst (λ (y : ℕ × ℕ). place_of rows y.0 y.1 < length (row rows y.0)) (only_one now) on
   ];
   given = λ p r c. elim (Contains-append_cases pairs (x ∷ []) (p, r) c) [
-    | inl had ↦ partner_behind pairs (x ∷ []) p ∙ ap (λ (o : Option ℕ). option_or o (partner_in (x ∷ []) p)) (k.given p r had)
-    | inr now ↦ subst (λ (y : ℕ × ℕ). partner_in (pairs ++ x ∷ []) y.0 ≡ Some y.1) (only_one now) (here_later pairs x.0 x.1 none)
+    | inl had ↦ partner_in-append pairs (x ∷ []) p ∙ ap (λ (o : Option ℕ). option_or o (partner_in (x ∷ []) p)) (k.given p r had)
+    | inr now ↦ subst (λ (y : ℕ × ℕ). partner_in (pairs ++ x ∷ []) y.0 ≡ Some y.1) (only_one now) (partner_in-push_same pairs x.0 x.1 none)
   ];
   apart = apart_more pairs x k.apart (λ j l e. no_partner (sym none ∙ ap (partner_in pairs) (sym e) ∙ k.given (pair_at pairs j).0 (pair_at pairs j).1 (pair_there pairs j l)));
 }

@@ -9,7 +9,7 @@ use Rattle.sm_seats.specs.declared.faults.SeatsFault.{SeatsFault}
 use Rattle.sm_seats.specs.declared.faults.SeatsFault.TheVariants as seats
 use Rattle.sm_cert.specs.declared.faults.CertFault.{CertFault}
 use Rattle.sm_cert.specs.declared.faults.CertFault.TheVariants.{TooManySeats, BadAnswer, OutOfMemory}
-use Rattle.sm_judge.specs.Judging.{IsBadAt}
+use Rattle.sm_judge.specs.Judging.{IsBadAnswerAt}
 
 -- the seats of an instance with two sides have few enough entries; or this is the first reviewer with whom they have too many
 abbrev pub HasFewSeats : Input → Type 0
@@ -29,7 +29,7 @@ first_head _ = None
 -- what a fault says: a text that isn't of the form of an answer yields to too many seats, and want of memory says nothing
 abbrev pub IsCertFault : Input → List (List ℕ) → ℕ → CertFault → Type 0
 IsCertFault input texts first_line (TooManySeats r) = HasTooManyAt input r
-IsCertFault input texts first_line (BadAnswer line) = HasFewSeats input × IsBadAt input texts first_line line
+IsCertFault input texts first_line (BadAnswer line) = HasFewSeats input × IsBadAnswerAt input texts first_line line
 IsCertFault input texts first_line OutOfMemory = Unit {0}
 
 -- a fault of seats

@@ -5,7 +5,7 @@ use Rattle.sm_instance.specs.declared.inputs.Input.{Input}
 use Rattle.sm_report.specs.Lines.{LineData}
 use Rattle.sm_judge.specs.declared.verdicts.Verdict.{Verdict}
 use Rattle.sm_judge.specs.Verdicts.{IsVerdict}
-use Rattle.sm_judge.specs.Judging.{Holds, IsJudged, IsBadAt}
+use Rattle.sm_judge.specs.Judging.{Holds, IsJudged, IsBadAnswerAt}
 
 -- there is no more than one verdict on an answer
 abbrev pub OneVerdict : Type 0
@@ -20,4 +20,4 @@ OneJudgement = (input : Input) (texts : List (List ℕ)) (first_line : ℕ) (v w
 -- a text on which there is a verdict is of the form of an answer
 abbrev pub JudgedIsntBad : Type 0
 JudgedIsntBad = (input : Input) (texts : List (List ℕ)) (first_line line : ℕ) (v : Verdict)
-    → IsJudged input texts first_line v → ¬ IsBadAt input texts first_line line
+    → IsJudged input texts first_line v → ¬ IsBadAnswerAt input texts first_line line

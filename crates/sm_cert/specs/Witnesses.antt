@@ -3,9 +3,9 @@ use Rattle.std.specs.Prelude.{ℕ, List, [], ◌∷◌, None, codes}
 use Rattle.sm_instance.specs.Written.{AgentData, Written}
 use Rattle.sm_instance.specs.declared.inputs.Input.TheVariants.{Two, Room}
 use Rattle.sm_instance.specs.declared.kinds.Kind.TheVariants.{Marriage}
-use Rattle.sm_report.specs.declared.lines.Seat.{Seat}
 use Rattle.sm_report.specs.Heads.{HeadData}
 use Rattle.sm_report.specs.Lines.{LineData}
+use Rattle.sm_report.specs.Witnesses.{first_seat_of}
 use Rattle.sm_judge.specs.declared.verdicts.Reason.TheVariants as reason
 use Rattle.sm_judge.specs.declared.verdicts.Verdict.TheVariants as verdict
 use Rattle.sm_judge.specs.Verdicts.{IsVerdict}
@@ -14,10 +14,6 @@ use Rattle.sm_judge.specs.Judging.{Holds, IsJudged}
 -- an agent of this name with one place, on a line of its own
 abbrev pub agent : List ℕ → ℕ → List ℕ → AgentData
 agent name line entries = record { name = name; capacity = 1; line = line; entries = entries }
-
--- the first seat of a reviewer
-abbrev pub seat : ℕ → Seat
-seat r = record { reviewer = r; number = 1 }
 
 -- five persons with an odd party of three
 abbrev pub five : List AgentData
@@ -62,7 +58,7 @@ two_by_two = record {
 
 -- the reviewers' best matching in place of the proposers' best one, and no rotation
 abbrev pub worst_first : List LineData
-worst_first = LineData.Answer HeadData.Rotations ∷ LineData.First 0 (seat 1) ∷ LineData.First 1 (seat 0) ∷ LineData.End ∷ []
+worst_first = LineData.Answer HeadData.Rotations ∷ LineData.First 0 (first_seat_of 1) ∷ LineData.First 1 (first_seat_of 0) ∷ LineData.End ∷ []
 
 -- it is stable, and it isn't the best one
 abbrev pub FirstIsntBest : Type 0

@@ -20,7 +20,8 @@ use Rattle.sm_judge.specs.Verdicts.{IsVerdict}
 use Rattle.sm_judge.specs.Said.{rotations_in, all_needs_in}
 use Rattle.sm_judge.specs.SeatMatchings.{first_of}
 use Rattle.sm_judge.specs.Judging.{Holds}
-use Rattle.sm_cert.specs.Witnesses.{agent, seat}
+use Rattle.sm_cert.specs.Witnesses.{agent}
+use Rattle.sm_report.specs.Witnesses.{first_seat_of}
 
 -- each proposer likes another reviewer best, and each reviewer another proposer; the first proposer weighs 4 with b and -10
 -- with c
@@ -38,13 +39,13 @@ three_by_three = record {
 abbrev pub weight_lines : (to_second from_first to_first value : ℕ) → List LineData
 weight_lines to_second from_first to_first value =
     LineData.Answer (HeadData.Weight Given)
-    ∷ LineData.First 0 (seat 0)
-    ∷ LineData.First 1 (seat 1)
-    ∷ LineData.First 2 (seat 2)
-    ∷ LineData.Rotation 1 ((0, seat 0) ∷ (1, seat 1) ∷ (2, seat 2) ∷ [])
+    ∷ LineData.First 0 (first_seat_of 0)
+    ∷ LineData.First 1 (first_seat_of 1)
+    ∷ LineData.First 2 (first_seat_of 2)
+    ∷ LineData.Rotation 1 ((0, first_seat_of 0) ∷ (1, first_seat_of 1) ∷ (2, first_seat_of 2) ∷ [])
     ∷ LineData.Needs 1 []
     ∷ LineData.Gain 1 (pos 4)
-    ∷ LineData.Rotation 2 ((0, seat 1) ∷ (1, seat 2) ∷ (2, seat 0) ∷ [])
+    ∷ LineData.Rotation 2 ((0, first_seat_of 1) ∷ (1, first_seat_of 2) ∷ (2, first_seat_of 0) ∷ [])
     ∷ LineData.Needs 2 (1 ∷ [])
     ∷ LineData.Gain 2 (negsuc 13)
     ∷ LineData.Flow 0 2 to_second

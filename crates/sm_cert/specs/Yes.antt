@@ -1,11 +1,10 @@
 -- What a yes on an answer means.
-use Rattle.std.specs.Prelude.{◌≡◌, ◌≢◌, ℕ, ◌+◌, ◌<◌, ◌≤◌, ◌↔◌, List, [], ◌∷◌, length, filter_map, Option, None, Some, slice_index_or, Contains, ℤ, ◌≤ℤ◌}
+use Rattle.std.specs.Prelude.{◌≡◌, ◌≢◌, ℕ, ◌+◌, ◌<◌, ◌≤◌, ◌↔◌, List, [], ◌∷◌, length, filter_map, Option, None, Some, slice_index_or, Contains, ℤ}
 use Rattle.std.specs.List.{slice_get}
 use Rattle.sm_instance.specs.Written.{Written, AgentData, lists_of}
-use Rattle.sm_instance.specs.Stable.{IsStable}
+use Rattle.sm_instance.specs.Stable.{IsStable, IsBestOf}
 use Rattle.sm_instance.specs.Allowed.{IsAllowed}
-use Rattle.sm_instance.specs.Matching.{standing}
-use Rattle.sm_instance.specs.Ranks.{IsBefore, regret_of, weight_of}
+use Rattle.sm_instance.specs.Ranks.{IsBefore, regret_of, weight_of, order_of}
 use Rattle.sm_instance.specs.declared.kinds.Measure.{Measure}
 use Rattle.sm_instance.specs.Sound.{IsInstance}
 use Rattle.sm_instance.specs.declared.kinds.Side.{Side}
@@ -22,7 +21,7 @@ use Rattle.sm_theory.specs.declared.choice.Choice.{Choice}
 use Rattle.sm_theory.specs.declared.choice.Choice.TheVariants.{Better, Worse}
 use Rattle.sm_seats.specs.SeatMarket.{seat_market}
 use Rattle.sm_seats.specs.Vectors.{IsAllowedRankVector}
-use Rattle.sm_pairs.specs.Held.{pair_at}
+use Rattle.sm_lists.specs.Pairs.{pair_at}
 use Rattle.sm_pairs.specs.Chosen.{chosen_places}
 use Rattle.sm_report.specs.Heads.{HeadData}
 use Rattle.sm_report.specs.Lines.{LineData}
@@ -30,10 +29,9 @@ use Rattle.sm_judge.specs.declared.verdicts.Verdict.TheVariants as verdict
 use Rattle.sm_judge.specs.Verdicts.{IsVerdict}
 use Rattle.sm_forms.specs.Forms.{AreAnswer}
 use Rattle.sm_judge.specs.Said.{pairs_in, firsts_in, lasts_in, proposer_lists_in, reviewer_lists_in, rotations_in, all_needs_in, lefts_in, rights_in, regret_in, total_in, vectors_in}
-use Rattle.sm_judge.specs.Pairs.{IsBestOf}
 use Rattle.sm_judge.specs.Chain.{HasOneEach, owners, IsRowOf}
-use Rattle.sm_judge.specs.Vectors.{order_of}
 use Rattle.sm_judge.specs.Judging.{Holds}
+use Rattle.sm_instance.specs.Lightest.{IsLightest}
 
 -- an answer with this head that gets a yes
 pub record GetsYes (input : Input) (head : HeadData) (lines : List LineData) : Type 0 where
@@ -65,7 +63,7 @@ pub record ArePairsOf (rows : List (List ℕ)) (places : List (Option ℕ)) (pai
   pub once : AreApart pairs
 
 -- a side's best stable matching
-pub record IsSolved (w : Written) (side : Side) (pairs : List (ℕ × ℕ)) : Type 0 where
+pub record IsSideBest (w : Written) (side : Side) (pairs : List (ℕ × ℕ)) : Type 0 where
   pub places : List (Option ℕ)
   pub best : IsBestOf side w places
   pub written : ArePairsOf (lists_of w.proposers) places pairs
@@ -73,7 +71,7 @@ pub record IsSolved (w : Written) (side : Side) (pairs : List (ℕ × ℕ)) : Ty
 -- a yes on `solve`
 abbrev pub SolveYes : Type 0
 SolveYes = (w : Written) (side : Side) (lines : List LineData)
-    → GetsYes (Two w) (HeadData.Solve (Some side)) lines → IsSolved w side (pairs_in lines)
+    → GetsYes (Two w) (HeadData.Solve (Some side)) lines → IsSideBest w side (pairs_in lines)
 
 -- an allowed stable matching and its regret. Nothing is said of whether it is the least.
 pub record HasRegret (w : Written) (regrets : List ℕ) (pairs : List (ℕ × ℕ)) : Type 0 where
@@ -126,7 +124,7 @@ NoneYes = (persons : List AgentData) (lines : List LineData) → GetsYes (Room p
     → slice_get lines 1 ≡ Some LineData.Nothing → (mates : List (Option ℕ)) → ¬ IsRoomStable (lists_of persons) mates
 
 -- the lists are those of all agents, each of them once
-pub record AreListsOf (rows : List (List ℕ)) (lists : List (ℕ × List ℕ)) : Type 0 where
+pub record AreAllLists (rows : List (List ℕ)) (lists : List (ℕ × List ℕ)) : Type 0 where
   pub each : (list : ℕ × List ℕ) → Contains lists list → IsRowOf rows list
   pub once : HasOneEach (length rows) (owners lists)
 
@@ -138,8 +136,8 @@ pub record IsReduced (w : Written) (lines : List LineData) : Type 0 where
   pub last_best : IsReviewersBest (seat_market w) last
   pub first_written : ArePairsOf (seat_market w).proposers first.proposers (firsts_in w lines)
   pub last_written : ArePairsOf (seat_market w).proposers last.proposers (lasts_in w lines)
-  pub proposer_lists : AreListsOf (reduced_lists_of (seat_market w) first last).proposers (proposer_lists_in w lines)
-  pub reviewer_lists : AreListsOf (reduced_lists_of (seat_market w) first last).reviewers (reviewer_lists_in w lines)
+  pub proposer_lists : AreAllLists (reduced_lists_of (seat_market w) first last).proposers (proposer_lists_in w lines)
+  pub reviewer_lists : AreAllLists (reduced_lists_of (seat_market w) first last).reviewers (reviewer_lists_in w lines)
 
 -- a yes on `reduced`
 abbrev pub ReducedYes : Type 0
@@ -159,17 +157,8 @@ pub record IsChainWritten (w : Written) (lines : List LineData) : Type 0 where
 abbrev pub RotationsYes : Type 0
 RotationsYes = (w : Written) (lines : List LineData) → IsInstance w → GetsYes (Two w) HeadData.Rotations lines → IsChainWritten w lines
 
--- an allowed stable matching of the least weight, and of those that have it the one that is best for all proposers
--- (Irving, Leather and Gusfield 1987; Gusfield and Irving 1989, section 3.6)
-pub record IsLightest (by : Measure) (w : Written) (places : List (Option ℕ)) : Type 0 where
-  pub stable : IsStable w places
-  pub allowed : IsAllowed w places
-  pub lightest : (others : List (Option ℕ)) → IsStable w others → IsAllowed w others → weight_of by w places ≤ℤ weight_of by w others
-  pub best : (others : List (Option ℕ)) → IsStable w others → IsAllowed w others → weight_of by w others ≡ weight_of by w places
-      → (p : ℕ) → standing w places p ≤ standing w others p
-
 -- and its weight
-pub record IsWeighed (by : Measure) (w : Written) (totals : List ℤ) (pairs : List (ℕ × ℕ)) : Type 0 where
+pub record HasLightestWeight (by : Measure) (w : Written) (totals : List ℤ) (pairs : List (ℕ × ℕ)) : Type 0 where
   pub places : List (Option ℕ)
   pub lightest : IsLightest by w places
   pub total : totals ≡ weight_of by w places ∷ []
@@ -178,4 +167,4 @@ pub record IsWeighed (by : Measure) (w : Written) (totals : List ℤ) (pairs : L
 -- a yes on `weight`
 abbrev pub WeightYes : Type 0
 WeightYes = (w : Written) (by : Measure) (lines : List LineData) → IsInstance w
-    → GetsYes (Two w) (HeadData.Weight by) lines → IsWeighed by w (filter_map total_in lines) (pairs_in lines)
+    → GetsYes (Two w) (HeadData.Weight by) lines → HasLightestWeight by w (filter_map total_in lines) (pairs_in lines)

@@ -7,11 +7,11 @@ ghost use Rattle.sm_text.specs.Lines.{lines, content};
 ghost use Rattle.sm_instance.specs.declared.inputs.Input.TheVariants.{Two, Room};
 ghost use Rattle.sm_report.specs.Heads.{HeadData, head_of};
 ghost use Rattle.sm_report.specs.Lines.{line_of};
-ghost use Rattle.sm_seats.specs.Counted.{AreCounts};
+ghost use Rattle.sm_seats.specs.Counted.{AreSeatCounts};
 ghost use Rattle.sm_seats.specs.SeatEntries.{AreFewSeats};
 ghost use Rattle.sm_forms.specs.Forms.{AreAnswer, is_placed};
 ghost use Rattle.sm_forms.specs.Layouts.{is_whole};
-ghost use Rattle.sm_forms.specs.Taking.{AreFirsts};
+ghost use Rattle.sm_forms.specs.Seats.{AreFirsts};
 ghost use Rattle.sm_judge.specs.Verdicts.{AtLine, IsVerdict};
 ghost use Rattle.sm_judge.specs.Judging.{Subject, answer, couples, parties, Clauses, Holds, IsJudged};
 ghost use Rattle.sm_judge.specs.Judges.{IsOwnLine, input_of};
@@ -140,7 +140,7 @@ fn judge_two(
     first_line: u32,
 ) -> Result<Verdict, AllocError>
     requires few { first_line + length lines.now < 2 ^ 32 }
-    requires counts { AreCounts instance.now counts.now }
+    requires counts { AreSeatCounts instance.now counts.now }
     requires few_seats { AreFewSeats instance.now }
     requires own { (head : HeadData) → All (IsOwnLine (answer instance.now head))
         (map line_of lines.now) }
@@ -174,7 +174,7 @@ fn judge_head(
     first_line: u32,
 ) -> Result<Verdict, AllocError>
     requires few { first_line + length lines.now < 2 ^ 32 }
-    requires counts { AreCounts instance.now counts.now }
+    requires counts { AreSeatCounts instance.now counts.now }
     requires few_seats { AreFewSeats instance.now }
     requires own { (head : HeadData) → All (IsOwnLine (answer instance.now head))
         (map line_of lines.now) }

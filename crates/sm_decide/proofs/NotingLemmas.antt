@@ -13,16 +13,16 @@ use Rattle.sm_theory.specs.Rotations.{IsExposed, proposer_at, reviewer_at, targe
 use Rattle.sm_theory.proofs.Core.Cycle.{turn, turn_in}
 use Rattle.sm_theory.proofs.Bridge.Rotation.{exposed_of}
 use Rattle.sm_theory.specs.Chains.{rotation_at, stage, AreEliminable, AreNeedsOf}
-use Rattle.sm_theory.specs.Marks.{note_of, marks_of, mark_at, AreLastMoves, AreMarksFor, AreMarks, AreMoved, AreMarked, IsBetween, IsFound, Adds}
-use Rattle.sm_theory.proofs.Bridge.Chain.{rotation_before, rotation_new, stage_before}
+use Rattle.sm_theory.specs.Marks.{note_of, marks_of, mark_at, AreLastMoves, AreMarksFor, AreMarks, AreMoved, AreMarked, IsBetween, IsFoundNeed, Adds}
+use Rattle.sm_theory.proofs.Bridge.Chain.{rotation_at-push_before, rotation_at-push_new, stage_before}
 use Rattle.sm_theory.proofs.Chains.Marks.{last_more, marks_more, found_is_need, need_is_found}
 use Rattle.sm_theory.proofs.Chains.Marking.{adds_join, last_start, marks_start}
 use Rattle.sm_decide.proofs.AmongLemmas.{all_among, apart_rising, as_many}
-use Rattle.sm_decide.specs.Noting.{Noted, AreBelow, AreNoted}
+use Rattle.sm_decide.specs.Noting.{RotationNotes, AreNotesBelow, AreNoted}
 
 -- what is noted and marked after one more rotation is below the next number
 pub below_noted : {l : Lists} {rotation : List (ℕ × ℕ)} {n k j : ℕ} {last last' : List (Option ℕ)} {marks marks' : List (List (Option ℕ))}
-    → AreBelow j last marks → AreMoved rotation n j last last' → AreMarked l rotation k j marks marks' → AreBelow (j + 1) last' marks'
+    → AreNotesBelow j last marks → AreMoved rotation n j last last' → AreMarked l rotation k j marks marks' → AreNotesBelow (j + 1) last' marks'
 below_noted {j = j} b v m = record {
   noted = λ p i e. elim (v.only p) [
     | inl same ↦ omega (arith, b.noted p i (sym same ∙ e))
@@ -36,26 +36,26 @@ below_noted {j = j} b v m = record {
 
 -- what the pairs of a rotation are found to need, pair by pair
 module _ {l : Lists} {rotation : List (ℕ × ℕ)} {notes : List (Option ℕ)} {marks : List (List (Option ℕ))} {n : ℕ} where
-  found_wider : {i : ℕ} → IsFound l rotation n notes marks i → IsFound l rotation (n + 1) notes marks i
+  found_wider : {i : ℕ} → IsFoundNeed l rotation n notes marks i → IsFoundNeed l rotation (n + 1) notes marks i
   found_wider (inl w) = inl (record { pair = w.pair; pair_in = omega (arith, w.pair_in); noted = w.noted })
   found_wider (inr w) = inr (record { pair = w.pair; pair_in = omega (arith, w.pair_in); between = w.between })
 
   module _ (p from to : ℕ) (is : p ≡ proposer_at rotation n) (from_is : from ≡ place_of l.proposers p (reviewer_at rotation n)) (to_is : to ≡ place_of l.proposers p (target_at rotation n)) where
     -- what is found for one more pair: the note of its proposer, and the marks between the places of its move
-    pub found_more : {xs ys zs ws : List ℕ} → Adds (λ i. IsFound l rotation n notes marks i) xs ys → Adds (λ i. note_of notes p ≡ Some i) ys zs → Adds (λ i. IsBetween (marks_of marks p) from to i) zs ws
-        → Adds (λ i. IsFound l rotation (n + 1) notes marks i) xs ws
-    found_more a b c = adds_join (λ i. IsFound l rotation (n + 1) notes marks i)
-        (adds_join (λ i. IsFound l rotation n notes marks i ⊎ (note_of notes p ≡ Some i)) a b (λ i w. inl w) (λ i w. inr w) (λ i w. w))
+    pub found_more : {xs ys zs ws : List ℕ} → Adds (λ i. IsFoundNeed l rotation n notes marks i) xs ys → Adds (λ i. note_of notes p ≡ Some i) ys zs → Adds (λ i. IsBetween (marks_of marks p) from to i) zs ws
+        → Adds (λ i. IsFoundNeed l rotation (n + 1) notes marks i) xs ws
+    found_more a b c = adds_join (λ i. IsFoundNeed l rotation (n + 1) notes marks i)
+        (adds_join (λ i. IsFoundNeed l rotation n notes marks i ⊎ (note_of notes p ≡ Some i)) a b (λ i w. inl w) (λ i w. inr w) (λ i w. w))
         c
         forth
         (λ i w. inr (record { pair = n; pair_in = omega arith; between = rw (← is, ← from_is, ← to_is) w }))
         back
       where
-        forth : (i : ℕ) → IsFound l rotation n notes marks i ⊎ (note_of notes p ≡ Some i) → IsFound l rotation (n + 1) notes marks i
+        forth : (i : ℕ) → IsFoundNeed l rotation n notes marks i ⊎ (note_of notes p ≡ Some i) → IsFoundNeed l rotation (n + 1) notes marks i
         forth i (inl w) = found_wider w
         forth i (inr e) = inl (record { pair = n; pair_in = omega arith; noted = rw (← is) e })
 
-        back : (i : ℕ) → IsFound l rotation (n + 1) notes marks i → (IsFound l rotation n notes marks i ⊎ (note_of notes p ≡ Some i)) ⊎ IsBetween (marks_of marks p) from to i
+        back : (i : ℕ) → IsFoundNeed l rotation (n + 1) notes marks i → (IsFoundNeed l rotation n notes marks i ⊎ (note_of notes p ≡ Some i)) ⊎ IsBetween (marks_of marks p) from to i
         back i (inl w) = elim (eq_or_ne w.pair n) [
           | inl e ↦ inl (inr (ap (note_of notes) (is ∙ ap (proposer_at rotation) (sym e)) ∙ w.noted))
           | inr e ↦ inl (inl (inl (record { pair = w.pair; pair_in = omega (arith, w.pair_in); noted = w.noted })))
@@ -69,17 +69,17 @@ module _ {l : Lists} {rotation : List (ℕ × ℕ)} {notes : List (Option ℕ)} 
 last_longer : {rotations : List (List (ℕ × ℕ))} (rotation : List (ℕ × ℕ)) {n : ℕ} {notes : List (Option ℕ)} → n ≤ length rotations → AreLastMoves rotations n notes → AreLastMoves (rotations ++ rotation ∷ []) n notes
 last_longer {rotations} rotation {n} le a = record {
   below = a.below;
-  moves = λ p i e. rw (rotation_before rotations rotation i (omega (arith, a.below p i e))) (a.moves p i e);
-  last = λ p i k e more less w. a.last p i k e more less (rw (rotation_before rotations rotation k (omega arith)) at w);
-  noted = λ p i less w. a.noted p i less (rw (rotation_before rotations rotation i (omega arith)) at w);
+  moves = λ p i e. rw (rotation_at-push_before rotations rotation i (omega (arith, a.below p i e))) (a.moves p i e);
+  last = λ p i k e more less w. a.last p i k e more less (rw (rotation_at-push_before rotations rotation k (omega arith)) at w);
+  noted = λ p i less w. a.noted p i less (rw (rotation_at-push_before rotations rotation i (omega arith)) at w);
 }
 
 marks_longer : {l : Lists} {rotations : List (List (ℕ × ℕ))} (rotation : List (ℕ × ℕ)) {n : ℕ} {marks : List (List (Option ℕ))} → n ≤ length rotations → AreMarks l rotations n marks → AreMarks l (rotations ++ rotation ∷ []) n marks
 marks_longer {l} {rotations} rotation {n} le a = record {
   for_entries = a.for_entries;
   below = a.below;
-  moves = λ p x i e. rw (rotation_before rotations rotation i (omega (arith, a.below p x i e))) (a.moves p x i e);
-  all = λ p x i on less w. a.all p x i on less (rw (rotation_before rotations rotation i (omega arith)) at w);
+  moves = λ p x i e. rw (rotation_at-push_before rotations rotation i (omega (arith, a.below p x i e))) (a.moves p x i e);
+  all = λ p x i on less w. a.all p x i on less (rw (rotation_at-push_before rotations rotation i (omega arith)) at w);
 }
 
 -- one more rotation in the chain
@@ -88,8 +88,8 @@ module _ {l : Lists} {first : Places} {rotations : List (List (ℕ × ℕ))} (ro
   pub eliminable_more : {m : Places} → AreEliminable l first rotations → m ≡ stage l first rotations (length rotations) → IsExposed l m rotation → AreEliminable l first (rotations ++ rotation ∷ [])
   eliminable_more {m} chain is x = record {
     exposed = λ k less. elim (eq_or_ne k (length rotations)) [
-      | inl e ↦ rw (there k e, rotation_new rotations rotation k e) x
-      | inr ne ↦ rw (stage_before l first rotations rotation k (omega (arith, length_push rotations rotation)), rotation_before rotations rotation k (omega (arith, length_push rotations rotation))) (chain.exposed k (omega (arith, length_push rotations rotation)))
+      | inl e ↦ rw (there k e, rotation_at-push_new rotations rotation k e) x
+      | inr ne ↦ rw (stage_before l first rotations rotation k (omega (arith, length_push rotations rotation)), rotation_at-push_before rotations rotation k (omega (arith, length_push rotations rotation))) (chain.exposed k (omega (arith, length_push rotations rotation)))
     ];
   }
     where
@@ -99,12 +99,12 @@ module _ {l : Lists} {first : Places} {rotations : List (List (ℕ × ℕ))} (ro
   module _ (h : IsMarket l) {m : Places} {last last' : List (Option ℕ)} {marks marks' : List (List (Option ℕ))} {most j most' j' : ℕ} {old found : List ℕ}
       (a : AreNoted l first rotations (record { most = most; count = j; last = last; marks = marks; found = old })) (is : m ≡ stage l first rotations (length rotations)) (x : IsExposed l m rotation) where
     -- one more rotation is noted, and it is found what it needs
-    pub noted_more : AreMoved rotation (length rotation) j last last' → AreMarked l rotation (length rotation) j marks marks' → Adds (λ i. IsFound l rotation (length rotation) last marks i) [] found → j' ≡ j + 1
+    pub noted_more : AreMoved rotation (length rotation) j last last' → AreMarked l rotation (length rotation) j marks marks' → Adds (λ i. IsFoundNeed l rotation (length rotation) last marks i) [] found → j' ≡ j + 1
         → AreNoted l first (rotations ++ rotation ∷ []) (record { most = most'; count = j'; last = last'; marks = marks'; found = found })
     noted_more moved marked adds count =
         let chain = eliminable_more a.eliminable is x in
         let long : length rotations + 1 ≡ length (rotations ++ rotation ∷ []) = sym (length_push rotations rotation) in
-        let new : rotation_at (rotations ++ rotation ∷ []) (length rotations) ≡ rotation = rotation_new rotations rotation (length rotations) refl in
+        let new : rotation_at (rotations ++ rotation ∷ []) (length rotations) ≡ rotation = rotation_at-push_new rotations rotation (length rotations) refl in
         let inside : length rotations < length (rotations ++ rotation ∷ []) = omega arith in
         let moved' : AreMoved (rotation_at (rotations ++ rotation ∷ []) (length rotations)) (length (rotation_at (rotations ++ rotation ∷ []) (length rotations))) (length rotations) last last' = rw new (rw a.count at moved) in
         let marked' : AreMarked l (rotation_at (rotations ++ rotation ∷ []) (length rotations)) (length (rotation_at (rotations ++ rotation ∷ []) (length rotations))) (length rotations) marks marks' = rw new (rw a.count at marked) in
@@ -159,7 +159,7 @@ noted_none {last = last} most f for_entries unmarked unnoted = record {
 }
 
 -- which numbers are the needs of the newest rotation
-module _ {l : Lists} {first : Places} {rotations : List (List (ℕ × ℕ))} {n : Noted} (a : AreNoted l first rotations n) where
+module _ {l : Lists} {first : Places} {rotations : List (List (ℕ × ℕ))} {n : RotationNotes} (a : AreNoted l first rotations n) where
   -- numbers that rise, were found, and are as many as those that were found
   pub needs_of_found : (needs : List ℕ) → ((x y : ℕ) → x < y → y < length needs → slice_index needs x < slice_index needs y) → ((x : ℕ) → x < length needs → Contains n.found (slice_index needs x)) → length needs ≡ length n.found
       → AreNeedsOf l rotations (length rotations - 1) needs

@@ -12,11 +12,12 @@ use Rattle.sm_theory.proofs.Core.Cycle.{Cycle, Succ, Exposed, target, turn, turn
 use Rattle.sm_theory.proofs.Bridge.Rotation.{pair_of_held, succ_at}
 use Rattle.sm_theory.proofs.Chains.Links.{successor_named}
 use Rattle.sm_theory.proofs.Chains.Holders.{holder_none, holder_some}
-use Rattle.sm_decide.specs.Exposure.{IsSafe, AreSafe, IsPath}
+use Rattle.sm_decide.specs.Exposure.{IsSafe}
+use Rattle.sm_decide.specs.ExposureKept.{IsSuccessorPath, AreSafe}
 use Rattle.sm_decide.proofs.SafeLemmas.{none_round, safe_before, safe_in_round}
 
 -- a way goes on
-pub path_goes_on : {l : Lists} {m : Places} {items : List ℕ} {start p q next : ℕ} → IsPath l m items start p q → IsNext l m q next → IsPath l m (items ++ q ∷ []) start p next
+pub path_goes_on : {l : Lists} {m : Places} {items : List ℕ} {start p q next : ℕ} → IsSuccessorPath l m items start p q → IsNext l m q next → IsSuccessorPath l m (items ++ q ∷ []) start p next
 path_goes_on {l} {m} {items} {start} {p} {q} {next} w x = record {
   start_in = omega (arith, w.start_in, length_push items q);
   empty = λ e. absurd (omega (arith, w.start_in, length_push items q));
@@ -70,12 +71,12 @@ first_is {l} {m} {p} {i} {k} x passed behind takes = elim (less_same_more k i) [
 ]
 
 -- what was safe before stays so
-pub before_pushed : {l : Lists} {m : Places} {items : List ℕ} {start p q bound : ℕ} → IsPath l m items start p q → ((k : ℕ) → k < start → IsSafe l m bound (slice_index items k)) → (k : ℕ) → k < start → IsSafe l m bound (slice_index (items ++ q ∷ []) k)
+pub before_pushed : {l : Lists} {m : Places} {items : List ℕ} {start p q bound : ℕ} → IsSuccessorPath l m items start p q → ((k : ℕ) → k < start → IsSafe l m bound (slice_index items k)) → (k : ℕ) → k < start → IsSafe l m bound (slice_index (items ++ q ∷ []) k)
 before_pushed {l} {m} {items} {start} {p} {q} w before k less =
     let same : slice_index (items ++ q ∷ []) k ≡ slice_index items k = get_or_append_left items (q ∷ []) 0 k (omega (arith, w.start_in)) in
     rw same (before k less)
 
-module _ {l : Lists} (h : IsMarket l) {m : Places} (f : IsMatching l m) {items : List ℕ} {start p q : ℕ} (w : IsPath l m items start p q) where
+module _ {l : Lists} (h : IsMarket l) {m : Places} (f : IsMatching l m) {items : List ℕ} {start p q : ℕ} (w : IsSuccessorPath l m items start p q) where
   -- where the end of the way is safe, all of it is
   pub path_safe : {bound : ℕ} → IsSafe l m bound q → (k : ℕ) → start ≤ k → k < length items → IsSafe l m bound (slice_index items k)
   path_safe {bound} safe k more less = back (length items - suc k) k more (omega arith)

@@ -1,19 +1,17 @@
 -- Cross places of roommates, and whether persons at places of their lists block.
-use Rattle.std.proofs.Common.{◌≡◌, ◌≢◌, ℕ, ◌<◌, ◌≤◌, ◌^◌, ◌↔◌, Bor, List, [], Vec, Option, Some, None, is_some, MatchOption, IsTrue, length, map, get_or, refl, sym, ap, ◌∙◌, arith, ⊎_elim}
+use Rattle.std.proofs.Common.{◌≡◌, ◌≢◌, ℕ, ◌<◌, ◌≤◌, ◌^◌, ◌↔◌, Bor, List, [], Option, Some, None, is_some, MatchOption, IsTrue, length, get_or, refl, sym, ap, ◌∙◌, arith, ⊎_elim}
 use Rattle.std.proofs.lemmas.Bool.{cases_lt, false≢true}
 use Rattle.std.proofs.lemmas.List.{length-map, get_or_past, get_or-map}
-use Rattle.std.specs.declared.alloc.Global.{Global}
-use Rattle.sm_lists.specs.Rows.{row, entry, rows_of, lists_in, place_of}
+use Rattle.sm_lists.specs.Rows.{row, entry, lists_in, place_of}
 use Rattle.sm_lists.specs.Limits.{AreWithinLimits}
-use Rattle.sm_lists.specs.Crosses.{AreCrossPlaces}
-use Rattle.sm_lists.specs.Held.{held_in, place_in}
+use Rattle.sm_lists.specs.Held.{place_in}
 use Rattle.sm_lists.proofs.RowLemmas.{row_in_range, row_fits}
 use Rattle.sm_lists.proofs.PlaceLemmas.{entry-place_of, place_of-le, place_on-le-at, place_on-lt}
 use Rattle.sm_lists.proofs.FoundLemmas.{found_on-some, place_on-unfound}
-use Rattle.sm_market.proofs.WalkLemmas.{cross_at, crosses_read}
-use Rattle.sm_theory.specs.Rooms.{AreRoomLists, IsAcceptable, place_of_mate}
-use Rattle.sm_decide.specs.RoomsKept.{AreRoomsKept}
-use Rattle.sm_decide.specs.Rooms.{IsAcceptedAt, AreStandings, LikesMore, IsUnblockedAt}
+use Rattle.sm_theory.specs.Rooms.{IsAcceptable, place_of_mate}
+use Rattle.sm_theory.specs.RoomsKept.{AreRoomsKept}
+use Rattle.sm_decide.specs.Rooms.{AreStandings, LikesMore, IsUnblockedAt}
+use Rattle.sm_decide.specs.Accepted.{IsAcceptedAt}
 
 -- a list that is lent
 pub lent_fits : (lent : List (Bor (List ℕ))) → AreWithinLimits (lists_in lent) → (x : ℕ) (list : Bor (List ℕ)) → x < length (lists_in lent) → list ≡ get_or lent x list → length list.now < 2 ^ 24
@@ -24,22 +22,6 @@ lent_fits lent w x list inside read =
     let fits = row_fits w x in
     let e = ap length is in
     omega arith
-
--- cross places of sound lists, as they are kept
-pub rooms_kept : {rows : List (List ℕ)} (vectors : List (Vec ℕ Global)) → AreRoomLists rows → AreWithinLimits rows → AreCrossPlaces rows rows (held_in place_in vectors)
-    → AreRoomsKept rows (rows_of vectors)
-rooms_kept {rows} vectors lists limits c =
-    let long : length (rows_of vectors) ≡ length rows = length-map vectors (λ v. v.items) ∙ sym (length-map vectors (λ v. map place_in v.items)) ∙ c.one_each in
-    record {
-      lists = lists;
-      limits = limits;
-      one_each = long;
-      as_long = λ x. ⊎_elim
-          (λ inside. sym (length-map (row (rows_of vectors) x) place_in) ∙ (crosses_read vectors x c inside).as_long)
-          (λ past. ap length (get_or_past (rows_of vectors) x [] (omega arith)) ∙ sym (ap length (get_or_past rows x [] past)))
-          (cases_lt x (length rows));
-      places = λ x i on. cross_at (row (rows_of vectors) x) (crosses_read vectors x c (row_in_range rows x i on)) i on;
-    }
 
 -- what a cross place that is read says, and what it says that there is none
 pub cross_read : {rows crosses : List (List ℕ)} → AreRoomsKept rows crosses → (x i : ℕ) → i < length (row rows x) → entry rows x i ≢ x → (o : Option ℕ) → o ≡ place_in (entry crosses x i)

@@ -3,7 +3,8 @@ use Rattle.std.proofs.Common.{◌≡◌, ◌≢◌, ℕ, ◌+◌, ◌<◌, ◌�
 use Rattle.std.specs.List.{Contains}
 use Rattle.std.proofs.lemmas.List.{get_or_append_left, get_or_push, get_or_default, get_or-set_same, get_or-set_other, get_or-take, length-set, length-take-le}
 use Rattle.sm_lists.proofs.Counting.{lt_or_le, eq_or_ne, one_to_one-le}
-use Rattle.sm_decide.specs.Trails.{Trail, IsKeptTrail}
+use Rattle.sm_decide.specs.Trails.{Trail}
+use Rattle.sm_decide.specs.TrailsKept.{IsKeptTrail}
 
 module _ {order spots : List ℕ} {count : ℕ} (w : IsKeptTrail order spots count) where
   some : length (take count order) ≡ count

@@ -1,7 +1,9 @@
 pub mod Trails
+pub mod TrailsKept
 pub mod Exposure
+pub mod ExposureKept
 pub mod Noting
 pub mod Laws
 pub mod Witnesses
+pub mod Accepted
 pub mod Rooms
-pub mod RoomsKept

@@ -4,11 +4,6 @@ use Rattle.sm_market.specs.Lists.{row, place_of}
 use Rattle.sm_theory.specs.Rooms.{IsAcceptable, mate_of, place_of_mate}
 use Rattle.sm_theory.specs.Partitions.{successor_in, predecessor_in, party_place}
 
--- x and y are acceptable to each other, and x stands at this place of y's list
-pub record IsAcceptedAt (rows : List (List ℕ)) (x y i : ℕ) : Type 0 where
-  pub acceptable : IsAcceptable rows x y
-  pub place : i ≡ place_of rows y x
-
 -- each person stands at a place of its list, or past the list
 pub record AreStandings (rows : List (List ℕ)) (standings : List ℕ) : Type 0 where
   pub one_each : length standings ≡ length rows

@@ -5,7 +5,8 @@ ghost use Rattle.sm_market.specs.Lists.{row, IsMarket};
 ghost use Rattle.sm_market.specs.Matching.{Places, standing};
 ghost use Rattle.sm_market.specs.Pairing.{IsPairingOf};
 ghost use Rattle.sm_theory.specs.Rotations.{WouldTake, IsSuccessor, IsNext, IsNoneBelow, IsNothingExposed, IsLowestExposed};
-ghost use Rattle.sm_decide.specs.Exposure.{IsSearchAt, IsSafe, AreSafe};
+ghost use Rattle.sm_decide.specs.Exposure.{IsSearchAt, IsSafe};
+ghost use Rattle.sm_decide.specs.ExposureKept.{AreSafe};
 
 use crate::trail::Trail;
 use sm_market::{Market, Pairing};

@@ -6,8 +6,8 @@ ghost use Rattle.sm_market.specs.Matching.{Places, IsMatching};
 ghost use Rattle.sm_market.specs.Pairing.{IsPairingOf};
 ghost use Rattle.sm_theory.specs.Rotations.{IsExposed, proposer_at, reviewer_at, target_at};
 ghost use Rattle.sm_theory.specs.Chains.{stage, AreNeedsOf};
-ghost use Rattle.sm_theory.specs.Marks.{marks_in, marks_of, note_of, mark_at, IsBetween, AreMarksFor, AreMarked, IsFound, Adds};
-ghost use Rattle.sm_decide.specs.Noting.{IsNotesFor, AreNoted, AreBelow};
+ghost use Rattle.sm_theory.specs.Marks.{marks_in, marks_of, note_of, mark_at, IsBetween, AreMarksFor, AreMarked, IsFoundNeed, Adds};
+ghost use Rattle.sm_decide.specs.Noting.{IsNotesFor, AreNoted, AreNotesBelow};
 ghost use Rattle.sm_decide.specs.Trails.{IsTrail};
 
 use crate::exposure::first_taker;
@@ -30,10 +30,10 @@ pub struct Notes {
 }
 
 impl Model for Notes {
-    ghost use Rattle.sm_decide.specs.Noting.{Noted};
+    ghost use Rattle.sm_decide.specs.Noting.{RotationNotes};
     ghost use Rattle.sm_theory.specs.Marks.{marks_in};
 
-    ghost Value = { Noted };
+    ghost Value = { RotationNotes };
 
     ghost view = { λ n. record {
       most = n.found.bound;
@@ -146,9 +146,9 @@ fn find(
     requires exposed { IsExposed market.now m.now.places pairs.now }
     requires one_each { length last.now ≡ length market.now.proposers }
     requires for_entries { AreMarksFor market.now (marks_in marks.now) }
-    requires below { AreBelow found.old.bound last.now (marks_in marks.now) }
+    requires below { AreNotesBelow found.old.bound last.now (marks_in marks.now) }
     ensures bound { found.new.bound ≡ found.old.bound }
-    ensures found { Adds (λ i. IsFound market.now pairs.now (length pairs.now) last.now
+    ensures found { Adds (λ i. IsFoundNeed market.now pairs.now (length pairs.now) last.now
         (marks_in marks.now) i) [] found.new.items }
 {
     found.clear();

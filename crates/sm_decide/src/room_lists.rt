@@ -4,7 +4,8 @@ ghost use Rattle.std.specs.Prelude.{◌≡◌, ℕ, ◌<◌, ◌^◌, ◌↔◌,
 ghost use Rattle.sm_lists.specs.Rows.{row, entry, place_of, lists_in};
 ghost use Rattle.sm_lists.specs.Limits.{AreWithinLimits};
 ghost use Rattle.sm_theory.specs.Rooms.{AreRoomLists, IsAcceptable};
-ghost use Rattle.sm_decide.specs.Rooms.{IsAcceptedAt, AreStandings, IsUnblockedAt, LikesMore};
+ghost use Rattle.sm_decide.specs.Rooms.{AreStandings, IsUnblockedAt, LikesMore};
+ghost use Rattle.sm_decide.specs.Accepted.{IsAcceptedAt};
 
 use sm_lists::{CrossPlaces, KeptPlace, Naming, cross_places, entry_at};
 use std::alloc::{AllocError, Global};
@@ -20,7 +21,7 @@ pub struct RoomLists<'a> {
 impl<'a> Model for RoomLists<'a> {
     ghost use Rattle.std.specs.Prelude.{ℕ, List};
     ghost use Rattle.sm_lists.specs.Rows.{rows_of, lists_in};
-    ghost use Rattle.sm_decide.specs.RoomsKept.{AreRoomsKept};
+    ghost use Rattle.sm_theory.specs.RoomsKept.{AreRoomsKept};
 
     ghost Value = { List (List ℕ) };
 

@@ -1,6 +1,6 @@
 //! Numbers that were come by, in order.
 
-ghost use Rattle.std.specs.Prelude.{◌≡◌, ◌≢◌, ℕ, ◌<◌, ◌++◌, ◌∷◌, [], ◌↔◌, IsTrue, IfOk, length, slice_index};
+ghost use Rattle.std.specs.Prelude.{◌≡◌, ◌<◌, ◌++◌, ◌∷◌, [], ◌↔◌, IsTrue, IfOk, length, slice_index};
 ghost use Rattle.std.specs.List.{Contains};
 ghost use Rattle.sm_decide.specs.Trails.{IsTrail};
 
@@ -18,7 +18,8 @@ pub struct Trail {
 
 impl Model for Trail {
     ghost use Rattle.std.specs.Prelude.{take, length};
-    ghost use Rattle.sm_decide.specs.Trails.{Trail, IsKeptTrail};
+    ghost use Rattle.sm_decide.specs.Trails.{Trail};
+    ghost use Rattle.sm_decide.specs.TrailsKept.{IsKeptTrail};
 
     ghost Value = { Trail };
 

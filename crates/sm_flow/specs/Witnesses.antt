@@ -3,7 +3,7 @@ use Rattle.std.specs.Prelude.{ℕ, Bool, true, false, List, [], ◌∷◌}
 use Rattle.sm_flow.specs.declared.net.Room.TheVariants.{Bounded, Unbounded}
 use Rattle.sm_flow.specs.Graph.{Graph, IsNet}
 use Rattle.sm_flow.specs.Flowing.{flowing, IsFlow, IsMaximumFlow, IsUnboundedStep, AreNodes, IsReachable}
-use Rattle.sm_flow.specs.Answer.{IsAnswer}
+use Rattle.sm_flow.specs.Answer.{IsFlowAnswer}
 
 -- edges from 0 to 1 of room 2, from 0 to 2 of room 1, from 1 to 3 of room 1, and from 2 to 3 without bound
 abbrev pub small_graph : Graph
@@ -19,7 +19,7 @@ small_graph = record {
 -- from 0 to 3 the maximum flow has one on each edge: the first has room left, so 1 is reached, and no more
 abbrev pub HasMaximumFlow : Type 0
 HasMaximumFlow = IsNet small_graph
-    × IsAnswer small_graph 0 3 (flowing (1 ∷ 1 ∷ 1 ∷ 1 ∷ []) 2 (true ∷ true ∷ false ∷ false ∷ []))
+    × IsFlowAnswer small_graph 0 3 (flowing (1 ∷ 1 ∷ 1 ∷ 1 ∷ []) 2 (true ∷ true ∷ false ∷ false ∷ []))
 
 -- a flow of nothing is one, but not a maximum one whatever it says to reach; two on the first edge are not conserved
 -- at 1, and two on the first and the third are too many for the third

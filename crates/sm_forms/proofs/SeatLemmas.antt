@@ -5,7 +5,7 @@ use Rattle.sm_instance.specs.Written.{Written}
 use Rattle.sm_report.specs.declared.lines.Seat.{Seat}
 use Rattle.sm_forms.specs.Seats.{is_seat}
 use Rattle.sm_seats.specs.SeatMarket.{seat_count, seats_before, seat_market}
-use Rattle.sm_seats.specs.Tables.{first_seats_of}
+use Rattle.sm_seats.specs.Counted.{first_seats_of}
 use Rattle.sm_forms.proofs.TakingLemmas.{and_left, and_right}
 use Rattle.sm_seats.proofs.SeatLemmas.{seats_before_more, seats_end, length-reviewers}
 

@@ -17,29 +17,29 @@ use Rattle.sm_report.specs.Sound.{IsLineOf}
 use Rattle.sm_report.specs.Reading.{HasText}
 use Rattle.sm_report.specs.Texts.{text_of_line}
 use Rattle.sm_report.proofs.ReadLemmas.{one_line}
-use Rattle.sm_forms.specs.declared.layouts.Part.{Part}
+use Rattle.sm_forms.specs.declared.layouts.LayoutPart.{LayoutPart}
 use Rattle.sm_forms.specs.declared.answers.Answer.{Answer}
 use Rattle.sm_forms.specs.Layouts.{behind, left_behind, is_empty, is_begun, is_whole}
-use Rattle.sm_forms.specs.Forms.{layouts_of, opening_of, fits, is_placed, AreFront, AreAnswer, IsFront, IsMisplaced}
-use Rattle.sm_forms.specs.Taking.{lines_in, HasLefts, IsSoFar, may_stand, Took, Takes, TookText, TakesText}
-use Rattle.sm_forms.proofs.LayoutLemmas.{left_on}
+use Rattle.sm_forms.specs.Forms.{layouts_of, opening_of, fits, is_placed, AreFirstLines, AreAnswer, BeginAnAnswer, IsMisplaced}
+use Rattle.sm_forms.specs.Taking.{lines_in, HasLefts, IsSoFar, may_stand, Took, TakesLine, TookText, TakesText}
+use Rattle.sm_forms.proofs.LayoutLemmas.{left_behind-append}
 
 -- what is left behind one line more
-left_next : (layouts lefts next : List (List Part)) (lines : List LineData) (line : LineData) → lefts ≡ left_behind layouts (map opening_of lines)
+left_next : (layouts lefts next : List (List LayoutPart)) (lines : List LineData) (line : LineData) → lefts ≡ left_behind layouts (map opening_of lines)
     → next ≡ filter_map (λ parts. behind parts (opening_of line)) lefts → next ≡ left_behind layouts (map opening_of (lines ++ line ∷ []))
 left_next layouts lefts next lines line is e =
-    e ∙ ap (filter_map (λ parts. behind parts (opening_of line))) is ∙ sym (left_on layouts (map opening_of lines) (opening_of line ∷ []))
+    e ∙ ap (filter_map (λ parts. behind parts (opening_of line))) is ∙ sym (left_behind-append layouts (map opening_of lines) (opening_of line ∷ []))
     ∙ ap (left_behind layouts) (sym (map-append opening_of lines (line ∷ [])))
 
 -- they are the layouts that go on behind the line
-pub lefts_next : (input : Input) (lines : List LineData) (lefts next : List (List Part)) (line : LineData) → lines ≢ [] → HasLefts input lines lefts
+pub lefts_next : (input : Input) (lines : List LineData) (lefts next : List (List LayoutPart)) (line : LineData) → lines ≢ [] → HasLefts input lines lefts
     → next ≡ filter_map (λ parts. behind parts (opening_of line)) lefts → HasLefts input (lines ++ line ∷ []) next
 lefts_next input [] lefts next line some h e = absurd (some refl)
 lefts_next input (LineData.Answer head ∷ lines) lefts next line some h e = left_next (layouts_of input head) lefts next lines line h e
 lefts_next input (_ ∷ lines) lefts next line some h e = absurd h
 
 -- while some layout is left the lines begin an answer
-pub begun_next : (input : Input) (lines : List LineData) (lefts : List (List Part)) → lines ≢ [] → HasLefts input lines lefts
+pub begun_next : (input : Input) (lines : List LineData) (lefts : List (List LayoutPart)) → lines ≢ [] → HasLefts input lines lefts
     → (if is_empty lefts then false else true) ≡ is_placed is_begun input lines
 begun_next input [] lefts some h = absurd (some refl)
 begun_next input (LineData.Answer head ∷ lines) lefts some h = ap (λ left. if is_empty left then false else true) h
@@ -80,7 +80,7 @@ last_of_all p (y ∷ xs) x h = last_of_all p xs x (and_right (p y) (list_all p (
 
 -- a text that no line that may stand there has, or one whose line was taken
 pub takes_text : (input : Input) → IsInput input → (before after : Answer) (line : LineData) (text : List ℕ) (taken : Bool)
-    → HasText input text line → Takes input before after line taken → TakesText input before after text taken
+    → HasText input text line → TakesLine input before after line taken → TakesText input before after text taken
 takes_text input h before after line text true has took = record { line = line; has = has; took = took }
 takes_text input h before after line text false has cant =
     λ other other_has. subst (λ x. may_stand input (lines_in before) x ≡ false) (one_line input text line other h has other_has) cant
@@ -172,11 +172,11 @@ same_lines input h texts a b x y = by_rest (parse input h a b [] x.right y.right
 
 -- the lines so far begin an answer
 front_of : (input : Input) (lines : List LineData) → All (IsLineOf input) lines → list_all (fits input) lines ≡ true → IsBegun input lines
-    → IsFront input (map (text_of_line input) lines)
+    → BeginAnAnswer input (map (text_of_line input) lines)
 front_of input [] sound fitting placed = tt
 front_of input (x ∷ lines) sound fitting placed = (x ∷ lines, record { read = refl; right = sound; fitting = fitting; placed = placed })
 
-lines_of_front : (input : Input) (texts : List (List ℕ)) → texts ≢ [] → IsFront input texts → (lines : List LineData) × AreFront input texts lines
+lines_of_front : (input : Input) (texts : List (List ℕ)) → texts ≢ [] → BeginAnAnswer input texts → (lines : List LineData) × AreFirstLines input texts lines
 lines_of_front input [] some front = absurd (some refl)
 lines_of_front input (text ∷ texts) some front = front
 
@@ -194,16 +194,16 @@ module _ (input : Input) (h : IsInput input) (texts : List (List ℕ)) (answer :
   long : length so_far ≡ length (lines_in answer)
   long = length-map (lines_in answer) (text_of_line input)
 
-  front_is : (rest : List (List ℕ)) → AreTaken input texts answer rest → IsFront input (take (length (lines_in answer)) texts)
+  front_is : (rest : List (List ℕ)) → AreTaken input texts answer rest → BeginAnAnswer input (take (length (lines_in answer)) texts)
   front_is rest t =
-      subst (IsFront input)
+      subst (BeginAnAnswer input)
       (sym (ap (take (length (lines_in answer))) t.spelled ∙ take_front so_far rest (length (lines_in answer)) (sym long)))
       (front_of input (lines_in answer) t.sound t.fitting t.placed)
 
   -- no line with the next text may stand there
   not_next : (text : List ℕ) → All (IsLineOf input) (lines_in answer)
       → ((line : LineData) → HasText input text line → may_stand input (lines_in answer) line ≡ false)
-      → (lines : List LineData) → AreFront input (so_far ++ text ∷ []) lines → ⊥
+      → (lines : List LineData) → AreFirstLines input (so_far ++ text ∷ []) lines → ⊥
   not_next text sound cant lines f = by_rest (parse input h (lines_in answer) lines (text ∷ []) sound f.right (sym f.read))
     where
       by_rest : IsRest input (lines_in answer) lines (text ∷ []) → ⊥
@@ -229,7 +229,7 @@ module _ (input : Input) (h : IsInput input) (texts : List (List ℕ)) (answer :
       record {
         within = omega (arith, whole, long);
         before = front_is (text ∷ rest) t;
-        here = λ _ front. (let f = lines_of_front input (so_far ++ text ∷ []) (some_texts so_far text) (subst (IsFront input) one_more front) in
+        here = λ _ front. (let f = lines_of_front input (so_far ++ text ∷ []) (some_texts so_far text) (subst (BeginAnAnswer input) one_more front) in
             not_next text t.sound cant f.0 f.1);
         missing = λ e. absurd (omega (arith, e, whole, long));
       }
@@ -258,9 +258,9 @@ abbrev pub texts_from : List ℕ → ℕ → List (List ℕ)
 texts_from bytes from = map content (lines (drop from bytes))
 
 -- the text of the line at a place stands in front of those behind it
-pub texts_step : (bytes : List ℕ) (at : ℕ) (span : LineSpan) → IsLineAt bytes at span
+pub texts_from-step : (bytes : List ℕ) (at : ℕ) (span : LineSpan) → IsLineAt bytes at span
     → texts_from bytes at ≡ take (span.stop - span.start) (drop span.start bytes) ∷ texts_from bytes span.next
-texts_step bytes at span h = ap (map content) h.leads ∙ ap (λ t. t ∷ texts_from bytes span.next) (sym (line_text bytes at span h))
+texts_from-step bytes at span h = ap (map content) h.leads ∙ ap (λ t. t ∷ texts_from bytes span.next) (sym (line_text bytes at span h))
 
 -- and behind it there is one line less
 pub fewer_lines : (bytes : List ℕ) (at : ℕ) (span : LineSpan) → IsLineAt bytes at span → length (lines (drop at bytes)) ≡ length (lines (drop span.next bytes)) + 1
@@ -269,5 +269,5 @@ fewer_lines bytes at span h =
     omega (arith, e)
 
 -- past the end there are none
-pub texts_over : (bytes : List ℕ) (at : ℕ) → length bytes ≤ at → texts_from bytes at ≡ []
-texts_over bytes at le = ap (λ rest. map content (lines rest)) (drop_all at bytes le)
+pub texts_from-over : (bytes : List ℕ) (at : ℕ) → length bytes ≤ at → texts_from bytes at ≡ []
+texts_from-over bytes at le = ap (λ rest. map content (lines rest)) (drop_all at bytes le)

@@ -7,57 +7,59 @@ use Rattle.sm_instance.specs.declared.inputs.Input.TheVariants.{Two, Room}
 use Rattle.sm_report.specs.Heads.{HeadData}
 use Rattle.sm_report.specs.Lines.{LineData}
 use Rattle.sm_report.specs.Texts.{text_of_line}
-use Rattle.sm_report.specs.Sound.{seats_of, IsLineOf}
-use Rattle.sm_forms.specs.declared.keywords.Keyword.{Keyword}
-use Rattle.sm_forms.specs.declared.keywords.Keyword.TheVariants as keyword
-use Rattle.sm_forms.specs.Keywords.{keyword_of}
-use Rattle.sm_forms.specs.declared.layouts.Part.{Part}
-use Rattle.sm_forms.specs.declared.layouts.Part.TheVariants.{One, Many, Blocks}
-use Rattle.sm_forms.specs.declared.layouts.Turn.{Turn}
+use Rattle.sm_report.specs.Sound.{seats_in_line, IsLineOf}
+use Rattle.sm_report.specs.declared.keywords.Keyword.{Keyword}
+use Rattle.sm_report.specs.declared.keywords.Keyword.TheVariants as keyword
+use Rattle.sm_report.specs.Keywords.{keyword_of}
+use Rattle.sm_forms.specs.declared.layouts.LayoutPart.{LayoutPart}
+use Rattle.sm_forms.specs.declared.layouts.LayoutPart.TheVariants.{One, Many, Blocks}
+use Rattle.sm_forms.specs.declared.layouts.BlockTurn.{BlockTurn}
 use Rattle.sm_forms.specs.declared.layouts.Opening.{Opening}
 use Rattle.sm_forms.specs.Layouts.{is_begun, is_whole}
 use Rattle.sm_forms.specs.Seats.{is_seat}
+use Rattle.sm_forms.specs.declared.answer_fault.AnswerFault.{AnswerFault}
+use Rattle.sm_forms.specs.declared.answer_fault.AnswerFault.TheVariants.{Misplaced, OutOfMemory}
 
 -- The layouts of an answer behind its head. An answer that can't be checked has none.
 
 -- what closes an answer
-abbrev pub closing : List Part
+abbrev pub closing : List LayoutPart
 closing = One keyword.End ∷ []
 
 -- blocks of so many lines, numbered from 1
-abbrev pub first_turn : ℕ → Turn
+abbrev pub first_turn : ℕ → BlockTurn
 first_turn lines = record { lines = lines; place = 0; number = 1 }
 
 -- any number of such blocks
-abbrev pub blocks_of : ℕ → Part
+abbrev pub blocks_of : ℕ → LayoutPart
 blocks_of lines = Blocks (first_turn lines)
 
 -- pairs
-abbrev pub solve_layout : List Part
+abbrev pub solve_layout : List LayoutPart
 solve_layout = Many keyword.Pair ∷ closing
 
 -- `none`, and the parties that show it
-abbrev pub parties_layout : List Part
+abbrev pub parties_layout : List LayoutPart
 parties_layout = One keyword.Nothing ∷ Many keyword.Party ∷ closing
 
 -- the first and the last seats, and the reduced lists of both sides
-abbrev pub reduced_layout : List Part
+abbrev pub reduced_layout : List LayoutPart
 reduced_layout = Many keyword.First ∷ Many keyword.Last ∷ Many keyword.Proposer ∷ Many keyword.Reviewer ∷ closing
 
 -- the first seats, and rotations with their needs
-abbrev pub rotations_layout : List Part
+abbrev pub rotations_layout : List LayoutPart
 rotations_layout = Many keyword.First ∷ blocks_of 2 ∷ closing
 
 -- vectors, and a last line with this keyword
-abbrev pub list_layout : Keyword → List Part
+abbrev pub list_layout : Keyword → List LayoutPart
 list_layout last = Many keyword.Vector ∷ One last ∷ []
 
 -- the regret, and pairs
-abbrev pub regret_layout : List Part
+abbrev pub regret_layout : List LayoutPart
 regret_layout = One keyword.Regret ∷ Many keyword.Pair ∷ closing
 
 -- the first seats, rotations with their needs and gains, the flow, the figures of the set that is taken, and pairs
-abbrev pub weight_layout : List Part
+abbrev pub weight_layout : List LayoutPart
 weight_layout =
     Many keyword.First
     ∷ blocks_of 3
@@ -70,11 +72,11 @@ weight_layout =
     ∷ closing
 
 -- the pairs of two matchings, and those that are chosen of them
-abbrev pub given_layout : List Part
+abbrev pub given_layout : List LayoutPart
 given_layout = Many keyword.Left ∷ Many keyword.Right ∷ Many keyword.Pair ∷ closing
 
 -- over an instance with two sides
-abbrev pub layouts_of_two : HeadData → List (List Part)
+abbrev pub layouts_of_two : HeadData → List (List LayoutPart)
 layouts_of_two (HeadData.Solve side) = solve_layout ∷ []
 layouts_of_two HeadData.Reduced = reduced_layout ∷ []
 layouts_of_two HeadData.Rotations = rotations_layout ∷ []
@@ -86,12 +88,12 @@ layouts_of_two HeadData.Join = given_layout ∷ []
 layouts_of_two _ = []
 
 -- over one of roommates: a matching, or the parties by which there is none
-abbrev pub layouts_of_room : HeadData → List (List Part)
+abbrev pub layouts_of_room : HeadData → List (List LayoutPart)
 layouts_of_room (HeadData.Solve side) = solve_layout ∷ parties_layout ∷ []
 layouts_of_room _ = []
 
 -- over an instance of either kind
-abbrev pub layouts_of : Input → HeadData → List (List Part)
+abbrev pub layouts_of : Input → HeadData → List (List LayoutPart)
 layouts_of (Two w) head = layouts_of_two head
 layouts_of (Room persons) head = layouts_of_room head
 
@@ -117,7 +119,7 @@ abbrev pub fits_two : Written → LineData → Bool
 fits_two w (LineData.Answer (HeadData.List (Some after) limit)) = has_one_each w after
 fits_two w (LineData.Vector v) = has_one_each w v
 fits_two w (LineData.More v) = has_one_each w v
-fits_two w line = list_all (is_seat w) (seats_of line)
+fits_two w line = list_all (is_seat w) (seats_in_line line)
 
 -- the lower-numbered person of a pair comes first, and the lowest of a party
 abbrev pub begins_with_lowest : List ℕ → Bool
@@ -138,12 +140,12 @@ fits (Room persons) line = fits_room line
 -- The form of an answer, and the first of its lines that isn't of it.
 
 -- the lines are the first of an answer, or a whole one
-abbrev pub is_placed : (List (List Part) → List Opening → Bool) → Input → List LineData → Bool
+abbrev pub is_placed : (List (List LayoutPart) → List Opening → Bool) → Input → List LineData → Bool
 is_placed test input (LineData.Answer head ∷ lines) = test (layouts_of input head) (map opening_of lines)
 is_placed test input _ = false
 
 -- these texts are those of lines of an instance that are the first lines of an answer, or a whole answer
-pub record AreLines (test : List (List Part) → List Opening → Bool)
+pub record AreLines (test : List (List LayoutPart) → List Opening → Bool)
     (input : Input) (texts : List (List ℕ)) (lines : List LineData) : Type 0 where
   pub read : map (text_of_line input) lines ≡ texts
   pub right : All (IsLineOf input) lines
@@ -151,22 +153,27 @@ pub record AreLines (test : List (List Part) → List Opening → Bool)
   pub placed : is_placed test input lines ≡ true
 
 -- the texts are the first of an answer with these lines
-abbrev pub AreFront : Input → List (List ℕ) → List LineData → Type 0
-AreFront input texts lines = AreLines is_begun input texts lines
+abbrev pub AreFirstLines : Input → List (List ℕ) → List LineData → Type 0
+AreFirstLines input texts lines = AreLines is_begun input texts lines
 
 -- the texts are those of an answer with these lines
 abbrev pub AreAnswer : Input → List (List ℕ) → List LineData → Type 0
 AreAnswer input texts lines = AreLines is_whole input texts lines
 
 -- some lines are the first of an answer; there may be none
-abbrev pub IsFront : Input → List (List ℕ) → Type 0
-IsFront input [] = Unit {0}
-IsFront input (text ∷ texts) = (lines : List LineData) × AreFront input (text ∷ texts) lines
+abbrev pub BeginAnAnswer : Input → List (List ℕ) → Type 0
+BeginAnAnswer input [] = Unit {0}
+BeginAnAnswer input (text ∷ texts) = (lines : List LineData) × AreFirstLines input (text ∷ texts) lines
 
 -- text k is the first that isn't of the form: those before it begin an answer, and with it they don't. Where all of them
 -- begin one and aren't a whole one, it is the one that is missing.
 pub record IsMisplaced (input : Input) (texts : List (List ℕ)) (k : ℕ) : Type 0 where
   pub within : k < suc (length texts)
-  pub before : IsFront input (take k texts)
-  pub here : k < length texts → ¬ IsFront input (take (k + 1) texts)
+  pub before : BeginAnAnswer input (take k texts)
+  pub here : k < length texts → ¬ BeginAnAnswer input (take (k + 1) texts)
   pub missing : k ≡ length texts → (lines : List LineData) → ¬ AreAnswer input texts lines
+
+-- why no answer is read; want of memory says nothing
+abbrev pub IsAnswerFault : Input → List (List ℕ) → AnswerFault → Type 0
+IsAnswerFault input texts (Misplaced k) = IsMisplaced input texts k
+IsAnswerFault input texts OutOfMemory = Unit {0}

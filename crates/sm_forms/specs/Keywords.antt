@@ -1,59 +1,39 @@
--- The keywords with which the lines of answers begin, as far as layouts name them.
+-- When two keywords are one.
 use Rattle.std.specs.Prelude.{ℕ, ◌==◌, Bool}
-use Rattle.sm_report.specs.Lines.{LineData}
-use Rattle.sm_forms.specs.declared.keywords.Keyword.{Keyword}
-use Rattle.sm_forms.specs.declared.keywords.Keyword.TheVariants as keyword
+use Rattle.sm_report.specs.declared.keywords.Keyword.{Keyword}
+use Rattle.sm_report.specs.declared.keywords.Keyword.TheVariants as keyword
 
--- the keyword of a line; a line that stands in no layout has another one
-abbrev pub keyword_of : LineData → Keyword
-keyword_of (LineData.Pair p r) = keyword.Pair
-keyword_of LineData.Nothing = keyword.Nothing
-keyword_of (LineData.Party persons) = keyword.Party
-keyword_of (LineData.First p seat) = keyword.First
-keyword_of (LineData.Last p seat) = keyword.Last
-keyword_of (LineData.ProposerList p seats) = keyword.Proposer
-keyword_of (LineData.ReviewerList seat proposers) = keyword.Reviewer
-keyword_of (LineData.Rotation i pairs) = keyword.Rotation
-keyword_of (LineData.Needs i needed) = keyword.Needs
-keyword_of (LineData.Gain i gain) = keyword.Gain
-keyword_of (LineData.Flow from to amount) = keyword.Flow
-keyword_of (LineData.Taken taken) = keyword.Taken
-keyword_of (LineData.Value value) = keyword.Value
-keyword_of (LineData.Cut value) = keyword.Cut
-keyword_of (LineData.Total weight) = keyword.Total
-keyword_of (LineData.Vector v) = keyword.Vector
-keyword_of (LineData.More v) = keyword.More
-keyword_of (LineData.Regret regret) = keyword.Regret
-keyword_of (LineData.LeftPair p r) = keyword.Left
-keyword_of (LineData.RightPair p r) = keyword.Right
-keyword_of LineData.End = keyword.End
-keyword_of _ = keyword.Other
-
--- two keywords are one: they have one number in the list of them
-abbrev pub number_of : Keyword → ℕ
-number_of keyword.Pair = 0
-number_of keyword.Nothing = 1
-number_of keyword.Party = 2
-number_of keyword.First = 3
-number_of keyword.Last = 4
-number_of keyword.Proposer = 5
-number_of keyword.Reviewer = 6
-number_of keyword.Rotation = 7
-number_of keyword.Needs = 8
-number_of keyword.Gain = 9
-number_of keyword.Flow = 10
-number_of keyword.Taken = 11
-number_of keyword.Value = 12
-number_of keyword.Cut = 13
-number_of keyword.Total = 14
-number_of keyword.Vector = 15
-number_of keyword.More = 16
-number_of keyword.Regret = 17
-number_of keyword.Left = 18
-number_of keyword.Right = 19
-number_of keyword.End = 20
-number_of keyword.Other = 21
+-- two keywords are one: they have one number in the list of them, in which those that layouts name stand first
+abbrev pub keyword_number : Keyword → ℕ
+keyword_number keyword.Pair = 0
+keyword_number keyword.Nothing = 1
+keyword_number keyword.Party = 2
+keyword_number keyword.First = 3
+keyword_number keyword.Last = 4
+keyword_number keyword.Proposer = 5
+keyword_number keyword.Reviewer = 6
+keyword_number keyword.Rotation = 7
+keyword_number keyword.Needs = 8
+keyword_number keyword.Gain = 9
+keyword_number keyword.Flow = 10
+keyword_number keyword.Taken = 11
+keyword_number keyword.Value = 12
+keyword_number keyword.Cut = 13
+keyword_number keyword.Total = 14
+keyword_number keyword.Vector = 15
+keyword_number keyword.More = 16
+keyword_number keyword.Regret = 17
+keyword_number keyword.Left = 18
+keyword_number keyword.Right = 19
+keyword_number keyword.End = 20
+keyword_number keyword.Answer = 21
+keyword_number keyword.Some = 22
+keyword_number keyword.All = 23
+keyword_number keyword.Listed = 24
+keyword_number keyword.Tally = 25
+keyword_number keyword.Yes = 26
+keyword_number keyword.No = 27
 
 -- whether two keywords are one
 abbrev pub is_same : Keyword → Keyword → Bool
-is_same a b = number_of a == number_of b
+is_same a b = keyword_number a == keyword_number b

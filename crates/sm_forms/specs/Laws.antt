@@ -3,16 +3,16 @@ use Rattle.std.specs.Prelude.{◌≡◌, ℕ, true, List, [], ◌∷◌, ◌++�
 use Rattle.std.specs.List.{list_any}
 use Rattle.sm_instance.specs.declared.inputs.Input.{Input}
 use Rattle.sm_report.specs.Heads.{HeadData}
-use Rattle.sm_forms.specs.declared.keywords.Keyword.{Keyword}
-use Rattle.sm_forms.specs.declared.keywords.Keyword.TheVariants as keyword
-use Rattle.sm_forms.specs.declared.layouts.Part.{Part}
+use Rattle.sm_report.specs.declared.keywords.Keyword.{Keyword}
+use Rattle.sm_report.specs.declared.keywords.Keyword.TheVariants as keyword
+use Rattle.sm_forms.specs.declared.layouts.LayoutPart.{LayoutPart}
 use Rattle.sm_forms.specs.declared.layouts.Opening.{Opening}
 use Rattle.sm_forms.specs.Layouts.{begins, is_begun, is_whole}
 use Rattle.sm_forms.specs.Forms.{layouts_of}
 
 -- the lines of a whole answer begin one
 abbrev pub WholeIsBegun : Type 0
-WholeIsBegun = (layouts : List (List Part)) (lines : List Opening) (k : ℕ)
+WholeIsBegun = (layouts : List (List LayoutPart)) (lines : List Opening) (k : ℕ)
     → is_whole layouts lines ≡ true → is_begun layouts (take k lines) ≡ true
 
 -- the keywords of the closing line

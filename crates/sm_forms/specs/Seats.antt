@@ -1,8 +1,11 @@
 -- The seats that lines name, and their numbers in the market of seats.
-use Rattle.std.specs.Prelude.{ℕ, ◌+◌, ◌-◌, ◌&&◌, nat_le, Bool, List, map}
+use Rattle.std.specs.Prelude.{◌≡◌, ℕ, ◌+◌, ◌-◌, ◌&&◌, nat_le, Bool, List, map}
 use Rattle.sm_instance.specs.Written.{Written}
+use Rattle.sm_instance.specs.declared.inputs.Input.{Input}
+use Rattle.sm_instance.specs.declared.inputs.Input.TheVariants.{Two, Room}
 use Rattle.sm_report.specs.declared.lines.Seat.{Seat}
 use Rattle.sm_seats.specs.SeatMarket.{seat_count, seats_before}
+use Rattle.sm_seats.specs.Counted.{first_seats_of}
 
 -- the reviewer has a seat of this number
 abbrev pub is_seat : Written → Seat → Bool
@@ -27,3 +30,8 @@ numbered w pair = (pair.0, seat_number w pair.1)
 -- the same of several pairs
 abbrev pub all_numbered : Written → List (ℕ × Seat) → List (ℕ × ℕ)
 all_numbered w pairs = map (numbered w) pairs
+
+-- the first seats of the reviewers of an instance with two sides
+abbrev pub AreFirsts : Input → List ℕ → Type 0
+AreFirsts (Two w) firsts = firsts ≡ first_seats_of w
+AreFirsts (Room persons) firsts = Unit {0}

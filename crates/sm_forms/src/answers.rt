@@ -6,7 +6,8 @@ ghost use Rattle.sm_report.specs.Lines.{line_of};
 ghost use Rattle.sm_report.specs.Sound.{IsLineOf};
 ghost use Rattle.sm_forms.specs.Layouts.{is_whole};
 ghost use Rattle.sm_forms.specs.Forms.{is_placed};
-ghost use Rattle.sm_forms.specs.Taking.{AreFirsts, IsSoFar, lines_in, Takes, Placed};
+ghost use Rattle.sm_forms.specs.Taking.{IsSoFar, lines_in, TakesLine, Placed};
+ghost use Rattle.sm_forms.specs.Seats.{AreFirsts};
 
 use crate::forms::fits;
 use crate::layouts::{Places, opening_of};
@@ -44,7 +45,7 @@ impl Answer {
         requires firsts { AreFirsts input.now firsts.now }
         requires so_far { IsSoFar input.now self.old }
         requires line { IsLineOf input.now (line_of line) }
-        ensures { IfOk result (λ taken. Takes input.now self.old self.new (line_of line) taken) }
+        ensures { IfOk result (λ taken. TakesLine input.now self.old self.new (line_of line) taken) }
     {
         if !fits(input, firsts, &line) {
             return Ok(false);

@@ -7,10 +7,9 @@ ghost use Rattle.sm_report.specs.Heads.{head_of};
 ghost use Rattle.sm_report.specs.Lines.{line_of, LineData};
 ghost use Rattle.sm_report.specs.Sound.{IsPrintable};
 ghost use Rattle.sm_seats.specs.SeatMarket.{seat_count};
-ghost use Rattle.sm_seats.specs.Tables.{first_seats_of};
-ghost use Rattle.sm_forms.specs.Seats.{is_seat, pair_has_seat};
+ghost use Rattle.sm_seats.specs.Counted.{first_seats_of};
+ghost use Rattle.sm_forms.specs.Seats.{is_seat, pair_has_seat, AreFirsts};
 ghost use Rattle.sm_forms.specs.Forms.{fits, fits_two, fits_room, has_one_each, begins_with_lowest};
-ghost use Rattle.sm_forms.specs.Taking.{AreFirsts};
 
 use sm_instance::{Input, Instance};
 use sm_report::{Head, Line, Seat};

@@ -5,18 +5,18 @@ ghost use Rattle.std.specs.List.{list_any};
 ghost use Rattle.sm_instance.specs.declared.inputs.Input.TheVariants.{Two, Room};
 ghost use Rattle.sm_report.specs.Heads.{head_of};
 ghost use Rattle.sm_report.specs.Lines.{line_of};
+ghost use Rattle.sm_forms.specs.Keywords.{is_same};
 ghost use Rattle.sm_forms.specs.Layouts.{behind, keyword_at, later, is_empty};
 ghost use Rattle.sm_forms.specs.Forms.{opening_of, number_in, layouts_of, layouts_of_two, layouts_of_room, first_turn, solve_layout, parties_layout, reduced_layout, rotations_layout, list_layout, regret_layout, weight_layout, given_layout};
-ghost use Rattle.sm_forms.specs.Lefts.{IsFit, IsTurn, AreTurns, IsTaken, IsRunning, AreRunning, lefts_of, lefts_in};
+ghost use Rattle.sm_forms.specs.Lefts.{IsFit, IsTurn, AreTurns, IsTakenAt, IsRunning, AreRunning, layout_left, layouts_left};
 
-use crate::keywords::{Keyword, is_same, keyword_of};
 use sm_instance::Input;
-use sm_report::{Head, Line};
+use sm_report::{Head, Keyword, Line, keyword_of};
 use std::alloc::{AllocError, Global};
 
 /// Whose turn it is among blocks of two lines, `rotation` and `needs`, or of three, with `gain` behind them.
 #[derive(Clone, Copy, Debug)]
-pub struct Turn {
+pub struct BlockTurn {
     /// How many lines a block has.
     pub lines: u32,
     /// The place in the block of the line that comes next, from 0.
@@ -27,13 +27,13 @@ pub struct Turn {
 
 /// A part of a layout.
 #[derive(Clone, Copy, Debug)]
-pub enum Part {
+pub enum LayoutPart {
     /// One line with this keyword.
     One(Keyword),
     /// Any number of lines with this keyword.
     Many(Keyword),
     /// Any number of blocks.
-    Blocks(Turn),
+    Blocks(BlockTurn),
 }
 
 /// How a line begins: its keyword, and the number of a rotation behind that, 0 where there is none.
@@ -78,21 +78,28 @@ fn keyword_at(place: u32) -> Keyword
     }
 }
 
+/// Whether two keywords are one.
+fn is_same(a: Keyword, b: Keyword) -> bool
+    ensures { result ≡ is_same a b }
+{
+    a == b
+}
+
 /// Whose turn it is behind the line whose turn it was.
-fn later(turn: Turn) -> Turn
+fn later(turn: BlockTurn) -> BlockTurn
     requires turn { IsTurn turn }
     requires number { turn.number ≤ 4294967294 }
     ensures later { result ≡ later turn }
     ensures turn { IsTurn result }
 {
     if turn.place + 1 == turn.lines {
-        Turn {
+        BlockTurn {
             lines: turn.lines,
             place: 0,
             number: turn.number + 1,
         }
     } else {
-        Turn {
+        BlockTurn {
             lines: turn.lines,
             place: turn.place + 1,
             number: turn.number,
@@ -112,27 +119,27 @@ enum Fit {
 }
 
 /// What a part does with a line.
-fn fit_part(part: Part, line: Opening) -> Fit
+fn fit_part(part: LayoutPart, line: Opening) -> Fit
     ensures { IsFit part line result }
 {
     match part {
-        Part::One(word) => if is_same(line.keyword, word) {
+        LayoutPart::One(word) => if is_same(line.keyword, word) {
             Fit::Takes
         } else {
             Fit::Ends
         },
-        Part::Many(word) => if is_same(line.keyword, word) {
+        LayoutPart::Many(word) => if is_same(line.keyword, word) {
             Fit::Takes
         } else {
             Fit::Passes
         },
-        Part::Blocks(turn) => fit_block(turn, line),
+        LayoutPart::Blocks(turn) => fit_block(turn, line),
     }
 }
 
 /// What blocks do with it.
-fn fit_block(turn: Turn, line: Opening) -> Fit
-    ensures { IsFit (Part.Blocks turn) line result }
+fn fit_block(turn: BlockTurn, line: Opening) -> Fit
+    ensures { IsFit (LayoutPart.Blocks turn) line result }
 {
     if is_same(line.keyword, keyword_at(turn.place)) {
         if line.number == turn.number {
@@ -150,11 +157,11 @@ fn fit_block(turn: Turn, line: Opening) -> Fit
 }
 
 /// The part that takes a line, of those from a place on.
-fn taking_part(parts: &[Part], from: usize, line: Opening) -> Option<usize>
+fn taking_part(parts: &[LayoutPart], from: usize, line: Opening) -> Option<usize>
     requires { from ≤ length parts.now }
     ensures { MatchOption result
         (behind (drop from parts.now) line ≡ None)
-        (λ at. IsTaken parts.now from line at) }
+        (λ at. IsTakenAt parts.now from line at) }
 {
     for at in from..parts.len() {
         match fit_part(parts[at], line) {
@@ -169,16 +176,16 @@ fn taking_part(parts: &[Part], from: usize, line: Opening) -> Option<usize>
 /// What is left of a layout behind some lines, if they fit there.
 #[derive(Drop)]
 pub(crate) struct Layout {
-    parts: Vec<Part>,
+    parts: Vec<LayoutPart>,
     at: usize,
     fits: bool,
 }
 
 impl Layout {
     /// A layout of which all is left.
-    fn of(parts: Vec<Part>) -> Layout
+    fn of(parts: Vec<LayoutPart>) -> Layout
         requires { AreTurns parts.items }
-        ensures left { lefts_of result ≡ parts.items ∷ [] }
+        ensures left { layout_left result ≡ parts.items ∷ [] }
         ensures running { IsRunning result }
     {
         Layout {
@@ -190,7 +197,7 @@ impl Layout {
 
     /// No layout.
     fn none(alloc: Global) -> Layout
-        ensures left { lefts_of result ≡ [] }
+        ensures left { layout_left result ≡ [] }
         ensures running { IsRunning result }
     {
         Layout {
@@ -204,8 +211,8 @@ impl Layout {
     fn take(&mut self, line: Opening)
         requires running { IsRunning self.old }
         requires number { line.number ≤ 4294967294 }
-        ensures left { lefts_of self.new ≡ filter_map (λ parts. behind parts line)
-            (lefts_of self.old) }
+        ensures left { layout_left self.new ≡ filter_map (λ parts. behind parts line)
+            (layout_left self.old) }
         ensures running { IsRunning self.new }
     {
         if !self.fits {
@@ -221,17 +228,17 @@ impl Layout {
     fn take_at(&mut self, at: usize, line: Opening)
         requires running { IsRunning self.old }
         requires number { line.number ≤ 4294967294 }
-        requires taken { IsTaken self.old.parts.items self.old.at line at }
+        requires taken { IsTakenAt self.old.parts.items self.old.at line at }
         requires fits { self.old.fits ≡ true }
-        ensures left { lefts_of self.new ≡ filter_map (λ parts. behind parts line)
-            (lefts_of self.old) }
+        ensures left { layout_left self.new ≡ filter_map (λ parts. behind parts line)
+            (layout_left self.old) }
         ensures running { IsRunning self.new }
     {
         match self.parts[at] {
-            Part::One(_) => self.at = at + 1,
-            Part::Many(_) => self.at = at,
-            Part::Blocks(turn) => {
-                self.parts[at] = Part::Blocks(later(turn));
+            LayoutPart::One(_) => self.at = at + 1,
+            LayoutPart::Many(_) => self.at = at,
+            LayoutPart::Blocks(turn) => {
+                self.parts[at] = LayoutPart::Blocks(later(turn));
                 self.at = at;
             }
         }
@@ -240,7 +247,7 @@ impl Layout {
     /// Whether they are a whole answer.
     fn is_whole(&self) -> bool
         requires { IsRunning self.now }
-        ensures { result ≡ list_any is_empty (lefts_of self.now) }
+        ensures { result ≡ list_any is_empty (layout_left self.now) }
     {
         self.fits && self.at == self.parts.len()
     }
@@ -256,7 +263,7 @@ pub(crate) struct Places {
 impl Places {
     /// No layout.
     pub(crate) fn none(alloc: Global) -> Places
-        ensures left { lefts_in result ≡ [] }
+        ensures left { layouts_left result ≡ [] }
         ensures running { AreRunning result }
     {
         Places {
@@ -271,7 +278,7 @@ impl Places {
     ///
     /// `AllocError` where memory ran out, and only then.
     pub(crate) fn of(alloc: Global, input: &Input, head: &Head) -> Result<Places, AllocError>
-        ensures left { IfOk result (λ places. lefts_in places
+        ensures left { IfOk result (λ places. layouts_left places
             ≡ layouts_of input.now (head_of head.now)) }
         ensures running { IfOk result (λ places. AreRunning places) }
     {
@@ -285,8 +292,8 @@ impl Places {
     pub(crate) fn take(&mut self, line: Opening)
         requires running { AreRunning self.old }
         requires number { line.number ≤ 4294967294 }
-        ensures left { lefts_in self.new ≡ filter_map (λ parts. behind parts line)
-            (lefts_in self.old) }
+        ensures left { layouts_left self.new ≡ filter_map (λ parts. behind parts line)
+            (layouts_left self.old) }
         ensures running { AreRunning self.new }
     {
         self.one.take(line);
@@ -295,7 +302,7 @@ impl Places {
 
     /// Whether the lines begin an answer.
     pub(crate) fn are_begun(&self) -> bool
-        ensures { result ≡ (if is_empty (lefts_in self.now) then false else true) }
+        ensures { result ≡ (if is_empty (layouts_left self.now) then false else true) }
     {
         self.one.fits || self.other.fits
     }
@@ -303,7 +310,7 @@ impl Places {
     /// Whether they are a whole one.
     pub(crate) fn are_whole(&self) -> bool
         requires { AreRunning self.now }
-        ensures { result ≡ list_any is_empty (lefts_in self.now) }
+        ensures { result ≡ list_any is_empty (layouts_left self.now) }
     {
         self.one.is_whole() || self.other.is_whole()
     }
@@ -311,7 +318,7 @@ impl Places {
 
 /// Those over an instance with two sides.
 fn places_of_two(alloc: Global, head: &Head) -> Result<Places, AllocError>
-    ensures left { IfOk result (λ places. lefts_in places ≡ layouts_of_two (head_of head.now)) }
+    ensures left { IfOk result (λ places. layouts_left places ≡ layouts_of_two (head_of head.now)) }
     ensures running { IfOk result (λ places. AreRunning places) }
 {
     match head {
@@ -334,7 +341,7 @@ fn places_of_two(alloc: Global, head: &Head) -> Result<Places, AllocError>
 
 /// Those over one of roommates.
 fn places_of_room(alloc: Global, head: &Head) -> Result<Places, AllocError>
-    ensures left { IfOk result (λ places. lefts_in places ≡ layouts_of_room (head_of head.now)) }
+    ensures left { IfOk result (λ places. layouts_left places ≡ layouts_of_room (head_of head.now)) }
     ensures running { IfOk result (λ places. AreRunning places) }
 {
     match head {
@@ -349,7 +356,7 @@ fn places_of_room(alloc: Global, head: &Head) -> Result<Places, AllocError>
 /// A single layout.
 fn only(alloc: Global, layout: Layout) -> Places
     requires { IsRunning layout }
-    ensures left { lefts_in result ≡ lefts_of layout }
+    ensures left { layouts_left result ≡ layout_left layout }
     ensures running { AreRunning result }
 {
     Places {
@@ -360,106 +367,109 @@ fn only(alloc: Global, layout: Layout) -> Places
 
 /// The layout of a matching.
 fn solve_layout(alloc: Global) -> Result<Layout, AllocError>
-    ensures left { IfOk result (λ layout. lefts_of layout ≡ solve_layout ∷ []) }
+    ensures left { IfOk result (λ layout. layout_left layout ≡ solve_layout ∷ []) }
     ensures running { IfOk result (λ layout. IsRunning layout) }
 {
-    Ok(Layout::of(vec![in alloc; Part::Many(Keyword::Pair), Part::One(Keyword::End)]?))
+    Ok(Layout::of(vec![in alloc;
+        LayoutPart::Many(Keyword::Pair),
+        LayoutPart::One(Keyword::End),
+    ]?))
 }
 
 /// The layout of parties.
 fn parties_layout(alloc: Global) -> Result<Layout, AllocError>
-    ensures left { IfOk result (λ layout. lefts_of layout ≡ parties_layout ∷ []) }
+    ensures left { IfOk result (λ layout. layout_left layout ≡ parties_layout ∷ []) }
     ensures running { IfOk result (λ layout. IsRunning layout) }
 {
     Ok(Layout::of(vec![in alloc;
-        Part::One(Keyword::Nothing),
-        Part::Many(Keyword::Party),
-        Part::One(Keyword::End),
+        LayoutPart::One(Keyword::Nothing),
+        LayoutPart::Many(Keyword::Party),
+        LayoutPart::One(Keyword::End),
     ]?))
 }
 
 /// The layout of `reduced`.
 fn reduced_layout(alloc: Global) -> Result<Layout, AllocError>
-    ensures left { IfOk result (λ layout. lefts_of layout ≡ reduced_layout ∷ []) }
+    ensures left { IfOk result (λ layout. layout_left layout ≡ reduced_layout ∷ []) }
     ensures running { IfOk result (λ layout. IsRunning layout) }
 {
     Ok(Layout::of(vec![in alloc;
-        Part::Many(Keyword::First),
-        Part::Many(Keyword::Last),
-        Part::Many(Keyword::Proposer),
-        Part::Many(Keyword::Reviewer),
-        Part::One(Keyword::End),
+        LayoutPart::Many(Keyword::First),
+        LayoutPart::Many(Keyword::Last),
+        LayoutPart::Many(Keyword::Proposer),
+        LayoutPart::Many(Keyword::Reviewer),
+        LayoutPart::One(Keyword::End),
     ]?))
 }
 
 /// The layout of `rotations`.
 fn rotations_layout(alloc: Global) -> Result<Layout, AllocError>
-    ensures left { IfOk result (λ layout. lefts_of layout ≡ rotations_layout ∷ []) }
+    ensures left { IfOk result (λ layout. layout_left layout ≡ rotations_layout ∷ []) }
     ensures running { IfOk result (λ layout. IsRunning layout) }
 {
     Ok(Layout::of(vec![in alloc;
-        Part::Many(Keyword::First),
-        Part::Blocks(first_turn(2)),
-        Part::One(Keyword::End),
+        LayoutPart::Many(Keyword::First),
+        LayoutPart::Blocks(first_turn(2)),
+        LayoutPart::One(Keyword::End),
     ]?))
 }
 
 /// The layout of `list` with this last line.
 fn list_layout(alloc: Global, last: Keyword) -> Result<Layout, AllocError>
-    ensures left { IfOk result (λ layout. lefts_of layout ≡ list_layout last ∷ []) }
+    ensures left { IfOk result (λ layout. layout_left layout ≡ list_layout last ∷ []) }
     ensures running { IfOk result (λ layout. IsRunning layout) }
 {
-    Ok(Layout::of(vec![in alloc; Part::Many(Keyword::Vector), Part::One(last)]?))
+    Ok(Layout::of(vec![in alloc; LayoutPart::Many(Keyword::Vector), LayoutPart::One(last)]?))
 }
 
 /// The layout of `regret`.
 fn regret_layout(alloc: Global) -> Result<Layout, AllocError>
-    ensures left { IfOk result (λ layout. lefts_of layout ≡ regret_layout ∷ []) }
+    ensures left { IfOk result (λ layout. layout_left layout ≡ regret_layout ∷ []) }
     ensures running { IfOk result (λ layout. IsRunning layout) }
 {
     Ok(Layout::of(vec![in alloc;
-        Part::One(Keyword::Regret),
-        Part::Many(Keyword::Pair),
-        Part::One(Keyword::End),
+        LayoutPart::One(Keyword::Regret),
+        LayoutPart::Many(Keyword::Pair),
+        LayoutPart::One(Keyword::End),
     ]?))
 }
 
 /// The layout of `weight`.
 fn weight_layout(alloc: Global) -> Result<Layout, AllocError>
-    ensures left { IfOk result (λ layout. lefts_of layout ≡ weight_layout ∷ []) }
+    ensures left { IfOk result (λ layout. layout_left layout ≡ weight_layout ∷ []) }
     ensures running { IfOk result (λ layout. IsRunning layout) }
 {
     Ok(Layout::of(vec![in alloc;
-        Part::Many(Keyword::First),
-        Part::Blocks(first_turn(3)),
-        Part::Many(Keyword::Flow),
-        Part::One(Keyword::Taken),
-        Part::One(Keyword::Value),
-        Part::One(Keyword::Cut),
-        Part::One(Keyword::Total),
-        Part::Many(Keyword::Pair),
-        Part::One(Keyword::End),
+        LayoutPart::Many(Keyword::First),
+        LayoutPart::Blocks(first_turn(3)),
+        LayoutPart::Many(Keyword::Flow),
+        LayoutPart::One(Keyword::Taken),
+        LayoutPart::One(Keyword::Value),
+        LayoutPart::One(Keyword::Cut),
+        LayoutPart::One(Keyword::Total),
+        LayoutPart::Many(Keyword::Pair),
+        LayoutPart::One(Keyword::End),
     ]?))
 }
 
 /// The layout of `meet` and `join`.
 fn given_layout(alloc: Global) -> Result<Layout, AllocError>
-    ensures left { IfOk result (λ layout. lefts_of layout ≡ given_layout ∷ []) }
+    ensures left { IfOk result (λ layout. layout_left layout ≡ given_layout ∷ []) }
     ensures running { IfOk result (λ layout. IsRunning layout) }
 {
     Ok(Layout::of(vec![in alloc;
-        Part::Many(Keyword::Left),
-        Part::Many(Keyword::Right),
-        Part::Many(Keyword::Pair),
-        Part::One(Keyword::End),
+        LayoutPart::Many(Keyword::Left),
+        LayoutPart::Many(Keyword::Right),
+        LayoutPart::Many(Keyword::Pair),
+        LayoutPart::One(Keyword::End),
     ]?))
 }
 
 /// The turn of the first line of the first of blocks of so many lines.
-fn first_turn(lines: u32) -> Turn
+fn first_turn(lines: u32) -> BlockTurn
     ensures { result ≡ first_turn lines }
 {
-    Turn {
+    BlockTurn {
         lines,
         place: 0,
         number: 1,

@@ -7,14 +7,12 @@
 mod answer_fault;
 mod answers;
 mod forms;
-mod keywords;
 pub mod laws;
 mod layouts;
 mod numbering;
 mod reading;
 
 pub use answer_fault::AnswerFault;
-pub use keywords::Keyword;
-pub use layouts::{Opening, Part, Turn};
+pub use layouts::{BlockTurn, LayoutPart, Opening};
 pub use numbering::{rotation_of, seat_number, seat_numbers};
 pub use reading::read_answer;

@@ -3,7 +3,7 @@
 ghost use Rattle.std.specs.Prelude.{◌≡◌, ◌<◌, length, true, IfOk};
 ghost use Rattle.std.specs.List.{All, list_all};
 ghost use Rattle.sm_seats.specs.SeatMarket.{seat_market};
-ghost use Rattle.sm_seats.specs.Tables.{first_seats_of};
+ghost use Rattle.sm_seats.specs.Counted.{first_seats_of};
 ghost use Rattle.sm_forms.specs.Seats.{is_seat, pair_has_seat, seat_number, seat_numbers, all_numbered};
 
 use sm_instance::Instance;

@@ -4,8 +4,9 @@ ghost use Rattle.std.specs.Prelude.{◌+◌, ◌<◌, ◌^◌, length, map, IfOk
 ghost use Rattle.sm_text.specs.Lines.{lines, content};
 ghost use Rattle.sm_instance.specs.Inputs.{IsInput};
 ghost use Rattle.sm_report.specs.Lines.{line_of};
-ghost use Rattle.sm_forms.specs.Forms.{AreAnswer};
-ghost use Rattle.sm_forms.specs.Taking.{AreFirsts, IsAnswerFault, TakesText, IsSoFar};
+ghost use Rattle.sm_forms.specs.Forms.{AreAnswer, IsAnswerFault};
+ghost use Rattle.sm_forms.specs.Taking.{TakesText, IsSoFar};
+ghost use Rattle.sm_forms.specs.Seats.{AreFirsts};
 
 use crate::answer_fault::AnswerFault;
 use crate::answers::Answer;

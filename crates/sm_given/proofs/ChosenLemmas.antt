@@ -18,7 +18,7 @@ use Rattle.sm_report.specs.Lines.{LineData}
 use Rattle.sm_report.specs.Sound.{IsLineOf}
 use Rattle.sm_given.specs.MatchingLines.{pair_data, matching_line}
 use Rattle.sm_pairs.specs.Held.{places_in}
-use Rattle.sm_given.specs.Given.{AreFound}
+use Rattle.sm_given.specs.Given.{AreStableGiven}
 use Rattle.sm_pairs.specs.Chosen.{chosen_places, head_for}
 use Rattle.sm_pairs.proofs.ChoiceLemmas.{chosen_assigned}
 use Rattle.sm_given.specs.Chosen.{pair_lines, chosen_lines, IsChosenAnswer}
@@ -58,7 +58,7 @@ lines_sound choice w m n input two h hm hn =
     head_line Worse = record { printable = tt; seats = λ k d l. absurd (omega (arith, l)); numbers = tt; head = tt }
 
 -- the lines of two matchings that were given and of the chosen one are right
-pub lines_right : (choice : Choice) (w : Written) (texts : List (List ℕ)) (given : Given) → AreFound w texts given
+pub lines_right : (choice : Choice) (w : Written) (texts : List (List ℕ)) (given : Given) → AreStableGiven w texts given
     → IsChosenAnswer choice texts w (chosen_lines choice w given.left.places.items given.right.places.items)
 lines_right choice w texts given found = record {
   left = found.left;

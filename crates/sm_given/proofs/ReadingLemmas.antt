@@ -15,7 +15,7 @@ use Rattle.sm_report.specs.Reading.{HasText}
 use Rattle.sm_report.specs.Texts.{text_of_line}
 use Rattle.sm_report.proofs.ReadLemmas.{one_line}
 use Rattle.sm_given.specs.GivenText.{texts_from, left_pair, right_pair, given_lines, ArePairs, AreGiven, AreBegun, IsBadLine, misplaced, missing}
-use Rattle.sm_given.specs.Taking.{end_so_far, lines_so_far, FitsGroup, AreInTurn, HasPlace, Took, TookText, Takes, TakesText}
+use Rattle.sm_given.specs.Taking.{end_so_far, lines_so_far, FitsGroup, AreInTurn, HasPlace, Took, TookText, TakesLine, TakesText}
 use Rattle.sm_given.specs.declared.pairs.Group.{Group}
 use Rattle.sm_given.specs.declared.pairs.Group.TheVariants.{Left, Right, Ended}
 use Rattle.sm_given.specs.declared.pairs.GivenPairs.{GivenPairs}
@@ -103,7 +103,7 @@ not_ended pairs l r e none = let b = left_behind pairs l r [] (e ∙ sym (append
 
 -- a text that no line that may stand there has, or one whose line was taken
 pub takes_text : (input : Input) → IsInput input → (before after : GivenPairs) (line : LineData) (text : List ℕ) (fits : Bool)
-    → HasText input text line → Takes before after line fits → TakesText input before after text fits
+    → HasText input text line → TakesLine before after line fits → TakesText input before after text fits
 takes_text input h before after line text true has took = record { line = line; has = has; took = took }
 takes_text input h before after line text false has cant = λ other has' place. cant (subst (HasPlace before.group) (one_line input text other line h has' has) place)
 
@@ -128,16 +128,16 @@ taken_more input texts before after text rest t k =
     }
 
 -- one line more of a text
-pub texts_step : (bytes : List ℕ) (at : ℕ) (span : LineSpan) → IsLineAt bytes at span → texts_from bytes at ≡ take (span.stop - span.start) (drop span.start bytes) ∷ texts_from bytes span.next
-texts_step bytes at span h = ap (map content) h.leads ∙ ap (λ t. t ∷ texts_from bytes span.next) (sym (line_text bytes at span h))
+pub texts_from-step : (bytes : List ℕ) (at : ℕ) (span : LineSpan) → IsLineAt bytes at span → texts_from bytes at ≡ take (span.stop - span.start) (drop span.start bytes) ∷ texts_from bytes span.next
+texts_from-step bytes at span h = ap (map content) h.leads ∙ ap (λ t. t ∷ texts_from bytes span.next) (sym (line_text bytes at span h))
 
 -- and behind it there is one line less
 pub fewer_lines : (bytes : List ℕ) (at : ℕ) (span : LineSpan) → IsLineAt bytes at span → length (lines (drop at bytes)) ≡ length (lines (drop span.next bytes)) + 1
 fewer_lines bytes at span h = let e : length (lines (drop at bytes)) ≡ length (first_line (drop at bytes) ∷ lines (drop span.next bytes)) = ap length h.leads in omega (arith, e)
 
 -- past the end there are none
-pub texts_over : (bytes : List ℕ) (at : ℕ) → length bytes ≤ at → texts_from bytes at ≡ []
-texts_over bytes at le = ap (λ rest. map content (lines rest)) (drop_all at bytes le)
+pub texts_from-over : (bytes : List ℕ) (at : ℕ) → length bytes ≤ at → texts_from bytes at ≡ []
+texts_from-over bytes at le = ap (λ rest. map content (lines rest)) (drop_all at bytes le)
 
 -- lines with equal texts are equal
 parse : (input : Input) → IsInput input → (a b : List LineData) (rest : List (List ℕ)) → All (IsLineOf input) a → All (IsLineOf input) b

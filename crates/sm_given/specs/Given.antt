@@ -7,7 +7,7 @@ use Rattle.sm_pairs.specs.Held.{places_in, GiveStable}
 use Rattle.sm_given.specs.declared.given.Given.{Given}
 
 -- the texts are those of two stable matchings, and these are they
-pub record AreFound (w : Written) (texts : List (List ℕ)) (given : Given) : Type 0 where
+pub record AreStableGiven (w : Written) (texts : List (List ℕ)) (given : Given) : Type 0 where
   pub left : List (ℕ × ℕ)
   pub right : List (ℕ × ℕ)
   pub are_given : AreGiven (Two w) texts left right

@@ -45,7 +45,7 @@ pub data IsBadLine (input : Input) (texts : List (List ℕ)) (k : ℕ) : Type 0 
   missing : k ≡ length texts → AreBegun input texts → ((left right : List (ℕ × ℕ)) → ¬ AreGiven input texts left right) → IsBadLine input texts k
 
 -- the line, counted from 1, that is the first bad one of texts, of which the first stands on this line
-pub record IsBadAt (input : Input) (texts : List (List ℕ)) (first_line at : ℕ) : Type 0 where
+pub record IsBadGivenAt (input : Input) (texts : List (List ℕ)) (first_line at : ℕ) : Type 0 where
   pub k : ℕ
   pub bad : IsBadLine input texts k
   pub there : at ≡ first_line + k

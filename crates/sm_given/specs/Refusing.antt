@@ -3,8 +3,9 @@ use Rattle.std.specs.Prelude.{◌≡◌, ℕ, ◌+◌, List, length, Option}
 use Rattle.sm_instance.specs.Written.{Written}
 use Rattle.sm_instance.specs.Stable.{IsStable, IsFirstBlocking}
 use Rattle.sm_instance.specs.declared.inputs.Input.TheVariants.{Two}
-use Rattle.sm_given.specs.GivenText.{AreGiven, IsBadAt}
-use Rattle.sm_pairs.specs.Held.{places_in, pair_at, IsFirstBreach, CanHold}
+use Rattle.sm_given.specs.GivenText.{AreGiven, IsBadGivenAt}
+use Rattle.sm_pairs.specs.Held.{places_in, IsFirstBreach, CanHold}
+use Rattle.sm_lists.specs.Pairs.{pair_at}
 use Rattle.sm_given.specs.declared.faults.Which.{Which}
 use Rattle.sm_given.specs.declared.faults.Which.TheVariants.{Left, Right}
 use Rattle.sm_given.specs.declared.faults.Flaw.TheVariants.{Breach, Blocks}
@@ -53,7 +54,7 @@ pub record AreUnstable (w : Written) (texts : List (List ℕ)) (line : ℕ) (u :
 
 -- why there are no two stable matchings; want of memory says nothing
 abbrev pub IsGivenFault : Written → List (List ℕ) → ℕ → GivenFault → Type 0
-IsGivenFault w texts line (BadAnswer at) = IsBadAt (Two w) texts line at
+IsGivenFault w texts line (BadAnswer at) = IsBadGivenAt (Two w) texts line at
 IsGivenFault w texts line (NotStable u) = AreUnstable w texts line u
 IsGivenFault w texts line OutOfMemory = Unit {0}
 

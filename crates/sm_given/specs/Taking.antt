@@ -3,7 +3,7 @@ use Rattle.std.specs.Prelude.{◌≡◌, ◌≢◌, ℕ, Bool, true, false, List
 use Rattle.sm_instance.specs.declared.inputs.Input.{Input}
 use Rattle.sm_report.specs.Lines.{LineData}
 use Rattle.sm_report.specs.Reading.{HasText}
-use Rattle.sm_given.specs.GivenText.{left_pair, right_pair, IsBadAt}
+use Rattle.sm_given.specs.GivenText.{left_pair, right_pair, IsBadGivenAt}
 use Rattle.sm_given.specs.declared.faults.GivenFault.{GivenFault}
 use Rattle.sm_given.specs.declared.faults.GivenFault.TheVariants.{BadAnswer, NotStable, OutOfMemory}
 use Rattle.sm_given.specs.declared.pairs.Group.{Group}
@@ -45,9 +45,9 @@ pub record Took (before after : GivenPairs) (line : LineData) : Type 0 where
   pub in_turn : AreInTurn after
 
 -- true says that the line was taken, and false that it may not stand there
-abbrev pub Takes : (before after : GivenPairs) → LineData → Bool → Type 0
-Takes before after line true = Took before after line
-Takes before after line false = ¬ HasPlace before.group line
+abbrev pub TakesLine : (before after : GivenPairs) → LineData → Bool → Type 0
+TakesLine before after line true = Took before after line
+TakesLine before after line false = ¬ HasPlace before.group line
 
 -- what came of taking the line of a text: each line that has the text can't stand there, or it was taken
 pub record TookText (input : Input) (before after : GivenPairs) (text : List ℕ) : Type 0 where
@@ -61,7 +61,7 @@ TakesText input before after text true = TookText input before after text
 TakesText input before after text false = (line : LineData) → HasText input text line → ¬ HasPlace before.group line
 
 -- why no two matchings are read; want of memory says nothing
-abbrev pub IsReadFault : Input → List (List ℕ) → ℕ → GivenFault → Type 0
-IsReadFault input texts first_line (BadAnswer at) = IsBadAt input texts first_line at
-IsReadFault input texts first_line (NotStable u) = ⊥
-IsReadFault input texts first_line OutOfMemory = Unit {0}
+abbrev pub IsGivenReadFault : Input → List (List ℕ) → ℕ → GivenFault → Type 0
+IsGivenReadFault input texts first_line (BadAnswer at) = IsBadGivenAt input texts first_line at
+IsGivenReadFault input texts first_line (NotStable u) = ⊥
+IsGivenReadFault input texts first_line OutOfMemory = Unit {0}

@@ -5,7 +5,7 @@ ghost use Rattle.sm_answer.specs.Giving.{HasRest};
 ghost use Rattle.sm_answer.specs.Printing.{IsShown};
 ghost use Rattle.sm_instance.specs.Matching.{IsAssignment};
 ghost use Rattle.sm_instance.specs.declared.inputs.Input.TheVariants.{Two};
-ghost use Rattle.sm_given.specs.Given.{AreFound};
+ghost use Rattle.sm_given.specs.Given.{AreStableGiven};
 ghost use Rattle.sm_pairs.specs.Chosen.{chosen_places, head_for};
 ghost use Rattle.sm_given.specs.Chosen.{IsChosenAnswer};
 ghost use Rattle.sm_report.specs.Heads.{head_of};
@@ -43,7 +43,7 @@ pub fn chosen_lines<'a>(
     requires chosen { chosen.now.places.items
         ≡ chosen_places choice instance.now given.now.left.places.items
         given.now.right.places.items }
-    ensures right { (texts : List (List ℕ)) → AreFound instance.now texts given.now
+    ensures right { (texts : List (List ℕ)) → AreStableGiven instance.now texts given.now
         → (lines : List (List ℕ)) → ⟦<ChosenLines<'a> as Lines>⟧.gives result lines
         → IsShown input.now (IsChosenAnswer choice texts instance.now) lines }
     ensures some { HasRest (⟦<ChosenLines<'a> as Lines>⟧.gives result) }

@@ -6,7 +6,7 @@ ghost use Rattle.sm_instance.specs.Matching.{IsMatching};
 ghost use Rattle.sm_instance.specs.Stable.{IsStable};
 ghost use Rattle.sm_instance.specs.declared.inputs.Input.TheVariants.{Two};
 ghost use Rattle.sm_given.specs.GivenText.{texts_from};
-ghost use Rattle.sm_given.specs.Given.{AreFound};
+ghost use Rattle.sm_given.specs.Given.{AreStableGiven};
 ghost use Rattle.sm_given.specs.Refusing.{IsGivenFault, IsBlocking};
 
 use crate::faults::{Flaw, GivenFault, Unstable, Which};
@@ -45,7 +45,7 @@ pub fn find_given(
 ) -> Result<Given, GivenFault>
     requires input { input.now ≡ Two instance.now }
     requires few { first_line + length (lines (drop from bytes.now)) < 2 ^ 32 }
-    ensures given { IfOk result (λ given. AreFound instance.now (texts_from bytes.now from) given) }
+    ensures given { IfOk result (λ given. AreStableGiven instance.now (texts_from bytes.now from) given) }
     ensures fault { IfErr result (λ f. IsGivenFault instance.now (texts_from bytes.now from)
         first_line f) }
 {

@@ -2,7 +2,7 @@
 
 ghost use Rattle.std.specs.Prelude.{◌≡◌, [], IfOk};
 ghost use Rattle.sm_report.specs.Lines.{line_of, LineData};
-ghost use Rattle.sm_given.specs.Taking.{lines_so_far, Takes, AreInTurn};
+ghost use Rattle.sm_given.specs.Taking.{lines_so_far, TakesLine, AreInTurn};
 
 use sm_report::Line;
 use std::alloc::{AllocFailed, Global};
@@ -42,7 +42,7 @@ impl GivenPairs {
     /// Takes the next line, and answers `false` where it can't stand there.
     pub(crate) fn take(&mut self, line: &Line) -> Result<bool, AllocFailed<(u32, u32)>>
         requires { AreInTurn self.old }
-        ensures { IfOk result (λ fits. Takes self.old self.new (line_of line.now) fits) }
+        ensures { IfOk result (λ fits. TakesLine self.old self.new (line_of line.now) fits) }
     {
         match line {
             Line::LeftPair(p, r) => self.take_left(*p, *r),
@@ -55,7 +55,7 @@ impl GivenPairs {
     /// Takes a pair of the left matching.
     fn take_left(&mut self, p: u32, r: u32) -> Result<bool, AllocFailed<(u32, u32)>>
         requires { AreInTurn self.old }
-        ensures { IfOk result (λ fits. Takes self.old self.new (LineData.LeftPair p r) fits) }
+        ensures { IfOk result (λ fits. TakesLine self.old self.new (LineData.LeftPair p r) fits) }
     {
         match self.group {
             Group::Left => {
@@ -69,7 +69,7 @@ impl GivenPairs {
     /// Takes a pair of the right matching.
     fn take_right(&mut self, p: u32, r: u32) -> Result<bool, AllocFailed<(u32, u32)>>
         requires { AreInTurn self.old }
-        ensures { IfOk result (λ fits. Takes self.old self.new (LineData.RightPair p r) fits) }
+        ensures { IfOk result (λ fits. TakesLine self.old self.new (LineData.RightPair p r) fits) }
     {
         match self.group {
             Group::Left | Group::Right => {
@@ -84,7 +84,7 @@ impl GivenPairs {
     /// Takes the closing line.
     fn take_end(&mut self) -> bool
         requires { AreInTurn self.old }
-        ensures { Takes self.old self.new LineData.End result }
+        ensures { TakesLine self.old self.new LineData.End result }
     {
         match self.group {
             Group::Left | Group::Right => {

@@ -4,7 +4,7 @@ ghost use Rattle.std.specs.Prelude.{◌+◌, ◌<◌, ◌^◌, length, drop, IfO
 ghost use Rattle.sm_text.specs.Lines.{lines};
 ghost use Rattle.sm_instance.specs.Inputs.{IsInput};
 ghost use Rattle.sm_given.specs.GivenText.{texts_from, AreGiven};
-ghost use Rattle.sm_given.specs.Taking.{AreInTurn, TakesText, IsReadFault};
+ghost use Rattle.sm_given.specs.Taking.{AreInTurn, TakesText, IsGivenReadFault};
 
 use crate::faults::GivenFault;
 use crate::pairs::{GivenPairs, Group};
@@ -25,7 +25,7 @@ pub(crate) fn read_pairs(
     requires few { first_line + length (lines (drop from bytes.now)) < 2 ^ 32 }
     ensures given { IfOk result (λ g. AreGiven input.now (texts_from bytes.now from) g.left.items
         g.right.items) }
-    ensures fault { IfErr result (λ f. IsReadFault input.now (texts_from bytes.now from)
+    ensures fault { IfErr result (λ f. IsGivenReadFault input.now (texts_from bytes.now from)
         first_line f) }
 {
     let mut pairs = GivenPairs::new(alloc);

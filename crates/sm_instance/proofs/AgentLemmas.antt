@@ -22,9 +22,9 @@ pub agent_here : (agents : List Agent) (i : ℕ) (agent : Agent) → i < length 
 agent_here agents i agent below here = get_or-map agent_of agents i agent no_agent below ∙ ap agent_of (sym here)
 
 -- one more agent's entries
-pub entries_more : (agents : List Agent) (i : ℕ) (agent : Agent) → i < length agents → agent ≡ get_or agents i agent
+pub entries_of-take_suc : (agents : List Agent) (i : ℕ) (agent : Agent) → i < length agents → agent ≡ get_or agents i agent
     → entries_of (take (i + 1) (agents_of agents)) ≡ entries_of (take i (agents_of agents)) + length agent.entries.items
-entries_more agents i agent below here =
+entries_of-take_suc agents i agent below here =
     sum_by_more (λ (x : AgentData). length x.entries) (agents_of agents) i no_agent (omega (arith, length-agents agents))
     ∙ ap (λ (x : AgentData). entries_of (take i (agents_of agents)) + length x.entries) (agent_here agents i agent below here)
 

@@ -5,9 +5,9 @@ use Rattle.std.proofs.lemmas.Bool.Decides.{nat_tests}
 use Rattle.sm_instance.specs.Written.{Written, row, entry, place_of}
 use Rattle.sm_instance.specs.Sound.{IsInstance}
 use Rattle.sm_instance.specs.Matching.{standing, IsMatching}
-use Rattle.sm_instance.specs.Stable.{Blocks, IsStable, IsFirstBlocking}
+use Rattle.sm_instance.specs.Stable.{Blocks, IsStable, IsFirstBlocking, IsGainLimit}
 use Rattle.sm_instance.specs.Kept.{naming_at, AreNamingsOf, cross_place}
-use Rattle.sm_instance.specs.Loads.{IsGainLimit, IsFirstAt, IsFirstPairBelow, IsFirstBelow, is_sooner, sooner_of}
+use Rattle.sm_instance.specs.Loads.{IsFirstBlockingWith, IsFirstPairBelow, IsFirstBelow, is_sooner, sooner_of}
 use Rattle.sm_instance.specs.declared.namings.Naming.{Naming}
 use Rattle.sm_instance.proofs.ListLemmas.{row_in_range}
 use Rattle.sm_instance.proofs.PlaceLemmas.{place_of-entry}
@@ -41,7 +41,7 @@ blocking_named {w} {places} {r} {all} named e le none q before h =
 
 -- where no earlier naming of r blocks and this one does, it is the first that blocks with r
 pub first_at : {w : Written} {places : List (Option ℕ)} {r : ℕ} {all : List Naming} → IsInstance w → AreNamingsOf w.proposers r all → (e : ℕ) → e < length all → ((f : ℕ) → f < e → ¬ Blocks w places (naming_at all f).by r)
-    → Blocks w places (naming_at all e).by (entry w.proposers (naming_at all e).by (naming_at all e).place) → IsFirstAt w places r (naming_at all e)
+    → Blocks w places (naming_at all e).by (entry w.proposers (naming_at all e).by (naming_at all e).place) → IsFirstBlockingWith w places r (naming_at all e)
 first_at {w} {places} {r} {all} inst named e l none h =
     let there = named.names e l in
     record {
@@ -76,7 +76,7 @@ module _ (w : Written) (places : List (Option ℕ)) (r : ℕ) where
       }
 
   -- a pair with r is the first
-  takes_first : (n : Naming) → IsFirstAt w places r n → ((q s : ℕ) → s < r → q < n.by → ¬ Blocks w places q s) → ((s : ℕ) → s < r → place_of w.proposers n.by s < n.place → ¬ Blocks w places n.by s) → IsFirstPairBelow w places (r + 1) n
+  takes_first : (n : Naming) → IsFirstBlockingWith w places r n → ((q s : ℕ) → s < r → q < n.by → ¬ Blocks w places q s) → ((s : ℕ) → s < r → place_of w.proposers n.by s < n.place → ¬ Blocks w places n.by s) → IsFirstPairBelow w places (r + 1) n
   takes_first n h earlier here =
       record {
         reviewer = r;
@@ -88,7 +88,7 @@ module _ (w : Written) (places : List (Option ℕ)) (r : ℕ) where
       }
 
   -- one more reviewer: the sooner of the pair found so far and of its own
-  pub first_more : (a b : Option Naming) → IsFirstBelow w places r a → MatchOption b ((p : ℕ) → ¬ Blocks w places p r) (λ n. IsFirstAt w places r n) → IsFirstBelow w places (r + 1) (sooner_of a b)
+  pub first_more : (a b : Option Naming) → IsFirstBelow w places r a → MatchOption b ((p : ℕ) → ¬ Blocks w places p r) (λ n. IsFirstBlockingWith w places r n) → IsFirstBelow w places (r + 1) (sooner_of a b)
   first_more None None h k = λ p s l b. ⊎_elim (λ less. h p s less b) (λ ge. let same : s ≡ r = omega arith in k p (let Q : ℕ → Type 0 = λ t. Blocks w places p t in subst Q same b)) (cases_lt s r)
   first_more None (Some n) h k = takes_first n k (λ q s l lt. h q s l) (λ s l lt. h n.by s l)
   first_more (Some m) None h k = keeps_first m h (λ q lt. k q) (λ lt. k m.by)

@@ -11,7 +11,7 @@ use Rattle.sm_instance.specs.Loads.{IsFirstOf, IsUnacceptable, IsOverfull, IsOve
 use Rattle.sm_instance.specs.declared.namings.Naming.{Naming}
 use Rattle.sm_instance.proofs.ListLemmas.{row_in_range}
 use Rattle.sm_instance.proofs.AcceptLemmas.{cross_some}
-use Rattle.sm_instance.proofs.LoadLemmas.{load_more_yes, load_more_no, load_more, test_cases, place_at, at_place, IsCounted, IsWorstSoFar, load_next, counted_end, named_at}
+use Rattle.sm_instance.proofs.LoadLemmas.{load_before-suc_at, load_before-suc_other, load_before-suc, test_cases, place_at, at_place, IsCounted, IsWorstSoFar, load_next, counted_end, named_at}
 
 -- the first of either
 pub first_merge : (P Q : ℕ → Type 0) (a b : Option ℕ) → IsFirstOf P a → IsFirstOf Q b → IsFirstOf (λ p. P p ⊎ Q p) (earlier_of a b)
@@ -43,7 +43,7 @@ pub load_mono : (w : Written) (places : List (Option ℕ)) (r j k : ℕ) → j �
 load_mono w places r j zero le = let e : j ≡ 0 = omega arith in let f = ap (λ n. load_before w places n r) e in omega arith
 load_mono w places r j (suc k) le =
     ⊎_elim
-    (λ l. let up = load_mono w places r j k (omega arith) in let e : suc k ≡ k + 1 = omega arith in let f = ap (λ n. load_before w places n r) e in let more = load_more w places k r in omega arith)
+    (λ l. let up = load_mono w places r j k (omega arith) in let e : suc k ≡ k + 1 = omega arith in let f = ap (λ n. load_before w places n r) e in let more = load_before-suc w places k r in omega arith)
     (λ g. let e : j ≡ suc k = omega arith in let f = ap (λ n. load_before w places n r) e in omega arith)
     (cases_lt j (suc k))
 
@@ -51,7 +51,7 @@ load_mono w places r j (suc k) le =
 pub overfull_passes : {w : Written} {places : List (Option ℕ)} {r q : ℕ} → IsOverfull w places r q → (top : ℕ) → q < top → load_before w places top r ≤ capacity_of w.reviewers r → ⊥
 overfull_passes {w} {places} {r} {q} o top lt few =
     let at = at_place w places q r o.at o.holds o.there in
-    let more = load_more_yes w places q r at in
+    let more = load_before-suc_at w places q r at in
     let up = load_mono w places r (q + 1) top (omega arith) in
     let full = o.full in
     omega arith
@@ -65,11 +65,11 @@ within_capacity {w} {places} i assigned none r (suc k) =
     let f = ap (λ n. load_before w places n r) e in
     ⊎_elim
     (λ at. let x = place_at w k r (held places k) at in
-    let more = load_more_yes w places k r at in
+    let more = load_before-suc_at w places k r at in
     let in_range = (i.proposer_entries.sound k x.0 (assigned.on_lists k x.0 x.1)).in_range in
     let there = x.2 in
     ⊎_elim (λ lt. omega arith) (λ full. absurd (none r k (omega arith) (record { at = x.0; holds = x.1; there = x.2; full = full }))) (cases_lt (load_before w places k r) (capacity_of w.reviewers r)))
-    (λ no. let same = load_more_no w places k r no in omega arith)
+    (λ no. let same = load_before-suc_other w places k r no in omega arith)
     (test_cases (is_at w places k r))
 
 module _ {w : Written} {places : List (Option ℕ)} (i : IsInstance w) (assigned : IsAssignment w places) where

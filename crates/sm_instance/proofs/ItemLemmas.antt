@@ -6,7 +6,8 @@ use Rattle.std.proofs.lemmas.List.Folds.{list_any_at, Any-from_list_any}
 use Rattle.std.specs.List.{list_any}
 use Rattle.std.specs.List.{All}
 use Rattle.sm_instance.specs.Written.{Written, weighed, is_same_pair}
-use Rattle.sm_instance.specs.Sound.{IsPairOf, pair_at, items_of, IsSoundItem, IsInstance}
+use Rattle.sm_instance.specs.Sound.{IsPairOf, items_of, IsSoundItem, IsInstance}
+use Rattle.sm_lists.specs.Pairs.{pair_at}
 use Rattle.sm_instance.specs.Faults.{IsFirstBadItem}
 use Rattle.sm_instance.specs.Checks.{IsFirstBadPair}
 

@@ -17,18 +17,18 @@ sum_push : (xs : List ℕ) (x : ℕ) → sum (xs ++ x ∷ []) ≡ sum xs + x
 sum_push xs x = fold-append ◌+◌ 0 xs (x ∷ [])
 
 -- one more proposer
-pub load_more : (w : Written) (places : List (Option ℕ)) (k r : ℕ) → load_before w places (k + 1) r ≡ load_before w places k r + cond (is_at w places k r) 1 0
-load_more w places k r =
+pub load_before-suc : (w : Written) (places : List (Option ℕ)) (k r : ℕ) → load_before w places (k + 1) r ≡ load_before w places k r + cond (is_at w places k r) 1 0
+load_before-suc w places k r =
     let one : ℕ → ℕ = λ q. cond (is_at w places q r) 1 0 in
     ap sum (map-range_with_len_more one 0 k k (omega arith)) ∙ sum_push (map one (range_with_len 0 k)) (one k)
 
 -- a proposer at r adds one to its load
-pub load_more_yes : (w : Written) (places : List (Option ℕ)) (k r : ℕ) → is_at w places k r ≡ true → load_before w places (k + 1) r ≡ load_before w places k r + 1
-load_more_yes w places k r at = load_more w places k r ∙ ap (λ b. load_before w places k r + cond b 1 0) at
+pub load_before-suc_at : (w : Written) (places : List (Option ℕ)) (k r : ℕ) → is_at w places k r ≡ true → load_before w places (k + 1) r ≡ load_before w places k r + 1
+load_before-suc_at w places k r at = load_before-suc w places k r ∙ ap (λ b. load_before w places k r + cond b 1 0) at
 
 -- another proposer adds nothing
-pub load_more_no : (w : Written) (places : List (Option ℕ)) (k r : ℕ) → is_at w places k r ≡ false → load_before w places (k + 1) r ≡ load_before w places k r
-load_more_no w places k r at = load_more w places k r ∙ ap (λ b. load_before w places k r + cond b 1 0) at ∙ (let e : load_before w places k r + 0 ≡ load_before w places k r = omega arith in e)
+pub load_before-suc_other : (w : Written) (places : List (Option ℕ)) (k r : ℕ) → is_at w places k r ≡ false → load_before w places (k + 1) r ≡ load_before w places k r
+load_before-suc_other w places k r at = load_before-suc w places k r ∙ ap (λ b. load_before w places k r + cond b 1 0) at ∙ (let e : load_before w places k r + 0 ≡ load_before w places k r = omega arith in e)
 
 -- proposers that are elsewhere add nothing
 pub load_same : (w : Written) (places : List (Option ℕ)) (r j k : ℕ) → j ≤ k → ((q : ℕ) → j ≤ q → q < k → is_at w places q r ≡ false) → load_before w places k r ≡ load_before w places j r
@@ -36,7 +36,7 @@ load_same w places r j zero le none = ap (λ n. load_before w places n r) (let e
 load_same w places r j (suc k) le none =
     ⊎_elim
     (λ l. ap (λ n. load_before w places n r) (let e : suc k ≡ k + 1 = omega arith in e)
-    ∙ load_more_no w places k r (none k (omega arith) (omega arith))
+    ∙ load_before-suc_other w places k r (none k (omega arith) (omega arith))
     ∙ load_same w places r j k (omega arith) (λ q a b. none q a (omega arith)))
     (λ ge. ap (λ n. load_before w places n r) (let e : suc k ≡ j = omega arith in e))
     (cases_lt j (suc k))
@@ -120,7 +120,7 @@ module _ {w : Written} {places : List (Option ℕ)} {r : ℕ} {all : List Naming
   counted_yes {e} {count} c l h =
       record {
         is = λ k before behind. load_behind e k l before behind
-            ∙ load_more_yes w places (naming_at all e).by r (at_place w places (naming_at all e).by r (naming_at all e).place h (named.names e l))
+            ∙ load_before-suc_at w places (naming_at all e).by r (at_place w places (naming_at all e).by r (naming_at all e).place h (named.names e l))
             ∙ ap (λ n. n + 1) (load_next c l);
       }
 
@@ -129,7 +129,7 @@ module _ {w : Written} {places : List (Option ℕ)} {r : ℕ} {all : List Naming
   counted_no {e} {count} c l h =
       record {
         is = λ k before behind. load_behind e k l before behind
-            ∙ load_more_no w places (naming_at all e).by r (not_at w places (naming_at all e).by r (naming_at all e).place assigned sound (named.on_list e l) (named.names e l) h)
+            ∙ load_before-suc_other w places (naming_at all e).by r (not_at w places (naming_at all e).by r (naming_at all e).place assigned sound (named.on_list e l) (named.names e l) h)
             ∙ load_next c l;
       }
 

@@ -1,7 +1,8 @@
 -- What the checks of one side, and of one list of pairs, find.
 use Rattle.std.specs.Prelude.{◌≡◌, ℕ, ◌+◌, ◌<◌, Bool, true, List, length, slice_index, ℤ}
 use Rattle.sm_instance.specs.Written.{AgentData, row, entry}
-use Rattle.sm_instance.specs.Sound.{IsSoundEntry, AreSoundEntries, AreSoundAgents, IsPairOf, pair_at}
+use Rattle.sm_instance.specs.Sound.{IsSoundEntry, AreSoundEntries, AreSoundAgents, IsPairOf}
+use Rattle.sm_lists.specs.Pairs.{pair_at}
 use Rattle.sm_instance.specs.Faults.{IsFirstBadAgent, IsFirstBadEntry, IsFirstBadItem}
 use Rattle.sm_instance.specs.declared.kinds.Side.{Side}
 use Rattle.sm_instance.specs.declared.kinds.Side.TheVariants.{Proposers, Reviewers}

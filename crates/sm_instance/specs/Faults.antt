@@ -48,12 +48,12 @@ pub record HasSoundEntries (w : Written) : Type 0 where
   pub reviewers : AreSoundEntries w.reviewers (length w.proposers)
 
 -- what each fault says of an instance; want of memory says nothing
-abbrev pub IsFault : Written → InstanceFault → Type 0
-IsFault w TooMany = ¬ IsWithinLimits w.proposers w.reviewers
-IsFault w (BadAgent side a) = IsWithinLimits w.proposers w.reviewers × IsBadAgent w side a
-IsFault w (BadEntry side a i) = HasSoundAgents w × IsBadEntry w side a i
-IsFault w (BadPair n) = HasSoundAgents w × HasSoundEntries w × IsFirstBadItem (length w.proposers) (length w.reviewers) w.weights (items_of w.weights w.forced w.forbidden) n
-IsFault w OutOfMemory = Unit {0}
+abbrev pub IsInstanceFault : Written → InstanceFault → Type 0
+IsInstanceFault w TooMany = ¬ IsWithinLimits w.proposers w.reviewers
+IsInstanceFault w (BadAgent side a) = IsWithinLimits w.proposers w.reviewers × IsBadAgent w side a
+IsInstanceFault w (BadEntry side a i) = HasSoundAgents w × IsBadEntry w side a i
+IsInstanceFault w (BadPair n) = HasSoundAgents w × HasSoundEntries w × IsFirstBadItem (length w.proposers) (length w.reviewers) w.weights (items_of w.weights w.forced w.forbidden) n
+IsInstanceFault w OutOfMemory = Unit {0}
 
 -- the same of persons, who are named as proposers
 abbrev pub IsPersonsFault : List AgentData → InstanceFault → Type 0

@@ -1,5 +1,5 @@
 -- What is kept beside an instance, so that the calls on it take no memory.
-use Rattle.std.specs.Prelude.{◌≡◌, ℕ, ◌<◌, List, [], length, map, slice_index_or, Option}
+use Rattle.std.specs.Prelude.{◌≡◌, ℕ, ◌+◌, ◌<◌, ◌^◌, List, [], length, map, slice_index_or, Option}
 use Rattle.sm_instance.specs.Written.{AgentData, Written, row, entry, names_of, weighed}
 use Rattle.sm_instance.specs.Sound.{IsInstance, ArePersons}
 use Rattle.sm_instance.specs.declared.namings.Naming.{Naming}
@@ -36,6 +36,7 @@ pub record AreNamings (agents : List AgentData) (others : ℕ) (namings : List (
 -- a weight
 pub record IsKept (w : Written) (crosses reviewer_crosses : List (List (Option ℕ))) (namings : List (List Naming)) (left right : List (List ℕ)) (pairs : List (ℕ × ℕ)) : Type 0 where
   pub instance : IsInstance w
+  pub few : length w.weights + length w.forced + length w.forbidden < 2 ^ 24
   pub crossed : AreCrossPlaces w.proposers w.reviewers crosses
   pub crossed_back : AreCrossPlaces w.reviewers w.proposers reviewer_crosses
   pub named : AreNamings w.proposers (length w.reviewers) namings

@@ -3,6 +3,7 @@ pub mod Matching
 pub mod Stable
 pub mod Ranks
 pub mod Allowed
+pub mod Lightest
 pub mod Sound
 pub mod Faults
 pub mod Checks

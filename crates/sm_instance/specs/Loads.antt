@@ -1,7 +1,7 @@
 -- What the search for a breach, or for a blocking pair, finds on the way.
-use Rattle.std.specs.Prelude.{◌≡◌, ℕ, ◌<◌, ◌≤◌, ◌⊎◌, ◌||◌, ◌&&◌, ◌==◌, nat_lt, if◌then◌else◌, Bool, min, List, length, Option, Some, None}
-use Rattle.sm_instance.specs.Written.{Written, row, entry, place_of, capacity_of, IsAcceptable}
-use Rattle.sm_instance.specs.Matching.{held, load, load_before}
+use Rattle.std.specs.Prelude.{◌≡◌, ℕ, ◌<◌, ◌≤◌, ◌||◌, ◌&&◌, ◌==◌, nat_lt, if◌then◌else◌, Bool, List, Option, Some, None}
+use Rattle.sm_instance.specs.Written.{Written, entry, place_of, capacity_of, IsAcceptable}
+use Rattle.sm_instance.specs.Matching.{held, load_before}
 use Rattle.sm_instance.specs.Stable.{HasWorse, Blocks}
 use Rattle.sm_instance.specs.declared.namings.Naming.{Naming}
 
@@ -34,14 +34,8 @@ pub record IsWorst (w : Written) (places : List (Option ℕ)) (r worst : ℕ) : 
   pub above : (q i : ℕ) → held places q ≡ Some i → entry w.proposers q i ≡ r → place_of w.reviewers r q ≤ worst
   pub attained : (p : ℕ) → place_of w.reviewers r p < worst → HasWorse w places r p
 
--- r gains by those whom it lists before this place, and by nobody else
-pub record IsGainLimit (w : Written) (places : List (Option ℕ)) (r limit : ℕ) : Type 0 where
-  pub gains : (p : ℕ) → place_of w.reviewers r p < limit → (load w places r < capacity_of w.reviewers r) ⊎ HasWorse w places r p
-  pub others : (p : ℕ) → place_of w.reviewers r p < length (row w.reviewers r) → limit ≤ place_of w.reviewers r p
-      → ¬ ((load w places r < capacity_of w.reviewers r) ⊎ HasWorse w places r p)
-
 -- the first proposer that blocks with r, with the place of r on its list
-pub record IsFirstAt (w : Written) (places : List (Option ℕ)) (r : ℕ) (n : Naming) : Type 0 where
+pub record IsFirstBlockingWith (w : Written) (places : List (Option ℕ)) (r : ℕ) (n : Naming) : Type 0 where
   pub blocks : Blocks w places n.by r
   pub at : n.place ≡ place_of w.proposers n.by r
   pub earlier : (q : ℕ) → q < n.by → ¬ Blocks w places q r

@@ -9,6 +9,10 @@ use Rattle.sm_instance.specs.Matching.{held, standing}
 use Rattle.sm_instance.specs.declared.kinds.Measure.{Measure}
 use Rattle.sm_instance.specs.declared.kinds.Measure.TheVariants.{Ranks, Given}
 
+-- the order of the proposers in which vectors are compared
+abbrev pub order_of : Written → List ℕ
+order_of w = range_with_len 0 (length w.proposers)
+
 -- for each proposer the rank of its partner, or one more than the length of its list where it is unmatched
 abbrev pub rank_vector_of : Written → List (Option ℕ) → List ℕ
 rank_vector_of w places = map (λ p. standing w places p + 1) (range_with_len 0 (length w.proposers))

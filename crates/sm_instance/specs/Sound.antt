@@ -2,6 +2,7 @@
 use Rattle.std.specs.Prelude.{◌≡◌, ◌≢◌, ℕ, ◌+◌, ◌<◌, ◌≤◌, Bool, true, false, IsTrue, List, [], length, map, ◌++◌, slice_index_or, ℤ, pos}
 use Rattle.std.specs.List.{sum_by}
 use Rattle.std.specs.Int.RustNames.{unsigned_abs}
+use Rattle.sm_lists.specs.Pairs.{pair_at}
 use Rattle.sm_text.specs.Limits.{most_agents, most_entries, most_capacity, most_weight}
 use Rattle.sm_text.specs.Name.{is_name}
 use Rattle.sm_instance.specs.Written.{AgentData, Written, agent_at, row, entry, weighed}
@@ -43,10 +44,6 @@ pub record AreSoundEntries (agents : List AgentData) (others : ℕ) : Type 0 whe
 pub record IsPairOf (proposers reviewers : ℕ) (pair : ℕ × ℕ) : Type 0 where
   pub proposer : pair.0 < proposers
   pub reviewer : pair.1 < reviewers
-
--- pair n of a list
-abbrev pub pair_at : List (ℕ × ℕ) → ℕ → ℕ × ℕ
-pair_at pairs n = slice_index_or pairs n (0, 0)
 
 -- the pairs that are weighed, forced and forbidden, in this order
 abbrev pub items_of : List (ℕ × ℕ × ℤ) → List (ℕ × ℕ) → List (ℕ × ℕ) → List (ℕ × ℕ)

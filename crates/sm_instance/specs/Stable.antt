@@ -1,7 +1,9 @@
 -- Blocking pairs, stable matchings, and the best of these for each side.
-use Rattle.std.specs.Prelude.{◌≡◌, ℕ, ◌<◌, ◌≤◌, ◌⊎◌, List, Option, Some}
-use Rattle.sm_instance.specs.Written.{Written, entry, place_of, capacity_of, IsAcceptable}
+use Rattle.std.specs.Prelude.{◌≡◌, ℕ, ◌<◌, ◌≤◌, ◌⊎◌, List, Option, Some, length}
+use Rattle.sm_instance.specs.Written.{Written, entry, place_of, capacity_of, IsAcceptable, row}
 use Rattle.sm_instance.specs.Matching.{held, standing, load, IsMatching}
+use Rattle.sm_instance.specs.declared.kinds.Side.{Side}
+use Rattle.sm_instance.specs.declared.kinds.Side.TheVariants.{Proposers, Reviewers}
 
 -- r has a proposer that it likes less than p
 pub record HasWorse (w : Written) (places : List (Option ℕ)) (r p : ℕ) : Type 0 where
@@ -41,3 +43,14 @@ pub record IsProposersBest (w : Written) (places : List (Option ℕ)) : Type 0 w
 pub record IsReviewersBest (w : Written) (places : List (Option ℕ)) : Type 0 where
   pub stable : IsStable w places
   pub worst : (others : List (Option ℕ)) → IsStable w others → (p : ℕ) → standing w others p ≤ standing w places p
+
+-- the best stable matching of a side
+abbrev pub IsBestOf : Side → Written → List (Option ℕ) → Type 0
+IsBestOf Proposers w places = IsProposersBest w places
+IsBestOf Reviewers w places = IsReviewersBest w places
+
+-- r gains by those whom it lists before this place, and by nobody else
+pub record IsGainLimit (w : Written) (places : List (Option ℕ)) (r limit : ℕ) : Type 0 where
+  pub gains : (p : ℕ) → place_of w.reviewers r p < limit → (load w places r < capacity_of w.reviewers r) ⊎ HasWorse w places r p
+  pub others : (p : ℕ) → place_of w.reviewers r p < length (row w.reviewers r) → limit ≤ place_of w.reviewers r p
+      → ¬ ((load w places r < capacity_of w.reviewers r) ⊎ HasWorse w places r p)

@@ -28,10 +28,10 @@ abbrev pub texts_of : List (Vec ℕ Global) → List (List ℕ)
 texts_of texts = map (λ v. v.items) texts
 
 -- an instance of these parts
-abbrev pub written_of : Kind → List Agent → List Agent → List (ℕ × ℕ × ℤ) → List (ℕ × ℕ) → List (ℕ × ℕ) → Written
-written_of kind proposers reviewers weights forced forbidden =
+abbrev pub written_from : Kind → List Agent → List Agent → List (ℕ × ℕ × ℤ) → List (ℕ × ℕ) → List (ℕ × ℕ) → Written
+written_from kind proposers reviewers weights forced forbidden =
     record { kind = kind; proposers = agents_of proposers; reviewers = agents_of reviewers; weights = weights; forced = forced; forbidden = forbidden }
 
 -- the instance that some parts make
 abbrev pub written_in : Parts → Written
-written_in parts = written_of parts.kind parts.proposers.items parts.reviewers.items parts.weights.items parts.forced.items parts.forbidden.items
+written_in parts = written_from parts.kind parts.proposers.items parts.reviewers.items parts.weights.items parts.forced.items parts.forbidden.items

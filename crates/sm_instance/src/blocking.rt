@@ -3,8 +3,8 @@
 ghost use Rattle.std.specs.Prelude.{◌≡◌, ℕ, ◌<◌, ◌↔◌, length, IsTrue, MatchOption};
 ghost use Rattle.sm_instance.specs.Written.{row, entry};
 ghost use Rattle.sm_instance.specs.Matching.{IsMatching};
-ghost use Rattle.sm_instance.specs.Stable.{Blocks, IsStable, IsFirstBlocking};
-ghost use Rattle.sm_instance.specs.Loads.{IsGainLimit, IsFirstAt, sooner_of};
+ghost use Rattle.sm_instance.specs.Stable.{Blocks, IsStable, IsFirstBlocking, IsGainLimit};
+ghost use Rattle.sm_instance.specs.Loads.{IsFirstBlockingWith, sooner_of};
 
 use crate::agents::Assignment;
 use crate::instance::Instance;
@@ -73,7 +73,7 @@ impl Instance {
         requires reviewer { r < length self.now.reviewers }
         ensures { MatchOption result
             ((p : ℕ) → ¬ Blocks self.now a.now.places.items p r)
-            (λ n. IsFirstAt self.now a.now.places.items r n) }
+            (λ n. IsFirstBlockingWith self.now a.now.places.items r n) }
     {
         let limit = self.gain_limit(a, r);
         let namings = self.namings_of(r);

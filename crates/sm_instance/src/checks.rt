@@ -1,11 +1,12 @@
 //! Checks of agents, of entries and of pairs.
 
 ghost use Rattle.std.specs.Prelude.{◌≡◌, ◌≢◌, ℕ, ◌+◌, ◌<◌, ◌≤◌, ◌^◌, ◌↔◌, length, map, slice_index, true, IsTrue, IfOk, IfErr, OnOk, MatchOption};
-ghost use Rattle.sm_text.specs.Limits.{most_agents, most_entries, most_capacity};
+ghost use Rattle.sm_text.specs.Limits.{most_agents, most_entries};
 ghost use Rattle.sm_instance.specs.Written.{row, names_of, weighed};
-ghost use Rattle.sm_instance.specs.Sound.{is_single as is_single_kind, IsInstance, entries_of, IsWithinLimits, AreSoundAgents, AreSoundEntries, IsSoundEntry, IsPairOf, pair_at, IsSoundItem, items_of};
+ghost use Rattle.sm_instance.specs.Sound.{is_single as is_single_kind, IsInstance, entries_of, IsWithinLimits, AreSoundAgents, AreSoundEntries, IsSoundEntry, IsPairOf, IsSoundItem, items_of};
+ghost use Rattle.sm_lists.specs.Pairs.{pair_at};
 ghost use Rattle.sm_instance.specs.Checks.{IsAgentFault, IsEntryFault, IsFirstBadPlace, IsFirstBadPair, IsItemFault, AreAgentsFaulty, AreEntriesFaulty};
-ghost use Rattle.sm_instance.specs.Faults.{IsFault};
+ghost use Rattle.sm_instance.specs.Faults.{IsInstanceFault};
 ghost use Rattle.sm_instance.specs.Vectors.{agents_of, written_in};
 
 use crate::agents::{Agent, capacity_at, list_at, name_at};
@@ -219,7 +220,7 @@ pub(crate) fn checked(alloc: Global, parts: &Parts) -> Result<(Names, Names, Pai
     ensures left { IfOk result (λ kept. kept.0 ≡ names_of (agents_of parts.now.proposers.items)) }
     ensures right { IfOk result (λ kept. kept.1 ≡ names_of (agents_of parts.now.reviewers.items)) }
     ensures weighed { IfOk result (λ kept. kept.2 ≡ map weighed parts.now.weights.items) }
-    ensures fault { IfErr result (λ f. IsFault (written_in parts.now) f) }
+    ensures fault { IfErr result (λ f. IsInstanceFault (written_in parts.now) f) }
 {
     let proposers = parts.proposers.as_slice();
     let reviewers = parts.reviewers.as_slice();

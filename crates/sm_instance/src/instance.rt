@@ -5,7 +5,7 @@ ghost use Rattle.std.specs.Str.{bytes_eq};
 ghost use Rattle.std.specs.Int.RustNames.{unsigned_abs};
 ghost use Rattle.sm_text.specs.Limits.{most_agents, most_capacity, most_weight};
 ghost use Rattle.sm_instance.specs.Written.{row, entry, names_of, capacity_of, IsAcceptable, given_weight, weighed as weighed_pair};
-ghost use Rattle.sm_instance.specs.Vectors.{agents_of, written_of, written_in};
+ghost use Rattle.sm_instance.specs.Vectors.{agents_of, written_from, written_in};
 ghost use Rattle.sm_instance.specs.Sound.{IsInstance};
 ghost use Rattle.sm_instance.specs.Crosses.{cross_place, AreCrossPlacesOf};
 ghost use Rattle.sm_instance.specs.Kept.{AreNamingsOf};
@@ -48,23 +48,23 @@ pub struct Instance {
 
 impl Model for Instance {
     ghost use Rattle.sm_instance.specs.Written.{Written};
-    ghost use Rattle.sm_instance.specs.Vectors.{written_of, crosses_of, namings_of};
+    ghost use Rattle.sm_instance.specs.Vectors.{written_from, crosses_of, namings_of};
     ghost use Rattle.sm_instance.specs.Kept.{IsKept};
 
     ghost Value = { Written };
 
-    ghost view = { λ i. written_of i.kind i.proposers.items i.reviewers.items i.weights.items
+    ghost view = { λ i. written_from i.kind i.proposers.items i.reviewers.items i.weights.items
         i.forced.items i.forbidden.items };
 
     ghost invariant = { λ i. IsKept
-        (written_of i.kind i.proposers.items i.reviewers.items i.weights.items i.forced.items
+        (written_from i.kind i.proposers.items i.reviewers.items i.weights.items i.forced.items
         i.forbidden.items)
         (crosses_of i.crosses.items) (crosses_of i.reviewer_crosses.items)
         (namings_of i.namings.items) i.left i.right i.weighed };
 }
 
 impl Instance {
-    ghost use Rattle.sm_instance.specs.Faults.{IsFault};
+    ghost use Rattle.sm_instance.specs.Faults.{IsInstanceFault};
 
     /// Makes an instance, or names the first thing that stands in the way.
     ///
@@ -88,11 +88,11 @@ impl Instance {
         requires two_sided { kind ≢ Kind.Roommates }
         requires few { length weights.items + length forced.items + length forbidden.items
             < 2 ^ 24 }
-        ensures written { IfOk result (λ i. i ≡ written_of kind
+        ensures written { IfOk result (λ i. i ≡ written_from kind
             proposers.items reviewers.items weights.items forced.items forbidden.items) }
-        ensures instance { OnOk result (IsInstance (written_of kind
+        ensures instance { OnOk result (IsInstance (written_from kind
             proposers.items reviewers.items weights.items forced.items forbidden.items)) }
-        ensures fault { IfErr result (λ f. IsFault (written_of kind
+        ensures fault { IfErr result (λ f. IsInstanceFault (written_from kind
             proposers.items reviewers.items weights.items forced.items forbidden.items) f) }
     {
         let parts = Parts {
@@ -116,7 +116,8 @@ impl Instance {
     /// `AllocError` where memory ran out, and only then.
     pub fn held(alloc: Global, hash: TextHash, parts: Parts) -> Result<Instance, AllocError>
         requires instance { IsInstance (written_in parts) }
-        requires few { length parts.weights.items < 2 ^ 24 }
+        requires few { length parts.weights.items + length parts.forced.items
+            + length parts.forbidden.items < 2 ^ 24 }
         ensures { IfOk result (λ i. i ≡ written_in parts) }
     {
         let left = Names::of(alloc, hash, &parts.proposers)?;
@@ -159,6 +160,8 @@ impl Instance {
     /// The forced pairs, in the order in which they were given.
     pub fn forced(&self) -> &[(u32, u32)]
         ensures pairs { result.now ≡ self.now.forced }
+        ensures few { length self.now.weights + length self.now.forced
+            + length self.now.forbidden < 2 ^ 24 }
         ensures instance { IsInstance self.now }
     {
         &self.forced
@@ -167,6 +170,8 @@ impl Instance {
     /// The forbidden pairs, in the order in which they were given.
     pub fn forbidden(&self) -> &[(u32, u32)]
         ensures pairs { result.now ≡ self.now.forbidden }
+        ensures few { length self.now.weights + length self.now.forced
+            + length self.now.forbidden < 2 ^ 24 }
         ensures instance { IsInstance self.now }
     {
         &self.forbidden
@@ -323,6 +328,9 @@ impl Instance {
         ensures weight { result ≡ given_weight self.now p r }
         ensures size { unsigned_abs result ≤ most_weight }
     {
+        if self.weights.is_empty() {
+            return 0;
+        }
         match self.weighed.find((p, r)) {
             Some(n) => self.weights[n].2,
             None => 0,
@@ -355,6 +363,8 @@ fn of_parts(
     weighed: Pairs,
 ) -> Result<Instance, AllocError>
     requires instance { IsInstance (written_in parts) }
+    requires few { length parts.weights.items + length parts.forced.items
+        + length parts.forbidden.items < 2 ^ 24 }
     requires left { left ≡ names_of (agents_of parts.proposers.items) }
     requires right { right ≡ names_of (agents_of parts.reviewers.items) }
     requires pairs { weighed ≡ map weighed_pair parts.weights.items }

@@ -1,11 +1,12 @@
 //! Assignments of proposers: which are matchings, and where others break.
 
-ghost use Rattle.std.specs.Prelude.{◌≡◌, ℕ, ◌<◌, ◌↔◌, ◌⊎◌, length, Some, IsTrue, MatchOption, IfSome, ◌≤◌};
+ghost use Rattle.std.specs.Prelude.{◌≡◌, ◌<◌, ◌↔◌, length, Some, IsTrue, MatchOption, IfSome, ◌≤◌};
 ghost use Rattle.sm_text.specs.Limits.{most_agents};
-ghost use Rattle.sm_instance.specs.Written.{row, entry, place_of, capacity_of};
+ghost use Rattle.sm_instance.specs.Written.{row};
 ghost use Rattle.sm_instance.specs.Matching.{held, standing, load, IsAssignment, IsMatching, IsFirstBreach};
 ghost use Rattle.sm_instance.specs.Sound.{IsInstance};
-ghost use Rattle.sm_instance.specs.Loads.{IsFirstOf, IsUnacceptable, IsOverfull, IsGainLimit, IsWorst};
+ghost use Rattle.sm_instance.specs.Loads.{IsFirstOf, IsUnacceptable, IsOverfull, IsWorst};
+ghost use Rattle.sm_instance.specs.Stable.{IsGainLimit};
 
 use crate::agents::Assignment;
 use crate::instance::Instance;

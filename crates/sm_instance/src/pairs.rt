@@ -3,7 +3,7 @@
 ghost use Rattle.std.specs.Prelude.{◌≡◌, ◌≢◌, ℕ, ◌<◌, ◌^◌, [], ◌++◌, ◌∷◌, map, length, not, position, if◌then◌else◌, IfOk};
 ghost use Rattle.std.specs.List.{list_any};
 ghost use Rattle.sm_instance.specs.Written.{is_same_pair, weighed};
-ghost use Rattle.sm_instance.specs.Sound.{pair_at};
+ghost use Rattle.sm_lists.specs.Pairs.{pair_at};
 
 use indexmap::IndexSet;
 use sm_text::TextHash;

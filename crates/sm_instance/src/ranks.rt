@@ -1,6 +1,6 @@
 //! The rank vector of a matching, its regret and its weight.
 
-ghost use Rattle.std.specs.Prelude.{◌≡◌, ◌<◌, ◌≤◌, length};
+ghost use Rattle.std.specs.Prelude.{◌≡◌, ◌<◌, ◌≤◌, length, Some};
 ghost use Rattle.std.specs.Int.RustNames.{unsigned_abs};
 ghost use Rattle.sm_text.specs.Limits.{most_agents, most_weight};
 ghost use Rattle.sm_instance.specs.Written.{row, entry, IsAcceptable};
@@ -36,7 +36,7 @@ impl Instance {
     {
         let mut regret = 0;
         for p in 0..self.proposer_count() {
-            regret = regret.max(self.worse_rank(a, p));
+            regret = regret.max(self.worse_rank_held(a, p));
         }
         regret
     }
@@ -51,7 +51,7 @@ impl Instance {
     {
         let mut weight = 0;
         for p in 0..self.proposer_count() {
-            weight += self.pair_weight(a, p, by);
+            weight += self.weight_held(a, p, by);
         }
         weight
     }
@@ -72,36 +72,57 @@ impl Instance {
         }
     }
 
+    /// The greater of the ranks, from 1, that a proposer and the reviewer at a place of its list give each other. The two have
+    /// to be acceptable to each other. Takes the same time for all.
+    pub fn worse_rank(&self, p: u32, place: u32) -> u32
+        requires in_range { p < length self.now.proposers }
+        requires on_list { place < length (row self.now.proposers p) }
+        requires acceptable { IsAcceptable self.now p (entry self.now.proposers p place) }
+        ensures { result ≡ worse_rank self.now p (Some place) }
+    {
+        let back = self.rank_back(p, place);
+        back.max(place + 1)
+    }
+
+    /// The weight of a proposer and the reviewer at a place of its list: the sum of the ranks, from 1, that they give each other,
+    /// or the weight that is given to them. The two have to be acceptable to each other. Takes the same time for all.
+    pub fn pair_weight(&self, p: u32, place: u32, by: Measure) -> i64
+        requires in_range { p < length self.now.proposers }
+        requires on_list { place < length (row self.now.proposers p) }
+        requires acceptable { IsAcceptable self.now p (entry self.now.proposers p place) }
+        ensures weight { result ≡ pair_weight by self.now p (Some place) }
+        ensures size { unsigned_abs result ≤ most_weight }
+    {
+        match by {
+            Measure::Ranks => {
+                let back = self.rank_back(p, place);
+                i64::from(place + 1 + back)
+            }
+            Measure::Given => self.weight(p, self.reviewer_at(p, place)),
+        }
+    }
+
     /// The greater of the ranks that a proposer and its partner give each other.
-    fn worse_rank(&self, a: &Assignment, p: u32) -> u32
+    fn worse_rank_held(&self, a: &Assignment, p: u32) -> u32
         requires matching { IsMatching self.now a.now.places.items }
         requires in_range { p < length self.now.proposers }
         ensures { result ≡ worse_rank self.now p (held a.now.places.items p) }
     {
         match self.place_held(a, p) {
-            Some(place) => {
-                let back = self.rank_back(p, place);
-                back.max(place + 1)
-            }
+            Some(place) => self.worse_rank(p, place),
             None => 0,
         }
     }
 
     /// The weight of a proposer and its partner.
-    fn pair_weight(&self, a: &Assignment, p: u32, by: Measure) -> i64
+    fn weight_held(&self, a: &Assignment, p: u32, by: Measure) -> i64
         requires matching { IsMatching self.now a.now.places.items }
         requires in_range { p < length self.now.proposers }
         ensures weight { result ≡ pair_weight by self.now p (held a.now.places.items p) }
         ensures size { unsigned_abs result ≤ most_weight }
     {
         match self.place_held(a, p) {
-            Some(place) => match by {
-                Measure::Ranks => {
-                    let back = self.rank_back(p, place);
-                    i64::from(place + 1 + back)
-                }
-                Measure::Given => self.weight(p, self.reviewer_at(p, place)),
-            },
+            Some(place) => self.pair_weight(p, place, by),
             None => 0,
         }
     }

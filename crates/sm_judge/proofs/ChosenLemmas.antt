@@ -22,7 +22,8 @@ use Rattle.sm_judge.specs.Pairs.{IsFree, IsWanted, AreAllThere, ChosenHold}
 use Rattle.sm_judge.specs.PairsKept.{ArePairsHeld, HasJoined}
 use Rattle.sm_judge.specs.Said.{pair_in, left_in, right_in, pairs_in, lefts_in, rights_in}
 use Rattle.sm_judge.specs.Verdicts.{number_of_reason}
-use Rattle.sm_judge.specs.WantedKept.{AreChosenKept, AreStood}
+use Rattle.sm_judge.specs.ChosenKept.{AreChosenKept}
+use Rattle.sm_judge.specs.Stood.{AreStood}
 use Rattle.sm_judge.proofs.AnswerLemmas.{said_same, said_one}
 
 -- what is wanted is on the proposers' lists

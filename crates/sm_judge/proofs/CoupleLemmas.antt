@@ -23,9 +23,9 @@ use Rattle.sm_judge.proofs.PersonLemmas.{among_of, of_among}
 use Rattle.sm_judge.specs.PartiesKept.{is_among}
 
 -- whom pairs give somebody that has nobody in the first of them
-pub partner_behind : (xs ys : List (ℕ × ℕ)) (z : ℕ) → partner_in (xs ++ ys) z ≡ option_or (partner_in xs z) (partner_in ys z)
-partner_behind [] ys z = refl
-partner_behind (x ∷ xs) ys z = go (eqb x.0 z) (partner_behind xs ys z)
+pub partner_in-append : (xs ys : List (ℕ × ℕ)) (z : ℕ) → partner_in (xs ++ ys) z ≡ option_or (partner_in xs z) (partner_in ys z)
+partner_in-append [] ys z = refl
+partner_in-append (x ∷ xs) ys z = go (eqb x.0 z) (partner_in-append xs ys z)
   where
     go : (t : Bool) → partner_in (xs ++ ys) z ≡ option_or (partner_in xs z) (partner_in ys z)
         → cond t (Some x.1) (partner_in (xs ++ ys) z) ≡ option_or (cond t (Some x.1) (partner_in xs z)) (partner_in ys z)
@@ -104,7 +104,7 @@ module _ {rows : List (List ℕ)} {pairs : List (ℕ × ℕ)} {mates : List (Opt
     partner_now : (z : ℕ) → partner_in (both_ways (pairs ++ (x, y) ∷ [])) z ≡ option_or (partner_in (both_ways pairs) z) (cond (eqb x z) (Some y) (cond (eqb y z) (Some x) None))
     partner_now z =
         ap (λ (ps : List (ℕ × ℕ)). partner_in ps z) (flat_map-append (λ (pair : ℕ × ℕ). pair ∷ (pair.1, pair.0) ∷ []) pairs ((x, y) ∷ []))
-        ∙ partner_behind (both_ways pairs) ((x, y) ∷ (y, x) ∷ []) z
+        ∙ partner_in-append (both_ways pairs) ((x, y) ∷ (y, x) ∷ []) z
 
     none_before : (z : ℕ) → z < length rows → mate_of mates z ≡ None → partner_in (both_ways (pairs ++ (x, y) ∷ [])) z ≡ cond (eqb x z) (Some y) (cond (eqb y z) (Some x) None)
     none_before z inside none = partner_now z ∙ ap (λ o. option_or o (cond (eqb x z) (Some y) (cond (eqb y z) (Some x) None))) (sym (k.partners z inside) ∙ none)

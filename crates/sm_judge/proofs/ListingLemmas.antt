@@ -11,7 +11,7 @@ use Rattle.sm_judge.specs.declared.verdicts.Reason.{Reason}
 use Rattle.sm_judge.specs.Verdicts.{Finds}
 use Rattle.sm_judge.specs.Said.{vector_in, vectors_in}
 use Rattle.sm_judge.specs.Vectors.{places_of_ranks, VectorHolds, MoreHolds, ListHolds, ListClauses}
-use Rattle.sm_judge.specs.Tried.{HasRoom, IsTried}
+use Rattle.sm_judge.specs.Tried.{HasTrialRoom, IsTried}
 use Rattle.sm_judge.specs.declared.tried.Tried.{Tried}
 use Rattle.sm_forms.specs.Forms.{fits_two}
 use Rattle.sm_judge.specs.Walking.{FindsOrKeeps}
@@ -46,7 +46,7 @@ module _ {w : Written} {after : Option (List ℕ)} {above : List LineData} {coun
       }
 
   -- a line with one
-  more_kept : (v : List ℕ) (next : Tried) → length v ≡ length w.proposers → HasRoom w next → IsTried w (places_of_ranks w v) next → AreVectorsKept w after (above ++ LineData.Vector v ∷ []) (count + 1) v next
+  more_kept : (v : List ℕ) (next : Tried) → length v ≡ length w.proposers → HasTrialRoom w next → IsTried w (places_of_ranks w v) next → AreVectorsKept w after (above ++ LineData.Vector v ∷ []) (count + 1) v next
   more_kept v next one room kept =
       let more = filter_map-append vector_in above (LineData.Vector v ∷ []) in
       let longer = length-append (vectors_in above) (v ∷ []) in
@@ -61,7 +61,7 @@ module _ {w : Written} {after : Option (List ℕ)} {above : List LineData} {coun
 
   -- a vector of which no clause fails, and is kept
   pub vector_judged : (limit : ℕ) (x : LineData) (u v new : List ℕ) (before : Option (List ℕ)) (next : Tried) → x ≡ LineData.Vector v → u ≡ v → new ≡ v → before ≡ last_or count last after
-      → fits_two w x ≡ true → HasRoom w next → IsTried w (places_of_ranks w u) next → Finds (VectorHolds w before count limit u) None
+      → fits_two w x ≡ true → HasTrialRoom w next → IsTried w (places_of_ranks w u) next → Finds (VectorHolds w before count limit u) None
       → Finds (ListClauses w after limit above x) None × AreVectorsKept w after (above ++ x ∷ []) (count + 1) new next
   vector_judged limit x u v new before next x_is u_is new_is is fit room kept f =
       let one = eqb-true (length v) (length w.proposers) (subst (λ y. fits_two w y ≡ true) x_is fit) in

@@ -6,9 +6,9 @@ use Rattle.std.proofs.lemmas.List.Sums.{sum_by-append, sum_by-cons}
 use Rattle.sm_instance.specs.Written.{Written, entry, place_of}
 use Rattle.sm_instance.specs.Matching.{held, load, IsMatching}
 use Rattle.sm_lists.proofs.PlaceLemmas.{get_or-place_on}
-use Rattle.sm_pairs.specs.Holding.{loads_of, CantAdd, Added, Adds}
+use Rattle.sm_pairs.specs.Holding.{loads_of, CantAdd, Added, AddsPair}
 use Rattle.sm_pairs.specs.declared.holding.Holding.{Holding}
-use Rattle.sm_pairs.proofs.HoldingLemmas.{no_places, no_loads, nobody, load_at, load_set, none_given, some_given, places_later}
+use Rattle.sm_pairs.proofs.HoldingLemmas.{no_places, no_loads, nobody, load_at, load_before-set, partner_in-none, some_given, places_later}
 use Rattle.sm_pairs.specs.Held.{partner_in, places_in}
 use Rattle.sm_judge.specs.Pairs.{times_second, IsFree}
 use Rattle.sm_judge.specs.PairsKept.{ArePairsHeld, HasJoined, Joins}
@@ -29,8 +29,8 @@ none_held w holding is loads =
     }
 
 -- one second more
-pub second_more : (pairs : List (ℕ × ℕ)) (p r s : ℕ) → times_second (pairs ++ (p, r) ∷ []) s ≡ times_second pairs s + cond (r == s) 1 0
-second_more pairs p r s =
+pub times_second-push : (pairs : List (ℕ × ℕ)) (p r s : ℕ) → times_second (pairs ++ (p, r) ∷ []) s ≡ times_second pairs s + cond (r == s) 1 0
+times_second-push pairs p r s =
     let f : ℕ × ℕ → ℕ = λ (pair : ℕ × ℕ). cond (pair.1 == s) 1 0 in
     let all = sum_by-append f pairs ((p, r) ∷ []) in
     let one : sum_by f ((p, r) ∷ []) ≡ cond (r == s) 1 0 + 0 = sum_by-cons f (p, r) [] in
@@ -39,7 +39,7 @@ second_more pairs p r s =
 module _ {w : Written} {pairs : List (ℕ × ℕ)} {before : Holding} (k : ArePairsHeld w pairs before) (p r : ℕ) (p_in : p < length w.proposers) (r_in : r < length w.reviewers) where
   joined : (after : Holding) → Added w before after p r → HasJoined w pairs (p, r) after
   joined after a =
-      let none : partner_in pairs p ≡ None = none_given w pairs p p_in (ap (λ xs. held xs p) (sym k.places) ∙ a.free) in
+      let none : partner_in pairs p ≡ None = partner_in-none w pairs p p_in (ap (λ xs. held xs p) (sym k.places) ∙ a.free) in
       record {
         free = record {
           acceptable = a.acceptable;
@@ -53,10 +53,10 @@ module _ {w : Written} {pairs : List (ℕ × ℕ)} {before : Holding} (k : ArePa
               let i = place_of w.proposers p r in
               let there : entry w.proposers p i ≡ r = get_or-place_on _ r a.acceptable.proposer_lists in
               let long = k.held.matching.assigned.one_each in
-              second_more pairs p r s
+              times_second-push pairs p r s
               ∙ ap (λ n. n + cond (r == s) 1 0) (k.seconds s s_in)
               ∙ ap (λ (q : ℕ). load w before.matching.places.items s + cond (q == s) 1 0) (sym there)
-              ∙ sym (load_set w before.matching.places.items p i (length w.proposers) s (omega arith) a.free p_in)
+              ∙ sym (load_before-set w before.matching.places.items p i (length w.proposers) s (omega arith) a.free p_in)
               ∙ ap (λ xs. load w xs s) (sym a.places);
         };
       }
@@ -67,6 +67,6 @@ module _ {w : Written} {pairs : List (ℕ × ℕ)} {before : Holding} (k : ArePa
   cant_join (CantAdd.full h) f = let e = k.seconds r r_in in let l = f.place_free in omega arith
 
   -- a pair that could be added may stand behind those, and one that couldn't may not
-  pub joins_by : (after : Holding) (added : Bool) → Adds w before after p r added → Joins w pairs (p, r) after added
+  pub joins_by : (after : Holding) (added : Bool) → AddsPair w before after p r added → Joins w pairs (p, r) after added
   joins_by after true a = joined after a
   joins_by after false a = cant_join a

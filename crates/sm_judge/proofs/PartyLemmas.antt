@@ -22,7 +22,7 @@ use Rattle.sm_judge.specs.declared.verdicts.Reason.TheVariants as reason
 use Rattle.sm_judge.specs.Verdicts.{IsFirstThere, number_of_reason}
 use Rattle.sm_judge.specs.Said.{party_in, parties_in}
 use Rattle.sm_judge.specs.Rooming.{members_of, next_in_party, next_of, nexts_of, AreNew, IsWholePartition, HasOddParty, PartiesHold}
-use Rattle.sm_judge.specs.PartiesKept.{is_among, is_met, AreMet, IsRepeated, follower, AreLinked, IsOdd, ArePartiesHeld, ArePartiesKept, HasParted}
+use Rattle.sm_judge.specs.PartiesKept.{is_among, is_met, AreMet, HasRepeatedPerson, follower, AreLinked, IsOdd, ArePartiesHeld, ArePartiesKept, HasParted}
 use Rattle.sm_judge.proofs.PersonLemmas.{among_of, of_among}
 
 -- Who stands among some, and how often.
@@ -68,12 +68,12 @@ pub stands_at : (x : ℕ) (xs : List ℕ) → Contains xs x → StandsAt x xs
 stands_at x xs c = record { at = c.0; on_list = c.1; is = get_or_default xs c.0 0 x c.1 ∙ c.2 }
 
 -- who stands at a place is among them
-pub among_at : (xs : List ℕ) (i : ℕ) → i < length xs → is_among (get_or xs i 0) xs ≡ true
-among_at xs i l = among_of xs (get_or xs i 0) (i, l, get_or_default xs i (get_or xs i 0) 0 l)
+pub is_among-get_or : (xs : List ℕ) (i : ℕ) → i < length xs → is_among (get_or xs i 0) xs ≡ true
+is_among-get_or xs i l = among_of xs (get_or xs i 0) (i, l, get_or_default xs i (get_or xs i 0) 0 l)
 
 -- who stands at none isn't
-pub not_among : (x : ℕ) (xs : List ℕ) → ((i : ℕ) → i < length xs → get_or xs i 0 ≢ x) → is_among x xs ≡ false
-not_among x xs none = go (is_among x xs) refl
+pub is_among-none : (x : ℕ) (xs : List ℕ) → ((i : ℕ) → i < length xs → get_or xs i 0 ≢ x) → is_among x xs ≡ false
+is_among-none x xs none = go (is_among x xs) refl
   where
     go : (b : Bool) → is_among x xs ≡ b → b ≡ false
     go false e = refl
@@ -86,7 +86,7 @@ once x (y ∷ ys) apart c = ⊎_elim
     (λ (is : y ≡ x). omega (
       arith,
       times_here x y ys is,
-      none_times x ys (not_among x ys (λ i l e. apart 0 (suc i) (omega arith) (omega (arith, l)) (is ∙ sym e))),
+      none_times x ys (is_among-none x ys (λ i l e. apart 0 (suc i) (omega arith) (omega (arith, l)) (is ∙ sym e))),
     ))
     (λ other. let t = ne_eqb y x other in omega (
       arith,
@@ -110,8 +110,8 @@ times_more parties party x =
     omega arith
 
 -- a person is among the members with one more party where it is among the others or in that one
-pub members_more : (parties : List (List ℕ)) (party : List ℕ) (z : ℕ) → is_among z (members_of (parties ++ party ∷ [])) ≡ (is_among z (members_of parties) || is_among z party)
-members_more parties party z =
+pub is_among-members_push : (parties : List (List ℕ)) (party : List ℕ) (z : ℕ) → is_among z (members_of (parties ++ party ∷ [])) ≡ (is_among z (members_of parties) || is_among z party)
+is_among-members_push parties party z =
     ap (is_among z) (flat_map-append (λ (p : List ℕ). p) parties (party ∷ []))
     ∙ list_any-append (λ y. y == z) (members_of parties) (party ++ [])
     ∙ ap (λ b. is_among z (members_of parties) || b) (list_any-append (λ y. y == z) party [] ∙ or_false (is_among z party))
@@ -140,16 +140,16 @@ none_found None e = refl
 none_found (Some p) e = absurd (false≢true (sym e))
 
 -- who follows a member of one more party, and anybody else
-pub next_there : (parties : List (List ℕ)) (party : List ℕ) (z : ℕ) → is_among z (members_of parties) ≡ false → is_among z party ≡ true → next_of (parties ++ party ∷ []) z ≡ next_in_party z party
-next_there parties party z not_before now =
+pub next_of-push_there : (parties : List (List ℕ)) (party : List ℕ) (z : ℕ) → is_among z (members_of parties) ≡ false → is_among z party ≡ true → next_of (parties ++ party ∷ []) z ≡ next_in_party z party
+next_of-push_there parties party z not_before now =
     ap (λ (o : Option (List ℕ)). option_map_or (next_in_party z) o z)
     (find-append (is_among z) parties (party ∷ [])
     ∙ ap (λ (o : Option (List ℕ)). option_or o (cond (is_among z party) (Some party) None)) (none_found (find (is_among z) parties) (found_in parties z ∙ not_before))
     ∙ ap (λ b. cond b (Some party) None) now)
 
 -- nobody else has another follower
-pub next_other : (parties : List (List ℕ)) (party : List ℕ) (z : ℕ) → is_among z party ≡ false → next_of (parties ++ party ∷ []) z ≡ next_of parties z
-next_other parties party z none =
+pub next_of-push_other : (parties : List (List ℕ)) (party : List ℕ) (z : ℕ) → is_among z party ≡ false → next_of (parties ++ party ∷ []) z ≡ next_of parties z
+next_of-push_other parties party z none =
     ap (λ (o : Option (List ℕ)). option_map_or (next_in_party z) o z)
     (find-append (is_among z) parties (party ∷ []) ∙ ap (λ b. option_or (find (is_among z) parties) (cond b (Some party) None)) none ∙ or_none (find (is_among z) parties))
   where
@@ -158,8 +158,8 @@ next_other parties party z none =
     or_none (Some p) = refl
 
 -- the member at a place is followed by the next one, and the last by the first
-pub follows : (party : List ℕ) → ((i j : ℕ) → i < j → j < length party → get_or party i 0 ≢ get_or party j 0) → (j : ℕ) → j < length party → next_in_party (get_or party j 0) party ≡ follower party j
-follows party apart j l =
+pub next_in_party-get_or : (party : List ℕ) → ((i j : ℕ) → i < j → j < length party → get_or party i 0 ≢ get_or party j 0) → (j : ℕ) → j < length party → next_in_party (get_or party j 0) party ≡ follower party j
+next_in_party-get_or party apart j l =
     ap (λ i. if i + 1 == length party then get_or party 0 0 else get_or party (i + 1) 0) (place_on_is party (get_or party j 0) j l refl (λ k lower. apart k j lower l))
     ∙ by_last (eqb (j + 1) (length party))
   where
@@ -186,12 +186,12 @@ module _ {n : ℕ} {parties : List (List ℕ)} {next : List ℕ} {met : List Boo
         let to = ap (λ y. get_or next' y 0) (sym s.is) ∙ l.told s.at s.on_list in
         let not_old = ap (λ y. is_among y (members_of parties)) (sym s.is) ∙ not_before s.at s.on_list in
         let there = follower_there party n s.at within s.on_list in (
-          to ∙ sym (next_there parties party z not_old e ∙ ap (λ y. next_in_party y party) (sym s.is) ∙ follows party m.distinct s.at s.on_list),
+          to ∙ sym (next_of-push_there parties party z not_old e ∙ ap (λ y. next_in_party y party) (sym s.is) ∙ next_in_party-get_or party m.distinct s.at s.on_list),
           rw to there,
         )
     next_now z inside false e =
-        let to = l.kept z (λ j on is. false≢true (sym e ∙ ap (λ y. is_among y party) (sym is) ∙ among_at party j on)) in
-        let there = k.in_range z inside in (to ∙ k.nexts z inside ∙ sym (next_other parties party z e), rw to there)
+        let to = l.kept z (λ j on is. false≢true (sym e ∙ ap (λ y. is_among y party) (sym is) ∙ is_among-get_or party j on)) in
+        let there = k.in_range z inside in (to ∙ k.nexts z inside ∙ sym (next_of-push_other parties party z e), rw to there)
 
     or_left : (a b : Bool) → a ≡ true → (a || b) ≡ true
     or_left a b e = rw e refl
@@ -206,11 +206,11 @@ module _ {n : ℕ} {parties : List (List ℕ)} {next : List ℕ} {met : List Boo
 
     stand_now : (z : ℕ) → z < n → is_met met' z ≡ is_among z (members_of (parties ++ party ∷ []))
     stand_now z inside = same_bool (is_met met' z) (is_among z (members_of (parties ++ party ∷ [])))
-        (λ now. members_more parties party z ∙ elim (m.only z now) [
+        (λ now. is_among-members_push parties party z ∙ elim (m.only z now) [
           | inl had ↦ or_left (is_among z (members_of parties)) (is_among z party) (sym (k.stand z inside) ∙ had)
-          | inr w ↦ or_right (is_among z (members_of parties)) (is_among z party) (ap (λ y. is_among y party) (sym w.2) ∙ among_at party w.0 w.1)
+          | inr w ↦ or_right (is_among z (members_of parties)) (is_among z party) (ap (λ y. is_among y party) (sym w.2) ∙ is_among-get_or party w.0 w.1)
         ])
-        (λ now. elim (or_cases (is_among z (members_of parties)) (is_among z party) (sym (members_more parties party z) ∙ now)) [
+        (λ now. elim (or_cases (is_among z (members_of parties)) (is_among z party) (sym (is_among-members_push parties party z) ∙ now)) [
           | inl had ↦ m.kept z (k.stand z inside ∙ had)
           | inr e ↦ let s = stands_at z party (of_among party z e) in ap (is_met met') (sym s.is) ∙ m.told s.at s.on_list
         ])
@@ -246,7 +246,7 @@ module _ {n : ℕ} {parties : List (List ℕ)} {next : List ℕ} {met : List Boo
     }
 
   -- a member of it stood before
-  pub not_new : IsRepeated party met → ¬ AreNew parties party
+  pub not_new : HasRepeatedPerson party met → ¬ AreNew parties party
   not_new r new =
       let x = get_or party r.at 0 in
       let here : Contains party x = (r.at, r.on_list, get_or_default party r.at x 0 r.on_list) in

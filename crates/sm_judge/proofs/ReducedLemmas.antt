@@ -20,8 +20,8 @@ use Rattle.sm_judge.specs.declared.reduced.Group.{Group}
 use Rattle.sm_judge.specs.declared.reduced.Group.TheVariants as group
 use Rattle.sm_forms.specs.Seats.{seat_number}
 use Rattle.sm_judge.specs.Said.{first_in, firsts_in, last_in, lasts_in, proposer_list_in, proposer_lists_in, reviewer_list_in, reviewer_lists_in, is_end, is_up_to_firsts, is_up_to_lasts, IsFirstBehind}
-use Rattle.sm_judge.specs.SeatMatchings.{IsFreeSeat, FirstsHold, LastsHold, first_of, last_of, seat_places_in}
-use Rattle.sm_judge.specs.SeatPairsKept.{AreSeatPairs, HasTakenSeat}
+use Rattle.sm_judge.specs.SeatMatchings.{IsFreeSeat, FirstsHold, LastsHold, first_of, last_of, seat_places_in, AreSeatPairs}
+use Rattle.sm_judge.specs.SeatPairsKept.{HasTakenSeat}
 use Rattle.sm_judge.specs.Chain.{ListsHold, ReducedHold, IsRowOf, reduced_of, owners}
 use Rattle.sm_judge.specs.ListsKept.{AreLists, AreListsOf, AreListsBehind}
 use Rattle.sm_judge.specs.ReducedKept.{IsTriedFirst, IsGroupAt, IsReducedOf}

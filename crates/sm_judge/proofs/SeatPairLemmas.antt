@@ -20,12 +20,12 @@ use Rattle.sm_theory.specs.Lattice.{with_proposers}
 use Rattle.sm_theory.proofs.Core.Seats.{fit_of_seats}
 use Rattle.sm_theory.proofs.Bridge.Places.{row_past, held_map, matching_with, seats_with}
 use Rattle.sm_pairs.specs.Held.{partner_in}
-use Rattle.sm_pairs.proofs.HoldingLemmas.{changed_at, here_later, other_later}
+use Rattle.sm_pairs.proofs.HoldingLemmas.{changed_at, partner_in-push_same, partner_in-push_other}
 use Rattle.sm_judge.specs.Pairs.{times_second}
-use Rattle.sm_judge.specs.SeatMatchings.{IsFreeSeat, seat_places_in}
-use Rattle.sm_judge.specs.SeatPairsKept.{AreSeatPairs, HasTakenSeat}
+use Rattle.sm_judge.specs.SeatMatchings.{IsFreeSeat, seat_places_in, AreSeatPairs}
+use Rattle.sm_judge.specs.SeatPairsKept.{HasTakenSeat}
 use Rattle.sm_judge.specs.declared.seat_pairs.SeatPairs.{SeatPairs}
-use Rattle.sm_judge.proofs.PairLemmas.{second_more}
+use Rattle.sm_judge.proofs.PairLemmas.{times_second-push}
 
 -- a matching is the one that is made of the places of its proposers
 pub with_proposers_is : {l : Lists} (h : IsMarket l) {m : Places} → IsMatching l m → with_proposers l m.proposers ≡ m
@@ -131,8 +131,8 @@ module _ {l : Lists} {pairs : List (ℕ × ℕ)} {before : SeatPairs} (k : AreSe
       free = record { acceptable = omega (arith, is, on); proposer_free = alone; seat_free = zero_times };
       kept = record {
         places = places ∙ ap (λ xs. set xs p (Some place)) k.places ∙ changed_at (place_at pairs) (place_at (pairs ++ (p, s) ∷ [])) (length l.proposers) p (Some place)
-            (ap (option_map (place_of l.proposers p)) (here_later pairs p s alone) ∙ ap Some (sym is))
-            (λ q ne. ap (option_map (place_of l.proposers q)) (other_later pairs p s q alone ne));
+            (ap (option_map (place_of l.proposers p)) (partner_in-push_same pairs p s alone) ∙ ap Some (sym is))
+            (λ q ne. ap (option_map (place_of l.proposers q)) (partner_in-push_other pairs p s q alone ne));
         held = subst (AreHeld l) (sym places) (record {
           one_each = length-set before.places.items p (Some place) ∙ k.held.one_each;
           on_lists = λ q past. on_list q past (eqb_tells q p);
@@ -198,11 +198,11 @@ module _ {l : Lists} {pairs : List (ℕ × ℕ)} {before : SeatPairs} (k : AreSe
 
         told : (r : ℕ) → r < length l.reviewers → (((r == s) ≡ true) × (r ≡ s)) ⊎ (((r == s) ≡ false) × (r ≢ s)) → get_or (set before.taken.items s true) r false ≡ not (times_second (pairs ++ (p, s) ∷ []) r == 0)
         told r r_in (inl x) =
-            let some : times_second (pairs ++ (p, s) ∷ []) s ≡ 1 = (let one = counted (s == s) (eq-eqb s s refl) in omega (arith, second_more pairs p s s, one, zero_times)) in
+            let some : times_second (pairs ++ (p, s) ∷ []) s ≡ 1 = (let one = counted (s == s) (eq-eqb s s refl) in omega (arith, times_second-push pairs p s s, one, zero_times)) in
             ap (λ n. get_or (set before.taken.items s true) n false) x.1 ∙ get_or-set_same before.taken.items s true false (let e = k.seats_each in omega (arith, e, s_in))
             ∙ sym (ap (λ n. not (times_second (pairs ++ (p, s) ∷ []) n == 0)) x.1 ∙ ap (λ n. not (n == 0)) some)
         told r r_in (inr x) =
-            let same : times_second (pairs ++ (p, s) ∷ []) r ≡ times_second pairs r = (let none = passed_over (s == r) (ne_eqb s r (λ e. x.1 (sym e))) in omega (arith, second_more pairs p s r, none)) in
+            let same : times_second (pairs ++ (p, s) ∷ []) r ≡ times_second pairs r = (let none = passed_over (s == r) (ne_eqb s r (λ e. x.1 (sym e))) in omega (arith, times_second-push pairs p s r, none)) in
             get_or-set_other before.taken.items s r true false x.1 ∙ k.taken r r_in ∙ ap (λ n. not (n == 0)) (sym same)
 
     -- or it can't stand there

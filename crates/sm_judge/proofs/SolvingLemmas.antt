@@ -4,7 +4,7 @@ use Rattle.std.proofs.lemmas.Bool.{false≢true}
 use Rattle.std.proofs.lemmas.List.Elements.{filter_map-append}
 use Rattle.sm_instance.specs.Written.{Written}
 use Rattle.sm_instance.specs.Sound.{IsInstance}
-use Rattle.sm_instance.specs.Stable.{IsStable as IsWrittenStable}
+use Rattle.sm_instance.specs.Stable.{IsStable as IsWrittenStable, IsBestOf}
 use Rattle.sm_instance.specs.declared.kinds.Side.{Side}
 use Rattle.sm_instance.specs.declared.kinds.Side.TheVariants.{Proposers, Reviewers}
 use Rattle.sm_market.specs.Matching.{Places}
@@ -21,7 +21,7 @@ use Rattle.sm_judge.specs.declared.verdicts.Reason.{Reason}
 use Rattle.sm_judge.specs.declared.verdicts.Reason.TheVariants as reason
 use Rattle.sm_judge.specs.Said.{pair_in, pairs_in}
 use Rattle.sm_judge.specs.Walking.{FindsOrKeeps}
-use Rattle.sm_judge.specs.Pairs.{IsFree, IsBestOf, SolveHolds}
+use Rattle.sm_judge.specs.Pairs.{IsFree, SolveHolds}
 use Rattle.sm_judge.specs.PairsKept.{ArePairsHeld}
 use Rattle.sm_judge.specs.Solving.{IsSolveKept}
 

@@ -9,13 +9,12 @@ use Rattle.sm_lists.proofs.PlaceLemmas.{get_or-place_on}
 use Rattle.sm_instance.specs.Written.{Written, row, entry, place_of, capacity_of, IsAcceptable}
 use Rattle.sm_instance.specs.Sound.{IsInstance}
 use Rattle.sm_instance.specs.Matching.{held, leads_to, is_at, load_before, load, standing, IsAssignment, IsMatching}
-use Rattle.sm_instance.specs.Stable.{HasWorse, Blocks, IsStable}
-use Rattle.sm_instance.specs.Loads.{IsGainLimit}
+use Rattle.sm_instance.specs.Stable.{HasWorse, Blocks, IsStable, IsGainLimit}
 use Rattle.sm_instance.specs.Kept.{cross_place}
 use Rattle.sm_instance.proofs.ListLemmas.{row_in_range}
 use Rattle.sm_instance.proofs.PlaceLemmas.{place_of-entry}
 use Rattle.sm_instance.proofs.AcceptLemmas.{cross_some, accepts_at, one_sided_at}
-use Rattle.sm_instance.proofs.LoadLemmas.{load_more, test_cases, place_at, at_place}
+use Rattle.sm_instance.proofs.LoadLemmas.{load_before-suc, test_cases, place_at, at_place}
 use Rattle.sm_judge.specs.declared.verdicts.Reason.{Reason}
 use Rattle.sm_judge.specs.declared.verdicts.Reason.TheVariants as reason
 use Rattle.sm_judge.specs.Verdicts.{number_of_reason, IsFirstThere}
@@ -28,10 +27,10 @@ module _ (w : Written) (a b : List (Option ℕ)) (r : ℕ) (same : (q : ℕ) →
   same_load zero = refl
   same_load (suc k) =
       let one : suc k ≡ k + 1 = omega arith in
-      ap (λ n. load_before w a n r) one ∙ load_more w a k r
+      ap (λ n. load_before w a n r) one ∙ load_before-suc w a k r
       ∙ ap (λ n. n + (if is_at w a k r then 1 else 0)) (same_load k)
       ∙ ap (λ t. load_before w b k r + (if t then 1 else 0)) (same k)
-      ∙ sym (load_more w b k r) ∙ ap (λ n. load_before w b n r) (sym one)
+      ∙ sym (load_before-suc w b k r) ∙ ap (λ n. load_before w b n r) (sym one)
 
   worse_too : (p : ℕ) → HasWorse w a r p → HasWorse w b r p
   worse_too p h =

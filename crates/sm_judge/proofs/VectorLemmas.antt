@@ -8,7 +8,7 @@ use Rattle.std.proofs.lemmas.Option.{none-some, same_Some}
 use Rattle.sm_lists.proofs.Counting.{lt_or_le, less_same_more}
 use Rattle.sm_instance.specs.Written.{Written, row, entry, capacity_of, IsAcceptable}
 use Rattle.sm_instance.specs.Matching.{held, standing, IsAssignment, IsMatching, IsBreach, IsFirstBreach, is_at, leads_to, load_before}
-use Rattle.sm_instance.proofs.LoadLemmas.{load_more_yes}
+use Rattle.sm_instance.proofs.LoadLemmas.{load_before-suc_at}
 use Rattle.sm_instance.proofs.BreachLemmas.{load_mono}
 use Rattle.sm_instance.specs.Ranks.{rank_vector_of, IsBefore}
 use Rattle.sm_judge.specs.Vectors.{place_of_rank, places_of_ranks}
@@ -114,7 +114,7 @@ breach_fails w places p f m = go b.cause
 
     go : (¬ IsAcceptable w p (entry w.proposers p b.at)) ⊎ (capacity_of w.reviewers (entry w.proposers p b.at) ≤ load_before w places p (entry w.proposers p b.at)) → ⊥
     go (inl n) = n (m.acceptable p b.at b.holds)
-    go (inr full) = omega (arith, full, load_more_yes w places p (entry w.proposers p b.at) there, load_mono w places (entry w.proposers p b.at) (p + 1) (length w.proposers) (omega (arith, in_range)), m.within (entry w.proposers p b.at))
+    go (inr full) = omega (arith, full, load_before-suc_at w places p (entry w.proposers p b.at) there, load_mono w places (entry w.proposers p b.at) (p + 1) (length w.proposers) (omega (arith, in_range)), m.within (entry w.proposers p b.at))
 
 -- where a breach was found the assignment isn't a matching
 pub not_matching : (w : Written) (places : List (Option ℕ)) (o : Option ℕ) → MatchOption o (IsMatching w places) (λ p. IsFirstBreach w places p) → is_some o ≡ true → IsMatching w places → ⊥

@@ -11,9 +11,9 @@ use Rattle.sm_market.specs.Pairing.{Paired, IsPairingOf}
 use Rattle.sm_market.specs.Stable.{IsStable}
 use Rattle.sm_theory.specs.Rotations.{IsExposed, IsLowestExposed, IsNothingExposed, eliminated}
 use Rattle.sm_theory.specs.Chains.{stage, rotation_at, AreNeedsOf}
-use Rattle.sm_theory.proofs.Bridge.Chain.{stage_before, rotation_before, rotation_new}
+use Rattle.sm_theory.proofs.Bridge.Chain.{stage_before, rotation_at-push_before, rotation_at-push_new}
 use Rattle.sm_net.specs.declared.moves.Move.{Move}
-use Rattle.sm_net.specs.Moves.{moves_in, row_of_moves, AreMovesOf, AreOnLists}
+use Rattle.sm_net.specs.Moves.{moves_in, row_of_moves, AreRotationMoves, AreOnLists}
 use Rattle.sm_decide.specs.Exposure.{IsSearchAt}
 use Rattle.sm_decide.specs.Noting.{IsNotesFor, AreNoted}
 use Rattle.sm_decide.proofs.NotingLemmas.{eliminable_more}
@@ -25,15 +25,16 @@ use Rattle.sm_report.specs.Lines.{LineData, line_of}
 use Rattle.sm_theory.proofs.Chains.Length.{short_eliminable}
 use Rattle.sm_judge.specs.declared.verdicts.Reason.{Reason}
 use Rattle.sm_judge.specs.declared.verdicts.Reason.TheVariants as reason
-use Rattle.sm_judge.specs.declared.walk.Walk.{Walk}
+use Rattle.sm_judge.specs.declared.chain_walk.ChainWalk.{ChainWalk}
 use Rattle.sm_forms.specs.Seats.{all_numbered, seat_number}
 use Rattle.sm_judge.specs.Said.{first_in, firsts_in, rotation_in, rotations_in, needs_in, is_up_to_firsts, is_up_to_rotations, IsFirstBehind}
-use Rattle.sm_judge.specs.SeatMatchings.{IsFreeSeat, first_of, seat_places_in}
+use Rattle.sm_judge.specs.SeatMatchings.{IsFreeSeat, first_of, seat_places_in, AreSeatPairs}
 use Rattle.sm_judge.specs.Chain.{RotationsHold, reached, last_rotation}
-use Rattle.sm_judge.specs.SeatPairsKept.{AreSeatPairs, HasTakenSeat}
+use Rattle.sm_judge.specs.SeatPairsKept.{HasTakenSeat}
 use Rattle.sm_judge.specs.declared.seat_pairs.SeatPairs.{SeatPairs}
 use Rattle.sm_report.specs.Heads.{HeadData}
-use Rattle.sm_judge.specs.Walks.{AreChainMoves, IsWalk, IsWalkOf, HasStepped, AreFirstsKept}
+use Rattle.sm_judge.specs.Walks.{AreChainMoves, IsChainWalk, IsWalkOf, AreFirstsKept}
+use Rattle.sm_judge.specs.WalksKept.{HasStepped}
 use Rattle.sm_judge.specs.Verdicts.{IsFirstThere}
 use Rattle.sm_judge.proofs.AnswerLemmas.{first_clause, said_same, said_one}
 use Rattle.sm_forms.proofs.TakingLemmas.{and_left, and_right, all_more}
@@ -45,7 +46,7 @@ stage_new l first xs x =
     let long : length (xs ++ x ∷ []) ≡ suc (length xs) = omega (arith, length_push xs x) in
     ap (stage l first (xs ++ x ∷ [])) long
     ∙ ap (λ (m : Places). eliminated l m (rotation_at (xs ++ x ∷ []) (length xs))) (stage_before l first xs x (length xs) (omega arith))
-    ∙ ap (eliminated l (stage l first xs (length xs))) (rotation_new xs x (length xs) refl)
+    ∙ ap (eliminated l (stage l first xs (length xs))) (rotation_at-push_new xs x (length xs) refl)
 
 -- the moves of one more rotation
 pub no_moves : (l : Lists) → AreChainMoves l [] []
@@ -55,22 +56,22 @@ no_moves l = record {
 }
 
 -- its moves stand behind those before
-pub moves_more : {l : Lists} {rotations : List (List (ℕ × ℕ))} {rows : List (List Move)} → AreChainMoves l rotations rows → (rotation : List (ℕ × ℕ)) (moves : List Move) → AreMovesOf l rotation moves → AreOnLists l moves
+pub moves_more : {l : Lists} {rotations : List (List (ℕ × ℕ))} {rows : List (List Move)} → AreChainMoves l rotations rows → (rotation : List (ℕ × ℕ)) (moves : List Move) → AreRotationMoves l rotation moves → AreOnLists l moves
     → AreChainMoves l (rotations ++ rotation ∷ []) (rows ++ moves ∷ [])
 moves_more {l} {rotations} {rows} c rotation moves is on = record {
   moves = record { one_each = omega (arith, c.moves.one_each, length_push rotations rotation, length_push rows moves); each = each };
   on_lists = on_lists;
 }
   where
-    each : (k : ℕ) → k < length (rotations ++ rotation ∷ []) → AreMovesOf l (rotation_at (rotations ++ rotation ∷ []) k) (row_of_moves (rows ++ moves ∷ []) k)
+    each : (k : ℕ) → k < length (rotations ++ rotation ∷ []) → AreRotationMoves l (rotation_at (rotations ++ rotation ∷ []) k) (row_of_moves (rows ++ moves ∷ []) k)
     each k less = elim (cases_lt k (length rotations)) [
-      | inl below ↦ subst (AreMovesOf l (rotation_at (rotations ++ rotation ∷ []) k)) (sym (get_or_append_left rows (moves ∷ []) [] k (omega (arith, c.moves.one_each, below))))
-          (subst (λ (r : List (ℕ × ℕ)). AreMovesOf l r (row_of_moves rows k)) (sym (rotation_before rotations rotation k below)) (c.moves.each k below))
+      | inl below ↦ subst (AreRotationMoves l (rotation_at (rotations ++ rotation ∷ []) k)) (sym (get_or_append_left rows (moves ∷ []) [] k (omega (arith, c.moves.one_each, below))))
+          (subst (λ (r : List (ℕ × ℕ)). AreRotationMoves l r (row_of_moves rows k)) (sym (rotation_at-push_before rotations rotation k below)) (c.moves.each k below))
       | inr past ↦
           let e : k ≡ length rotations = omega (arith, past, less, length_push rotations rotation) in
           let f : length rows ≡ k = omega (arith, e, c.moves.one_each) in
-          subst (AreMovesOf l (rotation_at (rotations ++ rotation ∷ []) k)) (sym (get_or_push rows moves [] k f))
-          (subst (λ (r : List (ℕ × ℕ)). AreMovesOf l r moves) (sym (rotation_new rotations rotation k e)) is)
+          subst (AreRotationMoves l (rotation_at (rotations ++ rotation ∷ []) k)) (sym (get_or_push rows moves [] k f))
+          (subst (λ (r : List (ℕ × ℕ)). AreRotationMoves l r moves) (sym (rotation_at-push_new rotations rotation k e)) is)
     ]
 
     on_lists : (k : ℕ) → AreOnLists l (row_of_moves (rows ++ moves ∷ []) k)
@@ -82,7 +83,7 @@ moves_more {l} {rotations} {rows} c rotation moves is on = record {
       ]
     ]
 
-module _ {l : Lists} {first : Places} {rotations : List (List (ℕ × ℕ))} {walk : Walk} (k : IsWalk l first rotations walk) (rotation : List (ℕ × ℕ)) where
+module _ {l : Lists} {first : Places} {rotations : List (List (ℕ × ℕ))} {walk : ChainWalk} (k : IsChainWalk l first rotations walk) (rotation : List (ℕ × ℕ)) where
   -- there is room for one more that is exposed
   pub room : IsExposed l walk.matching.places rotation → walk.notes.count < walk.notes.most
   room x =
@@ -90,7 +91,7 @@ module _ {l : Lists} {first : Places} {rotations : List (List (ℕ × ℕ))} {wa
       omega (arith, short, length_push rotations rotation, k.noted.count, k.most)
 
   -- the walk with all that is kept of it has taken one step more
-  pub stepped : (after : Walk) → after.first ≡ walk.first → AreChainMoves l (rotations ++ rotation ∷ []) (moves_in after.moves.items) → IsLowestExposed l walk.matching.places rotation → IsSearchAt l walk.matching.places after.search → IsPairingOf l after.matching → after.matching.places ≡ eliminated l walk.matching.places rotation
+  pub stepped : (after : ChainWalk) → after.first ≡ walk.first → AreChainMoves l (rotations ++ rotation ∷ []) (moves_in after.moves.items) → IsLowestExposed l walk.matching.places rotation → IsSearchAt l walk.matching.places after.search → IsPairingOf l after.matching → after.matching.places ≡ eliminated l walk.matching.places rotation
       → IsStable l after.matching.places → IsNotesFor l after.notes → after.notes.most ≡ walk.notes.most → AreNoted l first (rotations ++ rotation ∷ []) after.notes → after.is_whole ≡ walk.is_whole → HasStepped l first rotations rotation walk after
   stepped after from moves lowest search made moved stable notes most noted same = record {
     lowest = lowest;
@@ -126,7 +127,7 @@ other_line w (Line.Rotation i pairs) a b c = absurd (b i pairs refl)
 other_line w (Line.Needs i needed) a b c = absurd (c i needed refl)
 other_line w _ a b c = (refl, refl, refl)
 
-module _ {w : Written} {above : List LineData} {walk : Walk} (k : IsWalkOf w above walk) where
+module _ {w : Written} {above : List LineData} {walk : ChainWalk} (k : IsWalkOf w above walk) where
   -- the clauses at a line
   rotations_hold : (x : LineData) → first_in w x ≡ None → IfSome (rotation_in w x) (IsLowestExposed (seat_market w) (reached w above)) → (IsFirstBehind is_up_to_rotations above x → IsNothingExposed (seat_market w) (reached w above))
       → IfSome (needs_in x) (AreNeedsOf (seat_market w) (rotations_in w above) (last_rotation w above)) → (why : Reason) → RotationsHold w above x why
@@ -139,11 +140,11 @@ module _ {w : Written} {above : List LineData} {walk : Walk} (k : IsWalkOf w abo
   rotations_hold x none exposed missing needs _ = (tt, tt)
 
   -- what is kept of it
-  walk_on : (x : LineData) (after : Walk) → first_in w x ≡ None → rotation_in w x ≡ None → IsWalk (seat_market w) (first_of w above) (rotations_in w above) after
-      → IsWalk (seat_market w) (first_of w (above ++ x ∷ [])) (rotations_in w (above ++ x ∷ [])) after
+  walk_on : (x : LineData) (after : ChainWalk) → first_in w x ≡ None → rotation_in w x ≡ None → IsChainWalk (seat_market w) (first_of w above) (rotations_in w above) after
+      → IsChainWalk (seat_market w) (first_of w (above ++ x ∷ [])) (rotations_in w (above ++ x ∷ [])) after
   walk_on x after none no_rotation is =
-      subst (λ (pairs : List (ℕ × ℕ)). IsWalk (seat_market w) (seat_places_in (seat_market w) pairs) (rotations_in w (above ++ x ∷ [])) after) (sym (said_same (first_in w) above x none))
-      (subst (λ (rotations : List (List (ℕ × ℕ))). IsWalk (seat_market w) (first_of w above) rotations after) (sym (said_same (rotation_in w) above x no_rotation)) is)
+      subst (λ (pairs : List (ℕ × ℕ)). IsChainWalk (seat_market w) (seat_places_in (seat_market w) pairs) (rotations_in w (above ++ x ∷ [])) after) (sym (said_same (first_in w) above x none))
+      (subst (λ (rotations : List (List (ℕ × ℕ))). IsChainWalk (seat_market w) (first_of w above) rotations after) (sym (said_same (rotation_in w) above x no_rotation)) is)
 
   -- a line of the group that has neither a pair nor a rotation
   pub still : (x : LineData) → is_up_to_rotations x ≡ true → first_in w x ≡ None → rotation_in w x ≡ None → IfSome (needs_in x) (AreNeedsOf (seat_market w) (rotations_in w above) (last_rotation w above))
@@ -159,7 +160,7 @@ module _ {w : Written} {above : List LineData} {walk : Walk} (k : IsWalkOf w abo
   )
 
   -- a line behind the group
-  pub past : (x : LineData) → is_up_to_rotations x ≡ false → (after : Walk) → IsWalk (seat_market w) (first_of w above) (rotations_in w above) after → IsNothingExposed (seat_market w) after.matching.places → after.is_whole ≡ true
+  pub past : (x : LineData) → is_up_to_rotations x ≡ false → (after : ChainWalk) → IsChainWalk (seat_market w) (first_of w above) (rotations_in w above) after → IsNothingExposed (seat_market w) after.matching.places → after.is_whole ≡ true
       → ((why : Reason) → RotationsHold w above x why) × IsWalkOf w (above ++ x ∷ []) after
   past x behind after is ended whole =
       let said = none_said w x behind in (
@@ -174,7 +175,7 @@ module _ {w : Written} {above : List LineData} {walk : Walk} (k : IsWalkOf w abo
       )
 
   -- a line with a rotation
-  pub along : (i : ℕ) (pairs : List (ℕ × Seat)) (rotation : List (ℕ × ℕ)) → rotation ≡ all_numbered w pairs → (after : Walk) → HasStepped (seat_market w) (first_of w above) (rotations_in w above) rotation walk after
+  pub along : (i : ℕ) (pairs : List (ℕ × Seat)) (rotation : List (ℕ × ℕ)) → rotation ≡ all_numbered w pairs → (after : ChainWalk) → HasStepped (seat_market w) (first_of w above) (rotations_in w above) rotation walk after
       → ((why : Reason) → RotationsHold w above (LineData.Rotation i pairs) why) × IsWalkOf w (above ++ LineData.Rotation i pairs ∷ []) after
   along i pairs rotation is after s =
       let x : LineData = LineData.Rotation i pairs in (
@@ -182,9 +183,9 @@ module _ {w : Written} {above : List LineData} {walk : Walk} (k : IsWalkOf w abo
             (λ b. absurd (false≢true b.behind)) tt,
         record {
           is_walk =
-              subst (λ (said : List (ℕ × ℕ)). IsWalk (seat_market w) (seat_places_in (seat_market w) said) (rotations_in w (above ++ x ∷ [])) after) (sym (said_same (first_in w) above x refl))
-              (subst (λ (rotations : List (List (ℕ × ℕ))). IsWalk (seat_market w) (first_of w above) rotations after) (sym (said_one (rotation_in w) above x (all_numbered w pairs) refl))
-              (subst (λ (r : List (ℕ × ℕ)). IsWalk (seat_market w) (first_of w above) (rotations_in w above ++ r ∷ []) after) is s.is_walk));
+              subst (λ (said : List (ℕ × ℕ)). IsChainWalk (seat_market w) (seat_places_in (seat_market w) said) (rotations_in w (above ++ x ∷ [])) after) (sym (said_same (first_in w) above x refl))
+              (subst (λ (rotations : List (List (ℕ × ℕ))). IsChainWalk (seat_market w) (first_of w above) rotations after) (sym (said_one (rotation_in w) above x (all_numbered w pairs) refl))
+              (subst (λ (r : List (ℕ × ℕ)). IsChainWalk (seat_market w) (first_of w above) (rotations_in w above ++ r ∷ []) after) is s.is_walk));
           going = λ e. all_more is_up_to_rotations above x (k.going (sym s.same ∙ e)) refl;
           whole = λ e. absurd ((k.whole (sym s.same ∙ e)).none rotation s.lowest.exposed);
         },
@@ -214,12 +215,12 @@ all_up_to w (x ∷ above) e =
 
 -- the rotations begin behind the first matching
 pub begun : {w : Written} {above : List LineData} {pairs : SeatPairs} (l : Lists) → l ≡ seat_market w → AreFirstsKept w above pairs → (first : Places) → ((said : List (ℕ × ℕ)) → AreSeatPairs l said pairs → first ≡ seat_places_in l said)
-    → (walk : Walk) → IsWalk l first [] walk → walk.is_whole ≡ false → IsWalkOf w above walk
+    → (walk : ChainWalk) → IsChainWalk l first [] walk → walk.is_whole ≡ false → IsWalkOf w above walk
 begun {w} {above} {pairs} l is k first places walk is_walk going =
     let up = all_up_to w above k.up_to in
     let at : first ≡ first_of w above = (rw is at places) (firsts_in w above) k.kept in
     record {
-      is_walk = subst (λ (rotations : List (List (ℕ × ℕ))). IsWalk (seat_market w) (first_of w above) rotations walk) (sym up.1) (subst (λ (m : Places). IsWalk (seat_market w) m [] walk) at (subst (λ (l : Lists). IsWalk l first [] walk) is is_walk));
+      is_walk = subst (λ (rotations : List (List (ℕ × ℕ))). IsChainWalk (seat_market w) (first_of w above) rotations walk) (sym up.1) (subst (λ (m : Places). IsChainWalk (seat_market w) m [] walk) at (subst (λ (l : Lists). IsChainWalk l first [] walk) is is_walk));
       going = λ _. up.0;
       whole = λ e. absurd (false≢true (sym going ∙ e));
     }

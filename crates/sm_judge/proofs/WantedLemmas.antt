@@ -12,9 +12,9 @@ use Rattle.sm_theory.specs.declared.choice.Choice.TheVariants.{Better, Worse}
 use Rattle.sm_pairs.specs.Held.{partner_in}
 use Rattle.sm_pairs.specs.Chosen.{chosen_places}
 use Rattle.sm_pairs.specs.declared.holding.Holding.{Holding}
-use Rattle.sm_pairs.proofs.HoldingLemmas.{here_later, other_later, no_places}
+use Rattle.sm_pairs.proofs.HoldingLemmas.{partner_in-push_same, partner_in-push_other, no_places}
 use Rattle.sm_judge.specs.PairsKept.{ArePairsHeld}
-use Rattle.sm_judge.specs.WantedKept.{AreStood}
+use Rattle.sm_judge.specs.Stood.{AreStood}
 
 -- one more proposer stands
 pub stood_more : (w : Written) (pairs : List (ℕ × ℕ)) (stood : List Bool) (p r : ℕ) → AreStood w pairs stood → p < length w.proposers → partner_in pairs p ≡ None
@@ -27,12 +27,12 @@ stood_more w pairs stood p r k l none = record {
     by_same : (q : ℕ) → q < length w.proposers → (((q == p) ≡ true) × (q ≡ p)) ⊎ (((q == p) ≡ false) × (q ≢ p)) → get_or (set stood p true) q false ≡ is_some (partner_in (pairs ++ (p, r) ∷ []) q)
     by_same q q_in (inl x) =
         let inside : p < length stood = (let one = k.one_each in omega (arith, one, l)) in
-        ap (λ n. get_or (set stood p true) n false) x.1 ∙ get_or-set_same stood p true false inside ∙ sym (ap is_some (here_later pairs p r none)) ∙ ap (λ n. is_some (partner_in (pairs ++ (p, r) ∷ []) n)) (sym x.1)
-    by_same q q_in (inr x) = get_or-set_other stood p q true false x.1 ∙ k.stands q q_in ∙ ap is_some (sym (other_later pairs p r q none x.1))
+        ap (λ n. get_or (set stood p true) n false) x.1 ∙ get_or-set_same stood p true false inside ∙ sym (ap is_some (partner_in-push_same pairs p r none)) ∙ ap (λ n. is_some (partner_in (pairs ++ (p, r) ∷ []) n)) (sym x.1)
+    by_same q q_in (inr x) = get_or-set_other stood p q true false x.1 ∙ k.stands q q_in ∙ ap is_some (sym (partner_in-push_other pairs p r q none x.1))
 
 -- who doesn't stand has no partner in the pairs
-pub none_stands : (w : Written) (pairs : List (ℕ × ℕ)) (stood : List Bool) (p : ℕ) → AreStood w pairs stood → p < length w.proposers → get_or stood p false ≡ false → partner_in pairs p ≡ None
-none_stands w pairs stood p k l e = go (partner_in pairs p) (sym (k.stands p l) ∙ e)
+pub partner_in-none : (w : Written) (pairs : List (ℕ × ℕ)) (stood : List Bool) (p : ℕ) → AreStood w pairs stood → p < length w.proposers → get_or stood p false ≡ false → partner_in pairs p ≡ None
+partner_in-none w pairs stood p k l e = go (partner_in pairs p) (sym (k.stands p l) ∙ e)
   where
     go : (o : Option ℕ) → is_some o ≡ false → o ≡ None
     go None h = refl

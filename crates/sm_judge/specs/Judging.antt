@@ -56,7 +56,7 @@ pub record IsJudged (input : Input) (texts : List (List ℕ)) (first_line : ℕ)
   pub judged : IsVerdict (Holds input lines) first_line verdict
 
 -- the texts aren't of the form, first at this line
-pub record IsBadAt (input : Input) (texts : List (List ℕ)) (first_line line : ℕ) : Type 0 where
+pub record IsBadAnswerAt (input : Input) (texts : List (List ℕ)) (first_line line : ℕ) : Type 0 where
   pub number : ℕ
   pub misplaced : IsMisplaced input texts number
   pub at : line ≡ first_line + number

@@ -12,10 +12,12 @@ pub mod Tried
 pub mod Listing
 pub mod Walking
 pub mod PairsKept
-pub mod WantedKept
+pub mod Stood
+pub mod ChosenKept
 pub mod Solving
 pub mod SeatPairsKept
 pub mod Walks
+pub mod WalksKept
 pub mod ListsKept
 pub mod ReducedKept
 pub mod Regrets

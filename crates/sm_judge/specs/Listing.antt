@@ -5,7 +5,7 @@ use Rattle.sm_theory.specs.Listings.{end_of}
 use Rattle.sm_report.specs.Lines.{LineData}
 use Rattle.sm_judge.specs.Said.{vectors_in}
 use Rattle.sm_judge.specs.Vectors.{place_of_rank, places_of_ranks}
-use Rattle.sm_judge.specs.Tried.{HasRoom, IsTried}
+use Rattle.sm_judge.specs.Tried.{HasTrialRoom, IsTried}
 use Rattle.sm_judge.specs.declared.tried.Tried.{Tried}
 
 -- the number is a rank of p, that of being unmatched included
@@ -29,5 +29,5 @@ pub record AreVectorsKept (w : Written) (after : Option (List ℕ)) (above : Lis
   pub last_is : last_or count last after ≡ end_of after (vectors_in above)
   pub one_each : length last ≡ length w.proposers
   pub after_each : IfSome after (λ b. length b ≡ length w.proposers)
-  pub room : HasRoom w tried
+  pub room : HasTrialRoom w tried
   pub kept : 0 < count → IsTried w (places_of_ranks w last) tried

@@ -2,9 +2,8 @@
 use Rattle.std.specs.Prelude.{◌≡◌, ℕ, ◌<◌, ◌==◌, List, count_by, Option, None, Some, IsSome, IfSome}
 use Rattle.sm_instance.specs.Written.{Written, place_of, capacity_of, IsAcceptable}
 use Rattle.sm_instance.specs.Matching.{held}
-use Rattle.sm_instance.specs.Stable.{IsStable, IsProposersBest, IsReviewersBest}
+use Rattle.sm_instance.specs.Stable.{IsStable, IsBestOf}
 use Rattle.sm_instance.specs.declared.kinds.Side.{Side}
-use Rattle.sm_instance.specs.declared.kinds.Side.TheVariants.{Proposers, Reviewers}
 use Rattle.sm_theory.specs.declared.choice.Choice.{Choice}
 use Rattle.sm_report.specs.Lines.{LineData}
 use Rattle.sm_pairs.specs.Held.{partner_in, places_in}
@@ -22,11 +21,6 @@ pub record IsFree (w : Written) (before : List (ℕ × ℕ)) (pair : ℕ × ℕ)
   pub acceptable : IsAcceptable w pair.0 pair.1
   pub proposer_free : partner_in before pair.0 ≡ None
   pub place_free : times_second before pair.1 < capacity_of w.reviewers pair.1
-
--- the best stable matching of a side
-abbrev pub IsBestOf : Side → Written → List (Option ℕ) → Type 0
-IsBestOf Proposers w places = IsProposersBest w places
-IsBestOf Reviewers w places = IsReviewersBest w places
 
 -- `solve`: at a line behind these pairs
 abbrev pub SolveHolds : Written → Side → List (ℕ × ℕ) → LineData → Reason → Type 0

@@ -24,15 +24,15 @@ pub record AreMet (party : List ℕ) (old : List Bool) (k : ℕ) (met : List Boo
   pub only : (z : ℕ) → is_met met z ≡ true → (is_met old z ≡ true) ⊎ ((j : ℕ) × (j < k) × (slice_index party j ≡ z))
 
 -- a person of a party had been met, or stands in it before
-pub record IsRepeated (party : List ℕ) (old : List Bool) : Type 0 where
+pub record HasRepeatedPerson (party : List ℕ) (old : List Bool) : Type 0 where
   pub at : ℕ
   pub on_list : at < length party
   pub before : (is_met old (slice_index party at) ≡ true) ⊎ ((j : ℕ) × (j < at) × (slice_index party j ≡ slice_index party at))
 
 -- true says that all persons of the party were met now for the first time, and false that one is repeated
-abbrev pub Meets : List ℕ → (old new : List Bool) → Bool → Type 0
-Meets party old new true = AreMet party old (length party) new
-Meets party old new false = IsRepeated party old
+abbrev pub MeetsParty : List ℕ → (old new : List Bool) → Bool → Type 0
+MeetsParty party old new true = AreMet party old (length party) new
+MeetsParty party old new false = HasRepeatedPerson party old
 
 -- who follows the person at place j of a party
 abbrev pub follower : List ℕ → ℕ → ℕ
@@ -65,9 +65,9 @@ pub record HasParted (parties : List (List ℕ)) (party : List ℕ) (persons : �
   pub held : ArePartiesHeld persons (parties ++ party ∷ []) next met odd
 
 -- true says that the party is kept, and false that it isn't new
-abbrev pub Parts : List (List ℕ) → List ℕ → (persons : ℕ) → (next : List ℕ) → (met : List Bool) → (odd result : Bool) → Type 0
-Parts parties party persons next met odd true = HasParted parties party persons next met odd
-Parts parties party persons next met odd false = ¬ AreNew parties party
+abbrev pub KeepsParty : List (List ℕ) → List ℕ → (persons : ℕ) → (next : List ℕ) → (met : List Bool) → (odd result : Bool) → Type 0
+KeepsParty parties party persons next met odd true = HasParted parties party persons next met odd
+KeepsParty parties party persons next met odd false = ¬ AreNew parties party
 
 -- the parties of the lines above are kept, over the lists of these persons
 pub record ArePartiesKept (persons : List AgentData) (rows : List (List ℕ)) (above : List LineData) (next : List ℕ) (met : List Bool) (odd : Bool) : Type 0 where

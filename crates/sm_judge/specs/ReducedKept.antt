@@ -6,13 +6,12 @@ use Rattle.sm_market.specs.Lists.{Lists, IsMarket}
 use Rattle.sm_market.specs.Matching.{Places}
 use Rattle.sm_market.specs.Stable.{IsStable, IsProposersBest, IsReviewersBest}
 use Rattle.sm_seats.specs.SeatMarket.{seat_market}
-use Rattle.sm_seats.specs.Tables.{first_seats_of}
+use Rattle.sm_seats.specs.Counted.{first_seats_of}
 use Rattle.sm_report.specs.Lines.{LineData}
 use Rattle.sm_judge.specs.declared.verdicts.Reason.{Reason}
 use Rattle.sm_judge.specs.declared.verdicts.Reason.TheVariants as reason
 use Rattle.sm_judge.specs.Said.{firsts_in, lasts_in, is_up_to_firsts, is_up_to_lasts}
-use Rattle.sm_judge.specs.SeatMatchings.{first_of, last_of}
-use Rattle.sm_judge.specs.SeatPairsKept.{AreSeatPairs}
+use Rattle.sm_judge.specs.SeatMatchings.{first_of, last_of, AreSeatPairs}
 use Rattle.sm_judge.specs.ListsKept.{AreListsOf}
 use Rattle.sm_judge.specs.declared.seat_pairs.SeatPairs.{SeatPairs}
 use Rattle.sm_judge.specs.declared.seat_lists.SeatLists.{SeatLists}

@@ -1,10 +1,11 @@
 -- The clauses on matchings that an answer writes by pairs of a proposer and a seat.
-use Rattle.std.specs.Prelude.{◌≡◌, ℕ, ◌<◌, List, length, map, None, IfSome}
+use Rattle.std.specs.Prelude.{◌≡◌, ℕ, ◌<◌, ◌==◌, not, false, List, length, map, None, IfSome, slice_index_or}
 use Rattle.std.specs.Option.{option_map}
 use Rattle.sm_instance.specs.Written.{Written}
 use Rattle.sm_market.specs.Lists.{Lists, row, place_of, agents}
 use Rattle.sm_market.specs.Matching.{Places}
 use Rattle.sm_market.specs.Stable.{IsStable, IsProposersBest, IsReviewersBest}
+use Rattle.sm_market.specs.PairingFaults.{AreHeld}
 use Rattle.sm_theory.specs.Lattice.{with_proposers}
 use Rattle.sm_seats.specs.SeatMarket.{seat_market}
 use Rattle.sm_report.specs.Lines.{LineData}
@@ -13,6 +14,7 @@ use Rattle.sm_judge.specs.declared.verdicts.Reason.TheVariants as reason
 use Rattle.sm_judge.specs.Said.{first_in, firsts_in, last_in, lasts_in, is_up_to_firsts, is_up_to_lasts, IsFirstBehind}
 use Rattle.sm_pairs.specs.Held.{partner_in}
 use Rattle.sm_judge.specs.Pairs.{times_second}
+use Rattle.sm_judge.specs.declared.seat_pairs.SeatPairs.{SeatPairs}
 
 -- a pair may stand behind those before it: each lists the other, and neither is in one of them
 pub record IsFreeSeat (l : Lists) (before : List (ℕ × ℕ)) (pair : ℕ × ℕ) : Type 0 where
@@ -24,6 +26,13 @@ pub record IsFreeSeat (l : Lists) (before : List (ℕ × ℕ)) (pair : ℕ × �
 abbrev pub seat_places_in : Lists → List (ℕ × ℕ) → Places
 seat_places_in l pairs =
     with_proposers l (map (λ p. option_map (place_of l.proposers p) (partner_in pairs p)) (agents l.proposers))
+
+-- these places are of the matching that the pairs make, and these seats stand in them
+pub record AreSeatPairs (l : Lists) (pairs : List (ℕ × ℕ)) (kept : SeatPairs) : Type 0 where
+  pub places : kept.places.items ≡ (seat_places_in l pairs).proposers
+  pub held : AreHeld l kept.places.items
+  pub seats_each : length kept.taken.items ≡ length l.reviewers
+  pub taken : (r : ℕ) → r < length l.reviewers → slice_index_or kept.taken.items r false ≡ not (times_second pairs r == 0)
 
 -- the matchings that the first and the last seats write
 abbrev pub first_of : Written → List LineData → Places

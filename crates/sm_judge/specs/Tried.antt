@@ -2,8 +2,7 @@
 use Rattle.std.specs.Prelude.{◌≡◌, ℕ, ◌<◌, ◌≤◌, ◌⊎◌, Bool, true, false, List, length, Option, IfSome, slice_index, slice_index_or}
 use Rattle.sm_instance.specs.Written.{Written, entry, place_of}
 use Rattle.sm_instance.specs.Matching.{held, IsMatching}
-use Rattle.sm_instance.specs.Stable.{Blocks, IsStable}
-use Rattle.sm_instance.specs.Loads.{IsGainLimit}
+use Rattle.sm_instance.specs.Stable.{Blocks, IsStable, IsGainLimit}
 use Rattle.sm_judge.specs.declared.verdicts.Reason.{Reason}
 use Rattle.sm_judge.specs.declared.verdicts.Reason.TheVariants as reason
 use Rattle.sm_judge.specs.declared.tried.Tried.{Tried}
@@ -55,7 +54,7 @@ StableHolds w places reason.Blocked = IsStable w places
 StableHolds w places _ = Unit {0}
 
 -- there is room for the matchings of two vectors, and for the limits and marks of all reviewers
-pub record HasRoom (w : Written) (tried : Tried) : Type 0 where
+pub record HasTrialRoom (w : Written) (tried : Tried) : Type 0 where
   pub matching_each : length tried.matching.places.items ≡ length w.proposers
   pub next_each : length tried.next.places.items ≡ length w.proposers
   pub limits_each : length tried.limits.items ≡ length w.reviewers

@@ -5,7 +5,7 @@ use Rattle.sm_instance.specs.Written.{Written, row}
 use Rattle.sm_instance.specs.Matching.{IsMatching}
 use Rattle.sm_instance.specs.Stable.{IsStable}
 use Rattle.sm_instance.specs.Allowed.{IsAllowed}
-use Rattle.sm_instance.specs.Ranks.{rank_vector_of, regret_of, IsBefore}
+use Rattle.sm_instance.specs.Ranks.{rank_vector_of, regret_of, IsBefore, order_of}
 use Rattle.sm_theory.specs.Listings.{IsBehind, end_of}
 use Rattle.sm_report.specs.Lines.{LineData}
 use Rattle.sm_judge.specs.declared.verdicts.Reason.{Reason}
@@ -26,10 +26,6 @@ places_of_ranks w v = map (place_of_rank w v) (range_with_len 0 (length w.propos
 pub record IsVectorOfMatching (w : Written) (v : List ℕ) : Type 0 where
   pub matching : IsMatching w (places_of_ranks w v)
   pub ranks : rank_vector_of w (places_of_ranks w v) ≡ v
-
--- the order in which vectors are compared
-abbrev pub order_of : Written → List ℕ
-order_of w = range_with_len 0 (length w.proposers)
 
 -- a vector behind so many others, of which this is the last, or else the cursor
 abbrev pub VectorHolds : Written → (before : Option (List ℕ)) → (count limit : ℕ) → List ℕ → Reason → Type 0

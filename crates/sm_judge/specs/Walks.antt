@@ -1,35 +1,34 @@
--- What is kept of a chain of rotations that an answer writes.
-use Rattle.std.specs.Prelude.{◌≡◌, ℕ, ◌++◌, ◌∷◌, [], Bool, true, false, List, length, Option, Some, None}
+-- A chain of rotations that an answer writes, as far as it was read.
+use Rattle.std.specs.Prelude.{◌≡◌, ℕ, true, false, List, length, Option, Some, None}
 use Rattle.std.specs.List.{list_all, sum_by}
 use Rattle.sm_instance.specs.Written.{Written}
 use Rattle.sm_market.specs.Lists.{Lists, IsMarket}
 use Rattle.sm_market.specs.Matching.{Places}
 use Rattle.sm_market.specs.Pairing.{IsPairingOf}
 use Rattle.sm_market.specs.Stable.{IsStable, IsProposersBest}
-use Rattle.sm_theory.specs.Rotations.{IsNothingExposed, IsLowestExposed}
+use Rattle.sm_theory.specs.Rotations.{IsNothingExposed}
 use Rattle.sm_theory.specs.Chains.{stage}
 use Rattle.sm_decide.specs.Exposure.{IsSearchAt}
 use Rattle.sm_decide.specs.Noting.{IsNotesFor, AreNoted}
 use Rattle.sm_net.specs.declared.moves.Move.{Move}
-use Rattle.sm_net.specs.Moves.{moves_in, row_of_moves, AreMoves, AreOnLists}
+use Rattle.sm_net.specs.Moves.{moves_in, row_of_moves, AreMovesByRotation, AreOnLists}
 use Rattle.sm_seats.specs.SeatMarket.{seat_market}
-use Rattle.sm_seats.specs.Tables.{first_seats_of}
+use Rattle.sm_seats.specs.Counted.{first_seats_of}
 use Rattle.sm_report.specs.Lines.{LineData}
 use Rattle.sm_judge.specs.Said.{firsts_in, rotations_in, is_up_to_firsts, is_up_to_rotations}
-use Rattle.sm_judge.specs.SeatMatchings.{first_of}
-use Rattle.sm_judge.specs.SeatPairsKept.{AreSeatPairs}
+use Rattle.sm_judge.specs.SeatMatchings.{first_of, AreSeatPairs}
 use Rattle.sm_judge.specs.declared.seat_pairs.SeatPairs.{SeatPairs}
-use Rattle.sm_judge.specs.declared.walk.Walk.{Walk}
+use Rattle.sm_judge.specs.declared.chain_walk.ChainWalk.{ChainWalk}
 
 -- how each of some rotations moves its proposers on these lists
 pub record AreChainMoves (l : Lists) (rotations : List (List (ℕ × ℕ))) (rows : List (List Move)) : Type 0 where
-  pub moves : AreMoves l rotations rows
+  pub moves : AreMovesByRotation l rotations rows
   pub on_lists : (k : ℕ) → AreOnLists l (row_of_moves rows k)
 
 -- rotations were eliminated one after the other from the proposers' best matching: how each moves its proposers, the matching
 -- that is reached, how far it was searched for exposed rotations, and the notes of what was eliminated, which have room for a
 -- rotation for each entry
-pub record IsWalk (l : Lists) (first : Places) (rotations : List (List (ℕ × ℕ))) (walk : Walk) : Type 0 where
+pub record IsChainWalk (l : Lists) (first : Places) (rotations : List (List (ℕ × ℕ))) (walk : ChainWalk) : Type 0 where
   pub market : IsMarket l
   pub best : IsProposersBest l first
   pub first_made : IsPairingOf l walk.first
@@ -43,26 +42,9 @@ pub record IsWalk (l : Lists) (first : Places) (rotations : List (List (ℕ × �
   pub most : walk.notes.most ≡ sum_by (λ list. length list) l.proposers
   pub noted : AreNoted l first rotations walk.notes
 
--- some were
-pub record HasWalked (l : Lists) (walk : Walk) : Type 0 where
-  pub first : Places
-  pub rotations : List (List (ℕ × ℕ))
-  pub is_walk : IsWalk l first rotations walk
-
--- a rotation is the next one, and is eliminated too; or it isn't
-pub record HasStepped (l : Lists) (first : Places) (rotations : List (List (ℕ × ℕ))) (rotation : List (ℕ × ℕ)) (before after : Walk) : Type 0 where
-  pub lowest : IsLowestExposed l before.matching.places rotation
-  pub is_walk : IsWalk l first (rotations ++ rotation ∷ []) after
-  pub same : after.is_whole ≡ before.is_whole
-
--- true says that the rotation is eliminated, and false that it isn't the next one
-abbrev pub StepsAlong : Lists → Places → List (List (ℕ × ℕ)) → List (ℕ × ℕ) → (before after : Walk) → Bool → Type 0
-StepsAlong l first rotations rotation before after true = HasStepped l first rotations rotation before after
-StepsAlong l first rotations rotation before after false = ¬ IsLowestExposed l before.matching.places rotation
-
 -- of the lines of an answer up to its rotations; or behind them, where nothing is exposed any more
-pub record IsWalkOf (w : Written) (above : List LineData) (walk : Walk) : Type 0 where
-  pub is_walk : IsWalk (seat_market w) (first_of w above) (rotations_in w above) walk
+pub record IsWalkOf (w : Written) (above : List LineData) (walk : ChainWalk) : Type 0 where
+  pub is_walk : IsChainWalk (seat_market w) (first_of w above) (rotations_in w above) walk
   pub going : walk.is_whole ≡ false → list_all is_up_to_rotations above ≡ true
   pub whole : walk.is_whole ≡ true → IsNothingExposed (seat_market w) walk.matching.places
 
@@ -72,12 +54,12 @@ pub record AreFirstsKept (w : Written) (above : List LineData) (pairs : SeatPair
   pub kept : AreSeatPairs (seat_market w) (firsts_in w above) pairs
 
 -- of the lines of an answer of `rotations`: the first seats, and then the rotations
-abbrev pub IsChainAt : Written → List LineData → SeatPairs → Option Walk → Type 0
+abbrev pub IsChainAt : Written → List LineData → SeatPairs → Option ChainWalk → Type 0
 IsChainAt w above pairs None = AreFirstsKept w above pairs
 IsChainAt w above pairs (Some walk) = IsWalkOf w above walk
 
 -- what is kept of the chain over the market of seats of an instance
-pub record IsChainKept (w : Written) (market : Lists) (firsts : List ℕ) (above : List LineData) (pairs : SeatPairs) (walk : Option Walk) : Type 0 where
+pub record IsChainKept (w : Written) (market : Lists) (firsts : List ℕ) (above : List LineData) (pairs : SeatPairs) (walk : Option ChainWalk) : Type 0 where
   pub market_is : market ≡ seat_market w
   pub firsts_are : firsts ≡ first_seats_of w
   pub at : IsChainAt w above pairs walk

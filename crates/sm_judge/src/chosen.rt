@@ -65,7 +65,7 @@ pub fn chosen_verdict(
 impl<'a> Judge for ChosenJudge<'a> {
     ghost use Rattle.sm_pairs.specs.Chosen.{head_for};
     ghost use Rattle.sm_judge.specs.Judging.{answer};
-    ghost use Rattle.sm_judge.specs.WantedKept.{AreChosenKept};
+    ghost use Rattle.sm_judge.specs.ChosenKept.{AreChosenKept};
 
     ghost subject = { λ j. answer j.instance.now (head_for j.choice) };
 

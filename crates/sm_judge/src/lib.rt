@@ -4,7 +4,7 @@
 //! first that fails is the verdict. What the clauses say stands in `specs`, by the definitions of the field alone.
 #![tactic(auto)]
 
-mod chain;
+mod chain_walk;
 mod chosen;
 mod couples;
 mod judging;
@@ -14,15 +14,15 @@ mod parties;
 mod persons;
 mod reduced;
 mod regret;
+mod rotations;
 mod seat_lists;
 mod seat_pairs;
 mod solving;
 mod tried;
 mod verdicts;
-mod walk;
 mod wanted;
 
-pub use chain::{Chain, rotations_verdict};
+pub use chain_walk::{ChainWalk, from_zero, is_up_to_rotations};
 pub use chosen::chosen_verdict;
 pub use couples::couples_verdict;
 pub use judging::{Judge, judge_lines};
@@ -30,8 +30,8 @@ pub use listing::list_verdict;
 pub use parties::parties_verdict;
 pub use reduced::reduced_verdict;
 pub use regret::regret_verdict;
+pub use rotations::{RotationsJudge, rotations_verdict};
 pub use seat_pairs::SeatPairs;
 pub use solving::solve_verdict;
 pub use verdicts::{Reason, Verdict};
-pub use walk::{Walk, from_zero, is_up_to_rotations};
 pub use wanted::Stood;

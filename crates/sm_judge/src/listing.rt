@@ -2,15 +2,16 @@
 
 ghost use Rattle.std.specs.Prelude.{◌≡◌, ◌<◌, ◌≤◌, ◌+◌, ◌-◌, ◌^◌, ◌↔◌, All, Some, None, IsTrue, IfOk, IfSome, length, map, nat_le, if◌then◌else◌};
 ghost use Rattle.std.specs.Option.{option_map};
+ghost use Rattle.sm_text.specs.Limits.{most_entries};
 ghost use Rattle.sm_instance.specs.Matching.{IsAssignment};
-ghost use Rattle.sm_instance.specs.Ranks.{rank_vector_of, IsBefore};
+ghost use Rattle.sm_instance.specs.Ranks.{rank_vector_of, IsBefore, order_of};
 ghost use Rattle.sm_theory.specs.Listings.{IsBehind};
 ghost use Rattle.sm_report.specs.Heads.HeadData.{List as ListHead};
 ghost use Rattle.sm_report.specs.Lines.{line_of};
 ghost use Rattle.sm_judge.specs.Verdicts.{AtLine, Finds, IsVerdict};
-ghost use Rattle.sm_judge.specs.Vectors.{MoreHolds, VectorHolds, places_of_ranks, order_of};
+ghost use Rattle.sm_judge.specs.Vectors.{MoreHolds, VectorHolds, places_of_ranks};
 ghost use Rattle.sm_judge.specs.Listing.{last_or};
-ghost use Rattle.sm_judge.specs.Tried.{HasRoom, IsTried};
+ghost use Rattle.sm_judge.specs.Tried.{HasTrialRoom, IsTried};
 ghost use Rattle.sm_judge.specs.Judges.{IsOwnLine};
 ghost use Rattle.sm_judge.specs.Judging.{answer, Clauses};
 
@@ -150,11 +151,11 @@ fn vector_fault(
 ) -> Option<Reason>
     requires one_each { length v.now ≡ length instance.now.proposers }
     requires before_each { IfSome before (λ b. length b.now ≡ length instance.now.proposers) }
-    requires room { HasRoom instance.now tried.old }
+    requires room { HasTrialRoom instance.now tried.old }
     requires kept { 0 < count → IsTried instance.now tried.old.matching.places.items tried.old }
     ensures found { Finds (VectorHolds instance.now (option_map (λ b. b.now) before.entry) count
         limit v.now) result }
-    ensures room { HasRoom instance.now tried.new }
+    ensures room { HasTrialRoom instance.now tried.new }
     ensures kept { result ≡ None → IsTried instance.now (places_of_ranks instance.now v.now)
         tried.new }
 {
@@ -209,7 +210,7 @@ fn place_of(rank: u32, len: u32) -> Option<u32>
 
 /// Whether a rank is of a list of so many, or that of being unmatched.
 fn is_rank(rank: u32, len: u32) -> bool
-    requires { len ≤ 524288 }
+    requires { len ≤ most_entries }
     ensures { IsTrue result ↔ ((1 ≤ rank) × (rank ≤ len + 1)) }
 {
     1 <= rank && rank <= len + 1

@@ -7,7 +7,7 @@ ghost use Rattle.sm_judge.specs.Verdicts.{AtLine, Finds, IsVerdict};
 ghost use Rattle.sm_judge.specs.Judging.{parties, Clauses};
 ghost use Rattle.sm_judge.specs.Judges.{IsOwnLine};
 ghost use Rattle.sm_judge.specs.Rooming.{PartiesHold};
-ghost use Rattle.sm_judge.specs.PartiesKept.{is_met, Meets, AreLinked, IsOdd, ArePartiesHeld, Parts};
+ghost use Rattle.sm_judge.specs.PartiesKept.{is_met, MeetsParty, AreLinked, IsOdd, ArePartiesHeld, KeepsParty};
 
 use crate::judging::{Judge, judge_lines};
 use crate::persons::room_lists;
@@ -141,7 +141,7 @@ impl Parties {
         ensures { (parties : List (List ℕ))
             → ArePartiesHeld (length self.old.met.items) parties self.old.next.items
             self.old.met.items self.old.odd
-            → Parts parties party.now (length self.old.met.items) self.new.next.items
+            → KeepsParty parties party.now (length self.old.met.items) self.new.next.items
             self.new.met.items self.new.odd result }
     {
         if !meet(&mut self.met, party) {
@@ -168,7 +168,7 @@ fn themselves(alloc: Global, persons: u32) -> Result<Vec<u32>, AllocError>
 /// Whether no person of a party was met before, nor stands in it twice. All of them are met then.
 pub(crate) fn meet(met: &mut [bool], party: &[u32]) -> bool
     requires { EachIndex party.now (λ j. slice_index party.now j < length met.old) }
-    ensures { Meets party.now met.old met.new result }
+    ensures { MeetsParty party.now met.old met.new result }
 {
     for j in 0..party.len() {
         let x = party[j] as usize;

@@ -4,7 +4,7 @@ ghost use Rattle.std.specs.Prelude.{◌≡◌, ◌≢◌, ℕ, ◌+◌, ◌<◌,
 ghost use Rattle.std.specs.List.{All};
 ghost use Rattle.sm_market.specs.PairingFaults.{AreHeld};
 ghost use Rattle.sm_seats.specs.Seating.{seating_of};
-ghost use Rattle.sm_seats.specs.Tables.{first_seats_of};
+ghost use Rattle.sm_seats.specs.Counted.{first_seats_of};
 ghost use Rattle.sm_report.specs.Heads.{HeadData};
 ghost use Rattle.sm_report.specs.Lines.{LineData, line_of};
 ghost use Rattle.sm_judge.specs.Chain.{ReducedHold};
@@ -14,8 +14,7 @@ ghost use Rattle.sm_judge.specs.ReducedKept.{IsTriedFirst, IsReducedOf, IsReduce
 ghost use Rattle.sm_judge.specs.declared.seat_lists.SeatLists.{SeatLists};
 ghost use Rattle.sm_judge.specs.declared.reduced.Group.TheVariants.{Lists};
 ghost use Rattle.sm_judge.specs.Said.{is_up_to_lasts};
-ghost use Rattle.sm_judge.specs.SeatMatchings.{seat_places_in};
-ghost use Rattle.sm_judge.specs.SeatPairsKept.{AreSeatPairs};
+ghost use Rattle.sm_judge.specs.SeatMatchings.{seat_places_in, AreSeatPairs};
 ghost use Rattle.sm_judge.specs.Verdicts.{AtLine, Finds, IsVerdict};
 ghost use Rattle.sm_judge.specs.Walking.{FindsOrKeeps};
 

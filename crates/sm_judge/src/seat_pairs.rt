@@ -5,8 +5,8 @@ ghost use Rattle.sm_market.specs.Lists.{row, place_of};
 ghost use Rattle.sm_market.specs.Pairing.{IsPairingOf};
 ghost use Rattle.sm_market.specs.PairingFaults.{AreHeld};
 ghost use Rattle.sm_market.specs.Stable.{IsStable};
-ghost use Rattle.sm_judge.specs.SeatMatchings.{seat_places_in};
-ghost use Rattle.sm_judge.specs.SeatPairsKept.{AreSeatPairs, TakesSeat};
+ghost use Rattle.sm_judge.specs.SeatMatchings.{seat_places_in, AreSeatPairs};
+ghost use Rattle.sm_judge.specs.SeatPairsKept.{TakesSeat};
 
 use sm_market::{Market, Pairing};
 use std::alloc::{AllocError, Global};

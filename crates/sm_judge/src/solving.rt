@@ -2,7 +2,7 @@
 
 ghost use Rattle.std.specs.Prelude.{◌≡◌, ℕ, ◌+◌, ◌<◌, ◌^◌, ◌↔◌, ◌∷◌, ◌++◌, [], List, All, Some, length, map, IsTrue, IfOk};
 ghost use Rattle.sm_instance.specs.Written.{Written};
-ghost use Rattle.sm_instance.specs.Stable.{IsStable};
+ghost use Rattle.sm_instance.specs.Stable.{IsStable, IsBestOf};
 ghost use Rattle.sm_seats.specs.Seating.{seating_of};
 ghost use Rattle.sm_pairs.specs.Holding.{IsHolding};
 ghost use Rattle.sm_instance.specs.declared.inputs.Input.TheVariants.{Two};
@@ -13,7 +13,7 @@ ghost use Rattle.sm_judge.specs.Judges.{IsOwnLine};
 ghost use Rattle.sm_judge.specs.Said.{pairs_in};
 ghost use Rattle.sm_judge.specs.Walking.{FindsOrKeeps};
 ghost use Rattle.sm_judge.specs.Judging.{answer, Clauses};
-ghost use Rattle.sm_judge.specs.Pairs.{IsBestOf, SolveHolds};
+ghost use Rattle.sm_judge.specs.Pairs.{SolveHolds};
 ghost use Rattle.sm_judge.specs.PairsKept.{ArePairsHeld};
 ghost use Rattle.sm_judge.specs.Verdicts.{AtLine, Finds, IsVerdict};
 

@@ -3,11 +3,10 @@
 ghost use Rattle.std.specs.Prelude.{◌≡◌, ℕ, ◌<◌, ◌≤◌, ◌⊎◌, ◌↔◌, true, false, Some, None, IsTrue, length, slice_index};
 ghost use Rattle.sm_instance.specs.Written.{row, entry, capacity_of, IsAcceptable};
 ghost use Rattle.sm_instance.specs.Matching.{held, standing, load, IsAssignment, IsMatching};
-ghost use Rattle.sm_instance.specs.Stable.{Blocks, HasWorse, IsStable};
+ghost use Rattle.sm_instance.specs.Stable.{Blocks, HasWorse, IsStable, IsGainLimit};
 ghost use Rattle.sm_instance.specs.Sound.{IsInstance};
-ghost use Rattle.sm_instance.specs.Loads.{IsGainLimit};
 ghost use Rattle.sm_judge.specs.Verdicts.{Finds};
-ghost use Rattle.sm_judge.specs.Tried.{AreLimits, is_touched, IsTouchedAt, AreTouched, IsUnblockedFrom, BlocksNoneFrom, StableHolds, HasRoom, IsTried};
+ghost use Rattle.sm_judge.specs.Tried.{AreLimits, is_touched, IsTouchedAt, AreTouched, IsUnblockedFrom, BlocksNoneFrom, StableHolds, HasTrialRoom, IsTried};
 
 use crate::verdicts::Reason;
 use sm_instance::{Assignment, Instance};
@@ -28,11 +27,11 @@ pub(crate) struct Tried {
 /// Takes time in proportion to the agents, to the lists of the reviewers whose proposers changed, and to the places between
 /// the old and the new partner of each proposer; for the first one to the agents and entries.
 pub(crate) fn stability_fault(instance: &Instance, tried: &mut Tried, count: u32) -> Option<Reason>
-    requires room { HasRoom instance.now tried.old }
+    requires room { HasTrialRoom instance.now tried.old }
     requires assignment { IsAssignment instance.now tried.old.next.places.items }
     requires kept { 0 < count → IsTried instance.now tried.old.matching.places.items tried.old }
     ensures found { Finds (StableHolds instance.now tried.old.next.places.items) result }
-    ensures room { HasRoom instance.now tried.new }
+    ensures room { HasTrialRoom instance.now tried.new }
     ensures next { tried.new.next.places.items ≡ tried.old.next.places.items }
     ensures kept { result ≡ None → IsTried instance.now tried.old.next.places.items tried.new }
 {

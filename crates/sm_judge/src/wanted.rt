@@ -3,7 +3,7 @@
 ghost use Rattle.std.specs.Prelude.{◌≡◌, ◌↔◌, ℕ, ◌<◌, [], List, length, Option, IsTrue, IfOk};
 ghost use Rattle.sm_instance.specs.Matching.{IsAssignment};
 ghost use Rattle.sm_judge.specs.Pairs.{AreAllThere};
-ghost use Rattle.sm_judge.specs.WantedKept.{AreStood, Stands};
+ghost use Rattle.sm_judge.specs.Stood.{Stands, AreStood};
 
 use sm_instance::Instance;
 use std::alloc::{AllocError, Global};

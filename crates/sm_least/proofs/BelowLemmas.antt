@@ -18,8 +18,7 @@ use Rattle.sm_theory.specs.Weights.{rank_of_place, regret_of}
 use Rattle.sm_theory.proofs.Chains.Rotations.{sets_are_matchings}
 use Rattle.sm_theory.proofs.Chains.Sets.{sets_are_ordered}
 use Rattle.sm_poset.specs.Posets.{RotationPoset}
-use Rattle.sm_poset.specs.Kept.{moves_at}
-use Rattle.sm_poset.specs.Moves.{rotation_of, place_to}
+use Rattle.sm_poset.specs.Moves.{moves_at, rotation_of, place_to}
 use Rattle.sm_poset.proofs.ChainLemmas.{move_stands}
 use Rattle.sm_poset.proofs.MoveLemmas.{go_down}
 use Rattle.sm_board.specs.Board.{Board, IsBoard, stay, level, stay_level, Gates, IsOpen, Fits, IsLeast}
@@ -28,12 +27,12 @@ use Rattle.sm_board.specs.Courses.{Held, IsHeld}
 use Rattle.sm_board.proofs.BoardLemmas.{stays_in}
 use Rattle.sm_board.proofs.BoardBridge.{board, place, many, all_moves, stands, levels_long, stay_level_is}
 use Rattle.sm_board.proofs.BoardSets.{closed_back, has_level, has_level_back, stay_in, gates_mean_conditions}
-use Rattle.sm_least.specs.Steps.{AreWide, AreUnbounded}
+use Rattle.sm_least.specs.Gates.{AreUnbounded, AreWide}
 use Rattle.sm_theory.specs.Regrets.{AreRanks, IsBestBelow}
-use Rattle.sm_least.specs.Regrets.{rank_of_level, IsRanked, AreBelow, AreAtStays, rank_now, greatest_of}
+use Rattle.sm_least.specs.Regrets.{rank_of_level, IsRanked, AreOpenUpTo, AreAtStays, rank_now, greatest_of}
 use Rattle.sm_least.proofs.SearchLemmas.{nothing_excluded, proposers_for}
 use Rattle.sm_theory.proofs.Weighing.Regrets.{regret_by_bound}
-use Rattle.sm_least.proofs.RegretLemmas.{rank_is}
+use Rattle.sm_least.proofs.RegretLemmas.{rank_of_level-at}
 
 module _ {l : Lists} {levels : List (List ℕ)} {first : Places} {rotations : List (List (ℕ × ℕ))} {needs : List (List ℕ)} {moves : List (List (ℕ × ℕ))} (ground : IsGround l levels first rotations needs moves) where
   -- who is matched has all its stays on its list
@@ -78,10 +77,10 @@ module _ {l : Lists} {levels : List (List ℕ)} {first : Places} {rotations : Li
       rank_held p i e =
           let st = (sets_are_matchings l first rotations ground.market ground.chain).stable C c in
           let has = has_level ground c p (slice_index (row levels p) i) (record { place = i; holds = e; at_level = refl }) in
-          (has.0, ap (rank_of_level (row levels p) (row ranks p)) has.1 ∙ rank_is ground.rising w p i (st.matching.proposers.on_list p i e))
+          (has.0, ap (rank_of_level (row levels p) (row ranks p)) has.1 ∙ rank_of_level-at ground.rising w p i (st.matching.proposers.on_list p i e))
 
       -- what fits the gates of a bound fits those without, and its matching has a regret within the bound
-      below_fits : {g0 g1 : Gates} {bound : ℕ} → AreBelow (board ground) levels ranks bound g0 g1 → Fits (board ground) g1 C → Fits (board ground) g0 C × (regret_of l ranks (matching_of l first rotations C) ≤ bound)
+      below_fits : {g0 g1 : Gates} {bound : ℕ} → AreOpenUpTo (board ground) levels ranks bound g0 g1 → Fits (board ground) g1 C → Fits (board ground) g0 C × (regret_of l ranks (matching_of l first rotations C) ≤ bound)
       below_fits {g0} {g1} {bound} below f = (
         record { closed = f.closed; opens = λ p in_it. (now p in_it).0 },
         (regret_by_bound l ranks (matching_of l first rotations C) bound st.matching).1 (λ p i e.
@@ -101,7 +100,7 @@ module _ {l : Lists} {levels : List (List ℕ)} {first : Places} {rotations : Li
           now p in_it = (below p (stay (board ground) C p) in_it (stay_in ground c p (omega (arith, many ground)))).0 (f.opens p in_it)
 
       -- and back
-      fits_below : {g0 g1 : Gates} {bound : ℕ} → AreBelow (board ground) levels ranks bound g0 g1 → Fits (board ground) g0 C → regret_of l ranks (matching_of l first rotations C) ≤ bound → Fits (board ground) g1 C
+      fits_below : {g0 g1 : Gates} {bound : ℕ} → AreOpenUpTo (board ground) levels ranks bound g0 g1 → Fits (board ground) g0 C → regret_of l ranks (matching_of l first rotations C) ≤ bound → Fits (board ground) g1 C
       fits_below {g0} {g1} {bound} below f low = record {
         closed = f.closed;
         opens = λ p in_it. (below p (stay (board ground) C p) in_it (stay_in ground c p (omega (arith, many ground)))).1 (
@@ -133,10 +132,10 @@ pub ranked_for : {poset : RotationPoset} {levels ranks : List (List ℕ)} {b : B
 ranked_for {poset} {levels} {ranks} w r = subst (λ d. IsRanked d levels ranks) (sym w.is) (ranked w.ground r)
 
 -- the greatest rank at which proposers stand is the regret
-pub greatest_is_regret : {poset : RotationPoset} {levels ranks : List (List ℕ)} {b : Board} (C : List Bool) (now : List ℕ) → IsBoardFor poset levels b → AreRanks poset.lists levels ranks → IsClosed poset.lists poset.rotations C
+pub greatest_of-regret_of : {poset : RotationPoset} {levels ranks : List (List ℕ)} {b : Board} (C : List Bool) (now : List ℕ) → IsBoardFor poset levels b → AreRanks poset.lists levels ranks → IsClosed poset.lists poset.rotations C
     → ((p : ℕ) → p < length b.leaves → slice_index now p ≡ level b C p)
     → greatest_of (rank_now b levels ranks now) (length b.leaves) ≡ regret_of poset.lists ranks (matching_of poset.lists poset.first.places poset.rotations C)
-greatest_is_regret {poset} {levels} {ranks} {b} C now w r closed are =
+greatest_of-regret_of {poset} {levels} {ranks} {b} C now w r closed are =
     ap (fold max 0) (fill_by_all theirs (map (rank_now b levels ranks now) (range_with_len 0 (length b.leaves))) (length poset.lists.proposers) 0
     (length-map-range_with_len (rank_now b levels ranks now) 0 (length b.leaves) ∙ proposers_for w)
     (λ p less. get_or-map-range_with_len (rank_now b levels ranks now) 0 (length b.leaves) p p 0 (omega (arith, proposers_for w)) (omega arith)
@@ -161,13 +160,13 @@ record Fitted (poset : RotationPoset) (b : Board) (g : Gates) (n : Places) : Typ
 
 module _ {poset : RotationPoset} {levels ranks : List (List ℕ)} {b c : Board} {bound : ℕ} {forced forbidden : List (ℕ × ℕ)} (g0 g1 : Gates)
     (w : IsBoardFor poset levels b) (in_range : AreInRange (length poset.lists.proposers) forced) (r : AreRanks poset.lists levels ranks)
-    (e : c ≡ b) (u : AreUnbounded c forced forbidden g0) (below : AreBelow c levels ranks bound g0 g1) where
+    (e : c ≡ b) (u : AreUnbounded c forced forbidden g0) (below : AreOpenUpTo c levels ranks bound g0 g1) where
   -- the gates of the conditions, for the board of the poset
   gates_for : AreGates (board w.ground) u.low u.high forced forbidden g0
   gates_for = subst (λ d. AreGates d u.low u.high forced forbidden g0) (e ∙ w.is) u.gates
 
-  below_for : AreBelow (board w.ground) levels ranks bound g0 g1
-  below_for = subst (λ d. AreBelow d levels ranks bound g0 g1) (e ∙ w.is) below
+  below_for : AreOpenUpTo (board w.ground) levels ranks bound g0 g1
+  below_for = subst (λ d. AreOpenUpTo d levels ranks bound g0 g1) (e ∙ w.is) below
 
   fitted : (n : Places) → IsStable poset.lists n → IsAllowed levels forced forbidden n → regret_of poset.lists ranks n ≤ bound → Fitted poset (board w.ground) g1 n
   fitted n stable allowed low =

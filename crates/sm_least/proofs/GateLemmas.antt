@@ -8,8 +8,9 @@ use Rattle.sm_lists.proofs.ResultLemmas.{take-append_at_length}
 use Rattle.sm_lists.proofs.Counting.{eq_or_ne, lt_or_le}
 use Rattle.sm_lists.specs.Rows.{place_on}
 use Rattle.sm_lists.proofs.PlaceLemmas.{get_or-place_on, get_or_before-place_on}
-use Rattle.sm_least.specs.Steps.{IsNarrowed, AreShut, rows_in, AreRowsFor, AreAvoided, AreGatesOf, NeverFall, IsDivided}
-use Rattle.sm_least.specs.Regrets.{IsLow, AreCut, AreBelow}
+use Rattle.sm_least.specs.Steps.{IsNarrowed, AreShut, rows_in, AreRowsFor, AreAvoided, NeverFall, IsDivided}
+use Rattle.sm_least.specs.Gates.{AreGatesOf}
+use Rattle.sm_least.specs.Regrets.{IsLow, AreShutAbove, AreOpenUpTo}
 use Rattle.sm_board.specs.Board.{Board, IsBoard, stay_level, Gates, is_shut}
 use Rattle.sm_board.specs.BoardOf.{IsAllowedStay, AreGates}
 use Rattle.std.proofs.lemmas.Bool.{false≢true}
@@ -75,8 +76,8 @@ narrowed_more {matched} {forced} {low} {high} {lower} {upper} i a c low_each hig
         )
 
 -- a row is written
-pub written_rows : (shut : List (Vec Bool Global)) (p : ℕ) (d : Vec Bool Global) (new : List Bool) → length new ≡ vec_len (slice_index_or shut p d) → rows_in (set shut p (with_items (slice_index_or shut p d) new)) ≡ set (rows_in shut) p new
-written_rows shut p d new e = map-set (λ v. v.items) shut p (with_items (slice_index_or shut p d) new) ∙ ap (set (rows_in shut) p) (take-append_at_length (vec_len (slice_index_or shut p d)) new _ e)
+pub rows_in-set : (shut : List (Vec Bool Global)) (p : ℕ) (d : Vec Bool Global) (new : List Bool) → length new ≡ vec_len (slice_index_or shut p d) → rows_in (set shut p (with_items (slice_index_or shut p d) new)) ≡ set (rows_in shut) p new
+rows_in-set shut p d new e = map-set (λ v. v.items) shut p (with_items (slice_index_or shut p d) new) ∙ ap (set (rows_in shut) p) (take-append_at_length (vec_len (slice_index_or shut p d)) new _ e)
 
 -- the rows are as long as before
 pub rows_written : {levels : List (List ℕ)} {rows : List (List Bool)} (p : ℕ) (new : List Bool) → p < length levels → length new ≡ length (row levels p) → AreRowsFor levels rows → AreRowsFor levels (set rows p new)
@@ -190,7 +191,7 @@ gates_right {b} {g} {low} {high} {lower} {upper} {forced} {forbidden} between h 
 -- the stays of one more proposer are cut
 pub cut_more : {b : Board} {levels ranks : List (List ℕ)} {bound : ℕ} {before after : List (List Bool)} (p : ℕ) (new : List Bool) → p < length b.levels → length new ≡ length (row b.levels p)
     → ((a : ℕ) → a < length (row b.levels p) → (slice_index_or new a false ≡ false) ↔ (slice_index_or (slice_index_or after p []) a false ≡ false) × IsLow b levels ranks bound p a)
-    → AreCut b levels ranks bound p before after → AreCut b levels ranks bound (p + 1) before (set after p new)
+    → AreShutAbove b levels ranks bound p before after → AreShutAbove b levels ranks bound (p + 1) before (set after p new)
 cut_more {b} {levels} {ranks} {bound} {before} {after} p new in_it e one w = record {
   rows = rows_written p new in_it e w.rows;
   opens = λ q a less few. elim (eq_or_ne q p) [
@@ -216,7 +217,7 @@ cut_more {b} {levels} {ranks} {bound} {before} {after} p new in_it e one w = rec
 
 -- the stays of one more proposer stay, since it is unmatched
 pub cut_same : {b : Board} {levels ranks : List (List ℕ)} {bound : ℕ} {before after : List (List Bool)} (p : ℕ) → slice_index_or b.matched p false ≡ false
-    → AreCut b levels ranks bound p before after → AreCut b levels ranks bound (p + 1) before after
+    → AreShutAbove b levels ranks bound p before after → AreShutAbove b levels ranks bound (p + 1) before after
 cut_same {b} {levels} {ranks} {bound} {before} {after} p alone w = record {
   rows = w.rows;
   opens = λ q a less few. elim (eq_or_ne q p) [
@@ -231,9 +232,9 @@ cut_same {b} {levels} {ranks} {bound} {before} {after} p alone w = record {
 }
 
 -- what is open once all stays are cut is what was and has a rank within the bound
-pub cut_right : {b : Board} {levels ranks : List (List ℕ)} {bound : ℕ} {before after : Gates} → AreGatesOf b before → AreCut b levels ranks bound (length b.leaves) before.shut after.shut
+pub cut_right : {b : Board} {levels ranks : List (List ℕ)} {bound : ℕ} {before after : Gates} → AreGatesOf b before → AreShutAbove b levels ranks bound (length b.leaves) before.shut after.shut
     → ((p a : ℕ) → p < length b.leaves → slice_index after.until p ≤ a → a < length (row b.levels p) → is_shut after p a ≡ true)
-    → AreBelow b levels ranks bound before after
+    → AreOpenUpTo b levels ranks bound before after
 cut_right {b} {levels} {ranks} {bound} {before} {after} w cut past p a less few = (
   (λ o.
       let y = (cut.opens p a less few).0 o.unshut in (
@@ -257,8 +258,8 @@ cut_right {b} {levels} {ranks} {bound} {before} {after} w cut past p a less few 
 )
 
 -- the first place of a level is where the lower ones end
-pub divided_at : (levels : List ℕ) (level : ℕ) {n : ℕ} → NeverFall levels → IsDivided levels level n → place_on levels level < length levels → place_on levels level ≡ n
-divided_at levels level {n} rising w in_it =
+pub place_on-divided : (levels : List ℕ) (level : ℕ) {n : ℕ} → NeverFall levels → IsDivided levels level n → place_on levels level < length levels → place_on levels level ≡ n
+place_on-divided levels level {n} rising w in_it =
     let is = get_or-place_on levels level in_it in
     elim (lt_or_le (place_on levels level) n) [
       | inl less ↦ absurd (omega (arith, w.lower (place_on levels level) less, is))

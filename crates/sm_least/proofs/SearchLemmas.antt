@@ -12,7 +12,7 @@ use Rattle.sm_board.specs.Walks.{vector, ExcludeNothing}
 use Rattle.sm_board.specs.BoardOf.{AreGates, AreInRange, IsLeastWithin, IsBestAllowed, IsBoardFor}
 use Rattle.sm_board.specs.Growing.{IsLogOf}
 use Rattle.sm_board.specs.Courses.{Held, IsHeld}
-use Rattle.sm_least.specs.Steps.{AreWide, AreUnbounded}
+use Rattle.sm_least.specs.Gates.{AreUnbounded, AreWide}
 use Rattle.sm_board.proofs.HeldLemmas.{one_log}
 use Rattle.sm_board.proofs.BoardLemmas.{stays_in}
 use Rattle.sm_board.proofs.BoardBridge.{board, many, is_board}

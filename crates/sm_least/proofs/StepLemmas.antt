@@ -10,7 +10,7 @@ use Rattle.sm_theory.specs.Vectors.{IsOrder}
 use Rattle.sm_board.specs.Board.{Board, IsBoard, stay, stay_level, level, leave, is_shut, IsClosedIn, IsInside, Gates, IsOpen, Fits}
 use Rattle.sm_board.specs.Growing.{AreNeedsIn}
 use Rattle.sm_board.specs.Walks.{IsRaised, IsNotRaised}
-use Rattle.sm_board.specs.Courses.{Course, IsCourse, Held, IsHeld, Grows, IsBroken, Breaks}
+use Rattle.sm_board.specs.Courses.{Course, IsCourse, Held, IsHeld, HoldsMore, IsBroken, Breaks}
 use Rattle.sm_least.specs.Steps.{IsHigh, IsIdle, AreOpened, AreSettled}
 use Rattle.sm_board.proofs.MemberLemmas.{more_members}
 use Rattle.sm_board.proofs.BoardLemmas.{members_are_first}
@@ -18,7 +18,7 @@ use Rattle.sm_board.proofs.GrowLemmas.{idle_stays, shut_leave_is_in, low_leave_i
 use Rattle.sm_board.proofs.HeldLemmas.{contained_at, contains_at, on_or_off}
 
 -- nothing has entered
-pub grows_same : {t : Course} {h : Held} (bar : ℕ) → IsHeld t.board h → Grows t bar h h
+pub grows_same : {t : Course} {h : Held} (bar : ℕ) → IsHeld t.board h → HoldsMore t bar h h
 grows_same {t} {h} bar w = record {
   held = w;
   front = take_all (length h.log) h.log (omega arith);
@@ -28,7 +28,7 @@ grows_same {t} {h} bar w = record {
 }
 
 -- more enters, and then more
-pub grows_more : {t : Course} {bar : ℕ} {h k m : Held} → Grows t bar h k → Grows t bar k m → Grows t bar h m
+pub grows_more : {t : Course} {bar : ℕ} {h k m : Held} → HoldsMore t bar h k → HoldsMore t bar k m → HoldsMore t bar h m
 grows_more {t} {bar} {h} {k} {m} g w = record {
   held = w.held;
   front = sym (take-take (length h.log) (length k.log) m.log g.longer) ∙ ap (take (length h.log)) w.front ∙ g.front;
@@ -52,7 +52,7 @@ broken_back inside w = record {
 }
 
 -- a member of the set stands in the log, a new one behind what was held
-pub new_behind : {t : Course} {bar : ℕ} {h k : Held} → IsHeld t.board h → Grows t bar h k → (x : ℕ) → IsMember k.set x → (IsMember h.set x → ⊥) → (c : ℕ) × (length h.log ≤ c) × (c < length k.log) × (slice_index k.log c ≡ x)
+pub new_behind : {t : Course} {bar : ℕ} {h k : Held} → IsHeld t.board h → HoldsMore t bar h k → (x : ℕ) → IsMember k.set x → (IsMember h.set x → ⊥) → (c : ℕ) × (length h.log ≤ c) × (c < length k.log) × (slice_index k.log c ≡ x)
 new_behind {t} {bar} {h} {k} w g x m out =
     let c = g.held.logged.all x m in
     let is = contained_at k.log x c in
@@ -64,17 +64,17 @@ new_behind {t} {bar} {h} {k} w g x m out =
     ]
 
 -- the old part of the log
-pub old_log : {t : Course} {bar : ℕ} {h k : Held} → Grows t bar h k → (c : ℕ) → c < length h.log → slice_index k.log c ≡ slice_index h.log c
+pub old_log : {t : Course} {bar : ℕ} {h k : Held} → HoldsMore t bar h k → (c : ℕ) → c < length h.log → slice_index k.log c ≡ slice_index h.log c
 old_log {t} {bar} {h} {k} g c less = sym (get_or-take (length h.log) k.log c 0 less) ∙ ap (λ xs. slice_index xs c) g.front
 
 -- whom nothing new moves keeps its stay
-pub idle_keeps : {t : Course} {bar : ℕ} {h k : Held} → IsBoard t.board → IsHeld t.board h → Grows t bar h k → (p : ℕ) → IsIdle t.board k.log (length h.log) p → stay t.board k.set p ≡ stay t.board h.set p
+pub idle_keeps : {t : Course} {bar : ℕ} {h k : Held} → IsBoard t.board → IsHeld t.board h → HoldsMore t bar h k → (p : ℕ) → IsIdle t.board k.log (length h.log) p → stay t.board k.set p ≡ stay t.board h.set p
 idle_keeps {t} {bar} {h} {k} ground w g p idle = idle_stays t.board h.set k.set p ground g.more (λ x m out moves.
     let c = new_behind w g x m out in
     idle c.0 c.1 c.2 (subst (λ y. Contains (row t.board.movers y) p) (sym c.3) moves))
 
 -- idle in the longer log is idle in the shorter one
-pub idle_before : {t : Course} {bar : ℕ} {h k : Held} → Grows t bar h k → (from p : ℕ) → IsIdle t.board k.log from p → IsIdle t.board h.log from p
+pub idle_before : {t : Course} {bar : ℕ} {h k : Held} → HoldsMore t bar h k → (from p : ℕ) → IsIdle t.board k.log from p → IsIdle t.board h.log from p
 idle_before {t} {bar} {h} {k} g from p idle c le less moves = idle c le (omega (arith, g.longer)) (subst (λ y. Contains (row t.board.movers y) p) (sym (old_log g c less)) moves)
 
 -- what stands on a list that is read
@@ -89,7 +89,7 @@ one_more {items} {xs} P i e own before a less = elim (eq_or_ne a i) [
 ]
 
 -- the predecessors of one more of the log are members
-pub needs_more : {t : Course} {bar : ℕ} {h k : Held} (place x : ℕ) → Grows t bar h k → place < length h.log → AreNeedsIn t.board h.set h.log place → x ≡ slice_index h.log place → ((i : ℕ) → Contains (row t.board.needs x) i → IsMember k.set i) → AreNeedsIn t.board k.set k.log (place + 1)
+pub needs_more : {t : Course} {bar : ℕ} {h k : Held} (place x : ℕ) → HoldsMore t bar h k → place < length h.log → AreNeedsIn t.board h.set h.log place → x ≡ slice_index h.log place → ((i : ℕ) → Contains (row t.board.needs x) i → IsMember k.set i) → AreNeedsIn t.board k.set k.log (place + 1)
 needs_more {t} {bar} {h} {k} place x g less before e own a i few need = elim (eq_or_ne a place) [
   | inl same ↦ own i (subst (λ y. Contains (row t.board.needs y) i) (ap (slice_index k.log) same ∙ old_log g place less ∙ sym e) need)
   | inr ne ↦ g.more i (before a i (omega arith) (subst (λ y. Contains (row t.board.needs y) i) (old_log g a (omega arith)) need))
@@ -145,7 +145,7 @@ low_last {b} {g} {h} {D} p a wanted ground w less e low last high inside =
     ]
 
 -- a new member makes the log longer
-pub grew : {t : Course} {bar : ℕ} {h k : Held} (x : ℕ) → IsHeld t.board h → Grows t bar h k → IsMember k.set x → (IsMember h.set x → ⊥) → length h.log < length k.log
+pub grew : {t : Course} {bar : ℕ} {h k : Held} (x : ℕ) → IsHeld t.board h → HoldsMore t bar h k → IsMember k.set x → (IsMember h.set x → ⊥) → length h.log < length k.log
 grew x w g m out = let c = new_behind w g x m out in omega (arith, c.1, c.2)
 
 -- the log is no longer than there are rotations
@@ -153,7 +153,7 @@ pub log_few : {b : Board} {h : Held} → IsHeld b h → length h.log ≤ length 
 log_few {b} {h} w = (log_fits b h.log h.set w.logged).0
 
 -- those that were opened stay open where they are idle
-pub opened_more : {t : Course} {bar : ℕ} {g : Gates} {h k : Held} (from i : ℕ) (items movers : List ℕ) → IsBoard t.board → IsHeld t.board h → Grows t bar h k → from ≤ length h.log → items ≡ movers → AreOpened t.board g h from movers i → IsOpen g (slice_index items i) (stay t.board k.set (slice_index items i)) → AreOpened t.board g k from movers (i + 1)
+pub opened_more : {t : Course} {bar : ℕ} {g : Gates} {h k : Held} (from i : ℕ) (items movers : List ℕ) → IsBoard t.board → IsHeld t.board h → HoldsMore t bar h k → from ≤ length h.log → items ≡ movers → AreOpened t.board g h from movers i → IsOpen g (slice_index items i) (stay t.board k.set (slice_index items i)) → AreOpened t.board g k from movers (i + 1)
 opened_more {t} {bar} {g} {h} {k} from i items movers ground w g' le e before own a less idle = elim (eq_or_ne a i) [
   | inl same ↦ subst (λ q. IsOpen g q (stay t.board k.set q)) (ap (λ xs. slice_index xs i) e ∙ ap (slice_index movers) (sym same)) own
   | inr ne ↦
@@ -163,7 +163,7 @@ opened_more {t} {bar} {g} {h} {k} from i items movers ground w g' le e before ow
 ]
 
 -- once those are opened whom one more of the log moves, all are that are idle behind it
-pub settled_more : {t : Course} {bar : ℕ} {g : Gates} {h k : Held} (place x n : ℕ) → IsBoard t.board → IsHeld t.board h → Grows t bar h k → place < length h.log → x ≡ slice_index h.log place → AreSettled t.board g h place n → AreOpened t.board g k (length h.log) (row t.board.movers x) (length (row t.board.movers x)) → AreSettled t.board g k (place + 1) n
+pub settled_more : {t : Course} {bar : ℕ} {g : Gates} {h k : Held} (place x n : ℕ) → IsBoard t.board → IsHeld t.board h → HoldsMore t bar h k → place < length h.log → x ≡ slice_index h.log place → AreSettled t.board g h place n → AreOpened t.board g k (length h.log) (row t.board.movers x) (length (row t.board.movers x)) → AreSettled t.board g k (place + 1) n
 settled_more {t} {bar} {g} {h} {k} place x n ground w g' less e before opened p in_it idle = elim (on_or_off (row t.board.movers x) p) [
   | inl c ↦ subst (λ q. IsOpen g q (stay t.board k.set q)) c.2 (opened c.0 c.1 (subst (IsIdle t.board k.log (length h.log)) (sym c.2) (λ d far few. idle d (omega arith) few)))
   | inr none ↦
@@ -181,11 +181,11 @@ pub settled_fits : {b : Board} {g : Gates} (h : Held) (place : ℕ) → IsClosed
 settled_fits {b} {g} h place closed past settled = record { closed = closed; opens = λ p less. settled p less (λ c far few. absurd (omega arith)) }
 
 -- whoever isn't moved by what has entered has an open stay, where all had
-pub settled_behind : {t : Course} {bar : ℕ} {g : Gates} {h k : Held} → IsBoard t.board → IsHeld t.board h → Grows t bar h k → Fits t.board g h.set → AreSettled t.board g k (length h.log) (length t.board.leaves)
+pub settled_behind : {t : Course} {bar : ℕ} {g : Gates} {h k : Held} → IsBoard t.board → IsHeld t.board h → HoldsMore t bar h k → Fits t.board g h.set → AreSettled t.board g k (length h.log) (length t.board.leaves)
 settled_behind ground w g fits p less idle = subst (IsOpen _ p) (sym (idle_keeps ground w g p idle)) (fits.opens p less)
 
 -- what fits, is high enough and changes no level before the bar is what was to be found
-pub raised : {t : Course} {bar : ℕ} {g : Gates} {h k : Held} (p wanted : ℕ) → IsCourse t → IsOrder (length t.board.leaves) t.order → bar ≤ length t.order → Fits t.board g h.set → Grows t bar h k → Fits t.board g k.set → wanted ≤ level t.board k.set p → ((D : List Bool) → IsHigh t.board g p wanted D → IsInside h.set D → IsInside k.set D) → IsRaised t.board g t.order h.set p wanted bar k.set
+pub raised : {t : Course} {bar : ℕ} {g : Gates} {h k : Held} (p wanted : ℕ) → IsCourse t → IsOrder (length t.board.leaves) t.order → bar ≤ length t.order → Fits t.board g h.set → HoldsMore t bar h k → Fits t.board g k.set → wanted ≤ level t.board k.set p → ((D : List Bool) → IsHigh t.board g p wanted D → IsInside h.set D → IsInside k.set D) → IsRaised t.board g t.order h.set p wanted bar k.set
 raised {t} {bar} {g} {h} {k} p wanted course ordered few fits g' now high least =
     raise_finds t.board g t.order h.set k.set p wanted bar course.board ordered few fits.closed
     (λ D s. least D (record { fits = s.fits; reaches = s.reaches }) s.more)
@@ -207,7 +207,7 @@ pub nothing_closed : {b : Board} {h : Held} → IsHeld b h → h.log ≡ [] → 
 nothing_closed w e = record { one_each = w.logged.one_each; closed = λ i j m need. absurd (none_held w e j m) }
 
 -- one more proposer has an open stay
-pub settled_next : {t : Course} {bar : ℕ} {g : Gates} {h k : Held} (p : ℕ) → IsBoard t.board → IsHeld t.board h → Grows t bar h k → AreSettled t.board g h 0 p → IsOpen g p (stay t.board k.set p) → AreSettled t.board g k 0 (p + 1)
+pub settled_next : {t : Course} {bar : ℕ} {g : Gates} {h k : Held} (p : ℕ) → IsBoard t.board → IsHeld t.board h → HoldsMore t bar h k → AreSettled t.board g h 0 p → IsOpen g p (stay t.board k.set p) → AreSettled t.board g k 0 (p + 1)
 settled_next {t} {bar} {g} {h} {k} p ground w g' before own q less idle = elim (eq_or_ne q p) [
   | inl same ↦ subst (λ r. IsOpen g r (stay t.board k.set r)) (sym same) own
   | inr ne ↦

@@ -24,12 +24,12 @@ abbrev pub IsLow : Board → (levels ranks : List (List ℕ)) → (bound p a : �
 IsLow b levels ranks bound p a = slice_index_or b.matched p false ≡ true → rank_of_level (row levels p) (row ranks p) (stay_level b p a) ≤ bound
 
 -- those stays are open that were and have a rank of at most a bound
-abbrev pub AreBelow : Board → (levels ranks : List (List ℕ)) → ℕ → (before after : Gates) → Type 0
-AreBelow b levels ranks bound before after = (p a : ℕ) → p < length b.leaves → a < length (row b.levels p)
+abbrev pub AreOpenUpTo : Board → (levels ranks : List (List ℕ)) → ℕ → (before after : Gates) → Type 0
+AreOpenUpTo b levels ranks bound before after = (p a : ℕ) → p < length b.leaves → a < length (row b.levels p)
     → IsOpen after p a ↔ IsOpen before p a × IsLow b levels ranks bound p a
 
 -- of the stays of the first n proposers those are shut that were or have a rank above a bound, and all others are as they were
-pub record AreCut (b : Board) (levels ranks : List (List ℕ)) (bound n : ℕ) (before after : List (List Bool)) : Type 0 where
+pub record AreShutAbove (b : Board) (levels ranks : List (List ℕ)) (bound n : ℕ) (before after : List (List Bool)) : Type 0 where
   pub rows : AreRowsFor b.levels after
   pub opens : (p a : ℕ) → p < n → a < length (row b.levels p)
       → (slice_index_or (slice_index_or after p []) a false ≡ false)

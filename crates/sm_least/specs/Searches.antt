@@ -7,8 +7,8 @@ use Rattle.sm_poset.specs.Posets.{RotationPoset, poset_of, IsPoset}
 use Rattle.sm_board.specs.Board.{IsClosedIn, Gates}
 use Rattle.sm_board.specs.BoardOf.{IsBoardFor}
 use Rattle.sm_board.specs.Courses.{Course, IsCourse, Held, IsHeld}
-use Rattle.sm_least.specs.Steps.{AreGatesOf}
-use Rattle.sm_least.specs.declared.least.Parts.{Parts}
+use Rattle.sm_least.specs.Gates.{AreGatesOf}
+use Rattle.sm_least.specs.declared.least.SearchParts.{SearchParts}
 
 -- a poset with levels, its board with an order, gates, and what is held
 pub record Search : Type 0 where
@@ -19,7 +19,7 @@ pub record Search : Type 0 where
   pub held : Held
 
 -- the search that is made of these parts
-abbrev pub search_of : Parts → Search
+abbrev pub search_of : SearchParts → Search
 search_of parts = record {
   poset = poset_of parts.market.value parts.chain.value.first (rotations_of parts.chain.value.rotations.items);
   levels = rows_of parts.levels.items;

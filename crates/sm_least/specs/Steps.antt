@@ -4,8 +4,7 @@ use Rattle.std.specs.Prelude.{◌≡◌, ◌↔◌, ◌≢◌, ℕ, ◌<◌, ◌
 use Rattle.std.specs.declared.alloc.Global.{Global}
 use Rattle.sm_market.specs.Lists.{row}
 use Rattle.sm_theory.specs.ClosedSets.{IsMember}
-use Rattle.sm_board.specs.Board.{Board, stay, stay_level, level, IsClosedIn, IsInside, Gates, is_shut, IsOpen, Fits}
-use Rattle.sm_board.specs.BoardOf.{AreGates}
+use Rattle.sm_board.specs.Board.{Board, stay, level, IsClosedIn, IsInside, Gates, IsOpen, Fits}
 use Rattle.sm_board.specs.Courses.{Held}
 
 -- what is new is in each set that is looked for and has all that was held
@@ -34,14 +33,6 @@ AreOpened b g h from proposers i = (a : ℕ) → a < i → IsIdle b h.log from (
 -- all of the first n proposers that are idle have open stays
 abbrev pub AreSettled : Board → Gates → Held → (from n : ℕ) → Type 0
 AreSettled b g h from n = (p : ℕ) → p < n → IsIdle b h.log from p → IsOpen g p (stay b h.set p)
-
--- gates for the stays of a board; the last open one is a stay, and behind it all are shut
-pub record AreGatesOf (b : Board) (g : Gates) : Type 0 where
-  pub until_each : length g.until ≡ length b.leaves
-  pub shut_each : length g.shut ≡ length b.leaves
-  pub stay_each : (p : ℕ) → p < length b.leaves → length (slice_index_or g.shut p []) ≡ length (row b.levels p)
-  pub few : (p : ℕ) → p < length b.leaves → slice_index g.until p ≤ length (row b.levels p)
-  pub past : (p a : ℕ) → p < length b.leaves → slice_index g.until p ≤ a → a < length (row b.levels p) → is_shut g p a ≡ true
 
 -- a level is within the bounds as narrowed by the first i forced pairs exactly where it is within the bounds and forced
 pub record IsNarrowed (matched : List Bool) (forced : List (ℕ × ℕ)) (i : ℕ) (low high lower upper : List ℕ) : Type 0 where
@@ -84,15 +75,3 @@ pub record AreAvoided (matched : List Bool) (levels : List (List ℕ)) (forbidde
       ↔ (slice_index_or (slice_index_or before p []) a false ≡ false)
       × ((c : ℕ) → c < i → (slice_index_or forbidden c (0, 0)).0 ≡ p → slice_index_or matched p false ≡ true
       → slice_index (row levels p) a ≢ (slice_index_or forbidden c (0, 0)).1)
-
--- bounds between which all stays lie
-abbrev pub AreWide : Board → (low high : List ℕ) → Type 0
-AreWide b low high = (p a : ℕ) → p < length b.leaves → a < length (row b.levels p)
-    → (slice_index low p ≤ stay_level b p a) × (stay_level b p a ≤ slice_index high p)
-
--- gates that leave open exactly the stays that meet the conditions
-pub record AreUnbounded (b : Board) (forced forbidden : List (ℕ × ℕ)) (g : Gates) : Type 0 where
-  pub low : List ℕ
-  pub high : List ℕ
-  pub wide : AreWide b low high
-  pub gates : AreGates b low high forced forbidden g

@@ -6,8 +6,9 @@ ghost use Rattle.sm_market.specs.Vectors.{rows_of};
 ghost use Rattle.sm_board.specs.Board.{Gates, IsBoard, is_shut};
 ghost use Rattle.sm_board.specs.BoardOf.{AreGates, AreInRange};
 ghost use Rattle.sm_lists.specs.Rows.{place_on};
-ghost use Rattle.sm_least.specs.Regrets.{rank_of_level, IsRanked, AreBelow, AreCut};
-ghost use Rattle.sm_least.specs.Steps.{AreGatesOf, IsNarrowed, AreShut, rows_in, AreRowsFor, AreAvoided, AreUnbounded, NeverFall, IsDivided};
+ghost use Rattle.sm_least.specs.Regrets.{rank_of_level, IsRanked, AreOpenUpTo, AreShutAbove};
+ghost use Rattle.sm_least.specs.Steps.{IsNarrowed, AreShut, rows_in, AreRowsFor, AreAvoided, NeverFall, IsDivided};
+ghost use Rattle.sm_least.specs.Gates.{AreUnbounded, AreGatesOf};
 
 use sm_board::Board;
 use sm_poset::Conditions;
@@ -85,7 +86,7 @@ impl Gates {
         requires gates { AreGatesOf board.now self.old }
         requires ranked { IsRanked board.now (rows_of levels.now) (rows_of ranks.now) }
         ensures gates { AreGatesOf board.now self.new }
-        ensures open { AreBelow board.now (rows_of levels.now) (rows_of ranks.now) bound self.old
+        ensures open { AreOpenUpTo board.now (rows_of levels.now) (rows_of ranks.now) bound self.old
             self.new }
     {
         cut(board, levels, ranks, bound, &mut self.shut, &mut self.until);
@@ -391,7 +392,7 @@ fn cut(
     ensures shut_each { length shut.new ≡ length shut.old }
     ensures until_each { length until.new ≡ length until.old }
     ensures gates { AreGatesOf board.now (record { until = until.new; shut = rows_in shut.new }) }
-    ensures open { AreBelow board.now (rows_of levels.now) (rows_of ranks.now) bound
+    ensures open { AreOpenUpTo board.now (rows_of levels.now) (rows_of ranks.now) bound
         (record { until = until.old; shut = rows_in shut.old }) (record { until = until.new; shut = rows_in shut.new }) }
 {
     shut_ranks(board, levels, ranks, bound, shut);
@@ -409,7 +410,7 @@ fn shut_ranks(
     requires board { IsBoard board.now }
     requires ranked { IsRanked board.now (rows_of levels.now) (rows_of ranks.now) }
     requires rows { AreRowsFor board.now.levels (rows_in shut.old) }
-    ensures { AreCut board.now (rows_of levels.now) (rows_of ranks.now) bound
+    ensures { AreShutAbove board.now (rows_of levels.now) (rows_of ranks.now) bound
         (length board.now.leaves) (rows_in shut.old) (rows_in shut.new) }
 {
     for p in 0..board.proposers() {

@@ -1,13 +1,14 @@
 //! How a set grows: what it lacks enters, as far as no level before a bar changes.
 
-ghost use Rattle.std.specs.Prelude.{◌≡◌, ℕ, ◌<◌, ◌≤◌, Bool, true, false, List, [], length, take, slice_index, Contains};
+ghost use Rattle.std.specs.Prelude.{◌≡◌, ℕ, ◌<◌, ◌≤◌, Bool, true, false, List, [], length, take, Contains};
 ghost use Rattle.sm_market.specs.Lists.{row};
 ghost use Rattle.sm_theory.specs.ClosedSets.{IsMember};
 ghost use Rattle.sm_theory.specs.Vectors.{IsOrder};
 ghost use Rattle.sm_board.specs.Board.{IsClosedIn, IsOpen, Fits, IsLeast, level, stay};
 ghost use Rattle.sm_board.specs.Growing.{AreNeedsIn};
-ghost use Rattle.sm_board.specs.Courses.{IsHeld, Grows, Breaks};
-ghost use Rattle.sm_least.specs.Steps.{IsInAll, HasRotation, IsHigh, AreGatesOf, AreOpened, AreSettled};
+ghost use Rattle.sm_board.specs.Courses.{IsHeld, HoldsMore, Breaks};
+ghost use Rattle.sm_least.specs.Steps.{IsInAll, HasRotation, IsHigh, AreOpened, AreSettled};
+ghost use Rattle.sm_least.specs.Gates.{AreGatesOf};
 ghost use Rattle.sm_board.specs.Walks.{IsRaised, IsNotRaised};
 
 use crate::gates::Gates;
@@ -18,7 +19,7 @@ fn need(course: &Course, held: &mut Held, y: u32, bar: u32) -> bool
     requires held { IsHeld course.now.board held.old }
     requires positions { bar ≤ length course.now.order }
     requires number { y < length course.now.board.needs }
-    ensures grows { Grows course.now bar held.old held.new }
+    ensures grows { HoldsMore course.now bar held.old held.new }
     ensures in_all { IsInAll (λ D. IsMember D y) held.old.set held.new.set }
     ensures member { result ≡ true → IsMember held.new.set y }
     ensures barred { result ≡ false → Breaks (λ D. IsMember D y) course.now bar held.old.set }
@@ -35,7 +36,7 @@ fn enter_needs(course: &Course, held: &mut Held, x: u32, bar: u32) -> bool
     requires positions { bar ≤ length course.now.order }
     requires number { x < length course.now.board.needs }
     requires member { IsMember held.old.set x }
-    ensures grows { Grows course.now bar held.old held.new }
+    ensures grows { HoldsMore course.now bar held.old held.new }
     ensures in_all { IsInAll (IsClosedIn course.now.board) held.old.set held.new.set }
     ensures entered { result ≡ true → (i : ℕ) → Contains (row course.now.board.needs x) i
         → IsMember held.new.set i }
@@ -57,7 +58,7 @@ fn close(course: &Course, held: &mut Held, start: usize, bar: u32) -> bool
     requires positions { bar ≤ length course.now.order }
     requires start { start ≤ length held.old.log }
     requires before { AreNeedsIn course.now.board held.old.set held.old.log start }
-    ensures grows { Grows course.now bar held.old held.new }
+    ensures grows { HoldsMore course.now bar held.old held.new }
     ensures in_all { IsInAll (IsClosedIn course.now.board) held.old.set held.new.set }
     ensures closed { result ≡ true → IsClosedIn course.now.board held.new.set }
     ensures barred { result ≡ false → Breaks (IsClosedIn course.now.board) course.now bar
@@ -80,7 +81,7 @@ fn bring(course: &Course, held: &mut Held, x: u32, bar: u32) -> bool
     requires positions { bar ≤ length course.now.order }
     requires number { x < length course.now.board.needs }
     requires fresh { ¬ IsMember held.old.set x }
-    ensures grows { Grows course.now bar held.old held.new }
+    ensures grows { HoldsMore course.now bar held.old held.new }
     ensures in_all { IsInAll (HasRotation course.now.board x) held.old.set held.new.set }
     ensures member { result ≡ true → IsMember held.new.set x }
     ensures closed { result ≡ true → IsClosedIn course.now.board held.new.set }
@@ -98,7 +99,7 @@ fn open(course: &Course, gates: &Gates, held: &mut Held, p: u32, bar: u32) -> bo
     requires positions { bar ≤ length course.now.order }
     requires proposer { p < length course.now.board.leaves }
     requires gates { AreGatesOf course.now.board gates.now }
-    ensures grows { Grows course.now bar held.old held.new }
+    ensures grows { HoldsMore course.now bar held.old held.new }
     ensures in_all { IsInAll (Fits course.now.board gates.now) held.old.set held.new.set }
     ensures closed { result ≡ true → IsClosedIn course.now.board held.new.set }
     ensures opened { result ≡ true → IsOpen gates.now p (stay course.now.board held.new.set p) }
@@ -131,7 +132,7 @@ fn settle(course: &Course, gates: &Gates, held: &mut Held, start: usize, bar: u3
     requires start { start ≤ length held.old.log }
     requires settled { AreSettled course.now.board gates.now held.old start
         (length course.now.board.leaves) }
-    ensures grows { Grows course.now bar held.old held.new }
+    ensures grows { HoldsMore course.now bar held.old held.new }
     ensures in_all { IsInAll (Fits course.now.board gates.now) held.old.set held.new.set }
     ensures fits { result ≡ true → Fits course.now.board gates.now held.new.set }
     ensures barred { result ≡ false → Breaks (Fits course.now.board gates.now) course.now bar
@@ -155,7 +156,7 @@ fn open_movers(course: &Course, gates: &Gates, held: &mut Held, x: u32, bar: u32
     requires positions { bar ≤ length course.now.order }
     requires gates { AreGatesOf course.now.board gates.now }
     requires number { x < length course.now.board.needs }
-    ensures grows { Grows course.now bar held.old held.new }
+    ensures grows { HoldsMore course.now bar held.old held.new }
     ensures in_all { IsInAll (Fits course.now.board gates.now) held.old.set held.new.set }
     ensures closed { result ≡ true → IsClosedIn course.now.board held.new.set }
     ensures opened { result ≡ true → let movers = row course.now.board.movers x in
@@ -179,7 +180,7 @@ fn lift(course: &Course, gates: &Gates, held: &mut Held, p: u32, wanted: u64, ba
     requires positions { bar ≤ length course.now.order }
     requires proposer { p < length course.now.board.leaves }
     requires gates { AreGatesOf course.now.board gates.now }
-    ensures grows { Grows course.now bar held.old held.new }
+    ensures grows { HoldsMore course.now bar held.old held.new }
     ensures in_all { IsInAll (IsHigh course.now.board gates.now p wanted) held.old.set
         held.new.set }
     ensures closed { result ≡ true → IsClosedIn course.now.board held.new.set }
@@ -267,7 +268,7 @@ fn grow_to(course: &Course, gates: &Gates, held: &mut Held, p: u32, wanted: u64,
     requires positions { bar ≤ length course.now.order }
     requires proposer { p < length course.now.board.leaves }
     requires gates { AreGatesOf course.now.board gates.now }
-    ensures grows { Grows course.now bar held.old held.new }
+    ensures grows { HoldsMore course.now bar held.old held.new }
     ensures raised { result ≡ true → IsRaised course.now.board gates.now course.now.order
         held.old.set p wanted bar held.new.set }
     ensures nothing { result ≡ false → IsNotRaised course.now.board gates.now course.now.order

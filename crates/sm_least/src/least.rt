@@ -9,7 +9,7 @@ ghost use Rattle.sm_theory.specs.Vectors.{AreLevels, IsAllowed, IsWithin, IsOrde
 ghost use Rattle.sm_board.specs.Board.{IsBoard, Fits, IsLeast, IsClosedIn, level, members_in};
 ghost use Rattle.sm_board.specs.Growing.{IsLogOf};
 ghost use Rattle.sm_theory.specs.Weights.{regret_of};
-ghost use Rattle.sm_least.specs.Steps.{AreUnbounded};
+ghost use Rattle.sm_least.specs.Gates.{AreUnbounded};
 ghost use Rattle.sm_theory.specs.Regrets.{AreRanks, IsBestBelow};
 ghost use Rattle.sm_least.specs.Regrets.{IsRanked, AreAtStays, rank_now, greatest_of};
 ghost use Rattle.sm_board.specs.BoardOf.{AreInRange, IsLeastWithin, IsBestAllowed};
@@ -28,7 +28,7 @@ use std::rc::Rc;
 
 /// What a search is made of.
 #[derive(Debug, Drop)]
-pub struct Parts {
+pub struct SearchParts {
     /// The market.
     pub market: Rc<Market>,
     /// The chain.
@@ -309,11 +309,11 @@ impl Least {
     }
 
     /// What it is made of, for a walk that steps on from what is held.
-    pub fn into_parts(self) -> Parts
+    pub fn into_parts(self) -> SearchParts
         ensures parts { search_of result ≡ self }
         ensures search { IsSearch self }
     {
-        Parts {
+        SearchParts {
             market: self.market,
             chain: self.chain,
             levels: self.levels,

@@ -16,7 +16,7 @@ use Rattle.sm_theory.proofs.Weighing.Totals.{total_same}
 use Rattle.sm_seats.specs.Seating.{Seating, reviewer_of}
 use Rattle.sm_seats.specs.Correspondence.{IsSeating, weights_of}
 use Rattle.sm_seats.proofs.SeatingLemmas.{at_place_is}
-use Rattle.sm_shown.specs.RotationLines.{seated_pairs}
+use Rattle.sm_shown.specs.RotationLines.{seated_rotation}
 use Rattle.sm_shown.specs.RotationAnswer.{pairs_of}
 use Rattle.sm_shown.proofs.SeatingLemmas.{place_of-reviewer_of}
 use Rattle.sm_lightest.specs.WeightAnswer.{weight_with, gain_of_pairs}
@@ -26,7 +26,7 @@ use Rattle.sm_placed.proofs.PlaceLemmas.{weights_at}
 abbrev with_reviewer : Seating → (ℕ × ℕ) → (ℕ × ℕ)
 with_reviewer s pair = (pair.0, reviewer_of s pair.1)
 
-pairs_are : (s : Seating) (rotation : List (ℕ × ℕ)) → pairs_of (seated_pairs s rotation) ≡ map (with_reviewer s) rotation
+pairs_are : (s : Seating) (rotation : List (ℕ × ℕ)) → pairs_of (seated_rotation s rotation) ≡ map (with_reviewer s) rotation
 pairs_are s [] = refl
 pairs_are s (pair ∷ rotation) = ap (λ t. with_reviewer s pair ∷ t) (pairs_are s rotation)
 
@@ -67,7 +67,7 @@ module _ {w : Written} {s : Seating} (h : IsSeating w s) (by : Measure) where
         (ap (λ (pair : ℕ × ℕ). pair.0) pair) target (ap (λ (pair : ℕ × ℕ). pair.1) pair)
 
     -- the gain of a rotation of seats is that of its reviewers
-    pub gain_shown : gain_of s.market (weights_of by w s) (rotation_at rotations k) ≡ gain_of_pairs by w (pairs_of (seated_pairs s (rotation_at rotations k)))
+    pub gain_shown : gain_of s.market (weights_of by w s) (rotation_at rotations k) ≡ gain_of_pairs by w (pairs_of (seated_rotation s (rotation_at rotations k)))
     gain_shown =
         let rotation = rotation_at rotations k in
         let shown = map (with_reviewer s) rotation in

@@ -17,9 +17,8 @@ use Rattle.sm_market.specs.Stable.{IsStable}
 use Rattle.sm_report.specs.Heads.{HeadData}
 use Rattle.sm_report.specs.Lines.{LineData}
 use Rattle.sm_report.specs.Sound.{IsLineOf}
-use Rattle.sm_theory.specs.Chains.{rotation_at, IsPrintedChain}
+use Rattle.sm_theory.specs.Chains.{rotation_at, IsPrintedChain, AreNeeds}
 use Rattle.sm_theory.specs.Weights.{weight_of, gain_of}
-use Rattle.sm_rotations.specs.Graph.{AreNeeds}
 use Rattle.sm_poset.specs.Posets.{IsPoset}
 use Rattle.sm_seats.specs.Seating.{Seating, written_of}
 use Rattle.sm_seats.specs.Correspondence.{IsSeating, weights_of}
@@ -27,12 +26,13 @@ use Rattle.sm_theory.specs.declared.flow_lines.FlowLine.{FlowLine}
 use Rattle.sm_weight.specs.Lightest.{set_matching}
 use Rattle.sm_weight.proofs.CountLemmas.{pairs_of_few}
 use Rattle.sm_shown.specs.Reduction.{seat_line}
-use Rattle.sm_shown.specs.GivenLines.{two_lines, seated_pair_line}
+use Rattle.sm_shown.specs.GivenLines.{two_lines}
+use Rattle.sm_shown.specs.PairLines.{seated_pair_line}
 use Rattle.sm_shown.proofs.SolveLemmas.{pair_alike, pair_sound, end_sound}
 use Rattle.sm_shown.proofs.ReduceLemmas.{seat_sound}
 use Rattle.sm_shown.proofs.RotationLemmas.{both_sound, flat_from}
 use Rattle.sm_lightest.specs.WeightAnswer.{member_numbers}
-use Rattle.sm_lightest.specs.Found.{IsFound, IsFlowLine}
+use Rattle.sm_lightest.specs.Found.{IsLightestOfSeats, IsFlowLine}
 use Rattle.sm_lightest.specs.Given.{gain_line, three_lines, edge_line, figure_line, weight_given}
 use Rattle.sm_lightest.specs.declared.lightest_parts.Lightest.{Lightest}
 use Rattle.sm_lightest.proofs.MemberLemmas.{are_rotations}
@@ -42,7 +42,7 @@ use Rattle.sm_lightest.proofs.SizeLemmas.{gain_size, weight_size}
 edge_sound : (w : Written) (line : FlowLine) → IsFlowLine line → IsLineOf (Two w) (edge_line line)
 edge_sound w line x = record { printable = tt; seats = λ k d l. absurd (omega arith); numbers = (x.from, x.to, x.amount); head = tt }
 
-module _ {w : Written} {s : Seating} (i : IsInstance w) (h : IsSeating w s) (found : Lightest) (f : IsFound w s found) (p : IsPoset found.basis.poset) where
+module _ {w : Written} {s : Seating} (i : IsInstance w) (h : IsSeating w s) (found : Lightest) (f : IsLightestOfSeats w s found) (p : IsPoset found.basis.poset) where
   gain_light : (k : ℕ) → k < length found.basis.poset.rotations → unsigned_abs (slice_index_or found.gains.items k (pos 0)) ≤ 9223372036854775807
   gain_light k here =
       let poset = found.basis.poset in
@@ -111,7 +111,7 @@ module _ {w : Written} {s : Seating} (i : IsInstance w) (h : IsSeating w s) (fou
       (All-append P figures_given (pairs_given ++ ends) figures (All-append P pairs_given ends pairs (one_all P LineData.End (end_sound (Two w))))))))
 
 -- by the values from which they are read
-pub weight_sound : (input : Input) (w : Written) (s : Seating) (found : Lightest) (first : Places) (rotations : List (List (ℕ × ℕ))) (needs : List (List ℕ)) → input ≡ Two w → IsInstance w → IsSeating w s → IsFound w s found
+pub weight_sound : (input : Input) (w : Written) (s : Seating) (found : Lightest) (first : Places) (rotations : List (List (ℕ × ℕ))) (needs : List (List ℕ)) → input ≡ Two w → IsInstance w → IsSeating w s → IsLightestOfSeats w s found
     → IsPoset found.basis.poset → first ≡ found.basis.poset.first.places → rotations ≡ found.basis.poset.rotations → AreNeeds found.basis.poset.lists found.basis.poset.rotations needs
     → All (IsLineOf input) (weight_given s found first rotations needs)
 weight_sound input w s found first rotations needs two i h f p ef er n =

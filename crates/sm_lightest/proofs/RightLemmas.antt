@@ -5,7 +5,7 @@ use Rattle.std.specs.List.{flat_map, range_with_len}
 use Rattle.std.proofs.lemmas.List.{get_or-map}
 use Rattle.std.proofs.lemmas.List.FromFn.{length-map-range_with_len}
 use Rattle.sm_answer.specs.Lines.{lines_from}
-use Rattle.sm_answer.proofs.AnswerLemmas.{lines_alike}
+use Rattle.sm_answer.proofs.AnswerLemmas.{lines_from-same}
 use Rattle.sm_instance.specs.Written.{Written}
 use Rattle.sm_instance.specs.Matching.{standing}
 use Rattle.sm_instance.specs.Sound.{IsInstance}
@@ -17,10 +17,9 @@ use Rattle.sm_market.specs.Matching.{Places}
 use Rattle.sm_report.specs.declared.lines.Seat.{Seat}
 use Rattle.sm_report.specs.Heads.{HeadData}
 use Rattle.sm_report.specs.Lines.{LineData}
-use Rattle.sm_theory.specs.Chains.{rotation_at, IsPrintedChain}
+use Rattle.sm_theory.specs.Chains.{rotation_at, IsPrintedChain, AreNeeds}
 use Rattle.sm_theory.specs.Weights.{weight_of, gain_of}
 use Rattle.sm_theory.specs.Conditions.{IsLightestAllowed}
-use Rattle.sm_rotations.specs.Graph.{AreNeeds}
 use Rattle.sm_poset.specs.Posets.{RotationPoset, IsPoset, poset_of}
 use Rattle.sm_seats.specs.SeatMarket.{seat_market}
 use Rattle.sm_seats.specs.Seating.{Seating, seating_of, written_of, levels_of}
@@ -30,15 +29,17 @@ use Rattle.sm_seats.proofs.VectorLaws.{allowed_seats, lightest_written}
 use Rattle.sm_theory.specs.declared.flow_lines.FlowLine.{FlowLine}
 use Rattle.sm_weight.specs.Lightest.{IsFullFlow, IsLightestFound, set_matching}
 use Rattle.sm_shown.specs.Answers.{pair_line}
+use Rattle.sm_shown.specs.PairLines.{seated_pair_line}
 use Rattle.sm_shown.specs.Reduction.{seat_line}
-use Rattle.sm_shown.specs.RotationLines.{first_line, first_seat, seated_pairs, shown_of}
+use Rattle.sm_shown.specs.RotationLines.{first_seat_line, first_seat, seated_rotation, shown_of}
 use Rattle.sm_shown.specs.RotationAnswer.{pairs_of}
-use Rattle.sm_shown.specs.GivenLines.{seated_pair_line, two_lines}
+use Rattle.sm_shown.specs.GivenLines.{two_lines}
 use Rattle.sm_shown.proofs.ShownLemmas.{pairs_at_shown, correspondence}
 use Rattle.sm_shown.proofs.SolveLemmas.{pair_alike}
 use Rattle.sm_shown.proofs.RotationLemmas.{flat_map_alike, lines_shown, first_shown}
-use Rattle.sm_lightest.specs.WeightAnswer.{gain_of_pairs, gain_in, IsLightest, Parts, net_in, matching_in, gained_lines, flow_line, member_numbers, weight_lines, IsWeightAnswer}
-use Rattle.sm_lightest.specs.Found.{IsFound, shown_ends}
+use Rattle.sm_lightest.specs.WeightAnswer.{gain_of_pairs, gain_in, WeightParts, net_in, matching_in, gained_lines, flow_line, member_numbers, weight_lines, IsWeightAnswer}
+use Rattle.sm_instance.specs.Lightest.{IsLightest}
+use Rattle.sm_lightest.specs.Found.{IsLightestOfSeats, shown_ends}
 use Rattle.sm_lightest.specs.Given.{three_lines, edge_line, weight_given}
 use Rattle.sm_lightest.specs.declared.lightest_parts.Lightest.{Lightest}
 use Rattle.sm_lightest.proofs.GainLemmas.{gain_shown}
@@ -47,8 +48,8 @@ use Rattle.sm_lightest.proofs.LineLemmas.{given_sound}
 -- Parts of the lines.
 
 -- the three lines of a rotation
-pub gained_shown : (by : Measure) (w : Written) (parts : Parts) (k : ℕ) → gained_lines by w parts k
-    ≡ two_lines (seating_of w) parts.rotations parts.needs k ++ LineData.Gain (k + 1) (gain_of_pairs by w (pairs_of (seated_pairs (seating_of w) (rotation_at parts.rotations k)))) ∷ []
+pub gained_shown : (by : Measure) (w : Written) (parts : WeightParts) (k : ℕ) → gained_lines by w parts k
+    ≡ two_lines (seating_of w) parts.rotations parts.needs k ++ LineData.Gain (k + 1) (gain_of_pairs by w (pairs_of (seated_rotation (seating_of w) (rotation_at parts.rotations k)))) ∷ []
 gained_shown by w parts k =
     let s = seating_of w in
     ap (λ (t : List LineData). t ++ LineData.Gain (k + 1) (gain_in by w parts k) ∷ []) (sym (lines_shown s parts.first parts.rotations parts.needs k))
@@ -73,7 +74,7 @@ glued_alike head a a' b b' c c' d d' t t' v v' k k' z z' ea eb ec et ev ek ez ed
 abbrev seated_poset : Written → Lightest → RotationPoset
 seated_poset w found = poset_of (seat_market w) found.basis.poset.first found.basis.poset.rotations
 
-abbrev parts_in : {w : Written} {found : Lightest} → IsFound w (seating_of w) found → List (List ℕ) → Parts
+abbrev parts_in : {w : Written} {found : Lightest} → IsLightestOfSeats w (seating_of w) found → List (List ℕ) → WeightParts
 parts_in {w} {found} f needs = record {
   first = found.basis.poset.first.places;
   rotations = found.basis.poset.rotations;
@@ -82,7 +83,7 @@ parts_in {w} {found} f needs = record {
   taken = f.source.set.members.items;
 }
 
-module _ {w : Written} (h : IsSeating w (seating_of w)) (found : Lightest) (f : IsFound w (seating_of w) found) (p : IsPoset found.basis.poset) (needs : List (List ℕ)) (n : AreNeeds found.basis.poset.lists found.basis.poset.rotations needs) where
+module _ {w : Written} (h : IsSeating w (seating_of w)) (found : Lightest) (f : IsLightestOfSeats w (seating_of w) found) (p : IsPoset found.basis.poset) (needs : List (List ℕ)) (n : AreNeeds found.basis.poset.lists found.basis.poset.rotations needs) where
   same_poset : found.basis.poset ≡ seated_poset w found
   same_poset = ap (λ (l : Lists). poset_of l found.basis.poset.first found.basis.poset.rotations) f.market
 
@@ -131,7 +132,7 @@ module _ {w : Written} (h : IsSeating w (seating_of w)) (found : Lightest) (f : 
       let s = seating_of w in
       let rotations = found.basis.poset.rotations in
       let g = gain_of (seat_market w) (weights_of found.by w s) in
-      let gain : slice_index_or found.gains.items k (pos 0) ≡ gain_of_pairs found.by w (pairs_of (seated_pairs s (rotation_at rotations k))) =
+      let gain : slice_index_or found.gains.items k (pos 0) ≡ gain_of_pairs found.by w (pairs_of (seated_rotation s (rotation_at rotations k))) =
       ap (λ (xs : List ℤ). slice_index_or xs k (pos 0)) (f.gains ∙ lightest_there.gains) ∙ get_or-map g rotations k [] (pos 0) here
       ∙ gain_shown h found.by printed_there.chain k here in
       ap (λ z. two_lines s rotations needs k ++ LineData.Gain (k + 1) z ∷ []) gain ∙ sym (gained_shown found.by w (parts_in f needs) k)
@@ -150,7 +151,7 @@ module _ {w : Written} (h : IsSeating w (seating_of w)) (found : Lightest) (f : 
       let many : length rotations - 0 ≡ length rotations = omega arith in
       let all : length s.market.proposers - 0 ≡ length w.proposers = omega (arith, h.proposers) in
       glued_alike (LineData.Answer (HeadData.Weight found.by)) _ _ _ _ _ _ _ _ _ _ _ _ _ _ _ _
-      (ap (lines_from (seat_line Proposers s first) 0) count ∙ lines_alike (seat_line Proposers s first) (first_line shown) (first_shown s first rotations needs one) 0 (length shown.firsts))
+      (ap (lines_from (seat_line Proposers s first) 0) count ∙ lines_from-same (seat_line Proposers s first) (first_seat_line shown) (first_shown s first rotations needs one) 0 (length shown.firsts))
       (ap (λ k. flat_map (three_lines s rotations needs found.gains.items) (range_with_len 0 k)) many
       ∙ flat_map_alike (three_lines s rotations needs found.gains.items) (gained_lines found.by w parts) 0 (length rotations) (λ k l. rows_shown k (omega (arith, l))))
       (ap (map edge_line) f.flow ∙ flow_shown (suc (length rotations)) f.source.flow.items)
@@ -160,13 +161,13 @@ module _ {w : Written} (h : IsSeating w (seating_of w)) (found : Lightest) (f : 
       (ap (λ z. LineData.Total z) (f.total ∙ ap (λ (x : Places). written_weight found.by w (written_of s x.proposers)) places_there))
       (ap (λ (x : Places). lines_from (seated_pair_line s x) 0 (length s.market.proposers - 0)) places_there
       ∙ ap (lines_from (seated_pair_line s m) 0) all
-      ∙ lines_alike (seated_pair_line s m) (pair_line w (written_of s m.proposers)) (pair_alike h m lightest_there.lightest.stable) 0 (length w.proposers))
+      ∙ lines_from-same (seated_pair_line s m) (pair_line w (written_of s m.proposers)) (pair_alike h m lightest_there.lightest.stable) 0 (length w.proposers))
 
   right_there : IsInstance w → IsWeightAnswer found.by w (weight_given (seating_of w) found found.basis.poset.first.places found.basis.poset.rotations needs)
   right_there i = record {
     parts = parts_in f needs;
     printed = printed_there;
-    needed = record { one_each = needs_there.one_each; of = needs_there.each };
+    needed = needs_there;
     corresponds = correspondence needs h printed_there.chain needs_there.each;
     certificate = record { lines = full_there.lines; is_flow = full_there.flow; reach = full_there.reach; full = full_there.value ∙ sym full_there.cut };
     closed = lightest_there.closed;
@@ -176,11 +177,11 @@ module _ {w : Written} (h : IsSeating w (seating_of w)) (found : Lightest) (f : 
   }
 
 -- the lines are a right answer, by the values from which they are read
-pub weight_right : (w : Written) (s : Seating) (found : Lightest) (first : Places) (rotations : List (List (ℕ × ℕ))) (needs : List (List ℕ)) → s ≡ seating_of w → IsInstance w → IsSeating w s → IsFound w s found → IsPoset found.basis.poset
+pub weight_right : (w : Written) (s : Seating) (found : Lightest) (first : Places) (rotations : List (List (ℕ × ℕ))) (needs : List (List ℕ)) → s ≡ seating_of w → IsInstance w → IsSeating w s → IsLightestOfSeats w s found → IsPoset found.basis.poset
     → first ≡ found.basis.poset.first.places → rotations ≡ found.basis.poset.rotations → AreNeeds found.basis.poset.lists found.basis.poset.rotations needs
     → IsWeightAnswer found.by w (weight_given s found first rotations needs)
 weight_right w s found first rotations needs is i h f p ef er n =
     subst (λ (x : Places). IsWeightAnswer found.by w (weight_given s found x rotations needs)) (sym ef)
     (subst (λ (x : List (List (ℕ × ℕ))). IsWeightAnswer found.by w (weight_given s found found.basis.poset.first.places x needs)) (sym er)
-    (subst (λ (t : Seating). IsSeating w t → IsFound w t found → IsWeightAnswer found.by w (weight_given t found found.basis.poset.first.places found.basis.poset.rotations needs)) (sym is)
+    (subst (λ (t : Seating). IsSeating w t → IsLightestOfSeats w t found → IsWeightAnswer found.by w (weight_given t found found.basis.poset.first.places found.basis.poset.rotations needs)) (sym is)
     (λ h f. right_there h found f p needs n i) h f))

@@ -6,10 +6,10 @@ use Rattle.sm_report.specs.declared.lines.Line.{Line}
 use Rattle.sm_answer.specs.Giving.{GivesNext}
 use Rattle.sm_answer.proofs.AnswerLemmas.{gave_first, gave_none}
 use Rattle.sm_seats.specs.Seating.{Seating}
-use Rattle.sm_shown.specs.GivenLines.{rotation_line, needs_line}
+use Rattle.sm_shown.specs.RotationLines.{needs_line, rotation_line}
 use Rattle.sm_lightest.specs.Given.{gain_line, three_lines, lines_of_gained, gained_left, most_gained}
-use Rattle.sm_lightest.specs.declared.gained_lines.Part.{Part}
-use Rattle.sm_lightest.specs.declared.gained_lines.Part.TheVariants.{Pairs, Needs, Gain}
+use Rattle.sm_lightest.specs.declared.gained_lines.RotationPart.{RotationPart}
+use Rattle.sm_lightest.specs.declared.gained_lines.RotationPart.TheVariants.{Pairs, Needs, Gain}
 
 module _ (s : Seating) (rotations : List (List (ℕ × ℕ))) (needs : List (List ℕ)) (gains : List ℤ) (k : ℕ) where
   gained_first : k < length rotations → lines_of_gained s rotations needs gains k ≡ three_lines s rotations needs gains k ++ lines_of_gained s rotations needs gains (k + 1)
@@ -39,14 +39,14 @@ module _ (s : Seating) (rotations : List (List (ℕ × ℕ))) (needs : List (Lis
       gave_first _ _ line _ _ (ap (drop 2) (gained_first here) ∙ ap (λ t. t ∷ lines_of_gained s rotations needs gains (k + 1)) (sym is)) (omega arith)
 
   -- behind the last rotation nothing more is given
-  pub gained_over : (part : Part) (n : ℕ) → length rotations ≤ k
+  pub gained_over : (part : RotationPart) (n : ℕ) → length rotations ≤ k
       → GivesNext (λ rest. rest ≡ gained_left part s rotations needs gains k) (λ rest. rest ≡ gained_left part s rotations needs gains k) n n (Ok None)
   gained_over part n over =
       let count : length rotations - k ≡ 0 = omega arith in
       let none : lines_of_gained s rotations needs gains k ≡ [] = ap (λ n. flat_map (three_lines s rotations needs gains) (range_with_len k n)) count in
       gave_none (gained_left part s rotations needs gains k) n (by_part part none)
     where
-      by_part : (part : Part) → lines_of_gained s rotations needs gains k ≡ [] → gained_left part s rotations needs gains k ≡ []
+      by_part : (part : RotationPart) → lines_of_gained s rotations needs gains k ≡ [] → gained_left part s rotations needs gains k ≡ []
       by_part Pairs none = none
       by_part Needs none = ap (drop 1) none
       by_part Gain none = ap (drop 2) none

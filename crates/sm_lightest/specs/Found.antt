@@ -24,7 +24,7 @@ pub record IsFlowLine (line : FlowLine) : Type 0 where
   pub amount : IsLarge line.amount
 
 -- what is found is read off the lightest allowed matching of the seats
-pub record IsFound (w : Written) (s : Seating) (found : Lightest) : Type 0 where
+pub record IsLightestOfSeats (w : Written) (s : Seating) (found : Lightest) : Type 0 where
   pub market : found.basis.poset.lists ≡ s.market
   pub made : IsPairingOf s.market found.matching
   pub places : found.matching.places ≡ set_matching found.basis.poset found.taken.members.items

@@ -9,11 +9,12 @@ use Rattle.sm_report.specs.Lines.{LineData}
 use Rattle.sm_seats.specs.Seating.{Seating}
 use Rattle.sm_theory.specs.declared.flow_lines.FlowLine.{FlowLine}
 use Rattle.sm_shown.specs.Reduction.{seat_line}
-use Rattle.sm_shown.specs.GivenLines.{seated_pair_line, rotation_line, needs_line}
+use Rattle.sm_shown.specs.PairLines.{seated_pair_line}
+use Rattle.sm_shown.specs.RotationLines.{needs_line, rotation_line}
 use Rattle.sm_lightest.specs.WeightAnswer.{member_numbers}
 use Rattle.sm_lightest.specs.declared.lightest_parts.Lightest.{Lightest}
-use Rattle.sm_lightest.specs.declared.gained_lines.Part.{Part}
-use Rattle.sm_lightest.specs.declared.gained_lines.Part.TheVariants.{Pairs, Needs, Gain}
+use Rattle.sm_lightest.specs.declared.gained_lines.RotationPart.{RotationPart}
+use Rattle.sm_lightest.specs.declared.gained_lines.RotationPart.TheVariants.{Pairs, Needs, Gain}
 
 -- the lines of a rotation
 abbrev pub gain_line : List ℤ → ℕ → LineData
@@ -28,13 +29,13 @@ abbrev pub lines_of_gained : Seating → List (List (ℕ × ℕ)) → List (List
 lines_of_gained s rotations needs gains k = flat_map (three_lines s rotations needs gains) (range_with_len k (length rotations - k))
 
 -- without those of the first that are given already
-abbrev pub gained_left : Part → Seating → List (List (ℕ × ℕ)) → List (List ℕ) → List ℤ → ℕ → List LineData
+abbrev pub gained_left : RotationPart → Seating → List (List (ℕ × ℕ)) → List (List ℕ) → List ℤ → ℕ → List LineData
 gained_left Pairs s rotations needs gains k = lines_of_gained s rotations needs gains k
 gained_left Needs s rotations needs gains k = drop 1 (lines_of_gained s rotations needs gains k)
 gained_left Gain s rotations needs gains k = drop 2 (lines_of_gained s rotations needs gains k)
 
 -- at most so many are left of n rotations
-abbrev pub most_gained : Part → ℕ → ℕ
+abbrev pub most_gained : RotationPart → ℕ → ℕ
 most_gained Pairs n = n + n + n
 most_gained Needs n = n + n + n - 1
 most_gained Gain n = n + n + n - 2

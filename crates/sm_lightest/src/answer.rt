@@ -7,10 +7,10 @@ ghost use Rattle.sm_instance.specs.declared.inputs.Input.TheVariants.{Two};
 ghost use Rattle.sm_seats.specs.Seating.{seating_of};
 ghost use Rattle.sm_seats.specs.Correspondence.{IsSeating};
 ghost use Rattle.sm_lightest.specs.WeightAnswer.{IsWeightAnswer};
-ghost use Rattle.sm_lightest.specs.Found.{IsFound};
+ghost use Rattle.sm_lightest.specs.Found.{IsLightestOfSeats};
 
 use crate::figures::{Figures, FlowLines};
-use crate::gained_lines::{GainedLines, Part};
+use crate::gained_lines::{GainedLines, RotationPart};
 use crate::lightest_parts::Lightest;
 use sm_answer::{Each, Lines, One, Printed, Then};
 use sm_instance::{Input, Instance, Side};
@@ -45,7 +45,7 @@ pub fn lightest_lines<'a>(
     requires input { input.now ≡ Two instance.now }
     requires seats { seats.now ≡ seating_of instance.now }
     requires seating { IsSeating instance.now seats.now }
-    requires found { IsFound instance.now seats.now found.now }
+    requires found { IsLightestOfSeats instance.now seats.now found.now }
     ensures right { (lines : List (List ℕ)) → ⟦<LightestLines<'a> as Lines>⟧.gives result lines
         → IsShown input.now (IsWeightAnswer found.now.by instance.now) lines }
     ensures some { HasRest (⟦<LightestLines<'a> as Lines>⟧.gives result) }
@@ -75,7 +75,7 @@ pub fn lightest_lines<'a>(
                         },
                         found,
                         next: 0,
-                        part: Part::Pairs,
+                        part: RotationPart::Pairs,
                     },
                     second: Then {
                         first: FlowLines { found, next: 0 },

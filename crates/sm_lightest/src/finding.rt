@@ -1,7 +1,6 @@
 //! The lightest matching that the conditions of an instance allow, with what its answer is read from.
 
-ghost use Rattle.std.specs.Prelude.{◌≡◌, ℕ, ◌+◌, ◌<◌, ◌^◌, All, List, Option, length, map, IfOk, MatchOption};
-ghost use Rattle.sm_instance.specs.Sound.{IsInstance};
+ghost use Rattle.std.specs.Prelude.{◌≡◌, ℕ, ◌+◌, ◌<◌, All, List, Option, map, IfOk, MatchOption};
 ghost use Rattle.sm_instance.specs.Stable.{IsStable};
 ghost use Rattle.sm_instance.specs.Allowed.{IsAllowed};
 ghost use Rattle.sm_seats.specs.Seating.{seating_of, levels_of};
@@ -9,7 +8,7 @@ ghost use Rattle.sm_seats.specs.Correspondence.{IsSeating, leveled, weights_of};
 ghost use Rattle.sm_weight.specs.Lightest.{IsLightestFound};
 ghost use Rattle.sm_placed.specs.PlaceWeights.{AreLight};
 ghost use Rattle.sm_lightest.specs.WeightAnswer.{shown_node};
-ghost use Rattle.sm_lightest.specs.Found.{IsFound, IsFlowLine, shown_ends};
+ghost use Rattle.sm_lightest.specs.Found.{IsLightestOfSeats, IsFlowLine, shown_ends};
 
 use crate::lightest_parts::Lightest;
 use sm_instance::{Instance, Measure};
@@ -41,33 +40,15 @@ pub fn find_lightest(
     ensures { IfOk result (λ found. MatchOption found
         ((places : List (Option ℕ)) → IsStable instance.now places
         → ¬ IsAllowed instance.now places)
-        (λ f. (f.by ≡ by) × IsFound instance.now seats.now f)) }
+        (λ f. (f.by ≡ by) × IsLightestOfSeats instance.now seats.now f)) }
 {
     let basis = Basis::of(alloc, seats)?;
     let levels = seats.levels(alloc)?;
     let weights = weights_of_places(alloc, instance, seats, by, &levels)?;
-    let conditions = few_conditions(alloc, instance)?;
+    let conditions = conditions_of(alloc, instance)?;
     match sm_weight::lightest(alloc, &basis.poset, &levels, &weights, &conditions)? {
         Some(found) => Ok(Some(read_off(alloc, instance, seats, by, basis, found)?)),
         None => Ok(None),
-    }
-}
-
-/// The conditions of an instance. No instance can be built with 2^24 of them.
-fn few_conditions(alloc: Global, instance: &Instance) -> Result<Conditions, AllocError>
-    ensures instance { IsInstance instance.now }
-    ensures forced { IfOk result (λ conditions. conditions.forced.items
-        ≡ leveled instance.now instance.now.forced) }
-    ensures forbidden { IfOk result (λ conditions. conditions.forbidden.items
-        ≡ leveled instance.now instance.now.forbidden) }
-    ensures few { IfOk result (λ conditions. length conditions.forced.items
-        + length conditions.forbidden.items < 2 ^ 24) }
-{
-    let conditions = conditions_of(alloc, instance)?;
-    if conditions.forced.len() + conditions.forbidden.len() < 1 << 24 {
-        Ok(conditions)
-    } else {
-        Err(AllocError)
     }
 }
 
@@ -88,7 +69,7 @@ fn read_off(
         (leveled instance.now instance.now.forced) (leveled instance.now instance.now.forbidden)
         found }
     ensures by { IfOk result (λ read. read.by ≡ by) }
-    ensures found { IfOk result (λ read. IsFound instance.now seats.now read) }
+    ensures found { IfOk result (λ read. IsLightestOfSeats instance.now seats.now read) }
 {
     let sink = basis.poset.chain().rotations.len() as u32 + 1;
     let flow = shown_flow(alloc, &found.flow, sink)?;

@@ -10,7 +10,7 @@ use std::alloc::{AllocError, Global};
 
 /// The lines of a rotation, in turn.
 #[derive(Debug, Clone, Copy, PartialEq, Eq)]
-pub enum Part {
+pub enum RotationPart {
     Pairs,
     Needs,
     Gain,
@@ -23,7 +23,7 @@ pub struct GainedLines<'a> {
     pub found: &'a Lightest,
     pub next: u32,
     /// The line of the next rotation that comes first; those before it are given already.
-    pub part: Part,
+    pub part: RotationPart,
     ghost one_each: { length found.now.gains.items ≡ length rows.rotations.now },
 }
 
@@ -45,19 +45,19 @@ impl Answer for GainedLines<'_> {
             return Ok(None);
         }
         match self.part {
-            Part::Pairs => {
+            RotationPart::Pairs => {
                 let line = rotation_line(alloc, &self.rows, self.next)?;
-                self.part = Part::Needs;
+                self.part = RotationPart::Needs;
                 Ok(Some(line))
             }
-            Part::Needs => {
+            RotationPart::Needs => {
                 let line = needs_line(alloc, &self.rows, self.next)?;
-                self.part = Part::Gain;
+                self.part = RotationPart::Gain;
                 Ok(Some(line))
             }
-            Part::Gain => {
+            RotationPart::Gain => {
                 let line = Line::Gain(self.next + 1, self.found.gains[self.next as usize]);
-                self.part = Part::Pairs;
+                self.part = RotationPart::Pairs;
                 self.next += 1;
                 Ok(Some(line))
             }

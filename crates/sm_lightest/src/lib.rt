@@ -14,5 +14,5 @@ pub mod witnesses;
 pub use answer::{LightestLines, lightest_lines};
 pub use figures::{Figures, FlowLines};
 pub use finding::find_lightest;
-pub use gained_lines::{GainedLines, Part};
+pub use gained_lines::{GainedLines, RotationPart};
 pub use lightest_parts::Lightest;

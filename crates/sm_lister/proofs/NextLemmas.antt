@@ -2,27 +2,27 @@
 use Rattle.std.proofs.Common.{◌≡◌, if◌then◌else◌, true, ℕ, sym, ap, ◌∙◌, subst, List, Bool, Option, None, Some}
 use Rattle.sm_theory.specs.ClosedSets.{IsClosed, matching_of}
 use Rattle.sm_theory.specs.Vectors.{IsBefore, IsAllowedVector, level_vector_of}
-use Rattle.sm_theory.specs.Listings.{IsNext, IsNoneBehind}
+use Rattle.sm_theory.specs.Listings.{IsNextListed, IsNoneBehind}
 use Rattle.sm_poset.specs.Posets.{RotationPoset}
 use Rattle.sm_board.specs.Board.{Gates, Fits}
 use Rattle.sm_board.specs.BoardOf.{AreGates}
 use Rattle.sm_board.specs.Courses.{Course}
-use Rattle.sm_board.specs.Walks.{vector, NoneFrom, IsFirst, IsFirstAbove}
+use Rattle.sm_board.specs.Walks.{vector, NoneFrom, HasFirstVector, IsFirstAbove}
 use Rattle.sm_board.proofs.BoardSets.{gates_mean_conditions}
 use Rattle.sm_board.proofs.WalkBridge.{walk_is_next, vector_is}
-use Rattle.sm_lister.specs.declared.walk.Walk.{Walk}
-use Rattle.sm_lister.specs.Walking.{cursor_of, IsFirstBehind, NoneLeft}
-use Rattle.sm_lister.specs.Listers.{IsGoing}
+use Rattle.sm_lister.specs.declared.vector_walk.VectorWalk.{VectorWalk}
+use Rattle.sm_lister.specs.Walking.{cursor_of, IsFirstSetBehind, NoneLeft}
+use Rattle.sm_lister.specs.Kept.{IsGoing}
 
 module _ {poset : RotationPoset} {levels : List (List ℕ)} {forced forbidden : List (ℕ × ℕ)} {t : Course} {g : Gates} (w : IsGoing poset levels forced forbidden t g) where
   abbrev IsOne : List ℕ → Type 0
   IsOne = IsAllowedVector poset.lists levels forced forbidden
 
   -- the first set behind a cursor has the next vector
-  pub next_found : (cursor : Option (List ℕ)) (C : List Bool) → Fits t.board g C → IsFirstBehind t g cursor C → IsNext (IsBefore t.order) IsOne cursor (vector t.board C)
-  next_found None C f first = subst (λ b. AreGates b w.low w.high forced forbidden g → Fits b g C → IsFirst b g t.order C → IsNext (IsBefore t.order) IsOne None (vector b C)) (sym w.board.is)
+  pub next_found : (cursor : Option (List ℕ)) (C : List Bool) → Fits t.board g C → IsFirstSetBehind t g cursor C → IsNextListed (IsBefore t.order) IsOne cursor (vector t.board C)
+  next_found None C f first = subst (λ b. AreGates b w.low w.high forced forbidden g → Fits b g C → HasFirstVector b g t.order C → IsNextListed (IsBefore t.order) IsOne None (vector b C)) (sym w.board.is)
       (λ a f first. (walk_is_next poset.lists levels poset.first.places poset.rotations w.board.needs w.board.moves w.low w.high forced forbidden g t.order w.board.ground w.in_range a w.bounds w.order).0 C f first) w.gates f first
-  next_found (Some v) C f first = subst (λ b. AreGates b w.low w.high forced forbidden g → Fits b g C → IsFirstAbove b g t.order v C → IsNext (IsBefore t.order) IsOne (Some v) (vector b C)) (sym w.board.is)
+  next_found (Some v) C f first = subst (λ b. AreGates b w.low w.high forced forbidden g → Fits b g C → IsFirstAbove b g t.order v C → IsNextListed (IsBefore t.order) IsOne (Some v) (vector b C)) (sym w.board.is)
       (λ a f first. (walk_is_next poset.lists levels poset.first.places poset.rotations w.board.needs w.board.moves w.low w.high forced forbidden g t.order w.board.ground w.in_range a w.bounds w.order).1 v C f first) w.gates f first
 
   -- where no set is left, no vector is behind the cursor
@@ -42,5 +42,5 @@ module _ {poset : RotationPoset} {levels : List (List ℕ)} {forced forbidden : 
   vector_shown C f = subst (λ b. vector b C ≡ level_vector_of poset.lists levels (matching_of poset.lists poset.first.places poset.rotations C)) (sym w.board.is) (vector_is w.board.ground (fits_closed C f))
 
 -- where a vector was reached it is the cursor
-pub cursor_is : (w : Walk) {v : List ℕ} → w.given ≡ true → w.vector.items ≡ v → cursor_of w ≡ Some v
+pub cursor_is : (w : VectorWalk) {v : List ℕ} → w.given ≡ true → w.vector.items ≡ v → cursor_of w ≡ Some v
 cursor_is w {v} given is = ap (λ given. if given then Some w.vector.items else None) given ∙ ap Some is

@@ -7,7 +7,7 @@ use Rattle.sm_board.specs.Courses.{Course, Held}
 use Rattle.sm_board.specs.Walks.{NoneFrom}
 use Rattle.sm_board.proofs.GrowLemmas.{log_falls}
 use Rattle.sm_board.proofs.WalkLemmas.{none_without_turn}
-use Rattle.sm_lister.specs.Walking.{AreMarks, IsUnderWay, IsSkip}
+use Rattle.sm_lister.specs.Walking.{AreLogMarks, IsUnderWay, IsSkip}
 
 -- a front of a log has a set
 pub record FrontSet (b : Board) (log : List ℕ) (n : ℕ) : Type 0 where
@@ -33,7 +33,7 @@ none_back {t} {g} {h} {v} {marks} {d} board w (suc k) s e none =
     none_without_turn t.board g t.order v s f.set board w.made.order (omega (arith, w.within, w.made.order.long)) (w.are.are s f.set less f.logged) (λ x. none s x (omega arith) less) behind
 
 -- fewer marks
-pub marks_fewer : {t : Course} {g : Gates} {v log marks : List ℕ} {d : ℕ} (s : ℕ) → s ≤ d → AreMarks t g v log marks d → AreMarks t g v log marks s
+pub marks_fewer : {t : Course} {g : Gates} {v log marks : List ℕ} {d : ℕ} (s : ℕ) → s ≤ d → AreLogMarks t g v log marks d → AreLogMarks t g v log marks s
 marks_fewer s le w = record { few = λ i x. w.few i (omega arith); rising = λ i j a x. w.rising i j a (omega arith); are = λ i C x. w.are i C (omega arith) }
 
 -- a walk goes on from a skip

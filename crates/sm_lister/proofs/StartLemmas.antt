@@ -7,11 +7,11 @@ use Rattle.sm_board.specs.Board.{IsFirstChange, Gates, Fits, IsLeast}
 use Rattle.sm_board.specs.BoardOf.{AreInRange}
 use Rattle.sm_least.specs.Searches.{Search, IsSearch}
 use Rattle.sm_board.specs.Courses.{Course, IsCourse, Held, IsHeld}
-use Rattle.sm_least.specs.Steps.{AreGatesOf, AreUnbounded}
+use Rattle.sm_least.specs.Gates.{AreUnbounded, AreGatesOf}
 use Rattle.sm_least.proofs.SearchLemmas.{nothing_excluded}
-use Rattle.sm_lister.specs.declared.walk.Walk.{Walk}
-use Rattle.sm_lister.specs.Walking.{AreSkips, AreFirstChanges, SkipsNoFirstChange, IsWalking}
-use Rattle.sm_lister.specs.Listers.{IsLister}
+use Rattle.sm_lister.specs.declared.vector_walk.VectorWalk.{VectorWalk}
+use Rattle.sm_lister.specs.Walking.{AreSkips, AreFirstChanges, SkipsNoFirstChange, IsKeptWalk}
+use Rattle.sm_lister.specs.Kept.{IsLister}
 
 -- a rotation changes the level first at no other position than its own
 pub first_is : {t : Course} (x j : ℕ) → IsCourse t → x < length t.board.needs → j < length t.order → IsFirstChange t.board t.order x j → slice_index t.first x ≡ j
@@ -37,12 +37,12 @@ are_skips {t} changes skip course order each turned long skips d x = record {
 }
 
 -- where no step was made yet a lister is one of the search that began
-pub is_started : {P S : Search} {n : ℕ} {forced forbidden : List (ℕ × ℕ)} {order : List ℕ} {any : Bool} (walk : Walk) → P ≡ S → IsSearch S → n ≡ length S.poset.lists.proposers → AreInRange n forced → AreUnbounded S.course.board forced forbidden S.gates → IsOrder n order → S.course.order ≡ order
+pub is_started : {P S : Search} {n : ℕ} {forced forbidden : List (ℕ × ℕ)} {order : List ℕ} {any : Bool} (walk : VectorWalk) → P ≡ S → IsSearch S → n ≡ length S.poset.lists.proposers → AreInRange n forced → AreUnbounded S.course.board forced forbidden S.gates → IsOrder n order → S.course.order ≡ order
     → (any ≡ true → IsLeast (Fits S.course.board S.gates) S.held.set) → (any ≡ false → (D : List Bool) → Fits S.course.board S.gates D → ⊥)
-    → ((g : Gates) (h : Held) → IsHeld P.course.board h → AreGatesOf P.course.board g → (any ≡ true → IsLeast (Fits P.course.board g) h.set) → (any ≡ false → (D : List Bool) → Fits P.course.board g D → ⊥) → IsWalking P.course g h walk)
+    → ((g : Gates) (h : Held) → IsHeld P.course.board h → AreGatesOf P.course.board g → (any ≡ true → IsLeast (Fits P.course.board g) h.set) → (any ≡ false → (D : List Bool) → Fits P.course.board g D → ⊥) → IsKeptWalk P.course g h walk)
     → IsLister P.poset P.levels forced forbidden P.course P.gates P.held walk false
 is_started {P} {S} {n} {forced} {forbidden} {order} {any} walk e s count range gates o is least none walks =
-    subst (λ P. ((g : Gates) (h : Held) → IsHeld P.course.board h → AreGatesOf P.course.board g → (any ≡ true → IsLeast (Fits P.course.board g) h.set) → (any ≡ false → (D : List Bool) → Fits P.course.board g D → ⊥) → IsWalking P.course g h walk) → IsLister P.poset P.levels forced forbidden P.course P.gates P.held walk false) (sym e)
+    subst (λ P. ((g : Gates) (h : Held) → IsHeld P.course.board h → AreGatesOf P.course.board g → (any ≡ true → IsLeast (Fits P.course.board g) h.set) → (any ≡ false → (D : List Bool) → Fits P.course.board g D → ⊥) → IsKeptWalk P.course g h walk) → IsLister P.poset P.levels forced forbidden P.course P.gates P.held walk false) (sym e)
     (λ walks. record {
       going = record {
         board = s.board;

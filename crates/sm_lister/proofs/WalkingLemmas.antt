@@ -7,11 +7,11 @@ use Rattle.sm_theory.specs.Vectors.{IsOrder}
 use Rattle.sm_board.specs.Board.{IsBoard, Board, level, Gates, Fits, IsLeast}
 use Rattle.sm_board.specs.Growing.{IsLogOf}
 use Rattle.sm_board.specs.Courses.{Course, Held, IsHeld}
-use Rattle.sm_least.specs.Steps.{AreGatesOf}
-use Rattle.sm_board.specs.Walks.{vector, IsMark, IsNextUp, NoneFrom, IsWalk, IsFirst, IsRaised, IsNotRaised}
+use Rattle.sm_least.specs.Gates.{AreGatesOf}
+use Rattle.sm_board.specs.Walks.{vector, IsMark, IsNextUp, NoneFrom, IsVectorWalk, HasFirstVector, IsRaised, IsNotRaised}
 use Rattle.sm_board.proofs.HeldLemmas.{one_log}
 use Rattle.sm_board.proofs.WalkLemmas.{vector_at, vector_long, up_where_raised, none_where_not_raised, next_up_is_first, mark_before, mark_behind, walk_begins, follow_on, follow_ends}
-use Rattle.sm_lister.specs.Walking.{AreMarks, IsMadeFor, IsUnderWay, IsReached, IsAlong}
+use Rattle.sm_lister.specs.Walking.{AreLogMarks, IsMadeFor, IsUnderWay, IsVectorReached, IsMarkedAlong}
 
 -- a log has one set
 pub one_set : {b : Board} {log : List ℕ} {C D : List Bool} → IsLogOf b log C → IsLogOf b log D → C ≡ D
@@ -33,7 +33,7 @@ none_is {b} {g} {order} {v} {i} {C} p wanted at is m none r =
     none_where_not_raised b g order v i C m (subst (λ q. IsNotRaised b g order C q (slice_index v q + 1) i) at (subst (λ w. IsNotRaised b g order C p w i) is r)) none
 
 -- marks stay where the front of the log stays that they are of
-pub marks_keep : {t : Course} {g : Gates} {v log then marks : List ℕ} {d : ℕ} (e m : ℕ) → AreMarks t g v log marks d → e ≤ d → ((j : ℕ) → j < e → slice_index marks j ≤ m) → take m then ≡ take m log → m ≤ length then → AreMarks t g v then marks e
+pub marks_keep : {t : Course} {g : Gates} {v log then marks : List ℕ} {d : ℕ} (e m : ℕ) → AreLogMarks t g v log marks d → e ≤ d → ((j : ℕ) → j < e → slice_index marks j ≤ m) → take m then ≡ take m log → m ≤ length then → AreLogMarks t g v then marks e
 marks_keep {t} {g} {v} {log} {then} {marks} {d} e m w le most same long = record {
   few = λ j x. let a = most j x in omega arith;
   rising = λ i j a x. w.rising i j a (omega arith);
@@ -44,7 +44,7 @@ marks_keep {t} {g} {v} {log} {then} {marks} {d} e m w le most same long = record
     front j x = sym (take-take (slice_index marks j) m then (most j x)) ∙ ap (take (slice_index marks j)) same ∙ take-take (slice_index marks j) m log (most j x)
 
 -- one more mark, at the end of the log
-pub marks_add : {t : Course} {g : Gates} {h : Held} {v marks : List ℕ} (i : ℕ) → IsHeld t.board h → AreMarks t g v h.log marks i → i < length marks → IsMark t.board g t.order v (i + 1) h.set → AreMarks t g v h.log (set marks i (length h.log)) (i + 1)
+pub marks_add : {t : Course} {g : Gates} {h : Held} {v marks : List ℕ} (i : ℕ) → IsHeld t.board h → AreLogMarks t g v h.log marks i → i < length marks → IsMark t.board g t.order v (i + 1) h.set → AreLogMarks t g v h.log (set marks i (length h.log)) (i + 1)
 marks_add {t} {g} {h} {v} {marks} i held w x m = record {
   few = λ j y. few j y (eq_or_ne j i);
   rising = λ j k a y. rising j k a y (eq_or_ne j i) (eq_or_ne k i);
@@ -74,11 +74,11 @@ marks_add {t} {g} {h} {v} {marks} i held w x m = record {
         subst (λ k. IsMark t.board g t.order v (k + 1) C) (sym e) (subst (IsMark t.board g t.order v (i + 1)) same m)
 
 -- all marks behind a position at the end of the log
-pub marks_fill : {t : Course} {g : Gates} {h : Held} {v w old marks : List ℕ} (i n : ℕ) → IsHeld t.board h → AreMarks t g v h.log old i
+pub marks_fill : {t : Course} {g : Gates} {h : Held} {v w old marks : List ℕ} (i n : ℕ) → IsHeld t.board h → AreLogMarks t g v h.log old i
     → ((j : ℕ) → j < i → slice_index marks j ≡ slice_index old j) → ((j : ℕ) → i ≤ j → j < n → slice_index marks j ≡ length h.log)
     → ((j : ℕ) (C : List Bool) → j < i → IsMark t.board g t.order v (j + 1) C → IsMark t.board g t.order w (j + 1) C)
     → ((j : ℕ) → i ≤ j → j < n → IsMark t.board g t.order w (j + 1) h.set)
-    → AreMarks t g w h.log marks n
+    → AreLogMarks t g w h.log marks n
 marks_fill {t} {g} {h} {v} {w} {old} {marks} i n held are before behind stays new = record {
   few = λ j y. few j y (lt_or_le j i);
   rising = λ j k a y. rising j k a y (lt_or_le j i) (lt_or_le k i);
@@ -101,10 +101,10 @@ marks_fill {t} {g} {h} {v} {w} {old} {marks} i n held are before behind stays ne
         subst (IsMark t.board g t.order w (j + 1)) (one_set held.logged (subst (λ log. IsLogOf t.board log C) whole c)) (new j le y)
 
 -- the next set up at a position, with none behind, is reached
-pub reached_up : {t : Course} {g : Gates} {h : Held} {v old w marks : List ℕ} (i : ℕ) → IsBoard t.board → IsOrder (length t.board.leaves) t.order → IsHeld t.board h → AreGatesOf t.board g → AreMarks t g v h.log old i → i < length t.board.leaves → length old ≡ length t.board.leaves
+pub reached_up : {t : Course} {g : Gates} {h : Held} {v old w marks : List ℕ} (i : ℕ) → IsBoard t.board → IsOrder (length t.board.leaves) t.order → IsHeld t.board h → AreGatesOf t.board g → AreLogMarks t g v h.log old i → i < length t.board.leaves → length old ≡ length t.board.leaves
     → IsNextUp t.board g t.order v i h.set → NoneFrom t.board g t.order v (i + 1)
     → w ≡ h.levels → length marks ≡ length old → ((j : ℕ) → j < i → slice_index marks j ≡ slice_index old j) → ((j : ℕ) → i ≤ j → j < length old → slice_index marks j ≡ length h.log)
-    → IsReached t g (Some v) h w marks
+    → IsVectorReached t g (Some v) h w marks
 reached_up {t} {g} {h} {v} {old} {w} {marks} i board order held gates are x long n none e each before behind = record {
   fits = n.up.fits;
   first = next_up_is_first t.board g t.order v i h.set board order within n none;
@@ -128,7 +128,7 @@ reached_up {t} {g} {h} {v} {old} {w} {marks} i board order held gates are x long
 -- so is the least set, where there is no vector
 pub reached_first : {t : Course} {g : Gates} {h : Held} {w marks : List ℕ} (old : List ℕ) → IsBoard t.board → IsOrder (length t.board.leaves) t.order → IsHeld t.board h → AreGatesOf t.board g → length old ≡ length t.board.leaves
     → IsLeast (Fits t.board g) h.set → w ≡ h.levels → length marks ≡ length old → ((j : ℕ) → 0 ≤ j → j < length old → slice_index marks j ≡ length h.log)
-    → IsReached t g None h w marks
+    → IsVectorReached t g None h w marks
 reached_first {t} {g} {h} {w} {marks} old board order held gates long least e each behind = record {
   fits = least.one;
   first = begins.1;
@@ -146,11 +146,11 @@ reached_first {t} {g} {h} {w} {marks} old board order held gates long least e ea
     is : w ≡ vector t.board h.set
     is = e ∙ levels_are held
 
-    begins : IsWalk t.board g t.order (vector t.board h.set) (length t.order) (λ _. h.set) × IsFirst t.board g t.order h.set
+    begins : IsVectorWalk t.board g t.order (vector t.board h.set) (length t.order) (λ _. h.set) × HasFirstVector t.board g t.order h.set
     begins = walk_begins t.board g t.order h.set board order least
 
 -- the marks below a position stay where the front of the log up to its own stays
-pub marks_below : {t : Course} {g : Gates} {v log then marks : List ℕ} (i : ℕ) → AreMarks t g v log marks (i + 1) → take (slice_index marks i) then ≡ take (slice_index marks i) log → slice_index marks i ≤ length then → AreMarks t g v then marks i
+pub marks_below : {t : Course} {g : Gates} {v log then marks : List ℕ} (i : ℕ) → AreLogMarks t g v log marks (i + 1) → take (slice_index marks i) then ≡ take (slice_index marks i) log → slice_index marks i ≤ length then → AreLogMarks t g v then marks i
 marks_below {t} {g} {v} {log} {then} {marks} i w same long = marks_keep i (slice_index marks i) w (omega arith) (λ j x. w.rising j i (omega arith) (omega arith)) same long
 
 -- a position less, where none is above the vector there
@@ -163,16 +163,16 @@ under_way_below i w held same long none = record {
 }
 
 -- where a vector can't be followed further the walk is under way up to there
-pub under_way_here : {t : Course} {g : Gates} {h k : Held} {v marks : List ℕ} (i p wanted : ℕ) → IsAlong t g h v marks i → i < length t.board.leaves → IsHeld t.board k → k.log ≡ h.log → p ≡ slice_index t.order i → wanted ≡ slice_index v p → IsNotRaised t.board g t.order h.set p wanted i → IsUnderWay t g k v marks i
+pub under_way_here : {t : Course} {g : Gates} {h k : Held} {v marks : List ℕ} (i p wanted : ℕ) → IsMarkedAlong t g h v marks i → i < length t.board.leaves → IsHeld t.board k → k.log ≡ h.log → p ≡ slice_index t.order i → wanted ≡ slice_index v p → IsNotRaised t.board g t.order h.set p wanted i → IsUnderWay t g k v marks i
 under_way_here {t} {g} {h} {k} {v} {marks} i p wanted w x held same at is r = record {
   made = record { order = w.made.order; held = held; gates = w.made.gates; level_each = w.made.level_each; mark_each = w.made.mark_each };
   within = omega arith;
-  are = subst (λ log. AreMarks t g v log marks i) (sym same) w.are;
+  are = subst (λ log. AreLogMarks t g v log marks i) (sym same) w.are;
   none = follow_ends t.board g t.order v i h.set w.mark (subst (λ q. IsNotRaised t.board g t.order h.set q (slice_index v q) i) at (subst (λ n. IsNotRaised t.board g t.order h.set p n i) is r));
 }
 
 -- what is found at a position along a vector
-pub along_on : {t : Course} {g : Gates} {h : Held} {v marks : List ℕ} (k : Held) (i p wanted : ℕ) → IsBoard t.board → IsOrder (length t.board.leaves) t.order → IsAlong t g h v marks i → i < length t.board.leaves → p ≡ slice_index t.order i → wanted ≡ slice_index v p → IsRaised t.board g t.order h.set p wanted i k.set
+pub along_on : {t : Course} {g : Gates} {h : Held} {v marks : List ℕ} (k : Held) (i p wanted : ℕ) → IsBoard t.board → IsOrder (length t.board.leaves) t.order → IsMarkedAlong t g h v marks i → i < length t.board.leaves → p ≡ slice_index t.order i → wanted ≡ slice_index v p → IsRaised t.board g t.order h.set p wanted i k.set
     → (level t.board k.set p ≡ wanted → IsMark t.board g t.order v (i + 1) k.set)
     × (wanted < level t.board k.set p → IsNextUp t.board g t.order v i k.set × NoneFrom t.board g t.order v (i + 1))
 along_on {t} {g} {h} {v} {marks} k i p wanted board order w x at is r =
@@ -184,14 +184,14 @@ along_on {t} {g} {h} {v} {marks} k i p wanted board order w x at is r =
     ((λ e. on.0 (sym l ∙ e ∙ a)), (λ up. on.1 (omega arith)))
 
 -- the marks before a position stay where the log grows
-pub along_grows : {t : Course} {g : Gates} {h : Held} {v marks : List ℕ} (k : Held) (i : ℕ) → IsAlong t g h v marks i → take (length h.log) k.log ≡ h.log → length h.log ≤ length k.log → AreMarks t g v k.log marks i
+pub along_grows : {t : Course} {g : Gates} {h : Held} {v marks : List ℕ} (k : Held) (i : ℕ) → IsMarkedAlong t g h v marks i → take (length h.log) k.log ≡ h.log → length h.log ≤ length k.log → AreLogMarks t g v k.log marks i
 along_grows {t} {g} {h} {v} {marks} k i w front long = marks_keep i (length h.log) w.are (omega arith) w.are.few (front ∙ sym (take_all (length h.log) h.log (omega arith))) long
 
 -- one position further along a vector
-pub along_next : {t : Course} {g : Gates} {h k : Held} {v marks then : List ℕ} (i : ℕ) → IsAlong t g h v marks i → i < length t.board.leaves → IsHeld t.board k → take (length h.log) k.log ≡ h.log → length h.log ≤ length k.log → then ≡ set marks i (length k.log) → IsMark t.board g t.order v (i + 1) k.set → IsAlong t g k v then (i + 1)
+pub along_next : {t : Course} {g : Gates} {h k : Held} {v marks then : List ℕ} (i : ℕ) → IsMarkedAlong t g h v marks i → i < length t.board.leaves → IsHeld t.board k → take (length h.log) k.log ≡ h.log → length h.log ≤ length k.log → then ≡ set marks i (length k.log) → IsMark t.board g t.order v (i + 1) k.set → IsMarkedAlong t g k v then (i + 1)
 along_next {t} {g} {h} {k} {v} {marks} {then} i w x held front long is m = record {
   made = record { order = w.made.order; held = held; gates = w.made.gates; level_each = w.made.level_each; mark_each = ap length is ∙ length-set marks i (length k.log) ∙ w.made.mark_each };
-  are = subst (λ ms. AreMarks t g v k.log ms (i + 1)) (sym is) (marks_add i held (along_grows k i w front long) (omega (arith, w.made.mark_each)) m);
+  are = subst (λ ms. AreLogMarks t g v k.log ms (i + 1)) (sym is) (marks_add i held (along_grows k i w front long) (omega (arith, w.made.mark_each)) m);
   mark = m;
 }
 
@@ -204,7 +204,7 @@ pub level_held : {b : Board} {order : List ℕ} (k : Held) (i p : ℕ) → IsOrd
 level_held k i p o held x at = held.now_is p (let a = o.in_range i (omega (arith, o.long)) in omega arith)
 
 -- where following a vector ends, the walk is under way
-pub followed : {t : Course} {g : Gates} {k : Held} {v w marks : List ℕ} (r : Option ℕ) (d n : ℕ) → d ≡ unwrap_or r n → n ≡ length t.board.leaves → (r ≡ None → IsReached t g (Some v) k w marks) → ((e : ℕ) → r ≡ Some e → IsUnderWay t g k w marks e) → IsUnderWay t g k w marks d
+pub followed : {t : Course} {g : Gates} {k : Held} {v w marks : List ℕ} (r : Option ℕ) (d n : ℕ) → d ≡ unwrap_or r n → n ≡ length t.board.leaves → (r ≡ None → IsVectorReached t g (Some v) k w marks) → ((e : ℕ) → r ≡ Some e → IsUnderWay t g k w marks e) → IsUnderWay t g k w marks d
 followed {t} {g} {k} {v} {w} {marks} None d n is all reached under = subst (IsUnderWay t g k w marks) (sym (is ∙ all)) (reached refl).under_way
 followed {t} {g} {k} {v} {w} {marks} (Some e) d n is all reached under = subst (IsUnderWay t g k w marks) (sym is) (under e refl)
 

@@ -1,3 +1,4 @@
 pub mod Walking
 pub mod Listers
+pub mod Kept
 pub mod Rests

@@ -1,19 +1,13 @@
 -- What a `Lister` tells: the poset and levels for which it was made, its conditions and its order, and the vector to which it
 -- came last or behind which it goes on.
-use Rattle.std.specs.Prelude.{◌≡◌, ◌⊎◌, ℕ, ◌+◌, Bool, true, false, Result, Ok, Err, Vec, List, Option, None, Some, length}
+use Rattle.std.specs.Prelude.{◌≡◌, ◌⊎◌, ℕ, ◌+◌, Bool, true, false, Result, Ok, Err, Vec, List, Option, None, Some}
 use Rattle.std.specs.declared.alloc.AllocError.{AllocError}
 use Rattle.std.specs.declared.alloc.Global.{Global}
 use Rattle.sm_theory.specs.ClosedSets.{matching_of}
-use Rattle.sm_theory.specs.Vectors.{IsOrder, IsBefore, IsAllowedVector, level_vector_of}
-use Rattle.sm_theory.specs.Listings.{IsNext, IsNoneBehind}
+use Rattle.sm_theory.specs.Vectors.{IsBefore, IsAllowedVector, level_vector_of}
+use Rattle.sm_theory.specs.Listings.{IsNextListed, IsNoneBehind}
 use Rattle.sm_poset.specs.Posets.{RotationPoset}
-use Rattle.sm_board.specs.Board.{Gates, Fits}
-use Rattle.sm_board.specs.BoardOf.{AreGates, AreInRange, IsBoardFor}
 use Rattle.sm_least.specs.Searches.{Search}
-use Rattle.sm_board.specs.Courses.{Course, Held}
-use Rattle.sm_board.specs.Walks.{vector, ExcludeNothing}
-use Rattle.sm_lister.specs.declared.walk.Walk.{Walk}
-use Rattle.sm_lister.specs.Walking.{cursor_of, IsWalking}
 
 -- `here` says that the last step found a vector, and `set` is then the closed set of its matching
 pub record Lister : Type 0 where
@@ -32,7 +26,7 @@ IsListed s v = IsAllowedVector s.poset.lists s.levels s.forced s.forbidden v
 
 -- the first one behind the cursor, or there is none
 abbrev pub IsNextOf : Lister → List ℕ → Type 0
-IsNextOf s v = IsNext (IsBefore s.order) (IsListed s) s.cursor v
+IsNextOf s v = IsNextListed (IsBefore s.order) (IsListed s) s.cursor v
 
 -- no vector in question is behind the cursor
 abbrev pub IsAtEnd : Lister → Type 0
@@ -49,24 +43,6 @@ pub record IsSameLister (s t : Lister) : Type 0 where
   pub forced : t.forced ≡ s.forced
   pub forbidden : t.forbidden ≡ s.forbidden
   pub order : t.order ≡ s.order
-
--- the walk goes over the board of the poset with its levels, with gates for the conditions alone
-pub record IsGoing (poset : RotationPoset) (levels : List (List ℕ)) (forced forbidden : List (ℕ × ℕ)) (t : Course) (g : Gates) : Type 0 where
-  pub board : IsBoardFor poset levels t.board
-  pub in_range : AreInRange (length poset.lists.proposers) forced
-  pub low : List ℕ
-  pub high : List ℕ
-  pub gates : AreGates t.board low high forced forbidden g
-  pub bounds : ExcludeNothing poset.lists levels low high
-  pub order : IsOrder (length poset.lists.proposers) t.order
-
--- and what is held is where it came, if its last step found something
-pub record IsLister (poset : RotationPoset) (levels : List (List ℕ)) (forced forbidden : List (ℕ × ℕ)) (t : Course) (g : Gates)
-    (h : Held) (w : Walk) (here : Bool) : Type 0 where
-  pub going : IsGoing poset levels forced forbidden t g
-  pub walking : IsWalking t g h w
-  pub fits : here ≡ true → Fits t.board g h.set
-  pub reached : here ≡ true → cursor_of w ≡ Some (vector t.board h.set)
 
 -- a lister as it is started
 pub record IsStarted (least : Search) (forced forbidden : List (ℕ × ℕ)) (order : List ℕ) (after : Option (List ℕ)) (s : Lister) : Type 0 where
@@ -98,7 +74,7 @@ NoneComes s = (s.waits ≡ false) × IsAtEnd s.lister
 
 -- what an item says of the listing before and behind it: the next vector, which is the last one behind it; or a refusal, behind
 -- which the same vector comes next; or the end, behind which no item comes
-abbrev pub Gives : Listing → Option (Result (Vec ℕ Global) AllocError) → Listing → Type 0
-Gives s None t = ((s.left ≡ 0) ⊎ NoneComes s) × (t.left ≡ 0)
-Gives s (Some (Ok v)) t = (s.left ≡ t.left + 1) × ComesNext s v.items × (t.waits ≡ false) × (t.lister.cursor ≡ Some v.items) × IsSameLister s.lister t.lister
-Gives s (Some (Err e)) t = (s.left ≡ t.left + 1) × ((v : List ℕ) × ComesNext t v × ComesNext s v) × (t.waits ≡ true) × IsSameLister s.lister t.lister
+abbrev pub GivesItem : Listing → Option (Result (Vec ℕ Global) AllocError) → Listing → Type 0
+GivesItem s None t = ((s.left ≡ 0) ⊎ NoneComes s) × (t.left ≡ 0)
+GivesItem s (Some (Ok v)) t = (s.left ≡ t.left + 1) × ComesNext s v.items × (t.waits ≡ false) × (t.lister.cursor ≡ Some v.items) × IsSameLister s.lister t.lister
+GivesItem s (Some (Err e)) t = (s.left ≡ t.left + 1) × ((v : List ℕ) × ComesNext t v × ComesNext s v) × (t.waits ≡ true) × IsSameLister s.lister t.lister

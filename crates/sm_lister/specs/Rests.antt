@@ -3,18 +3,18 @@ use Rattle.std.specs.Prelude.{◌≡◌, ℕ, suc, ◌<◌, Bool, true, false, L
 use Rattle.std.specs.declared.alloc.AllocError.{AllocError}
 use Rattle.std.specs.declared.alloc.Global.{Global}
 use Rattle.sm_theory.specs.Vectors.{IsBefore}
-use Rattle.sm_theory.specs.Listings.{IsNext, IsListing}
-use Rattle.sm_lister.specs.Listers.{Lister, Listing, IsListed, Gives}
+use Rattle.sm_theory.specs.Listings.{IsNextListed, IsListing}
+use Rattle.sm_lister.specs.Listers.{Lister, Listing, IsListed, GivesItem}
 
 -- a listing of what a lister lists
-abbrev pub Lists : Lister → Option (List ℕ) → ℕ → List (List ℕ) → Bool → Type 0
-Lists s cursor limit out more = IsListing (IsBefore s.order) (IsListed s) cursor limit out more
+abbrev pub IsListingOf : Lister → Option (List ℕ) → ℕ → List (List ℕ) → Bool → Type 0
+IsListingOf s cursor limit out more = IsListing (IsBefore s.order) (IsListed s) cursor limit out more
 
 -- what is left up to a limit: a listing behind the cursor, or from the vector that waits on
 abbrev pub RestFrom : Bool → Lister → ℕ → List (List ℕ) → Bool → Type 0
-RestFrom false s limit out more = Lists s s.cursor limit out more
+RestFrom false s limit out more = IsListingOf s s.cursor limit out more
 RestFrom true s limit out more = (c : Option (List ℕ)) (v : List ℕ) → s.cursor ≡ Some v
-    → IsNext (IsBefore s.order) (IsListed s) c v → Lists s c limit out more
+    → IsNextListed (IsBefore s.order) (IsListed s) c v → IsListingOf s c limit out more
 
 -- what a listing has left up to a limit
 abbrev pub IsRest : Listing → ℕ → List (List ℕ) → Bool → Type 0
@@ -24,6 +24,6 @@ IsRest s limit out more = RestFrom s.waits s.lister limit out more
 -- nothing was left, but for a limit that was reached
 abbrev pub ListingGives : Type 0
 ListingGives = (s t : Listing) (limit : ℕ) (out : List (List ℕ)) (more : Bool)
-    → ((v : Vec ℕ Global) → Gives s (Some (Ok v)) t → IsRest t limit out more → IsRest s (suc limit) (v.items ∷ out) more)
-    × ((e : AllocError) → Gives s (Some (Err e)) t → IsRest t limit out more → IsRest s limit out more)
-    × (Gives s None t → 0 < s.left → IsRest s limit [] false)
+    → ((v : Vec ℕ Global) → GivesItem s (Some (Ok v)) t → IsRest t limit out more → IsRest s (suc limit) (v.items ∷ out) more)
+    × ((e : AllocError) → GivesItem s (Some (Err e)) t → IsRest t limit out more → IsRest s limit out more)
+    × (GivesItem s None t → 0 < s.left → IsRest s limit [] false)

@@ -5,13 +5,13 @@ use Rattle.sm_theory.specs.Vectors.{IsOrder}
 use Rattle.sm_board.specs.Board.{Board, Gates, Fits, IsLeast, IsFirstChange}
 use Rattle.sm_board.specs.Growing.{IsLogOf}
 use Rattle.sm_board.specs.Courses.{Course, Held, IsHeld}
-use Rattle.sm_least.specs.Steps.{AreGatesOf}
-use Rattle.sm_board.specs.Walks.{vector, IsMark, NoneFrom, IsFirst, IsFirstAbove}
-use Rattle.sm_lister.specs.declared.walk.Walk.{Walk}
+use Rattle.sm_least.specs.Gates.{AreGatesOf}
+use Rattle.sm_board.specs.Walks.{vector, IsMark, NoneFrom, HasFirstVector, IsFirstAbove}
+use Rattle.sm_lister.specs.declared.vector_walk.VectorWalk.{VectorWalk}
 
 -- the front of the log up to the mark of each of the first d positions is the least set that fits and is no lower than v up to
 -- this position
-pub record AreMarks (t : Course) (g : Gates) (v log marks : List ℕ) (d : ℕ) : Type 0 where
+pub record AreLogMarks (t : Course) (g : Gates) (v log marks : List ℕ) (d : ℕ) : Type 0 where
   pub few : (i : ℕ) → i < d → slice_index marks i ≤ length log
   pub rising : (i j : ℕ) → i ≤ j → j < d → slice_index marks i ≤ slice_index marks j
   pub are : (i : ℕ) (C : List Bool) → i < d → IsLogOf t.board (take (slice_index marks i) log) C
@@ -29,7 +29,7 @@ pub record IsMadeFor (t : Course) (g : Gates) (h : Held) (v marks : List ℕ) : 
 pub record IsUnderWay (t : Course) (g : Gates) (h : Held) (v marks : List ℕ) (d : ℕ) : Type 0 where
   pub made : IsMadeFor t g h v marks
   pub within : d ≤ length t.board.leaves
-  pub are : AreMarks t g v h.log marks d
+  pub are : AreLogMarks t g v h.log marks d
   pub none : NoneFrom t.board g t.order v d
 
 -- a depth from which on, up to depth d, no rotation changes the level at a position and none before it
@@ -56,29 +56,29 @@ NoneLeft t g None = (D : List Bool) → ¬ Fits t.board g D
 NoneLeft t g (Some v) = NoneFrom t.board g t.order v 0
 
 -- of the sets that fit this one is the first behind a cursor
-abbrev pub IsFirstBehind : Course → Gates → Option (List ℕ) → List Bool → Type 0
-IsFirstBehind t g None C = IsFirst t.board g t.order C
-IsFirstBehind t g (Some v) C = IsFirstAbove t.board g t.order v C
+abbrev pub IsFirstSetBehind : Course → Gates → Option (List ℕ) → List Bool → Type 0
+IsFirstSetBehind t g None C = HasFirstVector t.board g t.order C
+IsFirstSetBehind t g (Some v) C = IsFirstAbove t.board g t.order v C
 
 -- the first set behind a cursor is held, with its vector, and the walk is under way from there
-pub record IsReached (t : Course) (g : Gates) (cursor : Option (List ℕ)) (h : Held) (v marks : List ℕ) : Type 0 where
+pub record IsVectorReached (t : Course) (g : Gates) (cursor : Option (List ℕ)) (h : Held) (v marks : List ℕ) : Type 0 where
   pub fits : Fits t.board g h.set
-  pub first : IsFirstBehind t g cursor h.set
+  pub first : IsFirstSetBehind t g cursor h.set
   pub vector_is : v ≡ vector t.board h.set
   pub under_way : IsUnderWay t g h v marks (length t.board.leaves)
 
 -- along a vector the first i positions have marks, and what is held is the mark behind them
-pub record IsAlong (t : Course) (g : Gates) (h : Held) (v marks : List ℕ) (i : ℕ) : Type 0 where
+pub record IsMarkedAlong (t : Course) (g : Gates) (h : Held) (v marks : List ℕ) (i : ℕ) : Type 0 where
   pub made : IsMadeFor t g h v marks
-  pub are : AreMarks t g v h.log marks i
+  pub are : AreLogMarks t g v h.log marks i
   pub mark : IsMark t.board g t.order v i h.set
 
 -- the vector, if one was given or reached
-abbrev pub cursor_of : Walk → Option (List ℕ)
+abbrev pub cursor_of : VectorWalk → Option (List ℕ)
 cursor_of w = if w.given then Some w.vector.items else None
 
 -- a walk that made no step yet holds the least set that fits; another one is under way, or nothing fits
-pub record IsWalking (t : Course) (g : Gates) (h : Held) (w : Walk) : Type 0 where
+pub record IsKeptWalk (t : Course) (g : Gates) (h : Held) (w : VectorWalk) : Type 0 where
   pub made : IsMadeFor t g h w.vector.items w.marks.items
   pub skip_each : length w.skip.items ≡ length t.board.leaves + 1
   pub skips : AreSkips t.board t.order w.skip.items

@@ -8,7 +8,7 @@ pub mod laws;
 mod lister;
 mod listing;
 mod start;
-mod walk;
+mod vector_walk;
 
 pub use lister::Lister;
 pub use listing::Listing;

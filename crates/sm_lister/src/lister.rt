@@ -6,9 +6,9 @@ ghost use Rattle.sm_theory.specs.Vectors.{IsOrder};
 ghost use Rattle.sm_board.specs.BoardOf.{AreInRange};
 ghost use Rattle.sm_lister.specs.Listers.{IsStarted, IsNextOf, IsAtEnd, IsSameLister, vector_of};
 
-use crate::walk::{Walk, advance};
+use crate::vector_walk::{VectorWalk, advance};
 use sm_board::{Course, Held};
-use sm_least::{Gates, Least, Parts};
+use sm_least::{Gates, Least, SearchParts};
 use sm_market::Market;
 use sm_poset::Conditions;
 use sm_theory::{Chain, ClosedSet};
@@ -30,7 +30,7 @@ pub struct Lister {
     course: Course,
     gates: Gates,
     held: Held,
-    walk: Walk,
+    walk: VectorWalk,
     here: bool,
 }
 
@@ -39,7 +39,8 @@ impl Model for Lister {
     ghost use Rattle.sm_theory.specs.Values.{rotations_of};
     ghost use Rattle.sm_poset.specs.Posets.{poset_of};
     ghost use Rattle.sm_lister.specs.Walking.{cursor_of};
-    ghost use Rattle.sm_lister.specs.Listers.{Lister as Plain, IsLister};
+    ghost use Rattle.sm_lister.specs.Listers.{Lister as Plain};
+    ghost use Rattle.sm_lister.specs.Kept.{IsLister};
 
     ghost Value = { Plain };
 
@@ -96,7 +97,7 @@ impl Lister {
     {
         let mut least = least;
         let any = least.begin(&order, &conditions);
-        let Parts {
+        let SearchParts {
             market,
             chain,
             levels,
@@ -104,7 +105,7 @@ impl Lister {
             gates,
             held,
         } = least.into_parts();
-        let walk = Walk::start(alloc, &course, after, any)?;
+        let walk = VectorWalk::start(alloc, &course, after, any)?;
         Ok(Lister {
             alloc,
             market,

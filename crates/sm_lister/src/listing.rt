@@ -45,13 +45,13 @@ impl Listing {
 
 impl Iterator for Listing {
     ghost use Rattle.std.specs.Iterator.{at_most};
-    ghost use Rattle.sm_lister.specs.Listers.{Gives};
+    ghost use Rattle.sm_lister.specs.Listers.{GivesItem};
 
     type Item = Result<Vec<u32>, AllocError>;
 
     ghost remaining = { λ s. at_most s.left };
 
-    ghost next_gives = { λ s item t. Gives s item t };
+    ghost next_gives = { λ s item t. GivesItem s item t };
 
     fn next(&mut self) -> Option<Result<Vec<u32>, AllocError>> {
         if self.left == 0 {

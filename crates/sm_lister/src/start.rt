@@ -1,17 +1,17 @@
 //! What a walk needs before its first step.
 
-ghost use Rattle.std.specs.Prelude.{◌≡◌, ℕ, ◌+◌, ◌^◌, ◌<◌, true, false, Bool, List, length, slice_index, slice_index_or, option_map, IfOk, MatchOption};
+ghost use Rattle.std.specs.Prelude.{◌≡◌, ℕ, ◌+◌, ◌^◌, ◌<◌, true, false, Bool, List, length, slice_index_or, option_map, IfOk, MatchOption};
 ghost use Rattle.sm_theory.specs.Vectors.{IsOrder};
 ghost use Rattle.sm_board.specs.Board.{Gates as PlainGates, Fits, IsLeast};
 ghost use Rattle.sm_board.specs.Courses.{Held as PlainHeld, IsHeld};
-ghost use Rattle.sm_least.specs.Steps.{AreGatesOf};
-ghost use Rattle.sm_lister.specs.Walking.{cursor_of, AreSkips, IsWalking, AreFirstChanges, SkipsNoFirstChange};
+ghost use Rattle.sm_least.specs.Gates.{AreGatesOf};
+ghost use Rattle.sm_lister.specs.Walking.{cursor_of, AreSkips, IsKeptWalk, AreFirstChanges, SkipsNoFirstChange};
 
-use crate::walk::Walk;
+use crate::vector_walk::VectorWalk;
 use sm_board::Course;
 use std::alloc::{AllocError, Global};
 
-impl Walk {
+impl VectorWalk {
     /// A walk behind a vector, or from the first one on where there is none. `any` says whether the least set that fits is held,
     /// or none fits.
     pub(crate) fn start(
@@ -19,7 +19,7 @@ impl Walk {
         course: &Course,
         after: Option<Vec<u32>>,
         any: bool,
-    ) -> Result<Walk, AllocError>
+    ) -> Result<VectorWalk, AllocError>
         requires order { IsOrder (length course.now.board.leaves) course.now.order }
         requires after { MatchOption after (Unit {0}) (λ v. length v.items
             ≡ length course.now.board.leaves) }
@@ -28,7 +28,7 @@ impl Walk {
             → IsHeld course.now.board h → AreGatesOf course.now.board g
             → (any ≡ true → IsLeast (Fits course.now.board g) h.set) → (any ≡ false
             → (D : List Bool) → ¬ Fits course.now.board g D)
-            → IsWalking course.now g h w) }
+            → IsKeptWalk course.now g h w) }
     {
         let n = course.proposers() as usize;
         let skip = skips(alloc, course)?;
@@ -38,7 +38,7 @@ impl Walk {
             Some(vector) => vector,
             None => vec![in alloc; 0; n]?,
         };
-        Ok(Walk {
+        Ok(VectorWalk {
             vector,
             given,
             marks,

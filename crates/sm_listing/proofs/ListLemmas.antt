@@ -25,14 +25,15 @@ use Rattle.sm_seats.specs.Correspondence.{leveled}
 use Rattle.sm_seats.proofs.VectorLaws.{listing_written}
 use Rattle.sm_shown.proofs.SolveLemmas.{end_sound}
 use Rattle.sm_lister.specs.Listers.{Lister}
-use Rattle.sm_lister.specs.Rests.{Lists}
-use Rattle.sm_listing.specs.ListAnswer.{last_line, vector_lines, order_of, IsListAnswer}
+use Rattle.sm_lister.specs.Rests.{IsListingOf}
+use Rattle.sm_listing.specs.ListAnswer.{last_line, vector_lines, IsListAnswer}
+use Rattle.sm_instance.specs.Ranks.{order_of}
 use Rattle.sm_listing.specs.Started.{IsListerOf}
 use Rattle.sm_listing.specs.Remaining.{IsLeftOf}
 use Rattle.sm_listing.proofs.StartLemmas.{range_is_order}
 
 -- what is listed at the seats are the rank vectors of the instance
-listed_written : {w : Written} {after : Option (List ℕ)} {s : Lister} {n : ℕ} {out : List (List ℕ)} {more : Bool} → IsListerOf w after s → Lists s s.cursor n out more
+listed_written : {w : Written} {after : Option (List ℕ)} {s : Lister} {n : ℕ} {out : List (List ℕ)} {more : Bool} → IsListerOf w after s → IsListingOf s s.cursor n out more
     → IsListing (IsBefore (order_of w)) (IsAllowedRankVector w) after n out more
 listed_written {w} {after} {s} {n} {out} {more} h x =
     let a = subst (λ o. IsListing (IsBefore o) (IsAllowedVector s.poset.lists s.levels s.forced s.forbidden) s.cursor n out more) h.order x in

@@ -6,7 +6,8 @@ use Rattle.std.proofs.lemmas.List.{get_or-map, length-map}
 use Rattle.std.proofs.lemmas.List.FromFn.{length-range_with_len, get_or-range_with_len}
 use Rattle.std.proofs.lemmas.Option.{none-some, same_Some}
 use Rattle.sm_instance.specs.Written.{Written, place_of}
-use Rattle.sm_instance.specs.Sound.{IsInstance, IsPairOf, pair_at}
+use Rattle.sm_instance.specs.Sound.{IsInstance, IsPairOf}
+use Rattle.sm_lists.specs.Pairs.{pair_at}
 use Rattle.sm_instance.proofs.ItemLemmas.{forced_in_range, forbidden_in_range}
 use Rattle.sm_theory.specs.Vectors.{IsOrder}
 use Rattle.sm_board.specs.BoardOf.{AreInRange}

@@ -1,8 +1,7 @@
 -- The answer of `list`.
 use Rattle.std.specs.Prelude.{◌≡◌, ℕ, Bool, true, List, [], ◌∷◌, ◌++◌, map, length, Option, Some, None}
-use Rattle.std.specs.List.{range_with_len}
 use Rattle.sm_instance.specs.Written.{Written}
-use Rattle.sm_instance.specs.Ranks.{IsBefore}
+use Rattle.sm_instance.specs.Ranks.{IsBefore, order_of}
 use Rattle.sm_report.specs.Heads.{HeadData}
 use Rattle.sm_report.specs.Lines.{LineData}
 use Rattle.sm_theory.specs.Listings.{end_of, IsListing}
@@ -21,10 +20,6 @@ vector_lines after out more = map (λ v. LineData.Vector v) out ++ last_line (en
 abbrev pub IsCursor : ℕ → Option (List ℕ) → Type 0
 IsCursor count None = Unit {0}
 IsCursor count (Some v) = length v ≡ count
-
--- the order of the file's proposers
-abbrev pub order_of : Written → List ℕ
-order_of w = range_with_len 0 (length w.proposers)
 
 -- the lines are the rank vectors of a listing of the allowed stable matchings, in the order of the file's proposers, and its
 -- end (after Gusfield and Irving 1989, section 3.3)

@@ -8,7 +8,8 @@ use Rattle.sm_seats.specs.SeatMarket.{seat_market}
 use Rattle.sm_seats.specs.Seating.{seating_of, levels_of}
 use Rattle.sm_seats.specs.Correspondence.{IsSeating, leveled}
 use Rattle.sm_lister.specs.Listers.{Lister}
-use Rattle.sm_listing.specs.ListAnswer.{order_of, IsCursor}
+use Rattle.sm_listing.specs.ListAnswer.{IsCursor}
+use Rattle.sm_instance.specs.Ranks.{order_of}
 
 -- a vector that is held, if there is one
 abbrev pub cursor_in : Option (Vec ℕ Global) → Option (List ℕ)

@@ -1,6 +1,6 @@
 //! What a search for allowed stable matchings of an instance is made of.
 
-ghost use Rattle.std.specs.Prelude.{◌≡◌, IfOk};
+ghost use Rattle.std.specs.Prelude.{◌≡◌, ◌+◌, ◌<◌, ◌^◌, length, IfOk};
 ghost use Rattle.sm_instance.specs.Sound.{IsInstance};
 ghost use Rattle.sm_poset.specs.Posets.{IsPoset};
 ghost use Rattle.sm_theory.specs.Vectors.{AreLevels};
@@ -44,6 +44,8 @@ pub fn conditions_of(alloc: Global, instance: &Instance) -> Result<Conditions, A
         ≡ leveled instance.now instance.now.forced) }
     ensures forbidden { IfOk result (λ conditions. conditions.forbidden.items
         ≡ leveled instance.now instance.now.forbidden) }
+    ensures few { IfOk result (λ conditions. length conditions.forced.items
+        + length conditions.forbidden.items < 2 ^ 24) }
 {
     Ok(Conditions {
         forced: leveled(alloc, instance, instance.forced())?,

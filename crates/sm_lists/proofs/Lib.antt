@@ -9,3 +9,4 @@ pub mod FirstLemmas
 pub mod NamingLemmas
 pub mod CrossLemmas
 pub mod Sums
+pub mod SpanLemmas

@@ -1,6 +1,6 @@
 -- Tests that agree, results, and vectors that were written through a slice.
 use Rattle.std.proofs.Common.{◌≡◌, ℕ, ◌&&◌, cond, Bool, true, false, ◌++◌, List, Result, Ok, Err, length, take, refl, sym, subst}
-use Rattle.std.specs.Result.{IfOk}
+use Rattle.std.specs.Result.{IfOk, OnErr}
 use Rattle.std.proofs.Math.Seq.{take-append_seam}
 
 -- two tests that pass alike are one
@@ -22,3 +22,8 @@ IfOk-both (Err e) P Q R f p q = tt
 -- a vector whose items are all written through a slice
 pub take-append_at_length : {X : Type 0} (n : ℕ) (ys zs : List X) → length ys ≡ n → take n (ys ++ zs) ≡ ys
 take-append_at_length n ys zs e = subst (λ k. take k (ys ++ zs) ≡ ys) e (take-append_seam ys zs)
+
+-- what follows on an error, as on any result
+pub on_err : {X E : Type 0} {P : Type 0} (r : Result X E) → P → OnErr r P
+on_err (Ok x) p = tt
+on_err (Err e) p = p

@@ -7,3 +7,6 @@ pub mod Held
 pub mod Kept
 pub mod Sums
 pub mod Earlier
+pub mod Spans
+pub mod Pairs
+pub mod Witnesses

@@ -11,9 +11,12 @@ mod notes;
 mod numbers;
 mod place;
 mod rows;
+mod vectors;
+pub mod witnesses;
 
 pub use crosses::{CrossPlaces, cross_places};
 pub use naming::{KeptNaming, Naming};
 pub use numbers::earlier;
 pub use place::KeptPlace;
-pub use rows::{copy_of, entry_at, lent, list_at};
+pub use rows::Rows;
+pub use vectors::{copy_of, entry_at, lent, list_at};

@@ -1,53 +1,167 @@
-//! Lists that are held in vectors, read by agent and place.
+//! Lists that stand one behind another in one vector, read by agent and place.
 
-ghost use Rattle.std.specs.Prelude.{◌≡◌, ℕ, ◌<◌, length, IfOk};
-ghost use Rattle.sm_lists.specs.Rows.{rows_of, row, entry, lists_in};
+ghost use Rattle.std.specs.Prelude.{◌≡◌, ℕ, ◌<◌, ◌++◌, ◌∷◌, [], length, replicate, IfOk, OnOk, OnErr};
+ghost use Rattle.sm_lists.specs.Rows.{rows_of, row, entry};
 
 use std::alloc::{AllocError, Global};
+use std::marker::Model;
 
-/// A copy of the lists. Takes time and memory in proportion to the lists and their entries.
+/// Where a list stands: from an entry on, up to another.
+#[derive(Clone, Copy, Debug)]
+struct Span {
+    start: u32,
+    end: u32,
+}
+
+/// The lists of one side's agents, one behind another.
 ///
-/// # Errors
-///
-/// `AllocError` where memory ran out, and only then.
-pub fn copy_of(alloc: Global, rows: &[Vec<u32>]) -> Result<Vec<Vec<u32>>, AllocError>
-    ensures { IfOk result (λ copy. rows_of copy.items ≡ rows_of rows.now) }
-{
-    let mut copy = Vec::with_capacity(alloc, rows.len())?;
-    for row in rows {
-        copy.push(Vec::from_slice(alloc, row)?)?;
+/// Agents and places are numbered from 0. Equal lists may share their entries, so that many agents with one list take hardly
+/// more memory than one of them.
+#[derive(Debug, Drop)]
+pub struct Rows {
+    entries: Vec<u32>,
+    spans: Vec<Span>,
+}
+
+impl Model for Rows {
+    ghost use Rattle.std.specs.Prelude.{ℕ, List, length};
+    ghost use Rattle.sm_lists.specs.Spans.{rows_in, AreSpans};
+
+    ghost Value = { List (List ℕ) };
+
+    ghost view = { λ r. rows_in r.entries.items r.spans.items };
+
+    ghost invariant = { λ r. AreSpans (length r.entries.items) r.spans.items };
+}
+
+impl Rows {
+    /// No list yet, with room for so many lists with so many entries in all.
+    ///
+    /// # Errors
+    ///
+    /// `AllocError` where memory ran out, and only then.
+    pub fn with_capacity(alloc: Global, lists: usize, entries: usize) -> Result<Rows, AllocError>
+        ensures { IfOk result (λ rows. rows ≡ []) }
+    {
+        Ok(Rows {
+            entries: Vec::with_capacity(alloc, entries)?,
+            spans: Vec::with_capacity(alloc, lists)?,
+        })
     }
-    Ok(copy)
-}
 
-/// The lists, lent one by one. Takes time and memory in proportion to the agents.
-///
-/// # Errors
-///
-/// `AllocError` where memory ran out, and only then.
-pub fn lent(alloc: Global, rows: &[Vec<u32>]) -> Result<Vec<&[u32]>, AllocError>
-    ensures { IfOk result (λ lent. lists_in lent.items ≡ rows_of rows.now) }
-{
-    let mut lent = Vec::with_capacity(alloc, rows.len())?;
-    for row in rows {
-        lent.push(row.as_slice())?;
+    /// The lists that these vectors hold. Takes time and memory in proportion to the lists and their entries.
+    ///
+    /// # Errors
+    ///
+    /// Those of [`Rows::push`].
+    pub fn of(alloc: Global, vectors: &[Vec<u32>]) -> Result<Rows, AllocError>
+        ensures { IfOk result (λ rows. rows ≡ rows_of vectors.now) }
+    {
+        let mut rows = Rows::with_capacity(alloc, vectors.len(), entries_of(vectors))?;
+        for vector in vectors {
+            rows.push(vector)?;
+        }
+        Ok(rows)
     }
-    Ok(lent)
+
+    /// Adds a list. Takes time in proportion to it.
+    ///
+    /// # Errors
+    ///
+    /// `AllocError` where memory ran out, or where the lists would have more than 4,294,967,295 entries. The lists are then
+    /// what they were.
+    pub fn push(&mut self, list: &[u32]) -> Result<(), AllocError>
+        ensures pushed { OnOk result (self.new ≡ self.old ++ list.now ∷ []) }
+        ensures kept { OnErr result (self.new ≡ self.old) }
+    {
+        let span = add_entries(&mut self.entries, list)?;
+        self.spans.push(span)?;
+        Ok(())
+    }
+
+    /// Adds a list for each of so many agents, who share its entries. Takes time in proportion to the list and the agents.
+    ///
+    /// # Errors
+    ///
+    /// Those of [`Rows::push`].
+    pub fn push_shared(&mut self, list: &[u32], count: u32) -> Result<(), AllocError>
+        ensures pushed { OnOk result (self.new ≡ self.old ++ replicate count list.now) }
+        ensures kept { OnErr result (self.new ≡ self.old) }
+    {
+        if count == 0 {
+            return Ok(());
+        }
+        let span = add_entries(&mut self.entries, list)?;
+        let agents = self.spans.len() + count as usize;
+        self.spans.resize(agents, span)?;
+        Ok(())
+    }
+
+    /// How many lists there are.
+    pub fn len(&self) -> usize
+        ensures { result ≡ length self.now }
+    {
+        self.spans.len()
+    }
+
+    /// The list of an agent.
+    pub fn at(&self, a: u32) -> &[u32]
+        requires { a < length self.now }
+        ensures { result.now ≡ row self.now a }
+    {
+        let Span { start, end } = self.spans[a as usize];
+        &self.entries[start as usize..end as usize]
+    }
+
+    /// Whom an agent's list names at a place.
+    pub fn entry_at(&self, a: u32, place: u32) -> u32
+        requires in_range { a < length self.now }
+        requires on_list { place < length (row self.now a) }
+        ensures { result ≡ entry self.now a place }
+    {
+        let Span { start, .. } = self.spans[a as usize];
+        self.entries[start as usize + place as usize]
+    }
+
+    /// The same lists. Takes time and memory in proportion to the lists and their entries, where shared ones count once.
+    ///
+    /// # Errors
+    ///
+    /// `AllocError` where memory ran out, and only then.
+    pub fn copy(&self, alloc: Global) -> Result<Rows, AllocError>
+        ensures { IfOk result (λ copy. copy ≡ self.now) }
+    {
+        Ok(Rows {
+            entries: Vec::from_slice(alloc, &self.entries)?,
+            spans: Vec::from_slice(alloc, &self.spans)?,
+        })
+    }
 }
 
-/// The list of the agent with a number. Agents and places are numbered from 0.
-pub fn list_at(rows: &[Vec<u32>], a: u32) -> &[u32]
-    requires { a < length rows.now }
-    ensures { result.now ≡ row (rows_of rows.now) a }
+/// Adds the entries of a list behind the others, and tells where they stand.
+fn add_entries(entries: &mut Vec<u32>, list: &[u32]) -> Result<Span, AllocError>
+    ensures added { OnOk result (entries.new.items ≡ entries.old.items ++ list.now) }
+    ensures start { IfOk result (λ span. span.start ≡ length entries.old.items) }
+    ensures end { IfOk result (λ span. span.end ≡ length entries.new.items) }
+    ensures kept { OnErr result (entries.new.items ≡ entries.old.items) }
 {
-    &rows[a as usize]
+    let start = entries.len();
+    let end = start + list.len();
+    if end > u32::MAX as usize {
+        return Err(AllocError);
+    }
+    entries.extend_from_slice(list)?;
+    Ok(Span {
+        start: start as u32,
+        end: end as u32,
+    })
 }
 
-/// Whom an agent's list names at a place. Agents and places are numbered from 0.
-pub fn entry_at(rows: &[Vec<u32>], a: u32, place: u32) -> u32
-    requires in_range { a < length rows.now }
-    requires on_list { place < length (row (rows_of rows.now) a) }
-    ensures { result ≡ entry (rows_of rows.now) a place }
-{
-    list_at(rows, a)[place as usize]
+/// How many entries these lists have, or the greatest number where they are more.
+fn entries_of(vectors: &[Vec<u32>]) -> usize {
+    let mut entries: usize = 0;
+    for vector in vectors {
+        entries = entries.saturating_add(vector.len());
+    }
+    entries
 }

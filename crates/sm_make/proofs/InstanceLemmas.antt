@@ -14,7 +14,7 @@ use Rattle.sm_instance.specs.declared.kinds.Kind.TheVariants.{Marriage, Hospital
 use Rattle.sm_make.specs.Made.{agent, agents_made, plain, proposer_letter, reviewer_letter, hospitals_for}
 use Rattle.sm_make.specs.Lists.{copy_list, copy_list_back, turn_from, shuffled_list, shuffled_others, rising, rising_without}
 use Rattle.sm_make.specs.Laws.{IsSoundList, IsWhole}
-use Rattle.sm_make.proofs.SideLemmas.{made_at, names_differ, entries_are_sound}
+use Rattle.sm_make.proofs.SideLemmas.{agent_at-agents_made, names_differ, entries_are_sound}
 use Rattle.sm_make.proofs.FewLemmas.{entries_are_few}
 use Rattle.sm_make.proofs.DigitLemmas.{digits_are_name_bytes}
 use Rattle.sm_make.proofs.CopyLemmas.{copies_are_sound}
@@ -63,7 +63,7 @@ module _ (letter capacity count others most : ℕ) (list : ℕ → List ℕ) (s 
   are_sound single begins byte fits one = record {
     sound = λ a there.
         let below : a < count = let l = long in omega (arith, l, there) in
-        let at : agent_at agents a ≡ agent letter capacity list a = made_at letter capacity count list a below in
+        let at : agent_at agents a ≡ agent letter capacity list a = agent_at-agents_made letter capacity count list a below in
         let few = s.few in
         record {
           name = ap (λ (x : AgentData). is_name x.name) at ∙ is_name_of letter (a + 1) begins byte (omega arith);

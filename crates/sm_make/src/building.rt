@@ -1,7 +1,7 @@
 //! Instances of sides that are known to be sound.
 
 ghost use Rattle.std.specs.Prelude.{◌≡◌, [], IfOk};
-ghost use Rattle.sm_instance.specs.Vectors.{agents_of, written_of};
+ghost use Rattle.sm_instance.specs.Vectors.{agents_of, written_from};
 ghost use Rattle.sm_instance.specs.Sound.{IsInstance, ArePersons};
 ghost use Rattle.sm_instance.specs.declared.inputs.Input.TheVariants.{Room};
 ghost use Rattle.sm_make.specs.Made.{plain};
@@ -17,7 +17,7 @@ pub(crate) fn two(
     proposers: Vec<Agent>,
     reviewers: Vec<Agent>,
 ) -> Result<Input, AllocError>
-    requires { IsInstance (written_of kind proposers.items reviewers.items [] [] []) }
+    requires { IsInstance (written_from kind proposers.items reviewers.items [] [] []) }
     ensures { IfOk result (λ input. input ≡ plain kind (agents_of proposers.items)
         (agents_of reviewers.items)) }
 {

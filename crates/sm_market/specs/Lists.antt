@@ -9,6 +9,10 @@ pub record Lists : Type 0 where
   pub proposers : List (List ℕ)
   pub reviewers : List (List ℕ)
 
+-- the lists of both sides
+abbrev pub both_sides : List (List ℕ) → List (List ℕ) → Lists
+both_sides proposers reviewers = record { proposers = proposers; reviewers = reviewers }
+
 -- the same agents and lists, with the sides exchanged
 abbrev pub reversed_lists : Lists → Lists
 reversed_lists l = record { proposers = l.reviewers; reviewers = l.proposers }

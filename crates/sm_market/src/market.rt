@@ -1,7 +1,7 @@
 //! Markets: the lists of both sides, and where each agent stands on the lists of those whom it lists.
 
 ghost use Rattle.std.specs.Prelude.{◌≡◌, ◌≢◌, ℕ, ◌<◌, ◌^◌, length, IfOk, IfErr, OnOk};
-ghost use Rattle.sm_market.specs.Lists.{Lists, row, entry, place_of, reversed_lists, IsMarket};
+ghost use Rattle.sm_market.specs.Lists.{Lists, row, entry, place_of, both_sides, reversed_lists, IsMarket};
 ghost use Rattle.sm_market.specs.Vectors.{rows_of, lists_of};
 ghost use Rattle.sm_market.specs.Limits.{IsWithinLimits};
 ghost use Rattle.sm_lists.specs.Crosses.{AreCrossPlaces};
@@ -10,35 +10,32 @@ ghost use Rattle.sm_market.specs.Crosses.{AreCrosses};
 
 use crate::entries::check_entries;
 use crate::faults::{MarketFault, Side};
-use sm_lists::{CrossPlaces, Naming, copy_of, cross_places, entry_at, lent, list_at};
+use sm_lists::{CrossPlaces, Naming, Rows, cross_places, lent};
 use std::alloc::{AllocError, Global};
 use std::marker::Model;
 
 /// A market with mutual lists: two agents list each other, or neither lists the other.
 ///
-/// It keeps one vector for each list, and beside each entry the place of the list's owner on the list of the agent
-/// that the entry names. So it takes memory in proportion to the entries, and none for each pair of agents.
+/// It keeps the lists of each side one behind another, and beside each entry the place of the list's owner on the list
+/// of the agent that the entry names. So it takes memory in proportion to the entries, and none for each pair of agents.
 #[derive(Debug, Drop)]
 pub struct Market {
-    proposer_lists: Vec<Vec<u32>>,
-    reviewer_lists: Vec<Vec<u32>>,
-    proposer_crosses: Vec<Vec<u32>>,
-    reviewer_crosses: Vec<Vec<u32>>,
+    proposer_lists: Rows,
+    reviewer_lists: Rows,
+    proposer_crosses: Rows,
+    reviewer_crosses: Rows,
 }
 
 impl Model for Market {
-    ghost use Rattle.sm_market.specs.Lists.{Lists};
-    ghost use Rattle.sm_market.specs.Vectors.{rows_of, lists_of};
+    ghost use Rattle.sm_market.specs.Lists.{Lists, both_sides};
     ghost use Rattle.sm_market.specs.Kept.{IsKept};
 
     ghost Value = { Lists };
 
-    ghost view = { λ m. lists_of m.proposer_lists.items m.reviewer_lists.items };
+    ghost view = { λ m. both_sides m.proposer_lists m.reviewer_lists };
 
-    ghost invariant = { λ m. IsKept
-        (lists_of m.proposer_lists.items m.reviewer_lists.items)
-        (rows_of m.proposer_crosses.items)
-        (rows_of m.reviewer_crosses.items) };
+    ghost invariant = { λ m. IsKept (both_sides m.proposer_lists m.reviewer_lists)
+        m.proposer_crosses m.reviewer_crosses };
 }
 
 impl Market {
@@ -90,30 +87,26 @@ impl Market {
             &reviewer_crosses,
         )?;
         Ok(Market {
-            proposer_lists,
-            reviewer_lists,
-            proposer_crosses,
-            reviewer_crosses,
+            proposer_lists: joined(alloc, proposer_lists)?,
+            reviewer_lists: joined(alloc, reviewer_lists)?,
+            proposer_crosses: joined(alloc, proposer_crosses)?,
+            reviewer_crosses: joined(alloc, reviewer_crosses)?,
         })
     }
 
     /// A market of lists that are known to make one, with the cross positions of both sides. Nothing is tried, and no
     /// memory is taken.
     pub fn held(
-        proposer_lists: Vec<Vec<u32>>,
-        reviewer_lists: Vec<Vec<u32>>,
-        proposer_crosses: Vec<Vec<u32>>,
-        reviewer_crosses: Vec<Vec<u32>>,
+        proposer_lists: Rows,
+        reviewer_lists: Rows,
+        proposer_crosses: Rows,
+        reviewer_crosses: Rows,
     ) -> Market
-        requires limits { IsWithinLimits (lists_of proposer_lists.items reviewer_lists.items) }
-        requires market { IsMarket (lists_of proposer_lists.items reviewer_lists.items) }
-        requires proposers { AreCrosses
-            (rows_of proposer_lists.items) (rows_of reviewer_lists.items)
-            (rows_of proposer_crosses.items) }
-        requires reviewers { AreCrosses
-            (rows_of reviewer_lists.items) (rows_of proposer_lists.items)
-            (rows_of reviewer_crosses.items) }
-        ensures lists { result ≡ lists_of proposer_lists.items reviewer_lists.items }
+        requires limits { IsWithinLimits (both_sides proposer_lists reviewer_lists) }
+        requires market { IsMarket (both_sides proposer_lists reviewer_lists) }
+        requires proposers { AreCrosses proposer_lists reviewer_lists proposer_crosses }
+        requires reviewers { AreCrosses reviewer_lists proposer_lists reviewer_crosses }
+        ensures lists { result ≡ both_sides proposer_lists reviewer_lists }
     {
         Market {
             proposer_lists,
@@ -134,10 +127,10 @@ impl Market {
         ensures { IfOk result (λ m. m ≡ reversed_lists self.now) }
     {
         Ok(Market {
-            proposer_lists: copy_of(alloc, &self.reviewer_lists)?,
-            reviewer_lists: copy_of(alloc, &self.proposer_lists)?,
-            proposer_crosses: copy_of(alloc, &self.reviewer_crosses)?,
-            reviewer_crosses: copy_of(alloc, &self.proposer_crosses)?,
+            proposer_lists: self.reviewer_lists.copy(alloc)?,
+            reviewer_lists: self.proposer_lists.copy(alloc)?,
+            proposer_crosses: self.reviewer_crosses.copy(alloc)?,
+            reviewer_crosses: self.proposer_crosses.copy(alloc)?,
         })
     }
 
@@ -152,10 +145,10 @@ impl Market {
         ensures { IfOk result (λ copy. copy ≡ self.now) }
     {
         Ok(Market {
-            proposer_lists: copy_of(alloc, &self.proposer_lists)?,
-            reviewer_lists: copy_of(alloc, &self.reviewer_lists)?,
-            proposer_crosses: copy_of(alloc, &self.proposer_crosses)?,
-            reviewer_crosses: copy_of(alloc, &self.reviewer_crosses)?,
+            proposer_lists: self.proposer_lists.copy(alloc)?,
+            reviewer_lists: self.reviewer_lists.copy(alloc)?,
+            proposer_crosses: self.proposer_crosses.copy(alloc)?,
+            reviewer_crosses: self.reviewer_crosses.copy(alloc)?,
         })
     }
 
@@ -184,7 +177,7 @@ impl Market {
         ensures list { result.now ≡ row self.now.proposers p }
         ensures fits { length result.now < 2 ^ 24 }
     {
-        list_at(&self.proposer_lists, p)
+        self.proposer_lists.at(p)
     }
 
     /// A reviewer's list of proposers, best first.
@@ -194,7 +187,7 @@ impl Market {
         ensures list { result.now ≡ row self.now.reviewers r }
         ensures fits { length result.now < 2 ^ 24 }
     {
-        list_at(&self.reviewer_lists, r)
+        self.reviewer_lists.at(r)
     }
 
     /// How many reviewers a proposer lists.
@@ -221,7 +214,7 @@ impl Market {
         ensures in_range { result < length self.now.reviewers }
         ensures market { IsMarket self.now }
     {
-        entry_at(&self.proposer_lists, p, place)
+        self.proposer_lists.entry_at(p, place)
     }
 
     /// The proposer at a place of a reviewer's list.
@@ -232,7 +225,7 @@ impl Market {
         ensures in_range { result < length self.now.proposers }
         ensures market { IsMarket self.now }
     {
-        entry_at(&self.reviewer_lists, r, place)
+        self.reviewer_lists.entry_at(r, place)
     }
 
     /// The place of proposer `p` on the list of the reviewer at `place` of `p`'s list. Takes the same time for all.
@@ -243,7 +236,7 @@ impl Market {
         ensures on_list { result < length (row self.now.reviewers (entry self.now.proposers p
             place)) }
     {
-        entry_at(&self.proposer_crosses, p, place)
+        self.proposer_crosses.entry_at(p, place)
     }
 
     /// The place of reviewer `r` on the list of the proposer at `place` of `r`'s list. Takes the same time for all.
@@ -254,7 +247,7 @@ impl Market {
         ensures on_list { result < length (row self.now.proposers (entry self.now.reviewers r
             place)) }
     {
-        entry_at(&self.reviewer_crosses, r, place)
+        self.reviewer_crosses.entry_at(r, place)
     }
 }
 
@@ -275,4 +268,11 @@ fn crosses_of(
     let proposers = lent(alloc, proposers)?;
     let reviewers = lent(alloc, reviewers)?;
     cross_places(alloc, &proposers, &reviewers)
+}
+
+/// These lists, one behind another. The vectors are freed.
+fn joined(alloc: Global, vectors: Vec<Vec<u32>>) -> Result<Rows, AllocError>
+    ensures { IfOk result (λ rows. rows ≡ rows_of vectors.items) }
+{
+    Rows::of(alloc, &vectors)
 }

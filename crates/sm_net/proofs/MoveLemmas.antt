@@ -8,11 +8,11 @@ use Rattle.sm_market.proofs.PairingLemmas.{held_in_range}
 use Rattle.sm_theory.specs.Rotations.{proposer_at, IsExposed}
 use Rattle.sm_net.specs.Laws.{MovesHaveWeights, MovesHaveLevels}
 use Rattle.sm_net.specs.declared.moves.Move.{Move}
-use Rattle.sm_net.specs.Moves.{move_at, move_gain, moves_gain, IsMoveOf, IsOnList, AreMovesOf}
+use Rattle.sm_net.specs.Moves.{move_at, move_gain, moves_gain, IsMoveOf, IsOnList, AreRotationMoves}
 
 -- the sum over the moves is the gain
-pub gain_is : {l : Lists} {rotation : List (ℕ × ℕ)} {moves : List Move} (weights : List (List ℤ)) → AreMovesOf l rotation moves → moves_gain weights moves ≡ gain_of l weights rotation
-gain_is {l} {rotation} {moves} weights m =
+pub moves_gain-gain_of : {l : Lists} {rotation : List (ℕ × ℕ)} {moves : List Move} (weights : List (List ℤ)) → AreRotationMoves l rotation moves → moves_gain weights moves ≡ gain_of l weights rotation
+moves_gain-gain_of {l} {rotation} {moves} weights m =
     ap (total (λ i. move_gain weights (move_at moves i))) m.one_each
     ∙ total_same (length rotation) _ _ (λ i less. let one = m.each i less in (λ t. weight_at weights (one.proposer t) (one.to t) -ℤ weight_at weights (one.proposer t) (one.from t)))
 

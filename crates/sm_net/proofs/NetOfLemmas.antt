@@ -15,7 +15,7 @@ use Rattle.sm_theory.specs.Weights.{gain_of}
 use Rattle.sm_theory.specs.Conditions.{level_at, has_level, moves_to, moves_off, entry_node, exit_node, forces, forbids, leads_to_need, rise_of, fall_of}
 use Rattle.sm_theory.proofs.Net.Tests.{and_parts, some_passes}
 use Rattle.sm_net.specs.declared.moves.Move.{Move}
-use Rattle.sm_net.specs.Moves.{move_at, AreMovesOf, AreMoves}
+use Rattle.sm_net.specs.Moves.{move_at, AreRotationMoves, AreMovesByRotation}
 use Rattle.sm_net.specs.Pairs.{has_pair}
 use Rattle.sm_net.specs.Spans.{comes_to, goes_off, some_come, some_go, entry_by, exit_by, forced_pairs, forbidden_pairs}
 use Rattle.sm_net.specs.CheckedNets.{gain_at}
@@ -41,7 +41,7 @@ same_first t s xs ys d e long same =
     most : position_or_len s ys ≤ length ys
     most = prefix_len-le-length _ ys
 
-module _ {l : Lists} {rotation : List (ℕ × ℕ)} {moves : List Move} (m : AreMovesOf l rotation moves) (levels : List (List ℕ)) (p level : ℕ) where
+module _ {l : Lists} {rotation : List (ℕ × ℕ)} {moves : List Move} (m : AreRotationMoves l rotation moves) (levels : List (List ℕ)) (p level : ℕ) where
   -- the pair of a proposer in a rotation is the one that has it
   pub pair_is : (a : ℕ) → a < length rotation → proposer_at rotation a ≡ p → pair_of rotation p ≡ a
   pair_is a less e = position_or_len_is (λ (pair : ℕ × ℕ). pair.0 == p) rotation a (0, 0) (omega arith)
@@ -96,7 +96,7 @@ module _ {l : Lists} {rotation : List (ℕ × ℕ)} {moves : List Move} (m : Are
       list_any_at (goes_off levels p level) moves (pair_of rotation p) (record { proposer = 0; from = 0; to = 0 }) (omega (arith, m.one_each, less))
       (and_from _ _ (eq-eqb _ p (one.proposer ∙ who)) ((λ t. level_at levels p (from t) == level && not (level_at levels p (to t) == level)) ∙ both.1)))
 
-module _ {l : Lists} {rotations : List (List (ℕ × ℕ))} {rows : List (List Move)} (m : AreMoves l rotations rows) (levels : List (List ℕ)) (first : Places) where
+module _ {l : Lists} {rotations : List (List (ℕ × ℕ))} {rows : List (List Move)} (m : AreMovesByRotation l rotations rows) (levels : List (List ℕ)) (first : Places) where
   abbrev entry : ℕ → ℕ → ℕ
   entry = entry_by levels first.proposers rows
 

@@ -4,7 +4,7 @@ use Rattle.sm_theory.specs.Rotations.{proposer_at}
 use Rattle.sm_theory.specs.Chains.{rotation_at}
 use Rattle.sm_theory.specs.Witnesses.{three_cycle, three_cycle_chain}
 use Rattle.sm_theory.specs.FlowLines.{line_at}
-use Rattle.sm_net.specs.Moves.{move_at, row_of_moves, IsMoveOf, AreMovesOf, AreMoves}
+use Rattle.sm_net.specs.Moves.{move_at, row_of_moves, IsMoveOf, AreRotationMoves, AreMovesByRotation}
 use Rattle.sm_net.specs.Witnesses.{three_cycle_moves, four_lines, LastIsRepeated}
 
 each_first : (i : ℕ) → i < 3 → IsMoveOf three_cycle (rotation_at three_cycle_chain 0) i (move_at (row_of_moves three_cycle_moves 0) i)
@@ -32,10 +32,10 @@ second_is (suc (suc zero)) less = refl
 second_is (suc (suc (suc i))) less = absurd (omega arith)
 
 -- these are the moves of the rotations of that chain
-pub moves_are : AreMoves three_cycle three_cycle_chain three_cycle_moves
+pub moves_are : AreMovesByRotation three_cycle three_cycle_chain three_cycle_moves
 moves_are = record { one_each = refl; each = each }
   where
-    each : (k : ℕ) → k < 2 → AreMovesOf three_cycle (rotation_at three_cycle_chain k) (row_of_moves three_cycle_moves k)
+    each : (k : ℕ) → k < 2 → AreRotationMoves three_cycle (rotation_at three_cycle_chain k) (row_of_moves three_cycle_moves k)
     each zero less = record { one_each = refl; each = each_first; distinct = λ i j before few e. omega (arith, e, first_is i (omega arith), first_is j few) }
     each (suc zero) less = record { one_each = refl; each = each_second; distinct = λ i j before few e. omega (arith, e, second_is i (omega arith), second_is j few) }
     each (suc (suc k)) less = absurd (omega arith)

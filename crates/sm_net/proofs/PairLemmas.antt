@@ -8,7 +8,8 @@ use Rattle.std.proofs.lemmas.Bool.{false≢true, false_from_ne_true}
 use Rattle.std.proofs.lemmas.Cmp.{ranked, by_ranked}
 use Rattle.sm_lists.proofs.Counting.{eq_or_ne, lt_or_le}
 use Rattle.sm_theory.proofs.Net.Tests.{and_parts, some_passes}
-use Rattle.sm_net.specs.Pairs.{pair_at, has_pair, IsBelow, IsUpTo, AreOrdered, IsParted, IsFirstAt}
+use Rattle.sm_net.specs.Pairs.{has_pair, IsBelow, IsUpTo, AreOrdered, IsParted, IsFirstAt}
+use Rattle.sm_lists.specs.Pairs.{pair_at}
 
 -- what the order of pairs says
 not_below : (x y : ℕ × ℕ) → is_lt (ordering_then (nat_cmp y.0 x.0) (nat_cmp y.1 x.1)) ≡ false → IsUpTo x y
@@ -149,5 +150,5 @@ first_among {pairs} {i} {j} {k} o p has =
         ]
 
 -- and one that isn't found there is none of them
-pub none_of : {pairs : List (ℕ × ℕ)} {i j k : ℕ} → AreOrdered pairs → IsParted pairs (i, j) k → ((k < length pairs) × ((pair_at pairs k).0 ≡ i) × ((pair_at pairs k).1 ≡ j) → ⊥) → has_pair pairs i j ≡ false
-none_of {pairs} {i} {j} o p never = false_from_ne_true (has_pair pairs i j) (λ has. let f = first_among o p has in never (f.there, (λ t. (f.is t).0), (λ t. (f.is t).1)))
+pub has_pair-none : {pairs : List (ℕ × ℕ)} {i j k : ℕ} → AreOrdered pairs → IsParted pairs (i, j) k → ((k < length pairs) × ((pair_at pairs k).0 ≡ i) × ((pair_at pairs k).1 ≡ j) → ⊥) → has_pair pairs i j ≡ false
+has_pair-none {pairs} {i} {j} o p never = false_from_ne_true (has_pair pairs i j) (λ has. let f = first_among o p has in never (f.there, (λ t. (f.is t).0), (λ t. (f.is t).1)))

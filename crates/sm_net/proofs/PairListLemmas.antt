@@ -10,9 +10,9 @@ use Rattle.sm_net.specs.Pairs.{has_pair}
 use Rattle.sm_net.specs.Residual.{pair_if, joined}
 
 -- one pair, where a test holds
-pub pair_if_has : (b : Bool) (x y i j : ℕ) → b ≡ true → x ≡ i → y ≡ j → has_pair (pair_if b x y) i j ≡ true
-pair_if_has true x y i j h a b = or_left _ false (and_from _ _ (eq-eqb x i a) (eq-eqb y j b))
-pair_if_has false x y i j h a b = absurd (false≢true h)
+pub has_pair-pair_if : (b : Bool) (x y i j : ℕ) → b ≡ true → x ≡ i → y ≡ j → has_pair (pair_if b x y) i j ≡ true
+has_pair-pair_if true x y i j h a b = or_left _ false (and_from _ _ (eq-eqb x i a) (eq-eqb y j b))
+has_pair-pair_if false x y i j h a b = absurd (false≢true h)
 
 -- such a list has no other pair, and this one only where the test holds
 pub in_pair_if : (b : Bool) (x y i j : ℕ) → has_pair (pair_if b x y) i j ≡ true → (b ≡ true) × (x ≡ i) × (y ≡ j)
@@ -28,12 +28,12 @@ pub in_either : (xs ys : List (ℕ × ℕ)) (i j : ℕ) → has_pair (xs ++ ys) 
 in_either xs ys i j h = or_parts _ _ (sym (list_any-append (λ (x : ℕ × ℕ). x.0 == i && x.1 == j) xs ys) ∙ h)
 
 -- the first list's pairs are among those of both
-pub left_has : (xs ys : List (ℕ × ℕ)) (i j : ℕ) → has_pair xs i j ≡ true → has_pair (xs ++ ys) i j ≡ true
-left_has xs ys i j h = list_any-append (λ (x : ℕ × ℕ). x.0 == i && x.1 == j) xs ys ∙ or_left _ _ h
+pub has_pair-append_left : (xs ys : List (ℕ × ℕ)) (i j : ℕ) → has_pair xs i j ≡ true → has_pair (xs ++ ys) i j ≡ true
+has_pair-append_left xs ys i j h = list_any-append (λ (x : ℕ × ℕ). x.0 == i && x.1 == j) xs ys ∙ or_left _ _ h
 
 -- the second list's pairs are so too
-pub right_has : (xs ys : List (ℕ × ℕ)) (i j : ℕ) → has_pair ys i j ≡ true → has_pair (xs ++ ys) i j ≡ true
-right_has xs ys i j h = list_any-append (λ (x : ℕ × ℕ). x.0 == i && x.1 == j) xs ys ∙ or_right _ _ h
+pub has_pair-append_right : (xs ys : List (ℕ × ℕ)) (i j : ℕ) → has_pair ys i j ≡ true → has_pair (xs ++ ys) i j ≡ true
+has_pair-append_right xs ys i j h = list_any-append (λ (x : ℕ × ℕ). x.0 == i && x.1 == j) xs ys ∙ or_right _ _ h
 
 -- the lists of the first n things
 pub record IsInJoined (f : ℕ → List (ℕ × ℕ)) (n i j : ℕ) : Type 0 where
@@ -50,11 +50,11 @@ in_joined f (suc n) i j h = elim (in_either (joined f n) (f n) i j h) [
 ]
 
 -- the pairs of each of them are there
-pub joined_has : (f : ℕ → List (ℕ × ℕ)) (n k i j : ℕ) → k < n → has_pair (f k) i j ≡ true → has_pair (joined f n) i j ≡ true
-joined_has f zero k i j less h = absurd (omega arith)
-joined_has f (suc n) k i j less h = elim (eq_or_ne k n) [
-  | inl e ↦ right_has (joined f n) (f n) i j (subst (λ m. has_pair (f m) i j ≡ true) e h)
-  | inr ne ↦ left_has (joined f n) (f n) i j (joined_has f n k i j (omega arith) h)
+pub has_pair-joined : (f : ℕ → List (ℕ × ℕ)) (n k i j : ℕ) → k < n → has_pair (f k) i j ≡ true → has_pair (joined f n) i j ≡ true
+has_pair-joined f zero k i j less h = absurd (omega arith)
+has_pair-joined f (suc n) k i j less h = elim (eq_or_ne k n) [
+  | inl e ↦ has_pair-append_right (joined f n) (f n) i j (subst (λ m. has_pair (f m) i j ≡ true) e h)
+  | inr ne ↦ has_pair-append_left (joined f n) (f n) i j (has_pair-joined f n k i j (omega arith) h)
 ]
 
 -- the lists of the things of a list
@@ -72,7 +72,7 @@ in_flat f (x ∷ xs) d i j h = elim (in_either (f x) (flat_map f xs) i j h) [
 ]
 
 -- the pairs of each thing's list are there
-pub flat_has : {X : Type 0} (f : X → List (ℕ × ℕ)) (xs : List X) (d : X) (k i j : ℕ) → k < length xs → has_pair (f (get_or xs k d)) i j ≡ true → has_pair (flat_map f xs) i j ≡ true
-flat_has f [] d k i j less h = absurd (omega arith)
-flat_has f (x ∷ xs) d zero i j less h = left_has (f x) (flat_map f xs) i j h
-flat_has f (x ∷ xs) d (suc k) i j less h = right_has (f x) (flat_map f xs) i j (flat_has f xs d k i j (omega arith) h)
+pub has_pair-flat_map : {X : Type 0} (f : X → List (ℕ × ℕ)) (xs : List X) (d : X) (k i j : ℕ) → k < length xs → has_pair (f (get_or xs k d)) i j ≡ true → has_pair (flat_map f xs) i j ≡ true
+has_pair-flat_map f [] d k i j less h = absurd (omega arith)
+has_pair-flat_map f (x ∷ xs) d zero i j less h = has_pair-append_left (f x) (flat_map f xs) i j h
+has_pair-flat_map f (x ∷ xs) d (suc k) i j less h = has_pair-append_right (f x) (flat_map f xs) i j (has_pair-flat_map f xs d k i j (omega arith) h)

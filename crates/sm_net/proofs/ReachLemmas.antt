@@ -9,9 +9,10 @@ use Rattle.sm_lists.proofs.Counting.{eq_or_ne, lt_or_le}
 use Rattle.sm_theory.specs.Net.{IsPath, IsReachable}
 use Rattle.sm_theory.proofs.Net.Paths.{reach_on}
 use Rattle.sm_theory.proofs.Net.Tests.{and_parts, some_passes}
-use Rattle.sm_net.specs.Pairs.{pair_at, AreOrdered, IsParted}
+use Rattle.sm_net.specs.Pairs.{AreOrdered, IsParted}
+use Rattle.sm_lists.specs.Pairs.{pair_at}
 use Rattle.sm_decide.specs.Trails.{Trail}
-use Rattle.sm_net.specs.Reaching.{IsStepOf, GoesOn, IsReachedTrail}
+use Rattle.sm_net.specs.Reaching.{IsStepOf, TrailGoesOn, IsReachedTrail}
 
 contained : (items : List ℕ) (k : ℕ) → k < length items → Contains items (slice_index items k)
 contained items k less = (k, less, get_or_default items k (slice_index items k) 0 less)
@@ -69,7 +70,7 @@ going_on {steps} {from} {k = k} {before} {after} g less e room = record {
 
 -- the steps from a node stand from its first one on, up to the first of a later node
 pub going_ends : {steps : List (ℕ × ℕ)} {from start k : ℕ} {before after : Trail} → AreOrdered steps → IsParted steps (from, 0) start → IsGoing steps from start k before after → start ≤ k
-    → (k < length steps → (pair_at steps k).0 ≢ from) → GoesOn steps from before after
+    → (k < length steps → (pair_at steps k).0 ≢ from) → TrailGoesOn steps from before after
 going_ends {steps} {from} {start} {k} {before} {after} o p g come other = record {
   same_bound = g.same_bound;
   longer = g.longer;
@@ -120,11 +121,11 @@ pub record IsFollowing (bound : ℕ) (steps : List (ℕ × ℕ)) (trail : Trail)
   pub within : length trail.items ≤ bound
   pub come : next ≤ length trail.items
 
-keeps : {steps : List (ℕ × ℕ)} {from : ℕ} {before after : Trail} → GoesOn steps from before after → (v : ℕ) → Contains before.items v → Contains after.items v
+keeps : {steps : List (ℕ × ℕ)} {from : ℕ} {before after : Trail} → TrailGoesOn steps from before after → (v : ℕ) → Contains before.items v → Contains after.items v
 keeps {after = after} g v c = subst (Contains after.items) (g.kept c.0 c.1 ∙ get_or_default _ c.0 0 v c.1 ∙ c.2) (contained after.items c.0 (omega (arith, g.longer, c.1)))
 
 -- the steps from one more node of the trail are followed
-pub following_on : {bound next : ℕ} {steps : List (ℕ × ℕ)} {before after : Trail} → IsFollowing bound steps before next → next < length before.items → GoesOn steps (slice_index before.items next) before after → IsFollowing bound steps after (next + 1)
+pub following_on : {bound next : ℕ} {steps : List (ℕ × ℕ)} {before after : Trail} → IsFollowing bound steps before next → next < length before.items → TrailGoesOn steps (slice_index before.items next) before after → IsFollowing bound steps after (next + 1)
 following_on {bound} {next} {steps} {before} {after} f less g = record {
   same_bound = g.same_bound ∙ f.same_bound;
   begins = (omega (arith, g.longer, f.begins.0), g.kept 0 f.begins.0 ∙ f.begins.1);

@@ -27,8 +27,8 @@ pub record AreMet (lines : List FlowLine) (ends : List (ℕ × ℕ)) (met repeat
   pub each : (a : ℕ) → a < i → IsMember repeats a ↔ IsRepeated lines a
 
 -- the ends of all lines are among the ends
-pub ends_in : (lines : List FlowLine) (j : ℕ) → j < length lines → has_pair (map ends_of lines) (line_at lines j).from (line_at lines j).to ≡ true
-ends_in lines j less =
+pub has_pair-ends : (lines : List FlowLine) (j : ℕ) → j < length lines → has_pair (map ends_of lines) (line_at lines j).from (line_at lines j).to ≡ true
+has_pair-ends lines j less =
     list_any_at (λ (x : ℕ × ℕ). x.0 == (line_at lines j).from && x.1 == (line_at lines j).to) (map ends_of lines) j (0, 0) (rw (length-map lines ends_of) less)
     (and_from _ _ (eq-eqb _ _ (λ t. (here t).0)) (eq-eqb _ _ (λ t. (here t).1)))
   where

@@ -15,12 +15,13 @@ use Rattle.sm_theory.specs.Flows.{IsResidualStep, IsResidualReach}
 use Rattle.sm_theory.specs.declared.flow_lines.FlowLine.{FlowLine}
 use Rattle.sm_theory.specs.FlowLines.{line_at, amount_on, AreOnNodes}
 use Rattle.sm_theory.proofs.Net.Tests.{and_parts, or_parts, not_same, some_passes}
-use Rattle.sm_net.specs.Pairs.{pair_at, has_pair}
-use Rattle.sm_net.specs.CheckedNets.{NetParts, net_in}
+use Rattle.sm_net.specs.Pairs.{has_pair}
+use Rattle.sm_lists.specs.Pairs.{pair_at}
+use Rattle.sm_net.specs.CheckedNets.{NetParts, net_of_parts}
 use Rattle.sm_decide.specs.Trails.{Trail}
 use Rattle.sm_net.specs.Reaching.{IsStepOf, IsReachedTrail}
 use Rattle.sm_net.specs.Residual.{pair_if, joined, may_lead, need_steps, bond_steps, back_steps, supply_steps, drain_steps, residual_steps}
-use Rattle.sm_net.proofs.PairListLemmas.{pair_if_has, in_pair_if, in_either, left_has, right_has, in_joined, joined_has, in_flat, flat_has}
+use Rattle.sm_net.proofs.PairListLemmas.{has_pair-pair_if, in_pair_if, in_either, has_pair-append_left, has_pair-append_right, in_joined, has_pair-joined, in_flat, has_pair-flat_map}
 use Rattle.sm_net.proofs.ReachLemmas.{step_at}
 
 -- a line with a positive part of a sum
@@ -41,7 +42,7 @@ next k = omega arith
 
 module _ (parts : NetParts) (lines : List FlowLine) where
   abbrev net : Net
-  net = net_in parts
+  net = net_of_parts parts
 
   abbrev size : ℕ
   size = length parts.gains
@@ -129,19 +130,19 @@ module _ (parts : NetParts) (lines : List FlowLine) where
   Listed i j = has_pair (residual_steps parts lines) i j ≡ true
 
   by_drain : (i j : ℕ) → has_pair (joined (drain_steps net lines) size) i j ≡ true → Listed i j
-  by_drain i j h = right_has supplied _ i j h
+  by_drain i j h = has_pair-append_right supplied _ i j h
 
   by_supply : (i j : ℕ) → has_pair (joined (supply_steps net lines) size) i j ≡ true → Listed i j
-  by_supply i j h = left_has supplied _ i j (right_has backed _ i j h)
+  by_supply i j h = has_pair-append_left supplied _ i j (has_pair-append_right backed _ i j h)
 
   by_back : (i j : ℕ) → has_pair (back_steps lines) i j ≡ true → Listed i j
-  by_back i j h = left_has supplied _ i j (left_has backed _ i j (right_has bonded _ i j h))
+  by_back i j h = has_pair-append_left supplied _ i j (has_pair-append_left backed _ i j (has_pair-append_right bonded _ i j h))
 
   by_bond : (i j : ℕ) → has_pair (bond_steps net parts.bonds) i j ≡ true → Listed i j
-  by_bond i j h = left_has supplied _ i j (left_has backed _ i j (left_has bonded _ i j (right_has needed _ i j h)))
+  by_bond i j h = has_pair-append_left supplied _ i j (has_pair-append_left backed _ i j (has_pair-append_left bonded _ i j (has_pair-append_right needed _ i j h)))
 
   by_need : (i j : ℕ) → has_pair needed i j ≡ true → Listed i j
-  by_need i j h = left_has supplied _ i j (left_has backed _ i j (left_has bonded _ i j (left_has needed _ i j h)))
+  by_need i j h = has_pair-append_left supplied _ i j (has_pair-append_left backed _ i j (has_pair-append_left bonded _ i j (has_pair-append_left needed _ i j h)))
 
   need_listed : (i j : ℕ) → may_lead net i j ≡ true → leads_to_need parts.needs i j ≡ true → Listed i j
   need_listed zero j m h = absurd (false≢true h)
@@ -152,9 +153,9 @@ module _ (parts : NetParts) (lines : List FlowLine) where
       let f : suc (get_or (row parts.needs k) w.at 0) ≡ suc x = (λ t. suc (e t)) in
       let to : get_or (row parts.needs k) w.at 0 + 1 ≡ suc x = sym (next _) ∙ f in
       let leads : may_lead net (k + 1) (get_or (row parts.needs k) w.at 0 + 1) ≡ true = (λ t. may_lead net (sym (next k) t) (to t)) ∙ m in
-      by_need (suc k) (suc x) (joined_has (need_steps net parts.needs) (length parts.needs) k (suc k) (suc x) (there w.at w.below)
-      (flat_has (λ y. pair_if (may_lead net (k + 1) (y + 1)) (k + 1) (y + 1)) (row parts.needs k) 0 w.at (suc k) (suc x) w.below
-      (pair_if_has _ (k + 1) (get_or (row parts.needs k) w.at 0 + 1) (suc k) (suc x) leads (sym (next k)) to)))
+      by_need (suc k) (suc x) (has_pair-joined (need_steps net parts.needs) (length parts.needs) k (suc k) (suc x) (there w.at w.below)
+      (has_pair-flat_map (λ y. pair_if (may_lead net (k + 1) (y + 1)) (k + 1) (y + 1)) (row parts.needs k) 0 w.at (suc k) (suc x) w.below
+      (has_pair-pair_if _ (k + 1) (get_or (row parts.needs k) w.at 0 + 1) (suc k) (suc x) leads (sym (next k)) to)))
     where
       there : (a : ℕ) → a < length (row parts.needs k) → k < length parts.needs
       there a less = elim (lt_or_le k (length parts.needs)) [
@@ -168,8 +169,8 @@ module _ (parts : NetParts) (lines : List FlowLine) where
       let both = and_parts _ _ w.holds in
       let from : (pair_at parts.bonds w.at).0 ≡ i = eqb-true _ i both.0 in
       let to : (pair_at parts.bonds w.at).1 ≡ j = eqb-true _ j both.1 in
-      by_bond i j (flat_has (λ (b : ℕ × ℕ). pair_if (may_lead net b.0 b.1) b.0 b.1) parts.bonds (0, 0) w.at i j w.below
-      (pair_if_has _ (pair_at parts.bonds w.at).0 (pair_at parts.bonds w.at).1 i j ((λ t. may_lead net (from t) (to t)) ∙ m) from to))
+      by_bond i j (has_pair-flat_map (λ (b : ℕ × ℕ). pair_if (may_lead net b.0 b.1) b.0 b.1) parts.bonds (0, 0) w.at i j w.below
+      (has_pair-pair_if _ (pair_at parts.bonds w.at).0 (pair_at parts.bonds w.at).1 i j ((λ t. may_lead net (from t) (to t)) ∙ m) from to))
 
   unbounded_listed : (i j : ℕ) → j < suc (sink_of net) → IsUnbounded net i j → Listed i j
   unbounded_listed i zero less u = absurd (false≢true u)
@@ -183,8 +184,8 @@ module _ (parts : NetParts) (lines : List FlowLine) where
   room_listed zero zero in_range less = absurd (omega arith)
   room_listed (suc i) zero in_range less = absurd (omega arith)
   room_listed zero (suc k) in_range less = elim (lt_or_le k size) [
-    | inl h ↦ by_supply 0 (suc k) (joined_has (supply_steps net lines) size k 0 (suc k) h
-        (pair_if_has _ 0 (k + 1) 0 (suc k) (lt-ltb _ _ (omega (arith, room h, less, same))) refl (sym (next k))))
+    | inl h ↦ by_supply 0 (suc k) (has_pair-joined (supply_steps net lines) size k 0 (suc k) h
+        (has_pair-pair_if _ 0 (k + 1) 0 (suc k) (lt-ltb _ _ (omega (arith, room h, less, same))) refl (sym (next k))))
     | inr h ↦ absurd (omega (arith, none h, less))
   ]
     where
@@ -200,8 +201,8 @@ module _ (parts : NetParts) (lines : List FlowLine) where
     | inr ne ↦ absurd (omega (arith, none ne, less))
     | inl e ↦ elim (lt_or_le i size) [
       | inr h ↦ absurd (omega (arith, room e, dry h, less))
-      | inl h ↦ by_drain (suc i) (suc k) (joined_has (drain_steps net lines) size i (suc i) (suc k) h
-          (pair_if_has _ (i + 1) (sink_of net) (suc i) (suc k) (lt-ltb _ _ (omega (arith, room e, less, same e))) (sym (next i)) (λ t. suc (sym e t))))
+      | inl h ↦ by_drain (suc i) (suc k) (has_pair-joined (drain_steps net lines) size i (suc i) (suc k) h
+          (has_pair-pair_if _ (i + 1) (sink_of net) (suc i) (suc k) (lt-ltb _ _ (omega (arith, room e, less, same e))) (sym (next i)) (λ t. suc (sym e t))))
     ]
   ]
     where
@@ -221,8 +222,8 @@ module _ (parts : NetParts) (lines : List FlowLine) where
   back_listed i j some =
       let w = has_part (λ (x : FlowLine). if x.from == j && x.to == i then x.amount else 0) lines (record { from = 0; to = 0; amount = 0 }) some in
       let p = part (line_at lines w.at) w.some in
-      by_back i j (flat_has (λ (l : FlowLine). pair_if (nat_lt 0 l.amount) l.to l.from) lines (record { from = 0; to = 0; amount = 0 }) w.at i j w.below
-      (pair_if_has _ (line_at lines w.at).to (line_at lines w.at).from i j (lt-ltb _ _ p.0) p.2 p.1))
+      by_back i j (has_pair-flat_map (λ (l : FlowLine). pair_if (nat_lt 0 l.amount) l.to l.from) lines (record { from = 0; to = 0; amount = 0 }) w.at i j w.below
+      (has_pair-pair_if _ (line_at lines w.at).to (line_at lines w.at).from i j (lt-ltb _ _ p.0) p.2 p.1))
     where
       part : (l : FlowLine) → 0 < (if l.from == j && l.to == i then l.amount else 0) → (0 < l.amount) × (l.from ≡ j) × (l.to ≡ i)
       part l some = elim (eq_or_ne l.from j) [

@@ -12,12 +12,12 @@ use Rattle.sm_theory.specs.Chains.{rotation_at}
 use Rattle.sm_theory.specs.ClosedSets.{is_member, worst_place, matching_of}
 use Rattle.sm_theory.proofs.Bridge.Places.{held_map}
 use Rattle.sm_net.specs.declared.moves.Move.{Move}
-use Rattle.sm_net.specs.Moves.{move_at, row_of_moves, AreMovesOf, AreMoves}
+use Rattle.sm_net.specs.Moves.{move_at, row_of_moves, AreRotationMoves, AreMovesByRotation}
 use Rattle.sm_net.specs.SetPlaces.{lowered, lowered_by, worst_by, AreMade}
 use Rattle.sm_net.proofs.NetOfLemmas.{pair_is, moved}
 
 -- the worst of the places to which moves lead p is that to which its pair moves it
-module _ {l : Lists} {rotation : List (ℕ × ℕ)} {moves : List Move} (m : AreMovesOf l rotation moves) (p v : ℕ) where
+module _ {l : Lists} {rotation : List (ℕ × ℕ)} {moves : List Move} (m : AreRotationMoves l rotation moves) (p v : ℕ) where
   by_pair : (n : ℕ) → n ≤ length rotation → lowered_by p moves n v ≡ (if nat_lt (pair_of rotation p) n then max v (place_of l.proposers p (target_at rotation (pair_of rotation p))) else v)
   by_pair zero few = rw (le-ltb (pair_of rotation p) 0 (omega arith)) refl
   by_pair (suc n) few = elim (eq_or_ne (proposer_at rotation n) p) [
@@ -41,7 +41,7 @@ module _ {l : Lists} {rotation : List (ℕ × ℕ)} {moves : List Move} (m : Are
         | inr more ↦ le-ltb a n more ∙ sym (le-ltb a (suc n) (omega (arith, ne)))
       ]
 
-worst_is : {l : Lists} {rotations : List (List (ℕ × ℕ))} {rows : List (List Move)} (members : List Bool) → AreMoves l rotations rows → (p i n : ℕ) → n ≤ length rotations
+worst_is : {l : Lists} {rotations : List (List (ℕ × ℕ))} {rows : List (List Move)} (members : List Bool) → AreMovesByRotation l rotations rows → (p i n : ℕ) → n ≤ length rotations
     → worst_by p rows members n i ≡ worst_place l rotations members p i n
 worst_is members m p i zero few = refl
 worst_is {l} {rotations} {rows} members m p i (suc n) few = go (is_member members n) (worst_is members m p i n (omega arith))
@@ -60,7 +60,7 @@ worst_is {l} {rotations} {rows} members m p i (suc n) few = go (is_member member
 
 -- so these are the places of the matching
 pub made_is : {l : Lists} {rotations : List (List (ℕ × ℕ))} {rows : List (List Move)} {places : List (Option ℕ)} (first : Places) (members : List Bool) (n : ℕ) → length first.proposers ≡ length l.proposers → n ≡ length rotations
-    → AreMoves l rotations rows → AreMade first.proposers (λ p. worst_by p rows members n) places → places ≡ (matching_of l first rotations members).proposers
+    → AreMovesByRotation l rotations rows → AreMade first.proposers (λ p. worst_by p rows members n) places → places ≡ (matching_of l first rotations members).proposers
 made_is {l} {rotations} {rows} {places} first members n long count m made =
     ext_get_or None places (matching_of l first rotations members).proposers (made.one_each ∙ long ∙ sym (length-map-range_with_len made_at 0 (length l.proposers)))
     (λ p less. made.each p ∙ same p (held first.proposers p) ∙ sym (held_map l.proposers made_at p (omega (arith, made.one_each, long, less))))

@@ -11,7 +11,8 @@ use Rattle.sm_market.specs.Matching.{held}
 use Rattle.sm_theory.specs.Conditions.{has_level}
 use Rattle.sm_net.specs.declared.moves.Move.{Move}
 use Rattle.sm_net.specs.Moves.{move_at, row_of_moves}
-use Rattle.sm_net.specs.Pairs.{pair_at, has_pair, IsFirstAt}
+use Rattle.sm_net.specs.Pairs.{has_pair, IsFirstAt}
+use Rattle.sm_lists.specs.Pairs.{pair_at}
 use Rattle.sm_net.specs.Spans.{some_come, some_go, entry_by, exit_by, AreNodesFor, marked, marks, AreFirstBelow}
 use Rattle.sm_net.proofs.ReachLemmas.{step_at}
 use Rattle.sm_net.proofs.PairListLemmas.{in_either}

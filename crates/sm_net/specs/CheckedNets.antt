@@ -1,5 +1,5 @@
 -- The net of gains, needs and bonds. A bond is an unbounded edge that a condition asks for.
-use Rattle.std.specs.Prelude.{◌≡◌, ℕ, suc, ◌+◌, ◌^◌, ◌<◌, ◌==◌, ◌&&◌, ◌||◌, not, List, length, slice_index, slice_index_or, ℤ, pos}
+use Rattle.std.specs.Prelude.{◌≡◌, ℕ, suc, ◌<◌, ◌==◌, ◌&&◌, ◌||◌, not, List, length, slice_index, slice_index_or, ℤ, pos}
 use Rattle.sm_lists.specs.Rows.{row}
 use Rattle.sm_theory.specs.Net.{Net, sink_of, HasEdge}
 use Rattle.sm_theory.specs.declared.flow_lines.FlowLine.{FlowLine}
@@ -20,8 +20,8 @@ pub record NetParts : Type 0 where
 
 -- the rooms by the gains; the unbounded edges are those from rotations to what they need and the bonds, without loops and
 -- without an edge from the source to the sink (Irving, Leather and Gusfield 1987)
-abbrev pub net_in : NetParts → Net
-net_in parts = record {
+abbrev pub net_of_parts : NetParts → Net
+net_of_parts parts = record {
   size = length parts.gains;
   supply = λ k. fall_of (gain_at parts.gains k);
   drain = λ k. rise_of (gain_at parts.gains k);
@@ -35,19 +35,12 @@ pub record HasParts (parts : NetParts) (gains : List ℤ) (needs : List (List �
   pub same_bonds : (i j : ℕ) → has_pair parts.bonds i j ≡ has_pair bonds i j
 
 -- the numbers of each row rise
-pub record AreRising (rows : List (List ℕ)) : Type 0 where
+pub record AreRowsRising (rows : List (List ℕ)) : Type 0 where
   pub rising : (k a b : ℕ) → a < b → b < length (row rows k) → slice_index (row rows k) a < slice_index (row rows k) b
 
 -- the numbers of each row are below n
 pub record AreNumbersBelow (n : ℕ) (rows : List (List ℕ)) : Type 0 where
   pub below : (k a : ℕ) → a < length (row rows k) → slice_index (row rows k) a < n
-
--- what a net is kept by: a row of needs for each gain, of rotations that there are, rising
-pub record IsKeptNet (parts : NetParts) : Type 0 where
-  pub one_each : length parts.needs ≡ length parts.gains
-  pub few : length parts.gains + 2 < 2 ^ 32
-  pub rising : AreRising parts.needs
-  pub numbers : AreNumbersBelow (length parts.gains) parts.needs
 
 -- the needs are the predecessors of the rotations
 pub record NeedsAreOf (l : Lists) (rotations : List (List (ℕ × ℕ))) (parts : NetParts) : Type 0 where

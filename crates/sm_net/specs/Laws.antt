@@ -8,16 +8,16 @@ use Rattle.sm_theory.specs.Vectors.{AreLevels}
 use Rattle.sm_theory.specs.Net.{HasEdge}
 use Rattle.sm_theory.specs.Conditions.{net_of}
 use Rattle.sm_net.specs.declared.moves.Move.{Move}
-use Rattle.sm_net.specs.Moves.{AreMoves, AreOnLists, HaveWeights}
+use Rattle.sm_net.specs.Moves.{AreMovesByRotation, AreOnLists, HaveWeights}
 use Rattle.sm_net.specs.Spans.{bonds_of, HaveLevels}
-use Rattle.sm_net.specs.CheckedNets.{NetParts, net_in, HasParts, AreNumbersBelow}
+use Rattle.sm_net.specs.CheckedNets.{NetParts, net_of_parts, HasParts, AreNumbersBelow}
 
 -- by the moves of the rotations of a chain, the gains, the needs and the bonds make the net of gains, predecessors and conditions
 abbrev pub NetIsOf : Type 0
 NetIsOf = (l : Lists) (levels : List (List ℕ)) (weights : List (List ℤ)) (forced forbidden : List (ℕ × ℕ)) (first : Places) (rotations : List (List (ℕ × ℕ))) (needs : List (List ℕ)) (rows : List (List Move)) (parts : NetParts)
-    → AreMoves l rotations rows
+    → AreMovesByRotation l rotations rows
     → HasParts parts (map (gain_of l weights) rotations) needs (bonds_of levels first.proposers rows forced forbidden)
-    → net_in parts ≡ net_of l levels weights forced forbidden first rotations needs
+    → net_of_parts parts ≡ net_of l levels weights forced forbidden first rotations needs
 
 -- the edges of the net of gains, predecessors and conditions lead between its nodes
 abbrev pub EdgesAreOnNodes : Type 0

@@ -1,6 +1,7 @@
 pub mod FlowSums
 pub mod Pairs
 pub mod CheckedNets
+pub mod Kept
 pub mod Repeats
 pub mod Reaching
 pub mod Residual

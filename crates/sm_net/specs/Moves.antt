@@ -5,7 +5,7 @@ use Rattle.sm_market.specs.Lists.{Lists, row, place_of}
 use Rattle.sm_theory.specs.Rotations.{proposer_at, reviewer_at, target_at}
 use Rattle.sm_theory.specs.Chains.{rotation_at}
 use Rattle.sm_theory.specs.Weights.{total, weight_at}
-use Rattle.sm_theory.specs.Sizes.{weights_of}
+use Rattle.sm_theory.specs.Sizes.{place_weights}
 use Rattle.sm_net.specs.declared.moves.Move.{Move}
 
 -- move i of these
@@ -29,7 +29,7 @@ abbrev pub AreOnLists : Lists → List Move → Type 0
 AreOnLists l moves = (i : ℕ) → i < length moves → IsOnList l (move_at moves i)
 
 -- how a rotation moves all its proposers, which differ
-pub record AreMovesOf (l : Lists) (rotation : List (ℕ × ℕ)) (moves : List Move) : Type 0 where
+pub record AreRotationMoves (l : Lists) (rotation : List (ℕ × ℕ)) (moves : List Move) : Type 0 where
   pub one_each : length moves ≡ length rotation
   pub each : (i : ℕ) → i < length rotation → IsMoveOf l rotation i (move_at moves i)
   pub distinct : (i j : ℕ) → i < j → j < length rotation → proposer_at rotation i ≢ proposer_at rotation j
@@ -43,15 +43,15 @@ abbrev pub row_of_moves : List (List Move) → ℕ → List Move
 row_of_moves rows k = slice_index_or rows k []
 
 -- the moves of each rotation
-pub record AreMoves (l : Lists) (rotations : List (List (ℕ × ℕ))) (rows : List (List Move)) : Type 0 where
+pub record AreMovesByRotation (l : Lists) (rotations : List (List (ℕ × ℕ))) (rows : List (List Move)) : Type 0 where
   pub one_each : length rows ≡ length rotations
-  pub each : (k : ℕ) → k < length rotations → AreMovesOf l (rotation_at rotations k) (row_of_moves rows k)
+  pub each : (k : ℕ) → k < length rotations → AreRotationMoves l (rotation_at rotations k) (row_of_moves rows k)
 
 -- the places of the moves have weights
 pub record HaveWeights (weights : List (List ℤ)) (moves : List Move) : Type 0 where
   pub proposers : (i : ℕ) → i < length moves → (move_at moves i).proposer < length weights
-  pub from : (i : ℕ) → i < length moves → (move_at moves i).from < length (weights_of weights (move_at moves i).proposer)
-  pub to : (i : ℕ) → i < length moves → (move_at moves i).to < length (weights_of weights (move_at moves i).proposer)
+  pub from : (i : ℕ) → i < length moves → (move_at moves i).from < length (place_weights weights (move_at moves i).proposer)
+  pub to : (i : ℕ) → i < length moves → (move_at moves i).to < length (place_weights weights (move_at moves i).proposer)
 
 -- the weight of the place to which a move leads less that of the place from which it leads, and the sum over all moves
 abbrev pub move_gain : List (List ℤ) → Move → ℤ

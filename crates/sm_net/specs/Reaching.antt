@@ -2,7 +2,8 @@
 use Rattle.std.specs.Prelude.{◌≡◌, ℕ, ◌<◌, ◌≤◌, ◌↔◌, true, List, length, slice_index}
 use Rattle.std.specs.List.{Contains}
 use Rattle.sm_theory.specs.Net.{IsReachable}
-use Rattle.sm_net.specs.Pairs.{pair_at, has_pair}
+use Rattle.sm_net.specs.Pairs.{has_pair}
+use Rattle.sm_lists.specs.Pairs.{pair_at}
 use Rattle.sm_decide.specs.Trails.{Trail}
 
 -- one of the steps leads from the one node to the other
@@ -14,7 +15,7 @@ abbrev pub LeadTo : (nodes : ℕ) → List (ℕ × ℕ) → Type 0
 LeadTo nodes steps = (k : ℕ) → k < length steps → (pair_at steps k).1 < nodes
 
 -- a trail goes on by nodes to which steps lead from this one, until it has all of these
-pub record GoesOn (steps : List (ℕ × ℕ)) (from : ℕ) (before after : Trail) : Type 0 where
+pub record TrailGoesOn (steps : List (ℕ × ℕ)) (from : ℕ) (before after : Trail) : Type 0 where
   pub same_bound : after.bound ≡ before.bound
   pub longer : length before.items ≤ length after.items
   pub kept : (k : ℕ) → k < length before.items → slice_index after.items k ≡ slice_index before.items k

@@ -5,7 +5,7 @@ use Rattle.sm_lists.specs.Rows.{row}
 use Rattle.sm_theory.specs.Net.{Net, sink_of}
 use Rattle.sm_theory.specs.declared.flow_lines.FlowLine.{FlowLine}
 use Rattle.sm_theory.specs.FlowLines.{amount_on}
-use Rattle.sm_net.specs.CheckedNets.{NetParts, net_in}
+use Rattle.sm_net.specs.CheckedNets.{NetParts, net_of_parts}
 
 -- a pair, where a test holds
 abbrev pub pair_if : Bool → ℕ → ℕ → List (ℕ × ℕ)
@@ -46,6 +46,6 @@ drain_steps net lines k = pair_if (nat_lt (amount_on lines (k + 1) (sink_of net)
 
 -- all of them
 abbrev pub residual_steps : NetParts → List FlowLine → List (ℕ × ℕ)
-residual_steps parts lines = let net = net_in parts in
+residual_steps parts lines = let net = net_of_parts parts in
     (((joined (need_steps net parts.needs) (length parts.needs) ++ bond_steps net parts.bonds) ++ back_steps lines)
     ++ joined (supply_steps net lines) (length parts.gains)) ++ joined (drain_steps net lines) (length parts.gains)

@@ -7,7 +7,8 @@ use Rattle.sm_market.specs.Matching.{held}
 use Rattle.sm_theory.specs.Conditions.{level_at, has_level}
 use Rattle.sm_net.specs.declared.moves.Move.{Move}
 use Rattle.sm_net.specs.Moves.{move_at}
-use Rattle.sm_net.specs.Pairs.{pair_at, IsFirstAt}
+use Rattle.sm_net.specs.Pairs.{IsFirstAt}
+use Rattle.sm_lists.specs.Pairs.{pair_at}
 
 -- a move leads p to a place of the level, and from a place of the level to one of another
 abbrev pub comes_to : List (List ℕ) → ℕ → ℕ → Move → Bool

@@ -5,7 +5,7 @@ use Rattle.sm_theory.specs.WitnessesFlows.{three_cycle_levels, three_cycle_weigh
 use Rattle.sm_theory.specs.WitnessesLines.{line, three_cycle_lines}
 use Rattle.sm_theory.specs.declared.flow_lines.FlowLine.{FlowLine}
 use Rattle.sm_net.specs.declared.moves.Move.{Move}
-use Rattle.sm_net.specs.Moves.{AreMoves, moves_gain}
+use Rattle.sm_net.specs.Moves.{AreMovesByRotation, moves_gain}
 use Rattle.sm_net.specs.Spans.{bonds_of}
 use Rattle.sm_net.specs.SetPlaces.{worst_by}
 use Rattle.sm_net.specs.CheckedNets.{NetParts}
@@ -27,7 +27,7 @@ three_cycle_parts = record { gains = pos 4 ∷ negsuc 13 ∷ []; needs = three_c
 -- the gains are 4 and -14; the level in the middle is entered by the first rotation and left by the second; and with the first
 -- rotation proposer 0 is at its second place, with both at its third
 abbrev pub WorkedMoves : Type 0
-WorkedMoves = AreMoves three_cycle three_cycle_chain three_cycle_moves
+WorkedMoves = AreMovesByRotation three_cycle three_cycle_chain three_cycle_moves
     × (map (moves_gain three_cycle_weights) three_cycle_moves ≡ three_cycle_parts.gains)
     × (bonds_of three_cycle_levels three_cycle_first.proposers three_cycle_moves middle [] ≡ (0, 1) ∷ (2, 3) ∷ [])
     × (bonds_of three_cycle_levels three_cycle_first.proposers three_cycle_moves [] middle ≡ (1, 2) ∷ [])

@@ -3,7 +3,7 @@
 ghost use Rattle.std.specs.Prelude.{◌≡◌, ℕ, ◌<◌, ◌↔◌, length, List, slice_index, IsTrue};
 ghost use Rattle.sm_market.specs.Lists.{Lists};
 ghost use Rattle.sm_theory.specs.ClosedSets.{IsMember, IsClosed};
-ghost use Rattle.sm_net.specs.CheckedNets.{net_in, NeedsAreOf};
+ghost use Rattle.sm_net.specs.CheckedNets.{net_of_parts, NeedsAreOf};
 
 use crate::net::CheckedNet;
 
@@ -12,7 +12,7 @@ use crate::net::CheckedNet;
 ///
 /// Takes time in proportion to the rotations and needs (Gusfield and Irving 1989, section 2.5).
 pub fn is_closed(net: &CheckedNet, set: &[bool]) -> bool
-    requires { length set.now ≡ (net_in net.now).size }
+    requires { length set.now ≡ (net_of_parts net.now).size }
     ensures { (l : Lists) (rotations : List (List (ℕ × ℕ))) → NeedsAreOf l rotations net.now
         → IsTrue result ↔ IsClosed l rotations set.now }
 {

@@ -1,12 +1,13 @@
 //! How rotations move their proposers, by places.
 
 ghost use Rattle.std.specs.Prelude.{◌≡◌, ℕ, ◌+◌, ◌*◌, ◌<◌, ◌≤◌, ◌^◌, length, List, IfOk, unsigned_abs};
+ghost use Rattle.sm_text.specs.Limits.{most_weight};
 ghost use Rattle.sm_market.specs.Lists.{Lists};
 ghost use Rattle.sm_market.specs.Pairing.{IsPairingOf};
 ghost use Rattle.sm_theory.specs.Rotations.{IsExposed};
 ghost use Rattle.sm_theory.specs.Weights.{gain_of};
-ghost use Rattle.sm_theory.specs.Sizes.{weights_in, weights_of, AreSmall};
-ghost use Rattle.sm_net.specs.Moves.{move_at, move_gain, IsMoveOf, IsOnList, AreMovesOf, AreOnLists, HaveWeights};
+ghost use Rattle.sm_theory.specs.Sizes.{weights_in, place_weights, AreSmall};
+ghost use Rattle.sm_net.specs.Moves.{move_at, move_gain, IsMoveOf, IsOnList, AreRotationMoves, AreOnLists, HaveWeights};
 
 use sm_decide::place_behind;
 use sm_market::{Market, Pairing};
@@ -40,7 +41,7 @@ pub fn moves_of(
 ) -> Result<Vec<Move>, AllocError>
     requires made { IsPairingOf market.now m.now }
     requires exposed { IsExposed market.now m.now.places rotation.now.pairs.items }
-    ensures moves { IfOk result (λ moves. AreMovesOf market.now rotation.now.pairs.items
+    ensures moves { IfOk result (λ moves. AreRotationMoves market.now rotation.now.pairs.items
         moves.items) }
     ensures on_lists { IfOk result (λ moves. AreOnLists market.now moves.items) }
 {
@@ -77,7 +78,7 @@ pub fn gain(weights: &[Vec<i64>], moves: &[Move]) -> i64
     requires few { length moves.now < 2 ^ 24 }
     requires weights { HaveWeights (weights_in weights.now) moves.now }
     requires small { AreSmall (weights_in weights.now) }
-    ensures { (l : Lists) (rotation : List (ℕ × ℕ)) → AreMovesOf l rotation moves.now
+    ensures { (l : Lists) (rotation : List (ℕ × ℕ)) → AreRotationMoves l rotation moves.now
         → result ≡ gain_of l (weights_in weights.now) rotation }
 {
     let mut gain = 0;
@@ -93,7 +94,7 @@ fn gain_at(weights: &[Vec<i64>], moves: &[Move], i: usize) -> i64
     requires weights { HaveWeights (weights_in weights.now) moves.now }
     requires small { AreSmall (weights_in weights.now) }
     ensures gain { result ≡ move_gain (weights_in weights.now) (move_at moves.now i) }
-    ensures small { unsigned_abs result ≤ 2000000000 }
+    ensures small { unsigned_abs result ≤ 2 * most_weight }
 {
     let step = moves[i];
     let row = weights_at(weights, step.proposer);
@@ -103,7 +104,7 @@ fn gain_at(weights: &[Vec<i64>], moves: &[Move], i: usize) -> i64
 /// The weights of a proposer's places.
 fn weights_at(weights: &[Vec<i64>], p: u32) -> &[i64]
     requires { p < length weights.now }
-    ensures { result.now ≡ weights_of (weights_in weights.now) p }
+    ensures { result.now ≡ place_weights (weights_in weights.now) p }
 {
     &weights[p as usize]
 }

@@ -6,7 +6,7 @@ ghost use Rattle.sm_lists.specs.Rows.{row, rows_of};
 ghost use Rattle.sm_theory.specs.Conditions.{rise_of, fall_of, leads_to_need};
 ghost use Rattle.sm_theory.specs.Net.{sink_of, room_of, is_unbounded, HasEdge, cut_of};
 ghost use Rattle.sm_theory.specs.FlowLines.{line_at, IsNewEdge, IsWithinRoom};
-ghost use Rattle.sm_net.specs.CheckedNets.{net_in, HasParts, AreRising, AreNumbersBelow, IsOnEdge};
+ghost use Rattle.sm_net.specs.CheckedNets.{net_of_parts, HasParts, AreRowsRising, AreNumbersBelow, IsOnEdge};
 ghost use Rattle.sm_net.specs.Repeats.{AreRepeats};
 ghost use Rattle.sm_net.specs.Residual.{may_lead};
 
@@ -26,7 +26,8 @@ pub struct CheckedNet {
 
 impl Model for CheckedNet {
     ghost use Rattle.sm_lists.specs.Rows.{rows_of};
-    ghost use Rattle.sm_net.specs.CheckedNets.{NetParts, IsKeptNet};
+    ghost use Rattle.sm_net.specs.CheckedNets.{NetParts};
+    ghost use Rattle.sm_net.specs.Kept.{IsKeptNet};
 
     ghost Value = { NetParts };
 
@@ -44,7 +45,7 @@ impl CheckedNet {
     pub fn of(gains: Vec<i64>, needs: Vec<Vec<u32>>, bonds: Vec<(u32, u32)>) -> CheckedNet
         requires few { length gains.items + 2 < 2 ^ 32 }
         requires each { length needs.items ≡ length gains.items }
-        requires rising { AreRising (rows_of needs.items) }
+        requires rising { AreRowsRising (rows_of needs.items) }
         requires numbers { AreNumbersBelow (length gains.items) (rows_of needs.items) }
         ensures { HasParts result gains.items (rows_of needs.items) bonds.items }
     {
@@ -57,8 +58,8 @@ impl CheckedNet {
 
     /// How many rotations there are. Takes constant time.
     pub fn size(&self) -> u32
-        ensures size { result ≡ (net_in self.now).size }
-        ensures few { (net_in self.now).size + 2 < 2 ^ 32 }
+        ensures size { result ≡ (net_of_parts self.now).size }
+        ensures few { (net_of_parts self.now).size + 2 < 2 ^ 32 }
         ensures each { length self.now.needs ≡ length self.now.gains }
     {
         self.gains.len() as u32
@@ -66,17 +67,17 @@ impl CheckedNet {
 
     /// How many nodes there are: the rotations, the source and the sink.
     pub(crate) fn nodes(&self) -> u32
-        ensures { result ≡ (net_in self.now).size + 2 }
+        ensures { result ≡ (net_of_parts self.now).size + 2 }
     {
         self.size() + 2
     }
 
     /// The numbers of the rotations that a rotation needs, rising. Rotations are numbered from 0 here. Takes constant time.
     pub fn needs(&self, k: u32) -> &[u32]
-        requires { k < (net_in self.now).size }
+        requires { k < (net_of_parts self.now).size }
         ensures needs { result.now ≡ row self.now.needs k }
         ensures numbers { (a : ℕ) → a < length result.now → slice_index result.now a
-            < (net_in self.now).size }
+            < (net_of_parts self.now).size }
     {
         list_at(&self.needs, k)
     }
@@ -90,7 +91,7 @@ impl CheckedNet {
 
     /// Whether an unbounded edge may lead from one node to another.
     pub(crate) fn may_lead(&self, from: u32, to: u32) -> bool
-        ensures { result ≡ may_lead (net_in self.now) from to }
+        ensures { result ≡ may_lead (net_of_parts self.now) from to }
     {
         to != 0 && to < self.nodes() && from != to && !self.is_through(from, to)
     }
@@ -98,7 +99,7 @@ impl CheckedNet {
     /// Whether an unbounded edge leads from one node to another. Takes time in proportion to the logarithm of the numbers of
     /// needs and of bonds.
     pub fn is_unbounded(&self, from: u32, to: u32) -> bool
-        ensures { result ≡ is_unbounded (net_in self.now) from to }
+        ensures { result ≡ is_unbounded (net_of_parts self.now) from to }
     {
         if to == 0 || from == to || self.is_through(from, to) {
             return false;
@@ -108,14 +109,14 @@ impl CheckedNet {
 
     /// Whether the first of two nodes is the source and the second one the sink.
     fn is_through(&self, from: u32, to: u32) -> bool
-        ensures { result ≡ (from == 0 && to == sink_of (net_in self.now)) }
+        ensures { result ≡ (from == 0 && to == sink_of (net_of_parts self.now)) }
     {
         from == 0 && to as usize == self.gains.len() + 1
     }
 
     /// The room of the bounded edge from one node to another, and 0 where there is none. Takes constant time.
     pub fn room(&self, from: u32, to: u32) -> u64
-        ensures { result ≡ room_of (net_in self.now) from to }
+        ensures { result ≡ room_of (net_of_parts self.now) from to }
     {
         if to == 0 {
             0
@@ -130,7 +131,7 @@ impl CheckedNet {
 
     /// The room from the source to a rotation, where there is such a rotation.
     pub(crate) fn supply(&self, k: usize) -> u64
-        ensures { result ≡ (net_in self.now).supply k }
+        ensures { result ≡ (net_of_parts self.now).supply k }
     {
         if k < self.gains.len() {
             fall_of(self.gains[k])
@@ -141,7 +142,7 @@ impl CheckedNet {
 
     /// The room from a rotation to the sink.
     pub(crate) fn drain(&self, k: usize) -> u64
-        ensures { result ≡ (net_in self.now).drain k }
+        ensures { result ≡ (net_of_parts self.now).drain k }
     {
         if k < self.gains.len() {
             rise_of(self.gains[k])
@@ -153,14 +154,14 @@ impl CheckedNet {
     /// Whether an edge leads from one node to another. Takes time in proportion to the logarithm of the numbers of needs and of
     /// bonds.
     pub fn has_edge(&self, from: u32, to: u32) -> bool
-        ensures { IsTrue result ↔ HasEdge (net_in self.now) from to }
+        ensures { IsTrue result ↔ HasEdge (net_of_parts self.now) from to }
     {
         self.is_unbounded(from, to) || self.room(from, to) > 0
     }
 
     /// Whether a line is on an edge that leads not from the source to the sink.
     fn is_on_edge(&self, line: FlowLine) -> bool
-        ensures { IsTrue result ↔ IsOnEdge (net_in self.now) line }
+        ensures { IsTrue result ↔ IsOnEdge (net_of_parts self.now) line }
     {
         !self.is_through(line.from, line.to) && self.has_edge(line.from, line.to)
     }
@@ -171,7 +172,7 @@ impl CheckedNet {
     pub fn is_new_edge(&self, lines: &[FlowLine], repeats: &[bool], a: usize) -> bool
         requires in_range { a < length lines.now }
         requires repeats { AreRepeats lines.now repeats.now }
-        ensures { IsTrue result ↔ IsNewEdge (net_in self.now) (take a lines.now)
+        ensures { IsTrue result ↔ IsNewEdge (net_of_parts self.now) (take a lines.now)
             (line_at lines.now a) }
     {
         !repeats[a] && self.is_on_edge(lines[a])
@@ -180,7 +181,7 @@ impl CheckedNet {
     /// Whether the amount of a line is positive and within the room of its edge. Takes time in proportion to the logarithm of the
     /// numbers of needs and of bonds.
     pub fn is_within_room(&self, line: FlowLine) -> bool
-        ensures { IsTrue result ↔ IsWithinRoom (net_in self.now) line }
+        ensures { IsTrue result ↔ IsWithinRoom (net_of_parts self.now) line }
     {
         line.amount > 0
             && (self.is_unbounded(line.from, line.to)
@@ -190,8 +191,8 @@ impl CheckedNet {
     /// The room of the edges that leave a set of rotations: from its members to the sink, and from the source to the others.
     /// Takes time in proportion to the rotations.
     pub fn cut(&self, set: &[bool]) -> u128
-        requires { length set.now ≡ (net_in self.now).size }
-        ensures { result ≡ cut_of (net_in self.now) set.now }
+        requires { length set.now ≡ (net_of_parts self.now).size }
+        ensures { result ≡ cut_of (net_of_parts self.now) set.now }
     {
         let mut cut = 0;
         for k in 0..set.len() {
@@ -203,8 +204,8 @@ impl CheckedNet {
     /// The room of the bounded edge by which a rotation is left out of a cut: the one to the sink where the rotation is in the
     /// set, and else the one from the source.
     fn room_out(&self, k: usize, is_member: bool) -> u64
-        ensures { result ≡ (if is_member then (net_in self.now).drain k else
-            (net_in self.now).supply k) }
+        ensures { result ≡ (if is_member then (net_of_parts self.now).drain k else
+            (net_of_parts self.now).supply k) }
     {
         if is_member {
             self.drain(k)
@@ -230,7 +231,7 @@ fn rise_of(gain: i64) -> u64
 
 /// Whether a rotation needs another, by their nodes, of which the second one is not the source.
 fn leads_to_need(needs: &[Vec<u32>], from: u32, to: u32) -> bool
-    requires rising { AreRising (rows_of needs.now) }
+    requires rising { AreRowsRising (rows_of needs.now) }
     requires to { 0 < to }
     ensures { result ≡ leads_to_need (rows_of needs.now) from to }
 {

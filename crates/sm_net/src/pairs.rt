@@ -1,7 +1,8 @@
 //! Pairs of numbers in order.
 
 ghost use Rattle.std.specs.Prelude.{◌≡◌, ℕ, ◌<◌, ◌↔◌, length, IsTrue, MatchOption, false, true};
-ghost use Rattle.sm_net.specs.Pairs.{pair_at, has_pair, IsBelow, AreOrdered, IsParted, IsFirstAt};
+ghost use Rattle.sm_net.specs.Pairs.{has_pair, AreOrdered, IsParted, IsFirstAt};
+ghost use Rattle.sm_lists.specs.Pairs.{pair_at};
 
 use std::marker::Model;
 

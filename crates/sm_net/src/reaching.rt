@@ -1,7 +1,7 @@
 //! What is reached over steps between nodes.
 
 ghost use Rattle.std.specs.Prelude.{◌≡◌, ◌<◌, ◌≤◌, ◌∷◌, [], length, IfOk};
-ghost use Rattle.sm_net.specs.Reaching.{LeadTo, GoesOn, IsReachedTrail};
+ghost use Rattle.sm_net.specs.Reaching.{LeadTo, TrailGoesOn, IsReachedTrail};
 
 use crate::pairs::Pairs;
 use sm_decide::Trail;
@@ -39,7 +39,7 @@ fn follow(steps: &Pairs, trail: &mut Trail)
 fn step_from(steps: &Pairs, from: u32, trail: &mut Trail)
     requires nodes { LeadTo trail.old.bound steps.now }
     requires within { length trail.old.items ≤ trail.old.bound }
-    ensures { GoesOn steps.now from trail.old trail.new }
+    ensures { TrailGoesOn steps.now from trail.old trail.new }
 {
     for k in steps.before(from, 0)..steps.len() {
         let (node, to) = steps.at(k);

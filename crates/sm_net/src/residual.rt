@@ -7,7 +7,7 @@ ghost use Rattle.sm_theory.specs.ClosedSets.{IsMember};
 ghost use Rattle.sm_theory.specs.FlowLines.{amount_on, AreOnNodes};
 ghost use Rattle.sm_theory.specs.Flows.{IsResidualReach};
 ghost use Rattle.sm_net.specs.Pairs.{has_pair};
-ghost use Rattle.sm_net.specs.CheckedNets.{net_in};
+ghost use Rattle.sm_net.specs.CheckedNets.{net_of_parts};
 ghost use Rattle.sm_net.specs.Residual.{pair_if, joined, may_lead, need_steps, need_steps_of, bond_steps, back_steps, supply_steps, drain_steps, residual_steps};
 
 use crate::flow_sums::{amounts_from_node, amounts_to_node};
@@ -33,11 +33,11 @@ pub fn is_residual_reach(
     lines: &[FlowLine],
     set: &[bool],
 ) -> Result<bool, AllocError>
-    requires few { (net_in net.now).size + 2 < 2 ^ 32 }
-    requires nodes { AreOnNodes ((net_in net.now).size + 2) lines.now }
-    requires set { length set.now ≡ (net_in net.now).size }
+    requires few { (net_of_parts net.now).size + 2 < 2 ^ 32 }
+    requires nodes { AreOnNodes ((net_of_parts net.now).size + 2) lines.now }
+    requires set { length set.now ≡ (net_of_parts net.now).size }
     ensures { IfOk result (λ answer. IsTrue answer
-        ↔ IsResidualReach (net_in net.now) (amount_on lines.now) set.now) }
+        ↔ IsResidualReach (net_of_parts net.now) (amount_on lines.now) set.now) }
 {
     let steps = Pairs::of(residual_steps(alloc, net, lines)?);
     let trail = reached(alloc, net.nodes(), &steps)?;
@@ -65,8 +65,8 @@ fn residual_steps(
     net: &CheckedNet,
     lines: &[FlowLine],
 ) -> Result<Vec<(u32, u32)>, AllocError>
-    requires few { (net_in net.now).size + 2 < 2 ^ 32 }
-    requires nodes { AreOnNodes ((net_in net.now).size + 2) lines.now }
+    requires few { (net_of_parts net.now).size + 2 < 2 ^ 32 }
+    requires nodes { AreOnNodes ((net_of_parts net.now).size + 2) lines.now }
     ensures { IfOk result (λ steps. steps.items ≡ residual_steps net.now lines.now) }
 {
     let mut steps = Vec::new(alloc);
@@ -90,9 +90,9 @@ fn add_if(holds: bool, from: u32, to: u32, steps: &mut Vec<(u32, u32)>) -> Resul
 
 /// Adds the steps from rotations to what they need.
 fn add_needs(net: &CheckedNet, steps: &mut Vec<(u32, u32)>) -> Result<(), AllocError>
-    requires few { (net_in net.now).size + 2 < 2 ^ 32 }
+    requires few { (net_of_parts net.now).size + 2 < 2 ^ 32 }
     ensures { IfOk result (λ _. steps.new.items ≡ steps.old.items
-        ++ joined (need_steps (net_in net.now) net.now.needs) (length net.now.needs)) }
+        ++ joined (need_steps (net_of_parts net.now) net.now.needs) (length net.now.needs)) }
 {
     for k in 0..net.size() {
         add_needs_of(net, k, net.needs(k), steps)?;
@@ -107,11 +107,11 @@ fn add_needs_of(
     needs: &[u32],
     steps: &mut Vec<(u32, u32)>,
 ) -> Result<(), AllocError>
-    requires few { (net_in net.now).size + 2 < 2 ^ 32 }
+    requires few { (net_of_parts net.now).size + 2 < 2 ^ 32 }
     requires number { k + 1 < 2 ^ 32 }
     requires numbers { (a : ℕ) → a < length needs.now → slice_index needs.now a + 1 < 2 ^ 32 }
     ensures { IfOk result (λ _. steps.new.items ≡ steps.old.items
-        ++ need_steps_of (net_in net.now) k needs.now) }
+        ++ need_steps_of (net_of_parts net.now) k needs.now) }
 {
     for &i in needs {
         add_if(net.may_lead(k + 1, i + 1), k + 1, i + 1, steps)?;
@@ -122,7 +122,7 @@ fn add_needs_of(
 /// Adds the steps along bonds.
 fn add_bonds(net: &CheckedNet, steps: &mut Vec<(u32, u32)>) -> Result<(), AllocError>
     ensures { IfOk result (λ _. steps.new.items ≡ steps.old.items
-        ++ bond_steps (net_in net.now) net.now.bonds) }
+        ++ bond_steps (net_of_parts net.now) net.now.bonds) }
 {
     let bonds = net.bonds();
     for &(from, to) in bonds {
@@ -148,10 +148,10 @@ fn add_supplies(
     lines: &[FlowLine],
     steps: &mut Vec<(u32, u32)>,
 ) -> Result<(), AllocError>
-    requires few { (net_in net.now).size + 2 < 2 ^ 32 }
-    requires nodes { AreOnNodes ((net_in net.now).size + 2) lines.now }
+    requires few { (net_of_parts net.now).size + 2 < 2 ^ 32 }
+    requires nodes { AreOnNodes ((net_of_parts net.now).size + 2) lines.now }
     ensures { IfOk result (λ _. steps.new.items ≡ steps.old.items
-        ++ joined (supply_steps (net_in net.now) lines.now) (length net.now.gains)) }
+        ++ joined (supply_steps (net_of_parts net.now) lines.now) (length net.now.gains)) }
 {
     let amounts = amounts_from_node(alloc, net.nodes(), lines, 0)?;
     for k in 0..net.size() {
@@ -168,10 +168,10 @@ fn add_drains(
     lines: &[FlowLine],
     steps: &mut Vec<(u32, u32)>,
 ) -> Result<(), AllocError>
-    requires few { (net_in net.now).size + 2 < 2 ^ 32 }
-    requires nodes { AreOnNodes ((net_in net.now).size + 2) lines.now }
+    requires few { (net_of_parts net.now).size + 2 < 2 ^ 32 }
+    requires nodes { AreOnNodes ((net_of_parts net.now).size + 2) lines.now }
     ensures { IfOk result (λ _. steps.new.items ≡ steps.old.items
-        ++ joined (drain_steps (net_in net.now) lines.now) (length net.now.gains)) }
+        ++ joined (drain_steps (net_of_parts net.now) lines.now) (length net.now.gains)) }
 {
     let sink = net.size() + 1;
     let amounts = amounts_to_node(alloc, net.nodes(), lines, sink)?;

@@ -4,7 +4,7 @@ ghost use Rattle.std.specs.Prelude.{◌≡◌, ℕ, ◌+◌, ◌<◌, length, Li
 ghost use Rattle.sm_market.specs.Lists.{Lists};
 ghost use Rattle.sm_market.specs.Pairing.{IsPairingOf};
 ghost use Rattle.sm_theory.specs.ClosedSets.{is_member, matching_of};
-ghost use Rattle.sm_net.specs.Moves.{move_at, moves_in, row_of_moves, AreMoves};
+ghost use Rattle.sm_net.specs.Moves.{move_at, moves_in, row_of_moves, AreMovesByRotation};
 ghost use Rattle.sm_net.specs.SetPlaces.{lowered, lowered_by, worst_by, AreMade};
 
 use crate::moves::Move;
@@ -33,7 +33,7 @@ pub fn set_places(
     requires proposers { (k i : ℕ) → i < length (row_of_moves (moves_in moves.now) k)
         → (move_at (row_of_moves (moves_in moves.now) k) i).proposer < length market.now.proposers }
     ensures { IfOk result (λ places. (rotations : List (List (ℕ × ℕ)))
-        → AreMoves market.now rotations (moves_in moves.now)
+        → AreMovesByRotation market.now rotations (moves_in moves.now)
         → places.items ≡ (matching_of market.now first.now.places rotations set.now).proposers) }
 {
     let mut places = first_places(alloc, market, first)?;

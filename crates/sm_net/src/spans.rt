@@ -1,11 +1,12 @@
 //! Where proposers come to levels and leave them, and the edges that conditions ask for.
 
-ghost use Rattle.std.specs.Prelude.{◌≡◌, ℕ, ◌+◌, ◌<◌, ◌^◌, ◌==◌, ◌&&◌, ◌++◌, length, slice_index, replicate, true, if◌then◌else◌, IfOk, List, Option};
+ghost use Rattle.std.specs.Prelude.{◌≡◌, ℕ, ◌+◌, ◌<◌, ◌^◌, ◌==◌, ◌&&◌, ◌++◌, length, slice_index, replicate, true, if◌then◌else◌, IfOk};
 ghost use Rattle.std.specs.List.{flat_map};
 ghost use Rattle.sm_lists.specs.Rows.{row, rows_of};
 ghost use Rattle.sm_market.specs.Matching.{held};
 ghost use Rattle.sm_theory.specs.Conditions.{has_level};
-ghost use Rattle.sm_net.specs.Pairs.{pair_at, has_pair, IsFirstAt};
+ghost use Rattle.sm_net.specs.Pairs.{has_pair, IsFirstAt};
+ghost use Rattle.sm_lists.specs.Pairs.{pair_at};
 ghost use Rattle.sm_net.specs.Moves.{moves_in, row_of_moves};
 ghost use Rattle.sm_net.specs.Spans.{comes_to, goes_off, some_come, some_go, entry_by, exit_by, forced_pairs, forbidden_pairs, bonds_of, AreNodesFor, marked, marks, HaveLevels, HaveFirstLevels, AreFirstBelow};
 

@@ -8,9 +8,10 @@ use Rattle.std.proofs.lemmas.List.{length-set, get_or-set_same, get_or-set_other
 use Rattle.std.proofs.lemmas.List.FromFn.{length-map-range_with_len, get_or-map-range_with_len}
 use Rattle.sm_instance.specs.Written.{Written, row, entry, place_of, capacity_of, IsAcceptable}
 use Rattle.sm_instance.specs.Matching.{held, leads_to, is_at, load_before, load, IsMatching}
-use Rattle.sm_instance.proofs.LoadLemmas.{load_more}
+use Rattle.sm_instance.proofs.LoadLemmas.{load_before-suc}
 use Rattle.std.proofs.Math.Seq.{take-suc}
-use Rattle.sm_pairs.specs.Held.{partner_in, place_in, places_in, pair_at, CantJoin, IsBreach}
+use Rattle.sm_pairs.specs.Held.{partner_in, paired_place, places_in, CantJoin, IsBreach}
+use Rattle.sm_lists.specs.Pairs.{pair_at}
 use Rattle.sm_pairs.specs.Holding.{loads_of, CantAdd, Added}
 use Rattle.sm_pairs.specs.declared.holding.Holding.{Holding}
 
@@ -45,28 +46,28 @@ later (pair ∷ pairs) p r q none = by_first (later pairs p r q) (pair.0 == q) r
         ap (λ t. cond t (Some r) (Some pair.1)) (sym (ne_eqb p q (λ e. eqb-false pair.0 p eb (eqb-true pair.0 q ea ∙ sym e))))
 
 -- a proposer to whom the pairs give nobody has the reviewer of the pair behind them
-pub here_later : (before : List (ℕ × ℕ)) (p r : ℕ) → partner_in before p ≡ None → partner_in (before ++ (p, r) ∷ []) p ≡ Some r
-here_later before p r none = later before p r p none ∙ ap (λ t. cond t (Some r) (partner_in before p)) (eq-eqb p p refl)
+pub partner_in-push_same : (before : List (ℕ × ℕ)) (p r : ℕ) → partner_in before p ≡ None → partner_in (before ++ (p, r) ∷ []) p ≡ Some r
+partner_in-push_same before p r none = later before p r p none ∙ ap (λ t. cond t (Some r) (partner_in before p)) (eq-eqb p p refl)
 
 -- any other proposer has whom it had
-pub other_later : (before : List (ℕ × ℕ)) (p r q : ℕ) → partner_in before p ≡ None → q ≢ p → partner_in (before ++ (p, r) ∷ []) q ≡ partner_in before q
-other_later before p r q none ne = later before p r q none ∙ ap (λ t. cond t (Some r) (partner_in before q)) (ne_eqb p q (λ e. ne (sym e)))
+pub partner_in-push_other : (before : List (ℕ × ℕ)) (p r q : ℕ) → partner_in before p ≡ None → q ≢ p → partner_in (before ++ (p, r) ∷ []) q ≡ partner_in before q
+partner_in-push_other before p r q none ne = later before p r q none ∙ ap (λ t. cond t (Some r) (partner_in before q)) (ne_eqb p q (λ e. ne (sym e)))
 
 -- so the matching of the pairs with one more is theirs with the place of that reviewer set
 pub places_later : (w : Written) (before : List (ℕ × ℕ)) (p r : ℕ) → partner_in before p ≡ None
     → set (places_in w before) p (Some (place_of w.proposers p r)) ≡ places_in w (before ++ (p, r) ∷ [])
 places_later w before p r none =
-    changed_at (place_in w before) (place_in w (before ++ (p, r) ∷ [])) (length w.proposers) p (Some (place_of w.proposers p r))
-    (ap (option_map (place_of w.proposers p)) (here_later before p r none))
-    (λ q ne. ap (option_map (place_of w.proposers q)) (other_later before p r q none ne))
+    changed_at (paired_place w before) (paired_place w (before ++ (p, r) ∷ [])) (length w.proposers) p (Some (place_of w.proposers p r))
+    (ap (option_map (place_of w.proposers p)) (partner_in-push_same before p r none))
+    (λ q ne. ap (option_map (place_of w.proposers q)) (partner_in-push_other before p r q none ne))
 
 -- who is in the pairs is in their matching, and nobody else
-pub held_place : (w : Written) (pairs : List (ℕ × ℕ)) (p : ℕ) → p < length w.proposers → held (places_in w pairs) p ≡ place_in w pairs p
-held_place w pairs p l = get_or-map-range_with_len (place_in w pairs) 0 (length w.proposers) p p None l (omega arith)
+pub held_place : (w : Written) (pairs : List (ℕ × ℕ)) (p : ℕ) → p < length w.proposers → held (places_in w pairs) p ≡ paired_place w pairs p
+held_place w pairs p l = get_or-map-range_with_len (paired_place w pairs) 0 (length w.proposers) p p None l (omega arith)
 
 -- who is unmatched there is in none of the pairs
-pub none_given : (w : Written) (pairs : List (ℕ × ℕ)) (p : ℕ) → p < length w.proposers → held (places_in w pairs) p ≡ None → partner_in pairs p ≡ None
-none_given w pairs p l none = by_partner (partner_in pairs p) refl
+pub partner_in-none : (w : Written) (pairs : List (ℕ × ℕ)) (p : ℕ) → p < length w.proposers → held (places_in w pairs) p ≡ None → partner_in pairs p ≡ None
+partner_in-none w pairs p l none = by_partner (partner_in pairs p) refl
   where
     by_partner : (o : Option ℕ) → partner_in pairs p ≡ o → partner_in pairs p ≡ None
     by_partner None e = e
@@ -94,29 +95,29 @@ low_set : (w : Written) (places : List (Option ℕ)) (p i k r : ℕ) → k ≤ p
 low_set w places p i zero r le = refl
 low_set w places p i (suc k) r le =
     ap (λ n. load_before w (set places p (Some i)) n r) (let e : suc k ≡ k + 1 = omega arith in e)
-    ∙ load_more w (set places p (Some i)) k r
+    ∙ load_before-suc w (set places p (Some i)) k r
     ∙ ap (λ n. n + cond (is_at w (set places p (Some i)) k r) 1 0) (low_set w places p i k r (omega (arith, le)))
     ∙ ap (λ b. load_before w places k r + cond b 1 0) (other_set w places p i k r (λ e. omega (arith, e, le)))
-    ∙ sym (load_more w places k r)
+    ∙ sym (load_before-suc w places k r)
     ∙ ap (λ n. load_before w places n r) (let e : k + 1 ≡ suc k = omega arith in e)
 
 -- the load that the first proposers make counts the place set, where that is the reviewer's and its proposer is among them
-pub load_set : (w : Written) (places : List (Option ℕ)) (p i k r : ℕ) → p < length places → held places p ≡ None → p < k
+pub load_before-set : (w : Written) (places : List (Option ℕ)) (p i k r : ℕ) → p < length places → held places p ≡ None → p < k
     → load_before w (set places p (Some i)) k r ≡ load_before w places k r + cond (entry w.proposers p i == r) 1 0
-load_set w places p i zero r l free lt = absurd (omega (arith, lt))
-load_set w places p i (suc k) r l free lt =
+load_before-set w places p i zero r l free lt = absurd (omega (arith, lt))
+load_before-set w places p i (suc k) r l free lt =
     ap (λ n. load_before w (set places p (Some i)) n r) (let e : suc k ≡ k + 1 = omega arith in e)
-    ∙ load_more w (set places p (Some i)) k r
+    ∙ load_before-suc w (set places p (Some i)) k r
     ∙ ⊎_elim
-    (λ below. let deep = load_set w places p i k r l free below in
+    (λ below. let deep = load_before-set w places p i k r l free below in
     ap (λ b. load_before w (set places p (Some i)) k r + cond b 1 0) (other_set w places p i k r (λ e. omega (arith, e, below)))
-    ∙ (let m = load_more w places k r in let e : load_before w (set places p (Some i)) k r + cond (is_at w places k r) 1 0 ≡ load_before w places (k + 1) r + cond (entry w.proposers p i == r) 1 0 = omega (arith, deep, m) in e)
+    ∙ (let m = load_before-suc w places k r in let e : load_before w (set places p (Some i)) k r + cond (is_at w places k r) 1 0 ≡ load_before w places (k + 1) r + cond (entry w.proposers p i == r) 1 0 = omega (arith, deep, m) in e)
     ∙ ap (λ n. load_before w places n r + cond (entry w.proposers p i == r) 1 0) (let e : k + 1 ≡ suc k = omega arith in e))
     (λ ge. let same : p ≡ k = omega (arith, ge, lt) in
     let low = low_set w places p i k r (omega (arith, same)) in
     let hit : is_at w (set places p (Some i)) k r ≡ (entry w.proposers p i == r) = ap (λ q. is_at w (set places p (Some i)) q r) (sym same) ∙ here_set w places p i r l in
     let miss : is_at w places k r ≡ false = ap (λ q. is_at w places q r) (sym same) ∙ free_at w places p r free in
-    let m = load_more w places k r ∙ ap (λ b. load_before w places k r + cond b 1 0) miss in
+    let m = load_before-suc w places k r ∙ ap (λ b. load_before w places k r + cond b 1 0) miss in
     ap (λ b. load_before w (set places p (Some i)) k r + cond b 1 0) hit
     ∙ (let e : load_before w (set places p (Some i)) k r + cond (entry w.proposers p i == r) 1 0 ≡ load_before w places (k + 1) r + cond (entry w.proposers p i == r) 1 0 = omega (arith, low, m) in e)
     ∙ ap (λ n. load_before w places n r + cond (entry w.proposers p i == r) 1 0) (let e : k + 1 ≡ suc k = omega arith in e))
@@ -128,8 +129,8 @@ pub loads_later : (w : Written) (places : List (Option ℕ)) (p i : ℕ) → len
 loads_later w places p i one l free =
     let r = entry w.proposers p i in
     changed_at (load w places) (load w (set places p (Some i))) (length w.reviewers) r (load w places r + 1)
-    (load_set w places p i (length w.proposers) r (omega (arith, one, l)) free l ∙ ap (λ b. load w places r + cond b 1 0) (eq-eqb r r refl))
-    (λ s ne. load_set w places p i (length w.proposers) s (omega (arith, one, l)) free l ∙ ap (λ b. load w places s + cond b 1 0) (ne_eqb r s (λ e. ne (sym e)))
+    (load_before-set w places p i (length w.proposers) r (omega (arith, one, l)) free l ∙ ap (λ b. load w places r + cond b 1 0) (eq-eqb r r refl))
+    (λ s ne. load_before-set w places p i (length w.proposers) s (omega (arith, one, l)) free l ∙ ap (λ b. load w places s + cond b 1 0) (ne_eqb r s (λ e. ne (sym e)))
     ∙ (let e : load w places s + 0 ≡ load w places s = omega arith in e))
 
 -- a matching with one more pair
@@ -162,12 +163,12 @@ matching_later w places p i m l free on acceptable room = record {
     by_load : (r : ℕ) → (((entry w.proposers p i == r) ≡ true) × (entry w.proposers p i ≡ r)) ⊎ (((entry w.proposers p i == r) ≡ false) × (entry w.proposers p i ≢ r))
         → load w (set places p (Some i)) r ≤ capacity_of w.reviewers r
     by_load r (inl x) =
-        let e = load_set w places p i (length w.proposers) r inside free l ∙ ap (λ b. load w places r + cond b 1 0) x.0 in
+        let e = load_before-set w places p i (length w.proposers) r inside free l ∙ ap (λ b. load w places r + cond b 1 0) x.0 in
         let same = ap (λ s. load w places s) x.1 in
         let cap = ap (λ s. capacity_of w.reviewers s) x.1 in
         omega (arith, e, same, cap, room)
     by_load r (inr x) =
-        let e = load_set w places p i (length w.proposers) r inside free l ∙ ap (λ b. load w places r + cond b 1 0) x.0 in
+        let e = load_before-set w places p i (length w.proposers) r inside free l ∙ ap (λ b. load w places r + cond b 1 0) x.0 in
         let le = m.within r in
         omega (arith, e, le)
 
@@ -175,14 +176,14 @@ matching_later w places p i m l free on acceptable room = record {
 pub no_places : (w : Written) → replicate (length w.proposers) None ≡ places_in w []
 no_places w = each 0 (length w.proposers)
   where
-    each : (a n : ℕ) → replicate n None ≡ map (place_in w []) (range_with_len a n)
+    each : (a n : ℕ) → replicate n None ≡ map (paired_place w []) (range_with_len a n)
     each a zero = refl
     each a (suc n) = ap (λ xs. None ∷ xs) (each (a + 1) n)
 
 no_place : (w : Written) (p : ℕ) → held (places_in w []) p ≡ None
 no_place w p = each 0 (length w.proposers) p
   where
-    each : (a n p : ℕ) → held (map (place_in w []) (range_with_len a n)) p ≡ None
+    each : (a n p : ℕ) → held (map (paired_place w []) (range_with_len a n)) p ≡ None
     each a zero p = refl
     each a (suc n) zero = refl
     each a (suc n) (suc p) = each (a + 1) n p
@@ -191,7 +192,7 @@ no_load : (w : Written) (k r : ℕ) → load_before w (places_in w []) k r ≡ 0
 no_load w zero r = refl
 no_load w (suc k) r =
     ap (λ n. load_before w (places_in w []) n r) (let e : suc k ≡ k + 1 = omega arith in e)
-    ∙ load_more w (places_in w []) k r
+    ∙ load_before-suc w (places_in w []) k r
     ∙ ap (λ b. load_before w (places_in w []) k r + cond b 1 0) (free_at w (places_in w []) k r (no_place w k))
     ∙ (let d = no_load w k r in let e : load_before w (places_in w []) k r + 0 ≡ 0 = omega (arith, d) in e)
 
@@ -206,7 +207,7 @@ no_loads w = each 0 (length w.reviewers)
 -- nobody at all is a matching
 pub nobody : (w : Written) → IsMatching w (places_in w [])
 nobody w = record {
-  assigned = record { one_each = length-map-range_with_len (place_in w []) 0 (length w.proposers); on_lists = λ p i h. absurd (free p i h) };
+  assigned = record { one_each = length-map-range_with_len (paired_place w []) 0 (length w.proposers); on_lists = λ p i h. absurd (free p i h) };
   acceptable = λ p i h. absurd (free p i h);
   within = λ r. let e = no_load w (length w.proposers) r in omega (arith, e);
 }
@@ -252,7 +253,7 @@ pub pairs_more : (w : Written) (pairs : List (ℕ × ℕ)) (before after : Holdi
 pairs_more w pairs before after k p r l pair p_in places a =
     a.places
     ∙ ap (λ xs. set xs p (Some (place_of w.proposers p r))) places
-    ∙ places_later w (take k pairs) p r (none_given w (take k pairs) p p_in (ap (λ xs. held xs p) (sym places) ∙ a.free))
+    ∙ places_later w (take k pairs) p r (partner_in-none w (take k pairs) p p_in (ap (λ xs. held xs p) (sym places) ∙ a.free))
     ∙ ap (λ (x : ℕ × ℕ). places_in w (take k pairs ++ x ∷ [])) (sym pair)
     ∙ ap (places_in w) (sym (take-suc pairs k (0, 0) l))
     ∙ ap (λ n. places_in w (take n pairs)) (let e : suc k ≡ k + 1 = omega arith in e)
@@ -278,6 +279,6 @@ none_more w pairs before after k p r l pair p_in same a none j lt b = ⊎_elim
     by_cause : CantJoin w (take k pairs) p r → ⊥
     by_cause (CantJoin.unacceptable h) = h a.acceptable
     by_cause (CantJoin.taken h) =
-        let e = none_given w (take k pairs) p p_in (ap (λ xs. held xs p) (sym same) ∙ a.free) in
+        let e = partner_in-none w (take k pairs) p p_in (ap (λ xs. held xs p) (sym same) ∙ a.free) in
         let s = subst IsSome e h in cc
     by_cause (CantJoin.full h) = let room = subst (λ xs. load w xs r < capacity_of w.reviewers r) same a.room in omega (arith, h, room)

@@ -1,7 +1,8 @@
 -- The matching that pairs give, and what keeps it from being a stable one.
-use Rattle.std.specs.Prelude.{ℕ, ◌<◌, ◌≤◌, ◌==◌, if◌then◌else◌, List, [], ◌∷◌, length, map, take, slice_index_or, Option, Some, None, IsSome}
+use Rattle.std.specs.Prelude.{ℕ, ◌<◌, ◌≤◌, ◌==◌, if◌then◌else◌, List, [], ◌∷◌, length, map, take, Option, Some, None, IsSome}
 use Rattle.std.specs.List.{range_with_len}
 use Rattle.std.specs.Option.{option_map}
+use Rattle.sm_lists.specs.Pairs.{pair_at}
 use Rattle.sm_instance.specs.Written.{Written, place_of, capacity_of, IsAcceptable}
 use Rattle.sm_instance.specs.Matching.{load}
 use Rattle.sm_instance.specs.Stable.{IsStable}
@@ -12,22 +13,18 @@ partner_in [] p = None
 partner_in (pair ∷ pairs) p = if pair.0 == p then Some pair.1 else partner_in pairs p
 
 -- the matching that pairs give: for each proposer the place of its reviewer
-abbrev pub place_in : Written → List (ℕ × ℕ) → ℕ → Option ℕ
-place_in w pairs p = option_map (place_of w.proposers p) (partner_in pairs p)
+abbrev pub paired_place : Written → List (ℕ × ℕ) → ℕ → Option ℕ
+paired_place w pairs p = option_map (place_of w.proposers p) (partner_in pairs p)
 
 -- the places of all proposers
 abbrev pub places_in : Written → List (ℕ × ℕ) → List (Option ℕ)
-places_in w pairs = map (place_in w pairs) (range_with_len 0 (length w.proposers))
+places_in w pairs = map (paired_place w pairs) (range_with_len 0 (length w.proposers))
 
 -- a pair can't be held beside those before it: it isn't acceptable, they give its proposer a reviewer, or they fill its reviewer
 pub data CantJoin (w : Written) (before : List (ℕ × ℕ)) (p r : ℕ) : Type 0 where
   unacceptable : ¬ IsAcceptable w p r → CantJoin w before p r
   taken : IsSome (partner_in before p) → CantJoin w before p r
   full : capacity_of w.reviewers r ≤ load w (places_in w before) r → CantJoin w before p r
-
--- the pair of this number, counted from 0, is the first that can't be held
-abbrev pub pair_at : List (ℕ × ℕ) → ℕ → ℕ × ℕ
-pair_at pairs k = slice_index_or pairs k (0, 0)
 
 -- the pair of this number can't be held beside those before it
 pub record IsBreach (w : Written) (pairs : List (ℕ × ℕ)) (k : ℕ) : Type 0 where

@@ -36,6 +36,6 @@ pub record Added (w : Written) (before after : Holding) (p r : ℕ) : Type 0 whe
   pub held : IsHolding w after
 
 -- true says that the pair was added, and false that it can't be
-abbrev pub Adds : Written → (before after : Holding) → (p r : ℕ) → Bool → Type 0
-Adds w before after p r true = Added w before after p r
-Adds w before after p r false = CantAdd w before.matching.places.items p r
+abbrev pub AddsPair : Written → (before after : Holding) → (p r : ℕ) → Bool → Type 0
+AddsPair w before after p r true = Added w before after p r
+AddsPair w before after p r false = CantAdd w before.matching.places.items p r

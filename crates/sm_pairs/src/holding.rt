@@ -2,7 +2,7 @@
 
 ghost use Rattle.std.specs.Prelude.{◌≡◌, ◌<◌, length, replicate, None, IfOk, MatchOption};
 ghost use Rattle.sm_instance.specs.Written.{IsAcceptable};
-ghost use Rattle.sm_pairs.specs.Holding.{IsHolding, Adds, IsAcceptableAt};
+ghost use Rattle.sm_pairs.specs.Holding.{IsHolding, AddsPair, IsAcceptableAt};
 
 use sm_instance::{Assignment, Instance};
 use std::alloc::{AllocError, Global};
@@ -43,7 +43,7 @@ impl Holding {
         requires proposer { p < length instance.now.proposers }
         requires reviewer { r < length instance.now.reviewers }
         requires held { IsHolding instance.now self.old }
-        ensures { Adds instance.now self.old self.new p r result }
+        ensures { AddsPair instance.now self.old self.new p r result }
     {
         match acceptable_place(instance, p, r) {
             Some(place) => {

@@ -3,7 +3,7 @@ use Rattle.std.proofs.Common.{◌≡◌, ℕ, ◌-◌, ◌≤◌, List, [], ◌�
 use Rattle.std.specs.List.{All}
 use Rattle.std.proofs.lemmas.List.Elements.{All-append, All-cons}
 use Rattle.sm_answer.specs.Lines.{lines_from}
-use Rattle.sm_answer.proofs.AnswerLemmas.{lines_alike, lines_all}
+use Rattle.sm_answer.proofs.AnswerLemmas.{lines_from-same, lines_all}
 use Rattle.sm_instance.specs.Written.{Written}
 use Rattle.sm_instance.specs.Sound.{IsInstance}
 use Rattle.sm_instance.specs.Matching.{standing}
@@ -19,13 +19,13 @@ use Rattle.sm_seats.specs.Correspondence.{IsSeating, worse_ranks_of}
 use Rattle.sm_seats.proofs.SeatingLaws.{as_well}
 use Rattle.sm_seats.proofs.VectorLaws.{allowed_seats, least_regret_written}
 use Rattle.sm_shown.specs.Answers.{pair_line}
-use Rattle.sm_shown.specs.GivenLines.{seated_pair_line}
+use Rattle.sm_shown.specs.PairLines.{seated_pair_line}
 use Rattle.sm_shown.proofs.SolveLemmas.{pair_alike, pair_sound, end_sound}
 use Rattle.sm_partners.specs.RegretAnswer.{IsLeastRegret as IsWrittenLeastRegret, IsRegretAnswer, regret_lines}
-use Rattle.sm_partners.specs.RegretFound.{IsFound, regret_given}
+use Rattle.sm_partners.specs.RegretFound.{IsLeastRegretOfSeats, regret_given}
 use Rattle.sm_partners.specs.declared.least_regret.LeastRegret.{LeastRegret}
 
-module _ {w : Written} {s : Seating} (h : IsSeating w s) (found : LeastRegret) (f : IsFound w s found) where
+module _ {w : Written} {s : Seating} (h : IsSeating w s) (found : LeastRegret) (f : IsLeastRegretOfSeats w s found) where
   places : List (Option ℕ)
   places = written_of s found.matching.places.proposers
 
@@ -53,7 +53,7 @@ module _ {w : Written} {s : Seating} (h : IsSeating w s) (found : LeastRegret) (
       let m = found.matching.places in
       ap (λ r. LineData.Answer HeadData.Regret ∷ LineData.Regret r ∷ (lines_from (seated_pair_line s m) 0 (length s.market.proposers - 0) ++ (LineData.End ∷ []))) regret_is
       ∙ ap (λ t. LineData.Answer HeadData.Regret ∷ LineData.Regret (written_regret w (written_of s m.proposers)) ∷ (t ++ (LineData.End ∷ [])))
-      (ap (lines_from (seated_pair_line s m) 0) count ∙ lines_alike (seated_pair_line s m) (pair_line w (written_of s m.proposers)) (pair_alike h m f.least.stable) 0 (length w.proposers))
+      (ap (lines_from (seated_pair_line s m) 0) count ∙ lines_from-same (seated_pair_line s m) (pair_line w (written_of s m.proposers)) (pair_alike h m f.least.stable) 0 (length w.proposers))
 
   -- the lines say that matching with its regret, which is a right answer
   pub regret_right : IsRegretAnswer w (regret_given s found)

@@ -8,11 +8,11 @@ use Rattle.sm_report.specs.Lines.{LineData}
 use Rattle.sm_seats.specs.Seating.{Seating, levels_of}
 use Rattle.sm_seats.specs.Correspondence.{leveled, worse_ranks_of}
 use Rattle.sm_theory.specs.Regrets.{IsLeastRegret}
-use Rattle.sm_shown.specs.GivenLines.{seated_pair_line}
+use Rattle.sm_shown.specs.PairLines.{seated_pair_line}
 use Rattle.sm_partners.specs.declared.least_regret.LeastRegret.{LeastRegret}
 
 -- a matching of the seats that has the least regret among the allowed ones
-pub record IsFound (w : Written) (s : Seating) (found : LeastRegret) : Type 0 where
+pub record IsLeastRegretOfSeats (w : Written) (s : Seating) (found : LeastRegret) : Type 0 where
   pub made : IsPairingOf s.market found.matching
   pub least : IsLeastRegret s.market (levels_of s) (worse_ranks_of w s) (leveled w w.forced) (leveled w w.forbidden) found.matching.places found.regret
 

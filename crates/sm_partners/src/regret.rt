@@ -13,7 +13,7 @@ ghost use Rattle.sm_seats.specs.Seating.{seating_of, levels_of, at_places};
 ghost use Rattle.sm_seats.specs.Correspondence.{IsSeating, worse_ranks_of};
 ghost use Rattle.sm_partners.specs.RegretAnswer.{IsRegretAnswer};
 ghost use Rattle.sm_placed.specs.PlaceWeights.{AreAcceptableAt};
-ghost use Rattle.sm_partners.specs.RegretFound.{IsFound};
+ghost use Rattle.sm_partners.specs.RegretFound.{IsLeastRegretOfSeats};
 
 use crate::least_regret::LeastRegret;
 use sm_answer::{Each, Lines, One, Printed, Then};
@@ -43,7 +43,7 @@ pub fn find_regret(
     ensures { IfOk result (λ found. MatchOption found
         ((places : List (Option ℕ)) → IsStable instance.now places
         → ¬ IsAllowed instance.now places)
-        (λ f. IsFound instance.now seats.now f)) }
+        (λ f. IsLeastRegretOfSeats instance.now seats.now f)) }
 {
     let basis = Basis::of(alloc, seats)?;
     let mut least = least_of(alloc, &basis, seats)?;
@@ -96,9 +96,7 @@ fn ranks_of(
     let places = seats.market().proposer_len(p);
     let mut ranks = Vec::with_capacity(alloc, places as usize)?;
     for i in 0..places {
-        let level = levels[i as usize];
-        let back = instance.rank_back(p, level - 1);
-        ranks.push(back.max(level))?;
+        ranks.push(instance.worse_rank(p, levels[i as usize] - 1))?;
     }
     Ok(ranks)
 }
@@ -116,7 +114,7 @@ pub fn regret_lines<'a>(
 ) -> RegretLines<'a>
     requires input { input.now ≡ Two instance.now }
     requires seating { IsSeating instance.now seats.now }
-    requires found { IsFound instance.now seats.now found.now }
+    requires found { IsLeastRegretOfSeats instance.now seats.now found.now }
     ensures right { (lines : List (List ℕ)) → ⟦<RegretLines<'a> as Lines>⟧.gives result lines
         → IsShown input.now (IsRegretAnswer instance.now) lines }
     ensures some { HasRest (⟦<RegretLines<'a> as Lines>⟧.gives result) }

@@ -16,7 +16,7 @@ use Rattle.sm_seats.specs.Correspondence.{weights_of}
 use Rattle.sm_seats.proofs.SeatingLemmas.{length-at_places}
 use Rattle.sm_seats.proofs.SeatPlaces.{seat_on}
 use Rattle.sm_seats.proofs.MutualLemmas.{mutual_acceptable}
-use Rattle.sm_seats.proofs.WrittenLemmas.{written_is}
+use Rattle.sm_seats.proofs.WrittenLemmas.{written_place-seating}
 use Rattle.sm_seats.proofs.CorrespondenceLaws.{sound_entries}
 use Rattle.sm_theory.specs.Sizes.{AreWeights}
 use Rattle.sm_placed.specs.PlaceWeights.{IsLight, AreLight, AreAcceptableAt}
@@ -26,7 +26,7 @@ pub are_acceptable : {w : Written} {s : Seating} → IsInstance w → s ≡ seat
 are_acceptable {w} {s} instance is p = subst (λ (s : Seating). AreAcceptableAt w s p) (sym is) (λ i on.
     let seat = seat_on (sound_entries instance) p i on in
     let both = mutual_acceptable seat.at.mutual_ in
-    subst (IsAcceptable w p) (sym (ap (entry w.proposers p) (written_is seat.at) ∙ get_or-place_on (written_row w.proposers p) seat.reviewer both.proposer_lists)) both)
+    subst (IsAcceptable w p) (sym (ap (entry w.proposers p) (written_place-seating seat.at) ∙ get_or-place_on (written_row w.proposers p) seat.reviewer both.proposer_lists)) both)
 
 -- the weights of one proposer
 pub weights_at : (by : Measure) (w : Written) (s : Seating) (p : ℕ) → p < length s.market.proposers → get_or (weights_of by w s) p [] ≡ at_places s (λ p i. pair_weight by w p (Some i)) p

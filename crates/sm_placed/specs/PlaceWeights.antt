@@ -1,13 +1,14 @@
 -- The weights of the places of seats.
 use Rattle.std.specs.Prelude.{ℕ, ◌<◌, ◌≤◌, List, ℤ, length, All}
 use Rattle.std.specs.Int.RustNames.{unsigned_abs}
+use Rattle.sm_text.specs.Limits.{most_weight}
 use Rattle.sm_instance.specs.Written.{Written, entry as written_entry, IsAcceptable}
 use Rattle.sm_market.specs.Lists.{row}
 use Rattle.sm_seats.specs.Seating.{Seating, written_place}
 
--- a weight is at most a thousand million in size
+-- a weight is of a size that a text can give
 abbrev pub IsLight : ℤ → Type 0
-IsLight weight = unsigned_abs weight ≤ 1000000000
+IsLight weight = unsigned_abs weight ≤ most_weight
 
 -- all weights of all proposers are light
 abbrev pub AreLight : List (List ℤ) → Type 0

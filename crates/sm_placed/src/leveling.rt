@@ -1,7 +1,8 @@
 //! Conditions by levels.
 
 ghost use Rattle.std.specs.Prelude.{◌≡◌, ℕ, ◌+◌, ◌<◌, length, IfOk};
-ghost use Rattle.sm_instance.specs.Sound.{IsPairOf, pair_at};
+ghost use Rattle.sm_instance.specs.Sound.{IsPairOf};
+ghost use Rattle.sm_lists.specs.Pairs.{pair_at};
 ghost use Rattle.sm_instance.specs.Written.{place_of};
 ghost use Rattle.sm_seats.specs.Correspondence.{leveled};
 

@@ -1,7 +1,6 @@
 //! The weights of the places of an instance's seats.
 
 ghost use Rattle.std.specs.Prelude.{◌≡◌, ◌<◌, All, length, IfOk, Some};
-ghost use Rattle.sm_instance.specs.Written.{row, entry, given_weight, IsAcceptable};
 ghost use Rattle.sm_instance.specs.Ranks.{pair_weight};
 ghost use Rattle.sm_market.specs.Lists.{row as market_row};
 ghost use Rattle.sm_market.specs.Vectors.{rows_of};
@@ -62,37 +61,7 @@ fn weights_at(
     let places = seats.market().proposer_len(p);
     let mut weights = Vec::with_capacity(alloc, places as usize)?;
     for i in 0..places {
-        weights.push(pair_weight(instance, by, p, levels[i as usize] - 1))?;
+        weights.push(instance.pair_weight(p, levels[i as usize] - 1, by))?;
     }
     Ok(weights)
-}
-
-/// The weight of a proposer and the reviewer at a place of its list, who are acceptable to each other.
-fn pair_weight(instance: &Instance, by: Measure, p: u32, place: u32) -> i64
-    requires in_range { p < length instance.now.proposers }
-    requires on_list { place < length (row instance.now.proposers p) }
-    requires acceptable { IsAcceptable instance.now p (entry instance.now.proposers p place) }
-    ensures weight { result ≡ pair_weight by instance.now p (Some place) }
-    ensures light { IsLight result }
-{
-    match by {
-        Measure::Ranks => {
-            let back = instance.rank_back(p, place);
-            i64::from(place + 1 + back)
-        }
-        Measure::Given => given_weight(instance, p, instance.reviewer_at(p, place)),
-    }
-}
-
-/// The weight that is given to a pair, without a look where no pair has one.
-fn given_weight(instance: &Instance, p: u32, r: u32) -> i64
-    requires proposer { p < length instance.now.proposers }
-    requires reviewer { r < length instance.now.reviewers }
-    ensures weight { result ≡ given_weight instance.now p r }
-    ensures light { IsLight result }
-{
-    if instance.weights().is_empty() {
-        return 0;
-    }
-    instance.weight(p, r)
 }

@@ -15,8 +15,8 @@ use Rattle.sm_theory.proofs.Bridge.Chain.{chain_of, stage_stable}
 use Rattle.sm_poset.specs.Moves.{IsMove}
 
 -- the pair of p is p's
-pub pair_is : (rotation : List (ℕ × ℕ)) (p : ℕ) → pair_of rotation p < length rotation → proposer_at rotation (pair_of rotation p) ≡ p
-pair_is rotation p h = eqb-true _ _ (passes_at_first (λ pair. pair.0 == p) rotation (0, 0) h)
+pub proposer_at-pair_of : (rotation : List (ℕ × ℕ)) (p : ℕ) → pair_of rotation p < length rotation → proposer_at rotation (pair_of rotation p) ≡ p
+proposer_at-pair_of rotation p h = eqb-true _ _ (passes_at_first (λ pair. pair.0 == p) rotation (0, 0) h)
 
 module _ {l : Lists} (h : IsMarket l) {first : Places} {rotations : List (List (ℕ × ℕ))} (chain : IsCompleteChain l first rotations) where
   -- the proposers of the rotations are in range
@@ -34,7 +34,7 @@ module _ {l : Lists} (h : IsMarket l) {first : Places} {rotations : List (List (
   pub move_holds : (p k i : ℕ) → k < length rotations → IsMove l rotations p k i → held (stage l first rotations (suc k)).proposers p ≡ Some i
   move_holds p k i a w =
       let there : held (stage l first rotations (suc k)).proposers p ≡ Some (place_of l.proposers p (target_at (rotation_at rotations k) (pair_of (rotation_at rotations k) p))) =
-      rw (pair_is (rotation_at rotations k) p w.moved) at (holds_after k (pair_of (rotation_at rotations k) p) a w.moved) in
+      rw (proposer_at-pair_of (rotation_at rotations k) p w.moved) at (holds_after k (pair_of (rotation_at rotations k) p) a w.moved) in
       there ∙ ap Some (sym w.place)
 
   -- and so it stands
@@ -47,7 +47,7 @@ module _ {l : Lists} (h : IsMarket l) {first : Places} {rotations : List (List (
 
   -- a move in terms of cycles
   pub moves_of_move : (p k i : ℕ) → IsMove l rotations p k i → Moves (cycle_of (rotation_at rotations k)) p
-  moves_of_move p k i w = rw (pair_is (rotation_at rotations k) p w.moved) at (moves_at (cycle_of (rotation_at rotations k)) (pair_of (rotation_at rotations k) p) w.moved)
+  moves_of_move p k i w = rw (proposer_at-pair_of (rotation_at rotations k) p w.moved) at (moves_at (cycle_of (rotation_at rotations k)) (pair_of (rotation_at rotations k) p) w.moved)
 
   -- later moves lead further down
   pub further : (p j k a b : ℕ) → j < k → k < length rotations → IsMove l rotations p j a → IsMove l rotations p k b → a < b

@@ -9,9 +9,9 @@ use Rattle.sm_lists.proofs.ItemLemmas.{push_cases}
 use Rattle.sm_market.proofs.CycleLemmas.{AreDistinct, pair_at_is}
 use Rattle.sm_theory.specs.Rotations.{proposer_at, target_at, pair_of}
 use Rattle.sm_theory.specs.Chains.{rotation_at, stage, IsCompleteChain}
-use Rattle.sm_poset.specs.Moves.{IsMove, rotation_of, place_to, AreMovesOf, GoDown}
-use Rattle.sm_poset.specs.Kept.{moves_at, IsMovedOn}
-use Rattle.sm_poset.proofs.ChainLemmas.{pair_is, move_holds, move_on_list, further}
+use Rattle.sm_poset.specs.Moves.{IsMove, rotation_of, place_to, AreMovesOf, GoDown, moves_at}
+use Rattle.sm_poset.specs.Kept.{AreMovesAfter}
+use Rattle.sm_poset.proofs.ChainLemmas.{proposer_at-pair_of, move_holds, move_on_list, further}
 
 -- nothing moves before the first rotation
 pub no_moves_yet : (l : Lists) (rotations : List (List (ℕ × ℕ))) (p : ℕ) → AreMovesOf l rotations 0 p []
@@ -81,8 +81,8 @@ some_in_range places p some = elim (lt_or_le p (length places)) [
 -- the moves of all once one more proposer of a rotation has got one
 pub moved_step : {rotation : List (ℕ × ℕ)} {places : List (Option ℕ)} (lists before : List (List (ℕ × ℕ))) (k i p place : ℕ) (items : List (ℕ × ℕ)) → AreDistinct rotation → i < length rotation
     → proposer_at rotation i ≡ p → p < length lists → items ≡ moves_at lists p ++ (k, place) ∷ [] → Some place ≡ held places p
-    → ((q : ℕ) → IsMovedOn k rotation places i q (moves_at before q) (moves_at lists q))
-    → (q : ℕ) → IsMovedOn k rotation places (i + 1) q (moves_at before q) (moves_at (set lists p items) q)
+    → ((q : ℕ) → AreMovesAfter k rotation places i q (moves_at before q) (moves_at lists q))
+    → (q : ℕ) → AreMovesAfter k rotation places (i + 1) q (moves_at before q) (moves_at (set lists p items) q)
 moved_step {rotation} {places} lists before k i p place items distinct h is lt pushed there w q = elim (eq_or_ne q p) [
   | inl e ↦
       let pair : pair_of rotation q ≡ i = ap (pair_of rotation) (e ∙ sym is) ∙ pair_at_is distinct i h in
@@ -97,7 +97,7 @@ moved_step {rotation} {places} lists before k i p place items distinct h is lt p
       let now : moves_at (set lists p items) q ≡ moves_at lists q = get_or-set_other lists p q items [] ne in
       record {
         one_more = λ g. elim (eq_or_ne (pair_of rotation q) i) [
-          | inl e ↦ absurd (ne (sym (pair_is rotation q (omega arith)) ∙ ap (proposer_at rotation) e ∙ is))
+          | inl e ↦ absurd (ne (sym (proposer_at-pair_of rotation q (omega arith)) ∙ ap (proposer_at rotation) e ∙ is))
           | inr other ↦ now ∙ (w q).one_more (omega arith)
         ];
         same = λ g. now ∙ (w q).same (omega arith);
@@ -107,7 +107,7 @@ moved_step {rotation} {places} lists before k i p place items distinct h is lt p
 module _ {l : Lists} (h : IsMarket l) {first : Places} {rotations : List (List (ℕ × ℕ))} (chain : IsCompleteChain l first rotations) where
   -- the moves once rotation k is eliminated and each of its proposers has got one more
   pub moved_on : {k p : ℕ} {before after : List (ℕ × ℕ)} → k < length rotations → AreMovesOf l rotations k p before
-      → IsMovedOn k (rotation_at rotations k) (stage l first rotations (suc k)).proposers (length (rotation_at rotations k)) p before after
+      → AreMovesAfter k (rotation_at rotations k) (stage l first rotations (suc k)).proposers (length (rotation_at rotations k)) p before after
       → AreMovesOf l rotations (k + 1) p after
   moved_on {k} {p} {before} {after} g w v = elim (lt_or_le (pair_of (rotation_at rotations k) p) (length (rotation_at rotations k))) [
     | inr out ↦ rw (v.same out) (moves_past w out)

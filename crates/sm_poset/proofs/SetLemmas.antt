@@ -21,9 +21,9 @@ use Rattle.sm_theory.proofs.Bridge.Chain.{chain_of, closed_of, Decided-member}
 use Rattle.sm_theory.proofs.Bridge.Places.{row_past}
 use Rattle.sm_theory.proofs.Bridge.Sets.{set_is_of}
 use Rattle.sm_theory.proofs.Chains.Rotations.{sets_are_matchings}
-use Rattle.sm_poset.specs.Moves.{IsMove, rotation_of, place_to, AreMovesOf, IsWorstOf, IsWorstPlace}
+use Rattle.sm_poset.specs.Moves.{IsMove, rotation_of, place_to, AreMovesOf, IsWorstOf, IsWorstPlace, moves_at, AreMoves}
 use Rattle.sm_poset.specs.Posets.{RotationPoset}
-use Rattle.sm_poset.specs.Kept.{AreLeaders, AreMoves, moves_at, IsKept}
+use Rattle.sm_poset.specs.Kept.{AreLeaders, IsKept}
 use Rattle.sm_poset.proofs.ChainLemmas.{move_stands, moves_of_move}
 
 -- p's worst place is no better than i and the places to which members move p, and it is one of these

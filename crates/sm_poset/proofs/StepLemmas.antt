@@ -7,8 +7,8 @@ use Rattle.sm_market.specs.Matching.{Places, held}
 use Rattle.sm_lists.proofs.ItemLemmas.{push_cases}
 use Rattle.sm_theory.specs.Rotations.{proposer_at, target_at, eliminated}
 use Rattle.sm_theory.specs.Chains.{rotation_at, stage, IsCompleteChain}
-use Rattle.sm_poset.specs.Moves.{IsMove, AreMovesOf}
-use Rattle.sm_poset.specs.Kept.{moves_at, AreMoves, AreLeaders, IsMovedOn}
+use Rattle.sm_poset.specs.Moves.{IsMove, AreMovesOf, moves_at, AreMoves}
+use Rattle.sm_poset.specs.Kept.{AreLeaders, AreMovesAfter}
 use Rattle.sm_poset.proofs.ChainLemmas.{in_range, holds_after, move_at}
 use Rattle.sm_poset.proofs.MoveLemmas.{no_moves_yet, moved_on}
 
@@ -50,12 +50,12 @@ module _ {l : Lists} (h : IsMarket l) {first : Places} {rotations : List (List (
 
     -- the moves of all proposers, once those of the rotation have got one more
     pub moves_after : {before after : List (List (ℕ × ℕ))} → AreMoves l rotations k before → length after ≡ length before
-        → ((p : ℕ) → IsMovedOn k pairs n.proposers (length pairs) p (moves_at before p) (moves_at after p)) → AreMoves l rotations (k + 1) after
+        → ((p : ℕ) → AreMovesAfter k pairs n.proposers (length pairs) p (moves_at before p) (moves_at after p)) → AreMoves l rotations (k + 1) after
     moves_after {before} {after} w long each = record {
       one_each = long ∙ w.one_each;
       of = λ p a. moved_on h chain s.less (w.of p a)
-          (subst (λ (x : List (ℕ × ℕ)). IsMovedOn k x (stage l first rotations (suc k)).proposers (length x) p (moves_at before p) (moves_at after p)) s.pairs_are
-          (subst (λ (m : Places). IsMovedOn k pairs m.proposers (length pairs) p (moves_at before p) (moves_at after p)) s.after (each p)));
+          (subst (λ (x : List (ℕ × ℕ)). AreMovesAfter k x (stage l first rotations (suc k)).proposers (length x) p (moves_at before p) (moves_at after p)) s.pairs_are
+          (subst (λ (m : Places). AreMovesAfter k pairs m.proposers (length pairs) p (moves_at before p) (moves_at after p)) s.after (each p)));
     }
 
     -- the leaders, with one for the rotation

@@ -1,25 +1,11 @@
 -- What a `Poset` keeps beside the market and the chain.
-use Rattle.std.specs.Prelude.{◌≡◌, ℕ, ◌<◌, ◌≤◌, ◌++◌, ◌∷◌, [], List, Option, map, length, slice_index_or, unwrap_or, Vec}
-use Rattle.std.specs.declared.alloc.Global.{Global}
+use Rattle.std.specs.Prelude.{◌≡◌, ℕ, ◌<◌, ◌≤◌, ◌++◌, ◌∷◌, [], List, Option, length, slice_index_or, unwrap_or}
 use Rattle.sm_market.specs.Lists.{Lists, row}
 use Rattle.sm_market.specs.Matching.{held}
 use Rattle.sm_theory.specs.Rotations.{pair_of}
 use Rattle.sm_theory.specs.Chains.{AreNeedsOf}
 use Rattle.sm_poset.specs.Posets.{RotationPoset, IsPoset}
-use Rattle.sm_poset.specs.Moves.{IsMove, AreMovesOf}
-
--- what each of the vectors holds
-abbrev pub moves_in : List (Vec (ℕ × ℕ) Global) → List (List (ℕ × ℕ))
-moves_in vectors = map (λ v. v.items) vectors
-
--- the moves of p; none where there is no such proposer
-abbrev pub moves_at : List (List (ℕ × ℕ)) → ℕ → List (ℕ × ℕ)
-moves_at lists p = slice_index_or lists p []
-
--- the moves of each proposer by the first n rotations
-pub record AreMoves (l : Lists) (rotations : List (List (ℕ × ℕ))) (n : ℕ) (lists : List (List (ℕ × ℕ))) : Type 0 where
-  pub one_each : length lists ≡ length l.proposers
-  pub of : (p : ℕ) → p < length l.proposers → AreMovesOf l rotations n p (moves_at lists p)
+use Rattle.sm_poset.specs.Moves.{IsMove, AreMoves}
 
 -- for each of the first n rotations a proposer that it moves, and the place to which it moves that one
 pub record AreLeaders (l : Lists) (rotations : List (List (ℕ × ℕ))) (n : ℕ) (leaders : List (ℕ × ℕ)) : Type 0 where
@@ -37,6 +23,6 @@ pub record IsKept (poset : RotationPoset) (needs : List (List ℕ)) (moves : Lis
 
 -- the moves of p once the proposers of the first i pairs of a rotation have got one more: that of rotation k, to the place
 -- that each holds
-pub record IsMovedOn (k : ℕ) (rotation : List (ℕ × ℕ)) (places : List (Option ℕ)) (i p : ℕ) (before after : List (ℕ × ℕ)) : Type 0 where
+pub record AreMovesAfter (k : ℕ) (rotation : List (ℕ × ℕ)) (places : List (Option ℕ)) (i p : ℕ) (before after : List (ℕ × ℕ)) : Type 0 where
   pub one_more : pair_of rotation p < i → after ≡ before ++ (k, unwrap_or (held places p) 0) ∷ []
   pub same : i ≤ pair_of rotation p → after ≡ before

@@ -1,5 +1,6 @@
 -- Which rotations of a chain move a proposer, and where to.
-use Rattle.std.specs.Prelude.{◌≡◌, ℕ, ◌<◌, ◌≤◌, ◌⊎◌, Bool, List, length, slice_index_or, Contains, Option, None, Some}
+use Rattle.std.specs.Prelude.{◌≡◌, ℕ, ◌<◌, ◌≤◌, ◌⊎◌, Bool, List, [], length, map, slice_index_or, Contains, Option, None, Some, Vec}
+use Rattle.std.specs.declared.alloc.Global.{Global}
 use Rattle.sm_market.specs.Lists.{Lists, row, place_of}
 use Rattle.sm_theory.specs.Rotations.{target_at, pair_of}
 use Rattle.sm_theory.specs.Chains.{rotation_at}
@@ -24,6 +25,19 @@ pub record AreMovesOf (l : Lists) (rotations : List (List (ℕ × ℕ))) (n p : 
   pub sound : (a : ℕ) → a < length moves → rotation_of moves a < n
   pub each : (a : ℕ) → a < length moves → IsMove l rotations p (rotation_of moves a) (place_to moves a)
   pub all : (k i : ℕ) → k < n → IsMove l rotations p k i → Contains moves (k, i)
+
+-- what each of the vectors holds
+abbrev pub moves_in : List (Vec (ℕ × ℕ) Global) → List (List (ℕ × ℕ))
+moves_in vectors = map (λ v. v.items) vectors
+
+-- the moves of p; none where there is no such proposer
+abbrev pub moves_at : List (List (ℕ × ℕ)) → ℕ → List (ℕ × ℕ)
+moves_at lists p = slice_index_or lists p []
+
+-- the moves of each proposer by the first n rotations
+pub record AreMoves (l : Lists) (rotations : List (List (ℕ × ℕ))) (n : ℕ) (lists : List (List (ℕ × ℕ))) : Type 0 where
+  pub one_each : length lists ≡ length l.proposers
+  pub of : (p : ℕ) → p < length l.proposers → AreMovesOf l rotations n p (moves_at lists p)
 
 -- each move leads p to a place on its list, and further down than those before it
 pub record GoDown (l : Lists) (p : ℕ) (moves : List (ℕ × ℕ)) : Type 0 where

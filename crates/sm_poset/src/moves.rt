@@ -1,6 +1,6 @@
 //! The moves of each proposer, found by going down the chain once.
 
-ghost use Rattle.std.specs.Prelude.{◌≡◌, ◌≢◌, ℕ, ◌+◌, ◌<◌, length, replicate, [], IfOk, OnOk, IsSome};
+ghost use Rattle.std.specs.Prelude.{◌≡◌, ◌≢◌, ℕ, ◌<◌, length, replicate, [], IfOk, OnOk, IsSome};
 ghost use Rattle.sm_market.specs.Lists.{IsMarket};
 ghost use Rattle.sm_market.specs.Limits.{IsWithinLimits};
 ghost use Rattle.sm_market.specs.Matching.{held};
@@ -8,7 +8,8 @@ ghost use Rattle.sm_market.specs.Pairing.{IsPairingOf};
 ghost use Rattle.sm_theory.specs.Rotations.{proposer_at};
 ghost use Rattle.sm_theory.specs.Chains.{IsCompleteChain};
 ghost use Rattle.sm_theory.specs.Values.{rotations_of};
-ghost use Rattle.sm_poset.specs.Kept.{moves_in, moves_at, AreMoves, AreLeaders, IsMovedOn};
+ghost use Rattle.sm_poset.specs.Kept.{AreLeaders, AreMovesAfter};
+ghost use Rattle.sm_poset.specs.Moves.{AreMoves, moves_at, moves_in};
 
 use sm_market::{Market, Pairing};
 use sm_rotations::eliminate;
@@ -75,7 +76,7 @@ fn add_moves(
         → IsSome (held m.now.places.proposers (proposer_at rotation.now i)) }
     requires distinct { (i j : ℕ) → i < j → j < length rotation.now → proposer_at rotation.now i
         ≢ proposer_at rotation.now j }
-    ensures { OnOk result ((p : ℕ) → IsMovedOn k rotation.now m.now.places.proposers
+    ensures { OnOk result ((p : ℕ) → AreMovesAfter k rotation.now m.now.places.proposers
         (length rotation.now) p
         (moves_at (moves_in moves.old) p) (moves_at (moves_in moves.new) p)) }
 {

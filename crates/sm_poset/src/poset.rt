@@ -1,17 +1,14 @@
 //! Rotation posets.
 
-ghost use Rattle.std.specs.Prelude.{◌≡◌, ℕ, ◌<◌, ◌↔◌, Bool, List, length, IsTrue, IfOk};
-ghost use Rattle.sm_market.specs.Matching.{Places};
+ghost use Rattle.std.specs.Prelude.{◌≡◌, ◌<◌, ◌↔◌, Bool, List, length, IsTrue, IfOk};
 ghost use Rattle.sm_market.specs.Stable.{IsStable};
 ghost use Rattle.sm_market.specs.Pairing.{IsPairingOf};
 ghost use Rattle.sm_market.specs.Vectors.{rows_of};
-ghost use Rattle.sm_theory.specs.Chains.{IsPrintedChain, AreNeedsOf};
+ghost use Rattle.sm_theory.specs.Chains.{IsPrintedChain, AreNeedsOf, AreNeeds};
 ghost use Rattle.sm_theory.specs.ClosedSets.{IsClosed, matching_of};
 ghost use Rattle.sm_theory.specs.Values.{rotations_of};
-ghost use Rattle.sm_rotations.specs.Graph.{AreNeeds};
 ghost use Rattle.sm_poset.specs.Posets.{RotationPoset, poset_of, IsPoset};
-ghost use Rattle.sm_poset.specs.Kept.{moves_in, AreMoves};
-ghost use Rattle.sm_poset.specs.Moves.{AreMovesOf, GoDown};
+ghost use Rattle.sm_poset.specs.Moves.{AreMoves, moves_in, AreMovesOf, GoDown};
 
 use crate::moves::{Moves, follow};
 use crate::sets::{are_closed, reached, worst_places};
@@ -39,7 +36,8 @@ impl Model for Poset {
     ghost use Rattle.sm_market.specs.Vectors.{rows_of};
     ghost use Rattle.sm_theory.specs.Values.{rotations_of};
     ghost use Rattle.sm_poset.specs.Posets.{RotationPoset, poset_of};
-    ghost use Rattle.sm_poset.specs.Kept.{moves_in, IsKept};
+    ghost use Rattle.sm_poset.specs.Kept.{IsKept};
+    ghost use Rattle.sm_poset.specs.Moves.{moves_in};
 
     ghost Value = { RotationPoset };
 

@@ -6,8 +6,7 @@ ghost use Rattle.sm_market.specs.Vectors.{rows_of};
 ghost use Rattle.sm_market.specs.Matching.{held, standing};
 ghost use Rattle.sm_market.specs.Pairing.{IsPairingOf};
 ghost use Rattle.sm_theory.specs.ClosedSets.{IsMember};
-ghost use Rattle.sm_poset.specs.Moves.{rotation_of, IsWorstOf, IsWorstPlace};
-ghost use Rattle.sm_poset.specs.Kept.{moves_in, moves_at};
+ghost use Rattle.sm_poset.specs.Moves.{rotation_of, IsWorstOf, IsWorstPlace, moves_in, moves_at};
 
 use sm_market::{Market, Pairing};
 use std::alloc::{AllocError, Global};

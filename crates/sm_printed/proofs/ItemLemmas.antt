@@ -2,7 +2,8 @@
 use Rattle.std.proofs.Common.{◌≡◌, ℕ, ◌+◌, ◌-◌, ◌<◌, ◌≤◌, List, [], ◌∷◌, ◌++◌, length, map, get_or, Some, None, codes, sym, ap, ◌∙◌, subst, arith, ℤ, pos}
 use Rattle.std.specs.List.{slice_get}
 use Rattle.sm_instance.specs.Written.{Written, weighed}
-use Rattle.sm_instance.specs.Sound.{IsInstance, IsPairOf, pair_at}
+use Rattle.sm_instance.specs.Sound.{IsInstance, IsPairOf}
+use Rattle.sm_lists.specs.Pairs.{pair_at}
 use Rattle.sm_instance.specs.Named.{SaidPair, SaidWeight}
 use Rattle.sm_instance.specs.declared.inputs.Input.TheVariants.{Two}
 use Rattle.sm_instance.proofs.ItemLemmas.{length-items, item_first, item_second, item_third, pair_at-weighed}

@@ -3,14 +3,10 @@ use Rattle.std.specs.Prelude.{ℕ, ◌<◌, List, length, codes}
 use Rattle.sm_instance.specs.Written.{agent_at}
 use Rattle.sm_instance.specs.Inputs.{kind_of, left_of, right_of}
 use Rattle.sm_instance.specs.declared.inputs.Input.{Input}
-use Rattle.sm_printed.specs.Names.{said_agent, said_pair, said_weight, said_of}
-use Rattle.sm_printed.specs.Printed.{header_line, proposer_line, reviewer_line, weight_line, force_line, forbid_line, printed_lines}
+use Rattle.sm_printed.specs.Names.{said_agent, said_pair, said_weight}
+use Rattle.sm_printed.specs.Printed.{header_line, proposer_line, reviewer_line, weight_line, force_line, forbid_line}
 use Rattle.sm_printed.specs.declared.finding.InstanceLine.{InstanceLine}
 use Rattle.sm_printed.specs.declared.finding.InstanceLine.TheVariants.{Header, Proposer, Reviewer, Weight, Force, Forbid, End}
-
--- the lines of an instance that is printed
-abbrev pub lines_of : Input → List (List ℕ)
-lines_of input = printed_lines (kind_of input) (said_of input)
 
 -- the text of a line, without its end
 abbrev pub line_text : Input → InstanceLine → List ℕ

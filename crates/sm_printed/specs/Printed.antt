@@ -5,7 +5,10 @@ use Rattle.std.specs.Fmt.{signed_decimal}
 use Rattle.sm_instance.specs.Named.{SaidAgent, SaidPair, SaidWeight, Said}
 use Rattle.sm_instance.specs.declared.kinds.Kind.{Kind}
 use Rattle.sm_instance.specs.declared.kinds.Kind.TheVariants.{Marriage, Hospitals, Roommates}
+use Rattle.sm_instance.specs.Inputs.{kind_of}
+use Rattle.sm_instance.specs.declared.inputs.Input.{Input}
 use Rattle.sm_report.specs.Fields.{spaced}
+use Rattle.sm_printed.specs.Names.{said_of}
 
 -- the header of each kind
 abbrev pub header_line : Kind → List ℕ
@@ -58,3 +61,7 @@ agent_lines kind said = map proposer_line said.proposers ++ (map (reviewer_line 
 -- all lines, each without its end
 abbrev pub printed_lines : Kind → Said → List (List ℕ)
 printed_lines kind said = header_line kind ∷ agent_lines kind said
+
+-- the lines of an instance that is printed
+abbrev pub lines_of : Input → List (List ℕ)
+lines_of input = printed_lines (kind_of input) (said_of input)

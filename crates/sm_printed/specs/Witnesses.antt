@@ -3,7 +3,7 @@ use Rattle.std.specs.Prelude.{◌≡◌, ℕ, List, [], ◌∷◌, pos, negsuc, 
 use Rattle.sm_instance.specs.Written.{AgentData, Written}
 use Rattle.sm_instance.specs.declared.kinds.Kind.TheVariants.{Marriage, Hospitals}
 use Rattle.sm_instance.specs.declared.inputs.Input.TheVariants.{Two, Room}
-use Rattle.sm_printed.specs.Lines.{lines_of}
+use Rattle.sm_printed.specs.Printed.{lines_of}
 
 -- an agent with a name, a capacity and a list
 abbrev pub agent : List ℕ → ℕ → List ℕ → AgentData

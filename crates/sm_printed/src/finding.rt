@@ -4,8 +4,8 @@ ghost use Rattle.std.specs.Prelude.{◌≡◌, ◌<◌, ◌^◌, length, slice_g
 ghost use Rattle.std.specs.Option.{option_map};
 ghost use Rattle.sm_instance.specs.declared.kinds.Kind.TheVariants.{Roommates};
 ghost use Rattle.sm_instance.specs.declared.inputs.Input.TheVariants.{Two, Room};
-ghost use Rattle.sm_printed.specs.Lines.{lines_of, line_text, NamesAgents};
-ghost use Rattle.sm_printed.specs.Printed.{agent_lines, item_lines};
+ghost use Rattle.sm_printed.specs.Lines.{line_text, NamesAgents};
+ghost use Rattle.sm_printed.specs.Printed.{lines_of, agent_lines, item_lines};
 ghost use Rattle.sm_printed.specs.Names.{said_of};
 
 use sm_instance::{Input, Instance, Persons};

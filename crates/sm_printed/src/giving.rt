@@ -2,7 +2,7 @@
 
 ghost use Rattle.std.specs.Prelude.{◌≡◌, ℕ, List, length};
 ghost use Rattle.sm_answer.specs.Giving.{HasRest};
-ghost use Rattle.sm_printed.specs.Lines.{lines_of};
+ghost use Rattle.sm_printed.specs.Printed.{lines_of};
 
 use crate::finding::line_count;
 use crate::printing::put_text_at;
@@ -24,7 +24,7 @@ pub struct InstanceLines<'a> {
 
 impl Lines for InstanceLines<'_> {
     ghost use Rattle.std.specs.Prelude.{◌≡◌, ◌-◌, drop};
-    ghost use Rattle.sm_printed.specs.Lines.{lines_of};
+    ghost use Rattle.sm_printed.specs.Printed.{lines_of};
 
     ghost gives = { λ s lines. lines ≡ drop s.next (lines_of s.input.now) };
 

@@ -1,13 +1,13 @@
 //! What is printed for each line of an instance.
 
-ghost use Rattle.std.specs.Prelude.{◌≡◌, ◌≤◌, ◌<◌, ◌-◌, ◌++◌, ◌∷◌, [], length, codes, slice_get};
+ghost use Rattle.std.specs.Prelude.{◌≤◌, ◌<◌, ◌-◌, ◌++◌, ◌∷◌, [], length, slice_get};
 ghost use Rattle.std.specs.Option.{option_map};
 ghost use Rattle.sm_text.specs.Lines.{LF};
-ghost use Rattle.sm_instance.specs.Inputs.{kind_of, left_of, right_of};
+ghost use Rattle.sm_instance.specs.Inputs.{left_of, right_of};
 ghost use Rattle.sm_report.specs.Putting.{PutsText};
 ghost use Rattle.sm_printed.specs.Names.{said_pair, said_weight};
-ghost use Rattle.sm_printed.specs.Printed.{header_line, pair_text, weight_line};
-ghost use Rattle.sm_printed.specs.Lines.{lines_of, line_text, IsPair, NamesAgents};
+ghost use Rattle.sm_printed.specs.Printed.{header_line, pair_text, weight_line, lines_of};
+ghost use Rattle.sm_printed.specs.Lines.{line_text, IsPair, NamesAgents};
 ghost use Rattle.sm_printed.specs.Putting.{PutsIfAny};
 
 use crate::finding::{InstanceLine, line_at};

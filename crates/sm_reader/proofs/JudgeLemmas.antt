@@ -12,7 +12,7 @@ use Rattle.sm_instance.specs.Named.{Said, names_of, agents_on, all_entries}
 use Rattle.sm_reader.specs.declared.forms.Condition.{Condition}
 use Rattle.sm_reader.specs.Forms.{Form, declares, weighs, binds, is_bad, form_behind, is_end, header_of}
 use Rattle.sm_reader.specs.Judging.{Verdict, goes, stops, refuses, passes, heads, faces, heading_of, verdict_on, of_form, fault_of, said_with, is_bad_capacity}
-use Rattle.sm_reader.specs.Kept.{texts_of}
+use Rattle.sm_text.specs.Slices.{texts_of}
 use Rattle.sm_reader.specs.Draft.{run_fault, name_fault, weight_fault, IsLineFault, IsRefusedBy}
 use Rattle.sm_reader.specs.declared.faults.TextFault.{TextFault}
 use Rattle.sm_reader.specs.declared.faults.TextFault.TheVariants.{Refused, OutOfMemory}
@@ -58,21 +58,21 @@ two_rows false true k l rest = refl
 two_rows false false k l rest = refl
 
 -- the faults of an agent's line, in two parts
-pub agent_faults : (said : Said) (side : Side) (name : List ℕ) (capacity : Option (List ℕ)) (entries : List (List ℕ))
+pub fault_of-declares : (said : Said) (side : Side) (name : List ℕ) (capacity : Option (List ℕ)) (entries : List (List ℕ))
     → fault_of said (declares side name capacity entries)
     ≡ option_or (run_fault name capacity entries) (name_fault (names_of (agents_on side said)) name entries (length (agents_on side said)) (all_entries said))
 unfolding fault_of
-agent_faults said side name capacity entries = two_rows (not (list_all is_name (name ∷ entries))) (is_bad_capacity capacity) _ _ _
+fault_of-declares said side name capacity entries = two_rows (not (list_all is_name (name ∷ entries))) (is_bad_capacity capacity) _ _ _
 
 -- the fault of a weight's line
-pub weight_faults : (said : Said) (p r w : List ℕ) → fault_of said (weighs p r w) ≡ weight_fault said.weights p r w
+pub fault_of-weighs : (said : Said) (p r w : List ℕ) → fault_of said (weighs p r w) ≡ weight_fault said.weights p r w
 unfolding fault_of
-weight_faults said p r w = refl
+fault_of-weighs said p r w = refl
 
 -- the fault of a pair of which something is asked
-pub pair_fault : (said : Said) (condition : Condition) (p r : List ℕ) (t : Bool) → list_all is_name (p ∷ r ∷ []) ≡ t → fault_of said (binds condition p r) ≡ cond (not t) (Some BadName) None
+pub fault_of-binds : (said : Said) (condition : Condition) (p r : List ℕ) (t : Bool) → list_all is_name (p ∷ r ∷ []) ≡ t → fault_of said (binds condition p r) ≡ cond (not t) (Some BadName) None
 unfolding fault_of
-pair_fault said condition p r t e = ap (λ b. cond (not b) (Some BadName) None) e
+fault_of-binds said condition p r t e = ap (λ b. cond (not b) (Some BadName) None) e
 
 -- a line whose form has a fault is refused for it
 pub refused_line : (said : Said) (line : ℕ) (form : Form) (verdict : Verdict) → verdict ≡ of_form said line (Some form) → (f : TextFault) → IsLineFault (fault_of said form) line f → IsRefusedBy verdict line f
@@ -80,20 +80,20 @@ refused_line said line form verdict same (Refused kind at) h = (same ∙ by_faul
 refused_line said line form verdict same OutOfMemory h = tt
 
 -- the heading that stands on a line
-pub heading_empty : (xs : List (Bor (List ℕ))) → length xs < 1 → heading_of (texts_of xs) ≡ passes
+pub heading_of-empty : (xs : List (Bor (List ℕ))) → length xs < 1 → heading_of (texts_of xs) ≡ passes
 unfolding heading_of
-heading_empty [] h = refl
-heading_empty (x ∷ xs) h = absurd (omega arith)
+heading_of-empty [] h = refl
+heading_of-empty (x ∷ xs) h = absurd (omega arith)
 
 -- a bad byte comes first
-pub heading_bad : (xs : List (Bor (List ℕ))) → 1 ≤ length xs → list_any is_bad (texts_of xs) ≡ true → heading_of (texts_of xs) ≡ faces BadByte
+pub heading_of-bad : (xs : List (Bor (List ℕ))) → 1 ≤ length xs → list_any is_bad (texts_of xs) ≡ true → heading_of (texts_of xs) ≡ faces BadByte
 unfolding heading_of
-heading_bad [] h bad = absurd (omega arith)
-heading_bad (x ∷ xs) h bad = rw bad refl
+heading_of-bad [] h bad = absurd (omega arith)
+heading_of-bad (x ∷ xs) h bad = rw bad refl
 
 -- else the line has to be the header
-pub heading_form : (xs : List (Bor (List ℕ))) → 1 ≤ length xs → list_any is_bad (texts_of xs) ≡ false
+pub heading_of-form : (xs : List (Bor (List ℕ))) → 1 ≤ length xs → list_any is_bad (texts_of xs) ≡ false
     → heading_of (texts_of xs) ≡ option_map_or (λ (kind : Kind). heads kind) (header_of (texts_of xs)) (faces BadHeader)
 unfolding heading_of
-heading_form [] h bad = absurd (omega arith)
-heading_form (x ∷ xs) h bad = rw bad refl
+heading_of-form [] h bad = absurd (omega arith)
+heading_of-form (x ∷ xs) h bad = rw bad refl

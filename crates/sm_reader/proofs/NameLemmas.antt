@@ -9,7 +9,8 @@ use Rattle.sm_text.specs.Name.{is_name, is_name_byte}
 use Rattle.sm_text.specs.Tokens.{begins_run}
 use Rattle.sm_instance.specs.declared.kinds.Kind.{Kind}
 use Rattle.sm_reader.specs.Forms.{form_behind}
-use Rattle.sm_reader.specs.Kept.{texts_of, AreNamesAtEnd}
+use Rattle.sm_reader.specs.Kept.{AreNamesAtEnd}
+use Rattle.sm_text.specs.Slices.{texts_of}
 use Rattle.sm_reader.proofs.WholeLemmas.{and_left, and_right, listed, list_behind}
 
 module _ (names : ℕ) where

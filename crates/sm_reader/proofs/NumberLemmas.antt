@@ -7,7 +7,7 @@ use Rattle.std.proofs.lemmas.List.{length-map, length-take-le, get_or-map, map_p
 use Rattle.std.proofs.lemmas.List.Elements.{filter-append}
 use Rattle.std.proofs.lemmas.List.Folds.{list_any-append, list_any_at}
 use Rattle.sm_text.specs.Limits.{most_agents}
-use Rattle.sm_instance.specs.Vectors.{agents_of, written_of, written_in}
+use Rattle.sm_instance.specs.Vectors.{agents_of, written_from, written_in}
 use Rattle.sm_instance.specs.Written.{AgentData, Written}
 use Rattle.sm_instance.specs.declared.agents.Agent.{Agent}
 use Rattle.sm_instance.specs.declared.kinds.Kind.{Kind}
@@ -197,7 +197,7 @@ persons_said line d draft persons are = are ∙ ap (λ ns. map (numbered ns) (sa
 
 -- and so are the two sides
 pub sides_said : (kind : Kind) (line : ℕ) (d : Draft) → IsDraft kind line d → kind ≢ Roommates → (sides : Parts) → NumbersSides d sides
-    → written_of kind sides.proposers.items sides.reviewers.items sides.weights.items sides.forced.items sides.forbidden.items ≡ two_sides kind (said_of kind d)
+    → written_from kind sides.proposers.items sides.reviewers.items sides.weights.items sides.forced.items sides.forbidden.items ≡ two_sides kind (said_of kind d)
 sides_said kind line d draft other n are =
     let said = said_of kind d in
     let p = d.proposer_names in
@@ -210,7 +210,7 @@ sides_said kind line d draft other n are =
       forced = map (pair_among ps rs) said.forced;
       forbidden = map (pair_among ps rs) said.forbidden;
     } in
-    let first : written_of kind n.proposers.items n.reviewers.items n.weights.items n.forced.items n.forbidden.items ≡ sides p.declared r.declared r.texts =
+    let first : written_from kind n.proposers.items n.reviewers.items n.weights.items n.forced.items n.forbidden.items ≡ sides p.declared r.declared r.texts =
     five kind are.proposers are.reviewers are.weights are.forced are.forbidden in
     first
     ∙ ap (λ (t : Table). sides p.declared r.declared t.texts) (sym (other_table kind d.proposer_names d.reviewer_names other))
@@ -225,7 +225,7 @@ sides_said kind line d draft other n are =
 -- the numbered parts of a draft make the two sides that it says
 pub parts_said : (kind : Kind) (line : ℕ) (d : Draft) → IsDraft kind line d → kind ≢ Roommates → (parts : Parts) → parts.kind ≡ kind → NumbersSides d parts → written_in parts ≡ two_sides kind (said_of kind d)
 parts_said kind line d draft other parts same are =
-    ap (λ k. written_of k parts.proposers.items parts.reviewers.items parts.weights.items parts.forced.items parts.forbidden.items) same ∙ sides_said kind line d draft other parts are
+    ap (λ k. written_from k parts.proposers.items parts.reviewers.items parts.weights.items parts.forced.items parts.forbidden.items) same ∙ sides_said kind line d draft other parts are
 
 -- few names are declared
 pub few_names : (kind : Kind) (line : ℕ) (d : Draft) → IsDraft kind line d → (length d.proposer_names.declared ≤ most_agents) × (length d.reviewer_names.declared ≤ most_agents)

@@ -18,7 +18,7 @@ use Rattle.sm_reader.specs.declared.forms.Condition.TheVariants.{Force, Forbid}
 use Rattle.sm_reader.specs.Forms.{declares, weighs, binds}
 use Rattle.sm_reader.specs.Judging.{fault_of, said_with, with_agent, weight_in}
 use Rattle.sm_reader.specs.Kept.{text_at}
-use Rattle.sm_reader.specs.Draft.{listed_table, agent_in, pair_in, given_in, said_of, IsPairBelow, ArePairsBelow, pairs_of, key_of, IsDraft, Adds, AddsAgent, IsChecked, IsLineFault, RefusesFor, run_fault, name_fault, weight_fault, weights_in, table_on, declared_on, PairsOf, PutsWeight, PutsPair, Binds}
+use Rattle.sm_reader.specs.Draft.{listed_table, agent_in, pair_in, given_in, said_of, IsPairBelow, ArePairsBelow, pairs_of, key_of, IsDraft, AddsForm, AddsAgent, AreRunsRight, IsLineFault, RefusesFor, run_fault, name_fault, weight_fault, weights_in, table_on, declared_on, PairsOf, PutsWeight, PutsPair, Binds}
 use Rattle.sm_reader.specs.declared.draft.Declared.{Declared}
 use Rattle.sm_reader.specs.declared.draft.Pair.{Pair}
 use Rattle.sm_reader.specs.declared.draft.Weight.{Weight}
@@ -29,7 +29,7 @@ use Rattle.sm_reader.proofs.TextLemmas.{same_text, other_text}
 use Rattle.sm_reader.proofs.TableLemmas.{distinct_index, cases_eq}
 use Rattle.sm_reader.proofs.ListingLemmas.{extends_long}
 use Rattle.sm_reader.proofs.DraftLemmas.{agents_kept, agents_below_more, pairs_kept, weights_kept, pairs_below_more, pairs_below_push, said_same, listed_more}
-use Rattle.sm_reader.proofs.JudgeLemmas.{agent_faults, weight_faults, pair_fault}
+use Rattle.sm_reader.proofs.JudgeLemmas.{fault_of-declares, fault_of-weighs, fault_of-binds}
 use Rattle.sm_reader.proofs.AddLemmas.{Grown}
 
 module _ (kind : Kind) (line : ℕ) (d mid : Draft) (proposer reviewer : List ℕ) (pair : Pair) (draft : IsDraft kind line d) (paired : PairsOf d mid proposer reviewer line pair) where
@@ -121,14 +121,14 @@ module _ (kind : Kind) (line : ℕ) (d mid : Draft) (proposer reviewer : List �
       subst (ArePairsBelow p r) (sym pushed) (pairs_below_push p r xs pair (below_still xs inside) pair_below)
 
   -- something is asked of a pair
-  pair_added : (condition : Condition) (new : Draft) → PutsPair condition mid new pair → Adds kind line (binds condition proposer reviewer) d new
+  pair_added : (condition : Condition) (new : Draft) → PutsPair condition mid new pair → AddsForm kind line (binds condition proposer reviewer) d new
   unfolding said_with
   pair_added Force new puts =
       let e : Draft = record d { forced = new.forced } in
       let all : new ≡ with_pairs e = puts.changes ∙ ap (λ (x : Draft). record x { forced = new.forced }) paired.changes in
       let pushed : new.forced.items ≡ d.forced.items ++ pair ∷ [] = puts.pairs ∙ ap (λ (x : Draft). x.forced.items ++ pair ∷ []) paired.changes in
       record {
-        faultless = pair_fault (said_of kind d) Force proposer reviewer true paired.are_names;
+        faultless = fault_of-binds (said_of kind d) Force proposer reviewer true paired.are_names;
         said = ap (said_of kind) all ∙ said_same agents_same others_same weights_same
             (pushed_said d.forced.items new.forced.items draft.forced_in pushed)
             (pairs_same d.forbidden.items draft.forbidden_in);
@@ -144,7 +144,7 @@ module _ (kind : Kind) (line : ℕ) (d mid : Draft) (proposer reviewer : List �
       let all : new ≡ with_pairs e = puts.changes ∙ ap (λ (x : Draft). record x { forbidden = new.forbidden }) paired.changes in
       let pushed : new.forbidden.items ≡ d.forbidden.items ++ pair ∷ [] = puts.pairs ∙ ap (λ (x : Draft). x.forbidden.items ++ pair ∷ []) paired.changes in
       record {
-        faultless = pair_fault (said_of kind d) Forbid proposer reviewer true paired.are_names;
+        faultless = fault_of-binds (said_of kind d) Forbid proposer reviewer true paired.are_names;
         said = ap (said_of kind) all ∙ said_same agents_same others_same weights_same
             (pairs_same d.forced.items draft.forced_in)
             (pushed_said d.forbidden.items new.forbidden.items draft.forbidden_in pushed);
@@ -158,12 +158,12 @@ module _ (kind : Kind) (line : ℕ) (d mid : Draft) (proposer reviewer : List �
 
 -- a condition is added
 pub condition_added : (kind : Kind) (line : ℕ) (d new : Draft) (condition : Condition) (proposer reviewer : List ℕ) → IsDraft kind line d → Binds condition d new proposer reviewer line
-    → Adds kind line (binds condition proposer reviewer) d new
+    → AddsForm kind line (binds condition proposer reviewer) d new
 condition_added kind line d new condition proposer reviewer draft bound =
     pair_added kind line d bound.mid proposer reviewer bound.pair draft bound.paired condition new bound.puts
 
 -- a pair gets its weight
-pub weight_added : (kind : Kind) (line : ℕ) (d new : Draft) (proposer reviewer run : List ℕ) → IsDraft kind line d → PutsWeight d new proposer reviewer run line → Adds kind line (weighs proposer reviewer run) d new
+pub weight_added : (kind : Kind) (line : ℕ) (d new : Draft) (proposer reviewer run : List ℕ) → IsDraft kind line d → PutsWeight d new proposer reviewer run line → AddsForm kind line (weighs proposer reviewer run) d new
 unfolding said_with
 weight_added kind line d new proposer reviewer run draft puts =
     let mid = puts.mid in
@@ -178,7 +178,7 @@ weight_added kind line d new proposer reviewer run draft puts =
     ap (λ x. record { pair = x; weight = w.weight }) (pair_is kind line d mid proposer reviewer w.pair draft paired)
     ∙ ap (λ z. record { pair = record { proposer = proposer; reviewer = reviewer; line = line }; weight = unwrap_or z (pos 0) }) (sym puts.weight) in
     record {
-      faultless = weight_faults (said_of kind d) proposer reviewer run ∙ puts.faultless;
+      faultless = fault_of-weighs (said_of kind d) proposer reviewer run ∙ puts.faultless;
       said = ap (said_of kind) all ∙ said_same
           (agents_same kind line d mid proposer reviewer w.pair draft paired)
           (others_same kind line d mid proposer reviewer w.pair draft paired)
@@ -237,12 +237,12 @@ module _ (kind : Kind) (line : ℕ) (d : Draft) (side : Side) (name : List ℕ) 
   later_faults : run_fault name capacity entries ≡ None → fault_of (said_of kind d) (declares side name capacity entries) ≡ name_fault (table_on side d).declared name entries (length (declared_on side d)) d.entries
   later_faults right =
       let said = said_of kind d in
-      agent_faults said side name capacity entries
+      fault_of-declares said side name capacity entries
       ∙ ap (λ o. option_or o (name_fault (names_of (agents_on side said)) name entries (length (agents_on side said)) (all_entries said))) right
       ∙ name_fault_same kind line d side name entries draft
 
   -- an agent whose runs are right, and its names, is added
-  pub adds_agent : (n : ℕ) (new : Draft) → IsChecked name capacity entries n → AddsAgent kind line side name n entries d new → Adds kind line (declares side name capacity entries) d new
+  pub adds_agent : (n : ℕ) (new : Draft) → AreRunsRight name capacity entries n → AddsAgent kind line side name n entries d new → AddsForm kind line (declares side name capacity entries) d new
   unfolding said_with
   adds_agent n new checked adds = record {
     faultless = later_faults checked.faultless ∙ adds.faultless;
@@ -251,7 +251,7 @@ module _ (kind : Kind) (line : ℕ) (d : Draft) (side : Side) (name : List ℕ) 
   }
 
   -- or it is refused for its names or the limits
-  pub agent_refused : (n : ℕ) (f : TextFault) → IsChecked name capacity entries n → IsLineFault (name_fault (table_on side d).declared name entries (length (declared_on side d)) d.entries) line f
+  pub agent_refused : (n : ℕ) (f : TextFault) → AreRunsRight name capacity entries n → IsLineFault (name_fault (table_on side d).declared name entries (length (declared_on side d)) d.entries) line f
       → IsLineFault (fault_of (said_of kind d) (declares side name capacity entries)) line f
   agent_refused n f checked h = subst (λ o. IsLineFault o line f) (sym (later_faults checked.faultless)) h
 
@@ -259,7 +259,7 @@ module _ (kind : Kind) (line : ℕ) (d : Draft) (side : Side) (name : List ℕ) 
   pub runs_refused : (f : TextFault) → IsLineFault (run_fault name capacity entries) line f → IsLineFault (fault_of (said_of kind d) (declares side name capacity entries)) line f
   runs_refused (Refused k at) h =
       let said = said_of kind d in (
-        agent_faults said side name capacity entries
+        fault_of-declares said side name capacity entries
             ∙ ap (λ o. option_or o (name_fault (names_of (agents_on side said)) name entries (length (agents_on side said)) (all_entries said))) h.0,
         h.1,
       )
@@ -268,7 +268,7 @@ module _ (kind : Kind) (line : ℕ) (d : Draft) (side : Side) (name : List ℕ) 
 -- a pair is refused where one of its runs is no name
 pub pair_refused : (said : Said) (line : ℕ) (condition : Condition) (p r : List ℕ) (f : TextFault) → RefusesFor BadName line (list_all is_name (p ∷ r ∷ []) ≡ false) f
     → IsLineFault (fault_of said (binds condition p r)) line f
-pair_refused said line condition p r (Refused k at) h = (pair_fault said condition p r false h.2 ∙ sym (ap Some h.0), h.1)
+pair_refused said line condition p r (Refused k at) h = (fault_of-binds said condition p r false h.2 ∙ sym (ap Some h.0), h.1)
 pair_refused said line condition p r OutOfMemory h = tt
 
 -- a pair is weighed already, by index and by name

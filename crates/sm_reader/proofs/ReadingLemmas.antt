@@ -64,14 +64,14 @@ same_fault a b (Refused kind at) e h = e ∙ h
 same_fault a b OutOfMemory e h = tt
 
 -- the whole text
-pub too_long : (bytes : List ℕ) → most_bytes < length bytes → instance_text bytes ≡ Err (TooLong, 0)
+pub instance_text-too_long : (bytes : List ℕ) → most_bytes < length bytes → instance_text bytes ≡ Err (TooLong, 0)
 unfolding instance_text
-too_long bytes h = let e : nat_lt most_bytes (length bytes) ≡ true = grind (arith, nat_tests) in rw e refl
+instance_text-too_long bytes h = let e : nat_lt most_bytes (length bytes) ≡ true = grind (arith, nat_tests) in rw e refl
 
 -- a text that isn't too long means what its lines do
-pub short_text : (bytes : List ℕ) → length bytes ≤ most_bytes → instance_text bytes ≡ before_header 1 0 (lines bytes)
+pub instance_text-short : (bytes : List ℕ) → length bytes ≤ most_bytes → instance_text bytes ≡ before_header 1 0 (lines bytes)
 unfolding instance_text
-short_text bytes h = let e : nat_lt most_bytes (length bytes) ≡ false = grind (arith, nat_tests) in rw e refl
+instance_text-short bytes h = let e : nat_lt most_bytes (length bytes) ≡ false = grind (arith, nat_tests) in rw e refl
 
 -- a fault of the lines is one of the text
 pub text_fault : (bytes : List ℕ) (meaning : Result ReadText Refusal) (f : TextFault) → instance_text bytes ≡ meaning → IsFaultOf meaning f → IsTextFault bytes f

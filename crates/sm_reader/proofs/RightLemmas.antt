@@ -29,7 +29,7 @@ use Rattle.sm_reader.specs.Judging.{goes, stops, refuses, verdict_on, of_form, f
 use Rattle.sm_reader.specs.Draft.{run_fault, name_fault, weight_fault, limit_fault}
 use Rattle.sm_reader.specs.Right.{IsRightAgent, IsRight}
 use Rattle.sm_reader.proofs.TextLemmas.{same_text}
-use Rattle.sm_reader.proofs.JudgeLemmas.{agent_faults, weight_faults}
+use Rattle.sm_reader.proofs.JudgeLemmas.{fault_of-declares, fault_of-weighs}
 use Rattle.sm_reader.proofs.AddLemmas.{within_limits}
 
 -- a line that goes says nothing, or has a form without a fault
@@ -248,7 +248,7 @@ agent_right : (kind : Kind) (said : Said) (line : ℕ) (side : Side) (name : Lis
     → fault_of said (declares side name capacity entries) ≡ None → IsRight kind (said_with said line (declares side name capacity entries))
 unfolding said_with
 agent_right kind said line Proposers name capacity entries right single none =
-    let parts = both_none (run_fault name capacity entries) (name_fault (names_of said.proposers) name entries (length said.proposers) (all_entries said)) (sym (agent_faults said Proposers name capacity entries) ∙ none) in
+    let parts = both_none (run_fault name capacity entries) (name_fault (names_of said.proposers) name entries (length said.proposers) (all_entries said)) (sym (fault_of-declares said Proposers name capacity entries) ∙ none) in
     let runs = run_parts name capacity entries parts.0 in
     let names = name_parts (names_of said.proposers) name entries (length said.proposers) (all_entries said) parts.1 in
     let fits = within_limits (length said.proposers) (all_entries said) (length entries) names.2 in
@@ -270,7 +270,7 @@ agent_right kind said line Proposers name capacity entries right single none =
       weights_differ = right.weights_differ;
     }
 agent_right kind said line Reviewers name capacity entries right single none =
-    let parts = both_none (run_fault name capacity entries) (name_fault (names_of said.reviewers) name entries (length said.reviewers) (all_entries said)) (sym (agent_faults said Reviewers name capacity entries) ∙ none) in
+    let parts = both_none (run_fault name capacity entries) (name_fault (names_of said.reviewers) name entries (length said.reviewers) (all_entries said)) (sym (fault_of-declares said Reviewers name capacity entries) ∙ none) in
     let runs = run_parts name capacity entries parts.0 in
     let names = name_parts (names_of said.reviewers) name entries (length said.reviewers) (all_entries said) parts.1 in
     let fits = within_limits (length said.reviewers) (all_entries said) (length entries) names.2 in
@@ -296,7 +296,7 @@ agent_right kind said line Reviewers name capacity entries right single none =
 weight_right : (kind : Kind) (said : Said) (line : ℕ) (p r run : List ℕ) → IsRight kind said → fault_of said (weighs p r run) ≡ None → IsRight kind (said_with said line (weighs p r run))
 unfolding said_with
 weight_right kind said line p r run right none =
-    let parts = weight_parts said.weights p r run (sym (weight_faults said p r run) ∙ none) in
+    let parts = weight_parts said.weights p r run (sym (fault_of-weighs said p r run) ∙ none) in
     let w : SaidWeight = record { pair = record { proposer = p; reviewer = r; line = line }; weight = unwrap_or (weight_in run) (pos 0) } in
     record {
       proposers = right.proposers;

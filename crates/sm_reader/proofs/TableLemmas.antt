@@ -222,8 +222,8 @@ pub number_here : (t m : Table) (name : List ℕ) (i : ℕ) → Interns t m name
 number_here t m name i at {x} here = sym (number_at m i x at.table at.in_range here)
 
 -- a name without a number stands past the declared ones
-pub number_none : (t : Table) (i : ℕ) (x : Option ℕ) → IsTable t → i < length t.texts → x ≡ get_or t.numbers i x → x ≡ None → number_in t.declared (text_at t.texts i) ≡ length t.declared
-number_none t i x table inside here none =
+pub number_in-none : (t : Table) (i : ℕ) (x : Option ℕ) → IsTable t → i < length t.texts → x ≡ get_or t.numbers i x → x ≡ None → number_in t.declared (text_at t.texts i) ≡ length t.declared
+number_in-none t i x table inside here none =
     position_or_len-none (bytes_eq (text_at t.texts i)) t.declared (sym (declared_at t i table inside) ∙ sym (number_at t i x table inside here) ∙ ap is_some none)
 
 -- a stamp that was read, by any default

@@ -8,7 +8,8 @@ use Rattle.std.proofs.lemmas.List.Folds.{position_or_len_push, list_any-append, 
 use Rattle.std.proofs.lemmas.List.{take_all, map_push, take-append-drop, drop-drop}
 use Rattle.std.proofs.lemmas.Bool.Decides.{nat_tests}
 use Rattle.std.proofs.lemmas.Bool.{false≢true}
-use Rattle.sm_reader.specs.Kept.{texts_of, text_of, key_texts}
+use Rattle.sm_reader.specs.Kept.{text_of, key_texts}
+use Rattle.sm_text.specs.Slices.{texts_of}
 use Rattle.sm_reader.specs.declared.keys.Key.{Key}
 
 -- a text is itself, and another one isn't
@@ -162,9 +163,9 @@ from_not_true true h = cc
 from_not_true false h = refl
 
 -- the keys with one more
-pub keys_push : (xs : List Key) (x : Key) → key_texts (xs ++ x ∷ []) ≡ key_texts xs ++ text_of x ∷ []
-keys_push xs x = map_push text_of xs x
+pub key_texts-push : (xs : List Key) (x : Key) → key_texts (xs ++ x ∷ []) ≡ key_texts xs ++ text_of x ∷ []
+key_texts-push xs x = map_push text_of xs x
 
 -- the slices with one more
-pub texts_push : (xs : List (Bor (List ℕ))) (x : Bor (List ℕ)) → texts_of (xs ++ x ∷ []) ≡ texts_of xs ++ x.now ∷ []
-texts_push xs x = map_push (λ (y : Bor (List ℕ)). y.now) xs x
+pub texts_of-push : (xs : List (Bor (List ℕ))) (x : Bor (List ℕ)) → texts_of (xs ++ x ∷ []) ≡ texts_of xs ++ x.now ∷ []
+texts_of-push xs x = map_push (λ (y : Bor (List ℕ)). y.now) xs x

@@ -180,9 +180,9 @@ two_of_four true t u false w e f g = cc
 two_of_four false t u v w e f g = cc
 
 -- a run is a name unless it is too long or begins with one of those
-pub name_of_run : (run : List ℕ) → 1 ≤ length run → list_all is_name_byte run ≡ true → is_name run ≡ (not (is_inner (get_or run 0 0)) && nat_le (length run) most_name_bytes)
-name_of_run [] some all = absurd (omega arith)
-name_of_run (b ∷ rest) some all =
+pub is_name-run : (run : List ℕ) → 1 ≤ length run → list_all is_name_byte run ≡ true → is_name run ≡ (not (is_inner (get_or run 0 0)) && nat_le (length run) most_name_bytes)
+is_name-run [] some all = absurd (omega arith)
+is_name-run (b ∷ rest) some all =
     let one : nat_le 1 (length (b ∷ rest)) ≡ true = grind (arith, nat_tests) in
     two_of_four (nat_le 1 (length (b ∷ rest))) (nat_le (length (b ∷ rest)) most_name_bytes) (begins_name b) (list_all is_name_byte (b ∷ rest)) (not (is_inner b)) one all
     (first_begins b (and_left (is_name_byte b) (list_all is_name_byte rest) all))

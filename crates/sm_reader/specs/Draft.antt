@@ -14,7 +14,8 @@ use Rattle.sm_instance.specs.declared.kinds.Side.TheVariants.{Proposers, Reviewe
 use Rattle.sm_instance.specs.Named.{SaidAgent, SaidPair, SaidWeight, Said, all_entries}
 use Rattle.sm_reader.specs.Forms.{Form, declares, weighs, binds}
 use Rattle.sm_reader.specs.Judging.{Verdict, goes, stops, refuses, first_fault, run_rows, name_rows, limit_rows, weight_rows, capacity_in, weight_in, fault_of, with_agent, said_with, verdict_on}
-use Rattle.sm_reader.specs.Kept.{texts_of, Table, text_at, AreBelow, Interns, Declares, IsListed}
+use Rattle.sm_reader.specs.Kept.{Table, text_at, AreBelow, Interns, Declares, IsListed}
+use Rattle.sm_text.specs.Slices.{texts_of}
 use Rattle.sm_reader.specs.declared.draft.Declared.{Declared}
 use Rattle.sm_reader.specs.declared.draft.Pair.{Pair}
 use Rattle.sm_reader.specs.declared.draft.Weight.{Weight}
@@ -127,15 +128,15 @@ IsLineFault fault line (Refused kind at) = (fault ≡ Some kind) × (at ≡ line
 IsLineFault fault line OutOfMemory = Unit {0}
 
 -- a faultless line of a form has added what it says
-pub record Adds (kind : Kind) (line : ℕ) (form : Form) (old new : Draft) : Type 0 where
+pub record AddsForm (kind : Kind) (line : ℕ) (form : Form) (old new : Draft) : Type 0 where
   pub faultless : fault_of (said_of kind old) form ≡ None
   pub said : said_of kind new ≡ said_with (said_of kind old) line form
   pub draft : IsDraft kind (line + 1) new
 
 -- a line is judged by its tokens
-abbrev pub Judges : Kind → ℕ → List (List ℕ) → Draft → Draft → Step → Type 0
-Judges kind line tokens old new Goes = (verdict_on kind (said_of kind old) line tokens ≡ goes (said_of kind new)) × IsDraft kind (line + 1) new
-Judges kind line tokens old new Stops = (verdict_on kind (said_of kind old) line tokens ≡ stops) × (new ≡ old)
+abbrev pub JudgesTokens : Kind → ℕ → List (List ℕ) → Draft → Draft → Step → Type 0
+JudgesTokens kind line tokens old new Goes = (verdict_on kind (said_of kind old) line tokens ≡ goes (said_of kind new)) × IsDraft kind (line + 1) new
+JudgesTokens kind line tokens old new Stops = (verdict_on kind (said_of kind old) line tokens ≡ stops) × (new ≡ old)
 
 -- a verdict refuses the line for this fault; want of memory says nothing
 abbrev pub IsRefusedBy : Verdict → ℕ → TextFault → Type 0
@@ -156,7 +157,7 @@ abbrev pub name_fault : List (List ℕ) → List ℕ → List (List ℕ) → ℕ
 name_fault declared name entries agents all = first_fault (name_rows declared name entries ++ limit_rows agents all (length entries))
 
 -- the runs of an agent's line are right, and its capacity is this
-pub record IsChecked (name : List ℕ) (capacity : Option (List ℕ)) (entries : List (List ℕ)) (n : ℕ) : Type 0 where
+pub record AreRunsRight (name : List ℕ) (capacity : Option (List ℕ)) (entries : List (List ℕ)) (n : ℕ) : Type 0 where
   pub faultless : run_fault name capacity entries ≡ None
   pub number : n ≡ unwrap_or (option_and_then capacity_in capacity) 1
 

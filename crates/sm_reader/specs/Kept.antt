@@ -7,12 +7,9 @@ use Rattle.std.specs.declared.alloc.Global.{Global}
 use Rattle.std.specs.Prelude.{Vec, ◌+◌}
 use Rattle.sm_text.specs.Lines.{lines, first_line, content}
 use Rattle.sm_text.specs.Name.{is_name}
+use Rattle.sm_text.specs.Slices.{texts_of}
 use Rattle.sm_reader.specs.Judging.{has_repeated}
 use Rattle.sm_reader.specs.declared.keys.Key.{Key}
-
--- what slices hold
-abbrev pub texts_of : List (Bor (List ℕ)) → List (List ℕ)
-texts_of slices = map (λ (x : Bor (List ℕ)). x.now) slices
 
 -- the name that is a key, and those that are keys
 abbrev pub text_of : Key → List ℕ
@@ -106,9 +103,9 @@ pub record HasStamp (old new : Table) (name : List ℕ) (stamp : ℕ) : Type 0 w
   pub stamped : slice_index old.stamps at ≡ stamp
 
 -- a name has an index and gets the stamp, or had it before
-abbrev pub Meets : Table → Table → List ℕ → ℕ → Option ℕ → Type 0
-Meets old new name stamp None = HasStamp old new name stamp
-Meets old new name stamp (Some i) = IsStamped old new name stamp i
+abbrev pub MeetsName : Table → Table → List ℕ → ℕ → Option ℕ → Type 0
+MeetsName old new name stamp None = HasStamp old new name stamp
+MeetsName old new name stamp (Some i) = IsStamped old new name stamp i
 
 -- indexes within a range
 abbrev pub AreBelow : ℕ → List ℕ → Type 0
@@ -125,6 +122,6 @@ pub record IsListed (old new : Table) (entries : List (List ℕ)) (stamp : ℕ) 
   pub stamps : (k : ℕ) → slice_index new.stamps k ≤ stamp
 
 -- the names of a list have indexes, or some name comes twice
-abbrev pub Lists : Table → Table → List (List ℕ) → ℕ → Option (Vec ℕ Global) → Type 0
-Lists old new entries stamp None = has_repeated entries ≡ true
-Lists old new entries stamp (Some list) = IsListed old new entries stamp list.items
+abbrev pub ListsNames : Table → Table → List (List ℕ) → ℕ → Option (Vec ℕ Global) → Type 0
+ListsNames old new entries stamp None = has_repeated entries ≡ true
+ListsNames old new entries stamp (Some list) = IsListed old new entries stamp list.items

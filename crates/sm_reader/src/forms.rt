@@ -1,12 +1,13 @@
 //! The forms of lines.
 
-ghost use Rattle.std.specs.Prelude.{◌≡◌, ◌∷◌};
+ghost use Rattle.std.specs.Prelude.{◌≡◌};
 ghost use Rattle.std.specs.Option.{option_map};
 ghost use Rattle.std.specs.List.{list_all};
 ghost use Rattle.std.specs.Str.{bytes_eq};
 ghost use Rattle.sm_text.specs.Tokens.{begins_run};
 ghost use Rattle.sm_reader.specs.Forms.{list_form, capacity_form, weight_form, pair_form, reviewer_form, two_sided_form, form_behind, is_end, header_of, kind_named};
-ghost use Rattle.sm_reader.specs.Kept.{texts_of, AreNamesAtEnd};
+ghost use Rattle.sm_reader.specs.Kept.{AreNamesAtEnd};
+ghost use Rattle.sm_text.specs.Slices.{texts_of};
 ghost use Rattle.sm_reader.specs.Draft.{form_of};
 
 use crate::tokens::is_run;

@@ -9,8 +9,9 @@ ghost use Rattle.sm_text.specs.Limits.{most_agents, most_entries};
 ghost use Rattle.sm_text.specs.Name.{is_name as is_a_name};
 ghost use Rattle.sm_reader.specs.Forms.{is_bad};
 ghost use Rattle.sm_reader.specs.Judging.{verdict_on, fault_of, has_repeated};
-ghost use Rattle.sm_reader.specs.Kept.{texts_of, AreNamesAtEnd};
-ghost use Rattle.sm_reader.specs.Draft.{said_of, form_of, entries_in, listed_side, table_on, declared_on, IsDraft, Adds, Judges, IsRefusedBy, IsLineFault, run_fault, name_fault, limit_fault, IsChecked, DeclaresOn, ListsOn, PutsOn, RefusesFor, PairsOf, AddsAgent, ArePairsBelow, pairs_of, key_of, weights_in, weight_fault, PutsWeight, PutsPair, Binds};
+ghost use Rattle.sm_reader.specs.Kept.{AreNamesAtEnd};
+ghost use Rattle.sm_text.specs.Slices.{texts_of};
+ghost use Rattle.sm_reader.specs.Draft.{said_of, form_of, entries_in, listed_side, table_on, declared_on, IsDraft, AddsForm, JudgesTokens, IsRefusedBy, IsLineFault, run_fault, name_fault, limit_fault, AreRunsRight, DeclaresOn, ListsOn, PutsOn, RefusesFor, PairsOf, AddsAgent, ArePairsBelow, pairs_of, key_of, weights_in, weight_fault, PutsWeight, PutsPair, Binds};
 
 use crate::draft::{Declared, Draft, Pair, Weight};
 use crate::faults::TextFault;
@@ -52,7 +53,7 @@ pub(crate) fn judge<'a>(
     requires draft { IsDraft kind line draft.old }
     requires bad { found.bad ≡ list_any is_bad (texts_of tokens.now) }
     requires names { AreNamesAtEnd found.names (texts_of tokens.now) }
-    ensures judged { IfOk result (λ step. Judges kind line (texts_of tokens.now) draft.old
+    ensures judged { IfOk result (λ step. JudgesTokens kind line (texts_of tokens.now) draft.old
         draft.new step) }
     ensures refused { IfErr result (λ f. IsRefusedBy
         (verdict_on kind (said_of kind draft.old) line (texts_of tokens.now)) line f) }
@@ -86,7 +87,7 @@ fn add<'a>(
 ) -> Result<(), TextFault>
     requires draft { IsDraft kind line draft.old }
     requires names { AreNamesAtEnd names (entries_in (form_of form)) }
-    ensures added { IfOk result (λ _. Adds kind line (form_of form.entry) draft.old draft.new) }
+    ensures added { IfOk result (λ _. AddsForm kind line (form_of form.entry) draft.old draft.new) }
     ensures fault { IfErr result (λ f. IsLineFault
         (fault_of (said_of kind draft.old) (form_of form.entry)) line f) }
 {
@@ -128,7 +129,7 @@ fn checked_capacity(
     line: u32,
 ) -> Result<u32, TextFault>
     requires { AreNamesAtEnd names (texts_of entries.now) }
-    ensures checked { IfOk result (λ n. IsChecked name.now
+    ensures checked { IfOk result (λ n. AreRunsRight name.now
         (option_map (λ x. x.now) capacity.entry) (texts_of entries.now) n) }
     ensures fault { IfErr result (λ f. IsLineFault
         (run_fault name.now (option_map (λ x. x.now) capacity.entry) (texts_of entries.now))

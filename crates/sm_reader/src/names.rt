@@ -4,7 +4,8 @@ ghost use Rattle.std.specs.Prelude.{◌≡◌, ℕ, ◌<◌, ◌^◌, length, sl
 ghost use Rattle.std.specs.List.{list_any};
 ghost use Rattle.std.specs.Str.{bytes_eq};
 ghost use Rattle.sm_reader.specs.InstanceText.{number_in};
-ghost use Rattle.sm_reader.specs.Kept.{texts_of, text_at, no_names, Interns, Declares, Meets, Lists};
+ghost use Rattle.sm_reader.specs.Kept.{text_at, no_names, Interns, Declares, MeetsName, ListsNames};
+ghost use Rattle.sm_text.specs.Slices.{texts_of};
 
 use crate::keys::Key;
 use crate::recent::Recent;
@@ -128,7 +129,7 @@ impl<'a> Names<'a> {
 
     /// The index of a name on the list of a line, `None` where it stands there already.
     pub(crate) fn meet(&mut self, name: &'a [u8], line: u32) -> Result<Option<u32>, AllocError>
-        ensures { IfOk result (λ met. Meets self.old self.new name.now line met) }
+        ensures { IfOk result (λ met. MeetsName self.old self.new name.now line met) }
     {
         let index = self.intern(name)?;
         if self.stamps[index as usize] == line {
@@ -166,7 +167,7 @@ impl<'a> Names<'a> {
         line: u32,
     ) -> Result<Option<Vec<u32>>, AllocError>
         requires { (k : ℕ) → slice_index self.old.stamps k < line }
-        ensures { IfOk result (λ list. Lists self.old self.new (texts_of entries.now) line list) }
+        ensures { IfOk result (λ list. ListsNames self.old self.new (texts_of entries.now) line list) }
     {
         let mut indexes = Vec::with_capacity(alloc, entries.len())?;
         'entries: for entry in entries {

@@ -10,7 +10,7 @@ ghost use Rattle.sm_instance.specs.declared.inputs.Input.TheVariants.{Two};
 ghost use Rattle.sm_instance.specs.Named.{nothing};
 ghost use Rattle.sm_reader.specs.Judging.{heading_of};
 ghost use Rattle.sm_reader.specs.InstanceText.{instance_text, read_of, IsTextFault, before_header, behind_header, unknown_lines, least, input_of, two_sides};
-ghost use Rattle.sm_reader.specs.Kept.{texts_of};
+ghost use Rattle.sm_text.specs.Slices.{texts_of};
 ghost use Rattle.sm_reader.specs.Draft.{said_of};
 ghost use Rattle.sm_reader.specs.Numbering.{IsReady, IsUnknownFault};
 ghost use Rattle.sm_reader.specs.Reading.{IsHeaded, IsFaultOf, heading_is, IsHeadingFault, Finishes};

@@ -5,7 +5,8 @@ ghost use Rattle.std.specs.List.{list_any, list_all};
 ghost use Rattle.sm_text.specs.Name.{is_name as is_a_name, is_name_byte};
 ghost use Rattle.sm_text.specs.Tokens.{tokens, begins_run, IsLeading};
 ghost use Rattle.sm_reader.specs.Forms.{is_bad};
-ghost use Rattle.sm_reader.specs.Kept.{texts_of, LeadsLines, is_inner, AreNamesAtEnd};
+ghost use Rattle.sm_reader.specs.Kept.{LeadsLines, is_inner, AreNamesAtEnd};
+ghost use Rattle.sm_text.specs.Slices.{texts_of};
 
 use sm_text::{LineSpan, MOST_NAME_BYTES, TokenAt, is_name_byte, line_at, token_at};
 use std::alloc::AllocError;

@@ -104,8 +104,8 @@ pub digits_of_decimal : (n : ℕ) → n < 2 ^ 64 → list_all is_digit (decimal 
 digits_of_decimal n small = (decimal_spells n small).digits
 
 -- a number is spelt by what it is in decimal
-pub number-decimal : (n most : ℕ) → n ≤ most → most < 2 ^ 64 → number_of (decimal n) most ≡ Some n
-number-decimal n most within small =
+pub number_of-decimal : (n most : ℕ) → n ≤ most → most < 2 ^ 64 → number_of (decimal n) most ≡ Some n
+number_of-decimal n most within small =
     let s = decimal_spells n (omega arith) in
     let fits : nat_le (value_of (decimal n)) most ≡ true = by_value (value_of (decimal n)) s.value in
     ap (λ t. cond t (Some (value_of (decimal n))) None) (and_from (is_number (decimal n)) (nat_le (value_of (decimal n)) most) s.number fits) ∙ ap (λ v. Some v) s.value
@@ -151,8 +151,8 @@ number_spelt run most n small e = by_test (is_number run && nat_le (value_of run
       }
 
 -- signed numbers: with `-` before those below 0
-pub signed-decimal : (z : ℤ) (most : ℕ) → unsigned_abs z ≤ most → most < 2 ^ 64 → signed_of (signed_decimal z) most ≡ Some z
-signed-decimal (pos n) most within small = by_digits (decimal n) (decimal_nonempty n (omega arith)) (digits_of_decimal n (omega arith)) (number-decimal n most within small) where
+pub signed_of-decimal : (z : ℤ) (most : ℕ) → unsigned_abs z ≤ most → most < 2 ^ 64 → signed_of (signed_decimal z) most ≡ Some z
+signed_of-decimal (pos n) most within small = by_digits (decimal n) (decimal_nonempty n (omega arith)) (digits_of_decimal n (omega arith)) (number_of-decimal n most within small) where
   by_test : (b : ℕ) (run : List ℕ) (t : Bool) → (b == 45) ≡ t → is_digit b ≡ true → number_of (b ∷ run) most ≡ Some n
       → cond t (negated (number_of run most)) (option_map (λ n. pos n) (number_of (b ∷ run) most)) ≡ Some (pos n)
   by_test b run true is digit h = let low : 48 ≤ b = digit_ge b digit in absurd (grind (arith, nat_tests))
@@ -161,7 +161,7 @@ signed-decimal (pos n) most within small = by_digits (decimal n) (decimal_nonemp
   by_digits : (ds : List ℕ) → 0 < length ds → list_all is_digit ds ≡ true → number_of ds most ≡ Some n → signed_of ds most ≡ Some (pos n)
   by_digits [] some digits h = absurd (omega arith)
   by_digits (b ∷ run) some digits h = by_test b run (b == 45) refl (first_true (is_digit b) (list_all is_digit run) digits) h
-signed-decimal (negsuc n) most within small = ap negated (number-decimal (suc n) most within small)
+signed_of-decimal (negsuc n) most within small = ap negated (number_of-decimal (suc n) most within small)
 
 -- what a text that spells a signed number says
 pub record SpeltSigned (run : List ℕ) (most : ℕ) (z : ℤ) : Type 0 where

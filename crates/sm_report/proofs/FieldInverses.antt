@@ -28,11 +28,11 @@ use Rattle.sm_instance.specs.declared.kinds.Kind.{Kind}
 use Rattle.sm_instance.specs.declared.kinds.Kind.TheVariants.{Marriage, Hospitals, Roommates}
 use Rattle.sm_report.specs.declared.lines.Seat.{Seat}
 use Rattle.sm_report.specs.Reasons.{reasons, IsReason, name_of_reason}
-use Rattle.sm_report.specs.Sound.{IsLeft, IsRight, IsSeatNumber, IsSmall, IsLarge, IsRotation, IsLimit, AreRotations}
+use Rattle.sm_report.specs.Sound.{IsOnLeft, IsOnRight, IsSeatNumber, IsSmall, IsLarge, IsRotation, IsLimit, AreRotations}
 use Rattle.sm_report.specs.Texts.{left_name, right_name, seat_text, seat_text_in, vector_text, end_text, SOURCE, SINK}
 use Rattle.sm_report.specs.Vectors.{vector_in, numbers_in, is_comma}
 use Rattle.sm_report.specs.Meanings.{left_in, right_in, at_least, number_within, small_in, large_in, signed_in, rotation_in, rising_above, seat, seat_by, seat_in, numbered_seat_in, is_slash, end_in, reason_in}
-use Rattle.sm_report.proofs.DecimalLemmas.{second_true, digits_of_decimal, number-decimal, number_spelt, signed-decimal, signed_spelt}
+use Rattle.sm_report.proofs.DecimalLemmas.{second_true, digits_of_decimal, number_of-decimal, number_spelt, signed_of-decimal, signed_spelt}
 use Rattle.sm_report.proofs.InverseLemmas.{Inverts, mapped, chained, zipped, text_true, text_same, by_answer, each_inverts}
 use Rattle.sm_report.proofs.FreeLemmas.{is_free, free_of, cut_at_byte, split_joined}
 
@@ -43,7 +43,7 @@ in_words to back h = record { again = λ x t. h.again x (back x t); sound = λ y
 -- numbers
 number_inverts : (most : ℕ) → most < 2 ^ 64 → Inverts (λ n. n ≤ most) decimal (λ text. number_of text most)
 number_inverts most small = record {
-  again = λ n within. number-decimal n most within small;
+  again = λ n within. number_of-decimal n most within small;
   sound = λ text n e. (number_spelt text most n small e).within;
   same = λ text n e. (number_spelt text most n small e).same;
 }
@@ -73,7 +73,7 @@ at_least-is least n (Some m) e = by_test (nat_lt m least) refl e where
 -- the reader of numbers within bounds is inverse to the decimal
 pub within_inverts : (least most : ℕ) → most < 2 ^ 64 → Inverts (λ n. (least ≤ n) × (n ≤ most)) decimal (number_within least most)
 within_inverts least most small = record {
-  again = λ n h. at_least-again least n (number_of (decimal n) most) (number-decimal n most h.1 small) h.0;
+  again = λ n h. at_least-again least n (number_of (decimal n) most) (number_of-decimal n most h.1 small) h.0;
   sound = λ text n e. let k = at_least-is least n (number_of text most) e in (k.0, (number_spelt text most n small k.1).within);
   same = λ text n e. (number_spelt text most n small (at_least-is least n (number_of text most) e).1).same;
 }
@@ -89,7 +89,7 @@ limit_inverts = in_words (λ n h. record { least = h.0; greatest = h.1 }) (λ n 
 -- the reader of signed numbers is inverse to the signed decimal
 pub signed_inverts : Inverts (λ z. unsigned_abs z ≤ 9223372036854775807) signed_decimal signed_in
 signed_inverts = record {
-  again = λ z within. signed-decimal z 9223372036854775807 within (omega arith);
+  again = λ z within. signed_of-decimal z 9223372036854775807 within (omega arith);
   sound = λ text z e. (signed_spelt text 9223372036854775807 z (omega arith) e).within;
   same = λ text z e. (signed_spelt text 9223372036854775807 z (omega arith) e).same;
 }
@@ -135,26 +135,26 @@ agent_is_name : (agents : List AgentData) (single : Bool) → AreSoundAgents age
 agent_is_name agents single s a within = (s.sound a within).name
 
 -- and so for the agents of an input
-pub left_inverts : (input : Input) → IsInput input → Inverts (IsLeft input) (left_name input) (left_in input)
+pub left_inverts : (input : Input) → IsInput input → Inverts (IsOnLeft input) (left_name input) (left_in input)
 unfolding left_in
 left_inverts (Two w) s = agent_inverts w.proposers true s.proposers
 left_inverts (Room persons) s = agent_inverts persons true s.agents
 
 -- the reader of reviewers is inverse to their names
-pub right_inverts : (input : Input) → IsInput input → Inverts (IsRight input) (right_name input) (right_in input)
+pub right_inverts : (input : Input) → IsInput input → Inverts (IsOnRight input) (right_name input) (right_in input)
 unfolding right_in
 right_inverts (Two w) s = agent_inverts w.reviewers _ s.reviewers
 right_inverts (Room persons) s = agent_inverts persons true s.agents
 
 -- each proposer's name is a name
-pub left_is_name : (input : Input) → IsInput input → (p : ℕ) → IsLeft input p → is_name (left_name input p) ≡ true
-left_is_name (Two w) s p within = agent_is_name w.proposers true s.proposers p within
-left_is_name (Room persons) s p within = agent_is_name persons true s.agents p within
+pub is_name-left_name : (input : Input) → IsInput input → (p : ℕ) → IsOnLeft input p → is_name (left_name input p) ≡ true
+is_name-left_name (Two w) s p within = agent_is_name w.proposers true s.proposers p within
+is_name-left_name (Room persons) s p within = agent_is_name persons true s.agents p within
 
 -- each reviewer's name is a name
-pub right_is_name : (input : Input) → IsInput input → (r : ℕ) → IsRight input r → is_name (right_name input r) ≡ true
-right_is_name (Two w) s r within = agent_is_name w.reviewers _ s.reviewers r within
-right_is_name (Room persons) s r within = agent_is_name persons true s.agents r within
+pub is_name-right_name : (input : Input) → IsInput input → (r : ℕ) → IsOnRight input r → is_name (right_name input r) ≡ true
+is_name-right_name (Two w) s r within = agent_is_name w.reviewers _ s.reviewers r within
+is_name-right_name (Room persons) s r within = agent_is_name persons true s.agents r within
 
 -- a name holds no slash
 slash_no_name : is_name_byte 47 ≡ false
@@ -162,9 +162,9 @@ unfolding is_name_byte begins_name
 slash_no_name = refl
 
 -- a dash is no name
-pub dash_no_name : is_name (codes "-") ≡ false
+pub is_name-dash : is_name (codes "-") ≡ false
 unfolding begins_name
-dash_no_name = refl
+is_name-dash = refl
 
 -- a name has bytes of names alone
 pub name_bytes : (run : List ℕ) → is_name run ≡ true → list_all is_name_byte run ≡ true
@@ -244,11 +244,11 @@ seat_by_inverts Roommates R name named h free = one_seat_inverts R name named h
 
 -- a seat of the instance, with a number that its kind allows
 abbrev pub IsSeat : Input → Seat → Type 0
-IsSeat input s = IsRight input s.reviewer × IsSeatNumber (kind_of input) s.number
+IsSeat input s = IsOnRight input s.reviewer × IsSeatNumber (kind_of input) s.number
 
 -- the reader of seats is inverse to their texts
 pub seat_inverts : (input : Input) → IsInput input → Inverts (IsSeat input) (seat_text input) (seat_in input)
-seat_inverts input s = seat_by_inverts (kind_of input) (IsRight input) (right_name input) (right_in input) (right_inverts input s) (λ r h. name_without_slash (right_name input r) (right_is_name input s r h))
+seat_inverts input s = seat_by_inverts (kind_of input) (IsOnRight input) (right_name input) (right_in input) (right_inverts input s) (λ r h. name_without_slash (right_name input r) (is_name-right_name input s r h))
 
 -- ends of flows
 digit_text : (n : ℕ) (text : List ℕ) → n < 2 ^ 64 → list_all is_digit text ≡ false → bytes_eq (decimal n) text ≡ false

@@ -2,7 +2,8 @@
 use Rattle.std.proofs.Common.{◌≡◌, ℕ, ◌-◌, ◌<◌, ◌≤◌, List, [], ◌∷◌, ◌++◌, length, take, drop, get_or, Option, Some, None, option_map, refl, sym, ap, ◌∙◌, arith, append_assoc, Bor}
 use Rattle.std.specs.Option.{option_zip, option_and_then}
 use Rattle.std.proofs.lemmas.List.{take_all}
-use Rattle.sm_report.specs.Meanings.{texts_of, each_pair_in}
+use Rattle.sm_report.specs.Meanings.{each_pair_in}
+use Rattle.sm_text.specs.Slices.{texts_of}
 
 -- one pair more
 pub pairs_on : {X Y : Type 0} (f : List ℕ → Option X) (g : List ℕ → Option Y) (taken found : List (X × Y)) (rest : List (Bor (List ℕ))) (d : Bor (List ℕ))

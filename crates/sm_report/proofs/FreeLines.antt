@@ -18,12 +18,12 @@ use Rattle.sm_report.specs.declared.lines.Seat.{Seat}
 use Rattle.sm_report.specs.Heads.{HeadData}
 use Rattle.sm_report.specs.Lines.{LineData}
 use Rattle.sm_report.specs.Reasons.{reasons, name_of_reason}
-use Rattle.sm_report.specs.Sound.{IsLineOf, IsLeft, IsRight, IsSmall, IsLarge, IsRotation, IsLimit, IsSeatNumber, IsHeadOf}
+use Rattle.sm_report.specs.Sound.{IsLineOf, IsOnLeft, IsOnRight, IsSmall, IsLarge, IsRotation, IsLimit, IsSeatNumber, IsHeadOf}
 use Rattle.sm_report.specs.Texts.{left_name, right_name, seat_text, seat_text_in, listed, lefts, seats, seated_pairs, numbers, vector_text, end_text, limit_text, fields_of, fields_of_head, text_of_line, SOURCE, SINK}
 use Rattle.sm_report.specs.Meanings.{fields_in, line_in, headed_of}
 use Rattle.sm_report.proofs.DecimalLemmas.{first_true, second_true, digits_of_decimal}
 use Rattle.sm_report.proofs.FreeLemmas.{is_free, free_of, free-append, split_joined}
-use Rattle.sm_report.proofs.FieldInverses.{left_is_name, right_is_name, name_bytes}
+use Rattle.sm_report.proofs.FieldInverses.{is_name-left_name, is_name-right_name, name_bytes}
 use Rattle.sm_report.proofs.LineInverses.{All-of_map, line_again}
 
 -- the bytes of fields: from `!` to `~`
@@ -175,23 +175,23 @@ joined_without c other no_space (x ∷ y ∷ ys) h =
 
 -- the lines of an input
 module _ (input : Input) (sound : IsInput input) where
-  free_left : (p : ℕ) → IsLeft input p → in_field (left_name input p) ≡ true
-  free_left p h = free_name (left_name input p) (left_is_name input sound p h)
+  free_left : (p : ℕ) → IsOnLeft input p → in_field (left_name input p) ≡ true
+  free_left p h = free_name (left_name input p) (is_name-left_name input sound p h)
 
-  free_right : (r : ℕ) → IsRight input r → in_field (right_name input r) ≡ true
-  free_right r h = free_name (right_name input r) (right_is_name input sound r h)
+  free_right : (r : ℕ) → IsOnRight input r → in_field (right_name input r) ≡ true
+  free_right r h = free_name (right_name input r) (is_name-right_name input sound r h)
 
-  free_seat : (s : Seat) → IsRight input s.reviewer → IsSeatNumber (kind_of input) s.number → in_field (seat_text input s) ≡ true
+  free_seat : (s : Seat) → IsOnRight input s.reviewer → IsSeatNumber (kind_of input) s.number → in_field (seat_text input s) ≡ true
   free_seat s h k = free_seat_in (kind_of input) (right_name input s.reviewer) s.number (free_right s.reviewer h) k
 
-  free_pair : (p r : ℕ) → IsLeft input p → IsRight input r → are_free (left_name input p ∷ right_name input r ∷ []) ≡ true
+  free_pair : (p r : ℕ) → IsOnLeft input p → IsOnRight input r → are_free (left_name input p ∷ right_name input r ∷ []) ≡ true
   free_pair p r h k = free_on (left_name input p) (right_name input r ∷ []) (free_left p h) (free_one (right_name input r) (free_right r k))
 
-  free_seated : (p : ℕ) (s : Seat) → IsLeft input p → IsRight input s.reviewer → IsSeatNumber (kind_of input) s.number → are_free (left_name input p ∷ seat_text input s ∷ []) ≡ true
+  free_seated : (p : ℕ) (s : Seat) → IsOnLeft input p → IsOnRight input s.reviewer → IsSeatNumber (kind_of input) s.number → are_free (left_name input p ∷ seat_text input s ∷ []) ≡ true
   free_seated p s h k l = free_on (left_name input p) (seat_text input s ∷ []) (free_left p h) (free_one (seat_text input s) (free_seat s k l))
 
-  free_lefts : (ps : List ℕ) → All (IsLeft input) ps → are_free (lefts input ps) ≡ true
-  free_lefts ps h = free_listed (map (left_name input) ps) (free_map (IsLeft input) (left_name input) free_left ps h)
+  free_lefts : (ps : List ℕ) → All (IsOnLeft input) ps → are_free (lefts input ps) ≡ true
+  free_lefts ps h = free_listed (map (left_name input) ps) (free_map (IsOnLeft input) (left_name input) free_left ps h)
 
   free_numbers : (S : ℕ → Type 0) → ((n : ℕ) → S n → in_field (decimal n) ≡ true) → (ns : List ℕ) → All S ns → are_free (numbers ns) ≡ true
   free_numbers S free ns h = free_listed (map decimal ns) (free_map S decimal free ns h)
@@ -209,12 +209,12 @@ module _ (input : Input) (sound : IsInput input) where
   free_line (LineData.ProposerList p list) s =
       free_on (left_name input p) (seats input list) (free_left p s.printable.0)
       (free_listed (map (seat_text input) list)
-      (free_map (λ (x : Seat). IsRight input x.reviewer × IsSeatNumber (kind_of input) x.number) (seat_text input) (λ x h. free_seat x h.0 h.1) list (λ k d below. (s.printable.1 k d below, s.seats k d below))))
+      (free_map (λ (x : Seat). IsOnRight input x.reviewer × IsSeatNumber (kind_of input) x.number) (seat_text input) (λ x h. free_seat x h.0 h.1) list (λ k d below. (s.printable.1 k d below, s.seats k d below))))
   free_line (LineData.ReviewerList of list) s = free_on (seat_text input of) (lefts input list) (free_seat of s.printable.0 (one_number of s.seats)) (free_lefts list s.printable.1)
   free_line (LineData.Rotation i pairs) s =
       free_on (decimal i) (seated_pairs input pairs) (free_rotation i s.numbers)
       (free_listed (flat_map (λ (pair : ℕ × Seat). left_name input pair.0 ∷ seat_text input pair.1 ∷ []) pairs)
-      (free_flat_map (λ (x : ℕ × Seat). (IsLeft input x.0 × IsRight input x.1.reviewer) × IsSeatNumber (kind_of input) x.1.number) (λ (pair : ℕ × Seat). left_name input pair.0 ∷ seat_text input pair.1 ∷ [])
+      (free_flat_map (λ (x : ℕ × Seat). (IsOnLeft input x.0 × IsOnRight input x.1.reviewer) × IsSeatNumber (kind_of input) x.1.number) (λ (pair : ℕ × Seat). left_name input pair.0 ∷ seat_text input pair.1 ∷ [])
       (λ x h. free_seated x.0 x.1 h.0.0 h.0.1 h.1) pairs
       (λ k d below. (s.printable k d below, All-of_map (λ (y : Seat). IsSeatNumber (kind_of input) y.number) (λ (pair : ℕ × Seat). pair.1) pairs s.seats k d below))))
   free_line (LineData.Needs i needed) s = free_on (decimal i) (numbers needed) (free_rotation i s.numbers.0) (free_numbers IsRotation free_rotation needed s.numbers.1.each)

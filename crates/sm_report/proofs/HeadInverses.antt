@@ -15,7 +15,7 @@ use Rattle.sm_report.specs.Heads.{HeadData}
 use Rattle.sm_report.specs.Sound.{IsSmall, IsLimit, IsHeadOf}
 use Rattle.sm_report.specs.Texts.{vector_text, limit_text, fields_of_head}
 use Rattle.sm_report.specs.Vectors.{vector_in}
-use Rattle.sm_report.specs.Meanings.{look_up, behind, limit_in, after_in, sides, measures, bare_heads, bare_head_in, side_in, operand_head_in, list_head_in, head_in, number_within}
+use Rattle.sm_report.specs.Meanings.{look_up, behind_word, limit_in, after_in, sides, measures, bare_heads, bare_head_in, side_in, operand_head_in, list_head_in, head_in, number_within}
 use Rattle.sm_report.proofs.InverseLemmas.{Inverts, mapped, chained, zipped, text_same}
 use Rattle.sm_report.proofs.FieldInverses.{limit_inverts, vector_inverts}
 
@@ -37,7 +37,7 @@ looked_up {X} P (row ∷ rows) each name x e = by_test_of (bytes_eq name row.0) 
     (λ is e. looked_up P rows each.1 name x e)
 
 -- what stands behind a name
-behind_is : (name text rest : List ℕ) → behind name text ≡ Some rest → name ++ rest ≡ text
+behind_is : (name text rest : List ℕ) → behind_word name text ≡ Some rest → name ++ rest ≡ text
 behind_is name text rest e = by_test_of (bytes_eq (take (length name) text) name) (Some (drop (length name) text)) None rest e
     (λ is e. ap (λ t. t ++ rest) (sym (text_same (take (length name) text) name is)) ∙ ap (λ t. take (length name) text ++ t) (sym (same_Some _ _ e)) ∙ take-append-drop (length name) text)
     (λ is e. absurd (none-some rest e))
@@ -45,16 +45,16 @@ behind_is name text rest e = by_test_of (bytes_eq (take (length name) text) name
 limit_text_inverts : Inverts IsLimit limit_text limit_in
 limit_text_inverts = record {
   again = λ n h. limit_inverts.again n h;
-  sound = λ text n e. let c = chained (number_within 1 most_limit) (behind (codes "limit=") text) n e in limit_inverts.sound c.from n c.gives;
-  same = λ text n e. let c = chained (number_within 1 most_limit) (behind (codes "limit=") text) n e in
+  sound = λ text n e. let c = chained (number_within 1 most_limit) (behind_word (codes "limit=") text) n e in limit_inverts.sound c.from n c.gives;
+  same = λ text n e. let c = chained (number_within 1 most_limit) (behind_word (codes "limit=") text) n e in
       ap (λ t. codes "limit=" ++ t) (limit_inverts.same c.from n c.gives) ∙ behind_is (codes "limit=") text c.from c.is;
 }
 
 after_inverts : Inverts (All IsSmall) (λ v. codes "after=" ++ vector_text v) after_in
 after_inverts = record {
   again = λ v h. vector_inverts.again v h;
-  sound = λ text v e. let c = chained vector_in (behind (codes "after=") text) v e in vector_inverts.sound c.from v c.gives;
-  same = λ text v e. let c = chained vector_in (behind (codes "after=") text) v e in
+  sound = λ text v e. let c = chained vector_in (behind_word (codes "after=") text) v e in vector_inverts.sound c.from v c.gives;
+  same = λ text v e. let c = chained vector_in (behind_word (codes "after=") text) v e in
       ap (λ t. codes "after=" ++ t) (vector_inverts.same c.from v c.gives) ∙ behind_is (codes "after=") text c.from c.is;
 }
 

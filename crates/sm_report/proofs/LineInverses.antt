@@ -11,17 +11,17 @@ use Rattle.sm_instance.specs.declared.inputs.Input.{Input}
 use Rattle.sm_instance.specs.declared.kinds.Kind.{Kind}
 use Rattle.sm_instance.specs.declared.kinds.Kind.TheVariants.{Marriage, Hospitals, Roommates}
 use Rattle.sm_report.specs.declared.lines.Seat.{Seat}
-use Rattle.sm_report.specs.declared.words.Word.{Word}
-use Rattle.sm_report.specs.declared.words.Word.TheVariants as word
+use Rattle.sm_report.specs.declared.keywords.Keyword.{Keyword}
+use Rattle.sm_report.specs.declared.keywords.Keyword.TheVariants as keyword
 use Rattle.sm_report.specs.Lines.{LineData}
 use Rattle.sm_report.specs.Reasons.{IsReason, name_of_reason}
-use Rattle.sm_report.specs.Sound.{IsLineOf, IsLeft, IsRight, IsSmall, IsLarge, IsRotation, AreRotations, IsSeatNumber}
+use Rattle.sm_report.specs.Sound.{IsLineOf, IsOnLeft, IsOnRight, IsSmall, IsLarge, IsRotation, AreRotations, IsSeatNumber}
 use Rattle.sm_report.specs.Texts.{left_name, right_name, seat_text, lefts, seats, seated_pairs, numbers, end_text, fields_of}
-use Rattle.sm_report.specs.Meanings.{look_up, words, line_behind, line_in, three_of, headed_of, bare_in, left_in, right_in, seat_in, pair_in, seated_in, lefts_in, seats_in, figures_in, rising_in, seated_pairs_in, proposer_in, reviewer_in, rotation_with_pairs_in, needs_in, tally_in, gain_in, flow_in, no_in, large_in, end_in, seat, seat_by}
+use Rattle.sm_report.specs.Meanings.{look_up, keywords, line_behind, line_in, three_of, headed_of, bare_in, left_in, right_in, seat_in, pair_in, seated_in, lefts_in, seats_in, figures_in, rising_in, seated_pairs_in, proposer_in, reviewer_in, rotation_with_pairs_in, needs_in, tally_in, gain_in, flow_in, no_in, large_in, end_in, seat, seat_by}
 use Rattle.sm_text.specs.Name.{is_name}
 use Rattle.sm_report.proofs.HeadInverses.{EachRow, looked_up, head_inverts}
 use Rattle.sm_report.proofs.InverseLemmas.{Inverts, mapped, chained, zipped, one_inverts, two_inverts, headed_inverts, each_inverts, each_pair_inverts, listed_inverts}
-use Rattle.sm_report.proofs.FieldInverses.{IsSeat, small_inverts, large_inverts, rotation_inverts, signed_inverts, left_inverts, right_inverts, seat_inverts, end_inverts, reason_inverts, vector_inverts, rising_inverts, left_is_name, right_is_name, dash_no_name}
+use Rattle.sm_report.proofs.FieldInverses.{IsSeat, small_inverts, large_inverts, rotation_inverts, signed_inverts, left_inverts, right_inverts, seat_inverts, end_inverts, reason_inverts, vector_inverts, rising_inverts, is_name-left_name, is_name-right_name, is_name-dash}
 
 -- what an option holds where it can hold nothing
 holds_none : {X : Type 0} (o : Option X) → ((x : X) → o ≡ Some x → ⊥) → o ≡ None
@@ -109,7 +109,7 @@ risings_invert = listed_inverts rising_inverts refl
 
 -- `-` is no name, and no seat
 not_name : (name : List ℕ) → is_name name ≡ true → name ≡ codes "-" → ⊥
-not_name name h e = other (is_name (codes "-")) (ap is_name (sym e) ∙ h) dash_no_name where
+not_name name h e = other (is_name (codes "-")) (ap is_name (sym e) ∙ h) is_name-dash where
   other : (t : Bool) → t ≡ true → t ≡ false → ⊥
   other t p q = cc
 
@@ -134,39 +134,39 @@ gain_inverts = two_inverts rotation_inverts signed_inverts
 no_inverts : Inverts (λ (x : ℕ × ℕ). IsSmall x.0 × IsReason x.1) (λ x. decimal x.0 ∷ name_of_reason x.1 ∷ []) no_in
 no_inverts = two_inverts small_inverts reason_inverts
 
--- the text of a word
-abbrev name_of : Word → List ℕ
-name_of word.Answer = codes "answer"
-name_of word.Pair = codes "pair"
-name_of word.Nothing = codes "none"
-name_of word.Party = codes "party"
-name_of word.First = codes "first"
-name_of word.Last = codes "last"
-name_of word.Proposer = codes "proposer"
-name_of word.Reviewer = codes "reviewer"
-name_of word.Rotation = codes "rotation"
-name_of word.Needs = codes "needs"
-name_of word.Gain = codes "gain"
-name_of word.Flow = codes "flow"
-name_of word.Taken = codes "taken"
-name_of word.Value = codes "value"
-name_of word.Cut = codes "cut"
-name_of word.Total = codes "total"
-name_of word.Some = codes "some"
-name_of word.All = codes "all"
-name_of word.Vector = codes "vector"
-name_of word.More = codes "more"
-name_of word.Regret = codes "regret"
-name_of word.Left = codes "left"
-name_of word.Right = codes "right"
-name_of word.Listed = codes "listed"
-name_of word.Tally = codes "tally"
-name_of word.Yes = codes "yes"
-name_of word.No = codes "no"
-name_of word.End = codes "end"
+-- the text of a keyword
+abbrev name_of : Keyword → List ℕ
+name_of keyword.Answer = codes "answer"
+name_of keyword.Pair = codes "pair"
+name_of keyword.Nothing = codes "none"
+name_of keyword.Party = codes "party"
+name_of keyword.First = codes "first"
+name_of keyword.Last = codes "last"
+name_of keyword.Proposer = codes "proposer"
+name_of keyword.Reviewer = codes "reviewer"
+name_of keyword.Rotation = codes "rotation"
+name_of keyword.Needs = codes "needs"
+name_of keyword.Gain = codes "gain"
+name_of keyword.Flow = codes "flow"
+name_of keyword.Taken = codes "taken"
+name_of keyword.Value = codes "value"
+name_of keyword.Cut = codes "cut"
+name_of keyword.Total = codes "total"
+name_of keyword.Some = codes "some"
+name_of keyword.All = codes "all"
+name_of keyword.Vector = codes "vector"
+name_of keyword.More = codes "more"
+name_of keyword.Regret = codes "regret"
+name_of keyword.Left = codes "left"
+name_of keyword.Right = codes "right"
+name_of keyword.Listed = codes "listed"
+name_of keyword.Tally = codes "tally"
+name_of keyword.Yes = codes "yes"
+name_of keyword.No = codes "no"
+name_of keyword.End = codes "end"
 
-words_named : EachRow (λ n w. name_of w ≡ n) words
-words_named = (refl, (refl, (refl, (refl, (refl, (refl, (refl, (refl, (refl, (refl, (refl, (refl, (refl, (refl, (refl, (refl, (refl, (refl, (refl, (refl, (refl, (refl, (refl, (refl, (refl, (refl, (refl, (refl, tt))))))))))))))))))))))))))))
+keywords_named : EachRow (λ n w. name_of w ≡ n) keywords
+keywords_named = (refl, (refl, (refl, (refl, (refl, (refl, (refl, (refl, (refl, (refl, (refl, (refl, (refl, (refl, (refl, (refl, (refl, (refl, (refl, (refl, (refl, (refl, (refl, (refl, (refl, (refl, (refl, (refl, tt))))))))))))))))))))))))))))
 
 -- the readers of the fields behind words, for an input
 module _ (input : Input) (sound : IsInput input) where
@@ -178,37 +178,37 @@ module _ (input : Input) (sound : IsInput input) where
 
   no_left : left_in input (codes "-") ≡ None
   no_left = holds_none (left_in input (codes "-"))
-      (λ p e. absurd (not_name (left_name input p) (left_is_name input sound p ((left_inverts input sound).sound (codes "-") p e)) ((left_inverts input sound).same (codes "-") p e)))
+      (λ p e. absurd (not_name (left_name input p) (is_name-left_name input sound p ((left_inverts input sound).sound (codes "-") p e)) ((left_inverts input sound).same (codes "-") p e)))
 
   no_right : right_in input (codes "-") ≡ None
   no_right = holds_none (right_in input (codes "-"))
-      (λ r e. absurd (not_name (right_name input r) (right_is_name input sound r ((right_inverts input sound).sound (codes "-") r e)) ((right_inverts input sound).same (codes "-") r e)))
+      (λ r e. absurd (not_name (right_name input r) (is_name-right_name input sound r ((right_inverts input sound).sound (codes "-") r e)) ((right_inverts input sound).same (codes "-") r e)))
 
   no_seat : seat_in input (codes "-") ≡ None
   no_seat = by_kind (kind_of input) (right_in input) no_right
 
-  pairs_invert : Inverts (λ (x : ℕ × ℕ). IsLeft input x.0 × IsRight input x.1) (λ x. left_name input x.0 ∷ right_name input x.1 ∷ []) (pair_in input)
+  pairs_invert : Inverts (λ (x : ℕ × ℕ). IsOnLeft input x.0 × IsOnRight input x.1) (λ x. left_name input x.0 ∷ right_name input x.1 ∷ []) (pair_in input)
   pairs_invert = two_inverts (left_inverts input sound) (right_inverts input sound)
 
-  seated_invert : Inverts (λ (x : ℕ × Seat). IsLeft input x.0 × IsSeat input x.1) (λ x. left_name input x.0 ∷ seat_text input x.1 ∷ []) (seated_in input)
+  seated_invert : Inverts (λ (x : ℕ × Seat). IsOnLeft input x.0 × IsSeat input x.1) (λ x. left_name input x.0 ∷ seat_text input x.1 ∷ []) (seated_in input)
   seated_invert = two_inverts (left_inverts input sound) (seat_inverts input sound)
 
-  lefts_invert : Inverts (All (IsLeft input)) (lefts input) (lefts_in input)
+  lefts_invert : Inverts (All (IsOnLeft input)) (lefts input) (lefts_in input)
   lefts_invert = listed_inverts (each_inverts (left_inverts input sound)) (ap (option_and_then (λ x. option_map (λ xs. x ∷ xs) (Some []))) no_left)
 
   seats_invert : Inverts (All (IsSeat input)) (seats input) (seats_in input)
   seats_invert = listed_inverts (each_inverts (seat_inverts input sound)) (ap (option_and_then (λ x. option_map (λ xs. x ∷ xs) (Some []))) no_seat)
 
-  seated_pairs_invert : Inverts (All (λ (x : ℕ × Seat). IsLeft input x.0 × IsSeat input x.1)) (seated_pairs input) (seated_pairs_in input)
+  seated_pairs_invert : Inverts (All (λ (x : ℕ × Seat). IsOnLeft input x.0 × IsSeat input x.1)) (seated_pairs input) (seated_pairs_in input)
   seated_pairs_invert = listed_inverts (each_pair_inverts (left_inverts input sound) (seat_inverts input sound)) refl
 
-  proposer_inverts : Inverts (λ (x : ℕ × List Seat). IsLeft input x.0 × All (IsSeat input) x.1) (λ x. left_name input x.0 ∷ seats input x.1) (proposer_in input)
+  proposer_inverts : Inverts (λ (x : ℕ × List Seat). IsOnLeft input x.0 × All (IsSeat input) x.1) (λ x. left_name input x.0 ∷ seats input x.1) (proposer_in input)
   proposer_inverts = headed_inverts (left_inverts input sound) seats_invert
 
-  reviewer_inverts : Inverts (λ (x : Seat × List ℕ). IsSeat input x.0 × All (IsLeft input) x.1) (λ x. seat_text input x.0 ∷ lefts input x.1) (reviewer_in input)
+  reviewer_inverts : Inverts (λ (x : Seat × List ℕ). IsSeat input x.0 × All (IsOnLeft input) x.1) (λ x. seat_text input x.0 ∷ lefts input x.1) (reviewer_in input)
   reviewer_inverts = headed_inverts (seat_inverts input sound) lefts_invert
 
-  rotation_with_pairs_inverts : Inverts (λ (x : ℕ × List (ℕ × Seat)). IsRotation x.0 × All (λ (y : ℕ × Seat). IsLeft input y.0 × IsSeat input y.1) x.1) (λ x. decimal x.0 ∷ seated_pairs input x.1) (rotation_with_pairs_in input)
+  rotation_with_pairs_inverts : Inverts (λ (x : ℕ × List (ℕ × Seat)). IsRotation x.0 × All (λ (y : ℕ × Seat). IsOnLeft input y.0 × IsSeat input y.1) x.1) (λ x. decimal x.0 ∷ seated_pairs input x.1) (rotation_with_pairs_in input)
   rotation_with_pairs_inverts = headed_inverts rotation_inverts seated_pairs_invert
 
   -- a line without fields behind its word
@@ -218,58 +218,58 @@ module _ (input : Input) (sound : IsInput input) where
       let P : LineData → Type 0 = λ x. IsReadBehind input name fields x in
       subst P (sym (h.sound fields read e)) (record { sound = s; same = written ∙ ap (λ t. name ∷ t) (h.same fields read e) })
 
-  read_behind : (w : Word) (fields : List (List ℕ)) (line : LineData) → line_behind input w fields ≡ Some line → IsReadBehind input (name_of w) fields line
-  read_behind word.Answer = read_as input (codes "answer") LineData.Answer (head_inverts (kind_of input)) (λ x s. record { printable = tt; seats = no_seats; numbers = tt; head = s }) (λ x. refl)
-  read_behind word.Pair = read_as input (codes "pair") (λ (x : ℕ × ℕ). LineData.Pair x.0 x.1) pairs_invert (λ x s. record { printable = s; seats = no_seats; numbers = tt; head = tt }) (λ x. refl)
-  read_behind word.Nothing = bare_read (codes "none") LineData.Nothing (record { printable = tt; seats = no_seats; numbers = tt; head = tt }) refl
-  read_behind word.Party = read_as input (codes "party") LineData.Party lefts_invert (λ x s. record { printable = s; seats = no_seats; numbers = tt; head = tt }) (λ x. refl)
-  read_behind word.First = read_as input (codes "first") (λ (x : ℕ × Seat). LineData.First x.0 x.1) seated_invert (λ x s. record { printable = (s.0, s.1.0); seats = one_seat x.1 s.1.1; numbers = tt; head = tt }) (λ x. refl)
-  read_behind word.Last = read_as input (codes "last") (λ (x : ℕ × Seat). LineData.Last x.0 x.1) seated_invert (λ x s. record { printable = (s.0, s.1.0); seats = one_seat x.1 s.1.1; numbers = tt; head = tt }) (λ x. refl)
-  read_behind word.Proposer = read_as input (codes "proposer") (λ (x : ℕ × List Seat). LineData.ProposerList x.0 x.1) proposer_inverts
-      (λ x s. record { printable = (s.0, All-first (λ (y : Seat). IsRight input y.reviewer) (λ (y : Seat). IsSeatNumber (kind_of input) y.number) x.1 s.1); seats = All-second (λ (y : Seat). IsRight input y.reviewer) (λ (y : Seat). IsSeatNumber (kind_of input) y.number) x.1 s.1; numbers = tt; head = tt }) (λ x. refl)
-  read_behind word.Reviewer = read_as input (codes "reviewer") (λ (x : Seat × List ℕ). LineData.ReviewerList x.0 x.1) reviewer_inverts (λ x s. record { printable = (s.0.0, s.1); seats = one_seat x.0 s.0.1; numbers = tt; head = tt }) (λ x. refl)
-  read_behind word.Rotation = read_as input (codes "rotation") (λ (x : ℕ × List (ℕ × Seat)). LineData.Rotation x.0 x.1) rotation_with_pairs_inverts
+  read_behind : (w : Keyword) (fields : List (List ℕ)) (line : LineData) → line_behind input w fields ≡ Some line → IsReadBehind input (name_of w) fields line
+  read_behind keyword.Answer = read_as input (codes "answer") LineData.Answer (head_inverts (kind_of input)) (λ x s. record { printable = tt; seats = no_seats; numbers = tt; head = s }) (λ x. refl)
+  read_behind keyword.Pair = read_as input (codes "pair") (λ (x : ℕ × ℕ). LineData.Pair x.0 x.1) pairs_invert (λ x s. record { printable = s; seats = no_seats; numbers = tt; head = tt }) (λ x. refl)
+  read_behind keyword.Nothing = bare_read (codes "none") LineData.Nothing (record { printable = tt; seats = no_seats; numbers = tt; head = tt }) refl
+  read_behind keyword.Party = read_as input (codes "party") LineData.Party lefts_invert (λ x s. record { printable = s; seats = no_seats; numbers = tt; head = tt }) (λ x. refl)
+  read_behind keyword.First = read_as input (codes "first") (λ (x : ℕ × Seat). LineData.First x.0 x.1) seated_invert (λ x s. record { printable = (s.0, s.1.0); seats = one_seat x.1 s.1.1; numbers = tt; head = tt }) (λ x. refl)
+  read_behind keyword.Last = read_as input (codes "last") (λ (x : ℕ × Seat). LineData.Last x.0 x.1) seated_invert (λ x s. record { printable = (s.0, s.1.0); seats = one_seat x.1 s.1.1; numbers = tt; head = tt }) (λ x. refl)
+  read_behind keyword.Proposer = read_as input (codes "proposer") (λ (x : ℕ × List Seat). LineData.ProposerList x.0 x.1) proposer_inverts
+      (λ x s. record { printable = (s.0, All-first (λ (y : Seat). IsOnRight input y.reviewer) (λ (y : Seat). IsSeatNumber (kind_of input) y.number) x.1 s.1); seats = All-second (λ (y : Seat). IsOnRight input y.reviewer) (λ (y : Seat). IsSeatNumber (kind_of input) y.number) x.1 s.1; numbers = tt; head = tt }) (λ x. refl)
+  read_behind keyword.Reviewer = read_as input (codes "reviewer") (λ (x : Seat × List ℕ). LineData.ReviewerList x.0 x.1) reviewer_inverts (λ x s. record { printable = (s.0.0, s.1); seats = one_seat x.0 s.0.1; numbers = tt; head = tt }) (λ x. refl)
+  read_behind keyword.Rotation = read_as input (codes "rotation") (λ (x : ℕ × List (ℕ × Seat)). LineData.Rotation x.0 x.1) rotation_with_pairs_inverts
       (λ x s. record {
         printable = λ k d below. ((s.1 k d below).0, (s.1 k d below).1.0);
         seats = All-map (λ (y : Seat). IsSeatNumber (kind_of input) y.number) (λ (pair : ℕ × Seat). pair.1) x.1 (λ k d below. (s.1 k d below).1.1);
         numbers = s.0;
         head = tt;
       }) (λ x. refl)
-  read_behind word.Needs = read_as input (codes "needs") (λ (x : ℕ × List ℕ). LineData.Needs x.0 x.1) needs_inverts (λ x s. record { printable = tt; seats = no_seats; numbers = s; head = tt }) (λ x. refl)
-  read_behind word.Gain = read_as input (codes "gain") (λ (x : ℕ × ℤ). LineData.Gain x.0 x.1) gain_inverts (λ x s. record { printable = tt; seats = no_seats; numbers = s; head = tt }) (λ x. refl)
-  read_behind word.Flow = read_as input (codes "flow") (λ (x : (ℕ × ℕ) × ℕ). LineData.Flow x.0.0 x.0.1 x.1) three_inverts (λ x s. record { printable = tt; seats = no_seats; numbers = (s.0.0, s.0.1, s.1); head = tt }) (λ x. refl)
-  read_behind word.Taken = read_as input (codes "taken") LineData.Taken risings_invert (λ x s. record { printable = tt; seats = no_seats; numbers = s; head = tt }) (λ x. refl)
-  read_behind word.Value = read_as input (codes "value") LineData.Value (one_inverts large_inverts) (λ x s. record { printable = tt; seats = no_seats; numbers = s; head = tt }) (λ x. refl)
-  read_behind word.Cut = read_as input (codes "cut") LineData.Cut (one_inverts large_inverts) (λ x s. record { printable = tt; seats = no_seats; numbers = s; head = tt }) (λ x. refl)
-  read_behind word.Total = read_as input (codes "total") LineData.Total (one_inverts signed_inverts) (λ x s. record { printable = tt; seats = no_seats; numbers = s; head = tt }) (λ x. refl)
-  read_behind word.Some = read_as input (codes "some") (λ (x : ℕ × ℕ). LineData.SomePair x.0 x.1) pairs_invert (λ x s. record { printable = s; seats = no_seats; numbers = tt; head = tt }) (λ x. refl)
-  read_behind word.All = read_as input (codes "all") (λ (x : ℕ × ℕ). LineData.AllPair x.0 x.1) pairs_invert (λ x s. record { printable = s; seats = no_seats; numbers = tt; head = tt }) (λ x. refl)
-  read_behind word.Vector = read_as input (codes "vector") LineData.Vector (one_inverts vector_inverts) (λ x s. record { printable = tt; seats = no_seats; numbers = s; head = tt }) (λ x. refl)
-  read_behind word.More = read_as input (codes "more") LineData.More (one_inverts vector_inverts) (λ x s. record { printable = tt; seats = no_seats; numbers = s; head = tt }) (λ x. refl)
-  read_behind word.Regret = read_as input (codes "regret") LineData.Regret (one_inverts small_inverts) (λ x s. record { printable = tt; seats = no_seats; numbers = s; head = tt }) (λ x. refl)
-  read_behind word.Left = read_as input (codes "left") (λ (x : ℕ × ℕ). LineData.LeftPair x.0 x.1) pairs_invert (λ x s. record { printable = s; seats = no_seats; numbers = tt; head = tt }) (λ x. refl)
-  read_behind word.Right = read_as input (codes "right") (λ (x : ℕ × ℕ). LineData.RightPair x.0 x.1) pairs_invert (λ x s. record { printable = s; seats = no_seats; numbers = tt; head = tt }) (λ x. refl)
-  read_behind word.Listed = read_as input (codes "listed") LineData.Listed (one_inverts small_inverts) (λ x s. record { printable = tt; seats = no_seats; numbers = s; head = tt }) (λ x. refl)
-  read_behind word.Tally = read_as input (codes "tally") (λ (x : ℕ × List ℕ). LineData.TallyLine x.0 x.1) tally_inverts (λ x s. record { printable = tt; seats = no_seats; numbers = s; head = tt }) (λ x. refl)
-  read_behind word.Yes = bare_read (codes "yes") LineData.Yes (record { printable = tt; seats = no_seats; numbers = tt; head = tt }) refl
-  read_behind word.No = read_as input (codes "no") (λ (x : ℕ × ℕ). LineData.No x.0 x.1) no_inverts (λ x s. record { printable = s.1; seats = no_seats; numbers = s.0; head = tt }) (λ x. refl)
-  read_behind word.End = bare_read (codes "end") LineData.End (record { printable = tt; seats = no_seats; numbers = tt; head = tt }) refl
+  read_behind keyword.Needs = read_as input (codes "needs") (λ (x : ℕ × List ℕ). LineData.Needs x.0 x.1) needs_inverts (λ x s. record { printable = tt; seats = no_seats; numbers = s; head = tt }) (λ x. refl)
+  read_behind keyword.Gain = read_as input (codes "gain") (λ (x : ℕ × ℤ). LineData.Gain x.0 x.1) gain_inverts (λ x s. record { printable = tt; seats = no_seats; numbers = s; head = tt }) (λ x. refl)
+  read_behind keyword.Flow = read_as input (codes "flow") (λ (x : (ℕ × ℕ) × ℕ). LineData.Flow x.0.0 x.0.1 x.1) three_inverts (λ x s. record { printable = tt; seats = no_seats; numbers = (s.0.0, s.0.1, s.1); head = tt }) (λ x. refl)
+  read_behind keyword.Taken = read_as input (codes "taken") LineData.Taken risings_invert (λ x s. record { printable = tt; seats = no_seats; numbers = s; head = tt }) (λ x. refl)
+  read_behind keyword.Value = read_as input (codes "value") LineData.Value (one_inverts large_inverts) (λ x s. record { printable = tt; seats = no_seats; numbers = s; head = tt }) (λ x. refl)
+  read_behind keyword.Cut = read_as input (codes "cut") LineData.Cut (one_inverts large_inverts) (λ x s. record { printable = tt; seats = no_seats; numbers = s; head = tt }) (λ x. refl)
+  read_behind keyword.Total = read_as input (codes "total") LineData.Total (one_inverts signed_inverts) (λ x s. record { printable = tt; seats = no_seats; numbers = s; head = tt }) (λ x. refl)
+  read_behind keyword.Some = read_as input (codes "some") (λ (x : ℕ × ℕ). LineData.SomePair x.0 x.1) pairs_invert (λ x s. record { printable = s; seats = no_seats; numbers = tt; head = tt }) (λ x. refl)
+  read_behind keyword.All = read_as input (codes "all") (λ (x : ℕ × ℕ). LineData.AllPair x.0 x.1) pairs_invert (λ x s. record { printable = s; seats = no_seats; numbers = tt; head = tt }) (λ x. refl)
+  read_behind keyword.Vector = read_as input (codes "vector") LineData.Vector (one_inverts vector_inverts) (λ x s. record { printable = tt; seats = no_seats; numbers = s; head = tt }) (λ x. refl)
+  read_behind keyword.More = read_as input (codes "more") LineData.More (one_inverts vector_inverts) (λ x s. record { printable = tt; seats = no_seats; numbers = s; head = tt }) (λ x. refl)
+  read_behind keyword.Regret = read_as input (codes "regret") LineData.Regret (one_inverts small_inverts) (λ x s. record { printable = tt; seats = no_seats; numbers = s; head = tt }) (λ x. refl)
+  read_behind keyword.Left = read_as input (codes "left") (λ (x : ℕ × ℕ). LineData.LeftPair x.0 x.1) pairs_invert (λ x s. record { printable = s; seats = no_seats; numbers = tt; head = tt }) (λ x. refl)
+  read_behind keyword.Right = read_as input (codes "right") (λ (x : ℕ × ℕ). LineData.RightPair x.0 x.1) pairs_invert (λ x s. record { printable = s; seats = no_seats; numbers = tt; head = tt }) (λ x. refl)
+  read_behind keyword.Listed = read_as input (codes "listed") LineData.Listed (one_inverts small_inverts) (λ x s. record { printable = tt; seats = no_seats; numbers = s; head = tt }) (λ x. refl)
+  read_behind keyword.Tally = read_as input (codes "tally") (λ (x : ℕ × List ℕ). LineData.TallyLine x.0 x.1) tally_inverts (λ x s. record { printable = tt; seats = no_seats; numbers = s; head = tt }) (λ x. refl)
+  read_behind keyword.Yes = bare_read (codes "yes") LineData.Yes (record { printable = tt; seats = no_seats; numbers = tt; head = tt }) refl
+  read_behind keyword.No = read_as input (codes "no") (λ (x : ℕ × ℕ). LineData.No x.0 x.1) no_inverts (λ x s. record { printable = s.1; seats = no_seats; numbers = s.0; head = tt }) (λ x. refl)
+  read_behind keyword.End = bare_read (codes "end") LineData.End (record { printable = tt; seats = no_seats; numbers = tt; head = tt }) refl
 
   -- a line that was read has the fields that it was read from
   pub line_read : (fields : List (List ℕ)) (line : LineData) → line_in input fields ≡ Some line → IsLineOf input line × (fields_of input line ≡ fields)
   unfolding headed_of
   line_read [] line e = absurd (none-some line e)
   line_read (name ∷ fields) line e =
-      let c = chained (λ w. line_behind input w fields) (look_up words name) line e in
+      let c = chained (λ w. line_behind input w fields) (look_up keywords name) line e in
       let r = read_behind c.from fields line c.gives in
-      let word : name_of c.from ≡ name = looked_up (λ n w. name_of w ≡ n) words words_named name c.from c.is in
+      let word : name_of c.from ≡ name = looked_up (λ n w. name_of w ≡ n) keywords keywords_named name c.from c.is in
       (r.sound, r.same ∙ ap (λ n. n ∷ fields) word)
 
   -- and a line's fields are read as the line
   again_as : {X : Type 0} {S : X → Type 0} {w : X → List (List ℕ)} {r : List (List ℕ) → Option X} (make : X → LineData) → Inverts S w r → (x : X) → S x → option_map make (r (w x)) ≡ Some (make x)
   again_as make h x s = ap (option_map make) (h.again x s)
 
-  seat_of : (x : Seat) → IsRight input x.reviewer → All (λ (s : Seat). IsSeatNumber (kind_of input) s.number) (x ∷ []) → IsSeat input x
+  seat_of : (x : Seat) → IsOnRight input x.reviewer → All (λ (s : Seat). IsSeatNumber (kind_of input) s.number) (x ∷ []) → IsSeat input x
   seat_of x h k = (h, All-head (λ (s : Seat). IsSeatNumber (kind_of input) s.number) x [] k)
 
   -- each line of the input is read again from its fields
@@ -282,7 +282,7 @@ module _ (input : Input) (sound : IsInput input) where
   line_again (LineData.First p to) s = again_as (λ (x : ℕ × Seat). LineData.First x.0 x.1) seated_invert (p, to) (s.printable.0, seat_of to s.printable.1 s.seats)
   line_again (LineData.Last p to) s = again_as (λ (x : ℕ × Seat). LineData.Last x.0 x.1) seated_invert (p, to) (s.printable.0, seat_of to s.printable.1 s.seats)
   line_again (LineData.ProposerList p list) s = again_as (λ (x : ℕ × List Seat). LineData.ProposerList x.0 x.1) proposer_inverts (p, list)
-      (s.printable.0, All-both (λ (y : Seat). IsRight input y.reviewer) (λ (y : Seat). IsSeatNumber (kind_of input) y.number) list s.printable.1 s.seats)
+      (s.printable.0, All-both (λ (y : Seat). IsOnRight input y.reviewer) (λ (y : Seat). IsSeatNumber (kind_of input) y.number) list s.printable.1 s.seats)
   line_again (LineData.ReviewerList of list) s = again_as (λ (x : Seat × List ℕ). LineData.ReviewerList x.0 x.1) reviewer_inverts (of, list) (seat_of of s.printable.0 s.seats, s.printable.1)
   line_again (LineData.Rotation i pairs) s = again_as (λ (x : ℕ × List (ℕ × Seat)). LineData.Rotation x.0 x.1) rotation_with_pairs_inverts (i, pairs)
       (s.numbers, λ k d below. ((s.printable k d below).0, ((s.printable k d below).1, All-of_map (λ (y : Seat). IsSeatNumber (kind_of input) y.number) (λ (pair : ℕ × Seat). pair.1) pairs s.seats k d below)))

@@ -4,15 +4,15 @@ use Rattle.std.proofs.Common.{Result, Ok, Err, IsErr, refl, sym, ap, ◌∙◌, 
 use Rattle.std.specs.List.{flat_map, join_with_byte}
 use Rattle.std.proofs.lemmas.List.{take_more, take_all}
 use Rattle.std.proofs.lemmas.List.Concat.{flat_map-append}
-use Rattle.sm_text.specs.Writer.{Written, Puts}
+use Rattle.sm_text.specs.Writer.{WriterData, PutsPiece}
 use Rattle.sm_instance.specs.declared.inputs.Input.{Input}
 use Rattle.sm_report.specs.declared.fields.Field.{Field}
 use Rattle.sm_report.specs.Texts.{vector_text}
-use Rattle.sm_report.specs.Fields.{IsShown, AreShown, spaced}
+use Rattle.sm_report.specs.Fields.{IsFieldSound, AreShown, spaced}
 use Rattle.sm_report.specs.Putting.{PutsText}
 
 -- one text and then another
-pub puts_then : {E : Type 0} {a b c : Written} {xs ys : List ℕ} (r : Result (Unit {0}) E) → PutsText {E = E} a b xs (Ok tt)
+pub puts_then : {E : Type 0} {a b c : WriterData} {xs ys : List ℕ} (r : Result (Unit {0}) E) → PutsText {E = E} a b xs (Ok tt)
     → PutsText {E = E} b c ys r → PutsText {E = E} a c (xs ++ ys) r
 puts_then {E} {a} {b} {c} {xs} {ys} (Ok done) first then = record {
   ok = then.ok ∙ ap (λ t. t ++ ys) first.ok ∙ append_assoc a.bytes xs ys;
@@ -33,7 +33,7 @@ puts_then {E} {a} {b} {c} {xs} {ys} (Err e) first then = record {
 }
 
 -- a text that wasn't put whole, in front of another
-pub puts_front : {E : Type 0} {a b : Written} {xs : List ℕ} (ys : List ℕ) (e : E) → PutsText {E = E} a b xs (Err e)
+pub puts_front : {E : Type 0} {a b : WriterData} {xs : List ℕ} (ys : List ℕ) (e : E) → PutsText {E = E} a b xs (Err e)
     → PutsText {E = E} a b (xs ++ ys) (Err e)
 puts_front {E} {a} {b} {xs} ys e part = record {
   ok = tt;
@@ -48,13 +48,13 @@ puts_front {E} {a} {b} {xs} ys e part = record {
 }
 
 -- another error
-pub puts_broken : {E : Type 0} {a b : Written} {text : List ℕ} (e : E) (r : Result (Unit {0}) E) → IsErr r
+pub puts_broken : {E : Type 0} {a b : WriterData} {text : List ℕ} (e : E) (r : Result (Unit {0}) E) → IsErr r
     → PutsText {E = E} a b text (Err e) → PutsText {E = E} a b text r
 puts_broken e (Ok done) is h = cc
 puts_broken e (Err other) is h = record { ok = tt; err = h.err; fits = h.fits; room = h.room }
 
 -- another text that is the same
-pub puts_same : {E : Type 0} {a b : Written} {xs ys : List ℕ} {r : Result (Unit {0}) E} → xs ≡ ys → PutsText {E = E} a b xs r
+pub puts_same : {E : Type 0} {a b : WriterData} {xs ys : List ℕ} {r : Result (Unit {0}) E} → xs ≡ ys → PutsText {E = E} a b xs r
     → PutsText {E = E} a b ys r
 puts_same {E} {a} {b} {xs} {ys} {r} same h = subst (λ t. PutsText {E = E} a b t r) same h
 
@@ -76,13 +76,13 @@ rest_of_items h (x ∷ xs) (suc i) within =
     (more.0, append_assoc (h x) (flat_map h (take i xs)) more.0 ∙ ap (λ t. h x ++ t) more.1)
 
 -- all items are put, behind some other text
-pub items_put : {E X : Type 0} (front : List ℕ) (h : X → List ℕ) (xs : List X) (i : ℕ) {a b : Written} {text : List ℕ} → length xs ≤ i
+pub items_put : {E X : Type 0} (front : List ℕ) (h : X → List ℕ) (xs : List X) (i : ℕ) {a b : WriterData} {text : List ℕ} → length xs ≤ i
     → front ++ flat_map h xs ≡ text
     → PutsText {E = E} a b (front ++ flat_map h (take i xs)) (Ok tt) → PutsText {E = E} a b text (Ok tt)
 items_put front h xs i all same so_far = puts_same (ap (λ t. front ++ flat_map h t) (take_all i xs all) ∙ same) so_far
 
 -- an item isn't put whole
-pub items_broken : {E X : Type 0} (front : List ℕ) (h : X → List ℕ) (xs : List X) (i : ℕ) (d : X) {a b c : Written} {text : List ℕ}
+pub items_broken : {E X : Type 0} (front : List ℕ) (h : X → List ℕ) (xs : List X) (i : ℕ) (d : X) {a b c : WriterData} {text : List ℕ}
     → (e : E) (r : Result (Unit {0}) E) → IsErr r → i < length xs → front ++ flat_map h xs ≡ text
     → PutsText {E = E} a b (front ++ flat_map h (take i xs)) (Ok tt) → PutsText {E = E} b c (h (get_or xs i d)) (Err e) → PutsText {E = E} a c text r
 items_broken front h xs i d e r is below same before here =
@@ -127,26 +127,26 @@ vector_is (n ∷ ns) some =
 
 -- each of some fields is shown
 pub shown_at : (input : Input) (fields : List Field) (i : ℕ) (d : Field) → i < length fields → AreShown input fields
-    → IsShown input (get_or fields i d)
+    → IsFieldSound input (get_or fields i d)
 shown_at input [] i d below shown = absurd (omega arith)
 shown_at input (f ∷ fs) zero d below shown = shown.0
 shown_at input (f ∷ fs) (suc i) d below shown = shown_at input fs i d (omega arith) shown.1
 
 -- a word and then fields
-pub words_put : {E : Type 0} {a b c : Written} (word : List ℕ) (fields : List (List ℕ)) (r : Result (Unit {0}) E)
-    → Puts {E = E} a b word (Ok tt) → PutsText {E = E} b c (spaced fields) r
+pub words_put : {E : Type 0} {a b c : WriterData} (word : List ℕ) (fields : List (List ℕ)) (r : Result (Unit {0}) E)
+    → PutsPiece {E = E} a b word (Ok tt) → PutsText {E = E} b c (spaced fields) r
     → PutsText {E = E} a c (join_with_byte 32 (word ∷ fields)) r
 words_put word fields r first then =
     puts_same (sym (joined_is_spaced word fields)) (puts_then r (record { ok = first.ok; err = tt; fits = λ _. refl; room = first.room }) then)
 
 -- the fields of a line, the last of which are those of a list
-pub line_put : {E : Type 0} {a b c : Written} {text : List ℕ} (word : List ℕ) (fields list : List (List ℕ)) (r : Result (Unit {0}) E)
+pub line_put : {E : Type 0} {a b c : WriterData} {text : List ℕ} (word : List ℕ) (fields list : List (List ℕ)) (r : Result (Unit {0}) E)
     → join_with_byte 32 (word ∷ (fields ++ list)) ≡ text
     → PutsText {E = E} a b (join_with_byte 32 (word ∷ fields)) (Ok tt) → PutsText {E = E} b c (spaced list) r → PutsText {E = E} a c text r
 line_put word fields list r same first then = puts_same (joined_then word fields list ∙ same) (puts_then r first then)
 
 -- where the word and the fields weren't put whole, neither was the line
-pub line_broken : {E : Type 0} {a b : Written} {text : List ℕ} (word : List ℕ) (fields list : List (List ℕ)) (e : E) (r : Result (Unit {0}) E)
+pub line_broken : {E : Type 0} {a b : WriterData} {text : List ℕ} (word : List ℕ) (fields list : List (List ℕ)) (e : E) (r : Result (Unit {0}) E)
     → IsErr r → join_with_byte 32 (word ∷ (fields ++ list)) ≡ text
     → PutsText {E = E} a b (join_with_byte 32 (word ∷ fields)) (Err e) → PutsText {E = E} a b text r
 line_broken word fields list e r is same first =

@@ -6,7 +6,7 @@ use Rattle.sm_instance.specs.declared.inputs.Input.{Input}
 use Rattle.sm_report.specs.declared.fields.Field.{Field}
 use Rattle.sm_report.specs.declared.fields.Field.TheVariants as field
 use Rattle.sm_report.specs.Texts.{left_name, right_name, seat_text, vector_text, end_text, limit_text}
-use Rattle.sm_report.specs.Sound.{IsLeft, IsRight}
+use Rattle.sm_report.specs.Sound.{IsOnLeft, IsOnRight}
 
 -- the text of a field
 abbrev pub text_of_field : Input → Field → List ℕ
@@ -22,16 +22,16 @@ text_of_field input (field.After v) = codes "after=" ++ vector_text v.now
 text_of_field input (field.Limit n) = limit_text n
 
 -- the agents that a field names are there
-abbrev pub IsShown : Input → Field → Type 0
-IsShown input (field.Left p) = IsLeft input p
-IsShown input (field.Right r) = IsRight input r
-IsShown input (field.At seat) = IsRight input seat.reviewer
-IsShown input _ = Unit {0}
+abbrev pub IsFieldSound : Input → Field → Type 0
+IsFieldSound input (field.Left p) = IsOnLeft input p
+IsFieldSound input (field.Right r) = IsOnRight input r
+IsFieldSound input (field.At seat) = IsOnRight input seat.reviewer
+IsFieldSound input _ = Unit {0}
 
 -- each of some fields can be shown
 abbrev pub AreShown : Input → List Field → Type 0
 AreShown input [] = Unit {0}
-AreShown input (f ∷ fs) = IsShown input f × AreShown input fs
+AreShown input (f ∷ fs) = IsFieldSound input f × AreShown input fs
 
 -- texts, each behind a space
 abbrev pub spaced : List (List ℕ) → List ℕ

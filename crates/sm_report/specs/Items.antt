@@ -5,7 +5,7 @@ use Rattle.sm_report.specs.declared.lines.Seat.{Seat}
 use Rattle.sm_report.specs.declared.items.Items.{Items}
 use Rattle.sm_report.specs.declared.items.Items.TheVariants.{Lefts, Seats, Pairs, Numbers, Figures}
 use Rattle.sm_report.specs.Texts.{left_name, seat_text, lefts, seats, seated_pairs, numbers}
-use Rattle.sm_report.specs.Sound.{IsLeft, AreSeats, AreSeatedPairs}
+use Rattle.sm_report.specs.Sound.{IsOnLeft, AreSeats, AreSeatedPairs}
 
 -- the fields of a list
 abbrev pub fields_of_items : Input → Items → List (List ℕ)
@@ -25,7 +25,7 @@ each_of input (Figures list) = map (λ n. decimal n ∷ []) list.now
 
 -- the agents that a list names are there
 abbrev pub AreNamed : Input → Items → Type 0
-AreNamed input (Lefts list) = All (IsLeft input) list.now
+AreNamed input (Lefts list) = All (IsOnLeft input) list.now
 AreNamed input (Seats list) = AreSeats input list.now
 AreNamed input (Pairs list) = AreSeatedPairs input list.now
 AreNamed input _ = Unit {0}

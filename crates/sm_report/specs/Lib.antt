@@ -8,5 +8,6 @@ pub mod Fields
 pub mod Witnesses
 pub mod Items
 pub mod Vectors
+pub mod Keywords
 pub mod Meanings
 pub mod Reading

@@ -1,6 +1,5 @@
 -- What the fields of a line mean.
-use Rattle.std.specs.Prelude.{ℕ, ◌+◌, ◌==◌, nat_lt, Bool, if◌then◌else◌, List, [], ◌∷◌, length, map, take, drop, codes, position, Option, Some, None, option_map, ℤ}
-use Rattle.std.specs.Borrow.{Bor}
+use Rattle.std.specs.Prelude.{ℕ, ◌+◌, ◌==◌, nat_lt, Bool, if◌then◌else◌, List, [], ◌∷◌, length, take, drop, codes, position, Option, Some, None, option_map, ℤ}
 use Rattle.std.specs.List.{slice_split, before_first, after_first}
 use Rattle.std.specs.Option.{option_and_then, option_zip}
 use Rattle.std.specs.Str.{bytes_eq}
@@ -17,16 +16,12 @@ use Rattle.sm_instance.specs.declared.kinds.Measure.{Measure}
 use Rattle.sm_instance.specs.declared.kinds.Measure.TheVariants.{Ranks, Given}
 use Rattle.sm_report.specs.declared.lines.Seat.{Seat}
 use Rattle.sm_report.specs.Heads.{HeadData}
-use Rattle.sm_report.specs.declared.words.Word.{Word}
-use Rattle.sm_report.specs.declared.words.Word.TheVariants as word
+use Rattle.sm_report.specs.declared.keywords.Keyword.{Keyword}
+use Rattle.sm_report.specs.declared.keywords.Keyword.TheVariants as keyword
 use Rattle.sm_report.specs.Lines.{LineData}
 use Rattle.sm_report.specs.Reasons.{reasons}
 use Rattle.sm_report.specs.Texts.{SOURCE, SINK}
 use Rattle.sm_report.specs.Vectors.{each_in, vector_in}
-
--- what slices hold
-abbrev pub texts_of : List (Bor (List ℕ)) → List (List ℕ)
-texts_of slices = map (λ (x : Bor (List ℕ)). x.now) slices
 
 -- the fields of a text, between which single spaces stand
 abbrev pub is_space : ℕ → Bool
@@ -41,37 +36,37 @@ abbrev pub look_up : {X : Type 0} → List (List ℕ × X) → List ℕ → Opti
 look_up [] name = None
 look_up (row ∷ rows) name = if bytes_eq name row.0 then Some row.1 else look_up rows name
 
--- the words with which lines begin
-abbrev pub words : List (List ℕ × Word)
-words =
-    (codes "answer", word.Answer)
-    ∷ (codes "pair", word.Pair)
-    ∷ (codes "none", word.Nothing)
-    ∷ (codes "party", word.Party)
-    ∷ (codes "first", word.First)
-    ∷ (codes "last", word.Last)
-    ∷ (codes "proposer", word.Proposer)
-    ∷ (codes "reviewer", word.Reviewer)
-    ∷ (codes "rotation", word.Rotation)
-    ∷ (codes "needs", word.Needs)
-    ∷ (codes "gain", word.Gain)
-    ∷ (codes "flow", word.Flow)
-    ∷ (codes "taken", word.Taken)
-    ∷ (codes "value", word.Value)
-    ∷ (codes "cut", word.Cut)
-    ∷ (codes "total", word.Total)
-    ∷ (codes "some", word.Some)
-    ∷ (codes "all", word.All)
-    ∷ (codes "vector", word.Vector)
-    ∷ (codes "more", word.More)
-    ∷ (codes "regret", word.Regret)
-    ∷ (codes "left", word.Left)
-    ∷ (codes "right", word.Right)
-    ∷ (codes "listed", word.Listed)
-    ∷ (codes "tally", word.Tally)
-    ∷ (codes "yes", word.Yes)
-    ∷ (codes "no", word.No)
-    ∷ (codes "end", word.End)
+-- the keywords with which lines begin
+abbrev pub keywords : List (List ℕ × Keyword)
+keywords =
+    (codes "answer", keyword.Answer)
+    ∷ (codes "pair", keyword.Pair)
+    ∷ (codes "none", keyword.Nothing)
+    ∷ (codes "party", keyword.Party)
+    ∷ (codes "first", keyword.First)
+    ∷ (codes "last", keyword.Last)
+    ∷ (codes "proposer", keyword.Proposer)
+    ∷ (codes "reviewer", keyword.Reviewer)
+    ∷ (codes "rotation", keyword.Rotation)
+    ∷ (codes "needs", keyword.Needs)
+    ∷ (codes "gain", keyword.Gain)
+    ∷ (codes "flow", keyword.Flow)
+    ∷ (codes "taken", keyword.Taken)
+    ∷ (codes "value", keyword.Value)
+    ∷ (codes "cut", keyword.Cut)
+    ∷ (codes "total", keyword.Total)
+    ∷ (codes "some", keyword.Some)
+    ∷ (codes "all", keyword.All)
+    ∷ (codes "vector", keyword.Vector)
+    ∷ (codes "more", keyword.More)
+    ∷ (codes "regret", keyword.Regret)
+    ∷ (codes "left", keyword.Left)
+    ∷ (codes "right", keyword.Right)
+    ∷ (codes "listed", keyword.Listed)
+    ∷ (codes "tally", keyword.Tally)
+    ∷ (codes "yes", keyword.Yes)
+    ∷ (codes "no", keyword.No)
+    ∷ (codes "end", keyword.End)
     ∷ []
 
 -- the proposer and the reviewer with a name, in roommates the person
@@ -242,16 +237,16 @@ abbrev pub no_in : List (List ℕ) → Option (ℕ × ℕ)
 no_in fields = option_and_then (λ x. option_zip (small_in x.0) (reason_in x.1)) (two_of fields)
 
 -- a command with its operands
-abbrev pub behind : List ℕ → List ℕ → Option (List ℕ)
-behind name text = if bytes_eq (take (length name) text) name then Some (drop (length name) text) else None
+abbrev pub behind_word : List ℕ → List ℕ → Option (List ℕ)
+behind_word name text = if bytes_eq (take (length name) text) name then Some (drop (length name) text) else None
 
 -- the operand of how many are listed
 abbrev pub limit_in : List ℕ → Option ℕ
-limit_in operand = option_and_then (number_within 1 most_limit) (behind (codes "limit=") operand)
+limit_in operand = option_and_then (number_within 1 most_limit) (behind_word (codes "limit=") operand)
 
 -- the operand of the vector behind which the list begins
 abbrev pub after_in : List ℕ → Option (List ℕ)
-after_in operand = option_and_then vector_in (behind (codes "after=") operand)
+after_in operand = option_and_then vector_in (behind_word (codes "after=") operand)
 
 -- the operands that name a side
 abbrev pub sides : List (List ℕ × Side)
@@ -305,42 +300,42 @@ head_in kind (command ∷ operand ∷ []) = operand_head_in kind command operand
 head_in kind (command ∷ after ∷ limit ∷ []) = list_head_in command after limit
 head_in kind _ = None
 
--- the line that begins with a word and has these fields behind it
+-- the line that begins with a keyword and has these fields behind it
 unfoldable pub bare_in : LineData → List (List ℕ) → Option LineData
 bare_in line [] = Some line
 bare_in line (_ ∷ _) = None
 
--- the line that a word and the fields behind it make
-abbrev pub line_behind : Input → Word → List (List ℕ) → Option LineData
-line_behind input word.Answer fields = option_map LineData.Answer (head_in (kind_of input) fields)
-line_behind input word.Pair fields = option_map (λ x. LineData.Pair x.0 x.1) (pair_in input fields)
-line_behind input word.Nothing fields = bare_in LineData.Nothing fields
-line_behind input word.Party fields = option_map LineData.Party (lefts_in input fields)
-line_behind input word.First fields = option_map (λ x. LineData.First x.0 x.1) (seated_in input fields)
-line_behind input word.Last fields = option_map (λ x. LineData.Last x.0 x.1) (seated_in input fields)
-line_behind input word.Proposer fields = option_map (λ x. LineData.ProposerList x.0 x.1) (proposer_in input fields)
-line_behind input word.Reviewer fields = option_map (λ x. LineData.ReviewerList x.0 x.1) (reviewer_in input fields)
-line_behind input word.Rotation fields = option_map (λ x. LineData.Rotation x.0 x.1) (rotation_with_pairs_in input fields)
-line_behind input word.Needs fields = option_map (λ x. LineData.Needs x.0 x.1) (needs_in fields)
-line_behind input word.Gain fields = option_map (λ x. LineData.Gain x.0 x.1) (gain_in fields)
-line_behind input word.Flow fields = option_map (λ x. LineData.Flow x.0.0 x.0.1 x.1) (flow_in fields)
-line_behind input word.Taken fields = option_map LineData.Taken (rising_in fields)
-line_behind input word.Value fields = option_map LineData.Value (option_and_then large_in (one_of fields))
-line_behind input word.Cut fields = option_map LineData.Cut (option_and_then large_in (one_of fields))
-line_behind input word.Total fields = option_map LineData.Total (option_and_then signed_in (one_of fields))
-line_behind input word.Some fields = option_map (λ x. LineData.SomePair x.0 x.1) (pair_in input fields)
-line_behind input word.All fields = option_map (λ x. LineData.AllPair x.0 x.1) (pair_in input fields)
-line_behind input word.Vector fields = option_map LineData.Vector (option_and_then vector_in (one_of fields))
-line_behind input word.More fields = option_map LineData.More (option_and_then vector_in (one_of fields))
-line_behind input word.Regret fields = option_map LineData.Regret (option_and_then small_in (one_of fields))
-line_behind input word.Left fields = option_map (λ x. LineData.LeftPair x.0 x.1) (pair_in input fields)
-line_behind input word.Right fields = option_map (λ x. LineData.RightPair x.0 x.1) (pair_in input fields)
-line_behind input word.Listed fields = option_map LineData.Listed (option_and_then small_in (one_of fields))
-line_behind input word.Tally fields = option_map (λ x. LineData.TallyLine x.0 x.1) (tally_in fields)
-line_behind input word.Yes fields = bare_in LineData.Yes fields
-line_behind input word.No fields = option_map (λ x. LineData.No x.0 x.1) (no_in fields)
-line_behind input word.End fields = bare_in LineData.End fields
+-- the line that a keyword and the fields behind it make
+abbrev pub line_behind : Input → Keyword → List (List ℕ) → Option LineData
+line_behind input keyword.Answer fields = option_map LineData.Answer (head_in (kind_of input) fields)
+line_behind input keyword.Pair fields = option_map (λ x. LineData.Pair x.0 x.1) (pair_in input fields)
+line_behind input keyword.Nothing fields = bare_in LineData.Nothing fields
+line_behind input keyword.Party fields = option_map LineData.Party (lefts_in input fields)
+line_behind input keyword.First fields = option_map (λ x. LineData.First x.0 x.1) (seated_in input fields)
+line_behind input keyword.Last fields = option_map (λ x. LineData.Last x.0 x.1) (seated_in input fields)
+line_behind input keyword.Proposer fields = option_map (λ x. LineData.ProposerList x.0 x.1) (proposer_in input fields)
+line_behind input keyword.Reviewer fields = option_map (λ x. LineData.ReviewerList x.0 x.1) (reviewer_in input fields)
+line_behind input keyword.Rotation fields = option_map (λ x. LineData.Rotation x.0 x.1) (rotation_with_pairs_in input fields)
+line_behind input keyword.Needs fields = option_map (λ x. LineData.Needs x.0 x.1) (needs_in fields)
+line_behind input keyword.Gain fields = option_map (λ x. LineData.Gain x.0 x.1) (gain_in fields)
+line_behind input keyword.Flow fields = option_map (λ x. LineData.Flow x.0.0 x.0.1 x.1) (flow_in fields)
+line_behind input keyword.Taken fields = option_map LineData.Taken (rising_in fields)
+line_behind input keyword.Value fields = option_map LineData.Value (option_and_then large_in (one_of fields))
+line_behind input keyword.Cut fields = option_map LineData.Cut (option_and_then large_in (one_of fields))
+line_behind input keyword.Total fields = option_map LineData.Total (option_and_then signed_in (one_of fields))
+line_behind input keyword.Some fields = option_map (λ x. LineData.SomePair x.0 x.1) (pair_in input fields)
+line_behind input keyword.All fields = option_map (λ x. LineData.AllPair x.0 x.1) (pair_in input fields)
+line_behind input keyword.Vector fields = option_map LineData.Vector (option_and_then vector_in (one_of fields))
+line_behind input keyword.More fields = option_map LineData.More (option_and_then vector_in (one_of fields))
+line_behind input keyword.Regret fields = option_map LineData.Regret (option_and_then small_in (one_of fields))
+line_behind input keyword.Left fields = option_map (λ x. LineData.LeftPair x.0 x.1) (pair_in input fields)
+line_behind input keyword.Right fields = option_map (λ x. LineData.RightPair x.0 x.1) (pair_in input fields)
+line_behind input keyword.Listed fields = option_map LineData.Listed (option_and_then small_in (one_of fields))
+line_behind input keyword.Tally fields = option_map (λ x. LineData.TallyLine x.0 x.1) (tally_in fields)
+line_behind input keyword.Yes fields = bare_in LineData.Yes fields
+line_behind input keyword.No fields = option_map (λ x. LineData.No x.0 x.1) (no_in fields)
+line_behind input keyword.End fields = bare_in LineData.End fields
 
 -- the line that these fields make
 abbrev pub line_in : Input → List (List ℕ) → Option LineData
-line_in input fields = option_and_then (λ x. option_and_then (λ w. line_behind input w x.1) (look_up words x.0)) (headed_of fields)
+line_in input fields = option_and_then (λ x. option_and_then (λ w. line_behind input w x.1) (look_up keywords x.0)) (headed_of fields)

@@ -14,16 +14,16 @@ use Rattle.sm_report.specs.Lines.{LineData}
 use Rattle.sm_report.specs.Reasons.{IsReason}
 
 -- the agents that a line names are there, and so is the reason of a `no`
-abbrev pub IsLeft : Input → ℕ → Type 0
-IsLeft input p = p < length (left_of input)
+abbrev pub IsOnLeft : Input → ℕ → Type 0
+IsOnLeft input p = p < length (left_of input)
 
 -- r is a reviewer, in roommates a person
-abbrev pub IsRight : Input → ℕ → Type 0
-IsRight input r = r < length (right_of input)
+abbrev pub IsOnRight : Input → ℕ → Type 0
+IsOnRight input r = r < length (right_of input)
 
 -- p is a proposer and r a reviewer
 abbrev pub ArePair : Input → ℕ → ℕ → Type 0
-ArePair input p r = IsLeft input p × IsRight input r
+ArePair input p r = IsOnLeft input p × IsOnRight input r
 
 -- each pair is of a proposer and a seat of some reviewer
 abbrev pub AreSeatedPairs : Input → List (ℕ × Seat) → Type 0
@@ -31,16 +31,16 @@ AreSeatedPairs input pairs = All (λ (pair : ℕ × Seat). ArePair input pair.0 
 
 -- each is a seat of some reviewer
 abbrev pub AreSeats : Input → List Seat → Type 0
-AreSeats input seats = All (λ (seat : Seat). IsRight input seat.reviewer) seats
+AreSeats input seats = All (λ (seat : Seat). IsOnRight input seat.reviewer) seats
 
 -- a line names agents of the instance and known reasons alone
 abbrev pub IsPrintable : Input → LineData → Type 0
 IsPrintable input (LineData.Pair p r) = ArePair input p r
-IsPrintable input (LineData.Party persons) = All (IsLeft input) persons
+IsPrintable input (LineData.Party persons) = All (IsOnLeft input) persons
 IsPrintable input (LineData.First p seat) = ArePair input p seat.reviewer
 IsPrintable input (LineData.Last p seat) = ArePair input p seat.reviewer
-IsPrintable input (LineData.ProposerList p seats) = IsLeft input p × AreSeats input seats
-IsPrintable input (LineData.ReviewerList seat proposers) = IsRight input seat.reviewer × All (IsLeft input) proposers
+IsPrintable input (LineData.ProposerList p seats) = IsOnLeft input p × AreSeats input seats
+IsPrintable input (LineData.ReviewerList seat proposers) = IsOnRight input seat.reviewer × All (IsOnLeft input) proposers
 IsPrintable input (LineData.Rotation i pairs) = AreSeatedPairs input pairs
 IsPrintable input (LineData.SomePair p r) = ArePair input p r
 IsPrintable input (LineData.AllPair p r) = ArePair input p r
@@ -50,13 +50,13 @@ IsPrintable input (LineData.No at reason) = IsReason reason
 IsPrintable input _ = Unit {0}
 
 -- the seats that a line names
-abbrev pub seats_of : LineData → List Seat
-seats_of (LineData.First p seat) = seat ∷ []
-seats_of (LineData.Last p seat) = seat ∷ []
-seats_of (LineData.ProposerList p seats) = seats
-seats_of (LineData.ReviewerList seat proposers) = seat ∷ []
-seats_of (LineData.Rotation i pairs) = map (λ pair. pair.1) pairs
-seats_of _ = []
+abbrev pub seats_in_line : LineData → List Seat
+seats_in_line (LineData.First p seat) = seat ∷ []
+seats_in_line (LineData.Last p seat) = seat ∷ []
+seats_in_line (LineData.ProposerList p seats) = seats
+seats_in_line (LineData.ReviewerList seat proposers) = seat ∷ []
+seats_in_line (LineData.Rotation i pairs) = map (λ pair. pair.1) pairs
+seats_in_line _ = []
 
 -- a seat's number, of which there is one alone but in hospitals
 abbrev pub IsSeatNumber : Kind → ℕ → Type 0
@@ -126,6 +126,6 @@ HasHeadOf kind _ = Unit {0}
 -- a line of an instance
 pub record IsLineOf (input : Input) (line : LineData) : Type 0 where
   pub printable : IsPrintable input line
-  pub seats : All (λ (seat : Seat). IsSeatNumber (kind_of input) seat.number) (seats_of line)
+  pub seats : All (λ (seat : Seat). IsSeatNumber (kind_of input) seat.number) (seats_in_line line)
   pub numbers : AreNumbers line
   pub head : HasHeadOf (kind_of input) line

@@ -36,6 +36,10 @@ room = Room (agent (codes "x") 1 ∷ agent (codes "y") 1 ∷ [])
 abbrev pub seat : ℕ → ℕ → Seat
 seat reviewer number = record { reviewer = reviewer; number = number }
 
+-- the first seat of a reviewer
+abbrev pub first_seat_of : ℕ → Seat
+first_seat_of r = seat r 1
+
 -- each line has the text beside it, and is what the text is read as
 abbrev pub HaveTexts : Input → List (LineData × List ℕ) → Type 0
 HaveTexts input rows = map (λ row. text_of_line input row.0) rows ≡ map (λ row. row.1) rows

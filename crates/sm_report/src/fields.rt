@@ -2,8 +2,8 @@
 
 ghost use Rattle.std.specs.Prelude.{◌∷◌, ◌++◌, map, codes, decimal};
 ghost use Rattle.sm_report.specs.Texts.{seat_text, vector_text, end_text};
-ghost use Rattle.sm_report.specs.Sound.{IsRight};
-ghost use Rattle.sm_report.specs.Fields.{text_of_field, IsShown, AreShown, spaced};
+ghost use Rattle.sm_report.specs.Sound.{IsOnRight};
+ghost use Rattle.sm_report.specs.Fields.{text_of_field, IsFieldSound, AreShown, spaced};
 ghost use Rattle.sm_report.specs.Putting.{PutsText};
 
 use crate::lines::Seat;
@@ -62,7 +62,7 @@ pub(crate) fn put_field(
     input: &Input,
     field: Field<'_>,
 ) -> Result<(), AllocError>
-    requires { IsShown input.now field }
+    requires { IsFieldSound input.now field }
     ensures { PutsText into.old into.new (32 ∷ text_of_field input.now field.entry) result }
 {
     into.put_bytes(b" ")?;
@@ -71,7 +71,7 @@ pub(crate) fn put_field(
 
 /// Puts a field.
 fn put_field_text(into: &mut LineWriter, input: &Input, field: Field<'_>) -> Result<(), AllocError>
-    requires { IsShown input.now field }
+    requires { IsFieldSound input.now field }
     ensures { PutsText into.old into.new (text_of_field input.now field.entry) result }
 {
     match field {
@@ -96,7 +96,7 @@ fn put_field_text(into: &mut LineWriter, input: &Input, field: Field<'_>) -> Res
 
 /// Puts a seat: its reviewer's name, in hospitals with `/` and its number behind it.
 fn put_seat(into: &mut LineWriter, input: &Input, seat: Seat) -> Result<(), AllocError>
-    requires { IsRight input.now seat.reviewer }
+    requires { IsOnRight input.now seat.reviewer }
     ensures { PutsText into.old into.new (seat_text input.now seat) result }
 {
     into.put_bytes(input.right_name(seat.reviewer))?;

@@ -2,7 +2,8 @@
 
 ghost use Rattle.std.specs.Prelude.{◌≡◌, IfOk, MatchOption, Some, None};
 ghost use Rattle.std.specs.Str.{bytes_eq};
-ghost use Rattle.sm_report.specs.Meanings.{texts_of, fields_in, one_of, two_of, three_of, headed_of, items_in};
+ghost use Rattle.sm_report.specs.Meanings.{fields_in, one_of, two_of, three_of, headed_of, items_in};
+ghost use Rattle.sm_text.specs.Slices.{texts_of};
 
 use std::alloc::{AllocError, Global};
 

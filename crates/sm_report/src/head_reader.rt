@@ -2,7 +2,8 @@
 
 ghost use Rattle.std.specs.Prelude.{◌≡◌, IfOk, MatchOption, option_map};
 ghost use Rattle.sm_report.specs.Heads.{head_of};
-ghost use Rattle.sm_report.specs.Meanings.{look_up, texts_of, behind, limit_in, after_in, sides, measures, bare_heads, bare_head_in, side_in, operand_head_in, list_head_in, head_in};
+ghost use Rattle.sm_report.specs.Meanings.{look_up, behind_word, limit_in, after_in, sides, measures, bare_head_in, side_in, operand_head_in, list_head_in, head_in};
+ghost use Rattle.sm_text.specs.Slices.{texts_of};
 
 use crate::field_readers::number_within;
 use crate::fields_of::is;
@@ -141,8 +142,8 @@ fn after_in(alloc: Global, operand: &[u8]) -> Result<Option<Vec<u32>>, AllocErro
 
 /// What stands behind an operand's name and `=`.
 fn behind<'a>(operand: &'a [u8], name: &[u8]) -> Option<&'a [u8]>
-    ensures { MatchOption result (behind name.now operand.now
-        ≡ None) (λ x. behind name.now operand.now ≡ Some x.now) }
+    ensures { MatchOption result (behind_word name.now operand.now
+        ≡ None) (λ x. behind_word name.now operand.now ≡ Some x.now) }
 {
     operand.strip_prefix(name)
 }

@@ -4,7 +4,8 @@ ghost use Rattle.std.specs.Prelude.{◌≡◌, IfOk, option_map};
 ghost use Rattle.std.specs.Option.{option_and_then};
 ghost use Rattle.sm_report.specs.Lines.{line_of, LineData};
 ghost use Rattle.sm_report.specs.Vectors.{vector_in};
-ghost use Rattle.sm_report.specs.Meanings.{texts_of, bare_in, one_of, small_in, large_in, signed_in, pair_in, seated_in, proposer_in, reviewer_in, rotation_with_pairs_in, needs_in, tally_in, gain_in, flow_in, no_in};
+ghost use Rattle.sm_report.specs.Meanings.{bare_in, one_of, small_in, large_in, signed_in, pair_in, seated_in, proposer_in, reviewer_in, rotation_with_pairs_in, needs_in, tally_in, gain_in, flow_in, no_in};
+ghost use Rattle.sm_text.specs.Slices.{texts_of};
 
 use crate::field_readers::{end_in, left_in, reason_in, right_in, rotation_in, seat_in};
 use crate::fields_of::{headed, one, three, two};

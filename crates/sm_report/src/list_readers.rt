@@ -3,7 +3,8 @@
 ghost use Rattle.std.specs.Prelude.{◌≡◌, IfOk, option_map};
 ghost use Rattle.std.specs.Option.{option_zip};
 ghost use Rattle.sm_report.specs.Vectors.{each_in};
-ghost use Rattle.sm_report.specs.Meanings.{texts_of, left_in, seat_in, large_in, rising_above, each_pair_in, lefts_in, seats_in, figures_in, rising_in, seated_pairs_in};
+ghost use Rattle.sm_report.specs.Meanings.{left_in, seat_in, large_in, rising_above, each_pair_in, lefts_in, seats_in, figures_in, rising_in, seated_pairs_in};
+ghost use Rattle.sm_text.specs.Slices.{texts_of};
 
 use crate::field_readers::{MOST_ROTATION, left_in, number_within, seat_in};
 use crate::fields_of::items_in;

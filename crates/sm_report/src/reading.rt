@@ -2,20 +2,21 @@
 
 ghost use Rattle.std.specs.Prelude.{◌≡◌, IfOk, IfErr, option_map};
 ghost use Rattle.sm_instance.specs.Inputs.{kind_of};
-ghost use Rattle.sm_report.specs.Lines.{line_of, LineData};
+ghost use Rattle.sm_report.specs.Lines.{line_of};
 ghost use Rattle.sm_report.specs.Reading.{HasText, IsLineFault};
-ghost use Rattle.sm_report.specs.Meanings.{texts_of, line_behind, line_in};
+ghost use Rattle.sm_report.specs.Meanings.{line_behind, line_in};
+ghost use Rattle.sm_text.specs.Slices.{texts_of};
 
 use crate::faults::LineFault;
 use crate::fields_of::{fields_in, headed};
 use crate::head_reader::head_in;
+use crate::keywords::{Keyword, keyword_named};
 use crate::line_readers::{
     bare_in, flow_in, gain_in, large_in, needs_in, no_in, only_vector_in, pair_in, proposer_in,
     reviewer_in, rotation_with_pairs_in, seated_in, small_in, tally_in, total_in,
 };
 use crate::lines::Line;
 use crate::list_readers::{lefts_in, rising_in};
-use crate::words::{Word, word_named};
 use sm_instance::{Input, Kind};
 use std::alloc::{AllocError, Global};
 
@@ -56,7 +57,7 @@ fn line_in(
     let Some((word, more)) = headed(fields) else {
         return Ok(None);
     };
-    match word_named(word) {
+    match keyword_named(word) {
         Some(word) => line_behind(alloc, input, kind, word, more),
         None => Ok(None),
     }
@@ -67,7 +68,7 @@ fn line_behind(
     alloc: Global,
     input: &Input,
     kind: Kind,
-    word: Word,
+    word: Keyword,
     fields: &[&[u8]],
 ) -> Result<Option<Line>, AllocError>
     requires { kind ≡ kind_of input.now }
@@ -75,33 +76,35 @@ fn line_behind(
         ≡ option_map line_of found) }
 {
     match word {
-        Word::Answer => Ok(head_in(alloc, kind, fields)?.map(Line::Answer)),
-        Word::Pair => Ok(pair_in(input, fields).map(|(p, r)| Line::Pair(p, r))),
-        Word::Nothing => Ok(bare_in(Line::Nothing, fields)),
-        Word::Party => Ok(lefts_in(alloc, input, fields)?.map(Line::Party)),
-        Word::First => Ok(seated_in(input, fields).map(|(p, seat)| Line::First(p, seat))),
-        Word::Last => Ok(seated_in(input, fields).map(|(p, seat)| Line::Last(p, seat))),
-        Word::Proposer => proposer_in(alloc, input, fields),
-        Word::Reviewer => reviewer_in(alloc, input, fields),
-        Word::Rotation => rotation_with_pairs_in(alloc, input, fields),
-        Word::Needs => needs_in(alloc, fields),
-        Word::Gain => Ok(gain_in(fields).map(|(i, gain)| Line::Gain(i, gain))),
-        Word::Flow => Ok(flow_in(fields).map(|((from, to), amount)| Line::Flow(from, to, amount))),
-        Word::Taken => Ok(rising_in(alloc, fields)?.map(Line::Taken)),
-        Word::Value => Ok(large_in(fields).map(Line::Value)),
-        Word::Cut => Ok(large_in(fields).map(Line::Cut)),
-        Word::Total => Ok(total_in(fields).map(Line::Total)),
-        Word::Some => Ok(pair_in(input, fields).map(|(p, r)| Line::SomePair(p, r))),
-        Word::All => Ok(pair_in(input, fields).map(|(p, r)| Line::AllPair(p, r))),
-        Word::Vector => Ok(only_vector_in(alloc, fields)?.map(Line::Vector)),
-        Word::More => Ok(only_vector_in(alloc, fields)?.map(Line::More)),
-        Word::Regret => Ok(small_in(fields).map(Line::Regret)),
-        Word::Left => Ok(pair_in(input, fields).map(|(p, r)| Line::LeftPair(p, r))),
-        Word::Right => Ok(pair_in(input, fields).map(|(p, r)| Line::RightPair(p, r))),
-        Word::Listed => Ok(small_in(fields).map(Line::Listed)),
-        Word::Tally => tally_in(alloc, fields),
-        Word::Yes => Ok(bare_in(Line::Yes, fields)),
-        Word::No => Ok(no_in(fields).map(|(at, reason)| Line::No(at, reason))),
-        Word::End => Ok(bare_in(Line::End, fields)),
+        Keyword::Answer => Ok(head_in(alloc, kind, fields)?.map(Line::Answer)),
+        Keyword::Pair => Ok(pair_in(input, fields).map(|(p, r)| Line::Pair(p, r))),
+        Keyword::Nothing => Ok(bare_in(Line::Nothing, fields)),
+        Keyword::Party => Ok(lefts_in(alloc, input, fields)?.map(Line::Party)),
+        Keyword::First => Ok(seated_in(input, fields).map(|(p, seat)| Line::First(p, seat))),
+        Keyword::Last => Ok(seated_in(input, fields).map(|(p, seat)| Line::Last(p, seat))),
+        Keyword::Proposer => proposer_in(alloc, input, fields),
+        Keyword::Reviewer => reviewer_in(alloc, input, fields),
+        Keyword::Rotation => rotation_with_pairs_in(alloc, input, fields),
+        Keyword::Needs => needs_in(alloc, fields),
+        Keyword::Gain => Ok(gain_in(fields).map(|(i, gain)| Line::Gain(i, gain))),
+        Keyword::Flow => Ok(flow_in(fields).map(|((from, to), amount)| Line::Flow(
+            from, to, amount,
+        ))),
+        Keyword::Taken => Ok(rising_in(alloc, fields)?.map(Line::Taken)),
+        Keyword::Value => Ok(large_in(fields).map(Line::Value)),
+        Keyword::Cut => Ok(large_in(fields).map(Line::Cut)),
+        Keyword::Total => Ok(total_in(fields).map(Line::Total)),
+        Keyword::Some => Ok(pair_in(input, fields).map(|(p, r)| Line::SomePair(p, r))),
+        Keyword::All => Ok(pair_in(input, fields).map(|(p, r)| Line::AllPair(p, r))),
+        Keyword::Vector => Ok(only_vector_in(alloc, fields)?.map(Line::Vector)),
+        Keyword::More => Ok(only_vector_in(alloc, fields)?.map(Line::More)),
+        Keyword::Regret => Ok(small_in(fields).map(Line::Regret)),
+        Keyword::Left => Ok(pair_in(input, fields).map(|(p, r)| Line::LeftPair(p, r))),
+        Keyword::Right => Ok(pair_in(input, fields).map(|(p, r)| Line::RightPair(p, r))),
+        Keyword::Listed => Ok(small_in(fields).map(Line::Listed)),
+        Keyword::Tally => tally_in(alloc, fields),
+        Keyword::Yes => Ok(bare_in(Line::Yes, fields)),
+        Keyword::No => Ok(no_in(fields).map(|(at, reason)| Line::No(at, reason))),
+        Keyword::End => Ok(bare_in(Line::End, fields)),
     }
 }

@@ -18,9 +18,9 @@ use Rattle.sm_instance.specs.declared.kinds.Side.TheVariants.{Proposers, Reviewe
 use Rattle.sm_instance.specs.Named.{SaidAgent, Said, nothing, names_of, entries_of}
 use Rattle.sm_reader.specs.Judging.{goes, verdict_on, said_with, has_repeated, capacity_in}
 use Rattle.sm_reader.proofs.TextLemmas.{equal_text}
-use Rattle.sm_report.proofs.DecimalLemmas.{number-decimal}
+use Rattle.sm_report.proofs.DecimalLemmas.{number_of-decimal}
 use Rattle.sm_printed.specs.Printed.{list_text, capacity_text, proposer_line, reviewer_line}
-use Rattle.sm_reprint.proofs.LineLemmas.{words_cut, named_cut, bracketed_cut, decimal_is_run, run_begins, IsFree, both_free, name_free, words_free, list_free, capacity_free}
+use Rattle.sm_reprint.proofs.LineLemmas.{words_cut, tokens-named, tokens-bracketed, decimal_is_run, begins_run-run, IsFree, both_free, name_free, words_free, list_free, capacity_free}
 use Rattle.sm_reprint.proofs.VerdictLemmas.{IsFaultless, proposer_goes, reviewer_goes, hospital_goes}
 
 -- an item that differs from those before it isn't found among them
@@ -108,7 +108,7 @@ module _ (kind : Kind) (done : List SaidAgent) (a : SaidAgent) (todo : List Said
   unfolding said_with
   proposer_step n =
       let own = own_of true 0 done a todo are in
-      ap (verdict_on kind (with_proposers done) n) ((words_cut (a.name ++ list_text a.entries)).0 ∙ ap (λ t. codes "p" ∷ t) (named_cut a.name a.entries own.name own.entries))
+      ap (verdict_on kind (with_proposers done) n) ((words_cut (a.name ++ list_text a.entries)).0 ∙ ap (λ t. codes "p" ∷ t) (tokens-named a.name a.entries own.name own.entries))
       ∙ proposer_goes (with_proposers done) a.name a.entries kind n proposer_faultless
       ∙ ap (λ (c : ℕ). goes (with_proposers (done ++ (record { name = a.name; capacity = c; line = n; entries = a.entries }) ∷ []))) (sym (own.one refl))
 
@@ -146,17 +146,17 @@ module _ (proposers done : List SaidAgent) (a : SaidAgent) (todo : List SaidAgen
   reviewer_step Marriage n two are =
       let own = own_of true (entries_of proposers) done a todo are in
       ap (λ t. verdict_on Marriage (with_reviewers proposers done) n (tokens (codes "r " ++ (t ++ list_text a.entries)))) (append-nil a.name)
-      ∙ ap (verdict_on Marriage (with_reviewers proposers done) n) ((words_cut (a.name ++ list_text a.entries)).1 ∙ ap (λ t. codes "r" ∷ t) (named_cut a.name a.entries own.name own.entries))
+      ∙ ap (verdict_on Marriage (with_reviewers proposers done) n) ((words_cut (a.name ++ list_text a.entries)).1 ∙ ap (λ t. codes "r" ∷ t) (tokens-named a.name a.entries own.name own.entries))
       ∙ reviewer_goes (with_reviewers proposers done) a.name a.entries n (reviewer_faultless true are)
       ∙ ap (λ (c : ℕ). goes (added n c)) (sym (own.one refl))
   reviewer_step Hospitals n two are =
       let own = own_of false (entries_of proposers) done a todo are in
-      let spelt : capacity_in (decimal a.capacity) ≡ Some a.capacity = number-decimal a.capacity most_capacity own.capacity (omega arith) in
+      let spelt : capacity_in (decimal a.capacity) ≡ Some a.capacity = number_of-decimal a.capacity most_capacity own.capacity (omega arith) in
       let small : a.capacity < 2 ^ 64 = omega (arith, own.capacity) in
       ap (verdict_on Hospitals (with_reviewers proposers done) n)
       ((words_cut (a.name ++ capacity_text Hospitals a.capacity ++ list_text a.entries)).1
-      ∙ ap (λ t. codes "r" ∷ t) (bracketed_cut a.name a.capacity a.entries own.name small own.entries))
-      ∙ hospital_goes (with_reviewers proposers done) a.name a.entries n (decimal a.capacity) (run_begins (decimal a.capacity) (decimal_is_run a.capacity small)) (ap is_none spelt)
+      ∙ ap (λ t. codes "r" ∷ t) (tokens-bracketed a.name a.capacity a.entries own.name small own.entries))
+      ∙ hospital_goes (with_reviewers proposers done) a.name a.entries n (decimal a.capacity) (begins_run-run (decimal a.capacity) (decimal_is_run a.capacity small)) (ap is_none spelt)
       (reviewer_faultless false are)
       ∙ ap (λ o. goes (added n (unwrap_or o 1))) spelt
 

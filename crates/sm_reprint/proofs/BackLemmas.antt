@@ -13,9 +13,9 @@ use Rattle.sm_reprint.proofs.PairLemmas.{pair_on_line, weight_on_line}
 use Rattle.sm_reprint.proofs.NameLemmas.{number_back, known_name, all_back, all_known}
 
 -- the names of agents that are read
-pub lined_names : (others agents : List AgentData) (n : ℕ) → names_of (lined on_line n (map (said_agent others) agents)) ≡ names_in agents
-lined_names others [] n = refl
-lined_names others (a ∷ agents) n = ap (λ t. a.name ∷ t) (lined_names others agents (n + 1))
+pub names_of-lined : (others agents : List AgentData) (n : ℕ) → names_of (lined on_line n (map (said_agent others) agents)) ≡ names_in agents
+names_of-lined others [] n = refl
+names_of-lined others (a ∷ agents) n = ap (λ t. a.name ∷ t) (names_of-lined others agents (n + 1))
 
 -- agents who list others
 module _ (others : List AgentData) (theirs : Bool) (them : AreSoundAgents others theirs) (names : List (List ℕ)) (are : names ≡ names_in others) where

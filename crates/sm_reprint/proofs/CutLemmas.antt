@@ -75,13 +75,13 @@ bytes_cut b (c ∷ run) rest bytes over =
     ∙ ap (onto_first b) (bytes_cut c run rest behind over)
 
 -- a run with no name byte behind it is a token, and behind it come those of the rest
-pub run_cut : (run rest : List ℕ) → IsRun run → begins_run rest ≡ false → tokens (run ++ rest) ≡ run ∷ tokens rest
-run_cut [] rest is over = absurd (omega (arith, is.some))
-run_cut (b ∷ run) rest is over = bytes_cut b run rest is.bytes over
+pub tokens-run : (run rest : List ℕ) → IsRun run → begins_run rest ≡ false → tokens (run ++ rest) ≡ run ∷ tokens rest
+tokens-run [] rest is over = absurd (omega (arith, is.some))
+tokens-run (b ∷ run) rest is over = bytes_cut b run rest is.bytes over
 
 -- a run by itself is one token
-pub run_alone : (run : List ℕ) → IsRun run → tokens run ≡ run ∷ []
-run_alone run is = ap tokens (sym (append-nil run)) ∙ run_cut run [] is refl
+pub tokens-run_alone : (run : List ℕ) → IsRun run → tokens run ≡ run ∷ []
+tokens-run_alone run is = ap tokens (sym (append-nil run)) ∙ tokens-run run [] is refl
 
 -- marks and blanks
 pub mark_cut : (rest : List ℕ) → (tokens (58 ∷ rest) ≡ codes ":" ∷ tokens rest) × (tokens (91 ∷ rest) ≡ codes "[" ∷ tokens rest) × (tokens (93 ∷ rest) ≡ codes "]" ∷ tokens rest)
@@ -89,9 +89,9 @@ unfolding is_blank begins_name is_name_byte
 mark_cut rest = (refl, refl, refl)
 
 -- a space in front is passed over
-pub blank_cut : (rest : List ℕ) → tokens (32 ∷ rest) ≡ tokens rest
+pub tokens-blank : (rest : List ℕ) → tokens (32 ∷ rest) ≡ tokens rest
 unfolding is_blank
-blank_cut rest = refl
+tokens-blank rest = refl
 
 -- a space, a colon and brackets begin no run
 pub no_run : (rest : List ℕ) → (begins_run (32 ∷ rest) ≡ false) × (begins_run (58 ∷ rest) ≡ false) × (begins_run (91 ∷ rest) ≡ false) × (begins_run (93 ∷ rest) ≡ false)
@@ -104,9 +104,9 @@ spaced_over [] = refl
 spaced_over (name ∷ names) = (no_run (name ++ spaced names)).0
 
 -- names behind spaces are cut into the names
-pub spaced_cut : (names : List (List ℕ)) → list_all is_name names ≡ true → tokens (spaced names) ≡ names
-spaced_cut [] are = refl
-spaced_cut (name ∷ names) are =
+pub tokens-spaced : (names : List (List ℕ)) → list_all is_name names ≡ true → tokens (spaced names) ≡ names
+tokens-spaced [] are = refl
+tokens-spaced (name ∷ names) are =
     let first = name_is_run name (first_true (is_name name) (list_all is_name names) are) in
-    blank_cut (name ++ spaced names) ∙ run_cut name (spaced names) first (spaced_over names)
-    ∙ ap (λ t. name ∷ t) (spaced_cut names (second_true (is_name name) (list_all is_name names) are))
+    tokens-blank (name ++ spaced names) ∙ tokens-run name (spaced names) first (spaced_over names)
+    ∙ ap (λ t. name ∷ t) (tokens-spaced names (second_true (is_name name) (list_all is_name names) are))

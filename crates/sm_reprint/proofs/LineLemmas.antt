@@ -14,7 +14,7 @@ use Rattle.sm_report.specs.Fields.{spaced}
 use Rattle.sm_report.proofs.DecimalLemmas.{first_true, second_true, digits_of_decimal}
 use Rattle.sm_report.proofs.FreeLemmas.{is_free, free_of, free-append}
 use Rattle.sm_printed.specs.Printed.{header_line, list_text, capacity_text}
-use Rattle.sm_reprint.proofs.CutLemmas.{IsRun, name_is_run, run_cut, mark_cut, blank_cut, no_run, spaced_cut}
+use Rattle.sm_reprint.proofs.CutLemmas.{IsRun, name_is_run, tokens-run, mark_cut, tokens-blank, no_run, tokens-spaced}
 
 -- Numbers are runs.
 
@@ -111,9 +111,9 @@ header_free Hospitals = record { of_LF = refl; of_CR = refl }
 header_free Roommates = record { of_LF = refl; of_CR = refl }
 
 -- a run begins with a name byte
-pub run_begins : (run : List ℕ) → IsRun run → begins_run run ≡ true
-run_begins [] is = absurd (omega (arith, is.some))
-run_begins (b ∷ run) is = first_true (is_name_byte b) (list_all is_name_byte run) is.bytes
+pub begins_run-run : (run : List ℕ) → IsRun run → begins_run run ≡ true
+begins_run-run [] is = absurd (omega (arith, is.some))
+begins_run-run (b ∷ run) is = first_true (is_name_byte b) (list_all is_name_byte run) is.bytes
 
 -- The tokens of lines.
 
@@ -134,30 +134,30 @@ headers_cut = (refl, refl, refl, refl)
 
 -- a name and a list
 list_cut : (names : List (List ℕ)) → list_all is_name names ≡ true → tokens (list_text names) ≡ codes ":" ∷ names
-list_cut names are = (mark_cut (spaced names)).0 ∙ ap (λ t. codes ":" ∷ t) (spaced_cut names are)
+list_cut names are = (mark_cut (spaced names)).0 ∙ ap (λ t. codes ":" ∷ t) (tokens-spaced names are)
 
 -- a name with a list behind it is cut into the name, the colon and the names on the list
-pub named_cut : (name : List ℕ) (names : List (List ℕ)) → is_name name ≡ true → list_all is_name names ≡ true → tokens (name ++ list_text names) ≡ name ∷ codes ":" ∷ names
-named_cut name names is are =
-    run_cut name (list_text names) (name_is_run name is) (no_run (spaced names)).1 ∙ ap (λ t. name ∷ t) (list_cut names are)
+pub tokens-named : (name : List ℕ) (names : List (List ℕ)) → is_name name ≡ true → list_all is_name names ≡ true → tokens (name ++ list_text names) ≡ name ∷ codes ":" ∷ names
+tokens-named name names is are =
+    tokens-run name (list_text names) (name_is_run name is) (no_run (spaced names)).1 ∙ ap (λ t. name ∷ t) (list_cut names are)
 
 -- a name with a capacity, and a list
-pub bracketed_cut : (name : List ℕ) (capacity : ℕ) (names : List (List ℕ)) → is_name name ≡ true → capacity < 2 ^ 64 → list_all is_name names ≡ true
+pub tokens-bracketed : (name : List ℕ) (capacity : ℕ) (names : List (List ℕ)) → is_name name ≡ true → capacity < 2 ^ 64 → list_all is_name names ≡ true
     → tokens (name ++ capacity_text Hospitals capacity ++ list_text names) ≡ name ∷ codes "[" ∷ decimal capacity ∷ codes "]" ∷ codes ":" ∷ names
-bracketed_cut name capacity names is small are =
+tokens-bracketed name capacity names is small are =
     let number = decimal capacity in
     let rest = codes "]" ++ list_text names in
     ap tokens (append_assoc name (capacity_text Hospitals capacity) (list_text names))
-    ∙ run_cut name (capacity_text Hospitals capacity ++ list_text names) (name_is_run name is) (no_run (codes "[" ++ (number ++ codes "]" ++ list_text names))).0
-    ∙ ap (λ t. name ∷ t) (blank_cut (codes "[" ++ (number ++ codes "]" ++ list_text names)) ∙ (mark_cut (number ++ codes "]" ++ list_text names)).1
+    ∙ tokens-run name (capacity_text Hospitals capacity ++ list_text names) (name_is_run name is) (no_run (codes "[" ++ (number ++ codes "]" ++ list_text names))).0
+    ∙ ap (λ t. name ∷ t) (tokens-blank (codes "[" ++ (number ++ codes "]" ++ list_text names)) ∙ (mark_cut (number ++ codes "]" ++ list_text names)).1
     ∙ ap (λ t. codes "[" ∷ tokens t) (append_assoc number (codes "]") (list_text names))
-    ∙ ap (λ t. codes "[" ∷ t) (run_cut number rest (decimal_is_run capacity small) (no_run (list_text names)).3
+    ∙ ap (λ t. codes "[" ∷ t) (tokens-run number rest (decimal_is_run capacity small) (no_run (list_text names)).3
     ∙ ap (λ t. number ∷ t) ((mark_cut (list_text names)).2 ∙ ap (λ t. codes "]" ∷ t) (list_cut names are))))
 
 -- the names of a pair, and what stands behind them
-pub pair_cut : (proposer reviewer rest : List ℕ) → is_name proposer ≡ true → is_name reviewer ≡ true → begins_run rest ≡ false
+pub tokens-pair : (proposer reviewer rest : List ℕ) → is_name proposer ≡ true → is_name reviewer ≡ true → begins_run rest ≡ false
     → tokens (proposer ++ codes " " ++ reviewer ++ rest) ≡ proposer ∷ reviewer ∷ tokens rest
-pair_cut proposer reviewer rest first second over =
+tokens-pair proposer reviewer rest first second over =
     ap tokens (append_assoc (proposer ++ codes " ") reviewer rest ∙ append_assoc proposer (codes " ") (reviewer ++ rest))
-    ∙ run_cut proposer (codes " " ++ reviewer ++ rest) (name_is_run proposer first) (no_run (reviewer ++ rest)).0
-    ∙ ap (λ t. proposer ∷ t) (blank_cut (reviewer ++ rest) ∙ run_cut reviewer rest (name_is_run reviewer second) over)
+    ∙ tokens-run proposer (codes " " ++ reviewer ++ rest) (name_is_run proposer first) (no_run (reviewer ++ rest)).0
+    ∙ ap (λ t. proposer ∷ t) (tokens-blank (reviewer ++ rest) ∙ tokens-run reviewer rest (name_is_run reviewer second) over)

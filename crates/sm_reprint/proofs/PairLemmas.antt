@@ -14,10 +14,10 @@ use Rattle.sm_instance.specs.declared.kinds.Kind.TheVariants.{Roommates}
 use Rattle.sm_instance.specs.Named.{SaidAgent, SaidPair, SaidWeight, Said, nothing, is_given_to}
 use Rattle.sm_reader.specs.Judging.{goes, verdict_on}
 use Rattle.sm_reader.proofs.TextLemmas.{equal_text}
-use Rattle.sm_report.proofs.DecimalLemmas.{first_true, second_true, signed-decimal}
+use Rattle.sm_report.proofs.DecimalLemmas.{first_true, second_true, signed_of-decimal}
 use Rattle.sm_printed.specs.Printed.{pair_text, weight_line, force_line, forbid_line}
-use Rattle.sm_reprint.proofs.CutLemmas.{run_alone, blank_cut, no_run}
-use Rattle.sm_reprint.proofs.LineLemmas.{words_cut, pair_cut, signed_is_run, run_begins, IsFree, both_free, name_free, run_free, words_free}
+use Rattle.sm_reprint.proofs.CutLemmas.{tokens-run_alone, tokens-blank, no_run}
+use Rattle.sm_reprint.proofs.LineLemmas.{words_cut, tokens-pair, signed_is_run, begins_run-run, IsFree, both_free, name_free, run_free, words_free}
 use Rattle.sm_reprint.proofs.VerdictLemmas.{weight_goes, force_goes, forbid_goes}
 use Rattle.sm_reprint.proofs.AgentLemmas.{fresh_in}
 
@@ -30,7 +30,7 @@ pub record HasNames (pair : SaidPair) : Type 0 where
 
 module _ (pair : SaidPair) (names : HasNames pair) where
   two_cut : tokens (pair_text pair) ≡ pair.proposer ∷ pair.reviewer ∷ []
-  two_cut = ap tokens (sym (append-nil (pair_text pair))) ∙ pair_cut pair.proposer pair.reviewer [] names.proposer names.reviewer refl
+  two_cut = ap tokens (sym (append-nil (pair_text pair))) ∙ tokens-pair pair.proposer pair.reviewer [] names.proposer names.reviewer refl
 
   two_free : IsFree (pair_text pair)
   two_free = both_free (both_free (name_free pair.proposer names.proposer) words_free.5) (name_free pair.reviewer names.reviewer)
@@ -100,8 +100,8 @@ module _ (proposers reviewers : List SaidAgent) where
         let names = own_weight.names in
         (words_cut (pair_text w.pair ++ codes " " ++ run)).2
         ∙ ap (λ t. codes "weight" ∷ tokens t) (append_assoc (pair_text w.pair) (codes " ") run)
-        ∙ ap (λ t. codes "weight" ∷ t) (pair_cut w.pair.proposer w.pair.reviewer (codes " " ++ run) names.proposer names.reviewer (no_run run).0
-        ∙ ap (λ t. w.pair.proposer ∷ w.pair.reviewer ∷ t) (blank_cut run ∙ run_alone run (signed_is_run w.weight (omega (arith, own_weight.size)))))
+        ∙ ap (λ t. codes "weight" ∷ t) (tokens-pair w.pair.proposer w.pair.reviewer (codes " " ++ run) names.proposer names.reviewer (no_run run).0
+        ∙ ap (λ t. w.pair.proposer ∷ w.pair.reviewer ∷ t) (tokens-blank run ∙ tokens-run_alone run (signed_is_run w.weight (omega (arith, own_weight.size)))))
 
     -- the line of the next weight goes on, and adds it
     pub weight_step : (n : ℕ) → kind ≢ Roommates
@@ -113,7 +113,7 @@ module _ (proposers reviewers : List SaidAgent) where
         ∙ fresh_in (is_key w.pair.proposer w.pair.reviewer) (key_of w) (only_key w.pair.proposer w.pair.reviewer) (map key_of done) (map key_of todo) are.differ in
         ap (verdict_on kind (with_weights done) n) weight_cut
         ∙ weight_goes (with_weights done) w.pair.proposer w.pair.reviewer names.proposer names.reviewer run w.weight
-        (run_begins run (signed_is_run w.weight (omega (arith, own_weight.size)))) (signed-decimal w.weight most_weight own_weight.size (omega arith)) fresh kind n two
+        (begins_run-run run (signed_is_run w.weight (omega (arith, own_weight.size)))) (signed_of-decimal w.weight most_weight own_weight.size (omega arith)) fresh kind n two
 
   -- The forced and the forbidden pairs.
 

@@ -20,7 +20,7 @@ use Rattle.sm_reader.specs.InstanceText.{ended, behind_header, before_header, in
 use Rattle.sm_printed.specs.Printed.{header_line, proposer_line, reviewer_line, weight_line, force_line, forbid_line, agent_lines, printed_lines}
 use Rattle.sm_reprint.proofs.CutLemmas.{with_end, lines_cut, content_of}
 use Rattle.sm_reprint.proofs.LineLemmas.{header_free, words_free}
-use Rattle.sm_reprint.proofs.VerdictLemmas.{header_heads, end_stops}
+use Rattle.sm_reprint.proofs.VerdictLemmas.{heading_of-header, verdict_on-end}
 use Rattle.sm_reprint.proofs.SectionLemmas.{lined, section_read, section_free}
 use Rattle.sm_reprint.proofs.AgentLemmas.{IsOwn, AreAgents, on_line, agents_next, with_proposers, proposer_step, proposer_free, with_reviewers, reviewer_step, reviewer_free}
 use Rattle.sm_reprint.proofs.PairLemmas.{HasNames, pair_on_line, IsOwnWeight, AreWeights, weight_on_line, weights_next, with_weights, weight_step, weight_free, with_forced, with_forbidden, force_step, forbid_step, force_free, forbid_free}
@@ -101,7 +101,7 @@ module _ (kind : Kind) (header : ℕ) where
   -- the last line
   end_read : (said : Said) (n place : ℕ) → behind_header kind header said n place (map with_end (codes "end" ∷ [])) ≡ ended kind header said (place + length (with_end (codes "end"))) (n + 1)
   end_read said n place =
-      let stops_here = ap (λ t. verdict_on kind said n (tokens t)) (content_of (codes "end") words_free.6.of_CR) ∙ end_stops kind said n in
+      let stops_here = ap (λ t. verdict_on kind said n (tokens t)) (content_of (codes "end") words_free.6.of_CR) ∙ verdict_on-end kind said n in
       rw stops_here refl
 
 -- the length of a text in two parts
@@ -184,7 +184,7 @@ lines_free kind said good =
 headed_read : (kind : Kind) (ls : List (List ℕ)) → before_header 1 0 (with_end (header_line kind) ∷ map with_end ls)
     ≡ behind_header kind 1 nothing 2 (0 + length (with_end (header_line kind))) (map with_end ls)
 headed_read kind ls =
-    let heading = ap (λ t. heading_of (tokens t)) (content_of (header_line kind) (header_free kind).of_CR) ∙ header_heads kind in
+    let heading = ap (λ t. heading_of (tokens t)) (content_of (header_line kind) (header_free kind).of_CR) ∙ heading_of-header kind in
     rw heading refl
 
 -- a printed text means what stands behind its header

@@ -16,7 +16,7 @@ use Rattle.sm_reprint.specs.Reading.{without_lines, printed_text, IsReadBack, Pr
 use Rattle.sm_reprint.proofs.CutLemmas.{with_end}
 use Rattle.sm_reprint.proofs.ReadLemmas.{lined_said, last_line, two_read, persons_read, lines_free, text_read}
 use Rattle.sm_reprint.proofs.InputLemmas.{two_good, room_good}
-use Rattle.sm_reprint.proofs.BackLemmas.{lined_names, agents_known, agents_back, pairs_known, pairs_back, weights_known, weights_back}
+use Rattle.sm_reprint.proofs.BackLemmas.{names_of-lined, agents_known, agents_back, pairs_known, pairs_back, weights_known, weights_back}
 
 five_empty : {a b c d e : List ℕ} → a ≡ [] → b ≡ [] → c ≡ [] → d ≡ [] → e ≡ [] → a ++ b ++ c ++ d ++ e ≡ []
 five_empty h1 h2 h3 h4 h5 = rw (h1, h2, h3, h4, h5) refl
@@ -52,10 +52,10 @@ module _ (w : Written) (sound : IsInstance w) where
   n4 = n3 + length said.forced
 
   proposer_names : names_of now.proposers ≡ names_in w.proposers
-  proposer_names = lined_names w.reviewers w.proposers 2
+  proposer_names = names_of-lined w.reviewers w.proposers 2
 
   reviewer_names : names_of now.reviewers ≡ names_in w.reviewers
-  reviewer_names = lined_names w.proposers w.reviewers n1
+  reviewer_names = names_of-lined w.proposers w.reviewers n1
 
   proposers_listed : (a i : ℕ) → i < length (row w.proposers a) → entry w.proposers a i < length w.reviewers
   proposers_listed a i on = (sound.proposer_entries.sound a i on).in_range
@@ -124,7 +124,7 @@ room_back persons sound short =
     let said : Said = said_of (Room persons) in
     let now = lined_said said in
     let good = room_good persons sound in
-    let names : names_of now.proposers ≡ names_in persons = lined_names persons persons 2 in
+    let names : names_of now.proposers ≡ names_in persons = names_of-lined persons persons 2 in
     let listed : (a i : ℕ) → i < length (row persons a) → entry persons a i < length persons = λ a i on. (sound.entries.sound a i on).in_range in
     let line = 2 + length said.proposers + 1 in
     record {

@@ -226,13 +226,13 @@ module _ (said : Said) (proposer reviewer : List ℕ) (first : is_name proposer 
 -- The header and the end.
 
 -- a printed header is the header of its kind
-pub header_heads : (kind : Kind) → heading_of (tokens (header_line kind)) ≡ heads kind
+pub heading_of-header : (kind : Kind) → heading_of (tokens (header_line kind)) ≡ heads kind
 unfolding heading_of header_of is_bad is_mark begins_name is_name_byte
-header_heads Marriage = ap heading_of headers_cut.0
-header_heads Hospitals = ap heading_of headers_cut.1
-header_heads Roommates = ap heading_of headers_cut.2
+heading_of-header Marriage = ap heading_of headers_cut.0
+heading_of-header Hospitals = ap heading_of headers_cut.1
+heading_of-header Roommates = ap heading_of headers_cut.2
 
 -- the line `end` stops the reading
-pub end_stops : (kind : Kind) (said : Said) (n : ℕ) → verdict_on kind said n (tokens (codes "end")) ≡ stops
+pub verdict_on-end : (kind : Kind) (said : Said) (n : ℕ) → verdict_on kind said n (tokens (codes "end")) ≡ stops
 unfolding verdict_on is_end is_bad is_mark begins_name is_name_byte
-end_stops kind said n = ap (verdict_on kind said n) headers_cut.3
+verdict_on-end kind said n = ap (verdict_on kind said n) headers_cut.3

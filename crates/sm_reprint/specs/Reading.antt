@@ -7,7 +7,7 @@ use Rattle.sm_instance.specs.declared.inputs.Input.{Input}
 use Rattle.sm_instance.specs.declared.inputs.Input.TheVariants.{Two, Room}
 use Rattle.sm_reader.specs.InstanceText.{ReadText, instance_text}
 use Rattle.sm_answer.specs.Writing.{text_of}
-use Rattle.sm_printed.specs.Lines.{lines_of}
+use Rattle.sm_printed.specs.Printed.{lines_of}
 
 -- an instance whose agents stand on no line
 abbrev pub unlined : AgentData → AgentData

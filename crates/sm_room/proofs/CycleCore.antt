@@ -2,14 +2,14 @@
 -- so it is for all, and whoever the walk began with is one of them.
 use Rattle.std.proofs.Common.{List, ◌≡◌, ℕ, zero, suc, ◌+◌, ◌-◌, ◌<◌, ◌≤◌, inl, inr, arith, ap, ◌∙◌}
 use Rattle.sm_lists.proofs.Counting.{lt_or_le, eq_or_ne}
-use Rattle.sm_room.specs.Bounds.{IsNext, IsGoodAt}
+use Rattle.sm_room.specs.Bounds.{IsNextPerson, IsGoodAt}
 use Rattle.sm_room.proofs.PhaseTwoCore.{Before, After, Round, Two, has_two_back, HasTwo, before_inside}
 
 -- the cycle at the end of a walk, over `p one` to `p end`, which has `p one` next
 pub record Walk (rows : List (List ℕ)) (b : ℕ → ℕ) (p : ℕ → ℕ) (one end : ℕ) : Type 0 where
   pub order : one ≤ end
-  pub steps : (i : ℕ) → one ≤ i → i < end → IsNext rows b (p i) (p (suc i))
-  pub closes : IsNext rows b (p end) (p one)
+  pub steps : (i : ℕ) → one ≤ i → i < end → IsNextPerson rows b (p i) (p (suc i))
+  pub closes : IsNextPerson rows b (p end) (p one)
 
 -- u is one of the cycle
 pub record On (p : ℕ → ℕ) (one end u : ℕ) : Type 0 where
@@ -28,7 +28,7 @@ module _ {rows : List (List ℕ)} {b : ℕ → ℕ} {p : ℕ → ℕ} {one end :
         | inr d ↦
             let k : ℕ = i - 1 in
             let up : suc k ≡ i = omega (arith, late, d) in
-            let n : IsNext rows b (p k) (p (suc k)) = w.steps k (omega (arith, up, late, d)) (omega (arith, up, early)) in
+            let n : IsNextPerson rows b (p k) (p (suc k)) = w.steps k (omega (arith, up, late, d)) (omega (arith, up, early)) in
             let f : p (suc k) ≡ v = ap p up ∙ e in
             record { who = p k; here = record { at = k; late = omega (arith, up, late, d); early = omega (arith, up, early); is = ap p (omega arith) }; next = rw f at n }
       ]
@@ -36,7 +36,7 @@ module _ {rows : List (List ℕ)} {b : ℕ → ℕ} {p : ℕ → ℕ} {one end :
   after_on : (x : ℕ) → On p one end x → After rows b (On p one end) x
   after_on x o = elim (lt_or_le o.at end) [
     | inl l ↦
-        let n : IsNext rows b (p o.at) (p (suc o.at)) = w.steps o.at o.late l in
+        let n : IsNextPerson rows b (p o.at) (p (suc o.at)) = w.steps o.at o.late l in
         record { who = p (suc o.at); here = record { at = suc o.at; late = omega (arith, o.late); early = omega (arith, l); is = ap p (omega arith) }; next = rw o.is at n }
     | inr l ↦
         let e : end ≡ o.at = omega (arith, l, o.early) in
@@ -80,7 +80,7 @@ module _ {rows : List (List ℕ)} {b : ℕ → ℕ} {p : ℕ → ℕ} {one end :
         none (all_have o.at o.late o.early (rw o.is (record { last = v; two = t })) one (omega arith) w.order)
 
     -- whoever the walk began with is on the cycle then
-    module _ (h : Has (p one)) (early : (i : ℕ) → i < one → IsNext rows b (p i) (p (suc i))) where
+    module _ (h : Has (p one)) (early : (i : ℕ) → i < one → IsNextPerson rows b (p i) (p (suc i))) where
       all_of : (v : ℕ) → On p one end v → Has v
       all_of v o = let e : p o.at ≡ v = o.is in rw e at (all_have one (omega arith) w.order h o.at o.late o.early)
 
@@ -89,8 +89,8 @@ module _ {rows : List (List ℕ)} {b : ℕ → ℕ} {p : ℕ → ℕ} {one end :
       to_start (suc d) h =
           let k : ℕ = one - suc d in
           let up : suc k ≡ one - d = omega (arith, h) in
-          let n : IsNext rows b (p k) (p (suc k)) = early k (omega (arith, up, h)) in
-          let m : IsNext rows b (p k) (p (one - d)) = rw up at n in
+          let n : IsNextPerson rows b (p k) (p (suc k)) = early k (omega (arith, up, h)) in
+          let m : IsNextPerson rows b (p k) (p (one - d)) = rw up at n in
           before_inside good round_of_walk (p k) (p (one - d)) all_of m (to_start d (omega (arith, h)))
 
       -- whoever the walk began with has two left, the last of the cycle

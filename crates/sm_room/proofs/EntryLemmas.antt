@@ -1,19 +1,15 @@
 -- Walking a list to its first fault, and reading cross places.
-use Rattle.std.proofs.Common.{◌≡◌, ◌≢◌, ℕ, ◌+◌, ◌<◌, ◌≤◌, List, [], Vec, Option, Some, None, length, map, get_or, set, refl, sym, ap, subst, ◌∙◌, arith, ⊎_elim}
+use Rattle.std.proofs.Common.{◌≡◌, ◌≢◌, ℕ, ◌+◌, ◌<◌, ◌≤◌, List, Option, Some, None, length, get_or, set, refl, sym, ap, subst, ◌∙◌, arith, ⊎_elim}
 use Rattle.std.proofs.lemmas.Bool.{cases_lt}
-use Rattle.std.proofs.lemmas.List.{length-set, length-map, get_or_past}
-use Rattle.std.specs.declared.alloc.Global.{Global}
-use Rattle.sm_lists.specs.Rows.{row, entry, rows_of, place_of}
-use Rattle.sm_lists.specs.Limits.{AreWithinLimits}
-use Rattle.sm_lists.specs.Crosses.{AreCrossPlaces}
-use Rattle.sm_lists.specs.Held.{held_in, place_in}
+use Rattle.std.proofs.lemmas.List.{length-set}
+use Rattle.sm_lists.specs.Rows.{row, entry, place_of}
+use Rattle.sm_lists.specs.Held.{place_in}
 use Rattle.sm_lists.proofs.ItemLemmas.{set_cases}
-use Rattle.sm_lists.proofs.RowLemmas.{row_in_range}
 use Rattle.sm_lists.proofs.FoundLemmas.{found_on-some, place_on-unfound}
-use Rattle.sm_market.proofs.WalkLemmas.{IsAmong, cross_at, crosses_read}
+use Rattle.sm_market.proofs.WalkLemmas.{IsAmong}
 use Rattle.sm_theory.specs.Rooms.{AreRoomLists}
 use Rattle.sm_room.specs.Entries.{IsSound}
-use Rattle.sm_room.specs.Kept.{IsRoomKept}
+use Rattle.sm_theory.specs.RoomsKept.{AreRoomsKept}
 
 -- the first i entries of x's list are sound, and whom they name is marked as met
 pub record IsWalked (rows : List (List ℕ)) (x i : ℕ) (met : List ℕ) : Type 0 where
@@ -49,24 +45,8 @@ walk_step {rows} {x} {i} {met} w y is in_range unmet =
 pub room_lists : {rows : List (List ℕ)} → ((x i : ℕ) → i < length (row rows x) → IsSound rows x i) → AreRoomLists rows
 room_lists sound = record { in_range = λ x i on. (sound x i on).in_range; distinct = λ x i j l on. (sound x j on).fresh i l }
 
--- cross places of sound lists, as they are kept
-pub room_kept : {rows : List (List ℕ)} (vectors : List (Vec ℕ Global)) → AreRoomLists rows → AreWithinLimits rows → AreCrossPlaces rows rows (held_in place_in vectors)
-    → IsRoomKept rows (rows_of vectors)
-room_kept {rows} vectors lists limits c =
-    let long : length (rows_of vectors) ≡ length rows = length-map vectors (λ v. v.items) ∙ sym (length-map vectors (λ v. map place_in v.items)) ∙ c.one_each in
-    record {
-      lists = lists;
-      limits = limits;
-      one_each = long;
-      as_long = λ x. ⊎_elim
-          (λ inside. sym (length-map (row (rows_of vectors) x) place_in) ∙ (crosses_read vectors x c inside).as_long)
-          (λ past. ap length (get_or_past (rows_of vectors) x [] (omega arith)) ∙ sym (ap length (get_or_past rows x [] past)))
-          (cases_lt x (length rows));
-      places = λ x i on. cross_at (row (rows_of vectors) x) (crosses_read vectors x c (row_in_range rows x i on)) i on;
-    }
-
 -- a cross place that is read is the place of the list's owner, and there is none where it has no place
-module _ {rows crosses : List (List ℕ)} (k : IsRoomKept rows crosses) (x i : ℕ) (on : i < length (row rows x)) where
+module _ {rows crosses : List (List ℕ)} (k : AreRoomsKept rows crosses) (x i : ℕ) (on : i < length (row rows x)) where
   -- a place that is read is the place of the list's owner
   pub cross-some : (n : ℕ) → Some n ≡ place_in (entry crosses x i) → n ≡ place_of rows (entry rows x i) x
   cross-some n is = sym (found_on-some (row rows (entry rows x i)) x n (sym (is ∙ k.places x i on))).0

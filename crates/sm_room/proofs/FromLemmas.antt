@@ -9,7 +9,7 @@ use Rattle.sm_room.specs.Bounds.{IsLeft, IsFirst, IsLast, IsSecond, IsGoodAt, bo
 use Rattle.sm_room.specs.Rotating.{IsLeftFrom, IsSecondPlace, AreHints}
 use Rattle.sm_room.proofs.TableCore.{one_at, same_foremost, has_second, left_before, had_second}
 use Rattle.sm_room.proofs.WalkLemmas.{zero_marks}
-use Rattle.sm_room.proofs.LeftLemmas.{place_at}
+use Rattle.sm_room.proofs.LeftLemmas.{place_of-entry}
 
 -- nothing is left at places between
 abbrev pub NoneBetween : List (List ℕ) → List ℕ → ℕ → ℕ → ℕ → Type 0
@@ -28,7 +28,7 @@ module _ {rows : List (List ℕ)} {bounds firsts seconds : List ℕ} (h : AreHin
   module _ {i : ℕ} (lists : AreRoomLists rows) (f : IsLeftFrom rows bounds x (get_or firsts x 0) i) where
     -- who is left first from the hint on is the first of the list
     pub first_is : IsFirst rows (bound_in bounds) x (entry rows x i)
-    first_is = record { left = f.left; least = λ z l. omega (arith, place_at lists x i f.on_list, f.least z l (h.first x z l)) }
+    first_is = record { left = f.left; least = λ z l. omega (arith, place_of-entry lists x i f.on_list, f.least z l (h.first x z l)) }
 
     -- whoever is left behind it, and not before the hint of the second, is the second
     module _ {from : ℕ} (is : from ≡ max (get_or seconds x 0) (i + 1)) where
@@ -37,14 +37,14 @@ module _ {rows : List (List ℕ)} {bounds firsts seconds : List ℕ} (h : AreHin
 
       from_le : (y : ℕ) → IsSecond rows (bound_in bounds) x y → from ≤ place_of rows x y
       from_le y s =
-          let less : i < place_of rows x y = omega (arith, place_at lists x i f.on_list, s.behind, f.least s.foremost s.first.left (h.first x s.foremost s.first.left)) in
+          let less : i < place_of rows x y = omega (arith, place_of-entry lists x i f.on_list, s.behind, f.least s.foremost s.first.left (h.first x s.foremost s.first.left)) in
           omega (arith, is, less, h.second x y s)
 
       module _ {j : ℕ} (g : IsLeftFrom rows bounds x from j) where
         second_of : IsSecond rows (bound_in bounds) x (entry rows x j)
         second_of =
-            let ei = place_at lists x i f.on_list in
-            let ej = place_at lists x j g.on_list in
+            let ei = place_of-entry lists x i f.on_list in
+            let ej = place_of-entry lists x j g.on_list in
             let w = has_second first_is g.left (omega (arith, ei, ej, behind, g.behind)) in
             let ge : j ≤ place_of rows x w.next = g.least w.next w.second.left (from_le w.next w.second) in
             let le : place_of rows x w.next ≤ place_of rows x (entry rows x j) = w.second.least (entry rows x j) g.left (omega (arith, same_foremost w.second first_is, ei, ej, behind, g.behind)) in
@@ -53,7 +53,7 @@ module _ {rows : List (List ℕ)} {bounds firsts seconds : List ℕ} (h : AreHin
 
         -- who is left next from there on stands at the place of the second
         pub second_at : IsSecondPlace rows bounds x j
-        second_at = record { on_list = g.on_list; at = place_at lists x j g.on_list; second = second_of }
+        second_at = record { on_list = g.on_list; at = place_of-entry lists x j g.on_list; second = second_of }
 
 -- hints stay hints while bounds fall
 pub hints_kept : {rows : List (List ℕ)} {firsts seconds : List ℕ} (old now : List ℕ) → ((y : ℕ) → get_or now y 0 ≤ get_or old y 0) → AreHints rows old firsts seconds → AreHints rows now firsts seconds
@@ -82,4 +82,4 @@ last_at {rows} {b} {y} {x} good i =
 
 -- who is left first from the beginning on is the first of the list
 pub first_at : {rows : List (List ℕ)} {bounds : List ℕ} {x i : ℕ} → AreRoomLists rows → IsLeftFrom rows bounds x 0 i → IsFirst rows (bound_in bounds) x (entry rows x i)
-first_at {rows} {bounds} {x} {i} h f = record { left = f.left; least = λ z l. omega (arith, place_at h x i f.on_list, f.least z l (omega arith)) }
+first_at {rows} {bounds} {x} {i} h f = record { left = f.left; least = λ z l. omega (arith, place_of-entry h x i f.on_list, f.least z l (omega arith)) }

@@ -13,14 +13,14 @@ use Rattle.sm_room.specs.Tables.{ListsLeft, IsTable, IsBound, AreBoundsOf}
 use Rattle.sm_room.specs.Proposing.{IsListLeft}
 
 -- an entry has its own place
-pub place_at : {rows : List (List ℕ)} → AreRoomLists rows → (x i : ℕ) → i < length (row rows x) → place_of rows x (entry rows x i) ≡ i
-place_at {rows} h x i on = place_on_is (row rows x) (entry rows x i) i on refl (λ k l. h.distinct x k i l on)
+pub place_of-entry : {rows : List (List ℕ)} → AreRoomLists rows → (x i : ℕ) → i < length (row rows x) → place_of rows x (entry rows x i) ≡ i
+place_of-entry {rows} h x i on = place_on_is (row rows x) (entry rows x i) i on refl (λ k l. h.distinct x k i l on)
 
 -- an entry is left where both persons list each other within their bounds
 pub left_where : {rows : List (List ℕ)} (b : ℕ → ℕ) (x i y c : ℕ) → AreRoomLists rows → i < length (row rows x) → y ≡ entry rows x i → c ≡ place_of rows (entry rows x i) x
     → x ≢ y → c < length (row rows y) → i ≤ b x → c ≤ b y → IsLeft rows b x (entry rows x i)
 left_where {rows} b x i y c h on is cross apart listed here there =
-    let e = place_at h x i on in
+    let e = place_of-entry h x i on in
     let listed' : c < length (row rows (entry rows x i)) = rw is at listed in
     let there' : c ≤ b (entry rows x i) = rw is at there in
     record {
@@ -40,7 +40,7 @@ pub record Where (rows : List (List ℕ)) (b : ℕ → ℕ) (x i y c : ℕ) : Ty
 pub where_left : {rows : List (List ℕ)} (b : ℕ → ℕ) (x i y c : ℕ) → AreRoomLists rows → i < length (row rows x) → y ≡ entry rows x i → c ≡ place_of rows (entry rows x i) x
     → IsLeft rows b x (entry rows x i) → Where rows b x i y c
 where_left {rows} b x i y c h on is cross l =
-    let e = place_at h x i on in
+    let e = place_of-entry h x i on in
     rw is (record { apart = l.acc.apart; listed = omega (arith, cross, l.acc.returned); here = omega (arith, e, l.here); there = omega (arith, cross, l.there) })
 
 module _ {rows : List (List ℕ)} {bounds : List ℕ} {x upto : ℕ} {list : List ℕ} (g : IsListLeft rows bounds x upto list) where
@@ -73,12 +73,12 @@ module _ {rows : List (List ℕ)} {bounds : List ℕ} {x upto : ℕ} {list : Lis
       | inr m ↦
           let e : length list ≡ j = omega (arith, m, k, long) in
           let b = g.below i (omega arith) in
-          rw (get_or_append_left list (z ∷ []) 0 i (omega arith), get_or_push list z 0 j e, is, place_at h x upto on) b
+          rw (get_or_append_left list (z ∷ []) 0 i (omega arith), get_or_push list z 0 j e, is, place_of-entry h x upto on) b
     ];
   }
     where
       below : (i : ℕ) → i < length (list ++ z ∷ []) → place_of rows x (get_or (list ++ z ∷ []) i 0) < upto + 1
-      below = push_cases (λ i y. place_of rows x y < upto + 1) list z 0 (rw (is, place_at h x upto on) (omega arith)) (λ i k. let b = g.below i k in omega arith)
+      below = push_cases (λ i y. place_of rows x y < upto + 1) list z 0 (rw (is, place_of-entry h x upto on) (omega arith)) (λ i k. let b = g.below i k in omega arith)
 
 -- all lists
 pub record AreListsLeft (rows : List (List ℕ)) (bounds : List ℕ) (upto : ℕ) (table : List (List ℕ)) : Type 0 where

@@ -6,7 +6,8 @@ use Rattle.sm_theory.specs.Rooms.{mate_of}
 use Rattle.sm_theory.specs.Partitions.{successor_in, after, IsStablePartition, IsInOddParty, IsLowestOfOdd, PairsAlternately}
 use Rattle.sm_theory.proofs.Room.Spots.{Spot, spot, after_plus, take_back}
 use Rattle.sm_room.specs.Pairing.{IsPaired, ArePaired, IsPartyPaired}
-use Rattle.sm_room.specs.Parties.{IsLeftOut, IsLowestInOdd}
+use Rattle.sm_room.specs.Parties.{IsLowestInOdd}
+use Rattle.sm_room.specs.PartiesKept.{IsLeftOut}
 
 paired_not : {next : List ℕ} {mates : List (Option ℕ)} {u : ℕ} → IsPaired next mates u → mate_of mates u ≡ None → ⊥
 paired_not w e = none-some _ (sym e ∙ w.is)

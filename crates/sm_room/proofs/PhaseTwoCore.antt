@@ -3,22 +3,22 @@
 use Rattle.std.proofs.Common.{List, ◌≡◌, ℕ, ◌<◌, ◌≤◌, ◌⊎◌, inl, inr, arith, sym}
 use Rattle.sm_lists.proofs.Counting.{lt_or_le}
 use Rattle.sm_lists.specs.Rows.{place_of}
-use Rattle.sm_room.specs.Bounds.{IsLeft, IsFirst, IsLast, IsSecond, IsNext, HasLast, IsGoodAt}
+use Rattle.sm_room.specs.Bounds.{IsLeft, IsFirst, IsLast, IsSecond, IsNextPerson, HasLast, IsGoodAt}
 use Rattle.sm_room.proofs.TableCore.{IsLeft-turn, one_first, one_final, one_second, same_foremost, has_first, has_second, HasFirst, one_at, turn, left_before}
 
 -- who is before somebody, and who is after, among those for whom C holds
 pub record Before (rows : List (List ℕ)) (b : ℕ → ℕ) (C : ℕ → Type 0) (v : ℕ) : Type 0 where
   pub who : ℕ
   pub here : C who
-  pub next : IsNext rows b who v
+  pub next : IsNextPerson rows b who v
 
 -- somebody for whom C holds comes after x
 pub record After (rows : List (List ℕ)) (b : ℕ → ℕ) (C : ℕ → Type 0) (x : ℕ) : Type 0 where
   pub who : ℕ
   pub here : C who
-  pub next : IsNext rows b x who
+  pub next : IsNextPerson rows b x who
 
--- a set of persons round which IsNext goes
+-- a set of persons round which IsNextPerson goes
 pub record Round (rows : List (List ℕ)) (b : ℕ → ℕ) (C : ℕ → Type 0) : Type 0 where
   pub before : (v : ℕ) → C v → Before rows b C v
   pub after : (x : ℕ) → C x → After rows b C x
@@ -54,13 +54,13 @@ module _ {rows : List (List ℕ)} {b : ℕ → ℕ} (good : IsGoodAt rows b) whe
   ]
 
   -- who comes next to x has x's second first
-  pub next_first : {x v : ℕ} → (n : IsNext rows b x v) → IsFirst rows b v n.over
+  pub next_first : {x v : ℕ} → (n : IsNextPerson rows b x v) → IsFirst rows b v n.over
   next_first {x} {v} n = good.last_first n.over v n.final
 
   -- somebody comes next to x, and has a second
   pub record Follows (x : ℕ) : Type 0 where
     pub who : ℕ
-    pub next : IsNext rows b x who
+    pub next : IsNextPerson rows b x who
     pub onward : ℕ
     pub second : IsSecond rows b who onward
 
@@ -102,7 +102,7 @@ module _ {rows : List (List ℕ)} {b : ℕ → ℕ} (good : IsGoodAt rows b) whe
       pub two : Two rows b C u last
 
     -- and so does whoever is before it
-    pub has_two_back : (u : ℕ) → HasTwo u → (x : ℕ) → C x → IsNext rows b x u → HasTwo x
+    pub has_two_back : (u : ℕ) → HasTwo u → (x : ℕ) → C x → IsNextPerson rows b x u → HasTwo x
     has_two_back u h x k n =
         let w = two_back u h.last h.two (round.before h.last h.two.there) in
         let v = two_back _ u w.1 (record { who = x; here = k; next = n }) in
@@ -121,7 +121,7 @@ module _ {rows : List (List ℕ)} {b : ℕ → ℕ} (good : IsGoodAt rows b) whe
         ]
 
     -- who isn't of the set isn't before one of it
-    pub before_inside : (x u : ℕ) → ((v : ℕ) → C v → HasTwo v) → IsNext rows b x u → C u → C x
+    pub before_inside : (x u : ℕ) → ((v : ℕ) → C v → HasTwo v) → IsNextPerson rows b x u → C u → C x
     before_inside x u all n k =
         let y : C n.over = two_inside u n.over (all u k) (next_first n).left in
         two_inside n.over x (all n.over y) (IsLeft-turn n.second.left)

@@ -11,7 +11,7 @@ use Rattle.sm_lists.proofs.PlaceLemmas.{place_on-le-at}
 use Rattle.sm_lists.proofs.RowLemmas.{row_fits}
 use Rattle.sm_lists.proofs.ItemLemmas.{set_cases}
 use Rattle.sm_room.specs.Bounds.{IsLeft, IsFirst, IsLast, IsGoodAt, IsProposing, HasHolder, bound_in}
-use Rattle.sm_room.specs.Proposing.{IsProgress, IsTaken, IsTakenFor, IsPassed}
+use Rattle.sm_room.specs.Proposing.{IsProgress, IsProposalTaken, IsTakenFor, IsPassed}
 use Rattle.sm_room.proofs.TableCore.{IsLeft-turn, one_first, one_final, one_at, turn, has_first, inside_rows}
 use Rattle.sm_room.proofs.PhaseOneCore.{proposing_at_start, proposing_goes_on, good_at_end}
 
@@ -129,7 +129,7 @@ module _ {rows : List (List ℕ)} {begun away : ℕ} {passed bounds : List ℕ} 
     last_rests = λ x y l. let k = g.last_begun x y l in omega (arith, k);
   }
 
-  module _ (after : List ℕ) (in_ : away < begun) (t : IsTaken rows away (get_or passed away 0) bounds after) where
+  module _ (after : List ℕ) (in_ : away < begun) (t : IsProposalTaken rows away (get_or passed away 0) bounds after) where
     abbrev y : ℕ
     y = entry rows away (get_or passed away 0)
 

@@ -5,8 +5,8 @@ use Rattle.std.proofs.lemmas.List.Sums.{sum_by-cons}
 use Rattle.std.specs.List.{sum_by}
 use Rattle.sm_lists.specs.Rows.{entry, place_of}
 use Rattle.sm_lists.proofs.Counting.{lt_or_le, eq_or_ne}
-use Rattle.sm_room.specs.Bounds.{IsLast, IsSecond, IsNext, IsGoodAt, bound_in}
-use Rattle.sm_room.specs.Rotating.{HasTwoLeft, IsShort, met, IsWalk, IsClosed, IsOwnParty, IsCutBy, AreCut, IsRotated, GoesTo}
+use Rattle.sm_room.specs.Bounds.{IsLast, IsSecond, IsNextPerson, IsGoodAt, bound_in}
+use Rattle.sm_room.specs.Rotating.{HasTwoLeft, IsShort, met, IsCycleWalk, IsClosedWalk, IsOwnParty, IsCutBy, AreSecondsCut, IsRotated, GoesTo}
 use Rattle.sm_theory.specs.Partitions.{IsStablePartition}
 use Rattle.sm_room.proofs.EndCore.{partition_at_end}
 use Rattle.sm_room.proofs.TableCore.{one_final, one_second, has_first, has_second, inside_rows, turn, left_before, had_second}
@@ -70,14 +70,14 @@ sum_lt (x ∷ xs) (y ∷ ys) (suc k) long le h lt =
     let rest = sum_lt xs ys k (omega arith) (λ i. le (suc i)) (omega arith) lt in
     omega (arith, sum_by-cons (λ (i : ℕ). i) x xs, sum_by-cons (λ (i : ℕ). i) y ys)
 
-module _ {rows : List (List ℕ)} {bounds path places : List ℕ} {one : ℕ} (closed : IsClosed rows bounds path places one) where
+module _ {rows : List (List ℕ)} {bounds path places : List ℕ} {one : ℕ} (closed : IsClosedWalk rows bounds path places one) where
   abbrev p : ℕ → ℕ
   p i = get_or path i 0
 
   -- who comes next at an index of the cycle, and at which index
   pub record NextOn (i : ℕ) : Type 0 where
     pub at : ℕ
-    pub next : IsNext rows (bound_in bounds) (get_or path i 0) (get_or path at 0)
+    pub next : IsNextPerson rows (bound_in bounds) (get_or path i 0) (get_or path at 0)
     pub inside : at < length path
     pub which : ((suc i < length path) × (at ≡ suc i)) ⊎ ((length path ≤ suc i) × (at ≡ one))
 
@@ -86,7 +86,7 @@ module _ {rows : List (List ℕ)} {bounds path places : List ℕ} {one : ℕ} (c
     | inl l ↦ record { at = suc i; next = closed.steps i l (closed.goes i late h); inside = l; which = inl (l, refl) }
     | inr l ↦
         let e : length path - 1 ≡ i = omega (arith, l, h) in
-        let n : IsNext rows (bound_in bounds) (p i) (p one) = rw e at closed.closes in
+        let n : IsNextPerson rows (bound_in bounds) (p i) (p one) = rw e at closed.closes in
         record { at = one; next = n; inside = closed.order; which = inr (l, refl) }
   ]
 
@@ -107,8 +107,8 @@ module _ {rows : List (List ℕ)} {bounds path places : List ℕ} {one : ℕ} (c
       ]
 
   -- the second of one more person of the cycle is cut behind it
-  pub cut_step : {i : ℕ} {now : List ℕ} (y v : ℕ) → AreCut rows bounds path one i now → one ≤ i → i < length path → length bounds ≡ length rows
-      → y ≡ entry rows (p i) (get_or places i 0) → v ≡ place_of rows y (p i) → AreCut rows bounds path one (i + 1) (set now y v)
+  pub cut_step : {i : ℕ} {now : List ℕ} (y v : ℕ) → AreSecondsCut rows bounds path one i now → one ≤ i → i < length path → length bounds ≡ length rows
+      → y ≡ entry rows (p i) (get_or places i 0) → v ≡ place_of rows y (p i) → AreSecondsCut rows bounds path one (i + 1) (set now y v)
   cut_step {i} {now} y v g late h long is to = record { one_each = length-set now y v ∙ g.one_each; cut = cut; other = other }
     where
       second : IsSecond rows (bound_in bounds) (p i) y
@@ -177,7 +177,7 @@ module _ {rows : List (List ℕ)} {bounds path places : List ℕ} {one : ℕ} (c
         let h = start_has walk_of good has (λ i l. closed.steps i (omega (arith, l, closed.order)) (early two i (omega (arith, l, closed.order)))) in
         short_two h.two.second (omega (arith, h.two.at)))
 
-  module _ {i : ℕ} {now : List ℕ} (good : IsGoodAt rows (bound_in bounds)) (apart : IsOwnParty rows bounds path one → ⊥) (g : AreCut rows bounds path one i now) (full : i ≡ length path) where
+  module _ {i : ℕ} {now : List ℕ} (good : IsGoodAt rows (bound_in bounds)) (apart : IsOwnParty rows bounds path one → ⊥) (g : AreSecondsCut rows bounds path one i now) (full : i ≡ length path) where
     cuts : Cuts rows (bound_in bounds) (bound_in now) C
     cuts = record {
       cut = λ x y k f.
@@ -249,7 +249,7 @@ module _ {rows : List (List ℕ)} {bounds path places : List ℕ} {one : ℕ} (c
           (omega (arith, h, is)) (closed.steps j (omega (arith, h, within)) two) still.second (closed.seconds j (omega (arith, h, within)) two).second
 
       -- the path before the cycle is still a walk
-      pub walk_back : IsWalk rows now (take keep path) (take keep places) (p keep)
+      pub walk_back : IsCycleWalk rows now (take keep path) (take keep places) (p keep)
       walk_back = record {
         steps = λ j h t. let l : j < keep = omega (arith, h, long) in let k = kept j l t in
             rw (at j (omega (arith, l)), at (suc j) (omega (arith, l))) (record { over = entry rows (p j) (get_or places j 0); second = k.0; final = k.1 });

@@ -3,7 +3,7 @@
 use Rattle.std.proofs.Common.{List, ◌≡◌, ◌≢◌, ℕ, suc, ◌<◌, ◌≤◌, inl, inr, arith, sym}
 use Rattle.sm_lists.specs.Rows.{place_of}
 use Rattle.sm_lists.proofs.Counting.{lt_or_le}
-use Rattle.sm_room.specs.Bounds.{IsLeft, IsFirst, IsLast, IsSecond, IsNext, IsGoodAt}
+use Rattle.sm_room.specs.Bounds.{IsLeft, IsFirst, IsLast, IsSecond, IsNextPerson, IsGoodAt}
 use Rattle.sm_room.proofs.TableCore.{IsLeft-turn, one_final, one_second}
 use Rattle.sm_room.proofs.PhaseTwoCore.{Two, Cuts, before_cuts, last_first}
 use Rattle.sm_room.proofs.CycleCore.{Walk, On, round_of_walk}
@@ -45,7 +45,7 @@ module _ {rows : List (List ℕ)} {b : ℕ → ℕ} {p : ℕ → ℕ} {one end :
         last_first good (round_of_walk w) cuts none f u (keeps_last f u (uncut f u l out) l)
 
     -- who is before the cycle and keeps two left keeps its second, and the last of that one
-    module _ {i : ℕ} (h : suc i < one) (n : IsNext rows b (p i) (p (suc i))) {z : ℕ} (still : IsSecond rows c (p i) z) {y : ℕ} (f : IsSecond rows b (p i) y) where
+    module _ {i : ℕ} (h : suc i < one) (n : IsNextPerson rows b (p i) (p (suc i))) {z : ℕ} (still : IsSecond rows c (p i) z) {y : ℕ} (f : IsSecond rows b (p i) y) where
       final : IsLast rows b y (p (suc i))
       final = let e : n.over ≡ y = one_second n.second f in rw e at n.final
 

@@ -7,8 +7,8 @@ use Rattle.std.specs.List.{sum_by}
 use Rattle.sm_lists.specs.Rows.{entry, place_of}
 use Rattle.sm_lists.proofs.Counting.{lt_or_le, pigeonhole}
 use Rattle.sm_lists.proofs.ItemLemmas.{push_cases, set_cases}
-use Rattle.sm_room.specs.Bounds.{IsLast, IsSecond, IsNext, IsGoodAt, bound_in}
-use Rattle.sm_room.specs.Rotating.{IsSecondPlace, HasTwoLeft, met, IsPath, IsWalk, IsClosed, IsOwnParty, AreUnmarked}
+use Rattle.sm_room.specs.Bounds.{IsLast, IsSecond, IsNextPerson, IsGoodAt, bound_in}
+use Rattle.sm_room.specs.Rotating.{IsSecondPlace, HasTwoLeft, met, IsPathKept, IsCycleWalk, IsClosedWalk, IsOwnParty, AreUnmarked}
 use Rattle.sm_room.proofs.TableCore.{one_final, one_second}
 use Rattle.sm_room.proofs.PhaseTwoCore.{follows}
 
@@ -46,7 +46,7 @@ zero_marks n z marks e =
     ])
 
 -- an empty path is a walk to any person
-pub walk_begins : {rows : List (List ℕ)} {bounds : List ℕ} {x : ℕ} (path places : List ℕ) → path ≡ [] → x < length rows → IsWalk rows bounds path places x
+pub walk_begins : {rows : List (List ℕ)} {bounds : List ℕ} {x : ℕ} (path places : List ℕ) → path ≡ [] → x < length rows → IsCycleWalk rows bounds path places x
 walk_begins {rows} {bounds} {x} path places p there = rw p (record {
   steps = λ i h. absurd (omega arith);
   seconds = λ i h. absurd (omega arith);
@@ -54,20 +54,20 @@ walk_begins {rows} {bounds} {x} path places p there = rw p (record {
 })
 
 -- one more person on the path changes nothing of where it begins
-pub starts_kept : (path : List ℕ) (x v : ℕ) → met (path ++ x ∷ []) v 0 ≡ met path x 0
-starts_kept path x v = get_or_append_left (path ++ x ∷ []) (v ∷ []) 0 0 (omega (arith, length_push path x))
+pub met-push : (path : List ℕ) (x v : ℕ) → met (path ++ x ∷ []) v 0 ≡ met path x 0
+met-push path x v = get_or_append_left (path ++ x ∷ []) (v ∷ []) 0 0 (omega (arith, length_push path x))
 
 -- who comes next has two left
-pub next_goes : {rows : List (List ℕ)} {bounds : List ℕ} {x v : ℕ} → IsGoodAt rows (bound_in bounds) → IsNext rows (bound_in bounds) x v → HasTwoLeft rows bounds v
+pub next_goes : {rows : List (List ℕ)} {bounds : List ℕ} {x v : ℕ} → IsGoodAt rows (bound_in bounds) → IsNextPerson rows (bound_in bounds) x v → HasTwoLeft rows bounds v
 next_goes {rows} {bounds} {x} {v} good n =
     let w = follows good x n.over n.second in
     let e : w.next.over ≡ n.over = one_second w.next.second n.second in
     let is : w.who ≡ v = one_final (rw e at w.next.final) n.final in
     record { next = w.onward; second = rw is at w.second }
 
-module _ {rows : List (List ℕ)} {path places marks : List ℕ} (k : IsPath rows path places marks) (x : ℕ) (there : x < length rows) (fresh : get_or marks x 0 ≡ 0) where
+module _ {rows : List (List ℕ)} {path places marks : List ℕ} (k : IsPathKept rows path places marks) (x : ℕ) (there : x < length rows) (fresh : get_or marks x 0 ≡ 0) where
   -- one more person on the path
-  pub path_goes_on : (place : ℕ) → IsPath rows (path ++ x ∷ []) (places ++ place ∷ []) (set marks x (length path + 1))
+  pub path_goes_on : (place : ℕ) → IsPathKept rows (path ++ x ∷ []) (places ++ place ∷ []) (set marks x (length path + 1))
   path_goes_on place = record {
     place_each = omega (arith, long, length_push places place, k.place_each);
     inside = push_cases (λ i z. z < length rows) path x 0 there k.inside;
@@ -93,10 +93,10 @@ module _ {rows : List (List ℕ)} {path places marks : List ℕ} (k : IsPath row
           (λ _. (omega (arith, long), get_or_push path x 0 (length path + 1 - 1) (omega arith)))
           (λ w ne some. let m = k.marked w some in (omega (arith, m.0, long), get_or_append_left path (x ∷ []) 0 (get_or marks w 0 - 1) (omega (arith, m.0, some)) ∙ m.1)) z
 
-module _ {rows : List (List ℕ)} {bounds path places : List ℕ} {x : ℕ} (good : IsGoodAt rows (bound_in bounds)) (g : IsWalk rows bounds path places x) where
+module _ {rows : List (List ℕ)} {bounds path places : List ℕ} {x : ℕ} (good : IsGoodAt rows (bound_in bounds)) (g : IsCycleWalk rows bounds path places x) where
   -- one more step, to v
   pub walk_goes_on : (place v : ℕ) → length places ≡ length path → IsSecondPlace rows bounds x place → IsLast rows (bound_in bounds) (entry rows x place) v → v < length rows
-      → IsWalk rows bounds (path ++ x ∷ []) (places ++ place ∷ []) v
+      → IsCycleWalk rows bounds (path ++ x ∷ []) (places ++ place ∷ []) v
   walk_goes_on place v place_each second last there = record { steps = steps; seconds = seconds; here = there }
     where
       long : length (path ++ x ∷ []) ≡ length path + 1
@@ -105,7 +105,7 @@ module _ {rows : List (List ℕ)} {bounds path places : List ℕ} {x : ℕ} (goo
       same : (i : ℕ) → i < length (path ++ x ∷ []) → met (path ++ x ∷ []) v i ≡ met path x i
       same i h = get_or_append_left (path ++ x ∷ []) (v ∷ []) 0 i h
 
-      steps : (i : ℕ) → i < length (path ++ x ∷ []) → HasTwoLeft rows bounds (met (path ++ x ∷ []) v i) → IsNext rows (bound_in bounds) (met (path ++ x ∷ []) v i) (met (path ++ x ∷ []) v (suc i))
+      steps : (i : ℕ) → i < length (path ++ x ∷ []) → HasTwoLeft rows bounds (met (path ++ x ∷ []) v i) → IsNextPerson rows (bound_in bounds) (met (path ++ x ∷ []) v i) (met (path ++ x ∷ []) v (suc i))
       steps i h two = elim (lt_or_le i (length path)) [
         | inl l ↦ rw (same i h, same (suc i) (omega (arith, l, long))) (g.steps i l (rw (same i h) at two))
         | inr l ↦
@@ -136,7 +136,7 @@ module _ {rows : List (List ℕ)} {bounds path places : List ℕ} {x : ℕ} (goo
   goes_on two = let e : length path + 0 ≡ length path = omega arith in rw at_end at (rw e at (goes_from (length path) 0 (omega arith) two))
 
   -- x was met before, at the index `one`
-  module _ {marks : List ℕ} {one : ℕ} (kept : IsPath rows path places marks) (two : HasTwoLeft rows bounds x) (is : get_or marks x 0 ≡ suc one) where
+  module _ {marks : List ℕ} {one : ℕ} (kept : IsPathKept rows path places marks) (two : HasTwoLeft rows bounds x) (is : get_or marks x 0 ≡ suc one) where
     at_one : (suc one ≤ length path) × (get_or path one 0 ≡ x)
     at_one = let k = kept.marked x (λ e. omega (arith, is, e)) in (omega (arith, k.0, is), ap (λ z. get_or path z 0) (omega (arith, is)) ∙ k.1)
 
@@ -152,13 +152,13 @@ module _ {rows : List (List ℕ)} {bounds path places : List ℕ} {x : ℕ} (goo
         let first : HasTwoLeft rows bounds (met path x one) = rw (on_path one order, at_one.1) two in
         rw (on_path i h) at (rw e at (goes_from (i - one) one (omega (arith, e, h)) first))
 
-    steps_on : (i : ℕ) → suc i < length path → HasTwoLeft rows bounds (get_or path i 0) → IsNext rows (bound_in bounds) (get_or path i 0) (get_or path (suc i) 0)
+    steps_on : (i : ℕ) → suc i < length path → HasTwoLeft rows bounds (get_or path i 0) → IsNextPerson rows (bound_in bounds) (get_or path i 0) (get_or path (suc i) 0)
     steps_on i h t =
         let less : i < length path = omega (arith, h) in
         let n = g.steps i less (rw (on_path i less) t) in
         rw (on_path i less, on_path (suc i) h) at n
 
-    closes : IsNext rows (bound_in bounds) (get_or path (length path - 1) 0) (get_or path one 0)
+    closes : IsNextPerson rows (bound_in bounds) (get_or path (length path - 1) 0) (get_or path one 0)
     closes =
         let end : ℕ = length path - 1 in
         let up : suc end ≡ length path = omega (arith, order) in
@@ -168,7 +168,7 @@ module _ {rows : List (List ℕ)} {bounds path places : List ℕ} {x : ℕ} (goo
         rw (on_path end less, b) at n
 
     -- the walk is closed at that index
-    pub walk_closes : IsClosed rows bounds path places one
+    pub walk_closes : IsClosedWalk rows bounds path places one
     walk_closes = record {
       order = order;
       goes = goes;
@@ -185,7 +185,7 @@ module _ {rows : List (List ℕ)} {bounds path places : List ℕ} {x : ℕ} (goo
     starts_on = sym (on_path 0 (omega (arith, order)))
 
 -- a path is no longer than there are persons
-pub path_fits : {rows : List (List ℕ)} {path places marks : List ℕ} → IsPath rows path places marks → length path ≤ length rows
+pub path_fits : {rows : List (List ℕ)} {path places marks : List ℕ} → IsPathKept rows path places marks → length path ≤ length rows
 path_fits {rows} {path = path} g = elim (lt_or_le (length rows) (length path)) [
   | inr le ↦ le
   | inl more ↦
@@ -198,8 +198,8 @@ path_fits {rows} {path = path} g = elim (lt_or_le (length rows) (length path)) [
 ]
 
 -- what is left of a path once it is cut off
-pub path_kept : {rows : List (List ℕ)} {path places marks now : List ℕ} {keep upto : ℕ} → IsPath rows path places marks → AreUnmarked path keep upto marks now → upto ≡ length path → keep ≤ length path
-    → IsPath rows (take keep path) (take keep places) now
+pub path_kept : {rows : List (List ℕ)} {path places marks now : List ℕ} {keep upto : ℕ} → IsPathKept rows path places marks → AreUnmarked path keep upto marks now → upto ≡ length path → keep ≤ length path
+    → IsPathKept rows (take keep path) (take keep places) now
 path_kept {rows} {path} {places} {marks} {now} {keep} {upto} k u full le = record {
   place_each = length-take-le keep places (omega (arith, k.place_each, le)) ∙ sym long;
   inside = λ i h. rw (get_or-take keep path i 0 (omega (arith, h, long))) (k.inside i (omega (arith, h, long, le)));
@@ -235,7 +235,7 @@ path_kept {rows} {path} {places} {marks} {now} {keep} {upto} k u full le = recor
     ]
 
 -- whether the cycle is a party by itself, by the second of the person at its beginning and the mark of that one
-module _ {rows : List (List ℕ)} {bounds path places marks : List ℕ} {one x place : ℕ} (kept : IsPath rows path places marks) (closed : IsClosed rows bounds path places one)
+module _ {rows : List (List ℕ)} {bounds path places marks : List ℕ} {one x place : ℕ} (kept : IsPathKept rows path places marks) (closed : IsClosedWalk rows bounds path places one)
     (is : x ≡ get_or path one x) (stands : place ≡ get_or places one place) where
   begins : x ≡ get_or path one 0
   begins = is ∙ get_or_default_zero path one x closed.order

@@ -52,7 +52,7 @@ pub record IsProposing (rows : List (List ℕ)) (b : ℕ → ℕ) : Type 0 where
   pub each : (y : ℕ) → (length (row rows y) ≤ b y) ⊎ HasHolder rows b y
 
 -- v is last on the list of x's second
-pub record IsNext (rows : List (List ℕ)) (b : ℕ → ℕ) (x v : ℕ) : Type 0 where
+pub record IsNextPerson (rows : List (List ℕ)) (b : ℕ → ℕ) (x v : ℕ) : Type 0 where
   pub over : ℕ
   pub second : IsSecond rows b x over
   pub final : IsLast rows b over v

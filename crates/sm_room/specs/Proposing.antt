@@ -16,18 +16,18 @@ pub record IsProgress (rows : List (List ℕ)) (begun away : ℕ) (passed bounds
   pub last_rests : (x y : ℕ) → IsLast rows (bound_in bounds) y x → x ≢ away
 
 -- x proposes to the person at a place of its list, who is left there and takes it
-pub record IsTaken (rows : List (List ℕ)) (x place : ℕ) (before after : List ℕ) : Type 0 where
+pub record IsProposalTaken (rows : List (List ℕ)) (x place : ℕ) (before after : List ℕ) : Type 0 where
   pub left : IsLeft rows (bound_in before) x (entry rows x place)
   pub stands : after ≡ slice_set before (entry rows x place) (place_of rows (entry rows x place) x)
 
 -- nobody was taken before
 pub record IsTakenIn (rows : List (List ℕ)) (x place : ℕ) (before after : List ℕ) : Type 0 where
-  pub taken : IsTaken rows x place before after
+  pub taken : IsProposalTaken rows x place before after
   pub was_free : length (row rows (entry rows x place)) ≤ slice_index before (entry rows x place)
 
 -- z was, and is let go
 pub record IsTakenFor (rows : List (List ℕ)) (x place z : ℕ) (before after : List ℕ) : Type 0 where
-  pub taken : IsTaken rows x place before after
+  pub taken : IsProposalTaken rows x place before after
   pub on_list : slice_index before (entry rows x place) < length (row rows (entry rows x place))
   pub lets_go : z ≡ entry rows (entry rows x place) (slice_index before (entry rows x place))
 

@@ -3,7 +3,7 @@ use Rattle.std.specs.Prelude.{◌≡◌, ◌≢◌, ℕ, suc, ◌+◌, ◌-◌, 
 use Rattle.std.specs.List.{sum_by}
 use Rattle.sm_lists.specs.Rows.{row, entry, place_of}
 use Rattle.sm_theory.specs.Partitions.{successor_in}
-use Rattle.sm_room.specs.Bounds.{IsLeft, IsFirst, IsLast, IsSecond, IsNext, IsGoodAt, bound_in}
+use Rattle.sm_room.specs.Bounds.{IsLeft, IsFirst, IsLast, IsSecond, IsNextPerson, IsGoodAt, bound_in}
 
 -- the first place from some place on whose entry is left
 pub record IsLeftFrom (rows : List (List ℕ)) (bounds : List ℕ) (x from i : ℕ) : Type 0 where
@@ -39,7 +39,7 @@ met path x i = slice_index (path ++ x ∷ []) i
 
 -- what is kept of a walk: the persons on its path, a place for each, and a mark for each person, which is one more than its
 -- index on the path, or 0
-pub record IsPath (rows : List (List ℕ)) (path places marks : List ℕ) : Type 0 where
+pub record IsPathKept (rows : List (List ℕ)) (path places marks : List ℕ) : Type 0 where
   pub place_each : length places ≡ length path
   pub inside : (i : ℕ) → i < length path → slice_index path i < length rows
   pub mark_each : length marks ≡ length rows
@@ -47,8 +47,8 @@ pub record IsPath (rows : List (List ℕ)) (path places marks : List ℕ) : Type
   pub marked : (z : ℕ) → slice_index marks z ≢ 0 → (slice_index marks z ≤ length path) × (slice_index path (slice_index marks z - 1) ≡ z)
 
 -- a walk over the path to x: whoever of it has two left has the one behind it next, and stands with the place of its second
-pub record IsWalk (rows : List (List ℕ)) (bounds path places : List ℕ) (x : ℕ) : Type 0 where
-  pub steps : (i : ℕ) → i < length path → HasTwoLeft rows bounds (met path x i) → IsNext rows (bound_in bounds) (met path x i) (met path x (suc i))
+pub record IsCycleWalk (rows : List (List ℕ)) (bounds path places : List ℕ) (x : ℕ) : Type 0 where
+  pub steps : (i : ℕ) → i < length path → HasTwoLeft rows bounds (met path x i) → IsNextPerson rows (bound_in bounds) (met path x i) (met path x (suc i))
   pub seconds : (i : ℕ) → i < length path → HasTwoLeft rows bounds (met path x i) → IsSecondPlace rows bounds (slice_index path i) (slice_index places i)
   pub here : x < length rows
 
@@ -73,11 +73,11 @@ pub record AreHints (rows : List (List ℕ)) (bounds firsts seconds : List ℕ) 
   pub second : (x y : ℕ) → IsSecond rows (bound_in bounds) x y → slice_index seconds x ≤ place_of rows x y
 
 -- the walk has come back to its index `one`, and whoever is on the cycle has two left
-pub record IsClosed (rows : List (List ℕ)) (bounds path places : List ℕ) (one : ℕ) : Type 0 where
+pub record IsClosedWalk (rows : List (List ℕ)) (bounds path places : List ℕ) (one : ℕ) : Type 0 where
   pub order : one < length path
   pub goes : (i : ℕ) → one ≤ i → i < length path → HasTwoLeft rows bounds (slice_index path i)
-  pub steps : (i : ℕ) → suc i < length path → HasTwoLeft rows bounds (slice_index path i) → IsNext rows (bound_in bounds) (slice_index path i) (slice_index path (suc i))
-  pub closes : IsNext rows (bound_in bounds) (slice_index path (length path - 1)) (slice_index path one)
+  pub steps : (i : ℕ) → suc i < length path → HasTwoLeft rows bounds (slice_index path i) → IsNextPerson rows (bound_in bounds) (slice_index path i) (slice_index path (suc i))
+  pub closes : IsNextPerson rows (bound_in bounds) (slice_index path (length path - 1)) (slice_index path one)
   pub place_each : length places ≡ length path
   pub seconds : (i : ℕ) → i < length path → HasTwoLeft rows bounds (slice_index path i) → IsSecondPlace rows bounds (slice_index path i) (slice_index places i)
   pub inside : (i : ℕ) → i < length path → slice_index path i < length rows
@@ -100,7 +100,7 @@ pub record IsCutBy (rows : List (List ℕ)) (bounds path : List ℕ) (one upto :
   pub bound : slice_index now y ≡ place_of rows y (slice_index path at)
 
 -- the bounds of the seconds of the persons from `one` on are set at these
-pub record AreCut (rows : List (List ℕ)) (bounds path : List ℕ) (one upto : ℕ) (now : List ℕ) : Type 0 where
+pub record AreSecondsCut (rows : List (List ℕ)) (bounds path : List ℕ) (one upto : ℕ) (now : List ℕ) : Type 0 where
   pub one_each : length now ≡ length bounds
   pub cut : (i y : ℕ) → one ≤ i → i < upto → IsSecond rows (bound_in bounds) (slice_index path i) y → slice_index now y ≡ place_of rows y (slice_index path i)
   pub other : (y : ℕ) → IsCutBy rows bounds path one upto now y ⊎ (slice_index now y ≡ slice_index bounds y)

@@ -10,6 +10,7 @@
 //! stand before these bounds, and to cut a list is to lower its number.
 #![tactic(auto)]
 
+mod cycle_walk;
 mod entries;
 mod faults;
 mod hints;
@@ -20,7 +21,6 @@ mod parties;
 mod proposing;
 mod rotating;
 mod tables;
-mod walk;
 
 pub use faults::RoomFault;
 pub use market::RoomMarket;

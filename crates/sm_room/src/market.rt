@@ -23,13 +23,13 @@ pub struct RoomMarket {
 impl Model for RoomMarket {
     ghost use Rattle.std.specs.Prelude.{ℕ, List};
     ghost use Rattle.sm_lists.specs.Rows.{rows_of};
-    ghost use Rattle.sm_room.specs.Kept.{IsRoomKept};
+    ghost use Rattle.sm_theory.specs.RoomsKept.{AreRoomsKept};
 
     ghost Value = { List (List ℕ) };
 
     ghost view = { λ m. rows_of m.lists.items };
 
-    ghost invariant = { λ m. IsRoomKept (rows_of m.lists.items) (rows_of m.crosses.items) };
+    ghost invariant = { λ m. AreRoomsKept (rows_of m.lists.items) (rows_of m.crosses.items) };
 }
 
 impl RoomMarket {

@@ -32,13 +32,13 @@ pub(crate) fn proposed(alloc: Global, market: &RoomMarket) -> Result<Vec<u32>, A
 {
     let mut passed = vec![in alloc; 0; market.persons() as usize]?;
     let mut bounds = vec![in alloc; 0; market.persons() as usize]?;
-    free_all(market, bounds.as_mut_slice());
+    open_bounds(market, bounds.as_mut_slice());
     propose_all(market, passed.as_mut_slice(), bounds.as_mut_slice());
     Ok(bounds)
 }
 
 /// Sets each bound past the list.
-fn free_all(market: &RoomMarket, bounds: &mut [u32])
+fn open_bounds(market: &RoomMarket, bounds: &mut [u32])
     requires { length bounds.old ≡ length market.now }
     ensures one_each { length bounds.new ≡ length market.now }
     ensures free { (x : ℕ) → slice_index bounds.new x ≡ length (row market.now x) }
@@ -58,13 +58,13 @@ fn propose_all(market: &RoomMarket, passed: &mut [u32], bounds: &mut [u32])
     ensures good { IsGoodAt market.now (bound_in bounds.new) }
 {
     for p in 0..market.persons() {
-        let_go(market, p, passed, bounds);
+        let_propose(market, p, passed, bounds);
     }
 }
 
 /// Lets one more person propose, and in turn each one that is let go, until a person who held nobody takes one or one is at
 /// the end of its list.
-fn let_go(market: &RoomMarket, p: u32, passed: &mut [u32], bounds: &mut [u32])
+fn let_propose(market: &RoomMarket, p: u32, passed: &mut [u32], bounds: &mut [u32])
     requires in_range { p < length market.now }
     requires limits { AreWithinLimits market.now }
     requires before { IsProgress market.now p p passed.old bounds.old }

@@ -14,11 +14,11 @@
 
 ghost use Rattle.std.specs.Prelude.{◌≡◌, ℕ, ◌<◌, ◌≤◌, ◌⊎◌, length, slice_index, [], IfOk, OnOk, MatchOption};
 ghost use Rattle.sm_room.specs.Bounds.{IsLeft, IsFirst, IsGoodAt, bound_in};
-ghost use Rattle.sm_room.specs.Rotating.{met, IsShort, IsPath, IsWalk, IsClosed, IsOwnParty, AreCut, IsRotated, AreHints, GoesTo};
+ghost use Rattle.sm_room.specs.Rotating.{met, IsShort, IsPathKept, IsCycleWalk, IsClosedWalk, IsOwnParty, AreSecondsCut, IsRotated, AreHints, GoesTo};
 
+use crate::cycle_walk::{CycleWalk, go_round, is_own_party};
 use crate::hints::{Hints, has_three, left_from};
 use crate::market::RoomMarket;
-use crate::walk::{Walk, go_round, is_own_party};
 use std::alloc::{AllocError, Global};
 
 /// Goes on until nobody has three or more left.
@@ -35,7 +35,7 @@ pub(crate) fn rotate_all(
         → IsShort market.now bounds.new x) }
 {
     let mut hints = Hints::new(alloc, market)?;
-    let mut walk = Walk::new(alloc, market)?;
+    let mut walk = CycleWalk::new(alloc, market)?;
     for x in 0..market.persons() {
         shorten(market, bounds, &mut hints, &mut walk, x)?;
     }
@@ -48,7 +48,7 @@ fn shorten(
     market: &RoomMarket,
     bounds: &mut [u32],
     hints: &mut Hints,
-    walk: &mut Walk,
+    walk: &mut CycleWalk,
     x: u32,
 ) -> Result<(), AllocError>
     requires in_range { x < length market.now }
@@ -56,7 +56,7 @@ fn shorten(
     requires good { IsGoodAt market.now (bound_in bounds.old) }
     requires hints { AreHints market.now bounds.old hints.old.firsts.items hints.old.seconds.items }
     requires empty { walk.old.path.items ≡ [] }
-    requires path { IsPath market.now walk.old.path.items walk.old.places.items
+    requires path { IsPathKept market.now walk.old.path.items walk.old.places.items
         walk.old.marks.items }
     ensures one_each { OnOk result (length bounds.new ≡ length market.now) }
     ensures good { OnOk result (IsGoodAt market.now (bound_in bounds.new)) }
@@ -65,7 +65,7 @@ fn shorten(
     ensures hints { OnOk result (AreHints market.now bounds.new hints.new.firsts.items
         hints.new.seconds.items) }
     ensures empty { OnOk result (walk.new.path.items ≡ []) }
-    ensures path { OnOk result (IsPath market.now walk.new.path.items walk.new.places.items
+    ensures path { OnOk result (IsPathKept market.now walk.new.path.items walk.new.places.items
         walk.new.marks.items) }
 {
     if !has_three(market, bounds, hints, x) {
@@ -88,23 +88,23 @@ fn next_cycle(
     market: &RoomMarket,
     bounds: &[u32],
     hints: &mut Hints,
-    walk: &mut Walk,
+    walk: &mut CycleWalk,
     from: u32,
 ) -> Result<Option<u32>, AllocError>
     requires one_each { length bounds.now ≡ length market.now }
     requires good { IsGoodAt market.now (bound_in bounds.now) }
     requires hints { AreHints market.now bounds.now hints.old.firsts.items hints.old.seconds.items }
-    requires path { IsPath market.now walk.old.path.items walk.old.places.items
+    requires path { IsPathKept market.now walk.old.path.items walk.old.places.items
         walk.old.marks.items }
-    requires walk { IsWalk market.now bounds.now walk.old.path.items walk.old.places.items from }
+    requires walk { IsCycleWalk market.now bounds.now walk.old.path.items walk.old.places.items from }
     ensures hints { OnOk result (AreHints market.now bounds.now hints.new.firsts.items
         hints.new.seconds.items) }
-    ensures path { OnOk result (IsPath market.now walk.new.path.items walk.new.places.items
+    ensures path { OnOk result (IsPathKept market.now walk.new.path.items walk.new.places.items
         walk.new.marks.items) }
     ensures found { IfOk result (λ found. MatchOption found
         (IsShort market.now bounds.now (met walk.old.path.items from 0))
         (λ one. (slice_index walk.new.path.items 0 ≡ met walk.old.path.items from 0)
-        × IsClosed market.now bounds.now walk.new.path.items walk.new.places.items one
+        × IsClosedWalk market.now bounds.now walk.new.path.items walk.new.places.items one
         × (¬ IsOwnParty market.now bounds.now walk.new.path.items one))) }
 {
     let Some(one) = go_round(market, bounds, hints, walk, from)? else {
@@ -120,10 +120,10 @@ fn next_cycle(
 fn cut(market: &RoomMarket, bounds: &mut [u32], path: &[u32], places: &[u32], one: u32)
     requires one_each { length bounds.old ≡ length market.now }
     requires good { IsGoodAt market.now (bound_in bounds.old) }
-    requires closed { IsClosed market.now bounds.old path.now places.now one }
+    requires closed { IsClosedWalk market.now bounds.old path.now places.now one }
     requires apart { ¬ IsOwnParty market.now bounds.old path.now one }
     ensures rotated { IsRotated market.now bounds.old bounds.new }
-    ensures cut { AreCut market.now bounds.old path.now one (length path.now) bounds.new }
+    ensures cut { AreSecondsCut market.now bounds.old path.now one (length path.now) bounds.new }
 {
     for i in one as usize..path.len() {
         let y = market.at(path[i], places[i]);

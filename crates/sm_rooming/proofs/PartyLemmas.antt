@@ -10,8 +10,8 @@ use Rattle.sm_lists.proofs.RowLemmas.{row_in_range}
 use Rattle.sm_theory.specs.Partitions.{successor_in, after, IsStablePartition}
 use Rattle.sm_theory.proofs.Room.Bridge.{one_successor, after_inside}
 use Rattle.sm_theory.proofs.Room.Spots.{take_back}
-use Rattle.sm_rooming.specs.Parties.{IsParty, IsMember, AreParties}
-use Rattle.sm_rooming.specs.Walking.{is_met, AreFound, IsPartyOf, IsFront}
+use Rattle.sm_rooming.specs.Parties.{IsParty, IsInSomeParty, AreParties}
+use Rattle.sm_rooming.specs.Walking.{is_met, ArePartiesFound, IsPartyOf, IsPartyFront}
 
 not_true : (b : Bool) → (b ≡ true → ⊥) → b ≡ false
 not_true true none = absurd (none refl)
@@ -72,7 +72,7 @@ module _ {rows : List (List ℕ)} {next : List ℕ} (h : IsStablePartition rows 
   ]
 
   -- the front begins with x alone
-  pub front_begins : IsFront next x before (set before x true) (x ∷ []) (successor_in next x)
+  pub front_begins : IsPartyFront next x before (set before x true) (x ∷ []) (successor_in next x)
   front_begins =
       let there : x < length before = omega (arith, here, one_each) in
       record {
@@ -86,7 +86,7 @@ module _ {rows : List (List ℕ)} {next : List ℕ} (h : IsStablePartition rows 
         listed = λ i l. let z : i ≡ 0 = omega (arith, l) in rw z (get_or-set_same before x true false there);
       }
 
-  module _ {now : List Bool} {party : List ℕ} {y : ℕ} (w : IsFront next x before now party y) where
+  module _ {now : List Bool} {party : List ℕ} {y : ℕ} (w : IsPartyFront next x before now party y) where
     -- the next of the front is a person
     pub y_inside : y < length next
     y_inside = let lt = inside (length party) in omega (arith, w.comes, lt)
@@ -132,7 +132,7 @@ module _ {rows : List (List ℕ)} {next : List ℕ} (h : IsStablePartition rows 
       ])
 
       -- it is put behind the others, and met
-      pub front_goes_on : IsFront next x before (set now y true) (party ++ y ∷ []) (successor_in next y)
+      pub front_goes_on : IsPartyFront next x before (set now y true) (party ++ y ∷ []) (successor_in next y)
       front_goes_on =
           let there : y < length now = omega (arith, y_inside, w.one_each) in
           let long = length_push party y in
@@ -164,7 +164,7 @@ none_met n y = elim (cases_lt y n) [
 ]
 
 -- so no party is found
-pub none_found : (next : List ℕ) (met : List Bool) (n : ℕ) → met ≡ replicate n false → n ≡ length next → AreFound next 0 met []
+pub none_found : (next : List ℕ) (met : List Bool) (n : ℕ) → met ≡ replicate n false → n ≡ length next → ArePartiesFound next 0 met []
 none_found next met n is count =
     let none : (y : ℕ) → is_met met y ≡ true → ⊥ = λ y m. false≢true (sym (none_met n y) ∙ ap (λ xs. is_met xs y) (sym is) ∙ m) in
     record {
@@ -178,7 +178,7 @@ none_found next met n is count =
     }
 
 -- a person of an earlier party
-pub found_same : {next : List ℕ} {x : ℕ} {met : List Bool} {parties : List (List ℕ)} → AreFound next x met parties → is_met met x ≡ true → AreFound next (x + 1) met parties
+pub found_same : {next : List ℕ} {x : ℕ} {met : List Bool} {parties : List (List ℕ)} → ArePartiesFound next x met parties → is_met met x ≡ true → ArePartiesFound next (x + 1) met parties
 found_same {next} {x} {met} {parties} f m = record {
   one_each = f.one_each;
   below = λ y l. elim (eq_or_ne y x) [ inl e ↦ ap (is_met met) e ∙ m | inr n ↦ f.below y (omega (arith, l, n)) ];
@@ -190,8 +190,8 @@ found_same {next} {x} {met} {parties} f m = record {
 }
 
 -- one more party
-pub found_more : {rows : List (List ℕ)} {next : List ℕ} {x : ℕ} {met now : List Bool} {parties : List (List ℕ)} {party : List ℕ} → IsStablePartition rows next → AreFound next x met parties → IsPartyOf next x met now party
-    → AreFound next (x + 1) now (parties ++ party ∷ [])
+pub found_more : {rows : List (List ℕ)} {next : List ℕ} {x : ℕ} {met now : List Bool} {parties : List (List ℕ)} {party : List ℕ} → IsStablePartition rows next → ArePartiesFound next x met parties → IsPartyOf next x met now party
+    → ArePartiesFound next (x + 1) now (parties ++ party ∷ [])
 found_more {rows} {next} {x} {met} {now} {parties} {party} h f p =
     let long = length_push parties party in
     record {
@@ -239,11 +239,11 @@ found_more {rows} {next} {x} {met} {now} {parties} {party} h f p =
       ]
     ]
 
-    kept_member : (y : ℕ) → IsMember parties y → IsMember (parties ++ party ∷ []) y
+    kept_member : (y : ℕ) → IsInSomeParty parties y → IsInSomeParty (parties ++ party ∷ []) y
     kept_member y m =
         let is = get_or_append_left parties (party ∷ []) [] m.party (row_in_range parties m.party m.at m.on_list) in
         record { party = m.party; at = m.at; on_list = omega (arith, ap (λ (list : List ℕ). length list) is, m.on_list); is = ap (λ list. get_or list m.at 0) is ∙ m.is }
 
 -- all are found
-pub all_found : {next : List ℕ} {x : ℕ} {met : List Bool} {parties : List (List ℕ)} → AreFound next x met parties → length next ≤ x → AreParties next parties
+pub all_found : {next : List ℕ} {x : ℕ} {met : List Bool} {parties : List (List ℕ)} → ArePartiesFound next x met parties → length next ≤ x → AreParties next parties
 all_found {next} {x} {met} {parties} f all = record { each = f.each; rising = f.rising; all = λ y l. f.members y (f.below y (omega (arith, l, all))) }

@@ -4,7 +4,7 @@ use Rattle.sm_lists.specs.Rows.{row, entry}
 use Rattle.sm_theory.specs.Partitions.{successor_in}
 use Rattle.sm_theory.specs.WitnessesRooms.{odd_party_next}
 use Rattle.sm_theory.proofs.Room.Witness.{odd_party_is}
-use Rattle.sm_rooming.specs.Parties.{IsParty, IsMember, AreParties}
+use Rattle.sm_rooming.specs.Parties.{IsParty, IsInSomeParty, AreParties}
 use Rattle.sm_rooming.specs.Witnesses.{OddPartiesShown, odd_parties}
 use Rattle.sm_rooming.proofs.PersonLemmas.{excluding}
 
@@ -56,7 +56,7 @@ parties = record { each = each; rising = rising; all = all }
     rising (suc (suc j)) (suc (suc zero)) a l = absurd (omega (arith, a))
     rising j (suc (suc (suc k))) a l = absurd (omega (arith, l))
 
-    all : (x : ℕ) → x < 5 → IsMember odd_parties x
+    all : (x : ℕ) → x < 5 → IsInSomeParty odd_parties x
     all zero l = record { party = 0; at = 0; on_list = omega arith; is = refl }
     all (suc zero) l = record { party = 0; at = 1; on_list = omega arith; is = refl }
     all (suc (suc zero)) l = record { party = 0; at = 2; on_list = omega arith; is = refl }

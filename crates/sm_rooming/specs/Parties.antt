@@ -12,7 +12,7 @@ pub record IsParty (next party : List ℕ) : Type 0 where
   pub returns : successor_in next (slice_index party (length party - 1)) ≡ slice_index party 0
 
 -- x is a member of one of the parties
-pub record IsMember (parties : List (List ℕ)) (x : ℕ) : Type 0 where
+pub record IsInSomeParty (parties : List (List ℕ)) (x : ℕ) : Type 0 where
   pub party : ℕ
   pub at : ℕ
   pub on_list : at < length (row parties party)
@@ -22,4 +22,4 @@ pub record IsMember (parties : List (List ℕ)) (x : ℕ) : Type 0 where
 pub record AreParties (next : List ℕ) (parties : List (List ℕ)) : Type 0 where
   pub each : (k : ℕ) → k < length parties → IsParty next (row parties k)
   pub rising : (j k : ℕ) → j < k → k < length parties → entry parties j 0 < entry parties k 0
-  pub all : (x : ℕ) → x < length next → IsMember parties x
+  pub all : (x : ℕ) → x < length next → IsInSomeParty parties x

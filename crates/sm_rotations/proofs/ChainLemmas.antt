@@ -6,15 +6,15 @@ use Rattle.sm_market.specs.Matching.{Places, IsMatching}
 use Rattle.sm_lists.proofs.Counting.{lt_or_le, eq_or_ne}
 use Rattle.sm_theory.specs.Chains.{rotation_at, AreEliminable, IsNeededBy}
 use Rattle.sm_theory.proofs.Chains.Marks.{found_is_need, need_is_found}
-use Rattle.sm_rotations.specs.Marking.{AreLastMoves, AreMarks, IsFound, Adds}
+use Rattle.sm_rotations.specs.Marking.{AreLastMoves, AreMarks, IsFoundNeed, Adds}
 use Rattle.sm_rotations.specs.Graph.{times, AreFollowers, AreAddedTo}
 use Rattle.sm_rotations.proofs.TimesLemmas.{times_of_contains, contains_of_times}
-use Rattle.sm_rotations.proofs.AddingLemmas.{push_this, push_other}
+use Rattle.sm_rotations.proofs.AddingLemmas.{times-push_same, times-push_other}
 
 module _ {l : Lists} (h : IsMarket l) {first : Places} (fits : IsMatching l first) {rotations : List (List (ℕ × ℕ))} (chain : AreEliminable l first rotations) where
   module _ {j : ℕ} (inside : j < length rotations) {notes : List (Option ℕ)} {marks : List (List (Option ℕ))} (lasts : AreLastMoves rotations j notes) (marked : AreMarks l rotations j marks) where
     -- once a rotation is added to what is found for it, it stands with those that it needs
-    pub followed : {found : List ℕ} {before after : List (List ℕ)} → Adds (λ i. IsFound l (rotation_at rotations j) (length (rotation_at rotations j)) notes marks i) [] found
+    pub followed : {found : List ℕ} {before after : List (List ℕ)} → Adds (λ i. IsFoundNeed l (rotation_at rotations j) (length (rotation_at rotations j)) notes marks i) [] found
         → AreFollowers l rotations j before → AreAddedTo j found before after → AreFollowers l rotations (j + 1) after
     followed {found} {before} {after} f w step = record {
       one_each = step.one_each ∙ w.one_each;
@@ -50,10 +50,10 @@ module _ {l : Lists} (h : IsMarket l) {first : Places} (fits : IsMatching l firs
         ]
 
         this : (i : ℕ) → 0 < times found i → times (row after i) j ≡ times (row before i) j + 1
-        this i is_found = ap (λ xs. times xs j) (step.to i is_found) ∙ push_this (row before i) j
+        this i is_found = ap (λ xs. times xs j) (step.to i is_found) ∙ times-push_same (row before i) j
 
         other : (i k : ℕ) → 0 < times found i → k ≢ j → times (row after i) k ≡ times (row before i) k
-        other i k is_found ne = ap (λ xs. times xs k) (step.to i is_found) ∙ push_other (row before i) j k (λ e. ne (sym e))
+        other i k is_found ne = ap (λ xs. times xs k) (step.to i is_found) ∙ times-push_other (row before i) j k (λ e. ne (sym e))
 
         same : (i k : ℕ) → times found i ≡ 0 → times (row after i) k ≡ times (row before i) k
         same i k none = ap (λ xs. times xs k) (step.others i none)
@@ -68,7 +68,7 @@ module _ {l : Lists} (h : IsMarket l) {first : Places} (fits : IsMatching l firs
         ]
 
     -- only rotations that there are are found
-    pub found_in_range : {found : List ℕ} → Adds (λ i. IsFound l (rotation_at rotations j) (length (rotation_at rotations j)) notes marks i) [] found → (a : ℕ) → a < length found → slice_index_or found a 0 < length rotations
+    pub found_in_range : {found : List ℕ} → Adds (λ i. IsFoundNeed l (rotation_at rotations j) (length (rotation_at rotations j)) notes marks i) [] found → (a : ℕ) → a < length found → slice_index_or found a 0 < length rotations
     found_in_range {found} f a within =
         let x : ℕ = slice_index_or found a 0 in
         elim (f.only x (a, within, get_or_default found a x 0 within)) [

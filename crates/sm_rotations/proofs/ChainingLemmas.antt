@@ -14,7 +14,7 @@ use Rattle.sm_theory.specs.declared.rotations.Rotation.{Rotation}
 use Rattle.sm_theory.proofs.Core.Rotation.{goes_down, never_up, elim_stable}
 use Rattle.sm_theory.proofs.Bridge.Rotation.{exposed_of, elim_of}
 -- a chain with one more rotation, passed on
-pub use Rattle.sm_theory.proofs.Bridge.Chain.{rotation_before, rotation_new, stage_before}
+pub use Rattle.sm_theory.proofs.Bridge.Chain.{rotation_at-push_before, rotation_at-push_new, stage_before}
 use Rattle.sm_rotations.specs.Chaining.{LeadsTo}
 use Rattle.sm_theory.proofs.Chains.Length.{sum_below, sums_le, sums_less, sum_of_lengths}
 
@@ -26,10 +26,10 @@ leads_start l first m e = record { lowest = λ k less. absurd (omega arith); at_
 pub leads_on : {l : Lists} {first m n : Places} {xs : List (List (ℕ × ℕ))} (x : List (ℕ × ℕ)) → LeadsTo l first xs m → IsLowestExposed l m x → n ≡ eliminated l m x → LeadsTo l first (xs ++ x ∷ []) n
 leads_on {l} {first} {m} {n} {xs} x a low e = record {
   lowest = λ k less. elim (eq_or_ne k (length xs)) [
-    | inl is ↦ rw (there k is, rotation_new xs x k is) low
-    | inr ne ↦ rw (stage_before l first xs x k (before k less), rotation_before xs x k (inside k less ne)) (a.lowest k (inside k less ne))
+    | inl is ↦ rw (there k is, rotation_at-push_new xs x k is) low
+    | inr ne ↦ rw (stage_before l first xs x k (before k less), rotation_at-push_before xs x k (inside k less ne)) (a.lowest k (inside k less ne))
   ];
-  at_end = e ∙ ap (λ m. eliminated l m x) (sym (there (length xs) refl)) ∙ ap (eliminated l (stage l first (xs ++ x ∷ []) (length xs))) (sym (rotation_new xs x (length xs) refl)) ∙ ap (stage l first (xs ++ x ∷ [])) top;
+  at_end = e ∙ ap (λ m. eliminated l m x) (sym (there (length xs) refl)) ∙ ap (eliminated l (stage l first (xs ++ x ∷ []) (length xs))) (sym (rotation_at-push_new xs x (length xs) refl)) ∙ ap (stage l first (xs ++ x ∷ [])) top;
 }
   where
     top : suc (length xs) ≡ length (xs ++ x ∷ [])
@@ -76,6 +76,6 @@ unfolding places_below
 few_places {l} m limits = omega (arith, sum_of_lengths l.proposers (length l.proposers) (omega arith), limits.proposers.entries)
 
 -- one more rotation that is held is one more list of pairs
-pub pushed : (rotations : List Rotation) (r : Rotation) → rotations_of (rotations ++ r ∷ []) ≡ rotations_of rotations ++ r.pairs.items ∷ []
-pushed [] r = refl
-pushed (q ∷ rotations) r = ap (λ rest. q.pairs.items ∷ rest) (pushed rotations r)
+pub rotations_of-push : (rotations : List Rotation) (r : Rotation) → rotations_of (rotations ++ r ∷ []) ≡ rotations_of rotations ++ r.pairs.items ∷ []
+rotations_of-push [] r = refl
+rotations_of-push (q ∷ rotations) r = ap (λ rest. q.pairs.items ∷ rest) (rotations_of-push rotations r)

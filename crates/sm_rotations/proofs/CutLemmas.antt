@@ -8,11 +8,11 @@ use Rattle.sm_market.proofs.Bridge.{held_cases, standing-some, standing-none, st
 use Rattle.sm_theory.specs.Rotations.{IsExposed, reviewer_at, eliminated}
 use Rattle.sm_theory.proofs.Bridge.Rotation.{exposed_of, elim_of, eliminated_stable}
 use Rattle.sm_theory.proofs.Core.Rotation.{keeps, never_worse}
-use Rattle.sm_accept.specs.Linking.{IsFront, IsFrontBut}
+use Rattle.sm_accept.specs.Linking.{AreReducedEnds, AreReducedEndsBut}
 use Rattle.sm_rotations.specs.Walking.{IsLeftIn}
 
 -- once a rotation is eliminated its reviewers are left to be cut
-pub front_left : {l : Lists} (h : IsMarket l) {m : Places} (s : IsStable l m) {ends : List ℕ} {pairs : List (ℕ × ℕ)} → IsFront l m ends → IsExposed l m pairs → IsFrontBut l (eliminated l m pairs) ends (IsLeftIn pairs 0)
+pub front_left : {l : Lists} (h : IsMarket l) {m : Places} (s : IsStable l m) {ends : List ℕ} {pairs : List (ℕ × ℕ)} → AreReducedEnds l m ends → IsExposed l m pairs → AreReducedEndsBut l (eliminated l m pairs) ends (IsLeftIn pairs 0)
 front_left {l} h {m} s {ends} {pairs} f x = record {
   above = λ r k e. elim (held_cases l.reviewers m.reviewers r) [
     | inl v ↦ absurd (omega (arith, v.standing_is, new_on r k e, new_at r k e, still r (λ i a is. omega (arith, v.standing_is, old_matched r i a is))))

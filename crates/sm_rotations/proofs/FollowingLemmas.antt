@@ -17,7 +17,7 @@ use Rattle.sm_theory.proofs.Bridge.Rotation.{exposed_of}
 -- pairs and successors at their reviewers, passed on
 pub use Rattle.sm_theory.proofs.Bridge.Rotation.{pair_of_held, succ_at}
 use Rattle.sm_theory.proofs.Chains.Links.{exposed_of_links, successor_named}
-use Rattle.sm_rotations.specs.Following.{IsStep, IsWalk, IsRotationFrom, IsInNone}
+use Rattle.sm_rotations.specs.Following.{IsStep, IsSuccessorWalk, IsRotationFrom, IsInNone}
 
 module _ {l : Lists} (h : IsMarket l) {m : Places} (f : IsMatching l m) where
   -- a step along a rotation
@@ -49,7 +49,7 @@ module _ {l : Lists} (h : IsMarket l) {m : Places} (f : IsMatching l m) where
     pub is : proposer_at other at ≡ p
 
   -- where p is in an exposed rotation, the walk from p goes round it
-  module _ {p : ℕ} {pairs : List (ℕ × ℕ)} {q : ℕ} (w : IsWalk l m p pairs q) {other : List (ℕ × ℕ)} (x : IsExposed l m other) (i : ℕ) (inside : i < length other) (has : proposer_at other i ≡ p) where
+  module _ {p : ℕ} {pairs : List (ℕ × ℕ)} {q : ℕ} (w : IsSuccessorWalk l m p pairs q) {other : List (ℕ × ℕ)} (x : IsExposed l m other) (i : ℕ) (inside : i < length other) (has : proposer_at other i ≡ p) where
     along : (k : ℕ) → k < length pairs → k ≤ length other → Along other i k (proposer_at pairs k)
     along zero less le = record { at = i; spot = record { below = inside; is = inl (omega arith) }; is = has ∙ sym (w.first less) }
     along (suc k) less le =
@@ -96,11 +96,11 @@ module _ {l : Lists} (h : IsMarket l) {m : Places} (f : IsMatching l m) where
   ]
 
   -- the walk ends where there is no successor, or once it has gone on for as long as a rotation can
-  pub in_none_at : {p : ℕ} {pairs : List (ℕ × ℕ)} {q : ℕ} → IsWalk l m p pairs q → ((i : ℕ) → ¬ IsSuccessor l m q i) → IsInNone l m p
+  pub in_none_at : {p : ℕ} {pairs : List (ℕ × ℕ)} {q : ℕ} → IsSuccessorWalk l m p pairs q → ((i : ℕ) → ¬ IsSuccessor l m q i) → IsInNone l m p
   in_none_at w none = record { absent = λ other x i inside has. goes_on w x i inside has none }
 
   -- no exposed rotation has a proposer whose walk is as long as there are proposers
-  pub in_none_after : {p : ℕ} {pairs : List (ℕ × ℕ)} {q : ℕ} → IsWalk l m p pairs q → length l.proposers ≤ length pairs → IsInNone l m p
+  pub in_none_after : {p : ℕ} {pairs : List (ℕ × ℕ)} {q : ℕ} → IsSuccessorWalk l m p pairs q → length l.proposers ≤ length pairs → IsInNone l m p
   in_none_after w long = record { absent = λ other x i inside has. omega (arith, not_past w x i inside has, not_longer x) }
 
   -- the walk goes on, or comes back
@@ -109,7 +109,7 @@ module _ {l : Lists} (h : IsMarket l) {m : Places} (f : IsMatching l m) where
       let same : s.target ≡ r' = one_reviewer (pair_of_held h f q s.target s.has) (pair_of_held h f q r' t.paired) in
       record { paired = s.paired; next = rw same at s.next }
 
-  module _ {p : ℕ} {pairs : List (ℕ × ℕ)} {q : ℕ} (w : IsWalk l m p pairs q) (r next : ℕ) (s : IsStep l m q r next) where
+  module _ {p : ℕ} {pairs : List (ℕ × ℕ)} {q : ℕ} (w : IsSuccessorWalk l m p pairs q) (r next : ℕ) (s : IsStep l m q r next) where
     old_at : (k : ℕ) → k < length pairs → slice_index_or (pairs ++ (q, r) ∷ []) k (0, 0) ≡ slice_index_or pairs k (0, 0)
     old_at k less = get_or_append_left pairs ((q, r) ∷ []) (0, 0) k less
 
@@ -150,7 +150,7 @@ module _ {l : Lists} (h : IsMarket l) {m : Places} (f : IsMatching l m) where
     ]
 
     -- a step to another proposer than the first goes on
-    pub walk_on : next ≢ p → IsWalk l m p (pairs ++ (q, r) ∷ []) next
+    pub walk_on : next ≢ p → IsSuccessorWalk l m p (pairs ++ (q, r) ∷ []) next
     walk_on ne = record {
       empty = λ e. absurd (omega (arith, long));
       first = λ _. first_is;

@@ -11,7 +11,7 @@ use Rattle.sm_theory.proofs.Core.Rotation.{new_pair}
 use Rattle.sm_theory.proofs.Bridge.Rotation.{exposed_of, elim_of}
 -- whom an exposed rotation moves, passed on
 pub use Rattle.sm_theory.proofs.Bridge.Rotation.{proposer_in, target_in}
-use Rattle.sm_rotations.specs.Marking.{IsFound}
+use Rattle.sm_rotations.specs.Marking.{IsFoundNeed}
 use Rattle.sm_rotations.specs.Footings.{footing_at, AreFootings, AreSteps, IsFoundAlong}
 use Rattle.sm_rotations.specs.declared.predecessors.Footing.{Footing}
 
@@ -83,11 +83,11 @@ module _ {l : Lists} (h : IsMarket l) {rotation : List (ℕ × ℕ)} {before aft
 -- what they pass is what they are found to need
 module _ {l : Lists} (h : IsMarket l) {rotation : List (ℕ × ℕ)} {before after : List Footing} (w : AreSteps l rotation before after) {notes : List (Option ℕ)} {marks : List (List (Option ℕ))} where
   -- what the footings find is what is found
-  pub found_of_along : (i : ℕ) → IsFoundAlong rotation before after (length rotation) notes marks i → IsFound l rotation (length rotation) notes marks i
+  pub found_of_along : (i : ℕ) → IsFoundAlong rotation before after (length rotation) notes marks i → IsFoundNeed l rotation (length rotation) notes marks i
   found_of_along i (inl v) = inl v
   found_of_along i (inr v) = inr (record { pair = v.pair; pair_in = v.pair_in; between = rw (← from_is h w v.pair v.pair_in, ← to_is h w v.pair v.pair_in) v.between })
 
   -- and what is found the footings find
-  pub along_of_found : (i : ℕ) → IsFound l rotation (length rotation) notes marks i → IsFoundAlong rotation before after (length rotation) notes marks i
+  pub along_of_found : (i : ℕ) → IsFoundNeed l rotation (length rotation) notes marks i → IsFoundAlong rotation before after (length rotation) notes marks i
   along_of_found i (inl v) = inl v
   along_of_found i (inr v) = inr (record { pair = v.pair; pair_in = v.pair_in; between = rw (from_is h w v.pair v.pair_in, to_is h w v.pair v.pair_in) v.between })

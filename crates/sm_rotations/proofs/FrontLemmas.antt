@@ -10,22 +10,22 @@ use Rattle.sm_market.proofs.PlaceLemmas.{place_of-entry}
 use Rattle.sm_lists.proofs.PlaceLemmas.{entry-place_of}
 use Rattle.sm_market.proofs.Bridge.{held_cases, standing-some}
 use Rattle.sm_theory.specs.Rotations.{IsSuccessor, WouldTake}
-use Rattle.sm_accept.specs.Linking.{IsHeld, IsHeldBehind, IsFront}
+use Rattle.sm_accept.specs.Linking.{HoldsPair, IsHeldBehind, AreReducedEnds}
 use Rattle.sm_theory.proofs.Chains.Links.{successor_named}
 -- whom a reviewer has, passed on
 pub use Rattle.sm_theory.proofs.Chains.Holders.{holder_none, holder_some, next_in_range}
 use Rattle.sm_rotations.specs.Walking.{IsNext}
 
-module _ {l : Lists} (h : IsMarket l) {m : Places} (f : IsMatching l m) {ends : List ℕ} (x : IsFront l m ends) where
+module _ {l : Lists} (h : IsMarket l) {m : Places} (f : IsMatching l m) {ends : List ℕ} (x : AreReducedEnds l m ends) where
   -- a matched proposer's own place is held
-  pub own_held : (p i : ℕ) → held m.proposers p ≡ Some i → IsHeld l ends p i
+  pub own_held : (p i : ℕ) → held m.proposers p ≡ Some i → HoldsPair l ends p i
   own_held p i e =
       let on = f.proposers.on_list p i e in
       let turn = f.proposers.in_turn p i e in
       record { on_list = on; in_front = omega (arith, x.matched (entry l.proposers p i) (place_of l.reviewers (entry l.proposers p i) p) turn) }
 
   -- behind it a place is held exactly where its reviewer would take the proposer
-  pub held_takes : (p i j : ℕ) → held m.proposers p ≡ Some i → i < j → IsHeld l ends p j → WouldTake l m p j
+  pub held_takes : (p i j : ℕ) → held m.proposers p ≡ Some i → i < j → HoldsPair l ends p j → WouldTake l m p j
   held_takes p i j e more w = elim (held_cases l.reviewers m.reviewers r) [
     | inl v ↦ omega (arith, v.standing_is, h.proposers.returned p j w.on_list)
     | inr v ↦
@@ -47,7 +47,7 @@ module _ {l : Lists} (h : IsMarket l) {m : Places} (f : IsMatching l m) {ends : 
       r = entry l.proposers p j
 
   -- a place whose reviewer would take the proposer is held
-  pub takes_held : (p j : ℕ) → j < length (row l.proposers p) → WouldTake l m p j → IsHeld l ends p j
+  pub takes_held : (p j : ℕ) → j < length (row l.proposers p) → WouldTake l m p j → HoldsPair l ends p j
   takes_held p j on w = elim (held_cases l.reviewers m.reviewers (entry l.proposers p j)) [
     | inl v ↦ record { on_list = on; in_front = omega (arith, x.unmatched (entry l.proposers p j) v.held_is, h.proposers.returned p j on) }
     | inr v ↦ record { on_list = on; in_front = omega (arith, x.matched (entry l.proposers p j) v.place v.held_is, v.standing_is) }
@@ -79,7 +79,7 @@ module _ {l : Lists} (h : IsMarket l) {m : Places} (f : IsMatching l m) {ends : 
 
 module _ {l : Lists} {m : Paired} (made : IsPairingOf l m) where
   -- the holder of that reviewer is the next proposer, and without one there is no successor
-  pub next_answer : (h : IsMarket l) {ends : List ℕ} → IsFront l m.places ends → (p i j : ℕ) → held m.places.proposers p ≡ Some i → IsHeldBehind l ends p i j → (o : Option ℕ) → held m.holders (entry l.proposers p j) ≡ o
+  pub next_answer : (h : IsMarket l) {ends : List ℕ} → AreReducedEnds l m.places ends → (p i j : ℕ) → held m.places.proposers p ≡ Some i → IsHeldBehind l ends p i j → (o : Option ℕ) → held m.holders (entry l.proposers p j) ≡ o
       → MatchOption o ((k : ℕ) → ¬ IsSuccessor l m.places p k) (λ q. IsNext l m.places p q)
   next_answer h x p i j e w None is = λ k. no_successor_past h made.matching x p i j e w (holder_none made (entry l.proposers p j) is) k
   next_answer h x p i j e w (Some q) is =

@@ -15,7 +15,7 @@ use Rattle.std.proofs.lemmas.List.Sorted.{All-permutation, sum_by_pushed, sum_by
 use Rattle.sm_lists.proofs.Counting.{eq_or_ne}
 use Rattle.sm_theory.specs.Chains.{rotation_at}
 use Rattle.sm_rotations.specs.Graph.{times}
-use Rattle.sm_rotations.specs.Ordering.{later_first, times_ready, IsLead, IsEntry, IsOneMore, IsReleased, AreReadyAtFirst}
+use Rattle.sm_rotations.specs.Ordering.{later_first, times_ready, IsLead, IsHeapEntry, IsOneMore, IsReleased, AreReadyAtFirst}
 use Rattle.sm_rotations.proofs.TimesLemmas.{num_true, num_false, times_more, times_same, times_part}
 
 -- of a heap in order the first has the lowest proposer
@@ -46,10 +46,10 @@ module _ (x : Reverse (ℕ × ℕ)) (xs ys : List (Reverse (ℕ × ℕ))) (p : I
   one_more rotation k is lead = record {
     others = λ j ne. others_pushed j (λ e. ne (sym e ∙ is));
     this = rw is at one_pushed;
-    entries = λ rotations g same all. All-permutation (IsEntry rotations) (x ∷ xs) ys p (All-cons (IsEntry rotations) x xs (entry rotations g same) all);
+    entries = λ rotations g same all. All-permutation (IsHeapEntry rotations) (x ∷ xs) ys p (All-cons (IsHeapEntry rotations) x xs (entry rotations g same) all);
   }
     where
-      entry : (rotations : List (List (ℕ × ℕ))) → k < length rotations → rotation_at rotations k ≡ rotation → IsEntry rotations x
+      entry : (rotations : List (List (ℕ × ℕ))) → k < length rotations → rotation_at rotations k ≡ rotation → IsHeapEntry rotations x
       entry rotations g same = (omega arith, rw (is, same) lead)
 
 -- a rotation goes out
@@ -65,12 +65,12 @@ module _ (x : Reverse (ℕ × ℕ)) (xs ys : List (Reverse (ℕ × ℕ))) (p : I
       omega (arith, num_false (nat_eq x.0.1 j) (ne_eqb x.0.1 j (λ e. ne (sym e))), sum_by_popped (λ z. cond (nat_eq z.0.1 j) 1 0) x xs ys p)
 
   -- what goes out is a rotation with its lowest-numbered proposer
-  pub entry_popped : (rotations : List (List (ℕ × ℕ))) → All (IsEntry rotations) xs → IsEntry rotations x
-  entry_popped rotations all = All-head (IsEntry rotations) x ys (All-permutation (IsEntry rotations) xs (x ∷ ys) p all)
+  pub entry_popped : (rotations : List (List (ℕ × ℕ))) → All (IsHeapEntry rotations) xs → IsHeapEntry rotations x
+  entry_popped rotations all = All-head (IsHeapEntry rotations) x ys (All-permutation (IsHeapEntry rotations) xs (x ∷ ys) p all)
 
   -- and so is each that stays
-  pub entries_popped : (rotations : List (List (ℕ × ℕ))) → All (IsEntry rotations) xs → All (IsEntry rotations) ys
-  entries_popped rotations all = All-tail (IsEntry rotations) x ys (All-permutation (IsEntry rotations) xs (x ∷ ys) p all)
+  pub entries_popped : (rotations : List (List (ℕ × ℕ))) → All (IsHeapEntry rotations) xs → All (IsHeapEntry rotations) ys
+  entries_popped rotations all = All-tail (IsHeapEntry rotations) x ys (All-permutation (IsHeapEntry rotations) xs (x ∷ ys) p all)
 
 -- the heap at first, rotation after rotation
 module _ {rotations : List (List (ℕ × ℕ))} {unmet : List ℕ} where

@@ -32,8 +32,8 @@ module _ {s : Sides} {m k n : Stand} {c d : Cycle} (x : Exposed s m c) (y : Expo
   ]
 
 -- so eliminating either leaves the same matching
-pub same_elimination : {l : Lists} {m : Places} {c d : List (ℕ × ℕ)} → IsMarket l → IsStable l m → IsExposed l m c → IsExposed l m d → (i j : ℕ) → i < length c → j < length d → proposer_at d j ≡ proposer_at c i → eliminated l m c ≡ eliminated l m d
-same_elimination h s x y i j a b same = stable_equal h (eliminated_stable h s x) (eliminated_stable h s y)
+pub eliminated-same : {l : Lists} {m : Places} {c d : List (ℕ × ℕ)} → IsMarket l → IsStable l m → IsExposed l m c → IsExposed l m d → (i j : ℕ) → i < length c → j < length d → proposer_at d j ≡ proposer_at c i → eliminated l m c ≡ eliminated l m d
+eliminated-same h s x y i j a b same = stable_equal h (eliminated_stable h s x) (eliminated_stable h s y)
     (same_move (exposed_of h s.matching x) (exposed_of h s.matching y) (elim_of h s.matching x) (elim_of h s.matching y) i j a b same)
 
 -- Putting a chain into another order: at a stable matching the rotations that it reaches are behind it.

@@ -11,7 +11,7 @@ use Rattle.sm_lists.proofs.Counting.{eq_or_ne, lt_or_le, by_contradiction, Decid
 use Rattle.sm_theory.specs.Rotations.{IsExposed, eliminated, IsNothingExposed, IsLowestExposed}
 use Rattle.sm_theory.specs.Chains.{rotation_at, IsCompleteChain, IsNeededBy}
 use Rattle.sm_rotations.specs.Graph.{times, times_below, AreFollowers, AreCounts}
-use Rattle.sm_rotations.specs.Ordering.{times_ready, is_passed, IsPassed, left_over, IsLead, IsEntry, IsTurned, AreReady, AreReadyAtFirst, IsReleased}
+use Rattle.sm_rotations.specs.Ordering.{times_ready, is_passed, IsPassed, left_over, IsLead, IsHeapEntry, IsTurned, AreReady, AreReadyAtFirst, IsReleased}
 use Rattle.sm_rotations.proofs.TimesLemmas.{count_found, below_none, below_some, below_alike, below_apart}
 use Rattle.sm_rotations.proofs.TurnLemmas.{turned_exposed, turned_first}
 use Rattle.sm_rotations.proofs.PassedLemmas.{IsReadyOne, none_passed, passed_needs, ready_exposed, exposed_ready_one, all_passed, now_passed, still_passed, no_other_passed}
@@ -82,7 +82,7 @@ module _ {l : Lists} (h : IsMarket l) {first : Places} {rotations : List (List (
     }
 
     -- the heap's first is the exposed rotation with the lowest-numbered proposer
-    pub first_is_lowest : (x : Reverse (ℕ × ℕ)) (turned : List (ℕ × ℕ)) → IsEntry rotations x → 0 < times_ready ready x.0.1 → All (λ y. x.0.0 ≤ y.0.0) ready
+    pub first_is_lowest : (x : Reverse (ℕ × ℕ)) (turned : List (ℕ × ℕ)) → IsHeapEntry rotations x → 0 < times_ready ready x.0.1 → All (λ y. x.0.0 ≤ y.0.0) ready
         → IsTurned (rotation_at rotations x.0.1) turned → IsLowestExposed l m turned
     first_is_lowest x turned entry some least t = record {
       exposed = turned_exposed h s (in_heap_exposed x.0.1 entry.0 some) t;
@@ -116,7 +116,7 @@ module _ {l : Lists} (h : IsMarket l) {first : Places} {rotations : List (List (
 
       -- with the needs met that the first met, the heap is right for the matching behind it
       pub ready_more : {unmet_after : List ℕ} {rest ready_after : List (Reverse (ℕ × ℕ))}
-          → ((j : ℕ) → j ≢ k → times_ready rest j ≡ times_ready ready j) → times_ready rest k + 1 ≡ times_ready ready k → All (IsEntry rotations) rest
+          → ((j : ℕ) → j ≢ k → times_ready rest j ≡ times_ready ready j) → times_ready rest k + 1 ≡ times_ready ready k → All (IsHeapEntry rotations) rest
           → length unmet_after ≡ length unmet → IsReleased rotations (row followers k) unmet rest unmet_after ready_after → AreReady l first rotations followers (eliminated l m (rotation_at rotations k)) unmet_after ready_after
       ready_more {unmet_after} {rest} {ready_after} others this entries long d = record {
         one_each = long ∙ r.one_each;

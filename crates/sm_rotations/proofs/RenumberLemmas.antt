@@ -6,12 +6,12 @@ use Rattle.sm_market.specs.Matching.{Places}
 use Rattle.sm_market.specs.Stable.{IsStable}
 use Rattle.sm_lists.proofs.Counting.{eq_or_ne, lt_or_le}
 use Rattle.sm_theory.specs.Rotations.{IsExposed, eliminated}
-use Rattle.sm_theory.specs.Chains.{rotation_at, IsCompleteChain}
+use Rattle.sm_theory.specs.Chains.{rotation_at, IsCompleteChain, AreNeeds}
 use Rattle.sm_theory.proofs.Core.Chain.{needs_lower, way_of}
 use Rattle.sm_theory.proofs.Bridge.Chain.{chain_of, needs_of}
-use Rattle.sm_rotations.specs.Graph.{times, AreNeeds, AreFollowers, AreAddedTo}
+use Rattle.sm_rotations.specs.Graph.{times, AreFollowers, AreAddedTo}
 use Rattle.sm_rotations.specs.Ordering.{IsTurned, IsPassed, number_at, AreNewNeeds, AreRenumbered}
-use Rattle.sm_rotations.proofs.ChainingLemmas.{rotation_before, rotation_new}
+use Rattle.sm_rotations.proofs.ChainingLemmas.{rotation_at-push_before, rotation_at-push_new}
 use Rattle.sm_rotations.proofs.PassedLemmas.{now_passed, still_passed}
 use Rattle.sm_rotations.proofs.TurnLemmas.{turned_needs, needs_of_turned}
 use Rattle.sm_rotations.proofs.TurnedBackLemmas.{rising_push, rising_like}
@@ -129,8 +129,8 @@ module _ {l : Lists} (h : IsMarket l) {first : Places} {rotations : List (List (
           | inr ne ↦ rw (number_before r.numbers k n (before n less ne)) (r.in_range n (inside n less ne))
         ];
         turned = λ n less. elim (eq_or_ne n (length written)) [
-          | inl new ↦ rw (number_new r.numbers k n (omega (arith, r.numbers_each)), rotation_new written turned n new) t
-          | inr ne ↦ rw (number_before r.numbers k n (before n less ne), rotation_before written turned n (inside n less ne)) (r.turned n (inside n less ne))
+          | inl new ↦ rw (number_new r.numbers k n (omega (arith, r.numbers_each)), rotation_at-push_new written turned n new) t
+          | inr ne ↦ rw (number_before r.numbers k n (before n less ne), rotation_at-push_before written turned n (inside n less ne)) (r.turned n (inside n less ne))
         ];
         noted_each = added.one_each ∙ length-set noted k [] ∙ r.noted_each;
         lower = λ j a less. omega (arith, lower_after j a less, length_push written turned);

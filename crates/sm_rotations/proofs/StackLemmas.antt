@@ -11,9 +11,9 @@ use Rattle.sm_theory.specs.Chains.{stage, IsCompleteChain}
 use Rattle.sm_market.proofs.Bridge.{stable_of}
 use Rattle.sm_theory.proofs.Bridge.Places.{row_past}
 use Rattle.sm_theory.proofs.Bridge.Rotation.{eliminated_stable}
-use Rattle.sm_rotations.specs.Walking.{IsNext, IsAtWorst, IsStack, ArePairsOf, spot_of, is_finished, IsWalking, IsOnStack, AreTakenOff}
+use Rattle.sm_rotations.specs.Walking.{IsNext, IsAtWorst, IsStack, AreStackPairs, spot_of, is_finished, IsWalking, IsOnStack, AreTakenOff}
 use Rattle.sm_rotations.proofs.WalkLemmas.{worst_kept, next_kept, all_worst}
-use Rattle.sm_rotations.proofs.ChainingLemmas.{rotation_before, rotation_new, stage_before}
+use Rattle.sm_rotations.proofs.ChainingLemmas.{rotation_at-push_before, rotation_at-push_new, stage_before}
 
 -- the stack without its top
 module _ {l : Lists} {m : Places} {stack rest : List ℕ} {spots : List (Option ℕ)} (k : IsStack l m stack spots) (n : ℕ) (long : n + 1 ≡ length stack) (short : length rest ≡ n) (same : (j : ℕ) → j < n → slice_index rest j ≡ slice_index stack j) where
@@ -93,7 +93,7 @@ stack_pushed {l} {m} {stack} {spots} k q inside fresh step = record {
 
 -- the stack below a rotation that is eliminated
 pub stack_below : {l : Lists} (h : IsMarket l) {m : Places} (s : IsStable l m) {stack rest : List ℕ} {before after : List (Option ℕ)} {pairs : List (ℕ × ℕ)} (from : ℕ)
-    → IsStack l m stack before → ArePairsOf l m stack from pairs → IsExposed l m pairs → AreTakenOff stack from before after
+    → IsStack l m stack before → AreStackPairs l m stack from pairs → IsExposed l m pairs → AreTakenOff stack from before after
     → length rest ≡ from → ((j : ℕ) → j < from → slice_index rest j ≡ slice_index stack j) → IsStack l (eliminated l m pairs) rest after
 stack_below {l} h {m} s {stack} {rest} {before} {after} {pairs} from k a x t short same = record {
   spots_each = t.one_each ∙ k.spots_each;
@@ -151,16 +151,16 @@ module _ {l : Lists} (h : IsMarket l) {first m : Places} {rotations : List (List
   }
 
   -- a rotation is taken off and eliminated
-  pub walk_takes_off : {rest : List ℕ} {after : List (Option ℕ)} {pairs : List (ℕ × ℕ)} {n : Places} (from : ℕ) → IsExposed l m pairs → ArePairsOf l m stack from pairs → AreTakenOff stack from spots after
+  pub walk_takes_off : {rest : List ℕ} {after : List (Option ℕ)} {pairs : List (ℕ × ℕ)} {n : Places} (from : ℕ) → IsExposed l m pairs → AreStackPairs l m stack from pairs → AreTakenOff stack from spots after
       → length rest ≡ from → ((j : ℕ) → j < from → slice_index rest j ≡ slice_index stack j) → n ≡ eliminated l m pairs
       → IsWalking l first n (rotations ++ pairs ∷ []) finished rest after
   walk_takes_off {rest} {after} {pairs} {n} from x a t short same e = rw e (record {
     stable = eliminated_stable h w.stable x;
     exposed = λ k less. elim (eq_or_ne k (length rotations)) [
-      | inl is ↦ rw (there k is, rotation_new rotations pairs k is) x
-      | inr ne ↦ rw (stage_before l first rotations pairs k (omega (arith, length_push rotations pairs)), rotation_before rotations pairs k (omega (arith, length_push rotations pairs))) (w.exposed k (omega (arith, length_push rotations pairs)))
+      | inl is ↦ rw (there k is, rotation_at-push_new rotations pairs k is) x
+      | inr ne ↦ rw (stage_before l first rotations pairs k (omega (arith, length_push rotations pairs)), rotation_at-push_before rotations pairs k (omega (arith, length_push rotations pairs))) (w.exposed k (omega (arith, length_push rotations pairs)))
     ];
-    at_end = ap (λ m. eliminated l m pairs) (sym (there (length rotations) refl)) ∙ ap (eliminated l (stage l first (rotations ++ pairs ∷ []) (length rotations))) (sym (rotation_new rotations pairs (length rotations) refl)) ∙ ap (stage l first (rotations ++ pairs ∷ [])) top;
+    at_end = ap (λ m. eliminated l m pairs) (sym (there (length rotations) refl)) ∙ ap (eliminated l (stage l first (rotations ++ pairs ∷ []) (length rotations))) (sym (rotation_at-push_new rotations pairs (length rotations) refl)) ∙ ap (stage l first (rotations ++ pairs ∷ [])) top;
     finished_each = w.finished_each;
     at_worst = λ p y. worst_kept h w.stable x p (w.at_worst p y);
     on_stack = stack_below h w.stable from w.on_stack a x t short same;

@@ -10,7 +10,7 @@ use Rattle.sm_theory.specs.Chains.{IsNeededBy}
 use Rattle.sm_theory.proofs.Core.Cycle.{turn, turn_in, turn_last, turn_more}
 use Rattle.sm_theory.proofs.Bridge.Rotation.{exposed_of, exposed_back}
 use Rattle.sm_rotations.specs.Ordering.{IsTurned}
-use Rattle.sm_rotations.proofs.OrderLemmas.{same_elimination}
+use Rattle.sm_rotations.proofs.OrderLemmas.{eliminated-same}
 
 -- a pair of a cycle that goes from and to as pair i of another does
 pub record IsLike (rotation other : List (ℕ × ℕ)) (i : ℕ) : Type 0 where
@@ -216,7 +216,7 @@ module _ {l : Lists} {m : Places} {rotation turned : List (ℕ × ℕ)} (h : IsM
 
   -- and eliminating it leaves the same matching
   pub turned_eliminated : eliminated l m turned ≡ eliminated l m rotation
-  turned_eliminated = sym (same_elimination h s x turned_exposed t.from 0 t.lowest.inside turned_exposed.not_empty turned_first)
+  turned_eliminated = sym (eliminated-same h s x turned_exposed t.from 0 t.lowest.inside turned_exposed.not_empty turned_first)
 
 -- what is begun at another pair needs the same, and is needed by the same
 module _ {l : Lists} {early late early' late' : List (ℕ × ℕ)} (t : IsTurned early early') (v : IsTurned late late') where

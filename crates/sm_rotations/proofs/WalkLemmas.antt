@@ -13,7 +13,7 @@ use Rattle.sm_theory.proofs.Core.Rotation.{goes_down, never_up, keeps, never_wor
 use Rattle.sm_theory.proofs.Core.Dichotomy.{step, step_on}
 use Rattle.sm_theory.proofs.Bridge.Rotation.{succ_back, exposed_of, elim_of, eliminated_stable}
 use Rattle.sm_rotations.proofs.FollowingLemmas.{pair_of_held, succ_at}
-use Rattle.sm_rotations.specs.Walking.{IsNext, IsAtWorst, IsStack, ArePairsOf, spot_of}
+use Rattle.sm_rotations.specs.Walking.{IsNext, IsAtWorst, IsStack, AreStackPairs, spot_of}
 
 module _ {l : Lists} (h : IsMarket l) {m : Places} (s : IsStable l m) where
   -- a proposer is finished where it has no successor, or where the one that has its successor is finished
@@ -75,7 +75,7 @@ module _ {l : Lists} (h : IsMarket l) {m : Places} (s : IsStable l m) where
       omega (arith, down, (w (proposer_at rotation 0)).worst (eliminated l m rotation) (eliminated_stable h s x))
 
   -- where the top of the stack leads back to it, the pairs from there on are exposed
-  pub stack_exposed : {stack : List ℕ} {spots : List (Option ℕ)} {pairs : List (ℕ × ℕ)} (from top : ℕ) → IsStack l m stack spots → ArePairsOf l m stack from pairs → from ≤ top → top + 1 ≡ length stack
+  pub stack_exposed : {stack : List ℕ} {spots : List (Option ℕ)} {pairs : List (ℕ × ℕ)} (from top : ℕ) → IsStack l m stack spots → AreStackPairs l m stack from pairs → from ≤ top → top + 1 ≡ length stack
       → IsNext l m (slice_index stack top) (slice_index stack from) → IsExposed l m pairs
   stack_exposed {stack} {spots} {pairs} from top k a le last back = record {
     not_empty = omega (arith, a.as_many);

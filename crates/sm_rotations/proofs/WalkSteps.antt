@@ -10,7 +10,7 @@ use Rattle.sm_market.specs.Stable.{IsStable}
 use Rattle.sm_lists.proofs.Counting.{lt_or_le, eq_or_ne}
 use Rattle.sm_lists.proofs.PlaceLemmas.{entry-place_of}
 use Rattle.sm_theory.specs.Rotations.{IsSuccessor, IsExposed, proposer_at, reviewer_at, eliminated}
-use Rattle.sm_rotations.specs.Walking.{IsNext, IsAtWorst, IsStack, ArePairsOf, spot_of, is_finished, IsWalking, AreTakenOff, IsTopTakenOff, IsTopAtWorst, GoesOn, LeadsBack}
+use Rattle.sm_rotations.specs.Walking.{IsNext, IsAtWorst, IsStack, AreStackPairs, spot_of, is_finished, IsWalking, AreTakenOff, IsTopTakenOff, IsTopAtWorst, CanFollowTop, LeadsBack}
 use Rattle.sm_rotations.proofs.WalkLemmas.{worst_at_end, worst_before, stack_exposed}
 use Rattle.sm_rotations.proofs.StackLemmas.{walk_finishes, walk_goes_on, walk_takes_off}
 use Rattle.sm_rotations.proofs.ChainingLemmas.{places_below}
@@ -74,10 +74,10 @@ module _ {l : Lists} (h : IsMarket l) {first m : Places} {rotations : List (List
       rw (x.finished, x.spots) (walk_finishes h w x.top x.last x.short x.same worst)
 
   -- the walk with one more on the stack
-  pub walk_on : {more : List ℕ} {after : List (Option ℕ)} {q : ℕ} → GoesOn l m stack spots finished q → more ≡ stack ++ q ∷ [] → after ≡ set spots q (Some (length stack)) → IsWalking l first m rotations finished more after
+  pub walk_on : {more : List ℕ} {after : List (Option ℕ)} {q : ℕ} → CanFollowTop l m stack spots finished q → more ≡ stack ++ q ∷ [] → after ≡ set spots q (Some (length stack)) → IsWalking l first m rotations finished more after
   walk_on {more} {after} {q} x e f = rw (e, f) (walk_goes_on h w q x.in_range x.off x.next)
 
-  module _ {from : ℕ} (b : LeadsBack l m stack from) {pairs : List (ℕ × ℕ)} (a : ArePairsOf l m stack from pairs) where
+  module _ {from : ℕ} (b : LeadsBack l m stack from) {pairs : List (ℕ × ℕ)} (a : AreStackPairs l m stack from pairs) where
     -- where the top leads back to a spot, the pairs from there on are exposed
     pub exposed_back : IsExposed l m pairs
     exposed_back = stack_exposed h w.stable from b.top w.on_stack a b.from_in b.last b.next
@@ -97,8 +97,8 @@ module _ {l : Lists} (h : IsMarket l) {first m : Places} {rotations : List (List
         rw (entry-place_of l.proposers p r on) at (h.proposers.in_range p (place_of l.proposers p r) on)
 
 -- who is finished stays so
-pub still_finished : (finished : List Bool) (t p : ℕ) → t < length finished → is_finished finished p ≡ true → is_finished (set finished t true) p ≡ true
-still_finished finished t p inside is = elim (eq_or_ne p t) [
+pub is_finished-set : (finished : List Bool) (t p : ℕ) → t < length finished → is_finished finished p ≡ true → is_finished (set finished t true) p ≡ true
+is_finished-set finished t p inside is = elim (eq_or_ne p t) [
   | inl e ↦ rw e (get_or-set_same finished t true false inside)
   | inr ne ↦ get_or-set_other finished t p true false ne ∙ is
 ]
@@ -160,7 +160,7 @@ module _ {l : Lists} {m : Places} {finished : List Bool} {stack : List ℕ} {spo
       ] in
       omega (arith, sums_le (open_at new after) (open_at finished spots) (length l.proposers) le, x.last, x.short)
 
-  on_fewer : {q : ℕ} → GoesOn l m stack spots finished q → steps_left l m finished (stack ++ q ∷ []) (set spots q (Some (length stack))) < steps_left l m finished stack spots
+  on_fewer : {q : ℕ} → CanFollowTop l m stack spots finished q → steps_left l m finished (stack ++ q ∷ []) (set spots q (Some (length stack))) < steps_left l m finished stack spots
   unfolding steps_left open_at
   on_fewer {q} x =
       let on : spot_of (set spots q (Some (length stack))) q ≡ Some (length stack) = get_or-set_same spots q (Some (length stack)) None (omega (arith, k.spots_each, x.in_range)) in
@@ -174,7 +174,7 @@ module _ {l : Lists} {m : Places} {finished : List Bool} {stack : List ℕ} {spo
       omega (arith, sums_less (open_at finished (set spots q (Some (length stack)))) (open_at finished spots) (length l.proposers) q le x.in_range less, length_push stack q)
 
   -- one more on the stack leaves fewer steps
-  pub fewer_on : {more : List ℕ} {after : List (Option ℕ)} {q : ℕ} → GoesOn l m stack spots finished q → more ≡ stack ++ q ∷ [] → after ≡ set spots q (Some (length stack))
+  pub fewer_on : {more : List ℕ} {after : List (Option ℕ)} {q : ℕ} → CanFollowTop l m stack spots finished q → more ≡ stack ++ q ∷ [] → after ≡ set spots q (Some (length stack))
       → steps_left l m finished more after < steps_left l m finished stack spots
   fewer_on x e f = rw (e, f) (on_fewer x)
 

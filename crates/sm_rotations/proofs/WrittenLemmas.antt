@@ -16,7 +16,7 @@ use Rattle.sm_theory.specs.declared.rotations.Rotation.{Rotation}
 use Rattle.sm_theory.proofs.Bridge.Rotation.{eliminated_stable}
 use Rattle.sm_rotations.specs.Chaining.{LeadsTo}
 use Rattle.sm_rotations.specs.Graph.{times, AreFollowers, AreCounts}
-use Rattle.sm_rotations.specs.Ordering.{later_first, times_ready, IsEntry, IsTurned, AreReadyAtFirst, IsPassed, IsReleased, AreWritten}
+use Rattle.sm_rotations.specs.Ordering.{later_first, times_ready, IsHeapEntry, IsTurned, AreReadyAtFirst, IsPassed, IsReleased, AreWritten}
 use Rattle.sm_rotations.proofs.ChainingLemmas.{leads_start, leads_on, leads_whole, places_below, places_fall}
 use Rattle.sm_rotations.proofs.NeedsLemmas.{as_many}
 use Rattle.sm_rotations.proofs.TurnLemmas.{turned_eliminated}
@@ -60,7 +60,7 @@ module _ {l : Lists} {first : Places} {rotations : List (List (ℕ × ℕ))} {fo
 
     -- a turn
     module _ (x : Reverse (ℕ × ℕ)) {rest : List (Reverse (ℕ × ℕ))} (popped : IsPermutation ready (x ∷ rest)) where
-      entry : IsEntry rotations x
+      entry : IsHeapEntry rotations x
       entry = entry_popped x ready rest popped rotations w.heap.entries
 
       -- the heap's first is a rotation of the chain

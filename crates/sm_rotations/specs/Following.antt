@@ -12,7 +12,7 @@ pub record IsStep (l : Lists) (m : Places) (p r q : ℕ) : Type 0 where
   pub has : held m.proposers q ≡ Some (place_of l.proposers q target)
 
 -- from p the successors lead along the pairs to q, and haven't come back to p
-pub record IsWalk (l : Lists) (m : Places) (p : ℕ) (pairs : List (ℕ × ℕ)) (q : ℕ) : Type 0 where
+pub record IsSuccessorWalk (l : Lists) (m : Places) (p : ℕ) (pairs : List (ℕ × ℕ)) (q : ℕ) : Type 0 where
   pub empty : length pairs ≡ 0 → q ≡ p
   pub first : 0 < length pairs → proposer_at pairs 0 ≡ p
   pub steps : (k : ℕ) → k + 1 < length pairs → IsStep l m (proposer_at pairs k) (reviewer_at pairs k) (proposer_at pairs (k + 1))

@@ -1,7 +1,7 @@
 -- What each rotation needs and which ones need it, as lists of numbers.
 use Rattle.std.specs.Prelude.{◌≡◌, ℕ, zero, suc, ◌+◌, ◌-◌, ◌<◌, ◌≤◌, ◌++◌, [], ◌∷◌, nat_eq, Bool, true, if◌then◌else◌, List, length, slice_get, slice_index_or, count_by, Option}
 use Rattle.sm_market.specs.Lists.{Lists, row}
-use Rattle.sm_theory.specs.Chains.{rotation_at, IsNeededBy, AreNeedsOf}
+use Rattle.sm_theory.specs.Chains.{rotation_at, IsNeededBy}
 use Rattle.sm_rotations.specs.Marking.{IsRisingListOf}
 
 -- how often a number stands in a list
@@ -16,11 +16,6 @@ times_below test lists k (suc n) = times_below test lists k n + (if test n then 
 -- the last number of a list
 abbrev pub last_of : List ℕ → Option ℕ
 last_of numbers = slice_get numbers (length numbers - 1)
-
--- for each rotation the numbers of its predecessors, rising
-pub record AreNeeds (l : Lists) (rotations : List (List (ℕ × ℕ))) (needs : List (List ℕ)) : Type 0 where
-  pub one_each : length needs ≡ length rotations
-  pub each : (j : ℕ) → j < length rotations → AreNeedsOf l rotations j (row needs j)
 
 -- j stands on the list of a rotation, once, just where j < n and j needs that rotation
 pub record AreFollowers (l : Lists) (rotations : List (List (ℕ × ℕ))) (n : ℕ) (followers : List (List ℕ)) : Type 0 where

@@ -38,19 +38,19 @@ pub record IsLead (rotation : List (ℕ × ℕ)) (p : ℕ) : Type 0 where
   pub is : proposer_at rotation pair ≡ p
 
 -- an item of the heap is a rotation with its lowest-numbered proposer
-abbrev pub IsEntry : List (List (ℕ × ℕ)) → Reverse (ℕ × ℕ) → Type 0
-IsEntry rotations x = (x.0.1 < length rotations) × IsLead (rotation_at rotations x.0.1) x.0.0
+abbrev pub IsHeapEntry : List (List (ℕ × ℕ)) → Reverse (ℕ × ℕ) → Type 0
+IsHeapEntry rotations x = (x.0.1 < length rotations) × IsLead (rotation_at rotations x.0.1) x.0.0
 
 -- the heap has rotation k once more
 pub record IsOneMore (rotation : List (ℕ × ℕ)) (k : ℕ) (before after : List (Reverse (ℕ × ℕ))) : Type 0 where
   pub others : (j : ℕ) → j ≢ k → times_ready after j ≡ times_ready before j
   pub this : times_ready after k ≡ times_ready before k + 1
   pub entries : (rotations : List (List (ℕ × ℕ))) → k < length rotations → rotation_at rotations k ≡ rotation
-      → All (IsEntry rotations) before → All (IsEntry rotations) after
+      → All (IsHeapEntry rotations) before → All (IsHeapEntry rotations) after
 
 -- the heap has once each of the first n rotations that needs no other
 pub record AreReadyAtFirst (rotations : List (List (ℕ × ℕ))) (unmet : List ℕ) (n : ℕ) (ready : List (Reverse (ℕ × ℕ))) : Type 0 where
-  pub entries : All (IsEntry rotations) ready
+  pub entries : All (IsHeapEntry rotations) ready
   pub once : (k : ℕ) → k < n → slice_index_or unmet k 0 ≡ 0 → times_ready ready k ≡ 1
   pub waiting : (k : ℕ) → k < n → slice_index_or unmet k 0 ≢ 0 → times_ready ready k ≡ 0
   pub later : (k : ℕ) → n ≤ k → times_ready ready k ≡ 0
@@ -65,7 +65,7 @@ pub record IsReleased (rotations : List (List (ℕ × ℕ))) (followers : List �
     (unmet_after : List ℕ) (ready_after : List (Reverse (ℕ × ℕ))) : Type 0 where
   pub counts : (j : ℕ) → slice_index_or unmet_after j 0 + times followers j ≡ slice_index_or unmet j 0
   pub fallen : (j : ℕ) → IsFallen (slice_index_or unmet j 0) (times_ready ready j) (slice_index_or unmet_after j 0) (times_ready ready_after j)
-  pub entries : All (IsEntry rotations) ready → All (IsEntry rotations) ready_after
+  pub entries : All (IsHeapEntry rotations) ready → All (IsHeapEntry rotations) ready_after
 
 -- a matching has passed rotation k: the first proposer of that has come down to where it moves it, or further
 abbrev pub is_passed : Lists → Places → List (List (ℕ × ℕ)) → Places → ℕ → Bool
@@ -87,7 +87,7 @@ pub record AreReady (l : Lists) (first : Places) (rotations : List (List (ℕ ×
     (unmet : List ℕ) (ready : List (Reverse (ℕ × ℕ))) : Type 0 where
   pub one_each : length unmet ≡ length rotations
   pub counts : (k : ℕ) → k < length rotations → slice_index_or unmet k 0 ≡ left_over l first rotations followers m k
-  pub entries : All (IsEntry rotations) ready
+  pub entries : All (IsHeapEntry rotations) ready
   pub once : (k : ℕ) → k < length rotations → ¬ IsPassed l first rotations m k → slice_index_or unmet k 0 ≡ 0 → times_ready ready k ≡ 1
   pub passed : (k : ℕ) → k < length rotations → IsPassed l first rotations m k → times_ready ready k ≡ 0
   pub waiting : (k : ℕ) → k < length rotations → slice_index_or unmet k 0 ≢ 0 → times_ready ready k ≡ 0

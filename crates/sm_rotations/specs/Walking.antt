@@ -28,7 +28,7 @@ pub record IsStack (l : Lists) (m : Places) (stack : List ℕ) (spots : List (Op
   pub next : (k : ℕ) → k + 1 < length stack → IsNext l m (slice_index stack k) (slice_index stack (k + 1))
 
 -- the pairs are those of the stack from a place on
-pub record ArePairsOf (l : Lists) (m : Places) (stack : List ℕ) (from : ℕ) (pairs : List (ℕ × ℕ)) : Type 0 where
+pub record AreStackPairs (l : Lists) (m : Places) (stack : List ℕ) (from : ℕ) (pairs : List (ℕ × ℕ)) : Type 0 where
   pub as_many : from + length pairs ≡ length stack
   pub who : (k : ℕ) → k < length pairs → proposer_at pairs k ≡ slice_index stack (from + k)
   pub paired : (k : ℕ) → k < length pairs → held m.proposers (proposer_at pairs k) ≡ Some (place_of l.proposers (proposer_at pairs k) (reviewer_at pairs k))
@@ -83,7 +83,7 @@ pub record IsTopAtWorst (l : Lists) (m : Places) (stack : List ℕ) : Type 0 whe
   pub worst : IsAtWorst l m (slice_index stack top)
 
 -- q is neither finished nor on the stack, and has the successor of the top, if there is a top
-pub record GoesOn (l : Lists) (m : Places) (stack : List ℕ) (spots : List (Option ℕ)) (finished : List Bool) (q : ℕ) : Type 0 where
+pub record CanFollowTop (l : Lists) (m : Places) (stack : List ℕ) (spots : List (Option ℕ)) (finished : List Bool) (q : ℕ) : Type 0 where
   pub in_range : q < length l.proposers
   pub off : spot_of spots q ≡ None
   pub unfinished : is_finished finished q ≡ false
@@ -99,5 +99,5 @@ pub record LeadsBack (l : Lists) (m : Places) (stack : List ℕ) (from : ℕ) : 
 -- what the walk may do next
 abbrev pub IsWalkStep : Lists → Places → List ℕ → List (Option ℕ) → List Bool → WalkStep → Type 0
 IsWalkStep l m stack spots finished Over = IsTopAtWorst l m stack
-IsWalkStep l m stack spots finished (On q) = GoesOn l m stack spots finished q
+IsWalkStep l m stack spots finished (On q) = CanFollowTop l m stack spots finished q
 IsWalkStep l m stack spots finished (Back from) = LeadsBack l m stack from

@@ -4,9 +4,8 @@ ghost use Rattle.std.specs.Prelude.{◌≡◌, IfOk};
 ghost use Rattle.sm_market.specs.Stable.{IsProposersBest};
 ghost use Rattle.sm_market.specs.Pairing.{IsPairingOf};
 ghost use Rattle.sm_market.specs.Vectors.{rows_of};
-ghost use Rattle.sm_theory.specs.Chains.{IsPrintedChain};
+ghost use Rattle.sm_theory.specs.Chains.{IsPrintedChain, AreNeeds};
 ghost use Rattle.sm_theory.specs.Values.{rotations_of};
-ghost use Rattle.sm_rotations.specs.Graph.{AreNeeds};
 
 use crate::order::{ChainWithNeeds, in_order};
 use crate::walk::walk;

@@ -5,9 +5,9 @@ ghost use Rattle.std.specs.BinaryHeap.{IsHeap, heap_items};
 ghost use Rattle.sm_market.specs.Lists.{row};
 ghost use Rattle.sm_market.specs.Vectors.{rows_of};
 ghost use Rattle.sm_market.specs.Pairing.{IsPairingOf};
-ghost use Rattle.sm_theory.specs.Chains.{rotation_at, IsCompleteChain, IsPrintedChain};
+ghost use Rattle.sm_theory.specs.Chains.{rotation_at, IsCompleteChain, IsPrintedChain, AreNeeds};
 ghost use Rattle.sm_theory.specs.Values.{rotations_of};
-ghost use Rattle.sm_rotations.specs.Graph.{times, AreNeeds};
+ghost use Rattle.sm_rotations.specs.Graph.{times};
 ghost use Rattle.sm_rotations.specs.Ordering.{later_first, IsLowestPair, IsTurned, IsOneMore, AreReadyAtFirst, IsReleased};
 
 use crate::graph::{add_once, counts, empty_lists};

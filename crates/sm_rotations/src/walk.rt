@@ -11,8 +11,8 @@ ghost use Rattle.sm_market.specs.Pairing.{IsPairingOf};
 ghost use Rattle.sm_theory.specs.Rotations.{IsSuccessor, reviewer_at};
 ghost use Rattle.sm_theory.specs.Chains.{IsCompleteChain};
 ghost use Rattle.sm_theory.specs.Values.{rotations_of};
-ghost use Rattle.sm_accept.specs.Linking.{IsLinkedOf, IsFront, IsFrontBut};
-ghost use Rattle.sm_rotations.specs.Walking.{IsLeftIn, IsNext, IsAtWorst, IsStack, ArePairsOf, AreTakenOff, is_finished, spot_of, IsTopTakenOff, IsWalkStep, LeadsBack};
+ghost use Rattle.sm_accept.specs.Linking.{IsLinkedOf, AreReducedEnds, AreReducedEndsBut};
+ghost use Rattle.sm_rotations.specs.Walking.{IsLeftIn, IsNext, IsAtWorst, IsStack, AreStackPairs, AreTakenOff, is_finished, spot_of, IsTopTakenOff, IsWalkStep, LeadsBack};
 
 use sm_accept::{Linked, cut_to_partner, cut_to_partners};
 use sm_market::{Market, Pairing};
@@ -32,7 +32,7 @@ enum WalkStep {
 
 /// A walk's stack of proposers, and who is finished.
 #[derive(Drop)]
-struct Trail {
+struct WalkStack {
     /// The proposers on the stack, of whom each is followed by the one that has its successor.
     stack: Vec<u32>,
     /// Where each proposer stands on the stack.
@@ -67,7 +67,7 @@ pub(crate) fn walk(
     let mut m = best.copy(alloc)?;
     let mut linked = Linked::of(alloc, market)?;
     cut_to_partners(market, &m, &mut linked);
-    let mut trail = Trail::new(alloc, market.proposers() as usize)?;
+    let mut trail = WalkStack::new(alloc, market.proposers() as usize)?;
     let mut rotations = Vec::new(alloc);
     for p in 0..market.proposers() {
         'steps: while !trail.is_finished(p) {
@@ -87,13 +87,13 @@ pub(crate) fn walk(
 }
 
 /// What the walk does next, while `p` isn't finished. Where the stack is empty, `p` is put on it.
-fn walk_step(market: &Market, m: &Pairing, linked: &Linked, trail: &Trail, p: u32) -> WalkStep
+fn walk_step(market: &Market, m: &Pairing, linked: &Linked, trail: &WalkStack, p: u32) -> WalkStep
     requires in_range { p < length market.now.proposers }
     requires market { IsMarket market.now }
     requires made { IsPairingOf market.now m.now }
     requires stable { IsStable market.now m.now.places }
     requires linked { IsLinkedOf market.now linked.now }
-    requires front { IsFront market.now m.now.places linked.now.ends }
+    requires front { AreReducedEnds market.now m.now.places linked.now.ends }
     requires stack { IsStack market.now m.now.places trail.now.stack.items trail.now.spots.items }
     requires finished_each { length trail.now.finished.items ≡ length market.now.proposers }
     requires at_worst { (q : ℕ) → is_finished trail.now.finished.items q ≡ true
@@ -118,14 +118,14 @@ fn walk_step(market: &Market, m: &Pairing, linked: &Linked, trail: &Trail, p: u3
     }
 }
 
-impl Trail {
+impl WalkStack {
     /// An empty stack, for so many proposers of whom none is finished.
-    fn new(alloc: Global, proposers: usize) -> Result<Trail, AllocError>
+    fn new(alloc: Global, proposers: usize) -> Result<WalkStack, AllocError>
         ensures stack { IfOk result (λ trail. trail.stack.items ≡ []) }
         ensures spots { IfOk result (λ trail. trail.spots.items ≡ replicate proposers None) }
         ensures finished { IfOk result (λ trail. trail.finished.items ≡ replicate proposers false) }
     {
-        Ok(Trail {
+        Ok(WalkStack {
             stack: Vec::with_capacity(alloc, proposers)?,
             spots: vec![in alloc; None; proposers]?,
             finished: vec![in alloc; false; proposers]?,
@@ -198,7 +198,7 @@ impl Trail {
         requires made { IsPairingOf market.now m.now }
         requires stack { IsStack market.now m.now.places self.old.stack.items self.old.spots.items }
         requires back { LeadsBack market.now m.now.places self.old.stack.items from }
-        ensures pairs { IfOk result (λ rotation. ArePairsOf market.now m.now.places
+        ensures pairs { IfOk result (λ rotation. AreStackPairs market.now m.now.places
             self.old.stack.items from rotation.pairs.items) }
         ensures off { OnOk result (AreTakenOff self.old.stack.items from self.old.spots.items
             self.new.spots.items) }
@@ -227,7 +227,7 @@ fn pairs_from(
     requires matched { (k : ℕ) → from ≤ k → k < length stack.now
         → held m.now.places.proposers (slice_index stack.now k) ≢ None }
     requires from_in { from ≤ length stack.now }
-    ensures { IfOk result (λ pairs. ArePairsOf market.now m.now.places stack.now from pairs.items) }
+    ensures { IfOk result (λ pairs. AreStackPairs market.now m.now.places stack.now from pairs.items) }
 {
     let mut pairs = Vec::with_capacity(alloc, stack.len() - from)?;
     for k in from..stack.len() {
@@ -269,9 +269,9 @@ fn cut_to_new_partners(market: &Market, m: &Pairing, pairs: &[(u32, u32)], linke
     requires in_range { (i : ℕ) → i < length pairs.now → reviewer_at pairs.now i
         < length market.now.reviewers }
     requires linked { IsLinkedOf market.now linked.old }
-    requires front { IsFrontBut market.now m.now.places linked.old.ends (IsLeftIn pairs.now 0) }
+    requires front { AreReducedEndsBut market.now m.now.places linked.old.ends (IsLeftIn pairs.now 0) }
     ensures linked { IsLinkedOf market.now linked.new }
-    ensures front { IsFront market.now m.now.places linked.new.ends }
+    ensures front { AreReducedEnds market.now m.now.places linked.new.ends }
 {
     for i in 0..pairs.len() {
         cut_to_partner(market, m, pairs[i].1, linked);
@@ -284,7 +284,7 @@ fn holder_of_next(market: &Market, m: &Pairing, linked: &Linked, p: u32) -> Opti
     requires market { IsMarket market.now }
     requires made { IsPairingOf market.now m.now }
     requires linked { IsLinkedOf market.now linked.now }
-    requires front { IsFront market.now m.now.places linked.now.ends }
+    requires front { AreReducedEnds market.now m.now.places linked.now.ends }
     ensures next { MatchOption result
         ((i : ℕ) → ¬ IsSuccessor market.now m.now.places p i)
         (λ q. IsNext market.now m.now.places p q) }

@@ -16,7 +16,8 @@ use Rattle.sm_report.specs.Lines.{LineData}
 use Rattle.sm_report.specs.Texts.{text_of_line}
 use Rattle.sm_answer.specs.Writing.{text_of}
 use Rattle.sm_words.specs.Jobs.{Solve, Weight, Meet}
-use Rattle.sm_agree.specs.Witnesses.{given_twice, given_answer, weighed_three, weighed_answer}
+use Rattle.sm_agree.specs.Witnesses.{given_twice, given_answer, weighed_three}
+use Rattle.sm_lightest.specs.Witnesses.{worked_answer}
 use Rattle.sm_agree.proofs.WitnessLemmas.{one_pair_is}
 use Rattle.sm_agree.proofs.WeightWitness.{weighed_three_is}
 use Rattle.sm_top.specs.Accepting.{accepted, behind_text}
@@ -75,7 +76,7 @@ pair_is_written = (
 
 -- three by three with two weights are, and have this right answer
 -- how long both texts are together
-weighed_length : length (weighed_text ++ text_of (map (text_of_line (Two weighed_three)) weighed_answer)) ≡ 353
+weighed_length : length (weighed_text ++ text_of (map (text_of_line (Two weighed_three)) worked_answer)) ≡ 353
 unfolding fmt.digits
 weighed_length = refl
 
@@ -86,7 +87,7 @@ weighed_is_written = record {
   right = λ tallies. record {
     read = weighed_read;
     ok = weight_accepted;
-    shown = record { answer = weighed_answer; is_right = inl (refl, weighed_three_is.2); shows = refl };
+    shown = record { answer = worked_answer; is_right = inl (refl, weighed_three_is.2); shows = refl };
   };
   short = subst (λ (n : ℕ). n ≤ most_bytes) (sym weighed_length) (omega arith);
 }

@@ -26,21 +26,21 @@ pub record IsInstanceText (text : List ℕ) (read : ReadText) : Type 0 where
 
 -- the commands whose answers `check` takes, with the status of those that it takes. The numbers of `list` are as words can give
 -- them; `none` of `regret` and of `weight` shows nothing
-abbrev pub IsTaken : JobData → ReadText → Status → Type 0
-IsTaken (Solve side) read status = Unit {0}
-IsTaken Reduced read status = Unit {0}
-IsTaken Rotations read status = Unit {0}
-IsTaken (JobData.List after limit) read status = IsHeadOf (kind_of read.input) (HeadData.List after limit)
-IsTaken Regret read status = status ≡ Done
-IsTaken (Weight by) read status = status ≡ Done
-IsTaken Meet read status = Unit {0}
-IsTaken Join read status = Unit {0}
-IsTaken job read status = ⊥
+abbrev pub IsCheckable : JobData → ReadText → Status → Type 0
+IsCheckable (Solve side) read status = Unit {0}
+IsCheckable Reduced read status = Unit {0}
+IsCheckable Rotations read status = Unit {0}
+IsCheckable (JobData.List after limit) read status = IsHeadOf (kind_of read.input) (HeadData.List after limit)
+IsCheckable Regret read status = status ≡ Done
+IsCheckable (Weight by) read status = status ≡ Done
+IsCheckable Meet read status = Unit {0}
+IsCheckable Join read status = Unit {0}
+IsCheckable job read status = ⊥
 
 -- a right answer to a command over an instance, behind which may stand what the command takes there, is behind the same instance
 -- one of which the right answer to `check` is yes
 abbrev pub WrittenIsChecked : Type 0
 WrittenIsChecked = (tallies others : List Shown) (job : JobData) (text behind : List ℕ) (read : ReadText) (status : Status) (lines : List (List ℕ))
-    → IsInstanceText text read → IsTaken job read status → IsAnswer tallies job (text ++ behind) status lines
+    → IsInstanceText text read → IsCheckable job read status → IsAnswer tallies job (text ++ behind) status lines
     → length (text ++ text_of lines) ≤ most_bytes
     → IsAnswer others JobData.Check (text ++ text_of lines) Done (map (text_of_line read.input) (verdict_lines verdict.Yes))

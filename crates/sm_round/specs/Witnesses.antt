@@ -8,15 +8,16 @@ use Rattle.sm_report.specs.Texts.{text_of_line}
 use Rattle.sm_answer.specs.Writing.{text_of}
 use Rattle.sm_tally.specs.Fold.{Shown}
 use Rattle.sm_words.specs.Jobs.{JobData, Solve, Weight, Meet}
-use Rattle.sm_agree.specs.Witnesses.{one_pair, given_twice, weighed_three, weighed_answer}
+use Rattle.sm_agree.specs.Witnesses.{one_pair, given_twice, weighed_three}
+use Rattle.sm_lightest.specs.Witnesses.{worked_answer}
 use Rattle.sm_top.specs.declared.status.Status.TheVariants.{Done}
 use Rattle.sm_top.specs.Outcome.{IsAnswer}
-use Rattle.sm_round.specs.Round.{IsInstanceText, IsTaken}
+use Rattle.sm_round.specs.Round.{IsInstanceText, IsCheckable}
 
 -- a text, and what may stand behind it, with a right answer to a job
 pub record IsWritten (job : JobData) (text behind : List ℕ) (read : ReadText) (lines : List (List ℕ)) : Type 0 where
   pub instance : IsInstanceText text read
-  pub taken : IsTaken job read Done
+  pub taken : IsCheckable job read Done
   pub right : (tallies : List Shown) → IsAnswer tallies job (text ++ behind) Done lines
   pub short : length (text ++ text_of lines) ≤ most_bytes
 
@@ -49,4 +50,4 @@ weighed_read = record { input = Two weighed_three; header_line = 1; rest = 116; 
 
 -- the lightest matching with its flow
 abbrev pub WeighedIsWritten : Type 0
-WeighedIsWritten = IsWritten (Weight Given) weighed_text [] weighed_read (map (text_of_line (Two weighed_three)) weighed_answer)
+WeighedIsWritten = IsWritten (Weight Given) weighed_text [] weighed_read (map (text_of_line (Two weighed_three)) worked_answer)

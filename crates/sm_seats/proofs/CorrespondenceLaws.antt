@@ -15,7 +15,7 @@ use Rattle.sm_seats.proofs.TakenLaws.{stable_taken, taken_forgotten}
 use Rattle.sm_seats.proofs.LevelLaws.{are_levels, levels_alike, levels_are_ranks, one_seating, taken_is}
 use Rattle.sm_seats.proofs.SeatLemmas.{IsSeat, seat_found, seat_name, length-seats, has_seats, seat_count-le-capacity}
 use Rattle.sm_seats.proofs.SeatPlaces.{seat_on}
-use Rattle.sm_seats.proofs.WrittenLemmas.{list_is, reviewer_is, written_on}
+use Rattle.sm_seats.proofs.WrittenLemmas.{row-seating, reviewer_of-seating, written_on}
 use Rattle.sm_seats.proofs.WorthLaws.{at_level, level_at, allowed_alike, weights_alike, regrets_alike}
 
 -- an instance has sound entries
@@ -32,15 +32,15 @@ is_seating {w} h = record {
   proposers = length-proposers w;
   seats = length-map (seats_of w) (row_of_seat w);
   lists = refl;
-  reviewers = λ seat there. (let it = seat_at w seat there in let e = reviewer_is it.of in let here = has_seats w it.reviewer it.number it.of.below in omega arith);
+  reviewers = λ seat there. (let it = seat_at w seat there in let e = reviewer_of-seating it.of in let here = has_seats w it.reviewer it.number it.of.below in omega arith);
   numbers = λ seat there.
       let it = seat_at w seat there in
       let number = ap (λ (x : ℕ × ℕ). x.1) (seat_name it.of) in
-      let capacity = ap (capacity_of w.reviewers) (reviewer_is it.of) in
+      let capacity = ap (capacity_of w.reviewers) (reviewer_of-seating it.of) in
       let most = seat_count-le-capacity w it.reviewer in
       let below = it.of.below in
       record { least = omega arith; greatest = omega arith };
-  on_lists = λ p i on. (let it = seat_on h p i on in let e = written_on it.at in let long = ap length (list_is w p) in omega arith);
+  on_lists = λ p i on. (let it = seat_on h p i on in let e = written_on it.at in let long = ap length (row-seating w p) in omega arith);
   levels = are_levels h;
   alike = levels_alike h;
   matched = λ m f. forgotten_matching h f;

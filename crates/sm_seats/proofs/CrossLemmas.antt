@@ -12,7 +12,7 @@ use Rattle.sm_instance.proofs.PlaceLemmas.{place_of-entry}
 use Rattle.sm_instance.proofs.LoadLemmas.{test_cases}
 use Rattle.sm_instance.proofs.AcceptLemmas.{cross_some}
 use Rattle.sm_seats.specs.Mutual.{lists_back}
-use Rattle.sm_seats.proofs.FilterLemmas.{place_here, place_behind, taken, left_out}
+use Rattle.sm_seats.proofs.FilterLemmas.{place_on-here, place_on-behind, taken, left_out}
 use Rattle.sm_seats.proofs.MutualLemmas.{IsMutual}
 
 is_some_choice : (b : Bool) (i : ℕ) → is_some (cond b (Some i) None) ≡ b
@@ -20,8 +20,8 @@ is_some_choice true i = refl
 is_some_choice false i = refl
 
 -- the cross place of an entry tells whether its agent lists back
-pub cross_tells : (others : List AgentData) (a b : ℕ) {o : Option ℕ} {t : Bool} → o ≡ cross_place others b a → t ≡ is_some o → lists_back others a b ≡ t
-cross_tells others a b is test = sym (test ∙ ap is_some is ∙ is_some_choice (nat_lt (place_of others b a) (length (row others b))) (place_of others b a))
+pub lists_back-told : (others : List AgentData) (a b : ℕ) {o : Option ℕ} {t : Bool} → o ≡ cross_place others b a → t ≡ is_some o → lists_back others a b ≡ t
+lists_back-told others a b is test = sym (test ∙ ap is_some is ∙ is_some_choice (nat_lt (place_of others b a) (length (row others b))) (place_of others b a))
 
 -- the cross place at a place of a list, where it is read
 pub cross_read : {agents others : List AgentData} {a i : ℕ} {crosses : List (Option ℕ)} {x o : Option ℕ} → AreCrossPlacesOf agents others a crosses → i < length (row agents a) → x ≡ get_or crosses i x → o ≡ x
@@ -57,12 +57,12 @@ crossed_at {agents} {others} {n} {a} {i} {j} sound on is some_ =
       mutual_ = record { lists = omega (arith, place); listed = both.1 };
       place = place;
       back = both.0;
-      passes = cross_tells others a (entry agents a i) is (sym (ap is_some some_));
+      passes = lists_back-told others a (entry agents a i) is (sym (ap is_some some_));
     }
 
 -- an entry without a cross place is of an agent that doesn't list back
-pub not_crossed : (agents others : List AgentData) (a i : ℕ) {o : Option ℕ} → o ≡ cross_place others (entry agents a i) a → o ≡ None → lists_back others a (entry agents a i) ≡ false
-not_crossed agents others a i is none_ = cross_tells others a (entry agents a i) is (sym (ap is_some none_))
+pub lists_back-none : (agents others : List AgentData) (a i : ℕ) {o : Option ℕ} → o ≡ cross_place others (entry agents a i) a → o ≡ None → lists_back others a (entry agents a i) ≡ false
+lists_back-none agents others a i is none_ = lists_back-told others a (entry agents a i) is (sym (ap is_some none_))
 
 -- Places on a list of which some entries are left out.
 
@@ -72,14 +72,14 @@ filter-take_place t [] b e h = refl
 filter-take_place t (x ∷ xs) b e h = elim (cases_eq x b) [
   | inl same ↦
       let passes : t x ≡ true = ap t same ∙ e in
-      rw (place_here x b xs (eq-eqb x b same)) (rw (taken t x xs passes) (rw (place_here x b (filter t xs) (eq-eqb x b same)) refl))
+      rw (place_on-here x b xs (eq-eqb x b same)) (rw (taken t x xs passes) (rw (place_on-here x b (filter t xs) (eq-eqb x b same)) refl))
   | inr other ↦
       let far = ne_eqb x b other in
-      let place : place_on (x ∷ xs) b ≡ suc (place_on xs b) = omega (arith, place_behind x b xs far) in
+      let place : place_on (x ∷ xs) b ≡ suc (place_on xs b) = omega (arith, place_on-behind x b xs far) in
       let deep = filter-take_place t xs b e (omega arith) in
       elim (test_cases (t x)) [
         | inl passes ↦
-            let kept : place_on (x ∷ filter t xs) b ≡ suc (place_on (filter t xs) b) = omega (arith, place_behind x b (filter t xs) far) in
+            let kept : place_on (x ∷ filter t xs) b ≡ suc (place_on (filter t xs) b) = omega (arith, place_on-behind x b (filter t xs) far) in
             rw place (rw (taken t x (take (place_on xs b) xs) passes) (rw (taken t x xs passes) (rw kept (ap (λ l. x ∷ l) deep))))
         | inr fails ↦ rw place (rw (left_out t x (take (place_on xs b) xs) fails) (rw (left_out t x xs fails) deep))
       ]

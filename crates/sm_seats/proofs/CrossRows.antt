@@ -19,10 +19,10 @@ use Rattle.sm_seats.specs.ProposerRows.{cross_rows_of}
 use Rattle.sm_seats.specs.ReviewerRows.{seat_lists_before, seat_crosses_before}
 use Rattle.sm_seats.proofs.MutualLemmas.{IsMutual, mutual_turned, mutual_on_row, entry_mutual}
 use Rattle.sm_seats.proofs.PieceLemmas.{take-range}
-use Rattle.sm_seats.proofs.SeatLemmas.{IsSeatOf, has_seats, seat_found, length-names, length-named, length-reviewers, seat_list, listed_seat}
+use Rattle.sm_seats.proofs.SeatLemmas.{IsSeatOf, has_seats, seat_found, length-names, length-named, length-reviewers, row-seat, listed_seat}
 use Rattle.sm_seats.proofs.SeatPlaces.{partners, row_is, IsPlaced, seat_at_place, seat_on, seat_place}
-use Rattle.sm_seats.proofs.MarketLaws.{length-proposers, rank_is, length-list}
-use Rattle.sm_seats.proofs.TableLemmas.{begin_is}
+use Rattle.sm_seats.proofs.MarketLaws.{length-proposers, place_of-seat_market, length-list}
+use Rattle.sm_seats.proofs.TableLemmas.{begin_of-first_place}
 
 -- Lists that are joined from pieces of the same lengths.
 
@@ -89,7 +89,7 @@ proposers_crossed {w} h = record {
       ap (λ l. get_or l i 0) (row_of (cross_row w) (length w.proposers) p here)
       ∙ along s.at (crosses_at w p) (length-crosses_at w p)
       ∙ get_or-replicate (seat_count w s.reviewer) s.number (place_on (mutual_row w.reviewers w.proposers s.reviewer) p) 0 s.at.below
-      ∙ sym (rank_is (seat_at_place s.at) p);
+      ∙ sym (place_of-seat_market (seat_at_place s.at) p);
 }
 
 -- The reviewers' side.
@@ -154,10 +154,10 @@ reviewers_crossed {w} h = record {
       let on_row : i < length list = omega (arith, length-list s.of) in
       let p : ℕ = get_or list i 0 in
       let m : IsMutual w.proposers w.reviewers p s.reviewer = mutual_turned (entry_mutual w.reviewers w.proposers s.reviewer i on_row) in
-      let named : entry (seat_market w).reviewers seat i ≡ p = ap (λ l. get_or l i 0) (seat_list s.of) in
+      let named : entry (seat_market w).reviewers seat i ≡ p = ap (λ l. get_or l i 0) (row-seat s.of) in
       ap (λ l. get_or l i 0) (crosses_of_seat s.of)
       ∙ get_or-map (λ q. begin_of w s.reviewer q + s.number) list i 0 0 on_row
-      ∙ ap (λ n. n + s.number) (begin_is w m)
+      ∙ ap (λ n. n + s.number) (begin_of-first_place w m)
       ∙ sym (seat_place h m s.of.below)
       ∙ ap (place_of (seat_market w).proposers p) (sym s.of.is)
       ∙ ap (λ q. place_of (seat_market w).proposers q seat) (sym named);

@@ -8,11 +8,11 @@ use Rattle.sm_lists.proofs.Counting.{one_to_one-le}
 use Rattle.sm_instance.proofs.LoadLemmas.{test_cases}
 
 -- the place of the first item, and of one behind it
-pub place_here : (x b : ℕ) (xs : List ℕ) → (x == b) ≡ true → place_on (x ∷ xs) b ≡ 0
-place_here x b xs e = rw e refl
+pub place_on-here : (x b : ℕ) (xs : List ℕ) → (x == b) ≡ true → place_on (x ∷ xs) b ≡ 0
+place_on-here x b xs e = rw e refl
 
-pub place_behind : (x b : ℕ) (xs : List ℕ) → (x == b) ≡ false → place_on (x ∷ xs) b ≡ place_on xs b + 1
-place_behind x b xs e = rw e (omega arith)
+pub place_on-behind : (x b : ℕ) (xs : List ℕ) → (x == b) ≡ false → place_on (x ∷ xs) b ≡ place_on xs b + 1
+place_on-behind x b xs e = rw e (omega arith)
 
 -- the first item passes the test or fails it
 pub taken : (t : ℕ → Bool) (x : ℕ) (xs : List ℕ) → t x ≡ true → filter t (x ∷ xs) ≡ x ∷ filter t xs
@@ -27,12 +27,12 @@ kept t [] b e h = absurd (omega arith)
 kept t (x ∷ xs) b e h = elim (test_cases (x == b)) [
   | inl same ↦
       let passes : t x ≡ true = ap t (eqb-true x b same) ∙ e in
-      rw (taken t x xs passes) (rw (place_here x b (filter t xs) same) (omega arith))
+      rw (taken t x xs passes) (rw (place_on-here x b (filter t xs) same) (omega arith))
   | inr other ↦
-      let below : place_on xs b < length xs = omega (arith, h, place_behind x b xs other) in
+      let below : place_on xs b < length xs = omega (arith, h, place_on-behind x b xs other) in
       let deep = kept t xs b e below in
       elim (test_cases (t x)) [
-        | inl passes ↦ rw (taken t x xs passes) (omega (arith, deep, place_behind x b (filter t xs) other))
+        | inl passes ↦ rw (taken t x xs passes) (omega (arith, deep, place_on-behind x b (filter t xs) other))
         | inr fails ↦ rw (left_out t x xs fails) deep
       ]
 ]
@@ -42,11 +42,11 @@ pub kept_passes : (t : ℕ → Bool) (xs : List ℕ) (b : ℕ) → place_on (fil
 kept_passes t [] b h = absurd (omega arith)
 kept_passes t (x ∷ xs) b h = elim (test_cases (t x)) [
   | inl passes ↦ elim (test_cases (x == b)) [
-    | inl same ↦ (ap t (sym (eqb-true x b same)) ∙ passes, omega (arith, place_here x b xs same))
+    | inl same ↦ (ap t (sym (eqb-true x b same)) ∙ passes, omega (arith, place_on-here x b xs same))
     | inr other ↦
         let h' : place_on (x ∷ filter t xs) b < length (x ∷ filter t xs) = rw (taken t x xs passes) at h in
-        let deep = kept_passes t xs b (omega (arith, h', place_behind x b (filter t xs) other)) in
-        (deep.0, omega (arith, deep.1, place_behind x b xs other))
+        let deep = kept_passes t xs b (omega (arith, h', place_on-behind x b (filter t xs) other)) in
+        (deep.0, omega (arith, deep.1, place_on-behind x b xs other))
   ]
   | inr fails ↦
       let h' : place_on (filter t xs) b < length (filter t xs) = rw (left_out t x xs fails) at h in
@@ -56,23 +56,23 @@ kept_passes t (x ∷ xs) b h = elim (test_cases (t x)) [
   where
     place_lt_behind : place_on xs b < length xs → place_on (x ∷ xs) b < length (x ∷ xs)
     place_lt_behind below = elim (test_cases (x == b)) [
-      | inl same ↦ omega (arith, place_here x b xs same)
-      | inr other ↦ omega (arith, below, place_behind x b xs other)
+      | inl same ↦ omega (arith, place_on-here x b xs same)
+      | inr other ↦ omega (arith, below, place_on-behind x b xs other)
     ]
 
 -- those who pass stay in their order
 pub kept_order : (t : ℕ → Bool) (xs : List ℕ) (b c : ℕ) → t b ≡ true → t c ≡ true → place_on xs b < place_on xs c → place_on (filter t xs) b < place_on (filter t xs) c
 kept_order t [] b c e f h = absurd (omega arith)
 kept_order t (x ∷ xs) b c e f h = elim (test_cases (x == c)) [
-  | inl same ↦ absurd (omega (arith, h, place_here x c xs same))
+  | inl same ↦ absurd (omega (arith, h, place_on-here x c xs same))
   | inr far ↦ elim (test_cases (x == b)) [
     | inl same ↦
         let passes : t x ≡ true = ap t (eqb-true x b same) ∙ e in
-        rw (taken t x xs passes) (omega (arith, place_here x b (filter t xs) same, place_behind x c (filter t xs) far))
+        rw (taken t x xs passes) (omega (arith, place_on-here x b (filter t xs) same, place_on-behind x c (filter t xs) far))
     | inr other ↦
-        let deep = kept_order t xs b c e f (omega (arith, h, place_behind x b xs other, place_behind x c xs far)) in
+        let deep = kept_order t xs b c e f (omega (arith, h, place_on-behind x b xs other, place_on-behind x c xs far)) in
         elim (test_cases (t x)) [
-          | inl passes ↦ rw (taken t x xs passes) (omega (arith, deep, place_behind x b (filter t xs) other, place_behind x c (filter t xs) far))
+          | inl passes ↦ rw (taken t x xs passes) (omega (arith, deep, place_on-behind x b (filter t xs) other, place_on-behind x c (filter t xs) far))
           | inr fails ↦ rw (left_out t x xs fails) deep
         ]
   ]
@@ -162,7 +162,7 @@ length-filter-lt t [] b on no_ = absurd (omega arith)
 length-filter-lt t (x ∷ xs) b on no_ = elim (test_cases (x == b)) [
   | inl same ↦ rw (left_out t x xs (ap t (eqb-true x b same) ∙ no_)) (let deep = length-filter-le t xs in omega arith)
   | inr other ↦
-      let deep = length-filter-lt t xs b (omega (arith, on, place_behind x b xs other)) no_ in
+      let deep = length-filter-lt t xs b (omega (arith, on, place_on-behind x b xs other)) no_ in
       elim (test_cases (t x)) [
         | inl passes ↦ rw (taken t x xs passes) (omega arith)
         | inr fails ↦ rw (left_out t x xs fails) (omega arith)

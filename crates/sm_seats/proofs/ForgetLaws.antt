@@ -22,7 +22,7 @@ use Rattle.sm_seats.specs.Taken.{seated}
 use Rattle.sm_seats.proofs.MutualLemmas.{IsMutual, mutual_turned, acceptable_mutual, mutual_acceptable, mutual_on_row, order_kept}
 use Rattle.sm_seats.proofs.SeatLemmas.{IsSeatOf, seat_count-le-capacity}
 use Rattle.sm_seats.proofs.SeatPlaces.{placed, seat_place, places_order}
-use Rattle.sm_seats.proofs.MarketLaws.{is_market, rank_is, length-list}
+use Rattle.sm_seats.proofs.MarketLaws.{is_market, place_of-seat_market, length-list}
 use Rattle.sm_seats.proofs.LoadLaws.{AreAcceptable, item_at, seated_distinct, sits, length-seated, seated-lt-row}
 use Rattle.sm_seats.proofs.WrittenLemmas.{written_there, length-written, SitsAt, seat_cases, sits_at, at_seat}
 
@@ -159,13 +159,13 @@ stable_forgotten {w} h {m} s = record { matching = forgotten_matching h s.matchi
           let seat = free_seat h s.matching r (omega arith) in
           let of : IsSeatOf w (seats_before w r + seat.number) r seat.number = record { is = refl; below = seat.below } in
           blocked p r seat.number both seat.below b.proposer_gains
-          (omega (arith, rank_is of p, length-list of, mutual_on_row (mutual_turned both), seat.free))
+          (omega (arith, place_of-seat_market of p, length-list of, mutual_on_row (mutual_turned both), seat.free))
       | inr worse ↦
           let at = at_place w (written_of (seating_of w) m.proposers) worse.other r worse.at worse.holds worse.there in
           let it = sits_at h s.matching worse.other r at in
           let of : IsSeatOf w (seats_before w r + it.number) r it.number = record { is = refl; below = it.below } in
           blocked p r it.number both it.below b.proposer_gains
-          (omega (arith, rank_is of p, rank_is of worse.other, order_kept (mutual_turned both) (mutual_turned it.mutual_) worse.worse, it.pair.rank_is))
+          (omega (arith, place_of-seat_market of p, place_of-seat_market of worse.other, order_kept (mutual_turned both) (mutual_turned it.mutual_) worse.worse, it.pair.rank_is))
     ]
       where
         both : IsMutual w.proposers w.reviewers p r

@@ -7,7 +7,7 @@ use Rattle.sm_instance.proofs.AcceptLemmas.{proposer_row_fits}
 use Rattle.sm_lists.specs.Rows.{place_on}
 use Rattle.sm_market.specs.Lists.{row, entry}
 use Rattle.sm_seats.specs.Seating.{Seating, seating_of, written_place}
-use Rattle.sm_seats.specs.Along.{IsAlong}
+use Rattle.sm_seats.specs.Along.{AreSeatsAlong}
 use Rattle.sm_seats.specs.Kept.{IsKept}
 use Rattle.sm_seats.proofs.CorrespondenceLaws.{sound_entries, is_seating}
 use Rattle.sm_seats.proofs.SeatingLaws.{list_of, rises}
@@ -26,7 +26,7 @@ seating_kept {w} h =
     }
 
 -- each list of seats goes along the written one
-pub along : {s : Seating} → IsKept s → (p : ℕ) → IsAlong (row s.lists p) (row s.market.proposers p) s.seats
+pub along : {s : Seating} → IsKept s → (p : ℕ) → AreSeatsAlong (row s.lists p) (row s.market.proposers p) s.seats
 along kept p = record { there = kept.there p; listed = kept.listed p; rises = kept.rises p }
 
 -- the written place of a place, as it is read: x is the name of the seat there, and the list is the written one

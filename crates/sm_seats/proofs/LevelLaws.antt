@@ -18,20 +18,20 @@ use Rattle.sm_seats.specs.Seating.{seating_of, written_of, levels_at, levels_of}
 use Rattle.sm_seats.specs.Taken.{places_taken}
 use Rattle.sm_seats.specs.Correspondence.{AreLevelsOfSeats}
 use Rattle.sm_seats.proofs.SeatingLemmas.{length-levels, level_is, level_last}
-use Rattle.sm_seats.proofs.SeatLemmas.{seat_list}
+use Rattle.sm_seats.proofs.SeatLemmas.{row-seat}
 use Rattle.sm_seats.proofs.SeatPlaces.{IsPlaced, seat_at_place, seat_on, places_order}
 use Rattle.sm_seats.proofs.MarketLaws.{is_market, length-proposers}
-use Rattle.sm_seats.proofs.WrittenLemmas.{list_is, written_is, written_there, seat_cases}
+use Rattle.sm_seats.proofs.WrittenLemmas.{row-seating, written_place-seating, written_there, seat_cases}
 use Rattle.sm_seats.proofs.ForgetLaws.{stable_forgotten}
 use Rattle.sm_seats.proofs.TakenLaws.{stable_taken, taken_forgotten}
 
 -- the level of a seat is the rank of its reviewer
 pub level_on : {w : Written} {p i r k : ℕ} → IsPlaced w p i r k → get_or (row (levels_of (seating_of w)) p) i 0 ≡ written_place_of w.proposers p r + 1
-level_on {w} {p} {i} it = level_is (seating_of w) p i it.on ∙ ap (λ n. n + 1) (written_is it)
+level_on {w} {p} {i} it = level_is (seating_of w) p i it.on ∙ ap (λ n. n + 1) (written_place-seating it)
 
 -- and the last level that of being unmatched
 pub level_past : (w : Written) (p : ℕ) → p < length (seat_market w).proposers → get_or (row (levels_of (seating_of w)) p) (length (row (seat_market w).proposers p)) 0 ≡ length (written_row w.proposers p) + 1
-level_past w p here = level_last (seating_of w) p here ∙ ap (λ l. length l + 1) (list_is w p)
+level_past w p here = level_last (seating_of w) p here ∙ ap (λ l. length l + 1) (row-seating w p)
 
 module _ {w : Written} (h : HasSoundEntries w) where
   -- the levels of two places in their order
@@ -74,7 +74,7 @@ module _ {w : Written} (h : HasSoundEntries w) where
   levels_alike p i j on on' same =
       let a = seat_on h p i on in
       let b = seat_on h p j on' in
-      seat_list (seat_at_place a.at) ∙ ap (Rattle.sm_seats.specs.Mutual.mutual_row w.reviewers w.proposers) (same_reviewer a.at b.at same) ∙ sym (seat_list (seat_at_place b.at))
+      row-seat (seat_at_place a.at) ∙ ap (Rattle.sm_seats.specs.Mutual.mutual_row w.reviewers w.proposers) (same_reviewer a.at b.at same) ∙ sym (row-seat (seat_at_place b.at))
 
   -- the level at which a proposer stands is its rank in the instance
   pub stands_at_level : {m : Places} → IsMatching (seat_market w) m → (p : ℕ) → p < length (seat_market w).proposers

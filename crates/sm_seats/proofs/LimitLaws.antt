@@ -23,8 +23,8 @@ use Rattle.sm_seats.proofs.MarketLaws.{length-proposers, is_market}
 use Rattle.sm_seats.proofs.EntryLemmas.{entries-le}
 
 -- one more reviewer
-pub entries_before_more : (w : Written) (n : ℕ) → seat_entries_before w (n + 1) ≡ seat_entries_before w n + seat_entries w n
-entries_before_more w n = ap (sum_by (seat_entries w)) (range_more 0 n n (omega arith)) ∙ sum_by_push (seat_entries w) (range_with_len 0 n) n
+pub seat_entries_before-suc : (w : Written) (n : ℕ) → seat_entries_before w (n + 1) ≡ seat_entries_before w n + seat_entries w n
+seat_entries_before-suc w n = ap (sum_by (seat_entries w)) (range_more 0 n n (omega arith)) ∙ sum_by_push (seat_entries w) (range_with_len 0 n) n
 
 -- the lists of one reviewer's seats
 abbrev length_at : Written → (ℕ × ℕ) → ℕ
@@ -52,7 +52,7 @@ few_lists w (suc n) =
     let whole = ap (sum_by (length_at w)) all in
     let deep = few_lists w n in
     let one = one_reviewer_lists w n in
-    let more : seat_entries_before w (suc n) ≡ seat_entries_before w n + seat_entries w n = ap (seat_entries_before w) k1 ∙ entries_before_more w n in
+    let more : seat_entries_before w (suc n) ≡ seat_entries_before w n + seat_entries w n = ap (seat_entries_before w) k1 ∙ seat_entries_before-suc w n in
     omega (arith, whole, parts, more)
 
 sum_of_rows : {X : Type 0} (f : X → List ℕ) (xs : List X) → sum_by (λ (list : List ℕ). length list) (map f xs) ≡ sum_by (λ x. length (f x)) xs
@@ -76,7 +76,7 @@ pub seats-le-entries : (w : Written) (n : ℕ) → seats_before w n ≤ seat_ent
 seats-le-entries w zero = omega arith
 seats-le-entries w (suc n) =
     let k1 : suc n ≡ n + 1 = omega arith in
-    let more : seat_entries_before w (suc n) ≡ seat_entries_before w n + seat_entries w n = ap (seat_entries_before w) k1 ∙ entries_before_more w n in
+    let more : seat_entries_before w (suc n) ≡ seat_entries_before w n + seat_entries w n = ap (seat_entries_before w) k1 ∙ seat_entries_before-suc w n in
     let seats : seats_before w (suc n) ≡ seats_before w n + seat_count w n = ap (seats_before w) k1 ∙ seats_before_more w n in
     let deep = seats-le-entries w n in
     let one : seat_count w n ≤ seat_entries w n = one_entry (seat_count w n) (length (mutual_row w.reviewers w.proposers n)) (seat_count-le-row w n) in
@@ -98,7 +98,7 @@ market_within {w} h few seats =
 entries_rise : (w : Written) (r n : ℕ) → r ≤ n → seat_entries_before w r ≤ seat_entries_before w n
 entries_rise w r zero le = (let e = ap (seat_entries_before w) (let same : r ≡ 0 = omega arith in same) in omega arith)
 entries_rise w r (suc n) le =
-    let more : seat_entries_before w (suc n) ≡ seat_entries_before w n + seat_entries w n = ap (seat_entries_before w) (let e : suc n ≡ n + 1 = omega arith in e) ∙ entries_before_more w n in
+    let more : seat_entries_before w (suc n) ≡ seat_entries_before w n + seat_entries w n = ap (seat_entries_before w) (let e : suc n ≡ n + 1 = omega arith in e) ∙ seat_entries_before-suc w n in
     elim (cases_eq r (suc n)) [
       | inl same ↦ (let e = ap (seat_entries_before w) same in omega arith)
       | inr other ↦ (let deep = entries_rise w r n (omega arith) in omega (arith, more))
@@ -115,9 +115,9 @@ none_before w n k d few less le =
     ap (λ r. nat_lt most_seat_entries (seat_entries_before w (r + 1))) this ∙ le-ltb _ _ (let rise = entries_rise w (k + 1) n (omega arith) in omega arith)
 
 -- the first reviewer with whom they are too many is the one that is found
-pub first_is : {w : Written} {r : ℕ} → IsFirstTooMany w r → first_too_many w ≡ Some r
+pub first_too_many-some : {w : Written} {r : ℕ} → IsFirstTooMany w r → first_too_many w ≡ Some r
 unfolding is_past
-first_is {w} {r} f =
+first_too_many-some {w} {r} f =
     let all = range_with_len 0 (length w.reviewers) in
     let long = length-range_with_len 0 (length w.reviewers) in
     let there = f.there in
@@ -131,9 +131,9 @@ first_is {w} {r} f =
     ]
 
 -- and none is found where they are few
-pub none_is : (w : Written) → AreFewSeats w → first_too_many w ≡ None
+pub first_too_many-none : (w : Written) → AreFewSeats w → first_too_many w ≡ None
 unfolding is_past
-none_is w few =
+first_too_many-none w few =
     let all = range_with_len 0 (length w.reviewers) in
     let long = length-range_with_len 0 (length w.reviewers) in
     elim (position_cases (is_past w) all) [

@@ -9,7 +9,7 @@ use Rattle.sm_market.specs.Lists.{row, entry, place_of, AreMutual, IsMarket}
 use Rattle.sm_seats.specs.Mutual.{mutual_row}
 use Rattle.sm_seats.specs.SeatMarket.{seat_row, seat_market}
 use Rattle.sm_seats.proofs.MutualLemmas.{mutual_turned, mutual_on_row, entry_mutual, mutual_distinct}
-use Rattle.sm_seats.proofs.SeatLemmas.{IsSeatOf, one_reviewer, one_number, length-reviewers, seat_there, seat_list, listed_seat}
+use Rattle.sm_seats.proofs.SeatLemmas.{IsSeatOf, one_reviewer, one_number, length-reviewers, seat_there, row-seat, listed_seat}
 use Rattle.sm_seats.proofs.SeatPlaces.{first_place, placed, seat_at_place, seat_on, place_is}
 
 -- the market has the proposers of the instance
@@ -17,12 +17,12 @@ pub length-proposers : (w : Written) → length (seat_market w).proposers ≡ le
 length-proposers w = length-map-range_with_len (seat_row w) 0 (length w.proposers)
 
 -- the place of p on the list of a seat
-pub rank_is : {w : Written} {seat r k : ℕ} → IsSeatOf w seat r k → (p : ℕ) → place_of (seat_market w).reviewers seat p ≡ place_on (mutual_row w.reviewers w.proposers r) p
-rank_is s p = ap (λ l. place_on l p) (seat_list s)
+pub place_of-seat_market : {w : Written} {seat r k : ℕ} → IsSeatOf w seat r k → (p : ℕ) → place_of (seat_market w).reviewers seat p ≡ place_on (mutual_row w.reviewers w.proposers r) p
+place_of-seat_market s p = ap (λ l. place_on l p) (row-seat s)
 
 -- and how long that list is
 pub length-list : {w : Written} {seat r k : ℕ} → IsSeatOf w seat r k → length (row (seat_market w).reviewers seat) ≡ length (mutual_row w.reviewers w.proposers r)
-length-list s = ap length (seat_list s)
+length-list s = ap length (row-seat s)
 
 module _ {w : Written} (h : HasSoundEntries w) where
   proposers_mutual : AreMutual (seat_market w).proposers (seat_market w).reviewers
@@ -41,24 +41,24 @@ module _ {w : Written} (h : HasSoundEntries w) where
     returned = λ p i on.
         let it = seat_on h p i on in
         let s = seat_at_place it.at in
-        omega (arith, rank_is s p, length-list s, mutual_on_row (mutual_turned it.at.mutual_));
+        omega (arith, place_of-seat_market s p, length-list s, mutual_on_row (mutual_turned it.at.mutual_));
   }
 
   reviewers_mutual : AreMutual (seat_market w).reviewers (seat_market w).proposers
   reviewers_mutual = record {
     in_range = λ seat i on.
         let s = listed_seat w seat i on in
-        let list = seat_list s.of in
+        let list = row-seat s.of in
         let m = entry_mutual w.reviewers w.proposers s.reviewer i (omega (arith, length-list s.of)) in
         let q : entry (seat_market w).reviewers seat i ≡ get_or (mutual_row w.reviewers w.proposers s.reviewer) i 0 = ap (λ l. get_or l i 0) list in
         let there = row_in_range w.proposers _ _ m.listed in
         omega (arith, length-proposers w, q);
     distinct = λ seat i j less on.
         let s = listed_seat w seat j on in
-        rw (seat_list s.of) ((mutual_distinct h.reviewers w.proposers s.reviewer).distinct i j less (omega (arith, length-list s.of)));
+        rw (row-seat s.of) ((mutual_distinct h.reviewers w.proposers s.reviewer).distinct i j less (omega (arith, length-list s.of)));
     returned = λ seat i on.
         let s = listed_seat w seat i on in
-        let q : entry (seat_market w).reviewers seat i ≡ get_or (mutual_row w.reviewers w.proposers s.reviewer) i 0 = ap (λ l. get_or l i 0) (seat_list s.of) in
+        let q : entry (seat_market w).reviewers seat i ≡ get_or (mutual_row w.reviewers w.proposers s.reviewer) i 0 = ap (λ l. get_or l i 0) (row-seat s.of) in
         let m = mutual_turned (entry_mutual w.reviewers w.proposers s.reviewer i (omega (arith, length-list s.of))) in
         let it = placed {w = w} {r = s.reviewer} {k = s.number} m s.of.below in
         let place = place_is h it in

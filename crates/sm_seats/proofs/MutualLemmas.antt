@@ -61,5 +61,5 @@ pub mutual_distinct : {agents : List AgentData} {others : ℕ} → AreSoundEntri
 mutual_distinct {agents} sound rest a = kept_distinct (lists_back rest a) (row agents a) (row_distinct sound a)
 
 -- on a list without repeats each entry has its own place
-pub place_of_item : (xs : List ℕ) (i : ℕ) → AreDistinct xs → i < length xs → place_on xs (get_or xs i 0) ≡ i
-place_of_item xs i d h = place_on_is xs (get_or xs i 0) i h refl (λ k l. d.distinct k i l h)
+pub place_on-get_or : (xs : List ℕ) (i : ℕ) → AreDistinct xs → i < length xs → place_on xs (get_or xs i 0) ≡ i
+place_on-get_or xs i d h = place_on_is xs (get_or xs i 0) i h refl (λ k l. d.distinct k i l h)

@@ -13,7 +13,7 @@ use Rattle.sm_seats.specs.Tables.{begin_of, crosses_at, cross_row, seat_crosses,
 use Rattle.sm_seats.specs.Plain.{IsPlain, places_in}
 use Rattle.sm_seats.proofs.MutualLemmas.{IsMutual, mutual_turned, entry_mutual}
 use Rattle.sm_seats.proofs.SeatLemmas.{seats_before_more}
-use Rattle.sm_seats.proofs.TableLemmas.{begin_is}
+use Rattle.sm_seats.proofs.TableLemmas.{begin_of-first_place}
 
 -- pieces of one item each
 one_each : {X : Type 0} (f : ℕ → List X) (g : ℕ → X) (xs : List ℕ) → ((i : ℕ) → i < length xs → f (get_or xs i 0) ≡ g (get_or xs i 0) ∷ []) → flat_map f xs ≡ map g xs
@@ -111,7 +111,7 @@ module _ {w : Written} (h : IsInstance w) (plain : IsPlain w) where
     begins_at p here m =
         let e = plain.proposers p here in
         let i : ℕ = place_of w.proposers p r in
-        begin_is w m
+        begin_of-first_place w m
         ∙ ap (λ (l : List ℕ). length (flat_map (seats_at w) (take (place_on l r) l))) e
         ∙ ap length (first_seats p i)
         ∙ length-take-le i (row w.proposers p) (let on = m.lists in omega arith)

@@ -130,8 +130,8 @@ seat_name {w} {seat} {r} {k} h =
     ∙ get_or-map-range_with_len {X = ℕ × ℕ} (λ j. (r, j)) 1 (seat_count w r) k (k + 1) (0, 0) h.below (omega arith)
 
 -- the list of a seat
-pub seat_list : {w : Written} {seat r k : ℕ} → IsSeatOf w seat r k → row (seat_market w).reviewers seat ≡ mutual_row w.reviewers w.proposers r
-seat_list {w} {seat} {r} {k} h =
+pub row-seat : {w : Written} {seat r k : ℕ} → IsSeatOf w seat r k → row (seat_market w).reviewers seat ≡ mutual_row w.reviewers w.proposers r
+row-seat {w} {seat} {r} {k} h =
     let there = seat_there h in
     let long = length-seats w in
     get_or-map (row_of_seat w) (seats_of w) seat (0, 0) [] (omega arith) ∙ ap (row_of_seat w) (seat_name h)

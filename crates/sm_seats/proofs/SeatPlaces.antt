@@ -13,7 +13,7 @@ use Rattle.sm_instance.specs.Faults.{HasSoundEntries}
 use Rattle.sm_market.specs.Lists.{row, entry, place_of}
 use Rattle.sm_seats.specs.Mutual.{lists_back, mutual_row}
 use Rattle.sm_seats.specs.SeatMarket.{seat_count, seats_before, seats_at, seat_row, seat_market}
-use Rattle.sm_seats.proofs.MutualLemmas.{IsMutual, mutual_on_row, entry_mutual, order_kept, mutual_distinct, place_of_item}
+use Rattle.sm_seats.proofs.MutualLemmas.{IsMutual, mutual_on_row, entry_mutual, order_kept, mutual_distinct, place_on-get_or}
 use Rattle.sm_seats.proofs.PieceLemmas.{start_of, in_piece, piece_end}
 use Rattle.sm_seats.proofs.SeatLemmas.{IsSeatOf, one_reviewer, one_number}
 
@@ -88,7 +88,7 @@ module _ {w : Written} (h : HasSoundEntries w) where
       let piece = in_piece (seats_at w) (partners w p) 0 i (let e = ap length (row_is w p) in omega arith) in
       let r = get_or (partners w p) piece.piece 0 in
       let m = entry_mutual w.proposers w.reviewers p piece.piece piece.there in
-      let place : place_on (partners w p) r ≡ piece.piece = place_of_item (partners w p) piece.piece (mutual_distinct h.proposers w.reviewers p) piece.there in
+      let place : place_on (partners w p) r ≡ piece.piece = place_on-get_or (partners w p) piece.piece (mutual_distinct h.proposers w.reviewers p) piece.there in
       let long = length-range_with_len (seats_before w r) (seat_count w r) in
       let it = placed {w = w} {p = p} {r = r} {k = piece.at} m (omega (arith, piece.inside, long)) in
       let start = ap (start_of (seats_at w) (partners w p)) place in

@@ -16,7 +16,7 @@ use Rattle.sm_theory.specs.Vectors.{level_of}
 use Rattle.sm_seats.specs.Seating.{Seating, reviewer_of, written_place, written_of, levels_of}
 use Rattle.sm_seats.specs.Correspondence.{IsSeating}
 use Rattle.sm_seats.proofs.SeatingLemmas.{length-levels, level_is}
-use Rattle.sm_seats.proofs.WrittenLemmas.{list_is}
+use Rattle.sm_seats.proofs.WrittenLemmas.{row-seating}
 
 -- a proposer that isn't there stands at 0
 past_stands : {w : Written} {places : List (Option ℕ)} → IsWrittenStable w places → (p : ℕ) → length w.proposers ≤ p → written_standing w places p ≡ 0
@@ -28,7 +28,7 @@ past_stands {w} {places} st p past =
 module _ {w : Written} {s : Seating} (h : IsSeating w s) where
   -- the lists of a seating are those of the instance
   pub list_of : (p : ℕ) → row s.lists p ≡ written_row w.proposers p
-  list_of p = ap (λ (l : List (List ℕ)). row l p) h.lists ∙ list_is w p
+  list_of p = ap (λ (l : List (List ℕ)). row l p) h.lists ∙ row-seating w p
 
   -- a place of the market stands for one of the written list, at which its seat's reviewer is named
   pub written_on : (p i : ℕ) → i < length (row s.market.proposers p) → written_place s p i < length (written_row w.proposers p)

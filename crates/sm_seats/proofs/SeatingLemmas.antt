@@ -11,8 +11,8 @@ use Rattle.sm_market.specs.Matching.{held}
 use Rattle.sm_seats.specs.Seating.{Seating, reviewer_of, written_place, written_of, at_places, rank_of, levels_at, levels_of}
 
 -- what a proposer holds on its written list
-pub written_held : (s : Seating) (places : List (Option ℕ)) (p : ℕ) → length places ≡ length s.market.proposers → held (written_of s places) p ≡ option_map (written_place s p) (held places p)
-written_held s places p long =
+pub held-written_of : (s : Seating) (places : List (Option ℕ)) (p : ℕ) → length places ≡ length s.market.proposers → held (written_of s places) p ≡ option_map (written_place s p) (held places p)
+held-written_of s places p long =
     let n = length s.market.proposers in
     let each : ℕ → Option ℕ = λ p. option_map (written_place s p) (held places p) in
     elim (cases_lt p n) [
@@ -27,9 +27,9 @@ pub length-written : (s : Seating) (places : List (Option ℕ)) → length (writ
 length-written s places = length-map-range_with_len (λ p. option_map (written_place s p) (held places p)) 0 (length s.market.proposers)
 
 -- the written place of a seat that p lists
-pub written_seat : (s : Seating) (p seat : ℕ) → place_of s.market.proposers p seat < length (row s.market.proposers p)
+pub written_place-place_of : (s : Seating) (p seat : ℕ) → place_of s.market.proposers p seat < length (row s.market.proposers p)
     → written_place s p (place_of s.market.proposers p seat) ≡ place_of s.lists p (reviewer_of s seat)
-written_seat s p seat on = ap (λ x. place_of s.lists p (reviewer_of s x)) (entry-place_of s.market.proposers p seat on)
+written_place-place_of s p seat on = ap (λ x. place_of s.lists p (reviewer_of s x)) (entry-place_of s.market.proposers p seat on)
 
 -- what stands at a place
 pub at_place_is : {X : Type 0} (s : Seating) (f : ℕ → ℕ → X) (d : X) (p i : ℕ) → i < length (row s.market.proposers p) → get_or (at_places s f p) i d ≡ f p (written_place s p i)

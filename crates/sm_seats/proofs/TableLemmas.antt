@@ -14,7 +14,8 @@ use Rattle.std.proofs.lemmas.List.Sums.{length-filter, count_by-le-length}
 use Rattle.sm_instance.proofs.AcceptLemmas.{lt_true, proposer_row_fits}
 use Rattle.sm_seats.specs.Mutual.{lists_back, mutual_row}
 use Rattle.sm_seats.specs.SeatMarket.{seat_count, seats_before, seats_at}
-use Rattle.sm_seats.specs.Tables.{first_seats_of, seat_numbers_of, acceptable_at, mutual_before, mutual_places_at, inert_places_at, inert_places_of, reviewers_before, seats_listed, seat_places_at, seat_places_of, begin_of}
+use Rattle.sm_seats.specs.Tables.{mutual_before, mutual_places_at, inert_places_at, inert_places_of, reviewers_before, seats_listed, seat_places_at, seat_places_of, begin_of}
+use Rattle.sm_seats.specs.Counted.{acceptable_at, seat_numbers_of, first_seats_of}
 use Rattle.sm_seats.proofs.MutualLemmas.{IsMutual, mutual_turned, mutual_on_row}
 use Rattle.sm_seats.proofs.SeatLemmas.{seat_count-le-capacity, seats_before_more, seats_end}
 use Rattle.sm_seats.proofs.PieceLemmas.{numbers_between}
@@ -144,15 +145,19 @@ mutual_before_is w {p} {r} m =
     ap length (filter-take_place (lists_back w.proposers r) (row w.reviewers r) p (lt_true _ _ m.lists) m.listed) ∙ length-take-le (place_on list p) list (omega arith)
 
 -- the place where the seats of a mutual reviewer begin
-pub begin_is : (w : Written) {p r : ℕ} → IsMutual w.proposers w.reviewers p r → begin_of w r p ≡ first_place w p r
-begin_is w {p} {r} m = ap (λ l. length (flat_map (seats_at w) l)) (filter-take_place (lists_back w.reviewers p) (row w.proposers p) r (lt_true _ _ m.listed) m.lists)
+pub begin_of-first_place : (w : Written) {p r : ℕ} → IsMutual w.proposers w.reviewers p r → begin_of w r p ≡ first_place w p r
+begin_of-first_place w {p} {r} m = ap (λ l. length (flat_map (seats_at w) l)) (filter-take_place (lists_back w.reviewers p) (row w.proposers p) r (lt_true _ _ m.listed) m.lists)
 
 -- one more list
-pub row_pushed : (vectors : List (Vec ℕ Global)) (v : Vec ℕ Global) (f : ℕ → List ℕ) (a : ℕ) → rows_of vectors ≡ map f (range_with_len 0 a) → v.items ≡ f a
+pub list_pushed : (rows : List (List ℕ)) (list : List ℕ) (f : ℕ → List ℕ) (a : ℕ) → rows ≡ map f (range_with_len 0 a) → list ≡ f a → rows ++ list ∷ [] ≡ map f (range_with_len 0 (a + 1))
+list_pushed rows list f a e here =
+    ap (λ t. t ++ list ∷ []) e ∙ ap (λ t. map f (range_with_len 0 a) ++ t ∷ []) here ∙ sym (map-range_with_len_more f 0 a a (omega arith))
+
+-- the same of one in a vector
+pub rows_of-push : (vectors : List (Vec ℕ Global)) (v : Vec ℕ Global) (f : ℕ → List ℕ) (a : ℕ) → rows_of vectors ≡ map f (range_with_len 0 a) → v.items ≡ f a
     → rows_of (vectors ++ v ∷ []) ≡ map f (range_with_len 0 (a + 1))
-row_pushed vectors v f a e here =
-    map-append (λ (x : Vec ℕ Global). x.items) vectors (v ∷ []) ∙ ap (λ t. t ++ v.items ∷ []) e ∙ ap (λ t. map f (range_with_len 0 a) ++ t ∷ []) here
-    ∙ sym (map-range_with_len_more f 0 a a (omega arith))
+rows_of-push vectors v f a e here =
+    map-append (λ (x : Vec ℕ Global). x.items) vectors (v ∷ []) ∙ list_pushed (rows_of vectors) v.items f a e here
 
 -- what is read of the first seats
 pub record AreSeatsRead (w : Written) (firsts : List ℕ) (r : ℕ) : Type 0 where

@@ -25,13 +25,13 @@ use Rattle.sm_theory.proofs.Bridge.Places.{seats_with, stable_with}
 use Rattle.sm_seats.specs.SeatMarket.{seat_count, seats_before, seat_market}
 use Rattle.sm_seats.specs.Seating.{seating_of, written_of, written_place}
 use Rattle.sm_seats.specs.Taken.{seated, place_taken, places_taken}
-use Rattle.sm_seats.proofs.MutualLemmas.{IsMutual, mutual_turned, mutual_acceptable, order_back, place_of_item}
+use Rattle.sm_seats.proofs.MutualLemmas.{IsMutual, mutual_turned, mutual_acceptable, order_back, place_on-get_or}
 use Rattle.sm_seats.proofs.SeatLemmas.{IsSeatOf, seat_count-le-capacity, one_reviewer, one_number}
 use Rattle.sm_seats.proofs.SeatPlaces.{IsPlaced, first_place, placed, seat_on, seat_place, place_is, places_order}
-use Rattle.sm_seats.proofs.MarketLaws.{is_market, length-proposers, rank_is}
+use Rattle.sm_seats.proofs.MarketLaws.{is_market, length-proposers, place_of-seat_market}
 use Rattle.sm_seats.proofs.LoadLaws.{item_at, seated_distinct, seated-le-row, mutual_at, sits, prefers, length-seated}
-use Rattle.sm_seats.proofs.SeatingLemmas.{written_held}
-use Rattle.sm_seats.proofs.WrittenLemmas.{written_is, written_there}
+use Rattle.sm_seats.proofs.SeatingLemmas.{held-written_of}
+use Rattle.sm_seats.proofs.WrittenLemmas.{written_place-seating, written_there}
 
 -- a proposer is matched, and has a seat; or it is unmatched
 pub record DoesTake (w : Written) (places : List (Option ℕ)) (p : ℕ) : Type 0 where
@@ -167,11 +167,11 @@ module _ {w : Written} (h : HasSoundEntries w) (places : List (Option ℕ)) (m :
       let n = length (seat_market w).proposers in
       let each : ℕ → Option ℕ = λ p. option_map (written_place (seating_of w) p) (held (places_taken w places) p) in
       ext_get_or None (written_of (seating_of w) (places_taken w places)) places (length-map-range_with_len each 0 n ∙ length-proposers w ∙ sym m.assigned.one_each)
-      (λ p _. written_held (seating_of w) (places_taken w places) p taken_long ∙ elim (taken_cases p) [
+      (λ p _. held-written_of (seating_of w) (places_taken w places) p taken_long ∙ elim (taken_cases p) [
         | inl alone ↦ ap (option_map _) alone.taken_is ∙ sym alone.held_is
         | inr it ↦
             let place : written_place_of w.proposers p it.reviewer ≡ it.written = place_of-entry h.proposers p it.reviewer it.written (m.assigned.on_lists p it.written it.held_is) it.there in
-            ap (option_map _) it.taken_is ∙ ap Some (written_is it.placed_there ∙ place) ∙ sym it.held_is
+            ap (option_map _) it.taken_is ∙ ap Some (written_place-seating it.placed_there ∙ place) ∙ sym it.held_is
       ])
 
   -- who is at r has its seat there
@@ -209,7 +209,7 @@ module _ {w : Written} (h : HasSoundEntries w) (places : List (Option ℕ)) (m :
       → Pair (sides_of (seat_market w) (is_market h)) (stand_of (seat_market w) (with_proposers (seat_market w) (places_taken w places))) (get_or (seated w places r) k 0) (seats_before w r + k)
   seat_filled r k on =
       let pair = has_seat (get_or (seated w places r) k 0) r (item_at w places r k on) in
-      rw (place_of_item (seated w places r) k (seated_distinct h places r) on) at pair
+      rw (place_on-get_or (seated w places r) k (seated_distinct h places r) on) at pair
 
 module _ {w : Written} (h : HasSoundEntries w) (places : List (Option ℕ)) (s : IsWrittenStable w places) where
   -- who is at r has a seat there that is no worse than the k-th, where r doesn't like it more than whoever has that
@@ -225,13 +225,13 @@ module _ {w : Written} (h : HasSoundEntries w) (places : List (Option ℕ)) (s :
       let less : k < place_on (seated w places r) p = omega (arith, mine.place_is) in
       let q = get_or (seated w places r) k 0 in
       let filled = seat_filled h places s.matching r k (omega arith) in
-      let number = place_of_item (seated w places r) k (seated_distinct h places r) (omega arith) in
+      let number = place_on-get_or (seated w places r) k (seated_distinct h places r) (omega arith) in
       let liked = prefers h places s.matching.acceptable q p r (item_at w places r k (omega arith)) at (omega arith) in
       let seat_is : standing (seat_market w).reviewers (with_proposers (seat_market w) (places_taken w places)).reviewers seat
       ≡ standing (seat_market w).reviewers (with_proposers (seat_market w) (places_taken w places)).reviewers (seats_before w r + k) =
       ap (standing (seat_market w).reviewers (with_proposers (seat_market w) (places_taken w places)).reviewers) of.is in
       let here : IsSeatOf w (seats_before w r + k) r k = record { is = refl; below = of.below } in
-      omega (arith, rank_is of p, rank_is here q, filled.rank_is)
+      omega (arith, place_of-seat_market of p, place_of-seat_market here q, filled.rank_is)
 
   -- r would rather have p than stay as it is, where its k-th seat would
   reviewer_gains : (p seat r k : ℕ) → IsSeatOf w seat r k → IsMutual w.proposers w.reviewers p r
@@ -251,7 +251,7 @@ module _ {w : Written} (h : HasSoundEntries w) (places : List (Option ℕ)) (s :
               at = x.0;
               holds = x.1;
               there = x.2;
-              worse = order_back (mutual_turned both) (mutual_turned his) (omega (arith, rank_is of p, rank_is of q, pair.rank_is));
+              worse = order_back (mutual_turned both) (mutual_turned his) (omega (arith, place_of-seat_market of p, place_of-seat_market of q, pair.rank_is));
             })
         | inr free ↦ inl (elim (cases_lt k (length (seated w places r))) [
           | inl less ↦ absurd (

@@ -1,39 +1,37 @@
 -- Seating the proposers of a matching, one reviewer after another and each in its order.
-use Rattle.std.proofs.Common.{◌≡◌, ◌≢◌, ℕ, zero, suc, ◌+◌, ◌<◌, ◌≤◌, ◌++◌, ◌==◌, Bool, true, false, List, [], ◌∷◌, Option, Some, None, Vec, length, get_or, set, take, replicate, refl, sym, ap, ◌∙◌, subst, arith, inl, inr, ext_get_or}
+use Rattle.std.proofs.Common.{◌≡◌, ◌≢◌, ℕ, zero, suc, ◌+◌, ◌<◌, ◌≤◌, ◌++◌, ◌==◌, Bool, true, false, List, [], ◌∷◌, Option, Some, None, length, get_or, set, take, replicate, refl, sym, ap, ◌∙◌, subst, arith, inl, inr, ext_get_or}
 use Rattle.std.specs.List.{filter}
-use Rattle.std.specs.declared.alloc.Global.{Global}
 use Rattle.std.proofs.lemmas.Bool.{cases_lt, cases_eq, false≢true, eq-eqb}
 use Rattle.std.proofs.lemmas.List.{get_or_past, get_or-set_same, get_or-set_other, length-set, length-replicate, get_or-replicate}
 use Rattle.std.proofs.lemmas.List.Elements.{filter_more}
-use Rattle.sm_lists.specs.Rows.{place_on, rows_of, row as list_at}
+use Rattle.sm_lists.specs.Rows.{place_on, row as list_at}
 use Rattle.sm_lists.proofs.PlaceLemmas.{get_or-place_on}
-use Rattle.sm_instance.specs.Written.{Written, row as written_row, entry as written_entry}
+use Rattle.sm_instance.specs.Written.{Written, row as written_row, entry as written_entry, lists_of}
 use Rattle.sm_instance.specs.Faults.{HasSoundEntries}
 use Rattle.sm_instance.specs.Matching.{held, is_at, leads_to, IsAssignment, IsMatching}
 use Rattle.sm_instance.proofs.LoadLemmas.{at_place, test_cases}
 use Rattle.sm_market.specs.Lists.{Lists, row, place_of}
 use Rattle.sm_seats.specs.Mutual.{mutual_row}
 use Rattle.sm_seats.specs.SeatMarket.{seat_count, seats_before, seats_of, seat_market}
-use Rattle.sm_seats.specs.Seating.{written_lists}
 use Rattle.sm_seats.specs.Taken.{seated, place_taken, places_taken}
 use Rattle.sm_seats.specs.Taking.{AreSeatedBefore, AreSeatedAt, AreFirstSeatedAt}
 use Rattle.sm_seats.proofs.FilterLemmas.{AreDistinct}
 use Rattle.sm_seats.proofs.MutualLemmas.{mutual_distinct}
-use Rattle.sm_seats.proofs.SeatLemmas.{IsSeatOf, one_reviewer, one_number, seat_found, seat_name, seat_list, seat_there, length-reviewers}
+use Rattle.sm_seats.proofs.SeatLemmas.{IsSeatOf, one_reviewer, one_number, seat_found, seat_name, row-seat, seat_there, length-reviewers}
 use Rattle.sm_seats.proofs.SeatPlaces.{seat_place}
 use Rattle.sm_seats.proofs.MarketLaws.{length-proposers}
 use Rattle.sm_seats.proofs.LoadLaws.{mutual_at, sits}
-use Rattle.sm_seats.proofs.WrittenLemmas.{list_is}
+use Rattle.sm_seats.proofs.WrittenLemmas.{row-seating}
 use Rattle.sm_seats.proofs.TakenLaws.{taken_cases, taken_held, taken_long, below_count}
 
--- Lists that are held in vectors.
+-- Written lists.
 
-list_same : (w : Written) (lists : List (Vec ℕ Global)) → rows_of lists ≡ written_lists w.proposers → (q : ℕ) → list_at (rows_of lists) q ≡ written_row w.proposers q
-list_same w lists e q = ap (λ (l : List (List ℕ)). list_at l q) e ∙ list_is w q
+list_same : (w : Written) (lists : List (List ℕ)) → lists ≡ lists_of w.proposers → (q : ℕ) → list_at lists q ≡ written_row w.proposers q
+list_same w lists e q = ap (λ (l : List (List ℕ)). list_at l q) e ∙ row-seating w q
 
--- the place at which a proposer is matched is on its list, as it is held in a vector
-pub place_listed : (w : Written) (places : List (Option ℕ)) (lists : List (Vec ℕ Global)) → rows_of lists ≡ written_lists w.proposers → IsAssignment w places → (q i : ℕ) → held places q ≡ Some i
-    → i < length (list_at (rows_of lists) q)
+-- the place at which a proposer is matched is on its list
+pub place_listed : (w : Written) (places : List (Option ℕ)) (lists : List (List ℕ)) → lists ≡ lists_of w.proposers → IsAssignment w places → (q i : ℕ) → held places q ≡ Some i
+    → i < length (list_at lists q)
 place_listed w places lists e a q i h = let long = ap (λ (l : List ℕ). length l) (list_same w lists e q) in let on = a.on_lists q i h in omega arith
 
 -- One reviewer.
@@ -283,7 +281,7 @@ module _ (w : Written) (l : Lists) (is : l ≡ seat_market w) where
   pub first_list : (seat r : ℕ) → seat ≡ seats_before w r → 0 < seat_count w r → row l.reviewers seat ≡ mutual_row w.reviewers w.proposers r
   first_list seat r first has =
       let s : IsSeatOf w seat r 0 = record { is = omega arith; below = has } in
-      ap (λ (l : Lists). row l.reviewers seat) is ∙ seat_list s
+      ap (λ (l : Lists). row l.reviewers seat) is ∙ row-seat s
 
   -- a seat of the market is one of the instance's
   pub seat_below : (seat : ℕ) → seat < length l.reviewers → seat < length (seat_market w).reviewers

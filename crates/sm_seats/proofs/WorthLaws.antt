@@ -23,7 +23,7 @@ use Rattle.sm_seats.specs.SeatMarket.{seat_market}
 use Rattle.sm_seats.specs.Seating.{seating_of, written_of, at_places, levels_of}
 use Rattle.sm_seats.specs.Correspondence.{weights_of, worse_ranks_of, leveled}
 use Rattle.sm_seats.proofs.MarketLaws.{length-proposers}
-use Rattle.sm_seats.proofs.WrittenLemmas.{written_is, written_there, seat_cases}
+use Rattle.sm_seats.proofs.WrittenLemmas.{written_place-seating, written_there, seat_cases}
 use Rattle.sm_seats.proofs.ForgetLaws.{forgotten_matching}
 use Rattle.sm_seats.proofs.SeatingLemmas.{at_place_is}
 use Rattle.sm_seats.proofs.LevelLaws.{level_on}
@@ -111,7 +111,7 @@ module _ {w : Written} (h : HasSoundEntries w) {m : Places} (f : IsMatching (sea
         ap (weight_of_place (weights_of by w (seating_of w)) p) it.held_is
         ∙ ap (λ l. get_or l it.place (pos 0)) list
         ∙ at_place_is (seating_of w) each (pos 0) p it.place it.at.on
-        ∙ ap (λ i. pair_weight by w p (Some i)) (written_is it.at)
+        ∙ ap (λ i. pair_weight by w p (Some i)) (written_place-seating it.at)
         ∙ ap (pair_weight by w p) (sym it.written_held_is)
   ]
 
@@ -134,7 +134,7 @@ module _ {w : Written} (h : HasSoundEntries w) {m : Places} (f : IsMatching (sea
         ap (rank_of_place (worse_ranks_of w (seating_of w)) p) it.held_is
         ∙ ap (λ l. get_or l it.place 0) list
         ∙ at_place_is (seating_of w) each 0 p it.place it.at.on
-        ∙ ap (λ i. worse_rank w p (Some i)) (written_is it.at)
+        ∙ ap (λ i. worse_rank w p (Some i)) (written_place-seating it.at)
         ∙ ap (worse_rank w p) (sym it.written_held_is)
   ]
 

@@ -16,15 +16,15 @@ use Rattle.sm_market.proofs.Core.{Pair, pair_at, one_reviewer as same_seat}
 use Rattle.sm_market.proofs.Bridge.{sides_of, stand_of, fit_of, held_cases}
 use Rattle.sm_seats.specs.SeatMarket.{seat_count, seats_before, seat_market}
 use Rattle.sm_seats.specs.Seating.{seating_of, reviewer_of, written_place, written_of}
-use Rattle.sm_seats.proofs.SeatingLemmas.{written_held, length-written as length-seating}
+use Rattle.sm_seats.proofs.SeatingLemmas.{held-written_of, length-written as length-seating}
 use Rattle.sm_seats.proofs.MutualLemmas.{IsMutual}
 use Rattle.sm_seats.proofs.SeatLemmas.{IsSeatOf, seat_name, one_reviewer}
 use Rattle.sm_seats.proofs.SeatPlaces.{IsPlaced, seat_at_place, seat_on, place_is}
 use Rattle.sm_seats.proofs.MarketLaws.{is_market, length-proposers}
 
 -- the lists of a seating are the written ones
-pub list_is : (w : Written) (p : ℕ) → row (seating_of w).lists p ≡ written_row w.proposers p
-list_is w p = elim (cases_lt p (length w.proposers)) [
+pub row-seating : (w : Written) (p : ℕ) → row (seating_of w).lists p ≡ written_row w.proposers p
+row-seating w p = elim (cases_lt p (length w.proposers)) [
   | inl here ↦ get_or-map (λ (agent : AgentData). agent.entries) w.proposers p no_agent [] here
   | inr past ↦
       let none : written_row w.proposers p ≡ [] = ap (λ (x : AgentData). x.entries) (get_or_past w.proposers p no_agent past) in
@@ -33,16 +33,16 @@ list_is w p = elim (cases_lt p (length w.proposers)) [
 ]
 
 -- a seat's reviewer is read off its name
-pub reviewer_is : {w : Written} {seat r k : ℕ} → IsSeatOf w seat r k → reviewer_of (seating_of w) seat ≡ r
-reviewer_is s = ap (λ (x : ℕ × ℕ). x.0) (seat_name s)
+pub reviewer_of-seating : {w : Written} {seat r k : ℕ} → IsSeatOf w seat r k → reviewer_of (seating_of w) seat ≡ r
+reviewer_of-seating s = ap (λ (x : ℕ × ℕ). x.0) (seat_name s)
 
 -- the written place of a place in the market
-pub written_is : {w : Written} {p i r k : ℕ} → IsPlaced w p i r k → written_place (seating_of w) p i ≡ written_place_of w.proposers p r
-written_is {w} {p} {i} it = ap (λ l. place_on l (reviewer_of (seating_of w) (entry (seat_market w).proposers p i))) (list_is w p) ∙ ap (written_place_of w.proposers p) (reviewer_is (seat_at_place it))
+pub written_place-seating : {w : Written} {p i r k : ℕ} → IsPlaced w p i r k → written_place (seating_of w) p i ≡ written_place_of w.proposers p r
+written_place-seating {w} {p} {i} it = ap (λ l. place_on l (reviewer_of (seating_of w) (entry (seat_market w).proposers p i))) (row-seating w p) ∙ ap (written_place_of w.proposers p) (reviewer_of-seating (seat_at_place it))
 
 -- it is on the written list
 pub written_on : {w : Written} {p i r k : ℕ} → IsPlaced w p i r k → written_place (seating_of w) p i < length (written_row w.proposers p)
-written_on it = omega (arith, written_is it, it.mutual_.lists)
+written_on it = omega (arith, written_place-seating it, it.mutual_.lists)
 
 -- at it the reviewer is named
 pub written_there : (w : Written) {p r : ℕ} → IsMutual w.proposers w.reviewers p r → written_entry w.proposers p (written_place_of w.proposers p r) ≡ r
@@ -81,14 +81,14 @@ module _ {w : Written} (h : HasSoundEntries w) {m : Places} (f : IsMatching (sea
   -- which of both
   pub seat_cases : (p : ℕ) → HasNoSeatIn w m p ⊎ HasSeatIn w m p
   seat_cases p =
-      let e = written_held (seating_of w) m.proposers p f.proposers.one_each in
+      let e = held-written_of (seating_of w) m.proposers p f.proposers.one_each in
       elim (held_cases (seat_market w).proposers m.proposers p) [
         | inl alone ↦
             let none = e ∙ ap (option_map _) alone.held_is in
             inl (record { held_is = alone.held_is; stands = alone.standing_is; written_held_is = none; written_stands = ap (λ o. unwrap_or o (length (written_row w.proposers p))) none })
         | inr has ↦
             let it = seat_on h p has.place (f.proposers.on_list p has.place has.held_is) in
-            let some = e ∙ ap (option_map _) has.held_is ∙ ap Some (written_is it.at) in
+            let some = e ∙ ap (option_map _) has.held_is ∙ ap Some (written_place-seating it.at) in
             inr (record {
               place = has.place;
               reviewer = it.reviewer;

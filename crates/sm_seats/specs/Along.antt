@@ -7,7 +7,7 @@ abbrev pub place_along : List ℕ → List ℕ → List (ℕ × ℕ) → ℕ →
 place_along list row seats i = place_on list (slice_index_or seats (slice_index row i) (0, 0)).0
 
 -- the seats on a list are there, their reviewers are on the written list, and in this order
-pub record IsAlong (list row : List ℕ) (seats : List (ℕ × ℕ)) : Type 0 where
+pub record AreSeatsAlong (list row : List ℕ) (seats : List (ℕ × ℕ)) : Type 0 where
   pub there : (i : ℕ) → i < length row → slice_index row i < length seats
   pub listed : (i : ℕ) → i < length row → place_along list row seats i < length list
   pub rises : (i j : ℕ) → i ≤ j → j < length row → place_along list row seats i ≤ place_along list row seats j

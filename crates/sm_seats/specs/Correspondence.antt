@@ -1,6 +1,6 @@
 -- How the stable matchings of a market of seats and those of its instance correspond.
 use Rattle.std.specs.Prelude.{◌≡◌, ℕ, ◌+◌, ◌<◌, ◌≤◌, ◌↔◌, IsTrue, ℤ, List, map, length, Option, Some, slice_index}
-use Rattle.sm_instance.specs.Written.{Written, place_of, capacity_of}
+use Rattle.sm_instance.specs.Written.{Written, place_of, capacity_of, lists_of}
 use Rattle.sm_instance.specs.Matching.{is_at, IsMatching as IsWrittenMatching}
 use Rattle.sm_instance.specs.Stable.{IsStable as IsWrittenStable}
 use Rattle.sm_instance.specs.Ranks.{rank_vector_of, worse_rank, regret_of as written_regret, pair_weight, weight_of as written_weight}
@@ -11,7 +11,7 @@ use Rattle.sm_market.specs.Matching.{Places, IsMatching}
 use Rattle.sm_market.specs.Stable.{IsStable}
 use Rattle.sm_theory.specs.Vectors.{AreLevels, HasLevel, IsAllowed, level_vector_of}
 use Rattle.sm_theory.specs.Weights.{weight_of, regret_of}
-use Rattle.sm_seats.specs.Seating.{Seating, written_lists, reviewer_of, number_of, written_place, written_of, at_places, levels_of}
+use Rattle.sm_seats.specs.Seating.{Seating, reviewer_of, number_of, written_place, written_of, at_places, levels_of}
 use Rattle.sm_seats.specs.Taken.{places_taken}
 
 -- the weights of the places, and the greater of the two ranks that a proposer and its seat's reviewer give each other
@@ -53,7 +53,7 @@ pub record IsSeating (w : Written) (s : Seating) : Type 0 where
   pub market : IsMarket s.market
   pub proposers : length s.market.proposers ≡ length w.proposers
   pub seats : length s.market.reviewers ≡ length s.seats
-  pub lists : s.lists ≡ written_lists w.proposers
+  pub lists : s.lists ≡ lists_of w.proposers
   pub reviewers : (seat : ℕ) → seat < length s.seats → reviewer_of s seat < length w.reviewers
   pub numbers : (seat : ℕ) → seat < length s.seats → IsNumberAt w s seat
   pub on_lists : (p i : ℕ) → i < length (row s.market.proposers p) → written_place s p i < length (row s.lists p)

@@ -10,8 +10,8 @@ pub mod Laws
 pub mod Witnesses
 pub mod Vectors
 pub mod Taking
-pub mod Tables
 pub mod Counted
+pub mod Tables
 pub mod ProposerRows
 pub mod ReviewerRows
 pub mod Plain

@@ -2,7 +2,7 @@
 use Rattle.std.specs.Prelude.{ℕ, ◌+◌, List, [], ◌∷◌, ◌++◌, map, length, Option, slice_index_or}
 use Rattle.std.specs.List.{range_with_len}
 use Rattle.std.specs.Option.{option_map}
-use Rattle.sm_instance.specs.Written.{AgentData, Written}
+use Rattle.sm_instance.specs.Written.{Written, lists_of}
 use Rattle.sm_market.specs.Lists.{Lists, row, entry, place_of, agents}
 use Rattle.sm_market.specs.Matching.{held}
 use Rattle.sm_seats.specs.SeatMarket.{seat_market, seats_of}
@@ -14,13 +14,9 @@ pub record Seating : Type 0 where
   pub market : Lists
   pub seats : List (ℕ × ℕ)
 
--- the lists that agents wrote
-abbrev pub written_lists : List AgentData → List (List ℕ)
-written_lists agents = map (λ agent. agent.entries) agents
-
 -- the one of an instance
 abbrev pub seating_of : Written → Seating
-seating_of w = record { lists = written_lists w.proposers; market = seat_market w; seats = seats_of w }
+seating_of w = record { lists = lists_of w.proposers; market = seat_market w; seats = seats_of w }
 
 -- a seat's reviewer, and its number there
 abbrev pub reviewer_of : Seating → ℕ → ℕ

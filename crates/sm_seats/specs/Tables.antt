@@ -4,15 +4,8 @@ use Rattle.std.specs.List.{flat_map, range_with_len}
 use Rattle.sm_lists.specs.Rows.{place_on}
 use Rattle.sm_instance.specs.Written.{Written, row, place_of}
 use Rattle.sm_seats.specs.Mutual.{lists_back, mutual_row}
-use Rattle.sm_seats.specs.SeatMarket.{seat_count, seats_before, seats_at}
-
--- the first seat of each reviewer, and behind the last how many seats there are
-abbrev pub first_seats_of : Written → List ℕ
-first_seats_of w = map (seats_before w) (range_with_len 0 (length w.reviewers + 1))
-
--- the numbers of all seats
-abbrev pub seat_numbers_of : Written → List ℕ
-seat_numbers_of w = range_with_len 0 (seats_before w (length w.reviewers))
+use Rattle.sm_seats.specs.SeatMarket.{seat_count, seats_at}
+use Rattle.sm_seats.specs.Counted.{acceptable_at}
 
 -- how many acceptable proposers stand before place j of r's written list
 abbrev pub mutual_before : Written → ℕ → ℕ → ℕ
@@ -21,14 +14,6 @@ mutual_before w r j = length (filter (lists_back w.proposers r) (take j (row w.r
 -- how many stand so before each place of r's written list
 abbrev pub mutual_places_at : Written → ℕ → List ℕ
 mutual_places_at w r = map (mutual_before w r) (range_with_len 0 (length (row w.reviewers r)))
-
--- how many proposers are acceptable to each reviewer
-abbrev pub acceptable_at : Written → ℕ → ℕ
-acceptable_at w r = length (mutual_row w.reviewers w.proposers r)
-
--- the number of acceptable proposers of each reviewer
-abbrev pub acceptable_of : Written → List ℕ
-acceptable_of w = map (acceptable_at w) (range_with_len 0 (length w.reviewers))
 
 -- a table of them where an entry is inert: where none is, these places are those of the written list
 abbrev pub inert_places_at : Written → ℕ → List ℕ

@@ -1,5 +1,6 @@
 -- Small instances whose seats are known by hand, so that the definitions mean what they should.
-use Rattle.std.specs.Prelude.{◌≡◌, [], ◌∷◌, Some}
+use Rattle.std.specs.Prelude.{◌≡◌, [], ◌∷◌, None, Some, replicate}
+use Rattle.std.specs.List.{range_with_len}
 use Rattle.sm_instance.specs.Written.{Written}
 use Rattle.sm_instance.specs.Ranks.{rank_vector_of}
 use Rattle.sm_instance.specs.Witnesses.{agent, small_hospitals, settled, inert_entry}
@@ -8,7 +9,7 @@ use Rattle.sm_market.specs.Lists.{IsMarket}
 use Rattle.sm_market.specs.Matching.{Places}
 use Rattle.sm_market.specs.Stable.{IsStable}
 use Rattle.sm_seats.specs.SeatMarket.{seats_of, seat_market}
-use Rattle.sm_seats.specs.SeatEntries.{seat_entries_before}
+use Rattle.sm_seats.specs.SeatEntries.{seat_entries_before, first_too_many}
 use Rattle.sm_seats.specs.Seating.{seating_of, written_of, levels_of}
 use Rattle.sm_seats.specs.Taken.{places_taken}
 
@@ -57,3 +58,18 @@ TurningHospitals = IsMarket (seat_market turning_hospitals)
     × (rank_vector_of turning_hospitals (written_of (seating_of turning_hospitals) firsts.proposers) ≡ 1 ∷ 1 ∷ 1 ∷ [])
     × (rank_vector_of turning_hospitals (written_of (seating_of turning_hospitals) lasts.proposers) ≡ 1 ∷ 2 ∷ 2 ∷ [])
     × (places_taken turning_hospitals (Some 0 ∷ Some 1 ∷ Some 1 ∷ []) ≡ lasts.proposers)
+
+-- 1,024 residents, and two hospitals with a place for each of them: the seats of one have as many entries as there may be
+abbrev pub full_hospitals : Written
+full_hospitals = record {
+  kind = Hospitals;
+  proposers = replicate 1024 (agent 114 1 (0 ∷ 1 ∷ []));
+  reviewers = replicate 2 (agent 104 1024 (range_with_len 0 1024));
+  weights = [];
+  forced = [];
+  forbidden = [];
+}
+
+-- with the second of these hospitals there are too many, and in the small instance there are few enough
+abbrev pub SecondIsTooMany : Type 0
+SecondIsTooMany = (first_too_many full_hospitals ≡ Some 1) × (first_too_many small_hospitals ≡ None)

@@ -5,7 +5,7 @@ ghost use Rattle.std.specs.List.{range_with_len};
 ghost use Rattle.sm_text.specs.Limits.{most_agents};
 ghost use Rattle.sm_instance.specs.Sound.{IsInstance};
 ghost use Rattle.sm_seats.specs.Mutual.{mutual_row};
-ghost use Rattle.sm_seats.specs.Counted.{AreCounts};
+ghost use Rattle.sm_seats.specs.Counted.{AreSeatCounts};
 ghost use Rattle.sm_seats.specs.SeatEntries.{AreFewSeats, IsSeatsFault};
 
 use crate::faults::SeatsFault;
@@ -22,6 +22,8 @@ pub struct SeatCounts {
     pub numbers: Vec<u32>,
     /// How many proposers are acceptable to each reviewer.
     pub acceptable: Vec<u32>,
+    /// How many entries the lists of all seats have.
+    pub entries: u32,
 }
 
 /// Counts the seats, and the acceptable proposers of each reviewer. Takes time in proportion to the agents and the entries of
@@ -32,7 +34,7 @@ pub struct SeatCounts {
 /// Those of [`crate::Seats::of`].
 pub fn seat_counts(alloc: Global, instance: &Instance) -> Result<SeatCounts, SeatsFault>
     ensures instance { IsInstance instance.now }
-    ensures counts { IfOk result (AreCounts instance.now) }
+    ensures counts { IfOk result (AreSeatCounts instance.now) }
     ensures few { OnOk result (AreFewSeats instance.now) }
     ensures fault { IfErr result (λ f. IsSeatsFault instance.now f) }
 {
@@ -57,6 +59,7 @@ pub fn seat_counts(alloc: Global, instance: &Instance) -> Result<SeatCounts, Sea
         firsts,
         numbers: numbers_below(alloc, seats)?,
         acceptable: counts,
+        entries,
     })
 }
 

@@ -3,7 +3,7 @@
 ghost use Rattle.std.specs.Prelude.{◌≡◌, ℕ, ◌+◌, ◌<◌, ◌≤◌, ◌^◌, ◌++◌, ◌∷◌, [], length, map, slice_index, IfOk};
 ghost use Rattle.std.specs.List.{range_with_len};
 ghost use Rattle.sm_lists.specs.Rows.{place_on};
-ghost use Rattle.sm_seats.specs.Along.{place_along, IsAlong};
+ghost use Rattle.sm_seats.specs.Along.{place_along, AreSeatsAlong};
 
 use std::alloc::{AllocError, Global};
 
@@ -19,7 +19,7 @@ pub(crate) fn levels_along(
     row: &[u32],
     seats: &[(u32, u32)],
 ) -> Result<Vec<u32>, AllocError>
-    requires along { IsAlong list.now row.now seats.now }
+    requires along { AreSeatsAlong list.now row.now seats.now }
     requires short { length list.now < 2 ^ 24 }
     requires fits { length row.now < 2 ^ 24 }
     ensures { IfOk result (λ levels. levels.items

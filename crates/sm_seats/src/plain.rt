@@ -1,13 +1,12 @@
 //! Instances in which each reviewer has one seat and no entry is inert, as most marriages: the seats have the written lists,
 //! and the cross places of the instance.
 
-ghost use Rattle.std.specs.Prelude.{◌≡◌, ℕ, ◌<◌, ◌≤◌, ◌↔◌, length, IfOk, IsTrue};
-ghost use Rattle.sm_lists.specs.Rows.{rows_of};
+ghost use Rattle.std.specs.Prelude.{◌≡◌, ℕ, ◌<◌, ◌≤◌, ◌↔◌, length, IfOk, OnOk, IsTrue};
 ghost use Rattle.sm_text.specs.Limits.{most_agents};
 ghost use Rattle.sm_instance.specs.Written.{row};
 ghost use Rattle.sm_seats.specs.Mutual.{mutual_row};
 ghost use Rattle.sm_seats.specs.SeatMarket.{seats_of};
-ghost use Rattle.sm_seats.specs.Tables.{first_seats_of, acceptable_of};
+ghost use Rattle.sm_seats.specs.Counted.{acceptable_of, first_seats_of};
 ghost use Rattle.sm_seats.specs.ProposerRows.{seat_rows_of, cross_rows_of};
 ghost use Rattle.sm_seats.specs.ReviewerRows.{seat_lists_before, seat_crosses_before};
 ghost use Rattle.sm_seats.specs.Plain.{HasOneSeat, IsPlain, places_in};
@@ -16,6 +15,7 @@ use crate::counts::SeatCounts;
 use crate::proposer_rows::ProposerRows;
 use crate::reviewer_rows::ReviewerRows;
 use sm_instance::{Cross, Instance};
+use sm_lists::Rows;
 use std::alloc::{AllocError, Global};
 
 /// Is the instance such a one? Takes time in proportion to the entries.
@@ -87,48 +87,53 @@ fn acceptable_count(instance: &Instance, p: u32) -> u32
     count
 }
 
-/// The lists of all proposers.
+/// The lists of all proposers, with room for so many entries.
 pub(crate) fn plain_proposers(
     alloc: Global,
     instance: &Instance,
+    room: usize,
 ) -> Result<ProposerRows, AllocError>
     requires { IsPlain instance.now }
     ensures lists { IfOk result
-        (λ rows. rows_of rows.lists.items
-        ≡ seat_rows_of instance.now (length instance.now.proposers)) }
+        (λ rows. rows.lists ≡ seat_rows_of instance.now (length instance.now.proposers)) }
     ensures crosses { IfOk result
-        (λ rows. rows_of rows.crosses.items
-        ≡ cross_rows_of instance.now (length instance.now.proposers)) }
+        (λ rows. rows.crosses ≡ cross_rows_of instance.now (length instance.now.proposers)) }
 {
     let proposers = instance.proposer_count();
-    let mut lists = Vec::with_capacity(alloc, proposers as usize)?;
-    let mut crosses = Vec::with_capacity(alloc, proposers as usize)?;
+    let mut lists = Rows::with_capacity(alloc, proposers as usize, room)?;
+    let mut crosses = Rows::with_capacity(alloc, proposers as usize, room)?;
+    let mut places = Vec::new(alloc);
     for p in 0..proposers {
-        lists.push(Vec::from_slice(alloc, instance.proposer_list(p))?)?;
-        crosses.push(places_of(alloc, instance.proposer_crosses(p))?)?;
+        lists.push(instance.proposer_list(p))?;
+        write_places(instance.proposer_crosses(p), &mut places)?;
+        crosses.push(&places)?;
     }
     Ok(ProposerRows { lists, crosses })
 }
 
-/// The lists of all seats.
-pub(crate) fn plain_seats(alloc: Global, instance: &Instance) -> Result<ReviewerRows, AllocError>
+/// The lists of all seats, with room for so many entries.
+pub(crate) fn plain_seats(
+    alloc: Global,
+    instance: &Instance,
+    room: usize,
+) -> Result<ReviewerRows, AllocError>
     requires { IsPlain instance.now }
     ensures seats { IfOk result (λ rows. rows.seats.items ≡ seats_of instance.now) }
     ensures lists { IfOk result
-        (λ rows. rows_of rows.lists.items
-        ≡ seat_lists_before instance.now (length instance.now.reviewers)) }
+        (λ rows. rows.lists ≡ seat_lists_before instance.now (length instance.now.reviewers)) }
     ensures crosses { IfOk result
-        (λ rows. rows_of rows.crosses.items
-        ≡ seat_crosses_before instance.now (length instance.now.reviewers)) }
+        (λ rows. rows.crosses ≡ seat_crosses_before instance.now (length instance.now.reviewers)) }
 {
     let reviewers = instance.reviewer_count();
     let mut seats = Vec::with_capacity(alloc, reviewers as usize)?;
-    let mut lists = Vec::with_capacity(alloc, reviewers as usize)?;
-    let mut crosses = Vec::with_capacity(alloc, reviewers as usize)?;
+    let mut lists = Rows::with_capacity(alloc, reviewers as usize, room)?;
+    let mut crosses = Rows::with_capacity(alloc, reviewers as usize, room)?;
+    let mut places = Vec::new(alloc);
     for r in 0..reviewers {
         seats.push((r, 1))?;
-        lists.push(Vec::from_slice(alloc, instance.reviewer_list(r))?)?;
-        crosses.push(places_of(alloc, instance.reviewer_crosses(r))?)?;
+        lists.push(instance.reviewer_list(r))?;
+        write_places(instance.reviewer_crosses(r), &mut places)?;
+        crosses.push(&places)?;
     }
     Ok(ReviewerRows {
         seats,
@@ -137,17 +142,17 @@ pub(crate) fn plain_seats(alloc: Global, instance: &Instance) -> Result<Reviewer
     })
 }
 
-/// The cross places of a list without inert entries.
-fn places_of(alloc: Global, crosses: &[Cross]) -> Result<Vec<u32>, AllocError>
-    ensures { IfOk result (λ places. places.items ≡ places_in crosses.now) }
+/// Writes the cross places of a list without inert entries.
+fn write_places(crosses: &[Cross], places: &mut Vec<u32>) -> Result<(), AllocError>
+    ensures { OnOk result (places.new.items ≡ places_in crosses.now) }
 {
-    let mut places = vec![in alloc; 0; crosses.len()]?;
-    write_places(crosses, &mut places);
-    Ok(places)
+    places.resize(crosses.len(), 0)?;
+    fill_places(crosses, places);
+    Ok(())
 }
 
 /// Writes these cross places, one after another.
-fn write_places(crosses: &[Cross], places: &mut [u32])
+fn fill_places(crosses: &[Cross], places: &mut [u32])
     requires { length places.old ≡ length crosses.now }
     ensures { places.new ≡ places_in crosses.now }
 {

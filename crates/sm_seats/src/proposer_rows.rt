@@ -1,83 +1,79 @@
 //! The proposers' lists of seats.
 
 ghost use Rattle.std.specs.Prelude.{◌≡◌, ◌<◌, ◌++◌, ◌∷◌, [], length, replicate, IfOk, OnOk};
-ghost use Rattle.sm_lists.specs.Rows.{rows_of};
-ghost use Rattle.sm_seats.specs.Tables.{first_seats_of, seat_numbers_of, inert_places_of, seat_places_of, cross_row};
+ghost use Rattle.sm_seats.specs.Tables.{inert_places_of, cross_row};
+ghost use Rattle.sm_seats.specs.Counted.{seat_numbers_of, first_seats_of};
 ghost use Rattle.sm_seats.specs.SeatMarket.{seat_row};
 ghost use Rattle.sm_seats.specs.ProposerRows.{seat_rows_of, cross_rows_of};
 
 use crate::counts::SeatCounts;
 use crate::places::mutual_place;
 use sm_instance::Instance;
-use sm_lists::entry_at;
+use sm_lists::Rows;
 use std::alloc::{AllocError, Global};
 
 /// The lists of all proposers: of seats, and of the proposer's place on the list of each.
 #[derive(Drop)]
 pub(crate) struct ProposerRows {
-    pub(crate) lists: Vec<Vec<u32>>,
-    pub(crate) crosses: Vec<Vec<u32>>,
+    pub(crate) lists: Rows,
+    pub(crate) crosses: Rows,
 }
 
-/// The lists of one proposer.
+/// The lists of one proposer, and then of the next.
 #[derive(Drop)]
 struct ProposerRow {
     list: Vec<u32>,
     crosses: Vec<u32>,
 }
 
-/// The lists of all proposers, from the numbers of the seats, the mutual places of the reviewers' lists, and the places
-/// where the seats of each reviewer begin.
+/// The lists of all proposers, from the numbers of the seats and the mutual places of the reviewers' lists.
 pub(crate) fn proposer_rows(
     alloc: Global,
     instance: &Instance,
     counts: &SeatCounts,
-    places: &[Vec<u32>],
-    begins: &[Vec<u32>],
+    places: &Rows,
 ) -> Result<ProposerRows, AllocError>
     requires firsts { counts.now.firsts.items ≡ first_seats_of instance.now }
     requires numbers { counts.now.numbers.items ≡ seat_numbers_of instance.now }
-    requires places { rows_of places.now ≡ inert_places_of instance.now }
-    requires begins { rows_of begins.now ≡ seat_places_of instance.now }
+    requires places { places.now ≡ inert_places_of instance.now }
     ensures lists { IfOk result
-        (λ rows. rows_of rows.lists.items
-        ≡ seat_rows_of instance.now (length instance.now.proposers)) }
+        (λ rows. rows.lists ≡ seat_rows_of instance.now (length instance.now.proposers)) }
     ensures crosses { IfOk result
-        (λ rows. rows_of rows.crosses.items
-        ≡ cross_rows_of instance.now (length instance.now.proposers)) }
+        (λ rows. rows.crosses ≡ cross_rows_of instance.now (length instance.now.proposers)) }
 {
     let proposers = instance.proposer_count();
-    let mut lists = Vec::with_capacity(alloc, proposers as usize)?;
-    let mut crosses = Vec::with_capacity(alloc, proposers as usize)?;
+    let room = counts.entries as usize;
+    let mut lists = Rows::with_capacity(alloc, proposers as usize, room)?;
+    let mut crosses = Rows::with_capacity(alloc, proposers as usize, room)?;
+    let mut row = ProposerRow {
+        list: Vec::new(alloc),
+        crosses: Vec::new(alloc),
+    };
     for p in 0..proposers {
-        let room = entry_at(begins, p, instance.proposer_len(p));
-        let row = proposer_row(alloc, instance, p, counts, places, room)?;
-        lists.push(row.list)?;
-        crosses.push(row.crosses)?;
+        write_row(&mut row, instance, p, counts, places)?;
+        lists.push(&row.list)?;
+        crosses.push(&row.crosses)?;
     }
     Ok(ProposerRows { lists, crosses })
 }
 
-/// The lists of one proposer, with room for so many seats.
-fn proposer_row(
-    alloc: Global,
+/// Writes the lists of one proposer.
+fn write_row(
+    row: &mut ProposerRow,
     instance: &Instance,
     p: u32,
     counts: &SeatCounts,
-    places: &[Vec<u32>],
-    room: u32,
-) -> Result<ProposerRow, AllocError>
+    places: &Rows,
+) -> Result<(), AllocError>
     requires in_range { p < length instance.now.proposers }
     requires firsts { counts.now.firsts.items ≡ first_seats_of instance.now }
     requires numbers { counts.now.numbers.items ≡ seat_numbers_of instance.now }
-    requires places { rows_of places.now ≡ inert_places_of instance.now }
-    ensures list { IfOk result (λ row. row.list.items ≡ seat_row instance.now p) }
-    ensures crosses { IfOk result (λ row. row.crosses.items ≡ cross_row instance.now p) }
+    requires places { places.now ≡ inert_places_of instance.now }
+    ensures list { OnOk result (row.new.list.items ≡ seat_row instance.now p) }
+    ensures crosses { OnOk result (row.new.crosses.items ≡ cross_row instance.now p) }
 {
-    let mut row = ProposerRow {
-        list: Vec::with_capacity(alloc, room as usize)?,
-        crosses: Vec::with_capacity(alloc, room as usize)?,
-    };
+    row.list.clear();
+    row.crosses.clear();
     let firsts = counts.firsts.as_slice();
     let numbers = counts.numbers.as_slice();
     let list = instance.proposer_list(p);
@@ -88,10 +84,10 @@ fn proposer_row(
             let from = firsts[r as usize] as usize;
             let to = firsts[r as usize + 1] as usize;
             let cross = mutual_place(instance, places, r, back);
-            add_seats(&mut row, &numbers[from..to], cross)?;
+            add_seats(row, &numbers[from..to], cross)?;
         }
     }
-    Ok(row)
+    Ok(())
 }
 
 /// Adds the seats of a reviewer, on the list of each of which the proposer has this place.

@@ -1,232 +1,181 @@
 //! The seats' lists of proposers.
 
-ghost use Rattle.std.specs.Prelude.{◌≡◌, ℕ, ◌+◌, ◌-◌, ◌<◌, ◌≤◌, ◌^◌, ◌++◌, ◌∷◌, [], length, map, replicate, slice_index, IfOk, OnOk};
+ghost use Rattle.std.specs.Prelude.{◌≡◌, ℕ, ◌+◌, ◌-◌, ◌<◌, ◌≤◌, ◌^◌, ◌++◌, length, map, replicate, slice_index, IfOk, OnOk};
 ghost use Rattle.std.specs.List.{range_with_len};
-ghost use Rattle.sm_lists.specs.Rows.{rows_of};
+ghost use Rattle.sm_text.specs.Limits.{most_capacity};
 ghost use Rattle.sm_instance.specs.Sound.{IsInstance};
 ghost use Rattle.sm_seats.specs.Mutual.{mutual_row};
 ghost use Rattle.sm_seats.specs.SeatMarket.{seats_of};
-ghost use Rattle.sm_seats.specs.Tables.{first_seats_of, seat_places_of, begin_of, acceptable_at, acceptable_of};
+ghost use Rattle.sm_seats.specs.Tables.{seat_places_of, begin_of};
+ghost use Rattle.sm_seats.specs.Counted.{acceptable_of, acceptable_at, first_seats_of};
 ghost use Rattle.sm_seats.specs.ReviewerRows.{seat_lists_before, seat_crosses_before};
 
+use crate::counts::SeatCounts;
 use sm_instance::Instance;
-use sm_lists::entry_at;
+use sm_lists::Rows;
 use std::alloc::{AllocError, Global};
 
 /// The lists of all seats: of proposers, and of the seat's place on the list of each; and the reviewer and the number of each
-/// seat.
+/// seat. The seats of a reviewer share their list of proposers.
 #[derive(Drop)]
 pub(crate) struct ReviewerRows {
     pub(crate) seats: Vec<(u32, u32)>,
-    pub(crate) lists: Vec<Vec<u32>>,
-    pub(crate) crosses: Vec<Vec<u32>>,
+    pub(crate) lists: Rows,
+    pub(crate) crosses: Rows,
 }
 
-/// The list of a reviewer without inert entries, and for each place of it the place where the reviewer's seats begin on the
-/// list of the proposer there.
-#[derive(Drop)]
-struct ReviewerRow {
-    list: Vec<u32>,
-    begins: Vec<u32>,
-}
-
-/// The lists of all seats, from the numbers of the first seats, how many proposers are acceptable to each
-/// reviewer, and the places where the seats of each reviewer begin.
+/// The lists of all seats, from what is counted of them, and the places where the seats of each reviewer begin.
 pub(crate) fn reviewer_rows(
     alloc: Global,
     instance: &Instance,
-    firsts: &[u32],
-    acceptable: &[u32],
-    begins: &[Vec<u32>],
+    counts: &SeatCounts,
+    begins: &Rows,
 ) -> Result<ReviewerRows, AllocError>
-    requires firsts { firsts.now ≡ first_seats_of instance.now }
-    requires acceptable { acceptable.now ≡ acceptable_of instance.now }
-    requires begins { rows_of begins.now ≡ seat_places_of instance.now }
+    requires firsts { counts.now.firsts.items ≡ first_seats_of instance.now }
+    requires acceptable { counts.now.acceptable.items ≡ acceptable_of instance.now }
+    requires begins { begins.now ≡ seat_places_of instance.now }
     ensures seats { IfOk result (λ rows. rows.seats.items ≡ seats_of instance.now) }
     ensures lists { IfOk result
-        (λ rows. rows_of rows.lists.items
-        ≡ seat_lists_before instance.now (length instance.now.reviewers)) }
+        (λ rows. rows.lists ≡ seat_lists_before instance.now (length instance.now.reviewers)) }
     ensures crosses { IfOk result
-        (λ rows. rows_of rows.crosses.items
-        ≡ seat_crosses_before instance.now (length instance.now.reviewers)) }
+        (λ rows. rows.crosses ≡ seat_crosses_before instance.now (length instance.now.reviewers)) }
 {
+    let firsts = counts.firsts.as_slice();
+    let acceptable = counts.acceptable.as_slice();
     let reviewers = instance.reviewer_count();
-    let room = firsts[reviewers as usize] as usize;
-    let mut rows = ReviewerRows {
-        seats: Vec::with_capacity(alloc, room)?,
-        lists: Vec::with_capacity(alloc, room)?,
-        crosses: Vec::with_capacity(alloc, room)?,
-    };
+    let count = firsts[reviewers as usize] as usize;
+    let mut seats = Vec::with_capacity(alloc, count)?;
+    let mut lists = Rows::with_capacity(alloc, count, sum_of(acceptable))?;
+    let mut crosses = Rows::with_capacity(alloc, count, counts.entries as usize)?;
+    let mut row = Vec::new(alloc);
     for r in 0..reviewers {
-        let row = ReviewerRow {
-            list: mutual_list(alloc, instance, r, acceptable[r as usize])?,
-            begins: mutual_begins(alloc, instance, r, begins)?,
-        };
         let count = firsts[r as usize + 1] - firsts[r as usize];
-        add_seats(alloc, &mut rows, r, count, row)?;
+        add_names(&mut seats, r, count)?;
+        add_lists(
+            &mut lists,
+            instance,
+            r,
+            acceptable[r as usize],
+            count,
+            &mut row,
+        )?;
+        write_begins(&mut row, instance, r, begins)?;
+        add_crosses(&mut crosses, count, &mut row)?;
     }
-    Ok(rows)
+    Ok(ReviewerRows {
+        seats,
+        lists,
+        crosses,
+    })
 }
 
-/// The list of a reviewer without inert entries, of which it has so many. It is copied where it has no others.
-fn mutual_list(
-    alloc: Global,
+/// The sum of numbers, or the greatest number where it is more.
+fn sum_of(numbers: &[u32]) -> usize {
+    let mut sum: usize = 0;
+    for number in numbers {
+        sum = sum.saturating_add(*number as usize);
+    }
+    sum
+}
+
+/// Adds the names of so many seats of a reviewer.
+fn add_names(seats: &mut Vec<(u32, u32)>, r: u32, count: u32) -> Result<(), AllocError>
+    requires { count ≤ most_capacity }
+    ensures { OnOk result (seats.new.items
+        ≡ seats.old.items ++ map (λ k. (r, k)) (range_with_len 1 count)) }
+{
+    for k in 0..count {
+        seats.push((r, k + 1))?;
+    }
+    Ok(())
+}
+
+/// Adds the lists of so many seats of a reviewer, to whom so many proposers are acceptable. They share the written list, or
+/// what is written into `row` where some entries of it are inert.
+fn add_lists(
+    lists: &mut Rows,
     instance: &Instance,
     r: u32,
     acceptable: u32,
-) -> Result<Vec<u32>, AllocError>
+    count: u32,
+    row: &mut Vec<u32>,
+) -> Result<(), AllocError>
     requires in_range { r < length instance.now.reviewers }
     requires acceptable { acceptable ≡ acceptable_at instance.now r }
-    ensures { IfOk result
-        (λ list. list.items ≡ mutual_row instance.now.reviewers instance.now.proposers r) }
+    ensures { OnOk result (lists.new ≡ lists.old
+        ++ replicate count (mutual_row instance.now.reviewers instance.now.proposers r)) }
 {
     if acceptable == instance.reviewer_len(r) {
-        return Vec::from_slice(alloc, instance.reviewer_list(r));
+        return lists.push_shared(instance.reviewer_list(r), count);
     }
-    without_inert(alloc, instance, r, acceptable as usize)
+    write_without_inert(row, instance, r)?;
+    lists.push_shared(row, count)
 }
 
-/// The list of a reviewer without inert entries, with room for so many.
-fn without_inert(
-    alloc: Global,
-    instance: &Instance,
-    r: u32,
-    room: usize,
-) -> Result<Vec<u32>, AllocError>
+/// Writes the list of a reviewer without inert entries.
+fn write_without_inert(kept: &mut Vec<u32>, instance: &Instance, r: u32) -> Result<(), AllocError>
     requires in_range { r < length instance.now.reviewers }
-    ensures { IfOk result
-        (λ list. list.items ≡ mutual_row instance.now.reviewers instance.now.proposers r) }
+    ensures { OnOk result
+        (kept.new.items ≡ mutual_row instance.now.reviewers instance.now.proposers r) }
 {
+    kept.clear();
     let list = instance.reviewer_list(r);
     let crosses = instance.reviewer_crosses(r);
-    let mut kept = Vec::with_capacity(alloc, room)?;
     for place in 0..list.len() {
         if crosses[place].place().is_some() {
             kept.push(list[place])?;
         }
     }
-    Ok(kept)
+    Ok(())
 }
 
-/// Where the seats of a reviewer begin on the list of each acceptable proposer.
-fn mutual_begins(
-    alloc: Global,
+/// Writes where the seats of a reviewer begin on the list of each acceptable proposer.
+fn write_begins(
+    kept: &mut Vec<u32>,
     instance: &Instance,
     r: u32,
-    begins: &[Vec<u32>],
-) -> Result<Vec<u32>, AllocError>
+    begins: &Rows,
+) -> Result<(), AllocError>
     requires instance { IsInstance instance.now }
     requires in_range { r < length instance.now.reviewers }
-    requires begins { rows_of begins.now ≡ seat_places_of instance.now }
-    ensures begins { IfOk result (λ kept. kept.items
+    requires begins { begins.now ≡ seat_places_of instance.now }
+    ensures begins { OnOk result (kept.new.items
         ≡ map (begin_of instance.now r) (mutual_row instance.now.reviewers
         instance.now.proposers r)) }
-    ensures small { IfOk result (λ kept. (i : ℕ) → slice_index kept.items i ≤ 2 ^ 24) }
+    ensures small { OnOk result ((i : ℕ) → slice_index kept.new.items i ≤ 2 ^ 24) }
 {
+    kept.clear();
     let list = instance.reviewer_list(r);
     let crosses = instance.reviewer_crosses(r);
-    let mut kept = Vec::with_capacity(alloc, list.len())?;
     for place in 0..list.len() {
         if let Some(back) = crosses[place].place() {
-            kept.push(entry_at(begins, list[place], back))?;
+            kept.push(begins.entry_at(list[place], back))?;
         }
     }
-    Ok(kept)
-}
-
-/// Adds so many seats of a reviewer. The last one takes the row, so that a single seat copies nothing.
-fn add_seats(
-    alloc: Global,
-    rows: &mut ReviewerRows,
-    r: u32,
-    count: u32,
-    row: ReviewerRow,
-) -> Result<(), AllocError>
-    requires count { count ≤ 4096 }
-    requires small { (i : ℕ) → slice_index row.begins.items i ≤ 2 ^ 24 }
-    ensures seats { OnOk result
-        (rows.new.seats.items ≡ rows.old.seats.items
-        ++ map (λ k. (r, k)) (range_with_len 1 count)) }
-    ensures lists { OnOk result
-        (rows_of rows.new.lists.items ≡ rows_of rows.old.lists.items
-        ++ replicate count row.list.items) }
-    ensures crosses { OnOk result (rows_of rows.new.crosses.items
-        ≡ rows_of rows.old.crosses.items ++ map (λ k. map (λ n. n + k) row.begins.items)
-        (range_with_len 0 count)) }
-{
-    if count == 0 {
-        return Ok(());
-    }
-    add_copies(alloc, rows, r, count - 1, &row)?;
-    add_last(rows, (r, count), row)?;
     Ok(())
 }
 
-/// Adds so many seats of a reviewer, with copies of its row.
-fn add_copies(
-    alloc: Global,
-    rows: &mut ReviewerRows,
-    r: u32,
-    count: u32,
-    row: &ReviewerRow,
-) -> Result<(), AllocError>
-    requires count { count ≤ 4096 }
-    requires small { (i : ℕ) → slice_index row.now.begins.items i ≤ 2 ^ 24 }
-    ensures seats { OnOk result
-        (rows.new.seats.items ≡ rows.old.seats.items
-        ++ map (λ k. (r, k)) (range_with_len 1 count)) }
-    ensures lists { OnOk result
-        (rows_of rows.new.lists.items ≡ rows_of rows.old.lists.items
-        ++ replicate count row.now.list.items) }
-    ensures crosses { OnOk result (rows_of rows.new.crosses.items
-        ≡ rows_of rows.old.crosses.items ++ map (λ k. map (λ n. n + k) row.now.begins.items)
-        (range_with_len 0 count)) }
+/// Adds the cross places of so many seats of a reviewer: these places for the first, and for each other seat one more than for
+/// the seat before it. The places are raised by as many.
+fn add_crosses(crosses: &mut Rows, count: u32, places: &mut Vec<u32>) -> Result<(), AllocError>
+    requires count { count ≤ most_capacity }
+    requires small { (i : ℕ) → slice_index places.old.items i ≤ 2 ^ 24 }
+    ensures { OnOk result (crosses.new
+        ≡ crosses.old ++ map (λ k. map (λ n. n + k) places.old.items) (range_with_len 0 count)) }
 {
-    for k in 0..count {
-        rows.seats.push((r, k + 1))?;
-        rows.lists.push(Vec::from_slice(alloc, &row.list)?)?;
-        rows.crosses.push(raised(alloc, &row.begins, k)?)?;
+    'seats: for _ in 0..count {
+        crosses.push(places)?;
+        raise(places);
     }
     Ok(())
 }
 
-/// Adds a reviewer's last seat, which takes the row.
-fn add_last(rows: &mut ReviewerRows, seat: (u32, u32), row: ReviewerRow) -> Result<(), AllocError>
-    requires number { 0 < seat.1 }
-    requires count { seat.1 ≤ 4096 }
-    requires small { (i : ℕ) → slice_index row.begins.items i ≤ 2 ^ 24 }
-    ensures seats { OnOk result (rows.new.seats.items ≡ rows.old.seats.items ++ seat ∷ []) }
-    ensures lists { OnOk result (rows_of rows.new.lists.items ≡ rows_of rows.old.lists.items
-        ++ row.list.items ∷ []) }
-    ensures crosses { OnOk result (rows_of rows.new.crosses.items
-        ≡ rows_of rows.old.crosses.items ++ map (λ n. n + (seat.1 - 1)) row.begins.items ∷ []) }
-{
-    let ReviewerRow { list, mut begins } = row;
-    raise(&mut begins, seat.1 - 1);
-    rows.seats.push(seat)?;
-    rows.lists.push(list)?;
-    rows.crosses.push(begins)?;
-    Ok(())
-}
-
-/// Each number raised by so much.
-fn raised(alloc: Global, numbers: &[u32], by: u32) -> Result<Vec<u32>, AllocError>
-    requires small { (i : ℕ) → slice_index numbers.now i ≤ 2 ^ 24 }
-    requires by { by ≤ 4096 }
-    ensures { IfOk result (λ raised. raised.items ≡ map (λ n. n + by) numbers.now) }
-{
-    let mut raised = Vec::from_slice(alloc, numbers)?;
-    raise(&mut raised, by);
-    Ok(raised)
-}
-
-/// Raises each number by so much.
-fn raise(numbers: &mut [u32], by: u32)
-    requires small { (i : ℕ) → slice_index numbers.old i ≤ 2 ^ 24 }
-    requires by { by ≤ 4096 }
-    ensures { numbers.new ≡ map (λ n. n + by) numbers.old }
+/// Raises each number by one.
+fn raise(numbers: &mut [u32])
+    requires { (i : ℕ) → slice_index numbers.old i < 2 ^ 32 - 1 }
+    ensures { numbers.new ≡ map (λ n. n + 1) numbers.old }
 {
     for at in 0..numbers.len() {
-        numbers[at] += by;
+        numbers[at] += 1;
     }
 }

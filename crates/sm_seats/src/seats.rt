@@ -1,7 +1,7 @@
 //! Seats, and matchings of them.
 
 ghost use Rattle.std.specs.Prelude.{◌≡◌, ◌+◌, ◌<◌, length, slice_index_or, IfOk, IfErr, OnOk};
-ghost use Rattle.sm_instance.specs.Written.{Written};
+ghost use Rattle.sm_instance.specs.Written.{Written, lists_of};
 ghost use Rattle.sm_instance.specs.Sound.{IsInstance};
 ghost use Rattle.std.specs.Option.{option_map};
 ghost use Rattle.sm_instance.specs.Matching.{IsMatching};
@@ -11,23 +11,23 @@ ghost use Rattle.sm_market.specs.Pairing.{IsPairingOf};
 ghost use Rattle.sm_market.specs.Vectors.{rows_of};
 ghost use Rattle.sm_seats.specs.SeatMarket.{seats_of};
 ghost use Rattle.sm_seats.specs.SeatEntries.{AreFewSeats, IsSeatsFault};
-ghost use Rattle.sm_seats.specs.Seating.{seating_of, written_lists, written_place, written_of, levels_at, levels_of};
+ghost use Rattle.sm_seats.specs.Seating.{seating_of, written_place, written_of, levels_at, levels_of};
 ghost use Rattle.sm_seats.specs.Taken.{places_taken};
 ghost use Rattle.sm_seats.specs.Correspondence.{IsSeating};
-ghost use Rattle.sm_seats.specs.Counted.{AreCounts};
+ghost use Rattle.sm_seats.specs.Counted.{AreSeatCounts};
 ghost use Rattle.sm_seats.specs.ProposerRows.{seat_rows_of, cross_rows_of};
 ghost use Rattle.sm_seats.specs.ReviewerRows.{seat_lists_before, seat_crosses_before};
 
 use crate::counts::{SeatCounts, seat_counts};
 use crate::faults::SeatsFault;
 use crate::levels::{levels_along, place_from};
-use crate::places::{mutual_places, seat_places};
+use crate::places::{mutual_places, seat_places, written_entries};
 use crate::plain::{is_plain, plain_proposers, plain_seats};
 use crate::proposer_rows::{ProposerRows, proposer_rows};
 use crate::reviewer_rows::{ReviewerRows, reviewer_rows};
 use crate::taking::taken_places;
 use sm_instance::{Assignment, Instance};
-use sm_lists::list_at;
+use sm_lists::Rows;
 use sm_market::{Market, Pairing};
 use std::alloc::{AllocError, Global};
 use std::marker::Model;
@@ -41,21 +41,20 @@ use std::rc::Rc;
 /// to the entries on the lists of the seats, and others may keep the market too.
 #[derive(Debug, Drop)]
 pub struct Seats {
-    lists: Vec<Vec<u32>>,
+    lists: Rows,
     market: Rc<Market>,
     seats: Vec<(u32, u32)>,
 }
 
 impl Model for Seats {
-    ghost use Rattle.sm_market.specs.Vectors.{rows_of};
     ghost use Rattle.sm_seats.specs.Seating.{Seating};
     ghost use Rattle.sm_seats.specs.Kept.{IsKept};
 
     ghost Value = { Seating };
 
-    ghost view = { λ s. record { lists = rows_of s.lists.items; market = s.market.value; seats = s.seats.items } };
+    ghost view = { λ s. record { lists = s.lists; market = s.market.value; seats = s.seats.items } };
 
-    ghost invariant = { λ s. IsKept (record { lists = rows_of s.lists.items; market = s.market.value; seats = s.seats.items }) };
+    ghost invariant = { λ s. IsKept (record { lists = s.lists; market = s.market.value; seats = s.seats.items }) };
 }
 
 impl Seats {
@@ -89,21 +88,21 @@ impl Seats {
         instance: &Instance,
         counts: &SeatCounts,
     ) -> Result<Seats, AllocError>
-        requires counts { AreCounts instance.now counts.now }
+        requires counts { AreSeatCounts instance.now counts.now }
         requires few { AreFewSeats instance.now }
         ensures seats { IfOk result (λ seats. seats ≡ seating_of instance.now) }
         ensures seating { IfOk result (λ seats. IsSeating instance.now seats) }
     {
         if is_plain(instance, counts) {
-            let proposers = plain_proposers(alloc, instance)?;
-            let reviewers = plain_seats(alloc, instance)?;
+            let room = counts.entries as usize;
+            let proposers = plain_proposers(alloc, instance, room)?;
+            let reviewers = plain_seats(alloc, instance, room)?;
             return seats_held(alloc, instance, proposers, reviewers);
         }
-        let firsts = counts.firsts.as_slice();
         let places = mutual_places(alloc, instance, &counts.acceptable)?;
-        let begins = seat_places(alloc, instance, firsts)?;
-        let proposers = proposer_rows(alloc, instance, counts, &places, &begins)?;
-        let reviewers = reviewer_rows(alloc, instance, firsts, &counts.acceptable, &begins)?;
+        let proposers = proposer_rows(alloc, instance, counts, &places)?;
+        let begins = seat_places(alloc, instance, &counts.firsts)?;
+        let reviewers = reviewer_rows(alloc, instance, counts, &begins)?;
         seats_held(alloc, instance, proposers, reviewers)
     }
 
@@ -142,7 +141,7 @@ impl Seats {
         ensures { result ≡ written_place self.now p place + 1 }
     {
         let (r, _) = self.seats[self.market.as_ref().reviewer_at(p, place) as usize];
-        place_from(list_at(&self.lists, p), 0, r) + 1
+        place_from(self.lists.at(p), 0, r) + 1
     }
 
     /// For each proposer the levels of its places, followed by that of being unmatched, which is one more than the length
@@ -170,7 +169,7 @@ impl Seats {
     {
         levels_along(
             alloc,
-            list_at(&self.lists, p),
+            self.lists.at(p),
             self.market.as_ref().proposer_list(p),
             &self.seats,
         )
@@ -236,19 +235,19 @@ fn seats_held(
     reviewers: ReviewerRows,
 ) -> Result<Seats, AllocError>
     requires few { AreFewSeats instance.now }
-    requires proposers { rows_of proposers.lists.items
+    requires proposers { proposers.lists
         ≡ seat_rows_of instance.now (length instance.now.proposers) }
-    requires proposer_crosses { rows_of proposers.crosses.items
+    requires proposer_crosses { proposers.crosses
         ≡ cross_rows_of instance.now (length instance.now.proposers) }
     requires seats { reviewers.seats.items ≡ seats_of instance.now }
-    requires reviewers { rows_of reviewers.lists.items
+    requires reviewers { reviewers.lists
         ≡ seat_lists_before instance.now (length instance.now.reviewers) }
-    requires reviewer_crosses { rows_of reviewers.crosses.items
+    requires reviewer_crosses { reviewers.crosses
         ≡ seat_crosses_before instance.now (length instance.now.reviewers) }
     ensures seats { IfOk result (λ seats. seats ≡ seating_of instance.now) }
     ensures seating { IfOk result (λ seats. IsSeating instance.now seats) }
 {
-    let lists = lists_of(alloc, instance)?;
+    let lists = written_lists(alloc, instance)?;
     let market = Market::held(
         proposers.lists,
         reviewers.lists,
@@ -264,14 +263,14 @@ fn seats_held(
 }
 
 /// The proposers' written lists.
-fn lists_of(alloc: Global, instance: &Instance) -> Result<Vec<Vec<u32>>, AllocError>
+fn written_lists(alloc: Global, instance: &Instance) -> Result<Rows, AllocError>
     ensures instance { IsInstance instance.now }
-    ensures lists { IfOk result (λ lists. rows_of lists.items
-        ≡ written_lists instance.now.proposers) }
+    ensures lists { IfOk result (λ lists. lists ≡ lists_of instance.now.proposers) }
 {
-    let mut lists = Vec::with_capacity(alloc, instance.proposer_count() as usize)?;
-    for p in 0..instance.proposer_count() {
-        lists.push(Vec::from_slice(alloc, instance.proposer_list(p))?)?;
+    let proposers = instance.proposer_count();
+    let mut lists = Rows::with_capacity(alloc, proposers as usize, written_entries(instance))?;
+    for p in 0..proposers {
+        lists.push(instance.proposer_list(p))?;
     }
     Ok(lists)
 }

@@ -1,18 +1,16 @@
 //! The seats that an assignment takes.
 
 ghost use Rattle.std.specs.Prelude.{◌≡◌, ◌<◌, length, replicate, None, IfOk};
-ghost use Rattle.sm_lists.specs.Rows.{rows_of};
-ghost use Rattle.sm_instance.specs.Written.{Written};
+ghost use Rattle.sm_instance.specs.Written.{Written, lists_of};
 ghost use Rattle.sm_instance.specs.Sound.{IsInstance};
 ghost use Rattle.sm_instance.specs.Matching.{held, is_at as is_written_at, IsAssignment, IsMatching};
 ghost use Rattle.sm_market.specs.Limits.{IsWithinLimits};
 ghost use Rattle.sm_seats.specs.SeatMarket.{seats_before, seat_count, seats_of, seat_market};
-ghost use Rattle.sm_seats.specs.Seating.{written_lists};
 ghost use Rattle.sm_seats.specs.Taken.{places_taken};
 ghost use Rattle.sm_seats.specs.Taking.{AreSeatedAt};
 
 use sm_instance::Assignment;
-use sm_lists::entry_at;
+use sm_lists::Rows;
 use sm_market::Market;
 use std::alloc::{AllocError, Global};
 
@@ -24,14 +22,14 @@ use std::alloc::{AllocError, Global};
 /// `AllocError` where memory ran out, and only then.
 pub(crate) fn taken_places(
     alloc: Global,
-    lists: &[Vec<u32>],
+    lists: &Rows,
     market: &Market,
     seats: &[(u32, u32)],
     a: &Assignment,
 ) -> Result<Vec<Option<u32>>, AllocError>
     ghost written: { Written }
     requires instance { IsInstance written }
-    requires lists { rows_of lists.now ≡ written_lists written.proposers }
+    requires lists { lists.now ≡ lists_of written.proposers }
     requires market { market.now ≡ seat_market written }
     requires seats { seats.now ≡ seats_of written }
     requires matching { IsMatching written a.now.places.items }
@@ -44,7 +42,7 @@ pub(crate) fn taken_places(
 
 /// Seats the proposers at each reviewer, one reviewer after another.
 fn seat_all(
-    lists: &[Vec<u32>],
+    lists: &Rows,
     market: &Market,
     seats: &[(u32, u32)],
     a: &Assignment,
@@ -52,7 +50,7 @@ fn seat_all(
 )
     ghost written: { Written }
     requires instance { IsInstance written }
-    requires lists { rows_of lists.now ≡ written_lists written.proposers }
+    requires lists { lists.now ≡ lists_of written.proposers }
     requires market { market.now ≡ seat_market written }
     requires seats { seats.now ≡ seats_of written }
     requires matching { IsMatching written a.now.places.items }
@@ -70,7 +68,7 @@ fn seat_all(
 
 /// Seats those at a reviewer in its order, from its first seat on. The first seat is given with its reviewer.
 fn seat_in_order(
-    lists: &[Vec<u32>],
+    lists: &Rows,
     market: &Market,
     first: (u32, u32),
     a: &Assignment,
@@ -78,7 +76,7 @@ fn seat_in_order(
 )
     ghost written: { Written }
     requires instance { IsInstance written }
-    requires lists { rows_of lists.now ≡ written_lists written.proposers }
+    requires lists { lists.now ≡ lists_of written.proposers }
     requires market { market.now ≡ seat_market written }
     requires limits { IsWithinLimits market.now }
     requires first { first.0 ≡ seats_before written first.1 }
@@ -107,15 +105,15 @@ fn held_place(a: &Assignment, q: u32) -> Option<u32>
 }
 
 /// Is a proposer at a reviewer?
-fn is_at(lists: &[Vec<u32>], a: &Assignment, q: u32, r: u32) -> bool
+fn is_at(lists: &Rows, a: &Assignment, q: u32, r: u32) -> bool
     ghost written: { Written }
-    requires lists { rows_of lists.now ≡ written_lists written.proposers }
+    requires lists { lists.now ≡ lists_of written.proposers }
     requires assigned { IsAssignment written a.now.places.items }
     requires in_range { q < length written.proposers }
     ensures { result ≡ is_written_at written a.now.places.items q r }
 {
     match held_place(a, q) {
-        Some(place) => entry_at(lists, q, place) == r,
+        Some(place) => lists.entry_at(q, place) == r,
         None => false,
     }
 }

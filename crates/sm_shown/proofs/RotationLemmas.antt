@@ -24,7 +24,7 @@ use Rattle.sm_report.specs.Lines.{LineData, line_of}
 use Rattle.sm_report.specs.declared.lines.Line.{Line}
 use Rattle.sm_report.specs.Sound.{IsLineOf, IsRotation, ArePair, IsSeatNumber, AreRotations}
 use Rattle.sm_theory.specs.Rotations.{proposer_at, reviewer_at}
-use Rattle.sm_theory.specs.Chains.{rotation_at, IsCompleteChain, IsPrintedChain, AreNeedsOf}
+use Rattle.sm_theory.specs.Chains.{rotation_at, IsCompleteChain, IsPrintedChain, AreNeedsOf, AreNeeds}
 use Rattle.sm_theory.specs.Values.{rotations_of}
 use Rattle.sm_theory.specs.declared.rotations.Rotation.{Rotation}
 use Rattle.sm_theory.proofs.Bridge.Chain.{stage_stable}
@@ -32,12 +32,11 @@ use Rattle.sm_seats.specs.Seating.{Seating, seating_of}
 use Rattle.sm_seats.specs.Correspondence.{IsSeating}
 use Rattle.sm_answer.specs.Lines.{lines_from}
 use Rattle.sm_answer.specs.Giving.{GivesNext}
-use Rattle.sm_answer.proofs.AnswerLemmas.{lines_each, lines_alike, one_all, gave_first, gave_none}
+use Rattle.sm_answer.proofs.AnswerLemmas.{lines_each, lines_from-same, one_all, gave_first, gave_none}
 use Rattle.sm_shown.specs.Reduction.{seat_of, best_seat, seat_line}
-use Rattle.sm_shown.specs.RotationLines.{first_at, first_line, rotation_lines, shown_lines, first_seat, seated_pair, seated_pairs, numbers_of, number_of, shown_of}
-use Rattle.sm_shown.specs.GivenLines.{rotation_line, needs_line, two_lines, lines_of_rotations, lines_left, most_left, rotations_given}
+use Rattle.sm_shown.specs.RotationLines.{first_at, first_seat_line, rotation_lines, shown_lines, first_seat, seated_pair, seated_rotation, numbers_of, rotation_number, shown_of, rotation_line, needs_line}
+use Rattle.sm_shown.specs.GivenLines.{two_lines, lines_of_rotations, lines_left, most_left, rotations_given}
 use Rattle.sm_market.specs.Pairing.{Paired}
-use Rattle.sm_rotations.specs.Graph.{AreNeeds}
 use Rattle.sm_poset.specs.Posets.{RotationPoset, IsPoset}
 use Rattle.sm_shown.specs.RotationAnswer.{IsRotationAnswer, IsCorrespondence}
 use Rattle.sm_lists.proofs.PlaceLemmas.{get_or-place_on}
@@ -57,11 +56,11 @@ flat_map_alike f g a (suc n) e =
 pub lines_shown : (s : Seating) (first : Places) (rotations : List (List (ℕ × ℕ))) (needs : List (List ℕ)) (k : ℕ) → two_lines s rotations needs k ≡ rotation_lines (shown_of s first rotations needs) k
 lines_shown s first rotations needs k =
     ap (λ (t : List (ℕ × Seat)). LineData.Rotation (k + 1) t ∷ needs_line needs k ∷ []) (sym (pairs_at_shown s rotations k))
-    ∙ ap (λ (t : List ℕ). LineData.Rotation (k + 1) (slice_index_or (map (seated_pairs s) rotations) k []) ∷ LineData.Needs (k + 1) t ∷ []) (sym (needs_shown needs k))
+    ∙ ap (λ (t : List ℕ). LineData.Rotation (k + 1) (slice_index_or (map (seated_rotation s) rotations) k []) ∷ LineData.Needs (k + 1) t ∷ []) (sym (needs_shown needs k))
 
 -- the first seat of a proposer
 pub first_shown : (s : Seating) (first : Places) (rotations : List (List (ℕ × ℕ))) (needs : List (List ℕ)) → length first.proposers ≡ length s.market.proposers
-    → (p : ℕ) → seat_line Proposers s first p ≡ first_line (shown_of s first rotations needs) p
+    → (p : ℕ) → seat_line Proposers s first p ≡ first_seat_line (shown_of s first rotations needs) p
 first_shown s first rotations needs one p = by_place (held first.proposers p) refl
     ∙ ap (option_map (λ seat. LineData.First p seat)) (sym seat)
   where
@@ -86,14 +85,14 @@ given_is s first rotations needs one =
     let l = s.market in
     let shown = shown_of s first rotations needs in
     let n : length l.proposers - 0 ≡ length (map (first_seat s first) (agents l.proposers)) = (let long = length-map-range_with_len (first_seat s first) 0 (length l.proposers) in omega arith) in
-    let k : length rotations - 0 ≡ length (map (seated_pairs s) rotations) = omega (arith, length-map rotations (seated_pairs s)) in
-    let firsts : lines_from (seat_line Proposers s first) 0 (length l.proposers - 0) ≡ lines_from (first_line shown) 0 (length shown.firsts) =
-    ap (lines_from (seat_line Proposers s first) 0) n ∙ lines_alike (seat_line Proposers s first) (first_line shown) (first_shown s first rotations needs one) 0 (length shown.firsts) in
+    let k : length rotations - 0 ≡ length (map (seated_rotation s) rotations) = omega (arith, length-map rotations (seated_rotation s)) in
+    let firsts : lines_from (seat_line Proposers s first) 0 (length l.proposers - 0) ≡ lines_from (first_seat_line shown) 0 (length shown.firsts) =
+    ap (lines_from (seat_line Proposers s first) 0) n ∙ lines_from-same (seat_line Proposers s first) (first_seat_line shown) (first_shown s first rotations needs one) 0 (length shown.firsts) in
     let pairs : lines_of_rotations s rotations needs 0 ≡ flat_map (rotation_lines shown) (range_with_len 0 (length shown.rotations)) =
     ap (λ n. flat_map (two_lines s rotations needs) (range_with_len 0 n)) k
     ∙ flat_map_alike (two_lines s rotations needs) (rotation_lines shown) 0 (length shown.rotations) (λ k l. lines_shown s first rotations needs k) in
     ap (λ (t : List LineData). LineData.Answer HeadData.Rotations ∷ (t ++ (lines_of_rotations s rotations needs 0 ++ LineData.End ∷ []))) firsts
-    ∙ ap (λ (t : List LineData). LineData.Answer HeadData.Rotations ∷ (lines_from (first_line shown) 0 (length shown.firsts) ++ (t ++ LineData.End ∷ []))) pairs
+    ∙ ap (λ (t : List LineData). LineData.Answer HeadData.Rotations ∷ (lines_from (first_seat_line shown) 0 (length shown.firsts) ++ (t ++ LineData.End ∷ []))) pairs
 
 -- they are a right answer
 pub rotations_right : (w : Written) (s : Seating) (first : Places) (rotations : List (List (ℕ × ℕ))) (needs : List (List ℕ)) → s ≡ seating_of w → IsSeating w s → IsPrintedChain s.market first rotations
@@ -103,7 +102,7 @@ rotations_right w s first rotations needs is h printed one of = record {
   rotations = rotations;
   needs = needs;
   printed = subst (λ (t : Seating). IsPrintedChain t.market first rotations) is printed;
-  needed = record { one_each = one; of = λ k g. subst (λ (t : Seating). AreNeedsOf t.market rotations k (row needs k)) is (of k g) };
+  needed = record { one_each = one; each = λ k g. subst (λ (t : Seating). AreNeedsOf t.market rotations k (row needs k)) is (of k g) };
   shows = given_is s first rotations needs printed.chain.from_best.stable.matching.proposers.one_each ∙ ap (λ (t : Seating). shown_lines (shown_of t first rotations needs)) is;
   corresponds = subst (λ (t : Seating). IsCorrespondence w (shown_of t first rotations needs)) is (correspondence needs h printed.chain of);
 }
@@ -140,15 +139,15 @@ seats_named s first rotations m one chain k = λ i d on. omega (arith, (pairs_na
 -- the numbers of what a rotation needs rise
 needs_numbered : (l : Lists) (rotations : List (List (ℕ × ℕ))) (j : ℕ) (needed : List ℕ) → length rotations < 2 ^ 24 → AreNeedsOf l rotations j needed → AreRotations (numbers_of needed)
 needs_numbered l rotations j needed few h = record {
-  each = All-map IsRotation number_of needed (λ a d on. let below = h.sound a on in let same = get_or_default_zero needed a d on in record { least = omega arith; greatest = omega arith });
+  each = All-map IsRotation rotation_number needed (λ a d on. let below = h.sound a on in let same = get_or_default_zero needed a d on in record { least = omega arith; greatest = omega arith });
   rising = rising;
 } where
   rising : IsStrictlyIncreasing (numbers_of needed)
   rising k l =
-      let long = length-map needed number_of in
+      let long = length-map needed rotation_number in
       let less = h.rising k (k + 1) (omega arith) (omega arith) in
-      let one : get_or (numbers_of needed) k 0 ≡ number_of (get_or needed k 0) = get_or-map number_of needed k 0 0 (omega arith) in
-      let two : get_or (numbers_of needed) (k + 1) 0 ≡ number_of (get_or needed (k + 1) 0) = get_or-map number_of needed (k + 1) 0 0 (omega arith) in
+      let one : get_or (numbers_of needed) k 0 ≡ rotation_number (get_or needed k 0) = get_or-map rotation_number needed k 0 0 (omega arith) in
+      let two : get_or (numbers_of needed) (k + 1) 0 ≡ rotation_number (get_or needed (k + 1) 0) = get_or-map rotation_number needed (k + 1) 0 0 (omega arith) in
       omega arith
 
 module _ {w : Written} {s : Seating} (i : IsInstance w) (h : IsSeating w s) (first : Places) (rotations : List (List (ℕ × ℕ))) (needs : List (List ℕ)) (chain : IsCompleteChain s.market first rotations)
@@ -166,7 +165,7 @@ module _ {w : Written} {s : Seating} (i : IsInstance w) (h : IsSeating w s) (fir
             let both = named j d on in
             let seat = seat_is i h (get_or pairs j d).1 (omega (arith, both.1, h.seats)) in
             (omega (arith, both.0, h.proposers), seat.reviewer));
-        seats = All-map (λ (seat : Seat). IsSeatNumber w.kind seat.number) (λ (pair : ℕ × Seat). pair.1) (seated_pairs s pairs) (All-map (λ (pair : ℕ × Seat). IsSeatNumber w.kind pair.1.number) (seated_pair s) pairs
+        seats = All-map (λ (seat : Seat). IsSeatNumber w.kind seat.number) (λ (pair : ℕ × Seat). pair.1) (seated_rotation s pairs) (All-map (λ (pair : ℕ × Seat). IsSeatNumber w.kind pair.1.number) (seated_pair s) pairs
             (λ j d on. (seat_is i h (get_or pairs j d).1 (omega (arith, (named j d on).1, h.seats))).number));
         numbers = number;
         head = tt;

@@ -8,7 +8,7 @@ use Rattle.sm_market.specs.Lists.{row, entry, place_of}
 use Rattle.sm_market.specs.Matching.{Places, held, IsMatching}
 use Rattle.sm_seats.specs.Seating.{Seating, reviewer_of, written_place, written_of}
 use Rattle.sm_seats.specs.Correspondence.{IsSeating}
-use Rattle.sm_seats.proofs.SeatingLemmas.{written_held, written_seat}
+use Rattle.sm_seats.proofs.SeatingLemmas.{held-written_of, written_place-place_of}
 use Rattle.sm_seats.proofs.SeatingLaws.{list_of, written_names}
 
 -- where a proposer has no seat, and where it has one
@@ -31,14 +31,14 @@ module _ {w : Written} {s : Seating} (h : IsSeating w s) where
   -- the place of a seat's reviewer is the one that the seat's place stands for
   pub place_of-reviewer_of : (p seat : ℕ) → place_of s.market.proposers p seat < length (row s.market.proposers p)
       → written_place_of w.proposers p (reviewer_of s seat) ≡ written_place s p (place_of s.market.proposers p seat)
-  place_of-reviewer_of p seat on = place_of-list p (reviewer_of s seat) ∙ sym (written_seat s p seat on)
+  place_of-reviewer_of p seat on = place_of-list p (reviewer_of s seat) ∙ sym (written_place-place_of s p seat on)
 
   -- a proposer has a seat or it has none
   pub seat_cases : {m : Places} → IsMatching s.market m → (p : ℕ) → IsAlone s m p ⊎ HasSeat w s m p
   seat_cases {m} f p = by_place (held m.proposers p) refl
     where
       written : (o : Option ℕ) → held m.proposers p ≡ o → held_there (written_of s m.proposers) p ≡ option_map (written_place s p) o
-      written o e = written_held s m.proposers p f.proposers.one_each ∙ ap (option_map (written_place s p)) e
+      written o e = held-written_of s m.proposers p f.proposers.one_each ∙ ap (option_map (written_place s p)) e
 
       by_place : (o : Option ℕ) → held m.proposers p ≡ o → IsAlone s m p ⊎ HasSeat w s m p
       by_place None e = inl (record { held_is = e; written_is = written None e })

@@ -20,9 +20,9 @@ use Rattle.sm_theory.proofs.Chains.Rotations.{sets_are_matchings}
 use Rattle.sm_seats.specs.Seating.{Seating, reviewer_of, written_place, written_of}
 use Rattle.sm_seats.specs.Correspondence.{IsSeating}
 use Rattle.sm_seats.proofs.SeatingLaws.{rises}
-use Rattle.sm_shown.specs.RotationLines.{Shown, first_at, first_seat, seated_pairs, number_of, numbers_of, shown_of}
+use Rattle.sm_shown.specs.RotationLines.{ShownRotations, first_at, first_seat, seated_rotation, rotation_number, numbers_of, shown_of}
 use Rattle.sm_shown.specs.Reduction.{seat_of}
-use Rattle.sm_shown.specs.RotationAnswer.{HasNumber, IsClosedIn, pairs_of, least_liked, matching_shown, IsCorrespondence}
+use Rattle.sm_shown.specs.RotationAnswer.{HasNumberedRotation, IsClosedIn, pairs_of, least_liked, matching_shown, IsCorrespondence}
 use Rattle.sm_shown.proofs.SeatingLemmas.{place_of-list, place_of-reviewer_of}
 
 -- What is shown of a chain.
@@ -31,17 +31,17 @@ use Rattle.sm_shown.proofs.SeatingLemmas.{place_of-list, place_of-reviewer_of}
 abbrev reviewer_pair : Seating → (ℕ × ℕ) → (ℕ × ℕ)
 reviewer_pair s pair = (pair.0, reviewer_of s pair.1)
 
-pairs_shown : (s : Seating) (rotation : List (ℕ × ℕ)) → pairs_of (seated_pairs s rotation) ≡ map (reviewer_pair s) rotation
+pairs_shown : (s : Seating) (rotation : List (ℕ × ℕ)) → pairs_of (seated_rotation s rotation) ≡ map (reviewer_pair s) rotation
 pairs_shown s [] = refl
 pairs_shown s (pair ∷ rotation) = ap (λ (t : List (ℕ × ℕ)). reviewer_pair s pair ∷ t) (pairs_shown s rotation)
 
 -- the pairs of a shown rotation are those of the rotation with their seats
-pub pairs_at_shown : (s : Seating) (rotations : List (List (ℕ × ℕ))) (k : ℕ) → slice_index_or (map (seated_pairs s) rotations) k [] ≡ seated_pairs s (rotation_at rotations k)
+pub pairs_at_shown : (s : Seating) (rotations : List (List (ℕ × ℕ))) (k : ℕ) → slice_index_or (map (seated_rotation s) rotations) k [] ≡ seated_rotation s (rotation_at rotations k)
 pairs_at_shown s rotations k = elim (cases_lt k (length rotations)) [
-  | inl here ↦ get_or-map (seated_pairs s) rotations k [] [] here
+  | inl here ↦ get_or-map (seated_rotation s) rotations k [] [] here
   | inr past ↦
-      get_or_past (map (seated_pairs s) rotations) k [] (omega (arith, past, length-map rotations (seated_pairs s)))
-      ∙ ap (seated_pairs s) (sym (get_or_past rotations k [] past))
+      get_or_past (map (seated_rotation s) rotations) k [] (omega (arith, past, length-map rotations (seated_rotation s)))
+      ∙ ap (seated_rotation s) (sym (get_or_past rotations k [] past))
 ]
 
 -- the shown numbers of what it needs are those of its needs, from 1
@@ -53,7 +53,7 @@ needs_shown needs k = elim (cases_lt k (length needs)) [
       ∙ ap numbers_of (sym (get_or_past needs k [] past))
 ]
 
-rotation_shown : (s : Seating) (rotations : List (List (ℕ × ℕ))) (k : ℕ) → pairs_of (slice_index_or (map (seated_pairs s) rotations) k []) ≡ map (reviewer_pair s) (rotation_at rotations k)
+rotation_shown : (s : Seating) (rotations : List (List (ℕ × ℕ))) (k : ℕ) → pairs_of (slice_index_or (map (seated_rotation s) rotations) k []) ≡ map (reviewer_pair s) (rotation_at rotations k)
 rotation_shown s rotations k = ap pairs_of (pairs_at_shown s rotations k) ∙ pairs_shown s (rotation_at rotations k)
 
 -- the pair in which a shown rotation has p
@@ -80,8 +80,8 @@ target_at-shown s rotation i on =
     ∙ ap (λ (pair : ℕ × ℕ). pair.1) (get_or-map (reviewer_pair s) rotation (next_in rotation i) (0, 0) (0, 0) (turn_in (length rotation) i on))
 
 -- the numbers that are shown are those of what is needed
-number_in : (needed : List ℕ) (i : ℕ) → Contains needed i → Contains (numbers_of needed) (number_of i)
-number_in needed i w = (w.0, omega (arith, w.1, length-map needed number_of), get_or-map number_of needed w.0 i (number_of i) w.1 ∙ ap number_of w.2)
+number_in : (needed : List ℕ) (i : ℕ) → Contains needed i → Contains (numbers_of needed) (rotation_number i)
+number_in needed i w = (w.0, omega (arith, w.1, length-map needed rotation_number), get_or-map rotation_number needed w.0 i (rotation_number i) w.1 ∙ ap rotation_number w.2)
 
 record IsNumberOf (needed : List ℕ) (n : ℕ) : Type 0 where
   at : ℕ
@@ -90,12 +90,12 @@ record IsNumberOf (needed : List ℕ) (n : ℕ) : Type 0 where
 
 number_out : (needed : List ℕ) (n : ℕ) → Contains (numbers_of needed) n → IsNumberOf needed n
 number_out needed n w =
-    let on : w.0 < length needed = omega (arith, w.1, length-map needed number_of) in
-    let e : n ≡ number_of (get_or needed w.0 0) = sym w.2 ∙ get_or-map number_of needed w.0 0 n on in
+    let on : w.0 < length needed = omega (arith, w.1, length-map needed rotation_number) in
+    let e : n ≡ rotation_number (get_or needed w.0 0) = sym w.2 ∙ get_or-map rotation_number needed w.0 0 n on in
     record { at = w.0; on = on; is = omega arith }
 
-member_of : (set : List Bool) (k n : ℕ) → n ≡ suc k → HasNumber set n → IsMember set k
-member_of set k n e h = subst (HasNumber set) e h
+member_of : (set : List Bool) (k n : ℕ) → n ≡ suc k → HasNumberedRotation set n → IsMember set k
+member_of set k n e h = subst (HasNumberedRotation set) e h
 
 -- a member is one of as many as the set has items
 member_below : (set : List Bool) (k : ℕ) → IsMember set k → k < length set
@@ -161,22 +161,22 @@ module _ {w : Written} {s : Seating} (h : IsSeating w s) {first : Places} {rotat
   -- shown closed sets are those of the chain
   closed_of_shown : (set : List Bool) → IsClosedIn (shown_of s first rotations needs) set → IsClosed s.market rotations set
   closed_of_shown set c = record {
-    one_each = c.one_each ∙ length-map rotations (seated_pairs s);
+    one_each = c.one_each ∙ length-map rotations (seated_rotation s);
     closed = λ i j a b member need.
-        let there : Contains (numbers_of (row needs j)) (number_of i) = number_in (row needs j) i ((needed j b).all i a need) in
-        let has = c.closed j (number_of i) member (subst (λ (x : List ℕ). Contains x (number_of i)) (sym (needs_shown needs j)) there) in
-        member_of set i (number_of i) (omega arith) has;
+        let there : Contains (numbers_of (row needs j)) (rotation_number i) = number_in (row needs j) i ((needed j b).all i a need) in
+        let has = c.closed j (rotation_number i) member (subst (λ (x : List ℕ). Contains x (rotation_number i)) (sym (needs_shown needs j)) there) in
+        member_of set i (rotation_number i) (omega arith) has;
   }
 
   closed_as_shown : (set : List Bool) → IsClosed s.market rotations set → IsClosedIn (shown_of s first rotations needs) set
   closed_as_shown set c = record {
-    one_each = c.one_each ∙ sym (length-map rotations (seated_pairs s));
+    one_each = c.one_each ∙ sym (length-map rotations (seated_rotation s));
     closed = λ k n member there.
         let k_in : k < length rotations = omega (arith, member_below set k member, c.one_each) in
         let d = number_out (row needs k) n (subst (λ (x : List ℕ). Contains x n) (needs_shown needs k) there) in
         let i = slice_index (row needs k) d.at in
-        let has : HasNumber set (suc i) = c.closed i k ((needed k k_in).sound d.at d.on) k_in member ((needed k k_in).each d.at d.on) in
-        subst (HasNumber set) (sym d.is) has;
+        let has : HasNumberedRotation set (suc i) = c.closed i k ((needed k k_in).sound d.at d.on) k_in member ((needed k k_in).each d.at d.on) in
+        subst (HasNumberedRotation set) (sym d.is) has;
   }
 
   -- a rotation that moves p moves it to a place of its list
@@ -203,11 +203,11 @@ module _ {w : Written} {s : Seating} (h : IsSeating w s) {first : Places} {rotat
   matching_is : (set : List Bool) → matching_shown w (shown_of s first rotations needs) set ≡ written_of s (matching_of s.market first rotations set).proposers
   matching_is set = ext_get_or None _ _ (long ∙ sym long') (λ p here. at p (omega (arith, here, long)))
     where
-      shown : Shown
+      shown : ShownRotations
       shown = shown_of s first rotations needs
 
       f : ℕ → Option ℕ
-      f p = option_map (λ seat. least_liked w (shown_of s first rotations needs) set p (place_of w.proposers p seat.reviewer) (length (map (seated_pairs s) rotations))) (first_at (shown_of s first rotations needs) p)
+      f p = option_map (λ seat. least_liked w (shown_of s first rotations needs) set p (place_of w.proposers p seat.reviewer) (length (map (seated_rotation s) rotations))) (first_at (shown_of s first rotations needs) p)
 
       g : ℕ → Option ℕ
       g p = option_map (written_place s p) (market_held (matching_of s.market first rotations set).proposers p)
@@ -232,7 +232,7 @@ module _ {w : Written} {s : Seating} (h : IsSeating w s) {first : Places} {rotat
       at : (p : ℕ) → p < length w.proposers → get_or (matching_shown w (shown_of s first rotations needs) set) p None ≡ get_or (written_of s (matching_of s.market first rotations set).proposers) p None
       at p here =
           let inside : p < length s.market.proposers = omega (arith, here, h.proposers) in
-          let count : length (map (seated_pairs s) rotations) ≡ length rotations = length-map rotations (seated_pairs s) in
+          let count : length (map (seated_rotation s) rotations) ≡ length rotations = length-map rotations (seated_rotation s) in
           let seat : first_at shown p ≡ first_seat s first p = get_or-map-range_with_len (first_seat s first) 0 (length s.market.proposers) p p None inside (omega arith) in
           let place = held_map s.market.proposers (λ p. option_map (λ i. worst_place s.market rotations set p i (length rotations)) (market_held first.proposers p)) p inside in
           get_or-map-range_with_len f 0 (length w.proposers) p p None here (omega arith)

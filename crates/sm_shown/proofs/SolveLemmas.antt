@@ -9,7 +9,7 @@ use Rattle.sm_instance.specs.declared.kinds.Kind.{Kind}
 use Rattle.sm_instance.specs.declared.kinds.Kind.TheVariants.{Marriage, Hospitals, Roommates}
 use Rattle.sm_instance.specs.declared.kinds.Side.TheVariants.{Proposers, Reviewers}
 use Rattle.sm_answer.specs.Lines.{line_or_none, lines_from}
-use Rattle.sm_answer.proofs.AnswerLemmas.{lines_alike, lines_all, one_all}
+use Rattle.sm_answer.proofs.AnswerLemmas.{lines_from-same, lines_all, one_all}
 use Rattle.sm_instance.specs.Matching.{held, IsMatching}
 use Rattle.sm_instance.specs.declared.inputs.Input.{Input}
 use Rattle.sm_instance.specs.declared.inputs.Input.TheVariants.{Two}
@@ -24,9 +24,12 @@ use Rattle.sm_report.specs.Sound.{IsLineOf, NamesSide, IsHeadOf}
 use Rattle.sm_seats.specs.Seating.{Seating, reviewer_of, written_of}
 use Rattle.sm_seats.specs.Correspondence.{IsSeating}
 use Rattle.sm_seats.proofs.SeatingLaws.{proposers_best, reviewers_best}
-use Rattle.sm_shown.specs.Answers.{pair_line, solve_lines, IsBestOf, IsSolution}
+use Rattle.sm_shown.specs.Answers.{pair_line, solve_lines, IsSolution}
+use Rattle.sm_shown.specs.PairLines.{seated_pair_line}
+use Rattle.sm_instance.specs.Stable.{IsBestOf}
 use Rattle.sm_shown.specs.NoneAnswer.{none_lines}
-use Rattle.sm_shown.specs.GivenLines.{seated_pair_line, IsMarketBestOf, solve_given}
+use Rattle.sm_shown.specs.GivenLines.{solve_given}
+use Rattle.sm_shown.specs.Found.{IsMarketBestOf}
 use Rattle.sm_shown.proofs.SeatingLemmas.{seat_cases}
 
 -- the pair of a proposer's seat is its pair in the instance
@@ -47,7 +50,7 @@ given_is : {w : Written} {s : Seating} → IsSeating w s → (m : Places) (side 
 given_is {w} {s} h m side st =
     let count : length s.market.proposers - 0 ≡ length w.proposers = omega (arith, h.proposers) in
     ap (λ t. LineData.Answer (HeadData.Solve (Some side)) ∷ (t ++ (LineData.End ∷ [])))
-    (ap (lines_from (seated_pair_line s m) 0) count ∙ lines_alike (seated_pair_line s m) (pair_line w (written_of s m.proposers)) (pair_alike h m st) 0 (length w.proposers))
+    (ap (lines_from (seated_pair_line s m) 0) count ∙ lines_from-same (seated_pair_line s m) (pair_line w (written_of s m.proposers)) (pair_alike h m st) 0 (length w.proposers))
 
 -- a pair of a matching is a line of the instance
 pub pair_sound : (w : Written) (places : List (Option ℕ)) → IsMatching w places → (p : ℕ) → All (IsLineOf (Two w)) (line_or_none (pair_line w places p))

@@ -4,9 +4,8 @@ use Rattle.std.specs.Option.{option_map}
 use Rattle.sm_answer.specs.Lines.{lines_from}
 use Rattle.sm_instance.specs.Written.{Written, entry}
 use Rattle.sm_instance.specs.Matching.{held}
-use Rattle.sm_instance.specs.Stable.{IsProposersBest, IsReviewersBest}
+use Rattle.sm_instance.specs.Stable.{IsBestOf}
 use Rattle.sm_instance.specs.declared.kinds.Side.{Side}
-use Rattle.sm_instance.specs.declared.kinds.Side.TheVariants.{Proposers, Reviewers}
 use Rattle.sm_report.specs.Heads.{HeadData}
 use Rattle.sm_report.specs.Lines.{LineData}
 
@@ -18,11 +17,6 @@ pair_line w places p = option_map (λ i. LineData.Pair p (entry w.proposers p i)
 abbrev pub solve_lines : Side → Written → List (Option ℕ) → List LineData
 solve_lines side w places =
     LineData.Answer (HeadData.Solve (Some side)) ∷ (lines_from (pair_line w places) 0 (length w.proposers) ++ LineData.End ∷ [])
-
--- the best stable matching of a side
-abbrev pub IsBestOf : Side → Written → List (Option ℕ) → Type 0
-IsBestOf Proposers w places = IsProposersBest w places
-IsBestOf Reviewers w places = IsReviewersBest w places
 
 -- the lines are the pairs of the best stable matching of a side
 pub record IsSolution (side : Side) (w : Written) (answer : List LineData) : Type 0 where

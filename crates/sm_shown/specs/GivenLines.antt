@@ -1,36 +1,19 @@
 -- The lines of answers as they are given, from what a market's values hold.
-use Rattle.std.specs.Prelude.{ℕ, ◌+◌, ◌-◌, Bool, true, false, List, [], ◌∷◌, ◌++◌, length, drop, Option, Some}
+use Rattle.std.specs.Prelude.{ℕ, ◌+◌, ◌-◌, Bool, true, false, List, [], ◌∷◌, ◌++◌, length, drop, Some}
 use Rattle.std.specs.List.{flat_map, range_with_len}
-use Rattle.std.specs.Option.{option_map}
 use Rattle.sm_answer.specs.Lines.{lines_from}
 use Rattle.sm_instance.specs.declared.kinds.Side.{Side}
 use Rattle.sm_instance.specs.declared.kinds.Side.TheVariants.{Proposers, Reviewers}
-use Rattle.sm_market.specs.Lists.{Lists, row, entry}
-use Rattle.sm_market.specs.Matching.{Places, held}
-use Rattle.sm_market.specs.Stable.{IsProposersBest, IsReviewersBest}
+use Rattle.sm_market.specs.Lists.{Lists}
+use Rattle.sm_market.specs.Matching.{Places}
 use Rattle.sm_report.specs.Heads.{HeadData}
 use Rattle.sm_report.specs.Lines.{LineData}
-use Rattle.sm_theory.specs.Chains.{rotation_at}
-use Rattle.sm_seats.specs.Seating.{Seating, reviewer_of}
+use Rattle.sm_seats.specs.Seating.{Seating}
 use Rattle.sm_shown.specs.Reduction.{seat_line, proposer_line, reviewer_line}
-use Rattle.sm_shown.specs.RotationLines.{seated_pairs, numbers_of}
-
--- the pair of a proposer that has a seat
-abbrev pub seated_pair_line : Seating → Places → ℕ → Option LineData
-seated_pair_line s m p = option_map (λ i. LineData.Pair p (reviewer_of s (entry s.market.proposers p i))) (held m.proposers p)
-
--- the best stable matching of a side of a market
-abbrev pub IsMarketBestOf : Side → Lists → Places → Type 0
-IsMarketBestOf Proposers l m = IsProposersBest l m
-IsMarketBestOf Reviewers l m = IsReviewersBest l m
+use Rattle.sm_shown.specs.RotationLines.{rotation_line, needs_line}
+use Rattle.sm_shown.specs.PairLines.{seated_pair_line}
 
 -- the two lines of a rotation: that of its pairs, and that of what it needs
-abbrev pub rotation_line : Seating → List (List (ℕ × ℕ)) → ℕ → LineData
-rotation_line s rotations k = LineData.Rotation (k + 1) (seated_pairs s (rotation_at rotations k))
-
-abbrev pub needs_line : List (List ℕ) → ℕ → LineData
-needs_line needs k = LineData.Needs (k + 1) (numbers_of (row needs k))
-
 abbrev pub two_lines : Seating → List (List (ℕ × ℕ)) → List (List ℕ) → ℕ → List LineData
 two_lines s rotations needs k = rotation_line s rotations k ∷ needs_line needs k ∷ []
 

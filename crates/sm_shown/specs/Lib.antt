@@ -1,4 +1,5 @@
 pub mod Answers
+pub mod PairLines
 pub mod Reduction
 pub mod RotationLines
 pub mod RotationAnswer

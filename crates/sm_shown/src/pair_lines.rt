@@ -20,7 +20,7 @@ pub struct PairLines<'a> {
 
 impl Numbered for PairLines<'_> {
     ghost use Rattle.std.specs.Prelude.{length};
-    ghost use Rattle.sm_shown.specs.GivenLines.{seated_pair_line};
+    ghost use Rattle.sm_shown.specs.PairLines.{seated_pair_line};
 
     ghost line = { λ pairs p. seated_pair_line pairs.seats.now pairs.pairing.now.places p };
 

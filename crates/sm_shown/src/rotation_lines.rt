@@ -6,8 +6,7 @@ ghost use Rattle.sm_market.specs.Vectors.{rows_of};
 ghost use Rattle.sm_report.specs.Lines.{line_of};
 ghost use Rattle.sm_theory.specs.Chains.{rotation_at};
 ghost use Rattle.sm_theory.specs.Values.{rotations_of};
-ghost use Rattle.sm_shown.specs.RotationLines.{seated_pairs, numbers_of};
-ghost use Rattle.sm_shown.specs.GivenLines.{rotation_line, needs_line};
+ghost use Rattle.sm_shown.specs.RotationLines.{seated_rotation, numbers_of, rotation_line, needs_line};
 
 use crate::seat_lines::seat_of;
 use sm_answer::Answer;
@@ -107,7 +106,7 @@ fn seated_pairs(
     pairs: &[(u32, u32)],
 ) -> Result<Vec<(u32, Seat)>, AllocError>
     requires { All (λ pair. pair.1 < length seats.now.seats) pairs.now }
-    ensures { IfOk result (λ shown. shown.items ≡ seated_pairs seats.now pairs.now) }
+    ensures { IfOk result (λ shown. shown.items ≡ seated_rotation seats.now pairs.now) }
 {
     let mut shown = Vec::with_capacity(alloc, pairs.len())?;
     for pair in pairs {

@@ -7,7 +7,7 @@ ghost use Rattle.sm_instance.specs.declared.inputs.Input.TheVariants.{Two};
 ghost use Rattle.sm_market.specs.Pairing.{IsPairingOf};
 ghost use Rattle.sm_seats.specs.Seating.{seating_of};
 ghost use Rattle.sm_seats.specs.Correspondence.{IsSeating};
-ghost use Rattle.sm_shown.specs.GivenLines.{IsMarketBestOf};
+ghost use Rattle.sm_shown.specs.Found.{IsMarketBestOf};
 ghost use Rattle.sm_shown.specs.Answers.{IsSolution};
 
 use crate::pair_lines::PairLines;

@@ -20,12 +20,12 @@ use Rattle.sm_theory.specs.Listings.{end_of}
 use Rattle.sm_listing.specs.ListAnswer.{last_line}
 use Rattle.sm_listing.specs.Started.{cursor_in}
 use Rattle.sm_survey.specs.SurveyAnswer.{vectors_of, tally_line, survey_lines, IsSurveyAnswer}
-use Rattle.sm_survey.specs.Surveying.{last_of, IsSurvey}
+use Rattle.sm_survey.specs.Surveys.{IsSurvey, last_vector}
 use Rattle.sm_survey.specs.Given.{AreLeft}
 use Rattle.sm_survey.specs.declared.survey.Survey.{Survey}
 
 -- the last line by the last vector that more follow, and by the end of the listing
-last_is : (end : Option (List ℕ)) (more : Bool) → last_line (last_of end more) true ≡ last_line end more
+last_is : (end : Option (List ℕ)) (more : Bool) → last_line (last_vector end more) true ≡ last_line end more
 last_is None true = refl
 last_is None false = refl
 last_is (Some v) true = refl

@@ -5,7 +5,7 @@ use Rattle.std.proofs.lemmas.List.Elements.{All-append, All-cons}
 use Rattle.sm_tally.specs.Fold.{Feed, Shown, all_after_feeds}
 use Rattle.sm_tally.proofs.Folds.{nothing_fed, one_more_fed}
 use Rattle.sm_instance.specs.Written.{Written}
-use Rattle.sm_instance.specs.Ranks.{IsBefore}
+use Rattle.sm_instance.specs.Ranks.{IsBefore, order_of}
 use Rattle.sm_theory.specs.Vectors.{IsAllowedVector}
 use Rattle.sm_theory.specs.Listings.{end_of, IsBehind, IsListing}
 use Rattle.sm_theory.proofs.Vectors.Order.{irreflexive, transitive}
@@ -13,12 +13,12 @@ use Rattle.sm_theory.proofs.Vectors.Listings.{more_listing, none_listed}
 use Rattle.sm_seats.specs.Vectors.{IsAllowedRankVector}
 use Rattle.sm_seats.proofs.VectorLaws.{vector_written, listing_written}
 use Rattle.sm_lister.specs.Listers.{Lister, IsListed, IsNextOf, IsAtEnd, IsSameLister}
-use Rattle.sm_lister.specs.Rests.{Lists}
+use Rattle.sm_lister.specs.Rests.{IsListingOf}
 use Rattle.sm_lister.proofs.RestLemmas.{same_lists}
-use Rattle.sm_listing.specs.ListAnswer.{order_of}
 use Rattle.sm_listing.specs.Started.{cursor_in, IsListerOf}
 use Rattle.sm_survey.specs.SurveyAnswer.{IsFeedOf, vectors_of, AreSurveyed}
-use Rattle.sm_survey.specs.Surveying.{last_of, IsSurvey, IsFed, IsUnderway, AreTold, IsLast}
+use Rattle.sm_survey.specs.Surveying.{IsFed, IsUnderway, AreTold, IsLastVector}
+use Rattle.sm_survey.specs.Surveys.{IsSurvey, last_vector}
 use Rattle.sm_survey.specs.declared.survey.Survey.{Survey}
 
 -- nothing is told yet
@@ -34,7 +34,7 @@ begun {w} {s} tallies h = record {
   cursor = h.cursor;
   whole = λ n rest more x.
       let e : n ≡ 0 + n = omega arith in
-      subst (λ k. Lists s None k rest more) e (subst (λ c. Lists s c n rest more) h.cursor x);
+      subst (λ k. IsListingOf s None k rest more) e (subst (λ c. IsListingOf s c n rest more) h.cursor x);
 }
 
 -- what a lister of the instance lists is a rank vector
@@ -92,11 +92,11 @@ fed_more {w} {s} {t} {k} {before} {after} {then} v h same found at fed =
       count = omega (arith, long, h.count);
       cursor = at ∙ sym (end_more None (vectors_of h.feeds) v) ∙ ap (end_of None) (sym vs);
       whole = λ n rest more x.
-          let first : Lists s s.cursor (suc n) (v ∷ rest) more = more_listing (irreflexive s.order) (transitive s.order) next (same_lists (same_back h.same) (subst (λ c. Lists h.start c n rest more) at x)) in
+          let first : IsListingOf s s.cursor (suc n) (v ∷ rest) more = more_listing (irreflexive s.order) (transitive s.order) next (same_lists (same_back h.same) (subst (λ c. IsListingOf h.start c n rest more) at x)) in
           let all = h.whole (suc n) (v ∷ rest) more (same_lists h.same first) in
           let e : k + suc n ≡ (k + 1) + n = omega arith in
           let f : vectors_of h.feeds ++ v ∷ rest ≡ vectors_of (h.feeds ++ fed.feed ∷ []) ++ rest = sym (append_assoc (vectors_of h.feeds) (v ∷ []) rest) ∙ ap (λ x. x ++ rest) (sym vs) in
-          subst (λ out. Lists h.start None ((k + 1) + n) out more) f (subst (λ m. Lists h.start None m (vectors_of h.feeds ++ v ∷ rest) more) e all);
+          subst (λ out. IsListingOf h.start None ((k + 1) + n) out more) f (subst (λ m. IsListingOf h.start None m (vectors_of h.feeds ++ v ∷ rest) more) e all);
     }
 
 -- a lister at its end stays there
@@ -112,19 +112,19 @@ told_all {w} {s} {t} {k} limit h within same end = record {
     fed = h.fed;
     count = h.count;
     cursor = end.1 ∙ h.cursor;
-    whole = λ n rest more x. h.whole n rest more (subst (λ c. Lists h.start c n rest more) end.1 x);
+    whole = λ n rest more x. h.whole n rest more (subst (λ c. IsListingOf h.start c n rest more) end.1 x);
   };
   within = within;
   all = λ less v one behind. end.0 v (same_one same one) (subst (λ o. IsBehind (IsBefore o) s.cursor v) same.order (subst (λ c. IsBehind (IsBefore t.order) c v) end.1 behind));
 }
 
 -- what the lister listed is what is listed of the instance
-listed_written : {w : Written} {s : Lister} {limit : ℕ} {out : List (List ℕ)} {more : Bool} → IsListerOf w None s → Lists s None limit out more
+listed_written : {w : Written} {s : Lister} {limit : ℕ} {out : List (List ℕ)} {more : Bool} → IsListerOf w None s → IsListingOf s None limit out more
     → IsListing (IsBefore (order_of w)) (IsAllowedRankVector w) None limit out more
 listed_written {w} {s} {limit} {out} {more} h x = listing_written h.seating (rw (h.order, h.market, h.levels, h.forced, h.forbidden) at x)
 
 surveyed : {w : Written} {s : Lister} {k : ℕ} {before after : List Shown} (limit n : ℕ) (more : Bool) → (h : IsUnderway w s k before after)
-    → Lists h.start None n (vectors_of h.feeds ++ []) more → n ≡ limit → AreSurveyed w limit h.feeds more
+    → IsListingOf h.start None n (vectors_of h.feeds ++ []) more → n ≡ limit → AreSurveyed w limit h.feeds more
 surveyed {w} limit n more h x is =
     let out = vectors_of h.feeds ++ [] in
     let y = subst (λ m. IsListing (IsBefore (order_of w)) (IsAllowedRankVector w) None m out more) is (listed_written h.started x) in
@@ -138,7 +138,7 @@ pub ended : {w : Written} {s : Lister} {k : ℕ} {before after : List Shown} (li
     → survey.listed ≡ k → survey.last ≡ None → IsSurvey w limit before after survey
 ended {w} {s} {k} limit survey told less listed last =
     let h = told.underway in
-    let nothing : Lists s s.cursor (limit - k) [] false = none_listed (irreflexive s.order) (transitive s.order) (told.all less) in
+    let nothing : IsListingOf s s.cursor (limit - k) [] false = none_listed (irreflexive s.order) (transitive s.order) (told.all less) in
     let e : k + (limit - k) ≡ limit = omega arith in
     record {
       feeds = h.feeds;
@@ -151,7 +151,7 @@ ended {w} {s} {k} limit survey told less listed last =
 
 -- as many are listed as are wanted
 pub limited : {w : Written} {s : Lister} {k : ℕ} {before after : List Shown} (limit : ℕ) (survey : Survey) → AreTold w limit s k before after → limit ≤ k
-    → survey.listed ≡ k → IsLast s survey.last → IsSurvey w limit before after survey
+    → survey.listed ≡ k → IsLastVector s survey.last → IsSurvey w limit before after survey
 limited {w} {s} {k} limit survey told full listed l =
     let h = told.underway in
     let e : k + 0 ≡ limit = omega (arith, full, told.within) in
@@ -161,5 +161,5 @@ limited {w} {s} {k} limit survey told full listed l =
       surveyed = surveyed limit (k + 0) l.more h (h.whole 0 [] l.more (same_lists h.same l.listing)) e;
       fed = h.fed;
       listed = listed ∙ h.count;
-      last = l.is ∙ ap (λ c. last_of c l.more) h.cursor;
+      last = l.is ∙ ap (λ c. last_vector c l.more) h.cursor;
     }

@@ -1,3 +1,5 @@
 pub mod SurveyAnswer
+pub mod Surveys
 pub mod Surveying
+pub mod Regrets
 pub mod Given

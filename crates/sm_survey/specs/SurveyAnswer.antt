@@ -5,12 +5,12 @@ use Rattle.sm_tally.specs.Fold.{Feed, Shown, all_after_feeds}
 use Rattle.sm_instance.specs.Written.{Written}
 use Rattle.sm_instance.specs.Stable.{IsStable}
 use Rattle.sm_instance.specs.Allowed.{IsAllowed}
-use Rattle.sm_instance.specs.Ranks.{IsBefore, rank_vector_of, regret_of}
+use Rattle.sm_instance.specs.Ranks.{IsBefore, rank_vector_of, regret_of, order_of}
 use Rattle.sm_report.specs.Heads.{HeadData}
 use Rattle.sm_report.specs.Lines.{LineData}
 use Rattle.sm_theory.specs.Listings.{end_of, IsListing}
 use Rattle.sm_seats.specs.Vectors.{IsAllowedRankVector}
-use Rattle.sm_listing.specs.ListAnswer.{order_of, last_line}
+use Rattle.sm_listing.specs.ListAnswer.{last_line}
 
 -- what a tally is told of a stable matching that the conditions of the instance allow: its rank vector and its regret
 -- (Gusfield and Irving 1989, section 3.4.1)

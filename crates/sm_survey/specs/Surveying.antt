@@ -1,29 +1,15 @@
--- What came of a survey, and how it comes about.
-use Rattle.std.specs.Prelude.{◌≡◌, ℕ, ◌+◌, ◌<◌, ◌≤◌, Bool, true, false, List, [], ◌++◌, length, Vec, Option, None}
+-- How a survey comes about.
+use Rattle.std.specs.Prelude.{◌≡◌, ℕ, ◌+◌, ◌<◌, ◌≤◌, Bool, List, [], ◌++◌, length, Vec, Option, None}
 use Rattle.std.specs.List.{All}
 use Rattle.std.specs.declared.alloc.Global.{Global}
 use Rattle.sm_tally.specs.Fold.{Feed, Shown, all_after_feed, all_after_feeds}
 use Rattle.sm_instance.specs.Written.{Written}
 use Rattle.sm_theory.specs.Listings.{end_of}
 use Rattle.sm_lister.specs.Listers.{Lister, IsAtEnd, IsSameLister}
-use Rattle.sm_lister.specs.Rests.{Lists}
+use Rattle.sm_lister.specs.Rests.{IsListingOf}
 use Rattle.sm_listing.specs.Started.{cursor_in, IsListerOf}
-use Rattle.sm_survey.specs.SurveyAnswer.{IsFeedOf, vectors_of, AreSurveyed}
-use Rattle.sm_survey.specs.declared.survey.Survey.{Survey}
-
--- the last vector, where more follow it
-abbrev pub last_of : Option (List ℕ) → (more : Bool) → Option (List ℕ)
-last_of end true = end
-last_of end false = None
-
--- the tallies, which showed `before`, were told of each matching that is listed in turn, and show `after`
-pub record IsSurvey (w : Written) (limit : ℕ) (before after : List Shown) (s : Survey) : Type 0 where
-  pub feeds : List Feed
-  pub more : Bool
-  pub surveyed : AreSurveyed w limit feeds more
-  pub fed : after ≡ all_after_feeds feeds before
-  pub listed : s.listed ≡ length feeds
-  pub last : cursor_in s.last ≡ last_of (end_of None (vectors_of feeds)) more
+use Rattle.sm_survey.specs.SurveyAnswer.{IsFeedOf, vectors_of}
+use Rattle.sm_survey.specs.Surveys.{last_vector}
 
 -- the tallies are told of the matching of a rank vector
 pub record IsFed (w : Written) (v : List ℕ) (before after : List Shown) : Type 0 where
@@ -43,8 +29,8 @@ pub record IsUnderway (w : Written) (t : Lister) (listed : ℕ) (before after : 
   pub fed : after ≡ all_after_feeds feeds before
   pub count : listed ≡ length feeds
   pub cursor : t.cursor ≡ end_of None (vectors_of feeds)
-  pub whole : (n : ℕ) (rest : List (List ℕ)) (more : Bool) → Lists start t.cursor n rest more
-      → Lists start None (listed + n) (vectors_of feeds ++ rest) more
+  pub whole : (n : ℕ) (rest : List (List ℕ)) (more : Bool) → IsListingOf start t.cursor n rest more
+      → IsListingOf start None (listed + n) (vectors_of feeds ++ rest) more
 
 -- as many as the limit, or all that there are
 pub record AreTold (w : Written) (limit : ℕ) (t : Lister) (listed : ℕ) (before after : List Shown) : Type 0 where
@@ -53,7 +39,7 @@ pub record AreTold (w : Written) (limit : ℕ) (t : Lister) (listed : ℕ) (befo
   pub all : listed < limit → IsAtEnd t
 
 -- the last vector of a lister, where another one follows it
-pub record IsLast (s : Lister) (last : Option (Vec ℕ Global)) : Type 0 where
+pub record IsLastVector (s : Lister) (last : Option (Vec ℕ Global)) : Type 0 where
   pub more : Bool
-  pub listing : Lists s s.cursor 0 [] more
-  pub is : cursor_in last ≡ last_of s.cursor more
+  pub listing : IsListingOf s s.cursor 0 [] more
+  pub is : cursor_in last ≡ last_vector s.cursor more

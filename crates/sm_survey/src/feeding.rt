@@ -6,9 +6,11 @@ ghost use Rattle.sm_seats.specs.Seating.{seating_of};
 ghost use Rattle.sm_seats.specs.Correspondence.{IsSeating};
 ghost use Rattle.sm_seats.specs.Vectors.{IsAllowedRankVector};
 ghost use Rattle.sm_listing.specs.Started.{IsListerOf};
-ghost use Rattle.sm_survey.specs.Surveying.{IsSurvey, IsFed, AreTold, IsLast};
+ghost use Rattle.sm_survey.specs.Surveying.{IsFed, AreTold, IsLastVector};
+ghost use Rattle.sm_survey.specs.Surveys.{IsSurvey};
+ghost use Rattle.sm_survey.specs.Regrets.{AreKeptOf};
 
-use crate::regrets::regret_at;
+use crate::regrets::Regrets;
 use crate::survey::Survey;
 use sm_instance::Instance;
 use sm_lister::Lister;
@@ -21,8 +23,8 @@ use std::alloc::{AllocError, Global};
 /// regret. They come in the order of `list`: that of their rank vectors, at most `limit` from the first one on (after Gusfield
 /// and Irving 1989, section 3.3).
 ///
-/// Takes the time and the memory of [`start_list`], and then for each matching that of a step of the lister, in which no memory
-/// is taken, and time in proportion to the proposers and to the tallies.
+/// Takes the time and the memory of [`start_list`], and two numbers for each proposer, and then for each matching the time of a
+/// step of the lister, in which no memory is taken, and time in proportion to the proposers and to the tallies.
 ///
 /// # Errors
 ///
@@ -41,7 +43,8 @@ pub fn take_survey(
         (map (λ t. shown_as (kind t) (shown t)) tallies.new.items) survey) }
 {
     let mut lister = start_list(alloc, instance, seats, &None)?;
-    let listed = feed_listed(&mut lister, instance, limit, tallies);
+    let mut regrets = Regrets::new(alloc, instance)?;
+    let listed = feed_listed(&mut lister, &mut regrets, instance, limit, tallies);
     let last = if listed < limit {
         None
     } else {
@@ -53,11 +56,13 @@ pub fn take_survey(
 /// Tells each tally of the matchings that a lister lists, at most so many, and says how many they are.
 fn feed_listed(
     lister: &mut Lister,
+    regrets: &mut Regrets,
     instance: &Instance,
     limit: u32,
     tallies: &mut Vec<Box<dyn Tally>>,
 ) -> u32
-    requires { IsListerOf instance.now None lister.old }
+    requires lister { IsListerOf instance.now None lister.old }
+    requires regrets { AreKeptOf instance.now regrets.old }
     ensures { AreTold instance.now limit lister.new result (map (λ t. shown_as (kind t) (shown t))
         tallies.old.items)
         (map (λ t. shown_as (kind t) (shown t)) tallies.new.items) }
@@ -67,26 +72,33 @@ fn feed_listed(
         if !lister.advance() {
             return listed;
         }
-        feed(tallies, instance, lister.current());
+        feed(tallies, regrets, instance, lister.current());
         listed += 1;
     }
     listed
 }
 
 /// Tells each tally of the matching of a rank vector.
-fn feed(tallies: &mut Vec<Box<dyn Tally>>, instance: &Instance, ranks: &[u32])
-    requires { IsAllowedRankVector instance.now ranks.now }
-    ensures { IsFed instance.now ranks.now (map (λ t. shown_as (kind t) (shown t))
+fn feed(
+    tallies: &mut Vec<Box<dyn Tally>>,
+    regrets: &mut Regrets,
+    instance: &Instance,
+    ranks: &[u32],
+)
+    requires vector { IsAllowedRankVector instance.now ranks.now }
+    requires regrets { AreKeptOf instance.now regrets.old }
+    ensures fed { IsFed instance.now ranks.now (map (λ t. shown_as (kind t) (shown t))
         tallies.old.items)
         (map (λ t. shown_as (kind t) (shown t)) tallies.new.items) }
+    ensures regrets { AreKeptOf instance.now regrets.new }
 {
-    let regret = regret_at(instance, ranks);
+    let regret = regrets.regret(instance, ranks);
     feed_each(tallies, ranks, regret);
 }
 
 /// The last vector to which a lister came, where another one follows it.
 fn last_of(alloc: Global, lister: &mut Lister) -> Result<Option<Vec<u32>>, AllocError>
-    ensures { IfOk result (λ last. IsLast lister.old last) }
+    ensures { IfOk result (λ last. IsLastVector lister.old last) }
 {
     let last = lister.cursor(alloc)?;
     if lister.advance() { Ok(last) } else { Ok(None) }

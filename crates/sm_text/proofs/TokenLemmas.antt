@@ -99,17 +99,17 @@ tokens_at line from at is =
     tokens_behind_blanks rest ∙ ap tokens (drop-drop (prefix_len is_blank rest) from line ∙ ap (λ n. drop n line) (sym is))
 
 -- the first token, by the byte there
-pub token_here : (line : List ℕ) (from at : ℕ) → at ≡ blanks_end line from → at < length line
+pub token_at-here : (line : List ℕ) (from at : ℕ) → at ≡ blanks_end line from → at < length line
     → token_at line from ≡ first_token line at (get_or line at 0 ∷ drop (at + 1) line)
-token_here line from at is inside = ap (λ n. first_token line n (drop n line)) (sym is) ∙ at_drop_more (first_token line at) line at 0 inside
+token_at-here line from at is inside = ap (λ n. first_token line n (drop n line)) (sym is) ∙ at_drop_more (first_token line at) line at 0 inside
 
 -- no token is left
-pub over_at_end : (line : List ℕ) (from at : ℕ) → at ≡ blanks_end line from → length line ≤ at → tokens (drop from line) ≡ []
-over_at_end line from at is past = tokens_at line from at is ∙ at_drop_all tokens line at past
+pub tokens-at_end : (line : List ℕ) (from at : ℕ) → at ≡ blanks_end line from → length line ≤ at → tokens (drop from line) ≡ []
+tokens-at_end line from at is past = tokens_at line from at is ∙ at_drop_all tokens line at past
 
 -- where a comment stands next there is no token
-pub over_at_hash : (line : List ℕ) (from at : ℕ) → at ≡ blanks_end line from → at < length line → get_or line at 0 ≡ 35 → tokens (drop from line) ≡ []
-over_at_hash line from at is inside hash =
+pub tokens-at_hash : (line : List ℕ) (from at : ℕ) → at ≡ blanks_end line from → at < length line → get_or line at 0 ≡ 35 → tokens (drop from line) ≡ []
+tokens-at_hash line from at is inside hash =
     tokens_at line from at is ∙ at_drop_more tokens line at 0 inside ∙ tokens_of_hash (get_or line at 0) (drop (at + 1) line) hash
 
 -- a run leads
@@ -147,9 +147,9 @@ other_leads line from at is inside no_hash no_name =
     }
 
 -- which byte makes which token
-pub mark_first : (line rest : List ℕ) (at b : ℕ) → eqb b 35 ≡ false → is_name_byte b ≡ false → is_mark b ≡ true → first_token line at (b ∷ rest) ≡ Mark at
-mark_first line rest at b no_hash no_name mark = rw (no_hash, no_name, mark) refl
+pub first_token-mark : (line rest : List ℕ) (at b : ℕ) → eqb b 35 ≡ false → is_name_byte b ≡ false → is_mark b ≡ true → first_token line at (b ∷ rest) ≡ Mark at
+first_token-mark line rest at b no_hash no_name mark = rw (no_hash, no_name, mark) refl
 
 -- a byte that begins nothing is a token by itself
-pub bad_first : (line rest : List ℕ) (at b : ℕ) → eqb b 35 ≡ false → is_name_byte b ≡ false → is_mark b ≡ false → first_token line at (b ∷ rest) ≡ Bad at
-bad_first line rest at b no_hash no_name no_mark = rw (no_hash, no_name, no_mark) refl
+pub first_token-bad : (line rest : List ℕ) (at b : ℕ) → eqb b 35 ≡ false → is_name_byte b ≡ false → is_mark b ≡ false → first_token line at (b ∷ rest) ≡ Bad at
+first_token-bad line rest at b no_hash no_name no_mark = rw (no_hash, no_name, no_mark) refl

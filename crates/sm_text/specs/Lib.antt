@@ -3,6 +3,7 @@ pub mod Lines
 pub mod Name
 pub mod Numbers
 pub mod Tokens
+pub mod Slices
 pub mod Writer
 pub mod Refusal
 pub mod Witnesses

@@ -15,16 +15,16 @@ pub struct LineWriter {
 
 impl Model for LineWriter {
     ghost use Rattle.std.specs.Prelude.{vec_capacity};
-    ghost use Rattle.sm_text.specs.Writer.{Written};
+    ghost use Rattle.sm_text.specs.Writer.{WriterData};
 
-    ghost Value = { Written };
+    ghost Value = { WriterData };
 
     ghost view = { λ w. record { bytes = w.bytes.items; room = vec_capacity w.bytes } };
 }
 
 impl LineWriter {
     ghost use Rattle.std.specs.Fmt.{signed_decimal};
-    ghost use Rattle.sm_text.specs.Writer.{Puts};
+    ghost use Rattle.sm_text.specs.Writer.{PutsPiece};
 
     /// An empty writer with room for `room` bytes.
     pub fn new(alloc: Global, room: usize) -> Result<LineWriter, AllocError>
@@ -54,7 +54,7 @@ impl LineWriter {
     /// Puts bytes behind what it holds. Where they fit the room that is left it can't fail; where it fails it holds what
     /// it held.
     pub fn put_bytes(&mut self, piece: &[u8]) -> Result<(), AllocError>
-        ensures { Puts self.old self.new piece.now result }
+        ensures { PutsPiece self.old self.new piece.now result }
     {
         self.bytes.extend_from_slice(piece)
     }
@@ -62,7 +62,7 @@ impl LineWriter {
     /// Puts a number in decimal behind what it holds. Where it fits the room that is left it can't fail; where it fails it
     /// holds what it held.
     pub fn put_number(&mut self, value: u64) -> Result<(), AllocError>
-        ensures { Puts self.old self.new (decimal value) result }
+        ensures { PutsPiece self.old self.new (decimal value) result }
     {
         let mut digits = [0u8; MOST_DIGITS];
         let start = write_digits(value, &mut digits);
@@ -72,7 +72,7 @@ impl LineWriter {
     /// Puts a signed number in decimal behind what it holds, with `-` before it where it is below 0. Where it fits the
     /// room that is left it can't fail; where it fails it holds what it held.
     pub fn put_signed(&mut self, value: i64) -> Result<(), AllocError>
-        ensures { Puts self.old self.new (signed_decimal value) result }
+        ensures { PutsPiece self.old self.new (signed_decimal value) result }
     {
         let mut text = [0u8; MOST_DIGITS + 1];
         let start = write_digits(value.unsigned_abs(), &mut text[1..]);

@@ -4,4 +4,5 @@ pub mod Bridge
 pub mod Spots
 pub mod Pairing
 pub mod Partitions
+pub mod Kept
 pub mod Witness

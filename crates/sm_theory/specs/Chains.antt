@@ -1,6 +1,6 @@
 -- Complete chains of rotations, and the two kinds of predecessor.
 use Rattle.std.specs.Prelude.{◌≡◌, ℕ, zero, suc, ◌<◌, ◌⊎◌, List, [], length, slice_index, slice_index_or, Contains}
-use Rattle.sm_market.specs.Lists.{Lists, place_of}
+use Rattle.sm_market.specs.Lists.{Lists, row, place_of}
 use Rattle.sm_market.specs.Matching.{Places}
 use Rattle.sm_market.specs.Stable.{IsProposersBest}
 use Rattle.sm_theory.specs.Rotations.{proposer_at, reviewer_at, target_at, next_in, IsExposed, IsLowestExposed, eliminated}
@@ -62,3 +62,8 @@ pub record AreNeedsOf (l : Lists) (rotations : List (List (ℕ × ℕ))) (j : �
   pub sound : (a : ℕ) → a < length needs → slice_index needs a < length rotations
   pub each : (a : ℕ) → a < length needs → IsNeededBy l (rotation_at rotations (slice_index needs a)) (rotation_at rotations j)
   pub all : (i : ℕ) → i < length rotations → IsNeededBy l (rotation_at rotations i) (rotation_at rotations j) → Contains needs i
+
+-- for each rotation the numbers of its predecessors, rising
+pub record AreNeeds (l : Lists) (rotations : List (List (ℕ × ℕ))) (needs : List (List ℕ)) : Type 0 where
+  pub one_each : length needs ≡ length rotations
+  pub each : (j : ℕ) → j < length rotations → AreNeedsOf l rotations j (row needs j)

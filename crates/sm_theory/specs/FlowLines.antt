@@ -56,7 +56,7 @@ abbrev pub IsLineBefore : FlowLine → FlowLine → Type 0
 IsLineBefore x y = AreEndsBefore x.from x.to y.from y.to
 
 -- positive amounts on edges of a net, in the order of their ends, so that each edge comes once
-pub record AreLines (net : Net) (lines : List FlowLine) : Type 0 where
+pub record AreFlowLines (net : Net) (lines : List FlowLine) : Type 0 where
   pub rising : (a b : ℕ) → a < b → b < length lines → IsLineBefore (line_at lines a) (line_at lines b)
   pub positive : (a : ℕ) → a < length lines → 0 < (line_at lines a).amount
   pub edges : (a : ℕ) → a < length lines → HasEdge net (line_at lines a).from (line_at lines a).to

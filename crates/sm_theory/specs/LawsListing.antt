@@ -8,7 +8,7 @@ use Rattle.sm_theory.specs.Rotations.{DoesMove, reviewer_before, reviewer_after}
 use Rattle.sm_theory.specs.Chains.{rotation_at, IsCompleteChain}
 use Rattle.sm_theory.specs.ClosedSets.{IsMember, IsClosed, matching_of}
 use Rattle.sm_theory.specs.Vectors.{IsOrder, IsBefore, IsAllowed, IsWithin, IsAllowedVector}
-use Rattle.sm_theory.specs.Listings.{IsNext, IsNoneBehind, end_of, IsListing}
+use Rattle.sm_theory.specs.Listings.{IsNextListed, IsNoneBehind, end_of, IsListing}
 
 -- of two closed sets one is inside the other exactly where no proposer stands worse in its matching
 -- (Gusfield and Irving 1989, theorem 2.5.7)
@@ -60,7 +60,7 @@ abbrev pub NextVector : Type 0
 NextVector = (l : Lists) (first : Places) (rotations : List (List (ℕ × ℕ))) (levels : List (List ℕ))
     (forced forbidden : List (ℕ × ℕ)) (order : List ℕ) (cursor : Option (List ℕ))
     → IsMarket l → IsCompleteChain l first rotations → IsOrder (length l.proposers) order
-    → ((v : List ℕ) × IsNext (IsBefore order) (IsAllowedVector l levels forced forbidden) cursor v)
+    → ((v : List ℕ) × IsNextListed (IsBefore order) (IsAllowedVector l levels forced forbidden) cursor v)
     ⊎ IsNoneBehind (IsBefore order) (IsAllowedVector l levels forced forbidden) cursor
 
 -- for each cursor and each limit there is a listing

@@ -13,6 +13,7 @@ pub mod StablePlaces
 pub mod Regrets
 pub mod Laws
 pub mod Rooms
+pub mod RoomsKept
 pub mod Partitions
 pub mod LawsRooms
 pub mod LawsListing

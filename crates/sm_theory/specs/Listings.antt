@@ -8,7 +8,7 @@ IsBehind Before None v = Unit {0}
 IsBehind Before (Some c) v = Before c v
 
 -- the least of those in question that are behind a cursor
-pub record IsNext (Before : List ℕ → List ℕ → Type 0) (IsOne : List ℕ → Type 0) (cursor : Option (List ℕ)) (v : List ℕ) : Type 0 where
+pub record IsNextListed (Before : List ℕ → List ℕ → Type 0) (IsOne : List ℕ → Type 0) (cursor : Option (List ℕ)) (v : List ℕ) : Type 0 where
   pub one : IsOne v
   pub behind : IsBehind Before cursor v
   pub least : (w : List ℕ) → IsOne w → IsBehind Before cursor w → (v ≡ w) ⊎ Before v w

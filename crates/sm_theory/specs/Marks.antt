@@ -86,8 +86,8 @@ pub record IsPassedBy (l : Lists) (rotation : List (ℕ × ℕ)) (n : ℕ) (mark
       IsBetween (marks_of marks p) (place_of l.proposers p (reviewer_at rotation pair)) (place_of l.proposers p (target_at rotation pair)) i
 
 -- what the first n pairs of a rotation are found to need
-abbrev pub IsFound : Lists → List (ℕ × ℕ) → ℕ → List (Option ℕ) → List (List (Option ℕ)) → ℕ → Type 0
-IsFound l rotation n notes marks i = IsLastOf rotation n notes i ⊎ IsPassedBy l rotation n marks i
+abbrev pub IsFoundNeed : Lists → List (ℕ × ℕ) → ℕ → List (Option ℕ) → List (List (Option ℕ)) → ℕ → Type 0
+IsFoundNeed l rotation n notes marks i = IsLastOf rotation n notes i ⊎ IsPassedBy l rotation n marks i
 
 -- what each of the vectors holds
 abbrev pub marks_in : List (Vec (Option ℕ) Global) → List (List (Option ℕ))

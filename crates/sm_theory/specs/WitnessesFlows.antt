@@ -1,5 +1,7 @@
 -- A net that is written out, and what is known of its flows and cuts.
-use Rattle.std.specs.Prelude.{◌≡◌, ℕ, zero, suc, true, false, List, [], ◌∷◌, ℤ, pos, negsuc}
+use Rattle.std.specs.Prelude.{◌≡◌, ℕ, zero, suc, true, false, List, [], ◌∷◌, Some, ℤ, pos, negsuc}
+use Rattle.sm_market.specs.Lists.{Lists}
+use Rattle.sm_market.specs.Matching.{Places}
 use Rattle.sm_theory.specs.Chains.{stage}
 use Rattle.sm_theory.specs.ClosedSets.{matching_of}
 use Rattle.sm_theory.specs.Vectors.{IsAllowed}
@@ -7,7 +9,7 @@ use Rattle.sm_theory.specs.Weights.{weight_of}
 use Rattle.sm_theory.specs.Witnesses.{three_cycle, three_cycle_first, three_cycle_chain}
 use Rattle.sm_theory.specs.Net.{Net, sink_of, IsUnbounded, NoneLeaves, IsCut, cut_of, IsReachable}
 use Rattle.sm_theory.specs.Flows.{IsFlow, flow_value, IsResidualStep, IsResidualReach}
-use Rattle.sm_theory.specs.Conditions.{entry_node, exit_node, net_of, IsNetGround}
+use Rattle.sm_theory.specs.Conditions.{entry_node, exit_node, allows_nothing, net_of, IsNetGround}
 
 -- the places of the three proposers and being unmatched, as ranks
 abbrev pub three_cycle_levels : List (List ℕ)
@@ -78,3 +80,23 @@ MiddleLevel = (entry_node three_cycle three_cycle_levels three_cycle_first three
     × IsCut forbidden_net (false ∷ false ∷ [])
     × IsCut forbidden_net (true ∷ true ∷ [])
     × (¬ IsCut forbidden_net (true ∷ false ∷ []))
+
+-- a proposer and a reviewer who list each other alone
+abbrev pub lone_pair : Lists
+lone_pair = record { proposers = (0 ∷ []) ∷ []; reviewers = (0 ∷ []) ∷ [] }
+
+-- their one stable matching
+abbrev pub lone_pair_first : Places
+lone_pair_first = record { proposers = Some 0 ∷ []; reviewers = Some 0 ∷ [] }
+
+-- their place and being unmatched, as ranks
+abbrev pub lone_pair_levels : List (List ℕ)
+lone_pair_levels = (1 ∷ 2 ∷ []) ∷ []
+
+-- Nothing is allowed where proposer 0 of the three, who always has a partner, is forced to have none, or where the lone pair is
+-- forbidden. Something may be where the level in the middle is forced or forbidden, or the lone pair forced.
+abbrev pub NothingAllowed : Type 0
+NothingAllowed = (allows_nothing three_cycle three_cycle_levels ((0, 4) ∷ []) [] three_cycle_first three_cycle_chain ≡ true)
+    × (allows_nothing lone_pair lone_pair_levels [] ((0, 1) ∷ []) lone_pair_first [] ≡ true)
+    × (allows_nothing three_cycle three_cycle_levels middle middle three_cycle_first three_cycle_chain ≡ false)
+    × (allows_nothing lone_pair lone_pair_levels ((0, 1) ∷ []) [] lone_pair_first [] ≡ false)

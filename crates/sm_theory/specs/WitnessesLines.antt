@@ -3,7 +3,7 @@ use Rattle.std.specs.Prelude.{◌≡◌, ℕ, List, [], ◌∷◌}
 use Rattle.sm_theory.specs.Flows.{IsFlow, flow_value}
 use Rattle.sm_theory.specs.WitnessesFlows.{three_cycle_net}
 use Rattle.sm_theory.specs.declared.flow_lines.FlowLine.{FlowLine}
-use Rattle.sm_theory.specs.FlowLines.{amount_on, amount_from, IsConserved, IsNewEdge, IsWithinRoom, AreLines}
+use Rattle.sm_theory.specs.FlowLines.{amount_on, amount_from, IsConserved, IsNewEdge, IsWithinRoom, AreFlowLines}
 
 -- an amount from one node to another, as a line
 abbrev pub line : (from to amount : ℕ) → FlowLine
@@ -23,7 +23,7 @@ broken_lines = line 0 2 4 ∷ line 1 3 4 ∷ []
 
 -- the lines are a flow of value 4; those above the rooms are none, nor those of which more comes to a node than leaves it
 abbrev pub WorkedLines : Type 0
-WorkedLines = AreLines three_cycle_net three_cycle_lines
+WorkedLines = AreFlowLines three_cycle_net three_cycle_lines
     × IsFlow three_cycle_net (amount_on three_cycle_lines)
     × (flow_value three_cycle_net (amount_on three_cycle_lines) ≡ 4)
     × (amount_from three_cycle_lines 0 ≡ 4)

@@ -7,7 +7,7 @@ use Rattle.sm_theory.specs.Rotations.{DoesMove, reviewer_before, reviewer_after}
 use Rattle.sm_theory.specs.Chains.{stage, rotation_at, IsPrintedChain, IsNeededBy}
 use Rattle.sm_theory.specs.ClosedSets.{matching_of, IsReady}
 use Rattle.sm_theory.specs.Vectors.{IsBefore, IsOrder, AreLevels, IsAllowedVector}
-use Rattle.sm_theory.specs.Listings.{IsNext, IsNoneBehind, IsListing}
+use Rattle.sm_theory.specs.Listings.{IsNextListed, IsNoneBehind, IsListing}
 
 -- twice two proposers with opposed lists
 abbrev pub two_pairs : Lists
@@ -72,7 +72,7 @@ Orders = IsOrder 4 (0 ∷ 1 ∷ 2 ∷ 3 ∷ []) × (¬ IsOrder 4 (0 ∷ 1 ∷ 2 
 
 -- behind the first vector the second is next, and none is behind the last
 abbrev pub NextOnes : Type 0
-NextOnes = IsNext (IsBefore (0 ∷ 1 ∷ 2 ∷ 3 ∷ [])) (IsAllowedVector two_pairs two_pairs_ranks [] []) (Some both_best) second_worst
+NextOnes = IsNextListed (IsBefore (0 ∷ 1 ∷ 2 ∷ 3 ∷ [])) (IsAllowedVector two_pairs two_pairs_ranks [] []) (Some both_best) second_worst
     × IsNoneBehind (IsBefore (0 ∷ 1 ∷ 2 ∷ 3 ∷ [])) (IsAllowedVector two_pairs two_pairs_ranks [] []) (Some both_worst)
 
 -- the first rotation moves proposer 0 from reviewer 0 to reviewer 1, and proposer 2 it doesn't move

@@ -2,7 +2,7 @@
 //! about nothing. Each function does nothing: its contract is the statement.
 
 ghost use Rattle.sm_theory.specs.Witnesses.{ThreeCycle, PassedSeat, LeftOver};
-ghost use Rattle.sm_theory.specs.WitnessesFlows.{WorkedNet, BarredNet, MiddleLevel};
+ghost use Rattle.sm_theory.specs.WitnessesFlows.{WorkedNet, BarredNet, MiddleLevel, NothingAllowed};
 ghost use Rattle.sm_theory.specs.WitnessesLines.{WorkedLines, EachLine};
 ghost use Rattle.sm_theory.specs.WitnessesListing.{TwoPairs};
 ghost use Rattle.sm_theory.specs.WitnessesRooms.{OddParty, EvenParty};
@@ -50,6 +50,11 @@ pub fn barred_net()
 /// allowed, and which sets are cuts.
 pub fn middle_level()
     ensures { MiddleLevel }
+{}
+
+/// Levels that allow nothing by themselves where they are forced, or where they are forbidden, and such as allow something.
+pub fn nothing_allowed()
+    ensures { NothingAllowed }
 {}
 
 /// A market with four stable matchings, whose two rotations don't need each other: the meet and the join of two of them, the

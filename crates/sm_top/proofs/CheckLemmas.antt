@@ -13,15 +13,15 @@ use Rattle.sm_reader.specs.InstanceText.{ReadText, Refusal}
 use Rattle.sm_report.specs.Heads.{HeadData}
 use Rattle.sm_report.specs.Lines.{LineData}
 use Rattle.sm_report.specs.Sound.{IsLineOf}
-use Rattle.sm_seats.proofs.LimitLaws.{none_is}
+use Rattle.sm_seats.proofs.LimitLaws.{first_too_many-none}
 use Rattle.sm_cert.specs.Checking.{HasFewSeats, HasTooManyAt}
 use Rattle.sm_given.specs.GivenText.{texts_from}
-use Rattle.sm_judge.specs.Judging.{IsJudged, IsBadAt}
+use Rattle.sm_judge.specs.Judging.{IsJudged, IsBadAnswerAt}
 use Rattle.sm_judge.specs.declared.verdicts.Verdict.{Verdict}
 use Rattle.sm_tally.specs.Fold.{Shown}
 use Rattle.sm_words.specs.Jobs.{JobData, Check}
 use Rattle.sm_top.specs.declared.status.Status.{Status}
-use Rattle.sm_top.specs.Texts.{plain}
+use Rattle.sm_top.specs.Texts.{plain_refusal}
 use Rattle.sm_top.specs.Accepting.{judges_answer, too_many_in, first_refusal, judged, accepted, IsTooMany}
 use Rattle.sm_top.specs.Checked.{verdict_lines, status_by}
 use Rattle.sm_top.specs.Outcome.{IsAnswer, IsRefused, not_accepted, by_job}
@@ -36,7 +36,7 @@ is_check _ h = absurd cc
 
 -- where the seats aren't too many, the input is accepted
 few_in : (input : Input) → HasFewSeats input → too_many_in input ≡ None
-few_in (Two w) few = ap (option_map (λ r. (TooManySeats, (agent_at w.reviewers r).line))) (none_is w few)
+few_in (Two w) few = ap (option_map (λ r. (TooManySeats, (agent_at w.reviewers r).line))) (first_too_many-none w few)
 few_in (Room persons) few = refl
 
 -- where the seats are few, the input is accepted for `check`
@@ -48,13 +48,13 @@ pub too_many_there : (input : Input) (r : ℕ) → HasTooManyAt input r → r < 
 too_many_there (Two w) r first = first.there
 too_many_there (Room persons) r none = absurd none
 
-too_many_line : (input : Input) (r line : ℕ) → HasTooManyAt input r → line ≡ (agent_at (right_of input) r).line → IsTooMany input (plain TooManySeats line)
+too_many_line : (input : Input) (r line : ℕ) → HasTooManyAt input r → line ≡ (agent_at (right_of input) r).line → IsTooMany input (plain_refusal TooManySeats line)
 too_many_line (Two w) r line first at = too_many_at w r line first at
 too_many_line (Room persons) r line none at = absurd none
 
 -- where they are too many with a reviewer, it is refused on that one's line
 pub seats_refused : (bytes : List ℕ) (read : ReadText) (r line : ℕ) → accepted Check bytes ≡ judged Check read → HasTooManyAt read.input r → line ≡ (agent_at (right_of read.input) r).line
-    → IsRefused Check bytes (plain TooManySeats line)
+    → IsRefused Check bytes (plain_refusal TooManySeats line)
 seats_refused bytes read r line before too at =
     let many = too_many_line read.input r line too at in
     not_accepted refl (record {
@@ -65,8 +65,8 @@ seats_refused bytes read r line before too at =
     })
 
 -- a text that isn't an answer's is refused
-pub text_refused : (bytes : List ℕ) (read : ReadText) (at : ℕ) → accepted Check bytes ≡ judged Check read → HasFewSeats read.input → IsBadAt read.input (texts_from bytes read.rest) read.rest_line at
-    → IsRefused Check bytes (plain BadAnswer at)
+pub text_refused : (bytes : List ℕ) (read : ReadText) (at : ℕ) → accepted Check bytes ≡ judged Check read → HasFewSeats read.input → IsBadAnswerAt read.input (texts_from bytes read.rest) read.rest_line at
+    → IsRefused Check bytes (plain_refusal BadAnswer at)
 text_refused bytes read at before few bad = by_job read (check_accepted bytes read before few) (record { at = at; bad = bad; says = refl })
 
 -- the lines of the verdict were written

@@ -28,7 +28,7 @@ use Rattle.sm_top.specs.Accepting.{reads_input, is_two_sided, takes_kind, too_ma
 use Rattle.sm_tally.specs.Fold.{Shown}
 use Rattle.sm_words.specs.Words.{usual_limit}
 use Rattle.sm_survey.specs.SurveyAnswer.{IsSurveyAnswer}
-use Rattle.sm_printed.specs.Lines.{lines_of}
+use Rattle.sm_printed.specs.Printed.{lines_of}
 use Rattle.sm_top.specs.Outcome.{IsWeighed, IsSummary, IsMade, IsSolved, IsRegretted, IsAnswerOver, IsRefused, not_accepted}
 use Rattle.sm_top.specs.Wrote.{Wrote, With}
 use Rattle.sm_top.proofs.WritingLemmas.{wrote_for, wrote_shown}

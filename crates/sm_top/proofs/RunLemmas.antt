@@ -20,7 +20,7 @@ use Rattle.sm_top.specs.declared.status.Status.{Status}
 use Rattle.sm_top.specs.declared.status.Status.TheVariants.{Refused, Usage, OutOfMemory, ReadFault, WriteFault}
 use Rattle.sm_top.specs.declared.stop.Stop.{Stop}
 use Rattle.sm_top.specs.declared.stop.Stop.TheVariants as stop
-use Rattle.sm_top.specs.Texts.{RefusalData, plain, with_detail, fields_of, usage_line, refused_line}
+use Rattle.sm_top.specs.Texts.{RefusalData, plain_refusal, with_detail, refusal_fields, usage_line, refused_line}
 use Rattle.sm_top.specs.Stops.{StopsBy}
 use Rattle.sm_tally.specs.Fold.{Shown}
 use Rattle.sm_make.specs.Made.{made_instance}
@@ -31,7 +31,7 @@ use Rattle.sm_top.specs.Checked.{status_by}
 use Rattle.sm_top.specs.Accepting.{reads_input, accepted, behind_text}
 use Rattle.sm_top.specs.Outcome.{OfTwo, IsSolved, IsRegretted, IsSummary, IsMade, IsWeighed, IsAnswerOver, IsAnswer, IsRefused, IsTooManyMade, IsUnsurveyed, unsurveyed, Outcome, not_accepted, faulty_words, refused, answered}
 use Rattle.sm_top.specs.Input.{IsReadWhole, ReadWhole, IsTooLong}
-use Rattle.sm_top.specs.Running.{IsBeingRead, Ends, Answers, AnswersAccepted, reads, asks_to_read, is_whole, is_answer, is_too_long}
+use Rattle.sm_top.specs.Running.{IsBeingRead, Ends, Answers, AnswersAccepted, reads, asks_to_read, writes_all_lines, is_answer, is_too_long}
 use Rattle.sm_top.specs.Steps.{IsRefusalFor, IsRefusal, IsReadFault, Serves, ServesWords, SaysStop}
 use Rattle.sm_text.specs.Limits.{most_bytes}
 use Rattle.sm_top.specs.Wrote.{Ended, Wrote, With, whole, sink_failed, no_memory}
@@ -66,8 +66,8 @@ wrote_answer job bytes read w right = wrote_answer_by job bytes read w (λ _. ri
 pub stops_for : (U U' : ℕ → Type 0) (R R' : RefusalData → Type 0) (F F' : Type 0) (s : Stop)
     → ((word : ℕ) → U word → U' word) → ((refusal : RefusalData) → R refusal → R' refusal) → (F → F') → StopsBy U R F s → StopsBy U' R' F' s
 stops_for U U' R R' F F' (stop.Usage word) u r f h = u word h
-stops_for U U' R R' F F' (stop.Refused kind at) u r f h = r (plain kind at) h
-stops_for U U' R R' F F' (stop.Unstable at fields) u r f h = r (with_detail NotStable at (fields_of fields)) h
+stops_for U U' R R' F F' (stop.Refused kind at) u r f h = r (plain_refusal kind at) h
+stops_for U U' R R' F F' (stop.Unstable at fields) u r f h = r (with_detail NotStable at (refusal_fields fields)) h
 stops_for U U' R R' F F' stop.ReadFault u r f h = f h
 stops_for U U' R R' F F' stop.OutOfMemory u r f h = tt
 
@@ -209,7 +209,7 @@ answer_status tallies (Survey limit) bytes status lines h = ap is_answer h.0
 answer_status tallies Check bytes status lines h = ap is_answer h.shown.is_right.by_verdict ∙ verdict_status h.shown.is_right.verdict
 answer_status tallies (Make shape size seed summary) bytes status lines h = made_status tallies (made_instance shape size seed) summary status lines h
 
-answer_whole : (status : Status) → is_answer status ≡ true → is_whole status ≡ true
+answer_whole : (status : Status) → is_answer status ≡ true → writes_all_lines status ≡ true
 answer_whole (Refused kind at) h = refl
 answer_whole (Usage word) h = refl
 answer_whole OutOfMemory h = absurd cc
@@ -217,31 +217,31 @@ answer_whole ReadFault h = absurd cc
 answer_whole WriteFault h = absurd cc
 answer_whole _ h = refl
 
-outcome_whole : {tallies : List Shown} (words : List (List ℕ)) (bytes : List ℕ) (status : Status) (lines : List (List ℕ)) → Outcome tallies words bytes status lines → is_whole status ≡ true
-outcome_whole {tallies} words bytes status lines (faulty_words word meaning is shows) = ap is_whole is
-outcome_whole {tallies} words bytes status lines (refused job refusal meaning why is shows) = ap is_whole is
+outcome_whole : {tallies : List Shown} (words : List (List ℕ)) (bytes : List ℕ) (status : Status) (lines : List (List ℕ)) → Outcome tallies words bytes status lines → writes_all_lines status ≡ true
+outcome_whole {tallies} words bytes status lines (faulty_words word meaning is shows) = ap writes_all_lines is
+outcome_whole {tallies} words bytes status lines (refused job refusal meaning why is shows) = ap writes_all_lines is
 outcome_whole {tallies} words bytes status lines (answered job meaning right) = answer_whole status (answer_status tallies job bytes status lines right)
 
 -- a text was written, and what the source has left
 answers_wrote : {tallies : List Shown} (words : List (List ℕ)) (bytes : List ℕ) (before after a b : Option (List ℕ)) (f g : ℕ) (status : Status) → Agrees before bytes → Wrote (Outcome tallies words bytes) a b f g status
-    → (reads words ≡ true → is_whole status ≡ true → is_too_long status ≡ false → IsReadWhole before after) → (reads words ≡ true → IsBeingRead before after → ⊥) → (reads words ≡ false → after ≡ before)
+    → (reads words ≡ true → writes_all_lines status ≡ true → is_too_long status ≡ false → IsReadWhole before after) → (reads words ≡ true → IsBeingRead before after → ⊥) → (reads words ≡ false → after ≡ before)
     → Answers tallies words before after a b status
 answers_wrote {tallies} words bytes before after a b f g status agrees w read_whole over untouched =
     record { bytes = bytes; text = w.text; read = agrees; written = w.grows; ends = by_end w.ended } where
       by_end : Ended (Outcome tallies words bytes) w.text f g status → Ends tallies words bytes w.text before after status
       by_end (whole text) =
-          let w : is_whole status ≡ true = outcome_whole words bytes status text.lines text.is_right in
+          let w : writes_all_lines status ≡ true = outcome_whole words bytes status text.lines text.is_right in
           record {
             whole = λ _. text;
             front = λ other. absurd cc;
-            write_fault = λ is. absurd (let h = ap is_whole is in cc);
-            read_fault = λ is. absurd (let h = ap is_whole is in cc);
+            write_fault = λ is. absurd (let h = ap writes_all_lines is in cc);
+            read_fault = λ is. absurd (let h = ap writes_all_lines is in cc);
             early = λ is r reading. absurd (over r reading);
             read_whole = read_whole;
             untouched = untouched;
           }
       by_end (sink_failed is front rose) = record {
-        whole = λ other. absurd (let h = ap is_whole is in cc);
+        whole = λ other. absurd (let h = ap writes_all_lines is in cc);
         front = λ _. inr front;
         write_fault = λ _. front;
         read_fault = λ other. absurd cc;
@@ -250,7 +250,7 @@ answers_wrote {tallies} words bytes before after a b f g status agrees w read_wh
         untouched = untouched;
       }
       by_end (no_memory is front) = record {
-        whole = λ other. absurd (let h = ap is_whole is in cc);
+        whole = λ other. absurd (let h = ap writes_all_lines is in cc);
         front = λ _. inr front;
         write_fault = λ other. absurd cc;
         read_fault = λ other. absurd cc;
@@ -314,12 +314,12 @@ made_stopped words shape size seed summary input left h i r meaning same =
     (λ none. absurd none)
 
 -- a status that says that the line of a stop was written is this one
-with_whole : (given : Status) (gives : List (List ℕ) → Type 0) (a b : Option (List ℕ)) (f g : ℕ) (status : Status) → is_whole status ≡ true → Wrote (With given gives) a b f g status → status ≡ given
+with_whole : (given : Status) (gives : List (List ℕ) → Type 0) (a b : Option (List ℕ)) (f g : ℕ) (status : Status) → writes_all_lines status ≡ true → Wrote (With given gives) a b f g status → status ≡ given
 with_whole given gives a b f g status h w = by_end w.ended where
   by_end : Ended (With given gives) w.text f g status → status ≡ given
   by_end (whole text) = text.is_right.same
-  by_end (sink_failed is front rose) = absurd (let k = ap is_whole is in cc)
-  by_end (no_memory is front) = absurd (let k = ap is_whole is in cc)
+  by_end (sink_failed is front rose) = absurd (let k = ap writes_all_lines is in cc)
+  by_end (no_memory is front) = absurd (let k = ap writes_all_lines is in cc)
 
 -- nothing was written, for want of memory, or since the source failed
 answers_nothing : {tallies : List Shown} (words : List (List ℕ)) (before after a b : Option (List ℕ)) (status : Status) → (status ≡ OutOfMemory) ⊎ ((status ≡ ReadFault) × (reads words ≡ true)) → b ≡ a
@@ -339,9 +339,9 @@ answers_nothing {tallies} words before after a b status why same untouched = rec
     untouched = untouched;
   };
 } where
-  not_whole : (status ≡ OutOfMemory) ⊎ ((status ≡ ReadFault) × (reads words ≡ true)) → is_whole status ≡ true → ⊥
-  not_whole (inl is) w = let h = ap is_whole is in cc
-  not_whole (inr is) w = let h = ap is_whole is.0 in cc
+  not_whole : (status ≡ OutOfMemory) ⊎ ((status ≡ ReadFault) × (reads words ≡ true)) → writes_all_lines status ≡ true → ⊥
+  not_whole (inl is) w = let h = ap writes_all_lines is in cc
+  not_whole (inr is) w = let h = ap writes_all_lines is.0 in cc
 
   not_write_fault : (status ≡ OutOfMemory) ⊎ ((status ≡ ReadFault) × (reads words ≡ true)) → status ≡ WriteFault → ⊥
   not_write_fault (inl is) w = cc
@@ -361,15 +361,15 @@ answers_stopped {tallies} words before after a b f g h i (stop.Usage word) statu
 answers_stopped {tallies} words before after a b f g h i (stop.Refused kind at) status refusal untouched says =
     let r = refusal.for_job in
     answers_wrote words r.bytes before after a b f g status r.read
-    (wrote_for (With (Refused kind at) (λ lines. lines ≡ refused_line (plain kind at) ∷ [])) (Outcome tallies words r.bytes) a b f g status
-    (λ s lines w. refused refusal.job (plain kind at) refusal.meaning r.refused w.same w.given_lines) says)
+    (wrote_for (With (Refused kind at) (λ lines. lines ≡ refused_line (plain_refusal kind at) ∷ [])) (Outcome tallies words r.bytes) a b f g status
+    (λ s lines w. refused refusal.job (plain_refusal kind at) refusal.meaning r.refused w.same w.given_lines) says)
     (λ reading w short. r.read_whole (sym (reads_of words refusal.job refusal.meaning) ∙ reading) (λ is. let same : status ≡ Refused kind at = with_whole (Refused kind at) _ a b f g status w says in let long : is_too_long status ≡ true = ap is_too_long same ∙ ap (λ k. is_too_long (Refused k at)) is in absurd cc))
     (λ reading. r.over (sym (reads_of words refusal.job refusal.meaning) ∙ reading)) untouched
 answers_stopped {tallies} words before after a b f g h i (stop.Unstable at fields) status refusal untouched says =
     let r = refusal.for_job in
     answers_wrote words r.bytes before after a b f g status r.read
-    (wrote_for (With (Refused NotStable at) (λ lines. lines ≡ refused_line (with_detail NotStable at (fields_of fields)) ∷ [])) (Outcome tallies words r.bytes) a b f g status
-    (λ s lines w. refused refusal.job (with_detail NotStable at (fields_of fields)) refusal.meaning r.refused w.same w.given_lines) says)
+    (wrote_for (With (Refused NotStable at) (λ lines. lines ≡ refused_line (with_detail NotStable at (refusal_fields fields)) ∷ [])) (Outcome tallies words r.bytes) a b f g status
+    (λ s lines w. refused refusal.job (with_detail NotStable at (refusal_fields fields)) refusal.meaning r.refused w.same w.given_lines) says)
     (λ reading w short. r.read_whole (sym (reads_of words refusal.job refusal.meaning) ∙ reading) (λ is. absurd cc))
     (λ reading. r.over (sym (reads_of words refusal.job refusal.meaning) ∙ reading)) untouched
 answers_stopped {tallies} words before after a b f g h i stop.ReadFault status fault untouched says = answers_nothing words before after a b status (inr (says.0, fault.reading)) says.1 untouched
@@ -384,7 +384,7 @@ outcome_accepted {tallies} words bytes status lines job sound never (refused oth
     let same : other ≡ job = cc in absurd (never refusal (subst (λ (j : JobData). IsRefused j bytes refusal) same why))
 outcome_accepted {tallies} words bytes status lines job sound never (answered other meaning right) = answer_status tallies other bytes status lines right
 
-whole_or_not : (status : Status) → (is_whole status ≡ true) ⊎ ((status ≡ OutOfMemory) ⊎ ((status ≡ ReadFault) ⊎ (status ≡ WriteFault)))
+whole_or_not : (status : Status) → (writes_all_lines status ≡ true) ⊎ ((status ≡ OutOfMemory) ⊎ ((status ≡ ReadFault) ⊎ (status ≡ WriteFault)))
 whole_or_not OutOfMemory = inr (inl refl)
 whole_or_not ReadFault = inr (inr (inl refl))
 whole_or_not WriteFault = inr (inr (inr refl))
@@ -395,7 +395,7 @@ pub answers_accepted : {tallies : List Shown} (words : List (List ℕ)) (before 
 answers_accepted {tallies} words before after a b status answers bytes job sound told never no_read_fault no_write_fault =
     let same : answers.bytes ≡ bytes = sym (subst (λ (left : Option (List ℕ)). Agrees left answers.bytes) told answers.read) in
     by_status (whole_or_not status) same where
-      by_status : (is_whole status ≡ true) ⊎ ((status ≡ OutOfMemory) ⊎ ((status ≡ ReadFault) ⊎ (status ≡ WriteFault))) → answers.bytes ≡ bytes → (is_answer status ≡ true) ⊎ (status ≡ OutOfMemory)
+      by_status : (writes_all_lines status ≡ true) ⊎ ((status ≡ OutOfMemory) ⊎ ((status ≡ ReadFault) ⊎ (status ≡ WriteFault))) → answers.bytes ≡ bytes → (is_answer status ≡ true) ⊎ (status ≡ OutOfMemory)
       by_status (inl w) same =
           let text = answers.ends.whole w in
           inl (outcome_accepted words bytes status text.lines job sound never (subst (λ (t : List ℕ). Outcome tallies words t status text.lines) same text.is_right))

@@ -8,16 +8,16 @@ use Rattle.sm_instance.specs.Vectors.{agents_of, agent_of}
 use Rattle.sm_instance.specs.Written.{AgentData, Written, no_agent, agent_at}
 use Rattle.sm_instance.specs.declared.inputs.Input.TheVariants.{Two}
 use Rattle.sm_seats.specs.SeatEntries.{IsFirstTooMany}
-use Rattle.sm_seats.proofs.LimitLaws.{first_is}
-use Rattle.sm_top.specs.Texts.{plain}
+use Rattle.sm_seats.proofs.LimitLaws.{first_too_many-some}
+use Rattle.sm_top.specs.Texts.{plain_refusal}
 use Rattle.sm_top.specs.Accepting.{IsTooMany}
 
 -- the first reviewer with too many seats, and the line at which it stands
-pub too_many_at : (w : Written) (r line : ℕ) → IsFirstTooMany w r → line ≡ (agent_at w.reviewers r).line → IsTooMany (Two w) (plain TooManySeats line)
+pub too_many_at : (w : Written) (r line : ℕ) → IsFirstTooMany w r → line ≡ (agent_at w.reviewers r).line → IsTooMany (Two w) (plain_refusal TooManySeats line)
 too_many_at w r line first at = record {
   kind = TooManySeats;
   at = line;
-  because = ap (option_map (λ r. (TooManySeats, (agent_at w.reviewers r).line))) (first_is first) ∙ ap (λ n. Some (TooManySeats, n)) (sym at);
+  because = ap (option_map (λ r. (TooManySeats, (agent_at w.reviewers r).line))) (first_too_many-some first) ∙ ap (λ n. Some (TooManySeats, n)) (sym at);
   says = refl;
 }
 

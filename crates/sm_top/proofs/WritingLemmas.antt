@@ -9,7 +9,7 @@ use Rattle.sm_report.specs.Lines.{LineData}
 use Rattle.sm_text.specs.declared.refusal.RefusalKind.{RefusalKind}
 use Rattle.sm_top.specs.declared.status.Status.{Status}
 use Rattle.sm_top.specs.declared.status.Status.TheVariants.{Refused, OutOfMemory, WriteFault}
-use Rattle.sm_top.specs.Texts.{with_detail, plain, refused_line}
+use Rattle.sm_top.specs.Texts.{with_detail, plain_refusal, refused_line}
 use Rattle.sm_top.specs.Running.{IsText, IsFront}
 use Rattle.sm_top.specs.Wrote.{Ended, Wrote, With, whole, sink_failed, no_memory}
 
@@ -76,5 +76,5 @@ wrote_shown given gives input right R a b f g status shows to =
 -- a refusal without fields is a plain one
 pub plain_said : (kind : RefusalKind) (at : ℕ) (fields : List (List ℕ)) (a b : Option (List ℕ)) (f g : ℕ) (status : Status) → fields ≡ []
     → Wrote (With (Refused kind at) (λ lines. lines ≡ refused_line (with_detail kind at fields) ∷ [])) a b f g status
-    → Wrote (With (Refused kind at) (λ lines. lines ≡ refused_line (plain kind at) ∷ [])) a b f g status
+    → Wrote (With (Refused kind at) (λ lines. lines ≡ refused_line (plain_refusal kind at) ∷ [])) a b f g status
 plain_said kind at fields a b f g status none w = subst (λ (fields : List (List ℕ)). Wrote (With (Refused kind at) (λ lines. lines ≡ refused_line (with_detail kind at fields) ∷ [])) a b f g status) none w

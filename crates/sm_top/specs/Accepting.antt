@@ -14,7 +14,7 @@ use Rattle.sm_instance.specs.declared.kinds.Kind.TheVariants.{Marriage, Hospital
 use Rattle.sm_reader.specs.InstanceText.{ReadText, Refusal, instance_text}
 use Rattle.sm_seats.specs.SeatEntries.{first_too_many}
 use Rattle.sm_words.specs.Jobs.{JobData, Solve, Reduced, Rotations, Pairs, Regret, Weight, Meet, Join, Survey, Check, Make}
-use Rattle.sm_top.specs.Texts.{RefusalData, plain}
+use Rattle.sm_top.specs.Texts.{RefusalData, plain_refusal}
 
 -- What a job takes.
 
@@ -104,7 +104,7 @@ pub record IsTooMany (input : Input) (refusal : RefusalData) : Type 0 where
   pub kind : RefusalKind
   pub at : ℕ
   pub because : too_many_in input ≡ Some (kind, at)
-  pub says : refusal ≡ plain kind at
+  pub says : refusal ≡ plain_refusal kind at
 
 -- the first refusal of several, if there is one
 abbrev pub first_refusal : List (Option Refusal) → ReadText → Result ReadText Refusal
@@ -131,4 +131,4 @@ pub record IsUnaccepted (job : JobData) (bytes : List ℕ) (refusal : RefusalDat
   pub kind : RefusalKind
   pub at : ℕ
   pub because : accepted job bytes ≡ Err (kind, at)
-  pub says : refusal ≡ plain kind at
+  pub says : refusal ≡ plain_refusal kind at

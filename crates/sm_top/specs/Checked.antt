@@ -1,7 +1,7 @@
 -- What `check` answers.
 use Rattle.std.specs.Prelude.{◌≡◌, ℕ, List, [], ◌∷◌}
 use Rattle.sm_instance.specs.declared.inputs.Input.{Input}
-use Rattle.sm_judge.specs.Judging.{IsJudged, IsBadAt}
+use Rattle.sm_judge.specs.Judging.{IsJudged, IsBadAnswerAt}
 use Rattle.sm_judge.specs.Verdicts.{number_of_reason}
 use Rattle.sm_judge.specs.declared.verdicts.Verdict.{Verdict}
 use Rattle.sm_judge.specs.declared.verdicts.Verdict.TheVariants as verdict
@@ -10,7 +10,7 @@ use Rattle.sm_report.specs.Lines.{LineData}
 use Rattle.sm_text.specs.declared.refusal.RefusalKind.TheVariants.{BadAnswer}
 use Rattle.sm_top.specs.declared.status.Status.{Status}
 use Rattle.sm_top.specs.declared.status.Status.TheVariants.{Done, CheckedNo}
-use Rattle.sm_top.specs.Texts.{RefusalData, plain}
+use Rattle.sm_top.specs.Texts.{RefusalData, plain_refusal}
 
 -- the line of a verdict, its answer, and the status that goes with it
 abbrev pub verdict_line : Verdict → LineData
@@ -36,5 +36,5 @@ pub record IsChecked (input : Input) (texts : List (List ℕ)) (first_line : ℕ
 -- the texts aren't those of an answer: refused at the first line that isn't of its form where it stands
 pub record IsUnreadable (input : Input) (texts : List (List ℕ)) (first_line : ℕ) (refusal : RefusalData) : Type 0 where
   pub at : ℕ
-  pub bad : IsBadAt input texts first_line at
-  pub says : refusal ≡ plain BadAnswer at
+  pub bad : IsBadAnswerAt input texts first_line at
+  pub says : refusal ≡ plain_refusal BadAnswer at

@@ -2,7 +2,7 @@
 use Rattle.std.specs.Prelude.{◌≡◌, ◌<◌, ◌≤◌, ℕ, List, length, Option, IfSome}
 use Rattle.std.specs.Io.KnownBytes.{Consumes, IsAtEnd}
 use Rattle.sm_text.specs.declared.refusal.RefusalKind.TheVariants.{TooLong}
-use Rattle.sm_top.specs.Texts.{RefusalData, plain}
+use Rattle.sm_top.specs.Texts.{RefusalData, plain_refusal}
 use Rattle.sm_text.specs.Limits.{most_bytes}
 
 -- a source that told its bytes before has none left
@@ -20,4 +20,4 @@ pub record IsTooLong (left_before left_after : Option (List ℕ)) (refusal : Ref
   pub given : List ℕ
   pub consumed : Consumes left_before left_after given
   pub long : most_bytes < length given
-  pub says : refusal ≡ plain TooLong 0
+  pub says : refusal ≡ plain_refusal TooLong 0

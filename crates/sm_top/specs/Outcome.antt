@@ -16,7 +16,7 @@ use Rattle.sm_words.specs.Jobs.{JobData, Solve, Reduced, Rotations, Pairs, Regre
 use Rattle.sm_words.specs.Words.{usual_limit, words_meaning}
 use Rattle.sm_top.specs.declared.status.Status.{Status}
 use Rattle.sm_top.specs.declared.status.Status.TheVariants.{Done, Refused, Usage, NoneExists}
-use Rattle.sm_top.specs.Texts.{RefusalData, plain, with_detail, usage_line, refused_line}
+use Rattle.sm_top.specs.Texts.{RefusalData, plain_refusal, with_detail, usage_line, refused_line}
 use Rattle.sm_top.specs.Checked.{IsChecked, IsUnreadable}
 use Rattle.sm_top.specs.Accepting.{reads_input, accepted, IsTooMany, IsUnaccepted}
 use Rattle.sm_shown.specs.Answers.{IsSolution}
@@ -27,7 +27,7 @@ use Rattle.sm_listing.specs.ListAnswer.{IsCursor, IsListAnswer}
 use Rattle.sm_partners.specs.PairsAnswer.{IsPairsAnswer}
 use Rattle.sm_partners.specs.RegretAnswer.{IsRegretAnswer}
 use Rattle.sm_theory.specs.declared.choice.Choice.TheVariants.{Better, Worse}
-use Rattle.sm_given.specs.GivenText.{texts_from, IsBadAt}
+use Rattle.sm_given.specs.GivenText.{texts_from, IsBadGivenAt}
 use Rattle.sm_given.specs.Chosen.{IsChosenAnswer}
 use Rattle.sm_given.specs.Refusing.{AreUnstable}
 use Rattle.sm_given.specs.declared.faults.Which.{Which}
@@ -39,7 +39,7 @@ use Rattle.sm_lightest.specs.WeightAnswer.{IsWeightAnswer}
 use Rattle.sm_tally.specs.Fold.{Shown}
 use Rattle.sm_survey.specs.SurveyAnswer.{IsSurveyAnswer}
 use Rattle.sm_make.specs.Made.{made_instance}
-use Rattle.sm_printed.specs.Lines.{lines_of}
+use Rattle.sm_printed.specs.Printed.{lines_of}
 use Rattle.sm_rooming.specs.RoomAnswer.{IsMatched, IsUnmatchable}
 
 -- a right answer for an instance with two sides
@@ -97,7 +97,7 @@ IsAnswer tallies (Make shape size seed summary) bytes status lines = IsMade tall
 
 -- a cursor that hasn't an item for each proposer is refused, at no line
 abbrev pub IsBadCursor : Option (List ℕ) → Input → RefusalData → Type 0
-IsBadCursor after (Two w) refusal = (¬ IsCursor (length w.proposers) after) × (refusal ≡ plain BadCursor 0)
+IsBadCursor after (Two w) refusal = (¬ IsCursor (length w.proposers) after) × (refusal ≡ plain_refusal BadCursor 0)
 IsBadCursor after (Room persons) refusal = ⊥
 
 -- what tells of a given matching that isn't stable: which one, why, and the pair
@@ -116,7 +116,7 @@ unstable_fields input u = which_name u.which ∷ flaw_name u.flaw ∷ left_name 
 
 -- texts, of which the first stands on this line, aren't those of two matchings; or they are, and one isn't stable
 pub data IsGivenRefusal (w : Written) (texts : List (List ℕ)) (line : ℕ) (refusal : RefusalData) : Type 0 where
-  bad : (at : ℕ) → IsBadAt (Two w) texts line at → refusal ≡ plain BadAnswer at → IsGivenRefusal w texts line refusal
+  bad : (at : ℕ) → IsBadGivenAt (Two w) texts line at → refusal ≡ plain_refusal BadAnswer at → IsGivenRefusal w texts line refusal
   unstable : (u : Unstable) → AreUnstable w texts line u → refusal ≡ with_detail NotStable u.line (unstable_fields (Two w) u) → IsGivenRefusal w texts line refusal
 
 -- the texts behind an instance with two sides give no two stable matchings

@@ -25,17 +25,17 @@ abbrev pub reads : List (List ℕ) → Bool
 reads words = asks_to_read (words_meaning words)
 
 -- the statuses with which all lines of an outcome are written, and those of an answer among them
-abbrev pub is_whole : Status → Bool
-is_whole OutOfMemory = false
-is_whole ReadFault = false
-is_whole WriteFault = false
-is_whole status = true
+abbrev pub writes_all_lines : Status → Bool
+writes_all_lines OutOfMemory = false
+writes_all_lines ReadFault = false
+writes_all_lines WriteFault = false
+writes_all_lines status = true
 
 -- the statuses of an answer
 abbrev pub is_answer : Status → Bool
 is_answer (Refused kind at) = false
 is_answer (Usage word) = false
-is_answer status = is_whole status
+is_answer status = writes_all_lines status
 
 -- the status of an input that is too long
 abbrev pub is_too_long : Status → Bool
@@ -61,14 +61,14 @@ pub record IsFront (right : Status → List (List ℕ) → Type 0) (text : List 
 -- what the status says of the text that was written, and of what the source has left
 pub record Ends (tallies : List Shown) (words : List (List ℕ)) (bytes text : List ℕ) (left_before left_after : Option (List ℕ)) (status : Status) : Type 0 where
   -- the whole text of an outcome was written; or nothing, or a front of one
-  pub whole : is_whole status ≡ true → IsText (Outcome tallies words bytes status) text
-  pub front : is_whole status ≡ false → (text ≡ []) ⊎ IsFront (Outcome tallies words bytes) text
+  pub whole : writes_all_lines status ≡ true → IsText (Outcome tallies words bytes status) text
+  pub front : writes_all_lines status ≡ false → (text ≡ []) ⊎ IsFront (Outcome tallies words bytes) text
   -- where the sink failed, a front; where the source failed, or where there was no memory while the input was read, nothing
   pub write_fault : status ≡ WriteFault → IsFront (Outcome tallies words bytes) text
   pub read_fault : status ≡ ReadFault → (reads words ≡ true) × (text ≡ [])
   pub early : status ≡ OutOfMemory → reads words ≡ true → IsBeingRead left_before left_after → text ≡ []
   -- an input is read whole, unless it is too long; where none is asked for, nothing is read
-  pub read_whole : reads words ≡ true → is_whole status ≡ true → is_too_long status ≡ false → IsReadWhole left_before left_after
+  pub read_whole : reads words ≡ true → writes_all_lines status ≡ true → is_too_long status ≡ false → IsReadWhole left_before left_after
   pub untouched : reads words ≡ false → left_after ≡ left_before
 
 -- A run with these words and with tallies that showed this: of all the bytes that the source had left, this text was written, which is added to what the sink

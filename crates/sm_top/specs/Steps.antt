@@ -12,7 +12,7 @@ use Rattle.sm_top.specs.declared.stop.Stop.TheVariants as stop
 use Rattle.sm_tally.specs.Fold.{Shown}
 use Rattle.sm_top.specs.Accepting.{reads_input}
 use Rattle.sm_top.specs.Input.{IsReadWhole}
-use Rattle.sm_top.specs.Texts.{RefusalData, plain, with_detail, fields_of, usage_line, refused_line}
+use Rattle.sm_top.specs.Texts.{RefusalData, plain_refusal, with_detail, refusal_fields, usage_line, refused_line}
 use Rattle.sm_top.specs.Outcome.{IsAnswer, IsRefused}
 use Rattle.sm_top.specs.Running.{IsBeingRead, reads}
 use Rattle.sm_top.specs.Wrote.{Wrote, With}
@@ -53,8 +53,8 @@ pub record IsReadFault (words : List (List ℕ)) (before after : ℕ) : Type 0 w
 -- what is written for a stop, and with which status
 abbrev pub SaysStop : Stop → Option (List ℕ) → Option (List ℕ) → ℕ → ℕ → Status → Type 0
 SaysStop (stop.Usage word) a b f g status = Wrote (With (Usage word) (λ lines. lines ≡ usage_line word ∷ [])) a b f g status
-SaysStop (stop.Refused kind at) a b f g status = Wrote (With (Refused kind at) (λ lines. lines ≡ refused_line (plain kind at) ∷ [])) a b f g status
+SaysStop (stop.Refused kind at) a b f g status = Wrote (With (Refused kind at) (λ lines. lines ≡ refused_line (plain_refusal kind at) ∷ [])) a b f g status
 SaysStop (stop.Unstable at fields) a b f g status =
-    Wrote (With (Refused NotStable at) (λ lines. lines ≡ refused_line (with_detail NotStable at (fields_of fields)) ∷ [])) a b f g status
+    Wrote (With (Refused NotStable at) (λ lines. lines ≡ refused_line (with_detail NotStable at (refusal_fields fields)) ∷ [])) a b f g status
 SaysStop stop.ReadFault a b f g status = (status ≡ ReadFault) × (b ≡ a)
 SaysStop stop.OutOfMemory a b f g status = (status ≡ OutOfMemory) × (b ≡ a)

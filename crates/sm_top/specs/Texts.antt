@@ -16,8 +16,8 @@ abbrev pub with_detail : RefusalKind → ℕ → List (List ℕ) → RefusalData
 with_detail kind at detail = record { kind = kind; at = at; detail = detail }
 
 -- a refusal without fields
-abbrev pub plain : RefusalKind → ℕ → RefusalData
-plain kind at = with_detail kind at []
+abbrev pub plain_refusal : RefusalKind → ℕ → RefusalData
+plain_refusal kind at = with_detail kind at []
 
 -- fields, each behind a space
 abbrev pub spaced : List (List ℕ) → List ℕ
@@ -33,5 +33,5 @@ abbrev pub usage_line : ℕ → List ℕ
 usage_line word = codes "usage " ++ decimal word
 
 -- the fields of a refusal, as plain data
-abbrev pub fields_of : Vec (Vec ℕ Global) Global → List (List ℕ)
-fields_of fields = map (λ (field : Vec ℕ Global). field.items) fields.items
+abbrev pub refusal_fields : Vec (Vec ℕ Global) Global → List (List ℕ)
+refusal_fields fields = map (λ (field : Vec ℕ Global). field.items) fields.items

@@ -9,7 +9,7 @@ ghost use Rattle.sm_given.specs.GivenText.{texts_from};
 ghost use Rattle.sm_given.specs.Chosen.{IsChosenAnswer};
 ghost use Rattle.sm_top.specs.Outcome.{IsGivenRefusal, which_name, flaw_name, unstable_fields};
 ghost use Rattle.sm_top.specs.Stops.{StopsBy};
-ghost use Rattle.sm_top.specs.Texts.{fields_of};
+ghost use Rattle.sm_top.specs.Texts.{refusal_fields};
 ghost use Rattle.sm_top.specs.Wrote.{Wrote, With};
 
 use crate::status::Status;
@@ -74,7 +74,7 @@ fn unstable_fields(
     unstable: Unstable,
 ) -> Result<Vec<Vec<u8>>, AllocError>
     requires { ArePair input.now unstable.proposer unstable.reviewer }
-    ensures { IfOk result (λ fields. fields_of fields ≡ unstable_fields input.now unstable) }
+    ensures { IfOk result (λ fields. refusal_fields fields ≡ unstable_fields input.now unstable) }
 {
     let mut fields = Vec::with_capacity(alloc, 4)?;
     fields.push(Vec::from_slice(alloc, which_name(unstable.which).as_bytes())?)?;

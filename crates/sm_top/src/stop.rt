@@ -1,7 +1,7 @@
 //! What is said where there is no answer.
 
 ghost use Rattle.std.specs.Prelude.{◌≡◌, OnOk, ◌++◌};
-ghost use Rattle.sm_top.specs.Texts.{plain, fields_of, spaced, usage_line, refused_line};
+ghost use Rattle.sm_top.specs.Texts.{plain_refusal, refusal_fields, spaced, usage_line, refused_line};
 
 use sm_answer::Lines;
 use sm_text::{LineWriter, RefusalKind};
@@ -71,12 +71,12 @@ pub(crate) struct RefusedLine {
 }
 
 impl Lines for RefusedLine {
-    ghost use Rattle.sm_top.specs.Texts.{with_detail, fields_of, refused_line};
+    ghost use Rattle.sm_top.specs.Texts.{with_detail, refusal_fields, refused_line};
     ghost use Rattle.sm_top.specs.Unsaid.{lines_unsaid, most_unsaid};
     ghost use Rattle.std.specs.Prelude.{◌≡◌};
 
     ghost gives = { λ s rest. rest ≡ lines_unsaid s.is_said (refused_line (with_detail s.kind s.at
-        (fields_of s.detail))) };
+        (refusal_fields s.detail))) };
 
     ghost most = { λ s. most_unsaid s.is_said };
 
@@ -102,7 +102,7 @@ fn put_usage(into: &mut LineWriter, word: u32) -> Result<(), AllocError>
 
 /// Puts why an input is refused, and where.
 fn put_refused(into: &mut LineWriter, kind: RefusalKind, at: u32) -> Result<(), AllocError>
-    ensures { OnOk result (into.new.bytes ≡ into.old.bytes ++ refused_line (plain kind at)) }
+    ensures { OnOk result (into.new.bytes ≡ into.old.bytes ++ refused_line (plain_refusal kind at)) }
 {
     into.put_bytes(b"refused ")?;
     into.put_bytes(kind.name().as_bytes())?;
@@ -112,7 +112,7 @@ fn put_refused(into: &mut LineWriter, kind: RefusalKind, at: u32) -> Result<(), 
 
 /// Puts fields, each behind a space.
 fn put_fields(into: &mut LineWriter, fields: &Vec<Vec<u8>>) -> Result<(), AllocError>
-    ensures { OnOk result (into.new.bytes ≡ into.old.bytes ++ spaced (fields_of fields.now)) }
+    ensures { OnOk result (into.new.bytes ≡ into.old.bytes ++ spaced (refusal_fields fields.now)) }
 {
     for field in fields {
         into.put_bytes(b" ")?;

@@ -7,7 +7,7 @@ use Rattle.sm_instance.specs.Written.{Written}
 use Rattle.sm_instance.specs.declared.kinds.Measure.{Measure}
 use Rattle.sm_theory.specs.FlowLines.{AreOnNodes}
 use Rattle.sm_theory.specs.declared.flow_lines.FlowLine.{FlowLine}
-use Rattle.sm_net.specs.CheckedNets.{net_in as net_of_parts, NeedsAreOf}
+use Rattle.sm_net.specs.CheckedNets.{net_of_parts, NeedsAreOf}
 use Rattle.sm_net.specs.Repeats.{AreRepeats}
 use Rattle.sm_seats.specs.SeatMarket.{seat_market}
 use Rattle.sm_report.specs.Lines.{LineData}
@@ -16,7 +16,7 @@ use Rattle.sm_forms.proofs.TakingLemmas.{and_left, and_right}
 use Rattle.sm_judge.specs.Said.{rotations_in, flow_in, flows_in, taken_in, value_in, pair_in, pairs_in, is_up_to_rotations}
 use Rattle.sm_judge.specs.SeatMatchings.{first_of}
 use Rattle.sm_judge.specs.Flows.{size_in, net_in, on_nodes}
-use Rattle.sm_judge.specs.WantedKept.{AreStood}
+use Rattle.sm_judge.specs.Stood.{AreStood}
 use Rattle.sm_weigh.specs.declared.claims.Claim.{Claim}
 use Rattle.sm_weigh.specs.declared.flow_lines.Flow.{Flow}
 use Rattle.sm_weigh.specs.Kept.{IsClaimOf, IsFlowOf, IsSetOf}

@@ -8,10 +8,10 @@ use Rattle.sm_instance.specs.Matching.{IsMatching}
 use Rattle.sm_instance.specs.Allowed.{IsAllowed}
 use Rattle.sm_market.specs.Lists.{Lists}
 use Rattle.sm_theory.specs.ClosedSets.{IsClosed}
-use Rattle.sm_net.specs.CheckedNets.{NetParts, net_in, NeedsAreOf}
+use Rattle.sm_net.specs.CheckedNets.{NetParts, net_of_parts, NeedsAreOf}
 use Rattle.sm_seats.specs.SeatMarket.{seat_market}
 use Rattle.sm_report.specs.Lines.{LineData}
-use Rattle.sm_judge.specs.declared.walk.Walk.{Walk}
+use Rattle.sm_judge.specs.declared.chain_walk.ChainWalk.{ChainWalk}
 use Rattle.sm_judge.specs.Said.{rotations_in}
 use Rattle.sm_judge.specs.SeatMatchings.{first_of}
 use Rattle.sm_judge.specs.Flows.{set_of_numbers, matching_of_set, IsAllowedSet}
@@ -20,7 +20,7 @@ use Rattle.sm_weigh.specs.declared.taken.Taken.{Taken}
 use Rattle.sm_weigh.proofs.SetLemmas.{length-set_of, none_taken}
 
 -- there are as many rows of moves as rotations
-pub walk_size : {w : Written} {above : List LineData} {walk : Walk} → IsWholeWalk w above walk → length walk.moves.items ≡ length (rotations_in w above)
+pub walk_size : {w : Written} {above : List LineData} {walk : ChainWalk} → IsWholeWalk w above walk → length walk.moves.items ≡ length (rotations_in w above)
 walk_size {w} {above} {walk} k = sym (length-map walk.moves.items (λ v. v.items)) ∙ k.is_walk.is_walk.moves.moves.one_each
 
 -- the empty set of rotations is closed
@@ -31,7 +31,7 @@ empty_closed l rotations size e = record {
 }
 
 -- a set with its numbers and with the matching that is made of it is kept as that set
-pub set_made : {w : Written} {above : List LineData} {walk : Walk} → IsWholeWalk w above walk → (numbers : List ℕ) (taken : Taken) → taken.set.items ≡ set_of_numbers (length walk.moves.items) numbers
+pub set_made : {w : Written} {above : List LineData} {walk : ChainWalk} → IsWholeWalk w above walk → (numbers : List ℕ) (taken : Taken) → taken.set.items ≡ set_of_numbers (length walk.moves.items) numbers
     → taken.matching.places.items ≡ matching_of_set w above taken.set.items → IsMatching w taken.matching.places.items → IsSetOf w (first_of w above) (rotations_in w above) numbers taken
 set_made {w} {above} {walk} k numbers taken s m i =
     let same : taken.set.items ≡ set_of_numbers (length (rotations_in w above)) numbers = s ∙ ap (λ (n : ℕ). set_of_numbers n numbers) (walk_size k) in
@@ -41,7 +41,7 @@ set_made {w} {above} {walk} k numbers taken s m i =
       is_matching = i;
     }
 
-module _ {w : Written} {above : List LineData} {walk : Walk} (k : IsWholeWalk w above walk) (numbers : List ℕ) (set : List Bool) (s : set ≡ set_of_numbers (length walk.moves.items) numbers) where
+module _ {w : Written} {above : List LineData} {walk : ChainWalk} (k : IsWholeWalk w above walk) (numbers : List ℕ) (set : List Bool) (s : set ≡ set_of_numbers (length walk.moves.items) numbers) where
   set_is : set ≡ set_of_numbers (length (rotations_in w above)) numbers
   set_is = s ∙ ap (λ (n : ℕ). set_of_numbers n numbers) (walk_size k)
 
@@ -63,5 +63,5 @@ module _ {w : Written} {above : List LineData} {walk : Walk} (k : IsWholeWalk w 
   }
 
   -- it has an item for each rotation
-  pub set_size : {parts : NetParts} → NeedsAreOf (seat_market w) (rotations_in w above) parts → length set ≡ (net_in parts).size
+  pub set_size : {parts : NetParts} → NeedsAreOf (seat_market w) (rotations_in w above) parts → length set ≡ (net_of_parts parts).size
   set_size needs = ap (λ (set : List Bool). length set) set_is ∙ length-set_of (length (rotations_in w above)) numbers ∙ needs.one_each

@@ -15,7 +15,7 @@ use Rattle.sm_judge.specs.declared.verdicts.Reason.TheVariants as reason
 use Rattle.sm_judge.specs.Chain.{last_rotation}
 use Rattle.sm_market.specs.Lists.{Lists}
 use Rattle.sm_net.specs.declared.moves.Move.{Move}
-use Rattle.sm_net.specs.Moves.{AreMoves}
+use Rattle.sm_net.specs.Moves.{AreMovesByRotation}
 use Rattle.sm_judge.specs.Walks.{AreChainMoves}
 use Rattle.sm_judge.proofs.AnswerLemmas.{said_same}
 use Rattle.sm_judge.specs.Said.{rotation_in, rotations_in, gain_in, flow_in, taken_in, value_in, cut_in, total_in, pair_in, is_end, is_up_to_rotations}
@@ -79,9 +79,9 @@ silent_above _ e none = absurd (false≢true e)
 
 -- it is found by the moves of the rotations
 pub gain_is : (w : Written) (by : Measure) (above : List LineData) (i : ℕ) (gain result : ℤ) {rows : List (List Move)} {weights : List (List ℤ)} → AreChainMoves (seat_market w) (rotations_in w (above ++ LineData.Gain i gain ∷ [])) rows → weights ≡ weights_of by w (seating_of w)
-    → ((l : Lists) (rotations : List (List (ℕ × ℕ))) → AreMoves l rotations rows → result ≡ gain_of l weights (rotation_at rotations (length rotations - 1)))
+    → ((l : Lists) (rotations : List (List (ℕ × ℕ))) → AreMovesByRotation l rotations rows → result ≡ gain_of l weights (rotation_at rotations (length rotations - 1)))
     → IsGainAbove w by above result
 gain_is w by above i gain result {rows} {weights} moves are found =
     let x : LineData = LineData.Gain i gain in
-    found (seat_market w) (rotations_in w above) (subst (λ (rotations : List (List (ℕ × ℕ))). AreMoves (seat_market w) rotations rows) (said_same (rotation_in w) above x refl) moves.moves)
+    found (seat_market w) (rotations_in w above) (subst (λ (rotations : List (List (ℕ × ℕ))). AreMovesByRotation (seat_market w) rotations rows) (said_same (rotation_in w) above x refl) moves.moves)
     ∙ ap (λ (ws : List (List ℤ)). gain_of (seat_market w) ws (rotation_at (rotations_in w above) (last_rotation w above))) are

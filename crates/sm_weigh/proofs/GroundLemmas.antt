@@ -12,12 +12,12 @@ use Rattle.sm_judge.specs.Judges.{IsOwnLine}
 use Rattle.sm_judge.specs.Judging.{Subject, answer}
 use Rattle.sm_judge.specs.Said.{first_in, rotation_in, rotations_in, all_needs_in, is_up_to_firsts, is_up_to_rotations}
 use Rattle.sm_judge.specs.SeatMatchings.{first_of, seat_places_in}
-use Rattle.sm_judge.specs.Walks.{IsWalk, IsWalkOf, IsChainAt}
+use Rattle.sm_judge.specs.Walks.{IsChainWalk, IsWalkOf, IsChainAt}
 use Rattle.sm_judge.specs.declared.seat_pairs.SeatPairs.{SeatPairs}
-use Rattle.sm_judge.specs.declared.walk.Walk.{Walk}
+use Rattle.sm_judge.specs.declared.chain_walk.ChainWalk.{ChainWalk}
 use Rattle.sm_judge.proofs.AnswerLemmas.{said_same}
 use Rattle.sm_judge.proofs.WalkLemmas.{none_said, up_to_firsts}
-use Rattle.sm_weigh.specs.Kept.{AreNeedsSoFar, IsWholeWalk, IsGround}
+use Rattle.sm_weigh.specs.Kept.{AreNeedsSoFar, IsWholeWalk, HasWholePoset}
 
 -- a line of an instance is one of each answer over it, and such an answer has one instance
 pub own_too : {w : Written} {head : HeadData} {x : LineData} (other : HeadData) → IsOwnLine (answer w head) x → IsOwnLine (answer w other) x
@@ -46,12 +46,12 @@ not_all above x behind = go (list_all is_up_to_rotations (above ++ x ∷ [])) re
 
 module _ (w : Written) (above : List LineData) (x : LineData) (behind : is_up_to_rotations x ≡ false) where
   -- the walk
-  whole_above : (walk : Walk) → IsWalkOf w (above ++ x ∷ []) walk → IsWholeWalk w above walk
+  whole_above : (walk : ChainWalk) → IsWalkOf w (above ++ x ∷ []) walk → IsWholeWalk w above walk
   whole_above walk k = record {
     is_walk = record {
       is_walk =
-          subst (λ (said : List (ℕ × ℕ)). IsWalk (seat_market w) (seat_places_in (seat_market w) said) (rotations_in w above) walk) (said_same (first_in w) above x (none_said w x behind).0)
-          (subst (λ (rotations : List (List (ℕ × ℕ))). IsWalk (seat_market w) (first_of w (above ++ x ∷ [])) rotations walk) (said_same (rotation_in w) above x (none_said w x behind).1) k.is_walk);
+          subst (λ (said : List (ℕ × ℕ)). IsChainWalk (seat_market w) (seat_places_in (seat_market w) said) (rotations_in w above) walk) (said_same (first_in w) above x (none_said w x behind).0)
+          (subst (λ (rotations : List (List (ℕ × ℕ))). IsChainWalk (seat_market w) (first_of w (above ++ x ∷ [])) rotations walk) (said_same (rotation_in w) above x (none_said w x behind).1) k.is_walk);
       going = λ e. absurd (false≢true (sym e ∙ whole));
       whole = k.whole;
     };
@@ -66,12 +66,12 @@ module _ (w : Written) (above : List LineData) (x : LineData) (behind : is_up_to
       whole = go walk.is_whole refl
 
   -- behind the rotations there is a walk through them
-  pub walked : (pairs : SeatPairs) (walk : Option Walk) → IsChainAt w (above ++ x ∷ []) pairs walk → IsSome walk
+  pub walked : (pairs : SeatPairs) (walk : Option ChainWalk) → IsChainAt w (above ++ x ∷ []) pairs walk → IsSome walk
   walked pairs None k = absurd (false≢true (sym behind ∙ (up_to_firsts w x (last_passes is_up_to_firsts above x k.up_to)).0))
   walked pairs (Some walk) k = refl
 
   -- and it is through all of them, where what each needs was said
-  pub grounded : (pairs : SeatPairs) (walk : Option Walk) → IsChainAt w (above ++ x ∷ []) pairs walk → length (all_needs_in above) ≡ length (rotations_in w above)
-      → AreNeedsSoFar (seat_market w) (rotations_in w above) (all_needs_in above) → IfSome walk (IsGround w above)
+  pub grounded : (pairs : SeatPairs) (walk : Option ChainWalk) → IsChainAt w (above ++ x ∷ []) pairs walk → length (all_needs_in above) ≡ length (rotations_in w above)
+      → AreNeedsSoFar (seat_market w) (rotations_in w above) (all_needs_in above) → IfSome walk (HasWholePoset w above)
   grounded pairs None k one needs = tt
   grounded pairs (Some walk) k one needs = record { walk_of = whole_above walk k; one_each = one; needs = needs }

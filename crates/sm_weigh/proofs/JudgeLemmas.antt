@@ -8,7 +8,7 @@ use Rattle.sm_instance.specs.declared.kinds.Measure.{Measure}
 use Rattle.sm_report.specs.Heads.{HeadData}
 use Rattle.sm_report.specs.declared.lines.Line.{Line}
 use Rattle.sm_report.specs.Lines.{LineData, line_of}
-use Rattle.sm_judge.specs.declared.chain.Chain.{Chain}
+use Rattle.sm_judge.specs.declared.rotations.RotationsJudge.{RotationsJudge}
 use Rattle.sm_judge.specs.declared.verdicts.Reason.{Reason}
 use Rattle.sm_judge.specs.declared.verdicts.Reason.TheVariants as reason
 use Rattle.sm_judge.specs.Chain.{RotationsHold}
@@ -21,8 +21,8 @@ use Rattle.sm_judge.specs.Walking.{FindsOrKeeps}
 use Rattle.sm_judge.specs.Walks.{IsChainKept}
 use Rattle.sm_judge.proofs.AnswerLemmas.{kept_as}
 use Rattle.sm_judge.proofs.JudgingLemmas.{line_at, above_next}
-use Rattle.sm_weigh.specs.Kept.{ClaimHolds, AreTables, IsClaimAt, IsClaimOf, IsJudgeOf, IsNext}
-use Rattle.sm_weigh.specs.Order.{AreInOrder}
+use Rattle.sm_weigh.specs.Kept.{ClaimHolds, AreTables, IsClaimAt, IsClaimOf, IsJudgeOf, IsNextLine}
+use Rattle.sm_weigh.specs.Order.{AreNeedsInOrder}
 use Rattle.sm_weigh.specs.declared.claims.Claim.{Claim}
 use Rattle.sm_weigh.specs.declared.judging.Tables.{Tables}
 use Rattle.sm_weigh.specs.declared.judging.WeightJudge.{WeightJudge}
@@ -35,15 +35,15 @@ pub read_is : (lines : List Line) (k : ℕ) (x : Line) → k < length lines → 
 read_is lines k x inside e = sym (get_or_from_slice_get (map line_of lines) k (line_of x) LineData.End (line_at lines k x inside e))
 
 -- and so it is by any line in place of a missing one
-pub line_is : (lines : List Line) (k : ℕ) (d : Line) → k < length lines → line_of (get_or lines k d) ≡ get_or (map line_of lines) k LineData.End
-line_is lines k d inside = read_is lines k (get_or lines k d) inside (get_or_default lines k d (get_or lines k d) inside)
+pub line_of-get_or : (lines : List Line) (k : ℕ) (d : Line) → k < length lines → line_of (get_or lines k d) ≡ get_or (map line_of lines) k LineData.End
+line_of-get_or lines k d inside = read_is lines k (get_or lines k d) inside (get_or_default lines k d (get_or lines k d) inside)
 
 -- there it is found
 pub stands_at : (lines : List Line) (k : ℕ) → k < length lines → slice_get (map line_of lines) k ≡ Some (get_or (map line_of lines) k LineData.End)
 stands_at lines k inside = slice_get-get_or (map line_of lines) k LineData.End (omega (arith, inside, length-map lines line_of))
 
 -- line k follows those above it
-pub next_at : (lines : List LineData) (k : ℕ) (x : LineData) → slice_get lines k ≡ Some x → IsNext lines (take k lines) x
+pub next_at : (lines : List LineData) (k : ℕ) (x : LineData) → slice_get lines k ≡ Some x → IsNextLine lines (take k lines) x
 next_at lines k x at = record {
   below = drop (suc k) lines;
   is =
@@ -84,7 +84,7 @@ module _ {w : Written} {by : Measure} {lines : List LineData} {k : ℕ} {judge :
       (subst (λ (v : Written). P v judge.weighed.now.by (map line_of judge.lines.now)) known.instance_is h))
 
   -- what the chain finds at a line, and keeps
-  pub chain_judged : (x y : LineData) → y ≡ x → (after : Chain) (r : Option Reason) → answer after.instance.now HeadData.Rotations ≡ answer judge.chain.instance.now HeadData.Rotations
+  pub chain_judged : (x y : LineData) → y ≡ x → (after : RotationsJudge) (r : Option Reason) → answer after.instance.now HeadData.Rotations ≡ answer judge.chain.instance.now HeadData.Rotations
       → Judges (answer judge.chain.instance.now HeadData.Rotations) (λ above. IsChainKept judge.chain.instance.now judge.chain.market.now judge.chain.firsts.now above judge.chain.pairs judge.chain.walk)
       (λ above. IsChainKept after.instance.now after.market.now after.firsts.now above after.pairs after.walk) y r
       → FindsOrKeeps (RotationsHold w (take k lines) x) (IsChainKept w after.market.now after.firsts.now (take k lines ++ x ∷ []) after.pairs after.walk) r
@@ -96,7 +96,7 @@ module _ {w : Written} {by : Measure} {lines : List LineData} {k : ℕ} {judge :
       (λ above. IsChainKept after.instance.now after.market.now after.firsts.now above after.pairs after.walk) y r) known.chain_of found) (take k lines) known.chain))
 
   -- what is kept with line k
-  pub judged : AreInOrder w lines → (x : LineData) → slice_get lines k ≡ Some x → (chain : Chain) → answer chain.instance.now HeadData.Rotations ≡ answer judge.chain.instance.now HeadData.Rotations → Finds (RotationsHold w (take k lines) x) None
+  pub judged : AreNeedsInOrder w lines → (x : LineData) → slice_get lines k ≡ Some x → (chain : RotationsJudge) → answer chain.instance.now HeadData.Rotations ≡ answer judge.chain.instance.now HeadData.Rotations → Finds (RotationsHold w (take k lines) x) None
       → IsChainKept w chain.market.now chain.firsts.now (take k lines ++ x ∷ []) chain.pairs chain.walk → (after : WeightJudge) → after.weighed ≡ judge.weighed → after.lines ≡ judge.lines → after.tables ≡ judge.tables → after.chain ≡ chain
       → IsClaimAt w by lines (take (k + 1) lines) after.claim → IsJudgeOf w by lines (k + 1) after
   judged order x at chain same_instance hold kept after same_weighed same_lines same_tables same_chain claim = record {
@@ -106,8 +106,8 @@ module _ {w : Written} {by : Measure} {lines : List LineData} {k : ℕ} {judge :
     seating = known.seating;
     lines_are = ap (λ r. map line_of r.now) same_lines ∙ known.lines_are;
     tables = subst (λ (t : Tables). AreTables w by t) (sym same_tables) known.tables;
-    chain_of = ap (λ (c : Chain). c.instance.now) same_chain ∙ one_instance chain.instance.now judge.chain.instance.now HeadData.Rotations same_instance ∙ known.chain_of;
-    chain = subst (λ (c : Chain). IsChainKept w c.market.now c.firsts.now (take (k + 1) lines) c.pairs c.walk) (sym same_chain)
+    chain_of = ap (λ (c : RotationsJudge). c.instance.now) same_chain ∙ one_instance chain.instance.now judge.chain.instance.now HeadData.Rotations same_instance ∙ known.chain_of;
+    chain = subst (λ (c : RotationsJudge). IsChainKept w c.market.now c.firsts.now (take (k + 1) lines) c.pairs c.walk) (sym same_chain)
         (subst (λ (above : List LineData). IsChainKept w chain.market.now chain.firsts.now above chain.pairs chain.walk) (sym (above_next lines k x at)) kept);
     needs = needs_on order k x at (let inside = slice_get_within lines k x at in omega (arith, inside)) ((hold reason.WrongNeeds).1) known.needs;
     claim = claim;

@@ -13,7 +13,7 @@ use Rattle.sm_theory.specs.Net.{Net}
 use Rattle.sm_theory.specs.Conditions.{net_of}
 use Rattle.sm_theory.specs.FlowLines.{AreOnNodes, IsConserved, IsNewEdge, line_at}
 use Rattle.sm_theory.specs.declared.flow_lines.FlowLine.{FlowLine}
-use Rattle.sm_net.specs.CheckedNets.{NetParts, net_in as net_of_parts, NeedsAreOf, AreNumbersBelow}
+use Rattle.sm_net.specs.CheckedNets.{NetParts, net_of_parts, NeedsAreOf, AreNumbersBelow}
 use Rattle.sm_net.proofs.EdgeLemmas.{edges_are_on_nodes}
 use Rattle.sm_seats.specs.SeatMarket.{seat_market}
 use Rattle.sm_seats.specs.Seating.{seating_of, levels_of}
@@ -30,8 +30,8 @@ use Rattle.sm_judge.specs.Flows.{size_in, net_in, on_nodes, first_level, flow_of
 use Rattle.sm_judge.specs.Pairs.{WantedHold}
 use Rattle.sm_judge.specs.Verdicts.{Finds}
 use Rattle.sm_judge.specs.Walking.{FindsOrKeeps}
-use Rattle.sm_judge.specs.WantedKept.{AreStood}
-use Rattle.sm_judge.specs.declared.walk.Walk.{Walk}
+use Rattle.sm_judge.specs.Stood.{AreStood}
+use Rattle.sm_judge.specs.declared.chain_walk.ChainWalk.{ChainWalk}
 use Rattle.sm_judge.proofs.AnswerLemmas.{first_more, finds_keeping, said_same, said_one}
 use Rattle.sm_judge.proofs.WalkLemmas.{none_said}
 use Rattle.sm_weigh.specs.declared.claims.Claim.{Claim}
@@ -39,7 +39,7 @@ use Rattle.sm_weigh.specs.declared.flow_lines.Flow.{Flow}
 use Rattle.sm_weigh.specs.declared.taken.Taken.{Taken}
 use Rattle.sm_weigh.specs.ClaimClauses.{ValueHolds, CutHolds, TotalHolds, EndHolds}
 use Rattle.sm_weigh.specs.FlowClauses.{NextHolds, flow_line}
-use Rattle.sm_weigh.specs.Kept.{ClaimHolds, IsClaimOf, IsFlowOf, IsSetOf, IsNext, IsGround}
+use Rattle.sm_weigh.specs.Kept.{ClaimHolds, IsClaimOf, IsFlowOf, IsSetOf, IsNextLine, HasWholePoset}
 use Rattle.sm_weigh.proofs.ClaimLemmas.{flow_found, value_found, cut_found, total_found, pair_found, end_found}
 use Rattle.sm_weigh.proofs.GainLemmas.{IsSilent, silent}
 use Rattle.sm_weigh.proofs.SetLemmas.{length-set_of}
@@ -92,7 +92,7 @@ on_nodes_more n xs x all one a less = elim (cases_lt a (length xs)) [
 ]
 
 -- what rotations need is among them
-pub needs_below : {w : Written} {above : List LineData} {walk : Walk} → IsGround w above walk → AreNumbersBelow (length (rotations_in w above)) (all_needs_in above)
+pub needs_below : {w : Written} {above : List LineData} {walk : ChainWalk} → HasWholePoset w above walk → AreNumbersBelow (length (rotations_in w above)) (all_needs_in above)
 needs_below {w} {above} {walk} g = record { below = each }
   where
     each : (j a : ℕ) → a < length (row (all_needs_in above) j) → slice_index (row (all_needs_in above) j) a < length (rotations_in w above)
@@ -282,7 +282,7 @@ module _ {w : Written} {by : Measure} {lines above : List LineData} {claim : Cla
           (said ∙ sym (ap (λ (xs : List (List ℕ)). not (is_empty xs)) all))
 
   -- one more line of the flow is judged
-  pub flow_judged : {walk : Walk} → IsGround w above walk → (from to amount : ℕ) → IsNext lines above (LineData.Flow from to amount) → (after : Flow) (r : Option Reason) → after.lines ≡ claim.flow.lines → after.repeats ≡ claim.flow.repeats
+  pub flow_judged : {walk : ChainWalk} → HasWholePoset w above walk → (from to amount : ℕ) → IsNextLine lines above (LineData.Flow from to amount) → (after : Flow) (r : Option Reason) → after.lines ≡ claim.flow.lines → after.repeats ≡ claim.flow.repeats
       → FindsOrKeeps (NextHolds (net_of_parts claim.net) (take claim.flow.count claim.flow.lines.items) (line_at claim.flow.lines.items claim.flow.count)) (after.count ≡ claim.flow.count + 1) r
       → FindsOrKeeps (ClaimHolds w by above (LineData.Flow from to amount)) (IsClaimOf w by lines (above ++ LineData.Flow from to amount ∷ []) (record { net = claim.net; flow = after; taken = claim.taken; value = claim.value; stood = claim.stood })) r
   flow_judged {walk} ground from to amount next after r same_lines same_repeats found = by_result r found
@@ -346,7 +346,7 @@ module _ {w : Written} {by : Measure} {lines above : List LineData} {claim : Cla
           )
 
   -- a line of the flow is the next one
-  pub flow_next : (from to amount : ℕ) → IsNext lines above (LineData.Flow from to amount) → claim.flow.count < length claim.flow.lines.items
+  pub flow_next : (from to amount : ℕ) → IsNextLine lines above (LineData.Flow from to amount) → claim.flow.count < length claim.flow.lines.items
   flow_next from to amount next =
       let x : LineData = LineData.Flow from to amount in
       let size = size_in w above in

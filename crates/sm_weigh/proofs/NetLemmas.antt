@@ -4,7 +4,8 @@ use Rattle.std.proofs.lemmas.Bool.{cases_lt}
 use Rattle.std.proofs.lemmas.List.{length-map, get_or-map, get_or_past}
 use Rattle.sm_lists.specs.Rows.{row, rows_of}
 use Rattle.sm_instance.specs.Written.{Written, place_of}
-use Rattle.sm_instance.specs.Sound.{IsInstance, IsPairOf, pair_at}
+use Rattle.sm_instance.specs.Sound.{IsInstance, IsPairOf}
+use Rattle.sm_lists.specs.Pairs.{pair_at}
 use Rattle.sm_instance.specs.declared.kinds.Measure.{Measure}
 use Rattle.sm_instance.proofs.ItemLemmas.{forced_in_range, forbidden_in_range}
 use Rattle.sm_market.specs.Limits.{IsWithinLimits}
@@ -14,7 +15,7 @@ use Rattle.sm_theory.specs.Chains.{AreNeedsOf}
 use Rattle.sm_theory.specs.Vectors.{AreLevels}
 use Rattle.sm_theory.specs.Weights.{gain_of}
 use Rattle.sm_theory.proofs.Chains.Length.{short_eliminable}
-use Rattle.sm_net.specs.CheckedNets.{NetParts, net_in as net_of_parts, HasParts, AreRising, AreNumbersBelow, NeedsAreOf}
+use Rattle.sm_net.specs.CheckedNets.{NetParts, net_of_parts, HasParts, AreRowsRising, AreNumbersBelow, NeedsAreOf}
 use Rattle.sm_net.specs.Moves.{moves_in}
 use Rattle.sm_net.specs.Spans.{bonds_of, HaveFirstLevels, AreFirstBelow}
 use Rattle.sm_net.proofs.NetOfLemmas.{net_is}
@@ -23,11 +24,11 @@ use Rattle.sm_seats.specs.Seating.{seating_of, levels_of}
 use Rattle.sm_seats.specs.Correspondence.{weights_of, leveled}
 use Rattle.sm_seats.proofs.MarketLaws.{length-proposers}
 use Rattle.sm_report.specs.Lines.{LineData}
-use Rattle.sm_judge.specs.declared.walk.Walk.{Walk}
+use Rattle.sm_judge.specs.declared.chain_walk.ChainWalk.{ChainWalk}
 use Rattle.sm_judge.specs.Said.{rotations_in, all_needs_in}
 use Rattle.sm_judge.specs.SeatMatchings.{first_of}
 use Rattle.sm_judge.specs.Flows.{net_in}
-use Rattle.sm_weigh.specs.Kept.{IsGround}
+use Rattle.sm_weigh.specs.Kept.{HasWholePoset}
 use Rattle.sm_weigh.proofs.WholeLemmas.{complete}
 use Rattle.sm_weigh.proofs.NeedsLemmas.{needs_at_end}
 use Rattle.sm_weigh.proofs.KeptLemmas.{needs_below}
@@ -50,7 +51,7 @@ forced_below {w} {n} i long is = subst (AreFirstBelow n) (sym is) (named w n w.f
 pub forbidden_below : {w : Written} {n : ℕ} {forbidden : List (ℕ × ℕ)} → IsInstance w → n ≡ length w.proposers → forbidden ≡ leveled w w.forbidden → AreFirstBelow n forbidden
 forbidden_below {w} {n} i long is = subst (AreFirstBelow n) (sym is) (named w n w.forbidden long (forbidden_in_range i))
 
-module _ {w : Written} {above : List LineData} {walk : Walk} (g : IsGround w above walk) where
+module _ {w : Written} {above : List LineData} {walk : ChainWalk} (g : HasWholePoset w above walk) where
   -- there are few rotations
   pub few_rotations : IsWithinLimits (seat_market w) → length (rotations_in w above) < 2 ^ 24
   few_rotations limits =
@@ -68,7 +69,7 @@ module _ {w : Written} {above : List LineData} {walk : Walk} (g : IsGround w abo
   needs_of_each = needs_at_end (seat_market w) (first_of w above) g.walk_of.is_walk.is_walk.market (rotations_in w above) (all_needs_in above) (complete g.walk_of) g.one_each g.needs
 
   -- the numbers of what each needs rise
-  pub needs_rise : AreRising (all_needs_in above)
+  pub needs_rise : AreRowsRising (all_needs_in above)
   needs_rise = record { rising = each }
     where
       each : (k a b : ℕ) → a < b → b < length (row (all_needs_in above) k) → get_or (row (all_needs_in above) k) a 0 < get_or (row (all_needs_in above) k) b 0

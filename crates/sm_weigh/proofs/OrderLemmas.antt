@@ -16,7 +16,7 @@ use Rattle.sm_judge.specs.Said.{rotation_in, rotations_in, needs_in, all_needs_i
 use Rattle.sm_judge.proofs.JudgingLemmas.{above_next}
 use Rattle.sm_judge.proofs.AnswerLemmas.{said_same, said_one}
 use Rattle.sm_weigh.specs.Kept.{AreNeedsSoFar, IsClaimAt}
-use Rattle.sm_weigh.specs.Order.{AreInOrder}
+use Rattle.sm_weigh.specs.Order.{AreNeedsInOrder}
 use Rattle.sm_weigh.specs.declared.claims.Claim.{Claim}
 use Rattle.sm_weigh.proofs.NeedsLemmas.{needs_kept, needs_more}
 
@@ -67,7 +67,7 @@ module _ (w : Written) (above : List LineData) (x : LineData) where
           (needs_more {l = seat_market w} (rotations_in w above) (all_needs_in above) needs (at (ap is_some n)) so_far (subst (λ (o : Option (List ℕ)). IfSome o (AreNeedsOf (seat_market w) (rotations_in w above) (last_rotation w above))) n right))
       go (Some rotation) (Some needs) r n = absurd (not_both w x rotation needs r n)
 
-module _ {w : Written} {lines : List LineData} (order : AreInOrder w lines) where
+module _ {w : Written} {lines : List LineData} (order : AreNeedsInOrder w lines) where
   -- above any line there are no more lists of needs than rotations
   pub few_above : (k : ℕ) → k ≤ length lines → length (all_needs_in (take k lines)) ≤ length (rotations_in w (take k lines))
   few_above zero h = omega arith

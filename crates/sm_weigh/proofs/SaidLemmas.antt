@@ -23,11 +23,11 @@ module _ {X : Type 0} (said : LineData → Option X) (lines : List Line) (i : �
   next_said y one = said_next ∙ ap (λ (o : Option X). filter_map said (map line_of (take i lines)) ++ cons_option o []) one
 
 -- lines that say nothing of needs, and of a flow
-pub no_needs : (x : Line) → ((i : ℕ) (needed : Vec ℕ Global) → x ≡ Line.Needs i needed → ⊥) → needs_in (line_of x) ≡ None
-no_needs (Line.Needs i needed) a = absurd (a i needed refl)
-no_needs _ a = refl
+pub needs_in-none : (x : Line) → ((i : ℕ) (needed : Vec ℕ Global) → x ≡ Line.Needs i needed → ⊥) → needs_in (line_of x) ≡ None
+needs_in-none (Line.Needs i needed) a = absurd (a i needed refl)
+needs_in-none _ a = refl
 
 -- a line that is none of a flow says none
-pub no_flow : (x : Line) → ((from to amount : ℕ) → x ≡ Line.Flow from to amount → ⊥) → flow_in (line_of x) ≡ None
-no_flow (Line.Flow from to amount) a = absurd (a from to amount refl)
-no_flow _ a = refl
+pub flow_in-none : (x : Line) → ((from to amount : ℕ) → x ≡ Line.Flow from to amount → ⊥) → flow_in (line_of x) ≡ None
+flow_in-none (Line.Flow from to amount) a = absurd (a from to amount refl)
+flow_in-none _ a = refl

@@ -4,7 +4,7 @@ use Rattle.sm_instance.specs.Written.{Written}
 use Rattle.sm_instance.specs.Matching.{IsMatching as IsWrittenMatching}
 use Rattle.sm_market.specs.Lists.{Lists}
 use Rattle.sm_market.specs.Matching.{Places}
-use Rattle.sm_net.specs.Moves.{moves_in, AreMoves}
+use Rattle.sm_net.specs.Moves.{moves_in, AreMovesByRotation}
 use Rattle.sm_market.specs.Stable.{IsStable}
 use Rattle.sm_theory.specs.Rotations.{IsExposed}
 use Rattle.sm_theory.specs.Chains.{IsCompleteChain}
@@ -14,13 +14,13 @@ use Rattle.sm_seats.specs.SeatMarket.{seat_market}
 use Rattle.sm_seats.specs.Seating.{seating_of}
 use Rattle.sm_seats.specs.Correspondence.{IsSeating}
 use Rattle.sm_report.specs.Lines.{LineData}
-use Rattle.sm_judge.specs.declared.walk.Walk.{Walk}
+use Rattle.sm_judge.specs.declared.chain_walk.ChainWalk.{ChainWalk}
 use Rattle.sm_judge.specs.Said.{rotations_in}
 use Rattle.sm_judge.specs.SeatMatchings.{first_of}
 use Rattle.sm_judge.specs.Flows.{matching_of_set}
 use Rattle.sm_weigh.specs.Kept.{IsWholeWalk}
 
-module _ {w : Written} {above : List LineData} {walk : Walk} (k : IsWholeWalk w above walk) where
+module _ {w : Written} {above : List LineData} {walk : ChainWalk} (k : IsWholeWalk w above walk) where
   -- it is a complete chain
   pub complete : IsCompleteChain (seat_market w) (first_of w above) (rotations_in w above)
   complete =
@@ -32,7 +32,7 @@ module _ {w : Written} {above : List LineData} {walk : Walk} (k : IsWholeWalk w 
       }
 
   -- its places, as they are found by the moves
-  pub whole_set_is : (set : List Bool) → (l : Lists) → l ≡ seat_market w → (places : List (Option ℕ)) → ((rotations : List (List (ℕ × ℕ))) → AreMoves l rotations (moves_in walk.moves.items) → places ≡ (matching_of l walk.first.places rotations set).proposers)
+  pub whole_set_is : (set : List Bool) → (l : Lists) → l ≡ seat_market w → (places : List (Option ℕ)) → ((rotations : List (List (ℕ × ℕ))) → AreMovesByRotation l rotations (moves_in walk.moves.items) → places ≡ (matching_of l walk.first.places rotations set).proposers)
       → places ≡ (matching_of (seat_market w) (first_of w above) (rotations_in w above) set).proposers
   whole_set_is set l same places found =
       let i = k.is_walk.is_walk in

@@ -9,7 +9,7 @@ use Rattle.sm_market.specs.Matching.{Places}
 use Rattle.sm_theory.specs.Chains.{AreNeedsOf}
 use Rattle.sm_theory.specs.ClosedSets.{IsClosed, matching_of}
 use Rattle.sm_theory.specs.FlowLines.{AreOnNodes}
-use Rattle.sm_net.specs.CheckedNets.{NetParts, net_in as net_of_parts, NeedsAreOf}
+use Rattle.sm_net.specs.CheckedNets.{NetParts, net_of_parts, NeedsAreOf}
 use Rattle.sm_net.specs.Repeats.{AreRepeats}
 use Rattle.sm_seats.specs.SeatMarket.{seat_market}
 use Rattle.sm_seats.specs.Seating.{seating_of, written_of, levels_of}
@@ -19,13 +19,13 @@ use Rattle.sm_theory.specs.Sizes.{weights_in, AreWeights}
 use Rattle.sm_report.specs.Lines.{LineData, line_of}
 use Rattle.sm_forms.specs.Layouts.{is_empty}
 use Rattle.sm_judge.specs.declared.verdicts.Reason.{Reason}
-use Rattle.sm_judge.specs.declared.walk.Walk.{Walk}
+use Rattle.sm_judge.specs.declared.chain_walk.ChainWalk.{ChainWalk}
 use Rattle.sm_judge.specs.Said.{rotations_in, all_needs_in, flows_in, taken_in, value_in, pairs_in, first_said, is_up_to_rotations}
 use Rattle.sm_judge.specs.SeatMatchings.{first_of}
 use Rattle.sm_judge.specs.Flows.{size_in, net_in, on_nodes, set_of_numbers, first_level, taken_matching, LevelHolds, TakenHolds}
 use Rattle.sm_judge.specs.Pairs.{WantedHold}
 use Rattle.sm_judge.specs.Walks.{IsWalkOf, IsChainKept}
-use Rattle.sm_judge.specs.WantedKept.{AreStood}
+use Rattle.sm_judge.specs.Stood.{AreStood}
 use Rattle.sm_weigh.specs.declared.claims.Claim.{Claim}
 use Rattle.sm_weigh.specs.declared.judging.WeightJudge.{WeightJudge}
 use Rattle.sm_weigh.specs.declared.judging.Tables.{Tables}
@@ -41,23 +41,23 @@ ClaimHolds w by above line why =
     × WantedHold w (taken_matching w above) (pairs_in above) line why
 
 -- the rotations of the lines above were eliminated, and none is exposed any more
-pub record IsWholeWalk (w : Written) (above : List LineData) (walk : Walk) : Type 0 where
+pub record IsWholeWalk (w : Written) (above : List LineData) (walk : ChainWalk) : Type 0 where
   pub is_walk : IsWalkOf w above walk
   pub whole : walk.is_whole ≡ true
 
 -- so it is with some lines
-pub record HasWholeWalk (w : Written) (walk : Walk) : Type 0 where
+pub record HasWholeWalk (w : Written) (walk : ChainWalk) : Type 0 where
   pub above : List LineData
   pub walk_of : IsWholeWalk w above walk
 
 -- and these are needs of its rotations
-pub record HasNeededWalk (w : Written) (walk : Walk) (parts : NetParts) : Type 0 where
+pub record HasNeededWalk (w : Written) (walk : ChainWalk) (parts : NetParts) : Type 0 where
   pub above : List LineData
   pub walk_of : IsWholeWalk w above walk
   pub needs : NeedsAreOf (seat_market w) (rotations_in w above) parts
 
 -- and this is a closed set of them
-pub record HasClosedSet (w : Written) (walk : Walk) (set : List Bool) : Type 0 where
+pub record HasClosedSet (w : Written) (walk : ChainWalk) (set : List Bool) : Type 0 where
   pub above : List LineData
   pub walk_of : IsWholeWalk w above walk
   pub closed : IsClosed (seat_market w) (rotations_in w above) set
@@ -78,7 +78,7 @@ pub record IsFlowOf (size : ℕ) (lines above : List LineData) (flow : Flow) : T
   pub nodes : AreOnNodes (size + 2) (map (on_nodes size) (flows_in above))
 
 -- a line follows those above it among the lines of an answer
-pub record IsNext (lines above : List LineData) (line : LineData) : Type 0 where
+pub record IsNextLine (lines above : List LineData) (line : LineData) : Type 0 where
   pub below : List LineData
   pub is : lines ≡ above ++ line ∷ below
 
@@ -99,12 +99,12 @@ pub record IsClaimOf (w : Written) (by : Measure) (lines above : List LineData) 
   pub stood : AreStood w (pairs_in above) claim.stood.stood.items
 
 -- it is of some lines, behind which this one stands
-pub record HasClaim (w : Written) (by : Measure) (line : LineData) (walk : Walk) (claim : Claim) : Type 0 where
+pub record HasClaim (w : Written) (by : Measure) (line : LineData) (walk : ChainWalk) (claim : Claim) : Type 0 where
   pub lines : List LineData
   pub above : List LineData
   pub kept : IsClaimOf w by lines above claim
   pub walk_of : IsWholeWalk w above walk
-  pub next : IsNext lines above line
+  pub next : IsNextLine lines above line
 
 -- while the rotations are written nothing is claimed behind them
 abbrev pub IsClaimAt : Written → Measure → (lines above : List LineData) → Option Claim → Type 0
@@ -119,7 +119,7 @@ pub record AreTables (w : Written) (by : Measure) (tables : Tables) : Type 0 whe
   pub small : AreWeights (seat_market w) (weights_in tables.weights.items)
 
 -- the lines above have all rotations, each with what it needs
-pub record IsGround (w : Written) (above : List LineData) (walk : Walk) : Type 0 where
+pub record HasWholePoset (w : Written) (above : List LineData) (walk : ChainWalk) : Type 0 where
   pub walk_of : IsWholeWalk w above walk
   pub one_each : length (all_needs_in above) ≡ length (rotations_in w above)
   pub needs : AreNeedsSoFar (seat_market w) (rotations_in w above) (all_needs_in above)

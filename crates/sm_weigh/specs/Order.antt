@@ -6,7 +6,7 @@ use Rattle.sm_report.specs.Lines.{LineData}
 use Rattle.sm_judge.specs.Said.{rotations_in, needs_in, all_needs_in, is_up_to_rotations}
 
 -- what a rotation needs stands behind it, before the next one, and stands there for each; and nothing else stands among them
-pub record AreInOrder (w : Written) (lines : List LineData) : Type 0 where
+pub record AreNeedsInOrder (w : Written) (lines : List LineData) : Type 0 where
   pub at : (k : ℕ) (x : LineData) → slice_get lines k ≡ Some x → IsSome (needs_in x)
       → length (all_needs_in (take k lines)) + 1 ≡ length (rotations_in w (take k lines))
   pub behind : (k : ℕ) (x : LineData) → slice_get lines k ≡ Some x → is_up_to_rotations x ≡ false

@@ -4,7 +4,7 @@ ghost use Rattle.std.specs.Prelude.{◌≡◌, ℕ, ◌+◌, ◌<◌, ◌≤◌,
 ghost use Rattle.std.specs.Option.{option_or};
 ghost use Rattle.sm_instance.specs.Matching.{IsMatching};
 ghost use Rattle.sm_theory.specs.FlowLines.{AreOnNodes};
-ghost use Rattle.sm_net.specs.CheckedNets.{net_in};
+ghost use Rattle.sm_net.specs.CheckedNets.{net_of_parts};
 ghost use Rattle.sm_seats.specs.Correspondence.{IsSeating};
 ghost use Rattle.sm_seats.specs.Seating.{seating_of};
 ghost use Rattle.sm_report.specs.Heads.{HeadData};
@@ -15,14 +15,14 @@ ghost use Rattle.sm_judge.specs.Pairs.{WantedHold};
 ghost use Rattle.sm_judge.specs.Said.{is_up_to_rotations};
 ghost use Rattle.sm_judge.specs.Verdicts.{Finds};
 ghost use Rattle.sm_judge.specs.Walking.{FindsOrKeeps};
-ghost use Rattle.sm_judge.specs.WantedKept.{AreStood};
+ghost use Rattle.sm_judge.specs.Stood.{AreStood};
 ghost use Rattle.sm_weigh.specs.ClaimClauses.{ValueHolds, CutHolds, TotalHolds, EndHolds};
-ghost use Rattle.sm_weigh.specs.Kept.{ClaimHolds, HasClaim, IsClaimOf, IsGround, IsNext, IsWholeWalk};
+ghost use Rattle.sm_weigh.specs.Kept.{ClaimHolds, HasClaim, IsClaimOf, HasWholePoset, IsNextLine, IsWholeWalk};
 
 use crate::flow_lines::Flow;
 use crate::judging::Weighed;
 use crate::taken::Taken;
-use sm_judge::{Reason, Stood, Walk};
+use sm_judge::{ChainWalk, Reason, Stood};
 use sm_net::{CheckedNet, amount_from_source, is_conserved, is_residual_reach};
 use sm_report::Line;
 use std::alloc::{AllocError, Global};
@@ -44,7 +44,7 @@ impl Claim {
         &mut self,
         alloc: Global,
         weighed: &Weighed,
-        walk: &Walk,
+        walk: &ChainWalk,
         line: &Line,
     ) -> Result<Option<Reason>, AllocError>
         requires seats { weighed.now.seats.now ≡ seating_of weighed.now.instance.now }
@@ -57,8 +57,8 @@ impl Claim {
             walk.now self.old }
         ensures { IfOk result (λ why. (lines above : List LineData)
             → IsClaimOf weighed.now.instance.now weighed.now.by lines above self.old
-            → IsGround weighed.now.instance.now above walk.now
-            → IsNext lines above (line_of line.now)
+            → HasWholePoset weighed.now.instance.now above walk.now
+            → IsNextLine lines above (line_of line.now)
             → FindsOrKeeps (ClaimHolds weighed.now.instance.now weighed.now.by above
             (line_of line.now))
             (IsClaimOf weighed.now.instance.now weighed.now.by lines (above
@@ -81,7 +81,7 @@ impl Claim {
         &mut self,
         alloc: Global,
         weighed: &Weighed,
-        walk: &Walk,
+        walk: &ChainWalk,
         numbers: &[u32],
     ) -> Result<Option<Reason>, AllocError>
         requires seats { weighed.now.seats.now ≡ seating_of weighed.now.instance.now }
@@ -92,7 +92,7 @@ impl Claim {
         ensures { IfOk result (λ why. (lines above : List LineData)
             → IsClaimOf weighed.now.instance.now weighed.now.by lines above self.old
             → IsWholeWalk weighed.now.instance.now above walk.now
-            → IsNext lines above (LineData.Taken numbers.now)
+            → IsNextLine lines above (LineData.Taken numbers.now)
             → FindsOrKeeps (ClaimHolds weighed.now.instance.now weighed.now.by above
             (LineData.Taken numbers.now))
             (IsClaimOf weighed.now.instance.now weighed.now.by lines (above
@@ -129,8 +129,8 @@ impl Claim {
 
     /// The same of the cut of the set.
     fn cut_fault(&self, cut: u64) -> Option<Reason>
-        requires { length self.now.taken.set.items ≡ (net_in self.now.net).size }
-        ensures { Finds (CutHolds (net_in self.now.net) self.now.taken.set.items
+        requires { length self.now.taken.set.items ≡ (net_of_parts self.now.net).size }
+        ensures { Finds (CutHolds (net_of_parts self.now.net) self.now.taken.set.items
             (unwrap_or self.now.value 0) cut) result }
     {
         if u128::from(cut) != self.net.cut(&self.taken.set) {
@@ -187,12 +187,12 @@ impl Claim {
         requires one_each { length self.now.stood.stood.items
             ≡ length weighed.now.instance.now.proposers }
         requires count { self.now.flow.count ≤ length self.now.flow.lines.items }
-        requires nodes { AreOnNodes ((net_in self.now.net).size
+        requires nodes { AreOnNodes ((net_of_parts self.now.net).size
             + 2) (take self.now.flow.count self.now.flow.lines.items) }
-        requires set { length self.now.taken.set.items ≡ (net_in self.now.net).size }
+        requires set { length self.now.taken.set.items ≡ (net_of_parts self.now.net).size }
         ensures { IfOk result (λ why. (pairs : List (ℕ × ℕ))
             → AreStood weighed.now.instance.now pairs self.now.stood.stood.items
-            → Finds (EndHolds (net_in self.now.net) (take self.now.flow.count
+            → Finds (EndHolds (net_of_parts self.now.net) (take self.now.flow.count
             self.now.flow.lines.items) self.now.taken.set.items
             self.now.taken.matching.places.items pairs) why) }
     {

@@ -2,7 +2,7 @@
 
 ghost use Rattle.std.specs.Prelude.{◌≡◌, ◌+◌, ◌<◌, ◌≤◌, ◌^◌, length, map, take, IfOk};
 ghost use Rattle.sm_theory.specs.FlowLines.{line_at};
-ghost use Rattle.sm_net.specs.CheckedNets.{net_in};
+ghost use Rattle.sm_net.specs.CheckedNets.{net_of_parts};
 ghost use Rattle.sm_net.specs.Repeats.{AreRepeats};
 ghost use Rattle.sm_report.specs.Lines.{line_of};
 ghost use Rattle.sm_judge.specs.Flows.{node_of, on_nodes};
@@ -57,7 +57,7 @@ impl Flow {
         requires repeats { AreRepeats self.old.lines.items self.old.repeats.items }
         ensures lines { self.new.lines ≡ self.old.lines }
         ensures repeats { self.new.repeats ≡ self.old.repeats }
-        ensures found { FindsOrKeeps (NextHolds (net_in net.now) (take self.old.count
+        ensures found { FindsOrKeeps (NextHolds (net_of_parts net.now) (take self.old.count
             self.old.lines.items)
             (line_at self.old.lines.items self.old.count)) (self.new.count ≡ self.old.count
             + 1) result }

@@ -6,7 +6,7 @@ ghost use Rattle.sm_market.specs.Lists.{Lists};
 ghost use Rattle.sm_theory.specs.Chains.{rotation_at};
 ghost use Rattle.sm_theory.specs.Sizes.{weights_in};
 ghost use Rattle.sm_theory.specs.Weights.{gain_of};
-ghost use Rattle.sm_net.specs.Moves.{moves_in, row_of_moves, AreMoves};
+ghost use Rattle.sm_net.specs.Moves.{moves_in, row_of_moves, AreMovesByRotation};
 ghost use Rattle.sm_report.specs.Lines.{line_of};
 ghost use Rattle.sm_judge.specs.Said.{all_needs_in};
 ghost use Rattle.sm_weigh.specs.Gains.{CanBeWeighed};
@@ -20,7 +20,7 @@ use std::alloc::{AllocError, Global};
 pub(crate) fn last_gain(weights: &[Vec<i64>], moves: &[Vec<Move>]) -> i64
     requires { CanBeWeighed (weights_in weights.now) (moves_in moves.now) }
     ensures { (l : Lists) (rotations : List (List (ℕ × ℕ)))
-        → AreMoves l rotations (moves_in moves.now)
+        → AreMovesByRotation l rotations (moves_in moves.now)
         → result ≡ gain_of l (weights_in weights.now) (rotation_at rotations
         (length rotations - 1)) }
 {
@@ -38,7 +38,7 @@ pub(crate) fn gains_of(
 ) -> Result<Vec<i64>, AllocError>
     requires { CanBeWeighed (weights_in weights.now) (moves_in moves.now) }
     ensures { IfOk result (λ gains. (l : Lists) (rotations : List (List (ℕ × ℕ)))
-        → AreMoves l rotations (moves_in moves.now)
+        → AreMovesByRotation l rotations (moves_in moves.now)
         → gains.items ≡ map (gain_of l (weights_in weights.now)) rotations) }
 {
     let mut gains = Vec::with_capacity(alloc, moves.len())?;

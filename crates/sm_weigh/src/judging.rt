@@ -2,7 +2,7 @@
 
 ghost use Rattle.std.specs.Prelude.{◌≡◌, ◌+◌, ◌<◌, ◌≤◌, ◌^◌, ◌++◌, ◌∷◌, [], List, All, IfOk, IfSome, IsSome, length, map, slice_index_or, take, true, false};
 ghost use Rattle.sm_seats.specs.Seating.{seating_of};
-ghost use Rattle.sm_seats.specs.Tables.{first_seats_of};
+ghost use Rattle.sm_seats.specs.Counted.{first_seats_of};
 ghost use Rattle.sm_report.specs.Heads.{HeadData};
 ghost use Rattle.sm_report.specs.Lines.{LineData, line_of};
 ghost use Rattle.sm_judge.specs.Judges.{IsKnown, IsOwnLine};
@@ -12,19 +12,19 @@ ghost use Rattle.sm_judge.specs.Verdicts.{AtLine, Finds, IsVerdict};
 ghost use Rattle.sm_judge.specs.Walks.{IsChainAt};
 ghost use Rattle.sm_judge.specs.Walking.{FindsOrKeeps};
 ghost use Rattle.std.specs.List.{list_all};
-ghost use Rattle.sm_net.specs.CheckedNets.{net_in as net_of_parts, NeedsAreOf};
+ghost use Rattle.sm_net.specs.CheckedNets.{net_of_parts, NeedsAreOf};
 ghost use Rattle.sm_seats.specs.Correspondence.{IsSeating};
 ghost use Rattle.sm_seats.specs.SeatMarket.{seat_market};
 ghost use Rattle.sm_judge.specs.Flows.{WeightHolds, net_in};
-ghost use Rattle.sm_weigh.specs.Kept.{AreTables, ClaimHolds, IsClaimAt, IsClaimOf, IsGround, IsJudgeOf};
-ghost use Rattle.sm_weigh.specs.Order.{AreInOrder};
+ghost use Rattle.sm_weigh.specs.Kept.{AreTables, ClaimHolds, IsClaimAt, IsClaimOf, HasWholePoset, IsJudgeOf};
+ghost use Rattle.sm_weigh.specs.Order.{AreNeedsInOrder};
 
 use crate::claims::Claim;
 use crate::flow_lines::Flow;
 use crate::gains::{all_needs, gains_of, last_gain};
 use crate::taken::Taken;
 use sm_instance::{Instance, Measure};
-use sm_judge::{Chain, Judge, Reason, Stood, Verdict, Walk, is_up_to_rotations};
+use sm_judge::{ChainWalk, Judge, Reason, RotationsJudge, Stood, Verdict, is_up_to_rotations};
 use sm_net::{CheckedNet, bonds};
 use sm_placed::{leveled, weights_of_places};
 use sm_report::Line;
@@ -55,7 +55,7 @@ struct WeightJudge<'a> {
     weighed: &'a Weighed<'a>,
     lines: &'a [Line],
     tables: Tables,
-    chain: Chain<'a>,
+    chain: RotationsJudge<'a>,
     claim: Option<Claim>,
 }
 
@@ -80,7 +80,7 @@ pub fn weight_verdict(
     requires firsts { firsts.now ≡ first_seats_of weighed.now.instance.now }
     requires own { All (IsOwnLine (answer weighed.now.instance.now
         (HeadData.Weight weighed.now.by))) (map line_of lines.now) }
-    requires in_order { AreInOrder weighed.now.instance.now (map line_of lines.now) }
+    requires in_order { AreNeedsInOrder weighed.now.instance.now (map line_of lines.now) }
     ensures { IfOk result (λ v. IsVerdict (AtLine (Clauses (answer weighed.now.instance.now
         (HeadData.Weight weighed.now.by)))
         (map line_of lines.now)) first_line v) }
@@ -119,7 +119,7 @@ impl<'a> WeightJudge<'a> {
             &levels,
         )?;
         let market = weighed.seats.market();
-        let chain = Chain::none(alloc, weighed.instance, market, firsts)?;
+        let chain = RotationsJudge::none(alloc, weighed.instance, market, firsts)?;
         Ok(WeightJudge {
             weighed,
             lines,
@@ -135,7 +135,7 @@ impl<'a> WeightJudge<'a> {
         requires own { All (IsOwnLine (answer self.old.weighed.now.instance.now
             (HeadData.Weight self.old.weighed.now.by)))
             (map line_of self.old.lines.now) }
-        requires in_order { AreInOrder self.old.weighed.now.instance.now
+        requires in_order { AreNeedsInOrder self.old.weighed.now.instance.now
             (map line_of self.old.lines.now) }
         requires known { IsJudgeOf self.old.weighed.now.instance.now self.old.weighed.now.by
             (map line_of self.old.lines.now) k self.old }
@@ -198,7 +198,7 @@ impl<'a> WeightJudge<'a> {
             (slice_index_or (map line_of self.old.lines.now) k LineData.End) }
         requires behind { is_up_to_rotations (slice_index_or (map line_of self.old.lines.now) k
             LineData.End) ≡ false }
-        requires ground { IfSome self.old.chain.walk (IsGround self.old.weighed.now.instance.now
+        requires ground { IfSome self.old.chain.walk (HasWholePoset self.old.weighed.now.instance.now
             (take k (map line_of self.old.lines.now))) }
         requires walked { IsSome self.old.chain.walk }
         requires known { IsClaimAt self.old.weighed.now.instance.now self.old.weighed.now.by
@@ -238,7 +238,7 @@ fn claim_of(
     alloc: Global,
     weighed: &Weighed,
     tables: &Tables,
-    walk: &Walk,
+    walk: &ChainWalk,
     lines: &[Line],
     k: usize,
 ) -> Result<Claim, AllocError>
@@ -246,7 +246,7 @@ fn claim_of(
     requires seats { weighed.now.seats.now ≡ seating_of weighed.now.instance.now }
     requires seating { IsSeating weighed.now.instance.now (seating_of weighed.now.instance.now) }
     requires tables { AreTables weighed.now.instance.now weighed.now.by tables.now }
-    requires ground { IsGround weighed.now.instance.now (take k (map line_of lines.now)) walk.now }
+    requires ground { HasWholePoset weighed.now.instance.now (take k (map line_of lines.now)) walk.now }
     requires up_to { list_all is_up_to_rotations (take k (map line_of lines.now)) ≡ true }
     ensures { IfOk result (λ claim. IsClaimOf weighed.now.instance.now weighed.now.by
         (map line_of lines.now)
@@ -270,12 +270,12 @@ fn net_of(
     alloc: Global,
     weighed: &Weighed,
     tables: &Tables,
-    walk: &Walk,
+    walk: &ChainWalk,
     lines: &[Line],
 ) -> Result<CheckedNet, AllocError>
     requires seats { weighed.now.seats.now ≡ seating_of weighed.now.instance.now }
     requires tables { AreTables weighed.now.instance.now weighed.now.by tables.now }
-    requires ground { IsGround weighed.now.instance.now (map line_of lines.now) walk.now }
+    requires ground { HasWholePoset weighed.now.instance.now (map line_of lines.now) walk.now }
     ensures net { IfOk result (λ net. net_of_parts net
         ≡ net_in weighed.now.instance.now weighed.now.by (map line_of lines.now)) }
     ensures needs { IfOk result (λ net. NeedsAreOf (seat_market weighed.now.instance.now)

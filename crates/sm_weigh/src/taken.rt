@@ -14,7 +14,7 @@ ghost use Rattle.sm_weigh.specs.Kept.{IsWholeWalk, HasWholeWalk, HasNeededWalk, 
 
 use crate::judging::Weighed;
 use sm_instance::Assignment;
-use sm_judge::Walk;
+use sm_judge::ChainWalk;
 use sm_market::Pairing;
 use sm_net::{CheckedNet, is_closed, set_places};
 use std::alloc::{AllocError, Global};
@@ -29,7 +29,11 @@ pub(crate) struct Taken {
 
 impl Taken {
     /// No set is taken yet: the empty one stands in its place.
-    pub(crate) fn none(alloc: Global, weighed: &Weighed, walk: &Walk) -> Result<Taken, AllocError>
+    pub(crate) fn none(
+        alloc: Global,
+        weighed: &Weighed,
+        walk: &ChainWalk,
+    ) -> Result<Taken, AllocError>
         requires seats { weighed.now.seats.now ≡ seating_of weighed.now.instance.now }
         requires seating { IsSeating weighed.now.instance.now
             (seating_of weighed.now.instance.now) }
@@ -54,7 +58,7 @@ impl Taken {
     pub(crate) fn of(
         alloc: Global,
         weighed: &Weighed,
-        walk: &Walk,
+        walk: &ChainWalk,
         net: &CheckedNet,
         numbers: &[u32],
     ) -> Result<Option<Taken>, AllocError>
@@ -128,7 +132,7 @@ fn set_of(alloc: Global, size: usize, numbers: &[u32]) -> Result<Vec<bool>, Allo
 fn matching_of(
     alloc: Global,
     weighed: &Weighed,
-    walk: &Walk,
+    walk: &ChainWalk,
     set: &[bool],
 ) -> Result<Assignment, AllocError>
     requires seats { weighed.now.seats.now ≡ seating_of weighed.now.instance.now }

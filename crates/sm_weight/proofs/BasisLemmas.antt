@@ -9,12 +9,11 @@ use Rattle.std.proofs.lemmas.List.Sums.{prefix_len-le-length}
 use Rattle.sm_lists.proofs.Counting.{lt_or_le, eq_or_ne}
 use Rattle.sm_market.specs.Lists.{Lists, row}
 use Rattle.sm_market.specs.Matching.{Places, held}
-use Rattle.sm_theory.specs.Chains.{rotation_at, AreNeedsOf}
+use Rattle.sm_theory.specs.Chains.{rotation_at, AreNeedsOf, AreNeeds}
 use Rattle.sm_theory.specs.Weights.{gain_of}
 use Rattle.sm_theory.specs.Net.{Net, room_of, IsUnbounded, HasEdge}
 use Rattle.sm_theory.specs.Conditions.{has_level, moves_to, moves_off, entry_node, exit_node, forces, forbids, leads_to_need, rise_of, fall_of, allows_nothing, net_of}
 use Rattle.sm_theory.proofs.Net.Tests.{and_parts, or_parts, not_parts, not_same, Passes, some_passes}
-use Rattle.sm_rotations.specs.Graph.{AreNeeds}
 use Rattle.sm_weight.specs.declared.edges.Edge.{Edge}
 use Rattle.sm_weight.specs.Edges.{edge_at, loose, IsRoomOf, IsCovered, AreMerged, AreEdges}
 use Rattle.sm_weight.specs.Basis.{joined, need_edges, gain_edge, gain_edges, forced_edges, forbidden_edges, raw_edges}

@@ -12,16 +12,16 @@ use Rattle.sm_flow.specs.Graph as graph
 use Rattle.sm_flow.specs.Graph.{Graph, edge_count, from_of, to_of}
 use Rattle.sm_flow.specs.Flowing as flowing
 use Rattle.sm_flow.specs.Flowing.{Flowing, amount, at_node, coming, leaving, IsWithin, HasRoom, IsAlong, IsAgainst, IsUnboundedStep, AreNodes}
-use Rattle.sm_flow.specs.Answer.{IsAnswer}
+use Rattle.sm_flow.specs.Answer.{IsFlowAnswer}
 use Rattle.sm_flow.specs.declared.net.Edge.{Edge as GraphEdge}
 use Rattle.sm_flow.specs.declared.net.Room.TheVariants.{Bounded, Unbounded}
 use Rattle.sm_theory.specs.Net.{Net, sink_of, room_of, IsUnbounded, HasEdge, is_in, NoneLeaves, IsPath, IsReachable}
 use Rattle.sm_theory.specs.Flows.{IsFlow, flow_value, IsResidualStep, IsResidualReach}
 use Rattle.sm_weight.specs.declared.edges.Edge.{Edge}
 use Rattle.sm_theory.specs.declared.flow_lines.FlowLine.{FlowLine}
-use Rattle.sm_weight.specs.Edges.{edge_at, graph_of, graph_edge, room_in, HaveSameEnds, IsBefore as IsEdgeBefore, AreRising, IsRoomOf, AreEdges}
-use Rattle.sm_weight.specs.Lines.{line_of, lines_to, AreReached, IsCutFound}
-use Rattle.sm_theory.specs.FlowLines.{line_at, amount_on, amount_from, amount_to, IsLineBefore, AreLines}
+use Rattle.sm_weight.specs.Edges.{edge_at, graph_of, graph_edge, room_in, HaveSameEnds, IsEdgeBefore, AreEdgesRising, IsRoomOf, AreEdges}
+use Rattle.sm_weight.specs.Lines.{amount_line, lines_to, AreReached, IsCutFound}
+use Rattle.sm_theory.specs.FlowLines.{line_at, amount_on, amount_from, amount_to, IsLineBefore, AreFlowLines}
 use Rattle.sm_theory.proofs.Flow.Lines.{flow_of_lines}
 
 -- the two kinds of room
@@ -31,7 +31,7 @@ either net i j None w = inl (refl, w)
 either net i j (Some b) w = inr (b, refl, w.0, w.1, w.2)
 
 -- different places have different ends
-pub apart : (edges : List Edge) → AreRising edges → (a b : ℕ) → a < length edges → b < length edges → HaveSameEnds (edge_at edges a) (edge_at edges b) → a ≡ b
+pub apart : (edges : List Edge) → AreEdgesRising edges → (a b : ℕ) → a < length edges → b < length edges → HaveSameEnds (edge_at edges a) (edge_at edges b) → a ≡ b
 apart edges rising a b x y same = elim (lt_or_le a b) [
   | inl less ↦ absurd (no (edge_at edges a) (edge_at edges b) (rising a b less y) same)
   | inr le ↦ elim (eq_or_ne a b) [
@@ -58,7 +58,7 @@ module _ (edges : List Edge) (amounts : List ℕ) where
   lines_sum f none zero = refl
   lines_sum f none (suc n) = go (amount amounts n) refl (lines_sum f none n)
     where
-      go : (a : ℕ) → amount amounts n ≡ a → sum_by f (lines_to edges amounts n) ≡ sum_to (λ e. f (line e)) n → sum_by f (lines_to edges amounts n ++ line_of (edge_at edges n) (amount amounts n)) ≡ sum_to (λ e. f (line e)) n + f (line n)
+      go : (a : ℕ) → amount amounts n ≡ a → sum_by f (lines_to edges amounts n) ≡ sum_to (λ e. f (line e)) n → sum_by f (lines_to edges amounts n ++ amount_line (edge_at edges n) (amount amounts n)) ≡ sum_to (λ e. f (line e)) n + f (line n)
       go zero e before = rw e (omega (arith, ap (sum_by f) (append-nil (lines_to edges amounts n)), before, none (edge_at edges n).from (edge_at edges n).to))
       go (suc a) e before = rw e (omega (arith, sum_by_push f (lines_to edges amounts n) (record { from = (edge_at edges n).from; to = (edge_at edges n).to; amount = suc a }), before))
 
@@ -67,17 +67,17 @@ module _ (edges : List Edge) (amounts : List ℕ) where
   lines_all P zero all = λ b h. absurd (omega arith)
   lines_all P (suc n) all = go (amount amounts n) refl (lines_all P n (λ e h some. all e (omega arith) some))
     where
-      go : (a : ℕ) → amount amounts n ≡ a → ((b : ℕ) → b < length (lines_to edges amounts n) → P (line_at (lines_to edges amounts n) b)) → (b : ℕ) → b < length (lines_to edges amounts n ++ line_of (edge_at edges n) (amount amounts n)) → P (line_at (lines_to edges amounts n ++ line_of (edge_at edges n) (amount amounts n)) b)
+      go : (a : ℕ) → amount amounts n ≡ a → ((b : ℕ) → b < length (lines_to edges amounts n) → P (line_at (lines_to edges amounts n) b)) → (b : ℕ) → b < length (lines_to edges amounts n ++ amount_line (edge_at edges n) (amount amounts n)) → P (line_at (lines_to edges amounts n ++ amount_line (edge_at edges n) (amount amounts n)) b)
       go zero e before = rw (e, append-nil (lines_to edges amounts n)) before
       go (suc a) e before = rw e (push_cases (λ _ x. P x) (lines_to edges amounts n) (record { from = (edge_at edges n).from; to = (edge_at edges n).to; amount = suc a }) (record { from = 0; to = 0; amount = 0 }) (rw e at (all n (omega arith) (omega (arith, e)))) before)
 
   -- lines rise as the edges do
-  lines_rise : AreRising edges → (n : ℕ) → n ≤ length edges → (a b : ℕ) → a < b → b < length (lines_to edges amounts n) → IsLineBefore (line_at (lines_to edges amounts n) a) (line_at (lines_to edges amounts n) b)
+  lines_rise : AreEdgesRising edges → (n : ℕ) → n ≤ length edges → (a b : ℕ) → a < b → b < length (lines_to edges amounts n) → IsLineBefore (line_at (lines_to edges amounts n) a) (line_at (lines_to edges amounts n) b)
   lines_rise rising zero le = λ a b x y. absurd (omega arith)
   lines_rise rising (suc n) le = go (amount amounts n) refl (lines_rise rising n (omega arith))
     where
-      go : (v : ℕ) → amount amounts n ≡ v → ((a b : ℕ) → a < b → b < length (lines_to edges amounts n) → IsLineBefore (line_at (lines_to edges amounts n) a) (line_at (lines_to edges amounts n) b)) → (a b : ℕ) → a < b → b < length (lines_to edges amounts n ++ line_of (edge_at edges n) (amount amounts n))
-          → IsLineBefore (line_at (lines_to edges amounts n ++ line_of (edge_at edges n) (amount amounts n)) a) (line_at (lines_to edges amounts n ++ line_of (edge_at edges n) (amount amounts n)) b)
+      go : (v : ℕ) → amount amounts n ≡ v → ((a b : ℕ) → a < b → b < length (lines_to edges amounts n) → IsLineBefore (line_at (lines_to edges amounts n) a) (line_at (lines_to edges amounts n) b)) → (a b : ℕ) → a < b → b < length (lines_to edges amounts n ++ amount_line (edge_at edges n) (amount amounts n))
+          → IsLineBefore (line_at (lines_to edges amounts n ++ amount_line (edge_at edges n) (amount amounts n)) a) (line_at (lines_to edges amounts n ++ amount_line (edge_at edges n) (amount amounts n)) b)
       go zero e before = rw (e, append-nil (lines_to edges amounts n)) before
       go (suc v) e before = rw e more
         where
@@ -184,7 +184,7 @@ module _ (net : Net) (edges : List Edge) (are : AreEdges net edges) (flow : Flow
   here i j h = on_edge h.at h.there i j h.begins h.ends
 
   -- the lines are amounts on edges
-  pub lines_are : AreLines net lines
+  pub lines_are : AreFlowLines net lines
   lines_are = record {
     rising = lines_rise edges flow.amounts are.rising m (omega arith);
     positive = lines_all edges flow.amounts (λ x. 0 < x.amount) m positive;
@@ -228,7 +228,7 @@ module _ (net : Net) (edges : List Edge) (are : AreEdges net edges) (flow : Flow
   pub unbounded_reach : (nodes : List ℕ) (u v : ℕ) → AreNodes (IsUnboundedStep g) u nodes v → IsReachable (IsUnbounded net) u v
   unbounded_reach nodes u v w = record { path = w.path; is = unbounded_path w.path u v w.is }
 
-  module _ (answer : IsAnswer g 0 (net.size + 1) flow) where
+  module _ (answer : IsFlowAnswer g 0 (net.size + 1) flow) where
     abbrev is_flow : flowing.IsFlow g 0 (net.size + 1) flow.amounts flow.value
     is_flow = answer.maximum.is_flow
 
@@ -379,9 +379,9 @@ module _ (net : Net) (edges : List Edge) (are : AreEdges net edges) (flow : Flow
 
 -- the same of what is read of a net
 pub found_in : (net : Net) {edges : List Edge} {flow : Flowing} {members : List Bool} (size : ℕ) (h : Graph) (written : List FlowLine) (value : ℕ) → AreEdges net edges → net.size ≡ size → h ≡ graph_of (size + 2) edges
-    → IsAnswer h 0 (size + 1) flow → AreReached flow.reached size members → written ≡ lines_to edges flow.amounts (length edges) → value ≡ flow.value → IsCutFound net members written value
+    → IsFlowAnswer h 0 (size + 1) flow → AreReached flow.reached size members → written ≡ lines_to edges flow.amounts (length edges) → value ≡ flow.value → IsCutFound net members written value
 found_in net {edges} {flow} {members} size h written value are e is answer same w v =
-    let answer_of : IsAnswer (graph_of (net.size + 2) edges) 0 (net.size + 1) flow = rw e (subst (λ (x : Graph). IsAnswer x 0 (size + 1) flow) is answer) in
+    let answer_of : IsFlowAnswer (graph_of (net.size + 2) edges) 0 (net.size + 1) flow = rw e (subst (λ (x : Graph). IsFlowAnswer x 0 (size + 1) flow) is answer) in
     let same_of : AreReached flow.reached net.size members = rw e same in
     rw (w, v) (found net edges are flow answer_of members same_of)
 

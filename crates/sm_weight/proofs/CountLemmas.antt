@@ -13,7 +13,7 @@ use Rattle.sm_market.specs.Limits.{IsWithinLimits}
 use Rattle.sm_market.specs.Matching.{Places, standing}
 use Rattle.sm_market.proofs.Bridge.{standing-some, stable_of}
 use Rattle.sm_theory.specs.Rotations.{proposer_at, reviewer_at, target_at}
-use Rattle.sm_theory.specs.Chains.{rotation_at, stage, IsCompleteChain, IsNeededBy, AreNeedsOf}
+use Rattle.sm_theory.specs.Chains.{rotation_at, stage, IsCompleteChain, IsNeededBy, AreNeedsOf, AreNeeds}
 use Rattle.sm_theory.specs.Marks.{MovesOver}
 use Rattle.sm_theory.specs.Weights.{total}
 use Rattle.sm_theory.proofs.Core.Chain.{stay, way_of}
@@ -22,7 +22,6 @@ use Rattle.sm_theory.proofs.Bridge.Rotation.{cycle_of}
 use Rattle.sm_theory.proofs.Bridge.Chain.{chain_of, stage_stable, eliminable_of}
 use Rattle.sm_theory.proofs.Chains.Marks.{once_over}
 use Rattle.sm_theory.proofs.Weighing.Totals.{total_same, total_changes}
-use Rattle.sm_rotations.specs.Graph.{AreNeeds}
 use Rattle.sm_poset.specs.Moves.{IsMove}
 use Rattle.sm_poset.proofs.ChainLemmas.{in_range, holds_after, move_at, further}
 
@@ -35,9 +34,9 @@ less_by : (a b : ℕ) → b ≤ a → pos a -ℤ pos b ≡ pos (a - b)
 less_by a b le = omega (arith, ints)
 
 -- n times one is n
-pub ones : (n : ℕ) → sum_to (λ _. 1) n ≡ n
-ones zero = refl
-ones (suc n) = omega (arith, ones n)
+pub sum_to-ones : (n : ℕ) → sum_to (λ _. 1) n ≡ n
+sum_to-ones zero = refl
+sum_to-ones (suc n) = omega (arith, sum_to-ones n)
 
 -- sums grow with how many values they have
 pub sum_grows : (f : ℕ → ℕ) (m n : ℕ) → m ≤ n → sum_to f m ≤ sum_to f n
@@ -123,7 +122,7 @@ module _ {l : Lists} (h : IsMarket l) {first : Places} {rotations : List (List (
 
   -- each pair goes down at least one place
   size_le : (k : ℕ) → k < length rotations → size k ≤ steps k
-  size_le k g = omega (arith, ones (size k), sum_le (size k) (λ _. 1) (λ i. new_place k i - old_place k i) (λ i b. let x = goes_down k i g b in omega arith))
+  size_le k g = omega (arith, sum_to-ones (size k), sum_le (size k) (λ _. 1) (λ i. new_place k i - old_place k i) (λ i b. let x = goes_down k i g b in omega arith))
 
   -- so they have fewer than 2^24 pairs
   pub pairs_few : IsWithinLimits l → sum_to size (length rotations) < 2 ^ 24

@@ -11,10 +11,10 @@ use Rattle.sm_lists.proofs.Counting.{lt_or_le, eq_or_ne}
 use Rattle.sm_flow.specs.Graph.{edge_count, room_sum, bounded_part, with_edge}
 use Rattle.sm_flow.specs.declared.net.Edge.{Edge as GraphEdge}
 use Rattle.sm_weight.specs.declared.edges.Edge.{Edge}
-use Rattle.sm_weight.specs.Edges.{edge_at, graph_edge, graph_of, room_in, room_size, room_total, HaveSameEnds, IsBefore, IsUpTo, AreInOrder, AreRising, IsCovered, AreMerged}
+use Rattle.sm_weight.specs.Edges.{edge_at, graph_edge, graph_of, room_in, room_size, room_total, HaveSameEnds, IsEdgeBefore, IsEdgeUpTo, AreEdgesInOrder, AreEdgesRising, IsCovered, AreMerged}
 
 -- what the order of edges says
-not_below : (x y : Edge) → is_lt (ordering_then (nat_cmp y.from x.from) (ordering_then (nat_cmp y.to x.to) (option_cmp nat_cmp y.room x.room))) ≡ false → IsUpTo x y
+not_below : (x y : Edge) → is_lt (ordering_then (nat_cmp y.from x.from) (ordering_then (nat_cmp y.to x.to) (option_cmp nat_cmp y.room x.room))) ≡ false → IsEdgeUpTo x y
 not_below x y = by_ranked (y.from < x.from) (y.from ≡ x.from) (x.from < y.from) (nat_cmp y.from x.from) (ranked y.from x.from _ refl)
     (λ e less h. absurd (false≢true (sym h ∙ ap (λ o. is_lt (ordering_then o rest)) e)))
     (λ e same h. second same (ap (λ o. is_lt (ordering_then o rest)) (sym e) ∙ h))
@@ -28,7 +28,7 @@ not_below x y = by_ranked (y.from < x.from) (y.from ≡ x.from) (x.from < y.from
     rooms None (Some n) h e = absurd (false≢true (sym h))
     rooms (Some n) b h e = absurd (grind (arith, e))
 
-    second : y.from ≡ x.from → is_lt (ordering_then (nat_cmp y.to x.to) (option_cmp nat_cmp y.room x.room)) ≡ false → IsUpTo x y
+    second : y.from ≡ x.from → is_lt (ordering_then (nat_cmp y.to x.to) (option_cmp nat_cmp y.room x.room)) ≡ false → IsEdgeUpTo x y
     second same = by_ranked (y.to < x.to) (y.to ≡ x.to) (x.to < y.to) (nat_cmp y.to x.to) (ranked y.to x.to _ refl)
         (λ e less h. absurd (false≢true (sym h ∙ ap (λ o. is_lt (ordering_then o (option_cmp nat_cmp y.room x.room))) e)))
         (λ e also h. inr ((sym same, sym also), rooms y.room x.room (ap (λ o. is_lt (ordering_then o (option_cmp nat_cmp y.room x.room))) (sym e) ∙ h)))
@@ -37,16 +37,16 @@ not_below x y = by_ranked (y.from < x.from) (y.from ≡ x.from) (x.from < y.from
 -- where no neighbours compare the wrong way round, the edges are in order
 pub in_order : (edges : List Edge) → ((k : ℕ) (d : Edge) → 0 ≤ k → k + 1 < length edges
     → is_lt (ordering_then (nat_cmp (get_or edges (k + 1) d).from (get_or edges k d).from) (ordering_then (nat_cmp (get_or edges (k + 1) d).to (get_or edges k d).to) (option_cmp nat_cmp (get_or edges (k + 1) d).room (get_or edges k d).room))) ≡ false)
-    → AreInOrder edges
+    → AreEdgesInOrder edges
 in_order edges sorted k less = not_below (edge_at edges k) (edge_at edges (k + 1)) (sorted k (record { from = 0; to = 0; room = None }) (omega arith) less)
 
-before_trans : (x y z : Edge) → IsBefore x y → IsBefore y z → IsBefore x z
+before_trans : (x y z : Edge) → IsEdgeBefore x y → IsEdgeBefore y z → IsEdgeBefore x z
 before_trans x y z (inl a) (inl b) = inl (omega arith)
 before_trans x y z (inl a) (inr b) = inl (omega (arith, b.0))
 before_trans x y z (inr a) (inl b) = inl (omega (arith, a.0))
 before_trans x y z (inr a) (inr b) = inr (a.0 ∙ b.0, omega (arith, a.1, b.1))
 
-before_like : (x y z : Edge) → HaveSameEnds x y → IsBefore y z → IsBefore x z
+before_like : (x y z : Edge) → HaveSameEnds x y → IsEdgeBefore y z → IsEdgeBefore x z
 before_like x y z same (inl b) = inl (omega (arith, same.0))
 before_like x y z same (inr b) = inr (same.0 ∙ b.0, omega (arith, same.1, b.1))
 
@@ -56,7 +56,7 @@ contains_at xs a less = (a, less, get_or_default xs a (edge_at xs a) _ less)
 -- the first of the first i edges with each two ends
 pub record IsOnce (edges once : List Edge) (i : ℕ) : Type 0 where
   pub few : length once ≤ i
-  pub rising : AreRising once
+  pub rising : AreEdgesRising once
   pub among : (a : ℕ) → a < length once → Contains edges (edge_at once a)
   pub covers : (c : ℕ) → c < i → IsCovered once (edge_at edges c)
   pub some : 0 < i → 0 < length once
@@ -79,13 +79,13 @@ totals : (edges : List Edge) (i : ℕ) → i < length edges → room_total (take
 totals edges i less = sum_by_more (λ (e : Edge). room_size e.room) edges i (record { from = 0; to = 0; room = None }) less
 
 -- an edge with new ends
-pub once_new : {edges once : List Edge} (i : ℕ) → AreInOrder edges → IsOnce edges once i → i < length edges
+pub once_new : {edges once : List Edge} (i : ℕ) → AreEdgesInOrder edges → IsOnce edges once i → i < length edges
     → (0 < i → HaveSameEnds (edge_at edges (i - 1)) (edge_at edges i) → ⊥) → IsOnce edges (once ++ edge_at edges i ∷ []) (i + 1)
 once_new {edges} {once} i order w less new = record {
   few = omega (arith, long, w.few);
   rising = λ a b x y. elim (lt_or_le b (length once)) [
-    | inl k ↦ subst (λ e. IsBefore e (edge_at more b)) (sym (old a (omega arith))) (subst (λ e. IsBefore (edge_at once a) e) (sym (old b k)) (w.rising a b x k))
-    | inr k ↦ subst (λ e. IsBefore e (edge_at more b)) (sym (old a (omega (arith, long)))) (subst (λ e. IsBefore (edge_at once a) e) (sym (at b (omega (arith, long)))) (up a (omega (arith, long))))
+    | inl k ↦ subst (λ e. IsEdgeBefore e (edge_at more b)) (sym (old a (omega arith))) (subst (λ e. IsEdgeBefore (edge_at once a) e) (sym (old b k)) (w.rising a b x k))
+    | inr k ↦ subst (λ e. IsEdgeBefore e (edge_at more b)) (sym (old a (omega (arith, long)))) (subst (λ e. IsEdgeBefore (edge_at once a) e) (sym (at b (omega (arith, long)))) (up a (omega (arith, long))))
   ];
   among = λ a x. elim (lt_or_le a (length once)) [
     | inl k ↦ subst (Contains edges) (sym (old a k)) (w.among a k)
@@ -118,23 +118,23 @@ once_new {edges} {once} i order w less new = record {
     at a k = get_or_push once (edge_at edges i) (record { from = 0; to = 0; room = None }) a k
 
     -- the last one is before the new one
-    top : 0 < i → IsBefore (edge_at once (length once - 1)) (edge_at edges i)
+    top : 0 < i → IsEdgeBefore (edge_at once (length once - 1)) (edge_at edges i)
     top some =
         let e : i - 1 + 1 ≡ i = omega arith in
-        go (subst (λ j. IsUpTo (edge_at edges (i - 1)) (edge_at edges j)) e (order (i - 1) (omega arith)))
+        go (subst (λ j. IsEdgeUpTo (edge_at edges (i - 1)) (edge_at edges j)) e (order (i - 1) (omega arith)))
       where
-        go : IsUpTo (edge_at edges (i - 1)) (edge_at edges i) → IsBefore (edge_at once (length once - 1)) (edge_at edges i)
+        go : IsEdgeUpTo (edge_at edges (i - 1)) (edge_at edges i) → IsEdgeBefore (edge_at once (length once - 1)) (edge_at edges i)
         go (inl b) = before_like (edge_at once (length once - 1)) (edge_at edges (i - 1)) (edge_at edges i) (w.last some) b
         go (inr b) = absurd (new some b.0)
 
-    up : (a : ℕ) → a < length once → IsBefore (edge_at once a) (edge_at edges i)
+    up : (a : ℕ) → a < length once → IsEdgeBefore (edge_at once a) (edge_at edges i)
     up a k = elim (eq_or_ne a (length once - 1)) [
-      | inl e ↦ subst (λ b. IsBefore (edge_at once b) (edge_at edges i)) (sym e) (top (omega (arith, w.few)))
+      | inl e ↦ subst (λ b. IsEdgeBefore (edge_at once b) (edge_at edges i)) (sym e) (top (omega (arith, w.few)))
       | inr ne ↦ before_trans (edge_at once a) (edge_at once (length once - 1)) (edge_at edges i) (w.rising a (length once - 1) (omega arith) (omega arith)) (top (omega (arith, w.few)))
     ]
 
 -- one with the ends of the last one
-pub once_same : {edges once : List Edge} (i : ℕ) → AreInOrder edges → IsOnce edges once i → i < length edges
+pub once_same : {edges once : List Edge} (i : ℕ) → AreEdgesInOrder edges → IsOnce edges once i → i < length edges
     → 0 < i → HaveSameEnds (edge_at edges (i - 1)) (edge_at edges i) → IsOnce edges once (i + 1)
 once_same {edges} {once} i order w less some same = record {
   few = omega (arith, w.few);
@@ -149,7 +149,7 @@ once_same {edges} {once} i order w less some same = record {
   small = omega (arith, totals edges i less, w.small);
 }
   where
-    rooms : IsUpTo (edge_at edges (i - 1)) (edge_at edges i) → (edge_at edges i).room ≡ None → (edge_at edges (i - 1)).room ≡ None
+    rooms : IsEdgeUpTo (edge_at edges (i - 1)) (edge_at edges i) → (edge_at edges i).room ≡ None → (edge_at edges (i - 1)).room ≡ None
     rooms (inr b) none = b.1 none
     rooms (inl (inl b)) none = absurd (omega (arith, same.0))
     rooms (inl (inr b)) none = absurd (omega (arith, same.1, b.1))
@@ -161,7 +161,7 @@ once_same {edges} {once} i order w less some same = record {
           at = v.at;
           there = v.there;
           ends = (v.ends.0 ∙ same.0, v.ends.1 ∙ same.1);
-          unbounded = λ none. v.unbounded (rooms (subst (λ j. IsUpTo (edge_at edges (i - 1)) (edge_at edges j)) e (order (i - 1) (omega arith))) none);
+          unbounded = λ none. v.unbounded (rooms (subst (λ j. IsEdgeUpTo (edge_at edges (i - 1)) (edge_at edges j)) e (order (i - 1) (omega arith))) none);
         }
 
 -- once all edges are looked at, those that were taken are the edges with different ends
@@ -185,22 +185,22 @@ merged_of {edges} {sorted} {once} p w = record {
 }
 
 -- the graph of some edges
-pub count_is : (nodes : ℕ) (edges : List Edge) → edge_count (graph_of nodes edges) ≡ length edges
-count_is nodes edges = length-map edges graph_edge
+pub edge_count-graph_of : (nodes : ℕ) (edges : List Edge) → edge_count (graph_of nodes edges) ≡ length edges
+edge_count-graph_of nodes edges = length-map edges graph_edge
 
 part_is : (room : Option ℕ) → bounded_part (room_in room) ≡ room_size room
 part_is None = refl
 part_is (Some n) = refl
 
 -- the rooms of the graph sum up to those of its edges
-pub sum_is : (nodes : ℕ) (edges : List Edge) → room_sum (graph_of nodes edges) ≡ room_total edges
-sum_is nodes [] = refl
-sum_is nodes (e ∷ es) = omega (
+pub room_sum-graph_of : (nodes : ℕ) (edges : List Edge) → room_sum (graph_of nodes edges) ≡ room_total edges
+room_sum-graph_of nodes [] = refl
+room_sum-graph_of nodes (e ∷ es) = omega (
   arith,
   sum_by-cons (λ (e : GraphEdge). bounded_part e.room) (graph_edge e) (map graph_edge es),
   sum_by-cons (λ (e : Edge). room_size e.room) e es,
   part_is e.room,
-  sum_is nodes es,
+  room_sum-graph_of nodes es,
 )
 
 -- the sum of the first i rooms and the next is that of the first i + 1
@@ -208,5 +208,5 @@ pub part_more : (edges : List Edge) (i : ℕ) → i < length edges → room_tota
 part_more edges i less = omega (arith, totals edges i less, part_is (edge_at edges i).room)
 
 -- the graph of the first i edges with the next one is that of the first i + 1
-pub graph_more : (nodes : ℕ) (edges : List Edge) (i : ℕ) → i < length edges → with_edge (graph_of nodes (take i edges)) (graph_edge (edge_at edges i)) ≡ graph_of nodes (take (i + 1) edges)
-graph_more nodes edges i less = ap (λ es. record { nodes = nodes; edges = es }) (sym (map_more graph_edge edges i (record { from = 0; to = 0; room = None }) less))
+pub with_edge-graph_of : (nodes : ℕ) (edges : List Edge) (i : ℕ) → i < length edges → with_edge (graph_of nodes (take i edges)) (graph_edge (edge_at edges i)) ≡ graph_of nodes (take (i + 1) edges)
+with_edge-graph_of nodes edges i less = ap (λ es. record { nodes = nodes; edges = es }) (sym (map_more graph_edge edges i (record { from = 0; to = 0; room = None }) less))

@@ -6,12 +6,11 @@ use Rattle.sm_theory.specs.Net.{sink_of, IsUnbounded, IsReachable}
 use Rattle.sm_theory.specs.Conditions.{allows_nothing, IsNetGround}
 use Rattle.sm_theory.proofs.Flow.Cuts.{reach_is_least_cut}
 use Rattle.sm_theory.proofs.Weighing.Lightest.{least_cut_is_lightest, reach_is_best_lightest, path_where_nothing}
-use Rattle.sm_rotations.specs.Graph.{AreNeeds}
+use Rattle.sm_theory.specs.Chains.{AreNeeds}
 use Rattle.sm_poset.specs.Posets.{RotationPoset, IsPoset}
-use Rattle.sm_weight.specs.Basis.{poset_net}
+use Rattle.sm_weight.specs.Lightest.{poset_net, IsNothingAllowed, IsFullFlow, IsLightestFound}
 use Rattle.sm_weight.specs.Lines.{IsCutFound}
 use Rattle.sm_theory.specs.FlowLines.{amount_on}
-use Rattle.sm_weight.specs.Lightest.{IsNothingAllowed, IsFullFlow, IsLightestFound}
 use Rattle.sm_weight.specs.declared.weighing.LightestFound.{LightestFound}
 
 module _ {poset : RotationPoset} (is : IsPoset poset) {levels : List (List ℕ)} (rising : AreLevels poset.lists levels) (weights : List (List ℤ)) (forced forbidden : List (ℕ × ℕ)) where

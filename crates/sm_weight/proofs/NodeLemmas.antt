@@ -17,7 +17,7 @@ use Rattle.sm_theory.proofs.Chains.Sets.{moves_follow}
 use Rattle.sm_theory.proofs.Net.Tests.{true_or_false, and_parts, not_parts}
 use Rattle.sm_poset.specs.Moves.{rotation_of, place_to, AreMovesOf, GoDown}
 use Rattle.sm_poset.proofs.ChainLemmas.{move_stands}
-use Rattle.sm_weight.specs.Spans.{level_to, place_before, BeginsAt, IsFirstTo, IsEntry, LeadsOff, IsExit}
+use Rattle.sm_weight.specs.Spans.{level_to, place_before, BeginsAt, IsFirstTo, IsEntryNode, LeadsOff, IsExit}
 
 -- a first place of the level
 begins_of : (levels : List (List ℕ)) (p level : ℕ) (first : Option ℕ) → has_level levels p level first ≡ true → BeginsAt (row levels p) first level
@@ -105,7 +105,7 @@ module _ {l : Lists} (h : IsMarket l) {first : Places} {rotations : List (List (
     of_comes a x e = and_from _ _ (lt-ltb _ _ (are.each a x).moved) (eq-eqb _ _ (ap (level_at levels p) (sym (are.each a x).place) ∙ e))
 
     -- the node at which the moves come to the level is the entry of the net
-    pub entry_is : IsEntry (row levels p) (held first.proposers p) moves level sink node → node ≡ entry_node l levels first rotations p level
+    pub entry_is : IsEntryNode (row levels p) (held first.proposers p) moves level sink node → node ≡ entry_node l levels first rotations p level
     entry_is w = elim (true_or_false (has_level levels p level (held first.proposers p))) [
       | inl e ↦ rw e (w.begins (begins_of levels p level (held first.proposers p) e))
       | inr e ↦ rw e (late (λ b. false≢true (sym e ∙ of_begins levels p level (held first.proposers p) b)))

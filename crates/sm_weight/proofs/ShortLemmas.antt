@@ -10,7 +10,7 @@ use Rattle.sm_lists.proofs.Sums.{sum_le, sum_none}
 use Rattle.sm_market.specs.Lists.{Lists, row}
 use Rattle.sm_market.specs.Matching.{Places}
 use Rattle.sm_theory.specs.Conditions.{entry_node, exit_node}
-use Rattle.sm_weight.proofs.CountLemmas.{ones}
+use Rattle.sm_weight.proofs.CountLemmas.{sum_to-ones}
 use Rattle.sm_weight.specs.declared.edges.Edge.{Edge}
 use Rattle.sm_weight.specs.Edges.{loose, room_size, room_total}
 use Rattle.sm_weight.specs.Basis.{joined, need_edges, gain_edge, gain_edges, forced_edges, forbidden_edges, raw_edges}
@@ -116,7 +116,7 @@ module _ (l : Lists) (levels : List (List ℕ)) (forced forbidden : List (ℕ ×
     sum_le (length needs) (λ k. length (need_edges needs k)) (λ k. length (row needs k)) (λ k _. need_few k),
     joined_few (gain_edges (suc n) gains) (length gains),
     sum_le (length gains) (λ k. length (gain_edges (suc n) gains k)) (λ _. 1) (λ k _. gain_few (suc n) k (slice_index_or gains k (pos 0))),
-    ones (length gains),
+    sum_to-ones (length gains),
     flat_few (forced_edges l levels first rotations) 2 forced_few forced,
     flat_few (forbidden_edges l levels first rotations) 1 (λ c. loose_few (entry_node l levels first rotations c.0 c.1) (exit_node l levels rotations c.0 c.1)) forbidden,
   )

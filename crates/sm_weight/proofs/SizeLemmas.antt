@@ -6,10 +6,10 @@ use Rattle.std.proofs.lemmas.Int.{ints, to_z-of_z, fits_signed_from_abs}
 use Rattle.std.proofs.lemmas.List.{get_or_default}
 use Rattle.sm_theory.specs.Weights.{total, weight_at}
 use Rattle.sm_board.proofs.MakeLemmas.{row_read}
-use Rattle.sm_weight.specs.Sizes.{weights_in, weights_of}
+use Rattle.sm_weight.specs.Sizes.{weights_in, place_weights}
 
 -- the weight of a place, where it is read
-pub weight_long : (weights : List (Vec ℤ Global)) (p : ℕ) (v : Vec ℤ Global) → p < length weights → v ≡ slice_index_or weights p v → length v.items ≡ length (weights_of (weights_in weights) p)
+pub weight_long : (weights : List (Vec ℤ Global)) (p : ℕ) (v : Vec ℤ Global) → p < length weights → v ≡ slice_index_or weights p v → length v.items ≡ length (place_weights (weights_in weights) p)
 weight_long weights p v less is = ap (λ (v : Vec ℤ Global). length v.items) is ∙ ap length (row_read weights p v less)
 
 -- a weight that is read of the vectors is the weight of its place

@@ -5,9 +5,9 @@ use Rattle.sm_poset.specs.Moves.{rotation_of, place_to}
 use Rattle.sm_weight.specs.Spans.{AreAlong, level_to, place_before, IsDivided, LeadsOff, IsExit}
 
 -- before a later move a proposer stands where the one before led
-pub before_is : (stands : ℕ) (moves : List (ℕ × ℕ)) (a : ℕ) → 0 < a → place_before stands moves a ≡ place_to moves (a - 1)
-before_is stands moves zero some = absurd (omega arith)
-before_is stands moves (suc a) some = ap (place_to moves) (let e : a ≡ suc a - 1 = omega arith in e)
+pub place_before-place_to : (stands : ℕ) (moves : List (ℕ × ℕ)) (a : ℕ) → 0 < a → place_before stands moves a ≡ place_to moves (a - 1)
+place_before-place_to stands moves zero some = absurd (omega arith)
+place_before-place_to stands moves (suc a) some = ap (place_to moves) (let e : a ≡ suc a - 1 = omega arith in e)
 
 -- before a move a proposer stands on its list of levels
 pub before_on_list : {levels : List ℕ} {moves : List (ℕ × ℕ)} (stands a : ℕ) → AreAlong levels moves → stands < length levels → a < length moves → place_before stands moves a < length levels

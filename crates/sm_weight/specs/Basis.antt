@@ -1,27 +1,18 @@
 -- The net of gains, needs and conditions, and its edges before those with the same ends are one.
-use Rattle.std.specs.Prelude.{◌≡◌, ℕ, zero, suc, ◌+◌, List, [], ◌∷◌, ◌++◌, Some, ℤ, pos, negsuc, false, Bool, length, map, slice_index_or}
+use Rattle.std.specs.Prelude.{◌≡◌, ℕ, zero, suc, ◌+◌, List, [], ◌∷◌, ◌++◌, Some, ℤ, pos, negsuc, false, Bool, length, slice_index_or}
 use Rattle.std.specs.List.{flat_map}
 use Rattle.sm_market.specs.Lists.{Lists, row}
 use Rattle.sm_market.specs.Matching.{Places}
-use Rattle.sm_theory.specs.Net.{Net}
-use Rattle.sm_theory.specs.Weights.{gain_of}
-use Rattle.sm_theory.specs.Conditions.{entry_node, exit_node, allows_nothing, net_of}
-use Rattle.sm_rotations.specs.Graph.{AreNeeds}
+use Rattle.sm_theory.specs.Conditions.{entry_node, exit_node, allows_nothing}
+use Rattle.sm_theory.specs.Chains.{AreNeeds}
 use Rattle.sm_poset.specs.Posets.{RotationPoset}
 use Rattle.sm_weight.specs.declared.edges.Edge.{Edge}
 use Rattle.sm_weight.specs.Edges.{loose, AreEdges}
-
--- the net of a poset whose rotations need these (Irving, Leather and Gusfield 1987; Gusfield and Irving 1989, chapter 3)
-abbrev pub poset_net : RotationPoset → (levels : List (List ℕ)) → List (List ℤ) → (forced forbidden : List (ℕ × ℕ)) → (needs : List (List ℕ)) → Net
-poset_net poset levels weights forced forbidden needs = net_of poset.lists levels weights forced forbidden poset.first.places poset.rotations needs
+use Rattle.sm_weight.specs.Lightest.{poset_net, AreGains}
 
 -- a pair allows nothing by itself
 abbrev pub is_barred : RotationPoset → (levels : List (List ℕ)) → (forced forbidden : List (ℕ × ℕ)) → Bool
 is_barred poset levels forced forbidden = allows_nothing poset.lists levels forced forbidden poset.first.places poset.rotations
-
--- the gains of all rotations by these weights
-abbrev pub AreGains : RotationPoset → (weights : List (List ℤ)) → List ℤ → Type 0
-AreGains poset weights gains = gains ≡ map (gain_of poset.lists weights) poset.rotations
 
 -- the edges of the net, which has the same ones whichever lists of the predecessors it is made from, where no pair allows
 -- nothing by itself

@@ -30,20 +30,20 @@ abbrev pub HaveSameEnds : Edge → Edge → Type 0
 HaveSameEnds x y = (x.from ≡ y.from) × (x.to ≡ y.to)
 
 -- the ends of one are before those of another
-abbrev pub IsBefore : Edge → Edge → Type 0
-IsBefore x y = AreEndsBefore x.from x.to y.from y.to
+abbrev pub IsEdgeBefore : Edge → Edge → Type 0
+IsEdgeBefore x y = AreEndsBefore x.from x.to y.from y.to
 
 -- and with the same ends one without a bound comes first
-abbrev pub IsUpTo : Edge → Edge → Type 0
-IsUpTo x y = IsBefore x y ⊎ (HaveSameEnds x y × (y.room ≡ None → x.room ≡ None))
+abbrev pub IsEdgeUpTo : Edge → Edge → Type 0
+IsEdgeUpTo x y = IsEdgeBefore x y ⊎ (HaveSameEnds x y × (y.room ≡ None → x.room ≡ None))
 
 -- neighbours are in order
-abbrev pub AreInOrder : List Edge → Type 0
-AreInOrder edges = (k : ℕ) → k + 1 < length edges → IsUpTo (edge_at edges k) (edge_at edges (k + 1))
+abbrev pub AreEdgesInOrder : List Edge → Type 0
+AreEdgesInOrder edges = (k : ℕ) → k + 1 < length edges → IsEdgeUpTo (edge_at edges k) (edge_at edges (k + 1))
 
 -- the ends rise
-abbrev pub AreRising : List Edge → Type 0
-AreRising edges = (a b : ℕ) → a < b → b < length edges → IsBefore (edge_at edges a) (edge_at edges b)
+abbrev pub AreEdgesRising : List Edge → Type 0
+AreEdgesRising edges = (a b : ℕ) → a < b → b < length edges → IsEdgeBefore (edge_at edges a) (edge_at edges b)
 
 -- one of the edges has the ends of this one, and no bound where this one has none
 pub record IsCovered (edges : List Edge) (e : Edge) : Type 0 where
@@ -54,7 +54,7 @@ pub record IsCovered (edges : List Edge) (e : Edge) : Type 0 where
 
 -- the edges with different ends, in order
 pub record AreMerged (all once : List Edge) : Type 0 where
-  pub rising : AreRising once
+  pub rising : AreEdgesRising once
   pub among : (a : ℕ) → a < length once → Contains all (edge_at once a)
   pub covered : (e : Edge) → Contains all e → IsCovered once e
   pub short : length once ≤ length all
@@ -85,6 +85,6 @@ IsRoomOf net i j (Some bound) = (¬ IsUnbounded net i j) × (room_of net i j ≡
 -- the edges of a net, in the order of their ends (Ford and Fulkerson 1956)
 pub record AreEdges (net : Net) (edges : List Edge) : Type 0 where
   pub nodes : AreOnNodes (sink_of net + 1) edges
-  pub rising : AreRising edges
+  pub rising : AreEdgesRising edges
   pub rooms : (e : ℕ) → e < length edges → IsRoomOf net (edge_at edges e).from (edge_at edges e).to (edge_at edges e).room
   pub all : (i j : ℕ) → HasEdge net i j → (e : ℕ) × (e < length edges) × ((edge_at edges e).from ≡ i) × ((edge_at edges e).to ≡ j)

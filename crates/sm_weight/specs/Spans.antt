@@ -12,8 +12,8 @@ pub record AreAlong (levels : List ℕ) (moves : List (ℕ × ℕ)) : Type 0 whe
   pub rising : (a b : ℕ) → a < b → b < length moves → level_to levels moves a ≤ level_to levels moves b
 
 -- the rotations of the moves come before the sink, so that their nodes have numbers
-abbrev pub AreNumbers : List (ℕ × ℕ) → ℕ → Type 0
-AreNumbers moves sink = (a : ℕ) → a < length moves → rotation_of moves a + 1 < sink
+abbrev pub HaveNodes : List (ℕ × ℕ) → ℕ → Type 0
+HaveNodes moves sink = (a : ℕ) → a < length moves → rotation_of moves a + 1 < sink
 
 -- the first n moves lead to levels below this one, and all others don't
 pub record IsDivided (levels : List ℕ) (moves : List (ℕ × ℕ)) (level n : ℕ) : Type 0 where
@@ -38,7 +38,7 @@ pub record IsFirstTo (levels : List ℕ) (moves : List (ℕ × ℕ)) (level a : 
   pub earlier : (b : ℕ) → b < a → level_to levels moves b ≢ level
 
 -- the node at which the level is entered
-pub record IsEntry (levels : List ℕ) (first : Option ℕ) (moves : List (ℕ × ℕ)) (level sink node : ℕ) : Type 0 where
+pub record IsEntryNode (levels : List ℕ) (first : Option ℕ) (moves : List (ℕ × ℕ)) (level sink node : ℕ) : Type 0 where
   pub begins : BeginsAt levels first level → node ≡ 0
   pub comes : (¬ BeginsAt levels first level) → (a : ℕ) → IsFirstTo levels moves level a → node ≡ suc (rotation_of moves a)
   pub never : (¬ BeginsAt levels first level) → ((a : ℕ) → a < length moves → level_to levels moves a ≢ level) → node ≡ sink

@@ -7,7 +7,7 @@ ghost use Rattle.sm_market.specs.Lists.{row};
 ghost use Rattle.sm_market.specs.Vectors.{rows_of};
 ghost use Rattle.sm_theory.specs.Vectors.{AreLevels};
 ghost use Rattle.sm_theory.specs.Conditions.{forces, forbids};
-ghost use Rattle.sm_rotations.specs.Graph.{AreNeeds};
+ghost use Rattle.sm_theory.specs.Chains.{AreNeeds};
 ghost use Rattle.sm_poset.specs.Posets.{IsPoset};
 ghost use Rattle.sm_board.specs.BoardOf.{AreInRange};
 ghost use Rattle.sm_weight.specs.Edges.{room_total};

@@ -1,7 +1,7 @@
 //! Lists of the edges of a net: in order, each once.
 
 ghost use Rattle.std.specs.Prelude.{◌≡◌, ◌↔◌, ◌<◌, ◌≤◌, ◌^◌, ◌++◌, length, IfOk, IsTrue};
-ghost use Rattle.sm_weight.specs.Edges.{loose, room_total, HaveSameEnds, AreInOrder, AreMerged, AreOnNodes, room_in, graph_of};
+ghost use Rattle.sm_weight.specs.Edges.{loose, room_total, HaveSameEnds, AreEdgesInOrder, AreMerged, AreOnNodes, room_in, graph_of};
 
 use sm_flow::{Net, Room};
 use std::alloc::{AllocError, Global};
@@ -38,7 +38,7 @@ pub(crate) fn merged(alloc: Global, mut edges: Vec<Edge>) -> Result<Vec<Edge>, A
 
 /// Of edges in order the first one with each two ends.
 fn each_once(alloc: Global, edges: &[Edge]) -> Result<Vec<Edge>, AllocError>
-    requires { AreInOrder edges.now }
+    requires { AreEdgesInOrder edges.now }
     ensures { IfOk result (λ once. AreMerged edges.now once.items) }
 {
     let mut once = Vec::with_capacity(alloc, edges.len())?;

@@ -3,7 +3,7 @@
 ghost use Rattle.std.specs.Prelude.{◌≡◌, ◌+◌, ◌<◌, ◌≤◌, ◌^◌, ◌++◌, length, IfOk, MatchOption};
 ghost use Rattle.sm_theory.specs.Net.{Net, sink_of, IsUnbounded, IsReachable};
 ghost use Rattle.sm_weight.specs.Edges.{room_total, AreOnNodes, AreEdges};
-ghost use Rattle.sm_weight.specs.Lines.{line_of, lines_to, AreReached, IsCutFound};
+ghost use Rattle.sm_weight.specs.Lines.{amount_line, lines_to, AreReached, IsCutFound};
 
 use crate::edges::{Edge, net};
 use sm_flow::{Flow, FlowFault, max_flow};
@@ -76,7 +76,7 @@ fn lines(alloc: Global, edges: &[Edge], flow: &Flow) -> Result<Vec<FlowLine>, Al
 
 /// Adds a line for an amount, unless it is 0.
 fn add_line(lines: &mut Vec<FlowLine>, edge: Edge, amount: u64) -> Result<(), AllocError>
-    ensures { IfOk result (λ _. lines.new.items ≡ lines.old.items ++ line_of edge amount) }
+    ensures { IfOk result (λ _. lines.new.items ≡ lines.old.items ++ amount_line edge amount) }
 {
     if amount > 0 {
         let Edge { from, to, .. } = edge;

@@ -4,7 +4,7 @@ ghost use Rattle.std.specs.Prelude.{◌≡◌, ◌+◌, ◌<◌, ◌≤◌, Opti
 ghost use Rattle.sm_market.specs.Vectors.{rows_of};
 ghost use Rattle.sm_theory.specs.Vectors.{AreLevels};
 ghost use Rattle.sm_theory.specs.Conditions.{entry_node, exit_node};
-ghost use Rattle.sm_weight.specs.Spans.{AreAlong, AreNumbers, level_to, place_before, BeginsAt, IsDivided, IsEntry, IsExit};
+ghost use Rattle.sm_weight.specs.Spans.{AreAlong, HaveNodes, level_to, place_before, BeginsAt, IsDivided, IsEntryNode, IsExit};
 
 use sm_poset::Poset;
 
@@ -42,8 +42,8 @@ pub(crate) fn span_of(poset: &Poset, levels: &[Vec<u32>], p: u32, level: u32) ->
 fn entry(levels: &[u32], first: Option<u32>, moves: &[(u32, u32)], level: u32, sink: u32) -> u32
     requires along { AreAlong levels.now moves.now }
     requires first { IfSome first (λ i. i < length levels.now) }
-    requires numbers { AreNumbers moves.now sink }
-    ensures { IsEntry levels.now first moves.now level sink result }
+    requires numbers { HaveNodes moves.now sink }
+    ensures { IsEntryNode levels.now first moves.now level sink result }
 {
     if begins_at(levels, first, level) {
         return 0;
@@ -77,7 +77,7 @@ fn exit(levels: &[u32], stands: u32, moves: &[(u32, u32)], level: u32, sink: u32
     requires stands { stands < length levels.now }
     requires rises { 0 < length moves.now → slice_index levels.now stands
         ≤ level_to levels.now moves.now 0 }
-    requires numbers { AreNumbers moves.now sink }
+    requires numbers { HaveNodes moves.now sink }
     ensures { IsExit levels.now stands moves.now level sink result }
 {
     let a = moves_below(levels, moves, u64::from(level) + 1);

@@ -18,7 +18,7 @@ use Rattle.sm_words.specs.declared.jobs.Job.{Job}
 use Rattle.sm_words.specs.declared.jobs.WordsFault.{WordsFault}
 use Rattle.sm_words.specs.Jobs.{JobData, Weight, Make, job_of, least_limit, IsLimit, least_size, greatest_size, most_seed, IsInBounds}
 use Rattle.sm_words.specs.Tables.{operands_of, sides, measures, shapes, shows, ValueData, OfSide, OfAfter, OfLimit, OfBy, OfShape, OfSize, OfSeed, OfShow, limit_named, size_named, seed_named, value_named}
-use Rattle.sm_words.specs.Operands.{GivenData, nothing, once, with_value, with_word, has_name, name_in, text_in, value_in}
+use Rattle.sm_words.specs.Operands.{GivenData, nothing_given, once, with_value, with_word, has_name, name_in, text_in, value_in}
 use Rattle.sm_words.specs.Words.{read_operands, job_for, or_missing, is_too_large, word_of_size, or_too_large, asked, usual_limit, usual_show}
 
 -- what holds of an option that was mapped, and of one that holds a known value
@@ -135,7 +135,7 @@ job_in_bounds command.Check g job b e small = subst IsInBounds (same_Some _ _ e)
 job_in_bounds command.Make g job b e small = making_in_bounds g job b e small
 
 asked_in_bounds : (c : Command) (operands : List (List ℕ)) (job : JobData) → asked c operands ≡ Ok job → IsInBounds job
-asked_in_bounds c operands job e = by_given (read_operands c 2 nothing operands) refl e where
+asked_in_bounds c operands job e = by_given (read_operands c 2 nothing_given operands) refl e where
   by_size : (j : JobData) (large : Bool) → is_too_large j ≡ large → (is_too_large j ≡ false → IsInBounds j) → cond large (Err (word_of_size operands)) (Ok j) ≡ Ok job → IsInBounds job
   by_size j true is h e = absurd cc
   by_size j false is h e = let same : j ≡ job = cc in subst IsInBounds same (h is)
@@ -144,9 +144,9 @@ asked_in_bounds c operands job e = by_given (read_operands c 2 nothing operands)
   by_job g None b is e = absurd cc
   by_job g (Some j) b is e = by_size j (is_too_large j) refl (job_in_bounds c g j b is) e
 
-  by_given : (r : Result GivenData ℕ) → read_operands c 2 nothing operands ≡ r → or_too_large operands (or_missing c (length operands + 2) r) ≡ Ok job → IsInBounds job
+  by_given : (r : Result GivenData ℕ) → read_operands c 2 nothing_given operands ≡ r → or_too_large operands (or_missing c (length operands + 2) r) ≡ Ok job → IsInBounds job
   by_given (Err word) is e = absurd cc
-  by_given (Ok g) is e = by_job g (job_for c g) (words_kept c 2 operands nothing g (tt, tt, tt) is) refl e
+  by_given (Ok g) is e = by_job g (job_for c g) (words_kept c 2 operands nothing_given g (tt, tt, tt) is) refl e
 
 -- and of a job that was read
 pub read_in_bounds : (c : Command) (operands : List (List ℕ)) (r : Result Job WordsFault) → IfOk r (λ job. asked c operands ≡ Ok (job_of job)) → IfOk r (λ job. IsInBounds (job_of job))

@@ -24,15 +24,15 @@ operands_stop command n g g' word more fits is wrong =
     ap (λ o. option_map_or (λ g. read_operands command (n + 1) g more) o (Err n)) (is ∙ ap (λ b. cond b (Some g') None) wrong)
 
 -- a word was taken
-pub word_taken : (command : Command) (n : ℕ) (g g' : GivenData) (words : List (String Global)) (i : ℕ) (w : String Global) (text : List ℕ) (fits : Bool) → i < length words → w ≡ get_or words i w → text ≡ string_bytes w
+pub read_operands-taken : (command : Command) (n : ℕ) (g g' : GivenData) (words : List (String Global)) (i : ℕ) (w : String Global) (text : List ℕ) (fits : Bool) → i < length words → w ≡ get_or words i w → text ≡ string_bytes w
     → with_word command text g ≡ cond fits (Some g') None → fits ≡ true → read_operands command n g (texts (drop i words)) ≡ read_operands command (n + 1) g' (texts (drop (i + 1) words))
-word_taken command n g g' words i w text fits here is shows took good =
+read_operands-taken command n g g' words i w text fits here is shows took good =
     ap (read_operands command n g) (texts_from words i w here is ∙ ap (λ t. t ∷ texts (drop (i + 1) words)) (sym shows)) ∙ operands_next command n g g' text (texts (drop (i + 1) words)) fits took good
 
 -- a word is faulty
-pub word_faulty : (command : Command) (n : ℕ) (g g' : GivenData) (words : List (String Global)) (i : ℕ) (w : String Global) (text : List ℕ) (fits : Bool) → i < length words → w ≡ get_or words i w → text ≡ string_bytes w
+pub read_operands-faulty : (command : Command) (n : ℕ) (g g' : GivenData) (words : List (String Global)) (i : ℕ) (w : String Global) (text : List ℕ) (fits : Bool) → i < length words → w ≡ get_or words i w → text ≡ string_bytes w
     → with_word command text g ≡ cond fits (Some g') None → fits ≡ false → read_operands command n g (texts (drop i words)) ≡ Err n
-word_faulty command n g g' words i w text fits here is shows took wrong =
+read_operands-faulty command n g g' words i w text fits here is shows took wrong =
     ap (read_operands command n g) (texts_from words i w here is ∙ ap (λ t. t ∷ texts (drop (i + 1) words)) (sym shows)) ∙ operands_stop command n g g' text (texts (drop (i + 1) words)) fits took wrong
 
 -- the words behind the first, as a slice pattern gives them
@@ -43,9 +43,9 @@ others_are : (words : List (String Global)) → others words ≡ drop 1 words
 others_are words = let h : length (drop 1 words) ≤ length words - 1 = omega (arith, length-drop 1 words) in take_all (length words - 1) (drop 1 words) h
 
 -- the first word is a command
-pub meaning_by : (words : List (String Global)) (w : String Global) (text : List ℕ) (command : Command) → 0 < length words → w ≡ get_or words 0 w → text ≡ string_bytes w → look_up commands text ≡ Some command
+pub words_meaning-asked : (words : List (String Global)) (w : String Global) (text : List ℕ) (command : Command) → 0 < length words → w ≡ get_or words 0 w → text ≡ string_bytes w → look_up commands text ≡ Some command
     → words_meaning (texts words) ≡ asked command (texts (others words))
-meaning_by words w text command here is shows named =
+words_meaning-asked words w text command here is shows named =
     let operands = texts (drop 1 words) in
     ap words_meaning (texts_from words 0 w here is ∙ ap (λ t. t ∷ operands) (sym shows))
     ∙ ap (λ o. option_map_or (λ c. asked c operands) o (Err 1)) named

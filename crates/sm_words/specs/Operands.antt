@@ -35,8 +35,8 @@ given_of g = record {
 }
 
 -- no operand is given yet
-abbrev pub nothing : GivenData
-nothing = record {
+abbrev pub nothing_given : GivenData
+nothing_given = record {
   side = None;
   after = None;
   limit = None;

@@ -12,7 +12,7 @@ use Rattle.sm_words.specs.declared.jobs.WordsFault.{WordsFault}
 use Rattle.sm_words.specs.declared.jobs.WordsFault.TheVariants.{Usage, OutOfMemory}
 use Rattle.sm_words.specs.Jobs.{JobData, Solve, Reduced, Rotations, Pairs, Regret, Weight, Meet, Join, Survey, Check, Make}
 use Rattle.sm_words.specs.Tables.{commands}
-use Rattle.sm_words.specs.Operands.{GivenData, nothing, has_name, name_in, with_word}
+use Rattle.sm_words.specs.Operands.{GivenData, nothing_given, has_name, name_in, with_word}
 
 -- the bytes of each word
 abbrev pub texts : List (String Global) → List (List ℕ)
@@ -74,7 +74,7 @@ or_too_large operands (Ok job) = if is_too_large job then Err (word_of_size oper
 
 -- what a command asks for with the words behind it
 abbrev pub asked : Command → List (List ℕ) → Result JobData ℕ
-asked command operands = or_too_large operands (or_missing command (length operands + 2) (read_operands command 2 nothing operands))
+asked command operands = or_too_large operands (or_missing command (length operands + 2) (read_operands command 2 nothing_given operands))
 
 -- what words ask for, or the number of the faulty word, counted from 1
 abbrev pub words_meaning : List (List ℕ) → Result JobData ℕ

@@ -3,7 +3,7 @@
 ghost use Rattle.std.specs.Prelude.{◌≡◌, Some, None, IfOk, option_map, if◌then◌else◌};
 ghost use Rattle.sm_report.specs.Meanings.{look_up, number_within};
 ghost use Rattle.sm_words.specs.Tables.{commands, operands_of, sides, measures, shapes, shows, ValueData, value_of, value_named, limit_named, size_named, seed_named};
-ghost use Rattle.sm_words.specs.Operands.{given_of, once, with_value, with_word, nothing};
+ghost use Rattle.sm_words.specs.Operands.{given_of, once, with_value, with_word, nothing_given};
 
 use sm_instance::{Measure, Side};
 use sm_make::Shape;
@@ -100,7 +100,7 @@ pub(crate) fn command_named(name: &str) -> Option<Command>
 
 /// No operand is given yet.
 pub(crate) fn nothing() -> Given
-    ensures { given_of result ≡ nothing }
+    ensures { given_of result ≡ nothing_given }
 {
     Given {
         side: None,

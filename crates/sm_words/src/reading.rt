@@ -3,7 +3,7 @@
 ghost use Rattle.std.specs.Prelude.{◌≡◌, ◌+◌, length, IfOk, IfErr, Ok, option_map};
 ghost use Rattle.sm_make.specs.Made.{most_size};
 ghost use Rattle.sm_words.specs.Jobs.{job_of, IsInBounds};
-ghost use Rattle.sm_words.specs.Operands.{given_of, nothing};
+ghost use Rattle.sm_words.specs.Operands.{given_of, nothing_given};
 ghost use Rattle.sm_words.specs.Words.{texts, read_operands, job_for, is_too_large, gives_size, word_of_size, asked, words_meaning, IsFaultBy, IsWordsFault, IsNoMemory};
 
 use crate::jobs::{Job, WordsFault};
@@ -71,9 +71,9 @@ fn command_job(alloc: Global, command: Command, operands: &[String]) -> Result<J
 
 /// The operands that words give, the first of which has the number 2.
 fn operands_in(alloc: Global, command: Command, words: &[String]) -> Result<Given, WordsFault>
-    ensures given { IfOk result (λ given. read_operands command 2 nothing (texts words.now)
+    ensures given { IfOk result (λ given. read_operands command 2 nothing_given (texts words.now)
         ≡ Ok (given_of given)) }
-    ensures fault { IfErr result (λ fault. IsFaultBy (read_operands command 2 nothing
+    ensures fault { IfErr result (λ fault. IsFaultBy (read_operands command 2 nothing_given
         (texts words.now)) fault) }
 {
     let mut given = nothing();

@@ -79,17 +79,17 @@ pub eliminable_of : {l : Lists} {first : Places} {rotations : List (List (ℕ ×
 eliminable_of chain = record { exposed = chain.exposed }
 
 -- one more rotation behind others
-pub rotation_before : (xs : List (List (ℕ × ℕ))) (x : List (ℕ × ℕ)) (k : ℕ) → k < length xs → rotation_at (xs ++ x ∷ []) k ≡ rotation_at xs k
-rotation_before xs x k less = get_or_append_left xs (x ∷ []) [] k less
+pub rotation_at-push_before : (xs : List (List (ℕ × ℕ))) (x : List (ℕ × ℕ)) (k : ℕ) → k < length xs → rotation_at (xs ++ x ∷ []) k ≡ rotation_at xs k
+rotation_at-push_before xs x k less = get_or_append_left xs (x ∷ []) [] k less
 
 -- the rotation that is added is the last
-pub rotation_new : (xs : List (List (ℕ × ℕ))) (x : List (ℕ × ℕ)) (k : ℕ) → k ≡ length xs → rotation_at (xs ++ x ∷ []) k ≡ x
-rotation_new xs x k e = get_or_push xs x [] k (sym e)
+pub rotation_at-push_new : (xs : List (List (ℕ × ℕ))) (x : List (ℕ × ℕ)) (k : ℕ) → k ≡ length xs → rotation_at (xs ++ x ∷ []) k ≡ x
+rotation_at-push_new xs x k e = get_or_push xs x [] k (sym e)
 
 -- the stages up to there stay as they are
 pub stage_before : (l : Lists) (first : Places) (xs : List (List (ℕ × ℕ))) (x : List (ℕ × ℕ)) (k : ℕ) → k ≤ length xs → stage l first (xs ++ x ∷ []) k ≡ stage l first xs k
 stage_before l first xs x zero le = refl
-stage_before l first xs x (suc k) le = ap (λ m. eliminated l m (rotation_at (xs ++ x ∷ []) k)) (stage_before l first xs x k (omega arith)) ∙ ap (eliminated l (stage l first xs k)) (rotation_before xs x k (omega arith))
+stage_before l first xs x (suc k) le = ap (λ m. eliminated l m (rotation_at (xs ++ x ∷ []) k)) (stage_before l first xs x k (omega arith)) ∙ ap (eliminated l (stage l first xs k)) (rotation_at-push_before xs x k (omega arith))
 
 -- rotations that can be eliminated lead from matching to matching
 module _ {l : Lists} (h : IsMarket l) {first : Places} (f : IsMatching l first) {rotations : List (List (ℕ × ℕ))} (chain : AreEliminable l first rotations) where

@@ -25,16 +25,16 @@ successor_named l m p i r h x e = let here = place_of-entry h.proposers p i x.on
     rw (sym here ∙ ap (place_of l.proposers p) e) at x
 
 -- the reviewer at whose place the successor stands is the successor
-pub successor_names : (l : Lists) (m : Places) (p i r : ℕ) → IsSuccessor l m p i → IsSuccessor l m p (place_of l.proposers p r) → entry l.proposers p i ≡ r
-successor_names l m p i r x y = ap (entry l.proposers p) (successor_once x y) ∙ entry-place_of l.proposers p r y.on_list
+pub entry-successor : (l : Lists) (m : Places) (p i r : ℕ) → IsSuccessor l m p i → IsSuccessor l m p (place_of l.proposers p r) → entry l.proposers p i ≡ r
+entry-successor l m p i r x y = ap (entry l.proposers p) (successor_once x y) ∙ entry-place_of l.proposers p r y.on_list
 
 -- what p holds by its reviewer
 pub held_named : (l : Lists) (m : Places) (p i r : ℕ) → IsMarket l → IsMatching l m → held m.proposers p ≡ Some i → entry l.proposers p i ≡ r → held m.proposers p ≡ Some (place_of l.proposers p r)
 held_named l m p i r h f e x = e ∙ ap Some (sym (place_of-entry h.proposers p i (f.proposers.on_list p i e)) ∙ ap (place_of l.proposers p) x)
 
 -- the reviewer at whose place p stands is whom it holds
-pub held_names : (l : Lists) (m : Places) (p i r : ℕ) → IsMatching l m → held m.proposers p ≡ Some i → held m.proposers p ≡ Some (place_of l.proposers p r) → entry l.proposers p i ≡ r
-held_names l m p i r f e x = ap (entry l.proposers p) (same_Some _ _ (sym e ∙ x)) ∙ entry-place_of l.proposers p r (f.proposers.on_list p (place_of l.proposers p r) x)
+pub entry-held : (l : Lists) (m : Places) (p i r : ℕ) → IsMatching l m → held m.proposers p ≡ Some i → held m.proposers p ≡ Some (place_of l.proposers p r) → entry l.proposers p i ≡ r
+entry-held l m p i r f e x = ap (entry l.proposers p) (same_Some _ _ (sym e ∙ x)) ∙ entry-place_of l.proposers p r (f.proposers.on_list p (place_of l.proposers p r) x)
 
 -- links go round a cycle of distinct proposers, where the first one doesn't come again
 module _ {s : Sides} {m : Stand} (c : Cycle) (paired : (i : ℕ) → i < c.size → Pair s m (c.who i) (c.has i)) (next : (i : ℕ) → i < c.size → Succ s m (c.who i) (target c i)) (alone : (i : ℕ) → 0 < i → i < c.size → c.who i ≢ c.who 0) where

@@ -138,9 +138,9 @@ pub marks_read : (marks : List (Vec (Option ℕ) Global)) (p : ℕ) (v : Vec (Op
 marks_read marks p v inside is = ap (λ (v : Vec (Option ℕ) Global). v.items) is ∙ sym (get_or-map (λ (v : Vec (Option ℕ) Global). v.items) marks p v [] inside)
 
 -- a mark that is written into the vectors is written into the marks
-pub marks_written : (marks : List (Vec (Option ℕ) Global)) (p x : ℕ) (j : Option ℕ) (d : Vec (Option ℕ) Global) → p < length marks
+pub marks_in-set : (marks : List (Vec (Option ℕ) Global)) (p x : ℕ) (j : Option ℕ) (d : Vec (Option ℕ) Global) → p < length marks
     → marks_in (set marks p (with_item (get_or marks p d) x j)) ≡ set (marks_in marks) p (set (marks_of (marks_in marks) p) x j)
-marks_written marks p x j d inside =
+marks_in-set marks p x j d inside =
     map-set (λ (v : Vec (Option ℕ) Global). v.items) marks p (with_item (get_or marks p d) x j)
     ∙ ap (λ row. set (marks_in marks) p (set row x j)) (sym (get_or-map (λ (v : Vec (Option ℕ) Global). v.items) marks p d [] inside))
 
@@ -167,8 +167,8 @@ marks_start f none = record {
 }
 
 -- in a fresh list nothing is noted
-pub none_noted : (n p : ℕ) → note_of (replicate n None) p ≡ None
-none_noted n p = elim (lt_or_le p n) [
+pub note_of-replicate : (n p : ℕ) → note_of (replicate n None) p ≡ None
+note_of-replicate n p = elim (lt_or_le p n) [
   | inl h ↦ get_or-replicate n p None None h
   | inr h ↦ get_or_past (replicate n None) p None (omega (arith, length-replicate {A = Option ℕ} n None))
 ]

@@ -10,7 +10,7 @@ use Rattle.sm_lists.proofs.PlaceLemmas.{entry-place_of}
 use Rattle.sm_market.proofs.Bridge.{sides_of, stand_of}
 use Rattle.sm_theory.specs.Rotations.{proposer_at, reviewer_at, target_at, next_in}
 use Rattle.sm_theory.specs.Chains.{rotation_at, stage, AreEliminable, IsNeededBy}
-use Rattle.sm_theory.specs.Marks.{note_of, Moves, MovesOver, AreLastMoves, AreMarks, AreMoved, AreMarked, IsLastOf, IsPassedBy, IsFound}
+use Rattle.sm_theory.specs.Marks.{note_of, Moves, MovesOver, AreLastMoves, AreMarks, AreMoved, AreMarked, IsLastOf, IsPassedBy, IsFoundNeed}
 use Rattle.sm_theory.proofs.Core.Cycle as CoreCycle
 use Rattle.sm_theory.proofs.Core.Cycle.{Cycle, turn, turn_in, target, Exposed, moves_at}
 use Rattle.sm_theory.proofs.Core.Chain.{rise, fall, up_at, moved_to, needs_lower, last_needed}
@@ -132,12 +132,12 @@ module _ {l : Lists} (h : IsMarket l) {first : Places} (f : IsMatching l first) 
         )
 
     -- each rotation that is found is a predecessor of j
-    pub found_is_need : (i : ℕ) → IsFound l (rotation_at rotations j) (length (rotation_at rotations j)) notes marks i → (i < length rotations) × IsNeededBy l (rotation_at rotations i) (rotation_at rotations j)
+    pub found_is_need : (i : ℕ) → IsFoundNeed l (rotation_at rotations j) (length (rotation_at rotations j)) notes marks i → (i < length rotations) × IsNeededBy l (rotation_at rotations i) (rotation_at rotations j)
     found_is_need i (inl w) = last_is_need i w
     found_is_need i (inr w) = mark_is_need i w
 
     -- what is needed is noted or marked
-    pub need_is_found : (i : ℕ) → i < length rotations → IsNeededBy l (rotation_at rotations i) (rotation_at rotations j) → IsFound l (rotation_at rotations j) (length (rotation_at rotations j)) notes marks i
+    pub need_is_found : (i : ℕ) → i < length rotations → IsNeededBy l (rotation_at rotations i) (rotation_at rotations j) → IsFoundNeed l (rotation_at rotations j) (length (rotation_at rotations j)) notes marks i
     need_is_found i below (inl w) =
         let ch = way_along h f chain in
         let early : i < j = needs_lower ch i j below inside (needs_of h (inl w)) in

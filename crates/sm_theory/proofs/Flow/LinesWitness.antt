@@ -6,10 +6,10 @@ use Rattle.sm_theory.specs.Net.{sink_of, HasEdge}
 use Rattle.sm_theory.specs.Flows.{IsFlow}
 use Rattle.sm_theory.specs.WitnessesFlows.{three_cycle_net, three_cycle_flow}
 use Rattle.sm_theory.proofs.Flow.Witness.{worked_net}
-use Rattle.sm_theory.specs.FlowLines.{line_at, amount_on, IsConserved, HaveSameEnds, IsLineBefore, AreLines}
+use Rattle.sm_theory.specs.FlowLines.{line_at, amount_on, IsConserved, HaveSameEnds, IsLineBefore, AreFlowLines}
 use Rattle.sm_theory.specs.WitnessesLines.{line, three_cycle_lines, broken_lines, WorkedLines, EachLine}
 
-lines_are : AreLines three_cycle_net three_cycle_lines
+lines_are : AreFlowLines three_cycle_net three_cycle_lines
 lines_are = record { rising = rising; positive = positive; edges = edges; nodes = nodes }
   where
     rising : (a b : ℕ) → a < b → b < 3 → IsLineBefore (line_at three_cycle_lines a) (line_at three_cycle_lines b)

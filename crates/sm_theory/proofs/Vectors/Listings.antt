@@ -2,7 +2,7 @@
 -- as a listing from there.
 use Rattle.std.proofs.Common.{◌≡◌, ℕ, zero, suc, ◌+◌, ◌<◌, ◌⊎◌, ◌++◌, inl, inr, arith, refl, sym, subst, List, [], ◌∷◌, length, Option, None, Some, Bool, true, false, slice_index_or}
 use Rattle.std.proofs.lemmas.Bool.{false≢true}
-use Rattle.sm_theory.specs.Listings.{IsBehind, IsNext, IsNoneBehind, end_of, IsListing}
+use Rattle.sm_theory.specs.Listings.{IsBehind, IsNextListed, IsNoneBehind, end_of, IsListing}
 
 -- a listing up to a limit
 pub record Listed (Before : List ℕ → List ℕ → Type 0) (IsOne : List ℕ → Type 0) (cursor : Option (List ℕ)) (limit : ℕ) : Type 0 where
@@ -41,7 +41,7 @@ module _ {Before : List ℕ → List ℕ → Type 0} (irr : (v : List ℕ) → B
 
   module _ {IsOne : List ℕ → Type 0} where
     -- what a listing begins with is the next one behind its cursor
-    pub first_is_next : {cursor : Option (List ℕ)} {limit : ℕ} {v : List ℕ} {out : List (List ℕ)} {more : Bool} → IsListing Before IsOne cursor limit (v ∷ out) more → IsNext Before IsOne cursor v
+    pub first_is_next : {cursor : Option (List ℕ)} {limit : ℕ} {v : List ℕ} {out : List (List ℕ)} {more : Bool} → IsListing Before IsOne cursor limit (v ∷ out) more → IsNextListed Before IsOne cursor v
     first_is_next {cursor} {limit} {v} {out} {more} x = record { one = x.sound 0 (omega arith); behind = x.begins (omega arith); least = λ w one b. from w (x.whole w one b) }
       where
         from : (w : List ℕ) → ((k : ℕ) × (k < length (v ∷ out)) × (slice_index_or (v ∷ out) k [] ≡ w)) ⊎ IsBehind Before (end_of cursor (v ∷ out)) w → (v ≡ w) ⊎ Before v w
@@ -73,7 +73,7 @@ module _ {Before : List ℕ → List ℕ → Type 0} (irr : (v : List ℕ) → B
             at (suc k) h e = inl (k, omega arith, e)
 
     -- and a listing from the next one on makes one with it
-    pub more_listing : {cursor : Option (List ℕ)} {limit : ℕ} {v : List ℕ} {out : List (List ℕ)} {more : Bool} → IsNext Before IsOne cursor v → IsListing Before IsOne (Some v) limit out more → IsListing Before IsOne cursor (suc limit) (v ∷ out) more
+    pub more_listing : {cursor : Option (List ℕ)} {limit : ℕ} {v : List ℕ} {out : List (List ℕ)} {more : Bool} → IsNextListed Before IsOne cursor v → IsListing Before IsOne (Some v) limit out more → IsListing Before IsOne cursor (suc limit) (v ∷ out) more
     more_listing {cursor} {limit} {v} {out} {more} n x = record {
       begins = λ _. n.behind;
       rises = rises;
@@ -114,7 +114,7 @@ module _ {Before : List ℕ → List ℕ → Type 0} (irr : (v : List ℕ) → B
     }
 
     -- a listing up to nothing, where there is more
-    pub none_wanted : {cursor : Option (List ℕ)} → (v : List ℕ) → IsNext Before IsOne cursor v → IsListing Before IsOne cursor 0 [] true
+    pub none_wanted : {cursor : Option (List ℕ)} → (v : List ℕ) → IsNextListed Before IsOne cursor v → IsListing Before IsOne cursor 0 [] true
     none_wanted v n = record {
       begins = λ h. absurd (omega arith);
       rises = λ k h. absurd (omega arith);
@@ -126,7 +126,7 @@ module _ {Before : List ℕ → List ℕ → Type 0} (irr : (v : List ℕ) → B
     }
 
     -- there is no more than one next
-    pub Next-unique : {cursor : Option (List ℕ)} {v w : List ℕ} → IsNext Before IsOne cursor v → IsNext Before IsOne cursor w → v ≡ w
+    pub Next-unique : {cursor : Option (List ℕ)} {v w : List ℕ} → IsNextListed Before IsOne cursor v → IsNextListed Before IsOne cursor w → v ≡ w
     Next-unique {cursor} {v} {w} a b = elim (a.least w b.one b.behind) [
       | inl e ↦ e
       | inr h ↦ elim (b.least v a.one a.behind) [
@@ -169,10 +169,10 @@ module _ {Before : List ℕ → List ℕ → Type 0} (irr : (v : List ℕ) → B
         subst (λ k. IsListing Before IsOne cursor k (v ∷ (out ++ rest)) after) e (more_listing (first_is_next x) (listing_resumes (Some v) limit again out rest more after (rest_is_listing x) y))
 
     -- where the next one behind each cursor is known, or that there is none, there is a listing up to each limit
-    pub listing_exists : ((cursor : Option (List ℕ)) → ((v : List ℕ) × IsNext Before IsOne cursor v) ⊎ IsNoneBehind Before IsOne cursor) → (limit : ℕ) (cursor : Option (List ℕ)) → Listed Before IsOne cursor limit
+    pub listing_exists : ((cursor : Option (List ℕ)) → ((v : List ℕ) × IsNextListed Before IsOne cursor v) ⊎ IsNoneBehind Before IsOne cursor) → (limit : ℕ) (cursor : Option (List ℕ)) → Listed Before IsOne cursor limit
     listing_exists next limit cursor = go limit cursor (next cursor)
       where
-        go : (limit : ℕ) (cursor : Option (List ℕ)) → ((v : List ℕ) × IsNext Before IsOne cursor v) ⊎ IsNoneBehind Before IsOne cursor → Listed Before IsOne cursor limit
+        go : (limit : ℕ) (cursor : Option (List ℕ)) → ((v : List ℕ) × IsNextListed Before IsOne cursor v) ⊎ IsNoneBehind Before IsOne cursor → Listed Before IsOne cursor limit
         go limit cursor (inr none) = record { out = []; more = false; is = none_listed none }
         go zero cursor (inl n) = record { out = []; more = true; is = none_wanted n.0 n.1 }
         go (suc limit) cursor (inl n) = let rest = go limit (Some n.0) (next (Some n.0)) in record { out = n.0 ∷ rest.out; more = rest.more; is = more_listing n.1 rest.is }

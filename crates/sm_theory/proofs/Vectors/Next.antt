@@ -6,7 +6,7 @@ use Rattle.sm_market.specs.Matching.{Places}
 use Rattle.sm_lists.proofs.Counting.{Decided, Decided-and}
 use Rattle.sm_theory.specs.ClosedSets.{IsClosed, matching_of}
 use Rattle.sm_theory.specs.Vectors.{IsOrder, IsBefore, level_of, level_vector_of, IsAllowed, IsAllowedVector}
-use Rattle.sm_theory.specs.Listings.{IsBehind, IsNext, IsNoneBehind}
+use Rattle.sm_theory.specs.Listings.{IsBehind, IsNextListed, IsNoneBehind}
 use Rattle.sm_theory.specs.LawsListing.{NextVector, ListingExists}
 use Rattle.sm_theory.proofs.Vectors.Order.{irreflexive, transitive, NotAfter, NotAfter-trans, NotAfter-total, Decided-before}
 use Rattle.sm_theory.proofs.Vectors.Decisions.{Decided-closed, Decided-allowed}
@@ -120,7 +120,7 @@ next_vector l first rotations levels forced forbidden order cursor h chain o = g
     is v a s e = ap (level_vector_of l levels) e ∙ sym a.vector
 
     go : Least order (vector_of_set l first rotations levels) (length rotations) (IsRight l first rotations levels forced forbidden order cursor) ⊎ ((s : List Bool) → length s ≡ length rotations → (IsRight l first rotations levels forced forbidden order cursor) s → ⊥)
-        → ((v : List ℕ) × IsNext (IsBefore order) (IsAllowedVector l levels forced forbidden) cursor v) ⊎ IsNoneBehind (IsBefore order) (IsAllowedVector l levels forced forbidden) cursor
+        → ((v : List ℕ) × IsNextListed (IsBefore order) (IsAllowedVector l levels forced forbidden) cursor v) ⊎ IsNoneBehind (IsBefore order) (IsAllowedVector l levels forced forbidden) cursor
     go (inr none) = inr (λ v a b. let s = (sets_are_matchings l first rotations h chain).all a.matching a.stable in none s.0 s.1.one_each (right v a b s.0 s.2 s.1))
     go (inl w) = inl (
       vector_of_set l first rotations levels w.set,

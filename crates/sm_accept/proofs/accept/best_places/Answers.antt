@@ -9,10 +9,10 @@ loop-p-init c =
     let count = c.proposers.ensures.count in
     let zero : ℕ = 0 in
     let next_is : c.as_mut_slice-next.result.now ≡ replicate (length c.args.market.now.proposers) zero = rw (← count) (search rules) in
-    progress_start c.args.market.now _ _ next_is c.free_all.ensures
+    progress_start c.args.market.now _ _ next_is c.free_reviewers.ensures
 
 pub returns : goal.returns
 returns c =
     let all : c.loop-p.p ≡ length c.args.market.now.proposers = let count = c.proposers-p-end.ensures.count in omega arith in
-    let long : length c.end_all.new.places ≡ c.in_ok-places.places.len = let len = c.in_ok-places.ensures.len in let count = c.proposers-2.ensures.count in omega (arith, c.end_all.ensures.one_each) in
-    rw (take-append_at_length c.in_ok-places.places.len c.end_all.new.places _ long) (best_places_at c.proposers.ensures.market c.loop-p.invariant all c.end_all.ensures)
+    let long : length c.set_places.new.places ≡ c.in_ok-places.places.len = let len = c.in_ok-places.ensures.len in let count = c.proposers-2.ensures.count in omega (arith, c.set_places.ensures.one_each) in
+    rw (take-append_at_length c.in_ok-places.places.len c.set_places.new.places _ long) (best_places_at c.proposers.ensures.market c.loop-p.invariant all c.set_places.ensures)

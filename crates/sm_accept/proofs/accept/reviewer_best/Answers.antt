@@ -15,24 +15,24 @@ best_is c = rw c.in_ok-swapped.ensures at c.in_ok-best.ensures.best
 -- what the slice holds
 places_are : (c : goal.After-deref) → c.deref.result.now ≡ c.in_ok-best.best.places.reviewers
 places_are c =
-    let long : length c.own_places.new.places ≡ c.in_ok-places.places.len = let len = c.in_ok-places.ensures.len in let auto = c.own_places.auto.places in let also = c.deref_mut.ensures.len in omega arith in
-    c.deref.ensures.value ∙ take-append_at_length c.in_ok-places.places.len c.own_places.new.places _ long ∙ c.own_places.ensures
+    let long : length c.copy_places.new.places ≡ c.in_ok-places.places.len = let len = c.in_ok-places.ensures.len in let auto = c.copy_places.auto.places in let also = c.deref_mut.ensures.len in omega arith in
+    c.deref.ensures.value ∙ take-append_at_length c.in_ok-places.places.len c.copy_places.new.places _ long ∙ c.copy_places.ensures
 
 pub held-requires : goal.held-requires
 held-requires c = rw (places_are c) (held_of_matching {l = c.args.market.now} {m = reversed c.in_ok-best.best.places} (IsMatching-reversed (best_is c).stable.matching))
 
 pub returns-clause-worst : goal.returns-clause-worst
 returns-clause-worst c =
-    let long : length c.own_places.new.places ≡ c.in_ok-places.places.len = let len = c.in_ok-places.ensures.len in let auto = c.own_places.auto.places in let also = c.deref_mut.ensures.len in omega arith in
+    let long : length c.copy_places.new.places ≡ c.in_ok-places.places.len = let len = c.in_ok-places.ensures.len in let auto = c.copy_places.auto.places in let also = c.deref_mut.ensures.len in omega arith in
     IfOk-both c.held.result _ _ _
     (λ m made places. reviewers_best_of c.proposers.ensures.market (rw c.in_ok-swapped.ensures at c.in_ok-best.ensures.best) made.matching
-    (places ∙ c.deref.ensures.value ∙ take-append_at_length c.in_ok-places.places.len c.own_places.new.places _ long ∙ c.own_places.ensures))
+    (places ∙ c.deref.ensures.value ∙ take-append_at_length c.in_ok-places.places.len c.copy_places.new.places _ long ∙ c.copy_places.ensures))
     c.held.ensures.pairing c.held.ensures.places
 
 pub returns-clause-best : goal.returns-clause-best
 returns-clause-best c =
-    let long : length c.own_places.new.places ≡ c.in_ok-places.places.len = let len = c.in_ok-places.ensures.len in let auto = c.own_places.auto.places in let also = c.deref_mut.ensures.len in omega arith in
+    let long : length c.copy_places.new.places ≡ c.in_ok-places.places.len = let len = c.in_ok-places.ensures.len in let auto = c.copy_places.auto.places in let also = c.deref_mut.ensures.len in omega arith in
     IfOk-both c.held.result _ _ _
     (λ m made places. best_of_reviewers c.proposers.ensures.market (rw c.in_ok-swapped.ensures at c.in_ok-best.ensures.best) made.matching
-    (places ∙ c.deref.ensures.value ∙ take-append_at_length c.in_ok-places.places.len c.own_places.new.places _ long ∙ c.own_places.ensures))
+    (places ∙ c.deref.ensures.value ∙ take-append_at_length c.in_ok-places.places.len c.copy_places.new.places _ long ∙ c.copy_places.ensures))
     c.held.ensures.pairing c.held.ensures.places

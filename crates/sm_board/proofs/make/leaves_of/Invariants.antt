@@ -1,6 +1,6 @@
 use Rattle.std.proofs.Common.{◌≡◌, map, take}
 use Rattle.sm_market.specs.Vectors.{rows_of}
-use Rattle.sm_poset.specs.Kept.{moves_in}
+use Rattle.sm_poset.specs.Moves.{moves_in}
 use Rattle.sm_board.proofs.make.leaves_of.Given as goal
 
 abbrev pub invariant-loop-row : goal.invariant-loop-row

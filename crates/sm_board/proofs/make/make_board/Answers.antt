@@ -1,7 +1,7 @@
 use Rattle.std.proofs.Common.{ℕ, ap, ◌∙◌, List, length, map}
 use Rattle.sm_market.specs.Vectors.{rows_of}
 use Rattle.sm_theory.specs.Values.{rotations_of}
-use Rattle.sm_poset.specs.Kept.{moves_in}
+use Rattle.sm_poset.specs.Moves.{moves_in}
 use Rattle.sm_board.proofs.MakeLemmas.{board_for}
 use Rattle.sm_board.proofs.make.make_board.Goals as goal
 

@@ -7,8 +7,7 @@ use Rattle.sm_market.specs.Lists.{row, Lists}
 use Rattle.sm_market.specs.Vectors.{rows_of}
 use Rattle.sm_market.specs.Matching.{standing}
 use Rattle.sm_market.specs.Pairing.{Paired}
-use Rattle.sm_poset.specs.Kept.{moves_in, moves_at}
-use Rattle.sm_poset.specs.Moves.{place_to}
+use Rattle.sm_poset.specs.Moves.{moves_at, moves_in, place_to}
 use Rattle.sm_poset.proofs.MoveLemmas.{go_down}
 use Rattle.sm_board.specs.BoardOf.{places_at}
 use Rattle.sm_board.proofs.MakeLemmas.{row_read}

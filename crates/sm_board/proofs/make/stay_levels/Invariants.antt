@@ -2,7 +2,7 @@ use Rattle.std.proofs.Common.{◌≡◌, map, slice_index}
 use Rattle.std.specs.List.{range_with_len}
 use Rattle.sm_market.specs.Lists.{row}
 use Rattle.sm_market.specs.Vectors.{rows_of}
-use Rattle.sm_poset.specs.Kept.{moves_in}
+use Rattle.sm_poset.specs.Moves.{moves_in}
 use Rattle.sm_board.specs.BoardOf.{places_at}
 use Rattle.sm_board.proofs.make.stay_levels.Given as goal
 

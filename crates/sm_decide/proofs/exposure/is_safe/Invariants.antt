@@ -1,5 +1,6 @@
 use Rattle.std.proofs.Common.{◌≡◌, ℕ, ◌<◌, ◌-◌, length, slice_index}
-use Rattle.sm_decide.specs.Exposure.{IsSearchAt, IsSafe, IsPath}
+use Rattle.sm_decide.specs.Exposure.{IsSearchAt, IsSafe}
+use Rattle.sm_decide.specs.ExposureKept.{IsSuccessorPath}
 use Rattle.sm_decide.proofs.exposure.is_safe.Given as goal
 
 abbrev pub invariant-steps : goal.invariant-steps
@@ -8,7 +9,7 @@ invariant-steps l = record {
   in_range : l.q < length l.market.proposers;
   search : IsSearchAt l.market l.m.places l.from;
   before : (k : ℕ) → k < l.start → IsSafe l.market l.m.places l.bound (slice_index l.trail.items k);
-  path : IsPath l.market l.m.places l.trail.items l.start l.p l.q;
+  path : IsSuccessorPath l.market l.m.places l.trail.items l.start l.p l.q;
 }
 
 abbrev pub decreases-steps : goal.decreases-steps

@@ -1,5 +1,6 @@
 use Rattle.std.proofs.Common.{◌≡◌, ℕ, ◌<◌, length}
-use Rattle.sm_decide.specs.Exposure.{IsSearchAt, IsSafe, AreSafe}
+use Rattle.sm_decide.specs.Exposure.{IsSearchAt, IsSafe}
+use Rattle.sm_decide.specs.ExposureKept.{AreSafe}
 use Rattle.sm_decide.proofs.exposure.none_below.Given as goal
 
 abbrev pub invariant-loop-p : goal.invariant-loop-p

@@ -2,7 +2,7 @@ use Rattle.std.proofs.Common.{◌-◌, ◌∙◌, sym, ap, arith, subst, drop, t
 use Rattle.sm_text.proofs.LineLemmas.{line_places}
 use Rattle.sm_forms.specs.Taking.{TakesText}
 use Rattle.sm_forms.specs.Forms.{IsMisplaced}
-use Rattle.sm_forms.proofs.TakingLemmas.{AreTaken, taken_none, taken_more, taken_long, texts_from, texts_step, fewer_lines, texts_over, bad_line, missing_end}
+use Rattle.sm_forms.proofs.TakingLemmas.{AreTaken, taken_none, taken_more, taken_long, texts_from, texts_from-step, fewer_lines, texts_from-over, bad_line, missing_end}
 use Rattle.sm_forms.proofs.reading.read_answer.Goals as goal
 
 pub lines-init : goal.lines-init
@@ -24,7 +24,7 @@ returns-then-not-branch-clause-fault c =
     let text = take (span.stop - span.start) (drop span.start bytes) in
     subst (IsMisplaced input (texts_from bytes 0)) (sym c.lines.invariant.number)
     (bad_line input c.kind-kind.ensures.sound (texts_from bytes 0) before text (texts_from bytes span.next)
-    (subst (AreTaken input (texts_from bytes 0) before) (texts_step bytes c.lines.at span c.in-Some.ensures) c.lines.invariant.taken)
+    (subst (AreTaken input (texts_from bytes 0) before) (texts_from-step bytes c.lines.at span c.in-Some.ensures) c.lines.invariant.taken)
     (subst (TakesText input before c.take_text.new.taken text) c.if-not-branch.true c.in_ok-take_text.ensures))
 
 pub lines-preserved : goal.lines-preserved
@@ -39,7 +39,7 @@ lines-preserved c =
     let fewer = fewer_lines bytes c.lines.at span c.in-Some.ensures in
     record {
       taken = taken_more input (texts_from bytes 0) before c.take_text.new.taken text (texts_from bytes span.next)
-          (subst (AreTaken input (texts_from bytes 0) before) (texts_step bytes c.lines.at span c.in-Some.ensures) c.lines.invariant.taken) took;
+          (subst (AreTaken input (texts_from bytes 0) before) (texts_from-step bytes c.lines.at span c.in-Some.ensures) c.lines.invariant.taken) took;
       number = omega (arith, long, c.lines.invariant.number);
       few = omega (arith, fewer, c.lines.invariant.few);
     }
@@ -50,5 +50,5 @@ returns-else-is_whole-clause-fault c =
     let texts = texts_from c.args.answer.now 0 in
     subst (IsMisplaced input texts) (sym c.lines.invariant.number)
     (missing_end input c.kind-kind.ensures.sound texts c.lines.taken
-    (subst (AreTaken input texts c.lines.taken) (texts_over c.args.answer.now c.lines.at c.in_default.ensures) c.lines.invariant.taken)
+    (subst (AreTaken input texts c.lines.taken) (texts_from-over c.args.answer.now c.lines.at c.in_default.ensures) c.lines.invariant.taken)
     (sym c.is_whole.ensures ∙ c.if-is_whole.false))

@@ -1,6 +1,6 @@
 use Rattle.std.proofs.Common.{◌∙◌, ap, sym, arith, subst, refl}
 use Rattle.sm_instance.specs.Matching.{IsMatching}
-use Rattle.sm_pairs.specs.Held.{pair_at}
+use Rattle.sm_lists.specs.Pairs.{pair_at}
 use Rattle.sm_pairs.specs.Holding.{loads_of}
 use Rattle.sm_pairs.proofs.HoldingLemmas.{no_places, no_loads, nobody, is_breach, pairs_more, none_more}
 use Rattle.sm_given.proofs.holding.hold.Goals as goal

@@ -2,7 +2,7 @@ use Rattle.std.proofs.Common.{◌-◌, ap, arith, subst, ⊎_elim, drop, take, l
 use Rattle.sm_text.proofs.LineLemmas.{line_places}
 use Rattle.sm_given.specs.GivenText.{texts_from}
 use Rattle.sm_given.specs.Taking.{end_so_far, lines_so_far, TakesText}
-use Rattle.sm_given.proofs.ReadingLemmas.{AreTaken, taken_more, taken_long, texts_step, fewer_lines, texts_over, bad_line, missing_end, all_given}
+use Rattle.sm_given.proofs.ReadingLemmas.{AreTaken, taken_more, taken_long, texts_from-step, fewer_lines, texts_from-over, bad_line, missing_end, all_given}
 use Rattle.sm_given.proofs.reading.read_pairs.Goals as goal
 
 pub slice_bounds-take_text-end : goal.slice_bounds-take_text-end
@@ -18,7 +18,7 @@ returns-then-not-branch-clause-fault c =
     record {
       k = length (lines_so_far before);
       bad = bad_line input c.requires.input (texts_from bytes c.args.from) before c.take_text.new.pairs text (texts_from bytes span.next) c.lines.invariant.in_turn
-          (subst (AreTaken input (texts_from bytes c.args.from) before) (texts_step bytes c.lines.at span c.in-Some.ensures) c.lines.invariant.taken)
+          (subst (AreTaken input (texts_from bytes c.args.from) before) (texts_from-step bytes c.lines.at span c.in-Some.ensures) c.lines.invariant.taken)
           (subst (TakesText input before c.take_text.new.pairs text) c.if-not-branch.true c.in_ok-take_text.ensures);
       there = c.lines.invariant.number;
     }
@@ -35,7 +35,7 @@ lines-preserved c =
     let fewer = fewer_lines bytes c.lines.at span c.in-Some.ensures in
     record {
       taken = taken_more input (texts_from bytes c.args.from) before c.take_text.new.pairs text (texts_from bytes span.next)
-          (subst (AreTaken input (texts_from bytes c.args.from) before) (texts_step bytes c.lines.at span c.in-Some.ensures) c.lines.invariant.taken) took;
+          (subst (AreTaken input (texts_from bytes c.args.from) before) (texts_from-step bytes c.lines.at span c.in-Some.ensures) c.lines.invariant.taken) took;
       in_turn = took.took.in_turn;
       number = omega (arith, long, c.lines.invariant.number);
       few = omega (arith, fewer, c.lines.invariant.few);
@@ -45,7 +45,7 @@ pub returns-in-Ended-clause-given : goal.returns-in-Ended-clause-given
 returns-in-Ended-clause-given c =
     let input = c.args.input.now in
     let texts = texts_from c.args.bytes.now c.args.from in
-    all_given input texts c.lines.pairs (subst (AreTaken input texts c.lines.pairs) (texts_over c.args.bytes.now c.lines.at c.in_default.ensures) c.lines.invariant.taken)
+    all_given input texts c.lines.pairs (subst (AreTaken input texts c.lines.pairs) (texts_from-over c.args.bytes.now c.lines.at c.in_default.ensures) c.lines.invariant.taken)
     (ap end_so_far c.in-Ended.is)
 
 pub returns-in-Left : goal.returns-in-Left
@@ -56,7 +56,7 @@ returns-in-Left c =
       given = tt;
       fault = record {
         k = length (lines_so_far c.lines.pairs);
-        bad = missing_end input c.requires.input texts c.lines.pairs (subst (AreTaken input texts c.lines.pairs) (texts_over c.args.bytes.now c.lines.at c.in_default.ensures) c.lines.invariant.taken)
+        bad = missing_end input c.requires.input texts c.lines.pairs (subst (AreTaken input texts c.lines.pairs) (texts_from-over c.args.bytes.now c.lines.at c.in_default.ensures) c.lines.invariant.taken)
             (⊎_elim (λ e. ap end_so_far e) (λ e. ap end_so_far e) c.in-Left.is);
         there = c.lines.invariant.number;
       };

@@ -1,5 +1,6 @@
 use Rattle.std.proofs.Common.{ℕ, ◌<◌}
-use Rattle.sm_instance.specs.Sound.{IsPairOf, pair_at}
+use Rattle.sm_instance.specs.Sound.{IsPairOf}
+use Rattle.sm_lists.specs.Pairs.{pair_at}
 use Rattle.sm_instance.proofs.checks.first_bad_pair.Given as goal
 
 -- the pairs so far are sound

@@ -1,9 +1,8 @@
 use Rattle.std.proofs.Common.{◌<◌, arith, sym, length, subst, slice_index_or, ltb-true, lt-ltb}
 use Rattle.std.specs.Prelude.{IsTrue, nat_lt}
 use Rattle.std.specs.Option.{option_map}
-use Rattle.sm_instance.specs.Ranks.{IsBefore}
+use Rattle.sm_instance.specs.Ranks.{IsBefore, order_of}
 use Rattle.sm_theory.specs.Listings.{IsBehind}
-use Rattle.sm_judge.specs.Vectors.{order_of}
 use Rattle.sm_judge.proofs.VectorLemmas.{behind_to, behind_from}
 use Rattle.sm_judge.proofs.listing.is_behind.Goals as goal
 

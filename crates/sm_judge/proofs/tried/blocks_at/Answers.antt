@@ -1,5 +1,5 @@
 use Rattle.std.proofs.Common.{ℕ, subst, slice_index, ltb-true, lt-ltb}
-use Rattle.sm_instance.specs.Loads.{IsGainLimit}
+use Rattle.sm_instance.specs.Stable.{IsGainLimit}
 use Rattle.sm_instance.proofs.BlockLemmas.{blocks_by}
 use Rattle.sm_judge.proofs.tried.blocks_at.Goals as goal
 

@@ -1,5 +1,5 @@
 use Rattle.std.proofs.Common.{◌≡◌, ℕ, ◌<◌, length, slice_index}
-use Rattle.sm_instance.specs.Loads.{IsGainLimit}
+use Rattle.sm_instance.specs.Stable.{IsGainLimit}
 use Rattle.sm_judge.proofs.tried.set_all_limits.Given as goal
 
 -- the limits so far

@@ -5,7 +5,7 @@ use Rattle.sm_market.specs.Lists.{row}
 use Rattle.sm_market.specs.Vectors.{rows_of}
 use Rattle.sm_least.specs.Steps.{rows_in, NeverFall}
 use Rattle.sm_board.proofs.MakeLemmas.{row_read}
-use Rattle.sm_least.proofs.GateLemmas.{written_rows, avoided_more}
+use Rattle.sm_least.proofs.GateLemmas.{rows_in-set, avoided_more}
 use Rattle.sm_least.proofs.gates.shut_forbidden.Goals as goal
 
 pub loop-p-init : goal.loop-p-init
@@ -34,5 +34,5 @@ loop-p-preserved c =
     let shut : c.deref_mut.result.now ≡ slice_index_or (rows_in c.loop-p.shut) p [] = c.deref_mut.ensures.value ∙ row_read c.loop-p.shut p c.index-shut-p.result (omega (arith, c.loop-p.invariant.rows.one_each)) in
     let one = rw (levels, shut) at c.shut_if.ensures.shut in
     let long : length c.shut_if.new.shut ≡ length (row (rows_of c.args.levels.now) p) = c.shut_if.ensures.one_each ∙ ap length shut ∙ c.loop-p.invariant.rows.row_each p (omega arith) in
-    rw (written_rows c.loop-p.shut p c.index-shut-p.result c.shut_if.new.shut (c.shut_if.ensures.one_each ∙ c.deref_mut.ensures.len))
+    rw (rows_in-set c.loop-p.shut p c.index-shut-p.result c.shut_if.new.shut (c.shut_if.ensures.one_each ∙ c.deref_mut.ensures.len))
     (avoided_more c.loop-p.p-index c.shut_if.new.shut (omega arith) long one c.loop-p.invariant)

@@ -5,7 +5,7 @@ use Rattle.sm_market.specs.Lists.{row}
 use Rattle.sm_market.specs.Vectors.{rows_of}
 use Rattle.sm_board.proofs.MakeLemmas.{row_read}
 use Rattle.sm_least.specs.Steps.{rows_in, NeverFall}
-use Rattle.sm_least.proofs.GateLemmas.{written_rows, cut_more, cut_same}
+use Rattle.sm_least.proofs.GateLemmas.{rows_in-set, cut_more, cut_same}
 use Rattle.sm_least.proofs.gates.shut_ranks.Goals as goal
 use Rattle.sm_least.proofs.gates.shut_ranks.Goals.{then-matched-p, else-matched-p}
 
@@ -55,7 +55,7 @@ loop-p-preserved c =
           w.deref_mut.ensures.value ∙ row_read c.loop-p.shut p w.index-shut-p.result (omega (arith, c.loop-p.invariant.rows.one_each, c.requires.board.levels_each)) in
           let each : length (slice_index_or (rows_in c.loop-p.shut) p []) ≡ length (row c.args.board.now.levels p) = c.loop-p.invariant.rows.row_each p (omega (arith, c.requires.board.levels_each)) in
           let cut = rw (stays, levels, ranks, shut) at w.shut_row_above.ensures.shut in
-          rw w.shut-is (rw (written_rows c.loop-p.shut p w.index-shut-p.result w.shut_row_above.new.shut (w.shut_row_above.ensures.one_each ∙ w.deref_mut.ensures.len))
+          rw w.shut-is (rw (rows_in-set c.loop-p.shut p w.index-shut-p.result w.shut_row_above.new.shut (w.shut_row_above.ensures.one_each ∙ w.deref_mut.ensures.len))
           (cut_more p w.shut_row_above.new.shut (omega (arith, c.requires.board.levels_each)) (w.shut_row_above.ensures.one_each ∙ ap length shut ∙ each)
           (λ a few. ((λ x. let y = (cut a few).0 x in (y.0, λ _. y.1)), (λ x. (cut a few).1 (x.0, x.1 (ap (λ (bs : List Bool). slice_index_or bs p false) (sym c.matched.ensures) ∙ w.if-matched-p.true)))))
           c.loop-p.invariant))

@@ -1,12 +1,12 @@
 use Rattle.std.proofs.Common.{◌-◌, length}
 use Rattle.sm_board.specs.Board.{IsClosedIn}
-use Rattle.sm_board.specs.Courses.{Grows}
+use Rattle.sm_board.specs.Courses.{HoldsMore}
 use Rattle.sm_least.specs.Steps.{IsInAll, IsHigh}
 use Rattle.sm_least.proofs.grow.lift.Given as goal
 
 abbrev pub invariant-stays : goal.invariant-stays
 invariant-stays l = record {
-  grows : Grows l.course l.bar l.initial.held l.held;
+  grows : HoldsMore l.course l.bar l.initial.held l.held;
   closed : IsClosedIn l.course.board l.held.set;
   in_all : IsInAll (IsHigh l.course.board l.gates l.p l.wanted) l.initial.held.set l.held.set;
 }

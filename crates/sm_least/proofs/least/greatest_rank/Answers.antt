@@ -7,7 +7,7 @@ use Rattle.sm_market.specs.Vectors.{rows_of}
 use Rattle.sm_board.proofs.MakeLemmas.{row_read}
 use Rattle.sm_least.specs.Steps.{NeverFall}
 use Rattle.sm_least.specs.Regrets.{rank_of_level, rank_now, greatest_of}
-use Rattle.sm_least.proofs.RegretLemmas.{greatest_more, greater_is}
+use Rattle.sm_least.proofs.RegretLemmas.{greatest_of-suc, greater_is}
 use Rattle.sm_least.proofs.least.greatest_rank.Goals as goal
 use Rattle.sm_least.proofs.least.greatest_rank.Goals.{then-matched-p, else-matched-p}
 
@@ -46,8 +46,8 @@ loop-p-preserved c =
           w.deref-then-matched-p.ensures.value ∙ ap (λ (v : Vec ℕ Global). v.items) w.index-ranks-p.is ∙ row_read c.args.ranks.now p w.index-ranks-p.result (omega (arith, c.requires.ranked.ranks_each)) in
           let rank = rw (levels, ranks) at w.rank_of.ensures in
           w.greatest-is ∙ w.max-greatest.ensures ∙ greater_is c.loop-p.greatest w.rank_of.result
-          ∙ ap (λ x. max x w.rank_of.result) c.loop-p.invariant ∙ ap (max (greatest_of f p)) (rank ∙ sym (alike true w.if-matched-p.true)) ∙ sym (greatest_more f p)
+          ∙ ap (λ x. max x w.rank_of.result) c.loop-p.invariant ∙ ap (max (greatest_of f p)) (rank ∙ sym (alike true w.if-matched-p.true)) ∙ sym (greatest_of-suc f p)
       | else-matched-p w ↦
           let none : f p ≡ 0 = alike false w.if-matched-p.false in
-          w.greatest-is ∙ c.loop-p.invariant ∙ (let e : greatest_of f p ≡ max (greatest_of f p) (f p) = omega arith in e) ∙ sym (greatest_more f p)
+          w.greatest-is ∙ c.loop-p.invariant ∙ (let e : greatest_of f p ≡ max (greatest_of f p) (f p) = omega arith in e) ∙ sym (greatest_of-suc f p)
     ]

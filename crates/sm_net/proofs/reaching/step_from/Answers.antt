@@ -1,5 +1,5 @@
 use Rattle.std.proofs.Common.{◌≡◌, ℕ, ◌+◌, arith, subst, sym, ap, ◌∙◌, List, [], ◌∷◌, ◌++◌, Contains}
-use Rattle.sm_net.specs.Pairs.{pair_at}
+use Rattle.sm_lists.specs.Pairs.{pair_at}
 use Rattle.sm_net.proofs.ReachLemmas.{IsGoing, going_known, going_on, going_ends}
 use Rattle.sm_net.proofs.reaching.step_from.Goals as goal
 use Rattle.sm_net.proofs.reaching.step_from.Goals.{then-not-has, else-not-has}

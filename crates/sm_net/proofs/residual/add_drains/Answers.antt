@@ -4,7 +4,7 @@ use Rattle.std.proofs.lemmas.List.{append_assoc}
 use Rattle.sm_theory.specs.Net.{Net, sink_of}
 use Rattle.sm_theory.specs.declared.flow_lines.FlowLine.{FlowLine}
 use Rattle.sm_theory.specs.FlowLines.{amount_on}
-use Rattle.sm_net.specs.CheckedNets.{net_in}
+use Rattle.sm_net.specs.CheckedNets.{net_of_parts}
 use Rattle.sm_net.specs.Residual.{pair_if, joined, drain_steps}
 use Rattle.sm_net.proofs.FlowLemmas.{amount_at}
 use Rattle.sm_net.proofs.residual.add_drains.Goals as goal
@@ -12,7 +12,7 @@ use Rattle.sm_net.proofs.residual.add_drains.Goals as goal
 pub loop-k-preserved : goal.loop-k-preserved
 loop-k-preserved c =
     let k : ℕ = c.loop-k.k in
-    let net : Net = net_in c.args.net.now in
+    let net : Net = net_of_parts c.args.net.now in
     let lines : List FlowLine = c.args.lines.now in
     let there : k + 1 < c.nodes.result = omega (arith, c.loop-k-test.true, c.size-k-end.ensures.size, c.loop-k.auto.k-end, c.nodes.ensures) in
     let sink : c.size-sink.result + 1 ≡ sink_of net = omega (arith, c.size-sink.ensures.size) in

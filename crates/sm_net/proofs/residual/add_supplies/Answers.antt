@@ -4,7 +4,7 @@ use Rattle.std.proofs.lemmas.List.{append_assoc}
 use Rattle.sm_theory.specs.Net.{Net}
 use Rattle.sm_theory.specs.declared.flow_lines.FlowLine.{FlowLine}
 use Rattle.sm_theory.specs.FlowLines.{amount_on}
-use Rattle.sm_net.specs.CheckedNets.{net_in}
+use Rattle.sm_net.specs.CheckedNets.{net_of_parts}
 use Rattle.sm_net.specs.Residual.{pair_if, joined, supply_steps}
 use Rattle.sm_net.proofs.FlowLemmas.{amount_at}
 use Rattle.sm_net.proofs.residual.add_supplies.Goals as goal
@@ -12,7 +12,7 @@ use Rattle.sm_net.proofs.residual.add_supplies.Goals as goal
 pub loop-k-preserved : goal.loop-k-preserved
 loop-k-preserved c =
     let k : ℕ = c.loop-k.k in
-    let net : Net = net_in c.args.net.now in
+    let net : Net = net_of_parts c.args.net.now in
     let lines : List FlowLine = c.args.lines.now in
     let there : k + 1 < c.nodes.result = omega (arith, c.loop-k-test.true, c.size-k-end.ensures.size, c.loop-k.auto.k-end, c.nodes.ensures) in
     let amount : c.index.result.now ≡ amount_on lines 0 (k + 1) = amount_at c.in_ok-amounts.ensures (k + 1) there c.index.ensures in

@@ -1,5 +1,5 @@
 use Rattle.std.proofs.Common.{◌≡◌, ℕ, ◌++◌, ◌∷◌, [], ◌∙◌}
-use Rattle.sm_net.specs.Pairs.{pair_at}
+use Rattle.sm_lists.specs.Pairs.{pair_at}
 use Rattle.sm_net.specs.Spans.{forbidden_pairs}
 use Rattle.sm_net.proofs.SpanLemmas.{flat_more}
 use Rattle.sm_net.proofs.spans.add_forbidden.Goals as goal

@@ -1,6 +1,6 @@
 use Rattle.std.proofs.Common.{◌≡◌, ℕ, ◌++◌, ◌∷◌, [], ◌∙◌}
 use Rattle.std.proofs.lemmas.List.{append_assoc}
-use Rattle.sm_net.specs.Pairs.{pair_at}
+use Rattle.sm_lists.specs.Pairs.{pair_at}
 use Rattle.sm_net.specs.Spans.{forced_pairs}
 use Rattle.sm_net.proofs.SpanLemmas.{flat_more}
 use Rattle.sm_net.proofs.spans.add_forced.Goals as goal

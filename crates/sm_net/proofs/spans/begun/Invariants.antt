@@ -3,7 +3,7 @@ use Rattle.std.specs.Prelude.{if◌then◌else◌}
 use Rattle.sm_lists.specs.Rows.{rows_of}
 use Rattle.sm_market.specs.Matching.{held}
 use Rattle.sm_theory.specs.Conditions.{has_level}
-use Rattle.sm_net.specs.Pairs.{pair_at}
+use Rattle.sm_lists.specs.Pairs.{pair_at}
 use Rattle.sm_net.proofs.spans.begun.Given as goal
 
 abbrev pub invariant-loop-x : goal.invariant-loop-x

@@ -1,28 +1,28 @@
-use Rattle.std.proofs.Common.{◌≡◌, ℕ, ◌-◌, ◌++◌, ◌∷◌, [], ◌∙◌, List, ap, sym, subst, arith, get_or, length, map, max, Some}
+use Rattle.std.proofs.Common.{◌≡◌, ℕ, ◌-◌, ◌++◌, ◌∷◌, [], ◌∙◌, List, ap, sym, subst, arith, get_or, length, map, Some}
 use Rattle.std.specs.List.{range_with_len}
 use Rattle.std.proofs.lemmas.List.FromFn.{map-range_with_len_more}
 use Rattle.sm_instance.specs.Written.{entry, IsAcceptable}
-use Rattle.sm_instance.specs.Ranks.{rank_back, worse_rank}
+use Rattle.sm_instance.specs.Ranks.{worse_rank}
 use Rattle.sm_market.specs.Lists.{Lists, row}
 use Rattle.sm_seats.specs.Seating.{written_place}
 use Rattle.sm_seats.proofs.SeatingLemmas.{level_is}
 use Rattle.sm_seats.proofs.SeatingLaws.{written_on}
 use Rattle.sm_partners.proofs.regret.ranks_of.Goals as goal
 
-pub overflow_sub-level : goal.overflow_sub-level
-overflow_sub-level c =
+pub overflow_sub-levels : goal.overflow_sub-levels
+overflow_sub-levels c =
     let same = ap (λ (l : Lists). length (row l.proposers c.args.p)) c.market.ensures in
     let is = ap (λ (xs : List ℕ). get_or xs c.loop-i.i 0) c.requires.levels ∙ level_is c.args.seats.now c.args.p c.loop-i.i (omega (arith, same)) in
     omega (arith, is)
 
-pub rank_back-back-requires-clause-on_list : goal.rank_back-back-requires-clause-on_list
-rank_back-back-requires-clause-on_list c =
+pub worse_rank-requires-clause-on_list : goal.worse_rank-requires-clause-on_list
+worse_rank-requires-clause-on_list c =
     let same = ap (λ (l : Lists). length (row l.proposers c.args.p)) c.market.ensures in
     let is = ap (λ (xs : List ℕ). get_or xs c.loop-i.i 0) c.requires.levels ∙ level_is c.args.seats.now c.args.p c.loop-i.i (omega (arith, same)) in
     omega (arith, is, written_on c.requires.seating c.args.p c.loop-i.i (omega (arith, same)))
 
-pub rank_back-back-requires-clause-acceptable : goal.rank_back-back-requires-clause-acceptable
-rank_back-back-requires-clause-acceptable c =
+pub worse_rank-requires-clause-acceptable : goal.worse_rank-requires-clause-acceptable
+worse_rank-requires-clause-acceptable c =
     let same = ap (λ (l : Lists). length (row l.proposers c.args.p)) c.market.ensures in
     let i = c.loop-i.i in
     let is = ap (λ (xs : List ℕ). get_or xs i 0) c.requires.levels ∙ level_is c.args.seats.now c.args.p i (omega (arith, same)) in
@@ -38,8 +38,7 @@ loop-i-preserved c =
     let level = get_or c.args.levels.now i 0 in
     let is = ap (λ (xs : List ℕ). get_or xs i 0) c.requires.levels ∙ level_is c.args.seats.now p i (omega (arith, same)) in
     let place : level - 1 ≡ written_place c.args.seats.now p i = omega (arith, is) in
-    let rank : max c.rank_back-back.result level ≡ worse_rank w p (Some (written_place c.args.seats.now p i)) =
-    ap (λ r. max r level) (c.rank_back-back.ensures.rank ∙ ap (rank_back w p) place) ∙ ap (max (rank_back w p (written_place c.args.seats.now p i))) is in
-    c.in_ok-push.ensures.items ∙ ap (λ xs. xs ++ c.max.result ∷ []) c.loop-i.invariant
-    ∙ ap (λ r. map (λ i. worse_rank w p (Some (written_place c.args.seats.now p i))) (range_with_len 0 i) ++ r ∷ []) (c.max.ensures ∙ rank)
+    let rank = c.worse_rank.ensures ∙ ap (λ k. worse_rank w p (Some k)) place in
+    c.in_ok-push.ensures.items ∙ ap (λ xs. xs ++ c.worse_rank.result ∷ []) c.loop-i.invariant
+    ∙ ap (λ r. map (λ i. worse_rank w p (Some (written_place c.args.seats.now p i))) (range_with_len 0 i) ++ r ∷ []) rank
     ∙ sym (map-range_with_len_more (λ i. worse_rank w p (Some (written_place c.args.seats.now p i))) 0 i i (omega arith))

@@ -44,11 +44,11 @@ loop-i-preserved c =
     let place : level - 1 ≡ written_place s p i = omega (arith, is) in
     let weight : c.pair_weight.result ≡ pair_weight by w p (Some (written_place s p i)) = c.pair_weight.ensures.weight ∙ ap (λ k. pair_weight by w p (Some k)) place in
     let items : c.push.new.self.items ≡ c.loop-i.weights.items ++ c.pair_weight.result ∷ [] =
-    c.in_ok-push.ensures.items ∙ ap (λ z. c.loop-i.weights.items ++ z ∷ []) (small_is c.pair_weight.result c.pair_weight.ensures.light) in
+    c.in_ok-push.ensures.items ∙ ap (λ z. c.loop-i.weights.items ++ z ∷ []) (small_is c.pair_weight.result c.pair_weight.ensures.size) in
     record {
       weights =
           items ∙ ap (λ z. c.loop-i.weights.items ++ z ∷ []) weight
           ∙ ap (λ xs. xs ++ pair_weight by w p (Some (written_place s p i)) ∷ []) c.loop-i.invariant.weights
           ∙ sym (map-range_with_len_more (λ i. pair_weight by w p (Some (written_place s p i))) 0 i i (omega arith));
-      light = subst (All IsLight) (sym items) (All-push IsLight c.loop-i.weights.items c.pair_weight.result c.loop-i.invariant.light c.pair_weight.ensures.light);
+      light = subst (All IsLight) (sym items) (All-push IsLight c.loop-i.weights.items c.pair_weight.result c.loop-i.invariant.light c.pair_weight.ensures.size);
     }

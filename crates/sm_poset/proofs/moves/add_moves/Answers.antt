@@ -3,7 +3,7 @@ use Rattle.std.specs.declared.alloc.Global.{Global}
 use Rattle.std.proofs.lemmas.List.{get_or-map, map-set, length-map}
 use Rattle.sm_market.proofs.CycleLemmas.{AreDistinct}
 use Rattle.sm_theory.specs.Rotations.{proposer_at}
-use Rattle.sm_poset.specs.Kept.{moves_in, moves_at}
+use Rattle.sm_poset.specs.Moves.{moves_at, moves_in}
 use Rattle.sm_poset.proofs.MoveLemmas.{some_in_range, moved_step}
 use Rattle.sm_poset.proofs.moves.add_moves.Goals as goal
 

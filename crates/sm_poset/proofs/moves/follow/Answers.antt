@@ -7,7 +7,7 @@ use Rattle.sm_theory.specs.Rotations.{proposer_at}
 use Rattle.sm_theory.specs.Values.{rotations_of}
 use Rattle.sm_theory.proofs.Bridge.Chain.{stage_stable}
 use Rattle.sm_rotations.proofs.CountLemmas.{few_rotations}
-use Rattle.sm_poset.specs.Kept.{moves_in}
+use Rattle.sm_poset.specs.Moves.{moves_in}
 use Rattle.sm_rotations.proofs.NeedsLemmas.{pairs_read}
 use Rattle.sm_poset.proofs.StepLemmas.{IsStep, step_of, stage_next, matched, distinct, not_empty, moves_after, leaders_after, moves_start, leaders_start}
 use Rattle.sm_poset.proofs.moves.follow.Goals as goal

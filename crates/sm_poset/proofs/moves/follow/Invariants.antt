@@ -2,7 +2,8 @@ use Rattle.std.proofs.Common.{◌≡◌}
 use Rattle.sm_market.specs.Pairing.{IsPairingOf}
 use Rattle.sm_theory.specs.Chains.{stage}
 use Rattle.sm_theory.specs.Values.{rotations_of}
-use Rattle.sm_poset.specs.Kept.{moves_in, AreMoves, AreLeaders}
+use Rattle.sm_poset.specs.Kept.{AreLeaders}
+use Rattle.sm_poset.specs.Moves.{AreMoves, moves_in}
 use Rattle.sm_poset.proofs.moves.follow.Given as goal
 
 abbrev pub invariant-loop-k : goal.invariant-loop-k

@@ -1,5 +1,5 @@
 use Rattle.std.proofs.Common.{◌≡◌, [], replicate}
-use Rattle.sm_poset.specs.Kept.{moves_in}
+use Rattle.sm_poset.specs.Moves.{moves_in}
 use Rattle.sm_poset.proofs.moves.no_moves.Given as goal
 
 abbrev pub invariant-loop : goal.invariant-loop

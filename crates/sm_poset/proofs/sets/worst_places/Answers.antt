@@ -2,8 +2,7 @@ use Rattle.std.proofs.Common.{◌≡◌, ℕ, ◌<◌, None, Option, List, lengt
 use Rattle.std.proofs.lemmas.List.{length_push}
 use Rattle.sm_market.specs.Matching.{held}
 use Rattle.sm_lists.proofs.ItemLemmas.{push_cases}
-use Rattle.sm_poset.specs.Moves.{rotation_of, IsWorstPlace}
-use Rattle.sm_poset.specs.Kept.{moves_in, moves_at}
+use Rattle.sm_poset.specs.Moves.{rotation_of, IsWorstPlace, moves_in, moves_at}
 use Rattle.sm_poset.proofs.ReadLemmas.{moves_read}
 use Rattle.sm_poset.proofs.sets.worst_places.Goals as goal
 

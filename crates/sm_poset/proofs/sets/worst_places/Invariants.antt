@@ -1,7 +1,6 @@
 use Rattle.std.proofs.Common.{◌≡◌, ℕ, ◌<◌, length}
 use Rattle.sm_market.specs.Matching.{held}
-use Rattle.sm_poset.specs.Moves.{IsWorstPlace}
-use Rattle.sm_poset.specs.Kept.{moves_in, moves_at}
+use Rattle.sm_poset.specs.Moves.{IsWorstPlace, moves_in, moves_at}
 use Rattle.sm_poset.proofs.sets.worst_places.Given as goal
 
 abbrev pub invariant-loop-p : goal.invariant-loop-p

@@ -1,7 +1,7 @@
 use Rattle.std.proofs.Common.{◌≡◌, true, take}
 use Rattle.std.specs.List.{list_all}
 use Rattle.sm_text.specs.Tokens.{begins_run}
-use Rattle.sm_reader.specs.Kept.{texts_of}
+use Rattle.sm_text.specs.Slices.{texts_of}
 use Rattle.sm_reader.proofs.forms.are_runs.Given as goal
 
 -- all tokens so far are runs

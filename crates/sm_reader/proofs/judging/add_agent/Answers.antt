@@ -1,5 +1,5 @@
 use Rattle.std.proofs.Common.{subst}
-use Rattle.sm_reader.specs.Kept.{texts_of}
+use Rattle.sm_text.specs.Slices.{texts_of}
 use Rattle.sm_reader.specs.Draft.{AddsAgent, ListsOn}
 use Rattle.sm_reader.proofs.AddLemmas.{agent_added}
 use Rattle.sm_reader.proofs.ResultLemmas.{if_ok}

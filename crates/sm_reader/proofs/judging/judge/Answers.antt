@@ -4,7 +4,8 @@ use Rattle.std.specs.Option.{option_map}
 use Rattle.std.proofs.lemmas.List.{take_rest}
 use Rattle.sm_reader.specs.Forms.{form_behind}
 use Rattle.sm_reader.specs.Judging.{of_form, goes, verdict_on}
-use Rattle.sm_reader.specs.Kept.{texts_of, AreNamesAtEnd}
+use Rattle.sm_reader.specs.Kept.{AreNamesAtEnd}
+use Rattle.sm_text.specs.Slices.{texts_of}
 use Rattle.sm_reader.specs.Draft.{said_of, form_of, IsRefusedBy}
 use Rattle.sm_reader.proofs.JudgeLemmas.{verdict_empty, verdict_bad, verdict_end, verdict_form, by_none, refused_line}
 use Rattle.sm_reader.proofs.DraftLemmas.{draft_later}

@@ -4,7 +4,7 @@ use Rattle.sm_text.specs.Tokens.{tokens}
 use Rattle.sm_instance.specs.Named.{nothing}
 use Rattle.sm_reader.specs.Judging.{verdict_on}
 use Rattle.sm_reader.specs.InstanceText.{behind_header, ended}
-use Rattle.sm_reader.specs.Kept.{texts_of}
+use Rattle.sm_text.specs.Slices.{texts_of}
 use Rattle.sm_reader.specs.Draft.{said_of, IsDraft}
 use Rattle.sm_reader.specs.Reading.{IsFaultOf}
 use Rattle.sm_reader.specs.declared.draft.Draft.{Draft}

@@ -1,9 +1,10 @@
-use Rattle.std.proofs.Common.{ap, ◌∙◌, sym, subst, length, map, arith}
+use Rattle.std.proofs.Common.{ap, ◌∙◌, List, sym, subst, length, map, arith}
 use Rattle.std.proofs.lemmas.List.{length-map}
 use Rattle.sm_instance.specs.Sound.{IsInstance}
 use Rattle.sm_instance.specs.declared.inputs.Input.TheVariants.{Two}
-use Rattle.sm_reader.specs.Draft.{said_of, given_in}
-use Rattle.sm_reader.specs.Numbering.{weight_among}
+use Rattle.sm_reader.specs.Draft.{said_of, given_in, pair_in}
+use Rattle.sm_reader.specs.Numbering.{pair_among, weight_among}
+use Rattle.sm_reader.specs.declared.draft.Pair.{Pair}
 use Rattle.sm_reader.proofs.NumberLemmas.{parts_said, few_names}
 use Rattle.sm_reader.proofs.SoundLemmas.{sides_sound}
 use Rattle.sm_reader.proofs.reading.two_sides.Goals as goal
@@ -25,15 +26,15 @@ held-requires-clause-instance c =
 pub held-requires-clause-few : goal.held-requires-clause-few
 held-requires-clause-few c =
     let ready = c.requires.ready in
+    let sides = c.in_ok-sides.ensures.sides in
     let d = c.args.draft in
     let p = d.proposer_names in
     let r = d.reviewer_names in
-    let same = ap length c.in_ok-sides.ensures.sides.weights in
-    let numbers = length-map (map (given_in p.texts r.texts) d.weights.items) (weight_among p.declared r.declared) in
-    let said = length-map d.weights.items (given_in p.texts r.texts) in
-    let few = ready.draft.few in
-    let fits = ready.few in
-    omega arith
+    let weights = ap length sides.weights ∙ length-map (map (given_in p.texts r.texts) d.weights.items) (weight_among p.declared r.declared) ∙ length-map d.weights.items (given_in p.texts r.texts) in
+    let pairs = λ (xs : List Pair). length-map (map (pair_in p.texts r.texts) xs) (pair_among p.declared r.declared) ∙ length-map xs (pair_in p.texts r.texts) in
+    let forced = ap length sides.forced ∙ pairs d.forced.items in
+    let forbidden = ap length sides.forbidden ∙ pairs d.forbidden.items in
+    omega (arith, weights, forced, forbidden, ready.draft.few, ready.few)
 
 pub returns-clause-sides : goal.returns-clause-sides
 returns-clause-sides c =

@@ -2,7 +2,8 @@ use Rattle.std.proofs.Common.{◌≡◌, ◌-◌, [], ℕ, List, length, drop, s
 use Rattle.std.specs.Borrow.{Bor}
 use Rattle.std.proofs.lemmas.List.{length-map}
 use Rattle.sm_text.specs.Tokens.{tokens}
-use Rattle.sm_reader.specs.Kept.{texts_of, AreNamesAtEnd}
+use Rattle.sm_reader.specs.Kept.{AreNamesAtEnd}
+use Rattle.sm_text.specs.Slices.{texts_of}
 use Rattle.sm_reader.proofs.NameLemmas.{names_from}
 use Rattle.sm_reader.proofs.tokens.cut.Goals as goal
 

@@ -3,7 +3,7 @@ use Rattle.std.specs.List.{list_any, list_all}
 use Rattle.sm_text.specs.Name.{is_name}
 use Rattle.sm_text.specs.Tokens.{tokens}
 use Rattle.sm_reader.specs.Forms.{is_bad}
-use Rattle.sm_reader.specs.Kept.{texts_of}
+use Rattle.sm_text.specs.Slices.{texts_of}
 use Rattle.sm_reader.proofs.tokens.cut.Given as goal
 
 -- the tokens so far and those from here on, whether one of them is bad, and the names at the end of those so far

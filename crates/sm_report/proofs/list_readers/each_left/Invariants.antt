@@ -1,6 +1,7 @@
 use Rattle.std.proofs.Common.{◌≡◌, ◌++◌, drop, option_map}
 use Rattle.sm_report.specs.Vectors.{each_in}
-use Rattle.sm_report.specs.Meanings.{texts_of, left_in}
+use Rattle.sm_report.specs.Meanings.{left_in}
+use Rattle.sm_text.specs.Slices.{texts_of}
 use Rattle.sm_report.proofs.list_readers.each_left.Given as goal
 
 -- what the items so far spell, and what those that are left do

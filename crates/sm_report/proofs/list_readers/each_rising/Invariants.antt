@@ -1,5 +1,6 @@
 use Rattle.std.proofs.Common.{◌≡◌, ◌++◌, ◌≤◌, drop, option_map}
-use Rattle.sm_report.specs.Meanings.{texts_of, rising_above}
+use Rattle.sm_report.specs.Meanings.{rising_above}
+use Rattle.sm_text.specs.Slices.{texts_of}
 use Rattle.sm_report.proofs.list_readers.each_rising.Given as goal
 
 -- the numbers so far, and those that are left, above the last one

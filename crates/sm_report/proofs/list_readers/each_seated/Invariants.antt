@@ -1,5 +1,6 @@
 use Rattle.std.proofs.Common.{◌≡◌, ◌++◌, length, option_map}
-use Rattle.sm_report.specs.Meanings.{texts_of, left_in, seat_in, each_pair_in}
+use Rattle.sm_report.specs.Meanings.{left_in, seat_in, each_pair_in}
+use Rattle.sm_text.specs.Slices.{texts_of}
 use Rattle.sm_report.proofs.list_readers.each_seated.Given as goal
 
 -- the pairs so far, and those that are left

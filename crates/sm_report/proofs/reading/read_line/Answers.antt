@@ -1,6 +1,7 @@
 use Rattle.std.proofs.Common.{◌∙◌, ap, sym, option_map}
 use Rattle.sm_report.specs.Lines.{line_of}
-use Rattle.sm_report.specs.Meanings.{texts_of, line_in}
+use Rattle.sm_report.specs.Meanings.{line_in}
+use Rattle.sm_text.specs.Slices.{texts_of}
 use Rattle.sm_report.proofs.ReadLemmas.{read_has_text, none_has_text}
 use Rattle.sm_report.proofs.reading.read_line.Goals as goal
 

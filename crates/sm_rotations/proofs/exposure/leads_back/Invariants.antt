@@ -1,10 +1,10 @@
 use Rattle.std.proofs.Common.{◌<◌, ◌-◌, length}
-use Rattle.sm_rotations.specs.Following.{IsWalk}
+use Rattle.sm_rotations.specs.Following.{IsSuccessorWalk}
 use Rattle.sm_rotations.proofs.exposure.leads_back.Given as goal
 
 abbrev pub invariant-steps : goal.invariant-steps
 invariant-steps l = record {
-  walk : IsWalk l.market l.m.places l.p l.pairs.items l.q;
+  walk : IsSuccessorWalk l.market l.m.places l.p l.pairs.items l.q;
   in_range : l.q < length l.market.proposers;
 }
 

@@ -9,9 +9,9 @@ use Rattle.sm_theory.specs.Values.{rotations_of}
 use Rattle.sm_theory.proofs.Bridge.Chain.{eliminable_of}
 use Rattle.sm_rotations.specs.Graph.{AreCounts}
 use Rattle.sm_rotations.specs.Ordering.{IsTurned, AreReadyAtFirst}
-use Rattle.sm_rotations.proofs.AddingLemmas.{empty_row}
+use Rattle.sm_rotations.proofs.AddingLemmas.{row-replicate}
 use Rattle.sm_rotations.proofs.TurnedBackLemmas.{followers_in_range, followers_lower}
-use Rattle.sm_rotations.proofs.ChainingLemmas.{pushed, few_places}
+use Rattle.sm_rotations.proofs.ChainingLemmas.{rotations_of-push, few_places}
 use Rattle.sm_rotations.proofs.NeedsLemmas.{as_many}
 use Rattle.sm_rotations.proofs.WrittenLemmas.{nil_of, pairs_at, has_followers, written_start, written_whole, popped_in_range, popped_out, popped_exposed, popped_some, enough_unmet, places_left, next_is, written_more}
 use Rattle.sm_rotations.proofs.RenumberLemmas.{renumbered_start, lower_still, renumbered_more, needs_written}
@@ -45,7 +45,7 @@ steps-init c =
     record {
       order = c.in_ok-ready.ensures.order;
       written = written_start u c.as_mut_slice-unmet.result.now (heap_items c.in_ok-ready.ready) none counts first;
-      renumbered = renumbered_start none (ap rows_of c.in_ok-needs.ensures.items) each (λ k. rw empty (empty_row c.len.result k));
+      renumbered = renumbered_start none (ap rows_of c.in_ok-needs.ensures.items) each (λ k. rw empty (row-replicate c.len.result k));
       few = rw none (omega arith);
     }
 
@@ -147,7 +147,7 @@ steps-smaller c =
     let pairs : c.deref-in-Some.result.now ≡ rotation_at (rotations_of c.as_slice-rotations.result.now) c.in-Some.field-0.0.1 = c.deref-in-Some.ensures.value ∙ pairs_at c.as_slice-rotations.result.now c.in-Some.field-0.0.1 c.index-rotations-k.result inside in
     let order = (c.in-Some.ensures.heap_order c.steps.invariant.order).1 in
     let turned : IsTurned (rotation_at (rotations_of c.as_slice-rotations.result.now) c.in-Some.field-0.0.1) c.in_ok-turned.field-0.pairs.items = rw pairs at c.in_ok-turned.ensures in
-    let more : rotations_of c.push.new.self.items ≡ rotations_of c.steps.written.items ++ c.in_ok-turned.field-0.pairs.items ∷ [] = ap rotations_of c.in_ok-push.ensures.items ∙ pushed c.steps.written.items c.in_ok-turned.field-0 in
+    let more : rotations_of c.push.new.self.items ≡ rotations_of c.steps.written.items ++ c.in_ok-turned.field-0.pairs.items ∷ [] = ap rotations_of c.in_ok-push.ensures.items ∙ rotations_of-push c.steps.written.items c.in_ok-turned.field-0 in
     places_left u w x popped order turned more
 
 pub steps-preserved : goal.steps-preserved
@@ -163,7 +163,7 @@ steps-preserved c =
     let those : c.as_slice-those.result.now ≡ row (rows_of c.as_slice-followers.result.now) c.in-Some.field-0.0.1 = row_read c.as_slice-followers.result.now c.in-Some.field-0.0.1 c.index-followers-k.result c.as_slice-those.result.now there c.index-followers-k.is c.as_slice-those.ensures.value in
     let order = (c.in-Some.ensures.heap_order c.steps.invariant.order).1 in
     let turned : IsTurned (rotation_at (rotations_of c.as_slice-rotations.result.now) c.in-Some.field-0.0.1) c.in_ok-turned.field-0.pairs.items = rw pairs at c.in_ok-turned.ensures in
-    let more : rotations_of c.push.new.self.items ≡ rotations_of c.steps.written.items ++ c.in_ok-turned.field-0.pairs.items ∷ [] = ap rotations_of c.in_ok-push.ensures.items ∙ pushed c.steps.written.items c.in_ok-turned.field-0 in
+    let more : rotations_of c.push.new.self.items ≡ rotations_of c.steps.written.items ++ c.in_ok-turned.field-0.pairs.items ∷ [] = ap rotations_of c.in_ok-push.ensures.items ∙ rotations_of-push c.steps.written.items c.in_ok-turned.field-0 in
     let taken : rows_of (set c.steps.noted c.in-Some.field-0.0.1 c.replace.new.dest) ≡ set (rows_of c.steps.noted) c.in-Some.field-0.0.1 [] = map-set (λ (v : Vec ℕ Global). v.items) c.steps.noted c.in-Some.field-0.0.1 c.replace.new.dest ∙ ap (λ (v : Vec ℕ Global). set (rows_of c.steps.noted) c.in-Some.field-0.0.1 v.items) c.replace.ensures.after ∙ ap (set (rows_of c.steps.noted) c.in-Some.field-0.0.1) c.new.ensures.items in
     let number : c.len-number.result ≡ length (rotations_of c.steps.written.items) = omega (arith, c.len-number.ensures, as_many c.steps.written.items) in
     let r = c.steps.invariant.renumbered in

@@ -6,15 +6,15 @@ use Rattle.sm_theory.specs.Rotations.{IsExposed, eliminated, proposer_at}
 use Rattle.sm_theory.specs.Chains.{rotation_at, AreEliminable}
 use Rattle.sm_theory.specs.Values.{rotations_of}
 use Rattle.sm_theory.proofs.Chains.Marks.{last_more, marks_more}
-use Rattle.sm_rotations.specs.Marking.{marks_in, AreMoved, AreMarked, IsFound, Adds}
+use Rattle.sm_rotations.specs.Marking.{marks_in, AreMoved, AreMarked, IsFoundNeed, Adds}
 use Rattle.sm_rotations.proofs.ChainLemmas.{followed, found_in_range}
 use Rattle.sm_rotations.specs.Footings.{AreSteps}
 use Rattle.sm_rotations.proofs.FootingLemmas.{steps_of, proposer_in, target_in, down, on_list, found_of_along, along_of_found}
 use Rattle.sm_rotations.proofs.MarkingLemmas.{adds_like}
-use Rattle.sm_rotations.proofs.AddingLemmas.{empty_row}
+use Rattle.sm_rotations.proofs.AddingLemmas.{row-replicate}
 use Rattle.sm_rotations.proofs.TurnedBackLemmas.{followers_start, followers_lower}
 use Rattle.sm_rotations.proofs.CountLemmas.{few_eliminable}
-use Rattle.sm_rotations.proofs.NeedsLemmas.{pairs_read, as_many, as_many_marks, last_start, marks_start, none_noted, exposed_here, next_stage}
+use Rattle.sm_rotations.proofs.NeedsLemmas.{pairs_read, as_many, as_many_marks, last_start, marks_start, note_of-replicate, exposed_here, next_stage}
 use Rattle.sm_rotations.proofs.predecessors.followers.Goals as goal
 
 pub loop-j-init : goal.loop-j-init
@@ -24,9 +24,9 @@ loop-j-init c =
       made = rw c.in_ok-m.ensures c.requires.made;
       stage = ap (λ (v : Paired). v.places) c.in_ok-m.ensures;
       notes_each = omega (arith, ap length notes_is, length-replicate {A = Option ℕ} c.proposers.result None, c.proposers.ensures.count);
-      last = last_start _ _ (λ p. rw notes_is (none_noted c.proposers.result p));
+      last = last_start _ _ (λ p. rw notes_is (note_of-replicate c.proposers.result p));
       marks = rw c.as_mut_slice-marks.ensures.value (marks_start c.in_ok-marks.ensures.for_entries c.in_ok-marks.ensures.none);
-      followed = rw c.in_ok-followers.ensures (followers_start (omega (arith, length-replicate {A = List ℕ} (length c.as_slice-rotations.result.now) [], as_many c.as_slice-rotations.result.now)) (empty_row (length c.as_slice-rotations.result.now)));
+      followed = rw c.in_ok-followers.ensures (followers_start (omega (arith, length-replicate {A = List ℕ} (length c.as_slice-rotations.result.now) [], as_many c.as_slice-rotations.result.now)) (row-replicate (length c.as_slice-rotations.result.now)));
     }
 
 pub overflow_cast-j-end : goal.overflow_cast-j-end
@@ -142,7 +142,7 @@ add_once-requires-clause-in_range c =
     let exposed : IsExposed c.args.market.now c.loop-j.m.places c.as_slice-pairs.result.now = exposed_here chain inside c.loop-j.invariant.stage c.as_slice-pairs.result.now pairs_are in
     let moved : c.move_round.new.m.places ≡ eliminated c.args.market.now c.loop-j.m.places c.as_slice-pairs.result.now = c.move_round.ensures.moved ∙ ap (eliminated c.args.market.now c.loop-j.m.places) (sym c.as_slice-pairs.ensures.value) in
     let steps : AreSteps c.args.market.now c.as_slice-pairs.result.now c.deref.result.now c.deref-in-loop-j.result.now = rw (c.deref.ensures.value, c.deref-in-loop-j.ensures.value) (steps_of c.loop-j.invariant.made.matching exposed c.in_ok-find_footings.ensures moved c.in_ok-find_footings-2.ensures) in
-    let along : Adds (λ i. IsFound c.args.market.now c.as_slice-pairs.result.now (length c.as_slice-pairs.result.now) c.loop-j.last (marks_in c.loop-j.marks) i) [] c.find.new.found.items = adds_like (found_of_along c.proposers.ensures.market steps) (along_of_found c.proposers.ensures.market steps) c.in_ok-find.ensures in
+    let along : Adds (λ i. IsFoundNeed c.args.market.now c.as_slice-pairs.result.now (length c.as_slice-pairs.result.now) c.loop-j.last (marks_in c.loop-j.marks) i) [] c.find.new.found.items = adds_like (found_of_along c.proposers.ensures.market steps) (along_of_found c.proposers.ensures.market steps) c.in_ok-find.ensures in
     let found = rw pairs_are at along in
     rw (c.deref-in-loop-j-2.ensures.value, c.deref_mut.ensures.value) (λ a less.
     let low = found_in_range c.proposers.ensures.market c.requires.made.matching chain inside c.loop-j.invariant.last c.loop-j.invariant.marks found a less in
@@ -169,7 +169,7 @@ loop-j-preserved c =
     let exposed : IsExposed c.args.market.now c.loop-j.m.places c.as_slice-pairs.result.now = exposed_here chain inside c.loop-j.invariant.stage c.as_slice-pairs.result.now pairs_are in
     let moved : c.move_round.new.m.places ≡ eliminated c.args.market.now c.loop-j.m.places c.as_slice-pairs.result.now = c.move_round.ensures.moved ∙ ap (eliminated c.args.market.now c.loop-j.m.places) (sym c.as_slice-pairs.ensures.value) in
     let steps : AreSteps c.args.market.now c.as_slice-pairs.result.now c.deref.result.now c.deref-in-loop-j.result.now = rw (c.deref.ensures.value, c.deref-in-loop-j.ensures.value) (steps_of c.loop-j.invariant.made.matching exposed c.in_ok-find_footings.ensures moved c.in_ok-find_footings-2.ensures) in
-    let along : Adds (λ i. IsFound c.args.market.now c.as_slice-pairs.result.now (length c.as_slice-pairs.result.now) c.loop-j.last (marks_in c.loop-j.marks) i) [] c.find.new.found.items = adds_like (found_of_along c.proposers.ensures.market steps) (along_of_found c.proposers.ensures.market steps) c.in_ok-find.ensures in
+    let along : Adds (λ i. IsFoundNeed c.args.market.now c.as_slice-pairs.result.now (length c.as_slice-pairs.result.now) c.loop-j.last (marks_in c.loop-j.marks) i) [] c.find.new.found.items = adds_like (found_of_along c.proposers.ensures.market steps) (along_of_found c.proposers.ensures.market steps) c.in_ok-find.ensures in
     let found = rw pairs_are at along in
     let noted : AreMoved (rotation_at (rotations_of c.as_slice-rotations.result.now) c.loop-j.j) (length (rotation_at (rotations_of c.as_slice-rotations.result.now) c.loop-j.j)) c.loop-j.j c.loop-j.last c.note_movers.new.last = rw pairs_are at c.note_movers.ensures in
     let marked : AreMarked c.args.market.now (rotation_at (rotations_of c.as_slice-rotations.result.now) c.loop-j.j) (length (rotation_at (rotations_of c.as_slice-rotations.result.now) c.loop-j.j)) c.loop-j.j (marks_in c.loop-j.marks) (marks_in c.mark_moves.new.marks) = rw pairs_are at c.mark_moves.ensures in

@@ -2,11 +2,11 @@ use Rattle.std.proofs.Common.{◌≡◌, ◌∙◌, ◌++◌, ◌∷◌, [], ap,
 use Rattle.sm_market.specs.Pairing.{Paired}
 use Rattle.sm_lists.proofs.Counting.{eq_or_ne}
 use Rattle.sm_theory.specs.Values.{rotations_of}
-use Rattle.sm_rotations.specs.Walking.{IsTopAtWorst, GoesOn, LeadsBack}
-use Rattle.sm_rotations.proofs.ChainingLemmas.{places_fall, pushed}
+use Rattle.sm_rotations.specs.Walking.{IsTopAtWorst, CanFollowTop, LeadsBack}
+use Rattle.sm_rotations.proofs.ChainingLemmas.{places_fall, rotations_of-push}
 use Rattle.sm_rotations.proofs.CutLemmas.{front_left}
 use Rattle.sm_rotations.proofs.StackLemmas.{walk_whole}
-use Rattle.sm_rotations.proofs.WalkSteps.{walk_begins, walk_over, walk_on, walk_back, exposed_back, reviewers_there, still_finished, fewer_over, fewer_on, fewer_back}
+use Rattle.sm_rotations.proofs.WalkSteps.{walk_begins, walk_over, walk_on, walk_back, exposed_back, reviewers_there, is_finished-set, fewer_over, fewer_on, fewer_back}
 use Rattle.sm_rotations.proofs.walk.walk.Goals as goal
 
 pub loop-p-init : goal.loop-p-init
@@ -33,18 +33,18 @@ steps-preserved-in-Over c =
       linked = c.steps.invariant.linked;
       front = c.steps.invariant.front;
       walking = walk_over c.proposers.ensures.market w worst x;
-      done = λ q less. rw x.finished (still_finished c.steps.trail.finished.items _ q (omega (arith, w.finished_each, w.on_stack.in_range x.top (omega (arith, x.last)))) (c.steps.invariant.done q less));
+      done = λ q less. rw x.finished (is_finished-set c.steps.trail.finished.items _ q (omega (arith, w.finished_each, w.on_stack.in_range x.top (omega (arith, x.last)))) (c.steps.invariant.done q less));
     }
 
 pub steps-smaller-in-Continue-branch-4 : goal.steps-smaller-in-Continue-branch-4
 steps-smaller-in-Continue-branch-4 c =
-    let on : GoesOn c.args.market.now c.steps.m.places c.steps.trail.stack.items c.steps.trail.spots.items c.steps.trail.finished.items c.in-On.q = c.in-On.ensures in
+    let on : CanFollowTop c.args.market.now c.steps.m.places c.steps.trail.stack.items c.steps.trail.spots.items c.steps.trail.finished.items c.in-On.q = c.in-On.ensures in
     let same : c.put_on.new.self.finished ≡ c.steps.trail.finished = c.put_on.ensures.finished in
     rw same (fewer_on c.steps.invariant.walking.on_stack on c.in_ok-put_on-in-On.ensures.stack c.in_ok-put_on-in-On.ensures.spots)
 
 pub steps-preserved-in-Continue-branch-4 : goal.steps-preserved-in-Continue-branch-4
 steps-preserved-in-Continue-branch-4 c =
-    let on : GoesOn c.args.market.now c.steps.m.places c.steps.trail.stack.items c.steps.trail.spots.items c.steps.trail.finished.items c.in-On.q = c.in-On.ensures in
+    let on : CanFollowTop c.args.market.now c.steps.m.places c.steps.trail.stack.items c.steps.trail.spots.items c.steps.trail.finished.items c.in-On.q = c.in-On.ensures in
     let same : c.put_on.new.self.finished ≡ c.steps.trail.finished = c.put_on.ensures.finished in
     record {
       made = c.steps.invariant.made;
@@ -86,7 +86,7 @@ steps-preserved c =
     let h = c.proposers.ensures.market in
     let back : LeadsBack c.args.market.now c.steps.m.places c.steps.trail.stack.items c.in-Back.from = c.in-Back.ensures in
     let x = c.in_ok-rotation-in-Back.ensures in
-    let grown : rotations_of c.push.new.self.items ≡ rotations_of c.steps.rotations.items ++ c.in_ok-rotation-in-Back.rotation.pairs.items ∷ [] = ap rotations_of c.in_ok-push-in-Back.ensures.items ∙ pushed c.steps.rotations.items c.in_ok-rotation-in-Back.rotation in
+    let grown : rotations_of c.push.new.self.items ≡ rotations_of c.steps.rotations.items ++ c.in_ok-rotation-in-Back.rotation.pairs.items ∷ [] = ap rotations_of c.in_ok-push-in-Back.ensures.items ∙ rotations_of-push c.steps.rotations.items c.in_ok-rotation-in-Back.rotation in
     let same : c.take_off.new.self.finished ≡ c.steps.trail.finished = c.take_off.ensures.finished in
     record {
       made = c.eliminate.ensures.made;

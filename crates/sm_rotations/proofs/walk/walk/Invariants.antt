@@ -1,7 +1,7 @@
 use Rattle.std.proofs.Common.{◌≡◌, ℕ, ◌<◌, true}
 use Rattle.sm_market.specs.Pairing.{IsPairingOf}
 use Rattle.sm_theory.specs.Values.{rotations_of}
-use Rattle.sm_accept.specs.Linking.{IsLinkedOf, IsFront}
+use Rattle.sm_accept.specs.Linking.{IsLinkedOf, AreReducedEnds}
 use Rattle.sm_rotations.specs.Walking.{IsWalking, is_finished}
 use Rattle.sm_rotations.proofs.WalkSteps.{steps_left}
 use Rattle.sm_rotations.proofs.walk.walk.Given as goal
@@ -10,7 +10,7 @@ abbrev pub invariant-loop-p : goal.invariant-loop-p
 invariant-loop-p l = record {
   made : IsPairingOf l.market l.m;
   linked : IsLinkedOf l.market l.linked;
-  front : IsFront l.market l.m.places l.linked.ends;
+  front : AreReducedEnds l.market l.m.places l.linked.ends;
   walking : IsWalking l.market l.best.places l.m.places (rotations_of l.rotations.items) l.trail.finished.items l.trail.stack.items l.trail.spots.items;
   done : (q : ℕ) → q < l.p → is_finished l.trail.finished.items q ≡ true;
 }
@@ -19,7 +19,7 @@ abbrev pub invariant-steps : goal.invariant-steps
 invariant-steps l = record {
   made : IsPairingOf l.market l.m;
   linked : IsLinkedOf l.market l.linked;
-  front : IsFront l.market l.m.places l.linked.ends;
+  front : AreReducedEnds l.market l.m.places l.linked.ends;
   walking : IsWalking l.market l.best.places l.m.places (rotations_of l.rotations.items) l.trail.finished.items l.trail.stack.items l.trail.spots.items;
   done : (q : ℕ) → q < l.p → is_finished l.trail.finished.items q ≡ true;
 }

@@ -2,10 +2,10 @@ use Rattle.std.proofs.Common.{◌≡◌, ℕ, ◌+◌, ◌*◌, ◌++◌, ◌∷
 use Rattle.std.specs.List.{range_with_len}
 use Rattle.std.proofs.lemmas.List.FromFn.{map-range_with_len_more}
 use Rattle.sm_seats.specs.SeatMarket.{seat_count, seats_before}
-use Rattle.sm_seats.specs.Tables.{acceptable_at}
-use Rattle.sm_seats.specs.SeatEntries.{seat_entries}
+use Rattle.sm_seats.specs.Counted.{acceptable_at}
+use Rattle.sm_seats.specs.SeatEntries.{seat_entries, seat_entries_before}
 use Rattle.sm_seats.proofs.SeatLemmas.{seats_before_more, seat_count-le-capacity}
-use Rattle.sm_seats.proofs.LimitLaws.{entries_before_more}
+use Rattle.sm_seats.proofs.LimitLaws.{seat_entries_before-suc}
 use Rattle.sm_seats.proofs.TableLemmas.{count_is}
 use Rattle.sm_seats.proofs.counts.seat_counts.Goals as goal
 
@@ -18,7 +18,7 @@ returns-then-entries-gt-MOST_SEAT_ENTRIES-clause-fault c =
     record {
       there = omega (arith, c.loop-r-test.true, c.reviewer_count-reviewers.ensures.count);
       earlier = omega (arith, c.loop-r.invariant.entries, c.loop-r.invariant.few);
-      past = omega (arith, entries_before_more w r, e, c.loop-r.invariant.entries, c.if-entries-gt-MOST_SEAT_ENTRIES.true);
+      past = omega (arith, seat_entries_before-suc w r, e, c.loop-r.invariant.entries, c.if-entries-gt-MOST_SEAT_ENTRIES.true);
     }
 
 pub loop-r-preserved : goal.loop-r-preserved
@@ -40,7 +40,7 @@ loop-r-preserved c =
           ∙ sym (map-range_with_len_more (acceptable_at w) 0 r r (omega arith));
       seats = omega (arith, seats_before_more w r, count, c.loop-r.invariant.seats);
       seats_fit = omega (arith, c.loop-r.invariant.seats_fit, count, least, capacity, fits);
-      entries = omega (arith, entries_before_more w r, e, c.loop-r.invariant.entries);
+      entries = omega (arith, seat_entries_before-suc w r, e, c.loop-r.invariant.entries);
       few = c.if-entries-gt-MOST_SEAT_ENTRIES.false;
     }
 
@@ -56,4 +56,5 @@ returns-clause-counts c =
           ∙ ap (λ n. map (seats_before w) (range_with_len 0 (n + 1))) end;
       numbers = c.in_ok-numbers_below.ensures ∙ ap (range_with_len 0) (c.loop-r.invariant.seats ∙ ap (seats_before w) end);
       acceptable = c.loop-r.invariant.acceptable ∙ ap (λ n. map (acceptable_at w) (range_with_len 0 n)) end;
+      entries = c.loop-r.invariant.entries ∙ ap (seat_entries_before w) end;
     }

@@ -2,7 +2,7 @@ use Rattle.std.proofs.Common.{◌≡◌, ◌*◌, ◌≤◌, map}
 use Rattle.std.specs.List.{range_with_len}
 use Rattle.sm_text.specs.Limits.{most_seat_entries}
 use Rattle.sm_seats.specs.SeatMarket.{seats_before}
-use Rattle.sm_seats.specs.Tables.{acceptable_at}
+use Rattle.sm_seats.specs.Counted.{acceptable_at}
 use Rattle.sm_seats.specs.SeatEntries.{seat_entries_before}
 use Rattle.sm_seats.proofs.counts.seat_counts.Given as goal
 

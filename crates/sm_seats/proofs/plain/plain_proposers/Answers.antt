@@ -1,7 +1,7 @@
 use Rattle.std.proofs.Common.{◌<◌, length, sym, ◌∙◌, arith}
 use Rattle.sm_seats.specs.SeatMarket.{seat_row}
 use Rattle.sm_seats.specs.Tables.{cross_row}
-use Rattle.sm_seats.proofs.TableLemmas.{row_pushed}
+use Rattle.sm_seats.proofs.TableLemmas.{list_pushed}
 use Rattle.sm_seats.proofs.PlainLemmas.{seat_row_is, cross_row_is}
 use Rattle.sm_seats.proofs.plain.plain_proposers.Goals as goal
 
@@ -12,8 +12,7 @@ loop-p-preserved c =
     let it = c.proposer_count-proposers.ensures.instance in
     let there : p < length w.proposers = omega (arith, c.loop-p-test.true, c.proposer_count-proposers.ensures.count) in
     record {
-      lists = rw c.in_ok-push.ensures.items (row_pushed c.loop-p.lists.items c.in_ok-from_slice.field-0 (seat_row w) p c.loop-p.invariant.lists
-          (c.in_ok-from_slice.ensures.items ∙ c.proposer_list.ensures ∙ sym (seat_row_is it c.requires p there)));
-      crosses = rw c.in_ok-push-2.ensures.items (row_pushed c.loop-p.crosses.items c.in_ok-places_of.field-0 (cross_row w) p c.loop-p.invariant.crosses
-          (c.in_ok-places_of.ensures ∙ cross_row_is it c.requires p there c.proposer_crosses.result.now c.proposer_crosses.ensures));
+      lists = rw c.in_ok-push.ensures.pushed (list_pushed c.loop-p.lists c.proposer_list.result.now (seat_row w) p c.loop-p.invariant.lists (c.proposer_list.ensures ∙ sym (seat_row_is it c.requires p there)));
+      crosses = rw c.in_ok-push-2.ensures.pushed (list_pushed c.loop-p.crosses c.deref.result.now (cross_row w) p c.loop-p.invariant.crosses
+          (c.deref.ensures.value ∙ c.in_ok-write_places.ensures ∙ cross_row_is it c.requires p there c.proposer_crosses.result.now c.proposer_crosses.ensures));
     }

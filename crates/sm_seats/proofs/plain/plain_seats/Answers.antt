@@ -1,8 +1,5 @@
-use Rattle.std.proofs.Common.{ℕ, ◌<◌, ◌∷◌, [], List, Vec, length, sym, ap, ◌∙◌, arith}
+use Rattle.std.proofs.Common.{ℕ, ◌<◌, ◌∷◌, [], List, length, sym, ap, ◌∙◌, arith}
 use Rattle.std.specs.List.{flat_map, range_with_len}
-use Rattle.std.specs.declared.alloc.Global.{Global}
-use Rattle.std.proofs.lemmas.List.{map_push}
-use Rattle.sm_lists.specs.Rows.{rows_of}
 use Rattle.sm_seats.specs.SeatMarket.{named_seats}
 use Rattle.sm_seats.specs.Tables.{lists_for, crosses_for}
 use Rattle.sm_seats.proofs.PieceLemmas.{range_more}
@@ -20,10 +17,8 @@ loop-r-preserved c =
     let all = sym (range_more 0 r r (omega arith)) in
     record {
       seats = piece_pushed (named_seats w) (range_with_len 0 r) r _ _ _ before.seats c.in_ok-push.ensures.items (sym (named_is it c.requires r there)) ∙ ap (flat_map (named_seats w)) all;
-      lists = piece_pushed (lists_for w) (range_with_len 0 r) r _ _ _ before.lists
-          (ap (λ v. rows_of v) c.in_ok-push-2.ensures.items ∙ map_push (λ (v : Vec ℕ Global). v.items) c.loop-r.lists.items c.in_ok-from_slice.field-0)
-          (ap (λ (l : List ℕ). l ∷ []) (c.in_ok-from_slice.ensures.items ∙ c.reviewer_list.ensures) ∙ sym (lists_for_is it c.requires r there)) ∙ ap (flat_map (lists_for w)) all;
-      crosses = piece_pushed (crosses_for w) (range_with_len 0 r) r _ _ _ before.crosses
-          (ap (λ v. rows_of v) c.in_ok-push-3.ensures.items ∙ map_push (λ (v : Vec ℕ Global). v.items) c.loop-r.crosses.items c.in_ok-places_of.field-0)
-          (ap (λ (l : List ℕ). l ∷ []) c.in_ok-places_of.ensures ∙ crosses_for_is it c.requires r there c.reviewer_crosses.result.now c.reviewer_crosses.ensures) ∙ ap (flat_map (crosses_for w)) all;
+      lists = piece_pushed (lists_for w) (range_with_len 0 r) r _ _ _ before.lists c.in_ok-push-2.ensures.pushed
+          (ap (λ (l : List ℕ). l ∷ []) c.reviewer_list.ensures ∙ sym (lists_for_is it c.requires r there)) ∙ ap (flat_map (lists_for w)) all;
+      crosses = piece_pushed (crosses_for w) (range_with_len 0 r) r _ _ _ before.crosses c.in_ok-push-3.ensures.pushed
+          (ap (λ (l : List ℕ). l ∷ []) (c.deref.ensures.value ∙ c.in_ok-write_places.ensures) ∙ crosses_for_is it c.requires r there c.reviewer_crosses.result.now c.reviewer_crosses.ensures) ∙ ap (flat_map (crosses_for w)) all;
     }

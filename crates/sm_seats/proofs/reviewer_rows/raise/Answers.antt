@@ -9,4 +9,4 @@ loop-at-preserved c =
     let at = c.loop-at.at in
     let x : ℕ = get_or numbers at 0 in
     let within : at < length numbers = omega (arith, c.loop-at-test.true, c.loop-at.auto.numbers) in
-    map_over_more (λ n. n + c.args.by) c.args.numbers.now numbers at x (omega (arith, c.loop-at-test.true)) c.loop-at.invariant (get_or_default numbers at 0 x within)
+    map_over_more (λ n. n + 1) c.args.numbers.now numbers at x (omega (arith, c.loop-at-test.true)) c.loop-at.invariant (get_or_default numbers at 0 x within)

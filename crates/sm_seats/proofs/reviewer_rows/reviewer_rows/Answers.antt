@@ -1,8 +1,10 @@
-use Rattle.std.proofs.Common.{ℕ, ◌+◌, ◌-◌, ◌<◌, length, get_or, map, replicate, sym, ap, ◌∙◌, arith}
+use Rattle.std.proofs.Common.{ℕ, List, ◌+◌, ◌-◌, ◌<◌, length, get_or, map, replicate, sym, ap, ◌∙◌, arith}
 use Rattle.std.specs.List.{flat_map, range_with_len}
 use Rattle.std.proofs.lemmas.List.FromFn.{length-map-range_with_len, get_or-map-range_with_len}
-use Rattle.sm_seats.specs.SeatMarket.{seat_count, seats_before, named_seats}
-use Rattle.sm_seats.specs.Tables.{lists_for, crosses_for, seat_crosses, acceptable_at}
+use Rattle.sm_seats.specs.Mutual.{mutual_row}
+use Rattle.sm_seats.specs.SeatMarket.{seats_before, named_seats}
+use Rattle.sm_seats.specs.Tables.{lists_for, crosses_for, seat_crosses}
+use Rattle.sm_seats.specs.Counted.{acceptable_at}
 use Rattle.sm_seats.proofs.PieceLemmas.{range_more}
 use Rattle.sm_seats.proofs.TableLemmas.{seats_read, seat_count-le}
 use Rattle.sm_seats.proofs.RowLemmas.{piece_pushed}
@@ -15,46 +17,52 @@ loop-r-preserved c =
     let r = c.loop-r.r in
     let before = c.loop-r.invariant in
     let there : r < length w.reviewers = omega (arith, c.loop-r-test.true, c.reviewer_count-reviewers.ensures.count) in
-    let s = seats_read w r c.requires.firsts there in
+    let s = seats_read w r (c.as_slice-firsts.ensures.value ∙ c.requires.firsts) there in
     let all = sym (range_more 0 r r (omega arith)) in
-    let size : ℕ = get_or c.args.firsts.now (r + 1) 0 - get_or c.args.firsts.now r 0 in
+    let firsts : List ℕ = c.as_slice-firsts.result.now in
+    let size : ℕ = get_or firsts (r + 1) 0 - get_or firsts r 0 in
     record {
-      seats = piece_pushed (named_seats w) (range_with_len 0 r) r _ _ _ before.seats c.in_ok-add_seats.ensures.seats (ap (λ (n : ℕ). map (λ (k : ℕ). (r, k)) (range_with_len 1 n)) s.count) ∙ ap (flat_map (named_seats w)) all;
-      lists = piece_pushed (lists_for w) (range_with_len 0 r) r _ _ _ before.lists c.in_ok-add_seats.ensures.lists (ap (λ n. replicate n c.in_ok-mutual_list.field-0.items) s.count ∙ ap (replicate (seat_count w r)) c.in_ok-mutual_list.ensures) ∙ ap (flat_map (lists_for w)) all;
-      crosses = piece_pushed (crosses_for w) (range_with_len 0 r) r _ _ _ before.crosses c.in_ok-add_seats.ensures.crosses
-          (raised_crosses w r size c.in_ok-mutual_begins.field-0.items c.in_ok-mutual_begins.ensures.begins ∙ ap (λ n. map (seat_crosses w r) (range_with_len 0 n)) s.count) ∙ ap (flat_map (crosses_for w)) all;
+      seats = piece_pushed (named_seats w) (range_with_len 0 r) r _ _ _ before.seats c.in_ok-add_names.ensures (ap (λ (n : ℕ). map (λ (k : ℕ). (r, k)) (range_with_len 1 n)) s.count) ∙ ap (flat_map (named_seats w)) all;
+      lists = piece_pushed (lists_for w) (range_with_len 0 r) r _ _ _ before.lists c.in_ok-add_lists.ensures (ap (λ n. replicate n (mutual_row w.reviewers w.proposers r)) s.count) ∙ ap (flat_map (lists_for w)) all;
+      crosses = piece_pushed (crosses_for w) (range_with_len 0 r) r _ _ _ before.crosses c.in_ok-add_crosses.ensures
+          (raised_crosses w r size c.write_begins.new.kept.items c.in_ok-write_begins.ensures.begins ∙ ap (λ n. map (seat_crosses w r) (range_with_len 0 n)) s.count) ∙ ap (flat_map (crosses_for w)) all;
     }
 
 pub bounds-firsts-reviewers : goal.bounds-firsts-reviewers
 bounds-firsts-reviewers c =
     let w = c.args.instance.now in
-    let long = ap length c.requires.firsts ∙ length-map-range_with_len (seats_before w) 0 (length w.reviewers + 1) in
+    let long = ap length (c.as_slice-firsts.ensures.value ∙ c.requires.firsts) ∙ length-map-range_with_len (seats_before w) 0 (length w.reviewers + 1) in
     omega (arith, long, c.reviewer_count-reviewers.ensures.count)
 
 pub bounds-firsts-r : goal.bounds-firsts-r
-bounds-firsts-r c = (seats_read c.args.instance.now c.loop-r.r c.requires.firsts (omega (arith, c.loop-r-test.true, c.reviewer_count-reviewers.ensures.count))).inside
+bounds-firsts-r c = (seats_read c.args.instance.now c.loop-r.r (c.as_slice-firsts.ensures.value ∙ c.requires.firsts) (omega (arith, c.loop-r-test.true, c.reviewer_count-reviewers.ensures.count))).inside
 
 pub bounds-firsts-r-in-loop-r : goal.bounds-firsts-r-in-loop-r
-bounds-firsts-r-in-loop-r c = omega (arith, (seats_read c.args.instance.now c.loop-r.r c.requires.firsts (omega (arith, c.loop-r-test.true, c.reviewer_count-reviewers.ensures.count))).inside)
+bounds-firsts-r-in-loop-r c = omega (arith, (seats_read c.args.instance.now c.loop-r.r (c.as_slice-firsts.ensures.value ∙ c.requires.firsts) (omega (arith, c.loop-r-test.true, c.reviewer_count-reviewers.ensures.count))).inside)
 
 pub overflow_sub-count : goal.overflow_sub-count
 overflow_sub-count c =
-    let s = seats_read c.args.instance.now c.loop-r.r c.requires.firsts (omega (arith, c.loop-r-test.true, c.reviewer_count-reviewers.ensures.count)) in
+    let s = seats_read c.args.instance.now c.loop-r.r (c.as_slice-firsts.ensures.value ∙ c.requires.firsts) (omega (arith, c.loop-r-test.true, c.reviewer_count-reviewers.ensures.count)) in
     omega (arith, s.first, s.next)
 
-pub add_seats-requires-clause-count : goal.add_seats-requires-clause-count
-add_seats-requires-clause-count c =
-    let s = seats_read c.args.instance.now c.loop-r.r c.requires.firsts (omega (arith, c.loop-r-test.true, c.reviewer_count-reviewers.ensures.count)) in
+pub add_names-requires : goal.add_names-requires
+add_names-requires c =
+    let s = seats_read c.args.instance.now c.loop-r.r (c.as_slice-firsts.ensures.value ∙ c.requires.firsts) (omega (arith, c.loop-r-test.true, c.reviewer_count-reviewers.ensures.count)) in
     omega (arith, s.count, seat_count-le c.reviewer_count-reviewers.ensures.instance c.loop-r.r)
 
 pub bounds-acceptable-r : goal.bounds-acceptable-r
 bounds-acceptable-r c =
     let w = c.args.instance.now in
-    let long = ap length c.requires.acceptable ∙ length-map-range_with_len (acceptable_at w) 0 (length w.reviewers) in
+    let long = ap length (c.as_slice-acceptable.ensures.value ∙ c.requires.acceptable) ∙ length-map-range_with_len (acceptable_at w) 0 (length w.reviewers) in
     omega (arith, long, c.loop-r-test.true, c.reviewer_count-reviewers.ensures.count)
 
-pub mutual_list-requires-clause-acceptable : goal.mutual_list-requires-clause-acceptable
-mutual_list-requires-clause-acceptable c =
+pub add_lists-requires-clause-acceptable : goal.add_lists-requires-clause-acceptable
+add_lists-requires-clause-acceptable c =
     let w = c.args.instance.now in
     let r = c.loop-r.r in
-    ap (λ l. get_or l r 0) c.requires.acceptable ∙ get_or-map-range_with_len (acceptable_at w) 0 (length w.reviewers) r r 0 (omega (arith, c.loop-r-test.true, c.reviewer_count-reviewers.ensures.count)) (omega arith)
+    ap (λ l. get_or l r 0) (c.as_slice-acceptable.ensures.value ∙ c.requires.acceptable) ∙ get_or-map-range_with_len (acceptable_at w) 0 (length w.reviewers) r r 0 (omega (arith, c.loop-r-test.true, c.reviewer_count-reviewers.ensures.count)) (omega arith)
+
+pub add_crosses-requires-clause-count : goal.add_crosses-requires-clause-count
+add_crosses-requires-clause-count c =
+    let s = seats_read c.args.instance.now c.loop-r.r (c.as_slice-firsts.ensures.value ∙ c.requires.firsts) (omega (arith, c.loop-r-test.true, c.reviewer_count-reviewers.ensures.count)) in
+    omega (arith, s.count, seat_count-le c.reviewer_count-reviewers.ensures.instance c.loop-r.r)

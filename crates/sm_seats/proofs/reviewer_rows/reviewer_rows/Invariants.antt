@@ -1,13 +1,12 @@
 use Rattle.std.proofs.Common.{◌≡◌}
 use Rattle.std.specs.List.{flat_map, range_with_len}
-use Rattle.sm_lists.specs.Rows.{rows_of}
 use Rattle.sm_seats.specs.SeatMarket.{named_seats}
 use Rattle.sm_seats.specs.ReviewerRows.{seat_lists_before, seat_crosses_before}
 use Rattle.sm_seats.proofs.reviewer_rows.reviewer_rows.Given as goal
 
 abbrev pub invariant-loop-r : goal.invariant-loop-r
 invariant-loop-r l = record {
-  seats : l.rows.seats.items ≡ flat_map (named_seats l.instance) (range_with_len 0 l.r);
-  lists : rows_of l.rows.lists.items ≡ seat_lists_before l.instance l.r;
-  crosses : rows_of l.rows.crosses.items ≡ seat_crosses_before l.instance l.r;
+  seats : l.seats.items ≡ flat_map (named_seats l.instance) (range_with_len 0 l.r);
+  lists : l.lists ≡ seat_lists_before l.instance l.r;
+  crosses : l.crosses ≡ seat_crosses_before l.instance l.r;
 }

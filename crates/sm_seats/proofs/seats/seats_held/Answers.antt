@@ -1,5 +1,4 @@
 use Rattle.std.proofs.Common.{◌≡◌, ◌∙◌}
-use Rattle.sm_lists.specs.Rows.{rows_of}
 use Rattle.sm_seats.specs.SeatMarket.{seat_market}
 use Rattle.sm_seats.proofs.CorrespondenceLaws.{sound_entries, is_seating}
 use Rattle.sm_seats.proofs.LimitLaws.{market_within}
@@ -12,12 +11,12 @@ use Rattle.sm_seats.proofs.seats.seats_held.Goals as goal
 pub held-market-requires-clause-limits : goal.held-market-requires-clause-limits
 held-market-requires-clause-limits c =
     let w = c.args.instance.now in
-    rw (market_made w c.args.proposers.lists.items c.args.reviewers.lists.items c.requires.proposers c.requires.reviewers) (market_within (sound_entries c.in_ok-lists.ensures.instance) c.in_ok-lists.ensures.instance.limits.proposers c.requires.few)
+    rw (market_made w c.args.proposers.lists c.args.reviewers.lists c.requires.proposers c.requires.reviewers) (market_within (sound_entries c.in_ok-lists.ensures.instance) c.in_ok-lists.ensures.instance.limits.proposers c.requires.few)
 
 pub held-market-requires-clause-market : goal.held-market-requires-clause-market
 held-market-requires-clause-market c =
     let w = c.args.instance.now in
-    rw (market_made w c.args.proposers.lists.items c.args.reviewers.lists.items c.requires.proposers c.requires.reviewers) (is_market (sound_entries c.in_ok-lists.ensures.instance))
+    rw (market_made w c.args.proposers.lists c.args.reviewers.lists c.requires.proposers c.requires.reviewers) (is_market (sound_entries c.in_ok-lists.ensures.instance))
 
 pub held-market-requires-clause-proposers : goal.held-market-requires-clause-proposers
 held-market-requires-clause-proposers c =
@@ -32,17 +31,17 @@ held-market-requires-clause-reviewers c =
 pub invariant_of-result : goal.invariant_of-result
 invariant_of-result c =
     let w = c.args.instance.now in
-    let market : c.in_ok-market.market.value ≡ seat_market w = c.in_ok-market.ensures.ok ∙ c.held-market.ensures.lists ∙ market_made w c.args.proposers.lists.items c.args.reviewers.lists.items c.requires.proposers c.requires.reviewers in
-    rw (seating_made w (rows_of c.in_ok-lists.lists.items) c.in_ok-market.market.value c.args.reviewers.seats.items c.in_ok-lists.ensures.lists market c.requires.seats) (seating_kept c.in_ok-lists.ensures.instance)
+    let market : c.in_ok-market.market.value ≡ seat_market w = c.in_ok-market.ensures.ok ∙ c.held-market.ensures.lists ∙ market_made w c.args.proposers.lists c.args.reviewers.lists c.requires.proposers c.requires.reviewers in
+    rw (seating_made w c.in_ok-lists.lists c.in_ok-market.market.value c.args.reviewers.seats.items c.in_ok-lists.ensures.lists market c.requires.seats) (seating_kept c.in_ok-lists.ensures.instance)
 
 pub returns-clause-seats : goal.returns-clause-seats
 returns-clause-seats c =
     let w = c.args.instance.now in
-    let market : c.in_ok-market.market.value ≡ seat_market w = c.in_ok-market.ensures.ok ∙ c.held-market.ensures.lists ∙ market_made w c.args.proposers.lists.items c.args.reviewers.lists.items c.requires.proposers c.requires.reviewers in
-    seating_made w (rows_of c.in_ok-lists.lists.items) c.in_ok-market.market.value c.args.reviewers.seats.items c.in_ok-lists.ensures.lists market c.requires.seats
+    let market : c.in_ok-market.market.value ≡ seat_market w = c.in_ok-market.ensures.ok ∙ c.held-market.ensures.lists ∙ market_made w c.args.proposers.lists c.args.reviewers.lists c.requires.proposers c.requires.reviewers in
+    seating_made w c.in_ok-lists.lists c.in_ok-market.market.value c.args.reviewers.seats.items c.in_ok-lists.ensures.lists market c.requires.seats
 
 pub returns-clause-seating : goal.returns-clause-seating
 returns-clause-seating c =
     let w = c.args.instance.now in
-    let market : c.in_ok-market.market.value ≡ seat_market w = c.in_ok-market.ensures.ok ∙ c.held-market.ensures.lists ∙ market_made w c.args.proposers.lists.items c.args.reviewers.lists.items c.requires.proposers c.requires.reviewers in
-    rw (seating_made w (rows_of c.in_ok-lists.lists.items) c.in_ok-market.market.value c.args.reviewers.seats.items c.in_ok-lists.ensures.lists market c.requires.seats) (is_seating (sound_entries c.in_ok-lists.ensures.instance))
+    let market : c.in_ok-market.market.value ≡ seat_market w = c.in_ok-market.ensures.ok ∙ c.held-market.ensures.lists ∙ market_made w c.args.proposers.lists c.args.reviewers.lists c.requires.proposers c.requires.reviewers in
+    rw (seating_made w c.in_ok-lists.lists c.in_ok-market.market.value c.args.reviewers.seats.items c.in_ok-lists.ensures.lists market c.requires.seats) (is_seating (sound_entries c.in_ok-lists.ensures.instance))

@@ -1,13 +1,13 @@
 use Rattle.std.proofs.Common.{◌≡◌, eqb, false, get_or, sym, ◌∙◌, arith, drop, ◌+◌}
 use Rattle.std.proofs.lemmas.Bool.Decides.{nat_tests}
-use Rattle.sm_text.proofs.TokenLemmas.{token_here, over_at_end, over_at_hash, run_leads, other_leads, mark_first, bad_first}
+use Rattle.sm_text.proofs.TokenLemmas.{token_at-here, tokens-at_end, tokens-at_hash, run_leads, other_leads, first_token-mark, first_token-bad}
 use Rattle.sm_text.proofs.tokens.token_at.Goals as goal
 
 pub returns-then-at-line-clause-leads : goal.returns-then-at-line-clause-leads
-returns-then-at-line-clause-leads c = over_at_end c.args.line.now c.args.from c.blanks_end-at.result c.blanks_end-at.ensures (omega arith)
+returns-then-at-line-clause-leads c = tokens-at_end c.args.line.now c.args.from c.blanks_end-at.result c.blanks_end-at.ensures (omega arith)
 
 pub returns-in-35-clause-leads : goal.returns-in-35-clause-leads
-returns-in-35-clause-leads c = over_at_hash c.args.line.now c.args.from c.blanks_end-at.result c.blanks_end-at.ensures (omega arith) (omega arith)
+returns-in-35-clause-leads c = tokens-at_hash c.args.line.now c.args.from c.blanks_end-at.result c.blanks_end-at.ensures (omega arith) (omega arith)
 
 pub returns-in_default-clause-leads : goal.returns-in_default-clause-leads
 returns-in_default-clause-leads c =
@@ -18,8 +18,8 @@ returns-in_default-2-clause-token c =
     let line = c.args.line.now in
     let at = c.blanks_end-at.result in
     let no_hash : eqb (get_or line at 0) 35 ≡ false = grind (arith, nat_tests) in
-    sym (token_here line c.args.from at c.blanks_end-at.ensures (omega arith)
-    ∙ mark_first line (drop (at + 1) line) at (get_or line at 0) no_hash (sym c.is_name_byte.ensures ∙ c.if-is_name_byte.false) (sym c.is_mark.ensures ∙ c.if-is_mark.true))
+    sym (token_at-here line c.args.from at c.blanks_end-at.ensures (omega arith)
+    ∙ first_token-mark line (drop (at + 1) line) at (get_or line at 0) no_hash (sym c.is_name_byte.ensures ∙ c.if-is_name_byte.false) (sym c.is_mark.ensures ∙ c.if-is_mark.true))
 
 pub returns-in_default-2-clause-leads : goal.returns-in_default-2-clause-leads
 returns-in_default-2-clause-leads c =
@@ -31,8 +31,8 @@ returns-in_default-3-clause-token c =
     let line = c.args.line.now in
     let at = c.blanks_end-at.result in
     let no_hash : eqb (get_or line at 0) 35 ≡ false = grind (arith, nat_tests) in
-    sym (token_here line c.args.from at c.blanks_end-at.ensures (omega arith)
-    ∙ bad_first line (drop (at + 1) line) at (get_or line at 0) no_hash (sym c.is_name_byte.ensures ∙ c.if-is_name_byte.false) (sym c.is_mark.ensures ∙ c.if-is_mark.false))
+    sym (token_at-here line c.args.from at c.blanks_end-at.ensures (omega arith)
+    ∙ first_token-bad line (drop (at + 1) line) at (get_or line at 0) no_hash (sym c.is_name_byte.ensures ∙ c.if-is_name_byte.false) (sym c.is_mark.ensures ∙ c.if-is_mark.false))
 
 pub returns-in_default-3-clause-leads : goal.returns-in_default-3-clause-leads
 returns-in_default-3-clause-leads c =

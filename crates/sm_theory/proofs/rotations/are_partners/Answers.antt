@@ -1,5 +1,5 @@
 use Rattle.std.proofs.Common.{sym, ◌∙◌, eqb-true, eq-eqb}
-use Rattle.sm_theory.proofs.Chains.Links.{held_named, held_names}
+use Rattle.sm_theory.proofs.Chains.Links.{held_named, entry-held}
 use Rattle.sm_theory.proofs.rotations.are_partners.Goals as goal
 
 pub returns-in-Some : goal.returns-in-Some
@@ -10,5 +10,5 @@ returns-in-Some c =
     let e = sym c.place.ensures ∙ c.in-Some.is in
     let named = c.reviewer_at.ensures.named in (
       (λ x. held_named l m c.args.p c.in-Some.place c.args.r c.requires.market f e (sym named ∙ eqb-true _ _ x)),
-      (λ x. eq-eqb _ _ (named ∙ held_names l m c.args.p c.in-Some.place c.args.r f e x)),
+      (λ x. eq-eqb _ _ (named ∙ entry-held l m c.args.p c.in-Some.place c.args.r f e x)),
     )

@@ -5,7 +5,7 @@ use Rattle.sm_judge.specs.Said.{flow_in, flows_in}
 use Rattle.sm_report.specs.Lines.{line_of}
 use Rattle.sm_theory.specs.declared.flow_lines.FlowLine.{FlowLine}
 use Rattle.sm_weigh.specs.FlowClauses.{flow_line}
-use Rattle.sm_weigh.proofs.SaidLemmas.{next_said, next_unsaid, no_flow}
+use Rattle.sm_weigh.proofs.SaidLemmas.{next_said, next_unsaid, flow_in-none}
 use Rattle.sm_weigh.proofs.flow_lines.flow_lines.Goals as goal
 use Rattle.sm_weigh.proofs.flow_lines.flow_lines.Goals.{in-Flow+in_ok-push, in_default}
 
@@ -25,5 +25,5 @@ loop-line-preserved c =
           ∙ ap (λ (y : FlowLine). map f before ++ y ∷ []) w.on_nodes.ensures
           ∙ sym (ap (map f) (next_said flow_in lines i x c.loop-line-test.true c.line-item.is line (ap (λ y. flow_in (line_of y)) w.in-Flow.is)) ∙ map_push f before line)
           )
-      | in_default w ↦ rw w.flow-is (c.loop-line.invariant ∙ ap (map f) (sym (next_unsaid flow_in lines i x c.loop-line-test.true c.line-item.is (no_flow x w.in_default.not-Flow))))
+      | in_default w ↦ rw w.flow-is (c.loop-line.invariant ∙ ap (map f) (sym (next_unsaid flow_in lines i x c.loop-line-test.true c.line-item.is (flow_in-none x w.in_default.not-Flow))))
     ]

@@ -4,7 +4,7 @@ use Rattle.std.proofs.lemmas.List.{map_push}
 use Rattle.sm_lists.specs.Rows.{rows_of}
 use Rattle.sm_report.specs.Lines.{line_of}
 use Rattle.sm_judge.specs.Said.{needs_in, all_needs_in}
-use Rattle.sm_weigh.proofs.SaidLemmas.{next_said, next_unsaid, no_needs}
+use Rattle.sm_weigh.proofs.SaidLemmas.{next_said, next_unsaid, needs_in-none}
 use Rattle.sm_weigh.proofs.gains.all_needs.Goals as goal
 use Rattle.sm_weigh.proofs.gains.all_needs.Goals.{in-Needs+in_ok-from_zero+in_ok-push, in_default}
 
@@ -24,5 +24,5 @@ loop-line-preserved c =
           ∙ ap (λ (ys : List ℕ). before ++ ys ∷ []) (w.in_ok-from_zero.ensures ∙ ap (map pred) w.deref.ensures.value)
           ∙ sym (next_said needs_in lines i x c.loop-line-test.true c.line-item.is (map pred needed) (ap (λ y. needs_in (line_of y)) w.in-Needs.is))
           )
-      | in_default w ↦ rw w.needs-is (c.loop-line.invariant ∙ sym (next_unsaid needs_in lines i x c.loop-line-test.true c.line-item.is (no_needs x w.in_default.not-Needs)))
+      | in_default w ↦ rw w.needs-is (c.loop-line.invariant ∙ sym (next_unsaid needs_in lines i x c.loop-line-test.true c.line-item.is (needs_in-none x w.in_default.not-Needs)))
     ]

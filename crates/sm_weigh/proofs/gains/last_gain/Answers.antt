@@ -2,7 +2,7 @@ use Rattle.std.proofs.Common.{◌≡◌, ℕ, ◌-◌, ◌<◌, ◌∙◌, arith
 use Rattle.std.proofs.lemmas.Int.{to_z-of_z}
 use Rattle.std.proofs.lemmas.List.{length-map}
 use Rattle.sm_theory.specs.Chains.{rotation_at}
-use Rattle.sm_net.specs.Moves.{moves_in, row_of_moves, AreMovesOf}
+use Rattle.sm_net.specs.Moves.{moves_in, row_of_moves, AreRotationMoves}
 use Rattle.sm_weigh.proofs.gains.last_gain.Goals as goal
 
 pub returns : goal.returns
@@ -16,4 +16,4 @@ returns c l rotations m =
     let inside : last < length rotations = omega (arith, some, long, m.one_each) in
     to_z-of_z w64 c.gain.result fits
     ∙ c.gain.ensures l (rotation_at rotations last)
-    (subst (AreMovesOf l (rotation_at rotations last)) (sym (c.moves_at.ensures ∙ ap (row_of_moves rows) same)) (m.each last inside))
+    (subst (AreRotationMoves l (rotation_at rotations last)) (sym (c.moves_at.ensures ∙ ap (row_of_moves rows) same)) (m.each last inside))

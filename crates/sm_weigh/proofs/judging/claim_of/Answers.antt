@@ -1,17 +1,17 @@
 use Rattle.std.proofs.Common.{◌≡◌, ◌∙◌, List, map, take, refl, sym, subst}
 use Rattle.std.proofs.lemmas.List.{take-map}
-use Rattle.sm_net.specs.CheckedNets.{net_in as net_of_parts, NeedsAreOf}
+use Rattle.sm_net.specs.CheckedNets.{net_of_parts, NeedsAreOf}
 use Rattle.sm_seats.specs.SeatMarket.{seat_market}
 use Rattle.sm_report.specs.Lines.{LineData, line_of}
 use Rattle.sm_judge.specs.Said.{rotations_in}
 use Rattle.sm_judge.specs.Flows.{net_in}
-use Rattle.sm_weigh.specs.Kept.{IsGround}
+use Rattle.sm_weigh.specs.Kept.{HasWholePoset}
 use Rattle.sm_weigh.proofs.BeginLemmas.{flow_begun, claim_begun}
 use Rattle.sm_weigh.proofs.judging.claim_of.Goals as goal
 
 pub net_of-requires-clause-ground : goal.net_of-requires-clause-ground
 net_of-requires-clause-ground c =
-    subst (λ (above : List LineData). IsGround c.args.weighed.now.instance.now above c.args.walk.now) (take-map line_of c.args.k c.args.lines.now) c.requires.ground
+    subst (λ (above : List LineData). HasWholePoset c.args.weighed.now.instance.now above c.args.walk.now) (take-map line_of c.args.k c.args.lines.now) c.requires.ground
 
 pub returns : goal.returns
 returns c =

@@ -6,8 +6,8 @@ use Rattle.sm_market.specs.Limits.{IsWithinLimits}
 use Rattle.sm_theory.specs.Sizes.{weights_in, AreWeights}
 use Rattle.sm_theory.specs.Vectors.{AreLevels}
 use Rattle.sm_theory.specs.Weights.{gain_of}
-use Rattle.sm_net.specs.Moves.{moves_in, AreMoves}
-use Rattle.sm_net.specs.CheckedNets.{AreRising}
+use Rattle.sm_net.specs.Moves.{moves_in, AreMovesByRotation}
+use Rattle.sm_net.specs.CheckedNets.{AreRowsRising}
 use Rattle.sm_seats.specs.SeatMarket.{seat_market}
 use Rattle.sm_seats.specs.Seating.{Seating}
 use Rattle.sm_seats.specs.Correspondence.{leveled}
@@ -56,7 +56,7 @@ of-requires-clause-few c =
     let rotations = rotations_in w (map line_of c.args.lines.now) in
     let market : c.market.result.now ≡ seat_market w = c.market.ensures ∙ ap (λ (s : Seating). s.market) c.requires.seats in
     let few = few_rotations c.requires.ground (subst IsWithinLimits market c.proposers-proposers.ensures.limits) in
-    let gains = c.in_ok-gains.ensures (seat_market w) rotations (subst (AreMoves (seat_market w) rotations) (sym (ap moves_in c.deref-2.ensures.value)) c.requires.ground.walk_of.is_walk.is_walk.moves.moves) in
+    let gains = c.in_ok-gains.ensures (seat_market w) rotations (subst (AreMovesByRotation (seat_market w) rotations) (sym (ap moves_in c.deref-2.ensures.value)) c.requires.ground.walk_of.is_walk.is_walk.moves.moves) in
     let long : length c.in_ok-gains.gains.items ≡ length rotations = ap (λ (xs : List ℤ). length xs) gains ∙ length-map rotations (gain_of (seat_market w) (weights_in c.deref.result.now)) in
     omega (arith, few, long)
 
@@ -64,25 +64,25 @@ pub of-requires-clause-each : goal.of-requires-clause-each
 of-requires-clause-each c =
     let w = c.args.weighed.now.instance.now in
     let rotations = rotations_in w (map line_of c.args.lines.now) in
-    let gains = c.in_ok-gains.ensures (seat_market w) rotations (subst (AreMoves (seat_market w) rotations) (sym (ap moves_in c.deref-2.ensures.value)) c.requires.ground.walk_of.is_walk.is_walk.moves.moves) in
+    let gains = c.in_ok-gains.ensures (seat_market w) rotations (subst (AreMovesByRotation (seat_market w) rotations) (sym (ap moves_in c.deref-2.ensures.value)) c.requires.ground.walk_of.is_walk.is_walk.moves.moves) in
     needs_long c.requires.ground c.in_ok-needs.needs.items c.in_ok-needs.ensures
     ∙ sym (ap (λ (xs : List ℤ). length xs) gains ∙ length-map rotations (gain_of (seat_market w) (weights_in c.deref.result.now)))
 
 pub of-requires-clause-rising : goal.of-requires-clause-rising
-of-requires-clause-rising c = subst AreRising (sym c.in_ok-needs.ensures) (needs_rise c.requires.ground)
+of-requires-clause-rising c = subst AreRowsRising (sym c.in_ok-needs.ensures) (needs_rise c.requires.ground)
 
 pub of-requires-clause-numbers : goal.of-requires-clause-numbers
 of-requires-clause-numbers c =
     let w = c.args.weighed.now.instance.now in
     let rotations = rotations_in w (map line_of c.args.lines.now) in
-    let gains = c.in_ok-gains.ensures (seat_market w) rotations (subst (AreMoves (seat_market w) rotations) (sym (ap moves_in c.deref-2.ensures.value)) c.requires.ground.walk_of.is_walk.is_walk.moves.moves) in
+    let gains = c.in_ok-gains.ensures (seat_market w) rotations (subst (AreMovesByRotation (seat_market w) rotations) (sym (ap moves_in c.deref-2.ensures.value)) c.requires.ground.walk_of.is_walk.is_walk.moves.moves) in
     numbers_below c.requires.ground (ap (λ (xs : List ℤ). length xs) gains ∙ length-map rotations (gain_of (seat_market w) (weights_in c.deref.result.now))) c.in_ok-needs.ensures
 
 pub returns-clause-net : goal.returns-clause-net
 returns-clause-net c =
     let w = c.args.weighed.now.instance.now in
     let rotations = rotations_in w (map line_of c.args.lines.now) in
-    let gains = c.in_ok-gains.ensures (seat_market w) rotations (subst (AreMoves (seat_market w) rotations) (sym (ap moves_in c.deref-2.ensures.value)) c.requires.ground.walk_of.is_walk.is_walk.moves.moves) in
+    let gains = c.in_ok-gains.ensures (seat_market w) rotations (subst (AreMovesByRotation (seat_market w) rotations) (sym (ap moves_in c.deref-2.ensures.value)) c.requires.ground.walk_of.is_walk.is_walk.moves.moves) in
     let levels = ap rows_of c.deref-3.ensures.value ∙ c.requires.tables.levels in
     let weights = ap weights_in c.deref.ensures.value ∙ c.requires.tables.weights in
     net_made c.requires.ground c.args.weighed.now.by levels weights gains c.in_ok-needs.ensures
@@ -94,5 +94,5 @@ pub returns-clause-needs : goal.returns-clause-needs
 returns-clause-needs c =
     let w = c.args.weighed.now.instance.now in
     let rotations = rotations_in w (map line_of c.args.lines.now) in
-    let gains = c.in_ok-gains.ensures (seat_market w) rotations (subst (AreMoves (seat_market w) rotations) (sym (ap moves_in c.deref-2.ensures.value)) c.requires.ground.walk_of.is_walk.is_walk.moves.moves) in
+    let gains = c.in_ok-gains.ensures (seat_market w) rotations (subst (AreMovesByRotation (seat_market w) rotations) (sym (ap moves_in c.deref-2.ensures.value)) c.requires.ground.walk_of.is_walk.is_walk.moves.moves) in
     needs_are c.requires.ground c.in_ok-needs.ensures (ap (λ (xs : List ℤ). length xs) gains ∙ length-map rotations (gain_of (seat_market w) (weights_in c.deref.result.now))) c.of.ensures

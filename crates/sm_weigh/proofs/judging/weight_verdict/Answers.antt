@@ -9,7 +9,7 @@ use Rattle.sm_judge.specs.Flows.{WeightHolds}
 use Rattle.sm_judge.specs.Walking.{FindsOrKeeps}
 use Rattle.sm_judge.proofs.AnswerLemmas.{hold_more, verdict_no, verdict_yes}
 use Rattle.sm_weigh.specs.Kept.{IsJudgeOf}
-use Rattle.sm_weigh.specs.Order.{AreInOrder}
+use Rattle.sm_weigh.specs.Order.{AreNeedsInOrder}
 use Rattle.sm_weigh.proofs.JudgeLemmas.{stands_at, to_own, of_own}
 use Rattle.sm_weigh.proofs.judging.weight_verdict.Goals as goal
 
@@ -22,7 +22,7 @@ pub find_fault-requires-clause-own : goal.find_fault-requires-clause-own
 find_fault-requires-clause-own c = to_own c.loop-k.invariant.known (λ w by lines. All (IsOwnLine (answer w (HeadData.Weight by))) lines) c.requires.own
 
 pub find_fault-requires-clause-in_order : goal.find_fault-requires-clause-in_order
-find_fault-requires-clause-in_order c = to_own c.loop-k.invariant.known (λ w by lines. AreInOrder w lines) c.requires.in_order
+find_fault-requires-clause-in_order c = to_own c.loop-k.invariant.known (λ w by lines. AreNeedsInOrder w lines) c.requires.in_order
 
 pub find_fault-requires-clause-known : goal.find_fault-requires-clause-known
 find_fault-requires-clause-known c = to_own c.loop-k.invariant.known (λ w by lines. IsJudgeOf w by lines c.loop-k.k c.loop-k.judge) c.loop-k.invariant.known

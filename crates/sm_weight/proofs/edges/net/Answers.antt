@@ -5,7 +5,7 @@ use Rattle.sm_flow.specs.Graph.{Graph, edge_count, room_sum, bounded_part, with_
 use Rattle.sm_flow.specs.declared.net.Room.{Room}
 use Rattle.sm_weight.specs.declared.edges.Edge.{Edge}
 use Rattle.sm_weight.specs.Edges.{edge_at, room_in, room_size, graph_of}
-use Rattle.sm_weight.proofs.EdgeLemmas.{count_is, sum_is, part_more, graph_more}
+use Rattle.sm_weight.proofs.EdgeLemmas.{edge_count-graph_of, room_sum-graph_of, part_more, with_edge-graph_of}
 use Rattle.sm_weight.proofs.edges.net.Goals as goal
 
 pub add_edge-requires-clause-from_in : goal.add_edge-requires-clause-from_in
@@ -22,7 +22,7 @@ add_edge-requires-clause-small c =
       arith,
       ap room_sum c.loop-edge.invariant,
       ap bounded_part c.room_in.ensures,
-      sum_is c.args.nodes (take i edges),
+      room_sum-graph_of c.args.nodes (take i edges),
       part_more edges i c.loop-edge-test.true,
       sum_by-take-le (λ (e : Edge). room_size e.room) edges (i + 1),
       c.requires.small,
@@ -30,7 +30,7 @@ add_edge-requires-clause-small c =
 
 pub add_edge-requires-clause-few : goal.add_edge-requires-clause-few
 add_edge-requires-clause-few c =
-    omega (arith, ap edge_count c.loop-edge.invariant, count_is c.args.nodes (take c.loop-edge.edge-index c.args.edges.now), length-take-le c.loop-edge.edge-index c.args.edges.now (omega (arith, c.loop-edge-test.true)), c.loop-edge-test.true, c.requires.few)
+    omega (arith, ap edge_count c.loop-edge.invariant, edge_count-graph_of c.args.nodes (take c.loop-edge.edge-index c.args.edges.now), length-take-le c.loop-edge.edge-index c.args.edges.now (omega (arith, c.loop-edge-test.true)), c.loop-edge-test.true, c.requires.few)
 
 pub loop-edge-preserved : goal.loop-edge-preserved
 loop-edge-preserved c =
@@ -39,7 +39,7 @@ loop-edge-preserved c =
     c.in_ok-add_edge.ensures.added
     ∙ ap (λ (room : Room). with_edge c.loop-edge.net (record { from = (edge_at edges i).from; to = (edge_at edges i).to; room = room })) c.room_in.ensures
     ∙ ap (λ (g : Graph). with_edge g (record { from = (edge_at edges i).from; to = (edge_at edges i).to; room = room_in (edge_at edges i).room })) c.loop-edge.invariant
-    ∙ graph_more c.args.nodes edges i c.loop-edge-test.true
+    ∙ with_edge-graph_of c.args.nodes edges i c.loop-edge-test.true
 
 pub returns : goal.returns
 returns c = c.loop-edge.invariant ∙ ap (graph_of c.args.nodes) (take_all c.loop-edge.edge-index c.args.edges.now c.loop-edge-test.false)

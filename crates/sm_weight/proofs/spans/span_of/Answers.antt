@@ -7,7 +7,7 @@ use Rattle.sm_market.specs.Matching.{held, standing}
 use Rattle.sm_market.specs.Pairing.{Paired}
 use Rattle.sm_rotations.proofs.NeedsLemmas.{as_many}
 use Rattle.sm_board.proofs.MakeLemmas.{row_read}
-use Rattle.sm_weight.specs.Spans.{IsEntry, IsExit}
+use Rattle.sm_weight.specs.Spans.{IsEntryNode, IsExit}
 use Rattle.sm_weight.proofs.NodeLemmas.{rises_first, entry_is, exit_is}
 use Rattle.sm_weight.proofs.spans.span_of.Goals as goal
 
@@ -29,9 +29,9 @@ returns-clause-entry c =
     let levels : c.deref.result.now ≡ row (rows_of c.args.levels.now) p = c.deref.ensures.value ∙ ap (λ (v : Vec ℕ Global). v.items) c.index-levels-p.is ∙ row_read c.args.levels.now p c.index-levels-p.result (omega (arith, c.requires.levels.one_each, c.requires.proposer)) in
     let first : c.place-first.result ≡ held c.args.poset.now.first.places.proposers p = c.place-first.ensures ∙ ap (λ (m : Paired). held m.places.proposers p) c.chain-chain.ensures.first in
     let last : c.len.result + 1 ≡ suc (length c.args.poset.now.rotations) = omega (arith, c.len.ensures, as_many c.chain-chain.result.now.rotations.items, ap length c.chain-chain.ensures.rotations) in
-    let entry : IsEntry (row (rows_of c.args.levels.now) p) (held c.args.poset.now.first.places.proposers p) c.moves-moves.result.now c.args.level (c.len.result + 1) c.entry.result =
-    subst (λ (xs : List ℕ). IsEntry xs (held c.args.poset.now.first.places.proposers p) c.moves-moves.result.now c.args.level (c.len.result + 1) c.entry.result) levels
-    (subst (λ (o : Option ℕ). IsEntry c.deref.result.now o c.moves-moves.result.now c.args.level (c.len.result + 1) c.entry.result) first c.entry.ensures) in
+    let entry : IsEntryNode (row (rows_of c.args.levels.now) p) (held c.args.poset.now.first.places.proposers p) c.moves-moves.result.now c.args.level (c.len.result + 1) c.entry.result =
+    subst (λ (xs : List ℕ). IsEntryNode xs (held c.args.poset.now.first.places.proposers p) c.moves-moves.result.now c.args.level (c.len.result + 1) c.entry.result) levels
+    (subst (λ (o : Option ℕ). IsEntryNode c.deref.result.now o c.moves-moves.result.now c.args.level (c.len.result + 1) c.entry.result) first c.entry.ensures) in
     entry_is poset.market poset.printed.chain c.requires.levels p c.moves-moves.ensures.moves c.args.level (c.len.result + 1) c.entry.result last entry
 
 pub returns-clause-exit : goal.returns-clause-exit

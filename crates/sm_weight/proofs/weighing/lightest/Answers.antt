@@ -6,12 +6,12 @@ use Rattle.sm_theory.specs.Values.{rotations_of}
 use Rattle.sm_theory.specs.Net.{sink_of, IsUnbounded, IsReachable}
 use Rattle.sm_theory.specs.Weights.{gain_of}
 use Rattle.sm_theory.specs.Conditions.{allows_nothing}
-use Rattle.sm_rotations.specs.Graph.{AreNeeds}
+use Rattle.sm_theory.specs.Chains.{AreNeeds}
 use Rattle.sm_weight.specs.declared.edges.Edge.{Edge}
 use Rattle.sm_weight.specs.Edges.{AreEdges}
 use Rattle.sm_weight.specs.Lines.{IsCutFound}
 use Rattle.sm_weight.specs.Sizes.{weights_in}
-use Rattle.sm_weight.specs.Basis.{poset_net}
+use Rattle.sm_weight.specs.Lightest.{poset_net}
 use Rattle.sm_weight.proofs.LightestLemmas.{nothing_by_pair, nothing_by_path, lightest_found}
 use Rattle.sm_weight.proofs.weighing.lightest.Goals as goal
 

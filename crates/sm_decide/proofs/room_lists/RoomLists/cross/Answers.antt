@@ -1,7 +1,7 @@
 use Rattle.std.proofs.Common.{ℕ, List, subst, ap, ◌∙◌}
 use Rattle.sm_lists.specs.Rows.{entry, rows_of}
 use Rattle.sm_lists.specs.Held.{place_in}
-use Rattle.sm_decide.specs.RoomsKept.{AreRoomsKept}
+use Rattle.sm_theory.specs.RoomsKept.{AreRoomsKept}
 use Rattle.sm_decide.proofs.RoomLemmas.{cross_read}
 use Rattle.sm_decide.proofs.room_lists.RoomLists.cross.Goals as goal
 

@@ -1,4 +1,4 @@
-use Rattle.sm_decide.proofs.RoomLemmas.{rooms_kept}
+use Rattle.sm_theory.proofs.Room.Kept.{rooms_kept}
 use Rattle.sm_decide.proofs.room_lists.RoomLists.new.Goals as goal
 
 pub invariant_of-result : goal.invariant_of-result

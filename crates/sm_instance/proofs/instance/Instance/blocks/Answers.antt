@@ -1,6 +1,5 @@
 use Rattle.std.proofs.Common.{ℕ, sym, subst, IsTrue}
-use Rattle.sm_instance.specs.Stable.{Blocks}
-use Rattle.sm_instance.specs.Loads.{IsGainLimit}
+use Rattle.sm_instance.specs.Stable.{Blocks, IsGainLimit}
 use Rattle.sm_instance.proofs.AcceptLemmas.{entry_cross}
 use Rattle.sm_instance.proofs.instance.Instance.blocks.Goals as goal
 

@@ -1,6 +1,6 @@
 use Rattle.std.proofs.Common.{◌≢◌, ◌<◌, ℕ, ℤ, List, length, map, sym, subst}
 use Rattle.sm_instance.specs.Written.{weighed}
-use Rattle.sm_instance.specs.Sound.{pair_at}
+use Rattle.sm_lists.specs.Pairs.{pair_at}
 use Rattle.sm_instance.proofs.ItemLemmas.{weights_differ}
 use Rattle.sm_instance.proofs.instance.Instance.held.Goals as goal
 

@@ -1,5 +1,5 @@
 use Rattle.std.proofs.Common.{ℕ, ◌<◌, IsTrue}
-use Rattle.sm_instance.specs.Sound.{pair_at}
+use Rattle.sm_lists.specs.Pairs.{pair_at}
 use Rattle.sm_instance.specs.Matching.{is_at}
 use Rattle.sm_instance.proofs.instance.Instance.holds_no_forbidden.Given as goal
 

@@ -1,5 +1,6 @@
 use Rattle.std.proofs.Common.{◌≡◌, ◌*◌, pos, ◌+ℤ◌, neg_ℤ, ◌≤ℤ◌, map, fold}
 use Rattle.std.specs.List.{range_with_len}
+use Rattle.sm_text.specs.Limits.{most_weight}
 use Rattle.sm_instance.specs.Matching.{held}
 use Rattle.sm_instance.specs.Ranks.{pair_weight}
 use Rattle.sm_instance.proofs.instance.Instance.weigh.Given as goal
@@ -8,6 +9,6 @@ use Rattle.sm_instance.proofs.instance.Instance.weigh.Given as goal
 abbrev pub invariant-loop-p : goal.invariant-loop-p
 invariant-loop-p l = record {
   weight : l.weight ≡ fold ◌+ℤ◌ (pos 0) (map (λ p. pair_weight l.by l.self p (held l.a.places.items p)) (range_with_len 0 l.p));
-  below : neg_ℤ (pos (1000000000 * l.p)) ≤ℤ l.weight;
-  above : l.weight ≤ℤ pos (1000000000 * l.p);
+  below : neg_ℤ (pos (most_weight * l.p)) ≤ℤ l.weight;
+  above : l.weight ≤ℤ pos (most_weight * l.p);
 }

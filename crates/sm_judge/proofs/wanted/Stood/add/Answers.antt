@@ -3,7 +3,7 @@ use Rattle.std.proofs.lemmas.List.{get_or_default}
 use Rattle.sm_lists.proofs.PlaceLemmas.{get_or-place_on}
 use Rattle.sm_instance.specs.Written.{entry, place_of, row}
 use Rattle.sm_instance.proofs.PlaceLemmas.{place_of-entry}
-use Rattle.sm_judge.proofs.WantedLemmas.{stood_more, none_stands, some_stands}
+use Rattle.sm_judge.proofs.WantedLemmas.{stood_more, partner_in-none, some_stands}
 use Rattle.sm_judge.proofs.wanted.Stood.add.Goals.{then-reviewer_at-r-via-then-reviewer_at-r, then-reviewer_at-r-via-else-reviewer_at-r+then-index}
 use Rattle.sm_judge.proofs.wanted.Stood.add.Goals as goal
 
@@ -26,7 +26,7 @@ pub returns-clause-stands : goal.returns-clause-stands
 returns-clause-stands c = λ pairs k.
     let w = c.args.instance.now in
     let inside : c.args.p < length c.args.self.now.stood.items = (let one = c.requires.one_each in let l = c.requires.proposer in omega (arith, one, l)) in
-    let none = none_stands w pairs c.args.self.now.stood.items c.args.p k c.requires.proposer
+    let none = partner_in-none w pairs c.args.self.now.stood.items c.args.p k c.requires.proposer
     (sym (get_or_default c.args.self.now.stood.items c.args.p c.index.result.now false inside) ∙ sym c.index.ensures ∙ c.if-index.false) in
     let on : c.in-Some.place < length (row w.proposers c.args.p) = c.requires.wanted.on_lists c.args.p c.in-Some.place c.in-Some.is in
     let place : place_of w.proposers c.args.p c.args.r ≡ c.in-Some.place = place_of-entry c.proposer_count-proposers.ensures.instance.proposer_entries c.args.p c.args.r c.in-Some.place on (sym c.reviewer_at.ensures.named ∙ c.if-reviewer_at-r.false) in

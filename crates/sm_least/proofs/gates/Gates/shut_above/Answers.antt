@@ -4,7 +4,7 @@ use Rattle.sm_market.specs.Vectors.{rows_of}
 use Rattle.sm_lists.proofs.ResultLemmas.{take-append_at_length}
 use Rattle.sm_board.specs.Board.{Gates}
 use Rattle.sm_least.specs.Steps.{rows_in}
-use Rattle.sm_least.specs.Regrets.{AreBelow}
+use Rattle.sm_least.specs.Regrets.{AreOpenUpTo}
 use Rattle.sm_least.proofs.gates.Gates.shut_above.Goals as goal
 
 pub returns-clause-open : goal.returns-clause-open
@@ -17,5 +17,5 @@ returns-clause-open c =
     (λ i. record { until = sym until i; shut = rows_in (sym shut i) }) in
     let old : ◌≡◌ {A = Gates} (record { until = c.deref_mut-2.result.now; shut = rows_in c.deref_mut.result.now }) (record { until = c.self.inside.until.items; shut = rows_in c.self.inside.shut.items }) =
     (λ i. record { until = c.deref_mut-2.ensures.value i; shut = rows_in (c.deref_mut.ensures.value i) }) in
-    subst (λ (g : Gates). AreBelow c.args.board.now (rows_of c.args.levels.now) (rows_of c.args.ranks.now) c.args.bound c.args.self.now g) new
-    (subst (λ (g : Gates). AreBelow c.args.board.now (rows_of c.args.levels.now) (rows_of c.args.ranks.now) c.args.bound g (record { until = c.cut.new.until; shut = rows_in c.cut.new.shut })) (old ∙ c.self.view_is) c.cut.ensures.open)
+    subst (λ (g : Gates). AreOpenUpTo c.args.board.now (rows_of c.args.levels.now) (rows_of c.args.ranks.now) c.args.bound c.args.self.now g) new
+    (subst (λ (g : Gates). AreOpenUpTo c.args.board.now (rows_of c.args.levels.now) (rows_of c.args.ranks.now) c.args.bound g (record { until = c.cut.new.until; shut = rows_in c.cut.new.shut })) (old ∙ c.self.view_is) c.cut.ensures.open)

@@ -1,7 +1,8 @@
 use Rattle.std.proofs.Common.{subst}
 use Rattle.sm_market.specs.Vectors.{rows_of}
 use Rattle.sm_poset.specs.Posets.{RotationPoset}
-use Rattle.sm_poset.specs.Kept.{moves_in, IsKept}
+use Rattle.sm_poset.specs.Kept.{IsKept}
+use Rattle.sm_poset.specs.Moves.{moves_in}
 use Rattle.sm_poset.proofs.poset.Poset.all_needs.Goals as goal
 
 pub returns : goal.returns

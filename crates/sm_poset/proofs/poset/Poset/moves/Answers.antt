@@ -2,8 +2,8 @@ use Rattle.std.proofs.Common.{◌≡◌, ◌<◌, length, sym, subst, ◌∙◌,
 use Rattle.std.proofs.lemmas.List.{length-map}
 use Rattle.sm_market.specs.Vectors.{rows_of}
 use Rattle.sm_poset.specs.Posets.{RotationPoset}
-use Rattle.sm_poset.specs.Moves.{AreMovesOf}
-use Rattle.sm_poset.specs.Kept.{moves_in, moves_at, IsKept}
+use Rattle.sm_poset.specs.Moves.{AreMovesOf, moves_in, moves_at}
+use Rattle.sm_poset.specs.Kept.{IsKept}
 use Rattle.sm_poset.proofs.ReadLemmas.{moves_read}
 use Rattle.sm_poset.proofs.MoveLemmas.{go_down}
 use Rattle.sm_poset.proofs.poset.Poset.moves.Goals as goal

@@ -4,7 +4,8 @@ use Rattle.sm_market.specs.Lists.{row}
 use Rattle.sm_market.specs.Vectors.{rows_of}
 use Rattle.sm_theory.specs.Chains.{AreNeedsOf}
 use Rattle.sm_poset.specs.Posets.{RotationPoset}
-use Rattle.sm_poset.specs.Kept.{moves_in, IsKept}
+use Rattle.sm_poset.specs.Kept.{IsKept}
+use Rattle.sm_poset.specs.Moves.{moves_in}
 use Rattle.sm_lists.proofs.RowLemmas.{row_read}
 use Rattle.sm_poset.proofs.poset.Poset.needs.Goals as goal
 

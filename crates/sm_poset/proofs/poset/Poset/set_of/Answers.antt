@@ -2,7 +2,8 @@ use Rattle.std.proofs.Common.{◌≡◌, ◌∙◌, sym, ap, subst}
 use Rattle.sm_market.specs.Lists.{Lists}
 use Rattle.sm_market.specs.Vectors.{rows_of}
 use Rattle.sm_poset.specs.Posets.{RotationPoset}
-use Rattle.sm_poset.specs.Kept.{moves_in, IsKept}
+use Rattle.sm_poset.specs.Kept.{IsKept}
+use Rattle.sm_poset.specs.Moves.{moves_in}
 use Rattle.sm_poset.proofs.SetLemmas.{IsSetOf, reached_set, reached_set_is}
 use Rattle.sm_poset.proofs.poset.Poset.set_of.Goals as goal
 

@@ -3,7 +3,8 @@ use Rattle.std.proofs.lemmas.List.{length-map}
 use Rattle.sm_market.specs.Vectors.{rows_of}
 use Rattle.sm_theory.specs.Values.{rotations_of}
 use Rattle.sm_poset.specs.Posets.{poset_of}
-use Rattle.sm_poset.specs.Kept.{moves_in, AreMoves, AreLeaders, IsKept}
+use Rattle.sm_poset.specs.Kept.{AreLeaders, IsKept}
+use Rattle.sm_poset.specs.Moves.{AreMoves, moves_in}
 use Rattle.sm_rotations.proofs.CountLemmas.{few_rotations}
 use Rattle.sm_poset.proofs.poset.Poset.with_needs.Goals as goal
 

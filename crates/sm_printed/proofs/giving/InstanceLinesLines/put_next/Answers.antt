@@ -1,4 +1,4 @@
-use Rattle.sm_printed.specs.Lines.{lines_of}
+use Rattle.sm_printed.specs.Printed.{lines_of}
 use Rattle.sm_printed.proofs.GivingLemmas.{line_given}
 use Rattle.sm_printed.proofs.giving.InstanceLinesLines.put_next.Goals as goal
 

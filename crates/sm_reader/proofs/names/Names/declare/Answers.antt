@@ -3,8 +3,9 @@ use Rattle.std.specs.Result.{is_ok}
 use Rattle.std.specs.Borrow.{Bor}
 use Rattle.std.proofs.lemmas.List.{length-map}
 use Rattle.indexmap.specs.IndexSet.{keys}
-use Rattle.sm_reader.specs.Kept.{Table, table_from, texts_of, Interns}
-use Rattle.sm_reader.proofs.TextLemmas.{texts_push}
+use Rattle.sm_reader.specs.Kept.{Table, table_from, Interns}
+use Rattle.sm_text.specs.Slices.{texts_of}
+use Rattle.sm_reader.proofs.TextLemmas.{texts_of-push}
 use Rattle.sm_reader.proofs.TableLemmas.{declared_old, declared_new, number_here}
 use Rattle.sm_reader.proofs.names.Names.declare.Goals as goal
 
@@ -30,7 +31,7 @@ invariant_of-self-2 c =
     ∙ ap (λ xs. xs ++ c.args.name ∷ []) c.in_ok-reserve.ensures.items in
     (declared_new c.args.self.now t (table_from (keys n.texts) (set n.numbers.items i (Some c.len.result)) n.stamps.items c.push.new.self.items) c.args.name.now i now
     (number_here _ _ _ _ now c.index.ensures ∙ sym c.is_some.ensures ∙ c.if-is_some.false)
-    refl (ap (λ k. set n.numbers.items i (Some k)) count) refl (ap texts_of pushed ∙ texts_push n.declared.items c.args.name)).table
+    refl (ap (λ k. set n.numbers.items i (Some k)) count) refl (ap texts_of pushed ∙ texts_of-push n.declared.items c.args.name)).table
 
 pub returns : goal.returns
 returns c =
@@ -45,4 +46,4 @@ returns c =
     ∙ ap (λ xs. xs ++ c.args.name ∷ []) c.in_ok-reserve.ensures.items in
     declared_new c.args.self.now t (table_from (keys n.texts) (set n.numbers.items i (Some c.len.result)) n.stamps.items c.push.new.self.items) c.args.name.now i now
     (number_here _ _ _ _ now c.index.ensures ∙ sym c.is_some.ensures ∙ c.if-is_some.false)
-    refl (ap (λ k. set n.numbers.items i (Some k)) count) refl (ap texts_of pushed ∙ texts_push n.declared.items c.args.name)
+    refl (ap (λ k. set n.numbers.items i (Some k)) count) refl (ap texts_of pushed ∙ texts_of-push n.declared.items c.args.name)

@@ -1,7 +1,7 @@
 use Rattle.std.proofs.Common.{ℕ, List, [], get_or, ◌+◌, sym, subst, arith}
 use Rattle.std.specs.Borrow.{Bor}
 use Rattle.std.proofs.lemmas.List.{get_or-map, length-map}
-use Rattle.sm_reader.specs.Kept.{texts_of}
+use Rattle.sm_text.specs.Slices.{texts_of}
 use Rattle.sm_reader.proofs.ListingLemmas.{IsListing, listing_none, listing_more, listing_stuck, listing_all}
 use Rattle.sm_reader.proofs.names.Names.list.Goals as goal
 

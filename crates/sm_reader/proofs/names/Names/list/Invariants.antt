@@ -1,4 +1,4 @@
-use Rattle.sm_reader.specs.Kept.{texts_of}
+use Rattle.sm_text.specs.Slices.{texts_of}
 use Rattle.sm_reader.proofs.ListingLemmas.{IsListing}
 use Rattle.sm_reader.proofs.names.Names.list.Given as goal
 

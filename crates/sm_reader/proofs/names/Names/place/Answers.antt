@@ -5,7 +5,7 @@ use Rattle.std.specs.Str.{bytes_eq}
 use Rattle.indexmap.specs.IndexSet.{keys}
 use Rattle.sm_reader.specs.Kept.{Table, table_from, text_of, key_texts, Interns}
 use Rattle.sm_reader.specs.declared.keys.Key.{Key}
-use Rattle.sm_reader.proofs.TextLemmas.{list_any_texts, position_texts, position_or_len-none, from_not_true, from_not_false, keys_push}
+use Rattle.sm_reader.proofs.TextLemmas.{list_any_texts, position_texts, position_or_len-none, from_not_true, from_not_false, key_texts-push}
 use Rattle.sm_reader.proofs.TableLemmas.{interned_new, interned_old}
 use Rattle.sm_reader.proofs.names.Names.place.Goals.{then-is_new, else-is_new}
 use Rattle.sm_reader.proofs.names.Names.place.Goals as goal
@@ -30,7 +30,7 @@ invariant_of-self-then-is_new c =
     let index : c.in_ok-place.place ≡ length (key_texts old) =
     c.in_ok-place.ensures.index ∙ position_texts name.now old ∙ position_or_len-none (bytes_eq name.now) (key_texts old) missing in
     let new = table_from (keys c.insert_full.new.self) c.push.new.self.items c.push-then-is_new.new.self.items n.declared.items in
-    let placed = interned_new t new name.now c.in_ok-place.place c.self.invariant missing (ap key_texts put ∙ keys_push old key) numbers stamps refl index in
+    let placed = interned_new t new name.now c.in_ok-place.place c.self.invariant missing (ap key_texts put ∙ key_texts-push old key) numbers stamps refl index in
     placed.table
 
 pub returns : goal.returns
@@ -54,7 +54,7 @@ returns c = elim c.if-is_new.branch [
       let index : c.in_ok-place.place ≡ length (key_texts old) =
       c.in_ok-place.ensures.index ∙ position_texts name.now old ∙ position_or_len-none (bytes_eq name.now) (key_texts old) missing in
       let new = table_from (keys c.insert_full.new.self) w.push.new.self.items w.push-then-is_new.new.self.items n.declared.items in
-      let placed = interned_new t new name.now c.in_ok-place.place c.self.invariant missing (ap key_texts put ∙ keys_push old key) numbers stamps refl index in
+      let placed = interned_new t new name.now c.in_ok-place.place c.self.invariant missing (ap key_texts put ∙ key_texts-push old key) numbers stamps refl index in
       subst (λ (x : Table). Interns x c.if-is_new.self name.now c.in_ok-place.place) c.self.view_is
       (subst (λ (x : Table). Interns t x name.now c.in_ok-place.place) (sym w.self-is) placed)
   | else-is_new w ↦

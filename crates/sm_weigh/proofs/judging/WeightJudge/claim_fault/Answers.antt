@@ -6,7 +6,7 @@ use Rattle.sm_report.specs.Lines.{LineData, line_of}
 use Rattle.sm_judge.specs.Judges.{IsOwnLine}
 use Rattle.sm_judge.specs.Judging.{answer}
 use Rattle.sm_judge.specs.Walking.{FindsOrKeeps}
-use Rattle.sm_weigh.specs.Kept.{ClaimHolds, HasClaim, IsClaimOf, IsNext}
+use Rattle.sm_weigh.specs.Kept.{ClaimHolds, HasClaim, IsClaimOf, IsNextLine}
 use Rattle.sm_weigh.proofs.JudgeLemmas.{read_is, stands_at, next_at, claim_kept}
 use Rattle.sm_weigh.proofs.judging.WeightJudge.claim_fault.Goals as goal
 
@@ -58,7 +58,7 @@ returns-in-Some-claim-clause-found c =
     IfOk-weaker c.find_fault.result _ _
     (λ why h.
     claim_kept w by lines c.args.k x at c.requires.behind why c.find_fault.new.self
-    (subst (λ (y : LineData). IsNext lines above y → FindsOrKeeps (ClaimHolds w by above y) (IsClaimOf w by lines (above ++ y ∷ []) c.find_fault.new.self) why) is
+    (subst (λ (y : LineData). IsNextLine lines above y → FindsOrKeeps (ClaimHolds w by above y) (IsClaimOf w by lines (above ++ y ∷ []) c.find_fault.new.self) why) is
     (h lines above (rw c.in-Some-claim.is at c.requires.known).0 (rw c.in-Some.is at c.requires.ground)) (next_at lines c.args.k x at)))
     c.find_fault.ensures
 
@@ -73,5 +73,5 @@ returns-in_ok-why-in-None-clause-found c =
     let at = stands_at self.lines.now c.args.k c.requires.within in
     let is = read_is self.lines.now c.args.k c.index-lines-k-in-None.result c.requires.within c.index-lines-k-in-None.is in
     claim_kept w by lines c.args.k x at c.requires.behind c.in_ok-why-in-None.why c.find_fault-in-None.new.self
-    (subst (λ (y : LineData). IsNext lines above y → FindsOrKeeps (ClaimHolds w by above y) (IsClaimOf w by lines (above ++ y ∷ []) c.find_fault-in-None.new.self) c.in_ok-why-in-None.why) is
+    (subst (λ (y : LineData). IsNextLine lines above y → FindsOrKeeps (ClaimHolds w by above y) (IsClaimOf w by lines (above ++ y ∷ []) c.find_fault-in-None.new.self) c.in_ok-why-in-None.why) is
     (c.in_ok-why-in-None.ensures lines above c.in_ok-claim-in-None.ensures (rw c.in-Some.is at c.requires.ground)) (next_at lines c.args.k x at))

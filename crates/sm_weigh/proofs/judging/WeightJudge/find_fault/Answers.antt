@@ -13,7 +13,7 @@ use Rattle.sm_weigh.specs.Kept.{ClaimHolds}
 use Rattle.sm_weigh.proofs.ClauseLemmas.{chain_found, weight_found}
 use Rattle.sm_weigh.proofs.GroundLemmas.{own_too, walked, grounded}
 use Rattle.sm_weigh.proofs.OrderLemmas.{claim_on}
-use Rattle.sm_weigh.proofs.JudgeLemmas.{line_is, stands_at, weight_kept, chain_judged, judged}
+use Rattle.sm_weigh.proofs.JudgeLemmas.{line_of-get_or, stands_at, weight_kept, chain_judged, judged}
 use Rattle.sm_weigh.proofs.judging.WeightJudge.find_fault.Goals as goal
 
 pub find_fault-requires-clause-own : goal.find_fault-requires-clause-own
@@ -29,7 +29,7 @@ returns-in-Some-clause-found c =
     let w = self.weighed.now.instance.now in
     let lines = map line_of self.lines.now in
     let x = slice_index_or lines c.args.k LineData.End in
-    let is = line_is self.lines.now c.args.k c.index-self-k.result c.requires.within in
+    let is = line_of-get_or self.lines.now c.args.k c.index-self-k.result c.requires.within in
     let found = chain_judged c.requires.known x _ is c.find_fault.new.self c.in_ok-why.field-0 c.in_ok-why.ensures.subject c.in_ok-why.ensures.found in
     chain_found w self.weighed.now.by (take c.args.k lines) x c.in-Some.why (rw c.in-Some.is at found)
 
@@ -38,7 +38,7 @@ gain_fault-requires-clause-known c =
     let self = c.args.self.now in
     let lines = map line_of self.lines.now in
     let x = slice_index_or lines c.args.k LineData.End in
-    let is = line_is self.lines.now c.args.k c.index-self-k.result c.requires.within in
+    let is = line_of-get_or self.lines.now c.args.k c.index-self-k.result c.requires.within in
     let found = chain_judged c.requires.known x _ is c.find_fault.new.self c.in_ok-why.field-0 c.in_ok-why.ensures.subject c.in_ok-why.ensures.found in
     let kept = rw c.in_default.is at found in
     record { above = take c.args.k lines ++ x ∷ []; known = kept.1.at }
@@ -52,7 +52,7 @@ returns-then-is_up_to_rotations-clause-found c =
     let above = take c.args.k lines in
     let x = slice_index_or lines c.args.k LineData.End in
     let at = stands_at self.lines.now c.args.k c.requires.within in
-    let is = line_is self.lines.now c.args.k c.index-self-k.result c.requires.within in
+    let is = line_of-get_or self.lines.now c.args.k c.index-self-k.result c.requires.within in
     let found = chain_judged c.requires.known x _ is c.find_fault.new.self c.in_ok-why.field-0 c.in_ok-why.ensures.subject c.in_ok-why.ensures.found in
     let kept = rw c.in_default.is at found in
     let up = subst (λ (y : LineData). is_up_to_rotations y ≡ true) is (sym c.is_up_to_rotations.ensures ∙ c.if-is_up_to_rotations.true) in
@@ -70,7 +70,7 @@ claim_fault-requires-clause-ground c =
     let above = take c.args.k lines in
     let x = slice_index_or lines c.args.k LineData.End in
     let at = stands_at self.lines.now c.args.k c.requires.within in
-    let is = line_is self.lines.now c.args.k c.index-self-k.result c.requires.within in
+    let is = line_of-get_or self.lines.now c.args.k c.index-self-k.result c.requires.within in
     let found = chain_judged c.requires.known x _ is c.find_fault.new.self c.in_ok-why.field-0 c.in_ok-why.ensures.subject c.in_ok-why.ensures.found in
     let kept = rw c.in_default.is at found in
     let behind = subst (λ (y : LineData). is_up_to_rotations y ≡ false) is (sym c.is_up_to_rotations.ensures ∙ c.if-is_up_to_rotations.false) in
@@ -81,7 +81,7 @@ claim_fault-requires-clause-walked c =
     let self = c.args.self.now in
     let lines = map line_of self.lines.now in
     let x = slice_index_or lines c.args.k LineData.End in
-    let is = line_is self.lines.now c.args.k c.index-self-k.result c.requires.within in
+    let is = line_of-get_or self.lines.now c.args.k c.index-self-k.result c.requires.within in
     let found = chain_judged c.requires.known x _ is c.find_fault.new.self c.in_ok-why.field-0 c.in_ok-why.ensures.subject c.in_ok-why.ensures.found in
     let kept = rw c.in_default.is at found in
     let behind = subst (λ (y : LineData). is_up_to_rotations y ≡ false) is (sym c.is_up_to_rotations.ensures ∙ c.if-is_up_to_rotations.false) in
@@ -95,7 +95,7 @@ returns-clause-found c =
     let lines = map line_of self.lines.now in
     let x = slice_index_or lines c.args.k LineData.End in
     let at = stands_at self.lines.now c.args.k c.requires.within in
-    let is = line_is self.lines.now c.args.k c.index-self-k.result c.requires.within in
+    let is = line_of-get_or self.lines.now c.args.k c.index-self-k.result c.requires.within in
     let found = chain_judged c.requires.known x _ is c.find_fault.new.self c.in_ok-why.field-0 c.in_ok-why.ensures.subject c.in_ok-why.ensures.found in
     let kept = rw c.in_default.is at found in
     IfOk-weaker c.claim_fault.result _ _

@@ -1,9 +1,0 @@
-use Rattle.std.proofs.Common.{◌≡◌}
-use Rattle.sm_lister.specs.Walking.{IsAlong}
-use Rattle.sm_lister.proofs.walk.follow.Given as goal
-
-abbrev pub invariant-loop-i : goal.invariant-loop-i
-invariant-loop-i l = record {
-  along : IsAlong l.course l.gates l.held l.vector l.marks l.i;
-  same : l.vector ≡ l.initial.vector;
-}

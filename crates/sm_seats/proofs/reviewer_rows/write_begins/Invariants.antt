@@ -1,0 +1,9 @@
+use Rattle.std.proofs.Common.{◌≡◌, map, take}
+use Rattle.std.specs.List.{filter}
+use Rattle.sm_instance.specs.Written.{row}
+use Rattle.sm_seats.specs.Mutual.{lists_back}
+use Rattle.sm_seats.specs.Tables.{begin_of}
+use Rattle.sm_seats.proofs.reviewer_rows.write_begins.Given as goal
+
+abbrev pub invariant-loop-place : goal.invariant-loop-place
+invariant-loop-place l = l.kept.items ≡ map (begin_of l.instance l.r) (filter (lists_back l.instance.proposers l.r) (take l.place (row l.instance.reviewers l.r)))
