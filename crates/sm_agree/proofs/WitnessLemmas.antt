@@ -1,11 +1,13 @@
 -- The answers of specs/Witnesses.antt.
-use Rattle.std.proofs.Common.{◌≡◌, ◌≢◌, ℕ, zero, suc, ◌+◌, ◌<◌, ◌≤◌, inl, true, false, List, [], ◌∷◌, length, slice_index, slice_index_or, Option, Some, None, refl, sym, ap, ◌∙◌, subst, arith}
-use Rattle.std.specs.Prelude.{IsTrue}
+use Rattle.std.proofs.Common.{◌≡◌, ◌≢◌, ℕ, zero, suc, ◌+◌, ◌<◌, ◌≤◌, inl, true, false, List, [], ◌∷◌, length, slice_index, slice_index_or, Option, Some, None, refl, sym, ap, ◌∙◌, subst, arith, get_or}
+use Rattle.std.specs.Prelude.{◌↔◌, IsTrue, Contains}
 use Rattle.std.specs.List.{All}
+use Rattle.std.specs.List.Sorted.{IsStrictlyIncreasing}
 use Rattle.std.proofs.lemmas.Bool.{false≢true}
 use Rattle.std.proofs.lemmas.Bool.Decides.{nat_tests}
 use Rattle.std.proofs.lemmas.Option.{same_Some, none-some}
 use Rattle.sm_text.specs.Name as name
+use Rattle.sm_lists.specs.Rows.{row as list_row}
 use Rattle.sm_instance.specs.Written.{AgentData, Written, agent_at, row, entry, capacity_of, IsAcceptable}
 use Rattle.sm_instance.specs.Matching.{held, standing, load, IsMatching}
 use Rattle.sm_instance.specs.Stable.{Blocks, IsStable, IsProposersBest, IsReviewersBest}
@@ -36,6 +38,7 @@ use Rattle.sm_seats.proofs.BestLaws.{seats_proposers_best, seats_reviewers_best}
 use Rattle.sm_shown.specs.RotationAnswer.{IsRotationAnswer}
 use Rattle.sm_shown.proofs.ShownLemmas.{correspondence}
 use Rattle.sm_partners.specs.RegretAnswer.{IsLeastRegret}
+use Rattle.sm_partners.specs.Partners.{IsStablePlace, IsFixedPlace, ArePartners, AreStablePairs}
 use Rattle.sm_pairs.specs.Held.{CantJoin, IsBreach, GiveStable}
 use Rattle.sm_given.specs.GivenText.{AreGiven}
 use Rattle.sm_rooming.specs.Witnesses.{odd_parties}
@@ -182,6 +185,35 @@ seats_first = seats_proposers_best (is_seating (sound_entries instance)) seated_
 seats_last : IsSeatReviewersBest (seat_market w) seated
 seats_last = seats_reviewers_best (is_seating (sound_entries instance)) seated_stable (subst (IsReviewersBest w) (sym unseated) reviewers_best)
 
+-- the pair is stable, and fixed
+is_first : (k i : ℕ) → k < 1 → get_or (0 ∷ []) k i ≡ i → 0 ≡ i
+is_first zero i l e = e
+is_first (suc k) i l e = absurd (omega arith)
+
+holds_first : (places : List (Option ℕ)) (i : ℕ) → IsStable w places → 0 ≡ i → held places 0 ≡ Some i
+holds_first places i s e = subst (λ o. held o 0 ≡ Some i) (only places s) (ap Some e)
+
+partners : ArePartners w ((0 ∷ []) ∷ [])
+partners = record { one_each = refl; rising = rising; exact = exact }
+  where
+    rising : (p : ℕ) → p < 1 → IsStrictlyIncreasing (list_row ((0 ∷ []) ∷ []) p)
+    rising zero l = λ k h. absurd (omega (arith, h))
+    rising (suc p) l = absurd (omega arith)
+
+    exact : (p i : ℕ) → p < 1 → Contains (list_row ((0 ∷ []) ∷ []) p) i ↔ IsStablePlace w p i
+    exact zero i l = (
+      (λ c. record { places = together; stable = stable; holds = ap Some (is_first c.0 i c.1 c.2) }),
+      (λ s. let c : Contains (0 ∷ []) i = (0, omega arith, same_Some 0 i (subst (λ o. held o 0 ≡ Some i) (sym (only s.places s.stable)) s.holds)) in c),
+    )
+    exact (suc p) i l = absurd (omega arith)
+
+stable_pairs : AreStablePairs w (record { proposer = 0; reviewer = 0; fixed = true } ∷ [])
+stable_pairs = record { rows = (0 ∷ []) ∷ []; partners = partners; fixed = true ∷ []; always = always; each = refl }
+  where
+    always : (p i : ℕ) → p < 1 → Contains (list_row ((0 ∷ []) ∷ []) p) i → (slice_index_or (true ∷ []) p false ≡ true) ↔ IsFixedPlace w p i
+    always zero i l c = ((λ _ places s. holds_first places i s (is_first c.0 i c.1 c.2)), λ _. refl)
+    always (suc p) i l c = absurd (omega arith)
+
 -- the right answers of each command over the one pair
 pub one_pair_is : OnePair
 one_pair_is = (
@@ -193,6 +225,7 @@ one_pair_is = (
   record { places = together; least = least; shows = refl },
   record { left = (0, 0) ∷ []; right = (0, 0) ∷ []; given = given; first = gives_stable; second = gives_stable; shows = refl },
   record { left = (0, 0) ∷ []; right = (0, 0) ∷ []; given = given; first = gives_stable; second = gives_stable; shows = refl },
+  record { pairs = record { proposer = 0; reviewer = 0; fixed = true } ∷ []; stable = stable_pairs; shows = refl },
 )
 
 -- the right answers over both circles

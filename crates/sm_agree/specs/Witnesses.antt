@@ -17,6 +17,7 @@ use Rattle.sm_shown.specs.Reduction.{IsReduction}
 use Rattle.sm_shown.specs.RotationAnswer.{IsRotationAnswer}
 use Rattle.sm_listing.specs.ListAnswer.{IsListAnswer}
 use Rattle.sm_partners.specs.RegretAnswer.{IsRegretAnswer}
+use Rattle.sm_partners.specs.PairsAnswer.{IsPairsAnswer}
 use Rattle.sm_lightest.specs.WeightAnswer.{IsWeightAnswer}
 use Rattle.sm_lightest.specs.Witnesses.{worked_answer}
 use Rattle.sm_given.specs.Chosen.{IsChosenAnswer}
@@ -74,6 +75,7 @@ OnePair = IsInstance one_pair
     × IsRegretAnswer one_pair (LineData.Answer HeadData.Regret ∷ LineData.Regret 1 ∷ LineData.Pair 0 0 ∷ LineData.End ∷ [])
     × IsChosenAnswer Better given_twice one_pair (given_answer HeadData.Meet)
     × IsChosenAnswer Worse given_twice one_pair (given_answer HeadData.Join)
+    × IsPairsAnswer one_pair (LineData.Answer HeadData.Pairs ∷ LineData.AllPair 0 0 ∷ LineData.End ∷ [])
 
 -- four persons in a circle, each of whom lists the next and then the one before, and one more, who lists one of them
 abbrev pub circle : List AgentData
