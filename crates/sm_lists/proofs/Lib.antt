@@ -10,3 +10,4 @@ pub mod NamingLemmas
 pub mod CrossLemmas
 pub mod Sums
 pub mod SpanLemmas
+pub mod RaisedLemmas

@@ -8,5 +8,6 @@ pub mod Kept
 pub mod Sums
 pub mod Earlier
 pub mod Spans
+pub mod Raised
 pub mod Pairs
 pub mod Witnesses

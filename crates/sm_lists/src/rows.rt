@@ -1,6 +1,6 @@
 //! Lists that stand one behind another in one vector, read by agent and place.
 
-ghost use Rattle.std.specs.Prelude.{◌≡◌, ℕ, ◌<◌, ◌++◌, ◌∷◌, [], length, replicate, IfOk, OnOk, OnErr};
+ghost use Rattle.std.specs.Prelude.{◌≡◌, ℕ, ◌<◌, ◌^◌, ◌++◌, ◌∷◌, [], length, replicate, IfOk, OnOk, OnErr};
 ghost use Rattle.sm_lists.specs.Rows.{rows_of, row, entry};
 
 use std::alloc::{AllocError, Global};
@@ -99,7 +99,8 @@ impl Rows {
 
     /// How many lists there are.
     pub fn len(&self) -> usize
-        ensures { result ≡ length self.now }
+        ensures count { result ≡ length self.now }
+        ensures fits { result < 2 ^ 63 }
     {
         self.spans.len()
     }

@@ -10,20 +10,21 @@ ghost use Rattle.sm_market.specs.Crosses.{AreCrosses};
 
 use crate::entries::check_entries;
 use crate::faults::{MarketFault, Side};
-use sm_lists::{CrossPlaces, Naming, Rows, cross_places, lent};
+use sm_lists::{CrossPlaces, Naming, RaisedRows, Rows, cross_places, lent};
 use std::alloc::{AllocError, Global};
 use std::marker::Model;
 
 /// A market with mutual lists: two agents list each other, or neither lists the other.
 ///
 /// It keeps the lists of each side one behind another, and beside each entry the place of the list's owner on the list
-/// of the agent that the entry names. So it takes memory in proportion to the entries, and none for each pair of agents.
+/// of the agent that the entry names. So it takes memory in proportion to the entries, and none for each pair of agents;
+/// equal lists may be kept once, and so may places that differ from agent to agent by one.
 #[derive(Debug, Drop)]
 pub struct Market {
     proposer_lists: Rows,
     reviewer_lists: Rows,
-    proposer_crosses: Rows,
-    reviewer_crosses: Rows,
+    proposer_crosses: RaisedRows,
+    reviewer_crosses: RaisedRows,
 }
 
 impl Model for Market {
@@ -89,8 +90,8 @@ impl Market {
         Ok(Market {
             proposer_lists: joined(alloc, proposer_lists)?,
             reviewer_lists: joined(alloc, reviewer_lists)?,
-            proposer_crosses: joined(alloc, proposer_crosses)?,
-            reviewer_crosses: joined(alloc, reviewer_crosses)?,
+            proposer_crosses: RaisedRows::level(alloc, joined(alloc, proposer_crosses)?),
+            reviewer_crosses: RaisedRows::level(alloc, joined(alloc, reviewer_crosses)?),
         })
     }
 
@@ -99,8 +100,8 @@ impl Market {
     pub fn held(
         proposer_lists: Rows,
         reviewer_lists: Rows,
-        proposer_crosses: Rows,
-        reviewer_crosses: Rows,
+        proposer_crosses: RaisedRows,
+        reviewer_crosses: RaisedRows,
     ) -> Market
         requires limits { IsWithinLimits (both_sides proposer_lists reviewer_lists) }
         requires market { IsMarket (both_sides proposer_lists reviewer_lists) }

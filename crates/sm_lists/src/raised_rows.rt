@@ -1,0 +1,118 @@
+//! Lists that share their entries but for a number that is added to each.
+
+ghost use Rattle.std.specs.Prelude.{◌≡◌, ℕ, ◌+◌, ◌<◌, ◌≤◌, ◌^◌, ◌++◌, [], length, slice_index, IfOk, OnOk, OnErr};
+ghost use Rattle.sm_lists.specs.Rows.{row, entry};
+ghost use Rattle.sm_lists.specs.Raised.{raised_lists};
+
+use crate::rows::Rows;
+use std::alloc::{AllocError, Global};
+use std::marker::Model;
+
+/// The lists of one side's agents, of which some are others raised: a number is added to each entry.
+///
+/// Agents and places are numbered from 0. A list and those that it is raised to share their entries, so that they take hardly
+/// more memory than one of them.
+#[derive(Debug, Drop)]
+pub struct RaisedRows {
+    rows: Rows,
+    /// By how much each agent's list is raised. One past the last isn't.
+    raises: Vec<u32>,
+}
+
+impl Model for RaisedRows {
+    ghost use Rattle.std.specs.Prelude.{ℕ, List};
+    ghost use Rattle.sm_lists.specs.Raised.{raised_rows, AreRaises};
+
+    ghost Value = { List (List ℕ) };
+
+    ghost view = { λ r. raised_rows r.rows r.raises.items };
+
+    ghost invariant = { λ r. AreRaises r.rows r.raises.items };
+}
+
+impl RaisedRows {
+    /// No list yet, with room for so many lists with so many entries in all, where raised ones count once.
+    ///
+    /// # Errors
+    ///
+    /// `AllocError` where memory ran out, and only then.
+    pub fn with_capacity(
+        alloc: Global,
+        lists: usize,
+        entries: usize,
+    ) -> Result<RaisedRows, AllocError>
+        ensures { IfOk result (λ rows. rows ≡ []) }
+    {
+        Ok(RaisedRows {
+            rows: Rows::with_capacity(alloc, lists, entries)?,
+            raises: Vec::with_capacity(alloc, lists)?,
+        })
+    }
+
+    /// These lists, of which none is raised. Takes constant time.
+    pub fn level(alloc: Global, rows: Rows) -> RaisedRows
+        ensures { result ≡ rows }
+    {
+        RaisedRows {
+            rows,
+            raises: Vec::new(alloc),
+        }
+    }
+
+    /// Adds a list for each of so many agents: this one for the first, and for each other the list of the one before it with
+    /// entries that are greater by one. Takes time in proportion to the list and the agents.
+    ///
+    /// # Errors
+    ///
+    /// Those of [`Rows::push`].
+    pub fn push_raised(&mut self, list: &[u32], count: u32) -> Result<(), AllocError>
+        requires small { (i : ℕ) → slice_index list.now i + count ≤ 2 ^ 32 }
+        ensures pushed { OnOk result (self.new ≡ self.old ++ raised_lists list.now count) }
+        ensures kept { OnErr result (self.new ≡ self.old) }
+    {
+        let agents = self.rows.len();
+        self.raises.resize(agents + count as usize, 0)?;
+        self.rows.push_shared(list, count)?;
+        count_from(&mut self.raises, agents);
+        Ok(())
+    }
+
+    /// What an agent's list has at a place.
+    pub fn entry_at(&self, a: u32, place: u32) -> u32
+        requires in_range { a < length self.now }
+        requires on_list { place < length (row self.now a) }
+        ensures { result ≡ entry self.now a place }
+    {
+        let entry = self.rows.entry_at(a, place);
+        match self.raises.get(a as usize) {
+            Some(raise) => entry + *raise,
+            None => entry,
+        }
+    }
+
+    /// The same lists. Takes time and memory in proportion to the lists and their entries, where raised ones count once.
+    ///
+    /// # Errors
+    ///
+    /// `AllocError` where memory ran out, and only then.
+    pub fn copy(&self, alloc: Global) -> Result<RaisedRows, AllocError>
+        ensures { IfOk result (λ copy. copy ≡ self.now) }
+    {
+        Ok(RaisedRows {
+            rows: self.rows.copy(alloc)?,
+            raises: Vec::from_slice(alloc, &self.raises)?,
+        })
+    }
+}
+
+/// Writes 0, 1, 2 and so on from a place on.
+fn count_from(numbers: &mut [u32], from: usize)
+    requires { length numbers.old ≤ from + 2 ^ 32 }
+    ensures as_long { length numbers.new ≡ length numbers.old }
+    ensures before { (a : ℕ) → a < from → slice_index numbers.new a ≡ slice_index numbers.old a }
+    ensures counted { (k : ℕ) → from + k < length numbers.old → slice_index numbers.new (from + k) ≡ k }
+{
+    for at in from..numbers.len() {
+        numbers[at] = (at - from) as u32;
+    }
+}
