@@ -60,7 +60,7 @@ pub(crate) fn checked_names(
     ensures names { IfOk result (λ names. names ≡ names_of (agents_of agents.now)) }
     ensures fault { IfErr result (λ f. IsAgentFault side (agents_of agents.now) single f) }
 {
-    let mut names = Names::new(alloc, hash_of_names(agents));
+    let mut names = Names::with_room(alloc, hash_of_names(agents), agents.len())?;
     for a in 0..agents.len() as u32 {
         let name = name_at(agents, a);
         let capacity = capacity_at(agents, a);
@@ -171,7 +171,7 @@ fn checked_weights(
     ensures fault { IfErr result
         (λ f. IsItemFault proposers reviewers weights.now (map weighed weights.now) f) }
 {
-    let mut pairs = Pairs::new(alloc, hash_of_weights(weights));
+    let mut pairs = Pairs::with_room(alloc, hash_of_weights(weights), weights.len())?;
     for n in 0..weights.len() as u32 {
         let (p, r, weight) = weights[n as usize];
         if p >= proposers || r >= reviewers || weight.unsigned_abs() > MOST_WEIGHT.unsigned_abs() {

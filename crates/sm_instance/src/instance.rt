@@ -257,7 +257,7 @@ impl Instance {
         ensures fits { IfSome result (λ back. back < most_agents) }
         ensures place_fits { place < most_agents }
     {
-        self.kept_cross(p, place)
+        self.crosses[p as usize][place as usize].place()
     }
 
     /// For each place of a proposer's list, the proposer's place on the list of the reviewer there; none where it isn't on
@@ -276,17 +276,6 @@ impl Instance {
         ensures { AreCrossPlacesOf self.now.reviewers self.now.proposers r result.now }
     {
         &self.reviewer_crosses[r as usize]
-    }
-
-    /// The cross place that is kept.
-    fn kept_cross(&self, p: u32, place: u32) -> Option<u32>
-        requires in_range { p < length self.now.proposers }
-        requires on_list { place < length (row self.now.proposers p) }
-        ensures cross { result ≡ cross_place self.now.reviewers (entry self.now.proposers p place)
-            p }
-        ensures instance { IsInstance self.now }
-    {
-        self.crosses[p as usize][place as usize].place()
     }
 
     /// Whether a proposer and a reviewer are acceptable to each other: each lists the other.

@@ -30,13 +30,12 @@ impl Model for Names {
 }
 
 impl Names {
-    /// No names, which will be found by these hashes.
-    pub(crate) fn new(alloc: Global, hash: TextHash) -> Names
-        ensures { result ≡ [] }
+    /// No names, which will be found by these hashes, with room for so many, so that nothing moves when they are added.
+    pub(crate) fn with_room(alloc: Global, hash: TextHash, room: usize) -> Result<Names, AllocError>
+        ensures { IfOk result (λ names. names ≡ []) }
     {
-        Names {
-            names: IndexSet::with_hasher(alloc, hash),
-        }
+        let names = IndexSet::with_capacity_and_hasher(alloc, room, hash)?;
+        Ok(Names { names })
     }
 
     /// The names of agents that all differ, which will be found by these hashes.
@@ -46,7 +45,7 @@ impl Names {
             → (agent_at (agents_of agents.now) b).name ≢ (agent_at (agents_of agents.now) a).name }
         ensures { IfOk result (λ names. names ≡ names_of (agents_of agents.now)) }
     {
-        let mut names = Names::new(alloc, hash);
+        let mut names = Names::with_room(alloc, hash, agents.len())?;
         for a in 0..agents.len() as u32 {
             names.add(alloc, name_at(agents, a))?;
         }

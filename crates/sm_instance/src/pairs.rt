@@ -26,13 +26,12 @@ impl Model for Pairs {
 }
 
 impl Pairs {
-    /// No pairs, which will be found by these hashes.
-    pub(crate) fn new(alloc: Global, hash: TextHash) -> Pairs
-        ensures { result ≡ [] }
+    /// No pairs, which will be found by these hashes, with room for so many, so that nothing moves when they are added.
+    pub(crate) fn with_room(alloc: Global, hash: TextHash, room: usize) -> Result<Pairs, AllocError>
+        ensures { IfOk result (λ pairs. pairs ≡ []) }
     {
-        Pairs {
-            pairs: IndexSet::with_hasher(alloc, hash),
-        }
+        let pairs = IndexSet::with_capacity_and_hasher(alloc, room, hash)?;
+        Ok(Pairs { pairs })
     }
 
     /// The pairs of weights that are all given to different ones. They will be found by these hashes.
@@ -46,7 +45,7 @@ impl Pairs {
             → pair_at (map weighed weights.now) k ≢ pair_at (map weighed weights.now) n }
         ensures { IfOk result (λ pairs. pairs ≡ map weighed weights.now) }
     {
-        let mut pairs = Pairs::new(alloc, hash);
+        let mut pairs = Pairs::with_room(alloc, hash, weights.len())?;
         for n in 0..weights.len() as u32 {
             let (p, r, _) = weights[n as usize];
             pairs.add((p, r))?;

@@ -4,7 +4,7 @@ ghost use Rattle.std.specs.Prelude.{◌≡◌, ◌<◌, ◌≤◌, length, Some}
 ghost use Rattle.std.specs.Int.RustNames.{unsigned_abs};
 ghost use Rattle.sm_text.specs.Limits.{most_agents, most_weight};
 ghost use Rattle.sm_instance.specs.Written.{row, entry, IsAcceptable};
-ghost use Rattle.sm_instance.specs.Matching.{held, IsMatching};
+ghost use Rattle.sm_instance.specs.Matching.{IsMatching};
 ghost use Rattle.sm_instance.specs.Ranks.{rank_vector_of, rank_back, worse_rank, regret_of, pair_weight, weight_of};
 
 use crate::agents::Assignment;
@@ -36,7 +36,9 @@ impl Instance {
     {
         let mut regret = 0;
         for p in 0..self.proposer_count() {
-            regret = regret.max(self.worse_rank_held(a, p));
+            if let Some(place) = self.place_held(a, p) {
+                regret = regret.max(self.worse_rank(p, place));
+            }
         }
         regret
     }
@@ -51,14 +53,16 @@ impl Instance {
     {
         let mut weight = 0;
         for p in 0..self.proposer_count() {
-            weight += self.weight_held(a, p, by);
+            if let Some(place) = self.place_held(a, p) {
+                weight += self.pair_weight(p, place, by);
+            }
         }
         weight
     }
 
     /// The rank that the reviewer at a place of a proposer's list gives the proposer, from 1. The two have to be acceptable
-    /// to each other. Takes the same time for all.
-    pub fn rank_back(&self, p: u32, place: u32) -> u32
+    /// to each other.
+    fn rank_back(&self, p: u32, place: u32) -> u32
         requires in_range { p < length self.now.proposers }
         requires on_list { place < length (row self.now.proposers p) }
         requires acceptable { IsAcceptable self.now p (entry self.now.proposers p place) }
@@ -99,31 +103,6 @@ impl Instance {
                 i64::from(place + 1 + back)
             }
             Measure::Given => self.weight(p, self.reviewer_at(p, place)),
-        }
-    }
-
-    /// The greater of the ranks that a proposer and its partner give each other.
-    fn worse_rank_held(&self, a: &Assignment, p: u32) -> u32
-        requires matching { IsMatching self.now a.now.places.items }
-        requires in_range { p < length self.now.proposers }
-        ensures { result ≡ worse_rank self.now p (held a.now.places.items p) }
-    {
-        match self.place_held(a, p) {
-            Some(place) => self.worse_rank(p, place),
-            None => 0,
-        }
-    }
-
-    /// The weight of a proposer and its partner.
-    fn weight_held(&self, a: &Assignment, p: u32, by: Measure) -> i64
-        requires matching { IsMatching self.now a.now.places.items }
-        requires in_range { p < length self.now.proposers }
-        ensures weight { result ≡ pair_weight by self.now p (held a.now.places.items p) }
-        ensures size { unsigned_abs result ≤ most_weight }
-    {
-        match self.place_held(a, p) {
-            Some(place) => self.pair_weight(p, place, by),
-            None => 0,
         }
     }
 }

@@ -1,5 +1,7 @@
 pub mod TextLemmas
+pub mod WordLemmas
 pub mod BadLemmas
+pub mod RunLemmas
 pub mod WholeLemmas
 pub mod NameLemmas
 pub mod TableLemmas
@@ -10,6 +12,8 @@ pub mod AddLemmas
 pub mod ResultLemmas
 pub mod PairLemmas
 pub mod NumberLemmas
+pub mod KnownLemmas
+pub mod OrderLemmas
 pub mod ReadingLemmas
 pub mod RightLemmas
 pub mod SoundLemmas

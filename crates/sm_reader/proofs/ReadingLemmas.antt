@@ -12,7 +12,7 @@ use Rattle.sm_instance.specs.Named.{Said}
 use Rattle.sm_reader.specs.Judging.{by_verdict, verdict_on, goes, stops}
 use Rattle.sm_reader.specs.InstanceText.{ReadText, Refusal, before_header, behind_header, ended, input_of, instance_text, IsTextFault}
 use Rattle.sm_reader.specs.Kept.{LeadsLines}
-use Rattle.sm_reader.specs.Draft.{said_of}
+use Rattle.sm_reader.specs.Draft.{said_of, IsRefusedBy}
 use Rattle.sm_reader.specs.Numbering.{IsUnknownFault}
 use Rattle.sm_reader.specs.Reading.{IsFaultOf, Finishes}
 use Rattle.sm_reader.specs.declared.draft.Draft.{Draft}
@@ -40,6 +40,13 @@ module _ (bytes text : List ℕ) (at next : ℕ) (leads : LeadsLines bytes at te
   pub stops_step : verdict_on kind said n (tokens text) ≡ stops → behind_header kind header said n at (lines (drop at bytes)) ≡ ended kind header said next (n + 1)
   stops_step e = verdict_step bytes text at next leads kind header said n
       ∙ ap (λ v. by_verdict v (λ more. behind_header kind header more (n + 1) next (lines (drop next bytes))) (ended kind header said next (n + 1)) (λ fault. Err (fault, n))) e
+
+  -- a line that is refused
+  pub refuses_step : (f : TextFault) → IsRefusedBy (verdict_on kind said n (tokens text)) n f → IsFaultOf (behind_header kind header said n at (lines (drop at bytes))) f
+  refuses_step (Refused fault line) h = verdict_step bytes text at next leads kind header said n
+      ∙ ap (λ v. by_verdict v (λ more. behind_header kind header more (n + 1) next (lines (drop next bytes))) (ended kind header said next (n + 1)) (λ fault. Err (fault, n))) h.0
+      ∙ ap (λ m. Err (fault, m)) (sym h.1)
+  refuses_step OutOfMemory h = tt
 
 -- how an instance ends
 pub ended_ok : (kind : Kind) (header : ℕ) (d : Draft) (rest rest_line : ℕ) (input : Input) → Finishes kind d input

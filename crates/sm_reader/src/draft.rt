@@ -1,14 +1,14 @@
 //! What the lines so far say, with indexes in the place of names.
 
-ghost use Rattle.std.specs.Prelude.{◌≡◌, ℕ, ◌<◌};
+ghost use Rattle.std.specs.Prelude.{◌≡◌, ℕ, ◌<◌, IfOk};
 ghost use Rattle.sm_reader.specs.Draft.{said_of, IsDraft};
 ghost use Rattle.sm_instance.specs.Named.{nothing};
 ghost use Rattle.sm_instance.specs.declared.kinds.Kind.{Kind};
 
 use crate::names::Names;
 use indexmap::IndexSet;
-use sm_text::TextHash;
-use std::alloc::Global;
+use sm_text::{MOST_AGENTS, TextHash};
+use std::alloc::{AllocError, Global};
 
 /// An agent as its line declares it, with the indexes of the names on its list.
 #[derive(Drop)]
@@ -79,14 +79,25 @@ pub(crate) struct Draft<'a> {
     pub(crate) forbidden: Vec<Pair>,
 }
 
-/// Nothing is said yet. Names and pairs will be found by these hashes.
-pub(crate) fn empty<'a>(alloc: Global, hash: TextHash) -> Draft<'a>
-    ensures said { (kind : Kind) → said_of kind result ≡ nothing }
-    ensures draft { (kind : Kind) (line : ℕ) → 1 < line → IsDraft kind line result }
+/// For each agent of one side a text mostly has at least so many bytes: its line, and that of an agent of the other side.
+const BYTES_EACH: usize = 32;
+
+/// Nothing is said yet by a text of so many bytes. Names and pairs will be found by these hashes.
+pub(crate) fn empty<'a>(
+    alloc: Global,
+    hash: TextHash,
+    bytes: usize,
+) -> Result<Draft<'a>, AllocError>
+    ensures said { IfOk result (λ d. (kind : Kind) → said_of kind d ≡ nothing) }
+    ensures draft { IfOk result (λ d. (kind : Kind) (line : ℕ) → 1 < line → IsDraft kind line d) }
 {
-    Draft {
-        proposer_names: Names::new(alloc, hash),
-        reviewer_names: Names::new(alloc, hash),
+    // Room for the names of all agents spares the sets from growing, in which each name would be put anew.
+    let room = (bytes / BYTES_EACH).min(MOST_AGENTS);
+    let proposer_names = Names::new(alloc, hash, room)?;
+    let reviewer_names = Names::new(alloc, hash, room)?;
+    Ok(Draft {
+        proposer_names,
+        reviewer_names,
         proposers: Vec::new(alloc),
         reviewers: Vec::new(alloc),
         entries: 0,
@@ -94,5 +105,5 @@ pub(crate) fn empty<'a>(alloc: Global, hash: TextHash) -> Draft<'a>
         weighed: IndexSet::with_hasher(alloc, hash),
         forced: Vec::new(alloc),
         forbidden: Vec::new(alloc),
-    }
+    })
 }

@@ -58,7 +58,15 @@ fn equal_by_fours(a: &[u8], b: &[u8]) -> bool
     requires few { length a.now ≤ 8 }
     ensures { result ≡ bytes_eq a.now b.now }
 {
-    last_four(a) == last_four(b) && first_four(a) == first_four(b)
+    are_same(last_four(a), last_four(b)) && are_same(first_four(a), first_four(b))
+}
+
+/// Are four bytes the same? They are compared as one number.
+#[inline(always)]
+fn are_same(a: &[u8; 4], b: &[u8; 4]) -> bool
+    ensures { result ≡ bytes_eq a.now b.now }
+{
+    u32::from_le_bytes(*a) == u32::from_le_bytes(*b)
 }
 
 /// Are eight to sixteen bytes the same? They are where the first eight are and the last eight.

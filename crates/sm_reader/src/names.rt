@@ -1,14 +1,15 @@
 //! The names of one side.
 
-ghost use Rattle.std.specs.Prelude.{◌≡◌, ℕ, ◌<◌, ◌^◌, length, slice_index, IfOk, IfSome};
-ghost use Rattle.std.specs.List.{list_any};
+ghost use Rattle.std.specs.Prelude.{◌≡◌, ℕ, ◌<◌, ◌^◌, not, true, None, Some, is_some, length, slice_index, slice_index_or, IfOk, IfSome};
+ghost use Rattle.std.specs.List.{list_any, list_all};
 ghost use Rattle.std.specs.Str.{bytes_eq};
-ghost use Rattle.sm_reader.specs.InstanceText.{number_in};
+ghost use Rattle.sm_reader.specs.InstanceText.{number_in, is_unknown};
+ghost use Rattle.sm_reader.specs.Numbering.{AreInOrder};
 ghost use Rattle.sm_reader.specs.Kept.{text_at, no_names, Interns, Declares, MeetsName, ListsNames};
 ghost use Rattle.sm_text.specs.Slices.{texts_of};
 
 use crate::keys::Key;
-use crate::recent::Recent;
+use crate::recent::{Recent, short_slot, slot_of};
 use indexmap::IndexSet;
 use sm_text::TextHash;
 use std::alloc::{AllocError, Global};
@@ -43,17 +44,18 @@ impl<'a> Model for Names<'a> {
 }
 
 impl<'a> Names<'a> {
-    /// No names, which will be found by these hashes.
-    pub(crate) fn new(alloc: Global, hash: TextHash) -> Names<'a>
-        ensures { result ≡ no_names }
+    /// No names, with room for so many, which will be found by these hashes.
+    pub(crate) fn new(alloc: Global, hash: TextHash, room: usize) -> Result<Names<'a>, AllocError>
+        ensures { IfOk result (λ n. n ≡ no_names) }
     {
-        Names {
-            texts: IndexSet::with_hasher(alloc, hash),
+        let texts = IndexSet::with_capacity_and_hasher(alloc, room, hash)?;
+        Ok(Names {
+            texts,
             recent: Recent::new(alloc),
             numbers: Vec::new(alloc),
             stamps: Vec::new(alloc),
             declared: Vec::new(alloc),
-        }
+        })
     }
 
     /// The index of a name, which is added where it didn't stand before. Always inlined, so that a name whose index is
@@ -68,12 +70,24 @@ impl<'a> Names<'a> {
         }
     }
 
-    /// The index that a name is guessed to have, where the name has it. Always inlined, as `intern` is.
+    /// The index that a name is guessed to have, where the name has it. Always inlined, as `intern` is, and with a path of
+    /// its own for names of four to eight bytes, which have one kind of slot and of comparison.
     #[inline(always)]
     fn recall(&self, name: &[u8]) -> Option<u32>
         ensures { IfSome result (λ i. Interns self.now self.now name.now i) }
     {
-        let guess = self.recent.guess(name)?;
+        match name.len() {
+            4..=8 => self.known_in(short_slot(name), name),
+            _ => self.known_in(slot_of(name), name),
+        }
+    }
+
+    /// The index that a slot holds, where a name has it.
+    #[inline(always)]
+    fn known_in(&self, slot: usize, name: &[u8]) -> Option<u32>
+        ensures { IfSome result (λ i. Interns self.now self.now name.now i) }
+    {
+        let guess = self.recent.guess(slot)?;
         let known = self.texts.get_index(guess as usize)?;
         if *known == (Key { text: name }) {
             Some(guess)
@@ -139,6 +153,20 @@ impl<'a> Names<'a> {
         Ok(Some(index))
     }
 
+    /// Is each name declared?
+    pub(crate) fn are_declared(&self) -> bool
+        ensures { result ≡ not (list_any (is_unknown self.now.declared) self.now.texts) }
+    {
+        are_numbers(&self.numbers)
+    }
+
+    /// Has each name its index for its number?
+    pub(crate) fn are_in_order(&self) -> bool
+        ensures { result ≡ true → AreInOrder self.now }
+    {
+        are_counted(&self.numbers)
+    }
+
     /// Is the name of this index declared?
     pub(crate) fn is_declared(&self, index: u32) -> bool
         requires { index < length self.now.texts }
@@ -174,8 +202,38 @@ impl<'a> Names<'a> {
             let Some(index) = self.meet(entry, line)? else {
                 return Ok(None);
             };
-            indexes.push(index)?;
+            indexes.push_reserved(index);
         }
         Ok(Some(indexes))
+    }
+}
+
+/// Is each of these a number?
+fn are_numbers(numbers: &[Option<u32>]) -> bool
+    ensures { result ≡ list_all is_some numbers.now }
+{
+    numbers.iter().all(|number| number.is_some())
+}
+
+/// Does each of these hold its place?
+fn are_counted(numbers: &[Option<u32>]) -> bool
+    ensures { result ≡ true → (i : ℕ) → i < length numbers.now
+        → slice_index_or numbers.now i None ≡ Some i }
+{
+    'places: for place in 0..numbers.len() {
+        if !is_number(numbers[place], place) {
+            return false;
+        }
+    }
+    true
+}
+
+/// Is it this number?
+fn is_number(number: Option<u32>, place: usize) -> bool
+    ensures { result ≡ true → number ≡ Some place }
+{
+    match number {
+        Some(number) => number as usize == place,
+        None => false,
     }
 }

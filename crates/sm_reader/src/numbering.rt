@@ -1,12 +1,12 @@
 //! Numbers for names, once all agents are declared.
 
-ghost use Rattle.std.specs.Prelude.{◌≡◌, ◌<◌, ◌^◌, ◌||◌, length, map, IfOk};
+ghost use Rattle.std.specs.Prelude.{◌≡◌, ◌<◌, ◌^◌, ◌||◌, true, length, map, IfOk};
 ghost use Rattle.std.specs.List.{list_any};
 ghost use Rattle.sm_instance.specs.Vectors.{agent_of, agents_of};
 ghost use Rattle.sm_reader.specs.InstanceText.{least, unknown_lines, lines_with_unknown, pairs_with_unknown, is_unknown, number_in, numbered};
 ghost use Rattle.sm_reader.specs.Kept.{text_at, AreBelow};
 ghost use Rattle.sm_reader.specs.Draft.{said_of, listed_table, agent_in, pair_in, given_in, AreAgentsBelow, IsPairBelow, ArePairsBelow, pairs_of};
-ghost use Rattle.sm_reader.specs.Numbering.{line_if, pair_among, weight_among, IsReady, IsTwoSided, NumbersPersons, NumbersSides};
+ghost use Rattle.sm_reader.specs.Numbering.{line_if, pair_among, weight_among, IsReady, AreInOrder, IsTwoSided, NumbersPersons, NumbersSides};
 
 use crate::draft::{Declared, Draft, OfPair, Pair, Weight};
 use crate::names::Names;
@@ -14,8 +14,20 @@ use sm_instance::{Agent, Kind, Parts};
 use sm_lists::earlier;
 use std::alloc::{AllocError, Global};
 
-/// The first line that names an agent which isn't declared.
+/// The first line that names an agent which isn't declared. No line does where each name that stands in the text is
+/// declared, and nothing is looked for then.
 pub(crate) fn first_unknown(kind: Kind, draft: &Draft<'_>) -> Option<u32>
+    requires { IsReady kind draft.now }
+    ensures { result ≡ least (unknown_lines kind (said_of kind draft.now)) }
+{
+    if draft.proposer_names.are_declared() && draft.reviewer_names.are_declared() {
+        return None;
+    }
+    first_in_all(kind, draft)
+}
+
+/// The first such line, looked for in all lists, weights and conditions.
+fn first_in_all(kind: Kind, draft: &Draft<'_>) -> Option<u32>
     requires { IsReady kind draft.now }
     ensures { result ≡ least (unknown_lines kind (said_of kind draft.now)) }
 {
@@ -175,9 +187,10 @@ fn number_agents(
     ensures { IfOk result (λ v. agents_of v.items ≡ map (numbered names.now.declared)
         (map (agent_in names.now.texts) side.entry.items)) }
 {
+    let in_order = names.are_in_order();
     let mut agents = Vec::with_capacity(alloc, side.len())?;
     'agents: for declared in side {
-        agents.push(number_agent(alloc, names, declared)?)?;
+        agents.push(number_agent(alloc, names, in_order, declared)?)?;
     }
     Ok(agents)
 }
@@ -186,8 +199,10 @@ fn number_agents(
 fn number_agent(
     alloc: Global,
     names: &Names<'_>,
+    in_order: bool,
     declared: Declared<'_>,
 ) -> Result<Agent, AllocError>
+    requires order { in_order ≡ true → AreInOrder names.now }
     requires few { length names.now.declared < 2 ^ 32 }
     requires in_range { AreBelow (length names.now.texts) declared.entries.items }
     ensures { IfOk result (λ a. agent_of a ≡ numbered names.now.declared
@@ -200,7 +215,7 @@ fn number_agent(
         mut entries,
     } = declared;
     let name = Vec::from_slice(alloc, name)?;
-    number_names(names, &mut entries);
+    number_names(names, in_order, &mut entries);
     Ok(Agent {
         name,
         capacity,
@@ -209,13 +224,17 @@ fn number_agent(
     })
 }
 
-/// Puts the numbers of names in the place of their indexes.
-fn number_names(names: &Names<'_>, entries: &mut [u32])
+/// Puts the numbers of names in the place of their indexes. In order these are the same, and nothing is put.
+fn number_names(names: &Names<'_>, in_order: bool, entries: &mut [u32])
+    requires order { in_order ≡ true → AreInOrder names.now }
     requires few { length names.now.declared < 2 ^ 32 }
     requires in_range { AreBelow (length names.now.texts) entries.old }
     ensures { entries.new ≡ map (number_in names.now.declared)
         (map (text_at names.now.texts) entries.old) }
 {
+    if in_order {
+        return;
+    }
     'entries: for entry in entries.iter_mut() {
         *entry = names.number(*entry);
     }

@@ -111,7 +111,7 @@ fn read_lines(alloc: Global, bytes: &[u8], header: Header) -> Result<Read, TextF
         (header.line + 1) header.next (lines (drop header.next bytes.now))) f) }
 {
     let hash = TextHash::of(bytes);
-    let mut draft = empty(alloc, hash);
+    let mut draft = empty(alloc, hash, bytes.len())?;
     let mut tokens = Vec::new(alloc);
     let mut at = header.next;
     let mut line = header.line + 1;

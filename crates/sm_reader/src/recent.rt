@@ -31,9 +31,10 @@ impl Recent {
         }
     }
 
-    /// The index that a name may have, `None` where there is none to guess.
-    pub(crate) fn guess(&self, name: &[u8]) -> Option<u32> {
-        let index = self.slots.get(slot_of(name))?;
+    /// The index that a name of this slot may have, `None` where there is none to guess.
+    #[inline(always)]
+    pub(crate) fn guess(&self, slot: usize) -> Option<u32> {
+        let index = self.slots.get(slot)?;
         Some(*index)
     }
 
@@ -51,12 +52,23 @@ impl Recent {
 
 /// The slot of a name: by all its bytes where there are at most eight, and else by a hash of them.
 #[inline(always)]
-fn slot_of(name: &[u8]) -> usize {
-    let word = match name.len() {
-        4..=8 => ends(name),
-        0..=3 => few(name),
-        _ => hash(name),
-    };
+pub(crate) fn slot_of(name: &[u8]) -> usize {
+    match name.len() {
+        4..=8 => short_slot(name),
+        0..=3 => slot_for(few(name)),
+        _ => slot_for(hash(name)),
+    }
+}
+
+/// The slot of a name of four to eight bytes.
+#[inline(always)]
+pub(crate) fn short_slot(name: &[u8]) -> usize {
+    slot_for(ends(name))
+}
+
+/// The slot for a word.
+#[inline(always)]
+fn slot_for(word: u64) -> usize {
     (word.wrapping_mul(ODD) >> (64 - SLOT_BITS)) as usize
 }
 

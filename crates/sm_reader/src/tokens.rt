@@ -3,7 +3,7 @@
 ghost use Rattle.std.specs.Prelude.{◌≡◌, ◌-◌, ◌<◌, ◌≤◌, [], true, length, take, drop, IfOk, IfSome, MatchOption};
 ghost use Rattle.std.specs.List.{list_any, list_all};
 ghost use Rattle.sm_text.specs.Name.{is_name as is_a_name, is_name_byte};
-ghost use Rattle.sm_text.specs.Tokens.{tokens, begins_run, IsLeading};
+ghost use Rattle.sm_text.specs.Tokens.{tokens, begins_run, token_at, run_end, IsLeading, LeadsTokens};
 ghost use Rattle.sm_reader.specs.Forms.{is_bad};
 ghost use Rattle.sm_reader.specs.Kept.{LeadsLines, is_inner, AreNamesAtEnd};
 ghost use Rattle.sm_text.specs.Slices.{texts_of};
@@ -57,7 +57,7 @@ pub(crate) fn cut<'a>(line: &'a [u8], into: &mut Vec<&'a [u8]>) -> Result<Found,
         bad = bad || token.bad;
         others = if token.name { others } else { into.len() + 1 };
         into.push(&line[token.start..token.stop])?;
-        from = token.stop;
+        from = behind_blank(line, token.stop);
     }
     Ok(Found {
         bad,
@@ -74,7 +74,7 @@ fn token_from(line: &[u8], from: usize) -> Option<Token>
     ensures name { IfSome result (λ t. t.name ≡ is_a_name
         (take (t.stop - t.start) (drop t.start line.now))) }
 {
-    match token_at(line, from) {
+    match first_token(line, from) {
         TokenAt::Run(start, stop) => Some(Token {
             start,
             stop,
@@ -97,6 +97,60 @@ fn token_from(line: &[u8], from: usize) -> Option<Token>
     }
 }
 
+/// The place behind the blank that stands at a place, and the place itself where none does. One blank stands between most
+/// tokens.
+fn behind_blank(line: &[u8], at: usize) -> usize
+    ensures tokens { tokens (drop result line.now) ≡ tokens (drop at line.now) }
+    ensures behind { at ≤ result }
+{
+    if at < line.len() && line[at] == b' ' {
+        at + 1
+    } else {
+        at
+    }
+}
+
+/// What `token_at` finds, with less to test where a run begins at the place itself, as most do.
+#[inline(always)]
+fn first_token(line: &[u8], from: usize) -> TokenAt
+    ensures token { result ≡ token_at line.now from }
+    ensures leads { LeadsTokens line.now from result }
+{
+    if from < line.len() && is_name_byte(line[from]) {
+        TokenAt::Run(from, run_end(line, from + 1))
+    } else {
+        token_at(line, from)
+    }
+}
+
+/// Where a run of name bytes ends that goes on at a place, if it does. Where four bytes are left, the length is tested once
+/// for all four.
+fn run_end(line: &[u8], from: usize) -> usize
+    requires { from ≤ length line.now }
+    ensures { result ≡ run_end line.now from }
+{
+    let mut at = from;
+    'fours: while line.len() - at >= 4 {
+        if !is_name_byte(line[at]) {
+            return at;
+        }
+        if !is_name_byte(line[at + 1]) {
+            return at + 1;
+        }
+        if !is_name_byte(line[at + 2]) {
+            return at + 2;
+        }
+        if !is_name_byte(line[at + 3]) {
+            return at + 3;
+        }
+        at += 4;
+    }
+    'ones: while at < line.len() && is_name_byte(line[at]) {
+        at += 1;
+    }
+    at
+}
+
 /// Is the token a run of name bytes? It is one where it begins with one.
 pub(crate) fn is_run(token: &[u8]) -> bool
     ensures { result ≡ begins_run token.now }
@@ -109,13 +163,11 @@ pub(crate) fn is_run(token: &[u8]) -> bool
 
 /// Is this run, which is name bytes all through, a name?
 fn is_name_run(run: &[u8]) -> bool
-    requires { list_all is_name_byte run.now ≡ true }
+    requires some { 1 ≤ length run.now }
+    requires all { list_all is_name_byte run.now ≡ true }
     ensures { result ≡ is_a_name run.now }
 {
-    match run {
-        [first, ..] => !is_inner(*first) && run.len() <= MOST_NAME_BYTES,
-        [] => false,
-    }
+    run.len() <= MOST_NAME_BYTES && !is_inner(run[0])
 }
 
 /// Is it `.` or `-`, with which no name begins?

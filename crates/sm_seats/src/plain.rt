@@ -15,7 +15,7 @@ use crate::counts::SeatCounts;
 use crate::proposer_rows::ProposerRows;
 use crate::reviewer_rows::ReviewerRows;
 use sm_instance::{Cross, Instance};
-use sm_lists::Rows;
+use sm_lists::{RaisedRows, Rows};
 use std::alloc::{AllocError, Global};
 
 /// Is the instance such a one? Takes time in proportion to the entries.
@@ -138,7 +138,7 @@ pub(crate) fn plain_seats(
     Ok(ReviewerRows {
         seats,
         lists,
-        crosses,
+        crosses: RaisedRows::level(alloc, crosses),
     })
 }
 

@@ -12,16 +12,17 @@ ghost use Rattle.sm_seats.specs.ReviewerRows.{seat_lists_before, seat_crosses_be
 
 use crate::counts::SeatCounts;
 use sm_instance::Instance;
-use sm_lists::Rows;
+use sm_lists::{RaisedRows, Rows};
 use std::alloc::{AllocError, Global};
 
 /// The lists of all seats: of proposers, and of the seat's place on the list of each; and the reviewer and the number of each
-/// seat. The seats of a reviewer share their list of proposers.
+/// seat. The seats of a reviewer share their list of proposers, and the places too: they are one more for each seat than for
+/// the seat before it.
 #[derive(Drop)]
 pub(crate) struct ReviewerRows {
     pub(crate) seats: Vec<(u32, u32)>,
     pub(crate) lists: Rows,
-    pub(crate) crosses: Rows,
+    pub(crate) crosses: RaisedRows,
 }
 
 /// The lists of all seats, from what is counted of them, and the places where the seats of each reviewer begin.
@@ -45,8 +46,9 @@ pub(crate) fn reviewer_rows(
     let reviewers = instance.reviewer_count();
     let count = firsts[reviewers as usize] as usize;
     let mut seats = Vec::with_capacity(alloc, count)?;
-    let mut lists = Rows::with_capacity(alloc, count, sum_of(acceptable))?;
-    let mut crosses = Rows::with_capacity(alloc, count, counts.entries as usize)?;
+    let room = sum_of(acceptable);
+    let mut lists = Rows::with_capacity(alloc, count, room)?;
+    let mut crosses = RaisedRows::with_capacity(alloc, count, room)?;
     let mut row = Vec::new(alloc);
     for r in 0..reviewers {
         let count = firsts[r as usize + 1] - firsts[r as usize];
@@ -60,7 +62,7 @@ pub(crate) fn reviewer_rows(
             &mut row,
         )?;
         write_begins(&mut row, instance, r, begins)?;
-        add_crosses(&mut crosses, count, &mut row)?;
+        crosses.push_raised(&row, count)?;
     }
     Ok(ReviewerRows {
         seats,
@@ -153,29 +155,4 @@ fn write_begins(
         }
     }
     Ok(())
-}
-
-/// Adds the cross places of so many seats of a reviewer: these places for the first, and for each other seat one more than for
-/// the seat before it. The places are raised by as many.
-fn add_crosses(crosses: &mut Rows, count: u32, places: &mut Vec<u32>) -> Result<(), AllocError>
-    requires count { count ≤ most_capacity }
-    requires small { (i : ℕ) → slice_index places.old.items i ≤ 2 ^ 24 }
-    ensures { OnOk result (crosses.new
-        ≡ crosses.old ++ map (λ k. map (λ n. n + k) places.old.items) (range_with_len 0 count)) }
-{
-    'seats: for _ in 0..count {
-        crosses.push(places)?;
-        raise(places);
-    }
-    Ok(())
-}
-
-/// Raises each number by one.
-fn raise(numbers: &mut [u32])
-    requires { (i : ℕ) → slice_index numbers.old i < 2 ^ 32 - 1 }
-    ensures { numbers.new ≡ map (λ n. n + 1) numbers.old }
-{
-    for at in 0..numbers.len() {
-        numbers[at] += 1;
-    }
 }

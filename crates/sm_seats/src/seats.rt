@@ -27,7 +27,7 @@ use crate::proposer_rows::{ProposerRows, proposer_rows};
 use crate::reviewer_rows::{ReviewerRows, reviewer_rows};
 use crate::taking::taken_places;
 use sm_instance::{Assignment, Instance};
-use sm_lists::Rows;
+use sm_lists::{RaisedRows, Rows};
 use sm_market::{Market, Pairing};
 use std::alloc::{AllocError, Global};
 use std::marker::Model;
@@ -251,7 +251,7 @@ fn seats_held(
     let market = Market::held(
         proposers.lists,
         reviewers.lists,
-        proposers.crosses,
+        RaisedRows::level(alloc, proposers.crosses),
         reviewers.crosses,
     );
     let market = Rc::new(alloc, market)?;

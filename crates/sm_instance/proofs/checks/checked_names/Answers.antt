@@ -40,3 +40,8 @@ loop-a-preserved c =
         ];
       });
     }
+
+pub returns-clause-sound : goal.returns-clause-sound
+returns-clause-sound c =
+    let long = length-agents c.args.agents.now in
+    record { sound = λ a l. c.loop-a.invariant.sound a (omega arith) }

@@ -6,6 +6,30 @@ use Rattle.sm_instance.specs.Written.{weighed, is_same_pair}
 use Rattle.sm_instance.specs.Sound.{IsPairOf}
 use Rattle.sm_instance.proofs.ItemLemmas.{length-weighed, pair_at-weighed, fresh_pair, stale_pair, pairs_more}
 use Rattle.sm_instance.proofs.checks.checked_weights.Goals as goal
+use Rattle.sm_instance.proofs.checks.checked_weights.Goals.{then-p-proposers-via-then-p-proposers, then-p-proposers-via-else-p-proposers+then-r-reviewers, then-p-proposers-via-else-p-proposers+else-r-reviewers+then-unsigned_abs}
+
+pub returns-then-p-proposers-clause-fault : goal.returns-then-p-proposers-clause-fault
+returns-then-p-proposers-clause-fault c =
+    let weights = c.args.weights.now in
+    let long = length-weighed weights in
+    let here = pair_at-weighed weights c.loop-n.n c.loop-n-test.true in
+    record {
+      there = omega arith;
+      bad = λ s.
+          let pair = subst (IsPairOf c.args.proposers c.args.reviewers) here s.pair in
+          elim c.then-p-proposers.branch [
+            | then-p-proposers-via-then-p-proposers w ↦ let ge = w.if-p-proposers.true in let lt = pair.proposer in omega arith
+            | then-p-proposers-via-else-p-proposers+then-r-reviewers w ↦ let ge = w.if-r-reviewers.true in let lt = pair.reviewer in omega arith
+            | then-p-proposers-via-else-p-proposers+else-r-reviewers+then-unsigned_abs w ↦
+                let fits : FitsSigned w64 (get_or weights c.loop-n.n (0, 0, pos 0)).2 = search rules in
+                let is = simp to_z-of_z at w.unsigned_abs.ensures.value in
+                let most = w.unsigned_abs-else-r-reviewers.ensures.value in
+                let gt = w.if-unsigned_abs.true in
+                let le = s.size c.loop-n-test.true in
+                omega arith
+          ];
+      earlier = c.loop-n.invariant.sound;
+    }
 
 pub returns-then-not-is_new-clause-fault : goal.returns-then-not-is_new-clause-fault
 returns-then-not-is_new-clause-fault c =

@@ -4,7 +4,11 @@ use Rattle.sm_reader.specs.InstanceText.{number_in}
 use Rattle.sm_reader.specs.Kept.{text_at}
 use Rattle.sm_reader.proofs.ListingLemmas.{below_at}
 use Rattle.sm_reader.proofs.NumberLemmas.{front_long, front_more, replaced_at, replaced_more}
+use Rattle.sm_reader.proofs.OrderLemmas.{same_numbers}
 use Rattle.sm_reader.proofs.numbering.number_names.Goals as goal
+
+pub returns-then-in_order : goal.returns-then-in_order
+returns-then-in_order c = same_numbers c.args.names.now (c.requires.order c.if-in_order.true) c.args.entries.now c.requires.in_range
 
 pub number-requires-clause-in_range : goal.number-requires-clause-in_range
 number-requires-clause-in_range c =

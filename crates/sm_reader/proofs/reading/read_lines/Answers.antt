@@ -5,11 +5,11 @@ use Rattle.sm_instance.specs.Named.{nothing}
 use Rattle.sm_reader.specs.Judging.{verdict_on}
 use Rattle.sm_reader.specs.InstanceText.{behind_header, ended}
 use Rattle.sm_text.specs.Slices.{texts_of}
-use Rattle.sm_reader.specs.Draft.{said_of, IsDraft}
+use Rattle.sm_reader.specs.Draft.{said_of, IsDraft, IsRefusedBy}
 use Rattle.sm_reader.specs.Reading.{IsFaultOf}
 use Rattle.sm_reader.specs.declared.draft.Draft.{Draft}
 use Rattle.sm_reader.specs.Right.{IsRight}
-use Rattle.sm_reader.proofs.ReadingLemmas.{goes_step, stops_step, ended_ok, ended_err, same_fault}
+use Rattle.sm_reader.proofs.ReadingLemmas.{goes_step, stops_step, refuses_step, ended_ok, ended_err, same_fault}
 use Rattle.sm_reader.proofs.RightLemmas.{nothing_right, goes_right}
 use Rattle.sm_reader.proofs.ResultLemmas.{on_err}
 use Rattle.sm_reader.proofs.reading.read_lines.Goals as goal
@@ -18,9 +18,9 @@ pub lines-init : goal.lines-init
 lines-init c =
     let h = c.args.header in
     record {
-      means = ap (λ s. behind_header h.kind h.line s (h.line + 1) h.next (lines (drop h.next c.args.bytes.now))) (c.empty-draft.ensures.said h.kind);
-      right = subst (IsRight h.kind) (sym (c.empty-draft.ensures.said h.kind)) (nothing_right h.kind);
-      draft = c.empty-draft.ensures.draft h.kind (h.line + 1) (omega (arith, c.requires.headed.first));
+      means = ap (λ s. behind_header h.kind h.line s (h.line + 1) h.next (lines (drop h.next c.args.bytes.now))) (c.in_ok-draft.ensures.said h.kind);
+      right = subst (IsRight h.kind) (sym (c.in_ok-draft.ensures.said h.kind)) (nothing_right h.kind);
+      draft = c.in_ok-draft.ensures.draft h.kind (h.line + 1) (omega (arith, c.requires.headed.first));
       fits = omega (arith, c.requires.headed.fits);
       within = c.requires.headed.within;
     }
@@ -41,6 +41,19 @@ lines-preserved c =
       fits = omega (arith, c.lines.invariant.fits, c.in-Some.ensures.later);
       within = c.in-Some.ensures.within;
     }
+
+pub returns-in_err-judge-clause-fault : goal.returns-in_err-judge-clause-fault
+returns-in_err-judge-clause-fault c =
+    let h = c.args.header in
+    let bytes = c.args.bytes.now in
+    let said = said_of h.kind c.lines.draft in
+    let toks : texts_of c.deref.result.now ≡ tokens c.in-Some.text.now = ap texts_of c.deref.ensures.value ∙ c.in_ok-found.ensures.cut in
+    let meaning = behind_header h.kind h.line nothing (h.line + 1) h.next (lines (drop h.next bytes)) in
+    let f = c.in_err-judge.field-0.0 in
+    let refused = subst (λ ts. IsRefusedBy (verdict_on h.kind said c.lines.line ts) c.lines.line f) toks c.in_err-judge.ensures.refused in
+    on_err (IsFaultOf meaning) c.from_residual-in_err-judge.result f c.from_residual-in_err-judge.ensures.1
+    (same_fault meaning (behind_header h.kind h.line said c.lines.line c.lines.at (lines (drop c.lines.at bytes))) f (sym c.lines.invariant.means)
+    (refuses_step bytes c.in-Some.text.now c.lines.at c.in-Some.next c.in-Some.ensures.line h.kind h.line said c.lines.line f refused))
 
 pub returns-in_err-input-in-Stops-clause-fault : goal.returns-in_err-input-in-Stops-clause-fault
 returns-in_err-input-in-Stops-clause-fault c =

@@ -1,15 +1,16 @@
-use Rattle.std.proofs.Common.{◌∙◌, ◌&&◌, not, nat_le, length, sym, ap}
+use Rattle.std.proofs.Common.{◌≡◌, ◌∙◌, ◌&&◌, Bool, true, false, not, nat_le, length, get_or, sym, ap, refl, arith}
+use Rattle.std.proofs.lemmas.Bool.Decides.{nat_tests}
 use Rattle.sm_text.specs.Limits.{most_name_bytes}
+use Rattle.sm_reader.specs.Kept.{is_inner}
 use Rattle.sm_reader.proofs.WholeLemmas.{is_name-run}
 use Rattle.sm_reader.proofs.tokens.is_name_run.Goals as goal
 
-pub returns-then-not-is_inner : goal.returns-then-not-is_inner
-returns-then-not-is_inner c =
-    let run = c.args.run.now in
-    sym (is_name-run run c.in-len1-up.len_at_least c.requires ∙ ap (λ t. not t && nat_le (length run) most_name_bytes) (sym c.is_inner.ensures ∙ c.if-not-is_inner.true))
+and_true : (s t : Bool) → t ≡ true → s ≡ (s && t)
+and_true true t e = sym e
+and_true false t e = refl
 
-pub returns-else-not-is_inner : goal.returns-else-not-is_inner
-returns-else-not-is_inner c =
+pub returns-then-run-le-MOST_NAME_BYTES : goal.returns-then-run-le-MOST_NAME_BYTES
+returns-then-run-le-MOST_NAME_BYTES c =
     let run = c.args.run.now in
-    ap not c.if-not-is_inner.false
-    ∙ sym (is_name-run run c.in-len1-up.len_at_least c.requires ∙ ap (λ t. not t && nat_le (length run) most_name_bytes) (sym c.is_inner.ensures ∙ c.if-not-is_inner.false))
+    let few : nat_le (length run) most_name_bytes ≡ true = grind (arith, nat_tests) in
+    ap not c.is_inner.ensures ∙ and_true (not (is_inner (get_or run 0 0))) (nat_le (length run) most_name_bytes) few ∙ sym (is_name-run run c.requires.some c.requires.all)

@@ -2,8 +2,8 @@ use Rattle.sm_reader.proofs.BadLemmas.{run_tells, mark_tells, bad_tells, mark_no
 use Rattle.sm_reader.proofs.WholeLemmas.{leading_run}
 use Rattle.sm_reader.proofs.tokens.token_from.Goals as goal
 
-pub is_name_run-requires : goal.is_name_run-requires
-is_name_run-requires c =
+pub is_name_run-requires-clause-all : goal.is_name_run-requires-clause-all
+is_name_run-requires-clause-all c =
     let leads = c.in-Run.ensures.leads in
     leading_run c.args.line.now c.args.from c.in-Run.start c.in-Run.stop leads (run_begins c.args.line.now c.args.from c.in-Run.start c.in-Run.stop c.in-Run.ensures.token leads.some)
 

@@ -24,8 +24,8 @@ loop-r-preserved c =
     record {
       seats = piece_pushed (named_seats w) (range_with_len 0 r) r _ _ _ before.seats c.in_ok-add_names.ensures (ap (λ (n : ℕ). map (λ (k : ℕ). (r, k)) (range_with_len 1 n)) s.count) ∙ ap (flat_map (named_seats w)) all;
       lists = piece_pushed (lists_for w) (range_with_len 0 r) r _ _ _ before.lists c.in_ok-add_lists.ensures (ap (λ n. replicate n (mutual_row w.reviewers w.proposers r)) s.count) ∙ ap (flat_map (lists_for w)) all;
-      crosses = piece_pushed (crosses_for w) (range_with_len 0 r) r _ _ _ before.crosses c.in_ok-add_crosses.ensures
-          (raised_crosses w r size c.write_begins.new.kept.items c.in_ok-write_begins.ensures.begins ∙ ap (λ n. map (seat_crosses w r) (range_with_len 0 n)) s.count) ∙ ap (flat_map (crosses_for w)) all;
+      crosses = piece_pushed (crosses_for w) (range_with_len 0 r) r _ _ _ before.crosses c.in_ok-push_raised.ensures.pushed
+          (raised_crosses w r size c.deref.result.now (c.deref.ensures.value ∙ c.in_ok-write_begins.ensures.begins) ∙ ap (λ n. map (seat_crosses w r) (range_with_len 0 n)) s.count) ∙ ap (flat_map (crosses_for w)) all;
     }
 
 pub bounds-firsts-reviewers : goal.bounds-firsts-reviewers
@@ -62,7 +62,11 @@ add_lists-requires-clause-acceptable c =
     let r = c.loop-r.r in
     ap (λ l. get_or l r 0) (c.as_slice-acceptable.ensures.value ∙ c.requires.acceptable) ∙ get_or-map-range_with_len (acceptable_at w) 0 (length w.reviewers) r r 0 (omega (arith, c.loop-r-test.true, c.reviewer_count-reviewers.ensures.count)) (omega arith)
 
-pub add_crosses-requires-clause-count : goal.add_crosses-requires-clause-count
-add_crosses-requires-clause-count c =
-    let s = seats_read c.args.instance.now c.loop-r.r (c.as_slice-firsts.ensures.value ∙ c.requires.firsts) (omega (arith, c.loop-r-test.true, c.reviewer_count-reviewers.ensures.count)) in
-    omega (arith, s.count, seat_count-le c.reviewer_count-reviewers.ensures.instance c.loop-r.r)
+pub push_raised-requires : goal.push_raised-requires
+push_raised-requires c = record {
+  small = λ i.
+      let s = seats_read c.args.instance.now c.loop-r.r (c.as_slice-firsts.ensures.value ∙ c.requires.firsts) (omega (arith, c.loop-r-test.true, c.reviewer_count-reviewers.ensures.count)) in
+      let small = c.in_ok-write_begins.ensures.small i in
+      let same = ap (λ l. get_or l i 0) c.deref.ensures.value in
+      omega (arith, small, same, s.count, seat_count-le c.reviewer_count-reviewers.ensures.instance c.loop-r.r);
+}

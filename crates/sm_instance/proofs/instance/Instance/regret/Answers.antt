@@ -1,12 +1,20 @@
-use Rattle.std.proofs.Common.{ℕ, max, map, fold, sym, ap, ◌∙◌}
-use Rattle.std.specs.List.{range_with_len}
+use Rattle.std.proofs.Common.{◌≡◌, max, sym, ap, ◌∙◌, arith}
 use Rattle.sm_instance.specs.Matching.{held}
 use Rattle.sm_instance.specs.Ranks.{worse_rank}
-use Rattle.sm_instance.proofs.RankLemmas.{fold_below_more, ord_max-is}
+use Rattle.sm_instance.proofs.RankLemmas.{fold_on, ord_max-is}
 use Rattle.sm_instance.proofs.instance.Instance.regret.Goals as goal
+use Rattle.sm_instance.proofs.instance.Instance.regret.Goals.{in-Some, in_default}
 
 pub loop-p-preserved : goal.loop-p-preserved
 loop-p-preserved c =
-    let f : ℕ → ℕ = λ p. worse_rank c.args.self.now p (held c.args.a.now.places.items p) in
-    c.max-regret.ensures ∙ ord_max-is c.loop-p.regret c.worse_rank_held.result ∙ ap (λ n. max n c.worse_rank_held.result) c.loop-p.invariant
-    ∙ ap (λ n. max (fold max 0 (map f (range_with_len 0 c.loop-p.p))) n) c.worse_rank_held.ensures ∙ sym (fold_below_more max 0 f c.loop-p.p)
+    let p = c.loop-p.p in
+    let rank = worse_rank c.args.self.now p in
+    let more = fold_on max 0 (λ q. worse_rank c.args.self.now q (held c.args.a.now.places.items q)) p c.loop-p.regret in
+    elim c.match-place_held.branch [
+      | in-Some w ↦
+          w.regret-is ∙ w.max-regret.ensures ∙ ord_max-is c.loop-p.regret w.worse_rank.result
+          ∙ more w.worse_rank.result c.loop-p.invariant (w.worse_rank.ensures ∙ ap rank w.in-Some.ensures.held)
+      | in_default w ↦
+          let same : c.loop-p.regret ≡ max c.loop-p.regret 0 = omega arith in
+          w.regret-is ∙ same ∙ more 0 c.loop-p.invariant (ap rank (sym w.in_default.is ∙ c.place_held.ensures.held))
+    ]

@@ -1,16 +1,31 @@
-use Rattle.std.proofs.Common.{◌+ℤ◌, pos, arith}
+use Rattle.std.proofs.Common.{◌+ℤ◌, pos, sym, ap, ◌∙◌, arith}
 use Rattle.std.proofs.lemmas.Int.{ints, to_z-of_z}
 use Rattle.sm_instance.specs.Matching.{held}
 use Rattle.sm_instance.specs.Ranks.{pair_weight}
 use Rattle.sm_instance.proofs.RankLemmas.{fold_below_more}
 use Rattle.sm_instance.proofs.instance.Instance.weigh.Goals as goal
+use Rattle.sm_instance.proofs.instance.Instance.weigh.Goals.{in-Some, in_default}
 
 pub loop-p-preserved : goal.loop-p-preserved
 loop-p-preserved c =
-    let more = fold_below_more ◌+ℤ◌ (pos 0) (λ p. pair_weight c.args.by c.args.self.now p (held c.args.a.now.places.items p)) c.loop-p.p in
-    let one = c.weight_held-weight.ensures.weight in
-    record {
-      weight = grind (arith, ints, to_z-of_z, more, one);
-      below = let size = c.weight_held-weight.ensures.size in omega (arith, ints);
-      above = let size = c.weight_held-weight.ensures.size in omega (arith, ints);
-    }
+    let p = c.loop-p.p in
+    let weight = pair_weight c.args.by c.args.self.now p in
+    let more = fold_below_more ◌+ℤ◌ (pos 0) (λ q. pair_weight c.args.by c.args.self.now q (held c.args.a.now.places.items q)) p in
+    elim c.match-place_held.branch [
+      | in-Some w ↦
+          let one = w.pair_weight-weight.ensures.weight ∙ ap weight w.in-Some.ensures.held in
+          let is = w.weight-is in
+          record {
+            weight = grind (arith, ints, to_z-of_z, more, one);
+            below = let size = w.pair_weight-weight.ensures.size in omega (arith, ints);
+            above = let size = w.pair_weight-weight.ensures.size in omega (arith, ints);
+          }
+      | in_default w ↦
+          let none = ap weight (sym w.in_default.is ∙ c.place_held.ensures.held) in
+          let is = w.weight-is in
+          record {
+            weight = grind (arith, ints, to_z-of_z, more, none);
+            below = omega (arith, ints);
+            above = omega (arith, ints);
+          }
+    ]

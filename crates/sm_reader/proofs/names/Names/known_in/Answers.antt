@@ -7,7 +7,7 @@ use Rattle.indexmap.specs.IndexSet.{keys}
 use Rattle.sm_reader.specs.Kept.{Table, text_of, key_texts, table_from, Interns}
 use Rattle.sm_reader.proofs.TextLemmas.{equal_text}
 use Rattle.sm_reader.proofs.TableLemmas.{interned_at}
-use Rattle.sm_reader.proofs.names.Names.recall.Goals as goal
+use Rattle.sm_reader.proofs.names.Names.known_in.Goals as goal
 
 pub returns-then-eq : goal.returns-then-eq
 returns-then-eq c =
