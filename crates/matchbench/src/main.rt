@@ -8,6 +8,7 @@
 use sm_io::{ReadSource, WriteSink};
 use sm_tally::{CountTally, RegretTally, SumTally, Tally};
 use sm_top::run;
+use std::alloc::Global;
 use std::io::ErrorKind;
 use std::process::ExitCode;
 use std::{env, io};
@@ -18,12 +19,16 @@ const NO_MEMORY: u8 = 4;
 /// The system refuses the words for another cause.
 const NO_WORDS: u8 = 8;
 
+/// A block that is nearly as large as the largest one after which the C library keeps memory.
+const LARGE: usize = 33_000_000;
+
 fn main(rt: HostRuntime) -> ExitCode {
     let words = match words(&rt) {
         Ok(words) => words,
         Err(error) => return ExitCode::from(status_of(error.kind())),
     };
     let alloc = rt.alloc();
+    keep_memory(alloc);
     let mut tallies: Vec<Box<dyn Tally>> = Vec::new(alloc);
     let (Ok(count), Ok(sum), Ok(regret)) = (
         Box::new(alloc, CountTally::new()),
@@ -38,6 +43,13 @@ fn main(rt: HostRuntime) -> ExitCode {
     let mut source = ReadSource::new(rt.reader());
     let mut sink = WriteSink::new(io::writer(&rt));
     ExitCode::from(run(alloc, &words, &mut source, &mut sink, tallies).number())
+}
+
+/// Has the C library keep memory that is given back, so that the pages of a text serve the lists that come after it. It gives
+/// large blocks back to the system, and has each page of the next one made anew, until a large block was taken and given back.
+/// No page of this one is touched.
+fn keep_memory(alloc: Global) {
+    let _ = Vec::<u8>::with_capacity(alloc, LARGE);
 }
 
 /// The words behind the program's name.

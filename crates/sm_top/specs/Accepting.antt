@@ -38,6 +38,10 @@ takes_text (Survey limit) = false
 takes_text Check = true
 takes_text (Make shape size seed summary) = false
 
+-- what is kept of an input's text for a job: all of it where the job takes text behind `end`, and anything for the others
+abbrev pub IsTextFor : JobData → List ℕ → List ℕ → Type 0
+IsTextFor job text kept = takes_text job ≡ true → kept ≡ text
+
 -- an answer behind `end`, which is judged: `check` alone
 abbrev pub judges_answer : JobData → Bool
 judges_answer Check = true

@@ -1,13 +1,14 @@
 //! Doing a job: an arm for each command, which makes its answer and writes it.
 
-ghost use Rattle.std.specs.Prelude.{◌≡◌, ◌≤◌, ◌↔◌, Ok, None, IfOk, IfErr, OnOk, OnErr, IsTrue, unwrap_or, length, map, true, false, List};
+ghost use Rattle.std.specs.Prelude.{◌≡◌, ℕ, ◌+◌, ◌<◌, ◌^◌, ◌≤◌, ◌↔◌, drop, Ok, None, IfOk, IfErr, OnOk, OnErr, IsTrue, unwrap_or, length, map, true, false, List};
 ghost use Rattle.sm_answer.specs.Printing.{IsShown};
 ghost use Rattle.sm_instance.specs.Sound.{IsInstance};
 ghost use Rattle.sm_instance.specs.declared.inputs.Input.TheVariants.{Two, Room};
 ghost use Rattle.sm_reader.specs.InstanceText.{read_of};
 ghost use Rattle.sm_text.specs.Limits.{most_bytes};
+ghost use Rattle.sm_text.specs.Lines.{lines};
 ghost use Rattle.sm_words.specs.Jobs.{job_of, IsInBounds, IsLimit};
-ghost use Rattle.sm_top.specs.Accepting.{reads_input, judges_answer, judged, accepted, too_many_in, IsTooMany};
+ghost use Rattle.sm_top.specs.Accepting.{reads_input, takes_text, IsTextFor, judges_answer, judged, accepted, too_many_in, IsTooMany};
 ghost use Rattle.sm_top.specs.Seated.{IsSeated};
 ghost use Rattle.sm_shown.specs.Answers.{IsSolution};
 ghost use Rattle.sm_listing.specs.ListAnswer.{IsCursor, IsListAnswer};
@@ -22,7 +23,7 @@ ghost use Rattle.sm_top.specs.Stops.{StopsBy};
 ghost use Rattle.sm_top.specs.Wrote.{Wrote, With};
 
 use crate::choosing::choose;
-use crate::refusing::seats_of;
+use crate::refusing::{seats_of, takes_text};
 use crate::status::Status;
 use crate::stop::Stop;
 use crate::writing::write;
@@ -54,35 +55,48 @@ struct Seated<'a> {
     seats: Seats,
 }
 
-/// Does a job, but `check`, on an input that was read for it, where its kind and its seats aren't refused.
+/// Does a job, but `check`, on an input that was read for it, where its kind and its seats aren't refused. The text of the
+/// input is freed before the seats are made, where the job takes none behind `end`.
 pub(crate) fn perform<K: Sink>(
     alloc: Global,
     job: &Job,
-    bytes: &[u8],
+    bytes: Vec<u8>,
     read: &Read,
     tallies: &mut Vec<Box<dyn Tally>>,
     sink: &mut K,
 ) -> Result<Status, Stop>
     requires reads { reads_input (job_of job.now) ≡ true }
     requires answers { judges_answer (job_of job.now) ≡ false }
-    requires short { length bytes.now ≤ most_bytes }
-    requires accepted { accepted (job_of job.now) bytes.now
+    requires short { length bytes.items ≤ most_bytes }
+    requires accepted { accepted (job_of job.now) bytes.items
         ≡ judged (job_of job.now) (read_of read.now) }
     requires bounds { IsInBounds (job_of job.now) }
     ensures wrote { IfOk result (λ status. Wrote (IsAnswer (map (λ t. shown_as (kind t) (shown t))
-        tallies.old.items) (job_of job.now) bytes.now)
+        tallies.old.items) (job_of job.now) bytes.items)
         (K.held sink.old) (K.held sink.new) (K.faults sink.old) (K.faults sink.new) status) }
-    ensures stop { IfErr result (λ stop. StopsBy (λ _. ⊥) (IsRefused (job_of job.now) bytes.now) ⊥
-        stop) }
+    ensures stop { IfErr result (λ stop. StopsBy (λ _. ⊥)
+        (IsRefused (job_of job.now) bytes.items) ⊥ stop) }
     ensures unwritten { OnErr result (sink.new ≡ sink.old) }
     ensures later { K.faults sink.old ≤ K.faults sink.new }
 {
+    let behind = text_for(alloc, job, bytes);
     match &read.input {
         Input::Two(instance) => {
             let given = with_seats(alloc, read, instance)?;
-            perform_on_seats(alloc, job, bytes, &given, tallies, sink)
+            perform_on_seats(alloc, job, &behind, &given, tallies, sink)
         }
-        Input::Room(persons) => perform_on_persons(alloc, job, bytes, read, persons, sink),
+        Input::Room(persons) => perform_on_persons(alloc, job, read, persons, sink),
+    }
+}
+
+/// The text of an input, for a job that takes text behind `end`. For any other it is freed.
+fn text_for(alloc: Global, job: &Job, bytes: Vec<u8>) -> Vec<u8>
+    ensures { IsTextFor (job_of job.now) bytes.items result.items }
+{
+    if takes_text(job) {
+        bytes
+    } else {
+        Vec::new(alloc)
     }
 }
 
@@ -104,7 +118,7 @@ fn with_seats<'a>(alloc: Global, read: &'a Read, instance: &'a Instance) -> Resu
     })
 }
 
-/// Does a job on an instance with two sides.
+/// Does a job on an instance with two sides, with its text where the job takes text behind `end`.
 fn perform_on_seats<K: Sink>(
     alloc: Global,
     job: &Job,
@@ -115,16 +129,18 @@ fn perform_on_seats<K: Sink>(
 ) -> Result<Status, Stop>
     requires reads { reads_input (job_of job.now) ≡ true }
     requires answers { judges_answer (job_of job.now) ≡ false }
-    requires short { length bytes.now ≤ most_bytes }
-    requires accepted { accepted (job_of job.now) bytes.now ≡ Ok (read_of given.now.read.now) }
+    requires few { takes_text (job_of job.now) ≡ true → given.now.read.now.rest_line
+        + length (lines (drop given.now.read.now.rest bytes.now)) < 2 ^ 32 }
     requires seated { IsSeated given.now.read.now.input given.now.instance.now given.now.seats }
     requires bounds { IsInBounds (job_of job.now) }
-    ensures wrote { IfOk result (λ status. Wrote (IsAnswer (map (λ t. shown_as (kind t) (shown t))
-        tallies.old.items) (job_of job.now) bytes.now)
+    ensures wrote { (text : List ℕ) → IsTextFor (job_of job.now) text bytes.now
+        → accepted (job_of job.now) text ≡ Ok (read_of given.now.read.now)
+        → IfOk result (λ status. Wrote (IsAnswer (map (λ t. shown_as (kind t) (shown t))
+        tallies.old.items) (job_of job.now) text)
         (K.held sink.old) (K.held sink.new) (K.faults sink.old) (K.faults sink.new) status) }
-    ensures stop { IfErr result (λ stop.
-        StopsBy (λ _. ⊥) (IsOwnRefusal (job_of job.now) bytes.now (read_of given.now.read.now)) ⊥
-        stop) }
+    ensures stop { (text : List ℕ) → IsTextFor (job_of job.now) text bytes.now
+        → IfErr result (λ stop. StopsBy (λ _. ⊥)
+        (IsOwnRefusal (job_of job.now) text (read_of given.now.read.now)) ⊥ stop) }
     ensures unwritten { OnErr result (sink.new ≡ sink.old) }
     ensures later { K.faults sink.old ≤ K.faults sink.new }
 {
@@ -161,7 +177,6 @@ fn perform_on_seats<K: Sink>(
 fn perform_on_persons<K: Sink>(
     alloc: Global,
     job: &Job,
-    bytes: &[u8],
     read: &Read,
     persons: &Persons,
     sink: &mut K,
@@ -169,17 +184,16 @@ fn perform_on_persons<K: Sink>(
     requires reads { reads_input (job_of job.now) ≡ true }
     requires answers { judges_answer (job_of job.now) ≡ false }
     requires room { read.now.input ≡ Room persons.now }
-    requires judged { accepted (job_of job.now) bytes.now
-        ≡ judged (job_of job.now) (read_of read.now) }
-    ensures wrote { (tallies : List Shown)
-        → IfOk result (λ status. Wrote (IsAnswer tallies (job_of job.now) bytes.now)
+    ensures wrote { (text : List ℕ) (tallies : List Shown)
+        → accepted (job_of job.now) text ≡ judged (job_of job.now) (read_of read.now)
+        → IfOk result (λ status. Wrote (IsAnswer tallies (job_of job.now) text)
         (K.held sink.old) (K.held sink.new) (K.faults sink.old) (K.faults sink.new) status) }
-    ensures stop { IfErr result (λ stop. StopsBy (λ _. ⊥) (IsRefused (job_of job.now) bytes.now) ⊥
-        stop) }
+    ensures stop { (text : List ℕ)
+        → accepted (job_of job.now) text ≡ judged (job_of job.now) (read_of read.now)
+        → IfErr result (λ stop. StopsBy (λ _. ⊥) (IsRefused (job_of job.now) text) ⊥ stop) }
     ensures unwritten { OnErr result (sink.new ≡ sink.old) }
     ensures later { K.faults sink.old ≤ K.faults sink.new }
 {
-    let _ = bytes;
     match job {
         Job::Solve(None) => Ok(solve_roommates(alloc, &read.input, persons, sink)?),
         Job::Solve(Some(_))

@@ -100,7 +100,7 @@ fn says_something(line: &[u8]) -> bool
 }
 
 /// Does a job take text behind `end`?
-fn takes_text(job: &Job) -> bool
+pub(crate) fn takes_text(job: &Job) -> bool
     ensures { result ≡ takes_text (job_of job.now) }
 {
     match job {

@@ -158,31 +158,31 @@ fn read_and_answer<S: Source, K: Sink>(
     ensures sink_later { K.faults sink.old ≤ K.faults sink.new }
 {
     let bytes = read_all(alloc, source)?;
-    answer(alloc, job, &bytes, tallies, sink)
+    answer(alloc, job, bytes, tallies, sink)
 }
 
 /// Does a job on an input that was read whole.
 fn answer<K: Sink>(
     alloc: Global,
     job: &Job,
-    bytes: &[u8],
+    bytes: Vec<u8>,
     tallies: &mut Vec<Box<dyn Tally>>,
     sink: &mut K,
 ) -> Result<Status, Stop>
     requires reads { reads_input (job_of job.now) ≡ true }
-    requires short { length bytes.now ≤ most_bytes }
+    requires short { length bytes.items ≤ most_bytes }
     requires bounds { IsInBounds (job_of job.now) }
     ensures wrote { IfOk result (λ status. Wrote (IsAnswer (map (λ t. shown_as (kind t) (shown t))
-        tallies.old.items) (job_of job.now) bytes.now)
+        tallies.old.items) (job_of job.now) bytes.items)
         (K.held sink.old) (K.held sink.new) (K.faults sink.old) (K.faults sink.new) status) }
-    ensures stop { IfErr result (λ stop. StopsBy (λ _. ⊥) (IsRefused (job_of job.now) bytes.now) ⊥
+    ensures stop { IfErr result (λ stop. StopsBy (λ _. ⊥) (IsRefused (job_of job.now) bytes.items) ⊥
         stop) }
     ensures unwritten { OnErr result (sink.new ≡ sink.old) }
     ensures later { K.faults sink.old ≤ K.faults sink.new }
 {
-    let read = read_for(alloc, job, bytes)?;
+    let read = read_for(alloc, job, &bytes)?;
     if judges_answer(job) {
-        return check_answer(alloc, bytes, &read, sink);
+        return check_answer(alloc, &bytes, &read, sink);
     }
     perform(alloc, job, bytes, &read, tallies, sink)
 }

@@ -6,10 +6,10 @@ use Rattle.sm_top.proofs.KindLemmas.{room_accepted, answer_over}
 use Rattle.sm_top.proofs.performing.perform_on_persons.Goals as goal
 
 pub returns-in_ok-solve_roommates-in-Solve-None-clause-wrote : goal.returns-in_ok-solve_roommates-in-Solve-None-clause-wrote
-returns-in_ok-solve_roommates-in-Solve-None-clause-wrote g c tallies =
+returns-in_ok-solve_roommates-in-Solve-None-clause-wrote g c = λ text tallies accepted.
     let none = rw c.in-Solve-None.is at c.in-Solve-None.field-0-is in
     let job : job_of c.args.job.now ≡ Solve None = ap job_of c.in-Solve-None.is ∙ ap Solve none in
     let read = read_of c.args.read.now in
-    let judged = rw job at c.requires.judged in
-    let ok = room_accepted (Solve None) c.args.bytes.now read c.args.persons.now c.requires.room judged refl in
-    rw job (answer_over (Solve None) c.args.bytes.now read (IsSolved None) _ _ _ _ _ ok c.in_ok-solve_roommates-in-Solve-None.ensures.wrote)
+    let judged = rw job at accepted in
+    let ok = room_accepted (Solve None) text read c.args.persons.now c.requires.room judged refl in
+    rw job (answer_over (Solve None) text read (IsSolved None) _ _ _ _ _ ok c.in_ok-solve_roommates-in-Solve-None.ensures.wrote)

@@ -1,3 +1,5 @@
+use Rattle.std.proofs.Common.{ap}
+use Rattle.sm_top.specs.Accepting.{takes_text}
 use Rattle.sm_reader.specs.InstanceText.{read_of}
 use Rattle.std.proofs.lemmas.Result.{IfOk-weaker}
 use Rattle.sm_words.specs.Jobs.{JobData, Solve, Reduced, Rotations, Pairs, Regret, Weight, Meet, Join, Survey}
@@ -12,72 +14,83 @@ use Rattle.sm_given.specs.Chosen.{IsChosenAnswer}
 use Rattle.sm_top.specs.Outcome.{IsSolved, IsRegretted, IsWeighed}
 use Rattle.sm_top.specs.declared.status.Status.TheVariants.{Done}
 use Rattle.sm_words.specs.Jobs.{job_of}
-use Rattle.sm_top.proofs.RefusingLemmas.{few_lines}
 use Rattle.sm_top.proofs.RunLemmas.{wrote_answer, wrote_answer_by}
 use Rattle.sm_top.proofs.KindLemmas.{answer_over, two_solved}
 use Rattle.sm_top.proofs.performing.perform_on_seats.Goals as goal
 
 pub returns-in_ok-solve-in-Solve-clause-wrote : goal.returns-in_ok-solve-in-Solve-clause-wrote
-returns-in_ok-solve-in-Solve-clause-wrote g c =
-    let ok = rw c.in-Solve.is at c.requires.accepted in
+returns-in_ok-solve-in-Solve-clause-wrote g c = λ text kept accepted.
+    let ok = rw c.in-Solve.is at accepted in
     let given = c.args.given.now in
-    rw c.in-Solve.is (answer_over (Solve c.in-Solve.side) c.args.bytes.now (read_of given.read.now) (IsSolved c.in-Solve.side) _ _ _ _ _ ok (two_solved c.in-Solve.side given.read.now.input given.instance.now _ _ _ _ _ c.requires.seated.two c.in_ok-solve-in-Solve.ensures.wrote))
+    rw c.in-Solve.is (answer_over (Solve c.in-Solve.side) text (read_of given.read.now) (IsSolved c.in-Solve.side) _ _ _ _ _ ok (two_solved c.in-Solve.side given.read.now.input given.instance.now _ _ _ _ _ c.requires.seated.two c.in_ok-solve-in-Solve.ensures.wrote))
 
 pub returns-in_ok-reduce-in-Reduced-clause-wrote : goal.returns-in_ok-reduce-in-Reduced-clause-wrote
-returns-in_ok-reduce-in-Reduced-clause-wrote g c =
-    let ok = rw c.in-Reduced.is at c.requires.accepted in
+returns-in_ok-reduce-in-Reduced-clause-wrote g c = λ text kept accepted.
+    let ok = rw c.in-Reduced.is at accepted in
     let given = c.args.given.now in
-    rw c.in-Reduced.is (wrote_answer Reduced c.args.bytes.now (read_of given.read.now) given.instance.now IsReduction Done _ _ _ _ _ ok c.requires.seated.two c.in_ok-reduce-in-Reduced.ensures.wrote)
+    rw c.in-Reduced.is (wrote_answer Reduced text (read_of given.read.now) given.instance.now IsReduction Done _ _ _ _ _ ok c.requires.seated.two c.in_ok-reduce-in-Reduced.ensures.wrote)
 
 pub returns-in_ok-show_rotations-in-Rotations-clause-wrote : goal.returns-in_ok-show_rotations-in-Rotations-clause-wrote
-returns-in_ok-show_rotations-in-Rotations-clause-wrote g c =
-    let ok = rw c.in-Rotations.is at c.requires.accepted in
+returns-in_ok-show_rotations-in-Rotations-clause-wrote g c = λ text kept accepted.
+    let ok = rw c.in-Rotations.is at accepted in
     let given = c.args.given.now in
-    rw c.in-Rotations.is (wrote_answer Rotations c.args.bytes.now (read_of given.read.now) given.instance.now IsRotationAnswer Done _ _ _ _ _ ok c.requires.seated.two c.in_ok-show_rotations-in-Rotations.ensures.wrote)
+    rw c.in-Rotations.is (wrote_answer Rotations text (read_of given.read.now) given.instance.now IsRotationAnswer Done _ _ _ _ _ ok c.requires.seated.two c.in_ok-show_rotations-in-Rotations.ensures.wrote)
 
 pub returns-in-List-clause-wrote : goal.returns-in-List-clause-wrote
-returns-in-List-clause-wrote g c =
-    let ok = rw c.in-List.is at c.requires.accepted in
+returns-in-List-clause-wrote g c = λ text kept accepted.
+    let ok = rw c.in-List.is at accepted in
     let given = c.args.given.now in
-    rw c.in-List.is (IfOk-weaker c.list.result _ _ (λ status w. wrote_answer (JobData.List (cursor_in c.in-List.after) c.in-List.limit) c.args.bytes.now (read_of given.read.now) given.instance.now
+    rw c.in-List.is (IfOk-weaker c.list.result _ _ (λ status w. wrote_answer (JobData.List (cursor_in c.in-List.after) c.in-List.limit) text (read_of given.read.now) given.instance.now
     (IsListAnswer (cursor_in c.in-List.after) c.in-List.limit) Done _ _ _ _ status ok c.requires.seated.two w) c.list.ensures.wrote)
 
 pub returns-in_ok-show_pairs-in-Pairs-clause-wrote : goal.returns-in_ok-show_pairs-in-Pairs-clause-wrote
-returns-in_ok-show_pairs-in-Pairs-clause-wrote g c =
-    let ok = rw c.in-Pairs.is at c.requires.accepted in
+returns-in_ok-show_pairs-in-Pairs-clause-wrote g c = λ text kept accepted.
+    let ok = rw c.in-Pairs.is at accepted in
     let given = c.args.given.now in
-    rw c.in-Pairs.is (wrote_answer Pairs c.args.bytes.now (read_of given.read.now) given.instance.now IsPairsAnswer Done _ _ _ _ _ ok c.requires.seated.two c.in_ok-show_pairs-in-Pairs.ensures.wrote)
+    rw c.in-Pairs.is (wrote_answer Pairs text (read_of given.read.now) given.instance.now IsPairsAnswer Done _ _ _ _ _ ok c.requires.seated.two c.in_ok-show_pairs-in-Pairs.ensures.wrote)
 
 pub returns-in_ok-show_regret-in-Regret-clause-wrote : goal.returns-in_ok-show_regret-in-Regret-clause-wrote
-returns-in_ok-show_regret-in-Regret-clause-wrote g c =
-    let ok = rw c.in-Regret.is at c.requires.accepted in
-    rw c.in-Regret.is (answer_over Regret c.args.bytes.now (read_of c.args.given.now.read.now) IsRegretted _ _ _ _ _ ok c.in_ok-show_regret-in-Regret.ensures.wrote)
+returns-in_ok-show_regret-in-Regret-clause-wrote g c = λ text kept accepted.
+    let ok = rw c.in-Regret.is at accepted in
+    rw c.in-Regret.is (answer_over Regret text (read_of c.args.given.now.read.now) IsRegretted _ _ _ _ _ ok c.in_ok-show_regret-in-Regret.ensures.wrote)
 
 pub choose-requires-clause-few : goal.choose-requires-clause-few
-choose-requires-clause-few g c = few_lines (job_of c.args.job.now) c.args.bytes.now (read_of c.args.given.now.read.now) c.requires.short c.requires.accepted
+choose-requires-clause-few g c = c.requires.few (ap (λ j. takes_text (job_of j)) c.in-Meet.is)
 
 pub choose-requires-in-Join-clause-few : goal.choose-requires-in-Join-clause-few
-choose-requires-in-Join-clause-few g c = few_lines (job_of c.args.job.now) c.args.bytes.now (read_of c.args.given.now.read.now) c.requires.short c.requires.accepted
+choose-requires-in-Join-clause-few g c = c.requires.few (ap (λ j. takes_text (job_of j)) c.in-Join.is)
 
 pub returns-in-Meet-clause-wrote : goal.returns-in-Meet-clause-wrote
-returns-in-Meet-clause-wrote g c =
-    let ok = rw c.in-Meet.is at c.requires.accepted in
+returns-in-Meet-clause-wrote g c = λ text kept accepted.
+    let ok = rw c.in-Meet.is at accepted in
     let given = c.args.given.now in
-    rw c.in-Meet.is (IfOk-weaker c.choose.result _ _ (λ status w. wrote_answer_by Meet c.args.bytes.now (read_of given.read.now) given.instance.now (λ read. IsChosenAnswer Better (texts_from c.args.bytes.now read.rest)) Done _ _ _ _ status ok c.requires.seated.two w) c.choose.ensures.wrote)
+    let same = kept (ap (λ j. takes_text (job_of j)) c.in-Meet.is) in
+    rw c.in-Meet.is (IfOk-weaker c.choose.result _ _ (λ status w. wrote_answer_by Meet text (read_of given.read.now) given.instance.now (λ read. IsChosenAnswer Better (texts_from text read.rest)) Done _ _ _ _ status ok c.requires.seated.two w) (rw same at c.choose.ensures.wrote))
+
+pub returns-in-Meet-clause-stop : goal.returns-in-Meet-clause-stop
+returns-in-Meet-clause-stop g c = λ text kept.
+    let same = kept (ap (λ j. takes_text (job_of j)) c.in-Meet.is) in
+    rw c.in-Meet.is (rw c.requires.seated.two (rw same at c.choose.ensures.stop))
 
 pub returns-in-Join-clause-wrote : goal.returns-in-Join-clause-wrote
-returns-in-Join-clause-wrote g c =
-    let ok = rw c.in-Join.is at c.requires.accepted in
+returns-in-Join-clause-wrote g c = λ text kept accepted.
+    let ok = rw c.in-Join.is at accepted in
     let given = c.args.given.now in
-    rw c.in-Join.is (IfOk-weaker c.choose-in-Join.result _ _ (λ status w. wrote_answer_by Join c.args.bytes.now (read_of given.read.now) given.instance.now (λ read. IsChosenAnswer Worse (texts_from c.args.bytes.now read.rest)) Done _ _ _ _ status ok c.requires.seated.two w) c.choose-in-Join.ensures.wrote)
+    let same = kept (ap (λ j. takes_text (job_of j)) c.in-Join.is) in
+    rw c.in-Join.is (IfOk-weaker c.choose-in-Join.result _ _ (λ status w. wrote_answer_by Join text (read_of given.read.now) given.instance.now (λ read. IsChosenAnswer Worse (texts_from text read.rest)) Done _ _ _ _ status ok c.requires.seated.two w) (rw same at c.choose-in-Join.ensures.wrote))
+
+pub returns-in-Join-clause-stop : goal.returns-in-Join-clause-stop
+returns-in-Join-clause-stop g c = λ text kept.
+    let same = kept (ap (λ j. takes_text (job_of j)) c.in-Join.is) in
+    rw c.in-Join.is (rw c.requires.seated.two (rw same at c.choose-in-Join.ensures.stop))
 
 pub returns-in_ok-survey-in-Survey-clause-wrote : goal.returns-in_ok-survey-in-Survey-clause-wrote
-returns-in_ok-survey-in-Survey-clause-wrote g c =
-    let ok = rw c.in-Survey.is at c.requires.accepted in
+returns-in_ok-survey-in-Survey-clause-wrote g c = λ text kept accepted.
+    let ok = rw c.in-Survey.is at accepted in
     let given = c.args.given.now in
-    rw c.in-Survey.is (wrote_answer (Survey c.in-Survey.limit) c.args.bytes.now (read_of given.read.now) given.instance.now _ Done _ _ _ _ _ ok c.requires.seated.two c.in_ok-survey-in-Survey.ensures.wrote)
+    rw c.in-Survey.is (wrote_answer (Survey c.in-Survey.limit) text (read_of given.read.now) given.instance.now _ Done _ _ _ _ _ ok c.requires.seated.two c.in_ok-survey-in-Survey.ensures.wrote)
 
 pub returns-in_ok-show_lightest-in-Weight-clause-wrote : goal.returns-in_ok-show_lightest-in-Weight-clause-wrote
-returns-in_ok-show_lightest-in-Weight-clause-wrote g c =
-    let ok = rw c.in-Weight.is at c.requires.accepted in
-    rw c.in-Weight.is (answer_over (Weight c.in-Weight.by) c.args.bytes.now (read_of c.args.given.now.read.now) (IsWeighed c.in-Weight.by) _ _ _ _ _ ok c.in_ok-show_lightest-in-Weight.ensures.wrote)
+returns-in_ok-show_lightest-in-Weight-clause-wrote g c = λ text kept accepted.
+    let ok = rw c.in-Weight.is at accepted in
+    rw c.in-Weight.is (answer_over (Weight c.in-Weight.by) text (read_of c.args.given.now.read.now) (IsWeighed c.in-Weight.by) _ _ _ _ _ ok c.in_ok-show_lightest-in-Weight.ensures.wrote)
