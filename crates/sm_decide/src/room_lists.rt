@@ -7,7 +7,7 @@ ghost use Rattle.sm_theory.specs.Rooms.{AreRoomLists, IsAcceptable};
 ghost use Rattle.sm_decide.specs.Rooms.{AreStandings, IsUnblockedAt, LikesMore};
 ghost use Rattle.sm_decide.specs.Accepted.{IsAcceptedAt};
 
-use sm_lists::{CrossPlaces, KeptPlace, Naming, cross_places, entry_at};
+use sm_lists::{CrossPlaces, KeptPlace, Naming, Packed, cross_places};
 use std::alloc::{AllocError, Global};
 use std::marker::Model;
 
@@ -15,19 +15,19 @@ use std::marker::Model;
 #[derive(Drop)]
 pub struct RoomLists<'a> {
     lists: Vec<&'a [u32]>,
-    crosses: Vec<Vec<u32>>,
+    crosses: Packed<u32>,
 }
 
 impl<'a> Model for RoomLists<'a> {
     ghost use Rattle.std.specs.Prelude.{ℕ, List};
-    ghost use Rattle.sm_lists.specs.Rows.{rows_of, lists_in};
+    ghost use Rattle.sm_lists.specs.Rows.{lists_in};
     ghost use Rattle.sm_theory.specs.RoomsKept.{AreRoomsKept};
 
     ghost Value = { List (List ℕ) };
 
     ghost view = { λ m. lists_in m.lists.items };
 
-    ghost invariant = { λ m. AreRoomsKept (lists_in m.lists.items) (rows_of m.crosses.items) };
+    ghost invariant = { λ m. AreRoomsKept (lists_in m.lists.items) m.crosses };
 }
 
 impl<'a> RoomLists<'a> {
@@ -101,7 +101,7 @@ impl<'a> RoomLists<'a> {
         if self.at(x, place) == x {
             return None;
         }
-        entry_at(&self.crosses, x, place).place()
+        self.crosses.at(x)[place as usize].place()
     }
 
     /// The place of `y` on `x`'s list, or the length of that list where it isn't on it. Looks through the list, so it takes

@@ -1,9 +1,8 @@
 -- From the cross places and namings of plain lists to those of agents.
-use Rattle.std.proofs.Common.{◌≡◌, ℕ, ◌+◌, ◌<◌, ◌≤◌, List, [], ◌∷◌, Vec, Global, Option, length, map, get_or, refl, sym, ap, subst, ◌∙◌, arith, ⊎_elim}
+use Rattle.std.proofs.Common.{◌≡◌, ℕ, ◌+◌, ◌<◌, ◌≤◌, List, [], ◌∷◌, Option, length, map, get_or, refl, sym, ap, subst, ◌∙◌, arith, ⊎_elim}
 use Rattle.std.proofs.lemmas.Bool.{cases_lt}
 use Rattle.std.proofs.lemmas.List.{length-map, map-id}
 use Rattle.std.proofs.lemmas.List.Folds.{fold-map}
-use Rattle.std.proofs.lemmas.Simd.{map-map}
 use Rattle.std.proofs.Math.ListN.{get_or-map as get_or-map_all}
 use Rattle.std.specs.List.{sum_by}
 use Rattle.sm_lists.specs.Rows.{row as row_at, entry as entry_at}
@@ -15,7 +14,6 @@ use Rattle.sm_lists.specs.declared.naming.Naming.{Naming as Known}
 use Rattle.sm_text.specs.Limits.{most_agents, most_entries}
 use Rattle.sm_instance.specs.Written.{AgentData, no_agent, row, entry, lists_of}
 use Rattle.sm_instance.specs.Sound.{AreSoundEntries, entries_of}
-use Rattle.sm_instance.specs.Vectors.{crosses_of, namings_of}
 use Rattle.sm_instance.specs.Crosses.{AreCrossPlaces}
 use Rattle.sm_instance.specs.Kept.{no_naming, naming_at, AreNamingsOf, AreNamings}
 use Rattle.sm_instance.specs.declared.namings.Naming.{Naming}
@@ -62,10 +60,10 @@ crosses_known agents others crosses c =
           };
     }
 
--- vectors of places hold the places
-pub held_in-places : (vectors : List (Vec (Option ℕ) Global)) → held_in (λ (place : Option ℕ). place) vectors ≡ crosses_of vectors
+-- lists of places hold the places
+pub held_in-places : (lists : List (List (Option ℕ))) → held_in (λ (place : Option ℕ). place) lists ≡ lists
 held_in-places [] = refl
-held_in-places (v ∷ vectors) = ap (λ x. x ∷ held_in (λ (place : Option ℕ). place) vectors) (map-id v.items) ∙ ap (λ xs. v.items ∷ xs) (held_in-places vectors)
+held_in-places (l ∷ lists) = ap (λ x. x ∷ held_in (λ (place : Option ℕ). place) lists) (map-id l) ∙ ap (λ xs. l ∷ xs) (held_in-places lists)
 
 -- a naming of lists
 abbrev wide : Naming → Known
@@ -112,13 +110,9 @@ of_known {agents} {others} {r} all sound m =
     }
 
 -- the namings of plain lists are those of the agents
-pub namings_known : {agents : List AgentData} {others : ℕ} (vectors : List (Vec Naming Global)) → AreSoundEntries agents others
-    → AreKnown (lists_of agents) others (length (lists_of agents)) 0 (held_in (λ (n : Naming). record { by = n.by; place = n.place }) vectors) → AreNamings agents others (namings_of vectors)
-namings_known {agents} {others} vectors sound n =
-    let items : Vec Naming Global → List Naming = λ v. v.items in
-    let read : (r : ℕ) → get_or (held_in wide vectors) r [] ≡ map wide (get_or (namings_of vectors) r []) =
-    λ r. ap (λ lists. get_or lists r []) (sym (map-map (map wide) items vectors)) ∙ get_or-map_all (map wide) (namings_of vectors) r [] in
-    record {
-      one_each = length-map vectors items ∙ sym (length-map vectors (λ v. map wide v.items)) ∙ n.one_each;
-      of = λ r l. of_known (get_or (namings_of vectors) r []) sound (subst (AreKnownOf (lists_of agents) (length (lists_of agents)) 0 r) (read r) (n.of r l));
-    }
+pub namings_known : {agents : List AgentData} {others : ℕ} (namings : List (List Naming)) → AreSoundEntries agents others
+    → AreKnown (lists_of agents) others (length (lists_of agents)) 0 (held_in (λ (n : Naming). record { by = n.by; place = n.place }) namings) → AreNamings agents others namings
+namings_known {agents} {others} namings sound n = record {
+  one_each = sym (length-map namings (map wide)) ∙ n.one_each;
+  of = λ r l. of_known (get_or namings r []) sound (subst (AreKnownOf (lists_of agents) (length (lists_of agents)) 0 r) (get_or-map_all (map wide) namings r []) (n.of r l));
+}

@@ -1,10 +1,8 @@
 -- What namings say of places.
-use Rattle.std.proofs.Common.{Vec, Global, MatchOption, ◌≡◌, ◌≢◌, ℕ, ◌<◌, List, [], Option, Some, None, length, get_or, sym, ap, subst, ◌∙◌, arith}
-use Rattle.sm_instance.specs.Vectors.{namings_of}
-use Rattle.std.proofs.lemmas.List.{get_or-map, length-map}
+use Rattle.std.proofs.Common.{MatchOption, ◌≡◌, ◌≢◌, ℕ, ◌<◌, List, Option, Some, None, length, subst}
 use Rattle.sm_instance.specs.Written.{AgentData, row, entry}
 use Rattle.sm_instance.specs.Sound.{AreSoundEntries}
-use Rattle.sm_instance.specs.Kept.{naming_at, IsNamed, AreNamingsOf, AreNamings, cross_place}
+use Rattle.sm_instance.specs.Kept.{naming_at, IsNamed, AreNamingsOf, cross_place}
 use Rattle.sm_instance.specs.declared.namings.Naming.{Naming}
 use Rattle.sm_instance.proofs.ListLemmas.{row_in_range}
 use Rattle.sm_instance.proofs.PlaceLemmas.{place_found, place_missing}
@@ -20,14 +18,6 @@ naming_found {agents} {others} {a} {all} sound n b i w =
 -- whoever names an agent is there
 pub named_in_range : {agents : List AgentData} {r : ℕ} {all : List Naming} → AreNamingsOf agents r all → (e : ℕ) → e < length all → (naming_at all e).by < length agents
 named_in_range {agents} {all = all} n e lt = row_in_range agents (naming_at all e).by (naming_at all e).place (n.on_list e lt)
-
--- the namings of the agent at an index of a slice
-pub namings_here : {agents : List AgentData} {others : ℕ} (all : List (Vec Naming Global)) (a : ℕ) (vector : Vec Naming Global) (items : List Naming) → AreNamings agents others (namings_of all) → a < others
-    → vector ≡ get_or all a vector → items ≡ vector.items → AreNamingsOf agents a items
-namings_here {agents} {others} all a vector items n lt is same =
-    let fits : a < length all = let one = n.one_each in let long = length-map all (λ (v : Vec Naming Global). v.items) in omega arith in
-    let R : List Naming → Type 0 = λ t. AreNamingsOf agents a t in
-    subst R (get_or-map (λ (v : Vec Naming Global). v.items) all a vector [] fits ∙ ap (λ (v : Vec Naming Global). v.items) (sym is) ∙ sym same) (n.of a lt)
 
 -- the answer of a search
 pub place_answer : {agents : List AgentData} {others a : ℕ} {all : List Naming} → AreSoundEntries agents others → AreNamingsOf agents a all → (b : ℕ) (o : Option ℕ)

@@ -1,10 +1,9 @@
 -- Agents and lists that are held in vectors, as plain data.
-use Rattle.std.specs.Prelude.{ℕ, List, map, Vec, Option, ℤ}
+use Rattle.std.specs.Prelude.{ℕ, List, map, Vec, ℤ}
 use Rattle.std.specs.declared.alloc.Global.{Global}
 use Rattle.sm_instance.specs.Written.{AgentData, Written}
 use Rattle.sm_instance.specs.declared.kinds.Kind.{Kind}
 use Rattle.sm_instance.specs.declared.agents.Agent.{Agent}
-use Rattle.sm_instance.specs.declared.namings.Naming.{Naming}
 use Rattle.sm_instance.specs.declared.parts.Parts.{Parts}
 
 -- an agent as plain data
@@ -14,14 +13,6 @@ agent_of agent = record { name = agent.name.items; capacity = agent.capacity; li
 -- some agents as plain data
 abbrev pub agents_of : List Agent → List AgentData
 agents_of agents = map agent_of agents
-
--- the cross places of a side as plain data
-abbrev pub crosses_of : List (Vec (Option ℕ) Global) → List (List (Option ℕ))
-crosses_of vectors = map (λ v. v.items) vectors
-
--- the namings of a side as plain data
-abbrev pub namings_of : List (Vec Naming Global) → List (List Naming)
-namings_of vectors = map (λ v. v.items) vectors
 
 -- texts that are held in vectors
 abbrev pub texts_of : List (Vec ℕ Global) → List (List ℕ)

@@ -3,7 +3,6 @@
 ghost use Rattle.std.specs.Prelude.{◌≡◌};
 
 use sm_lists::KeptPlace;
-use std::alloc::{AllocError, Global};
 use std::marker::Model;
 
 /// The place of a list's owner on the list of an agent that it names, or none where it isn't on it, so that the entry is
@@ -54,10 +53,5 @@ impl KeptPlace for Cross {
 
     fn place(self) -> Option<u32> {
         Cross::place(self)
-    }
-
-    #[tactic(auto, using(sm_lists::proofs::CrossLemmas::map_copies))]
-    fn none(alloc: Global, count: usize) -> Result<Vec<Cross>, AllocError> {
-        Ok(vec![in alloc; Cross { past: 0 }; count]?)
     }
 }

@@ -6,7 +6,7 @@ ghost use Rattle.sm_instance.specs.Sound.{IsWithinLimits, AreSoundEntries};
 ghost use Rattle.sm_instance.specs.Written.{lists_of};
 ghost use Rattle.sm_instance.specs.Crosses.{AreCrossPlaces};
 ghost use Rattle.sm_instance.specs.Kept.{AreNamings};
-ghost use Rattle.sm_instance.specs.Vectors.{agents_of, crosses_of, namings_of};
+ghost use Rattle.sm_instance.specs.Vectors.{agents_of};
 
 use crate::agents::Agent;
 use crate::cross::Cross;
@@ -27,13 +27,12 @@ pub(crate) fn crossings(
         (length (agents_of proposers.now)) }
     ensures proposers { IfOk result
         (λ c. AreCrossPlaces (agents_of proposers.now) (agents_of reviewers.now)
-        (crosses_of c.rows.items)) }
+        c.rows) }
     ensures reviewers { IfOk result
         (λ c. AreCrossPlaces (agents_of reviewers.now) (agents_of proposers.now)
-        (crosses_of c.others.items)) }
+        c.others) }
     ensures namings { IfOk result (λ c. AreNamings (agents_of proposers.now)
-        (length (agents_of reviewers.now))
-        (namings_of c.namings.items)) }
+        (length (agents_of reviewers.now)) c.namings) }
 {
     let proposers = lists(alloc, proposers)?;
     let reviewers = lists(alloc, reviewers)?;

@@ -20,7 +20,7 @@ use crate::names::Names;
 use crate::namings::{Naming, place_by};
 use crate::pairs::Pairs;
 use crate::parts::Parts;
-use sm_lists::{CrossPlaces, KeptPlace};
+use sm_lists::{CrossPlaces, KeptPlace, Packed};
 use sm_text::TextHash;
 use std::alloc::{AllocError, Global};
 use std::marker::Model;
@@ -38,9 +38,9 @@ pub struct Instance {
     weights: Vec<(u32, u32, i64)>,
     forced: Vec<(u32, u32)>,
     forbidden: Vec<(u32, u32)>,
-    crosses: Vec<Vec<Cross>>,
-    reviewer_crosses: Vec<Vec<Cross>>,
-    namings: Vec<Vec<Naming>>,
+    crosses: Packed<Cross>,
+    reviewer_crosses: Packed<Cross>,
+    namings: Packed<Naming>,
     left: Names,
     right: Names,
     weighed: Pairs,
@@ -48,7 +48,7 @@ pub struct Instance {
 
 impl Model for Instance {
     ghost use Rattle.sm_instance.specs.Written.{Written};
-    ghost use Rattle.sm_instance.specs.Vectors.{written_from, crosses_of, namings_of};
+    ghost use Rattle.sm_instance.specs.Vectors.{written_from};
     ghost use Rattle.sm_instance.specs.Kept.{IsKept};
 
     ghost Value = { Written };
@@ -59,8 +59,7 @@ impl Model for Instance {
     ghost invariant = { λ i. IsKept
         (written_from i.kind i.proposers.items i.reviewers.items i.weights.items i.forced.items
         i.forbidden.items)
-        (crosses_of i.crosses.items) (crosses_of i.reviewer_crosses.items)
-        (namings_of i.namings.items) i.left i.right i.weighed };
+        i.crosses i.reviewer_crosses i.namings i.left i.right i.weighed };
 }
 
 impl Instance {
@@ -257,7 +256,7 @@ impl Instance {
         ensures fits { IfSome result (λ back. back < most_agents) }
         ensures place_fits { place < most_agents }
     {
-        self.crosses[p as usize][place as usize].place()
+        self.crosses.at(p)[place as usize].place()
     }
 
     /// For each place of a proposer's list, the proposer's place on the list of the reviewer there; none where it isn't on
@@ -266,7 +265,7 @@ impl Instance {
         requires { p < length self.now.proposers }
         ensures { AreCrossPlacesOf self.now.proposers self.now.reviewers p result.now }
     {
-        &self.crosses[p as usize]
+        self.crosses.at(p)
     }
 
     /// For each place of a reviewer's list, the reviewer's place on the list of the proposer there; none where it isn't on
@@ -275,7 +274,7 @@ impl Instance {
         requires { r < length self.now.reviewers }
         ensures { AreCrossPlacesOf self.now.reviewers self.now.proposers r result.now }
     {
-        &self.reviewer_crosses[r as usize]
+        self.reviewer_crosses.at(r)
     }
 
     /// Whether a proposer and a reviewer are acceptable to each other: each lists the other.
@@ -307,7 +306,7 @@ impl Instance {
         ensures namings { AreNamingsOf self.now.proposers r result.now }
         ensures instance { IsInstance self.now }
     {
-        &self.namings[r as usize]
+        self.namings.at(r)
     }
 
     /// The weight that is given to a pair, 0 where none is. Takes the same time for all.

@@ -19,6 +19,10 @@ impl KeptNaming for Naming {
 
     ghost most = { most_agents };
 
+    fn blank() -> Naming {
+        Naming { by: 0, place: 0 }
+    }
+
     fn of(naming: sm_lists::Naming) -> Naming {
         Naming {
             by: naming.by as u16,

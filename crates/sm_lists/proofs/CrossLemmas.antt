@@ -1,27 +1,25 @@
 -- Writing the cross places of one side, and finding those of the other, agent by agent.
-use Rattle.std.proofs.Common.{IfSome, ◌≡◌, ℕ, ◌+◌, ◌<◌, ◌≤◌, List, [], ◌∷◌, ◌++◌, Vec, Option, None, length, map, get_or, set, replicate, zero, suc, refl, sym, ap, subst, ◌∙◌, arith, ⊎_elim}
+use Rattle.std.proofs.Common.{IfSome, ◌≡◌, ◌≢◌, ℕ, ◌+◌, ◌<◌, ◌≤◌, List, [], ◌∷◌, ◌++◌, Option, None, length, map, get_or, set, replicate, zero, suc, refl, sym, ap, subst, ◌∙◌, arith, ⊎_elim}
 use Rattle.std.proofs.lemmas.Bool.{cases_lt}
-use Rattle.std.proofs.lemmas.List.{get_or-map, get_or-replicate, get_or_past, length-map, length-replicate, length-set, length_push, map_push, map-set, set_past}
+use Rattle.std.proofs.lemmas.List.{get_or-map, get_or-replicate, get_or_past, length-map, length-replicate, length-set, map-set, set_past, nil_from_length, get_or-set_same, get_or-set_other}
 use Rattle.std.proofs.Math.ListN.{get_or-map as get_or-map_all}
-use Rattle.std.specs.Vec.{with_item}
-use Rattle.std.specs.declared.alloc.Global.{Global}
 use Rattle.sm_lists.specs.Rows.{row, entry}
 use Rattle.sm_lists.specs.Crosses.{found_on, cross_place, AreCrossPlacesOf, AreCrossPlaces}
 use Rattle.sm_lists.specs.Namings.{naming_at, AreNamingsOf}
 use Rattle.sm_lists.specs.Held.{held_in}
 use Rattle.sm_lists.specs.Kept.{noted_of, ArePlacesBefore}
 use Rattle.sm_lists.specs.declared.naming.Naming.{Naming}
-use Rattle.sm_lists.proofs.ItemLemmas.{set_cases, push_cases}
+use Rattle.sm_lists.proofs.ItemLemmas.{set_cases}
+use Rattle.sm_lists.proofs.NamingLemmas.{held_in-pushed}
 use Rattle.sm_lists.proofs.RowLemmas.{row_in_range}
 use Rattle.sm_lists.proofs.FoundLemmas.{found_on-fits}
 
--- an item of a vector among vectors is replaced
-pub held_in-written : {X Y : Type 0} (f : X → Y) (vectors : List (Vec X Global)) (b j : ℕ) (x : X) (v : Vec X Global) → b < length vectors
-    → held_in f (set vectors b (with_item (get_or vectors b v) j x)) ≡ set (held_in f vectors) b (set (get_or (held_in f vectors) b []) j (f x))
-held_in-written {X} {Y} f vectors b j x v inside =
-    let of : Vec X Global → List Y = λ v. map f v.items in
-    map-set of vectors b (with_item (get_or vectors b v) j x)
-    ∙ ap (set (held_in f vectors) b) (map-set f (get_or vectors b v).items j x ∙ ap (λ list. set list j (f x)) (sym (get_or-map of vectors b v [] inside)))
+-- an item of a list among lists is replaced
+pub held_in-written : {X Y : Type 0} (f : X → Y) (lists : List (List X)) (b j : ℕ) (x : X)
+    → held_in f (set lists b (set (get_or lists b []) j x)) ≡ set (held_in f lists) b (set (get_or (held_in f lists) b []) j (f x))
+held_in-written f lists b j x =
+    map-set (map f) lists b (set (get_or lists b []) j x)
+    ∙ ap (set (held_in f lists) b) (map-set f (get_or lists b []) j x ∙ ap (λ list. set list j (f x)) (sym (get_or-map_all (map f) lists b [])))
 
 -- what holds of each item of the rows after one is replaced
 item_cases : {X : Type 0} (P : ℕ → ℕ → X → Type 0) (rows : List (List X)) (b j : ℕ) (x d : X) → b < length rows → j < length (get_or rows b []) → P b j x
@@ -38,11 +36,9 @@ lengths_kept {X} rows b j x c = ⊎_elim
     (λ past. ap (λ l. length (get_or l c [])) (set_past rows b (set (get_or rows b []) j x) past))
     (cases_lt b (length rows))
 
--- a list is as long as what is kept beside it
-pub length-held_in : {X Y : Type 0} (f : X → Y) (vectors : List (Vec X Global)) (b : ℕ) (v : Vec X Global) → b < length vectors → length (get_or (held_in f vectors) b []) ≡ length (get_or vectors b v).items
-length-held_in {X} {Y} f vectors b v inside =
-    let of : Vec X Global → List Y = λ v. map f v.items in
-    ap length (get_or-map of vectors b v [] inside) ∙ length-map (get_or vectors b v).items f
+-- a list is as long as what is kept for it
+pub length-held_in : {X Y : Type 0} (f : X → Y) (lists : List (List X)) (b : ℕ) → length (get_or (held_in f lists) b []) ≡ length (get_or lists b [])
+length-held_in f lists b = ap length (get_or-map_all (map f) lists b []) ∙ length-map (get_or lists b []) f
 
 -- the cross places of the entries are written that name an agent before b, or that make one of the first n namings of b
 pub record AreWritten (rows others : List (List ℕ)) (b : ℕ) (namings : List Naming) (n : ℕ) (crosses : List (List (Option ℕ))) : Type 0 where
@@ -155,23 +151,36 @@ noted_fits places list_for b_for most short found a =
     (λ past. subst P (sym (get_or_past places a None past)) tt)
     (cases_lt a (length places))
 
--- one more list has its cross places
-pub length-held_in_push : {X Y : Type 0} (f : X → Y) (vectors : List (Vec X Global)) (v : Vec X Global) → length (held_in f (vectors ++ v ∷ [])) ≡ length (held_in f vectors) + 1
-length-held_in_push {X} {Y} f vectors v =
-    let of : Vec X Global → List Y = λ v. map f v.items in
-    ap length (map_push of vectors v) ∙ length_push (held_in f vectors) (of v)
-
--- one more vector of cross places, for the next agent
-pub found_more : {X : Type 0} {rows others : List (List ℕ)} {b : ℕ} (f : X → Option ℕ) (vectors : List (Vec X Global)) (v : Vec X Global) → length (held_in f vectors) ≡ b
-    → ((c : ℕ) → c < b → AreCrossPlacesOf others rows c (get_or (held_in f vectors) c [])) → AreCrossPlacesOf others rows b (map f v.items)
-    → (c : ℕ) → c < b + 1 → AreCrossPlacesOf others rows c (get_or (held_in f (vectors ++ v ∷ [])) c [])
-found_more {X} {rows} {others} {b} f vectors v count before new c l =
-    let of : Vec X Global → List (Option ℕ) = λ v. map f v.items in
-    let long = length_push (held_in f vectors) (of v) in
-    rw (map_push of vectors v)
-    (push_cases (λ d x. AreCrossPlacesOf others rows d x) (held_in f vectors) (of v) [] (rw count new) (λ d ld. before d (omega arith)) c (omega arith))
-
 -- as many copies of what stands for nothing
-pub map_copies : {X Y : Type 0} (f : X → Y) (n : ℕ) (x : X) (y : Y) → f x ≡ y → map f (replicate n x) ≡ replicate n y
+map_copies : {X Y : Type 0} (f : X → Y) (n : ℕ) (x : X) (y : Y) → f x ≡ y → map f (replicate n x) ≡ replicate n y
 map_copies f zero x y is = refl
 map_copies f (suc n) x y is = ap (λ z. z ∷ map f (replicate n x)) is ∙ ap (λ zs. y ∷ zs) (map_copies f n x y is)
+
+-- lists throughout which stands what stands for nothing
+pub held_in-filled : {X Y : Type 0} (f : X → Y) (x : X) (y : Y) (rows : List (List ℕ)) → f x ≡ y
+    → held_in f (map (λ list. replicate (length list) x) rows) ≡ map (λ list. replicate (length list) y) rows
+held_in-filled f x y [] is = refl
+held_in-filled f x y (list ∷ rows) is =
+    ap (λ l. l ∷ held_in f (map (λ list. replicate (length list) x) rows)) (map_copies f (length list) x y is)
+    ∙ ap (λ ls. replicate (length list) y ∷ ls) (held_in-filled f x y rows is)
+
+-- what holds of the lists of others once a list has one more item
+pub pushed_there : {X Y : Type 0} (f : X → Y) (lists : List (List X)) (b : ℕ) (x : X) (c : ℕ) → c ≢ b
+    → get_or (held_in f (set lists b (get_or lists b [] ++ x ∷ []))) c [] ≡ get_or (held_in f lists) c []
+pushed_there f lists b x c other =
+    ap (λ l. get_or l c []) (held_in-pushed f lists b x) ∙ get_or-set_other (held_in f lists) b c (get_or (held_in f lists) b [] ++ f x ∷ []) [] other
+
+-- and of its own
+pub pushed_here : {X Y : Type 0} (f : X → Y) (lists : List (List X)) (b : ℕ) (x : X) → b < length lists
+    → get_or (held_in f (set lists b (get_or lists b [] ++ x ∷ []))) b [] ≡ get_or (held_in f lists) b [] ++ f x ∷ []
+pushed_here f lists b x inside =
+    ap (λ l. get_or l b []) (held_in-pushed f lists b x)
+    ∙ get_or-set_same (held_in f lists) b (get_or (held_in f lists) b [] ++ f x ∷ []) [] (let long = length-map lists (map f) in omega arith)
+
+-- a list for which nothing is kept has no item
+pub empty_held : {X Y : Type 0} (f : X → Y) (lists : List (List X)) (b : ℕ) → get_or (held_in f lists) b [] ≡ [] → get_or lists b [] ≡ []
+empty_held f lists b is = nil_from_length (get_or lists b []) (sym (length-held_in f lists b) ∙ ap length is)
+
+-- for a list without an item nothing is kept
+pub held_empty : {X Y : Type 0} (f : X → Y) (lists : List (List X)) (b : ℕ) → get_or lists b [] ≡ [] → get_or (held_in f lists) b [] ≡ []
+held_empty f lists b is = get_or-map_all (map f) lists b [] ∙ ap (map f) is

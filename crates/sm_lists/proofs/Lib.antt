@@ -11,3 +11,5 @@ pub mod CrossLemmas
 pub mod Sums
 pub mod SpanLemmas
 pub mod RaisedLemmas
+pub mod RaisedSpanLemmas
+pub mod PackedLemmas

@@ -1,13 +1,13 @@
 -- How the namings grow, entry by entry.
-use Rattle.std.proofs.Common.{◌≡◌, ◌≢◌, ℕ, ◌+◌, ◌<◌, ◌≤◌, List, [], ◌∷◌, ◌++◌, Vec, length, map, get_or, set, refl, sym, ap, subst, ◌∙◌, arith, ⊎_elim}
+use Rattle.std.proofs.Common.{◌≡◌, ◌≢◌, ℕ, ◌+◌, ◌<◌, ◌≤◌, List, [], ◌∷◌, ◌++◌, length, map, get_or, set, replicate, refl, sym, ap, subst, ◌∙◌, arith, ⊎_elim}
 use Rattle.std.proofs.lemmas.Bool.{cases_lt}
-use Rattle.std.proofs.lemmas.List.{get_or_append_left, get_or_push, get_or-map, length-map, length_push, length-set, map-set, map_push}
-use Rattle.std.specs.declared.alloc.Global.{Global}
+use Rattle.std.proofs.lemmas.List.{get_or_append_left, get_or_push, get_or-map, length-map, length_push, length-replicate, length-set, map-set, map_push}
+use Rattle.std.proofs.Math.ListN.{get_or-map as get_or-map_all}
 use Rattle.sm_lists.specs.Rows.{row, entry}
 use Rattle.sm_lists.specs.Namings.{naming_at, IsNamed, AreNamingsOf, AreNamings, no_naming}
 use Rattle.sm_lists.specs.Held.{held_in}
 use Rattle.sm_lists.specs.declared.naming.Naming.{Naming}
-use Rattle.sm_lists.proofs.ItemLemmas.{set_cases, push_cases}
+use Rattle.sm_lists.proofs.ItemLemmas.{set_cases, push_cases, get_or-empty}
 
 module _ {rows : List (List ℕ)} {a k b : ℕ} {namings : List Naming} (n : AreNamingsOf rows a k b namings) where
   -- an entry that names another agent adds no naming
@@ -100,23 +100,41 @@ module _ {others a k : ℕ} {rows : List (List ℕ)} {lists : List (List Naming)
 pub namings_next : {others a : ℕ} {rows : List (List ℕ)} {lists : List (List Naming)} → AreNamings rows others a (length (row rows a)) lists → AreNamings rows others (a + 1) 0 lists
 namings_next n = record { one_each = n.one_each; of = λ b lt. naming_next (n.of b lt) }
 
--- one more item in the vector of an agent
-pub held_in-pushed : {X Y : Type 0} (f : X → Y) (vectors : List (Vec X Global)) (b : ℕ) (v d : Vec X Global) (x : X) → b < length vectors → v.items ≡ (get_or vectors b d).items ++ x ∷ []
-    → held_in f (set vectors b v) ≡ set (held_in f vectors) b (get_or (held_in f vectors) b [] ++ f x ∷ [])
-held_in-pushed {X} {Y} f vectors b v d x lt is =
-    let of : Vec X Global → List Y = λ v. map f v.items in
-    map-set of vectors b v
-    ∙ ap (set (held_in f vectors) b) (ap (map f) is ∙ map_push f (get_or vectors b d).items x ∙ ap (λ l. l ++ f x ∷ []) (sym (get_or-map of vectors b d [] lt)))
+-- nobody is named yet
+pub namings_start : {X : Type 0} (f : X → Naming) (rows : List (List ℕ)) (n : ℕ) (lists : List (List X)) → lists ≡ replicate n [] → AreNamings rows n 0 0 (held_in f lists)
+namings_start {X} f rows n lists is =
+    let none : List X = [] in
+    let empty : (b : ℕ) → [] ≡ get_or (held_in f lists) b [] =
+    λ b. sym (get_or-map_all (map f) lists b [] ∙ ap (λ all. map f (get_or all b [])) is ∙ ap (map f) (get_or-empty n b)) in
+    record {
+      one_each = length-map lists (map f) ∙ ap length is ∙ length-replicate n none;
+      of = λ b _. subst (AreNamingsOf rows 0 0 b) (empty b)
+          (record {
+            on_list = λ e l. absurd (omega arith);
+            names = λ e l. absurd (omega arith);
+            reached = λ e l. absurd (omega arith);
+            here = λ e l is. absurd (omega arith);
+            rising = λ e f lt l. absurd (omega arith);
+            ordered = λ e f lt l is. absurd (omega arith);
+            earlier_named = λ c i l on is. absurd (omega arith);
+            here_named = λ i l on is. absurd (omega arith);
+          });
+    }
+
+-- one more item on the list of an agent
+pub held_in-pushed : {X Y : Type 0} (f : X → Y) (lists : List (List X)) (b : ℕ) (x : X)
+    → held_in f (set lists b (get_or lists b [] ++ x ∷ [])) ≡ set (held_in f lists) b (get_or (held_in f lists) b [] ++ f x ∷ [])
+held_in-pushed f lists b x =
+    map-set (map f) lists b (get_or lists b [] ++ x ∷ [])
+    ∙ ap (set (held_in f lists) b) (map_push f (get_or lists b []) x ∙ ap (λ l. l ++ f x ∷ []) (sym (get_or-map_all (map f) lists b [])))
 
 -- a naming that is read of those that are kept
 pub naming_read : {X : Type 0} (f : X → Naming) (items : List X) (e : ℕ) (x : X) (n : Naming) → e < length items → x ≡ get_or items e x → n ≡ f x → n ≡ naming_at (map f items) e
 naming_read f items e x n inside read is = is ∙ ap f read ∙ sym (get_or-map f items e x no_naming inside)
 
--- the namings of an agent that are read of its vector
-pub namings_read : {X : Type 0} {rows : List (List ℕ)} {others a k : ℕ} (f : X → Naming) (vectors : List (Vec X Global)) (b : ℕ) (v : Vec X Global) (items : List X)
-    → AreNamings rows others a k (held_in f vectors) → b < others → v ≡ get_or vectors b v → items ≡ v.items → AreNamingsOf rows a k b (map f items)
-namings_read {X} {rows} {others} {a} {k} f vectors b v items n lt read is =
-    let of : Vec X Global → List Naming = λ v. map f v.items in
-    let inside : b < length vectors = let long = length-map vectors of in let same = n.one_each in omega arith in
-    let all : map f items ≡ get_or (held_in f vectors) b [] = ap (map f) is ∙ ap of read ∙ sym (get_or-map of vectors b v [] inside) in
+-- the namings of an agent that are read of all
+pub namings_read : {X : Type 0} {rows : List (List ℕ)} {others a k : ℕ} (f : X → Naming) (lists : List (List X)) (b : ℕ) (items : List X)
+    → AreNamings rows others a k (held_in f lists) → b < others → items ≡ get_or lists b [] → AreNamingsOf rows a k b (map f items)
+namings_read {X} {rows} {others} {a} {k} f lists b items n lt is =
+    let all : map f items ≡ get_or (held_in f lists) b [] = ap (map f) is ∙ sym (get_or-map_all (map f) lists b []) in
     rw all (n.of b lt)

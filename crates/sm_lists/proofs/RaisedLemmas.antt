@@ -1,14 +1,15 @@
 -- Lists that are raised.
-use Rattle.std.proofs.Common.{◌≡◌, ℕ, zero, suc, ◌+◌, ◌-◌, ◌<◌, ◌≤◌, ◌^◌, ◌++◌, ◌∷◌, [], List, length, map, take, replicate, get_or, refl, sym, ap, subst, ◌∙◌, arith, ⊎_elim}
+use Rattle.std.proofs.Common.{◌≡◌, ℕ, zero, suc, ◌+◌, ◌-◌, ◌<◌, ◌^◌, ◌++◌, ◌∷◌, [], List, length, map, take, replicate, get_or, refl, sym, ap, subst, ◌∙◌, arith, ⊎_elim}
 use Rattle.std.proofs.lemmas.Bool.{cases_lt}
 use Rattle.std.proofs.lemmas.List.{get_or_past, get_or-map, get_or-replicate, length-map, length-append, length-replicate, get_or_append_left, get_or-append_right}
 use Rattle.std.specs.List.{range_with_len}
 use Rattle.sm_lists.specs.Rows.{row, entry}
 use Rattle.sm_lists.proofs.RowLemmas.{row_in_range}
-use Rattle.sm_lists.specs.Raised.{raised, raised_from, raised_rows, raised_lists, AreRaises}
+use Rattle.sm_lists.specs.Raised.{raised, raised_lists}
+use Rattle.sm_lists.specs.Raises.{raised_from, raised_rows, AreRaises}
 
 -- raised by nothing
-raised_by_none : (list : List ℕ) → raised 0 list ≡ list
+pub raised_by_none : (list : List ℕ) → raised 0 list ≡ list
 raised_by_none [] = refl
 raised_by_none (n ∷ list) = ap (λ k. k ∷ raised 0 list) (let e : n + 0 ≡ n = omega arith in e) ∙ ap (λ t. n ∷ t) (raised_by_none list)
 
@@ -113,7 +114,7 @@ raises_same rows raises others small same = λ a i on more.
 
 -- nor where lists are added whose entries leave room for it
 pub raises_pushed : (rows : List (List ℕ)) (list : List ℕ) (count : ℕ) (raises others : List ℕ) → AreRaises rows raises → ((a : ℕ) → a < length rows → get_or others a 0 ≡ get_or raises a 0)
-    → ((k : ℕ) → k < count → get_or others (length rows + k) 0 ≡ k) → ((i : ℕ) → get_or list i 0 + count ≤ 2 ^ 32) → AreRaises (rows ++ replicate count list) others
+    → ((k : ℕ) → k < count → get_or others (length rows + k) 0 ≡ k) → ((i k : ℕ) → 0 < k → k < count → get_or list i 0 + k < 2 ^ 32) → AreRaises (rows ++ replicate count list) others
 raises_pushed rows list count raises others small old new room = λ a i on more.
     ⊎_elim
     (λ l.
@@ -130,6 +131,6 @@ raises_pushed rows list count raises others small old new room = λ a i on more.
     let e : get_or others a 0 ≡ k = ap (λ n. get_or others n 0) (let f : a ≡ length rows + k = omega arith in f) ∙ new k few in
     let is : row (rows ++ replicate count list) a ≡ list = get_or-append_right rows (replicate count list) (length rows) a [] refl l ∙ get_or-replicate count k list [] few in
     let entries = ap (λ t. get_or t i 0) is in
-    let fits = room i in
-    omega (arith, fits, e, entries, few))
+    let fits = room i k (omega (arith, more, e)) few in
+    omega (arith, fits, e, entries))
     (cases_lt a (length rows))

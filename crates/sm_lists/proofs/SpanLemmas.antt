@@ -3,7 +3,7 @@ use Rattle.std.proofs.Common.{◌≡◌, ℕ, zero, suc, ◌+◌, ◌-◌, ◌�
 use Rattle.std.proofs.lemmas.List.{map-append, take_all, take-append-le, drop-append-le, length-append, length-drop}
 use Rattle.std.proofs.Math.Seq.{drop-append_seam, take-length}
 use Rattle.std.specs.declared.alloc.Global.{Global}
-use Rattle.sm_lists.specs.declared.rows.Span.{Span}
+use Rattle.sm_lists.specs.declared.span.Span.{Span}
 use Rattle.sm_lists.specs.Spans.{no_span, list_in, rows_in, AreSpans}
 
 -- more entries behind a list change nothing of it

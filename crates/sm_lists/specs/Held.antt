@@ -1,11 +1,10 @@
--- How places and namings are held in vectors.
-use Rattle.std.specs.Prelude.{ℕ, ◌≤◌, ◌==◌, List, Vec, Option, Some, None, length, map, if◌then◌else◌}
-use Rattle.std.specs.declared.alloc.Global.{Global}
+-- How places and namings are held.
+use Rattle.std.specs.Prelude.{ℕ, ◌≤◌, ◌==◌, List, Option, Some, None, length, map, if◌then◌else◌}
 use Rattle.sm_lists.specs.Rows.{row}
 
--- what the items of some vectors stand for
-abbrev pub held_in : {X Y : Type 0} → (X → Y) → List (Vec X Global) → List (List Y)
-held_in f vectors = map (λ v. map f v.items) vectors
+-- what the items of some lists stand for
+abbrev pub held_in : {X Y : Type 0} → (X → Y) → List (List X) → List (List Y)
+held_in f lists = map (map f) lists
 
 -- the place that a number of four bytes stands for: itself, and none where it is the greatest
 abbrev pub place_in : ℕ → Option ℕ

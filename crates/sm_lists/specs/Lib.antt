@@ -8,6 +8,8 @@ pub mod Kept
 pub mod Sums
 pub mod Earlier
 pub mod Spans
+pub mod Packed
 pub mod Raised
+pub mod Raises
 pub mod Pairs
 pub mod Witnesses

@@ -1,6 +1,6 @@
 -- Lists that stand one behind another, each between two places of all entries.
 use Rattle.std.specs.Prelude.{ℕ, ◌-◌, ◌≤◌, List, map, take, drop, slice_index_or}
-use Rattle.sm_lists.specs.declared.rows.Span.{Span}
+use Rattle.sm_lists.specs.declared.span.Span.{Span}
 
 -- what stands for a span past the last
 abbrev pub no_span : Span

@@ -1,7 +1,8 @@
 -- Lists that share entries, written out.
 use Rattle.std.specs.Prelude.{◌≡◌, [], ◌∷◌}
 use Rattle.sm_lists.specs.Spans.{rows_in}
-use Rattle.sm_lists.specs.Raised.{raised_rows, raised_lists}
+use Rattle.sm_lists.specs.Raised.{raised_lists}
+use Rattle.sm_lists.specs.Raises.{raised_rows}
 
 -- two agents share a list, and the next has a list of its own and the last none
 abbrev pub SharedLists : Type 0

@@ -4,7 +4,7 @@
 //! Then each agent of the other side has a round, in which it is noted who stands where on its list, and where each names
 //! it. The first tells the cross places of the entries that name it, and the second those of its own entries.
 
-ghost use Rattle.std.specs.Prelude.{◌≡◌, ℕ, ◌+◌, ◌<◌, ◌≤◌, [], None, ◌^◌, List, length, map, replicate, slice_index_or, IfOk, IfSome, OnOk};
+ghost use Rattle.std.specs.Prelude.{◌≡◌, ◌≢◌, ℕ, ◌+◌, ◌<◌, ◌≤◌, [], ◌^◌, List, length, map, slice_index_or, IfOk, IfSome, OnOk};
 ghost use Rattle.sm_lists.specs.Rows.{row, lists_in};
 ghost use Rattle.sm_lists.specs.Limits.{AreWithinLimits};
 ghost use Rattle.sm_lists.specs.Crosses.{found_on, cross_place, AreCrossPlaces};
@@ -14,6 +14,7 @@ ghost use Rattle.sm_lists.specs.Kept.{noted_of, ArePlacesBefore};
 
 use crate::naming::{KeptNaming, Naming};
 use crate::notes::Notes;
+use crate::packed::Packed;
 use crate::place::KeptPlace;
 use std::alloc::{AllocError, Global};
 
@@ -21,11 +22,11 @@ use std::alloc::{AllocError, Global};
 #[derive(Drop)]
 pub struct CrossPlaces<C, N> {
     /// Beside each entry of the first side's lists.
-    pub rows: Vec<Vec<C>>,
+    pub rows: Packed<C>,
     /// Beside each entry of the second side's lists.
-    pub others: Vec<Vec<C>>,
+    pub others: Packed<C>,
     /// For each agent of the second side, by number and place.
-    pub namings: Vec<Vec<N>>,
+    pub namings: Packed<N>,
 }
 
 /// The cross places of any lists of two sides, and who of the first side names each agent of the second.
@@ -47,25 +48,25 @@ pub fn cross_places<C: KeptPlace, N: KeptNaming>(
     requires short_others { AreShort (lists_in others.now) C.most }
     requires few { AreShort (lists_in rows.now) N.most }
     ensures rows { IfOk result (λ c. AreCrossPlaces (lists_in rows.now) (lists_in others.now)
-        (held_in C.kept c.rows.items)) }
+        (held_in C.kept c.rows)) }
     ensures others { IfOk result (λ c. AreCrossPlaces (lists_in others.now) (lists_in rows.now)
-        (held_in C.kept c.others.items)) }
+        (held_in C.kept c.others)) }
     ensures namings { IfOk result (λ c. AreNamings (lists_in rows.now)
         (length (lists_in others.now))
-        (length (lists_in rows.now)) 0 (held_in N.kept c.namings.items)) }
+        (length (lists_in rows.now)) 0 (held_in N.kept c.namings)) }
 {
-    let namings: Vec<Vec<N>> = namings(alloc, rows, others)?;
-    let mut of_rows: Vec<Vec<C>> = unwritten(alloc, rows)?;
-    let mut of_others = Vec::with_capacity(alloc, others.len())?;
+    let namings: Packed<N> = namings(alloc, rows, others)?;
+    let mut of_rows: Packed<C> = Packed::filled(alloc, rows, C::of(None))?;
+    let mut of_others: Packed<C> = Packed::with_room(alloc, others, C::of(None))?;
     let mut listed = Notes::new(alloc, rows.len())?;
     let mut named = Notes::new(alloc, rows.len())?;
     for b in 0..others.len() as u32 {
         let list = lent_at(others, b);
-        let of_agent = namings[b as usize].as_slice();
+        let of_agent = namings.at(b);
         note_list(list, &mut listed);
         note_namings(of_agent, &mut named);
         write_places(of_agent, &listed, &mut of_rows);
-        of_others.push(places_of(alloc, list, &named)?)?;
+        add_places(list, &named, b, &mut of_others)?;
     }
     Ok(CrossPlaces {
         rows: of_rows,
@@ -82,39 +83,29 @@ fn lent_at<'a>(rows: &[&'a [u32]], a: u32) -> &'a [u32]
     rows[a as usize]
 }
 
-/// Who of one side names each agent of the other.
+/// Who of one side names each agent of the other. Each has room for as many as its list is long: whoever is named mostly names
+/// back.
 fn namings<N: KeptNaming>(
     alloc: Global,
     rows: &[&[u32]],
     others: &[&[u32]],
-) -> Result<Vec<Vec<N>>, AllocError>
+) -> Result<Packed<N>, AllocError>
     requires limits { AreWithinLimits (lists_in rows.now) }
+    requires others { AreWithinLimits (lists_in others.now) }
     requires few { AreShort (lists_in rows.now) N.most }
     ensures { IfOk result (λ n. AreNamings (lists_in rows.now) (length (lists_in others.now))
-        (length (lists_in rows.now)) 0 (held_in N.kept n.items)) }
+        (length (lists_in rows.now)) 0 (held_in N.kept n)) }
 {
-    let mut namings = room_for(alloc, others)?;
+    let mut namings = Packed::with_room(alloc, others, N::blank())?;
     for by in 0..rows.len() as u32 {
         add_namings(&mut namings, by, rows)?;
     }
     Ok(namings)
 }
 
-/// No namings yet, with room for as many of each agent as its list is long: whoever is named mostly names back.
-fn room_for<N: KeptNaming>(alloc: Global, others: &[&[u32]]) -> Result<Vec<Vec<N>>, AllocError>
-    ensures count { IfOk result (λ n. length (held_in N.kept n.items) ≡ length others.now) }
-    ensures empty { IfOk result (λ n. (b : ℕ) → slice_index_or (held_in N.kept n.items) b [] ≡ []) }
-{
-    let mut namings = Vec::with_capacity(alloc, others.len())?;
-    for list in others {
-        namings.push(Vec::with_capacity(alloc, list.len())?)?;
-    }
-    Ok(namings)
-}
-
 /// Adds the namings of one list.
 fn add_namings<N: KeptNaming>(
-    namings: &mut [Vec<N>],
+    namings: &mut Packed<N>,
     by: u32,
     rows: &[&[u32]],
 ) -> Result<(), AllocError>
@@ -128,24 +119,12 @@ fn add_namings<N: KeptNaming>(
 {
     let list = lent_at(rows, by);
     for place in 0..list.len() as u32 {
-        let named = list[place as usize] as usize;
-        if named < namings.len() {
-            namings[named].push(N::of(Naming { by, place }))?;
+        let named = list[place as usize];
+        if (named as usize) < namings.len() {
+            namings.push(named, N::of(Naming { by, place }))?;
         }
     }
     Ok(())
-}
-
-/// No cross place yet, beside each entry of these lists.
-fn unwritten<C: KeptPlace>(alloc: Global, rows: &[&[u32]]) -> Result<Vec<Vec<C>>, AllocError>
-    ensures { IfOk result (λ c. held_in C.kept c.items
-        ≡ map (λ list. replicate (length list) None) (lists_in rows.now)) }
-{
-    let mut crosses = Vec::with_capacity(alloc, rows.len())?;
-    for list in rows {
-        crosses.push(C::none(alloc, list.len())?)?;
-    }
-    Ok(crosses)
 }
 
 /// Notes, in a new round, each agent's first place on a list.
@@ -182,7 +161,7 @@ fn note_namings<N: KeptNaming>(namings: &[N], notes: &mut Notes)
 
 /// Writes the cross places of the entries that make these namings, where `notes` has the place of each agent on the list of
 /// the one that is named.
-fn write_places<C: KeptPlace, N: KeptNaming>(namings: &[N], notes: &Notes, crosses: &mut [Vec<C>])
+fn write_places<C: KeptPlace, N: KeptNaming>(namings: &[N], notes: &Notes, crosses: &mut Packed<C>)
     requires by { (e : ℕ) → e < length namings.now
         → (naming_at (map N.kept namings.now) e).by < length crosses.old }
     requires on_list { (e : ℕ) → e < length namings.now
@@ -198,19 +177,29 @@ fn write_places<C: KeptPlace, N: KeptNaming>(namings: &[N], notes: &Notes, cross
 {
     for naming in namings {
         let Naming { by, place } = naming.naming();
-        crosses[by as usize][place as usize] = C::of(notes.place(by));
+        crosses.put(by, place, C::of(notes.place(by)));
     }
 }
 
-/// The cross places of a list, where `notes` has what each agent's cross place is.
-fn places_of<C: KeptPlace>(alloc: Global, list: &[u32], notes: &Notes) -> Result<Vec<C>, AllocError>
-    requires { (a : ℕ) → IfSome (noted_of notes.now.places a) (λ place. place < C.most) }
-    ensures { IfOk result (λ crosses. map C.kept crosses.items
+/// Adds the cross places of an agent's list, where `notes` has what each agent's cross place is. None stands there yet.
+fn add_places<C: KeptPlace>(
+    list: &[u32],
+    notes: &Notes,
+    b: u32,
+    crosses: &mut Packed<C>,
+) -> Result<(), AllocError>
+    requires fits { (a : ℕ) → IfSome (noted_of notes.now.places a) (λ place. place < C.most) }
+    requires in_range { b < length crosses.old }
+    requires empty { slice_index_or crosses.old b [] ≡ [] }
+    ensures one_each { OnOk result (length crosses.new ≡ length crosses.old) }
+    ensures here { OnOk result (slice_index_or (held_in C.kept crosses.new) b []
         ≡ map (noted_of notes.now.places) list.now) }
+    ensures there { OnOk result ((c : ℕ) → c ≢ b
+        → slice_index_or (held_in C.kept crosses.new) c []
+        ≡ slice_index_or (held_in C.kept crosses.old) c []) }
 {
-    let mut crosses = Vec::with_capacity(alloc, list.len())?;
     for named in list {
-        crosses.push(C::of(notes.place(*named)))?;
+        crosses.push(b, C::of(notes.place(*named)))?;
     }
-    Ok(crosses)
+    Ok(())
 }

@@ -5,19 +5,23 @@
 //! of vectors. Lemmas are in `proofs`: places on a list, what one changed item changes, decisions and the pigeonhole.
 #![tactic(auto)]
 
+mod cells;
 mod crosses;
 mod naming;
 mod notes;
 mod numbers;
+mod packed;
 mod place;
 mod raised_rows;
 mod rows;
+mod span;
 mod vectors;
 pub mod witnesses;
 
 pub use crosses::{CrossPlaces, cross_places};
 pub use naming::{KeptNaming, Naming};
 pub use numbers::earlier;
+pub use packed::Packed;
 pub use place::KeptPlace;
 pub use raised_rows::RaisedRows;
 pub use rows::Rows;

@@ -18,6 +18,9 @@ pub trait KeptNaming: Copy {
     /// Numbers of agents and places are kept below this.
     ghost most: { ℕ };
 
+    /// Some naming, for room in which none is kept yet.
+    fn blank() -> Self;
+
     /// Keeps a naming.
     fn of(naming: Naming) -> Self
         requires by { naming.by < most }
@@ -35,6 +38,10 @@ impl KeptNaming for Naming {
     ghost most = { 2 ^ 24 };
 
     ghost use Rattle.std.specs.Prelude.{◌^◌};
+
+    fn blank() -> Naming {
+        Naming { by: 0, place: 0 }
+    }
 
     fn of(naming: Naming) -> Naming {
         naming

@@ -3,12 +3,10 @@
 ghost use Rattle.std.specs.Prelude.{◌-◌, ◌^◌};
 ghost use Rattle.sm_lists.specs.Held.{place_in};
 
-use std::alloc::{AllocError, Global};
-
 /// The place of an agent on a list, or none where it isn't on it, as it is kept: lists may be so short that places fit
 /// fewer bytes.
 pub trait KeptPlace: Copy {
-    ghost use Rattle.std.specs.Prelude.{◌≡◌, ℕ, Option, None, ◌<◌, IfSome, IfOk, map, replicate};
+    ghost use Rattle.std.specs.Prelude.{◌≡◌, ℕ, Option, ◌<◌, IfSome};
 
     /// The place.
     ghost kept: { Self → Option ℕ };
@@ -24,14 +22,6 @@ pub trait KeptPlace: Copy {
     /// The place, counted from 0.
     fn place(self) -> Option<u32>
         ensures { result ≡ Self.kept self };
-
-    /// As many as are asked for, none of which keeps a place.
-    ///
-    /// # Errors
-    ///
-    /// `AllocError` where memory ran out, and only then.
-    fn none(alloc: Global, count: usize) -> Result<Vec<Self>, AllocError>
-        ensures { IfOk result (λ cells. map Self.kept cells.items ≡ replicate count None) };
 }
 
 /// The place itself; the greatest number where there is none.
@@ -49,10 +39,5 @@ impl KeptPlace for u32 {
 
     fn place(self) -> Option<u32> {
         if self == u32::MAX { None } else { Some(self) }
-    }
-
-    #[tactic(auto, using(crate::proofs::CrossLemmas::map_copies))]
-    fn none(alloc: Global, count: usize) -> Result<Vec<u32>, AllocError> {
-        Ok(vec![in alloc; u32::MAX; count]?)
     }
 }

@@ -1,33 +1,38 @@
 //! Lists that share their entries but for a number that is added to each.
 
-ghost use Rattle.std.specs.Prelude.{◌≡◌, ℕ, ◌+◌, ◌<◌, ◌≤◌, ◌^◌, ◌++◌, [], length, slice_index, IfOk, OnOk, OnErr};
+ghost use Rattle.std.specs.Prelude.{◌≡◌, ℕ, ◌+◌, ◌<◌, ◌≤◌, ◌^◌, ◌++◌, ◌∷◌, [], length, slice_index, IfOk, OnOk, OnErr};
 ghost use Rattle.sm_lists.specs.Rows.{row, entry};
+ghost use Rattle.sm_lists.specs.Spans.{rows_in, AreSpans};
 ghost use Rattle.sm_lists.specs.Raised.{raised_lists};
 
+use crate::cells::Cells;
 use crate::rows::Rows;
+use crate::span::Span;
 use std::alloc::{AllocError, Global};
 use std::marker::Model;
 
 /// The lists of one side's agents, of which some are others raised: a number is added to each entry.
 ///
 /// Agents and places are numbered from 0. A list and those that it is raised to share their entries, so that they take hardly
-/// more memory than one of them.
+/// more memory than one of them. What is pushed takes two bytes an entry, and four from the first list on with one too great.
 #[derive(Debug, Drop)]
 pub struct RaisedRows {
-    rows: Rows,
+    entries: Cells,
+    spans: Vec<Span>,
     /// By how much each agent's list is raised. One past the last isn't.
     raises: Vec<u32>,
 }
 
 impl Model for RaisedRows {
     ghost use Rattle.std.specs.Prelude.{ℕ, List};
-    ghost use Rattle.sm_lists.specs.Raised.{raised_rows, AreRaises};
+    ghost use Rattle.sm_lists.specs.Spans.{rows_in};
+    ghost use Rattle.sm_lists.specs.Raises.{raised_rows, AreRaisedSpans};
 
     ghost Value = { List (List ℕ) };
 
-    ghost view = { λ r. raised_rows r.rows r.raises.items };
+    ghost view = { λ r. raised_rows (rows_in r.entries r.spans.items) r.raises.items };
 
-    ghost invariant = { λ r. AreRaises r.rows r.raises.items };
+    ghost invariant = { λ r. AreRaisedSpans r.entries r.spans.items r.raises.items };
 }
 
 impl RaisedRows {
@@ -44,7 +49,8 @@ impl RaisedRows {
         ensures { IfOk result (λ rows. rows ≡ []) }
     {
         Ok(RaisedRows {
-            rows: Rows::with_capacity(alloc, lists, entries)?,
+            entries: Cells::with_capacity(alloc, entries)?,
+            spans: Vec::with_capacity(alloc, lists)?,
             raises: Vec::with_capacity(alloc, lists)?,
         })
     }
@@ -53,10 +59,28 @@ impl RaisedRows {
     pub fn level(alloc: Global, rows: Rows) -> RaisedRows
         ensures { result ≡ rows }
     {
+        let (entries, spans) = rows.into_parts();
         RaisedRows {
-            rows,
+            entries: Cells::wide(alloc, entries),
+            spans,
             raises: Vec::new(alloc),
         }
+    }
+
+    /// Adds a list that isn't raised. Takes time in proportion to it.
+    ///
+    /// # Errors
+    ///
+    /// Those of [`Rows::push`].
+    pub fn push(&mut self, list: &[u32]) -> Result<(), AllocError>
+        ensures pushed { OnOk result (self.new ≡ self.old ++ list.now ∷ []) }
+        ensures kept { OnErr result (self.new ≡ self.old) }
+    {
+        let agents = self.spans.len();
+        let span = add_entries(&mut self.entries, list)?;
+        self.spans.push(span)?;
+        self.raises.truncate(agents);
+        Ok(())
     }
 
     /// Adds a list for each of so many agents: this one for the first, and for each other the list of the one before it with
@@ -70,9 +94,13 @@ impl RaisedRows {
         ensures pushed { OnOk result (self.new ≡ self.old ++ raised_lists list.now count) }
         ensures kept { OnErr result (self.new ≡ self.old) }
     {
-        let agents = self.rows.len();
+        if count == 0 {
+            return Ok(());
+        }
+        let agents = self.spans.len();
+        let span = add_entries(&mut self.entries, list)?;
         self.raises.resize(agents + count as usize, 0)?;
-        self.rows.push_shared(list, count)?;
+        self.spans.resize(agents + count as usize, span)?;
         count_from(&mut self.raises, agents);
         Ok(())
     }
@@ -83,7 +111,7 @@ impl RaisedRows {
         requires on_list { place < length (row self.now a) }
         ensures { result ≡ entry self.now a place }
     {
-        let entry = self.rows.entry_at(a, place);
+        let entry = entry_in(&self.entries, &self.spans, a, place);
         match self.raises.get(a as usize) {
             Some(raise) => entry + *raise,
             None => entry,
@@ -99,10 +127,34 @@ impl RaisedRows {
         ensures { IfOk result (λ copy. copy ≡ self.now) }
     {
         Ok(RaisedRows {
-            rows: self.rows.copy(alloc)?,
+            entries: self.entries.copy(alloc)?,
+            spans: Vec::from_slice(alloc, &self.spans)?,
             raises: Vec::from_slice(alloc, &self.raises)?,
         })
     }
+}
+
+/// Adds the entries of a list behind the others, and tells where they stand.
+fn add_entries(entries: &mut Cells, list: &[u32]) -> Result<Span, AllocError>
+    ensures added { OnOk result (entries.new ≡ entries.old ++ list.now) }
+    ensures start { IfOk result (λ span. span.start ≡ length entries.old) }
+    ensures end { IfOk result (λ span. span.end ≡ length entries.new) }
+    ensures kept { OnErr result (entries.new ≡ entries.old) }
+{
+    let span = Span::behind(entries.len(), list.len())?;
+    entries.extend(list)?;
+    Ok(span)
+}
+
+/// What an agent's list has at a place, before it is raised.
+fn entry_in(entries: &Cells, spans: &[Span], a: u32, place: u32) -> u32
+    requires spans { AreSpans (length entries.now) spans.now }
+    requires in_range { a < length spans.now }
+    requires on_list { place < length (row (rows_in entries.now spans.now) a) }
+    ensures { result ≡ entry (rows_in entries.now spans.now) a place }
+{
+    let Span { start, .. } = spans[a as usize];
+    entries.at(start as usize + place as usize)
 }
 
 /// Writes 0, 1, 2 and so on from a place on.

@@ -2,16 +2,12 @@
 
 ghost use Rattle.std.specs.Prelude.{◌≡◌, ℕ, ◌<◌, ◌^◌, ◌++◌, ◌∷◌, [], length, replicate, IfOk, OnOk, OnErr};
 ghost use Rattle.sm_lists.specs.Rows.{rows_of, row, entry};
+ghost use Rattle.sm_lists.specs.Spans.{rows_in, AreSpans};
 
+use crate::packed::Packed;
+use crate::span::Span;
 use std::alloc::{AllocError, Global};
 use std::marker::Model;
-
-/// Where a list stands: from an entry on, up to another.
-#[derive(Clone, Copy, Debug)]
-struct Span {
-    start: u32,
-    end: u32,
-}
 
 /// The lists of one side's agents, one behind another.
 ///
@@ -60,6 +56,22 @@ impl Rows {
         let mut rows = Rows::with_capacity(alloc, vectors.len(), entries_of(vectors))?;
         for vector in vectors {
             rows.push(vector)?;
+        }
+        Ok(rows)
+    }
+
+    /// The lists that are packed. Takes time and memory in proportion to the lists and their entries.
+    ///
+    /// # Errors
+    ///
+    /// Those of [`Rows::push`].
+    pub fn of_packed(alloc: Global, packed: &Packed<u32>) -> Result<Rows, AllocError>
+        requires { length packed.now < 2 ^ 32 }
+        ensures { IfOk result (λ rows. rows ≡ packed.now) }
+    {
+        let mut rows = Rows::with_capacity(alloc, packed.len(), 0)?;
+        for a in 0..packed.len() as u32 {
+            rows.push(packed.at(a))?;
         }
         Ok(rows)
     }
@@ -124,6 +136,15 @@ impl Rows {
         self.entries[start as usize + place as usize]
     }
 
+    /// All entries, and where the list of each agent stands among them.
+    pub(crate) fn into_parts(self) -> (Vec<u32>, Vec<Span>)
+        ensures spans { AreSpans (length result.0.items) result.1.items }
+        ensures lists { rows_in result.0.items result.1.items ≡ self }
+    {
+        let Rows { entries, spans } = self;
+        (entries, spans)
+    }
+
     /// The same lists. Takes time and memory in proportion to the lists and their entries, where shared ones count once.
     ///
     /// # Errors
@@ -146,16 +167,9 @@ fn add_entries(entries: &mut Vec<u32>, list: &[u32]) -> Result<Span, AllocError>
     ensures end { IfOk result (λ span. span.end ≡ length entries.new.items) }
     ensures kept { OnErr result (entries.new.items ≡ entries.old.items) }
 {
-    let start = entries.len();
-    let end = start + list.len();
-    if end > u32::MAX as usize {
-        return Err(AllocError);
-    }
+    let span = Span::behind(entries.len(), list.len())?;
     entries.extend_from_slice(list)?;
-    Ok(Span {
-        start: start as u32,
-        end: end as u32,
-    })
+    Ok(span)
 }
 
 /// How many entries these lists have, or the greatest number where they are more.

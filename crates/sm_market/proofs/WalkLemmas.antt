@@ -1,13 +1,10 @@
 -- Walking a list whose cross places are known, to its first fault; and the cross positions of sound lists.
-use Rattle.std.proofs.Common.{◌≡◌, ◌≢◌, ℕ, ◌+◌, ◌<◌, ◌≤◌, List, [], Vec, Option, Some, None, Bool, true, false, if◌then◌else◌, eqb, length, map, get_or, set, refl, sym, ap, subst, ◌∙◌, arith, ⊎_elim}
+use Rattle.std.proofs.Common.{◌≡◌, ◌≢◌, ℕ, ◌+◌, ◌<◌, ◌≤◌, List, [], Option, Some, None, Bool, true, false, if◌then◌else◌, eqb, length, map, get_or, set, refl, sym, ap, subst, ◌∙◌, arith, ⊎_elim}
 use Rattle.std.proofs.lemmas.Bool.{cases_lt}
 use Rattle.std.proofs.lemmas.List.{get_or-map, get_or_past, length-map, length-set}
-use Rattle.std.proofs.lemmas.Simd.{map-map}
 use Rattle.std.proofs.Math.ListN.{get_or-map as get_or-map_all}
 use Rattle.std.proofs.lemmas.Option.{same_Some, none-some}
-use Rattle.std.specs.declared.alloc.Global.{Global}
 use Rattle.sm_market.specs.Lists.{row, entry, place_of}
-use Rattle.sm_market.specs.Vectors.{rows_of}
 use Rattle.sm_market.specs.Crosses.{AreCrosses}
 use Rattle.sm_market.specs.Entries.{IsSound, AreSound}
 use Rattle.sm_lists.specs.Crosses.{cross_place, AreCrossPlacesOf, AreCrossPlaces}
@@ -69,14 +66,10 @@ cross_at crosses c i on =
     let same = c.as_long in
     sym (get_or-map place_in crosses i 0 None (omega arith)) ∙ c.places i on
 
--- the cross places of a list, as they are read of its vector
-pub crosses_read : {rows others : List (List ℕ)} (vectors : List (Vec ℕ Global)) (a : ℕ) → AreCrossPlaces rows others (held_in place_in vectors) → a < length rows
-    → AreCrossPlacesOf rows others a (map place_in (row (rows_of vectors) a))
-crosses_read {rows} {others} vectors a c inside =
-    let items : Vec ℕ Global → List ℕ = λ v. v.items in
-    let read : get_or (held_in place_in vectors) a [] ≡ map place_in (row (rows_of vectors) a) =
-    ap (λ lists. get_or lists a []) (sym (map-map (map place_in) items vectors)) ∙ get_or-map_all (map place_in) (rows_of vectors) a [] in
-    subst (AreCrossPlacesOf rows others a) read (c.of a inside)
+-- the cross places of a list, as they are read of all
+pub crosses_read : {rows others : List (List ℕ)} (crosses : List (List ℕ)) (a : ℕ) → AreCrossPlaces rows others (held_in place_in crosses) → a < length rows
+    → AreCrossPlacesOf rows others a (map place_in (row crosses a))
+crosses_read {rows} {others} crosses a c inside = subst (AreCrossPlacesOf rows others a) (get_or-map_all (map place_in) crosses a []) (c.of a inside)
 
 -- beside sound entries the cross places are places
 pub place_in-some : (n i : ℕ) → place_in n ≡ Some i → n ≡ i
@@ -87,18 +80,18 @@ place_in-some n i is = go (eqb n 4294967295) is
     go false e = same_Some n i e
 
 -- the cross places that are found on sound lists are their cross positions
-pub crosses_sound : {rows others : List (List ℕ)} (vectors : List (Vec ℕ Global)) → AreCrossPlaces rows others (held_in place_in vectors) → AreSound rows others → AreCrosses rows others (rows_of vectors)
-crosses_sound {rows} {others} vectors c sound =
-    let long : length (rows_of vectors) ≡ length rows = length-map vectors (λ v. v.items) ∙ sym (length-map vectors (λ v. map place_in v.items)) ∙ c.one_each in
+pub crosses_sound : {rows others : List (List ℕ)} (crosses : List (List ℕ)) → AreCrossPlaces rows others (held_in place_in crosses) → AreSound rows others → AreCrosses rows others crosses
+crosses_sound {rows} {others} crosses c sound =
+    let long : length crosses ≡ length rows = sym (length-map crosses (map place_in)) ∙ c.one_each in
     record {
       one_each = long;
       as_long = λ a. ⊎_elim
-          (λ inside. sym (length-map (row (rows_of vectors) a) place_in) ∙ (crosses_read vectors a c inside).as_long)
-          (λ past. ap length (get_or_past (rows_of vectors) a [] (omega arith)) ∙ sym (ap length (get_or_past rows a [] past)))
+          (λ inside. sym (length-map (row crosses a) place_in) ∙ (crosses_read crosses a c inside).as_long)
+          (λ past. ap length (get_or_past crosses a [] (omega arith)) ∙ sym (ap length (get_or_past rows a [] past)))
           (cases_lt a (length rows));
       places = λ a i on.
-          let at = cross_at (row (rows_of vectors) a) (crosses_read vectors a c (row_in_range rows a i on)) i on in
-          found (get_or (row (rows_of vectors) a) i 0) (entry rows a i) a (place_in (get_or (row (rows_of vectors) a) i 0)) refl at (sound.sound a i on).returned;
+          let at = cross_at (row crosses a) (crosses_read crosses a c (row_in_range rows a i on)) i on in
+          found (get_or (row crosses a) i 0) (entry rows a i) a (place_in (get_or (row crosses a) i 0)) refl at (sound.sound a i on).returned;
     }
   where
     found : (n b a : ℕ) (o : Option ℕ) → place_in n ≡ o → o ≡ cross_place others b a → place_of others b a < length (row others b) → n ≡ place_of others b a

@@ -11,7 +11,7 @@ ghost use Rattle.sm_market.specs.Entries.{IsSound, AreSound};
 ghost use Rattle.sm_market.specs.MarketFaults.{IsFirstFaultOf};
 
 use crate::faults::{MarketFault, Side};
-use sm_lists::{KeptPlace, list_at};
+use sm_lists::{KeptPlace, Packed, list_at};
 use std::alloc::Global;
 
 /// Finds the first faulty entry of the lists of one side, which are named as those of `side`. Where there is none, the cross
@@ -21,21 +21,21 @@ pub(crate) fn check_entries(
     side: Side,
     rows: &[Vec<u32>],
     others: &[Vec<u32>],
-    crosses: &[Vec<u32>],
+    crosses: &Packed<u32>,
 ) -> Result<(), MarketFault>
     requires rows { AreWithinLimits (rows_of rows.now) }
     requires crosses { AreCrossPlaces (rows_of rows.now) (rows_of others.now)
         (held_in place_in crosses.now) }
     ensures sound { OnOk result (AreSound (rows_of rows.now) (rows_of others.now)) }
     ensures crosses { OnOk result (AreCrosses (rows_of rows.now) (rows_of others.now)
-        (rows_of crosses.now)) }
+        crosses.now) }
     ensures fault { IfErr result (λ f. IsFirstFaultOf side (rows_of rows.now)
         (rows_of others.now) f) }
 {
     let mut met = vec![in alloc; 0; others.len()]?;
     let met = met.as_mut_slice();
     for a in 0..rows.len() as u32 {
-        check_list(side, a, rows, others, list_at(crosses, a), met)?;
+        check_list(side, a, rows, others, crosses.at(a), met)?;
     }
     Ok(())
 }

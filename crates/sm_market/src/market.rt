@@ -90,8 +90,8 @@ impl Market {
         Ok(Market {
             proposer_lists: joined(alloc, proposer_lists)?,
             reviewer_lists: joined(alloc, reviewer_lists)?,
-            proposer_crosses: RaisedRows::level(alloc, joined(alloc, proposer_crosses)?),
-            reviewer_crosses: RaisedRows::level(alloc, joined(alloc, reviewer_crosses)?),
+            proposer_crosses: RaisedRows::level(alloc, Rows::of_packed(alloc, &proposer_crosses)?),
+            reviewer_crosses: RaisedRows::level(alloc, Rows::of_packed(alloc, &reviewer_crosses)?),
         })
     }
 
@@ -261,10 +261,10 @@ fn crosses_of(
     requires { IsWithinLimits (lists_of proposers.now reviewers.now) }
     ensures proposers { IfOk result (λ c. AreCrossPlaces (rows_of proposers.now)
         (rows_of reviewers.now)
-        (held_in place_in c.rows.items)) }
+        (held_in place_in c.rows)) }
     ensures reviewers { IfOk result (λ c. AreCrossPlaces (rows_of reviewers.now)
         (rows_of proposers.now)
-        (held_in place_in c.others.items)) }
+        (held_in place_in c.others)) }
 {
     let proposers = lent(alloc, proposers)?;
     let reviewers = lent(alloc, reviewers)?;

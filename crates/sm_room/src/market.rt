@@ -9,7 +9,7 @@ ghost use Rattle.sm_theory.specs.Rooms.{AreRoomLists};
 
 use crate::entries::check_entries;
 use crate::faults::RoomFault;
-use sm_lists::{CrossPlaces, KeptPlace, Naming, cross_places, entry_at, lent, list_at};
+use sm_lists::{CrossPlaces, KeptPlace, Naming, Packed, cross_places, entry_at, lent, list_at};
 use std::alloc::{AllocError, Global};
 use std::marker::Model;
 
@@ -17,7 +17,7 @@ use std::marker::Model;
 #[derive(Debug, Drop)]
 pub struct RoomMarket {
     lists: Vec<Vec<u32>>,
-    crosses: Vec<Vec<u32>>,
+    crosses: Packed<u32>,
 }
 
 impl Model for RoomMarket {
@@ -29,7 +29,7 @@ impl Model for RoomMarket {
 
     ghost view = { λ m. rows_of m.lists.items };
 
-    ghost invariant = { λ m. AreRoomsKept (rows_of m.lists.items) (rows_of m.crosses.items) };
+    ghost invariant = { λ m. AreRoomsKept (rows_of m.lists.items) m.crosses };
 }
 
 impl RoomMarket {
@@ -115,7 +115,7 @@ impl RoomMarket {
         requires on_list { place < length (row self.now x) }
         ensures { result ≡ place_of self.now (entry self.now x place) x }
     {
-        match entry_at(&self.crosses, x, place).place() {
+        match self.crosses.at(x)[place as usize].place() {
             Some(cross) => cross,
             None => self.len(self.at(x, place)),
         }
@@ -123,10 +123,10 @@ impl RoomMarket {
 }
 
 /// The cross places of the lists, which are those of both sides.
-fn crosses_of(alloc: Global, lists: &[Vec<u32>]) -> Result<Vec<Vec<u32>>, AllocError>
+fn crosses_of(alloc: Global, lists: &[Vec<u32>]) -> Result<Packed<u32>, AllocError>
     requires { AreWithinLimits (rows_of lists.now) }
     ensures { IfOk result (λ c. AreCrossPlaces (rows_of lists.now) (rows_of lists.now)
-        (held_in place_in c.items)) }
+        (held_in place_in c)) }
 {
     let lent = lent(alloc, lists)?;
     let crosses: CrossPlaces<u32, Naming> = cross_places(alloc, &lent, &lent)?;

@@ -1,6 +1,6 @@
 -- What the definitions of closed sets and of conditions ask can be decided, and so can be searched for the set whose vector is
 -- the least.
-use Rattle.std.proofs.Common.{◌≡◌, ℕ, ◌<◌, ◌⊎◌, inl, inr, arith, refl, sym, ap, ◌∙◌, List, length, Option, None, Some, Bool, slice_index, slice_index_or}
+use Rattle.std.proofs.Common.{◌≡◌, ℕ, ◌<◌, ◌⊎◌, inl, inr, refl, sym, ap, ◌∙◌, List, length, Option, None, Some, Bool, slice_index, slice_index_or}
 use Rattle.std.proofs.lemmas.Option.{none-some, same_Some}
 use Rattle.sm_market.specs.Lists.{Lists, row, place_of}
 use Rattle.sm_market.specs.Matching.{Places, held}

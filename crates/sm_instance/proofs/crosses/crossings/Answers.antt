@@ -6,7 +6,7 @@ use Rattle.sm_lists.specs.Held.{held_in, AreShort}
 use Rattle.sm_lists.specs.Namings.{AreNamings as AreKnown}
 use Rattle.sm_text.specs.Limits.{most_agents}
 use Rattle.sm_instance.specs.Written.{AgentData, lists_of}
-use Rattle.sm_instance.specs.Vectors.{agents_of, crosses_of}
+use Rattle.sm_instance.specs.Vectors.{agents_of}
 use Rattle.sm_instance.specs.declared.namings.Naming.{Naming}
 use Rattle.sm_instance.proofs.CrossLemmas.{lists_short, crosses_known, held_in-places, namings_known}
 use Rattle.sm_instance.proofs.crosses.crossings.Goals as goal
@@ -33,10 +33,10 @@ returns-clause-proposers c =
     let is : lists_in c.deref.result.now ≡ lists_of proposers = ap (λ lent. lists_in lent) c.deref.ensures.value ∙ c.in_ok-proposers.ensures in
     let is' : lists_in c.deref-2.result.now ≡ lists_of reviewers = ap (λ lent. lists_in lent) c.deref-2.ensures.value ∙ c.in_ok-reviewers.ensures in
     let found = c.in_ok-found.found in
-    crosses_known proposers reviewers (crosses_of found.rows.items)
-    (subst (λ x. AreCrossesOf (lists_of proposers) (lists_of reviewers) x) (held_in-places found.rows.items)
-    (subst (λ x. AreCrossesOf (lists_of proposers) x (held_in (λ (place : Option ℕ). place) found.rows.items)) is'
-    (subst (λ x. AreCrossesOf x (lists_in c.deref-2.result.now) (held_in (λ (place : Option ℕ). place) found.rows.items)) is c.in_ok-found.ensures.rows)))
+    crosses_known proposers reviewers found.rows
+    (subst (λ x. AreCrossesOf (lists_of proposers) (lists_of reviewers) x) (held_in-places found.rows)
+    (subst (λ x. AreCrossesOf (lists_of proposers) x (held_in (λ (place : Option ℕ). place) found.rows)) is'
+    (subst (λ x. AreCrossesOf x (lists_in c.deref-2.result.now) (held_in (λ (place : Option ℕ). place) found.rows)) is c.in_ok-found.ensures.rows)))
 
 pub returns-clause-reviewers : goal.returns-clause-reviewers
 returns-clause-reviewers c =
@@ -45,10 +45,10 @@ returns-clause-reviewers c =
     let is : lists_in c.deref.result.now ≡ lists_of proposers = ap (λ lent. lists_in lent) c.deref.ensures.value ∙ c.in_ok-proposers.ensures in
     let is' : lists_in c.deref-2.result.now ≡ lists_of reviewers = ap (λ lent. lists_in lent) c.deref-2.ensures.value ∙ c.in_ok-reviewers.ensures in
     let found = c.in_ok-found.found in
-    crosses_known reviewers proposers (crosses_of found.others.items)
-    (subst (λ x. AreCrossesOf (lists_of reviewers) (lists_of proposers) x) (held_in-places found.others.items)
-    (subst (λ x. AreCrossesOf (lists_of reviewers) x (held_in (λ (place : Option ℕ). place) found.others.items)) is
-    (subst (λ x. AreCrossesOf x (lists_in c.deref.result.now) (held_in (λ (place : Option ℕ). place) found.others.items)) is' c.in_ok-found.ensures.others)))
+    crosses_known reviewers proposers found.others
+    (subst (λ x. AreCrossesOf (lists_of reviewers) (lists_of proposers) x) (held_in-places found.others)
+    (subst (λ x. AreCrossesOf (lists_of reviewers) x (held_in (λ (place : Option ℕ). place) found.others)) is
+    (subst (λ x. AreCrossesOf x (lists_in c.deref.result.now) (held_in (λ (place : Option ℕ). place) found.others)) is' c.in_ok-found.ensures.others)))
 
 pub returns-clause-namings : goal.returns-clause-namings
 returns-clause-namings c =
@@ -58,7 +58,7 @@ returns-clause-namings c =
     let is' : lists_in c.deref-2.result.now ≡ lists_of reviewers = ap (λ lent. lists_in lent) c.deref-2.ensures.value ∙ c.in_ok-reviewers.ensures in
     let many : length (lists_of reviewers) ≡ length reviewers = length-map reviewers (λ (x : AgentData). x.entries) in
     let found = c.in_ok-found.found in
-    let Held : List (List ℕ) → ℕ → Type 0 = λ rows others. AreKnown rows others (length rows) 0 (held_in (λ (n : Naming). record { by = n.by; place = n.place }) found.namings.items) in
-    namings_known found.namings.items c.requires.proposers
+    let Held : List (List ℕ) → ℕ → Type 0 = λ rows others. AreKnown rows others (length rows) 0 (held_in (λ (n : Naming). record { by = n.by; place = n.place }) found.namings) in
+    namings_known found.namings c.requires.proposers
     (subst (λ n. Held (lists_of proposers) n) (ap length is' ∙ many)
     (subst (λ x. Held x (length (lists_in c.deref-2.result.now))) is c.in_ok-found.ensures.namings))

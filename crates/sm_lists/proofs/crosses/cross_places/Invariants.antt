@@ -1,4 +1,4 @@
-use Rattle.std.proofs.Common.{◌≡◌, ℕ, ◌+◌, ◌<◌, [], length, get_or}
+use Rattle.std.proofs.Common.{◌≡◌, ℕ, ◌+◌, ◌<◌, ◌≤◌, [], length, get_or}
 use Rattle.sm_lists.specs.Crosses.{AreCrossPlacesOf}
 use Rattle.sm_lists.specs.Rows.{lists_in}
 use Rattle.sm_lists.specs.Held.{held_in}
@@ -11,7 +11,8 @@ invariant-loop-b g l = record {
   named_rounds : l.named.rounds ≡ l.b + 1;
   listed_long : length l.listed.places ≡ length l.rows;
   named_long : length l.named.places ≡ length l.rows;
-  before : ArePlacesBefore (lists_in l.rows) (lists_in l.others) l.b (held_in g.C.KeptPlace.kept l.of_rows.items);
-  back_each : length (held_in g.C.KeptPlace.kept l.of_others.items) ≡ l.b;
-  back_of : (c : ℕ) → c < l.b → AreCrossPlacesOf (lists_in l.others) (lists_in l.rows) c (get_or (held_in g.C.KeptPlace.kept l.of_others.items) c []);
+  before : ArePlacesBefore (lists_in l.rows) (lists_in l.others) l.b (held_in g.C.KeptPlace.kept l.of_rows);
+  back_each : length l.of_others ≡ length l.others;
+  back_of : (c : ℕ) → c < l.b → AreCrossPlacesOf (lists_in l.others) (lists_in l.rows) c (get_or (held_in g.C.KeptPlace.kept l.of_others) c []);
+  back_empty : (c : ℕ) → l.b ≤ c → get_or l.of_others c [] ≡ [];
 }

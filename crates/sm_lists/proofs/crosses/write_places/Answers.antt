@@ -10,8 +10,8 @@ use Rattle.sm_lists.proofs.NamingLemmas.{naming_read}
 use Rattle.sm_lists.proofs.CrossLemmas.{AreWritten, held_in-written, lengths_kept, length-held_in, written_more, written_all}
 use Rattle.sm_lists.proofs.crosses.write_places.Goals as goal
 
-pub bounds-crosses-by : goal.bounds-crosses-by
-bounds-crosses-by g c =
+pub put-requires-clause-in_range : goal.put-requires-clause-in_range
+put-requires-clause-in_range g c =
     let k = c.loop-naming.naming-index in
     let read = naming_read g.N.KeptNaming.kept c.args.namings.now k c.naming-item.result c.naming-by.result c.loop-naming-test.true c.naming-item.is c.naming-by.ensures in
     let by = ap (λ (y : Naming). y.by) read in
@@ -19,21 +19,16 @@ bounds-crosses-by g c =
     let same = c.loop-naming.invariant.one_each in
     omega arith
 
-pub index_mut-requires : goal.index_mut-requires
-index_mut-requires g c =
+pub put-requires-clause-on_list : goal.put-requires-clause-on_list
+put-requires-clause-on_list g c =
     let k = c.loop-naming.naming-index in
     let read = naming_read g.N.KeptNaming.kept c.args.namings.now k c.naming-item.result c.naming-by.result c.loop-naming-test.true c.naming-item.is c.naming-by.ensures in
     let y : Naming = c.naming-by.result in
     let old = held_in g.C.KeptPlace.kept c.args.crosses.now in
     let On : Naming → Type 0 = λ z. z.place < length (get_or old z.by []) in
     let on : On y = subst On (sym read) (c.requires.on_list k c.loop-naming-test.true) in
-    let by = ap (λ (y : Naming). y.by) read in
-    let in_range = c.requires.by k c.loop-naming-test.true in
-    let same = c.loop-naming.invariant.one_each in
     let as_long = c.loop-naming.invariant.as_long y.by in
-    let here = length-held_in g.C.KeptPlace.kept c.loop-naming.crosses y.by c.index-crosses-by.result (omega arith) in
-    let v = get_or c.loop-naming.crosses y.by c.index-crosses-by.result in
-    let len = v.ok.0 in
+    let here = length-held_in g.C.KeptPlace.kept c.loop-naming.crosses y.by in
     omega arith
 
 pub loop-naming-preserved : goal.loop-naming-preserved
@@ -44,16 +39,13 @@ loop-naming-preserved g c =
     let namings : List Naming = map g.N.KeptNaming.kept c.args.namings.now in
     let read : y ≡ naming_at namings k = naming_read g.N.KeptNaming.kept c.args.namings.now k c.naming-item.result y c.loop-naming-test.true c.naming-item.is c.naming-by.ensures in
     let by = ap (λ (y : Naming). y.by) read in
-    let in_range = c.requires.by k c.loop-naming-test.true in
-    let same = c.loop-naming.invariant.one_each in
-    let inside : y.by < length c.loop-naming.crosses = omega arith in
     let before = c.loop-naming.invariant in
-    let vectors = c.loop-naming.crosses in
-    let crosses : List (List (Option ℕ)) = held_in f vectors in
+    let lists = c.loop-naming.crosses in
+    let crosses : List (List (Option ℕ)) = held_in f lists in
     let o : Option ℕ = f c.of.result in
-    let new = held_in-written f vectors y.by y.place c.of.result c.index-crosses-by.result inside in
+    let new = ap (map (map f)) c.put.ensures ∙ held_in-written f lists y.by y.place c.of.result in
     record {
-      one_each = length-set vectors y.by _ ∙ before.one_each;
+      one_each = ap (λ l. length l) c.put.ensures ∙ length-set lists y.by _ ∙ before.one_each;
       as_long = λ a. ap (λ (l : List (List (Option ℕ))). length (get_or l a [])) new ∙ lengths_kept crosses y.by y.place o a ∙ before.as_long a;
       written = λ rows others b named notes start.
           let lt : k < length namings = let long = length-map c.args.namings.now g.N.KeptNaming.kept in omega arith in

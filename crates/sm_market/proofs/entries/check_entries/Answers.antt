@@ -12,7 +12,7 @@ check_list-requires-clause-crosses c =
     let rows = rows_of c.args.rows.now in
     let others = rows_of c.args.others.now in
     let long = length-map c.args.rows.now (λ v. v.items) in
-    subst (λ (list : List ℕ). AreCrossPlacesOf rows others c.loop-a.a (map place_in list)) (sym c.list_at.ensures)
+    subst (λ (list : List ℕ). AreCrossPlacesOf rows others c.loop-a.a (map place_in list)) (sym c.at.ensures)
     (crosses_read c.args.crosses.now c.loop-a.a c.requires.crosses (omega arith))
 
 pub returns-clause-crosses : goal.returns-clause-crosses

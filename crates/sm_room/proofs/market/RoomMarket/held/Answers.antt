@@ -2,4 +2,4 @@ use Rattle.sm_theory.proofs.Room.Kept.{rooms_kept}
 use Rattle.sm_room.proofs.market.RoomMarket.held.Goals as goal
 
 pub invariant_of-result : goal.invariant_of-result
-invariant_of-result c = rooms_kept c.in_ok-crosses.crosses.items c.requires.sound c.requires.limits (rw c.deref.ensures.value at c.in_ok-crosses.ensures)
+invariant_of-result c = rooms_kept c.in_ok-crosses.crosses c.requires.sound c.requires.limits (rw c.deref.ensures.value at c.in_ok-crosses.ensures)

@@ -1,0 +1,277 @@
+-- Lists of which each stands between two places of all items, with room behind it.
+use Rattle.std.proofs.Common.{Bor, Vec, ◌≡◌, ◌≢◌, ℕ, zero, suc, ◌+◌, ◌-◌, ◌<◌, ◌≤◌, ◌⊎◌, inl, inr, ◌++◌, ◌∷◌, [], List, length, map, take, drop, replicate, set, get_or, refl, sym, ap, subst, ◌∙◌, arith, ⊎_elim}
+use Rattle.std.proofs.lemmas.Bool.{cases_lt}
+use Rattle.std.proofs.lemmas.List.{with_items_is, map_more, append_assoc, set_at, get_or_at, drop_more, get_or_read, get_or-map, length-map, take-map, length-drop, length-set, length-take-le, drop-set-lt, drop-set-add, take-set-le, take_more_set, take-append-drop, take-append-le, drop-append-le, set-get_or, set-set, get_or-set_same, drop-replicate, take-replicate, map_push, take_all}
+use Rattle.std.proofs.lemmas.List.Sums.{sum_by_more_le}
+use Rattle.std.proofs.lemmas.Simd.{map-map}
+use Rattle.std.proofs.Math.ListN.{get_or-map as get_or-map_all}
+use Rattle.std.specs.List.{sum_by}
+use Rattle.std.specs.Vec.{with_items}
+use Rattle.std.specs.declared.alloc.Global.{Global}
+use Rattle.sm_lists.specs.Rows.{lists_in}
+use Rattle.sm_lists.specs.declared.packed.Room.{Room}
+use Rattle.sm_lists.specs.Packed.{no_room, filled_in, packed_list, packed_lists, emptied, AreApart, AreRooms, AreFull, HasSpace}
+use Rattle.sm_lists.proofs.ItemLemmas.{set_cases}
+
+-- values that two functions give alike
+map_alike : {X Y : Type 0} (f g : X → Y) (xs : List X) (d : X) → ((b : ℕ) → g (get_or xs b d) ≡ f (get_or xs b d)) → map g xs ≡ map f xs
+map_alike f g [] d alike = refl
+map_alike f g (x ∷ xs) d alike = ap (λ t. t ∷ map g xs) (alike 0) ∙ ap (λ t. f x ∷ t) (map_alike f g xs d (λ b. alike (suc b)))
+
+-- the same, where one of the values is replaced
+map-set_alike : {X Y : Type 0} (f g : X → Y) (xs : List X) (a : ℕ) (x d : X) → ((b : ℕ) → b ≢ a → g (get_or xs b d) ≡ f (get_or xs b d)) → map g (set xs a x) ≡ set (map f xs) a (g x)
+map-set_alike f g [] a x d alike = refl
+map-set_alike f g (y ∷ ys) zero x d alike = ap (λ t. g x ∷ t) (map_alike f g ys d (λ b. alike (suc b) (λ e. absurd (omega (arith, e)))))
+map-set_alike f g (y ∷ ys) (suc a) x d alike =
+    ap (λ t. t ∷ map g (set ys a x)) (alike 0 (λ e. absurd (omega (arith, e))))
+    ∙ ap (λ t. f y ∷ t) (map-set_alike f g ys a x d (λ b ne. alike (suc b) (λ e. ne (omega (arith, e)))))
+
+-- the first items of a list, one of which is replaced
+take_set : {X : Type 0} (n : ℕ) (xs : List X) (i : ℕ) (x : X) → take n (set xs i x) ≡ set (take n xs) i x
+take_set zero xs i x = refl
+take_set (suc n) [] i x = refl
+take_set (suc n) (y ∷ ys) zero x = refl
+take_set (suc n) (y ∷ ys) (suc i) x = ap (λ t. y ∷ t) (take_set n ys i x)
+
+-- what holds at each index once an item is added
+added_cases : {X : Type 0} (P : ℕ → X → Type 0) (xs : List X) (y d : X) → P (length xs) y → ((j : ℕ) → j ≢ length xs → P j (get_or xs j d)) → (j : ℕ) → P j (get_or (xs ++ y ∷ []) j d)
+added_cases P [] y d here there zero = here
+added_cases P [] y d here there (suc j) = there (suc j) (λ e. absurd (omega (arith, e)))
+added_cases P (x ∷ xs) y d here there zero = there 0 (λ e. absurd (omega (arith, e)))
+added_cases P (x ∷ xs) y d here there (suc j) = added_cases (λ k. P (suc k)) xs y d here (λ k ne. there (suc k) (λ e. ne (omega (arith, e)))) j
+
+-- the list at an index is that of the room there
+list_read : {T : Type 0} (items : List T) (rooms : List Room) (a : ℕ) → get_or (packed_lists items rooms) a [] ≡ packed_list items (get_or rooms a no_room)
+list_read items [] a = refl
+list_read items (r ∷ rooms) zero = refl
+list_read items (r ∷ rooms) (suc a) = list_read items rooms a
+
+-- a list is as long as its room is filled
+long_as_filled : {T : Type 0} (items : List T) (r : Room) → r.start ≤ r.end → r.end ≤ length items → length (packed_list items r) ≡ filled_in r
+long_as_filled items r ordered within = let left = length-drop r.start items in length-take-le (filled_in r) (drop r.start items) (omega arith)
+
+-- an item that is written outside a list's room changes nothing of the list
+list_kept : {T : Type 0} (items : List T) (r : Room) (k : ℕ) (x : T) → r.start ≤ r.end → r.end ≤ r.limit → ((k < r.start) ⊎ (r.limit ≤ k)) → packed_list (set items k x) r ≡ packed_list items r
+list_kept items r k x ordered filled outside = ⊎_elim
+    (λ before. ap (take (filled_in r)) (drop-set-lt r.start items k x before))
+    (λ behind.
+    let at : k ≡ r.start + (k - r.start) = omega arith in
+    ap (λ n. take (filled_in r) (drop r.start (set items n x))) at
+    ∙ ap (take (filled_in r)) (drop-set-add r.start items (k - r.start) x)
+    ∙ take-set-le (filled_in r) (drop r.start items) (k - r.start) x (omega arith))
+    outside
+
+-- nor does one in the room of another list
+others_kept : {T : Type 0} (items : List T) (rooms : List Room) (a k : ℕ) (x : T) → AreRooms (length items) rooms → (get_or rooms a no_room).start ≤ k → k < (get_or rooms a no_room).limit
+    → (b : ℕ) → b ≢ a → packed_list (set items k x) (get_or rooms b no_room) ≡ packed_list items (get_or rooms b no_room)
+others_kept items rooms a k x h from up_to b ne =
+    list_kept items (get_or rooms b no_room) k x (h.ordered b) (h.filled b)
+    (⊎_elim (λ before. inr (omega arith)) (λ behind. inl (omega arith)) (h.apart b a ne))
+
+-- an item of a list is replaced
+pub lists_put : {T : Type 0} (items : List T) (rooms : List Room) (a k place : ℕ) (x : T) → AreRooms (length items) rooms → k ≡ (get_or rooms a no_room).start + place
+    → place < length (get_or (packed_lists items rooms) a []) → packed_lists (set items k x) rooms ≡ set (packed_lists items rooms) a (set (get_or (packed_lists items rooms) a []) place x)
+lists_put items rooms a k place x h at on =
+    let r : Room = get_or rooms a no_room in
+    let read = list_read items rooms a in
+    let ordered : r.start ≤ r.end = h.ordered a in
+    let filled : r.end ≤ r.limit = h.filled a in
+    let within : r.limit ≤ length items = h.within a in
+    let long = ap length read ∙ long_as_filled items r ordered (omega arith) in
+    let inside : place < filled_in r = omega arith in
+    let here : packed_list (set items k x) r ≡ set (packed_list items r) place x =
+    ap (λ n. take (filled_in r) (drop r.start (set items n x))) at ∙ ap (take (filled_in r)) (drop-set-add r.start items place x) ∙ take_set (filled_in r) (drop r.start items) place x in
+    ap (packed_lists (set items k x)) (sym (set-get_or rooms a no_room))
+    ∙ map-set_alike (packed_list items) (packed_list (set items k x)) rooms a r no_room (others_kept items rooms a k x h (omega arith) (omega arith))
+    ∙ ap (set (packed_lists items rooms) a) (here ∙ ap (λ list. set list place x) (sym read))
+
+-- one more item on a list whose room r isn't full
+lists_added : {T : Type 0} (items : List T) (rooms : List Room) (a : ℕ) (r s : Room) (x : T) → AreRooms (length items) rooms → get_or rooms a no_room ≡ r → r.end < r.limit
+    → s.start ≡ r.start → s.end ≡ r.end + 1 → packed_lists (set items r.end x) (set rooms a s) ≡ set (packed_lists items rooms) a (packed_list items r ++ x ∷ [])
+lists_added items rooms a r s x h is space start end =
+    let ordered : r.start ≤ r.end = subst (λ (q : Room). q.start ≤ q.end) is (h.ordered a) in
+    let within : r.limit ≤ length items = subst (λ (q : Room). q.limit ≤ length items) is (h.within a) in
+    let starts : (get_or rooms a no_room).start ≡ r.start = ap (λ (q : Room). q.start) is in
+    let ends : (get_or rooms a no_room).limit ≡ r.limit = ap (λ (q : Room). q.limit) is in
+    let at : r.end ≡ r.start + filled_in r = omega arith in
+    let more : filled_in s ≡ filled_in r + 1 = omega arith in
+    let left = length-drop r.start items in
+    map-set_alike (packed_list items) (packed_list (set items r.end x)) rooms a s no_room (others_kept items rooms a r.end x h (omega arith) (omega arith))
+    ∙ ap (set (packed_lists items rooms) a)
+    (ap (λ n. take n (drop s.start (set items r.end x))) more
+    ∙ ap (λ n. take (filled_in r + 1) (drop n (set items r.end x))) start
+    ∙ ap (λ n. take (filled_in r + 1) (drop r.start (set items n x))) at
+    ∙ ap (take (filled_in r + 1)) (drop-set-add r.start items (filled_in r) x)
+    ∙ take_more_set (drop r.start items) (filled_in r) x (omega arith))
+
+-- rooms of which one is new, or another than it was, where `cases` says so
+rooms_changed : (count more : ℕ) (rooms new : List Room) (a : ℕ) (s : Room)
+    → ((P : ℕ → Room → Type 0) → P a s → ((j : ℕ) → j ≢ a → P j (get_or rooms j no_room)) → (j : ℕ) → P j (get_or new j no_room))
+    → AreRooms count rooms → count ≤ more → s.start ≤ s.end → s.end ≤ s.limit → s.limit ≤ more → ((b : ℕ) → b ≢ a → AreApart (get_or rooms b no_room) s) → AreRooms more new
+rooms_changed count more rooms new a s cases h grown ordered filled within apart = record {
+  ordered = cases (λ _ r. r.start ≤ r.end) ordered (λ b _. h.ordered b);
+  filled = cases (λ _ r. r.end ≤ r.limit) filled (λ b _. h.filled b);
+  within = cases (λ _ r. r.limit ≤ more) within (λ b _. let w = h.within b in omega arith);
+  apart = cases (λ b r. (c : ℕ) → b ≢ c → AreApart r (get_or new c no_room))
+      (cases (λ c r. a ≢ c → AreApart s r) (λ ne. absurd (ne refl)) (λ c ne _. ⊎_elim inr inl (apart c ne)))
+      (λ b ne. cases (λ c r. b ≢ c → AreApart (get_or rooms b no_room) r) (λ _. apart b ne) (λ c _ other. h.apart b c other));
+}
+
+-- another room for one list
+rooms_set : (count more : ℕ) (rooms : List Room) (a : ℕ) (s : Room) → a < length rooms
+    → AreRooms count rooms → count ≤ more → s.start ≤ s.end → s.end ≤ s.limit → s.limit ≤ more → ((b : ℕ) → b ≢ a → AreApart (get_or rooms b no_room) s) → AreRooms more (set rooms a s)
+rooms_set count more rooms a s in_range = rooms_changed count more rooms (set rooms a s) a s (λ P. set_cases P rooms a s no_room in_range)
+
+-- a list that stood among the old items is the same among the new ones
+list_moved : {T : Type 0} (old new : List T) (r : Room) → take (length old) new ≡ old → r.start ≤ r.end → r.end ≤ length old → packed_list new r ≡ packed_list old r
+list_moved old new r others ordered within =
+    let rest = drop (length old) new in
+    let is : new ≡ old ++ rest = sym (take-append-drop (length old) new) ∙ ap (λ t. t ++ rest) others in
+    let left = length-drop r.start old in
+    ap (λ t. packed_list t r) is
+    ∙ ap (take (filled_in r)) (drop-append-le r.start old rest (omega arith))
+    ∙ take-append-le (filled_in r) (drop r.start old) rest (omega arith)
+
+-- a list that has found room for one more item, and the others, are what they were
+lists_spaced : {T : Type 0} (old new : List T) (rooms : List Room) (a : ℕ) (r : Room) → AreRooms (length old) rooms → HasSpace old new (get_or rooms a no_room) r → packed_lists new (set rooms a r) ≡ packed_lists old rooms
+lists_spaced old new rooms a r h s =
+    map-set_alike (packed_list old) (packed_list new) rooms a r no_room
+    (λ b _. let filled = h.filled b in let within = h.within b in list_moved old new (get_or rooms b no_room) s.others (h.ordered b) (omega arith))
+    ∙ ap (set (packed_lists old rooms) a) (s.same ∙ sym (list_read old rooms a))
+    ∙ set-get_or (packed_lists old rooms) a []
+
+-- what stood before is still there, so nothing was taken off
+grown : {T : Type 0} (old new : List T) → take (length old) new ≡ old → length old ≤ length new
+grown old new others = ⊎_elim
+    (λ shorter. let same = ap length (sym (take_all (length old) new (omega arith)) ∙ others) in omega arith)
+    (λ le. le)
+    (cases_lt (length new) (length old))
+
+-- and its room is apart from the others
+rooms_spaced : {T : Type 0} (old new : List T) (rooms : List Room) (a : ℕ) (r : Room) → a < length rooms → AreRooms (length old) rooms → HasSpace old new (get_or rooms a no_room) r
+    → AreRooms (length new) (set rooms a r)
+rooms_spaced old new rooms a r in_range h s =
+    rooms_set (length old) (length new) rooms a r in_range h (grown old new s.others) s.ordered (let space = s.space in omega arith) s.within
+    (λ b ne. ⊎_elim
+    (λ stays. let start = stays.0 in let limit = stays.1 in ⊎_elim (λ before. inl (omega arith)) (λ behind. inr (omega arith)) (h.apart b a ne))
+    (λ behind. let within = h.within b in inl (omega arith))
+    s.apart)
+
+-- the rooms once a list that has room for it has one more item
+rooms_added : (count : ℕ) (rooms : List Room) (a : ℕ) (r s : Room) → a < length rooms → AreRooms count rooms → get_or rooms a no_room ≡ r → r.end < r.limit
+    → s.start ≡ r.start → s.end ≡ r.end + 1 → s.limit ≡ r.limit → AreRooms count (set rooms a s)
+rooms_added count rooms a r s in_range h is space start end limit =
+    let ordered : r.start ≤ r.end = subst (λ (q : Room). q.start ≤ q.end) is (h.ordered a) in
+    let within : r.limit ≤ count = subst (λ (q : Room). q.limit ≤ count) is (h.within a) in
+    rooms_set count count rooms a s in_range h (omega arith) (omega arith) (omega arith) (omega arith)
+    (λ b ne. ⊎_elim
+    (λ before. inl (omega arith))
+    (λ behind. inr (omega arith))
+    (let other : AreApart (get_or rooms b no_room) r = subst (AreApart (get_or rooms b no_room)) is (h.apart b a ne) in other))
+
+-- one more item on a list that has found room for it
+pub lists_pushed : {T : Type 0} (old new : List T) (rooms : List Room) (a : ℕ) (r s : Room) (x : T) → a < length rooms → AreRooms (length old) rooms → HasSpace old new (get_or rooms a no_room) r
+    → s.start ≡ r.start → s.end ≡ r.end + 1 → packed_lists (set new r.end x) (set rooms a s) ≡ set (packed_lists old rooms) a (get_or (packed_lists old rooms) a [] ++ x ∷ [])
+lists_pushed old new rooms a r s x in_range h spaced start end =
+    ap (packed_lists (set new r.end x)) (sym (set-set rooms a r s))
+    ∙ lists_added new (set rooms a r) a r s x (rooms_spaced old new rooms a r in_range h spaced) (get_or-set_same rooms a r no_room in_range) spaced.space start end
+    ∙ ap (λ lists. set lists a (packed_list new r ++ x ∷ [])) (lists_spaced old new rooms a r h spaced)
+    ∙ ap (λ list. set (packed_lists old rooms) a (list ++ x ∷ [])) (spaced.same ∙ sym (list_read old rooms a))
+
+-- and its rooms
+pub rooms_pushed : {T : Type 0} (old new : List T) (rooms : List Room) (a : ℕ) (r s : Room) (x : T) → a < length rooms → AreRooms (length old) rooms → HasSpace old new (get_or rooms a no_room) r
+    → s.start ≡ r.start → s.end ≡ r.end + 1 → s.limit ≡ r.limit → AreRooms (length (set new r.end x)) (set rooms a s)
+rooms_pushed old new rooms a r s x in_range h spaced start end limit =
+    let long = set-set rooms a r s in
+    let inside : a < length (set rooms a r) = let e = length-set rooms a r in omega arith in
+    let added = rooms_added (length new) (set rooms a r) a r s inside (rooms_spaced old new rooms a r in_range h spaced) (get_or-set_same rooms a r no_room in_range) spaced.space start end limit in
+    let here : AreRooms (length new) (set rooms a s) = subst (AreRooms (length new)) long added in
+    subst (λ n. AreRooms n (set rooms a s)) (sym (length-set new r.end x)) here
+
+-- there are as many rooms as lists
+pub rooms_in_range : {T : Type 0} (items : List T) (rooms : List Room) (lists : List (List T)) (a : ℕ) → packed_lists items rooms ≡ lists → a < length lists → a < length rooms
+rooms_in_range items rooms lists a view in_range = let same = sym (length-map rooms (packed_list items)) ∙ ap length view in omega arith
+
+-- a room that is read of the vector, where so many lists are seen
+pub room_read : {T : Type 0} (items : List T) (rooms : List Room) (lists : List (List T)) (a : ℕ) (r : Room) → packed_lists items rooms ≡ lists → a < length lists → r ≡ get_or rooms a r → r ≡ get_or rooms a no_room
+room_read items rooms lists a r view in_range read = get_or_read rooms a r (rooms_in_range items rooms lists a view in_range) read no_room
+
+-- the next list's room, behind the others
+pub full_more : {lengths : List ℕ} {count : ℕ} {rooms : List Room} (n : ℕ) → AreFull lengths count rooms
+    → AreFull (lengths ++ n ∷ []) (count + n) (rooms ++ record { start = count; end = count + n; limit = count + n } ∷ [])
+full_more {lengths} {count} {rooms} n h =
+    let r : Room = record { start = count; end = count + n; limit = count + n } in
+    record {
+      sound = rooms_changed count (count + n) rooms (rooms ++ r ∷ []) (length rooms) r (λ P. added_cases P rooms r no_room) h.sound (omega arith) (omega arith) (omega arith) (omega arith)
+          (λ b _. inl (h.sound.within b));
+      as_long = map_push filled_in rooms r ∙ ap (λ t. t ++ filled_in r ∷ []) h.as_long ∙ ap (λ k. lengths ++ k ∷ []) (let e : filled_in r ≡ n = omega arith in e);
+    }
+
+-- each next list still fits
+pub lists_fit : (lent : List (Bor (List ℕ))) (i : ℕ) (d : Bor (List ℕ)) → i < length lent
+    → sum_by (λ list. length list) (lists_in (take i lent)) + length (get_or lent i d).now ≤ sum_by (λ list. length list) (lists_in lent)
+lists_fit lent i d inside =
+    let len : List ℕ → ℕ = λ list. length list in
+    let of : Bor (List ℕ) → List ℕ = λ list. list.now in
+    let le = sum_by_more_le len (lists_in lent) i [] (let long = length-map lent of in omega arith) in
+    let front = ap (sum_by len) (take-map of i lent) in
+    let here = ap len (get_or-map of lent i d [] inside) in
+    omega arith
+
+-- lists all of whose items are the same
+lists_alike : {T : Type 0} (x : T) (n : ℕ) (rooms : List Room) → ((a : ℕ) → (get_or rooms a no_room).start ≤ (get_or rooms a no_room).end) → ((a : ℕ) → (get_or rooms a no_room).end ≤ n)
+    → packed_lists (replicate n x) rooms ≡ map (λ k. replicate k x) (map filled_in rooms)
+lists_alike x n [] ordered within = refl
+lists_alike x n (r ∷ rooms) ordered within =
+    let first = ordered 0 in
+    let last = within 0 in
+    ap (λ t. t ∷ packed_lists (replicate n x) rooms) (ap (take (filled_in r)) (drop-replicate r.start n x) ∙ take-replicate (filled_in r) (n - r.start) x (omega arith))
+    ∙ ap (λ t. replicate (filled_in r) x ∷ t) (lists_alike x n rooms (λ a. ordered (suc a)) (λ a. within (suc a)))
+
+-- with as many items as the rooms are for
+pub lists_filled : {T : Type 0} (x : T) (lists : List (List ℕ)) (count : ℕ) (rooms : List Room) → AreFull (map (λ list. length list) lists) count rooms
+    → packed_lists (replicate count x) rooms ≡ map (λ list. replicate (length list) x) lists
+lists_filled x lists count rooms h =
+    lists_alike x count rooms h.sound.ordered (λ a. let filled = h.sound.filled a in let within = h.sound.within a in omega arith)
+    ∙ ap (map (λ k. replicate k x)) h.as_long
+    ∙ map-map (λ k. replicate k x) (λ list. length list) lists
+
+-- rooms of which nothing is filled
+pub rooms_emptied : (count : ℕ) (rooms : List Room) → AreRooms count rooms → AreRooms count (map emptied rooms)
+rooms_emptied count rooms h =
+    let read : (a : ℕ) → emptied (get_or rooms a no_room) ≡ get_or (map emptied rooms) a no_room = λ a. sym (get_or-map_all emptied rooms a no_room) in
+    record {
+      ordered = λ a. subst (λ (r : Room). r.start ≤ r.end) (read a) (omega arith);
+      filled = λ a. subst (λ (r : Room). r.end ≤ r.limit) (read a) (let ordered = h.ordered a in let filled = h.filled a in omega arith);
+      within = λ a. subst (λ (r : Room). r.limit ≤ count) (read a) (h.within a);
+      apart = λ a b ne. subst (λ r. AreApart r (get_or (map emptied rooms) b no_room)) (read a) (subst (AreApart (emptied (get_or rooms a no_room))) (read b) (h.apart a b ne));
+    }
+
+-- and the lists without an item
+pub lists_emptied : {T : Type 0} (items : List T) (rooms : List Room) → packed_lists items (map emptied rooms) ≡ replicate (length rooms) []
+lists_emptied items [] = refl
+lists_emptied items (r ∷ rooms) =
+    ap (λ k. take k (drop r.start items) ∷ packed_lists items (map emptied rooms)) (let e : r.start - r.start ≡ 0 = omega arith in e)
+    ∙ ap (λ t. [] ∷ t) (lists_emptied items rooms)
+
+-- one more value is replaced by what a function gives for it
+pub mapped_more : {X : Type 0} (f : X → X) (xs old : List X) (i : ℕ) (d : X) → i < length old → xs ≡ map f (take i old) ++ drop i old
+    → set xs i (f (get_or xs i d)) ≡ map f (take (i + 1) old) ++ drop (i + 1) old
+mapped_more f xs old i d inside is =
+    let front = map f (take i old) in
+    let rest = drop (i + 1) old in
+    let x = get_or old i d in
+    let at : length front ≡ i = length-map (take i old) f ∙ length-take-le i old (omega arith) in
+    let split : xs ≡ front ++ x ∷ rest = is ∙ ap (λ t. front ++ t) (drop_more old i d inside) in
+    let read : get_or xs i d ≡ x = ap (λ t. get_or t i d) split ∙ get_or_at front x rest d i at in
+    ap (λ t. set t i (f (get_or xs i d))) split
+    ∙ ap (λ y. set (front ++ x ∷ rest) i (f y)) read
+    ∙ set_at front x rest (f x) i at
+    ∙ sym (append_assoc front (f x ∷ []) rest)
+    ∙ ap (λ t. t ++ rest) (sym (map_more f old i d inside))
+
+-- what a vector of rooms holds once all are emptied through a slice
+pub rooms_written : (rooms : Vec Room Global) (new : List Room) → new ≡ map emptied rooms.items → (with_items rooms new).items ≡ map emptied rooms.items
+rooms_written rooms new is =
+    let same : rooms.len ≡ length rooms.items = rooms.ok.0 in
+    with_items_is rooms new (ap length is ∙ length-map rooms.items emptied ∙ sym same) ∙ is

@@ -1,0 +1,134 @@
+//! Numbers that are kept in two bytes where they fit.
+
+ghost use Rattle.std.specs.Prelude.{◌≡◌, ℕ, ◌<◌, ◌^◌, ◌↔◌, ◌++◌, [], length, slice_index, IfOk, OnOk, OnErr, IsTrue};
+
+use std::alloc::{AllocError, Global};
+use std::marker::Model;
+
+/// Numbers in order: in two bytes each, and in four from the first list on that was added with one that doesn't fit.
+#[derive(Debug, Drop)]
+pub(crate) struct Cells {
+    narrow: Vec<u16>,
+    wide: Vec<u32>,
+}
+
+impl Model for Cells {
+    ghost use Rattle.std.specs.Prelude.{ℕ, List, ◌++◌};
+
+    ghost Value = { List ℕ };
+
+    ghost view = { λ c. c.narrow.items ++ c.wide.items };
+}
+
+impl Cells {
+    /// No number yet, with room for so many that fit two bytes.
+    ///
+    /// # Errors
+    ///
+    /// `AllocError` where memory ran out, and only then.
+    pub(crate) fn with_capacity(alloc: Global, numbers: usize) -> Result<Cells, AllocError>
+        ensures { IfOk result (λ cells. cells ≡ []) }
+    {
+        Ok(Cells {
+            narrow: Vec::with_capacity(alloc, numbers)?,
+            wide: Vec::new(alloc),
+        })
+    }
+
+    /// These numbers, in four bytes each. Takes constant time.
+    pub(crate) fn wide(alloc: Global, numbers: Vec<u32>) -> Cells
+        ensures { result ≡ numbers.items }
+    {
+        Cells {
+            narrow: Vec::new(alloc),
+            wide: numbers,
+        }
+    }
+
+    /// How many numbers there are.
+    pub(crate) fn len(&self) -> usize
+        ensures { result ≡ length self.now }
+    {
+        self.narrow.len() + self.wide.len()
+    }
+
+    /// The number at a place.
+    pub(crate) fn at(&self, place: usize) -> u32
+        requires { place < length self.now }
+        ensures { result ≡ slice_index self.now place }
+    {
+        let narrow = self.narrow.len();
+        if place < narrow {
+            u32::from(self.narrow[place])
+        } else {
+            self.wide[place - narrow]
+        }
+    }
+
+    /// Adds a list of numbers. Takes time in proportion to it.
+    ///
+    /// # Errors
+    ///
+    /// `AllocError` where memory ran out, and only then. The numbers are then what they were.
+    pub(crate) fn extend(&mut self, list: &[u32]) -> Result<(), AllocError>
+        ensures added { OnOk result (self.new ≡ self.old ++ list.now) }
+        ensures kept { OnErr result (self.new ≡ self.old) }
+    {
+        if self.wide.is_empty() && all_fit(list) {
+            return add_narrow(&mut self.narrow, list);
+        }
+        if self.wide.is_empty() {
+            let room = self.narrow.capacity() - self.narrow.len();
+            self.wide.reserve(room)?;
+        }
+        self.wide.extend_from_slice(list)
+    }
+
+    /// The same numbers. Takes time and memory in proportion to them.
+    ///
+    /// # Errors
+    ///
+    /// `AllocError` where memory ran out, and only then.
+    pub(crate) fn copy(&self, alloc: Global) -> Result<Cells, AllocError>
+        ensures { IfOk result (λ copy. copy ≡ self.now) }
+    {
+        Ok(Cells {
+            narrow: Vec::from_slice(alloc, &self.narrow)?,
+            wide: Vec::from_slice(alloc, &self.wide)?,
+        })
+    }
+}
+
+/// Does each number of a list fit two bytes?
+fn all_fit(list: &[u32]) -> bool
+    ensures { IsTrue result ↔ ((i : ℕ) → i < length list.now → slice_index list.now i < 2 ^ 16) }
+{
+    let mut bits = 0;
+    for number in list {
+        bits |= *number;
+    }
+    bits < 65_536
+}
+
+/// Adds numbers that fit two bytes.
+fn add_narrow(cells: &mut Vec<u16>, list: &[u32]) -> Result<(), AllocError>
+    requires { (i : ℕ) → i < length list.now → slice_index list.now i < 2 ^ 16 }
+    ensures added { OnOk result (cells.new.items ≡ cells.old.items ++ list.now) }
+    ensures kept { OnErr result (cells.new.items ≡ cells.old.items) }
+{
+    let before = cells.len();
+    cells.resize(before + list.len(), 0)?;
+    write_narrow(&mut cells[before..], list);
+    Ok(())
+}
+
+/// Writes numbers that fit two bytes.
+fn write_narrow(cells: &mut [u16], list: &[u32])
+    requires as_many { length cells.old ≡ length list.now }
+    requires fit { (i : ℕ) → i < length list.now → slice_index list.now i < 2 ^ 16 }
+    ensures { cells.new ≡ list.now }
+{
+    for at in 0..list.len() {
+        cells[at] = list[at] as u16;
+    }
+}
