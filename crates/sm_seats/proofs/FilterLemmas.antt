@@ -1,7 +1,8 @@
 -- Where the items of a list stand once some are left out.
 use Rattle.std.proofs.Common.{◌≡◌, ◌≢◌, ℕ, zero, suc, ◌+◌, ◌<◌, ◌≤◌, ◌==◌, Bool, true, false, List, [], ◌∷◌, length, take, get_or, refl, sym, ap, ◌∙◌, arith, inl, inr}
-use Rattle.std.specs.List.{filter}
+use Rattle.std.specs.List.{filter, flat_map}
 use Rattle.std.proofs.lemmas.Bool.{eqb-true, cases_lt}
+use Rattle.std.proofs.lemmas.List.{length-append}
 use Rattle.sm_lists.specs.Rows.{place_on}
 use Rattle.sm_lists.proofs.PlaceLemmas.{get_or-place_on, place_on-lt}
 use Rattle.sm_lists.proofs.Counting.{one_to_one-le}
@@ -174,3 +175,17 @@ pub length-le : (xs ys : List ℕ) → AreDistinct xs → ((i : ℕ) → i < len
 length-le xs ys d inside = one_to_one-le (length xs) (length ys) (λ i. place_on ys (get_or xs i 0)) inside
     (λ i j less on same. d.distinct i j less on
     (sym (get_or-place_on ys (get_or xs i 0) (inside i (omega arith))) ∙ ap (λ k. get_or ys k 0) same ∙ get_or-place_on ys (get_or xs j 0) (inside j on)))
+
+-- among more of the first items those that pass have no shorter pieces in all
+pub pieces_up : {A : Type 0} (f : ℕ → List A) (t : ℕ → Bool) (xs : List ℕ) (i n : ℕ) → i ≤ n → length (flat_map f (filter t (take i xs))) ≤ length (flat_map f (filter t (take n xs)))
+pieces_up f t xs zero n le = omega arith
+pieces_up f t [] (suc i) n le = omega arith
+pieces_up f t (x ∷ xs) (suc i) zero le = absurd (omega arith)
+pieces_up f t (x ∷ xs) (suc i) (suc n) le =
+    let deep = pieces_up f t xs i n (omega arith) in
+    elim (test_cases (t x)) [
+      | inl passes ↦
+          rw (taken t x (take i xs) passes, taken t x (take n xs) passes)
+          (omega (arith, deep, length-append (f x) (flat_map f (filter t (take i xs))), length-append (f x) (flat_map f (filter t (take n xs)))))
+      | inr fails ↦ rw (left_out t x (take i xs) fails, left_out t x (take n xs) fails) deep
+    ]

@@ -21,7 +21,7 @@ use Rattle.sm_seats.proofs.SeatLemmas.{seat_count-le-capacity, seats_before_more
 use Rattle.sm_seats.proofs.PieceLemmas.{numbers_between}
 use Rattle.sm_seats.proofs.SeatPlaces.{first_place}
 use Rattle.sm_instance.proofs.LoadLemmas.{test_cases}
-use Rattle.sm_seats.proofs.FilterLemmas.{whole_before}
+use Rattle.sm_seats.proofs.FilterLemmas.{whole_before, pieces_up}
 use Rattle.sm_seats.proofs.CrossLemmas.{back_more, back_same, filter-take_place}
 
 -- Counts along a list.
@@ -47,6 +47,10 @@ count_same {agents} {others} {a} {i} {count} on no_ c =
 pub record IsListed (w : Written) (p n count : ℕ) : Type 0 where
   pub few : count ≤ n * 4096
   pub counted : count ≡ seats_listed w p n
+
+-- before a later place it lists no fewer
+pub seats_listed-le : (w : Written) (p i n : ℕ) → i ≤ n → seats_listed w p i ≤ seats_listed w p n
+seats_listed-le w p i n le = pieces_up (seats_at w) (lists_back w.reviewers p) (row w.proposers p) i n le
 
 seats_joined : (w : Written) (xs : List ℕ) (r : ℕ) → length (flat_map (seats_at w) (xs ++ r ∷ [])) ≡ length (flat_map (seats_at w) xs) + seat_count w r
 seats_joined w xs r =

@@ -101,7 +101,7 @@ pub(crate) fn plain_proposers(
 {
     let proposers = instance.proposer_count();
     let mut lists = Rows::with_capacity(alloc, proposers as usize, room)?;
-    let mut crosses = Rows::with_capacity(alloc, proposers as usize, room)?;
+    let mut crosses = RaisedRows::with_capacity(alloc, proposers as usize, room)?;
     let mut places = Vec::new(alloc);
     for p in 0..proposers {
         lists.push(instance.proposer_list(p))?;
@@ -127,7 +127,7 @@ pub(crate) fn plain_seats(
     let reviewers = instance.reviewer_count();
     let mut seats = Vec::with_capacity(alloc, reviewers as usize)?;
     let mut lists = Rows::with_capacity(alloc, reviewers as usize, room)?;
-    let mut crosses = Rows::with_capacity(alloc, reviewers as usize, room)?;
+    let mut crosses = RaisedRows::with_capacity(alloc, reviewers as usize, room)?;
     let mut places = Vec::new(alloc);
     for r in 0..reviewers {
         seats.push((r, 1))?;
@@ -138,7 +138,7 @@ pub(crate) fn plain_seats(
     Ok(ReviewerRows {
         seats,
         lists,
-        crosses: RaisedRows::level(alloc, crosses),
+        crosses,
     })
 }
 

@@ -27,7 +27,7 @@ use crate::proposer_rows::{ProposerRows, proposer_rows};
 use crate::reviewer_rows::{ReviewerRows, reviewer_rows};
 use crate::taking::taken_places;
 use sm_instance::{Assignment, Instance};
-use sm_lists::{RaisedRows, Rows};
+use sm_lists::Rows;
 use sm_market::{Market, Pairing};
 use std::alloc::{AllocError, Global};
 use std::marker::Model;
@@ -100,8 +100,8 @@ impl Seats {
             return seats_held(alloc, instance, proposers, reviewers);
         }
         let places = mutual_places(alloc, instance, &counts.acceptable)?;
-        let proposers = proposer_rows(alloc, instance, counts, &places)?;
         let begins = seat_places(alloc, instance, &counts.firsts)?;
+        let proposers = proposer_rows(alloc, instance, counts, &places, &begins)?;
         let reviewers = reviewer_rows(alloc, instance, counts, &begins)?;
         seats_held(alloc, instance, proposers, reviewers)
     }
@@ -251,7 +251,7 @@ fn seats_held(
     let market = Market::held(
         proposers.lists,
         reviewers.lists,
-        RaisedRows::level(alloc, proposers.crosses),
+        proposers.crosses,
         reviewers.crosses,
     );
     let market = Rc::new(alloc, market)?;

@@ -21,7 +21,7 @@ held-market-requires-clause-market c =
 pub held-market-requires-clause-proposers : goal.held-market-requires-clause-proposers
 held-market-requires-clause-proposers c =
     let w = c.args.instance.now in
-    rw (c.level.ensures, c.requires.proposers, c.requires.reviewers, c.requires.proposer_crosses, lists_made w) (proposers_crossed (sound_entries c.in_ok-lists.ensures.instance))
+    rw (c.requires.proposers, c.requires.reviewers, c.requires.proposer_crosses, lists_made w) (proposers_crossed (sound_entries c.in_ok-lists.ensures.instance))
 
 pub held-market-requires-clause-reviewers : goal.held-market-requires-clause-reviewers
 held-market-requires-clause-reviewers c =
