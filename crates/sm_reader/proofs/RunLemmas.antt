@@ -18,11 +18,6 @@ run_on line at inside name =
     let n = prefix_len is_name_byte (drop (at + 1) line) in
     let e : prefix_len is_name_byte (drop at line) ≡ 1 + n = prefix_at is_name_byte line at inside true name in omega (arith, e)
 
--- and ends at any other
-pub run_stops : (line : List ℕ) (at : ℕ) → at < length line → is_name_byte (get_or line at 0) ≡ false → run_end line at ≡ at
-run_stops line at inside other =
-    let e : prefix_len is_name_byte (drop at line) ≡ 0 = prefix_at is_name_byte line at inside false other in omega (arith, e)
-
 module _ (line : List ℕ) (at : ℕ) (inside : at < length line) (name : is_name_byte (get_or line at 0) ≡ true) where
   -- no blank stands before a name byte
   no_blanks : at ≡ blanks_end line at
