@@ -1,7 +1,7 @@
 -- Writing the cross places of one side, and finding those of the other, agent by agent.
-use Rattle.std.proofs.Common.{IfSome, ◌≡◌, ◌≢◌, ℕ, ◌+◌, ◌<◌, ◌≤◌, List, [], ◌∷◌, ◌++◌, Option, None, length, map, get_or, set, replicate, zero, suc, refl, sym, ap, subst, ◌∙◌, arith, ⊎_elim}
+use Rattle.std.proofs.Common.{IfSome, ◌≡◌, ℕ, ◌+◌, ◌<◌, ◌≤◌, List, [], ◌∷◌, Option, None, length, map, get_or, set, replicate, zero, suc, refl, sym, ap, subst, ◌∙◌, arith, ⊎_elim}
 use Rattle.std.proofs.lemmas.Bool.{cases_lt}
-use Rattle.std.proofs.lemmas.List.{get_or-map, get_or-replicate, get_or_past, length-map, length-replicate, length-set, map-set, set_past, nil_from_length, get_or-set_same, get_or-set_other}
+use Rattle.std.proofs.lemmas.List.{get_or-map, get_or-replicate, get_or_past, length-map, length-replicate, length-set, map-set, set_past}
 use Rattle.std.proofs.Math.ListN.{get_or-map as get_or-map_all}
 use Rattle.sm_lists.specs.Rows.{row, entry}
 use Rattle.sm_lists.specs.Crosses.{found_on, cross_place, AreCrossPlacesOf, AreCrossPlaces}
@@ -10,7 +10,6 @@ use Rattle.sm_lists.specs.Held.{held_in}
 use Rattle.sm_lists.specs.Kept.{noted_of, ArePlacesBefore}
 use Rattle.sm_lists.specs.declared.naming.Naming.{Naming}
 use Rattle.sm_lists.proofs.ItemLemmas.{set_cases}
-use Rattle.sm_lists.proofs.NamingLemmas.{held_in-pushed}
 use Rattle.sm_lists.proofs.RowLemmas.{row_in_range}
 use Rattle.sm_lists.proofs.FoundLemmas.{found_on-fits}
 
@@ -164,23 +163,26 @@ held_in-filled f x y (list ∷ rows) is =
     ap (λ l. l ∷ held_in f (map (λ list. replicate (length list) x) rows)) (map_copies f (length list) x y is)
     ∙ ap (λ ls. replicate (length list) y ∷ ls) (held_in-filled f x y rows is)
 
--- what holds of the lists of others once a list has one more item
-pub pushed_there : {X Y : Type 0} (f : X → Y) (lists : List (List X)) (b : ℕ) (x : X) (c : ℕ) → c ≢ b
-    → get_or (held_in f (set lists b (get_or lists b [] ++ x ∷ []))) c [] ≡ get_or (held_in f lists) c []
-pushed_there f lists b x c other =
-    ap (λ l. get_or l c []) (held_in-pushed f lists b x) ∙ get_or-set_other (held_in f lists) b c (get_or (held_in f lists) b [] ++ f x ∷ []) [] other
+-- what is found for each item of a list is as much
+pub found_long : {X : Type 0} (f : X → Option ℕ) (places : List X) (noted : ℕ → Option ℕ) {list row_ : List ℕ} → map f places ≡ map noted list → list ≡ row_ → length places ≡ length row_
+found_long f places noted {list} is same = sym (length-map places f) ∙ ap (λ (l : List (Option ℕ)). length l) is ∙ length-map list noted ∙ ap (λ (l : List ℕ). length l) same
 
--- and of its own
-pub pushed_here : {X Y : Type 0} (f : X → Y) (lists : List (List X)) (b : ℕ) (x : X) → b < length lists
-    → get_or (held_in f (set lists b (get_or lists b [] ++ x ∷ []))) b [] ≡ get_or (held_in f lists) b [] ++ f x ∷ []
-pushed_here f lists b x inside =
-    ap (λ l. get_or l b []) (held_in-pushed f lists b x)
-    ∙ get_or-set_same (held_in f lists) b (get_or (held_in f lists) b [] ++ f x ∷ []) [] (let long = length-map lists (map f) in omega arith)
+-- each list is as long after one is put that is
+pub put_long : {X : Type 0} (lists : List (List X)) (b : ℕ) (new : List X) (others : List (List ℕ)) → b < length lists → length new ≡ length (row others b)
+    → ((c : ℕ) → length (get_or lists c []) ≡ length (row others c)) → (c : ℕ) → length (get_or (set lists b new) c []) ≡ length (row others c)
+put_long {X} lists b new others inside here long = set_cases (λ c (l : List X). length l ≡ length (row others c)) lists b new [] inside here (λ c _. long c)
 
--- a list for which nothing is kept has no item
-pub empty_held : {X Y : Type 0} (f : X → Y) (lists : List (List X)) (b : ℕ) → get_or (held_in f lists) b [] ≡ [] → get_or lists b [] ≡ []
-empty_held f lists b is = nil_from_length (get_or lists b []) (sym (length-held_in f lists b) ∙ ap length is)
+-- with the cross places of b's list put, those of the lists up to b's are found
+pub put_places : {X : Type 0} (f : X → Option ℕ) (lists : List (List X)) (b : ℕ) (new : List X) (others rows : List (List ℕ)) → b < length lists → AreCrossPlacesOf others rows b (map f new)
+    → ((c : ℕ) → c < b → AreCrossPlacesOf others rows c (get_or (held_in f lists) c [])) → (c : ℕ) → c < b + 1 → AreCrossPlacesOf others rows c (get_or (held_in f (set lists b new)) c [])
+put_places {X} f lists b new others rows inside here before c l =
+    let Of : ℕ → List (Option ℕ) → Type 0 = λ d places. AreCrossPlacesOf others rows d places in
+    let of : Of c (map f (get_or (set lists b new) c [])) = set_cases (λ d (x : List X). d < b + 1 → Of d (map f x)) lists b new [] inside (λ _. here)
+    (λ d ne lower. subst (Of d) (get_or-map_all (map f) lists d []) (before d (omega arith))) c l in
+    subst (Of c) (sym (get_or-map_all (map f) (set lists b new) c [])) of
 
--- for a list without an item nothing is kept
-pub held_empty : {X Y : Type 0} (f : X → Y) (lists : List (List X)) (b : ℕ) → get_or lists b [] ≡ [] → get_or (held_in f lists) b [] ≡ []
-held_empty f lists b is = get_or-map_all (map f) lists b [] ∙ ap (map f) is
+-- what stands where nothing is written is as long as the lists
+pub length_unwritten : (others : List (List ℕ)) (c : ℕ) → (let none : Option ℕ = None in length (get_or (map (λ (list : List ℕ). replicate (length list) none) others) c []) ≡ length (row others c))
+length_unwritten others c =
+    let none : Option ℕ = None in
+    ap length (get_or-map_all (λ (list : List ℕ). replicate (length list) none) others c []) ∙ length-replicate (length (row others c)) none

@@ -1,10 +1,12 @@
 -- Lists of which each stands between two places of all items, with room behind it.
 use Rattle.std.proofs.Common.{Bor, Vec, ◌≡◌, ◌≢◌, ℕ, zero, suc, ◌+◌, ◌-◌, ◌<◌, ◌≤◌, ◌⊎◌, inl, inr, ◌++◌, ◌∷◌, [], List, length, map, take, drop, replicate, set, get_or, refl, sym, ap, subst, ◌∙◌, arith, ⊎_elim}
 use Rattle.std.proofs.lemmas.Bool.{cases_lt}
-use Rattle.std.proofs.lemmas.List.{with_items_is, map_more, append_assoc, set_at, get_or_at, drop_more, get_or_read, get_or-map, length-map, take-map, length-drop, length-set, length-take-le, drop-set-lt, drop-set-add, take-set-le, take_more_set, take-append-drop, take-append-le, drop-append-le, set-get_or, set-set, get_or-set_same, drop-replicate, take-replicate, map_push, take_all}
+use Rattle.std.proofs.lemmas.List.{with_items_is, map_more, append_assoc, length-append, set_at, get_or_at, drop_more, get_or_read, get_or-map, length-map, take-map, length-drop, length-set, length-take-le, drop-set-lt, drop-set-add, take-set-le, take_more_set, take-append-drop, take-append-le, drop-append-le, set-get_or, set-set, get_or-set_same, drop-replicate, take-replicate, map_push, take_all}
 use Rattle.std.proofs.lemmas.List.Sums.{sum_by_more_le}
+use Rattle.std.proofs.lemmas.Slice.{drop-append-drop}
 use Rattle.std.proofs.lemmas.Simd.{map-map}
 use Rattle.std.proofs.Math.ListN.{get_or-map as get_or-map_all}
+use Rattle.std.proofs.Math.Seq.{drop-append_seam, take-append_seam}
 use Rattle.std.specs.List.{sum_by}
 use Rattle.std.specs.Vec.{with_items}
 use Rattle.std.specs.declared.alloc.Global.{Global}
@@ -85,6 +87,82 @@ lists_put items rooms a k place x h at on =
     ∙ map-set_alike (packed_list items) (packed_list (set items k x)) rooms a r no_room (others_kept items rooms a k x h (omega arith) (omega arith))
     ∙ ap (set (packed_lists items rooms) a) (here ∙ ap (λ list. set list place x) (sym read))
 
+-- a list that stood among the old items is the same among the new ones
+list_moved : {T : Type 0} (old new : List T) (r : Room) → take (length old) new ≡ old → r.start ≤ r.end → r.end ≤ length old → packed_list new r ≡ packed_list old r
+list_moved old new r others ordered within =
+    let rest = drop (length old) new in
+    let is : new ≡ old ++ rest = sym (take-append-drop (length old) new) ∙ ap (λ t. t ++ rest) others in
+    let left = length-drop r.start old in
+    ap (λ t. packed_list t r) is
+    ∙ ap (take (filled_in r)) (drop-append-le r.start old rest (omega arith))
+    ∙ take-append-le (filled_in r) (drop r.start old) rest (omega arith)
+
+-- the items, those of a list among them replaced
+abbrev pub replaced : {T : Type 0} → List T → ℕ → List T → List T
+replaced items start new = (take start items ++ new) ++ drop (start + length new) items
+
+-- there are as many
+pub replaced_as_many : {T : Type 0} (items new : List T) (start : ℕ) → start + length new ≤ length items → length (replaced items start new) ≡ length items
+replaced_as_many items new start inside =
+    let front = length-take-le start items (omega arith) in
+    let rest = length-drop (start + length new) items in
+    let whole = length-append (take start items ++ new) (drop (start + length new) items) in
+    let both = length-append (take start items) new in
+    omega arith
+
+-- that list
+list_replaced : {T : Type 0} (items new : List T) (r : Room) → r.start ≤ r.end → r.end ≤ length items → length new ≡ filled_in r → packed_list (replaced items r.start new) r ≡ new
+list_replaced items new r ordered within long =
+    let front = take r.start items in
+    let rest = drop (r.start + length new) items in
+    let at : length front ≡ r.start = length-take-le r.start items (omega arith) in
+    ap (λ t. take (filled_in r) (drop r.start t)) (append_assoc front new rest)
+    ∙ ap (λ n. take (filled_in r) (drop n (front ++ (new ++ rest)))) (sym at)
+    ∙ ap (take (filled_in r)) (drop-append_seam front (new ++ rest))
+    ∙ ap (λ n. take n (new ++ rest)) (sym long)
+    ∙ take-append_seam new rest
+
+-- a list that stands before it or behind it
+list_untouched : {T : Type 0} (items new : List T) (start : ℕ) (q : Room) → start + length new ≤ length items → q.start ≤ q.end → q.end ≤ q.limit
+    → ((q.limit ≤ start) ⊎ (start + length new ≤ q.start)) → packed_list (replaced items start new) q ≡ packed_list items q
+list_untouched items new start q inside ordered filled outside =
+    let front = take start items in
+    let rest = drop (start + length new) items in
+    let at : length front ≡ start = length-take-le start items (omega arith) in
+    ⊎_elim
+    (λ before.
+    list_moved front (replaced items start new) q (ap (take (length front)) (append_assoc front new rest) ∙ take-append_seam front (new ++ rest)) ordered (omega arith)
+    ∙ sym (list_moved front items q (ap (λ n. take n items) at) ordered (omega arith)))
+    (λ behind. ap (take (filled_in q)) (drop-append-drop (start + length new) items (front ++ new) q.start behind (length-append front new ∙ ap (λ n. n + length new) at)))
+    outside
+
+-- all items of a list are replaced
+pub lists_replaced : {T : Type 0} (items new : List T) (rooms : List Room) (a start : ℕ) → AreRooms (length items) rooms → start ≡ (get_or rooms a no_room).start
+    → length new ≡ length (get_or (packed_lists items rooms) a []) → packed_lists (replaced items start new) rooms ≡ set (packed_lists items rooms) a new
+lists_replaced items new rooms a start h is as_many =
+    let r : Room = get_or rooms a no_room in
+    let ordered : r.start ≤ r.end = h.ordered a in
+    let filled : r.end ≤ r.limit = h.filled a in
+    let within : r.limit ≤ length items = h.within a in
+    let long : length new ≡ filled_in r = as_many ∙ ap length (list_read items rooms a) ∙ long_as_filled items r ordered (omega arith) in
+    ap (λ n. packed_lists (replaced items n new) rooms) is
+    ∙ ap (packed_lists (replaced items r.start new)) (sym (set-get_or rooms a no_room))
+    ∙ map-set_alike (packed_list items) (packed_list (replaced items r.start new)) rooms a r no_room
+    (λ b ne. list_untouched items new r.start (get_or rooms b no_room) (omega arith) (h.ordered b) (h.filled b)
+    (⊎_elim (λ before. inl (omega arith)) (λ behind. inr (omega arith)) (h.apart b a ne)))
+    ∙ ap (set (packed_lists items rooms) a) (list_replaced items new r ordered (omega arith) long)
+
+-- the items of a list whose room is read stand among all items
+pub list_within : {T : Type 0} (items new : List T) (rooms : List Room) (a start : ℕ) → AreRooms (length items) rooms → start ≡ (get_or rooms a no_room).start
+    → length new ≡ length (get_or (packed_lists items rooms) a []) → start + length new ≤ length items
+list_within items new rooms a start h is as_many =
+    let r : Room = get_or rooms a no_room in
+    let ordered : r.start ≤ r.end = h.ordered a in
+    let filled : r.end ≤ r.limit = h.filled a in
+    let within : r.limit ≤ length items = h.within a in
+    let long : length new ≡ filled_in r = as_many ∙ ap length (list_read items rooms a) ∙ long_as_filled items r ordered (omega arith) in
+    omega arith
+
 -- one more item on a list whose room r isn't full
 lists_added : {T : Type 0} (items : List T) (rooms : List Room) (a : ℕ) (r s : Room) (x : T) → AreRooms (length items) rooms → get_or rooms a no_room ≡ r → r.end < r.limit
     → s.start ≡ r.start → s.end ≡ r.end + 1 → packed_lists (set items r.end x) (set rooms a s) ≡ set (packed_lists items rooms) a (packed_list items r ++ x ∷ [])
@@ -121,16 +199,6 @@ rooms_changed count more rooms new a s cases h grown ordered filled within apart
 rooms_set : (count more : ℕ) (rooms : List Room) (a : ℕ) (s : Room) → a < length rooms
     → AreRooms count rooms → count ≤ more → s.start ≤ s.end → s.end ≤ s.limit → s.limit ≤ more → ((b : ℕ) → b ≢ a → AreApart (get_or rooms b no_room) s) → AreRooms more (set rooms a s)
 rooms_set count more rooms a s in_range = rooms_changed count more rooms (set rooms a s) a s (λ P. set_cases P rooms a s no_room in_range)
-
--- a list that stood among the old items is the same among the new ones
-list_moved : {T : Type 0} (old new : List T) (r : Room) → take (length old) new ≡ old → r.start ≤ r.end → r.end ≤ length old → packed_list new r ≡ packed_list old r
-list_moved old new r others ordered within =
-    let rest = drop (length old) new in
-    let is : new ≡ old ++ rest = sym (take-append-drop (length old) new) ∙ ap (λ t. t ++ rest) others in
-    let left = length-drop r.start old in
-    ap (λ t. packed_list t r) is
-    ∙ ap (take (filled_in r)) (drop-append-le r.start old rest (omega arith))
-    ∙ take-append-le (filled_in r) (drop r.start old) rest (omega arith)
 
 -- a list that has found room for one more item, and the others, are what they were
 lists_spaced : {T : Type 0} (old new : List T) (rooms : List Room) (a : ℕ) (r : Room) → AreRooms (length old) rooms → HasSpace old new (get_or rooms a no_room) r → packed_lists new (set rooms a r) ≡ packed_lists old rooms

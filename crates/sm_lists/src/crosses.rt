@@ -57,16 +57,16 @@ pub fn cross_places<C: KeptPlace, N: KeptNaming>(
 {
     let namings: Packed<N> = namings(alloc, rows, others)?;
     let mut of_rows: Packed<C> = Packed::filled(alloc, rows, C::of(None))?;
-    let mut of_others: Packed<C> = Packed::with_room(alloc, others, C::of(None))?;
+    let mut of_others: Packed<C> = Packed::filled(alloc, others, C::of(None))?;
     let mut listed = Notes::new(alloc, rows.len())?;
     let mut named = Notes::new(alloc, rows.len())?;
+    let mut places = Vec::new(alloc);
     for b in 0..others.len() as u32 {
         let list = lent_at(others, b);
-        let of_agent = namings.at(b);
         note_list(list, &mut listed);
-        note_namings(of_agent, &mut named);
-        write_places(of_agent, &listed, &mut of_rows);
-        add_places(list, &named, b, &mut of_others)?;
+        write_namings(namings.at(b), &listed, &mut named, &mut of_rows);
+        find_places(list, &named, &mut places)?;
+        of_others.put_list(b, &places);
     }
     Ok(CrossPlaces {
         rows: of_rows,
@@ -142,64 +142,55 @@ fn note_list(list: &[u32], notes: &mut Notes)
     }
 }
 
-/// Notes, in a new round, where each agent names the one whose namings these are.
-fn note_namings<N: KeptNaming>(namings: &[N], notes: &mut Notes)
-    requires { notes.old.rounds + 1 < 2 ^ 32 }
-    ensures round { notes.new.rounds ≡ notes.old.rounds + 1 }
-    ensures one_each { length notes.new.places ≡ length notes.old.places }
-    ensures found { (rows : List (List ℕ)) (b : ℕ) → AreNamingsOf rows (length rows) 0 b
-        (map N.kept namings.now)
-        → (a : ℕ) → a < length notes.old.places → noted_of notes.new.places a
-        ≡ cross_place rows a b }
-{
-    notes.clear();
-    for naming in namings {
-        let Naming { by, place } = naming.naming();
-        notes.note(by, place);
-    }
-}
-
-/// Writes the cross places of the entries that make these namings, where `notes` has the place of each agent on the list of
-/// the one that is named.
-fn write_places<C: KeptPlace, N: KeptNaming>(namings: &[N], notes: &Notes, crosses: &mut Packed<C>)
+/// Writes the cross places of the entries that make these namings, where `listed` has the place of each agent on the list of
+/// the one that is named, and notes, in a new round, where each agent names it.
+fn write_namings<C: KeptPlace, N: KeptNaming>(
+    namings: &[N],
+    listed: &Notes,
+    named: &mut Notes,
+    crosses: &mut Packed<C>,
+)
+    requires round { named.old.rounds + 1 < 2 ^ 32 }
     requires by { (e : ℕ) → e < length namings.now
         → (naming_at (map N.kept namings.now) e).by < length crosses.old }
     requires on_list { (e : ℕ) → e < length namings.now
         → (naming_at (map N.kept namings.now) e).place
         < length (slice_index_or (held_in C.kept crosses.old)
         (naming_at (map N.kept namings.now) e).by []) }
-    requires fits { (a : ℕ) → IfSome (noted_of notes.now.places a) (λ place. place < C.most) }
-    ensures { (rows others : List (List ℕ)) (b : ℕ) → AreNamingsOf rows (length rows) 0 b
+    requires fits { (a : ℕ) → IfSome (noted_of listed.now.places a) (λ place. place < C.most) }
+    ensures round { named.new.rounds ≡ named.old.rounds + 1 }
+    ensures one_each { length named.new.places ≡ length named.old.places }
+    ensures found { (rows : List (List ℕ)) (b : ℕ) → AreNamingsOf rows (length rows) 0 b
         (map N.kept namings.now)
-        → ((a : ℕ) → a < length rows → noted_of notes.now.places a ≡ cross_place others b a)
+        → (a : ℕ) → a < length named.old.places → noted_of named.new.places a
+        ≡ cross_place rows a b }
+    ensures written { (rows others : List (List ℕ)) (b : ℕ) → AreNamingsOf rows (length rows) 0 b
+        (map N.kept namings.now)
+        → ((a : ℕ) → a < length rows → noted_of listed.now.places a ≡ cross_place others b a)
         → ArePlacesBefore rows others b (held_in C.kept crosses.old)
         → ArePlacesBefore rows others (b + 1) (held_in C.kept crosses.new) }
 {
+    named.clear();
     for naming in namings {
         let Naming { by, place } = naming.naming();
-        crosses.put(by, place, C::of(notes.place(by)));
+        named.note(by, place);
+        crosses.put(by, place, C::of(listed.place(by)));
     }
 }
 
-/// Adds the cross places of an agent's list, where `notes` has what each agent's cross place is. None stands there yet.
-fn add_places<C: KeptPlace>(
+/// Finds the cross places of an agent's list, where `notes` has what each agent's cross place is.
+fn find_places<C: KeptPlace>(
     list: &[u32],
     notes: &Notes,
-    b: u32,
-    crosses: &mut Packed<C>,
+    places: &mut Vec<C>,
 ) -> Result<(), AllocError>
-    requires fits { (a : ℕ) → IfSome (noted_of notes.now.places a) (λ place. place < C.most) }
-    requires in_range { b < length crosses.old }
-    requires empty { slice_index_or crosses.old b [] ≡ [] }
-    ensures one_each { OnOk result (length crosses.new ≡ length crosses.old) }
-    ensures here { OnOk result (slice_index_or (held_in C.kept crosses.new) b []
+    requires { (a : ℕ) → IfSome (noted_of notes.now.places a) (λ place. place < C.most) }
+    ensures { OnOk result (map C.kept places.new.items
         ≡ map (noted_of notes.now.places) list.now) }
-    ensures there { OnOk result ((c : ℕ) → c ≢ b
-        → slice_index_or (held_in C.kept crosses.new) c []
-        ≡ slice_index_or (held_in C.kept crosses.old) c []) }
 {
+    places.clear();
     for named in list {
-        crosses.push(b, C::of(notes.place(*named)))?;
+        places.push(C::of(notes.place(*named)))?;
     }
     Ok(())
 }

@@ -1,6 +1,6 @@
 //! Lists that stand in one vector, to each of which items can be added.
 
-ghost use Rattle.std.specs.Prelude.{◌≡◌, ◌<◌, ◌≤◌, ◌++◌, ◌∷◌, [], length, map, replicate, slice_set, slice_index_or, IfOk, OnOk, OnErr};
+ghost use Rattle.std.specs.Prelude.{◌≡◌, ◌+◌, ◌<◌, ◌≤◌, ◌++◌, ◌∷◌, [], length, map, replicate, take, drop, slice_set, slice_index_or, IfOk, OnOk, OnErr};
 ghost use Rattle.sm_lists.specs.Rows.{lists_in};
 ghost use Rattle.sm_lists.specs.Limits.{AreWithinLimits};
 ghost use Rattle.sm_lists.specs.Packed.{AreFull, HasSpace, emptied};
@@ -37,7 +37,8 @@ impl<T> Model for Packed<T> {
 }
 
 impl<T: Copy> Packed<T> {
-    /// For each of these lists one without an item, with room for as many as that list has. `item` fills what is empty.
+    /// For each of these lists one without an item, with room for as many as that list has. `item` fills what is empty. Takes
+    /// time and memory in proportion to the lists and their entries.
     ///
     /// # Errors
     ///
@@ -51,7 +52,8 @@ impl<T: Copy> Packed<T> {
         Ok(packed)
     }
 
-    /// For each of these lists one as long, all of whose items are this one.
+    /// For each of these lists one as long, all of whose items are this one. Takes time and memory in proportion to the lists
+    /// and their entries.
     ///
     /// # Errors
     ///
@@ -89,7 +91,7 @@ impl<T: Copy> Packed<T> {
         Ok(())
     }
 
-    /// Puts an item at a place of an agent's list, in the place of the one there.
+    /// Puts an item at a place of an agent's list, in the place of the one there. Takes constant time.
     pub fn put(&mut self, a: u32, place: u32, item: T)
         requires in_range { a < length self.old }
         requires on_list { place < length (slice_index_or self.old a []) }
@@ -99,7 +101,17 @@ impl<T: Copy> Packed<T> {
         self.items[start as usize + place as usize] = item;
     }
 
-    /// An agent's list.
+    /// Puts as many items as an agent's list has in the place of those there. Takes time in proportion to them.
+    pub fn put_list(&mut self, a: u32, items: &[T])
+        requires in_range { a < length self.old }
+        requires as_many { length items.now ≡ length (slice_index_or self.old a []) }
+        ensures { self.new ≡ slice_set self.old a items.now }
+    {
+        let Room { start, .. } = self.rooms[a as usize];
+        put_items(&mut self.items, start as usize, items);
+    }
+
+    /// An agent's list. Takes constant time.
     pub fn at(&self, a: u32) -> &[T]
         requires { a < length self.now }
         ensures { result.now ≡ slice_index_or self.now a [] }
@@ -108,7 +120,7 @@ impl<T: Copy> Packed<T> {
         &self.items[start as usize..end as usize]
     }
 
-    /// How many lists there are.
+    /// How many lists there are. Takes constant time.
     pub fn len(&self) -> usize
         ensures { result ≡ length self.now }
     {
@@ -145,6 +157,14 @@ fn copies<T: Copy>(alloc: Global, item: T, count: usize) -> Result<Vec<T>, Alloc
     Ok(items)
 }
 
+/// Puts items from a place on in the place of those there.
+fn put_items<T: Copy>(all: &mut [T], start: usize, items: &[T])
+    requires { start + length items.now ≤ length all.old }
+    ensures { all.new ≡ take start all.old ++ items.now ++ drop (start + length items.now) all.old }
+{
+    all[start..start + items.len()].copy_from_slice(items);
+}
+
 /// Takes all items off each list, and leaves its room.
 fn empty(rooms: &mut [Room])
     ensures { rooms.new ≡ map emptied rooms.old }
@@ -154,7 +174,9 @@ fn empty(rooms: &mut [Room])
     }
 }
 
-/// Room for one more item on a list, which moves behind all others where it has none.
+/// Room for one more item on a list, which moves behind all others where it has none. Always inlined, so that a list with room
+/// needs no call.
+#[inline(always)]
 fn with_space<T: Copy>(items: &mut Vec<T>, room: Room, item: T) -> Result<Room, AllocError>
     requires ordered { room.start ≤ room.end }
     requires filled { room.end ≤ room.limit }
@@ -163,8 +185,20 @@ fn with_space<T: Copy>(items: &mut Vec<T>, room: Room, item: T) -> Result<Room, 
     ensures kept { OnErr result (items.new.items ≡ items.old.items) }
 {
     if room.end < room.limit {
-        return Ok(room);
+        Ok(room)
+    } else {
+        moved(items, room, item)
     }
+}
+
+/// Room for the items of a list behind all others, twice as much and one more, with its items in it. `item` fills what is empty.
+#[inline(never)]
+fn moved<T: Copy>(items: &mut Vec<T>, room: Room, item: T) -> Result<Room, AllocError>
+    requires ordered { room.start ≤ room.end }
+    requires within { room.end ≤ length items.old.items }
+    ensures space { IfOk result (λ after. HasSpace items.old.items items.new.items room after) }
+    ensures kept { OnErr result (items.new.items ≡ items.old.items) }
+{
     let start = items.len();
     let count = (room.end - room.start) as usize;
     let limit = start + 2 * count + 1;

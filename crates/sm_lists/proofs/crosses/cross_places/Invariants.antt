@@ -1,6 +1,6 @@
-use Rattle.std.proofs.Common.{◌≡◌, ℕ, ◌+◌, ◌<◌, ◌≤◌, [], length, get_or}
+use Rattle.std.proofs.Common.{◌≡◌, ℕ, ◌+◌, ◌<◌, [], length, get_or}
 use Rattle.sm_lists.specs.Crosses.{AreCrossPlacesOf}
-use Rattle.sm_lists.specs.Rows.{lists_in}
+use Rattle.sm_lists.specs.Rows.{row, lists_in}
 use Rattle.sm_lists.specs.Held.{held_in}
 use Rattle.sm_lists.specs.Kept.{ArePlacesBefore}
 use Rattle.sm_lists.proofs.crosses.cross_places.Given as goal
@@ -13,6 +13,6 @@ invariant-loop-b g l = record {
   named_long : length l.named.places ≡ length l.rows;
   before : ArePlacesBefore (lists_in l.rows) (lists_in l.others) l.b (held_in g.C.KeptPlace.kept l.of_rows);
   back_each : length l.of_others ≡ length l.others;
+  back_long : (c : ℕ) → length (get_or l.of_others c []) ≡ length (row (lists_in l.others) c);
   back_of : (c : ℕ) → c < l.b → AreCrossPlacesOf (lists_in l.others) (lists_in l.rows) c (get_or (held_in g.C.KeptPlace.kept l.of_others) c []);
-  back_empty : (c : ℕ) → l.b ≤ c → get_or l.of_others c [] ≡ [];
 }
