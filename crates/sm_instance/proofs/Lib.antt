@@ -1,6 +1,5 @@
 pub mod ListLemmas
 pub mod PlaceLemmas
-pub mod NameLemmas
 pub mod AgentLemmas
 pub mod NamingLemmas
 pub mod CrossLemmas

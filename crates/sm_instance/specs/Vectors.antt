@@ -1,6 +1,5 @@
 -- Agents and lists that are held in vectors, as plain data.
-use Rattle.std.specs.Prelude.{ℕ, List, map, Vec, ℤ}
-use Rattle.std.specs.declared.alloc.Global.{Global}
+use Rattle.std.specs.Prelude.{ℕ, List, map, ℤ}
 use Rattle.sm_instance.specs.Written.{AgentData, Written}
 use Rattle.sm_instance.specs.declared.kinds.Kind.{Kind}
 use Rattle.sm_instance.specs.declared.agents.Agent.{Agent}
@@ -13,10 +12,6 @@ agent_of agent = record { name = agent.name.items; capacity = agent.capacity; li
 -- some agents as plain data
 abbrev pub agents_of : List Agent → List AgentData
 agents_of agents = map agent_of agents
-
--- texts that are held in vectors
-abbrev pub texts_of : List (Vec ℕ Global) → List (List ℕ)
-texts_of texts = map (λ v. v.items) texts
 
 -- an instance of these parts
 abbrev pub written_from : Kind → List Agent → List Agent → List (ℕ × ℕ × ℤ) → List (ℕ × ℕ) → List (ℕ × ℕ) → Written

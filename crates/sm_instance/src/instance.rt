@@ -16,11 +16,12 @@ use crate::cross::Cross;
 use crate::crosses::crossings;
 use crate::faults::InstanceFault;
 use crate::kinds::Kind;
-use crate::names::Names;
+use crate::names::names_for;
 use crate::namings::{Naming, place_by};
 use crate::pairs::Pairs;
 use crate::parts::Parts;
 use sm_lists::{CrossPlaces, KeptPlace, Packed};
+use sm_names::Names;
 use sm_text::TextHash;
 use std::alloc::{AllocError, Global};
 use std::marker::Model;
@@ -119,8 +120,8 @@ impl Instance {
             + length parts.forbidden.items < 2 ^ 24 }
         ensures { IfOk result (λ i. i ≡ written_in parts) }
     {
-        let left = Names::of(alloc, hash, &parts.proposers)?;
-        let right = Names::of(alloc, hash, &parts.reviewers)?;
+        let left = names_for(alloc, hash, &parts.proposers)?;
+        let right = names_for(alloc, hash, &parts.reviewers)?;
         let weighed = Pairs::of(alloc, hash, &parts.weights)?;
         of_parts(alloc, parts, left, right, weighed)
     }

@@ -10,7 +10,8 @@ use crate::agents::Agent;
 use crate::checks::{are_within_limits, check_entries, checked_names};
 use crate::faults::InstanceFault;
 use crate::kinds::{Kind, Side};
-use crate::names::Names;
+use crate::names::names_for;
+use sm_names::Names;
 use sm_text::TextHash;
 use std::alloc::{AllocError, Global};
 use std::marker::Model;
@@ -70,7 +71,7 @@ impl Persons {
         requires { ArePersons (agents_of persons.items) }
         ensures { IfOk result (λ p. p ≡ agents_of persons.items) }
     {
-        let names = Names::of(alloc, hash, &persons)?;
+        let names = names_for(alloc, hash, &persons)?;
         Ok(Persons { persons, names })
     }
 

@@ -1,8 +1,8 @@
 use Rattle.std.proofs.Common.{ap, ◌∙◌, position}
 use Rattle.std.specs.Str.{bytes_eq}
 use Rattle.indexmap.specs.IndexSet.{keys}
-use Rattle.sm_instance.proofs.NameLemmas.{position-texts}
-use Rattle.sm_instance.proofs.names.Names.find.Goals as goal
+use Rattle.sm_names.proofs.NameLemmas.{position-texts}
+use Rattle.sm_names.proofs.names.Names.find.Goals as goal
 
 pub returns-in-Some-clause-number : goal.returns-in-Some-clause-number
 returns-in-Some-clause-number c =

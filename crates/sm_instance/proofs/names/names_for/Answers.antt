@@ -3,7 +3,7 @@ use Rattle.std.specs.List.{list_any}
 use Rattle.std.specs.Str.{bytes_eq}
 use Rattle.sm_instance.specs.Vectors.{agents_of}
 use Rattle.sm_instance.proofs.AgentLemmas.{length-agents, name_is_new, names_more}
-use Rattle.sm_instance.proofs.names.Names.of.Goals as goal
+use Rattle.sm_instance.proofs.names.names_for.Goals as goal
 
 pub loop-a-preserved : goal.loop-a-preserved
 loop-a-preserved c =

@@ -1,0 +1,15 @@
+use Rattle.std.proofs.Common.{not, ap, ◌∙◌}
+use Rattle.std.specs.List.{list_any}
+use Rattle.std.specs.Str.{bytes_eq}
+use Rattle.indexmap.specs.IndexSet.{keys}
+use Rattle.sm_names.specs.Keys.{text_of}
+use Rattle.sm_names.proofs.NameLemmas.{list_any-texts}
+use Rattle.sm_names.proofs.names.Names.add.Goals as goal
+
+pub returns-clause-added : goal.returns-clause-added
+returns-clause-added c =
+    let name = c.in_ok-of.field-0 in
+    c.in_ok-insert.ensures.added
+    ∙ ap not (list_any-texts (text_of name) (keys c.self.inside.names))
+    ∙ ap (λ t. not (list_any (bytes_eq (text_of name)) t)) c.self.view_is
+    ∙ ap (λ t. not (list_any (bytes_eq t) c.args.self.now)) c.in_ok-of.ensures
