@@ -2,15 +2,18 @@
 use Rattle.std.proofs.Common.{◌≡◌, ℕ, zero, suc, ◌+◌, ◌<◌, ◌≤◌, ◌++◌, ◌∷◌, [], cond, List, Option, Some, None, length, take, map, get_or, replicate, unwrap_or, refl, sym, ap, ◌∙◌, arith}
 use Rattle.std.specs.List.{flat_map, range_with_len}
 use Rattle.std.proofs.lemmas.List.{ext_get_or, get_or-map, length-map, length-take-le, take_all}
+use Rattle.std.proofs.lemmas.List.FromFn.{get_or-map-range_with_len, length-map-range_with_len}
 use Rattle.sm_lists.specs.Rows.{place_on}
-use Rattle.sm_instance.specs.Written.{Written, row, entry, place_of}
+use Rattle.sm_instance.specs.Written.{Written, AgentData, row, entry, place_of, lists_of}
 use Rattle.sm_instance.specs.Sound.{IsInstance}
 use Rattle.sm_instance.specs.Crosses.{AreCrossPlacesOf}
 use Rattle.sm_instance.proofs.AcceptLemmas.{lt_true}
+use Rattle.sm_instance.proofs.CrossLemmas.{row-lists_of}
 use Rattle.sm_seats.specs.Mutual.{mutual_row}
 use Rattle.sm_seats.specs.SeatMarket.{seat_count, seats_before, seats_at, named_seats, seat_row}
 use Rattle.sm_seats.specs.Tables.{begin_of, crosses_at, cross_row, seat_crosses, lists_for, crosses_for}
 use Rattle.sm_seats.specs.Plain.{IsPlain, places_in}
+use Rattle.sm_seats.specs.ProposerRows.{seat_rows_of}
 use Rattle.sm_seats.proofs.MutualLemmas.{IsMutual, mutual_turned, entry_mutual}
 use Rattle.sm_seats.proofs.SeatLemmas.{seats_before_more}
 use Rattle.sm_seats.proofs.TableLemmas.{begin_of-first_place}
@@ -93,6 +96,17 @@ module _ {w : Written} (h : IsInstance w) (plain : IsPlain w) where
         ∙ sym (get_or-map place list i 0 0 on))
         ∙ sym (one_each (crosses_at w p) place list crosses_is)
         ∙ ap (flat_map (crosses_at w p)) (sym (plain.proposers p there))
+
+  -- so the proposers' lists of seats are the written lists
+  pub rows_are_written : seat_rows_of w (length w.proposers) ≡ lists_of w.proposers
+  rows_are_written =
+      let n : ℕ = length w.proposers in
+      let rows = length-map-range_with_len (seat_row w) 0 n in
+      let lists = length-map w.proposers (λ (agent : AgentData). agent.entries) in
+      ext_get_or [] (seat_rows_of w n) (lists_of w.proposers) (rows ∙ sym lists)
+      (λ p l.
+      let there : p < n = omega (arith, l, rows) in
+      get_or-map-range_with_len (seat_row w) 0 n p p [] there (omega arith) ∙ seat_row_is p there ∙ sym (row-lists_of w.proposers p))
 
   module _ (r : ℕ) (there : r < length w.reviewers) where
     -- the list of its one seat is the written one

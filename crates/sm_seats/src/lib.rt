@@ -16,6 +16,7 @@ mod reviewer_rows;
 mod seats;
 mod taking;
 pub mod witnesses;
+mod written_lists;
 
 pub use counts::{SeatCounts, seat_counts};
 pub use faults::SeatsFault;

@@ -3,7 +3,8 @@
 
 ghost use Rattle.std.specs.Prelude.{◌≡◌, ℕ, ◌<◌, ◌≤◌, ◌↔◌, length, IfOk, OnOk, IsTrue};
 ghost use Rattle.sm_text.specs.Limits.{most_agents};
-ghost use Rattle.sm_instance.specs.Written.{row};
+ghost use Rattle.sm_instance.specs.Sound.{IsInstance};
+ghost use Rattle.sm_instance.specs.Written.{row, lists_of};
 ghost use Rattle.sm_seats.specs.Mutual.{mutual_row};
 ghost use Rattle.sm_seats.specs.SeatMarket.{seats_of};
 ghost use Rattle.sm_seats.specs.Counted.{acceptable_of, first_seats_of};
@@ -94,8 +95,10 @@ pub(crate) fn plain_proposers(
     room: usize,
 ) -> Result<ProposerRows, AllocError>
     requires { IsPlain instance.now }
+    ensures instance { IsInstance instance.now }
     ensures lists { IfOk result
         (λ rows. rows.lists ≡ seat_rows_of instance.now (length instance.now.proposers)) }
+    ensures written { IfOk result (λ rows. rows.lists ≡ lists_of instance.now.proposers) }
     ensures crosses { IfOk result
         (λ rows. rows.crosses ≡ cross_rows_of instance.now (length instance.now.proposers)) }
 {

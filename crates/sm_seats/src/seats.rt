@@ -1,6 +1,6 @@
 //! Seats, and matchings of them.
 
-ghost use Rattle.std.specs.Prelude.{◌≡◌, ◌+◌, ◌<◌, length, slice_index_or, IfOk, IfErr, OnOk};
+ghost use Rattle.std.specs.Prelude.{◌≡◌, ◌+◌, ◌<◌, length, slice_index_or, unwrap_or, IfOk, IfErr, OnOk};
 ghost use Rattle.sm_instance.specs.Written.{Written, lists_of};
 ghost use Rattle.sm_instance.specs.Sound.{IsInstance};
 ghost use Rattle.std.specs.Option.{option_map};
@@ -26,6 +26,7 @@ use crate::plain::{is_plain, plain_proposers, plain_seats};
 use crate::proposer_rows::{ProposerRows, proposer_rows};
 use crate::reviewer_rows::{ReviewerRows, reviewer_rows};
 use crate::taking::taken_places;
+use crate::written_lists::WrittenLists;
 use sm_instance::{Assignment, Instance};
 use sm_lists::Rows;
 use sm_market::{Market, Pairing};
@@ -41,7 +42,7 @@ use std::rc::Rc;
 /// to the entries on the lists of the seats, and others may keep the market too.
 #[derive(Debug, Drop)]
 pub struct Seats {
-    lists: Rows,
+    lists: WrittenLists,
     market: Rc<Market>,
     seats: Vec<(u32, u32)>,
 }
@@ -97,13 +98,14 @@ impl Seats {
             let room = counts.entries as usize;
             let proposers = plain_proposers(alloc, instance, room)?;
             let reviewers = plain_seats(alloc, instance, room)?;
-            return seats_held(alloc, instance, proposers, reviewers);
+            return seats_held(alloc, instance, None, proposers, reviewers);
         }
         let places = mutual_places(alloc, instance, &counts.acceptable)?;
         let begins = seat_places(alloc, instance, &counts.firsts)?;
         let proposers = proposer_rows(alloc, instance, counts, &places, &begins)?;
         let reviewers = reviewer_rows(alloc, instance, counts, &begins)?;
-        seats_held(alloc, instance, proposers, reviewers)
+        let lists = written_lists(alloc, instance)?;
+        seats_held(alloc, instance, Some(lists), proposers, reviewers)
     }
 
     /// The market of the seats: its proposers are those of the instance, and its reviewers the seats, both from 0. Its lists
@@ -227,14 +229,17 @@ impl Seats {
     }
 }
 
-/// The seats with these lists, beside the lists that the proposers wrote.
+/// The seats with these lists, beside the lists that the proposers wrote where these differ from those of the market.
 fn seats_held(
     alloc: Global,
     instance: &Instance,
+    beside: Option<Rows>,
     proposers: ProposerRows,
     reviewers: ReviewerRows,
 ) -> Result<Seats, AllocError>
+    requires instance { IsInstance instance.now }
     requires few { AreFewSeats instance.now }
+    requires written { unwrap_or beside proposers.lists ≡ lists_of instance.now.proposers }
     requires proposers { proposers.lists
         ≡ seat_rows_of instance.now (length instance.now.proposers) }
     requires proposer_crosses { proposers.crosses
@@ -247,7 +252,7 @@ fn seats_held(
     ensures seats { IfOk result (λ seats. seats ≡ seating_of instance.now) }
     ensures seating { IfOk result (λ seats. IsSeating instance.now seats) }
 {
-    let lists = written_lists(alloc, instance)?;
+    let _ = instance;
     let market = Market::held(
         proposers.lists,
         reviewers.lists,
@@ -255,6 +260,7 @@ fn seats_held(
         reviewers.crosses,
     );
     let market = Rc::new(alloc, market)?;
+    let lists = WrittenLists::of(beside, market.clone()?);
     Ok(Seats {
         lists,
         market,

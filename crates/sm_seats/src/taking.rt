@@ -9,8 +9,8 @@ ghost use Rattle.sm_seats.specs.SeatMarket.{seats_before, seat_count, seats_of, 
 ghost use Rattle.sm_seats.specs.Taken.{places_taken};
 ghost use Rattle.sm_seats.specs.Taking.{AreSeatedAt};
 
+use crate::written_lists::WrittenLists;
 use sm_instance::Assignment;
-use sm_lists::Rows;
 use sm_market::Market;
 use std::alloc::{AllocError, Global};
 
@@ -22,7 +22,7 @@ use std::alloc::{AllocError, Global};
 /// `AllocError` where memory ran out, and only then.
 pub(crate) fn taken_places(
     alloc: Global,
-    lists: &Rows,
+    lists: &WrittenLists,
     market: &Market,
     seats: &[(u32, u32)],
     a: &Assignment,
@@ -42,7 +42,7 @@ pub(crate) fn taken_places(
 
 /// Seats the proposers at each reviewer, one reviewer after another.
 fn seat_all(
-    lists: &Rows,
+    lists: &WrittenLists,
     market: &Market,
     seats: &[(u32, u32)],
     a: &Assignment,
@@ -68,7 +68,7 @@ fn seat_all(
 
 /// Seats those at a reviewer in its order, from its first seat on. The first seat is given with its reviewer.
 fn seat_in_order(
-    lists: &Rows,
+    lists: &WrittenLists,
     market: &Market,
     first: (u32, u32),
     a: &Assignment,
@@ -105,7 +105,7 @@ fn held_place(a: &Assignment, q: u32) -> Option<u32>
 }
 
 /// Is a proposer at a reviewer?
-fn is_at(lists: &Rows, a: &Assignment, q: u32, r: u32) -> bool
+fn is_at(lists: &WrittenLists, a: &Assignment, q: u32, r: u32) -> bool
     ghost written: { Written }
     requires lists { lists.now ≡ lists_of written.proposers }
     requires assigned { IsAssignment written a.now.places.items }

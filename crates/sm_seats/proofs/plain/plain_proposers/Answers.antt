@@ -1,8 +1,9 @@
-use Rattle.std.proofs.Common.{◌<◌, length, sym, ◌∙◌, arith}
+use Rattle.std.proofs.Common.{◌≡◌, ◌<◌, length, sym, ap, ◌∙◌, arith}
 use Rattle.sm_seats.specs.SeatMarket.{seat_row}
 use Rattle.sm_seats.specs.Tables.{cross_row}
+use Rattle.sm_seats.specs.ProposerRows.{seat_rows_of}
 use Rattle.sm_seats.proofs.TableLemmas.{list_pushed}
-use Rattle.sm_seats.proofs.PlainLemmas.{seat_row_is, cross_row_is}
+use Rattle.sm_seats.proofs.PlainLemmas.{seat_row_is, cross_row_is, rows_are_written}
 use Rattle.sm_seats.proofs.plain.plain_proposers.Goals as goal
 
 pub loop-p-preserved : goal.loop-p-preserved
@@ -16,3 +17,10 @@ loop-p-preserved c =
       crosses = rw c.in_ok-push-2.ensures.pushed (list_pushed c.loop-p.crosses c.deref.result.now (cross_row w) p c.loop-p.invariant.crosses
           (c.deref.ensures.value ∙ c.in_ok-write_places.ensures ∙ cross_row_is it c.requires p there c.proposer_crosses.result.now c.proposer_crosses.ensures));
     }
+
+pub returns-clause-written : goal.returns-clause-written
+returns-clause-written c =
+    let w = c.args.instance.now in
+    let it = c.proposer_count-proposers.ensures.instance in
+    let whole : c.loop-p.p ≡ length w.proposers = omega arith in
+    c.loop-p.invariant.lists ∙ ap (seat_rows_of w) whole ∙ rows_are_written it c.requires
