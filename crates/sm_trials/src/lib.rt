@@ -16,6 +16,8 @@ mod listings;
 #[cfg(test)]
 mod made;
 #[cfg(test)]
+mod names;
+#[cfg(test)]
 mod pieces;
 #[cfg(test)]
 mod reading;
