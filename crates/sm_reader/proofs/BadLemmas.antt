@@ -31,7 +31,8 @@ bad_taken zero xs some = absurd (omega arith)
 bad_taken (suc n) [] some = refl
 bad_taken (suc n) (b ∷ xs) some = refl
 
-begun_taken : (n : ℕ) (xs : List ℕ) → 0 < n → begins_run (take n xs) ≡ begins_run xs
+-- what stands first in some of the bytes stands first in all
+pub begun_taken : (n : ℕ) (xs : List ℕ) → 0 < n → begins_run (take n xs) ≡ begins_run xs
 begun_taken zero xs some = absurd (omega arith)
 begun_taken (suc n) [] some = refl
 begun_taken (suc n) (b ∷ xs) some = refl

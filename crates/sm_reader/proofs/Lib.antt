@@ -1,6 +1,7 @@
 pub mod TextLemmas
 pub mod WordLemmas
 pub mod BadLemmas
+pub mod FirstLemmas
 pub mod RunLemmas
 pub mod WholeLemmas
 pub mod NameLemmas

@@ -18,7 +18,6 @@ use Rattle.sm_instance.specs.declared.kinds.Side.TheVariants.{Proposers, Reviewe
 use Rattle.sm_reader.specs.declared.forms.Condition.{Condition}
 use Rattle.sm_reader.specs.declared.forms.Condition.TheVariants.{Force, Forbid}
 use Rattle.sm_reader.specs.Forms.{Form, declares, weighs, binds, list_form, capacity_form, weight_form, pair_form, reviewer_form, two_sided_form, form_behind, is_colon}
-use Rattle.sm_reader.specs.Kept.{is_inner}
 use Rattle.sm_reader.specs.Draft.{entries_in}
 
 -- the first of two that hold
@@ -163,26 +162,17 @@ module _ (P Q : List (List ℕ) → Type 0) (tail : (t : List ℕ) (ts : List (L
   list_behind Marriage word rest h = of_cond (bytes_eq word (codes "p")) (list_form Proposers rest) (two_sided_form Marriage word rest) (of_list Proposers rest h) (of_two_sided Marriage word rest h)
   list_behind Hospitals word rest h = of_cond (bytes_eq word (codes "p")) (list_form Proposers rest) (two_sided_form Hospitals word rest) (of_list Proposers rest h) (of_two_sided Hospitals word rest h)
 
--- a name byte begins a name unless it is one of those that don't
-first_begins : (b : ℕ) → is_name_byte b ≡ true → begins_name b ≡ not (is_inner b)
-unfolding is_name_byte begins_name
-first_begins b h = grind (arith, nat_tests)
-
 -- two of four tests, the other two of which pass
-two_of_four : (s t u v w : Bool) → s ≡ true → v ≡ true → u ≡ w → (s && t && u && v) ≡ (w && t)
-two_of_four true true true true true e f g = refl
-two_of_four true true false true false e f g = refl
-two_of_four true false true true true e f g = refl
-two_of_four true false false true false e f g = refl
-two_of_four true t true true false e f g = cc
-two_of_four true t false true true e f g = cc
-two_of_four true t u false w e f g = cc
-two_of_four false t u v w e f g = cc
+two_of_four : (s t u v : Bool) → s ≡ true → v ≡ true → (s && t && u && v) ≡ (t && u)
+two_of_four true true true true e f = refl
+two_of_four true true false true e f = refl
+two_of_four true false u true e f = refl
+two_of_four true t u false e f = cc
+two_of_four false t u v e f = cc
 
--- a run is a name unless it is too long or begins with one of those
-pub is_name-run : (run : List ℕ) → 1 ≤ length run → list_all is_name_byte run ≡ true → is_name run ≡ (not (is_inner (get_or run 0 0)) && nat_le (length run) most_name_bytes)
+-- a run is a name unless it is too long or begins with a byte with which none does
+pub is_name-run : (run : List ℕ) → 1 ≤ length run → list_all is_name_byte run ≡ true → is_name run ≡ (nat_le (length run) most_name_bytes && begins_name (get_or run 0 0))
 is_name-run [] some all = absurd (omega arith)
 is_name-run (b ∷ rest) some all =
     let one : nat_le 1 (length (b ∷ rest)) ≡ true = grind (arith, nat_tests) in
-    two_of_four (nat_le 1 (length (b ∷ rest))) (nat_le (length (b ∷ rest)) most_name_bytes) (begins_name b) (list_all is_name_byte (b ∷ rest)) (not (is_inner b)) one all
-    (first_begins b (and_left (is_name_byte b) (list_all is_name_byte rest) all))
+    two_of_four (nat_le 1 (length (b ∷ rest))) (nat_le (length (b ∷ rest)) most_name_bytes) (begins_name b) (list_all is_name_byte (b ∷ rest)) one all

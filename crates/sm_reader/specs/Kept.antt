@@ -1,5 +1,5 @@
 -- What the reading keeps of lines and of the names on them.
-use Rattle.std.specs.Prelude.{nat_le, ◌≡◌, ◌≢◌, ℕ, ◌<◌, ◌≤◌, ◌==◌, Bool, true, false, not, ◌||◌, if◌then◌else◌, List, [], ◌∷◌, ◌++◌, length, map, drop, slice_index, slice_index_or, position, Option, Some, None, AllPairs}
+use Rattle.std.specs.Prelude.{nat_le, ◌≡◌, ◌≢◌, ℕ, ◌<◌, ◌≤◌, ◌==◌, Bool, true, false, not, if◌then◌else◌, List, [], ◌∷◌, ◌++◌, length, map, drop, slice_index, slice_index_or, position, Option, Some, None, AllPairs}
 use Rattle.std.specs.List.{list_any, list_all}
 use Rattle.std.specs.Borrow.{Bor}
 use Rattle.std.specs.Str.{bytes_eq}
@@ -18,10 +18,6 @@ text_of key = key.text.now
 -- the names that are keys
 abbrev pub key_texts : List Key → List (List ℕ)
 key_texts keys = map text_of keys
-
--- `.` or `-`: the name bytes with which no name begins
-abbrev pub is_inner : ℕ → Bool
-is_inner b = b == 46 || b == 45
 
 -- the last so many of the tokens are names, and no more: those behind the first k are where they are no more than that
 pub record AreNamesAtEnd (names : ℕ) (tokens : List (List ℕ)) : Type 0 where

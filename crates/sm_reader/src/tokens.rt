@@ -1,11 +1,12 @@
 //! Lines, and their tokens.
 
-ghost use Rattle.std.specs.Prelude.{◌≡◌, ◌-◌, ◌<◌, ◌≤◌, [], true, length, take, drop, IfOk, IfSome, MatchOption};
+ghost use Rattle.std.specs.Prelude.{◌≡◌, ◌+◌, ◌-◌, ◌<◌, ◌≤◌, ℕ, [], ◌∷◌, ◌++◌, true, false, length, take, drop, IfOk, IfSome, MatchOption};
 ghost use Rattle.std.specs.List.{list_any, list_all};
-ghost use Rattle.sm_text.specs.Name.{is_name as is_a_name, is_name_byte};
+ghost use Rattle.sm_text.specs.Limits.{most_name_bytes};
+ghost use Rattle.sm_text.specs.Name.{is_name as is_a_name, is_name_byte, begins_name};
 ghost use Rattle.sm_text.specs.Tokens.{tokens, begins_run, token_at, run_end, IsLeading, LeadsTokens};
 ghost use Rattle.sm_reader.specs.Forms.{is_bad};
-ghost use Rattle.sm_reader.specs.Kept.{LeadsLines, is_inner, AreNamesAtEnd};
+ghost use Rattle.sm_reader.specs.Kept.{LeadsLines, AreNamesAtEnd};
 ghost use Rattle.sm_text.specs.Slices.{texts_of};
 
 use sm_text::{LineSpan, MOST_NAME_BYTES, TokenAt, is_name_byte, line_at, token_at};
@@ -57,12 +58,90 @@ pub(crate) fn cut<'a>(line: &'a [u8], into: &mut Vec<&'a [u8]>) -> Result<Found,
         bad = bad || token.bad;
         others = if token.name { others } else { into.len() + 1 };
         into.push(&line[token.start..token.stop])?;
-        from = behind_blank(line, token.stop);
+        from = cut_names(line, behind_blank(line, token.stop), into)?;
     }
     Ok(Found {
         bad,
         names: into.len() - others,
     })
+}
+
+/// Adds the names that stand one after the other from a place on, with one blank behind each, to what the vector holds, and
+/// answers the place behind them. Nearly all tokens of a list are such names, and no more than this is done for them.
+fn cut_names<'a>(line: &'a [u8], from: usize, into: &mut Vec<&'a [u8]>) -> Result<usize, AllocError>
+    ensures cut { IfOk result (λ next. texts_of into.new.items ++ tokens (drop next line.now)
+        ≡ texts_of into.old.items ++ tokens (drop from line.now)) }
+    ensures bad { IfOk result (λ next. list_any is_bad (tokens (drop next line.now))
+        ≡ list_any is_bad (tokens (drop from line.now))) }
+    ensures names { IfOk result (λ _. (k : ℕ) → k ≤ length into.old.items
+        → list_all is_a_name (drop k (texts_of into.new.items))
+        ≡ list_all is_a_name (drop k (texts_of into.old.items))) }
+    ensures longer { length into.old.items ≤ length into.new.items }
+    ensures behind { IfOk result (λ next. from ≤ next) }
+{
+    let last = line.len().saturating_sub(8);
+    let mut at = from;
+    'names: while let Some(name) = name_at(line, at, last) {
+        into.push(name)?;
+        at += name.len() + 1;
+    }
+    Ok(at)
+}
+
+/// The name that begins at a place before the last eight bytes, if one does and a blank stands behind it. The length of the
+/// line is tested once for all bytes of a short name.
+fn name_at<'a>(line: &'a [u8], at: usize, last: usize) -> Option<&'a [u8]>
+    requires { last ≤ length line.now - 8 }
+    ensures within { IfSome result (λ name. at + length name.now < length line.now) }
+    ensures tokens { IfSome result (λ name. tokens (drop at line.now)
+        ≡ name.now ∷ tokens (drop (at + length name.now + 1) line.now)) }
+    ensures name { IfSome result (λ name. is_a_name name.now ≡ true) }
+    ensures bad { IfSome result (λ name. is_bad name.now ≡ false) }
+{
+    if at >= last || !begins_name(line[at]) {
+        return None;
+    }
+    let len = run_len(line, at);
+    if line[at + len] == b' ' {
+        Some(&line[at..at + len])
+    } else {
+        None
+    }
+}
+
+/// How long the run of name bytes is that begins at a place, where it is no longer than a name may be and some byte stands
+/// behind it, and else how long some part of it is. The loop has a fixed length, so that it becomes a row of tests.
+fn run_len(line: &[u8], at: usize) -> usize
+    requires { at + 8 < length line.now }
+    ensures within { at + result < length line.now }
+    ensures few { result ≤ most_name_bytes }
+    ensures some { 1 ≤ result }
+    ensures run { run_end line.now (at + result) ≡ run_end line.now (at + 1) }
+{
+    'run: for len in 1..8 {
+        if !is_name_byte(line[at + len]) {
+            return len;
+        }
+    }
+    long_run_len(line, at)
+}
+
+/// The same for a run of eight bytes or more. Never inlined, so that shorter names pay nothing for it.
+#[inline(never)]
+fn long_run_len(line: &[u8], at: usize) -> usize
+    requires within { at + 8 < length line.now }
+    requires run { run_end line.now (at + 8) ≡ run_end line.now (at + 1) }
+    ensures within { at + result < length line.now }
+    ensures few { result ≤ most_name_bytes }
+    ensures some { 1 ≤ result }
+    ensures run { run_end line.now (at + result) ≡ run_end line.now (at + 1) }
+{
+    let stop = run_end(line, at + 8);
+    if stop < line.len() && stop - at <= MOST_NAME_BYTES {
+        stop - at
+    } else {
+        8
+    }
 }
 
 /// The first token at or behind a place of a line.
@@ -110,7 +189,7 @@ fn behind_blank(line: &[u8], at: usize) -> usize
     }
 }
 
-/// What `token_at` finds, with less to test where a run begins at the place itself, as most do.
+/// What `token_at` finds, with less to test where a run begins at the place itself.
 #[inline(always)]
 fn first_token(line: &[u8], from: usize) -> TokenAt
     ensures token { result ≡ token_at line.now from }
@@ -167,12 +246,35 @@ fn is_name_run(run: &[u8]) -> bool
     requires all { list_all is_name_byte run.now ≡ true }
     ensures { result ≡ is_a_name run.now }
 {
-    run.len() <= MOST_NAME_BYTES && !is_inner(run[0])
+    run.len() <= MOST_NAME_BYTES && begins_name(run[0])
 }
 
-/// Is it `.` or `-`, with which no name begins?
-fn is_inner(b: u8) -> bool
-    ensures { result ≡ is_inner b }
+/// May a name begin with this byte?
+fn begins_name(b: u8) -> bool
+    ensures { result ≡ begins_name b }
 {
-    b == b'.' || b == b'-'
+    FIRST_BYTES[b as usize]
 }
+
+/// For each byte, whether a name may begin with it. One look takes less time than comparisons do.
+static FIRST_BYTES: [bool; 256] = [
+    false, false, false, false, false, false, false, false, false, false, false, false, false,
+    false, false, false, false, false, false, false, false, false, false, false, false, false,
+    false, false, false, false, false, false, false, false, false, false, false, false, false,
+    false, false, false, false, false, false, false, false, false, true, true, true, true, true,
+    true, true, true, true, true, false, false, false, false, false, false, false, true, true,
+    true, true, true, true, true, true, true, true, true, true, true, true, true, true, true, true,
+    true, true, true, true, true, true, true, true, false, false, false, false, true, false, true,
+    true, true, true, true, true, true, true, true, true, true, true, true, true, true, true, true,
+    true, true, true, true, true, true, true, true, true, false, false, false, false, false, false,
+    false, false, false, false, false, false, false, false, false, false, false, false, false,
+    false, false, false, false, false, false, false, false, false, false, false, false, false,
+    false, false, false, false, false, false, false, false, false, false, false, false, false,
+    false, false, false, false, false, false, false, false, false, false, false, false, false,
+    false, false, false, false, false, false, false, false, false, false, false, false, false,
+    false, false, false, false, false, false, false, false, false, false, false, false, false,
+    false, false, false, false, false, false, false, false, false, false, false, false, false,
+    false, false, false, false, false, false, false, false, false, false, false, false, false,
+    false, false, false, false, false, false, false, false, false, false, false, false, false,
+    false, false, false, false, false, false, false, false, false, false,
+];
