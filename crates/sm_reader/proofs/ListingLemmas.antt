@@ -1,17 +1,17 @@
 -- The names of a list, one after another.
-use Rattle.std.proofs.Common.{◌≡◌, ℕ, zero, suc, ◌+◌, ◌<◌, ◌≤◌, ◌||◌, eqb, Bool, true, false, cond, List, [], ◌∷◌, ◌++◌, length, get_or, take, drop, map, refl, sym, ap, ◌∙◌, append_assoc, inl, inr, arith}
+use Rattle.std.proofs.Common.{◌≡◌, ℕ, zero, suc, ◌+◌, ◌<◌, ◌≤◌, ◌||◌, eqb, Bool, true, false, cond, List, [], ◌∷◌, ◌++◌, length, get_or, take, drop, map, set, ◌≢◌, refl, sym, ap, ◌∙◌, append_assoc, inl, inr, arith}
 use Rattle.std.specs.List.{list_any}
 use Rattle.std.specs.Str.{bytes_eq}
 use Rattle.std.proofs.Math.ListN.{get_or-append}
 use Rattle.std.proofs.Math.Seq.{get_or-append_seam, drop-cons}
-use Rattle.std.proofs.lemmas.List.{append-nil, take-append-drop, length-append, length-take-le, length-map, take_more, take_all, get_or_past, get_or-map, map_push}
+use Rattle.std.proofs.lemmas.List.{append-nil, take-append-drop, length-append, length-take-le, length-map, take_more, take_all, drop_all, length-set, get_or_past, get_or-map, map_push}
 use Rattle.std.proofs.lemmas.List.Folds.{list_any-append, list_any_none}
 use Rattle.std.proofs.lemmas.Bool.{false≢true, cases_lt}
 use Rattle.std.proofs.lemmas.Bool.Decides.{nat_tests}
 use Rattle.sm_reader.specs.Judging.{has_repeated}
-use Rattle.sm_reader.specs.Kept.{Table, text_at, Extends, AreBelow, IsStamped, HasStamp, IsListed}
+use Rattle.sm_reader.specs.Kept.{Table, IsTable, text_at, Extends, AreBelow, IsStamped, HasStamp, IsListed, IsAt, IsListing, ListsFurther}
 use Rattle.sm_reader.proofs.TextLemmas.{same_text, equal_text, other_text}
-use Rattle.sm_reader.proofs.TableLemmas.{distinct_index, cases_eq}
+use Rattle.sm_reader.proofs.TableLemmas.{distinct_index, cases_eq, interned_at, stamped_new}
 
 or_true : (b : Bool) → (b || true) ≡ true
 or_true true = refl
@@ -79,17 +79,6 @@ extends_twice a b d first second = record {
   more = first.more ++ second.more;
   appended = second.appended ∙ ap (λ x. x ++ second.more) first.appended ∙ append_assoc a first.more second.more;
 }
-
--- the first names of a list have their indexes, and they alone have this stamp
-pub record IsListing (first now : Table) (entries : List (List ℕ)) (stamp i : ℕ) (indexes : List ℕ) : Type 0 where
-  pub extends : Extends first.texts now.texts
-  pub declared : now.declared ≡ first.declared
-  pub differ : has_repeated (take i entries) ≡ false
-  pub in_range : AreBelow (length now.texts) indexes
-  pub names : map (text_at now.texts) indexes ≡ take i entries
-  pub stamps : (k : ℕ) → get_or now.stamps k 0 ≤ stamp
-  pub stamped : (k : ℕ) → get_or now.stamps k 0 ≡ stamp → list_any (bytes_eq (text_at now.texts k)) (take i entries) ≡ true
-  pub all : (j : ℕ) → j < i → get_or now.stamps (get_or indexes j 0) 0 ≡ stamp
 
 module _ (first now new : Table) (entries : List (List ℕ)) (stamp i : ℕ) (indexes : List ℕ) (name : List ℕ) (some : 0 < stamp) (listing : IsListing first now entries stamp i indexes)
     (inside : i < length entries) (here : get_or entries i [] ≡ name) where
@@ -193,3 +182,35 @@ listing_all first now entries stamp i indexes listing past =
       names = listing.names ∙ whole;
       stamps = listing.stamps;
     }
+
+-- other stamps for the same names
+pub restamped : (t : Table) (stamps : List ℕ) → IsTable t → length stamps ≡ length t.stamps → IsTable (record t { stamps = stamps })
+restamped t stamps table long = record {
+  number_each = table.number_each;
+  stamp_each = long ∙ table.stamp_each;
+  distinct = table.distinct;
+  numbered = table.numbered;
+  known = table.known;
+}
+
+module _ (texts : List (List ℕ)) (old : List ℕ) (entries : List (List ℕ)) (stamp from : ℕ) (before : List ℕ) where
+  -- one more name is listed
+  pub further_more : (now : List ℕ) (i : ℕ) (indexes : List ℕ) (name : List ℕ) (index : ℕ) → ListsFurther texts old now entries stamp from i before indexes → 0 < stamp
+      → i < length entries → get_or entries i [] ≡ name → IsAt texts name index → get_or now index 0 ≢ stamp → length old ≡ length texts
+      → ListsFurther texts old (set now index stamp) entries stamp from (i + 1) before (indexes ++ index ∷ [])
+  further_more now i indexes name index so_far some inside here at unstamped long = record {
+    each = length-set now index stamp ∙ so_far.each;
+    further = λ first t table names stamps listing.
+        let mid : Table = record t { stamps = now } in
+        let new : Table = record t { stamps = set now index stamp } in
+        let sound : IsTable mid = restamped t now table (so_far.each ∙ ap length (sym stamps)) in
+        let within : index < length t.texts = omega (arith, at.in_range, ap length names) in
+        let named : text_at t.texts index ≡ name = ap (λ x. text_at x index) names ∙ at.names in
+        let met : IsStamped mid new name stamp index = stamped_new mid mid new name stamp index (interned_at mid name index sound within named) unstamped refl refl refl refl in
+        listing_more first mid new entries stamp i indexes name some (so_far.further first t table names stamps listing) inside here index met;
+  }
+
+-- what a slice holds that was lent as a whole and written over
+pub written_over : (n : ℕ) (new old : List ℕ) → length new ≡ length old → n ≡ length old → take n (new ++ drop (length new) old) ≡ new
+written_over n new old long whole =
+    ap (λ xs. take n (new ++ xs)) (drop_all (length new) old (omega arith)) ∙ ap (take n) (append-nil new) ∙ take_all n new (omega arith)

@@ -1,5 +1,5 @@
 -- What the reading keeps of lines and of the names on them.
-use Rattle.std.specs.Prelude.{nat_le, ◌≡◌, ◌≢◌, ℕ, ◌<◌, ◌≤◌, ◌==◌, Bool, true, false, not, if◌then◌else◌, List, [], ◌∷◌, ◌++◌, length, map, drop, slice_index, slice_index_or, position, Option, Some, None, AllPairs}
+use Rattle.std.specs.Prelude.{nat_le, ◌≡◌, ◌≢◌, ℕ, ◌<◌, ◌≤◌, ◌==◌, Bool, true, false, not, if◌then◌else◌, List, [], ◌∷◌, ◌++◌, length, map, take, drop, slice_index, slice_index_or, position, Option, Some, None, AllPairs}
 use Rattle.std.specs.List.{list_any, list_all}
 use Rattle.std.specs.Borrow.{Bor}
 use Rattle.std.specs.Str.{bytes_eq}
@@ -121,3 +121,24 @@ pub record IsListed (old new : Table) (entries : List (List ℕ)) (stamp : ℕ) 
 abbrev pub ListsNames : Table → Table → List (List ℕ) → ℕ → Option (Vec ℕ Global) → Type 0
 ListsNames old new entries stamp None = has_repeated entries ≡ true
 ListsNames old new entries stamp (Some list) = IsListed old new entries stamp list.items
+
+-- a name that stands at an index
+pub record IsAt (texts : List (List ℕ)) (name : List ℕ) (i : ℕ) : Type 0 where
+  pub in_range : i < length texts
+  pub names : text_at texts i ≡ name
+
+-- the first names of a list have their indexes, and they alone have this stamp
+pub record IsListing (first now : Table) (entries : List (List ℕ)) (stamp i : ℕ) (indexes : List ℕ) : Type 0 where
+  pub extends : Extends first.texts now.texts
+  pub declared : now.declared ≡ first.declared
+  pub differ : has_repeated (take i entries) ≡ false
+  pub in_range : AreBelow (length now.texts) indexes
+  pub names : map (text_at now.texts) indexes ≡ take i entries
+  pub stamps : (k : ℕ) → slice_index now.stamps k ≤ stamp
+  pub stamped : (k : ℕ) → slice_index now.stamps k ≡ stamp → list_any (bytes_eq (text_at now.texts k)) (take i entries) ≡ true
+  pub all : (j : ℕ) → j < i → slice_index now.stamps (slice_index indexes j) ≡ stamp
+
+-- these stamps are those of names of which more are listed: from `from` on up to `i`
+pub record ListsFurther (texts : List (List ℕ)) (old new : List ℕ) (entries : List (List ℕ)) (stamp from i : ℕ) (before after : List ℕ) : Type 0 where
+  pub each : length new ≡ length old
+  pub further : (first t : Table) → IsTable t → t.texts ≡ texts → t.stamps ≡ old → IsListing first t entries stamp from before → IsListing first (record t { stamps = new }) entries stamp i after

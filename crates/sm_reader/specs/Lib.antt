@@ -1,3 +1,4 @@
+pub mod Words
 pub mod Forms
 pub mod Judging
 pub mod InstanceText

@@ -1,6 +1,7 @@
 //! What the lines so far say, with indexes in the place of names.
 
 ghost use Rattle.std.specs.Prelude.{◌≡◌, ℕ, ◌<◌, IfOk};
+ghost use Rattle.indexmap.specs.IndexSet.{keys};
 ghost use Rattle.sm_reader.specs.Draft.{said_of, IsDraft};
 ghost use Rattle.sm_instance.specs.Named.{nothing};
 ghost use Rattle.sm_instance.specs.declared.kinds.Kind.{Kind};
@@ -66,6 +67,8 @@ impl OfPair for Weight {
 /// What the lines so far say. In roommates the persons stand as proposers.
 #[derive(Drop)]
 pub(crate) struct Draft<'a> {
+    /// The text.
+    pub(crate) text: &'a [u8],
     pub(crate) proposer_names: Names<'a>,
     pub(crate) reviewer_names: Names<'a>,
     pub(crate) proposers: Vec<Declared<'a>>,
@@ -73,7 +76,7 @@ pub(crate) struct Draft<'a> {
     /// How many entries all lists have together.
     pub(crate) entries: usize,
     pub(crate) weights: Vec<Weight>,
-    /// The pairs that have a weight.
+    /// The pairs that have a weight. The first one is put by hashes of the text.
     pub(crate) weighed: IndexSet<(u32, u32), TextHash>,
     pub(crate) forced: Vec<Pair>,
     pub(crate) forbidden: Vec<Pair>,
@@ -82,28 +85,37 @@ pub(crate) struct Draft<'a> {
 /// For each agent of one side a text mostly has at least so many bytes: its line, and that of an agent of the other side.
 const BYTES_EACH: usize = 32;
 
-/// Nothing is said yet by a text of so many bytes. Names and pairs will be found by these hashes.
-pub(crate) fn empty<'a>(
-    alloc: Global,
-    hash: TextHash,
-    bytes: usize,
-) -> Result<Draft<'a>, AllocError>
+/// Nothing is said yet by a text.
+pub(crate) fn empty<'a>(alloc: Global, text: &'a [u8]) -> Result<Draft<'a>, AllocError>
     ensures said { IfOk result (λ d. (kind : Kind) → said_of kind d ≡ nothing) }
     ensures draft { IfOk result (λ d. (kind : Kind) (line : ℕ) → 1 < line → IsDraft kind line d) }
 {
     // Room for the names of all agents spares the sets from growing, in which each name would be put anew.
-    let room = (bytes / BYTES_EACH).min(MOST_AGENTS);
-    let proposer_names = Names::new(alloc, hash, room)?;
-    let reviewer_names = Names::new(alloc, hash, room)?;
+    let room = (text.len() / BYTES_EACH).min(MOST_AGENTS);
+    let proposer_names = Names::new(alloc, text, room)?;
+    let reviewer_names = Names::new(alloc, text, room)?;
     Ok(Draft {
+        text,
         proposer_names,
         reviewer_names,
         proposers: Vec::new(alloc),
         reviewers: Vec::new(alloc),
         entries: 0,
         weights: Vec::new(alloc),
-        weighed: IndexSet::with_hasher(alloc, hash),
+        weighed: IndexSet::with_hasher(alloc, TextHash::of(&[])),
         forced: Vec::new(alloc),
         forbidden: Vec::new(alloc),
     })
+}
+
+/// Makes the set of the pairs that have a weight ready for one more: the first is put by hashes that the text can't choose,
+/// which take time in the length of the text.
+pub(crate) fn make_ready(draft: &mut Draft<'_>)
+    ensures keys { keys draft.new.weighed ≡ keys draft.old.weighed }
+    ensures changes { draft.new ≡ record draft.old { weighed = draft.new.weighed } }
+{
+    if draft.weighed.is_empty() {
+        let alloc = *draft.weighed.allocator();
+        draft.weighed = IndexSet::with_hasher(alloc, TextHash::of(draft.text));
+    }
 }

@@ -13,7 +13,7 @@ ghost use Rattle.sm_reader.specs.Kept.{AreNamesAtEnd};
 ghost use Rattle.sm_text.specs.Slices.{texts_of};
 ghost use Rattle.sm_reader.specs.Draft.{said_of, form_of, entries_in, listed_side, table_on, declared_on, IsDraft, AddsForm, JudgesTokens, IsRefusedBy, IsLineFault, run_fault, name_fault, limit_fault, AreRunsRight, DeclaresOn, ListsOn, PutsOn, RefusesFor, PairsOf, AddsAgent, ArePairsBelow, pairs_of, key_of, weights_in, weight_fault, PutsWeight, PutsPair, Binds};
 
-use crate::draft::{Declared, Draft, Pair, Weight};
+use crate::draft::{Declared, Draft, Pair, Weight, make_ready};
 use crate::faults::TextFault;
 use crate::forms::{Condition, Form, form_behind, is_end};
 use crate::tokens::Found;
@@ -318,6 +318,7 @@ fn add_weight<'a>(
     let Some(weight) = signed(weight, MOST_WEIGHT) else {
         return Err(TextFault::Refused(RefusalKind::BadNumber, line));
     };
+    make_ready(draft);
     if !draft.weighed.insert((pair.proposer, pair.reviewer))? {
         return Err(TextFault::Refused(RefusalKind::RepeatedWeight, line));
     }

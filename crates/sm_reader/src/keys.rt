@@ -1,23 +1,49 @@
 //! Names as keys of a set.
 
-ghost use Rattle.std.specs.Prelude.{◌≡◌, ◌-◌, ◌≤◌, ◌∷◌, [], length, take, drop, nat_eq};
-ghost use Rattle.std.specs.Cmp.{partial_equiv_from_equiv, on_per, on_equiv};
-ghost use Rattle.std.specs.Cmp.Lexicographic.{pointwise, nat_list_eq_equiv};
-ghost use Rattle.std.specs.Cmp.Rules.{hashing};
+ghost use Rattle.std.specs.Prelude.{◌≡◌, ◌-◌, ◌≤◌, length, take, drop};
 ghost use Rattle.std.specs.Str.{bytes_eq};
-ghost use Rattle.std.proofs.Common.{rules};
-ghost use Rattle.sm_reader.specs.Kept.{text_of};
+ghost use Rattle.sm_reader.specs.Words.{IsWordOf, ends_by_twos, ends_by_fours};
 
-use std::hash::{Hash, Hasher};
+use std::hash::{FoldHasher, Hash, Hasher};
 
-/// A name as a key of a set. All its bytes are hashed at once, where a slice is hashed byte by byte, and names of four to
-/// sixteen bytes are compared by their ends, four bytes at a time.
+/// A name as a key of a set. All its bytes are hashed at once, where a slice is hashed byte by byte. Names of two to eight
+/// bytes are compared by their words, and names of nine to sixteen bytes by their ends, four bytes at a time.
 #[derive(Clone, Copy)]
 pub(crate) struct Key<'a> {
     pub(crate) text: &'a [u8],
+    /// The name's word. Of two to eight bytes, no other name of the same length has it.
+    pub(crate) word: u64,
+    ghost is_word: { IsWordOf word text.now },
+}
+
+impl<'a> Key<'a> {
+    /// The key of a name.
+    pub(crate) fn of(text: &'a [u8]) -> Key<'a>
+        ensures { result.text.now ≡ text.now }
+    {
+        match text.len() {
+            2..=4 => Key {
+                text,
+                word: ends_by_twos(text),
+            },
+            5..=8 => Key {
+                text,
+                word: ends_by_fours(text),
+            },
+            _ => Key {
+                text,
+                word: hash(text),
+            },
+        }
+    }
 }
 
 impl<'a> PartialEq for Key<'a> {
+    ghost use Rattle.std.specs.Prelude.{nat_eq};
+    ghost use Rattle.std.specs.Cmp.{partial_equiv_from_equiv, on_per};
+    ghost use Rattle.std.specs.Cmp.Lexicographic.{pointwise, nat_list_eq_equiv};
+    ghost use Rattle.sm_reader.specs.Kept.{text_of};
+
     ghost eq = { λ a b. pointwise nat_eq (text_of a) (text_of b) };
 
     ghost laws = { on_per text_of (partial_equiv_from_equiv nat_list_eq_equiv) };
@@ -29,7 +55,7 @@ impl<'a> PartialEq for Key<'a> {
             return false;
         }
         match b.len() {
-            4..=8 => equal_by_fours(a, b),
+            2..=8 => have_same_word(a, b, self.word, other.word),
             9..=16 => equal_by_eights(a, b),
             _ => a == b,
         }
@@ -37,10 +63,19 @@ impl<'a> PartialEq for Key<'a> {
 }
 
 impl<'a> Eq for Key<'a> {
+    ghost use Rattle.std.specs.Cmp.{on_equiv};
+    ghost use Rattle.std.specs.Cmp.Lexicographic.{nat_list_eq_equiv};
+    ghost use Rattle.sm_reader.specs.Kept.{text_of};
+
     ghost laws = { on_equiv text_of nat_list_eq_equiv };
 }
 
 impl<'a> Hash for Key<'a> {
+    ghost use Rattle.std.specs.Prelude.{◌∷◌, []};
+    ghost use Rattle.std.specs.Cmp.Rules.{hashing};
+    ghost use Rattle.std.proofs.Common.{rules};
+    ghost use Rattle.sm_reader.specs.Kept.{text_of};
+
     ghost hash_input = { λ key. text_of key ∷ [] };
 
     ghost respects_eq = { Prim.search (hashing, rules) };
@@ -48,6 +83,52 @@ impl<'a> Hash for Key<'a> {
     fn hash<H: Hasher>(&self, state: &mut H) {
         state.write(self.text);
     }
+}
+
+/// The word of a name of two to four bytes: its first two and its last two.
+#[inline(always)]
+pub(crate) fn ends_by_twos(text: &[u8]) -> u64
+    requires enough { 2 ≤ length text.now }
+    requires few { length text.now ≤ 4 }
+    ensures { result ≡ ends_by_twos text.now }
+{
+    u64::from(u16::from_le_bytes(*first_two(text))) << 16
+        | u64::from(u16::from_le_bytes(*last_two(text)))
+}
+
+/// The word of a name of five to eight bytes: its first four and its last four.
+#[inline(always)]
+pub(crate) fn ends_by_fours(text: &[u8]) -> u64
+    requires enough { 4 ≤ length text.now }
+    requires few { length text.now ≤ 8 }
+    ensures { result ≡ ends_by_fours text.now }
+{
+    u64::from(u32::from_le_bytes(*first_four(text))) << 32
+        | u64::from(u32::from_le_bytes(*last_four(text)))
+}
+
+/// The word of any other name: its only byte, or a hash of all its bytes.
+#[inline(never)]
+fn hash(text: &[u8]) -> u64 {
+    if let [only] = text {
+        return u64::from(*only);
+    }
+    let mut hasher = FoldHasher::default();
+    hasher.write(text);
+    hasher.finish()
+}
+
+/// Are two to eight bytes the same, of which these are the words?
+#[inline(always)]
+fn have_same_word(a: &[u8], b: &[u8], word: u64, other: u64) -> bool
+    requires same_len { length a.now ≡ length b.now }
+    requires enough { 2 ≤ length b.now }
+    requires few { length b.now ≤ 8 }
+    requires word { IsWordOf word a.now }
+    requires other { IsWordOf other b.now }
+    ensures { result ≡ bytes_eq a.now b.now }
+{
+    word == other
 }
 
 /// Are four to eight bytes the same? They are where the last four are and the first four.
@@ -79,6 +160,22 @@ fn equal_by_eights(a: &[u8], b: &[u8]) -> bool
 {
     let behind = a.len() - 8;
     equal_by_fours(&a[..8], &b[..8]) && equal_by_fours(&a[behind..], &b[behind..])
+}
+
+/// The first two bytes.
+fn first_two(text: &[u8]) -> &[u8; 2]
+    requires { 2 ≤ length text.now }
+    ensures { result.now ≡ take 2 text.now }
+{
+    text.first_chunk().unwrap()
+}
+
+/// The last two bytes.
+fn last_two(text: &[u8]) -> &[u8; 2]
+    requires { 2 ≤ length text.now }
+    ensures { result.now ≡ drop (length text.now - 2) text.now }
+{
+    text.last_chunk().unwrap()
 }
 
 /// The first four bytes.

@@ -1,26 +1,36 @@
 //! The names of one side.
 
-ghost use Rattle.std.specs.Prelude.{◌≡◌, ℕ, ◌<◌, ◌^◌, not, true, None, Some, is_some, length, slice_index, slice_index_or, IfOk, IfSome};
+ghost use Rattle.std.specs.Prelude.{◌≡◌, ℕ, ◌<◌, ◌≤◌, ◌^◌, not, true, None, Some, is_some, length, slice_index, slice_index_or, vec_len, vec_capacity, IfOk, IfSome};
 ghost use Rattle.std.specs.List.{list_any, list_all};
 ghost use Rattle.std.specs.Str.{bytes_eq};
+ghost use Rattle.indexmap.specs.IndexSet.{keys};
 ghost use Rattle.sm_reader.specs.InstanceText.{number_in, is_unknown};
 ghost use Rattle.sm_reader.specs.Numbering.{AreInOrder};
-ghost use Rattle.sm_reader.specs.Kept.{text_at, no_names, Interns, Declares, MeetsName, ListsNames};
+ghost use Rattle.sm_reader.specs.Kept.{Table, key_texts, text_at, no_names, Interns, Declares, MeetsName, ListsNames, IsAt, IsListing, ListsFurther};
 ghost use Rattle.sm_text.specs.Slices.{texts_of};
 
-use crate::keys::Key;
-use crate::recent::{Recent, short_slot, slot_of};
+use crate::keys::{Key, ends_by_fours, ends_by_twos};
+use crate::recent::Recent;
 use indexmap::IndexSet;
 use sm_text::TextHash;
 use std::alloc::{AllocError, Global};
 use std::marker::Model;
+use std::mem::swap;
+
+/// So many names of a side are looked for by the hashes of a short text. Even if all their hashes were chosen to be equal, that
+/// would cost next to no time, and most texts need no digest.
+const FEW: u32 = 16_384;
 
 /// The names of one side that stand in a text so far, declared or not, each by the index that it got where it stood
 /// first. A name is looked for at the index that it is guessed to have, and else found by its hash.
 #[derive(Drop)]
 pub(crate) struct Names<'a> {
-    /// The names, by index.
+    /// The text.
+    pub(crate) text: &'a [u8],
+    /// The names, by index. They are found by the hashes of a short text at first, and then by those of the text.
     pub(crate) texts: IndexSet<Key<'a>, TextHash>,
+    /// How many names have been looked for by their hashes.
+    pub(crate) looked: u32,
     /// The indexes that names are guessed to have.
     pub(crate) recent: Recent,
     /// The number of the agent of each name, `None` while it isn't declared.
@@ -44,14 +54,16 @@ impl<'a> Model for Names<'a> {
 }
 
 impl<'a> Names<'a> {
-    /// No names, with room for so many, which will be found by these hashes.
-    pub(crate) fn new(alloc: Global, hash: TextHash, room: usize) -> Result<Names<'a>, AllocError>
+    /// No names of a text, with room for so many.
+    pub(crate) fn new(alloc: Global, text: &'a [u8], room: usize) -> Result<Names<'a>, AllocError>
         ensures { IfOk result (λ n. n ≡ no_names) }
     {
-        let texts = IndexSet::with_capacity_and_hasher(alloc, room, hash)?;
+        let texts = IndexSet::with_capacity_and_hasher(alloc, room, TextHash::of(&[]))?;
         Ok(Names {
+            text,
             texts,
-            recent: Recent::new(alloc),
+            looked: 0,
+            recent: Recent::new(alloc)?,
             numbers: Vec::new(alloc),
             stamps: Vec::new(alloc),
             declared: Vec::new(alloc),
@@ -70,30 +82,12 @@ impl<'a> Names<'a> {
         }
     }
 
-    /// The index that a name is guessed to have, where the name has it. Always inlined, as `intern` is, and with a path of
-    /// its own for names of four to eight bytes, which have one kind of slot and of comparison.
+    /// The index that a name is guessed to have, where the name has it. Always inlined, as `intern` is.
     #[inline(always)]
     fn recall(&self, name: &[u8]) -> Option<u32>
         ensures { IfSome result (λ i. Interns self.now self.now name.now i) }
     {
-        match name.len() {
-            4..=8 => self.known_in(short_slot(name), name),
-            _ => self.known_in(slot_of(name), name),
-        }
-    }
-
-    /// The index that a slot holds, where a name has it.
-    #[inline(always)]
-    fn known_in(&self, slot: usize, name: &[u8]) -> Option<u32>
-        ensures { IfSome result (λ i. Interns self.now self.now name.now i) }
-    {
-        let guess = self.recent.guess(slot)?;
-        let known = self.texts.get_index(guess as usize)?;
-        if *known == (Key { text: name }) {
-            Some(guess)
-        } else {
-            None
-        }
+        guessed(&self.recent, self.texts.as_slice(), name)
     }
 
     /// The index of a name by its hash; a name that isn't found is added. Never inlined, so that a name whose index is
@@ -102,15 +96,29 @@ impl<'a> Names<'a> {
     fn insert(&mut self, name: &'a [u8]) -> Result<u32, AllocError>
         ensures { IfOk result (λ i. Interns self.old self.new name.now i) }
     {
+        let name = Key::of(name);
+        self.make_ready()?;
         let index = self.place(name)?;
-        self.recent.note(name, index)?;
+        self.recent.note(name.word, name.text.len(), index)?;
         Ok(index)
+    }
+
+    /// Counts a name that is looked for by its hash, and puts the names anew once there were many: from then on they are found
+    /// by hashes that the text can't choose.
+    fn make_ready(&mut self) -> Result<(), AllocError>
+        ensures { IfOk result (λ _. self.new ≡ self.old) }
+    {
+        if self.looked == FEW {
+            put_anew(&mut self.texts, TextHash::of(self.text))?;
+        }
+        self.looked = self.looked.saturating_add(1);
+        Ok(())
     }
 
     /// The index of a name by its hash; one that isn't found is added with its number and its stamp, for which there is room
     /// by then, so that each name has them.
-    fn place(&mut self, name: &'a [u8]) -> Result<u32, AllocError>
-        ensures { IfOk result (λ i. Interns self.old self.new name.now i) }
+    fn place(&mut self, name: Key<'a>) -> Result<u32, AllocError>
+        ensures { IfOk result (λ i. Interns self.old self.new name.entry.text.now i) }
     {
         // An index fits, since a text has fewer names than bytes.
         if self.texts.len() >= u32::MAX as usize {
@@ -118,7 +126,7 @@ impl<'a> Names<'a> {
         }
         self.numbers.reserve(1)?;
         self.stamps.reserve(1)?;
-        let (place, is_new) = self.texts.insert_full(Key { text: name })?;
+        let (place, is_new) = self.texts.insert_full(name)?;
         if is_new {
             self.numbers.push(None).unwrap();
             self.stamps.push(0).unwrap();
@@ -198,14 +206,122 @@ impl<'a> Names<'a> {
         ensures { IfOk result (λ list. ListsNames self.old self.new (texts_of entries.now) line list) }
     {
         let mut indexes = Vec::with_capacity(alloc, entries.len())?;
-        'entries: for entry in entries {
-            let Some(index) = self.meet(entry, line)? else {
+        'entries: while indexes.len() < entries.len() {
+            let Some(index) = self.meet(entries[indexes.len()], line)? else {
                 return Ok(None);
             };
             indexes.push_reserved(index);
+            self.list_guessed(entries, line, &mut indexes);
         }
         Ok(Some(indexes))
     }
+
+    /// Lists the next names on the list of a line, up to one that isn't where it is guessed or stands on the list already.
+    #[inline(always)]
+    fn list_guessed(&mut self, entries: &[&'a [u8]], line: u32, indexes: &mut Vec<u32>)
+        requires some { 0 < line }
+        requires within { vec_len indexes.old ≤ length entries.now }
+        requires room { length entries.now ≤ vec_capacity indexes.old }
+        ensures further { (first : Table) → IsListing first self.old (texts_of entries.now) line
+            (vec_len indexes.old) indexes.old.items
+            → IsListing first self.new (texts_of entries.now) line
+            (vec_len indexes.new) indexes.new.items }
+        ensures later { vec_len indexes.old ≤ vec_len indexes.new }
+        ensures within { vec_len indexes.new ≤ length entries.now }
+        ensures room { length entries.now ≤ vec_capacity indexes.new }
+    {
+        let names = self.texts.as_slice();
+        list_next(
+            &self.recent,
+            names,
+            &mut self.stamps,
+            entries,
+            line,
+            indexes,
+        );
+    }
+}
+
+/// Lists the next names on the list of a line, up to one that isn't where it is guessed or stands on the list already. No
+/// call stands in the loop, so that what it reads stays in registers.
+#[inline(always)]
+fn list_next(
+    recent: &Recent,
+    names: &[Key<'_>],
+    stamps: &mut [u32],
+    entries: &[&[u8]],
+    line: u32,
+    indexes: &mut Vec<u32>,
+)
+    requires each { length stamps.old ≡ length names.now }
+    requires some { 0 < line }
+    requires within { vec_len indexes.old ≤ length entries.now }
+    requires room { length entries.now ≤ vec_capacity indexes.old }
+    ensures further { ListsFurther (key_texts names.now) stamps.old stamps.new
+        (texts_of entries.now) line (vec_len indexes.old) (vec_len indexes.new)
+        indexes.old.items indexes.new.items }
+    ensures later { vec_len indexes.old ≤ vec_len indexes.new }
+    ensures within { vec_len indexes.new ≤ length entries.now }
+    ensures room { length entries.now ≤ vec_capacity indexes.new }
+{
+    'entries: for place in indexes.len()..entries.len() {
+        let Some(index) = guessed(recent, names, entries[place]) else {
+            return;
+        };
+        if stamps[index as usize] == line {
+            return;
+        }
+        stamps[index as usize] = line;
+        indexes.push_reserved(index);
+    }
+}
+
+/// The index that a name is guessed to have, where the name has it. Names of two to four and of five to eight bytes have paths
+/// of their own, so that each knows how its names are compared.
+#[inline(always)]
+fn guessed(recent: &Recent, names: &[Key<'_>], name: &[u8]) -> Option<u32>
+    ensures { IfSome result (IsAt (key_texts names.now) name.now) }
+{
+    match name.len() {
+        2..=4 => guessed_key(
+            recent,
+            names,
+            Key {
+                text: name,
+                word: ends_by_twos(name),
+            },
+        ),
+        5..=8 => guessed_key(
+            recent,
+            names,
+            Key {
+                text: name,
+                word: ends_by_fours(name),
+            },
+        ),
+        _ => guessed_key(recent, names, Key::of(name)),
+    }
+}
+
+/// The index that is guessed by the word of a name, where the name has it.
+#[inline(always)]
+fn guessed_key(recent: &Recent, names: &[Key<'_>], name: Key<'_>) -> Option<u32>
+    ensures { IfSome result (IsAt (key_texts names.now) name.entry.text.now) }
+{
+    let guess = recent.guess(name.word, name.text.len());
+    let known = names.get(guess as usize)?;
+    if *known == name { Some(guess) } else { None }
+}
+
+/// Puts names anew, in their order, so that they are found by these hashes.
+fn put_anew(texts: &mut IndexSet<Key<'_>, TextHash>, hash: TextHash) -> Result<(), AllocError>
+    ensures { keys texts.new ≡ keys texts.old }
+{
+    let room = 2 * texts.len();
+    let mut anew = IndexSet::with_capacity_and_hasher(*texts.allocator(), room, hash)?;
+    anew.append(texts)?;
+    swap(texts, &mut anew);
+    Ok(())
 }
 
 /// Is each of these a number?

@@ -26,6 +26,9 @@ use sm_instance::{Input, Instance, Kind, Persons};
 use sm_text::{MOST_BYTES, RefusalKind, TextHash};
 use std::alloc::{AllocError, Global};
 
+/// So many bytes have too few names for look-ups of chosen ones to cost time.
+const FEW_BYTES: usize = 65_536;
+
 /// An instance that was read, and what stands behind it.
 #[derive(Drop)]
 pub struct Read {
@@ -110,8 +113,7 @@ fn read_lines(alloc: Global, bytes: &[u8], header: Header) -> Result<Read, TextF
     ensures fault { IfErr result (λ f. IsFaultOf (behind_header header.kind header.line nothing
         (header.line + 1) header.next (lines (drop header.next bytes.now))) f) }
 {
-    let hash = TextHash::of(bytes);
-    let mut draft = empty(alloc, hash, bytes.len())?;
+    let mut draft = empty(alloc, bytes)?;
     let mut tokens = Vec::new(alloc);
     let mut at = header.next;
     let mut line = header.line + 1;
@@ -123,6 +125,7 @@ fn read_lines(alloc: Global, bytes: &[u8], header: Header) -> Result<Read, TextF
                 line += 1;
             }
             Step::Stops => {
+                let hash = hash_for(&draft, bytes.len() - next);
                 let input = finished(alloc, hash, header.kind, draft)?;
                 return Ok(Read {
                     input,
@@ -134,6 +137,16 @@ fn read_lines(alloc: Global, bytes: &[u8], header: Header) -> Result<Read, TextF
         }
     }
     Err(TextFault::Refused(RefusalKind::MissingEnd, line))
+}
+
+/// The hashes for the names and pairs of an instance, behind which so many bytes stand. The text's are wanted where it has
+/// weights, and where many names may stand behind it, each of which will be looked for.
+fn hash_for(draft: &Draft<'_>, behind: usize) -> TextHash {
+    if draft.weighed.is_empty() && behind > FEW_BYTES {
+        TextHash::of(draft.text)
+    } else {
+        *draft.weighed.hasher()
+    }
 }
 
 /// The instance that a text says whose lines have no fault.

@@ -6,6 +6,7 @@ use Rattle.sm_reader.specs.Judging.{weight_in}
 use Rattle.sm_reader.specs.Draft.{weights_in}
 use Rattle.sm_reader.proofs.TextLemmas.{from_not_false, from_not_true}
 use Rattle.sm_reader.proofs.PairLemmas.{weight_met, weight_fault_is}
+use Rattle.sm_reader.specs.declared.draft.Draft.{Draft}
 use Rattle.sm_reader.proofs.judging.add_weight.Goals as goal
 
 pub returns-then-not-branch-clause-fault : goal.returns-then-not-branch-clause-fault
@@ -16,7 +17,7 @@ returns-then-not-branch-clause-fault c =
     let paired = c.in_ok-pair.ensures.pair in
     let met : list_any (is_given_to p r) (weights_in d) ≡ true =
     sym (weight_met d c.pair_of.new.draft p r c.args.line c.in_ok-pair.pair paired c.requires.in_range c.requires.weighed)
-    ∙ from_not_false _ (sym c.in_ok-insert.ensures.added ∙ c.if-not-branch.true) in
+    ∙ from_not_false _ (sym (rw c.make_ready.ensures.keys at c.in_ok-insert.ensures.added) ∙ c.if-not-branch.true) in
     (weight_fault_is (weights_in d) p r c.args.weight.now c.in-Some.weight true paired.are_names (sym c.signed.ensures ∙ c.in-Some.is) met, refl)
 
 pub returns-clause-put : goal.returns-clause-put
@@ -27,7 +28,7 @@ returns-clause-put c =
     let mid = c.pair_of.new.draft in
     let pair = c.in_ok-pair.pair in
     let paired = c.in_ok-pair.ensures.pair in
-    let absent = from_not_true _ (sym c.in_ok-insert.ensures.added ∙ c.if-not-branch.false) in
+    let absent = from_not_true _ (sym (rw c.make_ready.ensures.keys at c.in_ok-insert.ensures.added) ∙ c.if-not-branch.false) in
     let met : list_any (is_given_to p r) (weights_in d) ≡ false = sym (weight_met d mid p r c.args.line pair paired c.requires.in_range c.requires.weighed) ∙ absent in
     let number : weight_in c.args.weight.now ≡ Some c.in-Some.weight = sym c.signed.ensures ∙ c.in-Some.is in
     record {
@@ -37,6 +38,6 @@ returns-clause-put c =
       faultless = weight_fault_is (weights_in d) p r c.args.weight.now c.in-Some.weight false paired.are_names number met;
       weight = number;
       weights = let items = c.in_ok-push.ensures.items in search rules;
-      weighed = c.in_ok-insert.ensures.keys ∙ ap (λ b. cond b (keys mid.weighed) (keys mid.weighed ++ (pair.proposer, pair.reviewer) ∷ [])) absent;
-      changes = refl;
+      weighed = rw c.make_ready.ensures.keys at c.in_ok-insert.ensures.keys ∙ ap (λ b. cond b (keys mid.weighed) (keys mid.weighed ++ (pair.proposer, pair.reviewer) ∷ [])) absent;
+      changes = ap (λ (x : Draft). record x { weights = c.push.new.self; weighed = c.insert.new.self }) c.make_ready.ensures.changes;
     }

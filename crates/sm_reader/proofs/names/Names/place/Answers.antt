@@ -14,8 +14,8 @@ pub invariant_of-self-then-is_new : goal.invariant_of-self-then-is_new
 invariant_of-self-then-is_new c =
     let n = c.self.inside in
     let t = table_from (keys n.texts) n.numbers.items n.stamps.items n.declared.items in
-    let name = c.args.name in
-    let key : Key = record { text = name } in
+    let key = c.args.name in
+    let name = key.text in
     let old = keys n.texts in
     let absent : list_any (λ (k : Key). bytes_eq name.now (text_of k)) old ≡ false = from_not_true _ (sym c.in_ok-place.ensures.added ∙ c.if-is_new.true) in
     let missing : list_any (bytes_eq name.now) (key_texts old) ≡ false = sym (list_any_texts name.now old) ∙ absent in
@@ -38,8 +38,8 @@ returns c = elim c.if-is_new.branch [
   | then-is_new w ↦
       let n = c.self.inside in
       let t = table_from (keys n.texts) n.numbers.items n.stamps.items n.declared.items in
-      let name = c.args.name in
-      let key : Key = record { text = name } in
+      let key = c.args.name in
+      let name = key.text in
       let old = keys n.texts in
       let absent : list_any (λ (k : Key). bytes_eq name.now (text_of k)) old ≡ false = from_not_true _ (sym c.in_ok-place.ensures.added ∙ w.if-is_new.true) in
       let missing : list_any (bytes_eq name.now) (key_texts old) ≡ false = sym (list_any_texts name.now old) ∙ absent in
@@ -60,8 +60,8 @@ returns c = elim c.if-is_new.branch [
   | else-is_new w ↦
       let n = c.self.inside in
       let t = table_from (keys n.texts) n.numbers.items n.stamps.items n.declared.items in
-      let name = c.args.name in
-      let key : Key = record { text = name } in
+      let key = c.args.name in
+      let name = key.text in
       let old = keys n.texts in
       let there : list_any (λ (k : Key). bytes_eq name.now (text_of k)) old ≡ true = from_not_false _ (sym c.in_ok-place.ensures.added ∙ w.if-is_new.false) in
       let put : keys c.insert_full.new.self ≡ old = c.in_ok-place.ensures.keys ∙ ap (λ b. cond b old (old ++ key ∷ [])) there in
