@@ -90,13 +90,28 @@ impl<'a> Names<'a> {
         guessed(&self.recent, self.texts.as_slice(), name)
     }
 
-    /// The index of a name by its hash; a name that isn't found is added. Never inlined, so that a name whose index is
-    /// guessed pays nothing for it.
+    /// The index that a name is guessed to have if not the first that was, where the name has it.
+    fn recall_again(&self, name: Key<'a>) -> Option<u32>
+        ensures { IfSome result (λ i. Interns self.now self.now name.entry.text.now i) }
+    {
+        let guess = self.recent.second_guess(name.word, name.text.len());
+        if has_index(self.texts.as_slice(), name, guess) {
+            Some(guess)
+        } else {
+            None
+        }
+    }
+
+    /// The index of a name by a second guess, and else by its hash; a name that isn't found is added. Never inlined, so that a
+    /// name whose index is guessed at first pays nothing for it.
     #[inline(never)]
     fn insert(&mut self, name: &'a [u8]) -> Result<u32, AllocError>
         ensures { IfOk result (λ i. Interns self.old self.new name.now i) }
     {
         let name = Key::of(name);
+        if let Some(index) = self.recall_again(name) {
+            return Ok(index);
+        }
         self.make_ready()?;
         let index = self.place(name)?;
         self.recent.note(name.word, name.text.len(), index)?;
@@ -309,8 +324,22 @@ fn guessed_key(recent: &Recent, names: &[Key<'_>], name: Key<'_>) -> Option<u32>
     ensures { IfSome result (IsAt (key_texts names.now) name.entry.text.now) }
 {
     let guess = recent.guess(name.word, name.text.len());
-    let known = names.get(guess as usize)?;
-    if *known == name { Some(guess) } else { None }
+    if has_index(names, name, guess) {
+        Some(guess)
+    } else {
+        None
+    }
+}
+
+/// Has a name this index?
+#[inline(always)]
+fn has_index(names: &[Key<'_>], name: Key<'_>, index: u32) -> bool
+    ensures { result ≡ true → IsAt (key_texts names.now) name.entry.text.now index }
+{
+    match names.get(index as usize) {
+        Some(known) => *known == name,
+        None => false,
+    }
 }
 
 /// Puts names anew, in their order, so that they are found by these hashes.
