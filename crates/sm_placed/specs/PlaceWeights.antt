@@ -1,5 +1,5 @@
 -- The weights of the places of seats.
-use Rattle.std.specs.Prelude.{ℕ, ◌<◌, ◌≤◌, List, ℤ, length, All}
+use Rattle.std.specs.Prelude.{ℕ, ◌+◌, ◌<◌, ◌≤◌, List, ℤ, length, All, Option, Some, None}
 use Rattle.std.specs.Int.RustNames.{unsigned_abs}
 use Rattle.sm_text.specs.Limits.{most_weight}
 use Rattle.sm_instance.specs.Written.{Written, entry as written_entry, IsAcceptable}
@@ -17,3 +17,8 @@ AreLight weights = All (All IsLight) weights
 -- each place of p leads to a reviewer that is acceptable to it, and it to the reviewer
 abbrev pub AreAcceptableAt : Written → Seating → ℕ → Type 0
 AreAcceptableAt w s p = (i : ℕ) → i < length (row s.market.proposers p) → IsAcceptable w p (written_entry w.proposers p (written_place s p i))
+
+-- the rank that a cross place gives, 0 where there is none
+abbrev pub rank_in : Option ℕ → ℕ
+rank_in None = 0
+rank_in (Some back) = back + 1

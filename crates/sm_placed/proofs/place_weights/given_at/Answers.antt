@@ -1,7 +1,9 @@
-use Rattle.std.proofs.Common.{◌≡◌, ℕ, ◌-◌, ◌++◌, ◌∷◌, [], ◌∙◌, List, ap, sym, subst, arith, get_or, length, Some, All}
+use Rattle.std.proofs.Common.{pos, replicate, ◌≡◌, ℕ, ◌-◌, ◌++◌, ◌∷◌, [], ◌∙◌, List, ap, sym, subst, arith, get_or, length, Some, All}
 use Rattle.std.proofs.lemmas.List.Elements.{All-push}
-use Rattle.std.proofs.lemmas.List.FromFn.{map-range_with_len_more}
+use Rattle.std.specs.List.{range_with_len}
+use Rattle.std.proofs.lemmas.List.FromFn.{map-range_with_len_more, length-range_with_len}
 use Rattle.sm_instance.specs.Written.{entry, IsAcceptable}
+use Rattle.sm_instance.specs.declared.kinds.Measure.TheVariants.{Given}
 use Rattle.sm_instance.specs.Ranks.{pair_weight}
 use Rattle.sm_market.specs.Lists.{Lists, row}
 use Rattle.sm_seats.specs.Seating.{written_place}
@@ -9,7 +11,8 @@ use Rattle.sm_seats.proofs.SeatingLemmas.{level_is}
 use Rattle.sm_seats.proofs.SeatingLaws.{written_on}
 use Rattle.sm_theory.proofs.Weighing.Sizes.{small_is}
 use Rattle.sm_placed.specs.PlaceWeights.{IsLight}
-use Rattle.sm_placed.proofs.place_weights.weights_at.Goals as goal
+use Rattle.sm_placed.proofs.RankLemmas.{nil_of_empty, no_weight, zeros}
+use Rattle.sm_placed.proofs.place_weights.given_at.Goals as goal
 
 pub overflow_sub-levels : goal.overflow_sub-levels
 overflow_sub-levels c =
@@ -38,7 +41,7 @@ loop-i-preserved c =
     let w = c.args.instance.now in
     let s = c.args.seats.now in
     let p = c.args.p in
-    let by = c.args.by in
+    let by = Given in
     let level = get_or c.args.levels.now i 0 in
     let is = ap (λ (xs : List ℕ). get_or xs i 0) c.requires.levels ∙ level_is s p i (omega (arith, same)) in
     let place : level - 1 ≡ written_place s p i = omega (arith, is) in
@@ -52,3 +55,16 @@ loop-i-preserved c =
           ∙ sym (map-range_with_len_more (λ i. pair_weight by w p (Some (written_place s p i))) 0 i i (omega arith));
       light = subst (All IsLight) (sym items) (All-push IsLight c.loop-i.weights.items c.pair_weight.result c.loop-i.invariant.light c.pair_weight.ensures.size);
     }
+
+pub returns-then-is_empty-clause-weights : goal.returns-then-is_empty-clause-weights
+returns-then-is_empty-clause-weights c =
+    let w = c.args.instance.now in
+    let s = c.args.seats.now in
+    let p = c.args.p in
+    let same = ap (λ (l : Lists). length (row l.proposers p)) c.market.ensures in
+    let none : w.weights ≡ [] = sym c.weights.ensures ∙ nil_of_empty c.weights.result.now c.is_empty.result c.is_empty.ensures c.if-is_empty.true in
+    let places : List ℕ = range_with_len 0 (length (row s.market.proposers p)) in
+    let long : c.proposer_len-places.result ≡ length places = c.proposer_len-places.ensures ∙ same ∙ sym (length-range_with_len 0 (length (row s.market.proposers p))) in
+    c.in_ok-vec.ensures.items_if_clones_equal (λ y e. e)
+    ∙ ap (λ n. replicate n (pos 0)) long
+    ∙ zeros (λ i. pair_weight Given w p (Some (written_place s p i))) (λ i. no_weight w none p (entry w.proposers p (written_place s p i))) places
