@@ -1,5 +1,4 @@
 pub mod TextLemmas
-pub mod WordLemmas
 pub mod BadLemmas
 pub mod FirstLemmas
 pub mod RunLemmas

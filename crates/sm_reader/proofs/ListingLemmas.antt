@@ -10,7 +10,7 @@ use Rattle.std.proofs.lemmas.Bool.{false≢true, cases_lt}
 use Rattle.std.proofs.lemmas.Bool.Decides.{nat_tests}
 use Rattle.sm_reader.specs.Judging.{has_repeated}
 use Rattle.sm_reader.specs.Kept.{Table, IsTable, text_at, Extends, AreBelow, IsStamped, HasStamp, IsListed, IsAt, IsListing, ListsFurther}
-use Rattle.sm_reader.proofs.TextLemmas.{same_text, equal_text, other_text}
+use Rattle.sm_keys.proofs.TextLemmas.{same_text, equal_text, other_text}
 use Rattle.sm_reader.proofs.TableLemmas.{distinct_index, cases_eq, interned_at, stamped_new}
 
 or_true : (b : Bool) → (b || true) ≡ true

@@ -25,7 +25,7 @@ use Rattle.sm_reader.specs.declared.draft.Weight.{Weight}
 use Rattle.sm_reader.specs.declared.draft.Draft.{Draft}
 use Rattle.sm_reader.specs.declared.faults.TextFault.{TextFault}
 use Rattle.sm_reader.specs.declared.faults.TextFault.TheVariants.{Refused, OutOfMemory}
-use Rattle.sm_reader.proofs.TextLemmas.{same_text, other_text}
+use Rattle.sm_keys.proofs.TextLemmas.{same_text, other_text}
 use Rattle.sm_reader.proofs.TableLemmas.{distinct_index, cases_eq}
 use Rattle.sm_reader.proofs.ListingLemmas.{extends_long}
 use Rattle.sm_reader.proofs.DraftLemmas.{agents_kept, agents_below_more, pairs_kept, weights_kept, pairs_below_more, pairs_below_push, said_same, listed_more}

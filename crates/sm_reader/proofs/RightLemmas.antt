@@ -28,7 +28,7 @@ use Rattle.sm_reader.specs.Forms.{Form, declares, weighs, binds, is_bad, is_end,
 use Rattle.sm_reader.specs.Judging.{goes, stops, refuses, verdict_on, of_form, fault_of, said_with, is_bad_capacity, capacity_in, weight_in, has_repeated}
 use Rattle.sm_reader.specs.Draft.{run_fault, name_fault, weight_fault, limit_fault}
 use Rattle.sm_reader.specs.Right.{IsRightAgent, IsRight}
-use Rattle.sm_reader.proofs.TextLemmas.{same_text}
+use Rattle.sm_keys.proofs.TextLemmas.{same_text}
 use Rattle.sm_reader.proofs.JudgeLemmas.{fault_of-declares, fault_of-weighs}
 use Rattle.sm_reader.proofs.AddLemmas.{within_limits}
 

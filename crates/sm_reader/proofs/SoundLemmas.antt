@@ -19,7 +19,8 @@ use Rattle.sm_instance.specs.Named.{SaidAgent, SaidPair, SaidWeight, Said, names
 use Rattle.sm_reader.specs.Judging.{has_repeated}
 use Rattle.sm_reader.specs.InstanceText.{is_unknown, lines_with_unknown, pairs_with_unknown, unknown_lines, listed_by_proposers, least, number_in, numbered, numbered_pair, two_sides}
 use Rattle.sm_reader.specs.Right.{IsRightAgent, IsRight}
-use Rattle.sm_reader.proofs.TextLemmas.{same_text, position_or_len-lt, at_position}
+use Rattle.sm_reader.proofs.TextLemmas.{position_or_len-lt, at_position}
+use Rattle.sm_keys.proofs.TextLemmas.{same_text}
 use Rattle.sm_reader.proofs.RightLemmas.{fails_at}
 
 -- no line has an unknown name

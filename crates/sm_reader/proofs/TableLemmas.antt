@@ -11,7 +11,8 @@ use Rattle.std.proofs.lemmas.Bool.{false≢true, cases_lt}
 use Rattle.std.proofs.lemmas.Bool.Decides.{nat_tests}
 use Rattle.sm_reader.specs.InstanceText.{number_in}
 use Rattle.sm_reader.specs.Kept.{Table, IsTable, text_at, Interns, Declares, IsStamped}
-use Rattle.sm_reader.proofs.TextLemmas.{same_text, equal_text, other_text, position-none, is_some-position, position-push_other, position-push_new, position_or_len-lt, position_or_len-none, at_position}
+use Rattle.sm_reader.proofs.TextLemmas.{position-none, is_some-position, position-push_other, position-push_new, position_or_len-lt, position_or_len-none, at_position}
+use Rattle.sm_keys.proofs.TextLemmas.{same_text, equal_text, other_text}
 
 -- a name that no declared one is, where all declared ones are among the texts and it isn't
 undeclared : (t : Table) (name : List ℕ) → IsTable t → list_any (bytes_eq name) t.texts ≡ false → list_any (bytes_eq name) t.declared ≡ false

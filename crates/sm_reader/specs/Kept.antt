@@ -9,15 +9,8 @@ use Rattle.sm_text.specs.Lines.{lines, first_line, content}
 use Rattle.sm_text.specs.Name.{is_name}
 use Rattle.sm_text.specs.Slices.{texts_of}
 use Rattle.sm_reader.specs.Judging.{has_repeated}
-use Rattle.sm_reader.specs.declared.keys.Key.{Key}
-
--- the name that is a key, and those that are keys
-abbrev pub text_of : Key → List ℕ
-text_of key = key.text.now
-
--- the names that are keys
-abbrev pub key_texts : List Key → List (List ℕ)
-key_texts keys = map text_of keys
+use Rattle.sm_keys.specs.Keys.{key_texts}
+use Rattle.sm_keys.specs.declared.key.Key.{Key}
 
 -- the last so many of the tokens are names, and no more: those behind the first k are where they are no more than that
 pub record AreNamesAtEnd (names : ℕ) (tokens : List (List ℕ)) : Type 0 where

@@ -9,11 +9,9 @@ mod faults;
 mod forms;
 mod header;
 mod judging;
-mod keys;
 mod names;
 mod numbering;
 mod reading;
-mod recent;
 mod tokens;
 pub mod witnesses;
 

@@ -6,12 +6,12 @@ ghost use Rattle.std.specs.Str.{bytes_eq};
 ghost use Rattle.indexmap.specs.IndexSet.{keys};
 ghost use Rattle.sm_reader.specs.InstanceText.{number_in, is_unknown};
 ghost use Rattle.sm_reader.specs.Numbering.{AreInOrder};
-ghost use Rattle.sm_reader.specs.Kept.{Table, key_texts, text_at, no_names, Interns, Declares, MeetsName, ListsNames, IsAt, IsListing, ListsFurther};
+ghost use Rattle.sm_reader.specs.Kept.{Table, text_at, no_names, Interns, Declares, MeetsName, ListsNames, IsAt, IsListing, ListsFurther};
+ghost use Rattle.sm_keys.specs.Keys.{key_texts};
 ghost use Rattle.sm_text.specs.Slices.{texts_of};
 
-use crate::keys::{Key, ends_by_fours, ends_by_twos};
-use crate::recent::Recent;
 use indexmap::IndexSet;
+use sm_keys::{Key, Recent};
 use sm_text::TextHash;
 use std::alloc::{AllocError, Global};
 use std::marker::Model;
@@ -298,22 +298,8 @@ fn guessed(recent: &Recent, names: &[Key<'_>], name: &[u8]) -> Option<u32>
     ensures { IfSome result (IsAt (key_texts names.now) name.now) }
 {
     match name.len() {
-        2..=4 => guessed_key(
-            recent,
-            names,
-            Key {
-                text: name,
-                word: ends_by_twos(name),
-            },
-        ),
-        5..=8 => guessed_key(
-            recent,
-            names,
-            Key {
-                text: name,
-                word: ends_by_fours(name),
-            },
-        ),
+        2..=4 => guessed_key(recent, names, Key::two_to_four(name)),
+        5..=8 => guessed_key(recent, names, Key::five_to_eight(name)),
         _ => guessed_key(recent, names, Key::of(name)),
     }
 }

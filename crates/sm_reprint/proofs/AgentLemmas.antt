@@ -17,7 +17,7 @@ use Rattle.sm_instance.specs.declared.kinds.Kind.TheVariants.{Marriage, Hospital
 use Rattle.sm_instance.specs.declared.kinds.Side.TheVariants.{Proposers, Reviewers}
 use Rattle.sm_instance.specs.Named.{SaidAgent, Said, nothing, names_of, entries_of}
 use Rattle.sm_reader.specs.Judging.{goes, verdict_on, said_with, has_repeated, capacity_in}
-use Rattle.sm_reader.proofs.TextLemmas.{equal_text}
+use Rattle.sm_keys.proofs.TextLemmas.{equal_text}
 use Rattle.sm_report.proofs.DecimalLemmas.{number_of-decimal}
 use Rattle.sm_printed.specs.Printed.{list_text, capacity_text, proposer_line, reviewer_line}
 use Rattle.sm_reprint.proofs.LineLemmas.{words_cut, tokens-named, tokens-bracketed, decimal_is_run, begins_run-run, IsFree, both_free, name_free, words_free, list_free, capacity_free}

@@ -12,7 +12,7 @@ use Rattle.sm_instance.specs.Written.{AgentData, no_agent, names_of as names_in}
 use Rattle.sm_instance.specs.Sound.{AreSoundAgents}
 use Rattle.sm_reader.specs.Judging.{has_repeated}
 use Rattle.sm_reader.specs.InstanceText.{is_unknown, number_in}
-use Rattle.sm_reader.proofs.TextLemmas.{same_text, other_text}
+use Rattle.sm_keys.proofs.TextLemmas.{same_text, other_text}
 use Rattle.sm_printed.specs.Names.{name_of}
 
 -- numbers that are those of so many agents

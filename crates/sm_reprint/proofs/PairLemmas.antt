@@ -13,7 +13,7 @@ use Rattle.sm_instance.specs.declared.kinds.Kind.{Kind}
 use Rattle.sm_instance.specs.declared.kinds.Kind.TheVariants.{Roommates}
 use Rattle.sm_instance.specs.Named.{SaidAgent, SaidPair, SaidWeight, Said, nothing, is_given_to}
 use Rattle.sm_reader.specs.Judging.{goes, verdict_on}
-use Rattle.sm_reader.proofs.TextLemmas.{equal_text}
+use Rattle.sm_keys.proofs.TextLemmas.{equal_text}
 use Rattle.sm_report.proofs.DecimalLemmas.{first_true, second_true, signed_of-decimal}
 use Rattle.sm_printed.specs.Printed.{pair_text, weight_line, force_line, forbid_line}
 use Rattle.sm_reprint.proofs.CutLemmas.{tokens-run_alone, tokens-blank, no_run}

@@ -11,7 +11,7 @@ use Rattle.sm_instance.specs.Sound.{IsSoundAgent, AreSoundAgents, IsSoundEntry, 
 use Rattle.sm_reader.specs.Forms as form
 use Rattle.sm_reader.specs.Judging as judge
 use Rattle.sm_reader.specs.InstanceText as text
-use Rattle.sm_reader.proofs.TextLemmas.{same_text}
+use Rattle.sm_keys.proofs.TextLemmas.{same_text}
 use Rattle.sm_printed.specs.Witnesses.{marriage}
 use Rattle.sm_reprint.specs.Witnesses.{MarriageIsSound, MarriageReadBack, HospitalsReadBack, RoommatesReadBack}
 

@@ -2,8 +2,8 @@ use Rattle.std.proofs.Common.{◌≡◌, ◌<◌, ◌∙◌, sym, ap, true, [], 
 use Rattle.std.specs.Str.{bytes_eq}
 use Rattle.std.proofs.lemmas.List.{get_or-map, length-map}
 use Rattle.std.proofs.lemmas.Bool.Decides.{nat_tests}
-use Rattle.sm_reader.specs.Kept.{text_of}
-use Rattle.sm_reader.proofs.TextLemmas.{equal_text}
+use Rattle.sm_keys.specs.Keys.{text_of}
+use Rattle.sm_keys.proofs.TextLemmas.{equal_text}
 use Rattle.sm_reader.proofs.names.has_index.Goals as goal
 
 pub returns-in-Some : goal.returns-in-Some

@@ -3,7 +3,8 @@ use Rattle.std.specs.Prelude.{vec_len}
 use Rattle.std.specs.Borrow.{Bor}
 use Rattle.std.proofs.lemmas.List.{get_or-map, length-map}
 use Rattle.sm_text.specs.Slices.{texts_of}
-use Rattle.sm_reader.specs.Kept.{key_texts, text_of, ListsFurther}
+use Rattle.sm_reader.specs.Kept.{ListsFurther}
+use Rattle.sm_keys.specs.Keys.{key_texts, text_of}
 use Rattle.sm_reader.proofs.ListingLemmas.{further_more}
 use Rattle.sm_reader.proofs.names.list_next.Goals as goal
 

@@ -1,7 +1,8 @@
 use Rattle.std.proofs.Common.{◌≡◌, ◌≤◌, length}
 use Rattle.std.specs.Prelude.{vec_len, vec_capacity}
 use Rattle.sm_text.specs.Slices.{texts_of}
-use Rattle.sm_reader.specs.Kept.{key_texts, ListsFurther}
+use Rattle.sm_reader.specs.Kept.{ListsFurther}
+use Rattle.sm_keys.specs.Keys.{key_texts}
 use Rattle.sm_reader.proofs.names.list_next.Given as goal
 
 -- the names so far are listed, and there is room for the others

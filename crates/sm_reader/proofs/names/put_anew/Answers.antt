@@ -4,8 +4,8 @@ use Rattle.std.specs.Cmp.Lexicographic.{nat_list_eq_equiv}
 use Rattle.std.specs.Str.{bytes_eq}
 use Rattle.indexmap.specs.IndexSet.{keys, insert_all}
 use Rattle.indexmap.proofs.SetLemmas.{set_all_distinct}
-use Rattle.sm_reader.specs.Kept.{text_of}
-use Rattle.sm_reader.specs.declared.keys.Key.{Key}
+use Rattle.sm_keys.specs.Keys.{text_of}
+use Rattle.sm_keys.specs.declared.key.Key.{Key}
 use Rattle.sm_reader.proofs.names.put_anew.Goals as goal
 
 pub returns : goal.returns

@@ -3,7 +3,8 @@ use Rattle.std.specs.Prelude.{vec_len}
 use Rattle.std.proofs.lemmas.List.{length-map}
 use Rattle.indexmap.specs.IndexSet.{keys}
 use Rattle.sm_text.specs.Slices.{texts_of}
-use Rattle.sm_reader.specs.Kept.{Table, IsTable, IsListing, key_texts, table_from, text_of}
+use Rattle.sm_reader.specs.Kept.{Table, IsTable, IsListing, table_from}
+use Rattle.sm_keys.specs.Keys.{key_texts, text_of}
 use Rattle.sm_reader.proofs.ListingLemmas.{restamped, written_over}
 use Rattle.sm_reader.proofs.names.Names.list_guessed.Goals as goal
 

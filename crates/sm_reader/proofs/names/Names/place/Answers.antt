@@ -3,8 +3,9 @@ use Rattle.std.specs.Result.{is_ok}
 use Rattle.std.specs.List.{list_any}
 use Rattle.std.specs.Str.{bytes_eq}
 use Rattle.indexmap.specs.IndexSet.{keys}
-use Rattle.sm_reader.specs.Kept.{Table, table_from, text_of, key_texts, Interns}
-use Rattle.sm_reader.specs.declared.keys.Key.{Key}
+use Rattle.sm_reader.specs.Kept.{Table, table_from, Interns}
+use Rattle.sm_keys.specs.Keys.{text_of, key_texts}
+use Rattle.sm_keys.specs.declared.key.Key.{Key}
 use Rattle.sm_reader.proofs.TextLemmas.{list_any_texts, position_texts, position_or_len-none, from_not_true, from_not_false, key_texts-push}
 use Rattle.sm_reader.proofs.TableLemmas.{interned_new, interned_old}
 use Rattle.sm_reader.proofs.names.Names.place.Goals.{then-is_new, else-is_new}

@@ -1,7 +1,8 @@
 use Rattle.std.proofs.Common.{ℕ, subst}
 use Rattle.std.proofs.lemmas.Option.{IfSome_then}
 use Rattle.indexmap.specs.IndexSet.{keys}
-use Rattle.sm_reader.specs.Kept.{Table, key_texts, table_from, IsAt, Interns}
+use Rattle.sm_reader.specs.Kept.{Table, table_from, IsAt, Interns}
+use Rattle.sm_keys.specs.Keys.{key_texts}
 use Rattle.sm_reader.proofs.TableLemmas.{interned_at}
 use Rattle.sm_reader.proofs.names.Names.recall.Goals as goal
 

@@ -1,6 +1,7 @@
 use Rattle.std.proofs.Common.{subst}
 use Rattle.indexmap.specs.IndexSet.{keys}
-use Rattle.sm_reader.specs.Kept.{Table, key_texts, table_from, IsAt, Interns}
+use Rattle.sm_reader.specs.Kept.{Table, table_from, IsAt, Interns}
+use Rattle.sm_keys.specs.Keys.{key_texts}
 use Rattle.sm_reader.proofs.TableLemmas.{interned_at}
 use Rattle.sm_reader.proofs.names.Names.recall_again.Goals as goal
 

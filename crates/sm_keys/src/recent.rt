@@ -19,7 +19,7 @@ const ODD: u64 = 0x9E37_79B9_7F4A_7C15;
 /// that were noted there last, so what is found in them are guesses, which whoever asks has to test. Names that were chosen to
 /// fall into one pair are all looked up in the set, and no more.
 #[derive(Drop)]
-pub(crate) struct Recent {
+pub struct Recent {
     /// The index in each slot, 0 where none was noted. There is one slot before the first index is noted.
     slots: Vec<u16>,
     /// The last slot.
@@ -28,27 +28,35 @@ pub(crate) struct Recent {
 }
 
 impl Recent {
-    /// No indexes.
-    pub(crate) fn new(alloc: Global) -> Result<Recent, AllocError> {
+    /// No indexes. Takes no memory to speak of.
+    ///
+    /// # Errors
+    ///
+    /// `AllocError` where memory ran out, and only then.
+    pub fn new(alloc: Global) -> Result<Recent, AllocError> {
         let slots = vec![in alloc; 0; 1]?;
         Ok(Recent { slots, last: 0 })
     }
 
-    /// The index that a name of this word and length may have.
+    /// The index that a name of this word and length may have. Takes constant time.
     #[inline(always)]
-    pub(crate) fn guess(&self, word: u64, len: usize) -> u32 {
+    pub fn guess(&self, word: u64, len: usize) -> u32 {
         u32::from(self.slots[slot_for(word, len) & self.last])
     }
 
-    /// The index that it may have if not that one.
+    /// The index that it may have if not that one. Takes constant time.
     #[inline(always)]
-    pub(crate) fn second_guess(&self, word: u64, len: usize) -> u32 {
+    pub fn second_guess(&self, word: u64, len: usize) -> u32 {
         u32::from(self.slots[(slot_for(word, len) | 1) & self.last])
     }
 
     /// Notes the index of a name of this word and length, if it fits two bytes, as nearly all do. What was noted in its slots last
-    /// stays there, and what was before that goes.
-    pub(crate) fn note(&mut self, word: u64, len: usize, index: u32) -> Result<(), AllocError> {
+    /// stays there, and what was before that goes. Takes constant time, and memory for all slots at the first index.
+    ///
+    /// # Errors
+    ///
+    /// `AllocError` where memory ran out, and only then.
+    pub fn note(&mut self, word: u64, len: usize, index: u32) -> Result<(), AllocError> {
         if self.slots.len() < SLOTS {
             self.slots.resize(SLOTS, 0)?;
             self.last = SLOTS - 1;

@@ -1,39 +1,60 @@
-//! Names as keys of a set.
+//! Names of a text as keys of a set.
 
 ghost use Rattle.std.specs.Prelude.{◌≡◌, ◌-◌, ◌≤◌, length, take, drop};
 ghost use Rattle.std.specs.Str.{bytes_eq};
-ghost use Rattle.sm_reader.specs.Words.{IsWordOf, ends_by_twos, ends_by_fours};
+ghost use Rattle.sm_keys.specs.Words.{IsWordOf, ends_by_twos, ends_by_fours};
 
 use std::hash::{FoldHasher, Hash, Hasher};
 
 /// A name as a key of a set. All its bytes are hashed at once, where a slice is hashed byte by byte. Names of two to eight
 /// bytes are compared by their words, and names of nine to sixteen bytes by their ends, four bytes at a time.
 #[derive(Clone, Copy)]
-pub(crate) struct Key<'a> {
-    pub(crate) text: &'a [u8],
+pub struct Key<'a> {
+    /// The name.
+    pub text: &'a [u8],
     /// The name's word. Of two to eight bytes, no other name of the same length has it.
-    pub(crate) word: u64,
+    pub word: u64,
     ghost is_word: { IsWordOf word text.now },
 }
 
 impl<'a> Key<'a> {
-    /// The key of a name.
-    pub(crate) fn of(text: &'a [u8]) -> Key<'a>
+    /// The key of a name. Takes time in its length.
+    pub fn of(text: &'a [u8]) -> Key<'a>
         ensures { result.text.now ≡ text.now }
     {
         match text.len() {
-            2..=4 => Key {
-                text,
-                word: ends_by_twos(text),
-            },
-            5..=8 => Key {
-                text,
-                word: ends_by_fours(text),
-            },
+            2..=4 => Key::two_to_four(text),
+            5..=8 => Key::five_to_eight(text),
             _ => Key {
                 text,
                 word: hash(text),
             },
+        }
+    }
+
+    /// The key of a name of two to four bytes. Takes constant time.
+    #[inline(always)]
+    pub fn two_to_four(text: &'a [u8]) -> Key<'a>
+        requires enough { 2 ≤ length text.now }
+        requires few { length text.now ≤ 4 }
+        ensures { result.text.now ≡ text.now }
+    {
+        Key {
+            text,
+            word: ends_by_twos(text),
+        }
+    }
+
+    /// The key of a name of five to eight bytes. Takes constant time.
+    #[inline(always)]
+    pub fn five_to_eight(text: &'a [u8]) -> Key<'a>
+        requires enough { 5 ≤ length text.now }
+        requires few { length text.now ≤ 8 }
+        ensures { result.text.now ≡ text.now }
+    {
+        Key {
+            text,
+            word: ends_by_fours(text),
         }
     }
 }
@@ -42,7 +63,7 @@ impl<'a> PartialEq for Key<'a> {
     ghost use Rattle.std.specs.Prelude.{nat_eq};
     ghost use Rattle.std.specs.Cmp.{partial_equiv_from_equiv, on_per};
     ghost use Rattle.std.specs.Cmp.Lexicographic.{pointwise, nat_list_eq_equiv};
-    ghost use Rattle.sm_reader.specs.Kept.{text_of};
+    ghost use Rattle.sm_keys.specs.Keys.{text_of};
 
     ghost eq = { λ a b. pointwise nat_eq (text_of a) (text_of b) };
 
@@ -65,7 +86,7 @@ impl<'a> PartialEq for Key<'a> {
 impl<'a> Eq for Key<'a> {
     ghost use Rattle.std.specs.Cmp.{on_equiv};
     ghost use Rattle.std.specs.Cmp.Lexicographic.{nat_list_eq_equiv};
-    ghost use Rattle.sm_reader.specs.Kept.{text_of};
+    ghost use Rattle.sm_keys.specs.Keys.{text_of};
 
     ghost laws = { on_equiv text_of nat_list_eq_equiv };
 }
@@ -74,7 +95,7 @@ impl<'a> Hash for Key<'a> {
     ghost use Rattle.std.specs.Prelude.{◌∷◌, []};
     ghost use Rattle.std.specs.Cmp.Rules.{hashing};
     ghost use Rattle.std.proofs.Common.{rules};
-    ghost use Rattle.sm_reader.specs.Kept.{text_of};
+    ghost use Rattle.sm_keys.specs.Keys.{text_of};
 
     ghost hash_input = { λ key. text_of key ∷ [] };
 
@@ -87,7 +108,7 @@ impl<'a> Hash for Key<'a> {
 
 /// The word of a name of two to four bytes: its first two and its last two.
 #[inline(always)]
-pub(crate) fn ends_by_twos(text: &[u8]) -> u64
+fn ends_by_twos(text: &[u8]) -> u64
     requires enough { 2 ≤ length text.now }
     requires few { length text.now ≤ 4 }
     ensures { result ≡ ends_by_twos text.now }
@@ -98,7 +119,7 @@ pub(crate) fn ends_by_twos(text: &[u8]) -> u64
 
 /// The word of a name of five to eight bytes: its first four and its last four.
 #[inline(always)]
-pub(crate) fn ends_by_fours(text: &[u8]) -> u64
+fn ends_by_fours(text: &[u8]) -> u64
     requires enough { 4 ≤ length text.now }
     requires few { length text.now ≤ 8 }
     ensures { result ≡ ends_by_fours text.now }

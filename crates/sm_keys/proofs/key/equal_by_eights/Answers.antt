@@ -1,8 +1,8 @@
 use Rattle.std.proofs.Common.{◌≡◌, ◌∙◌, sym, ap, ℕ, ◌-◌, List, length, take, drop, length-drop, arith}
 use Rattle.std.proofs.lemmas.List.{take_all}
 use Rattle.std.specs.Str.{bytes_eq}
-use Rattle.sm_reader.proofs.TextLemmas.{equal_text, by_last}
-use Rattle.sm_reader.proofs.keys.equal_by_eights.Goals as goal
+use Rattle.sm_keys.proofs.TextLemmas.{equal_text, by_last}
+use Rattle.sm_keys.proofs.key.equal_by_eights.Goals as goal
 
 -- what stands behind a place, up to the end
 behind : (m : ℕ) (x : List ℕ) → take (length x - m) (drop m x) ≡ drop m x

@@ -6,8 +6,8 @@ use Rattle.std.proofs.lemmas.Bool.{false≢true, cases_lt}
 use Rattle.std.proofs.lemmas.Bool.Decides.{nat_tests}
 use Rattle.std.proofs.lemmas.List.{get_or_past}
 use Rattle.std.proofs.lemmas.Nat.{le_bytes_2, le_bytes_4}
-use Rattle.sm_reader.specs.Words.{IsWordOf, ends_by_twos, ends_by_fours}
-use Rattle.sm_reader.proofs.TextLemmas.{same_text, other_text, same_ends}
+use Rattle.sm_keys.specs.Words.{IsWordOf, ends_by_twos, ends_by_fours}
+use Rattle.sm_keys.proofs.TextLemmas.{same_text, other_text, same_ends}
 
 -- four bytes are the same where the number is
 pub same_word : (a b : List ℕ) (m n : ℕ) → length a ≡ 4 → length b ≡ 4 → ((i : ℕ) → get_or a i 0 < 256) → ((i : ℕ) → get_or b i 0 < 256)

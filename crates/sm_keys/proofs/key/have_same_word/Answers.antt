@@ -1,6 +1,6 @@
 use Rattle.std.proofs.Common.{arith}
-use Rattle.sm_reader.proofs.WordLemmas.{words_decide}
-use Rattle.sm_reader.proofs.keys.have_same_word.Goals as goal
+use Rattle.sm_keys.proofs.WordLemmas.{words_decide}
+use Rattle.sm_keys.proofs.key.have_same_word.Goals as goal
 
 pub returns : goal.returns
 returns c =

@@ -1,7 +1,7 @@
 use Rattle.std.proofs.Common.{◌≡◌, ◌∙◌, sym, ap, ◌-◌, length, take, drop}
 use Rattle.std.specs.Str.{bytes_eq}
-use Rattle.sm_reader.proofs.TextLemmas.{equal_text, by_first}
-use Rattle.sm_reader.proofs.keys.equal_by_fours.Goals as goal
+use Rattle.sm_keys.proofs.TextLemmas.{equal_text, by_first}
+use Rattle.sm_keys.proofs.key.equal_by_fours.Goals as goal
 
 pub returns-then-are_same : goal.returns-then-are_same
 returns-then-are_same c =
