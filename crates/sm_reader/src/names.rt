@@ -17,9 +17,9 @@ use std::alloc::{AllocError, Global};
 use std::marker::Model;
 use std::mem::swap;
 
-/// So many names of a side are looked for by the hashes of a short text. Even if all their hashes were chosen to be equal, that
-/// would cost next to no time, and most texts need no digest.
-const FEW: u32 = 16_384;
+/// So many names of a side are looked for by the hashes of a short text. Were all their hashes chosen to be equal, they would be
+/// compared some 33 million times, which takes less than a tenth of a second. Most texts need no digest so.
+const FEW: u32 = 8_192;
 
 /// The names of one side that stand in a text so far, declared or not, each by the index that it got where it stood
 /// first. A name is looked for at the index that it is guessed to have, and else found by its hash.
