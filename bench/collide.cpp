@@ -1,6 +1,7 @@
 // Writes a text of `force` lines whose names all have hashes that end in so many zero bits: with `fold` by the hash that the
-// library's sets use where they are given no other, and with `sip` by that of a text with few names. The first cost time in the
-// square of its names before names were hashed from a digest of the text.
+// library's sets use where they are given no other, and with `sip` by that of a text with few names, where they begin with eight
+// more, by which a set tells keys apart. The first cost time in the square of its names before names were hashed from a digest of
+// the text.
 //
 //     g++ -O2 -o collide bench/collide.cpp && ./collide NAMES BITS fold > instance.txt
 #include <cstdint>
@@ -47,6 +48,7 @@ int main(int count, char **words) {
     auto hash = strcmp(words[3], "sip") ? fold : sip;
     long names = atol(words[1]);
     uint64_t mask = (1ull << atoi(words[2])) - 1;
+    if (hash == sip) mask |= 0xff000000;
     const char letters[] = "abcdefghijklmnopqrstuvwxyzABCDEFGHIJKLMNOPQRSTUVWXYZ0123456789_.";
     puts("stable 1 marriage");
     long found = 0;
