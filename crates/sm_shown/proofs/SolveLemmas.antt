@@ -1,5 +1,5 @@
 -- The lines of the answer of `solve`, and of the one that nothing is allowed.
-use Rattle.std.proofs.Common.{◌≡◌, ◌≢◌, ℕ, ◌-◌, ◌<◌, List, [], ◌∷◌, ◌++◌, Option, Some, None, length, refl, sym, ap, ◌∙◌, arith, subst, inl, inr}
+use Rattle.std.proofs.Common.{◌≡◌, ◌≢◌, ℕ, ◌<◌, List, [], ◌∷◌, ◌++◌, Option, Some, None, length, refl, sym, ap, ◌∙◌, arith, subst, inl, inr}
 use Rattle.std.specs.List.{All}
 use Rattle.std.specs.Option.{option_map}
 use Rattle.std.proofs.lemmas.List.Elements.{All-append, All-cons}
@@ -7,15 +7,14 @@ use Rattle.sm_instance.specs.Written.{Written, entry}
 use Rattle.sm_instance.specs.Sound.{IsInstance}
 use Rattle.sm_instance.specs.declared.kinds.Kind.{Kind}
 use Rattle.sm_instance.specs.declared.kinds.Kind.TheVariants.{Marriage, Hospitals, Roommates}
-use Rattle.sm_instance.specs.declared.kinds.Side.TheVariants.{Proposers, Reviewers}
 use Rattle.sm_answer.specs.Lines.{line_or_none, lines_from}
-use Rattle.sm_answer.proofs.AnswerLemmas.{lines_from-same, lines_all, one_all}
+use Rattle.sm_answer.proofs.AnswerLemmas.{lines_all, one_all}
 use Rattle.sm_instance.specs.Matching.{held, IsMatching}
 use Rattle.sm_instance.specs.declared.inputs.Input.{Input}
 use Rattle.sm_instance.specs.declared.inputs.Input.TheVariants.{Two}
 use Rattle.sm_instance.specs.declared.kinds.Side.{Side}
 use Rattle.sm_instance.proofs.ListLemmas.{row_in_range}
-use Rattle.sm_market.specs.Lists.{Lists, entry as market_entry}
+use Rattle.sm_market.specs.Lists.{entry as market_entry}
 use Rattle.sm_market.specs.Matching.{Places}
 use Rattle.sm_market.specs.Stable.{IsStable as IsMarketStable}
 use Rattle.sm_report.specs.Heads.{HeadData}
@@ -23,13 +22,9 @@ use Rattle.sm_report.specs.Lines.{LineData}
 use Rattle.sm_report.specs.Sound.{IsLineOf, NamesSide, IsHeadOf}
 use Rattle.sm_seats.specs.Seating.{Seating, reviewer_of, written_of}
 use Rattle.sm_seats.specs.Correspondence.{IsSeating}
-use Rattle.sm_seats.proofs.SeatingLaws.{proposers_best, reviewers_best}
-use Rattle.sm_shown.specs.Answers.{pair_line, solve_lines, IsSolution}
+use Rattle.sm_shown.specs.Answers.{pair_line, solve_lines}
 use Rattle.sm_shown.specs.PairLines.{seated_pair_line}
-use Rattle.sm_instance.specs.Stable.{IsBestOf}
 use Rattle.sm_shown.specs.NoneAnswer.{none_lines}
-use Rattle.sm_shown.specs.GivenLines.{solve_given}
-use Rattle.sm_shown.specs.Found.{IsMarketBestOf}
 use Rattle.sm_shown.proofs.SeatingLemmas.{seat_cases}
 
 -- the pair of a proposer's seat is its pair in the instance
@@ -44,13 +39,6 @@ pair_alike {w} {s} h m st p = elim (seat_cases h st.matching p) [
       ∙ ap (λ r. Some (LineData.Pair p r)) (sym seat.there)
       ∙ sym (ap (option_map (λ i. LineData.Pair p (entry w.proposers p i))) seat.written_is)
 ]
-
--- the lines that are given are those of the answer
-given_is : {w : Written} {s : Seating} → IsSeating w s → (m : Places) (side : Side) → IsMarketStable s.market m → solve_given side s m ≡ solve_lines side w (written_of s m.proposers)
-given_is {w} {s} h m side st =
-    let count : length s.market.proposers - 0 ≡ length w.proposers = omega (arith, h.proposers) in
-    ap (λ t. LineData.Answer (HeadData.Solve (Some side)) ∷ (t ++ (LineData.End ∷ [])))
-    (ap (lines_from (seated_pair_line s m) 0) count ∙ lines_from-same (seated_pair_line s m) (pair_line w (written_of s m.proposers)) (pair_alike h m st) 0 (length w.proposers))
 
 -- a pair of a matching is a line of the instance
 pub pair_sound : (w : Written) (places : List (Option ℕ)) → IsMatching w places → (p : ℕ) → All (IsLineOf (Two w)) (line_or_none (pair_line w places p))
@@ -82,30 +70,6 @@ solve_sound w places side h m =
     (All-append P (lines_from (pair_line w places) 0 (length w.proposers)) (LineData.End ∷ [])
     (lines_all P (pair_line w places) (pair_sound w places m) 0 (length w.proposers))
     (All-cons P LineData.End [] (end_sound (Two w)) (λ k d l. absurd (omega arith))))
-
-best_written : {w : Written} {s : Seating} → IsSeating w s → (m : Places) (side : Side) → IsMarketBestOf side s.market m → IsBestOf side w (written_of s m.proposers)
-best_written h m Proposers best = proposers_best h best
-best_written h m Reviewers best = reviewers_best h best
-
-best_stable : (l : Lists) (m : Places) (side : Side) → IsMarketBestOf side l m → IsMarketStable l m
-best_stable l m Proposers best = best.stable
-best_stable l m Reviewers best = best.stable
-
--- the lines that are given for the best matching of the seats are a right answer
-pub solve_right : {w : Written} {s : Seating} → IsSeating w s → (m : Places) (side : Side) → IsMarketBestOf side s.market m → IsSolution side w (solve_given side s m)
-solve_right {w} {s} h m side best = record {
-  places = written_of s m.proposers;
-  best = best_written h m side best;
-  shows = given_is h m side (best_stable s.market m side best);
-}
-
--- and lines of the instance
-pub solve_given_sound : (input : Input) {w : Written} {s : Seating} → IsInstance w → IsSeating w s → (m : Places) (side : Side) → input ≡ Two w → IsMarketBestOf side s.market m
-    → All (IsLineOf input) (solve_given side s m)
-solve_given_sound input {w} {s} i h m side two best =
-    let stable = best_stable s.market m side best in
-    subst (λ (i : Input). All (IsLineOf i) (solve_given side s m)) (sym two)
-    (subst (All (IsLineOf (Two w))) (sym (given_is h m side stable)) (solve_sound w (written_of s m.proposers) side i (h.forgotten m stable).matching))
 
 -- that nothing is allowed is said by lines of the instance
 pub none_sound : (head : HeadData) (input : Input) (w : Written) → input ≡ Two w → IsHeadOf w.kind head → All (IsLineOf input) (none_lines head)

@@ -1,13 +1,10 @@
--- What `find_solution` and `find_reduction` find in a market.
+-- What `find_reduction` finds in a market.
 use Rattle.std.specs.Prelude.{◌≡◌}
 use Rattle.sm_market.specs.Lists.{Lists}
 use Rattle.sm_market.specs.Pairing.{IsPairingOf}
 use Rattle.sm_market.specs.Reduced.{reduced_lists_of}
 use Rattle.sm_market.specs.Stable.{IsProposersBest, IsReviewersBest}
 use Rattle.sm_market.specs.Vectors.{lists_of}
-use Rattle.sm_market.specs.Matching.{Places}
-use Rattle.sm_instance.specs.declared.kinds.Side.{Side}
-use Rattle.sm_instance.specs.declared.kinds.Side.TheVariants.{Proposers, Reviewers}
 use Rattle.sm_shown.specs.declared.reduction.Reduction.{Reduction}
 
 -- the best matchings of both sides, and the reduced lists between them
@@ -17,8 +14,3 @@ pub record IsReductionOf (l : Lists) (r : Reduction) : Type 0 where
   pub proposers_best : IsProposersBest l r.first.places
   pub reviewers_best : IsReviewersBest l r.last.places
   pub reduced : lists_of r.lists.proposers.items r.lists.reviewers.items ≡ reduced_lists_of l r.first.places r.last.places
-
--- the best stable matching of a side of a market
-abbrev pub IsMarketBestOf : Side → Lists → Places → Type 0
-IsMarketBestOf Proposers l m = IsProposersBest l m
-IsMarketBestOf Reviewers l m = IsReviewersBest l m

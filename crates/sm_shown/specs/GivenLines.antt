@@ -1,8 +1,7 @@
 -- The lines of answers as they are given, from what a market's values hold.
-use Rattle.std.specs.Prelude.{ℕ, ◌+◌, ◌-◌, Bool, true, false, List, [], ◌∷◌, ◌++◌, length, drop, Some}
+use Rattle.std.specs.Prelude.{ℕ, ◌+◌, ◌-◌, Bool, true, false, List, [], ◌∷◌, ◌++◌, length, drop}
 use Rattle.std.specs.List.{flat_map, range_with_len}
 use Rattle.sm_answer.specs.Lines.{lines_from}
-use Rattle.sm_instance.specs.declared.kinds.Side.{Side}
 use Rattle.sm_instance.specs.declared.kinds.Side.TheVariants.{Proposers, Reviewers}
 use Rattle.sm_market.specs.Lists.{Lists}
 use Rattle.sm_market.specs.Matching.{Places}
@@ -11,7 +10,6 @@ use Rattle.sm_report.specs.Lines.{LineData}
 use Rattle.sm_seats.specs.Seating.{Seating}
 use Rattle.sm_shown.specs.Reduction.{seat_line, proposer_line, reviewer_line}
 use Rattle.sm_shown.specs.RotationLines.{rotation_line, needs_line}
-use Rattle.sm_shown.specs.PairLines.{seated_pair_line}
 
 -- the two lines of a rotation: that of its pairs, and that of what it needs
 abbrev pub two_lines : Seating → List (List (ℕ × ℕ)) → List (List ℕ) → ℕ → List LineData
@@ -34,13 +32,6 @@ lines_left halfway s rotations needs k = without_first halfway (lines_of_rotatio
 abbrev pub most_left : Bool → ℕ → ℕ
 most_left false n = n + n
 most_left true n = n + n - 1
-
--- the answers of `solve`, `reduced` and `rotations`
-abbrev pub solve_given : Side → Seating → Places → List LineData
-solve_given side s m =
-    (LineData.Answer (HeadData.Solve (Some side)) ∷ [])
-    ++ (lines_from (seated_pair_line s m) 0 (length s.market.proposers - 0)
-    ++ (LineData.End ∷ []))
 
 -- both best matchings, of the proposers and of the reviewers, by their seats
 abbrev pub seats_given : Seating → (first last : Places) → List LineData

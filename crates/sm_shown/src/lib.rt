@@ -1,9 +1,9 @@
 //! What the commands show: their answers, as values that give lines.
 //!
 //! For each command a function finds what its answer is read from, and another one lends that as lines
-//! ([`sm_answer::Lines`]): [`find_solution`] and [`solution_lines`], [`find_reduction`] and [`reduction_lines`],
-//! [`Basis::of`] and [`rotation_answer_lines`]. Other commands stand on a [`Basis`] too, and say by [`none_lines`] that
-//! nothing is allowed. Marriages and hospitals are alike here: both are known by their seats ([`sm_seats::Seats`]).
+//! ([`sm_answer::Lines`]): [`find_reduction`] and [`reduction_lines`], [`Basis::of`] and [`rotation_answer_lines`]. Other
+//! commands stand on a [`Basis`] too, and say by [`none_lines`] that nothing is allowed. Marriages and hospitals are alike
+//! here: both are known by their seats ([`sm_seats::Seats`]).
 #![tactic(auto)]
 
 mod basis;
@@ -14,7 +14,6 @@ mod reduction;
 mod rotation_answer;
 mod rotation_lines;
 mod seat_lines;
-mod solution;
 
 pub use basis::Basis;
 pub use list_lines::{ProposerLists, ReviewerLists};
@@ -24,4 +23,3 @@ pub use reduction::{Reduction, ReductionLines, find_reduction, reduction_lines};
 pub use rotation_answer::{RotationAnswerLines, rotation_answer_lines};
 pub use rotation_lines::{RotationLines, Rotations, needs_line, rotation_line};
 pub use seat_lines::SeatLines;
-pub use solution::{Solution, SolutionLines, find_solution, solution_lines};

@@ -9,4 +9,4 @@ pub mod Stops
 pub mod Wrote
 pub mod Steps
 pub mod Unsaid
-pub mod Seated
+pub mod Counted

@@ -9,13 +9,14 @@ ghost use Rattle.sm_top.specs.Stops.{StopsBy};
 ghost use Rattle.sm_top.specs.Wrote.{Wrote};
 
 use crate::performing::solve_roommates;
-use crate::refusing::seats_of;
+use crate::refusing::counts_of;
 use crate::status::Status;
 use crate::stop::Stop;
 use crate::writing::write;
 use sm_instance::Input;
 use sm_io::Sink;
 use sm_printed::instance_lines;
+use sm_seats::Seats;
 use sm_survey::survey_lines;
 use sm_tally::Tally;
 use sm_words::USUAL_LIMIT;
@@ -59,7 +60,8 @@ fn summarize<K: Sink>(
 {
     match input {
         Input::Two(instance) => {
-            let seats = seats_of(alloc, instance)?;
+            let counts = counts_of(alloc, instance)?;
+            let seats = Seats::counted(alloc, instance, &counts)?;
             let lines = survey_lines(alloc, input, instance, &seats, USUAL_LIMIT, tallies)?;
             Ok(write(alloc, sink, Status::Done, lines))
         }

@@ -9,7 +9,7 @@ ghost use Rattle.sm_text.specs.Limits.{most_bytes};
 ghost use Rattle.sm_text.specs.Lines.{lines};
 ghost use Rattle.sm_words.specs.Jobs.{job_of, IsInBounds, IsLimit};
 ghost use Rattle.sm_top.specs.Accepting.{reads_input, takes_text, IsTextFor, judges_answer, judged, accepted, too_many_in, IsTooMany};
-ghost use Rattle.sm_top.specs.Seated.{IsSeated};
+ghost use Rattle.sm_top.specs.Counted.{IsCounted};
 ghost use Rattle.sm_shown.specs.Answers.{IsSolution};
 ghost use Rattle.sm_listing.specs.ListAnswer.{IsCursor, IsListAnswer};
 ghost use Rattle.sm_listing.specs.Started.{cursor_in};
@@ -23,7 +23,7 @@ ghost use Rattle.sm_top.specs.Stops.{StopsBy};
 ghost use Rattle.sm_top.specs.Wrote.{Wrote, With};
 
 use crate::choosing::choose;
-use crate::refusing::{seats_of, takes_text};
+use crate::refusing::{counts_of, takes_text};
 use crate::status::Status;
 use crate::stop::Stop;
 use crate::writing::write;
@@ -35,11 +35,9 @@ use sm_partners::{find_pairs, find_regret, pairs_lines, regret_lines};
 use sm_reader::Read;
 use sm_report::Head;
 use sm_rooming::{RoomSolution, couple_lines, find_roommates, party_lines};
-use sm_seats::Seats;
-use sm_shown::{
-    Basis, find_reduction, find_solution, none_lines, reduction_lines, rotation_answer_lines,
-    solution_lines,
-};
+use sm_seats::{SeatCounts, Seats};
+use sm_shown::{Basis, find_reduction, none_lines, reduction_lines, rotation_answer_lines};
+use sm_solve::{find_solution, solution_lines};
 use sm_survey::survey_lines;
 use sm_tally::Tally;
 use sm_text::RefusalKind;
@@ -47,16 +45,16 @@ use sm_theory::Choice;
 use sm_words::Job;
 use std::alloc::{AllocError, Global};
 
-/// An instance with two sides that was read, and its seats.
+/// An instance with two sides that was read, and what is counted of its seats.
 #[derive(Drop)]
-struct Seated<'a> {
+struct Counted<'a> {
     read: &'a Read,
     instance: &'a Instance,
-    seats: Seats,
+    counts: SeatCounts,
 }
 
 /// Does a job, but `check`, on an input that was read for it, where its kind and its seats aren't refused. The text of the
-/// input is freed before the seats are made, where the job takes none behind `end`.
+/// input is freed before seats are made, where the job takes none behind `end`.
 pub(crate) fn perform<K: Sink>(
     alloc: Global,
     job: &Job,
@@ -82,8 +80,8 @@ pub(crate) fn perform<K: Sink>(
     let behind = text_for(alloc, job, bytes);
     match &read.input {
         Input::Two(instance) => {
-            let given = with_seats(alloc, read, instance)?;
-            perform_on_seats(alloc, job, &behind, &given, tallies, sink)
+            let given = with_counts(alloc, read, instance)?;
+            perform_on_two(alloc, job, &behind, &given, tallies, sink)
         }
         Input::Room(persons) => perform_on_persons(alloc, job, read, persons, sink),
     }
@@ -100,30 +98,35 @@ fn text_for(alloc: Global, job: &Job, bytes: Vec<u8>) -> Vec<u8>
     }
 }
 
-/// An instance with its seats, where they aren't too many.
-fn with_seats<'a>(alloc: Global, read: &'a Read, instance: &'a Instance) -> Result<Seated<'a>, Stop>
+/// An instance with what is counted of its seats, where they aren't too many.
+fn with_counts<'a>(
+    alloc: Global,
+    read: &'a Read,
+    instance: &'a Instance,
+) -> Result<Counted<'a>, Stop>
     requires { read.now.input ≡ Two instance.now }
     ensures instance { IsInstance instance.now }
     ensures read { IfOk result (λ given. given.read.now ≡ read.now) }
-    ensures seated { IfOk result (λ given. IsSeated read.now.input given.instance.now given.seats) }
-    ensures few { OnOk result (too_many_in read.now.input ≡ None) }
+    ensures counted { IfOk result
+        (λ given. IsCounted read.now.input given.instance.now given.counts) }
+    ensures none { OnOk result (too_many_in read.now.input ≡ None) }
     ensures stop { IfErr result (λ stop. StopsBy (λ _. ⊥) (IsTooMany read.now.input) ⊥ stop) }
 {
     let _count = instance.proposer_count();
-    let seats = seats_of(alloc, instance)?;
-    Ok(Seated {
+    let counts = counts_of(alloc, instance)?;
+    Ok(Counted {
         read,
         instance,
-        seats,
+        counts,
     })
 }
 
 /// Does a job on an instance with two sides, with its text where the job takes text behind `end`.
-fn perform_on_seats<K: Sink>(
+fn perform_on_two<K: Sink>(
     alloc: Global,
     job: &Job,
     bytes: &[u8],
-    given: &Seated<'_>,
+    given: &Counted<'_>,
     tallies: &mut Vec<Box<dyn Tally>>,
     sink: &mut K,
 ) -> Result<Status, Stop>
@@ -131,7 +134,7 @@ fn perform_on_seats<K: Sink>(
     requires answers { judges_answer (job_of job.now) ≡ false }
     requires few { takes_text (job_of job.now) ≡ true → given.now.read.now.rest_line
         + length (lines (drop given.now.read.now.rest bytes.now)) < 2 ^ 32 }
-    requires seated { IsSeated given.now.read.now.input given.now.instance.now given.now.seats }
+    requires counted { IsCounted given.now.read.now.input given.now.instance.now given.now.counts }
     requires bounds { IsInBounds (job_of job.now) }
     ensures wrote { (text : List ℕ) → IsTextFor (job_of job.now) text bytes.now
         → accepted (job_of job.now) text ≡ Ok (read_of given.now.read.now)
@@ -213,11 +216,11 @@ fn perform_on_persons<K: Sink>(
 /// Does `solve` on an instance with two sides.
 fn solve<K: Sink>(
     alloc: Global,
-    given: &Seated<'_>,
+    given: &Counted<'_>,
     side: Option<Side>,
     sink: &mut K,
 ) -> Result<Status, AllocError>
-    requires { IsSeated given.now.read.now.input given.now.instance.now given.now.seats }
+    requires { IsCounted given.now.read.now.input given.now.instance.now given.now.counts }
     ensures wrote { IfOk result (λ status. Wrote
         (With Status.Done (IsShown given.now.read.now.input
         (IsSolution (unwrap_or side Side.Proposers) given.now.instance.now)))
@@ -225,8 +228,8 @@ fn solve<K: Sink>(
     ensures unwritten { OnErr result (sink.new ≡ sink.old) }
     ensures later { K.faults sink.old ≤ K.faults sink.new }
 {
-    let solution = find_solution(alloc, &given.seats, side)?;
-    let lines = solution_lines(&given.read.input, given.instance, &given.seats, &solution);
+    let solution = find_solution(alloc, given.instance, &given.counts, side)?;
+    let lines = solution_lines(&given.read.input, given.instance, &solution);
     Ok(write(alloc, sink, Status::Done, lines))
 }
 
@@ -257,26 +260,27 @@ pub(crate) fn solve_roommates<K: Sink>(
 }
 
 /// Does `reduced`.
-fn reduce<K: Sink>(alloc: Global, given: &Seated<'_>, sink: &mut K) -> Result<Status, AllocError>
-    requires { IsSeated given.now.read.now.input given.now.instance.now given.now.seats }
+fn reduce<K: Sink>(alloc: Global, given: &Counted<'_>, sink: &mut K) -> Result<Status, AllocError>
+    requires { IsCounted given.now.read.now.input given.now.instance.now given.now.counts }
     ensures wrote { IfOk result (λ status. Wrote
         (With Status.Done (IsShown given.now.read.now.input (IsReduction given.now.instance.now)))
         (K.held sink.old) (K.held sink.new) (K.faults sink.old) (K.faults sink.new) status) }
     ensures unwritten { OnErr result (sink.new ≡ sink.old) }
     ensures later { K.faults sink.old ≤ K.faults sink.new }
 {
-    let reduction = find_reduction(alloc, &given.seats)?;
-    let lines = reduction_lines(&given.read.input, given.instance, &given.seats, &reduction);
+    let seats = Seats::counted(alloc, given.instance, &given.counts)?;
+    let reduction = find_reduction(alloc, &seats)?;
+    let lines = reduction_lines(&given.read.input, given.instance, &seats, &reduction);
     Ok(write(alloc, sink, Status::Done, lines))
 }
 
 /// Does `rotations`.
 fn show_rotations<K: Sink>(
     alloc: Global,
-    given: &Seated<'_>,
+    given: &Counted<'_>,
     sink: &mut K,
 ) -> Result<Status, AllocError>
-    requires { IsSeated given.now.read.now.input given.now.instance.now given.now.seats }
+    requires { IsCounted given.now.read.now.input given.now.instance.now given.now.counts }
     ensures wrote { IfOk result (λ status. Wrote
         (With Status.Done (IsShown given.now.read.now.input
         (IsRotationAnswer given.now.instance.now)))
@@ -284,20 +288,21 @@ fn show_rotations<K: Sink>(
     ensures unwritten { OnErr result (sink.new ≡ sink.old) }
     ensures later { K.faults sink.old ≤ K.faults sink.new }
 {
-    let basis = Basis::of(alloc, &given.seats)?;
-    let lines = rotation_answer_lines(&given.read.input, given.instance, &given.seats, &basis);
+    let seats = Seats::counted(alloc, given.instance, &given.counts)?;
+    let basis = Basis::of(alloc, &seats)?;
+    let lines = rotation_answer_lines(&given.read.input, given.instance, &seats, &basis);
     Ok(write(alloc, sink, Status::Done, lines))
 }
 
 /// Does `list`.
 fn list<K: Sink>(
     alloc: Global,
-    given: &Seated<'_>,
+    given: &Counted<'_>,
     after: &Option<Vec<u32>>,
     limit: u32,
     sink: &mut K,
 ) -> Result<Status, Stop>
-    requires seated { IsSeated given.now.read.now.input given.now.instance.now given.now.seats }
+    requires counted { IsCounted given.now.read.now.input given.now.instance.now given.now.counts }
     requires limit { IsLimit limit }
     ensures wrote { IfOk result (λ status. Wrote
         (With Status.Done (IsShown given.now.read.now.input (IsListAnswer (cursor_in after.now)
@@ -311,7 +316,8 @@ fn list<K: Sink>(
     if !is_cursor(given.instance, after) {
         return Err(Stop::Refused(RefusalKind::BadCursor, 0));
     }
-    let lister = start_list(alloc, given.instance, &given.seats, after)?;
+    let seats = Seats::counted(alloc, given.instance, &given.counts)?;
+    let lister = start_list(alloc, given.instance, &seats, after)?;
     let lines = list_lines(
         alloc,
         &given.read.input,
@@ -326,17 +332,18 @@ fn list<K: Sink>(
 /// Does `pairs`.
 fn show_pairs<K: Sink>(
     alloc: Global,
-    given: &Seated<'_>,
+    given: &Counted<'_>,
     sink: &mut K,
 ) -> Result<Status, AllocError>
-    requires { IsSeated given.now.read.now.input given.now.instance.now given.now.seats }
+    requires { IsCounted given.now.read.now.input given.now.instance.now given.now.counts }
     ensures wrote { IfOk result (λ status. Wrote
         (With Status.Done (IsShown given.now.read.now.input (IsPairsAnswer given.now.instance.now)))
         (K.held sink.old) (K.held sink.new) (K.faults sink.old) (K.faults sink.new) status) }
     ensures unwritten { OnErr result (sink.new ≡ sink.old) }
     ensures later { K.faults sink.old ≤ K.faults sink.new }
 {
-    let pairs = find_pairs(alloc, given.instance, &given.seats)?;
+    let seats = Seats::counted(alloc, given.instance, &given.counts)?;
+    let pairs = find_pairs(alloc, given.instance, &seats)?;
     let lines = pairs_lines(&given.read.input, given.instance, &pairs);
     Ok(write(alloc, sink, Status::Done, lines))
 }
@@ -344,19 +351,20 @@ fn show_pairs<K: Sink>(
 /// Does `regret`.
 fn show_regret<K: Sink>(
     alloc: Global,
-    given: &Seated<'_>,
+    given: &Counted<'_>,
     sink: &mut K,
 ) -> Result<Status, AllocError>
-    requires { IsSeated given.now.read.now.input given.now.instance.now given.now.seats }
+    requires { IsCounted given.now.read.now.input given.now.instance.now given.now.counts }
     ensures wrote { IfOk result (λ status. Wrote
         (λ status. IsShown given.now.read.now.input (IsRegretted given.now.read.now.input status))
         (K.held sink.old) (K.held sink.new) (K.faults sink.old) (K.faults sink.new) status) }
     ensures unwritten { OnErr result (sink.new ≡ sink.old) }
     ensures later { K.faults sink.old ≤ K.faults sink.new }
 {
-    match find_regret(alloc, given.instance, &given.seats)? {
+    let seats = Seats::counted(alloc, given.instance, &given.counts)?;
+    match find_regret(alloc, given.instance, &seats)? {
         Some(found) => {
-            let lines = regret_lines(&given.read.input, given.instance, &given.seats, &found);
+            let lines = regret_lines(&given.read.input, given.instance, &seats, &found);
             Ok(write(alloc, sink, Status::Done, lines))
         }
         None => {
@@ -369,20 +377,21 @@ fn show_regret<K: Sink>(
 /// Does `weight`.
 fn show_lightest<K: Sink>(
     alloc: Global,
-    given: &Seated<'_>,
+    given: &Counted<'_>,
     by: Measure,
     sink: &mut K,
 ) -> Result<Status, AllocError>
-    requires { IsSeated given.now.read.now.input given.now.instance.now given.now.seats }
+    requires { IsCounted given.now.read.now.input given.now.instance.now given.now.counts }
     ensures wrote { IfOk result (λ status. Wrote
         (λ status. IsShown given.now.read.now.input (IsWeighed by given.now.read.now.input status))
         (K.held sink.old) (K.held sink.new) (K.faults sink.old) (K.faults sink.new) status) }
     ensures unwritten { OnErr result (sink.new ≡ sink.old) }
     ensures later { K.faults sink.old ≤ K.faults sink.new }
 {
-    match find_lightest(alloc, given.instance, &given.seats, by)? {
+    let seats = Seats::counted(alloc, given.instance, &given.counts)?;
+    match find_lightest(alloc, given.instance, &seats, by)? {
         Some(found) => {
-            let lines = lightest_lines(&given.read.input, given.instance, &given.seats, &found);
+            let lines = lightest_lines(&given.read.input, given.instance, &seats, &found);
             Ok(write(alloc, sink, Status::Done, lines))
         }
         None => {
@@ -395,12 +404,12 @@ fn show_lightest<K: Sink>(
 /// Does `survey`.
 fn survey<K: Sink>(
     alloc: Global,
-    given: &Seated<'_>,
+    given: &Counted<'_>,
     limit: u32,
     tallies: &mut Vec<Box<dyn Tally>>,
     sink: &mut K,
 ) -> Result<Status, AllocError>
-    requires seated { IsSeated given.now.read.now.input given.now.instance.now given.now.seats }
+    requires counted { IsCounted given.now.read.now.input given.now.instance.now given.now.counts }
     requires limit { IsLimit limit }
     ensures wrote { IfOk result (λ status. Wrote
         (With Status.Done (IsShown given.now.read.now.input (IsSurveyAnswer (map
@@ -409,11 +418,12 @@ fn survey<K: Sink>(
     ensures unwritten { OnErr result (sink.new ≡ sink.old) }
     ensures later { K.faults sink.old ≤ K.faults sink.new }
 {
+    let seats = Seats::counted(alloc, given.instance, &given.counts)?;
     let lines = survey_lines(
         alloc,
         &given.read.input,
         given.instance,
-        &given.seats,
+        &seats,
         limit,
         tallies,
     )?;

@@ -1,4 +1,4 @@
-//! Which inputs are refused, and the seats of those that aren't.
+//! Which inputs are refused, and what is counted of the seats of those that aren't.
 
 ghost use Rattle.std.specs.Prelude.{◌≡◌, ◌≤◌, ◌+◌, ◌<◌, ◌^◌, length, drop, MatchOption, IfOk, IfErr, OnOk, Ok, Err, None};
 ghost use Rattle.sm_text.specs.Limits.{most_bytes};
@@ -7,8 +7,8 @@ ghost use Rattle.sm_text.specs.Lines.{lines};
 ghost use Rattle.sm_text.specs.Tokens.{tokens};
 ghost use Rattle.sm_reader.specs.InstanceText.{instance_text, read_of};
 ghost use Rattle.sm_top.specs.Accepting.{first_saying, has_tokens, takes_text, judges_answer, IsTooMany, judged, accepted, IsUnaccepted};
-ghost use Rattle.sm_top.specs.Seated.{AreSeatsOf};
-ghost use Rattle.sm_seats.specs.SeatEntries.{first_too_many};
+ghost use Rattle.sm_seats.specs.Counted.{AreSeatCounts};
+ghost use Rattle.sm_seats.specs.SeatEntries.{AreFewSeats, first_too_many};
 ghost use Rattle.sm_instance.specs.declared.inputs.Input.TheVariants.{Two};
 ghost use Rattle.sm_top.specs.Stops.{StopsBy};
 ghost use Rattle.sm_words.specs.Jobs.{job_of};
@@ -16,7 +16,7 @@ ghost use Rattle.sm_words.specs.Jobs.{job_of};
 use crate::stop::Stop;
 use sm_instance::Instance;
 use sm_reader::{Read, TextFault, read_instance};
-use sm_seats::{Seats, SeatsFault};
+use sm_seats::{SeatCounts, SeatsFault, seat_counts};
 use sm_text::{RefusalKind, TokenAt, line_at, token_at};
 use sm_words::Job;
 use std::alloc::Global;
@@ -40,14 +40,15 @@ pub(crate) fn read_for(alloc: Global, job: &Job, bytes: &[u8]) -> Result<Read, S
     }
 }
 
-/// The seats of an instance, where they aren't too many.
-pub(crate) fn seats_of(alloc: Global, instance: &Instance) -> Result<Seats, Stop>
-    ensures seated { IfOk result (λ seats. AreSeatsOf instance.now seats) }
-    ensures few { OnOk result (first_too_many instance.now ≡ None) }
+/// What is counted of the seats of an instance, where they aren't too many.
+pub(crate) fn counts_of(alloc: Global, instance: &Instance) -> Result<SeatCounts, Stop>
+    ensures counts { IfOk result (AreSeatCounts instance.now) }
+    ensures few { OnOk result (AreFewSeats instance.now) }
+    ensures none { OnOk result (first_too_many instance.now ≡ None) }
     ensures stop { IfErr result (λ stop. StopsBy (λ _. ⊥) (IsTooMany (Two instance.now)) ⊥ stop) }
 {
-    match Seats::of(alloc, instance) {
-        Ok(seats) => Ok(seats),
+    match seat_counts(alloc, instance) {
+        Ok(counts) => Ok(counts),
         Err(SeatsFault::TooManySeats(r)) => {
             let line = instance.reviewers()[r as usize].line;
             Err(Stop::Refused(RefusalKind::TooManySeats, line))

@@ -28,6 +28,8 @@ mod rooms;
 #[cfg(test)]
 mod seats;
 #[cfg(test)]
+mod solutions;
+#[cfg(test)]
 mod tallies;
 #[cfg(test)]
 mod texts;

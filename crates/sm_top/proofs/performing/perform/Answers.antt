@@ -14,11 +14,11 @@ returns-in_err-given-in-Two-clause-stop g c =
     let two = c.in_err-given-in-Two.ensures.instance.two_sided in
     rw (e.1, e.2) (stops_for _ _ _ _ _ _ c.in_err-given-in-Two.field-0.0 (λ word h. h) (λ refusal too. two_refused (job_of c.args.job.now) c.args.bytes.items (read_of c.args.read.now) c.in-Two.instance refusal c.requires.reads c.in-Two.is two c.requires.accepted too) (λ h. h) c.in_err-given-in-Two.ensures.stop)
 
-pub perform_on_seats-requires-clause-few : goal.perform_on_seats-requires-clause-few
-perform_on_seats-requires-clause-few g c = λ takes.
+pub perform_on_two-requires-clause-few : goal.perform_on_two-requires-clause-few
+perform_on_two-requires-clause-few g c = λ takes.
     let given = c.in_ok-given-in-Two.ensures in
     let job = job_of c.args.job.now in
-    let ok = two_accepted job c.args.bytes.items (read_of c.args.read.now) c.in-Two.instance c.requires.reads c.in-Two.is given.instance.two_sided c.requires.accepted given.few in
+    let ok = two_accepted job c.args.bytes.items (read_of c.args.read.now) c.in-Two.instance c.requires.reads c.in-Two.is given.instance.two_sided c.requires.accepted given.none in
     let kept = c.deref.ensures.value ∙ c.text_for-behind.ensures takes in
     rw (given.read, kept) (few_lines job c.args.bytes.items (read_of c.args.read.now) c.requires.short ok)
 
@@ -27,8 +27,8 @@ returns-in-Two-clause-wrote g c =
     let given = c.in_ok-given-in-Two.ensures in
     let job = job_of c.args.job.now in
     let bytes = c.args.bytes.items in
-    let ok = two_accepted job bytes (read_of c.args.read.now) c.in-Two.instance c.requires.reads c.in-Two.is given.instance.two_sided c.requires.accepted given.few in
-    c.perform_on_seats.ensures.wrote bytes (λ takes. c.deref.ensures.value ∙ c.text_for-behind.ensures takes) (rw given.read ok)
+    let ok = two_accepted job bytes (read_of c.args.read.now) c.in-Two.instance c.requires.reads c.in-Two.is given.instance.two_sided c.requires.accepted given.none in
+    c.perform_on_two.ensures.wrote bytes (λ takes. c.deref.ensures.value ∙ c.text_for-behind.ensures takes) (rw given.read ok)
 
 pub returns-in-Two-clause-stop : goal.returns-in-Two-clause-stop
 returns-in-Two-clause-stop g c =
@@ -36,9 +36,9 @@ returns-in-Two-clause-stop g c =
     let job = job_of c.args.job.now in
     let bytes = c.args.bytes.items in
     let read = read_of c.args.read.now in
-    let ok = two_accepted job bytes read c.in-Two.instance c.requires.reads c.in-Two.is given.instance.two_sided c.requires.accepted given.few in
-    let stop = c.perform_on_seats.ensures.stop bytes (λ takes. c.deref.ensures.value ∙ c.text_for-behind.ensures takes) in
-    err_stops_for (λ word. ⊥) (λ word. ⊥) (IsOwnRefusal job bytes read) (IsRefused job bytes) ⊥ ⊥ c.perform_on_seats.result (λ word h. h) (λ refusal own. by_job read ok own) (λ h. h) (rw given.read at stop)
+    let ok = two_accepted job bytes read c.in-Two.instance c.requires.reads c.in-Two.is given.instance.two_sided c.requires.accepted given.none in
+    let stop = c.perform_on_two.ensures.stop bytes (λ takes. c.deref.ensures.value ∙ c.text_for-behind.ensures takes) in
+    err_stops_for (λ word. ⊥) (λ word. ⊥) (IsOwnRefusal job bytes read) (IsRefused job bytes) ⊥ ⊥ c.perform_on_two.result (λ word h. h) (λ refusal own. by_job read ok own) (λ h. h) (rw given.read at stop)
 
 pub returns-clause-wrote : goal.returns-clause-wrote
 returns-clause-wrote g c = c.perform_on_persons.ensures.wrote c.args.bytes.items _ c.requires.accepted

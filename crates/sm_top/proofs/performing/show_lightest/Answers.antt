@@ -7,6 +7,6 @@ returns-in-Some-clause-wrote g c =
     rw (← found.0)
     (two_weighed c.in-Some.found.by c.args.given.now.read.now.input c.args.given.now.instance.now _ _ _ _ _ _ c.requires.two c.lightest_lines-lines.ensures.right c.write.ensures.wrote)
 
-pub returns-in-None-clause-wrote : goal.returns-in-None-clause-wrote
-returns-in-None-clause-wrote g c =
+pub returns-clause-wrote : goal.returns-clause-wrote
+returns-clause-wrote g c =
     two_unweighed c.args.by c.args.given.now.read.now.input c.args.given.now.instance.now _ _ _ _ _ _ c.requires.two c.none_lines-nothing.ensures.right c.write-in-None.ensures.wrote

@@ -1,10 +1,10 @@
 use Rattle.sm_seats.specs.SeatEntries.{IsFirstTooMany}
 use Rattle.sm_seats.proofs.LimitLaws.{first_too_many-none}
 use Rattle.sm_top.proofs.SeatLemmas.{too_many_at, line_read}
-use Rattle.sm_top.proofs.refusing.seats_of.Goals as goal
+use Rattle.sm_top.proofs.refusing.counts_of.Goals as goal
 
-pub returns-in-Ok-clause-few : goal.returns-in-Ok-clause-few
-returns-in-Ok-clause-few c = first_too_many-none c.args.instance.now c.in-Ok.ensures.few
+pub returns-in-Ok-clause-none : goal.returns-in-Ok-clause-none
+returns-in-Ok-clause-none c = first_too_many-none c.args.instance.now c.in-Ok.ensures.few
 
 pub returns-in-Err-TooManySeats-clause-stop : goal.returns-in-Err-TooManySeats-clause-stop
 returns-in-Err-TooManySeats-clause-stop c =

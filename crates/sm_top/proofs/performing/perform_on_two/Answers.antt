@@ -16,38 +16,38 @@ use Rattle.sm_top.specs.declared.status.Status.TheVariants.{Done}
 use Rattle.sm_words.specs.Jobs.{job_of}
 use Rattle.sm_top.proofs.RunLemmas.{wrote_answer, wrote_answer_by}
 use Rattle.sm_top.proofs.KindLemmas.{answer_over, two_solved}
-use Rattle.sm_top.proofs.performing.perform_on_seats.Goals as goal
+use Rattle.sm_top.proofs.performing.perform_on_two.Goals as goal
 
 pub returns-in_ok-solve-in-Solve-clause-wrote : goal.returns-in_ok-solve-in-Solve-clause-wrote
 returns-in_ok-solve-in-Solve-clause-wrote g c = λ text kept accepted.
     let ok = rw c.in-Solve.is at accepted in
     let given = c.args.given.now in
-    rw c.in-Solve.is (answer_over (Solve c.in-Solve.side) text (read_of given.read.now) (IsSolved c.in-Solve.side) _ _ _ _ _ ok (two_solved c.in-Solve.side given.read.now.input given.instance.now _ _ _ _ _ c.requires.seated.two c.in_ok-solve-in-Solve.ensures.wrote))
+    rw c.in-Solve.is (answer_over (Solve c.in-Solve.side) text (read_of given.read.now) (IsSolved c.in-Solve.side) _ _ _ _ _ ok (two_solved c.in-Solve.side given.read.now.input given.instance.now _ _ _ _ _ c.requires.counted.two c.in_ok-solve-in-Solve.ensures.wrote))
 
 pub returns-in_ok-reduce-in-Reduced-clause-wrote : goal.returns-in_ok-reduce-in-Reduced-clause-wrote
 returns-in_ok-reduce-in-Reduced-clause-wrote g c = λ text kept accepted.
     let ok = rw c.in-Reduced.is at accepted in
     let given = c.args.given.now in
-    rw c.in-Reduced.is (wrote_answer Reduced text (read_of given.read.now) given.instance.now IsReduction Done _ _ _ _ _ ok c.requires.seated.two c.in_ok-reduce-in-Reduced.ensures.wrote)
+    rw c.in-Reduced.is (wrote_answer Reduced text (read_of given.read.now) given.instance.now IsReduction Done _ _ _ _ _ ok c.requires.counted.two c.in_ok-reduce-in-Reduced.ensures.wrote)
 
 pub returns-in_ok-show_rotations-in-Rotations-clause-wrote : goal.returns-in_ok-show_rotations-in-Rotations-clause-wrote
 returns-in_ok-show_rotations-in-Rotations-clause-wrote g c = λ text kept accepted.
     let ok = rw c.in-Rotations.is at accepted in
     let given = c.args.given.now in
-    rw c.in-Rotations.is (wrote_answer Rotations text (read_of given.read.now) given.instance.now IsRotationAnswer Done _ _ _ _ _ ok c.requires.seated.two c.in_ok-show_rotations-in-Rotations.ensures.wrote)
+    rw c.in-Rotations.is (wrote_answer Rotations text (read_of given.read.now) given.instance.now IsRotationAnswer Done _ _ _ _ _ ok c.requires.counted.two c.in_ok-show_rotations-in-Rotations.ensures.wrote)
 
 pub returns-in-List-clause-wrote : goal.returns-in-List-clause-wrote
 returns-in-List-clause-wrote g c = λ text kept accepted.
     let ok = rw c.in-List.is at accepted in
     let given = c.args.given.now in
     rw c.in-List.is (IfOk-weaker c.list.result _ _ (λ status w. wrote_answer (JobData.List (cursor_in c.in-List.after) c.in-List.limit) text (read_of given.read.now) given.instance.now
-    (IsListAnswer (cursor_in c.in-List.after) c.in-List.limit) Done _ _ _ _ status ok c.requires.seated.two w) c.list.ensures.wrote)
+    (IsListAnswer (cursor_in c.in-List.after) c.in-List.limit) Done _ _ _ _ status ok c.requires.counted.two w) c.list.ensures.wrote)
 
 pub returns-in_ok-show_pairs-in-Pairs-clause-wrote : goal.returns-in_ok-show_pairs-in-Pairs-clause-wrote
 returns-in_ok-show_pairs-in-Pairs-clause-wrote g c = λ text kept accepted.
     let ok = rw c.in-Pairs.is at accepted in
     let given = c.args.given.now in
-    rw c.in-Pairs.is (wrote_answer Pairs text (read_of given.read.now) given.instance.now IsPairsAnswer Done _ _ _ _ _ ok c.requires.seated.two c.in_ok-show_pairs-in-Pairs.ensures.wrote)
+    rw c.in-Pairs.is (wrote_answer Pairs text (read_of given.read.now) given.instance.now IsPairsAnswer Done _ _ _ _ _ ok c.requires.counted.two c.in_ok-show_pairs-in-Pairs.ensures.wrote)
 
 pub returns-in_ok-show_regret-in-Regret-clause-wrote : goal.returns-in_ok-show_regret-in-Regret-clause-wrote
 returns-in_ok-show_regret-in-Regret-clause-wrote g c = λ text kept accepted.
@@ -65,30 +65,30 @@ returns-in-Meet-clause-wrote g c = λ text kept accepted.
     let ok = rw c.in-Meet.is at accepted in
     let given = c.args.given.now in
     let same = kept (ap (λ j. takes_text (job_of j)) c.in-Meet.is) in
-    rw c.in-Meet.is (IfOk-weaker c.choose.result _ _ (λ status w. wrote_answer_by Meet text (read_of given.read.now) given.instance.now (λ read. IsChosenAnswer Better (texts_from text read.rest)) Done _ _ _ _ status ok c.requires.seated.two w) (rw same at c.choose.ensures.wrote))
+    rw c.in-Meet.is (IfOk-weaker c.choose.result _ _ (λ status w. wrote_answer_by Meet text (read_of given.read.now) given.instance.now (λ read. IsChosenAnswer Better (texts_from text read.rest)) Done _ _ _ _ status ok c.requires.counted.two w) (rw same at c.choose.ensures.wrote))
 
 pub returns-in-Meet-clause-stop : goal.returns-in-Meet-clause-stop
 returns-in-Meet-clause-stop g c = λ text kept.
     let same = kept (ap (λ j. takes_text (job_of j)) c.in-Meet.is) in
-    rw c.in-Meet.is (rw c.requires.seated.two (rw same at c.choose.ensures.stop))
+    rw c.in-Meet.is (rw c.requires.counted.two (rw same at c.choose.ensures.stop))
 
 pub returns-in-Join-clause-wrote : goal.returns-in-Join-clause-wrote
 returns-in-Join-clause-wrote g c = λ text kept accepted.
     let ok = rw c.in-Join.is at accepted in
     let given = c.args.given.now in
     let same = kept (ap (λ j. takes_text (job_of j)) c.in-Join.is) in
-    rw c.in-Join.is (IfOk-weaker c.choose-in-Join.result _ _ (λ status w. wrote_answer_by Join text (read_of given.read.now) given.instance.now (λ read. IsChosenAnswer Worse (texts_from text read.rest)) Done _ _ _ _ status ok c.requires.seated.two w) (rw same at c.choose-in-Join.ensures.wrote))
+    rw c.in-Join.is (IfOk-weaker c.choose-in-Join.result _ _ (λ status w. wrote_answer_by Join text (read_of given.read.now) given.instance.now (λ read. IsChosenAnswer Worse (texts_from text read.rest)) Done _ _ _ _ status ok c.requires.counted.two w) (rw same at c.choose-in-Join.ensures.wrote))
 
 pub returns-in-Join-clause-stop : goal.returns-in-Join-clause-stop
 returns-in-Join-clause-stop g c = λ text kept.
     let same = kept (ap (λ j. takes_text (job_of j)) c.in-Join.is) in
-    rw c.in-Join.is (rw c.requires.seated.two (rw same at c.choose-in-Join.ensures.stop))
+    rw c.in-Join.is (rw c.requires.counted.two (rw same at c.choose-in-Join.ensures.stop))
 
 pub returns-in_ok-survey-in-Survey-clause-wrote : goal.returns-in_ok-survey-in-Survey-clause-wrote
 returns-in_ok-survey-in-Survey-clause-wrote g c = λ text kept accepted.
     let ok = rw c.in-Survey.is at accepted in
     let given = c.args.given.now in
-    rw c.in-Survey.is (wrote_answer (Survey c.in-Survey.limit) text (read_of given.read.now) given.instance.now _ Done _ _ _ _ _ ok c.requires.seated.two c.in_ok-survey-in-Survey.ensures.wrote)
+    rw c.in-Survey.is (wrote_answer (Survey c.in-Survey.limit) text (read_of given.read.now) given.instance.now _ Done _ _ _ _ _ ok c.requires.counted.two c.in_ok-survey-in-Survey.ensures.wrote)
 
 pub returns-in_ok-show_lightest-in-Weight-clause-wrote : goal.returns-in_ok-show_lightest-in-Weight-clause-wrote
 returns-in_ok-show_lightest-in-Weight-clause-wrote g c = λ text kept accepted.

@@ -1,0 +1,3 @@
+pub mod AdmitLemmas
+pub mod EndLemmas
+pub mod SolutionLemmas
