@@ -1,27 +1,13 @@
 -- Cutting the reviewers' lists behind their partners, one after another.
 use Rattle.std.proofs.Common.{◌≡◌, ◌≢◌, ℕ, ◌+◌, ◌<◌, ◌≤◌, inl, inr, arith, sym, ap, ◌∙◌, List, [], length, Some, None, slice_index, min}
-use Rattle.std.proofs.lemmas.List.{get_or-set_same, get_or-set_other, get_or-map, get_or_past, length-map}
+use Rattle.std.proofs.lemmas.List.{get_or-set_same, get_or-set_other, get_or_past}
 use Rattle.std.proofs.lemmas.Option.{same_Some, none-some}
 use Rattle.sm_market.specs.Lists.{Lists, row}
 use Rattle.sm_market.specs.Matching.{Places, held, IsMatching}
 use Rattle.sm_lists.proofs.Counting.{lt_or_le, eq_or_ne}
 use Rattle.sm_lists.proofs.RowLemmas.{row_in_range}
 use Rattle.sm_market.proofs.Bridge.{held_cases}
-use Rattle.sm_accept.specs.Linking.{AreReducedEnds, AreReducedEndsBut, all_ends, cut_ends}
-
-all_ends_at : (l : Lists) (r : ℕ) → slice_index (all_ends l) r ≡ length (row l.reviewers r)
-all_ends_at l r = elim (lt_or_le r (length l.reviewers)) [
-  | inl h ↦ get_or-map (λ (list : List ℕ). length list) l.reviewers r [] 0 h
-  | inr h ↦ get_or_past (all_ends l) r 0 (omega (arith, length-map l.reviewers (λ (list : List ℕ). length list))) ∙ sym (ap (λ (list : List ℕ). length list) (get_or_past l.reviewers r [] h))
-]
-
--- all pairs are held, and all reviewers are left
-pub front_of_all : {l : Lists} {m : Places} → IsMatching l m → AreReducedEndsBut l m (all_ends l) (λ r. 0 ≤ r)
-front_of_all {l} f = record {
-  above = λ r k e. omega (arith, all_ends_at l r, f.reviewers.on_list r k e);
-  tight = λ r k e out. absurd (out (omega arith));
-  unmatched = λ r e. all_ends_at l r;
-}
+use Rattle.sm_accept.specs.Linking.{AreReducedEnds, AreReducedEndsBut, cut_ends}
 
 module _ {l : Lists} {m : Places} {ends : List ℕ} {left : ℕ → Type 0} (x : AreReducedEndsBut l m ends left) where
   -- one reviewer's list is cut
@@ -72,3 +58,24 @@ module _ {l : Lists} {m : Places} {ends : List ℕ} {left : ℕ → Type 0} (x :
     matched = λ r k e. x.tight r k e (none r (row_in_range l.reviewers r k (f.reviewers.on_list r k e)));
     unmatched = x.unmatched;
   }
+
+module _ {l : Lists} {m : Places} (f : IsMatching l m) {ends : List ℕ} where
+  -- ends that are those of partners below the last reviewer are so for all
+  pub partner_ends : length ends ≡ length l.reviewers
+      → ((r k : ℕ) → r < length l.reviewers → held m.reviewers r ≡ Some k → slice_index ends r ≡ k + 1)
+      → ((r : ℕ) → r < length l.reviewers → held m.reviewers r ≡ None → slice_index ends r ≡ length (row l.reviewers r))
+      → AreReducedEnds l m ends
+  partner_ends long matched unmatched = record {
+    matched = λ r k e. matched r k (row_in_range l.reviewers r k (f.reviewers.on_list r k e)) e;
+    unmatched = λ r e. elim (lt_or_le r (length l.reviewers)) [
+      | inl here ↦ unmatched r here e
+      | inr past ↦ get_or_past ends r 0 (omega (arith, long, past)) ∙ sym (ap (λ (list : List ℕ). length list) (get_or_past l.reviewers r [] past))
+    ];
+  }
+
+  -- they are on the lists
+  pub partner_ends_on : AreReducedEnds l m ends → (r : ℕ) → slice_index ends r ≤ length (row l.reviewers r)
+  partner_ends_on x r = elim (held_cases l.reviewers m.reviewers r) [
+    | inl v ↦ omega (arith, x.unmatched r v.held_is)
+    | inr v ↦ omega (arith, x.matched r v.place v.held_is, f.reviewers.on_list r v.place v.held_is)
+  ]

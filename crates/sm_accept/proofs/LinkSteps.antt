@@ -1,106 +1,131 @@
--- Linking all numbers, and taking out the last pair of a reviewer's list.
-use Rattle.std.proofs.Common.{◌≡◌, ◌≢◌, ℕ, ◌+◌, ◌-◌, ◌<◌, ◌≤◌, ◌⊎◌, inl, inr, arith, sym, ap, ◌∙◌, List, [], length, set, get_or}
+-- Linking the numbers that are in, and taking out the last pair of a reviewer's list.
+use Rattle.std.proofs.Common.{◌≡◌, ◌≢◌, ℕ, ◌+◌, ◌-◌, ◌<◌, ◌≤◌, ◌⊎◌, inl, inr, arith, refl, sym, ap, ◌∙◌, List, [], length, set, get_or}
 use Rattle.std.proofs.lemmas.List.{get_or_past, get_or-map, get_or-set_same, get_or-set_other, length-set, length-map}
 use Rattle.sm_market.specs.Lists.{Lists, row, entry, place_of, IsMarket}
 use Rattle.sm_lists.proofs.Counting.{lt_or_le, eq_or_ne}
 use Rattle.sm_lists.proofs.PlaceLemmas.{entry-place_of}
 use Rattle.sm_market.proofs.PlaceLemmas.{place_of-entry}
-use Rattle.sm_accept.specs.Linking.{Linking, HoldsPair, IsNumberIn, Follows, AreStarts, AreAllLinked, IsLinkedOf, link_at, all_ends}
-use Rattle.sm_accept.proofs.LinkLemmas.{apart, link_in_range, in_le, held_in, follows_once, followed_once, IsTakenOut, follows_join, follows_still}
+use Rattle.sm_accept.specs.Linking.{Linking, HoldsPair, IsNumberIn, Follows, AreStarts, AreLinkedBelow, IsLinkedOf, link_at, all_ends}
+use Rattle.sm_accept.proofs.LinkLemmas.{apart, link_in_range, in_le, held_in, in_held, follows_once, followed_once, IsTakenOut, follows_join, follows_still}
 
--- number j of q's list stands before number k of p's
-abbrev pub IsReached : (p k q j : ℕ) → Type 0
-IsReached p k q j = (q < p) ⊎ ((q ≡ p) × (j < k))
+-- the numbers of p's list up to `last`, which is in, are linked, and none behind it is in up to number k
+pub record AreLinkedUpTo (l : Lists) (ends starts : List ℕ) (p k last : ℕ) (next before : List ℕ) : Type 0 where
+  pub below : AreLinkedBelow l ends starts p next before
+  pub last_in : IsNumberIn l ends p last
+  pub last_le : last ≤ k
+  pub none : (x : ℕ) → last < x → x ≤ k → ¬ IsNumberIn l ends p x
+  pub forward : (j : ℕ) → j < last → IsNumberIn l ends p j → Follows l ends p j (link_at starts next p j)
+  pub back : (j : ℕ) → 0 < j → j ≤ last → IsNumberIn l ends p j → Follows l ends p (link_at starts before p j) j
 
--- the numbers before number k of p's list are linked
-pub record AreLinkedTo (l : Lists) (starts : List ℕ) (p k : ℕ) (next before : List ℕ) : Type 0 where
-  pub forward : (q j : ℕ) → q < length l.proposers → j ≤ length (row l.proposers q) → IsReached p k q j → link_at starts next q j ≡ j + 1
-  pub back : (q j : ℕ) → q < length l.proposers → j ≤ length (row l.proposers q) → IsReached p k q j → link_at starts before q (j + 1) ≡ j
+-- before the first proposer nothing is to be said of links
+pub linked_none : (l : Lists) (ends starts next before : List ℕ) → AreLinkedBelow l ends starts 0 next before
+linked_none l ends starts next before = record { forward = λ p j lt. absurd (omega (arith, lt)); back = λ p j lt. absurd (omega (arith, lt)) }
 
--- before the first number is linked nothing is to be said of links
-pub link_none : (l : Lists) (starts next before : List ℕ) → AreLinkedTo l starts 0 0 next before
-link_none l starts next before = record { forward = λ q j _ _ w. absurd (none w); back = λ q j _ _ w. absurd (none w) }
-  where
-    none : {q j : ℕ} → IsReached 0 0 q j → ⊥
-    none (inl h) = omega arith
-    none (inr h) = let lt = h.1 in omega arith
+-- the number in front of a list is in
+pub row_begins : {l : Lists} {ends starts next before : List ℕ} {p : ℕ} → AreLinkedBelow l ends starts p next before → AreLinkedUpTo l ends starts p 0 0 next before
+row_begins t = record {
+  below = t;
+  last_in = inl (inl refl);
+  last_le = omega arith;
+  none = λ x more le. absurd (omega (arith, more, le));
+  forward = λ j less. absurd (omega (arith, less));
+  back = λ j some le. absurd (omega (arith, some, le));
+}
 
-module _ {l : Lists} {starts : List ℕ} (s : AreStarts l starts) {p : ℕ} (hp : p < length l.proposers) where
-  -- one more number
-  pub link_one : {k : ℕ} {next before : List ℕ} → k ≤ length (row l.proposers p) → length next ≡ get_or starts (length l.proposers) 0 → length before ≡ get_or starts (length l.proposers) 0
-      → AreLinkedTo l starts p k next before → AreLinkedTo l starts p (k + 1) (set next (get_or starts p 0 + k) (k + 1)) (set before (get_or starts p 0 + (k + 1)) k)
-  link_one {k} {next} {before} on long long' t = record {
-    forward = λ q j hq hj w. elim (cases q j w) [
-      | inl same ↦ rw (same.0, same.1) (get_or-set_same next (get_or starts p 0 + k) (k + 1) 0 (omega (arith, link_in_range s p k hp (omega arith))))
-      | inr old ↦ get_or-set_other next (get_or starts p 0 + k) (get_or starts q 0 + j) (k + 1) 0 (λ e. other q j old (apart s q p j k hq hp (omega arith) (omega arith) e)) ∙ t.forward q j hq hj old
-    ];
-    back = λ q j hq hj w. elim (cases q j w) [
-      | inl same ↦ rw (same.0, same.1) (get_or-set_same before (get_or starts p 0 + (k + 1)) k 0 (omega (arith, link_in_range s p (k + 1) hp (omega arith))))
-      | inr old ↦ get_or-set_other before (get_or starts p 0 + (k + 1)) (get_or starts q 0 + (j + 1)) k 0 (λ e. other q j old (let one = apart s q p (j + 1) (k + 1) hq hp (omega arith) (omega arith) (omega arith) in (one.0, let two = one.1 in omega arith))) ∙ t.back q j hq hj old
-    ];
-  }
-    where
-      cases : (q j : ℕ) → IsReached p (k + 1) q j → ((q ≡ p) × (j ≡ k)) ⊎ IsReached p k q j
-      cases q j (inl less) = inr (inl less)
-      cases q j (inr w) = let lt = w.1 in elim (lt_or_le j k) [ inl less ↦ inr (inr (w.0, less)) | inr more ↦ inl (w.0, omega arith) ]
+-- a number that isn't in is passed
+pub row_skips : {l : Lists} {ends starts next before : List ℕ} {p k last : ℕ} → ¬ IsNumberIn l ends p (k + 1) → AreLinkedUpTo l ends starts p k last next before → AreLinkedUpTo l ends starts p (k + 1) last next before
+row_skips {l} {ends} {p = p} {k = k} out t = record {
+  below = t.below;
+  last_in = t.last_in;
+  last_le = omega (arith, t.last_le);
+  none = λ x more le held. elim (lt_or_le x (k + 1)) [
+    | inl less ↦ t.none x more (omega (arith, less)) held
+    | inr past ↦ let same : x ≡ k + 1 = omega (arith, le, past) in out (rw same at held)
+  ];
+  forward = t.forward;
+  back = t.back;
+}
 
-      other : (q j : ℕ) → IsReached p k q j → ((q ≡ p) × (j ≡ k)) → ⊥
-      other q j (inl less) same = let e = same.0 in omega arith
-      other q j (inr w) same = let e = same.1 in let lt = w.1 in omega arith
-
--- a whole list, and the next one begins
-pub link_row : {l : Lists} {starts : List ℕ} {p k : ℕ} {next before : List ℕ} → length (row l.proposers p) < k → AreLinkedTo l starts p k next before → AreLinkedTo l starts (p + 1) 0 next before
-link_row {l} {p = p} {k = k} all t = record { forward = λ q j hq hj w. t.forward q j hq hj (reached q j hj w); back = λ q j hq hj w. t.back q j hq hj (reached q j hj w) }
-  where
-    reached : (q j : ℕ) → j ≤ length (row l.proposers q) → IsReached (p + 1) 0 q j → IsReached p k q j
-    reached q j hj (inl less) = elim (lt_or_le q p) [
-      | inl lower ↦ inl lower
-      | inr upper ↦ let same : q ≡ p = omega arith in inr (same, (let len = ap (λ x. length (row l.proposers x)) same in omega arith))
+-- one that is in is linked with the last one before it
+pub row_joins : {l : Lists} {ends starts next before : List ℕ} {p k last n : ℕ} (s : AreStarts l starts) → p < length l.proposers → length next ≡ get_or starts (length l.proposers) 0 → length before ≡ get_or starts (length l.proposers) 0
+    → n ≡ k + 1 → IsNumberIn l ends p n → AreLinkedUpTo l ends starts p k last next before
+    → AreLinkedUpTo l ends starts p n n (set next (get_or starts p 0 + last) n) (set before (get_or starts p 0 + n) last)
+row_joins {l} {ends} {starts} {next} {before} {p} {k} {last} {n} s hp long long' is held t = record {
+  below = record {
+    forward = λ q j less on in_. rw (forward_still q j (omega (arith, less, hp)) (omega (arith, on)) (λ w. omega (arith, less, w.0))) (t.below.forward q j less on in_);
+    back = λ q j less some on in_. rw (back_still q j (omega (arith, less, hp)) (omega (arith, on)) (λ w. omega (arith, less, w.0))) (t.below.back q j less some on in_);
+  };
+  last_in = held;
+  last_le = omega arith;
+  none = λ x more le. absurd (omega (arith, more, le));
+  forward = λ j less in_. elim (eq_or_ne j last) [
+    | inl same ↦ rw (same, get_or-set_same next (get_or starts p 0 + last) n 0 there) follows
+    | inr ne ↦ elim (lt_or_le j last) [
+      | inl earlier ↦ rw (forward_still p j hp (omega (arith, less, in_le held)) (λ w. ne w.1)) (t.forward j earlier in_)
+      | inr later ↦ absurd (t.none j (omega (arith, ne, later)) (omega (arith, less, is)) in_)
     ]
-    reached q j hj (inr w) = let lt = w.1 in absurd (omega arith)
+  ];
+  back = λ j some le in_. elim (eq_or_ne j n) [
+    | inl same ↦ rw (same, get_or-set_same before (get_or starts p 0 + n) last 0 there') follows
+    | inr ne ↦ elim (lt_or_le last j) [
+      | inl later ↦ absurd (t.none j later (omega (arith, ne, le, is)) in_)
+      | inr earlier ↦ rw (back_still p j hp (omega (arith, le, in_le held)) (λ w. ne w.1)) (t.back j some earlier in_)
+    ]
+  ];
+}
+  where
+    follows : Follows l ends p last n
+    follows = record { lower = t.last_in; upper = held; rising = omega (arith, t.last_le, is); between = λ x more less. t.none x more (omega (arith, less, is)) }
 
--- once all proposers' numbers are linked, all are
-pub link_end : {l : Lists} {starts : List ℕ} {p k : ℕ} {next before : List ℕ} → length l.proposers ≤ p → AreLinkedTo l starts p k next before → AreAllLinked l starts next before
-link_end all t = record { forward = λ q j hq hj. t.forward q j hq hj (inl (omega arith)); back = λ q j hq hj. t.back q j hq hj (inl (omega arith)) }
+    there : get_or starts p 0 + last < length next
+    there = omega (arith, long, link_in_range s p last hp (omega (arith, t.last_le, is, in_le held)))
 
--- the set of all pairs
-all_at : (l : Lists) (r : ℕ) → get_or (all_ends l) r 0 ≡ length (row l.reviewers r)
+    there' : get_or starts p 0 + n < length before
+    there' = omega (arith, long', link_in_range s p n hp (omega (arith, in_le held)))
+
+    forward_still : (q j : ℕ) → q < length l.proposers → j < length (row l.proposers q) + 2 → ((q ≡ p) × (j ≡ last) → ⊥) → link_at starts (set next (get_or starts p 0 + last) n) q j ≡ link_at starts next q j
+    forward_still q j hq hj ne = get_or-set_other next (get_or starts p 0 + last) (get_or starts q 0 + j) n 0 (λ e. ne (apart s q p j last hq hp hj (omega (arith, t.last_le, is, in_le held)) e))
+
+    back_still : (q j : ℕ) → q < length l.proposers → j < length (row l.proposers q) + 2 → ((q ≡ p) × (j ≡ n) → ⊥) → link_at starts (set before (get_or starts p 0 + n) last) q j ≡ link_at starts before q j
+    back_still q j hq hj ne = get_or-set_other before (get_or starts p 0 + n) (get_or starts q 0 + j) last 0 (λ e. ne (apart s q p j n hq hp hj (omega (arith, in_le held)) e))
+
+-- the number behind a list is in, and then the list is linked
+pub row_ends : {l : Lists} {ends starts next before : List ℕ} {p n : ℕ} → n ≡ length (row l.proposers p) + 1 → AreLinkedUpTo l ends starts p n n next before → AreLinkedBelow l ends starts (p + 1) next before
+row_ends {l} {ends} {starts} {next} {before} {p} {n} end t = record {
+  forward = λ q j less on in_. elim (eq_or_ne q p) [
+    | inl same ↦ rw same (t.forward j (omega (arith, end, ap (λ x. length (row l.proposers x)) same, on)) (rw same at in_))
+    | inr ne ↦ t.below.forward q j (omega (arith, less, ne)) on in_
+  ];
+  back = λ q j less some on in_. elim (eq_or_ne q p) [
+    | inl same ↦ rw same (t.back j some (omega (arith, end, ap (λ x. length (row l.proposers x)) same, on)) (rw same at in_))
+    | inr ne ↦ t.below.back q j (omega (arith, less, ne)) some on in_
+  ];
+}
+
+-- a place that isn't held has a number that isn't in
+pub not_in : {l : Lists} {ends : List ℕ} {p k : ℕ} → k < length (row l.proposers p) → ¬ HoldsPair l ends p k → ¬ IsNumberIn l ends p (k + 1)
+not_in {l} {ends} {p} {k} on out held = let e : k + 1 - 1 ≡ k = omega arith in out (rw e at (in_held held (omega arith) (omega (arith, on))))
+
+-- once the numbers of all proposers are linked, the set is made
+pub all_linked : {l : Lists} {ends starts next before : List ℕ} {n : ℕ} → n ≡ length l.proposers → AreStarts l starts → length ends ≡ length l.reviewers → ((r : ℕ) → get_or ends r 0 ≤ length (row l.reviewers r))
+    → length next ≡ get_or starts (length l.proposers) 0 → length before ≡ get_or starts (length l.proposers) 0 → AreLinkedBelow l ends starts n next before
+    → IsLinkedOf l (record { ends = ends; starts = starts; next = next; before = before })
+all_linked all s each on long long' t = record {
+  ends_each = each;
+  ends_on_lists = on;
+  starts = s;
+  next_each = long;
+  before_each = long';
+  next = λ p j hp. t.forward p j (omega (arith, all, hp));
+  before = λ p j hp. t.back p j (omega (arith, all, hp));
+}
+
+-- the end of the list of each reviewer in the set of all pairs
+pub all_at : (l : Lists) (r : ℕ) → get_or (all_ends l) r 0 ≡ length (row l.reviewers r)
 all_at l r = elim (lt_or_le r (length l.reviewers)) [
   | inl less ↦ get_or-map (λ list. length list) l.reviewers r [] 0 less
   | inr past ↦ get_or_past (all_ends l) r 0 (let long = length-map l.reviewers (λ list. length list) in omega arith) ∙ sym (ap length (get_or_past l.reviewers r [] past))
 ]
-
-module _ {l : Lists} (market : IsMarket l) where
-  all_held : (p i : ℕ) → i < length (row l.proposers p) → HoldsPair l (all_ends l) p i
-  all_held p i on = record { on_list = on; in_front = omega (arith, all_at l (entry l.proposers p i), market.proposers.returned p i on) }
-
-  all_in : (p j : ℕ) → j ≤ length (row l.proposers p) + 1 → IsNumberIn l (all_ends l) p j
-  all_in p j h = elim (eq_or_ne j 0) [
-    | inl e ↦ inl (inl e)
-    | inr some ↦ elim (eq_or_ne j (length (row l.proposers p) + 1)) [
-      | inl e ↦ inl (inr e)
-      | inr less ↦ inr (record { place = j - 1; number = omega arith; held = all_held p (j - 1) (omega arith) })
-    ]
-  ]
-
-  follows_all : (p j : ℕ) → j ≤ length (row l.proposers p) → Follows l (all_ends l) p j (j + 1)
-  follows_all p j h = record { lower = all_in p j (omega arith); upper = all_in p (j + 1) (omega arith); rising = omega arith; between = λ x more less _. omega arith }
-
-  -- numbers that are all linked are the links of the set of all pairs
-  pub all_linked : {starts next before : List ℕ} → AreStarts l starts → length next ≡ get_or starts (length l.proposers) 0 → length before ≡ get_or starts (length l.proposers) 0
-      → AreAllLinked l starts next before → IsLinkedOf l (record { ends = all_ends l; starts = starts; next = next; before = before })
-  all_linked {starts} {next} {before} s long long' t = record {
-    ends_each = length-map l.reviewers (λ list. length list);
-    ends_on_lists = λ r. omega (arith, all_at l r);
-    starts = s;
-    next_each = long;
-    before_each = long';
-    next = λ p j hp hj _. rw (t.forward p j hp hj) (follows_all p j hj);
-    before = λ p j hp some hj _. back p j (j - 1) hp (omega arith) (omega arith);
-  }
-    where
-      back : (p j i : ℕ) → p < length l.proposers → j ≡ i + 1 → i ≤ length (row l.proposers p) → Follows l (all_ends l) p (link_at starts before p j) j
-      back p j i hp e hi = rw (e, t.back p i hp hi) (follows_all p i hi)
 
 -- taking out the last pair that is held of r's list
 module _ {l : Lists} {v : Linking} {r : ℕ} (last : ℕ) (market : IsMarket l) (made : IsLinkedOf l v) (hr : r < length l.reviewers) (end_is : get_or v.ends r 0 ≡ last + 1) where

@@ -79,10 +79,10 @@ pub record AreStarts (l : Lists) (starts : List ℕ) : Type 0 where
 abbrev pub link_at : (starts links : List ℕ) (p j : ℕ) → ℕ
 link_at starts links p j = slice_index links (slice_index starts p + j)
 
--- every number is linked with the one behind it and the one before it
-pub record AreAllLinked (l : Lists) (starts next before : List ℕ) : Type 0 where
-  pub forward : (p j : ℕ) → p < length l.proposers → j ≤ length (row l.proposers p) → link_at starts next p j ≡ j + 1
-  pub back : (p j : ℕ) → p < length l.proposers → j ≤ length (row l.proposers p) → link_at starts before p (j + 1) ≡ j
+-- each number of the proposers below n that is in is linked with the ones that follow it and that it follows
+pub record AreLinkedBelow (l : Lists) (ends starts : List ℕ) (n : ℕ) (next before : List ℕ) : Type 0 where
+  pub forward : (p j : ℕ) → p < n → j ≤ length (row l.proposers p) → IsNumberIn l ends p j → Follows l ends p j (link_at starts next p j)
+  pub back : (p j : ℕ) → p < n → 0 < j → j ≤ length (row l.proposers p) + 1 → IsNumberIn l ends p j → Follows l ends p (link_at starts before p j) j
 
 -- a set of pairs that was made for these lists: of each reviewer's list it holds no more than there is, and each number
 -- that is in is linked with the ones that follow it and that it follows

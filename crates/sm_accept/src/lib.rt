@@ -2,7 +2,7 @@
 //!
 //! [`proposer_best`] and [`reviewer_best`] give the two extreme stable matchings of a market (Gale and Shapley 1962;
 //! Gusfield and Irving 1989, section 1.2). [`Linked`] holds a front of each reviewer's list and cuts it further back;
-//! [`cut_to_partners`] cuts each list behind its owner's partner.
+//! [`cut_to_partner`] cuts a list behind its owner's partner.
 //! [`reduced_lists`] gives what is left of the lists once nobody looks beyond the best and the worst that it can have.
 #![tactic(auto)]
 
@@ -12,6 +12,6 @@ mod linked;
 mod reduced;
 
 pub use accept::{proposer_best, reviewer_best};
-pub use fronts::{cut_to_partner, cut_to_partners};
+pub use fronts::cut_to_partner;
 pub use linked::Linked;
 pub use reduced::{Reduced, reduced_between, reduced_lists};

@@ -1,10 +1,11 @@
 //! Sets of pairs of a market that lose pairs from the ends of the reviewers' lists.
 
-ghost use Rattle.std.specs.Prelude.{◌≡◌, ℕ, ◌+◌, ◌-◌, ◌<◌, ◌≤◌, length, slice_index, slice_set, replicate, IfOk, MatchOption};
+ghost use Rattle.std.specs.Prelude.{◌≡◌, ℕ, ◌↔◌, IsTrue, ◌+◌, ◌-◌, ◌<◌, ◌≤◌, length, slice_index, slice_set, replicate, IfOk, MatchOption};
 ghost use Rattle.sm_market.specs.Lists.{row, entry, place_of};
-ghost use Rattle.sm_accept.specs.Linking.{linking, HoldsPair, IsFirstHeld, IsHeldBehind, IsLinkedOf, AreStarts, AreAllLinked, link_at, all_ends, cut_ends};
+ghost use Rattle.sm_accept.specs.Linking.{linking, HoldsPair, IsFirstHeld, IsHeldBehind, IsLinkedOf, AreStarts, AreLinkedBelow, AreReducedEnds, link_at, all_ends, cut_ends};
+ghost use Rattle.sm_market.specs.Pairing.{IsPairingOf};
 
-use sm_market::Market;
+use sm_market::{Market, Pairing};
 use std::alloc::{AllocError, Global};
 use std::marker::Model;
 
@@ -53,13 +54,43 @@ impl Linked {
         ensures all { IfOk result (λ v. v.ends ≡ all_ends market.now) }
     {
         let mut ends = vec![in alloc; 0; market.reviewers() as usize]?;
-        let mut starts = vec![in alloc; 0; market.proposers() as usize + 1]?;
         set_ends(market, &mut ends);
+        Linked::with_ends(alloc, market, ends)
+    }
+
+    /// The set of the pairs of a market that stand no further back on the reviewer's list than its partner; those of unmatched
+    /// reviewers are all in it (Gusfield and Irving 1989, section 1.2.4).
+    ///
+    /// The pairing has to be made for a market of these lists. Takes time and memory in proportion to the agents and entries.
+    ///
+    /// # Errors
+    ///
+    /// `AllocError` where memory ran out, and only then.
+    pub fn up_to_partners(alloc: Global, market: &Market, m: &Pairing) -> Result<Linked, AllocError>
+        requires { IsPairingOf market.now m.now }
+        ensures made { IfOk result (λ v. IsLinkedOf market.now v) }
+        ensures front { IfOk result (λ v. AreReducedEnds market.now m.now.places v.ends) }
+    {
+        let mut ends = vec![in alloc; 0; market.reviewers() as usize]?;
+        set_partner_ends(market, m, &mut ends);
+        Linked::with_ends(alloc, market, ends)
+    }
+
+    /// The set with these ends.
+    fn with_ends(alloc: Global, market: &Market, ends: Vec<u32>) -> Result<Linked, AllocError>
+        requires ends_each { length ends.items ≡ length market.now.reviewers }
+        requires ends_on_lists { (r : ℕ) → slice_index ends.items r
+            ≤ length (row market.now.reviewers r) }
+        ensures made { IfOk result (λ v. IsLinkedOf market.now v) }
+        ensures ends { IfOk result (λ v. v.ends ≡ ends.items) }
+    {
+        let mut starts = vec![in alloc; 0; market.proposers() as usize + 1]?;
         let count = set_starts(market, &mut starts);
-        let mut next = vec![in alloc; 0; count as usize]?;
-        let mut before = vec![in alloc; 0; count as usize]?;
-        set_links(market, &starts, &mut next, &mut before);
-        let links = Links { next, before };
+        let mut links = Links {
+            next: vec![in alloc; 0; count as usize]?,
+            before: vec![in alloc; 0; count as usize]?,
+        };
+        link_held(market, &starts, &ends, &mut links);
         Ok(Linked {
             ends,
             starts,
@@ -253,18 +284,73 @@ fn set_starts(market: &Market, starts: &mut [u32]) -> u32
     links
 }
 
-/// Links each number of each proposer's list with the ones before and behind it.
-fn set_links(market: &Market, starts: &[u32], next: &mut [u32], before: &mut [u32])
+/// Sets the end of each matched reviewer's list behind its partner, and that of each unmatched one behind all of it.
+fn set_partner_ends(market: &Market, m: &Pairing, ends: &mut [u32])
+    requires made { IsPairingOf market.now m.now }
+    requires one_each { length ends.old ≡ length market.now.reviewers }
+    ensures front { AreReducedEnds market.now m.now.places ends.new }
+    ensures as_long { length ends.new ≡ length ends.old }
+{
+    for r in 0..market.reviewers() {
+        ends[r as usize] = match m.reviewer_place(r) {
+            Some(place) => place + 1,
+            None => market.reviewer_len(r),
+        };
+    }
+}
+
+/// Links each number of each proposer's list that is in with the ones before and behind it.
+fn link_held(market: &Market, starts: &[u32], ends: &[u32], links: &mut Links)
     requires starts { AreStarts market.now starts.now }
-    requires next_each { length next.old ≡ slice_index starts.now (length market.now.proposers) }
-    requires before_each { length before.old
+    requires ends_each { length ends.now ≡ length market.now.reviewers }
+    requires next_each { length links.old.next.items
         ≡ slice_index starts.now (length market.now.proposers) }
-    ensures { AreAllLinked market.now starts.now next.new before.new }
+    requires before_each { length links.old.before.items
+        ≡ slice_index starts.now (length market.now.proposers) }
+    ensures linked { AreLinkedBelow market.now ends.now starts.now (length market.now.proposers)
+        links.new.next.items links.new.before.items }
+    ensures next_each { length links.new.next.items ≡ length links.old.next.items }
+    ensures before_each { length links.new.before.items ≡ length links.old.before.items }
 {
     for p in 0..market.proposers() {
-        for number in 0..market.proposer_len(p) + 1 {
-            set_link(starts, next, p, number, number + 1);
-            set_link(starts, before, p, number + 1, number);
+        link_row(market, starts, ends, links, p);
+    }
+}
+
+/// Links each number of one more proposer's list that is in with the ones before and behind it.
+fn link_row(market: &Market, starts: &[u32], ends: &[u32], links: &mut Links, p: u32)
+    requires in_range { p < length market.now.proposers }
+    requires starts { AreStarts market.now starts.now }
+    requires ends_each { length ends.now ≡ length market.now.reviewers }
+    requires next_each { length links.old.next.items
+        ≡ slice_index starts.now (length market.now.proposers) }
+    requires before_each { length links.old.before.items
+        ≡ slice_index starts.now (length market.now.proposers) }
+    requires before { AreLinkedBelow market.now ends.now starts.now p links.old.next.items
+        links.old.before.items }
+    ensures linked { AreLinkedBelow market.now ends.now starts.now (p + 1) links.new.next.items
+        links.new.before.items }
+    ensures next_each { length links.new.next.items ≡ length links.old.next.items }
+    ensures before_each { length links.new.before.items ≡ length links.old.before.items }
+{
+    let places = market.proposer_len(p);
+    let mut last = 0;
+    for place in 0..places {
+        if is_held(market, ends, p, place) {
+            links.join(starts, p, last, place + 1);
+            last = place + 1;
         }
     }
+    links.join(starts, p, last, places + 1);
+}
+
+/// Does a set with these ends hold the pair at a place of `p`'s list?
+fn is_held(market: &Market, ends: &[u32], p: u32, place: u32) -> bool
+    requires in_range { p < length market.now.proposers }
+    requires on_list { place < length (row market.now.proposers p) }
+    requires ends_each { length ends.now ≡ length market.now.reviewers }
+    ensures { IsTrue result ↔ HoldsPair market.now ends.now p place }
+{
+    let r = market.reviewer_at(p, place);
+    market.cross(p, place) < ends[r as usize]
 }

@@ -11,7 +11,6 @@ ghost use Rattle.sm_accept.specs.Linking.{IsLinkedOf, AreReducedEnds};
 ghost use Rattle.sm_accept.specs.Reducing.{KeepsStablePairs};
 
 use crate::accept::{proposer_best, reviewer_best};
-use crate::fronts::cut_to_partners;
 use crate::linked::Linked;
 use sm_market::{Market, Pairing, is_between};
 use std::alloc::{AllocError, Global};
@@ -54,8 +53,8 @@ pub fn reduced_lists(alloc: Global, market: &Market) -> Result<Reduced, AllocErr
 /// partner by the other. Where the two pairings are the proposers' best and the reviewers' best, these are the reduced
 /// lists of the market (Gusfield and Irving 1989, section 1.2.4).
 ///
-/// The pairings have to be made for a market of these lists. The reviewers' lists are cut behind their partners in `first`,
-/// and of each proposer's list only the pairs that are left are looked at. Takes time and memory in proportion to the
+/// The pairings have to be made for a market of these lists. Of each proposer's list only the pairs are looked at
+/// that aren't behind the reviewer's partner in `first`. Takes time and memory in proportion to the
 /// agents and entries.
 ///
 /// # Errors
@@ -75,8 +74,7 @@ pub fn reduced_between(
     ensures market { OnOk result (IsMarket market.now) }
 {
     let mut reduced = room_for(alloc, market)?;
-    let mut linked = Linked::of(alloc, market)?;
-    cut_to_partners(market, first, &mut linked);
+    let linked = Linked::up_to_partners(alloc, market, first)?;
     fill_proposers(&mut reduced.proposers, market, &linked, first, last)?;
     fill_reviewers(&mut reduced.reviewers, market, first, last)?;
     Ok(reduced)

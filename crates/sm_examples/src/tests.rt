@@ -9,8 +9,7 @@ use crate::texts::{
     MEMORY, build, holds, lists_are, market, pairing, places, rotation, rotations_are,
 };
 use sm_accept::{
-    Linked, cut_to_partner, cut_to_partners, proposer_best, reduced_between, reduced_lists,
-    reviewer_best,
+    Linked, cut_to_partner, proposer_best, reduced_between, reduced_lists, reviewer_best,
 };
 use sm_market::{Market, MarketFault, Pairing, PairingFault, Side};
 use sm_poset::Poset;
@@ -139,8 +138,13 @@ fn keeps(rt: &impl Abort, market: &Market, linked: &Linked, wanted: (Option<u32>
 fn linked_pairs(rt: HostRuntime) {
     let market = two_by_two(&rt);
     assert!(rt; 0 < market.reviewers());
-    let mut linked = Linked::of(rt.alloc(), &market).expect(&rt, MEMORY);
-    cut_to_partners(&market, &pairing(&rt, &market, "00"), &mut linked);
+    let all = Linked::of(rt.alloc(), &market).expect(&rt, MEMORY);
+    keeps(&rt, &market, &all, (Some(0), Some(1)));
+    let mut linked = Linked::up_to_partners(
+        rt.alloc(),
+        &market,
+        &pairing(&rt, &market, "00"),
+    ).expect(&rt, MEMORY);
     keeps(&rt, &market, &linked, (Some(0), Some(1)));
     cut_to_partner(&market, &pairing(&rt, &market, "11"), 0, &mut linked);
     keeps(&rt, &market, &linked, (Some(1), None));

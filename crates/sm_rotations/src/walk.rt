@@ -14,7 +14,7 @@ ghost use Rattle.sm_theory.specs.Values.{rotations_of};
 ghost use Rattle.sm_accept.specs.Linking.{IsLinkedOf, AreReducedEnds, AreReducedEndsBut};
 ghost use Rattle.sm_rotations.specs.Walking.{IsLeftIn, IsNext, IsAtWorst, IsStack, AreStackPairs, AreTakenOff, is_finished, spot_of, IsTopTakenOff, IsWalkStep, LeadsBack};
 
-use sm_accept::{Linked, cut_to_partner, cut_to_partners};
+use sm_accept::{Linked, cut_to_partner};
 use sm_market::{Market, Pairing};
 use sm_theory::{Rotation, eliminate};
 use std::alloc::{AllocError, Global};
@@ -65,8 +65,7 @@ pub(crate) fn walk(
         (rotations_of rotations.items)) }
 {
     let mut m = best.copy(alloc)?;
-    let mut linked = Linked::of(alloc, market)?;
-    cut_to_partners(market, &m, &mut linked);
+    let mut linked = Linked::up_to_partners(alloc, market, &m)?;
     let mut trail = WalkStack::new(alloc, market.proposers() as usize)?;
     let mut rotations = Vec::new(alloc);
     for p in 0..market.proposers() {

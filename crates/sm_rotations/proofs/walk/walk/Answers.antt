@@ -14,8 +14,8 @@ loop-p-init c =
     let x = c.in_ok-trail.ensures in
     record {
       made = rw c.in_ok-m.ensures c.requires.made;
-      linked = c.cut_to_partners.ensures.linked;
-      front = c.cut_to_partners.ensures.front;
+      linked = c.in_ok-linked.ensures.made;
+      front = c.in_ok-linked.ensures.front;
       walking = walk_begins c.proposers.result c.proposers.ensures.count c.requires.best.stable (ap (λ (v : Paired). v.places) c.in_ok-m.ensures) (ap rotations_of c.new-rotations.ensures.items) x.finished x.stack x.spots;
       done = λ q less. absurd (omega arith);
     }
