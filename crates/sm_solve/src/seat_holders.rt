@@ -21,12 +21,11 @@ pub(crate) fn free_seats(instance: &Instance, firsts: &[u32], standings: &mut [u
 
 /// Writes a number from a place on, up to another.
 fn fill_between(numbers: &mut [u32], from: usize, to: usize, number: u32)
-    requires { to ≤ length numbers.old }
+    requires order { from ≤ to }
+    requires there { to ≤ length numbers.old }
     ensures as_long { length numbers.new ≡ length numbers.old }
     ensures before { (i : ℕ) → i < from → slice_index numbers.new i ≡ slice_index numbers.old i }
     ensures filled { (i : ℕ) → from ≤ i → i < to → slice_index numbers.new i ≡ number }
 {
-    for at in from..to {
-        numbers[at] = number;
-    }
+    numbers[from..to].fill(number);
 }
