@@ -6,4 +6,6 @@ pub mod Net
 pub mod Weighing
 pub mod Chains
 pub mod Vectors
+pub mod Medians
+pub mod Routes
 pub mod Tests

@@ -23,9 +23,17 @@ pub mod Flows
 pub mod FlowLines
 pub mod Conditions
 pub mod LawsFlows
+pub mod SecondNets
+pub mod LawsSecond
+pub mod Medians
+pub mod LawsMedians
+pub mod Routes
+pub mod LawsRoutes
 pub mod Witnesses
 pub mod WitnessesFlows
 pub mod WitnessesLines
+pub mod WitnessesSecond
+pub mod WitnessesMedians
 pub mod WitnessesRooms
 pub mod WitnessesSeats
 pub mod WitnessesListing

@@ -4,10 +4,13 @@
 
 ghost use Rattle.sm_market.specs.Laws.{SameAgents};
 ghost use Rattle.sm_theory.specs.LawsFlows.{NoFlowAboveCut, FullCutsAreUnleft, FlowOfLines, ReachIsLeastCut, CutsAreAllowed, LeastCutIsLightest, ReachIsBestLightest, PathWhereNothing};
+ghost use Rattle.sm_theory.specs.LawsSecond.{SecondCutsAreUnleft, LeastCutsAreSecondCuts, SecondCutsAreLightest, LeastSecondCutsAreLightest, SecondReachIsBest, ZeroSecondFlow, CertificateOfTwo, OneLevel};
 ghost use Rattle.sm_theory.specs.LawsListing.{SetsAreOrdered, MovesFollow, NextMoveIsIn, JoinKeepsBounds, VectorsAreOrdered, NextVector, ListingExists, OneListing, ListingResumes};
 ghost use Rattle.sm_theory.specs.LawsPairs.{StablePlaces, RegretByBound};
 ghost use Rattle.sm_theory.specs.LawsRooms.{OddPartyExcludes, SameOddParties, SamePersons, PartiesPair, EvenPartiesPair, RestIsStable};
 ghost use Rattle.sm_theory.specs.Laws.{MeetIsStable, JoinIsStable, PairIsDivided, Dichotomy, EliminationIsStable, NothingExposed, NothingExposedBack, ExposedIsNotBest, NoneBelowAll, BestIsUnique, PredecessorIsEarlier, SetsAreMatchings, ExposedWhereReady, AllInTheChain, MeetKeepsBounds, WeightIsSumOfGains, LevelsDetermine};
+ghost use Rattle.sm_theory.specs.LawsMedians.{PlacedInOrder, OneAtPlace, MedianOfSets, OneMedian, MedianIsWithin, MedianIsAllowed, MedianOfVectors, VectorIsAllowed, MedianOfListed, MedianVectorIsAllowed};
+ghost use Rattle.sm_theory.specs.LawsRoutes.{NoFewerSteps, StepsAreShortest};
 
 /// The meet of two stable matchings is stable, and each proposer stands in it as in the better of the two
 /// (Gusfield and Irving 1989, theorem 1.3.2).
@@ -149,6 +152,49 @@ pub fn reach_is_best_lightest()
     ensures { ReachIsBestLightest }
 {}
 
+/// The sets that no unbounded edge of the second net of a flow leaves are those that no residual step of the flow leaves.
+pub fn second_cuts_are_unleft()
+    ensures { SecondCutsAreUnleft }
+{}
+
+/// Where the value of a flow is some cut, the least cuts are exactly the cuts of its second net (Picard and Queyranne 1980).
+pub fn least_cuts_are_second_cuts()
+    ensures { LeastCutsAreSecondCuts }
+{}
+
+/// In the net of gains, predecessors and conditions, where no pair allows nothing by itself, the cuts of the second net of such a
+/// flow are the closed sets whose matchings are allowed and lightest by first sums.
+pub fn second_cuts_are_lightest()
+    ensures { SecondCutsAreLightest }
+{}
+
+/// There, the least cuts of the second net are the closed sets whose matchings are allowed and lightest by both sums.
+pub fn least_second_cuts_are_lightest()
+    ensures { LeastSecondCutsAreLightest }
+{}
+
+/// There, where no residual step of a second flow leaves its reach, the matching of the reach is lightest by both sums and no
+/// proposer does better in another that is; and the values of both flows are the cuts of the reach.
+pub fn second_reach_is_best()
+    ensures { SecondReachIsBest }
+{}
+
+/// There, where two flows fill the cuts of a closed set whose matching is allowed, the second flow in the second net of the first, and
+/// where the second flow reaches just that set, its matching is lightest by both sums, and no proposer does better in another that is.
+pub fn certificate_of_two()
+    ensures { CertificateOfTwo }
+{}
+
+/// Where all second sums are 0, lightest by both sums is lightest by the first.
+pub fn one_level()
+    ensures { OneLevel }
+{}
+
+/// Where all second gains are 0, the second flow that is 0 everywhere reaches what the first flow reaches.
+pub fn zero_second_flow()
+    ensures { ZeroSecondFlow }
+{}
+
 /// No stable matching is allowed exactly where a pair allows nothing by itself or, in that net, a path of unbounded edges
 /// leads from the source to the sink.
 pub fn path_where_nothing()
@@ -244,4 +290,68 @@ pub fn stable_places()
 /// A matching has a regret of at most a bound exactly where it holds no pair of a rank above the bound (Gusfield 1987).
 pub fn regret_by_bound()
     ensures { RegretByBound }
+{}
+
+/// What stands at a place among numbers is what any rising arrangement of them has there.
+pub fn placed_in_order()
+    ensures { PlacedInOrder }
+{}
+
+/// There is one number at a place.
+pub fn one_at_place()
+    ensures { OneAtPlace }
+{}
+
+/// For any list of closed sets that isn't empty, the rotations that enough of them have are a closed set, whose matching gives
+/// each proposer the partner in the middle of its partners in theirs (Teo and Sethuraman 1998).
+pub fn median_of_sets()
+    ensures { MedianOfSets }
+{}
+
+/// Stable matchings have no more than one stable median.
+pub fn one_median()
+    ensures { OneMedian }
+{}
+
+/// The median of matchings within bounds on levels is within the bounds.
+pub fn median_is_within()
+    ensures { MedianIsWithin }
+{}
+
+/// The median of stable matchings that conditions allow is allowed.
+pub fn median_is_allowed()
+    ensures { MedianIsAllowed }
+{}
+
+/// The level vector of a median is the median of the level vectors.
+pub fn median_of_vectors()
+    ensures { MedianOfVectors }
+{}
+
+/// Of two stable matchings with one level vector both are allowed or neither.
+pub fn vector_is_allowed()
+    ensures { VectorIsAllowed }
+{}
+
+/// For closed sets with the level vectors of allowed stable matchings the rotations that enough of them have are the closed set
+/// of an allowed stable matching, whose level vector is the median of theirs (Teo and Sethuraman 1998).
+pub fn median_of_listed()
+    ensures { MedianOfListed }
+{}
+
+/// For some level vectors of allowed stable matchings there is an allowed stable matching whose level vector is their median: so
+/// the median can be found from the vectors alone (Teo and Sethuraman 1998).
+pub fn median_vector_is_allowed()
+    ensures { MedianVectorIsAllowed }
+{}
+
+/// Between the matchings of two closed sets no route has fewer steps than there are rotations in exactly one of the sets.
+pub fn no_fewer_steps()
+    ensures { NoFewerSteps }
+{}
+
+/// To take back the rotations of the left set that the right one lacks, the last one first, and then to eliminate those of the
+/// right one that the left one lacks, the first one first, goes over stable matchings, and is a shortest route.
+pub fn steps_are_shortest()
+    ensures { StepsAreShortest }
 {}

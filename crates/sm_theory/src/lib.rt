@@ -13,6 +13,7 @@ mod flow_lines;
 pub mod laws;
 mod marks;
 mod rotations;
+mod step;
 pub mod witnesses;
 
 pub use chain::Chain;
@@ -22,3 +23,4 @@ pub use elimination::{eliminate, move_round};
 pub use flow_lines::FlowLine;
 pub use marks::{mark_span, no_marks, note_movers};
 pub use rotations::{Rotation, is_exposed, successor, would_take};
+pub use step::Step;

@@ -5,8 +5,10 @@ ghost use Rattle.sm_theory.specs.Witnesses.{ThreeCycle, PassedSeat, LeftOver};
 ghost use Rattle.sm_theory.specs.WitnessesFlows.{WorkedNet, BarredNet, MiddleLevel, NothingAllowed};
 ghost use Rattle.sm_theory.specs.WitnessesLines.{WorkedLines, EachLine};
 ghost use Rattle.sm_theory.specs.WitnessesListing.{TwoPairs};
+ghost use Rattle.sm_theory.specs.WitnessesSecond.{WorkedSecondNet};
 ghost use Rattle.sm_theory.specs.WitnessesRooms.{OddParty, EvenParty};
 ghost use Rattle.sm_theory.specs.WitnessesSeats.{Seats};
+ghost use Rattle.sm_theory.specs.WitnessesMedians.{MiddleOfFour, MedianOfThree, OneBackOneForth, RouteOfTwo};
 
 /// Three proposers whose stable matchings form a chain of three: their complete chain has two rotations, and the second
 /// needs the first. At its end stands the reviewers' best, and the regrets of the three are 3, 2 and 3.
@@ -39,6 +41,12 @@ pub fn worked_lines()
 /// Single lines in that net: which of them are on new edges and within the rooms.
 pub fn each_line()
     ensures { EachLine }
+{}
+
+/// The same market with first and second weights: two matchings are lightest by first sums, and a flow of value 1 in the second net
+/// shows which of them is by both.
+pub fn worked_second_net()
+    ensures { WorkedSecondNet }
 {}
 
 /// The same market where the first proposer may have no level: a path of unbounded edges leads from the source to the sink.
@@ -79,4 +87,21 @@ pub fn odd_party()
 /// nobody lists.
 pub fn even_party()
     ensures { EvenParty }
+{}
+
+/// Of 3, 1, 2 and 1 the number in the middle is 1, and at the third place stands 2.
+pub fn middle_of_four()
+    ensures { MiddleOfFour }
+{}
+
+/// Of three sets the rotations that two of them have, and of one set those that it has.
+pub fn median_of_three()
+    ensures { MedianOfThree }
+{}
+
+/// From one rotation alone to another alone it is one step back and one forth, over the set of none, and in a market whose two
+/// rotations don't need each other these are a shortest route.
+pub fn one_back_one_forth()
+    ensures steps { OneBackOneForth }
+    ensures route { RouteOfTwo }
 {}

@@ -1,0 +1,5 @@
+use Rattle.sm_theory.proofs.Medians.OfSets.{median_is_allowed}
+use Rattle.sm_theory.proofs.laws.median_is_allowed.Goals as goal
+
+pub returns : goal.returns
+returns c = median_is_allowed

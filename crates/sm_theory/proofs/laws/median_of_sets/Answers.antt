@@ -1,0 +1,5 @@
+use Rattle.sm_theory.proofs.Medians.OfSets.{median_of_sets}
+use Rattle.sm_theory.proofs.laws.median_of_sets.Goals as goal
+
+pub returns : goal.returns
+returns c = median_of_sets

@@ -1,0 +1,5 @@
+use Rattle.sm_theory.proofs.Medians.OfSets.{median_of_vectors}
+use Rattle.sm_theory.proofs.laws.median_of_vectors.Goals as goal
+
+pub returns : goal.returns
+returns c = median_of_vectors
