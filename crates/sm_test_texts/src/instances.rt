@@ -7,7 +7,7 @@ use sm_instance::{Assignment, Input, Instance, InstanceFault, Kind, Measure, Per
 use std::process::Abort;
 
 /// The residents a: k h, b: z h and c: h k, who doesn't stand on k's list; h has two places, k one and z none.
-pub fn small_hospitals(rt: &(impl Abort + AllocGlobal)) -> Instance {
+fn small_hospitals(rt: &(impl Abort + AllocGlobal)) -> Instance {
     let residents = three(
         rt,
         agent(rt, b'a', 1, &[1, 0]),

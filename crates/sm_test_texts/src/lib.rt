@@ -1,20 +1,16 @@
-//! Each public call of the crates below, once with memory and with each fault once; the crates of markets have theirs in
-//! `sm_examples`, and words and whole runs in `sm_runs`.
+//! Each public call of the crates of texts and instances, once with memory and with each fault once; the crates of markets have
+//! theirs in `sm_examples`, those that find answers in `sm_test_finders`, and words and whole runs in `sm_runs`.
 //!
 //! A contract can't say that a call succeeds where there is memory, so it is tried here. A file stands for one crate. That
 //! definitions mean what they should is computed by the checker beside them, in the witnesses of the crates below.
 #![tactic(auto)]
 
 #[cfg(test)]
-mod flows;
-#[cfg(test)]
 mod instances;
 #[cfg(test)]
 mod keys;
 #[cfg(test)]
 mod lines;
-#[cfg(test)]
-mod listings;
 #[cfg(test)]
 mod made;
 #[cfg(test)]
@@ -23,12 +19,6 @@ mod names;
 mod pieces;
 #[cfg(test)]
 mod reading;
-#[cfg(test)]
-mod rooms;
-#[cfg(test)]
-mod seats;
-#[cfg(test)]
-mod solutions;
 #[cfg(test)]
 mod tallies;
 #[cfg(test)]

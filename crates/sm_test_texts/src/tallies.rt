@@ -1,6 +1,6 @@
 //! Tallies in boxes.
 
-use sm_tally::{CountTally, RegretTally, SumTally, Tally, feed_each, read_out};
+use sm_tally::{CountTally, ProfileTally, RegretTally, SumTally, Tally, feed_each, read_out};
 use std::test::Fail;
 
 #[test]
@@ -10,6 +10,7 @@ fn tallies_of_the_three_cycle(rt: HostRuntime) -> Result<(), Fail> {
     tallies.push(Box::new(alloc, CountTally::new())?)?;
     tallies.push(Box::new(alloc, SumTally::new())?)?;
     tallies.push(Box::new(alloc, RegretTally::new())?)?;
+    tallies.push(Box::new(alloc, ProfileTally::new())?)?;
     feed_each(&mut tallies, &[1, 1, 1], 3);
     feed_each(&mut tallies, &[2, 2, 2], 2);
     feed_each(&mut tallies, &[3, 3, 3], 3);
@@ -20,6 +21,7 @@ fn tallies_of_the_three_cycle(rt: HostRuntime) -> Result<(), Fail> {
     let one = (1, vec![in alloc; 3]?);
     let two = (2, vec![in alloc; 18]?);
     let three = (3, vec![in alloc; 3, 2, 3]?);
-    assert_eq!(rt; shown, vec![in alloc; one, two, three]?);
+    let four = (4, vec![in alloc; 3, 3, 3, 0]?);
+    assert_eq!(rt; shown, vec![in alloc; one, two, three, four]?);
     Ok(())
 }

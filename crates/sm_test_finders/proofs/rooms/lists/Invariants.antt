@@ -1,7 +1,7 @@
 use Rattle.std.proofs.Common.{◌<◌, ◌≤◌, ◌*◌, length}
 use Rattle.std.specs.List.{sum_by}
 use Rattle.sm_lists.specs.Rows.{rows_of}
-use Rattle.sm_trials.proofs.rooms.lists.Given as goal
+use Rattle.sm_test_finders.proofs.rooms.lists.Given as goal
 
 abbrev pub invariant-loop-part : goal.invariant-loop-part
 invariant-loop-part g l =
