@@ -1,8 +1,13 @@
-//! Meet and join of pairings that were made by hand.
+//! Meet and join of pairings that were made by hand, a median, and routes.
 
-use crate::texts::{holds, market, pairing};
-use sm_lattice::{LatticeFault, join, meet};
+use crate::tests::{poset, set};
+use crate::texts::{MEMORY, holds, market, pairing};
+use sm_lattice::{
+    LatticeFault, count_members, count_number, join, median_of, meet, number_at_place, route,
+};
 use sm_market::Market;
+use sm_poset::Poset;
+use sm_theory::Step;
 use std::process::Abort;
 
 /// Twice two proposers with opposed lists.
@@ -54,4 +59,45 @@ fn a_pairing_that_is_blocked(rt: HostRuntime) {
         "00--",
         LatticeFault::NotStable(false, 2, 0),
     );
+}
+
+/// Makes sure of the set whose pairing stands in the middle, where so many of three sets have each rotation.
+fn has_median(rt: &(impl Abort + AllocGlobal), poset: &Poset, holds: &[u32; 2], wanted: &[bool]) {
+    assert!(rt; poset.chain().rotations.len() == 2);
+    match median_of(rt.alloc(), poset, holds, 3).expect(rt, MEMORY) {
+        Some(set) => assert!(rt; set.members.as_slice() == wanted),
+        None => assert!(rt; false, "no closed set"),
+    }
+}
+
+/// Makes sure of the steps from one closed set to another.
+fn leads(rt: &(impl Abort + AllocGlobal), poset: &Poset, left: &str, right: &str, wanted: &[Step]) {
+    let left = set(rt, left);
+    let right = set(rt, right);
+    assert!(rt; left.members.len() == poset.chain().rotations.len());
+    assert!(rt; right.members.len() == poset.chain().rotations.len());
+    assert!(rt; poset.is_closed(&left));
+    assert!(rt; poset.is_closed(&right));
+    let steps = route(rt.alloc(), poset, &left, &right).expect(rt, MEMORY);
+    assert!(rt; steps.as_slice() == wanted);
+}
+
+#[test]
+fn a_median_and_a_route(rt: HostRuntime) {
+    let poset = poset(&rt, &two_pairs(&rt));
+    let mut holds = [1, 1];
+    count_members(&mut holds, &[true, false]);
+    assert!(rt; holds == [2, 1]);
+    has_median(&rt, &poset, &holds, &[true, false]);
+    leads(&rt, &poset, "10", "01", &[Step::Back(0), Step::Forth(1)]);
+    leads(&rt, &poset, "11", "11", &[]);
+}
+
+#[test]
+fn the_middle_of_four(rt: HostRuntime) {
+    let mut counts = [0, 2, 1, 0];
+    count_number(&mut counts, 3);
+    assert!(rt; number_at_place(&counts, 2) == 1);
+    assert!(rt; number_at_place(&counts, 3) == 2);
+    assert!(rt; number_at_place(&counts, 4) == 3);
 }

@@ -151,14 +151,14 @@ fn linked_pairs(rt: HostRuntime) {
 }
 
 /// The poset of a market's chain.
-fn poset(rt: &(impl Abort + AllocGlobal), market: &Market) -> Poset {
+pub fn poset(rt: &(impl Abort + AllocGlobal), market: &Market) -> Poset {
     let first = proposer_best(rt.alloc(), market).expect(rt, MEMORY);
     let chain = chain(rt.alloc(), market, &first).expect(rt, MEMORY);
     Poset::of(rt.alloc(), market, chain).expect(rt, MEMORY)
 }
 
 /// A set of rotations, of which 1 is a member and 0 isn't.
-fn set(rt: &(impl Abort + AllocGlobal), text: &str) -> ClosedSet {
+pub fn set(rt: &(impl Abort + AllocGlobal), text: &str) -> ClosedSet {
     let mut members = Vec::new(rt.alloc());
     for byte in text.as_bytes() {
         members.push(*byte == b'1').expect(rt, MEMORY);
