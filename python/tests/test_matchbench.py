@@ -1,0 +1,537 @@
+"""`matchbench.py`: against all stable matchings of small instances, and what it makes of names, faults and failures.
+
+What asks the program is skipped where none is found.
+"""
+import importlib
+import itertools
+import os
+import pickle
+import random
+import re
+import shutil
+import stat
+import sys
+import tempfile
+import unittest
+from unittest import mock
+
+HERE = os.path.dirname(os.path.realpath(__file__))
+TOP = os.path.join(HERE, '..', '..')
+for folder in ('python', 'tools', os.path.join('tools', 'tests')):
+    sys.path.insert(0, os.path.join(TOP, folder))
+
+import brute  # noqa: E402
+import matchbench  # noqa: E402
+from matchbench import (Couples, Failed, Instance, Matching, NoMatching, NotStable, ProgramMissing, Refused,  # noqa: E402
+                        Seat)
+from shared.names import sound_names  # noqa: E402
+
+PROPOSERS = ['Zoë', 'Zoe', 'Müller, Ann', 'Иван', 'p4', '']
+REVIEWERS = ['City Hospital', "St. John's", 'Дом 5', 'west', '-', 'r#']
+
+try:
+    matchbench.find_program()
+    HAS_PROGRAM = True
+except ProgramMissing:
+    HAS_PROGRAM = False
+asks = unittest.skipUnless(HAS_PROGRAM, 'the program isn\'t built')
+
+
+def example(name):
+    """A text of examples/."""
+    with open(os.path.join(TOP, 'examples', name), encoding='utf-8') as file:
+        return file.read()
+
+
+def drawn(seed):
+    """The proposers, reviewers and capacities of a small instance, with inert entries, unequal sides and places from 0 to 3;
+    the capacities are None in a marriage.
+    """
+    draw = random.Random(seed)
+    p, r = PROPOSERS[:draw.randint(1, 5)], REVIEWERS[:draw.randint(1, 4)]
+    if seed % 2:
+        p, r = PROPOSERS[:4], REVIEWERS[:4]
+    lists = {name: draw.sample(r, len(r)) for name in p}
+    rows = {it: sorted(p, key=lambda name: draw.random() * 2 - lists[name].index(it)) for it in r}
+    for row in list(lists.values()) + list(rows.values()):
+        if draw.random() < (0.15 if seed % 2 else 0.5):
+            del row[draw.randint(0, len(row)):]
+    capacities = {it: draw.choice((0, 1, 1, 2, 2, 3)) for it in r} if seed % 3 == 2 else None
+    return lists, rows, capacities
+
+
+def market(lists, rows, capacities):
+    """The same for trying all matchings."""
+    made = brute.Market('')
+    made.p, made.r, made.capacities = lists, rows, capacities or {it: 1 for it in rows}
+    return made
+
+
+class Small(unittest.TestCase):
+    """Two sides, 220 instances."""
+
+    @asks
+    def test_all_matchings(self):
+        several = conditioned = 0
+        for seed in range(220):
+            with self.subTest(seed=seed):
+                lists, rows, capacities = drawn(seed)
+                tried = market(lists, rows, capacities)
+                stable = dict(sorted(tried.stable().items()))
+                draw = random.Random(-seed)
+                weights = {(p, r): draw.randint(-9, 9) for p in lists for r in rows if draw.random() < 0.8}
+                forced, forbidden = [], []
+                if seed % 4 == 3:
+                    forbidden = [(draw.choice(list(lists)), draw.choice(list(rows)))]
+                if seed % 8 == 5 and any(stable.values()):
+                    forced = [draw.choice([it for has in stable.values() for it in has.items()])]
+                conditions = {'weights': weights, 'forced': forced, 'forbidden': forbidden}
+                instance = (Instance.marriage(lists, rows, **conditions) if capacities is None
+                            else Instance.hospitals(lists, rows, capacities, **conditions))
+                allowed = {ranks: has for ranks, has in stable.items()
+                           if all(has.get(p) == r for p, r in forced) and all(has.get(p) != r for p, r in forbidden)}
+                self.compare_all(instance, tried, stable, draw)
+                self.compare_allowed(instance, tried, allowed, weights)
+                several += len(stable) > 1
+                conditioned += len(allowed) < len(stable)
+        self.assertGreater(several, 40)
+        self.assertGreater(conditioned, 10)
+
+    def compare_all(self, instance, tried, stable, draw):
+        """The commands that speak of all stable matchings."""
+        best, worst = instance.solve(), instance.solve(side='reviewers')
+        self.assertEqual((best.ranks, worst.ranks), (min(stable), max(stable)))
+        for found in (best, worst):
+            self.assertEqual(found.partners(), stable[found.ranks])
+            self.assertEqual(found.places(), {r: tuple(p for p in tried.p if found.partners().get(p) == r)
+                                              for r in found.partners().values()})
+        each = [set(has.items()) for has in stable.values()]
+        pairs = instance.pairs()
+        self.assertEqual(pairs.pairs, tuple((p, r) for p in tried.p for r in tried.p[p] if any((p, r) in it for it in each)))
+        self.assertEqual(pairs.fixed, tuple(it for it in pairs.pairs if all(it in pairs for pairs in each)))
+        self.compare_order(instance, tried, stable)
+        reduced = instance.reduced()
+        self.assertEqual({p: it.reviewer for p, it in reduced.first.items()}, best.partners())
+        self.assertEqual({p: it.reviewer for p, it in reduced.last.items()}, worst.partners())
+        for p, r in pairs.pairs:
+            seats = [it for it in reduced.proposers[p] if it.reviewer == r]
+            self.assertTrue(seats and all(p in reduced.reviewers[it] for it in seats), (p, r))
+        a, b = draw.choice(list(stable)), draw.choice(list(stable))
+        meet, join = instance.meet(stable[a], stable[b].items()), instance.join(stable[a], stable[b])
+        self.assertEqual((meet.ranks, join.ranks), (tuple(map(min, a, b)), tuple(map(max, a, b))))
+        self.assertEqual((meet.partners(), join.partners()), (stable[meet.ranks], stable[join.ranks]))
+        for answer in (worst, reduced, join):
+            self.assertTrue(instance.check(answer))
+        self.compare_verdict(instance, tried, draw.choice(list(tried.matchings())), stable)
+        self.compare_verdict(instance, tried, stable[a], stable)
+
+    def compare_order(self, instance, tried, stable):
+        """The matchings of closed sets of rotations."""
+        order = instance.rotations()
+        matchings = set()
+        numbers = [it.number for it in order.rotations]
+        self.assertEqual(numbers, list(range(1, len(numbers) + 1)))
+        sets = 0
+        for taken in itertools.chain.from_iterable(itertools.combinations(numbers, size) for size in range(len(numbers) + 1)):
+            if all(a in taken for a, b in order.edges() if b in taken):
+                seats = dict(order.first)
+                for number in taken:
+                    for p, old, new in order.rotations[number - 1].moves():
+                        self.assertEqual(seats[p], old)
+                        seats[p] = new
+                matchings.add(tried.ranks({p: it.reviewer for p, it in seats.items()}))
+                sets += 1
+        self.assertEqual((matchings, sets), (set(stable), len(stable)))
+
+    def compare_allowed(self, instance, tried, allowed, weights):
+        """The commands that forced and forbidden pairs bind."""
+        listed = list(instance.list())
+        self.assertEqual([(it.ranks, it.partners()) for it in listed], list(allowed.items()))
+        if listed:
+            middle = len(listed) // 2
+            self.assertEqual(list(instance.list(after=listed[0], limit=2)), listed[1:3])
+            self.assertEqual(list(instance.list(after=[it.ranks for it in listed][middle])), listed[middle + 1:])
+
+        def regret(has):
+            return max((max(tried.p[p].index(r), tried.r[r].index(p)) + 1 for p, r in has.items()), default=0)
+
+        def by_ranks(has):
+            return sum(tried.p[p].index(r) + tried.r[r].index(p) + 2 for p, r in has.items())
+
+        def by_given(has):
+            return sum(weights.get(it, 0) for it in has.items())
+
+        regrets = [regret(has) for has in allowed.values()]
+        survey = instance.survey()
+        self.assertEqual(
+            (survey.listed, survey.rank_sum, survey.least_regret, survey.greatest_regret, survey.last),
+            (len(allowed), sum(map(sum, allowed)), min(regrets, default=0), max(regrets, default=0), None))
+        if not allowed:
+            for ask in (instance.regret, instance.weight, lambda: instance.weight(by='given')):
+                self.assertRaises(NoMatching, ask)
+            return
+        if len(allowed) > 1:
+            self.assertEqual(instance.survey(limit=1).last, min(allowed))
+
+        def best_of(measure):
+            least = min(map(measure, allowed.values()))
+            return least, allowed[min(ranks for ranks, has in allowed.items() if measure(has) == least)]
+
+        least = instance.regret()
+        self.assertEqual((least.regret, least.matching.partners()), best_of(regret))
+        self.assertTrue(instance.check(least))
+        for by, measure in (('ranks', by_ranks), ('given', by_given)):
+            light = instance.weight(by=by)
+            self.assertEqual((light.total, light.matching.partners()), best_of(measure))
+            self.assertEqual(light.value, light.cut)
+            self.assertEqual(light.value, sum(it.amount for it in light.flow if it.source == 'S'))
+            first = measure({p: it.reviewer for p, it in light.first.items()})
+            self.assertEqual(first + sum(light.rotations[it - 1].gain for it in light.taken), light.total)
+
+    def compare_verdict(self, instance, tried, has, stable):
+        """Claims on a matching."""
+        right = tried.is_stable(has)
+        verdict = instance.check_matching(has)
+        self.assertEqual((bool(verdict), verdict.right), (right, right))
+        if not right:
+            p, r = verdict.blocking
+            self.assertEqual(verdict.reason, 'Blocked')
+            self.assertFalse(tried.is_stable(has))
+            self.assertNotEqual(has.get(p), r)
+            self.assertTrue(p not in has or tried.p[p].index(r) < tried.p[p].index(has[p]))
+            at = tried.at(has, r)
+            self.assertTrue(len(at) < tried.capacities[r] or max(at) > tried.r[r].index(p))
+        for claim, ranks in (('proposers', min(stable)), ('reviewers', max(stable))):
+            verdict = instance.check_matching(has, claim=claim)
+            self.assertEqual(verdict.right, right and tried.ranks(has) == ranks)
+            if not verdict:
+                self.assertEqual((verdict.reason, verdict.line_text), ('NotBest' if right else 'Blocked', 'end'))
+                self.assertEqual(verdict.blocking is None, right)
+
+
+class Rooms(unittest.TestCase):
+    """Roommates, 80 instances."""
+
+    @staticmethod
+    def couplings(persons, lists):
+        """All matchings, as both partners of each couple."""
+        if not persons:
+            yield {}
+            return
+        one, rest = persons[0], persons[1:]
+        yield from Rooms.couplings(rest, lists)
+        for other in rest:
+            if other in lists[one] and one in lists[other]:
+                for more in Rooms.couplings([it for it in rest if it != other], lists):
+                    yield {one: other, other: one, **more}
+
+    @staticmethod
+    def blocking(has, lists):
+        """The couples that block."""
+        def better(a, b):
+            return b in lists[a] and (a not in has or lists[a].index(b) < lists[a].index(has[a]))
+        return [(a, b) for a in lists for b in lists if a != b and has.get(a) != b and better(a, b) and better(b, a)]
+
+    @asks
+    def test_all_matchings(self):
+        without = 0
+        for seed in range(80):
+            with self.subTest(seed=seed):
+                draw = random.Random(seed)
+                persons = PROPOSERS[:draw.randint(1, 6)]
+                lists = {it: draw.sample([a for a in persons if a != it], len(persons) - 1) for it in persons}
+                for row in lists.values():
+                    if draw.random() < 0.2:
+                        del row[draw.randint(0, len(row)):]
+                instance = Instance.roommates(lists)
+                every = list(self.couplings(persons, lists))
+                stable = [has for has in every if not self.blocking(has, lists)]
+                try:
+                    found = instance.solve()
+                    self.assertIsInstance(found, Couples)
+                    self.assertIn(found.partners(), stable)
+                    self.assertTrue(instance.check(found))
+                    self.assertEqual(found.ranks, tuple(lists[it].index(found.partners()[it]) + 1 if it in found.partners()
+                                                        else len(lists[it]) + 1 for it in persons))
+                except NoMatching as fault:
+                    self.assertEqual(stable, [])
+                    self.assertTrue(any(len(it) % 2 and len(it) > 2 for it in fault.parties))
+                    self.assertEqual(sorted(itertools.chain(*fault.parties)), sorted(persons))
+                    self.assertTrue(instance.check(fault))
+                    without += 1
+                for has in stable[:1] + [draw.choice(every)]:
+                    verdict = instance.check_matching(has)
+                    self.assertEqual(verdict.right, has in stable)
+                    if not verdict:
+                        self.assertIn(verdict.blocking, self.blocking(has, lists))
+        self.assertGreater(without, 2)
+
+    @asks
+    def test_refused(self):
+        instance = Instance.from_text(example('four_persons.txt'))
+        self.assertEqual((instance.kind, instance.capacities['ann']), ('roommates', 1))
+        for ask in (instance.pairs, lambda: instance.solve(side='reviewers'), lambda: list(instance.list())):
+            with self.assertRaises(Refused) as caught:
+                ask()
+            self.assertEqual(caught.exception.reason, 'WrongKind')
+        self.assertRaises(ValueError, instance.check_matching, {}, 'proposers')
+
+
+class Examples(unittest.TestCase):
+    """Whole answers, as they are stored."""
+
+    @asks
+    def test_texts(self):
+        for name, text in (('solve', lambda it: it.solve()), ('reduced', lambda it: it.reduced()),
+                           ('pairs', lambda it: it.pairs()),
+                           ('rotations', lambda it: it.rotations()), ('regret', lambda it: it.regret()),
+                           ('solve_reviewers', lambda it: it.solve('reviewers')), ('weight_given', lambda it: it.weight('given'))):
+            for file in sorted(os.listdir(os.path.join(TOP, 'examples'))):
+                if file.endswith('.' + name):
+                    instance = Instance.from_text(example(file.split('.')[0] + '.txt'))
+                    answer = example(file)
+                    if answer.startswith('answer') and '\nnone\n' not in answer and instance.kind != 'roommates':
+                        self.assertEqual(text(instance).text, answer, file)
+                        self.assertEqual(Instance.from_text(instance.to_text()).to_text(), instance.to_text())
+
+    @asks
+    def test_listing(self):
+        instance = Instance.from_text(example('five_rotations.txt').encode())
+        vectors = [it for it in example('five_rotations.list').splitlines(True) if it.startswith('vector')]
+        for most in (1, 2, 4, 100):
+            with mock.patch.object(matchbench, 'MOST_LISTED', most):
+                self.assertEqual([it.text for it in instance.list()], vectors)
+                self.assertEqual([it.text for it in instance.list(limit=5)], vectors[:5])
+                self.assertEqual(list(instance.list(limit=0)), [])
+        with self.assertRaises(Refused) as caught:
+            next(instance.list(after=[1, 2]))
+        self.assertEqual((caught.exception.reason, caught.exception.line), ('BadCursor', 0))
+
+    @asks
+    def test_flow(self):
+        light = Instance.from_text(example('weighed.txt')).weight(by='given')
+        self.assertEqual((light.flow, light.taken), ((('S', 2, 4), (1, 'T', 4), (2, 1, 4)), (1, 2)))
+        self.assertEqual([it.gain for it in light.rotations], [4, -14])
+
+    @asks
+    def test_refusals(self):
+        for text, reason, line, shown in (
+                ('stable 1 marriage\np m1: a, b\nend\n', 'BadByte', 2, 'p m1: a, b'), ('', 'BadHeader', 1, ''),
+                ('stable 1 marriage\r\np m1: z\r\nend\r\n', 'UnknownName', 2, 'p m1: z'),
+                ('stable 1 marriage', 'MissingEnd', 2, '')):
+            with self.assertRaises(Refused) as caught:
+                Instance.from_text(text).solve()
+            fault = caught.exception
+            self.assertEqual((fault.reason, fault.line, fault.line_text), (reason, line, shown))
+            self.assertIn(fault.sentence, str(fault))
+            self.assertEqual(fault.text, f'refused {reason} {line}\n')
+
+    @asks
+    def test_claims(self):
+        instance = Instance.from_text(example('hospitals.txt') + '# a comment behind the end\n')
+        given = {'ann': 'city', 'dan': 'city', 'cem': 'north', 'eve': 'west', 'ben': None}
+        verdict = instance.check_matching(given, 'proposers')
+        self.assertEqual((verdict.line, verdict.reason, verdict.blocking), (18, 'Blocked', ('ben', 'city')))
+        verdict = instance.check_matching({'ann': 'west', 'eve': 'west'})
+        self.assertEqual((verdict.reason, verdict.line_text, verdict.blocking), ('NotAMatching', 'left ann west', None))
+        with self.assertRaises(NotStable) as caught:
+            instance.meet(instance.solve(), given)
+        fault = caught.exception
+        self.assertEqual((fault.which, fault.cause, fault.pair), ('right', 'blocks', ('ben', 'city')))
+        with self.assertRaises(ValueError) as told:
+            instance.check_matching({'ann': 'citty'})
+        self.assertEqual(str(told.exception), "'citty' in the matching is none of the reviewers; is 'city' meant?")
+        verdict = instance.check('answer solve side=reviewers\npair ann city\npair ben city\npair cem north\npair eve west\nend\n')
+        self.assertEqual((verdict.right, verdict.reason), (False, 'NotBest'))
+        with self.assertRaises(Refused) as refused:
+            instance.check(next(instance.list()))
+        self.assertEqual(refused.exception.reason, 'BadAnswer')
+
+    @asks
+    def test_make(self):
+        self.assertEqual(Instance.make('cycle', 3, 1).survey().listed, 3)
+        self.assertEqual(Instance.make('rooms', 4, 1).kind, 'roommates')
+        with self.assertRaises(Failed) as caught:
+            Instance.make('square', 3, 1)
+        self.assertEqual(caught.exception.status, 2)
+
+    @asks
+    def test_graph(self):
+        try:
+            networkx = importlib.import_module('networkx')
+        except ImportError:
+            self.skipTest('networkx is missing')
+        for seed in range(40):
+            instance = Instance.make('random', 8, seed)
+            order = instance.rotations()
+            graph = order.graph()
+            self.assertEqual(sorted(graph), [it.number for it in order.rotations])
+            self.assertTrue(networkx.is_directed_acyclic_graph(graph))
+            self.assertEqual(sum(1 for _ in networkx.antichains(graph)), sum(1 for _ in instance.list()))
+            self.assertTrue(all(graph.nodes[it.number]['rotation'] is it for it in order.rotations))
+
+
+class Names(unittest.TestCase):
+    """Names, and arguments that aren't taken: all without the program."""
+
+    def test_as_from_csv(self):
+        draw = random.Random(1)
+        for _ in range(300):
+            originals = list({''.join(draw.choice('aB1_.- ,éßДЁ中') for _ in range(draw.randint(0, 4))): 0 for _ in range(9)})
+            originals += ['x' * 70, 'x' * 71, 'p1', 'p2_']
+            self.assertEqual(matchbench._sound_names(originals, 'p'), sound_names(originals, 'p'))
+
+    def test_text(self):
+        instance = Instance.hospitals(
+            {'Zoë': ['Дом 5', 'west'], 'ann': []}, {'Дом 5': ['Zoë'], 'west': ['ann', 'Zoë']}, {'west': 2, 'Дом 5': 0},
+            weights={('Zoë', 'west'): -3}, forced=[('Zoë', 'west')], forbidden=[('ann', 'Дом 5')])
+        self.assertEqual(instance.to_text(), 'stable 1 hospitals\np Zoe: r1 west\np ann:\nr r1 [0]: Zoe\nr west [2]: ann Zoe\n'
+                         'weight Zoe west -3\nforce Zoe west\nforbid ann r1\nend\n')
+        self.assertEqual(dict(instance.reviewer_names), {'Дом 5': 'r1', 'west': 'west'})
+        self.assertEqual(dict(instance.capacities), {'Дом 5': 0, 'west': 2})
+        self.assertEqual(repr(instance), '<Instance of hospitals: 2 proposers, 2 reviewers>')
+        again = Instance.from_text(instance.to_text())
+        self.assertEqual(dict(again.proposers), {'Zoe': ('r1', 'west'), 'ann': ()})
+        self.assertEqual((again.kind, dict(again.capacities)), ('hospitals', {'r1': 0, 'west': 2}))
+        self.assertEqual(pickle.loads(pickle.dumps(instance)).to_text(), instance.to_text())
+
+    def test_read(self):
+        text = '# \xe9\n\tstable 1 hospitals\r\nr\tc [ 3 ]:a#b\r\np a : c\r\n end # .\nr d: a\n'
+        for given in (text, text.encode('latin-1')):
+            instance = Instance.from_text(given)
+            self.assertEqual((instance.kind, dict(instance.proposers), dict(instance.reviewers), dict(instance.capacities)),
+                             ('hospitals', {'a': ('c',)}, {'c': ('a',)}, {'c': 3}))
+        self.assertEqual(matchbench._encoded(Instance.from_text(text.encode('latin-1')).to_text()), text.encode('latin-1'))
+
+    def test_arguments(self):
+        p, r = {'ann': ['art', 'biology']}, {'art': ['ann'], 'biology': []}
+        for make, kind, told in (
+                (lambda: Instance.marriage({'ann': ['artt']}, r), ValueError,
+                 "'artt' in the list of 'ann' is none of the reviewers; is 'art' meant?"),
+                (lambda: Instance.marriage({'ann': ['art', 'art']}, r), ValueError, "'art' stands twice on the list of 'ann'"),
+                (lambda: Instance.marriage({'ann': 'art'}, r), TypeError,
+                 "the list of 'ann' is 'art', and not a list of names, best first"),
+                (lambda: Instance.marriage({1: []}, r), TypeError, 'the name 1 is no string'),
+                (lambda: Instance.roommates({'ann': ['ann']}), ValueError, "'ann' stands on the list of 'ann'"),
+                (lambda: Instance.hospitals(p, r, {'art': 2}), ValueError, "'biology' has no capacity"),
+                (lambda: Instance.hospitals(p, r, {'art': 2, 'biology': 1, 'x': 1}), ValueError,
+                 "'x' in the capacities is none of the reviewers"),
+                (lambda: Instance.marriage(p, r, forced=[('art', 'ann')]), ValueError,
+                 "'art' in the forced pairs is none of the proposers"),
+                (lambda: Instance.marriage(p, r).solve(side='both'), ValueError,
+                 "side is 'both', and not 'proposers' or 'reviewers'"),
+                (lambda: Instance.marriage(p, r).weight(by='miles'), ValueError, "by is 'miles', and not 'ranks' or 'given'"),
+                (lambda: Instance.marriage(p, r).list(limit=-1), ValueError, 'the limit -1 is below 0'),
+                (lambda: Instance.marriage(p, r).list(after=[-1]), ValueError, "the ranks [-1] aren't all from 0 to 4,294,967,295"),
+                (lambda: Instance.marriage(p, r).survey(limit=0), ValueError, 'the limit 0 is none from 1 to 1,000,000')):
+            with self.assertRaises(kind) as caught:
+                make()
+            self.assertEqual(str(caught.exception), told)
+        self.assertRaises(TypeError, Instance.marriage, p, r, weights={('ann', 'art'): 1.5})
+
+    def test_tables(self):
+        with open(os.path.join(TOP, 'docs', 'FORMATS.md'), encoding='utf-8') as file:
+            formats = file.read()
+        refusals = re.findall(r'^\| `([A-Z]\w+)` \|', formats.split('\n## Refusals\n')[1], re.M)
+        verdicts = re.findall(r'^\| `([A-Z]\w+)` \|', formats.split('\n| Reason | At |')[1].split('\n\n')[0], re.M)
+        self.assertEqual(list(matchbench.REASONS), refusals)
+        self.assertEqual(list(matchbench.VERDICTS), verdicts)
+
+
+class Programs(unittest.TestCase):
+    """Programs that aren't there, fail, or never end."""
+
+    def setUp(self):
+        folder = tempfile.TemporaryDirectory()
+        self.addCleanup(folder.cleanup)
+        self.folder = folder.name
+        self.instance = Instance.from_text(example('two_by_two.txt'))
+
+    def program(self, script):
+        """Puts a script in the place of the program."""
+        path = os.path.join(self.folder, 'program')
+        with open(path, 'w', encoding='utf-8') as file:
+            file.write('#!/bin/sh\n' + script)
+        os.chmod(path, os.stat(path).st_mode | stat.S_IXUSR)
+        patch = mock.patch.dict(os.environ, {'MATCHBENCH': path})
+        patch.start()
+        self.addCleanup(patch.stop)
+
+    def test_missing(self):
+        with mock.patch.dict(os.environ, {'MATCHBENCH': os.path.join(self.folder, 'none')}):
+            with self.assertRaises(ProgramMissing) as caught:
+                self.instance.solve()
+            self.assertIn('which is no program', str(caught.exception))
+            self.instance.list()
+
+    def test_places(self):
+        self.program('')
+        named = os.environ['MATCHBENCH']
+        self.assertEqual(matchbench.find_program(), named)
+        with mock.patch.dict(os.environ, {'MATCHBENCH': '', 'PATH': self.folder}), \
+                mock.patch.object(matchbench, '__file__', os.path.join(self.folder, 'python', 'matchbench.py')):
+            with self.assertRaises(ProgramMissing) as caught:
+                self.instance.solve()
+            self.assertIn('builds it', str(caught.exception))
+            for path in (('matchbench',), ('crates', 'matchbench', 'out', 'matchbench')):
+                path = os.path.join(os.path.realpath(self.folder), *path)
+                os.makedirs(os.path.dirname(path), exist_ok=True)
+                shutil.copy(named, path)
+                self.assertEqual(os.path.realpath(matchbench.find_program()), path)
+
+    def test_statuses(self):
+        for status, front in ((4, 'answer solve side=proposers\\npair m1 a\\n'), (5, ''), (6, 'answer so'), (8, ''), (70, ''),
+                              (0, 'answer solve side=proposers\\npair m1 a\\n'), (0, 'answer solve side=proposers\\nend'), (1, '')):
+            self.program(f'cat >/dev/null; printf "{front}"; exit {status}')
+            for ask in (self.instance.solve, lambda: list(self.instance.list())):
+                with self.assertRaises(Failed) as caught:
+                    ask()
+                self.assertEqual(caught.exception.status, status)
+                self.assertIn(f'status {status}', str(caught.exception))
+        self.program('kill -9 $$')
+        with self.assertRaises(Failed) as caught:
+            self.instance.solve()
+        self.assertEqual(str(caught.exception), 'the program was ended by signal 9')
+
+    def test_broken_off(self):
+        self.program('cat >/dev/null; printf "answer list limit=100\\nvector 1,1\\nvector 2"; exit 6')
+        listing = self.instance.list()
+        self.assertEqual(next(listing).partners(), {'m1': 'a', 'm2': 'b'})
+        self.assertRaises(Failed, next, listing)
+
+    def test_lazy(self):
+        mark = os.path.join(self.folder, 'started')
+        self.program(f'cat >/dev/null; echo $$ >{mark}; while echo vector 1,1; do :; done')
+        listing = self.instance.list()
+        self.assertFalse(os.path.exists(mark))
+        for _ in range(3):
+            self.assertEqual(next(listing).ranks, (1, 1))
+        with open(mark, encoding='utf-8') as file:
+            number = int(file.read())
+        listing.close()
+        self.assertRaises(ProcessLookupError, os.kill, number, 0)
+
+    def test_without_reading(self):
+        self.program('echo "refused TooLong 0"; exit 1')
+        instance = Instance.from_text('stable 1 marriage\n' + '#' * 1_000_000)
+        for ask in (instance.solve, lambda: list(instance.list())):
+            with self.assertRaises(Refused) as caught:
+                ask()
+            self.assertEqual((caught.exception.reason, caught.exception.line), ('TooLong', 0))
+
+    def test_values(self):
+        """Results can be kept, compared and sent to other processes."""
+        faults = (Refused('BadLine', 2, 'p a', 'refused BadLine 2\n'), NoMatching('answer regret\nnone\nend\n'), Failed(4, ''),
+                  NotStable(8, 'end', 'refused NotStable 8 left blocks a b\n', 'left', 'blocks', ('a', 'b')))
+        for fault in faults:
+            again = pickle.loads(pickle.dumps(fault))
+            self.assertEqual((type(again), str(again), vars(again)), (type(fault), str(fault), vars(fault)))
+        one, other = Matching((('a', 'b'),), (1,), 'x'), Matching((('a', 'b'),), (1,), 'y')
+        self.assertEqual(one, other)
+        self.assertEqual(len({one, other, Matching((), (2,), 'x')}), 2)
+        self.assertRaises(AttributeError, setattr, one, 'pairs', ())
+        self.assertEqual(Seat('city', 2), ('city', 2))
+
+
+if __name__ == '__main__':
+    unittest.main()
