@@ -132,3 +132,28 @@ def seated(hospitals):
     lines = [f'p {p}: ' + ' '.join(seat for h in row if p in lists[h] for seat in seats[h]) for p, row in hospitals.p.items()]
     lines += [f'r {seat}: ' + ' '.join(lists[h]) for h in seats for seat in seats[h]]
     return Market('\n'.join(lines))
+
+
+def made_any(seed, most=6):
+    """A random marriage or instance of hospitals: sides of different sizes that like the opposite or don't care, lists that are
+    cut and that aren't returned, weights, and sometimes a condition.
+    """
+    draw = random.Random(seed)
+    hospitals = draw.random() < 0.6
+    p, r = [f'p{i}' for i in range(draw.randint(0, most))], [f'r{i}' for i in range(draw.randint(1, 4 if hospitals else most))]
+    against, kept = draw.choice((0, 1, 1, 2)), draw.choice((0, 0, 0.1, 0.3))
+    rows = {name: draw.sample(r, len(r)) for name in p}
+    rows.update({it: sorted(p, key=lambda name: draw.random() * 2 - against * rows[name].index(it)) for it in r})
+    lines = []
+    for name, row in rows.items():
+        places = f' [{draw.choice((0, 1, 1, 2, 2, 3))}]' if hospitals and name in r else ''
+        row = [it for it in row if draw.random() >= kept]
+        lines.append(f'{name[0]} {name}{places}: {" ".join(row)}')
+    draw.shuffle(lines)
+    pairs = [(a, b) for a in p for b in r]
+    for a, b in draw.sample(pairs, len(pairs) // 3):
+        lines.append(f'weight {a} {b} {draw.randint(-9, 9)}')
+    for keyword in ('force', 'forbid'):
+        if pairs and draw.random() < 0.2:
+            lines.append(f'{keyword} {" ".join(draw.choice(pairs))}')
+    return '\n'.join([f'stable 1 {"hospitals" if hospitals else "marriage"}'] + lines + ['end', ''])

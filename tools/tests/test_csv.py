@@ -1,15 +1,15 @@
 """`from_csv` and `to_csv`: stored tables, broken ones, and names of all kinds there and back."""
 import csv
+import hashlib
 import io
 import os
 import random
 import re
-import subprocess
-import sys
 import tempfile
 import unittest
 
 import brute
+import inside
 
 HERE = os.path.dirname(os.path.realpath(__file__))
 EXAMPLES = os.path.join(HERE, '..', '..', 'examples')
@@ -45,9 +45,7 @@ class Tables(unittest.TestCase):
 
     def call(self, tool, *words, stdin=''):
         """Status, output and faults of a tool that is called in a folder of its own."""
-        done = subprocess.run([sys.executable, '-S', os.path.join(HERE, '..', tool), *words], input=stdin.encode(),
-                              capture_output=True, cwd=self.folder.name)
-        return done.returncode, done.stdout.decode(), done.stderr.decode()
+        return inside.call(tool, *words, stdin=stdin, folder=self.folder.name)
 
     def put(self, name, content):
         """A file in the folder."""
@@ -59,9 +57,16 @@ class Tables(unittest.TestCase):
         files = [f'{letter}.csv' for letter, _ in zip('pr', tables)]
         for file, content in zip(files, tables):
             self.put(file, content)
-        status, text, fault = self.call('from_csv', '--names', 'names.csv', *words, *files)
-        self.assertEqual((status, fault), (0, ''))
+        status, text, told = self.call('from_csv', '--names', 'names.csv', *words, *self.places(tables, words), *files)
+        self.assertEqual(status, 0, told)
+        self.told = told.splitlines()
+        self.assertTrue(all(it.startswith('from_csv: ') for it in self.told) and ' agents with ' in self.told[0], told)
         return text, text_of(self.folder.name, 'names.csv')
+
+    def places(self, tables, words):
+        """The word that says that each reviewer takes one, where nothing else says how many."""
+        header = (tables[1] if isinstance(tables[1], str) else '').split('\n')[0].casefold() if len(tables) == 2 else 'capacity'
+        return [] if 'capacity' in header and '--skip' not in words or {'--capacity', '--capacities'} & {*words} else ['--one-place']
 
     def given_back(self, answer):
         """The rows of an answer's table."""
@@ -74,7 +79,7 @@ class Tables(unittest.TestCase):
         files = [f'{letter}.csv' for letter, _ in zip('pr', tables)]
         for file, content in zip(files, tables):
             self.put(file, content)
-        status, text, fault = self.call('from_csv', '--names', 'names.csv', *words, *files)
+        status, text, fault = self.call('from_csv', '--names', 'names.csv', *words, *self.places(tables, words), *files)
         self.assertEqual((status, text, os.path.exists(os.path.join(self.folder.name, 'names.csv'))), (1, '', False), fault)
         return fault
 
@@ -155,6 +160,8 @@ class Tables(unittest.TestCase):
                 ('n;1\na;x,y\nb;y\n', 'n;1\nx;a\ny;b, a\n', ['--delimiter', ';', '--in-cell', ',']),
                 ('n\t1\na\tx|y\nb\ty|\n', 'n\t1\nx\ta\ny\tb||a\n', ['--delimiter', 'tab', '--in-cell', '|']),
                 ('n,1\na, "x, y"\n "b",y\n', 'n,1\nx,a\ny,"b,a"\n', ['--in-cell', ',']),
+                ('n;1\n"a";x|y\nb;y\n', 'n\t1\nx\ta\ny\tb|a\n', ['--in-cell', '|']),
+                ('n,1,2\na,x,y\nb,y\n', 'n;1;2\nx;a\ny;b;a\n', []),
                 ('id,n,mail,1,2\n7,a,a@b,x,y\n8,b,c@d,y\n', 'n,1,2\nx,a\ny,b,a\n', ['--skip', 'ID', '--skip', 'mail'])):
             self.assertEqual(self.made([p, r], *words)[0], wanted, p)
 
@@ -166,7 +173,7 @@ class Tables(unittest.TestCase):
                 ([p + ',x\n', r], [], ['p.csv:4: this row has no name']),
                 ([p + 'c,x,y,x\n', r], [], ['p.csv:4: this row has more cells']),
                 ([p + 'c,x,x\n', r], [], ['p.csv:4: \'x\' stands twice']),
-                ([p + 'c,z\nd,"two\nlines",z\ne,z\n', r], [],
+                ([p + 'c,z\nd,"two\nlines",z\ne,z,x\n', r], [],
                  ['p.csv:4: \'z\' isn\'t in r.csv', 'p.csv:5: \'two', 'p.csv:5: \'z\'', 'p.csv:7: \'z\'']),
                 ([p, r + 'z,a,n\n'], [], ['r.csv:4: \'n\' isn\'t in p.csv; the first row of a table only names']),
                 ([p, 'n,1\nhospital,a\nx\ny,hospitall\n'], [], ['r.csv:4: \'hospitall\' isn\'t in p.csv']),
@@ -176,7 +183,7 @@ class Tables(unittest.TestCase):
                 ([p, 'n,capacity,1\nx,2,a\ny,4097,b\nz,,a\nu,-1\nv,1.5\n'], [],
                  [f'r.csv:{i}: the capacity {it!r}' for i, it in ((3, '4097'), (4, ''), (5, '-1'), (6, '1.5'))]),
                 (['n,capacity,1\na,1,x\n', r], [], ['p.csv:1: only reviewers have a capacity']),
-                (['n;1;2\na;x;y\n', r], [],
+                (['n;1;2\na;x;y\n', r], ['--delimiter', ','],
                  ['p.csv:1: this table has no column with choices; are cells divided by --delimiter \';\'?']),
                 (['', r], [], ['p.csv:1: the table is empty']),
                 ([p, b'n,1\nx,a\ny,\xfcber\n'], [], ['r.csv:3: the table isn\'t in UTF-8']),
@@ -186,7 +193,7 @@ class Tables(unittest.TestCase):
                 ([p, 'n,1\nx,a\ny,"b" c\n'], [], ['r.csv:3: the quotes of this row']),
                 ([p, r], ['--skip', 'mail'], ['no table has a column \'mail\'']),
                 (['n,1\na,b\nb,b\n'], [], ['p.csv:3: \'b\' lists itself']),
-                (['n,1\n' + ''.join(f'a{i}\n' for i in range(4097)), r], [], ['p.csv:4098: there are more than 4,096']),
+                (['n,1\n' + ''.join(f'a{i}\n' for i in range(4097)), r], [], ['p.csv:4098: there are more than 4,096', 'r.csv:1: no choice']),
         ):
             lines = self.refused(tables, *words).splitlines()
             named = [line for line in lines if re.match(r'[pr]\.csv:|from_csv: ', line)]
@@ -195,8 +202,116 @@ class Tables(unittest.TestCase):
             self.assertEqual(len(named), len(faults), lines)
             for line, wanted in zip(named, faults):
                 self.assertTrue(line.replace('from_csv: ', '').startswith(wanted), (line, wanted))
-        lines = self.refused(['n,1\n' + ''.join(f'a{i},z\n' for i in range(30)), 'n,1\nx,\n']).splitlines()
+        lines = self.refused(['n,1\n' + ''.join(f'a{i},{"z" if i < 30 else "x"}\n' for i in range(35)), 'n,1\nx,\n']).splitlines()
         self.assertEqual((len(lines), lines[-1]), (22, 'and 10 more'))
+
+    def test_told(self):
+        """One fault for a table or a column where nothing, or hardly anything, is known; and what tables may be."""
+        p, r = 'n,1,2\na,x,y\nb,y\n', 'n,1,2\nx,a\ny,b,a\n'
+        many = ''.join(f'a{i},x,100{i}\n' for i in range(30))
+        for tables, words, fault in (
+                (['n,1,code\n' + many, 'n,1\nx,a1\n'], [], 'p.csv:1: the column \'code\' has no name of r.csv; \'1000\' is none; --skip \'code\''),
+                ([p, 'n,1,2,places\nx,a,b,2\ny,b,a,3\n'], [], '--skip \'places\' leaves the column out, or --capacity \'places\''),
+                (['n,1\n' + ''.join(f'a{i},x;y\n' for i in range(30)), 'n,1\nx,\ny,\n'], [], 'p.csv:1: no choice of this table is in r.csv; '
+                 '\'x;y\' isn\'t; --in-cell \';\' takes several'),
+                (['n,1\n' + ''.join(f'a{i},{"x" if i < 2 else "x;y"}\n' for i in range(30)), 'n,1\nx,\ny,\n'], [], 'p.csv:1: hardly a choice'),
+                ([p], [], 'p.csv:1: no choice of this table is in p.csv; \'x\' isn\'t; persons list each other, and for two sides'),
+                ([p, 'n,1,2\nx,1,2\ny,2,1\n'], [], 'its cells are numbers: --ranks reviewers takes'),
+                ([p, 'n,a,b\nx,1,2\ny,2,1\n'], [], 'r.csv:1: the first row has to name the columns, and has \'a\' of p.csv; --ranks reviewers'),
+                ([p, 'x,a\ny,b,a\n'], [], 'has \'a\' of p.csv; is a row of titles missing?'),
+                ([p, 'n,1\nx,a\nx,b\ny,a\ny,b\nz,a\nz,b\n'], [], 'r.csv:3: most names have several rows, as \'x\' here and on line 2; --long reviewers'),
+                (['n,capacity,1\na,1,x\n', r], [], 'and their table is the second one: are the two tables swapped?'),
+                ([p, 'n,capacity,1\nx,1,a\ny,1,b\n'], ['--one-place', '--skip', 'n'], 'p.csv:'),
+                ([p, 'n,1,2\nx,a,b\ny,b,a\n'], ['--long', 'reviewers'], 'r.csv:3: the rank \'a\' is no number'),
+                ([p, 'n,1,2\nx,a,2\nx,b,2\n'], ['--long', 'reviewers'], 'r.csv:3: \'a\' and \'b\' have the same rank on the list of one agent, and there are 1'),
+                ([p, 'n,a,c\nx,2,1\ny,1,\n'], ['--ranks', 'reviewers'], 'r.csv:1: the column \'c\' isn\'t in p.csv; --skip \'c\''),
+                ([p, 'n,1,capacity\nx,a,2\nx,b,1\ny,a,1\n'], ['--long', 'reviewers'], 'r.csv:3: \'x\' has another capacity on line 2')):
+            told = self.refused(tables, *words)
+            self.assertIn(fault, told)
+        told = self.refused([p, r + 'x,a\nz,q\n'])
+        self.assertEqual(told.count('r.csv:'), 2, 'names and choices are told at once')
+
+    def test_places(self):
+        """How many each takes has to be said."""
+        for it, content in (('p.csv', 'n,1\na,x\nb,x\n'), ('r.csv', 'n,Places,1,2\nx,2,a,b\n'), ('c.csv', 'n,k\nx,2\ny,0\n'), ('s.csv', 'n,1,2\nx,a,b\n')):
+            self.put(it, content)
+        def call(*words):
+            return self.call('from_csv', '--names', 'names.csv', 'p.csv', *words)
+        status, text, told = call('r.csv')
+        self.assertEqual((status, text), (1, ''))
+        self.assertIn('r.csv:1: no column is called `capacity`', told)
+        self.assertIn('as --capacity \'Places\', and --one-place', told)
+        wanted = 'stable 1 hospitals\np a: x\np b: x\nr x [2]: a b\nend\n'
+        self.assertEqual(call('r.csv', '--capacity', 'places')[:2], (0, wanted))
+        self.assertEqual(call('r.csv', '--skip', 'places', '--one-place')[1], wanted.replace('hospitals', 'marriage').replace(' [2]', ''))
+        self.assertEqual(call('s.csv', '--capacities', 'c.csv')[1], wanted.replace('end', 'r y [0]:\nend'))
+        self.assertIn('there is no column \'Platz\'; the columns are \'n\', \'Places\'', call('r.csv', '--capacity', 'Platz')[2])
+        self.assertIn('said twice', call('r.csv', '--capacity', 'Places', '--capacities', 'c.csv')[2])
+        self.put('c.csv', 'n,k\ny,1\ny,2\nz,many\n')
+        told = call('s.csv', '--capacities', 'c.csv')[2]
+        for what in ('c.csv:3: \'y\' has a row already, on line 2', 'c.csv:4: the capacity \'many\'', 's.csv:2: \'x\' has no row in c.csv'):
+            self.assertIn(what, told)
+
+    def test_forms_of_numbers(self):
+        """Tables of ranks and with a row for each choice, with points and ties, give the lists that the numbers mean."""
+        p = 'n,1,2\na,x,y\nb,y\nc,y,x\n'
+        wanted = 'stable 1 marriage\np a: x y\np b: y\np c: y x\nr x: c a\nr y: b c a\nend\n'
+        for r, words in (
+                ('n,a,b,c\nx,2,,1\ny,3,1,2\n', ['--ranks', 'reviewers']), ('n,a,b,c\nx,50,,50.5\ny,"0,5",9,1\n', ['--ranks', 'reviewers', '--points', 'reviewers']),
+                ('n,who,rank\nx,a,2\nx,c,1\ny,a,3\ny,b,1\ny,c,2\n', ['--long', 'reviewers']),
+                ('n,who\nx,c\ny,b\ny,c\nx,a\ny,a\n', ['--long', 'reviewers']),
+                ('n,who,p\ny,a,-1\nx,a,0\nx,c,7\ny,b,10\ny,c,9\n', ['--long', 'reviewers', '--points', 'reviewers'])):
+            lines = self.made([p, r], *words)[0].splitlines()
+            self.assertEqual(sorted(lines), sorted(wanted.splitlines()), r)
+        self.assertEqual(self.made(['n,a,b\na,,1\nb,1,\n'], '--ranks', 'both')[0], 'stable 1 roommates\np a: b\np b: a\nend\n')
+
+    def test_lot(self):
+        """Ties are broken by the order of SHA-256 sums, on all lists alike, and the lot is kept beside the names."""
+        names = [f'Zoë {i}' for i in range(8)]
+        p = 'n,1,2\n' + ''.join(f'{it},x,y\n' for it in names)
+        r = 'n,who,points\n' + ''.join(f'{s},{it},{5 if i else 9}\n' for s in 'yx' for i, it in enumerate(names))
+        text, table_text = self.made([p, r], '--long', 'reviewers', '--points', 'reviewers', '--lot', '2027')
+        self.assertIn('12 ties were broken by the lot 2027', self.told[-1])
+        def order(number):
+            return sorted(names, key=lambda it: hashlib.sha256(f'{number} {it}'.encode()).hexdigest())
+        wanted = [names[0]] + [it for it in order(2027) if it != names[0]]
+        market = brute.Market(text)
+        rows = table(table_text)
+        given = {row[1]: row[2] for row in rows[1:]}
+        self.assertEqual([[given[it] for it in row] for row in market.r.values()], [wanted, wanted])
+        self.assertEqual(rows[0], ['side', 'name', 'original', 'lot 2027'])
+        self.assertEqual([row[3] for row in rows[1:9]], [str(order(2027).index(it) + 1) for it in names])
+        self.assertEqual(self.given_back('answer solve side=proposers\npair Zoe_0 x\nend\n')[1], ['Zoë 0', 'x'])
+        self.assertNotEqual(self.made([p, r], '--long', 'reviewers', '--points', 'reviewers', '--lot', '2')[0], text)
+
+    def test_conditions(self):
+        """Tables of weights and of forced and forbidden pairs."""
+        p, r = 'n,1,2\nä b,x,y\nb,y\n', 'n,1,2\nx,ä b\ny,b,ä b\n'
+        self.put('w.csv', 'who;where;miles\nä b;y;7\nb;y;-3\nb;x;1\n')
+        self.put('f.csv', 'who,where\nb,y\n')
+        text, _ = self.made([p, r], '--weights', 'w.csv', '--forced', 'f.csv', '--forbidden', 'f.csv')
+        self.assertEqual(text, 'stable 1 marriage\np a_b: x y\np b: y\nr x: a_b\nr y: b a_b\nweight a_b y 7\nweight b y -3\nweight b x 1\n'
+                         'force b y\nforbid b y\nend\n')
+        self.assertEqual(self.told[-1], 'from_csv: 1 `weight` lines are of pairs that don\'t list each other, and have no effect')
+        os.remove(os.path.join(self.folder.name, 'names.csv'))
+        self.put('w.csv', 'who,where,miles\nx,b,1\nb,y,1.5\nb,z,1\nb,y,2\nb,y,2\n')
+        told = self.refused([p, r], '--weights', 'w.csv')
+        for what in ('w.csv:2: \'x\' isn\'t in p.csv; the proposer stands first', 'w.csv:3: the weight \'1.5\' is no whole number',
+                     'w.csv:4: \'z\' isn\'t in r.csv', 'w.csv:6: this pair has a row already, on line 5'):
+            self.assertIn(what, told)
+
+    def test_counts(self):
+        """Choices that aren't returned are counted, and it is told where the program will refuse the seats."""
+        self.made(['n,1,2\na,x,y\nb,y,x\n', 'n,1,2\nx,a\ny,b\n'])
+        self.assertEqual(self.told, ['from_csv: p.csv has 2 agents with 4 choices, r.csv has 2 agents with 2 choices and 2 places',
+                                     'from_csv: 2 choices of p.csv aren\'t returned, and have no effect'])
+        self.made(['n;1\na;x\n', 'n,1,2\nx,a\ny,a\n'])
+        self.assertEqual(self.told[1:], ['from_csv: cells of p.csv are divided by \';\'',
+                                         'from_csv: 1 choice of r.csv isn\'t returned, and has no effect'])
+        names = [f'a{i}' for i in range(1025)]
+        p, r = 'n,1\n' + ''.join(f'{it},x\n' for it in names), f'n,capacity,1\nx,1025,{";".join(names)}\n'
+        self.made([p, r], '--in-cell', ';')
+        self.assertIn('come to 1,050,625, and with more than 1,048,576', self.told[-1])
 
     def test_entries(self):
         """One choice too many."""
@@ -261,11 +376,36 @@ class Tables(unittest.TestCase):
         self.assertEqual(self.call('to_csv', 'names.csv', stdin='answer pairs\nall r0 h\nsome r1 k\nend\n')[1],
                          'proposer,reviewer,in\n"Ann, A.",St. H,all\nr1,k,some\n')
 
+    def test_listed(self):
+        """An answer of `list` as a table, and a byte order mark."""
+        self.names_of('five_rotations')
+        words = ['names.csv', os.path.join(EXAMPLES, 'five_rotations.list'), '--instance', os.path.join(EXAMPLES, 'five_rotations.txt')]
+        status, text, fault = self.call('to_csv', *words)
+        self.assertEqual((status, fault), (0, ''))
+        rows = table(text)
+        self.assertEqual(rows[0], ['proposer', *(f'matching {i}' for i in range(1, 10))])
+        stable = brute.Market(text_of(EXAMPLES, 'five_rotations.txt')).stable()
+        columns = [{row[0][1:-3]: row[i][1:-3] for row in rows[1:]} for i in range(1, 10)]
+        self.assertEqual(columns, [stable[vector] for vector in sorted(stable)])
+        self.assertEqual(self.call('to_csv', '--bom', *words)[1], '\ufeff' + text)
+        self.names_of('unmatched')
+        self.put('i.txt', text_of(EXAMPLES, 'unmatched.txt'))
+        text = self.call('to_csv', 'names.csv', '--instance', 'i.txt', stdin='answer list limit=100\nvector 2,2,1\nend\n')[1]
+        self.assertEqual(table(text)[2], ['bben, x', ''])
+        for answer, words, status, what in (('vector 2,2', ['--instance', 'i.txt'], 1, ':2: this can\'t be an answer to i.txt'),
+                                            ('vector 2,2,9', ['--instance', 'i.txt'], 1, ':2: this can\'t'),
+                                            ('vector 2,,1', ['--instance', 'i.txt'], 1, ':2: no line of an answer'),
+                                            ('vector 2,2,1', [], 2, '--instance INSTANCE says whose')):
+            got = self.call('to_csv', 'names.csv', *words, stdin=f'answer list limit=100\n{answer}\nend\n')
+            self.assertEqual(got[:2], (status, ''))
+            self.assertIn(what, got[2])
+
     def test_wrong_answers(self):
         right = text_of(EXAMPLES, 'both_sides.solve')
         self.names_of('both_sides')
         for old, new, what in (
                 ('answer', 'refused BadLine 3\n', 'refused the instance: refused BadLine 3'),
+                ('answer', 'refused NotStable 9 left blocks a b\n', 'refused a given matching: refused NotStable 9'),
                 ('answer', 'usage 2\n', 'faulty word: usage 2'), ('end\n', '', 'standard input:5: the answer isn\'t whole'),
                 ('solve side=proposers', 'survey limit=100', 'have no table'), ('pair ann art', 'none', 'no such matching'),
                 ('pair ann art', 'pair zoe art', 'standard input:2: names.csv has no proposer zoe'),

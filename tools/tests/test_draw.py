@@ -191,6 +191,29 @@ class Draw(unittest.TestCase):
         self.assertEqual(status, 1)
         self.assertIn('more than 300', fault)
 
+    def test_partners(self):
+        """Each box has the pairs of its matching, and who is unmatched isn't there."""
+        picture = draw(example('five_rotations.txt'), example('five_rotations.rotations'), '--lattice', '--partners')[1]
+        stable = brute.Market(example('five_rotations.txt')).stable()
+        boxes = [dict(it.split(': ') for it in label if ': ' in it) for label in nodes_of(picture).values()]
+        self.assertEqual(sorted(map(sorted, map(dict.items, boxes))), sorted(sorted(it.items()) for it in stable.values()))
+        picture = draw(example('unmatched.txt'), 'answer rotations\nfirst ann biology\nfirst cem art\nend\n', '--lattice', '--partners')[1]
+        self.assertEqual(list(nodes_of(picture).values()),
+                         [['best for the proposers', 'best for the reviewers', 'ann: biology', 'cem: art', '{}']])
+
+    def test_names(self):
+        """Names of a scheme, with what a label can't hold as it is."""
+        with tempfile.TemporaryDirectory() as folder:
+            names = os.path.join(folder, 'names.csv')
+            with open(names, 'w', encoding='utf-8') as file:
+                file.write('side,name,original\nproposer,m1,"M ""1"" \\n"\nproposer,m2,Мия\nreviewer,a,A & B\nreviewer,b,"two\nlines"\n')
+            texts = example('two_by_two.txt'), example('two_by_two.rotations')
+            self.assertIn('label="rotation 1\\lM \\"1\\" \\\\n: A &amp; B to two lines\\lМия: two lines to A &amp; B\\l"', draw(*texts, '--names', names)[1])
+            self.assertIn('\\nМия: two lines\\n', draw(*texts, '--names', names, '--lattice', '--partners')[1])
+            status, _, fault = draw(example('three_cycle.txt'), example('three_cycle.rotations'), '--names', names)
+            self.assertEqual(status, 1)
+            self.assertIn('names.csv has no reviewer c', fault)
+
     def test_no_rotation(self):
         text = example('unmatched.txt')
         status, picture, _ = draw(text, 'answer rotations\nfirst ann biology\nfirst cem art\nend\n', '--lattice')
@@ -346,7 +369,7 @@ class Draw(unittest.TestCase):
                 self.assertIn('m1: a to b', text_of(file))
 
     def test_words(self):
-        for words in (['--most', '0'], ['--most', 'x'], ['--latt'], ['--net', '--lattice'], ['a', 'b']):
+        for words in (['--most', '0'], ['--most', 'x'], ['--latt'], ['--net', '--lattice'], ['--partners'], ['--net', '--names', 'n'], ['a', 'b']):
             self.assertEqual(draw(example('two_by_two.txt'), '', *words)[0], 2, words)
 
 

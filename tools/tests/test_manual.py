@@ -44,6 +44,25 @@ class Manual(unittest.TestCase):
         self.assertIn('TooLong', names)
         self.assertEqual(headings(section_of(self.page, 'REFUSALS')), names)
 
+    def test_verdicts(self):
+        names = re.findall(r'^\| `(\w+)` \|', self.formats.split('| Reason | At |')[1].split('\n\n')[0], re.M)
+        self.assertIn('Blocked', names)
+        self.assertEqual(headings(section_of(self.page, 'VERDICTS')), names)
+
+    def test_explained(self):
+        """Each reason has a paragraph, which is all that stands below its name; the script prints it where it knows the word."""
+        script = text_of(os.path.join(TOP, 'matchbench'))
+        for title in ('REFUSALS', 'VERDICTS'):
+            section = section_of(self.page, title)
+            for name in headings(section):
+                found = re.search(rf'\n\.B {name}\n\.\\" explain {name}\n([^.][^\0]*?\n)\.\\" explain ends(\n\.TP|\Z)', section)
+                self.assertTrue(found, name)
+                lines = found.group(1).replace('\\-', '-')
+                self.assertTrue(all(len(it) <= 72 and it[0] not in '.\'' and '\\' not in it for it in lines.splitlines()), name)
+                if '--explain)' in script:
+                    done = subprocess.run([os.path.join(TOP, 'matchbench'), '--explain', name], capture_output=True, text=True)
+                    self.assertEqual((done.returncode, done.stdout, done.stderr), (0, lines, ''))
+
     def test_statuses(self):
         statuses = re.findall(r'^\| \w+ \| (\d) \|', part_of(self.formats, 'Statuses'), re.M)
         self.assertIn('2', statuses)

@@ -1,0 +1,47 @@
+"""The program, as tools call it."""
+import os
+import shutil
+import subprocess
+
+from .command import Fault
+
+TOP = os.path.dirname(os.path.dirname(os.path.dirname(os.path.realpath(__file__))))
+STATUSES = {4: 'there was no memory', 5: 'reading failed', 6: 'writing failed', 8: 'the system refuses the words',
+            70: 'the program wasn\'t built'}
+
+
+def path():
+    """The file to call: that of `MATCHBENCH` in the environment, else the script at the top of the repository, else what is on
+    the PATH.
+    """
+    own = os.environ.get('MATCHBENCH')
+    if own:
+        return own
+    script = os.path.join(TOP, 'matchbench')
+    if os.access(script, os.X_OK):
+        return script
+    found = shutil.which('matchbench')
+    if found is None:
+        raise Fault('the program matchbench isn\'t beside the tools and not on the PATH; MATCHBENCH in the environment names its file')
+    return found
+
+
+def start(words, file):
+    """Starts the program with words, on the bytes of an open file."""
+    return subprocess.Popen([path(), *words], stdin=file, stdout=subprocess.PIPE)
+
+
+def ask(words, data):
+    """The answer to words and a text. Raises where the program has none, with its status."""
+    done = subprocess.run([path(), *words], input=data, stdout=subprocess.PIPE)
+    if done.returncode != 0:
+        raise Fault(trouble(done.stdout, done.returncode), done.returncode)
+    return done.stdout
+
+
+def trouble(written, status):
+    """What a status that isn't 0 is told as."""
+    line = written.split(b'\n')[0].decode('latin-1')
+    if line.split(' ')[0] in ('refused', 'usage'):
+        return f'the program says: {line}'
+    return f'the program ended with {status}' + (f': {STATUSES[status]}' if status in STATUSES else '')

@@ -1,0 +1,107 @@
+"""`trim` against all stable matchings found by trying all matchings, and against the program's answers where it is built."""
+import os
+import unittest
+
+import brute
+import inside
+import program
+
+EXAMPLES = os.path.join(inside.TOOLS, '..', 'examples')
+COMMANDS = ('solve', 'solve side=reviewers', 'rotations', 'list limit=1000', 'list limit=2', 'pairs', 'regret', 'survey limit=1000',
+            'weight by=ranks', 'weight by=given')
+
+
+def trim(text):
+    """The status of `trim` on a text, what it writes, and what it tells."""
+    return inside.call('trim', stdin=text)
+
+
+def crowd(pupils, schools, places, listed):
+    """A made instance of a placement: each pupil lists so many schools, turned from pupil to pupil, and each school whoever
+    lists it, from another pupil on.
+    """
+    rows = {f'p{i}': [f's{(i * 7 + k * (1 + i % 3)) % schools}' for k in range(listed)] for i in range(pupils)}
+    there = {f's{k}': [] for k in range(schools)}
+    for p, row in rows.items():
+        for s in row:
+            there[s].append(p)
+    for k, row in enumerate(there.values()):
+        row.sort(key=lambda p: (int(p[1:]) * 31 + k * 17) % 1009)
+    lines = [f'p {p}: {" ".join(row)}' for p, row in rows.items()]
+    lines += [f'r {s} [{places}]: {" ".join(row)}' for s, row in there.items()]
+    return '\n'.join(['stable 1 hospitals'] + lines + ['end', ''])
+
+
+class Trim(unittest.TestCase):
+    def agrees(self, text):
+        """The cut text has fronts of the lists and the same stable matchings with the same ranks, and all answers are the same."""
+        status, cut, told = trim(text)
+        self.assertEqual((status, told.split(' ')[0]), (0, 'trim:'), told)
+        before, after = brute.Market(text), brute.Market(cut)
+        self.assertEqual(before.capacities, after.capacities)
+        for own, other in ((before.p, after.p), (before.r, after.r)):
+            self.assertEqual(list(own), list(other))
+            self.assertTrue(all(row[:len(other[name])] == other[name] for name, row in own.items()))
+        stable = before.stable()
+        self.assertEqual(stable, after.stable(), text)
+        self.assert_no_longer(after, stable)
+        if program.PATH:
+            for words in COMMANDS:
+                self.assertEqual(program.ask(cut, *words.split()), program.ask(text, *words.split()), (words, text))
+        return cut != text, len(stable)
+
+    def assert_no_longer(self, market, stable):
+        """Full reviewers' and matched proposers' lists end with somebody whom they have in a stable matching."""
+        for r, row in market.r.items():
+            if 0 < market.capacities[r] == len(market.at(stable[min(stable)], r)):
+                self.assertTrue(any(has.get(row[-1]) == r for has in stable.values()))
+        for p, row in market.p.items():
+            self.assertTrue(p not in stable[min(stable)] or any(has[p] == row[-1] for has in stable.values()))
+
+    def test_random(self):
+        got = [self.agrees(brute.made_any(seed, 5)) for seed in range(30)]
+        self.assertGreater(sum(cut for cut, _ in got), 12)
+        self.assertGreater(max(count for _, count in got), 1)
+
+    def test_random_opposed(self):
+        got = [self.agrees(make(seed)) for seed in range(5) for make in (brute.made, brute.made_hospitals)]
+        self.assertGreater(max(count for _, count in got), 3)
+
+    def test_lines(self):
+        """Comments, blanks, and what isn't cut stay as they are; `south` has no place, and `west` isn't full."""
+        with open(os.path.join(EXAMPLES, 'hospitals.txt'), encoding='utf-8') as file:
+            text = file.read()
+        other = text.replace('r city [2]: cem ann ben dan', ' r\tcity [2] :cem ann  ben dan # two')
+        status, cut, told = trim(other.replace('\n', '\r\n'))
+        self.assertEqual((status, told), (0, 'trim: 11 entries on the lists of seats, 9 of them kept, where 1,048,576 is the most\n'))
+        wanted = other.replace('\n', '\r\n').replace(' :cem ann  ben dan # two\r', ' : cem ann ben # two')
+        self.assertEqual(cut, wanted)
+        self.assertEqual(trim(cut)[1], cut)
+
+    def test_size(self):
+        """An instance above the limit fits afterwards; lists that are short of nothing don't."""
+        text = crowd(2000, 41, 40, 14)
+        status, cut_crowd, told = trim(text)
+        self.assertEqual(status, 0)
+        self.assertEqual(told, 'trim: 1,120,000 entries on the lists of seats, 65,600 of them kept, where 1,048,576 is the most\n')
+        names = [f'p{i}' for i in range(1100)]
+        text = '\n'.join(['stable 1 hospitals', f'r h [1050]: {" ".join(names)}', *(f'p {name}: h' for name in names), 'end', ''])
+        status, cut, told = trim(text)
+        self.assertEqual((status, cut), (1, ''))
+        self.assertIn('standard input: 1,155,000 entries on the lists of seats, 1,102,500 of them kept', told)
+        status, fitting, told = trim(text.replace('[1050]', '[1020]'))
+        self.assertEqual(status, 0)
+        if program.PATH:
+            self.assertEqual([program.ask(it, 'solve')[0] for it in (cut_crowd, fitting)], [0, 0])
+
+    def test_refused(self):
+        for text, fault in (('stable 1 roommates\np a: b\np b: a\nend\n', 'trim: standard input: roommates have no seats, and nothing'),
+                            ('stable 1 marriage\np a: b\nend\n', 'trim: standard input:2: nobody has this name: b (UnknownName)'),
+                            ('', 'trim: standard input:1: this is no header')):
+            status, cut, told = trim(text)
+            self.assertEqual((status, cut), (1, ''))
+            self.assertTrue(told.startswith(fault), told)
+
+
+if __name__ == '__main__':
+    unittest.main()
