@@ -86,6 +86,18 @@ class Manual(unittest.TestCase):
             done = subprocess.run(['groff', '-man', '-ww', '-z', PAGE], capture_output=True, text=True)
             self.assertEqual((done.returncode, done.stderr), (0, ''))
 
+    def test_words(self):
+        """No words run together: macros that alternate fonts leave no space between their arguments."""
+        for line in re.findall(r'^\.(?:BI|BR|IB|IR|RB|RI) (.*)$', self.page, re.M):
+            joined = re.sub(r'(?<!\\) +', '', line).replace('\\ ', ' ')
+            for word in joined.split():
+                self.assertLessEqual(len(word), 35, line)
+        if shutil.which('groff'):
+            page = subprocess.run(['groff', '-man', '-Tascii', '-P-cbou', PAGE], capture_output=True, text=True, check=True).stdout
+            self.assertIn('NAME', page)
+            for word in page.split():
+                self.assertLessEqual(len(word), 35, word)
+
 
 def headings(section):
     """The lines of a section that are the tags of paragraphs."""
