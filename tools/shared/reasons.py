@@ -68,6 +68,7 @@ COMMANDS = {
 VALUES = {
     'side': 'side=proposers or side=reviewers', 'by': 'by=ranks or by=given', 'limit': 'limit= and a number from 1 to 1,000,000, without commas',
     'after': 'after= and numbers with a comma between each two, without blanks',
-    'shape': 'shape=copies, shape=cycle, shape=random, shape=hospitals or shape=rooms', 'size': 'size= and a number from 1 to 512, or to 2,048 for copies',
+    'shape': 'shape=copies, shape=cycle, shape=random, shape=hospitals or shape=rooms',
+    'size': 'size= and a number from 1 to 512, or to 2,048 for copies',
     'seed': 'seed= and a number from 0 to 18,446,744,073,709,551,615, without commas', 'show': 'show=text or show=summary',
 }

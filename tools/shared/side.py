@@ -121,8 +121,13 @@ class Side:
         """How some cells with choices are told of where none, or hardly one, has a name of the other table, else nothing. One cell
         alone tells nothing.
         """
-        known = sum(any(other.number(it) is not None for it in parts_of(cell, self.form.mark)) for cell in cells)
-        return 'no' if known == 0 and len(cells) > 1 else 'hardly a' if known * 10 < len(cells) and len(cells) > 9 else ''
+        known = 0
+        for cell in cells:
+            if any(other.number(it) is not None for it in parts_of(cell, self.form.mark)):
+                known += 1
+                if known * 10 >= len(cells):
+                    return ''
+        return 'hardly a' if known else 'no' if len(cells) > 1 else ''
 
     def tell_strange(self, other, faults):
         """Tells once of a table or of a column without a known name; the choices there are left out then."""
@@ -195,7 +200,10 @@ class Side:
                         faults.add(self.file, line, f'the {self.form.number} {written!r} is no number')
                     else:
                         found[number] = (-value if self.form.has_points and written is not None else value, line)
-            lists.append(sorted(found, key=lambda it: (found[it][0], other.lot[it] if other.lot else 0)))
+            lists.append(list(found))
+            if self.form.kind == WIDE:
+                continue
+            lists[-1].sort(key=lambda it: (found[it][0], other.lot[it] if other.lot else 0))
             ties += [(found[two][1], one, two) for one, two in zip(lists[-1], lists[-1][1:]) if found[one][0] == found[two][0]]
         if ties and other.lot is None:
             line, one, two = ties[0]

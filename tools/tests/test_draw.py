@@ -1,14 +1,16 @@
 """`draw` on the examples against stored pictures, and against all stable matchings found by trying all matchings."""
+import functools
 import itertools
 import os
 import random
 import re
 import subprocess
-import sys
 import tempfile
 import unittest
+from unittest import mock
 
 import brute
+import inside
 
 HERE = os.path.dirname(os.path.realpath(__file__))
 TOP = os.path.join(HERE, '..', '..')
@@ -32,9 +34,16 @@ def draw(instance, answer, *words, path=None):
         file = os.path.join(folder, 'instance.txt')
         with open(file, 'w', encoding='utf-8') as out:
             out.write(instance)
-        done = subprocess.run([sys.executable, '-S', os.path.join(HERE, '..', 'draw'), *words, file], input=answer.encode(),
-                              capture_output=True, env={**os.environ, 'PATH': path} if path else None)
-        return done.returncode, done.stdout.decode(), done.stderr.decode().replace(folder + os.sep, '')
+        with mock.patch.dict(os.environ, {'PATH': path} if path else {}):
+            status, picture, fault = inside.call('draw', *words, file, stdin=answer)
+        return status, picture, fault.replace(folder + os.sep, '')
+
+
+@functools.lru_cache(None)
+def rotations_of(text):
+    """The answer of `rotations` for an instance, by all matchings; that of hospitals by seats."""
+    market = brute.Market(text)
+    return brute.answer_of(brute.seated(market)).replace('.', '/') if 'hospitals' in text else brute.answer_of(market)
 
 
 def nodes_of(picture):
@@ -132,7 +141,7 @@ class Draw(unittest.TestCase):
         counts = set()
         for seed in range(25):
             text = brute.made(seed)
-            counts.add(self.agrees(text, brute.answer_of(brute.Market(text))))
+            counts.add(self.agrees(text, rotations_of(text)))
         self.assertGreater(max(counts), 4)
         self.assertIn(1, counts)
 
@@ -159,8 +168,7 @@ class Draw(unittest.TestCase):
         counts = set()
         for seed in range(20):
             text = brute.made_hospitals(seed)
-            answer = brute.answer_of(brute.seated(brute.Market(text))).replace('.', '/')
-            counts.add(self.agrees(text, answer))
+            counts.add(self.agrees(text, rotations_of(text)))
         self.assertGreater(max(counts), 3)
         self.assertIn(1, counts)
 
@@ -326,10 +334,9 @@ class Draw(unittest.TestCase):
         counts = set()
         for seed in range(40):
             text = brute.made(seed)
-            counts.add(self.conditions_agree(text, brute.answer_of(brute.Market(text)), seed))
+            counts.add(self.conditions_agree(text, rotations_of(text), seed))
             text = brute.made_hospitals(seed)
-            answer = brute.answer_of(brute.seated(brute.Market(text))).replace('.', '/')
-            counts.add(self.conditions_agree(text, answer, seed))
+            counts.add(self.conditions_agree(text, rotations_of(text), seed))
         self.assertTrue({0, 1, 2, 3} <= counts, counts)
 
     def test_wrong_nets(self):

@@ -1,5 +1,6 @@
 """`trim` against all stable matchings found by trying all matchings, and against the program's answers where it is built."""
 import os
+import random
 import unittest
 
 import brute
@@ -32,6 +33,11 @@ def crowd(pupils, schools, places, listed):
     return '\n'.join(['stable 1 hospitals'] + lines + ['end', ''])
 
 
+def lines_of(keyword, has):
+    """A matching as lines behind an instance."""
+    return ''.join(f'{keyword} {p} {r}\n' for p, r in has.items())
+
+
 class Trim(unittest.TestCase):
     def agrees(self, text):
         """The cut text has fronts of the lists and the same stable matchings with the same ranks, and all answers are the same."""
@@ -48,6 +54,7 @@ class Trim(unittest.TestCase):
         if program.PATH:
             for words in COMMANDS:
                 self.assertEqual(program.ask(cut, *words.split()), program.ask(text, *words.split()), (words, text))
+            self.judged_alike(text, cut, before, stable)
         return cut != text, len(stable)
 
     def assert_no_longer(self, market, stable):
@@ -57,6 +64,15 @@ class Trim(unittest.TestCase):
                 self.assertTrue(any(has.get(row[-1]) == r for has in stable.values()))
         for p, row in market.p.items():
             self.assertTrue(p not in stable[min(stable)] or any(has[p] == row[-1] for has in stable.values()))
+
+    def judged_alike(self, text, cut, market, stable):
+        """A matching gets the same verdict, and two stable ones have the same meet and join."""
+        has = random.Random(text).choice(list(market.matchings()))
+        answer = f'answer solve side=proposers\n{lines_of("pair", has)}end\n'
+        self.assertEqual(program.ask(cut + answer, 'check')[0], program.ask(text + answer, 'check')[0], (text, has))
+        both = lines_of('left', stable[min(stable)]) + lines_of('right', stable[max(stable)]) + 'end\n'
+        for words in ('meet', 'join'):
+            self.assertEqual(program.ask(cut + both, words), program.ask(text + both, words))
 
     def test_random(self):
         got = [self.agrees(brute.made_any(seed, 5)) for seed in range(30)]
