@@ -8,6 +8,8 @@
 #[cfg(test)]
 mod instances;
 #[cfg(test)]
+mod json;
+#[cfg(test)]
 mod keys;
 #[cfg(test)]
 mod lines;

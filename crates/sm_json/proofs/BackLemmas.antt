@@ -1,0 +1,183 @@
+-- The value of an instance gives its parts again.
+use Rattle.std.proofs.Common.{◌≡◌, ◌≢◌, ℕ, ◌≤◌, Bool, true, false, le-leb, List, [], ◌∷◌, map, All, Option, Some, None, option_map, if◌then◌else◌, refl, sym, ap, ◌∙◌, append-nil, ℤ, pos, negsuc}
+use Rattle.std.specs.Option.{option_and_then}
+use Rattle.std.specs.Int.RustNames.{unsigned_abs}
+use Rattle.std.specs.List.{list_any}
+use Rattle.std.proofs.lemmas.List.Elements.{All-head, All-tail}
+use Rattle.serde_json.specs.Data.{Data, number, string}
+use Rattle.serde_json.specs.Find.{of_integer}
+use Rattle.sm_text.specs.Limits.{most_capacity, most_weight}
+use Rattle.sm_text.specs.Name.{is_name}
+use Rattle.sm_instance.specs.Named.{SaidAgent, SaidPair, SaidWeight, Said}
+use Rattle.sm_instance.specs.declared.kinds.Kind.{Kind}
+use Rattle.sm_instance.specs.declared.kinds.Kind.TheVariants.{Marriage, Hospitals, Roommates}
+use Rattle.sm_printed.specs.Printed.{proposer_line, reviewer_line, weight_line, printed_lines}
+use Rattle.sm_json.specs.Values.{items_in, every, name_in, names_in, if_capacity, weight_in}
+use Rattle.sm_json.specs.Parts.{JsonWeight, JsonInstance, agent_of, agent_in, agents_in, pair_in, pairs_in, weight_of, pair_weight_in, weights_in, instance_of, instance_in, by_member, of_parts, has_capacities, has_four, asks_second}
+use Rattle.sm_json.specs.JsonText.{json_lines, json_weight_line}
+use Rattle.sm_json.specs.Making.{array_of, agent_json, pair_json, weight_json, two_json, room_json}
+use Rattle.sm_json.proofs.AddLemmas.{list_again}
+use Rattle.sm_json.specs.Saying.{IsSaidAgent, IsSaidPair, IsSaidWeight, IsSaid}
+
+-- what is given for each item is found for each
+module _ {A B : Type 0} (S : A → Type 0) (g : A → Data) (f : Data → Option B) (h : A → B) (each : (x : A) → S x → f (g x) ≡ Some (h x)) where
+  every_again : (xs : List A) → All S xs → every f (map g xs) ≡ Some (map h xs)
+  every_again [] sound = refl
+  every_again (x ∷ xs) sound =
+      ap (option_and_then (λ y. option_map (λ ys. y ∷ ys) (every f (map g xs)))) (each x (All-head S x xs sound))
+      ∙ ap (option_map (λ ys. h x ∷ ys)) (every_again xs (All-tail S x xs sound))
+
+  pub array_again : (xs : List A) → All S xs → option_and_then (every f) (items_in (array_of g xs)) ≡ Some (map h xs)
+  array_again xs sound = ap (every f) (list_again (map g xs)) ∙ every_again xs sound
+
+-- a name
+name_again : (s : List ℕ) → is_name s ≡ true → name_in (string s) ≡ Some s
+name_again s h = ap (λ t. if t then Some s else None) h
+
+map_same : {X : Type 0} (xs : List X) → map (λ x. x) xs ≡ xs
+map_same [] = refl
+map_same (x ∷ xs) = ap (λ t. x ∷ t) (map_same xs)
+
+-- names
+names_again : (names : List (List ℕ)) → All (λ name. is_name name ≡ true) names → names_in (array_of string names) ≡ Some names
+names_again names sound = array_again (λ name. is_name name ≡ true) string name_in (λ name. name) name_again names sound ∙ ap Some (map_same names)
+
+-- an agent, on no line
+abbrev unlined : SaidAgent → SaidAgent
+unlined agent = agent_of agent.name agent.capacity agent.entries
+
+capacity_again : (n : ℕ) → n ≤ most_capacity → if_capacity n ≡ Some n
+capacity_again n h = ap (λ t. if t then Some n else None) (le-leb n most_capacity h)
+
+agent_again : (has_capacity : Bool) (agent : SaidAgent) → IsSaidAgent has_capacity agent → agent_in has_capacity (agent_json has_capacity agent) ≡ Some (unlined agent)
+agent_again false agent sound =
+    ap (option_and_then (λ name. option_map (agent_of name 1) (names_in (array_of string agent.entries)))) (name_again agent.name sound.name)
+    ∙ ap (option_map (agent_of agent.name 1)) (names_again agent.entries sound.entries)
+    ∙ ap (λ n. Some (agent_of agent.name n agent.entries)) (sym (sound.one refl))
+agent_again true agent sound =
+    ap (option_and_then (λ name. option_and_then (λ capacity. option_map (agent_of name capacity) (names_in (array_of string agent.entries))) (if_capacity agent.capacity)))
+    (name_again agent.name sound.name)
+    ∙ ap (option_and_then (λ capacity. option_map (agent_of agent.name capacity) (names_in (array_of string agent.entries)))) (capacity_again agent.capacity sound.capacity)
+    ∙ ap (option_map (agent_of agent.name agent.capacity)) (names_again agent.entries sound.entries)
+
+agents_again : (has_capacity : Bool) (agents : List SaidAgent) → All (IsSaidAgent has_capacity) agents → agents_in has_capacity (array_of (agent_json has_capacity) agents) ≡ Some (map unlined agents)
+agents_again has_capacity agents sound = array_again (IsSaidAgent has_capacity) (agent_json has_capacity) (agent_in has_capacity) unlined (agent_again has_capacity) agents sound
+
+-- a pair
+pair_again : (pair : SaidPair) → IsSaidPair pair → pair_in (pair_json pair) ≡ Some pair
+pair_again pair sound =
+    ap (option_and_then (λ p. option_map (λ r. record { proposer = p; reviewer = r; line = 0 }) (name_in (string pair.reviewer)))) (name_again pair.proposer sound.proposer)
+    ∙ ap (option_map (λ r. record { proposer = pair.proposer; reviewer = r; line = 0 })) (name_again pair.reviewer sound.reviewer)
+    ∙ ap (λ n. Some (record { proposer = pair.proposer; reviewer = pair.reviewer; line = n })) (sym sound.line)
+
+pairs_again : (pairs : List SaidPair) → All IsSaidPair pairs → pairs_in (array_of pair_json pairs) ≡ Some pairs
+pairs_again pairs sound = array_again IsSaidPair pair_json pair_in (λ pair. pair) pair_again pairs sound ∙ ap Some (map_same pairs)
+
+-- a weight
+abbrev weighed : SaidWeight → JsonWeight
+weighed x = weight_of x.pair x.weight None
+
+whole_again : (z : ℤ) → unsigned_abs z ≤ most_weight → weight_in (number (of_integer z)) ≡ Some z
+whole_again (pos n) h = ap (λ t. if t then Some (pos n) else None) (le-leb n most_weight h)
+whole_again (negsuc n) h = ap (λ t. if t then Some (negsuc n) else None) (le-leb (unsigned_abs (negsuc n)) most_weight h)
+
+weight_again : (x : SaidWeight) → IsSaidWeight x → pair_weight_in (weight_json x) ≡ Some (weighed x)
+weight_again x sound =
+    ap (option_and_then (λ pair. option_and_then (λ w. Some (weight_of pair w None)) (weight_in (number (of_integer x.weight))))) (pair_again x.pair sound.pair)
+    ∙ ap (option_and_then (λ w. Some (weight_of x.pair w None))) (whole_again x.weight sound.size)
+
+weights_again : (weights : List SaidWeight) → All IsSaidWeight weights → weights_in (array_of weight_json weights) ≡ Some (map weighed weights)
+weights_again weights sound = array_again IsSaidWeight weight_json pair_weight_in weighed weight_again weights sound
+
+-- a member that stands where it isn't empty
+abbrev member_if : {A : Type 0} → (A → Data) → List A → Option Data
+member_if f [] = None
+member_if f (x ∷ xs) = Some (array_of f (x ∷ xs))
+
+pairs_if : (pairs : List SaidPair) → All IsSaidPair pairs → by_member [] pairs_in (member_if pair_json pairs) ≡ Some pairs
+pairs_if [] sound = refl
+pairs_if (x ∷ xs) sound = pairs_again (x ∷ xs) sound
+
+weights_if : (weights : List SaidWeight) → All IsSaidWeight weights → by_member [] weights_in (member_if weight_json weights) ≡ Some (map weighed weights)
+weights_if [] sound = refl
+weights_if (x ∷ xs) sound = weights_again (x ∷ xs) sound
+
+-- the parts of the value of an instance with two sides
+abbrev parts_of : Kind → Said → Option JsonInstance
+parts_of kind said =
+    of_parts kind (asks_second (member_if weight_json said.weights) None) (agents_in false (array_of (agent_json false) said.proposers)) (agents_in (has_capacities kind) (array_of (agent_json (has_capacities kind)) said.reviewers))
+    (by_member [] weights_in (member_if weight_json said.weights)) (by_member [] pairs_in (member_if pair_json said.forced)) (by_member [] pairs_in (member_if pair_json said.forbidden))
+    (Some None)
+
+found_by : (kind : Kind) (said : Said) (weights : List SaidWeight) (forced forbidden : List SaidPair) → said.weights ≡ weights → said.forced ≡ forced → said.forbidden ≡ forbidden
+    → kind ≢ Roommates → (instance_in (two_json kind said) ≡ parts_of kind said)
+found_by Marriage said [] [] [] w f b two = rw (w, f, b) refl
+found_by Marriage said [] [] (z ∷ zs) w f b two = rw (w, f, b) refl
+found_by Marriage said [] (y ∷ ys) [] w f b two = rw (w, f, b) refl
+found_by Marriage said [] (y ∷ ys) (z ∷ zs) w f b two = rw (w, f, b) refl
+found_by Marriage said (x ∷ xs) [] [] w f b two = rw (w, f, b) refl
+found_by Marriage said (x ∷ xs) [] (z ∷ zs) w f b two = rw (w, f, b) refl
+found_by Marriage said (x ∷ xs) (y ∷ ys) [] w f b two = rw (w, f, b) refl
+found_by Marriage said (x ∷ xs) (y ∷ ys) (z ∷ zs) w f b two = rw (w, f, b) refl
+found_by Hospitals said [] [] [] w f b two = rw (w, f, b) refl
+found_by Hospitals said [] [] (z ∷ zs) w f b two = rw (w, f, b) refl
+found_by Hospitals said [] (y ∷ ys) [] w f b two = rw (w, f, b) refl
+found_by Hospitals said [] (y ∷ ys) (z ∷ zs) w f b two = rw (w, f, b) refl
+found_by Hospitals said (x ∷ xs) [] [] w f b two = rw (w, f, b) refl
+found_by Hospitals said (x ∷ xs) [] (z ∷ zs) w f b two = rw (w, f, b) refl
+found_by Hospitals said (x ∷ xs) (y ∷ ys) [] w f b two = rw (w, f, b) refl
+found_by Hospitals said (x ∷ xs) (y ∷ ys) (z ∷ zs) w f b two = rw (w, f, b) refl
+found_by Roommates said weights forced forbidden w f b two = absurd (two refl)
+
+-- no weight has a second one
+none_four : (weights : List SaidWeight) → list_any has_four (map weight_json weights) ≡ false
+none_four [] = refl
+none_four (x ∷ xs) = none_four xs
+
+none_second : (weights : List SaidWeight) → asks_second (member_if weight_json weights) None ≡ false
+none_second [] = refl
+none_second (x ∷ xs) = ap (list_any has_four) (list_again (map weight_json (x ∷ xs))) ∙ none_four (x ∷ xs)
+
+-- all parts are there
+all_there : (kind : Kind) (said : Said) → IsSaid (has_capacities kind) said
+    → parts_of kind said ≡ Some (instance_of kind false (map unlined said.proposers) (map unlined said.reviewers) (map weighed said.weights) said.forced said.forbidden None)
+all_there kind said sound =
+    rw (
+      none_second said.weights,
+      agents_again false said.proposers sound.proposers,
+      agents_again (has_capacities kind) said.reviewers sound.reviewers,
+      weights_if said.weights sound.weights,
+      pairs_if said.forced sound.forced,
+      pairs_if said.forbidden sound.forbidden,
+    ) refl
+
+-- the value of an instance with two sides
+pub two_again : (kind : Kind) (said : Said) → kind ≢ Roommates → IsSaid (has_capacities kind) said
+    → instance_in (two_json kind said) ≡ Some (instance_of kind false (map unlined said.proposers) (map unlined said.reviewers) (map weighed said.weights) said.forced said.forbidden None)
+two_again kind said two sound = found_by kind said said.weights said.forced said.forbidden refl refl refl two ∙ all_there kind said sound
+
+-- and that of roommates
+pub room_again : (said : Said) → All (IsSaidAgent false) said.proposers
+    → instance_in (room_json said) ≡ Some (instance_of Roommates false (map unlined said.proposers) [] [] [] [] None)
+room_again said sound = ap (option_map (λ persons. instance_of Roommates false persons [] [] [] [] None)) (agents_again false said.proposers sound)
+
+-- the lines of agents don't tell their lines
+proposers_printed : (agents : List SaidAgent) → map proposer_line (map unlined agents) ≡ map proposer_line agents
+proposers_printed [] = refl
+proposers_printed (a ∷ more) = ap (λ t. proposer_line a ∷ t) (proposers_printed more)
+
+reviewers_printed : (kind : Kind) (agents : List SaidAgent) → map (reviewer_line kind) (map unlined agents) ≡ map (reviewer_line kind) agents
+reviewers_printed kind [] = refl
+reviewers_printed kind (a ∷ more) = ap (λ t. reviewer_line kind a ∷ t) (reviewers_printed kind more)
+
+weights_printed : (weights : List SaidWeight) → map json_weight_line (map weighed weights) ≡ map weight_line weights
+weights_printed [] = refl
+weights_printed (x ∷ xs) =
+    ap (λ t. t ∷ map json_weight_line (map weighed xs)) (append-nil (weight_line x))
+    ∙ ap (λ t. weight_line x ∷ t) (weights_printed xs)
+
+-- the lines of the instance again
+pub lines_again : (kind : Kind) (said : Said)
+    → json_lines (instance_of kind false (map unlined said.proposers) (map unlined said.reviewers) (map weighed said.weights) said.forced said.forbidden None) ≡ printed_lines kind said
+lines_again kind said =
+    rw (proposers_printed said.proposers, reviewers_printed kind said.reviewers, weights_printed said.weights) refl

@@ -1,0 +1,9 @@
+pub mod AddLemmas
+pub mod BackLemmas
+pub mod DepthLemmas
+pub mod MakeLemmas
+pub mod PartLemmas
+pub mod ReadLemmas
+pub mod SoundLemmas
+pub mod WrapLemmas
+pub mod WitnessLemmas

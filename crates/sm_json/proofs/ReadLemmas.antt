@@ -1,0 +1,195 @@
+-- The text of an instance, part by part.
+use Rattle.std.proofs.Common.{◌≡◌, ℕ, Bool, true, false, List, [], ◌∷◌, ◌++◌, map, codes, Option, Some, None, option_map, refl, sym, ap, ◌∙◌, append_assoc, append-nil}
+use Rattle.std.specs.List.{flat_map}
+use Rattle.std.specs.Str.{IsUtf8, is_utf8}
+use Rattle.std.proofs.lemmas.Str.{IsUtf8-from_is_utf8, is_utf8-from_IsUtf8}
+use Rattle.serde_json.specs.Data.{Data}
+use Rattle.serde_json.specs.Find.{get}
+use Rattle.serde_json.specs.Read.{read}
+use Rattle.sm_instance.specs.Named.{SaidAgent, SaidPair}
+use Rattle.sm_instance.specs.declared.kinds.Kind.{Kind}
+use Rattle.sm_instance.specs.declared.kinds.Kind.TheVariants.{Marriage, Hospitals, Roommates}
+use Rattle.sm_report.specs.Fields.{spaced}
+use Rattle.sm_answer.specs.Writing.{text_of}
+use Rattle.sm_printed.specs.Printed.{proposer_line, reviewer_line, force_line, forbid_line}
+use Rattle.sm_json.specs.declared.agents.Role.TheVariants.{Proposer}
+use Rattle.sm_json.specs.Values.{has_only, names_in, if_so}
+use Rattle.sm_json.specs.Parts.{JsonWeight, agents_in, pairs_in, weights_in, order_in, at, at_or, by_member, instance_of, of_parts, asks_second, two_members, room_members, two_in, room_in, has_capacities}
+use Rattle.sm_json.specs.JsonText.{json_header, json_lines, json_weight_line, order_lines, value_in}
+use Rattle.sm_json.specs.Adding.{joined}
+use Rattle.sm_json.specs.Roles.{with_end, agents_added, pairs_added, weights_added, order_added}
+use Rattle.sm_json.specs.Reading.{instance_added, role_of, items_added, two_added, room_added}
+
+-- lines, and others behind them
+mapped : {A : Type 0} (f : A → List ℕ) (xs : List A) (rest : List (List ℕ)) → text_of (map f xs ++ rest) ≡ flat_map (λ x. with_end (f x)) xs ++ text_of rest
+mapped f [] rest = refl
+mapped f (x ∷ xs) rest =
+    ap (λ t. with_end (f x) ++ t) (mapped f xs rest) ∙ sym (append_assoc (with_end (f x)) (flat_map (λ x. with_end (f x)) xs) (text_of rest))
+
+-- the last line
+abbrev ending : List ℕ
+ending = codes "end\n"
+
+-- the texts of the parts
+abbrev proposer_texts : List SaidAgent → List ℕ
+proposer_texts p = flat_map (λ a. with_end (proposer_line a)) p
+
+abbrev reviewer_texts : Kind → List SaidAgent → List ℕ
+reviewer_texts kind r = flat_map (λ a. with_end (reviewer_line kind a)) r
+
+abbrev weight_texts : List JsonWeight → List ℕ
+weight_texts w = flat_map (λ x. with_end (json_weight_line x)) w
+
+abbrev force_texts : List SaidPair → List ℕ
+force_texts f = flat_map (λ x. with_end (force_line x)) f
+
+abbrev forbid_texts : List SaidPair → List ℕ
+forbid_texts b = flat_map (λ x. with_end (forbid_line x)) b
+
+abbrev order_text : Option (List (List ℕ)) → List ℕ
+order_text o = text_of (order_lines o)
+
+order_end : (o : Option (List (List ℕ))) → text_of (order_lines o ++ codes "end" ∷ []) ≡ order_text o ++ ending
+order_end None = refl
+order_end (Some names) = ap (λ t. t ++ ending) (sym (append-nil (with_end (codes "order" ++ spaced names))))
+
+-- one text behind three others
+behind_three : (a b c d e : List ℕ) → a ++ (b ++ (c ++ (d ++ e))) ≡ (a ++ (b ++ (c ++ d))) ++ e
+behind_three a b c d e =
+    ap (λ t. a ++ (b ++ t)) (sym (append_assoc c d e)) ∙ ap (λ t. a ++ t) (sym (append_assoc b (c ++ d) e)) ∙ sym (append_assoc a (b ++ (c ++ d)) e)
+
+items_text : (w : List JsonWeight) (f b : List SaidPair) (o : Option (List (List ℕ)))
+    → text_of (map json_weight_line w ++ (map force_line f ++ (map forbid_line b ++ (order_lines o ++ codes "end" ∷ []))))
+    ≡ (weight_texts w ++ (force_texts f ++ (forbid_texts b ++ order_text o))) ++ ending
+items_text w f b o =
+    mapped json_weight_line w _
+    ∙ ap (λ t. weight_texts w ++ t) (mapped force_line f _ ∙ ap (λ t. force_texts f ++ t) (mapped forbid_line b _ ∙ ap (λ t. forbid_texts b ++ t) (order_end o)))
+    ∙ behind_three (weight_texts w) (force_texts f) (forbid_texts b) (order_text o) ending
+
+whole_text : (kind : Kind) (second : Bool) (p r : List SaidAgent) (w : List JsonWeight) (f b : List SaidPair) (o : Option (List (List ℕ)))
+    → text_of (json_lines (instance_of kind second p r w f b o))
+    ≡ with_end (json_header second kind) ++ (proposer_texts p ++ (reviewer_texts kind r ++ ((weight_texts w ++ (force_texts f ++ (forbid_texts b ++ order_text o))) ++ ending)))
+whole_text kind second p r w f b o =
+    ap (λ t. with_end (json_header second kind) ++ t)
+    (mapped proposer_line p _ ∙ ap (λ t. proposer_texts p ++ t) (mapped (reviewer_line kind) r _ ∙ ap (λ t. reviewer_texts kind r ++ t) (items_text w f b o)))
+
+-- where a part isn't there the text isn't
+chain : (kind : Kind) (second : Bool) (P R : Option (List SaidAgent)) (W : Option (List JsonWeight)) (F B : Option (List SaidPair)) (O : Option (Option (List (List ℕ))))
+    → instance_added (of_parts kind second P R W F B O)
+    ≡ joined (Some (with_end (json_header second kind)))
+    (joined (option_map proposer_texts P)
+    (joined (option_map (reviewer_texts kind) R)
+    (joined (joined (option_map weight_texts W) (joined (option_map force_texts F) (joined (option_map forbid_texts B) (option_map order_text O)))) (Some ending))))
+chain kind second None R W F B O = refl
+chain kind second (Some p) None W F B O = refl
+chain kind second (Some p) (Some r) None F B O = refl
+chain kind second (Some p) (Some r) (Some w) None B O = refl
+chain kind second (Some p) (Some r) (Some w) (Some f) None O = refl
+chain kind second (Some p) (Some r) (Some w) (Some f) (Some b) None = refl
+chain kind second (Some p) (Some r) (Some w) (Some f) (Some b) (Some o) = ap Some (whole_text kind second p r w f b o)
+
+-- parts that may be missing
+weights_same : (o : Option Data) → option_map weight_texts (by_member [] weights_in o) ≡ by_member [] weights_added o
+weights_same None = refl
+weights_same (Some d) = refl
+
+forced_same : (o : Option Data) → option_map force_texts (by_member [] pairs_in o) ≡ by_member [] (pairs_added (codes "force ")) o
+forced_same None = refl
+forced_same (Some d) = refl
+
+forbidden_same : (o : Option Data) → option_map forbid_texts (by_member [] pairs_in o) ≡ by_member [] (pairs_added (codes "forbid ")) o
+forbidden_same None = refl
+forbidden_same (Some d) = refl
+
+order_names : (names : Option (List (List ℕ))) → option_map order_text (option_map Some names) ≡ option_map (λ ns. with_end (codes "order" ++ spaced ns)) names
+order_names None = refl
+order_names (Some ns) = ap Some (append-nil (with_end (codes "order" ++ spaced ns)))
+
+order_same : (o : Option Data) → option_map order_text (by_member None order_in o) ≡ by_member [] order_added o
+order_same None = refl
+order_same (Some d) = order_names (names_in d)
+
+joined_four : (w w' f f' b b' o o' : Option (List ℕ)) → w ≡ w' → f ≡ f' → b ≡ b' → o ≡ o' → joined w (joined f (joined b o)) ≡ joined w' (joined f' (joined b' o'))
+joined_four w w' f f' b b' o o' hw hf hb ho = rw (hw, hf, hb, ho) refl
+
+items_same : (d : Data)
+    → joined (option_map weight_texts (by_member [] weights_in (get (codes "weights") d)))
+    (joined (option_map force_texts (by_member [] pairs_in (get (codes "forced") d)))
+    (joined (option_map forbid_texts (by_member [] pairs_in (get (codes "forbidden") d))) (option_map order_text (by_member None order_in (get (codes "order") d)))))
+    ≡ items_added d
+items_same d =
+    joined_four _ _ _ _ _ _ _ _ (weights_same (get (codes "weights") d)) (forced_same (get (codes "forced") d)) (forbidden_same (get (codes "forbidden") d))
+    (order_same (get (codes "order") d))
+
+reviewers_same : (kind : Kind) (r : Data) → option_map (reviewer_texts kind) (agents_in (has_capacities kind) r) ≡ agents_added (role_of kind) r
+reviewers_same Marriage r = refl
+reviewers_same Hospitals r = refl
+reviewers_same Roommates r = refl
+
+in_place : (h p r r' i i' e : Option (List ℕ)) → r ≡ r' → i ≡ i' → joined h (joined p (joined r (joined i e))) ≡ joined h (joined p (joined r' (joined i' e)))
+in_place h p r r' i i' e hr hi = rw (hr, hi) refl
+
+parts_text : (kind : Kind) (d p r : Data)
+    → instance_added (of_parts kind (asks_second (get (codes "weights") d) (get (codes "order") d)) (agents_in false p) (agents_in (has_capacities kind) r)
+    (by_member [] weights_in (get (codes "weights") d)) (by_member [] pairs_in (get (codes "forced") d)) (by_member [] pairs_in (get (codes "forbidden") d))
+    (by_member None order_in (get (codes "order") d)))
+    ≡ two_added kind d p r
+parts_text kind d p r =
+    chain kind (asks_second (get (codes "weights") d) (get (codes "order") d)) (agents_in false p) (agents_in (has_capacities kind) r)
+    (by_member [] weights_in (get (codes "weights") d)) (by_member [] pairs_in (get (codes "forced") d)) (by_member [] pairs_in (get (codes "forbidden") d))
+    (by_member None order_in (get (codes "order") d))
+    ∙ in_place (Some (with_end (json_header (asks_second (get (codes "weights") d) (get (codes "order") d)) kind))) (agents_added Proposer p) _ _ _ _ (Some ending)
+    (reviewers_same kind r) (items_same d)
+
+pub two_text : (kind : Kind) (d p r : Data) → has_only two_members d ≡ true → Some p ≡ get (codes "proposers") d → Some r ≡ get (codes "reviewers") d
+    → instance_added (two_in kind d) ≡ two_added kind d p r
+two_text kind d p r only hp hr = rw (only, sym hp, sym hr) (parts_text kind d p r)
+
+-- what is no such object has no text
+pub two_none_only : (kind : Kind) (d : Data) → has_only two_members d ≡ false → instance_added (two_in kind d) ≡ None
+two_none_only kind d only = rw only refl
+
+pub two_none_left : (kind : Kind) (d : Data) → has_only two_members d ≡ true → get (codes "proposers") d ≡ None → instance_added (two_in kind d) ≡ None
+two_none_left kind d only none = rw (only, none) refl
+
+none_right : (kind : Kind) (second : Bool) (P : Option (List SaidAgent)) (W : Option (List JsonWeight)) (F B : Option (List SaidPair)) (O : Option (Option (List (List ℕ))))
+    → instance_added (of_parts kind second P None W F B O) ≡ None
+none_right kind second None W F B O = refl
+none_right kind second (Some p) W F B O = refl
+
+pub two_none_right : (kind : Kind) (d : Data) → has_only two_members d ≡ true → get (codes "reviewers") d ≡ None → instance_added (two_in kind d) ≡ None
+two_none_right kind d only none = rw (only, none) (none_right kind (asks_second (get (codes "weights") d) (get (codes "order") d)) (at (codes "proposers") (agents_in false) d)
+    (at_or (codes "weights") [] weights_in d) (at_or (codes "forced") [] pairs_in d) (at_or (codes "forbidden") [] pairs_in d) (at_or (codes "order") None order_in d))
+
+-- roommates
+room_parts : (P : Option (List SaidAgent))
+    → instance_added (option_map (λ persons. instance_of Roommates false persons [] [] [] [] None) P)
+    ≡ joined (Some (codes "stable 1 roommates\n")) (joined (option_map proposer_texts P) (Some ending))
+room_parts None = refl
+room_parts (Some p) = ap (λ t. Some (codes "stable 1 roommates\n" ++ t)) (mapped proposer_line p (codes "end" ∷ []))
+
+pub room_text : (d p : Data) → has_only room_members d ≡ true → Some p ≡ get (codes "persons") d
+    → instance_added (room_in d) ≡ room_added p
+room_text d p only hp = rw (only, sym hp) (room_parts (agents_in false p))
+
+pub room_none_only : (d : Data) → has_only room_members d ≡ false → instance_added (room_in d) ≡ None
+room_none_only d only = rw only refl
+
+pub room_none_left : (d : Data) → has_only room_members d ≡ true → get (codes "persons") d ≡ None → instance_added (room_in d) ≡ None
+room_none_left d only none = rw (only, none) refl
+
+-- the value of bytes
+pub value_found : (bytes : List ℕ) (d : Data) → IsUtf8 bytes → read bytes ≡ Some d → value_in bytes ≡ Some d
+value_found bytes d utf8 found = ap (λ t. if_so t (read bytes)) (is_utf8-from_IsUtf8 bytes utf8) ∙ found
+
+refused_by : (t : Bool) (bytes : List ℕ) → is_utf8 bytes ≡ t → (IsUtf8 bytes → read bytes ≡ None) → if_so t (read bytes) ≡ None
+refused_by true bytes utf8 refused = refused (IsUtf8-from_is_utf8 bytes utf8)
+refused_by false bytes other refused = refl
+
+pub value_refused : (bytes : List ℕ) → (IsUtf8 bytes → read bytes ≡ None) → value_in bytes ≡ None
+value_refused bytes refused = refused_by (is_utf8 bytes) bytes refl refused
+
+-- a text behind nothing
+pub behind_nothing : (text : Option (List ℕ)) (holds : List ℕ) → option_map (λ t. [] ++ t) text ≡ Some holds → text ≡ Some holds
+behind_nothing None holds h = h
+behind_nothing (Some t) holds h = h

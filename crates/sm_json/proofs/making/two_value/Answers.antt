@@ -1,0 +1,48 @@
+use Rattle.std.proofs.Common.{◌≡◌, ◌∙◌, ap, sym, subst, length, All}
+use Rattle.std.proofs.lemmas.List.{length-map}
+use Rattle.serde_json.specs.Data.{object}
+use Rattle.serde_json.specs.View.{view, members_view}
+use Rattle.serde_json.specs.declared.value.Value.{Value}
+use Rattle.sm_instance.specs.Sound.{IsPairOf}
+use Rattle.sm_instance.specs.Vectors.{agent_of, agents_of}
+use Rattle.sm_instance.specs.declared.inputs.Input.TheVariants.{Two}
+use Rattle.sm_json.specs.Making.{json_of, two_json, said_by, conditions_put}
+use Rattle.sm_json.proofs.MakeLemmas.{conditions_are_put, forced_there, forbidden_there, if_both}
+use Rattle.sm_json.proofs.SoundLemmas.{two_known}
+use Rattle.sm_json.proofs.making.two_value.Goals as goal
+
+pub with_conditions-requires-clause-forced : goal.with_conditions-requires-clause-forced
+with_conditions-requires-clause-forced c =
+    let w = c.args.instance.now in
+    let left = c.proposers-proposers.result.now in
+    let right = c.reviewers-reviewers.result.now in
+    let lp : length left ≡ length w.proposers = sym (length-map left agent_of) ∙ ap length c.proposers-proposers.ensures.agents in
+    let lr : length right ≡ length w.reviewers = sym (length-map right agent_of) ∙ ap length c.reviewers-reviewers.ensures.agents in
+    subst (λ xs. All (IsPairOf (length left) (length right)) xs) (sym c.forced-forced.ensures.pairs)
+    (subst (λ n. All (IsPairOf n (length right)) w.forced) (sym lp) (subst (λ n. All (IsPairOf (length w.proposers) n) w.forced) (sym lr) (forced_there w c.forced-forced.ensures.instance)))
+
+pub with_conditions-requires-clause-forbidden : goal.with_conditions-requires-clause-forbidden
+with_conditions-requires-clause-forbidden c =
+    let w = c.args.instance.now in
+    let left = c.proposers-proposers.result.now in
+    let right = c.reviewers-reviewers.result.now in
+    let lp : length left ≡ length w.proposers = sym (length-map left agent_of) ∙ ap length c.proposers-proposers.ensures.agents in
+    let lr : length right ≡ length w.reviewers = sym (length-map right agent_of) ∙ ap length c.reviewers-reviewers.ensures.agents in
+    subst (λ xs. All (IsPairOf (length left) (length right)) xs) (sym c.forbidden-forbidden.ensures.pairs)
+    (subst (λ n. All (IsPairOf n (length right)) w.forbidden) (sym lp) (subst (λ n. All (IsPairOf (length w.proposers) n) w.forbidden) (sym lr) (forbidden_there w c.forced-forced.ensures.instance)))
+
+pub returns-clause-value : goal.returns-clause-value
+returns-clause-value c =
+    let w = c.args.instance.now in
+    let left = agents_of c.proposers-proposers.result.now in
+    let right = agents_of c.reviewers-reviewers.result.now in
+    let weights = c.weights-weights.result.now in
+    let forced = c.forced-forced.result.now in
+    let forbidden = c.forbidden-forbidden.result.now in
+    let members = members_view c.in_ok-members.members.entries in
+    let is : two_json c.kind.result (said_by left right weights forced forbidden) ≡ json_of (Two w) =
+    two_known w c.kind.ensures.instance c.kind.result left right weights forced forbidden c.kind.ensures.kind c.proposers-proposers.ensures.agents
+    c.reviewers-reviewers.ensures.agents c.weights-weights.ensures c.forced-forced.ensures.pairs c.forbidden-forbidden.ensures.pairs in
+    if_both (λ (v : Value). view v ≡ object (conditions_put left right forced forbidden members)) (λ (v : Value). view v ≡ object (conditions_put left right forced forbidden members))
+    (λ (v : Value). view v ≡ json_of (Two w)) c.with_conditions.result c.with_conditions.ensures c.with_conditions.ensures
+    (λ v h k. h ∙ conditions_are_put c.kind.result left right weights forced forbidden members c.in_ok-members.ensures ∙ is)

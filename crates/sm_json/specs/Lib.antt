@@ -1,0 +1,11 @@
+pub mod Values
+pub mod Parts
+pub mod JsonText
+pub mod Adding
+pub mod Roles
+pub mod Reading
+pub mod Making
+pub mod Saying
+pub mod Back
+pub mod Wrapping
+pub mod Witnesses
