@@ -5,6 +5,7 @@ pub mod RepeatLemmas
 pub mod ReachLemmas
 pub mod PairListLemmas
 pub mod ResidualLemmas
+pub mod SecondLemmas
 pub mod MoveLemmas
 pub mod ClosedLemmas
 pub mod SpanLemmas

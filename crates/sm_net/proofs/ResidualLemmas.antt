@@ -25,12 +25,12 @@ use Rattle.sm_net.proofs.PairListLemmas.{has_pair-pair_if, in_pair_if, in_either
 use Rattle.sm_net.proofs.ReachLemmas.{step_at}
 
 -- a line with a positive part of a sum
-record HasPart {X : Type 0} (f : X → ℕ) (xs : List X) (d : X) : Type 0 where
-  at : ℕ
-  below : at < length xs
-  some : 0 < f (get_or xs at d)
+pub record HasPart {X : Type 0} (f : X → ℕ) (xs : List X) (d : X) : Type 0 where
+  pub at : ℕ
+  pub below : at < length xs
+  pub some : 0 < f (get_or xs at d)
 
-has_part : {X : Type 0} (f : X → ℕ) (xs : List X) (d : X) → 0 < sum_by f xs → HasPart f xs d
+pub has_part : {X : Type 0} (f : X → ℕ) (xs : List X) (d : X) → 0 < sum_by f xs → HasPart f xs d
 has_part f [] d h = absurd (omega arith)
 has_part f (x ∷ xs) d h = elim (lt_or_le 0 (f x)) [
   | inl here ↦ record { at = 0; below = omega arith; some = here }
@@ -180,10 +180,10 @@ module _ (parts : NetParts) (lines : List FlowLine) where
       let m : may_lead net i (suc j) ≡ true = and_from _ _ (not_same (suc j) 0 (λ e. omega (arith, e))) (and_from _ _ (lt-ltb _ _ less) (and_from _ _ out.0 through.0)) in
       elim (or_parts (leads_to_need parts.needs i (suc j)) _ through.1) [ inl n ↦ need_listed i (suc j) m n | inr b ↦ bond_listed i (suc j) m b ]
 
-  room_listed : (i j : ℕ) → i < suc (sink_of net) → amount_on lines i j < room_of net i j → Listed i j
-  room_listed zero zero in_range less = absurd (omega arith)
-  room_listed (suc i) zero in_range less = absurd (omega arith)
-  room_listed zero (suc k) in_range less = elim (lt_or_le k size) [
+  room_listed : (i j : ℕ) → amount_on lines i j < room_of net i j → Listed i j
+  room_listed zero zero less = absurd (omega arith)
+  room_listed (suc i) zero less = absurd (omega arith)
+  room_listed zero (suc k) less = elim (lt_or_le k size) [
     | inl h ↦ by_supply 0 (suc k) (has_pair-joined (supply_steps net lines) size k 0 (suc k) h
         (has_pair-pair_if _ 0 (k + 1) 0 (suc k) (lt-ltb _ _ (omega (arith, room h, less, same))) refl (sym (next k))))
     | inr h ↦ absurd (omega (arith, none h, less))
@@ -197,7 +197,7 @@ module _ (parts : NetParts) (lines : List FlowLine) where
 
       same : amount_on lines 0 (k + 1) ≡ amount_on lines 0 (suc k)
       same = ap (amount_on lines 0) (sym (next k))
-  room_listed (suc i) (suc k) in_range less = elim (eq_or_ne k size) [
+  room_listed (suc i) (suc k) less = elim (eq_or_ne k size) [
     | inr ne ↦ absurd (omega (arith, none ne, less))
     | inl e ↦ elim (lt_or_le i size) [
       | inr h ↦ absurd (omega (arith, room e, dry h, less))
@@ -234,11 +234,11 @@ module _ (parts : NetParts) (lines : List FlowLine) where
         | inr a ↦ absurd (let bad : 0 < 0 = rw (ne_eqb l.from j a) at some in omega arith)
       ]
 
-  -- and each residual step from a node is one of the pairs
-  pub step_listed : (i j : ℕ) → i < suc (sink_of net) → Step i j → Listed i j
-  step_listed i j less s = elim s.step [
+  -- and each residual step is one of the pairs
+  pub step_listed : (i j : ℕ) → Step i j → Listed i j
+  step_listed i j s = elim s.step [
     | inl u ↦ unbounded_listed i j s.in_range u
-    | inr more ↦ elim more [ inl room ↦ room_listed i j less room | inr back ↦ back_listed i j back ]
+    | inr more ↦ elim more [ inl room ↦ room_listed i j room | inr back ↦ back_listed i j back ]
   ]
 
   module _ (steps : List (ℕ × ℕ)) (same : (i j : ℕ) → has_pair steps i j ≡ has_pair (residual_steps parts lines) i j) (on : AreOnNodes (size + 2) lines) where
@@ -254,9 +254,9 @@ module _ (parts : NetParts) (lines : List FlowLine) where
     there [] i j w = w
     there (k ∷ path) i j w = (step_of on i k (sym (same i k) ∙ w.0), there path k j w.1)
 
-    back : (path : List ℕ) (i j : ℕ) → i < suc (sink_of net) → IsPath Step i path j → IsPath (IsStepOf steps) i path j
-    back [] i j less w = w
-    back (k ∷ path) i j less w = (same i k ∙ step_listed i k less w.0, back path k j w.0.in_range w.1)
+    back : (path : List ℕ) (i j : ℕ) → IsPath Step i path j → IsPath (IsStepOf steps) i path j
+    back [] i j w = w
+    back (k ∷ path) i j w = (same i k ∙ step_listed i k w.0, back path k j w.1)
 
     -- a set is what is reached over residual steps exactly where it is what the trail of listed steps has
     pub reach_is : {trail : Trail} {set : List Bool} → IsReachedTrail (size + 2) steps trail → length set ≡ size
@@ -266,11 +266,11 @@ module _ (parts : NetParts) (lines : List FlowLine) where
         one_each = long;
         exact = λ k less. (
           (λ m. let w = (r.exact (suc k)).0 (subst (Contains trail.items) (sym (next k)) ((all k (omega (arith, long))).0 m)) in record { path = w.path; is = there w.path 0 (suc k) w.is }),
-          (λ w. (all k (omega (arith, long))).1 (subst (Contains trail.items) (next k) ((r.exact (suc k)).1 (record { path = w.path; is = back w.path 0 (suc k) (omega arith) w.is })))),
+          (λ w. (all k (omega (arith, long))).1 (subst (Contains trail.items) (next k) ((r.exact (suc k)).1 (record { path = w.path; is = back w.path 0 (suc k) w.is })))),
         );
       }),
       (λ reach k less. (
-        (λ m. let w = (reach.exact k (omega (arith, long))).0 m in subst (Contains trail.items) (next k) ((r.exact (suc k)).1 (record { path = w.path; is = back w.path 0 (suc k) (omega arith) w.is }))),
+        (λ m. let w = (reach.exact k (omega (arith, long))).0 m in subst (Contains trail.items) (next k) ((r.exact (suc k)).1 (record { path = w.path; is = back w.path 0 (suc k) w.is }))),
         (λ c. (reach.exact k (omega (arith, long))).1 (let w = (r.exact (suc k)).0 (subst (Contains trail.items) (sym (next k)) c) in record { path = w.path; is = there w.path 0 (suc k) w.is })),
       )),
     )

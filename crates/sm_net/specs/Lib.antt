@@ -5,6 +5,7 @@ pub mod Kept
 pub mod Repeats
 pub mod Reaching
 pub mod Residual
+pub mod Second
 pub mod Moves
 pub mod Spans
 pub mod SetPlaces

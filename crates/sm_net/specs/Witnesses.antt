@@ -11,6 +11,7 @@ use Rattle.sm_net.specs.SetPlaces.{worst_by}
 use Rattle.sm_net.specs.CheckedNets.{NetParts}
 use Rattle.sm_net.specs.Repeats.{IsRepeated}
 use Rattle.sm_net.specs.Residual.{residual_steps}
+use Rattle.sm_net.specs.Second.{inner_steps}
 
 -- a move of a proposer from one place to another
 abbrev pub step : (proposer from to : ℕ) → Move
@@ -34,9 +35,11 @@ WorkedMoves = AreMovesByRotation three_cycle three_cycle_chain three_cycle_moves
     × (worst_by 0 three_cycle_moves (true ∷ false ∷ []) 2 0 ≡ 1)
     × (worst_by 0 three_cycle_moves (true ∷ true ∷ []) 2 0 ≡ 2)
 
--- the second rotation needs the first, the three lines can be gone against, and the source has room left to the second rotation
+-- the second rotation needs the first, the three lines can be gone against, and the source has room left to the second rotation;
+-- the edges of the second net are those that neither end at the source nor begin at the sink
 abbrev pub WorkedSteps : Type 0
-WorkedSteps = residual_steps three_cycle_parts three_cycle_lines ≡ (2, 1) ∷ (2, 0) ∷ (3, 1) ∷ (1, 2) ∷ (0, 2) ∷ []
+WorkedSteps = (residual_steps three_cycle_parts three_cycle_lines ≡ (2, 1) ∷ (2, 0) ∷ (3, 1) ∷ (1, 2) ∷ (0, 2) ∷ [])
+    × (inner_steps three_cycle_parts three_cycle_lines ≡ (2, 1) ∷ (1, 2) ∷ (0, 2) ∷ [])
 
 -- of four lines the last has the ends of the first
 abbrev pub four_lines : List FlowLine

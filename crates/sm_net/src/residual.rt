@@ -60,7 +60,7 @@ fn has_members(trail: &Trail, set: &[bool]) -> bool
 }
 
 /// The residual steps of a flow.
-fn residual_steps(
+pub(crate) fn residual_steps(
     alloc: Global,
     net: &CheckedNet,
     lines: &[FlowLine],
@@ -79,7 +79,12 @@ fn residual_steps(
 }
 
 /// Adds a step, if a test holds.
-fn add_if(holds: bool, from: u32, to: u32, steps: &mut Vec<(u32, u32)>) -> Result<(), AllocError>
+pub(crate) fn add_if(
+    holds: bool,
+    from: u32,
+    to: u32,
+    steps: &mut Vec<(u32, u32)>,
+) -> Result<(), AllocError>
     ensures { IfOk result (λ _. steps.new.items ≡ steps.old.items ++ pair_if holds from to) }
 {
     if holds {

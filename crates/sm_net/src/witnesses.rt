@@ -8,7 +8,7 @@ pub fn worked_moves()
     ensures { WorkedMoves }
 {}
 
-/// The residual steps of the flow of value 4 in their net.
+/// The residual steps of the flow of value 4 in their net, and those that are edges of its second net.
 pub fn worked_steps()
     ensures { WorkedSteps }
 {}

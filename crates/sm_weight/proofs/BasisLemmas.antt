@@ -1,23 +1,24 @@
 -- The edges of gains, needs and conditions are those of their net.
-use Rattle.std.proofs.Common.{◌≡◌, ◌≢◌, ℕ, zero, suc, ◌+◌, ◌<◌, ◌≤◌, ◌⊎◌, ◌&&◌, ◌||◌, ◌==◌, inl, inr, arith, refl, sym, ap, ◌∙◌, subst, Bool, true, false, List, [], ◌∷◌, ◌++◌, length, map, Option, None, Some, slice_index, slice_index_or, get_or, eqb-true, eq-eqb, ne_eqb, lt-ltb, le-ltb, Contains, ℤ, pos, negsuc}
+use Rattle.std.proofs.Common.{◌≡◌, ◌≢◌, ℕ, zero, suc, ◌+◌, ◌<◌, ◌≤◌, ◌⊎◌, ◌&&◌, ◌||◌, ◌==◌, inl, inr, arith, refl, sym, ap, ◌∙◌, subst, Bool, true, false, List, [], ◌∷◌, ◌++◌, length, map, slice_index, get_or, eqb-true, eq-eqb, ne_eqb, Contains, ℤ, pos}
 use Rattle.std.specs.Prelude.{All}
 use Rattle.std.specs.List.{list_any, flat_map, position_or_len}
 use Rattle.std.proofs.lemmas.Bool.{false≢true, and_from, or_left, or_right, false_from_ne_true, not_from_false}
 use Rattle.std.proofs.lemmas.List.{get_or_past, get_or_default, get_or-map, length-map}
-use Rattle.std.proofs.lemmas.List.Elements.{All-append, All-contains, Contains-append_left, Contains-append_right}
+use Rattle.std.proofs.lemmas.List.Elements.{All-append, Contains-append_left, Contains-append_right}
 use Rattle.std.proofs.lemmas.List.Sums.{prefix_len-le-length}
 use Rattle.sm_lists.proofs.Counting.{lt_or_le, eq_or_ne}
 use Rattle.sm_market.specs.Lists.{Lists, row}
 use Rattle.sm_market.specs.Matching.{Places, held}
 use Rattle.sm_theory.specs.Chains.{rotation_at, AreNeedsOf, AreNeeds}
 use Rattle.sm_theory.specs.Weights.{gain_of}
-use Rattle.sm_theory.specs.Net.{Net, room_of, IsUnbounded, HasEdge}
+use Rattle.sm_theory.specs.Net.{Net, room_of, IsUnbounded}
 use Rattle.sm_theory.specs.Conditions.{has_level, moves_to, moves_off, entry_node, exit_node, forces, forbids, leads_to_need, rise_of, fall_of, allows_nothing, net_of}
 use Rattle.sm_theory.proofs.Net.Tests.{and_parts, or_parts, not_parts, not_same, Passes, some_passes}
 use Rattle.sm_weight.specs.declared.edges.Edge.{Edge}
-use Rattle.sm_weight.specs.Edges.{edge_at, loose, IsRoomOf, IsCovered, AreMerged, AreEdges}
-use Rattle.sm_weight.specs.Basis.{joined, need_edges, gain_edge, gain_edges, forced_edges, forbidden_edges, raw_edges}
-use Rattle.sm_weight.proofs.BridgeLemmas.{apart}
+use Rattle.sm_weight.specs.Edges.{loose, AreMerged, AreEdges}
+use Rattle.sm_weight.specs.Basis.{joined, need_edges, gain_edges, forced_edges, forbidden_edges, raw_edges}
+use Rattle.sm_weight.specs.Second.{gain_at}
+use Rattle.sm_weight.proofs.MergedLemmas.{all_joined, in_joined, in_single, all_single, free, IsRaw, IsThere, edges_of_raw, gains_sound, gain_there}
 
 -- an element that passes a test
 pub any_at : {X : Type 0} (test : X → Bool) (xs : List X) (k : ℕ) (d : X) → k < length xs → test (get_or xs k d) ≡ true → list_any test xs ≡ true
@@ -28,18 +29,7 @@ any_at test (x ∷ xs) (suc k) d less e = or_right (test x) (list_any test xs) (
 none_at : {X : Type 0} (test : X → Bool) (xs : List X) (k : ℕ) (d : X) → k < length xs → list_any test xs ≡ false → test (get_or xs k d) ≡ true → ⊥
 none_at test xs k d less none e = false≢true (sym none ∙ any_at test xs k d less e)
 
--- what holds of all edges of lists that are joined, and what they contain
-all_joined : (P : Edge → Type 0) (f : ℕ → List Edge) (n : ℕ) → ((k : ℕ) → k < n → All P (f k)) → All P (joined f n)
-all_joined P f zero all = λ k d less. absurd (omega arith)
-all_joined P f (suc n) all = All-append P (joined f n) (f n) (all_joined P f n (λ k less. all k (omega arith))) (all n (omega arith))
-
-in_joined : (f : ℕ → List Edge) (n k : ℕ) (e : Edge) → k < n → Contains (f k) e → Contains (joined f n) e
-in_joined f zero k e less c = absurd (omega arith)
-in_joined f (suc n) k e less c = elim (eq_or_ne k n) [
-  | inl same ↦ Contains-append_right (joined f n) (f n) e (subst (λ j. Contains (f j) e) same c)
-  | inr ne ↦ Contains-append_left (joined f n) (f n) e (in_joined f n k e (omega arith) c)
-]
-
+-- what holds of all edges of lists that are put together, and what they contain
 all_flat : {X : Type 0} (P : Edge → Type 0) (f : X → List Edge) (xs : List X) (d : X) → ((k : ℕ) → k < length xs → All P (f (get_or xs k d))) → All P (flat_map f xs)
 all_flat P f [] d all = λ k e less. absurd (omega arith)
 all_flat P f (x ∷ xs) d all = All-append P (f x) (flat_map f xs) (all 0 (omega arith)) (all_flat P f xs d (λ k less. all (suc k) (omega arith)))
@@ -49,23 +39,13 @@ in_flat f [] k d e less c = absurd (omega arith)
 in_flat f (x ∷ xs) zero d e less c = Contains-append_left (f x) (flat_map f xs) e c
 in_flat f (x ∷ xs) (suc k) d e less c = Contains-append_right (f x) (flat_map f xs) e (in_flat f xs k d e (omega arith) c)
 
-abbrev free : ℕ → ℕ → Edge
-free i j = record { from = i; to = j; room = None }
-
 -- an edge that is no loop
 all_loose : (P : Edge → Type 0) (i j : ℕ) → (i ≢ j → P (free i j)) → All P (loose i j)
 all_loose P i j one = go (eq_or_ne i j)
   where
     go : (i ≡ j) ⊎ (i ≢ j) → All P (loose i j)
     go (inl e) = rw (eq-eqb i j e) (λ k d less. absurd (omega arith))
-    go (inr ne) = rw (ne_eqb i j ne) single
-      where
-        single : All P (free i j ∷ [])
-        single zero d less = one ne
-        single (suc k) d less = absurd (omega arith)
-
-in_single : (e : Edge) → Contains (e ∷ []) e
-in_single e = (0, omega arith, refl)
+    go (inr ne) = rw (ne_eqb i j ne) (all_single P (free i j) (one ne))
 
 in_loose : (i j : ℕ) → i ≢ j → Contains (loose i j) (free i j)
 in_loose i j ne = rw (ne_eqb i j ne) (in_single (free i j))
@@ -73,6 +53,13 @@ in_loose i j ne = rw (ne_eqb i j ne) (in_single (free i j))
 -- the first place that passes is on the list, or one past it
 first_le : {X : Type 0} (test : X → Bool) (xs : List X) → position_or_len test xs ≤ length xs
 first_le test xs = prefix_len-le-length _ xs
+
+-- the gains of the rotations
+pub gains_at : (l : Lists) (weights : List (List ℤ)) (rotations : List (List (ℕ × ℕ))) (gains : List ℤ) → gains ≡ map (gain_of l weights) rotations → (k : ℕ) → gain_at gains k ≡ gain_of l weights (rotation_at rotations k)
+gains_at l weights rotations gains e k = ap (λ (g : List ℤ). gain_at g k) e ∙ elim (lt_or_le k (length rotations)) [
+  | inl less ↦ get_or-map (gain_of l weights) rotations k [] (pos 0) less
+  | inr past ↦ get_or_past (map (gain_of l weights) rotations) k (pos 0) (omega (arith, length-map rotations (gain_of l weights))) ∙ sym (ap (gain_of l weights) (get_or_past rotations k [] past))
+]
 
 -- the numbers that a rising list of predecessors contains
 same_needs : {l : Lists} {rotations : List (List (ℕ × ℕ))} {j : ℕ} {needs kept : List ℕ} → AreNeedsOf l rotations j needs → AreNeedsOf l rotations j kept → (a : ℕ) → a < length kept → list_any (λ i. i == slice_index kept a) needs ≡ true
@@ -142,8 +129,15 @@ module _ (l : Lists) (levels : List (List ℕ)) (weights : List (List ℤ)) (for
     gains_many : length gains ≡ n
     gains_many = ap length gains_are ∙ length-map rotations (gain_of l weights)
 
-    gain_at : (k : ℕ) → k < n → slice_index_or gains k (pos 0) ≡ gain_of l weights (rotation_at rotations k)
-    gain_at k less = ap (λ (xs : List ℤ). slice_index_or xs k (pos 0)) gains_are ∙ get_or-map (gain_of l weights) rotations k [] (pos 0) less
+    -- the rooms of the net are those of the gains
+    falls : (k : ℕ) → k < n → net.supply k ≡ fall_of (gain_at gains k)
+    falls k _ = ap fall_of (sym (gains_at l weights rotations gains gains_are k))
+
+    rises : (k : ℕ) → net.drain k ≡ rise_of (gain_at gains k)
+    rises k = ap rise_of (sym (gains_at l weights rotations gains gains_are k))
+
+    past_gain : (k : ℕ) → n ≤ k → net.drain k ≡ 0
+    past_gain k le = ap (λ r. rise_of (gain_of l weights r)) (get_or_past rotations k [] le)
 
     not_forced_out : (c : ℕ × ℕ) (k : ℕ) → k < length forced → get_or forced k (0, 0) ≡ c → entry c ≢ suc n
     not_forced_out c k less is e =
@@ -163,18 +157,8 @@ module _ (l : Lists) (levels : List (List ℕ)) (weights : List (List ℤ)) (for
         not_or_right true b e = absurd (false≢true (sym e))
         not_or_right false b e = e
 
-    -- what is said of an edge of the list
-    abbrev IsRawRoom : ℕ → ℕ → Option ℕ → Type 0
-    IsRawRoom i j None = IsUnbounded net i j
-    IsRawRoom i j (Some b) = (room_of net i j ≡ b) × (0 < b)
-
-    record IsRaw (e : Edge) : Type 0 where
-      from_in : e.from < suc (suc n)
-      to_in : e.to < suc (suc n)
-      room_is : IsRawRoom e.from e.to e.room
-
-    needs_sound : (k : ℕ) → k < length kept → All IsRaw (need_edges kept k)
-    needs_sound k less = all_flat IsRaw (λ i. loose (k + 1) (i + 1)) (row kept k) 0 (λ a in_it. all_loose IsRaw (k + 1) (slice_index (row kept k) a + 1) (λ ne.
+    needs_sound : (k : ℕ) → k < length kept → All (IsRaw net) (need_edges kept k)
+    needs_sound k less = all_flat (IsRaw net) (λ i. loose (k + 1) (i + 1)) (row kept k) 0 (λ a in_it. all_loose (IsRaw net) (k + 1) (slice_index (row kept k) a + 1) (λ ne.
         let inside : k < n = omega (arith, same.one_each) in
         let below = (same.each k inside).sound a in_it in
         let up : suc k ≡ k + 1 = omega arith in
@@ -183,44 +167,15 @@ module _ (l : Lists) (levels : List (List ℕ)) (weights : List (List ℤ)) (for
         let one : IsUnbounded net (suc k) (suc (slice_index (row kept k) a)) = unbounded_of (suc k) (suc (slice_index (row kept k) a)) (λ x. ne (omega (arith, x))) (omega arith) (λ x. omega (arith, x.0)) tested in
         record { from_in = omega arith; to_in = omega arith; room_is = subst (λ j. IsUnbounded net (k + 1) j) down (subst (λ i. IsUnbounded net i (suc (slice_index (row kept k) a))) up one) }))
 
-    -- the rooms of the edges of gains
-    supply_room : (k : ℕ) → k < n → room_of net 0 (suc k) ≡ fall_of (gain_of l weights (rotation_at rotations k))
-    supply_room k less = rw (lt-ltb k n less) refl
-
-    drain_room : (k : ℕ) → room_of net (suc k) (suc n) ≡ rise_of (gain_of l weights (rotation_at rotations k))
-    drain_room k = rw (eq-eqb n n refl) refl
-
-    gains_sound : (k : ℕ) → k < length gains → All IsRaw (gain_edges (suc n) gains k)
-    gains_sound k less = go (slice_index_or gains k (pos 0)) (gain_at k (omega (arith, gains_many)))
-      where
-        inside : k < n
-        inside = omega (arith, gains_many)
-
-        single : (e : Edge) → IsRaw e → All IsRaw (e ∷ [])
-        single e w zero d less = w
-        single e w (suc k) d less = absurd (omega arith)
-
-        up : suc k ≡ k + 1
-        up = omega arith
-
-        go : (g : ℤ) → g ≡ gain_of l weights (rotation_at rotations k) → All IsRaw (gain_edge (suc n) k g)
-        go (pos zero) e = λ a d less. absurd (omega arith)
-        go (pos (suc m)) e =
-            let is : room_of net (suc k) (suc n) ≡ suc m = drain_room k ∙ ap rise_of (sym e) in
-            single _ (record { from_in = omega (arith, inside); to_in = omega arith; room_is = (subst (λ i. room_of net i (suc n) ≡ suc m) up is, omega arith) })
-        go (negsuc m) e =
-            let is : room_of net 0 (suc k) ≡ suc m = supply_room k inside ∙ ap fall_of (sym e) in
-            single _ (record { from_in = omega arith; to_in = omega (arith, inside); room_is = (subst (λ j. room_of net 0 j ≡ suc m) up is, omega arith) })
-
-    forced_sound : (k : ℕ) → k < length forced → All IsRaw (forced_edges l levels first rotations (get_or forced k (0, 0)))
-    forced_sound k less = All-append IsRaw _ _
-        (all_loose IsRaw 0 (entry c) (λ ne. record {
+    forced_sound : (k : ℕ) → k < length forced → All (IsRaw net) (forced_edges l levels first rotations (get_or forced k (0, 0)))
+    forced_sound k less = All-append (IsRaw net) _ _
+        (all_loose (IsRaw net) 0 (entry c) (λ ne. record {
           from_in = omega arith;
           to_in = let x = entry_le c in omega arith;
           room_is = unbounded_of 0 (entry c) ne (omega (arith, ne)) (λ x. not_forced_out c k less refl x.1)
               (of_forced 0 (entry c) (any_at (λ c. forces l levels first rotations c 0 (entry (get_or forced k (0, 0)))) forced k (0, 0) less (or_left _ _ (eq-eqb (entry c) (entry c) refl))));
         }))
-        (all_loose IsRaw (exit c) (suc n) (λ ne. record {
+        (all_loose (IsRaw net) (exit c) (suc n) (λ ne. record {
           from_in = let x = exit_le c in omega arith;
           to_in = omega arith;
           room_is = unbounded_of (exit c) (suc n) ne (omega arith) (λ x. omega (arith, x.0))
@@ -230,8 +185,8 @@ module _ (l : Lists) (levels : List (List ℕ)) (weights : List (List ℤ)) (for
         c : ℕ × ℕ
         c = get_or forced k (0, 0)
 
-    forbidden_sound : (k : ℕ) → k < length forbidden → All IsRaw (forbidden_edges l levels first rotations (get_or forbidden k (0, 0)))
-    forbidden_sound k less = all_loose IsRaw (entry c) (exit c) (λ ne. record {
+    forbidden_sound : (k : ℕ) → k < length forbidden → All (IsRaw net) (forbidden_edges l levels first rotations (get_or forbidden k (0, 0)))
+    forbidden_sound k less = all_loose (IsRaw net) (entry c) (exit c) (λ ne. record {
       from_in = let x = entry_le c in omega arith;
       to_in = let x = exit_le c in omega arith;
       room_is = unbounded_of (entry c) (exit c) ne (exit_some c) (λ x. not_always c k less refl x)
@@ -241,9 +196,9 @@ module _ (l : Lists) (levels : List (List ℕ)) (weights : List (List ℤ)) (for
         c : ℕ × ℕ
         c = get_or forbidden k (0, 0)
 
-    sound : All IsRaw raw
-    sound = All-append IsRaw _ _ (All-append IsRaw _ _ (All-append IsRaw _ _ (all_joined IsRaw (need_edges kept) (length kept) needs_sound) (all_joined IsRaw (gain_edges (suc n) gains) (length gains) gains_sound))
-        (all_flat IsRaw (forced_edges l levels first rotations) forced (0, 0) forced_sound)) (all_flat IsRaw (forbidden_edges l levels first rotations) forbidden (0, 0) forbidden_sound)
+    sound : All (IsRaw net) raw
+    sound = All-append (IsRaw net) _ _ (All-append (IsRaw net) _ _ (All-append (IsRaw net) _ _ (all_joined (IsRaw net) (need_edges kept) (length kept) needs_sound) (gains_sound net gains gains_many falls rises past_gain))
+        (all_flat (IsRaw net) (forced_edges l levels first rotations) forced (0, 0) forced_sound)) (all_flat (IsRaw net) (forbidden_edges l levels first rotations) forbidden (0, 0) forbidden_sound)
 
     -- an unbounded edge is in the list
     in_needs : (e : Edge) → Contains (joined (need_edges kept) (length kept)) e → Contains raw e
@@ -328,86 +283,11 @@ module _ (l : Lists) (levels : List (List ℕ)) (weights : List (List ℤ)) (for
           ]
         ]
 
-    -- an edge with these ends is in the list
-    record IsThere (i j : ℕ) : Type 0 where
-      edge_is : Edge
-      there : Contains raw edge_is
-      begins : edge_is.from ≡ i
-      ends : edge_is.to ≡ j
-
-    supply_there : (k : ℕ) → k < n → 0 < fall_of (gain_of l weights (rotation_at rotations k)) → IsThere 0 (suc k)
-    supply_there k inside some = go (slice_index_or gains k (pos 0)) refl (gain_at k inside)
-      where
-        go : (g : ℤ) → slice_index_or gains k (pos 0) ≡ g → slice_index_or gains k (pos 0) ≡ gain_of l weights (rotation_at rotations k) → IsThere 0 (suc k)
-        go (pos m) e is = let none = ap fall_of (sym e ∙ is) in absurd (omega (arith, some))
-        go (negsuc m) e is =
-            let x : Edge = record { from = 0; to = k + 1; room = Some (suc m) } in
-            let here : Contains (gain_edges (suc n) gains k) x = subst (λ g. Contains (gain_edge (suc n) k g) x) (sym e) (in_single x) in
-            record { edge_is = x; there = in_gains x (in_joined (gain_edges (suc n) gains) (length gains) k x (omega (arith, inside, gains_many)) here); begins = refl; ends = omega arith }
-
-    drain_there : (k : ℕ) → k < n → 0 < rise_of (gain_of l weights (rotation_at rotations k)) → IsThere (suc k) (suc n)
-    drain_there k inside some = go (slice_index_or gains k (pos 0)) refl (gain_at k inside)
-      where
-        go : (g : ℤ) → slice_index_or gains k (pos 0) ≡ g → slice_index_or gains k (pos 0) ≡ gain_of l weights (rotation_at rotations k) → IsThere (suc k) (suc n)
-        go (pos zero) e is = let none = ap rise_of (sym e ∙ is) in absurd (omega (arith, some))
-        go (pos (suc m)) e is =
-            let x : Edge = record { from = k + 1; to = suc n; room = Some (suc m) } in
-            let here : Contains (gain_edges (suc n) gains k) x = subst (λ g. Contains (gain_edge (suc n) k g) x) (sym e) (in_single x) in
-            record { edge_is = x; there = in_gains x (in_joined (gain_edges (suc n) gains) (length gains) k x (omega (arith, inside, gains_many)) here); begins = omega arith; ends = refl }
-        go (negsuc m) e is = let none = ap rise_of (sym e ∙ is) in absurd (omega (arith, some))
-
-    -- no gain behind the last rotation
-    past_gain : (k : ℕ) → n ≤ k → rise_of (gain_of l weights (rotation_at rotations k)) ≡ 0
-    past_gain k le = ap (λ r. rise_of (gain_of l weights r)) (get_or_past rotations k [] le)
-
-    bounded_there : (i j : ℕ) → 0 < room_of net i j → IsThere i j
-    bounded_there zero zero some = absurd (omega arith)
-    bounded_there (suc i) zero some = absurd (omega arith)
-    bounded_there zero (suc k) some = elim (lt_or_le k n) [
-      | inl less ↦ supply_there k less (omega (arith, some, supply_room k less))
-      | inr le ↦ absurd (let none : room_of net 0 (suc k) ≡ 0 = rw (le-ltb k n le) refl in omega (arith, some))
-    ]
-    bounded_there (suc i) (suc k) some = elim (eq_or_ne k n) [
-      | inr ne ↦ absurd (let none : room_of net (suc i) (suc k) ≡ 0 = rw (ne_eqb k n ne) refl in omega (arith, some))
-      | inl e ↦ elim (lt_or_le i n) [
-        | inl less ↦
-            let here : room_of net (suc i) (suc k) ≡ rise_of (gain_of l weights (rotation_at rotations i)) = ap (λ m. room_of net (suc i) (suc m)) e ∙ drain_room i in
-            subst (λ m. IsThere (suc i) (suc m)) (sym e) (drain_there i less (omega (arith, some)))
-        | inr le ↦
-            let here : room_of net (suc i) (suc k) ≡ rise_of (gain_of l weights (rotation_at rotations i)) = ap (λ m. room_of net (suc i) (suc m)) e ∙ drain_room i in
-            absurd (omega (arith, some, past_gain i le))
-      ]
-    ]
+    bounded_there : (i j : ℕ) → 0 < room_of net i j → IsThere net raw i j
+    bounded_there i j some =
+        let w = gain_there net gains gains_many falls rises past_gain i j some in
+        record { edge_is = w.edge_is; there = in_gains w.edge_is w.there; begins = w.begins; ends = w.ends }
 
     -- so the merged edges are those of the net
     pub edges_are : (once : List Edge) → AreMerged raw once → AreEdges net once
-    edges_are once w = record {
-      nodes = λ e less. let v = raw_of e less in (omega (arith, v.from_in), omega (arith, v.to_in));
-      rising = w.rising;
-      rooms = λ e less. room_at e less (edge_at once e).room refl (raw_of e less).room_is;
-      all = λ i j h. all i j h;
-    }
-      where
-        raw_of : (e : ℕ) → e < length once → IsRaw (edge_at once e)
-        raw_of e less = All-contains IsRaw raw (edge_at once e) sound (w.among e less)
-
-        room_at : (e : ℕ) → e < length once → (room : Option ℕ) → (edge_at once e).room ≡ room → IsRawRoom (edge_at once e).from (edge_at once e).to (edge_at once e).room → IsRoomOf net (edge_at once e).from (edge_at once e).to (edge_at once e).room
-        room_at e less None is v = subst (λ r. IsRoomOf net (edge_at once e).from (edge_at once e).to r) (sym is) (subst (IsRawRoom (edge_at once e).from (edge_at once e).to) is v)
-        room_at e less (Some b) is v =
-            let u : IsRawRoom (edge_at once e).from (edge_at once e).to (Some b) = subst (IsRawRoom (edge_at once e).from (edge_at once e).to) is v in
-            subst (λ r. IsRoomOf net (edge_at once e).from (edge_at once e).to r) (sym is) (bounded, u.0, u.1)
-          where
-            bounded : IsUnbounded net (edge_at once e).from (edge_at once e).to → ⊥
-            bounded x =
-                let c = w.covered (free (edge_at once e).from (edge_at once e).to) (unbounded_there (edge_at once e).from (edge_at once e).to x) in
-                let at : c.at ≡ e = apart once w.rising c.at e c.there less c.ends in
-                let none : (edge_at once e).room ≡ None = ap (λ a. (edge_at once a).room) (sym at) ∙ c.unbounded refl in
-                let clash : ◌≡◌ {A = Option ℕ} None (Some b) = sym none ∙ is in
-                absurd (grind (arith, clash))
-
-        at_place : (i j : ℕ) (x : Edge) → IsCovered once x → x.from ≡ i → x.to ≡ j → (e : ℕ) × (e < length once) × ((edge_at once e).from ≡ i) × ((edge_at once e).to ≡ j)
-        at_place i j x c from to = (c.at, c.there, c.ends.0 ∙ from, c.ends.1 ∙ to)
-
-        all : (i j : ℕ) → HasEdge net i j → (e : ℕ) × (e < length once) × ((edge_at once e).from ≡ i) × ((edge_at once e).to ≡ j)
-        all i j (inl u) = at_place i j (free i j) (w.covered (free i j) (unbounded_there i j u)) refl refl
-        all i j (inr some) = let v = bounded_there i j some in at_place i j v.edge_is (w.covered v.edge_is v.there) v.begins v.ends
+    edges_are once w = edges_of_raw net raw sound unbounded_there bounded_there once w

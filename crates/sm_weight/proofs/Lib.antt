@@ -5,6 +5,9 @@ pub mod NodeLemmas
 pub mod SizeLemmas
 pub mod CountLemmas
 pub mod GainLemmas
+pub mod MergedLemmas
 pub mod BasisLemmas
 pub mod ShortLemmas
+pub mod SecondLemmas
+pub mod TwoLemmas
 pub mod LightestLemmas

@@ -15,15 +15,15 @@ use Rattle.sm_weight.specs.declared.edges.Edge.{Edge}
 use Rattle.sm_weight.specs.Edges.{loose, room_size, room_total}
 use Rattle.sm_weight.specs.Basis.{joined, need_edges, gain_edge, gain_edges, forced_edges, forbidden_edges, raw_edges}
 
-rooms_append : (xs ys : List Edge) → room_total (xs ++ ys) ≡ room_total xs + room_total ys
+pub rooms_append : (xs ys : List Edge) → room_total (xs ++ ys) ≡ room_total xs + room_total ys
 rooms_append xs ys = sum_by-append (λ (e : Edge). room_size e.room) xs ys
 
 -- what joined lists come to
-joined_few : (f : ℕ → List Edge) (n : ℕ) → length (joined f n) ≡ sum_to (λ k. length (f k)) n
+pub joined_few : (f : ℕ → List Edge) (n : ℕ) → length (joined f n) ≡ sum_to (λ k. length (f k)) n
 joined_few f zero = refl
 joined_few f (suc n) = omega (arith, length-append (joined f n) (f n), joined_few f n)
 
-joined_rooms : (f : ℕ → List Edge) (n : ℕ) → room_total (joined f n) ≡ sum_to (λ k. room_total (f k)) n
+pub joined_rooms : (f : ℕ → List Edge) (n : ℕ) → room_total (joined f n) ≡ sum_to (λ k. room_total (f k)) n
 joined_rooms f zero = refl
 joined_rooms f (suc n) = omega (arith, rooms_append (joined f n) (f n), joined_rooms f n)
 
@@ -49,18 +49,18 @@ loose_rooms i j = go (i == j)
     go true = refl
     go false = refl
 
-gain_few : (sink k : ℕ) (g : ℤ) → length (gain_edge sink k g) ≤ 1
+pub gain_few : (sink k : ℕ) (g : ℤ) → length (gain_edge sink k g) ≤ 1
 gain_few sink k (pos zero) = omega arith
 gain_few sink k (pos (suc m)) = omega arith
 gain_few sink k (negsuc m) = omega arith
 
-gain_rooms : (sink k : ℕ) (g : ℤ) → room_total (gain_edge sink k g) ≤ unsigned_abs g
+pub gain_rooms : (sink k : ℕ) (g : ℤ) → room_total (gain_edge sink k g) ≤ unsigned_abs g
 gain_rooms sink k (pos zero) = omega arith
 gain_rooms sink k (pos (suc m)) = omega arith
 gain_rooms sink k (negsuc m) = omega arith
 
 -- a sum over a list is one over its places
-sum_places : (f : ℤ → ℕ) (xs : List ℤ) (n : ℕ) → n ≤ length xs → sum_to (λ k. f (slice_index_or xs k (pos 0))) n ≡ sum_by f (take n xs)
+pub sum_places : (f : ℤ → ℕ) (xs : List ℤ) (n : ℕ) → n ≤ length xs → sum_to (λ k. f (slice_index_or xs k (pos 0))) n ≡ sum_by f (take n xs)
 sum_places f xs zero le = refl
 sum_places f xs (suc n) le =
     let more : sum_by f (take (n + 1) xs) ≡ sum_by f (take n xs) + f (slice_index_or xs n (pos 0)) = sum_by_more f xs n (pos 0) (omega arith) in

@@ -1,10 +1,8 @@
 -- Weights that are read.
-use Rattle.std.proofs.Common.{◌≡◌, ℕ, suc, ◌+◌, ◌<◌, ◌≤◌, arith, ap, ◌∙◌, List, Vec, length, slice_index_or, ℤ, pos, negsuc, ◌+ℤ◌, neg_ℤ, ◌≤ℤ◌, to_z, of_z, w64}
+use Rattle.std.proofs.Common.{◌≡◌, ℕ, ◌<◌, ap, ◌∙◌, List, Vec, length, slice_index_or, ℤ, pos}
 use Rattle.std.specs.declared.alloc.Global.{Global}
-use Rattle.std.specs.Int.RustNames.{unsigned_abs}
-use Rattle.std.proofs.lemmas.Int.{ints, to_z-of_z, fits_signed_from_abs}
 use Rattle.std.proofs.lemmas.List.{get_or_default}
-use Rattle.sm_theory.specs.Weights.{total, weight_at}
+use Rattle.sm_theory.specs.Weights.{weight_at}
 use Rattle.sm_board.proofs.MakeLemmas.{row_read}
 use Rattle.sm_weight.specs.Sizes.{weights_in, place_weights}
 

@@ -1,5 +1,6 @@
 pub mod Edges
 pub mod Lines
+pub mod Second
 pub mod Spans
 pub mod Sizes
 pub mod Basis

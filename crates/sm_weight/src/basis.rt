@@ -96,7 +96,7 @@ pub(crate) fn net_edges(
         < 2 ^ 24 }
     ensures edges { IfOk result (λ edges. AreNetEdges poset.now (rows_of levels.now) gains.now
         conditions.now.forced.items conditions.now.forbidden.items edges.items) }
-    ensures few { IfOk result (λ edges. length edges.items ≤ 2 ^ 30) }
+    ensures few { IfOk result (λ edges. length edges.items ≤ 2 ^ 28) }
     ensures small { IfOk result (λ edges. room_total edges.items ≤ 2 ^ 62) }
 {
     let sink = sink(poset);
@@ -160,7 +160,7 @@ fn add_needs_of(k: u32, needs: &[u32], edges: &mut Vec<Edge>) -> Result<(), Allo
 }
 
 /// Adds the edges from the source to the rotations with negative gains, and from those with positive ones to the sink.
-fn add_gains(gains: &[i64], sink: u32, edges: &mut Vec<Edge>) -> Result<(), AllocError>
+pub(crate) fn add_gains(gains: &[i64], sink: u32, edges: &mut Vec<Edge>) -> Result<(), AllocError>
     requires few { length gains.now < 2 ^ 24 }
     requires small { sum_by unsigned_abs gains.now ≤ 2 ^ 55 }
     ensures { IfOk result (λ _. edges.new.items ≡ edges.old.items

@@ -9,10 +9,13 @@ use std::alloc::{AllocError, Global};
 /// An edge of a net: the nodes from which and to which it leads, and its room, `None` where it has no bound. An edge without
 /// a bound comes before the others with its ends.
 #[derive(Debug, Clone, Copy, PartialEq, Eq, PartialOrd, Ord)]
-pub(crate) struct Edge {
-    pub(crate) from: u32,
-    pub(crate) to: u32,
-    pub(crate) room: Option<u64>,
+pub struct Edge {
+    /// The node from which the edge leads.
+    pub from: u32,
+    /// The node to which it leads.
+    pub to: u32,
+    /// How much may flow on it, `None` where it has no bound.
+    pub room: Option<u64>,
 }
 
 /// Adds an edge without a bound, unless it would be a loop.

@@ -4,13 +4,20 @@
 //! closed sets whose matchings are allowed, and a least cut is one of a lightest matching (Irving, Leather and Gusfield 1987;
 //! Gusfield and Irving 1989, chapter 3). The set that a maximum flow reaches lies inside all least cuts, so its matching is the
 //! best for all proposers among the lightest ones (Ford and Fulkerson 1956; Picard 1976).
+//!
+//! [`least_cuts`] weighs the least cuts of a net once more, by second gains: they are the cuts of the second net of a maximum flow,
+//! whose edges without a bound are the residual steps of the flow, so a flow in that net finds the least of them (Picard and
+//! Queyranne 1980).
 #![tactic(auto)]
 
 mod basis;
 mod edges;
 mod flows;
 mod gains;
+mod second;
 mod spans;
 mod weighing;
 
+pub use edges::Edge;
+pub use second::{TwoCuts, least_cuts};
 pub use weighing::{LightestFound, lightest};

@@ -50,7 +50,7 @@ returns-in-None c =
     (λ needs are. subst (λ (es : List Edge). AreEdges (poset_net poset levels weights forced forbidden needs) es) (sym c.deref-2.ensures.value) (c.in_ok-edges.ensures.edges weights (c.deref.ensures.value ∙ gains) allowed needs are)) in
     let needs = rows_of c.all_needs-needs.result.now in
     let net = poset_net poset levels weights forced forbidden needs in
-    let found = c.in_ok-least_cut.ensures net size (edges needs c.all_needs-needs.ensures) in
+    let found = c.in_ok-least_cut.ensures.cut net size (edges needs c.all_needs-needs.ensures) in
     let path : IsReachable (IsUnbounded net) 0 (sink_of net) = rw c.in-None.is at found in
     nothing_by_path c.market-market.ensures.poset c.requires.levels weights forced forbidden c.all_needs-needs.ensures path
 
@@ -68,7 +68,7 @@ returns-in-Some c =
     let edges : (needs : List (List ℕ)) → AreNeeds poset.lists poset.rotations needs → AreEdges (poset_net poset levels weights forced forbidden needs) c.deref-2.result.now =
     (λ needs are. subst (λ (es : List Edge). AreEdges (poset_net poset levels weights forced forbidden needs) es) (sym c.deref-2.ensures.value) (c.in_ok-edges.ensures.edges weights (c.deref.ensures.value ∙ gains) allowed needs are)) in
     let each : (needs : List (List ℕ)) → AreNeeds poset.lists poset.rotations needs → IsCutFound (poset_net poset levels weights forced forbidden needs) c.in-Some.found.members.items c.in-Some.found.lines.items c.in-Some.found.value =
-    (λ needs are. let found = c.in_ok-least_cut.ensures (poset_net poset levels weights forced forbidden needs) size (edges needs are) in rw c.in-Some.is at found) in
+    (λ needs are. let found = c.in_ok-least_cut.ensures.cut (poset_net poset levels weights forced forbidden needs) size (edges needs are) in rw c.in-Some.is at found) in
     lightest_found c.market-market.ensures.poset c.requires.levels weights forced forbidden
     (record { set = record { members = c.in-Some.found.members }; gains = c.in_ok-gains.gains; flow = c.in-Some.found.lines; cut = c.in-Some.found.value })
     each c.all_needs-needs.ensures allowed gains
