@@ -6,6 +6,14 @@ use crate::rooms::{list, roommates};
 use sm_room_list::RoomLister;
 use std::process::Abort;
 
+/// Makes sure of the next vector.
+fn comes_to(rt: &(impl Abort + AllocGlobal), lister: &mut RoomLister, digits: &str) {
+    let found = lister.advance().expect(rt, MEMORY);
+    assert!(rt; found, "{digits}");
+    let vector = list(rt, digits);
+    assert!(rt; lister.current() == vector.as_slice(), "{digits}");
+}
+
 /// Makes sure of the vectors behind a cursor, and that none comes behind the last.
 fn gives(rt: &(impl Abort + AllocGlobal), text: &str, after: Option<&str>, wanted: &str) {
     let market = roommates(rt, text);
@@ -14,19 +22,15 @@ fn gives(rt: &(impl Abort + AllocGlobal), text: &str, after: Option<&str>, wante
         assert!(rt; vector.len() == market.persons() as usize, "{text}");
     }
     let mut lister = RoomLister::start(rt.alloc(), market, after).expect(rt, MEMORY);
-    for vector in wanted.split('/') {
-        if vector.is_empty() {
-            continue;
+    for digits in wanted.split('/') {
+        if !digits.is_empty() {
+            comes_to(rt, &mut lister, digits);
         }
-        let found = lister.advance().expect(rt, MEMORY);
-        assert!(rt; found, "{text} {vector}");
-        let vector = list(rt, vector);
-        assert!(rt; lister.current() == vector.as_slice(), "{text}");
     }
-    let found = lister.advance().expect(rt, MEMORY);
-    assert!(rt; !found, "{text}");
-    let found = lister.advance().expect(rt, MEMORY);
-    assert!(rt; !found, "{text}");
+    for _ in 0..2 {
+        let found = lister.advance().expect(rt, MEMORY);
+        assert!(rt; !found, "{text}");
+    }
 }
 
 #[test]
