@@ -3,7 +3,8 @@
 
 ghost use Rattle.std.specs.Prelude.{◌≡◌, length, MatchOption};
 
-use crate::made::{MEMORY, copy, instance};
+use crate::made::{MEMORY, agent, copy, three};
+use sm_instance::{Instance, Kind};
 use sm_lattice::stable_levels;
 use sm_least::Least;
 use sm_lister::{Lister, Listing};
@@ -15,21 +16,36 @@ use std::alloc::AllocError;
 use std::process::Abort;
 
 /// Each proposer's first choice likes it least.
-const THREE_CYCLE: &str = "stable 1 marriage
-p a: x y z
-p b: y z x
-p c: z x y
-r x: b c a
-r y: c a b
-r z: a b c
-end
-";
+fn three_cycle(rt: &(impl Abort + AllocGlobal)) -> Instance {
+    let proposers = three(
+        rt,
+        agent(rt, b'a', 1, &[0, 1, 2]),
+        agent(rt, b'b', 1, &[1, 2, 0]),
+        agent(rt, b'c', 1, &[2, 0, 1]),
+    );
+    let reviewers = three(
+        rt,
+        agent(rt, b'x', 1, &[1, 2, 0]),
+        agent(rt, b'y', 1, &[2, 0, 1]),
+        agent(rt, b'z', 1, &[0, 1, 2]),
+    );
+    Instance::build(
+        rt.alloc(),
+        Kind::Marriage,
+        proposers,
+        reviewers,
+        copy(rt, &[]),
+        copy(rt, &[]),
+        copy(rt, &[]),
+    )
+    .expect(rt, "an instance")
+}
 
 /// A lister of the cycle.
 fn lister(rt: &(impl Abort + AllocGlobal), after: &Option<Vec<u32>>) -> Lister
     requires { MatchOption after.now (Unit {0}) (λ v. length v.items ≡ 3) }
 {
-    let instance = instance(rt, THREE_CYCLE);
+    let instance = three_cycle(rt);
     assert!(rt; instance.proposer_count() == 3);
     let seats = Seats::of(rt.alloc(), &instance).expect(rt, "seats");
     start_list(rt.alloc(), &instance, &seats, after).expect(rt, MEMORY)
@@ -111,7 +127,7 @@ fn finds(
 
 #[test]
 fn a_search_within_bounds(rt: HostRuntime) {
-    let instance = instance(&rt, THREE_CYCLE);
+    let instance = three_cycle(&rt);
     let seats = Seats::of(rt.alloc(), &instance).expect(&rt, "seats");
     let basis = Basis::of(rt.alloc(), &seats).expect(&rt, MEMORY);
     let levels = seats.levels(rt.alloc()).expect(&rt, MEMORY);
@@ -125,7 +141,7 @@ fn a_search_within_bounds(rt: HostRuntime) {
 
 #[test]
 fn levels_in_stable_pairings(rt: HostRuntime) {
-    let instance = instance(&rt, THREE_CYCLE);
+    let instance = three_cycle(&rt);
     let seats = Seats::of(rt.alloc(), &instance).expect(&rt, "seats");
     let basis = Basis::of(rt.alloc(), &seats).expect(&rt, MEMORY);
     let levels = seats.levels(rt.alloc()).expect(&rt, MEMORY);

@@ -1,27 +1,11 @@
-//! What several files make: copies, and instances of a text.
+//! What several files make: copies, agents of one letter, sides of them, and small hospitals.
 
 ghost use Rattle.std.specs.Prelude.{◌≡◌};
 
-use sm_instance::{Input, Instance};
-use sm_reader::read_instance;
+use sm_instance::{Agent, Instance, Kind};
 use std::process::Abort;
 
 pub const MEMORY: &str = "memory";
-
-/// Resident c doesn't stand on k's list; h has two places, k one and z none.
-pub const SMALL_HOSPITALS: &str = "stable 1 hospitals
-p a: k h
-p b: z h
-p c: h k
-r h [2]: c a b
-r k [1]: a
-r z [0]: b
-weight a h 4
-weight c h -10
-force a h
-forbid b h
-end
-";
 
 /// A copy of a list.
 pub fn copy<T: Copy>(rt: &(impl Abort + AllocGlobal), list: &[T]) -> Vec<T>
@@ -30,13 +14,64 @@ pub fn copy<T: Copy>(rt: &(impl Abort + AllocGlobal), list: &[T]) -> Vec<T>
     Vec::from_slice(rt.alloc(), list).expect(rt, MEMORY)
 }
 
-/// The marriage or the hospitals instance of a text.
-pub fn instance(rt: &(impl Abort + AllocGlobal), text: &str) -> Instance {
-    match read_instance(rt.alloc(), text.as_bytes()) {
-        Ok(read) => match read.input {
-            Input::Two(instance) => instance,
-            Input::Room(_) => panic!(rt; "persons"),
-        },
-        Err(_fault) => panic!(rt; "refused"),
+/// An agent of one letter, with a capacity and a list.
+pub fn agent(rt: &(impl Abort + AllocGlobal), letter: u8, capacity: u32, list: &[u32]) -> Agent {
+    Agent {
+        name: copy(rt, &[letter]),
+        capacity,
+        line: 0,
+        entries: copy(rt, list),
     }
+}
+
+/// A side of one agent.
+pub fn one(rt: &(impl Abort + AllocGlobal), agent: Agent) -> Vec<Agent> {
+    let mut side = Vec::new(rt.alloc());
+    side.push(agent).expect(rt, MEMORY);
+    side
+}
+
+/// A side of two agents.
+pub fn two(rt: &(impl Abort + AllocGlobal), first: Agent, second: Agent) -> Vec<Agent> {
+    let mut side = one(rt, first);
+    side.push(second).expect(rt, MEMORY);
+    side
+}
+
+/// A side of three agents.
+pub fn three(
+    rt: &(impl Abort + AllocGlobal),
+    first: Agent,
+    second: Agent,
+    third: Agent,
+) -> Vec<Agent> {
+    let mut side = two(rt, first, second);
+    side.push(third).expect(rt, MEMORY);
+    side
+}
+
+/// The residents a: k h, b: z h and c: h k, who doesn't stand on k's list; h has two places, k one and z none.
+pub fn small_hospitals(rt: &(impl Abort + AllocGlobal)) -> Instance {
+    let residents = three(
+        rt,
+        agent(rt, b'a', 1, &[1, 0]),
+        agent(rt, b'b', 1, &[2, 0]),
+        agent(rt, b'c', 1, &[0, 1]),
+    );
+    let hospitals = three(
+        rt,
+        agent(rt, b'h', 2, &[2, 0, 1]),
+        agent(rt, b'k', 1, &[0]),
+        agent(rt, b'z', 0, &[1]),
+    );
+    Instance::build(
+        rt.alloc(),
+        Kind::Hospitals,
+        residents,
+        hospitals,
+        copy(rt, &[(0, 0, 4), (2, 0, -10)]),
+        copy(rt, &[(0, 0)]),
+        copy(rt, &[(1, 0)]),
+    )
+    .expect(rt, "an instance")
 }

@@ -6,7 +6,7 @@ ghost use Rattle.sm_instance.specs.Sound.{IsInstance};
 ghost use Rattle.sm_instance.specs.Matching.{IsMatching};
 ghost use Rattle.sm_seats.specs.Seating.{seating_of};
 
-use crate::made::{MEMORY, SMALL_HOSPITALS, copy, instance};
+use crate::made::{MEMORY, copy, small_hospitals};
 use sm_instance::{Assignment, Instance};
 use sm_seats::Seats;
 use std::process::Abort;
@@ -60,14 +60,14 @@ fn takes_seats(
 
 #[test]
 fn small_hospitals_have_seats(rt: HostRuntime) {
-    let instance = instance(&rt, SMALL_HOSPITALS);
+    let instance = small_hospitals(&rt);
     let seats = Seats::of(rt.alloc(), &instance).expect(&rt, "seats");
     has_its_lists(&rt, &seats);
 }
 
 #[test]
 fn a_matching_takes_seats(rt: HostRuntime) {
-    let instance = instance(&rt, SMALL_HOSPITALS);
+    let instance = small_hospitals(&rt);
     let seats = Seats::of(rt.alloc(), &instance).expect(&rt, "seats");
     let a = Assignment {
         places: copy(&rt, &[Some(0), Some(1), Some(0)]),

@@ -1,19 +1,24 @@
 //! The best stable matchings of both sides.
 
-use crate::made::{MEMORY, SMALL_HOSPITALS, instance};
-use sm_instance::{Instance, Side};
+use crate::made::{MEMORY, agent, copy, small_hospitals, two};
+use sm_instance::{Instance, Kind, Side};
 use sm_seats::seat_counts;
 use sm_solve::find_solution;
 use std::process::Abort;
 
 /// Each proposer likes best the reviewer that likes it least.
-const OPPOSED: &str = "stable 1 marriage
-p a: c d
-p b: d c
-r c: b a
-r d: a b
-end
-";
+fn opposed(rt: &(impl Abort + AllocGlobal)) -> Instance {
+    Instance::build(
+        rt.alloc(),
+        Kind::Marriage,
+        two(rt, agent(rt, b'a', 1, &[0, 1]), agent(rt, b'b', 1, &[1, 0])),
+        two(rt, agent(rt, b'c', 1, &[1, 0]), agent(rt, b'd', 1, &[0, 1])),
+        copy(rt, &[]),
+        copy(rt, &[]),
+        copy(rt, &[]),
+    )
+    .expect(rt, "an instance")
+}
 
 /// The best stable matching of a side has these places.
 fn has_best(
@@ -30,7 +35,7 @@ fn has_best(
 
 #[test]
 fn both_sides_have_their_best(rt: HostRuntime) {
-    let hospitals = instance(&rt, SMALL_HOSPITALS);
+    let hospitals = small_hospitals(&rt);
     has_best(&rt, &hospitals, None, &[Some(0), Some(1), Some(0)]);
     has_best(
         &rt,
@@ -38,7 +43,7 @@ fn both_sides_have_their_best(rt: HostRuntime) {
         Some(Side::Reviewers),
         &[Some(0), Some(1), Some(0)],
     );
-    let marriage = instance(&rt, OPPOSED);
+    let marriage = opposed(&rt);
     has_best(&rt, &marriage, Some(Side::Proposers), &[Some(0), Some(0)]);
     has_best(&rt, &marriage, Some(Side::Reviewers), &[Some(1), Some(1)]);
 }
