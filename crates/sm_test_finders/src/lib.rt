@@ -12,6 +12,8 @@ mod listings;
 #[cfg(test)]
 mod made;
 #[cfg(test)]
+mod room_listers;
+#[cfg(test)]
 mod rooms;
 #[cfg(test)]
 mod seats;

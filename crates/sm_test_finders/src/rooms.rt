@@ -11,7 +11,7 @@ use sm_room::{Partition, RoomFault, RoomMarket, Table, phase_one, phase_two, sta
 use std::process::Abort;
 
 /// The persons of one list.
-fn list(rt: &(impl Abort + AllocGlobal), text: &str) -> Vec<u32>
+pub fn list(rt: &(impl Abort + AllocGlobal), text: &str) -> Vec<u32>
     ensures { length result.items < 100 }
 {
     let mut list = Vec::new(rt.alloc());
@@ -36,7 +36,7 @@ fn lists(rt: &(impl Abort + AllocGlobal), text: &str) -> Vec<Vec<u32>>
 }
 
 /// The roommates that have these lists.
-fn roommates(rt: &(impl Abort + AllocGlobal), text: &str) -> RoomMarket {
+pub fn roommates(rt: &(impl Abort + AllocGlobal), text: &str) -> RoomMarket {
     RoomMarket::build(rt.alloc(), lists(rt, text)).expect(rt, "roommates")
 }
 
