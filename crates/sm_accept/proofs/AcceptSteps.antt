@@ -2,7 +2,7 @@
 use Rattle.std.proofs.Common.{◌≡◌, ◌≢◌, ℕ, suc, ◌+◌, ◌-◌, ◌<◌, ◌≤◌, ◌⊎◌, List, [], ◌∷◌, Option, Some, None, length, get_or, set, replicate, unwrap_or, Fits, w32, refl, sym, ap, subst, ◌∙◌, arith, ⊎_elim, inl, inr}
 use Rattle.std.proofs.lemmas.Bool.{cases_lt, cases_eq}
 use Rattle.std.proofs.lemmas.List.{get_or_past, get_or-replicate, length-replicate, get_or-set_same, get_or-set_other, length-set}
-use Rattle.std.proofs.lemmas.List.Sums.{sum_by-cons, sum_by-set}
+use Rattle.std.proofs.lemmas.List.Sums.{sum_by-set}
 use Rattle.std.specs.List.{sum_by}
 use Rattle.sm_market.specs.Lists.{Lists, row, entry, place_of, IsMarket}
 use Rattle.sm_market.specs.Limits.{IsWithinLimits}
@@ -10,7 +10,7 @@ use Rattle.sm_market.specs.Matching.{Places, held, standing, IsMatching}
 use Rattle.sm_market.specs.Stable.{IsStable}
 use Rattle.sm_lists.proofs.PlaceLemmas.{place_of-le, entry-place_of}
 use Rattle.sm_market.proofs.PlaceLemmas.{place_of-entry}
-use Rattle.sm_lists.proofs.RowLemmas.{row_fits}
+use Rattle.sm_lists.proofs.RowLemmas.{row_fits, entries_below}
 use Rattle.sm_lists.proofs.ItemLemmas.{set_cases}
 use Rattle.sm_market.proofs.SeatLemmas.{same_place}
 use Rattle.sm_accept.specs.Accepting.{IsHolding, holds, AreFree, IsProgress, TakesProposal, IsTakenIn, IsTakenFor, IsRejected}
@@ -264,20 +264,12 @@ answered market g begun on (inr t) =
 abbrev pub places_left : List (List ℕ) → List ℕ → ℕ
 places_left rows next = sum_by (λ list. length list) rows - sum_by (λ i. i) next
 
-sums_le : (rows : List (List ℕ)) (next : List ℕ) → length next ≡ length rows → ((p : ℕ) → get_or next p 0 ≤ length (row rows p)) → sum_by (λ i. i) next ≤ sum_by (λ list. length list) rows
-sums_le rows [] long le = omega arith
-sums_le [] (i ∷ next) long le = absurd (omega arith)
-sums_le (list ∷ rows) (i ∷ next) long le =
-    let first : i ≤ length list = le 0 in
-    let rest = sums_le rows next (omega arith) (λ p. le (suc p)) in
-    omega (arith, sum_by-cons (λ (list : List ℕ). length list) list rows, sum_by-cons (λ (i : ℕ). i) i next)
-
 -- fewer where one goes on
 pub places_left_fall : {l : Lists} {b q : ℕ} {next standings : List ℕ} → IsMarket l → IsProgress l b q next standings → q < length l.proposers → IsTurnedDown l q next standings
     → places_left l.proposers (set next q (get_or next q 0 + 1)) < places_left l.proposers next
 places_left_fall {l} {b} {q} {next} {standings} market g in_range t =
     let after = progress_goes_on market g in_range t in
-    let le = sums_le l.proposers (set next q (get_or next q 0 + 1)) after.proposers_each after.next_on_list in
+    let le = entries_below l.proposers (set next q (get_or next q 0 + 1)) after.proposers_each after.next_on_list in
     let there : q < length next = let each = g.proposers_each in omega arith in
     let more = sum_by-set (λ (i : ℕ). i) next q (get_or next q 0 + 1) 0 there in
     omega arith

@@ -1,7 +1,5 @@
 -- Rows that are made one after the other.
 use Rattle.std.proofs.Common.{◌≡◌, ℕ, ◌<◌, [], refl, sym, List, Bool, Vec, length, map, is_some, slice_index, slice_index_or}
-use Rattle.std.specs.declared.alloc.Global.{Global}
-use Rattle.std.proofs.lemmas.List.{get_or-map}
 use Rattle.sm_market.specs.Lists.{row, agents}
 use Rattle.sm_market.specs.Matching.{held}
 use Rattle.sm_theory.specs.Chains.{AreNeedsOf}
@@ -9,10 +7,6 @@ use Rattle.sm_theory.specs.Vectors.{AreLevels}
 use Rattle.sm_poset.specs.Moves.{AreMoves}
 use Rattle.sm_poset.specs.Posets.{RotationPoset, IsPoset}
 use Rattle.sm_board.specs.BoardOf.{places_at, IsBoardFor}
-
--- a row that is read
-pub row_read : {X : Type 0} (vectors : List (Vec X Global)) (p : ℕ) (d : Vec X Global) → p < length vectors → (slice_index_or vectors p d).items ≡ slice_index_or (map (λ v. v.items) vectors) p []
-row_read vectors p d less = sym (get_or-map (λ v. v.items) vectors p d [] less)
 
 -- a board that has all the parts of a poset's board is that board
 pub board_for : {poset : RotationPoset} {levels : List (List ℕ)} (needs : List (List ℕ)) (moves : List (List (ℕ × ℕ))) (movers leaves made : List (List ℕ)) (matched : List Bool) → IsPoset poset → AreLevels poset.lists levels

@@ -5,10 +5,10 @@ use Rattle.std.proofs.lemmas.List.FromFn.{get_or-map-range_with_len, length-map-
 use Rattle.sm_market.specs.Lists.{Lists}
 use Rattle.sm_market.specs.Matching.{Places}
 use Rattle.sm_theory.specs.ClosedSets.{IsClosed, matching_of}
-use Rattle.sm_theory.specs.Vectors.{IsOrder, IsBefore, IsWithin, IsAllowed, IsAllowedVector, level_of, level_vector_of}
+use Rattle.sm_theory.specs.Vectors.{IsOrder, IsBefore, IsWithin, IsAllowed, IsAllowedVector, level_of, level_vector_of, AreInRange}
 use Rattle.sm_theory.proofs.Chains.Rotations.{sets_are_matchings}
 use Rattle.sm_board.specs.Board.{Gates, Fits}
-use Rattle.sm_board.specs.BoardOf.{board_of, IsGround, AreGates, AreInRange}
+use Rattle.sm_board.specs.BoardOf.{board_of, IsGround, AreGates}
 use Rattle.sm_board.specs.Walks.{vector, ExcludeNothing, WalkIsNext}
 use Rattle.sm_board.proofs.BoardBridge.{board, many}
 use Rattle.sm_board.proofs.BoardSets.{level_is, gates_mean_conditions}

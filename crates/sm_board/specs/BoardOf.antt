@@ -6,7 +6,7 @@ use Rattle.sm_market.specs.Matching.{Places, held, standing}
 use Rattle.sm_market.specs.Stable.{IsStable}
 use Rattle.sm_theory.specs.Chains.{IsCompleteChain, AreNeedsOf}
 use Rattle.sm_theory.specs.ClosedSets.{IsClosed, matching_of}
-use Rattle.sm_theory.specs.Vectors.{AreLevels, level_of, IsAllowed, IsWithin, HasLevel}
+use Rattle.sm_theory.specs.Vectors.{AreLevels, level_of, IsAllowed, IsWithin, HasLevel, AreInRange}
 use Rattle.sm_poset.specs.Moves.{AreMoves, moves_at}
 use Rattle.sm_poset.specs.Posets.{RotationPoset}
 use Rattle.sm_board.specs.Board.{is_shut, Board, IsBoard, stay, level, stay_level, IsClosedIn, Gates, IsOpen, Fits, IsLeast}
@@ -58,10 +58,6 @@ pub record IsAllowedStay (b : Board) (low high : List ℕ) (forced forbidden : L
 abbrev pub AreGates : Board → (low high : List ℕ) → (forced forbidden : List (ℕ × ℕ)) → Gates → Type 0
 AreGates b low high forced forbidden g = (p a : ℕ) → p < length b.leaves → a < length (row b.levels p)
     → IsOpen g p a ↔ IsAllowedStay b low high forced forbidden p a
-
--- the conditions that force something speak of proposers that there are
-abbrev pub AreInRange : ℕ → List (ℕ × ℕ) → Type 0
-AreInRange n conditions = (c : ℕ) → c < length conditions → (slice_index_or conditions c (0, 0)).0 < n
 
 -- a stable matching within the bounds and allowed, than which no proposer has a better one
 pub record IsLeastWithin (l : Lists) (levels : List (List ℕ)) (low high : List ℕ)

@@ -5,10 +5,10 @@ use Rattle.std.specs.List.{range_with_len}
 use Rattle.sm_market.specs.Lists.{Lists}
 use Rattle.sm_market.specs.Matching.{Places}
 use Rattle.sm_market.specs.Stable.{IsStable}
-use Rattle.sm_theory.specs.Vectors.{IsOrder, IsBefore, IsWithin, IsAllowedVector}
+use Rattle.sm_theory.specs.Vectors.{IsOrder, IsBefore, IsWithin, IsAllowedVector, AreInRange}
 use Rattle.sm_theory.specs.Listings.{IsNextListed, IsNoneBehind}
 use Rattle.sm_board.specs.Board.{Board, IsBoard, level, IsInside, Gates, Fits, IsLeast, IsFirstChange}
-use Rattle.sm_board.specs.BoardOf.{board_of, IsGround, AreGates, AreInRange}
+use Rattle.sm_board.specs.BoardOf.{board_of, IsGround, AreGates}
 
 -- the levels in the matching of a set
 abbrev pub vector : Board → List Bool → List ℕ

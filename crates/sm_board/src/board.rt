@@ -38,35 +38,36 @@ impl Model for Board {
 }
 
 impl Board {
-    /// For each proposer the levels of its stays.
+    /// For each proposer the levels of its stays, in the order of the stays. Takes constant time.
     pub fn all_levels(&self) -> &[Vec<u32>]
         ensures { rows_of result.now ≡ self.now.levels }
     {
         &self.levels
     }
 
-    /// For each proposer whether it is matched.
+    /// For each proposer whether it is matched. Takes constant time.
     pub fn matched(&self) -> &[bool]
         ensures { result.now ≡ self.now.matched }
     {
         &self.matched
     }
 
-    /// How many proposers there are.
+    /// How many proposers there are. Takes constant time.
     pub fn proposers(&self) -> usize
         ensures { result ≡ length self.now.leaves }
     {
         self.leaves.len()
     }
 
-    /// How many rotations there are.
+    /// How many rotations there are. Takes constant time.
     pub fn rotations(&self) -> usize
         ensures { result ≡ length self.now.needs }
     {
         self.needs.len()
     }
 
-    /// The rotations that end the stays of a proposer, but for the last one.
+    /// For each stay of a proposer but the last one the rotation that ends it. Proposers, stays and rotations are numbered from
+    /// 0. Takes constant time.
     pub fn leaves(&self, p: u32) -> &[u32]
         requires { p < length self.now.leaves }
         ensures { result.now ≡ row self.now.leaves p }
@@ -74,7 +75,7 @@ impl Board {
         &self.leaves[p as usize]
     }
 
-    /// The predecessors of a rotation.
+    /// The predecessors of a rotation. All are numbered from 0. Takes constant time.
     pub fn needs(&self, x: u32) -> &[u32]
         requires { x < length self.now.needs }
         ensures { result.now ≡ row self.now.needs x }
@@ -82,7 +83,7 @@ impl Board {
         &self.needs[x as usize]
     }
 
-    /// The proposers that a rotation moves.
+    /// The proposers that a rotation moves. All are numbered from 0. Takes constant time.
     pub fn movers(&self, x: u32) -> &[u32]
         requires { x < length self.now.movers }
         ensures { result.now ≡ row self.now.movers x }
@@ -90,7 +91,7 @@ impl Board {
         &self.movers[x as usize]
     }
 
-    /// The rotation that ends a stay of a proposer.
+    /// The rotation that ends a stay of a proposer. All are numbered from 0. Takes constant time.
     pub fn leave(&self, p: u32, stay: usize) -> u32
         requires proposer { p < length self.now.leaves }
         requires stay { stay < length (row self.now.leaves p) }
@@ -99,7 +100,7 @@ impl Board {
         self.leaves[p as usize][stay]
     }
 
-    /// How many stays a proposer has.
+    /// How many stays a proposer has: one more than the rotations that move it. Takes constant time.
     pub fn stays(&self, p: u32) -> usize
         requires { p < length self.now.levels }
         ensures { result ≡ length (row self.now.levels p) }
@@ -107,7 +108,8 @@ impl Board {
         self.levels[p as usize].len()
     }
 
-    /// The level of a stay of a proposer.
+    /// The level of a stay of a proposer, as the caller gave it for the place. Proposers and stays are numbered from 0. Takes
+    /// constant time.
     pub fn level(&self, p: u32, stay: usize) -> u32
         requires proposer { p < length self.now.levels }
         requires stay { stay < length (row self.now.levels p) }

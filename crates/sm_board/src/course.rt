@@ -37,7 +37,11 @@ impl Model for Course {
 }
 
 impl Course {
-    /// A board for which there is no order yet.
+    /// A board for which there is no order yet. Takes time and memory in proportion to the proposers and rotations.
+    ///
+    /// # Errors
+    ///
+    /// `AllocError` where memory ran out, and only then.
     pub fn new(alloc: Global, board: Board) -> Result<Course, AllocError>
         requires board { IsBoard board }
         requires few { length board.leaves < 2 ^ 32 }
@@ -67,7 +71,7 @@ impl Course {
         find_first(&self.board, order, &mut self.first);
     }
 
-    /// The proposer at a position of the order.
+    /// The proposer at a position of the order. Positions and proposers are numbered from 0. Takes constant time.
     pub fn proposer_at(&self, position: u32) -> u32
         requires { position < length self.now.order }
         ensures proposer { result ≡ slice_index self.now.order position }
@@ -79,7 +83,7 @@ impl Course {
         self.order[position as usize]
     }
 
-    /// The board.
+    /// The board on which this order stands. Takes constant time.
     pub fn board(&self) -> &Board
         ensures board { result.now ≡ self.now.board }
         ensures course { IsCourse self.now }
@@ -90,7 +94,7 @@ impl Course {
         &self.board
     }
 
-    /// How many proposers there are.
+    /// How many proposers there are. Takes constant time.
     pub fn proposers(&self) -> u32
         ensures proposers { result ≡ length self.now.board.leaves }
         ensures course { IsCourse self.now }
@@ -99,7 +103,7 @@ impl Course {
         board.leaves.len() as u32
     }
 
-    /// The predecessors of a rotation.
+    /// The predecessors of a rotation. All are numbered from 0. Takes constant time.
     pub fn needs(&self, x: u32) -> &[u32]
         requires { x < length self.now.board.needs }
         ensures needs { result.now ≡ row self.now.board.needs x }
@@ -108,7 +112,7 @@ impl Course {
         self.board().needs(x)
     }
 
-    /// The proposers that a rotation moves.
+    /// The proposers that a rotation moves. All are numbered from 0. Takes constant time.
     pub fn movers(&self, x: u32) -> &[u32]
         requires { x < length self.now.board.needs }
         ensures movers { result.now ≡ row self.now.board.movers x }
@@ -117,7 +121,7 @@ impl Course {
         self.board().movers(x)
     }
 
-    /// The rotation that ends a stay of a proposer.
+    /// The rotation that ends a stay of a proposer. All are numbered from 0. Takes constant time.
     pub fn leave(&self, p: u32, stay: usize) -> u32
         requires proposer { p < length self.now.board.leaves }
         requires stay { stay < length (row self.now.board.leaves p) }
@@ -127,7 +131,9 @@ impl Course {
         self.board().leave(p, stay)
     }
 
-    /// A rotation enters, where it changes no level before a bar.
+    /// Enters a rotation unless that changes the level at a position before `bar`. True if it entered; what is held is then one
+    /// rotation more, and otherwise what it was. Positions and rotations are numbered from 0. Takes time in proportion to the
+    /// proposers that the rotation moves, and constant time where it does not enter.
     pub fn enter(&self, held: &mut Held, x: u32, bar: u32) -> bool
         requires held { IsHeld self.now.board held.old }
         requires positions { bar ≤ length self.now.order }
@@ -148,7 +154,8 @@ impl Course {
         true
     }
 
-    /// The rotations leave that entered last, until so many are held.
+    /// Undoes the latest entries until `count` rotations are held. Takes time in proportion to the proposers that these
+    /// rotations move.
     pub fn back(&self, held: &mut Held, count: usize)
         requires held { IsHeld self.now.board held.old }
         requires some { count ≤ length held.old.log }
@@ -159,7 +166,8 @@ impl Course {
         held.back(self.board(), count);
     }
 
-    /// For each rotation the first position whose level it changes, or the end of the order.
+    /// For each rotation the first position whose level it changes, or the end of the order where it changes none. Positions
+    /// and rotations are numbered from 0. Takes constant time.
     pub fn first_positions(&self) -> &[u32]
         ensures positions { result.now ≡ self.now.first }
         ensures course { IsCourse self.now }

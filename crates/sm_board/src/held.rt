@@ -45,7 +45,11 @@ impl Model for Held {
 }
 
 impl Held {
-    /// No rotations of a board, and room for all of them.
+    /// No rotations of a board, and room for all of them. Takes time and memory in proportion to the proposers and rotations.
+    ///
+    /// # Errors
+    ///
+    /// `AllocError` where memory ran out, and only then.
     pub fn nothing(alloc: Global, board: &Board) -> Result<Held, AllocError>
         requires { IsBoard board.now }
         ensures held { IfOk result (λ held. IsHeld board.now held) }
@@ -62,14 +66,14 @@ impl Held {
         })
     }
 
-    /// The set that is held.
+    /// The set of the rotations that are held. Takes constant time.
     pub fn set(&self) -> &ClosedSet
         ensures { result.now.members.items ≡ self.now.set }
     {
         &self.set
     }
 
-    /// How many rotations are held.
+    /// How many rotations are held. Takes constant time.
     pub fn count(&self) -> usize
         ensures { result ≡ length self.now.log }
     {
@@ -77,7 +81,7 @@ impl Held {
         self.count
     }
 
-    /// Whether a rotation is held.
+    /// Whether a rotation is held. Rotations are numbered from 0. Takes constant time.
     pub fn has(&self, x: u32) -> bool
         requires { x < length self.now.set }
         ensures yes { result ≡ true → IsMember self.now.set x }
@@ -86,7 +90,7 @@ impl Held {
         self.set.members[x as usize]
     }
 
-    /// The rotation that entered at a place of the log.
+    /// The rotation that entered at a place of the log. Places and rotations are numbered from 0. Takes constant time.
     pub fn entered(&self, place: usize) -> u32
         requires { place < length self.now.log }
         ensures { result ≡ slice_index self.now.log place }
@@ -94,7 +98,7 @@ impl Held {
         self.log[place]
     }
 
-    /// The stay of a proposer.
+    /// The stay of a proposer in the matching of what is held. Proposers and stays are numbered from 0. Takes constant time.
     pub fn stay(&self, p: u32) -> usize
         requires { p < length self.now.stays }
         ensures { result ≡ slice_index self.now.stays p }
@@ -102,14 +106,14 @@ impl Held {
         self.stays[p as usize]
     }
 
-    /// The levels of all proposers.
+    /// The levels of all proposers in the matching of what is held. Takes constant time.
     pub fn levels(&self) -> &[u32]
         ensures { result.now ≡ self.now.levels }
     {
         &self.levels
     }
 
-    /// The level of a proposer.
+    /// The level of a proposer in the matching of what is held. Takes constant time.
     pub fn level(&self, p: u32) -> u32
         requires { p < length self.now.levels }
         ensures { result ≡ slice_index self.now.levels p }

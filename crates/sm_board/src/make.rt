@@ -113,6 +113,10 @@ fn stay_levels(
 /// The board of a poset with levels.
 ///
 /// Takes time and memory in proportion to the proposers, the pairs of the rotations and the predecessors.
+///
+/// # Errors
+///
+/// `AllocError` where memory ran out, and only then.
 pub fn make_board(alloc: Global, poset: &Poset, levels: &[Vec<u32>]) -> Result<Board, AllocError>
     requires { AreLevels poset.now.lists (rows_of levels.now) }
     ensures { IfOk result (λ board. IsBoardFor poset.now (rows_of levels.now) board) }

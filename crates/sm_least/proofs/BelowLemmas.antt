@@ -13,7 +13,7 @@ use Rattle.sm_market.specs.Stable.{IsStable}
 use Rattle.sm_market.proofs.Bridge.{standing-some}
 use Rattle.sm_market.proofs.PairingLemmas.{held_in_range}
 use Rattle.sm_theory.specs.ClosedSets.{IsClosed, matching_of}
-use Rattle.sm_theory.specs.Vectors.{IsAllowed, IsWithin}
+use Rattle.sm_theory.specs.Vectors.{IsAllowed, IsWithin, AreInRange}
 use Rattle.sm_theory.specs.Weights.{rank_of_place, regret_of}
 use Rattle.sm_theory.proofs.Chains.Rotations.{sets_are_matchings}
 use Rattle.sm_theory.proofs.Chains.Sets.{sets_are_ordered}
@@ -22,7 +22,7 @@ use Rattle.sm_poset.specs.Moves.{moves_at, rotation_of, place_to}
 use Rattle.sm_poset.proofs.ChainLemmas.{move_stands}
 use Rattle.sm_poset.proofs.MoveLemmas.{go_down}
 use Rattle.sm_board.specs.Board.{Board, IsBoard, stay, level, stay_level, Gates, IsOpen, Fits, IsLeast}
-use Rattle.sm_board.specs.BoardOf.{IsGround, IsBoardFor, AreInRange, AreGates}
+use Rattle.sm_board.specs.BoardOf.{IsGround, IsBoardFor, AreGates}
 use Rattle.sm_board.specs.Courses.{Held, IsHeld}
 use Rattle.sm_board.proofs.BoardLemmas.{stays_in}
 use Rattle.sm_board.proofs.BoardBridge.{board, place, many, all_moves, stands, levels_long, stay_level_is}

@@ -4,12 +4,12 @@ use Rattle.std.proofs.lemmas.List.{ext_get_or}
 use Rattle.sm_market.specs.Matching.{Places}
 use Rattle.sm_market.specs.Stable.{IsStable}
 use Rattle.sm_theory.specs.ClosedSets.{IsClosed, matching_of}
-use Rattle.sm_theory.specs.Vectors.{IsAllowed, IsWithin, level_of, level_vector_of}
+use Rattle.sm_theory.specs.Vectors.{IsAllowed, IsWithin, level_of, level_vector_of, AreInRange}
 use Rattle.sm_theory.proofs.Chains.Rotations.{sets_are_matchings}
 use Rattle.sm_poset.specs.Posets.{RotationPoset}
 use Rattle.sm_board.specs.Board.{Board, IsBoard, stay, level, Gates, Fits, IsLeast, IsClosedIn}
 use Rattle.sm_board.specs.Walks.{vector, ExcludeNothing}
-use Rattle.sm_board.specs.BoardOf.{AreGates, AreInRange, IsLeastWithin, IsBestAllowed, IsBoardFor}
+use Rattle.sm_board.specs.BoardOf.{AreGates, IsLeastWithin, IsBestAllowed, IsBoardFor}
 use Rattle.sm_board.specs.Growing.{IsLogOf}
 use Rattle.sm_board.specs.Courses.{Held, IsHeld}
 use Rattle.sm_least.specs.Gates.{AreUnbounded, AreWide}

@@ -4,7 +4,8 @@ ghost use Rattle.std.specs.Prelude.{◌≡◌, ◌≢◌, ℕ, ◌+◌, ◌-◌,
 ghost use Rattle.sm_market.specs.Lists.{row};
 ghost use Rattle.sm_market.specs.Vectors.{rows_of};
 ghost use Rattle.sm_board.specs.Board.{Gates, IsBoard, is_shut};
-ghost use Rattle.sm_board.specs.BoardOf.{AreGates, AreInRange};
+ghost use Rattle.sm_board.specs.BoardOf.{AreGates};
+ghost use Rattle.sm_theory.specs.Vectors.{AreInRange};
 ghost use Rattle.sm_lists.specs.Rows.{place_on};
 ghost use Rattle.sm_least.specs.Regrets.{rank_of_level, IsRanked, AreOpenUpTo, AreShutAbove};
 ghost use Rattle.sm_least.specs.Steps.{IsNarrowed, AreShut, rows_in, AreRowsFor, AreAvoided, NeverFall, IsDivided};

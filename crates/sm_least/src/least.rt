@@ -5,14 +5,14 @@ ghost use Rattle.sm_market.specs.Vectors.{rows_of};
 ghost use Rattle.sm_market.specs.Matching.{Places};
 ghost use Rattle.sm_market.specs.Stable.{IsStable};
 ghost use Rattle.sm_theory.specs.ClosedSets.{IsClosed, matching_of};
-ghost use Rattle.sm_theory.specs.Vectors.{AreLevels, IsAllowed, IsWithin, IsOrder, level_vector_of};
+ghost use Rattle.sm_theory.specs.Vectors.{AreLevels, IsAllowed, IsWithin, IsOrder, level_vector_of, AreInRange};
 ghost use Rattle.sm_board.specs.Board.{IsBoard, Fits, IsLeast, IsClosedIn, level, members_in};
 ghost use Rattle.sm_board.specs.Growing.{IsLogOf};
 ghost use Rattle.sm_theory.specs.Weights.{regret_of};
 ghost use Rattle.sm_least.specs.Gates.{AreUnbounded};
 ghost use Rattle.sm_theory.specs.Regrets.{AreRanks, IsBestBelow};
 ghost use Rattle.sm_least.specs.Regrets.{IsRanked, AreAtStays, rank_now, greatest_of};
-ghost use Rattle.sm_board.specs.BoardOf.{AreInRange, IsLeastWithin, IsBestAllowed};
+ghost use Rattle.sm_board.specs.BoardOf.{IsLeastWithin, IsBestAllowed};
 ghost use Rattle.sm_board.specs.Walks.{IsRaised, IsNotRaised};
 ghost use Rattle.sm_least.specs.Searches.{IsSearch, IsSame, search_of};
 

@@ -2,9 +2,8 @@
 use Rattle.std.proofs.Common.{◌≡◌, ◌⊎◌, ℕ, ◌+◌, ◌<◌, inl, inr, arith, sym, ◌∙◌, subst, List, length, Bool, true, false, slice_index}
 use Rattle.std.proofs.lemmas.Bool.{false≢true}
 use Rattle.sm_lists.proofs.Counting.{less_same_more}
-use Rattle.sm_theory.specs.Vectors.{IsOrder}
+use Rattle.sm_theory.specs.Vectors.{IsOrder, AreInRange}
 use Rattle.sm_board.specs.Board.{IsFirstChange, Gates, Fits, IsLeast}
-use Rattle.sm_board.specs.BoardOf.{AreInRange}
 use Rattle.sm_least.specs.Searches.{Search, IsSearch}
 use Rattle.sm_board.specs.Courses.{Course, IsCourse, Held, IsHeld}
 use Rattle.sm_least.specs.Gates.{AreUnbounded, AreGatesOf}

@@ -1,9 +1,9 @@
 -- What a `Lister` keeps.
 use Rattle.std.specs.Prelude.{◌≡◌, ℕ, Bool, true, List, Some, length}
-use Rattle.sm_theory.specs.Vectors.{IsOrder}
+use Rattle.sm_theory.specs.Vectors.{IsOrder, AreInRange}
 use Rattle.sm_poset.specs.Posets.{RotationPoset}
 use Rattle.sm_board.specs.Board.{Gates, Fits}
-use Rattle.sm_board.specs.BoardOf.{AreGates, AreInRange, IsBoardFor}
+use Rattle.sm_board.specs.BoardOf.{AreGates, IsBoardFor}
 use Rattle.sm_board.specs.Courses.{Course, Held}
 use Rattle.sm_board.specs.Walks.{vector, ExcludeNothing}
 use Rattle.sm_lister.specs.declared.vector_walk.VectorWalk.{VectorWalk}

@@ -2,8 +2,7 @@
 
 ghost use Rattle.std.specs.Prelude.{◌≡◌, true, false, List, ℕ, Option, Some, length, option_map, IfOk, MatchOption};
 ghost use Rattle.sm_theory.specs.ClosedSets.{IsClosed};
-ghost use Rattle.sm_theory.specs.Vectors.{IsOrder};
-ghost use Rattle.sm_board.specs.BoardOf.{AreInRange};
+ghost use Rattle.sm_theory.specs.Vectors.{IsOrder, AreInRange};
 ghost use Rattle.sm_lister.specs.Listers.{IsStarted, IsNextOf, IsAtEnd, IsSameLister, vector_of};
 
 use crate::vector_walk::{VectorWalk, advance};

@@ -9,8 +9,7 @@ use Rattle.sm_instance.specs.Written.{Written, place_of}
 use Rattle.sm_instance.specs.Sound.{IsInstance, IsPairOf}
 use Rattle.sm_lists.specs.Pairs.{pair_at}
 use Rattle.sm_instance.proofs.ItemLemmas.{forced_in_range, forbidden_in_range}
-use Rattle.sm_theory.specs.Vectors.{IsOrder}
-use Rattle.sm_board.specs.BoardOf.{AreInRange}
+use Rattle.sm_theory.specs.Vectors.{IsOrder, AreInRange}
 use Rattle.sm_seats.specs.Correspondence.{leveled}
 use Rattle.sm_listing.specs.ListAnswer.{IsCursor}
 use Rattle.sm_listing.specs.Started.{cursor_in}

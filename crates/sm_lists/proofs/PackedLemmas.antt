@@ -11,8 +11,8 @@ use Rattle.std.specs.List.{sum_by}
 use Rattle.std.specs.Vec.{with_items}
 use Rattle.std.specs.declared.alloc.Global.{Global}
 use Rattle.sm_lists.specs.Rows.{lists_in}
-use Rattle.sm_lists.specs.declared.packed.Room.{Room}
-use Rattle.sm_lists.specs.Packed.{no_room, filled_in, packed_list, packed_lists, emptied, AreApart, AreRooms, AreFull, HasSpace}
+use Rattle.sm_lists.specs.declared.packed.Slot.{Slot}
+use Rattle.sm_lists.specs.Packed.{no_slot, filled_in, packed_list, packed_lists, emptied, AreApart, AreSlots, AreFull, HasSpace}
 use Rattle.sm_lists.proofs.ItemLemmas.{set_cases}
 
 -- values that two functions give alike
@@ -42,18 +42,18 @@ added_cases P [] y d here there (suc j) = there (suc j) (λ e. absurd (omega (ar
 added_cases P (x ∷ xs) y d here there zero = there 0 (λ e. absurd (omega (arith, e)))
 added_cases P (x ∷ xs) y d here there (suc j) = added_cases (λ k. P (suc k)) xs y d here (λ k ne. there (suc k) (λ e. ne (omega (arith, e)))) j
 
--- the list at an index is that of the room there
-list_read : {T : Type 0} (items : List T) (rooms : List Room) (a : ℕ) → get_or (packed_lists items rooms) a [] ≡ packed_list items (get_or rooms a no_room)
+-- the list at an index is that of the slot there
+list_read : {T : Type 0} (items : List T) (slots : List Slot) (a : ℕ) → get_or (packed_lists items slots) a [] ≡ packed_list items (get_or slots a no_slot)
 list_read items [] a = refl
-list_read items (r ∷ rooms) zero = refl
-list_read items (r ∷ rooms) (suc a) = list_read items rooms a
+list_read items (r ∷ slots) zero = refl
+list_read items (r ∷ slots) (suc a) = list_read items slots a
 
--- a list is as long as its room is filled
-long_as_filled : {T : Type 0} (items : List T) (r : Room) → r.start ≤ r.end → r.end ≤ length items → length (packed_list items r) ≡ filled_in r
+-- a list is as long as its slot is filled
+long_as_filled : {T : Type 0} (items : List T) (r : Slot) → r.start ≤ r.end → r.end ≤ length items → length (packed_list items r) ≡ filled_in r
 long_as_filled items r ordered within = let left = length-drop r.start items in length-take-le (filled_in r) (drop r.start items) (omega arith)
 
--- an item that is written outside a list's room changes nothing of the list
-list_kept : {T : Type 0} (items : List T) (r : Room) (k : ℕ) (x : T) → r.start ≤ r.end → r.end ≤ r.limit → ((k < r.start) ⊎ (r.limit ≤ k)) → packed_list (set items k x) r ≡ packed_list items r
+-- an item that is written outside a list's slot changes nothing of the list
+list_kept : {T : Type 0} (items : List T) (r : Slot) (k : ℕ) (x : T) → r.start ≤ r.end → r.end ≤ r.limit → ((k < r.start) ⊎ (r.limit ≤ k)) → packed_list (set items k x) r ≡ packed_list items r
 list_kept items r k x ordered filled outside = ⊎_elim
     (λ before. ap (take (filled_in r)) (drop-set-lt r.start items k x before))
     (λ behind.
@@ -63,19 +63,19 @@ list_kept items r k x ordered filled outside = ⊎_elim
     ∙ take-set-le (filled_in r) (drop r.start items) (k - r.start) x (omega arith))
     outside
 
--- nor does one in the room of another list
-others_kept : {T : Type 0} (items : List T) (rooms : List Room) (a k : ℕ) (x : T) → AreRooms (length items) rooms → (get_or rooms a no_room).start ≤ k → k < (get_or rooms a no_room).limit
-    → (b : ℕ) → b ≢ a → packed_list (set items k x) (get_or rooms b no_room) ≡ packed_list items (get_or rooms b no_room)
-others_kept items rooms a k x h from up_to b ne =
-    list_kept items (get_or rooms b no_room) k x (h.ordered b) (h.filled b)
+-- nor does one in the slot of another list
+others_kept : {T : Type 0} (items : List T) (slots : List Slot) (a k : ℕ) (x : T) → AreSlots (length items) slots → (get_or slots a no_slot).start ≤ k → k < (get_or slots a no_slot).limit
+    → (b : ℕ) → b ≢ a → packed_list (set items k x) (get_or slots b no_slot) ≡ packed_list items (get_or slots b no_slot)
+others_kept items slots a k x h from up_to b ne =
+    list_kept items (get_or slots b no_slot) k x (h.ordered b) (h.filled b)
     (⊎_elim (λ before. inr (omega arith)) (λ behind. inl (omega arith)) (h.apart b a ne))
 
 -- an item of a list is replaced
-pub lists_put : {T : Type 0} (items : List T) (rooms : List Room) (a k place : ℕ) (x : T) → AreRooms (length items) rooms → k ≡ (get_or rooms a no_room).start + place
-    → place < length (get_or (packed_lists items rooms) a []) → packed_lists (set items k x) rooms ≡ set (packed_lists items rooms) a (set (get_or (packed_lists items rooms) a []) place x)
-lists_put items rooms a k place x h at on =
-    let r : Room = get_or rooms a no_room in
-    let read = list_read items rooms a in
+pub lists_put : {T : Type 0} (items : List T) (slots : List Slot) (a k place : ℕ) (x : T) → AreSlots (length items) slots → k ≡ (get_or slots a no_slot).start + place
+    → place < length (get_or (packed_lists items slots) a []) → packed_lists (set items k x) slots ≡ set (packed_lists items slots) a (set (get_or (packed_lists items slots) a []) place x)
+lists_put items slots a k place x h at on =
+    let r : Slot = get_or slots a no_slot in
+    let read = list_read items slots a in
     let ordered : r.start ≤ r.end = h.ordered a in
     let filled : r.end ≤ r.limit = h.filled a in
     let within : r.limit ≤ length items = h.within a in
@@ -83,12 +83,12 @@ lists_put items rooms a k place x h at on =
     let inside : place < filled_in r = omega arith in
     let here : packed_list (set items k x) r ≡ set (packed_list items r) place x =
     ap (λ n. take (filled_in r) (drop r.start (set items n x))) at ∙ ap (take (filled_in r)) (drop-set-add r.start items place x) ∙ take_set (filled_in r) (drop r.start items) place x in
-    ap (packed_lists (set items k x)) (sym (set-get_or rooms a no_room))
-    ∙ map-set_alike (packed_list items) (packed_list (set items k x)) rooms a r no_room (others_kept items rooms a k x h (omega arith) (omega arith))
-    ∙ ap (set (packed_lists items rooms) a) (here ∙ ap (λ list. set list place x) (sym read))
+    ap (packed_lists (set items k x)) (sym (set-get_or slots a no_slot))
+    ∙ map-set_alike (packed_list items) (packed_list (set items k x)) slots a r no_slot (others_kept items slots a k x h (omega arith) (omega arith))
+    ∙ ap (set (packed_lists items slots) a) (here ∙ ap (λ list. set list place x) (sym read))
 
 -- a list that stood among the old items is the same among the new ones
-list_moved : {T : Type 0} (old new : List T) (r : Room) → take (length old) new ≡ old → r.start ≤ r.end → r.end ≤ length old → packed_list new r ≡ packed_list old r
+list_moved : {T : Type 0} (old new : List T) (r : Slot) → take (length old) new ≡ old → r.start ≤ r.end → r.end ≤ length old → packed_list new r ≡ packed_list old r
 list_moved old new r others ordered within =
     let rest = drop (length old) new in
     let is : new ≡ old ++ rest = sym (take-append-drop (length old) new) ∙ ap (λ t. t ++ rest) others in
@@ -111,7 +111,7 @@ replaced_as_many items new start inside =
     omega arith
 
 -- that list
-list_replaced : {T : Type 0} (items new : List T) (r : Room) → r.start ≤ r.end → r.end ≤ length items → length new ≡ filled_in r → packed_list (replaced items r.start new) r ≡ new
+list_replaced : {T : Type 0} (items new : List T) (r : Slot) → r.start ≤ r.end → r.end ≤ length items → length new ≡ filled_in r → packed_list (replaced items r.start new) r ≡ new
 list_replaced items new r ordered within long =
     let front = take r.start items in
     let rest = drop (r.start + length new) items in
@@ -123,7 +123,7 @@ list_replaced items new r ordered within long =
     ∙ take-append_seam new rest
 
 -- a list that stands before it or behind it
-list_untouched : {T : Type 0} (items new : List T) (start : ℕ) (q : Room) → start + length new ≤ length items → q.start ≤ q.end → q.end ≤ q.limit
+list_untouched : {T : Type 0} (items new : List T) (start : ℕ) (q : Slot) → start + length new ≤ length items → q.start ≤ q.end → q.end ≤ q.limit
     → ((q.limit ≤ start) ⊎ (start + length new ≤ q.start)) → packed_list (replaced items start new) q ≡ packed_list items q
 list_untouched items new start q inside ordered filled outside =
     let front = take start items in
@@ -137,76 +137,76 @@ list_untouched items new start q inside ordered filled outside =
     outside
 
 -- all items of a list are replaced
-pub lists_replaced : {T : Type 0} (items new : List T) (rooms : List Room) (a start : ℕ) → AreRooms (length items) rooms → start ≡ (get_or rooms a no_room).start
-    → length new ≡ length (get_or (packed_lists items rooms) a []) → packed_lists (replaced items start new) rooms ≡ set (packed_lists items rooms) a new
-lists_replaced items new rooms a start h is as_many =
-    let r : Room = get_or rooms a no_room in
+pub lists_replaced : {T : Type 0} (items new : List T) (slots : List Slot) (a start : ℕ) → AreSlots (length items) slots → start ≡ (get_or slots a no_slot).start
+    → length new ≡ length (get_or (packed_lists items slots) a []) → packed_lists (replaced items start new) slots ≡ set (packed_lists items slots) a new
+lists_replaced items new slots a start h is as_many =
+    let r : Slot = get_or slots a no_slot in
     let ordered : r.start ≤ r.end = h.ordered a in
     let filled : r.end ≤ r.limit = h.filled a in
     let within : r.limit ≤ length items = h.within a in
-    let long : length new ≡ filled_in r = as_many ∙ ap length (list_read items rooms a) ∙ long_as_filled items r ordered (omega arith) in
-    ap (λ n. packed_lists (replaced items n new) rooms) is
-    ∙ ap (packed_lists (replaced items r.start new)) (sym (set-get_or rooms a no_room))
-    ∙ map-set_alike (packed_list items) (packed_list (replaced items r.start new)) rooms a r no_room
-    (λ b ne. list_untouched items new r.start (get_or rooms b no_room) (omega arith) (h.ordered b) (h.filled b)
+    let long : length new ≡ filled_in r = as_many ∙ ap length (list_read items slots a) ∙ long_as_filled items r ordered (omega arith) in
+    ap (λ n. packed_lists (replaced items n new) slots) is
+    ∙ ap (packed_lists (replaced items r.start new)) (sym (set-get_or slots a no_slot))
+    ∙ map-set_alike (packed_list items) (packed_list (replaced items r.start new)) slots a r no_slot
+    (λ b ne. list_untouched items new r.start (get_or slots b no_slot) (omega arith) (h.ordered b) (h.filled b)
     (⊎_elim (λ before. inl (omega arith)) (λ behind. inr (omega arith)) (h.apart b a ne)))
-    ∙ ap (set (packed_lists items rooms) a) (list_replaced items new r ordered (omega arith) long)
+    ∙ ap (set (packed_lists items slots) a) (list_replaced items new r ordered (omega arith) long)
 
--- the items of a list whose room is read stand among all items
-pub list_within : {T : Type 0} (items new : List T) (rooms : List Room) (a start : ℕ) → AreRooms (length items) rooms → start ≡ (get_or rooms a no_room).start
-    → length new ≡ length (get_or (packed_lists items rooms) a []) → start + length new ≤ length items
-list_within items new rooms a start h is as_many =
-    let r : Room = get_or rooms a no_room in
+-- the items of a list whose slot is read stand among all items
+pub list_within : {T : Type 0} (items new : List T) (slots : List Slot) (a start : ℕ) → AreSlots (length items) slots → start ≡ (get_or slots a no_slot).start
+    → length new ≡ length (get_or (packed_lists items slots) a []) → start + length new ≤ length items
+list_within items new slots a start h is as_many =
+    let r : Slot = get_or slots a no_slot in
     let ordered : r.start ≤ r.end = h.ordered a in
     let filled : r.end ≤ r.limit = h.filled a in
     let within : r.limit ≤ length items = h.within a in
-    let long : length new ≡ filled_in r = as_many ∙ ap length (list_read items rooms a) ∙ long_as_filled items r ordered (omega arith) in
+    let long : length new ≡ filled_in r = as_many ∙ ap length (list_read items slots a) ∙ long_as_filled items r ordered (omega arith) in
     omega arith
 
--- one more item on a list whose room r isn't full
-lists_added : {T : Type 0} (items : List T) (rooms : List Room) (a : ℕ) (r s : Room) (x : T) → AreRooms (length items) rooms → get_or rooms a no_room ≡ r → r.end < r.limit
-    → s.start ≡ r.start → s.end ≡ r.end + 1 → packed_lists (set items r.end x) (set rooms a s) ≡ set (packed_lists items rooms) a (packed_list items r ++ x ∷ [])
-lists_added items rooms a r s x h is space start end =
-    let ordered : r.start ≤ r.end = subst (λ (q : Room). q.start ≤ q.end) is (h.ordered a) in
-    let within : r.limit ≤ length items = subst (λ (q : Room). q.limit ≤ length items) is (h.within a) in
-    let starts : (get_or rooms a no_room).start ≡ r.start = ap (λ (q : Room). q.start) is in
-    let ends : (get_or rooms a no_room).limit ≡ r.limit = ap (λ (q : Room). q.limit) is in
+-- one more item on a list whose slot r isn't full
+lists_added : {T : Type 0} (items : List T) (slots : List Slot) (a : ℕ) (r s : Slot) (x : T) → AreSlots (length items) slots → get_or slots a no_slot ≡ r → r.end < r.limit
+    → s.start ≡ r.start → s.end ≡ r.end + 1 → packed_lists (set items r.end x) (set slots a s) ≡ set (packed_lists items slots) a (packed_list items r ++ x ∷ [])
+lists_added items slots a r s x h is space start end =
+    let ordered : r.start ≤ r.end = subst (λ (q : Slot). q.start ≤ q.end) is (h.ordered a) in
+    let within : r.limit ≤ length items = subst (λ (q : Slot). q.limit ≤ length items) is (h.within a) in
+    let starts : (get_or slots a no_slot).start ≡ r.start = ap (λ (q : Slot). q.start) is in
+    let ends : (get_or slots a no_slot).limit ≡ r.limit = ap (λ (q : Slot). q.limit) is in
     let at : r.end ≡ r.start + filled_in r = omega arith in
     let more : filled_in s ≡ filled_in r + 1 = omega arith in
     let left = length-drop r.start items in
-    map-set_alike (packed_list items) (packed_list (set items r.end x)) rooms a s no_room (others_kept items rooms a r.end x h (omega arith) (omega arith))
-    ∙ ap (set (packed_lists items rooms) a)
+    map-set_alike (packed_list items) (packed_list (set items r.end x)) slots a s no_slot (others_kept items slots a r.end x h (omega arith) (omega arith))
+    ∙ ap (set (packed_lists items slots) a)
     (ap (λ n. take n (drop s.start (set items r.end x))) more
     ∙ ap (λ n. take (filled_in r + 1) (drop n (set items r.end x))) start
     ∙ ap (λ n. take (filled_in r + 1) (drop r.start (set items n x))) at
     ∙ ap (take (filled_in r + 1)) (drop-set-add r.start items (filled_in r) x)
     ∙ take_more_set (drop r.start items) (filled_in r) x (omega arith))
 
--- rooms of which one is new, or another than it was, where `cases` says so
-rooms_changed : (count more : ℕ) (rooms new : List Room) (a : ℕ) (s : Room)
-    → ((P : ℕ → Room → Type 0) → P a s → ((j : ℕ) → j ≢ a → P j (get_or rooms j no_room)) → (j : ℕ) → P j (get_or new j no_room))
-    → AreRooms count rooms → count ≤ more → s.start ≤ s.end → s.end ≤ s.limit → s.limit ≤ more → ((b : ℕ) → b ≢ a → AreApart (get_or rooms b no_room) s) → AreRooms more new
-rooms_changed count more rooms new a s cases h grown ordered filled within apart = record {
+-- slots of which one is new, or another than it was, where `cases` says so
+slots_changed : (count more : ℕ) (slots new : List Slot) (a : ℕ) (s : Slot)
+    → ((P : ℕ → Slot → Type 0) → P a s → ((j : ℕ) → j ≢ a → P j (get_or slots j no_slot)) → (j : ℕ) → P j (get_or new j no_slot))
+    → AreSlots count slots → count ≤ more → s.start ≤ s.end → s.end ≤ s.limit → s.limit ≤ more → ((b : ℕ) → b ≢ a → AreApart (get_or slots b no_slot) s) → AreSlots more new
+slots_changed count more slots new a s cases h grown ordered filled within apart = record {
   ordered = cases (λ _ r. r.start ≤ r.end) ordered (λ b _. h.ordered b);
   filled = cases (λ _ r. r.end ≤ r.limit) filled (λ b _. h.filled b);
   within = cases (λ _ r. r.limit ≤ more) within (λ b _. let w = h.within b in omega arith);
-  apart = cases (λ b r. (c : ℕ) → b ≢ c → AreApart r (get_or new c no_room))
+  apart = cases (λ b r. (c : ℕ) → b ≢ c → AreApart r (get_or new c no_slot))
       (cases (λ c r. a ≢ c → AreApart s r) (λ ne. absurd (ne refl)) (λ c ne _. ⊎_elim inr inl (apart c ne)))
-      (λ b ne. cases (λ c r. b ≢ c → AreApart (get_or rooms b no_room) r) (λ _. apart b ne) (λ c _ other. h.apart b c other));
+      (λ b ne. cases (λ c r. b ≢ c → AreApart (get_or slots b no_slot) r) (λ _. apart b ne) (λ c _ other. h.apart b c other));
 }
 
--- another room for one list
-rooms_set : (count more : ℕ) (rooms : List Room) (a : ℕ) (s : Room) → a < length rooms
-    → AreRooms count rooms → count ≤ more → s.start ≤ s.end → s.end ≤ s.limit → s.limit ≤ more → ((b : ℕ) → b ≢ a → AreApart (get_or rooms b no_room) s) → AreRooms more (set rooms a s)
-rooms_set count more rooms a s in_range = rooms_changed count more rooms (set rooms a s) a s (λ P. set_cases P rooms a s no_room in_range)
+-- another slot for one list
+slots_set : (count more : ℕ) (slots : List Slot) (a : ℕ) (s : Slot) → a < length slots
+    → AreSlots count slots → count ≤ more → s.start ≤ s.end → s.end ≤ s.limit → s.limit ≤ more → ((b : ℕ) → b ≢ a → AreApart (get_or slots b no_slot) s) → AreSlots more (set slots a s)
+slots_set count more slots a s in_range = slots_changed count more slots (set slots a s) a s (λ P. set_cases P slots a s no_slot in_range)
 
 -- a list that has found room for one more item, and the others, are what they were
-lists_spaced : {T : Type 0} (old new : List T) (rooms : List Room) (a : ℕ) (r : Room) → AreRooms (length old) rooms → HasSpace old new (get_or rooms a no_room) r → packed_lists new (set rooms a r) ≡ packed_lists old rooms
-lists_spaced old new rooms a r h s =
-    map-set_alike (packed_list old) (packed_list new) rooms a r no_room
-    (λ b _. let filled = h.filled b in let within = h.within b in list_moved old new (get_or rooms b no_room) s.others (h.ordered b) (omega arith))
-    ∙ ap (set (packed_lists old rooms) a) (s.same ∙ sym (list_read old rooms a))
-    ∙ set-get_or (packed_lists old rooms) a []
+lists_spaced : {T : Type 0} (old new : List T) (slots : List Slot) (a : ℕ) (r : Slot) → AreSlots (length old) slots → HasSpace old new (get_or slots a no_slot) r → packed_lists new (set slots a r) ≡ packed_lists old slots
+lists_spaced old new slots a r h s =
+    map-set_alike (packed_list old) (packed_list new) slots a r no_slot
+    (λ b _. let filled = h.filled b in let within = h.within b in list_moved old new (get_or slots b no_slot) s.others (h.ordered b) (omega arith))
+    ∙ ap (set (packed_lists old slots) a) (s.same ∙ sym (list_read old slots a))
+    ∙ set-get_or (packed_lists old slots) a []
 
 -- what stood before is still there, so nothing was taken off
 grown : {T : Type 0} (old new : List T) → take (length old) new ≡ old → length old ≤ length new
@@ -215,64 +215,64 @@ grown old new others = ⊎_elim
     (λ le. le)
     (cases_lt (length new) (length old))
 
--- and its room is apart from the others
-rooms_spaced : {T : Type 0} (old new : List T) (rooms : List Room) (a : ℕ) (r : Room) → a < length rooms → AreRooms (length old) rooms → HasSpace old new (get_or rooms a no_room) r
-    → AreRooms (length new) (set rooms a r)
-rooms_spaced old new rooms a r in_range h s =
-    rooms_set (length old) (length new) rooms a r in_range h (grown old new s.others) s.ordered (let space = s.space in omega arith) s.within
+-- and its slot is apart from the others
+slots_spaced : {T : Type 0} (old new : List T) (slots : List Slot) (a : ℕ) (r : Slot) → a < length slots → AreSlots (length old) slots → HasSpace old new (get_or slots a no_slot) r
+    → AreSlots (length new) (set slots a r)
+slots_spaced old new slots a r in_range h s =
+    slots_set (length old) (length new) slots a r in_range h (grown old new s.others) s.ordered (let space = s.space in omega arith) s.within
     (λ b ne. ⊎_elim
     (λ stays. let start = stays.0 in let limit = stays.1 in ⊎_elim (λ before. inl (omega arith)) (λ behind. inr (omega arith)) (h.apart b a ne))
     (λ behind. let within = h.within b in inl (omega arith))
     s.apart)
 
--- the rooms once a list that has room for it has one more item
-rooms_added : (count : ℕ) (rooms : List Room) (a : ℕ) (r s : Room) → a < length rooms → AreRooms count rooms → get_or rooms a no_room ≡ r → r.end < r.limit
-    → s.start ≡ r.start → s.end ≡ r.end + 1 → s.limit ≡ r.limit → AreRooms count (set rooms a s)
-rooms_added count rooms a r s in_range h is space start end limit =
-    let ordered : r.start ≤ r.end = subst (λ (q : Room). q.start ≤ q.end) is (h.ordered a) in
-    let within : r.limit ≤ count = subst (λ (q : Room). q.limit ≤ count) is (h.within a) in
-    rooms_set count count rooms a s in_range h (omega arith) (omega arith) (omega arith) (omega arith)
+-- the slots once a list that has room for it has one more item
+slots_added : (count : ℕ) (slots : List Slot) (a : ℕ) (r s : Slot) → a < length slots → AreSlots count slots → get_or slots a no_slot ≡ r → r.end < r.limit
+    → s.start ≡ r.start → s.end ≡ r.end + 1 → s.limit ≡ r.limit → AreSlots count (set slots a s)
+slots_added count slots a r s in_range h is space start end limit =
+    let ordered : r.start ≤ r.end = subst (λ (q : Slot). q.start ≤ q.end) is (h.ordered a) in
+    let within : r.limit ≤ count = subst (λ (q : Slot). q.limit ≤ count) is (h.within a) in
+    slots_set count count slots a s in_range h (omega arith) (omega arith) (omega arith) (omega arith)
     (λ b ne. ⊎_elim
     (λ before. inl (omega arith))
     (λ behind. inr (omega arith))
-    (let other : AreApart (get_or rooms b no_room) r = subst (AreApart (get_or rooms b no_room)) is (h.apart b a ne) in other))
+    (let other : AreApart (get_or slots b no_slot) r = subst (AreApart (get_or slots b no_slot)) is (h.apart b a ne) in other))
 
 -- one more item on a list that has found room for it
-pub lists_pushed : {T : Type 0} (old new : List T) (rooms : List Room) (a : ℕ) (r s : Room) (x : T) → a < length rooms → AreRooms (length old) rooms → HasSpace old new (get_or rooms a no_room) r
-    → s.start ≡ r.start → s.end ≡ r.end + 1 → packed_lists (set new r.end x) (set rooms a s) ≡ set (packed_lists old rooms) a (get_or (packed_lists old rooms) a [] ++ x ∷ [])
-lists_pushed old new rooms a r s x in_range h spaced start end =
-    ap (packed_lists (set new r.end x)) (sym (set-set rooms a r s))
-    ∙ lists_added new (set rooms a r) a r s x (rooms_spaced old new rooms a r in_range h spaced) (get_or-set_same rooms a r no_room in_range) spaced.space start end
-    ∙ ap (λ lists. set lists a (packed_list new r ++ x ∷ [])) (lists_spaced old new rooms a r h spaced)
-    ∙ ap (λ list. set (packed_lists old rooms) a (list ++ x ∷ [])) (spaced.same ∙ sym (list_read old rooms a))
+pub lists_pushed : {T : Type 0} (old new : List T) (slots : List Slot) (a : ℕ) (r s : Slot) (x : T) → a < length slots → AreSlots (length old) slots → HasSpace old new (get_or slots a no_slot) r
+    → s.start ≡ r.start → s.end ≡ r.end + 1 → packed_lists (set new r.end x) (set slots a s) ≡ set (packed_lists old slots) a (get_or (packed_lists old slots) a [] ++ x ∷ [])
+lists_pushed old new slots a r s x in_range h spaced start end =
+    ap (packed_lists (set new r.end x)) (sym (set-set slots a r s))
+    ∙ lists_added new (set slots a r) a r s x (slots_spaced old new slots a r in_range h spaced) (get_or-set_same slots a r no_slot in_range) spaced.space start end
+    ∙ ap (λ lists. set lists a (packed_list new r ++ x ∷ [])) (lists_spaced old new slots a r h spaced)
+    ∙ ap (λ list. set (packed_lists old slots) a (list ++ x ∷ [])) (spaced.same ∙ sym (list_read old slots a))
 
--- and its rooms
-pub rooms_pushed : {T : Type 0} (old new : List T) (rooms : List Room) (a : ℕ) (r s : Room) (x : T) → a < length rooms → AreRooms (length old) rooms → HasSpace old new (get_or rooms a no_room) r
-    → s.start ≡ r.start → s.end ≡ r.end + 1 → s.limit ≡ r.limit → AreRooms (length (set new r.end x)) (set rooms a s)
-rooms_pushed old new rooms a r s x in_range h spaced start end limit =
-    let long = set-set rooms a r s in
-    let inside : a < length (set rooms a r) = let e = length-set rooms a r in omega arith in
-    let added = rooms_added (length new) (set rooms a r) a r s inside (rooms_spaced old new rooms a r in_range h spaced) (get_or-set_same rooms a r no_room in_range) spaced.space start end limit in
-    let here : AreRooms (length new) (set rooms a s) = subst (AreRooms (length new)) long added in
-    subst (λ n. AreRooms n (set rooms a s)) (sym (length-set new r.end x)) here
+-- and its slots
+pub slots_pushed : {T : Type 0} (old new : List T) (slots : List Slot) (a : ℕ) (r s : Slot) (x : T) → a < length slots → AreSlots (length old) slots → HasSpace old new (get_or slots a no_slot) r
+    → s.start ≡ r.start → s.end ≡ r.end + 1 → s.limit ≡ r.limit → AreSlots (length (set new r.end x)) (set slots a s)
+slots_pushed old new slots a r s x in_range h spaced start end limit =
+    let long = set-set slots a r s in
+    let inside : a < length (set slots a r) = let e = length-set slots a r in omega arith in
+    let added = slots_added (length new) (set slots a r) a r s inside (slots_spaced old new slots a r in_range h spaced) (get_or-set_same slots a r no_slot in_range) spaced.space start end limit in
+    let here : AreSlots (length new) (set slots a s) = subst (AreSlots (length new)) long added in
+    subst (λ n. AreSlots n (set slots a s)) (sym (length-set new r.end x)) here
 
--- there are as many rooms as lists
-pub rooms_in_range : {T : Type 0} (items : List T) (rooms : List Room) (lists : List (List T)) (a : ℕ) → packed_lists items rooms ≡ lists → a < length lists → a < length rooms
-rooms_in_range items rooms lists a view in_range = let same = sym (length-map rooms (packed_list items)) ∙ ap length view in omega arith
+-- there are as many slots as lists
+pub slots_in_range : {T : Type 0} (items : List T) (slots : List Slot) (lists : List (List T)) (a : ℕ) → packed_lists items slots ≡ lists → a < length lists → a < length slots
+slots_in_range items slots lists a view in_range = let same = sym (length-map slots (packed_list items)) ∙ ap length view in omega arith
 
--- a room that is read of the vector, where so many lists are seen
-pub room_read : {T : Type 0} (items : List T) (rooms : List Room) (lists : List (List T)) (a : ℕ) (r : Room) → packed_lists items rooms ≡ lists → a < length lists → r ≡ get_or rooms a r → r ≡ get_or rooms a no_room
-room_read items rooms lists a r view in_range read = get_or_read rooms a r (rooms_in_range items rooms lists a view in_range) read no_room
+-- a slot that is read of the vector, where so many lists are seen
+pub slot_read : {T : Type 0} (items : List T) (slots : List Slot) (lists : List (List T)) (a : ℕ) (r : Slot) → packed_lists items slots ≡ lists → a < length lists → r ≡ get_or slots a r → r ≡ get_or slots a no_slot
+slot_read items slots lists a r view in_range read = get_or_read slots a r (slots_in_range items slots lists a view in_range) read no_slot
 
--- the next list's room, behind the others
-pub full_more : {lengths : List ℕ} {count : ℕ} {rooms : List Room} (n : ℕ) → AreFull lengths count rooms
-    → AreFull (lengths ++ n ∷ []) (count + n) (rooms ++ record { start = count; end = count + n; limit = count + n } ∷ [])
-full_more {lengths} {count} {rooms} n h =
-    let r : Room = record { start = count; end = count + n; limit = count + n } in
+-- the next list's slot, behind the others
+pub full_more : {lengths : List ℕ} {count : ℕ} {slots : List Slot} (n : ℕ) → AreFull lengths count slots
+    → AreFull (lengths ++ n ∷ []) (count + n) (slots ++ record { start = count; end = count + n; limit = count + n } ∷ [])
+full_more {lengths} {count} {slots} n h =
+    let r : Slot = record { start = count; end = count + n; limit = count + n } in
     record {
-      sound = rooms_changed count (count + n) rooms (rooms ++ r ∷ []) (length rooms) r (λ P. added_cases P rooms r no_room) h.sound (omega arith) (omega arith) (omega arith) (omega arith)
+      sound = slots_changed count (count + n) slots (slots ++ r ∷ []) (length slots) r (λ P. added_cases P slots r no_slot) h.sound (omega arith) (omega arith) (omega arith) (omega arith)
           (λ b _. inl (h.sound.within b));
-      as_long = map_push filled_in rooms r ∙ ap (λ t. t ++ filled_in r ∷ []) h.as_long ∙ ap (λ k. lengths ++ k ∷ []) (let e : filled_in r ≡ n = omega arith in e);
+      as_long = map_push filled_in slots r ∙ ap (λ t. t ++ filled_in r ∷ []) h.as_long ∙ ap (λ k. lengths ++ k ∷ []) (let e : filled_in r ≡ n = omega arith in e);
     }
 
 -- each next list still fits
@@ -287,40 +287,40 @@ lists_fit lent i d inside =
     omega arith
 
 -- lists all of whose items are the same
-lists_alike : {T : Type 0} (x : T) (n : ℕ) (rooms : List Room) → ((a : ℕ) → (get_or rooms a no_room).start ≤ (get_or rooms a no_room).end) → ((a : ℕ) → (get_or rooms a no_room).end ≤ n)
-    → packed_lists (replicate n x) rooms ≡ map (λ k. replicate k x) (map filled_in rooms)
+lists_alike : {T : Type 0} (x : T) (n : ℕ) (slots : List Slot) → ((a : ℕ) → (get_or slots a no_slot).start ≤ (get_or slots a no_slot).end) → ((a : ℕ) → (get_or slots a no_slot).end ≤ n)
+    → packed_lists (replicate n x) slots ≡ map (λ k. replicate k x) (map filled_in slots)
 lists_alike x n [] ordered within = refl
-lists_alike x n (r ∷ rooms) ordered within =
+lists_alike x n (r ∷ slots) ordered within =
     let first = ordered 0 in
     let last = within 0 in
-    ap (λ t. t ∷ packed_lists (replicate n x) rooms) (ap (take (filled_in r)) (drop-replicate r.start n x) ∙ take-replicate (filled_in r) (n - r.start) x (omega arith))
-    ∙ ap (λ t. replicate (filled_in r) x ∷ t) (lists_alike x n rooms (λ a. ordered (suc a)) (λ a. within (suc a)))
+    ap (λ t. t ∷ packed_lists (replicate n x) slots) (ap (take (filled_in r)) (drop-replicate r.start n x) ∙ take-replicate (filled_in r) (n - r.start) x (omega arith))
+    ∙ ap (λ t. replicate (filled_in r) x ∷ t) (lists_alike x n slots (λ a. ordered (suc a)) (λ a. within (suc a)))
 
--- with as many items as the rooms are for
-pub lists_filled : {T : Type 0} (x : T) (lists : List (List ℕ)) (count : ℕ) (rooms : List Room) → AreFull (map (λ list. length list) lists) count rooms
-    → packed_lists (replicate count x) rooms ≡ map (λ list. replicate (length list) x) lists
-lists_filled x lists count rooms h =
-    lists_alike x count rooms h.sound.ordered (λ a. let filled = h.sound.filled a in let within = h.sound.within a in omega arith)
+-- with as many items as the slots are for
+pub lists_filled : {T : Type 0} (x : T) (lists : List (List ℕ)) (count : ℕ) (slots : List Slot) → AreFull (map (λ list. length list) lists) count slots
+    → packed_lists (replicate count x) slots ≡ map (λ list. replicate (length list) x) lists
+lists_filled x lists count slots h =
+    lists_alike x count slots h.sound.ordered (λ a. let filled = h.sound.filled a in let within = h.sound.within a in omega arith)
     ∙ ap (map (λ k. replicate k x)) h.as_long
     ∙ map-map (λ k. replicate k x) (λ list. length list) lists
 
--- rooms of which nothing is filled
-pub rooms_emptied : (count : ℕ) (rooms : List Room) → AreRooms count rooms → AreRooms count (map emptied rooms)
-rooms_emptied count rooms h =
-    let read : (a : ℕ) → emptied (get_or rooms a no_room) ≡ get_or (map emptied rooms) a no_room = λ a. sym (get_or-map_all emptied rooms a no_room) in
+-- slots of which nothing is filled
+pub slots_emptied : (count : ℕ) (slots : List Slot) → AreSlots count slots → AreSlots count (map emptied slots)
+slots_emptied count slots h =
+    let read : (a : ℕ) → emptied (get_or slots a no_slot) ≡ get_or (map emptied slots) a no_slot = λ a. sym (get_or-map_all emptied slots a no_slot) in
     record {
-      ordered = λ a. subst (λ (r : Room). r.start ≤ r.end) (read a) (omega arith);
-      filled = λ a. subst (λ (r : Room). r.end ≤ r.limit) (read a) (let ordered = h.ordered a in let filled = h.filled a in omega arith);
-      within = λ a. subst (λ (r : Room). r.limit ≤ count) (read a) (h.within a);
-      apart = λ a b ne. subst (λ r. AreApart r (get_or (map emptied rooms) b no_room)) (read a) (subst (AreApart (emptied (get_or rooms a no_room))) (read b) (h.apart a b ne));
+      ordered = λ a. subst (λ (r : Slot). r.start ≤ r.end) (read a) (omega arith);
+      filled = λ a. subst (λ (r : Slot). r.end ≤ r.limit) (read a) (let ordered = h.ordered a in let filled = h.filled a in omega arith);
+      within = λ a. subst (λ (r : Slot). r.limit ≤ count) (read a) (h.within a);
+      apart = λ a b ne. subst (λ r. AreApart r (get_or (map emptied slots) b no_slot)) (read a) (subst (AreApart (emptied (get_or slots a no_slot))) (read b) (h.apart a b ne));
     }
 
 -- and the lists without an item
-pub lists_emptied : {T : Type 0} (items : List T) (rooms : List Room) → packed_lists items (map emptied rooms) ≡ replicate (length rooms) []
+pub lists_emptied : {T : Type 0} (items : List T) (slots : List Slot) → packed_lists items (map emptied slots) ≡ replicate (length slots) []
 lists_emptied items [] = refl
-lists_emptied items (r ∷ rooms) =
-    ap (λ k. take k (drop r.start items) ∷ packed_lists items (map emptied rooms)) (let e : r.start - r.start ≡ 0 = omega arith in e)
-    ∙ ap (λ t. [] ∷ t) (lists_emptied items rooms)
+lists_emptied items (r ∷ slots) =
+    ap (λ k. take k (drop r.start items) ∷ packed_lists items (map emptied slots)) (let e : r.start - r.start ≡ 0 = omega arith in e)
+    ∙ ap (λ t. [] ∷ t) (lists_emptied items slots)
 
 -- one more value is replaced by what a function gives for it
 pub mapped_more : {X : Type 0} (f : X → X) (xs old : List X) (i : ℕ) (d : X) → i < length old → xs ≡ map f (take i old) ++ drop i old
@@ -338,8 +338,8 @@ mapped_more f xs old i d inside is =
     ∙ sym (append_assoc front (f x ∷ []) rest)
     ∙ ap (λ t. t ++ rest) (sym (map_more f old i d inside))
 
--- what a vector of rooms holds once all are emptied through a slice
-pub rooms_written : (rooms : Vec Room Global) (new : List Room) → new ≡ map emptied rooms.items → (with_items rooms new).items ≡ map emptied rooms.items
-rooms_written rooms new is =
-    let same : rooms.len ≡ length rooms.items = rooms.ok.0 in
-    with_items_is rooms new (ap length is ∙ length-map rooms.items emptied ∙ sym same) ∙ is
+-- what a vector of slots holds once all are emptied through a slice
+pub slots_written : (slots : Vec Slot Global) (new : List Slot) → new ≡ map emptied slots.items → (with_items slots new).items ≡ map emptied slots.items
+slots_written slots new is =
+    let same : slots.len ≡ length slots.items = slots.ok.0 in
+    with_items_is slots new (ap length is ∙ length-map slots.items emptied ∙ sym same) ∙ is

@@ -3,7 +3,7 @@
 ghost use Rattle.std.specs.Prelude.{◌≡◌};
 ghost use Rattle.sm_lists.specs.Earlier.{earlier_of};
 
-/// The earlier of two places or lines, if there are any.
+/// The earlier of two places or lines, if there are any. Takes constant time.
 pub fn earlier(a: Option<u32>, b: Option<u32>) -> Option<u32>
     ensures { result ≡ earlier_of a b }
 {

@@ -10,30 +10,30 @@ use std::marker::Model;
 
 /// Where the items of a list stand, from one on up to another, and up to where it has room.
 #[derive(Clone, Copy, Debug)]
-struct Room {
+struct Slot {
     start: u32,
     end: u32,
     limit: u32,
 }
 
-/// The lists of one side's agents in one vector, each with room of its own, so that items can be added to each of them.
+/// The lists of one side's agents in one vector, each in a slot of its own, so that items can be added to each of them.
 ///
-/// A list whose room is full moves behind all others, where it has twice the room. Agents and places are numbered from 0.
+/// A list whose slot is full moves behind all others, into a slot twice as large. Agents and places are numbered from 0.
 #[derive(Debug, Drop)]
 pub struct Packed<T> {
     items: Vec<T>,
-    rooms: Vec<Room>,
+    slots: Vec<Slot>,
 }
 
 impl<T> Model for Packed<T> {
     ghost use Rattle.std.specs.Prelude.{List, length};
-    ghost use Rattle.sm_lists.specs.Packed.{packed_lists, AreRooms};
+    ghost use Rattle.sm_lists.specs.Packed.{packed_lists, AreSlots};
 
     ghost Value = { List (List T) };
 
-    ghost view = { λ p. packed_lists p.items.items p.rooms.items };
+    ghost view = { λ p. packed_lists p.items.items p.slots.items };
 
-    ghost invariant = { λ p. AreRooms (length p.items.items) p.rooms.items };
+    ghost invariant = { λ p. AreSlots (length p.items.items) p.slots.items };
 }
 
 impl<T: Copy> Packed<T> {
@@ -48,7 +48,7 @@ impl<T: Copy> Packed<T> {
         ensures { IfOk result (λ packed. packed ≡ replicate (length lists.now) []) }
     {
         let mut packed = Packed::filled(alloc, lists, item)?;
-        empty(&mut packed.rooms);
+        empty(&mut packed.slots);
         Ok(packed)
     }
 
@@ -63,9 +63,9 @@ impl<T: Copy> Packed<T> {
         ensures { IfOk result (λ packed. packed
             ≡ map (λ list. replicate (length list) item) (lists_in lists.now)) }
     {
-        let (rooms, count) = rooms_for(alloc, lists)?;
+        let (slots, count) = slots_for(alloc, lists)?;
         let items = copies(alloc, item, count as usize)?;
-        Ok(Packed { items, rooms })
+        Ok(Packed { items, slots })
     }
 
     /// Adds an item to an agent's list. Takes constant time on average.
@@ -80,10 +80,10 @@ impl<T: Copy> Packed<T> {
             ≡ slice_set self.old a (slice_index_or self.old a [] ++ item ∷ [])) }
         ensures kept { OnErr result (self.new ≡ self.old) }
     {
-        let room = with_space(&mut self.items, self.rooms[a as usize], item)?;
-        let Room { start, end, limit } = room;
+        let slot = with_space(&mut self.items, self.slots[a as usize], item)?;
+        let Slot { start, end, limit } = slot;
         self.items[end as usize] = item;
-        self.rooms[a as usize] = Room {
+        self.slots[a as usize] = Slot {
             start,
             end: end + 1,
             limit,
@@ -97,7 +97,7 @@ impl<T: Copy> Packed<T> {
         requires on_list { place < length (slice_index_or self.old a []) }
         ensures { self.new ≡ slice_set self.old a (slice_set (slice_index_or self.old a []) place item) }
     {
-        let Room { start, .. } = self.rooms[a as usize];
+        let Slot { start, .. } = self.slots[a as usize];
         self.items[start as usize + place as usize] = item;
     }
 
@@ -107,7 +107,7 @@ impl<T: Copy> Packed<T> {
         requires as_many { length items.now ≡ length (slice_index_or self.old a []) }
         ensures { self.new ≡ slice_set self.old a items.now }
     {
-        let Room { start, .. } = self.rooms[a as usize];
+        let Slot { start, .. } = self.slots[a as usize];
         put_items(&mut self.items, start as usize, items);
     }
 
@@ -116,7 +116,7 @@ impl<T: Copy> Packed<T> {
         requires { a < length self.now }
         ensures { result.now ≡ slice_index_or self.now a [] }
     {
-        let Room { start, end, .. } = self.rooms[a as usize];
+        let Slot { start, end, .. } = self.slots[a as usize];
         &self.items[start as usize..end as usize]
     }
 
@@ -124,28 +124,28 @@ impl<T: Copy> Packed<T> {
     pub fn len(&self) -> usize
         ensures { result ≡ length self.now }
     {
-        self.rooms.len()
+        self.slots.len()
     }
 }
 
-/// A room for each of these lists, one behind another and all full, and how many items they have.
-fn rooms_for(alloc: Global, lists: &[&[u32]]) -> Result<(Vec<Room>, u32), AllocError>
+/// A slot for each of these lists, one behind another and all full, and how many items they have.
+fn slots_for(alloc: Global, lists: &[&[u32]]) -> Result<(Vec<Slot>, u32), AllocError>
     requires { AreWithinLimits (lists_in lists.now) }
     ensures { IfOk result (λ made. AreFull (map (λ list. length list) (lists_in lists.now)) made.1
         made.0.items) }
 {
-    let mut rooms = Vec::with_capacity(alloc, lists.len())?;
+    let mut slots = Vec::with_capacity(alloc, lists.len())?;
     let mut start = 0;
     for list in lists {
         let end = start + list.len() as u32;
-        rooms.push(Room {
+        slots.push(Slot {
             start,
             end,
             limit: end,
         })?;
         start = end;
     }
-    Ok((rooms, start))
+    Ok((slots, start))
 }
 
 /// So many items, all of them this one.
@@ -165,49 +165,49 @@ fn put_items<T: Copy>(all: &mut [T], start: usize, items: &[T])
     all[start..start + items.len()].copy_from_slice(items);
 }
 
-/// Takes all items off each list, and leaves its room.
-fn empty(rooms: &mut [Room])
-    ensures { rooms.new ≡ map emptied rooms.old }
+/// Takes all items off each list, and leaves its slot.
+fn empty(slots: &mut [Slot])
+    ensures { slots.new ≡ map emptied slots.old }
 {
-    for room in rooms.iter_mut() {
-        room.end = room.start;
+    for slot in slots.iter_mut() {
+        slot.end = slot.start;
     }
 }
 
 /// Room for one more item on a list, which moves behind all others where it has none. Always inlined, so that a list with room
 /// needs no call.
 #[inline(always)]
-fn with_space<T: Copy>(items: &mut Vec<T>, room: Room, item: T) -> Result<Room, AllocError>
-    requires ordered { room.start ≤ room.end }
-    requires filled { room.end ≤ room.limit }
-    requires within { room.limit ≤ length items.old.items }
-    ensures space { IfOk result (λ after. HasSpace items.old.items items.new.items room after) }
+fn with_space<T: Copy>(items: &mut Vec<T>, slot: Slot, item: T) -> Result<Slot, AllocError>
+    requires ordered { slot.start ≤ slot.end }
+    requires filled { slot.end ≤ slot.limit }
+    requires within { slot.limit ≤ length items.old.items }
+    ensures space { IfOk result (λ after. HasSpace items.old.items items.new.items slot after) }
     ensures kept { OnErr result (items.new.items ≡ items.old.items) }
 {
-    if room.end < room.limit {
-        Ok(room)
+    if slot.end < slot.limit {
+        Ok(slot)
     } else {
-        moved(items, room, item)
+        moved(items, slot, item)
     }
 }
 
 /// Room for the items of a list behind all others, twice as much and one more, with its items in it. `item` fills what is empty.
 #[inline(never)]
-fn moved<T: Copy>(items: &mut Vec<T>, room: Room, item: T) -> Result<Room, AllocError>
-    requires ordered { room.start ≤ room.end }
-    requires within { room.end ≤ length items.old.items }
-    ensures space { IfOk result (λ after. HasSpace items.old.items items.new.items room after) }
+fn moved<T: Copy>(items: &mut Vec<T>, slot: Slot, item: T) -> Result<Slot, AllocError>
+    requires ordered { slot.start ≤ slot.end }
+    requires within { slot.end ≤ length items.old.items }
+    ensures space { IfOk result (λ after. HasSpace items.old.items items.new.items slot after) }
     ensures kept { OnErr result (items.new.items ≡ items.old.items) }
 {
     let start = items.len();
-    let count = (room.end - room.start) as usize;
+    let count = (slot.end - slot.start) as usize;
     let limit = start + 2 * count + 1;
     if limit > u32::MAX as usize {
         return Err(AllocError);
     }
     items.resize(limit, item)?;
-    items.copy_within(room.start as usize..room.end as usize, start);
-    Ok(Room {
+    items.copy_within(slot.start as usize..slot.end as usize, start);
+    Ok(Slot {
         start: start as u32,
         end: (start + count) as u32,
         limit: limit as u32,

@@ -105,7 +105,7 @@ impl RaisedRows {
         Ok(())
     }
 
-    /// What an agent's list has at a place.
+    /// What an agent's list has at a place. Takes constant time.
     pub fn entry_at(&self, a: u32, place: u32) -> u32
         requires in_range { a < length self.now }
         requires on_list { place < length (row self.now a) }

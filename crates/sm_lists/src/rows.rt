@@ -109,7 +109,7 @@ impl Rows {
         Ok(())
     }
 
-    /// How many lists there are.
+    /// How many lists there are. Takes constant time.
     pub fn len(&self) -> usize
         ensures count { result ≡ length self.now }
         ensures fits { result < 2 ^ 63 }
@@ -117,7 +117,7 @@ impl Rows {
         self.spans.len()
     }
 
-    /// The list of an agent.
+    /// The list of an agent. Takes constant time.
     pub fn at(&self, a: u32) -> &[u32]
         requires { a < length self.now }
         ensures { result.now ≡ row self.now a }
@@ -126,7 +126,7 @@ impl Rows {
         &self.entries[start as usize..end as usize]
     }
 
-    /// Whom an agent's list names at a place.
+    /// Whom an agent's list names at a place. Takes constant time.
     pub fn entry_at(&self, a: u32, place: u32) -> u32
         requires in_range { a < length self.now }
         requires on_list { place < length (row self.now a) }

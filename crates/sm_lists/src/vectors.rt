@@ -35,7 +35,7 @@ pub fn lent(alloc: Global, rows: &[Vec<u32>]) -> Result<Vec<&[u32]>, AllocError>
     Ok(lent)
 }
 
-/// The list of the agent with a number. Agents and places are numbered from 0.
+/// The list of the agent with a number. Agents and places are numbered from 0. Takes constant time.
 pub fn list_at(rows: &[Vec<u32>], a: u32) -> &[u32]
     requires { a < length rows.now }
     ensures { result.now ≡ row (rows_of rows.now) a }
@@ -43,7 +43,7 @@ pub fn list_at(rows: &[Vec<u32>], a: u32) -> &[u32]
     &rows[a as usize]
 }
 
-/// Whom an agent's list names at a place. Agents and places are numbered from 0.
+/// Whom an agent's list names at a place. Agents and places are numbered from 0. Takes constant time.
 pub fn entry_at(rows: &[Vec<u32>], a: u32, place: u32) -> u32
     requires in_range { a < length rows.now }
     requires on_list { place < length (row (rows_of rows.now) a) }

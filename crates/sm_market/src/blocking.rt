@@ -11,8 +11,8 @@ use crate::market::Market;
 use crate::pairing::Pairing;
 
 impl Market {
-    /// How a proposer stands: the place that it holds, or the length of its list where it is unmatched. Lower is
-    /// better. The pairing has to be made for a market of these lists.
+    /// How a proposer stands: the place that it holds, or the length of its list where it is unmatched. Lower is better. The
+    /// pairing has to be made for a market of these lists. Takes constant time.
     pub fn proposer_standing(&self, m: &Pairing, p: u32) -> u32
         requires in_range { p < length self.now.proposers }
         requires made { IsPairingOf self.now m.now }
@@ -25,8 +25,8 @@ impl Market {
         }
     }
 
-    /// How a reviewer stands: the place that it holds, or the length of its list where it is unmatched. Lower is
-    /// better. The pairing has to be made for a market of these lists.
+    /// How a reviewer stands: the place that it holds, or the length of its list where it is unmatched. Lower is better. The
+    /// pairing has to be made for a market of these lists. Takes constant time.
     pub fn reviewer_standing(&self, m: &Pairing, r: u32) -> u32
         requires in_range { r < length self.now.reviewers }
         requires made { IsPairingOf self.now m.now }

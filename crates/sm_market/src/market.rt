@@ -153,7 +153,7 @@ impl Market {
         })
     }
 
-    /// How many proposers there are.
+    /// How many proposers there are. Takes constant time.
     pub fn proposers(&self) -> u32
         ensures count { result ≡ length self.now.proposers }
         ensures market { IsMarket self.now }
@@ -162,7 +162,7 @@ impl Market {
         self.proposer_lists.len() as u32
     }
 
-    /// How many reviewers there are.
+    /// How many reviewers there are. Takes constant time.
     pub fn reviewers(&self) -> u32
         ensures count { result ≡ length self.now.reviewers }
         ensures market { IsMarket self.now }
@@ -171,7 +171,7 @@ impl Market {
         self.reviewer_lists.len() as u32
     }
 
-    /// A proposer's list of reviewers, best first.
+    /// A proposer's list of reviewers, best first. Agents are numbered from 0. Takes constant time.
     #[tactic(auto, using(sm_lists::proofs::RowLemmas::row_fits))]
     pub fn proposer_list(&self, p: u32) -> &[u32]
         requires { p < length self.now.proposers }
@@ -181,7 +181,7 @@ impl Market {
         self.proposer_lists.at(p)
     }
 
-    /// A reviewer's list of proposers, best first.
+    /// A reviewer's list of proposers, best first. Agents are numbered from 0. Takes constant time.
     #[tactic(auto, using(sm_lists::proofs::RowLemmas::row_fits))]
     pub fn reviewer_list(&self, r: u32) -> &[u32]
         requires { r < length self.now.reviewers }
@@ -191,7 +191,7 @@ impl Market {
         self.reviewer_lists.at(r)
     }
 
-    /// How many reviewers a proposer lists.
+    /// How many reviewers a proposer lists. Agents are numbered from 0. Takes constant time.
     pub fn proposer_len(&self, p: u32) -> u32
         requires { p < length self.now.proposers }
         ensures { result ≡ length (row self.now.proposers p) }
@@ -199,7 +199,7 @@ impl Market {
         self.proposer_list(p).len() as u32
     }
 
-    /// How many proposers a reviewer lists.
+    /// How many proposers a reviewer lists. Agents are numbered from 0. Takes constant time.
     pub fn reviewer_len(&self, r: u32) -> u32
         requires { r < length self.now.reviewers }
         ensures { result ≡ length (row self.now.reviewers r) }
@@ -207,7 +207,7 @@ impl Market {
         self.reviewer_list(r).len() as u32
     }
 
-    /// The reviewer at a place of a proposer's list.
+    /// The reviewer at a place of a proposer's list. Agents and places are numbered from 0. Takes constant time.
     pub fn reviewer_at(&self, p: u32, place: u32) -> u32
         requires in_range { p < length self.now.proposers }
         requires on_list { place < length (row self.now.proposers p) }
@@ -218,7 +218,7 @@ impl Market {
         self.proposer_lists.entry_at(p, place)
     }
 
-    /// The proposer at a place of a reviewer's list.
+    /// The proposer at a place of a reviewer's list. Agents and places are numbered from 0. Takes constant time.
     pub fn proposer_at(&self, r: u32, place: u32) -> u32
         requires in_range { r < length self.now.reviewers }
         requires on_list { place < length (row self.now.reviewers r) }

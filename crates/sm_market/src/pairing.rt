@@ -108,7 +108,7 @@ impl Pairing {
         })
     }
 
-    /// The place that a proposer holds on its list, `None` where it is unmatched.
+    /// The place that a proposer holds on its list, `None` where it is unmatched. All are numbered from 0. Takes constant time.
     pub fn place(&self, p: u32) -> Option<u32>
         requires { p < length self.now.places.proposers }
         ensures { result ≡ held self.now.places.proposers p }
@@ -116,7 +116,7 @@ impl Pairing {
         self.places[p as usize]
     }
 
-    /// The place that a reviewer holds on its list, `None` where it is unmatched.
+    /// The place that a reviewer holds on its list, `None` where it is unmatched. All are numbered from 0. Takes constant time.
     pub fn reviewer_place(&self, r: u32) -> Option<u32>
         requires { r < length self.now.places.reviewers }
         ensures { result ≡ held self.now.places.reviewers r }
@@ -124,7 +124,7 @@ impl Pairing {
         self.reviewer_places[r as usize]
     }
 
-    /// The proposer that a reviewer has, `None` where it is unmatched.
+    /// The proposer that a reviewer has, `None` where it is unmatched. All are numbered from 0. Takes constant time.
     pub fn holder(&self, r: u32) -> Option<u32>
         requires { r < length self.now.holders }
         ensures { result ≡ held self.now.holders r }
@@ -251,7 +251,7 @@ fn turn_round(
     }
 }
 
-/// The number of the pair that follows pair `i` round a cycle of `size` pairs. Pairs are numbered from 0.
+/// The number of the pair that follows pair `i` round a cycle of `size` pairs. Pairs are numbered from 0. Takes constant time.
 pub fn next_in(i: usize, size: usize) -> usize
     requires { i < size }
     ensures { result ≡ (if i + 1 == size then 0 else i + 1) }

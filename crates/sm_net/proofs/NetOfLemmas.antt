@@ -12,6 +12,7 @@ use Rattle.sm_market.specs.Matching.{Places, held}
 use Rattle.sm_theory.specs.Rotations.{proposer_at, reviewer_at, target_at, pair_of}
 use Rattle.sm_theory.specs.Chains.{rotation_at}
 use Rattle.sm_theory.specs.Weights.{gain_of}
+use Rattle.sm_lists.proofs.ResultLemmas.{same_bool}
 use Rattle.sm_theory.specs.Conditions.{level_at, has_level, moves_to, moves_off, entry_node, exit_node, forces, forbids, leads_to_need, rise_of, fall_of}
 use Rattle.sm_theory.proofs.Net.Tests.{and_parts, some_passes}
 use Rattle.sm_net.specs.declared.moves.Move.{Move}
@@ -21,14 +22,8 @@ use Rattle.sm_net.specs.Spans.{comes_to, goes_off, some_come, some_go, entry_by,
 use Rattle.sm_net.specs.CheckedNets.{gain_at}
 use Rattle.sm_net.specs.Laws.{NetIsOf}
 
--- two tests are the same where each passes when the other does
-alike : (a b : Bool) → (a ≡ true → b ≡ true) → (b ≡ true → a ≡ true) → a ≡ b
-alike true b there back = sym (there refl)
-alike false true there back = back refl
-alike false false there back = refl
-
 same_eq : (a b : ℕ) → (a == b) ≡ (b == a)
-same_eq a b = alike (a == b) (b == a) (λ h. eq-eqb b a (sym (eqb-true a b h))) (λ h. eq-eqb a b (sym (eqb-true b a h)))
+same_eq a b = same_bool (a == b) (b == a) (λ h. eq-eqb b a (sym (eqb-true a b h))) (λ h. eq-eqb a b (sym (eqb-true b a h)))
 
 -- the first places of two tests that are the same at each place
 same_first : {X Y : Type 0} (t : X → Bool) (s : Y → Bool) (xs : List X) (ys : List Y) (d : X) (e : Y) → length xs ≡ length ys
@@ -54,7 +49,7 @@ module _ {l : Lists} {rotation : List (ℕ × ℕ)} {moves : List Move} (m : Are
 
   -- where a move of p leads and from where
   pub come_is : some_come levels p level moves ≡ moves_to l levels p level rotation
-  come_is = alike (some_come levels p level moves) (moves_to l levels p level rotation)
+  come_is = same_bool (some_come levels p level moves) (moves_to l levels p level rotation)
       (λ h.
       let w = some_passes (comes_to levels p level) moves (record { proposer = 0; from = 0; to = 0 }) h in
       let both = and_parts _ _ w.holds in
@@ -75,7 +70,7 @@ module _ {l : Lists} {rotation : List (ℕ × ℕ)} {moves : List Move} (m : Are
 
   -- and where p leaves the level
   pub go_is : some_go levels p level moves ≡ moves_off l levels p level rotation
-  go_is = alike (some_go levels p level moves) (moves_off l levels p level rotation)
+  go_is = same_bool (some_go levels p level moves) (moves_off l levels p level rotation)
       (λ h.
       let w = some_passes (goes_off levels p level) moves (record { proposer = 0; from = 0; to = 0 }) h in
       let both = and_parts _ _ w.holds in

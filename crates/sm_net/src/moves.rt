@@ -1,7 +1,6 @@
 //! How rotations move their proposers, by places.
 
 ghost use Rattle.std.specs.Prelude.{◌≡◌, ℕ, ◌+◌, ◌*◌, ◌<◌, ◌≤◌, ◌^◌, length, List, IfOk, unsigned_abs};
-ghost use Rattle.sm_text.specs.Limits.{most_weight};
 ghost use Rattle.sm_market.specs.Lists.{Lists};
 ghost use Rattle.sm_market.specs.Pairing.{IsPairingOf};
 ghost use Rattle.sm_theory.specs.Rotations.{IsExposed};
@@ -94,7 +93,7 @@ fn gain_at(weights: &[Vec<i64>], moves: &[Move], i: usize) -> i64
     requires weights { HaveWeights (weights_in weights.now) moves.now }
     requires small { AreSmall (weights_in weights.now) }
     ensures gain { result ≡ move_gain (weights_in weights.now) (move_at moves.now i) }
-    ensures small { unsigned_abs result ≤ 2 * most_weight }
+    ensures small { unsigned_abs result ≤ 2 ^ 31 }
 {
     let step = moves[i];
     let row = weights_at(weights, step.proposer);

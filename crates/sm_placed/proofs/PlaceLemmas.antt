@@ -1,5 +1,6 @@
 -- The places of seats and their weights.
-use Rattle.std.proofs.Common.{◌≡◌, ℕ, ◌<◌, ◌∙◌, ℤ, pos, All, List, [], Some, length, get_or, sym, ap, subst, arith, inl, inr}
+use Rattle.std.proofs.Common.{◌≡◌, ℕ, ◌^◌, ◌<◌, ◌≤◌, ◌∙◌, ℤ, pos, All, List, [], Some, length, get_or, sym, ap, subst, arith, inl, inr}
+use Rattle.std.specs.Int.RustNames.{unsigned_abs}
 use Rattle.std.proofs.lemmas.Bool.{cases_lt}
 use Rattle.std.proofs.lemmas.List.{get_or_past}
 use Rattle.std.proofs.lemmas.List.Elements.{All-get_or}
@@ -39,10 +40,14 @@ light_at weights light p i on = elim (cases_lt p (length weights)) [
   | inr past ↦ absurd (let none = ap (λ (xs : List ℤ). length xs) (get_or_past weights p [] past) in omega (arith, none, on))
 ]
 
+-- a light weight is a small one
+pub small_of : (z : ℤ) → IsLight z → unsigned_abs z ≤ 2 ^ 30
+small_of z light = omega arith
+
 -- they are small weights, one for each place
 pub are_weights : (by : Measure) (w : Written) (s : Seating) {l : Lists} {weights : List (List ℤ)} → l ≡ s.market → weights ≡ weights_of by w s → AreLight weights → AreWeights l weights
 are_weights by w s {l} {weights} same is light = subst (λ l. AreWeights l weights) (sym same) (subst (AreWeights s.market) (sym is) (record {
   one_each = length-map-range_with_len (at_places s (λ p i. pair_weight by w p (Some i))) 0 (length s.market.proposers);
   per_place = λ p here. ap (λ (xs : List ℤ). length xs) (weights_at by w s p here) ∙ length-at_places s (λ p i. pair_weight by w p (Some i)) p;
-  small = light_at (weights_of by w s) (subst AreLight is light);
+  small = λ p i on. small_of (weight_at (weights_of by w s) p i) (light_at (weights_of by w s) (subst AreLight is light) p i on);
 }))

@@ -112,7 +112,7 @@ impl Poset {
         })
     }
 
-    /// The market for which the poset was made.
+    /// The market for which the poset was made. Takes constant time.
     pub fn market(&self) -> &Market
         ensures market { result.now ≡ self.now.lists }
         ensures poset { IsPoset self.now }
@@ -120,7 +120,7 @@ impl Poset {
         self.market.as_ref()
     }
 
-    /// The chain of which the poset was made.
+    /// The chain of which the poset was made. Takes constant time.
     pub fn chain(&self) -> &Chain
         ensures first { result.now.first ≡ self.now.first }
         ensures rotations { rotations_of result.now.rotations.items ≡ self.now.rotations }
@@ -143,9 +143,9 @@ impl Poset {
 
     /// The numbers of the predecessors of a rotation, rising. All are numbered from 0.
     ///
-    /// There are two kinds: a rotation that moves a proposer to a reviewer from which this one moves it, and one that moves
-    /// a reviewer, which this one makes a proposer pass over on its list, from a proposer that the reviewer likes less than
-    /// that one to one that it likes more.
+    /// There are two kinds: a rotation that moves a proposer to a reviewer from which this one moves it, and one that moves a
+    /// reviewer, which this one makes a proposer pass over on its list, from a proposer that the reviewer likes less than that
+    /// one to one that it likes more. Takes constant time.
     pub fn needs(&self, rotation: u32) -> &[u32]
         requires { rotation < length self.now.rotations }
         ensures { AreNeedsOf self.now.lists self.now.rotations rotation result.now }
@@ -153,15 +153,16 @@ impl Poset {
         &self.needs[rotation as usize]
     }
 
-    /// For all rotations what [`Poset::needs`] gives for one.
+    /// For all rotations what [`Poset::needs`] gives for one. Takes constant time.
     pub fn all_needs(&self) -> &[Vec<u32>]
         ensures { AreNeeds self.now.lists self.now.rotations (rows_of result.now) }
     {
         &self.needs
     }
 
-    /// The numbers of the rotations that move a proposer, rising, each with the place on the proposer's list to which it
-    /// moves it. Rotations and places are numbered from 0. Each move leads further down the list than those before it.
+    /// The numbers of the rotations that move a proposer, rising, each with the place on the proposer's list to which it moves
+    /// it. Rotations and places are numbered from 0. Each move leads further down the list than those before it. Takes constant
+    /// time.
     pub fn moves(&self, p: u32) -> &[(u32, u32)]
         requires { p < length self.now.lists.proposers }
         ensures moves { AreMovesOf self.now.lists self.now.rotations (length self.now.rotations) p
@@ -171,7 +172,7 @@ impl Poset {
         &self.moves[p as usize]
     }
 
-    /// For all proposers what [`Poset::moves`] gives for one.
+    /// For all proposers what [`Poset::moves`] gives for one. Takes constant time.
     pub fn all_moves(&self) -> &[Vec<(u32, u32)>]
         ensures { AreMoves self.now.lists self.now.rotations (length self.now.rotations)
             (moves_in result.now) }

@@ -1,14 +1,14 @@
 -- Proposals, one by one.
 use Rattle.std.proofs.Common.{◌≡◌, ◌≢◌, ℕ, suc, ◌+◌, ◌-◌, ◌<◌, ◌≤◌, ◌⊎◌, List, [], ◌∷◌, length, get_or, set, Fits, w32, refl, sym, ap, ◌∙◌, arith, inl, inr}
 use Rattle.std.proofs.lemmas.List.{get_or-set_same, get_or-set_other, length-set}
-use Rattle.std.proofs.lemmas.List.Sums.{sum_by-cons, sum_by-set}
+use Rattle.std.proofs.lemmas.List.Sums.{sum_by-set}
 use Rattle.std.specs.List.{sum_by}
 use Rattle.sm_lists.specs.Rows.{row, entry, place_of}
 use Rattle.sm_lists.specs.Limits.{AreWithinLimits}
 use Rattle.sm_lists.proofs.Counting.{lt_or_le, eq_or_ne}
 use Rattle.sm_lists.proofs.PlaceLemmas.{entry-place_of}
 use Rattle.sm_lists.proofs.PlaceLemmas.{place_on-le-at}
-use Rattle.sm_lists.proofs.RowLemmas.{row_fits}
+use Rattle.sm_lists.proofs.RowLemmas.{row_fits, entries_below}
 use Rattle.sm_lists.proofs.ItemLemmas.{set_cases}
 use Rattle.sm_room.specs.Bounds.{IsLeft, IsFirst, IsLast, IsGoodAt, IsProposing, HasHolder, bound_in}
 use Rattle.sm_room.specs.Proposing.{IsProgress, IsProposalTaken, IsTakenFor, IsPassed}
@@ -277,19 +277,11 @@ progress_end {rows} {p} {passed} {bounds} g full = good_at_end g.proposing (λ x
 abbrev pub places_left : List (List ℕ) → List ℕ → ℕ
 places_left rows passed = sum_by (λ list. length list) rows - sum_by (λ i. i) passed
 
-sums_le : (rows : List (List ℕ)) (next : List ℕ) → length next ≡ length rows → ((p : ℕ) → get_or next p 0 ≤ length (row rows p)) → sum_by (λ i. i) next ≤ sum_by (λ list. length list) rows
-sums_le rows [] long le = omega arith
-sums_le [] (i ∷ next) long le = absurd (omega arith)
-sums_le (list ∷ rows) (i ∷ next) long le =
-    let first : i ≤ length list = le 0 in
-    let rest = sums_le rows next (omega arith) (λ p. le (suc p)) in
-    omega (arith, sum_by-cons (λ (list : List ℕ). length list) list rows, sum_by-cons (λ (i : ℕ). i) i next)
-
 -- who passes one more place leaves fewer ahead
 pub places_left_fall : {rows : List (List ℕ)} {begun away : ℕ} {after : List ℕ} (passed : List ℕ) (u : ℕ) → length passed ≡ length rows → u < length rows
     → IsProgress rows begun away (set passed u (get_or passed u 0 + 1)) after → places_left rows (set passed u (get_or passed u 0 + 1)) < places_left rows passed
 places_left_fall {rows} passed u long there g =
-    let le = sums_le rows (set passed u (get_or passed u 0 + 1)) g.passed_each g.on_list in
+    let le = entries_below rows (set passed u (get_or passed u 0 + 1)) g.passed_each g.on_list in
     let more = sum_by-set (λ (i : ℕ). i) passed u (get_or passed u 0 + 1) 0 (omega (arith, long, there)) in
     omega arith
 

@@ -6,7 +6,7 @@ use Rattle.sm_instance.specs.Matching.{standing as written_standing}
 use Rattle.sm_instance.specs.Stable.{IsProposersBest as IsWrittenProposersBest, IsReviewersBest as IsWrittenReviewersBest}
 use Rattle.sm_market.specs.Matching.{Places, standing}
 use Rattle.sm_market.specs.Stable.{IsStable, IsProposersBest, IsReviewersBest}
-use Rattle.sm_theory.specs.Lattice.{meet_of, join_of}
+use Rattle.sm_theory.specs.Choices.{meet_of, join_of}
 use Rattle.sm_theory.proofs.Chains.Lattice.{meet_is_stable, join_is_stable, levels_determine}
 use Rattle.sm_seats.specs.Seating.{Seating, written_of, levels_of}
 use Rattle.sm_seats.specs.Correspondence.{IsSeating}

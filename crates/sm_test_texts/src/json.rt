@@ -1,9 +1,10 @@
-//! Instances in JSON, there and back for each kind, and bytes that are no instance. What values mean stands in the witnesses
-//! of `sm_json`.
+//! Instances in JSON, there and back for each kind, bytes that are no instance, and lines as items of an array. What values
+//! mean stands in the witnesses of `sm_json`.
 
 use crate::made::MEMORY;
-use sm_json::{JsonFault, to_json, to_text};
+use sm_json::{JsonFault, to_json, to_text, wrap};
 use sm_reader::read_instance;
+use sm_text::LineWriter;
 use std::process::Abort;
 
 /// Makes sure that an instance is this text and this JSON.
@@ -44,4 +45,12 @@ fn is_none(rt: &(impl Abort + AllocGlobal), bytes: &[u8]) {
 fn bytes_that_are_no_instance(rt: HostRuntime) {
     is_none(&rt, b"{}");
     is_none(&rt, b"[");
+}
+
+#[test]
+fn lines_as_items(rt: HostRuntime) {
+    let mut into = LineWriter::new(rt.alloc(), 1).expect(&rt, MEMORY);
+    wrap(&mut into, true, b"pair m1 a").expect(&rt, MEMORY);
+    wrap(&mut into, false, b"end").expect(&rt, MEMORY);
+    assert!(rt; into.bytes() == b"[\"pair m1 a\",\"end\"".as_slice());
 }

@@ -1,8 +1,8 @@
--- The meet and the join of two matchings.
+-- The better and the worse of two places, and the places of both sides.
 use Rattle.std.specs.Prelude.{ℕ, ◌==◌, List, Option, None, Some, map, min, max}
 use Rattle.std.specs.List.{position}
 use Rattle.sm_market.specs.Lists.{Lists, row, place_of}
-use Rattle.sm_market.specs.Matching.{Places, held, standing}
+use Rattle.sm_market.specs.Matching.{Places, standing}
 -- the agents of a side, passed on
 pub use Rattle.sm_market.specs.Lists.{agents}
 
@@ -25,11 +25,3 @@ abbrev pub worse : Option ℕ → Option ℕ → Option ℕ
 worse None o = None
 worse (Some i) None = None
 worse (Some i) (Some k) = Some (max i k)
-
--- each proposer gets the better of its two partners (Gusfield and Irving 1989, section 1.3.1)
-abbrev pub meet_of : Lists → Places → Places → Places
-meet_of l m n = with_proposers l (map (λ p. better (held m.proposers p) (held n.proposers p)) (agents l.proposers))
-
--- each proposer gets the worse of its two partners
-abbrev pub join_of : Lists → Places → Places → Places
-join_of l m n = with_proposers l (map (λ p. worse (held m.proposers p) (held n.proposers p)) (agents l.proposers))

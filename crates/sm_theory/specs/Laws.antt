@@ -3,7 +3,7 @@ use Rattle.std.specs.Prelude.{◌≡◌, ℕ, ◌<◌, ◌≤◌, ◌⊎◌, ◌
 use Rattle.sm_market.specs.Lists.{Lists, row, entry, place_of, IsMarket, reversed_lists}
 use Rattle.sm_market.specs.Matching.{Places, held, standing, reversed}
 use Rattle.sm_market.specs.Stable.{IsStable, IsProposersBest, IsReviewersBest}
-use Rattle.sm_theory.specs.Lattice.{meet_of, join_of}
+use Rattle.sm_theory.specs.Choices.{meet_of, join_of}
 use Rattle.sm_theory.specs.Rotations.{proposer_at, target_at, IsExposed, IsNoneBelow, eliminated}
 use Rattle.sm_theory.specs.Chains.{rotation_at, IsCompleteChain, IsNeededBy}
 use Rattle.sm_theory.specs.ClosedSets.{IsClosed, matching_of, Correspondence, IsReady, IsSameCycle}

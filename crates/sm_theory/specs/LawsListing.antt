@@ -3,7 +3,7 @@ use Rattle.std.specs.Prelude.{◌≡◌, ◌≢◌, ℕ, ◌+◌, ◌<◌, ◌�
 use Rattle.sm_market.specs.Lists.{Lists, place_of, IsMarket}
 use Rattle.sm_market.specs.Matching.{Places, held, standing}
 use Rattle.sm_market.specs.Stable.{IsStable}
-use Rattle.sm_theory.specs.Lattice.{join_of}
+use Rattle.sm_theory.specs.Choices.{join_of}
 use Rattle.sm_theory.specs.Rotations.{DoesMove, reviewer_before, reviewer_after}
 use Rattle.sm_theory.specs.Chains.{rotation_at, IsCompleteChain}
 use Rattle.sm_theory.specs.ClosedSets.{IsMember, IsClosed, matching_of}

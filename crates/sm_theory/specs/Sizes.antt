@@ -1,7 +1,6 @@
 -- Weights of places and their sizes.
-use Rattle.std.specs.Prelude.{◌≡◌, ℕ, ◌<◌, ◌≤◌, List, [], Vec, ℤ, length, map, slice_index_or, unsigned_abs}
+use Rattle.std.specs.Prelude.{◌^◌, ◌≡◌, ℕ, ◌<◌, ◌≤◌, List, [], Vec, ℤ, length, map, slice_index_or, unsigned_abs}
 use Rattle.std.specs.declared.alloc.Global.{Global}
-use Rattle.sm_text.specs.Limits.{most_weight}
 use Rattle.sm_market.specs.Lists.{Lists, row}
 use Rattle.sm_theory.specs.Weights.{weight_at}
 
@@ -15,7 +14,7 @@ place_weights weights p = slice_index_or weights p []
 
 -- all weights are within the limit
 abbrev pub AreSmall : List (List ℤ) → Type 0
-AreSmall weights = (p i : ℕ) → i < length (place_weights weights p) → unsigned_abs (weight_at weights p i) ≤ most_weight
+AreSmall weights = (p i : ℕ) → i < length (place_weights weights p) → unsigned_abs (weight_at weights p i) ≤ 2 ^ 30
 
 -- a small weight for each place of each proposer
 pub record AreWeights (l : Lists) (weights : List (List ℤ)) : Type 0 where

@@ -31,6 +31,10 @@ pub record IsAllowed (levels : List (List ℕ)) (forced forbidden : List (ℕ ×
   pub holds : (c : ℕ) → c < length forced → let (p, level) = slice_index_or forced c (0, 0) in HasLevel levels m p level
   pub avoids : (c : ℕ) → c < length forbidden → let (p, level) = slice_index_or forbidden c (0, 0) in ¬ HasLevel levels m p level
 
+-- the conditions speak of proposers that there are
+abbrev pub AreInRange : ℕ → List (ℕ × ℕ) → Type 0
+AreInRange n conditions = (c : ℕ) → c < length conditions → (slice_index_or conditions c (0, 0)).0 < n
+
 -- the levels lie between these bounds, both included; the level of being unmatched counts too
 abbrev pub IsWithin : Lists → List (List ℕ) → (low high : List ℕ) → Places → Type 0
 IsWithin l levels low high m = (p : ℕ) → p < length l.proposers → (slice_index low p ≤ level_of l levels m p) × (level_of l levels m p ≤ slice_index high p)

@@ -2,7 +2,7 @@
 use Rattle.std.specs.Prelude.{◌≡◌, ℕ, ◌<◌, Bool, true, false, List, [], ◌∷◌, None, Some}
 use Rattle.sm_market.specs.Lists.{Lists, IsMarket}
 use Rattle.sm_market.specs.Matching.{Places}
-use Rattle.sm_theory.specs.Lattice.{meet_of, join_of}
+use Rattle.sm_theory.specs.Choices.{meet_of, join_of}
 use Rattle.sm_theory.specs.Rotations.{DoesMove, reviewer_before, reviewer_after}
 use Rattle.sm_theory.specs.Chains.{stage, rotation_at, IsPrintedChain, IsNeededBy}
 use Rattle.sm_theory.specs.ClosedSets.{matching_of, IsReady}

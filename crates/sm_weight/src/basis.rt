@@ -5,11 +5,10 @@ ghost use Rattle.std.specs.List.{flat_map, list_any};
 ghost use Rattle.sm_lists.specs.Sums.{sum_to};
 ghost use Rattle.sm_market.specs.Lists.{row};
 ghost use Rattle.sm_market.specs.Vectors.{rows_of};
-ghost use Rattle.sm_theory.specs.Vectors.{AreLevels};
+ghost use Rattle.sm_theory.specs.Vectors.{AreLevels, AreInRange};
 ghost use Rattle.sm_theory.specs.Conditions.{forces, forbids};
 ghost use Rattle.sm_theory.specs.Chains.{AreNeeds};
 ghost use Rattle.sm_poset.specs.Posets.{IsPoset};
-ghost use Rattle.sm_board.specs.BoardOf.{AreInRange};
 ghost use Rattle.sm_weight.specs.Edges.{room_total};
 ghost use Rattle.sm_weight.specs.Basis.{is_barred, AreNetEdges, joined, need_edges, need_edges_of, gain_edge, gain_edges, forced_edges, forbidden_edges};
 

@@ -1,7 +1,6 @@
 //! The gains of rotations.
 
 ghost use Rattle.std.specs.Prelude.{◌≡◌, ℕ, ◌+◌, ◌*◌, ◌<◌, ◌≤◌, ◌^◌, length, map, sum_by, unsigned_abs, IfOk, IsSome};
-ghost use Rattle.sm_text.specs.Limits.{most_weight};
 ghost use Rattle.sm_market.specs.Lists.{IsMarket};
 ghost use Rattle.sm_market.specs.Limits.{IsWithinLimits};
 ghost use Rattle.sm_market.specs.Matching.{held};
@@ -58,7 +57,7 @@ fn turn(market: &Market, m: &mut Pairing, rotation: &Rotation, weights: &[Vec<i6
     ensures made { IsPairingOf market.now m.new }
     ensures moved { m.new.places ≡ eliminated market.now m.old.places rotation.now.pairs.items }
     ensures gain { result ≡ gain_of market.now (weights_in weights.now) rotation.now.pairs.items }
-    ensures small { unsigned_abs result ≤ 2 * most_weight * length rotation.now.pairs.items }
+    ensures small { unsigned_abs result ≤ 2 ^ 31 * length rotation.now.pairs.items }
 {
     let before = weight_held(m, weights, &rotation.pairs);
     eliminate(market, m, rotation);
@@ -75,7 +74,7 @@ fn weight_held(m: &Pairing, weights: &[Vec<i64>], pairs: &[(u32, u32)]) -> i64
     requires places { ArePlaces (weights_in weights.now) m.now.places.proposers }
     ensures weight { result ≡ weight_held (weights_in weights.now) m.now.places.proposers pairs.now
         (length pairs.now) }
-    ensures small { unsigned_abs result ≤ most_weight * length pairs.now }
+    ensures small { unsigned_abs result ≤ 2 ^ 30 * length pairs.now }
 {
     let mut weight = 0;
     for &(p, _) in pairs {
@@ -92,7 +91,7 @@ fn weight_of(m: &Pairing, weights: &[Vec<i64>], p: u32) -> i64
     requires places { ArePlaces (weights_in weights.now) m.now.places.proposers }
     ensures weight { result ≡ weight_of_place (weights_in weights.now) p
         (held m.now.places.proposers p) }
-    ensures small { unsigned_abs result ≤ most_weight }
+    ensures small { unsigned_abs result ≤ 2 ^ 30 }
 {
     let place = m.place(p).unwrap();
     weights[p as usize][place as usize]

@@ -2,8 +2,7 @@
 
 ghost use Rattle.std.specs.Prelude.{◌+◌, ◌<◌, ◌^◌, length, IfOk, MatchOption};
 ghost use Rattle.sm_market.specs.Vectors.{rows_of};
-ghost use Rattle.sm_theory.specs.Vectors.{AreLevels};
-ghost use Rattle.sm_board.specs.BoardOf.{AreInRange};
+ghost use Rattle.sm_theory.specs.Vectors.{AreLevels, AreInRange};
 ghost use Rattle.sm_weight.specs.Sizes.{weights_in, AreWeights};
 ghost use Rattle.sm_weight.specs.Lightest.{IsLightestFound, IsNothingAllowed};
 

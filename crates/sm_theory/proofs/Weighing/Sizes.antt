@@ -1,8 +1,7 @@
 -- Sizes of integers.
-use Rattle.std.proofs.Common.{◌≡◌, ℕ, suc, ◌+◌, ◌≤◌, arith, ap, ℤ, pos, negsuc, ◌+ℤ◌, neg_ℤ, ◌≤ℤ◌, to_z, of_z, w64}
+use Rattle.std.proofs.Common.{◌≡◌, ℕ, suc, ◌+◌, ◌^◌, ◌≤◌, arith, ap, ℤ, pos, negsuc, ◌+ℤ◌, neg_ℤ, ◌≤ℤ◌, to_z, of_z, w64}
 use Rattle.std.specs.Int.RustNames.{unsigned_abs}
 use Rattle.std.proofs.lemmas.Int.{ints, to_z-of_z, fits_signed_from_abs}
-use Rattle.sm_text.specs.Limits.{most_weight}
 use Rattle.sm_theory.specs.Weights.{total}
 
 -- a size within a bound, from both sides
@@ -16,7 +15,7 @@ below_of (pos k) n h = omega (arith, ints)
 below_of (negsuc k) n h = omega (arith, ints)
 
 -- a small number is itself in 64 bits
-pub small_is : (z : ℤ) → unsigned_abs z ≤ most_weight → to_z w64 (of_z w64 z) ≡ z
+pub small_is : (z : ℤ) → unsigned_abs z ≤ 2 ^ 30 → to_z w64 (of_z w64 z) ≡ z
 small_is z h = to_z-of_z w64 z (fits_signed_from_abs w64 z (omega arith))
 
 -- one more value in a sum

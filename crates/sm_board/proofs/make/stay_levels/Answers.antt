@@ -10,7 +10,7 @@ use Rattle.sm_market.specs.Pairing.{Paired}
 use Rattle.sm_poset.specs.Moves.{moves_at, moves_in, place_to}
 use Rattle.sm_poset.proofs.MoveLemmas.{go_down}
 use Rattle.sm_board.specs.BoardOf.{places_at}
-use Rattle.sm_board.proofs.MakeLemmas.{row_read}
+use Rattle.sm_lists.proofs.RowLemmas.{vector_read}
 use Rattle.sm_board.proofs.make.stay_levels.Goals as goal
 
 pub levels_at-requires-clause-places : goal.levels_at-requires-clause-places
@@ -20,8 +20,8 @@ levels_at-requires-clause-places c =
     let less : c.loop-p.p < length c.args.poset.now.lists.proposers = omega (arith, c.loop-p-test.true, c.proposers-p-end.ensures.count) in
     let levels_many = length-map c.args.levels.now (λ (v : Vec ℕ Global). v.items) in
     let moves_many = length-map c.args.moves.now (λ (v : Vec (ℕ × ℕ) Global). v.items) in
-    let levels : c.deref.result.now ≡ row (rows_of c.args.levels.now) c.loop-p.p = c.deref.ensures.value ∙ ap (λ (v : Vec ℕ Global). v.items) c.index-levels-p.is ∙ row_read c.args.levels.now c.loop-p.p c.index-levels-p.result (omega (arith, c.requires.levels.one_each)) in
-    let moves : c.deref-in-loop-p.result.now ≡ moves_at (moves_in c.args.moves.now) c.loop-p.p = c.deref-in-loop-p.ensures.value ∙ ap (λ (v : Vec (ℕ × ℕ) Global). v.items) c.index-moves-p.is ∙ row_read c.args.moves.now c.loop-p.p c.index-moves-p.result (omega (arith, c.requires.moves.one_each)) in
+    let levels : c.deref.result.now ≡ row (rows_of c.args.levels.now) c.loop-p.p = c.deref.ensures.value ∙ ap (λ (v : Vec ℕ Global). v.items) c.index-levels-p.is ∙ vector_read c.args.levels.now c.loop-p.p c.index-levels-p.result (omega (arith, c.requires.levels.one_each)) in
+    let moves : c.deref-in-loop-p.result.now ≡ moves_at (moves_in c.args.moves.now) c.loop-p.p = c.deref-in-loop-p.ensures.value ∙ ap (λ (v : Vec (ℕ × ℕ) Global). v.items) c.index-moves-p.is ∙ vector_read c.args.moves.now c.loop-p.p c.index-moves-p.result (omega (arith, c.requires.moves.one_each)) in
     λ a few.
     let down = (go_down poset.market poset.printed.chain (c.requires.moves.of c.loop-p.p less)).on_list a (omega (arith, few, ap length moves)) in
     omega (arith, down, ap (λ (ms : List (ℕ × ℕ)). place_to ms a) moves, ap length levels, c.requires.levels.per_place c.loop-p.p less)
@@ -32,8 +32,8 @@ loop-p-preserved c =
     let less : c.loop-p.p < length c.args.poset.now.lists.proposers = omega (arith, c.loop-p-test.true, c.proposers-p-end.ensures.count) in
     let levels_many = length-map c.args.levels.now (λ (v : Vec ℕ Global). v.items) in
     let moves_many = length-map c.args.moves.now (λ (v : Vec (ℕ × ℕ) Global). v.items) in
-    let levels : c.deref.result.now ≡ row (rows_of c.args.levels.now) c.loop-p.p = c.deref.ensures.value ∙ ap (λ (v : Vec ℕ Global). v.items) c.index-levels-p.is ∙ row_read c.args.levels.now c.loop-p.p c.index-levels-p.result (omega (arith, c.requires.levels.one_each)) in
-    let moves : c.deref-in-loop-p.result.now ≡ moves_at (moves_in c.args.moves.now) c.loop-p.p = c.deref-in-loop-p.ensures.value ∙ ap (λ (v : Vec (ℕ × ℕ) Global). v.items) c.index-moves-p.is ∙ row_read c.args.moves.now c.loop-p.p c.index-moves-p.result (omega (arith, c.requires.moves.one_each)) in
+    let levels : c.deref.result.now ≡ row (rows_of c.args.levels.now) c.loop-p.p = c.deref.ensures.value ∙ ap (λ (v : Vec ℕ Global). v.items) c.index-levels-p.is ∙ vector_read c.args.levels.now c.loop-p.p c.index-levels-p.result (omega (arith, c.requires.levels.one_each)) in
+    let moves : c.deref-in-loop-p.result.now ≡ moves_at (moves_in c.args.moves.now) c.loop-p.p = c.deref-in-loop-p.ensures.value ∙ ap (λ (v : Vec (ℕ × ℕ) Global). v.items) c.index-moves-p.is ∙ vector_read c.args.moves.now c.loop-p.p c.index-moves-p.result (omega (arith, c.requires.moves.one_each)) in
     let f : ℕ → List ℕ = λ p. map (λ i. slice_index (row (rows_of c.args.levels.now) p) i) (places_at c.args.poset.now.lists c.args.poset.now.first.places (moves_in c.args.moves.now) p) in
     let place : c.proposer_standing-place.result ≡ standing c.args.poset.now.lists.proposers c.args.poset.now.first.places.proposers c.loop-p.p =
     c.proposer_standing-place.ensures.standing ∙ ap (λ (l : Lists). standing l.proposers c.chain.result.now.first.places.proposers c.loop-p.p) c.market-market.ensures.market ∙ ap (λ (m : Paired). standing c.args.poset.now.lists.proposers m.places.proposers c.loop-p.p) c.chain.ensures.first in

@@ -4,7 +4,7 @@ use Rattle.std.proofs.lemmas.List.{length-map}
 use Rattle.sm_lists.specs.Rows.{place_on}
 use Rattle.sm_market.specs.Lists.{row}
 use Rattle.sm_market.specs.Vectors.{rows_of}
-use Rattle.sm_board.proofs.MakeLemmas.{row_read}
+use Rattle.sm_lists.proofs.RowLemmas.{vector_read}
 use Rattle.sm_least.specs.Steps.{NeverFall}
 use Rattle.sm_least.specs.Regrets.{rank_of_level, rank_now, greatest_of}
 use Rattle.sm_least.proofs.RegretLemmas.{greatest_of-suc, greater_is}
@@ -19,9 +19,9 @@ rank_of-requires c =
     let ranks_many = length-map c.args.ranks.now (λ (v : Vec ℕ Global). v.items) in
     let matched : slice_index_or c.args.board.now.matched p false ≡ true = ap (λ (bs : List Bool). slice_index_or bs p false) (sym c.matched.ensures) ∙ c.if-matched-p.true in
     let levels : c.deref.result.now ≡ row (rows_of c.args.levels.now) p =
-    c.deref.ensures.value ∙ ap (λ (v : Vec ℕ Global). v.items) c.index-levels-p.is ∙ row_read c.args.levels.now p c.index-levels-p.result (omega (arith, c.requires.ranked.levels_each)) in
+    c.deref.ensures.value ∙ ap (λ (v : Vec ℕ Global). v.items) c.index-levels-p.is ∙ vector_read c.args.levels.now p c.index-levels-p.result (omega (arith, c.requires.ranked.levels_each)) in
     let ranks : c.deref-then-matched-p.result.now ≡ row (rows_of c.args.ranks.now) p =
-    c.deref-then-matched-p.ensures.value ∙ ap (λ (v : Vec ℕ Global). v.items) c.index-ranks-p.is ∙ row_read c.args.ranks.now p c.index-ranks-p.result (omega (arith, c.requires.ranked.ranks_each)) in
+    c.deref-then-matched-p.ensures.value ∙ ap (λ (v : Vec ℕ Global). v.items) c.index-ranks-p.is ∙ vector_read c.args.ranks.now p c.index-ranks-p.result (omega (arith, c.requires.ranked.ranks_each)) in
     let s = c.requires.now.stays p in_it in
     record {
       rising = subst NeverFall (sym levels) (c.requires.ranked.rising p in_it);
@@ -41,9 +41,9 @@ loop-p-preserved c =
           let levels_many = length-map c.args.levels.now (λ (v : Vec ℕ Global). v.items) in
           let ranks_many = length-map c.args.ranks.now (λ (v : Vec ℕ Global). v.items) in
           let levels : w.deref.result.now ≡ row (rows_of c.args.levels.now) p =
-          w.deref.ensures.value ∙ ap (λ (v : Vec ℕ Global). v.items) w.index-levels-p.is ∙ row_read c.args.levels.now p w.index-levels-p.result (omega (arith, c.requires.ranked.levels_each)) in
+          w.deref.ensures.value ∙ ap (λ (v : Vec ℕ Global). v.items) w.index-levels-p.is ∙ vector_read c.args.levels.now p w.index-levels-p.result (omega (arith, c.requires.ranked.levels_each)) in
           let ranks : w.deref-then-matched-p.result.now ≡ row (rows_of c.args.ranks.now) p =
-          w.deref-then-matched-p.ensures.value ∙ ap (λ (v : Vec ℕ Global). v.items) w.index-ranks-p.is ∙ row_read c.args.ranks.now p w.index-ranks-p.result (omega (arith, c.requires.ranked.ranks_each)) in
+          w.deref-then-matched-p.ensures.value ∙ ap (λ (v : Vec ℕ Global). v.items) w.index-ranks-p.is ∙ vector_read c.args.ranks.now p w.index-ranks-p.result (omega (arith, c.requires.ranked.ranks_each)) in
           let rank = rw (levels, ranks) at w.rank_of.ensures in
           w.greatest-is ∙ w.max-greatest.ensures ∙ greater_is c.loop-p.greatest w.rank_of.result
           ∙ ap (λ x. max x w.rank_of.result) c.loop-p.invariant ∙ ap (max (greatest_of f p)) (rank ∙ sym (alike true w.if-matched-p.true)) ∙ sym (greatest_of-suc f p)

@@ -1,7 +1,7 @@
 use Rattle.std.proofs.Common.{arith}
-use Rattle.sm_lists.specs.Packed.{no_room, emptied}
+use Rattle.sm_lists.specs.Packed.{no_slot, emptied}
 use Rattle.sm_lists.proofs.PackedLemmas.{mapped_more}
 use Rattle.sm_lists.proofs.packed.empty.Goals as goal
 
-pub loop-room-preserved : goal.loop-room-preserved
-loop-room-preserved c = mapped_more emptied c.loop-room.rooms c.args.rooms.now c.loop-room.room-index no_room (omega arith) c.loop-room.invariant
+pub loop-slot-preserved : goal.loop-slot-preserved
+loop-slot-preserved c = mapped_more emptied c.loop-slot.slots c.args.slots.now c.loop-slot.slot-index no_slot (omega arith) c.loop-slot.invariant

@@ -1,6 +1,5 @@
-use Rattle.std.proofs.Common.{◌≡◌, ◌*◌, ◌∙◌, arith, length, ap}
+use Rattle.std.proofs.Common.{◌^◌, ◌≡◌, ◌*◌, ◌∙◌, arith, length, ap}
 use Rattle.std.proofs.lemmas.Int.{ints, to_z-of_z}
-use Rattle.sm_text.specs.Limits.{most_weight}
 use Rattle.sm_theory.specs.Sizes.{weights_in}
 use Rattle.sm_theory.specs.Weights.{total}
 use Rattle.sm_theory.proofs.Weighing.Sizes.{total_more, above_of, below_of}
@@ -12,8 +11,8 @@ pub loop-i-preserved : goal.loop-i-preserved
 loop-i-preserved c =
     let more = total_more (λ i. move_gain (weights_in c.args.weights.now) (move_at c.args.moves.now i)) c.loop-i.i in
     let one = c.gain_at-gain.ensures.gain in
-    let low = above_of c.gain_at-gain.result (2 * most_weight) c.gain_at-gain.ensures.small in
-    let high = below_of c.gain_at-gain.result (2 * most_weight) c.gain_at-gain.ensures.small in
+    let low = above_of c.gain_at-gain.result (2 ^ 31) c.gain_at-gain.ensures.small in
+    let high = below_of c.gain_at-gain.result (2 ^ 31) c.gain_at-gain.ensures.small in
     record {
       gain = grind (arith, ints, to_z-of_z, more, one);
       below = omega (arith, ints);

@@ -1,5 +1,4 @@
-use Rattle.std.proofs.Common.{◌≡◌, ◌*◌, pos, neg_ℤ, ◌≤ℤ◌}
-use Rattle.sm_text.specs.Limits.{most_weight}
+use Rattle.std.proofs.Common.{◌^◌, ◌≡◌, ◌*◌, pos, neg_ℤ, ◌≤ℤ◌}
 use Rattle.sm_theory.specs.Sizes.{weights_in}
 use Rattle.sm_theory.specs.Weights.{total}
 use Rattle.sm_net.specs.Moves.{move_at, move_gain}
@@ -9,6 +8,6 @@ use Rattle.sm_net.proofs.moves.gain.Given as goal
 abbrev pub invariant-loop-i : goal.invariant-loop-i
 invariant-loop-i l = record {
   gain : l.gain ≡ total (λ i. move_gain (weights_in l.weights) (move_at l.moves i)) l.i;
-  below : neg_ℤ (pos (2 * most_weight * l.i)) ≤ℤ l.gain;
-  above : l.gain ≤ℤ pos (2 * most_weight * l.i);
+  below : neg_ℤ (pos (2 ^ 31 * l.i)) ≤ℤ l.gain;
+  above : l.gain ≤ℤ pos (2 ^ 31 * l.i);
 }

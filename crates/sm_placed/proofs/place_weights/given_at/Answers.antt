@@ -11,6 +11,7 @@ use Rattle.sm_seats.proofs.SeatingLemmas.{level_is}
 use Rattle.sm_seats.proofs.SeatingLaws.{written_on}
 use Rattle.sm_theory.proofs.Weighing.Sizes.{small_is}
 use Rattle.sm_placed.specs.PlaceWeights.{IsLight}
+use Rattle.sm_placed.proofs.PlaceLemmas.{small_of}
 use Rattle.sm_placed.proofs.RankLemmas.{nil_of_empty, no_weight, zeros}
 use Rattle.sm_placed.proofs.place_weights.given_at.Goals as goal
 
@@ -47,7 +48,7 @@ loop-i-preserved c =
     let place : level - 1 ≡ written_place s p i = omega (arith, is) in
     let weight : c.pair_weight.result ≡ pair_weight by w p (Some (written_place s p i)) = c.pair_weight.ensures.weight ∙ ap (λ k. pair_weight by w p (Some k)) place in
     let items : c.push.new.self.items ≡ c.loop-i.weights.items ++ c.pair_weight.result ∷ [] =
-    c.in_ok-push.ensures.items ∙ ap (λ z. c.loop-i.weights.items ++ z ∷ []) (small_is c.pair_weight.result c.pair_weight.ensures.size) in
+    c.in_ok-push.ensures.items ∙ ap (λ z. c.loop-i.weights.items ++ z ∷ []) (small_is c.pair_weight.result (small_of c.pair_weight.result c.pair_weight.ensures.size)) in
     record {
       weights =
           items ∙ ap (λ z. c.loop-i.weights.items ++ z ∷ []) weight

@@ -9,6 +9,7 @@ use Rattle.sm_seats.proofs.SeatingLemmas.{level_is}
 use Rattle.sm_seats.proofs.SeatingLaws.{written_on}
 use Rattle.sm_theory.proofs.Weighing.Sizes.{small_is}
 use Rattle.sm_placed.specs.PlaceWeights.{IsLight}
+use Rattle.sm_placed.proofs.PlaceLemmas.{small_of}
 use Rattle.sm_placed.proofs.RankLemmas.{rank_read, rank_small}
 use Rattle.sm_placed.proofs.place_weights.ranks_at.Goals as goal
 
@@ -78,7 +79,7 @@ loop-i-preserved c =
     let light : IsLight (pos (level + back)) = omega (arith, is, small, listed, c.rank_in-back.ensures, c.proposer_len-written.ensures.length, c.proposer_len-written.ensures.fits) in
     let from : c.from.result ≡ pos (level + back) = c.from.ensures in
     let items : c.push.new.self.items ≡ c.loop-i.weights.items ++ pos (level + back) ∷ [] =
-    c.in_ok-push.ensures.items ∙ ap (λ z. c.loop-i.weights.items ++ z ∷ []) (small_is c.from.result (subst IsLight (sym from) light) ∙ from) in
+    c.in_ok-push.ensures.items ∙ ap (λ z. c.loop-i.weights.items ++ z ∷ []) (small_is c.from.result (small_of c.from.result (subst IsLight (sym from) light)) ∙ from) in
     record {
       weights =
           items ∙ ap (λ z. c.loop-i.weights.items ++ z ∷ []) weight

@@ -14,5 +14,5 @@ invariant-loop-k l = record {
   made : IsPairingOf l.market l.m;
   at : l.m.places ≡ stage l.market l.chain.first.places (rotations_of l.chain.rotations.items) l.k;
   gains : l.gains.items ≡ map (gain_of l.market (weights_in l.weights)) (take l.k (rotations_of l.chain.rotations.items));
-  small : sum_by unsigned_abs l.gains.items ≤ 2000000000 * sum_to (λ k. length (rotation_at (rotations_of l.chain.rotations.items) k)) l.k;
+  small : sum_by unsigned_abs l.gains.items ≤ 2 ^ 31 * sum_to (λ k. length (rotation_at (rotations_of l.chain.rotations.items) k)) l.k;
 }

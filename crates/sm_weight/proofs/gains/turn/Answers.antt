@@ -1,6 +1,5 @@
-use Rattle.std.proofs.Common.{◌≡◌, ℕ, ◌*◌, arith, ap, ◌∙◌, List, length, ◌-ℤ◌, to_z, of_z, w64}
+use Rattle.std.proofs.Common.{◌^◌, ◌≡◌, ℕ, ◌*◌, arith, ap, ◌∙◌, List, length, ◌-ℤ◌, to_z, of_z, w64}
 use Rattle.std.proofs.lemmas.Int.{ints}
-use Rattle.sm_text.specs.Limits.{most_weight}
 use Rattle.sm_market.specs.Matching.{Places}
 use Rattle.sm_theory.specs.Rotations.{eliminated}
 use Rattle.sm_theory.specs.Weights.{gain_of}
@@ -22,10 +21,10 @@ returns-clause-gain c =
     let w = weights_in c.args.weights.now in
     let many = ap length c.deref.ensures.value in
     let many_after = ap length c.deref-2.ensures.value in
-    let low = above_of c.weight_held-before.result (most_weight * length c.deref.result.now) c.weight_held-before.ensures.small in
-    let high = below_of c.weight_held-before.result (most_weight * length c.deref.result.now) c.weight_held-before.ensures.small in
-    let low_after = above_of c.weight_held.result (most_weight * length c.deref-2.result.now) c.weight_held.ensures.small in
-    let high_after = below_of c.weight_held.result (most_weight * length c.deref-2.result.now) c.weight_held.ensures.small in
+    let low = above_of c.weight_held-before.result (2 ^ 30 * length c.deref.result.now) c.weight_held-before.ensures.small in
+    let high = below_of c.weight_held-before.result (2 ^ 30 * length c.deref.result.now) c.weight_held-before.ensures.small in
+    let low_after = above_of c.weight_held.result (2 ^ 30 * length c.deref-2.result.now) c.weight_held.ensures.small in
+    let high_after = below_of c.weight_held.result (2 ^ 30 * length c.deref-2.result.now) c.weight_held.ensures.small in
     let before : c.weight_held-before.result ≡ weight_held w c.args.m.now.places.proposers pairs (length pairs) = c.weight_held-before.ensures.weight ∙ ap (λ (xs : List (ℕ × ℕ)). weight_held w c.args.m.now.places.proposers xs (length xs)) c.deref.ensures.value in
     let after : c.weight_held.result ≡ weight_held w (eliminated c.args.market.now c.args.m.now.places pairs).proposers pairs (length pairs) =
     c.weight_held.ensures.weight ∙ ap (λ (xs : List (ℕ × ℕ)). weight_held w c.eliminate.new.m.places.proposers xs (length xs)) c.deref-2.ensures.value

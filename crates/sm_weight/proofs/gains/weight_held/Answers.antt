@@ -1,6 +1,5 @@
-use Rattle.std.proofs.Common.{ℕ, arith}
+use Rattle.std.proofs.Common.{◌^◌, ℕ, arith}
 use Rattle.std.proofs.lemmas.Int.{ints, to_z-of_z}
-use Rattle.sm_text.specs.Limits.{most_weight}
 use Rattle.sm_market.specs.Matching.{held}
 use Rattle.sm_theory.specs.Rotations.{proposer_at}
 use Rattle.sm_theory.specs.Weights.{weight_of_place}
@@ -13,8 +12,8 @@ loop-p-preserved c =
     let n : ℕ = c.loop-p.p-index in
     let more = total_more (λ i. weight_of_place (weights_in c.args.weights.now) (proposer_at c.args.pairs.now i) (held c.args.m.now.places.proposers (proposer_at c.args.pairs.now i))) n in
     let one = c.weight_of-weight.ensures.weight in
-    let low = above_of c.weight_of-weight.result most_weight c.weight_of-weight.ensures.small in
-    let high = below_of c.weight_of-weight.result most_weight c.weight_of-weight.ensures.small in
+    let low = above_of c.weight_of-weight.result (2 ^ 30) c.weight_of-weight.ensures.small in
+    let high = below_of c.weight_of-weight.result (2 ^ 30) c.weight_of-weight.ensures.small in
     record {
       weight = grind (arith, ints, to_z-of_z, more, one);
       below = omega (arith, ints);

@@ -1,6 +1,5 @@
-use Rattle.std.proofs.Common.{◌≡◌, ℕ, ◌<◌, ◌≤◌, arith, sym, ap, ◌∙◌, Some, length}
+use Rattle.std.proofs.Common.{◌^◌, ◌≡◌, ℕ, ◌<◌, ◌≤◌, arith, sym, ap, ◌∙◌, Some, length}
 use Rattle.std.specs.Int.RustNames.{unsigned_abs}
-use Rattle.sm_text.specs.Limits.{most_weight}
 use Rattle.sm_market.specs.Matching.{held}
 use Rattle.sm_poset.proofs.MoveLemmas.{some_in_range}
 use Rattle.sm_theory.specs.Weights.{weight_at, weight_of_place}
@@ -23,7 +22,7 @@ returns-clause-weight c =
     let on : c.unwrap-place.result < length (place_weights (weights_in c.args.weights.now) p) = c.requires.places p c.unwrap-place.result there in
     let read : c.index.result.now ≡ weight_at (weights_in c.args.weights.now) p c.unwrap-place.result =
     weight_read c.args.weights.now p c.unwrap-place.result c.index-weights-p.result c.index.result.now less c.index-weights-p.is (omega (arith, weight_long c.args.weights.now p c.index-weights-p.result less c.index-weights-p.is)) c.index.ensures in
-    let small : unsigned_abs c.index.result.now ≤ most_weight = rw read (c.requires.small p c.unwrap-place.result on) in
+    let small : unsigned_abs c.index.result.now ≤ 2 ^ 30 = rw read (c.requires.small p c.unwrap-place.result on) in
     let is = small_is c.index.result.now small in
     is ∙ read ∙ ap (weight_of_place (weights_in c.args.weights.now) p) (sym there)
 
@@ -35,6 +34,6 @@ returns-clause-small c =
     let on : c.unwrap-place.result < length (place_weights (weights_in c.args.weights.now) p) = c.requires.places p c.unwrap-place.result there in
     let read : c.index.result.now ≡ weight_at (weights_in c.args.weights.now) p c.unwrap-place.result =
     weight_read c.args.weights.now p c.unwrap-place.result c.index-weights-p.result c.index.result.now less c.index-weights-p.is (omega (arith, weight_long c.args.weights.now p c.index-weights-p.result less c.index-weights-p.is)) c.index.ensures in
-    let small : unsigned_abs c.index.result.now ≤ most_weight = rw read (c.requires.small p c.unwrap-place.result on) in
+    let small : unsigned_abs c.index.result.now ≤ 2 ^ 30 = rw read (c.requires.small p c.unwrap-place.result on) in
     let is = small_is c.index.result.now small in
     rw is small

@@ -6,7 +6,7 @@ use Rattle.sm_market.specs.Vectors.{rows_of}
 use Rattle.sm_market.specs.Matching.{held, standing}
 use Rattle.sm_market.specs.Pairing.{Paired}
 use Rattle.sm_rotations.proofs.NeedsLemmas.{as_many}
-use Rattle.sm_board.proofs.MakeLemmas.{row_read}
+use Rattle.sm_lists.proofs.RowLemmas.{vector_read}
 use Rattle.sm_weight.specs.Spans.{IsEntryNode, IsExit}
 use Rattle.sm_weight.proofs.NodeLemmas.{rises_first, entry_is, exit_is}
 use Rattle.sm_weight.proofs.spans.span_of.Goals as goal
@@ -16,7 +16,7 @@ exit-requires-clause-rises c =
     let p : ℕ = c.args.p in
     let poset = c.chain-chain.ensures.poset in
     let levels_many = length-map c.args.levels.now (λ (v : Vec ℕ Global). v.items) in
-    let levels : c.deref-2.result.now ≡ row (rows_of c.args.levels.now) p = c.deref-2.ensures.value ∙ ap (λ (v : Vec ℕ Global). v.items) c.index-levels-p.is ∙ row_read c.args.levels.now p c.index-levels-p.result (omega (arith, c.requires.levels.one_each, c.requires.proposer)) in
+    let levels : c.deref-2.result.now ≡ row (rows_of c.args.levels.now) p = c.deref-2.ensures.value ∙ ap (λ (v : Vec ℕ Global). v.items) c.index-levels-p.is ∙ vector_read c.args.levels.now p c.index-levels-p.result (omega (arith, c.requires.levels.one_each, c.requires.proposer)) in
     let stands : c.proposer_standing-stands.result ≡ standing c.args.poset.now.lists.proposers c.args.poset.now.first.places.proposers p =
     c.proposer_standing-stands.ensures.standing ∙ ap (λ (l : Lists). standing l.proposers c.chain-chain.result.now.first.places.proposers p) c.market.ensures.market ∙ ap (λ (m : Paired). standing c.args.poset.now.lists.proposers m.places.proposers p) c.chain-chain.ensures.first in
     rw (levels, stands) (rises_first poset.market poset.printed.chain c.requires.levels p c.moves-moves.ensures.moves c.requires.proposer c.moves-moves.ensures.down)
@@ -26,7 +26,7 @@ returns-clause-entry c =
     let p : ℕ = c.args.p in
     let poset = c.chain-chain.ensures.poset in
     let levels_many = length-map c.args.levels.now (λ (v : Vec ℕ Global). v.items) in
-    let levels : c.deref.result.now ≡ row (rows_of c.args.levels.now) p = c.deref.ensures.value ∙ ap (λ (v : Vec ℕ Global). v.items) c.index-levels-p.is ∙ row_read c.args.levels.now p c.index-levels-p.result (omega (arith, c.requires.levels.one_each, c.requires.proposer)) in
+    let levels : c.deref.result.now ≡ row (rows_of c.args.levels.now) p = c.deref.ensures.value ∙ ap (λ (v : Vec ℕ Global). v.items) c.index-levels-p.is ∙ vector_read c.args.levels.now p c.index-levels-p.result (omega (arith, c.requires.levels.one_each, c.requires.proposer)) in
     let first : c.place-first.result ≡ held c.args.poset.now.first.places.proposers p = c.place-first.ensures ∙ ap (λ (m : Paired). held m.places.proposers p) c.chain-chain.ensures.first in
     let last : c.len.result + 1 ≡ suc (length c.args.poset.now.rotations) = omega (arith, c.len.ensures, as_many c.chain-chain.result.now.rotations.items, ap length c.chain-chain.ensures.rotations) in
     let entry : IsEntryNode (row (rows_of c.args.levels.now) p) (held c.args.poset.now.first.places.proposers p) c.moves-moves.result.now c.args.level (c.len.result + 1) c.entry.result =
@@ -39,7 +39,7 @@ returns-clause-exit c =
     let p : ℕ = c.args.p in
     let poset = c.chain-chain.ensures.poset in
     let levels_many = length-map c.args.levels.now (λ (v : Vec ℕ Global). v.items) in
-    let levels : c.deref-2.result.now ≡ row (rows_of c.args.levels.now) p = c.deref-2.ensures.value ∙ ap (λ (v : Vec ℕ Global). v.items) c.index-levels-p.is ∙ row_read c.args.levels.now p c.index-levels-p.result (omega (arith, c.requires.levels.one_each, c.requires.proposer)) in
+    let levels : c.deref-2.result.now ≡ row (rows_of c.args.levels.now) p = c.deref-2.ensures.value ∙ ap (λ (v : Vec ℕ Global). v.items) c.index-levels-p.is ∙ vector_read c.args.levels.now p c.index-levels-p.result (omega (arith, c.requires.levels.one_each, c.requires.proposer)) in
     let stands : c.proposer_standing-stands.result ≡ standing c.args.poset.now.lists.proposers c.args.poset.now.first.places.proposers p =
     c.proposer_standing-stands.ensures.standing ∙ ap (λ (l : Lists). standing l.proposers c.chain-chain.result.now.first.places.proposers p) c.market.ensures.market ∙ ap (λ (m : Paired). standing c.args.poset.now.lists.proposers m.places.proposers p) c.chain-chain.ensures.first in
     let last : c.len.result + 1 ≡ suc (length c.args.poset.now.rotations) = omega (arith, c.len.ensures, as_many c.chain-chain.result.now.rotations.items, ap length c.chain-chain.ensures.rotations) in

@@ -1,5 +1,6 @@
 use Rattle.std.proofs.Common.{ℕ, sym, ap, subst, length}
-use Rattle.sm_board.specs.BoardOf.{AreInRange, IsBoardFor}
+use Rattle.sm_board.specs.BoardOf.{IsBoardFor}
+use Rattle.sm_theory.specs.Vectors.{AreInRange}
 use Rattle.sm_least.specs.Searches.{Search}
 use Rattle.sm_least.proofs.SearchLemmas.{best_unbounded, none_unbounded}
 use Rattle.sm_least.proofs.least.Least.begin.Goals as goal

@@ -1,5 +1,5 @@
 use Rattle.std.proofs.Common.{ℕ, sym, ap, subst, length}
-use Rattle.sm_board.specs.BoardOf.{AreInRange}
+use Rattle.sm_theory.specs.Vectors.{AreInRange}
 use Rattle.sm_least.specs.Searches.{Search}
 use Rattle.sm_least.proofs.SearchLemmas.{best_unbounded, none_unbounded}
 use Rattle.sm_least.proofs.least.Least.best_allowed.Goals as goal

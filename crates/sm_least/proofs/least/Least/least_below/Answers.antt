@@ -1,6 +1,6 @@
 use Rattle.std.proofs.Common.{ℕ, sym, ap, subst, length}
 use Rattle.sm_market.specs.Vectors.{rows_of}
-use Rattle.sm_board.specs.BoardOf.{AreInRange}
+use Rattle.sm_theory.specs.Vectors.{AreInRange}
 use Rattle.sm_least.specs.Searches.{Search}
 use Rattle.sm_theory.specs.Regrets.{AreRanks}
 use Rattle.sm_least.proofs.BelowLemmas.{ranked_for, best_below, none_below}

@@ -6,5 +6,5 @@ use Rattle.sm_lists.proofs.packed.Packed.filled.Goals as goal
 
 pub returns : goal.returns
 returns g c =
-    let rooms = c.in_ok-rooms.rooms.items in
-    ap (λ items. packed_lists items rooms) c.in_ok-items.ensures ∙ lists_filled c.args.item (lists_in c.args.lists.now) c.in_ok-rooms.count rooms c.in_ok-rooms.ensures
+    let slots = c.in_ok-slots.slots.items in
+    ap (λ items. packed_lists items slots) c.in_ok-items.ensures ∙ lists_filled c.args.item (lists_in c.args.lists.now) c.in_ok-slots.count slots c.in_ok-slots.ensures

@@ -4,7 +4,7 @@ use Rattle.std.proofs.lemmas.List.{map_more, map_push}
 use Rattle.std.proofs.lemmas.List.Sums.{sum_by_push}
 use Rattle.sm_lists.specs.Rows.{lists_in}
 use Rattle.sm_lists.proofs.PackedLemmas.{lists_fit, full_more}
-use Rattle.sm_lists.proofs.packed.rooms_for.Goals as goal
+use Rattle.sm_lists.proofs.packed.slots_for.Goals as goal
 
 pub overflow_cast-end : goal.overflow_cast-end
 overflow_cast-end c =
