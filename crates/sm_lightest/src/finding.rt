@@ -12,11 +12,10 @@ ghost use Rattle.sm_lightest.specs.Found.{IsLightestOfSeats, IsFlowLine, shown_e
 
 use crate::lightest_parts::Lightest;
 use sm_instance::{Instance, Measure};
-use sm_listing::conditions_of;
 use sm_placed::weights_of_places;
 use sm_poset::Conditions;
 use sm_seats::Seats;
-use sm_shown::Basis;
+use sm_shown::{Basis, conditions_of};
 use sm_theory::FlowLine;
 use sm_weight::LightestFound;
 use std::alloc::{AllocError, Global};

@@ -1,16 +1,10 @@
 -- What a lister of an instance is started with.
-use Rattle.std.proofs.Common.{◌≡◌, ℕ, ◌+◌, ◌<◌, ◌∙◌, List, Option, Some, None, Vec, length, get_or, MatchOption, arith, ap, sym, subst}
+use Rattle.std.proofs.Common.{◌≡◌, ℕ, ◌<◌, ◌∙◌, List, Option, Some, None, Vec, length, get_or, MatchOption, arith, ap, sym}
 use Rattle.std.specs.List.{range_with_len}
 use Rattle.std.specs.declared.alloc.Global.{Global}
-use Rattle.std.proofs.lemmas.List.{get_or-map, length-map}
 use Rattle.std.proofs.lemmas.List.FromFn.{length-range_with_len, get_or-range_with_len}
 use Rattle.std.proofs.lemmas.Option.{none-some, same_Some}
-use Rattle.sm_instance.specs.Written.{Written, place_of}
-use Rattle.sm_instance.specs.Sound.{IsInstance, IsPairOf}
-use Rattle.sm_lists.specs.Pairs.{pair_at}
-use Rattle.sm_instance.proofs.ItemLemmas.{forced_in_range, forbidden_in_range}
-use Rattle.sm_theory.specs.Vectors.{IsOrder, AreInRange}
-use Rattle.sm_seats.specs.Correspondence.{leveled}
+use Rattle.sm_theory.specs.Vectors.{IsOrder}
 use Rattle.sm_listing.specs.ListAnswer.{IsCursor}
 use Rattle.sm_listing.specs.Started.{cursor_in}
 
@@ -24,21 +18,6 @@ range_is_order n = record {
   where
     number : (j : ℕ) → j < n → get_or (range_with_len 0 n) j 0 ≡ j
     number j l = let e = get_or-range_with_len 0 n j 0 l in omega arith
-
--- levels stand beside the proposers of their pairs
-named : (w : Written) (pairs : List (ℕ × ℕ)) → ((n : ℕ) → n < length pairs → IsPairOf (length w.proposers) (length w.reviewers) (pair_at pairs n)) → AreInRange (length w.proposers) (leveled w pairs)
-named w pairs each c l =
-    let f : (ℕ × ℕ) → (ℕ × ℕ) = λ pair. (pair.0, place_of w.proposers pair.0 pair.1 + 1) in
-    let on : c < length pairs = omega (arith, l, length-map pairs f) in
-    subst (λ (pair : ℕ × ℕ). pair.0 < length w.proposers) (sym (get_or-map f pairs c (0, 0) (0, 0) on)) (each c on).proposer
-
--- forced pairs name proposers of the instance
-pub forced_named : {w : Written} → IsInstance w → AreInRange (length w.proposers) (leveled w w.forced)
-forced_named {w} i = named w w.forced (forced_in_range i)
-
--- forbidden pairs name proposers of the instance
-pub forbidden_named : {w : Written} → IsInstance w → AreInRange (length w.proposers) (leveled w w.forbidden)
-forbidden_named {w} i = named w w.forbidden (forbidden_in_range i)
 
 -- a copy of a vector is as long
 pub cursor_long : {n m : ℕ} (copy after : Option (Vec ℕ Global)) → cursor_in copy ≡ cursor_in after → n ≡ m → IsCursor n (cursor_in after) → MatchOption copy (Unit {0}) (λ v. length v.items ≡ m)

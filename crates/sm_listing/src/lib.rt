@@ -5,11 +5,9 @@
 #![tactic(auto)]
 
 mod answer;
-mod search;
 mod start;
 mod vector_lines;
 mod vector_text;
 
 pub use answer::{ListLines, list_lines};
-pub use search::{conditions_of, least_of};
 pub use start::start_list;

@@ -8,11 +8,11 @@ ghost use Rattle.sm_seats.specs.Correspondence.{IsSeating};
 ghost use Rattle.sm_listing.specs.ListAnswer.{IsCursor};
 ghost use Rattle.sm_listing.specs.Started.{cursor_in, IsListerOf};
 
-use crate::search::{conditions_of, least_of};
 use sm_instance::Instance;
+use sm_least::Least;
 use sm_lister::Lister;
 use sm_seats::Seats;
-use sm_shown::Basis;
+use sm_shown::{Basis, conditions_of};
 use std::alloc::{AllocError, AllocFailed, Global};
 
 /// Makes ready to list the rank vectors of the stable matchings that the conditions of an instance allow, behind a vector
@@ -36,7 +36,7 @@ pub fn start_list(
     ensures { IfOk result (λ lister. IsListerOf instance.now (cursor_in after.now) lister) }
 {
     let basis = Basis::of(alloc, seats)?;
-    let least = least_of(alloc, &basis, seats)?;
+    let least = Least::start(alloc, &basis.poset, seats.levels(alloc)?)?;
     let conditions = conditions_of(alloc, instance)?;
     let order = first_numbers(alloc, instance.proposer_count())?;
     let after = copy_of_cursor(alloc, after)?;

@@ -19,10 +19,10 @@ use crate::least_regret::LeastRegret;
 use sm_answer::{Each, Lines, One, Printed, Then};
 use sm_instance::{Input, Instance};
 use sm_lattice::min_regret;
-use sm_listing::{conditions_of, least_of};
+use sm_least::Least;
 use sm_report::{Head, Line};
 use sm_seats::Seats;
-use sm_shown::{Basis, PairLines};
+use sm_shown::{Basis, PairLines, conditions_of};
 use std::alloc::{AllocError, Global};
 
 /// The stable matching of the least regret among those that the conditions of an instance allow, and of those that have it the
@@ -46,7 +46,7 @@ pub fn find_regret(
         (λ f. IsLeastRegretOfSeats instance.now seats.now f)) }
 {
     let basis = Basis::of(alloc, seats)?;
-    let mut least = least_of(alloc, &basis, seats)?;
+    let mut least = Least::start(alloc, &basis.poset, seats.levels(alloc)?)?;
     let conditions = conditions_of(alloc, instance)?;
     let ranks = worse_ranks(alloc, instance, seats, least.levels())?;
     match min_regret(alloc, &mut least, &ranks, &conditions)? {

@@ -3,3 +3,4 @@ pub mod SolveLemmas
 pub mod ReduceLemmas
 pub mod ShownLemmas
 pub mod RotationLemmas
+pub mod ConditionLemmas

@@ -1,7 +1,7 @@
 use Rattle.std.proofs.Common.{◌∙◌, ap, length, sym, subst}
 use Rattle.sm_market.specs.Lists.{Lists}
 use Rattle.sm_weight.specs.Sizes.{weights_in}
-use Rattle.sm_listing.proofs.StartLemmas.{forced_named, forbidden_named}
+use Rattle.sm_shown.proofs.ConditionLemmas.{forced_named, forbidden_named}
 use Rattle.sm_placed.specs.PlaceWeights.{AreLight}
 use Rattle.sm_placed.proofs.PlaceLemmas.{are_weights}
 use Rattle.sm_lightest.proofs.finding.find_lightest.Goals as goal

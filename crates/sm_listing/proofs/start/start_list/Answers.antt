@@ -1,13 +1,14 @@
 use Rattle.std.proofs.Common.{◌≡◌, ◌∙◌, sym, ap, length}
 use Rattle.sm_poset.specs.Posets.{RotationPoset}
 use Rattle.sm_market.specs.Lists.{Lists}
-use Rattle.sm_listing.proofs.StartLemmas.{range_is_order, forced_named, forbidden_named, cursor_long}
+use Rattle.sm_shown.proofs.ConditionLemmas.{forced_named, forbidden_named}
+use Rattle.sm_listing.proofs.StartLemmas.{range_is_order, cursor_long}
 use Rattle.sm_listing.proofs.start.start_list.Goals as goal
 
 -- as many as the proposers of the instance
 count : (c : goal.In_ok-after) → length c.args.instance.now.proposers ≡ length c.in_ok-least.least.poset.lists.proposers
 count c =
-    sym (ap (λ (poset : RotationPoset). length poset.lists.proposers) c.in_ok-least.ensures.same ∙ ap (λ (l : Lists). length l.proposers) c.in_ok-basis.ensures ∙ c.requires.seating.proposers)
+    sym (ap (λ (poset : RotationPoset). length poset.lists.proposers) c.in_ok-least.ensures.poset ∙ ap (λ (l : Lists). length l.proposers) c.in_ok-basis.ensures ∙ c.requires.seating.proposers)
 
 pub start-requires-clause-order : goal.start-requires-clause-order
 start-requires-clause-order c = rw (sym (count c), c.in_ok-order.ensures, c.proposer_count.ensures.count) (range_is_order (length c.args.instance.now.proposers))

@@ -2,7 +2,7 @@ use Rattle.std.proofs.Common.{◌≡◌, ℕ, ◌+◌, length, ap, ◌∙◌, ar
 use Rattle.std.proofs.lemmas.List.{length-map}
 use Rattle.sm_instance.specs.Written.{place_of}
 use Rattle.sm_instance.proofs.ItemLemmas.{forced_in_range, forbidden_in_range}
-use Rattle.sm_listing.proofs.search.conditions_of.Goals as goal
+use Rattle.sm_shown.proofs.conditions.conditions_of.Goals as goal
 
 pub leveled-requires : goal.leveled-requires
 leveled-requires c = rw c.forced.ensures.pairs (forced_in_range c.forced.ensures.instance)
