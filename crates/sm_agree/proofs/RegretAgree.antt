@@ -16,8 +16,8 @@ use Rattle.sm_report.specs.Heads.{HeadData}
 use Rattle.sm_report.specs.Lines.{LineData}
 use Rattle.sm_report.specs.Sound.{IsLineOf}
 use Rattle.sm_answer.proofs.AnswerLemmas.{one_all, lines_all}
-use Rattle.sm_shown.specs.Answers.{pair_line}
-use Rattle.sm_shown.proofs.SolveLemmas.{pair_sound, end_sound}
+use Rattle.sm_answer.specs.MatchingLines.{pair_line}
+use Rattle.sm_answer.proofs.LineLemmas.{end_sound, pair_sound}
 use Rattle.sm_partners.specs.RegretAnswer.{regret_lines}
 use Rattle.sm_report.specs.declared.keywords.Keyword.TheVariants as keyword
 use Rattle.sm_forms.specs.declared.layouts.LayoutPart.TheVariants.{One}

@@ -9,8 +9,8 @@ use Rattle.sm_instance.specs.declared.kinds.Side.{Side}
 use Rattle.sm_instance.specs.declared.kinds.Side.TheVariants.{Proposers, Reviewers}
 use Rattle.sm_report.specs.Heads.{HeadData}
 use Rattle.sm_report.specs.Lines.{LineData}
-use Rattle.sm_shown.specs.Answers.{solve_lines}
-use Rattle.sm_shown.proofs.SolveLemmas.{solve_sound}
+use Rattle.sm_solve.specs.Solution.{solve_lines}
+use Rattle.sm_solve.proofs.SolutionLemmas.{solve_sound}
 use Rattle.sm_report.specs.declared.keywords.Keyword.TheVariants as keyword
 use Rattle.sm_forms.specs.declared.layouts.LayoutPart.TheVariants.{One}
 use Rattle.sm_forms.specs.Layouts.{is_whole}

@@ -20,7 +20,7 @@ use Rattle.sm_answer.specs.Lines.{lines_from}
 use Rattle.sm_answer.proofs.AnswerLemmas.{lines_from-same}
 use Rattle.sm_seats.specs.SeatMarket.{seat_market}
 use Rattle.sm_seats.specs.Seating.{Seating, seating_of}
-use Rattle.sm_shown.specs.Answers.{pair_line}
+use Rattle.sm_answer.specs.MatchingLines.{pair_line}
 use Rattle.sm_shown.specs.Reduction.{seat_line}
 use Rattle.sm_shown.specs.RotationLines.{first_seat, first_seat_line, seated_rotation, rotation_line, needs_line}
 use Rattle.sm_shown.specs.RotationAnswer.{pairs_of}

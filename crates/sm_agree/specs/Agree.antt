@@ -12,7 +12,7 @@ use Rattle.sm_report.specs.Lines.{LineData}
 use Rattle.sm_report.specs.Sound.{IsHeadOf}
 use Rattle.sm_report.specs.Texts.{text_of_line}
 use Rattle.sm_seats.specs.SeatEntries.{AreFewSeats}
-use Rattle.sm_shown.specs.Answers.{IsSolution}
+use Rattle.sm_solve.specs.Solution.{IsSolution}
 use Rattle.sm_shown.specs.Reduction.{IsReduction}
 use Rattle.sm_shown.specs.RotationAnswer.{IsRotationAnswer}
 use Rattle.sm_listing.specs.ListAnswer.{IsListAnswer}

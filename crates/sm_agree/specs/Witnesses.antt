@@ -12,7 +12,7 @@ use Rattle.sm_report.specs.declared.lines.Seat.{Seat}
 use Rattle.sm_report.specs.Heads.{HeadData}
 use Rattle.sm_report.specs.Lines.{LineData}
 use Rattle.sm_report.specs.Witnesses.{first_seat_of}
-use Rattle.sm_shown.specs.Answers.{IsSolution}
+use Rattle.sm_solve.specs.Solution.{IsSolution}
 use Rattle.sm_shown.specs.Reduction.{IsReduction}
 use Rattle.sm_shown.specs.RotationAnswer.{IsRotationAnswer}
 use Rattle.sm_listing.specs.ListAnswer.{IsListAnswer}

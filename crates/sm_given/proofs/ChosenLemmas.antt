@@ -16,15 +16,15 @@ use Rattle.sm_theory.specs.declared.choice.Choice.TheVariants.{Better, Worse}
 use Rattle.sm_report.specs.Heads.{HeadData}
 use Rattle.sm_report.specs.Lines.{LineData}
 use Rattle.sm_report.specs.Sound.{IsLineOf}
-use Rattle.sm_given.specs.MatchingLines.{pair_data, matching_line}
+use Rattle.sm_answer.specs.MatchingLines.{pair_data, matching_line}
 use Rattle.sm_pairs.specs.Held.{places_in}
 use Rattle.sm_given.specs.Given.{AreStableGiven}
 use Rattle.sm_pairs.specs.Chosen.{chosen_places, head_for}
 use Rattle.sm_pairs.proofs.ChoiceLemmas.{chosen_assigned}
 use Rattle.sm_given.specs.Chosen.{pair_lines, chosen_lines, IsChosenAnswer}
 use Rattle.sm_given.specs.declared.given.Given.{Given}
-use Rattle.sm_given.specs.declared.matching_lines.PairWord.{PairWord}
-use Rattle.sm_given.specs.declared.matching_lines.PairWord.TheVariants as word
+use Rattle.sm_answer.specs.declared.matching_lines.PairWord.{PairWord}
+use Rattle.sm_answer.specs.declared.matching_lines.PairWord.TheVariants as word
 use Rattle.sm_given.proofs.ReadingLemmas.{end_line}
 
 -- a pair of an assignment is a line of the instance

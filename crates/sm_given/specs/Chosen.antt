@@ -8,9 +8,9 @@ use Rattle.sm_report.specs.Lines.{LineData}
 use Rattle.sm_pairs.specs.Chosen.{chosen_places, head_for}
 use Rattle.sm_pairs.specs.Held.{places_in, GiveStable}
 use Rattle.sm_given.specs.GivenText.{AreGiven}
-use Rattle.sm_given.specs.MatchingLines.{matching_line}
-use Rattle.sm_given.specs.declared.matching_lines.PairWord.{PairWord}
-use Rattle.sm_given.specs.declared.matching_lines.PairWord.TheVariants as word
+use Rattle.sm_answer.specs.MatchingLines.{matching_line}
+use Rattle.sm_answer.specs.declared.matching_lines.PairWord.{PairWord}
+use Rattle.sm_answer.specs.declared.matching_lines.PairWord.TheVariants as word
 
 -- the pairs of a matching in the order of the proposers
 abbrev pub pair_lines : PairWord → Written → List (Option ℕ) → List LineData

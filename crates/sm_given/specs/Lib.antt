@@ -2,5 +2,4 @@ pub mod GivenText
 pub mod Taking
 pub mod Given
 pub mod Refusing
-pub mod MatchingLines
 pub mod Chosen

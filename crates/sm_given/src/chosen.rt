@@ -11,8 +11,7 @@ ghost use Rattle.sm_given.specs.Chosen.{IsChosenAnswer};
 ghost use Rattle.sm_report.specs.Heads.{head_of};
 
 use crate::given::Given;
-use crate::matching_lines::{MatchingLines, PairWord};
-use sm_answer::{Each, Lines, One, Printed, Then};
+use sm_answer::{Each, Lines, MatchingLines, One, PairWord, Printed, Then};
 use sm_instance::{Assignment, Input, Instance};
 use sm_report::{Head, Line};
 use sm_theory::Choice;

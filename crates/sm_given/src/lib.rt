@@ -8,11 +8,9 @@ mod chosen;
 mod faults;
 mod given;
 mod holding;
-mod matching_lines;
 mod pairs;
 mod reading;
 
 pub use chosen::{ChosenLines, chosen_lines};
 pub use faults::{Flaw, GivenFault, Unstable, Which};
 pub use given::{Given, find_given};
-pub use matching_lines::{MatchingLines, PairWord};

@@ -28,7 +28,8 @@ use Rattle.sm_weight.proofs.CountLemmas.{pairs_of_few}
 use Rattle.sm_shown.specs.Reduction.{seat_line}
 use Rattle.sm_shown.specs.GivenLines.{two_lines}
 use Rattle.sm_shown.specs.PairLines.{seated_pair_line}
-use Rattle.sm_shown.proofs.SolveLemmas.{pair_alike, pair_sound, end_sound}
+use Rattle.sm_shown.proofs.PairLemmas.{pair_alike}
+use Rattle.sm_answer.proofs.LineLemmas.{end_sound, pair_sound}
 use Rattle.sm_shown.proofs.ReduceLemmas.{seat_sound}
 use Rattle.sm_shown.proofs.RotationLemmas.{both_sound, flat_from}
 use Rattle.sm_lightest.specs.WeightAnswer.{member_numbers}

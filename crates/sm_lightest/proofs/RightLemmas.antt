@@ -28,14 +28,14 @@ use Rattle.sm_seats.proofs.SeatingLaws.{as_well}
 use Rattle.sm_seats.proofs.VectorLaws.{allowed_seats, lightest_written}
 use Rattle.sm_theory.specs.declared.flow_lines.FlowLine.{FlowLine}
 use Rattle.sm_weight.specs.Lightest.{IsFullFlow, IsLightestFound, set_matching}
-use Rattle.sm_shown.specs.Answers.{pair_line}
+use Rattle.sm_answer.specs.MatchingLines.{pair_line}
 use Rattle.sm_shown.specs.PairLines.{seated_pair_line}
 use Rattle.sm_shown.specs.Reduction.{seat_line}
 use Rattle.sm_shown.specs.RotationLines.{first_seat_line, first_seat, seated_rotation, shown_of}
 use Rattle.sm_shown.specs.RotationAnswer.{pairs_of}
 use Rattle.sm_shown.specs.GivenLines.{two_lines}
 use Rattle.sm_shown.proofs.ShownLemmas.{pairs_at_shown, correspondence}
-use Rattle.sm_shown.proofs.SolveLemmas.{pair_alike}
+use Rattle.sm_shown.proofs.PairLemmas.{pair_alike}
 use Rattle.sm_shown.proofs.RotationLemmas.{flat_map_alike, lines_shown, first_shown}
 use Rattle.sm_lightest.specs.WeightAnswer.{gain_of_pairs, gain_in, WeightParts, net_in, matching_in, gained_lines, flow_line, member_numbers, weight_lines, IsWeightAnswer}
 use Rattle.sm_instance.specs.Lightest.{IsLightest}

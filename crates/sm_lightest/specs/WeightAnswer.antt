@@ -24,7 +24,7 @@ use Rattle.sm_seats.specs.Seating.{seating_of, written_of, levels_of}
 use Rattle.sm_seats.specs.Correspondence.{leveled, weights_of}
 use Rattle.sm_theory.specs.declared.flow_lines.FlowLine.{FlowLine}
 use Rattle.sm_theory.specs.FlowLines.{amount_on, AreFlowLines}
-use Rattle.sm_shown.specs.Answers.{pair_line}
+use Rattle.sm_answer.specs.MatchingLines.{pair_line}
 use Rattle.sm_shown.specs.RotationLines.{ShownRotations, first_seat_line, pairs_at, rotation_lines, shown_of}
 use Rattle.sm_shown.specs.RotationAnswer.{pairs_of, IsCorrespondence}
 

@@ -23,7 +23,7 @@ use Rattle.sm_seats.specs.Seating.{seating_of, levels_of}
 use Rattle.sm_seats.specs.SeatMarket.{seat_market}
 use Rattle.sm_seats.specs.Correspondence.{leveled}
 use Rattle.sm_seats.proofs.VectorLaws.{listing_written}
-use Rattle.sm_shown.proofs.SolveLemmas.{end_sound}
+use Rattle.sm_answer.proofs.LineLemmas.{end_sound}
 use Rattle.sm_lister.specs.Listers.{Lister}
 use Rattle.sm_lister.specs.Rests.{IsListingOf}
 use Rattle.sm_listing.specs.ListAnswer.{last_line, vector_lines, IsListAnswer}

@@ -11,7 +11,7 @@ use Rattle.sm_instance.proofs.ListLemmas.{row_in_range}
 use Rattle.sm_report.specs.Heads.{HeadData}
 use Rattle.sm_report.specs.Lines.{LineData}
 use Rattle.sm_report.specs.Sound.{IsLineOf}
-use Rattle.sm_shown.proofs.SolveLemmas.{end_sound}
+use Rattle.sm_answer.proofs.LineLemmas.{end_sound}
 use Rattle.sm_partners.specs.Partners.{IsStablePlace, AreStablePairs}
 use Rattle.sm_partners.specs.PairsAnswer.{partner_line, pairs_lines}
 use Rattle.sm_partners.specs.declared.pairs.StablePair.{StablePair}

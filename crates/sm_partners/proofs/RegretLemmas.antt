@@ -18,9 +18,10 @@ use Rattle.sm_seats.specs.Seating.{Seating, written_of}
 use Rattle.sm_seats.specs.Correspondence.{IsSeating, worse_ranks_of}
 use Rattle.sm_seats.proofs.SeatingLaws.{as_well}
 use Rattle.sm_seats.proofs.VectorLaws.{allowed_seats, least_regret_written}
-use Rattle.sm_shown.specs.Answers.{pair_line}
+use Rattle.sm_answer.specs.MatchingLines.{pair_line}
 use Rattle.sm_shown.specs.PairLines.{seated_pair_line}
-use Rattle.sm_shown.proofs.SolveLemmas.{pair_alike, pair_sound, end_sound}
+use Rattle.sm_shown.proofs.PairLemmas.{pair_alike}
+use Rattle.sm_answer.proofs.LineLemmas.{end_sound, pair_sound}
 use Rattle.sm_partners.specs.RegretAnswer.{IsLeastRegret as IsWrittenLeastRegret, IsRegretAnswer, regret_lines}
 use Rattle.sm_partners.specs.RegretFound.{IsLeastRegretOfSeats, regret_given}
 use Rattle.sm_partners.specs.declared.least_regret.LeastRegret.{LeastRegret}

@@ -8,7 +8,7 @@ use Rattle.sm_instance.specs.Allowed.{IsAllowed}
 use Rattle.sm_instance.specs.Ranks.{regret_of}
 use Rattle.sm_report.specs.Heads.{HeadData}
 use Rattle.sm_report.specs.Lines.{LineData}
-use Rattle.sm_shown.specs.Answers.{pair_line}
+use Rattle.sm_answer.specs.MatchingLines.{pair_line}
 
 -- an allowed stable matching of the least regret, and of those that have it the one that is best for all proposers
 -- (Gusfield 1987; Gusfield and Irving 1989, section 3.4.1)

@@ -1,5 +1,5 @@
 pub mod SeatingLemmas
-pub mod SolveLemmas
+pub mod PairLemmas
 pub mod ReduceLemmas
 pub mod ShownLemmas
 pub mod RotationLemmas

@@ -32,7 +32,7 @@ use Rattle.sm_answer.specs.Lines.{line_or_none, lines_from}
 use Rattle.sm_answer.proofs.AnswerLemmas.{lines_each, one_all}
 use Rattle.sm_shown.specs.Reduction.{seat_of, best_seat, seat_line, proposer_line, reviewer_line, reduced_lines, IsReduction}
 use Rattle.sm_shown.specs.GivenLines.{seats_given, rows_given, reduced_given}
-use Rattle.sm_shown.proofs.SolveLemmas.{end_sound}
+use Rattle.sm_answer.proofs.LineLemmas.{end_sound}
 
 -- whatever is asked of lines holds of no lines
 pub no_line : (P : LineData → Type 0) → All P []

@@ -40,7 +40,7 @@ use Rattle.sm_market.specs.Pairing.{Paired}
 use Rattle.sm_poset.specs.Posets.{RotationPoset, IsPoset}
 use Rattle.sm_shown.specs.RotationAnswer.{IsRotationAnswer, IsCorrespondence}
 use Rattle.sm_lists.proofs.PlaceLemmas.{get_or-place_on}
-use Rattle.sm_shown.proofs.SolveLemmas.{end_sound}
+use Rattle.sm_answer.proofs.LineLemmas.{end_sound}
 use Rattle.sm_shown.proofs.ReduceLemmas.{no_line, seat_is, seat_sound}
 use Rattle.sm_shown.proofs.ShownLemmas.{pairs_at_shown, needs_shown, correspondence}
 

@@ -1,4 +1,3 @@
-pub mod Answers
 pub mod PairLines
 pub mod Reduction
 pub mod RotationLines

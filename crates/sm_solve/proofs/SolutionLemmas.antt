@@ -1,22 +1,26 @@
 -- The lines of the answer of `solve`.
-use Rattle.std.proofs.Common.{◌≡◌, ℕ, ◌-◌, List, [], ◌∷◌, ◌++◌, Option, Some, length, sym, ap, subst, arith}
+use Rattle.std.proofs.Common.{◌≡◌, ◌≢◌, ℕ, ◌-◌, ◌<◌, List, [], ◌∷◌, ◌++◌, Option, Some, length, refl, sym, ap, subst, arith}
 use Rattle.std.specs.List.{All}
+use Rattle.std.proofs.lemmas.List.Elements.{All-append, All-cons}
 use Rattle.sm_answer.specs.Lines.{lines_from}
-use Rattle.sm_given.specs.MatchingLines.{matching_line}
-use Rattle.sm_given.specs.declared.matching_lines.PairWord.TheVariants as word
+use Rattle.sm_answer.specs.MatchingLines.{matching_line, pair_line}
+use Rattle.sm_answer.specs.declared.matching_lines.PairWord.TheVariants as word
+use Rattle.sm_answer.proofs.AnswerLemmas.{lines_all}
+use Rattle.sm_answer.proofs.LineLemmas.{pair_sound, end_sound}
 use Rattle.sm_instance.specs.Written.{Written}
 use Rattle.sm_instance.specs.Sound.{IsInstance}
 use Rattle.sm_instance.specs.Matching.{IsAssignment, IsMatching}
 use Rattle.sm_instance.specs.Stable.{IsBestOf}
 use Rattle.sm_instance.specs.declared.inputs.Input.{Input}
 use Rattle.sm_instance.specs.declared.inputs.Input.TheVariants.{Two}
+use Rattle.sm_instance.specs.declared.kinds.Kind.{Kind}
+use Rattle.sm_instance.specs.declared.kinds.Kind.TheVariants.{Marriage, Hospitals, Roommates}
 use Rattle.sm_instance.specs.declared.kinds.Side.{Side}
 use Rattle.sm_instance.specs.declared.kinds.Side.TheVariants.{Proposers, Reviewers}
 use Rattle.sm_report.specs.Heads.{HeadData}
 use Rattle.sm_report.specs.Lines.{LineData}
-use Rattle.sm_report.specs.Sound.{IsLineOf}
-use Rattle.sm_shown.specs.Answers.{solve_lines, IsSolution}
-use Rattle.sm_shown.proofs.SolveLemmas.{solve_sound}
+use Rattle.sm_report.specs.Sound.{IsLineOf, NamesSide}
+use Rattle.sm_solve.specs.Solution.{solve_lines, IsSolution}
 use Rattle.sm_solve.specs.SolutionGiven.{solution_given}
 
 -- a best matching is a matching
@@ -27,6 +31,22 @@ best_matching Reviewers w places best = best.stable.matching
 -- the best matching of a side is an assignment
 pub best_assigned : (side : Side) (w : Written) (places : List (Option ℕ)) → IsBestOf side w places → IsAssignment w places
 best_assigned side w places best = (best_matching side w places best).assigned
+
+-- `solve` names a side where the instance has two
+names_side : (kind : Kind) (side : Side) → kind ≢ Roommates → NamesSide kind (Some side)
+names_side Marriage side two = refl
+names_side Hospitals side two = refl
+names_side Roommates side two = absurd (two refl)
+
+-- the answer of `solve` has lines of the instance alone
+pub solve_sound : (w : Written) (places : List (Option ℕ)) (side : Side) → IsInstance w → IsMatching w places → All (IsLineOf (Two w)) (solve_lines side w places)
+solve_sound w places side h m =
+    let P = IsLineOf (Two w) in
+    All-cons P (LineData.Answer (HeadData.Solve (Some side))) (lines_from (pair_line w places) 0 (length w.proposers) ++ (LineData.End ∷ []))
+    (record { printable = tt; seats = λ k d l. absurd (omega arith); numbers = tt; head = names_side w.kind side h.two_sided })
+    (All-append P (lines_from (pair_line w places) 0 (length w.proposers)) (LineData.End ∷ [])
+    (lines_all P (pair_line w places) (pair_sound w places m) 0 (length w.proposers))
+    (All-cons P LineData.End [] (end_sound (Two w)) (λ k d l. absurd (omega arith))))
 
 -- the lines that are given are those of the answer
 given_is : (side : Side) (w : Written) (places : List (Option ℕ)) → solution_given side w places ≡ solve_lines side w places

@@ -1,8 +1,8 @@
 -- The answer of `solve` as it is given.
 use Rattle.std.specs.Prelude.{ℕ, ◌-◌, List, [], ◌∷◌, ◌++◌, length, Option, Some}
 use Rattle.sm_answer.specs.Lines.{lines_from}
-use Rattle.sm_given.specs.MatchingLines.{matching_line}
-use Rattle.sm_given.specs.declared.matching_lines.PairWord.TheVariants as word
+use Rattle.sm_answer.specs.MatchingLines.{matching_line}
+use Rattle.sm_answer.specs.declared.matching_lines.PairWord.TheVariants as word
 use Rattle.sm_instance.specs.Written.{Written}
 use Rattle.sm_instance.specs.declared.kinds.Side.{Side}
 use Rattle.sm_report.specs.Heads.{HeadData}

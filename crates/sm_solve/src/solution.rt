@@ -7,12 +7,11 @@ ghost use Rattle.sm_instance.specs.Stable.{IsBestOf, IsReviewersBest};
 ghost use Rattle.sm_instance.specs.declared.inputs.Input.TheVariants.{Two};
 ghost use Rattle.sm_seats.specs.Counted.{AreSeatCounts};
 ghost use Rattle.sm_seats.specs.SeatEntries.{AreFewSeats};
-ghost use Rattle.sm_shown.specs.Answers.{IsSolution};
+ghost use Rattle.sm_solve.specs.Solution.{IsSolution};
 
 use crate::admitting::proposers_best;
 use sm_accept::reviewer_best;
-use sm_answer::{Each, Lines, One, Printed, Then};
-use sm_given::{MatchingLines, PairWord};
+use sm_answer::{Each, Lines, MatchingLines, One, PairWord, Printed, Then};
 use sm_instance::{Assignment, Input, Instance, Side};
 use sm_report::{Head, Line};
 use sm_seats::{SeatCounts, Seats};

@@ -15,7 +15,7 @@ use Rattle.sm_instance.specs.declared.kinds.Side.{Side}
 use Rattle.sm_instance.specs.declared.kinds.Side.TheVariants.{Proposers}
 use Rattle.sm_reader.specs.InstanceText.{ReadText, Refusal}
 use Rattle.sm_words.specs.Jobs.{JobData, Solve, Reduced, Rotations, Pairs, Regret, Weight, Meet, Join, Survey, Check, Make}
-use Rattle.sm_shown.specs.Answers.{IsSolution}
+use Rattle.sm_solve.specs.Solution.{IsSolution}
 use Rattle.sm_shown.specs.NoneAnswer.{IsNoneAllowed}
 use Rattle.sm_report.specs.Heads.{HeadData}
 use Rattle.sm_report.specs.Lines.{LineData}

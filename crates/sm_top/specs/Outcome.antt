@@ -19,7 +19,7 @@ use Rattle.sm_top.specs.declared.status.Status.TheVariants.{Done, Refused, Usage
 use Rattle.sm_top.specs.Texts.{RefusalData, plain_refusal, with_detail, usage_line, refused_line}
 use Rattle.sm_top.specs.Checked.{IsChecked, IsUnreadable}
 use Rattle.sm_top.specs.Accepting.{reads_input, accepted, IsTooMany, IsUnaccepted}
-use Rattle.sm_shown.specs.Answers.{IsSolution}
+use Rattle.sm_solve.specs.Solution.{IsSolution}
 use Rattle.sm_shown.specs.Reduction.{IsReduction}
 use Rattle.sm_shown.specs.RotationAnswer.{IsRotationAnswer}
 use Rattle.sm_shown.specs.NoneAnswer.{IsNoneAllowed}

@@ -10,7 +10,7 @@ ghost use Rattle.sm_text.specs.Lines.{lines};
 ghost use Rattle.sm_words.specs.Jobs.{job_of, IsInBounds, IsLimit};
 ghost use Rattle.sm_top.specs.Accepting.{reads_input, takes_text, IsTextFor, judges_answer, judged, accepted, too_many_in, IsTooMany};
 ghost use Rattle.sm_top.specs.Counted.{IsCounted};
-ghost use Rattle.sm_shown.specs.Answers.{IsSolution};
+ghost use Rattle.sm_solve.specs.Solution.{IsSolution};
 ghost use Rattle.sm_listing.specs.ListAnswer.{IsCursor, IsListAnswer};
 ghost use Rattle.sm_listing.specs.Started.{cursor_in};
 ghost use Rattle.sm_partners.specs.PairsAnswer.{IsPairsAnswer};

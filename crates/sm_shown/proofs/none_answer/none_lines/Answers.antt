@@ -2,7 +2,7 @@ use Rattle.std.proofs.Common.{refl}
 use Rattle.sm_answer.proofs.AnswerLemmas.{same_some, same_is, joined_some, joined_is, given_right, given_some}
 use Rattle.sm_report.specs.Heads.{head_of}
 use Rattle.sm_shown.specs.NoneAnswer.{none_lines}
-use Rattle.sm_shown.proofs.SolveLemmas.{none_sound}
+use Rattle.sm_shown.proofs.PairLemmas.{none_sound}
 use Rattle.sm_shown.proofs.none_answer.none_lines.Goals as goal
 
 pub returns-clause-right : goal.returns-clause-right

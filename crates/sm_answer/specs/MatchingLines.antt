@@ -4,8 +4,8 @@ use Rattle.std.specs.Option.{option_map}
 use Rattle.sm_instance.specs.Written.{Written, entry}
 use Rattle.sm_instance.specs.Matching.{held}
 use Rattle.sm_report.specs.Lines.{LineData}
-use Rattle.sm_given.specs.declared.matching_lines.PairWord.{PairWord}
-use Rattle.sm_given.specs.declared.matching_lines.PairWord.TheVariants as word
+use Rattle.sm_answer.specs.declared.matching_lines.PairWord.{PairWord}
+use Rattle.sm_answer.specs.declared.matching_lines.PairWord.TheVariants as word
 
 -- a pair behind one of the words `pair`, `left` and `right`
 abbrev pub pair_data : PairWord → ℕ → ℕ → LineData
@@ -16,3 +16,7 @@ pair_data word.Right p r = LineData.RightPair p r
 -- the pair of a proposer that is matched
 abbrev pub matching_line : PairWord → Written → List (Option ℕ) → ℕ → Option LineData
 matching_line word w places p = option_map (λ i. pair_data word p (entry w.proposers p i)) (held places p)
+
+-- the same behind the word `pair`
+abbrev pub pair_line : Written → List (Option ℕ) → ℕ → Option LineData
+pair_line w places p = matching_line word.Pair w places p

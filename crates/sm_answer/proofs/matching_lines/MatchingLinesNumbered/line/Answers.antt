@@ -1,6 +1,6 @@
 use Rattle.std.proofs.Common.{◌∙◌, sym, arith, None}
 use Rattle.std.proofs.lemmas.List.{get_or_default}
-use Rattle.sm_given.proofs.matching_lines.MatchingLinesNumbered.line.Goals as goal
+use Rattle.sm_answer.proofs.matching_lines.MatchingLinesNumbered.line.Goals as goal
 
 pub reviewer_at-r-requires-clause-on_list : goal.reviewer_at-r-requires-clause-on_list
 reviewer_at-r-requires-clause-on_list c =

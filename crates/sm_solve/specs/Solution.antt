@@ -1,17 +1,12 @@
 -- The answer of `solve`.
 use Rattle.std.specs.Prelude.{◌≡◌, ℕ, List, [], ◌∷◌, ◌++◌, length, Option, Some}
-use Rattle.std.specs.Option.{option_map}
 use Rattle.sm_answer.specs.Lines.{lines_from}
-use Rattle.sm_instance.specs.Written.{Written, entry}
-use Rattle.sm_instance.specs.Matching.{held}
+use Rattle.sm_answer.specs.MatchingLines.{pair_line}
+use Rattle.sm_instance.specs.Written.{Written}
 use Rattle.sm_instance.specs.Stable.{IsBestOf}
 use Rattle.sm_instance.specs.declared.kinds.Side.{Side}
 use Rattle.sm_report.specs.Heads.{HeadData}
 use Rattle.sm_report.specs.Lines.{LineData}
-
--- the pair of a proposer that is matched
-abbrev pub pair_line : Written → List (Option ℕ) → ℕ → Option LineData
-pair_line w places p = option_map (λ i. LineData.Pair p (entry w.proposers p i)) (held places p)
 
 -- the pairs of a matching in the order of the proposers
 abbrev pub solve_lines : Side → Written → List (Option ℕ) → List LineData

@@ -3,9 +3,9 @@
 ghost use Rattle.std.specs.Prelude.{◌≡◌};
 ghost use Rattle.sm_instance.specs.Matching.{IsAssignment};
 ghost use Rattle.sm_report.specs.Lines.{line_of};
-ghost use Rattle.sm_given.specs.MatchingLines.{pair_data};
+ghost use Rattle.sm_answer.specs.MatchingLines.{pair_data};
 
-use sm_answer::Numbered;
+use crate::answer::Numbered;
 use sm_instance::{Assignment, Instance};
 use sm_report::Line;
 use std::alloc::{AllocError, Global};
@@ -29,7 +29,7 @@ pub struct MatchingLines<'a> {
 
 impl Numbered for MatchingLines<'_> {
     ghost use Rattle.std.specs.Prelude.{length};
-    ghost use Rattle.sm_given.specs.MatchingLines.{matching_line};
+    ghost use Rattle.sm_answer.specs.MatchingLines.{matching_line};
 
     ghost line = { λ lines p. matching_line lines.word lines.instance.now
         lines.matching.now.places.items p };
