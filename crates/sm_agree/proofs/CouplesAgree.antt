@@ -30,8 +30,8 @@ use Rattle.sm_judge.specs.Rooming.{persons_of, both_ways, mates_in, IsFreeCouple
 use Rattle.sm_judge.specs.Verdicts.{AtLine}
 use Rattle.sm_judge.specs.Judging.{couples, Clauses, Holds}
 use Rattle.sm_judge.proofs.LinewiseLemmas.{AllHold, all_hold, hold_append, no_end}
-use Rattle.sm_judge.proofs.PersonLemmas.{among_of}
-use Rattle.sm_judge.proofs.CoupleLemmas.{partner_in-append, partner_there}
+use Rattle.sm_check_rooms.proofs.PersonLemmas.{among_of}
+use Rattle.sm_check_rooms.proofs.CoupleLemmas.{partner_in-append, partner_there}
 use Rattle.sm_agree.specs.Agree.{GetYes, CouplesAgree}
 use Rattle.sm_agree.proofs.LineLemmas.{Steps, Held, numbers_hold, numbers_pass, pass_append, has_word, has_other, is_whole-group, is_whole-append_first, yes_of}
 

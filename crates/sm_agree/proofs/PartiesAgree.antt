@@ -28,11 +28,11 @@ use Rattle.sm_judge.specs.declared.verdicts.Reason.{Reason}
 use Rattle.sm_judge.specs.declared.verdicts.Reason.TheVariants as reason
 use Rattle.sm_judge.specs.Said.{party_in, parties_in}
 use Rattle.sm_judge.specs.Rooming.{members_of, next_of, nexts_of, AreNew, IsWholePartition, HasOddParty}
-use Rattle.sm_judge.specs.PartiesKept.{is_among, follower}
+use Rattle.sm_check_rooms.specs.PartiesKept.{is_among, follower}
 use Rattle.sm_judge.specs.Judging.{Subject, Clauses}
 use Rattle.sm_judge.proofs.LinewiseLemmas.{AllHold, all_hold, hold_append, no_end}
-use Rattle.sm_judge.proofs.PersonLemmas.{of_among}
-use Rattle.sm_judge.proofs.PartyLemmas.{is_among-none, is_among-members_push, new_where, is_among-get_or, next_of-push_there, next_of-push_other, next_in_party-get_or}
+use Rattle.sm_check_rooms.proofs.PersonLemmas.{of_among}
+use Rattle.sm_check_rooms.proofs.PartyLemmas.{is_among-none, is_among-members_push, new_where, is_among-get_or, next_of-push_there, next_of-push_other, next_in_party-get_or}
 use Rattle.sm_agree.specs.Agree.{GetYes, PartiesAgree}
 use Rattle.sm_judge.proofs.AnswerLemmas.{said_one}
 use Rattle.sm_agree.proofs.LineLemmas.{Steps, Held, numbers_hold, numbers_pass, pass_append, has_word, is_whole-group, is_whole-append_second, yes_of}

@@ -37,8 +37,8 @@ use Rattle.sm_judge.specs.Said.{first_in, firsts_in, last_in, lasts_in, proposer
 use Rattle.sm_judge.specs.SeatMatchings.{IsFreeSeat, seat_places_in, first_of, last_of}
 use Rattle.sm_judge.specs.Chain.{HasOneEach, owners, reduced_of, IsRowOf, ListsAreRight, ReducedHold}
 use Rattle.sm_judge.proofs.LinewiseLemmas.{AllHold, all_hold, hold_append, no_end}
-use Rattle.sm_judge.proofs.PartyLemmas.{is_among-get_or, once}
-use Rattle.sm_judge.specs.PartiesKept.{is_among}
+use Rattle.sm_check_rooms.proofs.PartyLemmas.{is_among-get_or, once}
+use Rattle.sm_check_rooms.specs.PartiesKept.{is_among}
 use Rattle.sm_agree.specs.Agree.{GetYes, ReducedAgrees}
 use Rattle.sm_judge.proofs.AnswerLemmas.{said_same, said_one}
 use Rattle.sm_agree.proofs.LineLemmas.{Steps, Held, numbers_hold, numbers_pass, pass_append, has_word, has_other, is_whole-group, yes_of}

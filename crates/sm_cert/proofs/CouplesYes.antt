@@ -21,9 +21,9 @@ use Rattle.sm_forms.specs.Forms.{fits}
 use Rattle.sm_judge.specs.Said.{pair_in, pairs_in}
 use Rattle.sm_judge.specs.Rooming.{persons_of, both_ways, mates_in, IsFreeCouple}
 use Rattle.sm_cert.specs.Yes.{AreApart, CouplesYes}
-use Rattle.sm_judge.proofs.PersonLemmas.{of_among}
+use Rattle.sm_check_rooms.proofs.PersonLemmas.{of_among}
 use Rattle.sm_judge.proofs.JudgingLemmas.{passes_at}
-use Rattle.sm_judge.proofs.CoupleLemmas.{partner_in-append, partner_there, none_where}
+use Rattle.sm_check_rooms.proofs.CoupleLemmas.{partner_in-append, partner_there, none_where}
 use Rattle.sm_cert.proofs.YesPairs.{held_there, only_one, no_partner, given_there, pair_there, apart_more}
 use Rattle.sm_cert.proofs.YesLines.{right_couples, at_closing, said_above, grown}
 

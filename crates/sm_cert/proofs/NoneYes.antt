@@ -17,10 +17,10 @@ use Rattle.sm_report.specs.Sound.{IsLineOf, IsOnLeft}
 use Rattle.sm_judge.specs.declared.verdicts.Reason.TheVariants as reason
 use Rattle.sm_judge.specs.Said.{party_in, parties_in}
 use Rattle.sm_judge.specs.Rooming.{members_of, next_of, nexts_of, AreNew, IsWholePartition, HasOddParty}
-use Rattle.sm_judge.specs.PartiesKept.{is_among, follower}
+use Rattle.sm_check_rooms.specs.PartiesKept.{is_among, follower}
 use Rattle.sm_cert.specs.Yes.{NoneYes}
-use Rattle.sm_judge.proofs.PersonLemmas.{of_among}
-use Rattle.sm_judge.proofs.PartyLemmas.{times_more, once_least, twice_least, stands_at, is_among-get_or, next_of-push_there, next_of-push_other, next_in_party-get_or}
+use Rattle.sm_check_rooms.proofs.PersonLemmas.{of_among}
+use Rattle.sm_check_rooms.proofs.PartyLemmas.{times_more, once_least, twice_least, stands_at, is_among-get_or, next_of-push_there, next_of-push_other, next_in_party-get_or}
 use Rattle.sm_cert.proofs.YesPairs.{only_one}
 use Rattle.sm_cert.proofs.YesLines.{right_parties, at_closing, said_above, each_line, grown}
 

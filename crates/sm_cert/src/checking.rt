@@ -20,10 +20,8 @@ ghost use Rattle.sm_cert.specs.Checking.{HasFewSeats, IsCertFault, first_head, s
 use crate::faults::CertFault;
 use sm_forms::{AnswerFault, read_answer};
 use sm_instance::{Input, Instance, Persons};
-use sm_judge::{
-    Verdict, chosen_verdict, couples_verdict, list_verdict, parties_verdict, reduced_verdict,
-    regret_verdict, rotations_verdict, solve_verdict,
-};
+use sm_check_rooms::{couples_verdict, parties_verdict};
+use sm_judge::{Verdict, chosen_verdict, list_verdict, reduced_verdict, regret_verdict, rotations_verdict, solve_verdict};
 use sm_report::{Head, Line};
 use sm_seats::{SeatCounts, Seats, seat_counts};
 use sm_theory::Choice;

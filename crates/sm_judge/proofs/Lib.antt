@@ -12,7 +12,4 @@ pub mod AnswerLemmas
 pub mod PairLemmas
 pub mod RegretLemmas
 pub mod WantedLemmas
-pub mod PersonLemmas
-pub mod CoupleLemmas
-pub mod PartyLemmas
 pub mod ChosenLemmas

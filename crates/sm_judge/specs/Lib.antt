@@ -21,5 +21,3 @@ pub mod WalksKept
 pub mod ListsKept
 pub mod ReducedKept
 pub mod Regrets
-pub mod CouplesKept
-pub mod PartiesKept

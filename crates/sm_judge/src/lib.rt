@@ -6,12 +6,9 @@
 
 mod chain_walk;
 mod chosen;
-mod couples;
 mod judging;
 mod listing;
 mod pairs;
-mod parties;
-mod persons;
 mod reduced;
 mod regret;
 mod rotations;
@@ -24,10 +21,8 @@ mod wanted;
 
 pub use chain_walk::{ChainWalk, from_zero, is_up_to_rotations};
 pub use chosen::chosen_verdict;
-pub use couples::couples_verdict;
 pub use judging::{Judge, judge_lines};
 pub use listing::list_verdict;
-pub use parties::parties_verdict;
 pub use reduced::reduced_verdict;
 pub use regret::regret_verdict;
 pub use rotations::{RotationsJudge, rotations_verdict};

@@ -1,0 +1,3 @@
+pub mod PersonLemmas
+pub mod CoupleLemmas
+pub mod PartyLemmas

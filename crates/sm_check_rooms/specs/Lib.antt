@@ -1,0 +1,2 @@
+pub mod CouplesKept
+pub mod PartiesKept
