@@ -4,11 +4,13 @@ use Rattle.std.specs.List.{All}
 use Rattle.std.specs.Option.{option_map}
 use Rattle.std.proofs.lemmas.List.Elements.{All-append, All-cons, All-tail}
 use Rattle.std.specs.declared.alloc.AllocError.{AllocError}
+use Rattle.sm_instance.specs.Inputs.{IsInput}
 use Rattle.sm_instance.specs.declared.inputs.Input.{Input}
 use Rattle.sm_report.specs.Lines.{LineData, line_of}
 use Rattle.sm_report.specs.Sound.{IsPrintable, IsLineOf}
 use Rattle.sm_report.specs.Texts.{text_of_line}
 use Rattle.sm_report.specs.declared.lines.Line.{Line}
+use Rattle.sm_report.proofs.FreeLines.{line_plain}
 use Rattle.sm_answer.specs.Giving.{HasRest, Gave, IsOver, PutLine, GivesNext, AreJoined}
 use Rattle.sm_answer.specs.Lines.{line_left, line_or_none, lines_from}
 use Rattle.sm_answer.specs.Printing.{IsShown, IsPrinted}
@@ -70,19 +72,24 @@ given_behind P P' Q Q' n n' k k' (Ok (Some line)) over gave = record {
 
 -- The texts of lines.
 
--- a line that may come first can be printed
+-- a line that may come first is a line of the input
+next_of_input : (input : Input) (P P' : List LineData → Type 0) (line : LineData) (n m : ℕ) → HasRest (IsPrinted input P) → Gave line P P' n m → IsLineOf input line
+next_of_input input P P' line n m h gave =
+    h.given.sound (line ∷ gave.more.lines) (gave.first gave.more.lines gave.more.given) 0 line (omega arith)
+
+-- so it can be printed
 pub next_printable : (input : Input) (P P' : List LineData → Type 0) (line : LineData) (n m : ℕ) → HasRest (IsPrinted input P) → Gave line P P' n m → IsPrintable input line
-next_printable input P P' line n m h gave =
-    (h.given.sound (line ∷ gave.more.lines) (gave.first gave.more.lines gave.more.given) 0 line (omega arith)).printable
+next_printable input P P' line n m h gave = (next_of_input input P P' line n m h gave).printable
 
 -- the text of a line was put
-pub line_put : (input : Input) (P P' : List LineData → Type 0) (line : LineData) (n m : ℕ) (held holds : List ℕ) → HasRest (IsPrinted input P) → Gave line P P' n m
+pub line_put : (input : Input) (P P' : List LineData → Type 0) (line : LineData) (n m : ℕ) (held holds : List ℕ) → IsInput input → HasRest (IsPrinted input P) → Gave line P P' n m
     → holds ≡ held ++ text_of_line input line → PutLine (IsPrinted input P) (IsPrinted input P') n m held holds
-line_put input P P' line n m held holds h gave put =
+line_put input P P' line n m held holds sound h gave put =
     let tail : (other : List LineData) → P' other → All (IsLineOf input) other =
     λ other right. All-tail (IsLineOf input) line other (h.given.sound (line ∷ other) (gave.first other right)) in
     record {
       line = text_of_line input line;
+      plain = line_plain input sound line (next_of_input input P P' line n m h gave);
       put = put;
       gave = record {
         first = λ rest printed. record {

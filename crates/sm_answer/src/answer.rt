@@ -19,7 +19,7 @@ pub trait Answer {
     ///
     /// # Errors
     ///
-    /// `AllocError` where memory ran out, and only then; nothing is said of what is left then.
+    /// `AllocError` where memory ran out, and only then. Nothing is said then of what is left.
     fn next(&mut self, alloc: Global) -> Result<Option<Line>, AllocError>
         requires { HasRest (gives self.old) }
         ensures { GivesNext (gives self.old) (gives self.new) (most self.old) (most self.new)

@@ -22,6 +22,7 @@ impl<L: Answer> Lines for Printed<'_, L> {
     ghost most = { λ p. L.most p.answer };
 
     fn put_next(&mut self, alloc: Global, into: &mut LineWriter) -> Result<bool, AllocError> {
+        let _kind = self.input.kind();
         match self.answer.next(alloc)? {
             Some(line) => {
                 put_text(into, self.input, &line)?;

@@ -45,7 +45,7 @@ impl Model for MemSource {
 
 impl MemSource {
     /// A source that gives `bytes`, at most `piece` of them a call, and fails at the calls whose numbers are in `failing`.
-    /// Takes no memory.
+    /// Takes constant time and no memory.
     pub fn new(bytes: Vec<u8>, piece: usize, failing: Vec<u64>) -> MemSource
         requires { 1 ≤ piece }
         ensures { result ≡ record {
@@ -62,6 +62,14 @@ impl MemSource {
             faults: 0,
         }
     }
+
+    /// How many times `take` was called, whether it failed or not; the count stops at the greatest `u64`. Takes constant
+    /// time and no memory.
+    pub fn calls(&self) -> u64
+        ensures { result ≡ self.now.calls }
+    {
+        self.calls
+    }
 }
 
 impl Source for MemSource {
@@ -73,7 +81,7 @@ impl Source for MemSource {
     ghost faults = { λ s. s.faults };
 
     /// Fails exactly at the chosen calls. Another call gives as many bytes as are left, fit `into` and are allowed a call,
-    /// and `End` where that is none.
+    /// and `End` where that is none. Takes time in proportion to the chosen numbers and the bytes given, and no memory.
     fn take(&mut self, into: &mut [u8]) -> Taken
         ensures taken { Takes (Some self.old.pieces.left) (Some self.new.pieces.left) result
             into.new }
@@ -119,9 +127,14 @@ impl Model for MemSink {
 }
 
 impl MemSink {
-    /// A sink that holds at most `room` bytes, for which it takes memory here and none later; the error says that there was none.
-    /// A call whose number stands in a pair of `failing` fails and takes at most as many bytes as the pair says. Of several pairs with
-    /// one number the first counts.
+    /// A sink that holds at most `room` bytes, for which it takes memory here and none later.
+    ///
+    /// A call whose number stands in a pair of `failing` fails and takes at most as many bytes as the pair says. Of several
+    /// pairs with one number the first counts.
+    ///
+    /// # Errors
+    ///
+    /// `AllocError` where memory ran out, and only then.
     pub fn new(alloc: Global, room: usize, failing: Vec<(u64, u32)>) -> Result<MemSink, AllocError>
         ensures { IfOk result
             (λ sink. sink ≡ record {
@@ -141,12 +154,20 @@ impl MemSink {
         })
     }
 
-    /// The bytes held, at most as many as the sink has room for.
+    /// The bytes held, at most as many as the sink has room for. Takes constant time.
     pub fn held(&self) -> &[u8]
         ensures bytes { result.now ≡ self.now.held }
         ensures fits { length self.now.held ≤ self.now.room }
     {
         &self.bytes
+    }
+
+    /// How many times `put` was called, whether it failed or not; the count stops at the greatest `u64`. Takes constant
+    /// time and no memory.
+    pub fn calls(&self) -> u64
+        ensures { result ≡ self.now.calls }
+    {
+        self.calls
     }
 }
 
@@ -158,7 +179,8 @@ impl Sink for MemSink {
 
     ghost faults = { λ s. s.faults };
 
-    /// Fails exactly at the chosen calls, and where the piece doesn't fit. It then takes as many bytes of it as are allowed and fit.
+    /// Fails exactly at the chosen calls, and where the piece doesn't fit. It then takes as many bytes of it as are allowed
+    /// and fit. Takes time in proportion to the chosen pairs and the piece, and no memory.
     fn put(&mut self, piece: &[u8]) -> Put
         ensures taken { Puts (Some self.old.held) (Some self.new.held) result piece.now }
         ensures later { self.old.faults ≤ self.new.faults }

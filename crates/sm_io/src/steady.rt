@@ -26,7 +26,7 @@ impl Model for SteadySource {
 }
 
 impl SteadySource {
-    /// A source that gives `bytes`, at most `piece` of them a call. Takes no memory.
+    /// A source that gives `bytes`, at most `piece` of them a call. Takes constant time and no memory.
     pub fn new(bytes: Vec<u8>, piece: usize) -> SteadySource
         requires { 1 ≤ piece }
         ensures { result ≡ record { left = bytes.items; piece = piece } }
@@ -47,7 +47,8 @@ impl Source for SteadySource {
 
     ghost faults = { λ _. 0 };
 
-    /// Gives as many bytes as are left, fit `into` and are allowed a call. `End` where that is none; never `Failed`.
+    /// Gives as many bytes as are left, fit `into` and are allowed a call. `End` where that is none; never `Failed`. Takes
+    /// time in proportion to the bytes given, and no memory.
     #[tactic(auto, using(crate::proofs::PieceLemmas::given_bytes))]
     fn take(&mut self, into: &mut [u8]) -> Taken
         ensures taken { Takes (Some self.old.left) (Some self.new.left) result into.new }
@@ -85,8 +86,11 @@ impl Model for SteadySink {
 }
 
 impl SteadySink {
-    /// A sink that tells what was put while that is at most `room` bytes. It takes memory for them here, and none later;
-    /// the error says that there was none.
+    /// A sink that tells what was put while that is at most `room` bytes. It takes memory for them here, and none later.
+    ///
+    /// # Errors
+    ///
+    /// `AllocError` where memory ran out, and only then.
     pub fn new(alloc: Global, room: usize) -> Result<SteadySink, AllocError>
         ensures { IfOk result (λ sink. sink ≡ record { held = Some []; room = room }) }
     {
@@ -97,7 +101,7 @@ impl SteadySink {
         })
     }
 
-    /// All the bytes put so far, or `None` exactly where they are more than the sink has room for.
+    /// All the bytes put so far, or `None` exactly where they are more than the sink has room for. Takes constant time.
     pub fn held(&self) -> Option<&[u8]>
         ensures { option_copied result ≡ self.now.held }
     {
@@ -117,7 +121,7 @@ impl Sink for SteadySink {
 
     ghost faults = { λ _. 0 };
 
-    /// Takes the piece; never `Failed`.
+    /// Takes the piece; never `Failed`. Takes time in proportion to it, and no memory.
     fn put(&mut self, piece: &[u8]) -> Put
         ensures taken { Puts self.old.held self.new.held result piece.now }
         ensures done { result ≡ Put.Done }

@@ -1,5 +1,5 @@
 -- The fields of a line of an input hold no space, so the fields of its text are the line's; and its text holds no end of a line.
-use Rattle.std.proofs.Common.{◌≡◌, ℕ, zero, suc, ◌-◌, ◌<◌, ◌≤◌, ◌^◌, ◌==◌, ◌||◌, ◌&&◌, nat_le, eqb-true, leb-true, le-leb, not, if◌then◌else◌, Bool, true, false, List, [], ◌∷◌, ◌++◌, map, All, get_or, Some, None, refl, ap, ◌∙◌, arith, codes, decimal, ℤ, pos, negsuc}
+use Rattle.std.proofs.Common.{◌≡◌, ℕ, zero, suc, ◌-◌, ◌<◌, ◌≤◌, ◌^◌, ◌==◌, ◌||◌, ◌&&◌, nat_le, eqb-true, leb-true, le-leb, not, if◌then◌else◌, Bool, true, false, ◌⊎◌, inl, inr, List, [], ◌∷◌, ◌++◌, map, All, get_or, Some, None, refl, ap, ◌∙◌, arith, codes, decimal, ℤ, pos, negsuc}
 use Rattle.std.specs.Fmt.{signed_decimal}
 use Rattle.std.specs.Int.RustNames.{unsigned_abs}
 use Rattle.std.specs.List.{flat_map, list_all, join_with_byte}
@@ -7,6 +7,7 @@ use Rattle.std.proofs.lemmas.List.Elements.{All-head, All-tail}
 use Rattle.std.proofs.lemmas.List.Folds.{list_all-append}
 use Rattle.std.proofs.lemmas.Option.{none-some}
 use Rattle.std.proofs.lemmas.Bool.{and_from}
+use Rattle.sm_text.specs.Plain.{is_plain_byte, is_plain}
 use Rattle.sm_text.specs.Name.{begins_name, is_digit, is_letter, is_name, is_name_byte}
 use Rattle.sm_instance.specs.Inputs.{IsInput, kind_of}
 use Rattle.sm_instance.specs.declared.inputs.Input.{Input}
@@ -26,9 +27,9 @@ use Rattle.sm_report.proofs.FreeLemmas.{is_free, free_of, free-append, split_joi
 use Rattle.sm_report.proofs.FieldInverses.{is_name-left_name, is_name-right_name, name_bytes}
 use Rattle.sm_report.proofs.LineInverses.{All-of_map, line_again}
 
--- the bytes of fields: from `!` to `~`
+-- the bytes of fields: from `!` to `~`, without `"` and `\`
 abbrev is_field_byte : ℕ → Bool
-is_field_byte b = nat_le 33 b && nat_le b 126
+is_field_byte b = nat_le 33 b && nat_le b 126 && not (b == 34) && not (b == 92)
 
 abbrev in_field : List ℕ → Bool
 in_field text = list_all is_field_byte text
@@ -38,11 +39,25 @@ free_where p to [] h = refl
 free_where p to (b ∷ text) h =
     and_from (is_field_byte b) (in_field text) (to b (first_true (p b) (list_all p text) h)) (free_where p to text (second_true (p b) (list_all p text) h))
 
-between : (low high b : ℕ) → 33 ≤ low → high ≤ 126 → (nat_le low b && nat_le b high) ≡ true → is_field_byte b ≡ true
-between low high b least most h =
+apart : (b c : ℕ) → (b ≡ c → ⊥) → not (b == c) ≡ true
+apart b c other = by_test (b == c) refl where
+  by_test : (t : Bool) → (b == c) ≡ t → not t ≡ true
+  by_test true is = absurd (other (eqb-true b c is))
+  by_test false is = refl
+
+between : (low high b : ℕ) → 35 ≤ low → high ≤ 126 → (high ≤ 91) ⊎ (93 ≤ low) → (nat_le low b && nat_le b high) ≡ true → is_field_byte b ≡ true
+between low high b least most side h =
     let above = leb-true low b (first_true (nat_le low b) (nat_le b high) h) in
     let below = leb-true b high (second_true (nat_le low b) (nat_le b high) h) in
-    and_from (nat_le 33 b) (nat_le b 126) (le-leb 33 b (omega (arith, least, above))) (le-leb b 126 (omega (arith, most, below)))
+    and_from (nat_le 33 b && nat_le b 126 && not (b == 34)) (not (b == 92))
+    (and_from (nat_le 33 b && nat_le b 126) (not (b == 34))
+    (and_from (nat_le 33 b) (nat_le b 126) (le-leb 33 b (omega (arith, least, above))) (le-leb b 126 (omega (arith, most, below))))
+    (apart b 34 (λ is. absurd (omega (arith, is, least, above)))))
+    (apart b 92 (λ is. not_92 is above below side))
+  where
+    not_92 : b ≡ 92 → low ≤ b → b ≤ high → (high ≤ 91) ⊎ (93 ≤ low) → ⊥
+    not_92 is above below (inl under) = absurd (omega (arith, is, below, under))
+    not_92 is above below (inr over) = absurd (omega (arith, is, above, over))
 
 same_byte : (b c : ℕ) → is_field_byte c ≡ true → (b == c) ≡ true → is_field_byte b ≡ true
 same_byte b c in_range e = ap is_field_byte (eqb-true b c e) ∙ in_range
@@ -52,7 +67,7 @@ one_of true t left right h = left refl
 one_of false t left right h = right h
 
 digit_in_field : (b : ℕ) → is_digit b ≡ true → is_field_byte b ≡ true
-digit_in_field b e = between 48 57 b (omega arith) (omega arith) e
+digit_in_field b e = between 48 57 b (omega arith) (omega arith) (inl (omega arith)) e
 
 name_byte_in_field : (b : ℕ) → is_name_byte b ≡ true → is_field_byte b ≡ true
 unfolding is_name_byte begins_name
@@ -61,7 +76,7 @@ name_byte_in_field b e =
     (one_of (is_letter b || is_digit b || b == 95) (b == 46)
     (one_of (is_letter b || is_digit b) (b == 95)
     (one_of (is_letter b) (is_digit b)
-    (one_of (nat_le 65 b && nat_le b 90) (nat_le 97 b && nat_le b 122) (between 65 90 b (omega arith) (omega arith)) (between 97 122 b (omega arith) (omega arith)))
+    (one_of (nat_le 65 b && nat_le b 90) (nat_le 97 b && nat_le b 122) (between 65 90 b (omega arith) (omega arith) (inl (omega arith))) (between 97 122 b (omega arith) (omega arith) (inr (omega arith))))
     (digit_in_field b))
     (same_byte b 95 refl)) (same_byte b 46 refl)) (same_byte b 45 refl) e
 
@@ -153,6 +168,9 @@ free_head kind HeadData.Meet h = refl
 free_head kind HeadData.Join h = refl
 free_head kind (HeadData.Survey limit) h = free_one (limit_text limit) (free_limit limit h)
 free_head kind HeadData.Check h = refl
+free_head kind HeadData.Median h = refl
+free_head kind HeadData.Route h = refl
+free_head kind HeadData.Rest h = refl
 
 -- seats
 free_seat_in : (kind : Kind) (name : List ℕ) (n : ℕ) → in_field name ≡ true → IsSeatNumber kind n → in_field (seat_text_in kind name n) ≡ true
@@ -172,6 +190,52 @@ joined_without c other no_space (x ∷ []) h = free_of is_field_byte c other x (
 joined_without c other no_space (x ∷ y ∷ ys) h =
     free-append c x (32 ∷ join_with_byte 32 (y ∷ ys)) (free_of is_field_byte c other x (first_true (in_field x) (are_free (y ∷ ys)) h))
     (and_from (not (32 == c)) (is_free c (join_with_byte 32 (y ∷ ys))) no_space (joined_without c other no_space (y ∷ ys) (second_true (in_field x) (are_free (y ∷ ys)) h)))
+
+-- a field is plain, and so are fields with spaces between them
+byte_plain : (b : ℕ) → is_field_byte b ≡ true → is_plain_byte b ≡ true
+unfolding is_plain_byte
+byte_plain b h =
+    let front = first_true (nat_le 33 b && nat_le b 126 && not (b == 34)) (not (b == 92)) h in
+    let bounds = first_true (nat_le 33 b && nat_le b 126) (not (b == 34)) front in
+    let least = leb-true 33 b (first_true (nat_le 33 b) (nat_le b 126) bounds) in
+    and_from (nat_le 32 b && nat_le b 126 && not (b == 34)) (not (b == 92))
+    (and_from (nat_le 32 b && nat_le b 126) (not (b == 34))
+    (and_from (nat_le 32 b) (nat_le b 126) (le-leb 32 b (omega (arith, least))) (second_true (nat_le 33 b) (nat_le b 126) bounds))
+    (second_true (nat_le 33 b && nat_le b 126) (not (b == 34)) front))
+    (second_true (nat_le 33 b && nat_le b 126 && not (b == 34)) (not (b == 92)) h)
+
+field_plain : (text : List ℕ) → in_field text ≡ true → is_plain text ≡ true
+field_plain [] h = refl
+field_plain (b ∷ text) h =
+    and_from (is_plain_byte b) (is_plain text) (byte_plain b (first_true (is_field_byte b) (in_field text) h)) (field_plain text (second_true (is_field_byte b) (in_field text) h))
+
+-- a name is plain
+pub name_plain : (name : List ℕ) → is_name name ≡ true → is_plain name ≡ true
+name_plain name h = field_plain name (free_name name h)
+
+-- so is a number
+pub number_plain : (n : ℕ) → n < 2 ^ 64 → is_plain (decimal n) ≡ true
+number_plain n small = field_plain (decimal n) (free_number n small)
+
+-- so is a signed number
+pub signed_plain : (z : ℤ) → unsigned_abs z ≤ 9223372036854775807 → is_plain (signed_decimal z) ≡ true
+signed_plain z small = field_plain (signed_decimal z) (free_signed z small)
+
+-- and so are two plain texts, one behind the other
+pub both_plain : (xs ys : List ℕ) → is_plain xs ≡ true → is_plain ys ≡ true → is_plain (xs ++ ys) ≡ true
+both_plain xs ys h k = list_all-append is_plain_byte xs ys ∙ and_from (is_plain xs) (is_plain ys) h k
+
+space_plain : is_plain_byte 32 ≡ true
+unfolding is_plain_byte
+space_plain = refl
+
+joined_plain : (fields : List (List ℕ)) → are_free fields ≡ true → is_plain (join_with_byte 32 fields) ≡ true
+joined_plain [] h = refl
+joined_plain (x ∷ []) h = field_plain x (first_true (in_field x) true h)
+joined_plain (x ∷ y ∷ ys) h =
+    list_all-append is_plain_byte x (32 ∷ join_with_byte 32 (y ∷ ys))
+    ∙ and_from (is_plain x) (is_plain (32 ∷ join_with_byte 32 (y ∷ ys))) (field_plain x (first_true (in_field x) (are_free (y ∷ ys)) h))
+    (and_from (is_plain_byte 32) (is_plain (join_with_byte 32 (y ∷ ys))) space_plain (joined_plain (y ∷ ys) (second_true (in_field x) (are_free (y ∷ ys)) h)))
 
 -- the lines of an input
 module _ (input : Input) (sound : IsInput input) where
@@ -204,6 +268,7 @@ module _ (input : Input) (sound : IsInput input) where
   free_line (LineData.Pair p r) s = free_pair p r s.printable.0 s.printable.1
   free_line LineData.Nothing s = refl
   free_line (LineData.Party persons) s = free_lefts persons s.printable
+  free_line (LineData.Out person) s = free_one (left_name input person) (free_left person s.printable)
   free_line (LineData.First p to) s = free_seated p to s.printable.0 s.printable.1 (one_number to s.seats)
   free_line (LineData.Last p to) s = free_seated p to s.printable.0 s.printable.1 (one_number to s.seats)
   free_line (LineData.ProposerList p list) s =
@@ -219,13 +284,20 @@ module _ (input : Input) (sound : IsInput input) where
       (λ k d below. (s.printable k d below, All-of_map (λ (y : Seat). IsSeatNumber (kind_of input) y.number) (λ (pair : ℕ × Seat). pair.1) pairs s.seats k d below))))
   free_line (LineData.Needs i needed) s = free_on (decimal i) (numbers needed) (free_rotation i s.numbers.0) (free_numbers IsRotation free_rotation needed s.numbers.1.each)
   free_line (LineData.Gain i gain) s = free_on (decimal i) (signed_decimal gain ∷ []) (free_rotation i s.numbers.0) (free_one (signed_decimal gain) (free_signed gain s.numbers.1))
+  free_line (LineData.SecondGain i gain) s = free_on (decimal i) (signed_decimal gain ∷ []) (free_rotation i s.numbers.0) (free_one (signed_decimal gain) (free_signed gain s.numbers.1))
   free_line (LineData.Flow from to amount) s =
+      free_on (end_text from) (end_text to ∷ decimal amount ∷ []) (free_end from s.numbers.0)
+      (free_on (end_text to) (decimal amount ∷ []) (free_end to s.numbers.1) (free_one (decimal amount) (free_number amount s.numbers.2)))
+  free_line (LineData.SecondFlow from to amount) s =
       free_on (end_text from) (end_text to ∷ decimal amount ∷ []) (free_end from s.numbers.0)
       (free_on (end_text to) (decimal amount ∷ []) (free_end to s.numbers.1) (free_one (decimal amount) (free_number amount s.numbers.2)))
   free_line (LineData.Taken taken) s = free_numbers IsRotation free_rotation taken s.numbers.each
   free_line (LineData.Value value) s = free_one (decimal value) (free_number value s.numbers)
+  free_line (LineData.SecondValue value) s = free_one (decimal value) (free_number value s.numbers)
   free_line (LineData.Cut value) s = free_one (decimal value) (free_number value s.numbers)
+  free_line (LineData.SecondCut value) s = free_one (decimal value) (free_number value s.numbers)
   free_line (LineData.Total weight) s = free_one (signed_decimal weight) (free_signed weight s.numbers)
+  free_line (LineData.SecondTotal weight) s = free_one (signed_decimal weight) (free_signed weight s.numbers)
   free_line (LineData.SomePair p r) s = free_pair p r s.printable.0 s.printable.1
   free_line (LineData.AllPair p r) s = free_pair p r s.printable.0 s.printable.1
   free_line (LineData.Vector v) s = free_one (vector_text v) (free_vector v s.numbers)
@@ -233,6 +305,8 @@ module _ (input : Input) (sound : IsInput input) where
   free_line (LineData.Regret regret) s = free_one (decimal regret) (free_small regret s.numbers)
   free_line (LineData.LeftPair p r) s = free_pair p r s.printable.0 s.printable.1
   free_line (LineData.RightPair p r) s = free_pair p r s.printable.0 s.printable.1
+  free_line (LineData.Back i) s = free_one (decimal i) (free_rotation i s.numbers)
+  free_line (LineData.Forth i) s = free_one (decimal i) (free_rotation i s.numbers)
   free_line (LineData.Listed count) s = free_one (decimal count) (free_small count s.numbers)
   free_line (LineData.TallyLine tag figures) s = free_on (decimal tag) (numbers figures) (free_small tag s.numbers.0) (free_numbers IsLarge free_number figures s.numbers.1)
   free_line LineData.Yes s = refl
@@ -256,3 +330,7 @@ module _ (input : Input) (sound : IsInput input) where
   line_free line s =
       let free = free_line line s in
       (joined_without 10 refl refl (fields_of input line) free, joined_without 13 refl refl (fields_of input line) free)
+
+  -- and it is plain: it stands for itself in a string of JSON
+  pub line_plain : (line : LineData) → IsLineOf input line → is_plain (text_of_line input line) ≡ true
+  line_plain line s = joined_plain (fields_of input line) (free_line line s)

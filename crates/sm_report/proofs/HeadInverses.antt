@@ -70,13 +70,13 @@ bare kind name head h e = record { sound = h; same = e }
 bare_read : (kind : Kind) (command : List ℕ) (head : HeadData) → bare_head_in kind command ≡ Some head → IsHeadRead kind (command ∷ []) head
 bare_read Marriage command head e =
     looked_up (λ name head. IsHeadRead Marriage (name ∷ []) head) bare_heads
-    (bare _ _ _ tt refl, (bare _ _ _ tt refl, (bare _ _ _ tt refl, (bare _ _ _ tt refl, (bare _ _ _ tt refl, (bare _ _ _ tt refl, (bare _ _ _ tt refl, tt))))))) command head e
+    (bare _ _ _ tt refl, (bare _ _ _ tt refl, (bare _ _ _ tt refl, (bare _ _ _ tt refl, (bare _ _ _ tt refl, (bare _ _ _ tt refl, (bare _ _ _ tt refl, (bare _ _ _ tt refl, (bare _ _ _ tt refl, (bare _ _ _ tt refl, tt)))))))))) command head e
 bare_read Hospitals command head e =
     looked_up (λ name head. IsHeadRead Hospitals (name ∷ []) head) bare_heads
-    (bare _ _ _ tt refl, (bare _ _ _ tt refl, (bare _ _ _ tt refl, (bare _ _ _ tt refl, (bare _ _ _ tt refl, (bare _ _ _ tt refl, (bare _ _ _ tt refl, tt))))))) command head e
+    (bare _ _ _ tt refl, (bare _ _ _ tt refl, (bare _ _ _ tt refl, (bare _ _ _ tt refl, (bare _ _ _ tt refl, (bare _ _ _ tt refl, (bare _ _ _ tt refl, (bare _ _ _ tt refl, (bare _ _ _ tt refl, (bare _ _ _ tt refl, tt)))))))))) command head e
 bare_read Roommates command head e =
     looked_up (λ name head. IsHeadRead Roommates (name ∷ []) head) ((codes "solve", HeadData.Solve None) ∷ bare_heads)
-    (bare _ _ _ refl refl, (bare _ _ _ tt refl, (bare _ _ _ tt refl, (bare _ _ _ tt refl, (bare _ _ _ tt refl, (bare _ _ _ tt refl, (bare _ _ _ tt refl, (bare _ _ _ tt refl, tt)))))))) command head e
+    (bare _ _ _ refl refl, (bare _ _ _ tt refl, (bare _ _ _ tt refl, (bare _ _ _ tt refl, (bare _ _ _ tt refl, (bare _ _ _ tt refl, (bare _ _ _ tt refl, (bare _ _ _ tt refl, (bare _ _ _ tt refl, (bare _ _ _ tt refl, (bare _ _ _ tt refl, tt))))))))))) command head e
 
 -- with one operand
 side_read : (kind : Kind) (operand : List ℕ) (side : Side) → side_in kind operand ≡ Some side → IsHeadRead kind (codes "solve" ∷ operand ∷ []) (HeadData.Solve (Some side))
@@ -169,6 +169,9 @@ head_again kind HeadData.Meet h = plain kind (codes "meet") HeadData.Meet refl r
 head_again kind HeadData.Join h = plain kind (codes "join") HeadData.Join refl refl
 head_again kind (HeadData.Survey limit) h = ap (option_map HeadData.Survey) (limit_text_inverts.again limit h)
 head_again kind HeadData.Check h = plain kind (codes "check") HeadData.Check refl refl
+head_again kind HeadData.Median h = plain kind (codes "median") HeadData.Median refl refl
+head_again kind HeadData.Route h = plain kind (codes "route") HeadData.Route refl refl
+head_again kind HeadData.Rest h = plain kind (codes "rest") HeadData.Rest refl refl
 
 -- the reader of first lines is inverse to their fields
 pub head_inverts : (kind : Kind) → Inverts (IsHeadOf kind) fields_of_head (head_in kind)

@@ -164,9 +164,17 @@ name_of keyword.Tally = codes "tally"
 name_of keyword.Yes = codes "yes"
 name_of keyword.No = codes "no"
 name_of keyword.End = codes "end"
+name_of keyword.SecondGain = codes "gain2"
+name_of keyword.SecondFlow = codes "flow2"
+name_of keyword.SecondValue = codes "value2"
+name_of keyword.SecondCut = codes "cut2"
+name_of keyword.SecondTotal = codes "total2"
+name_of keyword.Back = codes "back"
+name_of keyword.Forth = codes "forth"
+name_of keyword.Out = codes "out"
 
 keywords_named : EachRow (λ n w. name_of w ≡ n) keywords
-keywords_named = (refl, (refl, (refl, (refl, (refl, (refl, (refl, (refl, (refl, (refl, (refl, (refl, (refl, (refl, (refl, (refl, (refl, (refl, (refl, (refl, (refl, (refl, (refl, (refl, (refl, (refl, (refl, (refl, tt))))))))))))))))))))))))))))
+keywords_named = (refl, (refl, (refl, (refl, (refl, (refl, (refl, (refl, (refl, (refl, (refl, (refl, (refl, (refl, (refl, (refl, (refl, (refl, (refl, (refl, (refl, (refl, (refl, (refl, (refl, (refl, (refl, (refl, (refl, (refl, (refl, (refl, (refl, (refl, (refl, (refl, tt))))))))))))))))))))))))))))))))))))
 
 -- the readers of the fields behind words, for an input
 module _ (input : Input) (sound : IsInput input) where
@@ -254,6 +262,14 @@ module _ (input : Input) (sound : IsInput input) where
   read_behind keyword.Yes = bare_read (codes "yes") LineData.Yes (record { printable = tt; seats = no_seats; numbers = tt; head = tt }) refl
   read_behind keyword.No = read_as input (codes "no") (λ (x : ℕ × ℕ). LineData.No x.0 x.1) no_inverts (λ x s. record { printable = s.1; seats = no_seats; numbers = s.0; head = tt }) (λ x. refl)
   read_behind keyword.End = bare_read (codes "end") LineData.End (record { printable = tt; seats = no_seats; numbers = tt; head = tt }) refl
+  read_behind keyword.SecondGain = read_as input (codes "gain2") (λ (x : ℕ × ℤ). LineData.SecondGain x.0 x.1) gain_inverts (λ x s. record { printable = tt; seats = no_seats; numbers = s; head = tt }) (λ x. refl)
+  read_behind keyword.SecondFlow = read_as input (codes "flow2") (λ (x : (ℕ × ℕ) × ℕ). LineData.SecondFlow x.0.0 x.0.1 x.1) three_inverts (λ x s. record { printable = tt; seats = no_seats; numbers = (s.0.0, s.0.1, s.1); head = tt }) (λ x. refl)
+  read_behind keyword.SecondValue = read_as input (codes "value2") LineData.SecondValue (one_inverts large_inverts) (λ x s. record { printable = tt; seats = no_seats; numbers = s; head = tt }) (λ x. refl)
+  read_behind keyword.SecondCut = read_as input (codes "cut2") LineData.SecondCut (one_inverts large_inverts) (λ x s. record { printable = tt; seats = no_seats; numbers = s; head = tt }) (λ x. refl)
+  read_behind keyword.SecondTotal = read_as input (codes "total2") LineData.SecondTotal (one_inverts signed_inverts) (λ x s. record { printable = tt; seats = no_seats; numbers = s; head = tt }) (λ x. refl)
+  read_behind keyword.Back = read_as input (codes "back") LineData.Back (one_inverts rotation_inverts) (λ x s. record { printable = tt; seats = no_seats; numbers = s; head = tt }) (λ x. refl)
+  read_behind keyword.Forth = read_as input (codes "forth") LineData.Forth (one_inverts rotation_inverts) (λ x s. record { printable = tt; seats = no_seats; numbers = s; head = tt }) (λ x. refl)
+  read_behind keyword.Out = read_as input (codes "out") LineData.Out (one_inverts (left_inverts input sound)) (λ x s. record { printable = s; seats = no_seats; numbers = tt; head = tt }) (λ x. refl)
 
   -- a line that was read has the fields that it was read from
   pub line_read : (fields : List (List ℕ)) (line : LineData) → line_in input fields ≡ Some line → IsLineOf input line × (fields_of input line ≡ fields)
@@ -279,6 +295,7 @@ module _ (input : Input) (sound : IsInput input) where
   line_again (LineData.Pair p r) s = again_as (λ (x : ℕ × ℕ). LineData.Pair x.0 x.1) pairs_invert (p, r) s.printable
   line_again LineData.Nothing s = refl
   line_again (LineData.Party persons) s = again_as LineData.Party lefts_invert persons s.printable
+  line_again (LineData.Out person) s = again_as LineData.Out (one_inverts (left_inverts input sound)) person s.printable
   line_again (LineData.First p to) s = again_as (λ (x : ℕ × Seat). LineData.First x.0 x.1) seated_invert (p, to) (s.printable.0, seat_of to s.printable.1 s.seats)
   line_again (LineData.Last p to) s = again_as (λ (x : ℕ × Seat). LineData.Last x.0 x.1) seated_invert (p, to) (s.printable.0, seat_of to s.printable.1 s.seats)
   line_again (LineData.ProposerList p list) s = again_as (λ (x : ℕ × List Seat). LineData.ProposerList x.0 x.1) proposer_inverts (p, list)
@@ -288,11 +305,16 @@ module _ (input : Input) (sound : IsInput input) where
       (s.numbers, λ k d below. ((s.printable k d below).0, ((s.printable k d below).1, All-of_map (λ (y : Seat). IsSeatNumber (kind_of input) y.number) (λ (pair : ℕ × Seat). pair.1) pairs s.seats k d below)))
   line_again (LineData.Needs i needed) s = again_as (λ (x : ℕ × List ℕ). LineData.Needs x.0 x.1) needs_inverts (i, needed) s.numbers
   line_again (LineData.Gain i gain) s = again_as (λ (x : ℕ × ℤ). LineData.Gain x.0 x.1) gain_inverts (i, gain) s.numbers
+  line_again (LineData.SecondGain i gain) s = again_as (λ (x : ℕ × ℤ). LineData.SecondGain x.0 x.1) gain_inverts (i, gain) s.numbers
   line_again (LineData.Flow from to amount) s = again_as (λ (x : (ℕ × ℕ) × ℕ). LineData.Flow x.0.0 x.0.1 x.1) three_inverts ((from, to), amount) ((s.numbers.0, s.numbers.1), s.numbers.2)
+  line_again (LineData.SecondFlow from to amount) s = again_as (λ (x : (ℕ × ℕ) × ℕ). LineData.SecondFlow x.0.0 x.0.1 x.1) three_inverts ((from, to), amount) ((s.numbers.0, s.numbers.1), s.numbers.2)
   line_again (LineData.Taken taken) s = again_as LineData.Taken risings_invert taken s.numbers
   line_again (LineData.Value value) s = again_as LineData.Value (one_inverts large_inverts) value s.numbers
+  line_again (LineData.SecondValue value) s = again_as LineData.SecondValue (one_inverts large_inverts) value s.numbers
   line_again (LineData.Cut value) s = again_as LineData.Cut (one_inverts large_inverts) value s.numbers
+  line_again (LineData.SecondCut value) s = again_as LineData.SecondCut (one_inverts large_inverts) value s.numbers
   line_again (LineData.Total weight) s = again_as LineData.Total (one_inverts signed_inverts) weight s.numbers
+  line_again (LineData.SecondTotal weight) s = again_as LineData.SecondTotal (one_inverts signed_inverts) weight s.numbers
   line_again (LineData.SomePair p r) s = again_as (λ (x : ℕ × ℕ). LineData.SomePair x.0 x.1) pairs_invert (p, r) s.printable
   line_again (LineData.AllPair p r) s = again_as (λ (x : ℕ × ℕ). LineData.AllPair x.0 x.1) pairs_invert (p, r) s.printable
   line_again (LineData.Vector v) s = again_as LineData.Vector (one_inverts vector_inverts) v s.numbers
@@ -300,6 +322,8 @@ module _ (input : Input) (sound : IsInput input) where
   line_again (LineData.Regret regret) s = again_as LineData.Regret (one_inverts small_inverts) regret s.numbers
   line_again (LineData.LeftPair p r) s = again_as (λ (x : ℕ × ℕ). LineData.LeftPair x.0 x.1) pairs_invert (p, r) s.printable
   line_again (LineData.RightPair p r) s = again_as (λ (x : ℕ × ℕ). LineData.RightPair x.0 x.1) pairs_invert (p, r) s.printable
+  line_again (LineData.Back i) s = again_as LineData.Back (one_inverts rotation_inverts) i s.numbers
+  line_again (LineData.Forth i) s = again_as LineData.Forth (one_inverts rotation_inverts) i s.numbers
   line_again (LineData.Listed count) s = again_as LineData.Listed (one_inverts small_inverts) count s.numbers
   line_again (LineData.TallyLine tag figures) s = again_as (λ (x : ℕ × List ℕ). LineData.TallyLine x.0 x.1) tally_inverts (tag, figures) s.numbers
   line_again LineData.Yes s = refl

@@ -19,6 +19,9 @@ pub data HeadData : Type 0 where
   Join : HeadData
   Survey : ℕ → HeadData
   Check : HeadData
+  Median : HeadData
+  Route : HeadData
+  Rest : HeadData
 
 -- a first line as plain data
 abbrev pub head_of : Head → HeadData
@@ -33,3 +36,6 @@ head_of head.Meet = Meet
 head_of head.Join = Join
 head_of (head.Survey limit) = Survey limit
 head_of head.Check = Check
+head_of head.Median = Median
+head_of head.Route = Route
+head_of head.Rest = Rest

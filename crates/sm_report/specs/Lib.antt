@@ -11,3 +11,4 @@ pub mod Vectors
 pub mod Keywords
 pub mod Meanings
 pub mod Reading
+pub mod Plain

@@ -11,6 +11,7 @@ pub data LineData : Type 0 where
   Pair : ℕ → ℕ → LineData
   Nothing : LineData
   Party : List ℕ → LineData
+  Out : ℕ → LineData
   First : ℕ → Seat → LineData
   Last : ℕ → Seat → LineData
   ProposerList : ℕ → List Seat → LineData
@@ -18,11 +19,16 @@ pub data LineData : Type 0 where
   Rotation : ℕ → List (ℕ × Seat) → LineData
   Needs : ℕ → List ℕ → LineData
   Gain : ℕ → ℤ → LineData
+  SecondGain : ℕ → ℤ → LineData
   Flow : ℕ → ℕ → ℕ → LineData
+  SecondFlow : ℕ → ℕ → ℕ → LineData
   Taken : List ℕ → LineData
   Value : ℕ → LineData
+  SecondValue : ℕ → LineData
   Cut : ℕ → LineData
+  SecondCut : ℕ → LineData
   Total : ℤ → LineData
+  SecondTotal : ℤ → LineData
   SomePair : ℕ → ℕ → LineData
   AllPair : ℕ → ℕ → LineData
   Vector : List ℕ → LineData
@@ -30,6 +36,8 @@ pub data LineData : Type 0 where
   Regret : ℕ → LineData
   LeftPair : ℕ → ℕ → LineData
   RightPair : ℕ → ℕ → LineData
+  Back : ℕ → LineData
+  Forth : ℕ → LineData
   Listed : ℕ → LineData
   TallyLine : ℕ → List ℕ → LineData
   Yes : LineData
@@ -42,6 +50,7 @@ line_of (line.Answer h) = Answer (head_of h)
 line_of (line.Pair p r) = Pair p r
 line_of line.Nothing = Nothing
 line_of (line.Party persons) = Party persons.items
+line_of (line.Out person) = Out person
 line_of (line.First p seat) = First p seat
 line_of (line.Last p seat) = Last p seat
 line_of (line.ProposerList p seats) = ProposerList p seats.items
@@ -49,11 +58,16 @@ line_of (line.ReviewerList seat proposers) = ReviewerList seat proposers.items
 line_of (line.Rotation i pairs) = Rotation i pairs.items
 line_of (line.Needs i needed) = Needs i needed.items
 line_of (line.Gain i gain) = Gain i gain
+line_of (line.SecondGain i gain) = SecondGain i gain
 line_of (line.Flow from to amount) = Flow from to amount
+line_of (line.SecondFlow from to amount) = SecondFlow from to amount
 line_of (line.Taken taken) = Taken taken.items
 line_of (line.Value value) = Value value
+line_of (line.SecondValue value) = SecondValue value
 line_of (line.Cut value) = Cut value
+line_of (line.SecondCut value) = SecondCut value
 line_of (line.Total weight) = Total weight
+line_of (line.SecondTotal weight) = SecondTotal weight
 line_of (line.SomePair p r) = SomePair p r
 line_of (line.AllPair p r) = AllPair p r
 line_of (line.Vector v) = Vector v.items
@@ -61,6 +75,8 @@ line_of (line.More v) = More v.items
 line_of (line.Regret regret) = Regret regret
 line_of (line.LeftPair p r) = LeftPair p r
 line_of (line.RightPair p r) = RightPair p r
+line_of (line.Back i) = Back i
+line_of (line.Forth i) = Forth i
 line_of (line.Listed count) = Listed count
 line_of (line.TallyLine tag figures) = TallyLine tag figures.items
 line_of line.Yes = Yes

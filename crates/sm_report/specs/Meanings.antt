@@ -67,6 +67,14 @@ keywords =
     ∷ (codes "yes", keyword.Yes)
     ∷ (codes "no", keyword.No)
     ∷ (codes "end", keyword.End)
+    ∷ (codes "gain2", keyword.SecondGain)
+    ∷ (codes "flow2", keyword.SecondFlow)
+    ∷ (codes "value2", keyword.SecondValue)
+    ∷ (codes "cut2", keyword.SecondCut)
+    ∷ (codes "total2", keyword.SecondTotal)
+    ∷ (codes "back", keyword.Back)
+    ∷ (codes "forth", keyword.Forth)
+    ∷ (codes "out", keyword.Out)
     ∷ []
 
 -- the proposer and the reviewer with a name, in roommates the person
@@ -266,6 +274,9 @@ bare_heads =
     ∷ (codes "meet", HeadData.Meet)
     ∷ (codes "join", HeadData.Join)
     ∷ (codes "check", HeadData.Check)
+    ∷ (codes "median", HeadData.Median)
+    ∷ (codes "route", HeadData.Route)
+    ∷ (codes "rest", HeadData.Rest)
     ∷ []
 
 -- a command that stands alone; in roommates `solve` is one
@@ -335,6 +346,14 @@ line_behind input keyword.Tally fields = option_map (λ x. LineData.TallyLine x.
 line_behind input keyword.Yes fields = bare_in LineData.Yes fields
 line_behind input keyword.No fields = option_map (λ x. LineData.No x.0 x.1) (no_in fields)
 line_behind input keyword.End fields = bare_in LineData.End fields
+line_behind input keyword.SecondGain fields = option_map (λ x. LineData.SecondGain x.0 x.1) (gain_in fields)
+line_behind input keyword.SecondFlow fields = option_map (λ x. LineData.SecondFlow x.0.0 x.0.1 x.1) (flow_in fields)
+line_behind input keyword.SecondValue fields = option_map LineData.SecondValue (option_and_then large_in (one_of fields))
+line_behind input keyword.SecondCut fields = option_map LineData.SecondCut (option_and_then large_in (one_of fields))
+line_behind input keyword.SecondTotal fields = option_map LineData.SecondTotal (option_and_then signed_in (one_of fields))
+line_behind input keyword.Back fields = option_map LineData.Back (option_and_then rotation_in (one_of fields))
+line_behind input keyword.Forth fields = option_map LineData.Forth (option_and_then rotation_in (one_of fields))
+line_behind input keyword.Out fields = option_map LineData.Out (option_and_then (left_in input) (one_of fields))
 
 -- the line that these fields make
 abbrev pub line_in : Input → List (List ℕ) → Option LineData

@@ -82,7 +82,9 @@ abbrev pub room_lines : List (LineData × List ℕ)
 room_lines =
     (LineData.Answer (HeadData.Solve None), codes "answer solve")
     ∷ (LineData.Pair 0 1, codes "pair x y")
-    ∷ (LineData.Party (1 ∷ 0 ∷ []), codes "party y x") ∷ []
+    ∷ (LineData.Party (1 ∷ 0 ∷ []), codes "party y x")
+    ∷ (LineData.Answer HeadData.Rest, codes "answer rest")
+    ∷ (LineData.Out 1, codes "out y") ∷ []
 
 -- lines of words and numbers: lists have spaces, and vectors commas
 abbrev pub number_lines : List (LineData × List ℕ)
@@ -107,7 +109,15 @@ number_lines =
     ∷ (LineData.TallyLine 3 (3 ∷ 2 ∷ 3 ∷ []), codes "tally 3 3 2 3")
     ∷ (LineData.Vector (1 ∷ 2 ∷ 2 ∷ []), codes "vector 1,2,2")
     ∷ (LineData.Vector [], codes "vector -")
-    ∷ (LineData.More (3 ∷ []), codes "more 3") ∷ []
+    ∷ (LineData.More (3 ∷ []), codes "more 3")
+    ∷ (LineData.SecondGain 2 (negsuc 2), codes "gain2 2 -3")
+    ∷ (LineData.SecondFlow 0 2 1, codes "flow2 S 2 1")
+    ∷ (LineData.SecondFlow 1 4294967295 1, codes "flow2 1 T 1")
+    ∷ (LineData.SecondValue 18446744073709551615, codes "value2 18446744073709551615")
+    ∷ (LineData.SecondCut 0, codes "cut2 0")
+    ∷ (LineData.SecondTotal (negsuc 1), codes "total2 -2")
+    ∷ (LineData.Back 1, codes "back 1")
+    ∷ (LineData.Forth 4294967294, codes "forth 4294967294") ∷ []
 
 -- first lines, with the operands of their command
 abbrev pub head_lines : List (LineData × List ℕ)
@@ -126,7 +136,9 @@ head_lines =
     ∷ (LineData.Answer HeadData.Meet, codes "answer meet")
     ∷ (LineData.Answer HeadData.Join, codes "answer join")
     ∷ (LineData.Answer (HeadData.Survey 1000000), codes "answer survey limit=1000000")
-    ∷ (LineData.Answer HeadData.Check, codes "answer check") ∷ []
+    ∷ (LineData.Answer HeadData.Check, codes "answer check")
+    ∷ (LineData.Answer HeadData.Median, codes "answer median")
+    ∷ (LineData.Answer HeadData.Route, codes "answer route") ∷ []
 
 -- all of these have their texts, and are read from them
 abbrev pub MarriageTexts : Type 0
@@ -160,7 +172,9 @@ BadTexts = AreRefused (two_sided Marriage 1) (
     ∷ codes "vector" ∷ codes "vector 1," ∷ codes "vector 1 2" ∷ codes "flow S 0 1" ∷ codes "flow 4294967295 T 1"
     ∷ codes "total -0" ∷ codes "gain 1 9223372036854775808" ∷ codes "gain 1 -9223372036854775808" ∷ codes "no 1 Other"
     ∷ codes "answer" ∷ codes "answer solve" ∷ codes "answer check limit=1" ∷ codes "answer list" ∷ codes "answer list limit=0"
-    ∷ codes "answer list limit=2 after=1" ∷ codes "answer survey limit=1000001" ∷ codes "answer weight" ∷ [])
+    ∷ codes "answer list limit=2 after=1" ∷ codes "answer survey limit=1000001" ∷ codes "answer weight" ∷ codes "answer median limit=1"
+    ∷ codes "gain2 0 1" ∷ codes "gain2 1" ∷ codes "flow2 0 1 5" ∷ codes "flow2 S 1" ∷ codes "value2 18446744073709551616" ∷ codes "cut2 -"
+    ∷ codes "total2 -0" ∷ codes "back 0" ∷ codes "back 1 2" ∷ codes "forth -" ∷ codes "forth 4294967295" ∷ codes "out h1" ∷ [])
 
 -- texts of no line of hospitals: seats without a number, or with a bad one
 abbrev pub BadSeats : Type 0
@@ -170,4 +184,4 @@ BadSeats = AreRefused (two_sided Hospitals 3) (
 
 -- texts of no line of roommates: a side, a name that nobody has, a party of nobody
 abbrev pub BadRooms : Type 0
-BadRooms = AreRefused room (codes "answer solve side=proposers" ∷ codes "party z" ∷ codes "party" ∷ [])
+BadRooms = AreRefused room (codes "answer solve side=proposers" ∷ codes "party z" ∷ codes "party" ∷ codes "out z" ∷ codes "out x y" ∷ codes "out -" ∷ [])

@@ -54,6 +54,12 @@ fn bare_head_in(kind: Kind, command: &[u8]) -> Option<Head>
         Some(Head::Join)
     } else if is(command, b"check") {
         Some(Head::Check)
+    } else if is(command, b"median") {
+        Some(Head::Median)
+    } else if is(command, b"route") {
+        Some(Head::Route)
+    } else if is(command, b"rest") {
+        Some(Head::Rest)
     } else {
         None
     }

@@ -27,4 +27,10 @@ pub enum Head {
     Survey(u32),
     /// Whether an answer is right.
     Check,
+    /// The median of all stable matchings.
+    Median,
+    /// A shortest route from one stable matching to another.
+    Route,
+    /// A matching of the persons that stay where an odd party excludes a stable matching.
+    Rest,
 }

@@ -39,6 +39,14 @@ pub enum Keyword {
     Yes,
     No,
     End,
+    SecondGain,
+    SecondFlow,
+    SecondValue,
+    SecondCut,
+    SecondTotal,
+    Back,
+    Forth,
+    Out,
 }
 
 /// The keyword that a text is.
@@ -101,12 +109,28 @@ pub(crate) fn keyword_named(text: &[u8]) -> Option<Keyword>
         Some(Keyword::No)
     } else if is(text, b"end") {
         Some(Keyword::End)
+    } else if is(text, b"gain2") {
+        Some(Keyword::SecondGain)
+    } else if is(text, b"flow2") {
+        Some(Keyword::SecondFlow)
+    } else if is(text, b"value2") {
+        Some(Keyword::SecondValue)
+    } else if is(text, b"cut2") {
+        Some(Keyword::SecondCut)
+    } else if is(text, b"total2") {
+        Some(Keyword::SecondTotal)
+    } else if is(text, b"back") {
+        Some(Keyword::Back)
+    } else if is(text, b"forth") {
+        Some(Keyword::Forth)
+    } else if is(text, b"out") {
+        Some(Keyword::Out)
     } else {
         None
     }
 }
 
-/// The keyword of a line.
+/// The keyword of a line. Takes constant time.
 pub fn keyword_of(line: &Line) -> Keyword
     ensures { result ≡ keyword_of (line_of line.now) }
 {
@@ -115,6 +139,7 @@ pub fn keyword_of(line: &Line) -> Keyword
         Line::Pair(_, _) => Keyword::Pair,
         Line::Nothing => Keyword::Nothing,
         Line::Party(_) => Keyword::Party,
+        Line::Out(_) => Keyword::Out,
         Line::First(_, _) => Keyword::First,
         Line::Last(_, _) => Keyword::Last,
         Line::ProposerList(_, _) => Keyword::Proposer,
@@ -122,11 +147,16 @@ pub fn keyword_of(line: &Line) -> Keyword
         Line::Rotation(_, _) => Keyword::Rotation,
         Line::Needs(_, _) => Keyword::Needs,
         Line::Gain(_, _) => Keyword::Gain,
+        Line::SecondGain(_, _) => Keyword::SecondGain,
         Line::Flow(_, _, _) => Keyword::Flow,
+        Line::SecondFlow(_, _, _) => Keyword::SecondFlow,
         Line::Taken(_) => Keyword::Taken,
         Line::Value(_) => Keyword::Value,
+        Line::SecondValue(_) => Keyword::SecondValue,
         Line::Cut(_) => Keyword::Cut,
+        Line::SecondCut(_) => Keyword::SecondCut,
         Line::Total(_) => Keyword::Total,
+        Line::SecondTotal(_) => Keyword::SecondTotal,
         Line::SomePair(_, _) => Keyword::Some,
         Line::AllPair(_, _) => Keyword::All,
         Line::Vector(_) => Keyword::Vector,
@@ -134,6 +164,8 @@ pub fn keyword_of(line: &Line) -> Keyword
         Line::Regret(_) => Keyword::Regret,
         Line::LeftPair(_, _) => Keyword::Left,
         Line::RightPair(_, _) => Keyword::Right,
+        Line::Back(_) => Keyword::Back,
+        Line::Forth(_) => Keyword::Forth,
         Line::Listed(_) => Keyword::Listed,
         Line::TallyLine(_, _) => Keyword::Tally,
         Line::Yes => Keyword::Yes,

@@ -2,6 +2,7 @@
 //! definitions alone, for all instances and all lines.
 
 ghost use Rattle.sm_report.specs.Reading.{OneLineHasIt, PutIsReadAgain};
+ghost use Rattle.sm_report.specs.Plain.{LinesArePlain};
 
 /// Two lines of an instance that have one text are the same line.
 pub fn one_line_has_a_text()
@@ -12,4 +13,10 @@ pub fn one_line_has_a_text()
 /// the line again.
 pub fn what_was_put_is_read()
     ensures { PutIsReadAgain }
+{}
+
+/// The text of each line of an instance has bytes from 32 to 126 alone, neither `"` nor `\`, so that it stands for itself in
+/// a string of JSON.
+pub fn lines_are_plain()
+    ensures { LinesArePlain }
 {}

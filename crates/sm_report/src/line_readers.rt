@@ -4,7 +4,7 @@ ghost use Rattle.std.specs.Prelude.{◌≡◌, IfOk, option_map};
 ghost use Rattle.std.specs.Option.{option_and_then};
 ghost use Rattle.sm_report.specs.Lines.{line_of, LineData};
 ghost use Rattle.sm_report.specs.Vectors.{vector_in};
-ghost use Rattle.sm_report.specs.Meanings.{bare_in, one_of, small_in, large_in, signed_in, pair_in, seated_in, proposer_in, reviewer_in, rotation_with_pairs_in, needs_in, tally_in, gain_in, flow_in, no_in};
+ghost use Rattle.sm_report.specs.Meanings.{bare_in, one_of, small_in, large_in, signed_in, rotation_in, left_in, pair_in, seated_in, proposer_in, reviewer_in, rotation_with_pairs_in, needs_in, tally_in, gain_in, flow_in, no_in};
 ghost use Rattle.sm_text.specs.Slices.{texts_of};
 
 use crate::field_readers::{end_in, left_in, reason_in, right_in, rotation_in, seat_in};
@@ -43,6 +43,20 @@ pub(crate) fn total_in(fields: &[&[u8]]) -> Option<i64>
     ensures { result ≡ option_and_then signed_in (one_of (texts_of fields.now)) }
 {
     signed(one(fields)?, i64::MAX)
+}
+
+/// The number of a rotation.
+pub(crate) fn step_in(fields: &[&[u8]]) -> Option<u32>
+    ensures { result ≡ option_and_then rotation_in (one_of (texts_of fields.now)) }
+{
+    rotation_in(one(fields)?)
+}
+
+/// A proposer, in roommates a person.
+pub(crate) fn person_in(input: &Input, fields: &[&[u8]]) -> Option<u32>
+    ensures { result ≡ option_and_then (left_in input.now) (one_of (texts_of fields.now)) }
+{
+    left_in(input, one(fields)?)
 }
 
 /// A vector.

@@ -20,6 +20,8 @@ pub enum Line {
     Nothing,
     /// A party of a stable partition, its persons in turn.
     Party(Vec<u32>),
+    /// A person that no matching of the rest has: the lowest member of an odd party.
+    Out(u32),
     /// A proposer and its seat in the proposers' best matching.
     First(u32, Seat),
     /// A proposer and its seat in the reviewers' best matching.
@@ -34,17 +36,27 @@ pub enum Line {
     Needs(u32, Vec<u32>),
     /// A rotation, and what its elimination adds to a matching's weight.
     Gain(u32, i64),
+    /// A rotation, and what its elimination adds to a matching's second weight.
+    SecondGain(u32, i64),
     /// What flows between two ends: from one, to the other, and how much. An end is a rotation, the source where it is 0,
     /// and the sink where it is the greatest `u32`.
     Flow(u32, u32, u64),
+    /// The same of the second flow.
+    SecondFlow(u32, u32, u64),
     /// The rotations that a matching is made by.
     Taken(Vec<u32>),
     /// What flows in all.
     Value(u64),
+    /// What the second flow carries in all.
+    SecondValue(u64),
     /// What the edges that leave the taken rotations let through.
     Cut(u64),
+    /// The same of the edges of the second flow.
+    SecondCut(u64),
     /// A matching's weight.
     Total(i64),
+    /// A matching's second weight.
+    SecondTotal(i64),
     /// A proposer and a reviewer who are partners in some stable matching, but not in all.
     SomePair(u32, u32),
     /// A proposer and a reviewer who are partners in all stable matchings.
@@ -59,6 +71,10 @@ pub enum Line {
     LeftPair(u32, u32),
     /// A pair of the second.
     RightPair(u32, u32),
+    /// A rotation that a step of a route takes back.
+    Back(u32),
+    /// A rotation that a step of a route eliminates.
+    Forth(u32),
     /// How many matchings were listed.
     Listed(u32),
     /// A tally's tag and its figures.

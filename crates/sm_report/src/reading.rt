@@ -12,8 +12,9 @@ use crate::fields_of::{fields_in, headed};
 use crate::head_reader::head_in;
 use crate::keywords::{Keyword, keyword_named};
 use crate::line_readers::{
-    bare_in, flow_in, gain_in, large_in, needs_in, no_in, only_vector_in, pair_in, proposer_in,
-    reviewer_in, rotation_with_pairs_in, seated_in, small_in, tally_in, total_in,
+    bare_in, flow_in, gain_in, large_in, needs_in, no_in, only_vector_in, pair_in, person_in,
+    proposer_in, reviewer_in, rotation_with_pairs_in, seated_in, small_in, step_in, tally_in,
+    total_in,
 };
 use crate::lines::Line;
 use crate::list_readers::{lefts_in, rising_in};
@@ -106,5 +107,15 @@ fn line_behind(
         Keyword::Yes => Ok(bare_in(Line::Yes, fields)),
         Keyword::No => Ok(no_in(fields).map(|(at, reason)| Line::No(at, reason))),
         Keyword::End => Ok(bare_in(Line::End, fields)),
+        Keyword::SecondGain => Ok(gain_in(fields).map(|(i, gain)| Line::SecondGain(i, gain))),
+        Keyword::SecondFlow => Ok(flow_in(fields).map(|((from, to), amount)| Line::SecondFlow(
+            from, to, amount,
+        ))),
+        Keyword::SecondValue => Ok(large_in(fields).map(Line::SecondValue)),
+        Keyword::SecondCut => Ok(large_in(fields).map(Line::SecondCut)),
+        Keyword::SecondTotal => Ok(total_in(fields).map(Line::SecondTotal)),
+        Keyword::Back => Ok(step_in(fields).map(Line::Back)),
+        Keyword::Forth => Ok(step_in(fields).map(Line::Forth)),
+        Keyword::Out => Ok(person_in(input, fields).map(Line::Out)),
     }
 }

@@ -2,7 +2,8 @@
 use Rattle.std.proofs.Common.{refl}
 use Rattle.sm_text.specs.Name as name
 use Rattle.sm_text.specs.Tokens as token
-use Rattle.sm_text.specs.Witnesses.{LinesEnd, NamesBegin, TokensCut, NumbersSpelt}
+use Rattle.sm_text.specs.Plain as plain
+use Rattle.sm_text.specs.Witnesses.{LinesEnd, NamesBegin, TokensCut, NumbersSpelt, PlainLines}
 
 -- lines end as was found by hand
 pub lines_end : LinesEnd
@@ -21,3 +22,8 @@ tokens_cut = (refl, refl, refl)
 -- numbers are spelt as was found by hand
 pub numbers_spelt : NumbersSpelt
 numbers_spelt = (refl, refl, refl, refl)
+
+-- lines are plain as was found by hand
+pub plain_lines : PlainLines
+unfolding plain.is_plain_byte
+plain_lines = (refl, refl)

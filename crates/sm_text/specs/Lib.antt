@@ -5,5 +5,6 @@ pub mod Numbers
 pub mod Tokens
 pub mod Slices
 pub mod Writer
+pub mod Plain
 pub mod Refusal
 pub mod Witnesses

@@ -1,7 +1,7 @@
 -- The names of refusals.
 use Rattle.std.specs.Prelude.{ℕ, List, codes}
 use Rattle.sm_text.specs.declared.refusal.RefusalKind.{RefusalKind}
-use Rattle.sm_text.specs.declared.refusal.RefusalKind.TheVariants.{TooLong, BadByte, BadHeader, BadLine, BadName, BadNumber, Redeclared, RepeatedEntry, RepeatedWeight, MissingEnd, AfterEnd, TooManyAgents, TooManyEntries, UnknownName, TooManySeats, WrongKind, BadAnswer, BadCursor, NotStable, TooMany, NotBuilt}
+use Rattle.sm_text.specs.declared.refusal.RefusalKind.TheVariants.{TooLong, BadByte, BadHeader, BadLine, BadName, BadNumber, Redeclared, RepeatedEntry, RepeatedWeight, MissingEnd, AfterEnd, TooManyAgents, TooManyEntries, UnknownName, TooManySeats, WrongKind, BadAnswer, BadCursor, NotStable, TooMany, NotBuilt, BadJson}
 
 -- the name that is printed for a refusal
 abbrev pub name_of_refusal : RefusalKind → List ℕ
@@ -26,3 +26,4 @@ name_of_refusal BadCursor = codes "BadCursor"
 name_of_refusal NotStable = codes "NotStable"
 name_of_refusal TooMany = codes "TooMany"
 name_of_refusal NotBuilt = codes "NotBuilt"
+name_of_refusal BadJson = codes "BadJson"

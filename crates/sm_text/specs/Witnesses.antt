@@ -4,6 +4,7 @@ use Rattle.sm_text.specs.Lines.{LF, CR, first_line, content, lines}
 use Rattle.sm_text.specs.Name.{is_name}
 use Rattle.sm_text.specs.Tokens.{tokens, token_at}
 use Rattle.sm_text.specs.Numbers.{number_of, signed_of}
+use Rattle.sm_text.specs.Plain.{is_plain}
 use Rattle.sm_text.specs.declared.tokens.TokenAt.TheVariants.{Run, Mark, Bad, Over}
 
 -- what the lines of a text hold, without their ends
@@ -36,3 +37,8 @@ NumbersSpelt = (map (λ run. number_of run 10) (codes "0" ∷ codes "7" ∷ code
     × (map (λ run. number_of run 10) ([] ∷ codes "00" ∷ codes "07" ∷ codes "11" ∷ codes "-1" ∷ codes "+1" ∷ codes "1a" ∷ []) ≡ replicate 7 None)
     × (map (λ run. signed_of run 10) (codes "0" ∷ codes "10" ∷ codes "-1" ∷ codes "-10" ∷ []) ≡ Some (pos 0) ∷ Some (pos 10) ∷ Some (negsuc 0) ∷ Some (negsuc 9) ∷ [])
     × (map (λ run. signed_of run 10) ([] ∷ codes "-" ∷ codes "-0" ∷ codes "-01" ∷ codes "--1" ∷ codes "-11" ∷ codes "11" ∷ []) ≡ replicate 7 None)
+
+-- a space and `~` stand for themselves in JSON; a control character, `"`, `\` and what lies behind `~` don't
+abbrev pub PlainLines : Type 0
+PlainLines = (map is_plain ([] ∷ codes "pair a h/2" ∷ (32 ∷ 126 ∷ []) ∷ []) ≡ replicate 3 true)
+    × (map is_plain ((97 ∷ 10 ∷ []) ∷ (31 ∷ []) ∷ (34 ∷ []) ∷ (92 ∷ 97 ∷ []) ∷ (127 ∷ []) ∷ (195 ∷ 164 ∷ []) ∷ []) ≡ replicate 6 false)

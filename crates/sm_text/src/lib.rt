@@ -19,7 +19,7 @@ pub use limits::{
     MOST_SEAT_ENTRIES, MOST_WEIGHT,
 };
 pub use lines::{LineSpan, line_at, line_count};
-pub use names::{is_name, is_name_byte};
+pub use names::{begins_name, is_name, is_name_byte};
 pub use numbers::{number, signed};
 pub use refusal::RefusalKind;
 pub use text_hash::{Digest, TextHash};

@@ -22,15 +22,15 @@ fn are_name_bytes(run: &[u8]) -> bool
     run.iter().all(|b| is_name_byte(*b))
 }
 
-/// May a name begin with this byte?
+/// May a name begin with this byte: is it a letter, a digit or `_`? Takes constant time.
 #[tactic(auto, unfolding(crate::specs::Name::begins_name, crate::specs::Name::is_name_byte))]
-fn begins_name(b: u8) -> bool
+pub fn begins_name(b: u8) -> bool
     ensures { result ≡ begins_name b }
 {
     is_name_byte(b) && b != b'.' && b != b'-'
 }
 
-/// May a name hold this byte: is it a letter, a digit, `_`, `.` or `-`?
+/// May a name hold this byte: is it a letter, a digit, `_`, `.` or `-`? Takes constant time.
 pub fn is_name_byte(b: u8) -> bool
     ensures { result ≡ is_name_byte b }
 {

@@ -48,10 +48,12 @@ pub enum RefusalKind {
     TooMany,
     /// The program doesn't take this input yet.
     NotBuilt,
+    /// The bytes aren't JSON, or the value isn't that of an instance.
+    BadJson,
 }
 
 impl RefusalKind {
-    /// The name that is printed, which is the variant's.
+    /// The name that is printed, which is the variant's. Takes constant time.
     pub fn name(self) -> &'static str
         ensures { result.now ≡ name_of_refusal self }
     {
@@ -77,6 +79,7 @@ impl RefusalKind {
             RefusalKind::NotStable => "NotStable",
             RefusalKind::TooMany => "TooMany",
             RefusalKind::NotBuilt => "NotBuilt",
+            RefusalKind::BadJson => "BadJson",
         }
     }
 }

@@ -44,7 +44,7 @@ pub struct Digest {
 }
 
 impl Digest {
-    /// Nothing was taken yet.
+    /// A digest of no piece. Takes constant time.
     pub fn new() -> Digest {
         Digest {
             hasher: DefaultHasher::new(),
@@ -62,7 +62,7 @@ impl Digest {
         self.hasher.write(piece);
     }
 
-    /// The hashes that start from this digest.
+    /// The hashes that start from this digest. Takes constant time.
     pub fn hash(&self) -> TextHash {
         let mut start = DefaultHasher::new();
         if self.bytes > SHORT {

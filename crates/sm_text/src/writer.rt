@@ -23,10 +23,15 @@ impl Model for LineWriter {
 }
 
 impl LineWriter {
+    ghost use Rattle.std.specs.Prelude.{vec_capacity};
     ghost use Rattle.std.specs.Fmt.{signed_decimal};
     ghost use Rattle.sm_text.specs.Writer.{PutsPiece};
 
-    /// An empty writer with room for `room` bytes.
+    /// An empty writer with room for `room` bytes. Takes constant time, and memory for that room.
+    ///
+    /// # Errors
+    ///
+    /// `AllocError` where memory ran out, and only then.
     pub fn new(alloc: Global, room: usize) -> Result<LineWriter, AllocError>
         ensures empty { IfOk result (λ w. w.bytes ≡ []) }
         ensures room { IfOk result (λ w. room ≤ w.room) }
@@ -36,14 +41,22 @@ impl LineWriter {
         })
     }
 
-    /// What it holds.
+    /// What it holds. Takes constant time.
     pub fn bytes(&self) -> &[u8]
         ensures { result.now ≡ self.now.bytes }
     {
         self.bytes.as_slice()
     }
 
-    /// Empties it. It keeps its room.
+    /// What it holds, as a vector with the writer's room. Nothing is copied: it takes constant time, and no memory.
+    pub fn into_bytes(self) -> Vec<u8>
+        ensures bytes { result.items ≡ self.bytes }
+        ensures room { vec_capacity result ≡ self.room }
+    {
+        self.bytes
+    }
+
+    /// Empties it. It keeps its room. Takes constant time.
     pub fn clear(&mut self)
         ensures empty { self.new.bytes ≡ [] }
         ensures room { self.new.room ≡ self.old.room }
@@ -51,16 +64,24 @@ impl LineWriter {
         self.bytes.clear();
     }
 
-    /// Puts bytes behind what it holds. Where they fit the room that is left it can't fail; where it fails it holds what
-    /// it held.
+    /// Puts bytes behind what it holds. Takes time in proportion to them; where the room has to grow, memory and time in
+    /// proportion to what it holds.
+    ///
+    /// # Errors
+    ///
+    /// `AllocError` where memory ran out, and only then; never where the bytes fit the room that is left. It then holds what
+    /// it held, and its room is no smaller.
     pub fn put_bytes(&mut self, piece: &[u8]) -> Result<(), AllocError>
         ensures { PutsPiece self.old self.new piece.now result }
     {
         self.bytes.extend_from_slice(piece)
     }
 
-    /// Puts a number in decimal behind what it holds. Where it fits the room that is left it can't fail; where it fails it
-    /// holds what it held.
+    /// Puts a number in decimal behind what it holds. Takes what [`LineWriter::put_bytes`] takes.
+    ///
+    /// # Errors
+    ///
+    /// As [`LineWriter::put_bytes`] for the digits.
     pub fn put_number(&mut self, value: u64) -> Result<(), AllocError>
         ensures { PutsPiece self.old self.new (decimal value) result }
     {
@@ -69,8 +90,12 @@ impl LineWriter {
         self.put_bytes(&digits[start..])
     }
 
-    /// Puts a signed number in decimal behind what it holds, with `-` before it where it is below 0. Where it fits the
-    /// room that is left it can't fail; where it fails it holds what it held.
+    /// Puts a signed number in decimal behind what it holds, with `-` before it where it is below 0. Takes what
+    /// [`LineWriter::put_bytes`] takes.
+    ///
+    /// # Errors
+    ///
+    /// As [`LineWriter::put_bytes`] for the sign and the digits.
     pub fn put_signed(&mut self, value: i64) -> Result<(), AllocError>
         ensures { PutsPiece self.old self.new (signed_decimal value) result }
     {
