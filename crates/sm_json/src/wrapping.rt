@@ -1,9 +1,9 @@
 //! Lines as items of an array of strings.
 
 ghost use Rattle.std.specs.Prelude.{◌≡◌, true};
-ghost use Rattle.std.specs.List.{list_all};
 ghost use Rattle.sm_report.specs.Putting.{PutsText};
-ghost use Rattle.sm_json.specs.Wrapping.{is_plain_byte, wrapped};
+ghost use Rattle.sm_text.specs.Plain.{is_plain};
+ghost use Rattle.sm_json.specs.Wrapping.{wrapped};
 
 use sm_text::LineWriter;
 use std::alloc::AllocError;
@@ -17,7 +17,7 @@ use std::alloc::AllocError;
 ///
 /// `AllocError` where memory ran out, and only then. The writer then holds what it held and a front of this text.
 pub fn wrap(into: &mut LineWriter, first: bool, line: &[u8]) -> Result<(), AllocError>
-    requires { list_all is_plain_byte line.now ≡ true }
+    requires { is_plain line.now ≡ true }
     ensures { PutsText into.old into.new (wrapped first line.now) result }
 {
     into.put_bytes(if first { b"[\"" } else { b",\"" })?;
