@@ -1,5 +1,5 @@
 -- The laws on meet and join, on pairs, and on levels.
-use Rattle.std.proofs.Common.{◌≡◌, ℕ, ◌<◌, ◌⊎◌, inl, inr, arith, refl, sym, ap, ◌∙◌, length, Option, None, Some, unwrap_or, slice_index, slice_index_or}
+use Rattle.std.proofs.Common.{◌≡◌, ℕ, ◌<◌, ◌⊎◌, inl, inr, arith, refl, sym, ap, ◌∙◌, List, length, Option, None, Some, unwrap_or, slice_index, slice_index_or}
 use Rattle.std.proofs.lemmas.List.FromFn.{get_or-map-range_with_len}
 use Rattle.std.proofs.lemmas.List.{get_or_past}
 use Rattle.sm_market.specs.Lists.{Lists, row, entry, place_of}
@@ -14,7 +14,7 @@ use Rattle.sm_market.proofs.LawsProved.{pair_held}
 use Rattle.sm_theory.specs.Choices.{chosen, chosen_of}
 use Rattle.sm_theory.specs.declared.choice.Choice.{Choice}
 use Rattle.sm_theory.specs.declared.choice.Choice.TheVariants.{Better, Worse}
-use Rattle.sm_theory.specs.Vectors.{level_of, HasLevel, IsWithin}
+use Rattle.sm_theory.specs.Vectors.{level_of, HasLevel, IsWithin, IsAllowed}
 use Rattle.sm_theory.specs.Laws.{MeetIsStable, JoinIsStable, PairIsDivided, MeetKeepsBounds, LevelsDetermine}
 use Rattle.sm_theory.specs.LawsListing.{JoinKeepsBounds}
 use Rattle.sm_theory.proofs.Core.Levels.{no_better}
