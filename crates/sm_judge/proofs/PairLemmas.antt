@@ -69,4 +69,4 @@ module _ {w : Written} {pairs : List (ℕ × ℕ)} {before : Holding} (k : ArePa
   -- a pair that could be added may stand behind those, and one that couldn't may not
   pub joins_by : (after : Holding) (added : Bool) → AddsPair w before after p r added → Joins w pairs (p, r) after added
   joins_by after true a = joined after a
-  joins_by after false a = cant_join a
+  joins_by after false a = cant_join a.0

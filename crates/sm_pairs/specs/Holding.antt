@@ -35,7 +35,7 @@ pub record Added (w : Written) (before after : Holding) (p r : ℕ) : Type 0 whe
   pub places : after.matching.places.items ≡ slice_set before.matching.places.items p (Some (place_of w.proposers p r))
   pub held : IsHolding w after
 
--- true says that the pair was added, and false that it can't be
+-- true says that the pair was added, and false that it can't be and that nothing was changed
 abbrev pub AddsPair : Written → (before after : Holding) → (p r : ℕ) → Bool → Type 0
 AddsPair w before after p r true = Added w before after p r
-AddsPair w before after p r false = CantAdd w before.matching.places.items p r
+AddsPair w before after p r false = CantAdd w before.matching.places.items p r × (after ≡ before)

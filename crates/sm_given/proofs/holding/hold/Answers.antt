@@ -26,7 +26,7 @@ returns-then-not-add-clause-fault c =
       at = c.loop-at.at;
       first = record {
         breach = is_breach w c.args.pairs.now c.loop-at.holding.matching.places.items k (pair_at c.args.pairs.now k).0 (pair_at c.args.pairs.now k).1 c.loop-at-test.true refl
-            (c.requires.there k (0, 0) c.loop-at-test.true).0 c.loop-at.invariant.places c.if-not-add.ensures;
+            (c.requires.there k (0, 0) c.loop-at-test.true).0 c.loop-at.invariant.places c.if-not-add.ensures.0;
         earlier = c.loop-at.invariant.none;
       };
       which_one = refl;
