@@ -33,6 +33,14 @@ keyword_number keyword.Listed = 24
 keyword_number keyword.Tally = 25
 keyword_number keyword.Yes = 26
 keyword_number keyword.No = 27
+keyword_number keyword.SecondGain = 28
+keyword_number keyword.SecondFlow = 29
+keyword_number keyword.SecondValue = 30
+keyword_number keyword.SecondCut = 31
+keyword_number keyword.SecondTotal = 32
+keyword_number keyword.Back = 33
+keyword_number keyword.Forth = 34
+keyword_number keyword.Out = 35
 
 -- whether two keywords are one
 abbrev pub is_same : Keyword → Keyword → Bool

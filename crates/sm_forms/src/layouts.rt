@@ -336,6 +336,9 @@ fn places_of_two(alloc: Global, head: &Head) -> Result<Places, AllocError>
         Head::Pairs => Ok(Places::none(alloc)),
         Head::Survey(_) => Ok(Places::none(alloc)),
         Head::Check => Ok(Places::none(alloc)),
+        Head::Median => Ok(Places::none(alloc)),
+        Head::Route => Ok(Places::none(alloc)),
+        Head::Rest => Ok(Places::none(alloc)),
     }
 }
 

@@ -31,6 +31,7 @@ impl Lines for InstanceLines<'_> {
     ghost most = { λ s. s.count - s.next };
 
     fn put_next(&mut self, _alloc: Global, into: &mut LineWriter) -> Result<bool, AllocError> {
+        let _kind = self.input.kind();
         if self.next >= self.count {
             return Ok(false);
         }
