@@ -10,7 +10,7 @@ ghost use Rattle.sm_top.specs.Accepting.{reads_input};
 ghost use Rattle.sm_top.specs.Outcome.{IsAnswer, IsRefused};
 ghost use Rattle.sm_top.specs.Running.{reads, Answers, AnswersAccepted};
 ghost use Rattle.sm_top.specs.Steps.{Serves, ServesWords, IsRefusalFor, IsRefusal, IsReadFault, SaysStop};
-ghost use Rattle.sm_top.specs.Stops.{StopsBy};
+ghost use Rattle.sm_top.specs.Stops.{StopsBy, IsPlainStop};
 ghost use Rattle.sm_top.specs.Wrote.{Wrote};
 
 use crate::checking::check_answer;
@@ -189,6 +189,7 @@ fn answer<K: Sink>(
 
 /// Says why there is no answer.
 fn say_stop<K: Sink>(alloc: Global, sink: &mut K, stop: Stop) -> Status
+    requires { IsPlainStop stop }
     ensures says { SaysStop stop (K.held sink.old) (K.held sink.new) (K.faults sink.old)
         (K.faults sink.new) result }
     ensures later { K.faults sink.old ≤ K.faults sink.new }
