@@ -7,7 +7,7 @@ use Rattle.sm_instance.specs.Faults.{IsFirstBadAgent, IsFirstBadEntry, IsFirstBa
 use Rattle.sm_instance.specs.declared.kinds.Side.{Side}
 use Rattle.sm_instance.specs.declared.kinds.Side.TheVariants.{Proposers, Reviewers}
 use Rattle.sm_instance.specs.declared.faults.InstanceFault.{InstanceFault}
-use Rattle.sm_instance.specs.declared.faults.InstanceFault.TheVariants.{TooMany, BadAgent, BadEntry, BadPair, OutOfMemory}
+use Rattle.sm_instance.specs.declared.faults.InstanceFault.TheVariants.{TooMany, BadAgent, BadEntry, BadPair, BadOrder, OutOfMemory}
 
 -- the first agent of a side that isn't sound
 abbrev pub IsAgentFault : Side → List AgentData → Bool → InstanceFault → Type 0
@@ -15,6 +15,7 @@ IsAgentFault side agents single TooMany = ⊥
 IsAgentFault side agents single (BadAgent s a) = (s ≡ side) × IsFirstBadAgent agents single a
 IsAgentFault side agents single (BadEntry s a i) = ⊥
 IsAgentFault side agents single (BadPair n) = ⊥
+IsAgentFault side agents single BadOrder = ⊥
 IsAgentFault side agents single OutOfMemory = Unit {0}
 
 -- the first entry of a side that isn't sound
@@ -23,6 +24,7 @@ IsEntryFault side agents others TooMany = ⊥
 IsEntryFault side agents others (BadAgent s a) = ⊥
 IsEntryFault side agents others (BadEntry s a i) = (s ≡ side) × IsFirstBadEntry agents others a i
 IsEntryFault side agents others (BadPair n) = ⊥
+IsEntryFault side agents others BadOrder = ⊥
 IsEntryFault side agents others OutOfMemory = Unit {0}
 
 -- the first entry of a's list that isn't sound
@@ -56,6 +58,7 @@ IsItemFault proposers reviewers weights items TooMany = ⊥
 IsItemFault proposers reviewers weights items (BadAgent s a) = ⊥
 IsItemFault proposers reviewers weights items (BadEntry s a i) = ⊥
 IsItemFault proposers reviewers weights items (BadPair n) = IsFirstBadItem proposers reviewers weights items n
+IsItemFault proposers reviewers weights items BadOrder = ⊥
 IsItemFault proposers reviewers weights items OutOfMemory = Unit {0}
 
 -- the first agent, or the first entry, of both sides that isn't sound; the proposers' side comes first
@@ -65,6 +68,7 @@ AreAgentsFaulty left right single (BadAgent Proposers a) = IsFirstBadAgent left 
 AreAgentsFaulty left right single (BadAgent Reviewers a) = AreSoundAgents left true × IsFirstBadAgent right single a
 AreAgentsFaulty left right single (BadEntry s a i) = ⊥
 AreAgentsFaulty left right single (BadPair n) = ⊥
+AreAgentsFaulty left right single BadOrder = ⊥
 AreAgentsFaulty left right single OutOfMemory = Unit {0}
 
 -- the first entry of both sides that isn't sound; the proposers' side comes first
@@ -74,4 +78,5 @@ AreEntriesFaulty left right (BadAgent s a) = ⊥
 AreEntriesFaulty left right (BadEntry Proposers a i) = IsFirstBadEntry left (length right) a i
 AreEntriesFaulty left right (BadEntry Reviewers a i) = AreSoundEntries left (length right) × IsFirstBadEntry right (length left) a i
 AreEntriesFaulty left right (BadPair n) = ⊥
+AreEntriesFaulty left right BadOrder = ⊥
 AreEntriesFaulty left right OutOfMemory = Unit {0}
