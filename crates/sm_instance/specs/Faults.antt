@@ -77,13 +77,23 @@ IsOrderFault count order (BadPair n) = ⊥
 IsOrderFault count order BadOrder = ¬ IsEachOnce count order
 IsOrderFault count order OutOfMemory = Unit {0}
 
--- the n-th second weight names two agents, is of a size of at most 1,000,000,000, and is given to a pair that has a weight and is
--- given no earlier one
+-- a pair is one of these
+pub record IsPairAmong (pairs : List (ℕ × ℕ)) (pair : ℕ × ℕ) : Type 0 where
+  pub at : ℕ
+  pub there : at < length pairs
+  pub is : pair_at pairs at ≡ pair
+
+-- the n-th second weight is of a size of at most 1,000,000,000, and is given to one of these pairs, and to none that an earlier one
+-- is given to
+pub record IsSecondOf (pairs : List (ℕ × ℕ)) (seconds : List (ℕ × ℕ × ℤ)) (n : ℕ) : Type 0 where
+  pub size : unsigned_abs (slice_index_or seconds n (0, 0, pos 0)).2 ≤ most_weight
+  pub among : IsPairAmong pairs (pair_at (map weighed seconds) n)
+  pub fresh : (k : ℕ) → k < n → pair_at (map weighed seconds) k ≢ pair_at (map weighed seconds) n
+
+-- the n-th second weight names two agents of the instance, and is one for the pairs that have a weight
 pub record IsSoundSecond (w : Written) (seconds : List (ℕ × ℕ × ℤ)) (n : ℕ) : Type 0 where
   pub pair : IsPairOf (length w.proposers) (length w.reviewers) (pair_at (map weighed seconds) n)
-  pub size : unsigned_abs (slice_index_or seconds n (0, 0, pos 0)).2 ≤ most_weight
-  pub has_weight : (k : ℕ) × (k < length w.weights) × (pair_at (map weighed w.weights) k ≡ pair_at (map weighed seconds) n)
-  pub fresh : (k : ℕ) → k < n → pair_at (map weighed seconds) k ≢ pair_at (map weighed seconds) n
+  pub second : IsSecondOf (map weighed w.weights) seconds n
 
 -- the n-th second weight is the first that isn't sound
 pub record IsFirstBadSecond (w : Written) (seconds : List (ℕ × ℕ × ℤ)) (n : ℕ) : Type 0 where

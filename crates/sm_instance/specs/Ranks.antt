@@ -41,11 +41,15 @@ pair_weight Given w p (Some i) = given_weight w p (entry w.proposers p i)
 abbrev pub weight_of : Measure → Written → List (Option ℕ) → ℤ
 weight_of by w places = fold ◌+ℤ◌ (pos 0) (map (λ p. pair_weight by w p (held places p)) (range_with_len 0 (length w.proposers)))
 
--- a pair has a second weight that isn't 0
-pub record HasSeconds (w : Written) : Type 0 where
+-- one of these numbers isn't 0
+pub record HasNonzero (numbers : List ℤ) : Type 0 where
   pub at : ℕ
-  pub there : at < length w.seconds
-  pub set : slice_index_or w.seconds at (pos 0) ≢ pos 0
+  pub there : at < length numbers
+  pub isnt : slice_index_or numbers at (pos 0) ≢ pos 0
+
+-- a pair has a second weight that isn't 0
+abbrev pub HasSeconds : Written → Type 0
+HasSeconds w = HasNonzero w.seconds
 
 -- the second weight of p and its partner, 0 where p is unmatched
 abbrev pub pair_second : Written → ℕ → Option ℕ → ℤ

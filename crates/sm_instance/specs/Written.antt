@@ -102,4 +102,4 @@ second_weight w p r = slice_index_or w.seconds (weight_number w.weights p r) (po
 
 -- for each of some weights, the second weight that others give to its pair
 abbrev pub seconds_among : List (ℕ × ℕ × ℤ) → List (ℕ × ℕ × ℤ) → List ℤ
-seconds_among weights seconds = map (λ x. weight_among seconds x.0 x.1) weights
+seconds_among weights seconds = map (λ pair. weight_among seconds pair.0 pair.1) (map weighed weights)

@@ -239,7 +239,7 @@ impl Instance {
         ensures same { OnErr result (self.new ≡ self.old) }
     {
         let alloc = *self.seconds.allocator();
-        let given = checked_seconds(alloc, &self.weighed, &self.weights, &seconds)?;
+        let given = checked_seconds(alloc, &self.weighed, &seconds)?;
         set_seconds(&mut self.seconds, &given);
         Ok(())
     }

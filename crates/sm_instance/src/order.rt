@@ -1,6 +1,6 @@
 //! Orders of the proposers.
 
-ghost use Rattle.std.specs.Prelude.{◌≡◌, ◌≢◌, ℕ, ◌<◌, ◌↔◌, length, true, slice_index_or, false, IsTrue, IfOk};
+ghost use Rattle.std.specs.Prelude.{◌≡◌, ℕ, ◌<◌, ◌≤◌, ◌↔◌, length, false, slice_index_or, IsTrue, IfOk};
 ghost use Rattle.std.specs.List.{range_with_len};
 ghost use Rattle.sm_instance.specs.Sound.{IsEachOnce};
 
@@ -14,13 +14,14 @@ pub(crate) fn is_each_once(alloc: Global, count: u32, order: &[u32]) -> Result<b
         return Ok(false);
     }
     let mut met = vec![in alloc; false; count as usize]?;
-    Ok(differ(order, &mut met))
+    Ok(mark_each(order, met.as_mut_slice()))
 }
 
-/// Whether the numbers of an order are places of these marks, none of which is set, and differ.
-fn differ(order: &[u32], met: &mut [bool]) -> bool
-    requires { (p : ℕ) → slice_index_or met.old p false ≡ false }
-    ensures { IsTrue result ↔ AreBelowAndDiffer (length met.old) order.now }
+/// Marks the numbers of an order, and answers whether each has a mark and none was marked before.
+fn mark_each(order: &[u32], met: &mut [bool]) -> bool
+    requires as_many { length order.now ≡ length met.old }
+    requires unmet { (p : ℕ) → slice_index_or met.old p false ≡ false }
+    ensures { IsTrue result ↔ IsEachOnce (length met.old) order.now }
 {
     for n in 0..order.len() {
         let p = order[n] as usize;

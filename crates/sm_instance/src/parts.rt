@@ -1,7 +1,8 @@
 //! What an instance is made of.
 
-ghost use Rattle.std.specs.Prelude.{◌≡◌, ◌<◌, ◌^◌, length, IfOk};
-ghost use Rattle.sm_instance.specs.Vectors.{written_from, written_in};
+ghost use Rattle.std.specs.Prelude.{◌≡◌, ◌≤◌, length, IfOk};
+ghost use Rattle.sm_text.specs.Limits.{most_agents};
+ghost use Rattle.sm_instance.specs.Vectors.{agents_of, written_from, written_in};
 
 use crate::agents::Agent;
 use crate::kinds::Kind;
@@ -39,7 +40,7 @@ impl Parts {
         forced: Vec<(u32, u32)>,
         forbidden: Vec<(u32, u32)>,
     ) -> Result<Parts, AllocError>
-        requires few { length proposers.items < 2 ^ 32 }
+        requires few { length (agents_of proposers.items) ≤ most_agents }
         ensures { IfOk result (λ parts. written_in parts ≡ written_from kind
             proposers.items reviewers.items weights.items forced.items forbidden.items) }
     {

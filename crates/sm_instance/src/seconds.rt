@@ -1,30 +1,41 @@
 //! Second weights of pairs.
 
-ghost use Rattle.std.specs.Prelude.{◌≡◌, ◌≢◌, ℕ, ◌<◌, ◌^◌, ◌↔◌, length, map, pos, IsTrue, IfOk, IfErr, unwrap_or, slice_index_or};
-ghost use Rattle.sm_instance.specs.Written.{weighed as weighed_pair, seconds_among};
-ghost use Rattle.sm_instance.specs.Seconds.{IsSecondsFault, HasNonzero};
+ghost use Rattle.std.specs.Prelude.{◌≡◌, ◌≢◌, ℕ, ◌<◌, ◌^◌, ◌↔◌, length, map, pos, unwrap_or, IsTrue, IfOk, IfErr, OnOk};
+ghost use Rattle.sm_lists.specs.Pairs.{pair_at};
+ghost use Rattle.sm_instance.specs.Written.{weight_among};
+ghost use Rattle.sm_instance.specs.Checks.{AreGiven, IsGivenFault};
+ghost use Rattle.sm_instance.specs.Ranks.{HasNonzero};
 
 use crate::faults::InstanceFault;
 use crate::pairs::Pairs;
 use sm_text::MOST_WEIGHT;
 use std::alloc::Global;
 
-/// The second weights that some items give to the pairs that are weighed, or the first item that isn't sound.
+/// The second weight that some items give to each of these pairs, where they give one, or the first item that isn't sound.
 pub(crate) fn checked_seconds(
     alloc: Global,
-    weighed: &Pairs,
+    pairs: &Pairs,
     seconds: &[(u32, u32, i64)],
-) -> Result<Vec<Option<i64>>, InstanceFault> {
-    let mut given = vec![in alloc; None; weighed.len()]?;
+) -> Result<Vec<Option<i64>>, InstanceFault>
+    requires few { length seconds.now < 2 ^ 24 }
+    requires differ { (n k : ℕ) → k < n → n < length pairs.now
+        → pair_at pairs.now k ≢ pair_at pairs.now n }
+    ensures given { IfOk result (λ given. AreGiven pairs.now seconds.now (length seconds.now) given.items) }
+    ensures fault { IfErr result (λ f. IsGivenFault pairs.now seconds.now f) }
+{
+    let mut given = vec![in alloc; None; pairs.len()]?;
     for n in 0..seconds.len() as u32 {
         let (p, r, second) = seconds[n as usize];
         if second.unsigned_abs() > MOST_WEIGHT.unsigned_abs() {
             return Err(InstanceFault::BadPair(n));
         }
-        match weighed.find((p, r)) {
-            Some(k) if given[k].is_none() => given[k] = Some(second),
-            _ => return Err(InstanceFault::BadPair(n)),
+        let Some(k) = pairs.find((p, r)) else {
+            return Err(InstanceFault::BadPair(n));
+        };
+        if given[k].is_some() {
+            return Err(InstanceFault::BadPair(n));
         }
+        given[k] = Some(second);
     }
     Ok(given)
 }
