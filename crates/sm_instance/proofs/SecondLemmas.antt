@@ -1,21 +1,34 @@
 -- Second weights, one after another.
-use Rattle.std.proofs.Common.{◌≡◌, ◌≢◌, ℕ, zero, suc, ◌+◌, ◌<◌, ◌≤◌, Bool, true, false, List, [], ◌∷◌, Option, Some, None, length, map, get_or, set, refl, sym, ap, subst, ◌∙◌, arith, ℤ, pos, ⊎_elim, unwrap_or}
+use Rattle.std.proofs.Common.{◌≡◌, ◌≢◌, ℕ, zero, suc, ◌+◌, ◌<◌, ◌≤◌, Bool, true, false, List, [], ◌∷◌, Option, Some, None, length, map, replicate, get_or, set, refl, sym, ap, subst, ◌∙◌, arith, ℤ, pos, ⊎_elim, unwrap_or}
 use Rattle.std.specs.List.{All, position, position_or_len}
+use Rattle.std.specs.Option.{is_some}
 use Rattle.std.specs.Int.RustNames.{unsigned_abs}
-use Rattle.std.proofs.lemmas.Bool.{cases_lt}
-use Rattle.std.proofs.lemmas.List.{length-map, get_or-map, get_or_past, same_lists}
-use Rattle.std.proofs.lemmas.List.Sums.{position_or_len_is}
+use Rattle.std.proofs.lemmas.Bool.{false≢true, cases_lt}
+use Rattle.std.proofs.lemmas.List.{length-map, length-set, get_or-map, get_or_past, same_lists}
+use Rattle.std.proofs.lemmas.List.Sums.{position_or_len_is, fails_before_first}
+use Rattle.std.proofs.lemmas.Grind.{common_steps}
 use Rattle.std.proofs.lemmas.Option.{none-some, same_Some}
 use Rattle.sm_text.specs.Limits.{most_weight}
 use Rattle.sm_lists.specs.Pairs.{pair_at}
 use Rattle.sm_lists.proofs.ItemLemmas.{set_cases}
 use Rattle.sm_instance.specs.Written.{Written, weighed, is_same_pair, weight_number, weight_among, seconds_among}
 use Rattle.sm_instance.specs.Sound.{IsPairOf, IsInstance}
-use Rattle.sm_instance.specs.Faults.{IsPairAmong, IsSecondOf, IsSoundSecond, IsSecondFault}
+use Rattle.sm_instance.specs.Faults.{IsSecondOf, IsSoundSecond, IsSecondFault}
+use Rattle.sm_instance.specs.Kept.{IsKept}
+use Rattle.sm_instance.specs.declared.namings.Naming.{Naming}
 use Rattle.sm_instance.specs.Checks.{IsGivenBefore, AreGiven, IsGivenFault}
 use Rattle.sm_instance.specs.declared.faults.InstanceFault.{InstanceFault}
 use Rattle.sm_instance.specs.declared.faults.InstanceFault.TheVariants.{TooMany, BadAgent, BadEntry, BadPair, BadOrder, OutOfMemory}
 use Rattle.sm_instance.proofs.ItemLemmas.{same_pair, pair_same, length-weighed, weights_in_range}
+
+-- what isn't there by a test
+pub none_of : {X : Type 0} (o : Option X) → is_some o ≡ false → o ≡ None
+none_of (Some x) t = absurd (false≢true (sym t))
+none_of None t = refl
+
+-- a test that finds no place passes nowhere
+pub position-none : {X : Type 0} (p : X → Bool) (xs : List X) → position p xs ≡ None → (k : ℕ) (d : X) → k < length xs → p (get_or xs k d) ≡ false
+position-none p xs none k d l = let past : length xs ≤ position_or_len p xs = grind (arith, common_steps) in fails_before_first p xs k d (omega arith)
 
 -- pairs that differ don't pass the test of being one
 other_pair : (x y : ℕ × ℕ) → x ≢ y → is_same_pair x y ≡ false
@@ -75,6 +88,11 @@ given_seconds weights seconds given a =
     let there : k < length pairs = omega (arith, inside, a.one_each) in
     get_or-map f given k None d inside ∙ among a k (pair_at pairs k).0 (pair_at pairs k).1 (get_or given k None) there refl refl ∙ sym (get_or-map g pairs k (0, 0) d there))
 
+-- as many zeros as things
+pub zeros : {X : Type 0} (xs : List X) → replicate (length xs) (pos 0) ≡ map (λ _. pos 0) xs
+zeros [] = refl
+zeros (x ∷ xs) = ap (λ ns. pos 0 ∷ ns) (zeros xs)
+
 -- second weights that are all 0 are small
 pub zeros_small : {X : Type 0} (xs : List X) → All (λ s. unsigned_abs s ≤ most_weight) (map (λ _. pos 0) xs)
 zeros_small [] k d l = absurd (omega (arith, l))
@@ -98,11 +116,16 @@ module _ {pairs : List (ℕ × ℕ)} {seconds : List (ℕ × ℕ × ℤ)} {given
   pub already : (s : ℤ) → get_or given k None ≡ Some s → pair_at pairs k ≡ pair_at (map weighed seconds) n → ¬ IsSecondOf pairs seconds n
   already s e is sound = let b = a.some k s e in sound.fresh b.at b.before (b.pair_is ∙ is)
 
+  -- the same by a test
+  pub already_some : (o : Option ℤ) → get_or given k None ≡ o → is_some o ≡ true → pair_at pairs k ≡ pair_at (map weighed seconds) n → ¬ IsSecondOf pairs seconds n
+  already_some (Some s) e t is = already s e is
+  already_some None e t is = absurd (false≢true t)
+
   -- an item for a pair that is given none yet
   pub given_more : ((i j : ℕ) → j < i → i < length pairs → pair_at pairs j ≢ pair_at pairs i) → unsigned_abs (second n) ≤ most_weight
       → k < length pairs → pair_at pairs k ≡ pair_at (map weighed seconds) n → get_or given k None ≡ None → AreGiven pairs seconds (n + 1) (set given k (Some (second n)))
-  given_more differ small there is none = record {
-    one_each = a.one_each;
+  given_more differ fits there is none = record {
+    one_each = length-set given k (Some (second n)) ∙ a.one_each;
     sound = λ j l. ⊎_elim (λ before. a.sound j before) (λ past. subst (IsSecondOf pairs seconds) (let e : n ≡ j = omega (arith, l, past) in e) here) (cases_lt j n);
     some = λ m. set_cases (λ i x. (s : ℤ) → x ≡ Some s → IsGivenBefore seconds (n + 1) (pair_at pairs i) s) given k (Some (second n)) None inside
         (λ s e. record { at = n; before = omega arith; pair_is = sym is; second_is = same_Some (second n) s e })
@@ -120,7 +143,7 @@ module _ {pairs : List (ℕ × ℕ)} {seconds : List (ℕ × ℕ × ℤ)} {given
 
       here : IsSecondOf pairs seconds n
       here = record {
-        size = small;
+        size = fits;
         among = record { at = k; there = there; is = is };
         fresh = λ j before same. none-some _ (sym none ∙ a.all j k before there (is ∙ sym same));
       }
@@ -154,4 +177,18 @@ with_seconds i seconds each small = record {
   seconds_each = each;
   seconds_small = small;
   order = i.order;
+}
+
+-- what is kept beside an instance stays with other second weights
+pub kept_with_seconds : {w : Written} {crosses reviewer_crosses : List (List (Option ℕ))} {namings : List (List Naming)} {left right : List (List ℕ)} {pairs : List (ℕ × ℕ)} → IsKept w crosses reviewer_crosses namings left right pairs
+    → (seconds : List ℤ) → length seconds ≡ length w.weights → All (λ s. unsigned_abs s ≤ most_weight) seconds → IsKept (record w { seconds = seconds }) crosses reviewer_crosses namings left right pairs
+kept_with_seconds k seconds each small = record {
+  instance = with_seconds k.instance seconds each small;
+  few = k.few;
+  crossed = k.crossed;
+  crossed_back = k.crossed_back;
+  named = k.named;
+  lefts = k.lefts;
+  rights = k.rights;
+  weighed_pairs = k.weighed_pairs;
 }

@@ -3,9 +3,9 @@ use Rattle.std.specs.Prelude.{◌≡◌, ℕ, List, [], ◌∷◌, Option, Some,
 use Rattle.sm_instance.specs.Written.{AgentData, Written, plain_written}
 use Rattle.sm_instance.specs.Matching.{load, IsMatching}
 use Rattle.sm_instance.specs.Stable.{Blocks, IsStable}
-use Rattle.sm_instance.specs.Ranks.{rank_vector_of, regret_of, weight_of}
+use Rattle.sm_instance.specs.Ranks.{rank_vector_of, regret_of, weight_of, second_weight_of}
 use Rattle.sm_instance.specs.Allowed.{IsAllowed}
-use Rattle.sm_instance.specs.Sound.{ArePersons}
+use Rattle.sm_instance.specs.Sound.{IsEachOnce, ArePersons}
 use Rattle.sm_instance.specs.declared.kinds.Kind.TheVariants.{Marriage, Hospitals}
 use Rattle.sm_instance.specs.declared.kinds.Measure.TheVariants.{Ranks, Given}
 
@@ -80,6 +80,16 @@ abbrev pub InertEntryCounts : Type 0
 InertEntryCounts = (rank_vector_of inert_entry (None ∷ Some 0 ∷ []) ≡ 3 ∷ 1 ∷ [])
     × (rank_vector_of inert_entry (Some 1 ∷ None ∷ []) ≡ 2 ∷ 2 ∷ [])
     × (regret_of inert_entry (Some 1 ∷ None ∷ []) ≡ 2)
+
+-- the small hospitals with the second weights 3 of (a, h) and -2 of (c, h): a second weight counts for a pair that is matched,
+-- and is 0 where none is given
+abbrev pub SecondsCount : Type 0
+SecondsCount = let w = record small_hospitals { seconds = pos 3 ∷ negsuc 1 ∷ [] } in
+    (second_weight_of w settled ≡ negsuc 1) × (second_weight_of w left_over ≡ pos 1) × (second_weight_of small_hospitals left_over ≡ pos 0)
+
+-- 2 0 1 has each of three numbers once, and 2 0 0 3 not each of four
+abbrev pub OrdersHaveEach : Type 0
+OrdersHaveEach = IsEachOnce 3 (2 ∷ 0 ∷ 1 ∷ []) × (¬ IsEachOnce 4 (2 ∷ 0 ∷ 0 ∷ 3 ∷ []))
 
 -- persons 1: 2 1 and 2: 1: a person may list itself
 abbrev pub persons : List AgentData

@@ -1,4 +1,4 @@
-use Rattle.std.proofs.Common.{◌≡◌, length}
+use Rattle.std.proofs.Common.{length}
 use Rattle.sm_instance.specs.Checks.{AreApart, AreMarked}
 use Rattle.sm_instance.proofs.order.mark_each.Given as goal
 
