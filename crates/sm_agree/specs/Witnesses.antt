@@ -1,6 +1,6 @@
 -- Right answers that are known by hand, so that no law is about nothing.
 use Rattle.std.specs.Prelude.{ℕ, List, [], ◌∷◌, Option, None, Some, codes, pos, negsuc}
-use Rattle.sm_instance.specs.Written.{AgentData, Written}
+use Rattle.sm_instance.specs.Written.{AgentData, Written, plain_written}
 use Rattle.sm_instance.specs.Sound.{IsInstance}
 use Rattle.sm_instance.specs.Witnesses.{agent}
 use Rattle.sm_instance.specs.declared.kinds.Kind.TheVariants.{Marriage}
@@ -29,14 +29,10 @@ placed line agent = record agent { line = line }
 
 -- a proposer m and a reviewer w, who list each other
 abbrev pub one_pair : Written
-one_pair = record {
-  kind = Marriage;
-  proposers = placed 2 (agent 109 1 (0 ∷ [])) ∷ [];
-  reviewers = placed 3 (agent 119 1 (0 ∷ [])) ∷ [];
-  weights = [];
-  forced = [];
-  forbidden = [];
-}
+one_pair = plain_written Marriage
+    (placed 2 (agent 109 1 (0 ∷ [])) ∷ [])
+    (placed 3 (agent 119 1 (0 ∷ [])) ∷ [])
+    [] [] []
 
 -- their only stable matching
 abbrev pub together : List (Option ℕ)
@@ -92,14 +88,10 @@ Circles = IsMatched circle (LineData.Answer (HeadData.Solve None) ∷ LineData.P
 
 -- three proposers, each of whom likes another reviewer best, and three reviewers, each of whom likes another proposer best
 abbrev pub three_by_three : Written
-three_by_three = record {
-  kind = Marriage;
-  proposers = placed 2 (agent 109 1 (0 ∷ 1 ∷ 2 ∷ [])) ∷ placed 3 (agent 110 1 (1 ∷ 2 ∷ 0 ∷ [])) ∷ placed 4 (agent 111 1 (2 ∷ 0 ∷ 1 ∷ [])) ∷ [];
-  reviewers = placed 5 (agent 97 1 (1 ∷ 2 ∷ 0 ∷ [])) ∷ placed 6 (agent 98 1 (2 ∷ 0 ∷ 1 ∷ [])) ∷ placed 7 (agent 99 1 (0 ∷ 1 ∷ 2 ∷ [])) ∷ [];
-  weights = [];
-  forced = [];
-  forbidden = [];
-}
+three_by_three = plain_written Marriage
+    (placed 2 (agent 109 1 (0 ∷ 1 ∷ 2 ∷ [])) ∷ placed 3 (agent 110 1 (1 ∷ 2 ∷ 0 ∷ [])) ∷ placed 4 (agent 111 1 (2 ∷ 0 ∷ 1 ∷ [])) ∷ [])
+    (placed 5 (agent 97 1 (1 ∷ 2 ∷ 0 ∷ [])) ∷ placed 6 (agent 98 1 (2 ∷ 0 ∷ 1 ∷ [])) ∷ placed 7 (agent 99 1 (0 ∷ 1 ∷ 2 ∷ [])) ∷ [])
+    [] [] []
 
 -- the right answer of `rotations`: the first seat of each, and two rotations, of which the second needs the first
 abbrev pub two_rotations : List LineData
@@ -121,14 +113,10 @@ ThreeByThree = IsInstance three_by_three × AreFewSeats three_by_three × IsRota
 
 -- the same, of whom the first proposer weighs 4 with its second choice and -10 with its third one
 abbrev pub weighed_three : Written
-weighed_three = record {
-  kind = Marriage;
-  proposers = three_by_three.proposers;
-  reviewers = three_by_three.reviewers;
-  weights = (0, 1, pos 4) ∷ (0, 2, negsuc 9) ∷ [];
-  forced = [];
-  forbidden = [];
-}
+weighed_three = plain_written Marriage
+    (three_by_three.proposers)
+    (three_by_three.reviewers)
+    ((0, 1, pos 4) ∷ (0, 2, negsuc 9) ∷ []) [] []
 
 -- a right answer of `weight`
 abbrev pub WeighedThree : Type 0

@@ -1,6 +1,6 @@
 -- Worked answers and their verdicts, so that the definition of a verdict is not about nothing.
 use Rattle.std.specs.Prelude.{ℕ, List, [], ◌∷◌, None, codes}
-use Rattle.sm_instance.specs.Written.{AgentData, Written}
+use Rattle.sm_instance.specs.Written.{AgentData, Written, plain_written}
 use Rattle.sm_instance.specs.declared.inputs.Input.TheVariants.{Two, Room}
 use Rattle.sm_instance.specs.declared.kinds.Kind.TheVariants.{Marriage}
 use Rattle.sm_report.specs.Heads.{HeadData}
@@ -47,14 +47,10 @@ OddAnswers = IsJudged (Room five) (odd_answer (codes "party 1 2 3")) 8 verdict.Y
 
 -- two proposers and two reviewers, each of whom likes another of the proposers
 abbrev pub two_by_two : Written
-two_by_two = record {
-  kind = Marriage;
-  proposers = agent (codes "m1") 2 (0 ∷ 1 ∷ []) ∷ agent (codes "m2") 3 (1 ∷ 0 ∷ []) ∷ [];
-  reviewers = agent (codes "a") 4 (1 ∷ 0 ∷ []) ∷ agent (codes "b") 5 (0 ∷ 1 ∷ []) ∷ [];
-  weights = [];
-  forced = [];
-  forbidden = [];
-}
+two_by_two = plain_written Marriage
+    (agent (codes "m1") 2 (0 ∷ 1 ∷ []) ∷ agent (codes "m2") 3 (1 ∷ 0 ∷ []) ∷ [])
+    (agent (codes "a") 4 (1 ∷ 0 ∷ []) ∷ agent (codes "b") 5 (0 ∷ 1 ∷ []) ∷ [])
+    [] [] []
 
 -- the reviewers' best matching in place of the proposers' best one, and no rotation
 abbrev pub worst_first : List LineData

@@ -1,6 +1,6 @@
 -- Three proposers and three reviewers, the answer of `weight by=given` over them, and what is wrong with others.
 use Rattle.std.specs.Prelude.{◌≡◌, ℕ, true, List, [], ◌∷◌, codes, pos, negsuc}
-use Rattle.sm_instance.specs.Written.{Written}
+use Rattle.sm_instance.specs.Written.{Written, plain_written}
 use Rattle.sm_instance.specs.declared.kinds.Kind.TheVariants.{Marriage}
 use Rattle.sm_instance.specs.declared.kinds.Measure.TheVariants.{Given}
 use Rattle.sm_instance.specs.declared.inputs.Input.TheVariants.{Two}
@@ -26,14 +26,10 @@ use Rattle.sm_report.specs.Witnesses.{first_seat_of}
 -- each proposer likes another reviewer best, and each reviewer another proposer; the first proposer weighs 4 with b and -10
 -- with c
 abbrev pub three_by_three : Written
-three_by_three = record {
-  kind = Marriage;
-  proposers = agent (codes "m1") 2 (0 ∷ 1 ∷ 2 ∷ []) ∷ agent (codes "m2") 3 (1 ∷ 2 ∷ 0 ∷ []) ∷ agent (codes "m3") 4 (2 ∷ 0 ∷ 1 ∷ []) ∷ [];
-  reviewers = agent (codes "a") 5 (1 ∷ 2 ∷ 0 ∷ []) ∷ agent (codes "b") 6 (2 ∷ 0 ∷ 1 ∷ []) ∷ agent (codes "c") 7 (0 ∷ 1 ∷ 2 ∷ []) ∷ [];
-  weights = (0, 1, pos 4) ∷ (0, 2, negsuc 9) ∷ [];
-  forced = [];
-  forbidden = [];
-}
+three_by_three = plain_written Marriage
+    (agent (codes "m1") 2 (0 ∷ 1 ∷ 2 ∷ []) ∷ agent (codes "m2") 3 (1 ∷ 2 ∷ 0 ∷ []) ∷ agent (codes "m3") 4 (2 ∷ 0 ∷ 1 ∷ []) ∷ [])
+    (agent (codes "a") 5 (1 ∷ 2 ∷ 0 ∷ []) ∷ agent (codes "b") 6 (2 ∷ 0 ∷ 1 ∷ []) ∷ agent (codes "c") 7 (0 ∷ 1 ∷ 2 ∷ []) ∷ [])
+    ((0, 1, pos 4) ∷ (0, 2, negsuc 9) ∷ []) [] []
 
 -- an answer with these amounts on its three edges and this value
 abbrev pub weight_lines : (to_second from_first to_first value : ℕ) → List LineData

@@ -5,7 +5,7 @@ use Rattle.sm_instance.specs.Written.{weighed}
 use Rattle.sm_instance.specs.Sound.{items_of}
 use Rattle.sm_instance.specs.Checks.{IsItemFault}
 use Rattle.sm_instance.specs.declared.faults.InstanceFault.{InstanceFault}
-use Rattle.sm_instance.specs.declared.faults.InstanceFault.TheVariants.{TooMany, BadAgent, BadEntry, BadPair, OutOfMemory}
+use Rattle.sm_instance.specs.declared.faults.InstanceFault.TheVariants.{TooMany, BadAgent, BadEntry, BadPair, BadOrder, OutOfMemory}
 use Rattle.sm_instance.proofs.ItemLemmas.{bad_first}
 
 -- an error that is handed on
@@ -19,4 +19,5 @@ weights_faulty weights forced forbidden p r TooMany h = h
 weights_faulty weights forced forbidden p r (BadAgent side a) h = h
 weights_faulty weights forced forbidden p r (BadEntry side a i) h = h
 weights_faulty weights forced forbidden p r (BadPair n) h = bad_first weights forced forbidden p r n h
+weights_faulty weights forced forbidden p r BadOrder h = h
 weights_faulty weights forced forbidden p r OutOfMemory h = h

@@ -150,6 +150,12 @@ module _ (weights : List (ℕ × ℕ × ℤ)) (forced forbidden : List (ℕ × �
         let all = length-items in let there = b.there in
         record { there = omega arith; bad = λ s. b.bad (subst (IsPairOf p r) (item_third j) s.pair); earlier = sound_forbidden ws fs j b.earlier }
 
+-- the pairs that have a weight are of agents of the instance
+pub weights_in_range : {w : Written} → IsInstance w → (n : ℕ) → n < length w.weights → IsPairOf (length w.proposers) (length w.reviewers) (pair_at (map weighed w.weights) n)
+weights_in_range {w} i n l =
+    let all = length-items w.weights w.forced w.forbidden in
+    subst (IsPairOf (length w.proposers) (length w.reviewers)) (item_first w.weights w.forced w.forbidden n l) (i.items n (omega arith)).pair
+
 -- forced and forbidden pairs name agents
 pub forced_in_range : {w : Written} → IsInstance w → (n : ℕ) → n < length w.forced → IsPairOf (length w.proposers) (length w.reviewers) (pair_at w.forced n)
 forced_in_range {w} i n l =

@@ -5,6 +5,8 @@ pub mod NamingLemmas
 pub mod CrossLemmas
 pub mod LoadLemmas
 pub mod ItemLemmas
+pub mod OrderLemmas
+pub mod SecondLemmas
 pub mod FaultLemmas
 pub mod AcceptLemmas
 pub mod BreachLemmas

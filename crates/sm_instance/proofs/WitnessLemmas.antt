@@ -9,7 +9,8 @@ use Rattle.sm_instance.specs.Written.{agent_at, row, entry, place_of, capacity_o
 use Rattle.sm_instance.specs.Matching.{held, is_at, load, IsMatching}
 use Rattle.sm_instance.specs.Stable.{HasWorse, Blocks}
 use Rattle.sm_instance.specs.Sound.{IsSoundAgent, IsSoundEntry}
-use Rattle.sm_instance.specs.Witnesses.{small_hospitals, settled, left_over, passed_over, persons, NobodyBlocks, FreePlaceBlocks, WorseResidentBlocks, NoMatchings, InertEntryCounts, OwnName}
+use Rattle.sm_instance.proofs.OrderLemmas.{apart_each_once}
+use Rattle.sm_instance.specs.Witnesses.{small_hospitals, settled, left_over, passed_over, persons, NobodyBlocks, FreePlaceBlocks, WorseResidentBlocks, NoMatchings, InertEntryCounts, SecondsCount, OrdersHaveEach, OwnName}
 
 -- what holds of the place that three proposers hold, where they hold one
 each : (P : ℕ → ℕ → Type 0) (a b c : Option ℕ) → IfSome a (P 0) → IfSome b (P 1) → IfSome c (P 2) → (p i : ℕ) → held (a ∷ b ∷ c ∷ []) p ≡ Some i → P p i
@@ -129,6 +130,29 @@ no_matchings_are = ((λ m. let a = m.acceptable 2 1 refl in omega (arith, a.revi
 -- an inert entry counts as said
 pub inert_entry_is : InertEntryCounts
 inert_entry_is = (refl, refl, refl)
+
+-- second weights count as said
+pub seconds_count : SecondsCount
+seconds_count = (refl, refl, refl)
+
+-- an order that has each number once, and one that has not
+pub orders_have_each : OrdersHaveEach
+orders_have_each = (apart_each_once (2 ∷ 0 ∷ 1 ∷ []) 3 refl (record { in_range = below; once = differ }), λ o. o.once 1 2 (omega arith) (omega arith) refl)
+  where
+    below : (j : ℕ) → j < 3 → slice_index (2 ∷ 0 ∷ 1 ∷ []) j < 3
+    below zero l = omega arith
+    below (suc zero) l = omega arith
+    below (suc (suc zero)) l = omega arith
+    below (suc (suc (suc j))) l = absurd (omega (arith, l))
+
+    differ : (i j : ℕ) → i < j → j < 3 → slice_index (2 ∷ 0 ∷ 1 ∷ []) i ≢ slice_index (2 ∷ 0 ∷ 1 ∷ []) j
+    differ i zero less l e = omega (arith, less)
+    differ zero (suc zero) less l e = omega (arith, e)
+    differ (suc i) (suc zero) less l e = omega (arith, less)
+    differ zero (suc (suc zero)) less l e = omega (arith, e)
+    differ (suc zero) (suc (suc zero)) less l e = omega (arith, e)
+    differ (suc (suc i)) (suc (suc zero)) less l e = omega (arith, less)
+    differ i (suc (suc (suc j))) less l e = omega (arith, l)
 
 -- persons may list themselves
 pub own_name_is : OwnName

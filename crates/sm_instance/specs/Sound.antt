@@ -1,6 +1,6 @@
 -- What an instance has to meet: its limits, its agents, its entries and its pairs.
-use Rattle.std.specs.Prelude.{◌≡◌, ◌≢◌, ℕ, ◌+◌, ◌<◌, ◌≤◌, Bool, true, false, IsTrue, List, [], length, map, ◌++◌, slice_index_or, ℤ, pos}
-use Rattle.std.specs.List.{sum_by}
+use Rattle.std.specs.Prelude.{◌≡◌, ◌≢◌, ℕ, ◌+◌, ◌<◌, ◌≤◌, Bool, true, false, IsTrue, List, [], length, map, ◌++◌, slice_index, slice_index_or, ℤ, pos}
+use Rattle.std.specs.List.{sum_by, All}
 use Rattle.std.specs.Int.RustNames.{unsigned_abs}
 use Rattle.sm_lists.specs.Pairs.{pair_at}
 use Rattle.sm_text.specs.Limits.{most_agents, most_entries, most_capacity, most_weight}
@@ -55,6 +55,12 @@ pub record IsSoundItem (proposers reviewers : ℕ) (weights : List (ℕ × ℕ �
   pub size : n < length weights → unsigned_abs (slice_index_or weights n (0, 0, pos 0)).2 ≤ most_weight
   pub fresh : n < length weights → (k : ℕ) → k < n → pair_at items k ≢ pair_at items n
 
+-- an order has each of so many numbers once
+pub record IsEachOnce (count : ℕ) (order : List ℕ) : Type 0 where
+  pub in_range : (j : ℕ) → j < length order → slice_index order j < count
+  pub once : (i j : ℕ) → i < j → j < length order → slice_index order i ≢ slice_index order j
+  pub each : (p : ℕ) → p < count → (j : ℕ) × (j < length order) × (slice_index order j ≡ p)
+
 -- whether every reviewer has a single place
 abbrev pub is_single : Kind → Bool
 is_single Marriage = true
@@ -70,6 +76,9 @@ pub record IsInstance (w : Written) : Type 0 where
   pub proposer_entries : AreSoundEntries w.proposers (length w.reviewers)
   pub reviewer_entries : AreSoundEntries w.reviewers (length w.proposers)
   pub items : let items = items_of w.weights w.forced w.forbidden in (n : ℕ) → n < length items → IsSoundItem (length w.proposers) (length w.reviewers) w.weights items n
+  pub seconds_each : length w.seconds ≡ length w.weights
+  pub seconds_small : All (λ s. unsigned_abs s ≤ most_weight) w.seconds
+  pub order : IsEachOnce (length w.proposers) w.order
 
 -- an instance of roommates: persons who list each other
 pub record ArePersons (persons : List AgentData) : Type 0 where

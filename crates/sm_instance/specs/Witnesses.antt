@@ -1,11 +1,11 @@
 -- Small instances whose matchings are known by hand, so that the definitions mean what they should.
 use Rattle.std.specs.Prelude.{◌≡◌, ℕ, List, [], ◌∷◌, Option, Some, None, pos, negsuc}
-use Rattle.sm_instance.specs.Written.{AgentData, Written}
+use Rattle.sm_instance.specs.Written.{AgentData, Written, plain_written}
 use Rattle.sm_instance.specs.Matching.{load, IsMatching}
 use Rattle.sm_instance.specs.Stable.{Blocks, IsStable}
-use Rattle.sm_instance.specs.Ranks.{rank_vector_of, regret_of, weight_of}
+use Rattle.sm_instance.specs.Ranks.{rank_vector_of, regret_of, weight_of, second_weight_of}
 use Rattle.sm_instance.specs.Allowed.{IsAllowed}
-use Rattle.sm_instance.specs.Sound.{ArePersons}
+use Rattle.sm_instance.specs.Sound.{IsEachOnce, ArePersons}
 use Rattle.sm_instance.specs.declared.kinds.Kind.TheVariants.{Marriage, Hospitals}
 use Rattle.sm_instance.specs.declared.kinds.Measure.TheVariants.{Ranks, Given}
 
@@ -16,14 +16,10 @@ agent letter capacity entries = record { name = letter ∷ []; capacity = capaci
 -- residents a: k h, b: z h and c: h k; hospitals h of 2 places: c a b, k of 1: a, and z of none: b. So k is inert on c's
 -- list. The pairs (a, h) and (c, h) weigh 4 and -10; (a, h) is forced and (b, h) forbidden.
 abbrev pub small_hospitals : Written
-small_hospitals = record {
-  kind = Hospitals;
-  proposers = agent 97 1 (1 ∷ 0 ∷ []) ∷ agent 98 1 (2 ∷ 0 ∷ []) ∷ agent 99 1 (0 ∷ 1 ∷ []) ∷ [];
-  reviewers = agent 104 2 (2 ∷ 0 ∷ 1 ∷ []) ∷ agent 107 1 (0 ∷ []) ∷ agent 122 0 (1 ∷ []) ∷ [];
-  weights = (0, 0, pos 4) ∷ (2, 0, negsuc 9) ∷ [];
-  forced = (0, 0) ∷ [];
-  forbidden = (1, 0) ∷ [];
-}
+small_hospitals = plain_written Hospitals
+    (agent 97 1 (1 ∷ 0 ∷ []) ∷ agent 98 1 (2 ∷ 0 ∷ []) ∷ agent 99 1 (0 ∷ 1 ∷ []) ∷ [])
+    (agent 104 2 (2 ∷ 0 ∷ 1 ∷ []) ∷ agent 107 1 (0 ∷ []) ∷ agent 122 0 (1 ∷ []) ∷ [])
+    ((0, 0, pos 4) ∷ (2, 0, negsuc 9) ∷ []) ((0, 0) ∷ []) ((1, 0) ∷ [])
 
 -- a at k, b and c at h
 abbrev pub settled : List (Option ℕ)
@@ -74,20 +70,26 @@ NoMatchings = (¬ IsMatching small_hospitals (None ∷ None ∷ Some 1 ∷ []))
 -- proposers m1: x a and m2: a; reviewers x, who lists nobody, and a: m2 m1. An inert entry counts in the ranks behind it,
 -- and in that of being unmatched
 abbrev pub inert_entry : Written
-inert_entry = record {
-  kind = Marriage;
-  proposers = agent 49 1 (0 ∷ 1 ∷ []) ∷ agent 50 1 (1 ∷ []) ∷ [];
-  reviewers = agent 120 1 [] ∷ agent 97 1 (1 ∷ 0 ∷ []) ∷ [];
-  weights = [];
-  forced = [];
-  forbidden = [];
-}
+inert_entry = plain_written Marriage
+    (agent 49 1 (0 ∷ 1 ∷ []) ∷ agent 50 1 (1 ∷ []) ∷ [])
+    (agent 120 1 [] ∷ agent 97 1 (1 ∷ 0 ∷ []) ∷ [])
+    [] [] []
 
 -- the ranks and the regret of its matchings by hand
 abbrev pub InertEntryCounts : Type 0
 InertEntryCounts = (rank_vector_of inert_entry (None ∷ Some 0 ∷ []) ≡ 3 ∷ 1 ∷ [])
     × (rank_vector_of inert_entry (Some 1 ∷ None ∷ []) ≡ 2 ∷ 2 ∷ [])
     × (regret_of inert_entry (Some 1 ∷ None ∷ []) ≡ 2)
+
+-- the small hospitals with the second weights 3 of (a, h) and -2 of (c, h): a second weight counts for a pair that is matched,
+-- and is 0 where none is given
+abbrev pub SecondsCount : Type 0
+SecondsCount = let w = record small_hospitals { seconds = pos 3 ∷ negsuc 1 ∷ [] } in
+    (second_weight_of w settled ≡ negsuc 1) × (second_weight_of w left_over ≡ pos 1) × (second_weight_of small_hospitals left_over ≡ pos 0)
+
+-- 2 0 1 has each of three numbers once, and 2 0 0 3 not each of four
+abbrev pub OrdersHaveEach : Type 0
+OrdersHaveEach = IsEachOnce 3 (2 ∷ 0 ∷ 1 ∷ []) × (¬ IsEachOnce 4 (2 ∷ 0 ∷ 0 ∷ 3 ∷ []))
 
 -- persons 1: 2 1 and 2: 1: a person may list itself
 abbrev pub persons : List AgentData

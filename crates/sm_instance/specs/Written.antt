@@ -1,6 +1,6 @@
 -- What is written in an instance.
 use Rattle.std.specs.Prelude.{ℕ, ◌<◌, ◌==◌, ◌&&◌, ℤ, pos, Bool, List, [], length, map, slice_index, slice_index_or}
-use Rattle.std.specs.List.{position_or_len}
+use Rattle.std.specs.List.{position_or_len, range_with_len}
 use Rattle.sm_lists.specs.Rows.{place_on}
 use Rattle.sm_instance.specs.declared.kinds.Kind.{Kind}
 
@@ -11,8 +11,9 @@ pub record AgentData : Type 0 where
   pub line : ℕ
   pub entries : List ℕ
 
--- an instance with two sides: its agents, the weights that are given to pairs, and the pairs that are forced or
--- forbidden, each with the proposer first
+-- an instance with two sides: its agents, the weights that are given to pairs, the pairs that are forced or forbidden, each
+-- with the proposer first, the second weight of each pair that has a weight, in the order of the weights, and the order of
+-- the proposers in which rank vectors are compared
 -- (Manlove 2013, sections 2.2 and 3.2; Gusfield and Irving 1989, sections 1.1 and 1.6)
 pub record Written : Type 0 where
   pub kind : Kind
@@ -21,6 +22,21 @@ pub record Written : Type 0 where
   pub weights : List (ℕ × ℕ × ℤ)
   pub forced : List (ℕ × ℕ)
   pub forbidden : List (ℕ × ℕ)
+  pub seconds : List ℤ
+  pub order : List ℕ
+
+-- an instance whose second weights are all 0, and whose proposers are compared in the order of their numbers
+abbrev pub plain_written : Kind → List AgentData → List AgentData → List (ℕ × ℕ × ℤ) → List (ℕ × ℕ) → List (ℕ × ℕ) → Written
+plain_written kind proposers reviewers weights forced forbidden = record {
+  kind = kind;
+  proposers = proposers;
+  reviewers = reviewers;
+  weights = weights;
+  forced = forced;
+  forbidden = forbidden;
+  seconds = map (λ _. pos 0) weights;
+  order = range_with_len 0 (length proposers);
+}
 
 -- what stands for an agent that isn't there
 abbrev pub no_agent : AgentData
@@ -68,6 +84,22 @@ weighed x = (x.0, x.1)
 abbrev pub is_same_pair : (ℕ × ℕ) → (ℕ × ℕ) → Bool
 is_same_pair x y = x.0 == y.0 && x.1 == y.1
 
+-- the number of a pair's weight, which is past the last where none is given to it
+abbrev pub weight_number : List (ℕ × ℕ × ℤ) → ℕ → ℕ → ℕ
+weight_number weights p r = position_or_len (is_same_pair (p, r)) (map weighed weights)
+
+-- the weight that some weights give to a pair, 0 where they give none
+abbrev pub weight_among : List (ℕ × ℕ × ℤ) → ℕ → ℕ → ℤ
+weight_among weights p r = (slice_index_or weights (weight_number weights p r) (0, 0, pos 0)).2
+
 -- the weight that is given to a pair, 0 where none is
 abbrev pub given_weight : Written → ℕ → ℕ → ℤ
-given_weight w p r = (slice_index_or w.weights (position_or_len (is_same_pair (p, r)) (map weighed w.weights)) (0, 0, pos 0)).2
+given_weight w p r = weight_among w.weights p r
+
+-- the second weight of a pair, 0 where none is given
+abbrev pub second_weight : Written → ℕ → ℕ → ℤ
+second_weight w p r = slice_index_or w.seconds (weight_number w.weights p r) (pos 0)
+
+-- for each of some weights, the second weight that others give to its pair
+abbrev pub seconds_among : List (ℕ × ℕ × ℤ) → List (ℕ × ℕ × ℤ) → List ℤ
+seconds_among weights seconds = map (λ pair. weight_among seconds pair.0 pair.1) (map weighed weights)

@@ -1,6 +1,7 @@
 //! Checks of agents, of entries and of pairs.
 
-ghost use Rattle.std.specs.Prelude.{◌≡◌, ◌≢◌, ℕ, ◌+◌, ◌<◌, ◌≤◌, ◌^◌, ◌↔◌, length, map, slice_index, true, IsTrue, IfOk, IfErr, OnOk, MatchOption};
+ghost use Rattle.std.specs.Prelude.{◌≡◌, ◌≢◌, ℕ, ◌+◌, ◌<◌, ◌≤◌, ◌^◌, ◌↔◌, length, map, slice_index, pos, true, IsTrue, IfOk, IfErr, OnOk, MatchOption};
+ghost use Rattle.std.specs.List.{range_with_len};
 ghost use Rattle.sm_text.specs.Limits.{most_agents, most_entries};
 ghost use Rattle.sm_instance.specs.Written.{row, names_of, weighed};
 ghost use Rattle.sm_instance.specs.Sound.{is_single as is_single_kind, IsInstance, entries_of, IsWithinLimits, AreSoundAgents, AreSoundEntries, IsSoundEntry, IsPairOf, IsSoundItem, items_of};
@@ -214,6 +215,11 @@ pub(crate) fn checked_items(
 /// The names of both sides and the pairs that are weighed, or the first thing that stands in the way of an instance.
 pub(crate) fn checked(alloc: Global, parts: &Parts) -> Result<(Names, Names, Pairs), InstanceFault>
     requires two_sided { parts.now.kind ≢ Kind.Roommates }
+    requires limits { IsWithinLimits (agents_of parts.now.proposers.items)
+        (agents_of parts.now.reviewers.items) }
+    requires seconds { parts.now.seconds.items ≡ map (λ _. pos 0) parts.now.weights.items }
+    requires order { parts.now.order.items
+        ≡ range_with_len 0 (length (agents_of parts.now.proposers.items)) }
     requires few { length parts.now.weights.items + length parts.now.forced.items
         + length parts.now.forbidden.items < 2 ^ 24 }
     ensures instance { OnOk result (IsInstance (written_in parts.now)) }
@@ -224,9 +230,6 @@ pub(crate) fn checked(alloc: Global, parts: &Parts) -> Result<(Names, Names, Pai
 {
     let proposers = parts.proposers.as_slice();
     let reviewers = parts.reviewers.as_slice();
-    if !are_within_limits(proposers, reviewers) {
-        return Err(InstanceFault::TooMany);
-    }
     let (left, right) = checked_agents(alloc, parts.kind, proposers, reviewers)?;
     let lefts = proposers.len() as u32;
     let rights = reviewers.len() as u32;

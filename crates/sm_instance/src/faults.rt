@@ -1,10 +1,10 @@
-//! Why what was given makes no instance.
+//! Why what was given makes no instance, or can't be set in one.
 
 use crate::kinds::Side;
 use std::alloc::{AllocError, AllocFailed};
 
-/// Why what was given makes no instance. The faults are tried in this order, and each but `TooMany` names its first
-/// place. Agents, places and items are numbered from 0.
+/// Why what was given makes no instance, or can't be set in one. The faults of a build are tried in this order, and each
+/// but `TooMany` names its first place. Agents, places and items are numbered from 0.
 #[derive(Clone, Copy, Debug, PartialEq, Eq)]
 pub enum InstanceFault {
     /// A side has more than 4,096 agents, or the lists together have more than 524,288 entries.
@@ -17,6 +17,8 @@ pub enum InstanceFault {
     /// The item of this number, through the weights, the forced and the forbidden pairs, names an agent that isn't there,
     /// has a weight of a size above 1,000,000,000 or weighs a pair again.
     BadPair(u32),
+    /// The order doesn't have each proposer once. Only [`Instance::reorder`](crate::Instance::reorder) answers this.
+    BadOrder,
     /// Memory ran out. Nothing is said of the rest.
     OutOfMemory,
 }

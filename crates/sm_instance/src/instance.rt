@@ -1,25 +1,28 @@
 //! Instances with two sides.
 
-ghost use Rattle.std.specs.Prelude.{◌≡◌, ◌≢◌, ◌+◌, ◌<◌, ◌≤◌, ◌^◌, ◌↔◌, IsTrue, IfSome, length, map, position, IfOk, IfErr, OnOk};
+ghost use Rattle.std.specs.Prelude.{◌≡◌, ◌≢◌, ◌+◌, ◌<◌, ◌≤◌, ◌^◌, ◌↔◌, IsTrue, IfSome, length, map, position, IfOk, IfErr, OnOk, OnErr};
 ghost use Rattle.std.specs.Str.{bytes_eq};
 ghost use Rattle.std.specs.Int.RustNames.{unsigned_abs};
 ghost use Rattle.sm_text.specs.Limits.{most_agents, most_capacity, most_weight};
-ghost use Rattle.sm_instance.specs.Written.{row, entry, names_of, capacity_of, IsAcceptable, given_weight, weighed as weighed_pair};
+ghost use Rattle.sm_instance.specs.Written.{row, entry, names_of, capacity_of, IsAcceptable, given_weight, second_weight, seconds_among, weighed as weighed_pair};
 ghost use Rattle.sm_instance.specs.Vectors.{agents_of, written_from, written_in};
-ghost use Rattle.sm_instance.specs.Sound.{IsInstance};
+ghost use Rattle.sm_instance.specs.Ranks.{HasSeconds};
+ghost use Rattle.sm_instance.specs.Sound.{IsInstance, IsEachOnce};
 ghost use Rattle.sm_instance.specs.Crosses.{cross_place, AreCrossPlacesOf};
 ghost use Rattle.sm_instance.specs.Kept.{AreNamingsOf};
 
 use crate::agents::{Agent, capacity_at, list_at};
-use crate::checks::checked;
+use crate::checks::{are_within_limits, checked};
 use crate::cross::Cross;
 use crate::crosses::crossings;
 use crate::faults::InstanceFault;
 use crate::kinds::Kind;
 use crate::names::names_for;
 use crate::namings::{Naming, place_by};
+use crate::order::is_each_once;
 use crate::pairs::Pairs;
 use crate::parts::Parts;
+use crate::seconds::{checked_seconds, has_nonzero, set_seconds};
 use sm_lists::{CrossPlaces, KeptPlace, Packed};
 use sm_names::Names;
 use sm_text::TextHash;
@@ -29,8 +32,9 @@ use std::marker::Model;
 /// An instance with two sides: a marriage, or hospitals and residents.
 ///
 /// Beside what is written it keeps for each place of a list the place of the list's owner on the other list, and for
-/// each reviewer who names it, so that no later call searches lists or takes memory. It takes memory in proportion
-/// to the agents, the entries and the weights, and none for each pair of agents.
+/// each reviewer who names it, so that no later call searches lists, and only [`Instance::reorder`] and
+/// [`Instance::add_seconds`] take memory. It takes memory in proportion to the agents, the entries and the weights, and none
+/// for each pair of agents.
 #[derive(Drop)]
 pub struct Instance {
     kind: Kind,
@@ -39,6 +43,8 @@ pub struct Instance {
     weights: Vec<(u32, u32, i64)>,
     forced: Vec<(u32, u32)>,
     forbidden: Vec<(u32, u32)>,
+    seconds: Vec<i64>,
+    order: Vec<u32>,
     crosses: Packed<Cross>,
     reviewer_crosses: Packed<Cross>,
     namings: Packed<Naming>,
@@ -49,32 +55,33 @@ pub struct Instance {
 
 impl Model for Instance {
     ghost use Rattle.sm_instance.specs.Written.{Written};
-    ghost use Rattle.sm_instance.specs.Vectors.{written_from};
+    ghost use Rattle.sm_instance.specs.Vectors.{written_with};
     ghost use Rattle.sm_instance.specs.Kept.{IsKept};
 
     ghost Value = { Written };
 
-    ghost view = { λ i. written_from i.kind i.proposers.items i.reviewers.items i.weights.items
-        i.forced.items i.forbidden.items };
+    ghost view = { λ i. written_with i.kind i.proposers.items i.reviewers.items i.weights.items
+        i.forced.items i.forbidden.items i.seconds.items i.order.items };
 
     ghost invariant = { λ i. IsKept
-        (written_from i.kind i.proposers.items i.reviewers.items i.weights.items i.forced.items
-        i.forbidden.items)
+        (written_with i.kind i.proposers.items i.reviewers.items i.weights.items i.forced.items
+        i.forbidden.items i.seconds.items i.order.items)
         i.crosses i.reviewer_crosses i.namings i.left i.right i.weighed };
 }
 
 impl Instance {
-    ghost use Rattle.sm_instance.specs.Faults.{IsInstanceFault};
+    ghost use Rattle.sm_instance.specs.Faults.{IsInstanceFault, IsOrderFault, IsSecondFault};
 
     /// Makes an instance, or names the first thing that stands in the way.
     ///
     /// The kind has to be one with two sides, and there have to be fewer than 2^24 weights, forced and forbidden pairs
     /// together. Each pair has the proposer first. What is given is moved into the instance, and is dropped where it
-    /// makes none. Takes time and memory in proportion to the agents, the entries and the items.
+    /// makes none. All second weights are 0, and the order of the proposers is that of their numbers. Takes time and memory
+    /// in proportion to the agents, the entries and the items.
     ///
     /// # Errors
     ///
-    /// The faults are those of [`InstanceFault`], in its order. Agents and entries are tried on the proposers' side
+    /// The faults are those of [`InstanceFault`], in its order, and never `BadOrder`. Agents and entries are tried on the proposers' side
     /// first, then by number and by place. The capacity has to be 1 for a proposer, and for every agent of a marriage.
     pub fn build(
         alloc: Global,
@@ -95,14 +102,12 @@ impl Instance {
         ensures fault { IfErr result (λ f. IsInstanceFault (written_from kind
             proposers.items reviewers.items weights.items forced.items forbidden.items) f) }
     {
-        let parts = Parts {
-            kind,
-            proposers,
-            reviewers,
-            weights,
-            forced,
-            forbidden,
-        };
+        if !are_within_limits(&proposers, &reviewers) {
+            return Err(InstanceFault::TooMany);
+        }
+        let parts = Parts::plain(
+            alloc, kind, proposers, reviewers, weights, forced, forbidden,
+        )?;
         let (left, right, weighed) = checked(alloc, &parts)?;
         Ok(of_parts(alloc, parts, left, right, weighed)?)
     }
@@ -175,6 +180,75 @@ impl Instance {
         ensures instance { IsInstance self.now }
     {
         &self.forbidden
+    }
+
+    /// The second weights, one beside each weight, in the order of [`Instance::weights`]. A second weight that wasn't given
+    /// is 0.
+    pub fn seconds(&self) -> &[i64]
+        ensures seconds { result.now ≡ self.now.seconds }
+        ensures each { length self.now.seconds ≡ length self.now.weights }
+    {
+        &self.seconds
+    }
+
+    /// The order of the proposers in which rank vectors are compared: each proposer once.
+    pub fn order(&self) -> &[u32]
+        ensures order { result.now ≡ self.now.order }
+        ensures instance { IsInstance self.now }
+    {
+        &self.order
+    }
+
+    /// Sets the order of the proposers in which rank vectors are compared. Takes time in proportion to the proposers, and
+    /// memory for a mark of each.
+    ///
+    /// # Errors
+    ///
+    /// `BadOrder` exactly where the order doesn't have each proposer once, and else `OutOfMemory` alone. The instance is then
+    /// as it was.
+    pub fn reorder(&mut self, order: &[u32]) -> Result<(), InstanceFault>
+        ensures done { OnOk result (self.new ≡ record self.old { order = order.now }) }
+        ensures is_order { OnOk result (IsEachOnce (length self.old.proposers) order.now) }
+        ensures fault { IfErr result (λ f. IsOrderFault (length self.old.proposers) order.now f) }
+        ensures same { OnErr result (self.new ≡ self.old) }
+    {
+        let alloc = *self.order.allocator();
+        if !is_each_once(alloc, self.proposers.len() as u32, order)? {
+            return Err(InstanceFault::BadOrder);
+        }
+        self.order.copy_from_slice(order);
+        Ok(())
+    }
+
+    /// Sets the second weights in place of all earlier ones. A pair that is given none has the second weight 0.
+    ///
+    /// There have to be fewer than 2^24 items, each a proposer, a reviewer and a second weight. They are moved in and dropped.
+    /// Takes time in proportion to the items and the weights, and memory in proportion to the weights.
+    ///
+    /// # Errors
+    ///
+    /// `BadPair` names the first item, from 0, that names an agent that isn't there, has a weight of a size above 1,000,000,000,
+    /// or names a pair that has no weight or that an earlier item names. Else `OutOfMemory` alone. The instance is then as it
+    /// was.
+    pub fn add_seconds(&mut self, seconds: Vec<(u32, u32, i64)>) -> Result<(), InstanceFault>
+        requires { length seconds.items < 2 ^ 24 }
+        ensures done { OnOk result (self.new ≡ record self.old {
+          seconds = seconds_among self.old.weights seconds.items;
+        }) }
+        ensures fault { IfErr result (λ f. IsSecondFault self.old seconds.items f) }
+        ensures same { OnErr result (self.new ≡ self.old) }
+    {
+        let alloc = *self.seconds.allocator();
+        let given = checked_seconds(alloc, &self.weighed, &seconds)?;
+        set_seconds(&mut self.seconds, &given);
+        Ok(())
+    }
+
+    /// Whether a pair has a second weight that isn't 0. Takes time in proportion to the weights.
+    pub fn has_seconds(&self) -> bool
+        ensures { IsTrue result ↔ HasSeconds self.now }
+    {
+        has_nonzero(&self.seconds)
     }
 
     /// How many proposers there are.
@@ -326,6 +400,20 @@ impl Instance {
         }
     }
 
+    /// The second weight of a pair, 0 where none is given. Takes the same time for all.
+    pub fn second(&self, p: u32, r: u32) -> i64
+        ensures second { result ≡ second_weight self.now p r }
+        ensures size { unsigned_abs result ≤ most_weight }
+    {
+        if self.weights.is_empty() {
+            return 0;
+        }
+        match self.weighed.find((p, r)) {
+            Some(n) => self.seconds[n],
+            None => 0,
+        }
+    }
+
     /// The number of the proposer with a name, `None` where there is none.
     pub fn find_proposer(&self, name: &[u8]) -> Option<u32>
         ensures number { result ≡ position (bytes_eq name.now) (names_of self.now.proposers) }
@@ -371,6 +459,8 @@ fn of_parts(
         weights: parts.weights,
         forced: parts.forced,
         forbidden: parts.forbidden,
+        seconds: parts.seconds,
+        order: parts.order,
         crosses,
         reviewer_crosses,
         namings,

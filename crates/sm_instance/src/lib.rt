@@ -5,8 +5,9 @@
 //! ranks from 1. A proposer and a reviewer are acceptable to each other when each lists the other; any other entry is
 //! inert, and keeps its place (Manlove 2013, chapters 1 and 2; Gusfield and Irving 1989, chapter 1).
 //!
-//! [`Instance::build`] and [`Persons::build`] make instances, or name the first thing that stands in the way. No other
-//! call of this crate takes memory.
+//! [`Instance::build`] and [`Persons::build`] make instances, or name the first thing that stands in the way; `held` and
+//! [`Parts::plain`] are for parts that are known to make one. Beside these only [`Instance::reorder`] and
+//! [`Instance::add_seconds`] take memory.
 #![tactic(auto)]
 
 mod agents;
@@ -22,10 +23,12 @@ mod kinds;
 mod matching;
 mod names;
 mod namings;
+mod order;
 mod pairs;
 mod parts;
 mod persons;
 mod ranks;
+mod seconds;
 pub mod witnesses;
 
 pub use agents::{Agent, Assignment};

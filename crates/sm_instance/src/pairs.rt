@@ -62,6 +62,13 @@ impl Pairs {
         Ok(self.pairs.insert(pair)?)
     }
 
+    /// How many pairs there are.
+    pub(crate) fn len(&self) -> usize
+        ensures { result ≡ length self.now }
+    {
+        self.pairs.len()
+    }
+
     /// The number of a pair.
     pub(crate) fn find(&self, pair: (u32, u32)) -> Option<usize>
         ensures { result ≡ position (is_same_pair pair) self.now }

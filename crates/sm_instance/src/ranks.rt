@@ -5,7 +5,7 @@ ghost use Rattle.std.specs.Int.RustNames.{unsigned_abs};
 ghost use Rattle.sm_text.specs.Limits.{most_agents, most_weight};
 ghost use Rattle.sm_instance.specs.Written.{row, entry, IsAcceptable};
 ghost use Rattle.sm_instance.specs.Matching.{IsMatching};
-ghost use Rattle.sm_instance.specs.Ranks.{rank_vector_of, rank_back, worse_rank, regret_of, pair_weight, weight_of};
+ghost use Rattle.sm_instance.specs.Ranks.{rank_vector_of, rank_back, worse_rank, regret_of, pair_weight, weight_of, second_weight_of};
 
 use crate::agents::Assignment;
 use crate::instance::Instance;
@@ -55,6 +55,22 @@ impl Instance {
         for p in 0..self.proposer_count() {
             if let Some(place) = self.place_held(a, p) {
                 weight += self.pair_weight(p, place, by);
+            }
+        }
+        weight
+    }
+
+    /// The sum of the second weights over the matched pairs, 0 where none is given.
+    ///
+    /// [`Instance::breach`] has to be `None`. Takes time in proportion to the proposers.
+    pub fn weigh_second(&self, a: &Assignment) -> i64
+        requires matching { IsMatching self.now a.now.places.items }
+        ensures { result ≡ second_weight_of self.now a.now.places.items }
+    {
+        let mut weight = 0;
+        for p in 0..self.proposer_count() {
+            if let Some(place) = self.place_held(a, p) {
+                weight += self.second(p, self.reviewer_at(p, place));
             }
         }
         weight

@@ -1,7 +1,7 @@
 -- A worked answer: three proposers who go round in a cycle, of whom the first weighs 4 with its second choice and -10 with its
 -- third one.
 use Rattle.std.specs.Prelude.{◌≡◌, true, List, [], ◌∷◌, pos, negsuc}
-use Rattle.sm_instance.specs.Written.{Written}
+use Rattle.sm_instance.specs.Written.{Written, plain_written}
 use Rattle.sm_instance.specs.Witnesses.{agent}
 use Rattle.sm_instance.specs.declared.kinds.Kind.TheVariants.{Marriage}
 use Rattle.sm_instance.specs.declared.kinds.Measure.TheVariants.{Given}
@@ -16,14 +16,10 @@ use Rattle.sm_lightest.specs.WeightAnswer.{WeightParts, weight_lines}
 
 -- these proposers and the three reviewers
 abbrev pub three_proposers : Written
-three_proposers = record {
-  kind = Marriage;
-  proposers = agent 49 1 (0 ∷ 1 ∷ 2 ∷ []) ∷ agent 50 1 (1 ∷ 2 ∷ 0 ∷ []) ∷ agent 51 1 (2 ∷ 0 ∷ 1 ∷ []) ∷ [];
-  reviewers = agent 97 1 (1 ∷ 2 ∷ 0 ∷ []) ∷ agent 98 1 (2 ∷ 0 ∷ 1 ∷ []) ∷ agent 99 1 (0 ∷ 1 ∷ 2 ∷ []) ∷ [];
-  weights = (0, 1, pos 4) ∷ (0, 2, negsuc 9) ∷ [];
-  forced = [];
-  forbidden = [];
-}
+three_proposers = plain_written Marriage
+    (agent 49 1 (0 ∷ 1 ∷ 2 ∷ []) ∷ agent 50 1 (1 ∷ 2 ∷ 0 ∷ []) ∷ agent 51 1 (2 ∷ 0 ∷ 1 ∷ []) ∷ [])
+    (agent 97 1 (1 ∷ 2 ∷ 0 ∷ []) ∷ agent 98 1 (2 ∷ 0 ∷ 1 ∷ []) ∷ agent 99 1 (0 ∷ 1 ∷ 2 ∷ []) ∷ [])
+    ((0, 1, pos 4) ∷ (0, 2, negsuc 9) ∷ []) [] []
 
 -- their first matching, both rotations, what these need, and the flow, with both rotations taken
 abbrev pub three_parts : WeightParts

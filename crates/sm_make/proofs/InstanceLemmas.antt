@@ -7,7 +7,8 @@ use Rattle.std.proofs.Math.Nat.{mul-le-mul_left, mul-le-mul_right, div-le_of_le-
 use Rattle.std.specs.Cmp.Derive.{both_true}
 use Rattle.sm_text.specs.Limits.{most_agents, most_entries, most_capacity, most_name_bytes}
 use Rattle.sm_text.specs.Name.{begins_name, is_name_byte, is_name}
-use Rattle.sm_instance.specs.Written.{AgentData, agent_at}
+use Rattle.sm_instance.proofs.OrderLemmas.{range_is_each_once}
+use Rattle.sm_instance.specs.Written.{AgentData, agent_at, plain_written}
 use Rattle.sm_instance.specs.Sound.{IsInstance, ArePersons, AreSoundAgents, AreSoundEntries, is_single, entries_of}
 use Rattle.sm_instance.specs.declared.kinds.Kind.{Kind}
 use Rattle.sm_instance.specs.declared.kinds.Kind.TheVariants.{Marriage, Hospitals, Roommates}
@@ -83,7 +84,7 @@ module _ (letter capacity count others most : ℕ) (list : ℕ → List ℕ) (s 
 module _ (kind : Kind) (capacity n m k l : ℕ) (f g : ℕ → List ℕ) (a : IsSoundSide n m k f) (b : IsSoundSide m n l g) where
   -- two sides with sound lists, within the limits, are an instance
   pub two_sides : kind ≢ Roommates → capacity ≤ most_capacity → (IsTrue (is_single kind) → capacity ≡ 1) → n * k + m * l ≤ most_entries
-      → IsInstance (record { kind = kind; proposers = agents_made proposer_letter 1 f n; reviewers = agents_made reviewer_letter capacity g m; weights = []; forced = []; forbidden = [] })
+      → IsInstance (plain_written kind (agents_made proposer_letter 1 f n) (agents_made reviewer_letter capacity g m) [] [] [])
   two_sides two fits one few =
       let left = long proposer_letter 1 n m k f a in
       let right = long reviewer_letter capacity m n l g b in
@@ -99,6 +100,9 @@ module _ (kind : Kind) (capacity n m k l : ℕ) (f g : ℕ → List ℕ) (a : Is
         proposer_entries = subst (AreSoundEntries (agents_made proposer_letter 1 f n)) (sym right) (are_sound_entries proposer_letter 1 n m k f a);
         reviewer_entries = subst (AreSoundEntries (agents_made reviewer_letter capacity g m)) (sym left) (are_sound_entries reviewer_letter capacity m n l g b);
         items = λ i there. absurd (omega (arith, there));
+        seconds_each = refl;
+        seconds_small = λ i d there. absurd (omega (arith, there));
+        order = range_is_each_once (length (agents_made proposer_letter 1 f n));
       }
 
 abbrev has_two_sides : Kind → Bool
@@ -130,7 +134,7 @@ times n m k l h i =
 
 -- up to 2,048 copies are an instance
 pub copies_are_instance : (n : ℕ) → n ≤ 2048
-    → IsInstance (record { kind = Marriage; proposers = agents_made proposer_letter 1 copy_list (2 * n); reviewers = agents_made reviewer_letter 1 copy_list_back (2 * n); weights = []; forced = []; forbidden = [] })
+    → IsInstance (plain_written Marriage (agents_made proposer_letter 1 copy_list (2 * n)) (agents_made reviewer_letter 1 copy_list_back (2 * n)) [] [] [])
 copies_are_instance n few =
     let side : (list : ℕ → List ℕ) → ((a : ℕ) → a < 2 * n → IsSoundList (2 * n) (list a)) → ((a : ℕ) → length (list a) ≡ 2) → IsSoundSide (2 * n) (2 * n) 2 list =
     λ list sound two. record { few = omega arith; sound = sound; short = λ a there. let e = two a in omega (arith, e) } in
@@ -141,7 +145,7 @@ copies_are_instance n few =
 
 -- a cycle of up to 512 is an instance
 pub cycles_are_instance : (n : ℕ) → n ≤ 512
-    → IsInstance (record { kind = Marriage; proposers = agents_made proposer_letter 1 (turn_from n) n; reviewers = agents_made reviewer_letter 1 (λ a. turn_from n (a + 1)) n; weights = []; forced = []; forbidden = [] })
+    → IsInstance (plain_written Marriage (agents_made proposer_letter 1 (turn_from n) n) (agents_made reviewer_letter 1 (λ a. turn_from n (a + 1)) n) [] [] [])
 cycles_are_instance n few =
     two_sides Marriage 1 n n n n (turn_from n) (λ a. turn_from n (a + 1))
     (whole_side n n (turn_from n) (omega arith) (λ a there. turns_are_whole n a (omega arith)))
@@ -150,7 +154,7 @@ cycles_are_instance n few =
 
 -- shuffled lists, whatever the words
 pub shuffled_are_instance : (kind : Kind) (capacity n m behind back : ℕ) (words : List ℕ) → kind ≢ Roommates → capacity ≤ most_capacity → (IsTrue (is_single kind) → capacity ≡ 1) → n ≤ 512 → m ≤ 512
-    → IsInstance (record { kind = kind; proposers = agents_made proposer_letter 1 (shuffled_list m behind words) n; reviewers = agents_made reviewer_letter capacity (shuffled_list n back words) m; weights = []; forced = []; forbidden = [] })
+    → IsInstance (plain_written kind (agents_made proposer_letter 1 (shuffled_list m behind words) n) (agents_made reviewer_letter capacity (shuffled_list n back words) m) [] [] [])
 shuffled_are_instance kind capacity n m behind back words two fits one few few' =
     two_sides kind capacity n m m n (shuffled_list m behind words) (shuffled_list n back words)
     (whole_side n m (shuffled_list m behind words) (omega arith) (λ a there. shuffles_are_whole m _))
@@ -179,11 +183,11 @@ rooms_are_persons n words few =
 
 -- from the sides xs they are kept
 pub two_are_instance : {kind : Kind} {xs ys left right : List AgentData} → xs ≡ left → ys ≡ right
-    → IsInstance (record { kind = kind; proposers = left; reviewers = right; weights = []; forced = []; forbidden = [] })
-    → IsInstance (record { kind = kind; proposers = xs; reviewers = ys; weights = []; forced = []; forbidden = [] })
+    → IsInstance (plain_written kind left right [] [] [])
+    → IsInstance (plain_written kind xs ys [] [] [])
 two_are_instance {kind} {xs} {ys} {left} {right} e f i =
-    subst (λ xs. IsInstance (record { kind = kind; proposers = xs; reviewers = ys; weights = []; forced = []; forbidden = [] })) (sym e)
-    (subst (λ ys. IsInstance (record { kind = kind; proposers = left; reviewers = ys; weights = []; forced = []; forbidden = [] })) (sym f) i)
+    subst (λ xs. IsInstance (plain_written kind xs ys [] [] [])) (sym e)
+    (subst (λ ys. IsInstance (plain_written kind left ys [] [] [])) (sym f) i)
 
 -- instances with the same sides, and nothing else, are the same
 pub plain_of : {kind : Kind} {xs ys left right : List AgentData} → xs ≡ left → ys ≡ right → plain kind xs ys ≡ plain kind left right

@@ -1,7 +1,7 @@
 -- The instances that are made, as a function of the shape, the size and a list of words.
 use Rattle.std.specs.Prelude.{ℕ, ◌+◌, ◌-◌, ◌*◌, ◌/◌, max, List, [], ◌∷◌, map, decimal}
 use Rattle.std.specs.List.{range_with_len}
-use Rattle.sm_instance.specs.Written.{AgentData}
+use Rattle.sm_instance.specs.Written.{AgentData, plain_written}
 use Rattle.sm_instance.specs.declared.kinds.Kind.{Kind}
 use Rattle.sm_instance.specs.declared.kinds.Kind.TheVariants.{Marriage, Hospitals}
 use Rattle.sm_instance.specs.declared.inputs.Input.{Input}
@@ -29,7 +29,7 @@ agents_made letter capacity list count = map (agent letter capacity list) (range
 
 -- an instance with two sides and without weights and conditions
 abbrev pub plain : Kind → List AgentData → List AgentData → Input
-plain kind proposers reviewers = Two (record { kind = kind; proposers = proposers; reviewers = reviewers; weights = []; forced = []; forbidden = [] })
+plain kind proposers reviewers = Two (plain_written kind proposers reviewers [] [] [])
 
 -- how many hospitals stand for so many residents
 abbrev pub hospitals_for : ℕ → ℕ

@@ -21,14 +21,15 @@ pub(crate) fn two(
     ensures { IfOk result (λ input. input ≡ plain kind (agents_of proposers.items)
         (agents_of reviewers.items)) }
 {
-    let parts = Parts {
+    let parts = Parts::plain(
+        alloc,
         kind,
         proposers,
         reviewers,
-        weights: Vec::new(alloc),
-        forced: Vec::new(alloc),
-        forbidden: Vec::new(alloc),
-    };
+        Vec::new(alloc),
+        Vec::new(alloc),
+        Vec::new(alloc),
+    )?;
     let instance = Instance::held(alloc, Digest::new().hash(), parts)?;
     Ok(Input::Two(instance))
 }

@@ -1,6 +1,6 @@
 //! Names, each with its number.
 
-ghost use Rattle.std.specs.Prelude.{◌≡◌, ◌<◌, ◌^◌, [], ◌++◌, ◌∷◌, length, not, position, if◌then◌else◌, IfOk, IfSome};
+ghost use Rattle.std.specs.Prelude.{◌≡◌, ◌<◌, ◌^◌, [], ◌++◌, ◌∷◌, length, not, position, if◌then◌else◌, IfOk, IfSome, OnErr};
 ghost use Rattle.std.specs.List.{list_any};
 ghost use Rattle.std.specs.Str.{bytes_eq};
 
@@ -45,11 +45,12 @@ impl Names {
     ///
     /// # Errors
     ///
-    /// `AllocError` where memory ran out, and only then.
+    /// `AllocError` where memory ran out, and only then. The names are then as they were.
     pub fn add(&mut self, alloc: Global, name: &[u8]) -> Result<bool, AllocError>
         ensures added { IfOk result (λ added. added ≡ not (list_any (bytes_eq name.now) self.old)) }
         ensures names { IfOk result
             (λ added. self.new ≡ (if added then self.old ++ name.now ∷ [] else self.old)) }
+        ensures kept { OnErr result (self.new ≡ self.old) }
     {
         Ok(self.names.insert(NameKey::of(alloc, name)?)?)
     }

@@ -1,6 +1,6 @@
 -- Small instances and their lines, which were written by hand.
 use Rattle.std.specs.Prelude.{◌≡◌, ℕ, List, [], ◌∷◌, pos, negsuc, codes}
-use Rattle.sm_instance.specs.Written.{AgentData, Written}
+use Rattle.sm_instance.specs.Written.{AgentData, Written, plain_written}
 use Rattle.sm_instance.specs.declared.kinds.Kind.TheVariants.{Marriage, Hospitals}
 use Rattle.sm_instance.specs.declared.inputs.Input.TheVariants.{Two, Room}
 use Rattle.sm_printed.specs.Printed.{lines_of}
@@ -11,14 +11,10 @@ agent name capacity entries = record { name = name; capacity = capacity; line = 
 
 -- two proposers and two reviewers, of whom one lists nobody
 abbrev pub marriage : Written
-marriage = record {
-  kind = Marriage;
-  proposers = agent (codes "a") 1 (1 ∷ 0 ∷ []) ∷ agent (codes "b-2") 1 (0 ∷ []) ∷ [];
-  reviewers = agent (codes "a") 1 (0 ∷ 1 ∷ []) ∷ agent (codes "y") 1 [] ∷ [];
-  weights = (1, 0, negsuc 11) ∷ (0, 1, pos 0) ∷ [];
-  forced = (0, 1) ∷ (0, 1) ∷ [];
-  forbidden = (1, 1) ∷ [];
-}
+marriage = plain_written Marriage
+    (agent (codes "a") 1 (1 ∷ 0 ∷ []) ∷ agent (codes "b-2") 1 (0 ∷ []) ∷ [])
+    (agent (codes "a") 1 (0 ∷ 1 ∷ []) ∷ agent (codes "y") 1 [] ∷ [])
+    ((1, 0, negsuc 11) ∷ (0, 1, pos 0) ∷ []) ((0, 1) ∷ (0, 1) ∷ []) ((1, 1) ∷ [])
 
 -- the lines of the marriage, by hand
 abbrev pub MarriagePrinted : Type 0
@@ -33,14 +29,10 @@ MarriagePrinted = lines_of (Two marriage) ≡
 
 -- one resident and two hospitals, of which one lists nobody
 abbrev pub hospitals : Written
-hospitals = record {
-  kind = Hospitals;
-  proposers = agent (codes "a") 1 (0 ∷ []) ∷ [];
-  reviewers = agent (codes "h") 12 (0 ∷ []) ∷ agent (codes "i") 1 [] ∷ [];
-  weights = [];
-  forced = [];
-  forbidden = [];
-}
+hospitals = plain_written Hospitals
+    (agent (codes "a") 1 (0 ∷ []) ∷ [])
+    (agent (codes "h") 12 (0 ∷ []) ∷ agent (codes "i") 1 [] ∷ [])
+    [] [] []
 
 -- the lines of the hospitals, by hand
 abbrev pub HospitalsPrinted : Type 0

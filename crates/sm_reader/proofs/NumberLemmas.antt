@@ -1,5 +1,5 @@
 -- Numbers of names, and the first line that names nobody.
-use Rattle.std.proofs.Common.{◌≡◌, ◌≢◌, ℕ, zero, suc, ◌+◌, ◌<◌, ◌≤◌, ◌||◌, Bool, true, false, cond, List, [], ◌∷◌, ◌++◌, length, get_or, set, take, drop, map, min, filter, Option, Some, None, refl, sym, ap, ◌∙◌, subst, append_assoc, arith, ℤ}
+use Rattle.std.proofs.Common.{◌≡◌, ◌≢◌, ℕ, zero, suc, ◌+◌, ◌<◌, ◌≤◌, ◌||◌, Bool, true, false, cond, List, [], ◌∷◌, ◌++◌, length, get_or, set, take, drop, map, min, filter, Option, Some, None, refl, sym, ap, ◌∙◌, subst, append_assoc, arith, ℤ, pos}
 use Rattle.std.specs.List.{list_any}
 use Rattle.std.specs.Option.{option_map_or}
 use Rattle.std.proofs.Math.Seq.{drop-cons, get_or-append_seam, set-append_seam}
@@ -8,7 +8,7 @@ use Rattle.std.proofs.lemmas.List.Elements.{filter-append}
 use Rattle.std.proofs.lemmas.List.Folds.{list_any-append, list_any_at}
 use Rattle.sm_text.specs.Limits.{most_agents}
 use Rattle.sm_instance.specs.Vectors.{agents_of, written_from, written_in}
-use Rattle.sm_instance.specs.Written.{AgentData, Written}
+use Rattle.sm_instance.specs.Written.{AgentData, Written, plain_written}
 use Rattle.sm_instance.specs.declared.agents.Agent.{Agent}
 use Rattle.sm_instance.specs.declared.kinds.Kind.{Kind}
 use Rattle.sm_instance.specs.declared.kinds.Kind.TheVariants.{Marriage, Hospitals, Roommates}
@@ -202,14 +202,12 @@ sides_said kind line d draft other n are =
     let said = said_of kind d in
     let p = d.proposer_names in
     let r = d.reviewer_names in
-    let sides : List (List ℕ) → List (List ℕ) → List (List ℕ) → Written = λ ps rs listed. record {
-      kind = kind;
-      proposers = map (numbered rs) (map (agent_in listed) d.proposers.items);
-      reviewers = map (numbered ps) said.reviewers;
-      weights = map (weight_among ps rs) said.weights;
-      forced = map (pair_among ps rs) said.forced;
-      forbidden = map (pair_among ps rs) said.forbidden;
-    } in
+    let sides : List (List ℕ) → List (List ℕ) → List (List ℕ) → Written = λ ps rs listed. plain_written kind
+        (map (numbered rs) (map (agent_in listed) d.proposers.items))
+        (map (numbered ps) said.reviewers)
+        (map (weight_among ps rs) said.weights)
+        (map (pair_among ps rs) said.forced)
+        (map (pair_among ps rs) said.forbidden) in
     let first : written_from kind n.proposers.items n.reviewers.items n.weights.items n.forced.items n.forbidden.items ≡ sides p.declared r.declared r.texts =
     five kind are.proposers are.reviewers are.weights are.forced are.forbidden in
     first
@@ -218,14 +216,15 @@ sides_said kind line d draft other n are =
     ∙ ap (λ rs. sides (names_of said.proposers) rs (listed_table kind d.proposer_names d.reviewer_names).texts) (sym (reviewer_names kind line d draft))
   where
     five : (k : Kind) {a a' b b' : List AgentData} {w w' : List (ℕ × ℕ × ℤ)} {f f' g g' : List (ℕ × ℕ)} → a ≡ a' → b ≡ b' → w ≡ w' → f ≡ f' → g ≡ g'
-        → let x : Written = record { kind = k; proposers = a; reviewers = b; weights = w; forced = f; forbidden = g } in
-        let y : Written = record { kind = k; proposers = a'; reviewers = b'; weights = w'; forced = f'; forbidden = g' } in x ≡ y
+        → plain_written k a b w f g ≡ plain_written k a' b' w' f' g'
     five k h1 h2 h3 h4 h5 = cc
 
 -- the numbered parts of a draft make the two sides that it says
 pub parts_said : (kind : Kind) (line : ℕ) (d : Draft) → IsDraft kind line d → kind ≢ Roommates → (parts : Parts) → parts.kind ≡ kind → NumbersSides d parts → written_in parts ≡ two_sides kind (said_of kind d)
 parts_said kind line d draft other parts same are =
-    ap (λ k. written_from k parts.proposers.items parts.reviewers.items parts.weights.items parts.forced.items parts.forbidden.items) same ∙ sides_said kind line d draft other parts are
+    ap (λ seconds. record (written_in parts) { seconds = seconds }) are.seconds
+    ∙ ap (λ order. record (written_in parts) { seconds = map (λ _. pos 0) parts.weights.items; order = order }) are.order
+    ∙ ap (λ k. written_from k parts.proposers.items parts.reviewers.items parts.weights.items parts.forced.items parts.forbidden.items) same ∙ sides_said kind line d draft other parts are
 
 -- few names are declared
 pub few_names : (kind : Kind) (line : ℕ) (d : Draft) → IsDraft kind line d → (length d.proposer_names.declared ≤ most_agents) × (length d.reviewer_names.declared ≤ most_agents)

@@ -16,6 +16,8 @@ use Rattle.sm_lists.specs.Pairs.{pair_at}
 use Rattle.sm_instance.specs.declared.kinds.Kind.{Kind}
 use Rattle.sm_instance.specs.declared.kinds.Kind.TheVariants.{Marriage, Hospitals, Roommates}
 use Rattle.sm_instance.specs.Named.{SaidAgent, SaidPair, SaidWeight, Said, names_of, entries_of}
+use Rattle.sm_instance.proofs.OrderLemmas.{range_is_each_once}
+use Rattle.sm_instance.proofs.SecondLemmas.{zeros_small}
 use Rattle.sm_reader.specs.Judging.{has_repeated}
 use Rattle.sm_reader.specs.InstanceText.{is_unknown, lines_with_unknown, pairs_with_unknown, unknown_lines, listed_by_proposers, least, number_in, numbered, numbered_pair, two_sides}
 use Rattle.sm_reader.specs.Right.{IsRightAgent, IsRight}
@@ -247,6 +249,9 @@ sides_sound kind said other right none =
       proposer_entries = sound_entries true said.proposers reviewers right.proposers (unmarked (lists reviewers) line said.proposers (ap (λ names. lines_with_unknown names said.proposers) (sym listed) ∙ parts.0)) _ right_count;
       reviewer_entries = sound_entries (is_single kind) said.reviewers proposers right.reviewers (unmarked (lists proposers) line said.reviewers parts.1) _ left_count;
       items = items_sound said kind right (unmarked (marks said) pair_line (map (λ (w : SaidWeight). w.pair) said.weights) parts.2) (unmarked (marks said) pair_line said.forced parts.3) (unmarked (marks said) pair_line said.forbidden parts.4) _ _ left_count right_count;
+      seconds_each = length-map (two_sides kind said).weights (λ _. pos 0);
+      seconds_small = zeros_small (two_sides kind said).weights;
+      order = range_is_each_once (length (two_sides kind said).proposers);
     }
   where
     other_listed : (k : Kind) → k ≢ Roommates → listed_by_proposers k said ≡ names_of said.reviewers

@@ -8,7 +8,7 @@ use Rattle.sm_text.specs.Lines.{lines, content}
 use Rattle.sm_text.specs.Tokens.{tokens}
 use Rattle.sm_text.specs.declared.refusal.RefusalKind.{RefusalKind}
 use Rattle.sm_text.specs.declared.refusal.RefusalKind.TheVariants.{TooLong, BadHeader, MissingEnd, UnknownName}
-use Rattle.sm_instance.specs.Written.{AgentData, Written}
+use Rattle.sm_instance.specs.Written.{AgentData, Written, plain_written}
 use Rattle.sm_instance.specs.declared.kinds.Kind.{Kind}
 use Rattle.sm_instance.specs.declared.kinds.Kind.TheVariants.{Marriage, Hospitals, Roommates}
 use Rattle.sm_instance.specs.declared.inputs.Input.{Input}
@@ -72,14 +72,12 @@ numbered_pair said pair = (number_in (names_of said.proposers) pair.proposer, nu
 
 -- the two sides with their weights and conditions
 abbrev pub two_sides : Kind → Said → Written
-two_sides kind said = record {
-  kind = kind;
-  proposers = map (numbered (names_of said.reviewers)) said.proposers;
-  reviewers = map (numbered (names_of said.proposers)) said.reviewers;
-  weights = map (λ (w : SaidWeight). let pair = numbered_pair said w.pair in (pair.0, pair.1, w.weight)) said.weights;
-  forced = map (numbered_pair said) said.forced;
-  forbidden = map (numbered_pair said) said.forbidden;
-}
+two_sides kind said = plain_written kind
+    (map (numbered (names_of said.reviewers)) said.proposers)
+    (map (numbered (names_of said.proposers)) said.reviewers)
+    (map (λ (w : SaidWeight). let pair = numbered_pair said w.pair in (pair.0, pair.1, w.weight)) said.weights)
+    (map (numbered_pair said) said.forced)
+    (map (numbered_pair said) said.forbidden)
 
 -- the instance that is said
 abbrev pub input_of : Kind → Said → Input

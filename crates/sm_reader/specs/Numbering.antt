@@ -1,5 +1,6 @@
 -- What the numbering of names takes and gives.
-use Rattle.std.specs.Prelude.{◌≡◌, ◌≢◌, ℕ, ◌+◌, ◌<◌, ◌≤◌, length, map, Bool, if◌then◌else◌, List, Option, Some, None, ℤ}
+use Rattle.std.specs.Prelude.{◌≡◌, ◌≢◌, ℕ, ◌+◌, ◌<◌, ◌≤◌, length, map, Bool, if◌then◌else◌, List, Option, Some, None, ℤ, pos}
+use Rattle.std.specs.List.{range_with_len}
 use Rattle.sm_instance.specs.declared.kinds.Kind.{Kind}
 use Rattle.sm_instance.specs.declared.kinds.Kind.TheVariants.{Roommates}
 use Rattle.sm_instance.specs.declared.agents.Agent.{Agent}
@@ -64,6 +65,8 @@ pub record NumbersSides (d : Draft) (sides : Parts) : Type 0 where
       sides.forced.items ≡ map (pair_among p.declared r.declared) (map (pair_in p.texts r.texts) d.forced.items)
   pub forbidden : let p = d.proposer_names in let r = d.reviewer_names in
       sides.forbidden.items ≡ map (pair_among p.declared r.declared) (map (pair_in p.texts r.texts) d.forbidden.items)
+  pub seconds : sides.seconds.items ≡ map (λ _. pos 0) sides.weights.items
+  pub order : sides.order.items ≡ range_with_len 0 (length (agents_of sides.proposers.items))
 
 -- the first line that names an undeclared agent is refused
 abbrev pub IsUnknownFault : Kind → Draft → TextFault → Type 0

@@ -4,6 +4,7 @@ use Rattle.std.specs.List.{flat_map}
 use Rattle.sm_text.specs.Lines.{LF}
 use Rattle.sm_text.specs.declared.refusal.RefusalKind.{RefusalKind}
 use Rattle.sm_text.specs.declared.refusal.RefusalKind.TheVariants.{BadByte, BadHeader, BadLine, BadName, BadNumber, Redeclared, RepeatedEntry, RepeatedWeight, TooLong, TooManyAgents, TooManyEntries, MissingEnd, UnknownName}
+use Rattle.sm_instance.specs.Written.{plain_written}
 use Rattle.sm_instance.specs.declared.kinds.Kind.TheVariants.{Hospitals}
 use Rattle.sm_instance.specs.declared.kinds.Side.TheVariants.{Proposers, Reviewers}
 use Rattle.sm_instance.specs.declared.inputs.Input.TheVariants.{Two, Room}
@@ -147,16 +148,12 @@ hospitals_text = text_of (
 -- the instance that this text means
 abbrev pub HospitalsRead : Type 0
 HospitalsRead = instance_text hospitals_text ≡ Ok (record {
-  input = Two (record {
-    kind = Hospitals;
-    proposers = record { name = codes "m1"; capacity = 1; line = 5; entries = 1 ∷ 0 ∷ [] }
-        ∷ record { name = codes "m2"; capacity = 1; line = 7; entries = 0 ∷ [] } ∷ [];
-    reviewers = record { name = codes "h1"; capacity = 2; line = 6; entries = 0 ∷ [] }
-        ∷ record { name = codes "h2"; capacity = 1; line = 9; entries = [] } ∷ [];
-    weights = (0, 1, pos 7) ∷ (1, 0, negsuc 2) ∷ [];
-    forced = (1, 0) ∷ [];
-    forbidden = (0, 0) ∷ [];
-  });
+  input = Two (plain_written Hospitals
+      (record { name = codes "m1"; capacity = 1; line = 5; entries = 1 ∷ 0 ∷ [] }
+          ∷ record { name = codes "m2"; capacity = 1; line = 7; entries = 0 ∷ [] } ∷ [])
+      (record { name = codes "h1"; capacity = 2; line = 6; entries = 0 ∷ [] }
+          ∷ record { name = codes "h2"; capacity = 1; line = 9; entries = [] } ∷ [])
+      ((0, 1, pos 7) ∷ (1, 0, negsuc 2) ∷ []) ((1, 0) ∷ []) ((0, 0) ∷ []));
   header_line = 2;
   rest = 130;
   rest_line = 12;
@@ -177,7 +174,7 @@ RoommatesRead = instance_text (text_of (codes "stable 1 roommates" ∷ codes "p 
 abbrev pub ReturnsRead : Type 0
 ReturnsRead = instance_text (codes "stable 1 hospitals" ++ (13 ∷ LF ∷ []) ++ codes "end" ++ 13 ∷ [])
     ≡ Ok (record {
-      input = Two (record { kind = Hospitals; proposers = []; reviewers = []; weights = []; forced = []; forbidden = [] });
+      input = Two (plain_written Hospitals [] [] [] [] []);
       header_line = 1;
       rest = 24;
       rest_line = 3;

@@ -166,14 +166,9 @@ pub(crate) fn numbered_sides(
     let weights = number_weights(alloc, &proposer_names, &reviewer_names, &weights)?;
     let forced = number_pairs(alloc, &proposer_names, &reviewer_names, &forced)?;
     let forbidden = number_pairs(alloc, &proposer_names, &reviewer_names, &forbidden)?;
-    Ok(Parts {
-        kind,
-        proposers,
-        reviewers,
-        weights,
-        forced,
-        forbidden,
-    })
+    Parts::plain(
+        alloc, kind, proposers, reviewers, weights, forced, forbidden,
+    )
 }
 
 /// The agents of a side, with numbers for the names on their lists.

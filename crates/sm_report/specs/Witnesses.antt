@@ -1,6 +1,6 @@
 -- Lines of each kind with their texts by hand, in a marriage, in hospitals and in roommates.
 use Rattle.std.specs.Prelude.{◌≡◌, ℕ, List, [], ◌∷◌, map, Some, None, pos, negsuc, codes}
-use Rattle.sm_instance.specs.Written.{AgentData}
+use Rattle.sm_instance.specs.Written.{AgentData, plain_written}
 use Rattle.sm_instance.specs.declared.kinds.Kind.{Kind}
 use Rattle.sm_instance.specs.declared.kinds.Kind.TheVariants.{Marriage, Hospitals}
 use Rattle.sm_instance.specs.declared.kinds.Side.TheVariants.{Proposers, Reviewers}
@@ -19,14 +19,10 @@ agent name capacity = record { name = name; capacity = capacity; line = 0; entri
 
 -- the proposers a and b, and the reviewers h1 and h2 of so many places
 abbrev pub two_sided : Kind → ℕ → Input
-two_sided kind capacity = Two (record {
-  kind = kind;
-  proposers = agent (codes "a") 1 ∷ agent (codes "b") 1 ∷ [];
-  reviewers = agent (codes "h1") capacity ∷ agent (codes "h2") capacity ∷ [];
-  weights = [];
-  forced = [];
-  forbidden = [];
-})
+two_sided kind capacity = Two (plain_written kind
+    (agent (codes "a") 1 ∷ agent (codes "b") 1 ∷ [])
+    (agent (codes "h1") capacity ∷ agent (codes "h2") capacity ∷ [])
+    [] [] [])
 
 -- the persons x and y
 abbrev pub room : Input

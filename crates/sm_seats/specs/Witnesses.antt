@@ -1,7 +1,7 @@
 -- Small instances whose seats are known by hand, so that the definitions mean what they should.
 use Rattle.std.specs.Prelude.{◌≡◌, [], ◌∷◌, None, Some, replicate}
 use Rattle.std.specs.List.{range_with_len}
-use Rattle.sm_instance.specs.Written.{Written}
+use Rattle.sm_instance.specs.Written.{Written, plain_written}
 use Rattle.sm_instance.specs.Ranks.{rank_vector_of}
 use Rattle.sm_instance.specs.Witnesses.{agent, small_hospitals, settled, inert_entry}
 use Rattle.sm_instance.specs.declared.kinds.Kind.TheVariants.{Hospitals}
@@ -33,14 +33,10 @@ MarriageSeats = (seats_of inert_entry ≡ (1, 1) ∷ [])
 
 -- residents r0: h, r1: h k and r2: k h; hospitals h of 2 places: r2 r0 r1, and k of 1: r1 r2
 abbrev pub turning_hospitals : Written
-turning_hospitals = record {
-  kind = Hospitals;
-  proposers = agent 48 1 (0 ∷ []) ∷ agent 49 1 (0 ∷ 1 ∷ []) ∷ agent 50 1 (1 ∷ 0 ∷ []) ∷ [];
-  reviewers = agent 104 2 (2 ∷ 0 ∷ 1 ∷ []) ∷ agent 107 1 (1 ∷ 2 ∷ []) ∷ [];
-  weights = [];
-  forced = [];
-  forbidden = [];
-}
+turning_hospitals = plain_written Hospitals
+    (agent 48 1 (0 ∷ []) ∷ agent 49 1 (0 ∷ 1 ∷ []) ∷ agent 50 1 (1 ∷ 0 ∷ []) ∷ [])
+    (agent 104 2 (2 ∷ 0 ∷ 1 ∷ []) ∷ agent 107 1 (1 ∷ 2 ∷ []) ∷ [])
+    [] [] []
 
 -- r0, r1 and r2 at the seats 1 and 2 of h and 1 of k, and at 2 of h, 1 of k and 1 of h
 abbrev pub firsts : Places
@@ -61,14 +57,10 @@ TurningHospitals = IsMarket (seat_market turning_hospitals)
 
 -- 1,024 residents, and two hospitals with a place for each of them: the seats of one have as many entries as there may be
 abbrev pub full_hospitals : Written
-full_hospitals = record {
-  kind = Hospitals;
-  proposers = replicate 1024 (agent 114 1 (0 ∷ 1 ∷ []));
-  reviewers = replicate 2 (agent 104 1024 (range_with_len 0 1024));
-  weights = [];
-  forced = [];
-  forbidden = [];
-}
+full_hospitals = plain_written Hospitals
+    (replicate 1024 (agent 114 1 (0 ∷ 1 ∷ [])))
+    (replicate 2 (agent 104 1024 (range_with_len 0 1024)))
+    [] [] []
 
 -- with the second of these hospitals there are too many, and in the small instance there are few enough
 abbrev pub SecondIsTooMany : Type 0
