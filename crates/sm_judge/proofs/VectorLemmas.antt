@@ -74,30 +74,22 @@ module _ (w : Written) (v : List ℕ) where
           past : {x : ℕ} → ◌≡◌ {A = Option ℕ} None (Some x) → ⊥
           past e = grind arith
 
--- which vector stands behind which, at the first place at which they differ
-module _ (n : ℕ) (u v : List ℕ) where
-  order_at : (j : ℕ) → j < n → slice_index (range_with_len 0 n) j ≡ j
-  order_at j h = get_or-range_with_len 0 n j 0 h ∙ omega arith
+module _ (order u v : List ℕ) (j : ℕ) (same : (i : ℕ) → i < j → slice_index u (slice_index order i) ≡ slice_index v (slice_index order i)) where
+  -- two vectors are alike before a place of the order: the one with the lower number there comes before the other
+  pub behind_to : j < length order → slice_index u (slice_index order j) < slice_index v (slice_index order j) → IsBefore order u v
+  behind_to h less = record { at = j; within = h; smaller = less; alike = same }
 
-  -- the one with the lower number there comes before the other
-  pub behind_to : (p : ℕ) → p < n → ((q : ℕ) → q < p → slice_index u q ≡ slice_index v q) → slice_index u p < slice_index v p → IsBefore (range_with_len 0 n) u v
-  behind_to p h same less = record {
-    at = p;
-    within = omega (arith, h, length-range_with_len 0 n);
-    smaller = rw (order_at p h) less;
-    alike = λ j k. rw (order_at j (omega (arith, h, k))) (same j k);
-  }
+  -- and where they differ there, the one that comes before the other has the lower number
+  pub behind_from : (slice_index u (slice_index order j) ≡ slice_index v (slice_index order j) → ⊥) → IsBefore order u v → slice_index u (slice_index order j) < slice_index v (slice_index order j)
+  behind_from differ b = elim (less_same_more b.at j) [
+    | inl less ↦ absurd (let e = same b.at less in omega (arith, b.smaller, e))
+    | inr (inl e) ↦ rw e at b.smaller
+    | inr (inr more) ↦ absurd (differ (b.alike j more))
+  ]
 
-  -- the one that comes before the other has the lower number there
-  pub behind_from : (p : ℕ) → p < n → ((q : ℕ) → q < p → slice_index u q ≡ slice_index v q) → (slice_index u p ≡ slice_index v p → ⊥) → IsBefore (range_with_len 0 n) u v → slice_index u p < slice_index v p
-  behind_from p h same differ b =
-      let k : b.at < n = omega (arith, b.within, length-range_with_len 0 n) in
-      let smaller : slice_index u b.at < slice_index v b.at = rw (order_at b.at k) at b.smaller in
-      elim (less_same_more b.at p) [
-        | inl less ↦ absurd (omega (arith, smaller, same b.at less))
-        | inr (inl e) ↦ rw e at smaller
-        | inr (inr more) ↦ absurd (differ (rw (order_at p h) at (b.alike p more)))
-      ]
+  -- vectors that are alike all along it come one before the other neither way
+  pub none_behind : length order ≤ j → ¬ IsBefore order u v
+  none_behind past b = let e = same b.at (omega (arith, b.within, past)) in omega (arith, b.smaller, e)
 
 -- an assignment with a breach isn't a matching
 pub breach_fails : (w : Written) (places : List (Option ℕ)) (p : ℕ) → IsFirstBreach w places p → IsMatching w places → ⊥

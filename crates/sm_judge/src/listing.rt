@@ -239,7 +239,7 @@ fn set_places(instance: &Instance, a: &mut Assignment, v: &[u32]) -> bool
     are_ranks
 }
 
-/// Whether a vector stands behind another one, if there is one.
+/// Whether a vector stands behind another one, if there is one, in the order of the instance.
 fn is_behind(instance: &Instance, before: Option<&[u32]>, v: &[u32]) -> bool
     requires one_each { length v.now ≡ length instance.now.proposers }
     requires before_each { IfSome before (λ b. length b.now ≡ length instance.now.proposers) }
@@ -249,9 +249,11 @@ fn is_behind(instance: &Instance, before: Option<&[u32]>, v: &[u32]) -> bool
     let Some(before) = before else {
         return true;
     };
-    for p in 0..instance.proposer_count() {
-        if before[p as usize] != v[p as usize] {
-            return before[p as usize] < v[p as usize];
+    let order = instance.order();
+    for j in 0..order.len() {
+        let p = order[j] as usize;
+        if before[p] != v[p] {
+            return before[p] < v[p];
         }
     }
     false

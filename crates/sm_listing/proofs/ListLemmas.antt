@@ -30,7 +30,7 @@ use Rattle.sm_listing.specs.ListAnswer.{last_line, vector_lines, IsListAnswer}
 use Rattle.sm_instance.specs.Ranks.{order_of}
 use Rattle.sm_listing.specs.Started.{IsListerOf}
 use Rattle.sm_listing.specs.Remaining.{IsLeftOf}
-use Rattle.sm_listing.proofs.StartLemmas.{range_is_order}
+use Rattle.sm_listing.proofs.StartLemmas.{each_once_is_order}
 
 -- what is listed at the seats are the rank vectors of the instance
 listed_written : {w : Written} {after : Option (List ℕ)} {s : Lister} {n : ℕ} {out : List (List ℕ)} {more : Bool} → IsListerOf w after s → IsListingOf s s.cursor n out more
@@ -66,7 +66,7 @@ list_right input limit head h is lines printed = record { answer = printed.answe
 list_some : {w : Written} {after : Option (List ℕ)} {s : Lister} (limit : ℕ) → IsListerOf w after s → HasRest (IsLeftOf false s limit)
 list_some {w} {after} {s} limit h =
     let count : length s.poset.lists.proposers ≡ length w.proposers = ap (λ l. length l.proposers) h.market ∙ h.seating.proposers in
-    let order : IsOrder (length s.poset.lists.proposers) s.order = subst (IsOrder (length s.poset.lists.proposers)) (sym h.order) (subst (λ n. IsOrder n (order_of w)) (sym count) (range_is_order (length w.proposers))) in
+    let order : IsOrder (length s.poset.lists.proposers) s.order = subst (IsOrder (length s.poset.lists.proposers)) (sym h.order) (subst (λ n. IsOrder n (order_of w)) (sym count) (each_once_is_order h.each_once)) in
     let x = listing_exists s.poset.lists s.poset.first.places s.poset.rotations s.levels s.forced s.forbidden s.order s.cursor limit h.poset.market h.poset.printed.chain order in
     record { lines = vector_lines s.cursor x.0 x.1; given = record { out = x.0; more = x.1; listing = x.2; shows = refl } }
 

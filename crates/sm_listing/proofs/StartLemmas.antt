@@ -1,23 +1,16 @@
 -- What a lister of an instance is started with.
-use Rattle.std.proofs.Common.{◌≡◌, ℕ, ◌<◌, ◌∙◌, List, Option, Some, None, Vec, length, get_or, MatchOption, arith, ap, sym}
-use Rattle.std.specs.List.{range_with_len}
+use Rattle.std.proofs.Common.{◌≡◌, ℕ, ◌∙◌, List, Option, Some, None, Vec, length, MatchOption, ap, sym}
 use Rattle.std.specs.declared.alloc.Global.{Global}
-use Rattle.std.proofs.lemmas.List.FromFn.{length-range_with_len, get_or-range_with_len}
 use Rattle.std.proofs.lemmas.Option.{none-some, same_Some}
+use Rattle.sm_instance.specs.Sound.{IsEachOnce}
+use Rattle.sm_instance.proofs.OrderLemmas.{each_once_long}
 use Rattle.sm_theory.specs.Vectors.{IsOrder}
 use Rattle.sm_listing.specs.ListAnswer.{IsCursor}
 use Rattle.sm_listing.specs.Started.{cursor_in}
 
--- the numbers of the proposers in turn are an order of them
-pub range_is_order : (n : ℕ) → IsOrder n (range_with_len 0 n)
-range_is_order n = record {
-  long = length-range_with_len 0 n;
-  in_range = λ j l. let e = number j (omega (arith, l, length-range_with_len 0 n)) in omega (arith, e, l, length-range_with_len 0 n);
-  each = λ p l. (p, omega (arith, l, length-range_with_len 0 n), number p l);
-}
-  where
-    number : (j : ℕ) → j < n → get_or (range_with_len 0 n) j 0 ≡ j
-    number j l = let e = get_or-range_with_len 0 n j 0 l in omega arith
+-- an order that has each of so many numbers once is an order of them
+pub each_once_is_order : {n : ℕ} {order : List ℕ} → IsEachOnce n order → IsOrder n order
+each_once_is_order o = record { long = each_once_long o; in_range = o.in_range; each = o.each }
 
 -- a copy of a vector is as long
 pub cursor_long : {n m : ℕ} (copy after : Option (Vec ℕ Global)) → cursor_in copy ≡ cursor_in after → n ≡ m → IsCursor n (cursor_in after) → MatchOption copy (Unit {0}) (λ v. length v.items ≡ m)

@@ -3,6 +3,7 @@ use Rattle.std.specs.Prelude.{◌≡◌, ℕ, List, length, Vec, Option}
 use Rattle.std.specs.Option.{option_map}
 use Rattle.std.specs.declared.alloc.Global.{Global}
 use Rattle.sm_instance.specs.Written.{Written}
+use Rattle.sm_instance.specs.Sound.{IsEachOnce}
 use Rattle.sm_poset.specs.Posets.{IsPoset}
 use Rattle.sm_seats.specs.SeatMarket.{seat_market}
 use Rattle.sm_seats.specs.Seating.{seating_of, levels_of}
@@ -15,8 +16,8 @@ use Rattle.sm_instance.specs.Ranks.{order_of}
 abbrev pub cursor_in : Option (Vec ℕ Global) → Option (List ℕ)
 cursor_in after = option_map (λ v. v.items) after
 
--- a lister of the stable matchings that the conditions of the instance allow, by its seats, in the order of the file's
--- proposers, that made no step yet
+-- a lister of the stable matchings that the conditions of the instance allow, by its seats, in the order of the instance, that
+-- made no step yet
 pub record IsListerOf (w : Written) (after : Option (List ℕ)) (lister : Lister) : Type 0 where
   pub seating : IsSeating w (seating_of w)
   pub poset : IsPoset lister.poset
@@ -25,5 +26,6 @@ pub record IsListerOf (w : Written) (after : Option (List ℕ)) (lister : Lister
   pub forced : lister.forced ≡ leveled w w.forced
   pub forbidden : lister.forbidden ≡ leveled w w.forbidden
   pub order : lister.order ≡ order_of w
+  pub each_once : IsEachOnce (length w.proposers) (order_of w)
   pub cursor : lister.cursor ≡ after
   pub fits : IsCursor (length w.proposers) after

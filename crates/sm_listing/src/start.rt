@@ -1,7 +1,7 @@
 //! A lister of an instance.
 
 ghost use Rattle.std.specs.Prelude.{◌≡◌, ◌++◌, ◌∷◌, [], length, IfSome, IfOk, OnOk};
-ghost use Rattle.std.specs.List.{All, range_with_len};
+ghost use Rattle.std.specs.List.{All};
 ghost use Rattle.sm_report.specs.Sound.{IsSmall};
 ghost use Rattle.sm_seats.specs.Seating.{seating_of};
 ghost use Rattle.sm_seats.specs.Correspondence.{IsSeating};
@@ -16,7 +16,7 @@ use sm_shown::{Basis, conditions_of};
 use std::alloc::{AllocError, AllocFailed, Global};
 
 /// Makes ready to list the rank vectors of the stable matchings that the conditions of an instance allow, behind a vector
-/// where one is given, in the order of the file's proposers.
+/// where one is given, in the order of the instance.
 ///
 /// The vector has an item for each proposer; it needn't be that of a matching. Takes the time and the memory of
 /// [`Basis::of`] and [`Lister::start`], and all memory of the listing but that of its lines.
@@ -38,20 +38,9 @@ pub fn start_list(
     let basis = Basis::of(alloc, seats)?;
     let least = Least::start(alloc, &basis.poset, seats.levels(alloc)?)?;
     let conditions = conditions_of(alloc, instance)?;
-    let order = first_numbers(alloc, instance.proposer_count())?;
+    let order = small_copy(alloc, instance.order())?;
     let after = copy_of_cursor(alloc, after)?;
     Lister::start(alloc, least, conditions, order, after)
-}
-
-/// The first numbers, from 0.
-fn first_numbers(alloc: Global, count: u32) -> Result<Vec<u32>, AllocError>
-    ensures { IfOk result (λ numbers. numbers.items ≡ range_with_len 0 count) }
-{
-    let mut numbers = Vec::with_capacity(alloc, count as usize)?;
-    for n in 0..count {
-        numbers.push(n)?;
-    }
-    Ok(numbers)
 }
 
 /// A copy of a vector, if there is one.
