@@ -2,6 +2,7 @@
 use Rattle.std.proofs.Common.{◌≡◌, ℕ, ◌+◌, List, [], ◌∷◌, ◌++◌, Bool, true, false, Option, Some, None, Result, Ok, Err, OnOk, length, refl, sym, ap, ◌∙◌, subst, arith}
 use Rattle.std.specs.declared.alloc.AllocError.{AllocError}
 use Rattle.std.proofs.lemmas.Bool.{false≢true}
+use Rattle.sm_instance.specs.Inputs.{IsInput}
 use Rattle.sm_instance.specs.declared.inputs.Input.{Input}
 use Rattle.sm_report.specs.Lines.{LineData, line_of}
 use Rattle.sm_report.specs.Sound.{IsPrintable}
@@ -80,18 +81,19 @@ head_printable input line vectors head e h =
     next_printable input _ _ (line_of line) (1 + 0) (0 + 0) (printed_with input line vectors k) (gave_head input line vectors 0 k)
 
 -- and it is put
-pub head_put : (input : Input) (line : Line) (vectors : VectorLines) (n : ℕ) (head then : Option Line) (held holds : List ℕ) → head ≡ Some line → then ≡ None → HasRest (IsListLeft input head vectors) → holds ≡ held ++ text_of_line input (line_of line)
+pub head_put : (input : Input) (line : Line) (vectors : VectorLines) (n : ℕ) (head then : Option Line) (held holds : List ℕ) → IsInput input → head ≡ Some line → then ≡ None → HasRest (IsListLeft input head vectors) → holds ≡ held ++ text_of_line input (line_of line)
     → PutLine (IsListLeft input head vectors) (IsListLeft input then vectors) (length (line_left head) + n) (length (line_left then) + n) held holds
-head_put input line vectors n head then held holds e f h put =
+head_put input line vectors n head then held holds sound e f h put =
     subst (λ o. PutLine (IsListLeft input o vectors) (IsListLeft input then vectors) (length (line_left o) + n) (length (line_left then) + n) held holds) (sym e)
     (subst (λ o. PutLine (IsListLeft input (Some line) vectors) (IsListLeft input o vectors) (1 + n) (length (line_left o) + n) held holds) (sym f) by_line)
   where
     by_line : PutLine (IsListLeft input (Some line) vectors) (IsListLeft input None vectors) (1 + n) (0 + n) held holds
     by_line =
         let k = with_head input line vectors head e h in
-        let w = line_put input _ _ (line_of line) (1 + n) (0 + n) held holds (printed_with input line vectors k) (gave_head input line vectors n k) put in
+        let w = line_put input _ _ (line_of line) (1 + n) (0 + n) held holds sound (printed_with input line vectors k) (gave_head input line vectors n k) put in
         record {
           line = w.line;
+          plain = w.plain;
           put = w.put;
           gave = record {
             first = λ rest l. record { kept = k.given.kept; printed = w.gave.first rest l.printed };
@@ -106,6 +108,7 @@ line_behind : (input : Input) (vectors then : VectorLines) (n m : ℕ) (held hol
     → PutLine (IsListLeft input None vectors) (IsListLeft input None then) (0 + n) (0 + m) held holds
 line_behind input vectors then n m held holds old new w = record {
   line = w.line;
+  plain = w.plain;
   put = w.put;
   gave = record {
     first = λ rest l. record { kept = old; printed = printed_joined input _ _ (w.gave.first rest (printed_behind input _ rest l.printed)) };
@@ -121,5 +124,5 @@ pub behind_put : (input : Input) (vectors then : VectorLines) (n m : ℕ) (head 
 behind_put input vectors then n m (Some line) none held holds r e f h kept w = absurd cc
 behind_put input vectors then n m None (Some line) held holds r e f h kept w = absurd cc
 behind_put input vectors then n m None None held holds (Err x) e f h kept w = tt
-behind_put input vectors then n m None None held holds (Ok false) e f h kept none = record { kept = h.given.kept; printed = printed_joined input _ [] none }
+behind_put input vectors then n m None None held holds (Ok false) e f h kept none = (record { kept = h.given.kept; printed = printed_joined input _ [] none.0 }, none.1)
 behind_put input vectors then n m None None held holds (Ok true) e f h kept w = line_behind input vectors then n m held holds h.given.kept kept w

@@ -37,6 +37,7 @@ impl Lines for ListLines<'_> {
     ghost most = { λ s. length (line_left s.head) + most_lines s.vectors.over s.vectors.left };
 
     fn put_next(&mut self, alloc: Global, into: &mut LineWriter) -> Result<bool, AllocError> {
+        let _kind = self.input.kind();
         match self.head.take() {
             Some(line) => {
                 put_text(into, self.input, &line)?;

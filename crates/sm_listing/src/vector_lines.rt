@@ -29,7 +29,7 @@ pub struct VectorLines {
 }
 
 impl VectorLines {
-    /// Puts the next line behind what the writer holds; `false` where no line is left.
+    /// Puts the next line behind what the writer holds; `false` where no line is left, and then the writer holds what it held.
     pub(crate) fn put_next(
         &mut self,
         alloc: Global,
@@ -46,6 +46,7 @@ impl VectorLines {
             (most_lines self.old.over self.old.left) (most_lines self.new.over self.new.left)
             into.old.bytes into.new.bytes result }
     {
+        let _kind = input.kind();
         if self.over {
             return Ok(false);
         }

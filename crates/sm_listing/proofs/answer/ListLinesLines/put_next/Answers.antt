@@ -11,7 +11,7 @@ put_text-requires c =
 pub returns-in_ok-put_text-in-Some : goal.returns-in_ok-put_text-in-Some
 returns-in_ok-put_text-in-Some c =
     let s = c.args.self.now in
-    head_put s.input.now c.in-Some.line s.vectors (most_lines s.vectors.over s.vectors.left) s.head c.take.new.self _ _ (sym c.take.ensures.value ∙ c.in-Some.is) c.take.ensures.after c.requires c.in_ok-put_text-in-Some.ensures.ok
+    head_put s.input.now c.in-Some.line s.vectors (most_lines s.vectors.over s.vectors.left) s.head c.take.new.self _ _ c.kind-kind.ensures.sound (sym c.take.ensures.value ∙ c.in-Some.is) c.take.ensures.after c.requires c.in_ok-put_text-in-Some.ensures.ok
 
 pub returns-in-None : goal.returns-in-None
 returns-in-None c =
