@@ -218,6 +218,9 @@ fn judge_head(
         Head::Pairs => Ok(Verdict::Yes),
         Head::Survey(_) => Ok(Verdict::Yes),
         Head::Check => Ok(Verdict::Yes),
+        Head::Median => Ok(Verdict::Yes),
+        Head::Route => Ok(Verdict::Yes),
+        Head::Rest => Ok(Verdict::Yes),
     }
 }
 
