@@ -21,7 +21,7 @@ use Rattle.sm_top.specs.declared.status.Status.TheVariants.{Refused, Usage, OutO
 use Rattle.sm_top.specs.declared.stop.Stop.{Stop}
 use Rattle.sm_top.specs.declared.stop.Stop.TheVariants as stop
 use Rattle.sm_top.specs.Texts.{RefusalData, plain_refusal, with_detail, refusal_fields, usage_line, refused_line}
-use Rattle.sm_top.specs.Stops.{StopsBy}
+use Rattle.sm_top.specs.Stops.{StopsBy, IsPlainStop}
 use Rattle.sm_tally.specs.Fold.{Shown}
 use Rattle.sm_make.specs.Made.{made_instance}
 use Rattle.sm_make.specs.declared.shape.Shape.{Shape}
@@ -67,9 +67,17 @@ pub stops_for : (U U' : ℕ → Type 0) (R R' : RefusalData → Type 0) (F F' : 
     → ((word : ℕ) → U word → U' word) → ((refusal : RefusalData) → R refusal → R' refusal) → (F → F') → StopsBy U R F s → StopsBy U' R' F' s
 stops_for U U' R R' F F' (stop.Usage word) u r f h = u word h
 stops_for U U' R R' F F' (stop.Refused kind at) u r f h = r (plain_refusal kind at) h
-stops_for U U' R R' F F' (stop.Unstable at fields) u r f h = r (with_detail NotStable at (refusal_fields fields)) h
+stops_for U U' R R' F F' (stop.Unstable at fields) u r f h = (r (with_detail NotStable at (refusal_fields fields)) h.0, h.1)
 stops_for U U' R R' F F' stop.ReadFault u r f h = f h
 stops_for U U' R R' F F' stop.OutOfMemory u r f h = tt
+
+-- what is said of it is plain
+pub plain_stop : (U : ℕ → Type 0) (R : RefusalData → Type 0) (F : Type 0) (s : Stop) → StopsBy U R F s → IsPlainStop s
+plain_stop U R F (stop.Usage word) h = tt
+plain_stop U R F (stop.Refused kind at) h = tt
+plain_stop U R F (stop.Unstable at fields) h = h.1
+plain_stop U R F stop.ReadFault h = tt
+plain_stop U R F stop.OutOfMemory h = tt
 
 -- so it is of a run that may have stopped
 pub err_stops_for : (U U' : ℕ → Type 0) (R R' : RefusalData → Type 0) (F F' : Type 0) (r : Result Status Stop)
@@ -365,7 +373,8 @@ answers_stopped {tallies} words before after a b f g h i (stop.Refused kind at) 
     (λ s lines w. refused refusal.job (plain_refusal kind at) refusal.meaning r.refused w.same w.given_lines) says)
     (λ reading w short. r.read_whole (sym (reads_of words refusal.job refusal.meaning) ∙ reading) (λ is. let same : status ≡ Refused kind at = with_whole (Refused kind at) _ a b f g status w says in let long : is_too_long status ≡ true = ap is_too_long same ∙ ap (λ k. is_too_long (Refused k at)) is in absurd cc))
     (λ reading. r.over (sym (reads_of words refusal.job refusal.meaning) ∙ reading)) untouched
-answers_stopped {tallies} words before after a b f g h i (stop.Unstable at fields) status refusal untouched says =
+answers_stopped {tallies} words before after a b f g h i (stop.Unstable at fields) status told untouched says =
+    let refusal = told.0 in
     let r = refusal.for_job in
     answers_wrote words r.bytes before after a b f g status r.read
     (wrote_for (With (Refused NotStable at) (λ lines. lines ≡ refused_line (with_detail NotStable at (refusal_fields fields)) ∷ [])) (Outcome tallies words r.bytes) a b f g status

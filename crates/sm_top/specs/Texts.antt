@@ -1,7 +1,8 @@
 -- The lines that are written where there is no answer.
-use Rattle.std.specs.Prelude.{ℕ, List, [], ◌++◌, codes, decimal, map, Vec}
-use Rattle.std.specs.List.{flat_map}
+use Rattle.std.specs.Prelude.{ℕ, List, [], ◌++◌, Bool, codes, decimal, map, Vec}
+use Rattle.std.specs.List.{flat_map, list_all}
 use Rattle.std.specs.declared.alloc.Global.{Global}
+use Rattle.sm_text.specs.Plain.{is_plain}
 use Rattle.sm_text.specs.Refusal.{name_of_refusal}
 use Rattle.sm_text.specs.declared.refusal.RefusalKind.{RefusalKind}
 
@@ -35,3 +36,7 @@ usage_line word = codes "usage " ++ decimal word
 -- the fields of a refusal, as plain data
 abbrev pub refusal_fields : Vec (Vec ℕ Global) Global → List (List ℕ)
 refusal_fields fields = map (λ (field : Vec ℕ Global). field.items) fields.items
+
+-- fields that stand for themselves in a string of JSON
+abbrev pub are_plain : List (List ℕ) → Bool
+are_plain fields = list_all is_plain fields

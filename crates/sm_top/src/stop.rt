@@ -1,7 +1,8 @@
 //! What is said where there is no answer.
 
-ghost use Rattle.std.specs.Prelude.{◌≡◌, OnOk, ◌++◌};
-ghost use Rattle.sm_top.specs.Texts.{plain_refusal, refusal_fields, spaced, usage_line, refused_line};
+ghost use Rattle.std.specs.Prelude.{◌≡◌, OnOk, ◌++◌, [], true};
+ghost use Rattle.sm_text.specs.Plain.{is_plain};
+ghost use Rattle.sm_top.specs.Texts.{plain_refusal, refusal_fields, spaced, usage_line, refused_line, are_plain};
 
 use sm_answer::Lines;
 use sm_text::{LineWriter, RefusalKind};
@@ -49,7 +50,6 @@ impl Lines for UsageLine {
 
     ghost most = { λ s. most_unsaid s.is_said };
 
-    #[tactic(auto, using(crate::proofs::StopLemmas::line_said))]
     fn put_next(&mut self, _alloc: Global, into: &mut LineWriter) -> Result<bool, AllocError> {
         if self.is_said {
             return Ok(false);
@@ -68,6 +68,7 @@ pub(crate) struct RefusedLine {
     /// The fields that tell more.
     pub(crate) detail: Vec<Vec<u8>>,
     pub(crate) is_said: bool,
+    ghost plain: { are_plain (refusal_fields detail) ≡ true },
 }
 
 impl Lines for RefusedLine {
@@ -80,7 +81,6 @@ impl Lines for RefusedLine {
 
     ghost most = { λ s. most_unsaid s.is_said };
 
-    #[tactic(auto, using(crate::proofs::StopLemmas::line_said))]
     fn put_next(&mut self, _alloc: Global, into: &mut LineWriter) -> Result<bool, AllocError> {
         if self.is_said {
             return Ok(false);
@@ -92,9 +92,18 @@ impl Lines for RefusedLine {
     }
 }
 
+/// No fields that tell more.
+pub(crate) fn no_detail(alloc: Global) -> Vec<Vec<u8>>
+    ensures none { refusal_fields result ≡ [] }
+    ensures plain { are_plain (refusal_fields result) ≡ true }
+{
+    Vec::new(alloc)
+}
+
 /// Puts the line that names a faulty word.
 fn put_usage(into: &mut LineWriter, word: u32) -> Result<(), AllocError>
-    ensures { OnOk result (into.new.bytes ≡ into.old.bytes ++ usage_line word) }
+    ensures put { OnOk result (into.new.bytes ≡ into.old.bytes ++ usage_line word) }
+    ensures plain { OnOk result (is_plain (usage_line word) ≡ true) }
 {
     into.put_bytes(b"usage ")?;
     into.put_number(u64::from(word))
@@ -102,7 +111,9 @@ fn put_usage(into: &mut LineWriter, word: u32) -> Result<(), AllocError>
 
 /// Puts why an input is refused, and where.
 fn put_refused(into: &mut LineWriter, kind: RefusalKind, at: u32) -> Result<(), AllocError>
-    ensures { OnOk result (into.new.bytes ≡ into.old.bytes ++ refused_line (plain_refusal kind at)) }
+    ensures put { OnOk result (into.new.bytes ≡ into.old.bytes
+        ++ refused_line (plain_refusal kind at)) }
+    ensures plain { OnOk result (is_plain (refused_line (plain_refusal kind at)) ≡ true) }
 {
     into.put_bytes(b"refused ")?;
     into.put_bytes(kind.name().as_bytes())?;

@@ -1,6 +1,6 @@
 use Rattle.std.proofs.Common.{[], ap}
 use Rattle.sm_words.specs.Words.{texts}
-use Rattle.sm_top.proofs.RunLemmas.{answers_served, answers_stopped, answers_accepted}
+use Rattle.sm_top.proofs.RunLemmas.{answers_served, answers_stopped, answers_accepted, plain_stop}
 use Rattle.sm_top.proofs.running.run.Goals as goal
 
 pub returns-in-Ok-clause-answer : goal.returns-in-Ok-clause-answer
@@ -9,6 +9,9 @@ returns-in-Ok-clause-answer g c = answers_served _ _ _ _ _ _ _ _ c.in-Ok.ensures
 pub returns-in-Ok-clause-accepted : goal.returns-in-Ok-clause-accepted
 returns-in-Ok-clause-accepted g c =
     answers_accepted (texts c.args.words.now) (g.S.Source.left c.args.source.now) _ _ _ c.in-Ok.status (answers_served _ _ _ _ _ _ _ _ c.in-Ok.ensures.served)
+
+pub say_stop-requires : goal.say_stop-requires
+say_stop-requires g c = plain_stop _ _ _ c.in-Err.stop c.in-Err.ensures.stop
 
 pub returns-clause-answer : goal.returns-clause-answer
 returns-clause-answer g c =
