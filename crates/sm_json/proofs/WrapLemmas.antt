@@ -7,7 +7,8 @@ use Rattle.serde_json.specs.View.{items_of}
 use Rattle.serde_json.specs.Written.{items_text}
 use Rattle.sm_text.specs.Lines.{LF}
 use Rattle.sm_report.proofs.DecimalLemmas.{first_true, second_true}
-use Rattle.sm_json.specs.Wrapping.{is_plain_byte, is_plain, wrapped, wrapped_from, LinesAreJson}
+use Rattle.sm_text.specs.Plain.{is_plain_byte, is_plain}
+use Rattle.sm_json.specs.Wrapping.{wrapped, wrapped_from, LinesAreJson}
 
 not_true : (t : Bool) → not t ≡ true → t ≡ false
 not_true true h = absurd cc

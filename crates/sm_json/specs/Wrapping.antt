@@ -1,18 +1,11 @@
 -- Lines as items of an array of strings.
-use Rattle.std.specs.Prelude.{◌≡◌, ℕ, ◌==◌, ◌&&◌, nat_le, not, Bool, true, false, List, [], ◌∷◌, ◌++◌, map}
+use Rattle.std.specs.Prelude.{◌≡◌, ℕ, Bool, true, false, List, [], ◌∷◌, ◌++◌, map}
 use Rattle.std.specs.List.{list_all}
 use Rattle.serde_json.specs.Data.{string, array}
 use Rattle.serde_json.specs.View.{items_of}
 use Rattle.serde_json.specs.Written.{compact_text}
 use Rattle.sm_text.specs.Lines.{LF}
-
--- a byte that stands for itself in a string: 32 to 126, neither `"` nor `\`
-unfoldable pub is_plain_byte : ℕ → Bool
-is_plain_byte b = nat_le 32 b && nat_le b 126 && not (b == 34) && not (b == 92)
-
--- a line of such bytes
-abbrev pub is_plain : List ℕ → Bool
-is_plain line = list_all is_plain_byte line
+use Rattle.sm_text.specs.Plain.{is_plain}
 
 -- `[` for the first line, `,` for a later one
 abbrev pub opening : Bool → ℕ

@@ -3,7 +3,8 @@
 ghost use Rattle.std.specs.Prelude.{◌≡◌, true};
 ghost use Rattle.std.specs.List.{list_all};
 ghost use Rattle.sm_report.specs.Putting.{PutsText};
-ghost use Rattle.sm_json.specs.Wrapping.{is_plain_byte, wrapped};
+ghost use Rattle.sm_text.specs.Plain.{is_plain_byte};
+ghost use Rattle.sm_json.specs.Wrapping.{wrapped};
 
 use sm_text::LineWriter;
 use std::alloc::AllocError;
