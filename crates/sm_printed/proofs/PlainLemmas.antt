@@ -57,7 +57,7 @@ header_plain Hospitals = refl
 header_plain Roommates = refl
 
 -- so does the name of an agent, also of one that isn't there
-name_of_plain : (agents : List AgentData) (single : Bool) → AreSoundAgents agents single → (a : ℕ) → IsPlain (name_of agents a)
+pub name_of_plain : (agents : List AgentData) (single : Bool) → AreSoundAgents agents single → (a : ℕ) → IsPlain (name_of agents a)
 name_of_plain agents single s a =
     by_answer (nat_lt a (length agents)) (λ is. name_plain (name_of agents a) (s.sound a (ltb-true a (length agents) is)).name)
     (λ is. ap (λ (agent : AgentData). is_plain agent.name) (get_or_past agents a no_agent (ltb-false a (length agents) is)))

@@ -45,6 +45,7 @@ pub(crate) fn choose<K: Sink>(
     ensures unwritten { OnErr result (sink.new ≡ sink.old) }
     ensures later { K.faults sink.old ≤ K.faults sink.new }
 {
+    let _kind = read.input.kind();
     match find_given(
         alloc,
         &read.input,

@@ -1,6 +1,6 @@
 //! The top call.
 
-ghost use Rattle.std.specs.Prelude.{◌≡◌, ◌≤◌, ◌≢◌, Ok, Err, IfOk, IfErr, OnErr, length, map, true, false};
+ghost use Rattle.std.specs.Prelude.{◌≡◌, ◌≤◌, ◌≢◌, ◌∷◌, [], Ok, Err, IfOk, IfErr, OnErr, length, map, true, false};
 ghost use Rattle.sm_text.specs.Limits.{most_bytes};
 ghost use Rattle.sm_io.specs.Faults.{Rose};
 ghost use Rattle.sm_words.specs.Jobs.{job_of, IsInBounds};
@@ -11,7 +11,8 @@ ghost use Rattle.sm_top.specs.Outcome.{IsAnswer, IsRefused};
 ghost use Rattle.sm_top.specs.Running.{reads, Answers, AnswersAccepted};
 ghost use Rattle.sm_top.specs.Steps.{Serves, ServesWords, IsRefusalFor, IsRefusal, IsReadFault, SaysStop};
 ghost use Rattle.sm_top.specs.Stops.{StopsBy, IsPlainStop};
-ghost use Rattle.sm_top.specs.Wrote.{Wrote};
+ghost use Rattle.sm_top.specs.Texts.{are_plain, refusal_fields, refused_line, with_detail};
+ghost use Rattle.sm_top.specs.Wrote.{Wrote, With};
 
 use crate::checking::check_answer;
 use crate::input::read_all;
@@ -19,7 +20,7 @@ use crate::making::show_made;
 use crate::performing::perform;
 use crate::refusing::{judges_answer, read_for};
 use crate::status::Status;
-use crate::stop::{RefusedLine, Stop, UsageLine};
+use crate::stop::{RefusedLine, Stop, UsageLine, no_detail};
 use crate::writing::write;
 use sm_io::{Sink, Source};
 use sm_make::make;
@@ -206,22 +207,32 @@ fn say_stop<K: Sink>(alloc: Global, sink: &mut K, stop: Stop) -> Status
             let lines = RefusedLine {
                 kind,
                 at,
-                detail: Vec::new(alloc),
+                detail: no_detail(alloc),
                 is_said: false,
             };
             write(alloc, sink, Status::Refused(kind, at), lines)
         }
-        Stop::Unstable(at, detail) => {
-            let kind = RefusalKind::NotStable;
-            let lines = RefusedLine {
-                kind,
-                at,
-                detail,
-                is_said: false,
-            };
-            write(alloc, sink, Status::Refused(kind, at), lines)
-        }
+        Stop::Unstable(at, detail) => say_unstable(alloc, sink, at, detail),
         Stop::ReadFault => Status::ReadFault,
         Stop::OutOfMemory => Status::OutOfMemory,
     }
+}
+
+/// Says that a given matching isn't stable, with the fields that tell why.
+fn say_unstable<K: Sink>(alloc: Global, sink: &mut K, at: u32, detail: Vec<Vec<u8>>) -> Status
+    requires { are_plain (refusal_fields detail) ≡ true }
+    ensures says { Wrote (With (Status.Refused RefusalKind.NotStable at)
+        (λ lines. lines ≡ refused_line (with_detail RefusalKind.NotStable at
+        (refusal_fields detail)) ∷ []))
+        (K.held sink.old) (K.held sink.new) (K.faults sink.old) (K.faults sink.new) result }
+    ensures later { K.faults sink.old ≤ K.faults sink.new }
+{
+    let kind = RefusalKind::NotStable;
+    let lines = RefusedLine {
+        kind,
+        at,
+        detail,
+        is_said: false,
+    };
+    write(alloc, sink, Status::Refused(kind, at), lines)
 }

@@ -1,6 +1,6 @@
 //! What is said where there is no answer.
 
-ghost use Rattle.std.specs.Prelude.{◌≡◌, OnOk, ◌++◌, true};
+ghost use Rattle.std.specs.Prelude.{◌≡◌, OnOk, ◌++◌, [], true};
 ghost use Rattle.sm_text.specs.Plain.{is_plain};
 ghost use Rattle.sm_top.specs.Texts.{plain_refusal, refusal_fields, spaced, usage_line, refused_line, are_plain};
 
@@ -92,10 +92,18 @@ impl Lines for RefusedLine {
     }
 }
 
+/// No fields that tell more.
+pub(crate) fn no_detail(alloc: Global) -> Vec<Vec<u8>>
+    ensures none { refusal_fields result ≡ [] }
+    ensures plain { are_plain (refusal_fields result) ≡ true }
+{
+    Vec::new(alloc)
+}
+
 /// Puts the line that names a faulty word.
 fn put_usage(into: &mut LineWriter, word: u32) -> Result<(), AllocError>
     ensures put { OnOk result (into.new.bytes ≡ into.old.bytes ++ usage_line word) }
-    ensures plain { is_plain (usage_line word) ≡ true }
+    ensures plain { OnOk result (is_plain (usage_line word) ≡ true) }
 {
     into.put_bytes(b"usage ")?;
     into.put_number(u64::from(word))
@@ -105,7 +113,7 @@ fn put_usage(into: &mut LineWriter, word: u32) -> Result<(), AllocError>
 fn put_refused(into: &mut LineWriter, kind: RefusalKind, at: u32) -> Result<(), AllocError>
     ensures put { OnOk result (into.new.bytes ≡ into.old.bytes
         ++ refused_line (plain_refusal kind at)) }
-    ensures plain { is_plain (refused_line (plain_refusal kind at)) ≡ true }
+    ensures plain { OnOk result (is_plain (refused_line (plain_refusal kind at)) ≡ true) }
 {
     into.put_bytes(b"refused ")?;
     into.put_bytes(kind.name().as_bytes())?;

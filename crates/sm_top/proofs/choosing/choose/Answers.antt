@@ -3,8 +3,9 @@ use Rattle.sm_instance.specs.declared.inputs.Input.{Input}
 use Rattle.sm_text.specs.declared.refusal.RefusalKind.TheVariants.{NotStable}
 use Rattle.sm_given.specs.GivenText.{texts_from}
 use Rattle.sm_top.specs.Outcome.{unstable_fields, bad, unstable}
-use Rattle.sm_top.specs.Texts.{with_detail}
+use Rattle.sm_top.specs.Texts.{with_detail, are_plain}
 use Rattle.sm_top.specs.declared.status.Status.TheVariants.{Done}
+use Rattle.sm_top.proofs.StopLemmas.{unstable_plain}
 use Rattle.sm_top.proofs.WritingLemmas.{wrote_given}
 use Rattle.sm_top.proofs.choosing.choose.Goals as goal
 
@@ -19,5 +20,10 @@ returns-in-Err-BadAnswer-clause-stop g c =
 pub returns-in_ok-fields-in-Err-NotStable-clause-stop : goal.returns-in_ok-fields-in-Err-NotStable-clause-stop
 returns-in_ok-fields-in-Err-NotStable-clause-stop g c =
     let u = c.in-Err-NotStable.unstable in
-    rw c.in-Err-NotStable.field-0-is (unstable u (rw c.in-Err-NotStable.field-0-is at c.in-Err-NotStable.ensures.fault)
-    (ap (with_detail NotStable u.line) ((rw c.in-Err-NotStable.field-0-is at c.in_ok-fields-in-Err-NotStable.ensures) ∙ ap (λ (i : Input). unstable_fields i u) c.requires.two)))
+    let input = c.args.read.now.input in
+    let shown = rw c.in-Err-NotStable.field-0-is at c.in_ok-fields-in-Err-NotStable.ensures in
+    rw c.in-Err-NotStable.field-0-is (
+      unstable u (rw c.in-Err-NotStable.field-0-is at c.in-Err-NotStable.ensures.fault)
+          (ap (with_detail NotStable u.line) (shown ∙ ap (λ (i : Input). unstable_fields i u) c.requires.two)),
+      ap are_plain shown ∙ unstable_plain input c.kind-kind.ensures.sound u,
+    )
