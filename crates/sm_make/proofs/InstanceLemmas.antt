@@ -1,5 +1,5 @@
 -- Made sides make instances, and made persons are persons.
-use Rattle.std.proofs.Common.{◌≡◌, ◌≢◌, ◌+◌, ◌-◌, ◌*◌, ◌/◌, ◌<◌, ◌≤◌, ◌^◌, ◌∙◌, ℕ, Bool, true, false, true≢false, IsTrue, List, [], ◌∷◌, length, drop, sym, ap, subst, refl, arith, decimal}
+use Rattle.std.proofs.Common.{◌≡◌, ◌≢◌, ◌+◌, ◌-◌, ◌*◌, ◌<◌, ◌≤◌, ◌^◌, ◌∙◌, ℕ, Bool, true, false, true≢false, IsTrue, List, [], ◌∷◌, length, drop, sym, ap, subst, refl, arith, decimal}
 use Rattle.std.proofs.lemmas.Bool.{le-leb}
 use Rattle.std.proofs.lemmas.Fmt.{length-decimal-le}
 use Rattle.std.proofs.lemmas.List.FromFn.{length-map-range_with_len}
@@ -13,7 +13,7 @@ use Rattle.sm_instance.specs.Sound.{IsInstance, ArePersons, AreSoundAgents, AreS
 use Rattle.sm_instance.specs.declared.kinds.Kind.{Kind}
 use Rattle.sm_instance.specs.declared.kinds.Kind.TheVariants.{Marriage, Hospitals, Roommates}
 use Rattle.sm_make.specs.Made.{agent, agents_made, plain, proposer_letter, reviewer_letter, hospitals_for}
-use Rattle.sm_make.specs.Lists.{copy_list, copy_list_back, turn_from, shuffled_list, shuffled_others, rising, rising_without}
+use Rattle.sm_make.specs.Lists.{copy_list, copy_list_back, turn_from, shuffled_list, shuffled_others, rising_without}
 use Rattle.sm_make.specs.Laws.{IsSoundList, IsWhole}
 use Rattle.sm_make.proofs.SideLemmas.{agent_at-agents_made, names_differ, entries_are_sound}
 use Rattle.sm_make.proofs.FewLemmas.{entries_are_few}

@@ -1,5 +1,5 @@
 -- What lemmas say of made lists and sides.
-use Rattle.std.specs.Prelude.{◌≡◌, ◌≢◌, ℕ, ◌+◌, ◌*◌, ◌<◌, ◌≤◌, ◌^◌, List, [], ◌∷◌, length, slice_index, true, decimal}
+use Rattle.std.specs.Prelude.{◌≡◌, ◌≢◌, ℕ, ◌+◌, ◌*◌, ◌<◌, ◌≤◌, ◌^◌, List, length, slice_index, true, decimal}
 use Rattle.sm_instance.specs.Written.{agent_at}
 use Rattle.sm_instance.specs.Sound.{AreSoundEntries, entries_of}
 use Rattle.sm_text.specs.Name.{is_name_byte}
