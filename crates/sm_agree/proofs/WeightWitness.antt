@@ -4,6 +4,8 @@ use Rattle.std.specs.Prelude.{ℤ, pos, negsuc, ◌≤ℤ◌}
 use Rattle.std.specs.List.{All}
 use Rattle.std.specs.Int.RustNames.{unsigned_abs}
 use Rattle.std.proofs.lemmas.List.Elements.{All-cons, All-from_recursion}
+use Rattle.sm_instance.proofs.OrderLemmas.{range_is_each_once}
+use Rattle.sm_instance.proofs.SecondLemmas.{zeros_small}
 use Rattle.sm_instance.specs.Written.{Written}
 use Rattle.sm_instance.specs.Matching.{standing}
 use Rattle.sm_instance.specs.Ranks.{weight_of as written_weight}
@@ -61,6 +63,9 @@ weighed_instance = record {
   items = below_two (IsSoundItem 3 3 weighed_three.weights items)
       (record { pair = record { proposer = omega arith; reviewer = omega arith }; size = λ l. omega arith; fresh = λ l k less. absurd (omega (arith, less)) })
       (record { pair = record { proposer = omega arith; reviewer = omega arith }; size = λ l. omega arith; fresh = λ l k less. other k less });
+  seconds_each = refl;
+  seconds_small = zeros_small weighed_three.weights;
+  order = range_is_each_once 3;
 }
   where
     items : List (ℕ × ℕ)

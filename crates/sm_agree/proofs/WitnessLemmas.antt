@@ -8,6 +8,8 @@ use Rattle.std.proofs.lemmas.Bool.Decides.{nat_tests}
 use Rattle.std.proofs.lemmas.Option.{same_Some, none-some}
 use Rattle.sm_text.specs.Name as name
 use Rattle.sm_lists.specs.Rows.{row as list_row}
+use Rattle.sm_instance.proofs.OrderLemmas.{range_is_each_once}
+use Rattle.sm_instance.proofs.SecondLemmas.{zeros_small}
 use Rattle.sm_instance.specs.Written.{AgentData, Written, agent_at, row, entry, capacity_of, IsAcceptable}
 use Rattle.sm_instance.specs.Matching.{held, standing, load, IsMatching}
 use Rattle.sm_instance.specs.Stable.{Blocks, IsStable, IsProposersBest, IsReviewersBest}
@@ -149,6 +151,9 @@ instance = record {
   proposer_entries = record { sound = proposer_entries };
   reviewer_entries = record { sound = reviewer_entries };
   items = λ n l. absurd (omega (arith, l));
+  seconds_each = refl;
+  seconds_small = zeros_small w.weights;
+  order = range_is_each_once 1;
 }
   where
     proposers : (a : ℕ) → a < 1 → IsSoundAgent w.proposers true a
@@ -300,6 +305,9 @@ three_instance = record {
   proposer_entries = record { sound = proposer_entries };
   reviewer_entries = record { sound = reviewer_entries };
   items = λ n l. absurd (omega (arith, l));
+  seconds_each = refl;
+  seconds_small = zeros_small three_by_three.weights;
+  order = range_is_each_once 3;
 }
   where
     proposer_entries : (a i : ℕ) → i < length (row three_by_three.proposers a) → IsSoundEntry three_by_three.proposers 3 a i

@@ -203,11 +203,11 @@ sides_said kind line d draft other n are =
     let p = d.proposer_names in
     let r = d.reviewer_names in
     let sides : List (List ℕ) → List (List ℕ) → List (List ℕ) → Written = λ ps rs listed. plain_written kind
-        (map (numbered rs) (map (agent_in listed) d.proposers.items))
-        (map (numbered ps) said.reviewers)
-        (map (weight_among ps rs) said.weights)
-        (map (pair_among ps rs) said.forced)
-        (map (pair_among ps rs) said.forbidden) in
+    (map (numbered rs) (map (agent_in listed) d.proposers.items))
+    (map (numbered ps) said.reviewers)
+    (map (weight_among ps rs) said.weights)
+    (map (pair_among ps rs) said.forced)
+    (map (pair_among ps rs) said.forbidden) in
     let first : written_from kind n.proposers.items n.reviewers.items n.weights.items n.forced.items n.forbidden.items ≡ sides p.declared r.declared r.texts =
     five kind are.proposers are.reviewers are.weights are.forced are.forbidden in
     first

@@ -150,9 +150,9 @@ abbrev pub HospitalsRead : Type 0
 HospitalsRead = instance_text hospitals_text ≡ Ok (record {
   input = Two (plain_written Hospitals
       (record { name = codes "m1"; capacity = 1; line = 5; entries = 1 ∷ 0 ∷ [] }
-          ∷ record { name = codes "m2"; capacity = 1; line = 7; entries = 0 ∷ [] } ∷ [])
+      ∷ record { name = codes "m2"; capacity = 1; line = 7; entries = 0 ∷ [] } ∷ [])
       (record { name = codes "h1"; capacity = 2; line = 6; entries = 0 ∷ [] }
-          ∷ record { name = codes "h2"; capacity = 1; line = 9; entries = [] } ∷ [])
+      ∷ record { name = codes "h2"; capacity = 1; line = 9; entries = [] } ∷ [])
       ((0, 1, pos 7) ∷ (1, 0, negsuc 2) ∷ []) ((1, 0) ∷ []) ((0, 0) ∷ []));
   header_line = 2;
   rest = 130;

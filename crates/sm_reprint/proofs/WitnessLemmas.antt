@@ -6,6 +6,8 @@ use Rattle.std.proofs.lemmas.Bool.{false≢true}
 use Rattle.sm_text.specs.Name as name
 use Rattle.sm_text.specs.Tokens as token
 use Rattle.sm_text.specs.Name.{is_name}
+use Rattle.sm_instance.proofs.OrderLemmas.{range_is_each_once}
+use Rattle.sm_instance.proofs.SecondLemmas.{zeros_small}
 use Rattle.sm_instance.specs.Written.{AgentData, agent_at, row}
 use Rattle.sm_instance.specs.Sound.{IsSoundAgent, AreSoundAgents, IsSoundEntry, AreSoundEntries, IsSoundItem, items_of}
 use Rattle.sm_reader.specs.Forms as form
@@ -120,6 +122,9 @@ marriage_sound = (
     proposer_entries = proposer_lists;
     reviewer_entries = reviewer_lists;
     items = items_sound;
+    seconds_each = refl;
+    seconds_small = zeros_small marriage.weights;
+    order = range_is_each_once 2;
   },
   omega arith,
 )

@@ -2,6 +2,7 @@
 use Rattle.std.proofs.Common.{ℕ, ◌<◌, length, ap, refl, arith}
 use Rattle.std.proofs.lemmas.List.{length-map}
 use Rattle.sm_instance.specs.Written.{Written, capacity_of}
+use Rattle.sm_instance.specs.Ranks.{pair_weight, pair_second}
 use Rattle.sm_instance.specs.Sound.{IsInstance}
 use Rattle.sm_instance.specs.Faults.{HasSoundEntries}
 use Rattle.sm_theory.specs.Lattice.{with_proposers}
@@ -57,6 +58,7 @@ is_seating {w} h = record {
   ranks = λ m f. levels_are_ranks h f;
   holds = λ m f p r. (at_level h f p r, level_at h f p r);
   allowed = λ m f. allowed_alike h f;
-  weights = λ by m f. weights_alike h f by;
+  weights = λ by m f. weights_alike h f (pair_weight by w) (λ p. refl);
+  seconds = λ m f. weights_alike h f (pair_second w) (λ p. refl);
   regrets = λ m f. regrets_alike h f;
 }

@@ -1,5 +1,5 @@
 -- Conditions, weights and regrets of matchings of seats are those of the instance.
-use Rattle.std.proofs.Common.{◌≡◌, ℕ, zero, suc, ◌+◌, ◌<◌, ◌↔◌, true, List, [], Some, IsTrue, length, get_or, map, fold, max, ℤ, pos, ◌+ℤ◌, refl, sym, ap, ◌∙◌, arith, inl, inr}
+use Rattle.std.proofs.Common.{◌≡◌, ℕ, zero, suc, ◌+◌, ◌<◌, ◌↔◌, true, List, [], Option, Some, None, IsTrue, length, get_or, map, fold, max, ℤ, pos, ◌+ℤ◌, refl, sym, ap, ◌∙◌, arith, inl, inr}
 use Rattle.std.specs.List.{range_with_len}
 use Rattle.std.proofs.lemmas.List.{get_or-map, length-map}
 use Rattle.std.proofs.lemmas.List.Elements.{All-get_or, All-from_get_or}
@@ -9,9 +9,8 @@ use Rattle.sm_lists.proofs.PlaceLemmas.{get_or-place_on}
 use Rattle.sm_instance.specs.Written.{Written, row as written_row, entry as written_entry, place_of as written_place_of}
 use Rattle.sm_instance.specs.Faults.{HasSoundEntries}
 use Rattle.sm_instance.specs.Matching.{held, is_at}
-use Rattle.sm_instance.specs.Ranks.{worse_rank, pair_weight, regret_of as written_regret, weight_of as written_weight}
+use Rattle.sm_instance.specs.Ranks.{worse_rank, regret_of as written_regret}
 use Rattle.sm_instance.specs.Allowed.{IsAllowed as IsWrittenAllowed}
-use Rattle.sm_instance.specs.declared.kinds.Measure.{Measure}
 use Rattle.sm_instance.proofs.LoadLemmas.{place_at, at_place}
 use Rattle.sm_instance.proofs.RankLemmas.{fold_below_more}
 use Rattle.sm_market.specs.Lists.{row}
@@ -21,7 +20,7 @@ use Rattle.sm_theory.specs.Weights.{total, weight_of_place, weight_of, rank_of_p
 use Rattle.sm_theory.proofs.Weighing.Totals.{total_same}
 use Rattle.sm_seats.specs.SeatMarket.{seat_market}
 use Rattle.sm_seats.specs.Seating.{seating_of, written_of, at_places, levels_of}
-use Rattle.sm_seats.specs.Correspondence.{weights_of, worse_ranks_of, leveled}
+use Rattle.sm_seats.specs.Correspondence.{weights_by, worse_ranks_of, leveled}
 use Rattle.sm_seats.proofs.MarketLaws.{length-proposers}
 use Rattle.sm_seats.proofs.WrittenLemmas.{written_place-seating, written_there, seat_cases}
 use Rattle.sm_seats.proofs.ForgetLaws.{forgotten_matching}
@@ -100,28 +99,29 @@ module _ {w : Written} (h : HasSoundEntries w) {m : Places} (f : IsMatching (sea
   pub allowed_alike : IsAllowed (levels_of (seating_of w)) (leveled w w.forced) (leveled w w.forbidden) m ↔ IsWrittenAllowed w (written_of (seating_of w) m.proposers)
   allowed_alike = (allowed_there, allowed_back)
 
-  -- weights
-  pair_alike : (by : Measure) (p : ℕ) → p < length (seat_market w).proposers
-      → weight_of_place (weights_of by w (seating_of w)) p (market_held m.proposers p) ≡ pair_weight by w p (held (written_of (seating_of w) m.proposers) p)
-  pair_alike by p here = elim (seat_cases h f p) [
-    | inl alone ↦ ap (weight_of_place (weights_of by w (seating_of w)) p) alone.held_is ∙ ap (pair_weight by w p) (sym alone.written_held_is)
-    | inr it ↦
-        let each : ℕ → ℕ → ℤ = λ p i. pair_weight by w p (Some i) in
-        let list = get_or-map-range_with_len (at_places (seating_of w) each) 0 (length (seat_market w).proposers) p p [] here (omega arith) in
-        ap (weight_of_place (weights_of by w (seating_of w)) p) it.held_is
-        ∙ ap (λ l. get_or l it.place (pos 0)) list
-        ∙ at_place_is (seating_of w) each (pos 0) p it.place it.at.on
-        ∙ ap (λ i. pair_weight by w p (Some i)) (written_place-seating it.at)
-        ∙ ap (pair_weight by w p) (sym it.written_held_is)
-  ]
+  -- what is weighed, where nobody weighs 0
+  module _ (weigh : ℕ → Option ℕ → ℤ) (nobody : (p : ℕ) → weigh p None ≡ pos 0) where
+    pair_alike : (p : ℕ) → p < length (seat_market w).proposers
+        → weight_of_place (weights_by weigh (seating_of w)) p (market_held m.proposers p) ≡ weigh p (held (written_of (seating_of w) m.proposers) p)
+    pair_alike p here = elim (seat_cases h f p) [
+      | inl alone ↦ ap (weight_of_place (weights_by weigh (seating_of w)) p) alone.held_is ∙ sym (nobody p) ∙ ap (weigh p) (sym alone.written_held_is)
+      | inr it ↦
+          let each : ℕ → ℕ → ℤ = λ p i. weigh p (Some i) in
+          let list = get_or-map-range_with_len (at_places (seating_of w) each) 0 (length (seat_market w).proposers) p p [] here (omega arith) in
+          ap (weight_of_place (weights_by weigh (seating_of w)) p) it.held_is
+          ∙ ap (λ l. get_or l it.place (pos 0)) list
+          ∙ at_place_is (seating_of w) each (pos 0) p it.place it.at.on
+          ∙ ap (λ i. weigh p (Some i)) (written_place-seating it.at)
+          ∙ ap (weigh p) (sym it.written_held_is)
+    ]
 
-  -- the weights are the same
-  pub weights_alike : (by : Measure) → weight_of (seat_market w) (weights_of by w (seating_of w)) m ≡ written_weight by w (written_of (seating_of w) m.proposers)
-  weights_alike by =
-      let n = length (seat_market w).proposers in
-      let mine : ℕ → ℤ = λ p. weight_of_place (weights_of by w (seating_of w)) p (market_held m.proposers p) in
-      let theirs : ℕ → ℤ = λ p. pair_weight by w p (held (written_of (seating_of w) m.proposers) p) in
-      total_same n mine theirs (pair_alike by) ∙ total_is_fold theirs n ∙ ap (λ k. fold ◌+ℤ◌ (pos 0) (map theirs (range_with_len 0 k))) (length-proposers w)
+    -- the weights are the same
+    pub weights_alike : weight_of (seat_market w) (weights_by weigh (seating_of w)) m ≡ fold ◌+ℤ◌ (pos 0) (map (λ p. weigh p (held (written_of (seating_of w) m.proposers) p)) (range_with_len 0 (length w.proposers)))
+    weights_alike =
+        let n = length (seat_market w).proposers in
+        let mine : ℕ → ℤ = λ p. weight_of_place (weights_by weigh (seating_of w)) p (market_held m.proposers p) in
+        let theirs : ℕ → ℤ = λ p. weigh p (held (written_of (seating_of w) m.proposers) p) in
+        total_same n mine theirs pair_alike ∙ total_is_fold theirs n ∙ ap (λ k. fold ◌+ℤ◌ (pos 0) (map theirs (range_with_len 0 k))) (length-proposers w)
 
   -- regrets
   rank_alike : (p : ℕ) → p < length (seat_market w).proposers

@@ -3,7 +3,7 @@ use Rattle.std.specs.Prelude.{◌≡◌, ℕ, ◌+◌, ◌<◌, ◌≤◌, ◌�
 use Rattle.sm_instance.specs.Written.{Written, place_of, capacity_of, lists_of}
 use Rattle.sm_instance.specs.Matching.{is_at, IsMatching as IsWrittenMatching}
 use Rattle.sm_instance.specs.Stable.{IsStable as IsWrittenStable}
-use Rattle.sm_instance.specs.Ranks.{rank_vector_of, worse_rank, regret_of as written_regret, pair_weight, weight_of as written_weight}
+use Rattle.sm_instance.specs.Ranks.{rank_vector_of, worse_rank, regret_of as written_regret, pair_weight, weight_of as written_weight, pair_second, second_weight_of}
 use Rattle.sm_instance.specs.Allowed.{IsAllowed as IsWrittenAllowed}
 use Rattle.sm_instance.specs.declared.kinds.Measure.{Measure}
 use Rattle.sm_market.specs.Lists.{row, entry, agents, IsMarket}
@@ -14,9 +14,17 @@ use Rattle.sm_theory.specs.Weights.{weight_of, regret_of}
 use Rattle.sm_seats.specs.Seating.{Seating, reviewer_of, number_of, written_place, written_of, at_places, levels_of}
 use Rattle.sm_seats.specs.Taken.{places_taken}
 
--- the weights of the places, and the greater of the two ranks that a proposer and its seat's reviewer give each other
+-- for each place of the lists what a proposer and its seat's reviewer weigh
+abbrev pub weights_by : (ℕ → Option ℕ → ℤ) → Seating → List (List ℤ)
+weights_by weigh s = map (at_places s (λ p i. weigh p (Some i))) (agents s.market.proposers)
+
+-- the weights of the places
 abbrev pub weights_of : Measure → Written → Seating → List (List ℤ)
-weights_of by w s = map (at_places s (λ p i. pair_weight by w p (Some i))) (agents s.market.proposers)
+weights_of by w s = weights_by (pair_weight by w) s
+
+-- the second weights of the places
+abbrev pub seconds_of : Written → Seating → List (List ℤ)
+seconds_of w s = weights_by (pair_second w) s
 
 -- the worse of the two ranks that a proposer and its seat's reviewer give each other, for each place of the lists
 abbrev pub worse_ranks_of : Written → Seating → List (List ℕ)
@@ -77,5 +85,7 @@ pub record IsSeating (w : Written) (s : Seating) : Type 0 where
       → IsAllowed (levels_of s) (leveled w w.forced) (leveled w w.forbidden) m ↔ IsWrittenAllowed w (written_of s m.proposers)
   pub weights : (by : Measure) (m : Places) → IsMatching s.market m
       → weight_of s.market (weights_of by w s) m ≡ written_weight by w (written_of s m.proposers)
+  pub seconds : (m : Places) → IsMatching s.market m
+      → weight_of s.market (seconds_of w s) m ≡ second_weight_of w (written_of s m.proposers)
   pub regrets : (m : Places) → IsMatching s.market m
       → regret_of s.market (worse_ranks_of w s) m ≡ written_regret w (written_of s m.proposers)

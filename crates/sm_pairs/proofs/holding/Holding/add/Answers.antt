@@ -15,13 +15,15 @@ pub returns-then-is_some : goal.returns-then-is_some
 returns-then-is_some c =
     let w = c.args.instance.now in
     let places = c.args.self.now.matching.places.items in
-    let inside : c.args.p < length places = (let one = c.requires.held.matching.assigned.one_each in omega (arith, one, c.requires.proposer)) in
-    (elim c.then-is_some.branch [
-      | then-is_some-via-then-is_some v ↦ taken (some_there places c.args.p c.index.result.now inside c.index.ensures (sym v.if-is_some.ensures))
-      | then-is_some-via-else-is_some+then-index-capacity v ↦
-          full (let load = load_is w places c.args.self.now.loads.items c.args.r v.index-else-is_some.result.now c.requires.held.loads c.requires.reviewer v.index-else-is_some.ensures in
-          omega (arith, load, v.if-index-capacity.true, v.capacity.ensures.capacity))
-    ], refl)
+    let inside : c.args.p < length places = (let one = c.requires.held.matching.assigned.one_each in omega (arith, one, c.requires.proposer)) in (
+      elim c.then-is_some.branch [
+        | then-is_some-via-then-is_some v ↦ taken (some_there places c.args.p c.index.result.now inside c.index.ensures (sym v.if-is_some.ensures))
+        | then-is_some-via-else-is_some+then-index-capacity v ↦
+            full (let load = load_is w places c.args.self.now.loads.items c.args.r v.index-else-is_some.result.now c.requires.held.loads c.requires.reviewer v.index-else-is_some.ensures in
+            omega (arith, load, v.if-index-capacity.true, v.capacity.ensures.capacity))
+      ],
+      refl,
+    )
 
 pub index_mut-requires-in-Some : goal.index_mut-requires-in-Some
 index_mut-requires-in-Some c =
