@@ -56,6 +56,7 @@ fn is_worth(rt: &impl Abort, instance: &Instance, a: &Assignment, row: &Row)
     assert!(rt; instance.regret(a) == row.regret);
     assert!(rt; instance.weigh(a, Measure::Ranks) == row.weights.0);
     assert!(rt; instance.weigh(a, Measure::Given) == row.weights.1);
+    assert!(rt; instance.weigh_second(a) == 0);
     assert!(rt; instance.allowed(a) == row.allowed);
 }
 
@@ -234,6 +235,25 @@ fn each_fault_once(rt: HostRuntime) {
             ),
         ],
     );
+}
+
+#[test]
+fn an_order_and_second_weights(rt: HostRuntime) {
+    let mut instance = small_hospitals(&rt);
+    assert!(rt; instance.order() == [0, 1, 2].as_slice());
+    assert!(rt; instance.reorder(&[2, 0]).err() == Some(InstanceFault::BadOrder));
+    assert!(rt; instance.reorder(&[2, 0, 2]).err() == Some(InstanceFault::BadOrder));
+    instance.reorder(&[2, 0, 1]).expect(&rt, "an order");
+    assert!(rt; instance.order() == [2, 0, 1].as_slice());
+    assert!(rt; !instance.has_seconds());
+    let unweighed = instance.add_seconds(copy(&rt, &[(0, 1, 5)])).err();
+    assert!(rt; unweighed == Some(InstanceFault::BadPair(0)));
+    instance
+        .add_seconds(copy(&rt, &[(2, 0, 7)]))
+        .expect(&rt, "second weights");
+    assert!(rt; instance.has_seconds());
+    assert!(rt; instance.second(2, 0) == 7);
+    assert!(rt; instance.second(0, 0) == 0);
 }
 
 /// Two persons, of whom the first lists itself.

@@ -133,6 +133,7 @@ fn pieces_round_a_failing_second_call(rt: HostRuntime) {
     assert!(rt; source.take(&mut into) == Taken::Got(2));
     assert!(rt; into[..2] == b"fg"[..]);
     assert!(rt; source.take(&mut into) == Taken::End);
+    assert!(rt; source.calls() == 6);
 }
 
 #[test]
@@ -148,4 +149,5 @@ fn first_of_two_pairs_and_the_room_count(rt: HostRuntime) {
     assert!(rt; sink.held() == b"abcdehijkl".as_slice());
     assert!(rt; sink.put(b"") == Put::Done);
     assert!(rt; sink.put(b"n") == Put::Failed);
+    assert!(rt; sink.calls() == 6);
 }

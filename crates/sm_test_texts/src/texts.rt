@@ -42,4 +42,5 @@ fn a_line_is_put_together(rt: HostRuntime) {
     line.clear();
     puts(&rt, &mut line, b"", 0, 10);
     assert!(rt; line.bytes() == b"0,10".as_slice());
+    assert!(rt; line.into_bytes().as_slice() == b"0,10".as_slice());
 }
