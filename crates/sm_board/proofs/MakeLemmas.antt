@@ -1,5 +1,5 @@
 -- Rows that are made one after the other.
-use Rattle.std.proofs.Common.{◌≡◌, ℕ, ◌<◌, refl, List, Bool, length, map, is_some, slice_index}
+use Rattle.std.proofs.Common.{◌≡◌, ℕ, ◌<◌, [], refl, sym, List, Bool, Vec, length, map, is_some, slice_index, slice_index_or}
 use Rattle.sm_market.specs.Lists.{row, agents}
 use Rattle.sm_market.specs.Matching.{held}
 use Rattle.sm_theory.specs.Chains.{AreNeedsOf}
