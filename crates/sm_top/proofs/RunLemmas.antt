@@ -71,14 +71,6 @@ stops_for U U' R R' F F' (stop.Unstable at fields) u r f h = (r (with_detail Not
 stops_for U U' R R' F F' stop.ReadFault u r f h = f h
 stops_for U U' R R' F F' stop.OutOfMemory u r f h = tt
 
--- what is said of it is plain
-pub plain_stop : (U : ℕ → Type 0) (R : RefusalData → Type 0) (F : Type 0) (s : Stop) → StopsBy U R F s → IsPlainStop s
-plain_stop U R F (stop.Usage word) h = tt
-plain_stop U R F (stop.Refused kind at) h = tt
-plain_stop U R F (stop.Unstable at fields) h = h.1
-plain_stop U R F stop.ReadFault h = tt
-plain_stop U R F stop.OutOfMemory h = tt
-
 -- so it is of a run that may have stopped
 pub err_stops_for : (U U' : ℕ → Type 0) (R R' : RefusalData → Type 0) (F F' : Type 0) (r : Result Status Stop)
     → ((word : ℕ) → U word → U' word) → ((refusal : RefusalData) → R refusal → R' refusal) → (F → F')
@@ -359,7 +351,16 @@ answers_nothing {tallies} words before after a b status why same untouched = rec
   read_fault (inl is) w = absurd cc
   read_fault (inr is) w = is.1
 
--- what is said of a stop
+-- what is said of a stop is plain
+pub plain_stop : (words : List (List ℕ)) (before after : Option (List ℕ)) (h i : ℕ) (s : Stop)
+    → StopsBy (λ word. words_meaning words ≡ Err word) (IsRefusal words before after) (IsReadFault words h i) s → IsPlainStop s
+plain_stop words before after h i (stop.Usage word) faulty = tt
+plain_stop words before after h i (stop.Refused kind at) refusal = tt
+plain_stop words before after h i (stop.Unstable at fields) told = told.1
+plain_stop words before after h i stop.ReadFault fault = tt
+plain_stop words before after h i stop.OutOfMemory none = tt
+
+-- so a run that stopped is right
 pub answers_stopped : {tallies : List Shown} (words : List (List ℕ)) (before after a b : Option (List ℕ)) (f g h i : ℕ) (s : Stop) (status : Status)
     → StopsBy (λ word. words_meaning words ≡ Err word) (IsRefusal words before after) (IsReadFault words h i) s → (reads words ≡ false → after ≡ before) → SaysStop s a b f g status → Answers tallies words before after a b status
 answers_stopped {tallies} words before after a b f g h i (stop.Usage word) status faulty untouched says =
