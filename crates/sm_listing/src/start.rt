@@ -36,6 +36,7 @@ pub fn start_list(
     ensures { IfOk result (λ lister. IsListerOf instance.now (cursor_in after.now) lister) }
 {
     let basis = Basis::of(alloc, seats)?;
+    let _chain = basis.poset.chain();
     let least = Least::start(alloc, &basis.poset, seats.levels(alloc)?)?;
     let conditions = conditions_of(alloc, instance)?;
     let order = small_copy(alloc, instance.order())?;
