@@ -126,5 +126,6 @@ marriage_sound = (
     seconds_small = zeros_small marriage.weights;
     order = range_is_each_once 2;
   },
+  (refl, refl),
   omega arith,
 )

@@ -2,3 +2,4 @@ pub mod PartyLemmas
 pub mod LineLemmas
 pub mod PersonLemmas
 pub mod WitnessLemmas
+pub mod RestLemmas

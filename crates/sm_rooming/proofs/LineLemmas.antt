@@ -27,7 +27,7 @@ none_left P = λ k d l. absurd (omega arith)
 head_sound : (persons : List AgentData) → IsLineOf (Room persons) (LineData.Answer (HeadData.Solve None))
 head_sound persons = record { printable = tt; seats = λ k d l. absurd (omega arith); numbers = tt; head = refl }
 
-end_sound : (persons : List AgentData) → IsLineOf (Room persons) LineData.End
+pub end_sound : (persons : List AgentData) → IsLineOf (Room persons) LineData.End
 end_sound persons = record { printable = tt; seats = λ k d l. absurd (omega arith); numbers = tt; head = tt }
 
 none_sound : (persons : List AgentData) → IsLineOf (Room persons) LineData.Nothing
@@ -42,10 +42,10 @@ answer_sound {input} {persons} none line count room nothing each =
     let whole : All P (answer_lines none line count) = All-cons P (LineData.Answer (HeadData.Solve None)) _ (head_sound persons) (All-append P none (shown ++ (LineData.End ∷ [])) nothing behind) in
     subst (λ (i : Input). All (IsLineOf i) (answer_lines none line count)) (sym room) whole
 
-many : (persons : List AgentData) → length (lists_of persons) ≡ length persons
+pub many : (persons : List AgentData) → length (lists_of persons) ≡ length persons
 many persons = length-map persons (λ (person : AgentData). person.entries)
 
-couple_sound : (persons : List AgentData) (mates : List (Option ℕ)) → IsRoomMatching (lists_of persons) mates → (x : ℕ) → All (IsLineOf (Room persons)) (line_or_none (couple_line mates x))
+pub couple_sound : (persons : List AgentData) (mates : List (Option ℕ)) → IsRoomMatching (lists_of persons) mates → (x : ℕ) → All (IsLineOf (Room persons)) (line_or_none (couple_line mates x))
 couple_sound persons mates m x = by_mate (mate_of mates x) refl
   where
     by_test : (y : ℕ) (t : Bool) → x < length persons → y < length persons → All (IsLineOf (Room persons)) (line_or_none (cond t (Some (LineData.Pair x y)) None))

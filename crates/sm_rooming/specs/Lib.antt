@@ -3,3 +3,5 @@ pub mod RoomAnswer
 pub mod Found
 pub mod Walking
 pub mod Witnesses
+pub mod RestAnswer
+pub mod Resting

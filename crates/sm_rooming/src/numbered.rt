@@ -1,4 +1,4 @@
-//! Couples and parties as lines.
+//! Couples, parties and those who are left out as lines.
 
 ghost use Rattle.std.specs.Prelude.{◌≡◌, ◌<◌, ◌^◌, length, Some};
 ghost use Rattle.std.specs.Option.{option_map};
@@ -67,5 +67,29 @@ impl Numbered for PartyLines<'_> {
     fn line(&self, alloc: Global, k: u32) -> Result<Option<Line>, AllocError> {
         let party = Vec::from_slice(alloc, list_at(self.parties, k))?;
         Ok(Some(Line::Party(party)))
+    }
+}
+
+/// Those who are left out.
+#[derive(Drop)]
+pub struct OutLines<'a> {
+    pub out: &'a [u32],
+    ghost few: { length out.now < 2 ^ 32 },
+}
+
+impl Numbered for OutLines<'_> {
+    ghost use Rattle.std.specs.Prelude.{length};
+    ghost use Rattle.sm_rooming.specs.RestAnswer.{out_line};
+
+    ghost line = { λ lines k. out_line lines.out.now k };
+
+    ghost count = { λ lines. length lines.out.now };
+
+    fn count(&self) -> u32 {
+        self.out.len() as u32
+    }
+
+    fn line(&self, _alloc: Global, k: u32) -> Result<Option<Line>, AllocError> {
+        Ok(Some(Line::Out(self.out[k as usize])))
     }
 }

@@ -41,7 +41,7 @@ pub fn find_roommates(alloc: Global, persons: &Persons) -> Result<RoomSolution, 
 }
 
 /// Copies of the lists of persons.
-fn lists_of(alloc: Global, persons: &[Agent]) -> Result<Vec<Vec<u32>>, AllocError>
+pub(crate) fn lists_of(alloc: Global, persons: &[Agent]) -> Result<Vec<Vec<u32>>, AllocError>
     ensures { IfOk result (λ lists. rows_of lists.items ≡ lists_of (agents_of persons.now)) }
 {
     let mut lists = Vec::with_capacity(alloc, persons.len())?;

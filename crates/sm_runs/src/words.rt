@@ -56,6 +56,7 @@ fn words_ask_or_are_faulty(rt: HostRuntime) {
             ("join", Job::Join),
             ("survey", Job::Survey(100)),
             ("survey limit=7", Job::Survey(7)),
+            ("rest", Job::Rest),
             ("check", Job::Check),
             (
                 "make shape=copies size=1 seed=0",

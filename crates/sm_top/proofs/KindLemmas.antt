@@ -1,5 +1,5 @@
 -- Inputs of either kind: what is judged of them, and the answers of `solve` and `regret`.
-use Rattle.std.proofs.Common.{◌≡◌, ◌≢◌, ℕ, cond, Bool, true, false, List, [], ◌∷◌, Option, None, Some, Ok, Err, inl, inr, refl, sym, ap, ◌∙◌, subst}
+use Rattle.std.proofs.Common.{◌≡◌, ◌≢◌, ℕ, cond, not, Bool, true, false, List, [], ◌∷◌, Option, None, Some, Ok, Err, inl, inr, refl, sym, ap, ◌∙◌, subst}
 use Rattle.std.specs.Option.{unwrap_or}
 use Rattle.sm_answer.specs.Printing.{IsShown}
 use Rattle.sm_text.specs.declared.refusal.RefusalKind.TheVariants.{WrongKind}
@@ -14,7 +14,7 @@ use Rattle.sm_instance.specs.declared.kinds.Measure.{Measure}
 use Rattle.sm_instance.specs.declared.kinds.Side.{Side}
 use Rattle.sm_instance.specs.declared.kinds.Side.TheVariants.{Proposers}
 use Rattle.sm_reader.specs.InstanceText.{ReadText, Refusal}
-use Rattle.sm_words.specs.Jobs.{JobData, Solve, Reduced, Rotations, Pairs, Regret, Weight, Meet, Join, Survey, Check, Make}
+use Rattle.sm_words.specs.Jobs.{JobData, Solve, Reduced, Rotations, Pairs, Regret, Weight, Meet, Join, Survey, Check, Make, Rest}
 use Rattle.sm_solve.specs.Solution.{IsSolution}
 use Rattle.sm_shown.specs.NoneAnswer.{IsNoneAllowed}
 use Rattle.sm_report.specs.Heads.{HeadData}
@@ -23,8 +23,8 @@ use Rattle.sm_partners.specs.RegretAnswer.{IsRegretAnswer}
 use Rattle.sm_rooming.specs.RoomAnswer.{IsMatched, IsUnmatchable}
 use Rattle.sm_top.specs.declared.status.Status.{Status}
 use Rattle.sm_top.specs.declared.status.Status.TheVariants.{Done, NoneExists}
-use Rattle.sm_top.specs.Texts.{RefusalData}
-use Rattle.sm_top.specs.Accepting.{reads_input, is_two_sided, takes_kind, too_many_in, too_many_seats, first_refusal, judged, accepted, IsTooMany}
+use Rattle.sm_top.specs.Texts.{RefusalData, plain_refusal}
+use Rattle.sm_top.specs.Accepting.{reads_input, is_two_sided, takes_kind, takes_rooms_alone, too_many_in, too_many_seats, first_refusal, judged, accepted, IsTooMany}
 use Rattle.sm_tally.specs.Fold.{Shown}
 use Rattle.sm_words.specs.Words.{usual_limit}
 use Rattle.sm_survey.specs.SurveyAnswer.{IsSurveyAnswer}
@@ -33,48 +33,76 @@ use Rattle.sm_top.specs.Outcome.{IsWeighed, IsSummary, IsMade, IsSolved, IsRegre
 use Rattle.sm_top.specs.Wrote.{Wrote, With}
 use Rattle.sm_top.proofs.WritingLemmas.{wrote_for, wrote_shown}
 
--- Instances with two sides: every job takes them.
+-- Instances with two sides: every job takes them but `rest`.
 
 two_sided : (kind : Kind) → kind ≢ Roommates → is_two_sided kind ≡ true
 two_sided Marriage two = refl
 two_sided Hospitals two = refl
 two_sided Roommates two = absurd (two refl)
 
-takes_two : (job : JobData) (kind : Kind) → reads_input job ≡ true → kind ≢ Roommates → takes_kind job kind ≡ true
-takes_two (Solve None) kind reading two = refl
-takes_two (Solve (Some side)) kind reading two = two_sided kind two
-takes_two Reduced kind reading two = two_sided kind two
-takes_two Rotations kind reading two = two_sided kind two
-takes_two (JobData.List after limit) kind reading two = two_sided kind two
-takes_two Pairs kind reading two = two_sided kind two
-takes_two Regret kind reading two = two_sided kind two
-takes_two (Weight by) kind reading two = two_sided kind two
-takes_two Meet kind reading two = two_sided kind two
-takes_two Join kind reading two = two_sided kind two
-takes_two (Survey limit) kind reading two = two_sided kind two
-takes_two Check kind reading two = refl
-takes_two (Make shape size seed summary) kind reading two = absurd cc
+takes_two : (job : JobData) (kind : Kind) → reads_input job ≡ true → takes_rooms_alone job ≡ false → kind ≢ Roommates → takes_kind job kind ≡ true
+takes_two (Solve None) kind reading sides two = refl
+takes_two (Solve (Some side)) kind reading sides two = two_sided kind two
+takes_two Reduced kind reading sides two = two_sided kind two
+takes_two Rotations kind reading sides two = two_sided kind two
+takes_two (JobData.List after limit) kind reading sides two = two_sided kind two
+takes_two Pairs kind reading sides two = two_sided kind two
+takes_two Regret kind reading sides two = two_sided kind two
+takes_two (Weight by) kind reading sides two = two_sided kind two
+takes_two Meet kind reading sides two = two_sided kind two
+takes_two Join kind reading sides two = two_sided kind two
+takes_two (Survey limit) kind reading sides two = two_sided kind two
+takes_two Check kind reading sides two = refl
+takes_two (Make shape size seed summary) kind reading sides two = absurd cc
+takes_two Rest kind reading sides two = absurd cc
 
 -- so their seats alone are judged
-seats_judged : (job : JobData) (read : ReadText) (w : Written) → reads_input job ≡ true → read.input ≡ Two w → w.kind ≢ Roommates → judged job read ≡ first_refusal (too_many_seats read ∷ []) read
-seats_judged job read w reading is two =
-    let taken : takes_kind job (kind_of read.input) ≡ true = ap (λ (input : Input). takes_kind job (kind_of input)) is ∙ takes_two job w.kind reading two in
+seats_judged : (job : JobData) (read : ReadText) (w : Written) → reads_input job ≡ true → takes_rooms_alone job ≡ false → read.input ≡ Two w → w.kind ≢ Roommates → judged job read ≡ first_refusal (too_many_seats read ∷ []) read
+seats_judged job read w reading sides is two =
+    let taken : takes_kind job (kind_of read.input) ≡ true = ap (λ (input : Input). takes_kind job (kind_of input)) is ∙ takes_two job w.kind reading sides two in
     ap (λ t. first_refusal (cond t None (Some (WrongKind, read.header_line)) ∷ too_many_seats read ∷ []) read) taken
 
 -- an input that a job reads is refused where its seats are too many
-pub two_refused : (job : JobData) (bytes : List ℕ) (read : ReadText) (w : Written) (refusal : RefusalData) → reads_input job ≡ true → read.input ≡ Two w → w.kind ≢ Roommates → accepted job bytes ≡ judged job read → IsTooMany read.input refusal
+pub two_refused : (job : JobData) (bytes : List ℕ) (read : ReadText) (w : Written) (refusal : RefusalData) → reads_input job ≡ true → takes_rooms_alone job ≡ false → read.input ≡ Two w → w.kind ≢ Roommates → accepted job bytes ≡ judged job read → IsTooMany read.input refusal
     → IsRefused job bytes refusal
-two_refused job bytes read w refusal reading is two before too = not_accepted reading (record {
+two_refused job bytes read w refusal reading sides is two before too = not_accepted reading (record {
   kind = too.kind;
   at = too.at;
-  because = before ∙ seats_judged job read w reading is two ∙ ap (λ (o : Option Refusal). first_refusal (o ∷ []) read) too.because;
+  because = before ∙ seats_judged job read w reading sides is two ∙ ap (λ (o : Option Refusal). first_refusal (o ∷ []) read) too.because;
   says = too.says;
 })
 
 -- and accepted where they aren't
-pub two_accepted : (job : JobData) (bytes : List ℕ) (read : ReadText) (w : Written) → reads_input job ≡ true → read.input ≡ Two w → w.kind ≢ Roommates → accepted job bytes ≡ judged job read → too_many_in read.input ≡ None
+pub two_accepted : (job : JobData) (bytes : List ℕ) (read : ReadText) (w : Written) → reads_input job ≡ true → takes_rooms_alone job ≡ false → read.input ≡ Two w → w.kind ≢ Roommates → accepted job bytes ≡ judged job read → too_many_in read.input ≡ None
     → accepted job bytes ≡ Ok read
-two_accepted job bytes read w reading is two before few = before ∙ seats_judged job read w reading is two ∙ ap (λ (o : Option Refusal). first_refusal (o ∷ []) read) few
+two_accepted job bytes read w reading sides is two before few = before ∙ seats_judged job read w reading sides is two ∙ ap (λ (o : Option Refusal). first_refusal (o ∷ []) read) few
+
+-- a job that takes roommates alone refuses an instance with two sides at its header
+not_two : (job : JobData) (kind : Kind) → takes_rooms_alone job ≡ true → kind ≢ Roommates → takes_kind job kind ≡ false
+not_two Rest kind alone two = ap not (two_sided kind two)
+not_two (Solve side) kind alone two = absurd cc
+not_two Reduced kind alone two = absurd cc
+not_two Rotations kind alone two = absurd cc
+not_two (JobData.List after limit) kind alone two = absurd cc
+not_two Pairs kind alone two = absurd cc
+not_two Regret kind alone two = absurd cc
+not_two (Weight by) kind alone two = absurd cc
+not_two Meet kind alone two = absurd cc
+not_two Join kind alone two = absurd cc
+not_two (Survey limit) kind alone two = absurd cc
+not_two Check kind alone two = absurd cc
+not_two (Make shape size seed summary) kind alone two = absurd cc
+
+pub two_not_taken : (job : JobData) (bytes : List ℕ) (read : ReadText) (w : Written) → reads_input job ≡ true → takes_rooms_alone job ≡ true → read.input ≡ Two w → w.kind ≢ Roommates → accepted job bytes ≡ judged job read
+    → IsRefused job bytes (plain_refusal WrongKind read.header_line)
+two_not_taken job bytes read w reading alone is two before =
+    let taken : takes_kind job (kind_of read.input) ≡ false = ap (λ (input : Input). takes_kind job (kind_of input)) is ∙ not_two job w.kind alone two in
+    not_accepted reading (record {
+      kind = WrongKind;
+      at = read.header_line;
+      because = before ∙ ap (λ t. first_refusal (cond t None (Some (WrongKind, read.header_line)) ∷ too_many_seats read ∷ []) read) taken;
+      says = refl;
+    })
 
 -- Roommates: they have no seats.
 

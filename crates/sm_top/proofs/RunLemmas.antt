@@ -7,14 +7,14 @@ use Rattle.sm_io.specs.Sink.{Grows}
 use Rattle.sm_io.proofs.SinkLemmas.{Grows-nil}
 use Rattle.sm_answer.specs.Printing.{IsShown}
 use Rattle.sm_text.specs.declared.refusal.RefusalKind.TheVariants.{TooLong, NotStable}
-use Rattle.sm_instance.specs.Written.{Written}
+use Rattle.sm_instance.specs.Written.{AgentData, Written}
 use Rattle.sm_instance.specs.declared.inputs.Input.{Input}
 use Rattle.sm_instance.specs.declared.inputs.Input.TheVariants.{Two, Room}
 use Rattle.sm_instance.specs.declared.kinds.Measure.{Measure}
 use Rattle.sm_instance.specs.declared.kinds.Side.{Side}
 use Rattle.sm_reader.specs.InstanceText.{ReadText, instance_text}
 use Rattle.sm_report.specs.Lines.{LineData}
-use Rattle.sm_words.specs.Jobs.{JobData, Solve, Reduced, Rotations, Pairs, Regret, Weight, Meet, Join, Survey, Check, Make}
+use Rattle.sm_words.specs.Jobs.{JobData, Solve, Reduced, Rotations, Pairs, Regret, Weight, Meet, Join, Survey, Check, Make, Rest}
 use Rattle.sm_words.specs.Words.{words_meaning}
 use Rattle.sm_top.specs.declared.status.Status.{Status}
 use Rattle.sm_top.specs.declared.status.Status.TheVariants.{Refused, Usage, OutOfMemory, ReadFault, WriteFault}
@@ -29,7 +29,7 @@ use Rattle.sm_judge.specs.declared.verdicts.Verdict.{Verdict}
 use Rattle.sm_judge.specs.declared.verdicts.Verdict.TheVariants as verdict
 use Rattle.sm_top.specs.Checked.{status_by}
 use Rattle.sm_top.specs.Accepting.{reads_input, accepted, behind_text}
-use Rattle.sm_top.specs.Outcome.{OfTwo, IsSolved, IsRegretted, IsSummary, IsMade, IsWeighed, IsAnswerOver, IsAnswer, IsRefused, IsTooManyMade, IsUnsurveyed, unsurveyed, Outcome, not_accepted, faulty_words, refused, answered}
+use Rattle.sm_top.specs.Outcome.{OfTwo, OfRoom, IsSolved, IsRegretted, IsSummary, IsMade, IsWeighed, IsAnswerOver, IsAnswer, IsRefused, IsTooManyMade, IsUnsurveyed, unsurveyed, Outcome, not_accepted, faulty_words, refused, answered}
 use Rattle.sm_top.specs.Input.{IsReadWhole, ReadWhole, IsTooLong}
 use Rattle.sm_top.specs.Running.{IsBeingRead, Ends, Answers, AnswersAccepted, reads, asks_to_read, writes_all_lines, is_answer, is_too_long}
 use Rattle.sm_top.specs.Steps.{IsRefusalFor, IsRefusal, IsReadFault, Serves, ServesWords, SaysStop}
@@ -62,6 +62,25 @@ pub wrote_answer : (job : JobData) (bytes : List ℕ) (read : ReadText) (w : Wri
     → Wrote (With given (IsShown read.input (right w))) a b f g status → Wrote (λ s lines. (s ≡ given) × IsAnswerOver job bytes (λ read. OfTwo right read.input) lines) a b f g status
 wrote_answer job bytes read w right = wrote_answer_by job bytes read w (λ _. right)
 
+-- and for roommates
+pub wrote_room : (job : JobData) (bytes : List ℕ) (read : ReadText) (persons : List AgentData) (right : List AgentData → List LineData → Type 0) (given : Status) (a b : Option (List ℕ)) (f g : ℕ) (status : Status)
+    → accepted job bytes ≡ Ok read → read.input ≡ Room persons
+    → Wrote (With given (IsShown read.input (right persons))) a b f g status → Wrote (λ s lines. (s ≡ given) × IsAnswerOver job bytes (λ read. OfRoom right read.input) lines) a b f g status
+wrote_room job bytes read persons right given a b f g status ok room =
+    wrote_for (With given (IsShown read.input (right persons))) (λ s lines. (s ≡ given) × IsAnswerOver job bytes (λ read. OfRoom right read.input) lines) a b f g status
+    (λ s lines h. (
+      h.same,
+      record {
+        read = read;
+        ok = ok;
+        shown = record {
+          answer = h.given_lines.answer;
+          is_right = subst (λ (input : Input). OfRoom right input h.given_lines.answer) (sym room) h.given_lines.is_right;
+          shows = h.given_lines.shows;
+        };
+      },
+    ))
+
 -- what is known of a stop for one reason is known of it for another
 pub stops_for : (U U' : ℕ → Type 0) (R R' : RefusalData → Type 0) (F F' : Type 0) (s : Stop)
     → ((word : ℕ) → U word → U' word) → ((refusal : RefusalData) → R refusal → R' refusal) → (F → F') → StopsBy U R F s → StopsBy U' R' F' s
@@ -70,14 +89,6 @@ stops_for U U' R R' F F' (stop.Refused kind at) u r f h = r (plain_refusal kind 
 stops_for U U' R R' F F' (stop.Unstable at fields) u r f h = (r (with_detail NotStable at (refusal_fields fields)) h.0, h.1)
 stops_for U U' R R' F F' stop.ReadFault u r f h = f h
 stops_for U U' R R' F F' stop.OutOfMemory u r f h = tt
-
--- what is said of it is plain
-pub plain_stop : (U : ℕ → Type 0) (R : RefusalData → Type 0) (F : Type 0) (s : Stop) → StopsBy U R F s → IsPlainStop s
-plain_stop U R F (stop.Usage word) h = tt
-plain_stop U R F (stop.Refused kind at) h = tt
-plain_stop U R F (stop.Unstable at fields) h = h.1
-plain_stop U R F stop.ReadFault h = tt
-plain_stop U R F stop.OutOfMemory h = tt
 
 -- so it is of a run that may have stopped
 pub err_stops_for : (U U' : ℕ → Type 0) (R R' : RefusalData → Type 0) (F F' : Type 0) (r : Result Status Stop)
@@ -215,6 +226,7 @@ answer_status tallies Meet bytes status lines h = ap is_answer h.0
 answer_status tallies Join bytes status lines h = ap is_answer h.0
 answer_status tallies (Survey limit) bytes status lines h = ap is_answer h.0
 answer_status tallies Check bytes status lines h = ap is_answer h.shown.is_right.by_verdict ∙ verdict_status h.shown.is_right.verdict
+answer_status tallies Rest bytes status lines h = ap is_answer h.0
 answer_status tallies (Make shape size seed summary) bytes status lines h = made_status tallies (made_instance shape size seed) summary status lines h
 
 answer_whole : (status : Status) → is_answer status ≡ true → writes_all_lines status ≡ true
@@ -359,7 +371,16 @@ answers_nothing {tallies} words before after a b status why same untouched = rec
   read_fault (inl is) w = absurd cc
   read_fault (inr is) w = is.1
 
--- what is said of a stop
+-- what is said of a stop is plain
+pub plain_stop : (words : List (List ℕ)) (before after : Option (List ℕ)) (h i : ℕ) (s : Stop)
+    → StopsBy (λ word. words_meaning words ≡ Err word) (IsRefusal words before after) (IsReadFault words h i) s → IsPlainStop s
+plain_stop words before after h i (stop.Usage word) faulty = tt
+plain_stop words before after h i (stop.Refused kind at) refusal = tt
+plain_stop words before after h i (stop.Unstable at fields) told = told.1
+plain_stop words before after h i stop.ReadFault fault = tt
+plain_stop words before after h i stop.OutOfMemory none = tt
+
+-- so a run that stopped is right
 pub answers_stopped : {tallies : List Shown} (words : List (List ℕ)) (before after a b : Option (List ℕ)) (f g h i : ℕ) (s : Stop) (status : Status)
     → StopsBy (λ word. words_meaning words ≡ Err word) (IsRefusal words before after) (IsReadFault words h i) s → (reads words ≡ false → after ≡ before) → SaysStop s a b f g status → Answers tallies words before after a b status
 answers_stopped {tallies} words before after a b f g h i (stop.Usage word) status faulty untouched says =

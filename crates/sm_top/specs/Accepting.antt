@@ -1,5 +1,5 @@
 -- Which inputs are accepted for a job.
-use Rattle.std.specs.Prelude.{◌≡◌, ◌+◌, ℕ, Bool, true, false, if◌then◌else◌, List, [], ◌∷◌, drop, Option, Some, None, Result, Ok, Err}
+use Rattle.std.specs.Prelude.{◌≡◌, ◌+◌, ℕ, Bool, true, false, not, if◌then◌else◌, List, [], ◌∷◌, drop, Option, Some, None, Result, Ok, Err}
 use Rattle.std.specs.Option.{option_map}
 use Rattle.sm_text.specs.Lines.{lines, content}
 use Rattle.sm_text.specs.Tokens.{tokens}
@@ -13,7 +13,7 @@ use Rattle.sm_instance.specs.declared.kinds.Kind.{Kind}
 use Rattle.sm_instance.specs.declared.kinds.Kind.TheVariants.{Marriage, Hospitals, Roommates}
 use Rattle.sm_reader.specs.InstanceText.{ReadText, Refusal, instance_text}
 use Rattle.sm_seats.specs.SeatEntries.{first_too_many}
-use Rattle.sm_words.specs.Jobs.{JobData, Solve, Reduced, Rotations, Pairs, Regret, Weight, Meet, Join, Survey, Check, Make}
+use Rattle.sm_words.specs.Jobs.{JobData, Solve, Reduced, Rotations, Pairs, Regret, Weight, Meet, Join, Survey, Check, Make, Rest}
 use Rattle.sm_top.specs.Texts.{RefusalData, plain_refusal}
 
 -- What a job takes.
@@ -37,6 +37,7 @@ takes_text Join = true
 takes_text (Survey limit) = false
 takes_text Check = true
 takes_text (Make shape size seed summary) = false
+takes_text Rest = false
 
 -- what is kept of an input's text for a job: all of it where the job takes text behind `end`, and anything for the others
 abbrev pub IsTextFor : JobData → List ℕ → List ℕ → Type 0
@@ -47,7 +48,7 @@ abbrev pub judges_answer : JobData → Bool
 judges_answer Check = true
 judges_answer job = false
 
--- a kind: `check`, and `solve` where it names no side, take all, and the others those with two sides
+-- a kind: `check`, and `solve` where it names no side, take all, `rest` takes roommates, and the others those with two sides
 abbrev pub is_two_sided : Kind → Bool
 is_two_sided Marriage = true
 is_two_sided Hospitals = true
@@ -68,6 +69,12 @@ takes_kind Join kind = is_two_sided kind
 takes_kind (Survey limit) kind = is_two_sided kind
 takes_kind Check kind = true
 takes_kind (Make shape size seed summary) kind = false
+takes_kind Rest kind = not (is_two_sided kind)
+
+-- roommates alone: `rest`
+abbrev pub takes_rooms_alone : JobData → Bool
+takes_rooms_alone Rest = true
+takes_rooms_alone job = false
 
 -- The order of refusals.
 

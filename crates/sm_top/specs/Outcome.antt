@@ -1,7 +1,7 @@
 -- What may come of words and an input: the status and the lines that are written. This is what the program promises.
 use Rattle.std.specs.Prelude.{◌≡◌, ℕ, Bool, true, false, List, [], ◌∷◌, ◌⊎◌, length, Option, None, unwrap_or, Ok, Err, codes}
 use Rattle.sm_answer.specs.Printing.{IsShown}
-use Rattle.sm_instance.specs.Written.{Written}
+use Rattle.sm_instance.specs.Written.{AgentData, Written}
 use Rattle.sm_instance.specs.declared.inputs.Input.{Input}
 use Rattle.sm_instance.specs.declared.inputs.Input.TheVariants.{Two, Room}
 use Rattle.sm_instance.specs.declared.kinds.Measure.{Measure}
@@ -12,7 +12,7 @@ use Rattle.sm_report.specs.Heads.{HeadData}
 use Rattle.sm_report.specs.Lines.{LineData}
 use Rattle.sm_report.specs.Texts.{left_name, right_name}
 use Rattle.sm_text.specs.declared.refusal.RefusalKind.TheVariants.{BadCursor, BadAnswer, NotStable}
-use Rattle.sm_words.specs.Jobs.{JobData, Solve, Reduced, Rotations, Pairs, Regret, Weight, Meet, Join, Survey, Check, Make}
+use Rattle.sm_words.specs.Jobs.{JobData, Solve, Reduced, Rotations, Pairs, Regret, Weight, Meet, Join, Survey, Check, Make, Rest}
 use Rattle.sm_words.specs.Words.{usual_limit, words_meaning}
 use Rattle.sm_top.specs.declared.status.Status.{Status}
 use Rattle.sm_top.specs.declared.status.Status.TheVariants.{Done, Refused, Usage, NoneExists}
@@ -41,11 +41,17 @@ use Rattle.sm_survey.specs.SurveyAnswer.{IsSurveyAnswer}
 use Rattle.sm_make.specs.Made.{made_instance}
 use Rattle.sm_printed.specs.Printed.{lines_of}
 use Rattle.sm_rooming.specs.RoomAnswer.{IsMatched, IsUnmatchable}
+use Rattle.sm_rooming.specs.RestAnswer.{IsRest}
 
 -- a right answer for an instance with two sides
 abbrev pub OfTwo : (Written → List LineData → Type 0) → Input → List LineData → Type 0
 OfTwo right (Two w) answer = right w answer
 OfTwo right (Room persons) answer = ⊥
+
+-- a right answer for roommates
+abbrev pub OfRoom : (List AgentData → List LineData → Type 0) → Input → List LineData → Type 0
+OfRoom right (Two w) answer = ⊥
+OfRoom right (Room persons) answer = right persons answer
 
 -- a right answer to `solve`, with its status: for roommates a stable matching, or `none` where there is none
 abbrev pub IsSolved : Option Side → Input → Status → List LineData → Type 0
@@ -94,6 +100,7 @@ IsAnswer tallies Join bytes status lines = (status ≡ Done) × IsAnswerOver Joi
 IsAnswer tallies (Survey limit) bytes status lines = (status ≡ Done) × IsAnswerOver (Survey limit) bytes (λ read. OfTwo (IsSurveyAnswer tallies limit) read.input) lines
 IsAnswer tallies Check bytes status lines = IsAnswerOver Check bytes (λ read. IsChecked read.input (texts_from bytes read.rest) read.rest_line status) lines
 IsAnswer tallies (Make shape size seed summary) bytes status lines = IsMade tallies (made_instance shape size seed) summary status lines
+IsAnswer tallies Rest bytes status lines = (status ≡ Done) × IsAnswerOver Rest bytes (λ read. OfRoom IsRest read.input) lines
 
 -- a cursor that hasn't an item for each proposer is refused, at no line
 abbrev pub IsBadCursor : Option (List ℕ) → Input → RefusalData → Type 0
@@ -138,6 +145,7 @@ IsOwnRefusal Join bytes read refusal = IsBadGiven read.input (texts_from bytes r
 IsOwnRefusal (Survey limit) bytes read refusal = ⊥
 IsOwnRefusal Check bytes read refusal = IsUnreadable read.input (texts_from bytes read.rest) read.rest_line refusal
 IsOwnRefusal (Make shape size seed summary) bytes read refusal = ⊥
+IsOwnRefusal Rest bytes read refusal = ⊥
 
 -- a made instance isn't surveyed where its seats have too many entries
 abbrev pub IsTooManyMade : Input → (summary : Bool) → RefusalData → Type 0

@@ -8,9 +8,10 @@ ghost use Rattle.sm_reader.specs.InstanceText.{read_of};
 ghost use Rattle.sm_text.specs.Limits.{most_bytes};
 ghost use Rattle.sm_text.specs.Lines.{lines};
 ghost use Rattle.sm_words.specs.Jobs.{job_of, IsInBounds, IsLimit};
-ghost use Rattle.sm_top.specs.Accepting.{reads_input, takes_text, IsTextFor, judges_answer, judged, accepted, too_many_in, IsTooMany};
+ghost use Rattle.sm_top.specs.Accepting.{reads_input, takes_text, IsTextFor, judges_answer, judged, accepted, takes_rooms_alone, too_many_in, IsTooMany};
 ghost use Rattle.sm_top.specs.Counted.{IsCounted};
 ghost use Rattle.sm_solve.specs.Solution.{IsSolution};
+ghost use Rattle.sm_rooming.specs.RestAnswer.{IsRest};
 ghost use Rattle.sm_listing.specs.ListAnswer.{IsCursor, IsListAnswer};
 ghost use Rattle.sm_listing.specs.Started.{cursor_in};
 ghost use Rattle.sm_partners.specs.PairsAnswer.{IsPairsAnswer};
@@ -23,7 +24,7 @@ ghost use Rattle.sm_top.specs.Stops.{StopsBy};
 ghost use Rattle.sm_top.specs.Wrote.{Wrote, With};
 
 use crate::choosing::choose;
-use crate::refusing::{counts_of, takes_text};
+use crate::refusing::{counts_of, takes_rooms_alone, takes_text};
 use crate::status::Status;
 use crate::stop::Stop;
 use crate::writing::write;
@@ -34,7 +35,9 @@ use sm_listing::{list_lines, start_list};
 use sm_partners::{find_pairs, find_regret, pairs_lines, regret_lines};
 use sm_reader::Read;
 use sm_report::Head;
-use sm_rooming::{RoomSolution, couple_lines, find_roommates, party_lines};
+use sm_rooming::{
+    RoomSolution, couple_lines, find_rest, find_roommates, party_lines, rest_lines,
+};
 use sm_seats::{SeatCounts, Seats};
 use sm_shown::{Basis, find_reduction, none_lines, reduction_lines, rotation_answer_lines};
 use sm_solve::{find_solution, solution_lines};
@@ -80,6 +83,9 @@ pub(crate) fn perform<K: Sink>(
     let behind = text_for(alloc, job, bytes);
     match &read.input {
         Input::Two(instance) => {
+            if takes_rooms_alone(job) {
+                return Err(Stop::Refused(RefusalKind::WrongKind, read.header_line));
+            }
             let given = with_counts(alloc, read, instance)?;
             perform_on_two(alloc, job, &behind, &given, tallies, sink)
         }
@@ -121,7 +127,7 @@ fn with_counts<'a>(
     })
 }
 
-/// Does a job on an instance with two sides, with its text where the job takes text behind `end`.
+/// Does a job that takes an instance with two sides, with its text where the job takes text behind `end`.
 fn perform_on_two<K: Sink>(
     alloc: Global,
     job: &Job,
@@ -132,6 +138,7 @@ fn perform_on_two<K: Sink>(
 ) -> Result<Status, Stop>
     requires reads { reads_input (job_of job.now) ≡ true }
     requires answers { judges_answer (job_of job.now) ≡ false }
+    requires sides { takes_rooms_alone (job_of job.now) ≡ false }
     requires few { takes_text (job_of job.now) ≡ true → given.now.read.now.rest_line
         + length (lines (drop given.now.read.now.rest bytes.now)) < 2 ^ 32 }
     requires counted { IsCounted given.now.read.now.input given.now.instance.now given.now.counts }
@@ -172,7 +179,7 @@ fn perform_on_two<K: Sink>(
             sink,
         ),
         Job::Survey(limit) => Ok(survey(alloc, given, *limit, tallies, sink)?),
-        Job::Check | Job::Make(_, _, _, _) => unreachable!(),
+        Job::Check | Job::Make(_, _, _, _) | Job::Rest => unreachable!(),
     }
 }
 
@@ -199,6 +206,7 @@ fn perform_on_persons<K: Sink>(
 {
     match job {
         Job::Solve(None) => Ok(solve_roommates(alloc, &read.input, persons, sink)?),
+        Job::Rest => Ok(show_rest(alloc, &read.input, persons, sink)?),
         Job::Solve(Some(_))
         | Job::Reduced
         | Job::Rotations
@@ -257,6 +265,25 @@ pub(crate) fn solve_roommates<K: Sink>(
             Ok(write(alloc, sink, Status::NoneExists, lines))
         }
     }
+}
+
+/// Does `rest`.
+fn show_rest<K: Sink>(
+    alloc: Global,
+    input: &Input,
+    persons: &Persons,
+    sink: &mut K,
+) -> Result<Status, AllocError>
+    requires { input.now ≡ Room persons.now }
+    ensures wrote { IfOk result (λ status. Wrote
+        (With Status.Done (IsShown input.now (IsRest persons.now)))
+        (K.held sink.old) (K.held sink.new) (K.faults sink.old) (K.faults sink.new) status) }
+    ensures unwritten { OnErr result (sink.new ≡ sink.old) }
+    ensures later { K.faults sink.old ≤ K.faults sink.new }
+{
+    let rest = find_rest(alloc, persons)?;
+    let lines = rest_lines(input, persons, &rest);
+    Ok(write(alloc, sink, Status::Done, lines))
 }
 
 /// Does `reduced`.

@@ -6,7 +6,7 @@ ghost use Rattle.sm_text.specs.declared.refusal.RefusalKind.TheVariants.{AfterEn
 ghost use Rattle.sm_text.specs.Lines.{lines};
 ghost use Rattle.sm_text.specs.Tokens.{tokens};
 ghost use Rattle.sm_reader.specs.InstanceText.{instance_text, read_of};
-ghost use Rattle.sm_top.specs.Accepting.{first_saying, has_tokens, takes_text, judges_answer, IsTooMany, judged, accepted, IsUnaccepted};
+ghost use Rattle.sm_top.specs.Accepting.{first_saying, has_tokens, takes_text, judges_answer, IsTooMany, judged, accepted, IsUnaccepted, takes_rooms_alone};
 ghost use Rattle.sm_seats.specs.Counted.{AreSeatCounts};
 ghost use Rattle.sm_seats.specs.SeatEntries.{AreFewSeats, first_too_many};
 ghost use Rattle.sm_instance.specs.declared.inputs.Input.TheVariants.{Two};
@@ -113,8 +113,19 @@ pub(crate) fn takes_text(job: &Job) -> bool
         | Job::Regret
         | Job::Weight(_)
         | Job::Survey(_)
-        | Job::Make(_, _, _, _) => false,
+        | Job::Make(_, _, _, _)
+        | Job::Rest => false,
         Job::Meet | Job::Join | Job::Check => true,
+    }
+}
+
+/// Does a job take roommates alone?
+pub(crate) fn takes_rooms_alone(job: &Job) -> bool
+    ensures { result ≡ takes_rooms_alone (job_of job.now) }
+{
+    match job {
+        Job::Rest => true,
+        _ => false,
     }
 }
 

@@ -23,6 +23,7 @@ pub data JobData : Type 0 where
   Survey : ℕ → JobData
   Check : JobData
   Make : Shape → ℕ → ℕ → Bool → JobData
+  Rest : JobData
 
 -- a job as plain data
 abbrev pub job_of : Job → JobData
@@ -38,6 +39,7 @@ job_of job.Join = Join
 job_of (job.Survey limit) = Survey limit
 job_of job.Check = Check
 job_of (job.Make shape size seed summary) = Make shape size seed summary
+job_of job.Rest = Rest
 
 -- a limit lies in its bounds
 abbrev pub least_limit : ℕ
@@ -73,3 +75,4 @@ IsInBounds Join = Unit {0}
 IsInBounds (Survey limit) = IsLimit limit
 IsInBounds Check = Unit {0}
 IsInBounds (Make shape size seed summary) = (least_size ≤ size) × (size ≤ most_size shape) × (seed < 2 ^ 64)
+IsInBounds Rest = Unit {0}

@@ -33,6 +33,7 @@ commands =
     ∷ (codes "survey", command.Survey)
     ∷ (codes "check", command.Check)
     ∷ (codes "make", command.Make)
+    ∷ (codes "rest", command.Rest)
     ∷ []
 
 -- the operands of a command by their names
@@ -54,6 +55,7 @@ operands_of command.Make =
     ∷ (codes "seed", operand.Seed)
     ∷ (codes "show", operand.Show)
     ∷ []
+operands_of command.Rest = []
 
 -- the sides by their names
 abbrev pub sides : List (List ℕ × Side)

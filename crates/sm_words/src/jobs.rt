@@ -33,6 +33,8 @@ pub enum Job {
     /// The instance that is made from a shape, a size and a seed: its text, or where the last is `true`, its summary, which
     /// is what `survey` says of it with the usual limit, and `solve` of roommates.
     Make(Shape, u32, u64, bool),
+    /// Of roommates who are left out, and a matching of the others.
+    Rest,
 }
 
 /// Why words ask for nothing.

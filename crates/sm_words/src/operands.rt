@@ -34,6 +34,7 @@ pub(crate) enum Command {
     Survey,
     Check,
     Make,
+    Rest,
 }
 
 /// An operand.
@@ -94,6 +95,7 @@ pub(crate) fn command_named(name: &str) -> Option<Command>
         "survey" => Some(Command::Survey),
         "check" => Some(Command::Check),
         "make" => Some(Command::Make),
+        "rest" => Some(Command::Rest),
         _ => None,
     }
 }
@@ -172,6 +174,7 @@ fn operand_named(command: Command, name: &str) -> Option<Operand>
             "show" => Some(Operand::Show),
             _ => None,
         },
+        Command::Rest => None,
     }
 }
 

@@ -104,6 +104,7 @@ fn job_for(command: Command, given: Given) -> Option<Job>
         Command::Survey => Some(Job::Survey(given.limit.unwrap_or(USUAL_LIMIT))),
         Command::Check => Some(Job::Check),
         Command::Make => making(&given),
+        Command::Rest => Some(Job::Rest),
     }
 }
 

@@ -11,7 +11,7 @@ returns-in-Ok-clause-accepted g c =
     answers_accepted (texts c.args.words.now) (g.S.Source.left c.args.source.now) _ _ _ c.in-Ok.status (answers_served _ _ _ _ _ _ _ _ c.in-Ok.ensures.served)
 
 pub say_stop-requires : goal.say_stop-requires
-say_stop-requires g c = plain_stop _ _ _ c.in-Err.stop c.in-Err.ensures.stop
+say_stop-requires g c = plain_stop (texts c.args.words.now) _ _ _ _ c.in-Err.stop c.in-Err.ensures.stop
 
 pub returns-clause-answer : goal.returns-clause-answer
 returns-clause-answer g c =
