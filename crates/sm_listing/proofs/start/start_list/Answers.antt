@@ -12,7 +12,7 @@ count c =
     sym (ap (λ (poset : RotationPoset). length poset.lists.proposers) c.in_ok-least.ensures.poset ∙ ap (λ (l : Lists). length l.proposers) c.in_ok-basis.ensures ∙ c.requires.seating.proposers)
 
 pub start-requires-2-clause-order : goal.start-requires-2-clause-order
-start-requires-2-clause-order c = rw (sym (count c), c.in_ok-order.ensures.copied, c.order-instance.ensures.order) (each_once_is_order c.order-instance.ensures.instance.order)
+start-requires-2-clause-order c = rw (sym (count c), c.in_ok-order.ensures.copied, c.order.ensures.order) (each_once_is_order c.order.ensures.instance.order)
 
 pub start-requires-2-clause-after : goal.start-requires-2-clause-after
 start-requires-2-clause-after c = cursor_long c.in_ok-after.after c.args.after.now c.in_ok-after.ensures.copied (count c) c.requires.after
