@@ -8,7 +8,7 @@ use Rattle.sm_partners.proofs.regret.find_regret.Goals as goal
 
 pub min_regret-requires-clause-ranks : goal.min_regret-requires-clause-ranks
 min_regret-requires-clause-ranks c =
-    are_ranks_of c.args.instance.now c.args.seats.now (ap (λ (poset : RotationPoset). poset.lists) c.in_ok-least.ensures.poset ∙ c.in_ok-basis.ensures) c.in_ok-least.ensures.levels (ap rows_of c.deref.ensures.value ∙ c.in_ok-ranks.ensures)
+    are_ranks_of c.args.instance.now c.args.seats.now (ap (λ (poset : RotationPoset). poset.lists) c.in_ok-least.ensures.poset ∙ c.in_ok-basis.ensures) (c.in_ok-least.ensures.levels ∙ c.in_ok-levels.ensures) (ap rows_of c.deref.ensures.value ∙ c.in_ok-ranks.ensures)
 
 pub min_regret-requires-clause-forced : goal.min_regret-requires-clause-forced
 min_regret-requires-clause-forced c =
