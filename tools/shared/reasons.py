@@ -21,7 +21,8 @@ REFUSALS = {
     'MissingEnd': ('the line `end` is missing', 'put it behind the last line'),
     'UnknownName': ('nobody has this name', 'each agent on a list has a line of its own on the other side, p or r'),
     'AfterEnd': ('something stands behind `end`', 'only `meet`, `join` and `check` read what stands there'),
-    'WrongKind': ('this command takes no roommates', '`check` does, and `solve` without a side'),
+    'WrongKind': ('this command doesn\'t take an instance of this kind',
+                  '`check`, `rest` and `solve` without a side take roommates; all but `rest` take marriages and hospitals'),
     'TooManySeats': (f'from this reviewer on the lists of all seats together have more than {MOST_SEAT_ENTRIES:,} entries',
                      'a hospital adds its places times the proposers with whom it lists each other; tools/trim cuts lists where '
                      'nothing depends on them'),
@@ -63,7 +64,7 @@ VERDICTS = {
 
 COMMANDS = {
     'solve': ('side',), 'reduced': (), 'rotations': (), 'list': ('after', 'limit'), 'pairs': (), 'regret': (), 'weight': ('by',),
-    'meet': (), 'join': (), 'survey': ('limit',), 'check': (), 'make': ('shape', 'size', 'seed', 'show'),
+    'meet': (), 'join': (), 'survey': ('limit',), 'rest': (), 'check': (), 'make': ('shape', 'size', 'seed', 'show'),
 }
 VALUES = {
     'side': 'side=proposers or side=reviewers', 'by': 'by=ranks or by=given', 'limit': 'limit= and a number from 1 to 1,000,000, without commas',
