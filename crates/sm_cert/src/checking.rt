@@ -18,10 +18,13 @@ ghost use Rattle.sm_judge.specs.Judges.{IsOwnLine, input_of};
 ghost use Rattle.sm_cert.specs.Checking.{HasFewSeats, IsCertFault, first_head, says_none};
 
 use crate::faults::CertFault;
+use sm_check_rooms::{couples_verdict, parties_verdict};
 use sm_forms::{AnswerFault, read_answer};
 use sm_instance::{Input, Instance, Persons};
-use sm_check_rooms::{couples_verdict, parties_verdict};
-use sm_judge::{Verdict, chosen_verdict, list_verdict, reduced_verdict, regret_verdict, rotations_verdict, solve_verdict};
+use sm_judge::{
+    Verdict, chosen_verdict, list_verdict, reduced_verdict, regret_verdict, rotations_verdict,
+    solve_verdict,
+};
 use sm_report::{Head, Line};
 use sm_seats::{SeatCounts, Seats, seat_counts};
 use sm_theory::Choice;

@@ -6,6 +6,7 @@ ghost use Rattle.sm_instance.specs.Sound.{IsInstance};
 ghost use Rattle.sm_instance.specs.declared.inputs.Input.TheVariants.{Two, Room};
 ghost use Rattle.sm_reader.specs.InstanceText.{read_of};
 ghost use Rattle.sm_text.specs.Limits.{most_bytes};
+ghost use Rattle.sm_text.specs.declared.refusal.RefusalKind.TheVariants.{WrongKind};
 ghost use Rattle.sm_text.specs.Lines.{lines};
 ghost use Rattle.sm_words.specs.Jobs.{job_of, IsInBounds, IsLimit};
 ghost use Rattle.sm_top.specs.Accepting.{reads_input, takes_text, IsTextFor, judges_answer, judged, accepted, takes_rooms_alone, too_many_in, IsTooMany};
@@ -21,6 +22,7 @@ ghost use Rattle.sm_top.specs.Outcome.{IsSolved, IsRegretted, IsWeighed, IsAnswe
 ghost use Rattle.sm_shown.specs.Reduction.{IsReduction};
 ghost use Rattle.sm_shown.specs.RotationAnswer.{IsRotationAnswer};
 ghost use Rattle.sm_top.specs.Stops.{StopsBy};
+ghost use Rattle.sm_top.specs.declared.stop.Stop.TheVariants.{Refused};
 ghost use Rattle.sm_top.specs.Wrote.{Wrote, With};
 
 use crate::choosing::choose;
@@ -35,9 +37,7 @@ use sm_listing::{list_lines, start_list};
 use sm_partners::{find_pairs, find_regret, pairs_lines, regret_lines};
 use sm_reader::Read;
 use sm_report::Head;
-use sm_rooming::{
-    RoomSolution, couple_lines, find_rest, find_roommates, party_lines, rest_lines,
-};
+use sm_rooming::{RoomSolution, couple_lines, find_rest, find_roommates, party_lines, rest_lines};
 use sm_seats::{SeatCounts, Seats};
 use sm_shown::{Basis, find_reduction, none_lines, reduction_lines, rotation_answer_lines};
 use sm_solve::{find_solution, solution_lines};
@@ -84,13 +84,22 @@ pub(crate) fn perform<K: Sink>(
     match &read.input {
         Input::Two(instance) => {
             if takes_rooms_alone(job) {
-                return Err(Stop::Refused(RefusalKind::WrongKind, read.header_line));
+                return Err(refuse_sides(read, instance));
             }
             let given = with_counts(alloc, read, instance)?;
             perform_on_two(alloc, job, &behind, &given, tallies, sink)
         }
         Input::Room(persons) => perform_on_persons(alloc, job, read, persons, sink),
     }
+}
+
+/// The refusal of an instance with two sides at its header. The count is for the proof alone: it shows that there are two.
+fn refuse_sides(read: &Read, instance: &Instance) -> Stop
+    ensures sides { IsInstance instance.now }
+    ensures refused { result ≡ Refused WrongKind read.now.header_line }
+{
+    let _count = instance.proposer_count();
+    Stop::Refused(RefusalKind::WrongKind, read.header_line)
 }
 
 /// The text of an input, for a job that takes text behind `end`. For any other it is freed.
