@@ -97,8 +97,10 @@ vector_counted {w} {vectors} {ranks} {before} {after} n is h are = record {
 -- a count of few vectors has room for one more
 pub room_for_one : {w : Written} {rows : List (List ℕ)} (p x : ℕ) → AreFewCounted w rows → p < length w.proposers → x < length (row rows p) → slice_index (row rows p) x < most_listed
 room_for_one {w} {rows} p x h inside on =
+    let counted : slice_index (row rows p) x ≡ count_by (λ y. y == x) (column h.vectors p) = (h.counts.counts p inside).counted x on in
+    let most = count_by-le-length (λ y. y == x) (column h.vectors p) in
     let long = length-map h.vectors (λ (v : List ℕ). slice_index v p) in
-    omega (arith, (h.counts.counts p inside).counted x on, count_by-le-length (λ y. y == x) (column h.vectors p), long, h.few)
+    omega (arith, counted, most, long, h.few)
 
 -- a row is written
 pub row_set : (rows : List (Vec ℕ Global)) (p : ℕ) (d : Vec ℕ Global) (new : List ℕ) → length new ≡ vec_len (slice_index_or rows p d) → rows_of (set rows p (with_items (slice_index_or rows p d) new)) ≡ set (rows_of rows) p new

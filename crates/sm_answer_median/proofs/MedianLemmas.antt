@@ -1,5 +1,5 @@
 -- The median of the allowed stable matchings, by the counts of their ranks.
-use Rattle.std.proofs.Common.{◌≡◌, ℕ, ◌+◌, ◌-◌, ◌/◌, ◌<◌, ◌≤◌, List, [], ◌∷◌, length, Option, None, slice_index, refl, sym, ap, ◌∙◌, subst, arith}
+use Rattle.std.proofs.Common.{◌≡◌, ℕ, ◌+◌, ◌-◌, ◌/◌, ◌<◌, ◌≤◌, List, [], ◌∷◌, length, Option, None, slice_index, slice_index_or, refl, sym, ap, ◌∙◌, subst, arith}
 use Rattle.std.specs.List.{All}
 use Rattle.std.proofs.lemmas.List.{length-map}
 use Rattle.std.proofs.lemmas.List.Elements.{All-from_get_or}
@@ -11,7 +11,7 @@ use Rattle.sm_instance.specs.Allowed.{IsAllowed}
 use Rattle.sm_instance.specs.Ranks.{rank_vector_of}
 use Rattle.sm_market.specs.Lists.{Lists}
 use Rattle.sm_theory.specs.Chains.{IsCompleteChain}
-use Rattle.sm_theory.specs.Vectors.{IsAllowedVector}
+use Rattle.sm_theory.specs.Vectors.{IsAllowedVector, level_vector_of}
 use Rattle.sm_theory.specs.Medians.{IsAtPlace, IsMedianVector, column, middle}
 use Rattle.sm_theory.proofs.Medians.Places.{middle_within, one_at_place}
 use Rattle.sm_theory.proofs.Medians.OfVectors.{median_vector_is_allowed}
@@ -39,7 +39,7 @@ has_median {w} {s} {vectors} h all some =
     let forbidden = leveled w w.forbidden in
     let chain : IsCompleteChain (seat_market w) s.poset.first.places s.poset.rotations = subst (λ (l : Lists). IsCompleteChain l s.poset.first.places s.poset.rotations) h.market h.poset.printed.chain in
     let One : List ℕ → Type 0 = IsAllowedVector (seat_market w) (levels_of seats) forced forbidden in
-    let each : All One vectors = All-from_get_or One vectors [] (λ k inside. vector_seated h.seating _ (all.sound k inside)) in
+    let each : All One vectors = All-from_get_or One vectors [] (λ k inside. vector_seated h.seating (slice_index_or vectors k []) (all.sound k inside)) in
     let m = median_vector_is_allowed (seat_market w) s.poset.first.places s.poset.rotations (levels_of seats) forced forbidden vectors h.seating.market chain h.seating.levels some each in
     let places = written_of seats m.0.proposers in
     record {
@@ -49,7 +49,7 @@ has_median {w} {s} {vectors} h all some =
         some = some;
         stable = h.seating.forgotten m.0 m.1;
         allowed = (h.seating.allowed m.0 m.1.matching).0 m.2;
-        median = subst (IsMedianVector (length w.proposers) vectors) (h.seating.ranks m.0 m.1.matching) (subst (λ n. IsMedianVector n vectors _) h.seating.proposers m.3);
+        median = subst (IsMedianVector (length w.proposers) vectors) (h.seating.ranks m.0 m.1.matching) (subst (λ n. IsMedianVector n vectors (level_vector_of (seat_market w) (levels_of seats) m.0)) h.seating.proposers m.3);
       };
     }
 

@@ -15,9 +15,8 @@ use std::alloc::{AllocError, Global};
 pub(crate) fn no_counts(alloc: Global, instance: &Instance) -> Result<Vec<Vec<u32>>, AllocError>
     ensures { IfOk result (λ counts. AreRankCounts instance.now [] (rows_of counts.items)) }
 {
-    let proposers = instance.proposer_count();
-    let mut counts = Vec::with_capacity(alloc, proposers as usize)?;
-    for p in 0..proposers {
+    let mut counts = Vec::with_capacity(alloc, instance.proposer_count() as usize)?;
+    for p in 0..instance.proposer_count() {
         let ranks = instance.proposer_len(p) as usize + 2;
         counts.push(vec![in alloc; 0; ranks]?)?;
     }
@@ -47,10 +46,9 @@ pub(crate) fn middle_places(
     requires { IsMedianCounted instance.now listed (rows_of counts.now) }
     ensures { IfOk result (λ places. IsMedianOfSome instance.now listed places.items) }
 {
-    let proposers = instance.proposer_count();
     let middle = (listed + 1) / 2;
-    let mut places = Vec::with_capacity(alloc, proposers as usize)?;
-    for p in 0..proposers {
+    let mut places = Vec::with_capacity(alloc, counts.len())?;
+    for p in 0..instance.proposer_count() {
         places.push(counted_place(instance, p, &counts[p as usize], middle))?;
     }
     Ok(places)

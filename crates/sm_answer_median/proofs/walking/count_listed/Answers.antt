@@ -1,4 +1,4 @@
-use Rattle.std.proofs.Common.{length, refl, arith}
+use Rattle.std.proofs.Common.{[], ◌∷◌, ◌++◌, true, refl, arith}
 use Rattle.std.proofs.lemmas.List.{length-append}
 use Rattle.sm_listing.proofs.UnderwayLemmas.{none_so_far, current_allowed, one_more_so_far, whole_listing, cut_listing, more_behind}
 use Rattle.sm_answer_median.specs.MedianAnswer.{most_listed}
@@ -7,10 +7,10 @@ use Rattle.sm_answer_median.proofs.walking.count_listed.Goals as goal
 pub matchings-init : goal.matchings-init
 matchings-init c = record { within = omega arith; counted = record { vectors = []; so_far = none_so_far c.requires.lister; counts = c.requires.counts; count = refl } }
 
-pub returns-then-not-advance : goal.returns-then-not-advance
-returns-then-not-advance c =
+pub returns-then-not-advance-clause-all : goal.returns-then-not-advance-clause-all
+returns-then-not-advance-clause-all c =
     let h = c.matchings.invariant.counted in
-    record { all = record { vectors = h.vectors; all = whole_listing most_listed h.so_far (omega (arith, h.count, c.matchings.invariant.within)) (c.advance.ensures.none c.if-not-advance.true).0; counts = h.counts; count = h.count }; fault = tt }
+    record { vectors = h.vectors; all = whole_listing most_listed h.so_far (omega (arith, h.count, c.matchings.invariant.within)) (c.advance.ensures.none c.if-not-advance.true).0; counts = h.counts; count = h.count }
 
 pub count_ranks-requires-clause-vector : goal.count_ranks-requires-clause-vector
 count_ranks-requires-clause-vector c =
@@ -34,12 +34,12 @@ matchings-preserved c =
       };
     }
 
-pub returns-then-advance : goal.returns-then-advance
-returns-then-advance c =
+pub returns-then-advance-clause-fault : goal.returns-then-advance-clause-fault
+returns-then-advance-clause-fault c =
     let h = c.matchings.invariant.counted in
-    record { all = tt; fault = (refl, record { vectors = h.vectors; cut = cut_listing most_listed true h.so_far (omega (arith, h.count, c.matchings.invariant.within, c.matchings-test.false)) (more_behind c.advance-2.new.self (c.advance-2.ensures.next c.if-advance.true)) }) }
+    (refl, record { vectors = h.vectors; cut = cut_listing most_listed true h.so_far (omega (arith, h.count, c.matchings.invariant.within, c.matchings-test.false)) (more_behind c.advance-2.new.self (c.advance-2.ensures.next c.if-advance.true)) })
 
-pub returns : goal.returns
-returns c =
+pub returns-clause-all : goal.returns-clause-all
+returns-clause-all c =
     let h = c.matchings.invariant.counted in
-    record { all = record { vectors = h.vectors; all = whole_listing most_listed h.so_far (omega (arith, h.count, c.matchings.invariant.within)) (c.advance-2.ensures.none c.if-advance.false).0; counts = h.counts; count = h.count }; fault = tt }
+    record { vectors = h.vectors; all = whole_listing most_listed h.so_far (omega (arith, h.count, c.matchings.invariant.within)) (c.advance-2.ensures.none c.if-advance.false).0; counts = h.counts; count = h.count }
