@@ -118,5 +118,5 @@ pub cut_listing : {w : Written} {s : Lister} {vectors : List (List ℕ)} (limit 
 cut_listing {w} {s} {vectors} limit more h full x = listed_up_to limit 0 more h x (omega (arith, full))
 
 -- a vector that is found behind the cursor is more than no vectors
-pub more_behind : {s : Lister} (t : Lister) → (u : List ℕ) × (t.cursor ≡ Some u) × IsNextOf s u → IsListingOf s s.cursor 0 [] true
-more_behind {s} t found = none_wanted (irreflexive s.order) (transitive s.order) found.0 found.2
+pub more_behind : (s t : Lister) → (u : List ℕ) × (t.cursor ≡ Some u) × IsNextOf s u → IsListingOf s s.cursor 0 [] true
+more_behind s t found = none_wanted (irreflexive s.order) (transitive s.order) found.0 found.2

@@ -37,7 +37,7 @@ matchings-preserved c =
 pub returns-then-advance-clause-fault : goal.returns-then-advance-clause-fault
 returns-then-advance-clause-fault c =
     let h = c.matchings.invariant.counted in
-    (refl, record { vectors = h.vectors; cut = cut_listing most_listed true h.so_far (omega (arith, h.count, c.matchings.invariant.within, c.matchings-test.false)) (more_behind c.advance-2.new.self (c.advance-2.ensures.next c.if-advance.true)) })
+    (refl, record { vectors = h.vectors; cut = cut_listing most_listed true h.so_far (omega (arith, h.count, c.matchings.invariant.within, c.matchings-test.false)) (more_behind c.matchings.lister c.advance-2.new.self (c.advance-2.ensures.next c.if-advance.true)) })
 
 pub returns-clause-all : goal.returns-clause-all
 returns-clause-all c =
