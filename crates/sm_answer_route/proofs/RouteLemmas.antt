@@ -39,14 +39,10 @@ use Rattle.sm_shown.specs.Reduction.{seat_line}
 use Rattle.sm_shown.specs.RotationLines.{first_seat_line, rotation_lines, shown_of}
 use Rattle.sm_shown.specs.GivenLines.{lines_left}
 use Rattle.sm_shown.proofs.RotationLemmas.{AreShown, given_is, rotations_given_sound}
-use Rattle.sm_answer_route.specs.RouteAnswer.{step_line, IsStepNumbered, IsSetOf, AreStepsBetween, route_lines, IsRouteAnswer}
+use Rattle.sm_answer_route.specs.RouteAnswer.{given_pairs, step_line, IsStepNumbered, IsSetOf, AreStepsBetween, route_lines, IsRouteAnswer}
 use Rattle.sm_answer_route.specs.RouteFound.{IsRouteFound}
 use Rattle.sm_answer_route.specs.declared.found.FoundRoute.{FoundRoute}
 use Rattle.sm_answer_route.proofs.StepLemmas.{steps_sound}
-
--- the lines of both matchings
-abbrev pub both_given : Written → (left right : List (Option ℕ)) → List LineData
-both_given w left right = pair_lines word.Left w left ++ pair_lines word.Right w right
 
 -- the pairs of a matching as they are given
 pub pairs_given : (by : PairWord) (w : Written) (places : List (Option ℕ)) (rest : List LineData) → rest ≡ lines_from (matching_line by w places) 0 (length w.proposers - 0) → rest ≡ pair_lines by w places
@@ -62,7 +58,7 @@ firsts_given s first = lines_from (seat_line Proposers s first) 0 (length s.mark
 abbrev pub route_given : Written → (left right : List (Option ℕ)) → Seating → Places → List (List (ℕ × ℕ)) → List (List ℕ) → List Step → List LineData
 route_given w left right s first rotations needs steps =
     (LineData.Answer HeadData.Route ∷ [])
-    ++ (both_given w left right ++ (firsts_given s first ++ (lines_left false s rotations needs 0 ++ (map step_line steps ++ (LineData.End ∷ [])))))
+    ++ (given_pairs w left right ++ (firsts_given s first ++ (lines_left false s rotations needs 0 ++ (map step_line steps ++ (LineData.End ∷ [])))))
 
 module _ (s : Seating) (first : Places) (rotations : List (List (ℕ × ℕ))) (needs : List (List ℕ)) (one : length first.proposers ≡ length s.market.proposers) where
   -- the first seats and the rotations are those that are shown
@@ -86,8 +82,7 @@ module _ (s : Seating) (first : Places) (rotations : List (List (ℕ × ℕ))) (
       let last = map step_line steps ++ LineData.End ∷ [] in
       let alike : firsts_given s first ++ (lines_left false s rotations needs 0 ++ last) ≡ firsts ++ (pairs ++ last) =
       sym (append_assoc (firsts_given s first) (lines_left false s rotations needs 0) last) ∙ ap (λ (t : List LineData). t ++ last) shown_alike ∙ append_assoc firsts pairs last in
-      ap (λ (t : List LineData). LineData.Answer HeadData.Route ∷ (both_given w left right ++ t)) alike
-      ∙ ap (λ (t : List LineData). LineData.Answer HeadData.Route ∷ t) (append_assoc (pair_lines word.Left w left) (pair_lines word.Right w right) (firsts ++ (pairs ++ last)))
+      ap (λ (t : List LineData). LineData.Answer HeadData.Route ∷ (given_pairs w left right ++ t)) alike
 
 -- they are a right answer
 pub route_right : {w : Written} {s : Seating} (first : Places) (rotations : List (List (ℕ × ℕ))) (needs : List (List ℕ)) (steps : List Step) (texts : List (List ℕ)) (given : Given)
@@ -130,8 +125,8 @@ route_sound {w} {s} input first rotations needs steps left right two i h x left_
     let ended = All-append P (map step_line steps) end (steps_sound w steps numbered) (one_all P LineData.End (end_sound (Two w))) in
     let behind : All P (firsts_given s first ++ (rotations_lines ++ last)) = All-same P _ (front ++ last) (sym (append_assoc (firsts_given s first) rotations_lines last)) (All-append P front last shown ended) in
     subst (λ (o : Input). All (IsLineOf o) (route_given w left right s first rotations needs steps)) (sym two)
-    (All-cons P (LineData.Answer HeadData.Route) (both_given w left right ++ (firsts_given s first ++ (rotations_lines ++ last))) (record { printable = tt; seats = λ k d l. absurd (omega arith); numbers = tt; head = tt })
-    (All-append P (both_given w left right) (firsts_given s first ++ (rotations_lines ++ last)) both behind))
+    (All-cons P (LineData.Answer HeadData.Route) (given_pairs w left right ++ (firsts_given s first ++ (rotations_lines ++ last))) (record { printable = tt; seats = λ k d l. absurd (omega arith); numbers = tt; head = tt })
+    (All-append P (given_pairs w left right) (firsts_given s first ++ (rotations_lines ++ last)) both behind))
 
 -- the steps that are found are those of the values that are read of the poset
 pub route_found : {w : Written} {given : Given} {found : FoundRoute} (first : Paired) (rotations : List (List (ℕ × ℕ))) (steps : List Step) → IsRouteFound w given found

@@ -48,14 +48,18 @@ step_line (Forth k) = LineData.Forth (k + 1)
 abbrev pub IsStepNumbered : Step → Type 0
 IsStepNumbered step = AreNumbers (step_line step)
 
--- the two matchings in the order of the proposers, the first seats, the rotations with their needs, and the steps
+-- the pairs of the left matching and then those of the right one, each in the order of the proposers
+abbrev pub given_pairs : Written → (left right : List (Option ℕ)) → List LineData
+given_pairs w left right = pair_lines word.Left w left ++ pair_lines word.Right w right
+
+-- the pairs of the two matchings, the first seats, the rotations with their needs, and the steps
 abbrev pub route_lines : Written → (left right : List (Option ℕ)) → ShownRotations → List Step → List LineData
 route_lines w left right shown steps =
     LineData.Answer HeadData.Route
-    ∷ (pair_lines word.Left w left ++ (pair_lines word.Right w right
+    ∷ (given_pairs w left right
     ++ (lines_from (first_seat_line shown) 0 (length shown.firsts)
     ++ (flat_map (rotation_lines shown) (range_with_len 0 (length shown.rotations))
-    ++ (map step_line steps ++ LineData.End ∷ [])))))
+    ++ (map step_line steps ++ LineData.End ∷ []))))
 
 -- The lines are those of two stable matchings that were given, of the printed chain of rotations and what each of them needs,
 -- and of the steps from the left matching to the right one.

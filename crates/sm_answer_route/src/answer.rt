@@ -1,6 +1,6 @@
 //! The answer of `route`.
 
-ghost use Rattle.std.specs.Prelude.{◌≡◌, ◌++◌, ℕ, List, IfOk};
+ghost use Rattle.std.specs.Prelude.{◌≡◌, ℕ, List, IfOk};
 ghost use Rattle.sm_answer.specs.Giving.{HasRest};
 ghost use Rattle.sm_answer.specs.Printing.{IsShown};
 ghost use Rattle.sm_instance.specs.Matching.{IsAssignment};
@@ -8,11 +8,9 @@ ghost use Rattle.sm_instance.specs.Stable.{IsStable};
 ghost use Rattle.sm_instance.specs.declared.inputs.Input.TheVariants.{Two};
 ghost use Rattle.sm_seats.specs.Seating.{seating_of};
 ghost use Rattle.sm_seats.specs.Correspondence.{IsSeating};
-ghost use Rattle.sm_answer.specs.declared.matching_lines.PairWord.TheVariants as word;
 ghost use Rattle.sm_report.specs.Lines.{LineData};
 ghost use Rattle.sm_given.specs.Given.{AreStableGiven};
-ghost use Rattle.sm_given.specs.Chosen.{pair_lines};
-ghost use Rattle.sm_answer_route.specs.RouteAnswer.{IsRouteAnswer};
+ghost use Rattle.sm_answer_route.specs.RouteAnswer.{given_pairs, IsRouteAnswer};
 ghost use Rattle.sm_answer_route.specs.RouteFound.{IsRouteFound};
 
 use crate::found::FoundRoute;
@@ -134,8 +132,7 @@ fn both_matchings<'a>(instance: &'a Instance, given: &'a Given) -> BothMatchings
     requires left { IsAssignment instance.now given.now.left.places.items }
     requires right { IsAssignment instance.now given.now.right.places.items }
     ensures all { (rest : List LineData) → ⟦<BothMatchings<'a> as Answer>⟧.gives result rest → rest
-        ≡ pair_lines word.Left instance.now given.now.left.places.items
-        ++ pair_lines word.Right instance.now given.now.right.places.items }
+        ≡ given_pairs instance.now given.now.left.places.items given.now.right.places.items }
     ensures some { HasRest (⟦<BothMatchings<'a> as Answer>⟧.gives result) }
 {
     Then {
