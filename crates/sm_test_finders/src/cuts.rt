@@ -25,11 +25,7 @@ fn weighs(
 )
     requires { unsigned_abs gains.0 + unsigned_abs gains.1 ≤ 2 ^ 55 }
 {
-    let edges = [
-        edge(0, 2, Some(4)),
-        edge(1, 3, Some(4)),
-        edge(2, 1, None),
-    ];
+    let edges = [edge(0, 2, Some(4)), edge(1, 3, Some(4)), edge(2, 1, None)];
     let found = least_cuts(rt.alloc(), 2, &edges, &[gains.0, gains.1])
         .expect(rt, MEMORY)
         .expect(rt, "a bounded path");
