@@ -149,7 +149,7 @@ module _ {pairs : List (ℕ × ℕ)} {seconds : List (ℕ × ℕ × ℤ)} {given
       }
 
 -- an item for a pair of an instance that has a weight names two agents
-second_sound : {w : Written} → IsInstance w → (seconds : List (ℕ × ℕ × ℤ)) (n : ℕ) → IsSecondOf (map weighed w.weights) seconds n → IsSoundSecond w seconds n
+pub second_sound : {w : Written} → IsInstance w → (seconds : List (ℕ × ℕ × ℤ)) (n : ℕ) → IsSecondOf (map weighed w.weights) seconds n → IsSoundSecond w seconds n
 second_sound {w} i seconds n s = record {
   pair = subst (IsPairOf (length w.proposers) (length w.reviewers)) s.among.is (weights_in_range i s.among.at (omega (arith, s.among.there, length-weighed w.weights)));
   second = s;

@@ -1,6 +1,6 @@
 //! Instances with two sides.
 
-ghost use Rattle.std.specs.Prelude.{◌≡◌, ◌≢◌, ◌+◌, ◌<◌, ◌≤◌, ◌^◌, ◌↔◌, IsTrue, IfSome, length, map, position, IfOk, IfErr, OnOk, OnErr};
+ghost use Rattle.std.specs.Prelude.{◌≡◌, ◌≢◌, ℕ, ◌+◌, ◌<◌, ◌≤◌, ◌^◌, ◌↔◌, IsTrue, IfSome, length, map, position, IfOk, IfErr, OnOk, OnErr};
 ghost use Rattle.std.specs.Str.{bytes_eq};
 ghost use Rattle.std.specs.Int.RustNames.{unsigned_abs};
 ghost use Rattle.sm_text.specs.Limits.{most_agents, most_capacity, most_weight};
@@ -70,7 +70,7 @@ impl Model for Instance {
 }
 
 impl Instance {
-    ghost use Rattle.sm_instance.specs.Faults.{IsInstanceFault, IsOrderFault, IsSecondFault};
+    ghost use Rattle.sm_instance.specs.Faults.{IsInstanceFault, IsOrderFault, IsSecondFault, IsSoundSecond};
 
     /// Makes an instance, or names the first thing that stands in the way.
     ///
@@ -81,8 +81,9 @@ impl Instance {
     ///
     /// # Errors
     ///
-    /// The faults are those of [`InstanceFault`], in its order, and never `BadOrder`. Agents and entries are tried on the proposers' side
-    /// first, then by number and by place. The capacity has to be 1 for a proposer, and for every agent of a marriage.
+    /// The faults are those of [`InstanceFault`], in its order, and never `BadOrder`. Agents and entries are tried on the
+    /// proposers' side first, then by number and by place. The capacity has to be 1 for a proposer, and for every agent of a
+    /// marriage.
     pub fn build(
         alloc: Global,
         kind: Kind,
@@ -235,6 +236,8 @@ impl Instance {
         ensures done { OnOk result (self.new ≡ record self.old {
           seconds = seconds_among self.old.weights seconds.items;
         }) }
+        ensures sound { OnOk result ((n : ℕ) → n < length seconds.items
+            → IsSoundSecond self.old seconds.items n) }
         ensures fault { IfErr result (λ f. IsSecondFault self.old seconds.items f) }
         ensures same { OnErr result (self.new ≡ self.old) }
     {

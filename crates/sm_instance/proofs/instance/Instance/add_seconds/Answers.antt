@@ -7,12 +7,12 @@ use Rattle.sm_lists.specs.Pairs.{pair_at}
 use Rattle.sm_lists.proofs.ResultLemmas.{take-append_at_length}
 use Rattle.sm_instance.specs.Written.{Written, weighed, seconds_among}
 use Rattle.sm_instance.specs.Vectors.{written_with}
-use Rattle.sm_instance.specs.Faults.{IsSecondFault}
+use Rattle.sm_instance.specs.Faults.{IsSecondFault, IsSoundSecond}
 use Rattle.sm_instance.specs.Checks.{AreGiven, IsGivenFault}
 use Rattle.sm_instance.specs.Kept.{IsKept}
 use Rattle.sm_instance.proofs.FaultLemmas.{on_err}
 use Rattle.sm_instance.proofs.ItemLemmas.{length-weighed, weights_differ}
-use Rattle.sm_instance.proofs.SecondLemmas.{given_small, given_seconds, second_faulty, kept_with_seconds}
+use Rattle.sm_instance.proofs.SecondLemmas.{given_small, given_seconds, second_sound, second_faulty, kept_with_seconds}
 use Rattle.sm_instance.proofs.instance.Instance.add_seconds.Goals as goal
 
 pub checked_seconds-requires-clause-differ : goal.checked_seconds-requires-clause-differ
@@ -71,3 +71,8 @@ returns-clause-done c =
     let items = c.args.seconds.items in
     ap (λ s. written_with i.kind i.proposers.items i.reviewers.items i.weights.items i.forced.items i.forbidden.items s i.order.items) (whole c ∙ set_is c ∙ given_seconds i.weights.items items c.in_ok-given.given.items (given c))
     ∙ ap (λ (w : Written). record w { seconds = seconds_among w.weights items }) c.self.view_is
+
+pub returns-clause-sound : goal.returns-clause-sound
+returns-clause-sound c =
+    let items = c.args.seconds.items in
+    λ n l. subst (λ (w : Written). IsSoundSecond w items n) c.self.view_is (second_sound c.self.invariant.instance items n ((given c).sound n l))
