@@ -18,16 +18,16 @@ use Rattle.sm_pairs.specs.Chosen.{chosen_places, head_for}
 use Rattle.sm_pairs.proofs.ChoiceLemmas.{chosen_assigned}
 use Rattle.sm_report.specs.Lines.{LineData}
 use Rattle.sm_report.specs.declared.keywords.Keyword.TheVariants as keyword
-use Rattle.sm_judge.specs.declared.verdicts.Reason.TheVariants as reason
-use Rattle.sm_forms.specs.Keywords.{keyword_number}
+use Rattle.sm_check_answers.specs.declared.verdicts.Reason.TheVariants as reason
+use Rattle.sm_check_forms.specs.Keywords.{keyword_number}
 use Rattle.sm_report.specs.Keywords.{keyword_of}
-use Rattle.sm_forms.specs.Forms.{layouts_of, given_layout}
-use Rattle.sm_judge.specs.Said.{pair_in, pairs_in, left_in, lefts_in, right_in, rights_in}
-use Rattle.sm_judge.specs.Pairs.{IsFree, IsWanted, AreAllThere}
-use Rattle.sm_judge.specs.Judging.{answer, Clauses}
-use Rattle.sm_forms.specs.Laws.{closing_of}
+use Rattle.sm_check_forms.specs.Forms.{layouts_of, given_layout}
+use Rattle.sm_check_answers.specs.Said.{pair_in, pairs_in, left_in, lefts_in, right_in, rights_in}
+use Rattle.sm_check_answers.specs.Pairs.{IsFree, IsWanted, AreAllThere}
+use Rattle.sm_check_answers.specs.Judging.{answer, Clauses}
+use Rattle.sm_check_forms.specs.Laws.{closing_of}
 use Rattle.sm_cert.specs.Yes.{GetsYes, ArePairsOf, IsChosen, MeetYes, JoinYes}
-use Rattle.sm_judge.proofs.ChosenLemmas.{of_clauses}
+use Rattle.sm_check_answers.proofs.ChosenLemmas.{of_clauses}
 use Rattle.sm_cert.proofs.GroupLemmas.{Tells, Begins, Parted, parted_behind, said_then}
 use Rattle.sm_cert.proofs.SolveYes.{same_places, free_pairs}
 use Rattle.sm_cert.proofs.YesLines.{IsRight, right_two, at_closing, said_above, each_line, grown}

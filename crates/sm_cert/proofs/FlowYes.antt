@@ -18,7 +18,7 @@ use Rattle.sm_theory.specs.Net.{Net, sink_of, room_of, is_unbounded, IsUnbounded
 use Rattle.sm_theory.specs.FlowLines.{line_at, amount_on, AreOnNodes, AreWithin, HaveSameEnds, IsNewEdge, IsWithinRoom}
 use Rattle.sm_theory.specs.declared.flow_lines.FlowLine.{FlowLine}
 use Rattle.sm_report.specs.Texts.{SINK}
-use Rattle.sm_judge.specs.Flows.{node_of}
+use Rattle.sm_check_answers.specs.Flows.{node_of}
 
 abbrev share : ℕ → ℕ → FlowLine → ℕ
 share i j line = if line.from == i && line.to == j then line.amount else 0

@@ -13,20 +13,20 @@ use Rattle.sm_report.specs.Heads.{HeadData}
 use Rattle.sm_report.specs.Lines.{LineData}
 use Rattle.sm_report.specs.declared.keywords.Keyword.{Keyword}
 use Rattle.sm_report.specs.declared.keywords.Keyword.TheVariants as keyword
-use Rattle.sm_forms.specs.declared.layouts.LayoutPart.{LayoutPart}
-use Rattle.sm_forms.specs.declared.layouts.LayoutPart.TheVariants.{One, Many, Blocks}
-use Rattle.sm_forms.specs.declared.layouts.Opening.{Opening}
-use Rattle.sm_judge.specs.declared.verdicts.Reason.{Reason}
-use Rattle.sm_forms.specs.Keywords.{keyword_number}
+use Rattle.sm_check_forms.specs.declared.layouts.LayoutPart.{LayoutPart}
+use Rattle.sm_check_forms.specs.declared.layouts.LayoutPart.TheVariants.{One, Many, Blocks}
+use Rattle.sm_check_forms.specs.declared.layouts.Opening.{Opening}
+use Rattle.sm_check_answers.specs.declared.verdicts.Reason.{Reason}
+use Rattle.sm_check_forms.specs.Keywords.{keyword_number}
 use Rattle.sm_report.specs.Keywords.{keyword_of}
-use Rattle.sm_forms.specs.Layouts.{begins, keyword_at, behind, left_behind, is_empty, is_whole}
-use Rattle.sm_forms.specs.Forms.{layouts_of, opening_of}
-use Rattle.sm_judge.specs.Verdicts.{AtLine}
-use Rattle.sm_judge.specs.Said.{IsFirstBehind}
-use Rattle.sm_judge.specs.Judging.{Subject, Clauses}
+use Rattle.sm_check_forms.specs.Layouts.{begins, keyword_at, behind, left_behind, is_empty, is_whole}
+use Rattle.sm_check_forms.specs.Forms.{layouts_of, opening_of}
+use Rattle.sm_check_answers.specs.Verdicts.{AtLine}
+use Rattle.sm_check_answers.specs.Said.{IsFirstBehind}
+use Rattle.sm_check_answers.specs.Judging.{Subject, Clauses}
 use Rattle.sm_cert.specs.Yes.{GetsYes}
 use Rattle.sm_theory.proofs.Net.Tests.{and_parts}
-use Rattle.sm_forms.proofs.LayoutLemmas.{left_behind-none}
+use Rattle.sm_check_forms.proofs.LayoutLemmas.{left_behind-none}
 use Rattle.sm_cert.proofs.YesLines.{IsRight, by_head, got_at, taken_front}
 
 -- What is left of a layout behind a line of a whole answer.

@@ -11,13 +11,13 @@ use Rattle.sm_instance.specs.declared.inputs.Input.{Input}
 use Rattle.sm_report.specs.Lines.{LineData}
 use Rattle.sm_report.specs.Sound.{IsLineOf}
 use Rattle.sm_report.specs.Texts.{text_of_line}
-use Rattle.sm_forms.specs.Layouts.{is_begun, is_whole}
-use Rattle.sm_forms.specs.Forms.{layouts_of, opening_of, fits, is_placed, AreFirstLines, AreAnswer, BeginAnAnswer, IsMisplaced}
-use Rattle.sm_judge.specs.Verdicts.{IsVerdict}
-use Rattle.sm_judge.specs.Judging.{Holds}
+use Rattle.sm_check_forms.specs.Layouts.{is_begun, is_whole}
+use Rattle.sm_check_forms.specs.Forms.{layouts_of, opening_of, fits, is_placed, AreFirstLines, AreAnswer, BeginAnAnswer, IsMisplaced}
+use Rattle.sm_check_answers.specs.Verdicts.{IsVerdict}
+use Rattle.sm_check_answers.specs.Judging.{Holds}
 use Rattle.sm_cert.specs.Laws.{JudgedIsntBad, OneJudgement}
-use Rattle.sm_forms.proofs.LayoutLemmas.{whole_is_begun}
-use Rattle.sm_forms.proofs.TakingLemmas.{same_lines}
+use Rattle.sm_check_forms.proofs.LayoutLemmas.{whole_is_begun}
+use Rattle.sm_check_forms.proofs.TakingLemmas.{same_lines}
 use Rattle.sm_cert.proofs.VerdictLaws.{one_verdict}
 
 -- all of the first lines pass a test that all lines pass

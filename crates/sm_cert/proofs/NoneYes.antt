@@ -14,13 +14,13 @@ use Rattle.sm_theory.specs.Partitions.{successor_in, after, IsInOddParty}
 use Rattle.sm_theory.proofs.Room.Partitions.{odd_party_excludes}
 use Rattle.sm_report.specs.Lines.{LineData}
 use Rattle.sm_report.specs.Sound.{IsLineOf, IsOnLeft}
-use Rattle.sm_judge.specs.declared.verdicts.Reason.TheVariants as reason
-use Rattle.sm_judge.specs.Said.{party_in, parties_in}
-use Rattle.sm_judge.specs.Rooming.{members_of, next_of, nexts_of, AreNew, IsWholePartition, HasOddParty}
-use Rattle.sm_check_rooms.specs.PartiesKept.{is_among, follower}
+use Rattle.sm_check_answers.specs.declared.verdicts.Reason.TheVariants as reason
+use Rattle.sm_check_answers.specs.Said.{party_in, parties_in}
+use Rattle.sm_check_answers.specs.Rooming.{members_of, next_of, nexts_of, AreNew, IsWholePartition, HasOddParty}
+use Rattle.sm_check_roommates.specs.PartiesKept.{is_among, follower}
 use Rattle.sm_cert.specs.Yes.{NoneYes}
-use Rattle.sm_check_rooms.proofs.PersonLemmas.{of_among}
-use Rattle.sm_check_rooms.proofs.PartyLemmas.{times_more, once_least, twice_least, stands_at, is_among-get_or, next_of-push_there, next_of-push_other, next_in_party-get_or}
+use Rattle.sm_check_roommates.proofs.PersonLemmas.{of_among}
+use Rattle.sm_check_roommates.proofs.PartyLemmas.{times_more, once_least, twice_least, stands_at, is_among-get_or, next_of-push_there, next_of-push_other, next_in_party-get_or}
 use Rattle.sm_cert.proofs.YesPairs.{only_one}
 use Rattle.sm_cert.proofs.YesLines.{right_parties, at_closing, said_above, each_line, grown}
 

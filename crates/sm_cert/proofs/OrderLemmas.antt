@@ -12,15 +12,15 @@ use Rattle.sm_instance.specs.declared.inputs.Input.TheVariants.{Two}
 use Rattle.sm_instance.specs.declared.kinds.Measure.{Measure}
 use Rattle.sm_report.specs.Heads.{HeadData}
 use Rattle.sm_report.specs.Lines.{LineData}
-use Rattle.sm_forms.specs.declared.layouts.LayoutPart.{LayoutPart}
-use Rattle.sm_forms.specs.Layouts.{is_whole}
-use Rattle.sm_forms.specs.Forms.{is_placed}
-use Rattle.sm_judge.specs.Said.{rotation_in, needs_in, is_up_to_rotations}
-use Rattle.sm_weigh.specs.Order.{AreNeedsInOrder}
+use Rattle.sm_check_forms.specs.declared.layouts.LayoutPart.{LayoutPart}
+use Rattle.sm_check_forms.specs.Layouts.{is_whole}
+use Rattle.sm_check_forms.specs.Forms.{is_placed}
+use Rattle.sm_check_answers.specs.Said.{rotation_in, needs_in, is_up_to_rotations}
+use Rattle.sm_check_weight.specs.Order.{AreNeedsInOrder}
 use Rattle.sm_cert.specs.Checking.{first_head}
 use Rattle.sm_cert.proofs.GroupLemmas.{AllOut, AreDown, all_down, down_taken, none_said}
 use Rattle.sm_cert.proofs.RotationLines.{rotation_words, rotations_tell, needs_in-none, rotation_up, Splits, Turns}
-use Rattle.sm_forms.proofs.TakingLemmas.{and_left, and_right}
+use Rattle.sm_check_forms.proofs.TakingLemmas.{and_left, and_right}
 use Rattle.sm_cert.proofs.WeightYes.{turns_behind}
 
 -- a line among those that are up to somewhere is up to there

@@ -8,13 +8,13 @@ use Rattle.std.proofs.lemmas.Option.{same_Some}
 use Rattle.sm_instance.specs.Written.{Written}
 use Rattle.sm_report.specs.Lines.{LineData}
 use Rattle.sm_report.specs.declared.keywords.Keyword.TheVariants as keyword
-use Rattle.sm_forms.specs.declared.layouts.LayoutPart.{LayoutPart}
-use Rattle.sm_forms.specs.declared.layouts.LayoutPart.TheVariants.{Many, Blocks}
-use Rattle.sm_forms.specs.Keywords.{keyword_number}
+use Rattle.sm_check_forms.specs.declared.layouts.LayoutPart.{LayoutPart}
+use Rattle.sm_check_forms.specs.declared.layouts.LayoutPart.TheVariants.{Many, Blocks}
+use Rattle.sm_check_forms.specs.Keywords.{keyword_number}
 use Rattle.sm_report.specs.Keywords.{keyword_of}
-use Rattle.sm_forms.specs.Layouts.{behind, is_whole, is_empty, left_behind}
-use Rattle.sm_forms.specs.Forms.{blocks_of, opening_of}
-use Rattle.sm_judge.specs.Said.{first_in, rotation_in, rotations_in, needs_in, all_needs_in, is_up_to_rotations}
+use Rattle.sm_check_forms.specs.Layouts.{behind, is_whole, is_empty, left_behind}
+use Rattle.sm_check_forms.specs.Forms.{blocks_of, opening_of}
+use Rattle.sm_check_answers.specs.Said.{first_in, rotation_in, rotations_in, needs_in, all_needs_in, is_up_to_rotations}
 use Rattle.sm_cert.proofs.GroupLemmas.{Tells, AllOut, AreDown, goes, all_down, none_said}
 use Rattle.sm_cert.proofs.YesLines.{no_line}
 

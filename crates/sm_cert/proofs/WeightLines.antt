@@ -10,13 +10,13 @@ use Rattle.sm_theory.proofs.Net.Tests.{and_parts}
 use Rattle.sm_report.specs.Lines.{LineData}
 use Rattle.sm_report.specs.declared.keywords.Keyword.{Keyword}
 use Rattle.sm_report.specs.declared.keywords.Keyword.TheVariants as keyword
-use Rattle.sm_forms.specs.declared.layouts.LayoutPart.{LayoutPart}
-use Rattle.sm_forms.specs.declared.layouts.LayoutPart.TheVariants.{One, Many}
-use Rattle.sm_forms.specs.Keywords.{keyword_number}
+use Rattle.sm_check_forms.specs.declared.layouts.LayoutPart.{LayoutPart}
+use Rattle.sm_check_forms.specs.declared.layouts.LayoutPart.TheVariants.{One, Many}
+use Rattle.sm_check_forms.specs.Keywords.{keyword_number}
 use Rattle.sm_report.specs.Keywords.{keyword_of}
-use Rattle.sm_forms.specs.Layouts.{begins, behind, left_behind, is_empty, is_whole}
-use Rattle.sm_forms.specs.Forms.{closing, opening_of}
-use Rattle.sm_judge.specs.Said.{taken_in, value_in, total_in, is_up_to_rotations}
+use Rattle.sm_check_forms.specs.Layouts.{begins, behind, left_behind, is_empty, is_whole}
+use Rattle.sm_check_forms.specs.Forms.{closing, opening_of}
+use Rattle.sm_check_answers.specs.Said.{taken_in, value_in, total_in, is_up_to_rotations}
 use Rattle.sm_cert.proofs.GroupLemmas.{Tells, Parted, goes, all_down, none_said, none_up}
 use Rattle.sm_cert.proofs.RotationLines.{Splits, one_split}
 

@@ -32,16 +32,16 @@ use Rattle.sm_seats.proofs.VectorLaws.{allowed_seats, lightest_written}
 use Rattle.sm_report.specs.Heads.{HeadData}
 use Rattle.sm_report.specs.Lines.{LineData}
 use Rattle.sm_report.specs.declared.keywords.Keyword.TheVariants as keyword
-use Rattle.sm_forms.specs.declared.layouts.LayoutPart.TheVariants.{Many}
-use Rattle.sm_judge.specs.declared.verdicts.Reason.{Reason}
-use Rattle.sm_judge.specs.declared.verdicts.Reason.TheVariants as reason
-use Rattle.sm_forms.specs.Layouts.{is_whole}
-use Rattle.sm_forms.specs.Forms.{weight_layout, opening_of}
-use Rattle.sm_judge.specs.Said.{first_in, firsts_in, rotation_in, rotations_in, needs_in, all_needs_in, flow_in, flows_in, taken_in, value_in, pair_in, pairs_in, first_said, is_up_to_firsts, is_up_to_rotations}
-use Rattle.sm_judge.specs.SeatMatchings.{seat_places_in, first_of}
-use Rattle.sm_judge.specs.Pairs.{IsWanted, AreAllThere}
-use Rattle.sm_judge.specs.Flows.{on_nodes, set_of_numbers, taken_matching}
-use Rattle.sm_judge.specs.Judging.{answer, Clauses}
+use Rattle.sm_check_forms.specs.declared.layouts.LayoutPart.TheVariants.{Many}
+use Rattle.sm_check_answers.specs.declared.verdicts.Reason.{Reason}
+use Rattle.sm_check_answers.specs.declared.verdicts.Reason.TheVariants as reason
+use Rattle.sm_check_forms.specs.Layouts.{is_whole}
+use Rattle.sm_check_forms.specs.Forms.{weight_layout, opening_of}
+use Rattle.sm_check_answers.specs.Said.{first_in, firsts_in, rotation_in, rotations_in, needs_in, all_needs_in, flow_in, flows_in, taken_in, value_in, pair_in, pairs_in, first_said, is_up_to_firsts, is_up_to_rotations}
+use Rattle.sm_check_answers.specs.SeatMatchings.{seat_places_in, first_of}
+use Rattle.sm_check_answers.specs.Pairs.{IsWanted, AreAllThere}
+use Rattle.sm_check_answers.specs.Flows.{on_nodes, set_of_numbers, taken_matching}
+use Rattle.sm_check_answers.specs.Judging.{answer, Clauses}
 use Rattle.sm_cert.specs.Yes.{ArePairsOf, WeightYes}
 use Rattle.sm_instance.specs.Lightest.{IsLightest}
 use Rattle.sm_cert.proofs.ChosenYes.{AreWanted, none_wanted, one_wanted, all_wanted}

@@ -14,7 +14,7 @@ use Rattle.sm_pairs.specs.Held.{partner_in}
 use Rattle.sm_lists.specs.Pairs.{pair_at}
 use Rattle.sm_pairs.proofs.HoldingLemmas.{partner_in-push_same}
 use Rattle.sm_cert.specs.Yes.{AreApart, ArePairsOf}
-use Rattle.sm_check_rooms.proofs.CoupleLemmas.{partner_in-append}
+use Rattle.sm_check_roommates.proofs.CoupleLemmas.{partner_in-append}
 
 -- what a list of one item has is that item
 pub only_one : {X : Type 0} {x y : X} → Contains (x ∷ []) y → x ≡ y

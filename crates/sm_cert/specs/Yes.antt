@@ -25,12 +25,12 @@ use Rattle.sm_lists.specs.Pairs.{pair_at}
 use Rattle.sm_pairs.specs.Chosen.{chosen_places}
 use Rattle.sm_report.specs.Heads.{HeadData}
 use Rattle.sm_report.specs.Lines.{LineData}
-use Rattle.sm_judge.specs.declared.verdicts.Verdict.TheVariants as verdict
-use Rattle.sm_judge.specs.Verdicts.{IsVerdict}
-use Rattle.sm_forms.specs.Forms.{AreAnswer}
-use Rattle.sm_judge.specs.Said.{pairs_in, firsts_in, lasts_in, proposer_lists_in, reviewer_lists_in, rotations_in, all_needs_in, lefts_in, rights_in, regret_in, total_in, vectors_in}
-use Rattle.sm_judge.specs.Chain.{HasOneEach, owners, IsRowOf}
-use Rattle.sm_judge.specs.Judging.{Holds}
+use Rattle.sm_check_answers.specs.declared.verdicts.Verdict.TheVariants as verdict
+use Rattle.sm_check_answers.specs.Verdicts.{IsVerdict}
+use Rattle.sm_check_forms.specs.Forms.{AreAnswer}
+use Rattle.sm_check_answers.specs.Said.{pairs_in, firsts_in, lasts_in, proposer_lists_in, reviewer_lists_in, rotations_in, all_needs_in, lefts_in, rights_in, regret_in, total_in, vectors_in}
+use Rattle.sm_check_answers.specs.Chain.{HasOneEach, owners, IsRowOf}
+use Rattle.sm_check_answers.specs.Judging.{Holds}
 use Rattle.sm_instance.specs.Lightest.{IsLightest}
 
 -- an answer with this head that gets a yes

@@ -9,26 +9,26 @@ ghost use Rattle.sm_report.specs.Heads.{HeadData, head_of};
 ghost use Rattle.sm_report.specs.Lines.{line_of};
 ghost use Rattle.sm_seats.specs.Counted.{AreSeatCounts};
 ghost use Rattle.sm_seats.specs.SeatEntries.{AreFewSeats};
-ghost use Rattle.sm_forms.specs.Forms.{AreAnswer, is_placed};
-ghost use Rattle.sm_forms.specs.Layouts.{is_whole};
-ghost use Rattle.sm_forms.specs.Seats.{AreFirsts};
-ghost use Rattle.sm_judge.specs.Verdicts.{AtLine, IsVerdict};
-ghost use Rattle.sm_judge.specs.Judging.{Subject, answer, couples, parties, Clauses, Holds, IsJudged};
-ghost use Rattle.sm_judge.specs.Judges.{IsOwnLine, input_of};
+ghost use Rattle.sm_check_forms.specs.Forms.{AreAnswer, is_placed};
+ghost use Rattle.sm_check_forms.specs.Layouts.{is_whole};
+ghost use Rattle.sm_check_forms.specs.Seats.{AreFirsts};
+ghost use Rattle.sm_check_answers.specs.Verdicts.{AtLine, IsVerdict};
+ghost use Rattle.sm_check_answers.specs.Judging.{Subject, answer, couples, parties, Clauses, Holds, IsJudged};
+ghost use Rattle.sm_check_answers.specs.Judges.{IsOwnLine, input_of};
 ghost use Rattle.sm_cert.specs.Checking.{HasFewSeats, IsCertFault, first_head, says_none};
 
 use crate::faults::CertFault;
-use sm_check_rooms::{couples_verdict, parties_verdict};
-use sm_forms::{AnswerFault, read_answer};
-use sm_instance::{Input, Instance, Persons};
-use sm_judge::{
+use sm_check_answers::{
     Verdict, chosen_verdict, list_verdict, reduced_verdict, regret_verdict, rotations_verdict,
     solve_verdict,
 };
+use sm_check_forms::{AnswerFault, read_answer};
+use sm_check_roommates::{couples_verdict, parties_verdict};
+use sm_check_weight::{Weighed, weight_verdict};
+use sm_instance::{Input, Instance, Persons};
 use sm_report::{Head, Line};
 use sm_seats::{SeatCounts, Seats, seat_counts};
 use sm_theory::Choice;
-use sm_weigh::{Weighed, weight_verdict};
 use std::alloc::{AllocError, Global};
 
 /// The verdict on the text of an answer over an instance, of which the first line has this number. It stands on no solver:

@@ -4,14 +4,14 @@
 ghost use Rattle.std.specs.Prelude.{◌≡◌, length, MatchOption};
 
 use crate::made::{MEMORY, agent, copy, three};
+use sm_answer_list::start_list;
+use sm_answer_rotations::Basis;
 use sm_instance::{Instance, Kind};
 use sm_lattice::stable_levels;
 use sm_least::Least;
 use sm_lister::{Lister, Listing};
-use sm_listing::start_list;
 use sm_poset::Conditions;
 use sm_seats::Seats;
-use sm_shown::Basis;
 use std::alloc::AllocError;
 use std::process::Abort;
 

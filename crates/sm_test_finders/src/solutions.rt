@@ -1,9 +1,9 @@
 //! The best stable matchings of both sides.
 
 use crate::made::{MEMORY, agent, copy, small_hospitals, two};
+use sm_answer_solve::find_solution;
 use sm_instance::{Instance, Kind, Side};
 use sm_seats::seat_counts;
-use sm_solve::find_solution;
 use std::process::Abort;
 
 /// Each proposer likes best the reviewer that likes it least.

@@ -9,25 +9,25 @@ use Rattle.sm_instance.specs.declared.inputs.Input.{Input}
 use Rattle.sm_instance.specs.declared.inputs.Input.TheVariants.{Two, Room}
 use Rattle.sm_instance.specs.declared.kinds.Kind.{Kind}
 use Rattle.sm_instance.specs.declared.kinds.Kind.TheVariants.{Marriage, Hospitals, Roommates}
-use Rattle.sm_lightest.specs.WeightAnswer.{IsWeightAnswer}
+use Rattle.sm_answer_weight.specs.WeightAnswer.{IsWeightAnswer}
 use Rattle.sm_instance.specs.declared.kinds.Measure.{Measure}
 use Rattle.sm_instance.specs.declared.kinds.Side.{Side}
 use Rattle.sm_instance.specs.declared.kinds.Side.TheVariants.{Proposers}
 use Rattle.sm_reader.specs.InstanceText.{ReadText, Refusal}
 use Rattle.sm_words.specs.Jobs.{JobData, Solve, Reduced, Rotations, Pairs, Regret, Weight, Meet, Join, Survey, Check, Make, Rest}
-use Rattle.sm_solve.specs.Solution.{IsSolution}
-use Rattle.sm_shown.specs.NoneAnswer.{IsNoneAllowed}
+use Rattle.sm_answer_solve.specs.Solution.{IsSolution}
+use Rattle.sm_answer_rotations.specs.NoneAnswer.{IsNoneAllowed}
 use Rattle.sm_report.specs.Heads.{HeadData}
 use Rattle.sm_report.specs.Lines.{LineData}
-use Rattle.sm_partners.specs.RegretAnswer.{IsRegretAnswer}
-use Rattle.sm_rooming.specs.RoomAnswer.{IsMatched, IsUnmatchable}
+use Rattle.sm_answer_pairs.specs.RegretAnswer.{IsRegretAnswer}
+use Rattle.sm_answer_roommates.specs.RoomAnswer.{IsMatched, IsUnmatchable}
 use Rattle.sm_top.specs.declared.status.Status.{Status}
 use Rattle.sm_top.specs.declared.status.Status.TheVariants.{Done, NoneExists}
 use Rattle.sm_top.specs.Texts.{RefusalData, plain_refusal}
 use Rattle.sm_top.specs.Accepting.{reads_input, is_two_sided, takes_kind, takes_rooms_alone, too_many_in, too_many_seats, first_refusal, judged, accepted, IsTooMany}
 use Rattle.sm_tally.specs.Fold.{Shown}
 use Rattle.sm_words.specs.Words.{usual_limit}
-use Rattle.sm_survey.specs.SurveyAnswer.{IsSurveyAnswer}
+use Rattle.sm_answer_survey.specs.SurveyAnswer.{IsSurveyAnswer}
 use Rattle.sm_printed.specs.Printed.{lines_of}
 use Rattle.sm_top.specs.Outcome.{IsWeighed, IsSummary, IsMade, IsSolved, IsRegretted, IsAnswerOver, IsRefused, not_accepted}
 use Rattle.sm_top.specs.Wrote.{Wrote, With}

@@ -25,8 +25,8 @@ use Rattle.sm_top.specs.Stops.{StopsBy, IsPlainStop}
 use Rattle.sm_tally.specs.Fold.{Shown}
 use Rattle.sm_make.specs.Made.{made_instance}
 use Rattle.sm_make.specs.declared.shape.Shape.{Shape}
-use Rattle.sm_judge.specs.declared.verdicts.Verdict.{Verdict}
-use Rattle.sm_judge.specs.declared.verdicts.Verdict.TheVariants as verdict
+use Rattle.sm_check_answers.specs.declared.verdicts.Verdict.{Verdict}
+use Rattle.sm_check_answers.specs.declared.verdicts.Verdict.TheVariants as verdict
 use Rattle.sm_top.specs.Checked.{status_by}
 use Rattle.sm_top.specs.Accepting.{reads_input, accepted, behind_text}
 use Rattle.sm_top.specs.Outcome.{OfTwo, OfRoom, IsSolved, IsRegretted, IsSummary, IsMade, IsWeighed, IsAnswerOver, IsAnswer, IsRefused, IsTooManyMade, IsUnsurveyed, unsurveyed, Outcome, not_accepted, faulty_words, refused, answered}

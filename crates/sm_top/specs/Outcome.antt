@@ -19,29 +19,29 @@ use Rattle.sm_top.specs.declared.status.Status.TheVariants.{Done, Refused, Usage
 use Rattle.sm_top.specs.Texts.{RefusalData, plain_refusal, with_detail, usage_line, refused_line}
 use Rattle.sm_top.specs.Checked.{IsChecked, IsUnreadable}
 use Rattle.sm_top.specs.Accepting.{reads_input, accepted, IsTooMany, IsUnaccepted}
-use Rattle.sm_solve.specs.Solution.{IsSolution}
-use Rattle.sm_shown.specs.Reduction.{IsReduction}
-use Rattle.sm_shown.specs.RotationAnswer.{IsRotationAnswer}
-use Rattle.sm_shown.specs.NoneAnswer.{IsNoneAllowed}
-use Rattle.sm_listing.specs.ListAnswer.{IsCursor, IsListAnswer}
-use Rattle.sm_partners.specs.PairsAnswer.{IsPairsAnswer}
-use Rattle.sm_partners.specs.RegretAnswer.{IsRegretAnswer}
+use Rattle.sm_answer_solve.specs.Solution.{IsSolution}
+use Rattle.sm_answer_rotations.specs.Reduction.{IsReduction}
+use Rattle.sm_answer_rotations.specs.RotationAnswer.{IsRotationAnswer}
+use Rattle.sm_answer_rotations.specs.NoneAnswer.{IsNoneAllowed}
+use Rattle.sm_answer_list.specs.ListAnswer.{IsCursor, IsListAnswer}
+use Rattle.sm_answer_pairs.specs.PairsAnswer.{IsPairsAnswer}
+use Rattle.sm_answer_pairs.specs.RegretAnswer.{IsRegretAnswer}
 use Rattle.sm_theory.specs.declared.choice.Choice.TheVariants.{Better, Worse}
-use Rattle.sm_given.specs.GivenText.{texts_from, IsBadGivenAt}
-use Rattle.sm_given.specs.Chosen.{IsChosenAnswer}
-use Rattle.sm_given.specs.Refusing.{AreUnstable}
-use Rattle.sm_given.specs.declared.faults.Which.{Which}
-use Rattle.sm_given.specs.declared.faults.Which.TheVariants.{Left, Right}
-use Rattle.sm_given.specs.declared.faults.Flaw.{Flaw}
-use Rattle.sm_given.specs.declared.faults.Flaw.TheVariants.{Breach, Blocks}
-use Rattle.sm_given.specs.declared.faults.Unstable.{Unstable}
-use Rattle.sm_lightest.specs.WeightAnswer.{IsWeightAnswer}
+use Rattle.sm_answer_given.specs.GivenText.{texts_from, IsBadGivenAt}
+use Rattle.sm_answer_given.specs.Chosen.{IsChosenAnswer}
+use Rattle.sm_answer_given.specs.Refusing.{AreUnstable}
+use Rattle.sm_answer_given.specs.declared.faults.Which.{Which}
+use Rattle.sm_answer_given.specs.declared.faults.Which.TheVariants.{Left, Right}
+use Rattle.sm_answer_given.specs.declared.faults.Flaw.{Flaw}
+use Rattle.sm_answer_given.specs.declared.faults.Flaw.TheVariants.{Breach, Blocks}
+use Rattle.sm_answer_given.specs.declared.faults.Unstable.{Unstable}
+use Rattle.sm_answer_weight.specs.WeightAnswer.{IsWeightAnswer}
 use Rattle.sm_tally.specs.Fold.{Shown}
-use Rattle.sm_survey.specs.SurveyAnswer.{IsSurveyAnswer}
+use Rattle.sm_answer_survey.specs.SurveyAnswer.{IsSurveyAnswer}
 use Rattle.sm_make.specs.Made.{made_instance}
 use Rattle.sm_printed.specs.Printed.{lines_of}
-use Rattle.sm_rooming.specs.RoomAnswer.{IsMatched, IsUnmatchable}
-use Rattle.sm_rooming.specs.RestAnswer.{IsRest}
+use Rattle.sm_answer_roommates.specs.RoomAnswer.{IsMatched, IsUnmatchable}
+use Rattle.sm_answer_roommates.specs.RestAnswer.{IsRest}
 
 -- a right answer for an instance with two sides
 abbrev pub OfTwo : (Written → List LineData → Type 0) → Input → List LineData → Type 0

@@ -1,6 +1,6 @@
 //! The top call of the stable matching workbench: [`run`] does all that the program does.
 //!
-//! The words are read by [`read_words`]. For each job `sm_shown`, `sm_listing`, `sm_partners`, `sm_given`, `sm_survey` or `sm_rooming` makes its
+//! The words are read by [`read_words`]. For each job `sm_answer_rotations`, `sm_answer_list`, `sm_answer_pairs`, `sm_answer_given`, `sm_answer_survey` or `sm_answer_roommates` makes its
 //! answer, a value that gives lines ([`sm_answer::Lines`]), and this crate writes it or says why there is none; for `check` it is the
 //! verdict of `sm_cert`. How a command
 //! is added is told in the document `ADDING.md` of this repository.
@@ -18,6 +18,6 @@ mod stop;
 mod writing;
 
 pub use running::run;
-pub use sm_judge::Reason;
+pub use sm_check_answers::Reason;
 pub use sm_words::{Job, WordsFault, read_words};
 pub use status::Status;

@@ -75,9 +75,9 @@ use std::alloc::Global;
 /// What is written is added to what the sink held. It depends on the bytes that the source gave and not on how they were cut.
 /// Takes time and memory linear in the bytes for `solve`, `reduced`, `meet` and `join`, beside a look-up for each name, and
 /// for `make` in those that are written. For the others those of [`sm_rotations::chain`] and [`sm_poset::Poset::of`] come
-/// besides, and then those of [`sm_listing::start_list`] and of each step for `list` and `survey`, of
-/// [`sm_partners::find_pairs`] and [`sm_partners::find_regret`] for `pairs` and `regret`, and of
-/// [`sm_lightest::find_lightest`] for `weight`. `check` takes those of [`sm_cert::check`].
+/// besides, and then those of [`sm_answer_list::start_list`] and of each step for `list` and `survey`, of
+/// [`sm_answer_pairs::find_pairs`] and [`sm_answer_pairs::find_regret`] for `pairs` and `regret`, and of
+/// [`sm_answer_weight::find_lightest`] for `weight`. `check` takes those of [`sm_cert::check`].
 pub fn run<S: Source, K: Sink>(
     alloc: Global,
     words: &[String],

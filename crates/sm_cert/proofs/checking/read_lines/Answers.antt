@@ -2,7 +2,7 @@ use Rattle.std.proofs.Common.{arith, map}
 use Rattle.std.proofs.lemmas.List.{length-map}
 use Rattle.sm_text.specs.Lines.{lines, content}
 use Rattle.sm_report.specs.Lines.{line_of}
-use Rattle.sm_forms.specs.Forms.{IsMisplaced}
+use Rattle.sm_check_forms.specs.Forms.{IsMisplaced}
 use Rattle.sm_text.proofs.LineLemmas.{length-lines-le}
 use Rattle.sm_cert.proofs.CheckLemmas.{as_many, own_lines}
 use Rattle.sm_cert.proofs.checking.read_lines.Goals as goal

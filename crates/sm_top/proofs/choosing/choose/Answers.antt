@@ -1,7 +1,7 @@
 use Rattle.std.proofs.Common.{ap, refl, ◌∙◌}
 use Rattle.sm_instance.specs.declared.inputs.Input.{Input}
 use Rattle.sm_text.specs.declared.refusal.RefusalKind.TheVariants.{NotStable}
-use Rattle.sm_given.specs.GivenText.{texts_from}
+use Rattle.sm_answer_given.specs.GivenText.{texts_from}
 use Rattle.sm_top.specs.Outcome.{unstable_fields, bad, unstable}
 use Rattle.sm_top.specs.Texts.{with_detail, are_plain}
 use Rattle.sm_top.specs.declared.status.Status.TheVariants.{Done}

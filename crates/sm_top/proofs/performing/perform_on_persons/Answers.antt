@@ -2,7 +2,7 @@ use Rattle.std.proofs.Common.{◌≡◌, ◌∙◌, ap, refl, None}
 use Rattle.sm_reader.specs.InstanceText.{read_of}
 use Rattle.sm_words.specs.Jobs.{job_of, Solve, Rest}
 use Rattle.sm_top.specs.Outcome.{IsSolved}
-use Rattle.sm_rooming.specs.RestAnswer.{IsRest}
+use Rattle.sm_answer_roommates.specs.RestAnswer.{IsRest}
 use Rattle.sm_top.specs.declared.status.Status.TheVariants.{Done}
 use Rattle.sm_top.proofs.RunLemmas.{wrote_room}
 use Rattle.sm_top.proofs.KindLemmas.{room_accepted, answer_over}

@@ -3,14 +3,14 @@ use Rattle.sm_top.specs.Accepting.{takes_text}
 use Rattle.sm_reader.specs.InstanceText.{read_of}
 use Rattle.std.proofs.lemmas.Result.{IfOk-weaker}
 use Rattle.sm_words.specs.Jobs.{JobData, Solve, Reduced, Rotations, Pairs, Regret, Weight, Meet, Join, Survey}
-use Rattle.sm_shown.specs.Reduction.{IsReduction}
-use Rattle.sm_shown.specs.RotationAnswer.{IsRotationAnswer}
-use Rattle.sm_listing.specs.ListAnswer.{IsListAnswer}
-use Rattle.sm_listing.specs.Started.{cursor_in}
-use Rattle.sm_partners.specs.PairsAnswer.{IsPairsAnswer}
+use Rattle.sm_answer_rotations.specs.Reduction.{IsReduction}
+use Rattle.sm_answer_rotations.specs.RotationAnswer.{IsRotationAnswer}
+use Rattle.sm_answer_list.specs.ListAnswer.{IsListAnswer}
+use Rattle.sm_answer_list.specs.Started.{cursor_in}
+use Rattle.sm_answer_pairs.specs.PairsAnswer.{IsPairsAnswer}
 use Rattle.sm_theory.specs.declared.choice.Choice.TheVariants.{Better, Worse}
-use Rattle.sm_given.specs.GivenText.{texts_from}
-use Rattle.sm_given.specs.Chosen.{IsChosenAnswer}
+use Rattle.sm_answer_given.specs.GivenText.{texts_from}
+use Rattle.sm_answer_given.specs.Chosen.{IsChosenAnswer}
 use Rattle.sm_top.specs.Outcome.{IsSolved, IsRegretted, IsWeighed}
 use Rattle.sm_top.specs.declared.status.Status.TheVariants.{Done}
 use Rattle.sm_words.specs.Jobs.{job_of}

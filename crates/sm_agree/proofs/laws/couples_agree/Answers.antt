@@ -1,5 +1,0 @@
-use Rattle.sm_agree.proofs.CouplesAgree.{couples_agree}
-use Rattle.sm_agree.proofs.laws.couples_agree.Goals as goal
-
-pub returns : goal.returns
-returns c = couples_agree

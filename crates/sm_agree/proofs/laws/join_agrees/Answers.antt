@@ -1,5 +1,0 @@
-use Rattle.sm_agree.proofs.ChosenAgree.{join_agrees}
-use Rattle.sm_agree.proofs.laws.join_agrees.Goals as goal
-
-pub returns : goal.returns
-returns c = join_agrees

@@ -1,5 +1,0 @@
-use Rattle.sm_agree.proofs.ListAgree.{list_agrees}
-use Rattle.sm_agree.proofs.laws.list_agrees.Goals as goal
-
-pub returns : goal.returns
-returns c = list_agrees

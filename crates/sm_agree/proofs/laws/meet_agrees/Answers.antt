@@ -1,5 +1,0 @@
-use Rattle.sm_agree.proofs.ChosenAgree.{meet_agrees}
-use Rattle.sm_agree.proofs.laws.meet_agrees.Goals as goal
-
-pub returns : goal.returns
-returns c = meet_agrees

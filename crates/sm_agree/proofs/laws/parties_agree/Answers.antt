@@ -1,5 +1,0 @@
-use Rattle.sm_agree.proofs.PartiesAgree.{parties_agree}
-use Rattle.sm_agree.proofs.laws.parties_agree.Goals as goal
-
-pub returns : goal.returns
-returns c = parties_agree

@@ -1,5 +1,0 @@
-use Rattle.sm_agree.proofs.RotationsAgree.{rotations_agree}
-use Rattle.sm_agree.proofs.laws.rotations_agree.Goals as goal
-
-pub returns : goal.returns
-returns c = rotations_agree

@@ -1,5 +1,0 @@
-use Rattle.sm_agree.proofs.SolveAgree.{solve_agrees}
-use Rattle.sm_agree.proofs.laws.solve_agrees.Goals as goal
-
-pub returns : goal.returns
-returns c = solve_agrees

@@ -1,5 +1,0 @@
-use Rattle.sm_agree.proofs.WeightAgree.{weight_agrees}
-use Rattle.sm_agree.proofs.laws.weight_agrees.Goals as goal
-
-pub returns : goal.returns
-returns c = weight_agrees

@@ -1,5 +1,0 @@
-use Rattle.sm_agree.proofs.WitnessLemmas.{circles_are}
-use Rattle.sm_agree.proofs.witnesses.circles.Goals as goal
-
-pub returns : goal.returns
-returns c = circles_are

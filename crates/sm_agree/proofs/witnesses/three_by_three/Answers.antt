@@ -1,5 +1,0 @@
-use Rattle.sm_agree.proofs.WitnessLemmas.{three_by_three_is}
-use Rattle.sm_agree.proofs.witnesses.three_by_three.Goals as goal
-
-pub returns : goal.returns
-returns c = three_by_three_is

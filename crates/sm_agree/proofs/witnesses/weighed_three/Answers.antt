@@ -1,5 +1,0 @@
-use Rattle.sm_agree.proofs.WeightWitness.{weighed_three_is}
-use Rattle.sm_agree.proofs.witnesses.weighed_three.Goals as goal
-
-pub returns : goal.returns
-returns c = weighed_three_is

@@ -1,0 +1,160 @@
+//! Deferred acceptance with capacities, with proposers proposing.
+//!
+//! Each proposer goes down its written list. A reviewer holds as many as it has seats, in its order of preference from its
+//! first seat on, so whoever comes takes the place of the first one that the reviewer likes less, who takes that of the
+//! next, and the last one has to go on (Gale and Shapley 1962; Gusfield and Irving 1989, section 1.6.3; Manlove 2013, section
+//! 3.2).
+
+ghost use Rattle.std.specs.Prelude.{◌≡◌, ℕ, ◌+◌, ◌<◌, length, IfOk, MatchOption};
+ghost use Rattle.sm_instance.specs.Sound.{IsInstance};
+ghost use Rattle.sm_instance.specs.Stable.{IsBestOf};
+ghost use Rattle.sm_instance.specs.declared.kinds.Side.{Side};
+ghost use Rattle.sm_seats.specs.Counted.{AreSeatCounts, first_seats_of};
+ghost use Rattle.sm_instance.specs.Written.{row, entry, IsAcceptable};
+ghost use Rattle.sm_answer_solve.specs.Admitting.{IsUnderWay, IsProposalAt, IsProposed, IsProposing, IsTurnedAway, end_at, ended_places};
+
+use crate::seat_holders::free_seats;
+use sm_instance::{Assignment, Instance};
+use sm_seats::SeatCounts;
+use std::alloc::{AllocError, Global};
+
+/// A proposal: of a proposer to a reviewer, on whose written list it stands at a place.
+#[derive(Clone, Copy)]
+struct Proposal {
+    proposer: u32,
+    reviewer: u32,
+    place: u32,
+}
+
+/// The stable matching in which every proposer has the best reviewer that it has in any stable matching (Gale and Shapley
+/// 1962; Gusfield and Irving 1989, section 1.6.3). The counts have to be those of the instance.
+///
+/// Takes time in proportion to the entries of the instance and to the proposals to its seats, of which there are no more than
+/// entries on the lists of the seats, and memory in proportion to the proposers and seats, none of it while proposals are made.
+///
+/// # Errors
+///
+/// `AllocError` where memory ran out, and only then.
+pub(crate) fn proposers_best(
+    alloc: Global,
+    instance: &Instance,
+    counts: &SeatCounts,
+) -> Result<Assignment, AllocError>
+    requires { AreSeatCounts instance.now counts.now }
+    ensures { IfOk result (λ a. IsBestOf Side.Proposers instance.now a.places.items) }
+{
+    let firsts = counts.firsts.as_slice();
+    let seats = firsts[instance.reviewer_count() as usize] as usize;
+    let mut places = vec![in alloc; 0; instance.proposer_count() as usize]?;
+    let mut standings = vec![in alloc; 0; seats]?;
+    let places = places.as_mut_slice();
+    let standings = standings.as_mut_slice();
+    free_seats(instance, firsts, standings);
+    for p in 0..instance.proposer_count() {
+        let_propose(instance, firsts, p, places, standings);
+    }
+    Ok(Assignment {
+        places: ends(alloc, instance, places)?,
+    })
+}
+
+/// Lets one more proposer propose, and in turn each one that is turned away, until a free seat takes one or one is at the end
+/// of its list.
+fn let_propose(
+    instance: &Instance,
+    firsts: &[u32],
+    p: u32,
+    places: &mut [u32],
+    standings: &mut [u32],
+)
+    requires instance { IsInstance instance.now }
+    requires in_range { p < length instance.now.proposers }
+    requires firsts { firsts.now ≡ first_seats_of instance.now }
+    requires before { IsUnderWay instance.now p p places.old standings.old }
+    ensures { IsUnderWay instance.now (p + 1) (p + 1) places.new standings.new }
+{
+    let mut away = p;
+    'proposals: while places[away as usize] < instance.proposer_len(away) {
+        let place = places[away as usize];
+        match proposal_at(instance, away, place) {
+            Some(proposal) => match propose(instance, firsts, proposal, places, standings) {
+                Some(turned_away) => away = turned_away,
+                None => return,
+            },
+            None => places[away as usize] = place + 1,
+        }
+    }
+}
+
+/// The proposal of a proposer at a place of its written list. There is none where the entry is inert.
+fn proposal_at(instance: &Instance, p: u32, place: u32) -> Option<Proposal>
+    requires in_range { p < length instance.now.proposers }
+    requires on_list { place < length (row instance.now.proposers p) }
+    ensures { MatchOption result
+        (¬ IsAcceptable instance.now p (entry instance.now.proposers p place))
+        (IsProposalAt instance.now p place) }
+{
+    let place_there = instance.proposer_crosses(p)[place as usize].place()?;
+    Some(Proposal {
+        proposer: p,
+        reviewer: instance.proposer_list(p)[place as usize],
+        place: place_there,
+    })
+}
+
+/// Lets a proposer propose to the seats of a reviewer in their order, and whoever loses a seat to it or to another one to those
+/// behind. Tells whom the reviewer turns away, who is then one place further on its list; `None` where a free seat took one.
+fn propose(
+    instance: &Instance,
+    firsts: &[u32],
+    proposal: Proposal,
+    places: &mut [u32],
+    standings: &mut [u32],
+) -> Option<u32>
+    requires instance { IsInstance instance.now }
+    requires firsts { firsts.now ≡ first_seats_of instance.now }
+    requires proposed { IsProposed instance.now proposal.reviewer proposal.proposer proposal.place
+        places.old standings.old }
+    ensures { (begun : ℕ) → IsProposing instance.now begun proposal.reviewer 0 proposal.proposer
+        proposal.place places.old standings.old
+        → MatchOption result (IsUnderWay instance.now begun begun places.new standings.new)
+        (λ q. IsTurnedAway instance.now begun q places.old places.new standings.new) }
+{
+    let list = instance.reviewer_list(proposal.reviewer);
+    let from = firsts[proposal.reviewer as usize];
+    let to = firsts[proposal.reviewer as usize + 1];
+    let mut away = proposal.proposer;
+    let mut offered = proposal.place;
+    for seat in from..to {
+        let standing = standings[seat as usize];
+        if offered < standing {
+            standings[seat as usize] = offered;
+            if standing as usize == list.len() {
+                return None;
+            }
+            away = list[standing as usize];
+            offered = standing;
+        }
+    }
+    places[away as usize] += 1;
+    Some(away)
+}
+
+/// Where the proposers end: at the places of their written lists to which they have come, and unmatched behind these.
+fn ends(alloc: Global, instance: &Instance, places: &[u32]) -> Result<Vec<Option<u32>>, AllocError>
+    requires { length places.now ≡ length instance.now.proposers }
+    ensures { IfOk result (λ ends. ends.items ≡ ended_places instance.now places.now) }
+{
+    let mut ends = Vec::with_capacity(alloc, places.len())?;
+    for p in 0..instance.proposer_count() {
+        ends.push(end_at(instance.proposer_len(p), places[p as usize]))?;
+    }
+    Ok(ends)
+}
+
+/// Where a proposer ends that has come to a place of a list of this length.
+fn end_at(len: u32, place: u32) -> Option<u32>
+    ensures { result ≡ end_at len place }
+{
+    if place < len { Some(place) } else { None }
+}

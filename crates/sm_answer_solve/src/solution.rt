@@ -1,0 +1,119 @@
+//! The answer of `solve`.
+
+ghost use Rattle.std.specs.Prelude.{◌≡◌, ℕ, List, IfOk, unwrap_or};
+ghost use Rattle.sm_answer.specs.Giving.{HasRest};
+ghost use Rattle.sm_answer.specs.Printing.{IsShown};
+ghost use Rattle.sm_instance.specs.Stable.{IsBestOf, IsReviewersBest};
+ghost use Rattle.sm_instance.specs.declared.inputs.Input.TheVariants.{Two};
+ghost use Rattle.sm_seats.specs.Counted.{AreSeatCounts};
+ghost use Rattle.sm_seats.specs.SeatEntries.{AreFewSeats};
+ghost use Rattle.sm_answer_solve.specs.Solution.{IsSolution};
+
+use crate::admitting::proposers_best;
+use sm_accept::reviewer_best;
+use sm_answer::{Each, Lines, MatchingLines, One, PairWord, Printed, Then};
+use sm_instance::{Assignment, Input, Instance, Side};
+use sm_report::{Head, Line};
+use sm_seats::{SeatCounts, Seats};
+use std::alloc::{AllocError, Global};
+
+/// The best stable matching of a side.
+#[derive(Drop)]
+pub struct Solution {
+    pub side: Side,
+    pub best: Assignment,
+}
+
+/// The best stable matching of a side, of the proposers where no side is named (Gale and Shapley 1962; Gusfield and Irving
+/// 1989, section 1.6.3). The counts have to be those of the instance, of few enough seats.
+///
+/// For the proposers it takes time in proportion to the entries of the instance and to the proposals to seats, and memory in
+/// proportion to the proposers and seats; for the reviewers time and memory linear in the entries of the seats' market.
+///
+/// # Errors
+///
+/// `AllocError` where memory ran out, and only then.
+pub fn find_solution(
+    alloc: Global,
+    instance: &Instance,
+    counts: &SeatCounts,
+    side: Option<Side>,
+) -> Result<Solution, AllocError>
+    requires counts { AreSeatCounts instance.now counts.now }
+    requires few { AreFewSeats instance.now }
+    ensures side { IfOk result (λ solution. solution.side ≡ unwrap_or side Side.Proposers) }
+    ensures best { IfOk result
+        (λ solution. IsBestOf solution.side instance.now solution.best.places.items) }
+{
+    let side = side.unwrap_or(Side::Proposers);
+    let best = best_of(alloc, instance, counts, side)?;
+    Ok(Solution { side, best })
+}
+
+/// The best stable matching of a side.
+fn best_of(
+    alloc: Global,
+    instance: &Instance,
+    counts: &SeatCounts,
+    side: Side,
+) -> Result<Assignment, AllocError>
+    requires counts { AreSeatCounts instance.now counts.now }
+    requires few { AreFewSeats instance.now }
+    ensures { IfOk result (λ best. IsBestOf side instance.now best.places.items) }
+{
+    match side {
+        Side::Proposers => proposers_best(alloc, instance, counts),
+        Side::Reviewers => reviewers_best(alloc, instance, counts),
+    }
+}
+
+/// The reviewers' best stable matching, by way of the market of seats.
+fn reviewers_best(
+    alloc: Global,
+    instance: &Instance,
+    counts: &SeatCounts,
+) -> Result<Assignment, AllocError>
+    requires counts { AreSeatCounts instance.now counts.now }
+    requires few { AreFewSeats instance.now }
+    ensures { IfOk result (λ best. IsReviewersBest instance.now best.places.items) }
+{
+    let seats = Seats::counted(alloc, instance, counts)?;
+    let best = reviewer_best(alloc, seats.market())?;
+    seats.to_hospitals(alloc, &best)
+}
+
+/// The lines of the answer of `solve`.
+pub type SolutionLines<'a> = Printed<'a, Then<One, Then<Each<MatchingLines<'a>>, One>>>;
+
+/// The head, the pairs of the best stable matching of a side in the order of the proposers, and `end`. Takes constant time;
+/// the lines together take time linear in what they show.
+pub fn solution_lines<'a>(
+    input: &'a Input,
+    instance: &'a Instance,
+    solution: &'a Solution,
+) -> SolutionLines<'a>
+    requires input { input.now ≡ Two instance.now }
+    requires best { IsBestOf solution.now.side instance.now solution.now.best.places.items }
+    ensures right { (lines : List (List ℕ)) → ⟦<SolutionLines<'a> as Lines>⟧.gives result lines
+        → IsShown input.now (IsSolution solution.now.side instance.now) lines }
+    ensures some { HasRest (⟦<SolutionLines<'a> as Lines>⟧.gives result) }
+{
+    let _count = instance.proposer_count();
+    Printed {
+        input,
+        answer: Then {
+            first: One(Some(Line::Answer(Head::Solve(Some(solution.side))))),
+            second: Then {
+                first: Each {
+                    items: MatchingLines {
+                        word: PairWord::Pair,
+                        instance,
+                        matching: &solution.best,
+                    },
+                    next: 0,
+                },
+                second: One(Some(Line::End)),
+            },
+        },
+    }
+}

@@ -1,0 +1,121 @@
+-- The lines of the answer of `weight` are lines of the instance.
+use Rattle.std.proofs.Common.{◌≡◌, ℕ, ◌+◌, ◌-◌, ◌<◌, ◌≤◌, ◌^◌, List, [], ◌∷◌, ◌++◌, length, get_or, map, slice_index_or, Some, ℤ, pos, sym, ap, ◌∙◌, subst, arith}
+use Rattle.std.specs.List.{All}
+use Rattle.std.specs.Int.RustNames.{unsigned_abs}
+use Rattle.std.proofs.lemmas.List.{get_or-map}
+use Rattle.std.proofs.lemmas.List.Elements.{All-append, All-cons, All-map}
+use Rattle.sm_answer.specs.Lines.{line_or_none, lines_from}
+use Rattle.sm_answer.proofs.AnswerLemmas.{lines_each, lines_all, one_all}
+use Rattle.sm_instance.specs.Written.{Written}
+use Rattle.sm_instance.specs.Sound.{IsInstance}
+use Rattle.sm_instance.specs.declared.inputs.Input.{Input}
+use Rattle.sm_instance.specs.declared.inputs.Input.TheVariants.{Two}
+use Rattle.sm_instance.specs.declared.kinds.Side.TheVariants.{Proposers}
+use Rattle.sm_market.specs.Lists.{Lists}
+use Rattle.sm_market.specs.Matching.{Places}
+use Rattle.sm_market.specs.Stable.{IsStable}
+use Rattle.sm_report.specs.Heads.{HeadData}
+use Rattle.sm_report.specs.Lines.{LineData}
+use Rattle.sm_report.specs.Sound.{IsLineOf}
+use Rattle.sm_theory.specs.Chains.{rotation_at, IsPrintedChain, AreNeeds}
+use Rattle.sm_theory.specs.Weights.{weight_of, gain_of}
+use Rattle.sm_poset.specs.Posets.{IsPoset}
+use Rattle.sm_seats.specs.Seating.{Seating, written_of}
+use Rattle.sm_seats.specs.Correspondence.{IsSeating, weights_of}
+use Rattle.sm_theory.specs.declared.flow_lines.FlowLine.{FlowLine}
+use Rattle.sm_weight.specs.Lightest.{set_matching}
+use Rattle.sm_weight.proofs.CountLemmas.{pairs_of_few}
+use Rattle.sm_answer_rotations.specs.Reduction.{seat_line}
+use Rattle.sm_answer_rotations.specs.GivenLines.{two_lines}
+use Rattle.sm_answer_rotations.specs.PairLines.{seated_pair_line}
+use Rattle.sm_answer_rotations.proofs.PairLemmas.{pair_alike}
+use Rattle.sm_answer.proofs.LineLemmas.{end_sound, pair_sound}
+use Rattle.sm_answer_rotations.proofs.ReduceLemmas.{seat_sound}
+use Rattle.sm_answer_rotations.proofs.RotationLemmas.{both_sound, flat_from}
+use Rattle.sm_answer_weight.specs.WeightAnswer.{member_numbers}
+use Rattle.sm_answer_weight.specs.Found.{IsLightestOfSeats, IsFlowLine}
+use Rattle.sm_answer_weight.specs.Given.{gain_line, three_lines, edge_line, figure_line, weight_given}
+use Rattle.sm_answer_weight.specs.declared.lightest_parts.Lightest.{Lightest}
+use Rattle.sm_answer_weight.proofs.MemberLemmas.{are_rotations}
+use Rattle.sm_answer_weight.proofs.SizeLemmas.{gain_size, weight_size}
+
+-- a line of a flow
+edge_sound : (w : Written) (line : FlowLine) → IsFlowLine line → IsLineOf (Two w) (edge_line line)
+edge_sound w line x = record { printable = tt; seats = λ k d l. absurd (omega arith); numbers = (x.from, x.to, x.amount); head = tt }
+
+module _ {w : Written} {s : Seating} (i : IsInstance w) (h : IsSeating w s) (found : Lightest) (f : IsLightestOfSeats w s found) (p : IsPoset found.basis.poset) where
+  gain_light : (k : ℕ) → k < length found.basis.poset.rotations → unsigned_abs (slice_index_or found.gains.items k (pos 0)) ≤ 9223372036854775807
+  gain_light k here =
+      let poset = found.basis.poset in
+      let g = gain_of poset.lists (weights_of found.by w s) in
+      let is : slice_index_or found.gains.items k (pos 0) ≡ g (rotation_at poset.rotations k) =
+      ap (λ (xs : List ℤ). slice_index_or xs k (pos 0)) (f.gains ∙ f.lightest.gains) ∙ get_or-map g poset.rotations k [] (pos 0) here in
+      let size = gain_size poset.lists (weights_of found.by w s) f.light (rotation_at poset.rotations k) in
+      let few = pairs_of_few p.market p.printed.chain p.limits k here in
+      subst (λ z. unsigned_abs z ≤ 9223372036854775807) (sym is) (omega (arith, size, few))
+
+  total_light : unsigned_abs found.total ≤ 9223372036854775807
+  total_light =
+      let m = found.matching.places in
+      let is : found.total ≡ weight_of s.market (weights_of found.by w s) m = f.total ∙ sym (h.weights found.by m f.made.matching) in
+      let size = weight_size s.market (weights_of found.by w s) f.light m in
+      let many = ap (λ (l : Lists). length l.proposers) f.market in
+      subst (λ z. unsigned_abs z ≤ 9223372036854775807) (sym is) (omega (arith, size, many, p.limits.proposers))
+
+  stable_there : IsStable s.market found.matching.places
+  stable_there =
+      let poset = found.basis.poset in
+      subst (λ (l : Lists). IsStable l found.matching.places) f.market
+      (subst (IsStable poset.lists) (sym (f.places ∙ ap (set_matching poset) f.taken)) f.lightest.lightest.stable)
+
+  few_taken : length found.taken.members.items < 2 ^ 24
+  few_taken = let long = ap length f.taken in omega (arith, long, f.lightest.closed.one_each, p.few)
+
+  -- the lines that are given of what was found are lines of the instance
+  pub given_sound : (needs : List (List ℕ)) → AreNeeds found.basis.poset.lists found.basis.poset.rotations needs
+      → All (IsLineOf (Two w)) (weight_given s found found.basis.poset.first.places found.basis.poset.rotations needs)
+  given_sound needs n =
+      let P = IsLineOf (Two w) in
+      let poset = found.basis.poset in
+      let first = poset.first.places in
+      let rotations = poset.rotations in
+      let gains = found.gains.items in
+      let m = found.matching.places in
+      let printed : IsPrintedChain s.market first rotations = subst (λ (l : Lists). IsPrintedChain l first rotations) f.market p.printed in
+      let needed : AreNeeds s.market rotations needs = subst (λ (l : Lists). AreNeeds l rotations needs) f.market n in
+      let firsts = lines_each P (seat_line Proposers s first) 0 (length s.market.proposers - 0) (λ q l. seat_sound i h Proposers first printed.chain.from_best.stable.matching q) in
+      let threes = flat_from P (three_lines s rotations needs gains) 0 (length rotations - 0) (λ k l.
+      let here : k < length rotations = omega (arith, l) in
+      All-append P (two_lines s rotations needs k) (gain_line gains k ∷ []) (both_sound i h first rotations needs printed.chain p.few needed.each k here)
+      (one_all P (gain_line gains k) (record {
+        printable = tt;
+        seats = λ k d l. absurd (omega arith);
+        numbers = (record { least = omega arith; greatest = omega (arith, here, p.few) }, gain_light k here);
+        head = tt;
+      }))) in
+      let flow = All-map P edge_line found.flow.items (λ k d l. edge_sound w (get_or found.flow.items k d) (f.numbers k d l)) in
+      let taken = LineData.Taken (member_numbers found.taken.members.items (length found.taken.members.items)) in
+      let value = LineData.Value found.value in
+      let cut = LineData.Cut found.value in
+      let total = LineData.Total found.total in
+      let figures : All P (lines_from (λ i. Some (figure_line found i)) 0 (4 - 0)) =
+      All-cons P taken (value ∷ cut ∷ total ∷ []) (record { printable = tt; seats = λ k d l. absurd (omega arith); numbers = are_rotations found.taken.members.items (length found.taken.members.items) few_taken; head = tt })
+      (All-cons P value (cut ∷ total ∷ []) (record { printable = tt; seats = λ k d l. absurd (omega arith); numbers = found.large; head = tt })
+      (All-cons P cut (total ∷ []) (record { printable = tt; seats = λ k d l. absurd (omega arith); numbers = found.large; head = tt })
+      (one_all P total (record { printable = tt; seats = λ k d l. absurd (omega arith); numbers = total_light; head = tt })))) in
+      let pairs = lines_all P (seated_pair_line s m) (λ p. subst (λ o. All P (line_or_none o)) (sym (pair_alike h m stable_there p)) (pair_sound w (written_of s m.proposers) (h.forgotten m stable_there).matching p)) 0 (length s.market.proposers - 0) in
+      let figures_given = lines_from (λ i. Some (figure_line found i)) 0 (4 - 0) in
+      let pairs_given = lines_from (seated_pair_line s m) 0 (length s.market.proposers - 0) in
+      let ends = LineData.End ∷ [] in
+      All-cons P (LineData.Answer (HeadData.Weight found.by)) _ (record { printable = tt; seats = λ k d l. absurd (omega arith); numbers = tt; head = tt })
+      (All-append P _ _ firsts (All-append P _ _ threes (All-append P (map edge_line found.flow.items) (figures_given ++ (pairs_given ++ ends)) flow
+      (All-append P figures_given (pairs_given ++ ends) figures (All-append P pairs_given ends pairs (one_all P LineData.End (end_sound (Two w))))))))
+
+-- by the values from which they are read
+pub weight_sound : (input : Input) (w : Written) (s : Seating) (found : Lightest) (first : Places) (rotations : List (List (ℕ × ℕ))) (needs : List (List ℕ)) → input ≡ Two w → IsInstance w → IsSeating w s → IsLightestOfSeats w s found
+    → IsPoset found.basis.poset → first ≡ found.basis.poset.first.places → rotations ≡ found.basis.poset.rotations → AreNeeds found.basis.poset.lists found.basis.poset.rotations needs
+    → All (IsLineOf input) (weight_given s found first rotations needs)
+weight_sound input w s found first rotations needs two i h f p ef er n =
+    subst (λ (i : Input). All (IsLineOf i) (weight_given s found first rotations needs)) (sym two)
+    (subst (λ (x : Places). All (IsLineOf (Two w)) (weight_given s found x rotations needs)) (sym ef)
+    (subst (λ (x : List (List (ℕ × ℕ))). All (IsLineOf (Two w)) (weight_given s found found.basis.poset.first.places x needs)) (sym er) (given_sound i h found f p needs n)))

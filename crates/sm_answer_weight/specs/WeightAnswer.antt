@@ -1,0 +1,122 @@
+-- The answer of `weight`.
+use Rattle.std.specs.Prelude.{◌≡◌, ℕ, zero, suc, ◌+◌, ◌==◌, if◌then◌else◌, Bool, List, [], ◌∷◌, ◌++◌, length, map, Option, Some, ℤ, ◌-ℤ◌}
+use Rattle.std.specs.List.{All, flat_map, range_with_len}
+use Rattle.sm_answer.specs.Lines.{lines_from}
+use Rattle.sm_instance.specs.Written.{Written, place_of}
+use Rattle.sm_instance.specs.Lightest.{IsLightest}
+use Rattle.sm_instance.specs.Ranks.{pair_weight, weight_of}
+use Rattle.sm_instance.specs.declared.inputs.Input.TheVariants.{Two}
+use Rattle.sm_instance.specs.declared.kinds.Measure.{Measure}
+use Rattle.sm_market.specs.Matching.{Places}
+use Rattle.sm_report.specs.Heads.{HeadData}
+use Rattle.sm_report.specs.Lines.{LineData}
+use Rattle.sm_report.specs.Sound.{IsLineOf}
+use Rattle.sm_report.specs.Texts.{SINK}
+use Rattle.sm_theory.specs.Chains.{IsPrintedChain, AreNeeds}
+use Rattle.sm_theory.specs.ClosedSets.{is_member, IsClosed, matching_of}
+use Rattle.sm_theory.specs.Rotations.{proposer_at, reviewer_at, target_at}
+use Rattle.sm_theory.specs.Weights.{total}
+use Rattle.sm_theory.specs.Net.{Net, cut_of}
+use Rattle.sm_theory.specs.Flows.{IsFlow, flow_value, IsResidualReach}
+use Rattle.sm_theory.specs.Conditions.{net_of}
+use Rattle.sm_seats.specs.SeatMarket.{seat_market}
+use Rattle.sm_seats.specs.Seating.{seating_of, written_of, levels_of}
+use Rattle.sm_seats.specs.Correspondence.{leveled, weights_of}
+use Rattle.sm_theory.specs.declared.flow_lines.FlowLine.{FlowLine}
+use Rattle.sm_theory.specs.FlowLines.{amount_on, AreFlowLines}
+use Rattle.sm_answer.specs.MatchingLines.{pair_line}
+use Rattle.sm_answer_rotations.specs.RotationLines.{ShownRotations, first_seat_line, pairs_at, rotation_lines, shown_of}
+use Rattle.sm_answer_rotations.specs.RotationAnswer.{pairs_of, IsCorrespondence}
+
+-- a flow by its lines, with its residual reach, whose cut is the value of the flow: so no flow has a greater value, and no cut
+-- a smaller one (Ford and Fulkerson 1956)
+pub record IsCertificate (net : Net) (flow : List FlowLine) (taken : List Bool) : Type 0 where
+  pub lines : AreFlowLines net flow
+  pub is_flow : IsFlow net (amount_on flow)
+  pub reach : IsResidualReach net (amount_on flow) taken
+  pub full : flow_value net (amount_on flow) ≡ cut_of net taken
+
+-- What an answer is read from: the first matching of the seats, the chain of rotations from it on, what each of them needs, the
+-- lines of a flow, and the set of rotations that is taken. Here rotations and seats are numbered from 0.
+pub record WeightParts : Type 0 where
+  pub first : Places
+  pub rotations : List (List (ℕ × ℕ))
+  pub needs : List (List ℕ)
+  pub flow : List FlowLine
+  pub taken : List Bool
+
+-- the first matching, the rotations and the needs as they are shown
+abbrev pub shown_in : Written → WeightParts → ShownRotations
+shown_in w parts = shown_of (seating_of w) parts.first parts.rotations parts.needs
+
+-- the weight of a proposer and a reviewer of its list
+abbrev pub weight_with : Measure → Written → (p r : ℕ) → ℤ
+weight_with by w p r = pair_weight by w p (Some (place_of w.proposers p r))
+
+-- the weight of a rotation's new pairs less that of its old ones, where it is given by its proposers, each with the reviewer that it
+-- leaves for that of the next one
+abbrev pub gain_of_pairs : Measure → Written → List (ℕ × ℕ) → ℤ
+gain_of_pairs by w rotation = total (λ i.
+    let p = proposer_at rotation i in
+    weight_with by w p (target_at rotation i) -ℤ weight_with by w p (reviewer_at rotation i)) (length rotation)
+
+-- the gain of a rotation as it is shown
+abbrev pub gain_in : Measure → Written → WeightParts → ℕ → ℤ
+gain_in by w parts k = gain_of_pairs by w (pairs_of (pairs_at (shown_in w parts) k))
+
+-- the net of the gains, the needs and the conditions
+-- (Irving, Leather and Gusfield 1987; Gusfield and Irving 1989, chapter 3)
+abbrev pub net_in : Measure → Written → WeightParts → Net
+net_in by w parts =
+    net_of (seat_market w) (levels_of (seating_of w)) (weights_of by w (seating_of w)) (leveled w w.forced) (leveled w w.forbidden) parts.first parts.rotations parts.needs
+
+-- the matching of the set that is taken, once seat numbers are forgotten
+abbrev pub matching_in : Written → WeightParts → List (Option ℕ)
+matching_in w parts = written_of (seating_of w) (matching_of (seat_market w) parts.first parts.rotations parts.taken).proposers
+
+-- the lines of a rotation: its pairs, its needs and its gain
+abbrev pub gained_lines : Measure → Written → WeightParts → ℕ → List LineData
+gained_lines by w parts k = rotation_lines (shown_in w parts) k ++ LineData.Gain (k + 1) (gain_in by w parts k) ∷ []
+
+-- a node as lines name it: the source is 0, rotations are numbered from 1, and the sink has the last number of 32 bits
+abbrev pub shown_node : (sink node : ℕ) → ℕ
+shown_node sink node = if node == sink then SINK else node
+
+-- a line of a flow, with the nodes as lines name them
+abbrev pub flow_line : (sink : ℕ) → FlowLine → LineData
+flow_line sink line = LineData.Flow (shown_node sink line.from) (shown_node sink line.to) line.amount
+
+-- the numbers of the members of a set among the first n rotations, from 1
+abbrev pub member_numbers : List Bool → ℕ → List ℕ
+member_numbers set zero = []
+member_numbers set (suc n) = member_numbers set n ++ (if is_member set n then suc n ∷ [] else [])
+
+-- all lines
+abbrev pub weight_lines : Measure → Written → WeightParts → List LineData
+weight_lines by w parts =
+    let shown = shown_in w parts in
+    LineData.Answer (HeadData.Weight by) ∷
+    (lines_from (first_seat_line shown) 0 (length shown.firsts)
+    ++ (flat_map (gained_lines by w parts) (range_with_len 0 (length parts.rotations))
+    ++ (map (flow_line (suc (length parts.rotations))) parts.flow
+    ++ (LineData.Taken (member_numbers parts.taken (length parts.taken)) ∷
+    LineData.Value (flow_value (net_in by w parts) (amount_on parts.flow)) ∷
+    LineData.Cut (cut_of (net_in by w parts) parts.taken) ∷
+    LineData.Total (weight_of by w (matching_in w parts)) ∷
+    (lines_from (pair_line w (matching_in w parts)) 0 (length w.proposers)
+    ++ LineData.End ∷ [])))))
+
+-- The lines are the seats in the proposers' best matching, the printed chain of rotations from it on with what each of them
+-- needs and gains, a flow in the net with its residual reach, which is closed, and the pairs of the reach's matching, which is the
+-- lightest that is allowed; and the stable matchings are those of the closed sets that are shown. All are lines of the instance: where
+-- unbounded edges lead in a circle a flow may go round it with any amount, also with one that has no 64 bits.
+pub record IsWeightAnswer (by : Measure) (w : Written) (answer : List LineData) : Type 0 where
+  pub parts : WeightParts
+  pub printed : IsPrintedChain (seat_market w) parts.first parts.rotations
+  pub needed : AreNeeds (seat_market w) parts.rotations parts.needs
+  pub corresponds : IsCorrespondence w (shown_in w parts)
+  pub certificate : IsCertificate (net_in by w parts) parts.flow parts.taken
+  pub closed : IsClosed (seat_market w) parts.rotations parts.taken
+  pub lightest : IsLightest by w (matching_in w parts)
+  pub shows : answer ≡ weight_lines by w parts
+  pub sound : All (IsLineOf (Two w)) answer

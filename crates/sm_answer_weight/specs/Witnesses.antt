@@ -1,0 +1,57 @@
+-- A worked answer: three proposers who go round in a cycle, of whom the first weighs 4 with its second choice and -10 with its
+-- third one.
+use Rattle.std.specs.Prelude.{◌≡◌, true, List, [], ◌∷◌, pos, negsuc}
+use Rattle.sm_instance.specs.Written.{Written, plain_written}
+use Rattle.sm_instance.specs.Witnesses.{agent}
+use Rattle.sm_instance.specs.declared.kinds.Kind.TheVariants.{Marriage}
+use Rattle.sm_instance.specs.declared.kinds.Measure.TheVariants.{Given}
+use Rattle.sm_report.specs.Heads.{HeadData}
+use Rattle.sm_report.specs.Lines.{LineData}
+use Rattle.sm_report.specs.Texts.{SOURCE, SINK}
+use Rattle.sm_report.specs.Witnesses.{first_seat_of}
+use Rattle.sm_theory.specs.Witnesses.{three_cycle_first, three_cycle_chain}
+use Rattle.sm_theory.specs.WitnessesFlows.{three_cycle_needs}
+use Rattle.sm_theory.specs.WitnessesLines.{three_cycle_lines}
+use Rattle.sm_answer_weight.specs.WeightAnswer.{WeightParts, weight_lines}
+
+-- these proposers and the three reviewers
+abbrev pub three_proposers : Written
+three_proposers = plain_written Marriage
+    (agent 49 1 (0 ∷ 1 ∷ 2 ∷ []) ∷ agent 50 1 (1 ∷ 2 ∷ 0 ∷ []) ∷ agent 51 1 (2 ∷ 0 ∷ 1 ∷ []) ∷ [])
+    (agent 97 1 (1 ∷ 2 ∷ 0 ∷ []) ∷ agent 98 1 (2 ∷ 0 ∷ 1 ∷ []) ∷ agent 99 1 (0 ∷ 1 ∷ 2 ∷ []) ∷ [])
+    ((0, 1, pos 4) ∷ (0, 2, negsuc 9) ∷ []) [] []
+
+-- their first matching, both rotations, what these need, and the flow, with both rotations taken
+abbrev pub three_parts : WeightParts
+three_parts = record { first = three_cycle_first; rotations = three_cycle_chain; needs = three_cycle_needs; flow = three_cycle_lines; taken = true ∷ true ∷ [] }
+
+-- Both rotations are taken: the first costs 4, the second brings -14. The flow of 4 goes from the source by the second and the
+-- first to the sink.
+abbrev pub worked_answer : List LineData
+worked_answer =
+    LineData.Answer (HeadData.Weight Given) ∷
+    LineData.First 0 (first_seat_of 0) ∷
+    LineData.First 1 (first_seat_of 1) ∷
+    LineData.First 2 (first_seat_of 2) ∷
+    LineData.Rotation 1 ((0, first_seat_of 0) ∷ (1, first_seat_of 1) ∷ (2, first_seat_of 2) ∷ []) ∷
+    LineData.Needs 1 [] ∷
+    LineData.Gain 1 (pos 4) ∷
+    LineData.Rotation 2 ((0, first_seat_of 1) ∷ (1, first_seat_of 2) ∷ (2, first_seat_of 0) ∷ []) ∷
+    LineData.Needs 2 (1 ∷ []) ∷
+    LineData.Gain 2 (negsuc 13) ∷
+    LineData.Flow SOURCE 2 4 ∷
+    LineData.Flow 1 SINK 4 ∷
+    LineData.Flow 2 1 4 ∷
+    LineData.Taken (1 ∷ 2 ∷ []) ∷
+    LineData.Value 4 ∷
+    LineData.Cut 4 ∷
+    LineData.Total (negsuc 9) ∷
+    LineData.Pair 0 2 ∷
+    LineData.Pair 1 0 ∷
+    LineData.Pair 2 1 ∷
+    LineData.End ∷
+    []
+
+-- the lines of these parts are this answer
+abbrev pub WorkedAnswer : Type 0
+WorkedAnswer = weight_lines Given three_proposers three_parts ≡ worked_answer

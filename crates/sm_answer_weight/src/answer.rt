@@ -1,0 +1,103 @@
+//! The answer of `weight`.
+
+ghost use Rattle.std.specs.Prelude.{◌≡◌, ℕ, List};
+ghost use Rattle.sm_answer.specs.Giving.{HasRest};
+ghost use Rattle.sm_answer.specs.Printing.{IsShown};
+ghost use Rattle.sm_instance.specs.declared.inputs.Input.TheVariants.{Two};
+ghost use Rattle.sm_seats.specs.Seating.{seating_of};
+ghost use Rattle.sm_seats.specs.Correspondence.{IsSeating};
+ghost use Rattle.sm_answer_weight.specs.WeightAnswer.{IsWeightAnswer};
+ghost use Rattle.sm_answer_weight.specs.Found.{IsLightestOfSeats};
+
+use crate::figures::{Figures, FlowLines};
+use crate::gained_lines::{GainedLines, RotationPart};
+use crate::lightest_parts::Lightest;
+use sm_answer::{Each, Lines, One, Printed, Then};
+use sm_answer_rotations::{PairLines, Rotations, SeatLines};
+use sm_instance::{Input, Instance, Side};
+use sm_report::{Head, Line};
+use sm_seats::Seats;
+
+/// The lines of the answer of `weight`.
+pub type LightestLines<'a> = Printed<
+    'a,
+    Then<
+        One,
+        Then<
+            Each<SeatLines<'a>>,
+            Then<
+                GainedLines<'a>,
+                Then<FlowLines<'a>, Then<Each<Figures<'a>>, Then<Each<PairLines<'a>>, One>>>,
+            >,
+        >,
+    >,
+>;
+
+/// The head; the first seats; for each rotation of the chain its pairs, what it needs and its gain; the flow; the set that the flow
+/// reaches, the flow's value and the set's cut; the weight of the set's matching and its pairs, in the order of the proposers; and
+/// `end`. Takes constant time; the lines together take time linear in what they show.
+pub fn lightest_lines<'a>(
+    input: &'a Input,
+    instance: &Instance,
+    seats: &'a Seats,
+    found: &'a Lightest,
+) -> LightestLines<'a>
+    requires input { input.now ≡ Two instance.now }
+    requires seats { seats.now ≡ seating_of instance.now }
+    requires seating { IsSeating instance.now seats.now }
+    requires found { IsLightestOfSeats instance.now seats.now found.now }
+    ensures right { (lines : List (List ℕ)) → ⟦<LightestLines<'a> as Lines>⟧.gives result lines
+        → IsShown input.now (IsWeightAnswer found.now.by instance.now) lines }
+    ensures some { HasRest (⟦<LightestLines<'a> as Lines>⟧.gives result) }
+{
+    let _count = instance.proposer_count();
+    let chain = found.basis.poset.chain();
+    let needs = found.basis.poset.all_needs();
+    Printed {
+        input,
+        answer: Then {
+            first: One(Some(Line::Answer(Head::Weight(found.by)))),
+            second: Then {
+                first: Each {
+                    items: SeatLines {
+                        side: Side::Proposers,
+                        seats,
+                        pairing: &chain.first,
+                    },
+                    next: 0,
+                },
+                second: Then {
+                    first: GainedLines {
+                        rows: Rotations {
+                            seats,
+                            rotations: &chain.rotations,
+                            needs,
+                        },
+                        found,
+                        next: 0,
+                        part: RotationPart::Pairs,
+                    },
+                    second: Then {
+                        first: FlowLines { found, next: 0 },
+                        second: Then {
+                            first: Each {
+                                items: Figures { found },
+                                next: 0,
+                            },
+                            second: Then {
+                                first: Each {
+                                    items: PairLines {
+                                        seats,
+                                        pairing: &found.matching,
+                                    },
+                                    next: 0,
+                                },
+                                second: One(Some(Line::End)),
+                            },
+                        },
+                    },
+                },
+            },
+        },
+    }
+}

@@ -1,0 +1,5 @@
+use Rattle.sm_check_net.proofs.MoveLemmas.{moves_have_weights}
+use Rattle.sm_check_net.proofs.laws.moves_have_weights.Goals as goal
+
+pub returns : goal.returns
+returns c = moves_have_weights

@@ -1,5 +1,0 @@
-use Rattle.sm_check_rooms.specs.PartiesKept.{AreMet}
-use Rattle.sm_check_rooms.proofs.parties.meet.Given as goal
-
-abbrev pub invariant-loop-j : goal.invariant-loop-j
-invariant-loop-j l = AreMet l.party l.fn.met l.j l.met

@@ -1,0 +1,139 @@
+-- What is kept of the lines of an answer of `weight`.
+use Rattle.std.specs.Prelude.{◌≡◌, ℕ, ◌+◌, ◌<◌, ◌++◌, ◌∷◌, [], not, Bool, true, false, List, length, map, take, Option, None, Some, filter_map, slice_index_or}
+use Rattle.std.specs.List.{list_all, slice_get}
+use Rattle.sm_instance.specs.Written.{Written}
+use Rattle.sm_instance.specs.Matching.{IsMatching}
+use Rattle.sm_instance.specs.declared.kinds.Measure.{Measure}
+use Rattle.sm_market.specs.Lists.{Lists}
+use Rattle.sm_market.specs.Matching.{Places}
+use Rattle.sm_theory.specs.Chains.{AreNeedsOf}
+use Rattle.sm_theory.specs.ClosedSets.{IsClosed, matching_of}
+use Rattle.sm_theory.specs.FlowLines.{AreOnNodes}
+use Rattle.sm_check_net.specs.CheckedNets.{NetParts, net_of_parts, NeedsAreOf}
+use Rattle.sm_check_net.specs.Repeats.{AreRepeats}
+use Rattle.sm_seats.specs.SeatMarket.{seat_market}
+use Rattle.sm_seats.specs.Seating.{seating_of, written_of, levels_of}
+use Rattle.sm_seats.specs.Correspondence.{IsSeating, weights_of}
+use Rattle.sm_lists.specs.Rows.{rows_of}
+use Rattle.sm_theory.specs.Sizes.{weights_in, AreWeights}
+use Rattle.sm_report.specs.Lines.{LineData, line_of}
+use Rattle.sm_check_forms.specs.Layouts.{is_empty}
+use Rattle.sm_check_answers.specs.declared.verdicts.Reason.{Reason}
+use Rattle.sm_check_answers.specs.declared.chain_walk.ChainWalk.{ChainWalk}
+use Rattle.sm_check_answers.specs.Said.{rotations_in, all_needs_in, flows_in, taken_in, value_in, pairs_in, first_said, is_up_to_rotations}
+use Rattle.sm_check_answers.specs.SeatMatchings.{first_of}
+use Rattle.sm_check_answers.specs.Flows.{size_in, net_in, on_nodes, set_of_numbers, first_level, taken_matching, LevelHolds, TakenHolds}
+use Rattle.sm_check_answers.specs.Pairs.{WantedHold}
+use Rattle.sm_check_answers.specs.Walks.{IsWalkOf, IsChainKept}
+use Rattle.sm_check_answers.specs.Stood.{AreStood}
+use Rattle.sm_check_weight.specs.declared.claims.Claim.{Claim}
+use Rattle.sm_check_weight.specs.declared.judging.WeightJudge.{WeightJudge}
+use Rattle.sm_check_weight.specs.declared.judging.Tables.{Tables}
+use Rattle.sm_theory.specs.Vectors.{AreLevels}
+use Rattle.sm_check_weight.specs.declared.flow_lines.Flow.{Flow}
+use Rattle.sm_check_weight.specs.declared.taken.Taken.{Taken}
+
+-- the clauses on what stands behind the rotations
+abbrev pub ClaimHolds : Written → Measure → List LineData → LineData → Reason → Type 0
+ClaimHolds w by above line why =
+    LevelHolds w (first_level w by above) above line why
+    × TakenHolds w (first_level w by above) above line why
+    × WantedHold w (taken_matching w above) (pairs_in above) line why
+
+-- the rotations of the lines above were eliminated, and none is exposed any more
+pub record IsWholeWalk (w : Written) (above : List LineData) (walk : ChainWalk) : Type 0 where
+  pub is_walk : IsWalkOf w above walk
+  pub whole : walk.is_whole ≡ true
+
+-- so it is with some lines
+pub record HasWholeWalk (w : Written) (walk : ChainWalk) : Type 0 where
+  pub above : List LineData
+  pub walk_of : IsWholeWalk w above walk
+
+-- and these are needs of its rotations
+pub record HasNeededWalk (w : Written) (walk : ChainWalk) (parts : NetParts) : Type 0 where
+  pub above : List LineData
+  pub walk_of : IsWholeWalk w above walk
+  pub needs : NeedsAreOf (seat_market w) (rotations_in w above) parts
+
+-- and this is a closed set of them
+pub record HasClosedSet (w : Written) (walk : ChainWalk) (set : List Bool) : Type 0 where
+  pub above : List LineData
+  pub walk_of : IsWholeWalk w above walk
+  pub closed : IsClosed (seat_market w) (rotations_in w above) set
+
+-- a set by the numbers of its rotations, and its matching
+pub record IsSetOf (w : Written) (first : Places) (rotations : List (List (ℕ × ℕ))) (numbers : List ℕ) (taken : Taken) : Type 0 where
+  pub set : taken.set.items ≡ set_of_numbers (length rotations) numbers
+  pub matching : taken.matching.places.items
+      ≡ written_of (seating_of w) (matching_of (seat_market w) first rotations (set_of_numbers (length rotations) numbers)).proposers
+  pub is_matching : IsMatching w taken.matching.places.items
+
+-- the flow of an answer on the nodes of a net of so many rotations, of which the lines above are judged
+pub record IsFlowOf (size : ℕ) (lines above : List LineData) (flow : Flow) : Type 0 where
+  pub all : flow.lines.items ≡ map (on_nodes size) (flows_in lines)
+  pub repeats : AreRepeats flow.lines.items flow.repeats.items
+  pub count : flow.count ≡ length (flows_in above)
+  pub front : take flow.count flow.lines.items ≡ map (on_nodes size) (flows_in above)
+  pub nodes : AreOnNodes (size + 2) (map (on_nodes size) (flows_in above))
+
+-- a line follows those above it among the lines of an answer
+pub record IsNextLine (lines above : List LineData) (line : LineData) : Type 0 where
+  pub below : List LineData
+  pub is : lines ≡ above ++ line ∷ below
+
+-- what the rotations above need, each of those up to itself
+abbrev pub AreNeedsSoFar : Lists → List (List (ℕ × ℕ)) → List (List ℕ) → Type 0
+AreNeedsSoFar l rotations needs =
+    (j : ℕ) → j < length needs → AreNeedsOf l (take (j + 1) rotations) j (slice_index_or needs j [])
+
+-- of the lines above: the net, the flow, the set that is taken first, or the empty one, the value that is said first, and the
+-- proposers that stand in pairs
+pub record IsClaimOf (w : Written) (by : Measure) (lines above : List LineData) (claim : Claim) : Type 0 where
+  pub net : net_of_parts claim.net ≡ net_in w by above
+  pub needs : NeedsAreOf (seat_market w) (rotations_in w above) claim.net
+  pub flow : IsFlowOf (size_in w above) lines above claim.flow
+  pub taken : IsSetOf w (first_of w above) (rotations_in w above) (first_said [] taken_in above) claim.taken
+  pub said : claim.taken.is_said ≡ not (is_empty (filter_map taken_in above))
+  pub value : claim.value ≡ slice_get (filter_map value_in above) 0
+  pub stood : AreStood w (pairs_in above) claim.stood.stood.items
+
+-- it is of some lines, behind which this one stands
+pub record HasClaim (w : Written) (by : Measure) (line : LineData) (walk : ChainWalk) (claim : Claim) : Type 0 where
+  pub lines : List LineData
+  pub above : List LineData
+  pub kept : IsClaimOf w by lines above claim
+  pub walk_of : IsWholeWalk w above walk
+  pub next : IsNextLine lines above line
+
+-- while the rotations are written nothing is claimed behind them
+abbrev pub IsClaimAt : Written → Measure → (lines above : List LineData) → Option Claim → Type 0
+IsClaimAt w by lines above None = list_all is_up_to_rotations above ≡ true
+IsClaimAt w by lines above (Some claim) = IsClaimOf w by lines above claim × (list_all is_up_to_rotations above ≡ false)
+
+-- the levels and the weights of the places
+pub record AreTables (w : Written) (by : Measure) (tables : Tables) : Type 0 where
+  pub levels : rows_of tables.levels.items ≡ levels_of (seating_of w)
+  pub rising : AreLevels (seat_market w) (rows_of tables.levels.items)
+  pub weights : weights_in tables.weights.items ≡ weights_of by w (seating_of w)
+  pub small : AreWeights (seat_market w) (weights_in tables.weights.items)
+
+-- the lines above have all rotations, each with what it needs
+pub record HasWholePoset (w : Written) (above : List LineData) (walk : ChainWalk) : Type 0 where
+  pub walk_of : IsWholeWalk w above walk
+  pub one_each : length (all_needs_in above) ≡ length (rotations_in w above)
+  pub needs : AreNeedsSoFar (seat_market w) (rotations_in w above) (all_needs_in above)
+
+-- what is kept of the lines above line k of an answer: what was made of the instance beforehand, the rotations, what they need,
+-- and what is claimed behind them
+pub record IsJudgeOf (w : Written) (by : Measure) (lines : List LineData) (k : ℕ) (judge : WeightJudge) : Type 0 where
+  pub instance_is : judge.weighed.now.instance.now ≡ w
+  pub by_is : judge.weighed.now.by ≡ by
+  pub seats : judge.weighed.now.seats.now ≡ seating_of w
+  pub seating : IsSeating w (seating_of w)
+  pub lines_are : map line_of judge.lines.now ≡ lines
+  pub tables : AreTables w by judge.tables
+  pub chain_of : judge.chain.instance.now ≡ w
+  pub chain : IsChainKept w judge.chain.market.now judge.chain.firsts.now (take k lines) judge.chain.pairs judge.chain.walk
+  pub needs : AreNeedsSoFar (seat_market w) (rotations_in w (take k lines)) (all_needs_in (take k lines))
+  pub claim : IsClaimAt w by lines (take k lines) judge.claim

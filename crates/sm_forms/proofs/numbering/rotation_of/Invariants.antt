@@ -1,6 +1,0 @@
-use Rattle.std.proofs.Common.{◌≡◌, map, take}
-use Rattle.sm_forms.specs.Seats.{numbered}
-use Rattle.sm_forms.proofs.numbering.rotation_of.Given as goal
-
-abbrev pub invariant-loop-k : goal.invariant-loop-k
-invariant-loop-k l = l.numbered.items ≡ map (numbered l.instance) (take l.k l.pairs)

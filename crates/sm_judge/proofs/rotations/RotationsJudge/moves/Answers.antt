@@ -1,5 +1,0 @@
-use Rattle.sm_judge.proofs.WalkLemmas.{none_rotated}
-use Rattle.sm_judge.proofs.rotations.RotationsJudge.moves.Goals as goal
-
-pub returns-in-None : goal.returns-in-None
-returns-in-None c = λ above k. none_rotated (rw c.in-None.is at k)

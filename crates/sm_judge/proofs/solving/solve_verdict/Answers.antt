@@ -1,5 +1,0 @@
-use Rattle.sm_judge.proofs.PairLemmas.{none_held}
-use Rattle.sm_judge.proofs.solving.solve_verdict.Goals as goal
-
-pub judge_lines-requires-clause-knows : goal.judge_lines-requires-clause-knows
-judge_lines-requires-clause-knows c = record { seats = c.requires.seats; pairs = none_held c.args.instance.now _ c.in_ok-none.ensures.places c.in_ok-none.ensures.loads }

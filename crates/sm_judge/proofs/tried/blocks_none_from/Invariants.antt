@@ -1,8 +1,0 @@
-use Rattle.std.proofs.Common.{ℕ, ◌<◌, ◌≤◌}
-use Rattle.sm_instance.specs.Written.{entry}
-use Rattle.sm_instance.specs.Stable.{Blocks}
-use Rattle.sm_judge.proofs.tried.blocks_none_from.Given as goal
-
--- none so far blocks
-abbrev pub invariant-loop-place : goal.invariant-loop-place
-invariant-loop-place l = (k : ℕ) → l.from ≤ k → k < l.place → ¬ Blocks l.instance l.a.places.items l.p (entry l.instance.proposers l.p k)

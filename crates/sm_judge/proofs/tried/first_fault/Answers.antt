@@ -1,8 +1,0 @@
-use Rattle.std.proofs.Common.{sym, ◌∙◌}
-use Rattle.sm_judge.proofs.AnswerLemmas.{first_clause}
-use Rattle.sm_judge.proofs.VectorLemmas.{not_matching}
-use Rattle.sm_judge.proofs.tried.first_fault.Goals as goal
-
-pub returns-then-is_some-clause-found : goal.returns-then-is_some-clause-found
-returns-then-is_some-clause-found c =
-    first_clause (not_matching c.args.instance.now c.args.a.now.places.items c.breach.result c.breach.ensures (sym c.is_some.ensures ∙ c.if-is_some.true))

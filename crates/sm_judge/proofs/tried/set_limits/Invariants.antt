@@ -1,5 +1,0 @@
-use Rattle.sm_judge.specs.Tried.{AreSet}
-use Rattle.sm_judge.proofs.tried.set_limits.Given as goal
-
-abbrev pub invariant-loop-r : goal.invariant-loop-r
-invariant-loop-r l = AreSet l.instance l.a.places.items l.r l.fn.limits l.limits l.fn.touched l.touched

@@ -1,5 +1,0 @@
-use Rattle.sm_judge.specs.Tried.{AreTouched}
-use Rattle.sm_judge.proofs.tried.touch_changed.Given as goal
-
-abbrev pub invariant-loop-p : goal.invariant-loop-p
-invariant-loop-p l = AreTouched l.instance l.old.places.items l.new.places.items l.p l.touched

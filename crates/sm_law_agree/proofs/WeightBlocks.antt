@@ -1,0 +1,282 @@
+-- The clauses of `weight`, and that they hold at the first seats and at the blocks of a right answer.
+use Rattle.std.proofs.Common.{◌≡◌, ℕ, ◌&&◌, ◌+◌, ◌-◌, ◌<◌, arith, refl, sym, ap, ◌∙◌, pred, Bool, true, List, [], ◌∷◌, ◌++◌, length, map, take, subst, ℤ, append_assoc}
+use Rattle.std.specs.List.{All, list_all, flat_map, range_with_len}
+use Rattle.std.proofs.lemmas.List.{length-take-le, take_more}
+use Rattle.sm_instance.specs.Written.{Written}
+use Rattle.sm_instance.specs.Sound.{IsInstance}
+use Rattle.sm_instance.specs.declared.inputs.Input.TheVariants.{Two}
+use Rattle.sm_instance.specs.declared.kinds.Measure.{Measure}
+use Rattle.sm_instance.specs.declared.kinds.Side.TheVariants.{Proposers}
+use Rattle.sm_market.specs.Lists.{Lists, row, IsMarket}
+use Rattle.sm_market.specs.Matching.{Places, IsMatching}
+use Rattle.sm_market.specs.Stable.{IsProposersBest}
+use Rattle.sm_theory.specs.Rotations.{IsNothingExposed, IsLowestExposed}
+use Rattle.sm_theory.specs.Chains.{rotation_at, stage, IsCompleteChain, IsPrintedChain, AreNeedsOf, AreNeeds}
+use Rattle.sm_theory.specs.Weights.{gain_of}
+use Rattle.sm_report.specs.declared.lines.Seat.{Seat}
+use Rattle.sm_report.specs.Heads.{HeadData}
+use Rattle.sm_report.specs.Lines.{LineData}
+use Rattle.sm_answer.specs.Lines.{lines_from}
+use Rattle.sm_seats.specs.SeatMarket.{seat_market, seats_of}
+use Rattle.sm_seats.specs.Seating.{Seating, seating_of}
+use Rattle.sm_seats.specs.Correspondence.{IsSeating, weights_of}
+use Rattle.sm_seats.proofs.CorrespondenceLaws.{is_seating, sound_entries}
+use Rattle.sm_answer_rotations.specs.Reduction.{seat_of, seat_line}
+use Rattle.sm_answer_rotations.specs.RotationLines.{numbers_of, seated_rotation, rotation_line, needs_line}
+use Rattle.sm_answer_rotations.specs.RotationAnswer.{pairs_of}
+use Rattle.sm_answer_rotations.proofs.RotationLemmas.{seats_named}
+use Rattle.sm_answer_weight.specs.WeightAnswer.{gain_of_pairs}
+use Rattle.sm_answer_weight.proofs.GainLemmas.{gain_shown}
+use Rattle.sm_check_forms.specs.Seats.{seat_number, all_numbered}
+use Rattle.sm_check_forms.specs.Forms.{fits}
+use Rattle.sm_check_answers.specs.declared.verdicts.Reason.{Reason}
+use Rattle.sm_check_answers.specs.declared.verdicts.Reason.TheVariants as reason
+use Rattle.sm_check_answers.specs.Said.{first_in, firsts_in, pair_in, pairs_in}
+use Rattle.sm_check_answers.specs.Pairs.{WantedHold}
+use Rattle.sm_check_answers.specs.SeatMatchings.{IsFreeSeat, first_of}
+use Rattle.sm_check_answers.specs.Chain.{reached, ChainHolds}
+use Rattle.sm_check_answers.specs.Flows.{Level, first_level, LevelHolds, TakenHolds, taken_matching, WeightHolds}
+use Rattle.sm_check_answers.proofs.LinewiseLemmas.{no_end}
+use Rattle.sm_check_answers.proofs.AnswerLemmas.{said_same}
+use Rattle.sm_law_agree.proofs.LineLemmas.{Held}
+use Rattle.sm_law_agree.proofs.SeatLemmas.{is_seat_shown, all_numbered-seated, all_seated, SeatsAbove, seats_hold, seats_pass, firsts_hold}
+use Rattle.sm_law_agree.proofs.BlockLemmas.{blocks_hold, blocks_pass}
+use Rattle.sm_law_agree.proofs.RotationsAgree.{same_rotation, same_stage, needs_of_front, numbers_back, pairs_fit}
+use Rattle.sm_law_agree.proofs.WeightLines.{Said, said_in, with_line, said_one, AreSaid, told, Early, early_more, early_as, in_blocks, three_lines}
+
+-- The clauses, by what holds at a line.
+
+module _ (w : Written) (by : Measure) where
+  -- all that the clause of a reason asks for at a line
+  abbrev pub C : List LineData → LineData → Reason → Type 0
+  C above line why = WeightHolds w by above line why
+
+  module _ (above : List LineData) (line : LineData) where
+    -- what the lines above say of the flow and of the set
+    abbrev pub level : Level
+    level = first_level w by above
+
+    -- on the chain
+    pub chain_holds : ChainHolds w above line reason.NotExposed → ChainHolds w above line reason.RotationMissing → ChainHolds w above line reason.WrongNeeds → (why : Reason) → ChainHolds w above line why
+    chain_holds lowest complete needed reason.NotExposed = lowest
+    chain_holds lowest complete needed reason.RotationMissing = complete
+    chain_holds lowest complete needed reason.WrongNeeds = needed
+    chain_holds lowest complete needed _ = tt
+
+    -- on the flow
+    pub flows_hold : LevelHolds w level above line reason.WrongGain → LevelHolds w level above line reason.NoEdge → LevelHolds w level above line reason.OverRoom
+        → LevelHolds w level above line reason.NotConserved → LevelHolds w level above line reason.WrongValue → LevelHolds w level above line reason.WrongCut
+        → LevelHolds w level above line reason.CutDiffers → LevelHolds w level above line reason.WrongTotal → (why : Reason) → LevelHolds w level above line why
+    flows_hold gain edge room conserved value cut differs total reason.WrongGain = gain
+    flows_hold gain edge room conserved value cut differs total reason.NoEdge = edge
+    flows_hold gain edge room conserved value cut differs total reason.OverRoom = room
+    flows_hold gain edge room conserved value cut differs total reason.NotConserved = conserved
+    flows_hold gain edge room conserved value cut differs total reason.WrongValue = value
+    flows_hold gain edge room conserved value cut differs total reason.WrongCut = cut
+    flows_hold gain edge room conserved value cut differs total reason.CutDiffers = differs
+    flows_hold gain edge room conserved value cut differs total reason.WrongTotal = total
+    flows_hold gain edge room conserved value cut differs total _ = tt
+
+    -- on the set that is taken
+    pub taken_holds : TakenHolds w level above line reason.NotClosed → TakenHolds w level above line reason.NotLeast → (why : Reason) → TakenHolds w level above line why
+    taken_holds closed least reason.NotClosed = closed
+    taken_holds closed least reason.NotLeast = least
+    taken_holds closed least _ = tt
+
+    -- on the pairs
+    pub wanted_holds : WantedHold w (taken_matching w above) (pairs_in above) line reason.WrongPair → (why : Reason) → WantedHold w (taken_matching w above) (pairs_in above) line why
+    wanted_holds wanted reason.WrongPair = wanted
+    wanted_holds wanted _ = tt
+
+  -- nothing is asked for at the head
+  pub head_holds : (why : Reason) → C [] (LineData.Answer (HeadData.Weight by)) why
+  head_holds why =
+      let x = LineData.Answer (HeadData.Weight by) in (
+        firsts_hold w [] x tt (λ b. no_end b.behind) why,
+        chain_holds [] x tt (λ b. no_end b.behind) tt why,
+        flows_hold [] x tt tt tt tt tt tt tt tt why,
+        taken_holds [] x tt (λ e. no_end e) why,
+        wanted_holds [] x (tt, λ e. no_end e) why,
+      )
+
+  first_holds : (above : List LineData) (p : ℕ) (seat : Seat) → IsFreeSeat (seat_market w) (firsts_in w above) (p, seat_number w seat) → (why : Reason) → C above (LineData.First p seat) why
+  first_holds above p seat free why =
+      let x = LineData.First p seat in (
+        firsts_hold w above x free (λ b. no_end b.behind) why,
+        chain_holds above x tt (λ b. no_end b.behind) tt why,
+        flows_hold above x tt tt tt tt tt tt tt tt why,
+        taken_holds above x tt (λ e. no_end e) why,
+        wanted_holds above x (tt, λ e. no_end e) why,
+      )
+
+-- What is known behind the first seats of a chain.
+module _ {w : Written} {first : Places} {rotations : List (List (ℕ × ℕ))} (chain : IsCompleteChain (seat_market w) first rotations) (d : Said) (above : List LineData) (said : AreSaid w first d above) where
+  -- the first seats that are said are the proposers' best matching
+  pub best_above : IsProposersBest (seat_market w) (first_of w above)
+  best_above = told w first (λ f d. IsProposersBest (seat_market w) f) d above said chain.from_best
+
+  -- behind all its rotations none is missing
+  pub none_above : d.rotations ≡ rotations → IsNothingExposed (seat_market w) (reached w above)
+  none_above all =
+      let none : IsNothingExposed (seat_market w) (stage (seat_market w) first rotations (length rotations)) = record { none = chain.complete } in
+      told w first (λ f d. IsNothingExposed (seat_market w) (stage (seat_market w) f d.rotations (length d.rotations))) d above said
+      (subst (λ (xs : List (List (ℕ × ℕ))). IsNothingExposed (seat_market w) (stage (seat_market w) first xs (length xs))) (sym all) none)
+
+-- The first seats and the blocks of a chain.
+
+module _ {w : Written} (by : Measure) {first : Places} {rotations : List (List (ℕ × ℕ))} {needs : List (List ℕ)} (i : IsInstance w) (printed : IsPrintedChain (seat_market w) first rotations) (needed : AreNeeds (seat_market w) rotations needs) where
+  abbrev l : Lists
+  l = seat_market w
+
+  abbrev s : Seating
+  s = seating_of w
+
+  abbrev n : ℕ
+  n = length l.proposers
+
+  abbrev m : ℕ
+  m = length rotations
+
+  seating : IsSeating w s
+  seating = is_seating (sound_entries i)
+
+  market : IsMarket l
+  market = seating.market
+
+  matching : IsMatching l first
+  matching = printed.chain.from_best.stable.matching
+
+  -- the seats of a rotation are there
+  there : (k : ℕ) → All (λ (pair : ℕ × ℕ). pair.1 < length (seats_of w)) (rotation_at rotations k)
+  there k = seats_named s first rotations market seating.seats printed.chain k
+
+  abbrev gain_at : ℕ → LineData
+  gain_at k = LineData.Gain (k + 1) (gain_of_pairs by w (pairs_of (seated_rotation s (rotation_at rotations k))))
+
+  module _ (k : ℕ) (less : k < m) (above : List LineData) where
+    stage_is : stage l first (take k rotations) (length (take k rotations)) ≡ stage l first rotations k
+    stage_is = ap (stage l first (take k rotations)) (length-take-le k rotations (omega (arith, less))) ∙ same_stage l first rotations k k (omega arith)
+
+    rotation_holds : Early w first (in_blocks rotations needs k k) above → (why : Reason) → C w by above (rotation_line s rotations k) why
+    rotation_holds said why =
+        let x = rotation_line s rotations k in
+        let lowest : IsLowestExposed l (stage l first (take k rotations) (length (take k rotations))) (rotation_at rotations k) =
+        subst (λ (f : Places). IsLowestExposed l f (rotation_at rotations k)) (sym stage_is) (printed.lowest k less) in
+        let numbered = subst (IsLowestExposed l (stage l first (take k rotations) (length (take k rotations)))) (sym (all_numbered-seated w (rotation_at rotations k) (there k))) lowest in (
+          firsts_hold w above x tt (λ _. best_above printed.chain (in_blocks rotations needs k k) above said.0) why,
+          chain_holds w by above x
+              (told w first (λ f d. IsLowestExposed l (stage l f d.rotations (length d.rotations)) (all_numbered w (seated_rotation s (rotation_at rotations k)))) (in_blocks rotations needs k k) above said.0 numbered)
+              (λ b. no_end b.behind) tt why,
+          flows_hold w by above x tt tt tt tt tt tt tt tt why,
+          taken_holds w by above x tt (λ e. no_end e) why,
+          wanted_holds w by above x (tt, λ e. no_end e) why,
+        )
+
+    rotation_said : Early w first (in_blocks rotations needs k k) above → Early w first (in_blocks rotations needs (k + 1) k) (above ++ rotation_line s rotations k ∷ [])
+    rotation_said said =
+        let more : take k rotations ++ all_numbered w (seated_rotation s (rotation_at rotations k)) ∷ [] ≡ take (k + 1) rotations =
+        ap (λ x. take k rotations ++ x ∷ []) (all_numbered-seated w (rotation_at rotations k) (there k)) ∙ sym (take_more rotations k [] less) in
+        early_as w first (with_line w (in_blocks rotations needs k k) (rotation_line s rotations k)) (in_blocks rotations needs (k + 1) k) (above ++ rotation_line s rotations k ∷ [])
+        (λ i. record { rotations = more i; needs = take k needs; flows = []; taken = []; values = [] })
+        (early_more w first (in_blocks rotations needs k k) above (rotation_line s rotations k) refl refl said)
+
+    last_is : length (take (k + 1) rotations) - 1 ≡ k
+    last_is = omega (arith, length-take-le (k + 1) rotations (omega (arith, less)))
+
+    needs_hold : Early w first (in_blocks rotations needs (k + 1) k) above → (why : Reason) → C w by above (needs_line needs k) why
+    needs_hold said why =
+        let x = needs_line needs k in
+        let xs = take (k + 1) rotations in
+        let all = needs_of_front l first rotations (k + 1) market printed.chain (omega (arith, less)) k (row needs k) (omega arith) (needed.each k less) in
+        let of_last : AreNeedsOf l xs (length xs - 1) (map pred (numbers_of (row needs k))) =
+        subst (λ j. AreNeedsOf l xs j (map pred (numbers_of (row needs k)))) (sym last_is) (subst (AreNeedsOf l xs k) (sym (numbers_back (row needs k))) all) in (
+          firsts_hold w above x tt (λ _. best_above printed.chain (in_blocks rotations needs (k + 1) k) above said.0) why,
+          chain_holds w by above x tt (λ b. no_end b.behind)
+              (told w first (λ f d. AreNeedsOf l d.rotations (length d.rotations - 1) (map pred (numbers_of (row needs k)))) (in_blocks rotations needs (k + 1) k) above said.0 of_last) why,
+          flows_hold w by above x tt tt tt tt tt tt tt tt why,
+          taken_holds w by above x tt (λ e. no_end e) why,
+          wanted_holds w by above x (tt, λ e. no_end e) why,
+        )
+
+    needs_said : Early w first (in_blocks rotations needs (k + 1) k) above → Early w first (in_blocks rotations needs (k + 1) (k + 1)) (above ++ needs_line needs k ∷ [])
+    needs_said said =
+        let more : take k needs ++ map pred (numbers_of (row needs k)) ∷ [] ≡ take (k + 1) needs =
+        ap (λ x. take k needs ++ x ∷ []) (numbers_back (row needs k)) ∙ sym (take_more needs k [] (omega (arith, less, needed.one_each))) in
+        early_as w first (with_line w (in_blocks rotations needs (k + 1) k) (needs_line needs k)) (in_blocks rotations needs (k + 1) (k + 1)) (above ++ needs_line needs k ∷ [])
+        (λ i. record { rotations = take (k + 1) rotations; needs = more i; flows = []; taken = []; values = [] })
+        (early_more w first (in_blocks rotations needs (k + 1) k) above (needs_line needs k) refl refl said)
+
+    gain_holds : Early w first (in_blocks rotations needs (k + 1) (k + 1)) above → (why : Reason) → C w by above (gain_at k) why
+    gain_holds said why =
+        let x = gain_at k in
+        let gain = gain_of_pairs by w (pairs_of (seated_rotation s (rotation_at rotations k))) in
+        let gained : List (ℕ × ℕ) → ℤ = gain_of l (weights_of by w s) in
+        let right : gain ≡ gained (rotation_at (take (k + 1) rotations) (length (take (k + 1) rotations) - 1)) =
+        sym (gain_shown seating by printed.chain k less) ∙ ap gained (sym (ap (rotation_at (take (k + 1) rotations)) last_is ∙ same_rotation l first rotations (k + 1) k (omega arith))) in (
+          firsts_hold w above x tt (λ _. best_above printed.chain (in_blocks rotations needs (k + 1) (k + 1)) above said.0) why,
+          chain_holds w by above x tt (λ b. no_end b.behind) tt why,
+          flows_hold w by above x (told w first (λ f d. gain ≡ gained (rotation_at d.rotations (length d.rotations - 1))) (in_blocks rotations needs (k + 1) (k + 1)) above said.0 right) tt tt tt tt tt tt tt why,
+          taken_holds w by above x tt (λ e. no_end e) why,
+          wanted_holds w by above x (tt, λ e. no_end e) why,
+        )
+
+    gain_said : Early w first (in_blocks rotations needs (k + 1) (k + 1)) above → Early w first (in_blocks rotations needs (k + 1) (k + 1)) (above ++ gain_at k ∷ [])
+    gain_said said = early_more w first (in_blocks rotations needs (k + 1) (k + 1)) above (gain_at k) refl refl said
+
+  block_step : (k : ℕ) (above : List LineData) → k < m → Early w first (in_blocks rotations needs k k) above → Held (C w by) (Early w first (in_blocks rotations needs (k + 1) (k + 1))) above (three_lines by w rotations needs k)
+  block_step k above less said =
+      let one = above ++ rotation_line s rotations k ∷ [] in
+      let two = one ++ needs_line needs k ∷ [] in
+      let said_one = rotation_said k less above said in
+      let said_two = needs_said k less one said_one in
+      let same : two ++ gain_at k ∷ [] ≡ above ++ three_lines by w rotations needs k =
+      append_assoc one (needs_line needs k ∷ []) (gain_at k ∷ []) ∙ append_assoc above (rotation_line s rotations k ∷ []) (needs_line needs k ∷ gain_at k ∷ []) in (
+        (rotation_holds k less above said, (needs_hold k less one said_one, (gain_holds k less two said_two, tt))),
+        subst (Early w first (in_blocks rotations needs (k + 1) (k + 1))) same (gain_said k less two said_two),
+      )
+
+  abbrev head : LineData
+  head = LineData.Answer (HeadData.Weight by)
+
+  abbrev firsts : List LineData
+  firsts = lines_from (seat_line Proposers s first) 0 n
+
+  abbrev blocks : List LineData
+  blocks = flat_map (three_lines by w rotations needs) (range_with_len 0 m)
+
+  -- before the first seats and among them nothing else is said
+  abbrev NothingElse : List LineData → Type 0
+  NothingElse above = (said_in w above ≡ in_blocks rotations needs 0 0) × (pairs_in above ≡ [])
+
+  -- all clauses hold at the first seats
+  pub firsts_are : Held (C w by) (SeatsAbove l first (first_in w) NothingElse n) (head ∷ []) firsts
+  firsts_are =
+      seats_hold w first market matching Proposers (seat_line Proposers s first) (λ p less. refl) (C w by) (first_in w) (λ p seat. refl) NothingElse
+      (λ above p seat k. (said_one w above (LineData.First p seat) ∙ ap (λ (d : Said). with_line w d (LineData.First p seat)) k.0, said_same pair_in above (LineData.First p seat) refl ∙ k.1))
+      (λ above p seat k free. first_holds w by above p seat free) (head ∷ []) refl (refl, refl)
+
+  -- all clauses hold at the blocks behind them
+  pub blocks_are : Held (C w by) (Early w first (in_blocks rotations needs m m)) (head ∷ firsts) blocks
+  blocks_are =
+      let k = firsts_are.1 in
+      blocks_hold (C w by) (λ k. Early w first (in_blocks rotations needs k k)) (three_lines by w rotations needs) m block_step 0 m (head ∷ firsts) (omega arith)
+      (record { first_is = all_seated k.0 market matching; said_is = k.1.0 }, k.1.1)
+
+  -- Tests that they pass.
+
+  -- the first seats pass a test that each of them passes
+  pub firsts_pass : (test : LineData → Bool) → ((p k : ℕ) → k < length (seats_of w) → test (LineData.First p (seat_of s k)) ≡ true) → list_all test firsts ≡ true
+  firsts_pass test each = seats_pass w first market matching Proposers (seat_line Proposers s first) (λ p less. refl) test each
+
+  pub three_pass : (test : LineData → Bool) → ((k : ℕ) → test (rotation_line s rotations k) ≡ true) → ((k : ℕ) → test (needs_line needs k) ≡ true) → ((k : ℕ) → test (gain_at k) ≡ true) → list_all test blocks ≡ true
+  three_pass test a b c =
+      blocks_pass test (three_lines by w rotations needs)
+      (λ k. ap (λ t. t && (test (needs_line needs k) && (test (gain_at k) && true))) (a k) ∙ ap (λ t. t && (test (gain_at k) && true)) (b k) ∙ ap (λ t. t && true) (c k)) 0 m
+
+  -- the first seats are of their form
+  pub firsts_fit : list_all (fits (Two w)) firsts ≡ true
+  firsts_fit = firsts_pass (fits (Two w)) (λ p k less. ap (λ t. t && true) (is_seat_shown w k less))
+
+  -- the blocks are of their form
+  pub blocks_fit : list_all (fits (Two w)) blocks ≡ true
+  blocks_fit = three_pass (fits (Two w)) (λ k. pairs_fit w (rotation_at rotations k) (there k)) (λ k. refl) (λ k. refl)

@@ -1,0 +1,105 @@
+-- From names back to numbers.
+use Rattle.std.proofs.Common.{◌≡◌, ℕ, suc, ◌+◌, ◌<◌, ◌||◌, Bool, true, false, cond, List, [], ◌∷◌, length, map, get_or, refl, ap, ◌∙◌, arith, ℤ, pos}
+use Rattle.std.specs.List.{list_any}
+use Rattle.sm_instance.specs.Written.{AgentData, row, entry, weighed, names_of as names_in}
+use Rattle.sm_instance.specs.Sound.{AreSoundAgents, IsPairOf}
+use Rattle.sm_instance.specs.Named.{SaidAgent, SaidPair, SaidWeight, names_of}
+use Rattle.sm_reader.specs.InstanceText.{is_unknown, lines_with_unknown, pairs_with_unknown, number_in, numbered}
+use Rattle.sm_printed.specs.Names.{name_of, said_agent, said_pair, said_weight}
+use Rattle.sm_law_reprint.specs.Reading.{unlined}
+use Rattle.sm_law_reprint.proofs.SectionLemmas.{lined}
+use Rattle.sm_law_reprint.proofs.AgentLemmas.{on_line}
+use Rattle.sm_law_reprint.proofs.PairLemmas.{pair_on_line, weight_on_line}
+use Rattle.sm_law_reprint.proofs.NameLemmas.{number_back, known_name, all_back, all_known}
+
+-- the names of agents that are read
+pub names_of-lined : (others agents : List AgentData) (n : ℕ) → names_of (lined on_line n (map (said_agent others) agents)) ≡ names_in agents
+names_of-lined others [] n = refl
+names_of-lined others (a ∷ agents) n = ap (λ t. a.name ∷ t) (names_of-lined others agents (n + 1))
+
+-- agents who list others
+module _ (others : List AgentData) (theirs : Bool) (them : AreSoundAgents others theirs) (names : List (List ℕ)) (are : names ≡ names_in others) where
+  none_marked : (t : Bool) (n : ℕ) (lines : List ℕ) → t ≡ false → lines ≡ [] → cond t (n ∷ lines) lines ≡ []
+  none_marked true n lines h none = absurd cc
+  none_marked false n lines h none = none
+
+  map_cond : (t : Bool) (x : SaidAgent) (xs : List SaidAgent) → map (λ (a : SaidAgent). a.line) (cond t (x ∷ xs) xs) ≡ cond t (x.line ∷ map (λ (a : SaidAgent). a.line) xs) (map (λ (a : SaidAgent). a.line) xs)
+  map_cond true x xs = refl
+  map_cond false x xs = refl
+
+  -- none of them lists an unknown one
+  pub agents_known : (agents : List AgentData) (n : ℕ) → ((a i : ℕ) → i < length (row agents a) → entry agents a i < length others)
+      → lines_with_unknown names (lined on_line n (map (said_agent others) agents)) ≡ []
+  agents_known [] n listed = refl
+  agents_known (a ∷ agents) n listed =
+      let known = all_known others theirs them names are a.entries (listed 0) in
+      map_cond (list_any (is_unknown names) (map (name_of others) a.entries)) (on_line n (said_agent others a)) _
+      ∙ none_marked (list_any (is_unknown names) (map (name_of others) a.entries)) n _ known (agents_known agents (n + 1) (λ b i on. listed (suc b) i on))
+
+  -- and they are the same again
+  pub agents_back : (agents : List AgentData) (n : ℕ) → ((a i : ℕ) → i < length (row agents a) → entry agents a i < length others)
+      → map unlined (map (numbered names) (lined on_line n (map (said_agent others) agents))) ≡ map unlined agents
+  agents_back [] n listed = refl
+  agents_back (a ∷ agents) n listed =
+      let same : AgentData → List ℕ → AgentData = λ x entries. record { name = x.name; capacity = x.capacity; line = 0; entries = entries } in
+      ap (λ entries. same a entries ∷ map unlined (map (numbered names) (lined on_line (n + 1) (map (said_agent others) agents)))) (all_back others theirs them names are a.entries (listed 0))
+      ∙ ap (λ t. unlined a ∷ t) (agents_back agents (n + 1) (λ b i on. listed (suc b) i on))
+
+-- pairs of proposers and reviewers
+module _ (lefts rights : List AgentData) (one two : Bool) (us : AreSoundAgents lefts one) (them : AreSoundAgents rights two)
+    (ps rs : List (List ℕ)) (ours : ps ≡ names_in lefts) (theirs : rs ≡ names_in rights) where
+  abbrev Is : ℕ × ℕ → Type 0
+  Is = IsPairOf (length lefts) (length rights)
+
+  abbrev marks : SaidPair → Bool
+  marks x = is_unknown ps x.proposer || is_unknown rs x.reviewer
+
+  known_pair : (pair : ℕ × ℕ) → Is pair → marks (said_pair lefts rights pair) ≡ false
+  known_pair pair there =
+      ap (λ t. t || is_unknown rs (name_of rights pair.1)) (known_name lefts one us ps ours pair.0 there.proposer) ∙ known_name rights two them rs theirs pair.1 there.reviewer
+
+  abbrev numbers : SaidPair → ℕ × ℕ
+  numbers x = (number_in ps x.proposer, number_in rs x.reviewer)
+
+  pair_back : (pair : ℕ × ℕ) → Is pair → numbers (said_pair lefts rights pair) ≡ pair
+  pair_back pair there = let first = number_back lefts one us ps ours pair.0 there.proposer in let second = number_back rights two them rs theirs pair.1 there.reviewer in joined first second
+    where
+      joined : {a b c d : ℕ} → a ≡ c → b ≡ d → let x : ℕ × ℕ = (a, b) in let y : ℕ × ℕ = (c, d) in x ≡ y
+      joined e f = cc
+
+  none_marked_pair : (t : Bool) (x : SaidPair) (xs : List SaidPair) → t ≡ false → map (λ (x : SaidPair). x.line) xs ≡ [] → map (λ (x : SaidPair). x.line) (cond t (x ∷ xs) xs) ≡ []
+  none_marked_pair true x xs h none = absurd cc
+  none_marked_pair false x xs h none = none
+
+  -- no pair names an unknown agent
+  pub pairs_known : (pairs : List (ℕ × ℕ)) (n : ℕ) → ((k : ℕ) → k < length pairs → IsPairOf (length lefts) (length rights) (get_or pairs k (0, 0)))
+      → pairs_with_unknown ps rs (lined pair_on_line n (map (said_pair lefts rights) pairs)) ≡ []
+  pairs_known [] n there = refl
+  pairs_known (pair ∷ pairs) n there =
+      none_marked_pair (marks (said_pair lefts rights pair)) (pair_on_line n (said_pair lefts rights pair)) _ (known_pair pair (there 0 (omega arith)))
+      (pairs_known pairs (n + 1) (λ k inside. there (suc k) (omega arith)))
+
+  -- and the pairs of numbers are the same again
+  pub pairs_back : (pairs : List (ℕ × ℕ)) (n : ℕ) → ((k : ℕ) → k < length pairs → IsPairOf (length lefts) (length rights) (get_or pairs k (0, 0)))
+      → map (λ (x : SaidPair). (number_in ps x.proposer, number_in rs x.reviewer)) (lined pair_on_line n (map (said_pair lefts rights) pairs)) ≡ pairs
+  pairs_back [] n there = refl
+  pairs_back (pair ∷ pairs) n there =
+      ap (λ x. x ∷ map numbers (lined pair_on_line (n + 1) (map (said_pair lefts rights) pairs))) (pair_back pair (there 0 (omega arith)))
+      ∙ ap (λ t. pair ∷ t) (pairs_back pairs (n + 1) (λ k inside. there (suc k) (omega arith)))
+
+  -- no weight names an unknown agent
+  pub weights_known : (weights : List (ℕ × ℕ × ℤ)) (n : ℕ) → ((k : ℕ) → k < length weights → IsPairOf (length lefts) (length rights) (weighed (get_or weights k (0, 0, pos 0))))
+      → pairs_with_unknown ps rs (map (λ (w : SaidWeight). w.pair) (lined weight_on_line n (map (said_weight lefts rights) weights))) ≡ []
+  weights_known [] n there = refl
+  weights_known (x ∷ weights) n there =
+      none_marked_pair (marks (said_pair lefts rights (weighed x))) (pair_on_line n (said_pair lefts rights (weighed x))) _ (known_pair (weighed x) (there 0 (omega arith)))
+      (weights_known weights (n + 1) (λ k inside. there (suc k) (omega arith)))
+
+  -- and the weights are the same again
+  pub weights_back : (weights : List (ℕ × ℕ × ℤ)) (n : ℕ) → ((k : ℕ) → k < length weights → IsPairOf (length lefts) (length rights) (weighed (get_or weights k (0, 0, pos 0))))
+      → map (λ (w : SaidWeight). (number_in ps w.pair.proposer, number_in rs w.pair.reviewer, w.weight)) (lined weight_on_line n (map (said_weight lefts rights) weights)) ≡ weights
+  weights_back [] n there = refl
+  weights_back (x ∷ weights) n there =
+      ap (λ (y : ℕ × ℕ). (y.0, y.1, x.2) ∷ map (λ (w : SaidWeight). (number_in ps w.pair.proposer, number_in rs w.pair.reviewer, w.weight)) (lined weight_on_line (n + 1) (map (said_weight lefts rights) weights)))
+      (pair_back (weighed x) (there 0 (omega arith)))
+      ∙ ap (λ t. x ∷ t) (weights_back weights (n + 1) (λ k inside. there (suc k) (omega arith)))

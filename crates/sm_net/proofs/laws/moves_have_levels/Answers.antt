@@ -1,5 +1,0 @@
-use Rattle.sm_net.proofs.MoveLemmas.{moves_have_levels}
-use Rattle.sm_net.proofs.laws.moves_have_levels.Goals as goal
-
-pub returns : goal.returns
-returns c = moves_have_levels

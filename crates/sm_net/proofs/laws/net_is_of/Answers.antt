@@ -1,5 +1,0 @@
-use Rattle.sm_net.proofs.NetOfLemmas.{net_is}
-use Rattle.sm_net.proofs.laws.net_is_of.Goals as goal
-
-pub returns : goal.returns
-returns c = net_is

@@ -1,8 +1,0 @@
-use Rattle.std.proofs.Common.{◌≡◌, ℕ, ◌++◌, take}
-use Rattle.std.specs.List.{flat_map}
-use Rattle.sm_net.specs.Spans.{AreNodesFor, forbidden_pairs}
-use Rattle.sm_net.proofs.spans.add_forbidden.Given as goal
-
-abbrev pub invariant-loop-p : goal.invariant-loop-p
-invariant-loop-p l = (entry exit : ℕ → ℕ → ℕ) → AreNodesFor l.keys entry l.entries → AreNodesFor l.keys exit l.exits
-    → l.bonds.items ≡ l.initial.bonds.items ++ flat_map (forbidden_pairs entry exit) (take l.p-index l.forbidden)

@@ -1,6 +1,0 @@
-use Rattle.std.proofs.Common.{refl}
-use Rattle.sm_net.proofs.NetWitness.{moves_are}
-use Rattle.sm_net.proofs.witnesses.worked_moves.Goals as goal
-
-pub returns : goal.returns
-returns c = (moves_are, refl, refl, refl, refl, refl)

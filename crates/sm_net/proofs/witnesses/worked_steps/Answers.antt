@@ -1,5 +1,0 @@
-use Rattle.std.proofs.Common.{refl}
-use Rattle.sm_net.proofs.witnesses.worked_steps.Goals as goal
-
-pub returns : goal.returns
-returns c = (refl, refl)

@@ -1,5 +1,0 @@
-use Rattle.sm_reprint.proofs.ReprintLemmas.{printed_is_read}
-use Rattle.sm_reprint.proofs.laws.printed_is_read.Goals as goal
-
-pub returns : goal.returns
-returns c = printed_is_read

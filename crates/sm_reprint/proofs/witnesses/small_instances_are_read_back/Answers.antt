@@ -1,5 +1,0 @@
-use Rattle.sm_reprint.proofs.WitnessLemmas.{read_back}
-use Rattle.sm_reprint.proofs.witnesses.small_instances_are_read_back.Goals as goal
-
-pub returns : goal.returns
-returns c = record { marriage = read_back.0; hospitals = read_back.1; roommates = read_back.2 }

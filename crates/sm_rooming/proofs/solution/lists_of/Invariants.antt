@@ -1,9 +1,0 @@
-use Rattle.std.proofs.Common.{◌≡◌, take}
-use Rattle.sm_lists.specs.Rows.{rows_of}
-use Rattle.sm_instance.specs.Written.{lists_of}
-use Rattle.sm_instance.specs.Vectors.{agents_of}
-use Rattle.sm_rooming.proofs.solution.lists_of.Given as goal
-
--- the lists so far
-abbrev pub invariant-loop-person : goal.invariant-loop-person
-invariant-loop-person l = rows_of l.lists.items ≡ lists_of (agents_of (take l.person-index l.persons))

@@ -1,5 +1,0 @@
-use Rattle.std.proofs.Common.{refl}
-use Rattle.sm_rooming.proofs.witnesses.couples.Goals as goal
-
-pub returns : goal.returns
-returns c = refl

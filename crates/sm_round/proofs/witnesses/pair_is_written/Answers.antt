@@ -1,5 +1,0 @@
-use Rattle.sm_round.proofs.WitnessLemmas.{pair_is_written}
-use Rattle.sm_round.proofs.witnesses.pair_is_written.Goals as goal
-
-pub returns : goal.returns
-returns c = pair_is_written

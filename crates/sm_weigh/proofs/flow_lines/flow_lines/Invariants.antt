@@ -1,9 +1,0 @@
-use Rattle.std.proofs.Common.{◌≡◌, map, take}
-use Rattle.sm_report.specs.Lines.{line_of}
-use Rattle.sm_judge.specs.Flows.{on_nodes}
-use Rattle.sm_judge.specs.Said.{flows_in}
-use Rattle.sm_weigh.proofs.flow_lines.flow_lines.Given as goal
-
--- the lines of the flow so far
-abbrev pub invariant-loop-line : goal.invariant-loop-line
-invariant-loop-line l = l.flow.items ≡ map (on_nodes l.size) (flows_in (map line_of (take l.line-index l.lines)))
