@@ -18,5 +18,6 @@ pub mod ReadingLemmas
 pub mod RightLemmas
 pub mod FullLemmas
 pub mod SoundLemmas
+pub mod SoundTextLemmas
 pub mod MasterLemmas
 pub mod WitnessLemmas
