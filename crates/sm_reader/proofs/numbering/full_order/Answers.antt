@@ -10,7 +10,7 @@ numbers-preserved c =
     let test = list_any (λ (m : ℕ). eqb m n) first in
     let others = filter (λ (k : ℕ). not (list_any (λ (m : ℕ). eqb m k) first)) (range_with_len 0 n) in
     c.in_ok-push_other.ensures
-    ∙ ap (λ xs. xs ++ cond c.index.result [] (n ∷ [])) c.numbers.invariant
+    ∙ ap (λ xs. xs ++ cond c.index.result.now [] (n ∷ [])) c.numbers.invariant
     ∙ ap (λ t. (first ++ others) ++ cond t [] (n ∷ [])) (c.index.ensures ∙ c.in_ok-is_first.ensures.marked n c.numbers-test.true)
     ∙ append_assoc first others (cond test [] (n ∷ []))
     ∙ ap (λ xs. first ++ (others ++ xs)) (unless test n)
