@@ -1,9 +1,8 @@
-use Rattle.std.proofs.Common.{◌≡◌, ℕ, List, length, map, sym, subst, ap}
-use Rattle.std.proofs.lemmas.List.{length-map}
+use Rattle.std.proofs.Common.{ℕ, List, sym, subst}
 use Rattle.std.specs.Borrow.{Bor}
 use Rattle.std.specs.Option.{option_map}
 use Rattle.std.specs.Result.{IfOk, IfErr}
-use Rattle.sm_reader.specs.Forms.{declares, uses, shares, orders, weighs, binds}
+use Rattle.sm_reader.specs.Forms.{uses, orders, weighs, binds}
 use Rattle.sm_reader.specs.Judging.{fault_of}
 use Rattle.sm_reader.specs.Kept.{AreNamesAtEnd}
 use Rattle.sm_text.specs.Slices.{texts_of}

@@ -1,4 +1,4 @@
-use Rattle.std.proofs.Common.{◌≡◌, ℕ, ◌∙◌, refl, arith}
+use Rattle.std.proofs.Common.{◌∙◌, refl, arith}
 use Rattle.sm_reader.proofs.FullLemmas.{marks_none, marks_more, marks_end}
 use Rattle.sm_reader.proofs.numbering.mark_all.Goals as goal
 
