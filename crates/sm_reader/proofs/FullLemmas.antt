@@ -1,12 +1,12 @@
 -- The full order of some numbers that come first.
-use Rattle.std.proofs.Common.{◌≡◌, ◌≢◌, ℕ, zero, suc, ◌+◌, ◌-◌, ◌<◌, ◌≤◌, ◌||◌, eqb, Bool, true, false, not, cond, List, [], ◌∷◌, ◌++◌, length, filter, get_or, set, refl, sym, ap, ◌∙◌, subst, inl, inr, arith, All, AllPairs, Contains}
+use Rattle.std.proofs.Common.{◌≡◌, ◌≢◌, ℕ, zero, suc, ◌+◌, ◌-◌, ◌<◌, ◌≤◌, ◌||◌, eqb, Bool, true, false, not, cond, List, [], ◌∷◌, ◌++◌, length, filter, get_or, set, take, refl, sym, ap, ◌∙◌, subst, inl, inr, arith, All, AllPairs}
 use Rattle.std.specs.List.{list_any, range_with_len}
 use Rattle.std.proofs.lemmas.Bool.{false≢true, cases_lt, eqb-true}
 use Rattle.std.proofs.lemmas.Bool.Decides.{nat_tests}
-use Rattle.std.proofs.lemmas.List.{length-append, map-id, get_or-set_same, get_or-set_other}
+use Rattle.std.proofs.lemmas.List.{length-append, map-id, get_or-set_same, get_or-set_other, take_more, take_all}
 use Rattle.sm_reader.proofs.TableLemmas.{cases_eq}
-use Rattle.std.proofs.lemmas.List.Elements.{All-filter, filter_passes, All-get_or}
-use Rattle.std.proofs.lemmas.List.Folds.{list_any_at}
+use Rattle.std.proofs.lemmas.List.Elements.{All-filter, filter_passes}
+use Rattle.std.proofs.lemmas.List.Folds.{list_any_at, list_any-append}
 use Rattle.std.proofs.lemmas.List.FromFn.{length-range_with_len, get_or-range_with_len, filter_of_map_range_with_len_more}
 use Rattle.std.proofs.lemmas.List.Kept.{AllPairs-filter}
 use Rattle.std.proofs.Math.ListN.{get_or-append}
@@ -52,6 +52,31 @@ unmarked_still marks number n past below = sym (or_false (get_or marks n false) 
     or_false true t h = refl
     or_false false t h = h
 
+-- no number is marked before the first
+pub marks_none : (old : Bool) → old ≡ (old || false)
+marks_none true = refl
+marks_none false = refl
+
+-- one more number is
+pub marks_more : (old now : Bool) (xs : List ℕ) (i n : ℕ) → i < length xs → now ≡ (old || list_any (λ (m : ℕ). eqb m n) (take i xs))
+    → (now || eqb (get_or xs i 0) n) ≡ (old || list_any (λ (m : ℕ). eqb m n) (take (i + 1) xs))
+marks_more old now xs i n inside before =
+    let some = list_any (λ (m : ℕ). eqb m n) (take i xs) in
+    let one = eqb (get_or xs i 0) n in
+    let next : list_any (λ (m : ℕ). eqb m n) (take (i + 1) xs) ≡ (some || (one || false)) =
+    ap (list_any (λ (m : ℕ). eqb m n)) (take_more xs i 0 inside) ∙ list_any-append (λ (m : ℕ). eqb m n) (take i xs) (get_or xs i 0 ∷ []) in
+    ap (λ t. t || one) before ∙ either old some one ∙ ap (λ t. old || t) (sym next)
+  where
+    either : (a b d : Bool) → ((a || b) || d) ≡ (a || (b || (d || false)))
+    either true b d = refl
+    either false true d = refl
+    either false false true = refl
+    either false false false = refl
+
+-- and behind the last all are
+pub marks_end : (old : Bool) (xs : List ℕ) (i n : ℕ) → length xs ≤ i → (old || list_any (λ (m : ℕ). eqb m n) (take i xs)) ≡ (old || list_any (λ (m : ℕ). eqb m n) xs)
+marks_end old xs i n past = ap (λ (ys : List ℕ). old || list_any (λ (m : ℕ). eqb m n) ys) (take_all i xs past)
+
 -- what passes is kept
 kept : (p : ℕ → Bool) (xs : List ℕ) (x j : ℕ) → p x ≡ true → j < length xs → get_or xs j 0 ≡ x → (k : ℕ) × (k < length (filter p xs)) × (get_or (filter p xs) k 0 ≡ x)
 kept p [] x j passes below here = absurd (omega arith)
@@ -67,11 +92,13 @@ kept p (y ∷ ys) x (suc j) passes below here = by_test (p y) (kept p ys x j pas
 -- a number is among some or it isn't, and is where the test says so
 among : (xs : List ℕ) (x : ℕ) → list_any (λ (y : ℕ). eqb y x) xs ≡ true → (k : ℕ) × (k < length xs) × (get_or xs k 0 ≡ x)
 among [] x h = absurd (false≢true h)
-among (y ∷ ys) x h = by_test (eqb y x) refl h
+among (y ∷ ys) x h = by_test (eqb y x) refl h (among ys x)
   where
-    by_test : (t : Bool) → eqb y x ≡ t → (t || list_any (λ (z : ℕ). eqb z x) ys) ≡ true → (k : ℕ) × (k < length (y ∷ ys)) × (get_or (y ∷ ys) k 0 ≡ x)
-    by_test true e k = (0, omega arith, eqb-true y x e)
-    by_test false e k = let w = among ys x k in (suc w.0, omega (arith, w.1), w.2)
+    by_test : (t : Bool) → eqb y x ≡ t → (t || list_any (λ (z : ℕ). eqb z x) ys) ≡ true
+        → (list_any (λ (z : ℕ). eqb z x) ys ≡ true → (k : ℕ) × (k < length ys) × (get_or ys k 0 ≡ x))
+        → (k : ℕ) × (k < length (y ∷ ys)) × (get_or (y ∷ ys) k 0 ≡ x)
+    by_test true e k behind = (0, omega arith, eqb-true y x e)
+    by_test false e k behind = let w = behind k in (suc w.0, omega (arith, w.1), w.2)
 
 not_false : (t : Bool) → not t ≡ true → t ≡ false
 not_false true h = absurd (false≢true h)

@@ -1,5 +1,5 @@
 -- What the lines of master lists and of an order add to a draft.
-use Rattle.std.proofs.Common.{◌≡◌, ℕ, zero, suc, ◌+◌, ◌-◌, ◌<◌, ◌≤◌, ◌||◌, ◌&&◌, not, Bool, true, false, cond, List, [], ◌∷◌, ◌++◌, length, map, get_or, position, Option, Some, None, is_some, unwrap_or, refl, sym, ap, ◌∙◌, subst, arith, All, Vec, nat_lt}
+use Rattle.std.proofs.Common.{◌≡◌, ℕ, suc, ◌+◌, ◌-◌, ◌<◌, ◌≤◌, ◌||◌, ◌&&◌, not, Bool, true, false, cond, List, [], ◌∷◌, ◌++◌, length, map, get_or, position, Option, Some, None, is_some, unwrap_or, refl, sym, ap, ◌∙◌, subst, arith, All, Vec, nat_lt}
 use Rattle.std.specs.Borrow.{Bor}
 use Rattle.std.specs.List.{list_any, list_all, position_or_len}
 use Rattle.std.specs.Option.{option_or, option_map}
@@ -21,8 +21,8 @@ use Rattle.sm_instance.specs.declared.kinds.Side.TheVariants.{Proposers, Reviewe
 use Rattle.sm_instance.specs.Named.{Said, SaidMaster, SaidOrder, entries_of, entries_of_masters, master_names, entries_named, all_entries}
 use Rattle.sm_reader.specs.Forms.{declares, uses, shares, orders}
 use Rattle.sm_reader.specs.Judging.{has_repeated, fault_of, said_with, with_agent, agent_of}
-use Rattle.sm_reader.specs.Kept.{Table, text_at, Extends, AreBelow, AreNamesAtEnd}
-use Rattle.sm_reader.specs.Draft.{agent_in, listed_table, master_in, order_of, said_of, HasNames, AreMastersNamed, IsMaster, IsDraft, AddsForm, AreRunsRight, IsLineFault, RefusesFor, run_fault, master_fault, order_fault, ListsOn, DeclaresMaster, PutsMaster, PutsOrder, pairs_of}
+use Rattle.sm_reader.specs.Kept.{Table, AreBelow, AreNamesAtEnd}
+use Rattle.sm_reader.specs.Draft.{agent_in, listed_table, master_in, order_of, said_of, HasNames, AreMastersNamed, IsMaster, IsDraft, AddsForm, IsLineFault, RefusesFor, run_fault, master_fault, order_fault, ListsOn, DeclaresMaster, PutsMaster, PutsOrder}
 use Rattle.sm_reader.specs.declared.draft.Draft.{Draft}
 use Rattle.sm_reader.specs.declared.draft.Master.{Master}
 use Rattle.sm_reader.specs.declared.draft.Order.{Order}
@@ -31,7 +31,7 @@ use Rattle.sm_reader.specs.declared.faults.TextFault.TheVariants.{Refused, OutOf
 use Rattle.sm_reader.proofs.TextLemmas.{position-some, position-none}
 use Rattle.sm_reader.proofs.ListingLemmas.{extends_long}
 use Rattle.sm_reader.proofs.NameLemmas.{names_from}
-use Rattle.sm_reader.proofs.DraftLemmas.{agents_kept, agents_below_more, weights_kept, pairs_kept, order_kept, said_same}
+use Rattle.sm_reader.proofs.DraftLemmas.{agents_kept, agents_below_more}
 use Rattle.sm_reader.proofs.JudgeLemmas.{fault_of-uses, fault_of-no_master, fault_of-shares, fault_of-orders}
 use Rattle.sm_reader.proofs.AddLemmas.{Grown, listed_now, said_with_agents, draft_with_agents}
 

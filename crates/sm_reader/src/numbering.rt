@@ -380,10 +380,19 @@ fn marked(alloc: Global, count: usize, numbers: &[u32]) -> Result<Vec<bool>, All
         → slice_index_or v.items n false ≡ list_any (λ m. m == n) numbers.now) }
 {
     let mut marks = vec![in alloc; false; count]?;
-    'numbers: for number in numbers {
-        mark(marks.as_mut_slice(), *number);
-    }
+    mark_all(&mut marks, numbers);
     Ok(marks)
+}
+
+/// Marks numbers, where they have a mark.
+fn mark_all(marks: &mut [bool], numbers: &[u32])
+    ensures each { length marks.new ≡ length marks.old }
+    ensures marked { (n : ℕ) → n < length marks.old → slice_index_or marks.new n false
+        ≡ (slice_index_or marks.old n false || list_any (λ m. m == n) numbers.now) }
+{
+    'numbers: for number in numbers {
+        mark(marks, *number);
+    }
 }
 
 /// Marks a number, where it has a mark.

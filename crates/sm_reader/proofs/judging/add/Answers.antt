@@ -1,13 +1,12 @@
-use Rattle.std.proofs.Common.{◌≡◌, ℕ, List, length, map, sym, subst, ap}
-use Rattle.std.proofs.lemmas.List.{length-map}
+use Rattle.std.proofs.Common.{ℕ, List, sym, subst}
 use Rattle.std.specs.Borrow.{Bor}
 use Rattle.std.specs.Option.{option_map}
 use Rattle.std.specs.Result.{IfOk, IfErr}
-use Rattle.sm_reader.specs.Forms.{declares, uses, shares, orders, weighs, binds}
+use Rattle.sm_reader.specs.Forms.{uses, orders, weighs, binds}
 use Rattle.sm_reader.specs.Judging.{fault_of}
 use Rattle.sm_reader.specs.Kept.{AreNamesAtEnd}
 use Rattle.sm_text.specs.Slices.{texts_of}
-use Rattle.sm_reader.specs.Draft.{said_of, form_of, entries_in, AddsForm, IsLineFault}
+use Rattle.sm_reader.specs.Draft.{said_of, form_of, entries_in, IsMaster, AddsForm, IsLineFault}
 use Rattle.sm_reader.proofs.JudgeLemmas.{fault_of-weighs}
 use Rattle.sm_reader.proofs.PairLemmas.{weight_added, condition_added, pair_refused}
 use Rattle.sm_reader.proofs.MasterLemmas.{uses_added, uses_refused, no_master_refused, order_added, order_refused}
@@ -43,12 +42,25 @@ pub returns-in_ok-entries-in-Use-clause-added : goal.returns-in_ok-entries-in-Us
 returns-in_ok-entries-in-Use-clause-added c =
     let a = c.in-Use in
     let d = c.args.draft.now in
-    let new = c.add_runs-in_ok-entries-in-Use.new.draft in
+    let new = c.add_runs-in-Use.new.draft in
     let capacity = option_map (λ (x : Bor (List ℕ)). x.now) a.capacity in
-    let entries = texts_of c.in_ok-entries-in-Use.entries.items in
-    subst (λ form. IfOk c.add_runs-in_ok-entries-in-Use.result (λ _. AddsForm c.args.kind c.args.line (form_of form) d new)) (sym a.is)
-    (if_ok _ (λ _. AddsForm c.args.kind c.args.line (uses a.side a.name.now capacity a.master.now) d new) c.add_runs-in_ok-entries-in-Use.result c.add_runs-in_ok-entries-in-Use.ensures.added
-    (λ _ adds. uses_added c.args.kind c.args.line d new a.side a.name.now capacity a.master.now entries c.in_ok-entries-in-Use.ensures.found adds))
+    let entries = texts_of c.deref.result.now in
+    let is = subst (λ (xs : List (Bor (List ℕ))). IsMaster d a.master.now (texts_of xs)) (sym c.deref.ensures.value) c.in_ok-entries-in-Use.ensures.found in
+    subst (λ form. IfOk c.add_runs-in-Use.result (λ _. AddsForm c.args.kind c.args.line (form_of form) d new)) (sym a.is)
+    (if_ok _ (λ _. AddsForm c.args.kind c.args.line (uses a.side a.name.now capacity a.master.now) d new) c.add_runs-in-Use.result c.add_runs-in-Use.ensures.added
+    (λ _ adds. uses_added c.args.kind c.args.line d new a.side a.name.now capacity a.master.now entries is adds))
+
+pub returns-in_ok-entries-in-Use-clause-fault : goal.returns-in_ok-entries-in-Use-clause-fault
+returns-in_ok-entries-in-Use-clause-fault c =
+    let a = c.in-Use in
+    let d = c.args.draft.now in
+    let said = said_of c.args.kind d in
+    let capacity = option_map (λ (x : Bor (List ℕ)). x.now) a.capacity in
+    let entries = texts_of c.deref.result.now in
+    let is = subst (λ (xs : List (Bor (List ℕ))). IsMaster d a.master.now (texts_of xs)) (sym c.deref.ensures.value) c.in_ok-entries-in-Use.ensures.found in
+    subst (λ form. IfErr c.add_runs-in-Use.result (λ f. IsLineFault (fault_of said (form_of form)) c.args.line f)) (sym a.is)
+    (if_err _ (λ f. IsLineFault (fault_of said (uses a.side a.name.now capacity a.master.now)) c.args.line f) c.add_runs-in-Use.result c.add_runs-in-Use.ensures.fault
+    (λ f h. uses_refused c.args.kind c.args.line d a.side a.name.now capacity a.master.now entries f is h))
 
 pub returns-in-Master-clause-added : goal.returns-in-Master-clause-added
 returns-in-Master-clause-added c =

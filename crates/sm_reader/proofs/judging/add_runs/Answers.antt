@@ -1,6 +1,4 @@
-use Rattle.std.proofs.Common.{◌≡◌}
 use Rattle.std.specs.Option.{option_map}
-use Rattle.std.specs.Result.{IfOk, IfErr}
 use Rattle.sm_reader.specs.Judging.{fault_of}
 use Rattle.sm_text.specs.Slices.{texts_of}
 use Rattle.sm_reader.specs.Draft.{said_of, runs_form, AddsForm, IsLineFault}

@@ -21,7 +21,7 @@ returns-then-not-branch-clause-fault c =
     let met : list_any (is_given_to p r) (weights_in d) ≡ true =
     sym (weight_met d c.pair_of.new.draft p r c.args.line c.in_ok-pair.pair paired c.requires.in_range c.requires.weighed)
     ∙ from_not_false _ (sym (rw c.make_ready.ensures.keys at c.in_ok-insert.ensures.added) ∙ c.if-not-branch.true) in
-    (weight_fault_is (weights_in d) p r c.args.weights.weight.now further c.in-Some.weight c.in-Some-2.second true paired.are_names (sym c.signed.ensures ∙ c.in-Some.is) (sym c.second_in.ensures ∙ c.in-Some-2.is) met, refl)
+    (weight_fault_is (weights_in d) p r c.args.weights.weight.now further c.in-Some.weight c.in-Some-second_in.second true paired.are_names (sym c.signed.ensures ∙ c.in-Some.is) (sym c.second_in.ensures ∙ c.in-Some-second_in.is) met, refl)
 
 pub returns-clause-put : goal.returns-clause-put
 returns-clause-put c =
@@ -35,12 +35,12 @@ returns-clause-put c =
     let met : list_any (is_given_to p r) (weights_in d) ≡ false = sym (weight_met d mid p r c.args.line pair paired c.requires.in_range c.requires.weighed) ∙ absent in
     let number : weight_in c.args.weights.weight.now ≡ Some c.in-Some.weight = sym c.signed.ensures ∙ c.in-Some.is in
     let further = option_map (λ (x : Bor (List ℕ)). x.now) c.args.weights.second in
-    let second : second_in further ≡ Some c.in-Some-2.second = sym c.second_in.ensures ∙ c.in-Some-2.is in
+    let second : second_in further ≡ Some c.in-Some-second_in.second = sym c.second_in.ensures ∙ c.in-Some-second_in.is in
     record {
       mid = mid;
-      added = record { pair = pair; weight = c.in-Some.weight; second = c.in-Some-2.second };
+      added = record { pair = pair; weight = c.in-Some.weight; second = c.in-Some-second_in.second };
       paired = paired;
-      faultless = weight_fault_is (weights_in d) p r c.args.weights.weight.now further c.in-Some.weight c.in-Some-2.second false paired.are_names number second met;
+      faultless = weight_fault_is (weights_in d) p r c.args.weights.weight.now further c.in-Some.weight c.in-Some-second_in.second false paired.are_names number second met;
       weight = number;
       second = second;
       weights = let items = c.in_ok-push.ensures.items in search rules;

@@ -1,12 +1,10 @@
-use Rattle.std.proofs.Common.{◌≡◌, ℕ, ◌<◌, ◌^◌, List, [], ◌∷◌, None, true, length, subst, ap, sym, ◌∙◌, refl, arith}
+use Rattle.std.proofs.Common.{length, ap, refl, arith}
 use Rattle.std.proofs.lemmas.List.{length-map}
-use Rattle.std.specs.Result.{IfOk, IfErr}
 use Rattle.sm_reader.specs.declared.draft.Master.{Master}
-use Rattle.sm_reader.specs.declared.draft.Draft.{Draft}
 use Rattle.sm_reader.specs.Forms.{shares}
 use Rattle.sm_reader.specs.Judging.{fault_of}
 use Rattle.sm_text.specs.Slices.{texts_of}
-use Rattle.sm_reader.specs.Draft.{said_of, AddsForm, IsLineFault, ListsOn}
+use Rattle.sm_reader.specs.Draft.{said_of, AddsForm, IsLineFault}
 use Rattle.sm_reader.proofs.MasterLemmas.{master_runs_refused, redeclared, repeated, too_many, limit_before, master_added, runs_are_names}
 use Rattle.sm_reader.proofs.ResultLemmas.{if_ok, if_err, on_err}
 use Rattle.sm_reader.proofs.masters.add_master.Goals as goal

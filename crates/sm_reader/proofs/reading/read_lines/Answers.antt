@@ -8,6 +8,7 @@ use Rattle.sm_text.specs.Slices.{texts_of}
 use Rattle.sm_reader.specs.Draft.{said_of, IsDraft, IsRefusedBy}
 use Rattle.sm_reader.specs.Reading.{IsFaultOf}
 use Rattle.sm_reader.specs.declared.draft.Draft.{Draft}
+use Rattle.sm_reader.specs.declared.faults.TextFault.TheVariants.{OutOfMemory}
 use Rattle.sm_reader.specs.Right.{IsRight}
 use Rattle.sm_reader.proofs.ReadingLemmas.{goes_step, stops_step, refuses_step, ended_ok, ended_err, same_fault}
 use Rattle.sm_reader.proofs.RightLemmas.{nothing_right, goes_right}
@@ -41,6 +42,12 @@ lines-preserved c =
       fits = omega (arith, c.lines.invariant.fits, c.in-Some.ensures.later);
       within = c.in-Some.ensures.within;
     }
+
+pub returns-in_err-found-clause-fault : goal.returns-in_err-found-clause-fault
+returns-in_err-found-clause-fault c =
+    let h = c.args.header in
+    let meaning = behind_header h.kind h.format h.line nothing (h.line + 1) h.next (lines (drop h.next c.args.bytes.now)) in
+    on_err (IsFaultOf meaning) c.from_residual-in_err-found.result OutOfMemory c.from_residual-in_err-found.ensures.1 tt
 
 pub returns-in_err-judge-clause-fault : goal.returns-in_err-judge-clause-fault
 returns-in_err-judge-clause-fault c =

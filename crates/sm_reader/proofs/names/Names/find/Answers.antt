@@ -1,4 +1,4 @@
-use Rattle.std.proofs.Common.{◌≡◌, ℕ, Option, Some, None, ap, ◌∙◌, sym, subst, position}
+use Rattle.std.proofs.Common.{◌≡◌, Some, None, ap, ◌∙◌, sym, subst, position}
 use Rattle.std.specs.Str.{bytes_eq}
 use Rattle.indexmap.specs.IndexSet.{keys}
 use Rattle.sm_reader.specs.Kept.{Table, table_from}
