@@ -1,5 +1,5 @@
 -- What a text means is sound.
-use Rattle.std.proofs.Common.{◌≡◌, ℕ, ◌+◌, Bool, true, false, true≢false, if◌then◌else◌, List, [], ◌∷◌, length, nat_lt, Option, Some, None, Result, Ok, Err, refl, ap, subst, tt}
+use Rattle.std.proofs.Common.{◌≡◌, ℕ, ◌+◌, Bool, true, false, true≢false, if◌then◌else◌, List, [], ◌∷◌, length, nat_lt, Option, Some, None, Result, Ok, Err, refl, ap, subst}
 use Rattle.std.specs.Option.{option_map_or}
 use Rattle.sm_text.specs.Limits.{most_bytes}
 use Rattle.sm_text.specs.Lines.{lines, content}
@@ -40,27 +40,28 @@ ended_sound kind header said rest rest_line right = by_lines (least (unknown_lin
 
 behind_sound : (kind : Kind) (format header : ℕ) (said : Said) (number place : ℕ) (left : List (List ℕ)) → IsRight kind said → IsSound (behind_header kind format header said number place left)
 behind_sound kind format header said number place [] right = tt
-behind_sound kind format header said number place (line ∷ rest) right = by_cases (verdict_on kind format said number (tokens (content line))) refl
+behind_sound kind format header said number place (line ∷ rest) right =
+    by_cases (λ more is. behind_sound kind format header more (number + 1) (place + length line) rest is) (verdict_on kind format said number (tokens (content line))) refl
   where
-    by_cases : (v : Verdict) → verdict_on kind format said number (tokens (content line)) ≡ v → IsSound (by_verdict v
+    by_cases : ((more : Said) → IsRight kind more → IsSound (behind_header kind format header more (number + 1) (place + length line) rest)) → (v : Verdict) → verdict_on kind format said number (tokens (content line)) ≡ v → IsSound (by_verdict v
         (λ more. behind_header kind format header more (number + 1) (place + length line) rest)
         (ended kind header said (place + length line) (number + 1))
         (λ fault. Err (fault, number)))
-    by_cases (goes more) is = behind_sound kind format header more (number + 1) (place + length line) rest (goes_right kind format said number (tokens (content line)) more right is)
-    by_cases stops is = ended_sound kind header said (place + length line) (number + 1) right
-    by_cases (refuses fault) is = tt
+    by_cases onward (goes more) is = onward more (goes_right kind format said number (tokens (content line)) more right is)
+    by_cases onward stops is = ended_sound kind header said (place + length line) (number + 1) right
+    by_cases onward (refuses fault) is = tt
 
 before_sound : (number place : ℕ) (left : List (List ℕ)) → IsSound (before_header number place left)
 before_sound number place [] = tt
-before_sound number place (line ∷ rest) = by_cases (heading_of (tokens (content line)))
+before_sound number place (line ∷ rest) = by_cases (before_sound (number + 1) (place + length line) rest) (heading_of (tokens (content line)))
   where
-    by_cases : (h : Heading) → IsSound (by_heading h
+    by_cases : IsSound (before_header (number + 1) (place + length line) rest) → (h : Heading) → IsSound (by_heading h
         (before_header (number + 1) (place + length line) rest)
         (λ kind format. behind_header kind format number nothing (number + 1) (place + length line) rest)
         (λ fault. Err (fault, number)))
-    by_cases passes = before_sound (number + 1) (place + length line) rest
-    by_cases (heads kind format) = behind_sound kind format number nothing (number + 1) (place + length line) rest (nothing_right kind)
-    by_cases (faces fault) = tt
+    by_cases onward passes = onward
+    by_cases onward (heads kind format) = behind_sound kind format number nothing (number + 1) (place + length line) rest (nothing_right kind)
+    by_cases onward (faces fault) = tt
 
 whole_sound : (text : List ℕ) → IsSound (instance_text text)
 unfolding instance_text
