@@ -14,6 +14,7 @@ use Rattle.sm_instance.specs.declared.kinds.Measure.{Measure}
 use Rattle.sm_instance.specs.declared.kinds.Side.{Side}
 use Rattle.sm_instance.specs.declared.kinds.Side.TheVariants.{Proposers}
 use Rattle.sm_reader.specs.InstanceText.{ReadText, Refusal, instance_text}
+use Rattle.sm_reader.proofs.SoundTextLemmas.{text_is_sound}
 use Rattle.sm_report.specs.Heads.{HeadData}
 use Rattle.sm_report.specs.Lines.{LineData}
 use Rattle.sm_report.specs.Sound.{IsHeadOf}
@@ -109,6 +110,10 @@ accepted_as : (job : JobData) (bytes : List ℕ) (x read : ReadText) → instanc
 accepted_as job bytes x read means ok =
     passed (after_end job bytes x) (wrong_kind job x) (too_many_seats x) x read refl (sym (ap (behind_text job bytes) means) ∙ ok)
 
+-- what the text of an instance means is sound
+sound_of : {text : List ℕ} {read : ReadText} → IsInstanceText text read → IsInput read.input
+sound_of {text} {read} t = text_is_sound text read t.means
+
 module _ (others : List Shown) (text : List ℕ) (read : ReadText) (t : IsInstanceText text read) where
   -- the text behind the instance is read after it
   read_on : (more : List ℕ) → length (text ++ more) ≤ most_bytes → instance_text (text ++ more) ≡ Ok read
@@ -121,7 +126,7 @@ module _ (others : List Shown) (text : List ℕ) (read : ReadText) (t : IsInstan
       → length (text ++ text_of lines) ≤ most_bytes → IsAnswer others Check (text ++ text_of lines) Done (map (text_of_line read.input) (verdict_lines verdict.Yes))
   checked answer few agrees lines are le =
       let judged = agrees read.rest_line in
-      let right = subst (λ (texts : List (List ℕ)). texts_from (text ++ text_of texts) (length text) ≡ texts) judged.answer.read (answer_behind read.input t.sound text judged.lines judged.answer.right) in
+      let right = subst (λ (texts : List (List ℕ)). texts_from (text ++ text_of texts) (length text) ≡ texts) judged.answer.read (answer_behind read.input (sound_of t) text judged.lines judged.answer.right) in
       let there : texts_from (text ++ text_of lines) read.rest ≡ map (text_of_line read.input) answer =
       ap (texts_from (text ++ text_of lines)) t.whole ∙ ap (λ (ls : List (List ℕ)). texts_from (text ++ text_of ls) (length text)) are ∙ right in
       record {
@@ -162,30 +167,30 @@ fits job bytes read ok = elim (lt_or_le most_bytes (length bytes)) [
 -- the law that what is written gets a yes
 pub written_is_checked : WrittenIsChecked
 written_is_checked tallies others (Solve side) text behind read status lines t taken a le =
-    over others text read t (Solve side) behind (λ r. IsSolved side r.input status) lines (λ answer few h. yes_on_solve side read.input status answer t.sound h)
+    over others text read t (Solve side) behind (λ r. IsSolved side r.input status) lines (λ answer few h. yes_on_solve side read.input status answer (sound_of t) h)
     (fits (Solve side) (text ++ behind) a.read a.ok) a le
 written_is_checked tallies others (JobData.List after limit) text behind read status lines t taken a le =
-    over others text read t (JobData.List after limit) behind (λ r. OfTwo (IsListAnswer after limit) r.input) lines (λ answer few h. yes_on_list after limit read.input answer t.sound taken h)
+    over others text read t (JobData.List after limit) behind (λ r. OfTwo (IsListAnswer after limit) r.input) lines (λ answer few h. yes_on_list after limit read.input answer (sound_of t) taken h)
     (fits (JobData.List after limit) (text ++ behind) a.1.read a.1.ok) a.1 le
 written_is_checked tallies others Regret text behind read status lines t taken a le =
-    over others text read t Regret behind (λ r. IsRegretted r.input status) lines (λ answer few h. yes_on_regret read.input status answer t.sound taken h)
+    over others text read t Regret behind (λ r. IsRegretted r.input status) lines (λ answer few h. yes_on_regret read.input status answer (sound_of t) taken h)
     (fits Regret (text ++ behind) a.read a.ok) a le
 written_is_checked tallies others Meet text behind read status lines t taken a le =
     over others text read t Meet behind (λ r. OfTwo (IsChosenAnswer Better (texts_from (text ++ behind) r.rest)) r.input) lines
-    (λ answer few h. yes_on_two (IsChosenAnswer Better (texts_from (text ++ behind) read.rest)) (λ w an i h. meet_agrees w (texts_from (text ++ behind) read.rest) an i h) read.input answer t.sound h)
+    (λ answer few h. yes_on_two (IsChosenAnswer Better (texts_from (text ++ behind) read.rest)) (λ w an i h. meet_agrees w (texts_from (text ++ behind) read.rest) an i h) read.input answer (sound_of t) h)
     (fits Meet (text ++ behind) a.1.read a.1.ok) a.1 le
 written_is_checked tallies others Join text behind read status lines t taken a le =
     over others text read t Join behind (λ r. OfTwo (IsChosenAnswer Worse (texts_from (text ++ behind) r.rest)) r.input) lines
-    (λ answer few h. yes_on_two (IsChosenAnswer Worse (texts_from (text ++ behind) read.rest)) (λ w an i h. join_agrees w (texts_from (text ++ behind) read.rest) an i h) read.input answer t.sound h)
+    (λ answer few h. yes_on_two (IsChosenAnswer Worse (texts_from (text ++ behind) read.rest)) (λ w an i h. join_agrees w (texts_from (text ++ behind) read.rest) an i h) read.input answer (sound_of t) h)
     (fits Join (text ++ behind) a.1.read a.1.ok) a.1 le
 written_is_checked tallies others Reduced text behind read status lines t taken a le =
-    over others text read t Reduced behind (λ r. OfTwo IsReduction r.input) lines (λ answer few h. yes_on_two IsReduction reduced_agrees read.input answer t.sound h)
+    over others text read t Reduced behind (λ r. OfTwo IsReduction r.input) lines (λ answer few h. yes_on_two IsReduction reduced_agrees read.input answer (sound_of t) h)
     (fits Reduced (text ++ behind) a.1.read a.1.ok) a.1 le
 written_is_checked tallies others Rotations text behind read status lines t taken a le =
-    over others text read t Rotations behind (λ r. OfTwo IsRotationAnswer r.input) lines (λ answer few h. yes_on_few IsRotationAnswer rotations_agree read.input answer t.sound few h)
+    over others text read t Rotations behind (λ r. OfTwo IsRotationAnswer r.input) lines (λ answer few h. yes_on_few IsRotationAnswer rotations_agree read.input answer (sound_of t) few h)
     (fits Rotations (text ++ behind) a.1.read a.1.ok) a.1 le
 written_is_checked tallies others (Weight by) text behind read status lines t taken a le =
-    over others text read t (Weight by) behind (λ r. IsWeighed by r.input status) lines (λ answer few h. yes_on_weight by read.input status answer t.sound few taken h)
+    over others text read t (Weight by) behind (λ r. IsWeighed by r.input status) lines (λ answer few h. yes_on_weight by read.input status answer (sound_of t) few taken h)
     (fits (Weight by) (text ++ behind) a.read a.ok) a le
 written_is_checked tallies others Pairs text behind read status lines t taken a le = absurd taken
 written_is_checked tallies others (Survey limit) text behind read status lines t taken a le = absurd taken

@@ -32,10 +32,10 @@ unfolding form.is_bad form.list_form form.capacity_form form.weight_form form.pa
 means = (refl, refl, refl)
 
 pair_instance : IsInstanceText pair_text pair_read
-pair_instance = record { means = means.0; whole = refl; front = take 35 pair_text; ended = refl; sound = one_pair_is.0 }
+pair_instance = record { means = means.0; whole = refl; front = take 35 pair_text; ended = refl }
 
 weighed_instance : IsInstanceText weighed_text weighed_read
-weighed_instance = record { means = means.2; whole = refl; front = take 115 weighed_text; ended = refl; sound = weighed_three_is.0 }
+weighed_instance = record { means = means.2; whole = refl; front = take 115 weighed_text; ended = refl }
 
 solve_accepted : accepted (Solve None) pair_text ≡ Ok pair_read
 solve_accepted = ap (behind_text (Solve None) pair_text) means.0 ∙ refl

@@ -2,7 +2,7 @@
 use Rattle.std.specs.Prelude.{◌≡◌, ℕ, ◌≤◌, ◌++◌, ◌∷◌, [], List, length, map, Ok}
 use Rattle.sm_text.specs.Limits.{most_bytes}
 use Rattle.sm_text.specs.Lines.{LF}
-use Rattle.sm_instance.specs.Inputs.{IsInput, kind_of}
+use Rattle.sm_instance.specs.Inputs.{kind_of}
 use Rattle.sm_reader.specs.InstanceText.{ReadText, instance_text}
 use Rattle.sm_report.specs.Heads.{HeadData}
 use Rattle.sm_report.specs.Sound.{IsHeadOf}
@@ -22,7 +22,6 @@ pub record IsInstanceText (text : List ℕ) (read : ReadText) : Type 0 where
   pub whole : read.rest ≡ length text
   pub front : List ℕ
   pub ended : text ≡ front ++ LF ∷ []
-  pub sound : IsInput read.input
 
 -- the commands whose answers `check` takes, with the status of those that it takes. The numbers of `list` are as words can give
 -- them; `none` of `regret` and of `weight` shows nothing

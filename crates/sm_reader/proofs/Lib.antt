@@ -16,5 +16,8 @@ pub mod KnownLemmas
 pub mod OrderLemmas
 pub mod ReadingLemmas
 pub mod RightLemmas
+pub mod FullLemmas
 pub mod SoundLemmas
+pub mod SoundTextLemmas
+pub mod MasterLemmas
 pub mod WitnessLemmas

@@ -6,4 +6,5 @@ pub mod Draft
 pub mod Right
 pub mod Numbering
 pub mod Reading
+pub mod Laws
 pub mod Witnesses
