@@ -42,12 +42,12 @@ MOST_IN_VECTOR = 4_294_967_295
 REASONS = {
     'TooLong': 'the text has more than 16,777,216 bytes',
     'BadByte': 'this line has a byte that may only stand in a comment: names have the letters A to Z and a to z, digits, _ . -',
-    'BadHeader': 'the first line has to be `stable 1 marriage`, `stable 1 hospitals` or `stable 1 roommates`',
-    'BadLine': 'this line has none of the forms that its kind of instance has',
-    'BadName': 'a name has 1 to 64 characters, and begins with a letter, a digit or _',
+    'BadHeader': 'the first line has to be `stable 1 marriage`, `stable 1 hospitals` or `stable 1 roommates`, or one of these with 2',
+    'BadLine': 'this line has none of the forms that its kind of instance has in its format',
+    'BadName': 'a name has 1 to 64 characters, and begins with a letter, a digit or _; a master list in brackets stands above',
     'BadNumber': 'a number is out of its limits: capacities go from 0 to 4,096, weights from -1,000,000,000 to 1,000,000,000',
-    'Redeclared': 'this agent has a line already',
-    'RepeatedEntry': 'a name stands twice on this list',
+    'Redeclared': 'this agent, this master list or the order has a line already',
+    'RepeatedEntry': 'a name stands twice on this list or order',
     'RepeatedWeight': 'these two have a weight already',
     'TooManyAgents': 'a side has more than 4,096 agents',
     'TooManyEntries': 'with this line all lists together have more than 524,288 entries',
@@ -977,6 +977,8 @@ def _text_of(kind: str, proposers: _Side, reviewers: _Side, weights: Optional[Ma
 # From a text to names. What the program would refuse is passed over here.
 
 _AGENT = re.compile(r'[ \t]*([pr])[ \t]+([A-Za-z0-9_.-]+)[ \t]*(?:\[[ \t]*([0-9]{1,20})[ \t]*\][ \t]*)?:(.*)')
+_MASTER = re.compile(r'[ \t]*master[ \t]+([A-Za-z0-9_.-]+)[ \t]*:(.*)')
+_USE = re.compile(r'[ \t]*\[[ \t]*([A-Za-z0-9_.-]+)[ \t]*\][ \t\r]*')
 
 
 def _tokens(line: str) -> List[str]:
@@ -997,14 +999,19 @@ def _read(text: str) -> Tuple[str, _Side, _Side]:
     kind = ''
     lists: Dict[str, Dict[str, Tuple[str, ...]]] = {'p': {}, 'r': {}}
     capacities: Dict[str, Dict[str, int]] = {'p': {}, 'r': {}}
+    masters: Dict[str, Tuple[str, ...]] = {}
     for line in _front(text).split('\n'):
         words = _tokens(line)
         found = _AGENT.match(line.split('#', 1)[0])
+        master = _MASTER.match(line.split('#', 1)[0])
         if not kind and words:
             kind = words[-1]
+        elif master:
+            masters.setdefault(master.group(1), tuple(_tokens(master.group(2))))
         elif found:
             keyword, name, capacity, row = found.groups()
-            lists[keyword].setdefault(name, tuple(_tokens(row)))
+            use = _USE.fullmatch(row)
+            lists[keyword].setdefault(name, masters.get(use.group(1), ()) if use else tuple(_tokens(row)))
             capacities[keyword].setdefault(name, int(capacity or 1))
     rooms = kind == 'roommates'
     proposers = _Side('persons' if rooms else 'proposers', lists['p'], list(lists['p']), capacities['p'])
