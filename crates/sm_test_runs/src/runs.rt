@@ -83,6 +83,60 @@ fn refused<'a>(
 }
 
 #[test]
+fn texts_of_the_second_format(rt: HostRuntime) {
+    let copies =
+        "stable 2 marriage\np m1: a b\np m2: b a\np m3: c d\np m4: d c\nr a: m2 m1\nr b: m1 m2\nr c: m4 m3\nr d: m3 m4\norder m3\nend\n";
+    come_to(
+        &rt,
+        &[
+            done(
+                "list",
+                copies,
+                "answer list limit=100\nvector 1,1,1,1\nvector 2,2,1,1\nvector 1,1,2,2\nvector 2,2,2,2\nend\n",
+            ),
+            done(
+                "list after=2,2,1,1",
+                copies,
+                "answer list after=2,2,1,1 limit=100\nvector 1,1,2,2\nvector 2,2,2,2\nend\n",
+            ),
+            done(
+                "solve",
+                "stable 2 marriage\nmaster L: a b\np m1: [L]\np m2: [L]\nr a: m2 m1\nr b: m1 m2\nend\n",
+                "answer solve side=proposers\npair m1 b\npair m2 a\nend\n",
+            ),
+            refused(
+                "solve",
+                "stable 2 marriage\np m1: [K]\nend\n",
+                RefusalKind::BadName,
+                2,
+                "refused BadName 2\n",
+            ),
+            refused(
+                "solve",
+                "stable 1 marriage\np m1: [K]\nend\n",
+                RefusalKind::BadLine,
+                2,
+                "refused BadLine 2\n",
+            ),
+            refused(
+                "solve",
+                "stable 2 marriage\np m1: a b\np m2: b a\nr a: m2 m1\nr b: m1 m2\norder m1 m1\nend\n",
+                RefusalKind::RepeatedEntry,
+                6,
+                "refused RepeatedEntry 6\n",
+            ),
+            refused(
+                "solve",
+                "stable 2 marriage\np m1: a b\np m2: b a\nr a: m2 m1\nr b: m1 m2\norder zz\nend\n",
+                RefusalKind::UnknownName,
+                6,
+                "refused UnknownName 6\n",
+            ),
+        ],
+    );
+}
+
+#[test]
 fn commands_answer(rt: HostRuntime) {
     let blanks =
         "stable 1 marriage\r\nforce m1 b\r\nr b:m1 m2 # b\n\nweight m1 a -7\n\tr a : m2 m1\np m2: b a\np m1: x a b\nr x:\nend\n \n# done";
