@@ -137,6 +137,7 @@ impl Least {
         requires forbidden { AreInRange (length self.old.poset.lists.proposers)
             conditions.now.forbidden.items }
         ensures same { IsSame self.old self.new }
+        ensures course { self.new.course ≡ self.old.course }
         ensures found { result ≡ true → IsLeastWithin self.new.poset.lists self.new.levels low.now
             high.now
             conditions.now.forced.items conditions.now.forbidden.items
@@ -161,6 +162,7 @@ impl Least {
         requires forbidden { AreInRange (length self.old.poset.lists.proposers)
             conditions.now.forbidden.items }
         ensures same { IsSame self.old self.new }
+        ensures course { self.new.course ≡ self.old.course }
         ensures found { result ≡ true → IsBestAllowed self.new.poset.lists self.new.levels
             conditions.now.forced.items conditions.now.forbidden.items
             (matching_of self.new.poset.lists self.new.poset.first.places self.new.poset.rotations
@@ -186,6 +188,7 @@ impl Least {
         requires forbidden { AreInRange (length self.old.poset.lists.proposers)
             conditions.now.forbidden.items }
         ensures same { IsSame self.old self.new }
+        ensures course { self.new.course ≡ self.old.course }
         ensures found { result ≡ true → IsBestBelow self.new.poset.lists self.new.levels
             (rows_of ranks.now) bound
             conditions.now.forced.items conditions.now.forbidden.items
