@@ -13,7 +13,16 @@ use Rattle.sm_seats.specs.SeatMarket.{seat_market}
 use Rattle.sm_seats.specs.Seating.{Seating, seating_of, written_of}
 use Rattle.sm_seats.specs.Taken.{places_taken}
 use Rattle.sm_seats.specs.Correspondence.{IsSeating, IsSeatedAs}
+use Rattle.sm_answer_given.specs.Given.{AreStableGiven}
+use Rattle.sm_answer_given.specs.declared.given.Given.{Given}
 use Rattle.sm_answer_route.specs.RouteAnswer.{IsSetOf}
+
+-- both matchings that were given are stable
+pub left_stable : {w : Written} {texts : List (List ℕ)} {given : Given} → AreStableGiven w texts given → IsWrittenStable w given.left.places.items
+left_stable {w} h = subst (IsWrittenStable w) (sym h.left_is) h.left_stable.stable
+
+pub right_stable : {w : Written} {texts : List (List ℕ)} {given : Given} → AreStableGiven w texts given → IsWrittenStable w given.right.places.items
+right_stable {w} h = subst (IsWrittenStable w) (sym h.right_is) h.right_stable.stable
 
 module _ {w : Written} {s : Seating} (h : IsSeating w s) {places : List (Option ℕ)} (stable : IsWrittenStable w places) {m : Paired} (made : IsPairingOf s.market m) (taken : m.places.proposers ≡ places_taken w places) where
   seated : IsSeatedAs w s places

@@ -18,11 +18,11 @@ use crate::seated::set_for;
 use crate::step_lines::StepLines;
 use sm_answer::{Answer, Each, Lines, MatchingLines, One, PairWord, Printed, Then};
 use sm_answer_given::Given;
+use sm_answer_rotations::{Basis, RotationLines, Rotations, SeatLines};
 use sm_instance::{Input, Instance, Side};
 use sm_lattice::route;
 use sm_report::{Head, Line};
 use sm_seats::Seats;
-use sm_answer_rotations::{Basis, RotationLines, Rotations, SeatLines};
 use std::alloc::{AllocError, Global};
 
 /// The rotations of an instance, and the fewest steps from the left one of two stable matchings to the right one: `Back` for
