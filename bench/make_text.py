@@ -5,6 +5,7 @@
     python3 bench/make_text.py comments BYTES
     python3 bench/make_text.py force BYTES
     python3 bench/make_text.py cycle SIZE
+    python3 bench/make_text.py cycles SIZE..
     python3 bench/make_text.py copies SIZE
     python3 bench/make_text.py opposed BLOCKS SIZE
 
@@ -13,8 +14,9 @@ random order. `one` has SIZE residents r0, r1 and so on and one hospital h0 of a
 on. `comments` and `force` are a marriage of one proposer and one reviewer, filled up with comment lines or
 with `force` lines to nearly so many bytes.
 
-The other three are marriages with many rotations. In `cycle` the proposer p(i) lists r(i), r(i+1) and so on around, and
-the reviewer r(k) lists p(k+1), p(k+2) and so on around: each turn is one rotation of all proposers. `copies` has SIZE
+The others are marriages with many rotations. In `cycle` the proposer p(i) lists r(i), r(i+1) and so on around, and
+the reviewer r(k) lists p(k+1), p(k+2) and so on around: each turn is one rotation of all proposers. `cycles` has a cycle of each SIZE,
+side by side. `copies` has SIZE
 copies of the two by two instance with two stable matchings. `opposed` has BLOCKS cycles of SIZE agents, with the
 proposers' and the reviewers' numbers mixed. The same arguments give the same text.
 """
@@ -61,6 +63,16 @@ def cycle(size):
     return marriage(around, [row[1:] + row[:1] for row in around])
 
 
+def cycles(*sizes):
+    proposers, reviewers = [], []
+    for size in sizes:
+        first = len(proposers)
+        around = [[first + (i + d) % size for d in range(size)] for i in range(size)]
+        proposers += around
+        reviewers += [row[1:] + row[:1] for row in around]
+    return marriage(proposers, reviewers)
+
+
 def copies(size):
     straight = [[i, i ^ 1] for i in range(2 * size)]
     return marriage(straight, [row[::-1] for row in straight])
@@ -89,6 +101,8 @@ def main(words):
         return filled("force m w", int(words[1]))
     if words[:1] == ["cycle"] and len(words) == 2:
         return cycle(int(words[1]))
+    if words[:1] == ["cycles"] and len(words) > 1:
+        return cycles(*map(int, words[1:]))
     if words[:1] == ["copies"] and len(words) == 2:
         return copies(int(words[1]))
     if words[:1] == ["opposed"] and len(words) == 3:

@@ -59,6 +59,7 @@ REASONS = {
     'TooManySeats': 'with this reviewer the lists of all seats together have more than 1,048,576 entries: a reviewer adds as many '
                     'seats as it has places, but no more than acceptable proposers, times its acceptable proposers',
     'BadCursor': 'the vector to go on behind needs a number for each proposer',
+    'TooMany': 'more than 100,000 stable matchings are allowed',
     'BadAnswer': 'this isn\'t a line that an answer, or a given matching, may have here',
     'NotStable': 'a given matching isn\'t stable',
 }
@@ -115,8 +116,8 @@ class Refused(MatchbenchError):
     """The program doesn't take the input.
 
     `reason` is the name that docs/FORMATS.md has for it, and `sentence` explains it. `line` is the number of the line in
-    the text, 0 for the text as a whole, and `line_text` what stands there, by the names of the text. For `check`, `meet`
-    and `join` lines are counted on through what stands behind the instance. `text` is the program's own line.
+    the text, 0 for the text as a whole, and `line_text` what stands there, by the names of the text. For `check`, `meet`,
+    `join` and `route` lines are counted on through what stands behind the instance. `text` is the program's own line.
     """
 
     def __init__(self, reason: str, line: int, line_text: str, text: str) -> None:
@@ -131,7 +132,7 @@ class Refused(MatchbenchError):
 
 
 class NotStable(Refused):
-    """One of two matchings given to `meet` or `join` isn't stable.
+    """One of two matchings given to `meet`, `join` or `route` isn't stable.
 
     `which` is 'left' or 'right', for the first or second. `cause` is 'breach' where `pair` can't be held, since it isn't
     acceptable or one of the two has no place left, and 'blocks' where the two would both rather have one another.
@@ -356,18 +357,44 @@ class Lightest:
 
 
 @dataclass(frozen=True)
+class Median:
+    """The matching that gives each proposer the partner in the middle of those that it has in all allowed stable matchings, best
+    first, and how many these are.
+    """
+
+    listed: int
+    matching: Matching
+    text: str = field(repr=False, compare=False)
+
+
+@dataclass(frozen=True)
+class Route:
+    """A shortest way from one stable matching to another: the numbers of the rotations that are taken back, and then of those that are
+    eliminated, each in its order. `first` and `rotations` are as in a `RotationOrder`.
+    """
+
+    back: Tuple[int, ...]
+    forth: Tuple[int, ...]
+    first: Dict[str, Seat]
+    rotations: Tuple[Rotation, ...]
+    text: str = field(repr=False, compare=False)
+
+
+@dataclass(frozen=True)
 class Survey:
     """Figures over the allowed stable matchings, or over the first of them in the order of `list`.
 
     `listed` is how many they were, `rank_sum` the sum of all proposers' ranks in all of them, and `least_regret` and
-    `greatest_regret` are the least and the greatest of their regrets, 0 where there were none. `last` is None where these
-    were all, and else the ranks of the last of them. Figures stop at 2 ** 64 - 1.
+    `greatest_regret` are the least and the greatest of their regrets, 0 where there were none. `profile` counts how often a
+    proposer has its first choice, its second, its third, and a later one or nobody. `last` is None where these were all, and
+    else the ranks of the last of them. Figures stop at 2 ** 64 - 1.
     """
 
     listed: int
     rank_sum: int
     least_regret: int
     greatest_regret: int
+    profile: Tuple[int, ...]
     last: Optional[Tuple[int, ...]]
     text: str = field(repr=False, compare=False)
 
@@ -468,9 +495,9 @@ class Instance:
     more than 524,288 entries, for example. A call takes some two milliseconds, and on the largest instances a few tenths of
     a second; reading the results in Python may take as long again.
 
-    `solve`, `reduced`, `rotations`, `pairs`, `meet` and `join` speak of all stable matchings, whatever pairs are forced and
-    forbidden; `list`, `survey`, `regret` and `weight` of the allowed ones: those that have each forced pair and no forbidden
-    one. Roommates have `solve`, `check` and `check_matching` alone.
+    `solve`, `reduced`, `rotations`, `pairs`, `meet`, `join` and `route` speak of all stable matchings, whatever pairs are forced
+    and forbidden; `list`, `survey`, `regret`, `weight` and `median` of the allowed ones: those that have each forced pair and no
+    forbidden one. Roommates have `solve`, `check` and `check_matching` alone.
     """
 
     def __init__(self, text: str, kind: str, proposers: _Side, reviewers: _Side) -> None:
@@ -651,6 +678,24 @@ class Instance:
         """The same with the worse of its two partners, where being unmatched is worst."""
         return self._matching(self._given('join', left, right))
 
+    def median(self) -> Median:
+        """The matching that gives each proposer the partner in the middle when those that it has in all allowed stable matchings
+        stand best first, each as often as it occurs; of two the better one. It is stable and allowed too.
+
+        Raises NoMatching where none is allowed, and Refused, as TooMany, where more than 100,000 are.
+        """
+        answer = self._allowed('median')
+        return Median(int(answer.of('listed')[0][0]), self._matching(answer), answer.text)
+
+    def route(self, left: GivenMatching, right: GivenMatching) -> Route:
+        """The fewest rotations back and forth that lead from one stable matching to another.
+
+        Raises NotStable where one of the two isn't stable, and ValueError for a name that the instance doesn't have.
+        """
+        answer = self._given('route', left, right)
+        back, forth = (tuple(int(it[0]) for it in answer.of(word)) for word in ('back', 'forth'))
+        return Route(back, forth, *self._chain(answer), answer.text)
+
     def survey(self, limit: int = MOST_LISTED) -> Survey:
         """Figures over the allowed stable matchings, up to a limit of at most a million. Takes as long as listing them."""
         if not 1 <= operator.index(limit) <= MOST_LISTED:
@@ -658,7 +703,8 @@ class Instance:
         answer = self._answer('survey', f'limit={operator.index(limit)}')
         tallies = {row[0]: [int(it) for it in row[1:]] for row in answer.of('tally')}
         last = _ranks(answer.tail[1]) if answer.tail[0] == 'more' else None
-        return Survey(int(answer.of('listed')[0][0]), tallies['2'][0], tallies['3'][1], tallies['3'][2], last, answer.text)
+        return Survey(int(answer.of('listed')[0][0]), tallies['2'][0], tallies['3'][1], tallies['3'][2],
+                      tuple(tallies['4']), last, answer.text)
 
     def check(self, answer: Union[str, HasText]) -> Verdict:
         """Whether an answer is right: a result of another method, or a text in the form in which the program writes it.
@@ -705,14 +751,14 @@ class Instance:
         return _Answer(_ask(self._text, *words)[1])
 
     def _allowed(self, *words: str) -> _Answer:
-        """An answer of `regret` or `weight`."""
+        """An answer of `regret`, `weight` or `median`."""
         answer = self._answer(*words)
         if answer.lines == [['none']]:
             raise NoMatching(answer.text)
         return answer
 
     def _given(self, command: str, left: GivenMatching, right: GivenMatching) -> _Answer:
-        """An answer of `meet` or `join`."""
+        """An answer of `meet`, `join` or `route`."""
         sides = ('left', self._named(left)), ('right', self._named(right))
         lines = [f'{word} {p} {r}' for word, pairs in sides for p, r in pairs]
         return _Answer(_ask(self._front + '\n'.join(lines + ['end', '']), command, pair=self._pair)[1])

@@ -20,17 +20,18 @@ REFUSALS = {
     'TooManyEntries': ('from this line on all lists together have more than 524,288 entries', 'shorter lists are wanted'),
     'MissingEnd': ('the line `end` is missing', 'put it behind the last line'),
     'UnknownName': ('nobody has this name', 'each agent on a list has a line of its own on the other side, p or r'),
-    'AfterEnd': ('something stands behind `end`', 'only `meet`, `join` and `check` read what stands there'),
+    'AfterEnd': ('something stands behind `end`', 'only `meet`, `join`, `route` and `check` read what stands there'),
     'WrongKind': ('this command doesn\'t take an instance of this kind',
                   '`check`, `rest` and `solve` without a side take roommates; all but `rest` take marriages and hospitals'),
     'TooManySeats': (f'from this reviewer on the lists of all seats together have more than {MOST_SEAT_ENTRIES:,} entries',
                      'a hospital adds its places times the proposers with whom it lists each other; tools/trim cuts lists where '
                      'nothing depends on them'),
     'BadCursor': ('the vector of after= hasn\'t a number for each proposer', 'take a vector of this instance\'s own listing'),
+    'TooMany': ('more than 100,000 stable matchings are allowed', '`force` and `forbid` lines allow fewer; `list` writes any number of them'),
     'BadAnswer': ('behind the instance this line can\'t stand here',
                   'an answer is its first line (`answer`, the command and its operand), its lines, each with one blank between two '
                   'fields and none at either end, and `end`; there is no comment and no empty line'),
-    'NotStable': ('a given matching isn\'t stable', 'of `meet` and `join` both matchings have to be stable'),
+    'NotStable': ('a given matching isn\'t stable', 'of `meet`, `join` and `route` both matchings have to be stable'),
 }
 
 # What isn't so where an answer is judged with `no`.

@@ -28,7 +28,7 @@ use Rattle.sm_answer.specs.declared.matching_lines.PairWord.TheVariants as word
 use Rattle.sm_answer_given.proofs.ReadingLemmas.{end_line}
 
 -- a pair of an assignment is a line of the instance
-pair_sound : (by : PairWord) (w : Written) (places : List (Option ℕ)) → IsInstance w → IsAssignment w places → (p : ℕ) → All (IsLineOf (Two w)) (line_or_none (matching_line by w places p))
+pub pair_sound : (by : PairWord) (w : Written) (places : List (Option ℕ)) → IsInstance w → IsAssignment w places → (p : ℕ) → All (IsLineOf (Two w)) (line_or_none (matching_line by w places p))
 pair_sound by w places h assigned p = by_place (held places p) refl
   where
     by_word : (by : PairWord) (i : ℕ) → i < length (row w.proposers p) → IsLineOf (Two w) (pair_data by p (entry w.proposers p i))

@@ -3,3 +3,5 @@ pub mod StartLemmas
 pub mod SpelledLemmas
 pub mod PutLemmas
 pub mod ListLemmas
+pub mod UnderwayLemmas
+pub mod RankLemmas

@@ -33,7 +33,7 @@ use Rattle.sm_answer_list.specs.Remaining.{IsLeftOf}
 use Rattle.sm_answer_list.proofs.StartLemmas.{each_once_is_order}
 
 -- what is listed at the seats are the rank vectors of the instance
-listed_written : {w : Written} {after : Option (List ℕ)} {s : Lister} {n : ℕ} {out : List (List ℕ)} {more : Bool} → IsListerOf w after s → IsListingOf s s.cursor n out more
+pub listed_written : {w : Written} {after : Option (List ℕ)} {s : Lister} {n : ℕ} {out : List (List ℕ)} {more : Bool} → IsListerOf w after s → IsListingOf s s.cursor n out more
     → IsListing (IsBefore (order_of w)) (IsAllowedRankVector w) after n out more
 listed_written {w} {after} {s} {n} {out} {more} h x =
     let a = subst (λ o. IsListing (IsBefore o) (IsAllowedVector s.poset.lists s.levels s.forced s.forbidden) s.cursor n out more) h.order x in

@@ -26,7 +26,8 @@ last_given s t false n k line e zero l = record {
   fewer = omega arith;
 }
 
-same_back : {s t : Lister} → IsSameLister s t → IsSameLister t s
+-- it is the same both ways
+pub same_back : {s t : Lister} → IsSameLister s t → IsSameLister t s
 same_back e = record { poset = sym e.poset; levels = sym e.levels; forced = sym e.forced; forbidden = sym e.forbidden; order = sym e.order }
 
 -- what is left behind the next vector

@@ -2,3 +2,4 @@ pub mod ListAnswer
 pub mod Started
 pub mod Spelled
 pub mod Remaining
+pub mod Underway

@@ -1,13 +1,13 @@
 -- How a survey comes about.
-use Rattle.std.specs.Prelude.{◌≡◌, ℕ, ◌+◌, ◌<◌, ◌≤◌, Bool, List, [], ◌++◌, length, Vec, Option, None}
+use Rattle.std.specs.Prelude.{◌≡◌, ℕ, ◌<◌, ◌≤◌, Bool, List, [], length, Vec, Option}
 use Rattle.std.specs.List.{All}
 use Rattle.std.specs.declared.alloc.Global.{Global}
 use Rattle.sm_tally.specs.Fold.{Feed, Shown, all_after_feed, all_after_feeds}
 use Rattle.sm_instance.specs.Written.{Written}
-use Rattle.sm_theory.specs.Listings.{end_of}
-use Rattle.sm_lister.specs.Listers.{Lister, IsAtEnd, IsSameLister}
+use Rattle.sm_lister.specs.Listers.{Lister, IsAtEnd}
 use Rattle.sm_lister.specs.Rests.{IsListingOf}
-use Rattle.sm_answer_list.specs.Started.{cursor_in, IsListerOf}
+use Rattle.sm_answer_list.specs.Started.{cursor_in}
+use Rattle.sm_answer_list.specs.Underway.{AreListedSoFar}
 use Rattle.sm_answer_survey.specs.SurveyAnswer.{IsFeedOf, vectors_of}
 use Rattle.sm_answer_survey.specs.Surveys.{last_vector}
 
@@ -18,19 +18,13 @@ pub record IsFed (w : Written) (v : List ℕ) (before after : List Shown) : Type
   pub vector : feed.vector ≡ v
   pub fed : after ≡ all_after_feed feed before
 
--- the tallies were told of so many matchings, and the lister has come to the last one: what it has still to give goes on behind
--- them
+-- the tallies were told of so many matchings, whose vectors the lister listed
 pub record IsUnderway (w : Written) (t : Lister) (listed : ℕ) (before after : List Shown) : Type 0 where
-  pub start : Lister
-  pub started : IsListerOf w None start
-  pub same : IsSameLister start t
   pub feeds : List Feed
+  pub vectors : AreListedSoFar w t (vectors_of feeds)
   pub each : All (IsFeedOf w) feeds
   pub fed : after ≡ all_after_feeds feeds before
   pub count : listed ≡ length feeds
-  pub cursor : t.cursor ≡ end_of None (vectors_of feeds)
-  pub whole : (n : ℕ) (rest : List (List ℕ)) (more : Bool) → IsListingOf start t.cursor n rest more
-      → IsListingOf start None (listed + n) (vectors_of feeds ++ rest) more
 
 -- as many as the limit, or all that there are
 pub record AreTold (w : Written) (limit : ℕ) (t : Lister) (listed : ℕ) (before after : List Shown) : Type 0 where

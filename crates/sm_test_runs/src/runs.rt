@@ -83,6 +83,46 @@ fn refused<'a>(
 }
 
 #[test]
+fn medians_and_routes(rt: HostRuntime) {
+    let three =
+        "stable 1 marriage\np m1: a b c\np m2: b c a\np m3: c a b\nr a: m2 m3 m1\nr b: m3 m1 m2\nr c: m1 m2 m3\nend\n";
+    let copies =
+        "stable 1 marriage\np m1: a b\np m2: b a\np m3: c d\np m4: d c\nr a: m2 m1\nr b: m1 m2\nr c: m4 m3\nr d: m3 m4\nend\nleft m1 b\nleft m2 a\nleft m3 c\nleft m4 d\nright m1 a\nright m2 b\nright m3 d\nright m4 c\nend\n";
+    let none =
+        "stable 1 marriage\np m1: a b\np m2: b a\nr a: m2 m1\nr b: m1 m2\nforbid m1 a\nforbid m2 a\nend\n";
+    come_to(
+        &rt,
+        &[
+            done(
+                "median",
+                three,
+                "answer median\nlisted 3\npair m1 b\npair m2 c\npair m3 a\nend\n",
+            ),
+            none_exists("median", none, "answer median\nnone\nend\n"),
+            done(
+                "route",
+                copies,
+                "answer route\nleft m1 b\nleft m2 a\nleft m3 c\nleft m4 d\nright m1 a\nright m2 b\nright m3 d\nright m4 c\nfirst m1 a\nfirst m2 b\nfirst m3 c\nfirst m4 d\nrotation 1 m1 a m2 b\nneeds 1 -\nrotation 2 m3 c m4 d\nneeds 2 -\nback 1\nforth 2\nend\n",
+            ),
+            refused(
+                "check",
+                "stable 1 marriage\nend\nanswer median\nlisted 1\nend\n",
+                RefusalKind::BadAnswer,
+                3,
+                "refused BadAnswer 3\n",
+            ),
+            refused(
+                "route",
+                "stable 1 roommates\nend\n",
+                RefusalKind::WrongKind,
+                1,
+                "refused WrongKind 1\n",
+            ),
+        ],
+    );
+}
+
+#[test]
 fn texts_of_the_second_format(rt: HostRuntime) {
     let copies =
         "stable 2 marriage\np m1: a b\np m2: b a\np m3: c d\np m4: d c\nr a: m2 m1\nr b: m1 m2\nr c: m4 m3\nr d: m3 m4\norder m3\nend\n";

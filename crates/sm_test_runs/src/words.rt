@@ -57,6 +57,8 @@ fn words_ask_or_are_faulty(rt: HostRuntime) {
             ("survey", Job::Survey(100)),
             ("survey limit=7", Job::Survey(7)),
             ("rest", Job::Rest),
+            ("median", Job::Median),
+            ("route", Job::Route),
             ("check", Job::Check),
             (
                 "make shape=copies size=1 seed=0",

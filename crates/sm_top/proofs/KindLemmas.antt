@@ -14,12 +14,13 @@ use Rattle.sm_instance.specs.declared.kinds.Measure.{Measure}
 use Rattle.sm_instance.specs.declared.kinds.Side.{Side}
 use Rattle.sm_instance.specs.declared.kinds.Side.TheVariants.{Proposers}
 use Rattle.sm_reader.specs.InstanceText.{ReadText, Refusal}
-use Rattle.sm_words.specs.Jobs.{JobData, Solve, Reduced, Rotations, Pairs, Regret, Weight, Meet, Join, Survey, Check, Make, Rest}
+use Rattle.sm_words.specs.Jobs.{JobData, Solve, Reduced, Rotations, Pairs, Regret, Weight, Meet, Join, Survey, Check, Make, Rest, Median, Route}
 use Rattle.sm_answer_solve.specs.Solution.{IsSolution}
 use Rattle.sm_answer_rotations.specs.NoneAnswer.{IsNoneAllowed}
 use Rattle.sm_report.specs.Heads.{HeadData}
 use Rattle.sm_report.specs.Lines.{LineData}
 use Rattle.sm_answer_pairs.specs.RegretAnswer.{IsRegretAnswer}
+use Rattle.sm_answer_median.specs.MedianAnswer.{IsMedianAnswer}
 use Rattle.sm_answer_roommates.specs.RoomAnswer.{IsMatched, IsUnmatchable}
 use Rattle.sm_top.specs.declared.status.Status.{Status}
 use Rattle.sm_top.specs.declared.status.Status.TheVariants.{Done, NoneExists}
@@ -29,7 +30,7 @@ use Rattle.sm_tally.specs.Fold.{Shown}
 use Rattle.sm_words.specs.Words.{usual_limit}
 use Rattle.sm_answer_survey.specs.SurveyAnswer.{IsSurveyAnswer}
 use Rattle.sm_printed.specs.Printed.{lines_of}
-use Rattle.sm_top.specs.Outcome.{IsWeighed, IsSummary, IsMade, IsSolved, IsRegretted, IsAnswerOver, IsRefused, not_accepted}
+use Rattle.sm_top.specs.Outcome.{IsWeighed, IsMiddle, IsSummary, IsMade, IsSolved, IsRegretted, IsAnswerOver, IsRefused, not_accepted}
 use Rattle.sm_top.specs.Wrote.{Wrote, With}
 use Rattle.sm_top.proofs.WritingLemmas.{wrote_for, wrote_shown}
 
@@ -55,6 +56,8 @@ takes_two (Survey limit) kind reading sides two = two_sided kind two
 takes_two Check kind reading sides two = refl
 takes_two (Make shape size seed summary) kind reading sides two = absurd cc
 takes_two Rest kind reading sides two = absurd cc
+takes_two Median kind reading sides two = two_sided kind two
+takes_two Route kind reading sides two = two_sided kind two
 
 -- so their seats alone are judged
 seats_judged : (job : JobData) (read : ReadText) (w : Written) → reads_input job ≡ true → takes_rooms_alone job ≡ false → read.input ≡ Two w → w.kind ≢ Roommates → judged job read ≡ first_refusal (too_many_seats read ∷ []) read
@@ -92,6 +95,8 @@ not_two Join kind alone two = absurd cc
 not_two (Survey limit) kind alone two = absurd cc
 not_two Check kind alone two = absurd cc
 not_two (Make shape size seed summary) kind alone two = absurd cc
+not_two Median kind alone two = absurd cc
+not_two Route kind alone two = absurd cc
 
 pub two_not_taken : (job : JobData) (bytes : List ℕ) (read : ReadText) (w : Written) → reads_input job ≡ true → takes_rooms_alone job ≡ true → read.input ≡ Two w → w.kind ≢ Roommates → accepted job bytes ≡ judged job read
     → IsRefused job bytes (plain_refusal WrongKind read.header_line)
@@ -174,6 +179,18 @@ pub two_unweighed : (by : Measure) (input : Input) (w : Written) (gives : List (
     → ((lines : List (List ℕ)) → gives lines → IsShown input (IsNoneAllowed (HeadData.Weight by) w) lines) → Wrote (With NoneExists gives) a b f g status → Wrote (λ s. IsShown input (IsWeighed by input s)) a b f g status
 two_unweighed by input w gives a b f g status is right =
     wrote_shown NoneExists gives input (IsNoneAllowed (HeadData.Weight by) w) (IsWeighed by input) a b f g status right (λ answer h. subst (λ (input : Input). IsWeighed by input NoneExists answer) (sym is) (inr (refl, h)))
+
+-- instances with an allowed stable matching, and such without, for `median`
+pub two_middle : (input : Input) (w : Written) (gives : List (List ℕ) → Type 0) (a b : Option (List ℕ)) (f g : ℕ) (status : Status) → input ≡ Two w
+    → ((lines : List (List ℕ)) → gives lines → IsShown input (IsMedianAnswer w) lines) → Wrote (With Done gives) a b f g status → Wrote (λ s. IsShown input (IsMiddle input s)) a b f g status
+two_middle input w gives a b f g status is right =
+    wrote_shown Done gives input (IsMedianAnswer w) (IsMiddle input) a b f g status right (λ answer h. subst (λ (input : Input). IsMiddle input Done answer) (sym is) (inl (refl, h)))
+
+-- where none is allowed, a right answer to `median` says so
+pub two_without_middle : (input : Input) (w : Written) (gives : List (List ℕ) → Type 0) (a b : Option (List ℕ)) (f g : ℕ) (status : Status) → input ≡ Two w
+    → ((lines : List (List ℕ)) → gives lines → IsShown input (IsNoneAllowed HeadData.Median w) lines) → Wrote (With NoneExists gives) a b f g status → Wrote (λ s. IsShown input (IsMiddle input s)) a b f g status
+two_without_middle input w gives a b f g status is right =
+    wrote_shown NoneExists gives input (IsNoneAllowed HeadData.Median w) (IsMiddle input) a b f g status right (λ answer h. subst (λ (input : Input). IsMiddle input NoneExists answer) (sym is) (inr (refl, h)))
 
 -- The summary of a made instance.
 pub two_summarized : (tallies : List Shown) (input : Input) (w : Written) (gives : List (List ℕ) → Type 0) (a b : Option (List ℕ)) (f g : ℕ) (status : Status) → input ≡ Two w

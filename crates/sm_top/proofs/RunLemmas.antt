@@ -14,7 +14,7 @@ use Rattle.sm_instance.specs.declared.kinds.Measure.{Measure}
 use Rattle.sm_instance.specs.declared.kinds.Side.{Side}
 use Rattle.sm_reader.specs.InstanceText.{ReadText, instance_text}
 use Rattle.sm_report.specs.Lines.{LineData}
-use Rattle.sm_words.specs.Jobs.{JobData, Solve, Reduced, Rotations, Pairs, Regret, Weight, Meet, Join, Survey, Check, Make, Rest}
+use Rattle.sm_words.specs.Jobs.{JobData, Solve, Reduced, Rotations, Pairs, Regret, Weight, Meet, Join, Survey, Check, Make, Rest, Median, Route}
 use Rattle.sm_words.specs.Words.{words_meaning}
 use Rattle.sm_top.specs.declared.status.Status.{Status}
 use Rattle.sm_top.specs.declared.status.Status.TheVariants.{Refused, Usage, OutOfMemory, ReadFault, WriteFault}
@@ -29,7 +29,7 @@ use Rattle.sm_check_answers.specs.declared.verdicts.Verdict.{Verdict}
 use Rattle.sm_check_answers.specs.declared.verdicts.Verdict.TheVariants as verdict
 use Rattle.sm_top.specs.Checked.{status_by}
 use Rattle.sm_top.specs.Accepting.{reads_input, accepted, behind_text}
-use Rattle.sm_top.specs.Outcome.{OfTwo, OfRoom, IsSolved, IsRegretted, IsSummary, IsMade, IsWeighed, IsAnswerOver, IsAnswer, IsRefused, IsTooManyMade, IsUnsurveyed, unsurveyed, Outcome, not_accepted, faulty_words, refused, answered}
+use Rattle.sm_top.specs.Outcome.{OfTwo, OfRoom, IsSolved, IsRegretted, IsSummary, IsMade, IsWeighed, IsMiddle, IsAnswerOver, IsAnswer, IsRefused, IsTooManyMade, IsUnsurveyed, unsurveyed, Outcome, not_accepted, faulty_words, refused, answered}
 use Rattle.sm_top.specs.Input.{IsReadWhole, ReadWhole, IsTooLong}
 use Rattle.sm_top.specs.Running.{IsBeingRead, Ends, Answers, AnswersAccepted, reads, asks_to_read, writes_all_lines, is_answer, is_too_long}
 use Rattle.sm_top.specs.Steps.{IsRefusalFor, IsRefusal, IsReadFault, Serves, ServesWords, SaysStop}
@@ -200,6 +200,12 @@ weighed_status by (Two w) status answer (inl h) = ap is_answer h.0
 weighed_status by (Two w) status answer (inr h) = ap is_answer h.0
 weighed_status by (Room persons) status answer h = absurd h
 
+-- and of the median
+middle_status : (input : Input) (status : Status) (answer : List LineData) → IsMiddle input status answer → is_answer status ≡ true
+middle_status (Two w) status answer (inl h) = ap is_answer h.0
+middle_status (Two w) status answer (inr h) = ap is_answer h.0
+middle_status (Room persons) status answer h = absurd h
+
 -- and of a summary
 summary_status : (tallies : List Shown) (input : Input) (status : Status) (answer : List LineData) → IsSummary tallies input status answer → is_answer status ≡ true
 summary_status tallies (Two w) status answer h = ap is_answer h.0
@@ -227,6 +233,8 @@ answer_status tallies Join bytes status lines h = ap is_answer h.0
 answer_status tallies (Survey limit) bytes status lines h = ap is_answer h.0
 answer_status tallies Check bytes status lines h = ap is_answer h.shown.is_right.by_verdict ∙ verdict_status h.shown.is_right.verdict
 answer_status tallies Rest bytes status lines h = ap is_answer h.0
+answer_status tallies Median bytes status lines h = middle_status h.read.input status h.shown.answer h.shown.is_right
+answer_status tallies Route bytes status lines h = ap is_answer h.0
 answer_status tallies (Make shape size seed summary) bytes status lines h = made_status tallies (made_instance shape size seed) summary status lines h
 
 answer_whole : (status : Status) → is_answer status ≡ true → writes_all_lines status ≡ true

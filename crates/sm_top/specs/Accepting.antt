@@ -13,7 +13,7 @@ use Rattle.sm_instance.specs.declared.kinds.Kind.{Kind}
 use Rattle.sm_instance.specs.declared.kinds.Kind.TheVariants.{Marriage, Hospitals, Roommates}
 use Rattle.sm_reader.specs.InstanceText.{ReadText, Refusal, instance_text}
 use Rattle.sm_seats.specs.SeatEntries.{first_too_many}
-use Rattle.sm_words.specs.Jobs.{JobData, Solve, Reduced, Rotations, Pairs, Regret, Weight, Meet, Join, Survey, Check, Make, Rest}
+use Rattle.sm_words.specs.Jobs.{JobData, Solve, Reduced, Rotations, Pairs, Regret, Weight, Meet, Join, Survey, Check, Make, Rest, Median, Route}
 use Rattle.sm_top.specs.Texts.{RefusalData, plain_refusal}
 
 -- What a job takes.
@@ -23,7 +23,7 @@ abbrev pub reads_input : JobData → Bool
 reads_input (Make shape size seed summary) = false
 reads_input job = true
 
--- text behind `end`: `meet`, `join` and `check`
+-- text behind `end`: `meet`, `join`, `route` and `check`
 abbrev pub takes_text : JobData → Bool
 takes_text (Solve side) = false
 takes_text Reduced = false
@@ -38,6 +38,8 @@ takes_text (Survey limit) = false
 takes_text Check = true
 takes_text (Make shape size seed summary) = false
 takes_text Rest = false
+takes_text Median = false
+takes_text Route = true
 
 -- what is kept of an input's text for a job: all of it where the job takes text behind `end`, and anything for the others
 abbrev pub IsTextFor : JobData → List ℕ → List ℕ → Type 0
@@ -70,6 +72,8 @@ takes_kind (Survey limit) kind = is_two_sided kind
 takes_kind Check kind = true
 takes_kind (Make shape size seed summary) kind = false
 takes_kind Rest kind = not (is_two_sided kind)
+takes_kind Median kind = is_two_sided kind
+takes_kind Route kind = is_two_sided kind
 
 -- roommates alone: `rest`
 abbrev pub takes_rooms_alone : JobData → Bool

@@ -11,8 +11,8 @@ use Rattle.sm_reader.specs.InstanceText.{ReadText}
 use Rattle.sm_report.specs.Heads.{HeadData}
 use Rattle.sm_report.specs.Lines.{LineData}
 use Rattle.sm_report.specs.Texts.{left_name, right_name}
-use Rattle.sm_text.specs.declared.refusal.RefusalKind.TheVariants.{BadCursor, BadAnswer, NotStable}
-use Rattle.sm_words.specs.Jobs.{JobData, Solve, Reduced, Rotations, Pairs, Regret, Weight, Meet, Join, Survey, Check, Make, Rest}
+use Rattle.sm_text.specs.declared.refusal.RefusalKind.TheVariants.{BadCursor, TooMany, BadAnswer, NotStable}
+use Rattle.sm_words.specs.Jobs.{JobData, Solve, Reduced, Rotations, Pairs, Regret, Weight, Meet, Join, Survey, Check, Make, Rest, Median, Route}
 use Rattle.sm_words.specs.Words.{usual_limit, words_meaning}
 use Rattle.sm_top.specs.declared.status.Status.{Status}
 use Rattle.sm_top.specs.declared.status.Status.TheVariants.{Done, Refused, Usage, NoneExists}
@@ -38,6 +38,8 @@ use Rattle.sm_answer_given.specs.declared.faults.Unstable.{Unstable}
 use Rattle.sm_answer_weight.specs.WeightAnswer.{IsWeightAnswer}
 use Rattle.sm_tally.specs.Fold.{Shown}
 use Rattle.sm_answer_survey.specs.SurveyAnswer.{IsSurveyAnswer}
+use Rattle.sm_answer_median.specs.MedianAnswer.{IsMedianAnswer, AreTooMany}
+use Rattle.sm_answer_route.specs.RouteAnswer.{IsRouteAnswer}
 use Rattle.sm_make.specs.Made.{made_instance}
 use Rattle.sm_printed.specs.Printed.{lines_of}
 use Rattle.sm_answer_roommates.specs.RoomAnswer.{IsMatched, IsUnmatchable}
@@ -79,6 +81,11 @@ abbrev pub IsWeighed : Measure → Input → Status → List LineData → Type 0
 IsWeighed by (Two w) status answer = ((status ≡ Done) × IsWeightAnswer by w answer) ⊎ ((status ≡ NoneExists) × IsNoneAllowed (HeadData.Weight by) w answer)
 IsWeighed by (Room persons) status answer = ⊥
 
+-- a right answer to `median`, with its status: the median of the allowed stable matchings, or `none` where there are none
+abbrev pub IsMiddle : Input → Status → List LineData → Type 0
+IsMiddle (Two w) status answer = ((status ≡ Done) × IsMedianAnswer w answer) ⊎ ((status ≡ NoneExists) × IsNoneAllowed HeadData.Median w answer)
+IsMiddle (Room persons) status answer = ⊥
+
 -- an input was accepted for a job, and the lines are those of a right answer
 pub record IsAnswerOver (job : JobData) (bytes : List ℕ) (right : ReadText → List LineData → Type 0) (lines : List (List ℕ)) : Type 0 where
   pub read : ReadText
@@ -101,11 +108,18 @@ IsAnswer tallies (Survey limit) bytes status lines = (status ≡ Done) × IsAnsw
 IsAnswer tallies Check bytes status lines = IsAnswerOver Check bytes (λ read. IsChecked read.input (texts_from bytes read.rest) read.rest_line status) lines
 IsAnswer tallies (Make shape size seed summary) bytes status lines = IsMade tallies (made_instance shape size seed) summary status lines
 IsAnswer tallies Rest bytes status lines = (status ≡ Done) × IsAnswerOver Rest bytes (λ read. OfRoom IsRest read.input) lines
+IsAnswer tallies Median bytes status lines = IsAnswerOver Median bytes (λ read. IsMiddle read.input status) lines
+IsAnswer tallies Route bytes status lines = (status ≡ Done) × IsAnswerOver Route bytes (λ read. OfTwo (IsRouteAnswer (texts_from bytes read.rest)) read.input) lines
 
 -- a cursor that hasn't an item for each proposer is refused, at no line
 abbrev pub IsBadCursor : Option (List ℕ) → Input → RefusalData → Type 0
 IsBadCursor after (Two w) refusal = (¬ IsCursor (length w.proposers) after) × (refusal ≡ plain_refusal BadCursor 0)
 IsBadCursor after (Room persons) refusal = ⊥
+
+-- more stable matchings are allowed than a median is looked for of: refused, at no line
+abbrev pub IsTooManyAllowed : Input → RefusalData → Type 0
+IsTooManyAllowed (Two w) refusal = AreTooMany w × (refusal ≡ plain_refusal TooMany 0)
+IsTooManyAllowed (Room persons) refusal = ⊥
 
 -- what tells of a given matching that isn't stable: which one, why, and the pair
 abbrev pub which_name : Which → List ℕ
@@ -146,6 +160,8 @@ IsOwnRefusal (Survey limit) bytes read refusal = ⊥
 IsOwnRefusal Check bytes read refusal = IsUnreadable read.input (texts_from bytes read.rest) read.rest_line refusal
 IsOwnRefusal (Make shape size seed summary) bytes read refusal = ⊥
 IsOwnRefusal Rest bytes read refusal = ⊥
+IsOwnRefusal Median bytes read refusal = IsTooManyAllowed read.input refusal
+IsOwnRefusal Route bytes read refusal = IsBadGiven read.input (texts_from bytes read.rest) read.rest_line refusal
 
 -- a made instance isn't surveyed where its seats have too many entries
 abbrev pub IsTooManyMade : Input → (summary : Bool) → RefusalData → Type 0

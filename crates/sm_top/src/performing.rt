@@ -18,19 +18,23 @@ ghost use Rattle.sm_answer_list.specs.Started.{cursor_in};
 ghost use Rattle.sm_answer_pairs.specs.PairsAnswer.{IsPairsAnswer};
 ghost use Rattle.sm_tally.specs.Fold.{Shown, shown_as};
 ghost use Rattle.sm_answer_survey.specs.SurveyAnswer.{IsSurveyAnswer};
-ghost use Rattle.sm_top.specs.Outcome.{IsSolved, IsRegretted, IsWeighed, IsAnswer, IsBadCursor, IsOwnRefusal, IsRefused};
+ghost use Rattle.sm_answer_given.specs.GivenText.{texts_from};
+ghost use Rattle.sm_answer_route.specs.RouteAnswer.{IsRouteAnswer};
+ghost use Rattle.sm_top.specs.Outcome.{IsSolved, IsRegretted, IsWeighed, IsMiddle, IsAnswer, IsBadCursor, IsTooManyAllowed, IsGivenRefusal, IsOwnRefusal, IsRefused};
 ghost use Rattle.sm_answer_rotations.specs.Reduction.{IsReduction};
 ghost use Rattle.sm_answer_rotations.specs.RotationAnswer.{IsRotationAnswer};
 ghost use Rattle.sm_top.specs.Stops.{StopsBy};
 ghost use Rattle.sm_top.specs.declared.stop.Stop.TheVariants.{Refused};
 ghost use Rattle.sm_top.specs.Wrote.{Wrote, With};
 
+use crate::behind::given_behind;
 use crate::choosing::choose;
 use crate::refusing::{counts_of, takes_rooms_alone, takes_text};
 use crate::status::Status;
 use crate::stop::Stop;
 use crate::writing::write;
 use sm_answer_list::{list_lines, start_list};
+use sm_answer_median::{MedianFault, find_median, median_lines};
 use sm_answer_pairs::{find_pairs, find_regret, pairs_lines, regret_lines};
 use sm_answer_roommates::{
     RoomSolution, couple_lines, find_rest, find_roommates, party_lines, rest_lines,
@@ -38,6 +42,7 @@ use sm_answer_roommates::{
 use sm_answer_rotations::{
     Basis, find_reduction, none_lines, reduction_lines, rotation_answer_lines,
 };
+use sm_answer_route::{find_route, route_lines};
 use sm_answer_solve::{find_solution, solution_lines};
 use sm_answer_survey::survey_lines;
 use sm_answer_weight::{find_lightest, lightest_lines};
@@ -192,6 +197,8 @@ fn perform_on_two<K: Sink>(
             sink,
         ),
         Job::Survey(limit) => Ok(survey(alloc, given, *limit, tallies, sink)?),
+        Job::Median => show_median(alloc, given, sink),
+        Job::Route => show_route(alloc, given, bytes, sink),
         Job::Check | Job::Make(_, _, _, _) | Job::Rest => unreachable!(),
     }
 }
@@ -229,7 +236,9 @@ fn perform_on_persons<K: Sink>(
         | Job::Weight(_)
         | Job::Meet
         | Job::Join
-        | Job::Survey(_) => Err(Stop::Refused(RefusalKind::WrongKind, read.header_line)),
+        | Job::Survey(_)
+        | Job::Median
+        | Job::Route => Err(Stop::Refused(RefusalKind::WrongKind, read.header_line)),
         Job::Check | Job::Make(_, _, _, _) => unreachable!(),
     }
 }
@@ -467,6 +476,59 @@ fn survey<K: Sink>(
         limit,
         tallies,
     )?;
+    Ok(write(alloc, sink, Status::Done, lines))
+}
+
+/// Does `median`.
+fn show_median<K: Sink>(alloc: Global, given: &Counted<'_>, sink: &mut K) -> Result<Status, Stop>
+    requires { IsCounted given.now.read.now.input given.now.instance.now given.now.counts }
+    ensures wrote { IfOk result (λ status. Wrote
+        (λ status. IsShown given.now.read.now.input (IsMiddle given.now.read.now.input status))
+        (K.held sink.old) (K.held sink.new) (K.faults sink.old) (K.faults sink.new) status) }
+    ensures stop { IfErr result (λ stop.
+        StopsBy (λ _. ⊥) (IsTooManyAllowed given.now.read.now.input) ⊥ stop) }
+    ensures unwritten { OnErr result (sink.new ≡ sink.old) }
+    ensures later { K.faults sink.old ≤ K.faults sink.new }
+{
+    let seats = Seats::counted(alloc, given.instance, &given.counts)?;
+    match find_median(alloc, given.instance, &seats) {
+        Ok(Some(found)) => {
+            let lines = median_lines(&given.read.input, given.instance, &found);
+            Ok(write(alloc, sink, Status::Done, lines))
+        }
+        Ok(None) => {
+            let no_median = none_lines(&given.read.input, given.instance, Head::Median);
+            Ok(write(alloc, sink, Status::NoneExists, no_median))
+        }
+        Err(MedianFault::TooMany) => Err(Stop::Refused(RefusalKind::TooMany, 0)),
+        Err(MedianFault::OutOfMemory) => Err(Stop::OutOfMemory),
+    }
+}
+
+/// Does `route`, with the two matchings behind `end`.
+fn show_route<K: Sink>(
+    alloc: Global,
+    given: &Counted<'_>,
+    bytes: &[u8],
+    sink: &mut K,
+) -> Result<Status, Stop>
+    requires counted { IsCounted given.now.read.now.input given.now.instance.now given.now.counts }
+    requires few { given.now.read.now.rest_line
+        + length (lines (drop given.now.read.now.rest bytes.now)) < 2 ^ 32 }
+    ensures wrote { IfOk result (λ status. Wrote
+        (With Status.Done (IsShown given.now.read.now.input (IsRouteAnswer (texts_from bytes.now
+        given.now.read.now.rest) given.now.instance.now)))
+        (K.held sink.old) (K.held sink.new) (K.faults sink.old) (K.faults sink.new) status) }
+    ensures stop { IfErr result (λ stop. StopsBy (λ _. ⊥)
+        (IsGivenRefusal given.now.instance.now (texts_from bytes.now given.now.read.now.rest)
+        given.now.read.now.rest_line) ⊥ stop) }
+    ensures unwritten { OnErr result (sink.new ≡ sink.old) }
+    ensures later { K.faults sink.old ≤ K.faults sink.new }
+{
+    let ends = given_behind(alloc, given.read, given.instance, bytes)?;
+    let seats = Seats::counted(alloc, given.instance, &given.counts)?;
+    let found = find_route(alloc, given.instance, &seats, &ends)?;
+    let lines = route_lines(&given.read.input, given.instance, &seats, &ends, &found);
     Ok(write(alloc, sink, Status::Done, lines))
 }
 

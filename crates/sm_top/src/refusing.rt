@@ -114,8 +114,9 @@ pub(crate) fn takes_text(job: &Job) -> bool
         | Job::Weight(_)
         | Job::Survey(_)
         | Job::Make(_, _, _, _)
-        | Job::Rest => false,
-        Job::Meet | Job::Join | Job::Check => true,
+        | Job::Rest
+        | Job::Median => false,
+        Job::Meet | Job::Join | Job::Check | Job::Route => true,
     }
 }
 

@@ -50,19 +50,24 @@ use std::alloc::Global;
 ///   `meet` and `join` the pairs of two stable matchings, which are read behind `end`, and those of the matching in which
 ///   each proposer has the better of its two partners, or the worse (section 1.3.1 there); for `survey` how many allowed
 ///   stable matchings are listed from the first on, up to the limit, and what the tallies show that were told of each of
-///   them; for `check` that the answer which is read behind `end` is right: each clause holds at each of its lines, and what that
+///   them; for `median` how many stable matchings are allowed, and the pairs of the one in which each proposer has the partner in
+///   the middle of those that it has in all of them (Teo and Sethuraman 1998); for `route` the pairs of two stable matchings,
+///   which are read behind `end`, what `rotations` has, and the fewest rotations that lead from the left one back and forth to
+///   the right one; for `check` that the answer which is read behind `end` is right: each clause holds at each of its lines, and what that
 ///   means of the instance is said in [`sm_cert::laws`]; for `make` the text of the instance that is made, or what `survey`
 ///   with a limit of 100, or for roommates `solve`, writes for it.
 /// - `Refused`: the input is refused for this reason, at this line; the one line `refused NAME LINE` is written. An input
 ///   that is too long comes first, then the faults of its lines from the top, then a missing `end`, then a name that isn't
 ///   declared, then text behind `end` where the command takes none, then a kind that the command doesn't take, then seats
-///   that have more than 1,048,576 entries. Then come a cursor that hasn't a number for each proposer, for `list`; and for `meet` and `join` the first
+///   that have more than 1,048,576 entries. Then come a cursor that hasn't a number for each proposer, for `list`; more than
+///   100,000 allowed stable matchings, for `median`; and for `meet`, `join` and `route` the first
 ///   line behind `end` that can't stand where it stands, then, with four more fields, the first pair that can't be held
 ///   beside those before it, then, at the closing `end`, a pair that blocks the left matching, then one that blocks the
 ///   right one; and for `check` the first line behind `end` that isn't of the form of an answer where it stands.
 /// - `NoneExists`: the whole answer is written, and says that there is no such matching. For `solve` it is `none`, where
 ///   roommates have no stable matching, and the parties of a stable partition that has an odd one of three or more (Tan
-///   1991), and so for `make` with `show=summary`; for `regret` and `weight` it is `none` alone, where no stable matching is allowed.
+///   1991), and so for `make` with `show=summary`; for `regret`, `weight` and `median` it is `none` alone,
+///   where no stable matching is allowed.
 /// - `CheckedNo`: the whole answer is written, and says that the answer behind `end`, for `check`, isn't right: at this line, counted
 ///   over the whole input, a clause fails for this reason. At the lines before it none does, nor at it for a reason that comes
 ///   before.
@@ -76,8 +81,9 @@ use std::alloc::Global;
 /// Takes time and memory linear in the bytes for `solve`, `reduced`, `meet` and `join`, beside a look-up for each name, and
 /// for `make` in those that are written. For the others those of [`sm_rotations::chain`] and [`sm_poset::Poset::of`] come
 /// besides, and then those of [`sm_answer_list::start_list`] and of each step for `list` and `survey`, of
-/// [`sm_answer_pairs::find_pairs`] and [`sm_answer_pairs::find_regret`] for `pairs` and `regret`, and of
-/// [`sm_answer_weight::find_lightest`] for `weight`. `check` takes those of [`sm_cert::check`].
+/// [`sm_answer_pairs::find_pairs`] and [`sm_answer_pairs::find_regret`] for `pairs` and `regret`, of
+/// [`sm_answer_weight::find_lightest`] for `weight`, of [`sm_answer_median::find_median`] for `median`, and of
+/// [`sm_answer_route::find_route`] for `route`. `check` takes those of [`sm_cert::check`].
 pub fn run<S: Source, K: Sink>(
     alloc: Global,
     words: &[String],

@@ -134,6 +134,8 @@ job_in_bounds command.Survey g job b e small = subst IsInBounds (same_Some _ _ e
 job_in_bounds command.Check g job b e small = subst IsInBounds (same_Some _ _ e) tt
 job_in_bounds command.Make g job b e small = making_in_bounds g job b e small
 job_in_bounds command.Rest g job b e small = subst IsInBounds (same_Some _ _ e) tt
+job_in_bounds command.Median g job b e small = subst IsInBounds (same_Some _ _ e) tt
+job_in_bounds command.Route g job b e small = subst IsInBounds (same_Some _ _ e) tt
 
 asked_in_bounds : (c : Command) (operands : List (List ℕ)) (job : JobData) → asked c operands ≡ Ok job → IsInBounds job
 asked_in_bounds c operands job e = by_given (read_operands c 2 nothing_given operands) refl e where

@@ -24,6 +24,8 @@ pub data JobData : Type 0 where
   Check : JobData
   Make : Shape → ℕ → ℕ → Bool → JobData
   Rest : JobData
+  Median : JobData
+  Route : JobData
 
 -- a job as plain data
 abbrev pub job_of : Job → JobData
@@ -40,6 +42,8 @@ job_of (job.Survey limit) = Survey limit
 job_of job.Check = Check
 job_of (job.Make shape size seed summary) = Make shape size seed summary
 job_of job.Rest = Rest
+job_of job.Median = Median
+job_of job.Route = Route
 
 -- a limit lies in its bounds
 abbrev pub least_limit : ℕ
@@ -76,3 +80,5 @@ IsInBounds (Survey limit) = IsLimit limit
 IsInBounds Check = Unit {0}
 IsInBounds (Make shape size seed summary) = (least_size ≤ size) × (size ≤ most_size shape) × (seed < 2 ^ 64)
 IsInBounds Rest = Unit {0}
+IsInBounds Median = Unit {0}
+IsInBounds Route = Unit {0}

@@ -34,6 +34,8 @@ commands =
     ∷ (codes "check", command.Check)
     ∷ (codes "make", command.Make)
     ∷ (codes "rest", command.Rest)
+    ∷ (codes "median", command.Median)
+    ∷ (codes "route", command.Route)
     ∷ []
 
 -- the operands of a command by their names
@@ -56,6 +58,8 @@ operands_of command.Make =
     ∷ (codes "show", operand.Show)
     ∷ []
 operands_of command.Rest = []
+operands_of command.Median = []
+operands_of command.Route = []
 
 -- the sides by their names
 abbrev pub sides : List (List ℕ × Side)

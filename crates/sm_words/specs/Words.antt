@@ -10,7 +10,7 @@ use Rattle.sm_words.specs.declared.operands.Command.{Command}
 use Rattle.sm_words.specs.declared.operands.Command.TheVariants as command
 use Rattle.sm_words.specs.declared.jobs.WordsFault.{WordsFault}
 use Rattle.sm_words.specs.declared.jobs.WordsFault.TheVariants.{Usage, OutOfMemory}
-use Rattle.sm_words.specs.Jobs.{JobData, Solve, Reduced, Rotations, Pairs, Regret, Weight, Meet, Join, Survey, Check, Make, Rest}
+use Rattle.sm_words.specs.Jobs.{JobData, Solve, Reduced, Rotations, Pairs, Regret, Weight, Meet, Join, Survey, Check, Make, Rest, Median, Route}
 use Rattle.sm_words.specs.Tables.{commands}
 use Rattle.sm_words.specs.Operands.{GivenData, nothing_given, has_name, name_in, with_word}
 
@@ -49,6 +49,8 @@ job_for command.Check g = Some Check
 job_for command.Make g =
     option_and_then (λ shape. option_and_then (λ size. option_map (λ seed. Make shape size seed (unwrap_or g.show usual_show)) g.seed) g.size) g.shape
 job_for command.Rest g = Some Rest
+job_for command.Median g = Some Median
+job_for command.Route g = Some Route
 
 -- the job of the operands that were read, or the word behind the last where a required one is missing
 abbrev pub or_missing : Command → ℕ → Result GivenData ℕ → Result JobData ℕ

@@ -35,6 +35,10 @@ pub enum Job {
     Make(Shape, u32, u64, bool),
     /// Of roommates who are left out, and a matching of the others.
     Rest,
+    /// The median of the allowed stable matchings, and how many they are.
+    Median,
+    /// The fewest steps from one of two stable matchings that are given to the other.
+    Route,
 }
 
 /// Why words ask for nothing.

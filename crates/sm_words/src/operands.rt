@@ -35,6 +35,8 @@ pub(crate) enum Command {
     Check,
     Make,
     Rest,
+    Median,
+    Route,
 }
 
 /// An operand.
@@ -96,6 +98,8 @@ pub(crate) fn command_named(name: &str) -> Option<Command>
         "check" => Some(Command::Check),
         "make" => Some(Command::Make),
         "rest" => Some(Command::Rest),
+        "median" => Some(Command::Median),
+        "route" => Some(Command::Route),
         _ => None,
     }
 }
@@ -175,6 +179,8 @@ fn operand_named(command: Command, name: &str) -> Option<Operand>
             _ => None,
         },
         Command::Rest => None,
+        Command::Median => None,
+        Command::Route => None,
     }
 }
 

@@ -29,8 +29,8 @@ const MOST_SIZE: u32 = 512;
 /// behind the first `=`. Each operand stands at most once, and they stand in any order. `solve` may have
 /// `side=proposers` or `side=reviewers`; `list` may have `after=` with the numbers of a vector, one comma between each two
 /// or `-` for none, and `limit=` with a number from 1 to 1,000,000, which is 100 where none is given; `survey` may have
-/// `limit=` alike; `weight` has `by=ranks` or `by=given`; `reduced`, `rotations`, `pairs`, `regret`, `meet`, `join` and `check`
-/// have no operands. `make` has `shape=copies`, `cycle`, `random`, `hospitals` or `rooms`, `size=` with a number from 1 to 2,048,
+/// `limit=` alike; `weight` has `by=ranks` or `by=given`; `reduced`, `rotations`, `pairs`, `regret`, `meet`, `join`, `check`, `rest`,
+/// `median` and `route` have no operands. `make` has `shape=copies`, `cycle`, `random`, `hospitals` or `rooms`, `size=` with a number from 1 to 2,048,
 /// which has to be at most 512 where the shape isn't `copies`, and `seed=` with a number below 2^64, and may have `show=text`
 /// or `show=summary`, which is `text` where none is given. Takes time linear in the words, and memory for the vector alone.
 ///
@@ -105,6 +105,8 @@ fn job_for(command: Command, given: Given) -> Option<Job>
         Command::Check => Some(Job::Check),
         Command::Make => making(&given),
         Command::Rest => Some(Job::Rest),
+        Command::Median => Some(Job::Median),
+        Command::Route => Some(Job::Route),
     }
 }
 

@@ -1,5 +1,6 @@
 use Rattle.std.proofs.Common.{arith}
-use Rattle.sm_answer_survey.proofs.SurveyLemmas.{begun, current_allowed, fed_more, told_all}
+use Rattle.sm_answer_list.proofs.UnderwayLemmas.{current_allowed}
+use Rattle.sm_answer_survey.proofs.SurveyLemmas.{begun, fed_more, told_all}
 use Rattle.sm_answer_survey.proofs.feeding.feed_listed.Goals as goal
 
 pub matchings-init : goal.matchings-init
@@ -11,7 +12,7 @@ returns-then-not-advance g c =
 
 pub feed-requires-clause-vector : goal.feed-requires-clause-vector
 feed-requires-clause-vector g c =
-    current_allowed c.advance.new.self _ c.matchings.invariant.underway (c.advance.ensures.next c.if-not-advance.false) c.current.ensures
+    current_allowed c.advance.new.self _ c.matchings.invariant.underway.vectors (c.advance.ensures.next c.if-not-advance.false) c.current.ensures
 
 pub matchings-preserved : goal.matchings-preserved
 matchings-preserved g c = record {

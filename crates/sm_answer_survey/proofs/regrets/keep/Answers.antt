@@ -1,6 +1,7 @@
 use Rattle.std.proofs.Common.{◌<◌, [], ◌∷◌, ◌++◌, length, slice_index, sym, ap, ◌∙◌, arith}
 use Rattle.std.proofs.lemmas.List.{take_all, take_more, take_more_set, take_more_same}
-use Rattle.sm_answer_survey.proofs.RegretLemmas.{vector_long, one_kept}
+use Rattle.sm_answer_list.proofs.RankLemmas.{vector_long}
+use Rattle.sm_answer_survey.proofs.RegretLemmas.{one_kept}
 use Rattle.sm_answer_survey.proofs.regrets.keep.Goals.{then-kept-p, else-kept-p}
 use Rattle.sm_answer_survey.proofs.regrets.keep.Goals as goal
 

@@ -1,6 +1,6 @@
 use Rattle.std.proofs.Common.{◌-◌, ◌∙◌, sym, ap, arith, slice_index}
 use Rattle.sm_instance.specs.Ranks.{worse_rank}
-use Rattle.sm_answer_survey.proofs.RegretLemmas.{vector_long, rank_at, held_at, alone_at}
+use Rattle.sm_answer_list.proofs.RankLemmas.{vector_long, rank_at, held_at, alone_at}
 use Rattle.sm_answer_survey.proofs.regrets.worse_rank.Goals as goal
 
 pub bounds-ranks-p : goal.bounds-ranks-p

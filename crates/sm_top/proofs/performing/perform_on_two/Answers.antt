@@ -2,7 +2,7 @@ use Rattle.std.proofs.Common.{ap}
 use Rattle.sm_top.specs.Accepting.{takes_text}
 use Rattle.sm_reader.specs.InstanceText.{read_of}
 use Rattle.std.proofs.lemmas.Result.{IfOk-weaker}
-use Rattle.sm_words.specs.Jobs.{JobData, Solve, Reduced, Rotations, Pairs, Regret, Weight, Meet, Join, Survey}
+use Rattle.sm_words.specs.Jobs.{JobData, Solve, Reduced, Rotations, Pairs, Regret, Weight, Meet, Join, Survey, Median, Route}
 use Rattle.sm_answer_rotations.specs.Reduction.{IsReduction}
 use Rattle.sm_answer_rotations.specs.RotationAnswer.{IsRotationAnswer}
 use Rattle.sm_answer_list.specs.ListAnswer.{IsListAnswer}
@@ -11,7 +11,8 @@ use Rattle.sm_answer_pairs.specs.PairsAnswer.{IsPairsAnswer}
 use Rattle.sm_theory.specs.declared.choice.Choice.TheVariants.{Better, Worse}
 use Rattle.sm_answer_given.specs.GivenText.{texts_from}
 use Rattle.sm_answer_given.specs.Chosen.{IsChosenAnswer}
-use Rattle.sm_top.specs.Outcome.{IsSolved, IsRegretted, IsWeighed}
+use Rattle.sm_answer_route.specs.RouteAnswer.{IsRouteAnswer}
+use Rattle.sm_top.specs.Outcome.{IsSolved, IsRegretted, IsWeighed, IsMiddle}
 use Rattle.sm_top.specs.declared.status.Status.TheVariants.{Done}
 use Rattle.sm_words.specs.Jobs.{job_of}
 use Rattle.sm_top.proofs.RunLemmas.{wrote_answer, wrote_answer_by}
@@ -94,3 +95,23 @@ pub returns-in_ok-show_lightest-in-Weight-clause-wrote : goal.returns-in_ok-show
 returns-in_ok-show_lightest-in-Weight-clause-wrote g c = λ text kept accepted.
     let ok = rw c.in-Weight.is at accepted in
     rw c.in-Weight.is (answer_over (Weight c.in-Weight.by) text (read_of c.args.given.now.read.now) (IsWeighed c.in-Weight.by) _ _ _ _ _ ok c.in_ok-show_lightest-in-Weight.ensures.wrote)
+
+pub returns-in-Median-clause-wrote : goal.returns-in-Median-clause-wrote
+returns-in-Median-clause-wrote g c = λ text kept accepted.
+    let ok = rw c.in-Median.is at accepted in
+    rw c.in-Median.is (IfOk-weaker c.show_median.result _ _ (λ status w. answer_over Median text (read_of c.args.given.now.read.now) IsMiddle _ _ _ _ status ok w) c.show_median.ensures.wrote)
+
+pub show_route-requires-clause-few : goal.show_route-requires-clause-few
+show_route-requires-clause-few g c = c.requires.few (ap (λ j. takes_text (job_of j)) c.in-Route.is)
+
+pub returns-in-Route-clause-wrote : goal.returns-in-Route-clause-wrote
+returns-in-Route-clause-wrote g c = λ text kept accepted.
+    let ok = rw c.in-Route.is at accepted in
+    let given = c.args.given.now in
+    let same = kept (ap (λ j. takes_text (job_of j)) c.in-Route.is) in
+    rw c.in-Route.is (IfOk-weaker c.show_route.result _ _ (λ status w. wrote_answer_by Route text (read_of given.read.now) given.instance.now (λ read. IsRouteAnswer (texts_from text read.rest)) Done _ _ _ _ status ok c.requires.counted.two w) (rw same at c.show_route.ensures.wrote))
+
+pub returns-in-Route-clause-stop : goal.returns-in-Route-clause-stop
+returns-in-Route-clause-stop g c = λ text kept.
+    let same = kept (ap (λ j. takes_text (job_of j)) c.in-Route.is) in
+    rw c.in-Route.is (rw c.requires.counted.two (rw same at c.show_route.ensures.stop))

@@ -1,0 +1,3 @@
+pub mod MedianAnswer
+pub mod RankCounts
+pub mod Found

@@ -1,0 +1,3 @@
+pub mod SeatedLemmas
+pub mod StepLemmas
+pub mod RouteLemmas

@@ -1,0 +1,2 @@
+pub mod RouteAnswer
+pub mod RouteFound

@@ -1,0 +1,36 @@
+//! The closed set of a stable matching.
+
+ghost use Rattle.std.specs.Prelude.{◌≡◌, IfOk};
+ghost use Rattle.sm_instance.specs.Written.{Written};
+ghost use Rattle.sm_instance.specs.Stable.{IsStable};
+ghost use Rattle.sm_seats.specs.Seating.{seating_of};
+ghost use Rattle.sm_seats.specs.Correspondence.{IsSeating};
+ghost use Rattle.sm_answer_route.specs.RouteAnswer.{IsSetOf};
+
+use sm_instance::{Assignment, Instance};
+use sm_poset::Poset;
+use sm_seats::Seats;
+use sm_theory::ClosedSet;
+use std::alloc::{AllocError, Global};
+
+/// The closed set of the rotations of the seats that lead to a stable matching of the instance.
+pub(crate) fn set_for(
+    alloc: Global,
+    instance: &Instance,
+    seats: &Seats,
+    poset: &Poset,
+    matching: &Assignment,
+) -> Result<ClosedSet, AllocError>
+    ghost written: { Written }
+    requires written { written ≡ instance.now }
+    requires seats { seats.now ≡ seating_of written }
+    requires seating { IsSeating written seats.now }
+    requires market { poset.now.lists ≡ seats.now.market }
+    requires stable { IsStable written matching.now.places.items }
+    ensures { IfOk result (λ set. IsSetOf written poset.now.first.places poset.now.rotations
+        matching.now.places.items set.members.items) }
+{
+    let _count = instance.proposer_count();
+    let seated = seats.to_seats(alloc, matching)?;
+    poset.set_of(alloc, &seated)
+}
