@@ -24,14 +24,14 @@ no_ranks w p = replicate (length (written_row w.proposers p) + 2) 0
 no_numbers : (n : ℕ) → AreCountsOf [] (replicate n 0)
 no_numbers n = record {
   in_range = All-nil (λ x. x < length (replicate n 0));
-  counted = λ x inside. get_or-replicate n x 0 0 (let long = length-replicate n 0 in omega (arith, inside, long));
+  counted = λ x inside. get_or-replicate n x 0 0 (let long = length-replicate {A = ℕ} n 0 in omega (arith, inside, long));
 }
 
 -- nothing is counted
 pub none_counted : {w : Written} {rows : List (List ℕ)} → rows ≡ map (no_ranks w) (range_with_len 0 (length w.proposers)) → AreRankCounts w [] rows
 none_counted {w} {rows} is = subst (AreRankCounts w []) (sym is) (record {
   one_each = length-map-range_with_len (no_ranks w) 0 (length w.proposers);
-  ranks = λ p inside. ap length (at p inside) ∙ length-replicate (length (written_row w.proposers p) + 2) 0;
+  ranks = λ p inside. ap length (at p inside) ∙ length-replicate {A = ℕ} (length (written_row w.proposers p) + 2) 0;
   counts = λ p inside. subst (AreCountsOf []) (sym (at p inside)) (no_numbers (length (written_row w.proposers p) + 2));
 })
   where

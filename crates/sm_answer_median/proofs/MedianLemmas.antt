@@ -1,11 +1,11 @@
 -- The median of the allowed stable matchings, by the counts of their ranks.
-use Rattle.std.proofs.Common.{◌≡◌, ℕ, ◌+◌, ◌-◌, ◌/◌, ◌<◌, ◌≤◌, List, [], ◌∷◌, length, Option, None, slice_index, slice_index_or, refl, sym, ap, ◌∙◌, subst, arith}
+use Rattle.std.proofs.Common.{◌≡◌, ℕ, ◌+◌, ◌/◌, ◌<◌, ◌≤◌, List, [], ◌∷◌, length, Option, None, slice_index, slice_index_or, refl, sym, ap, ◌∙◌, subst, arith}
 use Rattle.std.specs.List.{All}
 use Rattle.std.proofs.lemmas.List.{length-map}
 use Rattle.std.proofs.lemmas.List.Elements.{All-from_get_or}
 use Rattle.sm_lists.specs.Rows.{row}
 use Rattle.sm_instance.specs.Written.{Written}
-use Rattle.sm_instance.specs.Matching.{standing}
+use Rattle.sm_instance.specs.Matching.{held, standing}
 use Rattle.sm_instance.specs.Stable.{IsStable}
 use Rattle.sm_instance.specs.Allowed.{IsAllowed}
 use Rattle.sm_instance.specs.Ranks.{rank_vector_of}
@@ -78,16 +78,23 @@ middle_counted {w} {listed} {rows} p place counts m inside is row_is =
     let same : place ≡ middle (length m.vectors) = is ∙ ap middle m.count in
     let long = length-map m.vectors (λ (v : List ℕ). slice_index v p) in
     let within = middle_within (length m.vectors) m.median.some in
-    subst (IsCountedPlace w p counts) (sym same) (subst (λ r. IsCountedPlace w p r (middle (length m.vectors))) (sym row_is) (record {
+    record {
       places = m.places;
       matching = m.median.stable.matching;
       ranks = column m.vectors p;
-      counted = m.counts.counts p inside;
-      long = m.counts.ranks p inside;
-      some = within.0;
-      within = omega (arith, within.1, long);
-      at = subst (IsAtPlace (column m.vectors p) (middle (length m.vectors))) (rank_at w m.places refl p inside) (m.median.median.each p inside);
-    }))
+      counted = subst (AreCountsOf (column m.vectors p)) (sym row_is) (m.counts.counts p inside);
+      long = ap (λ (xs : List ℕ). length xs) row_is ∙ m.counts.ranks p inside;
+      some = omega (arith, same, within.0);
+      within = omega (arith, same, within.1, long);
+      at = subst (λ k. IsAtPlace (column m.vectors p) k (standing w m.places p + 1)) (sym same)
+          (subst (IsAtPlace (column m.vectors p) (middle (length m.vectors))) (rank_at w m.places refl p inside) (m.median.median.each p inside));
+    }
+
+-- so what is held wherever a rank stands there is held in the median
+pub middle_held : {w : Written} {listed : ℕ} {rows : List (List ℕ)} {result : Option ℕ} (p place : ℕ) (counts : List ℕ) → (m : IsMedianCounted w listed rows) → p < length w.proposers → place ≡ (listed + 1) / 2 → counts ≡ row rows p
+    → ((c : IsCountedPlace w p counts place) → result ≡ held c.places p) → result ≡ held m.places p
+unfolding middle_counted
+middle_held p place counts m inside is row_is given = given (middle_counted p place counts m inside is row_is)
 
 -- a rank that stands there is that of the matching
 pub rank_is : {w : Written} {p place rank : ℕ} {counts : List ℕ} → (m : IsCountedPlace w p counts place)
