@@ -1,6 +1,6 @@
 -- No made instance has too many seats.
-use Rattle.std.proofs.Common.{◌≡◌, ℕ, ◌+◌, ◌-◌, ◌*◌, ◌<◌, ◌≤◌, List, [], length, min, get_or, Option, None, sym, ap, ◌∙◌, subst, arith}
-use Rattle.std.specs.List.{range_with_len, sum_by, All}
+use Rattle.std.proofs.Common.{◌≡◌, ℕ, ◌+◌, ◌-◌, ◌*◌, ◌<◌, ◌≤◌, List, [], length, drop, get_or, None, refl, sym, ap, subst, arith}
+use Rattle.std.specs.List.{range_with_len, All}
 use Rattle.std.specs.Option.{option_map}
 use Rattle.std.proofs.Math.Nat.{mul-le-mul_left, mul-le-mul_right, div-le_of_le-mul}
 use Rattle.std.proofs.lemmas.List.Sums.{sum_by-le}
@@ -12,7 +12,7 @@ use Rattle.sm_instance.specs.declared.kinds.Kind.{Kind}
 use Rattle.sm_instance.specs.declared.kinds.Kind.TheVariants.{Marriage, Hospitals}
 use Rattle.sm_instance.specs.declared.inputs.Input.TheVariants.{Two}
 use Rattle.sm_make.specs.Words.{words, of_seed}
-use Rattle.sm_make.specs.Lists.{in_turn, copy_list, copy_list_back, turn_from, rising, shuffled_list, shuffled_others}
+use Rattle.sm_make.specs.Lists.{in_turn, copy_list, copy_list_back, turn_from, shuffled_list}
 use Rattle.sm_make.specs.Made.{agent, agents_made, proposer_letter, reviewer_letter, plain, hospitals_for, words_for, made, made_instance, most_size}
 use Rattle.sm_make.specs.declared.shape.Shape.{Shape}
 use Rattle.sm_make.specs.declared.shape.Shape.TheVariants.{Copies, Cycle, Random, Hospitals as HospitalsShape, Rooms}
@@ -20,7 +20,7 @@ use Rattle.sm_make.proofs.SideLemmas.{agent_at-agents_made}
 use Rattle.sm_make.proofs.SoundLemmas.{shuffles_are_whole}
 use Rattle.sm_seats.specs.Mutual.{lists_back, mutual_row}
 use Rattle.sm_seats.specs.SeatMarket.{seat_count}
-use Rattle.sm_seats.specs.SeatEntries.{seat_entries, seat_entries_before, AreFewSeats, first_too_many}
+use Rattle.sm_seats.specs.SeatEntries.{seat_entries, seat_entries_before}
 use Rattle.sm_seats.proofs.FilterLemmas.{length-filter-le}
 use Rattle.sm_seats.proofs.LimitLaws.{first_too_many-none}
 use Rattle.sm_top.specs.Accepting.{too_many_in}
@@ -45,7 +45,7 @@ module _ (w : Written) (places most : ℕ) (fits : (r : ℕ) → r < length w.re
       let n = length w.reviewers in
       let long = length-range_with_len 0 n in
       let each : All (λ r. seat_entries w r ≤ places * most) (range_with_len 0 n) = λ i d l.
-      let at : get_or (range_with_len 0 n) i d ≡ i = get_or-range_with_len 0 n i d (omega (arith, l, long)) in
+      let at : get_or (range_with_len 0 n) i d ≡ i = (let e = get_or-range_with_len 0 n i d (omega (arith, l, long)) in omega (arith, e)) in
       subst (λ r. seat_entries w r ≤ places * most) (sym at) (one_reviewer i (omega (arith, l, long))) in
       let le = sum_by-le (seat_entries w) (places * most) (range_with_len 0 n) each in
       subst (λ k. seat_entries_before w n ≤ k * (places * most)) long le
@@ -82,11 +82,11 @@ few_made Cycle n drawn le =
     (λ a _. let e = length-map-range_with_len (in_turn n (a + 1)) 0 n in omega (arith, e)) (within n n 512 512 le le (omega arith))
 few_made Random n drawn le =
     made_few Marriage (agents_made proposer_letter 1 (shuffled_list n 0 drawn) n) 1 n n (shuffled_list n (n * (n - 1)) drawn)
-    (λ a _. let e = (shuffles_are_whole n _).long in omega (arith, e)) (within n n 512 512 le le (omega arith))
+    (λ a _. let e = (shuffles_are_whole n (drop (n * (n - 1) + a * (n - 1)) drawn)).long in omega (arith, e)) (within n n 512 512 le le (omega arith))
 few_made HospitalsShape n drawn le =
     let m = hospitals_for n in
     made_few Hospitals (agents_made proposer_letter 1 (shuffled_list m 0 drawn) n) 7 m n (shuffled_list n (n * (m - 1)) drawn)
-    (λ a _. let e = (shuffles_are_whole n _).long in omega (arith, e)) (let t = times m (7 * n) 64 (7 * 512) (hospitals_within n le) (omega (arith, le)) in omega (arith, t))
+    (λ a _. let e = (shuffles_are_whole n (drop (n * (m - 1) + a * (n - 1)) drawn)).long in omega (arith, e)) (let t = times m (7 * n) 64 (7 * 512) (hospitals_within n le) (omega (arith, le)) in omega (arith, t))
 few_made Rooms n drawn le = refl
 
 -- whatever the seed
