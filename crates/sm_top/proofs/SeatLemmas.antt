@@ -1,5 +1,5 @@
 -- Inputs that are refused for their seats.
-use Rattle.std.proofs.Common.{◌≡◌, ℕ, ◌<◌, arith, length, List, Some, None, get_or, sym, ap, ◌∙◌, refl, tt}
+use Rattle.std.proofs.Common.{◌≡◌, ℕ, ◌<◌, arith, length, List, Some, None, get_or, sym, ap, ◌∙◌, refl}
 use Rattle.std.specs.Option.{option_map}
 use Rattle.sm_text.specs.declared.refusal.RefusalKind.TheVariants.{TooManySeats}
 use Rattle.std.proofs.lemmas.List.{get_or-map, length-map}
