@@ -4,5 +4,6 @@ pub mod StopLemmas
 pub mod RefusingLemmas
 pub mod RunLemmas
 pub mod SeatLemmas
+pub mod MadeLemmas
 pub mod KindLemmas
 pub mod CheckLemmas

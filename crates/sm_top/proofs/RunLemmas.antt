@@ -29,7 +29,7 @@ use Rattle.sm_check_answers.specs.declared.verdicts.Verdict.{Verdict}
 use Rattle.sm_check_answers.specs.declared.verdicts.Verdict.TheVariants as verdict
 use Rattle.sm_top.specs.Checked.{status_by}
 use Rattle.sm_top.specs.Accepting.{reads_input, accepted, behind_text}
-use Rattle.sm_top.specs.Outcome.{OfTwo, OfRoom, IsSolved, IsRegretted, IsSummary, IsMade, IsWeighed, IsMiddle, IsAnswerOver, IsAnswer, IsRefused, IsTooManyMade, IsUnsurveyed, unsurveyed, Outcome, not_accepted, faulty_words, refused, answered}
+use Rattle.sm_top.specs.Outcome.{OfTwo, OfRoom, IsSolved, IsRegretted, IsSummary, IsMade, IsWeighed, IsMiddle, IsAnswerOver, IsAnswer, IsRefused, Outcome, not_accepted, faulty_words, refused, answered}
 use Rattle.sm_top.specs.Input.{IsReadWhole, ReadWhole, IsTooLong}
 use Rattle.sm_top.specs.Running.{IsBeingRead, Ends, Answers, AnswersAccepted, reads, asks_to_read, writes_all_lines, is_answer, is_too_long}
 use Rattle.sm_top.specs.Steps.{IsRefusalFor, IsRefusal, IsReadFault, Serves, ServesWords, SaysStop}
@@ -307,16 +307,6 @@ serves_unread {tallies} job none left a b f g status wrote = record {
   untouched = λ _. refl;
 }
 
--- a job that reads nothing may refuse what it makes
-pub refused_unread : (job : JobData) → reads_input job ≡ false → (left : Option (List ℕ)) (refusal : RefusalData) → IsUnsurveyed job refusal → IsRefusalFor job left left refusal
-refused_unread job none left refusal why = record {
-  bytes = bytes_of left;
-  read = agrees_of left;
-  refused = unsurveyed why;
-  read_whole = λ some _. absurd (true≢false (sym some ∙ none));
-  over = λ some. absurd (true≢false (sym some ∙ none));
-}
-
 -- made instances read nothing
 pub made_served : (tallies : List Shown) (words : List (List ℕ)) (shape : Shape) (size seed : ℕ) (summary : Bool) (input : Input) (left a b : Option (List ℕ)) (f g : ℕ) (r : Result Status Stop)
     → words_meaning words ≡ Ok (Make shape size seed summary) → input ≡ made_instance shape size seed → IfOk r (λ s. Wrote (IsMade tallies input summary) a b f g s)
@@ -328,17 +318,11 @@ made_served tallies words shape size seed summary input left a b f g (Ok status)
 }
 made_served tallies words shape size seed summary input left a b f g (Err stop) meaning same wrote = tt
 
--- a stop while an instance is made or surveyed is one that the words may come to
-pub made_stopped : (words : List (List ℕ)) (shape : Shape) (size seed : ℕ) (summary : Bool) (input : Input) (left : Option (List ℕ)) (h i : ℕ) (r : Result Status Stop)
-    → words_meaning words ≡ Ok (Make shape size seed summary) → input ≡ made_instance shape size seed → IfErr r (λ s. StopsBy (λ _. ⊥) (IsTooManyMade input summary) ⊥ s)
+-- a stop while an instance is made or surveyed is for want of memory
+pub made_stopped : (words : List (List ℕ)) (left : Option (List ℕ)) (h i : ℕ) (r : Result Status Stop) → IfErr r (λ s. StopsBy (λ _. ⊥) (λ _. ⊥) ⊥ s)
     → IfErr r (λ s. StopsBy (λ word. words_meaning words ≡ Err word) (IsRefusal words left left) (IsReadFault words h i) s)
-made_stopped words shape size seed summary input left h i r meaning same =
-    err_stops_for (λ _. ⊥) (λ word. words_meaning words ≡ Err word) (IsTooManyMade input summary) (IsRefusal words left left) ⊥ (IsReadFault words h i) r (λ word none. absurd none)
-    (λ refusal why. record {
-      job = Make shape size seed summary;
-      meaning = meaning;
-      for_job = refused_unread (Make shape size seed summary) refl left refusal (subst (λ (i : Input). IsTooManyMade i summary refusal) same why);
-    })
+made_stopped words left h i r =
+    err_stops_for (λ _. ⊥) (λ word. words_meaning words ≡ Err word) (λ _. ⊥) (IsRefusal words left left) ⊥ (IsReadFault words h i) r (λ word none. absurd none) (λ refusal none. absurd none)
     (λ none. absurd none)
 
 -- a status that says that the line of a stop was written is this one

@@ -18,7 +18,7 @@ use Rattle.sm_top.specs.declared.status.Status.{Status}
 use Rattle.sm_top.specs.declared.status.Status.TheVariants.{Done, Refused, Usage, NoneExists}
 use Rattle.sm_top.specs.Texts.{RefusalData, plain_refusal, with_detail, usage_line, refused_line}
 use Rattle.sm_top.specs.Checked.{IsChecked, IsUnreadable}
-use Rattle.sm_top.specs.Accepting.{reads_input, accepted, IsTooMany, IsUnaccepted}
+use Rattle.sm_top.specs.Accepting.{reads_input, accepted, IsUnaccepted}
 use Rattle.sm_answer_solve.specs.Solution.{IsSolution}
 use Rattle.sm_answer_rotations.specs.Reduction.{IsReduction}
 use Rattle.sm_answer_rotations.specs.RotationAnswer.{IsRotationAnswer}
@@ -163,21 +163,10 @@ IsOwnRefusal Rest bytes read refusal = ⊥
 IsOwnRefusal Median bytes read refusal = IsTooManyAllowed read.input refusal
 IsOwnRefusal Route bytes read refusal = IsBadGiven read.input (texts_from bytes read.rest) read.rest_line refusal
 
--- a made instance isn't surveyed where its seats have too many entries
-abbrev pub IsTooManyMade : Input → (summary : Bool) → RefusalData → Type 0
-IsTooManyMade input true refusal = IsTooMany input refusal
-IsTooManyMade input false refusal = ⊥
-
--- a job makes an instance to survey it, and its seats have too many entries
-abbrev pub IsUnsurveyed : JobData → RefusalData → Type 0
-IsUnsurveyed (Make shape size seed summary) refusal = IsTooManyMade (made_instance shape size seed) summary refusal
-IsUnsurveyed job refusal = ⊥
-
--- an input is refused, which `make` doesn't read
+-- an input is refused; `make` reads none, and is never refused
 pub data IsRefused (job : JobData) (bytes : List ℕ) (refusal : RefusalData) : Type 0 where
   not_accepted : reads_input job ≡ true → IsUnaccepted job bytes refusal → IsRefused job bytes refusal
   by_job : (read : ReadText) → accepted job bytes ≡ Ok read → IsOwnRefusal job bytes read refusal → IsRefused job bytes refusal
-  unsurveyed : IsUnsurveyed job refusal → IsRefused job bytes refusal
 
 -- The words are faulty; or they ask for a job, and the input is refused; or the lines are those of a right answer. The tallies
 -- showed this before.

@@ -1,10 +1,10 @@
 //! Made instances: their texts, and their summaries.
 
-ghost use Rattle.std.specs.Prelude.{◌≡◌, ◌≤◌, map, IfOk, IfErr, OnErr};
+ghost use Rattle.std.specs.Prelude.{◌≡◌, ◌≤◌, map, None, IfOk, IfErr, OnErr};
 ghost use Rattle.sm_answer.specs.Printing.{IsShown};
 ghost use Rattle.sm_tally.specs.Fold.{shown_as};
-ghost use Rattle.sm_top.specs.Accepting.{IsTooMany};
-ghost use Rattle.sm_top.specs.Outcome.{IsMade, IsSummary, IsTooManyMade};
+ghost use Rattle.sm_top.specs.Accepting.{too_many_in};
+ghost use Rattle.sm_top.specs.Outcome.{IsMade, IsSummary};
 ghost use Rattle.sm_top.specs.Stops.{StopsBy};
 ghost use Rattle.sm_top.specs.Wrote.{Wrote};
 
@@ -22,7 +22,7 @@ use sm_tally::Tally;
 use sm_words::USUAL_LIMIT;
 use std::alloc::Global;
 
-/// Writes the text of a made instance, or its summary.
+/// Writes the text of a made instance, or its summary. Its seats never have too many entries.
 pub(crate) fn show_made<K: Sink>(
     alloc: Global,
     input: &Input,
@@ -30,11 +30,11 @@ pub(crate) fn show_made<K: Sink>(
     tallies: &mut Vec<Box<dyn Tally>>,
     sink: &mut K,
 ) -> Result<Status, Stop>
+    requires few { too_many_in input.now ≡ None }
     ensures wrote { IfOk result (λ status. Wrote (IsMade (map (λ t. shown_as (kind t) (shown t))
         tallies.old.items) input.now is_summary)
         (K.held sink.old) (K.held sink.new) (K.faults sink.old) (K.faults sink.new) status) }
-    ensures stop { IfErr result (λ stop. StopsBy (λ _. ⊥) (IsTooManyMade input.now is_summary) ⊥
-        stop) }
+    ensures stop { IfErr result (λ stop. StopsBy (λ _. ⊥) (λ _. ⊥) ⊥ stop) }
     ensures unwritten { OnErr result (sink.new ≡ sink.old) }
     ensures later { K.faults sink.old ≤ K.faults sink.new }
 {
@@ -51,10 +51,11 @@ fn summarize<K: Sink>(
     tallies: &mut Vec<Box<dyn Tally>>,
     sink: &mut K,
 ) -> Result<Status, Stop>
+    requires few { too_many_in input.now ≡ None }
     ensures wrote { IfOk result (λ status. Wrote (λ status. IsShown input.now (IsSummary (map
         (λ t. shown_as (kind t) (shown t)) tallies.old.items) input.now status))
         (K.held sink.old) (K.held sink.new) (K.faults sink.old) (K.faults sink.new) status) }
-    ensures stop { IfErr result (λ stop. StopsBy (λ _. ⊥) (IsTooMany input.now) ⊥ stop) }
+    ensures stop { IfErr result (λ stop. StopsBy (λ _. ⊥) (λ _. ⊥) ⊥ stop) }
     ensures unwritten { OnErr result (sink.new ≡ sink.old) }
     ensures later { K.faults sink.old ≤ K.faults sink.new }
 {
