@@ -88,18 +88,23 @@ module _ (lefts rights : List AgentData) (one two : Bool) (us : AreSoundAgents l
       ∙ ap (λ t. pair ∷ t) (pairs_back pairs (n + 1) (λ k inside. there (suc k) (omega arith)))
 
   -- no weight names an unknown agent
-  pub weights_known : (weights : List (ℕ × ℕ × ℤ)) (n : ℕ) → ((k : ℕ) → k < length weights → IsPairOf (length lefts) (length rights) (weighed (get_or weights k (0, 0, pos 0))))
-      → pairs_with_unknown ps rs (map (λ (w : SaidWeight). w.pair) (lined weight_on_line n (map (said_weight lefts rights) weights))) ≡ []
+  pub weights_known : (both : List ((ℕ × ℕ × ℤ) × ℤ)) (n : ℕ) → ((k : ℕ) → k < length both → IsPairOf (length lefts) (length rights) (weighed (get_or both k ((0, 0, pos 0), pos 0)).0))
+      → pairs_with_unknown ps rs (map (λ (w : SaidWeight). w.pair) (lined weight_on_line n (map (said_weight lefts rights) both))) ≡ []
   weights_known [] n there = refl
-  weights_known (x ∷ weights) n there =
-      none_marked_pair (marks (said_pair lefts rights (weighed x))) (pair_on_line n (said_pair lefts rights (weighed x))) _ (known_pair (weighed x) (there 0 (omega arith)))
-      (weights_known weights (n + 1) (λ k inside. there (suc k) (omega arith)))
+  weights_known (x ∷ both) n there =
+      none_marked_pair (marks (said_pair lefts rights (weighed x.0))) (pair_on_line n (said_pair lefts rights (weighed x.0))) _ (known_pair (weighed x.0) (there 0 (omega arith)))
+      (weights_known both (n + 1) (λ k inside. there (suc k) (omega arith)))
 
   -- and the weights are the same again
-  pub weights_back : (weights : List (ℕ × ℕ × ℤ)) (n : ℕ) → ((k : ℕ) → k < length weights → IsPairOf (length lefts) (length rights) (weighed (get_or weights k (0, 0, pos 0))))
-      → map (λ (w : SaidWeight). (number_in ps w.pair.proposer, number_in rs w.pair.reviewer, w.weight)) (lined weight_on_line n (map (said_weight lefts rights) weights)) ≡ weights
+  pub weights_back : (both : List ((ℕ × ℕ × ℤ) × ℤ)) (n : ℕ) → ((k : ℕ) → k < length both → IsPairOf (length lefts) (length rights) (weighed (get_or both k ((0, 0, pos 0), pos 0)).0))
+      → map (λ (w : SaidWeight). (number_in ps w.pair.proposer, number_in rs w.pair.reviewer, w.weight)) (lined weight_on_line n (map (said_weight lefts rights) both)) ≡ map (λ (x : (ℕ × ℕ × ℤ) × ℤ). x.0) both
   weights_back [] n there = refl
-  weights_back (x ∷ weights) n there =
-      ap (λ (y : ℕ × ℕ). (y.0, y.1, x.2) ∷ map (λ (w : SaidWeight). (number_in ps w.pair.proposer, number_in rs w.pair.reviewer, w.weight)) (lined weight_on_line (n + 1) (map (said_weight lefts rights) weights)))
-      (pair_back (weighed x) (there 0 (omega arith)))
-      ∙ ap (λ t. x ∷ t) (weights_back weights (n + 1) (λ k inside. there (suc k) (omega arith)))
+  weights_back (x ∷ both) n there =
+      ap (λ (y : ℕ × ℕ). (y.0, y.1, x.0.2) ∷ map (λ (w : SaidWeight). (number_in ps w.pair.proposer, number_in rs w.pair.reviewer, w.weight)) (lined weight_on_line (n + 1) (map (said_weight lefts rights) both)))
+      (pair_back (weighed x.0) (there 0 (omega arith)))
+      ∙ ap (λ t. x.0 ∷ t) (weights_back both (n + 1) (λ k inside. there (suc k) (omega arith)))
+
+  -- and so are the second weights
+  pub seconds_back : (both : List ((ℕ × ℕ × ℤ) × ℤ)) (n : ℕ) → map (λ (w : SaidWeight). w.second) (lined weight_on_line n (map (said_weight lefts rights) both)) ≡ map (λ (x : (ℕ × ℕ × ℤ) × ℤ). x.1) both
+  seconds_back [] n = refl
+  seconds_back (x ∷ both) n = ap (λ t. x.1 ∷ t) (seconds_back both (n + 1))

@@ -1,7 +1,5 @@
 -- A printed instance is read back.
-use Rattle.std.proofs.Common.{◌≡◌, ◌≢◌, ℕ, ◌+◌, ◌<◌, ◌≤◌, true, List, [], ◌++◌, length, map, Ok, refl, sym, ap, ◌∙◌, arith, length-append, ℤ, pos}
-use Rattle.std.specs.List.{range_with_len}
-use Rattle.std.proofs.lemmas.List.{length-map}
+use Rattle.std.proofs.Common.{◌≡◌, ◌≢◌, ℕ, ◌+◌, ◌<◌, ◌≤◌, true, List, [], ◌++◌, length, Ok, refl, ap, ◌∙◌, arith, length-append, ℤ}
 use Rattle.sm_text.specs.Limits.{most_bytes}
 use Rattle.sm_instance.specs.Written.{AgentData, Written, row, entry, names_of as names_in}
 use Rattle.sm_instance.specs.Sound.{IsInstance, ArePersons, is_single}
@@ -14,7 +12,7 @@ use Rattle.sm_reader.specs.InstanceText.{ended, listed_by_proposers, unknown_lin
 use Rattle.sm_printed.specs.Names.{said_of}
 use Rattle.sm_printed.specs.Printed.{header_line, agent_lines, printed_lines}
 use Rattle.sm_printed.proofs.ItemLemmas.{weight_there, force_there, forbid_there}
-use Rattle.sm_law_reprint.specs.Reading.{unlined, without_lines, printed_text, IsReadBack, IsOfFormatOne, PrintedIsRead}
+use Rattle.sm_law_reprint.specs.Reading.{without_lines, printed_text, IsReadBack, PrintedIsRead}
 use Rattle.sm_law_reprint.proofs.CutLemmas.{with_end}
 use Rattle.sm_law_reprint.proofs.ReadLemmas.{lined_said, last_line, two_read, persons_read, lines_free, text_read}
 use Rattle.sm_law_reprint.proofs.InputLemmas.{two_good, room_good}
@@ -34,7 +32,7 @@ whole_length : (kind : Kind) (said : Said)
 whole_length kind said = omega (arith, length-append (with_end (header_line kind)) (text_of (agent_lines kind said)))
 
 -- an instance with two sides
-module _ (w : Written) (sound : IsInstance w) (plain : IsOfFormatOne (Two w)) where
+module _ (w : Written) (sound : IsInstance w) where
   abbrev said : Said
   said = said_of (Two w)
 
@@ -88,33 +86,19 @@ module _ (w : Written) (sound : IsInstance w) (plain : IsOfFormatOne (Two w)) wh
   -- the instance is the same again
   same_sides : (kind : Kind) → kind ≡ w.kind → without_lines (Two (two_sides kind now)) ≡ without_lines (Two w)
   same_sides kind is = ap (λ (x : Written). Two x) (same_parts is
-      proposers_back
+      (agents_back w.reviewers (is_single w.kind) sound.reviewers (names_of now.reviewers) reviewer_names w.proposers 2 proposers_listed)
       (agents_back w.proposers true sound.proposers (names_of now.proposers) proposer_names w.reviewers n1 reviewers_listed)
-      same_weights
+      (weights_back w.proposers w.reviewers true (is_single w.kind) sound.proposers sound.reviewers (names_of now.proposers) (names_of now.reviewers) proposer_names reviewer_names w.weights n2
+      (weight_there w sound w.weights refl))
       (pairs_back w.proposers w.reviewers true (is_single w.kind) sound.proposers sound.reviewers (names_of now.proposers) (names_of now.reviewers) proposer_names reviewer_names w.forced n3
       (force_there w sound w.forced refl))
       (pairs_back w.proposers w.reviewers true (is_single w.kind) sound.proposers sound.reviewers (names_of now.proposers) (names_of now.reviewers) proposer_names reviewer_names w.forbidden n4
-      (forbid_there w sound w.forbidden refl))
-      (ap (map (λ _. pos 0)) same_weights ∙ sym plain.0)
-      (ap (range_with_len 0) same_count ∙ sym plain.1))
+      (forbid_there w sound w.forbidden refl)))
     where
-      sides : Written
-      sides = two_sides kind now
-
-      proposers_back : map unlined sides.proposers ≡ map unlined w.proposers
-      proposers_back = agents_back w.reviewers (is_single w.kind) sound.reviewers (names_of now.reviewers) reviewer_names w.proposers 2 proposers_listed
-
-      same_weights : sides.weights ≡ w.weights
-      same_weights = weights_back w.proposers w.reviewers true (is_single w.kind) sound.proposers sound.reviewers (names_of now.proposers) (names_of now.reviewers) proposer_names reviewer_names w.weights n2
-          (weight_there w sound w.weights refl)
-
-      same_count : length sides.proposers ≡ length w.proposers
-      same_count = sym (length-map sides.proposers unlined) ∙ ap length proposers_back ∙ length-map w.proposers unlined
-
-      same_parts : {k k' : Kind} {a a' b b' : List AgentData} {x x' : List (ℕ × ℕ × ℤ)} {f f' g g' : List (ℕ × ℕ)} {s s' : List ℤ} {o o' : List ℕ} → k ≡ k' → a ≡ a' → b ≡ b' → x ≡ x' → f ≡ f' → g ≡ g' → s ≡ s' → o ≡ o'
-          → let one : Written = record { kind = k; proposers = a; reviewers = b; weights = x; forced = f; forbidden = g; seconds = s; order = o } in
-          let other : Written = record { kind = k'; proposers = a'; reviewers = b'; weights = x'; forced = f'; forbidden = g'; seconds = s'; order = o' } in one ≡ other
-      same_parts h0 h1 h2 h3 h4 h5 h6 h7 = cc
+      same_parts : {k k' : Kind} {a a' b b' : List AgentData} {x x' : List (ℕ × ℕ × ℤ)} {f f' g g' : List (ℕ × ℕ)} → k ≡ k' → a ≡ a' → b ≡ b' → x ≡ x' → f ≡ f' → g ≡ g'
+          → let one : Written = record { kind = k; proposers = a; reviewers = b; weights = x; forced = f; forbidden = g } in
+          let other : Written = record { kind = k'; proposers = a'; reviewers = b'; weights = x'; forced = f'; forbidden = g' } in one ≡ other
+      same_parts h0 h1 h2 h3 h4 h5 = cc
 
   same_input : (kind : Kind) → kind ≢ Roommates → kind ≡ w.kind → without_lines (input_of kind now) ≡ without_lines (Two w)
   same_input Marriage two is = same_sides Marriage is
@@ -156,5 +140,5 @@ room_back persons sound short =
 
 -- each printed instance that isn't too long is read back
 pub printed_is_read : PrintedIsRead
-printed_is_read (Two w) sound plain short = two_back w sound plain short
-printed_is_read (Room persons) sound plain short = room_back persons sound short
+printed_is_read (Two w) sound short = two_back w sound short
+printed_is_read (Room persons) sound short = room_back persons sound short

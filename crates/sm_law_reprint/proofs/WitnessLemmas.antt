@@ -126,6 +126,5 @@ marriage_sound = (
     seconds_small = zeros_small marriage.weights;
     order = range_is_each_once 2;
   },
-  (refl, refl),
   omega arith,
 )

@@ -6,11 +6,11 @@ use Rattle.sm_instance.specs.Inputs.{IsInput}
 use Rattle.sm_instance.specs.declared.inputs.Input.TheVariants.{Two, Room}
 use Rattle.sm_reader.specs.InstanceText.{instance_text}
 use Rattle.sm_printed.specs.Witnesses.{agent, marriage, hospitals, persons}
-use Rattle.sm_law_reprint.specs.Reading.{printed_text, IsOfFormatOne}
+use Rattle.sm_law_reprint.specs.Reading.{printed_text}
 
 -- what the law asks for
 abbrev pub MarriageIsSound : Type 0
-MarriageIsSound = IsInput (Two marriage) × IsOfFormatOne (Two marriage) × (length (printed_text (Two marriage)) ≤ most_bytes)
+MarriageIsSound = IsInput (Two marriage) × (length (printed_text (Two marriage)) ≤ most_bytes)
 
 -- an agent on the line of its declaration
 abbrev pub placed : ℕ → List ℕ → ℕ → List ℕ → AgentData
