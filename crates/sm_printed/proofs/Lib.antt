@@ -3,6 +3,7 @@ pub mod PieceLemmas
 pub mod ItemLemmas
 pub mod GivingLemmas
 pub mod LastLemmas
+pub mod CountLemmas
 pub mod FormatLemmas
 pub mod PlainLemmas
 pub mod AgentLemmas

@@ -3,6 +3,7 @@
 ghost use Rattle.std.specs.Prelude.{◌≡◌, nat_eq, not, is_some, length};
 ghost use Rattle.std.specs.List.{range_with_len};
 ghost use Rattle.std.specs.Cmp.Lexicographic.{pointwise};
+ghost use Rattle.sm_instance.specs.Sound.{IsInstance};
 ghost use Rattle.sm_instance.specs.declared.inputs.Input.TheVariants.{Two};
 ghost use Rattle.sm_printed.specs.Printed.{format_of};
 ghost use Rattle.sm_printed.specs.Names.{said_of};
@@ -15,14 +16,26 @@ pub(crate) fn format(input: &Input) -> u32
     ensures { result ≡ format_of (said_of input.now) }
 {
     match input {
-        Input::Two(instance) if has_own_order(instance) || instance.has_seconds() => 2,
-        _ => 1,
+        Input::Two(instance) => two_format(instance),
+        Input::Room(_) => 1,
     }
 }
 
-/// Is the order of the proposers another than that of their numbers?
-pub(crate) fn has_own_order(instance: &Instance) -> bool
-    ensures { result ≡ is_some (said_of (Two instance.now)).order }
+/// The format by which an instance with two sides is printed.
+fn two_format(instance: &Instance) -> u32
+    ensures { result ≡ format_of (said_of (Two instance.now)) }
+{
+    if has_own_order(instance) {
+        return 2;
+    }
+    if instance.has_seconds() { 2 } else { 1 }
+}
+
+/// Is the order of the proposers another than that of their numbers? Then a printed instance has a line for it. Takes time in
+/// the number of proposers.
+pub fn has_own_order(instance: &Instance) -> bool
+    ensures own { result ≡ is_some (said_of (Two instance.now)).order }
+    ensures instance { IsInstance instance.now }
 {
     !are_counted(instance.order())
 }

@@ -6,8 +6,8 @@ ghost use Rattle.std.specs.Option.{option_map};
 ghost use Rattle.sm_text.specs.Lines.{LF};
 ghost use Rattle.sm_instance.specs.Inputs.{left_of, right_of};
 ghost use Rattle.sm_report.specs.Putting.{PutsText};
-ghost use Rattle.sm_printed.specs.Names.{said_of, said_pair};
-ghost use Rattle.sm_printed.specs.Printed.{header_line, kind_word, pair_text, second_text, lines_of};
+ghost use Rattle.sm_printed.specs.Names.{said_of, said_pair, said_weight};
+ghost use Rattle.sm_printed.specs.Printed.{header_line, kind_word, pair_text, second_text, weight_line, lines_of};
 ghost use Rattle.sm_printed.specs.Lines.{line_text, IsPair, NamesAgents};
 ghost use Rattle.sm_printed.specs.Putting.{PutsIfAny};
 
@@ -77,8 +77,7 @@ fn put_line(into: &mut LineWriter, input: &Input, line: InstanceLine) -> Result<
             lefts(input),
         ),
         InstanceLine::Weight(p, r, weight, second) => {
-            put_pair(into, input, b"weight ", p, r)?;
-            put_weights(into, weight, second)
+            put_weight(into, input, p, r, weight, second)
         }
         InstanceLine::Force(p, r) => put_pair(into, input, b"force ", p, r),
         InstanceLine::Forbid(p, r) => put_pair(into, input, b"forbid ", p, r),
@@ -106,6 +105,23 @@ fn kind_word(kind: Kind) -> &'static [u8]
         Kind::Hospitals => b"hospitals",
         Kind::Roommates => b"roommates",
     }
+}
+
+/// Puts a pair and its weights.
+fn put_weight(
+    into: &mut LineWriter,
+    input: &Input,
+    p: u32,
+    r: u32,
+    weight: i64,
+    second: i64,
+) -> Result<(), AllocError>
+    requires { IsPair input.now p r }
+    ensures { PutsText into.old into.new (weight_line
+        (said_weight (left_of input.now) (right_of input.now) ((p, r, weight), second))) result }
+{
+    put_pair(into, input, b"weight ", p, r)?;
+    put_weights(into, weight, second)
 }
 
 /// Puts the weight of a pair, and its second weight where it isn't 0, each behind a space.

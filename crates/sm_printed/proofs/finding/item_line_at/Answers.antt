@@ -10,7 +10,7 @@ returns-then-place-weights-clause-text c =
     let seconds = c.seconds.result.now in
     let fits : FitsSigned w64 (get_or weights c.args.place (0, 0, pos 0)).2 = search rules in
     let further : FitsSigned w64 (get_or seconds c.args.place (pos 0)) = search rules in
-    rw to_z-of_z (weight_text c.args.instance.now c.seconds.ensures.each weights seconds c.weights-weights.ensures c.seconds.ensures.seconds c.args.place c.if-place-weights.true)
+    rw (to_z-of_z, to_z-of_z) (weight_text c.args.instance.now c.seconds.ensures.each weights seconds c.weights-weights.ensures c.seconds.ensures.seconds c.args.place c.if-place-weights.true)
 
 pub returns-then-place-weights-clause-agents : goal.returns-then-place-weights-clause-agents
 returns-then-place-weights-clause-agents c =
