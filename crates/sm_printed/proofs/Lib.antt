@@ -2,7 +2,6 @@ pub mod PlaceLemmas
 pub mod PieceLemmas
 pub mod ItemLemmas
 pub mod GivingLemmas
-pub mod LastLemmas
 pub mod CountLemmas
 pub mod FormatLemmas
 pub mod PlainLemmas

@@ -1,4 +1,4 @@
-use Rattle.std.proofs.Common.{◌++◌, codes, Ok}
+use Rattle.std.proofs.Common.{◌++◌, codes}
 use Rattle.std.proofs.lemmas.Int.{to_z-of_z}
 use Rattle.std.specs.Fmt.{signed_decimal}
 use Rattle.sm_instance.specs.Inputs.{left_of, right_of}
