@@ -1,6 +1,7 @@
 -- Values that are made one after another.
-use Rattle.std.proofs.Common.{◌≡◌, ℕ, zero, suc, ◌+◌, ◌<◌, ◌≤◌, ◌==◌, Bool, true, false, ◌&&◌, ◌||◌, nat_le, List, [], ◌∷◌, ◌++◌, length, map, take, get_or, All, Vec, Global, IsUtf8, IsAscii, refl, sym, ap, ◌∙◌, subst, arith, eqb-true, leb-true, codes, Option, Some, None, is_some, if◌then◌else◌, nat_eq, ℤ, pos, Result, Ok, Err, OnOk, IfOk}
-use Rattle.std.specs.List.{list_all, range_with_len}
+use Rattle.std.proofs.Common.{◌≡◌, ◌≢◌, ℕ, zero, suc, ◌+◌, ◌<◌, ◌≤◌, ◌==◌, Bool, true, false, ◌&&◌, ◌||◌, nat_le, List, [], ◌∷◌, ◌++◌, length, map, take, get_or, All, Vec, Global, IsUtf8, IsAscii, refl, sym, ap, ◌∙◌, subst, arith, eqb-true, leb-true, codes, Option, Some, None, is_some, if◌then◌else◌, nat_eq, ℤ, pos, Result, Ok, Err, OnOk, IfOk}
+use Rattle.std.specs.List.{list_all, range_with_len, zip}
+use Rattle.std.proofs.lemmas.Slice.Zip.{length-zip, get_or-zip}
 use Rattle.std.specs.Cmp.Lexicographic.{pointwise}
 use Rattle.std.proofs.lemmas.Bool.{false≢true}
 use Rattle.std.specs.declared.alloc.AllocError.{AllocError}
@@ -9,7 +10,8 @@ use Rattle.std.proofs.lemmas.Str.{IsUtf8-from_ascii}
 use Rattle.sm_text.specs.Name.{begins_name, is_digit, is_letter, is_name, is_name_byte}
 use Rattle.sm_report.proofs.DecimalLemmas.{first_true, second_true}
 use Rattle.sm_report.proofs.FieldInverses.{name_bytes}
-use Rattle.serde_json.specs.Data.{Data, string, array, object, Members, no_members, member, put}
+use Rattle.serde_json.specs.Data.{Data, number, string, array, object, Members, no_members, member, put}
+use Rattle.serde_json.specs.Find.{of_integer}
 use Rattle.serde_json.specs.View.{view, items_of}
 use Rattle.serde_json.specs.declared.value.Value.{Value, Array}
 use Rattle.serde_json.proofs.Views.{view-Array}
@@ -20,6 +22,8 @@ use Rattle.sm_instance.specs.Sound.{IsInstance, AreSoundAgents, AreSoundEntries,
 use Rattle.sm_instance.specs.Named.{SaidPair, SaidWeight, SaidOrder}
 use Rattle.sm_instance.specs.declared.kinds.Kind.{Kind}
 use Rattle.sm_json.specs.Parts.{has_capacities}
+use Rattle.sm_printed.specs.Printed.{is_zero}
+use Rattle.sm_printed.proofs.FormatLemmas.{zero_is}
 use Rattle.sm_printed.proofs.ItemLemmas.{weight_there, force_there, forbid_there}
 use Rattle.sm_instance.specs.declared.inputs.Input.TheVariants.{Two}
 use Rattle.sm_printed.specs.Names.{name_of, said_agent, said_pair, said_weight, said_of}
@@ -40,6 +44,14 @@ module _ {A : Type 0} (f : A → Data) where
   -- all values are those of an array
   pub made_all : (all : List A) (i : ℕ) (made : Vec Value Global) → length all ≤ i → map view made.items ≡ map f (take i all) → view (Array made) ≡ array_of f all
   made_all all i made over so_far = view-Array made ∙ ap (λ ds. array (items_of ds)) (so_far ∙ ap (map f) (take_all i all over))
+
+-- one more value behind some
+pub pushed : (items new : List Value) (v : Value) (ds : List Data) (d : Data) → map view items ≡ ds → view v ≡ d → new ≡ items ++ v ∷ [] → map view new ≡ ds ++ d ∷ []
+pushed items new v ds d so_far is grown = ap (map view) grown ∙ map_joined view items (v ∷ []) ∙ ap (λ t. t ++ view v ∷ []) so_far ∙ ap (λ e. ds ++ e ∷ []) is
+
+-- the array of some values
+pub array_made : (made : Vec Value Global) (ds : List Data) → map view made.items ≡ ds → view (Array made) ≡ array (items_of ds)
+array_made made ds so_far = view-Array made ∙ ap (λ xs. array (items_of xs)) so_far
 
 -- items that are made of others
 pub array_through : {A B : Type 0} (f : B → Data) (g : A → B) (xs : List A) → array_of (λ x. f (g x)) xs ≡ array_of f (map g xs)
@@ -187,3 +199,31 @@ order_left w none ms = by_option (said_of (Two w)).order none
     by_option : (o : Option SaidOrder) → is_some o ≡ false → ms ≡ put_order o ms
     by_option None none = refl
     by_option (Some o) none = absurd (false≢true (sym none))
+
+-- as many seconds as weights
+pub zip_long : {A B : Type 0} (xs : List A) (zs : List B) → length zs ≡ length xs → length (zip xs zs) ≡ length xs
+zip_long xs zs each = let long = length-zip xs zs in omega (arith, long, each)
+
+-- a weight of one number, and one of two
+abbrev weight_items : SaidWeight → Bool → List Data
+weight_items x t = string x.pair.proposer ∷ string x.pair.reviewer ∷ number (of_integer x.weight) ∷ (if t then [] else number (of_integer x.second) ∷ [])
+
+pub one_number : (x : SaidWeight) → x.second ≡ pos 0 → array (items_of (string x.pair.proposer ∷ string x.pair.reviewer ∷ number (of_integer x.weight) ∷ [])) ≡ weight_json x
+one_number x none = ap (λ z. array (items_of (weight_items x (is_zero z)))) (sym none)
+
+pub two_numbers : (x : SaidWeight) → x.second ≢ pos 0
+    → array (items_of (string x.pair.proposer ∷ string x.pair.reviewer ∷ number (of_integer x.weight) ∷ number (of_integer x.second) ∷ [])) ≡ weight_json x
+two_numbers x isnt = by_test (is_zero x.second) refl
+  where
+    by_test : (t : Bool) → is_zero x.second ≡ t → array (items_of (weight_items x false)) ≡ array (items_of (weight_items x t))
+    by_test true e = absurd (isnt (zero_is x.second e))
+    by_test false e = refl
+
+-- the values of weights beside their second weights, and that of the next
+pub made_next : {A B : Type 0} (f : A × B → Data) (xs : List A) (zs : List B) (i : ℕ) (d : A) (e : B) (made new : List Value) (v : Value) → length zs ≡ length xs → i < length xs
+    → map view made ≡ map f (take i (zip xs zs)) → view v ≡ f (get_or xs i d, get_or zs i e) → new ≡ made ++ v ∷ [] → map view new ≡ map f (take (i + 1) (zip xs zs))
+made_next {A} {B} f xs zs i d e made new v each below so_far here grown =
+    let within : i < length zs = omega (arith, each, below) in
+    let inside : i < length (zip xs zs) = let long = zip_long xs zs each in omega (arith, long, below) in
+    let both : A × B = get_or (zip xs zs) i (d, e) in
+    made_more f (zip xs zs) i both made new v inside (get_or_default (zip xs zs) i (d, e) both inside) so_far (here ∙ ap f (sym (get_or-zip xs zs i (d, e) below within))) grown

@@ -146,6 +146,7 @@ end_cut = refl
 
 -- the word of an order stands before its names
 pub order_cut : (rest : List ℕ) → begins_run rest ≡ false → tokens (codes "order" ++ rest) ≡ codes "order" ∷ tokens rest
+unfolding begins_name is_name_byte
 order_cut rest apart = tokens-run (codes "order") rest (name_is_run (codes "order") refl) apart
 
 -- a name and a list

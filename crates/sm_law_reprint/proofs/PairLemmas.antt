@@ -138,7 +138,7 @@ module _ (proposers reviewers : List SaidAgent) where
         by_test false e =
             let names = own_weight.names in
             let further = signed_decimal w.second in
-            ap (λ k. verdict_on kind k (with_weights done) n (tokens (line ++ codes " " ++ further))) (needed e)
+            ap (λ k. verdict_on kind k (with_weights done) n (tokens (line ++ (codes " " ++ further)))) (needed e)
             ∙ ap (verdict_on kind 2 (with_weights done) n) (weight_cut (codes " " ++ further) (no_run further).0
             ∙ ap (λ t. codes "weight" ∷ w.pair.proposer ∷ w.pair.reviewer ∷ run ∷ t) (tokens-blank further ∙ tokens-run_alone further (signed_is_run w.second (omega (arith, own_weight.second_size)))))
             ∙ second_goes (with_weights done) w.pair.proposer w.pair.reviewer names.proposer names.reviewer run w.weight begins

@@ -78,8 +78,8 @@ lined_entries agents n = from_sum agents n 0
     from_sum (a ∷ agents) n m = from_sum agents (n + 1) (m + length a.entries)
 
 -- the same end
-same_end : {kind : Kind} {header : ℕ} {said more : Said} {place there n m : ℕ} → said ≡ more → place ≡ there → n ≡ m → ended kind header said place n ≡ ended kind header more there m
-same_end a b c = cc
+same_end : (kind : Kind) (header : ℕ) {said more : Said} {place there n m : ℕ} → said ≡ more → place ≡ there → n ≡ m → ended kind header said place n ≡ ended kind header more there m
+same_end kind header a b c = cc
 
 -- names behind spaces don't go on a word
 spaced_apart : (names : List (List ℕ)) → begins_run (spaced names) ≡ false
@@ -144,7 +144,7 @@ module _ (kind : Kind) (format header : ℕ) where
       ≡ ended kind header (record said { order = order_on_line n order }) (place + length (text_of (order_lines order ++ codes "end" ∷ []))) (n + length (order_lines order) + 1)
   last_read two said none None good under n place =
       end_read said n place
-      ∙ same_end (ap (λ o. record said { order = o }) none) (omega (arith, length-append (with_end (codes "end")) [])) (omega arith)
+      ∙ same_end kind header (ap (λ o. record said { order = o }) none) (omega (arith, length-append (with_end (codes "end")) [])) (omega arith)
   last_read two said none (Some order) good under n place =
       let line = order_line order in
       let more : Said = record said { order = Some (record order { line = n }) } in
@@ -153,7 +153,7 @@ module _ (kind : Kind) (format header : ℕ) where
       ∙ order_goes said order.names good.names none good.differ kind n two in
       one_read kind format header said more n place line (with_end (codes "end") ∷ []) here
       ∙ end_read more (n + 1) (place + length (with_end line))
-      ∙ same_end {said = more} {more = more} refl (omega (arith, length-append (with_end line) (text_of (codes "end" ∷ [])), length-append (with_end (codes "end")) [])) (omega arith)
+      ∙ same_end kind header {said = more} {more = more} refl (omega (arith, length-append (with_end line) (text_of (codes "end" ∷ [])), length-append (with_end (codes "end")) [])) (omega arith)
 
 -- the length of a text in two parts
 text_length : (xs ys : List (List ℕ)) → length (text_of (xs ++ ys)) ≡ length (text_of xs) + length (text_of ys)
@@ -222,20 +222,24 @@ persons_read format header persons good place =
 abbrev pub is_second : Said → Bool
 is_second said = is_some said.order || list_any (λ (x : SaidWeight). not (is_zero x.second)) said.weights
 
+-- the format of a header by that
+abbrev format_by : Bool → ℕ
+format_by second = if second then 2 else 1
+
 -- it is where a weight has a second one
 pub under_format : (said : Said) → All (IsUnder (format_of said)) said.weights
 under_format said k d below isnt =
     let has : SaidWeight → Bool = λ (x : SaidWeight). not (is_zero x.second) in
     let some : list_any has said.weights ≡ true = list_any_at has said.weights k d below (ap not isnt) in
-    ap (λ t. if is_some said.order || t then 2 else 1) some ∙ either (is_some said.order)
+    ap (λ t. format_by (is_some said.order || t)) some ∙ either (is_some said.order)
   where
-    either : (t : Bool) → (if t || true then 2 else 1) ≡ 2
+    either : (t : Bool) → format_by (t || true) ≡ 2
     either true = refl
     either false = refl
 
 -- and where there is an order
 pub order_format : (said : Said) → is_some said.order ≡ true → format_of said ≡ 2
-order_format said some = ap (λ t. if t || list_any (λ (x : SaidWeight). not (is_zero x.second)) said.weights then 2 else 1) some
+order_format said some = ap (λ t. format_by (t || list_any (λ (x : SaidWeight). not (is_zero x.second)) said.weights)) some
 
 -- no line holds an end of a line
 pub lines_free : (kind : Kind) (said : Said) → IsPrintable kind said → list_all (is_free LF) (printed_lines kind said) ≡ true
