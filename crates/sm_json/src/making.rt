@@ -1,6 +1,6 @@
 //! From an instance to JSON.
 
-ghost use Rattle.std.specs.Prelude.{◌≡◌, ◌<◌, ℕ, ℤ, All, IfOk, OnOk, IsTrue, length, map, slice_index, Some, true, false, codes, [], ◌∷◌};
+ghost use Rattle.std.specs.Prelude.{◌≡◌, ◌<◌, ℕ, ℤ, All, IfOk, OnOk, IsTrue, length, map, slice_index, slice_index_or, pos, Some, true, false, codes, [], ◌∷◌};
 ghost use Rattle.std.specs.List.{zip};
 ghost use Rattle.serde_json.specs.View.{view, items_view, members_view};
 ghost use Rattle.serde_json.specs.Data.{string, array, object};
@@ -62,7 +62,14 @@ fn two_value(alloc: Global, instance: &Instance) -> Result<Value, AllocError>
     let seconds = instance.seconds();
     let forced = instance.forced();
     let forbidden = instance.forbidden();
-    let mut members = sides_and_weights(alloc, instance.kind(), proposers, reviewers, weights, seconds)?;
+    let mut members = sides_and_weights(
+        alloc,
+        instance.kind(),
+        proposers,
+        reviewers,
+        weights,
+        seconds,
+    )?;
     put_order(alloc, &mut members, instance)?;
     with_conditions(alloc, members, proposers, reviewers, forced, forbidden)
 }
@@ -293,10 +300,32 @@ fn put_weights(
     }
     let mut list = Vec::new(alloc);
     'weights: for n in 0..weights.len() {
-        let value = weight_value(alloc, proposers, reviewers, weights[n], seconds[n])?;
+        let value = weight_at(alloc, proposers, reviewers, weights, seconds, n)?;
         push(&mut list, value)?;
     }
     put(members, alloc, "weights", Value::Array(list))
+}
+
+/// The value of the weights of a number.
+fn weight_at(
+    alloc: Global,
+    proposers: &[Agent],
+    reviewers: &[Agent],
+    weights: &[(u32, u32, i64)],
+    seconds: &[i64],
+    n: usize,
+) -> Result<Value, AllocError>
+    requires proposers { AreNamed (agents_of proposers.now) }
+    requires reviewers { AreNamed (agents_of reviewers.now) }
+    requires pairs { All (λ (x : ℕ × ℕ × ℤ). IsPairOf (length proposers.now)
+        (length reviewers.now) (weighed x)) weights.now }
+    requires weight { n < length weights.now }
+    requires second { n < length seconds.now }
+    ensures { IfOk result (λ value. view value ≡ weight_json
+        (said_weight (agents_of proposers.now) (agents_of reviewers.now)
+        (slice_index_or weights.now n (0, 0, pos 0), slice_index_or seconds.now n (pos 0)))) }
+{
+    weight_value(alloc, proposers, reviewers, weights[n], seconds[n])
 }
 
 /// The value of a pair and its weights, of which the second stands where it isn't 0.
