@@ -12,14 +12,14 @@ use Rattle.sm_instance.specs.declared.kinds.Kind.{Kind}
 use Rattle.sm_instance.specs.declared.kinds.Kind.TheVariants.{Marriage, Hospitals, Roommates}
 use Rattle.sm_instance.specs.declared.kinds.Side.{Side}
 use Rattle.sm_instance.specs.declared.kinds.Side.TheVariants.{Proposers, Reviewers}
-use Rattle.sm_instance.specs.Named.{SaidAgent, entries_of}
+use Rattle.sm_instance.specs.Named.{SaidAgent, entries_of, entries_of_masters}
 use Rattle.sm_reader.specs.Judging.{has_repeated, with_agent}
 use Rattle.sm_reader.specs.Kept.{Table, text_at, Extends, AreBelow}
-use Rattle.sm_reader.specs.Draft.{listed_table, listed_side, agent_in, said_of, AreAgentsBelow, pairs_of, IsDraft, limit_fault, name_fault, DeclaresOn, ListsOn, PutsOn, AddsAgent}
+use Rattle.sm_reader.specs.Draft.{listed_table, listed_side, agent_in, master_in, said_of, AreAgentsBelow, pairs_of, IsDraft, limit_fault, name_fault, DeclaresOn, ListsOn, PutsOn, AddsAgent}
 use Rattle.sm_reader.specs.declared.draft.Declared.{Declared}
 use Rattle.sm_reader.specs.declared.draft.Draft.{Draft}
 use Rattle.sm_reader.proofs.ListingLemmas.{extends_long, extends_twice}
-use Rattle.sm_reader.proofs.DraftLemmas.{agents_kept, agents_below_more, agents_below_push, pairs_kept, weights_kept, pairs_below_more, said_same, listed_more}
+use Rattle.sm_reader.proofs.DraftLemmas.{agents_kept, agents_below_more, agents_below_push, pairs_kept, weights_kept, pairs_below_more, order_kept, order_below_more, said_same, listed_more}
 
 -- a faultless agent is within the limits
 pub within_limits : (agents entries more : ℕ) → limit_fault agents entries more ≡ None → (agents < most_agents) × (entries + more ≤ most_entries)
@@ -59,14 +59,20 @@ module _ (old new : List (List ℕ)) (more : Extends old new) (ds es : List Decl
       e ∙ ap (λ x. x ++ agent.name.now ∷ []) named ∙ sym (ap (map name) pushed ∙ map_push name ds agent)
 
 module _ (kind : Kind) (line : ℕ) (d : Draft) (pn rn : Table) (draft : IsDraft kind line d) (grown : Grown line d pn rn) where
-  listed_now : Extends (listed_table kind d.proposer_names d.reviewer_names).texts (listed_table kind pn rn).texts
+  -- the names of whom the proposers list may have grown
+  pub listed_now : Extends (listed_table kind d.proposer_names d.reviewer_names).texts (listed_table kind pn rn).texts
   listed_now = listed_more kind d pn rn grown.p_more grown.r_more
 
+  -- the count of the entries of master lists
+  abbrev pub shared : ℕ
+  shared = entries_of_masters (map master_in d.masters.items)
+
   -- a draft with other agents
-  abbrev with_agents : Vec Declared Global → Vec Declared Global → ℕ → Draft
+  abbrev pub with_agents : Vec Declared Global → Vec Declared Global → ℕ → Draft
   with_agents ps rs n = record d { proposer_names = pn; reviewer_names = rn; proposers = ps; reviewers = rs; entries = n }
 
-  said_with_agents : (ps rs : Vec Declared Global) (n : ℕ) {p r : List SaidAgent} → map (agent_in (listed_table kind pn rn).texts) ps.items ≡ p → map (agent_in pn.texts) rs.items ≡ r
+  -- what it says
+  pub said_with_agents : (ps rs : Vec Declared Global) (n : ℕ) {p r : List SaidAgent} → map (agent_in (listed_table kind pn rn).texts) ps.items ≡ p → map (agent_in pn.texts) rs.items ≡ r
       → said_of kind (with_agents ps rs n) ≡ record (said_of kind d) { proposers = p; reviewers = r }
   said_with_agents ps rs n e f =
       let p = d.proposer_names.texts in
@@ -75,10 +81,13 @@ module _ (kind : Kind) (line : ℕ) (d : Draft) (pn rn : Table) (draft : IsDraft
       (weights_kept p pn.texts r rn.texts grown.p_more grown.r_more d.weights.items draft.weights_in)
       (pairs_kept p pn.texts r rn.texts grown.p_more grown.r_more d.forced.items draft.forced_in)
       (pairs_kept p pn.texts r rn.texts grown.p_more grown.r_more d.forbidden.items draft.forbidden_in)
+      refl
+      (order_kept p pn.texts d.order grown.p_more draft.order_in)
 
-  draft_with_agents : (ps rs : Vec Declared Global) (n : ℕ) → pn.declared ≡ map (λ (x : Declared). x.name.now) ps.items → rn.declared ≡ map (λ (x : Declared). x.name.now) rs.items
+  -- and what it meets
+  pub draft_with_agents : (ps rs : Vec Declared Global) (n : ℕ) → pn.declared ≡ map (λ (x : Declared). x.name.now) ps.items → rn.declared ≡ map (λ (x : Declared). x.name.now) rs.items
       → AreAgentsBelow (length (listed_table kind pn rn).texts) ps.items → AreAgentsBelow (length pn.texts) rs.items
-      → n ≡ entries_of (map (agent_in (listed_table kind pn rn).texts) ps.items) + entries_of (map (agent_in pn.texts) rs.items)
+      → n ≡ entries_of (map (agent_in (listed_table kind pn rn).texts) ps.items) + entries_of (map (agent_in pn.texts) rs.items) + shared
       → n ≤ most_entries → length ps.items ≤ most_agents → length rs.items ≤ most_agents → IsDraft kind (line + 1) (with_agents ps rs n)
   draft_with_agents ps rs n named_ps named_rs below_ps below_rs counted few few_ps few_rs =
       let p = d.proposer_names.texts in
@@ -99,6 +108,8 @@ module _ (kind : Kind) (line : ℕ) (d : Draft) (pn rn : Table) (draft : IsDraft
         proposers_fresh = grown.p_fresh;
         reviewers_fresh = grown.r_fresh;
         few = omega (arith, draft.few);
+        masters = draft.masters;
+        order_in = order_below_more (length p) (length pn.texts) d.order (extends_long p pn.texts grown.p_more) draft.order_in;
       }
 
   -- an agent is added, behind those of its side
@@ -124,7 +135,7 @@ module _ (kind : Kind) (line : ℕ) (d : Draft) (pn rn : Table) (draft : IsDraft
               (omega arith) (omega (arith, ap length pushed, length_push ds agent)) draft.reviewers_fit,
         )
       where
-        sum_left : (a b t u : ℕ) → d.entries ≡ a + b → t ≡ a + length agent.entries.items → u ≡ b → n ≡ t + u
+        sum_left : (a b t u : ℕ) → d.entries ≡ a + b + shared → t ≡ a + length agent.entries.items → u ≡ b → n ≡ t + u + shared
         sum_left a b t u e f g = omega arith
 
     -- a reviewer
@@ -148,7 +159,7 @@ module _ (kind : Kind) (line : ℕ) (d : Draft) (pn rn : Table) (draft : IsDraft
               (omega arith) draft.proposers_fit (omega (arith, ap length pushed, length_push ds agent)),
         )
       where
-        sum_right : (a b t u : ℕ) → d.entries ≡ a + b → t ≡ a → u ≡ b + length agent.entries.items → n ≡ t + u
+        sum_right : (a b t u : ℕ) → d.entries ≡ a + b + shared → t ≡ a → u ≡ b + length agent.entries.items → n ≡ t + u + shared
         sum_right a b t u e f g = omega arith
 
 -- the three ways in which an agent is added

@@ -1,13 +1,15 @@
 -- Drafts whose tables grow.
-use Rattle.std.proofs.Common.{◌≡◌, ℕ, ◌+◌, ◌≤◌, List, [], ◌∷◌, ◌++◌, length, map, refl, ap, ◌∙◌, arith}
+use Rattle.std.proofs.Common.{◌≡◌, ℕ, ◌+◌, ◌≤◌, List, [], ◌∷◌, ◌++◌, length, map, Option, Some, None, refl, ap, ◌∙◌, arith}
 use Rattle.sm_instance.specs.declared.kinds.Kind.{Kind}
 use Rattle.sm_instance.specs.declared.kinds.Kind.TheVariants.{Marriage, Hospitals, Roommates}
-use Rattle.sm_instance.specs.Named.{SaidAgent, SaidPair, SaidWeight, Said}
+use Rattle.std.specs.Option.{option_map}
+use Rattle.sm_instance.specs.Named.{SaidAgent, SaidPair, SaidWeight, SaidMaster, SaidOrder, Said}
 use Rattle.sm_reader.specs.Kept.{Table, text_at, Extends, AreBelow}
-use Rattle.sm_reader.specs.Draft.{listed_table, agent_in, pair_in, given_in, AreAgentsBelow, IsPairBelow, ArePairsBelow, pairs_of, IsDraft}
+use Rattle.sm_reader.specs.Draft.{listed_table, agent_in, pair_in, given_in, order_of, IsOrderBelow, AreAgentsBelow, IsPairBelow, ArePairsBelow, pairs_of, IsDraft}
 use Rattle.sm_reader.specs.declared.draft.Declared.{Declared}
 use Rattle.sm_reader.specs.declared.draft.Pair.{Pair}
 use Rattle.sm_reader.specs.declared.draft.Weight.{Weight}
+use Rattle.sm_reader.specs.declared.draft.Order.{Order}
 use Rattle.sm_reader.specs.declared.draft.Draft.{Draft}
 use Rattle.sm_reader.proofs.ListingLemmas.{below_more, text_kept, texts_kept, extends_long}
 
@@ -46,7 +48,7 @@ module _ (p q r s : List (List ℕ)) (more_p : Extends p q) (more_r : Extends r 
   pub weights_kept : (ws : List Weight) → ArePairsBelow (length p) (length r) (pairs_of ws) → map (given_in q s) ws ≡ map (given_in p r) ws
   weights_kept [] inside = refl
   weights_kept (w ∷ ws) inside =
-      ap (λ y. (record { pair = y; weight = w.weight }) ∷ map (given_in q s) ws) (pair_kept w.pair inside.0) ∙ ap (λ ys. given_in p r w ∷ ys) (weights_kept ws inside.1)
+      ap (λ y. (record { pair = y; weight = w.weight; second = w.second }) ∷ map (given_in q s) ws) (pair_kept w.pair inside.0) ∙ ap (λ ys. given_in p r w ∷ ys) (weights_kept ws inside.1)
 
   -- pairs stay within a greater range
   pub pairs_below_more : (xs : List Pair) → ArePairsBelow (length p) (length r) xs → ArePairsBelow (length q) (length s) xs
@@ -64,11 +66,22 @@ pub pairs_below_push : (n m : ℕ) (xs : List Pair) (x : Pair) → ArePairsBelow
 pairs_below_push n m [] x inside below = (below, tt)
 pairs_below_push n m (y ∷ xs) x inside below = (inside.0, pairs_below_push n m xs x inside.1 below)
 
+-- an order keeps its names
+pub order_kept : (old new : List (List ℕ)) (o : Option Order) → Extends old new → IsOrderBelow (length old) o → option_map (order_of new) o ≡ option_map (order_of old) o
+order_kept old new None more inside = refl
+order_kept old new (Some o) more inside = ap (λ ns. Some (record { names = ns; line = o.line })) (texts_kept old new o.names.items more inside)
+
+-- and its indexes stay within a greater range
+pub order_below_more : (n m : ℕ) (o : Option Order) → n ≤ m → IsOrderBelow n o → IsOrderBelow m o
+order_below_more n m None le inside = tt
+order_below_more n m (Some o) le inside = below_more n m o.names.items le inside
+
 -- what is said is what its parts say
-pub said_same : {p p' r r' : List SaidAgent} {w w' : List SaidWeight} {f f' b b' : List SaidPair} → p ≡ p' → r ≡ r' → w ≡ w' → f ≡ f' → b ≡ b'
-    → let left : Said = record { proposers = p; reviewers = r; weights = w; forced = f; forbidden = b } in
-    let right : Said = record { proposers = p'; reviewers = r'; weights = w'; forced = f'; forbidden = b' } in left ≡ right
-said_same e1 e2 e3 e4 e5 = cc
+pub said_same : {p p' r r' : List SaidAgent} {w w' : List SaidWeight} {f f' b b' : List SaidPair} {m m' : List SaidMaster} {o o' : Option SaidOrder}
+    → p ≡ p' → r ≡ r' → w ≡ w' → f ≡ f' → b ≡ b' → m ≡ m' → o ≡ o'
+    → let left : Said = record { proposers = p; reviewers = r; weights = w; forced = f; forbidden = b; masters = m; order = o } in
+    let right : Said = record { proposers = p'; reviewers = r'; weights = w'; forced = f'; forbidden = b'; masters = m'; order = o' } in left ≡ right
+said_same e1 e2 e3 e4 e5 e6 e7 = cc
 
 -- the tables of a draft grow
 module _ (kind : Kind) (d : Draft) (pn rn : Table) (more_p : Extends d.proposer_names.texts pn.texts) (more_r : Extends d.reviewer_names.texts rn.texts) where
@@ -99,4 +112,6 @@ draft_later kind line d draft = record {
   proposers_fresh = λ k. omega (arith, draft.proposers_fresh k);
   reviewers_fresh = λ k. omega (arith, draft.reviewers_fresh k);
   few = omega (arith, draft.few);
+  masters = draft.masters;
+  order_in = draft.order_in;
 }

@@ -1,44 +1,44 @@
 -- Verdicts on lines.
-use Rattle.std.proofs.Common.{◌≡◌, ℕ, ◌<◌, ◌≤◌, Bool, true, false, not, cond, List, [], ◌∷◌, length, get_or, drop, Option, Some, None, refl, ap, ◌∙◌, arith}
+use Rattle.std.proofs.Common.{◌≡◌, ℕ, ◌<◌, ◌≤◌, Bool, true, false, not, cond, List, [], ◌∷◌, length, get_or, drop, Option, Some, None, is_some, refl, ap, ◌∙◌, arith}
 use Rattle.std.specs.Borrow.{Bor}
 use Rattle.std.specs.List.{list_any, list_all}
 use Rattle.std.specs.Option.{option_or, option_map_or}
 use Rattle.sm_text.specs.Name.{is_name}
 use Rattle.sm_text.specs.declared.refusal.RefusalKind.{RefusalKind}
-use Rattle.sm_text.specs.declared.refusal.RefusalKind.TheVariants.{BadByte, BadHeader, BadName}
+use Rattle.sm_text.specs.declared.refusal.RefusalKind.TheVariants.{BadByte, BadHeader, BadName, BadNumber}
 use Rattle.sm_instance.specs.declared.kinds.Kind.{Kind}
 use Rattle.sm_instance.specs.declared.kinds.Side.{Side}
-use Rattle.sm_instance.specs.Named.{Said, names_of, agents_on, all_entries}
+use Rattle.sm_instance.specs.Named.{Said, names_of, master_names, agents_on, all_entries, entries_named}
 use Rattle.sm_reader.specs.declared.forms.Condition.{Condition}
-use Rattle.sm_reader.specs.Forms.{Form, declares, weighs, binds, is_bad, form_behind, is_end, header_of}
-use Rattle.sm_reader.specs.Judging.{Verdict, goes, stops, refuses, passes, heads, faces, heading_of, verdict_on, of_form, fault_of, said_with, is_bad_capacity}
+use Rattle.sm_reader.specs.Forms.{Form, declares, weighs, binds, uses, shares, orders, is_bad, form_under, is_end, header_of}
+use Rattle.sm_reader.specs.Judging.{Verdict, goes, stops, refuses, passes, heads, faces, heading_of, verdict_on, of_form, fault_of, agent_fault, said_with, is_bad_capacity}
 use Rattle.sm_text.specs.Slices.{texts_of}
-use Rattle.sm_reader.specs.Draft.{run_fault, name_fault, weight_fault, IsLineFault, IsRefusedBy}
+use Rattle.sm_reader.specs.Draft.{run_fault, name_fault, master_fault, order_fault, weight_fault, IsLineFault, IsRefusedBy}
 use Rattle.sm_reader.specs.declared.faults.TextFault.{TextFault}
 use Rattle.sm_reader.specs.declared.faults.TextFault.TheVariants.{Refused, OutOfMemory}
 
-module _ (kind : Kind) (said : Said) (line : ℕ) where
+module _ (kind : Kind) (format : ℕ) (said : Said) (line : ℕ) where
   -- a line without tokens adds nothing
-  pub verdict_empty : (xs : List (Bor (List ℕ))) → length xs < 1 → verdict_on kind said line (texts_of xs) ≡ goes said
+  pub verdict_empty : (xs : List (Bor (List ℕ))) → length xs < 1 → verdict_on kind format said line (texts_of xs) ≡ goes said
   unfolding verdict_on
   verdict_empty [] h = refl
   verdict_empty (x ∷ xs) h = absurd (omega arith)
 
   -- a bad byte comes first
-  pub verdict_bad : (xs : List (Bor (List ℕ))) → 1 ≤ length xs → list_any is_bad (texts_of xs) ≡ true → verdict_on kind said line (texts_of xs) ≡ refuses BadByte
+  pub verdict_bad : (xs : List (Bor (List ℕ))) → 1 ≤ length xs → list_any is_bad (texts_of xs) ≡ true → verdict_on kind format said line (texts_of xs) ≡ refuses BadByte
   unfolding verdict_on
   verdict_bad [] h bad = absurd (omega arith)
   verdict_bad (x ∷ xs) h bad = rw bad refl
 
   -- `end` ends the instance
-  pub verdict_end : (xs : List (Bor (List ℕ))) → 1 ≤ length xs → list_any is_bad (texts_of xs) ≡ false → is_end (texts_of xs) ≡ true → verdict_on kind said line (texts_of xs) ≡ stops
+  pub verdict_end : (xs : List (Bor (List ℕ))) → 1 ≤ length xs → list_any is_bad (texts_of xs) ≡ false → is_end (texts_of xs) ≡ true → verdict_on kind format said line (texts_of xs) ≡ stops
   unfolding verdict_on
   verdict_end [] h bad end = absurd (omega arith)
   verdict_end (x ∷ xs) h bad end = rw (bad, end) refl
 
   -- else the form decides
   pub verdict_form : (xs : List (Bor (List ℕ))) (d : Bor (List ℕ)) → 1 ≤ length xs → list_any is_bad (texts_of xs) ≡ false → is_end (texts_of xs) ≡ false
-      → verdict_on kind said line (texts_of xs) ≡ of_form said line (form_behind kind (get_or xs 0 d).now (texts_of (drop 1 xs)))
+      → verdict_on kind format said line (texts_of xs) ≡ of_form said line (form_under kind format (get_or xs 0 d).now (texts_of (drop 1 xs)))
   unfolding verdict_on
   verdict_form [] d h bad end = absurd (omega arith)
   verdict_form (x ∷ xs) d h bad end = rw (bad, end) refl
@@ -65,9 +65,32 @@ unfolding fault_of
 fault_of-declares said side name capacity entries = two_rows (not (list_all is_name (name ∷ entries))) (is_bad_capacity capacity) _ _ _
 
 -- the fault of a weight's line
-pub fault_of-weighs : (said : Said) (p r w : List ℕ) → fault_of said (weighs p r w) ≡ weight_fault said.weights p r w
+pub fault_of-weighs : (said : Said) (p r w : List ℕ) (second : Option (List ℕ)) → fault_of said (weighs p r w second) ≡ weight_fault said.weights p r w second
 unfolding fault_of
-fault_of-weighs said p r w = refl
+fault_of-weighs said p r w second = refl
+
+-- a line that uses a master list has the faults of one in which its names stand
+pub fault_of-uses : (said : Said) (side : Side) (name : List ℕ) (capacity : Option (List ℕ)) (master : List ℕ) (entries : List (List ℕ)) → entries_named said.masters master ≡ Some entries
+    → fault_of said (uses side name capacity master) ≡ fault_of said (declares side name capacity entries)
+unfolding fault_of
+fault_of-uses said side name capacity master entries found = ap (λ o. option_map_or (λ (es : List (List ℕ)). agent_fault said side name capacity es) o (Some BadName)) found
+
+-- and is refused where it names none
+pub fault_of-no_master : (said : Said) (side : Side) (name : List ℕ) (capacity : Option (List ℕ)) (master : List ℕ) → entries_named said.masters master ≡ None
+    → fault_of said (uses side name capacity master) ≡ Some BadName
+unfolding fault_of
+fault_of-no_master said side name capacity master none = ap (λ o. option_map_or (λ (es : List (List ℕ)). agent_fault said side name capacity es) o (Some BadName)) none
+
+-- the faults of a master list's line, in two parts
+pub fault_of-shares : (said : Said) (name : List ℕ) (entries : List (List ℕ))
+    → fault_of said (shares name entries) ≡ option_or (run_fault name None entries) (master_fault (master_names said.masters) name entries (all_entries said))
+unfolding fault_of
+fault_of-shares said name entries = two_rows (not (list_all is_name (name ∷ entries))) false BadName BadNumber _
+
+-- the fault of an order's line
+pub fault_of-orders : (said : Said) (proposers : List (List ℕ)) → fault_of said (orders proposers) ≡ order_fault (is_some said.order) proposers
+unfolding fault_of
+fault_of-orders said proposers = refl
 
 -- the fault of a pair of which something is asked
 pub fault_of-binds : (said : Said) (condition : Condition) (p r : List ℕ) (t : Bool) → list_all is_name (p ∷ r ∷ []) ≡ t → fault_of said (binds condition p r) ≡ cond (not t) (Some BadName) None
@@ -93,7 +116,7 @@ heading_of-bad (x ∷ xs) h bad = rw bad refl
 
 -- else the line has to be the header
 pub heading_of-form : (xs : List (Bor (List ℕ))) → 1 ≤ length xs → list_any is_bad (texts_of xs) ≡ false
-    → heading_of (texts_of xs) ≡ option_map_or (λ (kind : Kind). heads kind) (header_of (texts_of xs)) (faces BadHeader)
+    → heading_of (texts_of xs) ≡ option_map_or (λ (header : Kind × ℕ). heads header.0 header.1) (header_of (texts_of xs)) (faces BadHeader)
 unfolding heading_of
 heading_of-form [] h bad = absurd (omega arith)
 heading_of-form (x ∷ xs) h bad = rw bad refl

@@ -1,16 +1,18 @@
 -- Where each name that stands in a text is declared, no line names an undeclared one.
-use Rattle.std.proofs.Common.{◌≡◌, ℕ, zero, suc, ◌<◌, ◌&&◌, ◌||◌, not, Bool, true, false, List, [], ◌∷◌, length, get_or, map, Option, None, refl, sym, ap, ◌∙◌, arith, is_some}
+use Rattle.std.proofs.Common.{◌≡◌, ℕ, zero, suc, ◌<◌, ◌&&◌, ◌||◌, not, Bool, true, false, List, [], ◌∷◌, length, get_or, map, Option, Some, None, refl, sym, ap, ◌∙◌, arith, is_some}
 use Rattle.std.specs.List.{list_any, list_all}
 use Rattle.std.proofs.lemmas.Bool.{false≢true}
 use Rattle.std.proofs.lemmas.List.Folds.{list_any_at}
 use Rattle.sm_lists.specs.Earlier.{earlier_of}
 use Rattle.sm_instance.specs.declared.kinds.Kind.{Kind}
 use Rattle.sm_instance.specs.declared.kinds.Kind.TheVariants.{Marriage, Hospitals, Roommates}
-use Rattle.sm_reader.specs.InstanceText.{is_unknown, lines_with_unknown, pairs_with_unknown, least, unknown_lines}
+use Rattle.sm_reader.specs.InstanceText.{is_unknown, lines_with_unknown, pairs_with_unknown, order_with_unknown, least, unknown_lines}
 use Rattle.sm_reader.specs.Kept.{Table, IsTable, text_at, AreBelow}
-use Rattle.sm_reader.specs.Draft.{AreAgentsBelow, ArePairsBelow, pairs_of, listed_table, agent_in, pair_in, said_of, IsDraft}
+use Rattle.std.specs.Option.{option_map}
+use Rattle.sm_reader.specs.Draft.{order_of, IsOrderBelow, AreAgentsBelow, ArePairsBelow, pairs_of, listed_table, agent_in, pair_in, said_of, IsDraft}
 use Rattle.sm_reader.specs.declared.draft.Declared.{Declared}
 use Rattle.sm_reader.specs.declared.draft.Pair.{Pair}
+use Rattle.sm_reader.specs.declared.draft.Order.{Order}
 use Rattle.sm_reader.specs.declared.draft.Draft.{Draft}
 use Rattle.sm_reader.proofs.NumberLemmas.{unknown_is}
 use Rattle.sm_reader.proofs.TableLemmas.{declared_at}
@@ -72,8 +74,13 @@ listed_known Marriage p r ps rs = rs
 listed_known Hospitals p r ps rs = rs
 listed_known Roommates p r ps rs = ps
 
-none_of_five : {a b w f g : Option ℕ} → a ≡ None → b ≡ None → w ≡ None → f ≡ None → g ≡ None → earlier_of (earlier_of (earlier_of (earlier_of a b) w) f) g ≡ None
-none_of_five ha hb hw hf hg = rw (ha, hb, hw, hf, hg) refl
+-- and those of an order
+order_known : (p : Table) → AreKnown p → (o : Option Order) → IsOrderBelow (length p.texts) o → order_with_unknown p.declared (option_map (order_of p.texts) o) ≡ []
+order_known p known None below = refl
+order_known p known (Some o) below = rw (list_known p known o.names.items below) refl
+
+none_of_six : {a b w f g h : Option ℕ} → a ≡ None → b ≡ None → w ≡ None → f ≡ None → g ≡ None → h ≡ None → earlier_of (earlier_of (earlier_of (earlier_of (earlier_of a b) w) f) g) h ≡ None
+none_of_six ha hb hw hf hg ho = rw (ha, hb, hw, hf, hg, ho) refl
 
 -- no line of a draft names an undeclared agent
 pub none_unknown : (kind : Kind) (line : ℕ) (d : Draft) → IsDraft kind line d → AreKnown d.proposer_names → AreKnown d.reviewer_names → least (unknown_lines kind (said_of kind d)) ≡ None
@@ -82,9 +89,10 @@ none_unknown kind line d draft ps rs =
     let r = d.reviewer_names in
     let t = listed_table kind p r in
     unknown_is kind line d draft
-    ∙ none_of_five
+    ∙ none_of_six
     (ap least (agents_known t (listed_known kind p r ps rs) d.proposers.items draft.proposers_in))
     (ap least (agents_known p ps d.reviewers.items draft.reviewers_in))
     (ap least (pairs_known p r ps rs (pairs_of d.weights.items) draft.weights_in))
     (ap least (pairs_known p r ps rs d.forced.items draft.forced_in))
     (ap least (pairs_known p r ps rs d.forbidden.items draft.forbidden_in))
+    (ap least (order_known p ps d.order draft.order_in))

@@ -16,5 +16,7 @@ pub mod KnownLemmas
 pub mod OrderLemmas
 pub mod ReadingLemmas
 pub mod RightLemmas
+pub mod FullLemmas
 pub mod SoundLemmas
+pub mod MasterLemmas
 pub mod WitnessLemmas

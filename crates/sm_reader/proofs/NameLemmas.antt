@@ -8,10 +8,10 @@ use Rattle.std.proofs.lemmas.List.{take_rest, drop-drop, drop-map, drop_all, len
 use Rattle.sm_text.specs.Name.{is_name, is_name_byte}
 use Rattle.sm_text.specs.Tokens.{begins_run}
 use Rattle.sm_instance.specs.declared.kinds.Kind.{Kind}
-use Rattle.sm_reader.specs.Forms.{form_behind}
+use Rattle.sm_reader.specs.Forms.{form_under}
 use Rattle.sm_reader.specs.Kept.{AreNamesAtEnd}
 use Rattle.sm_text.specs.Slices.{texts_of}
-use Rattle.sm_reader.proofs.WholeLemmas.{and_left, and_right, listed, list_behind}
+use Rattle.sm_reader.proofs.WholeLemmas.{and_left, and_right, listed, list_under}
 
 module _ (names : ℕ) where
   -- they are the names at the end of what stands behind some of the tokens
@@ -30,8 +30,8 @@ module _ (names : ℕ) where
   none_there = record { are = λ k. subst (λ (ts : List (List ℕ)). list_all is_name ts ≡ nat_le (length ts) names) (sym (drop_all k [] (omega arith))) (let e : true ≡ nat_le 0 names = grind (arith, nat_tests) in e) }
 
   -- and of the list of a line
-  pub form_names : (kind : Kind) (word : List ℕ) (rest : List (List ℕ)) → AreNamesAtEnd names rest → AreNamesAtEnd names (listed (form_behind kind word rest))
-  form_names = list_behind (AreNamesAtEnd names) (AreNamesAtEnd names) (λ t ts. names_behind 1 (t ∷ ts)) none_there (λ ts begin h. h)
+  pub form_names : (kind : Kind) (format : ℕ) (word : List ℕ) (rest : List (List ℕ)) → AreNamesAtEnd names rest → AreNamesAtEnd names (listed (form_under kind format word rest))
+  form_names = list_under (AreNamesAtEnd names) (AreNamesAtEnd names) (λ t ts. names_behind 1 (t ∷ ts)) none_there (λ ts begin h. h)
 
   -- all tokens are names exactly where there are no more of them
   pub all_names : (tokens : List (Bor (List ℕ))) → AreNamesAtEnd names (texts_of tokens) → list_all is_name (texts_of tokens) ≡ nat_le (length tokens) names

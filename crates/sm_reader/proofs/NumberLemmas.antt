@@ -1,22 +1,22 @@
 -- Numbers of names, and the first line that names nobody.
-use Rattle.std.proofs.Common.{◌≡◌, ◌≢◌, ℕ, zero, suc, ◌+◌, ◌<◌, ◌≤◌, ◌||◌, Bool, true, false, cond, List, [], ◌∷◌, ◌++◌, length, get_or, set, take, drop, map, min, filter, Option, Some, None, refl, sym, ap, ◌∙◌, subst, append_assoc, arith, ℤ, pos}
+use Rattle.std.proofs.Common.{◌≡◌, ◌≢◌, ℕ, zero, suc, ◌+◌, ◌<◌, ◌≤◌, ◌||◌, Bool, true, false, cond, List, [], ◌∷◌, ◌++◌, length, get_or, set, take, drop, map, min, filter, Option, Some, None, refl, sym, ap, ◌∙◌, subst, append_assoc, arith, ℤ}
 use Rattle.std.specs.List.{list_any}
-use Rattle.std.specs.Option.{option_map_or}
+use Rattle.std.specs.Option.{option_map, option_map_or}
 use Rattle.std.proofs.Math.Seq.{drop-cons, get_or-append_seam, set-append_seam}
 use Rattle.std.proofs.lemmas.List.{length-map, length-take-le, get_or-map, map_push, map-append, take_more, take_all}
 use Rattle.std.proofs.lemmas.List.Elements.{filter-append}
 use Rattle.std.proofs.lemmas.List.Folds.{list_any-append, list_any_at}
 use Rattle.sm_text.specs.Limits.{most_agents}
-use Rattle.sm_instance.specs.Vectors.{agents_of, written_from, written_in}
-use Rattle.sm_instance.specs.Written.{AgentData, Written, plain_written}
+use Rattle.sm_instance.specs.Vectors.{agents_of, written_with, written_in}
+use Rattle.sm_instance.specs.Written.{AgentData, Written}
 use Rattle.sm_instance.specs.declared.agents.Agent.{Agent}
 use Rattle.sm_instance.specs.declared.kinds.Kind.{Kind}
 use Rattle.sm_instance.specs.declared.kinds.Kind.TheVariants.{Marriage, Hospitals, Roommates}
-use Rattle.sm_instance.specs.Named.{SaidPair, SaidWeight, names_of}
+use Rattle.sm_instance.specs.Named.{SaidPair, SaidWeight, names_of, names_first}
 use Rattle.sm_lists.specs.Earlier.{earlier_of}
-use Rattle.sm_reader.specs.InstanceText.{lines_with_unknown, pairs_with_unknown, least, unknown_lines, listed_by_proposers, numbered, two_sides}
+use Rattle.sm_reader.specs.InstanceText.{lines_with_unknown, pairs_with_unknown, order_with_unknown, least, unknown_lines, listed_by_proposers, number_in, numbered, full_order, two_sides}
 use Rattle.sm_reader.specs.Kept.{AreBelow, Table}
-use Rattle.sm_reader.specs.Draft.{AreAgentsBelow, IsPairBelow, ArePairsBelow, pairs_of, listed_table, agent_in, pair_in, given_in, said_of, IsDraft}
+use Rattle.sm_reader.specs.Draft.{AreAgentsBelow, IsPairBelow, ArePairsBelow, pairs_of, listed_table, agent_in, pair_in, given_in, order_of, said_of, IsDraft}
 use Rattle.sm_reader.specs.Numbering.{line_if, pair_among, weight_among, NumbersPersons, NumbersSides}
 use Rattle.sm_reader.specs.declared.draft.Declared.{Declared}
 use Rattle.sm_reader.specs.declared.draft.Pair.{Pair}
@@ -137,6 +137,11 @@ pub pairs_in : (p r : List (List ℕ)) (ws : List Weight) → map (λ (w : SaidW
 pairs_in p r [] = refl
 pairs_in p r (w ∷ ws) = ap (λ x. pair_in p r w.pair ∷ x) (pairs_in p r ws)
 
+-- the second weights that are said are those of the draft's
+seconds_in : (p r : List (List ℕ)) (ws : List Weight) → map (λ (w : SaidWeight). w.second) (map (given_in p r) ws) ≡ map (λ (w : Weight). w.second) ws
+seconds_in p r [] = refl
+seconds_in p r (w ∷ ws) = ap (λ x. w.second ∷ x) (seconds_in p r ws)
+
 module _ (kind : Kind) (line : ℕ) (d : Draft) (draft : IsDraft kind line d) where
   -- the proposers that are said are those declared
   pub proposer_names : names_of (said_of kind d).proposers ≡ d.proposer_names.declared
@@ -155,19 +160,20 @@ listed_names Roommates line d draft = proposer_names Roommates line d draft
 -- the first line that names an undeclared agent, part by part
 pub unknown_is : (kind : Kind) (line : ℕ) (d : Draft) → IsDraft kind line d
     → let p = d.proposer_names in let r = d.reviewer_names in let t = listed_table kind d.proposer_names d.reviewer_names in
-    least (unknown_lines kind (said_of kind d)) ≡ earlier_of (earlier_of (earlier_of (earlier_of
+    least (unknown_lines kind (said_of kind d)) ≡ earlier_of (earlier_of (earlier_of (earlier_of (earlier_of
     (least (lines_with_unknown t.declared (map (agent_in t.texts) d.proposers.items)))
     (least (lines_with_unknown p.declared (map (agent_in p.texts) d.reviewers.items))))
     (least (pairs_with_unknown p.declared r.declared (map (pair_in p.texts r.texts) (pairs_of d.weights.items)))))
     (least (pairs_with_unknown p.declared r.declared (map (pair_in p.texts r.texts) d.forced.items))))
-    (least (pairs_with_unknown p.declared r.declared (map (pair_in p.texts r.texts) d.forbidden.items)))
+    (least (pairs_with_unknown p.declared r.declared (map (pair_in p.texts r.texts) d.forbidden.items))))
+    (least (order_with_unknown p.declared (option_map (order_of p.texts) d.order)))
 unknown_is kind line d draft =
     let p = d.proposer_names in
     let r = d.reviewer_names in
     let t = listed_table kind d.proposer_names d.reviewer_names in
     let said = said_of kind d in
     let parts = λ (listed ps rs : List (List ℕ)) (ws : List SaidPair). lines_with_unknown listed said.proposers ++ lines_with_unknown ps said.reviewers
-    ++ pairs_with_unknown ps rs ws ++ pairs_with_unknown ps rs said.forced ++ pairs_with_unknown ps rs said.forbidden in
+    ++ pairs_with_unknown ps rs ws ++ pairs_with_unknown ps rs said.forced ++ pairs_with_unknown ps rs said.forbidden ++ order_with_unknown ps said.order in
     let weighed = map (λ (w : SaidWeight). w.pair) said.weights in
     let named : unknown_lines kind said ≡ parts t.declared p.declared r.declared (map (pair_in p.texts r.texts) (pairs_of d.weights.items)) =
     ap (λ x. parts x (names_of said.proposers) (names_of said.reviewers) weighed) (listed_names kind line d draft)
@@ -179,16 +185,18 @@ unknown_is kind line d draft =
     let w = pairs_with_unknown p.declared r.declared (map (pair_in p.texts r.texts) (pairs_of d.weights.items)) in
     let f = pairs_with_unknown p.declared r.declared said.forced in
     let g = pairs_with_unknown p.declared r.declared said.forbidden in
+    let h = order_with_unknown p.declared said.order in
     ap least named
-    ∙ least-append (a ++ b ++ w ++ f) g
-    ∙ ap (λ o. earlier_of o (least g)) (least-append (a ++ b ++ w) f)
-    ∙ ap (λ o. earlier_of (earlier_of o (least f)) (least g)) (least-append (a ++ b) w)
-    ∙ ap (λ o. earlier_of (earlier_of (earlier_of o (least w)) (least f)) (least g)) (least-append a b)
+    ∙ least-append (a ++ b ++ w ++ f ++ g) h
+    ∙ ap (λ o. earlier_of o (least h)) (least-append (a ++ b ++ w ++ f) g)
+    ∙ ap (λ o. earlier_of (earlier_of o (least g)) (least h)) (least-append (a ++ b ++ w) f)
+    ∙ ap (λ o. earlier_of (earlier_of (earlier_of o (least f)) (least g)) (least h)) (least-append (a ++ b) w)
+    ∙ ap (λ o. earlier_of (earlier_of (earlier_of (earlier_of o (least w)) (least f)) (least g)) (least h)) (least-append a b)
 
 -- one part after another
-pub earlier_chain : {a b w f g x y z u p q r s t : Option ℕ} → x ≡ earlier_of a b → y ≡ earlier_of x w → z ≡ earlier_of y f → u ≡ earlier_of z g → a ≡ p → b ≡ q → w ≡ r → f ≡ s → g ≡ t
-    → u ≡ earlier_of (earlier_of (earlier_of (earlier_of p q) r) s) t
-earlier_chain e1 e2 e3 e4 ha hb hw hf hg = cc
+pub earlier_chain : {a b w f g h x y z u v p q r s t o : Option ℕ} → x ≡ earlier_of a b → y ≡ earlier_of x w → z ≡ earlier_of y f → u ≡ earlier_of z g → v ≡ earlier_of u h
+    → a ≡ p → b ≡ q → w ≡ r → f ≡ s → g ≡ t → h ≡ o → v ≡ earlier_of (earlier_of (earlier_of (earlier_of (earlier_of p q) r) s) t) o
+earlier_chain e1 e2 e3 e4 e5 ha hb hw hf hg ho = cc
 
 -- the persons that are numbered are those that a draft says
 pub persons_said : (line : ℕ) (d : Draft) → IsDraft Roommates line d → (persons : List Agent) → NumbersPersons d persons
@@ -197,34 +205,39 @@ persons_said line d draft persons are = are ∙ ap (λ ns. map (numbered ns) (sa
 
 -- and so are the two sides
 pub sides_said : (kind : Kind) (line : ℕ) (d : Draft) → IsDraft kind line d → kind ≢ Roommates → (sides : Parts) → NumbersSides d sides
-    → written_from kind sides.proposers.items sides.reviewers.items sides.weights.items sides.forced.items sides.forbidden.items ≡ two_sides kind (said_of kind d)
+    → written_with kind sides.proposers.items sides.reviewers.items sides.weights.items sides.forced.items sides.forbidden.items sides.seconds.items sides.order.items ≡ two_sides kind (said_of kind d)
 sides_said kind line d draft other n are =
     let said = said_of kind d in
     let p = d.proposer_names in
     let r = d.reviewer_names in
-    let sides : List (List ℕ) → List (List ℕ) → List (List ℕ) → Written = λ ps rs listed. plain_written kind
-    (map (numbered rs) (map (agent_in listed) d.proposers.items))
-    (map (numbered ps) said.reviewers)
-    (map (weight_among ps rs) said.weights)
-    (map (pair_among ps rs) said.forced)
-    (map (pair_among ps rs) said.forbidden) in
-    let first : written_from kind n.proposers.items n.reviewers.items n.weights.items n.forced.items n.forbidden.items ≡ sides p.declared r.declared r.texts =
-    five kind are.proposers are.reviewers are.weights are.forced are.forbidden in
+    let sides : List (List ℕ) → List (List ℕ) → List (List ℕ) → Written = λ ps rs listed. record {
+      kind = kind;
+      proposers = map (numbered rs) (map (agent_in listed) d.proposers.items);
+      reviewers = map (numbered ps) said.reviewers;
+      weights = map (weight_among ps rs) said.weights;
+      forced = map (pair_among ps rs) said.forced;
+      forbidden = map (pair_among ps rs) said.forbidden;
+      seconds = map (λ (w : SaidWeight). w.second) said.weights;
+      order = full_order (length (map (agent_in listed) d.proposers.items)) (map (number_in ps) (names_first said.order));
+    } in
+    let count : length d.proposers.items ≡ length (map (agent_in r.texts) d.proposers.items) = sym (length-map d.proposers.items (agent_in r.texts)) in
+    let first : written_with kind n.proposers.items n.reviewers.items n.weights.items n.forced.items n.forbidden.items n.seconds.items n.order.items ≡ sides p.declared r.declared r.texts =
+    seven kind are.proposers are.reviewers are.weights are.forced are.forbidden (are.seconds ∙ sym (seconds_in p.texts r.texts d.weights.items))
+    (are.order ∙ ap (λ c. full_order c (map (number_in p.declared) (names_first said.order))) count) in
     first
     ∙ ap (λ (t : Table). sides p.declared r.declared t.texts) (sym (other_table kind d.proposer_names d.reviewer_names other))
     ∙ ap (λ ps. sides ps r.declared (listed_table kind d.proposer_names d.reviewer_names).texts) (sym (proposer_names kind line d draft))
     ∙ ap (λ rs. sides (names_of said.proposers) rs (listed_table kind d.proposer_names d.reviewer_names).texts) (sym (reviewer_names kind line d draft))
   where
-    five : (k : Kind) {a a' b b' : List AgentData} {w w' : List (ℕ × ℕ × ℤ)} {f f' g g' : List (ℕ × ℕ)} → a ≡ a' → b ≡ b' → w ≡ w' → f ≡ f' → g ≡ g'
-        → plain_written k a b w f g ≡ plain_written k a' b' w' f' g'
-    five k h1 h2 h3 h4 h5 = cc
+    seven : (k : Kind) {a a' b b' : List AgentData} {w w' : List (ℕ × ℕ × ℤ)} {f f' g g' : List (ℕ × ℕ)} {s s' : List ℤ} {o o' : List ℕ} → a ≡ a' → b ≡ b' → w ≡ w' → f ≡ f' → g ≡ g' → s ≡ s' → o ≡ o'
+        → let x : Written = record { kind = k; proposers = a; reviewers = b; weights = w; forced = f; forbidden = g; seconds = s; order = o } in
+        let y : Written = record { kind = k; proposers = a'; reviewers = b'; weights = w'; forced = f'; forbidden = g'; seconds = s'; order = o' } in x ≡ y
+    seven k h1 h2 h3 h4 h5 h6 h7 = cc
 
 -- the numbered parts of a draft make the two sides that it says
 pub parts_said : (kind : Kind) (line : ℕ) (d : Draft) → IsDraft kind line d → kind ≢ Roommates → (parts : Parts) → parts.kind ≡ kind → NumbersSides d parts → written_in parts ≡ two_sides kind (said_of kind d)
 parts_said kind line d draft other parts same are =
-    ap (λ seconds. record (written_in parts) { seconds = seconds }) are.seconds
-    ∙ ap (λ order. record (written_in parts) { seconds = map (λ _. pos 0) parts.weights.items; order = order }) are.order
-    ∙ ap (λ k. written_from k parts.proposers.items parts.reviewers.items parts.weights.items parts.forced.items parts.forbidden.items) same ∙ sides_said kind line d draft other parts are
+    ap (λ k. written_with k parts.proposers.items parts.reviewers.items parts.weights.items parts.forced.items parts.forbidden.items parts.seconds.items parts.order.items) same ∙ sides_said kind line d draft other parts are
 
 -- few names are declared
 pub few_names : (kind : Kind) (line : ℕ) (d : Draft) → IsDraft kind line d → (length d.proposer_names.declared ≤ most_agents) × (length d.reviewer_names.declared ≤ most_agents)

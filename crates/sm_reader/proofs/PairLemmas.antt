@@ -1,7 +1,7 @@
 -- What lines of pairs add to a draft, and what the faults of lines are to a draft.
 use Rattle.std.proofs.Common.{◌≡◌, ◌≢◌, ℕ, ◌+◌, ◌<◌, ◌≤◌, ◌&&◌, ◌||◌, eqb, Bool, true, false, cond, List, [], ◌∷◌, ◌++◌, length, map, Option, Some, None, refl, sym, ap, ◌∙◌, subst, inl, inr, arith, AllPairs, unwrap_or, pos, ℤ, not, is_none}
 use Rattle.std.specs.List.{list_any, list_all}
-use Rattle.std.specs.Option.{option_or}
+use Rattle.std.specs.Option.{option_or, option_map}
 use Rattle.std.specs.Str.{bytes_eq}
 use Rattle.std.proofs.lemmas.List.{length_push, map_push, length-map}
 use Rattle.std.proofs.lemmas.Bool.Decides.{nat_tests}
@@ -12,13 +12,13 @@ use Rattle.sm_text.specs.declared.refusal.RefusalKind.TheVariants.{BadName, BadN
 use Rattle.sm_instance.specs.declared.kinds.Kind.{Kind}
 use Rattle.sm_instance.specs.declared.kinds.Side.{Side}
 use Rattle.sm_instance.specs.declared.kinds.Side.TheVariants.{Proposers, Reviewers}
-use Rattle.sm_instance.specs.Named.{SaidPair, SaidWeight, Said, names_of, entries_of, all_entries, agents_on, is_given_to}
+use Rattle.sm_instance.specs.Named.{SaidPair, SaidWeight, Said, names_of, entries_of, entries_of_masters, all_entries, agents_on, is_given_to}
 use Rattle.sm_reader.specs.declared.forms.Condition.{Condition}
 use Rattle.sm_reader.specs.declared.forms.Condition.TheVariants.{Force, Forbid}
 use Rattle.sm_reader.specs.Forms.{declares, weighs, binds}
-use Rattle.sm_reader.specs.Judging.{fault_of, said_with, with_agent, weight_in}
+use Rattle.sm_reader.specs.Judging.{fault_of, said_with, with_agent, weight_in, second_in, weight_of}
 use Rattle.sm_reader.specs.Kept.{text_at}
-use Rattle.sm_reader.specs.Draft.{listed_table, agent_in, pair_in, given_in, said_of, IsPairBelow, ArePairsBelow, pairs_of, key_of, IsDraft, AddsForm, AddsAgent, AreRunsRight, IsLineFault, RefusesFor, run_fault, name_fault, weight_fault, weights_in, table_on, declared_on, PairsOf, PutsWeight, PutsPair, Binds}
+use Rattle.sm_reader.specs.Draft.{listed_table, agent_in, pair_in, given_in, order_of, said_of, IsPairBelow, ArePairsBelow, pairs_of, key_of, IsDraft, AddsForm, AddsAgent, AreRunsRight, IsLineFault, RefusesFor, run_fault, name_fault, weight_fault, weights_in, table_on, declared_on, PairsOf, PutsWeight, PutsPair, Binds}
 use Rattle.sm_reader.specs.declared.draft.Declared.{Declared}
 use Rattle.sm_reader.specs.declared.draft.Pair.{Pair}
 use Rattle.sm_reader.specs.declared.draft.Weight.{Weight}
@@ -28,7 +28,7 @@ use Rattle.sm_reader.specs.declared.faults.TextFault.TheVariants.{Refused, OutOf
 use Rattle.sm_keys.proofs.TextLemmas.{same_text, other_text}
 use Rattle.sm_reader.proofs.TableLemmas.{distinct_index, cases_eq}
 use Rattle.sm_reader.proofs.ListingLemmas.{extends_long}
-use Rattle.sm_reader.proofs.DraftLemmas.{agents_kept, agents_below_more, pairs_kept, weights_kept, pairs_below_more, pairs_below_push, said_same, listed_more}
+use Rattle.sm_reader.proofs.DraftLemmas.{agents_kept, agents_below_more, pairs_kept, weights_kept, pairs_below_more, pairs_below_push, order_kept, order_below_more, said_same, listed_more}
 use Rattle.sm_reader.proofs.JudgeLemmas.{fault_of-declares, fault_of-weighs, fault_of-binds}
 use Rattle.sm_reader.proofs.AddLemmas.{Grown}
 
@@ -70,6 +70,9 @@ module _ (kind : Kind) (line : ℕ) (d mid : Draft) (proposer reviewer : List �
   pairs_same xs inside = pairs_kept d.proposer_names.texts mid.proposer_names.texts d.reviewer_names.texts mid.reviewer_names.texts
       grown_pair.p_more grown_pair.r_more xs inside
 
+  order_same : option_map (order_of mid.proposer_names.texts) d.order ≡ (said_of kind d).order
+  order_same = order_kept d.proposer_names.texts mid.proposer_names.texts d.order grown_pair.p_more draft.order_in
+
   below_still : (xs : List Pair) → ArePairsBelow (length d.proposer_names.texts) (length d.reviewer_names.texts) xs
       → ArePairsBelow (length mid.proposer_names.texts) (length mid.reviewer_names.texts) xs
   below_still xs inside = pairs_below_more d.proposer_names.texts mid.proposer_names.texts d.reviewer_names.texts mid.reviewer_names.texts
@@ -93,14 +96,16 @@ module _ (kind : Kind) (line : ℕ) (d mid : Draft) (proposer reviewer : List �
     forced_in = fs;
     forbidden_in = bs;
     weighed = weighed;
-    counted = draft.counted ∙ ap (λ xs. entries_of xs + entries_of (said_of kind d).reviewers) (sym agents_same)
-        ∙ ap (λ xs. entries_of (map (agent_in (listed_table kind mid.proposer_names mid.reviewer_names).texts) d.proposers.items) + entries_of xs) (sym others_same);
+    counted = draft.counted ∙ ap (λ xs. entries_of xs + entries_of (said_of kind d).reviewers + entries_of_masters (said_of kind d).masters) (sym agents_same)
+        ∙ ap (λ xs. entries_of (map (agent_in (listed_table kind mid.proposer_names mid.reviewer_names).texts) d.proposers.items) + entries_of xs + entries_of_masters (said_of kind d).masters) (sym others_same);
     entries_fit = draft.entries_fit;
     proposers_fit = draft.proposers_fit;
     reviewers_fit = draft.reviewers_fit;
     proposers_fresh = grown_pair.p_fresh;
     reviewers_fresh = grown_pair.r_fresh;
     few = omega (arith, draft.few);
+    masters = draft.masters;
+    order_in = order_below_more (length d.proposer_names.texts) (length mid.proposer_names.texts) d.order (extends_long d.proposer_names.texts mid.proposer_names.texts grown_pair.p_more) draft.order_in;
   }
 
   -- what is said, and that it is in range, where the pair stands behind others
@@ -131,7 +136,9 @@ module _ (kind : Kind) (line : ℕ) (d mid : Draft) (proposer reviewer : List �
         faultless = fault_of-binds (said_of kind d) Force proposer reviewer true paired.are_names;
         said = ap (said_of kind) all ∙ said_same agents_same others_same weights_same
             (pushed_said d.forced.items new.forced.items draft.forced_in pushed)
-            (pairs_same d.forbidden.items draft.forbidden_in);
+            (pairs_same d.forbidden.items draft.forbidden_in)
+            refl
+            order_same;
         draft = subst (IsDraft kind (line + 1)) (sym all) (draft_with_pairs e
             (below_still (pairs_of d.weights.items) draft.weights_in)
             (pushed_below d.forced.items new.forced.items draft.forced_in pushed)
@@ -147,7 +154,9 @@ module _ (kind : Kind) (line : ℕ) (d mid : Draft) (proposer reviewer : List �
         faultless = fault_of-binds (said_of kind d) Forbid proposer reviewer true paired.are_names;
         said = ap (said_of kind) all ∙ said_same agents_same others_same weights_same
             (pairs_same d.forced.items draft.forced_in)
-            (pushed_said d.forbidden.items new.forbidden.items draft.forbidden_in pushed);
+            (pushed_said d.forbidden.items new.forbidden.items draft.forbidden_in pushed)
+            refl
+            order_same;
         draft = subst (IsDraft kind (line + 1)) (sym all) (draft_with_pairs e
             (below_still (pairs_of d.weights.items) draft.weights_in)
             (below_still d.forced.items draft.forced_in)
@@ -163,9 +172,10 @@ condition_added kind line d new condition proposer reviewer draft bound =
     pair_added kind line d bound.mid proposer reviewer bound.pair draft bound.paired condition new bound.puts
 
 -- a pair gets its weight
-pub weight_added : (kind : Kind) (line : ℕ) (d new : Draft) (proposer reviewer run : List ℕ) → IsDraft kind line d → PutsWeight d new proposer reviewer run line → AddsForm kind line (weighs proposer reviewer run) d new
+pub weight_added : (kind : Kind) (line : ℕ) (d new : Draft) (proposer reviewer run : List ℕ) (second : Option (List ℕ)) → IsDraft kind line d → PutsWeight d new proposer reviewer run second line
+    → AddsForm kind line (weighs proposer reviewer run second) d new
 unfolding said_with
-weight_added kind line d new proposer reviewer run draft puts =
+weight_added kind line d new proposer reviewer run second draft puts =
     let mid = puts.mid in
     let w = puts.added in
     let e : Draft = record d { weights = new.weights; weighed = new.weighed } in
@@ -174,11 +184,12 @@ weight_added kind line d new proposer reviewer run draft puts =
     let paired = puts.paired in
     let all : new ≡ with_pairs kind line d mid proposer reviewer w.pair draft paired e = puts.changes ∙ ap (λ (x : Draft). record x { weights = new.weights; weighed = new.weighed }) paired.changes in
     let pushed : new.weights.items ≡ d.weights.items ++ w ∷ [] = puts.weights ∙ ap (λ (x : Draft). x.weights.items ++ w ∷ []) paired.changes in
-    let given : given_in q s w ≡ record { pair = record { proposer = proposer; reviewer = reviewer; line = line }; weight = unwrap_or (weight_in run) (pos 0) } =
-    ap (λ x. record { pair = x; weight = w.weight }) (pair_is kind line d mid proposer reviewer w.pair draft paired)
-    ∙ ap (λ z. record { pair = record { proposer = proposer; reviewer = reviewer; line = line }; weight = unwrap_or z (pos 0) }) (sym puts.weight) in
+    let given : given_in q s w ≡ weight_of line proposer reviewer run second =
+    ap (λ x. record { pair = x; weight = w.weight; second = w.second }) (pair_is kind line d mid proposer reviewer w.pair draft paired)
+    ∙ ap (λ z. record { pair = record { proposer = proposer; reviewer = reviewer; line = line }; weight = unwrap_or z (pos 0); second = w.second }) (sym puts.weight)
+    ∙ ap (λ z. record { pair = record { proposer = proposer; reviewer = reviewer; line = line }; weight = unwrap_or (weight_in run) (pos 0); second = unwrap_or z (pos 0) }) (sym puts.second) in
     record {
-      faultless = fault_of-weighs (said_of kind d) proposer reviewer run ∙ puts.faultless;
+      faultless = fault_of-weighs (said_of kind d) proposer reviewer run second ∙ puts.faultless;
       said = ap (said_of kind) all ∙ said_same
           (agents_same kind line d mid proposer reviewer w.pair draft paired)
           (others_same kind line d mid proposer reviewer w.pair draft paired)
@@ -186,7 +197,9 @@ weight_added kind line d new proposer reviewer run draft puts =
           ∙ ap (λ x. x ++ given_in q s w ∷ []) (weights_same kind line d mid proposer reviewer w.pair draft paired)
           ∙ ap (λ x. (said_of kind d).weights ++ x ∷ []) given)
           (pairs_same kind line d mid proposer reviewer w.pair draft paired d.forced.items draft.forced_in)
-          (pairs_same kind line d mid proposer reviewer w.pair draft paired d.forbidden.items draft.forbidden_in);
+          (pairs_same kind line d mid proposer reviewer w.pair draft paired d.forbidden.items draft.forbidden_in)
+          refl
+          (order_same kind line d mid proposer reviewer w.pair draft paired);
       draft = subst (IsDraft kind (line + 1)) (sym all) (draft_with_pairs kind line d mid proposer reviewer w.pair draft paired e
           (subst (λ ws. ArePairsBelow (length q) (length s) (pairs_of ws)) (sym pushed)
           (subst (ArePairsBelow (length q) (length s)) (sym (map_push (λ (x : Weight). x.pair) d.weights.items w)) (pairs_below_push (length q) (length s) (pairs_of d.weights.items) w.pair
@@ -290,10 +303,11 @@ weight_met d mid p r line pair paired inside weighed =
     ∙ ap (list_any (is_given_to p r)) (weights_kept old_p q old_r s a.extends b.extends d.weights.items inside)
 
 -- the fault of a weight whose runs are right
-pub weight_fault_is : (ws : List SaidWeight) (p r run : List ℕ) (z : ℤ) (b : Bool) → list_all is_name (p ∷ r ∷ []) ≡ true → weight_in run ≡ Some z → list_any (is_given_to p r) ws ≡ b
-    → weight_fault ws p r run ≡ cond b (Some RepeatedWeight) None
-weight_fault_is ws p r run z b names number met =
+pub weight_fault_is : (ws : List SaidWeight) (p r run : List ℕ) (second : Option (List ℕ)) (z y : ℤ) (b : Bool) → list_all is_name (p ∷ r ∷ []) ≡ true → weight_in run ≡ Some z → second_in second ≡ Some y
+    → list_any (is_given_to p r) ws ≡ b → weight_fault ws p r run second ≡ cond b (Some RepeatedWeight) None
+weight_fault_is ws p r run second z y b names number further met =
     let last : Option RefusalKind = cond (list_any (is_given_to p r) ws) (Some RepeatedWeight) None in
-    ap (λ t. cond (not t) (Some BadName) (cond (is_none (weight_in run)) (Some BadNumber) last)) names
-    ∙ ap (λ o. cond (is_none o) (Some BadNumber) last) number
+    ap (λ t. cond (not t) (Some BadName) (cond (is_none (weight_in run) || is_none (second_in second)) (Some BadNumber) last)) names
+    ∙ ap (λ o. cond (is_none o || is_none (second_in second)) (Some BadNumber) last) number
+    ∙ ap (λ o. cond (is_none o) (Some BadNumber) last) further
     ∙ ap (λ t. cond t (Some RepeatedWeight) None) met

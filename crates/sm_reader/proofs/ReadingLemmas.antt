@@ -21,30 +21,30 @@ use Rattle.sm_reader.specs.declared.faults.TextFault.TheVariants.{Refused, OutOf
 
 module _ (bytes text : List ℕ) (at next : ℕ) (leads : LeadsLines bytes at text next) where
   -- one line behind the header
-  pub verdict_step : (kind : Kind) (header : ℕ) (said : Said) (n : ℕ) → behind_header kind header said n at (lines (drop at bytes))
-      ≡ by_verdict (verdict_on kind said n (tokens text)) (λ more. behind_header kind header more (n + 1) next (lines (drop next bytes))) (ended kind header said next (n + 1)) (λ fault. Err (fault, n))
-  verdict_step kind header said n =
-      ap (behind_header kind header said n at) leads.leads
-      ∙ ap (λ p. by_verdict (verdict_on kind said n (tokens (content (first_line (drop at bytes))))) (λ more. behind_header kind header more (n + 1) p (lines (drop next bytes)))
+  pub verdict_step : (kind : Kind) (format header : ℕ) (said : Said) (n : ℕ) → behind_header kind format header said n at (lines (drop at bytes))
+      ≡ by_verdict (verdict_on kind format said n (tokens text)) (λ more. behind_header kind format header more (n + 1) next (lines (drop next bytes))) (ended kind header said next (n + 1)) (λ fault. Err (fault, n))
+  verdict_step kind format header said n =
+      ap (behind_header kind format header said n at) leads.leads
+      ∙ ap (λ p. by_verdict (verdict_on kind format said n (tokens (content (first_line (drop at bytes))))) (λ more. behind_header kind format header more (n + 1) p (lines (drop next bytes)))
       (ended kind header said p (n + 1)) (λ fault. Err (fault, n))) (sym leads.long)
-      ∙ ap (λ t. by_verdict (verdict_on kind said n (tokens t)) (λ more. behind_header kind header more (n + 1) next (lines (drop next bytes)))
+      ∙ ap (λ t. by_verdict (verdict_on kind format said n (tokens t)) (λ more. behind_header kind format header more (n + 1) next (lines (drop next bytes)))
       (ended kind header said next (n + 1)) (λ fault. Err (fault, n))) (sym leads.holds)
 
-module _ (bytes text : List ℕ) (at next : ℕ) (leads : LeadsLines bytes at text next) (kind : Kind) (header : ℕ) (said : Said) (n : ℕ) where
+module _ (bytes text : List ℕ) (at next : ℕ) (leads : LeadsLines bytes at text next) (kind : Kind) (format header : ℕ) (said : Said) (n : ℕ) where
   -- a line that goes on
-  pub goes_step : (more : Said) → verdict_on kind said n (tokens text) ≡ goes more → behind_header kind header said n at (lines (drop at bytes)) ≡ behind_header kind header more (n + 1) next (lines (drop next bytes))
-  goes_step more e = verdict_step bytes text at next leads kind header said n
-      ∙ ap (λ v. by_verdict v (λ more. behind_header kind header more (n + 1) next (lines (drop next bytes))) (ended kind header said next (n + 1)) (λ fault. Err (fault, n))) e
+  pub goes_step : (more : Said) → verdict_on kind format said n (tokens text) ≡ goes more → behind_header kind format header said n at (lines (drop at bytes)) ≡ behind_header kind format header more (n + 1) next (lines (drop next bytes))
+  goes_step more e = verdict_step bytes text at next leads kind format header said n
+      ∙ ap (λ v. by_verdict v (λ more. behind_header kind format header more (n + 1) next (lines (drop next bytes))) (ended kind header said next (n + 1)) (λ fault. Err (fault, n))) e
 
   -- a line that ends the instance
-  pub stops_step : verdict_on kind said n (tokens text) ≡ stops → behind_header kind header said n at (lines (drop at bytes)) ≡ ended kind header said next (n + 1)
-  stops_step e = verdict_step bytes text at next leads kind header said n
-      ∙ ap (λ v. by_verdict v (λ more. behind_header kind header more (n + 1) next (lines (drop next bytes))) (ended kind header said next (n + 1)) (λ fault. Err (fault, n))) e
+  pub stops_step : verdict_on kind format said n (tokens text) ≡ stops → behind_header kind format header said n at (lines (drop at bytes)) ≡ ended kind header said next (n + 1)
+  stops_step e = verdict_step bytes text at next leads kind format header said n
+      ∙ ap (λ v. by_verdict v (λ more. behind_header kind format header more (n + 1) next (lines (drop next bytes))) (ended kind header said next (n + 1)) (λ fault. Err (fault, n))) e
 
   -- a line that is refused
-  pub refuses_step : (f : TextFault) → IsRefusedBy (verdict_on kind said n (tokens text)) n f → IsFaultOf (behind_header kind header said n at (lines (drop at bytes))) f
-  refuses_step (Refused fault line) h = verdict_step bytes text at next leads kind header said n
-      ∙ ap (λ v. by_verdict v (λ more. behind_header kind header more (n + 1) next (lines (drop next bytes))) (ended kind header said next (n + 1)) (λ fault. Err (fault, n))) h.0
+  pub refuses_step : (f : TextFault) → IsRefusedBy (verdict_on kind format said n (tokens text)) n f → IsFaultOf (behind_header kind format header said n at (lines (drop at bytes))) f
+  refuses_step (Refused fault line) h = verdict_step bytes text at next leads kind format header said n
+      ∙ ap (λ v. by_verdict v (λ more. behind_header kind format header more (n + 1) next (lines (drop next bytes))) (ended kind header said next (n + 1)) (λ fault. Err (fault, n))) h.0
       ∙ ap (λ m. Err (fault, m)) (sym h.1)
   refuses_step OutOfMemory h = tt
 

@@ -1,5 +1,5 @@
 -- What is right, with all names declared, makes a sound instance.
-use Rattle.std.proofs.Common.{◌≡◌, ◌≢◌, ℕ, zero, suc, ◌+◌, ◌<◌, ◌≤◌, ◌&&◌, ◌||◌, Bool, true, false, not, cond, List, [], ◌∷◌, ◌++◌, length, map, filter, get_or, None, refl, sym, ap, ◌∙◌, append_assoc, subst, inl, inr, arith, All, AllPairs, pos, ℤ}
+use Rattle.std.proofs.Common.{◌≡◌, ◌≢◌, ℕ, zero, suc, ◌+◌, ◌<◌, ◌≤◌, ◌&&◌, ◌||◌, Bool, true, false, not, cond, List, [], ◌∷◌, ◌++◌, length, map, filter, get_or, Option, Some, None, refl, sym, ap, ◌∙◌, append_assoc, subst, inl, inr, arith, All, AllPairs, pos, ℤ}
 use Rattle.std.specs.List.{list_any, fold}
 use Rattle.std.specs.Int.RustNames.{unsigned_abs}
 use Rattle.std.specs.Str.{bytes_eq}
@@ -11,19 +11,18 @@ use Rattle.std.proofs.Math.ListN.{get_or-append}
 use Rattle.sm_text.specs.Limits.{most_capacity, most_weight}
 use Rattle.sm_text.specs.Name.{is_name}
 use Rattle.sm_instance.specs.Written.{AgentData, no_agent, agent_at, weighed}
-use Rattle.sm_instance.specs.Sound.{AreSoundAgents, AreSoundEntries, IsPairOf, items_of, IsSoundItem, is_single, IsInstance, ArePersons, entries_of as entries_in}
+use Rattle.sm_instance.specs.Sound.{IsEachOnce, AreSoundAgents, AreSoundEntries, IsPairOf, items_of, IsSoundItem, is_single, IsInstance, ArePersons, entries_of as entries_in}
 use Rattle.sm_lists.specs.Pairs.{pair_at}
 use Rattle.sm_instance.specs.declared.kinds.Kind.{Kind}
 use Rattle.sm_instance.specs.declared.kinds.Kind.TheVariants.{Marriage, Hospitals, Roommates}
-use Rattle.sm_instance.specs.Named.{SaidAgent, SaidPair, SaidWeight, Said, names_of, entries_of}
-use Rattle.sm_instance.proofs.OrderLemmas.{range_is_each_once}
-use Rattle.sm_instance.proofs.SecondLemmas.{zeros_small}
+use Rattle.sm_instance.specs.Named.{SaidAgent, SaidPair, SaidWeight, SaidOrder, Said, names_of, names_first, entries_of}
 use Rattle.sm_reader.specs.Judging.{has_repeated}
-use Rattle.sm_reader.specs.InstanceText.{is_unknown, lines_with_unknown, pairs_with_unknown, unknown_lines, listed_by_proposers, least, number_in, numbered, numbered_pair, two_sides}
+use Rattle.sm_reader.specs.InstanceText.{is_unknown, lines_with_unknown, pairs_with_unknown, order_with_unknown, unknown_lines, listed_by_proposers, least, number_in, numbered, numbered_pair, full_order, two_sides}
 use Rattle.sm_reader.specs.Right.{IsRightAgent, IsRight}
 use Rattle.sm_reader.proofs.TextLemmas.{position_or_len-lt, at_position}
 use Rattle.sm_keys.proofs.TextLemmas.{same_text}
 use Rattle.sm_reader.proofs.RightLemmas.{fails_at}
+use Rattle.sm_reader.proofs.FullLemmas.{full_order_each}
 
 -- no line has an unknown name
 least_none : (xs : List ℕ) → least xs ≡ None → xs ≡ []
@@ -135,7 +134,7 @@ persons_sound said right none =
     let persons = map (numbered names) said.proposers in
     let lists = lines_with_unknown names said.proposers in
     let all = least_none (unknown_lines Roommates said) none in
-    let first = (empty_parts lists _ (assoc5 lists _ _ _ _ all)).0 in
+    let first = (empty_parts lists _ (assoc6 lists _ _ _ _ _ all)).0 in
     record {
       limits = record {
         proposers = omega (arith, right.proposers_fit, length-map said.proposers (numbered names));
@@ -147,8 +146,8 @@ persons_sound said right none =
           (length persons) (length-map said.proposers (numbered names) ∙ sym (length-map said.proposers (λ (x : SaidAgent). x.name)));
     }
   where
-    assoc5 : (a b d f g : List ℕ) → (((a ++ b) ++ d) ++ f) ++ g ≡ [] → a ++ (b ++ (d ++ (f ++ g))) ≡ []
-    assoc5 a b d f g h = simp append_assoc at h
+    assoc6 : (a b d f g i : List ℕ) → ((((a ++ b) ++ d) ++ f) ++ g) ++ i ≡ [] → a ++ (b ++ (d ++ (f ++ (g ++ i)))) ≡ []
+    assoc6 a b d f g i h = simp append_assoc at h
 
 -- the pairs of two sides
 module _ (said : Said) where
@@ -185,7 +184,7 @@ module _ (said : Said) where
   both_true false b ha hb = absurd (false≢true ha)
 
   no_weight : SaidWeight
-  no_weight = record { pair = record { proposer = []; reviewer = []; line = 0 }; weight = pos 0 }
+  no_weight = record { pair = record { proposer = []; reviewer = []; line = 0 }; weight = pos 0; second = pos 0 }
 
   items_sound : (kind : Kind) → IsRight kind said → list_any marks (map (λ (w : SaidWeight). w.pair) said.weights) ≡ false → list_any marks said.forced ≡ false → list_any marks said.forbidden ≡ false
       → (n m : ℕ) → n ≡ length (names_of said.proposers) → m ≡ length (names_of said.reviewers)
@@ -223,14 +222,41 @@ module _ (said : Said) where
             false≢true (sym (right.weights_differ k i no_weight before here) ∙ both_true (bytes_eq b.proposer a.proposer) (bytes_eq b.reviewer a.reviewer) (same_text b.proposer a.proposer p_same) (same_text b.reviewer a.reviewer r_same));
       }
 
+-- an order of known proposers has each of them once
+order_sound : (names : List (List ℕ)) (o : Option SaidOrder) (n m : ℕ) → n ≡ length names → n ≡ m → has_repeated (names_first o) ≡ false → order_with_unknown names o ≡ []
+    → IsEachOnce n (full_order m (map (number_in names) (names_first o)))
+order_sound names None n m en em differ known = subst (λ k. IsEachOnce n (full_order k [])) em (full_order_each n [] (λ (j : ℕ) (below : j < 0). absurd (omega arith)) (λ (i j : ℕ) (before : i < j) (below : j < 0). absurd (omega arith)))
+order_sound names (Some o) n m en em differ known =
+    let first = map (number_in names) o.names in
+    let long : length first ≡ length o.names = length-map o.names (number_in names) in
+    let all = known_all (list_any (is_unknown names) o.names) refl known in
+    let found : (k : ℕ) → k < length o.names → list_any (bytes_eq (get_or o.names k [])) names ≡ true =
+    λ k inner. known_name names (get_or o.names k []) (fails_at (is_unknown names) o.names k [] all inner) in
+    let number : (k : ℕ) → k < length o.names → get_or first k 0 ≡ number_in names (get_or o.names k []) = λ k inner. get_or-map (number_in names) o.names k [] 0 inner in
+    subst (λ k. IsEachOnce n (full_order k first)) em (full_order_each n first
+    (λ j below. let inner : j < length o.names = omega (arith, below, long) in
+    omega (arith, number j inner, position_or_len-lt (bytes_eq (get_or o.names j [])) names (found j inner), en))
+    (λ i j before below same.
+    let inner : j < length o.names = omega (arith, below, long) in
+    let outer : i < length o.names = omega (arith, inner, before) in
+    differ_at o.names i j differ before inner
+    (sym (at_position (get_or o.names i []) names (found i outer))
+    ∙ ap (λ k. get_or names k []) (sym (number i outer) ∙ same ∙ number j inner)
+    ∙ at_position (get_or o.names j []) names (found j inner))))
+  where
+    known_all : (t : Bool) → list_any (is_unknown names) o.names ≡ t → cond t (o.line ∷ []) [] ≡ [] → list_any (is_unknown names) o.names ≡ false
+    known_all true e h = absurd cc
+    known_all false e h = e
+
 -- two sides
 pub sides_sound : (kind : Kind) (said : Said) → kind ≢ Roommates → IsRight kind said → least (unknown_lines kind said) ≡ None → IsInstance (two_sides kind said)
 sides_sound kind said other right none =
     let proposers = names_of said.proposers in
     let reviewers = names_of said.reviewers in
     let listed : listed_by_proposers kind said ≡ reviewers = other_listed kind other in
-    let parts = five_parts (lines_with_unknown (listed_by_proposers kind said) said.proposers) (lines_with_unknown proposers said.reviewers)
+    let parts = six_parts (lines_with_unknown (listed_by_proposers kind said) said.proposers) (lines_with_unknown proposers said.reviewers)
     (pairs_with_unknown proposers reviewers (map (λ (w : SaidWeight). w.pair) said.weights)) (pairs_with_unknown proposers reviewers said.forced) (pairs_with_unknown proposers reviewers said.forbidden)
+    (order_with_unknown proposers said.order)
     (least_none (unknown_lines kind said) none) in
     let left_count : length (map (numbered reviewers) said.proposers) ≡ length proposers = length-map said.proposers (numbered reviewers) ∙ sym (length-map said.proposers (λ (x : SaidAgent). x.name)) in
     let right_count : length (map (numbered proposers) said.reviewers) ≡ length reviewers = length-map said.reviewers (numbered proposers) ∙ sym (length-map said.reviewers (λ (x : SaidAgent). x.name)) in
@@ -249,9 +275,10 @@ sides_sound kind said other right none =
       proposer_entries = sound_entries true said.proposers reviewers right.proposers (unmarked (lists reviewers) line said.proposers (ap (λ names. lines_with_unknown names said.proposers) (sym listed) ∙ parts.0)) _ right_count;
       reviewer_entries = sound_entries (is_single kind) said.reviewers proposers right.reviewers (unmarked (lists proposers) line said.reviewers parts.1) _ left_count;
       items = items_sound said kind right (unmarked (marks said) pair_line (map (λ (w : SaidWeight). w.pair) said.weights) parts.2) (unmarked (marks said) pair_line said.forced parts.3) (unmarked (marks said) pair_line said.forbidden parts.4) _ _ left_count right_count;
-      seconds_each = length-map (two_sides kind said).weights (λ _. pos 0);
-      seconds_small = zeros_small (two_sides kind said).weights;
-      order = range_is_each_once (length (two_sides kind said).proposers);
+      seconds_each = length-map said.weights (λ (w : SaidWeight). w.second) ∙ sym (length-map said.weights (given said));
+      seconds_small = All-map (λ s. unsigned_abs s ≤ most_weight) (λ (w : SaidWeight). w.second) said.weights right.second_sizes;
+      order = order_sound proposers said.order (length (map (numbered reviewers) said.proposers)) (length said.proposers) left_count
+          (length-map said.proposers (numbered reviewers)) right.order_differs parts.5;
     }
   where
     other_listed : (k : Kind) → k ≢ Roommates → listed_by_proposers k said ≡ names_of said.reviewers
@@ -259,10 +286,11 @@ sides_sound kind said other right none =
     other_listed Hospitals h = refl
     other_listed Roommates h = absurd (h refl)
 
-    five_parts : (a b d f g : List ℕ) → (((a ++ b) ++ d) ++ f) ++ g ≡ [] → (a ≡ []) × (b ≡ []) × (d ≡ []) × (f ≡ []) × (g ≡ [])
-    five_parts a b d f g h =
-        let e1 = empty_parts (((a ++ b) ++ d) ++ f) g h in
+    six_parts : (a b d f g i : List ℕ) → ((((a ++ b) ++ d) ++ f) ++ g) ++ i ≡ [] → (a ≡ []) × (b ≡ []) × (d ≡ []) × (f ≡ []) × (g ≡ []) × (i ≡ [])
+    six_parts a b d f g i h =
+        let e0 = empty_parts ((((a ++ b) ++ d) ++ f) ++ g) i h in
+        let e1 = empty_parts (((a ++ b) ++ d) ++ f) g e0.0 in
         let e2 = empty_parts ((a ++ b) ++ d) f e1.0 in
         let e3 = empty_parts (a ++ b) d e2.0 in
         let e4 = empty_parts a b e3.0 in
-        (e4.0, e4.1, e3.1, e2.1, e1.1)
+        (e4.0, e4.1, e3.1, e2.1, e1.1, e0.1)

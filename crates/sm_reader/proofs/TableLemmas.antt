@@ -6,7 +6,7 @@ use Rattle.std.proofs.Math.ListN.{get_or-append}
 use Rattle.std.proofs.Math.Seq.{get_or-append_seam}
 use Rattle.std.proofs.lemmas.List.{length_push, length-set, get_or-set_same, get_or-set_other, get_or_past, append-nil, get_or_default}
 use Rattle.std.proofs.lemmas.List.Folds.{list_any-append, list_any_at, list_any_none}
-use Rattle.std.proofs.lemmas.List.Quantifiers.{all_pairs_push}
+use Rattle.std.proofs.lemmas.List.Quantifiers.{all_pairs_push, position-Some}
 use Rattle.std.proofs.lemmas.Bool.{false≢true, cases_lt}
 use Rattle.std.proofs.lemmas.Bool.Decides.{nat_tests}
 use Rattle.sm_reader.specs.InstanceText.{number_in}
@@ -23,6 +23,16 @@ undeclared t name table absent = list_any_none (bytes_eq name) t.declared (λ (k
         let same : text_at t.declared k ≡ name = get_or_default t.declared k [] d inside ∙ sym (equal_text name (get_or t.declared k d) e) in
         absurd (false≢true (sym absent ∙ ap (λ x. list_any (bytes_eq x) t.texts) (sym same) ∙ table.known k inside))
     by_test k d inside false e = e
+
+-- the number of a name is that of its index
+pub found_by_index : (t : Table) (name : List ℕ) (i : ℕ) (x : Option ℕ) → IsTable t → position (bytes_eq name) t.texts ≡ Some i → x ≡ get_or t.numbers i x → x ≡ position (bytes_eq name) t.declared
+found_by_index t name i x table found here =
+    let at = position-Some (bytes_eq name) t.texts i [] found in
+    here ∙ get_or_default t.numbers i x None (omega (arith, at.0, table.number_each)) ∙ table.numbered i at.0 ∙ ap (λ x. position (bytes_eq x) t.declared) (sym (equal_text name (text_at t.texts i) at.1))
+
+-- one without an index has none
+pub missing_by_index : (t : Table) (name : List ℕ) → IsTable t → position (bytes_eq name) t.texts ≡ None → None ≡ position (bytes_eq name) t.declared
+missing_by_index t name table missing = sym (position-none (bytes_eq name) t.declared (undeclared t name table (sym (is_some-position (bytes_eq name) t.texts) ∙ ap is_some missing)))
 
 -- two numbers are equal or not
 pub cases_eq : (a b : ℕ) → (a ≡ b) ⊎ (a ≢ b)

@@ -4,7 +4,7 @@ use Rattle.std.specs.Borrow.{Bor}
 use Rattle.std.specs.List.{list_any, list_all, position_or_len}
 use Rattle.std.specs.Str.{bytes_eq}
 use Rattle.std.proofs.lemmas.List.Folds.{position_or_len_push, list_any-append, list_all-map, list_all_at, list_all_more}
-use Rattle.std.proofs.lemmas.List.{take_all, map_push}
+use Rattle.std.proofs.lemmas.List.{take_all, map_push, length-map}
 use Rattle.std.proofs.lemmas.Bool.Decides.{nat_tests}
 use Rattle.std.proofs.lemmas.Bool.{false≢true}
 use Rattle.sm_keys.specs.Keys.{text_of, key_texts}
@@ -21,6 +21,13 @@ list_any_texts name (k ∷ ks) = ap (λ t. bytes_eq name (text_of k) || t) (list
 pub position_texts : (name : List ℕ) (keys : List Key) → position_or_len (λ k. bytes_eq name (text_of k)) keys ≡ position_or_len (bytes_eq name) (key_texts keys)
 position_texts name [] = refl
 position_texts name (k ∷ ks) = ap (λ n. cond (not (bytes_eq name (text_of k))) (1 + n) 0) (position_texts name ks)
+
+-- and so where it may be missing
+pub position_keys : (name : List ℕ) (keys : List Key) → position (λ k. bytes_eq name (text_of k)) keys ≡ position (bytes_eq name) (key_texts keys)
+position_keys name keys =
+    let places = position_texts name keys in
+    let long : length keys ≡ length (key_texts keys) = sym (length-map keys text_of) in
+    cc
 
 -- the first that passes, where one does or none does
 pub position_or_len-none : {X : Type 0} (p : X → Bool) (xs : List X) → list_any p xs ≡ false → position_or_len p xs ≡ length xs

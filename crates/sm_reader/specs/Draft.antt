@@ -1,5 +1,5 @@
 -- What a `Draft` says, what it has to meet, and what a line does to it.
-use Rattle.std.specs.Prelude.{◌≡◌, ℕ, ◌+◌, ◌<◌, ◌≤◌, true, false, List, [], ◌∷◌, ◌++◌, length, map, Option, Some, None, slice_index, unwrap_or}
+use Rattle.std.specs.Prelude.{◌≡◌, ℕ, ◌+◌, ◌<◌, ◌≤◌, true, false, List, [], ◌∷◌, ◌++◌, length, map, Bool, Option, Some, None, is_some, slice_index, unwrap_or, All}
 use Rattle.std.specs.List.{list_any, list_all}
 use Rattle.std.specs.Option.{option_map, option_and_then}
 use Rattle.std.specs.Str.{bytes_eq}
@@ -11,34 +11,43 @@ use Rattle.sm_instance.specs.declared.kinds.Kind.{Kind}
 use Rattle.sm_instance.specs.declared.kinds.Kind.TheVariants.{Marriage, Hospitals, Roommates}
 use Rattle.sm_instance.specs.declared.kinds.Side.{Side}
 use Rattle.sm_instance.specs.declared.kinds.Side.TheVariants.{Proposers, Reviewers}
-use Rattle.sm_instance.specs.Named.{SaidAgent, SaidPair, SaidWeight, Said, all_entries}
-use Rattle.sm_reader.specs.Forms.{Form, declares, weighs, binds}
-use Rattle.sm_reader.specs.Judging.{Verdict, goes, stops, refuses, first_fault, run_rows, name_rows, limit_rows, weight_rows, capacity_in, weight_in, fault_of, with_agent, said_with, verdict_on}
-use Rattle.sm_reader.specs.Kept.{Table, text_at, AreBelow, Interns, Declares, IsListed}
+use Rattle.sm_instance.specs.Named.{SaidAgent, SaidPair, SaidWeight, SaidMaster, SaidOrder, Said, all_entries, entries_named}
+use Rattle.sm_reader.specs.Forms.{Form, declares, uses, shares, orders, weighs, binds}
+use Rattle.sm_reader.specs.Judging.{Verdict, goes, stops, refuses, first_fault, run_rows, name_rows, entry_rows, limit_rows, order_rows, weight_rows, capacity_in, weight_in, second_in, fault_of, with_agent, said_with, verdict_on}
+use Rattle.sm_reader.specs.Kept.{Table, text_at, AreBelow, AreNamesAtEnd, Interns, Declares, IsListed}
 use Rattle.sm_text.specs.Slices.{texts_of}
 use Rattle.sm_reader.specs.declared.draft.Declared.{Declared}
 use Rattle.sm_reader.specs.declared.draft.Pair.{Pair}
 use Rattle.sm_reader.specs.declared.draft.Weight.{Weight}
+use Rattle.sm_reader.specs.declared.draft.Master.{Master}
+use Rattle.sm_reader.specs.declared.draft.Order.{Order}
 use Rattle.sm_reader.specs.declared.draft.Draft.{Draft}
 use Rattle.sm_reader.specs.declared.faults.TextFault.{TextFault}
 use Rattle.sm_reader.specs.declared.faults.TextFault.TheVariants.{Refused, OutOfMemory}
 use Rattle.sm_reader.specs.declared.forms.Form.{Form as Line}
-use Rattle.sm_reader.specs.declared.forms.Form.TheVariants.{Agent as AgentLine, Weight as WeightLine, Pair as PairLine}
+use Rattle.sm_reader.specs.declared.forms.Form.TheVariants.{Agent as AgentLine, Use as UseLine, Master as MasterLine, Order as OrderLine, Weight as WeightLine, Pair as PairLine}
 use Rattle.sm_reader.specs.declared.forms.Condition.{Condition}
 use Rattle.sm_reader.specs.declared.forms.Condition.TheVariants.{Force, Forbid}
+use Rattle.sm_reader.specs.declared.judging.AgentRuns.{AgentRuns}
 use Rattle.sm_reader.specs.declared.judging.Step.{Step}
 use Rattle.sm_reader.specs.declared.judging.Step.TheVariants.{Goes, Stops}
 
 -- a form, as plain data
 abbrev pub form_of : Line → Form
 form_of (AgentLine side name capacity entries) = declares side name.now (option_map (λ x. x.now) capacity) (texts_of entries.now)
-form_of (WeightLine proposer reviewer weight) = weighs proposer.now reviewer.now weight.now
+form_of (UseLine side name capacity master) = uses side name.now (option_map (λ x. x.now) capacity) master.now
+form_of (MasterLine name entries) = shares name.now (texts_of entries.now)
+form_of (OrderLine proposers) = orders (texts_of proposers.now)
+form_of (WeightLine proposer reviewer weight second) = weighs proposer.now reviewer.now weight.now (option_map (λ x. x.now) second)
 form_of (PairLine condition proposer reviewer) = binds condition proposer.now reviewer.now
 
--- the names on the list that a line of a form has
+-- the names with which a line of a form ends, where they are a list
 abbrev pub entries_in : Form → List (List ℕ)
 entries_in (declares side name capacity entries) = entries
-entries_in (weighs proposer reviewer weight) = []
+entries_in (uses side name capacity master) = []
+entries_in (shares name entries) = entries
+entries_in (orders proposers) = proposers
+entries_in (weighs proposer reviewer weight second) = []
 entries_in (binds condition proposer reviewer) = []
 
 -- the names of whom the proposers list: of the reviewers, and in roommates of the persons
@@ -64,7 +73,15 @@ pair_in proposers reviewers x = record { proposer = text_at proposers x.proposer
 
 -- a weight with the names of its pair
 abbrev pub given_in : List (List ℕ) → List (List ℕ) → Weight → SaidWeight
-given_in proposers reviewers w = record { pair = pair_in proposers reviewers w.pair; weight = w.weight }
+given_in proposers reviewers w = record { pair = pair_in proposers reviewers w.pair; weight = w.weight; second = w.second }
+
+-- a master list with its names
+abbrev pub master_in : Master → SaidMaster
+master_in m = record { name = m.name.now; entries = texts_of m.entries.items }
+
+-- an order with the names of its indexes
+abbrev pub order_of : List (List ℕ) → Order → SaidOrder
+order_of proposers o = record { names = map (text_at proposers) o.names.items; line = o.line }
 
 -- what a draft says
 abbrev pub said_of : Kind → Draft → Said
@@ -77,6 +94,8 @@ said_of kind d =
       weights = map (given_in proposers reviewers) d.weights.items;
       forced = map (pair_in proposers reviewers) d.forced.items;
       forbidden = map (pair_in proposers reviewers) d.forbidden.items;
+      masters = map master_in d.masters.items;
+      order = option_map (order_of proposers) d.order;
     }
 
 -- all indexes of lists and of pairs are in range
@@ -102,9 +121,23 @@ pairs_of weights = map (λ (w : Weight). w.pair) weights
 abbrev pub key_of : Weight → ℕ × ℕ
 key_of w = (w.pair.proposer, w.pair.reviewer)
 
--- Before the line of a number a draft has the declared agents' names in their tables, all indexes in range, the pairs that
--- have a weight, and its entries counted. Limits are kept, and no name has the stamp of this line. There are fewer pairs
--- than lines.
+-- the indexes of an order are in range
+abbrev pub IsOrderBelow : ℕ → Option Order → Type 0
+IsOrderBelow n None = Unit {0}
+IsOrderBelow n (Some o) = AreBelow n o.names.items
+
+-- every name on a master list is a name
+abbrev pub HasNames : Master → Type 0
+HasNames m = list_all is_name (texts_of m.entries.items) ≡ true
+
+-- the names of master lists are those that are declared, and the names on them are names
+pub record AreMastersNamed (declared : List (List ℕ)) (masters : List Master) : Type 0 where
+  pub are_declared : declared ≡ map (λ (m : Master). m.name.now) masters
+  pub named : All HasNames masters
+
+-- Before the line of a number a draft has the declared agents' names in their tables, as it has those of the master lists,
+-- all indexes in range, the pairs that have a weight, and its entries counted. Limits are kept, and no name has the stamp of
+-- this line. There are fewer pairs than lines, and fewer master lists.
 pub record IsDraft (kind : Kind) (line : ℕ) (d : Draft) : Type 0 where
   pub proposers_declared : d.proposer_names.declared ≡ map (λ (a : Declared). a.name.now) d.proposers.items
   pub reviewers_declared : d.reviewer_names.declared ≡ map (λ (a : Declared). a.name.now) d.reviewers.items
@@ -120,7 +153,9 @@ pub record IsDraft (kind : Kind) (line : ℕ) (d : Draft) : Type 0 where
   pub reviewers_fit : length d.reviewers.items ≤ most_agents
   pub proposers_fresh : (k : ℕ) → slice_index d.proposer_names.stamps k < line
   pub reviewers_fresh : (k : ℕ) → slice_index d.reviewer_names.stamps k < line
-  pub few : length d.weights.items + length d.forced.items + length d.forbidden.items + 1 < line
+  pub few : length d.weights.items + length d.forced.items + length d.forbidden.items + length d.masters.items + 1 < line
+  pub masters : AreMastersNamed d.master_names.declared d.masters.items
+  pub order_in : IsOrderBelow (length d.proposer_names.texts) d.order
 
 -- a line is refused for this fault, if there is one; want of memory says nothing
 abbrev pub IsLineFault : Option RefusalKind → ℕ → TextFault → Type 0
@@ -134,9 +169,9 @@ pub record AddsForm (kind : Kind) (line : ℕ) (form : Form) (old new : Draft) :
   pub draft : IsDraft kind (line + 1) new
 
 -- a line is judged by its tokens
-abbrev pub JudgesTokens : Kind → ℕ → List (List ℕ) → Draft → Draft → Step → Type 0
-JudgesTokens kind line tokens old new Goes = (verdict_on kind (said_of kind old) line tokens ≡ goes (said_of kind new)) × IsDraft kind (line + 1) new
-JudgesTokens kind line tokens old new Stops = (verdict_on kind (said_of kind old) line tokens ≡ stops) × (new ≡ old)
+abbrev pub JudgesTokens : Kind → (format : ℕ) → ℕ → List (List ℕ) → Draft → Draft → Step → Type 0
+JudgesTokens kind format line tokens old new Goes = (verdict_on kind format (said_of kind old) line tokens ≡ goes (said_of kind new)) × IsDraft kind (line + 1) new
+JudgesTokens kind format line tokens old new Stops = (verdict_on kind format (said_of kind old) line tokens ≡ stops) × (new ≡ old)
 
 -- a verdict refuses the line for this fault; want of memory says nothing
 abbrev pub IsRefusedBy : Verdict → ℕ → TextFault → Type 0
@@ -155,6 +190,14 @@ limit_fault agents entries more = first_fault (limit_rows agents entries more)
 -- the first fault of names and limits of an agent's line
 abbrev pub name_fault : List (List ℕ) → List ℕ → List (List ℕ) → ℕ → ℕ → Option RefusalKind
 name_fault declared name entries agents all = first_fault (name_rows declared name entries ++ limit_rows agents all (length entries))
+
+-- the first fault of names, and of the count of entries, of a master list's line
+abbrev pub master_fault : List (List ℕ) → List ℕ → List (List ℕ) → ℕ → Option RefusalKind
+master_fault declared name entries all = first_fault (name_rows declared name entries ++ entry_rows all (length entries))
+
+-- the first fault of the line of an order
+abbrev pub order_fault : Bool → List (List ℕ) → Option RefusalKind
+order_fault ordered proposers = first_fault (order_rows ordered proposers)
 
 -- the runs of an agent's line are right, and its capacity is this
 pub record AreRunsRight (name : List ℕ) (capacity : Option (List ℕ)) (entries : List (List ℕ)) (n : ℕ) : Type 0 where
@@ -217,16 +260,17 @@ abbrev pub weights_in : Draft → List SaidWeight
 weights_in d = map (given_in d.proposer_names.texts d.reviewer_names.texts) d.weights.items
 
 -- the first fault of a weight's line
-abbrev pub weight_fault : List SaidWeight → List ℕ → List ℕ → List ℕ → Option RefusalKind
-weight_fault weights proposer reviewer weight = first_fault (weight_rows weights proposer reviewer weight)
+abbrev pub weight_fault : List SaidWeight → List ℕ → List ℕ → List ℕ → Option (List ℕ) → Option RefusalKind
+weight_fault weights proposer reviewer weight second = first_fault (weight_rows weights proposer reviewer weight second)
 
--- a pair has got its first weight
-pub record PutsWeight (old new : Draft) (proposer reviewer run : List ℕ) (line : ℕ) : Type 0 where
+-- a pair has got its first weights
+pub record PutsWeight (old new : Draft) (proposer reviewer run : List ℕ) (further : Option (List ℕ)) (line : ℕ) : Type 0 where
   pub mid : Draft
   pub added : Weight
   pub paired : PairsOf old mid proposer reviewer line added.pair
-  pub faultless : weight_fault (weights_in old) proposer reviewer run ≡ None
+  pub faultless : weight_fault (weights_in old) proposer reviewer run further ≡ None
   pub weight : weight_in run ≡ Some added.weight
+  pub second : second_in further ≡ Some added.second
   pub weights : new.weights.items ≡ mid.weights.items ++ added ∷ []
   pub weighed : keys new.weighed ≡ keys mid.weighed ++ key_of added ∷ []
   pub changes : new ≡ record mid { weights = new.weights; weighed = new.weighed }
@@ -258,3 +302,37 @@ pub record AddsAgent (kind : Kind) (line : ℕ) (side : Side) (name : List ℕ) 
   pub faultless : name_fault (table_on side old).declared name entries (length (declared_on side old)) old.entries ≡ None
   pub said : said_of kind new ≡ with_agent side (record { name = name; capacity = capacity; line = line; entries = entries }) (said_of kind old)
   pub draft : IsDraft kind (line + 1) new
+
+-- the form of the line that declares an agent
+abbrev pub runs_form : AgentRuns → Form
+runs_form agent = declares agent.side agent.name.now (option_map (λ x. x.now) agent.capacity) (texts_of agent.entries.now)
+
+-- a master list that stands above, with the names on it
+pub record IsMaster (d : Draft) (master : List ℕ) (entries : List (List ℕ)) : Type 0 where
+  pub found : entries_named (map master_in d.masters.items) master ≡ Some entries
+  pub are_names : AreNamesAtEnd (length entries) entries
+
+-- a master list has got its name, which is new
+pub record DeclaresMaster (old new : Draft) (name : List ℕ) : Type 0 where
+  pub is_new : list_any (bytes_eq name) old.master_names.declared ≡ false
+  pub declares : Declares old.master_names new.master_names name true
+  pub changes : new ≡ record old { master_names = new.master_names }
+
+-- a master list stands behind the others, within the limit of entries
+pub record PutsMaster (old new : Draft) (name : List ℕ) (entries : List (List ℕ)) : Type 0 where
+  pub master : Master
+  pub is_name : master.name.now ≡ name
+  pub is_list : texts_of master.entries.items ≡ entries
+  pub fits : old.entries + length entries ≤ most_entries
+  pub masters : new.masters.items ≡ old.masters.items ++ master ∷ []
+  pub entries_more : new.entries ≡ old.entries + length entries
+  pub changes : new ≡ record old { masters = new.masters; entries = new.entries }
+
+-- proposers come first by their indexes, where no line said this before
+pub record PutsOrder (old new : Draft) (proposers : List (List ℕ)) (line : ℕ) : Type 0 where
+  pub mid : Draft
+  pub order : Order
+  pub faultless : order_fault (is_some old.order) proposers ≡ None
+  pub lists : ListsOn Proposers old mid proposers line order.names.items
+  pub on_line : order.line ≡ line
+  pub changes : new ≡ record mid { order = Some order }

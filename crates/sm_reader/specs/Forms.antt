@@ -1,7 +1,7 @@
 -- The forms of lines, over their tokens.
-use Rattle.std.specs.Prelude.{ℕ, ◌&&◌, ◌||◌, Bool, false, not, if◌then◌else◌, List, [], ◌∷◌, Option, Some, None, codes}
+use Rattle.std.specs.Prelude.{ℕ, ◌==◌, ◌&&◌, ◌||◌, Bool, true, false, not, if◌then◌else◌, List, [], ◌∷◌, Option, Some, None, codes}
 use Rattle.std.specs.List.{list_all}
-use Rattle.std.specs.Option.{option_or}
+use Rattle.std.specs.Option.{option_or, option_map, option_and_then}
 use Rattle.std.specs.Str.{bytes_eq}
 use Rattle.sm_text.specs.Name.{is_name_byte}
 use Rattle.sm_text.specs.Tokens.{begins_run, is_mark}
@@ -13,10 +13,15 @@ use Rattle.sm_instance.specs.declared.kinds.Side.TheVariants.{Proposers, Reviewe
 use Rattle.sm_reader.specs.declared.forms.Condition.{Condition}
 use Rattle.sm_reader.specs.declared.forms.Condition.TheVariants.{Force, Forbid}
 
--- a line by its form, with the runs that stand in the positions of names and of numbers
+-- A line by its form, with the runs that stand in the positions of names and of numbers: it declares an agent with a list, or
+-- one that has a master list; it declares a master list; it says which proposers come first; it weighs a pair; or it asks
+-- something of one.
 pub data Form : Type 0 where
   declares : Side → (name : List ℕ) → (capacity : Option (List ℕ)) → (entries : List (List ℕ)) → Form
-  weighs : (proposer reviewer weight : List ℕ) → Form
+  uses : Side → (name : List ℕ) → (capacity : Option (List ℕ)) → (master : List ℕ) → Form
+  shares : (name : List ℕ) → (entries : List (List ℕ)) → Form
+  orders : (proposers : List (List ℕ)) → Form
+  weighs : (proposer reviewer weight : List ℕ) → (second : Option (List ℕ)) → Form
   binds : Condition → (proposer reviewer : List ℕ) → Form
 
 -- a token that is a byte which no line of an instance holds outside of a comment
@@ -27,6 +32,10 @@ is_bad (b ∷ _) = not (is_name_byte b || is_mark b)
 -- the token is a colon
 abbrev pub is_colon : List ℕ → Bool
 is_colon token = bytes_eq token (codes ":")
+
+-- the tokens are brackets around what stands between them
+abbrev pub are_brackets : List ℕ → List ℕ → Bool
+are_brackets opening closing = bytes_eq opening (codes "[") && bytes_eq closing (codes "]")
 
 -- NAME `:` NAME*
 unfoldable pub list_form : Side → List (List ℕ) → Option Form
@@ -46,7 +55,7 @@ capacity_form _ = None
 -- NAME NAME SIGNED
 unfoldable pub weight_form : List (List ℕ) → Option Form
 weight_form (proposer ∷ reviewer ∷ weight ∷ []) =
-    if begins_run proposer && begins_run reviewer && begins_run weight then Some (weighs proposer reviewer weight) else None
+    if begins_run proposer && begins_run reviewer && begins_run weight then Some (weighs proposer reviewer weight None) else None
 weight_form _ = None
 
 -- NAME NAME
@@ -66,10 +75,69 @@ two_sided_form kind word rest =
     (if bytes_eq word (codes "force") then pair_form Force rest else
     (if bytes_eq word (codes "forbid") then pair_form Forbid rest else None)))
 
--- the form of a line that begins with a word, in an instance of a kind
+-- the form of a line that begins with a word, in an instance of a kind, by format 1
 unfoldable pub form_behind : Kind → List ℕ → List (List ℕ) → Option Form
 form_behind Roommates word rest = if bytes_eq word (codes "p") then list_form Proposers rest else None
 form_behind kind word rest = if bytes_eq word (codes "p") then list_form Proposers rest else two_sided_form kind word rest
+
+-- What format 2 adds.
+
+-- NAME `:` NAME*, of a master list
+unfoldable pub master_form : List (List ℕ) → Option Form
+master_form (name ∷ colon ∷ entries) = if begins_run name && is_colon colon && list_all begins_run entries then Some (shares name entries) else None
+master_form _ = None
+
+-- NAME `:` `[` NAME `]`
+unfoldable pub use_form : Side → List (List ℕ) → Option Form
+use_form side (name ∷ colon ∷ opening ∷ master ∷ closing ∷ []) =
+    if begins_run name && is_colon colon && are_brackets opening closing && begins_run master then Some (uses side name None master) else None
+use_form side _ = None
+
+-- NAME `[` NUMBER `]` `:` `[` NAME `]`
+unfoldable pub capacity_use_form : List (List ℕ) → Option Form
+capacity_use_form (name ∷ opening ∷ number ∷ closing ∷ colon ∷ before ∷ master ∷ behind ∷ []) =
+    if begins_run name && are_brackets opening closing && begins_run number && is_colon colon && are_brackets before behind && begins_run master
+    then Some (uses Reviewers name (Some number) master) else None
+capacity_use_form _ = None
+
+-- a reviewer that has a master list; a capacity may be written in hospitals alone
+unfoldable pub reviewer_use_form : Kind → List (List ℕ) → Option Form
+reviewer_use_form kind rest = if is_single kind then use_form Reviewers rest else option_or (use_form Reviewers rest) (capacity_use_form rest)
+
+-- NAME*, of the proposers that come first
+unfoldable pub order_form : List (List ℕ) → Option Form
+order_form proposers = if list_all begins_run proposers then Some (orders proposers) else None
+
+-- NAME NAME SIGNED SIGNED
+unfoldable pub second_form : List (List ℕ) → Option Form
+second_form (proposer ∷ reviewer ∷ weight ∷ second ∷ []) =
+    if begins_run proposer && begins_run reviewer && begins_run weight && begins_run second
+    then Some (weighs proposer reviewer weight (Some second)) else None
+second_form _ = None
+
+-- the forms that format 2 adds for a marriage and for hospitals beside `p` and `master`
+unfoldable pub two_sided_added_form : Kind → List ℕ → List (List ℕ) → Option Form
+two_sided_added_form kind word rest =
+    if bytes_eq word (codes "r") then reviewer_use_form kind rest else
+    (if bytes_eq word (codes "order") then order_form rest else
+    (if bytes_eq word (codes "weight") then second_form rest else None))
+
+-- an instance of this kind has two sides
+abbrev pub has_two_sides : Kind → Bool
+has_two_sides Marriage = true
+has_two_sides Hospitals = true
+has_two_sides Roommates = false
+
+-- the forms that format 2 adds, in an instance of a kind
+unfoldable pub added_form : Kind → List ℕ → List (List ℕ) → Option Form
+added_form kind word rest =
+    if bytes_eq word (codes "p") then use_form Proposers rest else
+    (if bytes_eq word (codes "master") then master_form rest else
+    (if has_two_sides kind then two_sided_added_form kind word rest else None))
+
+-- the form of a line that begins with a word, in an instance of a kind under a header of a format
+unfoldable pub form_under : Kind → (format : ℕ) → List ℕ → List (List ℕ) → Option Form
+form_under kind format word rest = if format == 2 then option_or (form_behind kind word rest) (added_form kind word rest) else form_behind kind word rest
 
 -- `end`
 unfoldable pub is_end : List (List ℕ) → Bool
@@ -83,7 +151,12 @@ kind_named word =
     (if bytes_eq word (codes "hospitals") then Some Hospitals else
     (if bytes_eq word (codes "roommates") then Some Roommates else None))
 
--- `stable` `1` and a kind
-unfoldable pub header_of : List (List ℕ) → Option Kind
-header_of (word ∷ format ∷ kind ∷ []) = if bytes_eq word (codes "stable") && bytes_eq format (codes "1") then kind_named kind else None
+-- the format that a word names
+abbrev pub format_named : List ℕ → Option ℕ
+format_named word = if bytes_eq word (codes "1") then Some 1 else (if bytes_eq word (codes "2") then Some 2 else None)
+
+-- `stable`, `1` or `2`, and a kind: the kind, and the format
+unfoldable pub header_of : List (List ℕ) → Option (Kind × ℕ)
+header_of (word ∷ format ∷ kind ∷ []) =
+    if bytes_eq word (codes "stable") then option_and_then (λ n. option_map (λ k. (k, n)) (kind_named kind)) (format_named format) else None
 header_of _ = None

@@ -1,6 +1,6 @@
 -- What a text means: an instance, or the first thing that stands in its way. `instance_text` is what the reading promises.
-use Rattle.std.specs.Prelude.{◌≡◌, ℕ, ◌+◌, ◌||◌, Bool, not, if◌then◌else◌, List, [], ◌∷◌, ◌++◌, length, map, filter, min, nat_lt, Option, Some, None, Result, Ok, Err}
-use Rattle.std.specs.List.{list_any, position_or_len}
+use Rattle.std.specs.Prelude.{◌≡◌, ℕ, ◌+◌, ◌==◌, ◌||◌, Bool, not, if◌then◌else◌, List, [], ◌∷◌, ◌++◌, length, map, filter, min, nat_lt, Option, Some, None, Result, Ok, Err}
+use Rattle.std.specs.List.{list_any, position_or_len, range_with_len}
 use Rattle.std.specs.Option.{option_map_or}
 use Rattle.std.specs.Str.{bytes_eq}
 use Rattle.sm_text.specs.Limits.{most_bytes}
@@ -8,12 +8,12 @@ use Rattle.sm_text.specs.Lines.{lines, content}
 use Rattle.sm_text.specs.Tokens.{tokens}
 use Rattle.sm_text.specs.declared.refusal.RefusalKind.{RefusalKind}
 use Rattle.sm_text.specs.declared.refusal.RefusalKind.TheVariants.{TooLong, BadHeader, MissingEnd, UnknownName}
-use Rattle.sm_instance.specs.Written.{AgentData, Written, plain_written}
+use Rattle.sm_instance.specs.Written.{AgentData, Written}
 use Rattle.sm_instance.specs.declared.kinds.Kind.{Kind}
 use Rattle.sm_instance.specs.declared.kinds.Kind.TheVariants.{Marriage, Hospitals, Roommates}
 use Rattle.sm_instance.specs.declared.inputs.Input.{Input}
 use Rattle.sm_instance.specs.declared.inputs.Input.TheVariants.{Two, Room}
-use Rattle.sm_instance.specs.Named.{SaidAgent, SaidPair, SaidWeight, Said, nothing, names_of}
+use Rattle.sm_instance.specs.Named.{SaidAgent, SaidPair, SaidWeight, SaidOrder, Said, nothing, names_of, names_first}
 use Rattle.sm_reader.specs.Judging.{verdict_on, by_verdict, heading_of, by_heading}
 use Rattle.sm_reader.specs.declared.reading.Read.{Read}
 use Rattle.sm_reader.specs.declared.faults.TextFault.{TextFault}
@@ -40,7 +40,12 @@ abbrev pub pairs_with_unknown : List (List ℕ) → List (List ℕ) → List Sai
 pairs_with_unknown proposers reviewers pairs =
     map (λ (x : SaidPair). x.line) (filter (λ (x : SaidPair). is_unknown proposers x.proposer || is_unknown reviewers x.reviewer) pairs)
 
--- all lines that name an undeclared agent
+-- the line of an order that names an undeclared proposer
+abbrev pub order_with_unknown : List (List ℕ) → Option SaidOrder → List ℕ
+order_with_unknown proposers None = []
+order_with_unknown proposers (Some order) = if list_any (is_unknown proposers) order.names then order.line ∷ [] else []
+
+-- all lines that name an undeclared agent; the names of a master list stand in the agents that have it
 abbrev pub unknown_lines : Kind → Said → List ℕ
 unknown_lines kind said =
     let proposers = names_of said.proposers in
@@ -50,6 +55,7 @@ unknown_lines kind said =
     ++ pairs_with_unknown proposers reviewers (map (λ (w : SaidWeight). w.pair) said.weights)
     ++ pairs_with_unknown proposers reviewers said.forced
     ++ pairs_with_unknown proposers reviewers said.forbidden
+    ++ order_with_unknown proposers said.order
 
 -- the least of some numbers
 abbrev pub least : List ℕ → Option ℕ
@@ -70,14 +76,26 @@ numbered names agent = record { name = agent.name; capacity = agent.capacity; li
 abbrev pub numbered_pair : Said → SaidPair → ℕ × ℕ
 numbered_pair said pair = (number_in (names_of said.proposers) pair.proposer, number_in (names_of said.reviewers) pair.reviewer)
 
+-- the numbers below a count: first these, in their order, and then the others, which rise
+abbrev pub full_order : ℕ → List ℕ → List ℕ
+full_order count first = first ++ filter (λ (n : ℕ). not (list_any (λ (m : ℕ). m == n) first)) (range_with_len 0 count)
+
+-- the order of the proposers: first those that a line names, and then the others by number
+abbrev pub order_in : Said → List ℕ
+order_in said = full_order (length said.proposers) (map (number_in (names_of said.proposers)) (names_first said.order))
+
 -- the two sides with their weights and conditions
 abbrev pub two_sides : Kind → Said → Written
-two_sides kind said = plain_written kind
-    (map (numbered (names_of said.reviewers)) said.proposers)
-    (map (numbered (names_of said.proposers)) said.reviewers)
-    (map (λ (w : SaidWeight). let pair = numbered_pair said w.pair in (pair.0, pair.1, w.weight)) said.weights)
-    (map (numbered_pair said) said.forced)
-    (map (numbered_pair said) said.forbidden)
+two_sides kind said = record {
+  kind = kind;
+  proposers = map (numbered (names_of said.reviewers)) said.proposers;
+  reviewers = map (numbered (names_of said.proposers)) said.reviewers;
+  weights = map (λ (w : SaidWeight). let pair = numbered_pair said w.pair in (pair.0, pair.1, w.weight)) said.weights;
+  forced = map (numbered_pair said) said.forced;
+  forbidden = map (numbered_pair said) said.forbidden;
+  seconds = map (λ (w : SaidWeight). w.second) said.weights;
+  order = order_in said;
+}
 
 -- the instance that is said
 abbrev pub input_of : Kind → Said → Input
@@ -106,10 +124,10 @@ ended kind header_line said rest rest_line =
 
 -- the lines behind the header, of which the first has this number and begins at this place: the first one that is refused
 -- decides, and else the line of `end`; no line behind that is judged
-abbrev pub behind_header : Kind → ℕ → Said → ℕ → ℕ → List (List ℕ) → Result ReadText Refusal
-behind_header kind header_line said number place [] = Err (MissingEnd, number)
-behind_header kind header_line said number place (line ∷ rest) = by_verdict (verdict_on kind said number (tokens (content line)))
-    (λ more. behind_header kind header_line more (number + 1) (place + length line) rest)
+abbrev pub behind_header : Kind → (format : ℕ) → ℕ → Said → ℕ → ℕ → List (List ℕ) → Result ReadText Refusal
+behind_header kind format header_line said number place [] = Err (MissingEnd, number)
+behind_header kind format header_line said number place (line ∷ rest) = by_verdict (verdict_on kind format said number (tokens (content line)))
+    (λ more. behind_header kind format header_line more (number + 1) (place + length line) rest)
     (ended kind header_line said (place + length line) (number + 1))
     (λ fault. Err (fault, number))
 
@@ -118,7 +136,7 @@ abbrev pub before_header : ℕ → ℕ → List (List ℕ) → Result ReadText R
 before_header number place [] = Err (BadHeader, number)
 before_header number place (line ∷ rest) = by_heading (heading_of (tokens (content line)))
     (before_header (number + 1) (place + length line) rest)
-    (λ kind. behind_header kind number nothing (number + 1) (place + length line) rest)
+    (λ kind format. behind_header kind format number nothing (number + 1) (place + length line) rest)
     (λ fault. Err (fault, number))
 
 -- what the text of an instance means: the instance, or why it is refused and at which line. Lines are counted from 1.

@@ -1,19 +1,20 @@
 -- What the numbering of names takes and gives.
-use Rattle.std.specs.Prelude.{◌≡◌, ◌≢◌, ℕ, ◌+◌, ◌<◌, ◌≤◌, length, map, Bool, if◌then◌else◌, List, Option, Some, None, ℤ, pos}
-use Rattle.std.specs.List.{range_with_len}
+use Rattle.std.specs.Prelude.{◌≡◌, ◌≢◌, ℕ, ◌+◌, ◌<◌, ◌≤◌, length, map, Bool, if◌then◌else◌, List, Option, Some, None, ℤ}
 use Rattle.sm_instance.specs.declared.kinds.Kind.{Kind}
 use Rattle.sm_instance.specs.declared.kinds.Kind.TheVariants.{Roommates}
 use Rattle.sm_instance.specs.declared.agents.Agent.{Agent}
 use Rattle.sm_instance.specs.declared.parts.Parts.{Parts}
 use Rattle.sm_instance.specs.Vectors.{agents_of}
-use Rattle.sm_instance.specs.Named.{SaidPair, SaidWeight}
-use Rattle.sm_reader.specs.InstanceText.{number_in, numbered, unknown_lines, least}
+use Rattle.sm_instance.specs.Named.{SaidPair, SaidWeight, names_first}
+use Rattle.sm_reader.specs.InstanceText.{number_in, numbered, full_order, unknown_lines, least}
 use Rattle.sm_reader.specs.Kept.{Table, text_at}
-use Rattle.sm_reader.specs.Draft.{IsDraft, said_of, agent_in, pair_in, given_in}
+use Rattle.sm_reader.specs.Draft.{IsDraft, said_of, agent_in, pair_in, given_in, order_of}
 use Rattle.sm_reader.specs.Right.{IsRight}
 use Rattle.sm_text.specs.Limits.{most_bytes, most_agents}
 use Rattle.sm_text.specs.declared.refusal.RefusalKind.TheVariants.{UnknownName}
 use Rattle.sm_reader.specs.declared.draft.Draft.{Draft}
+use Rattle.sm_reader.specs.declared.draft.Weight.{Weight}
+use Rattle.std.specs.Option.{option_map}
 use Rattle.sm_reader.specs.declared.faults.TextFault.{TextFault}
 use Rattle.sm_reader.specs.declared.faults.TextFault.TheVariants.{Refused, OutOfMemory}
 
@@ -65,8 +66,9 @@ pub record NumbersSides (d : Draft) (sides : Parts) : Type 0 where
       sides.forced.items ≡ map (pair_among p.declared r.declared) (map (pair_in p.texts r.texts) d.forced.items)
   pub forbidden : let p = d.proposer_names in let r = d.reviewer_names in
       sides.forbidden.items ≡ map (pair_among p.declared r.declared) (map (pair_in p.texts r.texts) d.forbidden.items)
-  pub seconds : sides.seconds.items ≡ map (λ _. pos 0) sides.weights.items
-  pub order : sides.order.items ≡ range_with_len 0 (length (agents_of sides.proposers.items))
+  pub seconds : sides.seconds.items ≡ map (λ (w : Weight). w.second) d.weights.items
+  pub order : let p = d.proposer_names in
+      sides.order.items ≡ full_order (length d.proposers.items) (map (number_in p.declared) (names_first (option_map (order_of p.texts) d.order)))
 
 -- the first line that names an undeclared agent is refused
 abbrev pub IsUnknownFault : Kind → Draft → TextFault → Type 0

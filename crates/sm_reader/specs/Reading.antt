@@ -15,7 +15,7 @@ use Rattle.sm_reader.specs.declared.faults.TextFault.TheVariants.{Refused, OutOf
 
 -- a text means what stands behind its header, which was found
 pub record IsHeaded (bytes : List ℕ) (header : Header) : Type 0 where
-  pub means : before_header 1 0 (lines bytes) ≡ behind_header header.kind header.line nothing (header.line + 1) header.next (lines (drop header.next bytes))
+  pub means : before_header 1 0 (lines bytes) ≡ behind_header header.kind header.format header.line nothing (header.line + 1) header.next (lines (drop header.next bytes))
   pub first : 1 ≤ header.line
   pub fits : header.line ≤ header.next
   pub within : header.next ≤ length bytes
@@ -26,9 +26,9 @@ IsFaultOf meaning (Refused kind at) = meaning ≡ Err (kind, at)
 IsFaultOf meaning OutOfMemory = Unit {0}
 
 -- the heading that was found on a line, and the fault of one
-abbrev pub heading_is : Option Kind → Heading
+abbrev pub heading_is : Option (Kind × ℕ) → Heading
 heading_is None = passes
-heading_is (Some kind) = heads kind
+heading_is (Some header) = heads header.0 header.1
 
 -- the fault of a heading; want of memory says nothing
 abbrev pub IsHeadingFault : Heading → ℕ → TextFault → Type 0

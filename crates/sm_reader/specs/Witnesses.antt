@@ -5,7 +5,7 @@ use Rattle.sm_text.specs.Lines.{LF}
 use Rattle.sm_text.specs.declared.refusal.RefusalKind.{RefusalKind}
 use Rattle.sm_text.specs.declared.refusal.RefusalKind.TheVariants.{BadByte, BadHeader, BadLine, BadName, BadNumber, Redeclared, RepeatedEntry, RepeatedWeight, TooLong, TooManyAgents, TooManyEntries, MissingEnd, UnknownName}
 use Rattle.sm_instance.specs.Written.{plain_written}
-use Rattle.sm_instance.specs.declared.kinds.Kind.TheVariants.{Hospitals}
+use Rattle.sm_instance.specs.declared.kinds.Kind.TheVariants.{Marriage, Hospitals}
 use Rattle.sm_instance.specs.declared.kinds.Side.TheVariants.{Proposers, Reviewers}
 use Rattle.sm_instance.specs.declared.inputs.Input.TheVariants.{Two, Room}
 use Rattle.sm_instance.specs.Named.{SaidAgent, Said, nothing}
@@ -44,7 +44,8 @@ HeadersRefused = AreRefused (
     ([], BadHeader, 1)
     ∷ (codes "# no header" ∷ codes "" ∷ [], BadHeader, 3)
     ∷ (codes "" ∷ codes "p a:" ∷ [], BadHeader, 2)
-    ∷ (codes "stable 2 marriage" ∷ [], BadHeader, 1)
+    ∷ (codes "stable 3 marriage" ∷ [], BadHeader, 1)
+    ∷ (codes "stable 2" ∷ [], BadHeader, 1)
     ∷ (codes "stable 1 marriage!" ∷ [], BadByte, 1)
     ∷ (codes "stable 1 marriage ;" ∷ [], BadByte, 1)
     ∷ (codes "p" ∷ codes "stable 1 marriage ;" ∷ [], BadHeader, 1)
@@ -106,6 +107,41 @@ EarlierRefused = AreRefused (under marriage (
     ∷ (codes "p a: x" ∷ [], MissingEnd, 3)
     ∷ (codes "force a x" ∷ codes "p a: y" ∷ codes "end" ∷ [], UnknownName, 2) ∷ []))
 
+-- what format 2 adds is of no form in format 1
+abbrev pub AddedRefused : Type 0
+AddedRefused = AreRefused (
+    under marriage (
+    (codes "master L: x" ∷ [], BadLine, 2)
+    ∷ (codes "p a: [L]" ∷ [], BadLine, 2)
+    ∷ (codes "order a" ∷ [], BadLine, 2)
+    ∷ (codes "weight a x 1 1" ∷ [], BadLine, 2) ∷ [])
+    ++ under (codes "stable 2 roommates") (
+    (codes "order" ∷ [], BadLine, 2)
+    ∷ (codes "weight a b 1 1" ∷ [], BadLine, 2) ∷ []))
+
+-- the header of a marriage by format 2
+abbrev pub second_marriage : List ℕ
+second_marriage = codes "stable 2 marriage"
+
+-- each fault of a line that format 2 adds
+abbrev pub SecondRefused : Type 0
+SecondRefused = AreRefused (under second_marriage (
+    (codes "p a: [L] x" ∷ [], BadLine, 2)
+    ∷ (codes "p a: []" ∷ [], BadLine, 2)
+    ∷ (codes "r x [1]: [L]" ∷ [], BadLine, 2)
+    ∷ (codes "order: a" ∷ [], BadLine, 2)
+    ∷ (codes "p a: [L]" ∷ codes "master L: x" ∷ [], BadName, 2)
+    ∷ (codes "master -L: x" ∷ [], BadName, 2)
+    ∷ (codes "p a:" ∷ codes "p a: [L]" ∷ [], BadName, 3)
+    ∷ (codes "weight a x 1 01" ∷ [], BadNumber, 2)
+    ∷ (codes "master L:" ∷ codes "master L: x x" ∷ [], Redeclared, 3)
+    ∷ (codes "order" ∷ codes "order a a" ∷ [], Redeclared, 3)
+    ∷ (codes "master L: x x" ∷ [], RepeatedEntry, 2)
+    ∷ (codes "order a a" ∷ [], RepeatedEntry, 2)
+    ∷ (codes "weight a x 1" ∷ codes "weight a x 1 2" ∷ [], RepeatedWeight, 3)
+    ∷ (codes "master L: x" ∷ codes "p a: [L]" ∷ codes "end" ∷ [], UnknownName, 3)
+    ∷ (codes "r a:" ∷ codes "order a" ∷ codes "end" ∷ [], UnknownName, 3) ∷ []))
+
 -- a text of a byte too many
 abbrev pub LongRefused : Type 0
 LongRefused = (bytes : List ℕ) → length bytes ≡ 16777217 → instance_text bytes ≡ Err (TooLong, 0)
@@ -158,6 +194,30 @@ HospitalsRead = instance_text hospitals_text ≡ Ok (record {
   rest = 130;
   rest_line = 12;
 })
+
+-- a master list may be that of agents of both sides, an order names those that come first, and a pair may have a second weight
+abbrev pub SecondRead : Type 0
+SecondRead = instance_text (text_of (
+    second_marriage ∷ codes "master L: b a" ∷ codes "order c" ∷ codes "p a: [L]" ∷ codes "p b: a" ∷ codes "p c: [L]" ∷ codes "r a:" ∷ codes "r b: [L]"
+    ∷ codes "weight b a 3 -4" ∷ codes "weight a a 5" ∷ codes "end" ∷ []))
+    ≡ Ok (record {
+      input = Two (record {
+        kind = Marriage;
+        proposers = record { name = codes "a"; capacity = 1; line = 4; entries = 1 ∷ 0 ∷ [] }
+            ∷ record { name = codes "b"; capacity = 1; line = 5; entries = 0 ∷ [] }
+            ∷ record { name = codes "c"; capacity = 1; line = 6; entries = 1 ∷ 0 ∷ [] } ∷ [];
+        reviewers = record { name = codes "a"; capacity = 1; line = 7; entries = [] }
+            ∷ record { name = codes "b"; capacity = 1; line = 8; entries = 1 ∷ 0 ∷ [] } ∷ [];
+        weights = (1, 0, pos 3) ∷ (0, 0, pos 5) ∷ [];
+        forced = [];
+        forbidden = [];
+        seconds = negsuc 3 ∷ pos 0 ∷ [];
+        order = 2 ∷ 0 ∷ 1 ∷ [];
+      });
+      header_line = 1;
+      rest = 112;
+      rest_line = 12;
+    })
 
 -- persons may list themselves, and the last line needs no end
 abbrev pub RoommatesRead : Type 0

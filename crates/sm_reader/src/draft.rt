@@ -28,11 +28,26 @@ pub(crate) struct Pair {
     pub(crate) line: u32,
 }
 
-/// The weight that a line gives to a pair.
+/// The weights that a line gives to a pair; the second is 0 where none is written.
 #[derive(Clone, Copy)]
 pub(crate) struct Weight {
     pub(crate) pair: Pair,
     pub(crate) weight: i64,
+    pub(crate) second: i64,
+}
+
+/// A master list: its name, and the names on it.
+#[derive(Drop)]
+pub(crate) struct Master<'a> {
+    pub(crate) name: &'a [u8],
+    pub(crate) entries: Vec<&'a [u8]>,
+}
+
+/// The proposers that come first, as a line says it, by the indexes of their names.
+#[derive(Drop)]
+pub(crate) struct Order {
+    pub(crate) names: Vec<u32>,
+    pub(crate) line: u32,
 }
 
 /// What a line says of a pair.
@@ -73,13 +88,17 @@ pub(crate) struct Draft<'a> {
     pub(crate) reviewer_names: Names<'a>,
     pub(crate) proposers: Vec<Declared<'a>>,
     pub(crate) reviewers: Vec<Declared<'a>>,
-    /// How many entries all lists have together.
+    /// How many entries all lists have together, master lists among them.
     pub(crate) entries: usize,
     pub(crate) weights: Vec<Weight>,
     /// The pairs that have a weight. The first one is put by hashes of the text.
     pub(crate) weighed: IndexSet<(u32, u32), TextHash>,
     pub(crate) forced: Vec<Pair>,
     pub(crate) forbidden: Vec<Pair>,
+    /// The names of the master lists.
+    pub(crate) master_names: Names<'a>,
+    pub(crate) masters: Vec<Master<'a>>,
+    pub(crate) order: Option<Order>,
 }
 
 /// For each agent of one side a text mostly has at least so many bytes: its line, and that of an agent of the other side.
@@ -94,6 +113,7 @@ pub(crate) fn empty<'a>(alloc: Global, text: &'a [u8]) -> Result<Draft<'a>, Allo
     let room = (text.len() / BYTES_EACH).min(MOST_AGENTS);
     let proposer_names = Names::new(alloc, text, room)?;
     let reviewer_names = Names::new(alloc, text, room)?;
+    let master_names = Names::new(alloc, text, 0)?;
     Ok(Draft {
         text,
         proposer_names,
@@ -105,6 +125,9 @@ pub(crate) fn empty<'a>(alloc: Global, text: &'a [u8]) -> Result<Draft<'a>, Allo
         weighed: IndexSet::with_hasher(alloc, TextHash::of(&[])),
         forced: Vec::new(alloc),
         forbidden: Vec::new(alloc),
+        master_names,
+        masters: Vec::new(alloc),
+        order: None,
     })
 }
 

@@ -5,7 +5,7 @@ ghost use Rattle.std.specs.Option.{option_map};
 ghost use Rattle.std.specs.List.{list_all};
 ghost use Rattle.std.specs.Str.{bytes_eq};
 ghost use Rattle.sm_text.specs.Tokens.{begins_run};
-ghost use Rattle.sm_reader.specs.Forms.{list_form, capacity_form, weight_form, pair_form, reviewer_form, two_sided_form, form_behind, is_end, header_of, kind_named};
+ghost use Rattle.sm_reader.specs.Forms.{list_form, capacity_form, weight_form, pair_form, reviewer_form, two_sided_form, form_behind, is_end, header_of, kind_named, format_named, are_brackets, master_form, use_form, capacity_use_form, reviewer_use_form, order_form, second_form, two_sided_added_form, added_form, form_under};
 ghost use Rattle.sm_reader.specs.Kept.{AreNamesAtEnd};
 ghost use Rattle.sm_text.specs.Slices.{texts_of};
 ghost use Rattle.sm_reader.specs.Draft.{form_of};
@@ -29,10 +29,27 @@ pub(crate) enum Form<'a, 'b> {
         capacity: Option<&'a [u8]>,
         entries: &'b [&'a [u8]],
     },
+    /// An agent whose list is a master list, which goes by its name.
+    Use {
+        side: Side,
+        name: &'a [u8],
+        capacity: Option<&'a [u8]>,
+        master: &'a [u8],
+    },
+    /// A master list.
+    Master {
+        name: &'a [u8],
+        entries: &'b [&'a [u8]],
+    },
+    /// The proposers that come first.
+    Order {
+        proposers: &'b [&'a [u8]],
+    },
     Weight {
         proposer: &'a [u8],
         reviewer: &'a [u8],
         weight: &'a [u8],
+        second: Option<&'a [u8]>,
     },
     Pair {
         condition: Condition,
@@ -41,14 +58,31 @@ pub(crate) enum Form<'a, 'b> {
     },
 }
 
-/// The kind of instance that a header names, `None` where the tokens make no header.
+/// The kind of instance and the format that a header names, `None` where the tokens make no header.
 #[tactic(auto, unfolding(crate::specs::Forms::header_of))]
-pub(crate) fn header_of(tokens: &[&[u8]]) -> Option<Kind>
+pub(crate) fn header_of(tokens: &[&[u8]]) -> Option<(Kind, u32)>
     ensures { result ≡ header_of (texts_of tokens.now) }
 {
     match tokens {
-        [word, format, kind] if is(word, b"stable") && is(format, b"1") => kind_named(kind),
+        [word, format, kind] if is(word, b"stable") => {
+            let format = format_named(format)?;
+            let kind = kind_named(kind)?;
+            Some((kind, format))
+        }
         _ => None,
+    }
+}
+
+/// The format that a word names.
+fn format_named(word: &[u8]) -> Option<u32>
+    ensures { result ≡ format_named word.now }
+{
+    if is(word, b"1") {
+        Some(1)
+    } else if is(word, b"2") {
+        Some(2)
+    } else {
+        None
     }
 }
 
@@ -78,10 +112,29 @@ pub(crate) fn is_end(tokens: &[&[u8]]) -> bool
     }
 }
 
-/// The form of a line that begins with a word, `None` where it has none. The last `names` tokens behind the word are
-/// names, and no more.
+/// The form of a line that begins with a word, under a header of this kind and format; `None` where it has none. The last
+/// `names` tokens behind the word are names, and no more.
+#[tactic(auto, unfolding(crate::specs::Forms::form_under))]
+pub(crate) fn form_under<'a, 'b>(
+    kind: Kind,
+    format: u32,
+    word: &'a [u8],
+    rest: &'b [&'a [u8]],
+    names: usize,
+) -> Option<Form<'a, 'b>>
+    requires { AreNamesAtEnd names (texts_of rest.now) }
+    ensures { option_map form_of result ≡ form_under kind format word.now (texts_of rest.now) }
+{
+    match form_behind(kind, word, rest, names) {
+        Some(form) => Some(form),
+        None if format == 2 => added_form(kind, word, rest, names),
+        None => None,
+    }
+}
+
+/// The form of a line by format 1.
 #[tactic(auto, unfolding(crate::specs::Forms::form_behind))]
-pub(crate) fn form_behind<'a, 'b>(
+fn form_behind<'a, 'b>(
     kind: Kind,
     word: &'a [u8],
     rest: &'b [&'a [u8]],
@@ -192,6 +245,7 @@ fn weight_form<'a, 'b>(rest: &'b [&'a [u8]]) -> Option<Form<'a, 'b>>
                 proposer: *proposer,
                 reviewer: *reviewer,
                 weight: *weight,
+                second: None,
             })
         }
         _ => None,
@@ -211,6 +265,174 @@ fn pair_form<'a, 'b>(condition: Condition, rest: &'b [&'a [u8]]) -> Option<Form<
         }),
         _ => None,
     }
+}
+
+/// The form of a line that format 2 adds.
+#[tactic(auto, unfolding(crate::specs::Forms::added_form))]
+fn added_form<'a, 'b>(
+    kind: Kind,
+    word: &'a [u8],
+    rest: &'b [&'a [u8]],
+    names: usize,
+) -> Option<Form<'a, 'b>>
+    requires { AreNamesAtEnd names (texts_of rest.now) }
+    ensures { option_map form_of result ≡ added_form kind word.now (texts_of rest.now) }
+{
+    if is(word, b"p") {
+        return use_form(Side::Proposers, rest);
+    }
+    if is(word, b"master") {
+        return master_form(rest, names);
+    }
+    match kind {
+        Kind::Roommates => None,
+        _ => two_sided_added_form(kind, word, rest, names),
+    }
+}
+
+/// The form that format 2 adds in a marriage or in hospitals, beside those of a proposer and of a master list.
+#[tactic(auto, unfolding(crate::specs::Forms::two_sided_added_form))]
+fn two_sided_added_form<'a, 'b>(
+    kind: Kind,
+    word: &'a [u8],
+    rest: &'b [&'a [u8]],
+    names: usize,
+) -> Option<Form<'a, 'b>>
+    requires { AreNamesAtEnd names (texts_of rest.now) }
+    ensures { option_map form_of result ≡ two_sided_added_form kind word.now (texts_of rest.now) }
+{
+    if is(word, b"r") {
+        reviewer_use_form(kind, rest)
+    } else if is(word, b"order") {
+        order_form(rest, names)
+    } else if is(word, b"weight") {
+        second_form(rest)
+    } else {
+        None
+    }
+}
+
+/// A master list: a name, a colon and a list.
+#[tactic(auto, unfolding(crate::specs::Forms::master_form))]
+fn master_form<'a, 'b>(rest: &'b [&'a [u8]], names: usize) -> Option<Form<'a, 'b>>
+    requires { AreNamesAtEnd names (texts_of rest.now) }
+    ensures { option_map form_of result ≡ master_form (texts_of rest.now) }
+{
+    match rest {
+        [name, colon, entries @ ..]
+            if is_run(name) && is(colon, b":") && are_runs(entries, names) => {
+            Some(Form::Master {
+                name: *name,
+                entries,
+            })
+        }
+        _ => None,
+    }
+}
+
+/// A name, a colon, and the name of a master list in brackets.
+#[tactic(auto, unfolding(crate::specs::Forms::use_form))]
+fn use_form<'a, 'b>(side: Side, rest: &'b [&'a [u8]]) -> Option<Form<'a, 'b>>
+    ensures { option_map form_of result ≡ use_form side (texts_of rest.now) }
+{
+    match rest {
+        [name, colon, opening, master, closing]
+            if is_run(name)
+                && is(colon, b":")
+                && are_brackets(opening, closing)
+                && is_run(master) => {
+            Some(Form::Use {
+                side,
+                name: *name,
+                capacity: None,
+                master: *master,
+            })
+        }
+        _ => None,
+    }
+}
+
+/// A name, a number in brackets, a colon, and the name of a master list in brackets.
+#[tactic(auto, unfolding(crate::specs::Forms::capacity_use_form))]
+fn capacity_use_form<'a, 'b>(rest: &'b [&'a [u8]]) -> Option<Form<'a, 'b>>
+    ensures { option_map form_of result ≡ capacity_use_form (texts_of rest.now) }
+{
+    match rest {
+        [
+            name,
+            opening,
+            number,
+            closing,
+            colon,
+            before,
+            master,
+            behind,
+        ] if is_run(name)
+            && are_brackets(opening, closing)
+            && is_run(number)
+            && is(colon, b":")
+            && are_brackets(before, behind)
+            && is_run(master) => {
+            Some(Form::Use {
+                side: Side::Reviewers,
+                name: *name,
+                capacity: Some(*number),
+                master: *master,
+            })
+        }
+        _ => None,
+    }
+}
+
+/// A reviewer with a master list, whose capacity may be written in hospitals alone.
+#[tactic(auto, unfolding(crate::specs::Forms::reviewer_use_form))]
+fn reviewer_use_form<'a, 'b>(kind: Kind, rest: &'b [&'a [u8]]) -> Option<Form<'a, 'b>>
+    ensures { option_map form_of result ≡ reviewer_use_form kind (texts_of rest.now) }
+{
+    match use_form(Side::Reviewers, rest) {
+        Some(form) => Some(form),
+        None if kind == Kind::Hospitals => capacity_use_form(rest),
+        None => None,
+    }
+}
+
+/// The names of the proposers that come first.
+#[tactic(auto, unfolding(crate::specs::Forms::order_form))]
+fn order_form<'a, 'b>(rest: &'b [&'a [u8]], names: usize) -> Option<Form<'a, 'b>>
+    requires { AreNamesAtEnd names (texts_of rest.now) }
+    ensures { option_map form_of result ≡ order_form (texts_of rest.now) }
+{
+    if are_runs(rest, names) {
+        Some(Form::Order { proposers: rest })
+    } else {
+        None
+    }
+}
+
+/// Two names and two weights.
+#[tactic(auto, unfolding(crate::specs::Forms::second_form))]
+fn second_form<'a, 'b>(rest: &'b [&'a [u8]]) -> Option<Form<'a, 'b>>
+    ensures { option_map form_of result ≡ second_form (texts_of rest.now) }
+{
+    match rest {
+        [proposer, reviewer, weight, second]
+            if is_run(proposer) && is_run(reviewer) && is_run(weight) && is_run(second) => {
+            Some(Form::Weight {
+                proposer: *proposer,
+                reviewer: *reviewer,
+                weight: *weight,
+                second: Some(*second),
+            })
+        }
+        _ => None,
+    }
+}
+
+/// Are the tokens an opening and a closing bracket?
+fn are_brackets(opening: &[u8], closing: &[u8]) -> bool
+    ensures { result ≡ are_brackets opening.now closing.now }
+{
+    is(opening, b"[") && is(closing, b"]")
 }
 
 /// Are all these tokens runs? The last `names` of them are names, and no more.

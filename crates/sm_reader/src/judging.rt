@@ -8,14 +8,17 @@ ghost use Rattle.indexmap.specs.IndexSet.{keys};
 ghost use Rattle.sm_text.specs.Limits.{most_agents, most_entries};
 ghost use Rattle.sm_text.specs.Name.{is_name as is_a_name};
 ghost use Rattle.sm_reader.specs.Forms.{is_bad};
-ghost use Rattle.sm_reader.specs.Judging.{verdict_on, fault_of, has_repeated};
+ghost use Rattle.sm_reader.specs.Judging.{verdict_on, fault_of, has_repeated, second_in};
 ghost use Rattle.sm_reader.specs.Kept.{AreNamesAtEnd};
 ghost use Rattle.sm_text.specs.Slices.{texts_of};
-ghost use Rattle.sm_reader.specs.Draft.{said_of, form_of, entries_in, listed_side, table_on, declared_on, IsDraft, AddsForm, JudgesTokens, IsRefusedBy, IsLineFault, run_fault, name_fault, limit_fault, AreRunsRight, DeclaresOn, ListsOn, PutsOn, RefusesFor, PairsOf, AddsAgent, ArePairsBelow, pairs_of, key_of, weights_in, weight_fault, PutsWeight, PutsPair, Binds};
+ghost use Rattle.sm_reader.specs.Draft.{said_of, form_of, entries_in, listed_side, table_on, declared_on, IsDraft, AddsForm, JudgesTokens, IsRefusedBy, IsLineFault, run_fault, name_fault, limit_fault, AreRunsRight, DeclaresOn, ListsOn, PutsOn, RefusesFor, PairsOf, AddsAgent, ArePairsBelow, pairs_of, key_of, weights_in, weight_fault, PutsWeight, PutsPair, Binds, runs_form};
 
 use crate::draft::{Declared, Draft, Pair, Weight, make_ready};
 use crate::faults::TextFault;
-use crate::forms::{Condition, Form, form_behind, is_end};
+use crate::forms::{Condition, Form, form_under, is_end};
+use crate::header::Header;
+use crate::masters::{MasterRuns, add_master, master_entries};
+use crate::ordering::add_order;
 use crate::tokens::Found;
 use sm_instance::{Kind, Side};
 use sm_text::{
@@ -32,6 +35,22 @@ struct Stated<'a, 'b> {
     entries: &'b [&'a [u8]],
 }
 
+/// The runs of the line of an agent: of its name, of its capacity and on its list.
+#[derive(Clone, Copy)]
+struct AgentRuns<'a, 'b> {
+    side: Side,
+    name: &'a [u8],
+    capacity: Option<&'a [u8]>,
+    entries: &'b [&'a [u8]],
+}
+
+/// The runs of the weights of a pair.
+#[derive(Clone, Copy)]
+struct WeightRuns<'a> {
+    weight: &'a [u8],
+    second: Option<&'a [u8]>,
+}
+
 /// What comes of a line that isn't refused.
 #[derive(Clone, Copy)]
 pub(crate) enum Step {
@@ -44,19 +63,20 @@ pub(crate) enum Step {
 /// Judges a line by its tokens and what they were found to be, and adds what it says.
 pub(crate) fn judge<'a>(
     alloc: Global,
-    kind: Kind,
+    header: Header,
     draft: &mut Draft<'a>,
     line: u32,
     tokens: &[&'a [u8]],
     found: Found,
 ) -> Result<Step, TextFault>
-    requires draft { IsDraft kind line draft.old }
+    requires draft { IsDraft header.kind line draft.old }
     requires bad { found.bad ≡ list_any is_bad (texts_of tokens.now) }
     requires names { AreNamesAtEnd found.names (texts_of tokens.now) }
-    ensures judged { IfOk result (λ step. JudgesTokens kind line (texts_of tokens.now) draft.old
-        draft.new step) }
+    ensures judged { IfOk result (λ step. JudgesTokens header.kind header.format line
+        (texts_of tokens.now) draft.old draft.new step) }
     ensures refused { IfErr result (λ f. IsRefusedBy
-        (verdict_on kind (said_of kind draft.old) line (texts_of tokens.now)) line f) }
+        (verdict_on header.kind header.format (said_of header.kind draft.old) line
+        (texts_of tokens.now)) line f) }
 {
     let [word, rest @ ..] = tokens else {
         return Ok(Step::Goes);
@@ -67,10 +87,10 @@ pub(crate) fn judge<'a>(
     if is_end(tokens) {
         return Ok(Step::Stops);
     }
-    match form_behind(kind, word, rest, found.names) {
+    match form_under(header.kind, header.format, word, rest, found.names) {
         None => Err(TextFault::Refused(RefusalKind::BadLine, line)),
         Some(form) => {
-            add(alloc, kind, draft, line, form, found.names)?;
+            add(alloc, header.kind, draft, line, form, found.names)?;
             Ok(Step::Goes)
         }
     }
@@ -98,20 +118,43 @@ fn add<'a>(
             capacity,
             entries,
         } => {
-            let capacity = checked_capacity(name, capacity, entries, names, line)?;
-            let agent = Stated {
+            let agent = AgentRuns {
                 side,
                 name,
                 capacity,
                 entries,
             };
-            add_agent(alloc, kind, draft, line, agent)
+            add_runs(alloc, kind, draft, line, agent, names)
         }
+        Form::Use {
+            side,
+            name,
+            capacity,
+            master,
+        } => {
+            let entries = master_entries(alloc, draft, master, line)?;
+            let agent = AgentRuns {
+                side,
+                name,
+                capacity,
+                entries: &entries,
+            };
+            add_runs(alloc, kind, draft, line, agent, entries.len())
+        }
+        Form::Master { name, entries } => {
+            let master = MasterRuns { name, entries };
+            add_master(alloc, kind, draft, line, master, names)
+        }
+        Form::Order { proposers } => add_order(alloc, draft, line, proposers, names),
         Form::Weight {
             proposer,
             reviewer,
             weight,
-        } => add_weight(draft, line, proposer, reviewer, weight),
+            second,
+        } => {
+            let weights = WeightRuns { weight, second };
+            add_weight(draft, line, proposer, reviewer, weights)
+        }
         Form::Pair {
             condition,
             proposer,
@@ -120,8 +163,40 @@ fn add<'a>(
     }
 }
 
+/// Adds the agent that a line declares, unless the line has a fault. The last `names` runs on its list are names, and no more.
+fn add_runs<'a>(
+    alloc: Global,
+    kind: Kind,
+    draft: &mut Draft<'a>,
+    line: u32,
+    agent: AgentRuns<'a, '_>,
+    names: usize,
+) -> Result<(), TextFault>
+    requires draft { IsDraft kind line draft.old }
+    requires names { AreNamesAtEnd names (texts_of agent.entries.now) }
+    ensures added { IfOk result (λ _. AddsForm kind line (runs_form agent.entry) draft.old
+        draft.new) }
+    ensures fault { IfErr result (λ f. IsLineFault
+        (fault_of (said_of kind draft.old) (runs_form agent.entry)) line f) }
+{
+    let AgentRuns {
+        side,
+        name,
+        capacity,
+        entries,
+    } = agent;
+    let capacity = checked_capacity(name, capacity, entries, names, line)?;
+    let agent = Stated {
+        side,
+        name,
+        capacity,
+        entries,
+    };
+    add_agent(alloc, kind, draft, line, agent)
+}
+
 /// The capacity that the line of an agent says, which is 1 where it says none.
-fn checked_capacity(
+pub(crate) fn checked_capacity(
     name: &[u8],
     capacity: Option<&[u8]>,
     entries: &[&[u8]],
@@ -149,7 +224,7 @@ fn checked_capacity(
 
 /// Are all these runs names? The last `names` of them are, and no more.
 #[tactic(auto, using(crate::proofs::NameLemmas::all_names))]
-fn are_names(runs: &[&[u8]], names: usize) -> bool
+pub(crate) fn are_names(runs: &[&[u8]], names: usize) -> bool
     requires { AreNamesAtEnd names (texts_of runs.now) }
     ensures { result ≡ list_all is_a_name (texts_of runs.now) }
 {
@@ -190,7 +265,7 @@ fn add_agent<'a>(
 }
 
 /// The side that the agents of a side list.
-fn listed_side(kind: Kind, side: Side) -> Side
+pub(crate) fn listed_side(kind: Kind, side: Side) -> Side
     ensures { result ≡ listed_side kind side }
 {
     match (kind, side) {
@@ -224,7 +299,7 @@ fn declare<'a>(
 }
 
 /// The indexes on a side of the names on a list, on which none stands twice.
-fn listed<'a>(
+pub(crate) fn listed<'a>(
     alloc: Global,
     draft: &mut Draft<'a>,
     side: Side,
@@ -298,32 +373,50 @@ fn pair_of<'a>(
     })
 }
 
-/// Adds the weight of a pair that has none yet.
+/// Adds the weights of a pair that has none yet.
 fn add_weight<'a>(
     draft: &mut Draft<'a>,
     line: u32,
     proposer: &'a [u8],
     reviewer: &'a [u8],
-    weight: &[u8],
+    weights: WeightRuns<'_>,
 ) -> Result<(), TextFault>
     requires in_range { ArePairsBelow (length draft.old.proposer_names.texts)
         (length draft.old.reviewer_names.texts) (pairs_of draft.old.weights.items) }
     requires weighed { keys draft.old.weighed ≡ map key_of draft.old.weights.items }
     ensures put { IfOk result (λ _. PutsWeight draft.old draft.new proposer.now reviewer.now
-        weight.now line) }
+        weights.entry.weight.now (option_map (λ x. x.now) weights.entry.second) line) }
     ensures fault { IfErr result (λ f. IsLineFault
-        (weight_fault (weights_in draft.old) proposer.now reviewer.now weight.now) line f) }
+        (weight_fault (weights_in draft.old) proposer.now reviewer.now weights.entry.weight.now
+        (option_map (λ x. x.now) weights.entry.second)) line f) }
 {
     let pair = pair_of(draft, line, proposer, reviewer)?;
-    let Some(weight) = signed(weight, MOST_WEIGHT) else {
+    let Some(weight) = signed(weights.weight, MOST_WEIGHT) else {
+        return Err(TextFault::Refused(RefusalKind::BadNumber, line));
+    };
+    let Some(second) = second_in(weights.second) else {
         return Err(TextFault::Refused(RefusalKind::BadNumber, line));
     };
     make_ready(draft);
     if !draft.weighed.insert((pair.proposer, pair.reviewer))? {
         return Err(TextFault::Refused(RefusalKind::RepeatedWeight, line));
     }
-    draft.weights.push(Weight { pair, weight })?;
+    draft.weights.push(Weight {
+        pair,
+        weight,
+        second,
+    })?;
     Ok(())
+}
+
+/// The second weight that a line says, which is 0 where it says none; `None` where it is no number within the limit.
+fn second_in(run: Option<&[u8]>) -> Option<i64>
+    ensures { result ≡ second_in (option_map (λ x. x.now) run.entry) }
+{
+    match run {
+        Some(run) => signed(run, MOST_WEIGHT),
+        None => Some(0),
+    }
 }
 
 /// Adds a pair of which something is asked.

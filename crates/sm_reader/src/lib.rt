@@ -1,7 +1,8 @@
 //! The text of an instance, and the instance that it means.
 //!
-//! A text has a header, lines that declare agents, lines that weigh, force or forbid pairs, and a line `end`.
-//! [`read_instance`] gives the instance, or the first thing that stands in its way with its line.
+//! A text has a header, lines that declare agents, lines that weigh, force or forbid pairs, and a line `end`. In format 2 it
+//! may also have master lists, an order of the proposers, and second weights. [`read_instance`] gives the instance, or the
+//! first thing that stands in its way with its line.
 #![tactic(auto)]
 
 mod draft;
@@ -9,8 +10,10 @@ mod faults;
 mod forms;
 mod header;
 mod judging;
+mod masters;
 mod names;
 mod numbering;
+mod ordering;
 mod reading;
 mod tokens;
 pub mod witnesses;

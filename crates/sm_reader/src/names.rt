@@ -1,6 +1,6 @@
 //! The names of one side.
 
-ghost use Rattle.std.specs.Prelude.{◌≡◌, ℕ, ◌<◌, ◌≤◌, ◌^◌, not, true, None, Some, is_some, length, slice_index, slice_index_or, vec_len, vec_capacity, IfOk, IfSome};
+ghost use Rattle.std.specs.Prelude.{◌≡◌, ℕ, ◌<◌, ◌≤◌, ◌^◌, not, true, None, Some, is_some, length, slice_index, slice_index_or, position, vec_len, vec_capacity, IfOk, IfSome};
 ghost use Rattle.std.specs.List.{list_any, list_all};
 ghost use Rattle.std.specs.Str.{bytes_eq};
 ghost use Rattle.indexmap.specs.IndexSet.{keys};
@@ -174,6 +174,16 @@ impl<'a> Names<'a> {
         }
         self.stamps[index as usize] = line;
         Ok(Some(index))
+    }
+
+    /// The number under which a name is declared, `None` where it isn't.
+    pub(crate) fn find(&self, name: &[u8]) -> Option<u32>
+        ensures { result ≡ position (bytes_eq name.now) self.now.declared }
+    {
+        match self.texts.get_index_of(&Key::of(name)) {
+            Some(index) => self.numbers[index],
+            None => None,
+        }
     }
 
     /// Is each name declared?

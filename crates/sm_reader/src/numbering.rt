@@ -1,14 +1,16 @@
 //! Numbers for names, once all agents are declared.
 
-ghost use Rattle.std.specs.Prelude.{◌≡◌, ◌<◌, ◌^◌, ◌||◌, true, length, map, IfOk};
+ghost use Rattle.std.specs.Prelude.{◌≡◌, ◌<◌, ◌^◌, ◌||◌, ◌==◌, ◌++◌, ◌∷◌, [], if◌then◌else◌, ℕ, true, length, map, slice_index_or, false, IfOk};
 ghost use Rattle.std.specs.List.{list_any};
+ghost use Rattle.std.specs.Option.{option_map};
+ghost use Rattle.sm_instance.specs.Named.{names_first};
 ghost use Rattle.sm_instance.specs.Vectors.{agent_of, agents_of};
-ghost use Rattle.sm_reader.specs.InstanceText.{least, unknown_lines, lines_with_unknown, pairs_with_unknown, is_unknown, number_in, numbered};
+ghost use Rattle.sm_reader.specs.InstanceText.{least, unknown_lines, lines_with_unknown, pairs_with_unknown, order_with_unknown, is_unknown, number_in, numbered, full_order};
 ghost use Rattle.sm_reader.specs.Kept.{text_at, AreBelow};
-ghost use Rattle.sm_reader.specs.Draft.{said_of, listed_table, agent_in, pair_in, given_in, AreAgentsBelow, IsPairBelow, ArePairsBelow, pairs_of};
+ghost use Rattle.sm_reader.specs.Draft.{said_of, listed_table, agent_in, pair_in, given_in, order_of, IsOrderBelow, AreAgentsBelow, IsPairBelow, ArePairsBelow, pairs_of};
 ghost use Rattle.sm_reader.specs.Numbering.{line_if, pair_among, weight_among, IsReady, AreInOrder, IsTwoSided, NumbersPersons, NumbersSides};
 
-use crate::draft::{Declared, Draft, OfPair, Pair, Weight};
+use crate::draft::{Declared, Draft, OfPair, Order, Pair, Weight};
 use crate::names::Names;
 use sm_instance::{Agent, Kind, Parts};
 use sm_lists::earlier;
@@ -26,7 +28,7 @@ pub(crate) fn first_unknown(kind: Kind, draft: &Draft<'_>) -> Option<u32>
     first_in_all(kind, draft)
 }
 
-/// The first such line, looked for in all lists, weights and conditions.
+/// The first such line, looked for in all lists, weights and conditions and in the order.
 fn first_in_all(kind: Kind, draft: &Draft<'_>) -> Option<u32>
     requires { IsReady kind draft.now }
     ensures { result ≡ least (unknown_lines kind (said_of kind draft.now)) }
@@ -41,7 +43,8 @@ fn first_in_all(kind: Kind, draft: &Draft<'_>) -> Option<u32>
     let of_agents = earlier(in_lists, in_others);
     let of_weights = earlier(of_agents, in_weights);
     let of_forced = earlier(of_weights, in_forced);
-    earlier(of_forced, in_forbidden)
+    let of_pairs = earlier(of_forced, in_forbidden);
+    earlier(of_pairs, first_in_order(proposers, &draft.order))
 }
 
 /// The first line whose proposer lists a name that isn't declared.
@@ -116,6 +119,18 @@ fn first_in_pairs<X: OfPair>(
     first
 }
 
+/// The line of an order that names a proposer who isn't declared.
+fn first_in_order(proposers: &Names<'_>, order: &Option<Order>) -> Option<u32>
+    requires { IsOrderBelow (length proposers.now.texts) order.now }
+    ensures { result ≡ least (order_with_unknown proposers.now.declared
+        (option_map (order_of proposers.now.texts) order.now)) }
+{
+    match order {
+        Some(order) => line_if(order.line, has_unknown(proposers, &order.names)),
+        None => None,
+    }
+}
+
 /// Is one of a pair not declared?
 fn is_unknown(proposers: &Names<'_>, reviewers: &Names<'_>, pair: Pair) -> bool
     requires { IsPairBelow (length proposers.now.texts) (length reviewers.now.texts) pair }
@@ -158,17 +173,31 @@ pub(crate) fn numbered_sides(
         weighed,
         forced,
         forbidden,
+        masters,
+        order,
         ..
     } = draft;
     drop(weighed);
+    drop(masters);
+    let count = proposers.len();
     let proposers = number_agents(alloc, &reviewer_names, proposers)?;
     let reviewers = number_agents(alloc, &proposer_names, reviewers)?;
+    let seconds = second_weights(alloc, &weights)?;
     let weights = number_weights(alloc, &proposer_names, &reviewer_names, &weights)?;
     let forced = number_pairs(alloc, &proposer_names, &reviewer_names, &forced)?;
     let forbidden = number_pairs(alloc, &proposer_names, &reviewer_names, &forbidden)?;
-    Parts::plain(
-        alloc, kind, proposers, reviewers, weights, forced, forbidden,
-    )
+    let first = number_order(alloc, &proposer_names, order);
+    let order = full_order(alloc, count, first)?;
+    Ok(Parts {
+        kind,
+        proposers,
+        reviewers,
+        weights,
+        forced,
+        forbidden,
+        seconds,
+        order,
+    })
 }
 
 /// The agents of a side, with numbers for the names on their lists.
@@ -291,4 +320,88 @@ fn number_weights(
         numbers.push((proposer, reviewer, weight.weight))?;
     }
     Ok(numbers)
+}
+
+/// The second weights of pairs.
+fn second_weights(alloc: Global, weights: &[Weight]) -> Result<Vec<i64>, AllocError>
+    ensures { IfOk result (λ v. v.items ≡ map (λ (w : Weight). w.second) weights.now) }
+{
+    let mut seconds = Vec::with_capacity(alloc, weights.len())?;
+    'weights: for weight in weights {
+        seconds.push(weight.second)?;
+    }
+    Ok(seconds)
+}
+
+/// The numbers of the proposers that come first by an order; none do where there is no order.
+fn number_order(alloc: Global, proposers: &Names<'_>, order: Option<Order>) -> Vec<u32>
+    requires few { length proposers.now.declared < 2 ^ 32 }
+    requires in_range { IsOrderBelow (length proposers.now.texts) order }
+    ensures { result.items ≡ map (number_in proposers.now.declared)
+        (names_first (option_map (order_of proposers.now.texts) order)) }
+{
+    match order {
+        Some(Order { mut names, .. }) => {
+            number_names(proposers, proposers.are_in_order(), &mut names);
+            names
+        }
+        None => Vec::new(alloc),
+    }
+}
+
+/// All numbers below a count: first these, in their order, and then the others, which rise.
+fn full_order(alloc: Global, count: usize, first: Vec<u32>) -> Result<Vec<u32>, AllocError>
+    requires { count < 2 ^ 32 }
+    ensures { IfOk result (λ v. v.items ≡ full_order count first.items) }
+{
+    let is_first = marked(alloc, count, &first)?;
+    let mut order = first;
+    'numbers: for number in 0..count {
+        push_other(&mut order, is_first[number], number as u32)?;
+    }
+    Ok(order)
+}
+
+/// Puts a number behind an order, unless it is one of those that come first.
+fn push_other(order: &mut Vec<u32>, is_first: bool, number: u32) -> Result<(), AllocError>
+    ensures { IfOk result (λ _. order.new.items ≡ order.old.items
+        ++ (if is_first then [] else number ∷ [])) }
+{
+    if !is_first {
+        order.push(number)?;
+    }
+    Ok(())
+}
+
+/// For each number below a count, whether it is one of these.
+fn marked(alloc: Global, count: usize, numbers: &[u32]) -> Result<Vec<bool>, AllocError>
+    ensures each { IfOk result (λ v. length v.items ≡ count) }
+    ensures marked { IfOk result (λ v. (n : ℕ) → n < count
+        → slice_index_or v.items n false ≡ list_any (λ m. m == n) numbers.now) }
+{
+    let mut marks = vec![in alloc; false; count]?;
+    mark_all(&mut marks, numbers);
+    Ok(marks)
+}
+
+/// Marks numbers, where they have a mark.
+fn mark_all(marks: &mut [bool], numbers: &[u32])
+    ensures each { length marks.new ≡ length marks.old }
+    ensures marked { (n : ℕ) → n < length marks.old → slice_index_or marks.new n false
+        ≡ (slice_index_or marks.old n false || list_any (λ m. m == n) numbers.now) }
+{
+    'numbers: for number in numbers {
+        mark(marks, *number);
+    }
+}
+
+/// Marks a number, where it has a mark.
+fn mark(marks: &mut [bool], number: u32)
+    ensures each { length marks.new ≡ length marks.old }
+    ensures marked { (n : ℕ) → n < length marks.old → slice_index_or marks.new n false
+        ≡ (slice_index_or marks.old n false || number == n) }
+{
+    if (number as usize) < marks.len() {
+        marks[number as usize] = true;
+    }
 }

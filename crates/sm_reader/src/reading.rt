@@ -45,13 +45,14 @@ pub struct Read {
 /// Reads the text of an instance, up to the line `end`.
 ///
 /// Agents get their numbers in the order of their lines. Names that stand before their declarations are found, and the
-/// text behind the line `end` isn't looked at. It takes time and memory in proportion to the text.
+/// text behind the line `end` isn't looked at. In format 2 a line that uses a master list is judged as though the names stood in
+/// it, and the instance has the names themselves. It takes time and memory in proportion to the text and to all lists.
 ///
 /// # Errors
 ///
 /// `Refused` names the first line that has a fault, and of all faults of that line the first in the order in which
 /// [`RefusalKind`] has them. A missing `end` counts as a fault of the line behind the last one. Only where there is no
-/// such fault, `UnknownName` names the first line that lists or pairs an agent which isn't declared. A text of more than
+/// such fault, `UnknownName` names the first line that lists, pairs or orders an agent which isn't declared. A text of more than
 /// 16,777,216 bytes is refused at line 0.
 pub fn read_instance(alloc: Global, bytes: &[u8]) -> Result<Read, TextFault>
     ensures read { IfOk result (λ read. instance_text bytes.now ≡ Ok (read_of read)) }
@@ -76,8 +77,13 @@ fn read_header(alloc: Global, bytes: &[u8]) -> Result<Header, TextFault>
     let mut line = 1;
     'lines: while let Some((text, next)) = line_from(bytes, at) {
         let found = cut(text, &mut tokens)?;
-        if let Some(kind) = heading(&tokens, found.bad, line)? {
-            return Ok(Header { kind, line, next });
+        if let Some((kind, format)) = heading(&tokens, found.bad, line)? {
+            return Ok(Header {
+                kind,
+                format,
+                line,
+                next,
+            });
         }
         at = next;
         line += 1;
@@ -85,10 +91,11 @@ fn read_header(alloc: Global, bytes: &[u8]) -> Result<Header, TextFault>
     Err(TextFault::Refused(RefusalKind::BadHeader, line))
 }
 
-/// The kind that a line names which stands before the header or is it, `None` where it has no token.
-fn heading(tokens: &[&[u8]], bad: bool, line: u32) -> Result<Option<Kind>, TextFault>
+/// The kind and the format that a line names which stands before the header or is it, `None` where it has no token.
+fn heading(tokens: &[&[u8]], bad: bool, line: u32) -> Result<Option<(Kind, u32)>, TextFault>
     requires { bad ≡ list_any is_bad (texts_of tokens.now) }
-    ensures heading { IfOk result (λ kind. heading_of (texts_of tokens.now) ≡ heading_is kind) }
+    ensures heading { IfOk result (λ header. heading_of (texts_of tokens.now)
+        ≡ heading_is header) }
     ensures fault { IfErr result (λ f. IsHeadingFault (heading_of (texts_of tokens.now)) line f) }
 {
     if tokens.is_empty() {
@@ -98,7 +105,7 @@ fn heading(tokens: &[&[u8]], bad: bool, line: u32) -> Result<Option<Kind>, TextF
         return Err(TextFault::Refused(RefusalKind::BadByte, line));
     }
     match header_of(tokens) {
-        Some(kind) => Ok(Some(kind)),
+        Some(header) => Ok(Some(header)),
         None => Err(TextFault::Refused(RefusalKind::BadHeader, line)),
     }
 }
@@ -108,9 +115,9 @@ fn read_lines(alloc: Global, bytes: &[u8], header: Header) -> Result<Read, TextF
     requires short { length bytes.now ≤ most_bytes }
     requires headed { IsHeaded bytes.now header }
     ensures sound { IfOk result (λ read. IsInput read.input) }
-    ensures read { IfOk result (λ read. behind_header header.kind header.line nothing
+    ensures read { IfOk result (λ read. behind_header header.kind header.format header.line nothing
         (header.line + 1) header.next (lines (drop header.next bytes.now)) ≡ Ok (read_of read)) }
-    ensures fault { IfErr result (λ f. IsFaultOf (behind_header header.kind header.line nothing
+    ensures fault { IfErr result (λ f. IsFaultOf (behind_header header.kind header.format header.line nothing
         (header.line + 1) header.next (lines (drop header.next bytes.now))) f) }
 {
     let mut draft = empty(alloc, bytes)?;
@@ -119,7 +126,7 @@ fn read_lines(alloc: Global, bytes: &[u8], header: Header) -> Result<Read, TextF
     let mut line = header.line + 1;
     'lines: while let Some((text, next)) = line_from(bytes, at) {
         let found = cut(text, &mut tokens)?;
-        match judge(alloc, header.kind, &mut draft, line, &tokens, found)? {
+        match judge(alloc, header, &mut draft, line, &tokens, found)? {
             Step::Goes => {
                 at = next;
                 line += 1;

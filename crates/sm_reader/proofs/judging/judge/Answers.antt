@@ -2,7 +2,7 @@ use Rattle.std.proofs.Common.{◌≡◌, ℕ, List, [], get_or, ◌∙◌, sym, 
 use Rattle.std.specs.Borrow.{Bor}
 use Rattle.std.specs.Option.{option_map}
 use Rattle.std.proofs.lemmas.List.{take_rest}
-use Rattle.sm_reader.specs.Forms.{form_behind}
+use Rattle.sm_reader.specs.Forms.{form_under}
 use Rattle.sm_reader.specs.Judging.{of_form, goes, verdict_on}
 use Rattle.sm_reader.specs.Kept.{AreNamesAtEnd}
 use Rattle.sm_text.specs.Slices.{texts_of}
@@ -14,45 +14,45 @@ use Rattle.sm_reader.proofs.WholeLemmas.{listed}
 use Rattle.sm_reader.proofs.NameLemmas.{names_rest, form_names}
 use Rattle.sm_reader.proofs.judging.judge.Goals as goal
 
-pub form_behind-requires : goal.form_behind-requires
-form_behind-requires c = names_rest c.args.found.names 1 c.args.tokens.now c.requires.names
+pub form_under-requires : goal.form_under-requires
+form_under-requires c = names_rest c.args.found.names 1 c.args.tokens.now c.requires.names
 
 pub add-requires-clause-names : goal.add-requires-clause-names
 add-requires-clause-names c =
     let names = c.args.found.names in
-    subst (λ f. AreNamesAtEnd names (listed f)) (sym c.form_behind.ensures ∙ ap (option_map form_of) c.in-Some.is)
-    (form_names names c.args.kind _ _ (names_rest names 1 c.args.tokens.now c.requires.names))
+    subst (λ f. AreNamesAtEnd names (listed f)) (sym c.form_under.ensures ∙ ap (option_map form_of) c.in-Some.is)
+    (form_names names c.args.header.kind c.args.header.format _ _ (names_rest names 1 c.args.tokens.now c.requires.names))
 
 pub returns-in_default-clause-judged : goal.returns-in_default-clause-judged
-returns-in_default-clause-judged c = (verdict_empty c.args.kind (said_of c.args.kind c.args.draft.now) c.args.line c.args.tokens.now c.in_default.len_below, draft_later c.args.kind c.args.line c.args.draft.now c.requires.draft)
+returns-in_default-clause-judged c = (verdict_empty c.args.header.kind c.args.header.format (said_of c.args.header.kind c.args.draft.now) c.args.line c.args.tokens.now c.in_default.len_below, draft_later c.args.header.kind c.args.line c.args.draft.now c.requires.draft)
 
 pub returns-then-found-clause-refused : goal.returns-then-found-clause-refused
 returns-then-found-clause-refused c =
-    (verdict_bad c.args.kind (said_of c.args.kind c.args.draft.now) c.args.line c.args.tokens.now c.in-len1-up.len_at_least (sym c.requires.bad ∙ c.if-found.true), refl)
+    (verdict_bad c.args.header.kind c.args.header.format (said_of c.args.header.kind c.args.draft.now) c.args.line c.args.tokens.now c.in-len1-up.len_at_least (sym c.requires.bad ∙ c.if-found.true), refl)
 
 pub returns-then-is_end-clause-judged : goal.returns-then-is_end-clause-judged
 returns-then-is_end-clause-judged c =
-    (verdict_end c.args.kind (said_of c.args.kind c.args.draft.now) c.args.line c.args.tokens.now c.in-len1-up.len_at_least (sym c.requires.bad ∙ c.if-found.false) (sym c.is_end.ensures ∙ c.if-is_end.true), refl)
+    (verdict_end c.args.header.kind c.args.header.format (said_of c.args.header.kind c.args.draft.now) c.args.line c.args.tokens.now c.in-len1-up.len_at_least (sym c.requires.bad ∙ c.if-found.false) (sym c.is_end.ensures ∙ c.if-is_end.true), refl)
 
 pub returns-in-None-clause-refused : goal.returns-in-None-clause-refused
 returns-in-None-clause-refused c =
     let d : Bor (List ℕ) = record { ref_ptr = (0, 0); now = [] } in
-    let said = said_of c.args.kind c.args.draft.now in (
-      verdict_form c.args.kind said c.args.line c.args.tokens.now d c.in-len1-up.len_at_least (sym c.requires.bad ∙ c.if-found.false) (sym c.is_end.ensures ∙ c.if-is_end.false)
-          ∙ ap (λ rest. of_form said c.args.line (form_behind c.args.kind (get_or c.args.tokens.now 0 d).now (texts_of rest))) (sym (take_rest c.args.tokens.now 1))
-          ∙ ap (of_form said c.args.line) (sym c.form_behind.ensures ∙ ap (option_map form_of) c.in-None.is),
+    let said = said_of c.args.header.kind c.args.draft.now in (
+      verdict_form c.args.header.kind c.args.header.format said c.args.line c.args.tokens.now d c.in-len1-up.len_at_least (sym c.requires.bad ∙ c.if-found.false) (sym c.is_end.ensures ∙ c.if-is_end.false)
+          ∙ ap (λ rest. of_form said c.args.line (form_under c.args.header.kind c.args.header.format (get_or c.args.tokens.now 0 d).now (texts_of rest))) (sym (take_rest c.args.tokens.now 1))
+          ∙ ap (of_form said c.args.line) (sym c.form_under.ensures ∙ ap (option_map form_of) c.in-None.is),
       refl,
     )
 
 pub returns-in_ok-add-in-Some-clause-judged : goal.returns-in_ok-add-in-Some-clause-judged
 returns-in_ok-add-in-Some-clause-judged c =
     let d : Bor (List ℕ) = record { ref_ptr = (0, 0); now = [] } in
-    let said = said_of c.args.kind c.args.draft.now in
+    let said = said_of c.args.header.kind c.args.draft.now in
     let form = form_of c.in-Some.form in
     let adds = c.in_ok-add-in-Some.ensures.added in (
-      verdict_form c.args.kind said c.args.line c.args.tokens.now d c.in-len1-up.len_at_least (sym c.requires.bad ∙ c.if-found.false) (sym c.is_end.ensures ∙ c.if-is_end.false)
-          ∙ ap (λ rest. of_form said c.args.line (form_behind c.args.kind (get_or c.args.tokens.now 0 d).now (texts_of rest))) (sym (take_rest c.args.tokens.now 1))
-          ∙ ap (of_form said c.args.line) (sym c.form_behind.ensures ∙ ap (option_map form_of) c.in-Some.is)
+      verdict_form c.args.header.kind c.args.header.format said c.args.line c.args.tokens.now d c.in-len1-up.len_at_least (sym c.requires.bad ∙ c.if-found.false) (sym c.is_end.ensures ∙ c.if-is_end.false)
+          ∙ ap (λ rest. of_form said c.args.line (form_under c.args.header.kind c.args.header.format (get_or c.args.tokens.now 0 d).now (texts_of rest))) (sym (take_rest c.args.tokens.now 1))
+          ∙ ap (of_form said c.args.line) (sym c.form_under.ensures ∙ ap (option_map form_of) c.in-Some.is)
           ∙ by_none said c.args.line form adds.faultless ∙ ap (λ s. goes s) (sym adds.said),
       adds.draft,
     )
@@ -60,12 +60,12 @@ returns-in_ok-add-in-Some-clause-judged c =
 pub returns-in_err-add-in-Some-clause-refused : goal.returns-in_err-add-in-Some-clause-refused
 returns-in_err-add-in-Some-clause-refused c =
     let d : Bor (List ℕ) = record { ref_ptr = (0, 0); now = [] } in
-    let said = said_of c.args.kind c.args.draft.now in
+    let said = said_of c.args.header.kind c.args.draft.now in
     let form = form_of c.in-Some.form in
-    let verdict = verdict_on c.args.kind said c.args.line (texts_of c.args.tokens.now) in
+    let verdict = verdict_on c.args.header.kind c.args.header.format said c.args.line (texts_of c.args.tokens.now) in
     let same : verdict ≡ of_form said c.args.line (Some form) =
-    verdict_form c.args.kind said c.args.line c.args.tokens.now d c.in-len1-up.len_at_least (sym c.requires.bad ∙ c.if-found.false) (sym c.is_end.ensures ∙ c.if-is_end.false)
-    ∙ ap (λ rest. of_form said c.args.line (form_behind c.args.kind (get_or c.args.tokens.now 0 d).now (texts_of rest))) (sym (take_rest c.args.tokens.now 1))
-    ∙ ap (of_form said c.args.line) (sym c.form_behind.ensures ∙ ap (option_map form_of) c.in-Some.is) in
+    verdict_form c.args.header.kind c.args.header.format said c.args.line c.args.tokens.now d c.in-len1-up.len_at_least (sym c.requires.bad ∙ c.if-found.false) (sym c.is_end.ensures ∙ c.if-is_end.false)
+    ∙ ap (λ rest. of_form said c.args.line (form_under c.args.header.kind c.args.header.format (get_or c.args.tokens.now 0 d).now (texts_of rest))) (sym (take_rest c.args.tokens.now 1))
+    ∙ ap (of_form said c.args.line) (sym c.form_under.ensures ∙ ap (option_map form_of) c.in-Some.is) in
     on_err (IsRefusedBy verdict c.args.line) c.from_residual.result c.in_err-add-in-Some.field-0.0 c.from_residual.ensures.1
     (refused_line said c.args.line form verdict same c.in_err-add-in-Some.field-0.0 c.in_err-add-in-Some.ensures.fault)

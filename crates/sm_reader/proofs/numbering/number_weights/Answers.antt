@@ -8,12 +8,12 @@ use Rattle.sm_reader.proofs.numbering.number_weights.Goals as goal
 
 pub number_pair-proposer-requires-clause-in_range : goal.number_pair-proposer-requires-clause-in_range
 number_pair-proposer-requires-clause-in_range c =
-    let d : Weight = record { pair = record { proposer = 0; reviewer = 0; line = 0 }; weight = pos 0 } in
+    let d : Weight = record { pair = record { proposer = 0; reviewer = 0; line = 0 }; weight = pos 0; second = pos 0 } in
     pairs_below_in (λ (w : Weight). w.pair) (length c.args.proposers.now.texts) (length c.args.reviewers.now.texts) c.args.weights.now c.weights.weight-index d c.requires.in_range c.weights-test.true
 
 pub weights-preserved : goal.weights-preserved
 weights-preserved c =
-    let d : Weight = record { pair = record { proposer = 0; reviewer = 0; line = 0 }; weight = pos 0 } in
+    let d : Weight = record { pair = record { proposer = 0; reviewer = 0; line = 0 }; weight = pos 0; second = pos 0 } in
     let p = c.args.proposers.now in
     let r = c.args.reviewers.now in
     let xs = c.args.weights.now in

@@ -1,4 +1,4 @@
-use Rattle.std.proofs.Common.{◌<◌, ◌≤◌, length, ap, ◌∙◌, sym, refl, arith}
+use Rattle.std.proofs.Common.{ℕ, ◌<◌, ◌≤◌, length, ap, ◌∙◌, sym, refl, arith}
 use Rattle.std.specs.Option.{option_map_or}
 use Rattle.std.proofs.lemmas.Bool.Decides.{nat_tests}
 use Rattle.sm_text.specs.declared.refusal.RefusalKind.TheVariants.{BadHeader}
@@ -24,13 +24,13 @@ returns-in-Some-clause-heading c =
     let e = c.is_empty.ensures in
     let t = c.if-is_empty.false in
     heading_of-form c.args.tokens.now (let h : 1 ≤ length c.args.tokens.now = grind (arith, nat_tests) in h) (sym c.requires ∙ c.if-bad.false)
-    ∙ ap (λ o. option_map_or (λ (kind : Kind). heads kind) o (faces BadHeader)) (sym c.header_of.ensures ∙ c.in-Some.is)
+    ∙ ap (λ o. option_map_or (λ (header : Kind × ℕ). heads header.0 header.1) o (faces BadHeader)) (sym c.header_of.ensures ∙ c.in-Some.is)
 
 pub returns-in-None-clause-fault : goal.returns-in-None-clause-fault
 returns-in-None-clause-fault c =
     let e = c.is_empty.ensures in
     let t = c.if-is_empty.false in (
       heading_of-form c.args.tokens.now (let h : 1 ≤ length c.args.tokens.now = grind (arith, nat_tests) in h) (sym c.requires ∙ c.if-bad.false)
-          ∙ ap (λ o. option_map_or (λ (kind : Kind). heads kind) o (faces BadHeader)) (sym c.header_of.ensures ∙ c.in-None.is),
+          ∙ ap (λ o. option_map_or (λ (header : Kind × ℕ). heads header.0 header.1) o (faces BadHeader)) (sym c.header_of.ensures ∙ c.in-None.is),
       refl,
     )

@@ -29,4 +29,4 @@ returns-clause-fault c =
     let headed = c.in_ok-header.ensures.header in
     let h = c.in_ok-header.header in
     if_err _ (IsTextFault bytes) c.read_lines.result c.read_lines.ensures.fault
-    (λ f e. text_fault bytes (behind_header h.kind h.line nothing (h.line + 1) h.next (lines (drop h.next bytes))) f (instance_text-short bytes (omega arith) ∙ headed.means) e)
+    (λ f e. text_fault bytes (behind_header h.kind h.format h.line nothing (h.line + 1) h.next (lines (drop h.next bytes))) f (instance_text-short bytes (omega arith) ∙ headed.means) e)

@@ -8,6 +8,7 @@ use Rattle.sm_text.specs.Slices.{texts_of}
 use Rattle.sm_reader.specs.Draft.{said_of, IsDraft, IsRefusedBy}
 use Rattle.sm_reader.specs.Reading.{IsFaultOf}
 use Rattle.sm_reader.specs.declared.draft.Draft.{Draft}
+use Rattle.sm_reader.specs.declared.faults.TextFault.TheVariants.{OutOfMemory}
 use Rattle.sm_reader.specs.Right.{IsRight}
 use Rattle.sm_reader.proofs.ReadingLemmas.{goes_step, stops_step, refuses_step, ended_ok, ended_err, same_fault}
 use Rattle.sm_reader.proofs.RightLemmas.{nothing_right, goes_right}
@@ -18,7 +19,7 @@ pub lines-init : goal.lines-init
 lines-init c =
     let h = c.args.header in
     record {
-      means = ap (λ s. behind_header h.kind h.line s (h.line + 1) h.next (lines (drop h.next c.args.bytes.now))) (c.in_ok-draft.ensures.said h.kind);
+      means = ap (λ s. behind_header h.kind h.format h.line s (h.line + 1) h.next (lines (drop h.next c.args.bytes.now))) (c.in_ok-draft.ensures.said h.kind);
       right = subst (IsRight h.kind) (sym (c.in_ok-draft.ensures.said h.kind)) (nothing_right h.kind);
       draft = c.in_ok-draft.ensures.draft h.kind (h.line + 1) (omega (arith, c.requires.headed.first));
       fits = omega (arith, c.requires.headed.fits);
@@ -34,13 +35,19 @@ lines-preserved c =
     let toks : texts_of c.deref.result.now ≡ tokens c.in-Some.text.now = ap texts_of c.deref.ensures.value ∙ c.in_ok-found.ensures.cut in
     let judged = rw c.in-Goes.is at c.in_ok-judge.ensures.judged in
     record {
-      means = sym (goes_step bytes c.in-Some.text.now c.lines.at c.in-Some.next c.in-Some.ensures.line h.kind h.line said c.lines.line (said_of h.kind c.judge.new.draft)
-          (ap (verdict_on h.kind said c.lines.line) (sym toks) ∙ judged.0)) ∙ c.lines.invariant.means;
+      means = sym (goes_step bytes c.in-Some.text.now c.lines.at c.in-Some.next c.in-Some.ensures.line h.kind h.format h.line said c.lines.line (said_of h.kind c.judge.new.draft)
+          (ap (verdict_on h.kind h.format said c.lines.line) (sym toks) ∙ judged.0)) ∙ c.lines.invariant.means;
       draft = judged.1;
-      right = goes_right h.kind said c.lines.line (tokens c.in-Some.text.now) (said_of h.kind c.judge.new.draft) c.lines.invariant.right (ap (verdict_on h.kind said c.lines.line) (sym toks) ∙ judged.0);
+      right = goes_right h.kind h.format said c.lines.line (tokens c.in-Some.text.now) (said_of h.kind c.judge.new.draft) c.lines.invariant.right (ap (verdict_on h.kind h.format said c.lines.line) (sym toks) ∙ judged.0);
       fits = omega (arith, c.lines.invariant.fits, c.in-Some.ensures.later);
       within = c.in-Some.ensures.within;
     }
+
+pub returns-in_err-found-clause-fault : goal.returns-in_err-found-clause-fault
+returns-in_err-found-clause-fault c =
+    let h = c.args.header in
+    let meaning = behind_header h.kind h.format h.line nothing (h.line + 1) h.next (lines (drop h.next c.args.bytes.now)) in
+    on_err (IsFaultOf meaning) c.from_residual-in_err-found.result OutOfMemory c.from_residual-in_err-found.ensures.1 tt
 
 pub returns-in_err-judge-clause-fault : goal.returns-in_err-judge-clause-fault
 returns-in_err-judge-clause-fault c =
@@ -48,12 +55,12 @@ returns-in_err-judge-clause-fault c =
     let bytes = c.args.bytes.now in
     let said = said_of h.kind c.lines.draft in
     let toks : texts_of c.deref.result.now ≡ tokens c.in-Some.text.now = ap texts_of c.deref.ensures.value ∙ c.in_ok-found.ensures.cut in
-    let meaning = behind_header h.kind h.line nothing (h.line + 1) h.next (lines (drop h.next bytes)) in
+    let meaning = behind_header h.kind h.format h.line nothing (h.line + 1) h.next (lines (drop h.next bytes)) in
     let f = c.in_err-judge.field-0.0 in
-    let refused = subst (λ ts. IsRefusedBy (verdict_on h.kind said c.lines.line ts) c.lines.line f) toks c.in_err-judge.ensures.refused in
+    let refused = subst (λ ts. IsRefusedBy (verdict_on h.kind h.format said c.lines.line ts) c.lines.line f) toks c.in_err-judge.ensures.refused in
     on_err (IsFaultOf meaning) c.from_residual-in_err-judge.result f c.from_residual-in_err-judge.ensures.1
-    (same_fault meaning (behind_header h.kind h.line said c.lines.line c.lines.at (lines (drop c.lines.at bytes))) f (sym c.lines.invariant.means)
-    (refuses_step bytes c.in-Some.text.now c.lines.at c.in-Some.next c.in-Some.ensures.line h.kind h.line said c.lines.line f refused))
+    (same_fault meaning (behind_header h.kind h.format h.line said c.lines.line c.lines.at (lines (drop c.lines.at bytes))) f (sym c.lines.invariant.means)
+    (refuses_step bytes c.in-Some.text.now c.lines.at c.in-Some.next c.in-Some.ensures.line h.kind h.format h.line said c.lines.line f refused))
 
 pub returns-in_err-input-in-Stops-clause-fault : goal.returns-in_err-input-in-Stops-clause-fault
 returns-in_err-input-in-Stops-clause-fault c =
@@ -64,10 +71,10 @@ returns-in_err-input-in-Stops-clause-fault c =
     let said = said_of h.kind old in
     let toks : texts_of c.deref.result.now ≡ tokens c.in-Some.text.now = ap texts_of c.deref.ensures.value ∙ c.in_ok-found.ensures.cut in
     let judged = rw c.in-Stops.is at c.in_ok-judge.ensures.judged in
-    let meaning = behind_header h.kind h.line nothing (h.line + 1) h.next (lines (drop h.next bytes)) in
+    let meaning = behind_header h.kind h.format h.line nothing (h.line + 1) h.next (lines (drop h.next bytes)) in
     let means : meaning ≡ ended h.kind h.line (said_of h.kind new) c.in-Some.next (c.lines.line + 1) =
     sym c.lines.invariant.means
-    ∙ stops_step bytes c.in-Some.text.now c.lines.at c.in-Some.next c.in-Some.ensures.line h.kind h.line said c.lines.line (ap (verdict_on h.kind said c.lines.line) (sym toks) ∙ judged.0)
+    ∙ stops_step bytes c.in-Some.text.now c.lines.at c.in-Some.next c.in-Some.ensures.line h.kind h.format h.line said c.lines.line (ap (verdict_on h.kind h.format said c.lines.line) (sym toks) ∙ judged.0)
     ∙ ap (λ d. ended h.kind h.line (said_of h.kind d) c.in-Some.next (c.lines.line + 1)) (sym judged.1) in
     let f = c.in_err-input-in-Stops.field-0.0 in
     on_err (IsFaultOf meaning) c.from_residual-in_err-input-in-Stops.result f c.from_residual-in_err-input-in-Stops.ensures.1
@@ -84,7 +91,7 @@ returns-in-Stops-clause-read c =
     let toks : texts_of c.deref.result.now ≡ tokens c.in-Some.text.now = ap texts_of c.deref.ensures.value ∙ c.in_ok-found.ensures.cut in
     let judged = rw c.in-Stops.is at c.in_ok-judge.ensures.judged in
     sym c.lines.invariant.means
-    ∙ stops_step bytes c.in-Some.text.now c.lines.at c.in-Some.next c.in-Some.ensures.line h.kind h.line said c.lines.line (ap (verdict_on h.kind said c.lines.line) (sym toks) ∙ judged.0)
+    ∙ stops_step bytes c.in-Some.text.now c.lines.at c.in-Some.next c.in-Some.ensures.line h.kind h.format h.line said c.lines.line (ap (verdict_on h.kind h.format said c.lines.line) (sym toks) ∙ judged.0)
     ∙ ap (λ d. ended h.kind h.line (said_of h.kind d) c.in-Some.next (c.lines.line + 1)) (sym judged.1)
     ∙ ended_ok h.kind h.line new c.in-Some.next (c.lines.line + 1) c.in_ok-input-in-Stops.input c.in_ok-input-in-Stops.ensures.finished
 

@@ -9,3 +9,6 @@ returns-clause-roommates c = texts_mean.6
 
 pub returns-clause-returns : goal.returns-clause-returns
 returns-clause-returns c = texts_mean.7
+
+pub returns-clause-second : goal.returns-clause-second
+returns-clause-second c = texts_mean.10

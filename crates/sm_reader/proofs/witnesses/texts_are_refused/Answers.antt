@@ -15,3 +15,9 @@ returns-clause-hospitals c = texts_mean.3
 
 pub returns-clause-earlier : goal.returns-clause-earlier
 returns-clause-earlier c = texts_mean.4
+
+pub returns-clause-added : goal.returns-clause-added
+returns-clause-added c = texts_mean.8
+
+pub returns-clause-second : goal.returns-clause-second
+returns-clause-second c = texts_mean.9
