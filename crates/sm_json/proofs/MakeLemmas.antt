@@ -1,5 +1,6 @@
 -- Values that are made one after another.
-use Rattle.std.proofs.Common.{◌≡◌, ◌≢◌, ℕ, zero, suc, ◌+◌, ◌<◌, ◌≤◌, ◌==◌, Bool, true, false, ◌&&◌, ◌||◌, nat_le, List, [], ◌∷◌, ◌++◌, length, map, take, get_or, All, Vec, Global, IsUtf8, IsAscii, refl, sym, ap, ◌∙◌, subst, arith, eqb-true, leb-true, codes, Option, Some, None, is_some, if◌then◌else◌, nat_eq, ℤ, pos, Result, Ok, Err, OnOk, IfOk}
+use Rattle.std.proofs.Common.{◌≡◌, ◌≢◌, ℕ, zero, suc, ◌+◌, ◌<◌, ◌≤◌, ◌==◌, Bool, true, false, ◌&&◌, ◌||◌, nat_le, List, [], ◌∷◌, ◌++◌, length, map, take, get_or, All, Vec, Global, IsUtf8, IsAscii, refl, sym, ap, ◌∙◌, subst, arith, eqb-true, leb-true, codes, Option, Some, None, is_some, if◌then◌else◌, nat_eq, ℤ, pos, negsuc, w64, Result, Ok, Err, OnOk, IfOk}
+use Rattle.std.specs.Int.RustNames.{unsigned_abs, FitsSigned}
 use Rattle.std.specs.List.{list_all, range_with_len, zip}
 use Rattle.std.proofs.lemmas.Slice.Zip.{length-zip, get_or-zip}
 use Rattle.std.specs.Cmp.Lexicographic.{pointwise}
@@ -7,6 +8,7 @@ use Rattle.std.proofs.lemmas.Bool.{false≢true}
 use Rattle.std.specs.declared.alloc.AllocError.{AllocError}
 use Rattle.std.proofs.lemmas.List.{take_all, map_more, get_or_default, get_or-map, length-map}
 use Rattle.std.proofs.lemmas.Str.{IsUtf8-from_ascii}
+use Rattle.sm_text.specs.Limits.{most_weight}
 use Rattle.sm_text.specs.Name.{begins_name, is_digit, is_letter, is_name, is_name_byte}
 use Rattle.sm_report.proofs.DecimalLemmas.{first_true, second_true}
 use Rattle.sm_report.proofs.FieldInverses.{name_bytes}
@@ -27,7 +29,7 @@ use Rattle.sm_printed.proofs.FormatLemmas.{zero_is}
 use Rattle.sm_printed.proofs.ItemLemmas.{weight_there, force_there, forbid_there}
 use Rattle.sm_instance.specs.declared.inputs.Input.TheVariants.{Two}
 use Rattle.sm_printed.specs.Names.{name_of, said_agent, said_pair, said_weight, said_of}
-use Rattle.sm_json.specs.Making.{array_of, agent_json, pair_json, weight_json, order_json, with_order, kind_name, two_json, said_by, put_if, put_order, sides_put, conditions_put, unless_empty, AreNamed, AreListed, AreAllListed}
+use Rattle.sm_json.specs.Making.{array_of, agent_json, pair_json, weight_json, with_order, kind_name, two_json, said_by, put_if, put_order, sides_put, conditions_put, unless_empty, AreNamed, AreListed, AreAllListed}
 
 map_joined : {A B : Type 0} (f : A → B) (xs ys : List A) → map f (xs ++ ys) ≡ map f xs ++ map f ys
 map_joined f [] ys = refl
@@ -227,3 +229,8 @@ made_next {A} {B} f xs zs i d e made new v each below so_far here grown =
     let inside : i < length (zip xs zs) = let long = zip_long xs zs each in omega (arith, long, below) in
     let both : A × B = get_or (zip xs zs) i (d, e) in
     made_more f (zip xs zs) i both made new v inside (get_or_default (zip xs zs) i (d, e) both inside) so_far (here ∙ ap f (sym (get_or-zip xs zs i (d, e) below within))) grown
+
+-- a small number fits
+pub small_fits : (z : ℤ) → unsigned_abs z ≤ most_weight → FitsSigned w64 z
+small_fits (pos n) h = let l : n < 9223372036854775808 = omega (arith, h) in record { sfits = l }
+small_fits (negsuc n) h = let l : n < 9223372036854775808 = omega (arith, h) in record { sfits = l }

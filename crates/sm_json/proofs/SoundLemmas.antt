@@ -58,7 +58,8 @@ module _ (w : Written) (sound : IsInstance w) where
   pair_said : (p r : ℕ) → p < length w.proposers → r < length w.reviewers → IsSaidPair (said_pair w.proposers w.reviewers (p, r))
   pair_said p r left right = record { proposer = (sound.proposers.sound p left).name; reviewer = (sound.reviewers.sound r right).name; line = refl }
 
-  weight_small : (n : ℕ) (d : ℕ × ℕ × ℤ) → n < length w.weights → unsigned_abs (get_or w.weights n d).2 ≤ most_weight
+  -- weights are small
+  pub weight_small : (n : ℕ) (d : ℕ × ℕ × ℤ) → n < length w.weights → unsigned_abs (get_or w.weights n d).2 ≤ most_weight
   weight_small n d below =
       subst (λ (x : ℕ × ℕ × ℤ). unsigned_abs x.2 ≤ most_weight) (get_or_default w.weights n (0, 0, pos 0) d below)
       ((sound.items n (omega (arith, length-items w.weights w.forced w.forbidden))).size below)

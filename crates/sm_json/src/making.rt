@@ -58,18 +58,9 @@ fn two_value(alloc: Global, instance: &Instance) -> Result<Value, AllocError>
 {
     let proposers = instance.proposers();
     let reviewers = instance.reviewers();
-    let weights = instance.weights();
-    let seconds = instance.seconds();
     let forced = instance.forced();
     let forbidden = instance.forbidden();
-    let mut members = sides_and_weights(
-        alloc,
-        instance.kind(),
-        proposers,
-        reviewers,
-        weights,
-        seconds,
-    )?;
+    let mut members = sides_and_weights(alloc, instance.kind(), proposers, reviewers, instance)?;
     put_order(alloc, &mut members, instance)?;
     with_conditions(alloc, members, proposers, reviewers, forced, forbidden)
 }
@@ -80,22 +71,21 @@ fn sides_and_weights(
     kind: Kind,
     proposers: &[Agent],
     reviewers: &[Agent],
-    weights: &[(u32, u32, i64)],
-    seconds: &[i64],
+    instance: &Instance,
 ) -> Result<Map<String, Value>, AllocError>
     requires left { AreNamed (agents_of proposers.now) }
     requires right { AreNamed (agents_of reviewers.now) }
     requires left_lists { AreAllListed (agents_of proposers.now) (length reviewers.now) }
     requires right_lists { AreAllListed (agents_of reviewers.now) (length proposers.now) }
     requires weighed { All (λ (x : ℕ × ℕ × ℤ). IsPairOf (length proposers.now)
-        (length reviewers.now) (weighed x)) weights.now }
-    requires seconds { length seconds.now ≡ length weights.now }
+        (length reviewers.now) (weighed x)) instance.now.weights }
+    requires instance { IsInstance instance.now }
     ensures { IfOk result (λ members. members_view members.entries
         ≡ sides_put kind (agents_of proposers.now) (agents_of reviewers.now)
-        (zip weights.now seconds.now)) }
+        (zip instance.now.weights instance.now.seconds)) }
 {
     let mut members = Map::new(alloc);
-    put_weights(alloc, &mut members, proposers, reviewers, weights, seconds)?;
+    put_weights(alloc, &mut members, proposers, reviewers, instance)?;
     let list = agents_value(alloc, reviewers, proposers, has_capacities(kind))?;
     put(&mut members, alloc, "reviewers", list)?;
     let list = agents_value(alloc, proposers, reviewers, false)?;
@@ -277,54 +267,57 @@ fn name_value(alloc: Global, name: &[u8]) -> Result<Value, AllocError>
     Ok(Value::String(String::from_utf8(bytes).unwrap()))
 }
 
-/// Puts the weights into an object, where there are some.
+/// Puts the weights of an instance into an object, where there are some.
 fn put_weights(
     alloc: Global,
     members: &mut Map<String, Value>,
     proposers: &[Agent],
     reviewers: &[Agent],
-    weights: &[(u32, u32, i64)],
-    seconds: &[i64],
+    instance: &Instance,
 ) -> Result<(), AllocError>
     requires proposers { AreNamed (agents_of proposers.now) }
     requires reviewers { AreNamed (agents_of reviewers.now) }
     requires pairs { All (λ (x : ℕ × ℕ × ℤ). IsPairOf (length proposers.now)
-        (length reviewers.now) (weighed x)) weights.now }
-    requires seconds { length seconds.now ≡ length weights.now }
+        (length reviewers.now) (weighed x)) instance.now.weights }
+    requires instance { IsInstance instance.now }
     ensures { OnOk result (members_view members.new.entries ≡ put_if (codes "weights") weight_json
         (map (said_weight (agents_of proposers.now) (agents_of reviewers.now))
-        (zip weights.now seconds.now)) (members_view members.old.entries)) }
+        (zip instance.now.weights instance.now.seconds)) (members_view members.old.entries)) }
 {
+    let weights = instance.weights();
     if weights.is_empty() {
         return Ok(());
     }
     let mut list = Vec::new(alloc);
-    'weights: for n in 0..weights.len() {
-        let value = weight_at(alloc, proposers, reviewers, weights, seconds, n)?;
+    'numbers: for n in 0..weights.len() {
+        let value = weight_at(alloc, proposers, reviewers, instance, n)?;
         push(&mut list, value)?;
     }
     put(members, alloc, "weights", Value::Array(list))
 }
 
-/// The value of the weights of a number.
+/// The value of the weight of a number.
 fn weight_at(
     alloc: Global,
     proposers: &[Agent],
     reviewers: &[Agent],
-    weights: &[(u32, u32, i64)],
-    seconds: &[i64],
+    instance: &Instance,
     n: usize,
 ) -> Result<Value, AllocError>
     requires proposers { AreNamed (agents_of proposers.now) }
     requires reviewers { AreNamed (agents_of reviewers.now) }
     requires pairs { All (λ (x : ℕ × ℕ × ℤ). IsPairOf (length proposers.now)
-        (length reviewers.now) (weighed x)) weights.now }
-    requires weight { n < length weights.now }
-    requires second { n < length seconds.now }
+        (length reviewers.now) (weighed x)) instance.now.weights }
+    requires instance { IsInstance instance.now }
+    requires there { n < length instance.now.weights }
     ensures { IfOk result (λ value. view value ≡ weight_json
-        (said_weight (agents_of proposers.now) (agents_of reviewers.now)
-        (slice_index_or weights.now n (0, 0, pos 0), slice_index_or seconds.now n (pos 0)))) }
+        (said_weight (agents_of proposers.now) (agents_of reviewers.now) (
+          slice_index_or instance.now.weights n (0, 0, pos 0),
+          slice_index_or instance.now.seconds n (pos 0),
+        ))) }
 {
+    let weights = instance.weights();
+    let seconds = instance.seconds();
     weight_value(alloc, proposers, reviewers, weights[n], seconds[n])
 }
 

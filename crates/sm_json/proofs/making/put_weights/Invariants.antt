@@ -7,5 +7,6 @@ use Rattle.sm_json.specs.Making.{weight_json}
 use Rattle.sm_json.proofs.making.put_weights.Given as goal
 
 -- the values so far
-abbrev pub invariant-weights : goal.invariant-weights
-invariant-weights l = map view l.list.items ≡ map (λ x. weight_json (said_weight (agents_of l.proposers) (agents_of l.reviewers) x)) (take l.n (zip l.weights l.seconds))
+abbrev pub invariant-numbers : goal.invariant-numbers
+invariant-numbers l =
+    map view l.list.items ≡ map (λ x. weight_json (said_weight (agents_of l.proposers) (agents_of l.reviewers) x)) (take l.n (zip l.instance.weights l.instance.seconds))
