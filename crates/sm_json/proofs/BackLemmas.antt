@@ -1,21 +1,24 @@
 -- The value of an instance gives its parts again.
-use Rattle.std.proofs.Common.{◌≡◌, ◌≢◌, ℕ, ◌≤◌, Bool, true, false, le-leb, List, [], ◌∷◌, map, All, Option, Some, None, option_map, if◌then◌else◌, refl, sym, ap, ◌∙◌, append-nil, ℤ, pos, negsuc}
+use Rattle.std.proofs.Common.{◌≡◌, ◌≢◌, ℕ, ◌≤◌, ◌==◌, ◌||◌, not, length, codes, ◌++◌, is_some, Bool, true, false, le-leb, List, [], ◌∷◌, map, All, Option, Some, None, option_map, if◌then◌else◌, refl, sym, ap, ◌∙◌, ℤ, pos, negsuc}
 use Rattle.std.specs.Option.{option_and_then}
 use Rattle.std.specs.Int.RustNames.{unsigned_abs}
 use Rattle.std.specs.List.{list_any}
 use Rattle.std.proofs.lemmas.List.Elements.{All-head, All-tail}
-use Rattle.serde_json.specs.Data.{Data, number, string}
-use Rattle.serde_json.specs.Find.{of_integer}
+use Rattle.std.specs.Fmt.{signed_decimal}
+use Rattle.serde_json.specs.Data.{Data, number, string, object, Members, no_members, member}
+use Rattle.serde_json.specs.Find.{get, of_integer}
+use Rattle.serde_json.specs.View.{items_of}
 use Rattle.sm_text.specs.Limits.{most_capacity, most_weight}
 use Rattle.sm_text.specs.Name.{is_name}
-use Rattle.sm_instance.specs.Named.{SaidAgent, SaidPair, SaidWeight, Said}
+use Rattle.sm_instance.specs.Named.{SaidAgent, SaidPair, SaidWeight, SaidOrder, Said, names_first}
 use Rattle.sm_instance.specs.declared.kinds.Kind.{Kind}
 use Rattle.sm_instance.specs.declared.kinds.Kind.TheVariants.{Marriage, Hospitals, Roommates}
-use Rattle.sm_printed.specs.Printed.{proposer_line, reviewer_line, weight_line, printed_lines}
-use Rattle.sm_json.specs.Values.{items_in, every, name_in, names_in, if_capacity, weight_in}
-use Rattle.sm_json.specs.Parts.{JsonWeight, JsonInstance, agent_of, agent_in, agents_in, pair_in, pairs_in, weight_of, pair_weight_in, weights_in, instance_of, instance_in, by_member, of_parts, has_capacities, has_four, asks_second}
+use Rattle.sm_printed.specs.Printed.{is_zero, second_text, order_lines, pair_text, proposer_line, reviewer_line, weight_line, printed_lines}
+use Rattle.sm_json.specs.Values.{items_in, list_of, every, name_in, names_in, if_capacity, weight_in}
+use Rattle.sm_json.specs.Parts.{JsonWeight, JsonInstance, agent_of, agent_in, agents_in, pair_in, pairs_in, weight_of, second_in, pair_weight_in, weights_in, instance_of, instance_in, kind_in, of_kind, two_in, order_in, by_member, of_parts, has_capacities, has_four, asks_second}
 use Rattle.sm_json.specs.JsonText.{json_lines, json_weight_line}
-use Rattle.sm_json.specs.Making.{array_of, agent_json, pair_json, weight_json, two_json, room_json}
+use Rattle.sm_json.specs.JsonText.{second_text as json_second, order_lines as json_order}
+use Rattle.sm_json.specs.Making.{array_of, agent_json, pair_json, second_json, weight_json, order_json, with_order, unless_empty, kind_name, two_json, room_json}
 use Rattle.sm_json.proofs.AddLemmas.{list_again}
 use Rattle.sm_json.specs.Saying.{IsSaidAgent, IsSaidPair, IsSaidWeight, IsSaid}
 
@@ -74,17 +77,29 @@ pairs_again : (pairs : List SaidPair) → All IsSaidPair pairs → pairs_in (arr
 pairs_again pairs sound = array_again IsSaidPair pair_json pair_in (λ pair. pair) pair_again pairs sound ∙ ap Some (map_same pairs)
 
 -- a weight
+abbrev second_of : ℤ → Option ℤ
+second_of z = if is_zero z then None else Some z
+
 abbrev weighed : SaidWeight → JsonWeight
-weighed x = weight_of x.pair x.weight None
+weighed x = weight_of x.pair x.weight (second_of x.second)
 
 whole_again : (z : ℤ) → unsigned_abs z ≤ most_weight → weight_in (number (of_integer z)) ≡ Some z
 whole_again (pos n) h = ap (λ t. if t then Some (pos n) else None) (le-leb n most_weight h)
 whole_again (negsuc n) h = ap (λ t. if t then Some (negsuc n) else None) (le-leb (unsigned_abs (negsuc n)) most_weight h)
 
+second_again : (z : ℤ) → unsigned_abs z ≤ most_weight → second_in (list_of (items_of (second_json z))) ≡ Some (second_of z)
+second_again z h = by_test (is_zero z)
+  where
+    by_test : (t : Bool) → second_in (list_of (items_of (if t then [] else number (of_integer z) ∷ []))) ≡ Some (if t then None else Some z)
+    by_test true = refl
+    by_test false = ap (option_map Some) (whole_again z h)
+
 weight_again : (x : SaidWeight) → IsSaidWeight x → pair_weight_in (weight_json x) ≡ Some (weighed x)
 weight_again x sound =
-    ap (option_and_then (λ pair. option_and_then (λ w. Some (weight_of pair w None)) (weight_in (number (of_integer x.weight))))) (pair_again x.pair sound.pair)
-    ∙ ap (option_and_then (λ w. Some (weight_of x.pair w None))) (whole_again x.weight sound.size)
+    let more : List Data = list_of (items_of (second_json x.second)) in
+    ap (option_and_then (λ pair. option_and_then (λ w. option_map (weight_of pair w) (second_in more)) (weight_in (number (of_integer x.weight))))) (pair_again x.pair sound.pair)
+    ∙ ap (option_and_then (λ w. option_map (weight_of x.pair w) (second_in more))) (whole_again x.weight sound.size)
+    ∙ ap (option_map (weight_of x.pair x.weight)) (second_again x.second sound.second_size)
 
 weights_again : (weights : List SaidWeight) → All IsSaidWeight weights → weights_in (array_of weight_json weights) ≡ Some (map weighed weights)
 weights_again weights sound = array_again IsSaidWeight weight_json pair_weight_in weighed weight_again weights sound
@@ -102,59 +117,123 @@ weights_if : (weights : List SaidWeight) → All IsSaidWeight weights → by_mem
 weights_if [] sound = refl
 weights_if (x ∷ xs) sound = weights_again (x ∷ xs) sound
 
+-- so does that of an order
+abbrev order_if : Option SaidOrder → Option Data
+order_if order = option_map order_json order
+
+-- the names of an order
+abbrev order_names : Option SaidOrder → Option (List (List ℕ))
+order_names order = option_map (λ (o : SaidOrder). o.names) order
+
+order_again : (order : Option SaidOrder) → All (λ name. is_name name ≡ true) (names_first order) → by_member None order_in (order_if order) ≡ Some (order_names order)
+order_again None sound = refl
+order_again (Some order) sound = ap (option_map Some) (names_again order.names sound)
+
+-- whether the text is of the second format
+abbrev is_second : Said → Bool
+is_second said = asks_second (member_if weight_json said.weights) (order_if said.order)
+
 -- the parts of the value of an instance with two sides
 abbrev parts_of : Kind → Said → Option JsonInstance
 parts_of kind said =
-    of_parts kind (asks_second (member_if weight_json said.weights) None) (agents_in false (array_of (agent_json false) said.proposers)) (agents_in (has_capacities kind) (array_of (agent_json (has_capacities kind)) said.reviewers))
+    of_parts kind (is_second said) (agents_in false (array_of (agent_json false) said.proposers)) (agents_in (has_capacities kind) (array_of (agent_json (has_capacities kind)) said.reviewers))
     (by_member [] weights_in (member_if weight_json said.weights)) (by_member [] pairs_in (member_if pair_json said.forced)) (by_member [] pairs_in (member_if pair_json said.forbidden))
-    (Some None)
+    (by_member None order_in (order_if said.order))
 
-found_by : (kind : Kind) (said : Said) (weights : List SaidWeight) (forced forbidden : List SaidPair) → said.weights ≡ weights → said.forced ≡ forced → said.forbidden ≡ forbidden
-    → kind ≢ Roommates → (instance_in (two_json kind said) ≡ parts_of kind said)
-found_by Marriage said [] [] [] w f b two = rw (w, f, b) refl
-found_by Marriage said [] [] (z ∷ zs) w f b two = rw (w, f, b) refl
-found_by Marriage said [] (y ∷ ys) [] w f b two = rw (w, f, b) refl
-found_by Marriage said [] (y ∷ ys) (z ∷ zs) w f b two = rw (w, f, b) refl
-found_by Marriage said (x ∷ xs) [] [] w f b two = rw (w, f, b) refl
-found_by Marriage said (x ∷ xs) [] (z ∷ zs) w f b two = rw (w, f, b) refl
-found_by Marriage said (x ∷ xs) (y ∷ ys) [] w f b two = rw (w, f, b) refl
-found_by Marriage said (x ∷ xs) (y ∷ ys) (z ∷ zs) w f b two = rw (w, f, b) refl
-found_by Hospitals said [] [] [] w f b two = rw (w, f, b) refl
-found_by Hospitals said [] [] (z ∷ zs) w f b two = rw (w, f, b) refl
-found_by Hospitals said [] (y ∷ ys) [] w f b two = rw (w, f, b) refl
-found_by Hospitals said [] (y ∷ ys) (z ∷ zs) w f b two = rw (w, f, b) refl
-found_by Hospitals said (x ∷ xs) [] [] w f b two = rw (w, f, b) refl
-found_by Hospitals said (x ∷ xs) [] (z ∷ zs) w f b two = rw (w, f, b) refl
-found_by Hospitals said (x ∷ xs) (y ∷ ys) [] w f b two = rw (w, f, b) refl
-found_by Hospitals said (x ∷ xs) (y ∷ ys) (z ∷ zs) w f b two = rw (w, f, b) refl
-found_by Roommates said weights forced forbidden w f b two = absurd (two refl)
+-- an object with these members
+abbrev object_of : (K P R : Data) → List SaidWeight → (forced forbidden : List SaidPair) → Option SaidOrder → Data
+object_of K P R weights forced forbidden order =
+    object (unless_empty (codes "forbidden") pair_json forbidden (unless_empty (codes "forced") pair_json forced (member (codes "kind") K
+    (with_order order (member (codes "proposers") P (member (codes "reviewers") R (unless_empty (codes "weights") weight_json weights no_members)))))))
 
--- no weight has a second one
-none_four : (weights : List SaidWeight) → list_any has_four (map weight_json weights) ≡ false
-none_four [] = refl
-none_four (x ∷ xs) = none_four xs
+-- they are found
+members_found : (kind : Kind) (K P R : Data) (weights : List SaidWeight) (forced forbidden : List SaidPair) (order : Option SaidOrder)
+    → two_in kind (object_of K P R weights forced forbidden order)
+    ≡ of_parts kind (asks_second (member_if weight_json weights) (order_if order)) (agents_in false P) (agents_in (has_capacities kind) R)
+    (by_member [] weights_in (member_if weight_json weights)) (by_member [] pairs_in (member_if pair_json forced)) (by_member [] pairs_in (member_if pair_json forbidden))
+    (by_member None order_in (order_if order))
+members_found kind K P R [] [] [] None = refl
+members_found kind K P R [] [] [] (Some o) = refl
+members_found kind K P R [] [] (z ∷ zs) None = refl
+members_found kind K P R [] [] (z ∷ zs) (Some o) = refl
+members_found kind K P R [] (y ∷ ys) [] None = refl
+members_found kind K P R [] (y ∷ ys) [] (Some o) = refl
+members_found kind K P R [] (y ∷ ys) (z ∷ zs) None = refl
+members_found kind K P R [] (y ∷ ys) (z ∷ zs) (Some o) = refl
+members_found kind K P R (x ∷ xs) [] [] None = refl
+members_found kind K P R (x ∷ xs) [] [] (Some o) = refl
+members_found kind K P R (x ∷ xs) [] (z ∷ zs) None = refl
+members_found kind K P R (x ∷ xs) [] (z ∷ zs) (Some o) = refl
+members_found kind K P R (x ∷ xs) (y ∷ ys) [] None = refl
+members_found kind K P R (x ∷ xs) (y ∷ ys) [] (Some o) = refl
+members_found kind K P R (x ∷ xs) (y ∷ ys) (z ∷ zs) None = refl
+members_found kind K P R (x ∷ xs) (y ∷ ys) (z ∷ zs) (Some o) = refl
 
-none_second : (weights : List SaidWeight) → asks_second (member_if weight_json weights) None ≡ false
-none_second [] = refl
-none_second (x ∷ xs) = ap (list_any has_four) (list_again (map weight_json (x ∷ xs))) ∙ none_four (x ∷ xs)
+kind_found : (K : Data) (forced forbidden : List SaidPair) (ms : Members)
+    → get (codes "kind") (object (unless_empty (codes "forbidden") pair_json forbidden (unless_empty (codes "forced") pair_json forced (member (codes "kind") K ms)))) ≡ Some K
+kind_found K [] [] ms = refl
+kind_found K [] (z ∷ zs) ms = refl
+kind_found K (y ∷ ys) [] ms = refl
+kind_found K (y ∷ ys) (z ∷ zs) ms = refl
+
+instance_found : (kind : Kind) (said : Said) → kind ≢ Roommates → instance_in (two_json kind said) ≡ two_in kind (two_json kind said)
+instance_found kind said two = ap (λ k. option_and_then (λ x. of_kind x d) (option_and_then kind_in k)) (kind_found (string (kind_name kind)) said.forced said.forbidden _) ∙ by_kind kind two
+  where
+    d : Data
+    d = two_json kind said
+
+    by_kind : (k : Kind) → k ≢ Roommates → option_and_then (λ x. of_kind x d) (kind_in (string (kind_name k))) ≡ two_in k d
+    by_kind Marriage h = refl
+    by_kind Hospitals h = refl
+    by_kind Roommates h = absurd (h refl)
+
+found_by : (kind : Kind) (said : Said) → kind ≢ Roommates → instance_in (two_json kind said) ≡ parts_of kind said
+found_by kind said two =
+    instance_found kind said two
+    ∙ members_found kind (string (kind_name kind)) (array_of (agent_json false) said.proposers) (array_of (agent_json (has_capacities kind)) said.reviewers) said.weights said.forced said.forbidden said.order
+
+-- a weight has four items where its second one isn't 0
+four_if : (x : SaidWeight) → has_four (weight_json x) ≡ not (is_zero x.second)
+four_if x = by_test (is_zero x.second)
+  where
+    by_test : (t : Bool) → (length (list_of (items_of (string x.pair.proposer ∷ string x.pair.reviewer ∷ number (of_integer x.weight) ∷ (if t then [] else number (of_integer x.second) ∷ [])))) == 4) ≡ not t
+    by_test true = refl
+    by_test false = refl
+
+any_four : (weights : List SaidWeight) → list_any has_four (map weight_json weights) ≡ list_any (λ (x : SaidWeight). not (is_zero x.second)) weights
+any_four [] = refl
+any_four (x ∷ xs) = ap (λ t. t || list_any has_four (map weight_json xs)) (four_if x) ∙ ap (λ t. not (is_zero x.second) || t) (any_four xs)
+
+seconded : (weights : List SaidWeight) → asks_second (member_if weight_json weights) None ≡ list_any (λ (x : SaidWeight). not (is_zero x.second)) weights
+seconded [] = refl
+seconded (x ∷ xs) = ap (list_any has_four) (list_again (map weight_json (x ∷ xs))) ∙ any_four (x ∷ xs)
+
+-- the format is the one that is needed
+format_again : (weights : List SaidWeight) (order : Option SaidOrder)
+    → asks_second (member_if weight_json weights) (order_if order) ≡ (is_some order || list_any (λ (x : SaidWeight). not (is_zero x.second)) weights)
+format_again weights None = seconded weights
+format_again weights (Some order) = refl
+
+-- the instance that is said
+abbrev pub again : Kind → Said → JsonInstance
+again kind said =
+    instance_of kind (is_second said) (map unlined said.proposers) (map unlined said.reviewers) (map weighed said.weights) said.forced said.forbidden (order_names said.order)
 
 -- all parts are there
-all_there : (kind : Kind) (said : Said) → IsSaid (has_capacities kind) said
-    → parts_of kind said ≡ Some (instance_of kind false (map unlined said.proposers) (map unlined said.reviewers) (map weighed said.weights) said.forced said.forbidden None)
+all_there : (kind : Kind) (said : Said) → IsSaid (has_capacities kind) said → parts_of kind said ≡ Some (again kind said)
 all_there kind said sound =
     rw (
-      none_second said.weights,
       agents_again false said.proposers sound.proposers,
       agents_again (has_capacities kind) said.reviewers sound.reviewers,
       weights_if said.weights sound.weights,
       pairs_if said.forced sound.forced,
       pairs_if said.forbidden sound.forbidden,
+      order_again said.order sound.order,
     ) refl
 
 -- the value of an instance with two sides
-pub two_again : (kind : Kind) (said : Said) → kind ≢ Roommates → IsSaid (has_capacities kind) said
-    → instance_in (two_json kind said) ≡ Some (instance_of kind false (map unlined said.proposers) (map unlined said.reviewers) (map weighed said.weights) said.forced said.forbidden None)
-two_again kind said two sound = found_by kind said said.weights said.forced said.forbidden refl refl refl two ∙ all_there kind said sound
+pub two_again : (kind : Kind) (said : Said) → kind ≢ Roommates → IsSaid (has_capacities kind) said → instance_in (two_json kind said) ≡ Some (again kind said)
+two_again kind said two sound = found_by kind said two ∙ all_there kind said sound
 
 -- and that of roommates
 pub room_again : (said : Said) → All (IsSaidAgent false) said.proposers
@@ -170,14 +249,24 @@ reviewers_printed : (kind : Kind) (agents : List SaidAgent) → map (reviewer_li
 reviewers_printed kind [] = refl
 reviewers_printed kind (a ∷ more) = ap (λ t. reviewer_line kind a ∷ t) (reviewers_printed kind more)
 
+second_printed : (z : ℤ) → json_second (second_of z) ≡ second_text z
+second_printed z = by_test (is_zero z)
+  where
+    by_test : (t : Bool) → json_second (if t then None else Some z) ≡ (if t then [] else codes " " ++ signed_decimal z)
+    by_test true = refl
+    by_test false = refl
+
 weights_printed : (weights : List SaidWeight) → map json_weight_line (map weighed weights) ≡ map weight_line weights
 weights_printed [] = refl
 weights_printed (x ∷ xs) =
-    ap (λ t. t ∷ map json_weight_line (map weighed xs)) (append-nil (weight_line x))
+    ap (λ t. (codes "weight " ++ pair_text x.pair ++ codes " " ++ signed_decimal x.weight ++ t) ∷ map json_weight_line (map weighed xs)) (second_printed x.second)
     ∙ ap (λ t. weight_line x ∷ t) (weights_printed xs)
 
+order_printed : (order : Option SaidOrder) → json_order (order_names order) ≡ order_lines order
+order_printed None = refl
+order_printed (Some order) = refl
+
 -- the lines of the instance again
-pub lines_again : (kind : Kind) (said : Said)
-    → json_lines (instance_of kind false (map unlined said.proposers) (map unlined said.reviewers) (map weighed said.weights) said.forced said.forbidden None) ≡ printed_lines kind said
+pub lines_again : (kind : Kind) (said : Said) → json_lines (again kind said) ≡ printed_lines kind said
 lines_again kind said =
-    rw (proposers_printed said.proposers, reviewers_printed kind said.reviewers, weights_printed said.weights) refl
+    rw (format_again said.weights said.order, proposers_printed said.proposers, reviewers_printed kind said.reviewers, weights_printed said.weights, order_printed said.order) refl

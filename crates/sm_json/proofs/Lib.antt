@@ -1,4 +1,5 @@
 pub mod AddLemmas
+pub mod HeaderLemmas
 pub mod BackLemmas
 pub mod DepthLemmas
 pub mod MakeLemmas

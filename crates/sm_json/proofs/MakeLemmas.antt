@@ -1,13 +1,19 @@
 -- Values that are made one after another.
-use Rattle.std.proofs.Common.{◌≡◌, ℕ, zero, suc, ◌+◌, ◌<◌, ◌≤◌, ◌==◌, Bool, true, false, ◌&&◌, ◌||◌, nat_le, List, [], ◌∷◌, ◌++◌, length, map, take, get_or, All, Vec, Global, IsUtf8, IsAscii, refl, sym, ap, ◌∙◌, subst, arith, eqb-true, leb-true, codes, ℤ, pos, Result, Ok, Err, OnOk, IfOk}
-use Rattle.std.specs.List.{list_all}
+use Rattle.std.proofs.Common.{◌≡◌, ◌≢◌, ℕ, zero, suc, ◌+◌, ◌<◌, ◌≤◌, ◌==◌, Bool, true, false, ◌&&◌, ◌||◌, nat_le, List, [], ◌∷◌, ◌++◌, length, map, take, get_or, All, Vec, Global, IsUtf8, IsAscii, refl, sym, ap, ◌∙◌, subst, arith, eqb-true, leb-true, codes, Option, Some, None, is_some, if◌then◌else◌, nat_eq, ℤ, pos, negsuc, w64, Result, Ok, Err, OnOk, IfOk}
+use Rattle.std.specs.Int.RustNames.{unsigned_abs, FitsSigned}
+use Rattle.std.specs.List.{list_all, range_with_len, zip}
+use Rattle.std.proofs.lemmas.Slice.Zip.{length-zip, get_or-zip}
+use Rattle.std.specs.Cmp.Lexicographic.{pointwise}
+use Rattle.std.proofs.lemmas.Bool.{false≢true}
 use Rattle.std.specs.declared.alloc.AllocError.{AllocError}
 use Rattle.std.proofs.lemmas.List.{take_all, map_more, get_or_default, get_or-map, length-map}
 use Rattle.std.proofs.lemmas.Str.{IsUtf8-from_ascii}
+use Rattle.sm_text.specs.Limits.{most_weight}
 use Rattle.sm_text.specs.Name.{begins_name, is_digit, is_letter, is_name, is_name_byte}
 use Rattle.sm_report.proofs.DecimalLemmas.{first_true, second_true}
 use Rattle.sm_report.proofs.FieldInverses.{name_bytes}
-use Rattle.serde_json.specs.Data.{Data, string, array, object, Members, no_members, member, put}
+use Rattle.serde_json.specs.Data.{Data, number, string, array, object, Members, no_members, member, put}
+use Rattle.serde_json.specs.Find.{of_integer}
 use Rattle.serde_json.specs.View.{view, items_of}
 use Rattle.serde_json.specs.declared.value.Value.{Value, Array}
 use Rattle.serde_json.proofs.Views.{view-Array}
@@ -15,12 +21,15 @@ use Rattle.sm_instance.specs.Written.{AgentData, Written, no_agent, agent_at, we
 use Rattle.sm_instance.specs.Vectors.{agent_of, agents_of}
 use Rattle.sm_instance.specs.declared.agents.Agent.{Agent}
 use Rattle.sm_instance.specs.Sound.{IsInstance, AreSoundAgents, AreSoundEntries, IsPairOf}
-use Rattle.sm_instance.specs.Named.{SaidPair, SaidWeight}
+use Rattle.sm_instance.specs.Named.{SaidPair, SaidWeight, SaidOrder}
 use Rattle.sm_instance.specs.declared.kinds.Kind.{Kind}
 use Rattle.sm_json.specs.Parts.{has_capacities}
+use Rattle.sm_printed.specs.Printed.{is_zero}
+use Rattle.sm_printed.proofs.FormatLemmas.{zero_is}
 use Rattle.sm_printed.proofs.ItemLemmas.{weight_there, force_there, forbid_there}
-use Rattle.sm_printed.specs.Names.{said_agent, said_pair, said_weight}
-use Rattle.sm_json.specs.Making.{array_of, agent_json, pair_json, weight_json, kind_name, two_json, said_by, put_if, sides_put, conditions_put, unless_empty, AreNamed, AreListed, AreAllListed}
+use Rattle.sm_instance.specs.declared.inputs.Input.TheVariants.{Two}
+use Rattle.sm_printed.specs.Names.{name_of, said_agent, said_pair, said_weight, said_of}
+use Rattle.sm_json.specs.Making.{array_of, agent_json, pair_json, weight_json, with_order, kind_name, two_json, said_by, put_if, put_order, sides_put, conditions_put, unless_empty, AreNamed, AreListed, AreAllListed}
 
 map_joined : {A B : Type 0} (f : A → B) (xs ys : List A) → map f (xs ++ ys) ≡ map f xs ++ map f ys
 map_joined f [] ys = refl
@@ -37,6 +46,14 @@ module _ {A : Type 0} (f : A → Data) where
   -- all values are those of an array
   pub made_all : (all : List A) (i : ℕ) (made : Vec Value Global) → length all ≤ i → map view made.items ≡ map f (take i all) → view (Array made) ≡ array_of f all
   made_all all i made over so_far = view-Array made ∙ ap (λ ds. array (items_of ds)) (so_far ∙ ap (map f) (take_all i all over))
+
+-- one more value behind some
+pub pushed : (items new : List Value) (v : Value) (ds : List Data) (d : Data) → map view items ≡ ds → view v ≡ d → new ≡ items ++ v ∷ [] → map view new ≡ ds ++ d ∷ []
+pushed items new v ds d so_far is grown = ap (map view) grown ∙ map_joined view items (v ∷ []) ∙ ap (λ t. t ++ view v ∷ []) so_far ∙ ap (λ e. ds ++ e ∷ []) is
+
+-- the array of some values
+pub array_made : (made : Vec Value Global) (ds : List Data) → map view made.items ≡ ds → view (Array made) ≡ array (items_of ds)
+array_made made ds so_far = view-Array made ∙ ap (λ xs. array (items_of xs)) so_far
 
 -- items that are made of others
 pub array_through : {A B : Type 0} (f : B → Data) (g : A → B) (xs : List A) → array_of (λ x. f (g x)) xs ≡ array_of f (map g xs)
@@ -76,19 +93,27 @@ pub name_utf8 : (s : List ℕ) → is_name s ≡ true → IsUtf8 s
 name_utf8 s h = IsUtf8-from_ascii s (ascii_name s (name_bytes s h))
 
 -- the members of an instance, put one after another, stand in the order of their names
-pub members_ordered : (kind left right : Data) (weights : List SaidWeight) (forced forbidden : List SaidPair)
-    → put_if (codes "forbidden") pair_json forbidden (put_if (codes "forced") pair_json forced
-    (put (codes "kind") kind (put (codes "proposers") left (put (codes "reviewers") right (put_if (codes "weights") weight_json weights no_members)))))
+pub members_ordered : (kind left right : Data) (weights : List SaidWeight) (forced forbidden : List SaidPair) (order : Option SaidOrder)
+    → put_if (codes "forbidden") pair_json forbidden (put_if (codes "forced") pair_json forced (put_order order
+    (put (codes "kind") kind (put (codes "proposers") left (put (codes "reviewers") right (put_if (codes "weights") weight_json weights no_members))))))
     ≡ unless_empty (codes "forbidden") pair_json forbidden (unless_empty (codes "forced") pair_json forced
-    (member (codes "kind") kind (member (codes "proposers") left (member (codes "reviewers") right (unless_empty (codes "weights") weight_json weights no_members)))))
-members_ordered kind left right [] [] [] = refl
-members_ordered kind left right [] [] (z ∷ zs) = refl
-members_ordered kind left right [] (y ∷ ys) [] = refl
-members_ordered kind left right [] (y ∷ ys) (z ∷ zs) = refl
-members_ordered kind left right (x ∷ xs) [] [] = refl
-members_ordered kind left right (x ∷ xs) [] (z ∷ zs) = refl
-members_ordered kind left right (x ∷ xs) (y ∷ ys) [] = refl
-members_ordered kind left right (x ∷ xs) (y ∷ ys) (z ∷ zs) = refl
+    (member (codes "kind") kind (with_order order (member (codes "proposers") left (member (codes "reviewers") right (unless_empty (codes "weights") weight_json weights no_members))))))
+members_ordered kind left right [] [] [] None = refl
+members_ordered kind left right [] [] [] (Some o) = refl
+members_ordered kind left right [] [] (z ∷ zs) None = refl
+members_ordered kind left right [] [] (z ∷ zs) (Some o) = refl
+members_ordered kind left right [] (y ∷ ys) [] None = refl
+members_ordered kind left right [] (y ∷ ys) [] (Some o) = refl
+members_ordered kind left right [] (y ∷ ys) (z ∷ zs) None = refl
+members_ordered kind left right [] (y ∷ ys) (z ∷ zs) (Some o) = refl
+members_ordered kind left right (x ∷ xs) [] [] None = refl
+members_ordered kind left right (x ∷ xs) [] [] (Some o) = refl
+members_ordered kind left right (x ∷ xs) [] (z ∷ zs) None = refl
+members_ordered kind left right (x ∷ xs) [] (z ∷ zs) (Some o) = refl
+members_ordered kind left right (x ∷ xs) (y ∷ ys) [] None = refl
+members_ordered kind left right (x ∷ xs) (y ∷ ys) [] (Some o) = refl
+members_ordered kind left right (x ∷ xs) (y ∷ ys) (z ∷ zs) None = refl
+members_ordered kind left right (x ∷ xs) (y ∷ ys) (z ∷ zs) (Some o) = refl
 
 -- agents of an instance have names, and list agents
 pub named : (agents : List AgentData) (single : Bool) → AreSoundAgents agents single → AreNamed agents
@@ -111,14 +136,14 @@ item_listed agents i others x lists below is =
 
 -- pairs of an instance are pairs of its agents
 pub forced_there : (w : Written) → IsInstance w → All (IsPairOf (length w.proposers) (length w.reviewers)) w.forced
-forced_there w sound n d below = subst (IsPairOf (length w.proposers) (length w.reviewers)) (get_or_default w.forced n (0, 0) d below) (force_there w sound w.forced refl n below)
+forced_there w sound n d below = subst (IsPairOf (length w.proposers) (length w.reviewers)) (get_or_default w.forced n (0, 0) d below) (force_there w sound.seconds_each sound w.forced refl n below)
 
 pub forbidden_there : (w : Written) → IsInstance w → All (IsPairOf (length w.proposers) (length w.reviewers)) w.forbidden
-forbidden_there w sound n d below = subst (IsPairOf (length w.proposers) (length w.reviewers)) (get_or_default w.forbidden n (0, 0) d below) (forbid_there w sound w.forbidden refl n below)
+forbidden_there w sound n d below = subst (IsPairOf (length w.proposers) (length w.reviewers)) (get_or_default w.forbidden n (0, 0) d below) (forbid_there w sound.seconds_each sound w.forbidden refl n below)
 
 pub weights_there : (w : Written) → IsInstance w → All (λ (x : ℕ × ℕ × ℤ). IsPairOf (length w.proposers) (length w.reviewers) (weighed x)) w.weights
 weights_there w sound n d below =
-    subst (λ (x : ℕ × ℕ × ℤ). IsPairOf (length w.proposers) (length w.reviewers) (weighed x)) (get_or_default w.weights n (0, 0, pos 0) d below) (weight_there w sound w.weights refl n below)
+    subst (λ (x : ℕ × ℕ × ℤ). IsPairOf (length w.proposers) (length w.reviewers) (weighed x)) (get_or_default w.weights n (0, 0, pos 0) d below) (weight_there w sound.seconds_each sound w.weights refl n below)
 
 -- what is put where there is something
 pub put_made : {A : Type 0} (key : List ℕ) (f : A → Data) (xs : List A) (ms new : Members) (d : Data) (r : Result (Unit {0}) AllocError) → (xs ≡ [] → ⊥)
@@ -137,7 +162,7 @@ if_both P Q R (Ok x) p q both = both x p q
 if_both P Q R (Err e) p q both = tt
 
 -- the members of an instance with two sides but for its conditions, put one after another
-pub sides_are_put : (kind : Kind) (lefts rights : List AgentData) (weights : List (ℕ × ℕ × ℤ)) (m0 m1 m2 m3 m4 : Members) (K P R : Data)
+pub sides_are_put : (kind : Kind) (lefts rights : List AgentData) (weights : List ((ℕ × ℕ × ℤ) × ℤ)) (m0 m1 m2 m3 m4 : Members) (K P R : Data)
     → m0 ≡ no_members → m1 ≡ put_if (codes "weights") weight_json (map (said_weight lefts rights) weights) m0
     → R ≡ array_of (agent_json (has_capacities kind)) (map (said_agent lefts) rights) → m2 ≡ put (codes "reviewers") R m1
     → P ≡ array_of (agent_json false) (map (said_agent rights) lefts) → m3 ≡ put (codes "proposers") P m2
@@ -145,12 +170,67 @@ pub sides_are_put : (kind : Kind) (lefts rights : List AgentData) (weights : Lis
     → m4 ≡ sides_put kind lefts rights weights
 sides_are_put kind lefts rights weights m0 m1 m2 m3 m4 K P R e0 e1 v2 e2 v3 e3 v4 e4 = rw (e4, e3, e2, e1, e0, v4, v3, v2) refl
 
--- with the conditions they are those of the value
-pub conditions_are_put : (kind : Kind) (lefts rights : List AgentData) (weights : List (ℕ × ℕ × ℤ)) (forced forbidden : List (ℕ × ℕ)) (ms : Members)
-    → ms ≡ sides_put kind lefts rights weights
-    → object (conditions_put lefts rights forced forbidden ms) ≡ two_json kind (said_by lefts rights weights forced forbidden)
-conditions_are_put kind lefts rights weights forced forbidden ms e =
+-- with the order and the conditions they are those of the value
+pub conditions_are_put : (kind : Kind) (lefts rights : List AgentData) (weights : List ((ℕ × ℕ × ℤ) × ℤ)) (forced forbidden : List (ℕ × ℕ)) (order : Option SaidOrder) (ms : Members)
+    → ms ≡ put_order order (sides_put kind lefts rights weights)
+    → object (conditions_put lefts rights forced forbidden ms) ≡ two_json kind (said_by lefts rights weights forced forbidden order)
+conditions_are_put kind lefts rights weights forced forbidden order ms e =
     ap (λ m. object (conditions_put lefts rights forced forbidden m)) e
     ∙ ap object (members_ordered (string (kind_name kind)) (array_of (agent_json false) (map (said_agent rights) lefts))
     (array_of (agent_json (has_capacities kind)) (map (said_agent lefts) rights))
-    (map (said_weight lefts rights) weights) (map (said_pair lefts rights) forced) (map (said_pair lefts rights) forbidden))
+    (map (said_weight lefts rights) weights) (map (said_pair lefts rights) forced) (map (said_pair lefts rights) forbidden) order)
+
+-- all proposers, in their order
+abbrev whole_order : Written → SaidOrder
+whole_order w = record { names = map (name_of w.proposers) w.order; line = 0 }
+
+-- an order that is put
+pub order_put : (w : Written) → is_some (said_of (Two w)).order ≡ true → (ms : Members)
+    → put (codes "order") (array_of string (map (name_of w.proposers) w.order)) ms ≡ put_order (said_of (Two w)).order ms
+order_put w some ms = by_test (pointwise nat_eq w.order (range_with_len 0 (length w.proposers))) some
+  where
+    by_test : (t : Bool) → is_some (if t then None else Some (whole_order w)) ≡ true
+        → put (codes "order") (array_of string (map (name_of w.proposers) w.order)) ms ≡ put_order (if t then None else Some (whole_order w)) ms
+    by_test true some = absurd (false≢true some)
+    by_test false some = refl
+
+-- one that isn't there
+pub order_left : (w : Written) → is_some (said_of (Two w)).order ≡ false → (ms : Members) → ms ≡ put_order (said_of (Two w)).order ms
+order_left w none ms = by_option (said_of (Two w)).order none
+  where
+    by_option : (o : Option SaidOrder) → is_some o ≡ false → ms ≡ put_order o ms
+    by_option None none = refl
+    by_option (Some o) none = absurd (false≢true (sym none))
+
+-- as many seconds as weights
+pub zip_long : {A B : Type 0} (xs : List A) (zs : List B) → length zs ≡ length xs → length (zip xs zs) ≡ length xs
+zip_long xs zs each = let long = length-zip xs zs in omega (arith, long, each)
+
+-- a weight of one number, and one of two
+abbrev weight_items : SaidWeight → Bool → List Data
+weight_items x t = string x.pair.proposer ∷ string x.pair.reviewer ∷ number (of_integer x.weight) ∷ (if t then [] else number (of_integer x.second) ∷ [])
+
+pub one_number : (x : SaidWeight) → x.second ≡ pos 0 → array (items_of (string x.pair.proposer ∷ string x.pair.reviewer ∷ number (of_integer x.weight) ∷ [])) ≡ weight_json x
+one_number x none = ap (λ z. array (items_of (weight_items x (is_zero z)))) (sym none)
+
+pub two_numbers : (x : SaidWeight) → x.second ≢ pos 0
+    → array (items_of (string x.pair.proposer ∷ string x.pair.reviewer ∷ number (of_integer x.weight) ∷ number (of_integer x.second) ∷ [])) ≡ weight_json x
+two_numbers x isnt = by_test (is_zero x.second) refl
+  where
+    by_test : (t : Bool) → is_zero x.second ≡ t → array (items_of (weight_items x false)) ≡ array (items_of (weight_items x t))
+    by_test true e = absurd (isnt (zero_is x.second e))
+    by_test false e = refl
+
+-- the values of weights beside their second weights, and that of the next
+pub made_next : {A B : Type 0} (f : A × B → Data) (xs : List A) (zs : List B) (i : ℕ) (d : A) (e : B) (made new : List Value) (v : Value) → length zs ≡ length xs → i < length xs
+    → map view made ≡ map f (take i (zip xs zs)) → view v ≡ f (get_or xs i d, get_or zs i e) → new ≡ made ++ v ∷ [] → map view new ≡ map f (take (i + 1) (zip xs zs))
+made_next {A} {B} f xs zs i d e made new v each below so_far here grown =
+    let within : i < length zs = omega (arith, each, below) in
+    let inside : i < length (zip xs zs) = let long = zip_long xs zs each in omega (arith, long, below) in
+    let both : A × B = get_or (zip xs zs) i (d, e) in
+    made_more f (zip xs zs) i both made new v inside (get_or_default (zip xs zs) i (d, e) both inside) so_far (here ∙ ap f (sym (get_or-zip xs zs i (d, e) below within))) grown
+
+-- a small number fits
+pub small_fits : (z : ℤ) → unsigned_abs z ≤ most_weight → FitsSigned w64 z
+small_fits (pos n) h = let l : n < 9223372036854775808 = omega (arith, h) in record { sfits = l }
+small_fits (negsuc n) h = let l : n < 9223372036854775808 = omega (arith, h) in record { sfits = l }

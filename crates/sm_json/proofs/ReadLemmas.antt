@@ -164,9 +164,9 @@ two_none_right kind d only none = rw (only, none) (none_right kind (asks_second 
 -- roommates
 room_parts : (P : Option (List SaidAgent))
     → instance_added (option_map (λ persons. instance_of Roommates false persons [] [] [] [] None) P)
-    ≡ joined (Some (codes "stable 1 roommates\n")) (joined (option_map proposer_texts P) (Some ending))
+    ≡ joined (Some (with_end (json_header false Roommates))) (joined (option_map proposer_texts P) (Some ending))
 room_parts None = refl
-room_parts (Some p) = ap (λ t. Some (codes "stable 1 roommates\n" ++ t)) (mapped proposer_line p (codes "end" ∷ []))
+room_parts (Some p) = ap (λ t. Some (with_end (json_header false Roommates) ++ t)) (mapped proposer_line p (codes "end" ∷ []))
 
 pub room_text : (d p : Data) → has_only room_members d ≡ true → Some p ≡ get (codes "persons") d
     → instance_added (room_in d) ≡ room_added p

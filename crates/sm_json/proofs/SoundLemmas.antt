@@ -1,20 +1,24 @@
 -- What an instance says can be said in JSON.
-use Rattle.std.proofs.Common.{◌≡◌, ◌≢◌, ℕ, ◌<◌, ◌≤◌, Bool, true, false, List, length, map, All, get_or, Some, option_map, refl, sym, ap, ◌∙◌, subst, arith, ℤ, pos}
+use Rattle.std.proofs.Common.{◌≡◌, ◌≢◌, ℕ, ◌<◌, ◌≤◌, Bool, true, false, List, length, map, All, get_or, nat_eq, Option, Some, None, if◌then◌else◌, option_map, refl, sym, ap, ◌∙◌, subst, arith, ℤ, pos}
 use Rattle.std.specs.Int.RustNames.{unsigned_abs}
 use Rattle.std.proofs.lemmas.List.{get_or_default}
-use Rattle.std.proofs.lemmas.List.Elements.{All-map}
+use Rattle.std.specs.List.{range_with_len, zip}
+use Rattle.std.specs.Cmp.Lexicographic.{pointwise}
+use Rattle.std.proofs.lemmas.Slice.Zip.{length-zip, get_or-zip}
+use Rattle.std.proofs.lemmas.List.Elements.{All-nil, All-map}
 use Rattle.sm_text.specs.Limits.{most_weight}
 use Rattle.sm_text.specs.Name.{is_name}
 use Rattle.sm_instance.specs.Written.{AgentData, Written, no_agent, agent_at, row}
 use Rattle.sm_instance.specs.Sound.{IsInstance, AreSoundAgents, AreSoundEntries, is_single}
 use Rattle.sm_instance.specs.Inputs.{IsInput}
+use Rattle.sm_instance.specs.Named.{SaidOrder, names_first}
 use Rattle.sm_instance.specs.declared.kinds.Kind.{Kind}
 use Rattle.sm_instance.specs.declared.kinds.Kind.TheVariants.{Marriage, Hospitals, Roommates}
 use Rattle.sm_instance.specs.declared.inputs.Input.{Input}
 use Rattle.sm_instance.specs.declared.inputs.Input.TheVariants.{Two, Room}
 use Rattle.sm_instance.proofs.ItemLemmas.{length-items}
 use Rattle.sm_answer.specs.Writing.{text_of}
-use Rattle.sm_printed.specs.Names.{name_of, said_agent, said_pair, said_weight, said_of}
+use Rattle.sm_printed.specs.Names.{name_of, said_agent, said_pair, said_weight, said_order, said_of}
 use Rattle.sm_printed.specs.Printed.{lines_of}
 use Rattle.sm_printed.proofs.ItemLemmas.{weight_there, force_there, forbid_there}
 use Rattle.sm_json.specs.Parts.{has_capacities}
@@ -54,28 +58,42 @@ module _ (w : Written) (sound : IsInstance w) where
   pair_said : (p r : ℕ) → p < length w.proposers → r < length w.reviewers → IsSaidPair (said_pair w.proposers w.reviewers (p, r))
   pair_said p r left right = record { proposer = (sound.proposers.sound p left).name; reviewer = (sound.reviewers.sound r right).name; line = refl }
 
-  weight_small : (n : ℕ) (d : ℕ × ℕ × ℤ) → n < length w.weights → unsigned_abs (get_or w.weights n d).2 ≤ most_weight
+  -- weights are small
+  pub weight_small : (n : ℕ) (d : ℕ × ℕ × ℤ) → n < length w.weights → unsigned_abs (get_or w.weights n d).2 ≤ most_weight
   weight_small n d below =
       subst (λ (x : ℕ × ℕ × ℤ). unsigned_abs x.2 ≤ most_weight) (get_or_default w.weights n (0, 0, pos 0) d below)
       ((sound.items n (omega (arith, length-items w.weights w.forced w.forbidden))).size below)
 
-  weights_said : All IsSaidWeight (map (said_weight w.proposers w.reviewers) w.weights)
-  weights_said = All-map IsSaidWeight (said_weight w.proposers w.reviewers) w.weights (λ n d below.
-      let here = weight_there w sound w.weights refl n below in
-      let same = get_or_default w.weights n (0, 0, pos 0) d below in
+  weight_said : (n : ℕ) (d : (ℕ × ℕ × ℤ) × ℤ) → n < length w.weights → n < length w.seconds → IsSaidWeight (said_weight w.proposers w.reviewers (get_or w.weights n d.0, get_or w.seconds n d.1))
+  weight_said n d below within =
+      let here = weight_there w sound.seconds_each sound w.weights refl n below in
+      let same = get_or_default w.weights n (0, 0, pos 0) d.0 below in
       record {
         pair = subst (λ (x : ℕ × ℕ × ℤ). IsSaidPair (said_pair w.proposers w.reviewers (x.0, x.1))) same (pair_said _ _ here.proposer here.reviewer);
-        size = weight_small n d below;
-      })
+        size = weight_small n d.0 below;
+        second_size = sound.seconds_small n d.1 within;
+      }
+
+  weights_said : All IsSaidWeight (map (said_weight w.proposers w.reviewers) (zip w.weights w.seconds))
+  weights_said = All-map IsSaidWeight (said_weight w.proposers w.reviewers) (zip w.weights w.seconds) (λ n d below.
+      let long = length-zip w.weights w.seconds in
+      let first : n < length w.weights = omega (arith, below, long) in
+      let second : n < length w.seconds = omega (arith, below, long) in
+      subst (λ (x : (ℕ × ℕ × ℤ) × ℤ). IsSaidWeight (said_weight w.proposers w.reviewers x)) (sym (get_or-zip w.weights w.seconds n d first second)) (weight_said n d first second))
+
+  order_said : (t : Bool) → All (λ name. is_name name ≡ true) (names_first (if t then None else Some (record { names = map (name_of w.proposers) w.order; line = 0 })))
+  order_said true = All-nil (λ name. is_name name ≡ true)
+  order_said false = All-map (λ name. is_name name ≡ true) (name_of w.proposers) w.order (λ j d below.
+      (sound.proposers.sound (get_or w.order j d) (subst (λ p. p < length w.proposers) (get_or_default w.order j 0 d below) (sound.order.in_range j below))).name)
 
   forced_said : All IsSaidPair (map (said_pair w.proposers w.reviewers) w.forced)
   forced_said = All-map IsSaidPair (said_pair w.proposers w.reviewers) w.forced (λ n d below.
-      let here = force_there w sound w.forced refl n below in
+      let here = force_there w sound.seconds_each sound w.forced refl n below in
       subst (λ (x : ℕ × ℕ). IsSaidPair (said_pair w.proposers w.reviewers x)) (get_or_default w.forced n (0, 0) d below) (pair_said _ _ here.proposer here.reviewer))
 
   forbidden_said : All IsSaidPair (map (said_pair w.proposers w.reviewers) w.forbidden)
   forbidden_said = All-map IsSaidPair (said_pair w.proposers w.reviewers) w.forbidden (λ n d below.
-      let here = forbid_there w sound w.forbidden refl n below in
+      let here = forbid_there w sound.seconds_each sound w.forbidden refl n below in
       subst (λ (x : ℕ × ℕ). IsSaidPair (said_pair w.proposers w.reviewers x)) (get_or_default w.forbidden n (0, 0) d below) (pair_said _ _ here.proposer here.reviewer))
 
   two_said : IsSaid (has_capacities w.kind) (said_of (Two w))
@@ -85,6 +103,7 @@ module _ (w : Written) (sound : IsInstance w) where
     weights = weights_said;
     forced = forced_said;
     forbidden = forbidden_said;
+    order = order_said (pointwise nat_eq w.order (range_with_len 0 (length w.proposers)));
   }
 
   said_two : (kind : Kind) → w.kind ≡ kind → kind ≢ Roommates → said_json w.kind (said_of (Two w)) ≡ two_json w.kind (said_of (Two w))
@@ -93,9 +112,9 @@ module _ (w : Written) (sound : IsInstance w) where
   said_two Roommates is two = absurd (two refl)
 
   -- an instance of these parts
-  pub two_known : (k : Kind) (a b : List AgentData) (x : List (ℕ × ℕ × ℤ)) (y z : List (ℕ × ℕ)) → k ≡ w.kind → a ≡ w.proposers → b ≡ w.reviewers → x ≡ w.weights
-      → y ≡ w.forced → z ≡ w.forbidden → two_json k (said_by a b x y z) ≡ json_of (Two w)
-  two_known k a b x y z hk ha hb hx hy hz = rw (hk, ha, hb, hx, hy, hz) (sym (said_two w.kind refl sound.two_sided))
+  pub two_known : (k : Kind) (a b : List AgentData) (x : List ((ℕ × ℕ × ℤ) × ℤ)) (y z : List (ℕ × ℕ)) (o : Option SaidOrder) → k ≡ w.kind → a ≡ w.proposers → b ≡ w.reviewers → x ≡ zip w.weights w.seconds
+      → y ≡ w.forced → z ≡ w.forbidden → o ≡ said_order w → two_json k (said_by a b x y z o) ≡ json_of (Two w)
+  two_known k a b x y z o hk ha hb hx hy hz ho = rw (hk, ha, hb, hx, hy, hz, ho) (sym (said_two w.kind refl sound.two_sided))
 
 -- the value of an instance gives the text of the printed instance
 pub printed_again : (input : Input) → IsInput input → json_text (json_of input) ≡ Some (text_of (lines_of input))

@@ -1,27 +1,19 @@
 -- The instance text that a JSON value stands for. Its lines are those of a printed instance, of the parts of the value in their order.
-use Rattle.std.specs.Prelude.{ℕ, Bool, true, false, List, [], ◌∷◌, ◌++◌, map, codes, Option, Some, None, option_map, option_and_then, ℤ}
+use Rattle.std.specs.Prelude.{ℕ, Bool, if◌then◌else◌, List, [], ◌∷◌, ◌++◌, map, codes, Option, Some, None, option_map, option_and_then, ℤ}
 use Rattle.std.specs.Fmt.{signed_decimal}
 use Rattle.std.specs.Str.{is_utf8}
 use Rattle.serde_json.specs.Data.{Data}
 use Rattle.serde_json.specs.Read.{read}
 use Rattle.sm_instance.specs.declared.kinds.Kind.{Kind}
-use Rattle.sm_instance.specs.declared.kinds.Kind.TheVariants.{Marriage, Hospitals, Roommates}
 use Rattle.sm_report.specs.Fields.{spaced}
 use Rattle.sm_answer.specs.Writing.{text_of}
 use Rattle.sm_printed.specs.Printed.{header_line, proposer_line, reviewer_line, pair_text, force_line, forbid_line}
 use Rattle.sm_json.specs.Values.{if_so}
 use Rattle.sm_json.specs.Parts.{JsonWeight, JsonInstance, instance_in}
 
--- the header of the second format
-abbrev pub second_header : Kind → List ℕ
-second_header Marriage = codes "stable 2 marriage"
-second_header Hospitals = codes "stable 2 hospitals"
-second_header Roommates = codes "stable 2 roommates"
-
--- the header
+-- the header, of the first format or of the second
 abbrev pub json_header : (second : Bool) → Kind → List ℕ
-json_header false kind = header_line kind
-json_header true kind = second_header kind
+json_header second kind = header_line (if second then 2 else 1) kind
 
 -- the second weight, where one is written
 abbrev pub second_text : Option ℤ → List ℕ

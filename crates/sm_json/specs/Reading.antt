@@ -1,5 +1,5 @@
 -- What is read of bytes, and the texts that are put for it.
-use Rattle.std.specs.Prelude.{◌≡◌, ℕ, List, [], codes, Option, Some, None, option_map, Result, Ok, Err}
+use Rattle.std.specs.Prelude.{◌≡◌, ℕ, false, List, [], codes, Option, Some, None, option_map, Result, Ok, Err}
 use Rattle.serde_json.specs.Data.{Data}
 use Rattle.serde_json.specs.Find.{get}
 use Rattle.serde_json.specs.View.{view}
@@ -47,4 +47,4 @@ two_added kind d p r =
 
 -- the text of roommates, of the value of the persons
 abbrev pub room_added : Data → Option (List ℕ)
-room_added p = joined (Some (codes "stable 1 roommates\n")) (joined (agents_added Proposer p) (Some (codes "end\n")))
+room_added p = joined (Some (with_end (json_header false Roommates))) (joined (agents_added Proposer p) (Some (codes "end\n")))

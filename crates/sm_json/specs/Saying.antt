@@ -3,7 +3,7 @@ use Rattle.std.specs.Prelude.{◌≡◌, ◌≤◌, Bool, true, false, All}
 use Rattle.std.specs.Int.RustNames.{unsigned_abs}
 use Rattle.sm_text.specs.Limits.{most_capacity, most_weight}
 use Rattle.sm_text.specs.Name.{is_name}
-use Rattle.sm_instance.specs.Named.{SaidAgent, SaidPair, SaidWeight, Said}
+use Rattle.sm_instance.specs.Named.{SaidAgent, SaidPair, SaidWeight, Said, names_first}
 
 -- an agent of a name, who lists names, and has one place or a capacity
 pub record IsSaidAgent (has_capacity : Bool) (agent : SaidAgent) : Type 0 where
@@ -18,10 +18,11 @@ pub record IsSaidPair (pair : SaidPair) : Type 0 where
   pub reviewer : is_name pair.reviewer ≡ true
   pub line : pair.line ≡ 0
 
--- a weight within its limit
+-- weights within their limit
 pub record IsSaidWeight (x : SaidWeight) : Type 0 where
   pub pair : IsSaidPair x.pair
   pub size : unsigned_abs x.weight ≤ most_weight
+  pub second_size : unsigned_abs x.second ≤ most_weight
 
 -- an instance of such parts
 pub record IsSaid (has_capacities : Bool) (said : Said) : Type 0 where
@@ -30,3 +31,4 @@ pub record IsSaid (has_capacities : Bool) (said : Said) : Type 0 where
   pub weights : All IsSaidWeight said.weights
   pub forced : All IsSaidPair said.forced
   pub forbidden : All IsSaidPair said.forbidden
+  pub order : All (λ name. is_name name ≡ true) (names_first said.order)

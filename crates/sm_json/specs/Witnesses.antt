@@ -2,7 +2,7 @@
 use Rattle.std.specs.Prelude.{◌≡◌, [], ◌∷◌, codes, Some, None}
 use Rattle.serde_json.specs.Written.{compact_text}
 use Rattle.sm_instance.specs.declared.inputs.Input.TheVariants.{Two}
-use Rattle.sm_printed.specs.Witnesses.{marriage}
+use Rattle.sm_printed.specs.Witnesses.{marriage, ordered}
 use Rattle.sm_json.specs.JsonText.{text_in}
 use Rattle.sm_json.specs.Making.{json_of}
 use Rattle.sm_json.specs.Wrapping.{json_of_lines}
@@ -35,6 +35,12 @@ abbrev pub MarriageWritten : Type 0
 MarriageWritten =
     compact_text (json_of (Two marriage))
     ≡ codes "{\"forbidden\":[[\"b-2\",\"y\"]],\"forced\":[[\"a\",\"y\"],[\"a\",\"y\"]],\"kind\":\"marriage\",\"proposers\":[{\"list\":[\"y\",\"a\"],\"name\":\"a\"},{\"list\":[\"a\"],\"name\":\"b-2\"}],\"reviewers\":[{\"list\":[\"a\",\"b-2\"],\"name\":\"a\"},{\"list\":[],\"name\":\"y\"}],\"weights\":[[\"b-2\",\"a\",-12],[\"a\",\"y\",0]]}"
+
+-- that of the same with a second weight and an order
+abbrev pub OrderedWritten : Type 0
+OrderedWritten =
+    compact_text (json_of (Two ordered))
+    ≡ codes "{\"forbidden\":[[\"b-2\",\"y\"]],\"forced\":[[\"a\",\"y\"],[\"a\",\"y\"]],\"kind\":\"marriage\",\"order\":[\"b-2\",\"a\"],\"proposers\":[{\"list\":[\"y\",\"a\"],\"name\":\"a\"},{\"list\":[\"a\"],\"name\":\"b-2\"}],\"reviewers\":[{\"list\":[\"a\",\"b-2\"],\"name\":\"a\"},{\"list\":[],\"name\":\"y\"}],\"weights\":[[\"b-2\",\"a\",-12,-5],[\"a\",\"y\",0]]}"
 
 -- the JSON of three lines
 abbrev pub LinesWritten : Type 0

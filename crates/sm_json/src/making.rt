@@ -1,6 +1,7 @@
 //! From an instance to JSON.
 
-ghost use Rattle.std.specs.Prelude.{◌≡◌, ◌<◌, ℕ, ℤ, All, IfOk, OnOk, IsTrue, length, map, slice_index, Some, true, false, codes, [], ◌∷◌};
+ghost use Rattle.std.specs.Prelude.{◌≡◌, ◌<◌, ℕ, ℤ, All, IfOk, OnOk, IsTrue, length, map, slice_index, slice_index_or, pos, Some, true, false, codes, [], ◌∷◌};
+ghost use Rattle.std.specs.List.{zip};
 ghost use Rattle.serde_json.specs.View.{view, items_view, members_view};
 ghost use Rattle.serde_json.specs.Data.{string, array, object};
 ghost use Rattle.serde_json.specs.Written.{compact_text};
@@ -14,17 +15,18 @@ ghost use Rattle.sm_instance.specs.declared.inputs.Input.TheVariants.{Two, Room}
 ghost use Rattle.sm_printed.specs.Names.{name_of, said_agent, said_pair, said_weight, said_of};
 ghost use Rattle.sm_printed.specs.Printed.{lines_of};
 ghost use Rattle.sm_answer.specs.Writing.{text_of};
-ghost use Rattle.sm_json.specs.Making.{json_of, room_json, kind_name, array_of, agent_json, pair_json, weight_json, put_if, sides_put, conditions_put, AreNamed, AreListed, AreAllListed};
+ghost use Rattle.sm_json.specs.Making.{json_of, room_json, kind_name, array_of, agent_json, pair_json, weight_json, put_if, put_order, sides_put, conditions_put, AreNamed, AreListed, AreAllListed};
 ghost use Rattle.sm_json.specs.JsonText.{text_in};
 
 use serde_json::{Map, Value, push, put};
 use sm_instance::{Agent, Input, Instance, Kind, Persons};
+use sm_printed::has_own_order;
 use std::alloc::{AllocError, Global};
 
 /// The JSON of an instance: one object without spaces, in which members stand in the order of their names.
 ///
 /// [`crate::to_text`] gives the text of the printed instance for it. `weights`, `forced` and `forbidden` stand only where they
-/// aren't empty. Takes time in proportion to what is given, and memory for each name that is listed.
+/// aren't empty, `order` only where it isn't that of the proposers' lines, and a second weight only where it isn't 0. Takes time in proportion to what is given, and memory for each name that is listed.
 ///
 /// # Errors
 ///
@@ -56,32 +58,34 @@ fn two_value(alloc: Global, instance: &Instance) -> Result<Value, AllocError>
 {
     let proposers = instance.proposers();
     let reviewers = instance.reviewers();
-    let weights = instance.weights();
     let forced = instance.forced();
     let forbidden = instance.forbidden();
-    let members = sides_and_weights(alloc, instance.kind(), proposers, reviewers, weights)?;
+    let mut members = sides_and_weights(alloc, instance.kind(), proposers, reviewers, instance)?;
+    put_order(alloc, &mut members, instance)?;
     with_conditions(alloc, members, proposers, reviewers, forced, forbidden)
 }
 
-/// The members of an instance with two sides but for its conditions.
+/// The members of an instance with two sides but for its order and its conditions.
 fn sides_and_weights(
     alloc: Global,
     kind: Kind,
     proposers: &[Agent],
     reviewers: &[Agent],
-    weights: &[(u32, u32, i64)],
+    instance: &Instance,
 ) -> Result<Map<String, Value>, AllocError>
     requires left { AreNamed (agents_of proposers.now) }
     requires right { AreNamed (agents_of reviewers.now) }
     requires left_lists { AreAllListed (agents_of proposers.now) (length reviewers.now) }
     requires right_lists { AreAllListed (agents_of reviewers.now) (length proposers.now) }
     requires weighed { All (λ (x : ℕ × ℕ × ℤ). IsPairOf (length proposers.now)
-        (length reviewers.now) (weighed x)) weights.now }
+        (length reviewers.now) (weighed x)) instance.now.weights }
+    requires instance { IsInstance instance.now }
     ensures { IfOk result (λ members. members_view members.entries
-        ≡ sides_put kind (agents_of proposers.now) (agents_of reviewers.now) weights.now) }
+        ≡ sides_put kind (agents_of proposers.now) (agents_of reviewers.now)
+        (zip instance.now.weights instance.now.seconds)) }
 {
     let mut members = Map::new(alloc);
-    put_weights(alloc, &mut members, proposers, reviewers, weights)?;
+    put_weights(alloc, &mut members, proposers, reviewers, instance)?;
     let list = agents_value(alloc, reviewers, proposers, has_capacities(kind))?;
     put(&mut members, alloc, "reviewers", list)?;
     let list = agents_value(alloc, proposers, reviewers, false)?;
@@ -120,6 +124,22 @@ fn with_conditions(
         forbidden,
     )?;
     Ok(Value::Object(members))
+}
+
+/// Puts the order of an instance into an object, where it isn't that of the proposers' lines.
+fn put_order(
+    alloc: Global,
+    members: &mut Map<String, Value>,
+    instance: &Instance,
+) -> Result<(), AllocError>
+    ensures { OnOk result (members_view members.new.entries
+        ≡ put_order (said_of (Two instance.now)).order (members_view members.old.entries)) }
+{
+    if !has_own_order(instance) {
+        return Ok(());
+    }
+    let names = list_value(alloc, instance.proposers(), instance.order())?;
+    put(members, alloc, "order", names)
 }
 
 /// Has each reviewer its capacity?
@@ -247,33 +267,82 @@ fn name_value(alloc: Global, name: &[u8]) -> Result<Value, AllocError>
     Ok(Value::String(String::from_utf8(bytes).unwrap()))
 }
 
-/// Puts the weights into an object, where there are some.
+/// Puts the weights of an instance into an object, where there are some.
 fn put_weights(
     alloc: Global,
     members: &mut Map<String, Value>,
     proposers: &[Agent],
     reviewers: &[Agent],
-    weights: &[(u32, u32, i64)],
+    instance: &Instance,
 ) -> Result<(), AllocError>
     requires proposers { AreNamed (agents_of proposers.now) }
     requires reviewers { AreNamed (agents_of reviewers.now) }
     requires pairs { All (λ (x : ℕ × ℕ × ℤ). IsPairOf (length proposers.now)
-        (length reviewers.now) (weighed x)) weights.now }
+        (length reviewers.now) (weighed x)) instance.now.weights }
+    requires instance { IsInstance instance.now }
     ensures { OnOk result (members_view members.new.entries ≡ put_if (codes "weights") weight_json
-        (map (said_weight (agents_of proposers.now) (agents_of reviewers.now)) weights.now)
-        (members_view members.old.entries)) }
+        (map (said_weight (agents_of proposers.now) (agents_of reviewers.now))
+        (zip instance.now.weights instance.now.seconds)) (members_view members.old.entries)) }
 {
+    let weights = instance.weights();
     if weights.is_empty() {
         return Ok(());
     }
     let mut list = Vec::new(alloc);
-    for weight in weights {
-        let (p, r, size) = *weight;
-        let mut items = pair_items(alloc, proposers, reviewers, p, r)?;
-        push(&mut items, Value::from(size))?;
-        push(&mut list, Value::Array(items))?;
+    'numbers: for n in 0..weights.len() {
+        let value = weight_at(alloc, proposers, reviewers, instance, n)?;
+        push(&mut list, value)?;
     }
     put(members, alloc, "weights", Value::Array(list))
+}
+
+/// The value of the weight of a number.
+fn weight_at(
+    alloc: Global,
+    proposers: &[Agent],
+    reviewers: &[Agent],
+    instance: &Instance,
+    n: usize,
+) -> Result<Value, AllocError>
+    requires proposers { AreNamed (agents_of proposers.now) }
+    requires reviewers { AreNamed (agents_of reviewers.now) }
+    requires pairs { All (λ (x : ℕ × ℕ × ℤ). IsPairOf (length proposers.now)
+        (length reviewers.now) (weighed x)) instance.now.weights }
+    requires instance { IsInstance instance.now }
+    requires there { n < length instance.now.weights }
+    ensures { IfOk result (λ value. view value ≡ weight_json
+        (said_weight (agents_of proposers.now) (agents_of reviewers.now) (
+          slice_index_or instance.now.weights n (0, 0, pos 0),
+          slice_index_or instance.now.seconds n (pos 0),
+        ))) }
+{
+    let weights = instance.weights();
+    let seconds = instance.seconds();
+    weight_value(alloc, proposers, reviewers, weights[n], seconds[n])
+}
+
+/// The value of a pair and its weights, of which the second stands where it isn't 0.
+fn weight_value(
+    alloc: Global,
+    proposers: &[Agent],
+    reviewers: &[Agent],
+    weight: (u32, u32, i64),
+    second: i64,
+) -> Result<Value, AllocError>
+    requires proposers { AreNamed (agents_of proposers.now) }
+    requires reviewers { AreNamed (agents_of reviewers.now) }
+    requires pair { IsPairOf (length proposers.now) (length reviewers.now) (weighed weight) }
+    ensures { IfOk result (λ value. view value ≡ weight_json
+        (said_weight (agents_of proposers.now) (agents_of reviewers.now) (weight, second))) }
+{
+    let (p, r, size) = weight;
+    let mut items = pair_items(alloc, proposers, reviewers, p, r)?;
+    push(&mut items, Value::from(size))?;
+    if second == 0 {
+        return Ok(Value::Array(items));
+    }
+    push(&mut items, Value::from(second))?;
+    Ok(Value::Array(items))
 }
 
 /// Puts pairs into an object, where there are some.

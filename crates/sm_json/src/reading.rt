@@ -1,6 +1,6 @@
 //! From JSON to the text of an instance.
 
-ghost use Rattle.std.specs.Prelude.{◌≡◌, codes, Some, true};
+ghost use Rattle.std.specs.Prelude.{◌≡◌, codes, Some, true, false};
 ghost use Rattle.serde_json.specs.View.{view};
 ghost use Rattle.serde_json.specs.Find.{get};
 ghost use Rattle.sm_json.specs.Values.{has_only};
@@ -188,6 +188,7 @@ fn asks_second(value: &Value) -> bool
 }
 
 /// The header of a kind, of the first format or of the second.
+#[tactic(auto, using(crate::proofs::HeaderLemmas::first_marriage, crate::proofs::HeaderLemmas::first_hospitals, crate::proofs::HeaderLemmas::first_roommates, crate::proofs::HeaderLemmas::second_marriage, crate::proofs::HeaderLemmas::second_hospitals, crate::proofs::HeaderLemmas::second_roommates))]
 fn header(kind: Kind, is_second: bool) -> &'static [u8]
     ensures { result.now ≡ json_header is_second kind }
 {
@@ -238,8 +239,10 @@ fn put_persons(into: &mut LineWriter, persons: &Value) -> Result<(), JsonFault>
 
 /// Puts the header of roommates.
 fn put_room_head(into: &mut LineWriter) -> Result<(), JsonFault>
-    ensures { Adds into.old.bytes into.new.bytes (Some (codes "stable 1 roommates\n")) result }
+    ensures { Adds into.old.bytes into.new.bytes
+        (Some (with_end (json_header false Kind.Roommates))) result }
 {
-    into.put_bytes(b"stable 1 roommates\n")?;
+    into.put_bytes(header(Kind::Roommates, false))?;
+    into.put_bytes(b"\n")?;
     Ok(())
 }

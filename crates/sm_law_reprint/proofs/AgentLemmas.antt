@@ -89,7 +89,7 @@ module _ (single : Bool) (others : ℕ) (done : List SaidAgent) (a : SaidAgent) 
 abbrev pub with_proposers : List SaidAgent → Said
 with_proposers done = record nothing { proposers = done }
 
-module _ (kind : Kind) (done : List SaidAgent) (a : SaidAgent) (todo : List SaidAgent) (are : AreAgents true 0 done (a ∷ todo)) where
+module _ (kind : Kind) (format : ℕ) (done : List SaidAgent) (a : SaidAgent) (todo : List SaidAgent) (are : AreAgents true 0 done (a ∷ todo)) where
   proposer_faultless : IsFaultless (with_proposers done) Proposers a.name a.entries
   proposer_faultless =
       let own = own_of true 0 done a todo are in
@@ -100,16 +100,16 @@ module _ (kind : Kind) (done : List SaidAgent) (a : SaidAgent) (todo : List Said
         fresh = fresh_of true 0 done a todo are;
         differ = own.differ;
         few = few_enough (length done) (length todo) (omega (arith, are.few));
-        fits = fits_enough (entries_of done + 0) (length a.entries) (omega arith);
+        fits = fits_enough (entries_of done + 0 + 0) (length a.entries) (omega arith);
       }
 
   -- the line of the next proposer goes on, and adds it
-  pub proposer_step : (n : ℕ) → verdict_on kind (with_proposers done) n (tokens (proposer_line a)) ≡ goes (with_proposers (done ++ on_line n a ∷ []))
+  pub proposer_step : (n : ℕ) → verdict_on kind format (with_proposers done) n (tokens (proposer_line a)) ≡ goes (with_proposers (done ++ on_line n a ∷ []))
   unfolding said_with
   proposer_step n =
       let own = own_of true 0 done a todo are in
-      ap (verdict_on kind (with_proposers done) n) ((words_cut (a.name ++ list_text a.entries)).0 ∙ ap (λ t. codes "p" ∷ t) (tokens-named a.name a.entries own.name own.entries))
-      ∙ proposer_goes (with_proposers done) a.name a.entries kind n proposer_faultless
+      ap (verdict_on kind format (with_proposers done) n) ((words_cut (a.name ++ list_text a.entries)).0 ∙ ap (λ t. codes "p" ∷ t) (tokens-named a.name a.entries own.name own.entries))
+      ∙ proposer_goes (with_proposers done) a.name a.entries kind format n proposer_faultless
       ∙ ap (λ (c : ℕ). goes (with_proposers (done ++ (record { name = a.name; capacity = c; line = n; entries = a.entries }) ∷ []))) (sym (own.one refl))
 
 -- the line of a proposer holds neither LF nor CR
@@ -132,31 +132,31 @@ module _ (proposers done : List SaidAgent) (a : SaidAgent) (todo : List SaidAgen
         fresh = fresh_of single (entries_of proposers) done a todo are;
         differ = own.differ;
         few = few_enough (length done) (length todo) (omega (arith, are.few));
-        fits = fits_enough (entries_of proposers + entries_of done) (length a.entries) (room_of single (entries_of proposers) done a todo are);
+        fits = fits_enough (entries_of proposers + entries_of done + 0) (length a.entries) (omega (arith, room_of single (entries_of proposers) done a todo are));
       }
 
   abbrev added : ℕ → ℕ → Said
   added n c = with_reviewers proposers (done ++ (record { name = a.name; capacity = c; line = n; entries = a.entries }) ∷ [])
 
   -- the line of the next reviewer goes on, and adds it
-  pub reviewer_step : (kind : Kind) (n : ℕ) → kind ≢ Roommates → AreAgents (is_single kind) (entries_of proposers) done (a ∷ todo)
-      → verdict_on kind (with_reviewers proposers done) n (tokens (reviewer_line kind a)) ≡ goes (with_reviewers proposers (done ++ on_line n a ∷ []))
+  pub reviewer_step : (kind : Kind) (format n : ℕ) → kind ≢ Roommates → AreAgents (is_single kind) (entries_of proposers) done (a ∷ todo)
+      → verdict_on kind format (with_reviewers proposers done) n (tokens (reviewer_line kind a)) ≡ goes (with_reviewers proposers (done ++ on_line n a ∷ []))
   unfolding said_with
-  reviewer_step Roommates n two are = absurd (two refl)
-  reviewer_step Marriage n two are =
+  reviewer_step Roommates format n two are = absurd (two refl)
+  reviewer_step Marriage format n two are =
       let own = own_of true (entries_of proposers) done a todo are in
-      ap (λ t. verdict_on Marriage (with_reviewers proposers done) n (tokens (codes "r " ++ (t ++ list_text a.entries)))) (append-nil a.name)
-      ∙ ap (verdict_on Marriage (with_reviewers proposers done) n) ((words_cut (a.name ++ list_text a.entries)).1 ∙ ap (λ t. codes "r" ∷ t) (tokens-named a.name a.entries own.name own.entries))
-      ∙ reviewer_goes (with_reviewers proposers done) a.name a.entries n (reviewer_faultless true are)
+      ap (λ t. verdict_on Marriage format (with_reviewers proposers done) n (tokens (codes "r " ++ (t ++ list_text a.entries)))) (append-nil a.name)
+      ∙ ap (verdict_on Marriage format (with_reviewers proposers done) n) ((words_cut (a.name ++ list_text a.entries)).1 ∙ ap (λ t. codes "r" ∷ t) (tokens-named a.name a.entries own.name own.entries))
+      ∙ reviewer_goes (with_reviewers proposers done) a.name a.entries format n (reviewer_faultless true are)
       ∙ ap (λ (c : ℕ). goes (added n c)) (sym (own.one refl))
-  reviewer_step Hospitals n two are =
+  reviewer_step Hospitals format n two are =
       let own = own_of false (entries_of proposers) done a todo are in
       let spelt : capacity_in (decimal a.capacity) ≡ Some a.capacity = number_of-decimal a.capacity most_capacity own.capacity (omega arith) in
       let small : a.capacity < 2 ^ 64 = omega (arith, own.capacity) in
-      ap (verdict_on Hospitals (with_reviewers proposers done) n)
+      ap (verdict_on Hospitals format (with_reviewers proposers done) n)
       ((words_cut (a.name ++ capacity_text Hospitals a.capacity ++ list_text a.entries)).1
       ∙ ap (λ t. codes "r" ∷ t) (tokens-bracketed a.name a.capacity a.entries own.name small own.entries))
-      ∙ hospital_goes (with_reviewers proposers done) a.name a.entries n (decimal a.capacity) (begins_run-run (decimal a.capacity) (decimal_is_run a.capacity small)) (ap is_none spelt)
+      ∙ hospital_goes (with_reviewers proposers done) a.name a.entries format n (decimal a.capacity) (begins_run-run (decimal a.capacity) (decimal_is_run a.capacity small)) (ap is_none spelt)
       (reviewer_faultless false are)
       ∙ ap (λ o. goes (added n (unwrap_or o 1))) spelt
 

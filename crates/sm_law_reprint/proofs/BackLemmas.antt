@@ -1,15 +1,19 @@
 -- From names back to numbers.
-use Rattle.std.proofs.Common.{◌≡◌, ℕ, suc, ◌+◌, ◌<◌, ◌||◌, Bool, true, false, cond, List, [], ◌∷◌, length, map, get_or, refl, ap, ◌∙◌, arith, ℤ, pos}
-use Rattle.std.specs.List.{list_any}
+use Rattle.std.proofs.Common.{◌≡◌, ℕ, suc, ◌+◌, ◌<◌, ◌||◌, Bool, true, false, cond, if◌then◌else◌, nat_eq, Some, None, List, [], ◌∷◌, length, map, get_or, refl, sym, ap, ◌∙◌, arith, ℤ, pos}
+use Rattle.std.specs.List.{list_any, range_with_len, zip}
+use Rattle.std.specs.Cmp.Lexicographic.{pointwise}
+use Rattle.std.proofs.lemmas.Slice.Eq.{bytes_eq-Decides}
 use Rattle.sm_instance.specs.Written.{AgentData, row, entry, weighed, names_of as names_in}
-use Rattle.sm_instance.specs.Sound.{AreSoundAgents, IsPairOf}
-use Rattle.sm_instance.specs.Named.{SaidAgent, SaidPair, SaidWeight, names_of}
-use Rattle.sm_reader.specs.InstanceText.{is_unknown, lines_with_unknown, pairs_with_unknown, number_in, numbered}
+use Rattle.sm_instance.specs.Sound.{AreSoundAgents, IsEachOnce, IsPairOf}
+use Rattle.sm_instance.specs.Named.{SaidAgent, SaidPair, SaidWeight, names_of, names_first}
+use Rattle.sm_reader.specs.InstanceText.{is_unknown, lines_with_unknown, pairs_with_unknown, order_with_unknown, number_in, numbered, full_order}
 use Rattle.sm_printed.specs.Names.{name_of, said_agent, said_pair, said_weight}
 use Rattle.sm_law_reprint.specs.Reading.{unlined}
 use Rattle.sm_law_reprint.proofs.SectionLemmas.{lined}
 use Rattle.sm_law_reprint.proofs.AgentLemmas.{on_line}
 use Rattle.sm_law_reprint.proofs.PairLemmas.{pair_on_line, weight_on_line}
+use Rattle.sm_law_reprint.proofs.ReadLemmas.{order_on_line}
+use Rattle.sm_law_reprint.proofs.OrderLemmas.{full_order-none, full_order-all}
 use Rattle.sm_law_reprint.proofs.NameLemmas.{number_back, known_name, all_back, all_known}
 
 -- the names of agents that are read
@@ -88,18 +92,50 @@ module _ (lefts rights : List AgentData) (one two : Bool) (us : AreSoundAgents l
       ∙ ap (λ t. pair ∷ t) (pairs_back pairs (n + 1) (λ k inside. there (suc k) (omega arith)))
 
   -- no weight names an unknown agent
-  pub weights_known : (weights : List (ℕ × ℕ × ℤ)) (n : ℕ) → ((k : ℕ) → k < length weights → IsPairOf (length lefts) (length rights) (weighed (get_or weights k (0, 0, pos 0))))
-      → pairs_with_unknown ps rs (map (λ (w : SaidWeight). w.pair) (lined weight_on_line n (map (said_weight lefts rights) weights))) ≡ []
+  pub weights_known : (both : List ((ℕ × ℕ × ℤ) × ℤ)) (n : ℕ) → ((k : ℕ) → k < length both → IsPairOf (length lefts) (length rights) (weighed (get_or both k ((0, 0, pos 0), pos 0)).0))
+      → pairs_with_unknown ps rs (map (λ (w : SaidWeight). w.pair) (lined weight_on_line n (map (said_weight lefts rights) both))) ≡ []
   weights_known [] n there = refl
-  weights_known (x ∷ weights) n there =
-      none_marked_pair (marks (said_pair lefts rights (weighed x))) (pair_on_line n (said_pair lefts rights (weighed x))) _ (known_pair (weighed x) (there 0 (omega arith)))
-      (weights_known weights (n + 1) (λ k inside. there (suc k) (omega arith)))
+  weights_known (x ∷ both) n there =
+      none_marked_pair (marks (said_pair lefts rights (weighed x.0))) (pair_on_line n (said_pair lefts rights (weighed x.0))) _ (known_pair (weighed x.0) (there 0 (omega arith)))
+      (weights_known both (n + 1) (λ k inside. there (suc k) (omega arith)))
 
   -- and the weights are the same again
-  pub weights_back : (weights : List (ℕ × ℕ × ℤ)) (n : ℕ) → ((k : ℕ) → k < length weights → IsPairOf (length lefts) (length rights) (weighed (get_or weights k (0, 0, pos 0))))
-      → map (λ (w : SaidWeight). (number_in ps w.pair.proposer, number_in rs w.pair.reviewer, w.weight)) (lined weight_on_line n (map (said_weight lefts rights) weights)) ≡ weights
+  pub weights_back : (both : List ((ℕ × ℕ × ℤ) × ℤ)) (n : ℕ) → ((k : ℕ) → k < length both → IsPairOf (length lefts) (length rights) (weighed (get_or both k ((0, 0, pos 0), pos 0)).0))
+      → map (λ (w : SaidWeight). (number_in ps w.pair.proposer, number_in rs w.pair.reviewer, w.weight)) (lined weight_on_line n (map (said_weight lefts rights) both)) ≡ map (λ (x : (ℕ × ℕ × ℤ) × ℤ). x.0) both
   weights_back [] n there = refl
-  weights_back (x ∷ weights) n there =
-      ap (λ (y : ℕ × ℕ). (y.0, y.1, x.2) ∷ map (λ (w : SaidWeight). (number_in ps w.pair.proposer, number_in rs w.pair.reviewer, w.weight)) (lined weight_on_line (n + 1) (map (said_weight lefts rights) weights)))
-      (pair_back (weighed x) (there 0 (omega arith)))
-      ∙ ap (λ t. x ∷ t) (weights_back weights (n + 1) (λ k inside. there (suc k) (omega arith)))
+  weights_back (x ∷ both) n there =
+      ap (λ (y : ℕ × ℕ). (y.0, y.1, x.0.2) ∷ map (λ (w : SaidWeight). (number_in ps w.pair.proposer, number_in rs w.pair.reviewer, w.weight)) (lined weight_on_line (n + 1) (map (said_weight lefts rights) both)))
+      (pair_back (weighed x.0) (there 0 (omega arith)))
+      ∙ ap (λ t. x.0 ∷ t) (weights_back both (n + 1) (λ k inside. there (suc k) (omega arith)))
+
+  -- and so are the second weights
+  pub seconds_back : (both : List ((ℕ × ℕ × ℤ) × ℤ)) (n : ℕ) → map (λ (w : SaidWeight). w.second) (lined weight_on_line n (map (said_weight lefts rights) both)) ≡ map (λ (x : (ℕ × ℕ × ℤ) × ℤ). x.1) both
+  seconds_back [] n = refl
+  seconds_back (x ∷ both) n = ap (λ t. x.1 ∷ t) (seconds_back both (n + 1))
+
+-- lists that were joined give their parts again
+pub zip_firsts : {A B : Type 0} (xs : List A) (zs : List B) → length zs ≡ length xs → map (λ (x : A × B). x.0) (zip xs zs) ≡ xs
+zip_firsts [] [] long = refl
+zip_firsts [] (z ∷ zs) long = absurd (omega (arith, long))
+zip_firsts (x ∷ xs) [] long = absurd (omega (arith, long))
+zip_firsts (x ∷ xs) (z ∷ zs) long = ap (λ t. x ∷ t) (zip_firsts xs zs (omega (arith, long)))
+
+pub zip_seconds : {A B : Type 0} (xs : List A) (zs : List B) → length zs ≡ length xs → map (λ (x : A × B). x.1) (zip xs zs) ≡ zs
+zip_seconds [] [] long = refl
+zip_seconds [] (z ∷ zs) long = absurd (omega (arith, long))
+zip_seconds (x ∷ xs) [] long = absurd (omega (arith, long))
+zip_seconds (x ∷ xs) (z ∷ zs) long = ap (λ t. z ∷ t) (zip_seconds xs zs (omega (arith, long)))
+
+-- an order of proposers
+module _ (agents : List AgentData) (sound : AreSoundAgents agents true) (names : List (List ℕ)) (are : names ≡ names_in agents)
+    (order : List ℕ) (once : IsEachOnce (length agents) order) (n : ℕ) where
+  -- it names no unknown one
+  pub order_known : (t : Bool) → order_with_unknown names (order_on_line n (if t then None else Some (record { names = map (name_of agents) order; line = 0 }))) ≡ []
+  order_known true = refl
+  order_known false = ap (λ t. if t then n ∷ [] else []) (all_known agents true sound names are order once.in_range)
+
+  -- and it is the same again: that of the numbers where it isn't said
+  pub order_back : (t : Bool) → pointwise nat_eq order (range_with_len 0 (length agents)) ≡ t
+      → full_order (length agents) (map (number_in names) (names_first (order_on_line n (if t then None else Some (record { names = map (name_of agents) order; line = 0 }))))) ≡ order
+  order_back true e = full_order-none (length agents) ∙ sym ((bytes_eq-Decides order (range_with_len 0 (length agents))).0 e)
+  order_back false e = ap (full_order (length agents)) (all_back agents true sound names are order once.in_range) ∙ full_order-all (length agents) order once

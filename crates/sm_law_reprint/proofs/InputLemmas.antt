@@ -1,6 +1,8 @@
 -- What a sound instance says by names may be read again.
-use Rattle.std.proofs.Common.{◌≡◌, ◌≢◌, ℕ, ◌+◌, ◌<◌, ◌≤◌, Bool, true, List, [], ◌∷◌, length, map, get_or, All, AllPairs, refl, sym, ap, ◌∙◌, subst, arith, ℤ, pos}
-use Rattle.std.specs.List.{fold}
+use Rattle.std.proofs.Common.{◌≡◌, ◌≢◌, ℕ, ◌+◌, ◌<◌, ◌≤◌, Bool, true, false, if◌then◌else◌, Some, None, IfSome, nat_eq, List, [], ◌∷◌, length, map, get_or, All, AllPairs, refl, sym, ap, ◌∙◌, subst, arith, ℤ, pos}
+use Rattle.std.specs.List.{fold, range_with_len, zip}
+use Rattle.std.specs.Cmp.Lexicographic.{pointwise}
+use Rattle.std.proofs.lemmas.Slice.Zip.{length-zip, get_or-zip}
 use Rattle.std.proofs.lemmas.List.{length-map, get_or-map, get_or_default}
 use Rattle.std.proofs.lemmas.List.Elements.{All-map}
 use Rattle.sm_text.specs.Limits.{most_agents, most_entries}
@@ -15,7 +17,7 @@ use Rattle.sm_printed.proofs.ItemLemmas.{weight_there, force_there, forbid_there
 use Rattle.sm_law_reprint.proofs.AgentLemmas.{IsOwn, AreAgents}
 use Rattle.sm_law_reprint.proofs.PairLemmas.{HasNames, key_of, IsOwnWeight}
 use Rattle.sm_law_reprint.proofs.NameLemmas.{AreBelow, names_differ, is_named, same_number, all_named, none_repeated}
-use Rattle.sm_law_reprint.proofs.ReadLemmas.{IsPrintable}
+use Rattle.sm_law_reprint.proofs.ReadLemmas.{IsOwnOrder, IsPrintable}
 
 -- the names and the entries of agents
 pub said_names : (others agents : List AgentData) → names_of (map (said_agent others) agents) ≡ names_in agents
@@ -63,10 +65,28 @@ module _ (agents others : List AgentData) (single theirs : Bool) (sound : AreSou
 
 -- the pairs of an instance
 module _ (w : Written) (sound : IsInstance w) where
+  abbrev both : List ((ℕ × ℕ × ℤ) × ℤ)
+  both = zip w.weights w.seconds
+
+  abbrev none : (ℕ × ℕ × ℤ) × ℤ
+  none = ((0, 0, pos 0), pos 0)
+
   abbrev weight_at : ℕ → ℕ × ℕ × ℤ
   weight_at n = get_or w.weights n (0, 0, pos 0)
 
-  abbrev weight_said : ℕ × ℕ × ℤ → SaidWeight
+  abbrev both_at : ℕ → (ℕ × ℕ × ℤ) × ℤ
+  both_at n = (weight_at n, get_or w.seconds n (pos 0))
+
+  weighed_there : (n : ℕ) → n < length both → n < length w.weights
+  weighed_there n below = omega (arith, below, length-zip w.weights w.seconds)
+
+  seconded_there : (n : ℕ) → n < length both → n < length w.seconds
+  seconded_there n below = omega (arith, below, length-zip w.weights w.seconds)
+
+  both_here : (n : ℕ) → n < length both → get_or both n none ≡ both_at n
+  both_here n below = get_or-zip w.weights w.seconds n none (weighed_there n below) (seconded_there n below)
+
+  abbrev weight_said : (ℕ × ℕ × ℤ) × ℤ → SaidWeight
   weight_said = said_weight w.proposers w.reviewers
 
   abbrev pair_said : ℕ × ℕ → SaidPair
@@ -81,28 +101,32 @@ module _ (w : Written) (sound : IsInstance w) where
   in_items : (n : ℕ) → n < length w.weights → n < length (items_of w.weights w.forced w.forbidden)
   in_items n below = omega (arith, length-items w.weights w.forced w.forbidden)
 
-  own_weight_at : (n : ℕ) → n < length w.weights → IsOwnWeight (weight_said (weight_at n))
+  own_weight_at : (n : ℕ) → n < length both → IsOwnWeight (weight_said (both_at n))
   own_weight_at n below = record {
-    names = pair_names (weighed (weight_at n)) (weight_there w sound w.weights refl n below);
-    size = (sound.items n (in_items n below)).size below;
+    names = pair_names (weighed (weight_at n)) (weight_there w sound.seconds_each sound w.weights refl n (weighed_there n below));
+    size = (sound.items n (in_items n (weighed_there n below))).size (weighed_there n below);
+    second_size = sound.seconds_small n (pos 0) (seconded_there n below);
   }
 
-  all_weights : All IsOwnWeight (map weight_said w.weights)
-  all_weights = All-map IsOwnWeight weight_said w.weights
-      (λ (k : ℕ) (d : ℕ × ℕ × ℤ) (below : k < length w.weights). subst (λ (x : ℕ × ℕ × ℤ). IsOwnWeight (weight_said x)) (sym (get_or_default w.weights k d (0, 0, pos 0) below)) (own_weight_at k below))
+  all_weights : All IsOwnWeight (map weight_said both)
+  all_weights = All-map IsOwnWeight weight_said both
+      (λ (k : ℕ) (d : (ℕ × ℕ × ℤ) × ℤ) (below : k < length both). subst (λ (x : (ℕ × ℕ × ℤ) × ℤ). IsOwnWeight (weight_said x)) (sym (get_or_default both k d none below ∙ both_here k below)) (own_weight_at k below))
 
-  key_here : (k : ℕ) (d : List ℕ × List ℕ) → k < length w.weights → get_or (map key_of (map weight_said w.weights)) k d ≡ key_of (weight_said (weight_at k))
+  key_here : (k : ℕ) (d : List ℕ × List ℕ) → k < length both → get_or (map key_of (map weight_said both)) k d ≡ key_of (weight_said (both_at k))
   key_here k d below =
-      get_or-map key_of (map weight_said w.weights) k (weight_said (0, 0, pos 0)) d (omega (arith, length-map w.weights weight_said))
-      ∙ ap key_of (get_or-map weight_said w.weights k (0, 0, pos 0) (weight_said (0, 0, pos 0)) below)
+      get_or-map key_of (map weight_said both) k (weight_said none) d (omega (arith, below, length-map both weight_said))
+      ∙ ap key_of (get_or-map weight_said both k none (weight_said none) below)
+      ∙ ap (λ (x : (ℕ × ℕ × ℤ) × ℤ). key_of (weight_said x)) (both_here k below)
 
-  weights_differ : AllPairs ◌≢◌ (map key_of (map weight_said w.weights))
+  weights_differ : AllPairs ◌≢◌ (map key_of (map weight_said both))
   weights_differ i j d before inside same =
-      let here : j < length w.weights = omega (arith, length-map (map weight_said w.weights) key_of, length-map w.weights weight_said) in
-      let there : i < length w.weights = omega arith in
-      let keys = sym (key_here i d there) ∙ same ∙ key_here j d here in
-      let a = weight_there w sound w.weights refl i there in
-      let b = weight_there w sound w.weights refl j here in
+      let within : j < length both = omega (arith, inside, length-map (map weight_said both) key_of, length-map both weight_said) in
+      let first_within : i < length both = omega (arith, before, within) in
+      let here : j < length w.weights = weighed_there j within in
+      let there : i < length w.weights = weighed_there i first_within in
+      let keys = sym (key_here i d first_within) ∙ same ∙ key_here j d within in
+      let a = weight_there w sound.seconds_each sound w.weights refl i there in
+      let b = weight_there w sound.seconds_each sound w.weights refl j here in
       let first = same_number w.proposers true sound.proposers (weight_at i).0 (weight_at j).0 a.proposer b.proposer (ap (λ (k : List ℕ × List ℕ). k.0) keys) in
       let second = same_number w.reviewers (is_single w.kind) sound.reviewers (weight_at i).1 (weight_at j).1 a.reviewer b.reviewer (ap (λ (k : List ℕ × List ℕ). k.1) keys) in
       (sound.items j (in_items j here)).fresh here i before
@@ -115,12 +139,22 @@ module _ (w : Written) (sound : IsInstance w) where
   all_forced : All HasNames (map pair_said w.forced)
   all_forced = All-map HasNames pair_said w.forced
       (λ (k : ℕ) (d : ℕ × ℕ) (below : k < length w.forced). subst (λ (x : ℕ × ℕ). HasNames (pair_said x)) (sym (get_or_default w.forced k d (0, 0) below))
-      (pair_names (get_or w.forced k (0, 0)) (force_there w sound w.forced refl k below)))
+      (pair_names (get_or w.forced k (0, 0)) (force_there w sound.seconds_each sound w.forced refl k below)))
 
   all_forbidden : All HasNames (map pair_said w.forbidden)
   all_forbidden = All-map HasNames pair_said w.forbidden
       (λ (k : ℕ) (d : ℕ × ℕ) (below : k < length w.forbidden). subst (λ (x : ℕ × ℕ). HasNames (pair_said x)) (sym (get_or_default w.forbidden k d (0, 0) below))
-      (pair_names (get_or w.forbidden k (0, 0)) (forbid_there w sound w.forbidden refl k below)))
+      (pair_names (get_or w.forbidden k (0, 0)) (forbid_there w sound.seconds_each sound w.forbidden refl k below)))
+
+  -- an order, where there is one
+  order_good : (t : Bool) → IfSome (if t then None else Some (record { names = map (name_of w.proposers) w.order; line = 0 })) IsOwnOrder
+  order_good true = tt
+  order_good false =
+      let there : AreBelow (length w.proposers) w.order = λ i on. sound.order.in_range i on in
+      record {
+        names = all_named w.proposers true sound.proposers w.order there;
+        differ = none_repeated w.proposers true sound.proposers w.order there (λ i j before on. sound.order.once i j before on);
+      }
 
   -- what an instance with two sides says may be read again
   pub two_good : IsPrintable w.kind (said_of (Two w))
@@ -131,6 +165,7 @@ module _ (w : Written) (sound : IsInstance w) where
     weights = record { own = all_weights; differ = weights_differ };
     forced = all_forced;
     forbidden = all_forbidden;
+    order = order_good (pointwise nat_eq w.order (range_with_len 0 (length w.proposers)));
   }
 
 -- persons
@@ -149,4 +184,5 @@ room_good persons sound = record {
   };
   forced = λ (k : ℕ) (d : SaidPair) (below : k < 0). absurd (omega arith);
   forbidden = λ (k : ℕ) (d : SaidPair) (below : k < 0). absurd (omega arith);
+  order = tt;
 }

@@ -1,3 +1,4 @@
+pub mod OrderLemmas
 pub mod CutLemmas
 pub mod LineLemmas
 pub mod VerdictLemmas

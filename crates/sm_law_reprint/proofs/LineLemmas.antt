@@ -1,7 +1,8 @@
 -- The tokens of printed lines, which hold neither LF nor CR.
-use Rattle.std.proofs.Common.{◌≡◌, ℕ, suc, ◌<◌, ◌^◌, ◌==◌, ◌||◌, Bool, true, false, List, [], ◌∷◌, ◌++◌, codes, decimal, refl, ap, ◌∙◌, arith, append_assoc, ℤ, pos, negsuc}
+use Rattle.std.proofs.Common.{◌≡◌, ℕ, suc, ◌<◌, ◌^◌, ◌==◌, ◌||◌, Bool, true, false, if◌then◌else◌, List, [], ◌∷◌, ◌++◌, codes, decimal, refl, ap, ◌∙◌, arith, append_assoc, ℤ, pos, negsuc}
 use Rattle.std.specs.List.{list_all}
 use Rattle.std.specs.Fmt.{signed_decimal}
+use Rattle.std.specs.Fmt as fmt
 use Rattle.std.specs.Int.RustNames.{unsigned_abs}
 use Rattle.std.proofs.lemmas.Fmt.{decimal_nonempty}
 use Rattle.std.proofs.lemmas.Bool.{and_from}
@@ -13,7 +14,7 @@ use Rattle.sm_instance.specs.declared.kinds.Kind.TheVariants.{Marriage, Hospital
 use Rattle.sm_report.specs.Fields.{spaced}
 use Rattle.sm_report.proofs.DecimalLemmas.{first_true, second_true, digits_of_decimal}
 use Rattle.sm_report.proofs.FreeLemmas.{is_free, free_of, free-append}
-use Rattle.sm_printed.specs.Printed.{header_line, list_text, capacity_text}
+use Rattle.sm_printed.specs.Printed.{header_line, kind_word, list_text, capacity_text}
 use Rattle.sm_law_reprint.proofs.CutLemmas.{IsRun, name_is_run, tokens-run, mark_cut, tokens-blank, no_run, tokens-spaced}
 
 -- Numbers are runs.
@@ -105,10 +106,14 @@ words_free = (
 )
 
 -- nor does a header
-pub header_free : (kind : Kind) → IsFree (header_line kind)
-header_free Marriage = record { of_LF = refl; of_CR = refl }
-header_free Hospitals = record { of_LF = refl; of_CR = refl }
-header_free Roommates = record { of_LF = refl; of_CR = refl }
+pub header_free : (second : Bool) (kind : Kind) → IsFree (header_line (if second then 2 else 1) kind)
+unfolding fmt.digits
+header_free true Marriage = record { of_LF = refl; of_CR = refl }
+header_free true Hospitals = record { of_LF = refl; of_CR = refl }
+header_free true Roommates = record { of_LF = refl; of_CR = refl }
+header_free false Marriage = record { of_LF = refl; of_CR = refl }
+header_free false Hospitals = record { of_LF = refl; of_CR = refl }
+header_free false Roommates = record { of_LF = refl; of_CR = refl }
 
 -- a run begins with a name byte
 pub begins_run-run : (run : List ℕ) → IsRun run → begins_run run ≡ true
@@ -124,13 +129,25 @@ pub words_cut : (rest : List ℕ) → (tokens (codes "p " ++ rest) ≡ codes "p"
 unfolding is_blank begins_name is_name_byte
 words_cut rest = (refl, refl, refl, refl, refl)
 
--- headers and the line `end` are cut into their words
-pub headers_cut : (tokens (header_line Marriage) ≡ codes "stable" ∷ codes "1" ∷ codes "marriage" ∷ [])
-    × (tokens (header_line Hospitals) ≡ codes "stable" ∷ codes "1" ∷ codes "hospitals" ∷ [])
-    × (tokens (header_line Roommates) ≡ codes "stable" ∷ codes "1" ∷ codes "roommates" ∷ [])
-    × (tokens (codes "end") ≡ codes "end" ∷ [])
+-- headers are cut into their words
+pub headers_cut : (second : Bool) (kind : Kind) → tokens (header_line (if second then 2 else 1) kind) ≡ codes "stable" ∷ decimal (if second then 2 else 1) ∷ kind_word kind ∷ []
+unfolding is_blank begins_name is_name_byte fmt.digits
+headers_cut true Marriage = refl
+headers_cut true Hospitals = refl
+headers_cut true Roommates = refl
+headers_cut false Marriage = refl
+headers_cut false Hospitals = refl
+headers_cut false Roommates = refl
+
+-- and so is the line `end`
+pub end_cut : tokens (codes "end") ≡ codes "end" ∷ []
 unfolding is_blank begins_name is_name_byte
-headers_cut = (refl, refl, refl, refl)
+end_cut = refl
+
+-- the word of an order stands before its names
+pub order_cut : (rest : List ℕ) → begins_run rest ≡ false → tokens (codes "order" ++ rest) ≡ codes "order" ∷ tokens rest
+unfolding begins_name is_name_byte
+order_cut rest apart = tokens-run (codes "order") rest (name_is_run (codes "order") refl) apart
 
 -- a name and a list
 list_cut : (names : List (List ℕ)) → list_all is_name names ≡ true → tokens (list_text names) ≡ codes ":" ∷ names

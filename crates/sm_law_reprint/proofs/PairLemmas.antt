@@ -1,5 +1,5 @@
 -- The lines of pairs are read.
-use Rattle.std.proofs.Common.{◌≡◌, ◌≢◌, ℕ, ◌≤◌, ◌&&◌, ◌||◌, Bool, true, List, [], ◌∷◌, ◌++◌, map, codes, All, AllPairs, refl, sym, ap, ◌∙◌, subst, arith, append_assoc, append-nil}
+use Rattle.std.proofs.Common.{◌≡◌, ◌≢◌, ℕ, ◌≤◌, ◌&&◌, ◌||◌, Bool, true, false, if◌then◌else◌, List, [], ◌∷◌, ◌++◌, map, codes, All, AllPairs, refl, sym, ap, ◌∙◌, subst, arith, append_assoc, append-nil}
 use Rattle.std.specs.List.{list_any}
 use Rattle.std.specs.Fmt.{signed_decimal}
 use Rattle.std.specs.Int.RustNames.{unsigned_abs}
@@ -15,10 +15,12 @@ use Rattle.sm_instance.specs.Named.{SaidAgent, SaidPair, SaidWeight, Said, nothi
 use Rattle.sm_reader.specs.Judging.{goes, verdict_on}
 use Rattle.sm_keys.proofs.TextLemmas.{equal_text}
 use Rattle.sm_report.proofs.DecimalLemmas.{first_true, second_true, signed_of-decimal}
-use Rattle.sm_printed.specs.Printed.{pair_text, weight_line, force_line, forbid_line}
-use Rattle.sm_law_reprint.proofs.CutLemmas.{tokens-run_alone, tokens-blank, no_run}
+use Rattle.sm_printed.proofs.FormatLemmas.{zero_is}
+use Rattle.sm_text.specs.Tokens.{begins_run}
+use Rattle.sm_printed.specs.Printed.{is_zero, pair_text, weight_line, force_line, forbid_line}
+use Rattle.sm_law_reprint.proofs.CutLemmas.{tokens-run, tokens-run_alone, tokens-blank, no_run}
 use Rattle.sm_law_reprint.proofs.LineLemmas.{words_cut, tokens-pair, signed_is_run, begins_run-run, IsFree, both_free, name_free, run_free, words_free}
-use Rattle.sm_law_reprint.proofs.VerdictLemmas.{weight_goes, force_goes, forbid_goes}
+use Rattle.sm_law_reprint.proofs.VerdictLemmas.{weight_goes, second_goes, force_goes, forbid_goes}
 use Rattle.sm_law_reprint.proofs.AgentLemmas.{fresh_in}
 
 -- A pair has two names.
@@ -49,6 +51,7 @@ key_of w = (w.pair.proposer, w.pair.reviewer)
 pub record IsOwnWeight (w : SaidWeight) : Type 0 where
   pub names : HasNames w.pair
   pub size : unsigned_abs w.weight ≤ most_weight
+  pub second_size : unsigned_abs w.second ≤ most_weight
 
 -- weights that are read and that are left, of different pairs
 pub record AreWeights (done todo : List SaidWeight) : Type 0 where
@@ -91,29 +94,56 @@ module _ (proposers reviewers : List SaidAgent) where
   with_weights done = record nothing { proposers = proposers; reviewers = reviewers; weights = done }
 
   module _ (kind : Kind) (done : List SaidWeight) (w : SaidWeight) (todo : List SaidWeight) (are : AreWeights done (w ∷ todo)) where
+    fresh_weight : list_any (is_given_to w.pair.proposer w.pair.reviewer) done ≡ false
+    fresh_weight = by_keys w.pair.proposer w.pair.reviewer done
+        ∙ fresh_in (is_key w.pair.proposer w.pair.reviewer) (key_of w) (only_key w.pair.proposer w.pair.reviewer) (map key_of done) (map key_of todo) are.differ
+
     own_weight : IsOwnWeight w
     own_weight = All-head IsOwnWeight w todo are.own
 
-    weight_cut : tokens (weight_line w) ≡ codes "weight" ∷ w.pair.proposer ∷ w.pair.reviewer ∷ signed_decimal w.weight ∷ []
-    weight_cut =
+    weight_cut : (rest : List ℕ) → begins_run rest ≡ false
+        → tokens (codes "weight " ++ pair_text w.pair ++ codes " " ++ signed_decimal w.weight ++ rest) ≡ codes "weight" ∷ w.pair.proposer ∷ w.pair.reviewer ∷ signed_decimal w.weight ∷ tokens rest
+    weight_cut rest apart =
         let run = signed_decimal w.weight in
         let names = own_weight.names in
-        (words_cut (pair_text w.pair ++ codes " " ++ run)).2
-        ∙ ap (λ t. codes "weight" ∷ tokens t) (append_assoc (pair_text w.pair) (codes " ") run)
-        ∙ ap (λ t. codes "weight" ∷ t) (tokens-pair w.pair.proposer w.pair.reviewer (codes " " ++ run) names.proposer names.reviewer (no_run run).0
-        ∙ ap (λ t. w.pair.proposer ∷ w.pair.reviewer ∷ t) (tokens-blank run ∙ tokens-run_alone run (signed_is_run w.weight (omega (arith, own_weight.size)))))
+        let behind = codes " " ++ run ++ rest in
+        ap tokens (append_assoc (codes "weight " ++ pair_text w.pair ++ codes " ") run rest ∙ append_assoc (codes "weight " ++ pair_text w.pair) (codes " ") (run ++ rest)
+        ∙ append_assoc (codes "weight ") (pair_text w.pair) (codes " " ++ (run ++ rest)))
+        ∙ (words_cut (pair_text w.pair ++ behind)).2
+        ∙ ap (λ t. codes "weight" ∷ t) (tokens-pair w.pair.proposer w.pair.reviewer behind names.proposer names.reviewer (no_run (run ++ rest)).0
+        ∙ ap (λ t. w.pair.proposer ∷ w.pair.reviewer ∷ t) (tokens-blank (run ++ rest) ∙ tokens-run run rest (signed_is_run w.weight (omega (arith, own_weight.size))) apart))
 
-    -- the line of the next weight goes on, and adds it
-    pub weight_step : (n : ℕ) → kind ≢ Roommates
-        → verdict_on kind (with_weights done) n (tokens (weight_line w)) ≡ goes (with_weights (done ++ weight_on_line n w ∷ []))
-    weight_step n two =
-        let run = signed_decimal w.weight in
-        let names = own_weight.names in
-        let fresh = by_keys w.pair.proposer w.pair.reviewer done
-        ∙ fresh_in (is_key w.pair.proposer w.pair.reviewer) (key_of w) (only_key w.pair.proposer w.pair.reviewer) (map key_of done) (map key_of todo) are.differ in
-        ap (verdict_on kind (with_weights done) n) weight_cut
-        ∙ weight_goes (with_weights done) w.pair.proposer w.pair.reviewer names.proposer names.reviewer run w.weight
-        (begins_run-run run (signed_is_run w.weight (omega (arith, own_weight.size)))) (signed_of-decimal w.weight most_weight own_weight.size (omega arith)) fresh kind n two
+    -- the line of the next weight goes on, and adds it: under a header of format 2 where it has a second weight
+    pub weight_step : (format n : ℕ) → kind ≢ Roommates → (is_zero w.second ≡ false → format ≡ 2)
+        → verdict_on kind format (with_weights done) n (tokens (weight_line w)) ≡ goes (with_weights (done ++ weight_on_line n w ∷ []))
+    weight_step format n two needed = by_test (is_zero w.second) refl
+      where
+        run : List ℕ
+        run = signed_decimal w.weight
+
+        line : List ℕ
+        line = codes "weight " ++ pair_text w.pair ++ codes " " ++ signed_decimal w.weight
+
+        begins : begins_run run ≡ true
+        begins = begins_run-run run (signed_is_run w.weight (omega (arith, own_weight.size)))
+
+        by_test : (t : Bool) → is_zero w.second ≡ t
+            → verdict_on kind format (with_weights done) n (tokens (line ++ (if t then [] else codes " " ++ signed_decimal w.second))) ≡ goes (with_weights (done ++ weight_on_line n w ∷ []))
+        by_test true e =
+            let names = own_weight.names in
+            ap (verdict_on kind format (with_weights done) n) (weight_cut [] refl)
+            ∙ weight_goes (with_weights done) w.pair.proposer w.pair.reviewer names.proposer names.reviewer run w.weight begins
+            (signed_of-decimal w.weight most_weight own_weight.size (omega arith)) fresh_weight kind format n two
+            ∙ ap (λ z. goes (with_weights (done ++ (record { pair = pair_on_line n w.pair; weight = w.weight; second = z }) ∷ []))) (sym (zero_is w.second e))
+        by_test false e =
+            let names = own_weight.names in
+            let further = signed_decimal w.second in
+            ap (λ k. verdict_on kind k (with_weights done) n (tokens (line ++ (codes " " ++ further)))) (needed e)
+            ∙ ap (verdict_on kind 2 (with_weights done) n) (weight_cut (codes " " ++ further) (no_run further).0
+            ∙ ap (λ t. codes "weight" ∷ w.pair.proposer ∷ w.pair.reviewer ∷ run ∷ t) (tokens-blank further ∙ tokens-run_alone further (signed_is_run w.second (omega (arith, own_weight.second_size)))))
+            ∙ second_goes (with_weights done) w.pair.proposer w.pair.reviewer names.proposer names.reviewer run w.weight begins
+            (signed_of-decimal w.weight most_weight own_weight.size (omega arith)) fresh_weight kind n further w.second two
+            (begins_run-run further (signed_is_run w.second (omega (arith, own_weight.second_size)))) (signed_of-decimal w.second most_weight own_weight.second_size (omega arith))
 
   -- The forced and the forbidden pairs.
 
@@ -126,19 +156,19 @@ module _ (proposers reviewers : List SaidAgent) where
     abbrev pub with_forbidden : List SaidPair → List SaidPair → Said
     with_forbidden forced done = record nothing { proposers = proposers; reviewers = reviewers; weights = weights; forced = forced; forbidden = done }
 
-    module _ (kind : Kind) (two : kind ≢ Roommates) (done : List SaidPair) (pair : SaidPair) (names : HasNames pair) where
+    module _ (kind : Kind) (format : ℕ) (two : kind ≢ Roommates) (done : List SaidPair) (pair : SaidPair) (names : HasNames pair) where
       -- the line of the next forced pair goes on, and adds it
-      pub force_step : (n : ℕ) → verdict_on kind (with_forced done) n (tokens (force_line pair)) ≡ goes (with_forced (done ++ pair_on_line n pair ∷ []))
+      pub force_step : (n : ℕ) → verdict_on kind format (with_forced done) n (tokens (force_line pair)) ≡ goes (with_forced (done ++ pair_on_line n pair ∷ []))
       force_step n =
-          ap (verdict_on kind (with_forced done) n) ((words_cut (pair_text pair)).3 ∙ ap (λ t. codes "force" ∷ t) (two_cut pair names))
-          ∙ force_goes (with_forced done) pair.proposer pair.reviewer names.proposer names.reviewer kind n two
+          ap (verdict_on kind format (with_forced done) n) ((words_cut (pair_text pair)).3 ∙ ap (λ t. codes "force" ∷ t) (two_cut pair names))
+          ∙ force_goes (with_forced done) pair.proposer pair.reviewer names.proposer names.reviewer kind format n two
 
       -- the line of the next forbidden pair goes on, and adds it
       pub forbid_step : (forced : List SaidPair) (n : ℕ)
-          → verdict_on kind (with_forbidden forced done) n (tokens (forbid_line pair)) ≡ goes (with_forbidden forced (done ++ pair_on_line n pair ∷ []))
+          → verdict_on kind format (with_forbidden forced done) n (tokens (forbid_line pair)) ≡ goes (with_forbidden forced (done ++ pair_on_line n pair ∷ []))
       forbid_step forced n =
-          ap (verdict_on kind (with_forbidden forced done) n) ((words_cut (pair_text pair)).4 ∙ ap (λ t. codes "forbid" ∷ t) (two_cut pair names))
-          ∙ forbid_goes (with_forbidden forced done) pair.proposer pair.reviewer names.proposer names.reviewer kind n two
+          ap (verdict_on kind format (with_forbidden forced done) n) ((words_cut (pair_text pair)).4 ∙ ap (λ t. codes "forbid" ∷ t) (two_cut pair names))
+          ∙ forbid_goes (with_forbidden forced done) pair.proposer pair.reviewer names.proposer names.reviewer kind format n two
 
 -- the line of a forced pair holds neither LF nor CR
 pub force_free : (pair : SaidPair) → HasNames pair → IsFree (force_line pair)
@@ -152,4 +182,8 @@ forbid_free pair names = both_free words_free.4 (two_free pair names)
 pub weight_free : (w : SaidWeight) → IsOwnWeight w → IsFree (weight_line w)
 weight_free w own =
     let run = signed_decimal w.weight in
-    both_free (both_free (both_free words_free.2 (two_free w.pair own.names)) words_free.5) (run_free run (signed_is_run w.weight (omega (arith, own.size))).bytes)
+    both_free (both_free (both_free (both_free words_free.2 (two_free w.pair own.names)) words_free.5) (run_free run (signed_is_run w.weight (omega (arith, own.size))).bytes)) (by_test (is_zero w.second))
+  where
+    by_test : (t : Bool) → IsFree (if t then [] else codes " " ++ signed_decimal w.second)
+    by_test true = record { of_LF = refl; of_CR = refl }
+    by_test false = both_free words_free.5 (run_free (signed_decimal w.second) (signed_is_run w.second (omega (arith, own.second_size))).bytes)

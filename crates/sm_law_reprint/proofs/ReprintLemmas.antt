@@ -1,27 +1,29 @@
 -- A printed instance is read back.
-use Rattle.std.proofs.Common.{◌≡◌, ◌≢◌, ℕ, ◌+◌, ◌<◌, ◌≤◌, true, List, [], ◌++◌, length, map, Ok, refl, sym, ap, ◌∙◌, arith, length-append, ℤ, pos}
-use Rattle.std.specs.List.{range_with_len}
+use Rattle.std.proofs.Common.{◌≡◌, ◌≢◌, ℕ, ◌+◌, ◌<◌, ◌≤◌, Bool, true, nat_eq, List, [], ◌++◌, length, map, get_or, Ok, refl, sym, ap, ◌∙◌, subst, arith, length-append, ℤ, pos}
+use Rattle.std.specs.List.{range_with_len, zip}
+use Rattle.std.specs.Cmp.Lexicographic.{pointwise}
 use Rattle.std.proofs.lemmas.List.{length-map}
+use Rattle.std.proofs.lemmas.Slice.Zip.{length-zip, get_or-zip}
 use Rattle.sm_text.specs.Limits.{most_bytes}
-use Rattle.sm_instance.specs.Written.{AgentData, Written, row, entry, names_of as names_in}
-use Rattle.sm_instance.specs.Sound.{IsInstance, ArePersons, is_single}
+use Rattle.sm_instance.specs.Written.{AgentData, Written, row, entry, weighed, names_of as names_in}
+use Rattle.sm_instance.specs.Sound.{IsInstance, IsPairOf, ArePersons, is_single}
 use Rattle.sm_instance.specs.declared.kinds.Kind.{Kind}
 use Rattle.sm_instance.specs.declared.kinds.Kind.TheVariants.{Marriage, Hospitals, Roommates}
 use Rattle.sm_instance.specs.declared.inputs.Input.TheVariants.{Two, Room}
-use Rattle.sm_instance.specs.Named.{Said, names_of}
+use Rattle.sm_instance.specs.Named.{SaidAgent, Said, names_of, names_first}
 use Rattle.sm_answer.specs.Writing.{text_of}
-use Rattle.sm_reader.specs.InstanceText.{ended, listed_by_proposers, unknown_lines, lines_with_unknown, two_sides, input_of}
+use Rattle.sm_reader.specs.InstanceText.{ended, listed_by_proposers, unknown_lines, lines_with_unknown, two_sides, input_of, number_in, full_order}
 use Rattle.sm_printed.specs.Names.{said_of}
-use Rattle.sm_printed.specs.Printed.{header_line, agent_lines, printed_lines}
+use Rattle.sm_printed.specs.Printed.{format_of, header_line, agent_lines, printed_lines}
 use Rattle.sm_printed.proofs.ItemLemmas.{weight_there, force_there, forbid_there}
-use Rattle.sm_law_reprint.specs.Reading.{unlined, without_lines, printed_text, IsReadBack, IsOfFormatOne, PrintedIsRead}
+use Rattle.sm_law_reprint.specs.Reading.{without_lines, printed_text, IsReadBack, PrintedIsRead}
 use Rattle.sm_law_reprint.proofs.CutLemmas.{with_end}
-use Rattle.sm_law_reprint.proofs.ReadLemmas.{lined_said, last_line, two_read, persons_read, lines_free, text_read}
+use Rattle.sm_law_reprint.proofs.ReadLemmas.{lined_said, last_line, under_format, order_format, two_read, persons_read, lines_free, text_read}
 use Rattle.sm_law_reprint.proofs.InputLemmas.{two_good, room_good}
-use Rattle.sm_law_reprint.proofs.BackLemmas.{names_of-lined, agents_known, agents_back, pairs_known, pairs_back, weights_known, weights_back}
+use Rattle.sm_law_reprint.proofs.BackLemmas.{names_of-lined, agents_known, agents_back, pairs_known, pairs_back, weights_known, weights_back, seconds_back, zip_firsts, zip_seconds, order_known, order_back}
 
-five_empty : {a b c d e : List ℕ} → a ≡ [] → b ≡ [] → c ≡ [] → d ≡ [] → e ≡ [] → a ++ b ++ c ++ d ++ e ≡ []
-five_empty h1 h2 h3 h4 h5 = rw (h1, h2, h3, h4, h5) refl
+six_empty : {a b c d e f : List ℕ} → a ≡ [] → b ≡ [] → c ≡ [] → d ≡ [] → e ≡ [] → f ≡ [] → a ++ b ++ c ++ d ++ e ++ f ≡ []
+six_empty h1 h2 h3 h4 h5 h6 = rw (h1, h2, h3, h4, h5, h6) refl
 
 -- where all names are known the text means the instance
 means_read : (kind : Kind) (said : Said) (rest line : ℕ) → unknown_lines kind said ≡ []
@@ -30,11 +32,11 @@ means_read kind said rest line none = rw none refl
 
 -- the text of a header and of lines
 whole_length : (kind : Kind) (said : Said)
-    → 0 + length (with_end (header_line kind)) + length (text_of (agent_lines kind said)) ≡ length (text_of (printed_lines kind said))
-whole_length kind said = omega (arith, length-append (with_end (header_line kind)) (text_of (agent_lines kind said)))
+    → 0 + length (with_end (header_line (format_of said) kind)) + length (text_of (agent_lines kind said)) ≡ length (text_of (printed_lines kind said))
+whole_length kind said = omega (arith, length-append (with_end (header_line (format_of said) kind)) (text_of (agent_lines kind said)))
 
 -- an instance with two sides
-module _ (w : Written) (sound : IsInstance w) (plain : IsOfFormatOne (Two w)) where
+module _ (w : Written) (sound : IsInstance w) where
   abbrev said : Said
   said = said_of (Two w)
 
@@ -53,6 +55,12 @@ module _ (w : Written) (sound : IsInstance w) (plain : IsOfFormatOne (Two w)) wh
   abbrev n4 : ℕ
   n4 = n3 + length said.forced
 
+  abbrev n5 : ℕ
+  n5 = n4 + length said.forbidden
+
+  abbrev both : List ((ℕ × ℕ × ℤ) × ℤ)
+  both = zip w.weights w.seconds
+
   proposer_names : names_of now.proposers ≡ names_in w.proposers
   proposer_names = names_of-lined w.reviewers w.proposers 2
 
@@ -65,17 +73,32 @@ module _ (w : Written) (sound : IsInstance w) (plain : IsOfFormatOne (Two w)) wh
   reviewers_listed : (a i : ℕ) → i < length (row w.reviewers a) → entry w.reviewers a i < length w.proposers
   reviewers_listed a i on = (sound.reviewer_entries.sound a i on).in_range
 
+  weights_there : (k : ℕ) → k < length both → IsPairOf (length w.proposers) (length w.reviewers) (weighed (get_or both k ((0, 0, pos 0), pos 0)).0)
+  weights_there k below =
+      let long = length-zip w.weights w.seconds in
+      let first : k < length w.weights = omega (arith, below, long) in
+      let second : k < length w.seconds = omega (arith, below, long) in
+      subst (λ (x : (ℕ × ℕ × ℤ) × ℤ). IsPairOf (length w.proposers) (length w.reviewers) (weighed x.0)) (sym (get_or-zip w.weights w.seconds k ((0, 0, pos 0), pos 0) first second))
+      (weight_there w sound.seconds_each sound w.weights refl k first)
+
+  forced_there : (k : ℕ) → k < length w.forced → IsPairOf (length w.proposers) (length w.reviewers) (get_or w.forced k (0, 0))
+  forced_there = force_there w sound.seconds_each sound w.forced refl
+
+  forbidden_there : (k : ℕ) → k < length w.forbidden → IsPairOf (length w.proposers) (length w.reviewers) (get_or w.forbidden k (0, 0))
+  forbidden_there = forbid_there w sound.seconds_each sound w.forbidden refl
+
+  abbrev counted : Bool
+  counted = pointwise nat_eq w.order (range_with_len 0 (length w.proposers))
+
   -- all names are known
   two_known : (kind : Kind) → kind ≢ Roommates → unknown_lines kind now ≡ []
-  two_known kind two = five_empty
+  two_known kind two = six_empty
       (by_kind kind two)
       (agents_known w.proposers true sound.proposers (names_of now.proposers) proposer_names w.reviewers n1 reviewers_listed)
-      (weights_known w.proposers w.reviewers true (is_single w.kind) sound.proposers sound.reviewers (names_of now.proposers) (names_of now.reviewers) proposer_names reviewer_names w.weights n2
-      (weight_there w sound w.weights refl))
-      (pairs_known w.proposers w.reviewers true (is_single w.kind) sound.proposers sound.reviewers (names_of now.proposers) (names_of now.reviewers) proposer_names reviewer_names w.forced n3
-      (force_there w sound w.forced refl))
-      (pairs_known w.proposers w.reviewers true (is_single w.kind) sound.proposers sound.reviewers (names_of now.proposers) (names_of now.reviewers) proposer_names reviewer_names w.forbidden n4
-      (forbid_there w sound w.forbidden refl))
+      (weights_known w.proposers w.reviewers true (is_single w.kind) sound.proposers sound.reviewers (names_of now.proposers) (names_of now.reviewers) proposer_names reviewer_names both n2 weights_there)
+      (pairs_known w.proposers w.reviewers true (is_single w.kind) sound.proposers sound.reviewers (names_of now.proposers) (names_of now.reviewers) proposer_names reviewer_names w.forced n3 forced_there)
+      (pairs_known w.proposers w.reviewers true (is_single w.kind) sound.proposers sound.reviewers (names_of now.proposers) (names_of now.reviewers) proposer_names reviewer_names w.forbidden n4 forbidden_there)
+      (order_known w.proposers sound.proposers (names_of now.proposers) proposer_names w.order sound.order n5 counted)
     where
       lists_known : lines_with_unknown (names_of now.reviewers) now.proposers ≡ []
       lists_known = agents_known w.reviewers (is_single w.kind) sound.reviewers (names_of now.reviewers) reviewer_names w.proposers 2 proposers_listed
@@ -88,30 +111,22 @@ module _ (w : Written) (sound : IsInstance w) (plain : IsOfFormatOne (Two w)) wh
   -- the instance is the same again
   same_sides : (kind : Kind) → kind ≡ w.kind → without_lines (Two (two_sides kind now)) ≡ without_lines (Two w)
   same_sides kind is = ap (λ (x : Written). Two x) (same_parts is
-      proposers_back
+      (agents_back w.reviewers (is_single w.kind) sound.reviewers (names_of now.reviewers) reviewer_names w.proposers 2 proposers_listed)
       (agents_back w.proposers true sound.proposers (names_of now.proposers) proposer_names w.reviewers n1 reviewers_listed)
-      same_weights
-      (pairs_back w.proposers w.reviewers true (is_single w.kind) sound.proposers sound.reviewers (names_of now.proposers) (names_of now.reviewers) proposer_names reviewer_names w.forced n3
-      (force_there w sound w.forced refl))
-      (pairs_back w.proposers w.reviewers true (is_single w.kind) sound.proposers sound.reviewers (names_of now.proposers) (names_of now.reviewers) proposer_names reviewer_names w.forbidden n4
-      (forbid_there w sound w.forbidden refl))
-      (ap (map (λ _. pos 0)) same_weights ∙ sym plain.0)
-      (ap (range_with_len 0) same_count ∙ sym plain.1))
+      (weights_back w.proposers w.reviewers true (is_single w.kind) sound.proposers sound.reviewers (names_of now.proposers) (names_of now.reviewers) proposer_names reviewer_names both n2 weights_there
+      ∙ zip_firsts w.weights w.seconds sound.seconds_each)
+      (pairs_back w.proposers w.reviewers true (is_single w.kind) sound.proposers sound.reviewers (names_of now.proposers) (names_of now.reviewers) proposer_names reviewer_names w.forced n3 forced_there)
+      (pairs_back w.proposers w.reviewers true (is_single w.kind) sound.proposers sound.reviewers (names_of now.proposers) (names_of now.reviewers) proposer_names reviewer_names w.forbidden n4 forbidden_there)
+      (seconds_back w.proposers w.reviewers true (is_single w.kind) sound.proposers sound.reviewers (names_of now.proposers) (names_of now.reviewers) proposer_names reviewer_names both n2
+      ∙ zip_seconds w.weights w.seconds sound.seconds_each)
+      (ap (λ k. full_order k (map (number_in (names_of now.proposers)) (names_first now.order))) as_many
+      ∙ order_back w.proposers sound.proposers (names_of now.proposers) proposer_names w.order sound.order n5 counted refl))
     where
-      sides : Written
-      sides = two_sides kind now
+      as_many : length now.proposers ≡ length w.proposers
+      as_many = sym (length-map now.proposers (λ (a : SaidAgent). a.name)) ∙ ap length proposer_names ∙ length-map w.proposers (λ (a : AgentData). a.name)
 
-      proposers_back : map unlined sides.proposers ≡ map unlined w.proposers
-      proposers_back = agents_back w.reviewers (is_single w.kind) sound.reviewers (names_of now.reviewers) reviewer_names w.proposers 2 proposers_listed
-
-      same_weights : sides.weights ≡ w.weights
-      same_weights = weights_back w.proposers w.reviewers true (is_single w.kind) sound.proposers sound.reviewers (names_of now.proposers) (names_of now.reviewers) proposer_names reviewer_names w.weights n2
-          (weight_there w sound w.weights refl)
-
-      same_count : length sides.proposers ≡ length w.proposers
-      same_count = sym (length-map sides.proposers unlined) ∙ ap length proposers_back ∙ length-map w.proposers unlined
-
-      same_parts : {k k' : Kind} {a a' b b' : List AgentData} {x x' : List (ℕ × ℕ × ℤ)} {f f' g g' : List (ℕ × ℕ)} {s s' : List ℤ} {o o' : List ℕ} → k ≡ k' → a ≡ a' → b ≡ b' → x ≡ x' → f ≡ f' → g ≡ g' → s ≡ s' → o ≡ o'
+      same_parts : {k k' : Kind} {a a' b b' : List AgentData} {x x' : List (ℕ × ℕ × ℤ)} {f f' g g' : List (ℕ × ℕ)} {s s' : List ℤ} {o o' : List ℕ}
+          → k ≡ k' → a ≡ a' → b ≡ b' → x ≡ x' → f ≡ f' → g ≡ g' → s ≡ s' → o ≡ o'
           → let one : Written = record { kind = k; proposers = a; reviewers = b; weights = x; forced = f; forbidden = g; seconds = s; order = o } in
           let other : Written = record { kind = k'; proposers = a'; reviewers = b'; weights = x'; forced = f'; forbidden = g'; seconds = s'; order = o' } in one ≡ other
       same_parts h0 h1 h2 h3 h4 h5 h6 h7 = cc
@@ -127,7 +142,7 @@ module _ (w : Written) (sound : IsInstance w) (plain : IsOfFormatOne (Two w)) wh
       record {
         read = record { input = input_of w.kind now; header_line = 1; rest = length (printed_text (Two w)); rest_line = last_line said };
         means = text_read w.kind said (lines_free w.kind said good) short
-            ∙ two_read w.kind 1 said good sound.two_sided (0 + length (with_end (header_line w.kind)))
+            ∙ two_read w.kind (format_of said) 1 said good sound.two_sided (under_format said) (order_format said) (0 + length (with_end (header_line (format_of said) w.kind)))
             ∙ ap (λ p. ended w.kind 1 now p (last_line said)) (whole_length w.kind said)
             ∙ means_read w.kind now (length (printed_text (Two w))) (last_line said) (two_known w.kind sound.two_sided);
         whole = refl;
@@ -146,15 +161,15 @@ room_back persons sound short =
     record {
       read = record { input = input_of Roommates now; header_line = 1; rest = length (printed_text (Room persons)); rest_line = line };
       means = text_read Roommates said (lines_free Roommates said good) short
-          ∙ persons_read 1 said.proposers good.proposers (0 + length (with_end (header_line Roommates)))
+          ∙ persons_read (format_of said) 1 said.proposers good.proposers (0 + length (with_end (header_line (format_of said) Roommates)))
           ∙ ap (λ p. ended Roommates 1 now p line) (whole_length Roommates said)
           ∙ means_read Roommates now (length (printed_text (Room persons))) line
-          (five_empty (agents_known persons true sound.agents (names_of now.proposers) names persons 2 listed) refl refl refl refl);
+          (six_empty (agents_known persons true sound.agents (names_of now.proposers) names persons 2 listed) refl refl refl refl refl);
       whole = refl;
       same = ap (λ (x : List AgentData). Room x) (agents_back persons true sound.agents (names_of now.proposers) names persons 2 listed);
     }
 
 -- each printed instance that isn't too long is read back
 pub printed_is_read : PrintedIsRead
-printed_is_read (Two w) sound plain short = two_back w sound plain short
-printed_is_read (Room persons) sound plain short = room_back persons sound short
+printed_is_read (Two w) sound short = two_back w sound short
+printed_is_read (Room persons) sound short = room_back persons sound short

@@ -1,8 +1,9 @@
 -- Verdicts on printed lines.
-use Rattle.std.proofs.Common.{◌≡◌, ◌≢◌, ℕ, ◌+◌, ◌&&◌, ◌||◌, Bool, true, false, not, List, [], ◌∷◌, ◌++◌, length, codes, nat_le, nat_lt, Option, Some, None, is_none, refl, ap, ◌∙◌, ℤ}
+use Rattle.std.proofs.Common.{◌≡◌, ◌≢◌, ℕ, ◌+◌, ◌&&◌, ◌||◌, Bool, true, false, not, cond, eqb, if◌then◌else◌, List, [], ◌∷◌, ◌++◌, length, codes, nat_le, nat_lt, Option, Some, None, is_none, is_some, refl, ap, ◌∙◌, ℤ, pos}
 use Rattle.std.specs.List.{list_all, list_any}
 use Rattle.std.specs.Option.{option_or}
 use Rattle.std.specs.Str.{bytes_eq}
+use Rattle.std.specs.Fmt as fmt
 use Rattle.std.proofs.lemmas.Bool.{and_from}
 use Rattle.sm_text.specs.Limits.{most_agents, most_entries}
 use Rattle.sm_text.specs.Name.{begins_name, is_name_byte, is_name}
@@ -13,18 +14,44 @@ use Rattle.sm_instance.specs.declared.kinds.Kind.TheVariants.{Marriage, Hospital
 use Rattle.sm_instance.specs.declared.kinds.Side.{Side}
 use Rattle.sm_instance.specs.declared.kinds.Side.TheVariants.{Proposers, Reviewers}
 use Rattle.sm_instance.specs.Named.{SaidPair, SaidWeight, Said, names_of, agents_on, all_entries, is_given_to}
-use Rattle.sm_reader.specs.Forms.{Form, declares, weighs, is_bad, list_form, capacity_form, weight_form, pair_form, reviewer_form, two_sided_form, form_behind, is_end, header_of}
-use Rattle.sm_reader.specs.Judging.{goes, stops, heads, heading_of, verdict_on, first_fault, fault_of, said_with, is_bad_capacity, weight_in, has_repeated}
+use Rattle.sm_reader.specs.Forms.{Form, declares, orders, weighs, is_bad, list_form, capacity_form, weight_form, pair_form, reviewer_form, two_sided_form, form_behind, order_form, second_form, two_sided_added_form, added_form, form_under, is_end, header_of}
+use Rattle.sm_reader.specs.Judging.{goes, stops, of_form, heads, heading_of, verdict_on, first_fault, fault_of, said_with, is_bad_capacity, weight_in, second_in, has_repeated}
 use Rattle.sm_reader.proofs.NameLemmas.{names_begin}
 use Rattle.sm_report.proofs.DecimalLemmas.{first_true}
 use Rattle.sm_printed.specs.Printed.{header_line}
-use Rattle.sm_law_reprint.proofs.LineLemmas.{headers_cut}
+use Rattle.sm_law_reprint.proofs.LineLemmas.{headers_cut, end_cut}
 
 -- a line of a form without a fault goes on
-goes_with : (kind : Kind) (said : Said) (n : ℕ) (word : List ℕ) (rest : List (List ℕ)) (form : Form) → list_any is_bad (word ∷ rest) ≡ false → is_end (word ∷ rest) ≡ false
-    → form_behind kind word rest ≡ Some form → fault_of said form ≡ None → verdict_on kind said n (word ∷ rest) ≡ goes (said_with said n form)
+goes_under : (kind : Kind) (format : ℕ) (said : Said) (n : ℕ) (word : List ℕ) (rest : List (List ℕ)) (form : Form) → list_any is_bad (word ∷ rest) ≡ false → is_end (word ∷ rest) ≡ false
+    → form_under kind format word rest ≡ Some form → fault_of said form ≡ None → verdict_on kind format said n (word ∷ rest) ≡ goes (said_with said n form)
 unfolding verdict_on
-goes_with kind said n word rest form good more formed none = rw (good, more, formed, none) refl
+goes_under kind format said n word rest form good more formed none = rw (good, more, formed, none) refl
+
+-- a form of format 1 is one of format 2
+under_either : (kind : Kind) (format : ℕ) (word : List ℕ) (rest : List (List ℕ)) (form : Form) → form_behind kind word rest ≡ Some form → form_under kind format word rest ≡ Some form
+unfolding form_under
+under_either kind format word rest form e = by_test (eqb format 2)
+  where
+    by_test : (t : Bool) → cond t (option_or (form_behind kind word rest) (added_form kind word rest)) (form_behind kind word rest) ≡ Some form
+    by_test true = ap (λ o. option_or o (added_form kind word rest)) e
+    by_test false = e
+
+-- so a line of such a form goes on under either header
+goes_with : (kind : Kind) (format : ℕ) (said : Said) (n : ℕ) (word : List ℕ) (rest : List (List ℕ)) (form : Form) → list_any is_bad (word ∷ rest) ≡ false → is_end (word ∷ rest) ≡ false
+    → form_behind kind word rest ≡ Some form → fault_of said form ≡ None → verdict_on kind format said n (word ∷ rest) ≡ goes (said_with said n form)
+goes_with kind format said n word rest form good more formed none = goes_under kind format said n word rest form good more (under_either kind format word rest form formed) none
+
+-- a line of a form of format 1 is judged by that form under either header
+verdict_is : (kind : Kind) (format : ℕ) (said : Said) (n : ℕ) (word : List ℕ) (rest : List (List ℕ)) → list_any is_bad (word ∷ rest) ≡ false → is_end (word ∷ rest) ≡ false
+    → is_some (form_behind kind word rest) ≡ true → verdict_on kind format said n (word ∷ rest) ≡ of_form said n (form_behind kind word rest)
+unfolding verdict_on form_under
+verdict_is kind format said n word rest good more formed =
+    rw (good, more) (ap (of_form said n) (same (eqb format 2) (form_behind kind word rest) (added_form kind word rest) formed))
+  where
+    same : (t : Bool) (o x : Option Form) → is_some o ≡ true → cond t (option_or o x) o ≡ o
+    same true (Some form) x h = refl
+    same true None x h = absurd cc
+    same false o x h = refl
 
 -- No token is bad.
 
@@ -53,8 +80,9 @@ unfolding is_bad is_mark begins_name is_name_byte
 marks_good = (refl, refl, refl)
 
 words_good : (is_bad (codes "p") ≡ false) × (is_bad (codes "r") ≡ false) × (is_bad (codes "weight") ≡ false) × (is_bad (codes "force") ≡ false) × (is_bad (codes "forbid") ≡ false)
+    × (is_bad (codes "order") ≡ false)
 unfolding is_bad is_mark begins_name is_name_byte
-words_good = (refl, refl, refl, refl, refl)
+words_good = (refl, refl, refl, refl, refl, refl)
 
 no_end : (word name : List ℕ) (rest : List (List ℕ)) → is_end (word ∷ name ∷ rest) ≡ false
 unfolding is_end
@@ -120,32 +148,32 @@ no_fault said side name capacity entries ok number =
 
 module _ (said : Said) (name : List ℕ) (entries : List (List ℕ)) where
   -- a faultless line of a proposer goes on, and declares it
-  pub proposer_goes : (kind : Kind) (n : ℕ) → IsFaultless said Proposers name entries
-      → verdict_on kind said n (codes "p" ∷ name ∷ codes ":" ∷ entries) ≡ goes (said_with said n (declares Proposers name None entries))
-  proposer_goes kind n ok =
+  pub proposer_goes : (kind : Kind) (format n : ℕ) → IsFaultless said Proposers name entries
+      → verdict_on kind format said n (codes "p" ∷ name ∷ codes ":" ∷ entries) ≡ goes (said_with said n (declares Proposers name None entries))
+  proposer_goes kind format n ok =
       let is = name_begins name ok.is in
       let are = names_begin entries ok.are in
-      goes_with kind said n (codes "p") (name ∷ codes ":" ∷ entries) (declares Proposers name None entries)
+      goes_with kind format said n (codes "p") (name ∷ codes ":" ∷ entries) (declares Proposers name None entries)
       (let w = words_good.0 in let m = marks_good.0 in let a = run_good name is in let b = runs_good entries are in rw (w, a, m, b) refl)
       (no_end (codes "p") name (codes ":" ∷ entries)) (p_form name entries is are kind) (no_fault said Proposers name None entries ok refl)
 
   -- in a marriage so does that of a reviewer
-  pub reviewer_goes : (n : ℕ) → IsFaultless said Reviewers name entries
-      → verdict_on Marriage said n (codes "r" ∷ name ∷ codes ":" ∷ entries) ≡ goes (said_with said n (declares Reviewers name None entries))
-  reviewer_goes n ok =
+  pub reviewer_goes : (format n : ℕ) → IsFaultless said Reviewers name entries
+      → verdict_on Marriage format said n (codes "r" ∷ name ∷ codes ":" ∷ entries) ≡ goes (said_with said n (declares Reviewers name None entries))
+  reviewer_goes format n ok =
       let is = name_begins name ok.is in
       let are = names_begin entries ok.are in
-      goes_with Marriage said n (codes "r") (name ∷ codes ":" ∷ entries) (declares Reviewers name None entries)
+      goes_with Marriage format said n (codes "r") (name ∷ codes ":" ∷ entries) (declares Reviewers name None entries)
       (let w = words_good.1 in let m = marks_good.0 in let a = run_good name is in let b = runs_good entries are in rw (w, a, m, b) refl)
       (no_end (codes "r") name (codes ":" ∷ entries)) (r_form name entries is are) (no_fault said Reviewers name None entries ok refl)
 
   -- in hospitals so does that of a reviewer with its capacity
-  pub hospital_goes : (n : ℕ) (number : List ℕ) → begins_run number ≡ true → is_bad_capacity (Some number) ≡ false → IsFaultless said Reviewers name entries
-      → verdict_on Hospitals said n (codes "r" ∷ name ∷ codes "[" ∷ number ∷ codes "]" ∷ codes ":" ∷ entries) ≡ goes (said_with said n (declares Reviewers name (Some number) entries))
-  hospital_goes n number digits right ok =
+  pub hospital_goes : (format n : ℕ) (number : List ℕ) → begins_run number ≡ true → is_bad_capacity (Some number) ≡ false → IsFaultless said Reviewers name entries
+      → verdict_on Hospitals format said n (codes "r" ∷ name ∷ codes "[" ∷ number ∷ codes "]" ∷ codes ":" ∷ entries) ≡ goes (said_with said n (declares Reviewers name (Some number) entries))
+  hospital_goes format n number digits right ok =
       let is = name_begins name ok.is in
       let are = names_begin entries ok.are in
-      goes_with Hospitals said n (codes "r") (name ∷ codes "[" ∷ number ∷ codes "]" ∷ codes ":" ∷ entries) (declares Reviewers name (Some number) entries)
+      goes_with Hospitals format said n (codes "r") (name ∷ codes "[" ∷ number ∷ codes "]" ∷ codes ":" ∷ entries) (declares Reviewers name (Some number) entries)
       (let w = words_good.1 in let a = run_good name is in let o = marks_good.1 in let d = run_good number digits in let e = marks_good.2 in let m = marks_good.0 in
       let b = runs_good entries are in rw (w, a, o, d, e, m, b) refl)
       (no_end (codes "r") name (codes "[" ∷ number ∷ codes "]" ∷ codes ":" ∷ entries)) (h_form name entries is are number digits) (no_fault said Reviewers name (Some number) entries ok right)
@@ -157,82 +185,155 @@ module _ (said : Said) (proposer reviewer : List ℕ) (first : is_name proposer 
   pair_on n = record { proposer = proposer; reviewer = reviewer; line = n }
 
   -- what is asked of a pair
-  force_of : (kind : Kind) (n : ℕ) → kind ≢ Roommates → begins_run proposer ≡ true → begins_run reviewer ≡ true → is_bad proposer ≡ false → is_bad reviewer ≡ false → is_bad (codes "force") ≡ false
-      → verdict_on kind said n (codes "force" ∷ proposer ∷ reviewer ∷ []) ≡ goes (record said { forced = said.forced ++ pair_on n ∷ [] })
-  unfolding verdict_on form_behind two_sided_form pair_form fault_of said_with is_end
-  force_of Marriage n two a b c d w = rw (w, c, d, a, b, first, second) refl
-  force_of Hospitals n two a b c d w = rw (w, c, d, a, b, first, second) refl
-  force_of Roommates n two a b c d w = absurd (two refl)
+  force_formed : (kind : Kind) → kind ≢ Roommates → begins_run proposer ≡ true → begins_run reviewer ≡ true → is_some (form_behind kind (codes "force") (proposer ∷ reviewer ∷ [])) ≡ true
+  unfolding form_behind two_sided_form pair_form
+  force_formed Marriage two a b = rw (a, b) refl
+  force_formed Hospitals two a b = rw (a, b) refl
+  force_formed Roommates two a b = absurd (two refl)
 
-  forbid_of : (kind : Kind) (n : ℕ) → kind ≢ Roommates → begins_run proposer ≡ true → begins_run reviewer ≡ true → is_bad proposer ≡ false → is_bad reviewer ≡ false → is_bad (codes "forbid") ≡ false
-      → verdict_on kind said n (codes "forbid" ∷ proposer ∷ reviewer ∷ []) ≡ goes (record said { forbidden = said.forbidden ++ pair_on n ∷ [] })
-  unfolding verdict_on form_behind two_sided_form pair_form fault_of said_with is_end
-  forbid_of Marriage n two a b c d w = rw (w, c, d, a, b, first, second) refl
-  forbid_of Hospitals n two a b c d w = rw (w, c, d, a, b, first, second) refl
-  forbid_of Roommates n two a b c d w = absurd (two refl)
+  force_of : (kind : Kind) (n : ℕ) → kind ≢ Roommates → begins_run proposer ≡ true → begins_run reviewer ≡ true
+      → of_form said n (form_behind kind (codes "force") (proposer ∷ reviewer ∷ [])) ≡ goes (record said { forced = said.forced ++ pair_on n ∷ [] })
+  unfolding form_behind two_sided_form pair_form fault_of said_with
+  force_of Marriage n two a b = rw (a, b, first, second) refl
+  force_of Hospitals n two a b = rw (a, b, first, second) refl
+  force_of Roommates n two a b = absurd (two refl)
 
-  -- its weight
+  forbid_formed : (kind : Kind) → kind ≢ Roommates → begins_run proposer ≡ true → begins_run reviewer ≡ true → is_some (form_behind kind (codes "forbid") (proposer ∷ reviewer ∷ [])) ≡ true
+  unfolding form_behind two_sided_form pair_form
+  forbid_formed Marriage two a b = rw (a, b) refl
+  forbid_formed Hospitals two a b = rw (a, b) refl
+  forbid_formed Roommates two a b = absurd (two refl)
+
+  forbid_of : (kind : Kind) (n : ℕ) → kind ≢ Roommates → begins_run proposer ≡ true → begins_run reviewer ≡ true
+      → of_form said n (form_behind kind (codes "forbid") (proposer ∷ reviewer ∷ [])) ≡ goes (record said { forbidden = said.forbidden ++ pair_on n ∷ [] })
+  unfolding form_behind two_sided_form pair_form fault_of said_with
+  forbid_of Marriage n two a b = rw (a, b, first, second) refl
+  forbid_of Hospitals n two a b = rw (a, b, first, second) refl
+  forbid_of Roommates n two a b = absurd (two refl)
+
+  -- its weights
   module _ (run : List ℕ) (weight : ℤ) (begin : begins_run run ≡ true) (spelt : weight_in run ≡ Some weight) (fresh : list_any (is_given_to proposer reviewer) said.weights ≡ false) where
-    abbrev weight_on : ℕ → SaidWeight
-    weight_on n = record { pair = pair_on n; weight = weight }
+    abbrev weight_on : ℤ → ℕ → SaidWeight
+    weight_on other n = record { pair = pair_on n; weight = weight; second = other }
 
-    weight_fault : (kind : Kind) → kind ≢ Roommates → begins_run proposer ≡ true → begins_run reviewer ≡ true
-        → form_behind kind (codes "weight") (proposer ∷ reviewer ∷ run ∷ []) ≡ Some (weighs proposer reviewer run)
+    weight_formed : (kind : Kind) → kind ≢ Roommates → begins_run proposer ≡ true → begins_run reviewer ≡ true
+        → form_behind kind (codes "weight") (proposer ∷ reviewer ∷ run ∷ []) ≡ Some (weighs proposer reviewer run None)
     unfolding form_behind two_sided_form weight_form
-    weight_fault Marriage two a b = rw (a, b, begin) refl
-    weight_fault Hospitals two a b = rw (a, b, begin) refl
-    weight_fault Roommates two a b = absurd (two refl)
+    weight_formed Marriage two a b = rw (a, b, begin) refl
+    weight_formed Hospitals two a b = rw (a, b, begin) refl
+    weight_formed Roommates two a b = absurd (two refl)
 
-    weight_faultless : fault_of said (weighs proposer reviewer run) ≡ None
+    second_formed : (kind : Kind) (further : List ℕ) → kind ≢ Roommates → begins_run proposer ≡ true → begins_run reviewer ≡ true → begins_run further ≡ true
+        → form_under kind 2 (codes "weight") (proposer ∷ reviewer ∷ run ∷ further ∷ []) ≡ Some (weighs proposer reviewer run (Some further))
+    unfolding form_under form_behind two_sided_form weight_form added_form two_sided_added_form second_form
+    second_formed Marriage further two a b d = rw (a, b, begin, d) refl
+    second_formed Hospitals further two a b d = rw (a, b, begin, d) refl
+    second_formed Roommates further two a b d = absurd (two refl)
+
+    weight_faultless : (further : Option (List ℕ)) → is_none (second_in further) ≡ false → fault_of said (weighs proposer reviewer run further) ≡ None
     unfolding fault_of
-    weight_faultless =
-        weight_passes (is_name proposer && (is_name reviewer && true)) (is_none (weight_in run)) (list_any (is_given_to proposer reviewer) said.weights)
-        (and_from (is_name proposer) (is_name reviewer && true) first (and_from (is_name reviewer) true second refl)) (ap is_none spelt) fresh
+    weight_faultless further right =
+        weight_passes (is_name proposer && (is_name reviewer && true)) (is_none (weight_in run) || is_none (second_in further)) (list_any (is_given_to proposer reviewer) said.weights)
+        (and_from (is_name proposer) (is_name reviewer && true) first (and_from (is_name reviewer) true second refl)) (ap (λ o. is_none o || is_none (second_in further)) spelt ∙ right) fresh
 
-    weight_said : (n : ℕ) → said_with said n (weighs proposer reviewer run) ≡ record said { weights = said.weights ++ weight_on n ∷ [] }
+    weight_said : (n : ℕ) (further : Option (List ℕ)) (other : ℤ) → second_in further ≡ Some other
+        → said_with said n (weighs proposer reviewer run further) ≡ record said { weights = said.weights ++ weight_on other n ∷ [] }
     unfolding said_with
-    weight_said n = rw spelt refl
+    weight_said n further other is = rw (spelt, is) refl
 
     -- the line of a weight goes on, and adds it
-    pub weight_goes : (kind : Kind) (n : ℕ) → kind ≢ Roommates
-        → verdict_on kind said n (codes "weight" ∷ proposer ∷ reviewer ∷ run ∷ []) ≡ goes (record said { weights = said.weights ++ weight_on n ∷ [] })
-    weight_goes kind n two =
+    pub weight_goes : (kind : Kind) (format n : ℕ) → kind ≢ Roommates
+        → verdict_on kind format said n (codes "weight" ∷ proposer ∷ reviewer ∷ run ∷ []) ≡ goes (record said { weights = said.weights ++ (record { pair = pair_on n; weight = weight; second = pos 0 }) ∷ [] })
+    weight_goes kind format n two =
         let a = name_begins proposer first in
         let b = name_begins reviewer second in
         let w = words_good.2 in
         let c = run_good proposer a in
         let d = run_good reviewer b in
         let e = run_good run begin in
-        goes_with kind said n (codes "weight") (proposer ∷ reviewer ∷ run ∷ []) (weighs proposer reviewer run) (rw (w, c, d, e) refl)
-        (no_end (codes "weight") proposer (reviewer ∷ run ∷ [])) (weight_fault kind two a b) weight_faultless
-        ∙ ap (λ s. goes s) (weight_said n)
+        goes_with kind format said n (codes "weight") (proposer ∷ reviewer ∷ run ∷ []) (weighs proposer reviewer run None) (rw (w, c, d, e) refl)
+        (no_end (codes "weight") proposer (reviewer ∷ run ∷ [])) (weight_formed kind two a b) (weight_faultless None refl)
+        ∙ ap (λ s. goes s) (weight_said n None (pos 0) refl)
+
+    -- so does that of two weights, under a header of format 2
+    pub second_goes : (kind : Kind) (n : ℕ) (further : List ℕ) (other : ℤ) → kind ≢ Roommates → begins_run further ≡ true → weight_in further ≡ Some other
+        → verdict_on kind 2 said n (codes "weight" ∷ proposer ∷ reviewer ∷ run ∷ further ∷ []) ≡ goes (record said { weights = said.weights ++ (record { pair = pair_on n; weight = weight; second = other }) ∷ [] })
+    second_goes kind n further other two begins is =
+        let a = name_begins proposer first in
+        let b = name_begins reviewer second in
+        let w = words_good.2 in
+        let c = run_good proposer a in
+        let d = run_good reviewer b in
+        let e = run_good run begin in
+        let f = run_good further begins in
+        goes_under kind 2 said n (codes "weight") (proposer ∷ reviewer ∷ run ∷ further ∷ []) (weighs proposer reviewer run (Some further)) (rw (w, c, d, e, f) refl)
+        (no_end (codes "weight") proposer (reviewer ∷ run ∷ further ∷ [])) (second_formed kind further two a b begins) (weight_faultless (Some further) (ap is_none is))
+        ∙ ap (λ s. goes s) (weight_said n (Some further) other is)
 
   -- the line of a forced pair goes on, and adds it
-  pub force_goes : (kind : Kind) (n : ℕ) → kind ≢ Roommates
-      → verdict_on kind said n (codes "force" ∷ proposer ∷ reviewer ∷ []) ≡ goes (record said { forced = said.forced ++ pair_on n ∷ [] })
-  force_goes kind n two =
+  pub force_goes : (kind : Kind) (format n : ℕ) → kind ≢ Roommates
+      → verdict_on kind format said n (codes "force" ∷ proposer ∷ reviewer ∷ []) ≡ goes (record said { forced = said.forced ++ pair_on n ∷ [] })
+  force_goes kind format n two =
       let a = name_begins proposer first in
       let b = name_begins reviewer second in
-      force_of kind n two a b (run_good proposer a) (run_good reviewer b) words_good.3
+      let w = words_good.3 in
+      let c = run_good proposer a in
+      let d = run_good reviewer b in
+      verdict_is kind format said n (codes "force") (proposer ∷ reviewer ∷ []) (rw (w, c, d) refl) (no_end (codes "force") proposer (reviewer ∷ [])) (force_formed kind two a b) ∙ force_of kind n two a b
 
   -- the line of a forbidden pair goes on, and adds it
-  pub forbid_goes : (kind : Kind) (n : ℕ) → kind ≢ Roommates
-      → verdict_on kind said n (codes "forbid" ∷ proposer ∷ reviewer ∷ []) ≡ goes (record said { forbidden = said.forbidden ++ pair_on n ∷ [] })
-  forbid_goes kind n two =
+  pub forbid_goes : (kind : Kind) (format n : ℕ) → kind ≢ Roommates
+      → verdict_on kind format said n (codes "forbid" ∷ proposer ∷ reviewer ∷ []) ≡ goes (record said { forbidden = said.forbidden ++ pair_on n ∷ [] })
+  forbid_goes kind format n two =
       let a = name_begins proposer first in
       let b = name_begins reviewer second in
-      forbid_of kind n two a b (run_good proposer a) (run_good reviewer b) words_good.4
+      let w = words_good.4 in
+      let c = run_good proposer a in
+      let d = run_good reviewer b in
+      verdict_is kind format said n (codes "forbid") (proposer ∷ reviewer ∷ []) (rw (w, c, d) refl) (no_end (codes "forbid") proposer (reviewer ∷ [])) (forbid_formed kind two a b) ∙ forbid_of kind n two a b
+
+-- The verdict on an order.
+
+module _ (said : Said) (names : List (List ℕ)) (named : list_all is_name names ≡ true) (none : said.order ≡ None) (differ : has_repeated names ≡ false) where
+  order_formed : (kind : Kind) → kind ≢ Roommates → list_all begins_run names ≡ true → form_under kind 2 (codes "order") names ≡ Some (orders names)
+  unfolding form_under form_behind two_sided_form added_form two_sided_added_form order_form
+  order_formed Marriage two all = rw all refl
+  order_formed Hospitals two all = rw all refl
+  order_formed Roommates two all = absurd (two refl)
+
+  order_faultless : fault_of said (orders names) ≡ None
+  unfolding fault_of
+  order_faultless = rw (named, none, differ) refl
+
+  order_said : (n : ℕ) → said_with said n (orders names) ≡ record said { order = Some (record { names = names; line = n }) }
+  unfolding said_with
+  order_said n = refl
+
+  order_no_end : (xs : List (List ℕ)) → is_end (codes "order" ∷ xs) ≡ false
+  unfolding is_end
+  order_no_end [] = refl
+  order_no_end (x ∷ xs) = refl
+
+  -- its line goes on under a header of format 2, and says it
+  pub order_goes : (kind : Kind) (n : ℕ) → kind ≢ Roommates → verdict_on kind 2 said n (codes "order" ∷ names) ≡ goes (record said { order = Some (record { names = names; line = n }) })
+  order_goes kind n two =
+      let all = names_begin names named in
+      goes_under kind 2 said n (codes "order") names (orders names) (let w = words_good.5 in let a = runs_good names all in rw (w, a) refl) (order_no_end names) (order_formed kind two all) order_faultless
+      ∙ ap (λ s. goes s) (order_said n)
 
 -- The header and the end.
 
--- a printed header is the header of its kind
-pub heading_of-header : (kind : Kind) → heading_of (tokens (header_line kind)) ≡ heads kind
-unfolding heading_of header_of is_bad is_mark begins_name is_name_byte
-heading_of-header Marriage = ap heading_of headers_cut.0
-heading_of-header Hospitals = ap heading_of headers_cut.1
-heading_of-header Roommates = ap heading_of headers_cut.2
+-- a printed header is the header of its format and kind
+pub heading_of-header : (second : Bool) (kind : Kind) → heading_of (tokens (header_line (if second then 2 else 1) kind)) ≡ heads kind (if second then 2 else 1)
+unfolding heading_of header_of is_bad is_mark begins_name is_name_byte fmt.digits
+heading_of-header true Marriage = ap heading_of (headers_cut true Marriage)
+heading_of-header true Hospitals = ap heading_of (headers_cut true Hospitals)
+heading_of-header true Roommates = ap heading_of (headers_cut true Roommates)
+heading_of-header false Marriage = ap heading_of (headers_cut false Marriage)
+heading_of-header false Hospitals = ap heading_of (headers_cut false Hospitals)
+heading_of-header false Roommates = ap heading_of (headers_cut false Roommates)
 
 -- the line `end` stops the reading
-pub verdict_on-end : (kind : Kind) (said : Said) (n : ℕ) → verdict_on kind said n (tokens (codes "end")) ≡ stops
+pub verdict_on-end : (kind : Kind) (format : ℕ) (said : Said) (n : ℕ) → verdict_on kind format said n (tokens (codes "end")) ≡ stops
 unfolding verdict_on is_end is_bad is_mark begins_name is_name_byte
-verdict_on-end kind said n = ap (verdict_on kind said n) headers_cut.3
+verdict_on-end kind format said n = ap (verdict_on kind format said n) end_cut

@@ -15,14 +15,15 @@ use Rattle.sm_reader.specs.Judging as judge
 use Rattle.sm_reader.specs.InstanceText as text
 use Rattle.sm_keys.proofs.TextLemmas.{same_text}
 use Rattle.sm_printed.specs.Witnesses.{marriage}
-use Rattle.sm_law_reprint.specs.Witnesses.{MarriageIsSound, MarriageReadBack, HospitalsReadBack, RoommatesReadBack}
+use Rattle.sm_law_reprint.specs.Witnesses.{MarriageIsSound, MarriageReadBack, OrderedReadBack, HospitalsReadBack, RoommatesReadBack}
 
 -- one lemma, so that what is unfolded is named once
-pub read_back : MarriageReadBack × HospitalsReadBack × RoommatesReadBack
+pub read_back : MarriageReadBack × OrderedReadBack × HospitalsReadBack × RoommatesReadBack
 unfolding form.is_bad form.list_form form.capacity_form form.weight_form form.pair_form form.reviewer_form form.two_sided_form form.form_behind
+    form.order_form form.second_form form.two_sided_added_form form.added_form form.form_under
     form.is_end form.header_of judge.fault_of judge.said_with judge.verdict_on judge.heading_of text.instance_text name.begins_name name.is_name_byte
     token.is_blank token.is_mark fmt.digits
-read_back = (refl, refl, refl)
+read_back = (refl, refl, refl, refl)
 
 -- numbers below two and below five
 below_two : (P : ℕ → Type 0) → P 0 → P 1 → (n : ℕ) → n < 2 → P n
@@ -126,6 +127,5 @@ marriage_sound = (
     seconds_small = zeros_small marriage.weights;
     order = range_is_each_once 2;
   },
-  (refl, refl),
   omega arith,
 )

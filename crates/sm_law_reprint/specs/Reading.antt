@@ -1,6 +1,5 @@
 -- What the text of a printed instance means.
-use Rattle.std.specs.Prelude.{◌≡◌, ℕ, ◌≤◌, List, length, map, pos, Ok}
-use Rattle.std.specs.List.{range_with_len}
+use Rattle.std.specs.Prelude.{◌≡◌, ℕ, ◌≤◌, List, length, map, Ok}
 use Rattle.sm_text.specs.Limits.{most_bytes}
 use Rattle.sm_instance.specs.Written.{AgentData}
 use Rattle.sm_instance.specs.Inputs.{IsInput}
@@ -34,12 +33,6 @@ pub record IsReadBack (input : Input) : Type 0 where
   pub whole : read.rest ≡ length (printed_text input)
   pub same : SameButForLines read.input input
 
--- an instance that a text of format 1 can say: all second weights are 0, and the proposers are compared in the order of their
--- numbers
-abbrev pub IsOfFormatOne : Input → Type 0
-IsOfFormatOne (Two w) = (w.seconds ≡ map (λ _. pos 0) w.weights) × (w.order ≡ range_with_len 0 (length w.proposers))
-IsOfFormatOne (Room persons) = Unit {0}
-
--- and so it is for each instance of format 1 whose text has no more bytes than an input may have
+-- and so it is for each instance whose text has no more bytes than an input may have
 abbrev pub PrintedIsRead : Type 0
-PrintedIsRead = (input : Input) → IsInput input → IsOfFormatOne input → length (printed_text input) ≤ most_bytes → IsReadBack input
+PrintedIsRead = (input : Input) → IsInput input → length (printed_text input) ≤ most_bytes → IsReadBack input

@@ -5,12 +5,12 @@ use Rattle.sm_instance.specs.Written.{AgentData, Written}
 use Rattle.sm_instance.specs.Inputs.{IsInput}
 use Rattle.sm_instance.specs.declared.inputs.Input.TheVariants.{Two, Room}
 use Rattle.sm_reader.specs.InstanceText.{instance_text}
-use Rattle.sm_printed.specs.Witnesses.{agent, marriage, hospitals, persons}
-use Rattle.sm_law_reprint.specs.Reading.{printed_text, IsOfFormatOne}
+use Rattle.sm_printed.specs.Witnesses.{agent, marriage, ordered, hospitals, persons}
+use Rattle.sm_law_reprint.specs.Reading.{printed_text}
 
 -- what the law asks for
 abbrev pub MarriageIsSound : Type 0
-MarriageIsSound = IsInput (Two marriage) × IsOfFormatOne (Two marriage) × (length (printed_text (Two marriage)) ≤ most_bytes)
+MarriageIsSound = IsInput (Two marriage) × (length (printed_text (Two marriage)) ≤ most_bytes)
 
 -- an agent on the line of its declaration
 abbrev pub placed : ℕ → List ℕ → ℕ → List ℕ → AgentData
@@ -26,6 +26,14 @@ marriage_again = record marriage {
 -- the text of the marriage means the marriage again
 abbrev pub MarriageReadBack : Type 0
 MarriageReadBack = instance_text (printed_text (Two marriage)) ≡ Ok (record { input = Two marriage_again; header_line = 1; rest = 119; rest_line = 12 })
+
+-- the marriage with a second weight and an order, with the lines on which it is printed
+abbrev pub ordered_again : Written
+ordered_again = record ordered { proposers = marriage_again.proposers; reviewers = marriage_again.reviewers }
+
+-- its text means it again
+abbrev pub OrderedReadBack : Type 0
+OrderedReadBack = instance_text (printed_text (Two ordered)) ≡ Ok (record { input = Two ordered_again; header_line = 1; rest = 134; rest_line = 13 })
 
 -- the hospitals with the lines on which they are printed
 abbrev pub hospitals_again : Written

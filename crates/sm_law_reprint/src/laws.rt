@@ -1,10 +1,10 @@
 //! The law of printed instances. The function does nothing: its contract is the law, a statement over the definitions alone,
-//! for all instances of format 1.
+//! for all instances.
 
 ghost use Rattle.sm_law_reprint.specs.Reading.{PrintedIsRead};
 
-/// The text of a printed instance of format 1, where it isn't too long for an input, means the instance that was printed. The
-/// two differ in the numbers of lines alone.
+/// The text of a printed instance, where it isn't too long for an input, means the instance that was printed. The two differ
+/// in the numbers of lines alone.
 pub fn printed_is_read()
     ensures { PrintedIsRead }
 {}

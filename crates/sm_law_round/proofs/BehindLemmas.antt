@@ -50,15 +50,15 @@ lines_behind (b ∷ front) more = by_end (lines_behind front more) (b == LF) ref
     by_end deep false e = rw e (ap (onto_first b) deep ∙ onto_append b (lines (front ++ LF ∷ [])) (lines more) (some_lines front))
 
 -- reading ends on the line `end`
-behind_header_more : (kind : Kind) (header_line : ℕ) (said : Said) (number place : ℕ) (ls more : List (List ℕ)) (read : ReadText)
-    → behind_header kind header_line said number place ls ≡ Ok read → behind_header kind header_line said number place (ls ++ more) ≡ Ok read
-behind_header_more kind header_line said number place [] more read e = absurd cc
-behind_header_more kind header_line said number place (line ∷ ls) more read e =
-    by_case (verdict_on kind said number (tokens (content line))) (λ next h. behind_header_more kind header_line next (number + 1) (place + length line) ls more read h) e
+behind_header_more : (kind : Kind) (format header_line : ℕ) (said : Said) (number place : ℕ) (ls more : List (List ℕ)) (read : ReadText)
+    → behind_header kind format header_line said number place ls ≡ Ok read → behind_header kind format header_line said number place (ls ++ more) ≡ Ok read
+behind_header_more kind format header_line said number place [] more read e = absurd cc
+behind_header_more kind format header_line said number place (line ∷ ls) more read e =
+    by_case (verdict_on kind format said number (tokens (content line))) (λ next h. behind_header_more kind format header_line next (number + 1) (place + length line) ls more read h) e
   where
-    by_case : (v : Verdict) → ((next : Said) → behind_header kind header_line next (number + 1) (place + length line) ls ≡ Ok read → behind_header kind header_line next (number + 1) (place + length line) (ls ++ more) ≡ Ok read)
-        → by_verdict v (λ next. behind_header kind header_line next (number + 1) (place + length line) ls) (ended kind header_line said (place + length line) (number + 1)) (λ fault. Err (fault, number)) ≡ Ok read
-        → by_verdict v (λ next. behind_header kind header_line next (number + 1) (place + length line) (ls ++ more)) (ended kind header_line said (place + length line) (number + 1)) (λ fault. Err (fault, number)) ≡ Ok read
+    by_case : (v : Verdict) → ((next : Said) → behind_header kind format header_line next (number + 1) (place + length line) ls ≡ Ok read → behind_header kind format header_line next (number + 1) (place + length line) (ls ++ more) ≡ Ok read)
+        → by_verdict v (λ next. behind_header kind format header_line next (number + 1) (place + length line) ls) (ended kind header_line said (place + length line) (number + 1)) (λ fault. Err (fault, number)) ≡ Ok read
+        → by_verdict v (λ next. behind_header kind format header_line next (number + 1) (place + length line) (ls ++ more)) (ended kind header_line said (place + length line) (number + 1)) (λ fault. Err (fault, number)) ≡ Ok read
     by_case (goes next) deep h = deep next h
     by_case stops deep h = h
     by_case (refuses fault) deep h = absurd cc
@@ -69,10 +69,10 @@ before_header_more number place (line ∷ ls) more read e =
     by_case (heading_of (tokens (content line))) (λ h. before_header_more (number + 1) (place + length line) ls more read h) e
   where
     by_case : (v : Heading) → (before_header (number + 1) (place + length line) ls ≡ Ok read → before_header (number + 1) (place + length line) (ls ++ more) ≡ Ok read)
-        → by_heading v (before_header (number + 1) (place + length line) ls) (λ kind. behind_header kind number nothing (number + 1) (place + length line) ls) (λ fault. Err (fault, number)) ≡ Ok read
-        → by_heading v (before_header (number + 1) (place + length line) (ls ++ more)) (λ kind. behind_header kind number nothing (number + 1) (place + length line) (ls ++ more)) (λ fault. Err (fault, number)) ≡ Ok read
+        → by_heading v (before_header (number + 1) (place + length line) ls) (λ kind format. behind_header kind format number nothing (number + 1) (place + length line) ls) (λ fault. Err (fault, number)) ≡ Ok read
+        → by_heading v (before_header (number + 1) (place + length line) (ls ++ more)) (λ kind format. behind_header kind format number nothing (number + 1) (place + length line) (ls ++ more)) (λ fault. Err (fault, number)) ≡ Ok read
     by_case passes deep h = deep h
-    by_case (heads kind) deep h = behind_header_more kind number nothing (number + 1) (place + length line) ls more read h
+    by_case (heads kind format) deep h = behind_header_more kind format number nothing (number + 1) (place + length line) ls more read h
     by_case (faces fault) deep h = absurd cc
 
 -- what is short enough is read by its lines

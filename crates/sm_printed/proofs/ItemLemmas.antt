@@ -1,6 +1,7 @@
 -- The lines of pairs.
-use Rattle.std.proofs.Common.{◌≡◌, ℕ, ◌+◌, ◌-◌, ◌<◌, ◌≤◌, List, [], ◌∷◌, ◌++◌, length, map, get_or, Some, None, codes, sym, ap, ◌∙◌, subst, arith, ℤ, pos}
-use Rattle.std.specs.List.{slice_get}
+use Rattle.std.proofs.Common.{◌≡◌, ℕ, ◌+◌, ◌-◌, ◌<◌, ◌≤◌, List, [], ◌∷◌, ◌++◌, length, map, get_or, min, Some, sym, ap, ◌∙◌, subst, arith, ℤ, pos}
+use Rattle.std.specs.List.{slice_get, zip}
+use Rattle.std.proofs.lemmas.Slice.Zip.{length-zip, get_or-zip}
 use Rattle.sm_instance.specs.Written.{Written, weighed}
 use Rattle.sm_instance.specs.Sound.{IsInstance, IsPairOf}
 use Rattle.sm_lists.specs.Pairs.{pair_at}
@@ -8,21 +9,21 @@ use Rattle.sm_instance.specs.Named.{SaidPair, SaidWeight}
 use Rattle.sm_instance.specs.declared.inputs.Input.TheVariants.{Two}
 use Rattle.sm_instance.proofs.ItemLemmas.{length-items, item_first, item_second, item_third, pair_at-weighed}
 use Rattle.sm_printed.specs.Names.{said_pair, said_weight, said_of}
-use Rattle.sm_printed.specs.Printed.{weight_line, force_line, forbid_line, item_lines}
-use Rattle.sm_printed.proofs.PlaceLemmas.{part_before, part_behind, past_one}
+use Rattle.sm_printed.specs.Printed.{weight_line, force_line, forbid_line, item_lines, last_lines}
+use Rattle.sm_printed.proofs.PlaceLemmas.{part_before, part_behind}
 
 abbrev weight_in : List (ℕ × ℕ × ℤ) → ℕ → ℕ × ℕ × ℤ
 weight_in weights n = get_or weights n (0, 0, pos 0)
 
-module _ (w : Written) where
+module _ (w : Written) (each : length w.seconds ≡ length w.weights) where
   abbrev pair_said : ℕ × ℕ → SaidPair
   pair_said = said_pair w.proposers w.reviewers
 
-  abbrev weight_said : ℕ × ℕ × ℤ → SaidWeight
+  abbrev weight_said : (ℕ × ℕ × ℤ) × ℤ → SaidWeight
   weight_said = said_weight w.proposers w.reviewers
 
   abbrev end_part : List (List ℕ)
-  end_part = codes "end" ∷ []
+  end_part = last_lines (said_of (Two w))
 
   abbrev forbid_part : List (List ℕ)
   forbid_part = map forbid_line (map pair_said w.forbidden) ++ end_part
@@ -33,16 +34,24 @@ module _ (w : Written) where
   abbrev lines : List (List ℕ)
   lines = item_lines (said_of (Two w))
 
+  zip_long : length (zip w.weights w.seconds) ≡ length w.weights
+  zip_long = length-zip w.weights w.seconds ∙ (let e : min (length w.weights) (length w.seconds) ≡ length w.weights = omega (arith, each) in e)
+
   -- the texts of the weights
-  pub weight_text : (weights : List (ℕ × ℕ × ℤ)) → weights ≡ w.weights → (place : ℕ) → place < length weights
-      → Some (weight_line (weight_said (weight_in weights place))) ≡ slice_get (item_lines (said_of (Two w))) place
-  weight_text weights are place below =
-      ap (λ xs. Some (weight_line (weight_said (weight_in xs place)))) are
-      ∙ sym (part_before weight_line weight_said w.weights force_part place (0, 0, pos 0) (omega (arith, ap length are)))
+  pub weight_text : (weights : List (ℕ × ℕ × ℤ)) (seconds : List ℤ) → weights ≡ w.weights → seconds ≡ w.seconds → (place : ℕ) → place < length weights
+      → Some (weight_line (weight_said (weight_in weights place, get_or seconds place (pos 0)))) ≡ slice_get (item_lines (said_of (Two w))) place
+  weight_text weights seconds are same place below =
+      let inside : place < length w.weights = omega (arith, ap length are) in
+      let within : place < length w.seconds = omega (arith, inside, each) in
+      ap (λ xs. Some (weight_line (weight_said (weight_in xs place, get_or seconds place (pos 0))))) are
+      ∙ ap (λ zs. Some (weight_line (weight_said (weight_in w.weights place, get_or zs place (pos 0))))) same
+      ∙ ap (λ x. Some (weight_line (weight_said x))) (sym (get_or-zip w.weights w.seconds place ((0, 0, pos 0), pos 0) inside within))
+      ∙ sym (part_before weight_line weight_said (zip w.weights w.seconds) force_part place ((0, 0, pos 0), pos 0) (omega (arith, inside, zip_long)))
 
   past_weights : (weights : List (ℕ × ℕ × ℤ)) → weights ≡ w.weights → (place : ℕ) → length weights ≤ place → slice_get force_part (place - length weights) ≡ slice_get lines place
   past_weights weights are place past =
-      ap (λ xs. slice_get force_part (place - length xs)) are ∙ sym (part_behind weight_line weight_said w.weights force_part place (omega (arith, ap length are)))
+      ap (λ xs. slice_get force_part (place - length xs)) are ∙ ap (λ n. slice_get force_part (place - n)) (sym zip_long)
+      ∙ sym (part_behind weight_line weight_said (zip w.weights w.seconds) force_part place (omega (arith, ap length are, zip_long)))
 
   -- those of the forced pairs
   pub force_text : (weights : List (ℕ × ℕ × ℤ)) (forced : List (ℕ × ℕ)) → weights ≡ w.weights → forced ≡ w.forced → (place : ℕ) → length weights ≤ place
@@ -69,29 +78,14 @@ module _ (w : Written) where
       ∙ sym (part_before forbid_line pair_said w.forbidden end_part (place - length weights - length forced) (0, 0) (omega (arith, ap length equal)))
       ∙ past_forced weights forced are same place past behind
 
-  past_forbidden : (weights : List (ℕ × ℕ × ℤ)) (forced forbidden : List (ℕ × ℕ)) → weights ≡ w.weights → forced ≡ w.forced → forbidden ≡ w.forbidden
+  -- and those behind all pairs
+  pub last_text : (weights : List (ℕ × ℕ × ℤ)) (forced forbidden : List (ℕ × ℕ)) → weights ≡ w.weights → forced ≡ w.forced → forbidden ≡ w.forbidden
       → (place : ℕ) → length weights ≤ place → length forced ≤ place - length weights → length forbidden ≤ place - length weights - length forced
-      → slice_get end_part (place - length weights - length forced - length forbidden) ≡ slice_get lines place
-  past_forbidden weights forced forbidden are same equal place past behind over =
+      → slice_get (last_lines (said_of (Two w))) (place - length weights - length forced - length forbidden) ≡ slice_get (item_lines (said_of (Two w))) place
+  last_text weights forced forbidden are same equal place past behind over =
       ap (λ xs. slice_get end_part (place - length weights - length forced - length xs)) equal
       ∙ sym (part_behind forbid_line pair_said w.forbidden end_part (place - length weights - length forced) (omega (arith, ap length equal)))
       ∙ past_forced weights forced are same place past behind
-
-  -- the end, and nothing behind it
-  pub end_text : (weights : List (ℕ × ℕ × ℤ)) (forced forbidden : List (ℕ × ℕ)) → weights ≡ w.weights → forced ≡ w.forced → forbidden ≡ w.forbidden
-      → (place : ℕ) → length weights ≤ place → length forced ≤ place - length weights → place - length weights - length forced ≡ length forbidden
-      → Some (codes "end") ≡ slice_get (item_lines (said_of (Two w))) place
-  end_text weights forced forbidden are same equal place past behind here =
-      let none : 0 ≡ place - length weights - length forced - length forbidden = omega arith in
-      ap (slice_get end_part) none ∙ past_forbidden weights forced forbidden are same equal place past behind (omega arith)
-
-  -- behind the line `end` there is none
-  pub no_text : (weights : List (ℕ × ℕ × ℤ)) (forced forbidden : List (ℕ × ℕ)) → weights ≡ w.weights → forced ≡ w.forced → forbidden ≡ w.forbidden
-      → (place : ℕ) → length weights ≤ place → length forced ≤ place - length weights → length forbidden < place - length weights - length forced
-      → None ≡ slice_get (item_lines (said_of (Two w))) place
-  no_text weights forced forbidden are same equal place past behind over =
-      sym (past_one (codes "end") (place - length weights - length forced - length forbidden) (omega arith))
-      ∙ past_forbidden weights forced forbidden are same equal place past behind (omega arith)
 
   -- all pairs are there
   module _ (sound : IsInstance w) where

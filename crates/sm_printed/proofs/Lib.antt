@@ -2,6 +2,8 @@ pub mod PlaceLemmas
 pub mod PieceLemmas
 pub mod ItemLemmas
 pub mod GivingLemmas
+pub mod CountLemmas
+pub mod FormatLemmas
 pub mod PlainLemmas
 pub mod AgentLemmas
 pub mod WitnessLemmas

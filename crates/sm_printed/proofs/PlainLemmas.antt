@@ -1,5 +1,8 @@
 -- The lines of a printed instance stand for themselves in a string of JSON.
-use Rattle.std.proofs.Common.{◌≡◌, ℕ, ◌<◌, ◌≤◌, Bool, true, List, [], ◌∷◌, ◌++◌, length, map, All, get_or, nat_lt, codes, decimal, refl, ap, ◌∙◌, arith, length-append, ℤ, pos}
+use Rattle.std.proofs.Common.{◌≡◌, ℕ, ◌<◌, ◌≤◌, ◌||◌, Bool, true, false, not, cond, is_some, Some, None, nat_eq, subst, sym, List, [], ◌∷◌, ◌++◌, length, map, All, get_or, nat_lt, codes, decimal, refl, ap, ◌∙◌, arith, length-append, ℤ, pos}
+use Rattle.std.specs.List.{list_any, range_with_len, zip}
+use Rattle.std.specs.Cmp.Lexicographic.{pointwise}
+use Rattle.std.proofs.lemmas.Slice.Zip.{length-zip, get_or-zip}
 use Rattle.std.specs.Fmt.{signed_decimal}
 use Rattle.std.specs.Int.RustNames.{unsigned_abs}
 use Rattle.std.proofs.lemmas.Bool.{ltb-true, ltb-false}
@@ -9,7 +12,7 @@ use Rattle.sm_text.specs.Limits.{most_capacity, most_weight}
 use Rattle.sm_text.specs.Plain.{is_plain, is_plain_byte}
 use Rattle.sm_instance.specs.Written.{AgentData, Written, agent_at, no_agent, weighed}
 use Rattle.sm_instance.specs.Sound.{IsInstance, AreSoundAgents, items_of, is_single}
-use Rattle.sm_instance.specs.Named.{SaidAgent, SaidPair, SaidWeight}
+use Rattle.sm_instance.specs.Named.{SaidAgent, SaidPair, SaidWeight, Said}
 use Rattle.sm_instance.specs.Inputs.{IsInput}
 use Rattle.sm_instance.specs.declared.inputs.Input.{Input}
 use Rattle.sm_instance.specs.declared.inputs.Input.TheVariants.{Two, Room}
@@ -19,7 +22,7 @@ use Rattle.sm_report.specs.Fields.{spaced}
 use Rattle.sm_report.proofs.InverseLemmas.{by_answer}
 use Rattle.sm_report.proofs.FreeLines.{name_plain, number_plain, signed_plain, both_plain}
 use Rattle.sm_printed.specs.Names.{name_of, said_agent, said_pair, said_weight, said_of}
-use Rattle.sm_printed.specs.Printed.{header_line, list_text, capacity_text, proposer_line, reviewer_line, pair_text, weight_line, force_line, forbid_line, item_lines, agent_lines, lines_of}
+use Rattle.sm_printed.specs.Printed.{is_zero, format_of, kind_word, second_text, order_lines, header_line, list_text, capacity_text, proposer_line, reviewer_line, pair_text, weight_line, force_line, forbid_line, item_lines, agent_lines, lines_of}
 
 -- a text that stands for itself there
 abbrev pub IsPlain : List ℕ → Type 0
@@ -50,11 +53,26 @@ end_plain : IsPlain (codes "end")
 unfolding is_plain_byte
 end_plain = refl
 
-header_plain : (kind : Kind) → IsPlain (header_line kind)
+kind_plain : (kind : Kind) → IsPlain (kind_word kind)
 unfolding is_plain_byte
-header_plain Marriage = refl
-header_plain Hospitals = refl
-header_plain Roommates = refl
+kind_plain Marriage = refl
+kind_plain Hospitals = refl
+kind_plain Roommates = refl
+
+head_plain : IsPlain (codes "stable ") × IsPlain (codes "order")
+unfolding is_plain_byte
+head_plain = (refl, refl)
+
+one_or_two : (t : Bool) → cond t 2 1 ≤ 2
+one_or_two true = omega arith
+one_or_two false = omega arith
+
+header_plain : (said : Said) (kind : Kind) → IsPlain (header_line (format_of said) kind)
+header_plain said kind =
+    let small = one_or_two (is_some said.order || list_any (λ (x : SaidWeight). not (is_zero x.second)) said.weights) in
+    both_plain (codes "stable " ++ decimal (format_of said) ++ codes " ") (kind_word kind)
+    (both_plain (codes "stable " ++ decimal (format_of said)) (codes " ") (both_plain (codes "stable ") (decimal (format_of said)) head_plain.0 (number_plain (format_of said) (omega (arith, small)))) space_plain)
+    (kind_plain kind)
 
 -- so does the name of an agent, also of one that isn't there
 pub name_of_plain : (agents : List AgentData) (single : Bool) → AreSoundAgents agents single → (a : ℕ) → IsPlain (name_of agents a)
@@ -102,6 +120,21 @@ weights_small w i = All-from_get_or (λ (x : ℕ × ℕ × ℤ). unsigned_abs x.
   within n below =
       omega (arith, below, length-map w.weights weighed, length-append (map weighed w.weights) w.forced, length-append (map weighed w.weights ++ w.forced) w.forbidden)
 
+-- so are second weights
+zip_small : (w : Written) → IsInstance w → All (λ (x : (ℕ × ℕ × ℤ) × ℤ). (unsigned_abs x.0.2 ≤ most_weight) × (unsigned_abs x.1 ≤ most_weight)) (zip w.weights w.seconds)
+zip_small w i = All-from_get_or (λ (x : (ℕ × ℕ × ℤ) × ℤ). (unsigned_abs x.0.2 ≤ most_weight) × (unsigned_abs x.1 ≤ most_weight)) (zip w.weights w.seconds) ((0, 0, pos 0), pos 0) (λ n below.
+    let first : n < length w.weights = omega (arith, below, length-zip w.weights w.seconds) in
+    let second : n < length w.seconds = omega (arith, below, length-zip w.weights w.seconds) in
+    subst (λ (x : (ℕ × ℕ × ℤ) × ℤ). (unsigned_abs x.0.2 ≤ most_weight) × (unsigned_abs x.1 ≤ most_weight)) (sym (get_or-zip w.weights w.seconds n ((0, 0, pos 0), pos 0) first second))
+    (weights_small w i n (0, 0, pos 0) first, i.seconds_small n (pos 0) second))
+
+second_plain : (second : ℤ) → unsigned_abs second ≤ most_weight → IsPlain (second_text second)
+second_plain second small = by_test (is_zero second)
+  where
+    by_test : (t : Bool) → IsPlain (cond t [] (codes " " ++ signed_decimal second))
+    by_test true = refl
+    by_test false = both_plain (codes " ") (signed_decimal second) space_plain (signed_plain second (omega (arith, small)))
+
 -- and lines of pairs
 module _ (w : Written) (i : IsInstance w) where
   left_plain : (p : ℕ) → IsPlain (name_of w.proposers p)
@@ -114,12 +147,20 @@ module _ (w : Written) (i : IsInstance w) where
   pair_plain pair =
       both_plain (name_of w.proposers pair.0 ++ codes " ") (name_of w.reviewers pair.1) (both_plain (name_of w.proposers pair.0) (codes " ") (left_plain pair.0) space_plain) (right_plain pair.1)
 
-  weight_plain : (x : ℕ × ℕ × ℤ) → unsigned_abs x.2 ≤ most_weight → IsPlain (weight_line (said_weight w.proposers w.reviewers x))
-  weight_plain x small =
-      let pair = pair_text (said_pair w.proposers w.reviewers (x.0, x.1)) in
-      both_plain (codes "weight " ++ pair ++ codes " ") (signed_decimal x.2)
-      (both_plain (codes "weight " ++ pair) (codes " ") (both_plain (codes "weight ") pair pair_words_plain.0 (pair_plain (x.0, x.1))) space_plain)
-      (signed_plain x.2 (omega (arith, small)))
+  weight_plain : (x : (ℕ × ℕ × ℤ) × ℤ) → unsigned_abs x.0.2 ≤ most_weight → unsigned_abs x.1 ≤ most_weight → IsPlain (weight_line (said_weight w.proposers w.reviewers x))
+  weight_plain x small few =
+      let pair = pair_text (said_pair w.proposers w.reviewers (x.0.0, x.0.1)) in
+      both_plain (codes "weight " ++ pair ++ codes " " ++ signed_decimal x.0.2) (second_text x.1)
+      (both_plain (codes "weight " ++ pair ++ codes " ") (signed_decimal x.0.2)
+      (both_plain (codes "weight " ++ pair) (codes " ") (both_plain (codes "weight ") pair pair_words_plain.0 (pair_plain (x.0.0, x.0.1))) space_plain)
+      (signed_plain x.0.2 (omega (arith, small))))
+      (second_plain x.1 few)
+
+  order_plain : (t : Bool) → All IsPlain (order_lines (cond t None (Some (record { names = map (name_of w.proposers) w.order; line = 0 }))))
+  order_plain true = All-nil IsPlain
+  order_plain false =
+      All-cons IsPlain (codes "order" ++ spaced (map (name_of w.proposers) w.order)) [] (both_plain (codes "order") (spaced (map (name_of w.proposers) w.order)) head_plain.1 (spaced_plain (name_of w.proposers) left_plain w.order))
+      (All-nil IsPlain)
 
   bound_plain : (word : List ℕ) (line : SaidPair → List ℕ) → IsPlain word → ((pair : SaidPair) → line pair ≡ word ++ pair_text pair) → (pairs : List (ℕ × ℕ))
       → All IsPlain (map line (map (said_pair w.proposers w.reviewers) pairs))
@@ -130,17 +171,20 @@ module _ (w : Written) (i : IsInstance w) where
 
   items_plain : All IsPlain (item_lines (said_of (Two w)))
   items_plain =
-      let weights : All IsPlain (map weight_line (map (said_weight w.proposers w.reviewers) w.weights)) =
-      All-map IsPlain weight_line (map (said_weight w.proposers w.reviewers) w.weights)
-      (All-map (λ (x : SaidWeight). IsPlain (weight_line x)) (said_weight w.proposers w.reviewers) w.weights (λ k d below. weight_plain (get_or w.weights k d) (weights_small w i k d below))) in
-      All-append IsPlain (map weight_line (map (said_weight w.proposers w.reviewers) w.weights)) _ weights
+      let both = zip w.weights w.seconds in
+      let weights : All IsPlain (map weight_line (map (said_weight w.proposers w.reviewers) both)) =
+      All-map IsPlain weight_line (map (said_weight w.proposers w.reviewers) both)
+      (All-map (λ (x : SaidWeight). IsPlain (weight_line x)) (said_weight w.proposers w.reviewers) both
+      (λ k d below. let small = zip_small w i k d below in weight_plain (get_or both k d) small.0 small.1)) in
+      All-append IsPlain (map weight_line (map (said_weight w.proposers w.reviewers) both)) _ weights
       (All-append IsPlain (map force_line (map (said_pair w.proposers w.reviewers) w.forced)) _ (bound_plain (codes "force ") force_line pair_words_plain.1 (λ pair. refl) w.forced)
       (All-append IsPlain (map forbid_line (map (said_pair w.proposers w.reviewers) w.forbidden)) _ (bound_plain (codes "forbid ") forbid_line pair_words_plain.2 (λ pair. refl) w.forbidden)
-      (All-cons IsPlain (codes "end") [] end_plain (All-nil IsPlain))))
+      (All-append IsPlain (order_lines (said_of (Two w)).order) (codes "end" ∷ []) (order_plain (pointwise nat_eq w.order (range_with_len 0 (length w.proposers))))
+      (All-cons IsPlain (codes "end") [] end_plain (All-nil IsPlain)))))
 
   two_plain : All IsPlain (lines_of (Two w))
   two_plain =
-      All-cons IsPlain (header_line w.kind) (agent_lines w.kind (said_of (Two w))) (header_plain w.kind)
+      All-cons IsPlain (header_line (format_of (said_of (Two w))) w.kind) (agent_lines w.kind (said_of (Two w))) (header_plain (said_of (Two w)) w.kind)
       (All-append IsPlain (map proposer_line (map (said_agent w.reviewers) w.proposers)) _
       (agents_plain proposer_line w.reviewers w.proposers (λ p below. proposer_plain w.reviewers right_plain (agent_at w.proposers p) (left_plain p)))
       (All-append IsPlain (map (reviewer_line w.kind) (map (said_agent w.proposers) w.reviewers)) _
@@ -152,7 +196,7 @@ pub lines_plain : (input : Input) → IsInput input → All IsPlain (lines_of in
 lines_plain (Two w) i = two_plain w i
 lines_plain (Room persons) i =
     let named = name_of_plain persons true i.agents in
-    All-cons IsPlain (header_line Roommates) (agent_lines Roommates (said_of (Room persons))) (header_plain Roommates)
+    All-cons IsPlain (header_line (format_of (said_of (Room persons))) Roommates) (agent_lines Roommates (said_of (Room persons))) (header_plain (said_of (Room persons)) Roommates)
     (All-append IsPlain (map proposer_line (map (said_agent persons) persons)) (codes "end" ∷ [])
     (agents_plain proposer_line persons persons (λ p below. proposer_plain persons named (agent_at persons p) (named p)))
     (All-cons IsPlain (codes "end") [] end_plain (All-nil IsPlain)))

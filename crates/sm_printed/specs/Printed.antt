@@ -1,8 +1,9 @@
 -- The lines of a printed instance, of what it says by names. One space stands between two tokens, but none before `:`, `[`
 -- and `]`.
-use Rattle.std.specs.Prelude.{ℕ, List, [], ◌∷◌, ◌++◌, map, codes, decimal}
+use Rattle.std.specs.Prelude.{ℕ, zero, suc, ◌||◌, Bool, true, false, not, if◌then◌else◌, List, [], ◌∷◌, ◌++◌, map, Option, Some, None, is_some, codes, decimal, ℤ, pos, negsuc}
+use Rattle.std.specs.List.{list_any}
 use Rattle.std.specs.Fmt.{signed_decimal}
-use Rattle.sm_instance.specs.Named.{SaidAgent, SaidPair, SaidWeight, Said}
+use Rattle.sm_instance.specs.Named.{SaidAgent, SaidPair, SaidWeight, SaidOrder, Said}
 use Rattle.sm_instance.specs.declared.kinds.Kind.{Kind}
 use Rattle.sm_instance.specs.declared.kinds.Kind.TheVariants.{Marriage, Hospitals, Roommates}
 use Rattle.sm_instance.specs.Inputs.{kind_of}
@@ -10,11 +11,25 @@ use Rattle.sm_instance.specs.declared.inputs.Input.{Input}
 use Rattle.sm_report.specs.Fields.{spaced}
 use Rattle.sm_printed.specs.Names.{said_of}
 
--- the header of each kind
-abbrev pub header_line : Kind → List ℕ
-header_line Marriage = codes "stable 1 marriage"
-header_line Hospitals = codes "stable 1 hospitals"
-header_line Roommates = codes "stable 1 roommates"
+-- a number is 0
+abbrev pub is_zero : ℤ → Bool
+is_zero (pos zero) = true
+is_zero (pos (suc n)) = false
+is_zero (negsuc n) = false
+
+-- the format that is needed: 2 where the proposers have an order of their own or a pair has a second weight
+abbrev pub format_of : Said → ℕ
+format_of said = if is_some said.order || list_any (λ (x : SaidWeight). not (is_zero x.second)) said.weights then 2 else 1
+
+-- the word of each kind
+abbrev pub kind_word : Kind → List ℕ
+kind_word Marriage = codes "marriage"
+kind_word Hospitals = codes "hospitals"
+kind_word Roommates = codes "roommates"
+
+-- the header of a format and a kind
+abbrev pub header_line : (format : ℕ) → Kind → List ℕ
+header_line format kind = codes "stable " ++ decimal format ++ codes " " ++ kind_word kind
 
 -- `:` and the names on a list, each behind a space
 abbrev pub list_text : List (List ℕ) → List ℕ
@@ -38,9 +53,13 @@ reviewer_line kind agent = codes "r " ++ agent.name ++ capacity_text kind agent.
 abbrev pub pair_text : SaidPair → List ℕ
 pair_text pair = pair.proposer ++ codes " " ++ pair.reviewer
 
+-- a second weight behind a space, where it isn't 0
+abbrev pub second_text : ℤ → List ℕ
+second_text second = if is_zero second then [] else codes " " ++ signed_decimal second
+
 -- the line of a weight
 abbrev pub weight_line : SaidWeight → List ℕ
-weight_line x = codes "weight " ++ pair_text x.pair ++ codes " " ++ signed_decimal x.weight
+weight_line x = codes "weight " ++ pair_text x.pair ++ codes " " ++ signed_decimal x.weight ++ second_text x.second
 
 -- the line of a forced pair
 abbrev pub force_line : SaidPair → List ℕ
@@ -50,9 +69,22 @@ force_line pair = codes "force " ++ pair_text pair
 abbrev pub forbid_line : SaidPair → List ℕ
 forbid_line pair = codes "forbid " ++ pair_text pair
 
--- the lines behind those of the agents, and the lines behind the header
+-- the line of an order
+abbrev pub order_line : SaidOrder → List ℕ
+order_line order = codes "order" ++ spaced order.names
+
+-- it stands where there is one
+abbrev pub order_lines : Option SaidOrder → List (List ℕ)
+order_lines None = []
+order_lines (Some order) = order_line order ∷ []
+
+-- the lines behind those of pairs
+abbrev pub last_lines : Said → List (List ℕ)
+last_lines said = order_lines said.order ++ codes "end" ∷ []
+
+-- the lines behind those of the agents
 abbrev pub item_lines : Said → List (List ℕ)
-item_lines said = map weight_line said.weights ++ (map force_line said.forced ++ (map forbid_line said.forbidden ++ codes "end" ∷ []))
+item_lines said = map weight_line said.weights ++ (map force_line said.forced ++ (map forbid_line said.forbidden ++ last_lines said))
 
 -- the lines behind the header
 abbrev pub agent_lines : Kind → Said → List (List ℕ)
@@ -60,7 +92,7 @@ agent_lines kind said = map proposer_line said.proposers ++ (map (reviewer_line 
 
 -- all lines, each without its end
 abbrev pub printed_lines : Kind → Said → List (List ℕ)
-printed_lines kind said = header_line kind ∷ agent_lines kind said
+printed_lines kind said = header_line (format_of said) kind ∷ agent_lines kind said
 
 -- the lines of an instance that is printed
 abbrev pub lines_of : Input → List (List ℕ)

@@ -27,6 +27,22 @@ MarriagePrinted = lines_of (Two marriage) ≡
     ∷ codes "forbid b-2 y"
     ∷ codes "end" ∷ []
 
+-- the marriage with a second weight, and its second proposer before the first
+abbrev pub ordered : Written
+ordered = record marriage { seconds = negsuc 4 ∷ pos 0 ∷ []; order = 1 ∷ 0 ∷ [] }
+
+-- the lines of that marriage, by hand
+abbrev pub OrderedPrinted : Type 0
+OrderedPrinted = lines_of (Two ordered) ≡
+    codes "stable 2 marriage"
+    ∷ codes "p a: y a" ∷ codes "p b-2: a"
+    ∷ codes "r a: a b-2" ∷ codes "r y:"
+    ∷ codes "weight b-2 a -12 -5" ∷ codes "weight a y 0"
+    ∷ codes "force a y" ∷ codes "force a y"
+    ∷ codes "forbid b-2 y"
+    ∷ codes "order b-2 a"
+    ∷ codes "end" ∷ []
+
 -- one resident and two hospitals, of which one lists nobody
 abbrev pub hospitals : Written
 hospitals = plain_written Hospitals

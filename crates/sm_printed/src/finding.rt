@@ -4,27 +4,30 @@ ghost use Rattle.std.specs.Prelude.{◌≡◌, ◌<◌, ◌^◌, length, slice_g
 ghost use Rattle.std.specs.Option.{option_map};
 ghost use Rattle.sm_instance.specs.declared.kinds.Kind.TheVariants.{Roommates};
 ghost use Rattle.sm_instance.specs.declared.inputs.Input.TheVariants.{Two, Room};
-ghost use Rattle.sm_printed.specs.Lines.{line_text, NamesAgents};
-ghost use Rattle.sm_printed.specs.Printed.{lines_of, agent_lines, item_lines};
+ghost use Rattle.sm_printed.specs.Lines.{line_text, NamesAgents, end_line_at};
+ghost use Rattle.sm_printed.specs.Printed.{lines_of, agent_lines, item_lines, last_lines};
 ghost use Rattle.sm_printed.specs.Names.{said_of};
 
+use crate::formats::has_own_order;
 use sm_instance::{Input, Instance, Persons};
 
 /// A line of a printed instance. Agents go by number, from 0.
 #[derive(Clone, Copy)]
 pub(crate) enum InstanceLine {
-    /// The kind of the instance.
+    /// The format and the kind of the instance.
     Header,
     /// A proposer, in roommates a person, and its list.
     Proposer(u32),
     /// A reviewer and its list.
     Reviewer(u32),
-    /// The weight of a proposer and a reviewer.
-    Weight(u32, u32, i64),
+    /// The weight of a proposer and a reviewer, and their second weight.
+    Weight(u32, u32, i64, i64),
     /// A proposer and a reviewer of whom it is asked that they are partners.
     Force(u32, u32),
     /// A proposer and a reviewer of whom it is asked that they aren't.
     Forbid(u32, u32),
+    /// All proposers, in the order in which they are compared.
+    Order,
     /// The end of the instance.
     End,
 }
@@ -72,7 +75,8 @@ fn item_line_at(instance: &Instance, place: usize) -> Option<InstanceLine>
     let forbidden = instance.forbidden();
     if place < weights.len() {
         let (p, r, weight) = weights[place];
-        return Some(InstanceLine::Weight(p, r, weight));
+        let second = instance.seconds()[place];
+        return Some(InstanceLine::Weight(p, r, weight, second));
     }
     let place = place - weights.len();
     if place < forced.len() {
@@ -84,10 +88,33 @@ fn item_line_at(instance: &Instance, place: usize) -> Option<InstanceLine>
         let (p, r) = forbidden[place];
         return Some(InstanceLine::Forbid(p, r));
     }
-    if place == forbidden.len() {
-        return Some(InstanceLine::End);
+    last_line_at(instance, place - forbidden.len())
+}
+
+/// The line at a place behind those of the agents and pairs.
+fn last_line_at(instance: &Instance, place: usize) -> Option<InstanceLine>
+    ensures text { option_map (line_text (Two instance.now)) result
+        ≡ slice_get (last_lines (said_of (Two instance.now))) place }
+    ensures agents { IfSome result (λ line. NamesAgents (Two instance.now) line) }
+{
+    if !has_own_order(instance) {
+        return end_line_at(place);
     }
-    None
+    if place == 0 {
+        return Some(InstanceLine::Order);
+    }
+    end_line_at(place - 1)
+}
+
+/// The line at a place behind which only `end` stands.
+fn end_line_at(place: usize) -> Option<InstanceLine>
+    ensures { result ≡ end_line_at place }
+{
+    if place == 0 {
+        Some(InstanceLine::End)
+    } else {
+        None
+    }
 }
 
 /// The line at a place behind the header of roommates.
@@ -125,5 +152,10 @@ fn agent_line_count(instance: &Instance) -> usize
     let weights = instance.weights().len();
     let forced = instance.forced().len();
     let forbidden = instance.forbidden().len();
-    agents + weights + forced + forbidden + 1
+    let pairs = weights + forced + forbidden;
+    if has_own_order(instance) {
+        agents + pairs + 2
+    } else {
+        agents + pairs + 1
+    }
 }

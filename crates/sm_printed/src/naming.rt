@@ -98,7 +98,11 @@ fn put_list(into: &mut LineWriter, others: &[Agent], list: &[u32]) -> Result<(),
 }
 
 /// Puts the names of agents, each behind a space.
-fn put_names(into: &mut LineWriter, others: &[Agent], list: &[u32]) -> Result<(), AllocError>
+pub(crate) fn put_names(
+    into: &mut LineWriter,
+    others: &[Agent],
+    list: &[u32],
+) -> Result<(), AllocError>
     requires { (i : ℕ) → i < length list.now → slice_index list.now i < length others.now }
     ensures { PutsText into.old into.new (spaced
         (map (name_of (agents_of others.now)) list.now)) result }

@@ -1,17 +1,19 @@
 //! What is printed for each line of an instance.
 
-ghost use Rattle.std.specs.Prelude.{◌≤◌, ◌<◌, ◌-◌, ◌++◌, ◌∷◌, [], length, slice_get};
+ghost use Rattle.std.specs.Prelude.{◌≡◌, ◌≤◌, ◌<◌, ◌-◌, ◌++◌, ◌∷◌, [], true, is_some, codes, length, slice_get};
+ghost use Rattle.std.specs.Fmt.{signed_decimal};
 ghost use Rattle.std.specs.Option.{option_map};
 ghost use Rattle.sm_text.specs.Lines.{LF};
 ghost use Rattle.sm_instance.specs.Inputs.{left_of, right_of};
 ghost use Rattle.sm_report.specs.Putting.{PutsText};
-ghost use Rattle.sm_printed.specs.Names.{said_pair, said_weight};
-ghost use Rattle.sm_printed.specs.Printed.{header_line, pair_text, weight_line, lines_of};
+ghost use Rattle.sm_printed.specs.Names.{said_of, said_pair, said_weight};
+ghost use Rattle.sm_printed.specs.Printed.{header_line, kind_word, pair_text, second_text, weight_line, lines_of};
 ghost use Rattle.sm_printed.specs.Lines.{line_text, IsPair, NamesAgents};
 ghost use Rattle.sm_printed.specs.Putting.{PutsIfAny};
 
 use crate::finding::{InstanceLine, line_at};
-use crate::naming::{lefts, put_proposer, put_reviewer, rights};
+use crate::formats::format;
+use crate::naming::{lefts, put_names, put_proposer, put_reviewer, rights};
 use sm_instance::{Input, Kind};
 use sm_text::LineWriter;
 use std::alloc::AllocError;
@@ -19,8 +21,10 @@ use std::alloc::AllocError;
 /// Puts line `at`, counted from 1, of the printed instance and LF behind what a writer holds, and answers true. It answers
 /// false exactly where the instance has fewer lines, and then does nothing.
 ///
-/// The lines are the header `stable 1` with the kind, a line `p` for each proposer or person and a line `r` for each reviewer
-/// with their lists, lines `weight`, `force` and `forbid` in the order of the instance, and `end`. One space stands between
+/// The lines are the header `stable 1` or `stable 2` with the kind, a line `p` for each proposer or person and a line `r` for
+/// each reviewer with their lists, lines `weight`, `force` and `forbid` in the order of the instance, a line `order` with all
+/// proposers where their order isn't that of their lines, and `end`. A weight has its second number where it isn't 0. The
+/// header is of format 2 exactly where there is a line `order` or a second number. One space stands between
 /// tokens, but none before `:`. In hospitals each reviewer has its capacity, as in `r h [2]: a b`. Takes time in the length of
 /// what is written, and no memory but what the writer needs: none where the line fits the room that is left.
 ///
@@ -62,7 +66,7 @@ fn put_line(into: &mut LineWriter, input: &Input, line: InstanceLine) -> Result<
     ensures { PutsText into.old into.new (line_text input.now line) result }
 {
     match line {
-        InstanceLine::Header => put_header(into, input.kind()),
+        InstanceLine::Header => put_header(into, format(input), input.kind()),
         InstanceLine::Proposer(p) => {
             put_proposer(into, &lefts(input)[p as usize], rights(input))
         }
@@ -72,39 +76,86 @@ fn put_line(into: &mut LineWriter, input: &Input, line: InstanceLine) -> Result<
             &rights(input)[r as usize],
             lefts(input),
         ),
-        InstanceLine::Weight(p, r, weight) => put_weight(into, input, p, r, weight),
+        InstanceLine::Weight(p, r, weight, second) => {
+            put_weight(into, input, p, r, weight, second)
+        }
         InstanceLine::Force(p, r) => put_pair(into, input, b"force ", p, r),
         InstanceLine::Forbid(p, r) => put_pair(into, input, b"forbid ", p, r),
+        InstanceLine::Order => put_order(into, input),
         InstanceLine::End => into.put_bytes(b"end"),
     }
 }
 
 /// Puts the header.
-fn put_header(into: &mut LineWriter, kind: Kind) -> Result<(), AllocError>
-    ensures { PutsText into.old into.new (header_line kind) result }
+fn put_header(into: &mut LineWriter, format: u32, kind: Kind) -> Result<(), AllocError>
+    ensures { PutsText into.old into.new (header_line format kind) result }
+{
+    into.put_bytes(b"stable ")?;
+    into.put_number(u64::from(format))?;
+    into.put_bytes(b" ")?;
+    into.put_bytes(kind_word(kind))
+}
+
+/// The word of a kind.
+fn kind_word(kind: Kind) -> &'static [u8]
+    ensures { result.now ≡ kind_word kind }
 {
     match kind {
-        Kind::Marriage => into.put_bytes(b"stable 1 marriage"),
-        Kind::Hospitals => into.put_bytes(b"stable 1 hospitals"),
-        Kind::Roommates => into.put_bytes(b"stable 1 roommates"),
+        Kind::Marriage => b"marriage",
+        Kind::Hospitals => b"hospitals",
+        Kind::Roommates => b"roommates",
     }
 }
 
-/// Puts the weight of a pair.
+/// Puts a pair and its weights.
 fn put_weight(
     into: &mut LineWriter,
     input: &Input,
     p: u32,
     r: u32,
     weight: i64,
+    second: i64,
 ) -> Result<(), AllocError>
     requires { IsPair input.now p r }
     ensures { PutsText into.old into.new (weight_line
-        (said_weight (left_of input.now) (right_of input.now) (p, r, weight))) result }
+        (said_weight (left_of input.now) (right_of input.now) ((p, r, weight), second))) result }
 {
     put_pair(into, input, b"weight ", p, r)?;
+    put_weights(into, weight, second)
+}
+
+/// Puts the weight of a pair, and its second weight where it isn't 0, each behind a space.
+fn put_weights(into: &mut LineWriter, weight: i64, second: i64) -> Result<(), AllocError>
+    ensures { PutsText into.old into.new (codes " " ++ signed_decimal weight ++ second_text second)
+        result }
+{
+    put_spaced(into, weight)?;
+    if second == 0 {
+        return Ok(());
+    }
+    put_spaced(into, second)
+}
+
+/// Puts a number behind a space.
+fn put_spaced(into: &mut LineWriter, number: i64) -> Result<(), AllocError>
+    ensures { PutsText into.old into.new (codes " " ++ signed_decimal number) result }
+{
     into.put_bytes(b" ")?;
-    into.put_signed(weight)
+    into.put_signed(number)
+}
+
+/// Puts the order of the proposers, where it isn't that of their numbers.
+fn put_order(into: &mut LineWriter, input: &Input) -> Result<(), AllocError>
+    requires { is_some (said_of input.now).order ≡ true }
+    ensures { PutsText into.old into.new (line_text input.now InstanceLine.Order) result }
+{
+    match input {
+        Input::Two(instance) => {
+            into.put_bytes(b"order")?;
+            put_names(into, instance.proposers(), instance.order())
+        }
+        Input::Room(_) => Ok(()),
+    }
 }
 
 /// Puts a word and the names of a pair.

@@ -1,4 +1,5 @@
 use Rattle.std.proofs.Common.{◌≡◌, ◌∙◌, ap, codes, map, false}
+use Rattle.std.specs.List.{zip}
 use Rattle.serde_json.specs.Data.{string, no_members, put}
 use Rattle.serde_json.specs.View.{view, members_view}
 use Rattle.sm_instance.specs.Vectors.{agents_of}
@@ -19,7 +20,7 @@ returns c =
     let m3 = members_view c.put-2.new.map.entries in
     let m4 = members_view c.put-3.new.map.entries in
     let e0 : m0 ≡ no_members = ap members_view c.new-members.ensures.empty in
-    let e1 : m1 ≡ put_if (codes "weights") weight_json (map (said_weight left right) c.args.weights.now) m0 = c.in_ok-put_weights.ensures in
+    let e1 : m1 ≡ put_if (codes "weights") weight_json (map (said_weight left right) (zip c.args.instance.now.weights c.args.instance.now.seconds)) m0 = c.in_ok-put_weights.ensures in
     let h2 : c.has_capacities.result ≡ has_capacities kind = c.has_capacities.ensures in
     let v2 : view c.in_ok-list.list ≡ array_of (agent_json c.has_capacities.result) (map (said_agent left) right) = c.in_ok-list.ensures in
     let e2 : m2 ≡ put (codes "reviewers") (view c.in_ok-list.list) m1 = c.in_ok-put.ensures.ok in
@@ -27,5 +28,5 @@ returns c =
     let e3 : m3 ≡ put (codes "proposers") (view c.in_ok-list-2.list) m2 = c.in_ok-put-2.ensures.ok in
     let v4 : view c.in_ok-kind.kind ≡ string (kind_name kind) = c.in_ok-kind.ensures in
     let e4 : m4 ≡ put (codes "kind") (view c.in_ok-kind.kind) m3 = c.in_ok-put-3.ensures.ok in
-    sides_are_put kind left right c.args.weights.now m0 m1 m2 m3 m4 (view c.in_ok-kind.kind) (view c.in_ok-list-2.list) (view c.in_ok-list.list)
+    sides_are_put kind left right (zip c.args.instance.now.weights c.args.instance.now.seconds) m0 m1 m2 m3 m4 (view c.in_ok-kind.kind) (view c.in_ok-list-2.list) (view c.in_ok-list.list)
     e0 e1 (v2 ∙ ap (λ t. array_of (agent_json t) (map (said_agent left) right)) h2) e2 v3 e3 v4 e4
