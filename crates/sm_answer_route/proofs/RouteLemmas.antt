@@ -1,5 +1,5 @@
 -- The lines of the answer of `route`.
-use Rattle.std.proofs.Common.{◌≡◌, ℕ, ◌-◌, ◌<◌, ◌^◌, List, [], ◌∷◌, ◌++◌, Bool, false, Option, length, map, drop, refl, sym, ap, ◌∙◌, subst, arith}
+use Rattle.std.proofs.Common.{◌≡◌, ℕ, ◌-◌, List, [], ◌∷◌, ◌++◌, Bool, false, Option, length, map, drop, refl, sym, ap, ◌∙◌, subst, arith}
 use Rattle.std.specs.List.{All, flat_map, range_with_len}
 use Rattle.std.proofs.lemmas.List.{append_assoc, append_cancel_right}
 use Rattle.std.proofs.lemmas.List.Elements.{All-append, All-cons, All-tail, All-take, All-same}
@@ -139,15 +139,15 @@ route_found {w} {given} {found} first rotations steps h ef er es =
     (subst (λ (f : Paired). AreStepsBetween w f.places found.basis.poset.rotations left right found.steps.items) (sym ef) h.route))
 
 -- a closed set of the seats is one of the poset of their market
-pub set_closed : {w : Written} {poset : RotationPoset} {places : List (Option ℕ)} {set : List Bool} → poset.lists ≡ seat_market w → IsSetOf w poset.first.places poset.rotations places set → IsClosed poset.lists poset.rotations set
-set_closed {w} {poset} {places} {set} lists h = subst (λ (l : Lists). IsClosed l poset.rotations set) (sym lists) h.closed
+pub set_closed : {w : Written} (poset : RotationPoset) {places : List (Option ℕ)} {set : List Bool} → poset.lists ≡ seat_market w → IsSetOf w poset.first.places poset.rotations places set → IsClosed poset.lists poset.rotations set
+set_closed {w} poset {places} {set} lists h = subst (λ (l : Lists). IsClosed l poset.rotations set) (sym lists) h.closed
 
 -- the steps between two closed sets of that poset are those between their matchings
-pub steps_are : {w : Written} {poset : RotationPoset} {left right : List (Option ℕ)} {from to : List Bool} {steps : List Step} → poset.lists ≡ seat_market w
+pub steps_are : {w : Written} (poset : RotationPoset) {left right : List (Option ℕ)} {from to : List Bool} {steps : List Step} → poset.lists ≡ seat_market w
     → IsSetOf w poset.first.places poset.rotations left from → IsSetOf w poset.first.places poset.rotations right to → steps ≡ steps_between from to (length poset.rotations)
     → IsShortestRoute poset.lists (matching_of poset.lists poset.first.places poset.rotations from) (map (matching_of poset.lists poset.first.places poset.rotations) (sets_along from steps)) (matching_of poset.lists poset.first.places poset.rotations to)
     → AreStepsBetween w poset.first.places poset.rotations left right steps
-steps_are {w} {poset} {left} {right} {from} {to} {steps} lists a b is shortest = record {
+steps_are {w} poset {left} {right} {from} {to} {steps} lists a b is shortest = record {
   from = from;
   to = to;
   from_left = a;

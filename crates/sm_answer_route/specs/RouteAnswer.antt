@@ -1,5 +1,5 @@
 -- The answer of `route`.
-use Rattle.std.specs.Prelude.{◌≡◌, ℕ, ◌+◌, Bool, List, [], ◌∷◌, ◌++◌, map, length, Option}
+use Rattle.std.specs.Prelude.{◌≡◌, ℕ, ◌+◌, ◌<◌, ◌^◌, Bool, List, [], ◌∷◌, ◌++◌, map, length, Option}
 use Rattle.std.specs.List.{flat_map, range_with_len}
 use Rattle.sm_answer.specs.Lines.{lines_from}
 use Rattle.sm_answer.specs.declared.matching_lines.PairWord.TheVariants as word
@@ -8,7 +8,6 @@ use Rattle.sm_instance.specs.declared.inputs.Input.TheVariants.{Two}
 use Rattle.sm_market.specs.Matching.{Places}
 use Rattle.sm_report.specs.Heads.{HeadData}
 use Rattle.sm_report.specs.Lines.{LineData}
-use Rattle.sm_report.specs.Sound.{AreNumbers}
 use Rattle.sm_theory.specs.Chains.{IsPrintedChain, AreNeeds}
 use Rattle.sm_theory.specs.ClosedSets.{IsClosed, matching_of}
 use Rattle.sm_theory.specs.Routes.{IsShortestRoute, sets_along, steps_between}
@@ -44,9 +43,14 @@ abbrev pub step_line : Step → LineData
 step_line (Back k) = LineData.Back (k + 1)
 step_line (Forth k) = LineData.Forth (k + 1)
 
--- the number of its rotation is one that a line can have
+-- the rotation of a step
+abbrev pub rotation_in : Step → ℕ
+rotation_in (Back k) = k
+rotation_in (Forth k) = k
+
+-- it has a number that a line can have
 abbrev pub IsStepNumbered : Step → Type 0
-IsStepNumbered step = AreNumbers (step_line step)
+IsStepNumbered step = rotation_in step < 2 ^ 24
 
 -- the pairs of the left matching and then those of the right one, each in the order of the proposers
 abbrev pub given_pairs : Written → (left right : List (Option ℕ)) → List LineData

@@ -1,13 +1,12 @@
 -- What is kept of the rank vector of a matching.
-use Rattle.std.proofs.Common.{◌≡◌, ℕ, ◌+◌, ◌-◌, ◌<◌, ◌≤◌, max, List, length, map, fold, set, Option, Some, None, unwrap_or, get_or, slice_index, ⊎_elim, refl, sym, ap, ◌∙◌, subst, arith}
+use Rattle.std.proofs.Common.{◌≡◌, ℕ, ◌<◌, max, List, length, map, fold, set, Option, get_or, ⊎_elim, sym, ap, ◌∙◌, subst, arith}
 use Rattle.std.specs.List.{range_with_len}
 use Rattle.std.proofs.lemmas.Bool.{cases_eq}
-use Rattle.std.proofs.lemmas.List.{get_or-map, length-map, length-set, get_or-set_same, get_or-set_other, ext_get_or}
-use Rattle.std.proofs.lemmas.List.FromFn.{length-range_with_len, get_or-range_with_len, length-map-range_with_len, get_or-map-range_with_len}
-use Rattle.sm_instance.specs.Written.{Written, row}
-use Rattle.sm_instance.specs.Matching.{held, standing, IsMatching}
+use Rattle.std.proofs.lemmas.List.{length-set, get_or-set_same, get_or-set_other, ext_get_or}
+use Rattle.std.proofs.lemmas.List.FromFn.{length-map-range_with_len, get_or-map-range_with_len}
+use Rattle.sm_instance.specs.Written.{Written}
+use Rattle.sm_instance.specs.Matching.{held, IsMatching}
 use Rattle.sm_instance.specs.Ranks.{rank_vector_of, worse_rank, regret_of}
-use Rattle.sm_seats.specs.Vectors.{IsAllowedRankVector}
 use Rattle.sm_answer_list.proofs.RankLemmas.{rank_at}
 use Rattle.sm_answer_survey.specs.Regrets.{IsWorseRank, AreWorseRanks}
 

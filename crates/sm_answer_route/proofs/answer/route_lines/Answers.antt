@@ -1,10 +1,11 @@
-use Rattle.std.proofs.Common.{ap, ◌∙◌, subst, sym, ℕ, List}
+use Rattle.std.specs.List.{All}
+use Rattle.std.proofs.Common.{ap, ◌∙◌, sym}
 use Rattle.sm_answer.proofs.AnswerLemmas.{same_some, same_is, joined_some, joined_is, given_right, given_some}
-use Rattle.sm_market.specs.Pairing.{Paired}
 use Rattle.sm_market.specs.Vectors.{rows_of}
 use Rattle.sm_theory.specs.Values.{rotations_of}
 use Rattle.sm_seats.specs.Seating.{Seating}
-use Rattle.sm_answer_rotations.proofs.RotationLemmas.{AreShown, are_shown, values_few, values_each, small_needs, seats_named}
+use Rattle.sm_answer_rotations.proofs.RotationLemmas.{are_shown, values_few, values_each, small_needs, seats_named}
+use Rattle.sm_answer_route.specs.RouteAnswer.{IsStepNumbered}
 use Rattle.sm_answer_route.proofs.RouteLemmas.{route_found, route_given, route_right, route_sound}
 use Rattle.sm_answer_route.proofs.StepLemmas.{steps_numbered}
 use Rattle.sm_answer_route.proofs.answer.route_lines.Goals as goal
@@ -53,7 +54,7 @@ returns-clause-some c =
     let x = are_shown c.args.found.now.basis.poset s.market first rotations needs (c.requires.found.market ∙ sym (ap (λ (t : Seating). t.market) c.requires.seats)) c.chain-chain.ensures.first
     (ap rotations_of c.deref.ensures.value ∙ c.chain-chain.ensures.rotations) c.chain-chain.ensures.poset c.all_needs-needs.ensures in
     let r = c.requires.found.route in
-    let numbered = rw c.deref-2.ensures.value (steps_numbered r.from r.to _ _ c.chain-chain.ensures.poset.few r.between) in
+    let numbered : All IsStepNumbered c.deref-2.result.now = rw c.deref-2.ensures.value (steps_numbered r.from r.to _ _ c.chain-chain.ensures.poset.few r.between) in
     given_some _ _ (route_given w c.args.given.now.left.places.items c.args.given.now.right.places.items s first.places rotations needs c.deref-2.result.now)
     (joined_some _ _ (same_some _) (joined_some _ _ c.both_matchings.ensures.some (joined_some _ _ (same_some _) (joined_some _ _ (same_some _) (joined_some _ _ (same_some _) (same_some _))))))
     (joined_is _ _ _ _ (same_is _) (joined_is _ _ _ _ c.both_matchings.ensures.all (joined_is _ _ _ _ (same_is _) (joined_is _ _ _ _ (same_is _) (joined_is _ _ _ _ (same_is _) (same_is _))))))
