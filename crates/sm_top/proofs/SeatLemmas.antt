@@ -1,21 +1,16 @@
 -- Inputs that are refused for their seats.
-use Rattle.std.proofs.Common.{◌≡◌, ℕ, ◌<◌, arith, length, List, Some, None, get_or, sym, ap, ◌∙◌, refl}
+use Rattle.std.proofs.Common.{◌≡◌, ℕ, ◌<◌, arith, length, List, Some, get_or, sym, ap, ◌∙◌, refl}
 use Rattle.std.specs.Option.{option_map}
 use Rattle.sm_text.specs.declared.refusal.RefusalKind.TheVariants.{TooManySeats}
 use Rattle.std.proofs.lemmas.List.{get_or-map, length-map}
 use Rattle.sm_instance.specs.declared.agents.Agent.{Agent}
 use Rattle.sm_instance.specs.Vectors.{agents_of, agent_of}
 use Rattle.sm_instance.specs.Written.{AgentData, Written, no_agent, agent_at}
-use Rattle.std.proofs.lemmas.Option.{none-some}
-use Rattle.sm_instance.specs.declared.inputs.Input.{Input}
 use Rattle.sm_instance.specs.declared.inputs.Input.TheVariants.{Two}
 use Rattle.sm_seats.specs.SeatEntries.{IsFirstTooMany}
 use Rattle.sm_seats.proofs.LimitLaws.{first_too_many-some}
 use Rattle.sm_top.specs.Texts.{plain_refusal}
-use Rattle.sm_top.specs.Accepting.{too_many_in, IsTooMany}
-use Rattle.sm_top.specs.Stops.{StopsBy}
-use Rattle.sm_top.specs.declared.stop.Stop.{Stop}
-use Rattle.sm_top.specs.declared.stop.Stop.TheVariants.{Usage, Refused, Unstable, ReadFault, OutOfMemory}
+use Rattle.sm_top.specs.Accepting.{IsTooMany}
 
 -- the first reviewer with too many seats, and the line at which it stands
 pub too_many_at : (w : Written) (r line : ℕ) → IsFirstTooMany w r → line ≡ (agent_at w.reviewers r).line → IsTooMany (Two w) (plain_refusal TooManySeats line)
@@ -31,11 +26,3 @@ pub line_read : (values : List Agent) (agents : List AgentData) (r : ℕ) (d : A
 line_read values agents r d is here =
     let long : length (agents_of values) ≡ length agents = ap (λ (x : List AgentData). length x) is in
     ap (λ (x : AgentData). x.line) (sym (get_or-map agent_of values r d no_agent (omega (arith, here, long, length-map values agent_of)))) ∙ ap (λ (x : List AgentData). (agent_at x r).line) is
-
--- seats of which there are few enough aren't refused
-pub never_too_many : (input : Input) (stop : Stop) → too_many_in input ≡ None → StopsBy (λ _. ⊥) (IsTooMany input) ⊥ stop → StopsBy (λ _. ⊥) (λ _. ⊥) ⊥ stop
-never_too_many input (Usage word) few h = h
-never_too_many input (Refused kind at) few h = none-some _ (sym few ∙ h.because)
-never_too_many input (Unstable at fields) few h = absurd (none-some _ (sym few ∙ h.0.because))
-never_too_many input ReadFault few h = h
-never_too_many input OutOfMemory few h = tt

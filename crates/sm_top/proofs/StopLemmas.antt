@@ -1,6 +1,5 @@
 -- A line that says why there is no answer.
 use Rattle.std.proofs.Common.{◌≡◌, ℕ, ◌<◌, ◌^◌, Bool, true, false, List, [], ◌∷◌, ◌++◌, codes, decimal, Result, Ok, Err, OnOk, refl, sym, ap, ◌∙◌, append_assoc, append-nil, arith}
-use Rattle.std.specs.List.{flat_map}
 use Rattle.std.proofs.lemmas.Bool.{and_from}
 use Rattle.sm_text.specs.Plain.{is_plain, is_plain_byte}
 use Rattle.sm_text.specs.Refusal.{name_of_refusal}

@@ -8,14 +8,13 @@ use Rattle.sm_top.proofs.behind.given_behind.Goals as goal
 
 pub returns-in-Err-BadAnswer-clause-stop : goal.returns-in-Err-BadAnswer-clause-stop
 returns-in-Err-BadAnswer-clause-stop c =
-    rw c.in-Err-BadAnswer.field-0-is (bad c.in-Err-BadAnswer.line (rw c.in-Err-BadAnswer.field-0-is at c.in-Err-BadAnswer.ensures.fault) refl)
+    bad c.in-Err-BadAnswer.line (rw c.in-Err-BadAnswer.field-0-is at c.in-Err-BadAnswer.ensures.fault) refl
 
 pub returns-in_ok-fields-in-Err-NotStable-clause-stop : goal.returns-in_ok-fields-in-Err-NotStable-clause-stop
 returns-in_ok-fields-in-Err-NotStable-clause-stop c =
     let u = c.in-Err-NotStable.unstable in
     let input = c.args.read.now.input in
-    let shown = rw c.in-Err-NotStable.field-0-is at c.in_ok-fields-in-Err-NotStable.ensures in
-    rw c.in-Err-NotStable.field-0-is (
+    let shown = c.in_ok-fields-in-Err-NotStable.ensures in (
       unstable u (rw c.in-Err-NotStable.field-0-is at c.in-Err-NotStable.ensures.fault)
           (ap (with_detail NotStable u.line) (shown ∙ ap (λ (i : Input). unstable_fields i u) c.requires.two)),
       ap are_plain shown ∙ unstable_plain input c.kind-kind.ensures.sound u,

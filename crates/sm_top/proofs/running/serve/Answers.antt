@@ -16,8 +16,8 @@ pub returns-in_ok-input-in-Ok-Make-clause-stop : goal.returns-in_ok-input-in-Ok-
 returns-in_ok-input-in-Ok-Make-clause-stop g c =
     made_stopped (texts c.args.words.now) _ _ _ c.show_made.result c.show_made.ensures.stop
 
-pub show_made-requires-clause-few : goal.show_made-requires-clause-few
-show_made-requires-clause-few g c =
+pub show_made-requires : goal.show_made-requires
+show_made-requires g c =
     let make = c.in-Ok-Make in
     let bounds = rw make.field-0-is at make.ensures.bounds in
-    subst (λ (i : Input). too_many_in i ≡ None) (sym c.in_ok-input-in-Ok-Make.ensures) (made_has_few_seats make.shape make.size make.seed bounds.1)
+    record { few = subst (λ (i : Input). too_many_in i ≡ None) (sym c.in_ok-input-in-Ok-Make.ensures) (made_has_few_seats make.shape make.size make.seed bounds.1) }
