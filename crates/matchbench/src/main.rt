@@ -8,7 +8,7 @@
 use sm_io::{ReadSource, WriteSink};
 use sm_tally::{CountTally, ProfileTally, RegretTally, SumTally, Tally};
 use sm_top::run;
-use std::alloc::{AllocError, Global};
+use std::alloc::Global;
 use std::io::ErrorKind;
 use std::process::ExitCode;
 use std::{env, io};
@@ -29,9 +29,22 @@ fn main(rt: HostRuntime) -> ExitCode {
     };
     let alloc = rt.alloc();
     keep_memory(alloc);
-    let Ok(tallies) = tallies(alloc) else {
+    let mut tallies: Vec<Box<dyn Tally>> = Vec::new(alloc);
+    let (Ok(count), Ok(sum), Ok(regret), Ok(profile)) = (
+        Box::new(alloc, CountTally::new()),
+        Box::new(alloc, SumTally::new()),
+        Box::new(alloc, RegretTally::new()),
+        Box::new(alloc, ProfileTally::new()),
+    ) else {
         return ExitCode::from(NO_MEMORY);
     };
+    if tallies.push(count).is_err()
+        || tallies.push(sum).is_err()
+        || tallies.push(regret).is_err()
+        || tallies.push(profile).is_err()
+    {
+        return ExitCode::from(NO_MEMORY);
+    }
     let mut source = ReadSource::new(rt.reader());
     let mut sink = WriteSink::new(io::writer(&rt));
     ExitCode::from(run(alloc, &words, &mut source, &mut sink, tallies).number())
@@ -42,16 +55,6 @@ fn main(rt: HostRuntime) -> ExitCode {
 /// No page of this one is touched.
 fn keep_memory(alloc: Global) {
     let _ = Vec::<u8>::with_capacity(alloc, LARGE);
-}
-
-/// A tally of each tag, in rising order.
-fn tallies(alloc: Global) -> Result<Vec<Box<dyn Tally>>, AllocError> {
-    let mut tallies: Vec<Box<dyn Tally>> = Vec::with_capacity(alloc, 4)?;
-    tallies.push(Box::new(alloc, CountTally::new())?)?;
-    tallies.push(Box::new(alloc, SumTally::new())?)?;
-    tallies.push(Box::new(alloc, RegretTally::new())?)?;
-    tallies.push(Box::new(alloc, ProfileTally::new())?)?;
-    Ok(tallies)
 }
 
 /// The words behind the program's name.
