@@ -65,7 +65,7 @@ VERDICTS = {
 
 COMMANDS = {
     'solve': ('side',), 'reduced': (), 'rotations': (), 'list': ('after', 'limit'), 'pairs': (), 'regret': (), 'weight': ('by',),
-    'meet': (), 'join': (), 'survey': ('limit',), 'rest': (), 'check': (), 'make': ('shape', 'size', 'seed', 'show'),
+    'meet': (), 'join': (), 'median': (), 'route': (), 'survey': ('limit',), 'rest': (), 'check': (), 'make': ('shape', 'size', 'seed', 'show'),
 }
 VALUES = {
     'side': 'side=proposers or side=reviewers', 'by': 'by=ranks or by=given', 'limit': 'limit= and a number from 1 to 1,000,000, without commas',

@@ -266,7 +266,7 @@ class Draw(unittest.TestCase):
         """By the table of docs/FORMATS.md, and what a line may hold."""
         two = 'stable 1 marriage\n'
         for text, refusal in (
-                ('', 'BadHeader 1'), ('\n\n', 'BadHeader 3'), ('stable 2 marriage\n', 'BadHeader 1'),
+                ('', 'BadHeader 1'), ('\n\n', 'BadHeader 3'), ('stable 3 marriage\n', 'BadHeader 1'),
                 (two + 'p m1: a, b\n', 'BadByte 2'),
                 (two + 'p m1 a\n', 'BadLine 2'), (two + 'p -x:\n', 'BadName 2'), (two + f'p {"x" * 65}:\n', 'BadName 2'),
                 ('stable 1 hospitals\nr h [4097]:\n', 'BadNumber 2'), (f'stable 1 hospitals\nr h [{"9" * 5000}]:\n', 'BadNumber 2'), (two + 'r h [2]:\nend\n', 'BadLine 2'),
@@ -274,7 +274,9 @@ class Draw(unittest.TestCase):
                 (two + 'weight m1 a 1\nweight m1 a 1\n', 'RepeatedWeight 3'), (two + 'weight m1 a -0\n', 'BadNumber 2'),
                 (two, 'MissingEnd 2'), (two + 'p m1: z\nend\n', 'UnknownName 2'), (two + 'end\nend\n', 'AfterEnd 3'),
                 (two + 'force a b\nend\n', 'UnknownName 2'), ('end\n', 'BadHeader 1'), (two + 'p a\r:\nend\n', 'BadByte 2'),
-                ('stable 1 roommates\nr a:\nend\n', 'BadLine 2'),
+                ('stable 1 roommates\nr a:\nend\n', 'BadLine 2'), (two + 'p m1: [K]\nend\n', 'BadLine 2'),
+                ('stable 2 marriage\np m1: [K]\nend\n', 'BadName 2'), ('stable 2 marriage\nmaster L: a\nmaster L:\n', 'Redeclared 3'),
+                ('stable 2 marriage\norder a a\n', 'RepeatedEntry 2'), ('stable 2 roommates\norder a\n', 'BadLine 2'),
                 (two + ''.join(f'p p{i}:\n' for i in range(4097)), 'TooManyAgents 4098'),
         ):
             status, _, fault = draw(text, example('two_by_two.rotations'))
