@@ -4,19 +4,18 @@ use Rattle.std.specs.declared.alloc.Global.{Global}
 use Rattle.std.proofs.lemmas.List.{map_push}
 use Rattle.std.proofs.lemmas.List.Elements.{All-push}
 use Rattle.std.proofs.lemmas.List.FromFn.{map-range_with_len_more}
-use Rattle.sm_instance.specs.Ranks.{pair_weight}
 use Rattle.sm_seats.specs.Seating.{at_places}
 use Rattle.sm_theory.specs.Sizes.{weights_in}
-use Rattle.sm_placed.specs.PlaceWeights.{IsLight, AreLight}
+use Rattle.sm_placed.specs.PlaceWeights.{IsLight, AreLight, weigh}
 use Rattle.sm_placed.proofs.PlaceLemmas.{are_acceptable}
-use Rattle.sm_placed.proofs.place_weights.weights_of_places.Goals as goal
+use Rattle.sm_placed.proofs.place_weights.weigh_places.Goals as goal
 
 pub weights_at-requires-clause-acceptable : goal.weights_at-requires-clause-acceptable
 weights_at-requires-clause-acceptable c = are_acceptable c.proposer_count-p-end.ensures.instance c.requires.seats c.loop-p.p
 
 pub loop-p-preserved : goal.loop-p-preserved
 loop-p-preserved c =
-    let f = at_places c.args.seats.now (λ p i. pair_weight c.args.by c.args.instance.now p (Some i)) in
+    let f = at_places c.args.seats.now (λ p i. weigh c.args.weighing c.args.instance.now p (Some i)) in
     let p = c.loop-p.p in
     let row = c.in_ok-weights_at.field-0.items in
     let before = weights_in c.loop-p.weights.items in
