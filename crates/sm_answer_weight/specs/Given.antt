@@ -64,6 +64,11 @@ given_before SecondGain = 3
 abbrev pub most_gained : RotationPart → ℕ → ℕ
 most_gained part n = 4 * n - given_before part
 
+-- one of the flows
+abbrev pub flow_in : Level → Lightest → List FlowLine
+flow_in First found = found.flow.items
+flow_in Second found = found.second_flow.items
+
 -- the line of a flow whose ends are shown
 abbrev pub edge_line : Level → FlowLine → LineData
 edge_line First line = LineData.Flow line.from line.to line.amount
@@ -100,8 +105,8 @@ weight_given s found first rotations needs =
     (LineData.Answer (HeadData.Weight found.by) ∷ [])
     ++ (lines_from (seat_line Proposers s first) 0 (length s.market.proposers - 0)
     ++ (gained_left Pairs s (rows_found found rotations needs) 0
-    ++ (map (edge_line First) (drop 0 found.flow.items)
-    ++ (map (edge_line Second) (drop 0 found.second_flow.items)
+    ++ (map (edge_line First) (drop 0 (flow_in First found))
+    ++ (map (edge_line Second) (drop 0 (flow_in Second found))
     ++ (lines_from (λ i. Some (figure_line found i)) 0 (figure_count found - 0)
     ++ (lines_from (seated_pair_line s found.matching.places) 0 (length s.market.proposers - 0)
     ++ (LineData.End ∷ [])))))))

@@ -82,13 +82,13 @@ pub fn lightest_lines<'a>(
                     },
                     second: Then {
                         first: FlowLines {
-                            flow: &found.flow,
+                            found,
                             level: Level::First,
                             next: 0,
                         },
                         second: Then {
                             first: FlowLines {
-                                flow: &found.second_flow,
+                                found,
                                 level: Level::Second,
                                 next: 0,
                             },

@@ -3,7 +3,7 @@
 ghost use Rattle.std.specs.Prelude.{◌≡◌, ◌<◌, ◌^◌, length, IfOk};
 ghost use Rattle.sm_report.specs.Lines.{line_of};
 ghost use Rattle.sm_answer_weight.specs.WeightAnswer.{member_numbers};
-ghost use Rattle.sm_answer_weight.specs.Given.{edge_line};
+ghost use Rattle.sm_answer_weight.specs.Given.{edge_line, flow_in};
 
 use crate::lightest_parts::Lightest;
 use sm_answer::{Answer, Numbered};
@@ -21,26 +21,37 @@ pub enum Level {
 /// The lines of a flow, from one on.
 #[derive(Drop)]
 pub struct FlowLines<'a> {
-    pub flow: &'a [FlowLine],
+    pub found: &'a Lightest,
     pub level: Level,
     pub next: usize,
 }
 
 impl Answer for FlowLines<'_> {
     ghost use Rattle.std.specs.Prelude.{◌≡◌, ◌-◌, drop, length, map};
-    ghost use Rattle.sm_answer_weight.specs.Given.{edge_line};
+    ghost use Rattle.sm_answer_weight.specs.Given.{edge_line, flow_in};
 
-    ghost gives = { λ s rest. rest ≡ map (edge_line s.level) (drop s.next s.flow.now) };
+    ghost gives = { λ s rest. rest ≡ map (edge_line s.level) (drop s.next (flow_in s.level s.found.now)) };
 
-    ghost most = { λ s. length s.flow.now - s.next };
+    ghost most = { λ s. length (flow_in s.level s.found.now) - s.next };
 
     fn next(&mut self, _alloc: Global) -> Result<Option<Line>, AllocError> {
-        if self.next >= self.flow.len() {
+        let flow = flow_in(self.found, self.level);
+        if self.next >= flow.len() {
             return Ok(None);
         }
-        let line = edge_line(self.level, self.flow[self.next]);
+        let line = edge_line(self.level, flow[self.next]);
         self.next += 1;
         Ok(Some(line))
+    }
+}
+
+/// One of the flows.
+fn flow_in(found: &Lightest, level: Level) -> &[FlowLine]
+    ensures { result.now ≡ flow_in level found.now }
+{
+    match level {
+        Level::First => &found.flow,
+        Level::Second => &found.second_flow,
     }
 }
 
