@@ -421,6 +421,25 @@ fn matchings_are_weighed(rt: HostRuntime) {
 }
 
 #[test]
+fn second_sums_decide_among_equal_ones(rt: HostRuntime) {
+    come_to(
+        &rt,
+        &[
+            done(
+                "weight by=given",
+                "stable 2 marriage\np m1: a b c\np m2: b c a\np m3: c a b\nr a: m2 m3 m1\nr b: m3 m1 m2\nr c: m1 m2 m3\nweight m1 b 4 1\nweight m2 a 0 -2\nend\n",
+                "answer weight by=given\nfirst m1 a\nfirst m2 b\nfirst m3 c\nrotation 1 m1 a m2 b m3 c\nneeds 1 -\ngain 1 4\ngain2 1 1\nrotation 2 m1 b m2 c m3 a\nneeds 2 1\ngain 2 -4\ngain2 2 -3\nflow S 2 4\nflow 1 T 4\nflow 2 1 4\nflow2 S 2 1\nflow2 1 T 1\nflow2 2 1 1\ntaken 1 2\nvalue 4\ncut 4\ntotal 0\nvalue2 1\ncut2 1\ntotal2 -2\npair m1 c\npair m2 a\npair m3 b\nend\n",
+            ),
+            done(
+                "weight by=given",
+                "stable 2 marriage\np m1: a b c\np m2: b c a\np m3: c a b\nr a: m2 m3 m1\nr b: m3 m1 m2\nr c: m1 m2 m3\nweight m1 b 4 1\nweight m2 a 0 2\nend\n",
+                "answer weight by=given\nfirst m1 a\nfirst m2 b\nfirst m3 c\nrotation 1 m1 a m2 b m3 c\nneeds 1 -\ngain 1 4\ngain2 1 1\nrotation 2 m1 b m2 c m3 a\nneeds 2 1\ngain 2 -4\ngain2 2 1\nflow S 2 4\nflow 1 T 4\nflow 2 1 4\ntaken -\nvalue 4\ncut 4\ntotal 0\nvalue2 0\ncut2 0\ntotal2 0\npair m1 a\npair m2 b\npair m3 c\nend\n",
+            ),
+        ],
+    );
+}
+
+#[test]
 fn tallies_are_fed(rt: HostRuntime) {
     let three =
         "stable 1 marriage\np m1: a b c\np m2: b c a\np m3: c a b\nr a: m2 m3 m1\nr b: m3 m1 m2\nr c: m1 m2 m3\nend\n";
@@ -545,6 +564,26 @@ fn answers_of_weight_are_checked(rt: HostRuntime) {
                 26,
                 Reason::CutDiffers,
                 "answer check\nno 26 CutDiffers\nend\n",
+            ),
+        ],
+    );
+}
+
+#[test]
+fn answers_of_two_levels_are_checked(rt: HostRuntime) {
+    come_to(
+        &rt,
+        &[
+            done(
+                "check",
+                "stable 2 marriage\np m1: a b c\np m2: b c a\np m3: c a b\nr a: m2 m3 m1\nr b: m3 m1 m2\nr c: m1 m2 m3\nweight m1 b 4 1\nweight m2 a 0 -2\nend\nanswer weight by=given\nfirst m1 a\nfirst m2 b\nfirst m3 c\nrotation 1 m1 a m2 b m3 c\nneeds 1 -\ngain 1 4\ngain2 1 1\nrotation 2 m1 b m2 c m3 a\nneeds 2 1\ngain 2 -4\ngain2 2 -3\nflow S 2 4\nflow 1 T 4\nflow 2 1 4\nflow2 S 2 1\nflow2 1 T 1\nflow2 2 1 1\ntaken 1 2\nvalue 4\ncut 4\ntotal 0\nvalue2 1\ncut2 1\ntotal2 -2\npair m1 c\npair m2 a\npair m3 b\nend\n",
+                "answer check\nyes\nend\n",
+            ),
+            checked_no(
+                "stable 2 marriage\np m1: a b c\np m2: b c a\np m3: c a b\nr a: m2 m3 m1\nr b: m3 m1 m2\nr c: m1 m2 m3\nweight m1 b 4 1\nweight m2 a 0 -2\nend\nanswer weight by=given\nfirst m1 a\nfirst m2 b\nfirst m3 c\nrotation 1 m1 a m2 b m3 c\nneeds 1 -\ngain 1 4\ngain2 1 1\nrotation 2 m1 b m2 c m3 a\nneeds 2 1\ngain 2 -4\ngain2 2 -3\nflow S 2 4\nflow 1 T 4\nflow 2 1 4\nflow2 S 2 2\nflow2 1 T 1\nflow2 2 1 1\ntaken 1 2\nvalue 4\ncut 4\ntotal 0\nvalue2 1\ncut2 1\ntotal2 -2\npair m1 c\npair m2 a\npair m3 b\nend\n",
+                29,
+                Reason::NotConserved,
+                "answer check\nno 29 NotConserved\nend\n",
             ),
         ],
     );
