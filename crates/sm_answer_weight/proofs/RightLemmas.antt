@@ -24,8 +24,7 @@ use Rattle.sm_seats.specs.Correspondence.{IsSeating, leveled, weights_by, weight
 use Rattle.sm_placed.specs.Levels.{has_two_levels, pair_second_by, seconds_by}
 use Rattle.sm_placed.proofs.LevelLemmas.{none_second}
 use Rattle.sm_theory.specs.declared.flow_lines.FlowLine.{FlowLine}
-use Rattle.sm_weight.specs.Lightest.{IsFullFlow, AreFullFlows, IsLightestFound, set_matching}
-use Rattle.sm_weight.specs.Second.{gain_at}
+use Rattle.sm_weight.specs.Lightest.{IsFullFlow, AreFullFlows, AreZero, IsLightestFound, set_matching}
 use Rattle.sm_theory.specs.Net.{Net}
 use Rattle.sm_answer.specs.MatchingLines.{pair_line}
 use Rattle.sm_answer_rotations.specs.PairLines.{seated_pair_line}
@@ -122,11 +121,11 @@ module _ {w : Written} (h : IsSeating w (seating_of w)) (found : Lightest) (f : 
   lightest_in = lightest_by_both h found.by (set_matching (seated_poset w found) f.source.set.members.items) lightest_there.lightest lightest_there.best
 
   -- in one level there are no second gains
-  no_gains : has_two_levels found.by w ≡ false → (k : ℕ) → gain_at f.source.gains2.items k ≡ pos 0
+  no_gains : has_two_levels found.by w ≡ false → AreZero f.source.gains2.items
   no_gains one k =
       let s = seating_of w in
       let weigh = pair_second_by found.by w in
-      ap (λ (gains : List ℤ). gain_at gains k) lightest_there.gains2
+      ap (λ (gains : List ℤ). slice_index_or gains k (pos 0)) lightest_there.gains2
       ∙ read_zero (gain_of (seat_market w) (seconds_by found.by w s)) (gain_none weigh (none_second found.by w one) s (seat_market w)) found.basis.poset.rotations k
 
   -- each flow fills the cut of the set
