@@ -11,5 +11,5 @@ returns-then-has_two_levels-clause-seconds c =
 
 pub returns-else-has_two_levels-clause-seconds : goal.returns-else-has_two_levels-clause-seconds
 returns-else-has_two_levels-clause-seconds c =
-    subst (λ (x : List (List ℤ)). IfOk c.weigh_places.result (λ v. weights_in v.items ≡ x))
-    (in_one_level c.args.by c.args.instance.now c.args.seats.now (sym c.has_two_levels.ensures ∙ c.if-has_two_levels.false)) c.weigh_places.ensures.weights
+    subst (λ (x : List (List ℤ)). IfOk c.weigh_places-else-has_two_levels.result (λ v. weights_in v.items ≡ x))
+    (in_one_level c.args.by c.args.instance.now c.args.seats.now (sym c.has_two_levels.ensures ∙ c.if-has_two_levels.false)) c.weigh_places-else-has_two_levels.ensures.weights
