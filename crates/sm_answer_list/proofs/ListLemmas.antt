@@ -1,5 +1,5 @@
 -- The answer of `list` by what a lister gives.
-use Rattle.std.proofs.Common.{◌≡◌, ℕ, ◌+◌, ◌≤◌, List, Bool, Option, Some, None, IfSome, IfOk, Result, Ok, Err, length, get_or, refl, sym, ap, ◌∙◌, subst, arith, unwrap_or}
+use Rattle.std.proofs.Common.{◌≡◌, ℕ, ◌+◌, ◌≤◌, List, Bool, Option, Some, None, IfSome, length, get_or, refl, sym, ap, ◌∙◌, subst, arith, unwrap_or}
 use Rattle.std.specs.List.{All, range_with_len}
 use Rattle.std.proofs.lemmas.List.Elements.{All-map}
 use Rattle.sm_text.specs.Limits.{most_limit}
@@ -94,11 +94,6 @@ list_shown {w} {after} {s} input limit h lines x =
       is_right = record { cursor = h.fits; listed = record { out = a.out; more = a.more; listing = listed_written h here; shows = a.shows } };
       shows = x.shows;
     }
-
--- what is found is shown
-pub found_shown : {A E : Type 0} {P Q : A → Type 0} (r : Result A E) → ((x : A) → P x → Q x) → IfOk r P → IfOk r Q
-found_shown (Ok x) f p = f x p
-found_shown (Err e) f p = tt
 
 -- its vectors have numbers of 32 bits
 pub lister_small : {w : Written} {after : Option (List ℕ)} {s : Lister} → IsInstance w → IsListerOf w after s → (v : List ℕ) → IsListed s v → All IsSmall v

@@ -1,5 +1,5 @@
 -- An answer that lists vectors: what is given is right, and there is something to give.
-use Rattle.std.proofs.Common.{◌≡◌, ℕ, suc, ◌+◌, ◌<◌, ◌≤◌, List, [], ◌∷◌, ◌++◌, Bool, true, false, Option, Some, None, IfSome, length, map, slice_index_or, refl, sym, ap, ◌∙◌, subst, arith}
+use Rattle.std.proofs.Common.{◌≡◌, ℕ, suc, ◌+◌, ◌<◌, ◌≤◌, List, [], ◌∷◌, ◌++◌, Bool, true, false, Option, Some, None, IfSome, Result, Ok, Err, IfOk, length, map, slice_index_or, refl, sym, ap, ◌∙◌, subst, arith}
 use Rattle.std.specs.List.{All}
 use Rattle.std.proofs.lemmas.List.Elements.{All-append, All-cons, All-head, All-tail, All-map}
 use Rattle.sm_text.specs.Limits.{most_limit}
@@ -17,6 +17,11 @@ use Rattle.sm_theory.proofs.Vectors.Listings.{listing_exists}
 use Rattle.sm_answer_vectors.specs.VectorAnswer.{last_line, vector_lines, IsVectorAnswer}
 use Rattle.sm_answer_vectors.specs.Stepping.{HaveNext}
 use Rattle.sm_answer_vectors.specs.Remaining.{IsLeftOf}
+
+-- what follows from a result follows from it in each answer
+pub if_ok : {A E : Type 0} {P Q : A → Type 0} (r : Result A E) → ((x : A) → P x → Q x) → IfOk r P → IfOk r Q
+if_ok (Ok x) f p = f x p
+if_ok (Err e) f p = tt
 
 -- The lines are those of an input.
 
