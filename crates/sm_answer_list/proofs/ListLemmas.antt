@@ -44,7 +44,7 @@ same_one {s} {t} {v} e a =
     (subst (λ x. IsAllowedVector t.poset.lists t.levels t.forced x v) e.forbidden a)))
 
 pub same_vectors : {s t : Lister} → IsSameLister s t → AreSameVectors s.order t.order (IsListed s) (IsListed t)
-same_vectors e = record { order = e.order; vectors = λ v. (same_one e, same_one (same_back e)) }
+same_vectors e = record { same_order = e.order; vectors = λ v. (same_one e, same_one (same_back e)) }
 
 -- behind each cursor it has a next vector, or none
 pub lister_goes_on : {w : Written} {after : Option (List ℕ)} {s : Lister} → IsListerOf w after s → HaveNext s.order (IsListed s)

@@ -21,7 +21,7 @@ use Rattle.sm_answer_roommates.proofs.PersonLemmas.{persons_within}
 
 -- the same lists have the same vectors
 pub same_vectors : {rows then : List (List ℕ)} → then ≡ rows → AreSameVectors (agents rows) (agents then) (IsRoomVector rows) (IsRoomVector then)
-same_vectors {rows} {then} e = record { order = ap (λ (r : List (List ℕ)). agents r) e; vectors = λ v. (subst (λ r. IsRoomVector r v) e, subst (λ r. IsRoomVector r v) (sym e)) }
+same_vectors {rows} {then} e = record { same_order = ap (λ (r : List (List ℕ)). agents r) e; vectors = λ v. (subst (λ r. IsRoomVector r v) e, subst (λ r. IsRoomVector r v) (sym e)) }
 
 -- there are as many persons as lists
 pub one_list_each : {rows : List (List ℕ)} (persons : List AgentData) → rows ≡ lists_of persons → length persons ≡ length rows

@@ -13,12 +13,12 @@ use Rattle.sm_answer_vectors.specs.Remaining.{IsListedRest, IsLeftOf, IsLastLine
 
 -- it is the same both ways
 same_back : {o p : List ℕ} {P Q : List ℕ → Type 0} → AreSameVectors o p P Q → AreSameVectors p o Q P
-same_back h = record { order = sym h.order; vectors = λ v. ((h.vectors v).1, (h.vectors v).0) }
+same_back h = record { same_order = sym h.same_order; vectors = λ v. ((h.vectors v).1, (h.vectors v).0) }
 
 -- a listing of the same vectors in the same order
 same_listing : {o p : List ℕ} {P Q : List ℕ → Type 0} {c : Option (List ℕ)} {n : ℕ} {out : List (List ℕ)} {more : Bool} → AreSameVectors o p P Q
     → IsListing (IsBefore p) Q c n out more → IsListing (IsBefore o) P c n out more
-same_listing {o} {p} {P} {Q} {c} {n} {out} {more} h x = subst (λ r. IsListing (IsBefore r) P c n out more) h.order (record {
+same_listing {o} {p} {P} {Q} {c} {n} {out} {more} h x = subst (λ r. IsListing (IsBefore r) P c n out more) h.same_order (record {
   begins = x.begins;
   rises = x.rises;
   sound = λ k l. (h.vectors _).0 (x.sound k l);

@@ -5,7 +5,7 @@ use Rattle.sm_theory.specs.Listings.{IsNextListed, IsNoneBehind}
 
 -- the same vectors are in question, in the same order
 pub record AreSameVectors (order then : List ℕ) (IsOne IsThen : List ℕ → Type 0) : Type 0 where
-  pub order : then ≡ order
+  pub same_order : then ≡ order
   pub vectors : (v : List ℕ) → IsThen v ↔ IsOne v
 
 -- the next vector behind a cursor was reached
