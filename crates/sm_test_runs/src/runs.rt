@@ -512,6 +512,100 @@ fn roommates_are_solved(rt: HostRuntime) {
     );
 }
 
+const RING: &str = "stable 1 roommates\np 1: 2 4\np 2: 3 1\np 3: 4 2\np 4: 1 3\nend\n";
+const ODD_RING: &str = "stable 1 roommates\np 1: 2 3 4\np 2: 3 1 4\np 3: 1 2 4\np 4: 1 2 3\nend\n";
+const TWO_RINGS: &str = "stable 1 roommates\np a: b d\np b: c a\np c: d b\np d: a c\np e: f h\np f: g e\np g: h f\np h: e g\nend\n";
+
+#[test]
+fn roommates_are_listed(rt: HostRuntime) {
+    come_to(
+        &rt,
+        &[
+            done(
+                "list",
+                RING,
+                "answer list limit=100\nvector 1,2,1,2\nvector 2,1,2,1\nend\n",
+            ),
+            done(
+                "list limit=1",
+                RING,
+                "answer list limit=1\nvector 1,2,1,2\nmore 1,2,1,2\n",
+            ),
+            done(
+                "list limit=1000000",
+                RING,
+                "answer list limit=1000000\nvector 1,2,1,2\nvector 2,1,2,1\nend\n",
+            ),
+            done(
+                "list after=1,2,1,2",
+                RING,
+                "answer list after=1,2,1,2 limit=100\nvector 2,1,2,1\nend\n",
+            ),
+            // a cursor between the two vectors, which is none
+            done(
+                "list after=1,3,9,0",
+                RING,
+                "answer list after=1,3,9,0 limit=100\nvector 2,1,2,1\nend\n",
+            ),
+            refused(
+                "list after=1,2,1",
+                RING,
+                RefusalKind::BadCursor,
+                0,
+                "refused BadCursor 0\n",
+            ),
+            // no stable matching
+            done("list", ODD_RING, "answer list limit=100\nend\n"),
+            done(
+                "list after=1,1,1,1 limit=1",
+                ODD_RING,
+                "answer list after=1,1,1,1 limit=1\nend\n",
+            ),
+            refused(
+                "list after=1",
+                ODD_RING,
+                RefusalKind::BadCursor,
+                0,
+                "refused BadCursor 0\n",
+            ),
+            // two groups, each of which has two stable matchings
+            done(
+                "list limit=2",
+                TWO_RINGS,
+                "answer list limit=2\nvector 1,2,1,2,1,2,1,2\nvector 1,2,1,2,2,1,2,1\nmore 1,2,1,2,2,1,2,1\n",
+            ),
+            done(
+                "list after=1,2,1,2,2,1,2,1",
+                TWO_RINGS,
+                "answer list after=1,2,1,2,2,1,2,1 limit=100\nvector 2,1,2,1,1,2,1,2\nvector 2,1,2,1,2,1,2,1\nend\n",
+            ),
+            // entries that aren't returned, or that name their own person, count for ranks; who is alone has one rank more
+            done(
+                "list",
+                "stable 1 roommates\np 1: 5 2 1 4\np 2: 3 1\np 3: 4 2 5\np 4: 1 3\np 5: 2\nend\n",
+                "answer list limit=100\nvector 2,2,1,2,2\nvector 4,1,2,1,2\nend\n",
+            ),
+            done(
+                "list",
+                "stable 1 roommates\np 1:\np 2:\np 3:\nend\n",
+                "answer list limit=100\nvector 1,1,1\nend\n",
+            ),
+            done(
+                "list",
+                "stable 1 roommates\nend\n",
+                "answer list limit=100\nvector -\nend\n",
+            ),
+            refused(
+                "check",
+                "stable 1 roommates\np 1: 2\np 2: 1\nend\nanswer list limit=100\nvector 1,1\nend\n",
+                RefusalKind::BadAnswer,
+                5,
+                "refused BadAnswer 5\n",
+            ),
+        ],
+    );
+}
+
 /// A run without faults that answers that an answer isn't right.
 fn checked_no<'a>(text: &'a str, line: u32, why: Reason, written: &'a str) -> Row<'a> {
     Row {
