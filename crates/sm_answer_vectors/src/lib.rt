@@ -12,5 +12,5 @@ mod vector_text;
 mod vectors;
 
 pub use answer::{ListLines, list_vectors};
-pub use cursors::copy_of_cursor;
+pub use cursors::{copy_of_cursor, small_copy};
 pub use vectors::Vectors;
