@@ -513,8 +513,11 @@ fn roommates_are_solved(rt: HostRuntime) {
 }
 
 const RING: &str = "stable 1 roommates\np 1: 2 4\np 2: 3 1\np 3: 4 2\np 4: 1 3\nend\n";
+
 const ODD_RING: &str = "stable 1 roommates\np 1: 2 3 4\np 2: 3 1 4\np 3: 1 2 4\np 4: 1 2 3\nend\n";
-const TWO_RINGS: &str = "stable 1 roommates\np a: b d\np b: c a\np c: d b\np d: a c\np e: f h\np f: g e\np g: h f\np h: e g\nend\n";
+
+const TWO_RINGS: &str =
+    "stable 1 roommates\np a: b d\np b: c a\np c: d b\np d: a c\np e: f h\np f: g e\np g: h f\np h: e g\nend\n";
 
 #[test]
 fn roommates_are_listed(rt: HostRuntime) {

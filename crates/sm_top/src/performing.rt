@@ -38,8 +38,7 @@ use sm_answer_list::{list_lines, start_list};
 use sm_answer_median::{MedianFault, find_median, median_lines};
 use sm_answer_pairs::{find_pairs, find_regret, pairs_lines, regret_lines};
 use sm_answer_roommates::{
-    RoomSolution, couple_lines, find_rest, find_roommates, party_lines, rest_lines,
-    room_list_lines,
+    RoomSolution, couple_lines, find_rest, find_roommates, party_lines, rest_lines, room_list_lines,
 };
 use sm_answer_rotations::{
     Basis, find_reduction, none_lines, reduction_lines, rotation_answer_lines,
