@@ -12,13 +12,13 @@ pub returns-then-self-eq0-clause-put : goal.returns-then-self-eq0-clause-put
 returns-then-self-eq0-clause-put g c =
     let s = c.args.self.now in
     line_put c.args.input.now _ _ (line_of c.in_ok-line.line) _ _ _ _ c.kind-kind.ensures.sound c.requires.some
-    (last_given _ _ _ _ _ _ s.over s.left s.left (line_of c.in_ok-line.line) c.if-self.false c.if-self-eq0.true c.in_ok-line.ensures) c.in_ok-put_text.ensures.ok
+    (last_given _ (g.V.Vectors.order s.vectors) _ (g.V.Vectors.is_one s.vectors) _ (g.V.Vectors.cursor s.vectors) s.over s.left s.left (line_of c.in_ok-line.line) c.if-self.false c.if-self-eq0.true c.in_ok-line.ensures) c.in_ok-put_text.ensures.ok
 
 pub returns-then-not-found-clause-put : goal.returns-then-not-found-clause-put
 returns-then-not-found-clause-put g c =
     let s = c.args.self.now in
     line_put c.args.input.now _ _ LineData.End _ _ _ _ c.kind-kind.ensures.sound c.requires.some
-    (end_given _ _ _ _ _ _ s.over s.left s.left c.if-self.false (c.in_ok-found.ensures.none c.if-not-found.true).0) c.in_ok-put_text-2.ensures.ok
+    (end_given _ (g.V.Vectors.order s.vectors) _ (g.V.Vectors.is_one s.vectors) _ (g.V.Vectors.cursor s.vectors) s.over s.left s.left c.if-self.false (c.in_ok-found.ensures.none c.if-not-found.true).0) c.in_ok-put_text-2.ensures.ok
 
 pub returns-clause-put : goal.returns-clause-put
 returns-clause-put g c =
