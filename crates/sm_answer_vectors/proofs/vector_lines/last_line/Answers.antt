@@ -1,4 +1,4 @@
-use Rattle.std.proofs.Common.{◌∙◌, ap, refl}
+use Rattle.std.proofs.Common.{ap, refl}
 use Rattle.sm_report.specs.Lines.{LineData}
 use Rattle.sm_answer_vectors.proofs.RemainingLemmas.{more_follows, none_follows}
 use Rattle.sm_answer_vectors.proofs.vector_lines.last_line.Goals as goal

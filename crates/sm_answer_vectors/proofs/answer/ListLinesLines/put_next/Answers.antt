@@ -1,5 +1,5 @@
 use Rattle.std.proofs.Common.{◌∙◌, sym}
-use Rattle.sm_answer_vectors.specs.Remaining.{IsReady, IsLeftOf, most_lines}
+use Rattle.sm_answer_vectors.specs.Remaining.{most_lines}
 use Rattle.sm_answer_vectors.proofs.PutLemmas.{head_printable, head_put, behind_put}
 use Rattle.sm_answer_vectors.proofs.answer.ListLinesLines.put_next.Goals as goal
 
