@@ -7,7 +7,7 @@ use Rattle.sm_theory.specs.Listings.{end_of, IsBehind, IsListing}
 use Rattle.sm_theory.proofs.Vectors.Order.{irreflexive, transitive}
 use Rattle.sm_theory.proofs.Vectors.Listings.{more_listing, none_listed, none_wanted}
 use Rattle.sm_seats.specs.Vectors.{IsAllowedRankVector}
-use Rattle.sm_lister.specs.Listers.{Lister, IsListed, IsNextOf, IsAtEnd, IsSameLister}
+use Rattle.sm_lister.specs.Listers.{Lister, IsNextOf, IsAtEnd, IsSameLister}
 use Rattle.sm_lister.specs.Rests.{IsListingOf}
 use Rattle.sm_lister.proofs.RestLemmas.{same_lists}
 use Rattle.sm_answer_list.specs.Started.{IsListerOf}
