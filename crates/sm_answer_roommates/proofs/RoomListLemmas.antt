@@ -1,10 +1,10 @@
 -- The answer of `list` for roommates, by what a lister gives.
-use Rattle.std.proofs.Common.{◌≡◌, ℕ, ◌+◌, ◌<◌, List, Option, length, sym, ap, ◌∙◌, subst, arith}
+use Rattle.std.proofs.Common.{◌≡◌, ℕ, List, Option, length, sym, ap, ◌∙◌, subst, arith}
 use Rattle.std.specs.List.{All}
 use Rattle.std.proofs.lemmas.List.{length-map}
 use Rattle.std.proofs.lemmas.List.Elements.{All-from_get_or}
 use Rattle.sm_answer.specs.Printing.{IsShown}
-use Rattle.sm_lists.specs.Rows.{row, agents}
+use Rattle.sm_lists.specs.Rows.{agents}
 use Rattle.sm_lists.specs.Limits.{AreWithinLimits}
 use Rattle.sm_lists.proofs.RowLemmas.{row_fits}
 use Rattle.sm_instance.specs.Written.{AgentData, lists_of}

@@ -1,6 +1,3 @@
-use Rattle.std.proofs.Common.{ℕ, List, subst, IfOk}
-use Rattle.sm_room_list.specs.RoomListers.{IsRoomStarted}
-use Rattle.sm_answer_vectors.specs.VectorAnswer.{cursor_in}
 use Rattle.sm_answer_vectors.proofs.CursorLemmas.{cursor_long}
 use Rattle.sm_answer_roommates.proofs.RoomListLemmas.{one_list_each}
 use Rattle.sm_answer_roommates.proofs.list.start_room_list.Goals as goal
