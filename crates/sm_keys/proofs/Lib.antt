@@ -1,2 +1,12 @@
 pub mod TextLemmas
 pub mod WordLemmas
+pub mod PositionLemmas
+pub mod BadLemmas
+pub mod FirstLemmas
+pub mod WholeLemmas
+pub mod RunLemmas
+pub mod NameLemmas
+pub mod TableLemmas
+pub mod ListingLemmas
+pub mod OrderLemmas
+pub mod AllLemmas

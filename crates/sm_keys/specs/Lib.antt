@@ -1,2 +1,4 @@
 pub mod Words
 pub mod Keys
+pub mod Tokens
+pub mod Tables

@@ -16,7 +16,8 @@ use Rattle.sm_instance.specs.declared.kinds.Kind.{Kind}
 use Rattle.sm_instance.specs.declared.kinds.Kind.TheVariants.{Marriage, Hospitals, Roommates}
 use Rattle.sm_instance.specs.declared.kinds.Side.TheVariants.{Proposers, Reviewers}
 use Rattle.sm_instance.specs.Named.{SaidAgent, Said, nothing, names_of, entries_of}
-use Rattle.sm_reader.specs.Judging.{goes, verdict_on, said_with, has_repeated, capacity_in}
+use Rattle.sm_reader.specs.Judging.{goes, verdict_on, said_with, capacity_in}
+use Rattle.sm_keys.specs.Tables.{has_repeated}
 use Rattle.sm_keys.proofs.TextLemmas.{equal_text}
 use Rattle.sm_report.proofs.DecimalLemmas.{number_of-decimal}
 use Rattle.sm_printed.specs.Printed.{list_text, capacity_text, proposer_line, reviewer_line}

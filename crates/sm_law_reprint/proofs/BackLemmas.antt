@@ -6,7 +6,8 @@ use Rattle.std.proofs.lemmas.Slice.Eq.{bytes_eq-Decides}
 use Rattle.sm_instance.specs.Written.{AgentData, row, entry, weighed, names_of as names_in}
 use Rattle.sm_instance.specs.Sound.{AreSoundAgents, IsEachOnce, IsPairOf}
 use Rattle.sm_instance.specs.Named.{SaidAgent, SaidPair, SaidWeight, names_of, names_first}
-use Rattle.sm_reader.specs.InstanceText.{is_unknown, lines_with_unknown, pairs_with_unknown, order_with_unknown, number_in, numbered, full_order}
+use Rattle.sm_keys.specs.Tables.{is_unknown, number_in}
+use Rattle.sm_reader.specs.InstanceText.{lines_with_unknown, pairs_with_unknown, order_with_unknown, numbered, full_order}
 use Rattle.sm_printed.specs.Names.{name_of, said_agent, said_pair, said_weight}
 use Rattle.sm_law_reprint.specs.Reading.{unlined}
 use Rattle.sm_law_reprint.proofs.SectionLemmas.{lined}

@@ -10,8 +10,7 @@ use Rattle.std.proofs.lemmas.List.Sums.{position_or_len_is}
 use Rattle.sm_text.specs.Name.{is_name}
 use Rattle.sm_instance.specs.Written.{AgentData, no_agent, names_of as names_in}
 use Rattle.sm_instance.specs.Sound.{AreSoundAgents}
-use Rattle.sm_reader.specs.Judging.{has_repeated}
-use Rattle.sm_reader.specs.InstanceText.{is_unknown, number_in}
+use Rattle.sm_keys.specs.Tables.{has_repeated, is_unknown, number_in}
 use Rattle.sm_keys.proofs.TextLemmas.{same_text, other_text}
 use Rattle.sm_printed.specs.Names.{name_of}
 

@@ -12,7 +12,8 @@ use Rattle.sm_instance.specs.declared.kinds.Kind.TheVariants.{Marriage, Hospital
 use Rattle.sm_instance.specs.declared.inputs.Input.TheVariants.{Two, Room}
 use Rattle.sm_instance.specs.Named.{SaidAgent, Said, names_of, names_first}
 use Rattle.sm_answer.specs.Writing.{text_of}
-use Rattle.sm_reader.specs.InstanceText.{ended, listed_by_proposers, unknown_lines, lines_with_unknown, two_sides, input_of, number_in, full_order}
+use Rattle.sm_reader.specs.InstanceText.{ended, listed_by_proposers, unknown_lines, lines_with_unknown, two_sides, input_of, full_order}
+use Rattle.sm_keys.specs.Tables.{number_in}
 use Rattle.sm_printed.specs.Names.{said_of}
 use Rattle.sm_printed.specs.Printed.{format_of, header_line, agent_lines, printed_lines}
 use Rattle.sm_printed.proofs.ItemLemmas.{weight_there, force_there, forbid_there}

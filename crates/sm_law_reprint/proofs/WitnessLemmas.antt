@@ -11,6 +11,7 @@ use Rattle.sm_instance.proofs.SecondLemmas.{zeros_small}
 use Rattle.sm_instance.specs.Written.{AgentData, agent_at, row}
 use Rattle.sm_instance.specs.Sound.{IsSoundAgent, AreSoundAgents, IsSoundEntry, AreSoundEntries, IsSoundItem, items_of}
 use Rattle.sm_reader.specs.Forms as form
+use Rattle.sm_keys.specs.Tokens.{is_bad}
 use Rattle.sm_reader.specs.Judging as judge
 use Rattle.sm_reader.specs.InstanceText as text
 use Rattle.sm_keys.proofs.TextLemmas.{same_text}
@@ -19,7 +20,7 @@ use Rattle.sm_law_reprint.specs.Witnesses.{MarriageIsSound, MarriageReadBack, Or
 
 -- one lemma, so that what is unfolded is named once
 pub read_back : MarriageReadBack × OrderedReadBack × HospitalsReadBack × RoommatesReadBack
-unfolding form.is_bad form.list_form form.capacity_form form.weight_form form.pair_form form.reviewer_form form.two_sided_form form.form_behind
+unfolding is_bad form.list_form form.capacity_form form.weight_form form.pair_form form.reviewer_form form.two_sided_form form.form_behind
     form.order_form form.second_form form.two_sided_added_form form.added_form form.form_under
     form.is_end form.header_of judge.fault_of judge.said_with judge.verdict_on judge.heading_of text.instance_text name.begins_name name.is_name_byte
     token.is_blank token.is_mark fmt.digits

@@ -13,12 +13,12 @@ use Rattle.sm_instance.specs.declared.kinds.Kind.TheVariants.{Marriage, Hospital
 use Rattle.sm_instance.specs.declared.kinds.Side.{Side}
 use Rattle.sm_instance.specs.declared.kinds.Side.TheVariants.{Proposers, Reviewers}
 use Rattle.sm_instance.specs.Named.{SaidAgent, entries_of, entries_of_masters}
-use Rattle.sm_reader.specs.Judging.{has_repeated, with_agent}
-use Rattle.sm_reader.specs.Kept.{Table, text_at, Extends, AreBelow}
+use Rattle.sm_keys.specs.Tables.{has_repeated, Table, text_at, Extends, AreBelow}
+use Rattle.sm_reader.specs.Judging.{with_agent}
 use Rattle.sm_reader.specs.Draft.{listed_table, listed_side, agent_in, master_in, said_of, AreAgentsBelow, pairs_of, IsDraft, limit_fault, name_fault, DeclaresOn, ListsOn, PutsOn, AddsAgent}
 use Rattle.sm_reader.specs.declared.draft.Declared.{Declared}
 use Rattle.sm_reader.specs.declared.draft.Draft.{Draft}
-use Rattle.sm_reader.proofs.ListingLemmas.{extends_long, extends_twice}
+use Rattle.sm_keys.proofs.ListingLemmas.{extends_long, extends_twice}
 use Rattle.sm_reader.proofs.DraftLemmas.{agents_kept, agents_below_more, agents_below_push, pairs_kept, weights_kept, pairs_below_more, order_kept, order_below_more, said_same, listed_more}
 
 -- a faultless agent is within the limits

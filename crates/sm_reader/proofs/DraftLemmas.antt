@@ -4,14 +4,14 @@ use Rattle.sm_instance.specs.declared.kinds.Kind.{Kind}
 use Rattle.sm_instance.specs.declared.kinds.Kind.TheVariants.{Marriage, Hospitals, Roommates}
 use Rattle.std.specs.Option.{option_map}
 use Rattle.sm_instance.specs.Named.{SaidAgent, SaidPair, SaidWeight, SaidMaster, SaidOrder, Said}
-use Rattle.sm_reader.specs.Kept.{Table, text_at, Extends, AreBelow}
+use Rattle.sm_keys.specs.Tables.{Table, text_at, Extends, AreBelow}
 use Rattle.sm_reader.specs.Draft.{listed_table, agent_in, pair_in, given_in, order_of, IsOrderBelow, AreAgentsBelow, IsPairBelow, ArePairsBelow, pairs_of, IsDraft}
 use Rattle.sm_reader.specs.declared.draft.Declared.{Declared}
 use Rattle.sm_reader.specs.declared.draft.Pair.{Pair}
 use Rattle.sm_reader.specs.declared.draft.Weight.{Weight}
 use Rattle.sm_reader.specs.declared.draft.Order.{Order}
 use Rattle.sm_reader.specs.declared.draft.Draft.{Draft}
-use Rattle.sm_reader.proofs.ListingLemmas.{below_more, text_kept, texts_kept, extends_long}
+use Rattle.sm_keys.proofs.ListingLemmas.{below_more, text_kept, texts_kept, extends_long}
 
 -- agents and pairs keep their names
 pub agents_kept : (old new : List (List ℕ)) (agents : List Declared) → Extends old new → AreAgentsBelow (length old) agents → map (agent_in new) agents ≡ map (agent_in old) agents

@@ -3,14 +3,13 @@ use Rattle.std.proofs.Common.{◌≡◌, ◌≢◌, ℕ, zero, suc, ◌+◌, ◌
 use Rattle.std.specs.List.{list_any, range_with_len}
 use Rattle.std.proofs.lemmas.Bool.{false≢true, cases_lt, eqb-true}
 use Rattle.std.proofs.lemmas.Bool.Decides.{nat_tests}
-use Rattle.std.proofs.lemmas.List.{length-append, map-id, get_or-set_same, get_or-set_other, take_more, take_all}
-use Rattle.sm_reader.proofs.TableLemmas.{cases_eq}
+use Rattle.std.proofs.lemmas.List.{length-append, map-id, get_or-set_same, get_or-set_other, take_more, take_all, get_or-append-add}
+use Rattle.sm_keys.proofs.TableLemmas.{cases_eq}
 use Rattle.std.proofs.lemmas.List.Elements.{All-filter, filter_passes}
 use Rattle.std.proofs.lemmas.List.Folds.{list_any_at, list_any-append}
 use Rattle.std.proofs.lemmas.List.FromFn.{length-range_with_len, get_or-range_with_len, filter_of_map_range_with_len_more}
 use Rattle.std.proofs.lemmas.List.Kept.{AllPairs-filter}
 use Rattle.std.proofs.Math.ListN.{get_or-append}
-use Rattle.std.proofs.lemmas.List.{get_or-append-add}
 use Rattle.sm_instance.specs.Sound.{IsEachOnce}
 use Rattle.sm_reader.specs.InstanceText.{full_order}
 

@@ -10,7 +10,8 @@ use Rattle.sm_instance.specs.declared.kinds.Kind.{Kind}
 use Rattle.sm_instance.specs.declared.kinds.Side.{Side}
 use Rattle.sm_instance.specs.Named.{Said, names_of, master_names, agents_on, all_entries, entries_named}
 use Rattle.sm_reader.specs.declared.forms.Condition.{Condition}
-use Rattle.sm_reader.specs.Forms.{Form, declares, weighs, binds, uses, shares, orders, is_bad, form_under, is_end, header_of}
+use Rattle.sm_reader.specs.Forms.{Form, declares, weighs, binds, uses, shares, orders, form_under, is_end, header_of}
+use Rattle.sm_keys.specs.Tokens.{is_bad}
 use Rattle.sm_reader.specs.Judging.{Verdict, goes, stops, refuses, passes, heads, faces, heading_of, verdict_on, of_form, fault_of, agent_fault, said_with, is_bad_capacity}
 use Rattle.sm_text.specs.Slices.{texts_of}
 use Rattle.sm_reader.specs.Draft.{run_fault, name_fault, master_fault, order_fault, weight_fault, IsLineFault, IsRefusedBy}

@@ -1,13 +1,13 @@
 -- Where each name that stands in a text is declared, no line names an undeclared one.
-use Rattle.std.proofs.Common.{◌≡◌, ℕ, zero, suc, ◌<◌, ◌&&◌, ◌||◌, not, Bool, true, false, List, [], ◌∷◌, length, get_or, map, Option, Some, None, refl, sym, ap, ◌∙◌, arith, is_some}
-use Rattle.std.specs.List.{list_any, list_all}
+use Rattle.std.proofs.Common.{◌≡◌, ℕ, ◌<◌, Bool, true, false, List, [], ◌∷◌, length, get_or, map, Option, Some, None, refl, sym, ap, ◌∙◌}
+use Rattle.std.specs.List.{list_any}
 use Rattle.std.proofs.lemmas.Bool.{false≢true}
 use Rattle.std.proofs.lemmas.List.Folds.{list_any_at}
 use Rattle.sm_lists.specs.Earlier.{earlier_of}
 use Rattle.sm_instance.specs.declared.kinds.Kind.{Kind}
 use Rattle.sm_instance.specs.declared.kinds.Kind.TheVariants.{Marriage, Hospitals, Roommates}
-use Rattle.sm_reader.specs.InstanceText.{is_unknown, lines_with_unknown, pairs_with_unknown, order_with_unknown, least, unknown_lines}
-use Rattle.sm_reader.specs.Kept.{Table, IsTable, text_at, AreBelow}
+use Rattle.sm_keys.specs.Tables.{is_unknown, Table, text_at, AreBelow}
+use Rattle.sm_reader.specs.InstanceText.{lines_with_unknown, pairs_with_unknown, order_with_unknown, least, unknown_lines}
 use Rattle.std.specs.Option.{option_map}
 use Rattle.sm_reader.specs.Draft.{order_of, IsOrderBelow, AreAgentsBelow, ArePairsBelow, pairs_of, listed_table, agent_in, pair_in, said_of, IsDraft}
 use Rattle.sm_reader.specs.declared.draft.Declared.{Declared}
@@ -15,29 +15,6 @@ use Rattle.sm_reader.specs.declared.draft.Pair.{Pair}
 use Rattle.sm_reader.specs.declared.draft.Order.{Order}
 use Rattle.sm_reader.specs.declared.draft.Draft.{Draft}
 use Rattle.sm_reader.proofs.NumberLemmas.{unknown_is}
-use Rattle.sm_reader.proofs.TableLemmas.{declared_at}
-
-and_not : (s t u v : Bool) → s ≡ not t → u ≡ not v → (s && u) ≡ not (t || v)
-and_not s true u v e f = ap (λ b. b && u) e
-and_not s false u v e f = ap (λ b. b && u) e ∙ f
-
--- each element of one list passes where that of another doesn't
-all_where_none : {X Y : Type 0} (p : X → Bool) (q : Y → Bool) (xs : List X) (ys : List Y) (d : X) (e : Y) → length xs ≡ length ys
-    → ((i : ℕ) → i < length ys → p (get_or xs i d) ≡ not (q (get_or ys i e))) → list_all p xs ≡ not (list_any q ys)
-all_where_none p q [] [] d e long each = refl
-all_where_none p q [] (y ∷ ys) d e long each = absurd (omega arith)
-all_where_none p q (x ∷ xs) [] d e long each = absurd (omega arith)
-all_where_none p q (x ∷ xs) (y ∷ ys) d e long each =
-    and_not (p x) (q y) (list_all p xs) (list_any q ys) (each zero (omega arith)) (all_where_none p q xs ys d e (omega arith) (λ i inside. each (suc i) (omega arith)))
-
--- all names have numbers where none is unknown
-pub numbers_all : (t : Table) → IsTable t → list_all is_some t.numbers ≡ not (list_any (is_unknown t.declared) t.texts)
-numbers_all t table =
-    all_where_none is_some (is_unknown t.declared) t.numbers t.texts None [] table.number_each (λ i inside. declared_at t i table inside ∙ twice (list_any _ t.declared))
-  where
-    twice : (b : Bool) → b ≡ not (not b)
-    twice true = refl
-    twice false = refl
 
 -- no element passes
 none_passes : {X : Type 0} (p : X → Bool) (xs : List X) (i : ℕ) (d : X) → list_any p xs ≡ false → i < length xs → p (get_or xs i d) ≡ false

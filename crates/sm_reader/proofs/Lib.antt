@@ -1,11 +1,4 @@
-pub mod TextLemmas
-pub mod BadLemmas
-pub mod FirstLemmas
-pub mod RunLemmas
-pub mod WholeLemmas
 pub mod NameLemmas
-pub mod TableLemmas
-pub mod ListingLemmas
 pub mod DraftLemmas
 pub mod JudgeLemmas
 pub mod AddLemmas
@@ -13,7 +6,6 @@ pub mod ResultLemmas
 pub mod PairLemmas
 pub mod NumberLemmas
 pub mod KnownLemmas
-pub mod OrderLemmas
 pub mod ReadingLemmas
 pub mod RightLemmas
 pub mod FullLemmas
@@ -21,3 +13,4 @@ pub mod SoundLemmas
 pub mod SoundTextLemmas
 pub mod MasterLemmas
 pub mod WitnessLemmas
+pub mod FormLemmas

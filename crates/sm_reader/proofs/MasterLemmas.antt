@@ -20,17 +20,18 @@ use Rattle.sm_instance.specs.declared.kinds.Side.{Side}
 use Rattle.sm_instance.specs.declared.kinds.Side.TheVariants.{Proposers, Reviewers}
 use Rattle.sm_instance.specs.Named.{Said, SaidMaster, SaidOrder, entries_of, entries_of_masters, master_names, entries_named, all_entries}
 use Rattle.sm_reader.specs.Forms.{declares, uses, shares, orders}
-use Rattle.sm_reader.specs.Judging.{has_repeated, fault_of, said_with, with_agent, agent_of}
-use Rattle.sm_reader.specs.Kept.{Table, AreBelow, AreNamesAtEnd}
+use Rattle.sm_keys.specs.Tables.{has_repeated, Table, AreBelow}
+use Rattle.sm_reader.specs.Judging.{fault_of, said_with, with_agent, agent_of}
+use Rattle.sm_keys.specs.Tokens.{AreNamesAtEnd}
 use Rattle.sm_reader.specs.Draft.{agent_in, listed_table, master_in, order_of, said_of, HasNames, AreMastersNamed, IsMaster, IsDraft, AddsForm, IsLineFault, RefusesFor, run_fault, master_fault, order_fault, ListsOn, DeclaresMaster, PutsMaster, PutsOrder}
 use Rattle.sm_reader.specs.declared.draft.Draft.{Draft}
 use Rattle.sm_reader.specs.declared.draft.Master.{Master}
 use Rattle.sm_reader.specs.declared.draft.Order.{Order}
 use Rattle.sm_reader.specs.declared.faults.TextFault.{TextFault}
 use Rattle.sm_reader.specs.declared.faults.TextFault.TheVariants.{Refused, OutOfMemory}
-use Rattle.sm_reader.proofs.TextLemmas.{position-some, position-none}
-use Rattle.sm_reader.proofs.ListingLemmas.{extends_long}
-use Rattle.sm_reader.proofs.NameLemmas.{names_from}
+use Rattle.sm_keys.proofs.PositionLemmas.{position-some, position-none}
+use Rattle.sm_keys.proofs.ListingLemmas.{extends_long}
+use Rattle.sm_keys.proofs.NameLemmas.{names_from}
 use Rattle.sm_reader.proofs.DraftLemmas.{agents_kept, agents_below_more}
 use Rattle.sm_reader.proofs.JudgeLemmas.{fault_of-uses, fault_of-no_master, fault_of-shares, fault_of-orders}
 use Rattle.sm_reader.proofs.AddLemmas.{Grown, listed_now, said_with_agents, draft_with_agents}

@@ -1,17 +1,17 @@
 -- The names at the end of tokens.
-use Rattle.std.proofs.Common.{◌≡◌, ℕ, zero, suc, ◌+◌, ◌-◌, ◌<◌, ◌≤◌, nat_le, true, false, ⊎_elim, List, [], ◌∷◌, length, take, drop, refl, sym, ap, subst, ◌∙◌, arith}
+use Rattle.std.proofs.Common.{◌≡◌, ℕ, ◌-◌, nat_le, true, List, [], ◌∷◌, length, take, drop, refl, sym, ap, subst, ◌∙◌, arith}
 use Rattle.std.specs.List.{list_all}
 use Rattle.std.specs.Borrow.{Bor}
-use Rattle.std.proofs.lemmas.Bool.{cases_lt}
 use Rattle.std.proofs.lemmas.Bool.Decides.{nat_tests}
-use Rattle.std.proofs.lemmas.List.{take_rest, drop-drop, drop-map, drop_all, length-map, length-drop}
+use Rattle.std.proofs.lemmas.List.{take_rest, drop-drop, drop-map, drop_all, length-map}
 use Rattle.sm_text.specs.Name.{is_name, is_name_byte}
 use Rattle.sm_text.specs.Tokens.{begins_run}
 use Rattle.sm_instance.specs.declared.kinds.Kind.{Kind}
 use Rattle.sm_reader.specs.Forms.{form_under}
-use Rattle.sm_reader.specs.Kept.{AreNamesAtEnd}
+use Rattle.sm_keys.specs.Tokens.{AreNamesAtEnd}
 use Rattle.sm_text.specs.Slices.{texts_of}
-use Rattle.sm_reader.proofs.WholeLemmas.{and_left, and_right, listed, list_under}
+use Rattle.sm_keys.proofs.WholeLemmas.{and_left, and_right}
+use Rattle.sm_reader.proofs.FormLemmas.{listed, list_under}
 
 module _ (names : ℕ) where
   -- they are the names at the end of what stands behind some of the tokens
@@ -36,27 +36,6 @@ module _ (names : ℕ) where
   -- all tokens are names exactly where there are no more of them
   pub all_names : (tokens : List (Bor (List ℕ))) → AreNamesAtEnd names (texts_of tokens) → list_all is_name (texts_of tokens) ≡ nat_le (length tokens) names
   all_names tokens h = h.are 0 ∙ ap (λ n. nat_le n names) (length-map tokens (λ (x : Bor (List ℕ)). x.now))
-
--- those behind some of the names are names
-names_drop : (n : ℕ) (tokens : List (List ℕ)) → list_all is_name tokens ≡ true → list_all is_name (drop n tokens) ≡ true
-names_drop zero tokens h = h
-names_drop (suc n) [] h = refl
-names_drop (suc n) (t ∷ ts) h = names_drop n ts (and_right (is_name t) (list_all is_name ts) h)
-
--- the tokens from a place on are the names at the end, where those from any earlier place on aren't all names
-pub names_from : (place : ℕ) (tokens : List (List ℕ)) → list_all is_name (drop place tokens) ≡ true
-    → ((k : ℕ) → k < place → list_all is_name (drop k tokens) ≡ false) → place ≤ length tokens → AreNamesAtEnd (length tokens - place) tokens
-names_from place tokens h other within = record { are = λ k. ⊎_elim (earlier k) (later k) (cases_lt k place) }
-  where
-    earlier : (k : ℕ) → k < place → list_all is_name (drop k tokens) ≡ nat_le (length (drop k tokens)) (length tokens - place)
-    earlier k before = other k before ∙ (let no : false ≡ nat_le (length (drop k tokens)) (length tokens - place) = grind (arith, nat_tests, length-drop k tokens) in no)
-
-    later : (k : ℕ) → place ≤ k → list_all is_name (drop k tokens) ≡ nat_le (length (drop k tokens)) (length tokens - place)
-    later k behind =
-        let e : place + (k - place) ≡ k = omega (arith, behind) in
-        let yes : nat_le (length (drop k tokens)) (length tokens - place) ≡ true = grind (arith, nat_tests, length-drop k tokens) in
-        ap (λ n. list_all is_name (drop n tokens)) (sym e) ∙ ap (list_all is_name) (sym (drop-drop (k - place) place tokens)) ∙ names_drop (k - place) (drop place tokens) h
-        ∙ sym yes
 
 -- names are runs
 name_begins : (token : List ℕ) → is_name token ≡ true → begins_run token ≡ true

@@ -14,8 +14,8 @@ use Rattle.sm_instance.specs.declared.kinds.Kind.{Kind}
 use Rattle.sm_instance.specs.declared.kinds.Kind.TheVariants.{Marriage, Hospitals, Roommates}
 use Rattle.sm_instance.specs.Named.{SaidPair, SaidWeight, names_of, names_first}
 use Rattle.sm_lists.specs.Earlier.{earlier_of}
-use Rattle.sm_reader.specs.InstanceText.{lines_with_unknown, pairs_with_unknown, order_with_unknown, least, unknown_lines, listed_by_proposers, number_in, numbered, full_order, two_sides}
-use Rattle.sm_reader.specs.Kept.{AreBelow, Table}
+use Rattle.sm_reader.specs.InstanceText.{lines_with_unknown, pairs_with_unknown, order_with_unknown, least, unknown_lines, listed_by_proposers, numbered, full_order, two_sides}
+use Rattle.sm_keys.specs.Tables.{number_in, AreBelow, Table}
 use Rattle.sm_reader.specs.Draft.{AreAgentsBelow, IsPairBelow, ArePairsBelow, pairs_of, listed_table, agent_in, pair_in, given_in, order_of, said_of, IsDraft}
 use Rattle.sm_reader.specs.Numbering.{line_if, pair_among, weight_among, NumbersPersons, NumbersSides}
 use Rattle.sm_reader.specs.declared.draft.Declared.{Declared}

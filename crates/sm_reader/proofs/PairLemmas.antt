@@ -17,7 +17,7 @@ use Rattle.sm_reader.specs.declared.forms.Condition.{Condition}
 use Rattle.sm_reader.specs.declared.forms.Condition.TheVariants.{Force, Forbid}
 use Rattle.sm_reader.specs.Forms.{declares, weighs, binds}
 use Rattle.sm_reader.specs.Judging.{fault_of, said_with, with_agent, weight_in, second_in, weight_of}
-use Rattle.sm_reader.specs.Kept.{text_at}
+use Rattle.sm_keys.specs.Tables.{text_at}
 use Rattle.sm_reader.specs.Draft.{listed_table, agent_in, pair_in, given_in, order_of, said_of, IsPairBelow, ArePairsBelow, pairs_of, key_of, IsDraft, AddsForm, AddsAgent, AreRunsRight, IsLineFault, RefusesFor, run_fault, name_fault, weight_fault, weights_in, table_on, declared_on, PairsOf, PutsWeight, PutsPair, Binds}
 use Rattle.sm_reader.specs.declared.draft.Declared.{Declared}
 use Rattle.sm_reader.specs.declared.draft.Pair.{Pair}
@@ -26,8 +26,8 @@ use Rattle.sm_reader.specs.declared.draft.Draft.{Draft}
 use Rattle.sm_reader.specs.declared.faults.TextFault.{TextFault}
 use Rattle.sm_reader.specs.declared.faults.TextFault.TheVariants.{Refused, OutOfMemory}
 use Rattle.sm_keys.proofs.TextLemmas.{same_text, other_text}
-use Rattle.sm_reader.proofs.TableLemmas.{distinct_index, cases_eq}
-use Rattle.sm_reader.proofs.ListingLemmas.{extends_long}
+use Rattle.sm_keys.proofs.TableLemmas.{distinct_index, cases_eq}
+use Rattle.sm_keys.proofs.ListingLemmas.{extends_long}
 use Rattle.sm_reader.proofs.DraftLemmas.{agents_kept, agents_below_more, pairs_kept, weights_kept, pairs_below_more, pairs_below_push, order_kept, order_below_more, said_same, listed_more}
 use Rattle.sm_reader.proofs.JudgeLemmas.{fault_of-declares, fault_of-weighs, fault_of-binds}
 use Rattle.sm_reader.proofs.AddLemmas.{Grown}

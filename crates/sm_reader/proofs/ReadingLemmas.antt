@@ -11,7 +11,7 @@ use Rattle.sm_instance.specs.declared.inputs.Input.{Input}
 use Rattle.sm_instance.specs.Named.{Said}
 use Rattle.sm_reader.specs.Judging.{by_verdict, verdict_on, goes, stops}
 use Rattle.sm_reader.specs.InstanceText.{ReadText, Refusal, before_header, behind_header, ended, input_of, instance_text, IsTextFault}
-use Rattle.sm_reader.specs.Kept.{LeadsLines}
+use Rattle.sm_keys.specs.Tokens.{LeadsLines}
 use Rattle.sm_reader.specs.Draft.{said_of, IsRefusedBy}
 use Rattle.sm_reader.specs.Numbering.{IsUnknownFault}
 use Rattle.sm_reader.specs.Reading.{IsFaultOf, Finishes}

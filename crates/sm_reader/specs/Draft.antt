@@ -14,7 +14,8 @@ use Rattle.sm_instance.specs.declared.kinds.Side.TheVariants.{Proposers, Reviewe
 use Rattle.sm_instance.specs.Named.{SaidAgent, SaidPair, SaidWeight, SaidMaster, SaidOrder, Said, all_entries, entries_named}
 use Rattle.sm_reader.specs.Forms.{Form, declares, uses, shares, orders, weighs, binds}
 use Rattle.sm_reader.specs.Judging.{Verdict, goes, stops, refuses, first_fault, run_rows, name_rows, entry_rows, limit_rows, order_rows, weight_rows, capacity_in, weight_in, second_in, fault_of, with_agent, said_with, verdict_on}
-use Rattle.sm_reader.specs.Kept.{Table, text_at, AreBelow, AreNamesAtEnd, Interns, Declares, IsListed}
+use Rattle.sm_keys.specs.Tables.{Table, text_at, AreBelow, Interns, Declares, IsListed}
+use Rattle.sm_keys.specs.Tokens.{AreNamesAtEnd}
 use Rattle.sm_text.specs.Slices.{texts_of}
 use Rattle.sm_reader.specs.declared.draft.Declared.{Declared}
 use Rattle.sm_reader.specs.declared.draft.Pair.{Pair}

@@ -1,10 +1,9 @@
 -- The forms of lines, over their tokens.
-use Rattle.std.specs.Prelude.{ℕ, ◌==◌, ◌&&◌, ◌||◌, Bool, true, false, not, if◌then◌else◌, List, [], ◌∷◌, Option, Some, None, codes}
+use Rattle.std.specs.Prelude.{if◌then◌else◌, ℕ, ◌==◌, ◌&&◌, Bool, true, false, List, [], ◌∷◌, Option, Some, None, codes}
 use Rattle.std.specs.List.{list_all}
 use Rattle.std.specs.Option.{option_or, option_map, option_and_then}
 use Rattle.std.specs.Str.{bytes_eq}
-use Rattle.sm_text.specs.Name.{is_name_byte}
-use Rattle.sm_text.specs.Tokens.{begins_run, is_mark}
+use Rattle.sm_text.specs.Tokens.{begins_run}
 use Rattle.sm_instance.specs.Sound.{is_single}
 use Rattle.sm_instance.specs.declared.kinds.Kind.{Kind}
 use Rattle.sm_instance.specs.declared.kinds.Kind.TheVariants.{Marriage, Hospitals, Roommates}
@@ -23,11 +22,6 @@ pub data Form : Type 0 where
   orders : (proposers : List (List ℕ)) → Form
   weighs : (proposer reviewer weight : List ℕ) → (second : Option (List ℕ)) → Form
   binds : Condition → (proposer reviewer : List ℕ) → Form
-
--- a token that is a byte which no line of an instance holds outside of a comment
-unfoldable pub is_bad : List ℕ → Bool
-is_bad [] = false
-is_bad (b ∷ _) = not (is_name_byte b || is_mark b)
 
 -- the token is a colon
 abbrev pub is_colon : List ℕ → Bool

@@ -1,8 +1,7 @@
 -- What a text means: an instance, or the first thing that stands in its way. `instance_text` is what the reading promises.
-use Rattle.std.specs.Prelude.{◌≡◌, ℕ, ◌+◌, ◌==◌, ◌||◌, Bool, not, if◌then◌else◌, List, [], ◌∷◌, ◌++◌, length, map, filter, min, nat_lt, Option, Some, None, Result, Ok, Err}
-use Rattle.std.specs.List.{list_any, position_or_len, range_with_len}
+use Rattle.std.specs.Prelude.{if◌then◌else◌, ◌≡◌, ℕ, ◌+◌, ◌==◌, ◌||◌, not, List, [], ◌∷◌, ◌++◌, length, map, filter, min, nat_lt, Option, Some, None, Result, Ok, Err}
+use Rattle.std.specs.List.{list_any, range_with_len}
 use Rattle.std.specs.Option.{option_map_or}
-use Rattle.std.specs.Str.{bytes_eq}
 use Rattle.sm_text.specs.Limits.{most_bytes}
 use Rattle.sm_text.specs.Lines.{lines, content}
 use Rattle.sm_text.specs.Tokens.{tokens}
@@ -14,6 +13,7 @@ use Rattle.sm_instance.specs.declared.kinds.Kind.TheVariants.{Marriage, Hospital
 use Rattle.sm_instance.specs.declared.inputs.Input.{Input}
 use Rattle.sm_instance.specs.declared.inputs.Input.TheVariants.{Two, Room}
 use Rattle.sm_instance.specs.Named.{SaidAgent, SaidPair, SaidWeight, SaidOrder, Said, nothing, names_of, names_first}
+use Rattle.sm_keys.specs.Tables.{is_unknown, number_in}
 use Rattle.sm_reader.specs.Judging.{verdict_on, by_verdict, heading_of, by_heading}
 use Rattle.sm_reader.specs.declared.reading.Read.{Read}
 use Rattle.sm_reader.specs.declared.faults.TextFault.{TextFault}
@@ -26,10 +26,6 @@ abbrev pub listed_by_proposers : Kind → Said → List (List ℕ)
 listed_by_proposers Marriage said = names_of said.reviewers
 listed_by_proposers Hospitals said = names_of said.reviewers
 listed_by_proposers Roommates said = names_of said.proposers
-
--- a name isn't declared among those of a side
-abbrev pub is_unknown : List (List ℕ) → List ℕ → Bool
-is_unknown names name = not (list_any (bytes_eq name) names)
 
 -- the lines of the agents that list an undeclared one, and the lines of the pairs that have one
 abbrev pub lines_with_unknown : List (List ℕ) → List SaidAgent → List ℕ
@@ -63,10 +59,6 @@ least [] = None
 least (n ∷ ns) = Some (option_map_or (min n) (least ns) n)
 
 -- The instance: agents are numbered in the order of their lines, and a number stands for each name.
-
--- the number of a name among the names of a side
-abbrev pub number_in : List (List ℕ) → List ℕ → ℕ
-number_in names name = position_or_len (bytes_eq name) names
 
 -- an agent with numbers for the names on its list
 abbrev pub numbered : List (List ℕ) → SaidAgent → AgentData

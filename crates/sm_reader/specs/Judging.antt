@@ -1,5 +1,5 @@
 -- How a line is judged by its tokens and by what the lines above it say.
-use Rattle.std.specs.Prelude.{ℕ, ◌+◌, ◌||◌, Bool, false, not, if◌then◌else◌, List, [], ◌∷◌, ◌++◌, length, Option, Some, None, nat_le, nat_lt, unwrap_or, is_none, is_some, ℤ, pos}
+use Rattle.std.specs.Prelude.{if◌then◌else◌, ℕ, ◌+◌, ◌||◌, Bool, false, not, List, [], ◌∷◌, ◌++◌, length, Option, Some, None, nat_le, nat_lt, unwrap_or, is_none, is_some, ℤ, pos}
 use Rattle.std.specs.List.{list_all, list_any}
 use Rattle.std.specs.Option.{option_and_then, option_map_or}
 use Rattle.std.specs.Str.{bytes_eq}
@@ -12,9 +12,11 @@ use Rattle.sm_instance.specs.declared.kinds.Kind.{Kind}
 use Rattle.sm_instance.specs.declared.kinds.Side.{Side}
 use Rattle.sm_instance.specs.declared.kinds.Side.TheVariants.{Proposers, Reviewers}
 use Rattle.sm_instance.specs.Named.{SaidAgent, SaidPair, SaidWeight, Said, names_of, master_names, agents_on, all_entries, entries_named, is_given_to}
+use Rattle.sm_keys.specs.Tables.{has_repeated}
 use Rattle.sm_reader.specs.declared.forms.Condition.{Condition}
 use Rattle.sm_reader.specs.declared.forms.Condition.TheVariants.{Force, Forbid}
-use Rattle.sm_reader.specs.Forms.{Form, declares, uses, shares, orders, weighs, binds, is_bad, form_under, is_end, header_of}
+use Rattle.sm_reader.specs.Forms.{Form, declares, uses, shares, orders, weighs, binds, form_under, is_end, header_of}
+use Rattle.sm_keys.specs.Tokens.{is_bad}
 
 -- the fault of the first row of a table whose test holds
 abbrev pub first_fault : List (Bool × RefusalKind) → Option RefusalKind
@@ -28,11 +30,6 @@ capacity_in run = number_of run most_capacity
 -- the weight that a run spells, within its limits
 abbrev pub weight_in : List ℕ → Option ℤ
 weight_in run = signed_of run most_weight
-
--- a name stands twice among names
-abbrev pub has_repeated : List (List ℕ) → Bool
-has_repeated [] = false
-has_repeated (name ∷ names) = list_any (bytes_eq name) names || has_repeated names
 
 -- a capacity is written and isn't right
 abbrev pub is_bad_capacity : Option (List ℕ) → Bool

@@ -1,7 +1,6 @@
 pub mod Forms
 pub mod Judging
 pub mod InstanceText
-pub mod Kept
 pub mod Draft
 pub mod Right
 pub mod Numbering

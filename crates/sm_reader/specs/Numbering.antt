@@ -1,13 +1,13 @@
 -- What the numbering of names takes and gives.
-use Rattle.std.specs.Prelude.{◌≡◌, ◌≢◌, ℕ, ◌+◌, ◌<◌, ◌≤◌, length, map, Bool, if◌then◌else◌, List, Option, Some, None, ℤ}
+use Rattle.std.specs.Prelude.{if◌then◌else◌, ◌≡◌, ◌≢◌, ℕ, ◌+◌, ◌≤◌, length, map, Bool, List, Option, Some, None, ℤ}
 use Rattle.sm_instance.specs.declared.kinds.Kind.{Kind}
 use Rattle.sm_instance.specs.declared.kinds.Kind.TheVariants.{Roommates}
 use Rattle.sm_instance.specs.declared.agents.Agent.{Agent}
 use Rattle.sm_instance.specs.declared.parts.Parts.{Parts}
 use Rattle.sm_instance.specs.Vectors.{agents_of}
 use Rattle.sm_instance.specs.Named.{SaidPair, SaidWeight, names_first}
-use Rattle.sm_reader.specs.InstanceText.{number_in, numbered, full_order, unknown_lines, least}
-use Rattle.sm_reader.specs.Kept.{Table, text_at}
+use Rattle.sm_keys.specs.Tables.{number_in}
+use Rattle.sm_reader.specs.InstanceText.{numbered, full_order, unknown_lines, least}
 use Rattle.sm_reader.specs.Draft.{IsDraft, said_of, agent_in, pair_in, given_in, order_of}
 use Rattle.sm_reader.specs.Right.{IsRight}
 use Rattle.sm_text.specs.Limits.{most_bytes, most_agents}
@@ -29,10 +29,6 @@ pair_among proposers reviewers x = (number_in proposers x.proposer, number_in re
 -- a weight with numbers for the names of its pair
 abbrev pub weight_among : List (List ℕ) → List (List ℕ) → SaidWeight → ℕ × ℕ × ℤ
 weight_among proposers reviewers w = (number_in proposers w.pair.proposer, number_in reviewers w.pair.reviewer, w.weight)
-
--- each name of a side has its index for its number
-abbrev pub AreInOrder : Table → Type 0
-AreInOrder t = (i : ℕ) → i < length t.texts → number_in t.declared (text_at t.texts i) ≡ i
 
 -- a draft before a line that isn't past the last of a text, after lines without a fault
 pub record IsReady (kind : Kind) (d : Draft) : Type 0 where

@@ -6,7 +6,7 @@ use Rattle.sm_text.specs.Name.{is_name}
 use Rattle.sm_instance.specs.Sound.{is_single}
 use Rattle.sm_instance.specs.declared.kinds.Kind.{Kind}
 use Rattle.sm_instance.specs.Named.{SaidAgent, SaidWeight, Said, names_of, names_first, all_entries, is_given_to}
-use Rattle.sm_reader.specs.Judging.{has_repeated}
+use Rattle.sm_keys.specs.Tables.{has_repeated}
 
 -- an agent has a name, a capacity within the limit, which is 1 where every agent of its side has a single place, and a list
 -- on which no name stands twice

@@ -6,8 +6,8 @@ ghost use Rattle.sm_reader.specs.Draft.{said_of, IsDraft};
 ghost use Rattle.sm_instance.specs.Named.{nothing};
 ghost use Rattle.sm_instance.specs.declared.kinds.Kind.{Kind};
 
-use crate::names::Names;
 use indexmap::IndexSet;
+use sm_keys::Names;
 use sm_text::{MOST_AGENTS, TextHash};
 use std::alloc::{AllocError, Global};
 

@@ -7,9 +7,9 @@ ghost use Rattle.std.specs.Str.{bytes_eq};
 ghost use Rattle.indexmap.specs.IndexSet.{keys};
 ghost use Rattle.sm_text.specs.Limits.{most_agents, most_entries};
 ghost use Rattle.sm_text.specs.Name.{is_name as is_a_name};
-ghost use Rattle.sm_reader.specs.Forms.{is_bad};
-ghost use Rattle.sm_reader.specs.Judging.{verdict_on, fault_of, has_repeated, second_in};
-ghost use Rattle.sm_reader.specs.Kept.{AreNamesAtEnd};
+ghost use Rattle.sm_keys.specs.Tokens.{is_bad, AreNamesAtEnd};
+ghost use Rattle.sm_reader.specs.Judging.{verdict_on, fault_of, second_in};
+ghost use Rattle.sm_keys.specs.Tables.{has_repeated};
 ghost use Rattle.sm_text.specs.Slices.{texts_of};
 ghost use Rattle.sm_reader.specs.Draft.{said_of, form_of, entries_in, listed_side, table_on, declared_on, IsDraft, AddsForm, JudgesTokens, IsRefusedBy, IsLineFault, run_fault, name_fault, limit_fault, AreRunsRight, DeclaresOn, ListsOn, PutsOn, RefusesFor, PairsOf, AddsAgent, ArePairsBelow, pairs_of, key_of, weights_in, weight_fault, PutsWeight, PutsPair, Binds, runs_form};
 
@@ -19,8 +19,8 @@ use crate::forms::{Condition, Form, form_under, is_end};
 use crate::header::Header;
 use crate::masters::{MasterRuns, add_master, master_entries};
 use crate::ordering::add_order;
-use crate::tokens::Found;
 use sm_instance::{Kind, Side};
+use sm_keys::Found;
 use sm_text::{
     MOST_AGENTS, MOST_CAPACITY, MOST_ENTRIES, MOST_WEIGHT, RefusalKind, is_name, number, signed,
 };

@@ -12,11 +12,9 @@ mod header;
 mod judging;
 pub mod laws;
 mod masters;
-mod names;
 mod numbering;
 mod ordering;
 mod reading;
-mod tokens;
 pub mod witnesses;
 
 pub use faults::TextFault;

@@ -8,7 +8,7 @@ ghost use Rattle.sm_text.specs.Slices.{texts_of};
 ghost use Rattle.sm_instance.specs.Named.{entries_named};
 ghost use Rattle.sm_reader.specs.Forms.{shares};
 ghost use Rattle.sm_reader.specs.Judging.{fault_of};
-ghost use Rattle.sm_reader.specs.Kept.{AreNamesAtEnd};
+ghost use Rattle.sm_keys.specs.Tokens.{AreNamesAtEnd};
 ghost use Rattle.sm_reader.specs.Draft.{said_of, IsDraft, AddsForm, IsLineFault, RefusesFor, master_in, AreMastersNamed, IsMaster, DeclaresMaster, PutsMaster};
 
 use crate::draft::{Draft, Master};

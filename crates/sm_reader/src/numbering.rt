@@ -5,14 +5,14 @@ ghost use Rattle.std.specs.List.{list_any};
 ghost use Rattle.std.specs.Option.{option_map};
 ghost use Rattle.sm_instance.specs.Named.{names_first};
 ghost use Rattle.sm_instance.specs.Vectors.{agent_of, agents_of};
-ghost use Rattle.sm_reader.specs.InstanceText.{least, unknown_lines, lines_with_unknown, pairs_with_unknown, order_with_unknown, is_unknown, number_in, numbered, full_order};
-ghost use Rattle.sm_reader.specs.Kept.{text_at, AreBelow};
+ghost use Rattle.sm_reader.specs.InstanceText.{least, unknown_lines, lines_with_unknown, pairs_with_unknown, order_with_unknown, numbered, full_order};
+ghost use Rattle.sm_keys.specs.Tables.{is_unknown, number_in, text_at, AreBelow, AreInOrder};
 ghost use Rattle.sm_reader.specs.Draft.{said_of, listed_table, agent_in, pair_in, given_in, order_of, IsOrderBelow, AreAgentsBelow, IsPairBelow, ArePairsBelow, pairs_of};
-ghost use Rattle.sm_reader.specs.Numbering.{line_if, pair_among, weight_among, IsReady, AreInOrder, IsTwoSided, NumbersPersons, NumbersSides};
+ghost use Rattle.sm_reader.specs.Numbering.{line_if, pair_among, weight_among, IsReady, IsTwoSided, NumbersPersons, NumbersSides};
 
 use crate::draft::{Declared, Draft, OfPair, Order, Pair, Weight};
-use crate::names::Names;
 use sm_instance::{Agent, Kind, Parts};
+use sm_keys::Names;
 use sm_lists::earlier;
 use std::alloc::{AllocError, Global};
 

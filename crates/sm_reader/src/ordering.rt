@@ -2,7 +2,7 @@
 
 ghost use Rattle.std.specs.Prelude.{◌≡◌, ℕ, ◌<◌, is_some, slice_index, IfOk, IfErr};
 ghost use Rattle.sm_text.specs.Slices.{texts_of};
-ghost use Rattle.sm_reader.specs.Kept.{AreNamesAtEnd};
+ghost use Rattle.sm_keys.specs.Tokens.{AreNamesAtEnd};
 ghost use Rattle.sm_reader.specs.Draft.{IsLineFault, PutsOrder, order_fault};
 
 use crate::draft::{Draft, Order};

@@ -2,7 +2,7 @@
 
 ghost use Rattle.std.specs.Prelude.{◌≡◌, ◌≢◌, ◌<◌, ◌≤◌, ◌+◌, length, drop, IfOk, IfErr, Ok, None};
 ghost use Rattle.std.specs.List.{list_any};
-ghost use Rattle.sm_reader.specs.Forms.{is_bad};
+ghost use Rattle.sm_keys.specs.Tokens.{is_bad};
 ghost use Rattle.sm_text.specs.Limits.{most_bytes};
 ghost use Rattle.sm_text.specs.Lines.{lines};
 ghost use Rattle.sm_instance.specs.Inputs.{IsInput};
@@ -21,8 +21,8 @@ use crate::forms::header_of;
 use crate::header::Header;
 use crate::judging::{Step, judge};
 use crate::numbering::{first_unknown, numbered_persons, numbered_sides};
-use crate::tokens::{cut, line_from};
 use sm_instance::{Input, Instance, Kind, Persons};
+use sm_keys::{cut, line_from};
 use sm_text::{MOST_BYTES, RefusalKind, TextHash};
 use std::alloc::{AllocError, Global};
 

@@ -3,7 +3,7 @@ use Rattle.std.proofs.lemmas.Bool.Decides.{nat_tests}
 use Rattle.std.specs.Borrow.{Bor}
 use Rattle.std.proofs.lemmas.List.{get_or_default}
 use Rattle.sm_text.specs.Tokens.{begins_run}
-use Rattle.sm_reader.proofs.TextLemmas.{all_texts_fail, all_texts_more, all_texts_end}
+use Rattle.sm_keys.proofs.PositionLemmas.{all_texts_fail, all_texts_more, all_texts_end}
 use Rattle.sm_text.specs.Slices.{texts_of}
 use Rattle.sm_reader.proofs.NameLemmas.{all_names, names_begin}
 use Rattle.sm_reader.proofs.forms.are_runs.Goals as goal

@@ -4,7 +4,7 @@ use Rattle.std.specs.Option.{option_map}
 use Rattle.std.specs.Result.{IfOk, IfErr}
 use Rattle.sm_reader.specs.Forms.{uses, orders, weighs, binds}
 use Rattle.sm_reader.specs.Judging.{fault_of}
-use Rattle.sm_reader.specs.Kept.{AreNamesAtEnd}
+use Rattle.sm_keys.specs.Tokens.{AreNamesAtEnd}
 use Rattle.sm_text.specs.Slices.{texts_of}
 use Rattle.sm_reader.specs.Draft.{said_of, form_of, entries_in, IsMaster, AddsForm, IsLineFault}
 use Rattle.sm_reader.proofs.JudgeLemmas.{fault_of-weighs}

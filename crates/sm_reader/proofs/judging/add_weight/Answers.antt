@@ -6,7 +6,7 @@ use Rattle.std.specs.Borrow.{Bor}
 use Rattle.std.specs.Option.{option_map}
 use Rattle.sm_reader.specs.Judging.{weight_in, second_in}
 use Rattle.sm_reader.specs.Draft.{weights_in}
-use Rattle.sm_reader.proofs.TextLemmas.{from_not_false, from_not_true}
+use Rattle.sm_keys.proofs.PositionLemmas.{from_not_false, from_not_true}
 use Rattle.sm_reader.proofs.PairLemmas.{weight_met, weight_fault_is}
 use Rattle.sm_reader.specs.declared.draft.Draft.{Draft}
 use Rattle.sm_reader.proofs.judging.add_weight.Goals as goal

@@ -4,13 +4,13 @@ use Rattle.std.specs.Option.{option_map}
 use Rattle.std.proofs.lemmas.List.{take_rest}
 use Rattle.sm_reader.specs.Forms.{form_under}
 use Rattle.sm_reader.specs.Judging.{of_form, goes, verdict_on}
-use Rattle.sm_reader.specs.Kept.{AreNamesAtEnd}
+use Rattle.sm_keys.specs.Tokens.{AreNamesAtEnd}
 use Rattle.sm_text.specs.Slices.{texts_of}
 use Rattle.sm_reader.specs.Draft.{said_of, form_of, IsRefusedBy}
 use Rattle.sm_reader.proofs.JudgeLemmas.{verdict_empty, verdict_bad, verdict_end, verdict_form, by_none, refused_line}
 use Rattle.sm_reader.proofs.DraftLemmas.{draft_later}
 use Rattle.sm_reader.proofs.ResultLemmas.{on_err}
-use Rattle.sm_reader.proofs.WholeLemmas.{listed}
+use Rattle.sm_reader.proofs.FormLemmas.{listed}
 use Rattle.sm_reader.proofs.NameLemmas.{names_rest, form_names}
 use Rattle.sm_reader.proofs.judging.judge.Goals as goal
 

@@ -2,8 +2,8 @@ use Rattle.std.proofs.Common.{◌≡◌, ◌++◌, ◌∷◌, [], ap, ◌∙◌,
 use Rattle.std.specs.List.{list_any}
 use Rattle.sm_instance.specs.Named.{SaidAgent}
 use Rattle.sm_lists.specs.Earlier.{earlier_of}
-use Rattle.sm_reader.specs.InstanceText.{is_unknown, lines_with_unknown, least}
-use Rattle.sm_reader.specs.Kept.{text_at, AreBelow}
+use Rattle.sm_keys.specs.Tables.{is_unknown, text_at, AreBelow}
+use Rattle.sm_reader.specs.InstanceText.{lines_with_unknown, least}
 use Rattle.sm_reader.specs.Draft.{agent_in}
 use Rattle.sm_reader.specs.Numbering.{line_if}
 use Rattle.sm_reader.proofs.NumberLemmas.{front_more, front_all, least_more, agents_below_at}

@@ -2,7 +2,8 @@ use Rattle.std.proofs.Common.{◌≡◌, ◌++◌, ◌∷◌, [], ap, ◌∙◌,
 use Rattle.std.proofs.lemmas.List.{map_push}
 use Rattle.sm_instance.specs.Named.{SaidPair}
 use Rattle.sm_lists.specs.Earlier.{earlier_of}
-use Rattle.sm_reader.specs.InstanceText.{is_unknown, pairs_with_unknown, least}
+use Rattle.sm_keys.specs.Tables.{is_unknown}
+use Rattle.sm_reader.specs.InstanceText.{pairs_with_unknown, least}
 use Rattle.sm_reader.specs.Draft.{pair_in, IsPairBelow}
 use Rattle.sm_reader.specs.Numbering.{line_if}
 use Rattle.sm_reader.specs.declared.draft.Pair.{Pair}

@@ -1,6 +1,6 @@
 use Rattle.std.proofs.Common.{ap, ◌∙◌, sym, map}
 use Rattle.sm_reader.specs.InstanceText.{lines_with_unknown, least}
-use Rattle.sm_reader.specs.Kept.{Table}
+use Rattle.sm_keys.specs.Tables.{Table}
 use Rattle.sm_reader.specs.Draft.{agent_in}
 use Rattle.sm_reader.proofs.NumberLemmas.{other_table}
 use Rattle.sm_reader.proofs.numbering.first_in_proposers.Goals as goal

@@ -1,6 +1,6 @@
 use Rattle.std.proofs.Common.{◌∙◌, sym}
 use Rattle.sm_reader.proofs.KnownLemmas.{none_unknown}
-use Rattle.sm_reader.proofs.TextLemmas.{from_not_true}
+use Rattle.sm_keys.proofs.PositionLemmas.{from_not_true}
 use Rattle.sm_reader.proofs.numbering.first_unknown.Goals as goal
 
 pub returns-then-are_declared-2 : goal.returns-then-are_declared-2

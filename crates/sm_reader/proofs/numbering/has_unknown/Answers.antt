@@ -1,9 +1,7 @@
-use Rattle.std.proofs.Common.{ap, ◌∙◌, sym, not}
-use Rattle.sm_reader.specs.InstanceText.{is_unknown}
-use Rattle.sm_reader.specs.Kept.{text_at}
-use Rattle.sm_reader.proofs.ListingLemmas.{below_at}
+use Rattle.std.proofs.Common.{ap, ◌∙◌, sym, not, length}
+use Rattle.sm_keys.specs.Tables.{is_unknown, text_at}
+use Rattle.sm_keys.proofs.ListingLemmas.{below_at}
 use Rattle.sm_reader.proofs.NumberLemmas.{any_found, any_more, any_end}
-use Rattle.std.proofs.Common.{length}
 use Rattle.sm_reader.proofs.numbering.has_unknown.Goals as goal
 
 pub is_declared-requires : goal.is_declared-requires

@@ -1,7 +1,6 @@
 use Rattle.std.proofs.Common.{◌≡◌, false, map, take}
 use Rattle.std.specs.List.{list_any}
-use Rattle.sm_reader.specs.InstanceText.{is_unknown}
-use Rattle.sm_reader.specs.Kept.{text_at}
+use Rattle.sm_keys.specs.Tables.{is_unknown, text_at}
 use Rattle.sm_reader.proofs.numbering.has_unknown.Given as goal
 
 -- all names so far are declared

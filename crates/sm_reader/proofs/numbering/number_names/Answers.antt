@@ -1,10 +1,9 @@
 use Rattle.std.proofs.Common.{◌≡◌, ◌<◌, ◌+◌, ◌++◌, ◌∷◌, [], ap, ◌∙◌, sym, subst, length, map, take, drop, get_or, set}
 use Rattle.std.proofs.lemmas.List.{map_push}
-use Rattle.sm_reader.specs.InstanceText.{number_in}
-use Rattle.sm_reader.specs.Kept.{text_at}
-use Rattle.sm_reader.proofs.ListingLemmas.{below_at}
+use Rattle.sm_keys.specs.Tables.{number_in, text_at}
+use Rattle.sm_keys.proofs.ListingLemmas.{below_at}
 use Rattle.sm_reader.proofs.NumberLemmas.{front_long, front_more, replaced_at, replaced_more}
-use Rattle.sm_reader.proofs.OrderLemmas.{same_numbers}
+use Rattle.sm_keys.proofs.OrderLemmas.{same_numbers}
 use Rattle.sm_reader.proofs.numbering.number_names.Goals as goal
 
 pub returns-then-in_order : goal.returns-then-in_order

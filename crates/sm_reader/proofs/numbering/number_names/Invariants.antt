@@ -1,6 +1,5 @@
 use Rattle.std.proofs.Common.{◌≡◌, ◌++◌, map, take, drop}
-use Rattle.sm_reader.specs.InstanceText.{number_in}
-use Rattle.sm_reader.specs.Kept.{text_at}
+use Rattle.sm_keys.specs.Tables.{number_in, text_at}
 use Rattle.sm_reader.proofs.numbering.number_names.Given as goal
 
 -- the numbers so far, and the indexes from here on

@@ -2,7 +2,7 @@ use Rattle.std.proofs.Common.{◌≡◌, true, false, is_some, refl, sym, ◌∙
 use Rattle.std.specs.List.{list_all}
 use Rattle.sm_text.specs.Name.{is_name}
 use Rattle.sm_text.specs.Slices.{texts_of}
-use Rattle.sm_reader.specs.Judging.{has_repeated}
+use Rattle.sm_keys.specs.Tables.{has_repeated}
 use Rattle.sm_reader.proofs.ordering.add_order.Goals as goal
 
 pub returns-clause-put : goal.returns-clause-put
