@@ -2,5 +2,6 @@ pub mod MemberLemmas
 pub mod SizeLemmas
 pub mod RowLemmas
 pub mod GainLemmas
+pub mod SecondLemmas
 pub mod LineLemmas
 pub mod RightLemmas

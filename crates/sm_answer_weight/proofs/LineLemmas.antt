@@ -1,5 +1,5 @@
 -- The lines of the answer of `weight` are lines of the instance.
-use Rattle.std.proofs.Common.{◌≡◌, ℕ, ◌+◌, ◌-◌, ◌<◌, ◌≤◌, ◌^◌, List, [], ◌∷◌, ◌++◌, length, get_or, map, slice_index_or, Some, ℤ, pos, sym, ap, ◌∙◌, subst, arith}
+use Rattle.std.proofs.Common.{◌≡◌, ℕ, ◌+◌, ◌-◌, ◌<◌, ◌≤◌, ◌^◌, Bool, true, false, cond, List, [], ◌∷◌, ◌++◌, length, get_or, map, slice_index_or, Some, ℤ, pos, refl, sym, ap, ◌∙◌, subst, arith}
 use Rattle.std.specs.List.{All}
 use Rattle.std.specs.Int.RustNames.{unsigned_abs}
 use Rattle.std.proofs.lemmas.List.{get_or-map}
@@ -16,12 +16,13 @@ use Rattle.sm_market.specs.Matching.{Places}
 use Rattle.sm_market.specs.Stable.{IsStable}
 use Rattle.sm_report.specs.Heads.{HeadData}
 use Rattle.sm_report.specs.Lines.{LineData}
-use Rattle.sm_report.specs.Sound.{IsLineOf}
+use Rattle.sm_report.specs.Sound.{IsRotation, IsLineOf}
 use Rattle.sm_theory.specs.Chains.{rotation_at, IsPrintedChain, AreNeeds}
 use Rattle.sm_theory.specs.Weights.{weight_of, gain_of}
 use Rattle.sm_poset.specs.Posets.{IsPoset}
 use Rattle.sm_seats.specs.Seating.{Seating, written_of}
 use Rattle.sm_seats.specs.Correspondence.{IsSeating, weights_of}
+use Rattle.sm_placed.specs.Levels.{seconds_by}
 use Rattle.sm_theory.specs.declared.flow_lines.FlowLine.{FlowLine}
 use Rattle.sm_weight.specs.Lightest.{set_matching}
 use Rattle.sm_weight.proofs.CountLemmas.{pairs_of_few}
@@ -32,16 +33,37 @@ use Rattle.sm_answer_rotations.proofs.PairLemmas.{pair_alike}
 use Rattle.sm_answer.proofs.LineLemmas.{end_sound, pair_sound}
 use Rattle.sm_answer_rotations.proofs.ReduceLemmas.{seat_sound}
 use Rattle.sm_answer_rotations.proofs.RotationLemmas.{both_sound, flat_from}
-use Rattle.sm_answer_weight.specs.WeightAnswer.{member_numbers}
+use Rattle.sm_answer_weight.specs.WeightAnswer.{in_two, member_numbers}
 use Rattle.sm_answer_weight.specs.Found.{IsLightestOfSeats, IsFlowLine}
-use Rattle.sm_answer_weight.specs.Given.{gain_line, three_lines, edge_line, figure_line, weight_given}
+use Rattle.sm_answer_weight.specs.Given.{gain_line, second_gain_line, row_lines, rows_found, edge_line, figure_line, figure_count, weight_given}
+use Rattle.sm_answer_weight.specs.declared.figures.Level.{Level}
+use Rattle.sm_answer_weight.specs.declared.figures.Level.TheVariants.{First, Second}
 use Rattle.sm_answer_weight.specs.declared.lightest_parts.Lightest.{Lightest}
 use Rattle.sm_answer_weight.proofs.MemberLemmas.{are_rotations}
 use Rattle.sm_answer_weight.proofs.SizeLemmas.{gain_size, weight_size}
+use Rattle.sm_answer_weight.proofs.SecondLemmas.{seconds_alike}
 
 -- a line of a flow
-edge_sound : (w : Written) (line : FlowLine) → IsFlowLine line → IsLineOf (Two w) (edge_line line)
-edge_sound w line x = record { printable = tt; seats = λ k d l. absurd (omega arith); numbers = (x.from, x.to, x.amount); head = tt }
+edge_sound : (w : Written) (level : Level) (line : FlowLine) → IsFlowLine line → IsLineOf (Two w) (edge_line level line)
+edge_sound w First line x = record { printable = tt; seats = λ k d l. absurd (omega arith); numbers = (x.from, x.to, x.amount); head = tt }
+edge_sound w Second line x = record { printable = tt; seats = λ k d l. absurd (omega arith); numbers = (x.from, x.to, x.amount); head = tt }
+
+-- what stands in two levels alone
+all_in_two : (P : LineData → Type 0) (two : Bool) (lines : List LineData) → All P lines → All P (in_two two lines)
+all_in_two P true lines all = all
+all_in_two P false lines all = λ k d l. absurd (omega arith)
+
+-- the figures of the set that is taken
+pub figures_are : (found : Lightest) → lines_from (λ i. Some (figure_line found i)) 0 (figure_count found - 0)
+    ≡ LineData.Taken (member_numbers found.taken.members.items (length found.taken.members.items)) ∷ LineData.Value found.value ∷ LineData.Cut found.value ∷ LineData.Total found.total
+    ∷ in_two found.two_levels (LineData.SecondValue found.second_value ∷ LineData.SecondCut found.second_value ∷ LineData.SecondTotal found.second_total ∷ [])
+figures_are found = by_two found.two_levels
+  where
+    by_two : (two : Bool) → lines_from (λ i. Some (figure_line found i)) 0 (cond two 7 4 - 0)
+        ≡ LineData.Taken (member_numbers found.taken.members.items (length found.taken.members.items)) ∷ LineData.Value found.value ∷ LineData.Cut found.value ∷ LineData.Total found.total
+        ∷ in_two two (LineData.SecondValue found.second_value ∷ LineData.SecondCut found.second_value ∷ LineData.SecondTotal found.second_total ∷ [])
+    by_two true = refl
+    by_two false = refl
 
 module _ {w : Written} {s : Seating} (i : IsInstance w) (h : IsSeating w s) (found : Lightest) (f : IsLightestOfSeats w s found) (p : IsPoset found.basis.poset) where
   gain_light : (k : ℕ) → k < length found.basis.poset.rotations → unsigned_abs (slice_index_or found.gains.items k (pos 0)) ≤ 9223372036854775807
@@ -54,11 +76,29 @@ module _ {w : Written} {s : Seating} (i : IsInstance w) (h : IsSeating w s) (fou
       let few = pairs_of_few p.market p.printed.chain p.limits k here in
       subst (λ z. unsigned_abs z ≤ 9223372036854775807) (sym is) (omega (arith, size, few))
 
+  second_gain_light : (k : ℕ) → k < length found.basis.poset.rotations → unsigned_abs (slice_index_or found.second_gains.items k (pos 0)) ≤ 9223372036854775807
+  second_gain_light k here =
+      let poset = found.basis.poset in
+      let g = gain_of poset.lists (seconds_by found.by w s) in
+      let is : slice_index_or found.second_gains.items k (pos 0) ≡ g (rotation_at poset.rotations k) =
+      ap (λ (xs : List ℤ). slice_index_or xs k (pos 0)) (f.second_gains ∙ f.lightest.gains2) ∙ get_or-map g poset.rotations k [] (pos 0) here in
+      let size = gain_size poset.lists (seconds_by found.by w s) f.second_light (rotation_at poset.rotations k) in
+      let few = pairs_of_few p.market p.printed.chain p.limits k here in
+      subst (λ z. unsigned_abs z ≤ 9223372036854775807) (sym is) (omega (arith, size, few))
+
   total_light : unsigned_abs found.total ≤ 9223372036854775807
   total_light =
       let m = found.matching.places in
       let is : found.total ≡ weight_of s.market (weights_of found.by w s) m = f.total ∙ sym (h.weights found.by m f.made.matching) in
       let size = weight_size s.market (weights_of found.by w s) f.light m in
+      let many = ap (λ (l : Lists). length l.proposers) f.market in
+      subst (λ z. unsigned_abs z ≤ 9223372036854775807) (sym is) (omega (arith, size, many, p.limits.proposers))
+
+  second_total_light : unsigned_abs found.second_total ≤ 9223372036854775807
+  second_total_light =
+      let m = found.matching.places in
+      let is : found.second_total ≡ weight_of s.market (seconds_by found.by w s) m = f.second_total ∙ sym (seconds_alike h found.by m f.made.matching) in
+      let size = weight_size s.market (seconds_by found.by w s) f.second_light m in
       let many = ap (λ (l : Lists). length l.proposers) f.market in
       subst (λ z. unsigned_abs z ≤ 9223372036854775807) (sym is) (omega (arith, size, many, p.limits.proposers))
 
@@ -84,32 +124,43 @@ module _ {w : Written} {s : Seating} (i : IsInstance w) (h : IsSeating w s) (fou
       let printed : IsPrintedChain s.market first rotations = subst (λ (l : Lists). IsPrintedChain l first rotations) f.market p.printed in
       let needed : AreNeeds s.market rotations needs = subst (λ (l : Lists). AreNeeds l rotations needs) f.market n in
       let firsts = lines_each P (seat_line Proposers s first) 0 (length s.market.proposers - 0) (λ q l. seat_sound i h Proposers first printed.chain.from_best.stable.matching q) in
-      let threes = flat_from P (three_lines s rotations needs gains) 0 (length rotations - 0) (λ k l.
+      let numbered : (k : ℕ) → k < length rotations → IsRotation (k + 1) = λ k here. record { least = omega arith; greatest = omega (arith, here, p.few) } in
+      let rows = rows_found found rotations needs in
+      let blocks = flat_from P (row_lines s rows) 0 (length rotations - 0) (λ k l.
       let here : k < length rotations = omega (arith, l) in
-      All-append P (two_lines s rotations needs k) (gain_line gains k ∷ []) (both_sound i h first rotations needs printed.chain p.few needed.each k here)
-      (one_all P (gain_line gains k) (record {
-        printable = tt;
-        seats = λ k d l. absurd (omega arith);
-        numbers = (record { least = omega arith; greatest = omega (arith, here, p.few) }, gain_light k here);
-        head = tt;
-      }))) in
-      let flow = All-map P edge_line found.flow.items (λ k d l. edge_sound w (get_or found.flow.items k d) (f.numbers k d l)) in
+      All-append P (two_lines s rotations needs k) (gain_line gains k ∷ in_two found.two_levels (second_gain_line found.second_gains.items k ∷ [])) (both_sound i h first rotations needs printed.chain p.few needed.each k here)
+      (All-cons P (gain_line gains k) (in_two found.two_levels (second_gain_line found.second_gains.items k ∷ []))
+      (record { printable = tt; seats = λ k d l. absurd (omega arith); numbers = (numbered k here, gain_light k here); head = tt })
+      (all_in_two P found.two_levels (second_gain_line found.second_gains.items k ∷ []) (one_all P (second_gain_line found.second_gains.items k)
+      (record { printable = tt; seats = λ k d l. absurd (omega arith); numbers = (numbered k here, second_gain_light k here); head = tt }))))) in
+      let flow = All-map P (edge_line First) found.flow.items (λ k d l. edge_sound w First (get_or found.flow.items k d) (f.numbers k d l)) in
+      let second_flow = All-map P (edge_line Second) found.second_flow.items (λ k d l. edge_sound w Second (get_or found.second_flow.items k d) (f.second_numbers k d l)) in
       let taken = LineData.Taken (member_numbers found.taken.members.items (length found.taken.members.items)) in
       let value = LineData.Value found.value in
       let cut = LineData.Cut found.value in
       let total = LineData.Total found.total in
-      let figures : All P (lines_from (λ i. Some (figure_line found i)) 0 (4 - 0)) =
-      All-cons P taken (value ∷ cut ∷ total ∷ []) (record { printable = tt; seats = λ k d l. absurd (omega arith); numbers = are_rotations found.taken.members.items (length found.taken.members.items) few_taken; head = tt })
-      (All-cons P value (cut ∷ total ∷ []) (record { printable = tt; seats = λ k d l. absurd (omega arith); numbers = found.large; head = tt })
-      (All-cons P cut (total ∷ []) (record { printable = tt; seats = λ k d l. absurd (omega arith); numbers = found.large; head = tt })
-      (one_all P total (record { printable = tt; seats = λ k d l. absurd (omega arith); numbers = total_light; head = tt })))) in
+      let second_value = LineData.SecondValue found.second_value in
+      let second_cut = LineData.SecondCut found.second_value in
+      let second_total = LineData.SecondTotal found.second_total in
+      let second_figures : All P (second_value ∷ second_cut ∷ second_total ∷ []) =
+      All-cons P second_value (second_cut ∷ second_total ∷ []) (record { printable = tt; seats = λ k d l. absurd (omega arith); numbers = found.second_large; head = tt })
+      (All-cons P second_cut (second_total ∷ []) (record { printable = tt; seats = λ k d l. absurd (omega arith); numbers = found.second_large; head = tt })
+      (one_all P second_total (record { printable = tt; seats = λ k d l. absurd (omega arith); numbers = second_total_light; head = tt }))) in
+      let others = in_two found.two_levels (second_value ∷ second_cut ∷ second_total ∷ []) in
+      let figures : All P (lines_from (λ i. Some (figure_line found i)) 0 (figure_count found - 0)) =
+      subst (λ (t : List LineData). All P t) (sym (figures_are found))
+      (All-cons P taken (value ∷ cut ∷ total ∷ others) (record { printable = tt; seats = λ k d l. absurd (omega arith); numbers = are_rotations found.taken.members.items (length found.taken.members.items) few_taken; head = tt })
+      (All-cons P value (cut ∷ total ∷ others) (record { printable = tt; seats = λ k d l. absurd (omega arith); numbers = found.large; head = tt })
+      (All-cons P cut (total ∷ others) (record { printable = tt; seats = λ k d l. absurd (omega arith); numbers = found.large; head = tt })
+      (All-cons P total others (record { printable = tt; seats = λ k d l. absurd (omega arith); numbers = total_light; head = tt })
+      (all_in_two P found.two_levels (second_value ∷ second_cut ∷ second_total ∷ []) second_figures))))) in
       let pairs = lines_all P (seated_pair_line s m) (λ p. subst (λ o. All P (line_or_none o)) (sym (pair_alike h m stable_there p)) (pair_sound w (written_of s m.proposers) (h.forgotten m stable_there).matching p)) 0 (length s.market.proposers - 0) in
-      let figures_given = lines_from (λ i. Some (figure_line found i)) 0 (4 - 0) in
+      let figures_given = lines_from (λ i. Some (figure_line found i)) 0 (figure_count found - 0) in
       let pairs_given = lines_from (seated_pair_line s m) 0 (length s.market.proposers - 0) in
       let ends = LineData.End ∷ [] in
       All-cons P (LineData.Answer (HeadData.Weight found.by)) _ (record { printable = tt; seats = λ k d l. absurd (omega arith); numbers = tt; head = tt })
-      (All-append P _ _ firsts (All-append P _ _ threes (All-append P (map edge_line found.flow.items) (figures_given ++ (pairs_given ++ ends)) flow
-      (All-append P figures_given (pairs_given ++ ends) figures (All-append P pairs_given ends pairs (one_all P LineData.End (end_sound (Two w))))))))
+      (All-append P _ _ firsts (All-append P _ _ blocks (All-append P (map (edge_line First) found.flow.items) (map (edge_line Second) found.second_flow.items ++ (figures_given ++ (pairs_given ++ ends))) flow
+      (All-append P (map (edge_line Second) found.second_flow.items) (figures_given ++ (pairs_given ++ ends)) second_flow (All-append P figures_given (pairs_given ++ ends) figures (All-append P pairs_given ends pairs (one_all P LineData.End (end_sound (Two w)))))))))
 
 -- by the values from which they are read
 pub weight_sound : (input : Input) (w : Written) (s : Seating) (found : Lightest) (first : Places) (rotations : List (List (ℕ × ℕ))) (needs : List (List ℕ)) → input ≡ Two w → IsInstance w → IsSeating w s → IsLightestOfSeats w s found

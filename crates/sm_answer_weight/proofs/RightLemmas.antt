@@ -1,15 +1,13 @@
 -- The lines of the answer of `weight` are right.
-use Rattle.std.proofs.Common.{◌≡◌, ℕ, suc, ◌+◌, ◌-◌, ◌<◌, ◌≤◌, List, [], ◌∷◌, ◌++◌, Option, length, map, slice_index_or, ℤ, pos, refl, sym, ap, ◌∙◌, subst, arith}
-use Rattle.std.specs.Prelude.{◌≤ℤ◌}
+use Rattle.std.proofs.Common.{◌≡◌, ℕ, suc, ◌+◌, ◌-◌, ◌<◌, Bool, true, false, List, [], ◌∷◌, ◌++◌, length, map, slice_index_or, ℤ, pos, refl, sym, ap, ◌∙◌, subst, arith}
 use Rattle.std.specs.List.{flat_map, range_with_len}
 use Rattle.std.proofs.lemmas.List.{get_or-map}
 use Rattle.std.proofs.lemmas.List.FromFn.{length-map-range_with_len}
 use Rattle.sm_answer.specs.Lines.{lines_from}
 use Rattle.sm_answer.proofs.AnswerLemmas.{lines_from-same}
 use Rattle.sm_instance.specs.Written.{Written}
-use Rattle.sm_instance.specs.Matching.{standing}
 use Rattle.sm_instance.specs.Sound.{IsInstance}
-use Rattle.sm_instance.specs.Ranks.{weight_of as written_weight}
+use Rattle.sm_instance.specs.Ranks.{pair_weight, weight_of as written_weight, second_of}
 use Rattle.sm_instance.specs.declared.kinds.Measure.{Measure}
 use Rattle.sm_instance.specs.declared.kinds.Side.TheVariants.{Proposers}
 use Rattle.sm_market.specs.Lists.{Lists, agents}
@@ -18,16 +16,18 @@ use Rattle.sm_report.specs.declared.lines.Seat.{Seat}
 use Rattle.sm_report.specs.Heads.{HeadData}
 use Rattle.sm_report.specs.Lines.{LineData}
 use Rattle.sm_theory.specs.Chains.{rotation_at, IsPrintedChain, AreNeeds}
-use Rattle.sm_theory.specs.Weights.{weight_of, gain_of}
-use Rattle.sm_theory.specs.Conditions.{IsLightestAllowed}
+use Rattle.sm_theory.specs.Weights.{gain_of}
 use Rattle.sm_poset.specs.Posets.{RotationPoset, IsPoset, poset_of}
 use Rattle.sm_seats.specs.SeatMarket.{seat_market}
 use Rattle.sm_seats.specs.Seating.{Seating, seating_of, written_of, levels_of}
 use Rattle.sm_seats.specs.Correspondence.{IsSeating, leveled, weights_of}
-use Rattle.sm_seats.proofs.SeatingLaws.{as_well}
-use Rattle.sm_seats.proofs.VectorLaws.{allowed_seats, lightest_written}
+use Rattle.sm_placed.specs.Levels.{has_two_levels, pair_second_by, seconds_by}
+use Rattle.sm_placed.proofs.LevelLemmas.{none_second}
 use Rattle.sm_theory.specs.declared.flow_lines.FlowLine.{FlowLine}
-use Rattle.sm_weight.specs.Lightest.{IsFullFlow, IsLightestFound, set_matching}
+use Rattle.sm_weight.specs.Lightest.{IsFullFlow, AreFullFlows, AreZero, IsLightestFound, set_matching}
+use Rattle.sm_theory.specs.Net.{Net, cut_of}
+use Rattle.sm_theory.specs.Flows.{flow_value}
+use Rattle.sm_theory.specs.FlowLines.{amount_on}
 use Rattle.sm_answer.specs.MatchingLines.{pair_line}
 use Rattle.sm_answer_rotations.specs.PairLines.{seated_pair_line}
 use Rattle.sm_answer_rotations.specs.Reduction.{seat_line}
@@ -37,37 +37,52 @@ use Rattle.sm_answer_rotations.specs.GivenLines.{two_lines}
 use Rattle.sm_answer_rotations.proofs.ShownLemmas.{pairs_at_shown, correspondence}
 use Rattle.sm_answer_rotations.proofs.PairLemmas.{pair_alike}
 use Rattle.sm_answer_rotations.proofs.RotationLemmas.{flat_map_alike, lines_shown, first_shown}
-use Rattle.sm_answer_weight.specs.WeightAnswer.{gain_of_pairs, gain_in, WeightParts, net_in, matching_in, gained_lines, flow_line, member_numbers, weight_lines, IsWeightAnswer}
-use Rattle.sm_instance.specs.Lightest.{IsLightest}
+use Rattle.sm_answer_weight.specs.WeightAnswer.{FillsCut, AreCertificates, gain_of_pairs, gain_in, second_gain_in, in_two, WeightParts, net_in, second_net_in, matching_in, gained_lines, flow_line, second_flow_line, member_numbers, second_figures, weight_lines, IsWeightAnswer}
+use Rattle.sm_instance.specs.Lightest.{IsLightestByBoth}
 use Rattle.sm_answer_weight.specs.Found.{IsLightestOfSeats, shown_ends}
-use Rattle.sm_answer_weight.specs.Given.{three_lines, edge_line, weight_given}
+use Rattle.sm_answer_weight.specs.Given.{row_lines, rows_found, edge_line, second_gain_line, weight_given}
+use Rattle.sm_answer_weight.specs.declared.figures.Level.TheVariants.{First, Second}
 use Rattle.sm_answer_weight.specs.declared.lightest_parts.Lightest.{Lightest}
 use Rattle.sm_answer_weight.proofs.GainLemmas.{gain_shown}
-use Rattle.sm_answer_weight.proofs.LineLemmas.{given_sound}
+use Rattle.sm_answer_weight.proofs.LineLemmas.{figures_are, given_sound}
+use Rattle.sm_answer_weight.proofs.SecondLemmas.{read_zero, gain_none, lightest_by_both}
 
 -- Parts of the lines.
 
--- the three lines of a rotation
+-- the lines of a rotation
 pub gained_shown : (by : Measure) (w : Written) (parts : WeightParts) (k : ℕ) → gained_lines by w parts k
-    ≡ two_lines (seating_of w) parts.rotations parts.needs k ++ LineData.Gain (k + 1) (gain_of_pairs by w (pairs_of (seated_rotation (seating_of w) (rotation_at parts.rotations k)))) ∷ []
+    ≡ two_lines (seating_of w) parts.rotations parts.needs k ++ LineData.Gain (k + 1) (gain_of_pairs (pair_weight by w) w (pairs_of (seated_rotation (seating_of w) (rotation_at parts.rotations k))))
+    ∷ in_two (has_two_levels by w) (LineData.SecondGain (k + 1) (gain_of_pairs (pair_second_by by w) w (pairs_of (seated_rotation (seating_of w) (rotation_at parts.rotations k)))) ∷ [])
 gained_shown by w parts k =
     let s = seating_of w in
-    ap (λ (t : List LineData). t ++ LineData.Gain (k + 1) (gain_in by w parts k) ∷ []) (sym (lines_shown s parts.first parts.rotations parts.needs k))
-    ∙ ap (λ (t : List (ℕ × Seat)). two_lines s parts.rotations parts.needs k ++ LineData.Gain (k + 1) (gain_of_pairs by w (pairs_of t)) ∷ []) (pairs_at_shown s parts.rotations k)
+    let two = has_two_levels by w in
+    ap (λ (t : List LineData). t ++ LineData.Gain (k + 1) (gain_in by w parts k) ∷ in_two two (LineData.SecondGain (k + 1) (second_gain_in by w parts k) ∷ [])) (sym (lines_shown s parts.first parts.rotations parts.needs k))
+    ∙ ap (λ (t : List (ℕ × Seat)). two_lines s parts.rotations parts.needs k ++ LineData.Gain (k + 1) (gain_of_pairs (pair_weight by w) w (pairs_of t))
+    ∷ in_two two (LineData.SecondGain (k + 1) (gain_of_pairs (pair_second_by by w) w (pairs_of t)) ∷ [])) (pairs_at_shown s parts.rotations k)
 
 -- the lines of a flow
-flow_shown : (sink : ℕ) (flow : List FlowLine) → map edge_line (map (shown_ends sink) flow) ≡ map (flow_line sink) flow
+flow_shown : (sink : ℕ) (flow : List FlowLine) → map (edge_line First) (map (shown_ends sink) flow) ≡ map (flow_line sink) flow
 flow_shown sink [] = refl
 flow_shown sink (line ∷ flow) = ap (λ t. flow_line sink line ∷ t) (flow_shown sink flow)
 
--- the whole of parts
-abbrev glued : LineData → (firsts rows flow : List LineData) → (taken value cut total : LineData) → (pairs : List LineData) → List LineData
-glued head firsts rows flow taken value cut total pairs =
-    head ∷ (firsts ++ (rows ++ (flow ++ (taken ∷ value ∷ cut ∷ total ∷ (pairs ++ LineData.End ∷ [])))))
+-- and of a second one
+second_flow_shown : (sink : ℕ) (flow : List FlowLine) → map (edge_line Second) (map (shown_ends sink) flow) ≡ map (second_flow_line sink) flow
+second_flow_shown sink [] = refl
+second_flow_shown sink (line ∷ flow) = ap (λ t. second_flow_line sink line ∷ t) (second_flow_shown sink flow)
 
-glued_alike : (head : LineData) (a a' b b' c c' d d' : List LineData) (t t' v v' k k' z z' : LineData) → a ≡ a' → b ≡ b' → c ≡ c' → t ≡ t' → v ≡ v' → k ≡ k' → z ≡ z' → d ≡ d'
-    → glued head a b c t v k z d ≡ glued head a' b' c' t' v' k' z' d'
-glued_alike head a a' b b' c c' d d' t t' v v' k k' z z' ea eb ec et ev ek ez ed = rw (ea, eb, ec, et, ev, ek, ez, ed) refl
+-- in one level there are no lines of a second flow
+flow_in_two : (two : Bool) (sink : ℕ) (flow : List FlowLine) → (two ≡ false → flow ≡ []) → map (second_flow_line sink) flow ≡ in_two two (map (second_flow_line sink) flow)
+flow_in_two true sink flow none = refl
+flow_in_two false sink flow none = ap (map (second_flow_line sink)) (none refl)
+
+-- the whole of parts
+abbrev glued : LineData → (firsts rows flow second : List LineData) → (taken value cut total : LineData) → (figures pairs : List LineData) → List LineData
+glued head firsts rows flow second taken value cut total figures pairs =
+    head ∷ (firsts ++ (rows ++ (flow ++ (second ++ (taken ∷ value ∷ cut ∷ total ∷ (figures ++ (pairs ++ LineData.End ∷ [])))))))
+
+glued_alike : (head : LineData) (a a' b b' c c' d d' f f' e e' : List LineData) (t t' v v' k k' z z' : LineData) → a ≡ a' → b ≡ b' → c ≡ c' → d ≡ d' → t ≡ t' → v ≡ v' → k ≡ k' → z ≡ z' → f ≡ f' → e ≡ e'
+    → glued head a b c d t v k z f e ≡ glued head a' b' c' d' t' v' k' z' f' e'
+glued_alike head a a' b b' c c' d d' f f' e e' t t' v v' k k' z z' ea eb ec ed et ev ek ez ef ee = rw (ea, eb, ec, ed, et, ev, ek, ez, ef, ee) refl
 
 -- What is found, in the market of the seats.
 
@@ -80,6 +95,7 @@ parts_in {w} {found} f needs = record {
   rotations = found.basis.poset.rotations;
   needs = needs;
   flow = f.source.flow.items;
+  second = f.source.flow2.items;
   taken = f.source.set.members.items;
 }
 
@@ -87,8 +103,8 @@ module _ {w : Written} (h : IsSeating w (seating_of w)) (found : Lightest) (f : 
   same_poset : found.basis.poset ≡ seated_poset w found
   same_poset = ap (λ (l : Lists). poset_of l found.basis.poset.first found.basis.poset.rotations) f.market
 
-  lightest_there : IsLightestFound (seated_poset w found) (levels_of (seating_of w)) (weights_of found.by w (seating_of w)) (leveled w w.forced) (leveled w w.forbidden) f.source
-  lightest_there = subst (λ (q : RotationPoset). IsLightestFound q (levels_of (seating_of w)) (weights_of found.by w (seating_of w)) (leveled w w.forced) (leveled w w.forbidden) f.source) same_poset f.lightest
+  lightest_there : IsLightestFound (seated_poset w found) (levels_of (seating_of w)) (weights_of found.by w (seating_of w)) (seconds_by found.by w (seating_of w)) (leveled w w.forced) (leveled w w.forbidden) f.source
+  lightest_there = subst (λ (q : RotationPoset). IsLightestFound q (levels_of (seating_of w)) (weights_of found.by w (seating_of w)) (seconds_by found.by w (seating_of w)) (leveled w w.forced) (leveled w w.forbidden) f.source) same_poset f.lightest
 
   needs_there : AreNeeds (seat_market w) found.basis.poset.rotations needs
   needs_there = subst (λ (q : RotationPoset). AreNeeds q.lists q.rotations needs) same_poset n
@@ -96,46 +112,65 @@ module _ {w : Written} (h : IsSeating w (seating_of w)) (found : Lightest) (f : 
   printed_there : IsPrintedChain (seat_market w) found.basis.poset.first.places found.basis.poset.rotations
   printed_there = subst (λ (q : RotationPoset). IsPrintedChain q.lists q.first.places q.rotations) same_poset p.printed
 
-  full_there : IsFullFlow (net_in found.by w (parts_in f needs)) f.source
+  full_there : AreFullFlows (net_in found.by w (parts_in f needs)) (second_net_in found.by w (parts_in f needs)) f.source
   full_there = lightest_there.full needs needs_there
 
   places_there : found.matching.places ≡ set_matching (seated_poset w found) f.source.set.members.items
   places_there = f.places ∙ ap (λ (q : RotationPoset). set_matching q found.taken.members.items) same_poset ∙ ap (set_matching (seated_poset w found)) f.taken
 
   -- the matching is the lightest in the instance, too
-  lightest_in : IsLightest found.by w (matching_in w (parts_in f needs))
-  lightest_in =
+  lightest_in : IsLightestByBoth found.by w (matching_in w (parts_in f needs))
+  lightest_in = lightest_by_both h found.by (set_matching (seated_poset w found) f.source.set.members.items) lightest_there.lightest lightest_there.best
+
+  -- in one level there are no second gains
+  no_gains : has_two_levels found.by w ≡ false → AreZero f.source.gains2.items
+  no_gains one k =
       let s = seating_of w in
-      let weights = weights_of found.by w s in
-      let m = set_matching (seated_poset w found) f.source.set.members.items in
-      let least = lightest_there.lightest in
-      record {
-        stable = h.forgotten m least.stable;
-        allowed = (h.allowed m least.stable.matching).0 least.allowed;
-        lightest = lightest_written h found.by m least;
-        best = λ others st a same p.
-            let x = allowed_seats h st a in
-            let equal : weight_of (seat_market w) weights x.matching ≡ weight_of (seat_market w) weights m =
-            h.weights found.by x.matching x.stable.matching ∙ ap (written_weight found.by w) x.forgets ∙ same ∙ sym (h.weights found.by m least.stable.matching) in
-            let as_light : IsLightestAllowed (seat_market w) (levels_of s) weights (leveled w w.forced) (leveled w w.forbidden) x.matching = record {
-              stable = x.stable;
-              allowed = x.allowed;
-              lightest = λ k sk ak. subst (λ z. z ≤ℤ weight_of (seat_market w) weights k) (sym equal) (least.lightest k sk ak);
-            } in
-            subst (λ (y : List (Option ℕ)). standing w (written_of s m.proposers) p ≤ standing w y p) x.forgets
-            (as_well h least.stable x.stable p (lightest_there.best x.matching as_light p));
-      }
+      let weigh = pair_second_by found.by w in
+      ap (λ (gains : List ℤ). slice_index_or gains k (pos 0)) lightest_there.gains2
+      ∙ read_zero (gain_of (seat_market w) (seconds_by found.by w s)) (gain_none weigh (none_second found.by w one) s (seat_market w)) found.basis.poset.rotations k
+
+  -- each flow fills the cut of the set
+  fills : {net : Net} {flow : List FlowLine} {cut : ℕ} → IsFullFlow net flow f.source.set.members.items cut → FillsCut net flow f.source.set.members.items
+  fills full = record { lines = full.lines; is_flow = full.is_flow; full = full.value ∙ sym full.cut_is }
+
+  certified : (two : Bool) → has_two_levels found.by w ≡ two
+      → AreCertificates two (net_in found.by w (parts_in f needs)) (second_net_in found.by w (parts_in f needs)) f.source.flow.items f.source.flow2.items f.source.set.members.items
+  certified true is = (fills full_there.first, record { fills = fills full_there.second; reach = full_there.reach })
+  certified false is = let one = lightest_there.one_level (no_gains is) needs needs_there in (record { fills = fills full_there.first; reach = one.reach }, one.no_flow)
 
   -- the lines of one rotation
-  rows_shown : (k : ℕ) → k < length found.basis.poset.rotations → three_lines (seating_of w) found.basis.poset.rotations needs found.gains.items k ≡ gained_lines found.by w (parts_in f needs) k
+  rows_shown : (k : ℕ) → k < length found.basis.poset.rotations → row_lines (seating_of w) (rows_found found found.basis.poset.rotations needs) k ≡ gained_lines found.by w (parts_in f needs) k
   rows_shown k here =
       let s = seating_of w in
       let rotations = found.basis.poset.rotations in
-      let g = gain_of (seat_market w) (weights_of found.by w s) in
-      let gain : slice_index_or found.gains.items k (pos 0) ≡ gain_of_pairs found.by w (pairs_of (seated_rotation s (rotation_at rotations k))) =
-      ap (λ (xs : List ℤ). slice_index_or xs k (pos 0)) (f.gains ∙ lightest_there.gains) ∙ get_or-map g rotations k [] (pos 0) here
-      ∙ gain_shown h found.by printed_there.chain k here in
-      ap (λ z. two_lines s rotations needs k ++ LineData.Gain (k + 1) z ∷ []) gain ∙ sym (gained_shown found.by w (parts_in f needs) k)
+      let first = gain_of (seat_market w) (weights_of found.by w s) in
+      let second = gain_of (seat_market w) (seconds_by found.by w s) in
+      let pairs = pairs_of (seated_rotation s (rotation_at rotations k)) in
+      let gain : slice_index_or found.gains.items k (pos 0) ≡ gain_of_pairs (pair_weight found.by w) w pairs =
+      ap (λ (xs : List ℤ). slice_index_or xs k (pos 0)) (f.gains ∙ lightest_there.gains) ∙ get_or-map first rotations k [] (pos 0) here
+      ∙ gain_shown h (pair_weight found.by w) printed_there.chain k here in
+      let other : slice_index_or found.second_gains.items k (pos 0) ≡ gain_of_pairs (pair_second_by found.by w) w pairs =
+      ap (λ (xs : List ℤ). slice_index_or xs k (pos 0)) (f.second_gains ∙ lightest_there.gains2) ∙ get_or-map second rotations k [] (pos 0) here
+      ∙ gain_shown h (pair_second_by found.by w) printed_there.chain k here in
+      ap (λ z. two_lines s rotations needs k ++ LineData.Gain (k + 1) z ∷ in_two found.two_levels (second_gain_line found.second_gains.items k ∷ [])) gain
+      ∙ ap (λ z. two_lines s rotations needs k ++ LineData.Gain (k + 1) (gain_of_pairs (pair_weight found.by w) w pairs) ∷ in_two found.two_levels (LineData.SecondGain (k + 1) z ∷ [])) other
+      ∙ ap (λ two. two_lines s rotations needs k ++ LineData.Gain (k + 1) (gain_of_pairs (pair_weight found.by w) w pairs)
+      ∷ in_two two (LineData.SecondGain (k + 1) (gain_of_pairs (pair_second_by found.by w) w pairs) ∷ [])) f.two_levels
+      ∙ sym (gained_shown found.by w (parts_in f needs) k)
+
+  -- the figures of the second level
+  second_shown : in_two found.two_levels (LineData.SecondValue found.second_value ∷ LineData.SecondCut found.second_value ∷ LineData.SecondTotal found.second_total ∷ [])
+      ≡ in_two (has_two_levels found.by w) (second_figures found.by w (parts_in f needs))
+  second_shown =
+      let figures : ℕ → ℕ → ℤ → List LineData = (λ value cut total. LineData.SecondValue value ∷ LineData.SecondCut cut ∷ LineData.SecondTotal total ∷ []) in
+      let two = has_two_levels found.by w in
+      let value : ℕ = flow_value (second_net_in found.by w (parts_in f needs)) (amount_on f.source.flow2.items) in
+      let cut : ℕ = cut_of (second_net_in found.by w (parts_in f needs)) f.source.set.members.items in
+      ap (λ two. in_two two (figures found.second_value found.second_value found.second_total)) f.two_levels
+      ∙ ap (λ v. in_two two (figures v found.second_value found.second_total)) (f.second_value ∙ sym full_there.second.value)
+      ∙ ap (λ k. in_two two (figures value k found.second_total)) (f.second_value ∙ sym full_there.second.cut_is)
+      ∙ ap (λ z. in_two two (figures value cut z)) (f.second_total ∙ ap (λ (x : Places). second_of found.by w (written_of (seating_of w) x.proposers)) places_there)
 
   -- the lines that are given are those of the answer
   given_is : weight_given (seating_of w) found found.basis.poset.first.places found.basis.poset.rotations needs ≡ weight_lines found.by w (parts_in f needs)
@@ -150,15 +185,24 @@ module _ {w : Written} (h : IsSeating w (seating_of w)) (found : Lightest) (f : 
       let count : length s.market.proposers - 0 ≡ length (map (first_seat s first) (agents s.market.proposers)) = (let long = length-map-range_with_len (first_seat s first) 0 (length s.market.proposers) in omega arith) in
       let many : length rotations - 0 ≡ length rotations = omega arith in
       let all : length s.market.proposers - 0 ≡ length w.proposers = omega (arith, h.proposers) in
-      glued_alike (LineData.Answer (HeadData.Weight found.by)) _ _ _ _ _ _ _ _ _ _ _ _ _ _ _ _
+      let sink = suc (length rotations) in
+      let two = has_two_levels found.by w in
+      ap (λ figures. LineData.Answer (HeadData.Weight found.by) ∷ (lines_from (seat_line Proposers s first) 0 (length s.market.proposers - 0)
+      ++ (flat_map (row_lines s (rows_found found rotations needs)) (range_with_len 0 (length rotations - 0))
+      ++ (map (edge_line First) found.flow.items ++ (map (edge_line Second) found.second_flow.items
+      ++ (figures ++ (lines_from (seated_pair_line s found.matching.places) 0 (length s.market.proposers - 0) ++ LineData.End ∷ []))))))) (figures_are found)
+      ∙ glued_alike (LineData.Answer (HeadData.Weight found.by)) _ _ _ _ _ _ _ _ _ _ _ _ _ _ _ _ _ _ _ _
       (ap (lines_from (seat_line Proposers s first) 0) count ∙ lines_from-same (seat_line Proposers s first) (first_seat_line shown) (first_shown s first rotations needs one) 0 (length shown.firsts))
-      (ap (λ k. flat_map (three_lines s rotations needs found.gains.items) (range_with_len 0 k)) many
-      ∙ flat_map_alike (three_lines s rotations needs found.gains.items) (gained_lines found.by w parts) 0 (length rotations) (λ k l. rows_shown k (omega (arith, l))))
-      (ap (map edge_line) f.flow ∙ flow_shown (suc (length rotations)) f.source.flow.items)
+      (ap (λ k. flat_map (row_lines s (rows_found found rotations needs)) (range_with_len 0 k)) many
+      ∙ flat_map_alike (row_lines s (rows_found found rotations needs)) (gained_lines found.by w parts) 0 (length rotations) (λ k l. rows_shown k (omega (arith, l))))
+      (ap (map (edge_line First)) f.flow ∙ flow_shown sink f.source.flow.items)
+      (ap (map (edge_line Second)) f.second_flow ∙ second_flow_shown sink f.source.flow2.items
+      ∙ flow_in_two two sink f.source.flow2.items (λ is. (lightest_there.one_level (no_gains is) needs needs_there).no_flow))
       (ap (λ set. LineData.Taken (member_numbers set (length set))) f.taken)
-      (ap (λ v. LineData.Value v) (f.value ∙ sym full_there.value))
-      (ap (λ v. LineData.Cut v) (f.value ∙ sym full_there.cut))
+      (ap (λ v. LineData.Value v) (f.value ∙ sym full_there.first.value))
+      (ap (λ v. LineData.Cut v) (f.value ∙ sym full_there.first.cut_is))
       (ap (λ z. LineData.Total z) (f.total ∙ ap (λ (x : Places). written_weight found.by w (written_of s x.proposers)) places_there))
+      second_shown
       (ap (λ (x : Places). lines_from (seated_pair_line s x) 0 (length s.market.proposers - 0)) places_there
       ∙ ap (lines_from (seated_pair_line s m) 0) all
       ∙ lines_from-same (seated_pair_line s m) (pair_line w (written_of s m.proposers)) (pair_alike h m lightest_there.lightest.stable) 0 (length w.proposers))
@@ -169,7 +213,7 @@ module _ {w : Written} (h : IsSeating w (seating_of w)) (found : Lightest) (f : 
     printed = printed_there;
     needed = needs_there;
     corresponds = correspondence needs h printed_there.chain needs_there.each;
-    certificate = record { lines = full_there.lines; is_flow = full_there.flow; reach = full_there.reach; full = full_there.value ∙ sym full_there.cut };
+    certificates = certified (has_two_levels found.by w) refl;
     closed = lightest_there.closed;
     lightest = lightest_in;
     shows = given_is;

@@ -1,10 +1,10 @@
 -- The answer of `weight`.
-use Rattle.std.specs.Prelude.{◌≡◌, ℕ, zero, suc, ◌+◌, ◌==◌, if◌then◌else◌, Bool, List, [], ◌∷◌, ◌++◌, length, map, Option, Some, ℤ, ◌-ℤ◌}
+use Rattle.std.specs.Prelude.{◌≡◌, ℕ, zero, suc, ◌+◌, ◌==◌, if◌then◌else◌, Bool, true, false, List, [], ◌∷◌, ◌++◌, length, map, Option, Some, ℤ, ◌-ℤ◌}
 use Rattle.std.specs.List.{All, flat_map, range_with_len}
 use Rattle.sm_answer.specs.Lines.{lines_from}
 use Rattle.sm_instance.specs.Written.{Written, place_of}
-use Rattle.sm_instance.specs.Lightest.{IsLightest}
-use Rattle.sm_instance.specs.Ranks.{pair_weight, weight_of}
+use Rattle.sm_instance.specs.Lightest.{IsLightestByBoth}
+use Rattle.sm_instance.specs.Ranks.{pair_weight, weight_of, second_of}
 use Rattle.sm_instance.specs.declared.inputs.Input.TheVariants.{Two}
 use Rattle.sm_instance.specs.declared.kinds.Measure.{Measure}
 use Rattle.sm_market.specs.Matching.{Places}
@@ -19,50 +19,67 @@ use Rattle.sm_theory.specs.Weights.{total}
 use Rattle.sm_theory.specs.Net.{Net, cut_of}
 use Rattle.sm_theory.specs.Flows.{IsFlow, flow_value, IsResidualReach}
 use Rattle.sm_theory.specs.Conditions.{net_of}
+use Rattle.sm_theory.specs.SecondNets.{second_net_of}
 use Rattle.sm_seats.specs.SeatMarket.{seat_market}
 use Rattle.sm_seats.specs.Seating.{seating_of, written_of, levels_of}
 use Rattle.sm_seats.specs.Correspondence.{leveled, weights_of}
+use Rattle.sm_placed.specs.Levels.{has_two_levels, pair_second_by, seconds_by}
 use Rattle.sm_theory.specs.declared.flow_lines.FlowLine.{FlowLine}
 use Rattle.sm_theory.specs.FlowLines.{amount_on, AreFlowLines}
 use Rattle.sm_answer.specs.MatchingLines.{pair_line}
 use Rattle.sm_answer_rotations.specs.RotationLines.{ShownRotations, first_seat_line, pairs_at, rotation_lines, shown_of}
 use Rattle.sm_answer_rotations.specs.RotationAnswer.{pairs_of, IsCorrespondence}
 
--- a flow by its lines, with its residual reach, whose cut is the value of the flow: so no flow has a greater value, and no cut
--- a smaller one (Ford and Fulkerson 1956)
-pub record IsCertificate (net : Net) (flow : List FlowLine) (taken : List Bool) : Type 0 where
+-- a flow by its lines, whose value is the cut of a set: so no flow has a greater value, and no cut a smaller one
+-- (Ford and Fulkerson 1956)
+pub record FillsCut (net : Net) (flow : List FlowLine) (taken : List Bool) : Type 0 where
   pub lines : AreFlowLines net flow
   pub is_flow : IsFlow net (amount_on flow)
-  pub reach : IsResidualReach net (amount_on flow) taken
   pub full : flow_value net (amount_on flow) ≡ cut_of net taken
 
+-- a flow that fills the cut of its residual reach
+pub record IsCertificate (net : Net) (flow : List FlowLine) (taken : List Bool) : Type 0 where
+  pub fills : FillsCut net flow taken
+  pub reach : IsResidualReach net (amount_on flow) taken
+
+-- in two levels a flow fills the cut of the set, and a second flow, in the second net of the first, fills the second cut and reaches
+-- just the set (Picard and Queyranne 1980); in one level the flow does so by itself, and there is no second one
+abbrev pub AreCertificates : (two : Bool) → (net other : Net) → (flow second : List FlowLine) → (taken : List Bool) → Type 0
+AreCertificates true net other flow second taken = FillsCut net flow taken × IsCertificate other second taken
+AreCertificates false net other flow second taken = IsCertificate net flow taken × (second ≡ [])
+
 -- What an answer is read from: the first matching of the seats, the chain of rotations from it on, what each of them needs, the
--- lines of a flow, and the set of rotations that is taken. Here rotations and seats are numbered from 0.
+-- lines of a flow, those of a second one, and the set of rotations that is taken. Here rotations and seats are numbered from 0.
 pub record WeightParts : Type 0 where
   pub first : Places
   pub rotations : List (List (ℕ × ℕ))
   pub needs : List (List ℕ)
   pub flow : List FlowLine
+  pub second : List FlowLine
   pub taken : List Bool
 
 -- the first matching, the rotations and the needs as they are shown
 abbrev pub shown_in : Written → WeightParts → ShownRotations
 shown_in w parts = shown_of (seating_of w) parts.first parts.rotations parts.needs
 
--- the weight of a proposer and a reviewer of its list
-abbrev pub weight_with : Measure → Written → (p r : ℕ) → ℤ
-weight_with by w p r = pair_weight by w p (Some (place_of w.proposers p r))
+-- what a proposer and a reviewer of its list weigh
+abbrev pub weight_with : (ℕ → Option ℕ → ℤ) → Written → (p r : ℕ) → ℤ
+weight_with weigh w p r = weigh p (Some (place_of w.proposers p r))
 
 -- the weight of a rotation's new pairs less that of its old ones, where it is given by its proposers, each with the reviewer that it
 -- leaves for that of the next one
-abbrev pub gain_of_pairs : Measure → Written → List (ℕ × ℕ) → ℤ
-gain_of_pairs by w rotation = total (λ i.
+abbrev pub gain_of_pairs : (ℕ → Option ℕ → ℤ) → Written → List (ℕ × ℕ) → ℤ
+gain_of_pairs weigh w rotation = total (λ i.
     let p = proposer_at rotation i in
-    weight_with by w p (target_at rotation i) -ℤ weight_with by w p (reviewer_at rotation i)) (length rotation)
+    weight_with weigh w p (target_at rotation i) -ℤ weight_with weigh w p (reviewer_at rotation i)) (length rotation)
 
 -- the gain of a rotation as it is shown
 abbrev pub gain_in : Measure → Written → WeightParts → ℕ → ℤ
-gain_in by w parts k = gain_of_pairs by w (pairs_of (pairs_at (shown_in w parts) k))
+gain_in by w parts k = gain_of_pairs (pair_weight by w) w (pairs_of (pairs_at (shown_in w parts) k))
+
+-- its gain by second weights
+abbrev pub second_gain_in : Measure → Written → WeightParts → ℕ → ℤ
+second_gain_in by w parts k = gain_of_pairs (pair_second_by by w) w (pairs_of (pairs_at (shown_in w parts) k))
 
 -- the net of the gains, the needs and the conditions
 -- (Irving, Leather and Gusfield 1987; Gusfield and Irving 1989, chapter 3)
@@ -70,13 +87,25 @@ abbrev pub net_in : Measure → Written → WeightParts → Net
 net_in by w parts =
     net_of (seat_market w) (levels_of (seating_of w)) (weights_of by w (seating_of w)) (leveled w w.forced) (leveled w w.forbidden) parts.first parts.rotations parts.needs
 
+-- the second net of the flow
+abbrev pub second_net_in : Measure → Written → WeightParts → Net
+second_net_in by w parts =
+    second_net_of (seat_market w) (levels_of (seating_of w)) (weights_of by w (seating_of w)) (seconds_by by w (seating_of w))
+    (leveled w w.forced) (leveled w w.forbidden) parts.first parts.rotations parts.needs (amount_on parts.flow)
+
 -- the matching of the set that is taken, once seat numbers are forgotten
 abbrev pub matching_in : Written → WeightParts → List (Option ℕ)
 matching_in w parts = written_of (seating_of w) (matching_of (seat_market w) parts.first parts.rotations parts.taken).proposers
 
--- the lines of a rotation: its pairs, its needs and its gain
+-- what stands in answers of two levels alone
+abbrev pub in_two : Bool → List LineData → List LineData
+in_two two lines = if two then lines else []
+
+-- the lines of a rotation: its pairs, its needs, its gain and, in two levels, its second gain
 abbrev pub gained_lines : Measure → Written → WeightParts → ℕ → List LineData
-gained_lines by w parts k = rotation_lines (shown_in w parts) k ++ LineData.Gain (k + 1) (gain_in by w parts k) ∷ []
+gained_lines by w parts k =
+    rotation_lines (shown_in w parts) k ++ LineData.Gain (k + 1) (gain_in by w parts k)
+    ∷ in_two (has_two_levels by w) (LineData.SecondGain (k + 1) (second_gain_in by w parts k) ∷ [])
 
 -- a node as lines name it: the source is 0, rotations are numbered from 1, and the sink has the last number of 32 bits
 abbrev pub shown_node : (sink node : ℕ) → ℕ
@@ -86,10 +115,21 @@ shown_node sink node = if node == sink then SINK else node
 abbrev pub flow_line : (sink : ℕ) → FlowLine → LineData
 flow_line sink line = LineData.Flow (shown_node sink line.from) (shown_node sink line.to) line.amount
 
+-- a line of a second flow
+abbrev pub second_flow_line : (sink : ℕ) → FlowLine → LineData
+second_flow_line sink line = LineData.SecondFlow (shown_node sink line.from) (shown_node sink line.to) line.amount
+
 -- the numbers of the members of a set among the first n rotations, from 1
 abbrev pub member_numbers : List Bool → ℕ → List ℕ
 member_numbers set zero = []
 member_numbers set (suc n) = member_numbers set n ++ (if is_member set n then suc n ∷ [] else [])
+
+-- the value of the second flow, the second cut of the set, and the second sum of its matching
+abbrev pub second_figures : Measure → Written → WeightParts → List LineData
+second_figures by w parts =
+    LineData.SecondValue (flow_value (second_net_in by w parts) (amount_on parts.second)) ∷
+    LineData.SecondCut (cut_of (second_net_in by w parts) parts.taken) ∷
+    LineData.SecondTotal (second_of by w (matching_in w parts)) ∷ []
 
 -- all lines
 abbrev pub weight_lines : Measure → Written → WeightParts → List LineData
@@ -99,24 +139,27 @@ weight_lines by w parts =
     (lines_from (first_seat_line shown) 0 (length shown.firsts)
     ++ (flat_map (gained_lines by w parts) (range_with_len 0 (length parts.rotations))
     ++ (map (flow_line (suc (length parts.rotations))) parts.flow
+    ++ (in_two (has_two_levels by w) (map (second_flow_line (suc (length parts.rotations))) parts.second)
     ++ (LineData.Taken (member_numbers parts.taken (length parts.taken)) ∷
     LineData.Value (flow_value (net_in by w parts) (amount_on parts.flow)) ∷
     LineData.Cut (cut_of (net_in by w parts) parts.taken) ∷
     LineData.Total (weight_of by w (matching_in w parts)) ∷
-    (lines_from (pair_line w (matching_in w parts)) 0 (length w.proposers)
-    ++ LineData.End ∷ [])))))
+    (in_two (has_two_levels by w) (second_figures by w parts)
+    ++ (lines_from (pair_line w (matching_in w parts)) 0 (length w.proposers)
+    ++ LineData.End ∷ [])))))))
 
 -- The lines are the seats in the proposers' best matching, the printed chain of rotations from it on with what each of them
--- needs and gains, a flow in the net with its residual reach, which is closed, and the pairs of the reach's matching, which is the
--- lightest that is allowed; and the stable matchings are those of the closed sets that are shown. All are lines of the instance: where
--- unbounded edges lead in a circle a flow may go round it with any amount, also with one that has no 64 bits.
+-- needs and gains, a flow in the net, in two levels a second flow in its second net, the residual reach of the last of them, which is
+-- closed, and the pairs of the reach's matching, which is the lightest that is allowed; and the stable matchings are those of the closed
+-- sets that are shown. All are lines of the instance: where unbounded edges lead in a circle a flow may go round it with any amount,
+-- also with one that has no 64 bits.
 pub record IsWeightAnswer (by : Measure) (w : Written) (answer : List LineData) : Type 0 where
   pub parts : WeightParts
   pub printed : IsPrintedChain (seat_market w) parts.first parts.rotations
   pub needed : AreNeeds (seat_market w) parts.rotations parts.needs
   pub corresponds : IsCorrespondence w (shown_in w parts)
-  pub certificate : IsCertificate (net_in by w parts) parts.flow parts.taken
+  pub certificates : AreCertificates (has_two_levels by w) (net_in by w parts) (second_net_in by w parts) parts.flow parts.second parts.taken
   pub closed : IsClosed (seat_market w) parts.rotations parts.taken
-  pub lightest : IsLightest by w (matching_in w parts)
+  pub lightest : IsLightestByBoth by w (matching_in w parts)
   pub shows : answer ≡ weight_lines by w parts
   pub sound : All (IsLineOf (Two w)) answer

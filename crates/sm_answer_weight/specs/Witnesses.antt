@@ -23,7 +23,7 @@ three_proposers = plain_written Marriage
 
 -- their first matching, both rotations, what these need, and the flow, with both rotations taken
 abbrev pub three_parts : WeightParts
-three_parts = record { first = three_cycle_first; rotations = three_cycle_chain; needs = three_cycle_needs; flow = three_cycle_lines; taken = true ∷ true ∷ [] }
+three_parts = record { first = three_cycle_first; rotations = three_cycle_chain; needs = three_cycle_needs; flow = three_cycle_lines; second = []; taken = true ∷ true ∷ [] }
 
 -- Both rotations are taken: the first costs 4, the second brings -14. The flow of 4 goes from the source by the second and the
 -- first to the sink.
@@ -55,3 +55,52 @@ worked_answer =
 -- the lines of these parts are this answer
 abbrev pub WorkedAnswer : Type 0
 WorkedAnswer = weight_lines Given three_proposers three_parts ≡ worked_answer
+
+-- the same proposers with other weights: 4 and a second weight of 1 for the first with its second choice, and 0 and a second weight of
+-- -2 for the second with its third one
+abbrev pub three_of_two : Written
+three_of_two = record three_proposers { weights = (0, 1, pos 4) ∷ (1, 0, pos 0) ∷ []; seconds = pos 1 ∷ negsuc 1 ∷ [] }
+
+-- one flows on each edge in the second net of their flow, whose edges without a bound are the residual steps
+abbrev pub parts_of_two : WeightParts
+parts_of_two = record three_parts {
+  second = record { from = 0; to = 2; amount = 1 } ∷ record { from = 1; to = 3; amount = 1 } ∷ record { from = 2; to = 1; amount = 1 } ∷ [];
+}
+
+-- By first sums none and both of the rotations are lightest, with the sum 0. Both are taken, since their second sum is -2.
+abbrev pub answer_of_two : List LineData
+answer_of_two =
+    LineData.Answer (HeadData.Weight Given) ∷
+    LineData.First 0 (first_seat_of 0) ∷
+    LineData.First 1 (first_seat_of 1) ∷
+    LineData.First 2 (first_seat_of 2) ∷
+    LineData.Rotation 1 ((0, first_seat_of 0) ∷ (1, first_seat_of 1) ∷ (2, first_seat_of 2) ∷ []) ∷
+    LineData.Needs 1 [] ∷
+    LineData.Gain 1 (pos 4) ∷
+    LineData.SecondGain 1 (pos 1) ∷
+    LineData.Rotation 2 ((0, first_seat_of 1) ∷ (1, first_seat_of 2) ∷ (2, first_seat_of 0) ∷ []) ∷
+    LineData.Needs 2 (1 ∷ []) ∷
+    LineData.Gain 2 (negsuc 3) ∷
+    LineData.SecondGain 2 (negsuc 2) ∷
+    LineData.Flow SOURCE 2 4 ∷
+    LineData.Flow 1 SINK 4 ∷
+    LineData.Flow 2 1 4 ∷
+    LineData.SecondFlow SOURCE 2 1 ∷
+    LineData.SecondFlow 1 SINK 1 ∷
+    LineData.SecondFlow 2 1 1 ∷
+    LineData.Taken (1 ∷ 2 ∷ []) ∷
+    LineData.Value 4 ∷
+    LineData.Cut 4 ∷
+    LineData.Total (pos 0) ∷
+    LineData.SecondValue 1 ∷
+    LineData.SecondCut 1 ∷
+    LineData.SecondTotal (negsuc 1) ∷
+    LineData.Pair 0 2 ∷
+    LineData.Pair 1 0 ∷
+    LineData.Pair 2 1 ∷
+    LineData.End ∷
+    []
+
+-- the lines of these parts are this answer
+abbrev pub WorkedOfTwo : Type 0
+WorkedOfTwo = weight_lines Given three_of_two parts_of_two ≡ answer_of_two

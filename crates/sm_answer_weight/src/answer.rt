@@ -9,7 +9,7 @@ ghost use Rattle.sm_seats.specs.Correspondence.{IsSeating};
 ghost use Rattle.sm_answer_weight.specs.WeightAnswer.{IsWeightAnswer};
 ghost use Rattle.sm_answer_weight.specs.Found.{IsLightestOfSeats};
 
-use crate::figures::{Figures, FlowLines};
+use crate::figures::{Figures, FlowLines, Level};
 use crate::gained_lines::{GainedLines, RotationPart};
 use crate::lightest_parts::Lightest;
 use sm_answer::{Each, Lines, One, Printed, Then};
@@ -27,15 +27,18 @@ pub type LightestLines<'a> = Printed<
             Each<SeatLines<'a>>,
             Then<
                 GainedLines<'a>,
-                Then<FlowLines<'a>, Then<Each<Figures<'a>>, Then<Each<PairLines<'a>>, One>>>,
+                Then<
+                    FlowLines<'a>,
+                    Then<FlowLines<'a>, Then<Each<Figures<'a>>, Then<Each<PairLines<'a>>, One>>>,
+                >,
             >,
         >,
     >,
 >;
 
-/// The head; the first seats; for each rotation of the chain its pairs, what it needs and its gain; the flow; the set that the flow
-/// reaches, the flow's value and the set's cut; the weight of the set's matching and its pairs, in the order of the proposers; and
-/// `end`. Takes constant time; the lines together take time linear in what they show.
+/// The head; the first seats; for each rotation of the chain its pairs, what it needs and its gains; the flow, and in two levels the
+/// second one; the set that is taken, the flow's value, the set's cut and the weight of its matching, and in two levels the same by
+/// second weights; the pairs of the matching, in the order of the proposers; and `end`. Takes constant time; the lines together take time linear in what they show.
 pub fn lightest_lines<'a>(
     input: &'a Input,
     instance: &Instance,
@@ -78,21 +81,32 @@ pub fn lightest_lines<'a>(
                         part: RotationPart::Pairs,
                     },
                     second: Then {
-                        first: FlowLines { found, next: 0 },
+                        first: FlowLines {
+                            found,
+                            level: Level::First,
+                            next: 0,
+                        },
                         second: Then {
-                            first: Each {
-                                items: Figures { found },
+                            first: FlowLines {
+                                found,
+                                level: Level::Second,
                                 next: 0,
                             },
                             second: Then {
                                 first: Each {
-                                    items: PairLines {
-                                        seats,
-                                        pairing: &found.matching,
-                                    },
+                                    items: Figures { found },
                                     next: 0,
                                 },
-                                second: One(Some(Line::End)),
+                                second: Then {
+                                    first: Each {
+                                        items: PairLines {
+                                            seats,
+                                            pairing: &found.matching,
+                                        },
+                                        next: 0,
+                                    },
+                                    second: One(Some(Line::End)),
+                                },
                             },
                         },
                     },

@@ -1,39 +1,72 @@
-//! The flow, and what is said of the set that it reaches, as lines.
+//! Flows, and what is said of the set that is taken, as lines.
 
 ghost use Rattle.std.specs.Prelude.{◌≡◌, ◌<◌, ◌^◌, length, IfOk};
+ghost use Rattle.sm_report.specs.Lines.{line_of};
 ghost use Rattle.sm_answer_weight.specs.WeightAnswer.{member_numbers};
+ghost use Rattle.sm_answer_weight.specs.Given.{edge_line, flow_in};
 
 use crate::lightest_parts::Lightest;
 use sm_answer::{Answer, Numbered};
 use sm_report::Line;
+use sm_theory::FlowLine;
 use std::alloc::{AllocError, Global};
+
+/// Of which of two flows.
+#[derive(Clone, Copy)]
+pub enum Level {
+    First,
+    Second,
+}
 
 /// The lines of a flow, from one on.
 #[derive(Drop)]
 pub struct FlowLines<'a> {
     pub found: &'a Lightest,
+    pub level: Level,
     pub next: usize,
 }
 
 impl Answer for FlowLines<'_> {
     ghost use Rattle.std.specs.Prelude.{◌≡◌, ◌-◌, drop, length, map};
-    ghost use Rattle.sm_answer_weight.specs.Given.{edge_line};
+    ghost use Rattle.sm_answer_weight.specs.Given.{edge_line, flow_in};
 
-    ghost gives = { λ s rest. rest ≡ map edge_line (drop s.next s.found.now.flow.items) };
+    ghost gives = { λ s rest. rest ≡ map (edge_line s.level) (drop s.next (flow_in s.level s.found.now)) };
 
-    ghost most = { λ s. length s.found.now.flow.items - s.next };
+    ghost most = { λ s. length (flow_in s.level s.found.now) - s.next };
 
     fn next(&mut self, _alloc: Global) -> Result<Option<Line>, AllocError> {
-        if self.next >= self.found.flow.len() {
+        let flow = flow_in(self.found, self.level);
+        if self.next >= flow.len() {
             return Ok(None);
         }
-        let line = self.found.flow[self.next];
+        let line = edge_line(self.level, flow[self.next]);
         self.next += 1;
-        Ok(Some(Line::Flow(line.from, line.to, line.amount)))
+        Ok(Some(line))
     }
 }
 
-/// The set that a flow reaches, the value of the flow, the cut of the set, and the weight of its matching.
+/// One of the flows.
+fn flow_in(found: &Lightest, level: Level) -> &[FlowLine]
+    ensures { result.now ≡ flow_in level found.now }
+{
+    match level {
+        Level::First => &found.flow,
+        Level::Second => &found.second_flow,
+    }
+}
+
+/// The line of an amount on an edge.
+fn edge_line(level: Level, edge: FlowLine) -> Line
+    ensures { line_of result ≡ edge_line level edge }
+{
+    match level {
+        Level::First => Line::Flow(edge.from, edge.to, edge.amount),
+        Level::Second => Line::SecondFlow(edge.from, edge.to, edge.amount),
+    }
+}
+
+/// The set that is taken, the value of the flow, the cut of the set, and the weight of its matching; in two levels then the value of
+/// the second flow, the second cut and the second sum.
 #[derive(Drop)]
 pub struct Figures<'a> {
     pub found: &'a Lightest,
@@ -42,14 +75,14 @@ pub struct Figures<'a> {
 
 impl Numbered for Figures<'_> {
     ghost use Rattle.std.specs.Prelude.{Some};
-    ghost use Rattle.sm_answer_weight.specs.Given.{figure_line};
+    ghost use Rattle.sm_answer_weight.specs.Given.{figure_line, figure_count};
 
     ghost line = { λ figures i. Some (figure_line figures.found.now i) };
 
-    ghost count = { λ figures. 4 };
+    ghost count = { λ figures. figure_count figures.found.now };
 
     fn count(&self) -> u32 {
-        4
+        if self.found.two_levels { 7 } else { 4 }
     }
 
     fn line(&self, alloc: Global, i: u32) -> Result<Option<Line>, AllocError> {
@@ -60,8 +93,14 @@ impl Numbered for Figures<'_> {
             Ok(Some(Line::Value(self.found.value)))
         } else if i == 2 {
             Ok(Some(Line::Cut(self.found.value)))
-        } else {
+        } else if i == 3 {
             Ok(Some(Line::Total(self.found.total)))
+        } else if i == 4 {
+            Ok(Some(Line::SecondValue(self.found.second_value)))
+        } else if i == 5 {
+            Ok(Some(Line::SecondCut(self.found.second_value)))
+        } else {
+            Ok(Some(Line::SecondTotal(self.found.second_total)))
         }
     }
 }

@@ -3,25 +3,29 @@
 ghost use Rattle.std.specs.Prelude.{◌≡◌, ℕ, ◌+◌, ◌<◌, All, List, Option, map, IfOk, MatchOption};
 ghost use Rattle.sm_instance.specs.Stable.{IsStable};
 ghost use Rattle.sm_instance.specs.Allowed.{IsAllowed};
+ghost use Rattle.sm_instance.specs.Matching.{IsMatching};
+ghost use Rattle.sm_instance.specs.Ranks.{second_of};
 ghost use Rattle.sm_seats.specs.Seating.{seating_of, levels_of};
 ghost use Rattle.sm_seats.specs.Correspondence.{IsSeating, leveled, weights_of};
 ghost use Rattle.sm_weight.specs.Lightest.{IsLightestFound};
 ghost use Rattle.sm_placed.specs.PlaceWeights.{AreLight};
+ghost use Rattle.sm_placed.specs.Levels.{seconds_by};
 ghost use Rattle.sm_answer_weight.specs.WeightAnswer.{shown_node};
 ghost use Rattle.sm_answer_weight.specs.Found.{IsLightestOfSeats, IsFlowLine, shown_ends};
 
 use crate::lightest_parts::Lightest;
 use sm_answer_rotations::{Basis, conditions_of};
-use sm_instance::{Instance, Measure};
-use sm_placed::weights_of_places;
+use sm_instance::{Assignment, Instance, Measure};
+use sm_placed::{has_two_levels, seconds_of_places, weights_of_places};
 use sm_poset::Conditions;
 use sm_seats::Seats;
 use sm_theory::FlowLine;
 use sm_weight::LightestFound;
 use std::alloc::{AllocError, Global};
 
-/// The lightest stable matching among those that the conditions of an instance allow, and of those of its weight the one that is
-/// best for all proposers (Irving, Leather and Gusfield 1987). `None` exactly where no stable matching is allowed.
+/// The lightest stable matching among those that the conditions of an instance allow, of those of its weight one whose second sum is
+/// least, and of these the one that is best for all proposers (Irving, Leather and Gusfield 1987). `None` exactly where no stable
+/// matching is allowed. Second sums are those of the second weights, and all 0 by ranks.
 ///
 /// Takes the time and the memory of [`Basis::of`] and of [`sm_weight::lightest`].
 ///
@@ -44,8 +48,16 @@ pub fn find_lightest(
     let basis = Basis::of(alloc, seats)?;
     let levels = seats.levels(alloc)?;
     let weights = weights_of_places(alloc, instance, seats, by, &levels)?;
+    let seconds = seconds_of_places(alloc, instance, seats, by, &levels)?;
     let conditions = conditions_of(alloc, instance)?;
-    match sm_weight::lightest(alloc, &basis.poset, &levels, &weights, &conditions)? {
+    match sm_weight::lightest(
+        alloc,
+        &basis.poset,
+        &levels,
+        &weights,
+        &seconds,
+        &conditions,
+    )? {
         Some(found) => Ok(Some(read_off(alloc, instance, seats, by, basis, found)?)),
         None => Ok(None),
     }
@@ -63,8 +75,9 @@ fn read_off(
     requires seating { IsSeating instance.now seats.now }
     requires market { basis.poset.lists ≡ seats.now.market }
     requires light { AreLight (weights_of by instance.now seats.now) }
+    requires second_light { AreLight (seconds_by by instance.now seats.now) }
     requires lightest { IsLightestFound basis.poset (levels_of seats.now)
-        (weights_of by instance.now seats.now)
+        (weights_of by instance.now seats.now) (seconds_by by instance.now seats.now)
         (leveled instance.now instance.now.forced) (leveled instance.now instance.now.forbidden)
         found }
     ensures by { IfOk result (λ read. read.by ≡ by) }
@@ -72,19 +85,37 @@ fn read_off(
 {
     let sink = basis.poset.chain().rotations.len() as u32 + 1;
     let flow = shown_flow(alloc, &found.flow, sink)?;
+    let second_flow = shown_flow(alloc, &found.flow2, sink)?;
     let matching = basis.poset.matching_of(alloc, &found.set)?;
     let assignment = seats.to_hospitals(alloc, &matching)?;
     let total = instance.weigh(&assignment, by);
+    let second_total = second_of(instance, &assignment, by);
     Ok(Lightest {
         by,
+        two_levels: has_two_levels(instance, by),
         basis,
         gains: found.gains,
         flow,
         taken: found.set,
         value: found.cut,
         total,
+        second_gains: found.gains2,
+        second_flow,
+        second_value: found.cut2,
+        second_total,
         matching,
     })
+}
+
+/// The second sum of a matching, 0 by ranks.
+fn second_of(instance: &Instance, assignment: &Assignment, by: Measure) -> i64
+    requires matching { IsMatching instance.now assignment.now.places.items }
+    ensures { result ≡ second_of by instance.now assignment.now.places.items }
+{
+    match by {
+        Measure::Ranks => 0,
+        Measure::Given => instance.weigh_second(assignment),
+    }
 }
 
 /// The lines of a flow with their nodes as lines of answers name them.

@@ -14,9 +14,11 @@ pub enum RotationPart {
     Pairs,
     Needs,
     Gain,
+    /// The gain by second weights, in two levels alone.
+    SecondGain,
 }
 
-/// Three lines for each rotation from one on: its pairs, what it needs, and its gain.
+/// The lines for each rotation from one on: its pairs, what it needs, its gain, and in two levels its second gain.
 #[derive(Drop)]
 pub struct GainedLines<'a> {
     pub rows: Rotations<'a>,
@@ -25,21 +27,22 @@ pub struct GainedLines<'a> {
     /// The line of the next rotation that comes first; those before it are given already.
     pub part: RotationPart,
     ghost one_each: { length found.now.gains.items ≡ length rows.rotations.now },
+    ghost second_each: { length found.now.second_gains.items ≡ length rows.rotations.now },
 }
 
 impl Answer for GainedLines<'_> {
     ghost use Rattle.std.specs.Prelude.{◌≡◌, ◌-◌, length};
     ghost use Rattle.sm_market.specs.Vectors.{rows_of};
     ghost use Rattle.sm_theory.specs.Values.{rotations_of};
-    ghost use Rattle.sm_answer_weight.specs.Given.{gained_left, most_gained};
+    ghost use Rattle.sm_answer_weight.specs.Given.{rows_found, gained_left, most_gained};
 
     ghost gives = { λ s rest. rest ≡ gained_left s.part s.rows.seats.now
-        (rotations_of s.rows.rotations.now)
-        (rows_of s.rows.needs.now) s.found.now.gains.items s.next };
+        (rows_found s.found.now (rotations_of s.rows.rotations.now) (rows_of s.rows.needs.now))
+        s.next };
 
     ghost most = { λ s. most_gained s.part (length s.rows.rotations.now - s.next) };
 
-    #[tactic(auto, using(crate::proofs::RowLemmas::pairs_given, crate::proofs::RowLemmas::needs_given, crate::proofs::RowLemmas::gain_given, crate::proofs::RowLemmas::gained_over))]
+    #[tactic(auto, using(crate::proofs::RowLemmas::pairs_given, crate::proofs::RowLemmas::needs_given, crate::proofs::RowLemmas::gain_given, crate::proofs::RowLemmas::gain_before_second, crate::proofs::RowLemmas::second_given, crate::proofs::RowLemmas::gained_over))]
     fn next(&mut self, alloc: Global) -> Result<Option<Line>, AllocError> {
         if self.next >= self.rows.rotations.len() as u32 {
             return Ok(None);
@@ -57,6 +60,17 @@ impl Answer for GainedLines<'_> {
             }
             RotationPart::Gain => {
                 let line = Line::Gain(self.next + 1, self.found.gains[self.next as usize]);
+                if self.found.two_levels {
+                    self.part = RotationPart::SecondGain;
+                    return Ok(Some(line));
+                }
+                self.part = RotationPart::Pairs;
+                self.next += 1;
+                Ok(Some(line))
+            }
+            RotationPart::SecondGain => {
+                let gain = self.found.second_gains[self.next as usize];
+                let line = Line::SecondGain(self.next + 1, gain);
                 self.part = RotationPart::Pairs;
                 self.next += 1;
                 Ok(Some(line))

@@ -1,7 +1,7 @@
 //! The answer of `weight`.
 //!
 //! [`find_lightest`] finds the lightest stable matching that the conditions of an instance allow, with a flow that shows that
-//! none is lighter; [`lightest_lines`] lends them as lines.
+//! none is lighter, and with a second flow where there are second weights; [`lightest_lines`] lends them as lines.
 #![tactic(auto)]
 
 mod answer;
@@ -12,7 +12,7 @@ mod lightest_parts;
 pub mod witnesses;
 
 pub use answer::{LightestLines, lightest_lines};
-pub use figures::{Figures, FlowLines};
+pub use figures::{Figures, FlowLines, Level};
 pub use finding::find_lightest;
 pub use gained_lines::{GainedLines, RotationPart};
 pub use lightest_parts::Lightest;

@@ -1,9 +1,14 @@
-//! A worked answer of which the checker computes the lines, so that the definitions mean what they should. The function does
-//! nothing: its contract is the statement.
+//! Worked answers of which the checker computes the lines, so that the definitions mean what they should. The functions do
+//! nothing: their contracts are the statements.
 
-ghost use Rattle.sm_answer_weight.specs.Witnesses.{WorkedAnswer};
+ghost use Rattle.sm_answer_weight.specs.Witnesses.{WorkedAnswer, WorkedOfTwo};
 
 /// The lines for three proposers who go round in a cycle, where a pair that costs 4 leads to one that weighs -10.
 pub fn worked_answer()
     ensures { WorkedAnswer }
+{}
+
+/// The lines for the same proposers in two levels: of two matchings with equal sums the one with the smaller second sum is taken.
+pub fn worked_of_two()
+    ensures { WorkedOfTwo }
 {}

@@ -99,7 +99,7 @@ tells = record { other = refl; same = same }
 
 begins : Begins given_words given_layout
 unfolding given_words
-begins = inl (refl, inl (refl, inr ((refl, omega arith), ((refl, omega arith), tt))))
+begins = inl (refl, inl (refl, inr ((refl, refl), ((refl, refl), tt))))
 
 no_left : (x : LineData) → is_up_to_rights x ≡ false → left_in x ≡ None
 no_left (LineData.LeftPair p r) e = absurd (false≢true (sym e))

@@ -47,19 +47,19 @@ goes parts line lines e = go (behind parts line) refl e
 module _ (group : ℕ → Bool) where
   -- a keyword that layouts name is outside the group
   abbrev pub IsOutside : ℕ → Type 0
-  IsOutside n = (group n ≡ false) × (n < 21)
+  IsOutside n = (group n ≡ false) × ((n == 21) ≡ false)
 
   -- all lines of a part are in the group
   abbrev pub IsIn : LayoutPart → Type 0
   IsIn (One word) = group (keyword_number word) ≡ true
   IsIn (Many word) = group (keyword_number word) ≡ true
-  IsIn (Blocks turn) = (group 7 ≡ true) × (group 8 ≡ true) × (group 9 ≡ true)
+  IsIn (Blocks turn) = (group 7 ≡ true) × (group 8 ≡ true) × (group 9 ≡ true) × (group 28 ≡ true)
 
   -- all lines of a part are outside the group
   abbrev pub IsOut : LayoutPart → Type 0
   IsOut (One word) = IsOutside (keyword_number word)
   IsOut (Many word) = IsOutside (keyword_number word)
-  IsOut (Blocks turn) = IsOutside 7 × IsOutside 8 × IsOutside 9
+  IsOut (Blocks turn) = IsOutside 7 × IsOutside 8 × IsOutside 9 × IsOutside 28
 
   -- the parts of a layout are all outside it
   abbrev pub AllOut : List LayoutPart → Type 0
@@ -86,13 +86,14 @@ module _ (group : ℕ → Bool) where
   by_word : (P : ℕ → Type 0) (line : Opening) (word : Keyword) → begins line word ≡ true → P (keyword_number word) → P (of_line line)
   by_word P line word e h = subst P (sym (eqb-true (of_line line) (keyword_number word) e)) h
 
-  by_place : (P : ℕ → Type 0) (place : ℕ) → P 7 → P 8 → P 9 → P (keyword_number (keyword_at place))
-  by_place P place a b c = go (place == 0) (place == 1)
+  by_place : (P : ℕ → Type 0) (place : ℕ) → P 7 → P 8 → P 9 → P 28 → P (keyword_number (keyword_at place))
+  by_place P place a b c d = go (place == 0) (place == 1) (place == 2)
     where
-      go : (s t : Bool) → P (keyword_number (if s then keyword.Rotation else (if t then keyword.Needs else keyword.Gain)))
-      go true t = a
-      go false true = b
-      go false false = c
+      go : (s t u : Bool) → P (keyword_number (if s then keyword.Rotation else (if t then keyword.Needs else (if u then keyword.Gain else keyword.SecondGain))))
+      go true t u = a
+      go false true u = b
+      go false false true = c
+      go false false false = d
 
   out_if : (line : Opening) (t : Bool) (o p : Option (List LayoutPart)) → (t ≡ true → OutStep line o) → OutStep line p → OutStep line (if t then o else p)
   out_if line true o p x y = x refl
@@ -109,7 +110,7 @@ module _ (group : ℕ → Bool) where
   out_step line (Many word ∷ parts) h = out_if line (begins line word) _ _ (λ e. (by_word IsOutside line word e h.0, h)) (out_step line parts h.1)
   out_step line (Blocks turn ∷ parts) h =
       out_if line (begins line (keyword_at turn.place)) _ _
-      (λ e. out_if line (line.number == turn.number) _ _ (λ _. (by_word IsOutside line (keyword_at turn.place) e (by_place IsOutside turn.place h.0.0 h.0.1 h.0.2), h)) tt)
+      (λ e. out_if line (line.number == turn.number) _ _ (λ _. (by_word IsOutside line (keyword_at turn.place) e (by_place IsOutside turn.place h.0.0 h.0.1 h.0.2 h.0.3), h)) tt)
       (out_if line (turn.place == 0) _ _ (λ _. out_step line parts h.1) tt)
 
   of_out : (line : Opening) (o : Option (List LayoutPart)) → OutStep line o → Step line o
@@ -126,7 +127,7 @@ module _ (group : ℕ → Bool) where
   step line (Many word ∷ parts) (inl h) = step_if line (begins line word) _ _ (λ e. inl (by_word Inside line word e h.0, inl h)) (step line parts h.1)
   step line (Blocks turn ∷ parts) (inl h) =
       step_if line (begins line (keyword_at turn.place)) _ _
-      (λ e. step_if line (line.number == turn.number) _ _ (λ _. inl (by_word Inside line (keyword_at turn.place) e (by_place Inside turn.place h.0.0 h.0.1 h.0.2), inl h)) tt)
+      (λ e. step_if line (line.number == turn.number) _ _ (λ _. inl (by_word Inside line (keyword_at turn.place) e (by_place Inside turn.place h.0.0 h.0.1 h.0.2 h.0.3), inl h)) tt)
       (step_if line (turn.place == 0) _ _ (λ _. step line parts h.1) tt)
 
 -- a test of lines tells which are in a group, but for heads
@@ -146,7 +147,7 @@ module _ {group : ℕ → Bool} {up : LineData → Bool} (t : Tells group up) wh
   pub is_down : (x : LineData) → IsOutside group (keyword_number (keyword_of x)) → up x ≡ false
   is_down x h = elim (t.same x) [
     | inl same ↦ same ∙ h.0
-    | inr head ↦ absurd (let less = h.1 in omega arith)
+    | inr head ↦ absurd (false≢true (sym h.1 ∙ ap (λ (n : ℕ). n == 21) head))
   ]
 
 -- all these lines fail the test

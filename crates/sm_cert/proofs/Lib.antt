@@ -12,6 +12,7 @@ mod RotationLines
 mod RotationsYes
 mod FlowYes
 mod WeightLines
+mod SecondYes
 mod WeightYes
 mod ChosenYes
 mod CouplesYes

@@ -10,6 +10,7 @@ use Rattle.std.proofs.lemmas.Option.{same_Some}
 use Rattle.sm_instance.specs.Written.{Written}
 use Rattle.sm_instance.specs.declared.inputs.Input.TheVariants.{Two}
 use Rattle.sm_instance.specs.declared.kinds.Measure.{Measure}
+use Rattle.sm_placed.specs.Levels.{has_two_levels}
 use Rattle.sm_report.specs.Heads.{HeadData}
 use Rattle.sm_report.specs.Lines.{LineData}
 use Rattle.sm_check_forms.specs.declared.layouts.LayoutPart.{LayoutPart}
@@ -95,5 +96,5 @@ module _ {w : Written} {rest : List LayoutPart} {out : AllOut rotation_words res
 
 -- so it is in any answer of `weight` in its form
 pub weight_order : (w : Written) (lines : List LineData) → is_placed is_whole (Two w) lines ≡ true → (by : Measure) → first_head lines ≡ Some (HeadData.Weight by) → AreNeedsInOrder w lines
-weight_order w (LineData.Answer (HeadData.Weight by) ∷ rest) placed by' head = in_order (turns_behind w by rest placed)
+weight_order w (LineData.Answer (HeadData.Weight by) ∷ rest) placed by' head = in_order (turns_behind w by (has_two_levels by w) rest placed)
 weight_order w _ placed by head = absurd cc

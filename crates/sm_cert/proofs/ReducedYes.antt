@@ -22,10 +22,10 @@ use Rattle.sm_cert.proofs.SeatYes.{first_words, last_words, firsts_tell, lasts_t
 use Rattle.sm_cert.proofs.YesLines.{IsRight, right_two, at_closing, said_above, each_line}
 
 firsts_begin : Begins first_words reduced_layout
-firsts_begin = inl (refl, inr ((refl, omega arith), ((refl, omega arith), ((refl, omega arith), ((refl, omega arith), tt)))))
+firsts_begin = inl (refl, inr ((refl, refl), ((refl, refl), ((refl, refl), ((refl, refl), tt)))))
 
 lasts_begin : Begins last_words reduced_layout
-lasts_begin = inl (refl, inl (refl, inr ((refl, omega arith), ((refl, omega arith), ((refl, omega arith), tt)))))
+lasts_begin = inl (refl, inl (refl, inr ((refl, refl), ((refl, refl), ((refl, refl), tt)))))
 
 module _ (w : Written) (lines : List LineData) (r : IsRight (answer w HeadData.Reduced) lines) (p : Parted is_up_to_lasts lines) where
   abbrev rows : List (ℕ × ℕ) → List (ℕ × ℕ) → Lists

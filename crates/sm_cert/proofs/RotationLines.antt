@@ -20,7 +20,7 @@ use Rattle.sm_cert.proofs.YesLines.{no_line}
 
 -- the keywords up to the rotations: of first seats, and of rotations, needs and gains
 abbrev pub rotation_words : ℕ → Bool
-rotation_words n = (n == 3) || ((n == 7) || ((n == 8) || (n == 9)))
+rotation_words n = (n == 3) || ((n == 7) || ((n == 8) || ((n == 9) || (n == 28))))
 
 -- the test of lines up to the rotations tells these
 pub rotations_tell : Tells rotation_words is_up_to_rotations
@@ -52,6 +52,7 @@ pub data Spot : Type 0 where
   rotation : ℕ → Spot
   needs : ℕ → Spot
   gains : ℕ → Spot
+  second_gains : ℕ → Spot
 
 -- how many rotations still want what they need
 abbrev pub owed : Spot → ℕ
@@ -67,14 +68,25 @@ no_list = None
 not_some : {P : Type 0} → IsSome no_list → P
 not_some e = absurd cc
 
--- blocks with gains have three lines, others two
-abbrev lines_of : Bool → ℕ
-lines_of true = 3
-lines_of false = 2
+-- the blocks of rotations: with their needs, with gains too, and with second gains
+pub data Kind : Type 0 where
+  bare : Kind
+  gained : Kind
+  twice_gained : Kind
 
-abbrev gains_place : Bool → ℕ
-gains_place true = 2
-gains_place false = 0
+abbrev lines_of : Kind → ℕ
+lines_of bare = 2
+lines_of gained = 3
+lines_of twice_gained = 4
+
+-- the places of gains and second gains, where there are any
+abbrev gains_place : Kind → ℕ
+gains_place bare = 0
+gains_place _ = 2
+
+abbrev second_place : Kind → ℕ
+second_place twice_gained = 3
+second_place _ = 0
 
 down_at : (up : LineData → Bool) (lines : List LineData) (j : ℕ) (y : LineData) → AreDown up lines → slice_get lines j ≡ Some y → up y ≡ false
 down_at up [] j y h e = absurd (no_line e)
@@ -101,11 +113,12 @@ one_split up rest x lines e s = record {
 
 module _ (w : Written) (rest : List LayoutPart) (out : AllOut rotation_words rest) where
   -- what is left of the layout there
-  abbrev pub left_at : Bool → Spot → List LayoutPart
-  left_at three firsts = Many keyword.First ∷ blocks_of (lines_of three) ∷ rest
-  left_at three (rotation i) = Blocks (record { lines = lines_of three; place = 0; number = i }) ∷ rest
-  left_at three (needs i) = Blocks (record { lines = lines_of three; place = 1; number = i }) ∷ rest
-  left_at three (gains i) = Blocks (record { lines = lines_of three; place = gains_place three; number = i }) ∷ rest
+  abbrev pub left_at : Kind → Spot → List LayoutPart
+  left_at kind firsts = Many keyword.First ∷ blocks_of (lines_of kind) ∷ rest
+  left_at kind (rotation i) = Blocks (record { lines = lines_of kind; place = 0; number = i }) ∷ rest
+  left_at kind (needs i) = Blocks (record { lines = lines_of kind; place = 1; number = i }) ∷ rest
+  left_at kind (gains i) = Blocks (record { lines = lines_of kind; place = gains_place kind; number = i }) ∷ rest
+  left_at kind (second_gains i) = Blocks (record { lines = lines_of kind; place = second_place kind; number = i }) ∷ rest
 
   abbrev rotations_of : LineData → ℕ
   rotations_of x = length (cons_option (rotation_in w x) [])
@@ -113,9 +126,9 @@ module _ (w : Written) (rest : List LayoutPart) (out : AllOut rotation_words res
   abbrev needs_of : LineData → ℕ
   needs_of x = length (cons_option (needs_in x) [])
 
-  record Stays (three : Bool) (spot : Spot) (x : LineData) (left : List LayoutPart) : Type 0 where
+  record Stays (kind : Kind) (spot : Spot) (x : LineData) (left : List LayoutPart) : Type 0 where
     to : Spot
-    is : left ≡ left_at three to
+    is : left ≡ left_at kind to
     counts : needs_of x + owed to ≡ owed spot + rotations_of x
     needed : IsSome (needs_in x) → owed spot ≡ 1
     up : is_up_to_rotations x ≡ true
@@ -124,32 +137,46 @@ module _ (w : Written) (rest : List LayoutPart) (out : AllOut rotation_words res
     is : behind rest (opening_of x) ≡ Some left
     none : owed spot ≡ 0
 
-  abbrev Moves : Bool → Spot → LineData → List LayoutPart → Type 0
-  Moves three spot x left = Stays three spot x left ⊎ Leaves spot x left
+  abbrev Moves : Kind → Spot → LineData → List LayoutPart → Type 0
+  Moves kind spot x left = Stays kind spot x left ⊎ Leaves spot x left
 
-  stays : (three : Bool) (spot to : Spot) (x : LineData) (left : List LayoutPart) (t : Bool) → (if t then Some (left_at three to) else None) ≡ Some left → needs_of x + owed to ≡ owed spot + rotations_of x → (IsSome (needs_in x) → owed spot ≡ 1) → is_up_to_rotations x ≡ true
-      → Moves three spot x left
-  stays three spot to x left true e counts needed up = inl (record { to = to; is = sym (same_Some _ _ e); counts = counts; needed = needed; up = up })
-  stays three spot to x left false e counts needed up = absurd (no_parts e)
+  stays : (kind : Kind) (spot to : Spot) (x : LineData) (left : List LayoutPart) (t : Bool) → (if t then Some (left_at kind to) else None) ≡ Some left → needs_of x + owed to ≡ owed spot + rotations_of x → (IsSome (needs_in x) → owed spot ≡ 1) → is_up_to_rotations x ≡ true
+      → Moves kind spot x left
+  stays kind spot to x left true e counts needed up = inl (record { to = to; is = sym (same_Some _ _ e); counts = counts; needed = needed; up = up })
+  stays kind spot to x left false e counts needed up = absurd (no_parts e)
 
-  leaves : (three : Bool) (spot : Spot) (x : LineData) (left : List LayoutPart) → behind rest (opening_of x) ≡ Some left → owed spot ≡ 0 → Moves three spot x left
-  leaves three spot x left e none = inr (record { is = e; none = none })
+  leaves : (kind : Kind) (spot : Spot) (x : LineData) (left : List LayoutPart) → behind rest (opening_of x) ≡ Some left → owed spot ≡ 0 → Moves kind spot x left
+  leaves kind spot x left e none = inr (record { is = e; none = none })
 
-  moves : (three : Bool) (spot : Spot) (x : LineData) (left : List LayoutPart) → behind (left_at three spot) (opening_of x) ≡ Some left → Moves three spot x left
-  moves three firsts (LineData.First p seat) left e = stays three firsts firsts (LineData.First p seat) left true e refl (λ some. not_some some) refl
-  moves true firsts (LineData.Rotation i pairs) left e = stays true firsts (needs 1) (LineData.Rotation i pairs) left (i == 1) e refl (λ some. not_some some) refl
-  moves false firsts (LineData.Rotation i pairs) left e = stays false firsts (needs 1) (LineData.Rotation i pairs) left (i == 1) e refl (λ some. not_some some) refl
-  moves three firsts x left e = leaves three firsts x left e refl
-  moves true (rotation n) (LineData.Rotation i pairs) left e = stays true (rotation n) (needs n) (LineData.Rotation i pairs) left (i == n) e refl (λ some. not_some some) refl
-  moves false (rotation n) (LineData.Rotation i pairs) left e = stays false (rotation n) (needs n) (LineData.Rotation i pairs) left (i == n) e refl (λ some. not_some some) refl
-  moves three (rotation n) x left e = leaves three (rotation n) x left e refl
-  moves true (needs n) (LineData.Needs i needed) left e = stays true (needs n) (gains n) (LineData.Needs i needed) left (i == n) e refl (λ some. refl) refl
-  moves false (needs n) (LineData.Needs i needed) left e = stays false (needs n) (rotation (n + 1)) (LineData.Needs i needed) left (i == n) e refl (λ some. refl) refl
-  moves three (needs n) _ left e = absurd (no_parts e)
-  moves true (gains n) (LineData.Gain i gain) left e = stays true (gains n) (rotation (n + 1)) (LineData.Gain i gain) left (i == n) e refl (λ some. not_some some) refl
-  moves true (gains n) _ left e = absurd (no_parts e)
-  moves false (gains n) (LineData.Rotation i pairs) left e = stays false (gains n) (needs n) (LineData.Rotation i pairs) left (i == n) e refl (λ some. not_some some) refl
-  moves false (gains n) x left e = leaves false (gains n) x left e refl
+  at_rotation : (kind : Kind) (n : ℕ) (x : LineData) (left : List LayoutPart) → behind (left_at kind (rotation n)) (opening_of x) ≡ Some left → Moves kind (rotation n) x left
+  at_rotation bare n (LineData.Rotation i pairs) left e = stays bare (rotation n) (needs n) (LineData.Rotation i pairs) left (i == n) e refl (λ some. not_some some) refl
+  at_rotation gained n (LineData.Rotation i pairs) left e = stays gained (rotation n) (needs n) (LineData.Rotation i pairs) left (i == n) e refl (λ some. not_some some) refl
+  at_rotation twice_gained n (LineData.Rotation i pairs) left e = stays twice_gained (rotation n) (needs n) (LineData.Rotation i pairs) left (i == n) e refl (λ some. not_some some) refl
+  at_rotation kind n x left e = leaves kind (rotation n) x left e refl
+
+  moves : (kind : Kind) (spot : Spot) (x : LineData) (left : List LayoutPart) → behind (left_at kind spot) (opening_of x) ≡ Some left → Moves kind spot x left
+  moves kind firsts (LineData.First p seat) left e = stays kind firsts firsts (LineData.First p seat) left true e refl (λ some. not_some some) refl
+  moves bare firsts (LineData.Rotation i pairs) left e = stays bare firsts (needs 1) (LineData.Rotation i pairs) left (i == 1) e refl (λ some. not_some some) refl
+  moves gained firsts (LineData.Rotation i pairs) left e = stays gained firsts (needs 1) (LineData.Rotation i pairs) left (i == 1) e refl (λ some. not_some some) refl
+  moves twice_gained firsts (LineData.Rotation i pairs) left e = stays twice_gained firsts (needs 1) (LineData.Rotation i pairs) left (i == 1) e refl (λ some. not_some some) refl
+  moves kind firsts x left e = leaves kind firsts x left e refl
+  moves kind (rotation n) x left e = at_rotation kind n x left e
+  moves bare (needs n) (LineData.Needs i list) left e = stays bare (needs n) (rotation (n + 1)) (LineData.Needs i list) left (i == n) e refl (λ some. refl) refl
+  moves gained (needs n) (LineData.Needs i list) left e = stays gained (needs n) (gains n) (LineData.Needs i list) left (i == n) e refl (λ some. refl) refl
+  moves twice_gained (needs n) (LineData.Needs i list) left e = stays twice_gained (needs n) (gains n) (LineData.Needs i list) left (i == n) e refl (λ some. refl) refl
+  moves kind (needs n) _ left e = absurd (no_parts e)
+  moves gained (gains n) (LineData.Gain i gain) left e = stays gained (gains n) (rotation (n + 1)) (LineData.Gain i gain) left (i == n) e refl (λ some. not_some some) refl
+  moves gained (gains n) _ left e = absurd (no_parts e)
+  moves twice_gained (gains n) (LineData.Gain i gain) left e = stays twice_gained (gains n) (second_gains n) (LineData.Gain i gain) left (i == n) e refl (λ some. not_some some) refl
+  moves twice_gained (gains n) _ left e = absurd (no_parts e)
+  moves bare (gains n) (LineData.Rotation i pairs) left e = stays bare (gains n) (needs n) (LineData.Rotation i pairs) left (i == n) e refl (λ some. not_some some) refl
+  moves bare (gains n) x left e = leaves bare (gains n) x left e refl
+  moves twice_gained (second_gains n) (LineData.SecondGain i gain) left e = stays twice_gained (second_gains n) (rotation (n + 1)) (LineData.SecondGain i gain) left (i == n) e refl (λ some. not_some some) refl
+  moves twice_gained (second_gains n) _ left e = absurd (no_parts e)
+  moves bare (second_gains n) (LineData.Rotation i pairs) left e = stays bare (second_gains n) (needs n) (LineData.Rotation i pairs) left (i == n) e refl (λ some. not_some some) refl
+  moves bare (second_gains n) x left e = leaves bare (second_gains n) x left e refl
+  moves gained (second_gains n) (LineData.Rotation i pairs) left e = stays gained (second_gains n) (needs n) (LineData.Rotation i pairs) left (i == n) e refl (λ some. not_some some) refl
+  moves gained (second_gains n) x left e = leaves gained (second_gains n) x left e refl
 
   -- at each line with what a rotation needs, that rotation is the last one above, and all others above have theirs
   pub record Turns (above lines : List LineData) : Type 0 where
@@ -177,32 +204,33 @@ module _ (w : Written) (rest : List LayoutPart) (out : AllOut rotation_words res
           ∙ ap (λ xs. filter_map said above ++ xs) (none_said is_up_to_rotations said none lines down) ∙ append-nil (filter_map said above)
 
   -- the lines of a layout from this spot on take turns, where above them as many rotations want their needs as the spot owes
-  pub turns : (three : Bool) (spot : Spot) (above lines : List LineData) → is_whole (left_at three spot ∷ []) (map opening_of lines) ≡ true → length (all_needs_in above) + owed spot ≡ length (rotations_in w above) → Turns above lines
-  turns three spot above [] e h = absurd (not_empty spot e)
+  pub turns : (kind : Kind) (spot : Spot) (above lines : List LineData) → is_whole (left_at kind spot ∷ []) (map opening_of lines) ≡ true → length (all_needs_in above) + owed spot ≡ length (rotations_in w above) → Turns above lines
+  turns kind spot above [] e h = absurd (not_empty spot e)
     where
-      not_empty : (spot : Spot) → is_whole (left_at three spot ∷ []) [] ≡ true → ⊥
+      not_empty : (spot : Spot) → is_whole (left_at kind spot ∷ []) [] ≡ true → ⊥
       not_empty firsts e = false≢true e
       not_empty (rotation i) e = false≢true e
       not_empty (needs i) e = false≢true e
       not_empty (gains i) e = false≢true e
-  turns three spot above (x ∷ xs) e h =
-      let g = goes (left_at three spot) (opening_of x) (map opening_of xs) e in
-      elim (moves three spot x g.left g.is) [
-        | inl m ↦ on m (turns three m.to (above ++ x ∷ []) xs (subst (λ (left : List LayoutPart). is_whole (left ∷ []) (map opening_of xs) ≡ true) m.is g.whole) (counted m))
+      not_empty (second_gains i) e = false≢true e
+  turns kind spot above (x ∷ xs) e h =
+      let g = goes (left_at kind spot) (opening_of x) (map opening_of xs) e in
+      elim (moves kind spot x g.left g.is) [
+        | inl m ↦ on m (turns kind m.to (above ++ x ∷ []) xs (subst (λ (left : List LayoutPart). is_whole (left ∷ []) (map opening_of xs) ≡ true) m.is g.whole) (counted m))
         | inr m ↦ out_turns above (x ∷ xs) (back g.left m.is g.whole) (let o = m.none in omega (arith, h, o))
       ]
     where
       back : (left : List LayoutPart) → behind rest (opening_of x) ≡ Some left → is_whole (left ∷ []) (map opening_of xs) ≡ true → is_whole (rest ∷ []) (map opening_of (x ∷ xs)) ≡ true
       back left is whole = ap (λ (o : Option (List LayoutPart)). list_any is_empty (left_behind (cons_option o []) (map opening_of xs))) is ∙ whole
 
-      counted : {left : List LayoutPart} (m : Stays three spot x left) → length (all_needs_in (above ++ x ∷ [])) + owed m.to ≡ length (rotations_in w (above ++ x ∷ []))
+      counted : {left : List LayoutPart} (m : Stays kind spot x left) → length (all_needs_in (above ++ x ∷ [])) + owed m.to ≡ length (rotations_in w (above ++ x ∷ []))
       counted m =
           let one = said_more needs_in above x in
           let other = said_more (rotation_in w) above x in
           let c = m.counts in
           omega (arith, h)
 
-      on : {left : List LayoutPart} → Stays three spot x left → Turns (above ++ x ∷ []) xs → Turns above (x ∷ xs)
+      on : {left : List LayoutPart} → Stays kind spot x left → Turns (above ++ x ∷ []) xs → Turns above (x ∷ xs)
       on m deep = record {
         at = at;
         all = subst (λ (ls : List LineData). length (all_needs_in ls) ≡ length (rotations_in w ls)) (append_assoc above (x ∷ []) xs) deep.all;

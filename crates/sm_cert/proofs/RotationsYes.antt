@@ -1,5 +1,5 @@
 -- What a yes on an answer of `rotations` means.
-use Rattle.std.proofs.Common.{◌≡◌, ℕ, ◌+◌, ◌<◌, ◌≤◌, ◌⊎◌, inl, inr, arith, refl, sym, ap, ◌∙◌, true, false, List, [], ◌∷◌, ◌++◌, length, map, take, drop, get_or, Option, Some, None, IsSome, subst, length-append, ⊎_elim}
+use Rattle.std.proofs.Common.{◌≡◌, ℕ, ◌<◌, ◌≤◌, inl, inr, arith, refl, sym, ap, ◌∙◌, true, List, [], ◌∷◌, ◌++◌, length, map, take, drop, get_or, Option, Some, None, IsSome, subst, length-append, ⊎_elim}
 use Rattle.std.specs.Prelude.{IfSome}
 use Rattle.std.specs.List.{slice_get}
 use Rattle.std.proofs.lemmas.Bool.{cases_lt}
@@ -31,14 +31,14 @@ use Rattle.sm_check_weight.proofs.NeedsLemmas.{needs_of_all}
 use Rattle.sm_cert.specs.Yes.{ArePairsOf, RotationsYes}
 use Rattle.sm_cert.proofs.GroupLemmas.{AllOut, Begins, Parted, parted_behind, said_up, said_then, stands_behind}
 use Rattle.sm_cert.proofs.SeatYes.{first_words, firsts_tell, no_first, free_seats}
-use Rattle.sm_cert.proofs.RotationLines.{rotation_words, rotations_tell, first_up, rotation_up, Spot, Turns, turns, turns_from}
+use Rattle.sm_cert.proofs.RotationLines.{rotation_words, rotations_tell, first_up, rotation_up, Kind, Spot, Turns, turns, turns_from}
 use Rattle.sm_cert.proofs.YesLines.{IsRight, by_head, right_two, each_line, grown}
 
 firsts_begin : Begins first_words rotations_layout
-firsts_begin = inl (refl, inr (((refl, omega arith), (refl, omega arith), (refl, omega arith)), ((refl, omega arith), tt)))
+firsts_begin = inl (refl, inr (((refl, refl), (refl, refl), (refl, refl), (refl, refl)), ((refl, refl), tt)))
 
 rotations_begin : Begins rotation_words rotations_layout
-rotations_begin = inl (refl, inl ((refl, refl, refl), inr ((refl, omega arith), tt)))
+rotations_begin = inl (refl, inl ((refl, refl, refl, refl), inr ((refl, refl), tt)))
 
 -- Each rotation is the next one at its turn.
 module _ (l : Lists) (first : Places) where
@@ -169,13 +169,13 @@ module _ {subject : Subject} {lines : List LineData} (w : Written) (r : IsRight 
           record { chain = printed; one_each = t.all; needs = λ j less. all j (let same = t.all in omega arith) }
 
 closing_out : AllOut rotation_words closing
-closing_out = ((refl, omega arith), tt)
+closing_out = ((refl, refl), tt)
 
 -- behind the head
 turns_behind : (w : Written) (rest : List LineData) → is_whole (rotations_layout ∷ []) (map opening_of rest) ≡ true → Turns w closing closing_out [] (LineData.Answer HeadData.Rotations ∷ rest)
 turns_behind w rest placed =
     turns_from w closing closing_out (LineData.Answer HeadData.Rotations) refl refl refl
-    (turns w closing closing_out false Spot.firsts (LineData.Answer HeadData.Rotations ∷ []) rest placed refl)
+    (turns w closing closing_out Kind.bare Spot.firsts (LineData.Answer HeadData.Rotations ∷ []) rest placed refl)
 
 -- the law of a yes on `rotations`
 pub rotations_yes : RotationsYes

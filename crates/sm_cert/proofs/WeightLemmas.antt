@@ -86,7 +86,7 @@ module _ (above : List LineData) (x : LineData) where
       → ((why : Reason) → TakenHolds three_by_three (first_level three_by_three Given above) above x why)
       → ((why : Reason) → WantedHold three_by_three (taken_matching three_by_three above) (pairs_in above) x why)
       → (why : Reason) → WeightHolds three_by_three Given above x why
-  together f c l t p why = (f why, c why, l why, t why, p why)
+  together f c l t p why = (f why, c why, l why, l why, t why, p why)
 
 -- The chain.
 abbrev first_rotation : List (ℕ × ℕ)
@@ -432,7 +432,7 @@ lost_taken reason.NotLeast h = absurd (omega (arith, h))
 lost_taken _ h = tt
 
 lost_before : (why : Reason) → number_of_reason why < 11 → WeightHolds three_by_three Given lost_above set why
-lost_before why h = (firsts_late lost_above set refl refl why, chain_late lost_above set refl refl none_left why, lost_level why h, lost_taken why h, wanted_quiet lost_above set refl refl why)
+lost_before why h = (firsts_late lost_above set refl refl why, chain_late lost_above set refl refl none_left why, lost_level why h, lost_level why h, lost_taken why h, wanted_quiet lost_above set refl refl why)
 
 -- A flow that doesn't come up to the cut.
 abbrev low_above : ℕ → List LineData
@@ -459,6 +459,7 @@ low_before : (why : Reason) → number_of_reason why < 15 → WeightHolds three_
 low_before why h = (
   firsts_late (low_above 15) (LineData.Cut 4) refl refl why,
   chain_late (low_above 15) (LineData.Cut 4) refl refl none_left why,
+  low_level why h,
   low_level why h,
   taken_quiet (low_above 15) (LineData.Cut 4) refl refl why,
   wanted_quiet (low_above 15) (LineData.Cut 4) refl refl why,

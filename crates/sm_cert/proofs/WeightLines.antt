@@ -1,5 +1,5 @@
--- The lines of an answer of `weight` behind its flow.
-use Rattle.std.proofs.Common.{◌≡◌, ℕ, ◌+◌, ◌==◌, ◌||◌, ◌⊎◌, inl, inr, arith, refl, sym, ap, ◌∙◌, Bool, true, false, List, [], ◌∷◌, ◌++◌, map, Option, Some, None, if◌then◌else◌, subst, append_assoc, ℤ}
+-- The lines of an answer of `weight` behind its flows.
+use Rattle.std.proofs.Common.{◌≡◌, ℕ, ◌==◌, ◌||◌, ◌⊎◌, inl, inr, arith, refl, sym, ap, ◌∙◌, Bool, true, false, List, [], ◌∷◌, ◌++◌, map, Option, Some, None, if◌then◌else◌, subst, append_assoc, ℤ}
 use Rattle.std.specs.Prelude.{filter_map}
 use Rattle.std.specs.List.{cons_option, list_all, list_any}
 use Rattle.std.proofs.lemmas.Bool.{false≢true, and_from}
@@ -16,8 +16,8 @@ use Rattle.sm_check_forms.specs.Keywords.{keyword_number}
 use Rattle.sm_report.specs.Keywords.{keyword_of}
 use Rattle.sm_check_forms.specs.Layouts.{begins, behind, left_behind, is_empty, is_whole}
 use Rattle.sm_check_forms.specs.Forms.{closing, opening_of}
-use Rattle.sm_check_answers.specs.Said.{taken_in, value_in, total_in, is_up_to_rotations}
-use Rattle.sm_cert.proofs.GroupLemmas.{Tells, Parted, goes, all_down, none_said, none_up}
+use Rattle.sm_check_answers.specs.Said.{taken_in, value_in, second_value_in, total_in, second_total_in, is_up_to_rotations}
+use Rattle.sm_cert.proofs.GroupLemmas.{AllOut, Tells, Parted, goes, all_down, none_said, none_up}
 use Rattle.sm_cert.proofs.RotationLines.{Splits, one_split}
 
 -- Parts of a layout, one after the other.
@@ -60,38 +60,58 @@ one_peel word rest (x ∷ xs) e =
     go true b left is whole = record { line = x; others = xs; is = refl; opens = b; whole = subst (λ (parts : List LayoutPart). is_whole (parts ∷ []) (map opening_of xs) ≡ true) (sym (same_Some _ _ is)) whole }
     go false b left is whole = absurd (no_parts is)
 
--- The lines up to the flow, and those up to the total.
+-- The lines up to the flow, those up to both flows, and those up to the totals.
 
 -- the keywords up to the flow
 abbrev pub flow_words : ℕ → Bool
-flow_words n = (n == 3) || ((n == 7) || ((n == 8) || ((n == 9) || (n == 10))))
+flow_words n = (n == 3) || ((n == 7) || ((n == 8) || ((n == 9) || ((n == 28) || (n == 10)))))
 
 -- a line stands up to the flow
-abbrev pub is_up_to_flows : LineData → Bool
-is_up_to_flows (LineData.Flow from to amount) = true
-is_up_to_flows line = is_up_to_rotations line
+abbrev pub is_up_to_flow : LineData → Bool
+is_up_to_flow (LineData.Flow from to amount) = true
+is_up_to_flow line = is_up_to_rotations line
 
 -- the test of lines up to the flow tells these keywords
-pub flows_tell : Tells flow_words is_up_to_flows
-flows_tell = record { other = refl; same = same }
+pub flow_tells : Tells flow_words is_up_to_flow
+flow_tells = record { other = refl; same = same }
   where
-    same : (x : LineData) → (is_up_to_flows x ≡ flow_words (keyword_number (keyword_of x))) ⊎ (keyword_number (keyword_of x) ≡ 21)
+    same : (x : LineData) → (is_up_to_flow x ≡ flow_words (keyword_number (keyword_of x))) ⊎ (keyword_number (keyword_of x) ≡ 21)
     same (LineData.Answer head) = inr refl
     same _ = inl refl
 
--- the keywords up to the total
-abbrev pub total_words : ℕ → Bool
-total_words n = flow_words n || ((n == 11) || ((n == 12) || ((n == 13) || (n == 14))))
+-- the keywords up to both flows
+abbrev pub flows_words : ℕ → Bool
+flows_words n = flow_words n || (n == 29)
 
--- a line stands up to the total
+-- a line stands up to both flows
+abbrev pub is_up_to_flows : LineData → Bool
+is_up_to_flows (LineData.SecondFlow from to amount) = true
+is_up_to_flows line = is_up_to_flow line
+
+-- the test of lines up to the flows tells these keywords
+pub flows_tell : Tells flows_words is_up_to_flows
+flows_tell = record { other = refl; same = same }
+  where
+    same : (x : LineData) → (is_up_to_flows x ≡ flows_words (keyword_number (keyword_of x))) ⊎ (keyword_number (keyword_of x) ≡ 21)
+    same (LineData.Answer head) = inr refl
+    same _ = inl refl
+
+-- the keywords up to the totals
+abbrev pub total_words : ℕ → Bool
+total_words n = flows_words n || ((n == 11) || ((n == 12) || ((n == 13) || ((n == 14) || ((n == 30) || ((n == 31) || (n == 32)))))))
+
+-- a line stands up to the totals
 abbrev pub is_up_to_totals : LineData → Bool
 is_up_to_totals (LineData.Taken taken) = true
 is_up_to_totals (LineData.Value value) = true
 is_up_to_totals (LineData.Cut value) = true
 is_up_to_totals (LineData.Total weight) = true
+is_up_to_totals (LineData.SecondValue value) = true
+is_up_to_totals (LineData.SecondCut value) = true
+is_up_to_totals (LineData.SecondTotal weight) = true
 is_up_to_totals line = is_up_to_flows line
 
--- the test of lines up to the total tells these keywords
+-- the test of lines up to the totals tells these keywords
 pub totals_tell : Tells total_words is_up_to_totals
 totals_tell = record { other = refl; same = same }
   where
@@ -99,17 +119,18 @@ totals_tell = record { other = refl; same = same }
     same (LineData.Answer head) = inr refl
     same _ = inl refl
 
-opens_flow : (x : LineData) → begins (opening_of x) keyword.Flow ≡ true → is_up_to_flows x ≡ true
-opens_flow (LineData.Flow from to amount) e = refl
-opens_flow _ e = absurd (false≢true e)
-
 flow_too : (x : LineData) → is_up_to_rotations x ≡ true → is_up_to_flows x ≡ true
 flow_too (LineData.Answer head) e = refl
 flow_too (LineData.First p seat) e = refl
 flow_too (LineData.Rotation i pairs) e = refl
 flow_too (LineData.Needs i needed) e = refl
 flow_too (LineData.Gain i gain) e = refl
+flow_too (LineData.SecondGain i gain) e = refl
 flow_too _ e = absurd (false≢true e)
+
+opens_second_flow : (x : LineData) → begins (opening_of x) keyword.SecondFlow ≡ true → is_up_to_flows x ≡ true
+opens_second_flow (LineData.SecondFlow from to amount) e = refl
+opens_second_flow _ e = absurd (false≢true e)
 
 opens_taken : (x : LineData) → begins (opening_of x) keyword.Taken ≡ true → (t : List ℕ) × (x ≡ LineData.Taken t)
 opens_taken (LineData.Taken t) e = (t, refl)
@@ -127,6 +148,18 @@ opens_total : (x : LineData) → begins (opening_of x) keyword.Total ≡ true �
 opens_total (LineData.Total z) e = (z, refl)
 opens_total _ e = absurd (false≢true e)
 
+opens_second_value : (x : LineData) → begins (opening_of x) keyword.SecondValue ≡ true → (v : ℕ) × (x ≡ LineData.SecondValue v)
+opens_second_value (LineData.SecondValue v) e = (v, refl)
+opens_second_value _ e = absurd (false≢true e)
+
+opens_second_cut : (x : LineData) → begins (opening_of x) keyword.SecondCut ≡ true → (v : ℕ) × (x ≡ LineData.SecondCut v)
+opens_second_cut (LineData.SecondCut v) e = (v, refl)
+opens_second_cut _ e = absurd (false≢true e)
+
+opens_second_total : (x : LineData) → begins (opening_of x) keyword.SecondTotal ≡ true → (z : ℤ) × (x ≡ LineData.SecondTotal z)
+opens_second_total (LineData.SecondTotal z) e = (z, refl)
+opens_second_total _ e = absurd (false≢true e)
+
 all_too : (p q : LineData → Bool) (xs : List LineData) → ((x : LineData) → p x ≡ true → q x ≡ true) → list_all p xs ≡ true → list_all q xs ≡ true
 all_too p q [] more h = refl
 all_too p q (x ∷ xs) more h = let parts = and_parts (p x) (list_all p xs) h in and_from (q x) (list_all q xs) (more x parts.0) (all_too p q xs more parts.1)
@@ -134,18 +167,28 @@ all_too p q (x ∷ xs) more h = let parts = and_parts (p x) (list_all p xs) h in
 all_both : (q : LineData → Bool) (xs ys : List LineData) → list_all q xs ≡ true → list_all q ys ≡ true → list_all q (xs ++ ys) ≡ true
 all_both q xs ys a b = list_all-append q xs ys ∙ and_from (list_all q xs) (list_all q ys) a b
 
--- The four lines behind the flow.
+-- The four lines behind the flows, and in two levels three more.
 
--- the layout behind the total: the pairs and the end
+-- the layout behind the totals: the pairs and the end
 abbrev pub pairs_left : List LayoutPart
 pairs_left = Many keyword.Pair ∷ closing
 
--- the layout behind the flow: the set that is taken, the value, the cut, the total and the rest
-abbrev pub behind_flow : List LayoutPart
-behind_flow = One keyword.Taken ∷ One keyword.Value ∷ One keyword.Cut ∷ One keyword.Total ∷ pairs_left
+-- the layout behind the first total
+abbrev pub behind_total : (two : Bool) → List LayoutPart
+behind_total true = One keyword.SecondValue ∷ One keyword.SecondCut ∷ One keyword.SecondTotal ∷ pairs_left
+behind_total false = pairs_left
 
--- lines up to the flow, the four lines one after another, and a whole rest
-pub record FourLines (lines : List LineData) : Type 0 where
+-- the layout behind the flows: the set that is taken, the value, the cut, the total and the rest
+abbrev pub behind_flows : (two : Bool) → List LayoutPart
+behind_flows two = One keyword.Taken ∷ One keyword.Value ∷ One keyword.Cut ∷ One keyword.Total ∷ behind_total two
+
+-- the layout behind the rotations
+abbrev pub behind_rotations : (two : Bool) → List LayoutPart
+behind_rotations true = Many keyword.Flow ∷ Many keyword.SecondFlow ∷ behind_flows true
+behind_rotations false = Many keyword.Flow ∷ behind_flows false
+
+-- lines up to the flows, the four lines one after another, and a whole rest
+pub record FourLines (two : Bool) (lines : List LineData) : Type 0 where
   pub above : List LineData
   pub taken : List ℕ
   pub value : ℕ
@@ -154,14 +197,14 @@ pub record FourLines (lines : List LineData) : Type 0 where
   pub below : List LineData
   pub is : lines ≡ above ++ LineData.Taken taken ∷ LineData.Value value ∷ LineData.Cut cut ∷ LineData.Total total ∷ below
   pub ups : list_all is_up_to_flows above ≡ true
-  pub whole : is_whole (pairs_left ∷ []) (map opening_of below) ≡ true
+  pub whole : is_whole (behind_total two ∷ []) (map opening_of below) ≡ true
 
-four_of : (lines : List LineData) → Splits is_up_to_flows behind_flow lines → FourLines lines
-four_of lines s =
-    let a = one_peel keyword.Taken (One keyword.Value ∷ One keyword.Cut ∷ One keyword.Total ∷ pairs_left) s.below s.whole in
-    let b = one_peel keyword.Value (One keyword.Cut ∷ One keyword.Total ∷ pairs_left) a.others a.whole in
-    let c = one_peel keyword.Cut (One keyword.Total ∷ pairs_left) b.others b.whole in
-    let d = one_peel keyword.Total pairs_left c.others c.whole in
+four_of : (two : Bool) (lines : List LineData) → Splits is_up_to_flows (behind_flows two) lines → FourLines two lines
+four_of two lines s =
+    let a = one_peel keyword.Taken (One keyword.Value ∷ One keyword.Cut ∷ One keyword.Total ∷ behind_total two) s.below s.whole in
+    let b = one_peel keyword.Value (One keyword.Cut ∷ One keyword.Total ∷ behind_total two) a.others a.whole in
+    let c = one_peel keyword.Cut (One keyword.Total ∷ behind_total two) b.others b.whole in
+    let d = one_peel keyword.Total (behind_total two) c.others c.whole in
     let t = opens_taken a.line a.opens in
     let v = opens_value b.line b.opens in
     let u = opens_cut c.line c.opens in
@@ -179,17 +222,58 @@ four_of lines s =
       whole = d.whole;
     }
 
--- the lines of an answer whose layout goes on with a flow have these four behind it
-pub four_lines : (lines : List LineData) → Splits is_up_to_rotations (Many keyword.Flow ∷ behind_flow) lines → FourLines lines
-four_lines lines s =
-    let f = many_split keyword.Flow is_up_to_flows behind_flow s.below opens_flow s.whole in
-    four_of lines (record {
-      before = s.before ++ f.before;
-      below = f.below;
-      is = s.is ∙ ap (λ (ls : List LineData). s.before ++ ls) f.is ∙ sym (append_assoc s.before f.before f.below);
-      ups = all_both is_up_to_flows s.before f.before (all_too is_up_to_rotations is_up_to_flows s.before flow_too s.ups) f.ups;
-      whole = f.whole;
-    })
+-- the lines up to somewhere further, which all lines up to the first place are
+further : (up more : LineData → Bool) (rest : List LayoutPart) (lines : List LineData) → ((x : LineData) → up x ≡ true → more x ≡ true) → (s : Splits up rest lines) → {left : List LayoutPart} → Splits more left s.below → Splits more left lines
+further up more rest lines too s f = record {
+  before = s.before ++ f.before;
+  below = f.below;
+  is = s.is ∙ ap (λ (ls : List LineData). s.before ++ ls) f.is ∙ sym (append_assoc s.before f.before f.below);
+  ups = all_both more s.before f.before (all_too up more s.before too s.ups) f.ups;
+  whole = f.whole;
+}
+
+opens_flows : (x : LineData) → begins (opening_of x) keyword.Flow ≡ true → is_up_to_flows x ≡ true
+opens_flows (LineData.Flow from to amount) e = refl
+opens_flows _ e = absurd (false≢true e)
+
+same_too : (x : LineData) → is_up_to_flows x ≡ true → is_up_to_flows x ≡ true
+same_too x e = e
+
+-- the lines of an answer whose layout goes on with the flows have these four behind them
+pub four_lines : (two : Bool) (lines : List LineData) → Splits is_up_to_rotations (behind_rotations two) lines → FourLines two lines
+four_lines false lines s =
+    four_of false lines (further is_up_to_rotations is_up_to_flows (behind_rotations false) lines flow_too s (many_split keyword.Flow is_up_to_flows (behind_flows false) s.below opens_flows s.whole))
+four_lines true lines s =
+    let flow : Splits is_up_to_flows (Many keyword.SecondFlow ∷ behind_flows true) lines =
+    further is_up_to_rotations is_up_to_flows (behind_rotations true) lines flow_too s (many_split keyword.Flow is_up_to_flows (Many keyword.SecondFlow ∷ behind_flows true) s.below opens_flows s.whole) in
+    four_of true lines (further is_up_to_flows is_up_to_flows (Many keyword.SecondFlow ∷ behind_flows true) lines same_too flow (many_split keyword.SecondFlow is_up_to_flows (behind_flows true) flow.below opens_second_flow flow.whole))
+
+-- the three lines of the second level
+pub record ThreeLines (lines : List LineData) : Type 0 where
+  pub value : ℕ
+  pub cut : ℕ
+  pub total : ℤ
+  pub below : List LineData
+  pub is : lines ≡ LineData.SecondValue value ∷ LineData.SecondCut cut ∷ LineData.SecondTotal total ∷ below
+  pub whole : is_whole (pairs_left ∷ []) (map opening_of below) ≡ true
+
+-- behind the first total in two levels
+pub three_lines : (lines : List LineData) → is_whole (behind_total true ∷ []) (map opening_of lines) ≡ true → ThreeLines lines
+three_lines lines whole =
+    let a = one_peel keyword.SecondValue (One keyword.SecondCut ∷ One keyword.SecondTotal ∷ pairs_left) lines whole in
+    let b = one_peel keyword.SecondCut (One keyword.SecondTotal ∷ pairs_left) a.others a.whole in
+    let c = one_peel keyword.SecondTotal pairs_left b.others b.whole in
+    let v = opens_second_value a.line a.opens in
+    let u = opens_second_cut b.line b.opens in
+    let z = opens_second_total c.line c.opens in
+    record {
+      value = v.0;
+      cut = u.0;
+      total = z.0;
+      below = c.others;
+      is = a.is ∙ (λ i. v.1 i ∷ (b.is ∙ (λ j. u.1 j ∷ (c.is ∙ (λ m. z.1 m ∷ c.others)) j)) i);
+      whole = c.whole;
+    }
 
 -- One total is said, and the first set that is taken is that of its line.
 
@@ -220,11 +304,38 @@ no_value_up : (x : LineData) → is_up_to_flows x ≡ true → value_in x ≡ No
 no_value_up (LineData.Value value) e = absurd (false≢true e)
 no_value_up _ e = refl
 
+no_second_value_up : (x : LineData) → is_up_to_flows x ≡ true → second_value_in x ≡ None
+no_second_value_up (LineData.SecondValue value) e = absurd (false≢true e)
+no_second_value_up _ e = refl
+
+no_second_total_up : (x : LineData) → is_up_to_flows x ≡ true → second_total_in x ≡ None
+no_second_total_up (LineData.SecondTotal weight) e = absurd (false≢true e)
+no_second_total_up _ e = refl
+
 no_taken_up : (x : LineData) → is_up_to_flows x ≡ true → taken_in x ≡ None
 no_taken_up (LineData.Taken taken) e = absurd (false≢true e)
 no_taken_up _ e = refl
 
-module _ {lines : List LineData} (f : FourLines lines) where
+second_totals : ℕ → Bool
+second_totals n = n == 32
+
+abbrev is_second_total : LineData → Bool
+is_second_total (LineData.SecondTotal weight) = true
+is_second_total _ = false
+
+second_total_tells : Tells second_totals is_second_total
+unfolding second_totals
+second_total_tells = record { other = refl; same = same }
+  where
+    same : (x : LineData) → (is_second_total x ≡ second_totals (keyword_number (keyword_of x))) ⊎ (keyword_number (keyword_of x) ≡ 21)
+    same (LineData.SecondTotal weight) = inl refl
+    same _ = inl refl
+
+no_second_total : (x : LineData) → is_second_total x ≡ false → second_total_in x ≡ None
+no_second_total (LineData.SecondTotal weight) e = absurd (false≢true (sym e))
+no_second_total _ e = refl
+
+module _ {two : Bool} {lines : List LineData} (f : FourLines two lines) where
   -- the lines above say no set
   pub no_taken_above : filter_map taken_in f.above ≡ []
   no_taken_above = none_up is_up_to_flows taken_in no_taken_up f.above f.ups
@@ -233,21 +344,43 @@ module _ {lines : List LineData} (f : FourLines lines) where
   pub no_value_above : filter_map value_in f.above ≡ []
   no_value_above = none_up is_up_to_flows value_in no_value_up f.above f.ups
 
+  -- nor a second one
+  pub no_second_value_above : filter_map second_value_in f.above ≡ []
+  no_second_value_above = none_up is_up_to_flows second_value_in no_second_value_up f.above f.ups
+
+  total_out : (b : Bool) → AllOut totals (behind_total b)
+  unfolding totals
+  total_out true = ((refl, refl), ((refl, refl), ((refl, refl), ((refl, refl), ((refl, refl), tt)))))
+  total_out false = ((refl, refl), ((refl, refl), tt))
+
   -- all lines together say one total
   pub one_total : filter_map total_in lines ≡ f.total ∷ []
-  unfolding totals
   one_total =
       ap (filter_map total_in) f.is
       ∙ filter_map-append total_in f.above (LineData.Taken f.taken ∷ LineData.Value f.value ∷ LineData.Cut f.cut ∷ LineData.Total f.total ∷ f.below)
       ∙ ap (λ xs. xs ++ f.total ∷ filter_map total_in f.below) (none_up is_up_to_flows total_in no_total_up f.above f.ups)
-      ∙ ap (λ xs. f.total ∷ xs) (none_said is_total total_in no_total f.below (all_down total_tells pairs_left f.below ((refl, omega arith), ((refl, omega arith), tt)) f.whole))
+      ∙ ap (λ xs. f.total ∷ xs) (none_said is_total total_in no_total f.below (all_down total_tells (behind_total two) f.below (total_out two) f.whole))
 
-  -- the lines up to the flow, and those behind it
+  pub flows_out : (b : Bool) → AllOut flows_words (behind_total b)
+  flows_out true = ((refl, refl), ((refl, refl), ((refl, refl), ((refl, refl), ((refl, refl), tt)))))
+  flows_out false = ((refl, refl), ((refl, refl), tt))
+
+  -- the lines up to the flows, and those behind them
   abbrev pub flows_parted : Parted is_up_to_flows lines
   flows_parted = record {
     above = f.above;
     below = LineData.Taken f.taken ∷ LineData.Value f.value ∷ LineData.Cut f.cut ∷ LineData.Total f.total ∷ f.below;
     is = f.is;
     ups = f.ups;
-    downs = (refl, (refl, (refl, (refl, all_down flows_tell pairs_left f.below ((refl, omega arith), ((refl, omega arith), tt)) f.whole))));
+    downs = (refl, (refl, (refl, (refl, all_down flows_tell (behind_total two) f.below (flows_out two) f.whole))));
   }
+
+  -- in two levels they say one second total
+  pub one_second_total : (t : ThreeLines f.below) → filter_map second_total_in lines ≡ t.total ∷ []
+  unfolding second_totals
+  one_second_total t =
+      ap (filter_map second_total_in) f.is
+      ∙ filter_map-append second_total_in f.above (LineData.Taken f.taken ∷ LineData.Value f.value ∷ LineData.Cut f.cut ∷ LineData.Total f.total ∷ f.below)
+      ∙ ap (λ xs. xs ++ filter_map second_total_in f.below) (none_up is_up_to_flows second_total_in no_second_total_up f.above f.ups)
+      ∙ ap (filter_map second_total_in) t.is
+      ∙ ap (λ xs. t.total ∷ xs) (none_said is_second_total second_total_in no_second_total t.below (all_down second_total_tells pairs_left t.below ((refl, refl), ((refl, refl), tt)) t.whole))

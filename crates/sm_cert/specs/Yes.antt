@@ -1,10 +1,10 @@
 -- What a yes on an answer means.
-use Rattle.std.specs.Prelude.{◌≡◌, ◌≢◌, ℕ, ◌+◌, ◌<◌, ◌≤◌, ◌↔◌, List, [], ◌∷◌, length, filter_map, Option, None, Some, slice_index_or, Contains, ℤ}
+use Rattle.std.specs.Prelude.{◌≡◌, ◌≢◌, ℕ, ◌+◌, ◌<◌, ◌≤◌, ◌↔◌, List, [], ◌∷◌, length, filter_map, Option, None, Some, slice_index_or, Contains, Bool, true}
 use Rattle.std.specs.List.{slice_get}
 use Rattle.sm_instance.specs.Written.{Written, AgentData, lists_of}
 use Rattle.sm_instance.specs.Stable.{IsStable, IsBestOf}
 use Rattle.sm_instance.specs.Allowed.{IsAllowed}
-use Rattle.sm_instance.specs.Ranks.{IsBefore, regret_of, weight_of, order_of}
+use Rattle.sm_instance.specs.Ranks.{IsBefore, regret_of, weight_of, second_of, order_of}
 use Rattle.sm_instance.specs.declared.kinds.Measure.{Measure}
 use Rattle.sm_instance.specs.Sound.{IsInstance}
 use Rattle.sm_instance.specs.declared.kinds.Side.{Side}
@@ -15,12 +15,17 @@ use Rattle.sm_market.specs.Matching.{Places, held}
 use Rattle.sm_market.specs.Stable.{IsProposersBest, IsReviewersBest}
 use Rattle.sm_market.specs.Reduced.{reduced_lists_of}
 use Rattle.sm_theory.specs.Chains.{IsPrintedChain, AreNeedsOf}
+use Rattle.sm_theory.specs.Net.{Net, cut_of}
+use Rattle.sm_theory.specs.Flows.{IsFlow, flow_value}
+use Rattle.sm_theory.specs.FlowLines.{amount_on}
+use Rattle.sm_theory.specs.declared.flow_lines.FlowLine.{FlowLine}
 use Rattle.sm_theory.specs.Listings.{IsBehind}
 use Rattle.sm_theory.specs.Rooms.{mate_of, IsRoomStable}
 use Rattle.sm_theory.specs.declared.choice.Choice.{Choice}
 use Rattle.sm_theory.specs.declared.choice.Choice.TheVariants.{Better, Worse}
 use Rattle.sm_seats.specs.SeatMarket.{seat_market}
 use Rattle.sm_seats.specs.Vectors.{IsAllowedRankVector}
+use Rattle.sm_placed.specs.Levels.{has_two_levels}
 use Rattle.sm_lists.specs.Pairs.{pair_at}
 use Rattle.sm_pairs.specs.Chosen.{chosen_places}
 use Rattle.sm_report.specs.Heads.{HeadData}
@@ -28,10 +33,11 @@ use Rattle.sm_report.specs.Lines.{LineData}
 use Rattle.sm_check_answers.specs.declared.verdicts.Verdict.TheVariants as verdict
 use Rattle.sm_check_answers.specs.Verdicts.{IsVerdict}
 use Rattle.sm_check_forms.specs.Forms.{AreAnswer}
-use Rattle.sm_check_answers.specs.Said.{pairs_in, firsts_in, lasts_in, proposer_lists_in, reviewer_lists_in, rotations_in, all_needs_in, lefts_in, rights_in, regret_in, total_in, vectors_in}
+use Rattle.sm_check_answers.specs.Said.{pairs_in, firsts_in, lasts_in, proposer_lists_in, reviewer_lists_in, rotations_in, all_needs_in, lefts_in, rights_in, regret_in, total_in, second_total_in, vectors_in}
 use Rattle.sm_check_answers.specs.Chain.{HasOneEach, owners, IsRowOf}
 use Rattle.sm_check_answers.specs.Judging.{Holds}
-use Rattle.sm_instance.specs.Lightest.{IsLightest}
+use Rattle.sm_check_answers.specs.Flows.{net_in, flow_of, first_level, second_level, taken_set}
+use Rattle.sm_instance.specs.Lightest.{IsLightestByBoth}
 
 -- an answer with this head that gets a yes
 pub record GetsYes (input : Input) (head : HeadData) (lines : List LineData) : Type 0 where
@@ -157,14 +163,24 @@ pub record IsChainWritten (w : Written) (lines : List LineData) : Type 0 where
 abbrev pub RotationsYes : Type 0
 RotationsYes = (w : Written) (lines : List LineData) → IsInstance w → GetsYes (Two w) HeadData.Rotations lines → IsChainWritten w lines
 
--- and its weight
-pub record HasLightestWeight (by : Measure) (w : Written) (totals : List ℤ) (pairs : List (ℕ × ℕ)) : Type 0 where
+-- a flow within the rooms of a net that is conserved at each rotation, and whose value is the cut of a set
+pub record IsFullFlow (net : Net) (lines : List FlowLine) (set : List Bool) : Type 0 where
+  pub is_flow : IsFlow net (amount_on lines)
+  pub full : flow_value net (amount_on lines) ≡ cut_of net set
+
+-- an allowed stable matching than which none is lighter by both sums, the best for the proposers of those that have its sums, with these;
+-- the flow that is written fills the cut of the set that is taken, and in two levels the second flow does so in its second net
+pub record HasLightestWeight (by : Measure) (w : Written) (lines : List LineData) : Type 0 where
   pub places : List (Option ℕ)
-  pub lightest : IsLightest by w places
-  pub total : totals ≡ weight_of by w places ∷ []
-  pub written : ArePairsOf (lists_of w.proposers) places pairs
+  pub lightest : IsLightestByBoth by w places
+  pub total : filter_map total_in lines ≡ weight_of by w places ∷ []
+  pub second_total : has_two_levels by w ≡ true → filter_map second_total_in lines ≡ second_of by w places ∷ []
+  pub flow : IsFullFlow (net_in w by lines) (flow_of w (first_level w by lines) lines) (taken_set w lines)
+  pub second_flow : has_two_levels by w ≡ true
+      → IsFullFlow (second_level w by lines).net (flow_of w (second_level w by lines) lines) (taken_set w lines)
+  pub written : ArePairsOf (lists_of w.proposers) places (pairs_in lines)
 
 -- a yes on `weight`
 abbrev pub WeightYes : Type 0
 WeightYes = (w : Written) (by : Measure) (lines : List LineData) → IsInstance w
-    → GetsYes (Two w) (HeadData.Weight by) lines → HasLightestWeight by w (filter_map total_in lines) (pairs_in lines)
+    → GetsYes (Two w) (HeadData.Weight by) lines → HasLightestWeight by w lines

@@ -3,7 +3,7 @@ use Rattle.std.specs.Prelude.{◌≡◌, ℕ, suc, ◌+◌, ◌≤◌, ◌==◌,
 use Rattle.std.specs.List.{range_with_len, list_any}
 use Rattle.sm_instance.specs.Written.{Written}
 use Rattle.sm_instance.specs.Allowed.{IsAllowed}
-use Rattle.sm_instance.specs.Ranks.{weight_of}
+use Rattle.sm_instance.specs.Ranks.{weight_of, second_of}
 use Rattle.sm_instance.specs.declared.kinds.Measure.{Measure}
 use Rattle.sm_theory.specs.Chains.{rotation_at}
 use Rattle.sm_theory.specs.ClosedSets.{IsClosed, matching_of}
@@ -12,15 +12,17 @@ use Rattle.sm_theory.specs.Net.{Net, cut_of}
 use Rattle.sm_theory.specs.Flows.{IsResidualReach}
 use Rattle.sm_theory.specs.FlowLines.{amount_on, amount_from, IsNewEdge, IsWithinRoom, IsConserved}
 use Rattle.sm_theory.specs.Conditions.{net_of}
+use Rattle.sm_theory.specs.SecondNets.{second_net_of}
 use Rattle.sm_theory.specs.declared.flow_lines.FlowLine.{FlowLine}
 use Rattle.sm_seats.specs.SeatMarket.{seat_market}
 use Rattle.sm_seats.specs.Seating.{seating_of, levels_of, written_of}
 use Rattle.sm_seats.specs.Correspondence.{weights_of, leveled}
+use Rattle.sm_placed.specs.Levels.{has_two_levels, seconds_by}
 use Rattle.sm_report.specs.Lines.{LineData}
 use Rattle.sm_report.specs.Texts.{SINK}
 use Rattle.sm_check_answers.specs.declared.verdicts.Reason.{Reason}
 use Rattle.sm_check_answers.specs.declared.verdicts.Reason.TheVariants as reason
-use Rattle.sm_check_answers.specs.Said.{rotations_in, all_needs_in, flow_in, gain_in, taken_in, value_in, cut_in, total_in, pairs_in, first_said, IsEnd}
+use Rattle.sm_check_answers.specs.Said.{rotations_in, all_needs_in, flow_in, second_flow_in, gain_in, second_gain_in, taken_in, value_in, second_value_in, cut_in, second_cut_in, total_in, second_total_in, pairs_in, first_said, IsEnd}
 use Rattle.sm_check_answers.specs.SeatMatchings.{FirstsHold, first_of}
 use Rattle.sm_check_answers.specs.Chain.{ChainHolds, last_rotation}
 use Rattle.sm_check_answers.specs.Pairs.{WantedHold}
@@ -66,8 +68,7 @@ pub record IsAllowedSet (w : Written) (lines : List LineData) (taken : List ℕ)
   pub closed : IsClosed (seat_market w) (rotations_in w lines) (set_of_numbers (size_in w lines) taken)
   pub allowed : IsAllowed w (matching_of_set w lines (set_of_numbers (size_in w lines) taken))
 
--- One level of weights: the keywords of its lines, its weights of the places in the market and of matchings, and its net. An
--- answer with two levels is a second use of the same clauses.
+-- One level of weights: the keywords of its lines, its weights of the places in the market and of matchings, and its net
 pub record Level : Type 0 where
   pub gain : LineData → Option ℤ
   pub flow : LineData → Option FlowLine
@@ -78,7 +79,7 @@ pub record Level : Type 0 where
   pub weight : List (Option ℕ) → ℤ
   pub net : Net
 
--- the level of an answer of `weight`
+-- the first level of an answer of `weight`
 abbrev pub first_level : Written → Measure → List LineData → Level
 first_level w by lines = record {
   gain = gain_in;
@@ -94,6 +95,25 @@ first_level w by lines = record {
 -- the flow of a level on the nodes of its net
 abbrev pub flow_of : Written → Level → List LineData → List FlowLine
 flow_of w level lines = map (on_nodes (size_in w lines)) (filter_map level.flow lines)
+
+-- the second level: the keywords and weights are others, and the net is the second net of the first flow as it is written
+abbrev pub second_level : Written → Measure → List LineData → Level
+second_level w by lines = record {
+  gain = second_gain_in;
+  flow = second_flow_in;
+  value = second_value_in;
+  cut = second_cut_in;
+  total = second_total_in;
+  weights = seconds_by by w (seating_of w);
+  weight = second_of by w;
+  net = second_net_of (seat_market w) (levels_of (seating_of w)) (weights_of by w (seating_of w)) (seconds_by by w (seating_of w))
+      (leveled w w.forced) (leveled w w.forbidden) (first_of w lines) (rotations_in w lines) (all_needs_in lines)
+      (amount_on (flow_of w (first_level w by lines) lines));
+}
+
+-- the last level of an answer
+abbrev pub last_level : Written → Measure → List LineData → Level
+last_level w by lines = if has_two_levels by w then second_level w by lines else first_level w by lines
 
 -- its gains, flow, value, cut and total
 abbrev pub LevelHolds : Written → Level → List LineData → LineData → Reason → Type 0
@@ -114,18 +134,19 @@ LevelHolds w level above line reason.WrongTotal =
     IfSome (level.total line) (λ total. total ≡ level.weight (taken_matching w above))
 LevelHolds w level above line _ = Unit {0}
 
--- the set that is taken: the reach in the net of the last level
+-- the set that is taken, which is the reach in the net of the last level
 abbrev pub TakenHolds : Written → Level → List LineData → LineData → Reason → Type 0
 TakenHolds w level above line reason.NotClosed = IfSome (taken_in line) (IsAllowedSet w above)
 TakenHolds w level above line reason.NotLeast =
     IsEnd line → IsResidualReach level.net (amount_on (flow_of w level above)) (taken_set w above)
 TakenHolds w level above line _ = Unit {0}
 
--- `weight`
+-- `weight`: the clauses of the first level, in two levels the same ones of the second, and of the set those of the last
 abbrev pub WeightHolds : Written → Measure → List LineData → LineData → Reason → Type 0
 WeightHolds w by above line why =
     FirstsHold w above line why
     × ChainHolds w above line why
     × LevelHolds w (first_level w by above) above line why
-    × TakenHolds w (first_level w by above) above line why
+    × LevelHolds w (last_level w by above) above line why
+    × TakenHolds w (last_level w by above) above line why
     × WantedHold w (taken_matching w above) (pairs_in above) line why

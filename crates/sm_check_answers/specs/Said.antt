@@ -92,6 +92,11 @@ abbrev pub gain_in : LineData → Option ℤ
 gain_in (LineData.Gain i gain) = Some gain
 gain_in _ = None
 
+-- and second weights
+abbrev pub second_gain_in : LineData → Option ℤ
+second_gain_in (LineData.SecondGain i gain) = Some gain
+second_gain_in _ = None
+
 -- the line of a flow
 abbrev pub flow_in : LineData → Option FlowLine
 flow_in (LineData.Flow from to amount) = Some (record { from = from; to = to; amount = amount })
@@ -100,6 +105,11 @@ flow_in _ = None
 -- all lines of the flow
 abbrev pub flows_in : List LineData → List FlowLine
 flows_in lines = filter_map flow_in lines
+
+-- the line of a second flow
+abbrev pub second_flow_in : LineData → Option FlowLine
+second_flow_in (LineData.SecondFlow from to amount) = Some (record { from = from; to = to; amount = amount })
+second_flow_in _ = None
 
 -- the numbers of the rotations that are taken
 abbrev pub taken_in : LineData → Option (List ℕ)
@@ -111,15 +121,30 @@ abbrev pub value_in : LineData → Option ℕ
 value_in (LineData.Value value) = Some value
 value_in _ = None
 
+-- the value of the second flow
+abbrev pub second_value_in : LineData → Option ℕ
+second_value_in (LineData.SecondValue value) = Some value
+second_value_in _ = None
+
 -- the value of the cut
 abbrev pub cut_in : LineData → Option ℕ
 cut_in (LineData.Cut value) = Some value
 cut_in _ = None
 
+-- the value of the second cut
+abbrev pub second_cut_in : LineData → Option ℕ
+second_cut_in (LineData.SecondCut value) = Some value
+second_cut_in _ = None
+
 -- the weight of the matching
 abbrev pub total_in : LineData → Option ℤ
 total_in (LineData.Total weight) = Some weight
 total_in _ = None
+
+-- its second sum
+abbrev pub second_total_in : LineData → Option ℤ
+second_total_in (LineData.SecondTotal weight) = Some weight
+second_total_in _ = None
 
 -- vectors, regrets and parties
 abbrev pub vector_in : LineData → Option (List ℕ)
@@ -175,6 +200,7 @@ abbrev pub is_up_to_rotations : LineData → Bool
 is_up_to_rotations (LineData.Rotation i pairs) = true
 is_up_to_rotations (LineData.Needs i needed) = true
 is_up_to_rotations (LineData.Gain i gain) = true
+is_up_to_rotations (LineData.SecondGain i gain) = true
 is_up_to_rotations line = is_up_to_firsts line
 
 -- a line is the first one behind those above it that are up to something

@@ -192,6 +192,7 @@ pub fn is_up_to_rotations(line: &Line) -> bool
         Line::Rotation(_, _) => true,
         Line::Needs(_, _) => true,
         Line::Gain(_, _) => true,
+        Line::SecondGain(_, _) => true,
         _ => false,
     }
 }

@@ -6,6 +6,7 @@ use Rattle.std.proofs.lemmas.List.{take-append-drop}
 use Rattle.std.proofs.lemmas.Bool.{false≢true}
 use Rattle.sm_instance.specs.declared.inputs.Input.{Input}
 use Rattle.sm_instance.specs.declared.inputs.Input.TheVariants.{Two, Room}
+use Rattle.sm_placed.specs.Levels.{has_two_levels}
 use Rattle.sm_report.specs.Heads.{HeadData}
 use Rattle.sm_report.specs.declared.keywords.Keyword.{Keyword}
 use Rattle.sm_report.specs.declared.keywords.Keyword.TheVariants as keyword
@@ -13,7 +14,7 @@ use Rattle.sm_check_forms.specs.declared.layouts.LayoutPart.{LayoutPart}
 use Rattle.sm_check_forms.specs.declared.layouts.LayoutPart.TheVariants.{One, Many, Blocks}
 use Rattle.sm_check_forms.specs.declared.layouts.Opening.{Opening}
 use Rattle.sm_check_forms.specs.Layouts.{begins, keyword_at, later, behind, left_behind, is_empty}
-use Rattle.sm_check_forms.specs.Forms.{layouts_of}
+use Rattle.sm_check_forms.specs.Forms.{layouts_of, weight_layout}
 use Rattle.sm_check_forms.specs.Laws.{WholeIsBegun, closing_of, EndsWith, WholeEnds}
 
 -- where no layout is left, none is left behind more lines
@@ -131,6 +132,10 @@ module _ (closing_words : List Keyword) where
   not_empty ([] ∷ layouts) h e = h.0
   not_empty ((part ∷ parts) ∷ layouts) h e = not_empty layouts h.1 e
 
+weight_ends : (two : Bool) → AllEnd (keyword.End ∷ []) (weight_layout two ∷ [])
+weight_ends true = ((λ line e. or_left (begins line keyword.End) false e), tt)
+weight_ends false = ((λ line e. or_left (begins line keyword.End) false e), tt)
+
 all_end : (input : Input) (head : HeadData) → AllEnd (closing_of head) (layouts_of input head)
 all_end (Two w) (HeadData.Solve side) = ((λ line e. or_left (begins line keyword.End) false e), tt)
 all_end (Two w) HeadData.Reduced = ((λ line e. or_left (begins line keyword.End) false e), tt)
@@ -140,7 +145,7 @@ all_end (Two w) (HeadData.List after limit) = (
   ((λ line e. or_right (begins line keyword.End) (begins line keyword.More || false) (or_left (begins line keyword.More) false e)), tt),
 )
 all_end (Two w) HeadData.Regret = ((λ line e. or_left (begins line keyword.End) false e), tt)
-all_end (Two w) (HeadData.Weight by) = ((λ line e. or_left (begins line keyword.End) false e), tt)
+all_end (Two w) (HeadData.Weight by) = weight_ends (has_two_levels by w)
 all_end (Two w) HeadData.Meet = ((λ line e. or_left (begins line keyword.End) false e), tt)
 all_end (Two w) HeadData.Join = ((λ line e. or_left (begins line keyword.End) false e), tt)
 all_end (Two w) _ = tt

@@ -4,6 +4,7 @@ use Rattle.std.specs.List.{list_all}
 use Rattle.sm_instance.specs.Written.{Written}
 use Rattle.sm_instance.specs.declared.inputs.Input.{Input}
 use Rattle.sm_instance.specs.declared.inputs.Input.TheVariants.{Two, Room}
+use Rattle.sm_placed.specs.Levels.{has_two_levels}
 use Rattle.sm_report.specs.Heads.{HeadData}
 use Rattle.sm_report.specs.Lines.{LineData}
 use Rattle.sm_report.specs.Texts.{text_of_line}
@@ -58,9 +59,24 @@ list_layout last = Many keyword.Vector ∷ One last ∷ []
 abbrev pub regret_layout : List LayoutPart
 regret_layout = One keyword.Regret ∷ Many keyword.Pair ∷ closing
 
--- the first seats, rotations with their needs and gains, the flow, the figures of the set that is taken, and pairs
-abbrev pub weight_layout : List LayoutPart
-weight_layout =
+-- the first seats, rotations with their needs and gains, the flow, the figures of the set that is taken, and pairs; in two levels
+-- also the gains, the flow and the figures by second weights
+abbrev pub weight_layout : (two : Bool) → List LayoutPart
+weight_layout true =
+    Many keyword.First
+    ∷ blocks_of 4
+    ∷ Many keyword.Flow
+    ∷ Many keyword.SecondFlow
+    ∷ One keyword.Taken
+    ∷ One keyword.Value
+    ∷ One keyword.Cut
+    ∷ One keyword.Total
+    ∷ One keyword.SecondValue
+    ∷ One keyword.SecondCut
+    ∷ One keyword.SecondTotal
+    ∷ Many keyword.Pair
+    ∷ closing
+weight_layout false =
     Many keyword.First
     ∷ blocks_of 3
     ∷ Many keyword.Flow
@@ -76,16 +92,16 @@ abbrev pub given_layout : List LayoutPart
 given_layout = Many keyword.Left ∷ Many keyword.Right ∷ Many keyword.Pair ∷ closing
 
 -- over an instance with two sides
-abbrev pub layouts_of_two : HeadData → List (List LayoutPart)
-layouts_of_two (HeadData.Solve side) = solve_layout ∷ []
-layouts_of_two HeadData.Reduced = reduced_layout ∷ []
-layouts_of_two HeadData.Rotations = rotations_layout ∷ []
-layouts_of_two (HeadData.List after limit) = list_layout keyword.End ∷ list_layout keyword.More ∷ []
-layouts_of_two HeadData.Regret = regret_layout ∷ []
-layouts_of_two (HeadData.Weight by) = weight_layout ∷ []
-layouts_of_two HeadData.Meet = given_layout ∷ []
-layouts_of_two HeadData.Join = given_layout ∷ []
-layouts_of_two _ = []
+abbrev pub layouts_of_two : Written → HeadData → List (List LayoutPart)
+layouts_of_two w (HeadData.Solve side) = solve_layout ∷ []
+layouts_of_two w HeadData.Reduced = reduced_layout ∷ []
+layouts_of_two w HeadData.Rotations = rotations_layout ∷ []
+layouts_of_two w (HeadData.List after limit) = list_layout keyword.End ∷ list_layout keyword.More ∷ []
+layouts_of_two w HeadData.Regret = regret_layout ∷ []
+layouts_of_two w (HeadData.Weight by) = weight_layout (has_two_levels by w) ∷ []
+layouts_of_two w HeadData.Meet = given_layout ∷ []
+layouts_of_two w HeadData.Join = given_layout ∷ []
+layouts_of_two w _ = []
 
 -- over one of roommates: a matching, or the parties by which there is none
 abbrev pub layouts_of_room : HeadData → List (List LayoutPart)
@@ -94,7 +110,7 @@ layouts_of_room _ = []
 
 -- over an instance of either kind
 abbrev pub layouts_of : Input → HeadData → List (List LayoutPart)
-layouts_of (Two w) head = layouts_of_two head
+layouts_of (Two w) head = layouts_of_two w head
 layouts_of (Room persons) head = layouts_of_room head
 
 -- a line as layouts see it
@@ -102,6 +118,7 @@ abbrev pub number_in : LineData → ℕ
 number_in (LineData.Rotation i pairs) = i
 number_in (LineData.Needs i needed) = i
 number_in (LineData.Gain i gain) = i
+number_in (LineData.SecondGain i gain) = i
 number_in _ = 0
 
 -- the keyword and the number of a line

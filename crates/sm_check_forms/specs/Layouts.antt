@@ -14,9 +14,11 @@ use Rattle.sm_check_forms.specs.declared.layouts.Opening.{Opening}
 abbrev pub begins : Opening → Keyword → Bool
 begins line word = is_same line.keyword word
 
--- the keywords of a block of two lines or of three, by their places in it
+-- the keywords of a block of two, three or four lines, by their places in it
 abbrev pub keyword_at : ℕ → Keyword
-keyword_at place = if place == 0 then keyword.Rotation else (if place == 1 then keyword.Needs else keyword.Gain)
+keyword_at place =
+    if place == 0 then keyword.Rotation
+    else (if place == 1 then keyword.Needs else (if place == 2 then keyword.Gain else keyword.SecondGain))
 
 -- whose turn it is behind a line of a block: that of its next line, or of the first one of the block with the next number
 abbrev pub later : BlockTurn → BlockTurn

@@ -47,7 +47,7 @@ pub record IsTakenAt (parts : List LayoutPart) (from : ℕ) (line : Opening) (at
 -- a place in a block of few lines
 pub record IsTurn (turn : BlockTurn) : Type 0 where
   pub within : turn.place < turn.lines
-  pub few : turn.lines ≤ 3
+  pub few : turn.lines ≤ 4
 
 -- if a part is of blocks, its turn is one of a block
 abbrev pub IsTurnPart : LayoutPart → Type 0

@@ -10,11 +10,13 @@ ghost use Rattle.sm_check_forms.specs.Layouts.{behind, keyword_at, later, is_emp
 ghost use Rattle.sm_check_forms.specs.Forms.{opening_of, number_in, layouts_of, layouts_of_two, layouts_of_room, first_turn, solve_layout, parties_layout, reduced_layout, rotations_layout, list_layout, regret_layout, weight_layout, given_layout};
 ghost use Rattle.sm_check_forms.specs.Lefts.{IsFit, IsTurn, AreTurns, IsTakenAt, IsRunning, AreRunning, layout_left, layouts_left};
 
-use sm_instance::Input;
+use sm_instance::{Input, Instance};
+use sm_placed::has_two_levels;
 use sm_report::{Head, Keyword, Line, keyword_of};
 use std::alloc::{AllocError, Global};
 
-/// Whose turn it is among blocks of two lines, `rotation` and `needs`, or of three, with `gain` behind them.
+/// Whose turn it is among blocks of two lines, `rotation` and `needs`, of three, with `gain` behind them, or of four, with `gain2` as
+/// well.
 #[derive(Clone, Copy, Debug)]
 pub struct BlockTurn {
     /// How many lines a block has.
@@ -61,6 +63,7 @@ fn number_in(line: &Line) -> u32
         Line::Rotation(i, _) => *i,
         Line::Needs(i, _) => *i,
         Line::Gain(i, _) => *i,
+        Line::SecondGain(i, _) => *i,
         _ => 0,
     }
 }
@@ -73,8 +76,10 @@ fn keyword_at(place: u32) -> Keyword
         Keyword::Rotation
     } else if place == 1 {
         Keyword::Needs
-    } else {
+    } else if place == 2 {
         Keyword::Gain
+    } else {
+        Keyword::SecondGain
     }
 }
 
@@ -283,7 +288,7 @@ impl Places {
         ensures running { IfOk result (λ places. AreRunning places) }
     {
         match input {
-            Input::Two(_) => places_of_two(alloc, head),
+            Input::Two(instance) => places_of_two(alloc, instance, head),
             Input::Room(_) => places_of_room(alloc, head),
         }
     }
@@ -317,8 +322,9 @@ impl Places {
 }
 
 /// Those over an instance with two sides.
-fn places_of_two(alloc: Global, head: &Head) -> Result<Places, AllocError>
-    ensures left { IfOk result (λ places. layouts_left places ≡ layouts_of_two (head_of head.now)) }
+fn places_of_two(alloc: Global, instance: &Instance, head: &Head) -> Result<Places, AllocError>
+    ensures left { IfOk result (λ places. layouts_left places
+        ≡ layouts_of_two instance.now (head_of head.now)) }
     ensures running { IfOk result (λ places. AreRunning places) }
 {
     match head {
@@ -330,7 +336,7 @@ fn places_of_two(alloc: Global, head: &Head) -> Result<Places, AllocError>
             other: list_layout(alloc, Keyword::More)?,
         }),
         Head::Regret => Ok(only(alloc, regret_layout(alloc)?)),
-        Head::Weight(_) => Ok(only(alloc, weight_layout(alloc)?)),
+        Head::Weight(by) => Ok(only(alloc, weight_layout(alloc, has_two_levels(instance, *by))?)),
         Head::Meet => Ok(only(alloc, given_layout(alloc)?)),
         Head::Join => Ok(only(alloc, given_layout(alloc)?)),
         Head::Pairs => Ok(Places::none(alloc)),
@@ -437,9 +443,43 @@ fn regret_layout(alloc: Global) -> Result<Layout, AllocError>
     ]?))
 }
 
-/// The layout of `weight`.
-fn weight_layout(alloc: Global) -> Result<Layout, AllocError>
-    ensures left { IfOk result (λ layout. layout_left layout ≡ weight_layout ∷ []) }
+/// The layout of `weight`, in two levels or in one.
+fn weight_layout(alloc: Global, two: bool) -> Result<Layout, AllocError>
+    ensures left { IfOk result (λ layout. layout_left layout ≡ weight_layout two ∷ []) }
+    ensures running { IfOk result (λ layout. IsRunning layout) }
+{
+    if two {
+        weight_layout_of_two(alloc)
+    } else {
+        weight_layout_of_one(alloc)
+    }
+}
+
+/// The layout of `weight` in two levels.
+fn weight_layout_of_two(alloc: Global) -> Result<Layout, AllocError>
+    ensures left { IfOk result (λ layout. layout_left layout ≡ weight_layout true ∷ []) }
+    ensures running { IfOk result (λ layout. IsRunning layout) }
+{
+    Ok(Layout::of(vec![in alloc;
+        LayoutPart::Many(Keyword::First),
+        LayoutPart::Blocks(first_turn(4)),
+        LayoutPart::Many(Keyword::Flow),
+        LayoutPart::Many(Keyword::SecondFlow),
+        LayoutPart::One(Keyword::Taken),
+        LayoutPart::One(Keyword::Value),
+        LayoutPart::One(Keyword::Cut),
+        LayoutPart::One(Keyword::Total),
+        LayoutPart::One(Keyword::SecondValue),
+        LayoutPart::One(Keyword::SecondCut),
+        LayoutPart::One(Keyword::SecondTotal),
+        LayoutPart::Many(Keyword::Pair),
+        LayoutPart::One(Keyword::End),
+    ]?))
+}
+
+/// The layout of `weight` in one level.
+fn weight_layout_of_one(alloc: Global) -> Result<Layout, AllocError>
+    ensures left { IfOk result (λ layout. layout_left layout ≡ weight_layout false ∷ []) }
     ensures running { IfOk result (λ layout. IsRunning layout) }
 {
     Ok(Layout::of(vec![in alloc;

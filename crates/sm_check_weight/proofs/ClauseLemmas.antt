@@ -12,25 +12,25 @@ use Rattle.sm_check_weight.specs.Kept.{ClaimHolds}
 
 module _ (w : Written) (by : Measure) (above : List LineData) (x : LineData) where
   to_weight : (why : Reason) → RotationsHold w above x why → ClaimHolds w by above x why → WeightHolds w by above x why
-  to_weight why r c = (r.0, r.1, c.0, c.1, c.2)
+  to_weight why r c = (r.0, r.1, c.0, c.1, c.2, c.3)
 
   -- where no clause on rotations fails, what is found of the others is found
   pub weight_found : (r : Option Reason) → Finds (RotationsHold w above x) None → Finds (ClaimHolds w by above x) r → Finds (WeightHolds w by above x) r
   weight_found None all f = λ why. to_weight why (all why) (f why)
   weight_found (Some why) all f = record {
     clauses_before = λ other l. to_weight other (all other) (f.clauses_before other l);
-    fails = λ h. f.fails (h.2, h.3, h.4);
+    fails = λ h. f.fails (h.2, h.3, h.4, h.5);
   }
 
   -- by the reasons of rotations nothing is asked of what is claimed
   pub early : (why : Reason) → number_of_reason why < 8 → ClaimHolds w by above x why
-  early reason.NotAMatching l = (tt, tt, tt)
-  early reason.Blocked l = (tt, tt, tt)
-  early reason.NotBest l = (tt, tt, tt)
-  early reason.WrongList l = (tt, tt, tt)
-  early reason.NotExposed l = (tt, tt, tt)
-  early reason.RotationMissing l = (tt, tt, tt)
-  early reason.WrongNeeds l = (tt, tt, tt)
+  early reason.NotAMatching l = (tt, tt, tt, tt)
+  early reason.Blocked l = (tt, tt, tt, tt)
+  early reason.NotBest l = (tt, tt, tt, tt)
+  early reason.WrongList l = (tt, tt, tt, tt)
+  early reason.NotExposed l = (tt, tt, tt, tt)
+  early reason.RotationMissing l = (tt, tt, tt, tt)
+  early reason.WrongNeeds l = (tt, tt, tt, tt)
   early _ l = absurd (omega (arith, l))
 
   chain_reason : (why : Reason) → ¬ RotationsHold w above x why → number_of_reason why < 8

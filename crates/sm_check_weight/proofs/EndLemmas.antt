@@ -1,5 +1,6 @@
 -- The clauses at the end of an answer, in their order.
-use Rattle.std.proofs.Common.{ℕ, ◌<◌, arith, Bool, List, Option}
+use Rattle.std.proofs.Common.{ℕ, ◌<◌, arith, Bool, List, Option, None, Some}
+use Rattle.std.specs.Prelude.{MatchOption}
 use Rattle.sm_theory.specs.Net.{Net}
 use Rattle.sm_theory.specs.FlowLines.{amount_on}
 use Rattle.sm_theory.specs.Flows.{IsResidualReach}
@@ -9,6 +10,15 @@ use Rattle.sm_check_answers.specs.declared.verdicts.Reason.TheVariants as reason
 use Rattle.sm_check_answers.specs.Pairs.{AreAllThere}
 use Rattle.sm_check_answers.specs.Verdicts.{IsFirstThere, number_of_reason}
 use Rattle.sm_check_weight.specs.ClaimClauses.{EndHolds}
+
+-- what is asked without a net and with one, by what holds there, and by what doesn't
+pub with_net : {N A X : Type 0} {B Y : N → Type 0} (o : Option N) → (X → A) → ((net : N) → Y net → B net) → MatchOption o X Y → MatchOption o A B
+with_net None f g h = f h
+with_net (Some net) f g h = g net h
+
+pub with_no_net : {N A X : Type 0} {B Y : N → Type 0} (o : Option N) → ((X → ⊥) → A) → ((net : N) → (Y net → ⊥) → B net) → (MatchOption o X Y → ⊥) → MatchOption o A B
+with_no_net None f g h = f h
+with_no_net (Some net) f g h = g net h
 
 module _ (net : Net) (flow : List FlowLine) (set : List Bool) (matching : List (Option ℕ)) (pairs : List (ℕ × ℕ)) where
   -- a pair is missing

@@ -2,8 +2,11 @@ pub mod ClauseLemmas
 pub mod NeedsLemmas
 pub mod WholeLemmas
 pub mod MoveLemmas
+pub mod LevelLemmas
 pub mod GainLemmas
 pub mod ClaimLemmas
+pub mod FlowKeptLemmas
+pub mod SecondLemmas
 pub mod KeptLemmas
 pub mod SetLemmas
 pub mod SaidLemmas

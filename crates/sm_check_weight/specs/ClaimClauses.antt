@@ -1,7 +1,7 @@
 -- The clauses on what is claimed behind the rotations, over what is kept.
 use Rattle.std.specs.Prelude.{◌≡◌, ℕ, Bool, List, Option, ℤ}
 use Rattle.sm_instance.specs.Written.{Written}
-use Rattle.sm_instance.specs.Ranks.{weight_of}
+use Rattle.sm_instance.specs.Ranks.{weight_of, second_weight_of}
 use Rattle.sm_instance.specs.declared.kinds.Measure.{Measure}
 use Rattle.sm_theory.specs.Net.{Net, cut_of}
 use Rattle.sm_theory.specs.Flows.{IsResidualReach}
@@ -26,6 +26,11 @@ CutHolds net set value cut _ = Unit {0}
 abbrev pub TotalHolds : Written → Measure → List (Option ℕ) → ℤ → Reason → Type 0
 TotalHolds w by matching total reason.WrongTotal = total ≡ weight_of by w matching
 TotalHolds w by matching total _ = Unit {0}
+
+-- of its second sum
+abbrev pub SecondTotalHolds : Written → List (Option ℕ) → ℤ → Reason → Type 0
+SecondTotalHolds w matching total reason.WrongTotal = total ≡ second_weight_of w matching
+SecondTotalHolds w matching total _ = Unit {0}
 
 -- at the end, of the pairs of a matching and the set
 abbrev pub EndHolds : Net → List FlowLine → List Bool → List (Option ℕ) → List (ℕ × ℕ) → Reason → Type 0

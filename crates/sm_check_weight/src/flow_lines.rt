@@ -1,14 +1,14 @@
-//! The flow that an answer writes, on the nodes of the net.
+//! The flows that an answer writes, on the nodes of their nets.
 
 ghost use Rattle.std.specs.Prelude.{◌≡◌, ◌+◌, ◌<◌, ◌≤◌, ◌^◌, length, map, take, IfOk};
+ghost use Rattle.std.specs.Option.{option_map};
 ghost use Rattle.sm_theory.specs.FlowLines.{line_at};
 ghost use Rattle.sm_check_net.specs.CheckedNets.{net_of_parts};
 ghost use Rattle.sm_check_net.specs.Repeats.{AreRepeats};
 ghost use Rattle.sm_report.specs.Lines.{line_of};
 ghost use Rattle.sm_check_answers.specs.Flows.{node_of, on_nodes};
-ghost use Rattle.sm_check_answers.specs.Said.{flows_in};
 ghost use Rattle.sm_check_answers.specs.Walking.{FindsOrKeeps};
-ghost use Rattle.sm_check_weight.specs.FlowClauses.{NextHolds, flow_line};
+ghost use Rattle.sm_check_weight.specs.FlowClauses.{NextHolds, flow_line, amount_in, flows_of};
 
 use sm_check_answers::Reason;
 use sm_check_net::{CheckedNet, repeated_lines};
@@ -16,7 +16,14 @@ use sm_report::Line;
 use sm_theory::FlowLine;
 use std::alloc::{AllocError, Global};
 
-/// All lines of the flow of an answer on the nodes of its net, whether each has the ends of an earlier one, and how many of them
+/// Of which of the two flows of an answer.
+#[derive(Clone, Copy)]
+pub(crate) enum FlowLevel {
+    First,
+    Second,
+}
+
+/// All lines of a flow of an answer on the nodes of its net, whether each has the ends of an earlier one, and how many of them
 /// were judged.
 #[derive(Drop)]
 pub(crate) struct Flow {
@@ -26,15 +33,20 @@ pub(crate) struct Flow {
 }
 
 impl Flow {
-    /// The lines of the flow among those of an answer with so many rotations.
-    pub(crate) fn of(alloc: Global, size: u32, lines: &[Line]) -> Result<Flow, AllocError>
+    /// The lines of a flow among those of an answer with so many rotations.
+    pub(crate) fn of(
+        alloc: Global,
+        size: u32,
+        level: FlowLevel,
+        lines: &[Line],
+    ) -> Result<Flow, AllocError>
         requires few { size + 2 < 2 ^ 32 }
         ensures lines { IfOk result (λ flow. flow.lines.items
-            ≡ map (on_nodes size) (flows_in (map line_of lines.now))) }
+            ≡ map (on_nodes size) (flows_of level (map line_of lines.now))) }
         ensures repeats { IfOk result (λ flow. AreRepeats flow.lines.items flow.repeats.items) }
         ensures none { IfOk result (λ flow. flow.count ≡ 0) }
     {
-        let lines = flow_lines(alloc, size, lines)?;
+        let lines = flow_lines(alloc, size, level, lines)?;
         let repeats = repeated_lines(alloc, &lines)?;
         Ok(Flow {
             lines,
@@ -74,19 +86,36 @@ impl Flow {
     }
 }
 
-/// The lines of the flow on the nodes of a net of so many rotations.
-fn flow_lines(alloc: Global, size: u32, lines: &[Line]) -> Result<Vec<FlowLine>, AllocError>
+/// The lines of a flow on the nodes of a net of so many rotations.
+fn flow_lines(
+    alloc: Global,
+    size: u32,
+    level: FlowLevel,
+    lines: &[Line],
+) -> Result<Vec<FlowLine>, AllocError>
     requires { size + 2 < 2 ^ 32 }
     ensures { IfOk result (λ flow. flow.items
-        ≡ map (on_nodes size) (flows_in (map line_of lines.now))) }
+        ≡ map (on_nodes size) (flows_of level (map line_of lines.now))) }
 {
     let mut flow = Vec::new(alloc);
     for line in lines {
-        if let Line::Flow(from, to, amount) = line {
-            flow.push(on_nodes(size, *from, *to, *amount))?;
+        if let Some((from, to, amount)) = amount_in(level, line) {
+            flow.push(on_nodes(size, from, to, amount))?;
         }
     }
     Ok(flow)
+}
+
+/// The ends and the amount of a line of a flow.
+fn amount_in(level: FlowLevel, line: &Line) -> Option<(u32, u32, u64)>
+    ensures { option_map (λ x. flow_line x.0 x.1 x.2) result
+        ≡ amount_in level (line_of line.now) }
+{
+    match (level, line) {
+        (FlowLevel::First, Line::Flow(from, to, amount)) => Some((*from, *to, *amount)),
+        (FlowLevel::Second, Line::SecondFlow(from, to, amount)) => Some((*from, *to, *amount)),
+        _ => None,
+    }
 }
 
 /// A line of the flow on the nodes.

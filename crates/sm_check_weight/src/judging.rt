@@ -1,13 +1,13 @@
 //! Answers of `weight`, line by line.
 
-ghost use Rattle.std.specs.Prelude.{◌≡◌, ◌+◌, ◌<◌, ◌≤◌, ◌^◌, ◌++◌, ◌∷◌, [], List, All, IfOk, IfSome, IsSome, length, map, slice_index_or, take, true, false};
+ghost use Rattle.std.specs.Prelude.{◌≡◌, ◌+◌, ◌<◌, ◌≤◌, ◌^◌, ◌++◌, ◌∷◌, [], List, All, IfOk, IfSome, IsSome, is_some, length, map, slice_index_or, take, true, false};
 ghost use Rattle.sm_seats.specs.Seating.{seating_of};
 ghost use Rattle.sm_seats.specs.Counted.{first_seats_of};
 ghost use Rattle.sm_report.specs.Heads.{HeadData};
 ghost use Rattle.sm_report.specs.Lines.{LineData, line_of};
 ghost use Rattle.sm_check_answers.specs.Judges.{IsKnown, IsOwnLine};
 ghost use Rattle.sm_check_answers.specs.Judging.{answer, Clauses};
-ghost use Rattle.sm_check_answers.specs.Said.{rotations_in, is_up_to_rotations};
+ghost use Rattle.sm_check_answers.specs.Said.{rotations_in, flow_in, is_up_to_rotations};
 ghost use Rattle.sm_check_answers.specs.Verdicts.{AtLine, Finds, IsVerdict};
 ghost use Rattle.sm_check_answers.specs.Walks.{IsChainAt};
 ghost use Rattle.sm_check_answers.specs.Walking.{FindsOrKeeps};
@@ -16,19 +16,20 @@ ghost use Rattle.sm_check_net.specs.CheckedNets.{net_of_parts, NeedsAreOf};
 ghost use Rattle.sm_seats.specs.Correspondence.{IsSeating};
 ghost use Rattle.sm_seats.specs.SeatMarket.{seat_market};
 ghost use Rattle.sm_check_answers.specs.Flows.{WeightHolds, net_in};
-ghost use Rattle.sm_check_weight.specs.Kept.{AreTables, ClaimHolds, IsClaimAt, IsClaimOf, HasWholePoset, IsJudgeOf};
+ghost use Rattle.sm_check_weight.specs.Kept.{AreTables, ClaimHolds, HasClaim, HasSecond, IsClaimAt, IsClaimOf, HasWholePoset, IsJudgeOf};
 ghost use Rattle.sm_check_weight.specs.Order.{AreNeedsInOrder};
 
 use crate::claims::Claim;
-use crate::flow_lines::Flow;
+use crate::flow_lines::{Flow, FlowLevel};
 use crate::gains::{all_needs, gains_of, last_gain};
+use crate::said::SaidFlow;
 use crate::taken::Taken;
 use sm_check_answers::{
     ChainWalk, Judge, Reason, RotationsJudge, Stood, Verdict, is_up_to_rotations,
 };
-use sm_check_net::{CheckedNet, bonds};
+use sm_check_net::{CheckedNet, bonds, second_net};
 use sm_instance::{Instance, Measure};
-use sm_placed::{leveled, weights_of_places};
+use sm_placed::{has_two_levels, leveled, seconds_of_places, weights_of_places};
 use sm_report::Line;
 use sm_seats::Seats;
 use std::alloc::{AllocError, Global};
@@ -44,11 +45,13 @@ pub struct Weighed<'a> {
     pub by: Measure,
 }
 
-/// The levels and the weights of the places of each proposer.
+/// The levels and the weights of the places of each proposer, and whether the answer has two levels.
 #[derive(Drop)]
 struct Tables {
     levels: Vec<Vec<u32>>,
     weights: Vec<Vec<i64>>,
+    seconds: Vec<Vec<i64>>,
+    two_levels: bool,
 }
 
 /// What is kept of an answer of `weight`, of which these are the lines: its rotations, and what it claims behind them.
@@ -120,12 +123,25 @@ impl<'a> WeightJudge<'a> {
             weighed.by,
             &levels,
         )?;
+        let seconds = seconds_of_places(
+            alloc,
+            weighed.instance,
+            weighed.seats,
+            weighed.by,
+            &levels,
+        )?;
+        let two_levels = has_two_levels(weighed.instance, weighed.by);
         let market = weighed.seats.market();
         let chain = RotationsJudge::none(alloc, weighed.instance, market, firsts)?;
         Ok(WeightJudge {
             weighed,
             lines,
-            tables: Tables { levels, weights },
+            tables: Tables {
+                levels,
+                weights,
+                seconds,
+                two_levels,
+            },
             chain,
             claim: None,
         })
@@ -161,7 +177,7 @@ impl<'a> WeightJudge<'a> {
         self.claim_fault(alloc, k)
     }
 
-    /// The same of the gain of the newest rotation.
+    /// The same of a gain of the newest rotation.
     fn gain_fault(&self, line: &Line) -> Option<Reason>
         requires up_to { is_up_to_rotations (line_of line.now) ≡ true }
         requires tables { AreTables self.now.weighed.now.instance.now self.now.weighed.now.by
@@ -178,6 +194,14 @@ impl<'a> WeightJudge<'a> {
         match line {
             Line::Gain(_, gain) => {
                 if *gain != last_gain(&self.tables.weights, self.chain.moves()) {
+                    return Some(Reason::WrongGain);
+                }
+                None
+            }
+            Line::SecondGain(_, gain) => {
+                if self.tables.two_levels
+                    && *gain != last_gain(&self.tables.seconds, self.chain.moves())
+                {
                     return Some(Reason::WrongGain);
                 }
                 None
@@ -220,14 +244,19 @@ impl<'a> WeightJudge<'a> {
     {
         let weighed = self.weighed;
         let lines = self.lines;
+        let line = &lines[k];
         let Some(walk) = &self.chain.walk else {
             return Ok(None);
         };
         match &mut self.claim {
-            Some(claim) => claim.find_fault(alloc, weighed, walk, &lines[k]),
+            Some(claim) => {
+                make_second(alloc, weighed, &self.tables, walk, claim, line)?;
+                claim.find_fault(alloc, weighed, walk, line)
+            }
             None => {
                 let mut claim = claim_of(alloc, weighed, &self.tables, walk, lines, k)?;
-                let why = claim.find_fault(alloc, weighed, walk, &lines[k])?;
+                make_second(alloc, weighed, &self.tables, walk, &mut claim, line)?;
+                let why = claim.find_fault(alloc, weighed, walk, line)?;
                 self.claim = Some(claim);
                 Ok(why)
             }
@@ -255,16 +284,58 @@ fn claim_of(
         (take k (map line_of lines.now)) claim) }
 {
     let net = net_of(alloc, weighed, tables, walk, &lines[..k])?;
-    let flow = Flow::of(alloc, net.size(), lines)?;
+    let flow = Flow::of(alloc, net.size(), FlowLevel::First, lines)?;
+    let second_flow = Flow::of(alloc, net.size(), FlowLevel::Second, lines)?;
     let taken = Taken::none(alloc, weighed, walk)?;
     let stood = Stood::nobody(alloc, weighed.instance)?;
     Ok(Claim {
         net,
-        flow,
+        first: SaidFlow { flow, value: None },
+        second_net: None,
+        second: SaidFlow {
+            flow: second_flow,
+            value: None,
+        },
         taken,
-        value: None,
         stood,
     })
+}
+
+/// Makes the second net of the lines of the flow above a line that is none of them, where it isn't made yet. There is none in one
+/// level.
+fn make_second(
+    alloc: Global,
+    weighed: &Weighed,
+    tables: &Tables,
+    walk: &ChainWalk,
+    claim: &mut Claim,
+    line: &Line,
+) -> Result<(), AllocError>
+    requires tables { AreTables weighed.now.instance.now weighed.now.by tables.now }
+    requires known { HasClaim weighed.now.instance.now weighed.now.by (line_of line.now) walk.now
+        claim.old }
+    ensures made { IfOk result (λ _. HasSecond weighed.now.instance.now weighed.now.by
+        (line_of line.now) claim.new) }
+    ensures kept { IfOk result (λ _. (lines above : List LineData)
+        → IsClaimOf weighed.now.instance.now weighed.now.by lines above claim.old
+        → HasWholePoset weighed.now.instance.now above walk.now
+        → IsClaimOf weighed.now.instance.now weighed.now.by lines above claim.new) }
+{
+    let _proposers = weighed.instance.proposer_count();
+    let _size = claim.net.size();
+    if !tables.two_levels || claim.second_net.is_some() || is_flow(line) {
+        return Ok(());
+    }
+    let gains = gains_of(alloc, &tables.seconds, &walk.moves)?;
+    claim.second_net = Some(second_net(alloc, &claim.net, claim.first.flow.said(), gains)?);
+    Ok(())
+}
+
+/// Whether a line is one of the flow.
+fn is_flow(line: &Line) -> bool
+    ensures { result ≡ is_some (flow_in (line_of line.now)) }
+{
+    matches!(line, Line::Flow(_, _, _))
 }
 
 /// The net of the rotations, which stand among these lines, and of the conditions.

@@ -8,6 +8,7 @@ mod claims;
 mod flow_lines;
 mod gains;
 mod judging;
+mod said;
 mod taken;
 
 pub use judging::{Weighed, weight_verdict};

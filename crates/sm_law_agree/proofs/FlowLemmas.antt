@@ -18,6 +18,8 @@ use Rattle.sm_theory.specs.Flows.{IsFlow}
 use Rattle.sm_theory.specs.FlowLines.{line_at, amount_on, AreOnNodes, HaveSameEnds, IsNewEdge, IsWithinRoom, IsLineBefore, AreFlowLines}
 use Rattle.sm_theory.specs.Conditions.{net_of}
 use Rattle.sm_theory.specs.declared.flow_lines.FlowLine.{FlowLine}
+use Rattle.sm_theory.specs.SecondNets.{second_net}
+use Rattle.sm_theory.proofs.Flow.Second.{step_of_edge}
 use Rattle.sm_theory.proofs.Net.Tests.{and_parts}
 use Rattle.sm_report.specs.Texts.{SINK}
 use Rattle.sm_answer_weight.specs.WeightAnswer.{shown_node, member_numbers}
@@ -121,6 +123,10 @@ module _ (net : Net) (front back : List FlowLine) (x : FlowLine) where
         go true e = inl e
         go false e = inr (let most = flow.within x.from x.to (λ u. false≢true (sym e ∙ u)) in omega (arith, mine, most))
 
+-- there is no room on an edge from the source to the sink
+no_room_through : (net : Net) → 0 < room_of net 0 (sink_of net) → ⊥
+no_room_through net room = let r : 0 < 0 = subst (λ b. 0 < (if b then net.supply net.size else 0)) (le-ltb net.size net.size (omega arith)) room in omega (arith, r)
+
 -- no edge of a net of gains, needs and conditions leads from the source to the sink
 pub none_through : (l : Lists) (levels : List (List ℕ)) (weights : List (List ℤ)) (forced forbidden : List (ℕ × ℕ)) (first : Places) (rotations : List (List (ℕ × ℕ))) (needs : List (List ℕ))
     → HasEdge (net_of l levels weights forced forbidden first rotations needs) 0 (suc (length rotations)) → ⊥
@@ -129,10 +135,18 @@ none_through l levels weights forced forbidden first rotations needs (inl u) =
     let one = and_parts (not (0 == suc m)) _ u in
     let two = and_parts (not (0 == 0 && suc m == suc m)) _ one.1 in
     false≢true (sym (ap (λ t. not (0 == 0 && t)) (eq-eqb (suc m) (suc m) refl)) ∙ two.0)
-none_through l levels weights forced forbidden first rotations needs (inr room) =
-    let m = length rotations in
-    let net : Net = net_of l levels weights forced forbidden first rotations needs in
-    absurd (let r : 0 < 0 = subst (λ b. 0 < (if b then net.supply m else 0)) (le-ltb m m (omega arith)) room in omega (arith, r))
+none_through l levels weights forced forbidden first rotations needs (inr room) = no_room_through (net_of l levels weights forced forbidden first rotations needs) room
+
+-- and so no edge of the second net of a flow in such a net
+pub none_through_second : (net : Net) (flow : ℕ → ℕ → ℕ) (gains : ℕ → ℤ) → IsFlow net flow → (HasEdge net 0 (sink_of net) → ⊥) → HasEdge (second_net net flow gains) 0 (sink_of net) → ⊥
+none_through_second net flow gains is_flow none (inl u) = elim (step_of_edge net flow gains 0 (sink_of net) u).step [
+  | inl unbounded ↦ none (inl unbounded)
+  | inr bounded ↦ elim bounded [
+    | inl less ↦ none (inr (omega (arith, less)))
+    | inr back ↦ let most = is_flow.within (sink_of net) 0 (λ e. false≢true e) in omega (arith, back, most)
+  ]
+]
+none_through_second net flow gains is_flow none (inr room) = no_room_through (second_net net flow gains) room
 
 -- Sets of rotations.
 

@@ -17,3 +17,4 @@ pub mod WeightFigures
 pub mod WeightAgree
 pub mod WitnessLemmas
 pub mod WeightWitness
+pub mod SecondWitness

@@ -184,8 +184,9 @@ module _ (w : Written) (after : Option (List ℕ)) (limit : ℕ) where
 -- the law for `list`
 pub list_agrees : ListAgrees
 list_agrees w after limit lines i h a =
-    let x = head w after limit a.out a.more a.listing ∷ vector_lines after a.out a.more in
-    subst (GetYes (Two w)) (sym a.shows)
-    (yes_of (Two w) x (subst (All (IsLineOf (Two w))) a.shows (list_sound limit i h.0 h.1.least h.1.greatest lines a))
-    (fitting w after limit a.out a.more a.listing a.cursor) (placed w after limit a.out a.more a.listing)
-    (all_hold (C w after limit) x (all w after limit a.out a.more a.listing)))
+    let l = a.listed in
+    let x = head w after limit l.out l.more l.listing ∷ vector_lines after l.out l.more in
+    subst (GetYes (Two w)) (sym l.shows)
+    (yes_of (Two w) x (subst (All (IsLineOf (Two w))) l.shows (list_sound limit i h.0 h.1.least h.1.greatest lines a))
+    (fitting w after limit l.out l.more l.listing a.cursor) (placed w after limit l.out l.more l.listing)
+    (all_hold (C w after limit) x (all w after limit l.out l.more l.listing)))

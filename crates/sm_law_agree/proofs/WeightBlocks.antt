@@ -1,10 +1,11 @@
 -- The clauses of `weight`, and that they hold at the first seats and at the blocks of a right answer.
-use Rattle.std.proofs.Common.{◌≡◌, ℕ, ◌&&◌, ◌+◌, ◌-◌, ◌<◌, arith, refl, sym, ap, ◌∙◌, pred, Bool, true, List, [], ◌∷◌, ◌++◌, length, map, take, subst, ℤ, append_assoc}
+use Rattle.std.proofs.Common.{◌≡◌, ℕ, ◌&&◌, ◌+◌, ◌-◌, ◌<◌, arith, refl, sym, ap, ◌∙◌, pred, Bool, true, false, if◌then◌else◌, List, [], ◌∷◌, ◌++◌, length, map, take, Option, subst, ℤ, append-nil, append_assoc}
 use Rattle.std.specs.List.{All, list_all, flat_map, range_with_len}
 use Rattle.std.proofs.lemmas.List.{length-take-le, take_more}
 use Rattle.sm_instance.specs.Written.{Written}
 use Rattle.sm_instance.specs.Sound.{IsInstance}
 use Rattle.sm_instance.specs.declared.inputs.Input.TheVariants.{Two}
+use Rattle.sm_instance.specs.Ranks.{pair_weight}
 use Rattle.sm_instance.specs.declared.kinds.Measure.{Measure}
 use Rattle.sm_instance.specs.declared.kinds.Side.TheVariants.{Proposers}
 use Rattle.sm_market.specs.Lists.{Lists, row, IsMarket}
@@ -19,30 +20,31 @@ use Rattle.sm_report.specs.Lines.{LineData}
 use Rattle.sm_answer.specs.Lines.{lines_from}
 use Rattle.sm_seats.specs.SeatMarket.{seat_market, seats_of}
 use Rattle.sm_seats.specs.Seating.{Seating, seating_of}
-use Rattle.sm_seats.specs.Correspondence.{IsSeating, weights_of}
+use Rattle.sm_seats.specs.Correspondence.{IsSeating, weights_by}
 use Rattle.sm_seats.proofs.CorrespondenceLaws.{is_seating, sound_entries}
+use Rattle.sm_placed.specs.Levels.{has_two_levels, pair_second_by}
 use Rattle.sm_answer_rotations.specs.Reduction.{seat_of, seat_line}
 use Rattle.sm_answer_rotations.specs.RotationLines.{numbers_of, seated_rotation, rotation_line, needs_line}
 use Rattle.sm_answer_rotations.specs.RotationAnswer.{pairs_of}
 use Rattle.sm_answer_rotations.proofs.RotationLemmas.{seats_named}
-use Rattle.sm_answer_weight.specs.WeightAnswer.{gain_of_pairs}
+use Rattle.sm_answer_weight.specs.WeightAnswer.{gain_of_pairs, in_two}
 use Rattle.sm_answer_weight.proofs.GainLemmas.{gain_shown}
 use Rattle.sm_check_forms.specs.Seats.{seat_number, all_numbered}
 use Rattle.sm_check_forms.specs.Forms.{fits}
 use Rattle.sm_check_answers.specs.declared.verdicts.Reason.{Reason}
 use Rattle.sm_check_answers.specs.declared.verdicts.Reason.TheVariants as reason
-use Rattle.sm_check_answers.specs.Said.{first_in, firsts_in, pair_in, pairs_in}
+use Rattle.sm_check_answers.specs.Said.{first_in, firsts_in, rotations_in, pair_in, pairs_in, IsEnd}
 use Rattle.sm_check_answers.specs.Pairs.{WantedHold}
-use Rattle.sm_check_answers.specs.SeatMatchings.{IsFreeSeat, first_of}
-use Rattle.sm_check_answers.specs.Chain.{reached, ChainHolds}
-use Rattle.sm_check_answers.specs.Flows.{Level, first_level, LevelHolds, TakenHolds, taken_matching, WeightHolds}
+use Rattle.sm_check_answers.specs.SeatMatchings.{FirstsHold, IsFreeSeat, first_of}
+use Rattle.sm_check_answers.specs.Chain.{reached, ChainHolds, last_rotation}
+use Rattle.sm_check_answers.specs.Flows.{Level, first_level, second_level, last_level, LevelHolds, TakenHolds, taken_matching, WeightHolds}
 use Rattle.sm_check_answers.proofs.LinewiseLemmas.{no_end}
 use Rattle.sm_check_answers.proofs.AnswerLemmas.{said_same}
 use Rattle.sm_law_agree.proofs.LineLemmas.{Held}
 use Rattle.sm_law_agree.proofs.SeatLemmas.{is_seat_shown, all_numbered-seated, all_seated, SeatsAbove, seats_hold, seats_pass, firsts_hold}
 use Rattle.sm_law_agree.proofs.BlockLemmas.{blocks_hold, blocks_pass}
 use Rattle.sm_law_agree.proofs.RotationsAgree.{same_rotation, same_stage, needs_of_front, numbers_back, pairs_fit}
-use Rattle.sm_law_agree.proofs.WeightLines.{Said, said_in, with_line, said_one, AreSaid, told, Early, early_more, early_as, in_blocks, three_lines}
+use Rattle.sm_law_agree.proofs.WeightLines.{Said, said_in, with_line, said_one, AreSaid, told, Early, early_more, early_as, in_blocks, gain_shown_at, second_shown_at, block_lines}
 
 -- The clauses, by what holds at a line.
 
@@ -52,10 +54,6 @@ module _ (w : Written) (by : Measure) where
   C above line why = WeightHolds w by above line why
 
   module _ (above : List LineData) (line : LineData) where
-    -- what the lines above say of the flow and of the set
-    abbrev pub level : Level
-    level = first_level w by above
-
     -- on the chain
     pub chain_holds : ChainHolds w above line reason.NotExposed → ChainHolds w above line reason.RotationMissing → ChainHolds w above line reason.WrongNeeds → (why : Reason) → ChainHolds w above line why
     chain_holds lowest complete needed reason.NotExposed = lowest
@@ -63,51 +61,89 @@ module _ (w : Written) (by : Measure) where
     chain_holds lowest complete needed reason.WrongNeeds = needed
     chain_holds lowest complete needed _ = tt
 
-    -- on the flow
-    pub flows_hold : LevelHolds w level above line reason.WrongGain → LevelHolds w level above line reason.NoEdge → LevelHolds w level above line reason.OverRoom
+    -- on the flow of a level
+    pub flows_hold : (level : Level) → LevelHolds w level above line reason.WrongGain → LevelHolds w level above line reason.NoEdge → LevelHolds w level above line reason.OverRoom
         → LevelHolds w level above line reason.NotConserved → LevelHolds w level above line reason.WrongValue → LevelHolds w level above line reason.WrongCut
         → LevelHolds w level above line reason.CutDiffers → LevelHolds w level above line reason.WrongTotal → (why : Reason) → LevelHolds w level above line why
-    flows_hold gain edge room conserved value cut differs total reason.WrongGain = gain
-    flows_hold gain edge room conserved value cut differs total reason.NoEdge = edge
-    flows_hold gain edge room conserved value cut differs total reason.OverRoom = room
-    flows_hold gain edge room conserved value cut differs total reason.NotConserved = conserved
-    flows_hold gain edge room conserved value cut differs total reason.WrongValue = value
-    flows_hold gain edge room conserved value cut differs total reason.WrongCut = cut
-    flows_hold gain edge room conserved value cut differs total reason.CutDiffers = differs
-    flows_hold gain edge room conserved value cut differs total reason.WrongTotal = total
-    flows_hold gain edge room conserved value cut differs total _ = tt
+    flows_hold level gain edge room conserved value cut differs total reason.WrongGain = gain
+    flows_hold level gain edge room conserved value cut differs total reason.NoEdge = edge
+    flows_hold level gain edge room conserved value cut differs total reason.OverRoom = room
+    flows_hold level gain edge room conserved value cut differs total reason.NotConserved = conserved
+    flows_hold level gain edge room conserved value cut differs total reason.WrongValue = value
+    flows_hold level gain edge room conserved value cut differs total reason.WrongCut = cut
+    flows_hold level gain edge room conserved value cut differs total reason.CutDiffers = differs
+    flows_hold level gain edge room conserved value cut differs total reason.WrongTotal = total
+    flows_hold level gain edge room conserved value cut differs total _ = tt
+
+    -- what holds of the first level where there is one, and of the second one where there are two, holds of the last
+    pub of_last : (P : Level → Type 0) → (has_two_levels by w ≡ false → P (first_level w by above)) → (has_two_levels by w ≡ true → P (second_level w by above)) → P (last_level w by above)
+    of_last P one two = go (has_two_levels by w) refl
+      where
+        go : (t : Bool) → has_two_levels by w ≡ t → P (if t then second_level w by above else first_level w by above)
+        go true e = two e
+        go false e = one e
 
     -- on the set that is taken
-    pub taken_holds : TakenHolds w level above line reason.NotClosed → TakenHolds w level above line reason.NotLeast → (why : Reason) → TakenHolds w level above line why
-    taken_holds closed least reason.NotClosed = closed
-    taken_holds closed least reason.NotLeast = least
-    taken_holds closed least _ = tt
+    pub taken_holds : (level : Level) → TakenHolds w level above line reason.NotClosed → TakenHolds w level above line reason.NotLeast → (why : Reason) → TakenHolds w level above line why
+    taken_holds level closed least reason.NotClosed = closed
+    taken_holds level closed least reason.NotLeast = least
+    taken_holds level closed least _ = tt
 
     -- on the pairs
     pub wanted_holds : WantedHold w (taken_matching w above) (pairs_in above) line reason.WrongPair → (why : Reason) → WantedHold w (taken_matching w above) (pairs_in above) line why
     wanted_holds wanted reason.WrongPair = wanted
     wanted_holds wanted _ = tt
 
+    -- all of them, by the clauses of both levels
+    pub all_hold_at : ((why : Reason) → FirstsHold w above line why) → ((why : Reason) → ChainHolds w above line why)
+        → ((why : Reason) → LevelHolds w (first_level w by above) above line why) → (has_two_levels by w ≡ true → (why : Reason) → LevelHolds w (second_level w by above) above line why)
+        → ((why : Reason) → TakenHolds w (last_level w by above) above line why) → ((why : Reason) → WantedHold w (taken_matching w above) (pairs_in above) line why)
+        → (why : Reason) → C above line why
+    all_hold_at firsts chain first second taken wanted why = (
+      firsts why,
+      chain why,
+      first why,
+      of_last (λ level. LevelHolds w level above line why) (λ e. first why) (λ e. second e why),
+      taken why,
+      wanted why,
+    )
+
+    -- at a line that isn't of the set and no pair, and not the last one, what is asked for behind it holds
+    pub none_taken : TakenHolds w (first_level w by above) above line reason.NotClosed → (IsEnd line → ⊥) → (why : Reason) → TakenHolds w (last_level w by above) above line why
+    none_taken closed not_last = taken_holds (last_level w by above) closed (λ e. absurd (not_last e))
+
   -- nothing is asked for at the head
   pub head_holds : (why : Reason) → C [] (LineData.Answer (HeadData.Weight by)) why
-  head_holds why =
-      let x = LineData.Answer (HeadData.Weight by) in (
-        firsts_hold w [] x tt (λ b. no_end b.behind) why,
-        chain_holds [] x tt (λ b. no_end b.behind) tt why,
-        flows_hold [] x tt tt tt tt tt tt tt tt why,
-        taken_holds [] x tt (λ e. no_end e) why,
-        wanted_holds [] x (tt, λ e. no_end e) why,
-      )
+  head_holds =
+      let x = LineData.Answer (HeadData.Weight by) in
+      all_hold_at [] x (firsts_hold w [] x tt (λ b. no_end b.behind)) (chain_holds [] x tt (λ b. no_end b.behind) tt)
+      (flows_hold [] x (first_level w by []) tt tt tt tt tt tt tt tt) (λ e. flows_hold [] x (second_level w by []) tt tt tt tt tt tt tt tt)
+      (none_taken [] x tt (λ e. no_end e)) (wanted_holds [] x (tt, λ e. no_end e))
 
   first_holds : (above : List LineData) (p : ℕ) (seat : Seat) → IsFreeSeat (seat_market w) (firsts_in w above) (p, seat_number w seat) → (why : Reason) → C above (LineData.First p seat) why
-  first_holds above p seat free why =
-      let x = LineData.First p seat in (
-        firsts_hold w above x free (λ b. no_end b.behind) why,
-        chain_holds above x tt (λ b. no_end b.behind) tt why,
-        flows_hold above x tt tt tt tt tt tt tt tt why,
-        taken_holds above x tt (λ e. no_end e) why,
-        wanted_holds above x (tt, λ e. no_end e) why,
-      )
+  first_holds above p seat free =
+      let x = LineData.First p seat in
+      all_hold_at above x (firsts_hold w above x free (λ b. no_end b.behind)) (chain_holds above x tt (λ b. no_end b.behind) tt)
+      (flows_hold above x (first_level w by above) tt tt tt tt tt tt tt tt) (λ e. flows_hold above x (second_level w by above) tt tt tt tt tt tt tt tt)
+      (none_taken above x tt (λ e. no_end e)) (wanted_holds above x (tt, λ e. no_end e))
+
+-- Lines one after another.
+
+-- one line, and those behind it
+pub held_more : (Clauses : List LineData → LineData → Reason → Type 0) (P : List LineData → Type 0) (above : List LineData) (x : LineData) (rest : List LineData)
+    → ((why : Reason) → Clauses above x why) → Held Clauses P (above ++ x ∷ []) rest → Held Clauses P above (x ∷ rest)
+held_more Clauses P above x rest holds h = ((holds, h.0), subst P (append_assoc above (x ∷ []) rest) h.1)
+
+-- what stands in two levels alone: what is known behind it is known without it
+pub held_in_two : (Clauses : List LineData → LineData → Reason → Type 0) (P : List LineData → Type 0) (two : Bool) (above lines : List LineData)
+    → P above → Held Clauses P above lines → Held Clauses P above (in_two two lines)
+held_in_two Clauses P true above lines p h = h
+held_in_two Clauses P false above lines p h = (tt, subst P (sym (append-nil above)) p)
+
+-- it passes tests that its lines pass
+pub pass_in_two : (test : LineData → Bool) (two : Bool) (lines : List LineData) → list_all test lines ≡ true → list_all test (in_two two lines) ≡ true
+pass_in_two test true lines pass = pass
+pass_in_two test false lines pass = refl
 
 -- What is known behind the first seats of a chain.
 module _ {w : Written} {first : Places} {rotations : List (List (ℕ × ℕ))} (chain : IsCompleteChain (seat_market w) first rotations) (d : Said) (above : List LineData) (said : AreSaid w first d above) where
@@ -124,7 +160,7 @@ module _ {w : Written} {first : Places} {rotations : List (List (ℕ × ℕ))} (
 
 -- The first seats and the blocks of a chain.
 
-module _ {w : Written} (by : Measure) {first : Places} {rotations : List (List (ℕ × ℕ))} {needs : List (List ℕ)} (i : IsInstance w) (printed : IsPrintedChain (seat_market w) first rotations) (needed : AreNeeds (seat_market w) rotations needs) where
+module _ {w : Written} (two : Bool) (by : Measure) {first : Places} {rotations : List (List (ℕ × ℕ))} {needs : List (List ℕ)} (i : IsInstance w) (printed : IsPrintedChain (seat_market w) first rotations) (needed : AreNeeds (seat_market w) rotations needs) where
   abbrev l : Lists
   l = seat_market w
 
@@ -150,90 +186,118 @@ module _ {w : Written} (by : Measure) {first : Places} {rotations : List (List (
   there : (k : ℕ) → All (λ (pair : ℕ × ℕ). pair.1 < length (seats_of w)) (rotation_at rotations k)
   there k = seats_named s first rotations market seating.seats printed.chain k
 
-  abbrev gain_at : ℕ → LineData
-  gain_at k = LineData.Gain (k + 1) (gain_of_pairs by w (pairs_of (seated_rotation s (rotation_at rotations k))))
+  -- Lines of a block.
+
+  module _ (d : Said) (above : List LineData) (said : Early w first d above) where
+    best : IsProposersBest l (first_of w above)
+    best = best_above printed.chain d above said.0
+
+    -- all clauses hold at a line of a block, by what the chain and the levels ask for there
+    at_line : (x : LineData) → ((why : Reason) → FirstsHold w above x why) → ((why : Reason) → ChainHolds w above x why)
+        → ((why : Reason) → LevelHolds w (first_level w by above) above x why) → ((why : Reason) → LevelHolds w (second_level w by above) above x why)
+        → TakenHolds w (first_level w by above) above x reason.NotClosed → (IsEnd x → ⊥) → ((why : Reason) → WantedHold w (taken_matching w above) (pairs_in above) x why)
+        → (why : Reason) → C w by above x why
+    at_line x firsts chain one two closed not_last wanted = all_hold_at w by above x firsts chain one (λ e. two) (none_taken w by above x closed not_last) wanted
 
   module _ (k : ℕ) (less : k < m) (above : List LineData) where
     stage_is : stage l first (take k rotations) (length (take k rotations)) ≡ stage l first rotations k
     stage_is = ap (stage l first (take k rotations)) (length-take-le k rotations (omega (arith, less))) ∙ same_stage l first rotations k k (omega arith)
 
     rotation_holds : Early w first (in_blocks rotations needs k k) above → (why : Reason) → C w by above (rotation_line s rotations k) why
-    rotation_holds said why =
+    rotation_holds said =
         let x = rotation_line s rotations k in
+        let d = in_blocks rotations needs k k in
         let lowest : IsLowestExposed l (stage l first (take k rotations) (length (take k rotations))) (rotation_at rotations k) =
         subst (λ (f : Places). IsLowestExposed l f (rotation_at rotations k)) (sym stage_is) (printed.lowest k less) in
-        let numbered = subst (IsLowestExposed l (stage l first (take k rotations) (length (take k rotations)))) (sym (all_numbered-seated w (rotation_at rotations k) (there k))) lowest in (
-          firsts_hold w above x tt (λ _. best_above printed.chain (in_blocks rotations needs k k) above said.0) why,
-          chain_holds w by above x
-              (told w first (λ f d. IsLowestExposed l (stage l f d.rotations (length d.rotations)) (all_numbered w (seated_rotation s (rotation_at rotations k)))) (in_blocks rotations needs k k) above said.0 numbered)
-              (λ b. no_end b.behind) tt why,
-          flows_hold w by above x tt tt tt tt tt tt tt tt why,
-          taken_holds w by above x tt (λ e. no_end e) why,
-          wanted_holds w by above x (tt, λ e. no_end e) why,
-        )
+        let numbered = subst (IsLowestExposed l (stage l first (take k rotations) (length (take k rotations)))) (sym (all_numbered-seated w (rotation_at rotations k) (there k))) lowest in
+        at_line d above said x (firsts_hold w above x tt (λ _. best d above said))
+        (chain_holds w by above x (told w first (λ f d. IsLowestExposed l (stage l f d.rotations (length d.rotations)) (all_numbered w (seated_rotation s (rotation_at rotations k)))) d above said.0 numbered)
+        (λ b. no_end b.behind) tt)
+        (flows_hold w by above x (first_level w by above) tt tt tt tt tt tt tt tt) (flows_hold w by above x (second_level w by above) tt tt tt tt tt tt tt tt)
+        tt (λ e. no_end e) (wanted_holds w by above x (tt, λ e. no_end e))
 
     rotation_said : Early w first (in_blocks rotations needs k k) above → Early w first (in_blocks rotations needs (k + 1) k) (above ++ rotation_line s rotations k ∷ [])
     rotation_said said =
         let more : take k rotations ++ all_numbered w (seated_rotation s (rotation_at rotations k)) ∷ [] ≡ take (k + 1) rotations =
         ap (λ x. take k rotations ++ x ∷ []) (all_numbered-seated w (rotation_at rotations k) (there k)) ∙ sym (take_more rotations k [] less) in
         early_as w first (with_line w (in_blocks rotations needs k k) (rotation_line s rotations k)) (in_blocks rotations needs (k + 1) k) (above ++ rotation_line s rotations k ∷ [])
-        (λ i. record { rotations = more i; needs = take k needs; flows = []; taken = []; values = [] })
+        (λ i. record { rotations = more i; needs = take k needs; flows = []; second_flows = []; taken = []; values = []; second_values = [] })
         (early_more w first (in_blocks rotations needs k k) above (rotation_line s rotations k) refl refl said)
 
     last_is : length (take (k + 1) rotations) - 1 ≡ k
     last_is = omega (arith, length-take-le (k + 1) rotations (omega (arith, less)))
 
     needs_hold : Early w first (in_blocks rotations needs (k + 1) k) above → (why : Reason) → C w by above (needs_line needs k) why
-    needs_hold said why =
+    needs_hold said =
         let x = needs_line needs k in
+        let d = in_blocks rotations needs (k + 1) k in
         let xs = take (k + 1) rotations in
         let all = needs_of_front l first rotations (k + 1) market printed.chain (omega (arith, less)) k (row needs k) (omega arith) (needed.each k less) in
         let of_last : AreNeedsOf l xs (length xs - 1) (map pred (numbers_of (row needs k))) =
-        subst (λ j. AreNeedsOf l xs j (map pred (numbers_of (row needs k)))) (sym last_is) (subst (AreNeedsOf l xs k) (sym (numbers_back (row needs k))) all) in (
-          firsts_hold w above x tt (λ _. best_above printed.chain (in_blocks rotations needs (k + 1) k) above said.0) why,
-          chain_holds w by above x tt (λ b. no_end b.behind)
-              (told w first (λ f d. AreNeedsOf l d.rotations (length d.rotations - 1) (map pred (numbers_of (row needs k)))) (in_blocks rotations needs (k + 1) k) above said.0 of_last) why,
-          flows_hold w by above x tt tt tt tt tt tt tt tt why,
-          taken_holds w by above x tt (λ e. no_end e) why,
-          wanted_holds w by above x (tt, λ e. no_end e) why,
-        )
+        subst (λ j. AreNeedsOf l xs j (map pred (numbers_of (row needs k)))) (sym last_is) (subst (AreNeedsOf l xs k) (sym (numbers_back (row needs k))) all) in
+        at_line d above said x (firsts_hold w above x tt (λ _. best d above said))
+        (chain_holds w by above x tt (λ b. no_end b.behind) (told w first (λ f d. AreNeedsOf l d.rotations (length d.rotations - 1) (map pred (numbers_of (row needs k)))) d above said.0 of_last))
+        (flows_hold w by above x (first_level w by above) tt tt tt tt tt tt tt tt) (flows_hold w by above x (second_level w by above) tt tt tt tt tt tt tt tt)
+        tt (λ e. no_end e) (wanted_holds w by above x (tt, λ e. no_end e))
 
     needs_said : Early w first (in_blocks rotations needs (k + 1) k) above → Early w first (in_blocks rotations needs (k + 1) (k + 1)) (above ++ needs_line needs k ∷ [])
     needs_said said =
         let more : take k needs ++ map pred (numbers_of (row needs k)) ∷ [] ≡ take (k + 1) needs =
         ap (λ x. take k needs ++ x ∷ []) (numbers_back (row needs k)) ∙ sym (take_more needs k [] (omega (arith, less, needed.one_each))) in
         early_as w first (with_line w (in_blocks rotations needs (k + 1) k) (needs_line needs k)) (in_blocks rotations needs (k + 1) (k + 1)) (above ++ needs_line needs k ∷ [])
-        (λ i. record { rotations = take (k + 1) rotations; needs = more i; flows = []; taken = []; values = [] })
+        (λ i. record { rotations = take (k + 1) rotations; needs = more i; flows = []; second_flows = []; taken = []; values = []; second_values = [] })
         (early_more w first (in_blocks rotations needs (k + 1) k) above (needs_line needs k) refl refl said)
 
-    gain_holds : Early w first (in_blocks rotations needs (k + 1) (k + 1)) above → (why : Reason) → C w by above (gain_at k) why
-    gain_holds said why =
-        let x = gain_at k in
-        let gain = gain_of_pairs by w (pairs_of (seated_rotation s (rotation_at rotations k))) in
-        let gained : List (ℕ × ℕ) → ℤ = gain_of l (weights_of by w s) in
+    -- the gain that is shown of the last rotation is its gain, whatever is weighed
+    gain_told : (weigh : ℕ → Option ℕ → ℤ) → Early w first (in_blocks rotations needs (k + 1) (k + 1)) above
+        → gain_of_pairs weigh w (pairs_of (seated_rotation s (rotation_at rotations k))) ≡ gain_of l (weights_by weigh s) (rotation_at (rotations_in w above) (last_rotation w above))
+    gain_told weigh said =
+        let d = in_blocks rotations needs (k + 1) (k + 1) in
+        let gain = gain_of_pairs weigh w (pairs_of (seated_rotation s (rotation_at rotations k))) in
+        let gained : List (ℕ × ℕ) → ℤ = gain_of l (weights_by weigh s) in
         let right : gain ≡ gained (rotation_at (take (k + 1) rotations) (length (take (k + 1) rotations) - 1)) =
-        sym (gain_shown seating by printed.chain k less) ∙ ap gained (sym (ap (rotation_at (take (k + 1) rotations)) last_is ∙ same_rotation l first rotations (k + 1) k (omega arith))) in (
-          firsts_hold w above x tt (λ _. best_above printed.chain (in_blocks rotations needs (k + 1) (k + 1)) above said.0) why,
-          chain_holds w by above x tt (λ b. no_end b.behind) tt why,
-          flows_hold w by above x (told w first (λ f d. gain ≡ gained (rotation_at d.rotations (length d.rotations - 1))) (in_blocks rotations needs (k + 1) (k + 1)) above said.0 right) tt tt tt tt tt tt tt why,
-          taken_holds w by above x tt (λ e. no_end e) why,
-          wanted_holds w by above x (tt, λ e. no_end e) why,
-        )
+        sym (gain_shown seating weigh printed.chain k less) ∙ ap gained (sym (ap (rotation_at (take (k + 1) rotations)) last_is ∙ same_rotation l first rotations (k + 1) k (omega arith))) in
+        told w first (λ f d. gain ≡ gained (rotation_at d.rotations (length d.rotations - 1))) d above said.0 right
 
-    gain_said : Early w first (in_blocks rotations needs (k + 1) (k + 1)) above → Early w first (in_blocks rotations needs (k + 1) (k + 1)) (above ++ gain_at k ∷ [])
-    gain_said said = early_more w first (in_blocks rotations needs (k + 1) (k + 1)) above (gain_at k) refl refl said
+    gain_holds : Early w first (in_blocks rotations needs (k + 1) (k + 1)) above → (why : Reason) → C w by above (gain_shown_at by w rotations k) why
+    gain_holds said =
+        let x = gain_shown_at by w rotations k in
+        let d = in_blocks rotations needs (k + 1) (k + 1) in
+        at_line d above said x (firsts_hold w above x tt (λ _. best d above said)) (chain_holds w by above x tt (λ b. no_end b.behind) tt)
+        (flows_hold w by above x (first_level w by above) (gain_told (pair_weight by w) said) tt tt tt tt tt tt tt)
+        (flows_hold w by above x (second_level w by above) tt tt tt tt tt tt tt tt)
+        tt (λ e. no_end e) (wanted_holds w by above x (tt, λ e. no_end e))
 
-  block_step : (k : ℕ) (above : List LineData) → k < m → Early w first (in_blocks rotations needs k k) above → Held (C w by) (Early w first (in_blocks rotations needs (k + 1) (k + 1))) above (three_lines by w rotations needs k)
+    second_gain_holds : Early w first (in_blocks rotations needs (k + 1) (k + 1)) above → (why : Reason) → C w by above (second_shown_at by w rotations k) why
+    second_gain_holds said =
+        let x = second_shown_at by w rotations k in
+        let d = in_blocks rotations needs (k + 1) (k + 1) in
+        at_line d above said x (firsts_hold w above x tt (λ _. best d above said)) (chain_holds w by above x tt (λ b. no_end b.behind) tt)
+        (flows_hold w by above x (first_level w by above) tt tt tt tt tt tt tt tt)
+        (flows_hold w by above x (second_level w by above) (gain_told (pair_second_by by w) said) tt tt tt tt tt tt tt)
+        tt (λ e. no_end e) (wanted_holds w by above x (tt, λ e. no_end e))
+
+    -- a line of a gain says nothing that is asked for later
+    gain_said : Early w first (in_blocks rotations needs (k + 1) (k + 1)) above → Early w first (in_blocks rotations needs (k + 1) (k + 1)) (above ++ gain_shown_at by w rotations k ∷ [])
+    gain_said said = early_more w first (in_blocks rotations needs (k + 1) (k + 1)) above (gain_shown_at by w rotations k) refl refl said
+
+    second_gain_said : Early w first (in_blocks rotations needs (k + 1) (k + 1)) above → Early w first (in_blocks rotations needs (k + 1) (k + 1)) (above ++ second_shown_at by w rotations k ∷ [])
+    second_gain_said said = early_more w first (in_blocks rotations needs (k + 1) (k + 1)) above (second_shown_at by w rotations k) refl refl said
+
+  block_step : (k : ℕ) (above : List LineData) → k < m → Early w first (in_blocks rotations needs k k) above → Held (C w by) (Early w first (in_blocks rotations needs (k + 1) (k + 1))) above (block_lines two by w rotations needs k)
   block_step k above less said =
+      let P = Early w first (in_blocks rotations needs (k + 1) (k + 1)) in
       let one = above ++ rotation_line s rotations k ∷ [] in
-      let two = one ++ needs_line needs k ∷ [] in
+      let other = one ++ needs_line needs k ∷ [] in
+      let gained = other ++ gain_shown_at by w rotations k ∷ [] in
       let said_one = rotation_said k less above said in
-      let said_two = needs_said k less one said_one in
-      let same : two ++ gain_at k ∷ [] ≡ above ++ three_lines by w rotations needs k =
-      append_assoc one (needs_line needs k ∷ []) (gain_at k ∷ []) ∙ append_assoc above (rotation_line s rotations k ∷ []) (needs_line needs k ∷ gain_at k ∷ []) in (
-        (rotation_holds k less above said, (needs_hold k less one said_one, (gain_holds k less two said_two, tt))),
-        subst (Early w first (in_blocks rotations needs (k + 1) (k + 1))) same (gain_said k less two said_two),
-      )
+      let said_other = needs_said k less one said_one in
+      let said_gain = gain_said k less other said_other in
+      let second = second_shown_at by w rotations k in
+      let rest = held_in_two (C w by) P two gained (second ∷ []) said_gain ((second_gain_holds k less gained said_gain, tt), second_gain_said k less gained said_gain) in
+      held_more (C w by) P above (rotation_line s rotations k) (needs_line needs k ∷ gain_shown_at by w rotations k ∷ in_two two (second ∷ [])) (rotation_holds k less above said)
+      (held_more (C w by) P one (needs_line needs k) (gain_shown_at by w rotations k ∷ in_two two (second ∷ [])) (needs_hold k less one said_one)
+      (held_more (C w by) P other (gain_shown_at by w rotations k) (in_two two (second ∷ [])) (gain_holds k less other said_other) rest))
 
   abbrev head : LineData
   head = LineData.Answer (HeadData.Weight by)
@@ -242,7 +306,7 @@ module _ {w : Written} (by : Measure) {first : Places} {rotations : List (List (
   firsts = lines_from (seat_line Proposers s first) 0 n
 
   abbrev blocks : List LineData
-  blocks = flat_map (three_lines by w rotations needs) (range_with_len 0 m)
+  blocks = flat_map (block_lines two by w rotations needs) (range_with_len 0 m)
 
   -- before the first seats and among them nothing else is said
   abbrev NothingElse : List LineData → Type 0
@@ -259,7 +323,7 @@ module _ {w : Written} (by : Measure) {first : Places} {rotations : List (List (
   pub blocks_are : Held (C w by) (Early w first (in_blocks rotations needs m m)) (head ∷ firsts) blocks
   blocks_are =
       let k = firsts_are.1 in
-      blocks_hold (C w by) (λ k. Early w first (in_blocks rotations needs k k)) (three_lines by w rotations needs) m block_step 0 m (head ∷ firsts) (omega arith)
+      blocks_hold (C w by) (λ k. Early w first (in_blocks rotations needs k k)) (block_lines two by w rotations needs) m block_step 0 m (head ∷ firsts) (omega arith)
       (record { first_is = all_seated k.0 market matching; said_is = k.1.0 }, k.1.1)
 
   -- Tests that they pass.
@@ -268,10 +332,14 @@ module _ {w : Written} (by : Measure) {first : Places} {rotations : List (List (
   pub firsts_pass : (test : LineData → Bool) → ((p k : ℕ) → k < length (seats_of w) → test (LineData.First p (seat_of s k)) ≡ true) → list_all test firsts ≡ true
   firsts_pass test each = seats_pass w first market matching Proposers (seat_line Proposers s first) (λ p less. refl) test each
 
-  pub three_pass : (test : LineData → Bool) → ((k : ℕ) → test (rotation_line s rotations k) ≡ true) → ((k : ℕ) → test (needs_line needs k) ≡ true) → ((k : ℕ) → test (gain_at k) ≡ true) → list_all test blocks ≡ true
-  three_pass test a b c =
-      blocks_pass test (three_lines by w rotations needs)
-      (λ k. ap (λ t. t && (test (needs_line needs k) && (test (gain_at k) && true))) (a k) ∙ ap (λ t. t && (test (gain_at k) && true)) (b k) ∙ ap (λ t. t && true) (c k)) 0 m
+  -- the blocks pass one that each of their lines passes
+  pub lines_pass : (test : LineData → Bool) → ((k : ℕ) → test (rotation_line s rotations k) ≡ true) → ((k : ℕ) → test (needs_line needs k) ≡ true)
+      → ((k : ℕ) → test (gain_shown_at by w rotations k) ≡ true) → ((k : ℕ) → test (second_shown_at by w rotations k) ≡ true) → list_all test blocks ≡ true
+  lines_pass test a b c d =
+      blocks_pass test (block_lines two by w rotations needs)
+      (λ k. let rest = list_all test (in_two two (second_shown_at by w rotations k ∷ [])) in
+      ap (λ t. t && (test (needs_line needs k) && (test (gain_shown_at by w rotations k) && rest))) (a k) ∙ ap (λ t. t && (test (gain_shown_at by w rotations k) && rest)) (b k) ∙ ap (λ t. t && rest) (c k)
+      ∙ pass_in_two test two (second_shown_at by w rotations k ∷ []) (ap (λ t. t && true) (d k))) 0 m
 
   -- the first seats are of their form
   pub firsts_fit : list_all (fits (Two w)) firsts ≡ true
@@ -279,4 +347,4 @@ module _ {w : Written} (by : Measure) {first : Places} {rotations : List (List (
 
   -- the blocks are of their form
   pub blocks_fit : list_all (fits (Two w)) blocks ≡ true
-  blocks_fit = three_pass (fits (Two w)) (λ k. pairs_fit w (rotation_at rotations k) (there k)) (λ k. refl) (λ k. refl)
+  blocks_fit = lines_pass (fits (Two w)) (λ k. pairs_fit w (rotation_at rotations k) (there k)) (λ k. refl) (λ k. refl) (λ k. refl)

@@ -1,20 +1,17 @@
 -- The answer of `weight` of specs/Witnesses.antt.
-use Rattle.std.proofs.Common.{◌≡◌, ◌≢◌, ℕ, zero, suc, ◌<◌, ◌≤◌, inl, inr, true, Bool, List, [], ◌∷◌, Option, refl, sym, ap, ◌∙◌, subst, arith}
-use Rattle.std.specs.Prelude.{ℤ, pos, negsuc, ◌≤ℤ◌}
+use Rattle.std.proofs.Common.{◌≡◌, ◌≢◌, ℕ, zero, suc, ◌<◌, ◌≤◌, ◌↔◌, inl, inr, true, Bool, List, [], ◌∷◌, refl, ap, arith}
+use Rattle.std.specs.Prelude.{ℤ, pos, negsuc}
 use Rattle.std.specs.List.{All}
 use Rattle.std.specs.Int.RustNames.{unsigned_abs}
 use Rattle.std.proofs.lemmas.List.Elements.{All-cons, All-from_recursion}
 use Rattle.sm_instance.proofs.OrderLemmas.{range_is_each_once}
 use Rattle.sm_instance.proofs.SecondLemmas.{zeros_small}
 use Rattle.sm_instance.specs.Written.{Written}
-use Rattle.sm_instance.specs.Matching.{standing}
-use Rattle.sm_instance.specs.Ranks.{weight_of as written_weight}
 use Rattle.sm_instance.specs.Sound.{IsInstance, IsSoundItem, items_of}
 use Rattle.sm_lists.specs.Pairs.{pair_at}
 use Rattle.sm_instance.specs.declared.inputs.Input.TheVariants.{Two}
-use Rattle.sm_instance.specs.declared.kinds.Measure.{Measure}
 use Rattle.sm_instance.specs.declared.kinds.Measure.TheVariants.{Given}
-use Rattle.sm_market.specs.Matching.{Places, standing as market_standing}
+use Rattle.sm_market.specs.Matching.{Places}
 use Rattle.sm_answer.proofs.AnswerLemmas.{one_all}
 use Rattle.sm_report.specs.Heads.{HeadData}
 use Rattle.sm_report.specs.Lines.{LineData}
@@ -22,11 +19,11 @@ use Rattle.sm_report.specs.Sound.{IsLineOf, IsSeatNumber, ArePair}
 use Rattle.sm_report.specs.declared.lines.Seat.{Seat}
 use Rattle.sm_theory.specs.ClosedSets.{IsMember, IsClosed, matching_of}
 use Rattle.sm_theory.specs.Vectors.{IsAllowed}
-use Rattle.sm_theory.specs.Weights.{weight_of}
 use Rattle.sm_theory.specs.Net.{NoneLeaves}
 use Rattle.sm_theory.specs.Flows.{IsResidualStep, IsResidualReach}
 use Rattle.sm_theory.specs.FlowLines.{amount_on}
 use Rattle.sm_theory.specs.Conditions.{IsLightestAllowed}
+use Rattle.sm_theory.specs.SecondNets.{IsLightestOfTwo}
 use Rattle.sm_theory.specs.Witnesses.{three_cycle, three_cycle_first, three_cycle_chain}
 use Rattle.sm_theory.specs.WitnessesFlows.{three_cycle_levels, three_cycle_weights, three_cycle_needs, three_cycle_net}
 use Rattle.sm_theory.specs.WitnessesLines.{three_cycle_lines}
@@ -36,19 +33,20 @@ use Rattle.sm_theory.proofs.Flow.Witness.{worked_net}
 use Rattle.sm_theory.proofs.Net.Cuts.{cuts_are_allowed}
 use Rattle.sm_theory.proofs.Tests.Markets.{below_two, three_cycle_is}
 use Rattle.sm_theory.proofs.Weighing.Lightest.{reach_is_best_lightest}
-use Rattle.sm_seats.specs.SeatMarket.{seat_market}
-use Rattle.sm_seats.specs.Seating.{seating_of, levels_of, written_of}
-use Rattle.sm_seats.specs.Correspondence.{IsSeating, leveled, weights_of}
+use Rattle.sm_theory.proofs.Weighing.Second.{one_level}
+use Rattle.sm_seats.specs.Seating.{seating_of, written_of}
+use Rattle.sm_seats.specs.Correspondence.{IsSeating}
 use Rattle.sm_seats.proofs.CorrespondenceLaws.{is_seating, sound_entries}
-use Rattle.sm_seats.proofs.SeatingLaws.{as_well}
-use Rattle.sm_seats.proofs.VectorLaws.{allowed_seats, lightest_written}
+use Rattle.sm_placed.specs.Levels.{pair_second_by, seconds_by}
+use Rattle.sm_placed.proofs.LevelLemmas.{none_second}
 use Rattle.sm_answer_rotations.proofs.ShownLemmas.{correspondence}
-use Rattle.sm_answer_weight.specs.WeightAnswer.{WeightParts, member_numbers, IsWeightAnswer}
-use Rattle.sm_instance.specs.Lightest.{IsLightest}
+use Rattle.sm_answer_weight.specs.WeightAnswer.{member_numbers, IsWeightAnswer}
+use Rattle.sm_instance.specs.Lightest.{IsLightestByBoth}
 use Rattle.sm_answer_weight.proofs.MemberLemmas.{are_rotations}
 use Rattle.sm_law_agree.specs.Witnesses.{weighed_three, WeighedThree}
 use Rattle.sm_report.specs.Witnesses.{first_seat_of}
-use Rattle.sm_answer_weight.specs.Witnesses.{worked_answer}
+use Rattle.sm_answer_weight.specs.Witnesses.{three_parts, worked_answer, answer_of_two}
+use Rattle.sm_answer_weight.proofs.SecondLemmas.{weight_none, lightest_by_both}
 use Rattle.sm_law_agree.proofs.WitnessLemmas.{three_instance}
 
 -- Its two weights are sound.
@@ -75,38 +73,14 @@ weighed_instance = record {
     other zero less same = let e : ◌≡◌ {A = ℕ} 1 2 = ap (λ (pair : ℕ × ℕ). pair.1) same in omega (arith, e)
     other (suc k) less same = absurd (omega (arith, less))
 
--- a lightest allowed matching of the seats that is best for all proposers is one of the instance
-lightest_of : (w : Written) (by : Measure) (m : Places) → IsSeating w (seating_of w)
-    → IsLightestAllowed (seat_market w) (levels_of (seating_of w)) (weights_of by w (seating_of w)) (leveled w w.forced) (leveled w w.forbidden) m
-    → ((n : Places) → IsLightestAllowed (seat_market w) (levels_of (seating_of w)) (weights_of by w (seating_of w)) (leveled w w.forced) (leveled w w.forbidden) n
-    → (p : ℕ) → market_standing (seat_market w).proposers m.proposers p ≤ market_standing (seat_market w).proposers n.proposers p)
-    → IsLightest by w (written_of (seating_of w) m.proposers)
-lightest_of w by m h least best = record {
-  stable = h.forgotten m least.stable;
-  allowed = (h.allowed m least.stable.matching).0 least.allowed;
-  lightest = lightest_written h by m least;
-  best = λ others st a same p.
-      let s = seating_of w in
-      let weights = weights_of by w s in
-      let x = allowed_seats h st a in
-      let equal : weight_of (seat_market w) weights x.matching ≡ weight_of (seat_market w) weights m =
-      h.weights by x.matching x.stable.matching ∙ ap (written_weight by w) x.forgets ∙ same ∙ sym (h.weights by m least.stable.matching) in
-      let as_light : IsLightestAllowed (seat_market w) (levels_of s) weights (leveled w w.forced) (leveled w w.forbidden) x.matching = record {
-        stable = x.stable;
-        allowed = x.allowed;
-        lightest = λ k sk ak. subst (λ z. z ≤ℤ weight_of (seat_market w) weights k) (sym equal) (least.lightest k sk ak);
-      } in
-      subst (λ (y : List (Option ℕ)). standing w (written_of s m.proposers) p ≤ standing w y p) x.forgets (as_well h least.stable x.stable p (best x.matching as_light p));
-}
-
 -- The flow leaves both rotations in its reach, which is a cut.
-abbrev set : List Bool
+abbrev pub set : List Bool
 set = true ∷ true ∷ []
 
 abbrev flow : ℕ → ℕ → ℕ
 flow = amount_on three_cycle_lines
 
-closed : IsClosed three_cycle three_cycle_chain set
+pub closed : IsClosed three_cycle three_cycle_chain set
 closed = record { one_each = refl; closed = λ i j x y member need. below_two (λ i. IsMember set i) refl refl i x }
 
 reach : IsResidualReach three_cycle_net flow set
@@ -121,7 +95,7 @@ reach = record {
     to_first : IsResidualStep three_cycle_net (amount_on three_cycle_lines) 2 1
     to_first = record { in_range = omega arith; step = inl refl }
 
-allowed : IsAllowed three_cycle_levels [] [] (matching_of three_cycle three_cycle_first three_cycle_chain set)
+pub allowed : IsAllowed three_cycle_levels [] [] (matching_of three_cycle three_cycle_first three_cycle_chain set)
 allowed = record { holds = λ c h. absurd (omega (arith, h)); avoids = λ c h. absurd (omega (arith, h)) }
 
 unleft : NoneLeaves three_cycle_net (IsResidualStep three_cycle_net flow) set
@@ -129,82 +103,116 @@ unleft =
     let cut = (cuts_are_allowed three_cycle three_cycle_levels three_cycle_weights [] [] three_cycle_first three_cycle_chain three_cycle_needs set worked_net.0).1 (closed, allowed) in
     (full_cuts_are_unleft three_cycle_net flow set worked_lines.1 cut.1).0 refl
 
-abbrev parts : WeightParts
-parts = record { first = three_cycle_first; rotations = three_cycle_chain; needs = three_cycle_needs; flow = three_cycle_lines; taken = set }
-
 seating : IsSeating weighed_three (seating_of weighed_three)
 seating = is_seating (sound_entries weighed_instance)
 
-lightest : IsLightest Given weighed_three (written_of (seating_of weighed_three) (matching_of three_cycle three_cycle_first three_cycle_chain set).proposers)
+abbrev places : Places
+places = matching_of three_cycle three_cycle_first three_cycle_chain set
+
+-- its second weights are all 0, so what is lightest by the first sum is so by both
+abbrev IsLightestSeated : Places → Type 0
+IsLightestSeated m = IsLightestOfTwo three_cycle three_cycle_levels three_cycle_weights (seconds_by Given weighed_three (seating_of weighed_three)) [] [] m
+
+by_first : (m : Places) → IsLightestSeated m ↔ IsLightestAllowed three_cycle three_cycle_levels three_cycle_weights [] [] m
+by_first m =
+    let s = seating_of weighed_three in
+    one_level three_cycle three_cycle_levels three_cycle_weights (seconds_by Given weighed_three s) [] [] m
+    (λ n. weight_none (pair_second_by Given weighed_three) (none_second Given weighed_three refl) s three_cycle n)
+
+lightest : IsLightestByBoth Given weighed_three (written_of (seating_of weighed_three) places.proposers)
 lightest =
     let both = reach_is_best_lightest three_cycle three_cycle_levels three_cycle_weights [] [] three_cycle_first three_cycle_chain three_cycle_needs flow set worked_net.0 refl worked_lines.1 reach unleft in
-    lightest_of weighed_three Given (matching_of three_cycle three_cycle_first three_cycle_chain set) seating both.0 both.1
+    lightest_by_both seating Given places ((by_first places).1 both.0) (λ n least p. both.1 n ((by_first n).0 least) p)
 
 -- Its lines are of the instance.
-abbrev P : LineData → Type 0
-P line = IsLineOf (Two weighed_three) line
+module _ (weights : List (ℕ × ℕ × ℤ)) (seconds : List ℤ) where
+  abbrev w : Written
+  w = record weighed_three { weights = weights; seconds = seconds }
 
-no_seats : All (λ (seat : Seat). IsSeatNumber weighed_three.kind seat.number) []
-no_seats = λ k d l. absurd (omega (arith, l))
+  abbrev P : LineData → Type 0
+  P line = IsLineOf (Two w) line
 
-first_line : (p r : ℕ) → p < 3 → r < 3 → P (LineData.First p (first_seat_of r))
-first_line p r a b = record { printable = (a, b); seats = one_all (λ (seat : Seat). IsSeatNumber weighed_three.kind seat.number) (first_seat_of r) refl; numbers = tt; head = tt }
+  no_seats : All (λ (seat : Seat). IsSeatNumber w.kind seat.number) []
+  no_seats = λ k d l. absurd (omega (arith, l))
 
-pair_line : (p r : ℕ) → p < 3 → r < 3 → P (LineData.Pair p r)
-pair_line p r a b = record { printable = (a, b); seats = no_seats; numbers = tt; head = tt }
+  first_line : (p r : ℕ) → p < 3 → r < 3 → P (LineData.First p (first_seat_of r))
+  first_line p r a b = record { printable = (a, b); seats = one_all (λ (seat : Seat). IsSeatNumber w.kind seat.number) (first_seat_of r) refl; numbers = tt; head = tt }
 
-three : {X : Type 0} (R : X → Type 0) (x y z : X) → R x → R y → R z → All R (x ∷ y ∷ z ∷ [])
-three R x y z a b c = All-cons R x (y ∷ z ∷ []) a (All-cons R y (z ∷ []) b (one_all R z c))
+  pair_line : (p r : ℕ) → p < 3 → r < 3 → P (LineData.Pair p r)
+  pair_line p r a b = record { printable = (a, b); seats = no_seats; numbers = tt; head = tt }
 
-rotation_line : (k a b c : ℕ) → 1 ≤ k → k < 3 → a < 3 → b < 3 → c < 3 → P (LineData.Rotation k ((0, first_seat_of a) ∷ (1, first_seat_of b) ∷ (2, first_seat_of c) ∷ []))
-rotation_line k a b c least few x y z = record {
-  printable = three (λ (pair : ℕ × Seat). ArePair (Two weighed_three) pair.0 pair.1.reviewer) (0, first_seat_of a) (1, first_seat_of b) (2, first_seat_of c) (omega arith, x) (omega arith, y) (omega arith, z);
-  seats = three (λ (seat : Seat). IsSeatNumber weighed_three.kind seat.number) (first_seat_of a) (first_seat_of b) (first_seat_of c) refl refl refl;
-  numbers = record { least = least; greatest = omega (arith, few) };
-  head = tt;
-}
+  three : {X : Type 0} (R : X → Type 0) (x y z : X) → R x → R y → R z → All R (x ∷ y ∷ z ∷ [])
+  three R x y z a b c = All-cons R x (y ∷ z ∷ []) a (All-cons R y (z ∷ []) b (one_all R z c))
 
-flow_line : (from to : ℕ) → from < 4294967296 → to < 4294967296 → P (LineData.Flow from to 4)
-flow_line from to a b = record { printable = tt; seats = no_seats; numbers = (a, b, omega arith); head = tt }
+  rotation_line : (k a b c : ℕ) → 1 ≤ k → k < 3 → a < 3 → b < 3 → c < 3 → P (LineData.Rotation k ((0, first_seat_of a) ∷ (1, first_seat_of b) ∷ (2, first_seat_of c) ∷ []))
+  rotation_line k a b c least few x y z = record {
+    printable = three (λ (pair : ℕ × Seat). ArePair (Two w) pair.0 pair.1.reviewer) (0, first_seat_of a) (1, first_seat_of b) (2, first_seat_of c) (omega arith, x) (omega arith, y) (omega arith, z);
+    seats = three (λ (seat : Seat). IsSeatNumber w.kind seat.number) (first_seat_of a) (first_seat_of b) (first_seat_of c) refl refl refl;
+    numbers = record { least = least; greatest = omega (arith, few) };
+    head = tt;
+  }
 
-gain_line : (k : ℕ) (gain : ℤ) → 1 ≤ k → k < 3 → unsigned_abs gain ≤ 9223372036854775807 → P (LineData.Gain k gain)
-gain_line k gain least few size = record { printable = tt; seats = no_seats; numbers = (record { least = least; greatest = omega (arith, few) }, size); head = tt }
+  flow_line : (from to : ℕ) → from < 4294967296 → to < 4294967296 → P (LineData.Flow from to 4)
+  flow_line from to a b = record { printable = tt; seats = no_seats; numbers = (a, b, omega arith); head = tt }
 
-needs_line : (k : ℕ) (members : List Bool) (n : ℕ) → 1 ≤ k → k < 3 → n < 3 → P (LineData.Needs k (member_numbers members n))
-needs_line k members n least few less = record { printable = tt; seats = no_seats; numbers = (record { least = least; greatest = omega (arith, few) }, are_rotations members n (omega (arith, less))); head = tt }
+  second_flow_line : (from to : ℕ) → from < 4294967296 → to < 4294967296 → P (LineData.SecondFlow from to 1)
+  second_flow_line from to a b = record { printable = tt; seats = no_seats; numbers = (a, b, omega arith); head = tt }
 
-head_line : P (LineData.Answer (HeadData.Weight Given))
-head_line = record { printable = tt; seats = no_seats; numbers = tt; head = tt }
+  gain_line : (k : ℕ) (gain : ℤ) → 1 ≤ k → k < 3 → unsigned_abs gain ≤ 9223372036854775807 → P (LineData.Gain k gain)
+  gain_line k gain least few size = record { printable = tt; seats = no_seats; numbers = (record { least = least; greatest = omega (arith, few) }, size); head = tt }
 
-taken_line : P (LineData.Taken (1 ∷ 2 ∷ []))
-taken_line = record { printable = tt; seats = no_seats; numbers = are_rotations set 2 (omega arith); head = tt }
+  second_gain_line : (k : ℕ) (gain : ℤ) → 1 ≤ k → k < 3 → unsigned_abs gain ≤ 9223372036854775807 → P (LineData.SecondGain k gain)
+  second_gain_line k gain least few size = record { printable = tt; seats = no_seats; numbers = (record { least = least; greatest = omega (arith, few) }, size); head = tt }
 
-value_line : P (LineData.Value 4)
-value_line = record { printable = tt; seats = no_seats; numbers = omega arith; head = tt }
+  needs_line : (k : ℕ) (members : List Bool) (n : ℕ) → 1 ≤ k → k < 3 → n < 3 → P (LineData.Needs k (member_numbers members n))
+  needs_line k members n least few less = record { printable = tt; seats = no_seats; numbers = (record { least = least; greatest = omega (arith, few) }, are_rotations members n (omega (arith, less))); head = tt }
 
-cut_line : P (LineData.Cut 4)
-cut_line = record { printable = tt; seats = no_seats; numbers = omega arith; head = tt }
+  head_line : P (LineData.Answer (HeadData.Weight Given))
+  head_line = record { printable = tt; seats = no_seats; numbers = tt; head = tt }
 
-total_line : P (LineData.Total (negsuc 9))
-total_line = record { printable = tt; seats = no_seats; numbers = omega arith; head = tt }
+  taken_line : P (LineData.Taken (1 ∷ 2 ∷ []))
+  taken_line = record { printable = tt; seats = no_seats; numbers = are_rotations set 2 (omega arith); head = tt }
 
-end_line : P LineData.End
-end_line = record { printable = tt; seats = no_seats; numbers = tt; head = tt }
+  value_line : P (LineData.Value 4)
+  value_line = record { printable = tt; seats = no_seats; numbers = omega arith; head = tt }
 
-weighed_sound : All (IsLineOf (Two weighed_three)) worked_answer
-weighed_sound = All-from_recursion P worked_answer (head_line, (first_line 0 0 (omega arith) (omega arith), (first_line 1 1 (omega arith) (omega arith), (first_line 2 2 (omega arith) (omega arith), (rotation_line 1 0 1 2 (omega arith) (omega arith) (omega arith) (omega arith) (omega arith), (needs_line 1 [] 0 (omega arith) (omega arith) (omega arith), (gain_line 1 (pos 4) (omega arith) (omega arith) (omega arith), (rotation_line 2 1 2 0 (omega arith) (omega arith) (omega arith) (omega arith) (omega arith), (needs_line 2 (true ∷ []) 1 (omega arith) (omega arith) (omega arith), (gain_line 2 (negsuc 13) (omega arith) (omega arith) (omega arith), (flow_line 0 2 (omega arith) (omega arith), (flow_line 1 4294967295 (omega arith) (omega arith), (flow_line 2 1 (omega arith) (omega arith), (taken_line, (value_line, (cut_line, (total_line, (pair_line 0 2 (omega arith) (omega arith), (pair_line 1 0 (omega arith) (omega arith), (pair_line 2 1 (omega arith) (omega arith), (end_line, tt)))))))))))))))))))))
+  cut_line : P (LineData.Cut 4)
+  cut_line = record { printable = tt; seats = no_seats; numbers = omega arith; head = tt }
+
+  total_line : (total : ℤ) → unsigned_abs total ≤ 9223372036854775807 → P (LineData.Total total)
+  total_line total size = record { printable = tt; seats = no_seats; numbers = size; head = tt }
+
+  second_value_line : P (LineData.SecondValue 1)
+  second_value_line = record { printable = tt; seats = no_seats; numbers = omega arith; head = tt }
+
+  second_cut_line : P (LineData.SecondCut 1)
+  second_cut_line = record { printable = tt; seats = no_seats; numbers = omega arith; head = tt }
+
+  second_total_line : P (LineData.SecondTotal (negsuc 1))
+  second_total_line = record { printable = tt; seats = no_seats; numbers = omega arith; head = tt }
+
+  end_line : P LineData.End
+  end_line = record { printable = tt; seats = no_seats; numbers = tt; head = tt }
+
+  -- those of the answer of one level
+  three_sound : All P worked_answer
+  three_sound = All-from_recursion P worked_answer (head_line, (first_line 0 0 (omega arith) (omega arith), (first_line 1 1 (omega arith) (omega arith), (first_line 2 2 (omega arith) (omega arith), (rotation_line 1 0 1 2 (omega arith) (omega arith) (omega arith) (omega arith) (omega arith), (needs_line 1 [] 0 (omega arith) (omega arith) (omega arith), (gain_line 1 (pos 4) (omega arith) (omega arith) (omega arith), (rotation_line 2 1 2 0 (omega arith) (omega arith) (omega arith) (omega arith) (omega arith), (needs_line 2 (true ∷ []) 1 (omega arith) (omega arith) (omega arith), (gain_line 2 (negsuc 13) (omega arith) (omega arith) (omega arith), (flow_line 0 2 (omega arith) (omega arith), (flow_line 1 4294967295 (omega arith) (omega arith), (flow_line 2 1 (omega arith) (omega arith), (taken_line, (value_line, (cut_line, (total_line (negsuc 9) (omega arith), (pair_line 0 2 (omega arith) (omega arith), (pair_line 1 0 (omega arith) (omega arith), (pair_line 2 1 (omega arith) (omega arith), (end_line, tt)))))))))))))))))))))
+
+  -- and of that of two
+  pub two_sound : All P answer_of_two
+  two_sound = All-from_recursion P answer_of_two (head_line, (first_line 0 0 (omega arith) (omega arith), (first_line 1 1 (omega arith) (omega arith), (first_line 2 2 (omega arith) (omega arith), (rotation_line 1 0 1 2 (omega arith) (omega arith) (omega arith) (omega arith) (omega arith), (needs_line 1 [] 0 (omega arith) (omega arith) (omega arith), (gain_line 1 (pos 4) (omega arith) (omega arith) (omega arith), (second_gain_line 1 (pos 1) (omega arith) (omega arith) (omega arith), (rotation_line 2 1 2 0 (omega arith) (omega arith) (omega arith) (omega arith) (omega arith), (needs_line 2 (true ∷ []) 1 (omega arith) (omega arith) (omega arith), (gain_line 2 (negsuc 3) (omega arith) (omega arith) (omega arith), (second_gain_line 2 (negsuc 2) (omega arith) (omega arith) (omega arith), (flow_line 0 2 (omega arith) (omega arith), (flow_line 1 4294967295 (omega arith) (omega arith), (flow_line 2 1 (omega arith) (omega arith), (second_flow_line 0 2 (omega arith) (omega arith), (second_flow_line 1 4294967295 (omega arith) (omega arith), (second_flow_line 2 1 (omega arith) (omega arith), (taken_line, (value_line, (cut_line, (total_line (pos 0) (omega arith), (second_value_line, (second_cut_line, (second_total_line, (pair_line 0 2 (omega arith) (omega arith), (pair_line 1 0 (omega arith) (omega arith), (pair_line 2 1 (omega arith) (omega arith), (end_line, tt)))))))))))))))))))))))))))))
 
 right : IsWeightAnswer Given weighed_three worked_answer
 right = record {
-  parts = parts;
+  parts = three_parts;
   printed = three_cycle_is.1;
   needed = record { one_each = refl; each = worked_net.0.each };
   corresponds = correspondence three_cycle_needs seating three_cycle_is.1.chain worked_net.0.each;
-  certificate = record { lines = worked_lines.0; is_flow = worked_lines.1; reach = reach; full = refl };
+  certificates = (record { fills = record { lines = worked_lines.0; is_flow = worked_lines.1; full = refl }; reach = reach }, refl);
   closed = closed;
   lightest = lightest;
   shows = refl;
-  sound = weighed_sound;
+  sound = three_sound weighed_three.weights weighed_three.seconds;
 }
 
 -- that answer of `weight` is a right one

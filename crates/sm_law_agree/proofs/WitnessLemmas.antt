@@ -226,7 +226,7 @@ one_pair_is = (
   record { places = together; best = proposers_best; shows = refl },
   record { places = together; best = reviewers_best; shows = refl },
   record { first = seated; last = seated; proposers_best = seats_first; reviewers_best = seats_last; shows = refl },
-  record { out = (1 ∷ []) ∷ []; more = false; cursor = tt; listing = listing; shows = refl },
+  record { cursor = tt; listed = record { out = (1 ∷ []) ∷ []; more = false; listing = listing; shows = refl } },
   record { places = together; least = least; shows = refl },
   record { left = (0, 0) ∷ []; right = (0, 0) ∷ []; given = given; first = gives_stable; second = gives_stable; shows = refl },
   record { left = (0, 0) ∷ []; right = (0, 0) ∷ []; given = given; first = gives_stable; second = gives_stable; shows = refl },

@@ -19,7 +19,7 @@ use Rattle.sm_answer_list.specs.ListAnswer.{IsListAnswer}
 use Rattle.sm_answer_pairs.specs.RegretAnswer.{IsRegretAnswer}
 use Rattle.sm_answer_pairs.specs.PairsAnswer.{IsPairsAnswer}
 use Rattle.sm_answer_weight.specs.WeightAnswer.{IsWeightAnswer}
-use Rattle.sm_answer_weight.specs.Witnesses.{worked_answer}
+use Rattle.sm_answer_weight.specs.Witnesses.{worked_answer, answer_of_two}
 use Rattle.sm_answer_given.specs.Chosen.{IsChosenAnswer}
 use Rattle.sm_answer_roommates.specs.RoomAnswer.{IsMatched, IsUnmatchable}
 
@@ -121,3 +121,12 @@ weighed_three = plain_written Marriage
 -- a right answer of `weight`
 abbrev pub WeighedThree : Type 0
 WeighedThree = IsInstance weighed_three × AreFewSeats weighed_three × IsWeightAnswer Given weighed_three worked_answer
+
+-- the same with other weights: 4 and a second weight of 1 for the first proposer with its second choice, and 0 and a second weight of -2
+-- for the second one with its third
+abbrev pub weighed_by_two : Written
+weighed_by_two = record weighed_three { weights = (0, 1, pos 4) ∷ (1, 0, pos 0) ∷ []; seconds = pos 1 ∷ negsuc 1 ∷ [] }
+
+-- a right answer of `weight` in two levels
+abbrev pub WeighedByTwo : Type 0
+WeighedByTwo = IsInstance weighed_by_two × AreFewSeats weighed_by_two × IsWeightAnswer Given weighed_by_two answer_of_two

@@ -1,7 +1,7 @@
 //! Right answers that are known by hand, of which the laws speak. Each function does nothing: its contract is what is
 //! computed.
 
-ghost use Rattle.sm_law_agree.specs.Witnesses.{OnePair, Circles, ThreeByThree, WeighedThree};
+ghost use Rattle.sm_law_agree.specs.Witnesses.{OnePair, Circles, ThreeByThree, WeighedThree, WeighedByTwo};
 
 /// The right answers over a proposer and a reviewer who list each other.
 pub fn one_pair()
@@ -21,4 +21,9 @@ pub fn three_by_three()
 /// The same three by three with two weights, and a flow through both rotations.
 pub fn weighed_three()
     ensures { WeighedThree }
+{}
+
+/// The same three by three with first and second weights, and two flows through both rotations.
+pub fn weighed_by_two()
+    ensures { WeighedByTwo }
 {}

@@ -1,5 +1,5 @@
 -- The places of seats and their weights.
-use Rattle.std.proofs.Common.{◌≡◌, ℕ, ◌^◌, ◌<◌, ◌≤◌, ◌∙◌, ℤ, pos, All, List, [], Some, length, get_or, sym, ap, subst, arith, inl, inr}
+use Rattle.std.proofs.Common.{◌≡◌, ℕ, ◌^◌, ◌<◌, ◌≤◌, ◌∙◌, ℤ, pos, All, List, [], Option, Some, length, get_or, sym, ap, subst, arith, inl, inr}
 use Rattle.std.specs.Int.RustNames.{unsigned_abs}
 use Rattle.std.proofs.lemmas.Bool.{cases_lt}
 use Rattle.std.proofs.lemmas.List.{get_or_past}
@@ -8,12 +8,10 @@ use Rattle.std.proofs.lemmas.List.FromFn.{get_or-map-range_with_len, length-map-
 use Rattle.sm_lists.proofs.PlaceLemmas.{get_or-place_on}
 use Rattle.sm_instance.specs.Written.{Written, row as written_row, entry, IsAcceptable}
 use Rattle.sm_instance.specs.Sound.{IsInstance}
-use Rattle.sm_instance.specs.Ranks.{pair_weight}
-use Rattle.sm_instance.specs.declared.kinds.Measure.{Measure}
 use Rattle.sm_market.specs.Lists.{Lists}
 use Rattle.sm_theory.specs.Weights.{weight_at}
 use Rattle.sm_seats.specs.Seating.{Seating, seating_of, at_places}
-use Rattle.sm_seats.specs.Correspondence.{weights_of}
+use Rattle.sm_seats.specs.Correspondence.{weights_by}
 use Rattle.sm_seats.proofs.SeatingLemmas.{length-at_places}
 use Rattle.sm_seats.proofs.SeatPlaces.{seat_on}
 use Rattle.sm_seats.proofs.MutualLemmas.{mutual_acceptable}
@@ -30,8 +28,8 @@ are_acceptable {w} {s} instance is p = subst (λ (s : Seating). AreAcceptableAt 
     subst (IsAcceptable w p) (sym (ap (entry w.proposers p) (written_place-seating seat.at) ∙ get_or-place_on (written_row w.proposers p) seat.reviewer both.proposer_lists)) both)
 
 -- the weights of one proposer
-pub weights_at : (by : Measure) (w : Written) (s : Seating) (p : ℕ) → p < length s.market.proposers → get_or (weights_of by w s) p [] ≡ at_places s (λ p i. pair_weight by w p (Some i)) p
-weights_at by w s p here = get_or-map-range_with_len (at_places s (λ p i. pair_weight by w p (Some i))) 0 (length s.market.proposers) p p [] here (omega arith)
+pub weights_at : (weigh : ℕ → Option ℕ → ℤ) (s : Seating) (p : ℕ) → p < length s.market.proposers → get_or (weights_by weigh s) p [] ≡ at_places s (λ p i. weigh p (Some i)) p
+weights_at weigh s p here = get_or-map-range_with_len (at_places s (λ p i. weigh p (Some i))) 0 (length s.market.proposers) p p [] here (omega arith)
 
 -- the weight at each place of light weights is light
 pub light_at : (weights : List (List ℤ)) → AreLight weights → (p i : ℕ) → i < length (get_or weights p []) → IsLight (weight_at weights p i)
@@ -45,9 +43,9 @@ pub small_of : (z : ℤ) → IsLight z → unsigned_abs z ≤ 2 ^ 30
 small_of z light = omega arith
 
 -- they are small weights, one for each place
-pub are_weights : (by : Measure) (w : Written) (s : Seating) {l : Lists} {weights : List (List ℤ)} → l ≡ s.market → weights ≡ weights_of by w s → AreLight weights → AreWeights l weights
-are_weights by w s {l} {weights} same is light = subst (λ l. AreWeights l weights) (sym same) (subst (AreWeights s.market) (sym is) (record {
-  one_each = length-map-range_with_len (at_places s (λ p i. pair_weight by w p (Some i))) 0 (length s.market.proposers);
-  per_place = λ p here. ap (λ (xs : List ℤ). length xs) (weights_at by w s p here) ∙ length-at_places s (λ p i. pair_weight by w p (Some i)) p;
-  small = λ p i on. small_of (weight_at (weights_of by w s) p i) (light_at (weights_of by w s) (subst AreLight is light) p i on);
+pub are_weights : (weigh : ℕ → Option ℕ → ℤ) (s : Seating) {l : Lists} {weights : List (List ℤ)} → l ≡ s.market → weights ≡ weights_by weigh s → AreLight weights → AreWeights l weights
+are_weights weigh s {l} {weights} same is light = subst (λ l. AreWeights l weights) (sym same) (subst (AreWeights s.market) (sym is) (record {
+  one_each = length-map-range_with_len (at_places s (λ p i. weigh p (Some i))) 0 (length s.market.proposers);
+  per_place = λ p here. ap (λ (xs : List ℤ). length xs) (weights_at weigh s p here) ∙ length-at_places s (λ p i. weigh p (Some i)) p;
+  small = λ p i on. small_of (weight_at (weights_by weigh s) p i) (light_at (weights_by weigh s) (subst AreLight is light) p i on);
 }))

@@ -1,1 +1,2 @@
 pub mod PlaceWeights
+pub mod Levels

@@ -1,10 +1,14 @@
 -- The weights of the places of seats.
-use Rattle.std.specs.Prelude.{ℕ, ◌+◌, ◌<◌, ◌≤◌, List, ℤ, length, All, Option, Some, None}
+use Rattle.std.specs.Prelude.{ℕ, ◌+◌, ◌<◌, ◌≤◌, Bool, true, false, List, ℤ, pos, length, All, Option, Some, None}
 use Rattle.std.specs.Int.RustNames.{unsigned_abs}
 use Rattle.sm_text.specs.Limits.{most_weight}
 use Rattle.sm_instance.specs.Written.{Written, entry as written_entry, IsAcceptable}
+use Rattle.sm_instance.specs.Ranks.{pair_weight, pair_second}
+use Rattle.sm_instance.specs.declared.kinds.Measure.TheVariants as measure
 use Rattle.sm_market.specs.Lists.{row}
 use Rattle.sm_seats.specs.Seating.{Seating, written_place}
+use Rattle.sm_placed.specs.declared.place_weights.Weighing.{Weighing}
+use Rattle.sm_placed.specs.declared.place_weights.Weighing.TheVariants.{Ranks, Given, Seconds, Nothing}
 
 -- a weight is of a size that a text can give
 abbrev pub IsLight : ℤ → Type 0
@@ -22,3 +26,15 @@ AreAcceptableAt w s p = (i : ℕ) → i < length (row s.market.proposers p) → 
 abbrev pub rank_in : Option ℕ → ℕ
 rank_in None = 0
 rank_in (Some back) = back + 1
+
+-- the weight, or the second weight, that is given to p and its partner, 0 where p is unmatched
+abbrev pub pair_given : (second : Bool) → Written → ℕ → Option ℕ → ℤ
+pair_given false w p place = pair_weight measure.Given w p place
+pair_given true w p place = pair_second w p place
+
+-- what p and its partner weigh
+abbrev pub weigh : Weighing → Written → ℕ → Option ℕ → ℤ
+weigh Ranks w p place = pair_weight measure.Ranks w p place
+weigh Given w p place = pair_given false w p place
+weigh Seconds w p place = pair_given true w p place
+weigh Nothing w p place = pos 0

@@ -2,7 +2,9 @@
 #![tactic(auto)]
 
 mod leveling;
+mod levels;
 mod place_weights;
 
 pub use leveling::leveled;
-pub use place_weights::weights_of_places;
+pub use levels::has_two_levels;
+pub use place_weights::{seconds_of_places, weights_of_places};

@@ -1,15 +1,18 @@
 //! The weights of the places of an instance's seats.
 
-ghost use Rattle.std.specs.Prelude.{◌≡◌, ◌<◌, All, length, IfOk, IfSome, Some};
+ghost use Rattle.std.specs.Prelude.{◌≡◌, ◌<◌, All, length, pos, IfOk, IfSome, Some};
 ghost use Rattle.sm_text.specs.Limits.{most_agents};
+ghost use Rattle.sm_instance.specs.Written.{row as written_row, entry, IsAcceptable};
 ghost use Rattle.sm_instance.specs.Ranks.{pair_weight};
 ghost use Rattle.sm_market.specs.Lists.{row as market_row};
 ghost use Rattle.sm_market.specs.Vectors.{rows_of};
 ghost use Rattle.sm_seats.specs.Seating.{seating_of, levels_of, at_places};
-ghost use Rattle.sm_seats.specs.Correspondence.{IsSeating, weights_of};
+ghost use Rattle.sm_seats.specs.Correspondence.{IsSeating, weights_by, weights_of};
 ghost use Rattle.sm_theory.specs.Sizes.{weights_in};
-ghost use Rattle.sm_placed.specs.PlaceWeights.{IsLight, AreLight, AreAcceptableAt, rank_in};
+ghost use Rattle.sm_placed.specs.Levels.{seconds_by};
+ghost use Rattle.sm_placed.specs.PlaceWeights.{IsLight, AreLight, AreAcceptableAt, rank_in, pair_given, weigh};
 
+use crate::levels::has_two_levels;
 use sm_instance::{Cross, Instance, Measure};
 use sm_seats::Seats;
 use std::alloc::{AllocError, Global};
@@ -35,9 +38,70 @@ pub fn weights_of_places(
         ≡ weights_of by instance.now seats.now) }
     ensures light { IfOk result (λ weights. AreLight (weights_in weights.items)) }
 {
+    match by {
+        Measure::Ranks => weigh_places(alloc, instance, seats, Weighing::Ranks, levels),
+        Measure::Given => weigh_places(alloc, instance, seats, Weighing::Given, levels),
+    }
+}
+
+/// The same by second weights, which are all 0 where places are weighed by ranks. Nothing is looked up where
+/// [`has_two_levels`] says no.
+///
+/// # Errors
+///
+/// `AllocError` where memory ran out, and only then.
+pub fn seconds_of_places(
+    alloc: Global,
+    instance: &Instance,
+    seats: &Seats,
+    by: Measure,
+    levels: &[Vec<u32>],
+) -> Result<Vec<Vec<i64>>, AllocError>
+    requires seats { seats.now ≡ seating_of instance.now }
+    requires seating { IsSeating instance.now seats.now }
+    requires levels { rows_of levels.now ≡ levels_of seats.now }
+    ensures seconds { IfOk result (λ seconds. weights_in seconds.items
+        ≡ seconds_by by instance.now seats.now) }
+    ensures light { IfOk result (λ seconds. AreLight (weights_in seconds.items)) }
+{
+    if has_two_levels(instance, by) {
+        weigh_places(alloc, instance, seats, Weighing::Seconds, levels)
+    } else {
+        weigh_places(alloc, instance, seats, Weighing::Nothing, levels)
+    }
+}
+
+/// What places are weighed by.
+#[derive(Clone, Copy)]
+enum Weighing {
+    /// Both ranks.
+    Ranks,
+    /// The given weights.
+    Given,
+    /// The second weights.
+    Seconds,
+    /// Nothing: each place weighs 0.
+    Nothing,
+}
+
+/// For each place of each proposer what the proposer and the reviewer of the place's seat weigh.
+fn weigh_places(
+    alloc: Global,
+    instance: &Instance,
+    seats: &Seats,
+    weighing: Weighing,
+    levels: &[Vec<u32>],
+) -> Result<Vec<Vec<i64>>, AllocError>
+    requires seats { seats.now ≡ seating_of instance.now }
+    requires seating { IsSeating instance.now seats.now }
+    requires levels { rows_of levels.now ≡ levels_of seats.now }
+    ensures weights { IfOk result (λ weights. weights_in weights.items
+        ≡ weights_by (weigh weighing instance.now) seats.now) }
+    ensures light { IfOk result (λ weights. AreLight (weights_in weights.items)) }
+{
     let mut weights = Vec::with_capacity(alloc, levels.len())?;
     for p in 0..instance.proposer_count() {
-        weights.push(weights_at(alloc, instance, seats, by, p, &levels[p as usize])?)?;
+        weights.push(weights_at(alloc, instance, seats, weighing, p, &levels[p as usize])?)?;
     }
     Ok(weights)
 }
@@ -47,7 +111,7 @@ fn weights_at(
     alloc: Global,
     instance: &Instance,
     seats: &Seats,
-    by: Measure,
+    weighing: Weighing,
     p: u32,
     levels: &[u32],
 ) -> Result<Vec<i64>, AllocError>
@@ -56,13 +120,26 @@ fn weights_at(
     requires levels { levels.now ≡ market_row (levels_of seats.now) p }
     requires acceptable { AreAcceptableAt instance.now seats.now p }
     ensures weights { IfOk result (λ weights. weights.items
-        ≡ at_places seats.now (λ p i. pair_weight by instance.now p (Some i)) p) }
+        ≡ at_places seats.now (λ p i. weigh weighing instance.now p (Some i)) p) }
     ensures light { IfOk result (λ weights. All IsLight weights.items) }
 {
-    match by {
-        Measure::Ranks => ranks_at(alloc, instance, seats, p, levels),
-        Measure::Given => given_at(alloc, instance, seats, p, levels),
+    match weighing {
+        Weighing::Ranks => ranks_at(alloc, instance, seats, p, levels),
+        Weighing::Given => given_at(alloc, instance, seats, false, p, levels),
+        Weighing::Seconds => given_at(alloc, instance, seats, true, p, levels),
+        Weighing::Nothing => zeros_at(alloc, seats, p),
     }
+}
+
+/// 0 for each place of one proposer.
+fn zeros_at(alloc: Global, seats: &Seats, p: u32) -> Result<Vec<i64>, AllocError>
+    requires { p < length seats.now.market.proposers }
+    ensures weights { IfOk result (λ weights. weights.items
+        ≡ at_places seats.now (λ p i. pos 0) p) }
+    ensures light { IfOk result (λ weights. All IsLight weights.items) }
+{
+    let places = seats.market().proposer_len(p);
+    Ok(vec![in alloc; 0; places as usize]?)
 }
 
 /// For each place of one proposer the sum of the ranks that it and the reviewer of the place's seat give each other. These are
@@ -105,12 +182,13 @@ fn rank_in(cross: Cross) -> u32
     }
 }
 
-/// For each place of one proposer the weight that is given to it and the reviewer of the place's seat. Where the instance has no
-/// weights, nothing is looked up.
+/// For each place of one proposer the weight, or the second weight, that is given to it and the reviewer of the place's seat. Where
+/// the instance has no weights, nothing is looked up.
 fn given_at(
     alloc: Global,
     instance: &Instance,
     seats: &Seats,
+    second: bool,
     p: u32,
     levels: &[u32],
 ) -> Result<Vec<i64>, AllocError>
@@ -119,16 +197,31 @@ fn given_at(
     requires levels { levels.now ≡ market_row (levels_of seats.now) p }
     requires acceptable { AreAcceptableAt instance.now seats.now p }
     ensures weights { IfOk result (λ weights. weights.items
-        ≡ at_places seats.now (λ p i. pair_weight Measure.Given instance.now p (Some i)) p) }
+        ≡ at_places seats.now (λ p i. pair_given second instance.now p (Some i)) p) }
     ensures light { IfOk result (λ weights. All IsLight weights.items) }
 {
     let places = seats.market().proposer_len(p);
-    if instance.weights().is_empty() {
+    if instance.seconds().is_empty() {
         return Ok(vec![in alloc; 0; places as usize]?);
     }
     let mut weights = Vec::with_capacity(alloc, places as usize)?;
     for i in 0..places {
-        weights.push(instance.pair_weight(p, levels[i as usize] - 1, Measure::Given))?;
+        weights.push(given_to(instance, second, p, levels[i as usize] - 1))?;
     }
     Ok(weights)
+}
+
+/// The weight, or the second weight, that is given to a proposer and the reviewer at a place of its list.
+fn given_to(instance: &Instance, second: bool, p: u32, place: u32) -> i64
+    requires in_range { p < length instance.now.proposers }
+    requires on_list { place < length (written_row instance.now.proposers p) }
+    requires acceptable { IsAcceptable instance.now p (entry instance.now.proposers p place) }
+    ensures weight { result ≡ pair_given second instance.now p (Some place) }
+    ensures size { IsLight result }
+{
+    if second {
+        instance.second(p, instance.reviewer_at(p, place))
+    } else {
+        instance.pair_weight(p, place, Measure::Given)
+    }
 }

@@ -14,6 +14,15 @@ const CYCLE: &str = "stable 1 marriage\np m1: a b c\np m2: b c a\np m3: c a b\n\
 const WEIGHED: &str = "stable 1 marriage\np m1: a b c\np m2: b c a\np m3: c a b\n\
     r a: m2 m3 m1\nr b: m3 m1 m2\nr c: m1 m2 m3\nweight m1 b 4\nweight m1 c -10\nend\n";
 
+const TWO_LEVELS: &str = "stable 2 marriage\np m1: a b c\np m2: b c a\np m3: c a b\n\
+    r a: m2 m3 m1\nr b: m3 m1 m2\nr c: m1 m2 m3\nweight m1 b 4 1\nweight m2 a 0 -2\nend\n";
+
+const RISING: &str = "stable 2 marriage\np m1: a b c\np m2: b c a\np m3: c a b\n\
+    r a: m2 m3 m1\nr b: m3 m1 m2\nr c: m1 m2 m3\nweight m1 b 4 1\nweight m2 a 0 2\nend\n";
+
+const EQUAL: &str = "stable 2 marriage\np m1: a b c\np m2: b c a\np m3: c a b\n\
+    r a: m2 m3 m1\nr b: m3 m1 m2\nr c: m1 m2 m3\nweight m1 b 4 1\nend\n";
+
 const FORCED: &str = "stable 1 marriage\np m1: a b\np m2: b a\np m3: c d\np m4: d c\n\
     r a: m2 m1\nr b: m1 m2\nr c: m4 m3\nr d: m3 m4\nforce m1 b\nend\n";
 
@@ -371,6 +380,167 @@ fn lightest_matchings_are_checked(rt: HostRuntime) {
                  needs 1 -\ngain 1 0\nrotation 2 m1 b m2 c m3 a\nneeds 2 1\ngain 2 0\ntaken 1\nvalue 0\ncut 0\n\
                  total 12\npair m1 b\npair m2 c\npair m3 a\nend\n",
                 Found::No(18, Reason::NotLeast),
+            ),
+        ],
+    );
+}
+
+#[test]
+fn lightest_matchings_of_two_levels_are_checked(rt: HostRuntime) {
+    come_to(
+        &rt,
+        TWO_LEVELS,
+        &[
+            (
+                "answer weight by=given\nfirst m1 a\nfirst m2 b\nfirst m3 c\nrotation 1 m1 a m2 b m3 c\n\
+                 needs 1 -\ngain 1 4\ngain2 1 1\nrotation 2 m1 b m2 c m3 a\nneeds 2 1\ngain 2 -4\n\
+                 gain2 2 -3\nflow S 2 4\nflow 1 T 4\nflow 2 1 4\nflow2 S 2 1\nflow2 1 T 1\nflow2 2 1 1\n\
+                 taken 1 2\nvalue 4\ncut 4\ntotal 0\nvalue2 1\ncut2 1\ntotal2 -2\npair m1 c\npair m2 a\n\
+                 pair m3 b\nend\n",
+                Found::Yes,
+            ),
+            (
+                "answer weight by=given\nfirst m1 a\nfirst m2 b\nfirst m3 c\nrotation 1 m1 a m2 b m3 c\n\
+                 needs 1 -\ngain 1 4\ngain2 1 1\nrotation 2 m1 b m2 c m3 a\nneeds 2 1\ngain 2 -4\n\
+                 gain2 2 -2\nflow S 2 4\nflow 1 T 4\nflow 2 1 4\nflow2 S 2 1\nflow2 1 T 1\nflow2 2 1 1\n\
+                 taken 1 2\nvalue 4\ncut 4\ntotal 0\nvalue2 1\ncut2 1\ntotal2 -2\npair m1 c\npair m2 a\n\
+                 pair m3 b\nend\n",
+                Found::No(12, Reason::WrongGain),
+            ),
+            (
+                "answer weight by=given\nfirst m1 a\nfirst m2 b\nfirst m3 c\nrotation 1 m1 a m2 b m3 c\n\
+                 needs 1 -\ngain 1 4\ngain2 1 1\nrotation 2 m1 b m2 c m3 a\nneeds 2 1\ngain 2 -4\n\
+                 gain2 2 -3\nflow S 2 4\nflow 1 T 4\nflow 2 1 4\nflow2 S 1 1\nflow2 1 T 1\nflow2 2 1 1\n\
+                 taken 1 2\nvalue 4\ncut 4\ntotal 0\nvalue2 1\ncut2 1\ntotal2 -2\npair m1 c\npair m2 a\n\
+                 pair m3 b\nend\n",
+                Found::No(16, Reason::NoEdge),
+            ),
+            (
+                "answer weight by=given\nfirst m1 a\nfirst m2 b\nfirst m3 c\nrotation 1 m1 a m2 b m3 c\n\
+                 needs 1 -\ngain 1 4\ngain2 1 1\nrotation 2 m1 b m2 c m3 a\nneeds 2 1\ngain 2 -4\n\
+                 gain2 2 -3\nflow S 2 4\nflow 1 T 4\nflow 2 1 4\nflow2 S 2 1\nflow2 1 T 1\nflow2 2 1 1\n\
+                 flow2 2 1 1\ntaken 1 2\nvalue 4\ncut 4\ntotal 0\nvalue2 1\ncut2 1\ntotal2 -2\npair m1 c\n\
+                 pair m2 a\npair m3 b\nend\n",
+                Found::No(19, Reason::NoEdge),
+            ),
+            (
+                "answer weight by=given\nfirst m1 a\nfirst m2 b\nfirst m3 c\nrotation 1 m1 a m2 b m3 c\n\
+                 needs 1 -\ngain 1 4\ngain2 1 1\nrotation 2 m1 b m2 c m3 a\nneeds 2 1\ngain 2 -4\n\
+                 gain2 2 -3\nflow S 2 4\nflow 1 T 4\nflow 2 1 4\nflow2 S 2 4\nflow2 1 T 1\nflow2 2 1 1\n\
+                 taken 1 2\nvalue 4\ncut 4\ntotal 0\nvalue2 1\ncut2 1\ntotal2 -2\npair m1 c\npair m2 a\n\
+                 pair m3 b\nend\n",
+                Found::No(16, Reason::OverRoom),
+            ),
+            (
+                "answer weight by=given\nfirst m1 a\nfirst m2 b\nfirst m3 c\nrotation 1 m1 a m2 b m3 c\n\
+                 needs 1 -\ngain 1 4\ngain2 1 1\nrotation 2 m1 b m2 c m3 a\nneeds 2 1\ngain 2 -4\n\
+                 gain2 2 -3\nflow S 2 4\nflow 1 T 4\nflow 2 1 4\nflow2 S 2 2\nflow2 1 T 1\nflow2 2 1 1\n\
+                 taken 1 2\nvalue 4\ncut 4\ntotal 0\nvalue2 1\ncut2 1\ntotal2 -2\npair m1 c\npair m2 a\n\
+                 pair m3 b\nend\n",
+                Found::No(19, Reason::NotConserved),
+            ),
+            (
+                "answer weight by=given\nfirst m1 a\nfirst m2 b\nfirst m3 c\nrotation 1 m1 a m2 b m3 c\n\
+                 needs 1 -\ngain 1 4\ngain2 1 1\nrotation 2 m1 b m2 c m3 a\nneeds 2 1\ngain 2 -4\n\
+                 gain2 2 -3\nflow S 2 3\nflow 1 T 4\nflow 2 1 4\nflow2 S 2 1\nflow2 1 T 1\nflow2 2 1 1\n\
+                 taken 1 2\nvalue 4\ncut 4\ntotal 0\nvalue2 1\ncut2 1\ntotal2 -2\npair m1 c\npair m2 a\n\
+                 pair m3 b\nend\n",
+                Found::No(19, Reason::NotConserved),
+            ),
+            (
+                "answer weight by=given\nfirst m1 a\nfirst m2 b\nfirst m3 c\nrotation 1 m1 a m2 b m3 c\n\
+                 needs 1 -\ngain 1 4\ngain2 1 1\nrotation 2 m1 b m2 c m3 a\nneeds 2 1\ngain 2 -4\n\
+                 gain2 2 -3\nflow S 2 4\nflow 1 T 4\nflow 2 1 4\nflow2 S 2 1\nflow2 1 T 1\nflow2 2 1 1\n\
+                 taken 1 2\nvalue 4\ncut 4\ntotal 0\nvalue2 2\ncut2 1\ntotal2 -2\npair m1 c\npair m2 a\n\
+                 pair m3 b\nend\n",
+                Found::No(23, Reason::WrongValue),
+            ),
+            (
+                "answer weight by=given\nfirst m1 a\nfirst m2 b\nfirst m3 c\nrotation 1 m1 a m2 b m3 c\n\
+                 needs 1 -\ngain 1 4\ngain2 1 1\nrotation 2 m1 b m2 c m3 a\nneeds 2 1\ngain 2 -4\n\
+                 gain2 2 -3\nflow S 2 4\nflow 1 T 4\nflow 2 1 4\nflow2 S 2 1\nflow2 1 T 1\nflow2 2 1 1\n\
+                 taken 1 2\nvalue 4\ncut 4\ntotal 0\nvalue2 1\ncut2 0\ntotal2 -2\npair m1 c\npair m2 a\n\
+                 pair m3 b\nend\n",
+                Found::No(24, Reason::WrongCut),
+            ),
+            (
+                "answer weight by=given\nfirst m1 a\nfirst m2 b\nfirst m3 c\nrotation 1 m1 a m2 b m3 c\n\
+                 needs 1 -\ngain 1 4\ngain2 1 1\nrotation 2 m1 b m2 c m3 a\nneeds 2 1\ngain 2 -4\n\
+                 gain2 2 -3\nflow S 2 4\nflow 1 T 4\nflow 2 1 4\nflow2 S 2 1\nflow2 1 T 1\nflow2 2 1 1\n\
+                 taken -\nvalue 4\ncut 4\ntotal 0\nvalue2 1\ncut2 3\ntotal2 0\npair m1 a\npair m2 b\n\
+                 pair m3 c\nend\n",
+                Found::No(24, Reason::CutDiffers),
+            ),
+            (
+                "answer weight by=given\nfirst m1 a\nfirst m2 b\nfirst m3 c\nrotation 1 m1 a m2 b m3 c\n\
+                 needs 1 -\ngain 1 4\ngain2 1 1\nrotation 2 m1 b m2 c m3 a\nneeds 2 1\ngain 2 -4\n\
+                 gain2 2 -3\nflow S 2 4\nflow 1 T 4\nflow 2 1 4\nflow2 S 2 1\nflow2 1 T 1\nflow2 2 1 1\n\
+                 taken 1 2\nvalue 4\ncut 4\ntotal 0\nvalue2 1\ncut2 1\ntotal2 0\npair m1 c\npair m2 a\n\
+                 pair m3 b\nend\n",
+                Found::No(25, Reason::WrongTotal),
+            ),
+            (
+                "answer weight by=given\nfirst m1 a\nfirst m2 b\nfirst m3 c\nrotation 1 m1 a m2 b m3 c\n\
+                 needs 1 -\ngain 1 4\nrotation 2 m1 b m2 c m3 a\nneeds 2 1\ngain 2 -4\nflow S 2 4\n\
+                 flow 1 T 4\nflow 2 1 4\nflow2 S 2 1\nflow2 1 T 1\nflow2 2 1 1\ntaken 1 2\nvalue 4\ncut 4\n\
+                 total 0\nvalue2 1\ncut2 1\ntotal2 -2\npair m1 c\npair m2 a\npair m3 b\nend\n",
+                Found::Bad(8),
+            ),
+            (
+                "answer weight by=given\nfirst m1 a\nfirst m2 b\nfirst m3 c\nrotation 1 m1 a m2 b m3 c\n\
+                 needs 1 -\ngain 1 4\ngain2 1 1\nrotation 2 m1 b m2 c m3 a\nneeds 2 1\ngain 2 -4\n\
+                 gain2 2 -3\nflow S 2 4\nflow 1 T 4\nflow 2 1 4\nflow2 S 2 1\nflow2 1 T 1\nflow2 2 1 1\n\
+                 taken 1 2\nvalue 4\ncut 4\ntotal 0\npair m1 c\npair m2 a\npair m3 b\nend\n",
+                Found::Bad(23),
+            ),
+        ],
+    );
+    come_to(
+        &rt,
+        RISING,
+        &[(
+            "answer weight by=given\nfirst m1 a\nfirst m2 b\nfirst m3 c\nrotation 1 m1 a m2 b m3 c\n\
+                 needs 1 -\ngain 1 4\ngain2 1 1\nrotation 2 m1 b m2 c m3 a\nneeds 2 1\ngain 2 -4\ngain2 2 1\n\
+                 flow S 2 4\nflow 1 T 4\nflow 2 1 4\ntaken -\nvalue 4\ncut 4\ntotal 0\nvalue2 0\ncut2 0\n\
+                 total2 0\npair m1 a\npair m2 b\npair m3 c\nend\n",
+            Found::Yes,
+        )],
+    );
+    come_to(
+        &rt,
+        EQUAL,
+        &[
+            (
+                "answer weight by=given\nfirst m1 a\nfirst m2 b\nfirst m3 c\nrotation 1 m1 a m2 b m3 c\n\
+                 needs 1 -\ngain 1 4\ngain2 1 1\nrotation 2 m1 b m2 c m3 a\nneeds 2 1\ngain 2 -4\n\
+                 gain2 2 -1\nflow S 2 4\nflow 1 T 4\nflow 2 1 4\nflow2 S 2 1\nflow2 1 T 1\nflow2 2 1 1\n\
+                 taken -\nvalue 4\ncut 4\ntotal 0\nvalue2 1\ncut2 1\ntotal2 0\npair m1 a\npair m2 b\n\
+                 pair m3 c\nend\n",
+                Found::Yes,
+            ),
+            (
+                "answer weight by=given\nfirst m1 a\nfirst m2 b\nfirst m3 c\nrotation 1 m1 a m2 b m3 c\n\
+                 needs 1 -\ngain 1 4\ngain2 1 1\nrotation 2 m1 b m2 c m3 a\nneeds 2 1\ngain 2 -4\n\
+                 gain2 2 -1\nflow S 2 4\nflow 1 T 4\nflow 2 1 4\nflow2 S 2 1\nflow2 1 T 1\nflow2 2 1 1\n\
+                 taken 1 2\nvalue 4\ncut 4\ntotal 0\nvalue2 1\ncut2 1\ntotal2 0\npair m1 c\npair m2 a\n\
+                 pair m3 b\nend\n",
+                Found::No(29, Reason::NotLeast),
+            ),
+        ],
+    );
+    come_to(
+        &rt,
+        WEIGHED,
+        &[
+            (
+                "answer weight by=given\nfirst m1 a\nfirst m2 b\nfirst m3 c\nrotation 1 m1 a m2 b m3 c\n\
+                 needs 1 -\ngain 1 4\ngain2 1 0\n",
+                Found::Bad(8),
+            ),
+            (
+                "answer weight by=ranks\nfirst m1 a\nfirst m2 b\nfirst m3 c\nrotation 1 m1 a m2 b m3 c\n\
+                 needs 1 -\ngain 1 0\nrotation 2 m1 b m2 c m3 a\nneeds 2 1\ngain 2 0\nflow2 S 2 1\n",
+                Found::Bad(11),
             ),
         ],
     );

@@ -1,19 +1,24 @@
 -- What a flow in the net of a poset tells of the lightest allowed matchings.
-use Rattle.std.proofs.Common.{◌≡◌, ℕ, inl, inr, sym, ◌∙◌, true, false, List, map, ℤ}
+use Rattle.std.proofs.Common.{◌≡◌, ℕ, inl, inr, ap, ◌∙◌, true, false, List, Vec, map, ℤ}
+use Rattle.std.specs.declared.alloc.Global.{Global}
+use Rattle.sm_market.specs.Lists.{Lists}
 use Rattle.sm_theory.specs.Vectors.{AreLevels}
 use Rattle.sm_theory.specs.Weights.{gain_of}
 use Rattle.sm_theory.specs.Net.{sink_of, IsUnbounded, IsReachable}
 use Rattle.sm_theory.specs.Conditions.{allows_nothing, IsNetGround}
-use Rattle.sm_theory.proofs.Flow.Cuts.{reach_is_least_cut}
-use Rattle.sm_theory.proofs.Weighing.Lightest.{least_cut_is_lightest, reach_is_best_lightest, path_where_nothing}
+use Rattle.sm_theory.proofs.Weighing.Lightest.{path_where_nothing}
 use Rattle.sm_theory.specs.Chains.{AreNeeds}
 use Rattle.sm_poset.specs.Posets.{RotationPoset, IsPoset}
-use Rattle.sm_weight.specs.Lightest.{poset_net, IsNothingAllowed, IsFullFlow, IsLightestFound}
-use Rattle.sm_weight.specs.Lines.{IsCutFound}
-use Rattle.sm_theory.specs.FlowLines.{amount_on}
-use Rattle.sm_weight.specs.declared.weighing.LightestFound.{LightestFound}
+use Rattle.sm_weight.specs.Lightest.{poset_net, IsNothingAllowed, IsLightestFound}
+use Rattle.sm_weight.specs.Second.{AreCutsFound}
+use Rattle.sm_weight.specs.declared.second.TwoCuts.{TwoCuts}
+use Rattle.sm_weight.proofs.TwoLemmas.{second_found, two_closed, two_lightest, two_best, first_cut, second_cut}
 
-module _ {poset : RotationPoset} (is : IsPoset poset) {levels : List (List ℕ)} (rising : AreLevels poset.lists levels) (weights : List (List ℤ)) (forced forbidden : List (ℕ × ℕ)) where
+-- gains by a market and a chain, which are those of a poset
+pub gains_kept : (weights : List (List ℤ)) {gains : List ℤ} {l m : Lists} {chain rotations : List (List (ℕ × ℕ))} → l ≡ m → chain ≡ rotations → gains ≡ map (gain_of l weights) chain → gains ≡ map (gain_of m weights) rotations
+gains_kept weights {gains} {l} {m} {chain} {rotations} lists rotations_are is = is ∙ ap (λ (l : Lists). map (gain_of l weights) chain) lists ∙ ap (map (gain_of m weights)) rotations_are
+
+module _ {poset : RotationPoset} (is : IsPoset poset) {levels : List (List ℕ)} (rising : AreLevels poset.lists levels) (weights seconds : List (List ℤ)) (forced forbidden : List (ℕ × ℕ)) where
   ground : {needs : List (List ℕ)} → AreNeeds poset.lists poset.rotations needs → IsNetGround poset.lists levels poset.first.places poset.rotations needs
   ground are = record { market = is.market; rising = rising; chain = is.printed.chain; one_each = are.one_each; each = are.each }
 
@@ -26,21 +31,35 @@ module _ {poset : RotationPoset} (is : IsPoset poset) {levels : List (List ℕ)}
       → IsNothingAllowed poset levels forced forbidden
   nothing_by_path {needs} are r = (path_where_nothing poset.lists levels weights forced forbidden poset.first.places poset.rotations needs (ground are)).0 (inr r)
 
-  module _ (found : LightestFound) (each : (needs : List (List ℕ)) → AreNeeds poset.lists poset.rotations needs → IsCutFound (poset_net poset levels weights forced forbidden needs) found.set.members.items found.flow.items found.cut) where
-    full : (needs : List (List ℕ)) → AreNeeds poset.lists poset.rotations needs → IsFullFlow (poset_net poset levels weights forced forbidden needs) found
-    full needs are =
-        let w = each needs are in
-        let least = reach_is_least_cut (poset_net poset levels weights forced forbidden needs) (amount_on found.flow.items) found.set.members.items w.is_flow w.reach w.unleft in
-        record { lines = w.ordered; flow = w.is_flow; reach = w.reach; value = w.carries; cut = sym least.1 ∙ w.carries }
-
-    -- the set that a maximum flow reaches is that of the best of the lightest
-    pub lightest_found : {needs : List (List ℕ)} → AreNeeds poset.lists poset.rotations needs → allows_nothing poset.lists levels forced forbidden poset.first.places poset.rotations ≡ false
-        → found.gains.items ≡ map (gain_of poset.lists weights) poset.rotations → IsLightestFound poset levels weights forced forbidden found
-    lightest_found {needs} are some gains =
-        let w = each needs are in
-        let flow = amount_on found.flow.items in
-        let set = found.set.members.items in
-        let best = reach_is_best_lightest poset.lists levels weights forced forbidden poset.first.places poset.rotations needs flow set (ground are) some w.is_flow w.reach w.unleft in
-        let least = reach_is_least_cut (poset_net poset levels weights forced forbidden needs) flow set w.is_flow w.reach w.unleft in
-        let closed = (least_cut_is_lightest poset.lists levels weights forced forbidden poset.first.places poset.rotations needs set (ground are)).0 (some, least.0) in
-        record { closed = closed.0; lightest = best.0; best = best.1; gains = gains; full = full }
+  -- the set that a second maximum flow reaches is that of the best of the matchings that are lightest by both sums
+  pub lightest_found : (gains gains2 : Vec ℤ Global) (two : TwoCuts) {needs : List (List ℕ)} → AreNeeds poset.lists poset.rotations needs → allows_nothing poset.lists levels forced forbidden poset.first.places poset.rotations ≡ false
+      → gains.items ≡ map (gain_of poset.lists weights) poset.rotations → gains2.items ≡ map (gain_of poset.lists seconds) poset.rotations
+      → ((needs : List (List ℕ)) → AreNeeds poset.lists poset.rotations needs → AreCutsFound (poset_net poset levels weights forced forbidden needs) gains2.items two)
+      → IsLightestFound poset levels weights seconds forced forbidden
+      (record { set = record { members = two.members }; gains = gains; flow = two.lines; cut = two.value; gains2 = gains2; flow2 = two.second_lines; cut2 = two.second_value })
+  lightest_found gains gains2 two {needs} are some first second each = record {
+    closed = two_closed poset.lists levels weights seconds forced forbidden poset.first.places poset.rotations needs (ground are) some gains2.items second two (each needs are);
+    lightest = two_lightest poset.lists levels weights seconds forced forbidden poset.first.places poset.rotations needs (ground are) some gains2.items second two (each needs are);
+    best = two_best poset.lists levels weights seconds forced forbidden poset.first.places poset.rotations needs (ground are) some gains2.items second two (each needs are);
+    gains = first;
+    gains2 = second;
+    full = λ kept same.
+        let w = each kept same in
+        let s = second_found poset.lists levels weights seconds forced forbidden poset.first.places poset.rotations kept (ground same) some gains2.items second two w in
+        record {
+          first = record {
+            lines = w.ordered;
+            is_flow = w.is_flow;
+            value = w.carries;
+            cut_is = first_cut poset.lists levels weights seconds forced forbidden poset.first.places poset.rotations kept (ground same) some gains2.items second two w;
+          };
+          second = record {
+            lines = s.ordered;
+            is_flow = s.is_flow;
+            value = s.carries;
+            cut_is = second_cut poset.lists levels weights seconds forced forbidden poset.first.places poset.rotations kept (ground same) some gains2.items second two w;
+          };
+          reach = s.reach;
+        };
+    one_level = λ none kept same. let w = (each kept same).no_gains none in record { no_flow = w.0; no_cut = w.1; reach = w.2 };
+  }

@@ -33,7 +33,7 @@ returns-clause-right c =
     let rotations = rotations_of c.deref.result.now in
     let needs = rows_of c.all_needs-needs.result.now in
     given_right _ _ _ (weight_given s found first.places rotations needs)
-    (joined_is _ _ _ _ (same_is _) (joined_is _ _ _ _ (same_is _) (joined_is _ _ _ _ (same_is _) (joined_is _ _ _ _ (same_is _) (joined_is _ _ _ _ (same_is _) (joined_is _ _ _ _ (same_is _) (same_is _)))))))
+    (joined_is _ _ _ _ (same_is _) (joined_is _ _ _ _ (same_is _) (joined_is _ _ _ _ (same_is _) (joined_is _ _ _ _ (same_is _) (joined_is _ _ _ _ (same_is _) (joined_is _ _ _ _ (same_is _) (joined_is _ _ _ _ (same_is _) (same_is _))))))))
     (weight_right c.args.instance.now s found first.places rotations needs c.requires.seats c.proposer_count-count.ensures.instance c.requires.seating c.requires.found c.chain-chain.ensures.poset
     (ap (λ (x : Paired). x.places) c.chain-chain.ensures.first) (ap rotations_of c.deref.ensures.value ∙ c.chain-chain.ensures.rotations) c.all_needs-needs.ensures)
 
@@ -45,7 +45,7 @@ returns-clause-some c =
     let rotations = rotations_of c.deref.result.now in
     let needs = rows_of c.all_needs-needs.result.now in
     given_some _ _ (weight_given s found first.places rotations needs)
-    (joined_some _ _ (same_some _) (joined_some _ _ (same_some _) (joined_some _ _ (same_some _) (joined_some _ _ (same_some _) (joined_some _ _ (same_some _) (joined_some _ _ (same_some _) (same_some _)))))))
-    (joined_is _ _ _ _ (same_is _) (joined_is _ _ _ _ (same_is _) (joined_is _ _ _ _ (same_is _) (joined_is _ _ _ _ (same_is _) (joined_is _ _ _ _ (same_is _) (joined_is _ _ _ _ (same_is _) (same_is _)))))))
+    (joined_some _ _ (same_some _) (joined_some _ _ (same_some _) (joined_some _ _ (same_some _) (joined_some _ _ (same_some _) (joined_some _ _ (same_some _) (joined_some _ _ (same_some _) (joined_some _ _ (same_some _) (same_some _))))))))
+    (joined_is _ _ _ _ (same_is _) (joined_is _ _ _ _ (same_is _) (joined_is _ _ _ _ (same_is _) (joined_is _ _ _ _ (same_is _) (joined_is _ _ _ _ (same_is _) (joined_is _ _ _ _ (same_is _) (joined_is _ _ _ _ (same_is _) (same_is _))))))))
     (weight_sound c.args.input.now c.args.instance.now s found first.places rotations needs c.requires.input c.proposer_count-count.ensures.instance c.requires.seating c.requires.found c.chain-chain.ensures.poset
     (ap (λ (x : Paired). x.places) c.chain-chain.ensures.first) (ap rotations_of c.deref.ensures.value ∙ c.chain-chain.ensures.rotations) c.all_needs-needs.ensures)

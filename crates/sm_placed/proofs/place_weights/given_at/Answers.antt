@@ -3,16 +3,14 @@ use Rattle.std.proofs.lemmas.List.Elements.{All-push}
 use Rattle.std.specs.List.{range_with_len}
 use Rattle.std.proofs.lemmas.List.FromFn.{map-range_with_len_more, length-range_with_len}
 use Rattle.sm_instance.specs.Written.{entry, IsAcceptable}
-use Rattle.sm_instance.specs.declared.kinds.Measure.TheVariants.{Given}
-use Rattle.sm_instance.specs.Ranks.{pair_weight}
 use Rattle.sm_market.specs.Lists.{Lists, row}
 use Rattle.sm_seats.specs.Seating.{written_place}
 use Rattle.sm_seats.proofs.SeatingLemmas.{level_is}
 use Rattle.sm_seats.proofs.SeatingLaws.{written_on}
 use Rattle.sm_theory.proofs.Weighing.Sizes.{small_is}
-use Rattle.sm_placed.specs.PlaceWeights.{IsLight}
+use Rattle.sm_placed.specs.PlaceWeights.{IsLight, pair_given}
 use Rattle.sm_placed.proofs.PlaceLemmas.{small_of}
-use Rattle.sm_placed.proofs.RankLemmas.{nil_of_empty, no_weight, zeros}
+use Rattle.sm_placed.proofs.RankLemmas.{nil_of_empty, none_given, zeros}
 use Rattle.sm_placed.proofs.place_weights.given_at.Goals as goal
 
 pub overflow_sub-levels : goal.overflow_sub-levels
@@ -21,14 +19,14 @@ overflow_sub-levels c =
     let is = ap (λ (xs : List ℕ). get_or xs c.loop-i.i 0) c.requires.levels ∙ level_is c.args.seats.now c.args.p c.loop-i.i (omega (arith, same)) in
     omega (arith, is)
 
-pub pair_weight-requires-clause-on_list : goal.pair_weight-requires-clause-on_list
-pair_weight-requires-clause-on_list c =
+pub given_to-requires-clause-on_list : goal.given_to-requires-clause-on_list
+given_to-requires-clause-on_list c =
     let same = ap (λ (l : Lists). length (row l.proposers c.args.p)) c.market.ensures in
     let is = ap (λ (xs : List ℕ). get_or xs c.loop-i.i 0) c.requires.levels ∙ level_is c.args.seats.now c.args.p c.loop-i.i (omega (arith, same)) in
     omega (arith, is, written_on c.requires.seating c.args.p c.loop-i.i (omega (arith, same)))
 
-pub pair_weight-requires-clause-acceptable : goal.pair_weight-requires-clause-acceptable
-pair_weight-requires-clause-acceptable c =
+pub given_to-requires-clause-acceptable : goal.given_to-requires-clause-acceptable
+given_to-requires-clause-acceptable c =
     let same = ap (λ (l : Lists). length (row l.proposers c.args.p)) c.market.ensures in
     let i = c.loop-i.i in
     let is = ap (λ (xs : List ℕ). get_or xs i 0) c.requires.levels ∙ level_is c.args.seats.now c.args.p i (omega (arith, same)) in
@@ -42,19 +40,19 @@ loop-i-preserved c =
     let w = c.args.instance.now in
     let s = c.args.seats.now in
     let p = c.args.p in
-    let by = Given in
+    let second = c.args.second in
     let level = get_or c.args.levels.now i 0 in
     let is = ap (λ (xs : List ℕ). get_or xs i 0) c.requires.levels ∙ level_is s p i (omega (arith, same)) in
     let place : level - 1 ≡ written_place s p i = omega (arith, is) in
-    let weight : c.pair_weight.result ≡ pair_weight by w p (Some (written_place s p i)) = c.pair_weight.ensures.weight ∙ ap (λ k. pair_weight by w p (Some k)) place in
-    let items : c.push.new.self.items ≡ c.loop-i.weights.items ++ c.pair_weight.result ∷ [] =
-    c.in_ok-push.ensures.items ∙ ap (λ z. c.loop-i.weights.items ++ z ∷ []) (small_is c.pair_weight.result (small_of c.pair_weight.result c.pair_weight.ensures.size)) in
+    let weight : c.given_to.result ≡ pair_given second w p (Some (written_place s p i)) = c.given_to.ensures.weight ∙ ap (λ k. pair_given second w p (Some k)) place in
+    let items : c.push.new.self.items ≡ c.loop-i.weights.items ++ c.given_to.result ∷ [] =
+    c.in_ok-push.ensures.items ∙ ap (λ z. c.loop-i.weights.items ++ z ∷ []) (small_is c.given_to.result (small_of c.given_to.result c.given_to.ensures.size)) in
     record {
       weights =
           items ∙ ap (λ z. c.loop-i.weights.items ++ z ∷ []) weight
-          ∙ ap (λ xs. xs ++ pair_weight by w p (Some (written_place s p i)) ∷ []) c.loop-i.invariant.weights
-          ∙ sym (map-range_with_len_more (λ i. pair_weight by w p (Some (written_place s p i))) 0 i i (omega arith));
-      light = subst (All IsLight) (sym items) (All-push IsLight c.loop-i.weights.items c.pair_weight.result c.loop-i.invariant.light c.pair_weight.ensures.size);
+          ∙ ap (λ xs. xs ++ pair_given second w p (Some (written_place s p i)) ∷ []) c.loop-i.invariant.weights
+          ∙ sym (map-range_with_len_more (λ i. pair_given second w p (Some (written_place s p i))) 0 i i (omega arith));
+      light = subst (All IsLight) (sym items) (All-push IsLight c.loop-i.weights.items c.given_to.result c.loop-i.invariant.light c.given_to.ensures.size);
     }
 
 pub returns-then-is_empty-clause-weights : goal.returns-then-is_empty-clause-weights
@@ -63,9 +61,10 @@ returns-then-is_empty-clause-weights c =
     let s = c.args.seats.now in
     let p = c.args.p in
     let same = ap (λ (l : Lists). length (row l.proposers p)) c.market.ensures in
-    let none : w.weights ≡ [] = sym c.weights.ensures ∙ nil_of_empty c.weights.result.now c.is_empty.result c.is_empty.ensures c.if-is_empty.true in
+    let second = c.args.second in
+    let none : w.seconds ≡ [] = sym c.seconds.ensures.seconds ∙ nil_of_empty c.seconds.result.now c.is_empty.result c.is_empty.ensures c.if-is_empty.true in
     let places : List ℕ = range_with_len 0 (length (row s.market.proposers p)) in
     let long : c.proposer_len-places.result ≡ length places = c.proposer_len-places.ensures ∙ same ∙ sym (length-range_with_len 0 (length (row s.market.proposers p))) in
     c.in_ok-vec.ensures.items_if_clones_equal (λ y e. e)
     ∙ ap (λ n. replicate n (pos 0)) long
-    ∙ zeros (λ i. pair_weight Given w p (Some (written_place s p i))) (λ i. no_weight w none p (entry w.proposers p (written_place s p i))) places
+    ∙ zeros (λ i. pair_given second w p (Some (written_place s p i))) (λ i. none_given w none c.seconds.ensures.each second p (written_place s p i)) places
