@@ -3,19 +3,16 @@ use Rattle.std.proofs.Common.{◌≡◌, ℕ, suc, ◌+◌, ◌-◌, ◌≤◌, 
 use Rattle.std.proofs.lemmas.List.{length-append, append_assoc, append-nil}
 use Rattle.sm_instance.specs.Written.{Written}
 use Rattle.sm_instance.specs.Ranks.{IsBefore, order_of}
-use Rattle.sm_theory.specs.Vectors.{IsAllowedVector}
 use Rattle.sm_theory.specs.Listings.{end_of, IsBehind, IsListing}
 use Rattle.sm_theory.proofs.Vectors.Order.{irreflexive, transitive}
 use Rattle.sm_theory.proofs.Vectors.Listings.{more_listing, none_listed, none_wanted}
 use Rattle.sm_seats.specs.Vectors.{IsAllowedRankVector}
-use Rattle.sm_seats.proofs.VectorLaws.{vector_written}
-use Rattle.sm_lister.specs.Listers.{Lister, IsListed, IsNextOf, IsAtEnd, IsSameLister}
+use Rattle.sm_lister.specs.Listers.{Lister, IsNextOf, IsAtEnd, IsSameLister}
 use Rattle.sm_lister.specs.Rests.{IsListingOf}
 use Rattle.sm_lister.proofs.RestLemmas.{same_lists}
 use Rattle.sm_answer_list.specs.Started.{IsListerOf}
 use Rattle.sm_answer_list.specs.Underway.{AreListedSoFar}
-use Rattle.sm_answer_list.proofs.RemainingLemmas.{same_back}
-use Rattle.sm_answer_list.proofs.ListLemmas.{listed_written}
+use Rattle.sm_answer_list.proofs.ListLemmas.{same_back, same_one, written_vector, listed_written}
 
 -- nothing is listed
 pub none_so_far : {w : Written} {s : Lister} → IsListerOf w None s → AreListedSoFar w s []
@@ -28,17 +25,6 @@ none_so_far {w} {s} h = record {
       let e : n ≡ 0 + n = omega arith in
       subst (λ k. IsListingOf s None k rest more) e (subst (λ c. IsListingOf s c n rest more) h.cursor x);
 }
-
--- what a lister of the instance lists is a rank vector
-written_vector : {w : Written} {s : Lister} {v : List ℕ} → IsListerOf w None s → IsListed s v → IsAllowedRankVector w v
-written_vector {w} {s} {v} h a = vector_written h.seating v (rw (h.market, h.levels, h.forced, h.forbidden) at a)
-
-same_one : {s t : Lister} {v : List ℕ} → IsSameLister s t → IsListed t v → IsListed s v
-same_one {s} {t} {v} e a =
-    subst (λ x. IsAllowedVector x.lists s.levels s.forced s.forbidden v) e.poset
-    (subst (λ x. IsAllowedVector t.poset.lists x s.forced s.forbidden v) e.levels
-    (subst (λ x. IsAllowedVector t.poset.lists t.levels x s.forbidden v) e.forced
-    (subst (λ x. IsAllowedVector t.poset.lists t.levels t.forced x v) e.forbidden a)))
 
 -- the vector at the cursor is the one that was found
 at_cursor : {c : Option (List ℕ)} {u v : List ℕ} → c ≡ Some u → c ≡ Some v → u ≡ v

@@ -1,7 +1,5 @@
 -- A lister of an instance.
-use Rattle.std.specs.Prelude.{◌≡◌, ℕ, List, length, Vec, Option}
-use Rattle.std.specs.Option.{option_map}
-use Rattle.std.specs.declared.alloc.Global.{Global}
+use Rattle.std.specs.Prelude.{◌≡◌, ℕ, List, length, Option}
 use Rattle.sm_instance.specs.Written.{Written}
 use Rattle.sm_instance.specs.Sound.{IsEachOnce}
 use Rattle.sm_poset.specs.Posets.{IsPoset}
@@ -11,10 +9,8 @@ use Rattle.sm_seats.specs.Correspondence.{IsSeating, leveled}
 use Rattle.sm_lister.specs.Listers.{Lister}
 use Rattle.sm_answer_list.specs.ListAnswer.{IsCursor}
 use Rattle.sm_instance.specs.Ranks.{order_of}
-
--- a vector that is held, if there is one
-abbrev pub cursor_in : Option (Vec ℕ Global) → Option (List ℕ)
-cursor_in after = option_map (λ v. v.items) after
+-- a vector that is held, passed on
+pub use Rattle.sm_answer_vectors.specs.VectorAnswer.{cursor_in}
 
 -- a lister of the stable matchings that the conditions of the instance allow, by its seats, in the order of the instance, that
 -- made no step yet

@@ -1,13 +1,13 @@
 //! The answer of `list`: the rank vectors of the allowed stable matchings.
 //!
-//! [`start_list`] makes a lister of them, and [`list_lines`] lends what it finds as lines ([`VectorLines`]), one vector for
-//! each step. Nothing is held but the lister and the text of one vector, so that a list may be longer than memory holds.
+//! [`start_list`] makes a lister of them, and [`list_lines`] lends what it finds as lines ([`sm_answer_vectors::ListLines`]), one
+//! vector for each step.
 #![tactic(auto)]
 
 mod answer;
+mod listed;
 mod start;
-mod vector_lines;
-mod vector_text;
 
-pub use answer::{ListLines, list_lines};
+pub use answer::list_lines;
+pub use listed::Listed;
 pub use start::start_list;

@@ -3,3 +3,4 @@ pub mod LineLemmas
 pub mod PersonLemmas
 pub mod WitnessLemmas
 pub mod RestLemmas
+pub mod RoomListLemmas

@@ -5,3 +5,4 @@ pub mod Walking
 pub mod Witnesses
 pub mod RestAnswer
 pub mod Resting
+pub mod RoomListAnswer

@@ -10,7 +10,7 @@ ghost use Rattle.sm_theory.specs.Partitions.{IsStablePartition, PairsFromLowest}
 ghost use Rattle.sm_answer_roommates.specs.RestAnswer.{AreLeftOut, IsRestOf, IsRest};
 
 use crate::numbered::{CoupleLines, OutLines};
-use crate::solution::lists_of;
+use crate::solution::market_of;
 use sm_answer::{Each, Lines, One, Printed, Then};
 use sm_instance::{Input, Persons};
 use sm_report::{Head, Line};
@@ -38,8 +38,7 @@ pub fn find_rest(alloc: Global, persons: &Persons) -> Result<Rest, AllocError>
     ensures { IfOk result
         (λ rest. IsRestOf (lists_of persons.now) rest.out.items rest.mates.items) }
 {
-    let lists = lists_of(alloc, persons.persons())?;
-    let market = RoomMarket::held(alloc, lists)?;
+    let market = market_of(alloc, persons)?;
     let partition = stable_partition(alloc, &market)?;
     let out = left_out(alloc, &market, &partition)?;
     let mates = partition.rest_matching(alloc)?;

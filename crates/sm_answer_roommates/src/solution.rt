@@ -31,8 +31,7 @@ pub enum RoomSolution {
 pub fn find_roommates(alloc: Global, persons: &Persons) -> Result<RoomSolution, AllocError>
     ensures { IfOk result (λ found. IsFoundIn (lists_of persons.now) found) }
 {
-    let lists = lists_of(alloc, persons.persons())?;
-    let market = RoomMarket::held(alloc, lists)?;
+    let market = market_of(alloc, persons)?;
     let partition = stable_partition(alloc, &market)?;
     match partition.odd_party() {
         None => Ok(RoomSolution::Matching(partition.rest_matching(alloc)?)),
@@ -40,8 +39,16 @@ pub fn find_roommates(alloc: Global, persons: &Persons) -> Result<RoomSolution, 
     }
 }
 
+/// The lists of persons.
+pub(crate) fn market_of(alloc: Global, persons: &Persons) -> Result<RoomMarket, AllocError>
+    ensures { IfOk result (λ market. market ≡ lists_of persons.now) }
+{
+    let lists = lists_of(alloc, persons.persons())?;
+    RoomMarket::held(alloc, lists)
+}
+
 /// Copies of the lists of persons.
-pub(crate) fn lists_of(alloc: Global, persons: &[Agent]) -> Result<Vec<Vec<u32>>, AllocError>
+fn lists_of(alloc: Global, persons: &[Agent]) -> Result<Vec<Vec<u32>>, AllocError>
     ensures { IfOk result (λ lists. rows_of lists.items ≡ lists_of (agents_of persons.now)) }
 {
     let mut lists = Vec::with_capacity(alloc, persons.len())?;

@@ -6,7 +6,7 @@ use Rattle.sm_text.specs.Limits.{most_bytes}
 use Rattle.sm_text.specs.declared.refusal.RefusalKind.TheVariants.{TooManySeats}
 use Rattle.sm_instance.specs.Written.{Written, agent_at}
 use Rattle.sm_lists.proofs.Counting.{lt_or_le}
-use Rattle.sm_instance.specs.Inputs.{IsInput, kind_of}
+use Rattle.sm_instance.specs.Inputs.{IsInput}
 use Rattle.sm_instance.specs.Sound.{IsInstance}
 use Rattle.sm_instance.specs.declared.inputs.Input.{Input}
 use Rattle.sm_instance.specs.declared.inputs.Input.TheVariants.{Two, Room}
@@ -15,9 +15,7 @@ use Rattle.sm_instance.specs.declared.kinds.Side.{Side}
 use Rattle.sm_instance.specs.declared.kinds.Side.TheVariants.{Proposers}
 use Rattle.sm_reader.specs.InstanceText.{ReadText, Refusal, instance_text}
 use Rattle.sm_reader.proofs.SoundTextLemmas.{text_is_sound}
-use Rattle.sm_report.specs.Heads.{HeadData}
 use Rattle.sm_report.specs.Lines.{LineData}
-use Rattle.sm_report.specs.Sound.{IsHeadOf}
 use Rattle.sm_report.specs.Texts.{text_of_line}
 use Rattle.sm_answer.specs.Printing.{IsShown}
 use Rattle.sm_answer.specs.Writing.{text_of}
@@ -28,7 +26,6 @@ use Rattle.sm_seats.specs.SeatEntries.{AreFewSeats, first_too_many}
 use Rattle.sm_seats.proofs.LimitLaws.{few_where_none}
 use Rattle.sm_answer_rotations.specs.Reduction.{IsReduction}
 use Rattle.sm_answer_rotations.specs.RotationAnswer.{IsRotationAnswer}
-use Rattle.sm_answer_list.specs.ListAnswer.{IsListAnswer}
 use Rattle.sm_answer_given.specs.GivenText.{texts_from}
 use Rattle.sm_answer_given.specs.Chosen.{IsChosenAnswer}
 use Rattle.sm_check_answers.specs.Judging.{IsJudged}
@@ -47,9 +44,9 @@ use Rattle.sm_top.specs.declared.status.Status.{Status}
 use Rattle.sm_top.specs.declared.status.Status.TheVariants.{Done, NoneExists}
 use Rattle.sm_top.specs.Accepting.{accepted, behind_text, first_refusal, after_end, wrong_kind, too_many_in, too_many_seats}
 use Rattle.sm_top.specs.Checked.{verdict_lines}
-use Rattle.sm_top.specs.Outcome.{OfTwo, IsSolved, IsRegretted, IsWeighed, IsAnswerOver, IsAnswer}
+use Rattle.sm_top.specs.Outcome.{OfTwo, IsSolved, IsAnyList, IsRegretted, IsWeighed, IsAnswerOver, IsAnswer}
 use Rattle.sm_top.proofs.RunLemmas.{too_long_text}
-use Rattle.sm_law_round.specs.Round.{IsInstanceText, WrittenIsChecked}
+use Rattle.sm_law_round.specs.Round.{IsInstanceText, IsListTaken, WrittenIsChecked}
 use Rattle.sm_law_round.proofs.BehindLemmas.{read_more, answer_behind}
 
 -- an instance that isn't refused for its seats has few of them
@@ -76,10 +73,10 @@ yes_on_few : (right : Written → List LineData → Type 0) → ((w : Written) (
 yes_on_few right agree (Two w) answer sound few h = agree w answer sound (few_in w few) h
 yes_on_few right agree (Room persons) answer sound few h = absurd h
 
-yes_on_list : (after : Option (List ℕ)) (limit : ℕ) (input : Input) (answer : List LineData) → IsInput input → IsHeadOf (kind_of input) (HeadData.List after limit)
-    → OfTwo (IsListAnswer after limit) input answer → GetYes input answer
+yes_on_list : (after : Option (List ℕ)) (limit : ℕ) (input : Input) (answer : List LineData) → IsInput input → IsListTaken input after limit
+    → IsAnyList after limit input answer → GetYes input answer
 yes_on_list after limit (Two w) answer sound head h = list_agrees w after limit answer sound head h
-yes_on_list after limit (Room persons) answer sound head h = absurd h
+yes_on_list after limit (Room persons) answer sound head h = absurd head
 
 done_is_other : Done ≡ NoneExists → ⊥
 done_is_other e = cc
@@ -170,7 +167,7 @@ written_is_checked tallies others (Solve side) text behind read status lines t t
     over others text read t (Solve side) behind (λ r. IsSolved side r.input status) lines (λ answer few h. yes_on_solve side read.input status answer (sound_of t) h)
     (fits (Solve side) (text ++ behind) a.read a.ok) a le
 written_is_checked tallies others (JobData.List after limit) text behind read status lines t taken a le =
-    over others text read t (JobData.List after limit) behind (λ r. OfTwo (IsListAnswer after limit) r.input) lines (λ answer few h. yes_on_list after limit read.input answer (sound_of t) taken h)
+    over others text read t (JobData.List after limit) behind (λ r. IsAnyList after limit r.input) lines (λ answer few h. yes_on_list after limit read.input answer (sound_of t) taken h)
     (fits (JobData.List after limit) (text ++ behind) a.1.read a.1.ok) a.1 le
 written_is_checked tallies others Regret text behind read status lines t taken a le =
     over others text read t Regret behind (λ r. IsRegretted r.input status) lines (λ answer few h. yes_on_regret read.input status answer (sound_of t) taken h)

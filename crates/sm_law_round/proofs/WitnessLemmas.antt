@@ -8,6 +8,7 @@ use Rattle.sm_instance.specs.declared.inputs.Input.TheVariants.{Two}
 use Rattle.sm_instance.specs.declared.kinds.Measure.TheVariants.{Given}
 use Rattle.sm_instance.specs.declared.kinds.Side.TheVariants.{Proposers}
 use Rattle.sm_reader.specs.Forms as form
+use Rattle.sm_keys.specs.Tokens.{is_bad}
 use Rattle.sm_reader.specs.Judging as judge
 use Rattle.sm_reader.specs.InstanceText as text
 use Rattle.sm_reader.specs.InstanceText.{instance_text}
@@ -26,7 +27,7 @@ use Rattle.sm_law_round.specs.Witnesses.{pair_text, pair_read, PairIsWritten, we
 
 -- one lemma, so that what is unfolded is named once
 means : (instance_text pair_text ≡ Ok pair_read) × (instance_text (pair_text ++ text_of given_twice) ≡ Ok pair_read) × (instance_text weighed_text ≡ Ok weighed_read)
-unfolding form.is_bad form.list_form form.capacity_form form.weight_form form.pair_form form.reviewer_form form.two_sided_form form.form_behind form.form_under
+unfolding is_bad form.list_form form.capacity_form form.weight_form form.pair_form form.reviewer_form form.two_sided_form form.form_behind form.form_under
     form.is_end form.header_of judge.fault_of judge.said_with judge.verdict_on judge.heading_of text.instance_text name.begins_name name.is_name_byte
     token.is_blank token.is_mark fmt.digits
 means = (refl, refl, refl)

@@ -1,8 +1,9 @@
 -- What is written for a command, put behind the instance, is judged with yes.
-use Rattle.std.specs.Prelude.{◌≡◌, ℕ, ◌≤◌, ◌++◌, ◌∷◌, [], List, length, map, Ok}
+use Rattle.std.specs.Prelude.{◌≡◌, ℕ, ◌≤◌, ◌++◌, ◌∷◌, [], List, length, map, Option, Ok}
 use Rattle.sm_text.specs.Limits.{most_bytes}
 use Rattle.sm_text.specs.Lines.{LF}
-use Rattle.sm_instance.specs.Inputs.{kind_of}
+use Rattle.sm_instance.specs.declared.inputs.Input.{Input}
+use Rattle.sm_instance.specs.declared.inputs.Input.TheVariants.{Two, Room}
 use Rattle.sm_reader.specs.InstanceText.{ReadText, instance_text}
 use Rattle.sm_report.specs.Heads.{HeadData}
 use Rattle.sm_report.specs.Sound.{IsHeadOf}
@@ -23,13 +24,18 @@ pub record IsInstanceText (text : List ℕ) (read : ReadText) : Type 0 where
   pub front : List ℕ
   pub ended : text ≡ front ++ LF ∷ []
 
--- the commands whose answers `check` takes, with the status of those that it takes. The numbers of `list` are as words can give
--- them; `none` of `regret` and of `weight` shows nothing
+-- an answer of `list` that `check` takes: over an instance with two sides, with numbers as words can give them
+abbrev pub IsListTaken : Input → Option (List ℕ) → ℕ → Type 0
+IsListTaken (Two w) after limit = IsHeadOf w.kind (HeadData.List after limit)
+IsListTaken (Room persons) after limit = ⊥
+
+-- the commands whose answers `check` takes, with the status of those that it takes; `none` of `regret` and of `weight` shows
+-- nothing
 abbrev pub IsCheckable : JobData → ReadText → Status → Type 0
 IsCheckable (Solve side) read status = Unit {0}
 IsCheckable Reduced read status = Unit {0}
 IsCheckable Rotations read status = Unit {0}
-IsCheckable (JobData.List after limit) read status = IsHeadOf (kind_of read.input) (HeadData.List after limit)
+IsCheckable (JobData.List after limit) read status = IsListTaken read.input after limit
 IsCheckable Regret read status = status ≡ Done
 IsCheckable (Weight by) read status = status ≡ Done
 IsCheckable Meet read status = Unit {0}

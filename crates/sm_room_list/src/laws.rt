@@ -2,7 +2,7 @@
 
 ghost use Rattle.sm_room_list.specs.Laws.{CutInstance, CutKeepsRanks, OneDecides, LowerIsUpper, FirstCuts};
 ghost use Rattle.sm_room_list.specs.PairCuts.{PairCut};
-ghost use Rattle.sm_room_list.specs.RoomListings.{RoomListings, OneRoomListing, RoomListingResumes};
+ghost use Rattle.sm_room_list.specs.RoomListings.{RoomListings, OneRoomListing, RoomListingResumes, RoomGoesOn};
 
 /// The stable matchings in which nobody's rank is above its top are those of the lists that are cut at the tops in which nobody's
 /// is: in which everybody whose top isn't beyond its list has a mate.
@@ -50,4 +50,9 @@ pub fn one_room_listing()
 /// A listing that goes on from where another ended makes with it the listing up to both limits.
 pub fn room_listing_resumes()
     ensures { RoomListingResumes }
+{}
+
+/// Behind each cursor there is a next rank vector of a stable matching, or there is none.
+pub fn room_goes_on()
+    ensures { RoomGoesOn }
 {}

@@ -421,6 +421,25 @@ fn matchings_are_weighed(rt: HostRuntime) {
 }
 
 #[test]
+fn second_sums_decide_among_equal_ones(rt: HostRuntime) {
+    come_to(
+        &rt,
+        &[
+            done(
+                "weight by=given",
+                "stable 2 marriage\np m1: a b c\np m2: b c a\np m3: c a b\nr a: m2 m3 m1\nr b: m3 m1 m2\nr c: m1 m2 m3\nweight m1 b 4 1\nweight m2 a 0 -2\nend\n",
+                "answer weight by=given\nfirst m1 a\nfirst m2 b\nfirst m3 c\nrotation 1 m1 a m2 b m3 c\nneeds 1 -\ngain 1 4\ngain2 1 1\nrotation 2 m1 b m2 c m3 a\nneeds 2 1\ngain 2 -4\ngain2 2 -3\nflow S 2 4\nflow 1 T 4\nflow 2 1 4\nflow2 S 2 1\nflow2 1 T 1\nflow2 2 1 1\ntaken 1 2\nvalue 4\ncut 4\ntotal 0\nvalue2 1\ncut2 1\ntotal2 -2\npair m1 c\npair m2 a\npair m3 b\nend\n",
+            ),
+            done(
+                "weight by=given",
+                "stable 2 marriage\np m1: a b c\np m2: b c a\np m3: c a b\nr a: m2 m3 m1\nr b: m3 m1 m2\nr c: m1 m2 m3\nweight m1 b 4 1\nweight m2 a 0 2\nend\n",
+                "answer weight by=given\nfirst m1 a\nfirst m2 b\nfirst m3 c\nrotation 1 m1 a m2 b m3 c\nneeds 1 -\ngain 1 4\ngain2 1 1\nrotation 2 m1 b m2 c m3 a\nneeds 2 1\ngain 2 -4\ngain2 2 1\nflow S 2 4\nflow 1 T 4\nflow 2 1 4\ntaken -\nvalue 4\ncut 4\ntotal 0\nvalue2 0\ncut2 0\ntotal2 0\npair m1 a\npair m2 b\npair m3 c\nend\n",
+            ),
+        ],
+    );
+}
+
+#[test]
 fn tallies_are_fed(rt: HostRuntime) {
     let three =
         "stable 1 marriage\np m1: a b c\np m2: b c a\np m3: c a b\nr a: m2 m3 m1\nr b: m3 m1 m2\nr c: m1 m2 m3\nend\n";
@@ -512,6 +531,181 @@ fn roommates_are_solved(rt: HostRuntime) {
     );
 }
 
+const RING: &str = "stable 1 roommates\np 1: 2 4\np 2: 3 1\np 3: 4 2\np 4: 1 3\nend\n";
+
+const ODD_RING: &str = "stable 1 roommates\np 1: 2 3 4\np 2: 3 1 4\np 3: 1 2 4\np 4: 1 2 3\nend\n";
+
+const TWO_RINGS: &str =
+    "stable 1 roommates\np a: b d\np b: c a\np c: d b\np d: a c\np e: f h\np f: g e\np g: h f\np h: e g\nend\n";
+
+#[test]
+fn roommates_are_listed(rt: HostRuntime) {
+    come_to(
+        &rt,
+        &[
+            done(
+                "list",
+                RING,
+                "answer list limit=100\nvector 1,2,1,2\nvector 2,1,2,1\nend\n",
+            ),
+            done(
+                "list limit=1",
+                RING,
+                "answer list limit=1\nvector 1,2,1,2\nmore 1,2,1,2\n",
+            ),
+            done(
+                "list limit=1000000",
+                RING,
+                "answer list limit=1000000\nvector 1,2,1,2\nvector 2,1,2,1\nend\n",
+            ),
+            done(
+                "list after=1,2,1,2",
+                RING,
+                "answer list after=1,2,1,2 limit=100\nvector 2,1,2,1\nend\n",
+            ),
+            // a cursor between the two vectors, which is none
+            done(
+                "list after=1,3,9,0",
+                RING,
+                "answer list after=1,3,9,0 limit=100\nvector 2,1,2,1\nend\n",
+            ),
+            refused(
+                "list after=1,2,1",
+                RING,
+                RefusalKind::BadCursor,
+                0,
+                "refused BadCursor 0\n",
+            ),
+            // no stable matching
+            done("list", ODD_RING, "answer list limit=100\nend\n"),
+            done(
+                "list after=1,1,1,1 limit=1",
+                ODD_RING,
+                "answer list after=1,1,1,1 limit=1\nend\n",
+            ),
+            refused(
+                "list after=1",
+                ODD_RING,
+                RefusalKind::BadCursor,
+                0,
+                "refused BadCursor 0\n",
+            ),
+            // two groups, each of which has two stable matchings
+            done(
+                "list limit=2",
+                TWO_RINGS,
+                "answer list limit=2\nvector 1,2,1,2,1,2,1,2\nvector 1,2,1,2,2,1,2,1\nmore 1,2,1,2,2,1,2,1\n",
+            ),
+            done(
+                "list after=1,2,1,2,2,1,2,1",
+                TWO_RINGS,
+                "answer list after=1,2,1,2,2,1,2,1 limit=100\nvector 2,1,2,1,1,2,1,2\nvector 2,1,2,1,2,1,2,1\nend\n",
+            ),
+            // entries that aren't returned, or that name their own person, count for ranks; who is alone has one rank more
+            done(
+                "list",
+                "stable 1 roommates\np 1: 5 2 1 4\np 2: 3 1\np 3: 4 2 5\np 4: 1 3\np 5: 2\nend\n",
+                "answer list limit=100\nvector 2,2,1,2,2\nvector 4,1,2,1,2\nend\n",
+            ),
+            done(
+                "list",
+                "stable 1 roommates\np 1:\np 2:\np 3:\nend\n",
+                "answer list limit=100\nvector 1,1,1\nend\n",
+            ),
+            done(
+                "list",
+                "stable 1 roommates\nend\n",
+                "answer list limit=100\nvector -\nend\n",
+            ),
+            refused(
+                "check",
+                "stable 1 roommates\np 1: 2\np 2: 1\nend\nanswer list limit=100\nvector 1,1\nend\n",
+                RefusalKind::BadAnswer,
+                5,
+                "refused BadAnswer 5\n",
+            ),
+        ],
+    );
+}
+
+/// A ring of the odd persons and one of the even ones.
+const RINGS_BY_TURNS: &str =
+    "stable 1 roommates\np 1: 3 7\np 2: 4 8\np 3: 5 1\np 4: 6 2\np 5: 7 3\np 6: 8 4\np 7: 1 5\np 8: 2 6\nend\n";
+
+#[test]
+fn roommates_are_listed_from_any_cursor(rt: HostRuntime) {
+    come_to(
+        &rt,
+        &[
+            // no cursor is a vector here: before all, between, and behind all
+            done(
+                "list after=0,0,0,0 limit=2",
+                RING,
+                "answer list after=0,0,0,0 limit=2\nvector 1,2,1,2\nvector 2,1,2,1\nend\n",
+            ),
+            done(
+                "list after=1,2,1,3 limit=1",
+                RING,
+                "answer list after=1,2,1,3 limit=1\nvector 2,1,2,1\nend\n",
+            ),
+            done(
+                "list after=2,1,2,4294967295",
+                RING,
+                "answer list after=2,1,2,4294967295 limit=100\nend\n",
+            ),
+            // behind the last vector
+            done(
+                "list after=2,1,2,1 limit=1000000",
+                RING,
+                "answer list after=2,1,2,1 limit=1000000\nend\n",
+            ),
+            // empty lists, and a cursor just before the only vector
+            done(
+                "list after=1,1,1,0",
+                "stable 1 roommates\np 1:\np 2: 3\np 3: 2\np 4:\nend\n",
+                "answer list after=1,1,1,0 limit=100\nvector 1,1,1,1\nend\n",
+            ),
+            // no entry is returned
+            done(
+                "list",
+                "stable 1 roommates\np 1: 2 1\np 2: 3\np 3:\nend\n",
+                "answer list limit=100\nvector 3,2,1\nend\n",
+            ),
+            // two solvable groups whose persons take turns
+            done(
+                "list limit=1000000",
+                RINGS_BY_TURNS,
+                "answer list limit=1000000\nvector 1,1,2,2,1,1,2,2\nvector 1,2,2,1,1,2,2,1\nvector 2,1,1,2,2,1,1,2\nvector 2,2,1,1,2,2,1,1\nend\n",
+            ),
+            done(
+                "list after=1,1,9,0,0,0,0,0 limit=2",
+                RINGS_BY_TURNS,
+                "answer list after=1,1,9,0,0,0,0,0 limit=2\nvector 1,2,2,1,1,2,2,1\nvector 2,1,1,2,2,1,1,2\nmore 2,1,1,2,2,1,1,2\n",
+            ),
+            // of two groups one has no stable matching, so the whole has none
+            done(
+                "list limit=1000000",
+                "stable 1 roommates\np 1: 2 4\np 2: 3 1\np 3: 4 2\np 4: 1 3\np a: b c\np b: c a\np c: a b\nend\n",
+                "answer list limit=1000000\nend\n",
+            ),
+            // a list that is a master list has its own person, too
+            done(
+                "list",
+                "stable 2 roommates\nmaster all: 1 2 3 4\np 1: [all]\np 2: [all]\np 3: [all]\np 4: [all]\nend\n",
+                "answer list limit=100\nvector 2,1,4,3\nend\n",
+            ),
+            // text behind the instance comes before the cursor
+            refused(
+                "list after=1",
+                "stable 1 roommates\np 1: 2\np 2: 1\nend\nend\n",
+                RefusalKind::AfterEnd,
+                5,
+                "refused AfterEnd 5\n",
+            ),
+        ],
+    );
+}
+
 /// A run without faults that answers that an answer isn't right.
 fn checked_no<'a>(text: &'a str, line: u32, why: Reason, written: &'a str) -> Row<'a> {
     Row {
@@ -545,6 +739,26 @@ fn answers_of_weight_are_checked(rt: HostRuntime) {
                 26,
                 Reason::CutDiffers,
                 "answer check\nno 26 CutDiffers\nend\n",
+            ),
+        ],
+    );
+}
+
+#[test]
+fn answers_of_two_levels_are_checked(rt: HostRuntime) {
+    come_to(
+        &rt,
+        &[
+            done(
+                "check",
+                "stable 2 marriage\np m1: a b c\np m2: b c a\np m3: c a b\nr a: m2 m3 m1\nr b: m3 m1 m2\nr c: m1 m2 m3\nweight m1 b 4 1\nweight m2 a 0 -2\nend\nanswer weight by=given\nfirst m1 a\nfirst m2 b\nfirst m3 c\nrotation 1 m1 a m2 b m3 c\nneeds 1 -\ngain 1 4\ngain2 1 1\nrotation 2 m1 b m2 c m3 a\nneeds 2 1\ngain 2 -4\ngain2 2 -3\nflow S 2 4\nflow 1 T 4\nflow 2 1 4\nflow2 S 2 1\nflow2 1 T 1\nflow2 2 1 1\ntaken 1 2\nvalue 4\ncut 4\ntotal 0\nvalue2 1\ncut2 1\ntotal2 -2\npair m1 c\npair m2 a\npair m3 b\nend\n",
+                "answer check\nyes\nend\n",
+            ),
+            checked_no(
+                "stable 2 marriage\np m1: a b c\np m2: b c a\np m3: c a b\nr a: m2 m3 m1\nr b: m3 m1 m2\nr c: m1 m2 m3\nweight m1 b 4 1\nweight m2 a 0 -2\nend\nanswer weight by=given\nfirst m1 a\nfirst m2 b\nfirst m3 c\nrotation 1 m1 a m2 b m3 c\nneeds 1 -\ngain 1 4\ngain2 1 1\nrotation 2 m1 b m2 c m3 a\nneeds 2 1\ngain 2 -4\ngain2 2 -3\nflow S 2 4\nflow 1 T 4\nflow 2 1 4\nflow2 S 2 2\nflow2 1 T 1\nflow2 2 1 1\ntaken 1 2\nvalue 4\ncut 4\ntotal 0\nvalue2 1\ncut2 1\ntotal2 -2\npair m1 c\npair m2 a\npair m3 b\nend\n",
+                29,
+                Reason::NotConserved,
+                "answer check\nno 29 NotConserved\nend\n",
             ),
         ],
     );

@@ -81,6 +81,21 @@ wrote_room job bytes read persons right given a b f g status ok room =
       },
     ))
 
+-- and for either, where what is right goes by the kind of the input
+pub wrote_as : (job : JobData) (bytes : List ℕ) (read : ReadText) (found : List LineData → Type 0) (right : Input → List LineData → Type 0) (given : Status) (a b : Option (List ℕ)) (f g : ℕ) (status : Status)
+    → accepted job bytes ≡ Ok read → ((answer : List LineData) → found answer → right read.input answer)
+    → Wrote (With given (IsShown read.input found)) a b f g status → Wrote (λ s lines. (s ≡ given) × IsAnswerOver job bytes (λ read. right read.input) lines) a b f g status
+wrote_as job bytes read found right given a b f g status ok is =
+    wrote_for (With given (IsShown read.input found)) (λ s lines. (s ≡ given) × IsAnswerOver job bytes (λ read. right read.input) lines) a b f g status
+    (λ s lines h. (
+      h.same,
+      record {
+        read = read;
+        ok = ok;
+        shown = record { answer = h.given_lines.answer; is_right = is h.given_lines.answer h.given_lines.is_right; shows = h.given_lines.shows };
+      },
+    ))
+
 -- what is known of a stop for one reason is known of it for another
 pub stops_for : (U U' : ℕ → Type 0) (R R' : RefusalData → Type 0) (F F' : Type 0) (s : Stop)
     → ((word : ℕ) → U word → U' word) → ((refusal : RefusalData) → R refusal → R' refusal) → (F → F') → StopsBy U R F s → StopsBy U' R' F' s

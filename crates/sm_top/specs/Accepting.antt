@@ -50,7 +50,8 @@ abbrev pub judges_answer : JobData → Bool
 judges_answer Check = true
 judges_answer job = false
 
--- a kind: `check`, and `solve` where it names no side, take all, `rest` takes roommates, and the others those with two sides
+-- a kind: `check`, `list`, and `solve` where it names no side, take all, `rest` takes roommates, and the others those with two
+-- sides
 abbrev pub is_two_sided : Kind → Bool
 is_two_sided Marriage = true
 is_two_sided Hospitals = true
@@ -62,7 +63,7 @@ takes_kind (Solve None) kind = true
 takes_kind (Solve (Some side)) kind = is_two_sided kind
 takes_kind Reduced kind = is_two_sided kind
 takes_kind Rotations kind = is_two_sided kind
-takes_kind (JobData.List after limit) kind = is_two_sided kind
+takes_kind (JobData.List after limit) kind = true
 takes_kind Pairs kind = is_two_sided kind
 takes_kind Regret kind = is_two_sided kind
 takes_kind (Weight by) kind = is_two_sided kind

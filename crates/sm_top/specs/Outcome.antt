@@ -44,6 +44,7 @@ use Rattle.sm_make.specs.Made.{made_instance}
 use Rattle.sm_printed.specs.Printed.{lines_of}
 use Rattle.sm_answer_roommates.specs.RoomAnswer.{IsMatched, IsUnmatchable}
 use Rattle.sm_answer_roommates.specs.RestAnswer.{IsRest}
+use Rattle.sm_answer_roommates.specs.RoomListAnswer.{IsRoomListAnswer}
 
 -- a right answer for an instance with two sides
 abbrev pub OfTwo : (Written → List LineData → Type 0) → Input → List LineData → Type 0
@@ -59,6 +60,11 @@ OfRoom right (Room persons) answer = right persons answer
 abbrev pub IsSolved : Option Side → Input → Status → List LineData → Type 0
 IsSolved side (Two w) status answer = (status ≡ Done) × IsSolution (unwrap_or side Proposers) w answer
 IsSolved side (Room persons) status answer = ((status ≡ Done) × IsMatched persons answer) ⊎ ((status ≡ NoneExists) × IsUnmatchable persons answer)
+
+-- a right answer to `list`: the rank vectors of the allowed stable matchings, or of the stable ones of roommates
+abbrev pub IsAnyList : Option (List ℕ) → ℕ → Input → List LineData → Type 0
+IsAnyList after limit (Two w) answer = IsListAnswer after limit w answer
+IsAnyList after limit (Room persons) answer = IsRoomListAnswer after limit persons answer
 
 -- a right answer to `regret`, with its status: a matching of the least regret, or `none` where no stable matching is allowed
 abbrev pub IsRegretted : Input → Status → List LineData → Type 0
@@ -98,7 +104,7 @@ IsAnswer tallies (Solve side) bytes status lines = IsAnswerOver (Solve side) byt
 IsAnswer tallies Reduced bytes status lines = (status ≡ Done) × IsAnswerOver Reduced bytes (λ read. OfTwo IsReduction read.input) lines
 IsAnswer tallies Rotations bytes status lines = (status ≡ Done) × IsAnswerOver Rotations bytes (λ read. OfTwo IsRotationAnswer read.input) lines
 IsAnswer tallies (JobData.List after limit) bytes status lines =
-    (status ≡ Done) × IsAnswerOver (JobData.List after limit) bytes (λ read. OfTwo (IsListAnswer after limit) read.input) lines
+    (status ≡ Done) × IsAnswerOver (JobData.List after limit) bytes (λ read. IsAnyList after limit read.input) lines
 IsAnswer tallies Pairs bytes status lines = (status ≡ Done) × IsAnswerOver Pairs bytes (λ read. OfTwo IsPairsAnswer read.input) lines
 IsAnswer tallies Regret bytes status lines = IsAnswerOver Regret bytes (λ read. IsRegretted read.input status) lines
 IsAnswer tallies (Weight by) bytes status lines = IsAnswerOver (Weight by) bytes (λ read. IsWeighed by read.input status) lines
@@ -111,10 +117,10 @@ IsAnswer tallies Rest bytes status lines = (status ≡ Done) × IsAnswerOver Res
 IsAnswer tallies Median bytes status lines = IsAnswerOver Median bytes (λ read. IsMiddle read.input status) lines
 IsAnswer tallies Route bytes status lines = (status ≡ Done) × IsAnswerOver Route bytes (λ read. OfTwo (IsRouteAnswer (texts_from bytes read.rest)) read.input) lines
 
--- a cursor that hasn't an item for each proposer is refused, at no line
+-- a cursor that hasn't an item for each proposer, or for each person, is refused, at no line
 abbrev pub IsBadCursor : Option (List ℕ) → Input → RefusalData → Type 0
 IsBadCursor after (Two w) refusal = (¬ IsCursor (length w.proposers) after) × (refusal ≡ plain_refusal BadCursor 0)
-IsBadCursor after (Room persons) refusal = ⊥
+IsBadCursor after (Room persons) refusal = (¬ IsCursor (length persons) after) × (refusal ≡ plain_refusal BadCursor 0)
 
 -- more stable matchings are allowed than a median is looked for of: refused, at no line
 abbrev pub IsTooManyAllowed : Input → RefusalData → Type 0

@@ -13,6 +13,7 @@ ghost use Rattle.sm_top.specs.Accepting.{reads_input, takes_text, IsTextFor, jud
 ghost use Rattle.sm_top.specs.Counted.{IsCounted};
 ghost use Rattle.sm_answer_solve.specs.Solution.{IsSolution};
 ghost use Rattle.sm_answer_roommates.specs.RestAnswer.{IsRest};
+ghost use Rattle.sm_answer_roommates.specs.RoomListAnswer.{IsRoomListAnswer};
 ghost use Rattle.sm_answer_list.specs.ListAnswer.{IsCursor, IsListAnswer};
 ghost use Rattle.sm_answer_list.specs.Started.{cursor_in};
 ghost use Rattle.sm_answer_pairs.specs.PairsAnswer.{IsPairsAnswer};
@@ -37,7 +38,7 @@ use sm_answer_list::{list_lines, start_list};
 use sm_answer_median::{MedianFault, find_median, median_lines};
 use sm_answer_pairs::{find_pairs, find_regret, pairs_lines, regret_lines};
 use sm_answer_roommates::{
-    RoomSolution, couple_lines, find_rest, find_roommates, party_lines, rest_lines,
+    RoomSolution, couple_lines, find_rest, find_roommates, party_lines, rest_lines, room_list_lines,
 };
 use sm_answer_rotations::{
     Basis, find_reduction, none_lines, reduction_lines, rotation_answer_lines,
@@ -214,6 +215,7 @@ fn perform_on_persons<K: Sink>(
     requires reads { reads_input (job_of job.now) ≡ true }
     requires answers { judges_answer (job_of job.now) ≡ false }
     requires room { read.now.input ≡ Room persons.now }
+    requires bounds { IsInBounds (job_of job.now) }
     ensures wrote { (text : List ℕ) (tallies : List Shown)
         → accepted (job_of job.now) text ≡ judged (job_of job.now) (read_of read.now)
         → IfOk result (λ status. Wrote (IsAnswer tallies (job_of job.now) text)
@@ -226,11 +228,13 @@ fn perform_on_persons<K: Sink>(
 {
     match job {
         Job::Solve(None) => Ok(solve_roommates(alloc, &read.input, persons, sink)?),
+        Job::List(after, limit) => {
+            list_persons(alloc, &read.input, persons, after, *limit, sink)
+        }
         Job::Rest => Ok(show_rest(alloc, &read.input, persons, sink)?),
         Job::Solve(Some(_))
         | Job::Reduced
         | Job::Rotations
-        | Job::List(_, _)
         | Job::Pairs
         | Job::Regret
         | Job::Weight(_)
@@ -287,6 +291,33 @@ pub(crate) fn solve_roommates<K: Sink>(
             Ok(write(alloc, sink, Status::NoneExists, lines))
         }
     }
+}
+
+/// Does `list` on roommates.
+fn list_persons<K: Sink>(
+    alloc: Global,
+    input: &Input,
+    persons: &Persons,
+    after: &Option<Vec<u32>>,
+    limit: u32,
+    sink: &mut K,
+) -> Result<Status, Stop>
+    requires room { input.now ≡ Room persons.now }
+    requires limit { IsLimit limit }
+    ensures wrote { IfOk result (λ status. Wrote
+        (With Status.Done (IsShown input.now (IsRoomListAnswer (cursor_in after.now) limit
+        persons.now)))
+        (K.held sink.old) (K.held sink.new) (K.faults sink.old) (K.faults sink.new) status) }
+    ensures stop { IfErr result (λ stop.
+        StopsBy (λ _. ⊥) (IsBadCursor (cursor_in after.now) (Room persons.now)) ⊥ stop) }
+    ensures unwritten { OnErr result (sink.new ≡ sink.old) }
+    ensures later { K.faults sink.old ≤ K.faults sink.new }
+{
+    if !is_cursor(count_of(persons), after) {
+        return Err(Stop::Refused(RefusalKind::BadCursor, 0));
+    }
+    let lines = room_list_lines(alloc, input, persons, after, limit)?;
+    Ok(write(alloc, sink, Status::Done, lines))
 }
 
 /// Does `rest`.
@@ -362,7 +393,7 @@ fn list<K: Sink>(
     ensures unwritten { OnErr result (sink.new ≡ sink.old) }
     ensures later { K.faults sink.old ≤ K.faults sink.new }
 {
-    if !is_cursor(given.instance, after) {
+    if !is_cursor(given.instance.proposer_count() as usize, after) {
         return Err(Stop::Refused(RefusalKind::BadCursor, 0));
     }
     let seats = Seats::counted(alloc, given.instance, &given.counts)?;
@@ -532,12 +563,19 @@ fn show_route<K: Sink>(
     Ok(write(alloc, sink, Status::Done, lines))
 }
 
-/// Has a cursor an item for each proposer, where there is one?
-fn is_cursor(instance: &Instance, after: &Option<Vec<u32>>) -> bool
-    ensures { IsTrue result ↔ IsCursor (length instance.now.proposers) (cursor_in after.now) }
+/// Has a cursor so many items, where there is one?
+fn is_cursor(count: usize, after: &Option<Vec<u32>>) -> bool
+    ensures { IsTrue result ↔ IsCursor count (cursor_in after.now) }
 {
     match after {
-        Some(vector) => vector.len() == instance.proposer_count() as usize,
+        Some(vector) => vector.len() == count,
         None => true,
     }
+}
+
+/// How many persons there are.
+fn count_of(persons: &Persons) -> usize
+    ensures { result ≡ length persons.now }
+{
+    persons.persons().len()
 }

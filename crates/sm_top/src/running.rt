@@ -59,9 +59,9 @@ use std::alloc::Global;
 /// - `Refused`: the input is refused for this reason, at this line; the one line `refused NAME LINE` is written. An input
 ///   that is too long comes first, then the faults of its lines from the top, then a missing `end`, then a name that isn't
 ///   declared, then text behind `end` where the command takes none, then a kind that the command doesn't take, then seats
-///   that have more than 1,048,576 entries. Then come a cursor that hasn't a number for each proposer, for `list`; more than
-///   100,000 allowed stable matchings, for `median`; and for `meet`, `join` and `route` the first
-///   line behind `end` that can't stand where it stands, then, with four more fields, the first pair that can't be held
+///   that have more than 1,048,576 entries. Then come a cursor that hasn't a number for each proposer, or for each person, for
+///   `list`; more than 100,000 allowed stable matchings, for `median`; and for `meet`, `join` and `route` the first line
+///   behind `end` that can't stand where it stands, then, with four more fields, the first pair that can't be held
 ///   beside those before it, then, at the closing `end`, a pair that blocks the left matching, then one that blocks the
 ///   right one; and for `check` the first line behind `end` that isn't of the form of an answer where it stands.
 /// - `NoneExists`: the whole answer is written, and says that there is no such matching. For `solve` it is `none`, where

@@ -2,7 +2,8 @@ use Rattle.std.proofs.Common.{◌≡◌, ◌∙◌, sym, ap, length}
 use Rattle.sm_poset.specs.Posets.{RotationPoset}
 use Rattle.sm_market.specs.Lists.{Lists}
 use Rattle.sm_answer_rotations.proofs.ConditionLemmas.{forced_named, forbidden_named}
-use Rattle.sm_answer_list.proofs.StartLemmas.{each_once_is_order, cursor_long}
+use Rattle.sm_answer_vectors.proofs.CursorLemmas.{cursor_long}
+use Rattle.sm_answer_list.proofs.StartLemmas.{each_once_is_order}
 use Rattle.sm_answer_list.proofs.start.start_list.Goals.{In_ok-after}
 use Rattle.sm_answer_list.proofs.start.start_list.Goals as goal
 

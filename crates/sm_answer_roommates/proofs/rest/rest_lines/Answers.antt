@@ -1,8 +1,7 @@
-use Rattle.std.proofs.Common.{◌≡◌}
 use Rattle.sm_instance.specs.Written.{lists_of}
 use Rattle.sm_answer.proofs.AnswerLemmas.{same_some, same_is, joined_some, joined_is, given_right, given_some}
 use Rattle.sm_answer_roommates.specs.RestAnswer.{IsRestOf}
-use Rattle.sm_answer_roommates.proofs.RestLemmas.{rest_given, rest_is, rest_sound, given_rest_sound, out_fits}
+use Rattle.sm_answer_roommates.proofs.RestLemmas.{rest_given, rest_is, given_rest_sound, out_fits}
 use Rattle.sm_answer_roommates.proofs.rest.rest_lines.Goals as goal
 
 pub invariant_of-result : goal.invariant_of-result

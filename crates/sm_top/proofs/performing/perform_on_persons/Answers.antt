@@ -1,10 +1,15 @@
-use Rattle.std.proofs.Common.{◌≡◌, ◌∙◌, ap, refl, None}
+use Rattle.std.proofs.Common.{◌≡◌, ◌∙◌, ap, refl, sym, subst, None}
+use Rattle.std.proofs.lemmas.Result.{IfOk-weaker}
+use Rattle.sm_instance.specs.declared.inputs.Input.{Input}
+use Rattle.sm_instance.specs.declared.inputs.Input.TheVariants.{Room}
 use Rattle.sm_reader.specs.InstanceText.{read_of}
-use Rattle.sm_words.specs.Jobs.{job_of, Solve, Rest}
-use Rattle.sm_top.specs.Outcome.{IsSolved}
+use Rattle.sm_words.specs.Jobs.{JobData, job_of, Solve, Rest}
+use Rattle.sm_answer_vectors.specs.VectorAnswer.{cursor_in}
+use Rattle.sm_answer_roommates.specs.RoomListAnswer.{IsRoomListAnswer}
+use Rattle.sm_top.specs.Outcome.{IsSolved, IsAnyList, IsBadCursor, IsRefused, by_job}
 use Rattle.sm_answer_roommates.specs.RestAnswer.{IsRest}
 use Rattle.sm_top.specs.declared.status.Status.TheVariants.{Done}
-use Rattle.sm_top.proofs.RunLemmas.{wrote_room}
+use Rattle.sm_top.proofs.RunLemmas.{wrote_room, wrote_as, err_stops_for}
 use Rattle.sm_top.proofs.KindLemmas.{room_accepted, answer_over}
 use Rattle.sm_top.proofs.performing.perform_on_persons.Goals as goal
 
@@ -23,3 +28,25 @@ returns-in_ok-show_rest-in-Rest-clause-wrote g c = λ text tallies accepted.
     let judged = rw c.in-Rest.is at accepted in
     let ok = room_accepted Rest text read c.args.persons.now c.requires.room judged refl in
     rw c.in-Rest.is (wrote_room Rest text read c.args.persons.now IsRest Done _ _ _ _ _ ok c.requires.room c.in_ok-show_rest-in-Rest.ensures.wrote)
+
+pub returns-in-List-clause-wrote : goal.returns-in-List-clause-wrote
+returns-in-List-clause-wrote g c = λ text tallies accepted.
+    let read = read_of c.args.read.now in
+    let persons = c.args.persons.now in
+    let after = cursor_in c.in-List.after in
+    let job = JobData.List after c.in-List.limit in
+    let judged = rw c.in-List.is at accepted in
+    let ok = room_accepted job text read persons c.requires.room judged refl in
+    rw c.in-List.is (IfOk-weaker c.list_persons.result _ _ (λ status w. wrote_as job text read (IsRoomListAnswer after c.in-List.limit persons) (IsAnyList after c.in-List.limit) Done _ _ _ _ status ok
+    (λ answer h. subst (λ (input : Input). IsAnyList after c.in-List.limit input answer) (sym c.requires.room) h) w) c.list_persons.ensures.wrote)
+
+pub returns-in-List-clause-stop : goal.returns-in-List-clause-stop
+returns-in-List-clause-stop g c = λ text accepted.
+    let read = read_of c.args.read.now in
+    let persons = c.args.persons.now in
+    let after = cursor_in c.in-List.after in
+    let job = JobData.List after c.in-List.limit in
+    let judged = rw c.in-List.is at accepted in
+    let ok = room_accepted job text read persons c.requires.room judged refl in
+    rw c.in-List.is (err_stops_for (λ word. ⊥) (λ word. ⊥) (IsBadCursor after (Room persons)) (IsRefused job text) ⊥ ⊥ c.list_persons.result (λ word h. h)
+    (λ refusal bad. by_job read ok (subst (λ (input : Input). IsBadCursor after input refusal) (sym c.requires.room) bad)) (λ h. h) c.list_persons.ensures.stop)

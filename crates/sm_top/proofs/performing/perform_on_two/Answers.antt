@@ -1,4 +1,4 @@
-use Rattle.std.proofs.Common.{ap}
+use Rattle.std.proofs.Common.{ap, sym, subst}
 use Rattle.sm_top.specs.Accepting.{takes_text}
 use Rattle.sm_reader.specs.InstanceText.{read_of}
 use Rattle.std.proofs.lemmas.Result.{IfOk-weaker}
@@ -12,10 +12,11 @@ use Rattle.sm_theory.specs.declared.choice.Choice.TheVariants.{Better, Worse}
 use Rattle.sm_answer_given.specs.GivenText.{texts_from}
 use Rattle.sm_answer_given.specs.Chosen.{IsChosenAnswer}
 use Rattle.sm_answer_route.specs.RouteAnswer.{IsRouteAnswer}
-use Rattle.sm_top.specs.Outcome.{IsSolved, IsRegretted, IsWeighed, IsMiddle}
+use Rattle.sm_instance.specs.declared.inputs.Input.{Input}
+use Rattle.sm_top.specs.Outcome.{IsSolved, IsAnyList, IsRegretted, IsWeighed, IsMiddle}
 use Rattle.sm_top.specs.declared.status.Status.TheVariants.{Done}
 use Rattle.sm_words.specs.Jobs.{job_of}
-use Rattle.sm_top.proofs.RunLemmas.{wrote_answer, wrote_answer_by}
+use Rattle.sm_top.proofs.RunLemmas.{wrote_answer, wrote_answer_by, wrote_as}
 use Rattle.sm_top.proofs.KindLemmas.{answer_over, two_solved}
 use Rattle.sm_top.proofs.performing.perform_on_two.Goals as goal
 
@@ -41,8 +42,9 @@ pub returns-in-List-clause-wrote : goal.returns-in-List-clause-wrote
 returns-in-List-clause-wrote g c = λ text kept accepted.
     let ok = rw c.in-List.is at accepted in
     let given = c.args.given.now in
-    rw c.in-List.is (IfOk-weaker c.list.result _ _ (λ status w. wrote_answer (JobData.List (cursor_in c.in-List.after) c.in-List.limit) text (read_of given.read.now) given.instance.now
-    (IsListAnswer (cursor_in c.in-List.after) c.in-List.limit) Done _ _ _ _ status ok c.requires.counted.two w) c.list.ensures.wrote)
+    let after = cursor_in c.in-List.after in
+    rw c.in-List.is (IfOk-weaker c.list.result _ _ (λ status w. wrote_as (JobData.List after c.in-List.limit) text (read_of given.read.now) (IsListAnswer after c.in-List.limit given.instance.now) (IsAnyList after c.in-List.limit) Done _ _ _ _ status ok
+    (λ answer h. subst (λ (input : Input). IsAnyList after c.in-List.limit input answer) (sym c.requires.counted.two) h) w) c.list.ensures.wrote)
 
 pub returns-in_ok-show_pairs-in-Pairs-clause-wrote : goal.returns-in_ok-show_pairs-in-Pairs-clause-wrote
 returns-in_ok-show_pairs-in-Pairs-clause-wrote g c = λ text kept accepted.

@@ -1,0 +1,4 @@
+pub mod VectorAnswer
+pub mod Stepping
+pub mod Spelled
+pub mod Remaining
