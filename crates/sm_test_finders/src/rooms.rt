@@ -97,16 +97,24 @@ fn is_table(rt: &(impl Abort + AllocGlobal), market: &RoomMarket, table: &Table,
     }
 }
 
+/// Makes sure that each of these lists makes no roommates, by the first fault.
+fn refuses_lists(rt: &(impl Abort + AllocGlobal), rows: &[(&str, RoomFault)]) {
+    for (text, fault) in rows {
+        let refused = RoomMarket::build(rt.alloc(), lists(rt, text)).err();
+        assert_eq!(rt; refused, Some(*fault), "{text}");
+    }
+}
+
 #[test]
 fn each_fault_of_lists(rt: HostRuntime) {
-    for (text, fault) in [
-        ("12/0", RoomFault::OutOfRange(0, 1)),
-        ("1/0/011", RoomFault::Repeated(2, 2)),
-        ("00/7", RoomFault::Repeated(0, 1)),
-    ] {
-        let refused = RoomMarket::build(rt.alloc(), lists(&rt, text)).err();
-        assert_eq!(rt; refused, Some(fault), "{text}");
-    }
+    refuses_lists(
+        &rt,
+        &[
+            ("12/0", RoomFault::OutOfRange(0, 1)),
+            ("1/0/011", RoomFault::Repeated(2, 2)),
+            ("00/7", RoomFault::Repeated(0, 1)),
+        ],
+    );
 }
 
 #[test]

@@ -32,12 +32,19 @@ fn refuses(
 }
 
 #[test]
-fn the_meet_and_the_join_of_two_in_the_middle(rt: HostRuntime) {
+fn the_meet_of_two_in_the_middle(rt: HostRuntime) {
     let market = two_pairs(&rt);
     let first = pairing(&rt, &market, "0011");
     let second = pairing(&rt, &market, "1100");
     let both = meet(rt.alloc(), &market, &first, &second).expect(&rt, "a meet");
     holds(&rt, &market, &both, "0000");
+}
+
+#[test]
+fn the_join_of_two_in_the_middle(rt: HostRuntime) {
+    let market = two_pairs(&rt);
+    let first = pairing(&rt, &market, "0011");
+    let second = pairing(&rt, &market, "1100");
     let both = join(rt.alloc(), &market, &first, &second).expect(&rt, "a join");
     holds(&rt, &market, &both, "1111");
 }

@@ -75,10 +75,15 @@ fn each_fault_of_places(rt: HostRuntime) {
 }
 
 #[test]
-fn swapped_and_copied(rt: HostRuntime) {
+fn sides_swapped(rt: HostRuntime) {
     let market = market(&rt, "0/01", "10/1");
     let swapped = market.swapped(rt.alloc()).expect(&rt, MEMORY);
     holds(&rt, &swapped, &pairing(&rt, &swapped, "1-"), "1-");
+}
+
+#[test]
+fn copies(rt: HostRuntime) {
+    let market = market(&rt, "0/01", "10/1");
     let copy = market.copy(rt.alloc()).expect(&rt, MEMORY);
     let m = pairing(&rt, &market, "-1");
     holds(&rt, &copy, &m.copy(rt.alloc()).expect(&rt, MEMORY), "-1");
@@ -95,29 +100,77 @@ fn likes(rt: &impl Abort, market: &Market, m: &Pairing, would: bool, blocks: boo
     assert!(rt; market.blocks(m, 0, 0) == blocks);
 }
 
-#[test]
-fn blocking_pairs_and_successors(rt: HostRuntime) {
-    let market = two_by_two(&rt);
-    likes(&rt, &market, &pairing(&rt, &market, "-0"), true, true);
-    assert!(rt; market.first_blocking(&pairing(&rt, &market, "0-")) == Some((1, 0)));
-    let first = pairing(&rt, &market, "00");
-    assert!(rt; market.first_blocking(&first).is_none());
-    assert!(rt; 0 < market.proposers());
-    assert!(rt; successor(&market, &first, 0) == Some(1));
-    assert!(rt; is_exposed(&market, &first, &rotation(&rt, "0011")));
-    assert!(rt; !is_exposed(&market, &first, &rotation(&rt, "00")));
+/// Makes sure which pair is the first that blocks.
+fn first_blocks(
+    rt: &(impl Abort + AllocGlobal),
+    market: &Market,
+    text: &str,
+    wanted: Option<(u32, u32)>,
+) {
+    assert!(rt;
+        market.first_blocking(&pairing(rt, market, text)) == wanted,
+        "{text}"
+    );
 }
 
 #[test]
-fn bests_and_reduced_lists(rt: HostRuntime) {
-    let market = market(&rt, "012/102/201", "102/012/201");
-    let first = proposer_best(rt.alloc(), &market).expect(&rt, MEMORY);
-    holds(&rt, &market, &first, "000");
-    let last = reviewer_best(rt.alloc(), &market).expect(&rt, MEMORY);
-    holds(&rt, &market, &last, "110");
-    let reduced = reduced_lists(rt.alloc(), &market).expect(&rt, MEMORY);
+fn blocking_pairs(rt: HostRuntime) {
+    let market = two_by_two(&rt);
+    likes(&rt, &market, &pairing(&rt, &market, "-0"), true, true);
+    first_blocks(&rt, &market, "0-", Some((1, 0)));
+    first_blocks(&rt, &market, "00", None);
+}
+
+/// Makes sure whether a rotation is exposed in a pairing.
+fn exposes(rt: &(impl Abort + AllocGlobal), market: &Market, m: &Pairing, pairs: &str, wanted: bool)
+    requires { IsPairingOf market.now m.now }
+{
+    assert!(rt;
+        is_exposed(market, m, &rotation(rt, pairs)) == wanted,
+        "{pairs}"
+    );
+}
+
+#[test]
+fn successors_and_exposed_rotations(rt: HostRuntime) {
+    let market = two_by_two(&rt);
+    let first = pairing(&rt, &market, "00");
+    assert!(rt; 0 < market.proposers());
+    assert!(rt; successor(&market, &first, 0) == Some(1));
+    exposes(&rt, &market, &first, "0011", true);
+    exposes(&rt, &market, &first, "00", false);
+}
+
+/// Each side's best pairing differs from the other's, and one proposer has the same partner in both.
+fn three_by_three(rt: &(impl Abort + AllocGlobal)) -> Market {
+    market(rt, "012/102/201", "102/012/201")
+}
+
+#[test]
+fn best_for_the_proposers(rt: HostRuntime) {
+    let market = three_by_three(&rt);
+    let best = proposer_best(rt.alloc(), &market).expect(&rt, MEMORY);
+    holds(&rt, &market, &best, "000");
+}
+
+#[test]
+fn best_for_the_reviewers(rt: HostRuntime) {
+    let market = three_by_three(&rt);
+    let best = reviewer_best(rt.alloc(), &market).expect(&rt, MEMORY);
+    holds(&rt, &market, &best, "110");
+}
+
+#[test]
+fn reduced_lists_of_all_pairings(rt: HostRuntime) {
+    let reduced = reduced_lists(rt.alloc(), &three_by_three(&rt)).expect(&rt, MEMORY);
     lists_are(&rt, &reduced.proposers, "01/10/2");
     lists_are(&rt, &reduced.reviewers, "10/01/2");
+}
+
+#[test]
+fn reduced_lists_of_one_pairing(rt: HostRuntime) {
+    let market = three_by_three(&rt);
+    let first = proposer_best(rt.alloc(), &market).expect(&rt, MEMORY);
     let between = reduced_between(rt.alloc(), &market, &first, &first).expect(&rt, MEMORY);
     lists_are(&rt, &between.proposers, "0/1/2");
 }
@@ -135,11 +188,16 @@ fn keeps(rt: &impl Abort, market: &Market, linked: &Linked, wanted: (Option<u32>
 }
 
 #[test]
-fn linked_pairs(rt: HostRuntime) {
+fn all_pairs_linked(rt: HostRuntime) {
+    let market = two_by_two(&rt);
+    let linked = Linked::of(rt.alloc(), &market).expect(&rt, MEMORY);
+    keeps(&rt, &market, &linked, (Some(0), Some(1)));
+}
+
+#[test]
+fn pairs_linked_up_to_partners(rt: HostRuntime) {
     let market = two_by_two(&rt);
     assert!(rt; 0 < market.reviewers());
-    let all = Linked::of(rt.alloc(), &market).expect(&rt, MEMORY);
-    keeps(&rt, &market, &all, (Some(0), Some(1)));
     let mut linked = Linked::up_to_partners(
         rt.alloc(),
         &market,
