@@ -8,6 +8,11 @@
     python3 bench/make_text.py cycles SIZE..
     python3 bench/make_text.py copies SIZE
     python3 bench/make_text.py opposed BLOCKS SIZE
+    python3 bench/make_text.py roommates PERSONS [SEED]
+    python3 bench/make_text.py turning SIZE
+    python3 bench/make_text.py doubled SIZE
+    python3 bench/make_text.py fours GROUPS
+    python3 bench/make_text.py weights LEVELS < instance.txt
 
 `hospitals` has residents who each list ENTRIES hospitals at random, and hospitals of capacity 14 that list back, in
 random order. `one` has SIZE residents r0, r1 and so on and one hospital h0 of as many places, which lists them from r0
@@ -18,7 +23,12 @@ The others are marriages with many rotations. In `cycle` the proposer p(i) lists
 the reviewer r(k) lists p(k+1), p(k+2) and so on around: each turn is one rotation of all proposers. `cycles` has a cycle of each SIZE,
 side by side. `copies` has SIZE
 copies of the two by two instance with two stable matchings. `opposed` has BLOCKS cycles of SIZE agents, with the
-proposers' and the reviewers' numbers mixed. The same arguments give the same text.
+proposers' and the reviewers' numbers mixed.
+
+Four kinds are roommates: `roommates` has complete lists in random order. `turning` has the persons of a cycle, of SIZE on each
+side. `doubled` has as many with very many stable matchings (Irving and Leather 1986); SIZE is a power of two. `fours` has
+groups of four persons with two stable matchings each. `weights` adds 8,192 random weights, of one level or of two, to a
+marriage that it reads. The same arguments give the same text.
 """
 
 import random
@@ -90,6 +100,48 @@ def opposed(blocks, size, seed=1):
     return marriage(proposers, reviewers)
 
 
+def persons(rows):
+    return ["stable 1 roommates"] + ["p x%d: %s" % (x, " ".join("x%d" % y for y in row)) for x, row in enumerate(rows)] + ["end"]
+
+
+def roommates(size, seed):
+    draw = random.Random(seed)
+    return persons([draw.sample([y for y in range(size) if y != x], size - 1) for x in range(size)])
+
+
+def both_sides(proposers, reviewers):
+    size = len(proposers)
+    return persons([[size + r for r in row] for row in proposers] + reviewers)
+
+
+def turning(size):
+    around = [[(i + d) % size for d in range(size)] for i in range(size)]
+    return both_sides(around, [row[1:] + row[:1] for row in around])
+
+
+def doubled(size):
+    proposers, reviewers = [[0]], [[0]]
+    while len(proposers) < size:
+        half = len(proposers)
+        later = [[r + half for r in row] for row in proposers]
+        proposers = [a + b for a, b in zip(proposers, later)] + [b + a for a, b in zip(proposers, later)]
+        later = [[p + half for p in row] for row in reviewers]
+        reviewers = [b + a for a, b in zip(reviewers, later)] + [a + b for a, b in zip(reviewers, later)]
+    return both_sides(proposers, reviewers)
+
+
+def fours(groups):
+    return persons([[4 * g + y for y in row] for g in range(groups) for row in ([1, 3], [2, 0], [3, 1], [0, 2])])
+
+
+def weights(levels, lines, seed=1):
+    draw = random.Random(seed)
+    pairs = [(line.split(":")[0][2:], r) for line in lines if line.startswith("p ") for r in line.split(":")[1].split()]
+    chosen = draw.sample(pairs, min(8192, len(pairs)))
+    some = ["weight %s %s %s" % (p, r, " ".join(str(draw.randint(-1000, 1000)) for _ in range(levels))) for p, r in chosen]
+    return ["stable %d marriage" % levels] + lines[1:lines.index("end")] + some + ["end"]
+
+
 def main(words):
     if words[:1] == ["hospitals"] and len(words) in (4, 5):
         return hospitals(int(words[1]), int(words[2]), int(words[3]), int(words[4]) if len(words) == 5 else 1)
@@ -107,6 +159,16 @@ def main(words):
         return copies(int(words[1]))
     if words[:1] == ["opposed"] and len(words) == 3:
         return opposed(int(words[1]), int(words[2]))
+    if words[:1] == ["roommates"] and len(words) in (2, 3):
+        return roommates(int(words[1]), int(words[2]) if len(words) == 3 else 1)
+    if words[:1] == ["turning"] and len(words) == 2:
+        return turning(int(words[1]))
+    if words[:1] == ["doubled"] and len(words) == 2:
+        return doubled(int(words[1]))
+    if words[:1] == ["fours"] and len(words) == 2:
+        return fours(int(words[1]))
+    if words[:1] == ["weights"] and words[1:] in (["1"], ["2"]):
+        return weights(int(words[1]), sys.stdin.read().splitlines())
     sys.exit(__doc__)
 
 
