@@ -54,11 +54,11 @@ REASONS = {
     'MissingEnd': 'the line `end` is missing',
     'UnknownName': 'this line names an agent that has no line of its own on the other side',
     'AfterEnd': 'there is text behind the line `end`',
-    'WrongKind': 'this command doesn\'t take this kind: only check, rest and solve without a side take roommates, and rest takes '
+    'WrongKind': 'this command doesn\'t take this kind: only check, list, rest and solve without a side take roommates, and rest takes '
                  'nothing else',
     'TooManySeats': 'with this reviewer the lists of all seats together have more than 1,048,576 entries: a reviewer adds as many '
                     'seats as it has places, but no more than acceptable proposers, times its acceptable proposers',
-    'BadCursor': 'the vector to go on behind needs a number for each proposer',
+    'BadCursor': 'the vector to go on behind needs a number for each proposer, or of roommates for each person',
     'TooMany': 'more than 100,000 stable matchings are allowed',
     'BadAnswer': 'this isn\'t a line that an answer, or a given matching, may have here',
     'NotStable': 'a given matching isn\'t stable',
@@ -497,7 +497,7 @@ class Instance:
 
     `solve`, `reduced`, `rotations`, `pairs`, `meet`, `join` and `route` speak of all stable matchings, whatever pairs are forced
     and forbidden; `list`, `survey`, `regret`, `weight` and `median` of the allowed ones: those that have each forced pair and no
-    forbidden one. Roommates have `solve`, `check` and `check_matching` alone.
+    forbidden one. Roommates have `solve`, `list`, `check` and `check_matching` alone.
     """
 
     def __init__(self, text: str, kind: str, proposers: _Side, reviewers: _Side) -> None:
@@ -630,10 +630,10 @@ class Instance:
 
     def list(self, after: Union[None, Matching, Sequence[int]] = None, limit: Optional[int] = None) -> Iterator[Matching]:
         """A generator of the allowed stable matchings, in the order of their ranks: the lower number first where two first
-        differ.
+        differ. Of roommates it is all stable matchings, as `Couples`.
 
         It goes on to the end, or until it has given as many as `limit` says. `after` is a matching, or ranks of which there
-        is a number for each proposer: those behind them come alone. The program is started when the first one is asked for,
+        is a number for each proposer, or each person: those behind them come alone. The program is started when the first one is asked for,
         works while more are, and is ended where the generator is closed or dropped; after each million it is started again.
         Neither side holds more than a few lines, so a listing may be of any length. Raises ValueError for a faulty argument
         at once, and what the program says when the first matching is asked for.
@@ -787,6 +787,7 @@ class Instance:
 
     def _listing(self, cursor: Optional[str], limit: Optional[int]) -> Iterator[Matching]:
         """The generator of `list`."""
+        form = Couples if self.kind == 'roommates' else Matching
         left = limit
         while left is None or left > 0:
             page = MOST_LISTED if left is None else min(left, MOST_LISTED)
@@ -797,15 +798,20 @@ class Instance:
                 if keyword == 'vector':
                     cursor = shown
                     ranks = _ranks(shown)
-                    yield Matching(self._pairs_at(ranks), ranks, line)
+                    yield form(self._pairs_at(ranks), ranks, line)
                 goes_on = keyword == 'more'
             if not goes_on:
                 return
             left = None if left is None else left - page
 
     def _pairs_at(self, ranks: Tuple[int, ...]) -> Tuple[Pair, ...]:
-        """The pairs of a rank vector."""
-        return tuple((p, row[rank - 1]) for (p, row), rank in zip(self._proposers.lists.items(), ranks) if rank <= len(row))
+        """The pairs of a rank vector; of roommates each couple once, with the person first that comes first."""
+        pairs = {p: row[rank - 1] for (p, row), rank in zip(self._proposers.lists.items(), ranks) if rank <= len(row)}
+        if self.kind == 'roommates':
+            for person in list(pairs):
+                if person in pairs:
+                    pairs.pop(pairs[person], None)
+        return tuple(pairs.items())
 
     def _pair(self, proposer: str, reviewer: str) -> Pair:
         """A pair of the text by the agents' own names."""

@@ -246,6 +246,9 @@ class Rooms(unittest.TestCase):
                 instance = Instance.roommates(lists)
                 every = list(self.couplings(persons, lists))
                 stable = [has for has in every if not self.blocking(has, lists)]
+                listed = list(instance.list())
+                self.assertEqual([it.ranks for it in listed], sorted(it.ranks for it in listed))
+                self.assertEqual(sorted(sorted(it.partners().items()) for it in listed), sorted(sorted(it.items()) for it in stable))
                 try:
                     found = instance.solve()
                     self.assertIsInstance(found, Couples)
@@ -270,7 +273,7 @@ class Rooms(unittest.TestCase):
     def test_refused(self):
         instance = Instance.from_text(example('four_persons.txt'))
         self.assertEqual((instance.kind, instance.capacities['ann']), ('roommates', 1))
-        for ask in (instance.pairs, lambda: instance.solve(side='reviewers'), lambda: list(instance.list())):
+        for ask in (instance.pairs, lambda: instance.solve(side='reviewers'), instance.median):
             with self.assertRaises(Refused) as caught:
                 ask()
             self.assertEqual(caught.exception.reason, 'WrongKind')

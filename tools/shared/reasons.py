@@ -22,11 +22,11 @@ REFUSALS = {
     'UnknownName': ('nobody has this name', 'each agent on a list has a line of its own on the other side, p or r'),
     'AfterEnd': ('something stands behind `end`', 'only `meet`, `join`, `route` and `check` read what stands there'),
     'WrongKind': ('this command doesn\'t take an instance of this kind',
-                  '`check`, `rest` and `solve` without a side take roommates; all but `rest` take marriages and hospitals'),
+                  '`check`, `list`, `rest` and `solve` without a side take roommates; all but `rest` take marriages and hospitals'),
     'TooManySeats': (f'from this reviewer on the lists of all seats together have more than {MOST_SEAT_ENTRIES:,} entries',
                      'a hospital adds its places times the proposers with whom it lists each other; tools/trim cuts lists where '
                      'nothing depends on them'),
-    'BadCursor': ('the vector of after= hasn\'t a number for each proposer', 'take a vector of this instance\'s own listing'),
+    'BadCursor': ('the vector of after= hasn\'t a number for each proposer, or each of the roommates', 'take a vector of this instance\'s own listing'),
     'TooMany': ('more than 100,000 stable matchings are allowed', '`force` and `forbid` lines allow fewer; `list` writes any number of them'),
     'BadAnswer': ('behind the instance this line can\'t stand here',
                   'an answer is its first line (`answer`, the command and its operand), its lines, each with one blank between two '

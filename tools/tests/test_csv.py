@@ -400,6 +400,17 @@ class Tables(unittest.TestCase):
             self.assertEqual(got[:2], (status, ''))
             self.assertIn(what, got[2])
 
+    def test_roommates(self):
+        """Answers of `list` and `rest` for roommates."""
+        self.put('names.csv', 'side,name,original\nperson,ann,"Ann, A."\nperson,ben,Ben\nperson,cem,Cem\nperson,dan,Dan\n')
+        rooms = os.path.join(EXAMPLES, 'four_persons')
+        self.assertEqual(self.call('to_csv', 'names.csv', rooms + '.list', '--instance', rooms + '.txt'),
+                         (0, 'person,matching 1,matching 2\n"Ann, A.",Ben,Dan\nBen,"Ann, A.",Cem\nCem,Dan,Ben\nDan,Cem,"Ann, A."\n', ''))
+        self.assertIn('no vector of its persons\' ranks', self.call('to_csv', 'names.csv', '--instance', rooms + '.txt',
+                                                                   stdin='answer list limit=100\nvector 1,2,1\nend\n')[2])
+        self.assertEqual(self.call('to_csv', 'names.csv', stdin='answer rest\nout ann\npair ben cem\nend\n'),
+                         (0, 'person,partner,out\n"Ann, A.",,out\nBen,Cem,\nCem,Ben,\nDan,,\n', ''))
+
     def test_wrong_answers(self):
         right = text_of(EXAMPLES, 'both_sides.solve')
         self.names_of('both_sides')

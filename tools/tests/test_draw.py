@@ -306,6 +306,22 @@ class Draw(unittest.TestCase):
         self.assertEqual((status, picture), (1, ''))
         self.assertIn('no stable matching is allowed', fault)
 
+    def test_second_net(self):
+        """By hand: what the first flow of 4 may still change is both ways between the rotations, and the second gains are 1 and -3."""
+        status, picture, fault = draw(example('two_levels.txt'), example('two_levels.weight_given'), '--net')
+        self.assertEqual((status, fault), (0, ''))
+        self.assertEqual(edges_of(picture), {
+            ('S', '2'): 'label=" 4 of 4"', ('2', '1'): 'label=" 4"', ('1', 'T'): 'label=" 4 of 4", color="#c0392b"',
+            ('second_S', 'second_2'): 'label=" 1 of 3"', ('second_2', 'second_1'): 'label=" 1"', ('second_1', 'second_2'): 'style=dashed',
+            ('second_1', 'second_T'): 'label=" 1 of 1", color="#c0392b"'})
+        self.assertIn('label="first net: flow 4, cut 4, sum 0"; ', picture)
+        self.assertIn('label="second net: flow 1, cut 1, sum -2"; ', picture)
+        self.assertIn('label="weight 0, second sum -2";', picture)
+        picture = draw(example('second_weights.txt'), example('second_weights.weight_given'), '--net')[1]
+        self.assertEqual(edges_of(picture), {
+            ('2', '1'): 'style=dashed', ('second_2', 'second_1'): 'style=dashed',
+            ('second_S', 'second_1'): 'label=" 0 of 2"', ('second_2', 'second_T'): 'label=" 0 of 1"'})
+
     def conditions_agree(self, text, answer, seed):
         """The sets that no edge without a bound leaves are those of the matchings that some conditions allow."""
         chance = random.Random(seed)
@@ -364,6 +380,30 @@ class Draw(unittest.TestCase):
             self.assertIn(what, fault)
             if line:
                 self.assertIn(f'standard input:{line}: ', fault)
+
+    def test_wrong_second_nets(self):
+        right = example('two_levels.weight_given')
+        for old, new, line, what in (
+                ('gain2 2 -3\n', '', None, 'has one `gain2` line'),
+                ('flow2 S 2 1', 'flow2 S 1 1', 16, 'the second net has no edge from S to 1'),
+                ('flow2 1 T 1', 'flow2 T 1 1', 17, 'the second net has no edge from T to 1'),
+                ('flow2 S 2 1', 'flow2 S 2 4', 16, 'from 1 to its room'),
+                ('flow2 S 2 1', 'flow2 S 2 2', None, 'flows into rotation 2 in the second net'),
+                ('taken 1 2', 'taken 2', 19, 'an edge without a bound'),
+                ('value2 1\n', '', None, '0 `value2` lines'),
+                ('value2 1', 'value2 2', 23, '1 flows'),
+                ('cut2 1', 'cut2 3', 24, 'room for 1'),
+                ('total2 -2\npair m1 c', 'pair m1 c\ntotal2 -2', 26, 'out of its place'),
+        ):
+            status, picture, fault = draw(example('two_levels.txt'), right.replace(old, new, 1), '--net')
+            self.assertEqual((status, picture), (1, ''), new)
+            self.assertIn(what, fault)
+            if line:
+                self.assertIn(f'standard input:{line}: ', fault)
+        answer = right.replace('taken 1 2', 'taken 1').replace('cut 4', 'cut 8')
+        status, picture, fault = draw(example('two_levels.txt'), answer, '--net')
+        self.assertEqual((status, picture), (1, ''))
+        self.assertIn('the first flow may still change something that leads out of the taken rotations', fault)
 
     def test_svg(self):
         """Without `dot` it says what to install; a graph is drawn where it is there."""

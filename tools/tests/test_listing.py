@@ -102,6 +102,18 @@ class Listing(unittest.TestCase):
             counts.add(len(wanted))
         self.assertTrue(1 in counts and max(counts) > 1, counts)
 
+    def test_roommates(self):
+        """Two rings of four persons, each with two stable matchings, in steps and between bounds."""
+        text = 'stable 1 roommates\np a: b d\np b: c a\np c: d b\np d: a c\np e: f h\np f: g e\np g: h f\np h: e g\nend\n'
+        one, other = (1, 2, 1, 2), (2, 1, 2, 1)
+        wanted = [one + one, one + other, other + one, other + other]
+        for step in ('1', '3', '9'):
+            status, written, fault = self.call('list_all', text, '--step', step)
+            self.assertEqual((status, vectors(written), fault), (0, wanted, ''))
+        bounds = '--after', '1,2,1,2,1,9,0,0', '--until', '2,1,2,1,1,2,1,2'
+        self.assertEqual(vectors(self.call('list_all', text, *bounds, '--step', '1')[1]), wanted[1:3])
+        self.assertEqual(self.call('list_all', example('odd_party')), (0, '', ''))
+
     def test_nobody(self):
         """An instance without proposers has one vector, without numbers."""
         text = 'stable 1 marriage\nr a:\nend\n'
@@ -122,7 +134,7 @@ class Listing(unittest.TestCase):
     def test_refused(self):
         text, rooms = example('five_rotations'), example('roommates')
         self.assertEqual(self.call('ranges', rooms, '4'),
-                         (1, '', 'ranges: instance.txt: stable matchings of roommates aren\'t listed, so there is nothing to cut\n'))
+                         (1, '', 'ranges: instance.txt: roommates have no rotations, by which a listing is cut\n'))
         self.assertEqual(self.call('ranges', text.replace('end\n', ''), '4')[0], 1)
         for tool, words in (('ranges', ['0']), ('ranges', ['x']), ('ranges', []), ('list_all', ['--until', '1,,2']),
                             ('list_all', ['--after', 'x']), ('list_all', ['--step', '0']), ('list_all', ['--until', '1,2'])):
