@@ -41,6 +41,7 @@ MOST_IN_VECTOR = 4_294_967_295
 # What each reason of a refusal says.
 REASONS = {
     'TooLong': 'the text has more than 16,777,216 bytes',
+    'BadJson': 'the input is no instance in JSON',
     'BadByte': 'this line has a byte that may only stand in a comment: names have the letters A to Z and a to z, digits, _ . -',
     'BadHeader': 'the first line has to be `stable 1 marriage`, `stable 1 hospitals` or `stable 1 roommates`, or one of these with 2',
     'BadLine': 'this line has none of the forms that its kind of instance has in its format',
@@ -592,6 +593,10 @@ class Instance:
     def to_text(self) -> str:
         """The text that the program reads. Doesn't start it."""
         return self._text
+
+    def to_json(self) -> str:
+        """The instance in JSON, as `export` writes it: one line without spaces, by the names of the text."""
+        return _ask(self._text, 'export')[1]
 
     def solve(self, side: Optional[str] = None) -> Matching:
         """The stable matching in which every proposer has the best partner that it has in any.

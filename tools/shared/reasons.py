@@ -4,6 +4,7 @@ from .instance import MEANINGS, MOST_SEAT_ENTRIES
 # What a refusal says where nothing else is known, and what to do about it.
 REFUSALS = {
     'TooLong': (MEANINGS['TooLong'], 'shorter names and fewer comments make it shorter'),
+    'BadJson': ('the input is no instance in JSON', 'without form=json the input is read as a text'),
     'BadByte': ('a byte, outside comments, that no name, number or mark has',
                 'names have letters A to Z and a to z, digits and _ . - alone; tools/from_csv makes such names of any others'),
     'BadHeader': ('the first line that isn\'t a comment has to say the kind',
@@ -64,8 +65,9 @@ VERDICTS = {
 }
 
 COMMANDS = {
-    'solve': ('side',), 'reduced': (), 'rotations': (), 'list': ('after', 'limit'), 'pairs': (), 'regret': (), 'weight': ('by',),
-    'meet': (), 'join': (), 'median': (), 'route': (), 'survey': ('limit',), 'rest': (), 'check': (), 'make': ('shape', 'size', 'seed', 'show'),
+    'solve': ('side', 'form'), 'reduced': ('form',), 'rotations': ('form',), 'list': ('after', 'limit', 'form'), 'pairs': ('form',),
+    'regret': ('form',), 'weight': ('by', 'form'), 'meet': (), 'join': (), 'median': (), 'route': (), 'survey': ('limit', 'form'),
+    'rest': (), 'check': (), 'export': (), 'make': ('shape', 'size', 'seed', 'show'),
 }
 VALUES = {
     'side': 'side=proposers or side=reviewers', 'by': 'by=ranks or by=given', 'limit': 'limit= and a number from 1 to 1,000,000, without commas',
@@ -73,4 +75,5 @@ VALUES = {
     'shape': 'shape=copies, shape=cycle, shape=random, shape=hospitals or shape=rooms',
     'size': 'size= and a number from 1 to 512, or to 2,048 for copies',
     'seed': 'seed= and a number from 0 to 18,446,744,073,709,551,615, without commas', 'show': 'show=text or show=summary',
+    'form': 'form=text or form=json',
 }

@@ -10,4 +10,5 @@ pub mod NameLemmas
 pub mod InputLemmas
 pub mod BackLemmas
 pub mod ReprintLemmas
+pub mod JsonLemmas
 pub mod WitnessLemmas

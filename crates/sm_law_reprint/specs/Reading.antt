@@ -1,5 +1,5 @@
 -- What the text of a printed instance means.
-use Rattle.std.specs.Prelude.{◌≡◌, ℕ, ◌≤◌, List, length, map, Ok}
+use Rattle.std.specs.Prelude.{◌≡◌, ℕ, ◌≤◌, List, length, map, Some, Ok}
 use Rattle.sm_text.specs.Limits.{most_bytes}
 use Rattle.sm_instance.specs.Written.{AgentData}
 use Rattle.sm_instance.specs.Inputs.{IsInput}
@@ -8,6 +8,7 @@ use Rattle.sm_instance.specs.declared.inputs.Input.TheVariants.{Two, Room}
 use Rattle.sm_reader.specs.InstanceText.{ReadText, instance_text}
 use Rattle.sm_answer.specs.Writing.{text_of}
 use Rattle.sm_printed.specs.Printed.{lines_of}
+use Rattle.sm_json.specs.JsonText.{text_in}
 
 -- an instance whose agents stand on no line
 abbrev pub unlined : AgentData → AgentData
@@ -36,3 +37,18 @@ pub record IsReadBack (input : Input) : Type 0 where
 -- and so it is for each instance whose text has no more bytes than an input may have
 abbrev pub PrintedIsRead : Type 0
 PrintedIsRead = (input : Input) → IsInput input → length (printed_text input) ≤ most_bytes → IsReadBack input
+
+-- bytes in JSON give a text that is read whole, and means the instance, with other lines
+pub record IsReadFromJson (bytes : List ℕ) (input : Input) : Type 0 where
+  pub text : List ℕ
+  pub read : ReadText
+  pub given : text_in bytes ≡ Some text
+  pub means : instance_text text ≡ Ok read
+  pub whole : read.rest ≡ length text
+  pub same : SameButForLines read.input input
+
+-- and so do all bytes that stand for the text of a printed instance, as its JSON does
+abbrev pub JsonIsRead : Type 0
+JsonIsRead =
+    (input : Input) (bytes : List ℕ) → IsInput input → length (printed_text input) ≤ most_bytes → text_in bytes ≡ Some (printed_text input)
+    → IsReadFromJson bytes input

@@ -1,10 +1,16 @@
-//! The law of printed instances. The function does nothing: its contract is the law, a statement over the definitions alone,
+//! The laws of printed instances. Each function does nothing: its contract is the law, a statement over the definitions alone,
 //! for all instances.
 
-ghost use Rattle.sm_law_reprint.specs.Reading.{PrintedIsRead};
+ghost use Rattle.sm_law_reprint.specs.Reading.{PrintedIsRead, JsonIsRead};
 
 /// The text of a printed instance, where it isn't too long for an input, means the instance that was printed. The two differ
 /// in the numbers of lines alone.
 pub fn printed_is_read()
     ensures { PrintedIsRead }
+{}
+
+/// An instance in JSON and its text give equal instances: bytes that stand for the text of a printed instance, as those of
+/// [`sm_json::to_json`] do, give a text that means this instance. The two differ in the numbers of lines alone.
+pub fn json_is_read()
+    ensures { JsonIsRead }
 {}

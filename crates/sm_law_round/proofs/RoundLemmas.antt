@@ -20,7 +20,7 @@ use Rattle.sm_report.specs.Texts.{text_of_line}
 use Rattle.sm_answer.specs.Printing.{IsShown}
 use Rattle.sm_answer.specs.Writing.{text_of}
 use Rattle.sm_tally.specs.Fold.{Shown}
-use Rattle.sm_words.specs.Jobs.{JobData, Solve, Reduced, Rotations, Pairs, Regret, Weight, Meet, Join, Survey, Check, Make, Rest, Median, Route}
+use Rattle.sm_words.specs.Jobs.{JobData, Solve, Reduced, Rotations, Pairs, Regret, Weight, Meet, Join, Survey, Check, Make, Rest, Median, Route, Export}
 use Rattle.sm_theory.specs.declared.choice.Choice.TheVariants.{Better, Worse}
 use Rattle.sm_seats.specs.SeatEntries.{AreFewSeats, first_too_many}
 use Rattle.sm_seats.proofs.LimitLaws.{few_where_none}
@@ -196,3 +196,4 @@ written_is_checked tallies others (Make shape size seed summary) text behind rea
 written_is_checked tallies others Rest text behind read status lines t taken a le = absurd taken
 written_is_checked tallies others Median text behind read status lines t taken a le = absurd taken
 written_is_checked tallies others Route text behind read status lines t taken a le = absurd taken
+written_is_checked tallies others Export text behind read status lines t taken a le = absurd taken

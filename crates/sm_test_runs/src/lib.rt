@@ -4,6 +4,8 @@
 #![tactic(auto)]
 
 #[cfg(test)]
+mod json;
+#[cfg(test)]
 mod made;
 #[cfg(test)]
 mod printing;

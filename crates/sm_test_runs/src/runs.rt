@@ -8,21 +8,22 @@ use sm_top::{Reason, Status, run};
 use std::alloc::Global;
 use std::process::Abort;
 
-const TWO_BY_TWO: &str = "stable 1 marriage\np m1: a b\np m2: b a\nr a: m2 m1\nr b: m1 m2\nend\n";
+pub(crate) const TWO_BY_TWO: &str =
+    "stable 1 marriage\np m1: a b\np m2: b a\nr a: m2 m1\nr b: m1 m2\nend\n";
 
 /// A run: its words, the text that is read, the calls of the source and the puts that fail, and what comes of it.
 #[derive(Clone, Copy)]
-struct Row<'a> {
-    words: &'a str,
-    text: &'a str,
-    failing_reads: &'a [u64],
-    failing_puts: &'a [(u64, u32)],
-    status: Status,
-    written: &'a str,
+pub(crate) struct Row<'a> {
+    pub(crate) words: &'a str,
+    pub(crate) text: &'a str,
+    pub(crate) failing_reads: &'a [u64],
+    pub(crate) failing_puts: &'a [(u64, u32)],
+    pub(crate) status: Status,
+    pub(crate) written: &'a str,
 }
 
 /// Makes sure of what comes of runs.
-fn come_to(rt: &(impl Abort + AllocGlobal), rows: &[Row]) {
+pub(crate) fn come_to(rt: &(impl Abort + AllocGlobal), rows: &[Row]) {
     for row in rows {
         let words = words_in(rt, row.words);
         let bytes = copy(rt, row.text.as_bytes());
@@ -41,7 +42,7 @@ fn come_to(rt: &(impl Abort + AllocGlobal), rows: &[Row]) {
 }
 
 /// A run without faults that answers.
-fn done<'a>(words: &'a str, text: &'a str, written: &'a str) -> Row<'a> {
+pub(crate) fn done<'a>(words: &'a str, text: &'a str, written: &'a str) -> Row<'a> {
     Row {
         words,
         text,
@@ -65,7 +66,7 @@ fn none_exists<'a>(words: &'a str, text: &'a str, written: &'a str) -> Row<'a> {
 }
 
 /// A run without faults whose input is refused.
-fn refused<'a>(
+pub(crate) fn refused<'a>(
     words: &'a str,
     text: &'a str,
     kind: RefusalKind,

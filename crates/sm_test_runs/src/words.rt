@@ -3,15 +3,15 @@
 use crate::made::{copy, words_in};
 use sm_instance::{Measure, Side};
 use sm_make::Shape;
-use sm_words::{Job, WordsFault, read_words};
+use sm_words::{Form, Job, WordsFault, read_words};
 use std::process::Abort;
 
-/// Makes sure of what each of some words asks for.
-fn ask(rt: &(impl Abort + AllocGlobal), rows: &[(&str, Job)]) {
+/// Makes sure of what each of some words asks for, in this form.
+fn ask(rt: &(impl Abort + AllocGlobal), form: Form, rows: &[(&str, Job)]) {
     for (text, job) in rows {
         let words = words_in(rt, text);
         match read_words(rt.alloc(), &words) {
-            Ok(asked) => assert!(rt; asked == *job, "{text:?}"),
+            Ok((asked, its)) => assert!(rt; asked == *job && its == form, "{text:?}"),
             Err(_) => assert!(rt; false, "{text:?}"),
         }
     }
@@ -33,8 +33,24 @@ fn are_faulty(rt: &(impl Abort + AllocGlobal), rows: &[(&str, u32)]) {
 fn words_ask_or_are_faulty(rt: HostRuntime) {
     ask(
         &rt,
+        Form::Json,
+        &[
+            ("solve form=json", Job::Solve(None)),
+            ("reduced form=json", Job::Reduced),
+            ("rotations form=json", Job::Rotations),
+            ("pairs form=json", Job::Pairs),
+            ("list form=json limit=3", Job::List(None, 3)),
+            ("regret form=json", Job::Regret),
+            ("weight by=ranks form=json", Job::Weight(Measure::Ranks)),
+            ("survey form=json", Job::Survey(100)),
+        ],
+    );
+    ask(
+        &rt,
+        Form::Text,
         &[
             ("solve", Job::Solve(None)),
+            ("reduced form=text", Job::Reduced),
             ("solve side=proposers", Job::Solve(Some(Side::Proposers))),
             ("solve side=reviewers", Job::Solve(Some(Side::Reviewers))),
             ("reduced", Job::Reduced),
@@ -60,6 +76,7 @@ fn words_ask_or_are_faulty(rt: HostRuntime) {
             ("median", Job::Median),
             ("route", Job::Route),
             ("check", Job::Check),
+            ("export", Job::Export),
             (
                 "make shape=copies size=1 seed=0",
                 Job::Make(Shape::Copies, 1, 0, false),
@@ -111,6 +128,17 @@ fn words_ask_or_are_faulty(rt: HostRuntime) {
             ("list after=1,4294967296", 2),
             ("survey after=1", 2),
             ("survey limit=0", 2),
+            ("solve form=", 2),
+            ("solve form=xml", 2),
+            ("solve form=json form=json", 3),
+            ("meet form=json", 2),
+            ("join form=text", 2),
+            ("check form=json", 2),
+            ("rest form=json", 2),
+            ("median form=json", 2),
+            ("route form=json", 2),
+            ("export form=json", 2),
+            ("make form=json", 2),
             ("make", 2),
             ("make shape=cycle size=600", 4),
             ("make size=600 shape=cycle seed=1", 2),

@@ -19,6 +19,7 @@ use Rattle.sm_answer_given.specs.GivenText.{texts_from}
 use Rattle.sm_check_answers.specs.Judging.{IsJudged, IsBadAnswerAt}
 use Rattle.sm_check_answers.specs.declared.verdicts.Verdict.{Verdict}
 use Rattle.sm_tally.specs.Fold.{Shown}
+use Rattle.sm_words.specs.declared.jobs.Form.{Form}
 use Rattle.sm_words.specs.Jobs.{JobData, Check}
 use Rattle.sm_top.specs.declared.status.Status.{Status}
 use Rattle.sm_top.specs.Texts.{plain_refusal}
@@ -70,11 +71,11 @@ pub text_refused : (bytes : List ℕ) (read : ReadText) (at : ℕ) → accepted 
 text_refused bytes read at before few bad = by_job read (check_accepted bytes read before few) (record { at = at; bad = bad; says = refl })
 
 -- the lines of the verdict were written
-pub wrote_verdict : (tallies : List Shown) (bytes : List ℕ) (read : ReadText) (v : Verdict) (gives : List (List ℕ) → Type 0) (a b : Option (List ℕ)) (f g : ℕ) (status : Status)
+pub wrote_verdict : {form : Form} (tallies : List Shown) (bytes : List ℕ) (read : ReadText) (v : Verdict) (gives : List (List ℕ) → Type 0) (a b : Option (List ℕ)) (f g : ℕ) (status : Status)
     → accepted Check bytes ≡ Ok read → IsJudged read.input (texts_from bytes read.rest) read.rest_line v
-    → ((lines : List (List ℕ)) → gives lines → IsShown read.input (λ answer. answer ≡ verdict_lines v) lines) → Wrote (With (status_by v) gives) a b f g status
-    → Wrote (IsAnswer tallies Check bytes) a b f g status
-wrote_verdict tallies bytes read v gives a b f g status ok is_judged right =
+    → ((lines : List (List ℕ)) → gives lines → IsShown read.input (λ answer. answer ≡ verdict_lines v) lines) → Wrote form (With (status_by v) gives) a b f g status
+    → Wrote form (IsAnswer tallies Check bytes) a b f g status
+wrote_verdict {form} tallies bytes read v gives a b f g status ok is_judged right =
     wrote_for (With (status_by v) gives) (IsAnswer tallies Check bytes) a b f g status
     (λ s lines h. let shown = right lines h.given_lines in record {
       read = read;

@@ -14,7 +14,11 @@ use Rattle.sm_instance.specs.declared.kinds.Measure.{Measure}
 use Rattle.sm_instance.specs.declared.kinds.Side.{Side}
 use Rattle.sm_instance.specs.declared.kinds.Side.TheVariants.{Proposers}
 use Rattle.sm_reader.specs.InstanceText.{ReadText, Refusal}
-use Rattle.sm_words.specs.Jobs.{JobData, Solve, Reduced, Rotations, Pairs, Regret, Weight, Meet, Join, Survey, Check, Make, Rest, Median, Route}
+use Rattle.sm_words.specs.declared.jobs.Form.{Form}
+use Rattle.sm_words.specs.declared.jobs.Form.TheVariants.{Text}
+use Rattle.serde_json.specs.Written.{compact_text}
+use Rattle.sm_json.specs.Making.{json_of}
+use Rattle.sm_words.specs.Jobs.{JobData, Solve, Reduced, Rotations, Pairs, Regret, Weight, Meet, Join, Survey, Check, Make, Rest, Median, Route, Export, IsFormFor}
 use Rattle.sm_answer_solve.specs.Solution.{IsSolution}
 use Rattle.sm_answer_rotations.specs.NoneAnswer.{IsNoneAllowed}
 use Rattle.sm_report.specs.Heads.{HeadData}
@@ -30,7 +34,7 @@ use Rattle.sm_tally.specs.Fold.{Shown}
 use Rattle.sm_words.specs.Words.{usual_limit}
 use Rattle.sm_answer_survey.specs.SurveyAnswer.{IsSurveyAnswer}
 use Rattle.sm_printed.specs.Printed.{lines_of}
-use Rattle.sm_top.specs.Outcome.{IsWeighed, IsMiddle, IsSummary, IsMade, IsSolved, IsRegretted, IsAnswerOver, IsRefused, not_accepted}
+use Rattle.sm_top.specs.Outcome.{IsWeighed, IsMiddle, IsSummary, IsMade, IsSolved, IsRegretted, IsAnswerOver, IsAnswer, IsRefused, not_accepted}
 use Rattle.sm_top.specs.Wrote.{Wrote, With}
 use Rattle.sm_top.proofs.WritingLemmas.{wrote_for, wrote_shown}
 
@@ -58,6 +62,7 @@ takes_two (Make shape size seed summary) kind reading sides two = absurd cc
 takes_two Rest kind reading sides two = absurd cc
 takes_two Median kind reading sides two = two_sided kind two
 takes_two Route kind reading sides two = two_sided kind two
+takes_two Export kind reading sides two = refl
 
 -- so their seats alone are judged
 seats_judged : (job : JobData) (read : ReadText) (w : Written) → reads_input job ≡ true → takes_rooms_alone job ≡ false → read.input ≡ Two w → w.kind ≢ Roommates → judged job read ≡ first_refusal (too_many_seats read ∷ []) read
@@ -97,6 +102,7 @@ not_two Check kind alone two = absurd cc
 not_two (Make shape size seed summary) kind alone two = absurd cc
 not_two Median kind alone two = absurd cc
 not_two Route kind alone two = absurd cc
+not_two Export kind alone two = absurd cc
 
 pub two_not_taken : (job : JobData) (bytes : List ℕ) (read : ReadText) (w : Written) → reads_input job ≡ true → takes_rooms_alone job ≡ true → read.input ≡ Two w → w.kind ≢ Roommates → accepted job bytes ≡ judged job read
     → IsRefused job bytes (plain_refusal WrongKind read.header_line)
@@ -131,77 +137,77 @@ room_accepted job bytes read persons is before taken = before ∙ kind_judged jo
 -- The answers of `solve` and `regret`.
 
 -- an answer is right for a job
-pub answer_over : (job : JobData) (bytes : List ℕ) (read : ReadText) (right : Input → Status → List LineData → Type 0) (a b : Option (List ℕ)) (f g : ℕ) (status : Status) → accepted job bytes ≡ Ok read
-    → Wrote (λ s. IsShown read.input (right read.input s)) a b f g status → Wrote (λ s lines. IsAnswerOver job bytes (λ read. right read.input s) lines) a b f g status
-answer_over job bytes read right a b f g status ok =
+pub answer_over : {form : Form} (job : JobData) (bytes : List ℕ) (read : ReadText) (right : Input → Status → List LineData → Type 0) (a b : Option (List ℕ)) (f g : ℕ) (status : Status) → accepted job bytes ≡ Ok read
+    → Wrote form (λ s. IsShown read.input (right read.input s)) a b f g status → Wrote form (λ s lines. IsAnswerOver job bytes (λ read. right read.input s) lines) a b f g status
+answer_over {form} job bytes read right a b f g status ok =
     wrote_for (λ s. IsShown read.input (right read.input s)) (λ s lines. IsAnswerOver job bytes (λ read. right read.input s) lines) a b f g status (λ s lines shown. record { read = read; ok = ok; shown = shown })
 
 -- over two sides a right answer to `solve` is the best matching of the side, or of the proposers
-pub two_solved : (side : Option Side) (input : Input) (w : Written) (a b : Option (List ℕ)) (f g : ℕ) (status : Status) → input ≡ Two w
-    → Wrote (With Done (IsShown input (IsSolution (unwrap_or side Proposers) w))) a b f g status → Wrote (λ s. IsShown input (IsSolved side input s)) a b f g status
-two_solved side input w a b f g status is =
+pub two_solved : {form : Form} (side : Option Side) (input : Input) (w : Written) (a b : Option (List ℕ)) (f g : ℕ) (status : Status) → input ≡ Two w
+    → Wrote form (With Done (IsShown input (IsSolution (unwrap_or side Proposers) w))) a b f g status → Wrote form (λ s. IsShown input (IsSolved side input s)) a b f g status
+two_solved {form} side input w a b f g status is =
     let right : List LineData → Type 0 = IsSolution (unwrap_or side Proposers) w in
     wrote_shown Done (IsShown input right) input right (IsSolved side input) a b f g status (λ lines shown. shown)
     (λ answer h. subst (λ (input : Input). IsSolved side input Done answer) (sym is) (refl, h))
 
 -- roommates with a stable matching, and such without
-pub room_solved : (input : Input) (persons : List AgentData) (gives : List (List ℕ) → Type 0) (a b : Option (List ℕ)) (f g : ℕ) (status : Status) → input ≡ Room persons
-    → ((lines : List (List ℕ)) → gives lines → IsShown input (IsMatched persons) lines) → Wrote (With Done gives) a b f g status → Wrote (λ s. IsShown input (IsSolved None input s)) a b f g status
-room_solved input persons gives a b f g status is right =
+pub room_solved : {form : Form} (input : Input) (persons : List AgentData) (gives : List (List ℕ) → Type 0) (a b : Option (List ℕ)) (f g : ℕ) (status : Status) → input ≡ Room persons
+    → ((lines : List (List ℕ)) → gives lines → IsShown input (IsMatched persons) lines) → Wrote form (With Done gives) a b f g status → Wrote form (λ s. IsShown input (IsSolved None input s)) a b f g status
+room_solved {form} input persons gives a b f g status is right =
     wrote_shown Done gives input (IsMatched persons) (IsSolved None input) a b f g status right (λ answer h. subst (λ (input : Input). IsSolved None input Done answer) (sym is) (inl (refl, h)))
 
 -- where roommates have none, a right answer to `solve` says so
-pub room_unsolved : (input : Input) (persons : List AgentData) (gives : List (List ℕ) → Type 0) (a b : Option (List ℕ)) (f g : ℕ) (status : Status) → input ≡ Room persons
-    → ((lines : List (List ℕ)) → gives lines → IsShown input (IsUnmatchable persons) lines) → Wrote (With NoneExists gives) a b f g status → Wrote (λ s. IsShown input (IsSolved None input s)) a b f g status
-room_unsolved input persons gives a b f g status is right =
+pub room_unsolved : {form : Form} (input : Input) (persons : List AgentData) (gives : List (List ℕ) → Type 0) (a b : Option (List ℕ)) (f g : ℕ) (status : Status) → input ≡ Room persons
+    → ((lines : List (List ℕ)) → gives lines → IsShown input (IsUnmatchable persons) lines) → Wrote form (With NoneExists gives) a b f g status → Wrote form (λ s. IsShown input (IsSolved None input s)) a b f g status
+room_unsolved {form} input persons gives a b f g status is right =
     wrote_shown NoneExists gives input (IsUnmatchable persons) (IsSolved None input) a b f g status right (λ answer h. subst (λ (input : Input). IsSolved None input NoneExists answer) (sym is) (inr (refl, h)))
 
 -- instances with an allowed stable matching, and such without
-pub two_regretted : (input : Input) (w : Written) (gives : List (List ℕ) → Type 0) (a b : Option (List ℕ)) (f g : ℕ) (status : Status) → input ≡ Two w
-    → ((lines : List (List ℕ)) → gives lines → IsShown input (IsRegretAnswer w) lines) → Wrote (With Done gives) a b f g status → Wrote (λ s. IsShown input (IsRegretted input s)) a b f g status
-two_regretted input w gives a b f g status is right =
+pub two_regretted : {form : Form} (input : Input) (w : Written) (gives : List (List ℕ) → Type 0) (a b : Option (List ℕ)) (f g : ℕ) (status : Status) → input ≡ Two w
+    → ((lines : List (List ℕ)) → gives lines → IsShown input (IsRegretAnswer w) lines) → Wrote form (With Done gives) a b f g status → Wrote form (λ s. IsShown input (IsRegretted input s)) a b f g status
+two_regretted {form} input w gives a b f g status is right =
     wrote_shown Done gives input (IsRegretAnswer w) (IsRegretted input) a b f g status right (λ answer h. subst (λ (input : Input). IsRegretted input Done answer) (sym is) (inl (refl, h)))
 
 -- where none is allowed, a right answer to `regret` says so
-pub two_unallowed : (input : Input) (w : Written) (gives : List (List ℕ) → Type 0) (a b : Option (List ℕ)) (f g : ℕ) (status : Status) → input ≡ Two w
-    → ((lines : List (List ℕ)) → gives lines → IsShown input (IsNoneAllowed HeadData.Regret w) lines) → Wrote (With NoneExists gives) a b f g status → Wrote (λ s. IsShown input (IsRegretted input s)) a b f g status
-two_unallowed input w gives a b f g status is right =
+pub two_unallowed : {form : Form} (input : Input) (w : Written) (gives : List (List ℕ) → Type 0) (a b : Option (List ℕ)) (f g : ℕ) (status : Status) → input ≡ Two w
+    → ((lines : List (List ℕ)) → gives lines → IsShown input (IsNoneAllowed HeadData.Regret w) lines) → Wrote form (With NoneExists gives) a b f g status → Wrote form (λ s. IsShown input (IsRegretted input s)) a b f g status
+two_unallowed {form} input w gives a b f g status is right =
     wrote_shown NoneExists gives input (IsNoneAllowed HeadData.Regret w) (IsRegretted input) a b f g status right (λ answer h. subst (λ (input : Input). IsRegretted input NoneExists answer) (sym is) (inr (refl, h)))
 
 -- instances with an allowed stable matching, and such without, for `weight`
-pub two_weighed : (by : Measure) (input : Input) (w : Written) (gives : List (List ℕ) → Type 0) (a b : Option (List ℕ)) (f g : ℕ) (status : Status) → input ≡ Two w
-    → ((lines : List (List ℕ)) → gives lines → IsShown input (IsWeightAnswer by w) lines) → Wrote (With Done gives) a b f g status → Wrote (λ s. IsShown input (IsWeighed by input s)) a b f g status
-two_weighed by input w gives a b f g status is right =
+pub two_weighed : {form : Form} (by : Measure) (input : Input) (w : Written) (gives : List (List ℕ) → Type 0) (a b : Option (List ℕ)) (f g : ℕ) (status : Status) → input ≡ Two w
+    → ((lines : List (List ℕ)) → gives lines → IsShown input (IsWeightAnswer by w) lines) → Wrote form (With Done gives) a b f g status → Wrote form (λ s. IsShown input (IsWeighed by input s)) a b f g status
+two_weighed {form} by input w gives a b f g status is right =
     wrote_shown Done gives input (IsWeightAnswer by w) (IsWeighed by input) a b f g status right (λ answer h. subst (λ (input : Input). IsWeighed by input Done answer) (sym is) (inl (refl, h)))
 
 -- where none is allowed, a right answer to `weight` says so
-pub two_unweighed : (by : Measure) (input : Input) (w : Written) (gives : List (List ℕ) → Type 0) (a b : Option (List ℕ)) (f g : ℕ) (status : Status) → input ≡ Two w
-    → ((lines : List (List ℕ)) → gives lines → IsShown input (IsNoneAllowed (HeadData.Weight by) w) lines) → Wrote (With NoneExists gives) a b f g status → Wrote (λ s. IsShown input (IsWeighed by input s)) a b f g status
-two_unweighed by input w gives a b f g status is right =
+pub two_unweighed : {form : Form} (by : Measure) (input : Input) (w : Written) (gives : List (List ℕ) → Type 0) (a b : Option (List ℕ)) (f g : ℕ) (status : Status) → input ≡ Two w
+    → ((lines : List (List ℕ)) → gives lines → IsShown input (IsNoneAllowed (HeadData.Weight by) w) lines) → Wrote form (With NoneExists gives) a b f g status → Wrote form (λ s. IsShown input (IsWeighed by input s)) a b f g status
+two_unweighed {form} by input w gives a b f g status is right =
     wrote_shown NoneExists gives input (IsNoneAllowed (HeadData.Weight by) w) (IsWeighed by input) a b f g status right (λ answer h. subst (λ (input : Input). IsWeighed by input NoneExists answer) (sym is) (inr (refl, h)))
 
 -- instances with an allowed stable matching, and such without, for `median`
-pub two_middle : (input : Input) (w : Written) (gives : List (List ℕ) → Type 0) (a b : Option (List ℕ)) (f g : ℕ) (status : Status) → input ≡ Two w
-    → ((lines : List (List ℕ)) → gives lines → IsShown input (IsMedianAnswer w) lines) → Wrote (With Done gives) a b f g status → Wrote (λ s. IsShown input (IsMiddle input s)) a b f g status
-two_middle input w gives a b f g status is right =
+pub two_middle : {form : Form} (input : Input) (w : Written) (gives : List (List ℕ) → Type 0) (a b : Option (List ℕ)) (f g : ℕ) (status : Status) → input ≡ Two w
+    → ((lines : List (List ℕ)) → gives lines → IsShown input (IsMedianAnswer w) lines) → Wrote form (With Done gives) a b f g status → Wrote form (λ s. IsShown input (IsMiddle input s)) a b f g status
+two_middle {form} input w gives a b f g status is right =
     wrote_shown Done gives input (IsMedianAnswer w) (IsMiddle input) a b f g status right (λ answer h. subst (λ (input : Input). IsMiddle input Done answer) (sym is) (inl (refl, h)))
 
 -- where none is allowed, a right answer to `median` says so
-pub two_without_middle : (input : Input) (w : Written) (gives : List (List ℕ) → Type 0) (a b : Option (List ℕ)) (f g : ℕ) (status : Status) → input ≡ Two w
-    → ((lines : List (List ℕ)) → gives lines → IsShown input (IsNoneAllowed HeadData.Median w) lines) → Wrote (With NoneExists gives) a b f g status → Wrote (λ s. IsShown input (IsMiddle input s)) a b f g status
-two_without_middle input w gives a b f g status is right =
+pub two_without_middle : {form : Form} (input : Input) (w : Written) (gives : List (List ℕ) → Type 0) (a b : Option (List ℕ)) (f g : ℕ) (status : Status) → input ≡ Two w
+    → ((lines : List (List ℕ)) → gives lines → IsShown input (IsNoneAllowed HeadData.Median w) lines) → Wrote form (With NoneExists gives) a b f g status → Wrote form (λ s. IsShown input (IsMiddle input s)) a b f g status
+two_without_middle {form} input w gives a b f g status is right =
     wrote_shown NoneExists gives input (IsNoneAllowed HeadData.Median w) (IsMiddle input) a b f g status right (λ answer h. subst (λ (input : Input). IsMiddle input NoneExists answer) (sym is) (inr (refl, h)))
 
 -- The summary of a made instance.
-pub two_summarized : (tallies : List Shown) (input : Input) (w : Written) (gives : List (List ℕ) → Type 0) (a b : Option (List ℕ)) (f g : ℕ) (status : Status) → input ≡ Two w
-    → ((lines : List (List ℕ)) → gives lines → IsShown input (IsSurveyAnswer tallies usual_limit w) lines) → Wrote (With Done gives) a b f g status → Wrote (λ s. IsShown input (IsSummary tallies input s)) a b f g status
-two_summarized tallies input w gives a b f g status is right =
+pub two_summarized : {form : Form} (tallies : List Shown) (input : Input) (w : Written) (gives : List (List ℕ) → Type 0) (a b : Option (List ℕ)) (f g : ℕ) (status : Status) → input ≡ Two w
+    → ((lines : List (List ℕ)) → gives lines → IsShown input (IsSurveyAnswer tallies usual_limit w) lines) → Wrote form (With Done gives) a b f g status → Wrote form (λ s. IsShown input (IsSummary tallies input s)) a b f g status
+two_summarized {form} tallies input w gives a b f g status is right =
     wrote_shown Done gives input (IsSurveyAnswer tallies usual_limit w) (IsSummary tallies input) a b f g status right (λ answer h. subst (λ (input : Input). IsSummary tallies input Done answer) (sym is) (refl, h))
 
 -- of roommates it is what `solve` answers
-pub room_summarized : (tallies : List Shown) (input : Input) (persons : List AgentData) (a b : Option (List ℕ)) (f g : ℕ) (status : Status) → input ≡ Room persons
-    → Wrote (λ s. IsShown input (IsSolved None input s)) a b f g status → Wrote (λ s. IsShown input (IsSummary tallies input s)) a b f g status
-room_summarized tallies input persons a b f g status is =
+pub room_summarized : {form : Form} (tallies : List Shown) (input : Input) (persons : List AgentData) (a b : Option (List ℕ)) (f g : ℕ) (status : Status) → input ≡ Room persons
+    → Wrote form (λ s. IsShown input (IsSolved None input s)) a b f g status → Wrote form (λ s. IsShown input (IsSummary tallies input s)) a b f g status
+room_summarized {form} tallies input persons a b f g status is =
     wrote_for (λ s. IsShown input (IsSolved None input s)) (λ s. IsShown input (IsSummary tallies input s)) a b f g status
     (λ s lines shown. record {
       answer = shown.answer;
@@ -210,6 +216,14 @@ room_summarized tallies input persons a b f g status is =
     })
 
 -- the text of a made instance
-pub text_made : (tallies : List Shown) (input : Input) (gives : List (List ℕ) → Type 0) (a b : Option (List ℕ)) (f g : ℕ) (status : Status)
-    → ((lines : List (List ℕ)) → gives lines → lines ≡ lines_of input) → Wrote (With Done gives) a b f g status → Wrote (IsMade tallies input false) a b f g status
-text_made tallies input gives a b f g status right = wrote_for (With Done gives) (IsMade tallies input false) a b f g status (λ s lines h. (h.same, right lines h.given_lines))
+pub text_made : {form : Form} (tallies : List Shown) (input : Input) (gives : List (List ℕ) → Type 0) (a b : Option (List ℕ)) (f g : ℕ) (status : Status)
+    → ((lines : List (List ℕ)) → gives lines → lines ≡ lines_of input) → Wrote form (With Done gives) a b f g status → Wrote form (IsMade tallies input false) a b f g status
+text_made {form} tallies input gives a b f g status right = wrote_for (With Done gives) (IsMade tallies input false) a b f g status (λ s lines h. (h.same, right lines h.given_lines))
+
+-- an instance in JSON, which is written as a line of text
+pub wrote_export : (tallies : List Shown) (bytes : List ℕ) (read : ReadText) (form : Form) (a b : Option (List ℕ)) (f g : ℕ) (status : Status) → IsFormFor Export form → accepted Export bytes ≡ Ok read
+    → Wrote Text (With Done (λ lines. lines ≡ compact_text (json_of read.input) ∷ [])) a b f g status → Wrote form (IsAnswer tallies Export bytes) a b f g status
+wrote_export tallies bytes read form a b f g status formed ok w =
+    subst (λ (form : Form). Wrote form (IsAnswer tallies Export bytes) a b f g status) (sym (formed refl))
+    (wrote_for (With Done (λ lines. lines ≡ compact_text (json_of read.input) ∷ [])) (IsAnswer tallies Export bytes) a b f g status
+    (λ s lines h. (h.same, record { read = read; ok = ok; shows = h.given_lines })) w)

@@ -7,3 +7,4 @@ pub mod SeatLemmas
 pub mod MadeLemmas
 pub mod KindLemmas
 pub mod CheckLemmas
+pub mod GivenLemmas

@@ -13,7 +13,7 @@ use Rattle.sm_instance.specs.declared.kinds.Kind.{Kind}
 use Rattle.sm_instance.specs.declared.kinds.Kind.TheVariants.{Marriage, Hospitals, Roommates}
 use Rattle.sm_reader.specs.InstanceText.{ReadText, Refusal, instance_text}
 use Rattle.sm_seats.specs.SeatEntries.{first_too_many}
-use Rattle.sm_words.specs.Jobs.{JobData, Solve, Reduced, Rotations, Pairs, Regret, Weight, Meet, Join, Survey, Check, Make, Rest, Median, Route}
+use Rattle.sm_words.specs.Jobs.{JobData, Solve, Reduced, Rotations, Pairs, Regret, Weight, Meet, Join, Survey, Check, Make, Rest, Median, Route, Export}
 use Rattle.sm_top.specs.Texts.{RefusalData, plain_refusal}
 
 -- What a job takes.
@@ -40,6 +40,7 @@ takes_text (Make shape size seed summary) = false
 takes_text Rest = false
 takes_text Median = false
 takes_text Route = true
+takes_text Export = false
 
 -- what is kept of an input's text for a job: all of it where the job takes text behind `end`, and anything for the others
 abbrev pub IsTextFor : JobData → List ℕ → List ℕ → Type 0
@@ -50,7 +51,7 @@ abbrev pub judges_answer : JobData → Bool
 judges_answer Check = true
 judges_answer job = false
 
--- a kind: `check`, `list`, and `solve` where it names no side, take all, `rest` takes roommates, and the others those with two
+-- a kind: `check`, `list`, `export`, and `solve` where it names no side, take all, `rest` takes roommates, and the others those with two
 -- sides
 abbrev pub is_two_sided : Kind → Bool
 is_two_sided Marriage = true
@@ -75,6 +76,7 @@ takes_kind (Make shape size seed summary) kind = false
 takes_kind Rest kind = not (is_two_sided kind)
 takes_kind Median kind = is_two_sided kind
 takes_kind Route kind = is_two_sided kind
+takes_kind Export kind = true
 
 -- roommates alone: `rest`
 abbrev pub takes_rooms_alone : JobData → Bool

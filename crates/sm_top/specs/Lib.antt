@@ -1,4 +1,5 @@
 pub mod Texts
+pub mod Forms
 pub mod Accepting
 pub mod Checked
 pub mod Input

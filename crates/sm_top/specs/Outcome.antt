@@ -1,5 +1,6 @@
 -- What may come of words and an input: the status and the lines that are written. This is what the program promises.
-use Rattle.std.specs.Prelude.{◌≡◌, ℕ, Bool, true, false, List, [], ◌∷◌, ◌⊎◌, length, Option, None, unwrap_or, Ok, Err, codes}
+use Rattle.std.specs.Prelude.{◌≡◌, ℕ, Bool, true, false, List, [], ◌∷◌, ◌⊎◌, length, Option, None, unwrap_or, Result, Ok, Err, codes}
+use Rattle.serde_json.specs.Written.{compact_text}
 use Rattle.sm_answer.specs.Printing.{IsShown}
 use Rattle.sm_instance.specs.Written.{AgentData, Written}
 use Rattle.sm_instance.specs.declared.inputs.Input.{Input}
@@ -12,13 +13,15 @@ use Rattle.sm_report.specs.Heads.{HeadData}
 use Rattle.sm_report.specs.Lines.{LineData}
 use Rattle.sm_report.specs.Texts.{left_name, right_name}
 use Rattle.sm_text.specs.declared.refusal.RefusalKind.TheVariants.{BadCursor, TooMany, BadAnswer, NotStable}
-use Rattle.sm_words.specs.Jobs.{JobData, Solve, Reduced, Rotations, Pairs, Regret, Weight, Meet, Join, Survey, Check, Make, Rest, Median, Route}
+use Rattle.sm_words.specs.declared.jobs.Form.{Form}
+use Rattle.sm_words.specs.Jobs.{JobData, Solve, Reduced, Rotations, Pairs, Regret, Weight, Meet, Join, Survey, Check, Make, Rest, Median, Route, Export}
 use Rattle.sm_words.specs.Words.{usual_limit, words_meaning}
 use Rattle.sm_top.specs.declared.status.Status.{Status}
 use Rattle.sm_top.specs.declared.status.Status.TheVariants.{Done, Refused, Usage, NoneExists}
 use Rattle.sm_top.specs.Texts.{RefusalData, plain_refusal, with_detail, usage_line, refused_line}
 use Rattle.sm_top.specs.Checked.{IsChecked, IsUnreadable}
 use Rattle.sm_top.specs.Accepting.{reads_input, accepted, IsUnaccepted}
+use Rattle.sm_top.specs.Forms.{given_text}
 use Rattle.sm_answer_solve.specs.Solution.{IsSolution}
 use Rattle.sm_answer_rotations.specs.Reduction.{IsReduction}
 use Rattle.sm_answer_rotations.specs.RotationAnswer.{IsRotationAnswer}
@@ -41,6 +44,7 @@ use Rattle.sm_answer_survey.specs.SurveyAnswer.{IsSurveyAnswer}
 use Rattle.sm_answer_median.specs.MedianAnswer.{IsMedianAnswer, AreTooMany}
 use Rattle.sm_answer_route.specs.RouteAnswer.{IsRouteAnswer}
 use Rattle.sm_make.specs.Made.{made_instance}
+use Rattle.sm_json.specs.Making.{json_of}
 use Rattle.sm_printed.specs.Printed.{lines_of}
 use Rattle.sm_answer_roommates.specs.RoomAnswer.{IsMatched, IsUnmatchable}
 use Rattle.sm_answer_roommates.specs.RestAnswer.{IsRest}
@@ -98,6 +102,12 @@ pub record IsAnswerOver (job : JobData) (bytes : List ℕ) (right : ReadText →
   pub ok : accepted job bytes ≡ Ok read
   pub shown : IsShown read.input (right read) lines
 
+-- an input was accepted for `export`, and the one line is the instance in JSON
+pub record IsExport (bytes : List ℕ) (lines : List (List ℕ)) : Type 0 where
+  pub read : ReadText
+  pub ok : accepted Export bytes ≡ Ok read
+  pub shows : lines ≡ compact_text (json_of read.input) ∷ []
+
 -- The right answers to a job, and the status that goes with them. The tallies showed this before.
 abbrev pub IsAnswer : List Shown → JobData → List ℕ → Status → List (List ℕ) → Type 0
 IsAnswer tallies (Solve side) bytes status lines = IsAnswerOver (Solve side) bytes (λ read. IsSolved side read.input status) lines
@@ -116,6 +126,7 @@ IsAnswer tallies (Make shape size seed summary) bytes status lines = IsMade tall
 IsAnswer tallies Rest bytes status lines = (status ≡ Done) × IsAnswerOver Rest bytes (λ read. OfRoom IsRest read.input) lines
 IsAnswer tallies Median bytes status lines = IsAnswerOver Median bytes (λ read. IsMiddle read.input status) lines
 IsAnswer tallies Route bytes status lines = (status ≡ Done) × IsAnswerOver Route bytes (λ read. OfTwo (IsRouteAnswer (texts_from bytes read.rest)) read.input) lines
+IsAnswer tallies Export bytes status lines = (status ≡ Done) × IsExport bytes lines
 
 -- a cursor that hasn't an item for each proposer, or for each person, is refused, at no line
 abbrev pub IsBadCursor : Option (List ℕ) → Input → RefusalData → Type 0
@@ -168,17 +179,24 @@ IsOwnRefusal (Make shape size seed summary) bytes read refusal = ⊥
 IsOwnRefusal Rest bytes read refusal = ⊥
 IsOwnRefusal Median bytes read refusal = IsTooManyAllowed read.input refusal
 IsOwnRefusal Route bytes read refusal = IsBadGiven read.input (texts_from bytes read.rest) read.rest_line refusal
+IsOwnRefusal Export bytes read refusal = ⊥
 
 -- an input is refused; `make` reads none, and is never refused
 pub data IsRefused (job : JobData) (bytes : List ℕ) (refusal : RefusalData) : Type 0 where
   not_accepted : reads_input job ≡ true → IsUnaccepted job bytes refusal → IsRefused job bytes refusal
   by_job : (read : ReadText) → accepted job bytes ≡ Ok read → IsOwnRefusal job bytes read refusal → IsRefused job bytes refusal
 
--- The words are faulty; or they ask for a job, and the input is refused; or the lines are those of a right answer. The tallies
--- showed this before.
+-- an input gives no text in the form that is asked for, or its text is refused
+abbrev pub IsRefusedIn : JobData → Result (List ℕ) RefusalData → RefusalData → Type 0
+IsRefusedIn job (Ok text) refusal = IsRefused job text refusal
+IsRefusedIn job (Err why) refusal = refusal ≡ why
+
+-- The words are faulty; or they ask for a job in a form, and the input is refused; or the lines are those of a right answer to the
+-- text that the input gives. The tallies showed this before.
 pub data Outcome (tallies : List Shown) (words : List (List ℕ)) (bytes : List ℕ) (status : Status) (lines : List (List ℕ)) : Type 0 where
   faulty_words : (word : ℕ) → words_meaning words ≡ Err word → status ≡ Usage word → lines ≡ usage_line word ∷ []
       → Outcome tallies words bytes status lines
-  refused : (job : JobData) (refusal : RefusalData) → words_meaning words ≡ Ok job → IsRefused job bytes refusal
+  refused : (job : JobData) (form : Form) (refusal : RefusalData) → words_meaning words ≡ Ok (job, form) → IsRefusedIn job (given_text form bytes) refusal
       → status ≡ Refused refusal.kind refusal.at → lines ≡ refused_line refusal ∷ [] → Outcome tallies words bytes status lines
-  answered : (job : JobData) → words_meaning words ≡ Ok job → IsAnswer tallies job bytes status lines → Outcome tallies words bytes status lines
+  answered : (job : JobData) (form : Form) (text : List ℕ) → words_meaning words ≡ Ok (job, form) → given_text form bytes ≡ Ok text
+      → IsAnswer tallies job text status lines → Outcome tallies words bytes status lines

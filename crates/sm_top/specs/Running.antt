@@ -2,8 +2,8 @@
 use Rattle.std.specs.Prelude.{◌≡◌, ◌≢◌, ◌≤◌, ◌+◌, ◌⊎◌, ℕ, Bool, true, false, List, [], ◌++◌, length, Option, Some, IsSomeAnd, Result, Ok, Err}
 use Rattle.sm_io.specs.Source.{Agrees}
 use Rattle.sm_io.specs.Sink.{Grows}
-use Rattle.sm_answer.specs.Writing.{text_of}
 use Rattle.sm_text.specs.declared.refusal.RefusalKind.TheVariants.{TooLong}
+use Rattle.sm_words.specs.declared.jobs.Form.{Form}
 use Rattle.sm_words.specs.Jobs.{JobData}
 use Rattle.sm_words.specs.Words.{words_meaning}
 use Rattle.sm_top.specs.declared.status.Status.{Status}
@@ -13,11 +13,12 @@ use Rattle.sm_tally.specs.Fold.{Shown}
 use Rattle.sm_top.specs.Accepting.{reads_input}
 use Rattle.sm_top.specs.Input.{IsReadWhole}
 use Rattle.sm_top.specs.Texts.{RefusalData}
-use Rattle.sm_top.specs.Outcome.{Outcome, IsRefused}
+use Rattle.sm_top.specs.Forms.{given_text, written_text, form_asked}
+use Rattle.sm_top.specs.Outcome.{Outcome, IsRefusedIn}
 
 -- what the words ask for reads an input: every job but `make` does, and faulty words don't
-abbrev pub asks_to_read : Result JobData ℕ → Bool
-asks_to_read (Ok job) = reads_input job
+abbrev pub asks_to_read : Result (JobData × Form) ℕ → Bool
+asks_to_read (Ok asked) = reads_input asked.0
 asks_to_read (Err word) = false
 
 -- these words ask for a job that reads an input
@@ -46,25 +47,29 @@ is_too_long status = false
 abbrev pub IsBeingRead : Option (List ℕ) → Option (List ℕ) → Type 0
 IsBeingRead before after = IsSomeAnd before (λ all. IsSomeAnd after (λ rest. (rest ≢ []) × (length all ≤ length rest + most_bytes)))
 
--- the text of right lines
-pub record IsText (right : List (List ℕ) → Type 0) (text : List ℕ) : Type 0 where
+-- the text of right lines in a form
+pub record IsText (form : Form) (right : List (List ℕ) → Type 0) (text : List ℕ) : Type 0 where
   pub lines : List (List ℕ)
   pub is_right : right lines
-  pub shows : text ≡ text_of lines
+  pub shows : text ≡ written_text form lines
 
 -- a front of the text of right lines, with any status
-pub record IsFront (right : Status → List (List ℕ) → Type 0) (text : List ℕ) : Type 0 where
+pub record IsFront (form : Form) (right : Status → List (List ℕ) → Type 0) (text : List ℕ) : Type 0 where
   pub status : Status
   pub rest : List ℕ
-  pub whole : IsText (right status) (text ++ rest)
+  pub whole : IsText form (right status) (text ++ rest)
+
+-- what is written for words is in the form for which they ask
+abbrev pub form_of : List (List ℕ) → Form
+form_of words = form_asked (words_meaning words)
 
 -- what the status says of the text that was written, and of what the source has left
 pub record Ends (tallies : List Shown) (words : List (List ℕ)) (bytes text : List ℕ) (left_before left_after : Option (List ℕ)) (status : Status) : Type 0 where
   -- the whole text of an outcome was written; or nothing, or a front of one
-  pub whole : writes_all_lines status ≡ true → IsText (Outcome tallies words bytes status) text
-  pub front : writes_all_lines status ≡ false → (text ≡ []) ⊎ IsFront (Outcome tallies words bytes) text
+  pub whole : writes_all_lines status ≡ true → IsText (form_of words) (Outcome tallies words bytes status) text
+  pub front : writes_all_lines status ≡ false → (text ≡ []) ⊎ IsFront (form_of words) (Outcome tallies words bytes) text
   -- where the sink failed, a front; where the source failed, or where there was no memory while the input was read, nothing
-  pub write_fault : status ≡ WriteFault → IsFront (Outcome tallies words bytes) text
+  pub write_fault : status ≡ WriteFault → IsFront (form_of words) (Outcome tallies words bytes) text
   pub read_fault : status ≡ ReadFault → (reads words ≡ true) × (text ≡ [])
   pub early : status ≡ OutOfMemory → reads words ≡ true → IsBeingRead left_before left_after → text ≡ []
   -- an input is read whole, unless it is too long; where none is asked for, nothing is read
@@ -83,5 +88,6 @@ pub record Answers (tallies : List Shown) (words : List (List ℕ)) (left_before
 -- where words ask for a job and the source tells bytes that aren't refused, a run without faults comes to an answer, if there is memory
 abbrev pub AnswersAccepted : List (List ℕ) → Option (List ℕ) → Status → Type 0
 AnswersAccepted words left status =
-    (bytes : List ℕ) (job : JobData) → words_meaning words ≡ Ok job → left ≡ Some bytes → ((refusal : RefusalData) → ¬ IsRefused job bytes refusal)
+    (bytes : List ℕ) (job : JobData) (form : Form) → words_meaning words ≡ Ok (job, form) → left ≡ Some bytes
+    → ((refusal : RefusalData) → ¬ IsRefusedIn job (given_text form bytes) refusal)
     → status ≢ ReadFault → status ≢ WriteFault → (is_answer status ≡ true) ⊎ (status ≡ OutOfMemory)

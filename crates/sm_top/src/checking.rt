@@ -29,6 +29,7 @@ use sm_io::Sink;
 use sm_reader::Read;
 use sm_report::{Head, Line};
 use sm_text::RefusalKind;
+use sm_words::Form;
 use std::alloc::Global;
 
 /// The lines of the answer of `check`.
@@ -39,13 +40,14 @@ pub(crate) fn check_answer<K: Sink>(
     alloc: Global,
     bytes: &[u8],
     read: &Read,
+    form: Form,
     sink: &mut K,
 ) -> Result<Status, Stop>
     requires short { length bytes.now ≤ most_bytes }
     requires text { instance_text bytes.now ≡ Ok (read_of read.now) }
     requires accepted { accepted Check bytes.now ≡ judged Check (read_of read.now) }
     ensures wrote { (tallies : List Shown)
-        → IfOk result (λ status. Wrote (IsAnswer tallies Check bytes.now)
+        → IfOk result (λ status. Wrote form (IsAnswer tallies Check bytes.now)
         (K.held sink.old) (K.held sink.new) (K.faults sink.old) (K.faults sink.new) status) }
     ensures stop { IfErr result (λ stop. StopsBy (λ _. ⊥) (IsRefused Check bytes.now) ⊥ stop) }
     ensures unwritten { OnErr result (sink.new ≡ sink.old) }
@@ -55,7 +57,7 @@ pub(crate) fn check_answer<K: Sink>(
     match check(alloc, &read.input, answer, read.rest_line) {
         Ok(verdict) => {
             let lines = verdict_lines(&read.input, verdict);
-            Ok(write(alloc, sink, status_by(verdict), lines))
+            Ok(write(alloc, sink, form, status_by(verdict), lines))
         }
         Err(CertFault::TooManySeats(r)) => {
             let line = right_line(&read.input, r);

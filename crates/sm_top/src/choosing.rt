@@ -11,40 +11,40 @@ ghost use Rattle.sm_top.specs.Stops.{StopsBy};
 ghost use Rattle.sm_top.specs.Wrote.{Wrote, With};
 
 use crate::behind::given_behind;
+use crate::performing::Counted;
 use crate::status::Status;
 use crate::stop::Stop;
 use crate::writing::write;
 use sm_answer_given::chosen_lines;
-use sm_instance::Instance;
 use sm_io::Sink;
 use sm_pairs::choose_places;
-use sm_reader::Read;
 use sm_theory::Choice;
 use std::alloc::Global;
 
 /// Does `meet` or `join` on an instance with two sides and the two matchings behind its `end`.
 pub(crate) fn choose<K: Sink>(
     alloc: Global,
-    read: &Read,
-    instance: &Instance,
+    given: &Counted<'_>,
     bytes: &[u8],
     choice: Choice,
     sink: &mut K,
 ) -> Result<Status, Stop>
-    requires two { read.now.input ≡ Two instance.now }
-    requires few { read.now.rest_line + length (lines (drop read.now.rest bytes.now)) < 2 ^ 32 }
-    ensures wrote { IfOk result (λ status. Wrote
-        (With Status.Done (IsShown read.now.input (IsChosenAnswer choice (texts_from bytes.now
-        read.now.rest) instance.now)))
+    requires two { given.now.read.now.input ≡ Two given.now.instance.now }
+    requires few { given.now.read.now.rest_line
+        + length (lines (drop given.now.read.now.rest bytes.now)) < 2 ^ 32 }
+    ensures wrote { IfOk result (λ status. Wrote given.now.form
+        (With Status.Done (IsShown given.now.read.now.input (IsChosenAnswer choice (texts_from
+        bytes.now given.now.read.now.rest) given.now.instance.now)))
         (K.held sink.old) (K.held sink.new) (K.faults sink.old) (K.faults sink.new) status) }
     ensures stop { IfErr result (λ stop. StopsBy (λ _. ⊥)
-        (IsGivenRefusal instance.now (texts_from bytes.now read.now.rest) read.now.rest_line) ⊥
-        stop) }
+        (IsGivenRefusal given.now.instance.now (texts_from bytes.now given.now.read.now.rest)
+        given.now.read.now.rest_line) ⊥ stop) }
     ensures unwritten { OnErr result (sink.new ≡ sink.old) }
     ensures later { K.faults sink.old ≤ K.faults sink.new }
 {
-    let given = given_behind(alloc, read, instance, bytes)?;
-    let chosen = choose_places(alloc, instance, choice, &given.left, &given.right)?;
-    let lines = chosen_lines(&read.input, instance, choice, &given, &chosen);
-    Ok(write(alloc, sink, Status::Done, lines))
+    let instance = given.instance;
+    let two = given_behind(alloc, given.read, instance, bytes)?;
+    let chosen = choose_places(alloc, instance, choice, &two.left, &two.right)?;
+    let lines = chosen_lines(&given.read.input, instance, choice, &two, &chosen);
+    Ok(write(alloc, sink, given.form, Status::Done, lines))
 }

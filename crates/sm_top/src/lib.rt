@@ -2,13 +2,15 @@
 //!
 //! The words are read by [`read_words`]. For each job `sm_answer_rotations`, `sm_answer_list`, `sm_answer_pairs`, `sm_answer_given`, `sm_answer_survey`, `sm_answer_median`, `sm_answer_route` or `sm_answer_roommates` makes its
 //! answer, a value that gives lines ([`sm_answer::Lines`]), and this crate writes it or says why there is none; for `check` it is the
-//! verdict of `sm_cert`. How a command
+//! verdict of `sm_cert`, and for `export` a text of `sm_json`. How a command
 //! is added is told in the document `ADDING.md` of this repository.
 #![tactic(auto)]
 
 mod behind;
 mod checking;
 mod choosing;
+mod exporting;
+mod giving;
 mod input;
 mod making;
 mod performing;
@@ -20,5 +22,5 @@ mod writing;
 
 pub use running::run;
 pub use sm_check_answers::Reason;
-pub use sm_words::{Job, WordsFault, read_words};
+pub use sm_words::{Form, Job, WordsFault, read_words};
 pub use status::Status;

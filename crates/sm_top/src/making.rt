@@ -19,7 +19,7 @@ use sm_io::Sink;
 use sm_printed::instance_lines;
 use sm_seats::Seats;
 use sm_tally::Tally;
-use sm_words::USUAL_LIMIT;
+use sm_words::{Form, USUAL_LIMIT};
 use std::alloc::Global;
 
 /// Writes the text of a made instance, or its summary. Its seats never have too many entries.
@@ -27,11 +27,12 @@ pub(crate) fn show_made<K: Sink>(
     alloc: Global,
     input: &Input,
     is_summary: bool,
+    form: Form,
     tallies: &mut Vec<Box<dyn Tally>>,
     sink: &mut K,
 ) -> Result<Status, Stop>
     requires few { too_many_in input.now ≡ None }
-    ensures wrote { IfOk result (λ status. Wrote (IsMade (map (λ t. shown_as (kind t) (shown t))
+    ensures wrote { IfOk result (λ status. Wrote form (IsMade (map (λ t. shown_as (kind t) (shown t))
         tallies.old.items) input.now is_summary)
         (K.held sink.old) (K.held sink.new) (K.faults sink.old) (K.faults sink.new) status) }
     ensures stop { IfErr result (λ stop. StopsBy (λ _. ⊥) (λ _. ⊥) ⊥ stop) }
@@ -39,20 +40,21 @@ pub(crate) fn show_made<K: Sink>(
     ensures later { K.faults sink.old ≤ K.faults sink.new }
 {
     if is_summary {
-        return summarize(alloc, input, tallies, sink);
+        return summarize(alloc, input, form, tallies, sink);
     }
-    Ok(write(alloc, sink, Status::Done, instance_lines(input)))
+    Ok(write(alloc, sink, form, Status::Done, instance_lines(input)))
 }
 
 /// Writes what `survey` answers without a limit, or `solve` for roommates.
 fn summarize<K: Sink>(
     alloc: Global,
     input: &Input,
+    form: Form,
     tallies: &mut Vec<Box<dyn Tally>>,
     sink: &mut K,
 ) -> Result<Status, Stop>
     requires few { too_many_in input.now ≡ None }
-    ensures wrote { IfOk result (λ status. Wrote (λ status. IsShown input.now (IsSummary (map
+    ensures wrote { IfOk result (λ status. Wrote form (λ status. IsShown input.now (IsSummary (map
         (λ t. shown_as (kind t) (shown t)) tallies.old.items) input.now status))
         (K.held sink.old) (K.held sink.new) (K.faults sink.old) (K.faults sink.new) status) }
     ensures stop { IfErr result (λ stop. StopsBy (λ _. ⊥) (λ _. ⊥) ⊥ stop) }
@@ -64,8 +66,8 @@ fn summarize<K: Sink>(
             let counts = counts_of(alloc, instance)?;
             let seats = Seats::counted(alloc, instance, &counts)?;
             let lines = survey_lines(alloc, input, instance, &seats, USUAL_LIMIT, tallies)?;
-            Ok(write(alloc, sink, Status::Done, lines))
+            Ok(write(alloc, sink, form, Status::Done, lines))
         }
-        Input::Room(persons) => Ok(solve_roommates(alloc, input, persons, sink)?),
+        Input::Room(persons) => Ok(solve_roommates(alloc, input, persons, form, sink)?),
     }
 }

@@ -8,7 +8,7 @@ ghost use Rattle.sm_reader.specs.InstanceText.{read_of};
 ghost use Rattle.sm_text.specs.Limits.{most_bytes};
 ghost use Rattle.sm_text.specs.declared.refusal.RefusalKind.TheVariants.{WrongKind};
 ghost use Rattle.sm_text.specs.Lines.{lines};
-ghost use Rattle.sm_words.specs.Jobs.{job_of, IsInBounds, IsLimit};
+ghost use Rattle.sm_words.specs.Jobs.{job_of, IsFormFor, IsInBounds, IsLimit};
 ghost use Rattle.sm_top.specs.Accepting.{reads_input, takes_text, IsTextFor, judges_answer, judged, accepted, takes_rooms_alone, too_many_in, IsTooMany};
 ghost use Rattle.sm_top.specs.Counted.{IsCounted};
 ghost use Rattle.sm_answer_solve.specs.Solution.{IsSolution};
@@ -30,6 +30,7 @@ ghost use Rattle.sm_top.specs.Wrote.{Wrote, With};
 
 use crate::behind::given_behind;
 use crate::choosing::choose;
+use crate::exporting::export;
 use crate::refusing::{counts_of, takes_rooms_alone, takes_text};
 use crate::status::Status;
 use crate::stop::Stop;
@@ -55,15 +56,16 @@ use sm_seats::{SeatCounts, Seats};
 use sm_tally::Tally;
 use sm_text::RefusalKind;
 use sm_theory::Choice;
-use sm_words::Job;
+use sm_words::{Form, Job};
 use std::alloc::{AllocError, Global};
 
-/// An instance with two sides that was read, and what is counted of its seats.
+/// An instance with two sides that was read, what is counted of its seats, and the form in which its answer is written.
 #[derive(Drop)]
-struct Counted<'a> {
-    read: &'a Read,
-    instance: &'a Instance,
-    counts: SeatCounts,
+pub(crate) struct Counted<'a> {
+    pub(crate) read: &'a Read,
+    pub(crate) instance: &'a Instance,
+    pub(crate) counts: SeatCounts,
+    pub(crate) form: Form,
 }
 
 /// Does a job, but `check`, on an input that was read for it, where its kind and its seats aren't refused. The text of the
@@ -73,6 +75,7 @@ pub(crate) fn perform<K: Sink>(
     job: &Job,
     bytes: Vec<u8>,
     read: &Read,
+    form: Form,
     tallies: &mut Vec<Box<dyn Tally>>,
     sink: &mut K,
 ) -> Result<Status, Stop>
@@ -82,8 +85,9 @@ pub(crate) fn perform<K: Sink>(
     requires accepted { accepted (job_of job.now) bytes.items
         ≡ judged (job_of job.now) (read_of read.now) }
     requires bounds { IsInBounds (job_of job.now) }
-    ensures wrote { IfOk result (λ status. Wrote (IsAnswer (map (λ t. shown_as (kind t) (shown t))
-        tallies.old.items) (job_of job.now) bytes.items)
+    requires form { IsFormFor (job_of job.now) form }
+    ensures wrote { IfOk result (λ status. Wrote form (IsAnswer (map
+        (λ t. shown_as (kind t) (shown t)) tallies.old.items) (job_of job.now) bytes.items)
         (K.held sink.old) (K.held sink.new) (K.faults sink.old) (K.faults sink.new) status) }
     ensures stop { IfErr result (λ stop. StopsBy (λ _. ⊥)
         (IsRefused (job_of job.now) bytes.items) ⊥ stop) }
@@ -96,10 +100,10 @@ pub(crate) fn perform<K: Sink>(
             if takes_rooms_alone(job) {
                 return Err(refuse_sides(read, instance));
             }
-            let given = with_counts(alloc, read, instance)?;
+            let given = with_counts(alloc, read, instance, form)?;
             perform_on_two(alloc, job, &behind, &given, tallies, sink)
         }
-        Input::Room(persons) => perform_on_persons(alloc, job, read, persons, sink),
+        Input::Room(persons) => perform_on_persons(alloc, job, read, persons, form, sink),
     }
 }
 
@@ -128,10 +132,12 @@ fn with_counts<'a>(
     alloc: Global,
     read: &'a Read,
     instance: &'a Instance,
+    form: Form,
 ) -> Result<Counted<'a>, Stop>
     requires { read.now.input ≡ Two instance.now }
     ensures instance { IsInstance instance.now }
     ensures read { IfOk result (λ given. given.read.now ≡ read.now) }
+    ensures form { IfOk result (λ given. given.form ≡ form) }
     ensures counted { IfOk result
         (λ given. IsCounted read.now.input given.instance.now given.counts) }
     ensures none { OnOk result (too_many_in read.now.input ≡ None) }
@@ -143,6 +149,7 @@ fn with_counts<'a>(
         read,
         instance,
         counts,
+        form,
     })
 }
 
@@ -162,9 +169,10 @@ fn perform_on_two<K: Sink>(
         + length (lines (drop given.now.read.now.rest bytes.now)) < 2 ^ 32 }
     requires counted { IsCounted given.now.read.now.input given.now.instance.now given.now.counts }
     requires bounds { IsInBounds (job_of job.now) }
+    requires form { IsFormFor (job_of job.now) given.now.form }
     ensures wrote { (text : List ℕ) → IsTextFor (job_of job.now) text bytes.now
         → accepted (job_of job.now) text ≡ Ok (read_of given.now.read.now)
-        → IfOk result (λ status. Wrote (IsAnswer (map (λ t. shown_as (kind t) (shown t))
+        → IfOk result (λ status. Wrote given.now.form (IsAnswer (map (λ t. shown_as (kind t) (shown t))
         tallies.old.items) (job_of job.now) text)
         (K.held sink.old) (K.held sink.new) (K.faults sink.old) (K.faults sink.new) status) }
     ensures stop { (text : List ℕ) → IsTextFor (job_of job.now) text bytes.now
@@ -181,25 +189,12 @@ fn perform_on_two<K: Sink>(
         Job::Pairs => Ok(show_pairs(alloc, given, sink)?),
         Job::Regret => Ok(show_regret(alloc, given, sink)?),
         Job::Weight(by) => Ok(show_lightest(alloc, given, *by, sink)?),
-        Job::Meet => choose(
-            alloc,
-            given.read,
-            given.instance,
-            bytes,
-            Choice::Better,
-            sink,
-        ),
-        Job::Join => choose(
-            alloc,
-            given.read,
-            given.instance,
-            bytes,
-            Choice::Worse,
-            sink,
-        ),
+        Job::Meet => choose(alloc, given, bytes, Choice::Better, sink),
+        Job::Join => choose(alloc, given, bytes, Choice::Worse, sink),
         Job::Survey(limit) => Ok(survey(alloc, given, *limit, tallies, sink)?),
         Job::Median => show_median(alloc, given, sink),
         Job::Route => show_route(alloc, given, bytes, sink),
+        Job::Export => Ok(export(alloc, &given.read.input, sink)?),
         Job::Check | Job::Make(_, _, _, _) | Job::Rest => unreachable!(),
     }
 }
@@ -210,15 +205,17 @@ fn perform_on_persons<K: Sink>(
     job: &Job,
     read: &Read,
     persons: &Persons,
+    form: Form,
     sink: &mut K,
 ) -> Result<Status, Stop>
     requires reads { reads_input (job_of job.now) ≡ true }
     requires answers { judges_answer (job_of job.now) ≡ false }
     requires room { read.now.input ≡ Room persons.now }
     requires bounds { IsInBounds (job_of job.now) }
+    requires form { IsFormFor (job_of job.now) form }
     ensures wrote { (text : List ℕ) (tallies : List Shown)
         → accepted (job_of job.now) text ≡ judged (job_of job.now) (read_of read.now)
-        → IfOk result (λ status. Wrote (IsAnswer tallies (job_of job.now) text)
+        → IfOk result (λ status. Wrote form (IsAnswer tallies (job_of job.now) text)
         (K.held sink.old) (K.held sink.new) (K.faults sink.old) (K.faults sink.new) status) }
     ensures stop { (text : List ℕ)
         → accepted (job_of job.now) text ≡ judged (job_of job.now) (read_of read.now)
@@ -227,11 +224,12 @@ fn perform_on_persons<K: Sink>(
     ensures later { K.faults sink.old ≤ K.faults sink.new }
 {
     match job {
-        Job::Solve(None) => Ok(solve_roommates(alloc, &read.input, persons, sink)?),
+        Job::Solve(None) => Ok(solve_roommates(alloc, &read.input, persons, form, sink)?),
         Job::List(after, limit) => {
-            list_persons(alloc, &read.input, persons, after, *limit, sink)
+            list_persons(alloc, &read.input, persons, after, *limit, form, sink)
         }
-        Job::Rest => Ok(show_rest(alloc, &read.input, persons, sink)?),
+        Job::Rest => Ok(show_rest(alloc, &read.input, persons, form, sink)?),
+        Job::Export => Ok(export(alloc, &read.input, sink)?),
         Job::Solve(Some(_))
         | Job::Reduced
         | Job::Rotations
@@ -255,7 +253,7 @@ fn solve<K: Sink>(
     sink: &mut K,
 ) -> Result<Status, AllocError>
     requires { IsCounted given.now.read.now.input given.now.instance.now given.now.counts }
-    ensures wrote { IfOk result (λ status. Wrote
+    ensures wrote { IfOk result (λ status. Wrote given.now.form
         (With Status.Done (IsShown given.now.read.now.input
         (IsSolution (unwrap_or side Side.Proposers) given.now.instance.now)))
         (K.held sink.old) (K.held sink.new) (K.faults sink.old) (K.faults sink.new) status) }
@@ -264,7 +262,7 @@ fn solve<K: Sink>(
 {
     let solution = find_solution(alloc, given.instance, &given.counts, side)?;
     let lines = solution_lines(&given.read.input, given.instance, &solution);
-    Ok(write(alloc, sink, Status::Done, lines))
+    Ok(write(alloc, sink, given.form, Status::Done, lines))
 }
 
 /// Does `solve` on roommates.
@@ -272,10 +270,11 @@ pub(crate) fn solve_roommates<K: Sink>(
     alloc: Global,
     input: &Input,
     persons: &Persons,
+    form: Form,
     sink: &mut K,
 ) -> Result<Status, AllocError>
     requires { input.now ≡ Room persons.now }
-    ensures wrote { IfOk result (λ status. Wrote
+    ensures wrote { IfOk result (λ status. Wrote form
         (λ status. IsShown input.now (IsSolved None input.now status))
         (K.held sink.old) (K.held sink.new) (K.faults sink.old) (K.faults sink.new) status) }
     ensures unwritten { OnErr result (sink.new ≡ sink.old) }
@@ -284,11 +283,11 @@ pub(crate) fn solve_roommates<K: Sink>(
     match find_roommates(alloc, persons)? {
         RoomSolution::Matching(mates) => {
             let lines = couple_lines(input, persons, &mates);
-            Ok(write(alloc, sink, Status::Done, lines))
+            Ok(write(alloc, sink, form, Status::Done, lines))
         }
         RoomSolution::Parties(parties) => {
             let lines = party_lines(input, persons, &parties);
-            Ok(write(alloc, sink, Status::NoneExists, lines))
+            Ok(write(alloc, sink, form, Status::NoneExists, lines))
         }
     }
 }
@@ -300,11 +299,12 @@ fn list_persons<K: Sink>(
     persons: &Persons,
     after: &Option<Vec<u32>>,
     limit: u32,
+    form: Form,
     sink: &mut K,
 ) -> Result<Status, Stop>
     requires room { input.now ≡ Room persons.now }
     requires limit { IsLimit limit }
-    ensures wrote { IfOk result (λ status. Wrote
+    ensures wrote { IfOk result (λ status. Wrote form
         (With Status.Done (IsShown input.now (IsRoomListAnswer (cursor_in after.now) limit
         persons.now)))
         (K.held sink.old) (K.held sink.new) (K.faults sink.old) (K.faults sink.new) status) }
@@ -317,7 +317,7 @@ fn list_persons<K: Sink>(
         return Err(Stop::Refused(RefusalKind::BadCursor, 0));
     }
     let lines = room_list_lines(alloc, input, persons, after, limit)?;
-    Ok(write(alloc, sink, Status::Done, lines))
+    Ok(write(alloc, sink, form, Status::Done, lines))
 }
 
 /// Does `rest`.
@@ -325,10 +325,11 @@ fn show_rest<K: Sink>(
     alloc: Global,
     input: &Input,
     persons: &Persons,
+    form: Form,
     sink: &mut K,
 ) -> Result<Status, AllocError>
     requires { input.now ≡ Room persons.now }
-    ensures wrote { IfOk result (λ status. Wrote
+    ensures wrote { IfOk result (λ status. Wrote form
         (With Status.Done (IsShown input.now (IsRest persons.now)))
         (K.held sink.old) (K.held sink.new) (K.faults sink.old) (K.faults sink.new) status) }
     ensures unwritten { OnErr result (sink.new ≡ sink.old) }
@@ -336,13 +337,13 @@ fn show_rest<K: Sink>(
 {
     let rest = find_rest(alloc, persons)?;
     let lines = rest_lines(input, persons, &rest);
-    Ok(write(alloc, sink, Status::Done, lines))
+    Ok(write(alloc, sink, form, Status::Done, lines))
 }
 
 /// Does `reduced`.
 fn reduce<K: Sink>(alloc: Global, given: &Counted<'_>, sink: &mut K) -> Result<Status, AllocError>
     requires { IsCounted given.now.read.now.input given.now.instance.now given.now.counts }
-    ensures wrote { IfOk result (λ status. Wrote
+    ensures wrote { IfOk result (λ status. Wrote given.now.form
         (With Status.Done (IsShown given.now.read.now.input (IsReduction given.now.instance.now)))
         (K.held sink.old) (K.held sink.new) (K.faults sink.old) (K.faults sink.new) status) }
     ensures unwritten { OnErr result (sink.new ≡ sink.old) }
@@ -351,7 +352,7 @@ fn reduce<K: Sink>(alloc: Global, given: &Counted<'_>, sink: &mut K) -> Result<S
     let seats = Seats::counted(alloc, given.instance, &given.counts)?;
     let reduction = find_reduction(alloc, &seats)?;
     let lines = reduction_lines(&given.read.input, given.instance, &seats, &reduction);
-    Ok(write(alloc, sink, Status::Done, lines))
+    Ok(write(alloc, sink, given.form, Status::Done, lines))
 }
 
 /// Does `rotations`.
@@ -361,7 +362,7 @@ fn show_rotations<K: Sink>(
     sink: &mut K,
 ) -> Result<Status, AllocError>
     requires { IsCounted given.now.read.now.input given.now.instance.now given.now.counts }
-    ensures wrote { IfOk result (λ status. Wrote
+    ensures wrote { IfOk result (λ status. Wrote given.now.form
         (With Status.Done (IsShown given.now.read.now.input
         (IsRotationAnswer given.now.instance.now)))
         (K.held sink.old) (K.held sink.new) (K.faults sink.old) (K.faults sink.new) status) }
@@ -371,7 +372,7 @@ fn show_rotations<K: Sink>(
     let seats = Seats::counted(alloc, given.instance, &given.counts)?;
     let basis = Basis::of(alloc, &seats)?;
     let lines = rotation_answer_lines(&given.read.input, given.instance, &seats, &basis);
-    Ok(write(alloc, sink, Status::Done, lines))
+    Ok(write(alloc, sink, given.form, Status::Done, lines))
 }
 
 /// Does `list`.
@@ -384,7 +385,7 @@ fn list<K: Sink>(
 ) -> Result<Status, Stop>
     requires counted { IsCounted given.now.read.now.input given.now.instance.now given.now.counts }
     requires limit { IsLimit limit }
-    ensures wrote { IfOk result (λ status. Wrote
+    ensures wrote { IfOk result (λ status. Wrote given.now.form
         (With Status.Done (IsShown given.now.read.now.input (IsListAnswer (cursor_in after.now)
         limit given.now.instance.now)))
         (K.held sink.old) (K.held sink.new) (K.faults sink.old) (K.faults sink.new) status) }
@@ -406,7 +407,7 @@ fn list<K: Sink>(
         after,
         limit,
     )?;
-    Ok(write(alloc, sink, Status::Done, lines))
+    Ok(write(alloc, sink, given.form, Status::Done, lines))
 }
 
 /// Does `pairs`.
@@ -416,7 +417,7 @@ fn show_pairs<K: Sink>(
     sink: &mut K,
 ) -> Result<Status, AllocError>
     requires { IsCounted given.now.read.now.input given.now.instance.now given.now.counts }
-    ensures wrote { IfOk result (λ status. Wrote
+    ensures wrote { IfOk result (λ status. Wrote given.now.form
         (With Status.Done (IsShown given.now.read.now.input (IsPairsAnswer given.now.instance.now)))
         (K.held sink.old) (K.held sink.new) (K.faults sink.old) (K.faults sink.new) status) }
     ensures unwritten { OnErr result (sink.new ≡ sink.old) }
@@ -425,7 +426,7 @@ fn show_pairs<K: Sink>(
     let seats = Seats::counted(alloc, given.instance, &given.counts)?;
     let pairs = find_pairs(alloc, given.instance, &seats)?;
     let lines = pairs_lines(&given.read.input, given.instance, &pairs);
-    Ok(write(alloc, sink, Status::Done, lines))
+    Ok(write(alloc, sink, given.form, Status::Done, lines))
 }
 
 /// Does `regret`.
@@ -435,7 +436,7 @@ fn show_regret<K: Sink>(
     sink: &mut K,
 ) -> Result<Status, AllocError>
     requires { IsCounted given.now.read.now.input given.now.instance.now given.now.counts }
-    ensures wrote { IfOk result (λ status. Wrote
+    ensures wrote { IfOk result (λ status. Wrote given.now.form
         (λ status. IsShown given.now.read.now.input (IsRegretted given.now.read.now.input status))
         (K.held sink.old) (K.held sink.new) (K.faults sink.old) (K.faults sink.new) status) }
     ensures unwritten { OnErr result (sink.new ≡ sink.old) }
@@ -445,11 +446,11 @@ fn show_regret<K: Sink>(
     match find_regret(alloc, given.instance, &seats)? {
         Some(found) => {
             let lines = regret_lines(&given.read.input, given.instance, &seats, &found);
-            Ok(write(alloc, sink, Status::Done, lines))
+            Ok(write(alloc, sink, given.form, Status::Done, lines))
         }
         None => {
             let none = none_lines(&given.read.input, given.instance, Head::Regret);
-            Ok(write(alloc, sink, Status::NoneExists, none))
+            Ok(write(alloc, sink, given.form, Status::NoneExists, none))
         }
     }
 }
@@ -462,7 +463,7 @@ fn show_lightest<K: Sink>(
     sink: &mut K,
 ) -> Result<Status, AllocError>
     requires { IsCounted given.now.read.now.input given.now.instance.now given.now.counts }
-    ensures wrote { IfOk result (λ status. Wrote
+    ensures wrote { IfOk result (λ status. Wrote given.now.form
         (λ status. IsShown given.now.read.now.input (IsWeighed by given.now.read.now.input status))
         (K.held sink.old) (K.held sink.new) (K.faults sink.old) (K.faults sink.new) status) }
     ensures unwritten { OnErr result (sink.new ≡ sink.old) }
@@ -472,11 +473,11 @@ fn show_lightest<K: Sink>(
     match find_lightest(alloc, given.instance, &seats, by)? {
         Some(found) => {
             let lines = lightest_lines(&given.read.input, given.instance, &seats, &found);
-            Ok(write(alloc, sink, Status::Done, lines))
+            Ok(write(alloc, sink, given.form, Status::Done, lines))
         }
         None => {
             let nothing = none_lines(&given.read.input, given.instance, Head::Weight(by));
-            Ok(write(alloc, sink, Status::NoneExists, nothing))
+            Ok(write(alloc, sink, given.form, Status::NoneExists, nothing))
         }
     }
 }
@@ -491,7 +492,7 @@ fn survey<K: Sink>(
 ) -> Result<Status, AllocError>
     requires counted { IsCounted given.now.read.now.input given.now.instance.now given.now.counts }
     requires limit { IsLimit limit }
-    ensures wrote { IfOk result (λ status. Wrote
+    ensures wrote { IfOk result (λ status. Wrote given.now.form
         (With Status.Done (IsShown given.now.read.now.input (IsSurveyAnswer (map
         (λ t. shown_as (kind t) (shown t)) tallies.old.items) limit given.now.instance.now)))
         (K.held sink.old) (K.held sink.new) (K.faults sink.old) (K.faults sink.new) status) }
@@ -507,13 +508,13 @@ fn survey<K: Sink>(
         limit,
         tallies,
     )?;
-    Ok(write(alloc, sink, Status::Done, lines))
+    Ok(write(alloc, sink, given.form, Status::Done, lines))
 }
 
 /// Does `median`.
 fn show_median<K: Sink>(alloc: Global, given: &Counted<'_>, sink: &mut K) -> Result<Status, Stop>
     requires { IsCounted given.now.read.now.input given.now.instance.now given.now.counts }
-    ensures wrote { IfOk result (λ status. Wrote
+    ensures wrote { IfOk result (λ status. Wrote given.now.form
         (λ status. IsShown given.now.read.now.input (IsMiddle given.now.read.now.input status))
         (K.held sink.old) (K.held sink.new) (K.faults sink.old) (K.faults sink.new) status) }
     ensures stop { IfErr result (λ stop.
@@ -525,11 +526,11 @@ fn show_median<K: Sink>(alloc: Global, given: &Counted<'_>, sink: &mut K) -> Res
     match find_median(alloc, given.instance, &seats) {
         Ok(Some(found)) => {
             let lines = median_lines(&given.read.input, given.instance, &found);
-            Ok(write(alloc, sink, Status::Done, lines))
+            Ok(write(alloc, sink, given.form, Status::Done, lines))
         }
         Ok(None) => {
             let no_median = none_lines(&given.read.input, given.instance, Head::Median);
-            Ok(write(alloc, sink, Status::NoneExists, no_median))
+            Ok(write(alloc, sink, given.form, Status::NoneExists, no_median))
         }
         Err(MedianFault::TooMany) => Err(Stop::Refused(RefusalKind::TooMany, 0)),
         Err(MedianFault::OutOfMemory) => Err(Stop::OutOfMemory),
@@ -546,7 +547,7 @@ fn show_route<K: Sink>(
     requires counted { IsCounted given.now.read.now.input given.now.instance.now given.now.counts }
     requires few { given.now.read.now.rest_line
         + length (lines (drop given.now.read.now.rest bytes.now)) < 2 ^ 32 }
-    ensures wrote { IfOk result (λ status. Wrote
+    ensures wrote { IfOk result (λ status. Wrote given.now.form
         (With Status.Done (IsShown given.now.read.now.input (IsRouteAnswer (texts_from bytes.now
         given.now.read.now.rest) given.now.instance.now)))
         (K.held sink.old) (K.held sink.new) (K.faults sink.old) (K.faults sink.new) status) }
@@ -560,7 +561,7 @@ fn show_route<K: Sink>(
     let seats = Seats::counted(alloc, given.instance, &given.counts)?;
     let found = find_route(alloc, given.instance, &seats, &ends)?;
     let lines = route_lines(&given.read.input, given.instance, &seats, &ends, &found);
-    Ok(write(alloc, sink, Status::Done, lines))
+    Ok(write(alloc, sink, given.form, Status::Done, lines))
 }
 
 /// Has a cursor so many items, where there is one?

@@ -115,7 +115,8 @@ pub(crate) fn takes_text(job: &Job) -> bool
         | Job::Survey(_)
         | Job::Make(_, _, _, _)
         | Job::Rest
-        | Job::Median => false,
+        | Job::Median
+        | Job::Export => false,
         Job::Meet | Job::Join | Job::Check | Job::Route => true,
     }
 }

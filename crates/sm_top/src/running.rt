@@ -1,20 +1,21 @@
 //! The top call.
 
-ghost use Rattle.std.specs.Prelude.{◌≡◌, ◌≤◌, ◌≢◌, ◌∷◌, [], Ok, Err, IfOk, IfErr, OnErr, length, map, true, false};
+ghost use Rattle.std.specs.Prelude.{◌≡◌, ◌≤◌, ◌≢◌, ◌∷◌, [], ℕ, List, Ok, IfOk, IfErr, OnErr, length, map, true, false};
 ghost use Rattle.sm_text.specs.Limits.{most_bytes};
 ghost use Rattle.sm_io.specs.Faults.{Rose};
-ghost use Rattle.sm_words.specs.Jobs.{job_of, IsInBounds};
+ghost use Rattle.sm_words.specs.Jobs.{job_of, IsFormFor, IsInBounds};
 ghost use Rattle.sm_words.specs.Words.{texts, words_meaning};
 ghost use Rattle.sm_tally.specs.Fold.{shown_as};
 ghost use Rattle.sm_top.specs.Accepting.{reads_input};
 ghost use Rattle.sm_top.specs.Outcome.{IsAnswer, IsRefused};
 ghost use Rattle.sm_top.specs.Running.{reads, Answers, AnswersAccepted};
-ghost use Rattle.sm_top.specs.Steps.{Serves, ServesWords, IsRefusalFor, IsRefusal, IsReadFault, SaysStop};
+ghost use Rattle.sm_top.specs.Steps.{Serves, IsRefusal, IsReadFault, SaysStop};
 ghost use Rattle.sm_top.specs.Stops.{StopsBy, IsPlainStop};
 ghost use Rattle.sm_top.specs.Texts.{are_plain, refusal_fields, refused_line, with_detail};
 ghost use Rattle.sm_top.specs.Wrote.{Wrote, With};
 
 use crate::checking::check_answer;
+use crate::giving::text_given;
 use crate::input::read_all;
 use crate::making::show_made;
 use crate::performing::perform;
@@ -26,14 +27,16 @@ use sm_io::{Sink, Source};
 use sm_make::make;
 use sm_tally::Tally;
 use sm_text::RefusalKind;
-use sm_words::{Job, WordsFault, read_words};
+use sm_words::{Form, Job, WordsFault, read_words};
 use std::alloc::Global;
 
 /// Does all that the program does, and says how it ended.
 ///
 /// The words are those of the command line behind the program's name. Where they are faulty nothing is read, nor for `make`.
 /// Else the source is read to its end, or until it gave more than 16,777,216 bytes, and the answer is written to the sink, each line with
-/// one put.
+/// one put. With `form=json` the input is an instance in JSON, which stands for a text ([`sm_json::to_text`]), and all that is said
+/// below is said of that text; the lines of the answer or of the refusal are written as an array of strings in JSON, each with one put,
+/// and `]` with LF with one more.
 ///
 /// - `Done`: the whole answer is written. For `solve` it is the pairs of the stable matching in which every agent of a
 ///   side has the best partner that it has in any stable matching (Gale and Shapley 1962), in the order of the text, and for
@@ -55,9 +58,11 @@ use std::alloc::Global;
 ///   which are read behind `end`, what `rotations` has, and the fewest rotations that lead from the left one back and forth to
 ///   the right one; for `check` that the answer which is read behind `end` is right: each clause holds at each of its lines, and what that
 ///   means of the instance is said in [`sm_cert::laws`]; for `make` the text of the instance that is made, or what `survey`
-///   with a limit of 100, or for roommates `solve`, writes for it.
+///   with a limit of 100, or for roommates `solve`, writes for it; for `export` the one line of the instance in JSON
+///   ([`sm_json::to_json`]).
 /// - `Refused`: the input is refused for this reason, at this line; the one line `refused NAME LINE` is written. An input
-///   that is too long comes first, then the faults of its lines from the top, then a missing `end`, then a name that isn't
+///   that is too long comes first, then, with `form=json`, one that is no instance in JSON and one whose text is too long, each at
+///   line 0, then the faults of its lines from the top, then a missing `end`, then a name that isn't
 ///   declared, then text behind `end` where the command takes none, then a kind that the command doesn't take, then seats
 ///   that have more than 1,048,576 entries. Then come a cursor that hasn't a number for each proposer, or for each person, for
 ///   `list`; more than 100,000 allowed stable matchings, for `median`; and for `meet`, `join` and `route` the first line
@@ -83,7 +88,8 @@ use std::alloc::Global;
 /// besides, and then those of [`sm_answer_list::start_list`] and of each step for `list` and `survey`, of
 /// [`sm_answer_pairs::find_pairs`] and [`sm_answer_pairs::find_regret`] for `pairs` and `regret`, of
 /// [`sm_answer_weight::find_lightest`] for `weight`, of [`sm_answer_median::find_median`] for `median`, and of
-/// [`sm_answer_route::find_route`] for `route`. `check` takes those of [`sm_cert::check`].
+/// [`sm_answer_route::find_route`] for `route`. `check` takes those of [`sm_cert::check`], `export` those of [`sm_json::to_json`], and
+/// `form=json` those of [`sm_json::to_text`] besides.
 pub fn run<S: Source, K: Sink>(
     alloc: Global,
     words: &[String],
@@ -107,71 +113,107 @@ pub fn run<S: Source, K: Sink>(
     ensures sink_later { K.faults sink.old ≤ K.faults sink.new }
 {
     let mut tallies = tallies;
-    match serve(alloc, words, source, &mut tallies, sink) {
-        Ok(status) => status,
-        Err(stop) => say_stop(alloc, sink, stop),
+    match read_words(alloc, words) {
+        Ok((job, form)) => run_job(alloc, &job, form, source, &mut tallies, sink),
+        Err(WordsFault::Usage(word)) => { say_stop(alloc, Form::Text, sink, Stop::Usage(word)) },
+        Err(WordsFault::OutOfMemory) => Status::OutOfMemory,
     }
 }
 
-/// Does what the words ask for.
+/// Does a job in a form, and says how it ended.
+fn run_job<S: Source, K: Sink>(
+    alloc: Global,
+    job: &Job,
+    form: Form,
+    source: &mut S,
+    tallies: &mut Vec<Box<dyn Tally>>,
+    sink: &mut K,
+) -> Status
+    requires bounds { IsInBounds (job_of job.now) }
+    requires form { IsFormFor (job_of job.now) form }
+    ensures answer { (words : List (List ℕ)) → words_meaning words ≡ Ok (job_of job.now, form)
+        → Answers (map (λ t. shown_as (kind t) (shown t)) tallies.old.items) words
+        (S.left source.old) (S.left source.new) (K.held sink.old) (K.held sink.new) result }
+    ensures untouched { reads_input (job_of job.now) ≡ false → source.new ≡ source.old }
+    ensures faultless { (¬ Rose (S.faults source.old) (S.faults source.new))
+        → (¬ Rose (K.faults sink.old) (K.faults sink.new))
+        → (result ≢ Status.ReadFault) × (result ≢ Status.WriteFault) }
+    ensures read_fault { result ≡ Status.ReadFault
+        → Rose (S.faults source.old) (S.faults source.new) }
+    ensures write_fault { result ≡ Status.WriteFault
+        → Rose (K.faults sink.old) (K.faults sink.new) }
+    ensures source_later { S.faults source.old ≤ S.faults source.new }
+    ensures sink_later { K.faults sink.old ≤ K.faults sink.new }
+{
+    match serve(alloc, job, form, source, tallies, sink) {
+        Ok(status) => status,
+        Err(stop) => say_stop(alloc, form, sink, stop),
+    }
+}
+
+/// Does a job in a form.
 fn serve<S: Source, K: Sink>(
     alloc: Global,
-    words: &[String],
+    job: &Job,
+    form: Form,
     source: &mut S,
     tallies: &mut Vec<Box<dyn Tally>>,
     sink: &mut K,
 ) -> Result<Status, Stop>
-    ensures served { IfOk result (λ status. ServesWords (map (λ t. shown_as (kind t) (shown t))
-        tallies.old.items) (texts words.now) (S.left source.old) (S.left source.new)
+    requires bounds { IsInBounds (job_of job.now) }
+    requires form { IsFormFor (job_of job.now) form }
+    ensures served { IfOk result (λ status. Serves (map (λ t. shown_as (kind t) (shown t))
+        tallies.old.items) (job_of job.now) form (S.left source.old) (S.left source.new)
         (K.held sink.old) (K.held sink.new) (K.faults sink.old) (K.faults sink.new) status) }
-    ensures stop { IfErr result (λ stop. StopsBy (λ word. words_meaning (texts words.now)
-        ≡ Err word)
-        (IsRefusal (texts words.now) (S.left source.old) (S.left source.new))
-        (IsReadFault (texts words.now) (S.faults source.old) (S.faults source.new)) stop) }
-    ensures untouched { reads (texts words.now) ≡ false → source.new ≡ source.old }
+    ensures stop { IfErr result (λ stop. StopsBy (λ _. ⊥)
+        (IsRefusal (job_of job.now) form (S.left source.old) (S.left source.new))
+        (IsReadFault (job_of job.now) (S.faults source.old) (S.faults source.new)) stop) }
+    ensures untouched { reads_input (job_of job.now) ≡ false → source.new ≡ source.old }
     ensures unwritten { OnErr result (sink.new ≡ sink.old) }
     ensures source_later { S.faults source.old ≤ S.faults source.new }
     ensures sink_later { K.faults sink.old ≤ K.faults sink.new }
 {
-    match read_words(alloc, words) {
-        Ok(Job::Make(shape, size, seed, is_summary)) => {
-            let input = make(alloc, shape, size, seed)?;
-            show_made(alloc, &input, is_summary, tallies, sink)
+    match job {
+        Job::Make(shape, size, seed, is_summary) => {
+            let input = make(alloc, *shape, *size, *seed)?;
+            show_made(alloc, &input, *is_summary, form, tallies, sink)
         }
-        Ok(job) => read_and_answer(alloc, &job, source, tallies, sink),
-        Err(WordsFault::Usage(word)) => Err(Stop::Usage(word)),
-        Err(WordsFault::OutOfMemory) => Err(Stop::OutOfMemory),
+        _ => read_and_answer(alloc, job, form, source, tallies, sink),
     }
 }
 
-/// Reads the input, and does a job on it.
+/// Reads the input, and does a job on the text that it gives in a form.
 fn read_and_answer<S: Source, K: Sink>(
     alloc: Global,
     job: &Job,
+    form: Form,
     source: &mut S,
     tallies: &mut Vec<Box<dyn Tally>>,
     sink: &mut K,
 ) -> Result<Status, Stop>
     requires reads { reads_input (job_of job.now) ≡ true }
     requires bounds { IsInBounds (job_of job.now) }
+    requires form { IsFormFor (job_of job.now) form }
     ensures served { IfOk result (λ status. Serves (map (λ t. shown_as (kind t) (shown t))
-        tallies.old.items) (job_of job.now) (S.left source.old) (S.left source.new)
+        tallies.old.items) (job_of job.now) form (S.left source.old) (S.left source.new)
         (K.held sink.old) (K.held sink.new) (K.faults sink.old) (K.faults sink.new) status) }
     ensures stop { IfErr result (λ stop. StopsBy (λ _. ⊥)
-        (IsRefusalFor (job_of job.now) (S.left source.old) (S.left source.new))
+        (IsRefusal (job_of job.now) form (S.left source.old) (S.left source.new))
         (Rose (S.faults source.old) (S.faults source.new)) stop) }
     ensures unwritten { OnErr result (sink.new ≡ sink.old) }
     ensures source_later { S.faults source.old ≤ S.faults source.new }
     ensures sink_later { K.faults sink.old ≤ K.faults sink.new }
 {
     let bytes = read_all(alloc, source)?;
-    answer(alloc, job, bytes, tallies, sink)
+    let text = text_given(alloc, form, bytes)?;
+    answer(alloc, job, form, text, tallies, sink)
 }
 
-/// Does a job on an input that was read whole.
+/// Does a job on the text that an input gives.
 fn answer<K: Sink>(
     alloc: Global,
     job: &Job,
+    form: Form,
     bytes: Vec<u8>,
     tallies: &mut Vec<Box<dyn Tally>>,
     sink: &mut K,
@@ -179,8 +221,9 @@ fn answer<K: Sink>(
     requires reads { reads_input (job_of job.now) ≡ true }
     requires short { length bytes.items ≤ most_bytes }
     requires bounds { IsInBounds (job_of job.now) }
-    ensures wrote { IfOk result (λ status. Wrote (IsAnswer (map (λ t. shown_as (kind t) (shown t))
-        tallies.old.items) (job_of job.now) bytes.items)
+    requires form { IsFormFor (job_of job.now) form }
+    ensures wrote { IfOk result (λ status. Wrote form (IsAnswer (map
+        (λ t. shown_as (kind t) (shown t)) tallies.old.items) (job_of job.now) bytes.items)
         (K.held sink.old) (K.held sink.new) (K.faults sink.old) (K.faults sink.new) status) }
     ensures stop { IfErr result (λ stop. StopsBy (λ _. ⊥) (IsRefused (job_of job.now) bytes.items) ⊥
         stop) }
@@ -189,15 +232,15 @@ fn answer<K: Sink>(
 {
     let read = read_for(alloc, job, &bytes)?;
     if judges_answer(job) {
-        return check_answer(alloc, &bytes, &read, sink);
+        return check_answer(alloc, &bytes, &read, form, sink);
     }
-    perform(alloc, job, bytes, &read, tallies, sink)
+    perform(alloc, job, bytes, &read, form, tallies, sink)
 }
 
 /// Says why there is no answer.
-fn say_stop<K: Sink>(alloc: Global, sink: &mut K, stop: Stop) -> Status
+fn say_stop<K: Sink>(alloc: Global, form: Form, sink: &mut K, stop: Stop) -> Status
     requires { IsPlainStop stop }
-    ensures says { SaysStop stop (K.held sink.old) (K.held sink.new) (K.faults sink.old)
+    ensures says { SaysStop form stop (K.held sink.old) (K.held sink.new) (K.faults sink.old)
         (K.faults sink.new) result }
     ensures later { K.faults sink.old ≤ K.faults sink.new }
 {
@@ -207,7 +250,7 @@ fn say_stop<K: Sink>(alloc: Global, sink: &mut K, stop: Stop) -> Status
                 word,
                 is_said: false,
             };
-            write(alloc, sink, Status::Usage(word), lines)
+            write(alloc, sink, form, Status::Usage(word), lines)
         }
         Stop::Refused(kind, at) => {
             let lines = RefusedLine {
@@ -216,18 +259,24 @@ fn say_stop<K: Sink>(alloc: Global, sink: &mut K, stop: Stop) -> Status
                 detail: no_detail(alloc),
                 is_said: false,
             };
-            write(alloc, sink, Status::Refused(kind, at), lines)
+            write(alloc, sink, form, Status::Refused(kind, at), lines)
         }
-        Stop::Unstable(at, detail) => say_unstable(alloc, sink, at, detail),
+        Stop::Unstable(at, detail) => say_unstable(alloc, form, sink, at, detail),
         Stop::ReadFault => Status::ReadFault,
         Stop::OutOfMemory => Status::OutOfMemory,
     }
 }
 
 /// Says that a given matching isn't stable, with the fields that tell why.
-fn say_unstable<K: Sink>(alloc: Global, sink: &mut K, at: u32, detail: Vec<Vec<u8>>) -> Status
+fn say_unstable<K: Sink>(
+    alloc: Global,
+    form: Form,
+    sink: &mut K,
+    at: u32,
+    detail: Vec<Vec<u8>>,
+) -> Status
     requires { are_plain (refusal_fields detail) ≡ true }
-    ensures says { Wrote (With (Status.Refused RefusalKind.NotStable at)
+    ensures says { Wrote form (With (Status.Refused RefusalKind.NotStable at)
         (λ lines. lines ≡ refused_line (with_detail RefusalKind.NotStable at
         (refusal_fields detail)) ∷ []))
         (K.held sink.old) (K.held sink.new) (K.faults sink.old) (K.faults sink.new) result }
@@ -240,5 +289,5 @@ fn say_unstable<K: Sink>(alloc: Global, sink: &mut K, at: u32, detail: Vec<Vec<u
         detail,
         is_said: false,
     };
-    write(alloc, sink, Status::Refused(kind, at), lines)
+    write(alloc, sink, form, Status::Refused(kind, at), lines)
 }

@@ -14,19 +14,46 @@ use Rattle.sm_words.specs.declared.operands.Command.{Command}
 use Rattle.sm_words.specs.declared.operands.Command.TheVariants as command
 use Rattle.sm_words.specs.declared.operands.Operand.{Operand}
 use Rattle.sm_words.specs.declared.operands.Operand.TheVariants as operand
+use Rattle.sm_words.specs.declared.jobs.Form.{Form}
 use Rattle.sm_words.specs.declared.jobs.Job.{Job}
 use Rattle.sm_words.specs.declared.jobs.WordsFault.{WordsFault}
-use Rattle.sm_words.specs.Jobs.{JobData, Weight, Make, job_of, least_limit, IsLimit, least_size, greatest_size, most_seed, IsInBounds}
-use Rattle.sm_words.specs.Tables.{operands_of, sides, measures, shapes, shows, ValueData, OfSide, OfAfter, OfLimit, OfBy, OfShape, OfSize, OfSeed, OfShow, limit_named, size_named, seed_named, value_named}
+use Rattle.sm_words.specs.Jobs.{JobData, Weight, Make, job_of, asked_of, least_limit, IsLimit, least_size, greatest_size, most_seed, IsInBounds}
+use Rattle.sm_words.specs.Tables.{operands_of, sides, measures, shapes, shows, forms, ValueData, OfSide, OfAfter, OfLimit, OfBy, OfShape, OfSize, OfSeed, OfShow, OfForm, limit_named, size_named, seed_named, value_named}
 use Rattle.sm_words.specs.Operands.{GivenData, nothing_given, once, with_value, with_word, has_name, name_in, text_in, value_in}
-use Rattle.sm_words.specs.Words.{read_operands, job_for, or_missing, is_too_large, word_of_size, or_too_large, asked, usual_limit, usual_show}
+use Rattle.sm_words.specs.Words.{read_operands, job_for, or_missing, is_too_large, word_of_size, or_too_large, asked, usual_limit, usual_show, usual_form}
 
 -- what holds of an option that was mapped, and of one that holds a known value
-mapped_to : {X Y : Type 0} (P : Y → Type 0) (f : X → Y) (o : Option X) (y : Y) → ((x : X) → o ≡ Some x → P (f x)) → option_map f o ≡ Some y → P y
+pub mapped_to : {X Y : Type 0} (P : Y → Type 0) (f : X → Y) (o : Option X) (y : Y) → ((x : X) → o ≡ Some x → P (f x)) → option_map f o ≡ Some y → P y
 mapped_to P f o y h e = let m = mapped f o y e in subst P m.gives (h m.from m.is)
 
 held_by : {X : Type 0} (P : X → Type 0) (o : Option X) (x : X) → IfSome o P → o ≡ Some x → P x
 held_by P o x h e = subst (λ o. IfSome o P) e h
+
+-- what a command asks for comes from what its words give
+pub record AskedFrom (c : Command) (operands : List (List ℕ)) (found : JobData × Form) : Type 0 where
+  pub given : GivenData
+  pub read : read_operands c 2 nothing_given operands ≡ Ok given
+  pub job : job_for c given ≡ Some found.0
+  pub form : found.1 ≡ unwrap_or given.form usual_form
+  pub small : is_too_large found.0 ≡ false
+
+pub asked_from : (c : Command) (operands : List (List ℕ)) (found : JobData × Form) → asked c operands ≡ Ok found → AskedFrom c operands found
+asked_from c operands found e = by_given (read_operands c 2 nothing_given operands) refl e where
+  by_size : (g : GivenData) → read_operands c 2 nothing_given operands ≡ Ok g → (j : JobData) → job_for c g ≡ Some j → (large : Bool) → is_too_large j ≡ large
+      → cond large (Err (word_of_size operands)) (Ok (j, unwrap_or g.form usual_form)) ≡ Ok found → AskedFrom c operands found
+  by_size g r j i true is e = absurd cc
+  by_size g r j i false is e =
+      let same : (j, unwrap_or g.form usual_form) ≡ found = cc in
+      subst (λ (f : JobData × Form). AskedFrom c operands f) same (record { given = g; read = r; job = i; form = refl; small = is })
+
+  by_job : (g : GivenData) (o : Option JobData) → read_operands c 2 nothing_given operands ≡ Ok g → job_for c g ≡ o
+      → or_too_large operands (option_map_or (λ job. Ok (job, unwrap_or g.form usual_form)) o (Err (length operands + 2))) ≡ Ok found → AskedFrom c operands found
+  by_job g None r is e = absurd cc
+  by_job g (Some j) r is e = by_size g r j is (is_too_large j) refl e
+
+  by_given : (r : Result GivenData ℕ) → read_operands c 2 nothing_given operands ≡ r → or_too_large operands (or_missing c (length operands + 2) r) ≡ Ok found → AskedFrom c operands found
+  by_given (Err word) is e = absurd cc
+  by_given (Ok g) is e = by_job g (job_for c g) is refl e
 
 -- The bounds of values, and of what words give. The size of a value isn't compared with its shape's yet.
 abbrev IsSomeSize : ℕ → Type 0
@@ -44,6 +71,7 @@ IsValueInBounds (OfShape shape) = Unit {0}
 IsValueInBounds (OfSize size) = IsSomeSize size
 IsValueInBounds (OfSeed seed) = IsSeed seed
 IsValueInBounds (OfShow summary) = Unit {0}
+IsValueInBounds (OfForm form) = Unit {0}
 
 abbrev IsGivenInBounds : GivenData → Type 0
 IsGivenInBounds g = IfSome g.limit IsLimit × IfSome g.size IsSomeSize × IfSome g.seed IsSeed
@@ -66,6 +94,7 @@ value_in_bounds operand.Shape text v e = mapped_to IsValueInBounds OfShape (look
 value_in_bounds operand.Size text v e = mapped_to IsValueInBounds OfSize (size_named text) v (size_named_in text) e
 value_in_bounds operand.Seed text v e = mapped_to IsValueInBounds OfSeed (seed_named text) v (seed_named_in text) e
 value_in_bounds operand.Show text v e = mapped_to IsValueInBounds OfShow (look_up shows text) v (λ x is. tt) e
+value_in_bounds operand.Form text v e = mapped_to IsValueInBounds OfForm (look_up forms text) v (λ x is. tt) e
 
 -- one value more
 once_keeps : {X : Type 0} (P : X → Type 0) (old : Option X) (value : X) (slot : Option X) → P value → once old value ≡ Some slot → IfSome slot P
@@ -84,6 +113,7 @@ value_kept (OfSize v) g h in_v in_g e =
 value_kept (OfSeed v) g h in_v in_g e =
     mapped_to IsGivenInBounds (λ s. record g { seed = s }) (once g.seed v) h (λ slot is. (in_g.0, in_g.1, once_keeps IsSeed g.seed v slot in_v is)) e
 value_kept (OfShow v) g h in_v in_g e = mapped_to IsGivenInBounds (λ s. record g { show = s }) (once g.show v) h (λ slot is. in_g) e
+value_kept (OfForm v) g h in_v in_g e = mapped_to IsGivenInBounds (λ s. record g { form = s }) (once g.form v) h (λ slot is. in_g) e
 
 -- one word more
 word_kept : (c : Command) (word : List ℕ) (g h : GivenData) → IsGivenInBounds g → with_word c word g ≡ Some h → IsGivenInBounds h
@@ -136,22 +166,14 @@ job_in_bounds command.Make g job b e small = making_in_bounds g job b e small
 job_in_bounds command.Rest g job b e small = subst IsInBounds (same_Some _ _ e) tt
 job_in_bounds command.Median g job b e small = subst IsInBounds (same_Some _ _ e) tt
 job_in_bounds command.Route g job b e small = subst IsInBounds (same_Some _ _ e) tt
+job_in_bounds command.Export g job b e small = subst IsInBounds (same_Some _ _ e) tt
 
-asked_in_bounds : (c : Command) (operands : List (List ℕ)) (job : JobData) → asked c operands ≡ Ok job → IsInBounds job
-asked_in_bounds c operands job e = by_given (read_operands c 2 nothing_given operands) refl e where
-  by_size : (j : JobData) (large : Bool) → is_too_large j ≡ large → (is_too_large j ≡ false → IsInBounds j) → cond large (Err (word_of_size operands)) (Ok j) ≡ Ok job → IsInBounds job
-  by_size j true is h e = absurd cc
-  by_size j false is h e = let same : j ≡ job = cc in subst IsInBounds same (h is)
-
-  by_job : (g : GivenData) (o : Option JobData) → IsGivenInBounds g → job_for c g ≡ o → or_too_large operands (option_map_or Ok o (Err (length operands + 2))) ≡ Ok job → IsInBounds job
-  by_job g None b is e = absurd cc
-  by_job g (Some j) b is e = by_size j (is_too_large j) refl (job_in_bounds c g j b is) e
-
-  by_given : (r : Result GivenData ℕ) → read_operands c 2 nothing_given operands ≡ r → or_too_large operands (or_missing c (length operands + 2) r) ≡ Ok job → IsInBounds job
-  by_given (Err word) is e = absurd cc
-  by_given (Ok g) is e = by_job g (job_for c g) (words_kept c 2 operands nothing_given g (tt, tt, tt) is) refl e
+asked_in_bounds : (c : Command) (operands : List (List ℕ)) (found : JobData × Form) → asked c operands ≡ Ok found → IsInBounds found.0
+asked_in_bounds c operands found e =
+    let from = asked_from c operands found e in
+    job_in_bounds c from.given found.0 (words_kept c 2 operands nothing_given from.given (tt, tt, tt) from.read) from.job from.small
 
 -- and of a job that was read
-pub read_in_bounds : (c : Command) (operands : List (List ℕ)) (r : Result Job WordsFault) → IfOk r (λ job. asked c operands ≡ Ok (job_of job)) → IfOk r (λ job. IsInBounds (job_of job))
-read_in_bounds c operands (Ok job) e = asked_in_bounds c operands (job_of job) e
+pub read_in_bounds : (c : Command) (operands : List (List ℕ)) (r : Result (Job × Form) WordsFault) → IfOk r (λ found. asked c operands ≡ Ok (asked_of found)) → IfOk r (λ found. IsInBounds (job_of found.0))
+read_in_bounds c operands (Ok found) e = asked_in_bounds c operands (asked_of found) e
 read_in_bounds c operands (Err fault) e = tt

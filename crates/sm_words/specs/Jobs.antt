@@ -1,11 +1,13 @@
 -- What words may ask for, as plain data.
-use Rattle.std.specs.Prelude.{◌≤◌, ◌<◌, ◌^◌, ℕ, Bool, List as Vector, Option}
+use Rattle.std.specs.Prelude.{◌≡◌, ◌≤◌, ◌<◌, ◌^◌, ℕ, Bool, true, false, List as Vector, Option}
 use Rattle.std.specs.Option.{option_map}
 use Rattle.sm_text.specs.Limits.{most_limit}
 use Rattle.sm_instance.specs.declared.kinds.Measure.{Measure}
 use Rattle.sm_instance.specs.declared.kinds.Side.{Side}
 use Rattle.sm_make.specs.declared.shape.Shape.{Shape}
 use Rattle.sm_make.specs.Made.{most_size}
+use Rattle.sm_words.specs.declared.jobs.Form.{Form}
+use Rattle.sm_words.specs.declared.jobs.Form.TheVariants.{Text}
 use Rattle.sm_words.specs.declared.jobs.Job.{Job}
 use Rattle.sm_words.specs.declared.jobs.Job.TheVariants as job
 
@@ -26,6 +28,7 @@ pub data JobData : Type 0 where
   Rest : JobData
   Median : JobData
   Route : JobData
+  Export : JobData
 
 -- a job as plain data
 abbrev pub job_of : Job → JobData
@@ -44,6 +47,34 @@ job_of (job.Make shape size seed summary) = Make shape size seed summary
 job_of job.Rest = Rest
 job_of job.Median = Median
 job_of job.Route = Route
+job_of job.Export = Export
+
+-- a job with its form, as plain data
+abbrev pub asked_of : Job × Form → JobData × Form
+asked_of asked = (job_of asked.0, asked.1)
+
+-- the jobs whose words may name a form
+abbrev pub takes_form : JobData → Bool
+takes_form (Solve side) = true
+takes_form Reduced = true
+takes_form Rotations = true
+takes_form (List after limit) = true
+takes_form Pairs = true
+takes_form Regret = true
+takes_form (Weight by) = true
+takes_form Meet = false
+takes_form Join = false
+takes_form (Survey limit) = true
+takes_form Check = false
+takes_form (Make shape size seed summary) = false
+takes_form Rest = false
+takes_form Median = false
+takes_form Route = false
+takes_form Export = false
+
+-- the form is `Text` for each other job
+abbrev pub IsFormFor : JobData → Form → Type 0
+IsFormFor job form = takes_form job ≡ false → form ≡ Text
 
 -- a limit lies in its bounds
 abbrev pub least_limit : ℕ
@@ -82,3 +113,4 @@ IsInBounds (Make shape size seed summary) = (least_size ≤ size) × (size ≤ m
 IsInBounds Rest = Unit {0}
 IsInBounds Median = Unit {0}
 IsInBounds Route = Unit {0}
+IsInBounds Export = Unit {0}

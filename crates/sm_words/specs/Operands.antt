@@ -6,9 +6,10 @@ use Rattle.sm_instance.specs.declared.kinds.Measure.{Measure}
 use Rattle.sm_instance.specs.declared.kinds.Side.{Side}
 use Rattle.sm_make.specs.declared.shape.Shape.{Shape}
 use Rattle.sm_report.specs.Meanings.{look_up}
+use Rattle.sm_words.specs.declared.jobs.Form.{Form}
 use Rattle.sm_words.specs.declared.operands.Command.{Command}
 use Rattle.sm_words.specs.declared.operands.Given.{Given}
-use Rattle.sm_words.specs.Tables.{operands_of, ValueData, OfSide, OfAfter, OfLimit, OfBy, OfShape, OfSize, OfSeed, OfShow, value_named}
+use Rattle.sm_words.specs.Tables.{operands_of, ValueData, OfSide, OfAfter, OfLimit, OfBy, OfShape, OfSize, OfSeed, OfShow, OfForm, value_named}
 
 -- the operands that were given: for each its value, if it stands
 pub record GivenData : Type 0 where
@@ -20,6 +21,7 @@ pub record GivenData : Type 0 where
   pub size : Option ℕ
   pub seed : Option ℕ
   pub show : Option Bool
+  pub form : Option Form
 
 -- the operands that were given, as plain data
 abbrev pub given_of : Given → GivenData
@@ -32,6 +34,7 @@ given_of g = record {
   size = g.size;
   seed = g.seed;
   show = g.show;
+  form = g.form;
 }
 
 -- no operand is given yet
@@ -45,6 +48,7 @@ nothing_given = record {
   size = None;
   seed = None;
   show = None;
+  form = None;
 }
 
 -- each operand stands at most once
@@ -62,6 +66,7 @@ with_value (OfShape v) g = option_map (λ s. record g { shape = s }) (once g.sha
 with_value (OfSize v) g = option_map (λ s. record g { size = s }) (once g.size v)
 with_value (OfSeed v) g = option_map (λ s. record g { seed = s }) (once g.seed v)
 with_value (OfShow v) g = option_map (λ s. record g { show = s }) (once g.show v)
+with_value (OfForm v) g = option_map (λ s. record g { form = s }) (once g.form v)
 
 -- a word is a name, `=` and a value, which is all behind the first `=`
 abbrev pub is_equals : ℕ → Bool

@@ -11,6 +11,8 @@ use Rattle.sm_make.specs.declared.shape.Shape.TheVariants.{Copies, Cycle, Random
 use Rattle.sm_report.specs.Meanings.{look_up, number_within}
 use Rattle.sm_report.specs.Vectors.{vector_in}
 use Rattle.sm_words.specs.Jobs.{least_limit, least_size, greatest_size, most_seed}
+use Rattle.sm_words.specs.declared.jobs.Form.{Form}
+use Rattle.sm_words.specs.declared.jobs.Form.TheVariants.{Text, Json}
 use Rattle.sm_words.specs.declared.operands.Command.{Command}
 use Rattle.sm_words.specs.declared.operands.Command.TheVariants as command
 use Rattle.sm_words.specs.declared.operands.Operand.{Operand}
@@ -36,20 +38,21 @@ commands =
     ∷ (codes "rest", command.Rest)
     ∷ (codes "median", command.Median)
     ∷ (codes "route", command.Route)
+    ∷ (codes "export", command.Export)
     ∷ []
 
 -- the operands of a command by their names
 abbrev pub operands_of : Command → List (List ℕ × Operand)
-operands_of command.Solve = (codes "side", operand.Side) ∷ []
-operands_of command.Reduced = []
-operands_of command.Rotations = []
-operands_of command.List = (codes "after", operand.After) ∷ (codes "limit", operand.Limit) ∷ []
-operands_of command.Pairs = []
-operands_of command.Regret = []
-operands_of command.Weight = (codes "by", operand.By) ∷ []
+operands_of command.Solve = (codes "side", operand.Side) ∷ (codes "form", operand.Form) ∷ []
+operands_of command.Reduced = (codes "form", operand.Form) ∷ []
+operands_of command.Rotations = (codes "form", operand.Form) ∷ []
+operands_of command.List = (codes "after", operand.After) ∷ (codes "limit", operand.Limit) ∷ (codes "form", operand.Form) ∷ []
+operands_of command.Pairs = (codes "form", operand.Form) ∷ []
+operands_of command.Regret = (codes "form", operand.Form) ∷ []
+operands_of command.Weight = (codes "by", operand.By) ∷ (codes "form", operand.Form) ∷ []
 operands_of command.Meet = []
 operands_of command.Join = []
-operands_of command.Survey = (codes "limit", operand.Limit) ∷ []
+operands_of command.Survey = (codes "limit", operand.Limit) ∷ (codes "form", operand.Form) ∷ []
 operands_of command.Check = []
 operands_of command.Make =
     (codes "shape", operand.Shape)
@@ -60,6 +63,7 @@ operands_of command.Make =
 operands_of command.Rest = []
 operands_of command.Median = []
 operands_of command.Route = []
+operands_of command.Export = []
 
 -- the sides by their names
 abbrev pub sides : List (List ℕ × Side)
@@ -83,6 +87,10 @@ shapes =
 abbrev pub shows : List (List ℕ × Bool)
 shows = (codes "text", false) ∷ (codes "summary", true) ∷ []
 
+-- how an instance is given and its answer written
+abbrev pub forms : List (List ℕ × Form)
+forms = (codes "text", Text) ∷ (codes "json", Json) ∷ []
+
 -- the value of an operand, as plain data
 pub data ValueData : Type 0 where
   OfSide : Side → ValueData
@@ -93,6 +101,7 @@ pub data ValueData : Type 0 where
   OfSize : ℕ → ValueData
   OfSeed : ℕ → ValueData
   OfShow : Bool → ValueData
+  OfForm : Form → ValueData
 
 -- a value as plain data
 abbrev pub value_of : Value → ValueData
@@ -104,6 +113,7 @@ value_of (value.OfShape shape) = OfShape shape
 value_of (value.OfSize size) = OfSize size
 value_of (value.OfSeed seed) = OfSeed seed
 value_of (value.OfShow summary) = OfShow summary
+value_of (value.OfForm form) = OfForm form
 
 -- the numbers that a text may spell
 abbrev pub limit_named : List ℕ → Option ℕ
@@ -127,3 +137,4 @@ value_named operand.Shape text = option_map OfShape (look_up shapes text)
 value_named operand.Size text = option_map OfSize (size_named text)
 value_named operand.Seed text = option_map OfSeed (seed_named text)
 value_named operand.Show text = option_map OfShow (look_up shows text)
+value_named operand.Form text = option_map OfForm (look_up forms text)

@@ -8,9 +8,11 @@ use Rattle.sm_make.specs.Made.{most_size}
 use Rattle.sm_report.specs.Meanings.{look_up}
 use Rattle.sm_words.specs.declared.operands.Command.{Command}
 use Rattle.sm_words.specs.declared.operands.Command.TheVariants as command
+use Rattle.sm_words.specs.declared.jobs.Form.{Form}
+use Rattle.sm_words.specs.declared.jobs.Form.TheVariants.{Text}
 use Rattle.sm_words.specs.declared.jobs.WordsFault.{WordsFault}
 use Rattle.sm_words.specs.declared.jobs.WordsFault.TheVariants.{Usage, OutOfMemory}
-use Rattle.sm_words.specs.Jobs.{JobData, Solve, Reduced, Rotations, Pairs, Regret, Weight, Meet, Join, Survey, Check, Make, Rest, Median, Route}
+use Rattle.sm_words.specs.Jobs.{JobData, Solve, Reduced, Rotations, Pairs, Regret, Weight, Meet, Join, Survey, Check, Make, Rest, Median, Route, Export}
 use Rattle.sm_words.specs.Tables.{commands}
 use Rattle.sm_words.specs.Operands.{GivenData, nothing_given, has_name, name_in, with_word}
 
@@ -33,6 +35,10 @@ usual_limit = 100
 abbrev pub usual_show : Bool
 usual_show = false
 
+-- the form where none is given
+abbrev pub usual_form : Form
+usual_form = Text
+
 -- Then, where there is no command or a required operand is missing, the word behind the last is faulty.
 abbrev pub job_for : Command → GivenData → Option JobData
 job_for command.Solve g = Some (Solve g.side)
@@ -51,11 +57,12 @@ job_for command.Make g =
 job_for command.Rest g = Some Rest
 job_for command.Median g = Some Median
 job_for command.Route g = Some Route
+job_for command.Export g = Some Export
 
--- the job of the operands that were read, or the word behind the last where a required one is missing
-abbrev pub or_missing : Command → ℕ → Result GivenData ℕ → Result JobData ℕ
+-- the job and the form of the operands that were read, or the word behind the last where a required one is missing
+abbrev pub or_missing : Command → ℕ → Result GivenData ℕ → Result (JobData × Form) ℕ
 or_missing command behind (Err word) = Err word
-or_missing command behind (Ok g) = option_map_or Ok (job_for command g) (Err behind)
+or_missing command behind (Ok g) = option_map_or (λ job. Ok (job, unwrap_or g.form usual_form)) (job_for command g) (Err behind)
 
 -- Last, where the size is too large for the shape, the word that gives the size is faulty.
 abbrev pub is_too_large : JobData → Bool
@@ -70,17 +77,17 @@ gives_size word = has_name word && bytes_eq (name_in word) (codes "size")
 abbrev pub word_of_size : List (List ℕ) → ℕ
 word_of_size operands = position_or_len gives_size operands + 2
 
--- the job, or the word of the size where this is too large for the shape
-abbrev pub or_too_large : List (List ℕ) → Result JobData ℕ → Result JobData ℕ
+-- the job and the form, or the word of the size where this is too large for the shape
+abbrev pub or_too_large : List (List ℕ) → Result (JobData × Form) ℕ → Result (JobData × Form) ℕ
 or_too_large operands (Err word) = Err word
-or_too_large operands (Ok job) = if is_too_large job then Err (word_of_size operands) else Ok job
+or_too_large operands (Ok found) = if is_too_large found.0 then Err (word_of_size operands) else Ok found
 
--- what a command asks for with the words behind it
-abbrev pub asked : Command → List (List ℕ) → Result JobData ℕ
+-- what a command asks for with the words behind it, and in which form
+abbrev pub asked : Command → List (List ℕ) → Result (JobData × Form) ℕ
 asked command operands = or_too_large operands (or_missing command (length operands + 2) (read_operands command 2 nothing_given operands))
 
--- what words ask for, or the number of the faulty word, counted from 1
-abbrev pub words_meaning : List (List ℕ) → Result JobData ℕ
+-- what words ask for and in which form, or the number of the faulty word, counted from 1
+abbrev pub words_meaning : List (List ℕ) → Result (JobData × Form) ℕ
 words_meaning [] = Err 1
 words_meaning (word ∷ operands) = option_map_or (λ command. asked command operands) (look_up commands word) (Err 1)
 

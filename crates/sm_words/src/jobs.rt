@@ -39,6 +39,17 @@ pub enum Job {
     Median,
     /// The fewest steps from one of two stable matchings that are given to the other.
     Route,
+    /// The instance in JSON.
+    Export,
+}
+
+/// How an instance is given and its answer written.
+#[derive(Clone, Copy, Debug, PartialEq, Eq)]
+pub enum Form {
+    /// As lines of text.
+    Text,
+    /// In JSON.
+    Json,
 }
 
 /// Why words ask for nothing.

@@ -9,5 +9,5 @@ mod jobs;
 mod operands;
 mod reading;
 
-pub use jobs::{Job, WordsFault};
+pub use jobs::{Form, Job, WordsFault};
 pub use reading::{USUAL_LIMIT, read_words};

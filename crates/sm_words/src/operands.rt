@@ -2,9 +2,10 @@
 
 ghost use Rattle.std.specs.Prelude.{◌≡◌, Some, None, IfOk, option_map, if◌then◌else◌};
 ghost use Rattle.sm_report.specs.Meanings.{look_up, number_within};
-ghost use Rattle.sm_words.specs.Tables.{commands, operands_of, sides, measures, shapes, shows, ValueData, value_of, value_named, limit_named, size_named, seed_named};
+ghost use Rattle.sm_words.specs.Tables.{commands, operands_of, sides, measures, shapes, shows, forms, ValueData, value_of, value_named, limit_named, size_named, seed_named};
 ghost use Rattle.sm_words.specs.Operands.{given_of, once, with_value, with_word, nothing_given};
 
+use crate::jobs::Form;
 use sm_instance::{Measure, Side};
 use sm_make::Shape;
 use sm_report::vector;
@@ -37,6 +38,7 @@ pub(crate) enum Command {
     Rest,
     Median,
     Route,
+    Export,
 }
 
 /// An operand.
@@ -50,6 +52,7 @@ pub(crate) enum Operand {
     Size,
     Seed,
     Show,
+    Form,
 }
 
 /// The value of an operand.
@@ -64,6 +67,7 @@ pub(crate) enum Value {
     OfSeed(u64),
     /// Whether the summary is shown.
     OfShow(bool),
+    OfForm(Form),
 }
 
 /// The operands that were given: for each its value, if it stands.
@@ -78,6 +82,7 @@ pub(crate) struct Given {
     pub(crate) seed: Option<u64>,
     /// Whether the summary is shown.
     pub(crate) show: Option<bool>,
+    pub(crate) form: Option<Form>,
 }
 
 /// The command of this name.
@@ -100,6 +105,7 @@ pub(crate) fn command_named(name: &str) -> Option<Command>
         "rest" => Some(Command::Rest),
         "median" => Some(Command::Median),
         "route" => Some(Command::Route),
+        "export" => Some(Command::Export),
         _ => None,
     }
 }
@@ -117,6 +123,7 @@ pub(crate) fn nothing() -> Given
         size: None,
         seed: None,
         show: None,
+        form: None,
     }
 }
 
@@ -149,28 +156,29 @@ fn operand_named(command: Command, name: &str) -> Option<Operand>
     match command {
         Command::Solve => match name {
             "side" => Some(Operand::Side),
+            "form" => Some(Operand::Form),
             _ => None,
         },
-        Command::Reduced => None,
-        Command::Rotations => None,
+        Command::Reduced | Command::Rotations | Command::Pairs | Command::Regret => match name {
+            "form" => Some(Operand::Form),
+            _ => None,
+        },
         Command::List => match name {
             "after" => Some(Operand::After),
             "limit" => Some(Operand::Limit),
+            "form" => Some(Operand::Form),
             _ => None,
         },
-        Command::Pairs => None,
-        Command::Regret => None,
         Command::Weight => match name {
             "by" => Some(Operand::By),
+            "form" => Some(Operand::Form),
             _ => None,
         },
-        Command::Meet => None,
-        Command::Join => None,
         Command::Survey => match name {
             "limit" => Some(Operand::Limit),
+            "form" => Some(Operand::Form),
             _ => None,
         },
-        Command::Check => None,
         Command::Make => match name {
             "shape" => Some(Operand::Shape),
             "size" => Some(Operand::Size),
@@ -178,9 +186,8 @@ fn operand_named(command: Command, name: &str) -> Option<Operand>
             "show" => Some(Operand::Show),
             _ => None,
         },
-        Command::Rest => None,
-        Command::Median => None,
-        Command::Route => None,
+        Command::Meet | Command::Join | Command::Check | Command::Rest => None,
+        Command::Median | Command::Route | Command::Export => None,
     }
 }
 
@@ -197,6 +204,7 @@ fn value_named(alloc: Global, operand: Operand, text: &str) -> Result<Option<Val
         Operand::Size => Ok(size_named(text).map(Value::OfSize)),
         Operand::Seed => Ok(seed_named(text).map(Value::OfSeed)),
         Operand::Show => Ok(show_named(text).map(Value::OfShow)),
+        Operand::Form => Ok(form_named(text).map(Value::OfForm)),
     }
 }
 
@@ -268,6 +276,17 @@ fn show_named(name: &str) -> Option<bool>
     }
 }
 
+/// The form of this name.
+fn form_named(name: &str) -> Option<Form>
+    ensures { result ≡ look_up forms name.now }
+{
+    match name {
+        "text" => Some(Form::Text),
+        "json" => Some(Form::Json),
+        _ => None,
+    }
+}
+
 /// The number that a text spells, from a least to a greatest one.
 fn number_within(text: &str, least: u32, most: u32) -> Option<u32>
     ensures { result ≡ number_within least most text.now }
@@ -293,6 +312,7 @@ fn put(given: &mut Given, value: Value) -> bool
         Value::OfSize(size) => put_once(&mut given.size, size),
         Value::OfSeed(seed) => put_once(&mut given.seed, seed),
         Value::OfShow(summary) => put_once(&mut given.show, summary),
+        Value::OfForm(form) => put_once(&mut given.form, form),
     }
 }
 

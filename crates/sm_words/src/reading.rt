@@ -2,11 +2,11 @@
 
 ghost use Rattle.std.specs.Prelude.{◌≡◌, ◌+◌, length, IfOk, IfErr, Ok, option_map};
 ghost use Rattle.sm_make.specs.Made.{most_size};
-ghost use Rattle.sm_words.specs.Jobs.{job_of, IsInBounds};
+ghost use Rattle.sm_words.specs.Jobs.{job_of, asked_of, IsFormFor, IsInBounds};
 ghost use Rattle.sm_words.specs.Operands.{given_of, nothing_given};
 ghost use Rattle.sm_words.specs.Words.{texts, read_operands, job_for, is_too_large, gives_size, word_of_size, asked, words_meaning, IsFaultBy, IsWordsFault, IsNoMemory};
 
-use crate::jobs::{Job, WordsFault};
+use crate::jobs::{Form, Job, WordsFault};
 use crate::operands::{Command, GREATEST_SIZE, Given, command_named, nothing, take_word};
 use sm_make::Shape;
 use std::alloc::Global;
@@ -20,18 +20,23 @@ pub const USUAL_LIMIT: u32 = 100;
 /// The text of a made instance is shown where nothing is said.
 const USUAL_SHOW: bool = false;
 
+/// The form where none is given.
+const USUAL_FORM: Form = Form::Text;
+
 /// The greatest size of a shape that isn't copies.
 const MOST_SIZE: u32 = 512;
 
-/// What the words ask for, which are those of the command line behind the program's name.
+/// What the words ask for, which are those of the command line behind the program's name, and in which form.
 ///
 /// The first word is a command. Each later word is `name=value`: an operand of the command and its value, which is all
 /// behind the first `=`. Each operand stands at most once, and they stand in any order. `solve` may have
 /// `side=proposers` or `side=reviewers`; `list` may have `after=` with the numbers of a vector, one comma between each two
 /// or `-` for none, and `limit=` with a number from 1 to 1,000,000, which is 100 where none is given; `survey` may have
-/// `limit=` alike; `weight` has `by=ranks` or `by=given`; `reduced`, `rotations`, `pairs`, `regret`, `meet`, `join`, `check`, `rest`,
-/// `median` and `route` have no operands. `make` has `shape=copies`, `cycle`, `random`, `hospitals` or `rooms`, `size=` with a number from 1 to 2,048,
-/// which has to be at most 512 where the shape isn't `copies`, and `seed=` with a number below 2^64, and may have `show=text`
+/// `limit=` alike; `weight` has `by=ranks` or `by=given`. These four, and `reduced`, `rotations`, `pairs` and `regret`, may
+/// also have `form=text` or `form=json`; the form is `Text` where none is given, and for each other command. `meet`, `join`,
+/// `check`, `rest`, `median`, `route` and `export` have no operands. `make` has `shape=copies`, `cycle`, `random`, `hospitals`
+/// or `rooms`, `size=` with a number from 1 to 2,048, which has to be at most 512 where the shape isn't `copies`, and `seed=`
+/// with a number below 2^64, and may have `show=text`
 /// or `show=summary`, which is `text` where none is given. Takes time linear in the words, and memory for the vector alone.
 ///
 /// # Errors
@@ -40,9 +45,10 @@ const MOST_SIZE: u32 = 512;
 /// what may stand there is faulty; where none is and a word is missing, it is the one behind the last; and where none is
 /// missing and the size is too large for the shape, it is the word of the size. `OutOfMemory` where there was no memory for
 /// a vector, or where there are as many words as have no number.
-pub fn read_words(alloc: Global, words: &[String]) -> Result<Job, WordsFault>
-    ensures job { IfOk result (λ job. words_meaning (texts words.now) ≡ Ok (job_of job)) }
-    ensures bounds { IfOk result (λ job. IsInBounds (job_of job)) }
+pub fn read_words(alloc: Global, words: &[String]) -> Result<(Job, Form), WordsFault>
+    ensures job { IfOk result (λ asked. words_meaning (texts words.now) ≡ Ok (asked_of asked)) }
+    ensures bounds { IfOk result (λ asked. IsInBounds (job_of asked.0)) }
+    ensures form { IfOk result (λ asked. IsFormFor (job_of asked.0) asked.1) }
     ensures fault { IfErr result (λ fault. IsWordsFault (texts words.now) fault) }
 {
     match words {
@@ -55,18 +61,23 @@ pub fn read_words(alloc: Global, words: &[String]) -> Result<Job, WordsFault>
 }
 
 /// What a command asks for with its operands.
-fn command_job(alloc: Global, command: Command, operands: &[String]) -> Result<Job, WordsFault>
-    ensures job { IfOk result (λ job. asked command (texts operands.now) ≡ Ok (job_of job)) }
+fn command_job(
+    alloc: Global,
+    command: Command,
+    operands: &[String],
+) -> Result<(Job, Form), WordsFault>
+    ensures job { IfOk result (λ found. asked command (texts operands.now) ≡ Ok (asked_of found)) }
     ensures fault { IfErr result (λ fault. IsFaultBy (asked command (texts operands.now)) fault) }
 {
     let given = operands_in(alloc, command, operands)?;
+    let form = given.form.unwrap_or(USUAL_FORM);
     let Some(job) = job_for(command, given) else {
         return Err(WordsFault::Usage(number_behind(operands)?));
     };
     if is_too_large(&job) {
         return Err(WordsFault::Usage(word_of_size(operands)?));
     }
-    Ok(job)
+    Ok((job, form))
 }
 
 /// The operands that words give, the first of which has the number 2.
@@ -107,6 +118,7 @@ fn job_for(command: Command, given: Given) -> Option<Job>
         Command::Rest => Some(Job::Rest),
         Command::Median => Some(Job::Median),
         Command::Route => Some(Job::Route),
+        Command::Export => Some(Job::Export),
     }
 }
 

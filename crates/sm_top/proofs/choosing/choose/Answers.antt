@@ -4,4 +4,4 @@ use Rattle.sm_top.proofs.WritingLemmas.{wrote_given}
 use Rattle.sm_top.proofs.choosing.choose.Goals as goal
 
 pub returns-clause-wrote : goal.returns-clause-wrote
-returns-clause-wrote g c = wrote_given Done _ _ _ _ _ _ _ (c.chosen_lines-lines.ensures.right (texts_from c.args.bytes.now c.args.read.now.rest) c.in_ok-given.ensures.given) c.write.ensures.wrote
+returns-clause-wrote g c = wrote_given Done _ _ _ _ _ _ _ (c.chosen_lines-lines.ensures.right (texts_from c.args.bytes.now c.args.given.now.read.now.rest) c.in_ok-two.ensures.given) c.write.ensures.wrote

@@ -32,7 +32,7 @@ returns-in-Two-clause-wrote g c =
     let job = job_of c.args.job.now in
     let bytes = c.args.bytes.items in
     let ok = two_accepted job bytes (read_of c.args.read.now) c.in-Two.instance c.requires.reads (sym c.takes_rooms_alone.ensures ∙ c.if-takes_rooms_alone.false) c.in-Two.is given.instance.two_sided c.requires.accepted given.none in
-    c.perform_on_two.ensures.wrote bytes (λ takes. c.deref.ensures.value ∙ c.text_for-behind.ensures takes) (rw given.read ok)
+    rw (← given.form) (c.perform_on_two.ensures.wrote bytes (λ takes. c.deref.ensures.value ∙ c.text_for-behind.ensures takes) (rw given.read ok))
 
 pub returns-in-Two-clause-stop : goal.returns-in-Two-clause-stop
 returns-in-Two-clause-stop g c =
@@ -49,3 +49,6 @@ returns-clause-wrote g c = c.perform_on_persons.ensures.wrote c.args.bytes.items
 
 pub returns-clause-stop : goal.returns-clause-stop
 returns-clause-stop g c = c.perform_on_persons.ensures.stop c.args.bytes.items c.requires.accepted
+
+pub perform_on_two-requires-clause-form : goal.perform_on_two-requires-clause-form
+perform_on_two-requires-clause-form g c = rw c.in_ok-given-in-Two.ensures.form c.requires.form

@@ -3,14 +3,14 @@ use Rattle.std.proofs.lemmas.Result.{IfOk-weaker}
 use Rattle.sm_instance.specs.declared.inputs.Input.{Input}
 use Rattle.sm_instance.specs.declared.inputs.Input.TheVariants.{Room}
 use Rattle.sm_reader.specs.InstanceText.{read_of}
-use Rattle.sm_words.specs.Jobs.{JobData, job_of, Solve, Rest}
+use Rattle.sm_words.specs.Jobs.{JobData, job_of, Solve, Rest, Export}
 use Rattle.sm_answer_vectors.specs.VectorAnswer.{cursor_in}
 use Rattle.sm_answer_roommates.specs.RoomListAnswer.{IsRoomListAnswer}
 use Rattle.sm_top.specs.Outcome.{IsSolved, IsAnyList, IsBadCursor, IsRefused, by_job}
 use Rattle.sm_answer_roommates.specs.RestAnswer.{IsRest}
 use Rattle.sm_top.specs.declared.status.Status.TheVariants.{Done}
 use Rattle.sm_top.proofs.RunLemmas.{wrote_room, wrote_as, err_stops_for}
-use Rattle.sm_top.proofs.KindLemmas.{room_accepted, answer_over}
+use Rattle.sm_top.proofs.KindLemmas.{room_accepted, answer_over, wrote_export}
 use Rattle.sm_top.proofs.performing.perform_on_persons.Goals as goal
 
 pub returns-in_ok-solve_roommates-in-Solve-None-clause-wrote : goal.returns-in_ok-solve_roommates-in-Solve-None-clause-wrote
@@ -50,3 +50,11 @@ returns-in-List-clause-stop g c = λ text accepted.
     let ok = room_accepted job text read persons c.requires.room judged refl in
     rw c.in-List.is (err_stops_for (λ word. ⊥) (λ word. ⊥) (IsBadCursor after (Room persons)) (IsRefused job text) ⊥ ⊥ c.list_persons.result (λ word h. h)
     (λ refusal bad. by_job read ok (subst (λ (input : Input). IsBadCursor after input refusal) (sym c.requires.room) bad)) (λ h. h) c.list_persons.ensures.stop)
+
+pub returns-in_ok-export-in-Export-clause-wrote : goal.returns-in_ok-export-in-Export-clause-wrote
+returns-in_ok-export-in-Export-clause-wrote g c = λ text tallies accepted.
+    let read = read_of c.args.read.now in
+    let judged = rw c.in-Export.is at accepted in
+    let formed = rw c.in-Export.is at c.requires.form in
+    let ok = room_accepted Export text read c.args.persons.now c.requires.room judged refl in
+    rw c.in-Export.is (wrote_export tallies text read c.args.form _ _ _ _ _ formed ok c.in_ok-export-in-Export.ensures.wrote)

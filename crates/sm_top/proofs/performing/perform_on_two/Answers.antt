@@ -1,4 +1,4 @@
-use Rattle.std.proofs.Common.{ap, sym, subst}
+use Rattle.std.proofs.Common.{[], ap, sym, subst}
 use Rattle.sm_top.specs.Accepting.{takes_text}
 use Rattle.sm_reader.specs.InstanceText.{read_of}
 use Rattle.std.proofs.lemmas.Result.{IfOk-weaker}
@@ -17,7 +17,7 @@ use Rattle.sm_top.specs.Outcome.{IsSolved, IsAnyList, IsRegretted, IsWeighed, Is
 use Rattle.sm_top.specs.declared.status.Status.TheVariants.{Done}
 use Rattle.sm_words.specs.Jobs.{job_of}
 use Rattle.sm_top.proofs.RunLemmas.{wrote_answer, wrote_answer_by, wrote_as}
-use Rattle.sm_top.proofs.KindLemmas.{answer_over, two_solved}
+use Rattle.sm_top.proofs.KindLemmas.{answer_over, two_solved, wrote_export}
 use Rattle.sm_top.proofs.performing.perform_on_two.Goals as goal
 
 pub returns-in_ok-solve-in-Solve-clause-wrote : goal.returns-in_ok-solve-in-Solve-clause-wrote
@@ -117,3 +117,10 @@ pub returns-in-Route-clause-stop : goal.returns-in-Route-clause-stop
 returns-in-Route-clause-stop g c = λ text kept.
     let same = kept (ap (λ j. takes_text (job_of j)) c.in-Route.is) in
     rw c.in-Route.is (rw c.requires.counted.two (rw same at c.show_route.ensures.stop))
+
+pub returns-in_ok-export-in-Export-clause-wrote : goal.returns-in_ok-export-in-Export-clause-wrote
+returns-in_ok-export-in-Export-clause-wrote g c = λ text kept accepted.
+    let ok = rw c.in-Export.is at accepted in
+    let formed = rw c.in-Export.is at c.requires.form in
+    let given = c.args.given.now in
+    rw c.in-Export.is (wrote_export [] text (read_of given.read.now) given.form _ _ _ _ _ formed ok c.in_ok-export-in-Export.ensures.wrote)

@@ -2,6 +2,7 @@ use Rattle.std.proofs.Common.{sym}
 use Rattle.sm_words.specs.Words.{texts}
 use Rattle.sm_words.proofs.WordLemmas.{others, words_meaning-asked}
 use Rattle.sm_words.proofs.BoundLemmas.{read_in_bounds}
+use Rattle.sm_words.proofs.FormLemmas.{read_in_form}
 use Rattle.sm_words.proofs.reading.read_words.Goals as goal
 
 pub returns-in-Some-clause-job : goal.returns-in-Some-clause-job
@@ -16,3 +17,6 @@ returns-in-Some-clause-fault c =
 
 pub returns-in-Some-clause-bounds : goal.returns-in-Some-clause-bounds
 returns-in-Some-clause-bounds c = read_in_bounds c.in-Some.command (texts (others c.args.words.now)) c.command_job.result c.command_job.ensures.job
+
+pub returns-in-Some-clause-form : goal.returns-in-Some-clause-form
+returns-in-Some-clause-form c = read_in_form c.in-Some.command (texts (others c.args.words.now)) c.command_job.result c.command_job.ensures.job
