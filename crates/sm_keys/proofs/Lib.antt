@@ -2,7 +2,6 @@ pub mod TextLemmas
 pub mod WordLemmas
 pub mod PositionLemmas
 pub mod BadLemmas
-pub mod FirstLemmas
 pub mod WholeLemmas
 pub mod RunLemmas
 pub mod NameLemmas

@@ -8,7 +8,7 @@ ghost use Rattle.sm_text.specs.Tokens.{tokens, begins_run, token_at, run_end, Is
 ghost use Rattle.sm_keys.specs.Tokens.{is_bad, LeadsLines, AreNamesAtEnd};
 ghost use Rattle.sm_text.specs.Slices.{texts_of};
 
-use sm_text::{LineSpan, MOST_NAME_BYTES, TokenAt, is_name_byte, line_at, token_at};
+use sm_text::{LineSpan, MOST_NAME_BYTES, TokenAt, begins_name, is_name_byte, line_at, token_at};
 use std::alloc::AllocError;
 
 /// What the tokens of a line were found to be.
@@ -252,33 +252,3 @@ fn is_name_run(run: &[u8]) -> bool
 {
     run.len() <= MOST_NAME_BYTES && begins_name(run[0])
 }
-
-/// May a name begin with this byte?
-fn begins_name(b: u8) -> bool
-    ensures { result ≡ begins_name b }
-{
-    FIRST_BYTES[b as usize]
-}
-
-/// For each byte, whether a name may begin with it. One look takes less time than comparisons do.
-static FIRST_BYTES: [bool; 256] = [
-    false, false, false, false, false, false, false, false, false, false, false, false, false,
-    false, false, false, false, false, false, false, false, false, false, false, false, false,
-    false, false, false, false, false, false, false, false, false, false, false, false, false,
-    false, false, false, false, false, false, false, false, false, true, true, true, true, true,
-    true, true, true, true, true, false, false, false, false, false, false, false, true, true,
-    true, true, true, true, true, true, true, true, true, true, true, true, true, true, true, true,
-    true, true, true, true, true, true, true, true, false, false, false, false, true, false, true,
-    true, true, true, true, true, true, true, true, true, true, true, true, true, true, true, true,
-    true, true, true, true, true, true, true, true, true, false, false, false, false, false, false,
-    false, false, false, false, false, false, false, false, false, false, false, false, false,
-    false, false, false, false, false, false, false, false, false, false, false, false, false,
-    false, false, false, false, false, false, false, false, false, false, false, false, false,
-    false, false, false, false, false, false, false, false, false, false, false, false, false,
-    false, false, false, false, false, false, false, false, false, false, false, false, false,
-    false, false, false, false, false, false, false, false, false, false, false, false, false,
-    false, false, false, false, false, false, false, false, false, false, false, false, false,
-    false, false, false, false, false, false, false, false, false, false, false, false, false,
-    false, false, false, false, false, false, false, false, false, false, false, false, false,
-    false, false, false, false, false, false, false, false, false, false,
-];

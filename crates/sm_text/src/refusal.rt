@@ -40,7 +40,7 @@ pub enum RefusalKind {
     WrongKind,
     /// The text behind `end` isn't of its form.
     BadAnswer,
-    /// The cursor hasn't one number for each proposer.
+    /// The cursor hasn't one number for each proposer, or for each person of a roommates instance.
     BadCursor,
     /// A matching that was given is no stable matching.
     NotStable,

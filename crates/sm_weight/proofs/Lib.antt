@@ -11,3 +11,4 @@ pub mod ShortLemmas
 pub mod SecondLemmas
 pub mod TwoLemmas
 pub mod LightestLemmas
+pub mod ZeroLemmas

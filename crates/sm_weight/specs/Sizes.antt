@@ -1,8 +1,8 @@
 -- Weights of the places that are held.
-use Rattle.std.specs.Prelude.{◌≡◌, ℕ, ◌<◌, List, Option, Some, ℤ, length}
+use Rattle.std.specs.Prelude.{◌≡◌, ℕ, ◌<◌, List, Option, Some, ℤ, pos, length}
 use Rattle.sm_market.specs.Matching.{held}
 use Rattle.sm_theory.specs.Rotations.{proposer_at}
-use Rattle.sm_theory.specs.Weights.{total, weight_of_place}
+use Rattle.sm_theory.specs.Weights.{total, weight_at, weight_of_place}
 -- passed on under their names
 pub use Rattle.sm_theory.specs.Sizes.{weights_in, place_weights, AreSmall, AreWeights}
 
@@ -13,3 +13,7 @@ ArePlaces weights places = (p i : ℕ) → held places p ≡ Some i → i < leng
 -- the weight of the places that the proposers of the first n pairs hold
 abbrev pub weight_held : List (List ℤ) → List (Option ℕ) → List (ℕ × ℕ) → ℕ → ℤ
 weight_held weights places pairs n = total (λ i. weight_of_place weights (proposer_at pairs i) (held places (proposer_at pairs i))) n
+
+-- no place has another weight than 0
+abbrev pub AreZero : List (List ℤ) → Type 0
+AreZero weights = (p i : ℕ) → weight_at weights p i ≡ pos 0

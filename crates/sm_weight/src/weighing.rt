@@ -7,7 +7,7 @@ ghost use Rattle.sm_weight.specs.Sizes.{weights_in, AreWeights};
 ghost use Rattle.sm_weight.specs.Lightest.{IsLightestFound, IsNothingAllowed};
 
 use crate::basis::{allows_nothing, net_edges};
-use crate::gains::gains;
+use crate::gains::{gains, gains_or_zeros};
 use crate::second::least_cuts;
 use sm_poset::{Conditions, Poset};
 use sm_theory::{ClosedSet, FlowLine};
@@ -80,7 +80,7 @@ pub fn lightest(
         return Ok(None);
     }
     let first_gains = gains(alloc, market, chain, weights)?;
-    let second_gains = gains(alloc, market, chain, seconds)?;
+    let second_gains = gains_or_zeros(alloc, market, chain, seconds)?;
     let edges = net_edges(alloc, poset, levels, needs, &first_gains, conditions)?;
     match least_cuts(alloc, first_gains.len() as u32, &edges, &second_gains)? {
         None => Ok(None),
