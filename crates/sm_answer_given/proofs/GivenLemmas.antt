@@ -23,7 +23,7 @@ module _ (w : Written) (texts : List (List ℕ)) (line : ℕ) (left right : List
   left_blocked (BadAnswer at) places same l r h = absurd h
   left_blocked (NotStable u) places same l r h =
       record { left = left; right = right; given = given; unstable = IsUnstable.left_blocked l r (subst (λ xs. IsBlocking w xs Left (line + length left + length right) (NotStable u)) same h) }
-  left_blocked OutOfMemory places same l r h = absurd h
+  left_blocked OutOfMemory places same l r h = tt
 
   -- the left matching is stable, and a pair blocks the right one
   pub right_blocked : (f : GivenFault) (m n : List (Option ℕ)) → m ≡ places_in w left → n ≡ places_in w right → CanHold w left → CanHold w right → IsStable w m
@@ -36,4 +36,4 @@ module _ (w : Written) (texts : List (List ℕ)) (line : ℕ) (left right : List
         given = given;
         unstable = IsUnstable.right_blocked l r (subst (IsStable w) same_m st) (subst (λ xs. IsBlocking w xs Right (line + length left + length right) (NotStable u)) same_n h);
       }
-  right_blocked OutOfMemory m n same_m same_n l r st h = absurd h
+  right_blocked OutOfMemory m n same_m same_n l r st h = tt

@@ -58,8 +58,8 @@ IsGivenFault w texts line (BadAnswer at) = IsBadGivenAt (Two w) texts line at
 IsGivenFault w texts line (NotStable u) = AreUnstable w texts line u
 IsGivenFault w texts line OutOfMemory = Unit {0}
 
--- the same of one matching alone
+-- the same of one matching alone; want of memory says nothing
 abbrev pub IsBlocking : Written → List (Option ℕ) → Which → ℕ → GivenFault → Type 0
 IsBlocking w places which line (BadAnswer at) = ⊥
 IsBlocking w places which line (NotStable u) = IsBlockedBy w places which line u
-IsBlocking w places which line OutOfMemory = ⊥
+IsBlocking w places which line OutOfMemory = Unit {0}

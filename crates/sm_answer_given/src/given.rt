@@ -2,9 +2,9 @@
 
 ghost use Rattle.std.specs.Prelude.{◌≡◌, ◌+◌, ◌<◌, ◌^◌, length, drop, IfOk, IfErr, OnOk};
 ghost use Rattle.sm_text.specs.Lines.{lines};
-ghost use Rattle.sm_instance.specs.Matching.{IsMatching};
 ghost use Rattle.sm_instance.specs.Stable.{IsStable};
 ghost use Rattle.sm_instance.specs.declared.inputs.Input.TheVariants.{Two};
+ghost use Rattle.sm_pairs.specs.Holding.{IsHolding};
 ghost use Rattle.sm_answer_given.specs.GivenText.{texts_from};
 ghost use Rattle.sm_answer_given.specs.Given.{AreStableGiven};
 ghost use Rattle.sm_answer_given.specs.Refusing.{IsGivenFault, IsBlocking};
@@ -13,6 +13,7 @@ use crate::faults::{Flaw, GivenFault, Unstable, Which};
 use crate::holding::hold;
 use crate::reading::read_pairs;
 use sm_instance::{Assignment, Input, Instance};
+use sm_pairs::Holding;
 use std::alloc::Global;
 
 /// Two stable matchings of an instance.
@@ -55,24 +56,28 @@ pub fn find_given(
     let end_line = right_line + pairs.right.len() as u32;
     let left = hold(alloc, instance, &pairs.left, Which::Left, first_line)?;
     let right = hold(alloc, instance, &pairs.right, Which::Right, right_line)?;
-    check_stable(instance, &left, Which::Left, end_line)?;
-    check_stable(instance, &right, Which::Right, end_line)?;
-    Ok(Given { left, right })
+    check_stable(alloc, instance, &left, Which::Left, end_line)?;
+    check_stable(alloc, instance, &right, Which::Right, end_line)?;
+    Ok(Given {
+        left: left.matching,
+        right: right.matching,
+    })
 }
 
 /// Refuses a matching that a pair blocks, at this line.
 fn check_stable(
+    alloc: Global,
     instance: &Instance,
-    matching: &Assignment,
+    holding: &Holding,
     which: Which,
     line: u32,
 ) -> Result<(), GivenFault>
-    requires { IsMatching instance.now matching.now.places.items }
-    ensures stable { OnOk result (IsStable instance.now matching.now.places.items) }
-    ensures blocked { IfErr result (λ f. IsBlocking instance.now matching.now.places.items which
-        line f) }
+    requires { IsHolding instance.now holding.now }
+    ensures stable { OnOk result (IsStable instance.now holding.now.matching.places.items) }
+    ensures blocked { IfErr result (λ f. IsBlocking instance.now
+        holding.now.matching.places.items which line f) }
 {
-    match instance.first_blocking(matching) {
+    match holding.first_blocking(alloc, instance)? {
         Some((proposer, reviewer)) => Err(GivenFault::NotStable(Unstable {
             line,
             which,

@@ -228,7 +228,7 @@ pub load_is : (w : Written) (places : List (Option ℕ)) (loads : List ℕ) (r n
 load_is w places loads r n same l e = e ∙ ap (λ xs. get_or xs r n) same ∙ load_at w places r n l
 
 -- an item that was looked up
-read_place : (places : List (Option ℕ)) (p : ℕ) (o : Option ℕ) → p < length places → o ≡ get_or places p o → o ≡ held places p
+pub read_place : (places : List (Option ℕ)) (p : ℕ) (o : Option ℕ) → p < length places → o ≡ get_or places p o → o ≡ held places p
 read_place places p o l e = e ∙ get_or_default places p o None l
 
 -- where something was found the proposer is matched

@@ -1,3 +1,4 @@
 pub mod Held
 pub mod Holding
 pub mod Chosen
+pub mod Gains

@@ -1,9 +1,12 @@
 //! Instances and persons: each fault once, and what assignments of three residents are worth.
 
+ghost use Rattle.std.specs.Prelude.{◌<◌, length};
 ghost use Rattle.sm_instance.specs.Matching.{IsMatching};
+ghost use Rattle.sm_pairs.specs.Holding.{IsHolding};
 
 use crate::made::{agent, copy, one, three, two};
 use sm_instance::{Assignment, Input, Instance, InstanceFault, Kind, Measure, Persons, Side};
+use sm_pairs::Holding;
 use std::process::Abort;
 
 /// The residents a: k h, b: z h and c: h k, who doesn't stand on k's list; h has two places, k one and z none.
@@ -93,6 +96,38 @@ fn breaks(rt: &(impl Abort + AllocGlobal), instance: &Instance, places: &[Option
     };
     assert!(rt; instance.is_assignment(&a));
     assert!(rt; instance.breach(&a) == Some(p));
+}
+
+/// Adds a pair that can be held, and finds the first pair that blocks then.
+fn adds(
+    rt: &(impl Abort + AllocGlobal),
+    instance: &Instance,
+    holding: &mut Holding,
+    pair: (u32, u32),
+    blocking: Option<(u32, u32)>,
+)
+    requires held { IsHolding instance.now holding.old }
+    requires proposer { pair.0 < length instance.now.proposers }
+    requires reviewer { pair.1 < length instance.now.reviewers }
+    ensures { IsHolding instance.now holding.new }
+{
+    if !holding.add(instance, pair.0, pair.1) {
+        panic!(rt; "the pair can't be held");
+    }
+    assert!(rt; !holding.add(instance, pair.0, pair.1));
+    let found = holding.first_blocking(rt.alloc(), instance).expect(rt, "memory");
+    assert!(rt; found == blocking);
+}
+
+#[test]
+fn pairs_that_are_held_block(rt: HostRuntime) {
+    let instance = small_hospitals(&rt);
+    assert!(rt; instance.proposer_count() == 3);
+    assert!(rt; instance.reviewer_count() == 3);
+    let mut holding = Holding::none(rt.alloc(), &instance).expect(&rt, "memory");
+    adds(&rt, &instance, &mut holding, (2, 0), Some((0, 1)));
+    adds(&rt, &instance, &mut holding, (0, 1), Some((1, 0)));
+    adds(&rt, &instance, &mut holding, (1, 0), None);
 }
 
 #[test]

@@ -33,12 +33,12 @@ returns-in_err-check_stable-clause-fault c =
     let fault = c.in_err-check_stable.field-0.0 in
     on_err (IsGivenFault w texts c.args.first_line) fault c.from_residual-in_err-check_stable.result c.from_residual-in_err-check_stable.ensures.1
     (left_blocked w texts c.args.first_line left right (subst (λ (i : Input). AreGiven i texts left right) c.requires.input c.in_ok-pairs.ensures.given) fault
-    c.in_ok-left.left.places.items
+    c.in_ok-left.left.matching.places.items
     (c.in_ok-left.ensures.held ∙ ap (places_in w) c.deref.ensures.value)
     (subst (CanHold w) c.deref.ensures.value c.in_ok-left.ensures.can_hold)
     (subst (CanHold w) c.deref-2.ensures.value c.in_ok-right.ensures.can_hold)
-    (subst (λ n. IsBlocking w c.in_ok-left.left.places.items Left (c.args.first_line + length left + n) fault) right_len
-    (subst (λ n. IsBlocking w c.in_ok-left.left.places.items Left (c.args.first_line + n + c.len-2.result) fault) left_len c.in_err-check_stable.ensures.blocked)))
+    (subst (λ n. IsBlocking w c.in_ok-left.left.matching.places.items Left (c.args.first_line + length left + n) fault) right_len
+    (subst (λ n. IsBlocking w c.in_ok-left.left.matching.places.items Left (c.args.first_line + n + c.len-2.result) fault) left_len c.in_err-check_stable.ensures.blocked)))
 
 pub returns-in_err-check_stable-2-clause-fault : goal.returns-in_err-check_stable-2-clause-fault
 returns-in_err-check_stable-2-clause-fault c =
@@ -51,11 +51,11 @@ returns-in_err-check_stable-2-clause-fault c =
     let fault = c.in_err-check_stable-2.field-0.0 in
     on_err (IsGivenFault w texts c.args.first_line) fault c.from_residual-in_err-check_stable-2.result c.from_residual-in_err-check_stable-2.ensures.1
     (right_blocked w texts c.args.first_line left right (subst (λ (i : Input). AreGiven i texts left right) c.requires.input c.in_ok-pairs.ensures.given) fault
-    c.in_ok-left.left.places.items c.in_ok-right.right.places.items
+    c.in_ok-left.left.matching.places.items c.in_ok-right.right.matching.places.items
     (c.in_ok-left.ensures.held ∙ ap (places_in w) c.deref.ensures.value)
     (c.in_ok-right.ensures.held ∙ ap (places_in w) c.deref-2.ensures.value)
     (subst (CanHold w) c.deref.ensures.value c.in_ok-left.ensures.can_hold)
     (subst (CanHold w) c.deref-2.ensures.value c.in_ok-right.ensures.can_hold)
     c.in_ok-check_stable.ensures.stable
-    (subst (λ n. IsBlocking w c.in_ok-right.right.places.items Right (c.args.first_line + length left + n) fault) right_len
-    (subst (λ n. IsBlocking w c.in_ok-right.right.places.items Right (c.args.first_line + n + c.len-2.result) fault) left_len c.in_err-check_stable-2.ensures.blocked)))
+    (subst (λ n. IsBlocking w c.in_ok-right.right.matching.places.items Right (c.args.first_line + length left + n) fault) right_len
+    (subst (λ n. IsBlocking w c.in_ok-right.right.matching.places.items Right (c.args.first_line + n + c.len-2.result) fault) left_len c.in_err-check_stable-2.ensures.blocked)))
