@@ -2,6 +2,5 @@ pub mod MemberLemmas
 pub mod SizeLemmas
 pub mod RowLemmas
 pub mod GainLemmas
-pub mod SecondLemmas
 pub mod LineLemmas
 pub mod RightLemmas

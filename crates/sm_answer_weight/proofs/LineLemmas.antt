@@ -23,6 +23,7 @@ use Rattle.sm_poset.specs.Posets.{IsPoset}
 use Rattle.sm_seats.specs.Seating.{Seating, written_of}
 use Rattle.sm_seats.specs.Correspondence.{IsSeating, weights_of}
 use Rattle.sm_placed.specs.Levels.{seconds_by}
+use Rattle.sm_placed.proofs.SecondLemmas.{seconds_alike}
 use Rattle.sm_theory.specs.declared.flow_lines.FlowLine.{FlowLine}
 use Rattle.sm_weight.specs.Lightest.{set_matching}
 use Rattle.sm_weight.proofs.CountLemmas.{pairs_of_few}
@@ -41,7 +42,6 @@ use Rattle.sm_answer_weight.specs.declared.figures.Level.TheVariants.{First, Sec
 use Rattle.sm_answer_weight.specs.declared.lightest_parts.Lightest.{Lightest}
 use Rattle.sm_answer_weight.proofs.MemberLemmas.{are_rotations}
 use Rattle.sm_answer_weight.proofs.SizeLemmas.{gain_size, weight_size}
-use Rattle.sm_answer_weight.proofs.SecondLemmas.{seconds_alike}
 
 -- a line of a flow
 edge_sound : (w : Written) (level : Level) (line : FlowLine) → IsFlowLine line → IsLineOf (Two w) (edge_line level line)

@@ -23,6 +23,7 @@ use Rattle.sm_seats.specs.Seating.{Seating, seating_of, written_of, levels_of}
 use Rattle.sm_seats.specs.Correspondence.{IsSeating, leveled, weights_of}
 use Rattle.sm_placed.specs.Levels.{has_two_levels, pair_second_by, seconds_by}
 use Rattle.sm_placed.proofs.LevelLemmas.{none_second}
+use Rattle.sm_placed.proofs.SecondLemmas.{read_zero, gain_none, lightest_by_both}
 use Rattle.sm_theory.specs.declared.flow_lines.FlowLine.{FlowLine}
 use Rattle.sm_weight.specs.Lightest.{IsFullFlow, AreFullFlows, AreZero, IsLightestFound, set_matching}
 use Rattle.sm_theory.specs.Net.{Net, cut_of}
@@ -45,7 +46,6 @@ use Rattle.sm_answer_weight.specs.declared.figures.Level.TheVariants.{First, Sec
 use Rattle.sm_answer_weight.specs.declared.lightest_parts.Lightest.{Lightest}
 use Rattle.sm_answer_weight.proofs.GainLemmas.{gain_shown}
 use Rattle.sm_answer_weight.proofs.LineLemmas.{figures_are, given_sound}
-use Rattle.sm_answer_weight.proofs.SecondLemmas.{read_zero, gain_none, lightest_by_both}
 
 -- Parts of the lines.
 

@@ -12,7 +12,6 @@ mod RotationLines
 mod RotationsYes
 mod FlowYes
 mod WeightLines
-mod SecondYes
 mod WeightYes
 mod ChosenYes
 mod CouplesYes

@@ -35,6 +35,7 @@ use Rattle.sm_seats.proofs.CorrespondenceLaws.{sound_entries, is_seating}
 use Rattle.sm_seats.proofs.MarketLaws.{is_market}
 use Rattle.sm_placed.specs.Levels.{has_two_levels, pair_second_by, seconds_by}
 use Rattle.sm_placed.proofs.LevelLemmas.{none_second}
+use Rattle.sm_placed.proofs.SecondLemmas.{weight_none, lightest_by_both}
 use Rattle.sm_report.specs.Heads.{HeadData}
 use Rattle.sm_report.specs.Lines.{LineData}
 use Rattle.sm_check_forms.specs.declared.layouts.LayoutPart.{LayoutPart}
@@ -58,7 +59,6 @@ use Rattle.sm_cert.proofs.GroupLemmas.{AllOut, Begins, Parted, parted_behind, sa
 use Rattle.sm_cert.proofs.RotationLines.{rotation_words, rotations_tell, needs_in-none, first_up, rotation_up, Kind, Spot, left_at, Turns, turns, turns_from}
 use Rattle.sm_cert.proofs.RotationsYes.{IsGround, ground}
 use Rattle.sm_cert.proofs.SeatYes.{first_words, firsts_tell}
-use Rattle.sm_cert.proofs.SecondYes.{weight_none, lightest_by_both}
 use Rattle.sm_cert.proofs.WeightLines.{flow_words, flow_tells, is_up_to_flow, is_up_to_flows, total_words, is_up_to_totals, totals_tell, behind_total, behind_flows, behind_rotations, FourLines, four_lines, ThreeLines, three_lines, no_taken_above, no_value_above, no_second_value_above, one_total, one_second_total, flows_parted}
 use Rattle.sm_cert.proofs.YesLines.{IsRight, by_head, right_two, at_line, at_closing, said_above, grown}
 

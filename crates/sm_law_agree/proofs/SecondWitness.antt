@@ -27,10 +27,10 @@ use Rattle.sm_theory.proofs.Weighing.Second.{certificate_of_two}
 use Rattle.sm_seats.specs.Seating.{seating_of, written_of}
 use Rattle.sm_seats.specs.Correspondence.{IsSeating}
 use Rattle.sm_seats.proofs.CorrespondenceLaws.{is_seating, sound_entries}
+use Rattle.sm_placed.proofs.SecondLemmas.{lightest_by_both}
 use Rattle.sm_answer_rotations.proofs.ShownLemmas.{correspondence}
 use Rattle.sm_answer_weight.specs.WeightAnswer.{FillsCut, IsCertificate, IsWeightAnswer}
 use Rattle.sm_answer_weight.specs.Witnesses.{parts_of_two, answer_of_two}
-use Rattle.sm_answer_weight.proofs.SecondLemmas.{lightest_by_both}
 use Rattle.sm_law_agree.specs.Witnesses.{weighed_by_two, WeighedByTwo}
 use Rattle.sm_law_agree.proofs.WitnessLemmas.{three_instance}
 use Rattle.sm_law_agree.proofs.WeightWitness.{set, closed, allowed, two_sound}

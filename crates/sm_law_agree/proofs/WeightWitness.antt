@@ -39,6 +39,7 @@ use Rattle.sm_seats.specs.Correspondence.{IsSeating}
 use Rattle.sm_seats.proofs.CorrespondenceLaws.{is_seating, sound_entries}
 use Rattle.sm_placed.specs.Levels.{pair_second_by, seconds_by}
 use Rattle.sm_placed.proofs.LevelLemmas.{none_second}
+use Rattle.sm_placed.proofs.SecondLemmas.{weight_none, lightest_by_both}
 use Rattle.sm_answer_rotations.proofs.ShownLemmas.{correspondence}
 use Rattle.sm_answer_weight.specs.WeightAnswer.{member_numbers, IsWeightAnswer}
 use Rattle.sm_instance.specs.Lightest.{IsLightestByBoth}
@@ -46,7 +47,6 @@ use Rattle.sm_answer_weight.proofs.MemberLemmas.{are_rotations}
 use Rattle.sm_law_agree.specs.Witnesses.{weighed_three, WeighedThree}
 use Rattle.sm_report.specs.Witnesses.{first_seat_of}
 use Rattle.sm_answer_weight.specs.Witnesses.{three_parts, worked_answer, answer_of_two}
-use Rattle.sm_answer_weight.proofs.SecondLemmas.{weight_none, lightest_by_both}
 use Rattle.sm_law_agree.proofs.WitnessLemmas.{three_instance}
 
 -- Its two weights are sound.

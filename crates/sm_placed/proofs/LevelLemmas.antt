@@ -1,7 +1,7 @@
 -- Second weights that are 0.
-use Rattle.std.proofs.Common.{◌≡◌, ◌≢◌, ◌<◌, ◌↔◌, ◌||◌, ℕ, zero, suc, IsTrue, Bool, true, false, not, List, [], ◌∷◌, length, get_or, Option, Some, None, ℤ, pos, negsuc, refl, sym, arith, inl, inr}
+use Rattle.std.proofs.Common.{◌≡◌, ◌≢◌, ◌↔◌, ◌||◌, ℕ, zero, suc, IsTrue, Bool, true, false, not, List, [], ◌∷◌, get_or, Option, Some, None, ℤ, pos, negsuc, refl, sym, arith}
 use Rattle.std.specs.List.{list_any}
-use Rattle.std.proofs.lemmas.Bool.{false≢true, cases_lt}
+use Rattle.std.proofs.lemmas.Bool.{false≢true}
 use Rattle.std.proofs.lemmas.List.{get_or_past}
 use Rattle.sm_instance.specs.Written.{Written, entry}
 use Rattle.sm_instance.specs.Ranks.{HasNonzero}

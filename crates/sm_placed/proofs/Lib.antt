@@ -1,3 +1,4 @@
 pub mod PlaceLemmas
 pub mod RankLemmas
 pub mod LevelLemmas
+pub mod SecondLemmas
