@@ -1,5 +1,5 @@
 -- What is known of a trail along successors.
-use Rattle.std.specs.Prelude.{◌≡◌, ◌+◌, ◌<◌, ◌≤◌, ℕ, List, length, slice_index}
+use Rattle.std.specs.Prelude.{◌≡◌, ◌+◌, ◌-◌, ◌^◌, ◌<◌, ◌≤◌, ℕ, List, length, slice_index}
 use Rattle.sm_market.specs.Lists.{Lists}
 use Rattle.sm_market.specs.Matching.{Places}
 use Rattle.sm_theory.specs.Rotations.{IsNext}
@@ -16,3 +16,12 @@ pub record IsSuccessorPath (l : Lists) (m : Places) (items : List ℕ) (start p 
   pub begins : start < length items → slice_index items start ≡ p
   pub next : (k : ℕ) → start ≤ k → k + 1 < length items → IsNext l m (slice_index items k) (slice_index items (k + 1))
   pub last : (k : ℕ) → start ≤ k → k + 1 ≡ length items → IsNext l m (slice_index items k) q
+
+-- so many proposers at the front have no successor left, for which the greatest number stands
+pub record AreFinished (count : ℕ) (from : List ℕ) : Type 0 where
+  pub few : count ≤ length from
+  pub none_left : (p : ℕ) → p < count → slice_index from p ≡ 2 ^ 32 - 1
+
+-- whoever is finished stays so
+abbrev pub StayFinished : (before after : List ℕ) → Type 0
+StayFinished before after = (count : ℕ) → AreFinished count before → AreFinished count after

@@ -6,7 +6,7 @@ ghost use Rattle.sm_market.specs.Matching.{Places, standing};
 ghost use Rattle.sm_market.specs.Pairing.{IsPairingOf};
 ghost use Rattle.sm_theory.specs.Rotations.{WouldTake, IsSuccessor, IsNext, IsNoneBelow, IsNothingExposed, IsLowestExposed};
 ghost use Rattle.sm_check_decide.specs.Exposure.{IsSearchAt, IsSafe};
-ghost use Rattle.sm_check_decide.specs.ExposureKept.{AreSafe};
+ghost use Rattle.sm_check_decide.specs.ExposureKept.{AreSafe, AreFinished, StayFinished};
 
 use crate::trail::Trail;
 use sm_market::{Market, Pairing};
@@ -14,25 +14,32 @@ use sm_theory::{Rotation, is_exposed, would_take};
 use std::alloc::{AllocError, Global};
 use std::marker::Model;
 
+/// Stands for the place of a successor where none is left.
+const NONE_LEFT: u32 = u32::MAX;
+
 /// What it takes to look for exposed rotations at stable pairings of a market, one after another.
 ///
 /// It is made once for all of them. Of each proposer it keeps how far the successor was looked for on its list. Where each
 /// pairing comes from the one before by eliminating a rotation, reviewers never get worse partners, so that the search goes
-/// on from there and passes each entry once.
+/// on from there and passes each entry once. For the same reason a proposer that has no successor never gets one; those at
+/// the front are passed for good.
 #[derive(Debug, Drop)]
 pub struct Search {
     trail: Trail,
     from: Vec<u32>,
+    /// How many proposers at the front are known to have no successor left.
+    finished: u32,
 }
 
 impl Model for Search {
     ghost use Rattle.std.specs.Prelude.{◌≡◌, ℕ, List, length};
+    ghost use Rattle.sm_check_decide.specs.ExposureKept.{AreFinished};
 
     ghost Value = { List ℕ };
 
     ghost view = { λ s. s.from.items };
 
-    ghost invariant = { λ s. s.trail.bound ≡ length s.from.items };
+    ghost invariant = { λ s. (s.trail.bound ≡ length s.from.items) × AreFinished s.finished s.from.items };
 }
 
 impl Search {
@@ -49,13 +56,15 @@ impl Search {
         Ok(Search {
             trail: Trail::new(alloc, market.proposers())?,
             from: vec![in alloc; 0; market.proposers() as usize]?,
+            finished: 0,
         })
     }
 
     /// Whether no exposed rotation has a proposer whose number is below the bound.
     ///
-    /// The pairing has to be made for a market of these lists; a stable one is meant. From each proposer below the bound the
-    /// successors are followed until they end, or come to a proposer that was come by before. Where that one was come by on
+    /// The pairing has to be made for a market of these lists; a stable one is meant. From each proposer below the bound, but for
+    /// those at the front that have no successor left, the successors are followed until they end, or come to a proposer that
+    /// was come by before. Where that one was come by on
     /// the same way, the way goes round a rotation, and otherwise round none that has proposers below the bound. So each
     /// proposer is come by at most once, and the time is in proportion to the proposers and to the entries that are passed
     /// for the first time (Gusfield and Irving 1989, section 2.5).
@@ -66,7 +75,14 @@ impl Search {
         ensures search { IsSearchAt market.now m.now.places self.new }
         ensures decided { IsTrue result ↔ IsNoneBelow market.now m.now.places bound }
     {
-        none_below(market, m, bound, &mut self.trail, &mut self.from)
+        none_below(
+            market,
+            m,
+            bound,
+            &mut self.trail,
+            &mut self.from,
+            &mut self.finished,
+        )
     }
 
     /// Whether no rotation is exposed. Takes the time of [`Search::none_below`].
@@ -96,19 +112,45 @@ impl Search {
     }
 }
 
-/// The same, with a trail for the proposers, and with how far their successors were looked for.
-fn none_below(market: &Market, m: &Pairing, bound: u32, trail: &mut Trail, from: &mut [u32]) -> bool
+/// How many proposers at the front have no successor left, where so many are known to. It marks the others of them.
+fn pass_finished(market: &Market, m: &Pairing, from: &mut [u32], known: u32) -> u32
+    requires search { IsSearchAt market.now m.now.places from.old }
+    requires known { AreFinished known from.old }
+    ensures search { IsSearchAt market.now m.now.places from.new }
+    ensures finished { AreFinished result from.new }
+{
+    let mut count = known;
+    while count < market.proposers() && from[count as usize] >= market.proposer_len(count) {
+        from[count as usize] = NONE_LEFT;
+        count += 1;
+    }
+    count
+}
+
+/// The same, with a trail for the proposers, with how far their successors were looked for, and with how many at the front are
+/// finished.
+fn none_below(
+    market: &Market,
+    m: &Pairing,
+    bound: u32,
+    trail: &mut Trail,
+    from: &mut [u32],
+    finished: &mut u32,
+) -> bool
     requires bound { bound ≤ length market.now.proposers }
     requires made { IsPairingOf market.now m.now }
     requires proposers { trail.old.bound ≡ length market.now.proposers }
     requires search { IsSearchAt market.now m.now.places from.old }
+    requires finished { AreFinished finished.old from.old }
     ensures proposers { trail.new.bound ≡ trail.old.bound }
     ensures search { IsSearchAt market.now m.now.places from.new }
+    ensures finished { AreFinished finished.new from.new }
     ensures decided { IsTrue result ↔ IsNoneBelow market.now m.now.places bound }
 {
     prove!(bound <= market.proposers());
+    *finished = pass_finished(market, m, from, *finished);
     trail.clear();
-    for p in 0..bound {
+    for p in *finished..bound {
         if !is_safe(market, m, p, bound, trail, from) {
             return false;
         }
@@ -134,6 +176,7 @@ fn is_safe(
     requires search { IsSearchAt market.now m.now.places from.old }
     ensures proposers { trail.new.bound ≡ trail.old.bound }
     ensures search { IsSearchAt market.now m.now.places from.new }
+    ensures stay { StayFinished from.old from.new }
     ensures all { result ≡ true → AreSafe market.now m.now.places bound trail.new.items }
     ensures safe { result ≡ true → IsSafe market.now m.now.places bound p }
     ensures found { result ≡ false → ¬ IsNoneBelow market.now m.now.places bound }
@@ -170,13 +213,14 @@ fn next_proposer(market: &Market, m: &Pairing, p: u32, from: &mut [u32]) -> Opti
     requires made { IsPairingOf market.now m.now }
     requires search { IsSearchAt market.now m.now.places from.old }
     ensures search { IsSearchAt market.now m.now.places from.new }
+    ensures stay { StayFinished from.old from.new }
     ensures next { MatchOption result
         ((i : ℕ) → ¬ IsSuccessor market.now m.now.places p i)
         (λ q. IsNext market.now m.now.places p q) }
     ensures in_range { MatchOption result (Unit {0}) (λ q. q < length market.now.proposers) }
 {
     let place = first_taker(market, m, p, from[p as usize]);
-    from[p as usize] = place;
+    from[p as usize] = place.max(from[p as usize]);
     if place >= market.proposer_len(p) {
         return None;
     }
@@ -189,11 +233,13 @@ pub(crate) fn first_taker(market: &Market, m: &Pairing, p: u32, from: u32) -> u3
     requires in_range { p < length market.now.proposers }
     requires made { IsPairingOf market.now m.now }
     requires passed { (i : ℕ) → standing market.now.proposers m.now.places.proposers p < i → i
-        < from
+        < length (row market.now.proposers p)
+        → i < from
         → ¬ WouldTake market.now m.now.places p i }
     ensures passed { (i : ℕ) → standing market.now.proposers m.now.places.proposers p < i → i
         < result
         → ¬ WouldTake market.now m.now.places p i }
+    ensures within { result ≤ length (row market.now.proposers p) }
     ensures behind { result < length (row market.now.proposers p)
         → standing market.now.proposers m.now.places.proposers p < result }
     ensures takes { result < length (row market.now.proposers p)

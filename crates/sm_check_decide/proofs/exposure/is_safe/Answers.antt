@@ -15,6 +15,7 @@ steps-preserved c = rw c.push.ensures.pushed (record {
   proposers = c.steps.invariant.proposers;
   in_range = c.in-Some.ensures.in_range;
   search = c.next_proposer.ensures.search;
+  stay = λ count finished. c.next_proposer.ensures.stay count (c.steps.invariant.stay count finished);
   before = before_pushed c.steps.invariant.path c.steps.invariant.before;
   path = path_goes_on c.steps.invariant.path c.in-Some.ensures.next;
 })
@@ -38,3 +39,6 @@ returns-else-spot-start-clause-safe c = λ yes'. begin_safe c.requires.market c.
 pub returns-else-spot-start-clause-found : goal.returns-else-spot-start-clause-found
 returns-else-spot-start-clause-found c = λ no' none. true≢false (sym (c.none_is_below.ensures.1
     (round_below c.requires.market c.requires.made.matching c.steps.invariant.path c.spot-spot.ensures.trail.distinct c.spot-spot.result (omega (arith, c.if-spot-start.false)) c.spot-spot.ensures.in_trail c.spot-spot.ensures.is none)) ∙ no')
+
+pub returns-in_default-clause-stay : goal.returns-in_default-clause-stay
+returns-in_default-clause-stay c = λ count finished. c.next_proposer.ensures.stay count (c.steps.invariant.stay count finished)

@@ -1,6 +1,6 @@
 use Rattle.std.proofs.Common.{◌≡◌, ℕ, ◌<◌, ◌-◌, length, slice_index}
 use Rattle.sm_check_decide.specs.Exposure.{IsSearchAt, IsSafe}
-use Rattle.sm_check_decide.specs.ExposureKept.{IsSuccessorPath}
+use Rattle.sm_check_decide.specs.ExposureKept.{IsSuccessorPath, StayFinished}
 use Rattle.sm_check_decide.proofs.exposure.is_safe.Given as goal
 
 abbrev pub invariant-steps : goal.invariant-steps
@@ -8,6 +8,7 @@ invariant-steps l = record {
   proposers : l.trail.bound ≡ length l.market.proposers;
   in_range : l.q < length l.market.proposers;
   search : IsSearchAt l.market l.m.places l.from;
+  stay : StayFinished l.initial.from l.from;
   before : (k : ℕ) → k < l.start → IsSafe l.market l.m.places l.bound (slice_index l.trail.items k);
   path : IsSuccessorPath l.market l.m.places l.trail.items l.start l.p l.q;
 }
